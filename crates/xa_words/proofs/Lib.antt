@@ -1,0 +1,2 @@
+pub mod TranFields
+pub mod XidFields

@@ -1,0 +1,11 @@
+pub mod Code
+pub mod Xid
+pub mod XidInverse
+pub mod Tran
+pub mod TranInverse
+pub mod Key
+pub mod NewXid
+pub mod NewKey
+pub mod Delta
+pub mod Orders
+pub mod TranOrders

@@ -1,0 +1,152 @@
+//! Names of transaction branches.
+ghost use Rattle.std.specs.Prelude.{◌≡◌, ◌+◌, ◌-◌, ◌≤◌, ◌++◌, IsTrue, length, replicate};
+ghost use Rattle.xa_words.specs.NewXid.{is_part, xid_of};
+ghost use Rattle.xa_words.specs.Tran.{tran_of};
+
+use crate::tran::Tran;
+use std::marker::Model;
+
+/// The name of a transaction branch, the XID of xa.h: a format, a global transaction
+/// identifier (gtrid) and a branch qualifier (bqual).
+///
+/// Names are ordered by the format, then the length of the gtrid, then that of the bqual, then
+/// the bytes of both; so the branch `b.1` stands before `aa.1`.
+#[derive(Clone, Copy, Debug, PartialEq, Eq, PartialOrd, Ord, Hash)]
+pub struct Xid {
+    parts: Parts,
+}
+
+// The order of the fields is the order in which names are compared.
+#[derive(Clone, Copy, Debug, PartialEq, Eq, PartialOrd, Ord, Hash)]
+struct Parts {
+    format: i32,
+    gtrid_len: u8,
+    bqual_len: u8,
+    // The gtrid, the bqual, then zeros.
+    bytes: [u8; 128],
+}
+
+impl Model for Xid {
+    ghost use Rattle.std.specs.Prelude.{length, take, drop};
+    ghost use Rattle.xa_words.specs.Xid.{XidName, xid_code, bytes_of};
+    ghost use Rattle.xa_words.specs.XidInverse.{IsPaddedXid, bytes_again, length_first, length_second};
+
+    ghost Value = { XidName };
+
+    ghost coded = { xid_code };
+
+    ghost view = { λ x. record {
+      format = x.parts.format;
+      gtrid = take x.parts.gtrid_len x.parts.bytes;
+      bqual = take x.parts.bqual_len (drop x.parts.gtrid_len x.parts.bytes);
+    } };
+
+    ghost invariant = { λ x. IsPaddedXid x.parts.gtrid_len x.parts.bqual_len x.parts.bytes };
+
+    ghost inverse = { λ name. record {
+      parts = record {
+        format = name.format;
+        gtrid_len = length name.gtrid;
+        bqual_len = length name.bqual;
+        bytes = bytes_of name;
+      };
+    } };
+
+    ghost inverse_ok = { λ x padded i. record {
+      parts = record {
+        format = x.parts.format;
+        gtrid_len = length_first x.parts.gtrid_len x.parts.bqual_len x.parts.bytes padded i;
+        bqual_len = length_second x.parts.gtrid_len x.parts.bqual_len x.parts.bytes padded i;
+        bytes = bytes_again x.parts.gtrid_len x.parts.bqual_len x.parts.bytes padded i;
+      };
+    } };
+}
+
+/// Why a name is refused: the first of these that holds.
+#[derive(Clone, Copy, Debug, PartialEq, Eq)]
+pub enum XidFault {
+    /// The format is -1, that of the null XID.
+    NullFormat,
+    /// The gtrid has no byte, or more than 64.
+    GtridLength,
+    /// The bqual has no byte, or more than 64.
+    BqualLength,
+}
+
+impl Xid {
+    const MAX_PART_LEN: usize = 64;
+
+    /// A name, where the format isn't -1 and both parts have 1 to 64 bytes.
+    pub fn new(format: i32, gtrid: &[u8], bqual: &[u8]) -> Result<Xid, XidFault>
+        ensures { result ≡ xid_of format gtrid.now bqual.now }
+    {
+        if format == -1 {
+            return Err(XidFault::NullFormat);
+        }
+        if !is_part(gtrid) {
+            return Err(XidFault::GtridLength);
+        }
+        if !is_part(bqual) {
+            return Err(XidFault::BqualLength);
+        }
+        Ok(Xid {
+            parts: Parts {
+                format,
+                gtrid_len: gtrid.len() as u8,
+                bqual_len: bqual.len() as u8,
+                bytes: joined(gtrid, bqual),
+            },
+        })
+    }
+
+    /// The format, which tells how the bytes are to be read.
+    pub fn format(&self) -> i32
+        ensures { result ≡ self.now.format }
+    {
+        self.parts.format
+    }
+
+    /// The gtrid, 1 to 64 bytes, which all branches of a global transaction share.
+    pub fn gtrid(&self) -> &[u8]
+        ensures gtrid { result.now ≡ self.now.gtrid }
+        ensures valid { IsTrue (is_part result.now) }
+    {
+        &self.parts.bytes[..self.parts.gtrid_len as usize]
+    }
+
+    /// The bqual, 1 to 64 bytes, which tells the branches of a global transaction apart.
+    pub fn bqual(&self) -> &[u8]
+        ensures bqual { result.now ≡ self.now.bqual }
+        ensures valid { IsTrue (is_part result.now) }
+    {
+        let start = self.parts.gtrid_len as usize;
+        &self.parts.bytes[start..start + self.parts.bqual_len as usize]
+    }
+
+    /// The global transaction that the branch belongs to.
+    pub fn tran(&self) -> Tran
+        ensures { result ≡ tran_of self.now }
+    {
+        Tran::new(self.format(), self.gtrid())
+    }
+}
+
+fn is_part(bytes: &[u8]) -> bool
+    ensures { result ≡ is_part bytes.now }
+{
+    (1..=Xid::MAX_PART_LEN).contains(&bytes.len())
+}
+
+// The two parts, one behind the other, and zeros up to the end.
+fn joined(gtrid: &[u8], bqual: &[u8]) -> [u8; 128]
+    requires gtrid { length gtrid.now ≤ 64 }
+    requires bqual { length bqual.now ≤ 64 }
+    ensures { result ≡ gtrid.now ++ (bqual.now ++ replicate (128 - (length gtrid.now + length bqual.now)) 0) }
+{
+    let mut bytes = [0; 128];
+    let (first, rest) = bytes.split_at_mut(gtrid.len());
+    first.copy_from_slice(gtrid);
+    let (second, _) = rest.split_at_mut(bqual.len());
+    second.copy_from_slice(bqual);
+    bytes
+}
