@@ -1,0 +1,11 @@
+pub mod MapLemmas
+pub mod HashLemmas
+pub mod ThreadLemmas
+pub mod SetLemmas
+pub mod SoundLemmas
+pub mod ShutLemmas
+pub mod AccountLemmas
+pub mod PlaceLemmas
+pub mod Law
+pub mod ValueLaw
+pub mod LateLaw

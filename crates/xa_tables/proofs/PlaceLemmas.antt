@@ -1,0 +1,224 @@
+-- Where the keys stand among the accounts, and what was declared.
+use Rattle.std.specs.Prelude.{◌≡◌, ℕ, pos, zero, suc, ◌+◌, ◌<◌, ◌≤◌, All, Bool, true, false, cond, not, ◌&&◌, ◌||◌, if◌then◌else◌, nat_le, List, [], ◌∷◌, ◌++◌, length, map, Option, None, Some, IsSome, is_some, refl}
+use Rattle.std.proofs.Common.{sym, ap, ◌∙◌, arith, get_or, take, length-take-le}
+use Rattle.std.proofs.Math.ListN.{set}
+use Rattle.std.proofs.lemmas.Int.{ints}
+use Rattle.std.proofs.lemmas.Bool.{leb-true}
+use Rattle.std.proofs.lemmas.List.{take_more, map-append, length-map, get_or_default}
+use Rattle.std.proofs.lemmas.List.Folds.{list_all_at}
+use Rattle.std.proofs.lemmas.List.Elements.{All-map}
+use Rattle.std.specs.List.{list_any, list_all}
+use Rattle.std.specs.Cmp.{eq_by_cmp_equiv}
+use Rattle.std.specs.FinMap as finmap
+use Rattle.std.specs.FinMap.{FinMap, find, from_entries, get-insert, get-from_entries}
+use Rattle.xa_words.specs.Xid.{XidName}
+use Rattle.xa_words.specs.Key.{key_eq}
+use Rattle.xa_words.specs.Orders.{key_cmp, key_cmp_total, Decides-key_eq, key_eq-by_cmp}
+use Rattle.xa_tables.specs.declared.accounts.Account.{Account}
+use Rattle.xa_tables.specs.Accounts.{AreDistinct, AreIndexed, IsGood, value_entries, hold_entries, place_in, later_place, hold_is_other, is_held_by_other, account_of, are_apart, are_accounts, declared_values}
+use Rattle.xa_tables.proofs.AccountLemmas.{same_key, key_self, key_apart, Lacks, apart_from, is_other}
+
+swapped : (k l : List ℕ) → key_eq l k ≡ same_key k l
+swapped k l = key_eq-by_cmp l k ∙ (eq_by_cmp_equiv key_cmp_total).symm l k
+
+one_here : (b : Bool) (i : ℕ) → later_place None b ≡ Some i → (b ≡ true) × (i ≡ 0)
+one_here true i e = (refl, let is : 0 ≡ i = cc in sym is)
+one_here false i e = let never : ⊥ = cc in absurd never
+
+nowhere : (b : Bool) → later_place None b ≡ None → b ≡ false
+nowhere true e = cc
+nowhere false e = refl
+
+-- a place is within
+pub place_within : (k : List ℕ) (accounts : List Account) (i : ℕ) → place_in k accounts ≡ Some i → i < length accounts
+place_within k [] i e = let never : ⊥ = cc in absurd never
+place_within k (a ∷ rest) i e =
+    elim (place_in k rest) as (λ o. place_in k rest ≡ o → later_place o (key_eq a.key k) ≡ Some i → i < length (a ∷ rest)) [
+      | Some j ↦ λ p f. let is : suc j ≡ i = cc in let h = place_within k rest j p in omega arith
+      | None ↦ λ p f. let is = (one_here (key_eq a.key k) i f).1 in omega arith
+    ] refl e
+
+-- the account at a key's place has the key
+pub place_key : (k : List ℕ) (accounts : List Account) (i : ℕ) (a : Account) → place_in k accounts ≡ Some i → a ≡ get_or accounts i a → a.key ≡ k
+place_key k [] i a e h = let never : ⊥ = cc in absurd never
+place_key k (c ∷ rest) zero a e h =
+    elim (place_in k rest) as (λ o. later_place o (key_eq c.key k) ≡ Some zero → a.key ≡ k) [
+      | Some j ↦ λ f. let is : suc j ≡ zero = cc in absurd (omega arith)
+      | None ↦ λ f. ap (λ (w : Account). w.key) h ∙ (Decides-key_eq c.key k).0 (one_here (key_eq c.key k) zero f).0
+    ] e
+place_key k (c ∷ rest) (suc i) a e h =
+    elim (place_in k rest) as (λ o. place_in k rest ≡ o → later_place o (key_eq c.key k) ≡ Some (suc i) → a.key ≡ k) [
+      | Some j ↦ λ p f. let is : suc j ≡ suc i = cc in let same : j ≡ i = omega arith in place_key k rest i a (p ∙ ap (λ n. Some n) same) h
+      | None ↦ λ p f. let is = (one_here (key_eq c.key k) (suc i) f).1 in absurd (omega arith)
+    ] refl e
+
+-- a key has a place exactly where it has a value
+pub place_some : (k : List ℕ) (accounts : List Account) → is_some (place_in k accounts) ≡ is_some (find key_cmp k (value_entries accounts))
+place_some k [] = refl
+place_some k (a ∷ rest) =
+    elim (place_in k rest) as (λ o. is_some o ≡ is_some (find key_cmp k (value_entries rest)) → is_some (later_place o (key_eq a.key k)) ≡ is_some (cond (same_key k a.key) (Some a.value) (find key_cmp k (value_entries rest)))) [
+      | Some j ↦ λ there. elim (same_key k a.key) as (λ b. true ≡ is_some (cond b (Some a.value) (find key_cmp k (value_entries rest)))) [ true ↦ refl | false ↦ there ]
+      | None ↦ λ there. ap (λ b. is_some (later_place None b)) (swapped k a.key)
+          ∙ elim (same_key k a.key) as (λ b. is_some (later_place None b) ≡ is_some (cond b (Some a.value) (find key_cmp k (value_entries rest)))) [ true ↦ refl | false ↦ there ]
+    ] (place_some k rest)
+
+-- a declared key has a place
+pub is_placed : (k : List ℕ) (accounts : List Account) (o : Option ℕ) → o ≡ place_in k accounts → is_some (finmap.get (from_entries {R = key_cmp} (value_entries accounts)) k) ≡ true → IsSome o
+is_placed k accounts o e declared =
+    let there : is_some o ≡ true = ap is_some e ∙ place_some k accounts ∙ ap is_some (sym (get-from_entries key_cmp_total (value_entries accounts) k)) ∙ declared in
+    elim o as (λ p. is_some p ≡ true → IsSome p) [ None ↦ λ f. cc | Some i ↦ λ f. refl ] there
+
+-- a key's value, by its place
+pub value_none : (k : List ℕ) (accounts : List Account) → place_in k accounts ≡ None → find key_cmp k (value_entries accounts) ≡ None
+value_none k accounts e =
+    elim (find key_cmp k (value_entries accounts)) as (λ o. is_some o ≡ false → o ≡ None) [ Some v ↦ λ f. let never : ⊥ = cc in absurd never | None ↦ λ f. refl ] (sym (place_some k accounts) ∙ ap is_some e)
+
+found : (k : List ℕ) (accounts : List Account) (i : ℕ) (a : Account) → AreDistinct accounts → i < length accounts → a ≡ get_or accounts i a → a.key ≡ k → find key_cmp k (value_entries accounts) ≡ Some a.value
+found k [] i a dist h e same = absurd (omega arith)
+found k (c ∷ rest) zero a dist h e same =
+    ap (λ b. cond b (Some c.value) (find key_cmp k (value_entries rest))) (ap (same_key k) (sym (ap (λ (w : Account). w.key) e) ∙ same) ∙ key_self k) ∙ ap (λ (w : Account). Some w.value) (sym e)
+found k (c ∷ rest) (suc i) a dist h e same =
+    let later = found k rest i a dist.1 (omega arith) e same in
+    ap (λ b. cond b (Some c.value) (find key_cmp k (value_entries rest)))
+    (key_apart k c.key (λ is. let z : is_some (find key_cmp k (value_entries rest)) ≡ false = ap (λ w. is_some (find key_cmp w (value_entries rest))) is ∙ ap is_some dist.0 in let y = ap is_some later in cc)) ∙ later
+
+pub value_at : (k : List ℕ) (accounts : List Account) (i : ℕ) (a : Account) → AreDistinct accounts → place_in k accounts ≡ Some i → a ≡ get_or accounts i a → find key_cmp k (value_entries accounts) ≡ Some a.value
+value_at k accounts i a dist there e = found k accounts i a dist (place_within k accounts i there) e (place_key k accounts i a there e)
+
+-- one more account at the end
+place_push : (k : List ℕ) (xs : List Account) (a : Account) → place_in k (xs ++ a ∷ []) ≡ cond (key_eq a.key k) (Some (length xs)) (place_in k xs)
+place_push k [] a = elim (key_eq a.key k) as (λ b. ◌≡◌ {A = Option ℕ} (if b then Some 0 else None) (cond b (Some 0) None)) [ true ↦ refl | false ↦ refl ]
+place_push k (c ∷ xs) a =
+    ap (λ o. later_place o (key_eq c.key k)) (place_push k xs a)
+    ∙ elim (key_eq a.key k) as (λ b. later_place (cond b (Some (length xs)) (place_in k xs)) (key_eq c.key k) ≡ cond b (Some (suc (length xs))) (later_place (place_in k xs) (key_eq c.key k))) [ true ↦ refl | false ↦ refl ]
+
+pub indexed_push : (places : FinMap key_cmp ℕ) (xs : List Account) (a : Account) → AreIndexed places xs → AreIndexed (finmap.insert places a.key (length xs)) (xs ++ a ∷ [])
+indexed_push places xs a h k =
+    get-insert key_cmp_total places a.key (length xs) k
+    ∙ (λ i. cond (sym (swapped k a.key) i) (Some (length xs)) (h k i)) ∙ sym (place_push k xs a)
+
+-- accounts that keep their keys keep their places
+place_map : (k : List ℕ) (f : Account → Account) → ((a : Account) → (f a).key ≡ a.key) → (accounts : List Account) → place_in k (map f accounts) ≡ place_in k accounts
+place_map k f keeps [] = refl
+place_map k f keeps (a ∷ rest) = λ i. later_place (place_map k f keeps rest i) (key_eq (keeps a i) k)
+
+pub indexed_map : (places : FinMap key_cmp ℕ) (f : Account → Account) → ((a : Account) → (f a).key ≡ a.key) → (accounts : List Account) → AreIndexed places accounts → AreIndexed places (map f accounts)
+indexed_map places f keeps accounts h k = h k ∙ sym (place_map k f keeps accounts)
+
+place_set : (k : List ℕ) (accounts : List Account) (i : ℕ) (a b : Account) → i < length accounts → a ≡ get_or accounts i a → b.key ≡ a.key → place_in k (set accounts i b) ≡ place_in k accounts
+place_set k [] i a b h e same = refl
+place_set k (c ∷ rest) zero a b h e same = ap (λ own. later_place (place_in k rest) (key_eq own k)) (same ∙ ap (λ (w : Account). w.key) e)
+place_set k (c ∷ rest) (suc i) a b h e same = ap (λ o. later_place o (key_eq c.key k)) (place_set k rest i a b (omega arith) e same)
+
+pub indexed_set : (places : FinMap key_cmp ℕ) (accounts : List Account) (i : ℕ) (a b : Account) → i < length accounts → a ≡ get_or accounts i a → b.key ≡ a.key → AreIndexed places accounts → AreIndexed places (set accounts i b)
+indexed_set places accounts i a b h e same old k = old k ∙ sym (place_set k accounts i a b h e same)
+
+-- ---- who has touched a key
+
+lacks_place : (k : List ℕ) (accounts : List Account) → Lacks k accounts → place_in k accounts ≡ None
+lacks_place k accounts h =
+    elim (place_in k accounts) as (λ o. is_some o ≡ false → o ≡ None) [ Some i ↦ λ e. let never : ⊥ = cc in absurd never | None ↦ λ e. refl ] (place_some k accounts ∙ ap is_some h)
+
+-- nobody holds a key without a place
+pub other_none : (k : List ℕ) (x : XidName) (accounts : List Account) → place_in k accounts ≡ None → list_any (λ b. is_other b x k) accounts ≡ false
+other_none k x [] e = refl
+other_none k x (a ∷ rest) e =
+    elim (place_in k rest) as (λ o. place_in k rest ≡ o → later_place o (key_eq a.key k) ≡ None → ((key_eq a.key k && hold_is_other a.hold x) || list_any (λ b. is_other b x k) rest) ≡ false) [
+      | Some j ↦ λ p f. let never : ⊥ = cc in absurd never
+      | None ↦ λ p f.
+          let here : key_eq a.key k ≡ false = nowhere (key_eq a.key k) f in
+          ap (λ b. (b && hold_is_other a.hold x) || list_any (λ b. is_other b x k) rest) here ∙ other_none k x rest p
+    ] refl e
+
+or_false : (b : Bool) → (b || false) ≡ b
+or_false true = refl
+or_false false = refl
+
+-- who holds a key is told by the account at its place
+pub other_at : (k : List ℕ) (x : XidName) (accounts : List Account) (i : ℕ) (a : Account) → AreDistinct accounts → place_in k accounts ≡ Some i → a ≡ get_or accounts i a → list_any (λ b. is_other b x k) accounts ≡ is_held_by_other a x
+other_at k x [] i a dist e h = let never : ⊥ = cc in absurd never
+other_at k x (c ∷ rest) zero a dist e h =
+    let same : c.key ≡ k = ap (λ (w : Account). w.key) (sym h) ∙ place_key k (c ∷ rest) zero a e h in
+    let here : key_eq c.key k ≡ true = (Decides-key_eq c.key k).1 same in
+    let none : Lacks k rest = ap (λ z. find key_cmp z (value_entries rest)) (sym same) ∙ dist.0 in
+    (λ i. (here i && hold_is_other (sym h i).hold x) || other_none k x rest (lacks_place k rest none) i) ∙ or_false _
+other_at k x (c ∷ rest) (suc i) a dist e h =
+    elim (place_in k rest) as (λ o. place_in k rest ≡ o → later_place o (key_eq c.key k) ≡ Some (suc i) → ((key_eq c.key k && hold_is_other c.hold x) || list_any (λ b. is_other b x k) rest) ≡ is_held_by_other a x) [
+      | Some j ↦ λ p f.
+          let is : suc j ≡ suc i = cc in
+          let same : j ≡ i = omega arith in
+          let there : is_some (find key_cmp k (value_entries rest)) ≡ true = sym (place_some k rest) ∙ ap is_some p in
+          let other : key_eq c.key k ≡ false = apart_from _ (λ t. let s : c.key ≡ k = (Decides-key_eq c.key k).0 t in let z : is_some (find key_cmp k (value_entries rest)) ≡ false = ap (λ w. is_some (find key_cmp w (value_entries rest))) (sym s) ∙ ap is_some dist.0 in cc) in
+          ap (λ b. (b && hold_is_other c.hold x) || list_any (λ b. is_other b x k) rest) other ∙ other_at k x rest i a dist.1 (p ∙ ap (λ n. Some n) same) h
+      | None ↦ λ p f. let is = (one_here (key_eq c.key k) (suc i) f).1 in absurd (omega arith)
+    ] refl e
+
+-- ---- what was declared
+
+declared_entries : (ds : List (List ℕ × ℕ)) → value_entries (map account_of ds) ≡ map (λ d. (d.0, pos d.1)) ds
+declared_entries [] = refl
+declared_entries (d ∷ ds) = ap (λ es. (d.0, pos d.1) ∷ es) (declared_entries ds)
+
+-- the declared keys have their values at the opening
+pub values_declared : (ds : List (List ℕ × ℕ)) → from_entries {R = key_cmp} (value_entries (map account_of ds)) ≡ declared_values ds
+values_declared ds = ap (from_entries {R = key_cmp}) (declared_entries ds)
+
+-- and no branch has touched them
+pub holds_declared : (ds : List (List ℕ × ℕ)) → hold_entries (map account_of ds) ≡ []
+holds_declared [] = refl
+holds_declared (d ∷ ds) = holds_declared ds
+
+first_true : (a b : Bool) → (a && b) ≡ true → a ≡ true
+first_true true b e = refl
+first_true false b e = cc
+
+second_true : (a b : Bool) → (a && b) ≡ true → b ≡ true
+second_true true b e = e
+second_true false b e = cc
+
+is_true : (b : Bool) → (b ≡ false → ⊥) → b ≡ true
+is_true true h = refl
+is_true false h = absurd (h refl)
+
+not_true : (b : Bool) → not b ≡ true → b ≡ false
+not_true true e = cc
+not_true false e = refl
+
+lacks_declared : (k : List ℕ) (ds : List (List ℕ × ℕ)) → list_any (λ e. key_eq e.0 k) ds ≡ false → Lacks k (map account_of ds)
+lacks_declared k [] h = refl
+lacks_declared k (d ∷ ds) h =
+    elim (key_eq d.0 k) as (λ b. key_eq d.0 k ≡ b → (b || list_any (λ e. key_eq e.0 k) ds) ≡ false → cond (same_key k d.0) (Some (pos d.1)) (find key_cmp k (value_entries (map account_of ds))) ≡ None) [
+      | true ↦ λ t f. cc
+      | false ↦ λ t f. ap (λ b. cond b (Some (pos d.1)) (find key_cmp k (value_entries (map account_of ds)))) (sym (swapped k d.0) ∙ t) ∙ lacks_declared k ds f
+    ] refl h
+
+distinct_apart : (ds : List (List ℕ × ℕ)) → are_apart ds ≡ true → AreDistinct (map account_of ds)
+distinct_apart [] h = tt
+distinct_apart (d ∷ ds) h = (lacks_declared d.0 ds (not_true _ (first_true _ _ h)), distinct_apart ds (second_true _ _ h))
+
+-- what may be declared has keys of its own
+pub distinct_declared : (ds : List (List ℕ × ℕ)) → are_accounts ds ≡ true → AreDistinct (map account_of ds)
+distinct_declared ds h = distinct_apart ds (second_true _ _ (second_true _ _ h))
+
+limit_from : (ds : List (List ℕ × ℕ)) (i : ℕ) (d : List ℕ × ℕ) → list_all (λ e. nat_le e.1 1000000000000) ds ≡ true → i < length ds → d.1 ≡ (get_or ds i d).1 → d.1 ≤ 1000000000000
+limit_from ds i d each within is =
+    leb-true d.1 1000000000000 (is_true (nat_le d.1 1000000000000) (λ f. let broken = list_all_at (λ (e : List ℕ × ℕ). nat_le e.1 1000000000000) ds i d within (ap (λ v. nat_le v 1000000000000) (sym is) ∙ f) in cc))
+
+-- each declared value is within the limit
+pub limit_declared : (ds : List (List ℕ × ℕ)) (i : ℕ) (d : List ℕ × ℕ) → are_accounts ds ≡ true → i < length ds → d.1 ≡ (get_or ds i d).1 → d.1 ≤ 1000000000000
+limit_declared ds i d h within is = limit_from ds i d (first_true _ _ (second_true _ _ h)) within is
+
+-- and values within the limits
+pub good_declared : (ds : List (List ℕ × ℕ)) → are_accounts ds ≡ true → All (IsGood 0) (map account_of ds)
+good_declared ds h =
+    All-map (IsGood 0) account_of ds (λ i d within.
+    let limit = limit_declared ds i (get_or ds i d) h within (ap (λ (e : List ℕ × ℕ). e.1) (get_or_default ds i d (get_or ds i d) within)) in
+    (omega (arith, ints), omega (arith, ints), tt))
+
+-- one more declared key
+pub declared_more : (ds : List (List ℕ × ℕ)) (i : ℕ) (d : List ℕ × ℕ) → i < length ds → d ≡ get_or ds i d → map account_of (take (i + 1) ds) ≡ map account_of (take i ds) ++ account_of d ∷ []
+declared_more ds i d within is = ap (map account_of) (take_more ds i d within ∙ ap (λ e. take i ds ++ e ∷ []) (sym is)) ∙ map-append account_of (take i ds) (d ∷ [])
+
+-- the places that were filled so far
+pub length_declared : (ds : List (List ℕ × ℕ)) (i : ℕ) → i < length ds → length (map account_of (take i ds)) ≡ i
+length_declared ds i within = length-map (take i ds) account_of ∙ length-take-le i ds (omega arith)

@@ -1,0 +1,113 @@
+-- What a step keeps of the facts on branches in S3.
+use Rattle.std.specs.Prelude.{◌≡◌, ◌≢◌, ℕ, ℤ, Bool, true, false, cond, Option, None, Some, refl}
+use Rattle.std.proofs.Common.{sym, ap, ◌∙◌, subst}
+use Rattle.std.specs.Ordering.{nat_cmp, eq_by_cmp, is_eq}
+use Rattle.std.specs.Cmp.{nat_cmp_total, tied_itself}
+use Rattle.std.specs.FinMap as map
+use Rattle.std.specs.FinMap.{FinMap, get-insert, get-remove, nat_cmp-IsAntisymmetric}
+use Rattle.xa_words.specs.Xid.{XidName, xid_cmp, xid_eq}
+use Rattle.xa_words.specs.Orders.{key_cmp, xid_cmp_total, xid_cmp-IsAntisymmetric, Decides-xid_eq}
+use Rattle.xa_tables.specs.declared.state.State.{State}
+use Rattle.xa_tables.specs.declared.state.State.TheVariants.{Prepared}
+use Rattle.xa_tables.specs.declared.state.Association.{Association}
+use Rattle.xa_tables.specs.Tables.{touch_cmp, is_broken, is_somebody_associated}
+use Rattle.xa_tables.specs.Next.{is_prepared}
+use Rattle.xa_tables.specs.Managers.{AreAssociationsLive, ArePreparedSound}
+use Rattle.xa_tables.proofs.MapLemmas.{equal_from, none_passes}
+
+abbrev Associations : Type 0
+Associations = FinMap nat_cmp Association
+
+abbrev States : Type 0
+States = FinMap xid_cmp State
+
+abbrev Sums : Type 0
+Sums = FinMap touch_cmp ℤ
+
+abbrev Values : Type 0
+Values = FinMap key_cmp ℤ
+
+pub xid_tied : (x y : XidName) → x ≡ y → eq_by_cmp xid_cmp x y ≡ true
+xid_tied x y e = subst (λ (z : XidName). eq_by_cmp xid_cmp x z ≡ true) e (ap is_eq (tied_itself xid_cmp_total x))
+
+-- by whether two xids are one
+pub by_xid : (x y : XidName) (P : Bool → Type 0) → (x ≡ y → P true) → (x ≢ y → P false) → P (eq_by_cmp xid_cmp x y)
+by_xid x y P one two =
+    elim (eq_by_cmp xid_cmp x y) as (λ b. eq_by_cmp xid_cmp x y ≡ b → P b) [
+      | true ↦ λ t. one (xid_cmp-IsAntisymmetric x y (equal_from _ t))
+      | false ↦ λ t. two (λ e. let same = xid_tied x y e in cc)
+    ] refl
+
+-- a branch is put into a state other than S3
+pub live_put : (associations : Associations) (states states' : States) (x : XidName) (s : State) → states' ≡ map.insert states x s → is_prepared (Some s) ≡ false → AreAssociationsLive associations states → AreAssociationsLive associations states'
+live_put associations states states' x s e not_prepared live t l found =
+    ap (λ m. is_prepared (map.get m l.xid)) e ∙ ap is_prepared (get-insert xid_cmp_total states x s l.xid)
+    ∙ by_xid l.xid x (λ b. is_prepared (cond b (Some s) (map.get states l.xid)) ≡ false) (λ _. not_prepared) (λ _. live t l found)
+
+pub sound_put : (states states' : States) (sums : Sums) (values : Values) (x : XidName) (s : State) → states' ≡ map.insert states x s → is_prepared (Some s) ≡ false
+    → ArePreparedSound states sums values → ArePreparedSound states' sums values
+sound_put states states' sums values x s e not_prepared sound y =
+    subst (λ (o : Option State). is_prepared o ≡ true → is_broken values sums y ≡ false) (sym (ap (λ m. map.get m y) e ∙ get-insert xid_cmp_total states x s y))
+    (by_xid y x (λ b. is_prepared (cond b (Some s) (map.get states y)) ≡ true → is_broken values sums y ≡ false) (λ _ h. cc) (λ _. sound y))
+
+-- a thread becomes associated with a branch that isn't in S3
+pub live_associated : (associations associations' : Associations) (states : States) (t : ℕ) (l : Association) → associations' ≡ map.insert associations t l → is_prepared (map.get states l.xid) ≡ false → AreAssociationsLive associations states → AreAssociationsLive associations' states
+live_associated associations associations' states t l e not_prepared live u k found =
+    let is : cond (eq_by_cmp nat_cmp u t) (Some l) (map.get associations u) ≡ Some k = sym (get-insert nat_cmp_total associations t l u) ∙ ap (λ m. map.get m u) (sym e) ∙ found in
+    elim (eq_by_cmp nat_cmp u t) as (λ b. cond b (Some l) (map.get associations u) ≡ Some k → is_prepared (map.get states k.xid) ≡ false) [
+      | true ↦ λ is. let same : l ≡ k = cc in subst (λ (j : Association). is_prepared (map.get states j.xid) ≡ false) same not_prepared
+      | false ↦ λ is. live u k is
+    ] is
+
+-- a thread loses its association
+pub live_dissociated : (associations associations' : Associations) (states : States) (t : ℕ) → associations' ≡ map.remove associations t → AreAssociationsLive associations states → AreAssociationsLive associations' states
+live_dissociated associations associations' states t e live u k found =
+    let is : cond (eq_by_cmp nat_cmp u t) None (map.get associations u) ≡ Some k = sym (get-remove nat_cmp_total associations t u) ∙ ap (λ m. map.get m u) (sym e) ∙ found in
+    elim (eq_by_cmp nat_cmp u t) as (λ b. cond b None (map.get associations u) ≡ Some k → is_prepared (map.get states k.xid) ≡ false) [
+      | true ↦ λ is. cc
+      | false ↦ λ is. live u k is
+    ] is
+
+-- a branch is gone
+pub live_removed : (associations : Associations) (states states' : States) (x : XidName) → states' ≡ map.remove states x → AreAssociationsLive associations states → AreAssociationsLive associations states'
+live_removed associations states states' x e live t l found =
+    ap (λ m. is_prepared (map.get m l.xid)) e ∙ ap is_prepared (get-remove xid_cmp_total states x l.xid)
+    ∙ by_xid l.xid x (λ b. is_prepared (cond b None (map.get states l.xid)) ≡ false) (λ _. refl) (λ _. live t l found)
+
+-- x is gone, and the other branches stand as they stood
+pub sound_removed : (states states' : States) (sums sums' : Sums) (values values' : Values) (x : XidName) → states' ≡ map.remove states x
+    → ((y : XidName) → y ≢ x → is_broken values' sums' y ≡ is_broken values sums y) → ArePreparedSound states sums values → ArePreparedSound states' sums' values'
+sound_removed states states' sums sums' values values' x e others sound y =
+    subst (λ (o : Option State). is_prepared o ≡ true → is_broken values' sums' y ≡ false) (sym (ap (λ m. map.get m y) e ∙ get-remove xid_cmp_total states x y))
+    (by_xid y x (λ b. is_prepared (cond b None (map.get states y)) ≡ true → is_broken values' sums' y ≡ false) (λ _ h. cc) (λ apart h. others y apart ∙ sound y h))
+
+-- x isn't in S3, and the other branches stand as they stood
+pub sound_others : (states : States) (sums sums' : Sums) (values values' : Values) (x : XidName) → is_prepared (map.get states x) ≡ false
+    → ((y : XidName) → y ≢ x → is_broken values' sums' y ≡ is_broken values sums y) → ArePreparedSound states sums values → ArePreparedSound states sums' values'
+sound_others states sums sums' values values' x not_prepared others sound y h =
+    others y (λ e. let z = ap (λ w. is_prepared (map.get states w)) e in cc) ∙ sound y h
+
+-- a branch that keeps the values within the limits is put into S3
+pub sound_prepared : (states states' : States) (sums : Sums) (values : Values) (x : XidName) → states' ≡ map.insert states x Prepared → is_broken values sums x ≡ false
+    → ArePreparedSound states sums values → ArePreparedSound states' sums values
+sound_prepared states states' sums values x e whole sound y =
+    subst (λ (o : Option State). is_prepared o ≡ true → is_broken values sums y ≡ false) (sym (ap (λ m. map.get m y) e ∙ get-insert xid_cmp_total states x Prepared y))
+    (by_xid y x (λ b. is_prepared (cond b (Some Prepared) (map.get states y)) ≡ true → is_broken values sums y ≡ false) (λ same h. ap (λ w. is_broken values sums w) same ∙ whole) (λ _. sound y))
+
+-- a branch that nobody is associated with is put into S3
+pub live_prepared : (associations : Associations) (states states' : States) (x : XidName) → states' ≡ map.insert states x Prepared → is_somebody_associated associations x ≡ false → AreAssociationsLive associations states → AreAssociationsLive associations states'
+live_prepared associations states states' x e nobody live t l found =
+    let other : xid_eq l.xid x ≡ false = none_passes nat_cmp_total nat_cmp-IsAntisymmetric (λ t l. xid_eq l.xid x) associations t l nobody found in
+    ap (λ m. is_prepared (map.get m l.xid)) e ∙ ap is_prepared (get-insert xid_cmp_total states x Prepared l.xid)
+    ∙ by_xid l.xid x (λ b. is_prepared (cond b (Some Prepared) (map.get states l.xid)) ≡ false) (λ same. let tied = (Decides-xid_eq l.xid x).1 same in cc) (λ _. live t l found)
+
+-- x is in the state that it was put into
+pub now_at : (states states' : States) (x : XidName) (s : State) → states' ≡ map.insert states x s → is_prepared (Some s) ≡ false → is_prepared (map.get states' x) ≡ false
+now_at states states' x s e not_prepared =
+    ap (λ m. is_prepared (map.get m x)) e ∙ ap is_prepared (get-insert xid_cmp_total states x s x)
+    ∙ by_xid x x (λ b. is_prepared (cond b (Some s) (map.get states x)) ≡ false) (λ _. not_prepared) (λ apart. absurd (apart refl))
+
+-- the branch of an association isn't in S3
+pub associated_live : (associations : Associations) (states : States) (t : ℕ) (l : Association) (x : XidName) → AreAssociationsLive associations states → Some l ≡ map.get associations t → true ≡ xid_eq l.xid x → is_prepared (map.get states x) ≡ false
+associated_live associations states t l x live found same =
+    subst (λ (y : XidName). is_prepared (map.get states y) ≡ false) ((Decides-xid_eq l.xid x).0 (sym same)) (live t l (sym found))

@@ -1,0 +1,154 @@
+-- The maps that the threads make.
+use Rattle.std.specs.Prelude.{◌≡◌, ◌≢◌, ℕ, zero, suc, ◌+◌, ◌-◌, ◌<◌, ◌≤◌, Bool, true, false, cond, ◌||◌, List, [], ◌∷◌, length, replicate, Option, None, Some, is_some, refl}
+use Rattle.std.proofs.Common.{sym, ap, ◌∙◌, subst, arith, get_or}
+use Rattle.std.proofs.Math.ListN.{set}
+use Rattle.std.specs.List.{list_any}
+use Rattle.std.specs.Ordering.{nat_cmp, eq_by_cmp, is_eq}
+use Rattle.std.specs.Cmp.{nat_cmp_total, tied_itself, eq_by_cmp_equiv}
+use Rattle.std.specs.FinMap as map
+use Rattle.std.specs.FinSet as finset
+use Rattle.std.specs.FinMap.{find, from_entries, get-from_entries, nat_cmp-IsAntisymmetric}
+use Rattle.xa_tables.specs.Maps.{any_entry}
+use Rattle.xa_tables.specs.Views.{with_entry, entries_from}
+use Rattle.xa_tables.proofs.SetLemmas.{marked, contains-marked, mark_put, mark_removed, mark_same}
+use Rattle.xa_tables.proofs.MapLemmas.{put_one, remove_one, same_finds, Distinct, any_entries, equal_from}
+
+abbrev same_nat : ℕ → ℕ → Bool
+same_nat = eq_by_cmp nat_cmp
+
+same_nat-yes : (q k : ℕ) → same_nat q k ≡ true → q ≡ k
+same_nat-yes q k t = nat_cmp-IsAntisymmetric q k (equal_from _ t)
+
+same_nat-self : (q : ℕ) → same_nat q q ≡ true
+same_nat-self q = ap is_eq (tied_itself nat_cmp_total q)
+
+same_nat-apart : (q k : ℕ) → q ≢ k → same_nat q k ≡ false
+same_nat-apart q k h = elim (same_nat q k) as (λ b. same_nat q k ≡ b → b ≡ false) [ true ↦ λ t. absurd (h (same_nat-yes q k t)) | false ↦ λ t. refl ] refl
+
+module _ {S X : Type 0} (f : S → Option X) where
+  absent : (q n : ℕ) (ss : List S) → q < n → find nat_cmp q (entries_from f n ss) ≡ None
+  absent q n [] h = refl
+  absent q n (s ∷ ss) h =
+      let rest : find nat_cmp q (entries_from f (suc n) ss) ≡ None = absent q (suc n) ss (omega arith) in
+      elim (f s) as (λ o. find nat_cmp q (with_entry n o (entries_from f (suc n) ss)) ≡ None) [
+        | None ↦ rest
+        | Some v ↦ ap (λ b. cond b (Some v) (find nat_cmp q (entries_from f (suc n) ss))) (same_nat-apart q n (λ e. omega arith)) ∙ rest
+      ]
+
+  -- what f reads of the place that has the number q
+  look : ℕ → List S → ℕ → Option X
+  look n [] q = None
+  look n (s ∷ ss) q = cond (same_nat q n) (f s) (look (suc n) ss q)
+
+  find-look : (q n : ℕ) (ss : List S) → find nat_cmp q (entries_from f n ss) ≡ look n ss q
+  unfolding look
+  find-look q n [] = refl
+  find-look q n (s ∷ ss) =
+      let rest = find-look q (suc n) ss in
+      elim (f s) as (λ o. find nat_cmp q (with_entry n o (entries_from f (suc n) ss)) ≡ cond (same_nat q n) o (look (suc n) ss q)) [
+        | None ↦ elim (same_nat q n) as (λ b. same_nat q n ≡ b → find nat_cmp q (entries_from f (suc n) ss) ≡ cond b None (look (suc n) ss q)) [
+          | true ↦ λ t. absent q (suc n) ss (let e = same_nat-yes q n t in omega arith)
+          | false ↦ λ t. rest
+        ] refl
+        | Some v ↦ ap (cond (same_nat q n) (Some v)) rest
+      ]
+
+  look-set : (ss : List S) (i n k q : ℕ) (s : S) → k ≡ n + i → i < length ss → look n (set ss i s) q ≡ cond (same_nat q k) (f s) (look n ss q)
+  unfolding look
+  look-set [] i n k q s e h = absurd (omega arith)
+  look-set (x ∷ ss) zero n k q s e h =
+      let same : n ≡ k = omega arith in
+      subst (λ (m : ℕ). cond (same_nat q n) (f s) (look (suc n) ss q) ≡ cond (same_nat q m) (f s) (cond (same_nat q n) (f x) (look (suc n) ss q))) same
+      (elim (same_nat q n) as (λ b. cond b (f s) (look (suc n) ss q) ≡ cond b (f s) (cond b (f x) (look (suc n) ss q))) [ true ↦ refl | false ↦ refl ])
+  look-set (x ∷ ss) (suc j) n k q s e h =
+      let rest = look-set ss j (suc n) k q s (omega arith) (omega arith) in
+      elim (same_nat q n) as (λ b. same_nat q n ≡ b → cond b (f x) (look (suc n) (set ss j s) q) ≡ cond (same_nat q k) (f s) (cond b (f x) (look (suc n) ss q))) [
+        | true ↦ λ t. sym (ap (λ b. cond b (f s) (f x)) (same_nat-apart q k (λ y. let z = same_nat-yes q n t in omega arith)))
+        | false ↦ λ t. rest
+      ] refl
+
+  look-at : (ss : List S) (i n k : ℕ) (d : S) → k ≡ n + i → i < length ss → look n ss k ≡ f (get_or ss i d)
+  unfolding look
+  look-at [] i n k d e h = absurd (omega arith)
+  look-at (x ∷ ss) zero n k d e h = let same : k ≡ n = omega arith in ap (λ b. cond b (f x) (look (suc n) ss k)) (ap (same_nat k) (sym same) ∙ same_nat-self k)
+  look-at (x ∷ ss) (suc j) n k d e h =
+      ap (λ b. cond b (f x) (look (suc n) ss k)) (same_nat-apart k n (λ y. omega arith)) ∙ look-at ss j (suc n) k d (omega arith) (omega arith)
+
+  found_set : (ss : List S) (t : ℕ) (s : S) → 0 < t → t ≤ length ss → (q : ℕ) → find nat_cmp q (entries_from f 1 (set ss (t - 1) s)) ≡ cond (same_nat q t) (f s) (find nat_cmp q (entries_from f 1 ss))
+  found_set ss t s p h q = find-look q 1 (set ss (t - 1) s) ∙ look-set ss (t - 1) 1 t q s (omega arith) (omega arith) ∙ ap (cond (same_nat q t) (f s)) (sym (find-look q 1 ss))
+
+  -- what the map tells of thread t is what f reads of its place
+  pub get_thread : (ss : List S) (t : ℕ) (d : S) → 0 < t → t ≤ length ss → map.get (from_entries {R = nat_cmp} (entries_from f 1 ss)) t ≡ f (get_or ss (t - 1) d)
+  get_thread ss t d p h = get-from_entries nat_cmp_total _ t ∙ find-look t 1 ss ∙ look-at ss (t - 1) 1 t d (omega arith) (omega arith)
+
+  -- a write that f reads as v puts v at thread t
+  pub thread_put : (ss : List S) (t : ℕ) (s : S) (v : X) → 0 < t → t ≤ length ss → f s ≡ Some v
+      → from_entries {R = nat_cmp} (entries_from f 1 (set ss (t - 1) s)) ≡ map.insert (from_entries (entries_from f 1 ss)) t v
+  thread_put ss t s v p h e = put_one nat_cmp_total nat_cmp-IsAntisymmetric _ _ t v (λ q. found_set ss t s p h q ∙ ap (λ o. cond (same_nat q t) o (find nat_cmp q (entries_from f 1 ss))) e)
+
+  -- a write of which f reads nothing takes thread t out
+  pub thread_removed : (ss : List S) (t : ℕ) (s : S) → 0 < t → t ≤ length ss → f s ≡ None
+      → from_entries {R = nat_cmp} (entries_from f 1 (set ss (t - 1) s)) ≡ map.remove (from_entries (entries_from f 1 ss)) t
+  thread_removed ss t s p h e =
+      remove_one nat_cmp_total nat_cmp-IsAntisymmetric _ _ t (λ q. found_set ss t s p h q ∙ ap (λ o. cond (same_nat q t) o (find nat_cmp q (entries_from f 1 ss))) e)
+      (λ q. (eq_by_cmp_equiv nat_cmp_total).symm t q)
+
+  same_set : (ss : List S) (t : ℕ) (s d : S) → 0 < t → t ≤ length ss → f s ≡ f (get_or ss (t - 1) d)
+      → (q : ℕ) → find nat_cmp q (entries_from f 1 (set ss (t - 1) s)) ≡ find nat_cmp q (entries_from f 1 ss)
+  same_set ss t s d p h e q =
+      found_set ss t s p h q
+      ∙ elim (same_nat q t) as (λ b. same_nat q t ≡ b → cond b (f s) (find nat_cmp q (entries_from f 1 ss)) ≡ find nat_cmp q (entries_from f 1 ss)) [
+        | true ↦ λ y. e ∙ sym (find-look t 1 ss ∙ look-at ss (t - 1) 1 t d (omega arith) (omega arith)) ∙ ap (λ r. find nat_cmp r (entries_from f 1 ss)) (sym (same_nat-yes q t y))
+        | false ↦ λ y. refl
+      ] refl
+
+  find_thread : (ss : List S) (t : ℕ) (d : S) → 0 < t → t ≤ length ss → find nat_cmp t (entries_from f 1 ss) ≡ f (get_or ss (t - 1) d)
+  find_thread ss t d p h = find-look t 1 ss ∙ look-at ss (t - 1) 1 t d (omega arith) (omega arith)
+
+  -- threads of which f reads nothing make no entry
+  pub none_from : (s : S) (k n : ℕ) → f s ≡ None → entries_from f n (replicate k s) ≡ []
+  none_from s zero n e = refl
+  none_from s (suc k) n e = ap (λ o. with_entry n o (entries_from f (suc n) (replicate k s))) e ∙ none_from s k (suc n) e
+
+  -- a write that f doesn't see leaves the map as it was
+  pub thread_same : (ss : List S) (t : ℕ) (s d : S) → 0 < t → t ≤ length ss → f s ≡ f (get_or ss (t - 1) d)
+      → from_entries {R = nat_cmp} (entries_from f 1 (set ss (t - 1) s)) ≡ from_entries (entries_from f 1 ss)
+  thread_same ss t s d p h e =
+      same_finds nat_cmp_total nat_cmp-IsAntisymmetric _ _ (same_set ss t s d p h e)
+
+  distinct_from : (n : ℕ) (ss : List S) → Distinct nat_cmp_total nat_cmp-IsAntisymmetric (entries_from f n ss)
+  distinct_from n [] = tt
+  distinct_from n (s ∷ ss) =
+      elim (f s) as (λ o. Distinct nat_cmp_total nat_cmp-IsAntisymmetric (with_entry n o (entries_from f (suc n) ss))) [
+        | None ↦ distinct_from (suc n) ss
+        | Some v ↦ (absent n (suc n) ss (omega arith), distinct_from (suc n) ss)
+      ]
+
+  abbrev pub some_passes : (X → Bool) → S → Bool
+  some_passes p s = elim (f s) [ None ↦ false | Some v ↦ p v ]
+
+  list_any-from : (p : X → Bool) (n : ℕ) (ss : List S) → list_any (λ (e : ℕ × X). p e.1) (entries_from f n ss) ≡ list_any (some_passes p) ss
+  list_any-from p n [] = refl
+  list_any-from p n (s ∷ ss) =
+      elim (f s) as (λ o. list_any (λ (e : ℕ × X). p e.1) (with_entry n o (entries_from f (suc n) ss)) ≡ (elim o [ None ↦ false | Some v ↦ p v ] || list_any (some_passes p) ss)) [
+        | None ↦ list_any-from p (suc n) ss
+        | Some v ↦ ap (λ b. p v || b) (list_any-from p (suc n) ss)
+      ]
+
+  -- some entry passes if some thread does
+  pub any_thread : (p : X → Bool) (ss : List S) → any_entry {R = nat_cmp} (λ t x. p x) (from_entries (entries_from f 1 ss)) ≡ list_any (some_passes p) ss
+  any_thread p ss = any_entries nat_cmp_total nat_cmp-IsAntisymmetric (λ t x. p x) (entries_from f 1 ss) (distinct_from 1 ss) ∙ list_any-from p 1 ss
+
+module _ {S : Type 0} (f : S → Option (Unit {0})) where
+  -- the same for the set of threads that have a mark
+  pub open_put : (ss : List S) (t : ℕ) (s : S) → 0 < t → t ≤ length ss → f s ≡ Some tt → marked (entries_from f 1 (set ss (t - 1) s)) ≡ finset.insert (marked (entries_from f 1 ss)) t
+  open_put ss t s p h e = mark_put _ _ t (λ q. found_set f ss t s p h q ∙ ap (λ o. cond (same_nat q t) o (find nat_cmp q (entries_from f 1 ss))) e)
+
+  pub open_removed : (ss : List S) (t : ℕ) (s : S) → 0 < t → t ≤ length ss → f s ≡ None → marked (entries_from f 1 (set ss (t - 1) s)) ≡ finset.remove (marked (entries_from f 1 ss)) t
+  open_removed ss t s p h e = mark_removed _ _ t (λ q. found_set f ss t s p h q ∙ ap (λ o. cond (same_nat q t) o (find nat_cmp q (entries_from f 1 ss))) e)
+
+  pub open_same : (ss : List S) (t : ℕ) (s d : S) → 0 < t → t ≤ length ss → f s ≡ f (get_or ss (t - 1) d) → marked (entries_from f 1 (set ss (t - 1) s)) ≡ marked (entries_from f 1 ss)
+  open_same ss t s d p h e = mark_same _ _ (same_set f ss t s d p h e)
+
+  pub contains_thread : (ss : List S) (t : ℕ) (d : S) → 0 < t → t ≤ length ss → finset.contains (marked (entries_from f 1 ss)) t ≡ is_some (f (get_or ss (t - 1) d))
+  contains_thread ss t d p h = contains-marked _ t ∙ ap is_some (find_thread f ss t d p h)

@@ -1,0 +1,419 @@
+-- The law: a key's value is its value at the opening and the additions whose branches commit.
+use Rattle.std.specs.Prelude.{◌≡◌, ◌≢◌, ℕ, ℤ, pos, ◌+ℤ◌, option_map, Bool, true, false, cond, not, ◌&&◌, ◌||◌, if◌then◌else◌, Option, None, Some, is_some, unwrap_or, List, [], ◌∷◌, refl}
+use Rattle.std.proofs.Common.{sym, ap, ◌∙◌, subst, arith}
+use Rattle.std.specs.FinMap as map
+use Rattle.std.specs.FinMap.{get-empty, get-insert, get-retain_keys, FinMap}
+use Rattle.std.proofs.lemmas.Bool.Decides.{same_from_decides}
+use Rattle.xa_words.specs.Xid.{XidName, xid_eq}
+use Rattle.xa_words.specs.Orders.{Decides-xid_eq, key_cmp_total, key_cmp-IsAntisymmetric, Decides-key_eq}
+use Rattle.xa_words.specs.declared.code.Code.{Code}
+use Rattle.xa_words.specs.declared.code.Code.TheVariants.{Done, RdOnly, RbRollback, RbIntegrity, RbTransient, Nota, Inval, Proto, RmFail, DupId}
+use Rattle.xa_words.specs.declared.request.Op.{Op}
+use Rattle.xa_words.specs.declared.request.Op.TheVariants.{OpenRm, CloseRm, Start, Add, End, Prepare, Commit, Rollback, Shut}
+use Rattle.xa_words.specs.declared.request.StartHow.TheVariants.{Fresh, Join, Resume}
+use Rattle.xa_words.specs.declared.request.EndHow.{EndHow}
+use Rattle.xa_words.specs.declared.request.EndHow.TheVariants.{Success, Suspend, Fail}
+use Rattle.xa_tables.specs.declared.state.State.TheVariants.{Active, Idle, Prepared as S3, RollbackOnly}
+use Rattle.xa_tables.specs.declared.state.RollbackReason.TheVariants.{Rollback as Failed, Transient}
+use Rattle.xa_tables.specs.declared.state.Association.{Association}
+use Rattle.xa_tables.specs.Tables.{Tables, has_opened, association_of, state_of, exists, is_somebody_associated, has_touched, has_other_touched, is_broken, is_declared, Touch, touch_cmp, sum_of, sums_without}
+use Rattle.xa_tables.specs.Next.{Answer, next, next_open, next_opened, if_opened, open_rm, start, join_unless, add, add_by, add_unless, end, end_unless, ended, prepare, commit_two, commit_one, rollback, rollback_unless, is_prepared, is_idle, is_suspend, is_suspended, is_associated_with, reason_of, gone, stated, associated, dissociated, committed}
+use Rattle.xa_tables.specs.History.{History, coded, accepted, Fate, InDoubt, Live, Committed, ReadOnly, RolledBack, fate_of, if_named, is_rolled_back, is_done, tables_after, added_by, added_in, share_of, share, commits, ending, or_later, ValueIsSum, IsOpening}
+use Rattle.xa_tables.proofs.ShutLemmas.{after_accepted}
+use Rattle.xa_tables.proofs.Law.{by_if, Sound, reason_rolls_back, sound_after, opening_sound}
+use Rattle.std.proofs.lemmas.Int.{ints}
+use Rattle.std.specs.FinSet as finset
+use Rattle.xa_words.specs.declared.request.StartHow.{StartHow}
+use Rattle.xa_words.specs.Key.{key_eq}
+use Rattle.xa_tables.proofs.MapLemmas.{get-map_values, none_passes}
+use Rattle.xa_tables.proofs.AccountLemmas.{touch_cmp_total, touch_cmp-IsAntisymmetric, touch_from, touch_self, apart_from}
+
+-- the branch that has touched the key, and its sum
+abbrev Held : Type 0
+Held = Option (XidName × ℤ)
+
+abbrev IsPending : List ℕ → Held → FinMap touch_cmp ℤ → Type 0
+IsPending k None sums = (x : XidName) → map.get sums (x, k) ≡ None
+IsPending k (Some p) sums = (map.get sums (p.0, k) ≡ Some p.1) × ((y : XidName) → y ≢ p.0 → map.get sums (y, k) ≡ None)
+
+abbrev due : Held → (XidName → Bool) → ℤ
+due None later = pos 0
+due (Some p) later = if later p.0 then p.1 else pos 0
+
+-- who commits, seen from before an entry
+abbrev before : Op → Code → (XidName → Bool) → XidName → Bool
+before op c later x = or_later (ending (fate_of x op c)) (later x)
+
+record VStep (k : List ℕ) (p : Held) (op : Op) (l : Option Association) (T : Tables) (a : Answer) : Type 0 where
+  held : Held
+  pending : IsPending k held a.0.sums
+  moved : ℤ
+  values : map.get a.0.values k ≡ option_map (λ v. v +ℤ moved) (map.get T.values k)
+  owes : (later : XidName → Bool) → moved +ℤ due held later ≡ due p (before op a.1 later) +ℤ share_of k op a.1 l later
+
+plus_zero : (o : Option ℤ) → o ≡ option_map (λ v. v +ℤ pos 0) o
+plus_zero None = refl
+plus_zero (Some v) = ap (λ w. Some w) (omega (arith, ints))
+
+due_same : (p : Held) (C D : XidName → Bool) → ((x : XidName) → D x ≡ C x) → due p D ≡ due p C
+due_same None C D h = refl
+due_same (Some p) C D h = ap (λ b. if b then p.1 else pos 0) (h p.0)
+
+zero_plus : (d e s : ℤ) → e ≡ d → s ≡ pos 0 → pos 0 +ℤ d ≡ e +ℤ s
+zero_plus d e s h z = omega (arith, ints)
+
+-- neither sums nor values change, and the entry ends nothing
+still : (k : List ℕ) (p : Held) (op : Op) (l : Option Association) (T : Tables) (a : Answer) → IsPending k p T.sums → a.0.sums ≡ T.sums → a.0.values ≡ T.values
+    → ((x : XidName) → ending (fate_of x op a.1) ≡ None) → ((later : XidName → Bool) → share_of k op a.1 l later ≡ pos 0) → VStep k p op l T a
+still k p op l T a held sums values quiet none =
+    record {
+      held = p;
+      pending = subst (IsPending k p) (sym sums) held;
+      moved = pos 0;
+      values = ap (λ m. map.get m k) values ∙ plus_zero _;
+      owes = λ later. zero_plus _ _ _ (due_same p later (before op a.1 later) (λ x. ap (λ o. or_later o (later x)) (quiet x))) (none later);
+    }
+
+quiet_named : (x y : XidName) (o : Option Fate) → ending o ≡ None → ending (if_named x y o) ≡ None
+quiet_named x y o e = elim (xid_eq y x) as (λ b. ending (if b then o else None) ≡ None) [ true ↦ e | false ↦ refl ]
+
+get_without : (sums : FinMap touch_cmp ℤ) (y x : XidName) (k : List ℕ) → map.get (sums_without sums y) (x, k) ≡ (if xid_eq x y then None else map.get sums (x, k))
+get_without sums y x k =
+    get-retain_keys sums (λ p. not (xid_eq p.0 y)) (x, k) (λ q e. ap (λ (r : Touch). not (xid_eq r.0 y)) (sym (touch_cmp-IsAntisymmetric (x, k) q e)))
+    ∙ elim (xid_eq x y) as (λ b. cond (not b) (map.get sums (x, k)) None ≡ (if b then None else map.get sums (x, k))) [ true ↦ refl | false ↦ refl ]
+
+-- who has touched the key once y is gone
+left_by : Held → XidName → Held
+left_by None y = None
+left_by (Some p) y = if xid_eq p.0 y then None else Some p
+
+not_not1 : (b : Bool) → not b ≡ false → b ≡ true
+not_not1 true e = refl
+not_not1 false e = cc
+
+amount_of_held : Held → XidName → ℤ
+amount_of_held None y = pos 0
+amount_of_held (Some p) y = if xid_eq p.0 y then p.1 else pos 0
+
+due_left : (k : List ℕ) (y : XidName) (p : Held) (sums : FinMap touch_cmp ℤ) → IsPending k p sums → IsPending k (left_by p y) (sums_without sums y)
+unfolding left_by
+due_left k y None sums h = λ x. get_without sums y x k ∙ elim (xid_eq x y) as (λ b. (if b then None else map.get sums (x, k)) ≡ None) [ true ↦ refl | false ↦ h x ]
+due_left k y (Some p) sums h =
+    elim (xid_eq p.0 y) as (λ b. xid_eq p.0 y ≡ b → IsPending k (if b then None else Some p) (sums_without sums y)) [
+      | true ↦ λ t x. get_without sums y x k
+          ∙ elim (xid_eq x y) as (λ b. xid_eq x y ≡ b → (if b then None else map.get sums (x, k)) ≡ None) [
+            | true ↦ λ u. refl
+            | false ↦ λ u. h.1 x (λ e. let z = ap (λ w. xid_eq w y) e ∙ t in cc)
+          ] refl
+      | false ↦ λ t. (
+        get_without sums y p.0 k ∙ ap (λ b. if b then None else map.get sums (p.0, k)) t ∙ h.0,
+        λ x apart. get_without sums y x k ∙ elim (xid_eq x y) as (λ b. (if b then None else map.get sums (x, k)) ≡ None) [ true ↦ refl | false ↦ h.1 x apart ],
+      )
+    ] refl
+
+ended_named : (x y : XidName) (g : Fate) (b : Bool) → ending (Some g) ≡ Some b → ending (if_named x y (Some g)) ≡ (if xid_eq y x then Some b else None)
+ended_named x y g b e = elim (xid_eq y x) as (λ c. ending (if c then Some g else None) ≡ (if c then Some b else None)) [ true ↦ e | false ↦ refl ]
+
+swap1 : (x y : XidName) → xid_eq x y ≡ xid_eq y x
+swap1 x y = same_from_decides _ _ (Decides-xid_eq x y) ((λ t. sym ((Decides-xid_eq y x).0 t)), (λ e. (Decides-xid_eq y x).1 (sym e)))
+
+-- what is due before an entry that ends y: y's sum if it commits, and else nothing
+due_ended : (y : XidName) (b : Bool) (p : Held) (op : Op) (c : Code) (later : XidName → Bool) → ((x : XidName) → ending (fate_of x op c) ≡ (if xid_eq y x then Some b else None))
+    → due p (before op c later) ≡ (if b then amount_of_held p y else pos 0) +ℤ due (left_by p y) later
+unfolding left_by amount_of_held
+due_ended y b None op c later h = elim b as (λ d. pos 0 ≡ (if d then pos 0 else pos 0) +ℤ pos 0) [ true ↦ refl | false ↦ refl ]
+due_ended y b (Some p) op c later h =
+    ap (λ o. if or_later o (later p.0) then p.1 else pos 0) (h p.0 ∙ ap (λ e. if e then Some b else None) (swap1 y p.0))
+    ∙ elim (xid_eq p.0 y) as (λ e. (if or_later (if e then Some b else None) (later p.0) then p.1 else pos 0) ≡ (if b then (if e then p.1 else pos 0) else pos 0) +ℤ due (if e then None else Some p) later) [
+      | true ↦ elim b as (λ d. (if d then p.1 else pos 0) ≡ (if d then p.1 else pos 0) +ℤ pos 0) [ true ↦ omega (arith, ints) | false ↦ refl ]
+      | false ↦ elim b as (λ d. (if later p.0 then p.1 else pos 0) ≡ (if d then pos 0 else pos 0) +ℤ (if later p.0 then p.1 else pos 0)) [ true ↦ omega (arith, ints) | false ↦ omega (arith, ints) ]
+    ]
+
+or_true : (b : Bool) → (b || true) ≡ true
+or_true true = refl
+or_true false = refl
+
+no_share : (b : Bool) (z : ℤ) → (if b && false then z else pos 0) ≡ pos 0
+no_share true z = refl
+no_share false z = refl
+
+add_zero : (d e m s : ℤ) → e ≡ m +ℤ d → s ≡ pos 0 → m +ℤ d ≡ e +ℤ s
+add_zero d e m s h z = omega (arith, ints)
+
+lost : (k : List ℕ) (p : Held) (op : Op) (l : Option Association) (y : XidName) (T : Tables) (c : Code) → IsPending k p T.sums
+    → ((x : XidName) → ending (fate_of x op c) ≡ (if xid_eq y x then Some false else None)) → ((later : XidName → Bool) → share_of k op c l later ≡ pos 0) → VStep k p op l T (gone y T, c)
+lost k p op l y T c held ends none =
+    record {
+      held = left_by p y;
+      pending = due_left k y p T.sums held;
+      moved = pos 0;
+      values = plus_zero _;
+      owes = λ later. add_zero (due (left_by p y) later) _ (pos 0) _ (due_ended y false p op c later ends) (none later);
+    }
+
+amount_is : (k : List ℕ) (p : Held) (y : XidName) (sums : FinMap touch_cmp ℤ) → IsPending k p sums → sum_of sums y k ≡ amount_of_held p y
+unfolding amount_of_held
+amount_is k None y sums h = ap (λ o. unwrap_or o (pos 0)) (h y)
+amount_is k (Some p) y sums h =
+    elim (xid_eq p.0 y) as (λ b. xid_eq p.0 y ≡ b → sum_of sums y k ≡ (if b then p.1 else pos 0)) [
+      | true ↦ λ t. ap (λ z. sum_of sums z k) (sym ((Decides-xid_eq p.0 y).0 t)) ∙ ap (λ o. unwrap_or o (pos 0)) h.0
+      | false ↦ λ t. ap (λ o. unwrap_or o (pos 0)) (h.1 y (λ e. let z = (Decides-xid_eq p.0 y).1 (sym e) in cc))
+    ] refl
+
+paid : (k : List ℕ) (p : Held) (op : Op) (l : Option Association) (y : XidName) (T : Tables) (c : Code) → IsPending k p T.sums
+    → ((x : XidName) → ending (fate_of x op c) ≡ (if xid_eq y x then Some true else None)) → ((later : XidName → Bool) → share_of k op c l later ≡ pos 0) → VStep k p op l T (gone y (committed y T), c)
+paid k p op l y T c held ends none =
+    record {
+      held = left_by p y;
+      pending = due_left k y p T.sums held;
+      moved = amount_of_held p y;
+      values = get-map_values key_cmp_total key_cmp-IsAntisymmetric (λ q v. v +ℤ sum_of T.sums y q) T.values k ∙ ap (λ m. option_map (λ v. v +ℤ m) (map.get T.values k)) (amount_is k p y T.sums held);
+      owes = λ later. add_zero (due (left_by p y) later) _ (amount_of_held p y) _ (due_ended y true p op c later ends) (none later);
+    }
+
+get_added : (sums : FinMap touch_cmp ℤ) (y x : XidName) (own k : List ℕ) (s : ℤ) → (x ≡ y → k ≡ own → ⊥) → map.get (map.insert sums (y, own) s) (x, k) ≡ map.get sums (x, k)
+get_added sums y x own k s apart =
+    get-insert touch_cmp_total sums (y, own) s (x, k)
+    ∙ ap (λ b. cond b (Some s) (map.get sums (x, k))) (apart_from _ (λ t. let e = touch_from (x, k) (y, own) t in apart (ap (λ (r : Touch). r.0) e) (ap (λ (r : Touch). r.1) e)))
+
+pending_other : (k : List ℕ) (p : Held) (y : XidName) (own : List ℕ) (s : ℤ) (sums : FinMap touch_cmp ℤ) → (k ≡ own → ⊥) → IsPending k p sums → IsPending k p (map.insert sums (y, own) s)
+pending_other k None y own s sums apart h = λ x. get_added sums y x own k s (λ _ e. apart e) ∙ h x
+pending_other k (Some p) y own s sums apart h = (get_added sums y p.0 own k s (λ _ e. apart e) ∙ h.0, λ x z. get_added sums y x own k s (λ _ e. apart e) ∙ h.1 x z)
+
+no_other : (sums : FinMap touch_cmp ℤ) (y x : XidName) (k : List ℕ) (s : ℤ) → has_other_touched sums y k ≡ false → map.get sums (x, k) ≡ Some s → x ≡ y
+no_other sums y x k s none found =
+    let t : (key_eq k k && not (xid_eq x y)) ≡ false = none_passes touch_cmp_total touch_cmp-IsAntisymmetric (λ (q : Touch) v. key_eq q.1 k && not (xid_eq q.0 y)) sums (x, k) s none found in
+    let self : key_eq k k ≡ true = (Decides-key_eq k k).1 refl in
+    (Decides-xid_eq x y).0 (not_not1 (xid_eq x y) (sym (ap (λ b. b && not (xid_eq x y)) self) ∙ t))
+
+pending_own : (k : List ℕ) (y : XidName) (s : ℤ) (sums : FinMap touch_cmp ℤ) → has_other_touched sums y k ≡ false → IsPending k (Some (y, s)) (map.insert sums (y, k) s)
+pending_own k y s sums none = (
+  get-insert touch_cmp_total sums (y, k) s (y, k) ∙ ap (λ b. cond b (Some s) (map.get sums (y, k))) (touch_self (y, k)),
+  λ x apart. get_added sums y x k k s (λ e _. apart e)
+      ∙ elim (map.get sums (x, k)) as (λ o. map.get sums (x, k) ≡ o → o ≡ None) [ None ↦ λ e. refl | Some v ↦ λ e. absurd (apart (no_other sums y x k v none e)) ] refl,
+)
+
+due_own : (k : List ℕ) (p : Held) (y : XidName) (sums : FinMap touch_cmp ℤ) (later : XidName → Bool) → IsPending k p sums → has_other_touched sums y k ≡ false → due p later ≡ (if later y then sum_of sums y k else pos 0)
+due_own k None y sums later h none = elim (later y) as (λ b. pos 0 ≡ (if b then sum_of sums y k else pos 0)) [ true ↦ sym (ap (λ o. unwrap_or o (pos 0)) (h y)) | false ↦ refl ]
+due_own k (Some p) y sums later h none =
+    let e : p.0 ≡ y = no_other sums y p.0 k p.1 none h.0 in
+    let amount : sum_of sums y k ≡ p.1 = ap (λ z. sum_of sums z k) (sym e) ∙ ap (λ o. unwrap_or o (pos 0)) h.0 in
+    ap (λ z. if later z then p.1 else pos 0) e ∙ ap (λ w. if later y then w else pos 0) (sym amount)
+
+split_due : (b : Bool) (u d : ℤ) → pos 0 +ℤ (if b then u +ℤ d else pos 0) ≡ (if b then u else pos 0) +ℤ (if b then d else pos 0)
+split_due true u d = omega (arith, ints)
+split_due false u d = refl
+
+gained : (k own : List ℕ) (d : ℤ) (p : Held) (l : Association) (T : Tables) → IsPending k p T.sums → has_other_touched T.sums l.xid own ≡ false
+    → VStep k p (Add own d) (Some l) T (record T { sums = map.insert T.sums (l.xid, own) (sum_of T.sums l.xid own +ℤ d) }, Done)
+gained k own d p l T held none =
+    elim (key_eq own k) as (λ b. key_eq own k ≡ b → VStep k p (Add own d) (Some l) T (record T { sums = map.insert T.sums (l.xid, own) (sum_of T.sums l.xid own +ℤ d) }, Done)) [
+      | false ↦ λ t. record {
+        held = p;
+        pending = pending_other k p l.xid own _ T.sums (λ e. let z = (Decides-key_eq own k).1 (sym e) in cc) held;
+        moved = pos 0;
+        values = plus_zero _;
+        owes = λ later. zero_plus _ _ _ refl (ap (λ b. if b && true then (if later l.xid then d else pos 0) else pos 0) t);
+      }
+      | true ↦ λ t.
+          let same1 : own ≡ k = (Decides-key_eq own k).0 t in
+          let none1 : has_other_touched T.sums l.xid k ≡ false = ap (λ w. has_other_touched T.sums l.xid w) (sym same1) ∙ none in
+          record {
+            held = Some (l.xid, sum_of T.sums l.xid k +ℤ d);
+            pending = subst (λ (w : List ℕ). IsPending k (Some (l.xid, sum_of T.sums l.xid k +ℤ d)) (map.insert T.sums (l.xid, w) (sum_of T.sums l.xid w +ℤ d))) (sym same1) (pending_own k l.xid (sum_of T.sums l.xid k +ℤ d) T.sums none1);
+            moved = pos 0;
+            values = plus_zero _;
+            owes = λ later. split_due (later l.xid) (sum_of T.sums l.xid k) d
+                ∙ (λ i. (sym (due_own k p l.xid T.sums later held none1) i) +ℤ (if sym t i && true then (if later l.xid then d else pos 0) else pos 0));
+          }
+    ] refl
+
+commit_two_v : (k : List ℕ) (p : Held) (l : Option Association) (y : XidName) (T : Tables) → IsPending k p T.sums → VStep k p (Commit y false) l T (commit_two y T)
+commit_two_v k p l y T h =
+    let P : Answer → Type 0 = VStep k p (Commit y false) l T in
+    by_if P (not (exists T y)) _ _ (λ _. still k p (Commit y false) l T (T, Nota) h refl refl (λ x. quiet_named x y None refl) (λ _. refl)) (λ _.
+    by_if P (is_somebody_associated T.associations y || not (is_prepared (state_of T y))) _ _ (λ _. still k p (Commit y false) l T (T, Proto) h refl refl (λ x. quiet_named x y None refl) (λ _. refl)) (λ _.
+    paid k p (Commit y false) l y T Done h (λ x. ended_named x y Committed true refl) (λ _. refl)))
+
+commit_one_v : (k : List ℕ) (p : Held) (l : Option Association) (y : XidName) (T : Tables) → IsPending k p T.sums → VStep k p (Commit y true) l T (commit_one y T)
+commit_one_v k p l y T h =
+    let P : Answer → Type 0 = VStep k p (Commit y true) l T in
+    by_if P (not (exists T y)) _ _ (λ _. still k p (Commit y true) l T (T, Nota) h refl refl (λ x. quiet_named x y None refl) (λ _. refl)) (λ _.
+    by_if P (is_somebody_associated T.associations y || not (is_idle (state_of T y))) _ _ (λ _. still k p (Commit y true) l T (T, Proto) h refl refl (λ x. quiet_named x y None refl) (λ _. refl)) (λ _.
+    by_if P (is_broken T.values T.sums y) _ _ (λ _. lost k p (Commit y true) l y T RbIntegrity h (λ x. ended_named x y RolledBack false refl) (λ _. refl)) (λ _.
+    paid k p (Commit y true) l y T Done h (λ x. ended_named x y Committed true refl) (λ _. refl))))
+
+prepare_v : (k : List ℕ) (p : Held) (l : Option Association) (y : XidName) (T : Tables) → IsPending k p T.sums → VStep k p (Prepare y) l T (prepare y T)
+prepare_v k p l y T h =
+    let P : Answer → Type 0 = VStep k p (Prepare y) l T in
+    by_if P (not (exists T y)) _ _ (λ _. still k p (Prepare y) l T (T, Nota) h refl refl (λ x. quiet_named x y None refl) (λ _. refl)) (λ _.
+    by_if P (is_somebody_associated T.associations y || (is_prepared (state_of T y) || is_some (reason_of (state_of T y)))) _ _ (λ _. still k p (Prepare y) l T (T, Proto) h refl refl (λ x. quiet_named x y None refl) (λ _. refl)) (λ _.
+    by_if P (not (has_touched T.sums y)) _ _ (λ _. lost k p (Prepare y) l y T RdOnly h (λ x. ended_named x y ReadOnly false refl) (λ _. refl)) (λ _.
+    by_if P (is_broken T.values T.sums y) _ _ (λ _. lost k p (Prepare y) l y T RbIntegrity h (λ x. ended_named x y RolledBack false refl) (λ _. refl)) (λ _.
+    still k p (Prepare y) l T (stated y S3 T, Done) h refl refl (λ x. quiet_named x y (Some InDoubt) refl) (λ _. refl)))))
+
+rollback_v : (k : List ℕ) (p : Held) (l : Option Association) (y : XidName) (T : Tables) → IsPending k p T.sums → VStep k p (Rollback y) l T (rollback y T)
+rollback_v k p l y T h =
+    let P : Answer → Type 0 = VStep k p (Rollback y) l T in
+    by_if P (not (exists T y)) _ _ (λ _. still k p (Rollback y) l T (T, Nota) h refl refl (λ x. quiet_named x y None refl) (λ _. refl)) (λ _.
+    by_if P (is_somebody_associated T.associations y) _ _ (λ _. still k p (Rollback y) l T (T, Proto) h refl refl (λ x. quiet_named x y None refl) (λ _. refl)) (λ _.
+    elim (reason_of (state_of T y)) as (λ o. reason_of (state_of T y) ≡ o → P (rollback_unless o y T)) [
+      | None ↦ λ e. lost k p (Rollback y) l y T Done h (λ x. ended_named x y RolledBack false refl) (λ _. refl)
+      | Some r ↦ λ e. lost k p (Rollback y) l y T r h (λ x. ap (λ b. ending (if_named x y (if is_done r || b then Some RolledBack else None))) (reason_rolls_back (state_of T y) r e) ∙ ap (λ b. ending (if_named x y (if b then Some RolledBack else None))) (or_true (is_done r)) ∙ ended_named x y RolledBack false refl) (λ _. refl)
+    ] refl))
+
+not_done : (r : Code) → is_rolled_back r ≡ true → is_done r ≡ false
+not_done Done e = cc
+not_done r e = refl
+
+add_v : (t : ℕ) (k own : List ℕ) (d : ℤ) (p : Held) (T : Tables) → IsPending k p T.sums → VStep k p (Add own d) (association_of T t) T (add t own d T)
+add_v t k own d p T h =
+    elim (association_of T t) as (λ o. VStep k p (Add own d) o T (add_by o own d T)) [
+      | None ↦ still k p (Add own d) None T (T, Proto) h refl refl (λ x. refl) (λ _. no_share (key_eq own k) _)
+      | Some l ↦
+          let P : Answer → Type 0 = VStep k p (Add own d) (Some l) T in
+          by_if P (l.suspended) _ _ (λ _. still k p (Add own d) (Some l) T (T, Proto) h refl refl (λ x. refl) (λ later. no_share (key_eq own k) _)) (λ _.
+          by_if P (not (is_declared T own)) _ _ (λ _. still k p (Add own d) (Some l) T (T, Inval) h refl refl (λ x. refl) (λ later. no_share (key_eq own k) _)) (λ _.
+          elim (reason_of (state_of T l.xid)) as (λ o. reason_of (state_of T l.xid) ≡ o → P (add_unless o l.xid own d T)) [
+            | None ↦ λ e. by_if P (has_other_touched T.sums l.xid own) _ _
+                (λ _. still k p (Add own d) (Some l) T (stated l.xid (RollbackOnly Transient) T, RbTransient) h refl refl (λ x. refl) (λ later. no_share (key_eq own k) _))
+                (λ none. gained k own d p l T h none)
+            | Some r ↦ λ e. still k p (Add own d) (Some l) T (T, r) h refl refl (λ x. refl) (λ later. ap (λ b. if key_eq own k && b then (if later l.xid then d else pos 0) else pos 0) (not_done r (reason_rolls_back (state_of T l.xid) r e)) ∙ no_share (key_eq own k) _)
+          ] refl))
+    ]
+
+start_v : (t : ℕ) (k : List ℕ) (p : Held) (l : Option Association) (how : StartHow) (y : XidName) (T : Tables) → IsPending k p T.sums → VStep k p (Start y how) l T (start how t y T)
+start_v t k p l Fresh y T h =
+    let P : Answer → Type 0 = VStep k p (Start y Fresh) l T in
+    by_if P (is_some (association_of T t)) _ _ (λ _. still k p (Start y Fresh) l T (T, Proto) h refl refl (λ x. quiet_named x y None refl) (λ _. refl)) (λ _.
+    by_if P (exists T y) _ _ (λ _. still k p (Start y Fresh) l T (T, DupId) h refl refl (λ x. quiet_named x y None refl) (λ _. refl)) (λ _. still k p (Start y Fresh) l T (associated t y false (stated y Active T), Done) h refl refl (λ x. quiet_named x y (Some Live) refl) (λ _. refl)))
+start_v t k p l Join y T h =
+    let P : Answer → Type 0 = VStep k p (Start y Join) l T in
+    by_if P (is_some (association_of T t)) _ _ (λ _. still k p (Start y Join) l T (T, Proto) h refl refl (λ x. quiet_named x y None refl) (λ _. refl)) (λ _.
+    by_if P (not (exists T y)) _ _ (λ _. still k p (Start y Join) l T (T, Nota) h refl refl (λ x. quiet_named x y None refl) (λ _. refl)) (λ _.
+    by_if P (is_prepared (state_of T y)) _ _ (λ _. still k p (Start y Join) l T (T, Proto) h refl refl (λ x. quiet_named x y None refl) (λ _. refl)) (λ _.
+    elim (reason_of (state_of T y)) as (λ o. P (join_unless o t y T)) [ None ↦ still k p (Start y Join) l T (associated t y false (stated y Active T), Done) h refl refl (λ x. quiet_named x y None refl) (λ _. refl) | Some r ↦ still k p (Start y Join) l T (T, r) h refl refl (λ x. quiet_named x y None refl) (λ _. refl) ])))
+start_v t k p l Resume y T h =
+    let P : Answer → Type 0 = VStep k p (Start y Resume) l T in
+    by_if P (is_associated_with y (association_of T t) && is_suspended (association_of T t)) _ _ (λ _. still k p (Start y Resume) l T (associated t y false T, Done) h refl refl (λ x. quiet_named x y None refl) (λ _. refl)) (λ _.
+    by_if P (not (exists T y)) _ _ (λ _. still k p (Start y Resume) l T (T, Nota) h refl refl (λ x. quiet_named x y None refl) (λ _. refl)) (λ _. still k p (Start y Resume) l T (T, Proto) h refl refl (λ x. quiet_named x y None refl) (λ _. refl)))
+
+end_v : (t : ℕ) (k : List ℕ) (p : Held) (l : Option Association) (how : EndHow) (y : XidName) (T : Tables) → IsPending k p T.sums → VStep k p (End y how) l T (end how t y T)
+end_v t k p l how y T h =
+    let P : Answer → Type 0 = VStep k p (End y how) l T in
+    by_if P (not (is_associated_with y (association_of T t)) && not (exists T y)) _ _ (λ _. still k p (End y how) l T (T, Nota) h refl refl (λ x. refl) (λ _. refl)) (λ _.
+    by_if P (not (is_associated_with y (association_of T t))) _ _ (λ _. still k p (End y how) l T (T, Proto) h refl refl (λ x. refl) (λ _. refl)) (λ _.
+    by_if P (is_suspend how && is_suspended (association_of T t)) _ _ (λ _. still k p (End y how) l T (T, Proto) h refl refl (λ x. refl) (λ _. refl)) (λ _.
+    elim (reason_of (state_of T y)) as (λ o. P (end_unless o how t y T)) [
+      | Some r ↦ still k p (End y how) l T (dissociated t T, r) h refl refl (λ x. refl) (λ _. refl)
+      | None ↦ elim how as (λ w. VStep k p (End y w) l T (ended w t y T)) [
+        | Suspend ↦ still k p (End y Suspend) l T (associated t y true T, Done) h refl refl (λ x. refl) (λ _. refl)
+        | Fail ↦ still k p (End y Fail) l T (stated y (RollbackOnly Failed) (dissociated t T), RbRollback) h refl refl (λ x. refl) (λ _. refl)
+        | Success ↦ by_if (VStep k p (End y Success) l T) (is_somebody_associated (dissociated t T).associations y) _ _ (λ _. still k p (End y Success) l T (dissociated t T, Done) h refl refl (λ x. refl) (λ _. refl)) (λ _. still k p (End y Success) l T (stated y Idle (dissociated t T), Done) h refl refl (λ x. refl) (λ _. refl))
+      ]
+    ])))
+
+opened_v : (t : ℕ) (k : List ℕ) (p : Held) (op : Op) (T : Tables) → IsPending k p T.sums → VStep k p op (association_of T t) T (next_opened t op T)
+opened_v t k p (Start y how) T h = start_v t k p _ how y T h
+opened_v t k p (Add own d) T h = add_v t k own d p T h
+opened_v t k p (End y how) T h = end_v t k p _ how y T h
+opened_v t k p (Prepare y) T h = prepare_v k p _ y T h
+opened_v t k p (Commit y true) T h = commit_one_v k p _ y T h
+opened_v t k p (Commit y false) T h = commit_two_v k p _ y T h
+opened_v t k p (Rollback y) T h = rollback_v k p _ y T h
+opened_v t k p OpenRm T h = still k p OpenRm _ T (T, Proto) h refl refl (λ x. refl) (λ _. refl)
+opened_v t k p CloseRm T h = still k p CloseRm _ T (T, Proto) h refl refl (λ x. refl) (λ _. refl)
+opened_v t k p Shut T h = still k p Shut _ T (T, Proto) h refl refl (λ x. refl) (λ _. refl)
+
+refused_share : (k : List ℕ) (op : Op) (c : Code) (l : Option Association) (later : XidName → Bool) → is_done c ≡ false → share_of k op c l later ≡ pos 0
+refused_share k (Add own d) c l later e = ap (λ b. if key_eq own k && b then added_by l d later else pos 0) e ∙ no_share (key_eq own k) _
+refused_share k (Start y how) c l later e = refl
+refused_share k (End y how) c l later e = refl
+refused_share k (Prepare y) c l later e = refl
+refused_share k (Commit y b) c l later e = refl
+refused_share k (Rollback y) c l later e = refl
+refused_share k OpenRm c l later e = refl
+refused_share k CloseRm c l later e = refl
+refused_share k Shut c l later e = refl
+
+-- XAER_PROTO and XAER_RMFAIL
+abbrev IsRefusal : Code → Type 0
+IsRefusal c = (is_done c ≡ false) × ((x : XidName) (op : Op) → ending (fate_of x op c) ≡ None)
+
+refused_v : (k : List ℕ) (p : Held) (op : Op) (l : Option Association) (T : Tables) (c : Code) → IsRefusal c → IsPending k p T.sums → VStep k p op l T (T, c)
+refused_v k p op l T c e h = still k p op l T (T, c) h refl refl (λ x. e.1 x op) (λ later. refused_share k op c l later e.0)
+
+proto_ends : (x : XidName) (op : Op) → ending (fate_of x op Proto) ≡ None
+proto_ends x (Start y Fresh) = quiet_named x y None refl
+proto_ends x (Start y Join) = quiet_named x y None refl
+proto_ends x (Start y Resume) = quiet_named x y None refl
+proto_ends x (Prepare y) = quiet_named x y None refl
+proto_ends x (Commit y b) = quiet_named x y None refl
+proto_ends x (Rollback y) = quiet_named x y None refl
+proto_ends x (Add k d) = refl
+proto_ends x (End y how) = refl
+proto_ends x OpenRm = refl
+proto_ends x CloseRm = refl
+proto_ends x Shut = refl
+
+late_ends : (x : XidName) (op : Op) → ending (fate_of x op RmFail) ≡ None
+late_ends x (Start y Fresh) = quiet_named x y None refl
+late_ends x (Start y Join) = quiet_named x y None refl
+late_ends x (Start y Resume) = quiet_named x y None refl
+late_ends x (Prepare y) = quiet_named x y None refl
+late_ends x (Commit y b) = quiet_named x y None refl
+late_ends x (Rollback y) = quiet_named x y None refl
+late_ends x (Add k d) = refl
+late_ends x (End y how) = refl
+late_ends x OpenRm = refl
+late_ends x CloseRm = refl
+late_ends x Shut = refl
+
+if_opened_v : (t : ℕ) (k : List ℕ) (p : Held) (op : Op) (T : Tables) → IsPending k p T.sums → VStep k p op (association_of T t) T (if_opened t op T)
+if_opened_v t k p op T h = by_if (VStep k p op (association_of T t) T) (not (has_opened T t)) _ _ (λ _. refused_v k p op _ T Proto (refl, proto_ends) h) (λ _. opened_v t k p op T h)
+
+open_v : (t : ℕ) (k : List ℕ) (p : Held) (op : Op) (T : Tables) → IsPending k p T.sums → VStep k p op (association_of T t) T (next_open t op T)
+open_v t k p (Start y how) T h = if_opened_v t k p (Start y how) T h
+open_v t k p (Add own d) T h = if_opened_v t k p (Add own d) T h
+open_v t k p (End y how) T h = if_opened_v t k p (End y how) T h
+open_v t k p (Prepare y) T h = if_opened_v t k p (Prepare y) T h
+open_v t k p (Commit y b) T h = if_opened_v t k p (Commit y b) T h
+open_v t k p (Rollback y) T h = if_opened_v t k p (Rollback y) T h
+open_v t k p OpenRm T h = still k p OpenRm _ T (open_rm t T) h refl refl (λ x. refl) (λ _. refl)
+open_v t k p CloseRm T h =
+    by_if (VStep k p CloseRm (association_of T t) T) (not (has_opened T t)) _ _ (λ _. still k p CloseRm _ T (T, Done) h refl refl (λ x. refl) (λ _. refl)) (λ _.
+    by_if (VStep k p CloseRm (association_of T t) T) (is_some (association_of T t)) _ _ (λ _. still k p CloseRm _ T (T, Proto) h refl refl (λ x. refl) (λ _. refl)) (λ _. still k p CloseRm _ T (record T { opened = finset.remove T.opened t }, Done) h refl refl (λ x. refl) (λ _. refl)))
+open_v t k p Shut T h = still k p Shut _ T (next_open t Shut T) h refl refl (λ x. refl) (λ _. refl)
+
+next_v : (t : ℕ) (k : List ℕ) (p : Held) (op : Op) (T : Tables) → IsPending k p T.sums → VStep k p op (association_of T t) T (next t op T)
+unfolding next
+next_v t k p op T h = by_if (VStep k p op (association_of T t) T) (T.shut) _ _ (λ _. refused_v k p op _ T RmFail (refl, late_ends) h) (λ _. open_v t k p op T h)
+
+zero_left : (z : ℤ) → pos 0 +ℤ z ≡ z
+zero_left z = omega (arith, ints)
+
+joined : (o : Option ℤ) (m e rest d s : ℤ) → m +ℤ e ≡ d +ℤ s → option_map (λ v. v +ℤ (e +ℤ rest)) (option_map (λ v. v +ℤ m) o) ≡ option_map (λ v. v +ℤ (d +ℤ (s +ℤ rest))) o
+joined None m e rest d s h = refl
+joined (Some v) m e rest d s h = ap (λ w. Some w) (omega (arith, ints))
+
+none_due : (p : Held) → due p (λ x. false) ≡ pos 0
+none_due None = refl
+none_due (Some p) = refl
+
+-- the values behind H, with what is due to the branch that has touched the key
+run_v : (H : History) (k : List ℕ) (p : Held) (T : Tables) → Sound T → IsPending k p T.sums
+    → map.get (tables_after H T).values k ≡ option_map (λ v. v +ℤ (due p (λ x. commits x (coded H T)) +ℤ added_in k H T)) (map.get T.values k)
+run_v [] k p T s h = plus_zero _ ∙ ap (λ d. option_map (λ v. v +ℤ (d +ℤ pos 0)) (map.get T.values k)) (sym (none_due p))
+run_v (r ∷ H) k p T s h =
+    let T1 : Tables = (next r.thread r.op T).0 in
+    let a : VStep k p r.op (association_of T r.thread) T (next r.thread r.op T) = next_v r.thread k p r.op T h in
+    let sound = sound_after r.thread r.op T s in
+    run_v H k a.held T1 sound a.pending
+    ∙ ap (option_map (λ v. v +ℤ (due a.held (λ x. commits x (coded H T1)) +ℤ added_in k H T1))) a.values
+    ∙ joined (map.get T.values k) a.moved (due a.held (λ x. commits x (coded H T1))) (added_in k H T1) (due p (λ x. commits x (coded (r ∷ H) T))) (share k r H T) (a.owes (λ x. commits x (coded H T1)))
+
+pub value_law : (H : History) (k : List ℕ) (T : Tables) → IsOpening T → ValueIsSum k H T
+value_law H k T o =
+    after_accepted (λ (U : Tables). map.get U.values k) (λ _. refl) H T
+    ∙ run_v (accepted H) k None T (opening_sound T o) (λ x. ap (λ m. map.get m (x, k)) o.sums ∙ get-empty touch_cmp (x, k))
+    ∙ ap (λ d. option_map d (map.get T.values k)) (λ i v. v +ℤ zero_left (added_in k (accepted H) T) i)

@@ -1,0 +1,55 @@
+use Rattle.std.proofs.Common.{◌≡◌, ◌++◌, ◌∷◌, [], sym, ap, ◌∙◌, subst, arith, length, map, None, w64}
+use Rattle.std.proofs.lemmas.Int.{to_z-of_z, ints}
+use Rattle.std.specs.Prelude.{All}
+use Rattle.std.specs.FinMap as finmap
+use Rattle.std.specs.FinMap.{get-empty, from_entries}
+use Rattle.std.proofs.lemmas.List.{take_all}
+use Rattle.xa_words.specs.Orders.{key_cmp}
+use Rattle.xa_tables.specs.declared.accounts.Account.{Account}
+use Rattle.xa_tables.specs.Tables.{touch_cmp}
+use Rattle.xa_tables.specs.Accounts.{account_of, hold_entries, value_entries, AreDistinct, AreIndexed, IsGood}
+use Rattle.xa_tables.proofs.PlaceLemmas.{indexed_push, values_declared, holds_declared, distinct_declared, good_declared, limit_declared, declared_more, length_declared}
+use Rattle.xa_tables.proofs.accounts.Accounts.new.Goals as goal
+
+pub loop-place-init : goal.loop-place-init
+loop-place-init c =
+    let none = c.in_ok-accounts.ensures.items in
+    let empty = c.in_ok-places.ensures.empty in
+    (none, omega (arith, c.in_ok-places.ensures.room), subst (AreIndexed c.in_ok-places.places.places) (sym none) (λ k. ap (λ m. finmap.get m k) empty ∙ get-empty key_cmp k))
+
+pub signed-requires : goal.signed-requires
+signed-requires c =
+    limit_declared c.args.declared.now c.loop-place.place c.index-declared-place.result c.requires c.loop-place-test.true (ap (λ d. d.1) c.index-declared-place.is)
+
+pub loop-place-preserved : goal.loop-place-preserved
+loop-place-preserved c =
+    let ds = c.args.declared.now in
+    let i = c.loop-place.place in
+    let d = c.index-declared-place.result in
+    let old = c.loop-place.accounts.items in
+    let a : Account = account_of d in
+    let pushed : c.push.new.self.items ≡ old ++ a ∷ [] = c.in_ok-push.ensures.items ∙ ap (λ v. old ++ record { key = d.0; value = v; hold = None } ∷ []) (to_z-of_z w64 c.signed.result (omega (arith, ints)) ∙ c.signed.ensures) in
+    let place : length old ≡ i = ap length c.loop-place.invariant.0 ∙ length_declared ds i c.loop-place-test.true in (
+      pushed ∙ ap (λ as1. as1 ++ a ∷ []) c.loop-place.invariant.0 ∙ sym (declared_more ds i d c.loop-place-test.true c.index-declared-place.is),
+      omega (arith, c.loop-place.invariant.1, c.put.ensures.room),
+      subst (AreIndexed c.put.new.self.places) (sym pushed)
+          (subst (λ m. AreIndexed m (old ++ a ∷ [])) (ap (finmap.insert c.loop-place.places.places d.0) place ∙ sym c.put.ensures.places) (indexed_push c.loop-place.places.places old a c.loop-place.invariant.2)),
+    )
+
+pub invariant_of-result : goal.invariant_of-result
+invariant_of-result c =
+    let ds = c.args.declared.now in
+    let all : c.loop-place.accounts.items ≡ map account_of ds = c.loop-place.invariant.0 ∙ ap (map account_of) (take_all c.loop-place.place ds (omega (arith, c.loop-place-test.false))) in
+    (subst AreDistinct (sym all) (distinct_declared ds c.requires), subst (All (IsGood 0)) (sym all) (good_declared ds c.requires), c.loop-place.invariant.2)
+
+pub returns-clause-sums : goal.returns-clause-sums
+returns-clause-sums c =
+    let ds = c.args.declared.now in
+    let all : c.loop-place.accounts.items ≡ map account_of ds = c.loop-place.invariant.0 ∙ ap (map account_of) (take_all c.loop-place.place ds (omega (arith, c.loop-place-test.false))) in
+    ap (λ es. from_entries {R = touch_cmp} es) (ap hold_entries all ∙ holds_declared ds)
+
+pub returns-clause-values : goal.returns-clause-values
+returns-clause-values c =
+    let ds = c.args.declared.now in
+    let all : c.loop-place.accounts.items ≡ map account_of ds = c.loop-place.invariant.0 ∙ ap (map account_of) (take_all c.loop-place.place ds (omega (arith, c.loop-place-test.false))) in
+    ap (λ as1. from_entries {R = key_cmp} (value_entries as1)) all ∙ values_declared ds

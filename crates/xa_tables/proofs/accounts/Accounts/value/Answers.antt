@@ -1,0 +1,35 @@
+use Rattle.std.proofs.Common.{sym, ap, ◌∙◌, subst, arith}
+use Rattle.std.specs.Prelude.{pos, ◌≤ℤ◌, Some, option_map}
+use Rattle.std.specs.FinMap as finmap
+use Rattle.std.specs.FinMap.{get-from_entries}
+use Rattle.xa_words.specs.Orders.{key_cmp_total}
+use Rattle.xa_tables.specs.Accounts.{value_entries}
+use Rattle.xa_tables.proofs.PlaceLemmas.{place_within, value_at, value_none}
+use Rattle.xa_tables.proofs.accounts.Accounts.value.Goals as goal
+
+pub index-requires : goal.index-requires
+index-requires c =
+    let items = c.self.inside.accounts.items in
+    let there = sym (c.self.invariant.2 c.args.key.now) ∙ sym c.get.ensures ∙ c.in_ok-place.was in
+    omega (arith, place_within c.args.key.now items c.in_ok-place.place there, c.self.inside.accounts.ok.0)
+
+pub committed-requires : goal.committed-requires
+committed-requires c =
+    let items = c.self.inside.accounts.items in
+    let there = sym (c.self.invariant.2 c.args.key.now) ∙ sym c.get.ensures ∙ c.in_ok-place.was in
+    let good = c.self.invariant.1 c.in_ok-place.place c.index.result.now (place_within c.args.key.now items c.in_ok-place.place there) in
+    subst (λ a. pos 0 ≤ℤ a.value) (sym c.index.ensures) good.0
+
+pub returns : goal.returns
+returns c =
+    let items = c.self.inside.accounts.items in
+    let there = sym (c.self.invariant.2 c.args.key.now) ∙ sym c.get.ensures ∙ c.in_ok-place.was in
+    ap (λ v. Some v) c.committed.ensures ∙ sym (value_at c.args.key.now items c.in_ok-place.place c.index.result.now c.self.invariant.0 there c.index.ensures)
+    ∙ sym (get-from_entries key_cmp_total (value_entries items) c.args.key.now) ∙ ap (λ h. finmap.get h.values c.args.key.now) c.self.view_is
+
+pub returns-in_err-place : goal.returns-in_err-place
+returns-in_err-place c =
+    let items = c.self.inside.accounts.items in
+    let nowhere = sym (c.self.invariant.2 c.args.key.now) ∙ sym c.get.ensures ∙ c.in_err-place.was in
+    ap (option_map (λ x. pos x)) c.from_residual.ensures ∙ sym (value_none c.args.key.now items nowhere)
+    ∙ sym (get-from_entries key_cmp_total (value_entries items) c.args.key.now) ∙ ap (λ h. finmap.get h.values c.args.key.now) c.self.view_is

@@ -1,0 +1,6 @@
+use Rattle.std.proofs.Common.{◌≡◌, ◌++◌, map, take, drop}
+use Rattle.xa_tables.specs.Accounts.{forgotten_by}
+use Rattle.xa_tables.proofs.accounts.forget_all.Given as goal
+
+abbrev pub invariant-loop-i : goal.invariant-loop-i
+invariant-loop-i l = l.accounts ≡ map (forgotten_by l.xid) (take l.i l.initial.accounts) ++ drop l.i l.initial.accounts

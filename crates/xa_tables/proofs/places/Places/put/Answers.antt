@@ -1,0 +1,19 @@
+use Rattle.std.proofs.Common.{ap, ◌∙◌, ◌<◌, arith}
+use Rattle.std.specs.Prelude.{Result, Ok, Err, IsOk, OnOk}
+use Rattle.std.specs.HashMap.{spare}
+use Rattle.std.specs.FinMap as map
+use Rattle.xa_words.specs.Key.{key_eq}
+use Rattle.xa_words.specs.Orders.{key_cmp_total, key_cmp-IsAntisymmetric, key_eq-by_cmp}
+use Rattle.xa_tables.proofs.HashLemmas.{one_put}
+use Rattle.xa_tables.proofs.places.Places.put.Goals as goal
+
+at_ok : {T E : Type 0} (r : Result T E) (P : Type 0) → IsOk r → OnOk r P → P
+at_ok (Ok x) P h p = p
+at_ok (Err e) P h p = cc
+
+pub returns-clause-places : goal.returns-clause-places
+returns-clause-places c =
+    let room : 0 < spare c.self.inside.places = omega (arith, ap (λ b. b.spare) c.self.view_is) in
+    let updates = at_ok c.insert-inserted.result _ (c.insert-inserted.ensures.succeeds room) c.insert-inserted.ensures.updates in
+    one_put key_eq key_cmp_total key_cmp-IsAntisymmetric key_eq-by_cmp c.self.inside.places.entries c.insert-inserted.new.self.entries c.args.key c.args.place updates.0
+    ∙ ap (λ b. map.insert b.places c.args.key c.args.place) c.self.view_is

@@ -1,0 +1,16 @@
+use Rattle.std.proofs.Common.{◌≡◌, ap, sym, refl, ◌∙◌, length, ◌≤◌, true, false, arith}
+use Rattle.std.specs.Prelude.{is_some}
+use Rattle.std.specs.FinSet as set
+use Rattle.xa_tables.specs.declared.threads.Thread.{Thread}
+use Rattle.xa_tables.specs.Views.{open_mark}
+use Rattle.xa_tables.proofs.ThreadLemmas.{contains_thread}
+use Rattle.xa_tables.proofs.threads.Threads.has_opened.Goals as goal
+
+marked : (s : Thread) → s.is_open ≡ is_some (open_mark s)
+marked s = elim (s.is_open) as (λ b. b ≡ is_some (open_mark (record s { is_open = b }))) [ true ↦ refl | false ↦ refl ]
+
+pub returns : goal.returns
+returns c =
+    let last : c.args.thread ≤ length c.self.inside.threads.items = omega (arith, ap (λ s. s.threads) c.self.view_is) in
+    marked c.index.result.now ∙ ap (λ s. is_some (open_mark s)) c.index.ensures ∙ sym (contains_thread open_mark c.self.inside.threads.items c.args.thread c.index.result.now c.requires.first last)
+    ∙ ap (λ s. set.contains s.opened c.args.thread) c.self.view_is

@@ -1,0 +1,22 @@
+use Rattle.std.proofs.Common.{◌≡◌, ap, sym, refl, ◌∙◌}
+use Rattle.std.specs.Prelude.{None, Some, false, Option}
+use Rattle.std.specs.List.{list_any}
+use Rattle.xa_words.specs.Xid.{XidName, xid_eq}
+use Rattle.xa_tables.specs.declared.state.Association.{Association}
+use Rattle.xa_tables.specs.declared.threads.Thread.{Thread}
+use Rattle.xa_tables.specs.Tables.{is_somebody_associated}
+use Rattle.xa_tables.specs.Views.{association_in, is_thread_with, is_association_with}
+use Rattle.xa_tables.proofs.ThreadLemmas.{any_thread}
+use Rattle.xa_tables.proofs.threads.Threads.is_somebody_associated.Goals as goal
+
+same_test : (x : XidName) (o : Option Association) → is_association_with o x ≡ (elim o [ None ↦ false | Some v ↦ xid_eq v.xid x ])
+same_test x None = refl
+same_test x (Some l) = refl
+
+pub returns : goal.returns
+returns c =
+    let x = c.args.xid.now in
+    c.any_with.ensures ∙ ap (list_any (λ s. is_thread_with s x)) c.deref.ensures.value
+    ∙ (λ i. list_any (λ (s : Thread). same_test x s.association i) c.self.inside.threads.items)
+    ∙ sym (any_thread association_in (λ l. xid_eq l.xid x) c.self.inside.threads.items)
+    ∙ ap (λ s. is_somebody_associated s.associations x) c.self.view_is

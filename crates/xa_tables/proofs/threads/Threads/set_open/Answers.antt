@@ -1,0 +1,17 @@
+use Rattle.std.proofs.Common.{ap, refl, ◌∙◌, length, ◌≤◌, arith}
+use Rattle.std.specs.FinSet as set
+use Rattle.xa_tables.specs.Views.{open_mark, association_in}
+use Rattle.xa_tables.proofs.ThreadLemmas.{open_put, thread_same}
+use Rattle.xa_tables.proofs.threads.Threads.set_open.Goals as goal
+
+pub returns-clause-opened : goal.returns-clause-opened
+returns-clause-opened c =
+    let last : c.args.thread ≤ length c.self.inside.threads.items = omega (arith, ap (λ s. s.threads) c.self.view_is) in
+    open_put open_mark c.self.inside.threads.items c.args.thread _ c.requires.first last refl
+    ∙ ap (λ s. set.insert s.opened c.args.thread) c.self.view_is
+
+pub returns-clause-associations : goal.returns-clause-associations
+returns-clause-associations c =
+    let last : c.args.thread ≤ length c.self.inside.threads.items = omega (arith, ap (λ s. s.threads) c.self.view_is) in
+    thread_same association_in c.self.inside.threads.items c.args.thread _ c.index_mut.result.now c.requires.first last (ap association_in c.index_mut.ensures.value)
+    ∙ ap (λ s. s.associations) c.self.view_is

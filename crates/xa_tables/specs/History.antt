@@ -1,0 +1,248 @@
+-- Histories: the requests of one manager, in the order in which its worker took them.
+use Rattle.std.specs.Prelude.{◌≡◌, ℕ, ℤ, pos, ◌+ℤ◌, Bool, true, false, ◌||◌, ◌&&◌, ◌==◌, if◌then◌else◌, Option, None, Some, option_map, List, [], ◌∷◌, ◌++◌, map, filter}
+use Rattle.std.specs.List.{filter_map}
+use Rattle.std.specs.FinSet as finset
+use Rattle.std.specs.FinMap as finmap
+use Rattle.xa_words.specs.Xid.{XidName, xid_eq}
+use Rattle.xa_words.specs.Key.{key_eq}
+use Rattle.xa_words.specs.declared.code.Code.{Code}
+use Rattle.xa_words.specs.declared.code.Code.TheVariants.{Done, RdOnly, RbRollback, RbCommFail, RbDeadlock, RbIntegrity, RbOther, RbProto, RbTimeout, RbTransient, RmFail}
+use Rattle.xa_words.specs.declared.request.Op.{Op}
+use Rattle.xa_words.specs.declared.request.Op.TheVariants.{OpenRm, CloseRm, Start, Add, End, Prepare, Commit, Rollback, Shut}
+use Rattle.xa_words.specs.declared.request.StartHow.{StartHow}
+use Rattle.xa_words.specs.declared.request.StartHow.TheVariants.{Fresh, Join, Resume}
+use Rattle.xa_words.specs.declared.request.Request.{Request}
+use Rattle.xa_tables.specs.declared.state.Association.{Association}
+use Rattle.xa_tables.specs.Tables.{Tables, association_of, state_of}
+use Rattle.xa_tables.specs.Next.{next, is_prepared, shut_down}
+
+-- requests in the order in which they were taken
+abbrev pub History : Type 0
+History = List Request
+
+-- the requests of thread t, in their order
+abbrev pub of_thread : ℕ → History → History
+of_thread t h = filter (λ r. r.thread == t) h
+
+-- the tables behind a history that begins with the tables T
+abbrev pub tables_after : History → Tables → Tables
+tables_after [] T = T
+tables_after (r ∷ h) T = tables_after h (next r.thread r.op T).0
+
+-- each request with its code: what `next` answers behind the requests before it
+abbrev pub coded : History → Tables → List (Request × Code)
+coded [] T = []
+coded (r ∷ h) T = (r, (next r.thread r.op T).1) ∷ coded h (next r.thread r.op T).0
+
+-- the code of each request
+abbrev pub codes : History → Tables → List Code
+codes h T = map (λ e. e.1) (coded h T)
+
+-- ---- the first Shut parts a history
+
+-- the request is a Shut
+abbrev pub is_shut : Op → Bool
+is_shut OpenRm = false
+is_shut CloseRm = false
+is_shut (Start x how) = false
+is_shut (Add k d) = false
+is_shut (End x how) = false
+is_shut (Prepare x) = false
+is_shut (Commit x one_phase) = false
+is_shut (Rollback x) = false
+is_shut Shut = true
+
+-- the requests before the first Shut
+abbrev pub accepted : History → History
+accepted [] = []
+accepted (r ∷ h) = if is_shut r.op then [] else r ∷ accepted h
+
+-- the requests behind it
+abbrev pub late : History → History
+late [] = []
+late (r ∷ h) = if is_shut r.op then h else late h
+
+-- what a worker carried out, by its journal of requests and codes
+abbrev pub carried_out : List (Request × Code) → History
+carried_out journal = accepted (map (λ e. e.0) journal)
+
+-- ---- the fate of a branch
+
+-- what became of a branch: it was never started, it is at work, it awaits the outcome, or how it ended
+pub data Fate : Type 0 where
+  Absent : Fate
+  Live : Fate
+  InDoubt : Fate
+  Committed : Fate
+  ReadOnly : Fate
+  RolledBack : Fate
+
+-- XA_OK
+abbrev pub is_done : Code → Bool
+is_done Done = true
+is_done c = false
+
+-- XA_RDONLY
+abbrev pub is_read_only : Code → Bool
+is_read_only RdOnly = true
+is_read_only c = false
+
+-- XA_RBINTEGRITY
+abbrev pub is_integrity : Code → Bool
+is_integrity RbIntegrity = true
+is_integrity c = false
+
+-- XA_RB*: 100 to 107
+abbrev pub is_rolled_back : Code → Bool
+is_rolled_back RbRollback = true
+is_rolled_back RbCommFail = true
+is_rolled_back RbDeadlock = true
+is_rolled_back RbIntegrity = true
+is_rolled_back RbOther = true
+is_rolled_back RbProto = true
+is_rolled_back RbTimeout = true
+is_rolled_back RbTransient = true
+is_rolled_back c = false
+
+-- the table of fates: what a request with this code makes of its branch, if anything
+abbrev pub start_fate : StartHow → Code → Option Fate
+start_fate Fresh c = if is_done c then Some Live else None
+start_fate Join c = None
+start_fate Resume c = None
+
+-- Prepare: prepared, gone without a change, or refused
+abbrev pub prepare_fate : Code → Option Fate
+prepare_fate c = if is_done c then Some InDoubt else if is_read_only c then Some ReadOnly else if is_integrity c then Some RolledBack else None
+
+-- Commit, in one phase or two: committed or refused
+abbrev pub commit_fate : Code → Option Fate
+commit_fate c = if is_done c then Some Committed else if is_integrity c then Some RolledBack else None
+
+-- Rollback, with XA_OK or the reason of a rollback-only branch
+abbrev pub rollback_fate : Code → Option Fate
+rollback_fate c = if is_done c || is_rolled_back c then Some RolledBack else None
+
+-- where the request names x
+abbrev pub if_named : XidName → XidName → Option Fate → Option Fate
+if_named x y fate = if xid_eq y x then fate else None
+
+-- what a request with this code makes of x, where it stands in the table
+abbrev pub fate_of : XidName → Op → Code → Option Fate
+fate_of x (Start y how) c = if_named x y (start_fate how c)
+fate_of x (Prepare y) c = if_named x y (prepare_fate c)
+fate_of x (Commit y one_phase) c = if_named x y (commit_fate c)
+fate_of x (Rollback y) c = if_named x y (rollback_fate c)
+fate_of x OpenRm c = None
+fate_of x CloseRm c = None
+fate_of x (Add k d) c = None
+fate_of x (End y how) c = None
+fate_of x Shut c = None
+
+-- the last of a list, f for the empty one
+abbrev pub last_or : {A : Type 0} → A → List A → A
+last_or f [] = f
+last_or f (g ∷ gs) = last_or g gs
+
+-- the fate of x in requests with their codes: what the last one that stands in the table makes of it
+abbrev pub fate_in : XidName → List (Request × Code) → Fate
+fate_in x es = last_or Absent (filter_map (λ e. fate_of x e.0.op e.1) es)
+
+-- the fate of x in a history: it is read from the accepted requests
+abbrev pub fate : XidName → History → Tables → Fate
+fate x h T = fate_in x (coded (accepted h) T)
+
+-- the branch awaits the outcome
+abbrev pub is_in_doubt : Fate → Bool
+is_in_doubt Absent = false
+is_in_doubt Live = false
+is_in_doubt InDoubt = true
+is_in_doubt Committed = false
+is_in_doubt ReadOnly = false
+is_in_doubt RolledBack = false
+
+-- ---- the value of a key
+
+-- a request that ends its branch: whether it is the committing one
+abbrev pub ending_by : Fate → Option Bool
+ending_by Absent = None
+ending_by Live = None
+ending_by InDoubt = None
+ending_by Committed = Some true
+ending_by ReadOnly = Some false
+ending_by RolledBack = Some false
+
+-- the same, where the request says nothing of the branch: it doesn't end it
+abbrev pub ending : Option Fate → Option Bool
+ending None = None
+ending (Some f) = ending_by f
+
+-- what this request decides, or else the later ones
+abbrev pub or_later : Option Bool → Bool → Bool
+or_later None later = later
+or_later (Some committing) later = committing
+
+-- the first request that ends x commits it
+abbrev pub commits : XidName → List (Request × Code) → Bool
+commits x [] = false
+commits x (e ∷ es) = or_later (ending (fate_of x e.0.op e.1)) (commits x es)
+
+-- the delta of an Add by a thread with this association, where its branch commits later
+abbrev pub added_by : Option Association → ℤ → (XidName → Bool) → ℤ
+added_by None d later = pos 0
+added_by (Some a) d later = if later a.xid then d else pos 0
+
+-- what a request with this code adds to the key: nothing, unless it is an Add of the key with XA_OK
+abbrev pub share_of : List ℕ → Op → Code → Option Association → (XidName → Bool) → ℤ
+share_of k (Add own d) c a later = if key_eq own k && is_done c then added_by a d later else pos 0
+share_of k (Start y how) c a later = pos 0
+share_of k (Prepare y) c a later = pos 0
+share_of k (Commit y one_phase) c a later = pos 0
+share_of k (Rollback y) c a later = pos 0
+share_of k OpenRm c a later = pos 0
+share_of k CloseRm c a later = pos 0
+share_of k (End y how) c a later = pos 0
+share_of k Shut c a later = pos 0
+
+-- the same for the first request of a history; its branch is that with which its thread is associated at its place
+abbrev pub share : List ℕ → Request → History → Tables → ℤ
+share k r h T = share_of k r.op (next r.thread r.op T).1 (association_of T r.thread) (λ x. commits x (coded h (next r.thread r.op T).0))
+
+-- the sum of the shares
+abbrev pub added_in : List ℕ → History → Tables → ℤ
+added_in k [] T = pos 0
+added_in k (r ∷ h) T = share k r h T +ℤ added_in k h (next r.thread r.op T).0
+
+-- the value of a key after a history: that at the opening, and each accepted Add whose branch commits later
+abbrev pub value_after : List ℕ → History → Tables → Option ℤ
+value_after k h T = option_map (λ v. v +ℤ added_in k (accepted h) T) (finmap.get T.values k)
+
+-- ---- statements of the laws
+
+-- the tables at an opening: no thread, no branch, not shut; any values
+pub record IsOpening (T : Tables) : Type 0 where
+  pub opened : T.opened ≡ finset.empty
+  pub associations : T.associations ≡ finmap.empty
+  pub states : T.states ≡ finmap.empty
+  pub sums : T.sums ≡ finmap.empty
+  pub shut : T.shut ≡ false
+
+-- a branch is in S3 exactly if its fate is InDoubt
+abbrev pub PreparedIsInDoubt : XidName → History → Tables → Type 0
+PreparedIsInDoubt x h T = is_prepared (state_of (tables_after h T) x) ≡ is_in_doubt (fate x h T)
+
+-- the tables' value of a key is the value after the history
+abbrev pub ValueIsSum : List ℕ → History → Tables → Type 0
+ValueIsSum k h T = finmap.get (tables_after h T).values k ≡ value_after k h T
+
+-- the codes from the first Shut on: it is carried out, and every request behind it is refused
+abbrev pub codes_from_shut : History → List Code
+codes_from_shut [] = []
+codes_from_shut (r ∷ h) = if is_shut r.op then Done ∷ map (λ q. RmFail) h else codes_from_shut h
+
+-- the accepted requests have the codes that they have alone, and the late ones are refused
+abbrev pub LateAreRefused : History → Tables → Type 0
+LateAreRefused h T = codes h T ≡ codes (accepted h) T ++ codes_from_shut h
+
+-- but for being shut, the tables are those behind the accepted requests
+abbrev pub LateChangeNothing : History → Tables → Type 0
+LateChangeNothing h T = shut_down (tables_after h T) ≡ shut_down (tables_after (accepted h) T)

@@ -1,0 +1,9 @@
+pub mod Maps
+pub mod Reasons
+pub mod Tables
+pub mod Views
+pub mod Next
+pub mod Accounts
+pub mod Managers
+pub mod History
+pub mod Worked

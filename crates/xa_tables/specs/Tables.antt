@@ -1,0 +1,119 @@
+-- The tables of one manager: the sets and finite maps of a resource manager.
+use Rattle.std.specs.Prelude.{ℕ, ℤ, pos, ◌+ℤ◌, Bool, not, ◌&&◌, Option, is_some, unwrap_or, List}
+use Rattle.std.specs.Ordering.{nat_cmp, ordering_then}
+use Rattle.std.specs.declared.cmp.Ordering.{Ordering}
+use Rattle.std.specs.Int.Signed.{le_z}
+use Rattle.std.specs.FinSet as set
+use Rattle.std.specs.FinMap as map
+use Rattle.std.specs.FinSet.{FinSet}
+use Rattle.std.specs.FinMap.{FinMap}
+use Rattle.std.specs.Coded.{Coded, coded×, coded_ℕ, coded_ℤ, coded_list}
+use Rattle.xa_words.specs.Xid.{XidName, xid_cmp, xid_eq, xid_code}
+use Rattle.xa_words.specs.Key.{key_eq}
+use Rattle.xa_words.specs.Orders.{key_cmp}
+use Rattle.xa_tables.specs.declared.state.State.{State}
+use Rattle.xa_tables.specs.declared.state.Association.{Association}
+use Rattle.xa_tables.specs.contracts.state.State as state_type
+use Rattle.xa_tables.specs.contracts.state.Association as association_type
+use Rattle.xa_tables.specs.Maps.{any_entry, map_values}
+
+-- a branch and a key
+abbrev pub Touch : Type 0
+Touch = XidName × List ℕ
+
+-- by the branch, then by the key
+abbrev pub touch_cmp : Touch → Touch → Ordering
+touch_cmp p q = ordering_then (xid_cmp p.0 q.0) (key_cmp p.1 q.1)
+
+-- what the rules of one manager speak of
+pub record Tables : Type 0 where
+  -- the threads that have it open
+  pub opened : FinSet nat_cmp
+  -- for each thread at most one association: the xid, and whether it is suspended
+  pub associations : FinMap nat_cmp Association
+  -- for each xid that exists a state
+  pub states : FinMap xid_cmp State
+  -- for each (xid, key) that was added to, the sum of the deltas
+  pub sums : FinMap touch_cmp ℤ
+  -- for each declared key its committed value
+  pub values : FinMap key_cmp ℤ
+  -- nothing is carried out any more
+  pub shut : Bool
+
+-- a set of threads as data
+abbrev pub set_code : Coded (FinSet nat_cmp)
+set_code = set.code coded_ℕ
+
+-- associations as data
+abbrev pub associations_code : Coded (FinMap nat_cmp Association)
+associations_code = map.code coded_ℕ association_type.the_row.coded
+
+-- states as data
+abbrev pub states_code : Coded (FinMap xid_cmp State)
+states_code = map.code xid_code state_type.the_row.coded
+
+-- sums as data
+abbrev pub sums_code : Coded (FinMap touch_cmp ℤ)
+sums_code = map.code (coded× xid_code (coded_list coded_ℕ)) coded_ℤ
+
+-- values as data
+abbrev pub values_code : Coded (FinMap key_cmp ℤ)
+values_code = map.code (coded_list coded_ℕ) coded_ℤ
+
+-- ---- the words of the rules
+
+-- t has it open
+abbrev pub has_opened : Tables → ℕ → Bool
+has_opened T t = set.contains T.opened t
+
+-- t's association
+abbrev pub association_of : Tables → ℕ → Option Association
+association_of T t = map.get T.associations t
+
+-- the state of x, None for S0
+abbrev pub state_of : Tables → XidName → Option State
+state_of T x = map.get T.states x
+
+-- x exists: it isn't S0
+abbrev pub exists : Tables → XidName → Bool
+exists T x = is_some (state_of T x)
+
+-- "somebody is associated" counts both kinds
+abbrev pub is_somebody_associated : FinMap nat_cmp Association → XidName → Bool
+is_somebody_associated associations x = any_entry (λ t l. xid_eq l.xid x) associations
+
+-- the key is declared
+abbrev pub is_declared : Tables → List ℕ → Bool
+is_declared T k = is_some (map.get T.values k)
+
+-- the sum of (x, k), which begins at 0
+abbrev pub sum_of : FinMap touch_cmp ℤ → XidName → List ℕ → ℤ
+sum_of sums x k = unwrap_or (map.get sums (x, k)) (pos 0)
+
+-- x has touched a key
+abbrev pub has_touched : FinMap touch_cmp ℤ → XidName → Bool
+has_touched sums x = any_entry (λ p s. xid_eq p.0 x) sums
+
+-- another branch than x has touched the key
+abbrev pub has_other_touched : FinMap touch_cmp ℤ → XidName → List ℕ → Bool
+has_other_touched sums x k = any_entry (λ p s. key_eq p.1 k && not (xid_eq p.0 x)) sums
+
+-- 0 to 10^12
+abbrev pub is_within : ℤ → Bool
+is_within v = le_z (pos 0) v && le_z v (pos 1000000000000)
+
+-- the key's committed value, 0 where it isn't declared
+abbrev pub value_of : FinMap key_cmp ℤ → List ℕ → ℤ
+value_of values k = unwrap_or (map.get values k) (pos 0)
+
+-- for some key that x touched, value + sum is out of range
+abbrev pub is_broken : FinMap key_cmp ℤ → FinMap touch_cmp ℤ → XidName → Bool
+is_broken values sums x = any_entry (λ p s. xid_eq p.0 x && not (is_within (value_of values p.1 +ℤ s))) sums
+
+-- each sum of x added to its key's value
+abbrev pub settled : FinMap key_cmp ℤ → FinMap touch_cmp ℤ → XidName → FinMap key_cmp ℤ
+settled values sums x = map_values (λ k v. v +ℤ sum_of sums x k) values
+
+-- the sums of the other branches than x
+abbrev pub sums_without : FinMap touch_cmp ℤ → XidName → FinMap touch_cmp ℤ
+sums_without sums x = map.retain_keys sums (λ p. not (xid_eq p.0 x))

@@ -1,0 +1,50 @@
+-- Worked histories of one branch, with the codes that its requests got.
+use Rattle.std.specs.Prelude.{pos, neg_ℤ, false, List, [], ◌∷◌, ◌++◌, codes}
+use Rattle.xa_words.specs.Xid.{XidName}
+use Rattle.xa_words.specs.declared.code.Code.{Code}
+use Rattle.xa_words.specs.declared.code.Code.TheVariants.{Done, RdOnly, RbRollback, RbIntegrity, Nota}
+use Rattle.xa_words.specs.declared.request.Op.{Op}
+use Rattle.xa_words.specs.declared.request.Op.TheVariants.{Start, Add, End, Prepare, Commit, Rollback}
+use Rattle.xa_words.specs.declared.request.StartHow.TheVariants.{Fresh}
+use Rattle.xa_words.specs.declared.request.EndHow.TheVariants.{Success, Fail}
+use Rattle.xa_words.specs.declared.request.Request.{Request}
+
+-- the branch g.1
+abbrev pub branch : XidName
+branch = record { format = pos 1; gtrid = codes "g"; bqual = codes "1" }
+
+-- a request of thread 1, and its code
+abbrev pub entry : Op → Code → Request × Code
+entry op code = (record { thread = 1; number = 0; op = op }, code)
+
+-- the branch adds to a key, and its work ends
+abbrev pub worked : List (Request × Code)
+worked = entry (Start branch Fresh) Done ∷ entry (Add (codes "a") (neg_ℤ (pos 30))) Done ∷ entry (End branch Success) Done ∷ []
+
+-- it votes yes
+abbrev pub voted : List (Request × Code)
+voted = worked ++ entry (Prepare branch) Done ∷ []
+
+-- it commits
+abbrev pub transferred : List (Request × Code)
+transferred = voted ++ entry (Commit branch false) Done ∷ []
+
+-- it votes yes and is rolled back
+abbrev pub undone : List (Request × Code)
+undone = voted ++ entry (Rollback branch) Done ∷ []
+
+-- it would take a value out of range
+abbrev pub overdrawn : List (Request × Code)
+overdrawn = worked ++ entry (Prepare branch) RbIntegrity ∷ entry (Commit branch false) Nota ∷ []
+
+-- it changes nothing
+abbrev pub unchanged : List (Request × Code)
+unchanged = entry (Start branch Fresh) Done ∷ entry (End branch Success) Done ∷ entry (Prepare branch) RdOnly ∷ entry (Commit branch false) Nota ∷ []
+
+-- its work fails, and it is rolled back with its reason
+abbrev pub failed : List (Request × Code)
+failed = entry (Start branch Fresh) Done ∷ entry (End branch Fail) RbRollback ∷ entry (Rollback branch) RbRollback ∷ []
+
+-- it begins again after it committed
+abbrev pub begun_again : List (Request × Code)
+begun_again = transferred ++ entry (Start branch Fresh) Done ∷ []

@@ -1,0 +1,316 @@
+//! The declared keys: their committed values, and what branches have added.
+ghost use Rattle.std.specs.Prelude.{◌≡◌, ◌≢◌, ◌+◌, ◌<◌, ◌≤◌, ◌^◌, ◌+ℤ◌, ◌≤ℤ◌, IfOk, is_some, true, false, option_map, map, nat_le, pos};
+ghost use Rattle.std.specs.List.{list_any, list_all};
+ghost use Rattle.std.specs.FinMap as finmap;
+ghost use Rattle.xa_words.specs.Delta.{IsDelta};
+ghost use Rattle.xa_words.specs.Key.{key_eq};
+ghost use Rattle.xa_words.specs.Xid.{XidName};
+ghost use Rattle.xa_tables.specs.Accounts.{are_accounts, are_apart, declared_values, is_held_by, is_held_by_other, is_broken_by, IsGood, added_to, settled_by, forgotten_by};
+ghost use Rattle.xa_tables.specs.Tables.{is_within, sum_of, has_touched, has_other_touched, is_broken, settled, sums_without};
+
+use crate::places::Places;
+use std::alloc::{AllocError, Global};
+use std::marker::Model;
+use xa_words::{Delta, Key, Xid};
+
+/// What a branch has added to a key.
+#[derive(Clone, Copy, Debug)]
+pub(crate) struct Hold {
+    xid: Xid,
+    amount: i64,
+}
+
+/// A declared key and its committed value. At most one branch at a time has touched it.
+#[derive(Clone, Copy, Debug)]
+pub(crate) struct Account {
+    key: Key,
+    value: i64,
+    hold: Option<Hold>,
+}
+
+/// The declared keys, in the order in which they were declared, and how many additions were made.
+#[derive(Drop)]
+pub(crate) struct Accounts {
+    accounts: Vec<Account>,
+    places: Places,
+    adds: u64,
+}
+
+impl Model for Accounts {
+    ghost use Rattle.std.specs.Prelude.{All};
+    ghost use Rattle.xa_tables.specs.Accounts.{Holdings, holdings_code, holdings_of, AreDistinct, IsGood, AreIndexed};
+
+    ghost Value = { Holdings };
+
+    ghost coded = { holdings_code };
+
+    ghost view = { λ a. holdings_of a.accounts.items a.adds };
+
+    ghost invariant = { λ a. AreDistinct a.accounts.items × All (IsGood a.adds) a.accounts.items × AreIndexed a.places.places a.accounts.items };
+}
+
+impl Accounts {
+    /// The keys with their values at the opening; no branch has touched them.
+    pub(crate) fn new(alloc: Global, declared: &[(Key, u64)]) -> Result<Accounts, AllocError>
+        requires { are_accounts declared.now ≡ true }
+        ensures sums { IfOk result (λ a. a.sums ≡ finmap.empty) }
+        ensures values { IfOk result (λ a. a.values ≡ declared_values declared.now) }
+        ensures adds { IfOk result (λ a. a.adds ≡ 0) }
+    {
+        let mut accounts = Vec::with_capacity(alloc, declared.len())?;
+        let mut places = Places::new(alloc, declared.len())?;
+        for (place, (key, value)) in declared.iter().enumerate() {
+            accounts.push(Account {
+                key: *key,
+                value: signed(*value),
+                hold: None,
+            })?;
+            places.put(*key, place);
+        }
+        Ok(Accounts {
+            accounts,
+            places,
+            adds: 0,
+        })
+    }
+
+    /// The committed value of a key, and `None` where it isn't declared.
+    pub(crate) fn value(&self, key: &Key) -> Option<u64>
+        ensures { option_map pos result ≡ finmap.get self.now.values key.now }
+    {
+        let place = self.places.get(key)?;
+        Some(committed(&self.accounts[place]))
+    }
+
+    /// Whether the key was declared.
+    pub(crate) fn is_declared(&self, key: &Key) -> bool
+        ensures { result ≡ is_some (finmap.get self.now.values key.now) }
+    {
+        self.places.get(key).is_some()
+    }
+
+    /// Whether the branch has touched a key.
+    pub(crate) fn has_touched(&self, xid: &Xid) -> bool
+        ensures { result ≡ has_touched self.now.sums xid.now }
+    {
+        any_held(&self.accounts, xid)
+    }
+
+    /// Whether another branch than this has touched the key.
+    pub(crate) fn has_other_touched(&self, xid: &Xid, key: &Key) -> bool
+        ensures { result ≡ has_other_touched self.now.sums xid.now key.now }
+    {
+        match self.places.get(key) {
+            Some(place) => is_held_by_other(&self.accounts[place], xid),
+            None => false,
+        }
+    }
+
+    /// Whether the branch would take a value out of the limits.
+    pub(crate) fn is_broken(&self, xid: &Xid) -> bool
+        ensures { result ≡ is_broken self.now.values self.now.sums xid.now }
+    {
+        any_broken(&self.accounts, xid)
+    }
+
+    /// Adds to the branch's sum at the key.
+    pub(crate) fn add(&mut self, xid: Xid, key: Key, delta: Delta)
+        requires declared { is_some (finmap.get self.old.values key) ≡ true }
+        requires alone { has_other_touched self.old.sums xid key ≡ false }
+        requires few { self.old.adds < 2 ^ 20 }
+        ensures sums { self.new.sums ≡ finmap.insert self.old.sums (xid, key) (sum_of self.old.sums xid key +ℤ delta) }
+        ensures values { self.new.values ≡ self.old.values }
+        ensures adds { self.new.adds ≡ self.old.adds + 1 }
+        ensures others { (y : XidName) → y ≢ xid → is_broken self.new.values self.new.sums y ≡ is_broken self.old.values self.old.sums y }
+    {
+        let place = self.places.get(&key).unwrap();
+        self.accounts[place] = with_added(&self.accounts[place], self.adds, xid, delta);
+        self.adds += 1;
+    }
+
+    /// Adds the branch's sums to the values; the branch has touched no key any more.
+    pub(crate) fn settle(&mut self, xid: &Xid)
+        requires { is_broken self.old.values self.old.sums xid.now ≡ false }
+        ensures values { self.new.values ≡ settled self.old.values self.old.sums xid.now }
+        ensures sums { self.new.sums ≡ sums_without self.old.sums xid.now }
+        ensures adds { self.new.adds ≡ self.old.adds }
+        ensures others { (y : XidName) → y ≢ xid.now → is_broken self.new.values self.new.sums y ≡ is_broken self.old.values self.old.sums y }
+    {
+        settle_all(&mut self.accounts, xid);
+    }
+
+    /// Leaves the values as they are; the branch has touched no key any more.
+    pub(crate) fn forget(&mut self, xid: &Xid)
+        ensures sums { self.new.sums ≡ sums_without self.old.sums xid.now }
+        ensures values { self.new.values ≡ self.old.values }
+        ensures adds { self.new.adds ≡ self.old.adds }
+        ensures others { (y : XidName) → y ≢ xid.now → is_broken self.new.values self.new.sums y ≡ is_broken self.old.values self.old.sums y }
+    {
+        forget_all(&mut self.accounts, xid);
+    }
+}
+
+/// Whether these can be declared: at most 256 keys, none twice, each value within the limit.
+pub(crate) fn are_accounts(declared: &[(Key, u64)]) -> bool
+    ensures { result ≡ are_accounts declared.now }
+{
+    declared.len() <= 256 && are_within(declared) && are_apart(declared)
+}
+
+fn are_within(declared: &[(Key, u64)]) -> bool
+    ensures { result ≡ list_all (λ d. nat_le d.1 1000000000000) declared.now }
+{
+    declared
+        .iter()
+        .all(|(_, value)| *value <= 1_000_000_000_000)
+}
+
+// Compares each two keys, and so needs no memory; an opening does it once, over at most 256 keys.
+fn are_apart(declared: &[(Key, u64)]) -> bool
+    ensures { result ≡ are_apart declared.now }
+{
+    let mut rest = declared;
+    while let Some(((key, _), others)) = rest.split_first() {
+        if has_key(others, key) {
+            return false;
+        }
+        rest = others;
+    }
+    true
+}
+
+// Whether the key is among these.
+fn has_key(declared: &[(Key, u64)], key: &Key) -> bool
+    ensures { result ≡ list_any (λ d. key_eq d.0 key.now) declared.now }
+{
+    declared.iter().any(|(own, _)| own == key)
+}
+
+// A declared value as an account keeps it.
+fn signed(value: u64) -> i64
+    requires { value ≤ 1_000_000_000_000 }
+    ensures { result ≡ pos value }
+{
+    value as i64
+}
+
+// The committed value, which is never below 0.
+fn committed(account: &Account) -> u64
+    requires { pos 0 ≤ℤ account.now.value }
+    ensures { pos result ≡ account.now.value }
+{
+    account.value as u64
+}
+
+// Whether the branch has touched one of these keys.
+fn any_held(accounts: &[Account], xid: &Xid) -> bool
+    ensures { result ≡ list_any (λ a. is_held_by a xid.now) accounts.now }
+{
+    accounts.iter().any(|account| is_held_by(account, xid))
+}
+
+// Whether the branch has touched this key.
+fn is_held_by(account: &Account, xid: &Xid) -> bool
+    ensures { result ≡ is_held_by account.now xid.now }
+{
+    match &account.hold {
+        Some(hold) => hold.xid == *xid,
+        None => false,
+    }
+}
+
+// Whether another branch has touched this key.
+fn is_held_by_other(account: &Account, xid: &Xid) -> bool
+    ensures { result ≡ is_held_by_other account.now xid.now }
+{
+    match &account.hold {
+        Some(hold) => hold.xid != *xid,
+        None => false,
+    }
+}
+
+// Whether the branch would take one of these values out of the limits.
+fn any_broken(accounts: &[Account], xid: &Xid) -> bool
+    ensures { result ≡ list_any (λ a. is_broken_by a xid.now) accounts.now }
+{
+    accounts.iter().any(|account| is_broken_by(account, xid))
+}
+
+// Whether the branch would take this value out of the limits.
+fn is_broken_by(account: &Account, xid: &Xid) -> bool
+    ensures { result ≡ is_broken_by account.now xid.now }
+{
+    match &account.hold {
+        Some(hold) => hold.xid == *xid && !is_within_with(account.value, hold.amount),
+        None => false,
+    }
+}
+
+fn is_within_with(value: i64, amount: i64) -> bool
+    ensures { result ≡ is_within (value +ℤ amount) }
+{
+    match value.checked_add(amount) {
+        Some(total) => 0 <= total && total <= 1_000_000_000_000,
+        None => false,
+    }
+}
+
+// The account once the branch, which alone has touched it, has added this.
+fn with_added(account: &Account, adds: u64, xid: Xid, delta: Delta) -> Account
+    requires good { IsGood adds account.now }
+    requires few { adds < 2 ^ 20 }
+    ensures added { result ≡ added_to account.now xid delta }
+    ensures valid { IsDelta delta }
+{
+    let before = match account.hold {
+        Some(hold) => hold.amount,
+        None => 0,
+    };
+    Account {
+        key: account.key,
+        value: account.value,
+        hold: Some(Hold {
+            xid,
+            amount: before + delta.amount(),
+        }),
+    }
+}
+
+// Adds to the values what the branch holds, and lets go of it.
+fn settle_all(accounts: &mut [Account], xid: &Xid)
+    requires { list_any (λ a. is_broken_by a xid.now) accounts.old ≡ false }
+    ensures { accounts.new ≡ map (settled_by xid.now) accounts.old }
+{
+    for i in 0..accounts.len() {
+        settle_account(&mut accounts[i], xid);
+    }
+}
+
+fn settle_account(account: &mut Account, xid: &Xid)
+    requires { is_broken_by account.old xid.now ≡ false }
+    ensures { account.new ≡ settled_by xid.now account.old }
+{
+    if let Some(hold) = &account.hold {
+        if hold.xid == *xid {
+            account.value += hold.amount;
+            account.hold = None;
+        }
+    }
+}
+
+// Lets go of what the branch holds.
+fn forget_all(accounts: &mut [Account], xid: &Xid)
+    ensures { accounts.new ≡ map (forgotten_by xid.now) accounts.old }
+{
+    for i in 0..accounts.len() {
+        forget_account(&mut accounts[i], xid);
+    }
+}
+
+fn forget_account(account: &mut Account, xid: &Xid)
+    ensures { account.new ≡ forgotten_by xid.now account.old }
+{
+    if is_held_by(account, xid) {
+        account.hold = None;
+    }
+}

@@ -1,0 +1,372 @@
+//! The tables of a manager, a group of rules at a time.
+ghost use Rattle.std.specs.Prelude.{◌≡◌, ◌≤◌, ◌<◌, ◌^◌, IfOk, true, option_map, pos};
+ghost use Rattle.std.specs.FinMap as finmap;
+ghost use Rattle.xa_tables.specs.Next.{shut_down, open_rm, close_rm, start_fresh, start_join, start_resume, add, end, prepare, commit_one, commit_two, rollback, gone};
+ghost use Rattle.xa_tables.specs.Tables.{has_opened};
+ghost use Rattle.xa_tables.specs.Accounts.{are_accounts};
+ghost use Rattle.xa_tables.specs.Managers.{Keeps, opening};
+
+use crate::accounts::Accounts;
+use crate::branches::Branches;
+use crate::state::{Association, RollbackReason, State};
+use crate::threads::Threads;
+use std::alloc::{AllocError, Global};
+use std::marker::Model;
+use xa_words::{Code, Delta, EndHow, Key, Xid};
+
+/// What one manager's rules speak of: threads, branches, keys, and whether it is shut.
+///
+/// Each request is a method, which takes its steps in the order of the request's rules.
+#[derive(Drop)]
+pub(crate) struct BranchTables {
+    threads: Threads,
+    branches: Branches,
+    accounts: Accounts,
+    is_shut: bool,
+}
+
+impl Model for BranchTables {
+    ghost use Rattle.xa_tables.specs.Managers.{TablesWithRoom, tables_with_room_code, tables_of, AreAssociationsLive, ArePreparedSound};
+
+    ghost Value = { TablesWithRoom };
+
+    ghost coded = { tables_with_room_code };
+
+    ghost view = { λ b. record { tables = tables_of b.threads b.branches b.accounts b.is_shut; threads = b.threads.threads; spare = b.branches.spare; adds = b.accounts.adds } };
+
+    ghost invariant = { λ b. AreAssociationsLive b.threads.associations b.branches.states × ArePreparedSound b.branches.states b.accounts.sums b.accounts.values };
+}
+
+impl BranchTables {
+    /// The tables at the opening, with room for this many requests.
+    pub(crate) fn new(
+        alloc: Global,
+        accounts: &[(Key, u64)],
+        threads: usize,
+        room: usize,
+    ) -> Result<BranchTables, AllocError>
+        requires { are_accounts accounts.now ≡ true }
+        ensures tables { IfOk result (λ b. b.tables ≡ opening accounts.now) }
+        ensures threads { IfOk result (λ b. b.threads ≡ threads) }
+        ensures room { IfOk result (λ b. room ≤ b.spare) }
+        ensures adds { IfOk result (λ b. b.adds ≡ 0) }
+    {
+        Ok(BranchTables {
+            threads: Threads::new(alloc, threads)?,
+            branches: Branches::new(alloc, room)?,
+            accounts: Accounts::new(alloc, accounts)?,
+            is_shut: false,
+        })
+    }
+
+    /// The committed value of a key.
+    pub(crate) fn value(&self, key: &Key) -> Option<u64>
+        ensures { option_map pos result ≡ finmap.get self.now.tables.values key.now }
+    {
+        self.accounts.value(key)
+    }
+
+    /// Whether the manager is shut.
+    pub(crate) fn is_shut(&self) -> bool
+        ensures { result ≡ self.now.tables.shut }
+    {
+        self.is_shut
+    }
+
+    /// Shut: nothing is carried out any more.
+    pub(crate) fn shut(&mut self)
+        ensures shut { self.new.tables ≡ shut_down self.old.tables }
+        ensures kept { Keeps self.old self.new }
+    {
+        self.is_shut = true;
+    }
+
+    /// Whether the thread has the manager open.
+    pub(crate) fn has_opened(&self, t: usize) -> bool
+        requires first { 0 < t }
+        requires last { t ≤ self.now.threads }
+        ensures { result ≡ has_opened self.now.tables t }
+    {
+        self.threads.has_opened(t)
+    }
+
+    /// `xa_open`.
+    pub(crate) fn open_rm(&mut self, t: usize) -> Code
+        requires first { 0 < t }
+        requires last { t ≤ self.old.threads }
+        ensures step { (self.new.tables, result) ≡ open_rm t self.old.tables }
+        ensures kept { Keeps self.old self.new }
+    {
+        self.threads.set_open(t);
+        Code::Done
+    }
+
+    /// `xa_close`.
+    pub(crate) fn close_rm(&mut self, t: usize) -> Code
+        requires first { 0 < t }
+        requires last { t ≤ self.old.threads }
+        ensures step { (self.new.tables, result) ≡ close_rm t self.old.tables }
+        ensures kept { Keeps self.old self.new }
+    {
+        if !self.threads.has_opened(t) {
+            return Code::Done;
+        }
+        if self.threads.association(t).is_some() {
+            return Code::Proto;
+        }
+        self.threads.set_closed(t);
+        Code::Done
+    }
+
+    /// `xa_start` with no flag: the branch is new.
+    pub(crate) fn start_fresh(&mut self, t: usize, xid: Xid) -> Code
+        requires first { 0 < t }
+        requires last { t ≤ self.old.threads }
+        requires room { 0 < self.old.spare }
+        ensures step { (self.new.tables, result) ≡ start_fresh t xid self.old.tables }
+        ensures kept { Keeps self.old self.new }
+    {
+        if self.threads.association(t).is_some() {
+            return Code::Proto;
+        }
+        if self.branches.get(&xid).is_some() {
+            return Code::DupId;
+        }
+        self.branches.put(xid, State::Active);
+        self.threads.associate(
+            t,
+            Association {
+                xid,
+                suspended: false,
+            },
+        );
+        Code::Done
+    }
+
+    /// `xa_start` with TMJOIN.
+    pub(crate) fn start_join(&mut self, t: usize, xid: Xid) -> Code
+        requires first { 0 < t }
+        requires last { t ≤ self.old.threads }
+        requires room { 0 < self.old.spare }
+        ensures step { (self.new.tables, result) ≡ start_join t xid self.old.tables }
+        ensures kept { Keeps self.old self.new }
+    {
+        if self.threads.association(t).is_some() {
+            return Code::Proto;
+        }
+        match self.branches.get(&xid) {
+            None => Code::Nota,
+            Some(State::Prepared) => Code::Proto,
+            Some(State::RollbackOnly(reason)) => reason.code(),
+            Some(State::Active | State::Idle) => {
+                self.branches.put(xid, State::Active);
+                self.threads.associate(
+                    t,
+                    Association {
+                        xid,
+                        suspended: false,
+                    },
+                );
+                Code::Done
+            }
+        }
+    }
+
+    /// `xa_start` with TMRESUME.
+    pub(crate) fn start_resume(&mut self, t: usize, xid: Xid) -> Code
+        requires first { 0 < t }
+        requires last { t ≤ self.old.threads }
+        ensures step { (self.new.tables, result) ≡ start_resume t xid self.old.tables }
+        ensures kept { Keeps self.old self.new }
+    {
+        if let Some(association) = self.threads.association(t) {
+            if association.xid == xid && association.suspended {
+                self.threads.associate(
+                    t,
+                    Association {
+                        xid,
+                        suspended: false,
+                    },
+                );
+                return Code::Done;
+            }
+        }
+        if self.branches.get(&xid).is_none() {
+            return Code::Nota;
+        }
+        Code::Proto
+    }
+
+    /// Add: work of the branch that the thread is associated with.
+    pub(crate) fn add(&mut self, t: usize, key: Key, delta: Delta) -> Code
+        requires first { 0 < t }
+        requires last { t ≤ self.old.threads }
+        requires room { 0 < self.old.spare }
+        requires few { self.old.adds < 2 ^ 20 }
+        ensures step { (self.new.tables, result) ≡ add t key delta self.old.tables }
+        ensures kept { Keeps self.old self.new }
+    {
+        let Some(association) = self.threads.association(t) else {
+            return Code::Proto;
+        };
+        if association.suspended {
+            return Code::Proto;
+        }
+        if !self.accounts.is_declared(&key) {
+            return Code::Inval;
+        }
+        if let Some(State::RollbackOnly(reason)) = self.branches.get(&association.xid) {
+            return reason.code();
+        }
+        if self.accounts.has_other_touched(&association.xid, &key) {
+            self.branches.put(
+                association.xid,
+                State::RollbackOnly(RollbackReason::Transient),
+            );
+            return Code::RbTransient;
+        }
+        self.accounts.add(association.xid, key, delta);
+        Code::Done
+    }
+
+    /// `xa_end` with TMSUCCESS, TMSUSPEND or TMFAIL.
+    pub(crate) fn end(&mut self, t: usize, xid: Xid, how: EndHow) -> Code
+        requires first { 0 < t }
+        requires last { t ≤ self.old.threads }
+        requires room { 0 < self.old.spare }
+        ensures step { (self.new.tables, result) ≡ end how t xid self.old.tables }
+        ensures kept { Keeps self.old self.new }
+    {
+        let association = match self.threads.association(t) {
+            Some(association) if association.xid == xid => association,
+            _ => {
+                return match self.branches.get(&xid) {
+                    Some(_) => Code::Proto,
+                    None => Code::Nota,
+                };
+            }
+        };
+        if how == EndHow::Suspend && association.suspended {
+            return Code::Proto;
+        }
+        if let Some(State::RollbackOnly(reason)) = self.branches.get(&xid) {
+            self.threads.dissociate(t);
+            return reason.code();
+        }
+        match how {
+            EndHow::Suspend => {
+                self.threads.associate(
+                    t,
+                    Association {
+                        xid,
+                        suspended: true,
+                    },
+                );
+                Code::Done
+            }
+            EndHow::Fail => {
+                self.threads.dissociate(t);
+                self.branches
+                    .put(xid, State::RollbackOnly(RollbackReason::Rollback));
+                Code::RbRollback
+            }
+            EndHow::Success => {
+                self.threads.dissociate(t);
+                if !self.threads.is_somebody_associated(&xid) {
+                    self.branches.put(xid, State::Idle);
+                }
+                Code::Done
+            }
+        }
+    }
+
+    /// `xa_prepare`.
+    pub(crate) fn prepare(&mut self, xid: Xid) -> Code
+        requires room { 0 < self.old.spare }
+        ensures step { (self.new.tables, result) ≡ prepare xid self.old.tables }
+        ensures kept { Keeps self.old self.new }
+    {
+        let Some(state) = self.branches.get(&xid) else {
+            return Code::Nota;
+        };
+        if self.threads.is_somebody_associated(&xid) {
+            return Code::Proto;
+        }
+        if let State::Prepared | State::RollbackOnly(_) = state {
+            return Code::Proto;
+        }
+        if !self.accounts.has_touched(&xid) {
+            self.remove(xid);
+            return Code::RdOnly;
+        }
+        if self.accounts.is_broken(&xid) {
+            self.remove(xid);
+            return Code::RbIntegrity;
+        }
+        self.branches.put(xid, State::Prepared);
+        Code::Done
+    }
+
+    /// `xa_commit` with no flag: two phases.
+    pub(crate) fn commit_two(&mut self, xid: Xid) -> Code
+        ensures step { (self.new.tables, result) ≡ commit_two xid self.old.tables }
+        ensures kept { Keeps self.old self.new }
+    {
+        let Some(state) = self.branches.get(&xid) else {
+            return Code::Nota;
+        };
+        if self.threads.is_somebody_associated(&xid) || state != State::Prepared {
+            return Code::Proto;
+        }
+        self.accounts.settle(&xid);
+        self.branches.remove(&xid);
+        Code::Done
+    }
+
+    /// `xa_commit` with TMONEPHASE.
+    pub(crate) fn commit_one(&mut self, xid: Xid) -> Code
+        ensures step { (self.new.tables, result) ≡ commit_one xid self.old.tables }
+        ensures kept { Keeps self.old self.new }
+    {
+        let Some(state) = self.branches.get(&xid) else {
+            return Code::Nota;
+        };
+        if self.threads.is_somebody_associated(&xid) || state != State::Idle {
+            return Code::Proto;
+        }
+        if self.accounts.is_broken(&xid) {
+            self.remove(xid);
+            return Code::RbIntegrity;
+        }
+        self.accounts.settle(&xid);
+        self.branches.remove(&xid);
+        Code::Done
+    }
+
+    /// `xa_rollback`.
+    pub(crate) fn rollback(&mut self, xid: Xid) -> Code
+        ensures step { (self.new.tables, result) ≡ rollback xid self.old.tables }
+        ensures kept { Keeps self.old self.new }
+    {
+        let Some(state) = self.branches.get(&xid) else {
+            return Code::Nota;
+        };
+        if self.threads.is_somebody_associated(&xid) {
+            return Code::Proto;
+        }
+        self.remove(xid);
+        match state {
+            State::RollbackOnly(reason) => reason.code(),
+            State::Active | State::Idle | State::Prepared => Code::Done,
+        }
+    }
+
+    // The branch is gone, with its sums.
+    fn remove(&mut self, xid: Xid)
+        ensures gone { self.new.tables ≡ gone xid self.old.tables }
+        ensures kept { Keeps self.old self.new }
+    {
+        self.accounts.forget(&xid);
+        self.branches.remove(&xid);
+    }
+}

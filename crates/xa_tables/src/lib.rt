@@ -1,0 +1,16 @@
+//! One manager's sequential tables.
+#![tactic(auto)]
+
+mod accounts;
+mod branch_tables;
+mod branches;
+pub mod laws;
+mod manager;
+mod places;
+mod state;
+#[cfg(test)]
+mod tests;
+mod threads;
+
+pub use manager::{Manager, TableFault};
+pub use state::{Association, RollbackReason, State};

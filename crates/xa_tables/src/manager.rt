@@ -1,0 +1,174 @@
+//! One manager.
+ghost use Rattle.std.specs.Prelude.{◌≡◌, ◌↔◌, ◌≤◌, ◌<◌, ◌+◌, ◌^◌, IfOk, OnOk, IsErrOf, true, false, option_map, pos};
+ghost use Rattle.std.specs.FinMap as finmap;
+ghost use Rattle.xa_tables.specs.Accounts.{are_accounts};
+ghost use Rattle.xa_tables.specs.Managers.{Keeps, opening};
+ghost use Rattle.xa_tables.specs.Next.{next, next_opened, start};
+
+use crate::accounts::are_accounts;
+use crate::branch_tables::BranchTables;
+use std::alloc::Global;
+use std::marker::Model;
+use xa_words::{Code, Key, Op, StartHow, Xid};
+
+/// Why a manager can't be opened: the first reason that holds.
+#[derive(Clone, Copy, Debug, PartialEq, Eq)]
+pub enum TableFault {
+    /// A key stands twice, a value is over 1,000,000,000,000, or there are over 256 keys.
+    BadAccounts,
+    /// There is no memory for the requests that are to be carried out.
+    NoMemory,
+}
+
+/// One resource manager: its sequential tables and its store.
+#[derive(Drop)]
+pub struct Manager {
+    inner: BranchTables,
+    threads: u32,
+    left: u32,
+}
+
+impl Model for Manager {
+    ghost use Rattle.std.specs.Prelude.{◌≡◌, ◌≤◌, ◌+◌, ◌^◌};
+    ghost use Rattle.xa_tables.specs.Managers.{Managed, managed_code};
+
+    ghost Value = { Managed };
+
+    ghost coded = { managed_code };
+
+    ghost view = { λ m. record { tables = m.inner.tables; threads = m.threads; room = m.left } };
+
+    ghost invariant = { λ m. (m.inner.threads ≡ m.threads) × (m.left ≤ m.inner.spare) × (m.inner.adds + m.left ≤ 2 ^ 15) };
+}
+
+impl Manager {
+    /// A manager that was just opened: no thread has it open, it has no branch, and its keys have these values.
+    ///
+    /// It carries out `room` requests of threads 1 to `threads`, in memory that is reserved here.
+    pub fn new(
+        alloc: Global,
+        accounts: &[(Key, u64)],
+        threads: u32,
+        room: u32,
+    ) -> Result<Manager, TableFault>
+        requires threads { (1 ≤ threads) × (threads ≤ 8) }
+        requires room { (1 ≤ room) × (room ≤ 32768) }
+        ensures tables { IfOk result (λ m. m.tables ≡ opening accounts.now) }
+        ensures threads { IfOk result (λ m. m.threads ≡ threads) }
+        ensures room { IfOk result (λ m. m.room ≡ room) }
+        ensures bad_accounts { IsErrOf result TableFault.BadAccounts ↔ (are_accounts accounts.now ≡ false) }
+        ensures accounts { OnOk result (are_accounts accounts.now ≡ true) }
+    {
+        if !are_accounts(accounts) {
+            return Err(TableFault::BadAccounts);
+        }
+        match BranchTables::new(alloc, accounts, threads as usize, room as usize) {
+            Ok(inner) => Ok(Manager {
+                inner,
+                threads,
+                left: room,
+            }),
+            Err(_) => Err(TableFault::NoMemory),
+        }
+    }
+
+    /// Carries out one request of a thread, and answers its code. It takes no memory.
+    pub fn apply(&mut self, thread: u32, op: Op) -> Code
+        requires thread { (1 ≤ thread) × (thread ≤ self.old.threads) }
+        requires room { 0 < self.old.room }
+        ensures step { (self.new.tables, result) ≡ next thread op self.old.tables }
+        ensures room { self.new.room + 1 ≡ self.old.room }
+        ensures threads { self.new.threads ≡ self.old.threads }
+    {
+        let code = step(&mut self.inner, thread as usize, op);
+        self.left -= 1;
+        code
+    }
+
+    /// The committed value of a key, and `None` for a key that wasn't declared.
+    pub fn value(&self, key: &Key) -> Option<u64>
+        ensures { option_map pos result ≡ finmap.get self.now.tables.values key.now }
+    {
+        self.inner.value(key)
+    }
+
+    /// Whether a Shut was carried out; from then on every request answers XAER_RMFAIL.
+    pub fn is_shut(&self) -> bool
+        ensures { result ≡ self.now.tables.shut }
+    {
+        self.inner.is_shut()
+    }
+
+    /// How many more requests it can carry out.
+    pub fn room(&self) -> u32
+        ensures { result ≡ self.now.room }
+    {
+        self.left
+    }
+}
+
+// Carries out one request, unless the manager is shut.
+#[tactic(auto, unfolding(crate::specs::Next::next))]
+fn step(tables: &mut BranchTables, t: usize, op: Op) -> Code
+    requires first { 0 < t }
+    requires last { t ≤ tables.old.threads }
+    requires room { 0 < tables.old.spare }
+    requires few { tables.old.adds < 2 ^ 20 }
+    ensures step { (tables.new.tables, result) ≡ next t op tables.old.tables }
+    ensures kept { Keeps tables.old tables.new }
+{
+    if tables.is_shut() {
+        return Code::RmFail;
+    }
+    match op {
+        Op::Shut => {
+            tables.shut();
+            Code::Done
+        }
+        Op::OpenRm => tables.open_rm(t),
+        Op::CloseRm => tables.close_rm(t),
+        _ => {
+            if !tables.has_opened(t) {
+                return Code::Proto;
+            }
+            step_opened(tables, t, op)
+        }
+    }
+}
+
+// A request of a thread that has the manager open.
+fn step_opened(tables: &mut BranchTables, t: usize, op: Op) -> Code
+    requires first { 0 < t }
+    requires last { t ≤ tables.old.threads }
+    requires room { 0 < tables.old.spare }
+    requires few { tables.old.adds < 2 ^ 20 }
+    ensures step { (tables.new.tables, result) ≡ next_opened t op tables.old.tables }
+    ensures kept { Keeps tables.old tables.new }
+{
+    // By reference: today no proof is generated where a request is taken apart by value.
+    match &op {
+        Op::Start(xid, how) => start(tables, t, *xid, *how),
+        Op::Add(key, delta) => tables.add(t, *key, *delta),
+        Op::End(xid, how) => tables.end(t, *xid, *how),
+        Op::Prepare(xid) => tables.prepare(*xid),
+        Op::Commit(xid, true) => tables.commit_one(*xid),
+        Op::Commit(xid, false) => tables.commit_two(*xid),
+        Op::Rollback(xid) => tables.rollback(*xid),
+        Op::OpenRm | Op::CloseRm | Op::Shut => Code::Proto,
+    }
+}
+
+// A request to start work on a branch.
+fn start(tables: &mut BranchTables, t: usize, xid: Xid, how: StartHow) -> Code
+    requires first { 0 < t }
+    requires last { t ≤ tables.old.threads }
+    requires room { 0 < tables.old.spare }
+    ensures step { (tables.new.tables, result) ≡ start how t xid tables.old.tables }
+    ensures kept { Keeps tables.old tables.new }
+{
+    match how {
+        StartHow::Fresh => tables.start_fresh(t, xid),
+        StartHow::Join => tables.start_join(t, xid),
+        StartHow::Resume => tables.start_resume(t, xid),
+    }
+}

@@ -1,0 +1,136 @@
+//! The threads: which of them have the manager open, and their associations.
+ghost use Rattle.std.specs.Prelude.{◌≡◌, ◌≤◌, ◌<◌, IfOk};
+ghost use Rattle.std.specs.FinMap as map;
+ghost use Rattle.std.specs.FinSet as set;
+ghost use Rattle.std.specs.List.{list_any};
+ghost use Rattle.xa_tables.specs.Tables.{is_somebody_associated};
+ghost use Rattle.xa_tables.specs.Views.{is_thread_with};
+
+use crate::state::Association;
+use std::alloc::{AllocError, Global};
+use std::marker::Model;
+use xa_words::Xid;
+
+/// Whether a thread has the manager open, and the branch that it is associated with.
+#[derive(Clone, Copy, Debug)]
+pub(crate) struct Thread {
+    is_open: bool,
+    association: Option<Association>,
+}
+
+/// The threads of control, which are numbered from 1.
+#[derive(Drop)]
+pub(crate) struct Threads {
+    threads: Vec<Thread>,
+}
+
+impl Model for Threads {
+    ghost use Rattle.xa_tables.specs.Views.{ThreadTable, thread_table_code, thread_table_of};
+
+    ghost Value = { ThreadTable };
+
+    ghost coded = { thread_table_code };
+
+    ghost view = { λ t. thread_table_of t.threads.items };
+}
+
+impl Threads {
+    /// This many threads, none of which has opened or is associated.
+    pub(crate) fn new(alloc: Global, threads: usize) -> Result<Threads, AllocError>
+        ensures nobody { IfOk result (λ t. t.opened ≡ set.empty) }
+        ensures free { IfOk result (λ t. t.associations ≡ map.empty) }
+        ensures count { IfOk result (λ t. t.threads ≡ threads) }
+    {
+        let thread = Thread {
+            is_open: false,
+            association: None,
+        };
+        Ok(Threads {
+            threads: vec![in alloc; thread; threads]?,
+        })
+    }
+
+    /// Whether the thread has the manager open.
+    pub(crate) fn has_opened(&self, thread: usize) -> bool
+        requires first { 0 < thread }
+        requires last { thread ≤ self.now.threads }
+        ensures { result ≡ set.contains self.now.opened thread }
+    {
+        self.threads[thread - 1].is_open
+    }
+
+    /// From now on the thread has the manager open.
+    pub(crate) fn set_open(&mut self, thread: usize)
+        requires first { 0 < thread }
+        requires last { thread ≤ self.old.threads }
+        ensures opened { self.new.opened ≡ set.insert self.old.opened thread }
+        ensures associations { self.new.associations ≡ self.old.associations }
+        ensures threads { self.new.threads ≡ self.old.threads }
+    {
+        self.threads[thread - 1].is_open = true;
+    }
+
+    /// From now on the thread hasn't the manager open.
+    pub(crate) fn set_closed(&mut self, thread: usize)
+        requires first { 0 < thread }
+        requires last { thread ≤ self.old.threads }
+        ensures opened { self.new.opened ≡ set.remove self.old.opened thread }
+        ensures associations { self.new.associations ≡ self.old.associations }
+        ensures threads { self.new.threads ≡ self.old.threads }
+    {
+        self.threads[thread - 1].is_open = false;
+    }
+
+    /// The thread's association, if it has one.
+    pub(crate) fn association(&self, thread: usize) -> Option<Association>
+        requires first { 0 < thread }
+        requires last { thread ≤ self.now.threads }
+        ensures { result ≡ map.get self.now.associations thread }
+    {
+        self.threads[thread - 1].association
+    }
+
+    /// Gives the thread this association in place of any that it has.
+    pub(crate) fn associate(&mut self, thread: usize, association: Association)
+        requires first { 0 < thread }
+        requires last { thread ≤ self.old.threads }
+        ensures associations { self.new.associations ≡ map.insert self.old.associations thread association }
+        ensures opened { self.new.opened ≡ self.old.opened }
+        ensures threads { self.new.threads ≡ self.old.threads }
+    {
+        self.threads[thread - 1].association = Some(association);
+    }
+
+    /// Takes the thread's association away.
+    pub(crate) fn dissociate(&mut self, thread: usize)
+        requires first { 0 < thread }
+        requires last { thread ≤ self.old.threads }
+        ensures associations { self.new.associations ≡ map.remove self.old.associations thread }
+        ensures opened { self.new.opened ≡ self.old.opened }
+        ensures threads { self.new.threads ≡ self.old.threads }
+    {
+        self.threads[thread - 1].association = None;
+    }
+
+    /// Whether a thread is associated with the branch, be it suspended or not.
+    pub(crate) fn is_somebody_associated(&self, xid: &Xid) -> bool
+        ensures { result ≡ is_somebody_associated self.now.associations xid.now }
+    {
+        any_with(&self.threads, xid)
+    }
+}
+
+fn any_with(threads: &[Thread], xid: &Xid) -> bool
+    ensures { result ≡ list_any (λ t. is_thread_with t xid.now) threads.now }
+{
+    threads.iter().any(|thread| is_with(thread, xid))
+}
+
+fn is_with(thread: &Thread, xid: &Xid) -> bool
+    ensures { result ≡ is_thread_with thread.now xid.now }
+{
+    match &thread.association {
+        Some(association) => association.xid == *xid,
+        None => false,
+    }
+}
