@@ -1,0 +1,76 @@
+-- What clap answers to one word: a fault, unless the word is one that the argument takes.
+use Rattle.std.specs.Prelude.{◌≡◌, ℕ, ◌==◌, true, false, List, [], ◌∷◌, Some, codes, slice_index, slice_index_or, length, map, refl}
+use Rattle.std.proofs.Common.{sym, ap, ap₂, ◌∙◌, arith}
+use Rattle.std.specs.List.{list_any}
+use Rattle.std.specs.Borrow.{Bor}
+use Rattle.std.specs.Str.{bytes_eq}
+use Rattle.std.proofs.lemmas.Slice.Eq.{bytes_eq-Decides}
+use Rattle.clap.specs.Words.{App, Rule, app_of, rule_of, new_app, new_rule, with_rule, takes, fault_of, is_simple_and_free}
+use Rattle.clap.specs.Simple.{app_of_fields, on_top}
+use Rattle.clap.specs.Values.{refused_kind}
+use Rattle.clap.specs.ValueTests.{accepts}
+use Rattle.clap.specs.declared.builder.value_parser.ValueParser.{ValueParser}
+use Rattle.clap.specs.declared.builder.value_parser.ValueParser.TheVariants as vp
+use Rattle.clap.specs.declared.builder.arg.Arg.{Arg}
+use Rattle.clap.specs.declared.builder.command.Command.{Command}
+use Rattle.clap.specs.declared.builder.command.Command.TheViews.{out-Command}
+use Rattle.clap.proofs.OnLiterals.{clap_on_literals}
+use Rattle.xa_script.proofs.ScriptLemmas.{or_false}
+
+-- the program's argument, with this parser
+abbrev pub mode : ValueParser → Rule
+mode p = record (new_rule (codes "mode")) { required = true; parser = Some p }
+
+-- the app that the command is
+abbrev pub top : App
+top = on_top (λ s. record s { no_binary_name = true; disable_help_flag = true }) (new_app (codes "xaswitch"))
+
+abbrev pub command : ValueParser → App
+command p = with_rule top (mode p)
+
+pub free : (p : ValueParser) → is_simple_and_free (command p) ≡ true
+unfolding clap_on_literals
+free p = refl
+
+-- a word without a minus before it that the parser doesn't accept is a fault
+pub fault_empty : (p : ValueParser) → accepts false p [] ≡ false → fault_of (command p) ([] ∷ []) ≡ refused_kind p ∷ []
+unfolding clap_on_literals
+fault_empty p a = rw a refl
+
+pub fault_word : (p : ValueParser) (b : ℕ) (bs : List ℕ) → (b == 45) ≡ false → accepts false p (b ∷ bs) ≡ false → fault_of (command p) ((b ∷ bs) ∷ []) ≡ refused_kind p ∷ []
+unfolding clap_on_literals
+fault_word p b bs e a = rw (e, e, a) refl
+
+pub takes_turns : (p : ValueParser) → accepts false p (codes "turns") ≡ true → takes (command p) (codes "turns" ∷ []) ≡ true
+unfolding clap_on_literals
+takes_turns p e = rw e refl
+
+-- a parser of which `turns` is the one word takes no other
+pub turns_only : (p : ValueParser) (w : List ℕ) → ((v : List ℕ) → accepts false p v ≡ bytes_eq (codes "turns") v) → (slice_index w 0 == 45) ≡ false → fault_of (command p) (w ∷ []) ≡ [] → w ≡ codes "turns"
+turns_only p [] only minus none = let bad : refused_kind p ∷ [] ≡ [] = sym (fault_empty p (only [])) ∙ none in let never : ⊥ = cc in absurd never
+turns_only p (b ∷ bs) only minus none =
+    elim (bytes_eq (codes "turns") (b ∷ bs)) as (λ t. bytes_eq (codes "turns") (b ∷ bs) ≡ t → b ∷ bs ≡ codes "turns") [
+      | true ↦ λ t. sym ((bytes_eq-Decides (codes "turns") (b ∷ bs)).0 t)
+      | false ↦ λ t.
+          let bad : refused_kind p ∷ [] ≡ [] = sym (fault_word p b bs minus (only (b ∷ bs) ∙ t)) ∙ none in
+          let never : ⊥ = cc in absurd never
+    ] refl
+
+pub mode_is : (n r v : Arg) (p : ValueParser) → rule_of n ≡ new_rule (codes "mode") → r ≡ record n { required = true } → v ≡ record r { value_parser = v.value_parser } → v.value_parser ≡ Some p → rule_of v ≡ mode p
+mode_is n r v p new required with_parser parser =
+    ap rule_of with_parser
+    ∙ ap₂ (λ (m : Rule) q. record m { parser = q }) (ap rule_of required ∙ ap (λ (m : Rule). record m { required = true }) new) parser
+
+pub top_is : (n b h : Command) → app_of n ≡ new_app (codes "xaswitch") → out-Command b ≡ record (out-Command n) { no_binary_name = true } → out-Command h ≡ record (out-Command b) { disable_help_flag = true } → app_of h ≡ top
+top_is n b h new no_name no_help =
+    ap app_of_fields no_help
+    ∙ ap (on_top (λ s. record s { disable_help_flag = true })) (ap app_of_fields no_name ∙ ap (on_top (λ s. record s { no_binary_name = true })) new)
+
+-- a parser by these names accepts what is one of them
+pub accepts_one : (names : Bor (List (Bor (List ℕ)))) (name : Bor (List ℕ)) (v : List ℕ) → names.now ≡ name ∷ [] → accepts false (vp.Names names) v ≡ bytes_eq name.now v
+accepts_one names name v is = ap (list_any (λ (n : Bor (List ℕ)). bytes_eq n.now v)) is ∙ or_false _
+
+pub one_word : (words : List (Bor (List ℕ))) (d : Bor (List ℕ)) → length words ≡ 1 → map (λ w. w.now) words ≡ (slice_index_or words 0 d).now ∷ []
+one_word [] d one = absurd (omega arith)
+one_word (w ∷ []) d one = refl
+one_word (w ∷ v ∷ words) d one = absurd (omega arith)

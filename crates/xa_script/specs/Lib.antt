@@ -1,0 +1,9 @@
+pub mod Text
+pub mod Fields
+pub mod Content
+pub mod Grammar
+pub mod Reading
+pub mod Transcript
+pub mod Run
+pub mod Running
+pub mod Program

@@ -1,0 +1,137 @@
+//! The program, over any reader and writers.
+ghost use Rattle.std.specs.Prelude.{◌≡◌, ◌⊎◌, ◌<◌, OnOk, IfErr, IsErrOf, IfSome};
+ghost use Rattle.xa_script.specs.declared.entry.Fault.TheVariants.{NoMemory};
+ghost use Rattle.xa_script.specs.Program.{status_of, AreTurns, IsJudged, Runs, IsFaulty, FailsBy};
+
+use crate::fault::ScriptFault;
+use crate::read::read_script;
+use crate::run::run_turns;
+use crate::transcript::RunFault;
+use clap::error::ErrorKind;
+use clap::{Arg, Command};
+use std::alloc::{AllocError, Global};
+use std::io::{Read, Write};
+use thiserror::Error;
+
+// Why the program shows no transcript, or not all of it.
+#[derive(Clone, Copy, Debug, PartialEq, Eq, Error)]
+pub(crate) enum Fault {
+    #[error("usage: xaswitch turns or threads")]
+    Usage,
+    // Memory ran out while the words were judged.
+    #[error("out of memory")]
+    NoMemory,
+    #[error(transparent)]
+    Script(ScriptFault),
+    #[error(transparent)]
+    Run(RunFault),
+}
+
+impl From<AllocError> for Fault {
+    ghost from_gives = { λ _ fault. fault ≡ NoMemory };
+
+    fn from(_error: AllocError) -> Fault {
+        Fault::NoMemory
+    }
+}
+
+// The exit status of a fault.
+fn status_of(fault: Fault) -> u8
+    ensures { result ≡ status_of fault }
+{
+    match fault {
+        Fault::Script(ScriptFault::Line { .. }) => 1,
+        Fault::Usage => 2,
+        Fault::NoMemory | Fault::Script(ScriptFault::NoMemory) | Fault::Run(RunFault::NoMemory) =>
+            3,
+        Fault::Script(ScriptFault::Read) | Fault::Run(RunFault::Write) => 4,
+    }
+}
+
+// Takes the one word `turns`. A word that could be an option is judged before clap reads it.
+fn judge(alloc: Global, words: &[&str]) -> Result<(), Fault>
+    ensures ok { OnOk result (AreTurns words.now) }
+    ensures err { IfErr result IsJudged }
+    ensures usage { IsErrOf result Fault.Usage → ¬ AreTurns words.now }
+{
+    if words.len() != 1 || words[0].starts_with('-') {
+        return Err(Fault::Usage);
+    }
+    let mode = Arg::new(alloc, "mode")
+        .required(true)
+        .value_parser(["turns"].as_slice());
+    let command = Command::new(alloc, "xaswitch")
+        .no_binary_name(true)
+        .disable_help_flag(true)
+        .arg(mode)?;
+    match command.try_get_matches_from(words) {
+        Ok(_matches) => Ok(()),
+        Err(error) => {
+            if error.kind() == ErrorKind::OutOfMemory {
+                Err(Fault::NoMemory)
+            } else {
+                Err(Fault::Usage)
+            }
+        }
+    }
+}
+
+// Judges the words, and only then reads the script and runs it.
+fn carry_out<R: Read, W: Write>(
+    alloc: Global,
+    words: &[&str],
+    reader: &mut R,
+    out: &mut W,
+) -> Result<(), Fault>
+    ensures ok_words { OnOk result (AreTurns words.now) }
+    ensures err_words { IfErr result (λ fault. IsJudged fault ⊎ AreTurns words.now) }
+    ensures usage { IsErrOf result Fault.Usage → ¬ AreTurns words.now }
+    ensures unread { IsErrOf result Fault.Usage → reader.new ≡ reader.old }
+
+    ensures ok { OnOk result (IfSome (R.remaining reader.old)
+        (Runs (W.contents out.old) (W.contents out.new))) }
+    ensures err { IfErr result (λ fault.
+        FailsBy fault (R.remaining reader.old) (W.contents out.old) (W.contents out.new)) }
+{
+    judge(alloc, words)?;
+    let script = read_script(alloc, reader, false).map_err(Fault::Script)?;
+    run_turns(alloc, &script, out).map_err(Fault::Run)
+}
+
+/// The whole program: judges the words behind its name, reads the script, runs it and writes its
+/// transcript to `out`, and answers the exit status.
+///
+/// | status | cause | written to `err` |
+/// |---|---|---|
+/// | 0 | the run ended | nothing |
+/// | 1 | a fault of the script | `line N: ` and what is wrong |
+/// | 2 | the words aren't the one word `turns` | the usage |
+/// | 3 | want of memory | `out of memory` |
+/// | 4 | a read or a write that failed | `input failed` or `output failed` |
+///
+/// The words are judged before anything is read. A failing write to `err` changes nothing.
+pub fn program<R: Read, W: Write, E: Write>(
+    alloc: Global,
+    words: &[&str],
+    reader: &mut R,
+    out: &mut W,
+    err: &mut E,
+) -> u8
+    // Other words than `turns` come to the usage, unless memory runs out before they are judged.
+    ensures turns { (result ≡ 2) ⊎ (result ≡ 3) ⊎ AreTurns words.now }
+    ensures usage { result ≡ 2 → ¬ AreTurns words.now }
+    ensures unread { result ≡ 2 → reader.new ≡ reader.old }
+
+    ensures ran { result ≡ 0 → IfSome (R.remaining reader.old)
+        (Runs (W.contents out.old) (W.contents out.new)) }
+    ensures faulty { result ≡ 1 → IfSome (R.remaining reader.old) IsFaulty }
+    ensures nothing_shown { 0 < result → result < 4 → W.contents out.new ≡ W.contents out.old }
+{
+    match carry_out(alloc, words, reader, out) {
+        Ok(()) => 0,
+        Err(fault) => {
+            let _ = writeln!(err, "{fault}");
+            status_of(fault)
+        }
+    }
+}
