@@ -7,5 +7,6 @@ pub mod Key
 pub mod NewXid
 pub mod NewKey
 pub mod Delta
+pub mod Flags
 pub mod Orders
 pub mod TranOrders

@@ -1,8 +1,10 @@
-//! The words of the switch: names of transactions and keys, changes, codes and requests.
+//! The words of the switch: names of transactions and keys, changes, codes, calls with their flags,
+//! and requests.
 #![tactic(auto)]
 
 mod code;
 mod delta;
+mod flags;
 mod key;
 pub mod laws;
 mod padded;
@@ -14,6 +16,10 @@ mod xid;
 
 pub use code::Code;
 pub use delta::Delta;
+pub use flags::{
+    Call, Mode, TMASYNC, TMENDRSCAN, TMFAIL, TMJOIN, TMMULTIPLE, TMNOFLAGS, TMNOWAIT, TMONEPHASE,
+    TMRESUME, TMSTARTRSCAN, TMSUCCESS, TMSUSPEND, TMUSEASYNC, check_flags,
+};
 pub use key::Key;
 pub use request::{EndHow, Op, Request, StartHow};
 pub use tran::Tran;

@@ -1,5 +1,5 @@
 //! The limits and the numbers of xa.h, against values from outside.
-use crate::{Code, Delta, Key, Xid, XidFault};
+use crate::{Call, Code, Delta, EndHow, Key, Mode, StartHow, Xid, XidFault, check_flags};
 use std::cmp::Ordering;
 
 #[test]
@@ -139,5 +139,91 @@ fn changes_stay_within_the_limit(rt: HostRuntime) {
     for (amount, is_delta) in cases {
         let answer = Delta::new(amount).map(Delta::amount);
         assert_eq!(rt; answer, is_delta.then_some(amount));
+    }
+}
+
+// What no flag asks for.
+const PLAIN: Mode = Mode {
+    asynchronous: false,
+    nowait: false,
+    multiple: false,
+    one_phase: false,
+    start: StartHow::Fresh,
+    how: EndHow::Success,
+};
+
+#[test]
+fn flags_ask_for_a_mode(rt: HostRuntime) {
+    let joined = Mode {
+        asynchronous: true,
+        start: StartHow::Join,
+        ..PLAIN
+    };
+    let one_phase = Mode {
+        asynchronous: true,
+        one_phase: true,
+        ..PLAIN
+    };
+    let any = Mode {
+        multiple: true,
+        nowait: true,
+        ..PLAIN
+    };
+    let rows = [
+        (Call::Start, 0x8020_0000, Ok(joined)),
+        (Call::Start, 0x0820_0000, Err(Code::Inval)),
+        (Call::End, 0x0400_0000, Ok(PLAIN)),
+        (Call::End, 0, Err(Code::Inval)),
+        (Call::Commit, 0xC000_0000, Ok(one_phase)),
+        (Call::Complete, 0x1040_0000, Ok(any)),
+        (Call::Prepare, 0x1000_0000, Err(Code::Inval)),
+    ];
+    for (call, flags, mode) in rows {
+        assert_eq!(rt; check_flags(call, flags), mode, "{call:?} {flags:#x}");
+    }
+}
+
+// The words that each call takes, worked out from the table of flags.
+#[test]
+fn calls_take_no_other_flags(rt: HostRuntime) {
+    let plain: &[u32] = &[0, 0x8000_0000];
+    let start: &[u32] = &[
+        0,
+        0x0020_0000,
+        0x0800_0000,
+        0x8000_0000,
+        0x8020_0000,
+        0x8800_0000,
+    ];
+    let end: &[u32] = &[
+        0x0200_0000,
+        0x0400_0000,
+        0x2000_0000,
+        0x8200_0000,
+        0x8400_0000,
+        0xA000_0000,
+    ];
+    let commit: &[u32] = &[0, 0x4000_0000, 0x8000_0000, 0xC000_0000];
+    let complete: &[u32] = &[0, 0x0040_0000, 0x1000_0000, 0x1040_0000];
+    let rows = [
+        (Call::OpenRm, plain),
+        (Call::CloseRm, plain),
+        (Call::Start, start),
+        (Call::End, end),
+        (Call::Prepare, plain),
+        (Call::Commit, commit),
+        (Call::Rollback, plain),
+        (Call::Complete, complete),
+    ];
+    for (call, words) in rows {
+        // The upper 11 bits are those of the calls' flags, and each other bit stands alone.
+        for upper in 0..0x800_u32 {
+            let flags = upper << 21;
+            let taken = check_flags(call, flags).is_ok();
+            assert_eq!(rt; taken, words.contains(&flags), "{call:?} {flags:#x}");
+        }
+        for bit in 0..21_u32 {
+            assert!(rt; check_flags(call, 1 << bit).is_err(), "{call:?} {bit}");
+        }
     }
 }
