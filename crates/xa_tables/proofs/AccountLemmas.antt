@@ -1,5 +1,5 @@
 -- The maps that the accounts make.
-use Rattle.std.specs.Prelude.{◌≡◌, ◌≢◌, ℕ, ℤ, pos, ◌+ℤ◌, ◌≤ℤ◌, T, All, nat_eq, zero, suc, ◌+◌, ◌<◌, Bool, true, false, cond, not, ◌&&◌, ◌||◌, if◌then◌else◌, List, [], ◌∷◌, ◌++◌, take, drop, length, map, Option, None, Some, is_some, unwrap_or, option_map, refl}
+use Rattle.std.specs.Prelude.{◌≡◌, ◌≢◌, ℕ, ℤ, pos, ◌+ℤ◌, ◌≤ℤ◌, All, nat_eq, zero, suc, ◌+◌, ◌<◌, Bool, true, false, cond, not, ◌&&◌, ◌||◌, if◌then◌else◌, List, [], ◌∷◌, ◌++◌, take, drop, length, map, Option, None, Some, is_some, unwrap_or, option_map, refl}
 use Rattle.std.proofs.Common.{sym, ap, ◌∙◌, subst, arith, get_or}
 use Rattle.std.proofs.Math.ListN.{set}
 use Rattle.std.specs.List.{list_any}
@@ -15,7 +15,9 @@ use Rattle.std.proofs.lemmas.Int.{ints}
 use Rattle.std.proofs.lemmas.List.Elements.{All-map}
 use Rattle.std.proofs.lemmas.List.{length-map, get_or-set_other, length-set, take_all, drop_all, append-nil}
 use Rattle.std.proofs.lemmas.Grind.{get_or-set_at}
-use Rattle.std.proofs.lemmas.Bool.{eqb-true, eq-eqb}
+use Rattle.std.proofs.Math.Bool.{and-false}
+use Rattle.std.proofs.lemmas.Bool.{eqb-true, eq-eqb, false_from_ne_true, not-false, and_parts}
+use Rattle.std.proofs.lemmas.Float.{T_from_true}
 use Rattle.std.specs.Int.Signed.{le_z_yes}
 use Rattle.xa_words.specs.Delta.{IsDelta}
 use Rattle.std.proofs.lemmas.List.Folds.{list_any_at}
@@ -61,15 +63,11 @@ touch_from p q t = touch_cmp-IsAntisymmetric p q (equal_from _ t)
 pub touch_self : (p : Touch) → same_touch p p ≡ true
 touch_self p = ap is_eq (tied_itself touch_cmp_total p)
 
-pub apart_from : (b : Bool) → (b ≡ true → ⊥) → b ≡ false
-apart_from true h = absurd (h refl)
-apart_from false h = refl
-
 touch_apart : (p q : Touch) → (p.1 ≡ q.1 → ⊥) → same_touch p q ≡ false
-touch_apart p q h = apart_from _ (λ t. h (ap (λ (r : Touch). r.1) (touch_from p q t)))
+touch_apart p q h = false_from_ne_true _ (λ t. h (ap (λ (r : Touch). r.1) (touch_from p q t)))
 
 pub key_apart : (k l : List ℕ) → (k ≡ l → ⊥) → same_key k l ≡ false
-key_apart k l h = apart_from _ (λ t. h (key_from k l t))
+key_apart k l h = false_from_ne_true _ (λ t. h (key_from k l t))
 
 -- a key that the accounts lack
 abbrev pub Lacks : List ℕ → List Account → Type 0
@@ -129,12 +127,8 @@ touched_any accounts x h =
 abbrev pub is_other : Account → XidName → List ℕ → Bool
 is_other a x k = key_eq a.key k && hold_is_other a.hold x
 
-none_here : (b : Bool) → (b && false) ≡ false
-none_here true = refl
-none_here false = refl
-
 other_cases : (x : XidName) (k : List ℕ) (a : Account) → is_other a x k ≡ elim (a.hold) [ None ↦ false | Some l ↦ key_eq a.key k && not (xid_eq l.xid x) ]
-other_cases x k a = elim (a.hold) as (λ o. (key_eq a.key k && hold_is_other o x) ≡ elim o [ None ↦ false | Some l ↦ key_eq a.key k && not (xid_eq l.xid x) ]) [ None ↦ none_here (key_eq a.key k) | Some l ↦ refl ]
+other_cases x k a = elim (a.hold) as (λ o. (key_eq a.key k && hold_is_other o x) ≡ elim o [ None ↦ false | Some l ↦ key_eq a.key k && not (xid_eq l.xid x) ]) [ None ↦ and-false (key_eq a.key k) | Some l ↦ refl ]
 
 -- another branch has touched k if it holds k's account
 pub other_any : (accounts : List Account) (x : XidName) (k : List ℕ) → AreDistinct accounts → has_other_touched (from_entries (hold_entries accounts)) x k ≡ list_any (λ a. is_other a x k) accounts
@@ -205,10 +199,6 @@ kept_hold x p k l fs es later =
       ]
     ] refl
 
-not_not : (b : Bool) → not b ≡ false → b ≡ true
-not_not true e = refl
-not_not false e = cc
-
 plus_none : (v : ℤ) → v +ℤ pos 0 ≡ v
 plus_none v = omega (arith, ints)
 
@@ -256,7 +246,7 @@ amount_first x k (Some l) es none =
           let same : l.xid ≡ x = (Decides-xid_eq l.xid x).0 t in
           ap (λ b. unwrap_or (cond b (Some l.amount) (find touch_cmp (x, k) es)) (pos 0)) (ap (λ z. same_touch (x, k) (z, k)) same ∙ touch_self (x, k))
       | false ↦ λ t.
-          ap (λ b. unwrap_or (cond b (Some l.amount) (find touch_cmp (x, k) es)) (pos 0)) (apart_from _ (λ y. let z = (Decides-xid_eq l.xid x).1 (sym (ap (λ (r : Touch). r.0) (touch_from (x, k) (l.xid, k) y))) in cc)) ∙ ap (λ v. unwrap_or v (pos 0)) none
+          ap (λ b. unwrap_or (cond b (Some l.amount) (find touch_cmp (x, k) es)) (pos 0)) (false_from_ne_true _ (λ y. let z = (Decides-xid_eq l.xid x).1 (sym (ap (λ (r : Touch). r.0) (touch_from (x, k) (l.xid, k) y))) in cc)) ∙ ap (λ v. unwrap_or v (pos 0)) none
     ] refl
 
 amounts_all : (x : XidName) (accounts : List Account) → AreDistinct accounts → Amounts x (hold_entries accounts) accounts
@@ -302,7 +292,7 @@ forgotten_breaks : (x y : XidName) → y ≢ x → (v : ℤ) (o : Option Hold) �
 forgotten_breaks x y apart v None = refl
 forgotten_breaks x y apart v (Some l) =
     elim (xid_eq l.xid x) as (λ b. xid_eq l.xid x ≡ b → hold_breaks v (if b then None else Some l) y ≡ (xid_eq l.xid y && not (is_within (v +ℤ l.amount)))) [
-      | true ↦ λ t. sym (ap (λ b. b && not (is_within (v +ℤ l.amount))) (apart_from (xid_eq l.xid y) (λ s. apart (sym ((Decides-xid_eq l.xid y).0 s) ∙ (Decides-xid_eq l.xid x).0 t))))
+      | true ↦ λ t. sym (ap (λ b. b && not (is_within (v +ℤ l.amount))) (false_from_ne_true (xid_eq l.xid y) (λ s. apart (sym ((Decides-xid_eq l.xid y).0 s) ∙ (Decides-xid_eq l.xid x).0 t))))
       | false ↦ λ t. refl
     ] refl
 
@@ -310,7 +300,7 @@ settled_breaks : (x y : XidName) → y ≢ x → (v : ℤ) (o : Option Hold) →
 settled_breaks x y apart v None = refl
 settled_breaks x y apart v (Some l) =
     elim (xid_eq l.xid x) as (λ b. xid_eq l.xid x ≡ b → hold_breaks (v +ℤ (if b then l.amount else pos 0)) (if b then None else Some l) y ≡ (xid_eq l.xid y && not (is_within (v +ℤ l.amount)))) [
-      | true ↦ λ t. sym (ap (λ b. b && not (is_within (v +ℤ l.amount))) (apart_from (xid_eq l.xid y) (λ s. apart (sym ((Decides-xid_eq l.xid y).0 s) ∙ (Decides-xid_eq l.xid x).0 t))))
+      | true ↦ λ t. sym (ap (λ b. b && not (is_within (v +ℤ l.amount))) (false_from_ne_true (xid_eq l.xid y) (λ s. apart (sym ((Decides-xid_eq l.xid y).0 s) ∙ (Decides-xid_eq l.xid x).0 t))))
       | false ↦ λ t. ap (λ w. xid_eq l.xid y && not (is_within (w +ℤ l.amount))) (plus_none v)
     ] refl
 
@@ -407,10 +397,10 @@ sums_added accounts i a x d dist h e for =
 -- where no other branch has touched the key
 for_hold : (x : XidName) (o : Option Hold) → hold_is_other o x ≡ false → IsFor x o
 for_hold x None h = tt
-for_hold x (Some l) h = (Decides-xid_eq l.xid x).0 (not_not (xid_eq l.xid x) h)
+for_hold x (Some l) h = (Decides-xid_eq l.xid x).0 (not-false (xid_eq l.xid x) h)
 
 passes_none : (p : Account → Bool) (accounts : List Account) (i : ℕ) (a : Account) → i < length accounts → a ≡ get_or accounts i a → list_any p accounts ≡ false → p a ≡ false
-passes_none p accounts i a h e none = apart_from (p a) (λ t. let some = list_any_at p accounts i a h (ap p (sym e) ∙ t) in cc)
+passes_none p accounts i a h e none = false_from_ne_true (p a) (λ t. let some = list_any_at p accounts i a h (ap p (sym e) ∙ t) in cc)
 
 -- the account of a key that no other branch has touched
 pub for_place : (accounts : List Account) (i : ℕ) (a : Account) (x : XidName) (k : List ℕ) → AreDistinct accounts → i < length accounts → a ≡ get_or accounts i a → a.key ≡ k
@@ -426,10 +416,10 @@ any_set p (c ∷ rest) zero a b h e is = ap (λ t. t || list_any p rest) (is ∙
 any_set p (c ∷ rest) (suc i) a b h e is = ap (λ t. p c || t) (any_set p rest i a b (omega arith) e is)
 
 added_breaks : (x y : XidName) (v d : ℤ) (o : Option Hold) → y ≢ x → IsFor x o → hold_breaks v (Some (record { xid = x; amount = d })) y ≡ hold_breaks v o y
-added_breaks x y v d None apart h = ap (λ b. b && not (is_within (v +ℤ d))) (apart_from (xid_eq x y) (λ t. apart (sym ((Decides-xid_eq x y).0 t))))
+added_breaks x y v d None apart h = ap (λ b. b && not (is_within (v +ℤ d))) (false_from_ne_true (xid_eq x y) (λ t. apart (sym ((Decides-xid_eq x y).0 t))))
 added_breaks x y v d (Some l) apart h =
-    ap (λ b. b && not (is_within (v +ℤ d))) (apart_from (xid_eq x y) (λ t. apart (sym ((Decides-xid_eq x y).0 t))))
-    ∙ sym (ap (λ b. b && not (is_within (v +ℤ l.amount))) (apart_from (xid_eq l.xid y) (λ t. apart (sym ((Decides-xid_eq l.xid y).0 t) ∙ h))))
+    ap (λ b. b && not (is_within (v +ℤ d))) (false_from_ne_true (xid_eq x y) (λ t. apart (sym ((Decides-xid_eq x y).0 t))))
+    ∙ sym (ap (λ b. b && not (is_within (v +ℤ l.amount))) (false_from_ne_true (xid_eq l.xid y) (λ t. apart (sym ((Decides-xid_eq l.xid y).0 t) ∙ h))))
 
 -- the keys stay
 pub distinct_added : (accounts : List Account) (i : ℕ) (a : Account) (x : XidName) (d : ℤ) → AreDistinct accounts → i < length accounts → a ≡ get_or accounts i a → AreDistinct (set accounts i (added_to a x d))
@@ -444,19 +434,8 @@ others_added accounts i a x d dist h e for y apart =
 
 -- ---- the bounds
 
-truth : (b : Bool) → b ≡ true → T b
-truth b e = subst T (sym e) tt
-
-first_true : (a b : Bool) → (a && b) ≡ true → a ≡ true
-first_true true b e = refl
-first_true false b e = cc
-
-second_true : (a b : Bool) → (a && b) ≡ true → b ≡ true
-second_true true b e = e
-second_true false b e = cc
-
 within_bounds : (v : ℤ) → is_within v ≡ true → (pos 0 ≤ℤ v) × (v ≤ℤ pos 1000000000000)
-within_bounds v e = (le_z_yes (truth _ (first_true _ _ e)), le_z_yes (truth _ (second_true _ _ e)))
+within_bounds v e = (le_z_yes (T_from_true _ (and_parts _ _ e).0), le_z_yes (T_from_true _ (and_parts _ _ e).1))
 
 small_without : (n : ℕ) (x : XidName) (o : Option Hold) → IsSmall n o → IsSmall n (hold_without o x)
 small_without n x None s = tt
@@ -469,7 +448,7 @@ settled_value : (x : XidName) (v : ℤ) (o : Option Hold) → hold_breaks v o x 
 settled_value x v None e g = subst (λ (w : ℤ). (pos 0 ≤ℤ w) × (w ≤ℤ pos 1000000000000)) (sym (plus_none v)) g
 settled_value x v (Some l) e g =
     elim (xid_eq l.xid x) as (λ b. (b && not (is_within (v +ℤ l.amount))) ≡ false → (pos 0 ≤ℤ (v +ℤ (if b then l.amount else pos 0))) × ((v +ℤ (if b then l.amount else pos 0)) ≤ℤ pos 1000000000000)) [
-      | true ↦ λ h. within_bounds _ (not_not _ h)
+      | true ↦ λ h. within_bounds _ (not-false _ h)
       | false ↦ λ h. subst (λ (w : ℤ). (pos 0 ≤ℤ w) × (w ≤ℤ pos 1000000000000)) (sym (plus_none v)) g
     ] e
 
@@ -491,7 +470,7 @@ all_forgotten n x accounts g = All-map (IsGood n) (forgotten_by x) accounts (λ 
 pub all_settled : (n : ℕ) (x : XidName) (accounts : List Account) → All (IsGood n) accounts → list_any (λ a. is_broken_by a x) accounts ≡ false → All (IsGood n) (map (settled_by x) accounts)
 all_settled n x accounts g e =
     All-map (IsGood n) (settled_by x) accounts (λ k d h.
-    good_settled n x (get_or accounts k d) (g k d h) (apart_from _ (λ t. let some = list_any_at (λ a. is_broken_by a x) accounts k d h t in cc)))
+    good_settled n x (get_or accounts k d) (g k d h) (false_from_ne_true _ (λ t. let some = list_any_at (λ a. is_broken_by a x) accounts k d h t in cc)))
 
 pub all_added : (n i : ℕ) (a : Account) (x : XidName) (d : ℤ) (accounts : List Account) → IsDelta d → i < length accounts → a ≡ get_or accounts i a → All (IsGood n) accounts → All (IsGood (n + 1)) (set accounts i (added_to a x d))
 all_added n i a x d accounts delta h e g k b j =

@@ -1,5 +1,5 @@
 -- The finite map that the entries of a hash map make.
-use Rattle.std.specs.Prelude.{◌≡◌, Bool, cond, List, [], ◌∷◌, Option, None, Some, refl}
+use Rattle.std.specs.Prelude.{◌≡◌, Bool, cond, List, [], ◌∷◌, Option, None, Some, Result, Ok, Err, IsOk, OnOk, refl}
 use Rattle.std.proofs.Common.{sym, ◌∙◌}
 use Rattle.std.specs.Ordering.{eq_by_cmp}
 use Rattle.std.specs.declared.cmp.Ordering.{Ordering}
@@ -8,6 +8,11 @@ use Rattle.std.specs.FinMap as map
 use Rattle.std.specs.FinMap.{IsAntisymmetric, find, from_entries, get-from_entries}
 use Rattle.std.specs.Map.{lookup}
 use Rattle.xa_tables.proofs.MapLemmas.{put_one, remove_one}
+
+-- what holds where there is a value, where there is one
+pub at_ok : {T E : Type 0} (r : Result T E) (P : Type 0) → IsOk r → OnOk r P → P
+at_ok (Ok x) P h p = p
+at_ok (Err e) P h p = cc
 
 module _ {K X : Type 0} {R : K → K → Ordering} (eq : K → K → Bool) (o : IsTotalOrder R) (same : IsAntisymmetric R) (by_cmp : (x y : K) → eq x y ≡ eq_by_cmp R x y) where
   find-lookup : (es : List (K × X)) (q : K) → find R q es ≡ lookup (eq q) es

@@ -1,9 +1,10 @@
 -- Where the keys stand among the accounts, and what was declared.
-use Rattle.std.specs.Prelude.{◌≡◌, ℕ, pos, zero, suc, ◌+◌, ◌<◌, ◌≤◌, All, Bool, true, false, cond, not, ◌&&◌, ◌||◌, if◌then◌else◌, nat_le, List, [], ◌∷◌, ◌++◌, length, map, Option, None, Some, IsSome, is_some, refl}
+use Rattle.std.specs.Prelude.{◌≡◌, ℕ, pos, zero, suc, ◌+◌, ◌<◌, ◌≤◌, All, Bool, true, false, cond, ◌&&◌, ◌||◌, if◌then◌else◌, nat_le, List, [], ◌∷◌, ◌++◌, length, map, Option, None, Some, IsSome, is_some, refl}
 use Rattle.std.proofs.Common.{sym, ap, ◌∙◌, arith, get_or, take, length-take-le}
 use Rattle.std.proofs.Math.ListN.{set}
 use Rattle.std.proofs.lemmas.Int.{ints}
-use Rattle.std.proofs.lemmas.Bool.{leb-true}
+use Rattle.std.proofs.Math.Bool.{or-false}
+use Rattle.std.proofs.lemmas.Bool.{leb-true, false_from_ne_true, true_from_ne_false, not-true, and_parts}
 use Rattle.std.proofs.lemmas.List.{take_more, map-append, length-map, get_or_default}
 use Rattle.std.proofs.lemmas.List.Folds.{list_all_at}
 use Rattle.std.proofs.lemmas.List.Elements.{All-map}
@@ -16,7 +17,7 @@ use Rattle.xa_words.specs.Key.{key_eq}
 use Rattle.xa_words.specs.Orders.{key_cmp, key_cmp_total, Decides-key_eq, key_eq-by_cmp}
 use Rattle.xa_tables.specs.declared.accounts.Account.{Account}
 use Rattle.xa_tables.specs.Accounts.{AreDistinct, AreIndexed, IsGood, value_entries, hold_entries, place_in, later_place, hold_is_other, is_held_by_other, account_of, are_apart, are_accounts, declared_values}
-use Rattle.xa_tables.proofs.AccountLemmas.{same_key, key_self, key_apart, Lacks, apart_from, is_other}
+use Rattle.xa_tables.proofs.AccountLemmas.{same_key, key_self, key_apart, Lacks, is_other}
 
 swapped : (k l : List ℕ) → key_eq l k ≡ same_key k l
 swapped k l = key_eq-by_cmp l k ∙ (eq_by_cmp_equiv key_cmp_total).symm l k
@@ -130,10 +131,6 @@ other_none k x (a ∷ rest) e =
           ap (λ b. (b && hold_is_other a.hold x) || list_any (λ b. is_other b x k) rest) here ∙ other_none k x rest p
     ] refl e
 
-or_false : (b : Bool) → (b || false) ≡ b
-or_false true = refl
-or_false false = refl
-
 -- who holds a key is told by the account at its place
 pub other_at : (k : List ℕ) (x : XidName) (accounts : List Account) (i : ℕ) (a : Account) → AreDistinct accounts → place_in k accounts ≡ Some i → a ≡ get_or accounts i a → list_any (λ b. is_other b x k) accounts ≡ is_held_by_other a x
 other_at k x [] i a dist e h = let never : ⊥ = cc in absurd never
@@ -141,14 +138,14 @@ other_at k x (c ∷ rest) zero a dist e h =
     let same : c.key ≡ k = ap (λ (w : Account). w.key) (sym h) ∙ place_key k (c ∷ rest) zero a e h in
     let here : key_eq c.key k ≡ true = (Decides-key_eq c.key k).1 same in
     let none : Lacks k rest = ap (λ z. find key_cmp z (value_entries rest)) (sym same) ∙ dist.0 in
-    (λ i. (here i && hold_is_other (sym h i).hold x) || other_none k x rest (lacks_place k rest none) i) ∙ or_false _
+    (λ i. (here i && hold_is_other (sym h i).hold x) || other_none k x rest (lacks_place k rest none) i) ∙ or-false _
 other_at k x (c ∷ rest) (suc i) a dist e h =
     elim (place_in k rest) as (λ o. place_in k rest ≡ o → later_place o (key_eq c.key k) ≡ Some (suc i) → ((key_eq c.key k && hold_is_other c.hold x) || list_any (λ b. is_other b x k) rest) ≡ is_held_by_other a x) [
       | Some j ↦ λ p f.
           let is : suc j ≡ suc i = cc in
           let same : j ≡ i = omega arith in
           let there : is_some (find key_cmp k (value_entries rest)) ≡ true = sym (place_some k rest) ∙ ap is_some p in
-          let other : key_eq c.key k ≡ false = apart_from _ (λ t. let s : c.key ≡ k = (Decides-key_eq c.key k).0 t in let z : is_some (find key_cmp k (value_entries rest)) ≡ false = ap (λ w. is_some (find key_cmp w (value_entries rest))) (sym s) ∙ ap is_some dist.0 in cc) in
+          let other : key_eq c.key k ≡ false = false_from_ne_true _ (λ t. let s : c.key ≡ k = (Decides-key_eq c.key k).0 t in let z : is_some (find key_cmp k (value_entries rest)) ≡ false = ap (λ w. is_some (find key_cmp w (value_entries rest))) (sym s) ∙ ap is_some dist.0 in cc) in
           ap (λ b. (b && hold_is_other c.hold x) || list_any (λ b. is_other b x k) rest) other ∙ other_at k x rest i a dist.1 (p ∙ ap (λ n. Some n) same) h
       | None ↦ λ p f. let is = (one_here (key_eq c.key k) (suc i) f).1 in absurd (omega arith)
     ] refl e
@@ -168,22 +165,6 @@ pub holds_declared : (ds : List (List ℕ × ℕ)) → hold_entries (map account
 holds_declared [] = refl
 holds_declared (d ∷ ds) = holds_declared ds
 
-first_true : (a b : Bool) → (a && b) ≡ true → a ≡ true
-first_true true b e = refl
-first_true false b e = cc
-
-second_true : (a b : Bool) → (a && b) ≡ true → b ≡ true
-second_true true b e = e
-second_true false b e = cc
-
-is_true : (b : Bool) → (b ≡ false → ⊥) → b ≡ true
-is_true true h = refl
-is_true false h = absurd (h refl)
-
-not_true : (b : Bool) → not b ≡ true → b ≡ false
-not_true true e = cc
-not_true false e = refl
-
 lacks_declared : (k : List ℕ) (ds : List (List ℕ × ℕ)) → list_any (λ e. key_eq e.0 k) ds ≡ false → Lacks k (map account_of ds)
 lacks_declared k [] h = refl
 lacks_declared k (d ∷ ds) h =
@@ -194,19 +175,19 @@ lacks_declared k (d ∷ ds) h =
 
 distinct_apart : (ds : List (List ℕ × ℕ)) → are_apart ds ≡ true → AreDistinct (map account_of ds)
 distinct_apart [] h = tt
-distinct_apart (d ∷ ds) h = (lacks_declared d.0 ds (not_true _ (first_true _ _ h)), distinct_apart ds (second_true _ _ h))
+distinct_apart (d ∷ ds) h = (lacks_declared d.0 ds (not-true _ (and_parts _ _ h).0), distinct_apart ds (and_parts _ _ h).1)
 
 -- what may be declared has keys of its own
 pub distinct_declared : (ds : List (List ℕ × ℕ)) → are_accounts ds ≡ true → AreDistinct (map account_of ds)
-distinct_declared ds h = distinct_apart ds (second_true _ _ (second_true _ _ h))
+distinct_declared ds h = distinct_apart ds (and_parts _ _ (and_parts _ _ h).1).1
 
 limit_from : (ds : List (List ℕ × ℕ)) (i : ℕ) (d : List ℕ × ℕ) → list_all (λ e. nat_le e.1 1000000000000) ds ≡ true → i < length ds → d.1 ≡ (get_or ds i d).1 → d.1 ≤ 1000000000000
 limit_from ds i d each within is =
-    leb-true d.1 1000000000000 (is_true (nat_le d.1 1000000000000) (λ f. let broken = list_all_at (λ (e : List ℕ × ℕ). nat_le e.1 1000000000000) ds i d within (ap (λ v. nat_le v 1000000000000) (sym is) ∙ f) in cc))
+    leb-true d.1 1000000000000 (true_from_ne_false (nat_le d.1 1000000000000) (λ f. let broken = list_all_at (λ (e : List ℕ × ℕ). nat_le e.1 1000000000000) ds i d within (ap (λ v. nat_le v 1000000000000) (sym is) ∙ f) in cc))
 
 -- each declared value is within the limit
 pub limit_declared : (ds : List (List ℕ × ℕ)) (i : ℕ) (d : List ℕ × ℕ) → are_accounts ds ≡ true → i < length ds → d.1 ≡ (get_or ds i d).1 → d.1 ≤ 1000000000000
-limit_declared ds i d h within is = limit_from ds i d (first_true _ _ (second_true _ _ h)) within is
+limit_declared ds i d h within is = limit_from ds i d (and_parts _ _ (and_parts _ _ h).1).0 within is
 
 -- and values within the limits
 pub good_declared : (ds : List (List ℕ × ℕ)) → are_accounts ds ≡ true → All (IsGood 0) (map account_of ds)

@@ -38,35 +38,87 @@ by_xid x y P one two =
       | false ↦ λ t. two (λ e. let same = xid_tied x y e in cc)
     ] refl
 
--- a branch is put into a state other than S3
+-- the state of another branch stays where one is put into a state or is gone
+pub others_put : (states : States) (x : XidName) (s : State) (y : XidName) → y ≢ x → map.get (map.insert states x s) y ≡ map.get states y
+others_put states x s y apart =
+    get-insert xid_cmp_total states x s y
+    ∙ by_xid y x (λ b. cond b (Some s) (map.get states y) ≡ map.get states y) (λ e. absurd (apart e)) (λ _. refl)
+
+pub others_removed : (states : States) (x y : XidName) → y ≢ x → map.get (map.remove states x) y ≡ map.get states y
+others_removed states x y apart =
+    get-remove xid_cmp_total states x y
+    ∙ by_xid y x (λ b. cond b None (map.get states y) ≡ map.get states y) (λ e. absurd (apart e)) (λ _. refl)
+
+-- what is so of the branch of each association: what f reads of its state is v
+module _ {A : Type 0} (f : Option State → A) (v : A) where
+  abbrev pub AreHeld : Associations → States → Type 0
+  AreHeld associations states = (t : ℕ) (l : Association) → map.get associations t ≡ Some l → f (map.get states l.xid) ≡ v
+
+  -- a branch is put into a state of which it is so
+  pub held_put : (associations : Associations) (states states' : States) (x : XidName) (s : State) → states' ≡ map.insert states x s → f (Some s) ≡ v → AreHeld associations states → AreHeld associations states'
+  held_put associations states states' x s e fits held t l found =
+      ap (λ m. f (map.get m l.xid)) e ∙ ap f (get-insert xid_cmp_total states x s l.xid)
+      ∙ by_xid l.xid x (λ b. f (cond b (Some s) (map.get states l.xid)) ≡ v) (λ _. fits) (λ _. held t l found)
+
+  -- a thread becomes associated with a branch of which it is so
+  pub held_associated : (associations associations' : Associations) (states : States) (t : ℕ) (l : Association) → associations' ≡ map.insert associations t l → f (map.get states l.xid) ≡ v → AreHeld associations states → AreHeld associations' states
+  held_associated associations associations' states t l e fits held u k found =
+      let is : cond (eq_by_cmp nat_cmp u t) (Some l) (map.get associations u) ≡ Some k = sym (get-insert nat_cmp_total associations t l u) ∙ ap (λ m. map.get m u) (sym e) ∙ found in
+      elim (eq_by_cmp nat_cmp u t) as (λ b. cond b (Some l) (map.get associations u) ≡ Some k → f (map.get states k.xid) ≡ v) [
+        | true ↦ λ is. let same : l ≡ k = cc in subst (λ (j : Association). f (map.get states j.xid) ≡ v) same fits
+        | false ↦ λ is. held u k is
+      ] is
+
+  -- a thread loses its association
+  pub held_dissociated : (associations associations' : Associations) (states : States) (t : ℕ) → associations' ≡ map.remove associations t → AreHeld associations states → AreHeld associations' states
+  held_dissociated associations associations' states t e held u k found =
+      let is : cond (eq_by_cmp nat_cmp u t) None (map.get associations u) ≡ Some k = sym (get-remove nat_cmp_total associations t u) ∙ ap (λ m. map.get m u) (sym e) ∙ found in
+      elim (eq_by_cmp nat_cmp u t) as (λ b. cond b None (map.get associations u) ≡ Some k → f (map.get states k.xid) ≡ v) [
+        | true ↦ λ is. cc
+        | false ↦ λ is. held u k is
+      ] is
+
+  -- a branch that nobody is associated with changes
+  pub held_apart : (associations : Associations) (states states' : States) (x : XidName) → ((y : XidName) → y ≢ x → map.get states' y ≡ map.get states y) → is_somebody_associated associations x ≡ false → AreHeld associations states → AreHeld associations states'
+  held_apart associations states states' x others nobody held t l found =
+      let other : xid_eq l.xid x ≡ false = none_passes nat_cmp_total nat_cmp-IsAntisymmetric (λ t l. xid_eq l.xid x) associations t l nobody found in
+      ap f (others l.xid (λ same. let tied = (Decides-xid_eq l.xid x).1 same in cc)) ∙ held t l found
+
+  -- x is in the state that it was put into
+  pub held_now : (states states' : States) (x : XidName) (s : State) → states' ≡ map.insert states x s → f (Some s) ≡ v → f (map.get states' x) ≡ v
+  held_now states states' x s e fits =
+      ap (λ m. f (map.get m x)) e ∙ ap f (get-insert xid_cmp_total states x s x)
+      ∙ by_xid x x (λ b. f (cond b (Some s) (map.get states x)) ≡ v) (λ _. fits) (λ apart. absurd (apart refl))
+
+  -- it is so of the branch of an association
+  pub associated_held : (associations : Associations) (states : States) (t : ℕ) (l : Association) (x : XidName) → AreHeld associations states → Some l ≡ map.get associations t → true ≡ xid_eq l.xid x → f (map.get states x) ≡ v
+  associated_held associations states t l x held found same =
+      subst (λ (y : XidName). f (map.get states y) ≡ v) ((Decides-xid_eq l.xid x).0 (sym same)) (held t l (sym found))
+
+-- the same of being in another state than S3
 pub live_put : (associations : Associations) (states states' : States) (x : XidName) (s : State) → states' ≡ map.insert states x s → is_prepared (Some s) ≡ false → AreAssociationsLive associations states → AreAssociationsLive associations states'
-live_put associations states states' x s e not_prepared live t l found =
-    ap (λ m. is_prepared (map.get m l.xid)) e ∙ ap is_prepared (get-insert xid_cmp_total states x s l.xid)
-    ∙ by_xid l.xid x (λ b. is_prepared (cond b (Some s) (map.get states l.xid)) ≡ false) (λ _. not_prepared) (λ _. live t l found)
+live_put = held_put is_prepared false
+
+pub live_associated : (associations associations' : Associations) (states : States) (t : ℕ) (l : Association) → associations' ≡ map.insert associations t l → is_prepared (map.get states l.xid) ≡ false → AreAssociationsLive associations states → AreAssociationsLive associations' states
+live_associated = held_associated is_prepared false
+
+pub live_dissociated : (associations associations' : Associations) (states : States) (t : ℕ) → associations' ≡ map.remove associations t → AreAssociationsLive associations states → AreAssociationsLive associations' states
+live_dissociated = held_dissociated is_prepared false
+
+pub live_prepared : (associations : Associations) (states states' : States) (x : XidName) → states' ≡ map.insert states x Prepared → is_somebody_associated associations x ≡ false → AreAssociationsLive associations states → AreAssociationsLive associations states'
+live_prepared associations states states' x e = held_apart is_prepared false associations states states' x (λ y apart. ap (λ m. map.get m y) e ∙ others_put states x Prepared y apart)
+
+pub now_at : (states states' : States) (x : XidName) (s : State) → states' ≡ map.insert states x s → is_prepared (Some s) ≡ false → is_prepared (map.get states' x) ≡ false
+now_at = held_now is_prepared false
+
+pub associated_live : (associations : Associations) (states : States) (t : ℕ) (l : Association) (x : XidName) → AreAssociationsLive associations states → Some l ≡ map.get associations t → true ≡ xid_eq l.xid x → is_prepared (map.get states x) ≡ false
+associated_live = associated_held is_prepared false
 
 pub sound_put : (states states' : States) (sums : Sums) (values : Values) (x : XidName) (s : State) → states' ≡ map.insert states x s → is_prepared (Some s) ≡ false
     → ArePreparedSound states sums values → ArePreparedSound states' sums values
 sound_put states states' sums values x s e not_prepared sound y =
     subst (λ (o : Option State). is_prepared o ≡ true → is_broken values sums y ≡ false) (sym (ap (λ m. map.get m y) e ∙ get-insert xid_cmp_total states x s y))
     (by_xid y x (λ b. is_prepared (cond b (Some s) (map.get states y)) ≡ true → is_broken values sums y ≡ false) (λ _ h. cc) (λ _. sound y))
-
--- a thread becomes associated with a branch that isn't in S3
-pub live_associated : (associations associations' : Associations) (states : States) (t : ℕ) (l : Association) → associations' ≡ map.insert associations t l → is_prepared (map.get states l.xid) ≡ false → AreAssociationsLive associations states → AreAssociationsLive associations' states
-live_associated associations associations' states t l e not_prepared live u k found =
-    let is : cond (eq_by_cmp nat_cmp u t) (Some l) (map.get associations u) ≡ Some k = sym (get-insert nat_cmp_total associations t l u) ∙ ap (λ m. map.get m u) (sym e) ∙ found in
-    elim (eq_by_cmp nat_cmp u t) as (λ b. cond b (Some l) (map.get associations u) ≡ Some k → is_prepared (map.get states k.xid) ≡ false) [
-      | true ↦ λ is. let same : l ≡ k = cc in subst (λ (j : Association). is_prepared (map.get states j.xid) ≡ false) same not_prepared
-      | false ↦ λ is. live u k is
-    ] is
-
--- a thread loses its association
-pub live_dissociated : (associations associations' : Associations) (states : States) (t : ℕ) → associations' ≡ map.remove associations t → AreAssociationsLive associations states → AreAssociationsLive associations' states
-live_dissociated associations associations' states t e live u k found =
-    let is : cond (eq_by_cmp nat_cmp u t) None (map.get associations u) ≡ Some k = sym (get-remove nat_cmp_total associations t u) ∙ ap (λ m. map.get m u) (sym e) ∙ found in
-    elim (eq_by_cmp nat_cmp u t) as (λ b. cond b None (map.get associations u) ≡ Some k → is_prepared (map.get states k.xid) ≡ false) [
-      | true ↦ λ is. cc
-      | false ↦ λ is. live u k is
-    ] is
 
 -- a branch is gone
 pub live_removed : (associations : Associations) (states states' : States) (x : XidName) → states' ≡ map.remove states x → AreAssociationsLive associations states → AreAssociationsLive associations states'
@@ -93,21 +145,3 @@ pub sound_prepared : (states states' : States) (sums : Sums) (values : Values) (
 sound_prepared states states' sums values x e whole sound y =
     subst (λ (o : Option State). is_prepared o ≡ true → is_broken values sums y ≡ false) (sym (ap (λ m. map.get m y) e ∙ get-insert xid_cmp_total states x Prepared y))
     (by_xid y x (λ b. is_prepared (cond b (Some Prepared) (map.get states y)) ≡ true → is_broken values sums y ≡ false) (λ same h. ap (λ w. is_broken values sums w) same ∙ whole) (λ _. sound y))
-
--- a branch that nobody is associated with is put into S3
-pub live_prepared : (associations : Associations) (states states' : States) (x : XidName) → states' ≡ map.insert states x Prepared → is_somebody_associated associations x ≡ false → AreAssociationsLive associations states → AreAssociationsLive associations states'
-live_prepared associations states states' x e nobody live t l found =
-    let other : xid_eq l.xid x ≡ false = none_passes nat_cmp_total nat_cmp-IsAntisymmetric (λ t l. xid_eq l.xid x) associations t l nobody found in
-    ap (λ m. is_prepared (map.get m l.xid)) e ∙ ap is_prepared (get-insert xid_cmp_total states x Prepared l.xid)
-    ∙ by_xid l.xid x (λ b. is_prepared (cond b (Some Prepared) (map.get states l.xid)) ≡ false) (λ same. let tied = (Decides-xid_eq l.xid x).1 same in cc) (λ _. live t l found)
-
--- x is in the state that it was put into
-pub now_at : (states states' : States) (x : XidName) (s : State) → states' ≡ map.insert states x s → is_prepared (Some s) ≡ false → is_prepared (map.get states' x) ≡ false
-now_at states states' x s e not_prepared =
-    ap (λ m. is_prepared (map.get m x)) e ∙ ap is_prepared (get-insert xid_cmp_total states x s x)
-    ∙ by_xid x x (λ b. is_prepared (cond b (Some s) (map.get states x)) ≡ false) (λ _. not_prepared) (λ apart. absurd (apart refl))
-
--- the branch of an association isn't in S3
-pub associated_live : (associations : Associations) (states : States) (t : ℕ) (l : Association) (x : XidName) → AreAssociationsLive associations states → Some l ≡ map.get associations t → true ≡ xid_eq l.xid x → is_prepared (map.get states x) ≡ false
-associated_live associations states t l x live found same =
-    subst (λ (y : XidName). is_prepared (map.get states y) ≡ false) ((Decides-xid_eq l.xid x).0 (sym same)) (live t l (sym found))

@@ -3,7 +3,8 @@ use Rattle.std.specs.Prelude.{◌≡◌, ◌≢◌, ℕ, ℤ, pos, ◌+ℤ◌, o
 use Rattle.std.proofs.Common.{sym, ap, ◌∙◌, subst, arith}
 use Rattle.std.specs.FinMap as map
 use Rattle.std.specs.FinMap.{get-empty, get-insert, get-retain_keys, FinMap}
-use Rattle.std.proofs.lemmas.Bool.Decides.{same_from_decides}
+use Rattle.std.proofs.Math.Bool.{or-true}
+use Rattle.std.proofs.lemmas.Bool.{false_from_ne_true, not-false}
 use Rattle.xa_words.specs.Xid.{XidName, xid_eq}
 use Rattle.xa_words.specs.Orders.{Decides-xid_eq, key_cmp_total, key_cmp-IsAntisymmetric, Decides-key_eq}
 use Rattle.xa_words.specs.declared.code.Code.{Code}
@@ -20,13 +21,13 @@ use Rattle.xa_tables.specs.Tables.{Tables, has_opened, association_of, state_of,
 use Rattle.xa_tables.specs.Next.{Answer, next, next_open, next_opened, if_opened, open_rm, start, join_unless, add, add_by, add_unless, end, end_unless, ended, prepare, commit_two, commit_one, rollback, rollback_unless, is_prepared, is_idle, is_suspend, is_suspended, is_associated_with, reason_of, gone, stated, associated, dissociated, committed}
 use Rattle.xa_tables.specs.History.{History, coded, accepted, Fate, InDoubt, Live, Committed, ReadOnly, RolledBack, fate_of, if_named, is_rolled_back, is_done, tables_after, added_by, added_in, share_of, share, commits, ending, or_later, ValueIsSum, IsOpening}
 use Rattle.xa_tables.proofs.ShutLemmas.{after_accepted}
-use Rattle.xa_tables.proofs.Law.{by_if, Sound, reason_rolls_back, sound_after, opening_sound}
+use Rattle.xa_tables.proofs.Law.{by_if, swap_xid, Sound, reason_rolls_back, sound_after, opening_sound}
 use Rattle.std.proofs.lemmas.Int.{ints}
 use Rattle.std.specs.FinSet as finset
 use Rattle.xa_words.specs.declared.request.StartHow.{StartHow}
 use Rattle.xa_words.specs.Key.{key_eq}
 use Rattle.xa_tables.proofs.MapLemmas.{get-map_values, none_passes}
-use Rattle.xa_tables.proofs.AccountLemmas.{touch_cmp_total, touch_cmp-IsAntisymmetric, touch_from, touch_self, apart_from}
+use Rattle.xa_tables.proofs.AccountLemmas.{touch_cmp_total, touch_cmp-IsAntisymmetric, touch_from, touch_self}
 
 -- the branch that has touched the key, and its sum
 abbrev Held : Type 0
@@ -87,10 +88,6 @@ left_by : Held → XidName → Held
 left_by None y = None
 left_by (Some p) y = if xid_eq p.0 y then None else Some p
 
-not_not1 : (b : Bool) → not b ≡ false → b ≡ true
-not_not1 true e = refl
-not_not1 false e = cc
-
 amount_of_held : Held → XidName → ℤ
 amount_of_held None y = pos 0
 amount_of_held (Some p) y = if xid_eq p.0 y then p.1 else pos 0
@@ -114,24 +111,17 @@ due_left k y (Some p) sums h =
 ended_named : (x y : XidName) (g : Fate) (b : Bool) → ending (Some g) ≡ Some b → ending (if_named x y (Some g)) ≡ (if xid_eq y x then Some b else None)
 ended_named x y g b e = elim (xid_eq y x) as (λ c. ending (if c then Some g else None) ≡ (if c then Some b else None)) [ true ↦ e | false ↦ refl ]
 
-swap1 : (x y : XidName) → xid_eq x y ≡ xid_eq y x
-swap1 x y = same_from_decides _ _ (Decides-xid_eq x y) ((λ t. sym ((Decides-xid_eq y x).0 t)), (λ e. (Decides-xid_eq y x).1 (sym e)))
-
 -- what is due before an entry that ends y: y's sum if it commits, and else nothing
 due_ended : (y : XidName) (b : Bool) (p : Held) (op : Op) (c : Code) (later : XidName → Bool) → ((x : XidName) → ending (fate_of x op c) ≡ (if xid_eq y x then Some b else None))
     → due p (before op c later) ≡ (if b then amount_of_held p y else pos 0) +ℤ due (left_by p y) later
 unfolding left_by amount_of_held
 due_ended y b None op c later h = elim b as (λ d. pos 0 ≡ (if d then pos 0 else pos 0) +ℤ pos 0) [ true ↦ refl | false ↦ refl ]
 due_ended y b (Some p) op c later h =
-    ap (λ o. if or_later o (later p.0) then p.1 else pos 0) (h p.0 ∙ ap (λ e. if e then Some b else None) (swap1 y p.0))
+    ap (λ o. if or_later o (later p.0) then p.1 else pos 0) (h p.0 ∙ ap (λ e. if e then Some b else None) (swap_xid y p.0))
     ∙ elim (xid_eq p.0 y) as (λ e. (if or_later (if e then Some b else None) (later p.0) then p.1 else pos 0) ≡ (if b then (if e then p.1 else pos 0) else pos 0) +ℤ due (if e then None else Some p) later) [
       | true ↦ elim b as (λ d. (if d then p.1 else pos 0) ≡ (if d then p.1 else pos 0) +ℤ pos 0) [ true ↦ omega (arith, ints) | false ↦ refl ]
       | false ↦ elim b as (λ d. (if later p.0 then p.1 else pos 0) ≡ (if d then pos 0 else pos 0) +ℤ (if later p.0 then p.1 else pos 0)) [ true ↦ omega (arith, ints) | false ↦ omega (arith, ints) ]
     ]
-
-or_true : (b : Bool) → (b || true) ≡ true
-or_true true = refl
-or_true false = refl
 
 no_share : (b : Bool) (z : ℤ) → (if b && false then z else pos 0) ≡ pos 0
 no_share true z = refl
@@ -174,7 +164,7 @@ paid k p op l y T c held ends none =
 get_added : (sums : FinMap touch_cmp ℤ) (y x : XidName) (own k : List ℕ) (s : ℤ) → (x ≡ y → k ≡ own → ⊥) → map.get (map.insert sums (y, own) s) (x, k) ≡ map.get sums (x, k)
 get_added sums y x own k s apart =
     get-insert touch_cmp_total sums (y, own) s (x, k)
-    ∙ ap (λ b. cond b (Some s) (map.get sums (x, k))) (apart_from _ (λ t. let e = touch_from (x, k) (y, own) t in apart (ap (λ (r : Touch). r.0) e) (ap (λ (r : Touch). r.1) e)))
+    ∙ ap (λ b. cond b (Some s) (map.get sums (x, k))) (false_from_ne_true _ (λ t. let e = touch_from (x, k) (y, own) t in apart (ap (λ (r : Touch). r.0) e) (ap (λ (r : Touch). r.1) e)))
 
 pending_other : (k : List ℕ) (p : Held) (y : XidName) (own : List ℕ) (s : ℤ) (sums : FinMap touch_cmp ℤ) → (k ≡ own → ⊥) → IsPending k p sums → IsPending k p (map.insert sums (y, own) s)
 pending_other k None y own s sums apart h = λ x. get_added sums y x own k s (λ _ e. apart e) ∙ h x
@@ -184,7 +174,7 @@ no_other : (sums : FinMap touch_cmp ℤ) (y x : XidName) (k : List ℕ) (s : ℤ
 no_other sums y x k s none found =
     let t : (key_eq k k && not (xid_eq x y)) ≡ false = none_passes touch_cmp_total touch_cmp-IsAntisymmetric (λ (q : Touch) v. key_eq q.1 k && not (xid_eq q.0 y)) sums (x, k) s none found in
     let self : key_eq k k ≡ true = (Decides-key_eq k k).1 refl in
-    (Decides-xid_eq x y).0 (not_not1 (xid_eq x y) (sym (ap (λ b. b && not (xid_eq x y)) self) ∙ t))
+    (Decides-xid_eq x y).0 (not-false (xid_eq x y) (sym (ap (λ b. b && not (xid_eq x y)) self) ∙ t))
 
 pending_own : (k : List ℕ) (y : XidName) (s : ℤ) (sums : FinMap touch_cmp ℤ) → has_other_touched sums y k ≡ false → IsPending k (Some (y, s)) (map.insert sums (y, k) s)
 pending_own k y s sums none = (
@@ -259,7 +249,7 @@ rollback_v k p l y T h =
     by_if P (is_somebody_associated T.associations y) _ _ (λ _. still k p (Rollback y) l T (T, Proto) h refl refl (λ x. quiet_named x y None refl) (λ _. refl)) (λ _.
     elim (reason_of (state_of T y)) as (λ o. reason_of (state_of T y) ≡ o → P (rollback_unless o y T)) [
       | None ↦ λ e. lost k p (Rollback y) l y T Done h (λ x. ended_named x y RolledBack false refl) (λ _. refl)
-      | Some r ↦ λ e. lost k p (Rollback y) l y T r h (λ x. ap (λ b. ending (if_named x y (if is_done r || b then Some RolledBack else None))) (reason_rolls_back (state_of T y) r e) ∙ ap (λ b. ending (if_named x y (if b then Some RolledBack else None))) (or_true (is_done r)) ∙ ended_named x y RolledBack false refl) (λ _. refl)
+      | Some r ↦ λ e. lost k p (Rollback y) l y T r h (λ x. ap (λ b. ending (if_named x y (if is_done r || b then Some RolledBack else None))) (reason_rolls_back (state_of T y) r e) ∙ ap (λ b. ending (if_named x y (if b then Some RolledBack else None))) (or-true (is_done r)) ∙ ended_named x y RolledBack false refl) (λ _. refl)
     ] refl))
 
 not_done : (r : Code) → is_rolled_back r ≡ true → is_done r ≡ false

@@ -13,7 +13,7 @@ use Rattle.xa_words.specs.declared.request.StartHow.{StartHow}
 use Rattle.xa_words.specs.declared.request.StartHow.TheVariants.{Fresh, Join, Resume}
 use Rattle.xa_words.specs.declared.request.Request.{Request}
 use Rattle.xa_tables.specs.declared.state.Association.{Association}
-use Rattle.xa_tables.specs.Tables.{Tables, association_of, state_of}
+use Rattle.xa_tables.specs.Tables.{Tables, association_of, state_of, exists}
 use Rattle.xa_tables.specs.Next.{next, is_prepared, shut_down}
 
 -- requests in the order in which they were taken
@@ -160,6 +160,15 @@ is_in_doubt Committed = false
 is_in_doubt ReadOnly = false
 is_in_doubt RolledBack = false
 
+-- the branch was started, and hasn't ended
+abbrev pub is_unfinished : Fate → Bool
+is_unfinished Absent = false
+is_unfinished Live = true
+is_unfinished InDoubt = true
+is_unfinished Committed = false
+is_unfinished ReadOnly = false
+is_unfinished RolledBack = false
+
 -- ---- the value of a key
 
 -- a request that ends its branch: whether it is the committing one
@@ -229,6 +238,10 @@ pub record IsOpening (T : Tables) : Type 0 where
 -- a branch is in S3 exactly if its fate is InDoubt
 abbrev pub PreparedIsInDoubt : XidName → History → Tables → Type 0
 PreparedIsInDoubt x h T = is_prepared (state_of (tables_after h T) x) ≡ is_in_doubt (fate x h T)
+
+-- a branch exists exactly while its fate is Live or InDoubt
+abbrev pub ExistsWhileUnfinished : XidName → History → Tables → Type 0
+ExistsWhileUnfinished x h T = exists (tables_after h T) x ≡ is_unfinished (fate x h T)
 
 -- the tables' value of a key is the value after the history
 abbrev pub ValueIsSum : List ℕ → History → Tables → Type 0

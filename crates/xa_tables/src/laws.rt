@@ -2,12 +2,17 @@
 ghost use Rattle.std.specs.Prelude.{◌≡◌, ℕ, List, []};
 ghost use Rattle.xa_words.specs.Xid.{XidName};
 ghost use Rattle.xa_tables.specs.Tables.{Tables};
-ghost use Rattle.xa_tables.specs.History.{History, IsOpening, PreparedIsInDoubt, ValueIsSum, LateAreRefused, LateChangeNothing, fate_in, Absent, Live, InDoubt, Committed, ReadOnly, RolledBack};
+ghost use Rattle.xa_tables.specs.History.{History, IsOpening, PreparedIsInDoubt, ExistsWhileUnfinished, ValueIsSum, LateAreRefused, LateChangeNothing, fate_in, Absent, Live, InDoubt, Committed, ReadOnly, RolledBack};
 ghost use Rattle.xa_tables.specs.Worked.{branch, worked, voted, transferred, undone, overdrawn, unchanged, failed, begun_again};
 
 /// Whatever is requested, a branch is prepared exactly if its fate is to be in doubt.
 pub fn prepared_is_in_doubt()
     ensures { (h : History) (x : XidName) (T : Tables) → IsOpening T → PreparedIsInDoubt x h T }
+{}
+
+/// Whatever is requested, a branch exists exactly while its fate is that it is at work or in doubt.
+pub fn branches_exist_until_they_end()
+    ensures { (h : History) (x : XidName) (T : Tables) → IsOpening T → ExistsWhileUnfinished x h T }
 {}
 
 /// Whatever is requested, the tables' value of a key is its value at the opening and each accepted
