@@ -15,7 +15,7 @@ use Rattle.clap.specs.declared.builder.arg.Arg.{Arg}
 use Rattle.clap.specs.declared.builder.command.Command.{Command}
 use Rattle.clap.specs.declared.builder.command.Command.TheViews.{out-Command}
 use Rattle.clap.proofs.OnLiterals.{clap_on_literals}
-use Rattle.xa_script.proofs.ScriptLemmas.{or_false}
+use Rattle.std.proofs.Math.Bool.{or-false}
 
 -- the program's argument, with this parser
 abbrev pub mode : ValueParser → Rule
@@ -68,7 +68,7 @@ top_is n b h new no_name no_help =
 
 -- a parser by these names accepts what is one of them
 pub accepts_one : (names : Bor (List (Bor (List ℕ)))) (name : Bor (List ℕ)) (v : List ℕ) → names.now ≡ name ∷ [] → accepts false (vp.Names names) v ≡ bytes_eq name.now v
-accepts_one names name v is = ap (list_any (λ (n : Bor (List ℕ)). bytes_eq n.now v)) is ∙ or_false _
+accepts_one names name v is = ap (list_any (λ (n : Bor (List ℕ)). bytes_eq n.now v)) is ∙ or-false _
 
 pub one_word : (words : List (Bor (List ℕ))) (d : Bor (List ℕ)) → length words ≡ 1 → map (λ w. w.now) words ≡ (slice_index_or words 0 d).now ∷ []
 one_word [] d one = absurd (omega arith)

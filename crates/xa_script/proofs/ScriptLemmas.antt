@@ -1,27 +1,34 @@
 -- A line that the grammar reads leaves a script: each manager can be opened with its keys, and each step is of a thread.
-use Rattle.std.specs.Prelude.{◌≡◌, ℕ, ◌<◌, ◌≤◌, Bool, true, false, not, cond, ◌&&◌, ◌||◌, ◌==◌, nat_le, nat_lt, if◌then◌else◌, List, [], ◌∷◌, ◌++◌, length, map, filter, Result, Ok, Err, codes, refl}
+use Rattle.std.specs.Prelude.{◌≡◌, ℕ, ◌<◌, ◌≤◌, Bool, true, false, not, cond, ◌&&◌, ◌||◌, ◌==◌, nat_le, nat_lt, if◌then◌else◌, List, [], ◌∷◌, ◌++◌, length, map, filter, Option, None, Some, unwrap_or, All, Result, Ok, Err, refl}
 use Rattle.std.proofs.Common.{sym, ap, ◌∙◌, subst, arith}
-use Rattle.std.specs.List.{list_all, list_any}
+use Rattle.std.specs.List.{list_all, list_any, slice_index_or}
 use Rattle.std.specs.Option.{ok_or}
-use Rattle.std.specs.Str.{bytes_eq}
-use Rattle.std.proofs.lemmas.Bool.{leb-true}
+use Rattle.std.specs.Cmp.Derive.{both_true}
+use Rattle.std.proofs.Math.Bool.{or-false}
+use Rattle.std.proofs.lemmas.Bool.{le-leb, leb-true, eqb-true, and_parts}
 use Rattle.std.proofs.lemmas.List.{map-append, append-nil, length-map, length-append}
-use Rattle.std.proofs.lemmas.List.Elements.{All-append, filter-append, All-cons}
+use Rattle.std.proofs.lemmas.List.Elements.{All-append, filter-append, All-cons, All-nil}
 use Rattle.std.proofs.lemmas.List.Folds.{list_any-append, list_all-append}
 use Rattle.std.proofs.lemmas.List.Sums.{length-filter}
 use Rattle.xa_words.specs.Key.{key_eq}
 use Rattle.xa_words.specs.Orders.{Decides-key_eq}
 use Rattle.xa_tables.specs.Accounts.{are_accounts, are_apart}
 use Rattle.xa_script.specs.declared.fault.Reason.{Reason}
-use Rattle.xa_script.specs.declared.fault.Reason.TheVariants.{UnknownWord, KeyTwice, TooManyKeys, OutOfRange, BadNumber, TooManyLines, LineTooLong, BadByte}
+use Rattle.xa_script.specs.declared.fault.Reason.TheVariants.{KeyTwice, TooManyKeys, OutOfRange, BadNumber, TooManyLines, LineTooLong, BadByte}
 use Rattle.xa_script.specs.declared.script.Declared.{Declared}
 use Rattle.xa_script.specs.declared.script.Step.{Step}
+use Rattle.xa_script.specs.declared.script.Count.{Count}
+use Rattle.xa_script.specs.declared.script.Count.TheVariants.{Threads, Managers, Requests}
+use Rattle.xa_script.specs.declared.line.Head.{Head}
+use Rattle.xa_script.specs.declared.line.Head.TheVariants as head
 use Rattle.xa_script.specs.declared.line.Item.{Item}
 use Rattle.xa_script.specs.declared.line.Item.TheVariants as item
 use Rattle.xa_script.specs.Text.{is_script_byte, words_of}
-use Rattle.xa_script.specs.Fields.{◌>>=◌, Word, word_at, end_of, all_digits, number_of, number_in, number_at, key_at, flags_onto}
-use Rattle.xa_script.specs.Content.{Content, IsScript, IsOfThread, thread_count, manager_count, accounts_of, with_key, with_step}
-use Rattle.xa_script.specs.Grammar.{verb_of, action_at, step_of, has_key, key_count, before_actions, declared_of, is_comment, key_item, step_item, item_of, line_of, with_item}
+use Rattle.xa_script.specs.Fields.{◌>>=◌, Word, word_at, end_of, number_of, number_in, number_at, key_at, flags_onto}
+use Rattle.xa_script.specs.Content.{Content, IsScript, IsOfManager, IsOfThread, threads_of, managers_of, accounts_of, with_count, with_key, with_step}
+use Rattle.xa_script.specs.Settings.{before_actions, count_of, not_set, limit_of, setting_of, has_key, key_count, declared_of}
+use Rattle.xa_script.specs.Actions.{verb_of, action_at, step_of}
+use Rattle.xa_script.specs.Grammar.{head_of, item_by, item_of, line_of, with_item}
 
 -- ---- reading without a fault
 
@@ -40,22 +47,7 @@ if_then : {A : Type 0} (b : Bool) (why : Reason) (r : Result A Reason) (y : A) �
 if_then true why r y e = (refl, e)
 if_then false why r y e = let never : ⊥ = cc in absurd never
 
-first_true : (a b : Bool) → (a && b) ≡ true → a ≡ true
-first_true true b e = refl
-first_true false b e = e
-
-second_true : (a b : Bool) → (a && b) ≡ true → b ≡ true
-second_true true b e = e
-second_true false b e = absurd (let never : ⊥ = cc in never)
-
-both_true : (a b : Bool) → a ≡ true → b ≡ true → (a && b) ≡ true
-both_true a b p q = λ i. p i && q i
-
 -- ---- the keys of a manager
-
-pub or_false : (b : Bool) → (b || false) ≡ b
-or_false true = refl
-or_false false = refl
 
 other_way : (k l : List ℕ) → key_eq k l ≡ false → key_eq l k ≡ false
 other_way k l e =
@@ -72,18 +64,15 @@ are_apart-push [] y apart new = refl
 are_apart-push (d ∷ ds) y apart new =
     let split = no_later d ds y new in
     let none : list_any (λ e. key_eq e.0 d.0) (ds ++ y ∷ []) ≡ list_any (λ e. key_eq e.0 d.0) ds =
-    list_any-append (λ (e : List ℕ × ℕ). key_eq e.0 d.0) ds (y ∷ []) ∙ ap (λ b. list_any (λ e. key_eq e.0 d.0) ds || (b || false)) (other_way d.0 y.0 split.0) ∙ or_false _ in
-    both_true _ _ (ap not none ∙ first_true _ _ apart) (are_apart-push ds y (second_true _ _ apart) split.1)
-
-le_leb : (a b : ℕ) → a ≤ b → nat_le a b ≡ true
-le_leb a b h = grind (arith, h)
+    list_any-append (λ (e : List ℕ × ℕ). key_eq e.0 d.0) ds (y ∷ []) ∙ ap (λ b. list_any (λ e. key_eq e.0 d.0) ds || (b || false)) (other_way d.0 y.0 split.0) ∙ or-false _ in
+    both_true (ap not none ∙ (and_parts _ _ apart).0) (are_apart-push ds y (and_parts _ _ apart).1 split.1)
 
 are_accounts-push : (ds : List (List ℕ × ℕ)) (y : List ℕ × ℕ) → are_accounts ds ≡ true → length ds < 256 → y.1 ≤ 1000000000000 → list_any (λ e. key_eq e.0 y.0) ds ≡ false → are_accounts (ds ++ y ∷ []) ≡ true
 are_accounts-push ds y old few small new =
-    let rest = second_true _ _ old in
-    both_true _ _ (le_leb _ 256 (omega (arith, length-append ds (y ∷ []))))
-    (both_true _ _ (list_all-append (λ (d : List ℕ × ℕ). nat_le d.1 1000000000000) ds (y ∷ []) ∙ both_true _ _ (first_true _ _ rest) (both_true _ _ (le_leb y.1 1000000000000 small) refl))
-    (are_apart-push ds y (second_true _ _ rest) new))
+    let rest : (list_all (λ (d : List ℕ × ℕ). nat_le d.1 1000000000000) ds && are_apart ds) ≡ true = (and_parts _ _ old).1 in
+    both_true (le-leb _ 256 (omega (arith, length-append ds (y ∷ []))))
+    (both_true (list_all-append (λ (d : List ℕ × ℕ). nat_le d.1 1000000000000) ds (y ∷ []) ∙ both_true (and_parts _ _ rest).0 (both_true (le-leb y.1 1000000000000 small) refl))
+    (are_apart-push ds y (and_parts _ _ rest).1 new))
 
 -- a key that no declaration of the manager has isn't among its accounts
 new_account : (m : ℕ) (k : List ℕ) (keys : List Declared) → has_key m k keys ≡ false → list_any (λ e. key_eq e.0 k) (accounts_of m keys) ≡ false
@@ -94,33 +83,86 @@ new_account m k (d ∷ keys) e =
       | false ↦ λ f. new_account m k keys f
     ] e
 
+just : {A : Type 0} (P : A → Type 0) (x : A) → P x → All P (x ∷ [])
+just P x p = All-cons P x [] p (All-nil P)
+
 accounts-push : (m : ℕ) (keys : List Declared) (d : Declared) → accounts_of m (keys ++ d ∷ []) ≡ accounts_of m keys ++ (if d.manager == m then (d.key, d.value) ∷ [] else [])
 accounts-push m keys d =
     ap (map {B = List ℕ × ℕ} (λ (e : Declared). (e.key, e.value))) (filter-append (λ (e : Declared). e.manager == m) keys (d ∷ []))
     ∙ map-append {B = List ℕ × ℕ} (λ (e : Declared). (e.key, e.value)) (filter (λ e. e.manager == m) keys) (filter (λ e. e.manager == m) (d ∷ []))
     ∙ ap (λ l. accounts_of m keys ++ l) (elim (d.manager == m) as (λ b. map {B = List ℕ × ℕ} (λ (e : Declared). (e.key, e.value)) (cond b (d ∷ []) []) ≡ (if b then (d.key, d.value) ∷ [] else [])) [ true ↦ refl | false ↦ refl ])
 
-eq_from : (a b : ℕ) → (a == b) ≡ true → a ≡ b
-eq_from a b t = grind (arith, t)
-
-key_kept : (s : Content) (d : Declared) → has_key d.manager d.key s.keys ≡ false → key_count d.manager s.keys < 256 → d.value ≤ 1000000000000 → IsScript s → IsScript (with_key d s)
-key_kept s d new few small is =
+key_kept : (s : Content) (d : Declared) → IsOfManager s d → has_key d.manager d.key s.keys ≡ false → key_count d.manager s.keys < 256 → d.value ≤ 1000000000000 → IsScript s → IsScript (with_key d s)
+key_kept s d of new few small is =
     record {
+      threads = is.threads;
+      managers = is.managers;
+      requests = is.requests;
+      of_managers = All-append (IsOfManager s) s.keys (d ∷ []) is.of_managers (just (IsOfManager s) d of);
       accounts = λ m. ap are_accounts (accounts-push m s.keys d)
           ∙ elim (d.manager == m) as (λ b. (d.manager == m) ≡ b → are_accounts (accounts_of m s.keys ++ (if b then (d.key, d.value) ∷ [] else [])) ≡ true) [
             | true ↦ λ t.
-                let same : d.manager ≡ m = eq_from d.manager m t in
+                let same : d.manager ≡ m = eqb-true d.manager m t in
                 let size : length (accounts_of m s.keys) ≡ key_count m s.keys = length-map {B = List ℕ × ℕ} (filter (λ e. e.manager == m) s.keys) (λ (e : Declared). (e.key, e.value)) ∙ length-filter (λ (e : Declared). e.manager == m) s.keys in
                 let room : key_count m s.keys < 256 = subst (λ n. key_count n s.keys < 256) same few in
                 are_accounts-push (accounts_of m s.keys) (d.key, d.value) (is.accounts m) (omega arith) small
                 (new_account m d.key s.keys (ap (λ n. has_key n d.key s.keys) (sym same) ∙ new))
             | false ↦ λ t. ap are_accounts (append-nil (accounts_of m s.keys)) ∙ is.accounts m
           ] refl;
-      threads = is.threads;
+      of_threads = is.of_threads;
     }
 
-step_kept : (s : Content) (p : Step) → IsOfThread p → IsScript s → IsScript (with_step p s)
-step_kept s p h is = record { accounts = is.accounts; threads = All-append IsOfThread s.steps (p ∷ []) is.threads (All-cons IsOfThread p [] h (λ k d n. absurd (omega arith))) }
+step_kept : (s : Content) (p : Step) → IsOfThread s p → IsScript s → IsScript (with_step p s)
+step_kept s p of is =
+    record {
+      threads = is.threads;
+      managers = is.managers;
+      requests = is.requests;
+      of_managers = is.of_managers;
+      accounts = is.accounts;
+      of_threads = All-append (IsOfThread s) s.steps (p ∷ []) is.of_threads (just (IsOfThread s) p of);
+    }
+
+-- the first count of managers has the keys that were declared before it, of the one manager that there was
+more_managers : (s : Content) (n : ℕ) → s.settings.managers ≡ None → 1 ≤ n → (d : Declared) → IsOfManager s d → IsOfManager (with_count Managers n s) d
+more_managers s n unset low d of = (of.0, let one : managers_of s ≡ 1 = ap (λ (c : Option ℕ). unwrap_or c 1) unset in let most : d.manager ≤ managers_of s = of.1 in omega arith)
+
+count_kept : (s : Content) (c : Count) (n : ℕ) → s.steps ≡ [] → count_of c s.settings ≡ None → 1 ≤ n → n ≤ limit_of c → IsScript s → IsScript (with_count c n s)
+count_kept s Threads n none unset low high is =
+    record {
+      threads = (low, high);
+      managers = is.managers;
+      requests = is.requests;
+      of_managers = is.of_managers;
+      accounts = is.accounts;
+      of_threads = subst (λ ps. All (IsOfThread (with_count Threads n s)) ps) (sym none) (All-nil (IsOfThread (with_count Threads n s)));
+    }
+count_kept s Managers n none unset low high is =
+    record {
+      threads = is.threads;
+      managers = (low, high);
+      requests = is.requests;
+      of_managers = λ i d l. more_managers s n unset low (slice_index_or s.keys i d) (is.of_managers i d l);
+      accounts = is.accounts;
+      of_threads = is.of_threads;
+    }
+count_kept s Requests n none unset low high is =
+    record {
+      threads = is.threads;
+      managers = is.managers;
+      requests = (low, high);
+      of_managers = is.of_managers;
+      accounts = is.accounts;
+      of_threads = is.of_threads;
+    }
+
+no_steps : (steps : List Step) (u : Unit {0}) → before_actions steps ≡ Ok u → steps ≡ []
+no_steps [] u e = refl
+no_steps (p ∷ steps) u e = let never : ⊥ = cc in absurd never
+
+unset_yet : (c : Option ℕ) (u : Unit {0}) → not_set c ≡ Ok u → c ≡ None
+unset_yet None u e = refl
+unset_yet (Some n) u e = let never : ⊥ = cc in absurd never
 
 -- ---- the grammar
 
@@ -129,21 +171,33 @@ in_range low high w n e =
     let a = and_then (ok_or (number_of w) BadNumber) _ n e in
     let b = if_then (nat_le low a.0 && nat_le a.0 high) OutOfRange (Ok a.0) n a.1.1 in
     let same : a.0 ≡ n = ok_is a.0 n b.1 in
-    subst (λ z. (low ≤ z) × (z ≤ high)) same (leb-true low a.0 (first_true _ _ b.0), leb-true a.0 high (second_true _ _ b.0))
+    subst (λ z. (low ≤ z) × (z ≤ high)) same (leb-true low a.0 (and_parts _ _ b.0).0, leb-true a.0 high (and_parts _ _ b.0).1)
 
-at_most : (low high : ℕ) (ws : List Word) (x : ℕ × List Word) → number_at low high ws ≡ Ok x → x.0 ≤ high
+number_is : (low high : ℕ) (ws : List Word) (x : ℕ × List Word) → number_at low high ws ≡ Ok x → (low ≤ x.0) × (x.0 ≤ high)
 unfolding number_at
-at_most low high ws x e =
+number_is low high ws x e =
     let w = and_then (word_at ws) _ x e in
     let n = and_then (number_in low high w.0.0) _ x w.1.1 in
     let same : n.0 ≡ x.0 = ap (λ (y : Result (ℕ × List Word) Reason). elim y [ Ok z ↦ z.0 | Err why ↦ 0 ]) n.1.1 in
-    subst (λ z. z ≤ high) same (in_range low high w.0.0 n.0 n.1.0).1
+    subst (λ z. (low ≤ z) × (z ≤ high)) same (in_range low high w.0.0 n.0 n.1.0)
+
+setting_kept : (s : Content) (c : Count) (ws : List Word) (n : ℕ) → setting_of s c ws ≡ Ok n → IsScript s → IsScript (with_count c n s)
+unfolding setting_of
+setting_kept s c ws n e =
+    let first = and_then (before_actions s.steps) _ n e in
+    let new = and_then (not_set (count_of c s.settings)) _ n first.1.1 in
+    let number = and_then (number_at 1 (limit_of c) ws) _ n new.1.1 in
+    let last = and_then (end_of number.0.1) _ n number.1.1 in
+    let same : number.0.0 ≡ n = ok_is number.0.0 n last.1.1 in
+    let within = number_is 1 (limit_of c) ws number.0 number.1.0 in
+    subst (λ (z : ℕ). IsScript s → IsScript (with_count c z s)) same
+    (count_kept s c number.0.0 (no_steps s.steps first.0 first.1.0) (unset_yet (count_of c s.settings) new.0 new.1.0) within.0 within.1)
 
 declared_kept : (s : Content) (ws : List Word) (d : Declared) → declared_of s ws ≡ Ok d → IsScript s → IsScript (with_key d s)
 unfolding declared_of
 declared_kept s ws d e =
     let first = and_then (before_actions s.steps) _ d e in
-    let m = and_then (number_at 1 manager_count ws) _ d first.1.1 in
+    let m = and_then (number_at 1 (managers_of s) ws) _ d first.1.1 in
     let k = and_then (key_at m.0.1) _ d m.1.1 in
     let v = and_then (number_at 0 1000000000000 k.0.1) _ d k.1.1 in
     let last = and_then (end_of v.0.1) _ d v.1.1 in
@@ -152,12 +206,12 @@ declared_kept s ws d e =
     let few = not_then (nat_le 256 (key_count made.manager s.keys)) TooManyKeys (Ok made) d new.1 in
     let same : made ≡ d = ok_is made d few.1 in
     subst (λ (z : Declared). IsScript s → IsScript (with_key z s)) same
-    (key_kept s made new.0 (grind (arith, few.0)) (at_most 0 1000000000000 k.0.1 v.0 v.1.0))
+    (key_kept s made (number_is 1 (managers_of s) ws m.0 m.1.0) new.0 (grind (arith, few.0)) (number_is 0 1000000000000 k.0.1 v.0 v.1.0).1)
 
-step_of_kept : (s : Content) (line : ℕ) (w : Word) (ws : List Word) (p : Step) → step_of line w ws ≡ Ok p → IsScript s → IsScript (with_step p s)
+step_of_kept : (s : Content) (line : ℕ) (w : Word) (ws : List Word) (p : Step) → step_of s line w ws ≡ Ok p → IsScript s → IsScript (with_step p s)
 unfolding step_of
 step_of_kept s line w ws p e =
-    let t = and_then (number_in 1 thread_count w) _ p e in
+    let t = and_then (number_in 1 (threads_of s) w) _ p e in
     let v = and_then (word_at ws) _ p t.1.1 in
     let verb = and_then (ok_or (verb_of v.0.0) _) _ p v.1.1 in
     let m = and_then (number_at 0 4294967295 v.0.1) _ p verb.1.1 in
@@ -165,26 +219,28 @@ step_of_kept s line w ws p e =
     let f = and_then (flags_onto 0 a.0.1) _ p a.1.1 in
     let made : Step = record { line = line; thread = t.0; manager = m.0.0; action = a.0.0; flags = f.0 } in
     let same : made ≡ p = ok_is made p f.1.1 in
-    subst (λ (z : Step). IsScript s → IsScript (with_step z s)) same (step_kept s made (in_range 1 thread_count w t.0 t.1.0))
+    subst (λ (z : Step). IsScript s → IsScript (with_step z s)) same (step_kept s made (in_range 1 (threads_of s) w t.0 t.1.0))
+
+item_by_kept : (h : Option Head) (s : Content) (n : ℕ) (w : Word) (ws : List Word) (i : Item) → item_by h s n w ws ≡ Ok i → IsScript s → IsScript (with_item i s)
+unfolding item_by
+item_by_kept None s n w ws i e is = let never : ⊥ = cc in absurd never
+item_by_kept (Some head.Comment) s n w ws i e is = let same : item.Nothing ≡ i = cc in subst (λ (z : Item). IsScript (with_item z s)) same is
+item_by_kept (Some (head.Count count)) s n w ws i e is =
+    let c = and_then (setting_of s count ws) (λ number. Ok (item.Count count number)) i e in
+    let same : item.Count count c.0 ≡ i = ok_is (item.Count count c.0) i c.1.1 in
+    subst (λ (z : Item). IsScript (with_item z s)) same (setting_kept s count ws c.0 c.1.0 is)
+item_by_kept (Some head.Key) s n w ws i e is =
+    let d = and_then (declared_of s ws) (λ d. Ok (item.Key d)) i e in
+    let same : item.Key d.0 ≡ i = ok_is (item.Key d.0) i d.1.1 in
+    subst (λ (z : Item). IsScript (with_item z s)) same (declared_kept s ws d.0 d.1.0 is)
+item_by_kept (Some head.Thread) s n w ws i e is =
+    let p = and_then (step_of s n w ws) (λ p. Ok (item.Step p)) i e in
+    let same : item.Step p.0 ≡ i = ok_is (item.Step p.0) i p.1.1 in
+    subst (λ (z : Item). IsScript (with_item z s)) same (step_of_kept s n w ws p.0 p.1.0 is)
 
 item_kept : (s : Content) (n : ℕ) (ws : List Word) (i : Item) → item_of s n ws ≡ Ok i → IsScript s → IsScript (with_item i s)
-unfolding item_of
 item_kept s n [] i e is = let same : item.Nothing ≡ i = cc in subst (λ (z : Item). IsScript (with_item z s)) same is
-item_kept s n (w ∷ ws) i e is =
-    elim (is_comment w) as (λ b. (if b then Ok item.Nothing else if bytes_eq w (codes "key") then key_item (declared_of s ws) else if all_digits w then step_item (step_of n w ws) else Err UnknownWord) ≡ Ok i → IsScript (with_item i s)) [
-      | true ↦ λ f. let same : item.Nothing ≡ i = cc in subst (λ (z : Item). IsScript (with_item z s)) same is
-      | false ↦ λ f. elim (bytes_eq w (codes "key")) as (λ b. (if b then key_item (declared_of s ws) else if all_digits w then step_item (step_of n w ws) else Err UnknownWord) ≡ Ok i → IsScript (with_item i s)) [
-        | true ↦ λ g.
-            let d = and_then (declared_of s ws) (λ d. Ok (item.Key d)) i g in
-            let same : item.Key d.0 ≡ i = ok_is (item.Key d.0) i d.1.1 in
-            subst (λ (z : Item). IsScript (with_item z s)) same (declared_kept s ws d.0 d.1.0 is)
-        | false ↦ λ g.
-            let both = if_then (all_digits w) UnknownWord (step_item (step_of n w ws)) i g in
-            let p = and_then (step_of n w ws) (λ p. Ok (item.Step p)) i both.1 in
-            let same : item.Step p.0 ≡ i = ok_is (item.Step p.0) i p.1.1 in
-            subst (λ (z : Item). IsScript (with_item z s)) same (step_of_kept s n w ws p.0 p.1.0 is)
-      ] f
-    ] e
+item_kept s n (w ∷ ws) i e is = item_by_kept (head_of w) s n w ws i e is
 
 pub line_kept : (s : Content) (n : ℕ) (line : List ℕ) (i : Item) → line_of s n line ≡ Ok i → IsScript s → IsScript (with_item i s)
 unfolding line_of

@@ -1,36 +1,49 @@
--- A script as contracts see it: the keys that it declares and the steps of its threads, in the order of its lines.
-use Rattle.std.specs.Prelude.{◌≡◌, ℕ, ◌≤◌, ◌==◌, true, All, List, [], ◌∷◌, ◌++◌, map, filter}
+-- A script as contracts see it: its settings, the keys that it declares and the steps of its threads, in the order of its lines.
+use Rattle.std.specs.Prelude.{◌≡◌, ℕ, ◌≤◌, ◌==◌, true, All, Some, None, unwrap_or, List, [], ◌∷◌, ◌++◌, map, filter}
 use Rattle.xa_tables.specs.Accounts.{are_accounts}
+use Rattle.xa_script.specs.declared.script.Count.{Count}
+use Rattle.xa_script.specs.declared.script.Count.TheVariants.{Threads, Managers, Requests}
+use Rattle.xa_script.specs.declared.script.Settings.{Settings}
 use Rattle.xa_script.specs.declared.script.Declared.{Declared}
 use Rattle.xa_script.specs.declared.script.Step.{Step}
-
--- ---- what no setting says yet
-
--- There is one thread.
-abbrev pub thread_count : ℕ
-thread_count = 1
-
--- There is one manager.
-abbrev pub manager_count : ℕ
-manager_count = 1
-
--- Managers are numbered from 1, so this is the number of the one that there is.
-abbrev pub the_manager : ℕ
-the_manager = manager_count
-
--- A run puts at most so many requests to a manager.
-abbrev pub most_requests : ℕ
-most_requests = 256
 
 -- ---- what a script says
 
 pub record Content : Type 0 where
+  pub settings : Settings
   pub keys : List Declared
   pub steps : List Step
 
--- Nothing is declared, and nothing is to be done.
+-- How many threads there are, 1 where no line sets it.
+abbrev pub threads_of : Content → ℕ
+threads_of s = unwrap_or s.settings.threads 1
+
+-- How many managers there are, 1 where no line sets it. They are numbered from 1.
+abbrev pub managers_of : Content → ℕ
+managers_of s = unwrap_or s.settings.managers 1
+
+-- How many requests a thread may put to a manager, 256 where no line sets it.
+abbrev pub requests_of : Content → ℕ
+requests_of s = unwrap_or s.settings.requests 256
+
+-- What manager m is opened with: its keys and their values.
+abbrev pub accounts_of : ℕ → List Declared → List (List ℕ × ℕ)
+accounts_of m keys = map (λ d. (d.key, d.value)) (filter (λ d. d.manager == m) keys)
+
+-- ---- what a line adds to it
+
+-- Nothing is set or declared, and nothing is to be done.
 abbrev pub nothing : Content
-nothing = record { keys = []; steps = [] }
+nothing = record { settings = record { threads = None; managers = None; requests = None }; keys = []; steps = [] }
+
+-- One more count is set.
+abbrev pub with_setting : Count → ℕ → Settings → Settings
+with_setting Threads n s = record s { threads = Some n }
+with_setting Managers n s = record s { managers = Some n }
+with_setting Requests n s = record s { requests = Some n }
+
+abbrev pub with_count : Count → ℕ → Content → Content
+with_count count n s = record s { settings = with_setting count n s.settings }
 
 -- One more key is declared.
 abbrev pub with_key : Declared → Content → Content
@@ -40,15 +53,25 @@ with_key declared s = record s { keys = s.keys ++ declared ∷ [] }
 abbrev pub with_step : Step → Content → Content
 with_step step s = record s { steps = s.steps ++ step ∷ [] }
 
--- What manager m is opened with: its keys and their values.
-abbrev pub accounts_of : ℕ → List Declared → List (List ℕ × ℕ)
-accounts_of m keys = map (λ d. (d.key, d.value)) (filter (λ d. d.manager == m) keys)
+-- ---- what holds of it
+
+-- A key is of a manager that there is.
+abbrev pub IsOfManager : Content → Declared → Type 0
+IsOfManager s d = (1 ≤ d.manager) × (d.manager ≤ managers_of s)
 
 -- A step is of a thread that there is.
-abbrev pub IsOfThread : Step → Type 0
-IsOfThread p = (1 ≤ p.thread) × (p.thread ≤ thread_count)
+abbrev pub IsOfThread : Content → Step → Type 0
+IsOfThread s p = (1 ≤ p.thread) × (p.thread ≤ threads_of s)
 
--- What holds of every script: each manager can be opened with its keys, and each step is of a thread.
+-- A count is from 1 to a limit.
+abbrev pub IsUpTo : ℕ → ℕ → Type 0
+IsUpTo limit n = (1 ≤ n) × (n ≤ limit)
+
+-- What holds of every script: its counts are within the limits, each key is of a manager that there is, each manager can be opened with its keys, and each step is of a thread that there is.
 pub record IsScript (s : Content) : Type 0 where
+  pub threads : IsUpTo 8 (threads_of s)
+  pub managers : IsUpTo 8 (managers_of s)
+  pub requests : IsUpTo 4096 (requests_of s)
+  pub of_managers : All (IsOfManager s) s.keys
   pub accounts : (m : ℕ) → are_accounts (accounts_of m s.keys) ≡ true
-  pub threads : All IsOfThread s.steps
+  pub of_threads : All (IsOfThread s) s.steps

@@ -7,13 +7,14 @@ use Rattle.std.specs.Str.{bytes_eq}
 use Rattle.xa_words.specs.Xid.{XidName}
 use Rattle.xa_words.specs.Key.{key_of}
 use Rattle.xa_words.specs.Delta.{delta_of}
+use Rattle.xa_words.specs.Flags.{TMONEPHASE, TMFAIL, TMNOWAIT, TMRESUME, TMSUCCESS, TMSUSPEND, TMMULTIPLE, TMJOIN}
 use Rattle.xa_script.specs.Text.{dot, minus}
 use Rattle.xa_script.specs.declared.fault.Reason.{Reason}
 use Rattle.xa_script.specs.declared.fault.Reason.TheVariants.{UnknownWord, MissingWord, ExtraWord, BadNumber, OutOfRange, BadKey, BadXid}
 
 -- The first fault decides.
 infixl 10 ◌>>=◌
-abbrev pub ◌>>=◌ : {A B : Type 0} → Result A Reason → (A → Result B Reason) → Result B Reason
+abbrev pub ◌>>=◌ : {A B E : Type 0} → Result A E → (A → Result B E) → Result B E
 (Ok x) >>= f = f x
 (Err why) >>= f = Err why
 
@@ -113,13 +114,18 @@ delta_at ws = field delta_in ws
 
 -- ---- flags
 
--- TMSUCCESS of xa.h
-abbrev pub success : ℕ
-success = 0x04000000
-
--- Each flag word stands for one bit of xa.h.
+-- Each flag word stands for a flag of xa.h.
 abbrev pub flag_of : Word → Option ℕ
-flag_of w = if bytes_eq w (codes "success") then Some success else None
+flag_of w =
+    if bytes_eq w (codes "onephase") then Some TMONEPHASE
+    else if bytes_eq w (codes "fail") then Some TMFAIL
+    else if bytes_eq w (codes "nowait") then Some TMNOWAIT
+    else if bytes_eq w (codes "resume") then Some TMRESUME
+    else if bytes_eq w (codes "success") then Some TMSUCCESS
+    else if bytes_eq w (codes "suspend") then Some TMSUSPEND
+    else if bytes_eq w (codes "multiple") then Some TMMULTIPLE
+    else if bytes_eq w (codes "join") then Some TMJOIN
+    else None
 
 -- Flag words up to the end of the line are joined bit by bit to the flags before them.
 unfoldable pub flags_onto : ℕ → List Word → Result ℕ Reason

@@ -1,103 +1,21 @@
 -- What a line says, the first fault in it, and the script that all lines make.
-use Rattle.std.specs.Prelude.{◌≡◌, ℕ, ◌+◌, Bool, false, not, ◌&&◌, ◌==◌, nat_lt, nat_le, if◌then◌else◌, List, [], ◌∷◌, length, count_by, Option, Some, None, Result, Ok, Err, codes}
-use Rattle.std.specs.List.{list_all, list_any}
-use Rattle.std.specs.Option.{ok_or}
+use Rattle.std.specs.Prelude.{◌≡◌, ℕ, ◌+◌, Bool, false, not, ◌==◌, nat_lt, if◌then◌else◌, List, [], ◌∷◌, length, Option, Some, None, Result, Ok, Err, codes}
+use Rattle.std.specs.List.{list_all}
 use Rattle.std.specs.Str.{bytes_eq}
-use Rattle.xa_words.specs.Key.{key_eq}
-use Rattle.xa_words.specs.Xid.{XidName}
 use Rattle.xa_script.specs.declared.fault.Reason.{Reason}
-use Rattle.xa_script.specs.declared.fault.Reason.TheVariants.{LineTooLong, BadByte, TooManyLines, UnknownWord, SettingAfterAction, KeyTwice, TooManyKeys}
+use Rattle.xa_script.specs.declared.fault.Reason.TheVariants.{LineTooLong, BadByte, TooManyLines, UnknownWord}
 use Rattle.xa_script.specs.declared.fault.ScriptFault.{ScriptFault}
 use Rattle.xa_script.specs.declared.fault.ScriptFault.TheVariants as faults
-use Rattle.xa_script.specs.declared.script.Declared.{Declared}
-use Rattle.xa_script.specs.declared.script.Action.{Action}
-use Rattle.xa_script.specs.declared.script.Action.TheVariants as action
-use Rattle.xa_script.specs.declared.script.Step.{Step}
-use Rattle.xa_script.specs.declared.line.Verb.{Verb}
-use Rattle.xa_script.specs.declared.line.Verb.TheVariants as verb
-use Rattle.xa_script.specs.declared.line.BranchVerb.{BranchVerb}
-use Rattle.xa_script.specs.declared.line.BranchVerb.TheVariants as branch
+use Rattle.xa_script.specs.declared.script.Count.TheVariants.{Threads, Managers, Requests}
+use Rattle.xa_script.specs.declared.line.Head.{Head}
+use Rattle.xa_script.specs.declared.line.Head.TheVariants as head
 use Rattle.xa_script.specs.declared.line.Item.{Item}
 use Rattle.xa_script.specs.declared.line.Item.TheVariants as item
 use Rattle.xa_script.specs.Text.{hash, lines_of, words_of, without_return, is_script_byte}
-use Rattle.xa_script.specs.Fields.{◌>>=◌, Word, word_at, end_of, all_digits, number_in, number_at, key_at, xid_at, delta_at, flags_onto}
-use Rattle.xa_script.specs.Content.{Content, thread_count, manager_count, nothing, with_key, with_step}
-
--- ---- actions
-
--- What T does is one of seven verbs.
-abbrev pub verb_of : Word → Option Verb
-verb_of w =
-    if bytes_eq w (codes "open") then Some verb.Open
-    else if bytes_eq w (codes "close") then Some verb.Close
-    else if bytes_eq w (codes "start") then Some (verb.OnBranch branch.Start)
-    else if bytes_eq w (codes "end") then Some (verb.OnBranch branch.End)
-    else if bytes_eq w (codes "prepare") then Some (verb.OnBranch branch.Prepare)
-    else if bytes_eq w (codes "commit") then Some (verb.OnBranch branch.Commit)
-    else if bytes_eq w (codes "add") then Some verb.Add
-    else None
-
--- A verb on a branch is the action on the branch of that xid.
-abbrev pub on_branch : BranchVerb → XidName → Action
-on_branch branch.Start x = action.Start x
-on_branch branch.End x = action.End x
-on_branch branch.Prepare x = action.Prepare x
-on_branch branch.Commit x = action.Commit x
-
--- The words between M and the flags: none, XID, or KEY DELTA.
-unfoldable pub action_at : Verb → List Word → Result (Action × List Word) Reason
-action_at verb.Open ws = Ok (action.Open, ws)
-action_at verb.Close ws = Ok (action.Close, ws)
-action_at (verb.OnBranch v) ws = do
-  x ← xid_at ws
-  Ok (on_branch v x.0, x.1)
-action_at verb.Add ws = do
-  k ← key_at ws
-  d ← delta_at k.1
-  Ok (action.Add k.0 d.0, d.1)
-
--- T VERB M .. flags, on the line of this number; T is a thread, and M any number up to 4,294,967,295.
-unfoldable pub step_of : ℕ → Word → List Word → Result Step Reason
-step_of line first ws = do
-  t ← number_in 1 thread_count first
-  w ← word_at ws
-  v ← ok_or (verb_of w.0) UnknownWord
-  m ← number_at 0 4_294_967_295 w.1
-  a ← action_at v m.1
-  f ← flags_onto 0 a.1
-  Ok (record { line = line; thread = t; manager = m.0; action = a.0; flags = f })
-
--- ---- settings
-
--- Manager m has declared this key.
-abbrev pub has_key : ℕ → List ℕ → List Declared → Bool
-has_key m k keys = list_any (λ d. (d.manager == m) && key_eq d.key k) keys
-
--- How many keys manager m has declared.
-abbrev pub key_count : ℕ → List Declared → ℕ
-key_count m keys = count_by (λ d. d.manager == m) keys
-
--- A key is declared once, and a manager has at most 256.
-abbrev pub new_key : List Declared → Declared → Result Declared Reason
-new_key keys d =
-    if has_key d.manager d.key keys then Err KeyTwice
-    else if nat_le 256 (key_count d.manager keys) then Err TooManyKeys
-    else Ok d
-
--- Settings stand before the first action.
-abbrev pub before_actions : List Step → Result (Unit {0}) Reason
-before_actions [] = Ok tt
-before_actions (step ∷ steps) = Err SettingAfterAction
-
--- key M KEY VALUE, before the first action; M is a manager, and VALUE at most 1,000,000,000,000.
-unfoldable pub declared_of : Content → List Word → Result Declared Reason
-declared_of s ws = do
-  first ← before_actions s.steps
-  m ← number_at 1 manager_count ws
-  k ← key_at m.1
-  v ← number_at 0 1_000_000_000_000 k.1
-  last ← end_of v.1
-  new_key s.keys (record { manager = m.0; key = k.0; value = v.0 })
+use Rattle.xa_script.specs.Fields.{◌>>=◌, Word, all_digits}
+use Rattle.xa_script.specs.Content.{Content, nothing, with_count, with_key, with_step}
+use Rattle.xa_script.specs.Settings.{setting_of, declared_of}
+use Rattle.xa_script.specs.Actions.{step_of}
 
 -- ---- lines
 
@@ -106,26 +24,35 @@ abbrev pub is_comment : Word → Bool
 is_comment [] = false
 is_comment (b ∷ bs) = b == hash
 
--- The line declares this key.
-abbrev pub key_item : Result Declared Reason → Result Item Reason
-key_item read = do
-  d ← read
-  Ok (item.Key d)
+-- The first word of a line tells what the line is.
+abbrev pub head_of : Word → Option Head
+head_of w =
+    if is_comment w then Some head.Comment
+    else if bytes_eq w (codes "threads") then Some (head.Count Threads)
+    else if bytes_eq w (codes "managers") then Some (head.Count Managers)
+    else if bytes_eq w (codes "requests") then Some (head.Count Requests)
+    else if bytes_eq w (codes "key") then Some head.Key
+    else if all_digits w then Some head.Thread
+    else None
 
--- The line is this step.
-abbrev pub step_item : Result Step Reason → Result Item Reason
-step_item read = do
-  p ← read
+-- What the words w and ws of line n say.
+unfoldable pub item_by : Option Head → Content → ℕ → Word → List Word → Result Item Reason
+item_by None s n w ws = Err UnknownWord
+item_by (Some head.Comment) s n w ws = Ok item.Nothing
+item_by (Some (head.Count count)) s n w ws = do
+  number ← setting_of s count ws
+  Ok (item.Count count number)
+item_by (Some head.Key) s n w ws = do
+  d ← declared_of s ws
+  Ok (item.Key d)
+item_by (Some head.Thread) s n w ws = do
+  p ← step_of s n w ws
   Ok (item.Step p)
 
 -- What the words of line n say. Without words it says nothing.
-unfoldable pub item_of : Content → ℕ → List Word → Result Item Reason
+abbrev pub item_of : Content → ℕ → List Word → Result Item Reason
 item_of s n [] = Ok item.Nothing
-item_of s n (w ∷ ws) =
-    if is_comment w then Ok item.Nothing
-    else if bytes_eq w (codes "key") then key_item (declared_of s ws)
-    else if all_digits w then step_item (step_of n w ws)
-    else Err UnknownWord
+item_of s n (w ∷ ws) = item_by (head_of w) s n w ws
 
 -- What line n says. There are at most 100,000 lines, and a line has at most 512 bytes, each 32 to 126 or a tab.
 unfoldable pub line_of : Content → ℕ → List ℕ → Result Item Reason
@@ -138,6 +65,7 @@ line_of s n line =
 -- What a line says is added to the script.
 abbrev pub with_item : Item → Content → Content
 with_item item.Nothing s = s
+with_item (item.Count count n) s = with_count count n s
 with_item (item.Key d) s = with_key d s
 with_item (item.Step p) s = with_step p s
 

@@ -1,9 +1,12 @@
 pub mod Text
 pub mod Fields
 pub mod Content
+pub mod Settings
+pub mod Actions
 pub mod Grammar
 pub mod Reading
 pub mod Transcript
+pub mod Calls
 pub mod Run
 pub mod Running
 pub mod Program

@@ -29,8 +29,8 @@ abbrev pub IsJudged : Fault → Type 0
 IsJudged fault = (fault ≡ Usage) ⊎ (fault ≡ NoMemory)
 
 -- The bytes are a script, and what the writer holds grew by its transcript.
-abbrev pub Runs : Option (List ℕ) → Option (List ℕ) → List ℕ → Type 0
-Runs before behind bytes = (s : Content) × (script_of bytes ≡ Ok s) × WritesTranscript s before behind
+abbrev pub ShowsRun : Option (List ℕ) → Option (List ℕ) → List ℕ → Type 0
+ShowsRun before behind bytes = (s : Content) × (script_of bytes ≡ Ok s) × WritesTranscript s before behind
 
 -- The bytes are no script: a line is faulty.
 abbrev pub IsFaulty : List ℕ → Type 0

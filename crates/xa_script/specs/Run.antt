@@ -1,5 +1,5 @@
--- What a script puts to its manager, what each of its steps answers, and what its transcript is.
-use Rattle.std.specs.Prelude.{◌≡◌, ℕ, ◌+◌, ◌-◌, nat_abs, Bool, false, ◌&&◌, ◌==◌, if◌then◌else◌, Option, List, [], ◌∷◌, map, filter, take}
+-- What a script puts to its managers, what each of its steps answers, and what its transcript is.
+use Rattle.std.specs.Prelude.{◌≡◌, ℕ, pos, Bool, not, ◌&&◌, ◌==◌, nat_le, nat_lt, if◌then◌else◌, Option, Some, Result, Ok, Err, All, List, [], ◌∷◌, ◌++◌, length, map, fold}
 use Rattle.std.specs.Ordering.{nat_cmp, ordering_then}
 use Rattle.std.specs.declared.cmp.Ordering.{Ordering}
 use Rattle.std.specs.List.Sorted.{IsPermutation, IsSorted}
@@ -7,84 +7,103 @@ use Rattle.std.specs.Io.KnownBytes.{Appends}
 use Rattle.xa_words.specs.Code.{number_of}
 use Rattle.xa_words.specs.Key.{key_cmp}
 use Rattle.xa_words.specs.declared.code.Code.{Code}
-use Rattle.xa_words.specs.declared.code.Code.TheVariants.{Inval, RmErr}
+use Rattle.xa_words.specs.declared.code.Code.TheVariants.{Async, Inval, RmErr}
 use Rattle.xa_words.specs.declared.request.Op.{Op}
-use Rattle.xa_words.specs.declared.request.Op.TheVariants as op
-use Rattle.xa_words.specs.declared.request.StartHow.TheVariants.{Fresh}
-use Rattle.xa_words.specs.declared.request.EndHow.TheVariants.{Success}
-use Rattle.xa_tables.specs.Tables.{Tables, value_of}
-use Rattle.xa_tables.specs.History.{History, codes, tables_after}
+use Rattle.xa_tables.specs.Tables.{Tables}
+use Rattle.xa_tables.specs.Next.{next}
+use Rattle.xa_tables.specs.History.{History, of_thread, tables_after, value_after}
 use Rattle.xa_tables.specs.Managers.{opening}
 use Rattle.xa_script.specs.declared.script.Declared.{Declared}
-use Rattle.xa_script.specs.declared.script.Action.{Action}
-use Rattle.xa_script.specs.declared.script.Action.TheVariants as action
 use Rattle.xa_script.specs.declared.script.Step.{Step}
 use Rattle.xa_script.specs.declared.transcript.Answer.{Answer}
-use Rattle.xa_script.specs.Fields.{success}
-use Rattle.xa_script.specs.Content.{Content, the_manager, most_requests, accounts_of}
+use Rattle.xa_script.specs.Fields.{◌>>=◌}
+use Rattle.xa_script.specs.Content.{Content, managers_of, requests_of, accounts_of}
+use Rattle.xa_script.specs.Calls.{asked_of}
 use Rattle.xa_script.specs.Transcript.{text}
 
--- An end has the flag TMSUCCESS, and every other call has none.
-abbrev pub flags_for : Action → ℕ
-flags_for action.Open = 0
-flags_for action.Close = 0
-flags_for (action.Start x) = 0
-flags_for (action.Add k d) = 0
-flags_for (action.End x) = success
-flags_for (action.Prepare x) = 0
-flags_for (action.Commit x) = 0
+-- ---- requests
 
--- What an action asks of the manager.
-abbrev pub op_of : Action → Op
-op_of action.Open = op.OpenRm
-op_of action.Close = op.CloseRm
-op_of (action.Start x) = op.Start x Fresh
-op_of (action.Add k d) = op.Add k d
-op_of (action.End x) = op.End x Success
-op_of (action.Prepare x) = op.Prepare x
-op_of (action.Commit x) = op.Commit x false
+-- What each manager has taken, by its number.
+abbrev pub Journals : Type 0
+Journals = ℕ → History
 
--- A step is a request where it names the manager and has the flags of its call.
-abbrev pub is_request : Step → Bool
-is_request s = (s.manager == the_manager) && (s.flags == flags_for s.action)
+-- Nothing yet.
+abbrev pub nothing_taken : Journals
+nothing_taken m = []
 
--- The requests of these steps, numbered from n.
-abbrev pub numbered : ℕ → List Step → History
-numbered n [] = []
-numbered n (s ∷ ss) = record { thread = s.thread; number = n; op = op_of s.action } ∷ numbered (n + 1) ss
+-- The tables of manager m at its opening.
+abbrev pub opened : Content → ℕ → Tables
+opened s m = opening (accounts_of m s.keys)
 
--- What these steps put to a manager that has room for this many more requests.
-abbrev pub put_with : ℕ → List Step → History
-put_with room ss = numbered (most_requests - room) (take room (filter is_request ss))
+-- A request of thread t to manager m, whose journal is h: the journal with it, and its code. Where the thread has used up its requests to the manager it is XAER_RMERR, and nothing is taken.
+abbrev pub take_request : Content → ℕ → ℕ → Op → History → History × Code
+take_request s m t op h =
+    let n = length (of_thread t h) in
+    if nat_lt n (requests_of s) then (h ++ record { thread = t; number = n; op = op } ∷ [], (next t op (tables_after h (opened s m))).1)
+    else (h, RmErr)
 
--- What a script puts to its manager.
-abbrev pub journal : Content → History
-journal s = put_with most_requests s.steps
+-- ---- steps
+
+-- Where this doesn't hold, this is the answer.
+abbrev pub unless : Bool → Code → Result (Unit {0}) Code
+unless holds c = if holds then Ok tt else Err c
+
+-- m is the number of a manager.
+abbrev pub is_manager : Content → ℕ → Bool
+is_manager s m = nat_le 1 m && nat_le m (managers_of s)
+
+-- What a step asks of its manager, or the first refusal: XAER_INVAL for its flags, XAER_INVAL for a number that no manager has, and XAER_ASYNC, since no manager takes calls asynchronously.
+abbrev pub judged : Content → Step → Result Op Code
+judged s p = do
+  asked ← asked_of p.action p.flags
+  known ← unless (is_manager s p.manager) Inval
+  sync ← unless (not asked.asynchronous) Async
+  Ok asked.op
+
+-- Manager m has this journal, and the others have theirs.
+abbrev pub with_journal : ℕ → History → Journals → Journals
+with_journal m h js n = if n == m then h else js n
+
+-- The journals behind a step that asks for this, and what it answers.
+abbrev pub step_by : Result Op Code → Content → Journals → Step → Journals × Code
+step_by (Ok op) s js p =
+    let taken = take_request s p.manager p.thread op (js p.manager) in
+    (with_journal p.manager taken.0 js, taken.1)
+step_by (Err c) s js p = (js, c)
+
+abbrev pub step : Content → Journals → Step → Journals × Code
+step s js p = step_by (judged s p) s js p
+
+-- The journals behind these steps.
+abbrev pub journals_behind : Content → Journals → List Step → Journals
+journals_behind s js ps = fold (λ js p. (step s js p).0) js ps
 
 -- The answer to a step.
 abbrev pub answer : Step → Code → Answer
-answer s c = record { line = s.line; thread = s.thread; code = number_of c }
+answer p c = record { line = p.line; thread = p.thread; code = number_of c }
 
--- The answer to each step: the code of its request, XAER_RMERR where no room was left for it, and XAER_INVAL where it is none.
-abbrev pub answers_by : List Step → List Code → List Answer
-answers_by [] cs = []
-answers_by (s ∷ ss) [] = answer s (if is_request s then RmErr else Inval) ∷ answers_by ss []
-answers_by (s ∷ ss) (c ∷ cs) = if is_request s then answer s c ∷ answers_by ss cs else answer s Inval ∷ answers_by ss (c ∷ cs)
+-- The answers to these steps.
+abbrev pub answers_behind : Content → Journals → List Step → List Answer
+answers_behind s js [] = []
+answers_behind s js (p ∷ ps) = answer p (step s js p).1 ∷ answers_behind s (step s js p).0 ps
 
--- The tables before the first step.
-abbrev pub tables_before : Content → Tables
-tables_before s = opening (accounts_of the_manager s.keys)
+-- ---- the whole script
 
+-- What a script puts to its managers.
+abbrev pub journals : Content → Journals
+journals s = journals_behind s nothing_taken s.steps
+
+-- What its steps answer.
 abbrev pub answers_of : Content → List Answer
-answers_of s = answers_by s.steps (codes (journal s) (tables_before s))
+answers_of s = answers_behind s nothing_taken s.steps
 
--- The tables behind the last step.
-abbrev pub tables_behind : Content → Tables
-tables_behind s = tables_after (journal s) (tables_before s)
+-- A key by its manager and its name.
+abbrev pub name_of : Declared → ℕ × List ℕ
+name_of d = (d.manager, d.key)
 
--- A key with its committed value in the tables T.
-abbrev pub valued : Tables → Declared → Declared
-valued T d = record d { value = nat_abs (value_of T.values d.key) }
+-- The key has the value that it has behind these journals.
+abbrev pub IsWorth : Content → Journals → Declared → Type 0
+IsWorth s js d = value_after d.key (js d.manager) (opened s d.manager) ≡ Some (pos d.value)
 
 -- Keys are shown by rising manager, and of one manager by the bytes of the key.
 abbrev pub shown_cmp : Declared → Declared → Ordering
@@ -92,11 +111,10 @@ shown_cmp d e = ordering_then (nat_cmp d.manager e.manager) (ordering_then (key_
 
 -- What a run of a script comes to: the answers to its steps in their order, and each declared key with its value behind the last step, in the order in which keys are shown.
 pub record IsOutcome (s : Content) (answers : List Answer) (values : List Declared) : Type 0 where
-  pub keys : List Declared
-  pub all : IsPermutation s.keys keys
-  pub rising : IsSorted shown_cmp keys
   pub answered : answers ≡ answers_of s
-  pub shown : values ≡ map (valued (tables_behind s)) keys
+  pub all : IsPermutation (map name_of s.keys) (map name_of values)
+  pub worth : All (IsWorth s (journals s)) values
+  pub rising : IsSorted shown_cmp values
 
 -- What a writer holds grew by the transcript of a script.
 pub record WritesTranscript (s : Content) (before behind : Option (List ℕ)) : Type 0 where

@@ -1,7 +1,7 @@
 //! The program, over any reader and writers.
 ghost use Rattle.std.specs.Prelude.{◌≡◌, ◌⊎◌, ◌<◌, OnOk, IfErr, IsErrOf, IfSome};
 ghost use Rattle.xa_script.specs.declared.entry.Fault.TheVariants.{NoMemory};
-ghost use Rattle.xa_script.specs.Program.{status_of, AreTurns, IsJudged, Runs, IsFaulty, FailsBy};
+ghost use Rattle.xa_script.specs.Program.{status_of, AreTurns, IsJudged, ShowsRun, IsFaulty, FailsBy};
 
 use crate::fault::ScriptFault;
 use crate::read::read_script;
@@ -89,7 +89,7 @@ fn carry_out<R: Read, W: Write>(
     ensures unread { IsErrOf result Fault.Usage → reader.new ≡ reader.old }
 
     ensures ok { OnOk result (IfSome (R.remaining reader.old)
-        (Runs (W.contents out.old) (W.contents out.new))) }
+        (ShowsRun (W.contents out.old) (W.contents out.new))) }
     ensures err { IfErr result (λ fault.
         FailsBy fault (R.remaining reader.old) (W.contents out.old) (W.contents out.new)) }
 {
@@ -123,7 +123,7 @@ pub fn program<R: Read, W: Write, E: Write>(
     ensures unread { result ≡ 2 → reader.new ≡ reader.old }
 
     ensures ran { result ≡ 0 → IfSome (R.remaining reader.old)
-        (Runs (W.contents out.old) (W.contents out.new)) }
+        (ShowsRun (W.contents out.old) (W.contents out.new)) }
     ensures faulty { result ≡ 1 → IfSome (R.remaining reader.old) IsFaulty }
     ensures nothing_shown { 0 < result → result < 4 → W.contents out.new ≡ W.contents out.old }
 {

@@ -5,10 +5,9 @@ ghost use Rattle.xa_script.specs.Text.{dot};
 ghost use Rattle.xa_script.specs.Fields.{all_digits, number_of, number_in, is_name_byte, is_name, xid_of, signed_number_of, delta_in, flag_of};
 
 use crate::fault::Reason;
-use xa_words::{Delta, Key, Xid};
-
-// The flag of `xa.h` that the word `success` stands for.
-pub(crate) const TMSUCCESS: u32 = 0x0400_0000;
+use xa_words::{
+    Delta, TMFAIL, TMJOIN, TMMULTIPLE, TMNOWAIT, TMONEPHASE, TMRESUME, TMSUCCESS, TMSUSPEND, Xid,
+};
 
 pub(crate) fn all_digits(word: &[u8]) -> bool
     ensures { result ≡ all_digits word.now }
@@ -109,12 +108,26 @@ pub(crate) fn delta_in(word: &[u8]) -> Result<Delta, Reason>
     Delta::new(amount).ok_or(Reason::OutOfRange)
 }
 
-// The bit of `xa.h` that a flag word stands for.
+// The flag of `xa.h` that a flag word stands for.
 pub(crate) fn flag_of(word: &[u8]) -> Option<u32>
     ensures { result ≡ flag_of word.now }
 {
-    if word == b"success".as_slice() {
+    if word == b"onephase".as_slice() {
+        Some(TMONEPHASE)
+    } else if word == b"fail".as_slice() {
+        Some(TMFAIL)
+    } else if word == b"nowait".as_slice() {
+        Some(TMNOWAIT)
+    } else if word == b"resume".as_slice() {
+        Some(TMRESUME)
+    } else if word == b"success".as_slice() {
         Some(TMSUCCESS)
+    } else if word == b"suspend".as_slice() {
+        Some(TMSUSPEND)
+    } else if word == b"multiple".as_slice() {
+        Some(TMMULTIPLE)
+    } else if word == b"join".as_slice() {
+        Some(TMJOIN)
     } else {
         None
     }

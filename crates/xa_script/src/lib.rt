@@ -5,6 +5,8 @@
 //! `specs/Grammar.antt` is the whole grammar, in the order in which a line is judged.
 #![tactic(auto)]
 
+mod action;
+mod call;
 mod entry;
 mod fault;
 mod field;
@@ -12,6 +14,7 @@ mod line;
 mod read;
 mod run;
 mod script;
+mod setting;
 mod transcript;
 mod words;
 

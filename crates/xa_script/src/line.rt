@@ -2,22 +2,16 @@
 ghost use Rattle.std.specs.Prelude.{◌≡◌, ◌≤◌, OnOk, IfErr, Ok};
 ghost use Rattle.std.specs.List.{list_all};
 ghost use Rattle.xa_script.specs.Text.{words_of, is_script_byte, without_return};
-ghost use Rattle.xa_script.specs.Fields.{Takes};
 ghost use Rattle.xa_script.specs.Content.{IsScript};
-ghost use Rattle.xa_script.specs.Grammar.{verb_of, on_branch, action_at, step_of, has_key, key_count, new_key, before_actions, declared_of, item_of, line_of, with_item, after_line, FailsAt};
+ghost use Rattle.xa_script.specs.Grammar.{head_of, item_by, item_of, line_of, with_item, after_line, FailsAt};
 
+use crate::action::step_of;
 use crate::fault::{Reason, ScriptFault};
-use crate::field::{all_digits, number_in};
-use crate::script::{Action, Declared, MANAGERS, Script, Step, THREADS};
+use crate::field::all_digits;
+use crate::script::{Count, Declared, Script, Step};
+use crate::setting::{declared_of, setting_of};
 use crate::words::Words;
 use std::alloc::AllocError;
-use xa_words::{Key, Xid};
-
-// How many keys a manager may have.
-const MOST_KEYS: usize = 256;
-
-// What a key may be worth at the opening.
-const MOST_VALUE: u64 = 1_000_000_000_000;
 
 // How many lines a script may have.
 pub(crate) const MOST_LINES: u32 = 100_000;
@@ -25,154 +19,45 @@ pub(crate) const MOST_LINES: u32 = 100_000;
 // How many bytes a line may have, its carriage return and line feed not counted.
 pub(crate) const LONGEST_LINE: usize = 512;
 
-/// What a thread does to one branch.
+/// What the first word of a line says that the line is.
 #[derive(Clone, Copy, Debug)]
-pub(crate) enum BranchVerb {
-    Start,
-    End,
-    Prepare,
-    Commit,
-}
-
-/// What a thread is told to do.
-#[derive(Clone, Copy, Debug)]
-pub(crate) enum Verb {
-    Open,
-    Close,
-    OnBranch(BranchVerb),
-    Add,
+pub(crate) enum Head {
+    Comment,
+    Count(Count),
+    Key,
+    Thread,
 }
 
 /// What a line adds to a script.
 #[derive(Clone, Copy, Debug)]
 pub(crate) enum Item {
     Nothing,
+    Count(Count, u32),
     Key(Declared),
     Step(Step),
 }
 
-fn verb_of(word: &[u8]) -> Option<Verb>
-    ensures { result ≡ verb_of word.now }
+fn head_of(word: &[u8]) -> Option<Head>
+    ensures { result ≡ head_of word.now }
 {
-    if word == b"open".as_slice() {
-        Some(Verb::Open)
-    } else if word == b"close".as_slice() {
-        Some(Verb::Close)
-    } else if word == b"start".as_slice() {
-        Some(Verb::OnBranch(BranchVerb::Start))
-    } else if word == b"end".as_slice() {
-        Some(Verb::OnBranch(BranchVerb::End))
-    } else if word == b"prepare".as_slice() {
-        Some(Verb::OnBranch(BranchVerb::Prepare))
-    } else if word == b"commit".as_slice() {
-        Some(Verb::OnBranch(BranchVerb::Commit))
-    } else if word == b"add".as_slice() {
-        Some(Verb::Add)
+    if word.starts_with(b"#") {
+        Some(Head::Comment)
+    } else if word == b"threads".as_slice() {
+        Some(Head::Count(Count::Threads))
+    } else if word == b"managers".as_slice() {
+        Some(Head::Count(Count::Managers))
+    } else if word == b"requests".as_slice() {
+        Some(Head::Count(Count::Requests))
+    } else if word == b"key".as_slice() {
+        Some(Head::Key)
+    } else if all_digits(word) {
+        Some(Head::Thread)
     } else {
         None
     }
 }
 
-fn on_branch(verb: BranchVerb, xid: Xid) -> Action
-    ensures { result ≡ on_branch verb xid }
-{
-    match verb {
-        BranchVerb::Start => Action::Start(xid),
-        BranchVerb::End => Action::End(xid),
-        BranchVerb::Prepare => Action::Prepare(xid),
-        BranchVerb::Commit => Action::Commit(xid),
-    }
-}
-
-// The words between the manager and the flags.
-#[tactic(auto, unfolding(crate::specs::Grammar::action_at))]
-fn action_at(verb: Verb, words: &mut Words) -> Result<Action, Reason>
-    ensures { Takes result words.new (action_at verb words.old) }
-{
-    match verb {
-        Verb::Open => Ok(Action::Open),
-        Verb::Close => Ok(Action::Close),
-        Verb::OnBranch(verb) => Ok(on_branch(verb, words.xid()?)),
-        Verb::Add => {
-            let key = words.key()?;
-            let delta = words.delta()?;
-            Ok(Action::Add(key, delta))
-        }
-    }
-}
-
-// The words behind `first`, the word that names the thread.
-#[tactic(auto, unfolding(crate::specs::Grammar::step_of))]
-fn step_of(line: u32, first: &[u8], words: &mut Words) -> Result<Step, Reason>
-    ensures { result ≡ step_of line first.now words.old }
-{
-    let thread = number_in(1, u64::from(THREADS), first)? as u32;
-    let verb = verb_of(words.word()?).ok_or(Reason::UnknownWord)?;
-    let manager = words.number(0, u64::from(u32::MAX))? as u32;
-    let action = action_at(verb, words)?;
-    let flags = words.flags()?;
-    Ok(Step {
-        line,
-        thread,
-        manager,
-        action,
-        flags,
-    })
-}
-
-fn has_key(manager: u32, key: &Key, keys: &[Declared]) -> bool
-    ensures { result ≡ has_key manager key.now keys.now }
-{
-    keys.iter().any(|d| d.manager == manager && d.key == *key)
-}
-
-fn key_count(manager: u32, keys: &[Declared]) -> usize
-    ensures { result ≡ key_count manager keys.now }
-{
-    keys.iter().filter(|d| d.manager == manager).count()
-}
-
-// The declaration, where its manager has no such key and room for one more.
-fn new_key(keys: &[Declared], declared: Declared) -> Result<Declared, Reason>
-    ensures { result ≡ new_key keys.now declared }
-{
-    if has_key(declared.manager, &declared.key, keys) {
-        return Err(Reason::KeyTwice);
-    }
-    if key_count(declared.manager, keys) >= MOST_KEYS {
-        return Err(Reason::TooManyKeys);
-    }
-    Ok(declared)
-}
-
-fn before_actions(steps: &[Step]) -> Result<(), Reason>
-    ensures { result ≡ before_actions steps.now }
-{
-    match steps {
-        [] => Ok(()),
-        [..] => Err(Reason::SettingAfterAction),
-    }
-}
-
-// The words behind `key`.
-#[tactic(auto, unfolding(crate::specs::Grammar::declared_of))]
-fn declared_of(script: &Script, words: &mut Words) -> Result<Declared, Reason>
-    ensures { result ≡ declared_of script.now words.old }
-{
-    before_actions(script.steps())?;
-    let manager = words.number(1, u64::from(MANAGERS))? as u32;
-    let key = words.key()?;
-    let value = words.number(0, MOST_VALUE)?;
-    words.end()?;
-    let declared = Declared {
-        manager,
-        key,
-        value,
-    };
-    new_key(script.keys(), declared)
-}
-
-#[tactic(auto, unfolding(crate::specs::Grammar::item_of))]
+#[tactic(auto, unfolding(crate::specs::Grammar::item_by))]
 fn item_of(script: &Script, number: u32, line: &[u8]) -> Result<Item, Reason>
     ensures { result ≡ item_of script.now number (words_of line.now) }
 {
@@ -180,14 +65,11 @@ fn item_of(script: &Script, number: u32, line: &[u8]) -> Result<Item, Reason>
     let Some(first) = words.next() else {
         return Ok(Item::Nothing);
     };
-    if first.starts_with(b"#") {
-        Ok(Item::Nothing)
-    } else if first == b"key".as_slice() {
-        Ok(Item::Key(declared_of(script, &mut words)?))
-    } else if all_digits(first) {
-        Ok(Item::Step(step_of(number, first, &mut words)?))
-    } else {
-        Err(Reason::UnknownWord)
+    match head_of(first).ok_or(Reason::UnknownWord)? {
+        Head::Comment => Ok(Item::Nothing),
+        Head::Count(count) => Ok(Item::Count(count, setting_of(script, count, &mut words)?)),
+        Head::Key => Ok(Item::Key(declared_of(script, &mut words)?)),
+        Head::Thread => Ok(Item::Step(step_of(script, number, first, &mut words)?)),
     }
 }
 
@@ -235,6 +117,10 @@ fn put(script: &mut Script, item: Item) -> Result<(), AllocError>
 {
     match item {
         Item::Nothing => Ok(()),
+        Item::Count(count, number) => {
+            script.set(count, number);
+            Ok(())
+        }
         Item::Key(declared) => script.add_key(declared),
         Item::Step(step) => script.add_step(step),
     }

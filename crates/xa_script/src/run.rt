@@ -1,66 +1,118 @@
 //! Running a script, step by step in one thread.
-ghost use Rattle.std.specs.Prelude.{◌≡◌, ◌≤◌, ℕ, List, All, OnOk, IfOk, IsErrOf, map};
+ghost use Rattle.std.specs.Prelude.{◌≡◌, ◌≤◌, ℕ, [], length, All, OnOk, IfOk, IsErrOf, map};
+ghost use Rattle.std.specs.List.{sum};
 ghost use Rattle.std.specs.List.Sorted.{IsPermutation, IsSorted};
-ghost use Rattle.xa_tables.specs.Managers.{opening};
-ghost use Rattle.xa_script.specs.Content.{thread_count, the_manager, most_requests, accounts_of, IsOfThread};
-ghost use Rattle.xa_script.specs.Run.{flags_for, op_of, valued, shown_cmp, IsOutcome, WritesTranscript};
-ghost use Rattle.xa_script.specs.Running.{rest_answers, rest_tables, HasRun};
+ghost use Rattle.xa_script.specs.Content.{Content, accounts_of, managers_of, IsOfThread};
+ghost use Rattle.xa_script.specs.Run.{Journals, nothing_taken, judged, journals, answers_of, name_of, IsWorth, shown_cmp, IsOutcome, WritesTranscript};
 
-use crate::field::TMSUCCESS;
-use crate::script::{Action, Declared, MANAGERS, REQUESTS, Script, Step, THREADS};
+use crate::call::asked_of;
+use crate::script::{Declared, Script, Step};
 use crate::transcript::{Answer, RunFault, write_transcript};
 use std::alloc::{AllocError, Global};
 use std::io::Write;
+use xa_tables::laws::value_is_sum;
 use xa_tables::{Manager, TableFault};
-use xa_words::{Code, EndHow, Key, Op, StartHow};
+use xa_words::{Code, Key, Op};
 
-// The number of the one manager that a run has.
-const MANAGER: u32 = MANAGERS;
-
-const TMNOFLAGS: u32 = 0;
-
-// What runs a script: its manager, with room for the requests that are still to come.
+// A manager, and how many requests each thread may still put to it.
 #[derive(Drop)]
-struct Runner {
+struct Served {
     manager: Manager,
-    ghost threads: { manager.threads ≡ thread_count },
-    ghost room: { manager.room ≤ most_requests },
+    rooms: Vec<u32>,
+    ghost threads: { length rooms.items ≡ manager.threads },
+    ghost room: { sum rooms.items ≡ manager.room },
 }
 
-impl Runner {
-    fn new(alloc: Global, script: &Script) -> Result<Runner, AllocError>
-        ensures tables { IfOk result (λ r. r.manager.tables ≡ opening (accounts_of the_manager script.now.keys)) }
-        ensures room { IfOk result (λ r. r.manager.room ≡ most_requests) }
+impl Served {
+    ghost use Rattle.xa_script.specs.Running.{Serves, HasTakenRequest};
+
+    fn open(alloc: Global, script: &Script, number: u32) -> Result<Served, AllocError>
+        ensures { IfOk result (Serves script.now number []) }
     {
-        let accounts = accounts_of(alloc, MANAGER, script.keys())?;
-        match Manager::new(alloc, &accounts, THREADS, REQUESTS) {
-            Ok(manager) => Ok(Runner { manager }),
+        let accounts = accounts_of(alloc, number, script.keys())?;
+        let (threads, requests) = (script.threads(), script.requests());
+        match Manager::new(alloc, &accounts, threads, threads * requests) {
+            Ok(manager) => Ok(Served {
+                manager,
+                rooms: vec![in alloc; requests; threads as usize]?,
+            }),
             Err(TableFault::NoMemory) => Err(AllocError),
             // A script declares no other keys than a manager takes.
             Err(TableFault::BadAccounts) => unreachable!(),
         }
     }
 
-    // The answer to a step, whose request is put to the manager if there is room for it.
-    fn answer(&mut self, step: &Step) -> Code
-        requires { IsOfThread step.now }
-        ensures { (steps : List Step) → HasRun step.now result self.old.manager self.new.manager steps }
+    // Carries out the request of a thread that has one left.
+    fn take(&mut self, thread: u32, op: Op) -> Code
+        requires { (1 ≤ thread) × (thread ≤ self.old.manager.threads) }
+        ensures taken { HasTakenRequest thread op result self.old self.new }
+        ensures threads { self.new.manager.threads ≡ self.old.manager.threads }
     {
-        if step.manager != MANAGER || step.flags != flags_for(&step.action) {
-            return Code::Inval;
-        }
-        if self.manager.room() == 0 {
+        let place = thread as usize - 1;
+        let room = self.rooms[place];
+        if room == 0 {
             return Code::RmErr;
         }
-        self.manager.apply(step.thread, op_of(&step.action))
+        self.rooms[place] = room - 1;
+        self.manager.apply(thread, op)
+    }
+}
+
+// What runs a script: its managers, by rising number from 1.
+#[derive(Drop)]
+struct Runner {
+    served: Vec<Served>,
+}
+
+impl Runner {
+    ghost use Rattle.xa_script.specs.Running.{Runs, HasRun};
+
+    fn new(alloc: Global, script: &Script) -> Result<Runner, AllocError>
+        ensures { IfOk result (Runs script.now nothing_taken) }
+    {
+        let managers = script.managers();
+        let mut served = Vec::with_capacity(alloc, managers as usize)?;
+        for before in 0..managers {
+            served.push(Served::open(alloc, script, before + 1)?)?;
+        }
+        Ok(Runner { served })
     }
 
-    // The answers to these steps, one by one.
-    fn answers(&mut self, alloc: Global, steps: &[Step]) -> Result<Vec<Answer>, AllocError>
-        requires { All IsOfThread steps.now }
-        ensures answers { IfOk result (λ v. v.items ≡ rest_answers self.old.manager.room self.old.manager.tables steps.now) }
-        ensures tables { OnOk result (self.new.manager.tables ≡ rest_tables self.old.manager.room self.old.manager.tables steps.now) }
+    // What a step asks of its manager, or why it is refused.
+    fn judged(&self, step: &Step) -> Result<Op, Code>
+        ensures judged { (s : Content) → length self.now.served.items ≡ managers_of s
+            → result ≡ judged s step.now }
+        ensures known { OnOk result ((1 ≤ step.now.manager) × (step.now.manager ≤ length self.now.served.items)) }
     {
+        let asked = asked_of(&step.action, step.flags)?;
+        if step.manager == 0 || step.manager as usize > self.served.len() {
+            return Err(Code::Inval);
+        }
+        if asked.asynchronous {
+            // No manager takes calls asynchronously.
+            return Err(Code::Async);
+        }
+        Ok(asked.op)
+    }
+
+    // The answer to a step, whose request is put to its manager unless it is refused.
+    fn answer(&mut self, step: &Step) -> Code
+        requires { (1 ≤ step.now.thread) × All (λ v. step.now.thread ≤ v.manager.threads) self.old.served.items }
+        ensures { HasRun step.now result self.old self.new }
+    {
+        match self.judged(step) {
+            Ok(op) => self.served[step.manager as usize - 1].take(step.thread, op),
+            Err(code) => code,
+        }
+    }
+
+    // The answers to the steps of a script, one by one.
+    fn answers(&mut self, alloc: Global, script: &Script) -> Result<Vec<Answer>, AllocError>
+        requires { Runs script.now nothing_taken self.old }
+        ensures answers { IfOk result (λ v. v.items ≡ answers_of script.now) }
+        ensures journals { OnOk result (Runs script.now (journals script.now) self.new) }
+    {
+        let steps = script.steps();
         let mut answers = Vec::with_capacity(alloc, steps.len())?;
         for step in steps {
             let code = self.answer(step).value();
@@ -73,36 +125,23 @@ impl Runner {
         Ok(answers)
     }
 
-    // These keys, each with its committed value.
-    fn values(&self, alloc: Global, keys: &[Declared]) -> Result<Vec<Declared>, AllocError>
-        ensures { IfOk result (λ v. v.items ≡ map (valued self.now.manager.tables) keys.now) }
+    // The keys of a script with their committed values, in the order in which they are shown.
+    fn values(&self, alloc: Global, script: &Script) -> Result<Vec<Declared>, AllocError>
+        requires { (js : Journals) × Runs script.now js self.now }
+        ensures all { IfOk result (λ v. IsPermutation (map name_of script.now.keys) (map name_of v.items)) }
+        ensures worth { (js : Journals) → Runs script.now js self.now → IfOk result (λ v. All (IsWorth script.now js) v.items) }
+        ensures rising { IfOk result (λ v. IsSorted shown_cmp v.items) }
     {
-        keys.iter()
-            .map(|declared| valued(&self.manager, declared))
-            .collect(alloc)
-    }
-}
-
-fn flags_for(action: &Action) -> u32
-    ensures { result ≡ flags_for action.now }
-{
-    match action {
-        Action::End(_) => TMSUCCESS,
-        _ => TMNOFLAGS,
-    }
-}
-
-fn op_of(action: &Action) -> Op
-    ensures { result ≡ op_of action.now }
-{
-    match action {
-        Action::Open => Op::OpenRm,
-        Action::Close => Op::CloseRm,
-        Action::Start(xid) => Op::Start(*xid, StartHow::Fresh),
-        Action::Add(key, delta) => Op::Add(*key, *delta),
-        Action::End(xid) => Op::End(*xid, EndHow::Success),
-        Action::Prepare(xid) => Op::Prepare(*xid),
-        Action::Commit(xid) => Op::Commit(*xid, false),
+        value_is_sum();
+        let keys = script.keys();
+        let mut values = Vec::with_capacity(alloc, keys.len())?;
+        for declared in keys {
+            let served = &self.served[declared.manager as usize - 1];
+            let value = served.manager.value(&declared.key).unwrap();
+            values.push(Declared { value, ..*declared })?;
+        }
+        values.sort()?;
+        Ok(values)
     }
 }
 
@@ -120,34 +159,13 @@ fn accounts_of(
         .collect(alloc)
 }
 
-fn valued(manager: &Manager, declared: &Declared) -> Declared
-    ensures { result ≡ valued manager.now.tables declared.now }
-{
-    Declared {
-        manager: declared.manager,
-        key: declared.key,
-        value: manager.value(&declared.key).unwrap_or(0),
-    }
-}
-
-// The keys in the order in which their values are shown.
-fn in_order(alloc: Global, keys: &[Declared]) -> Result<Vec<Declared>, AllocError>
-    ensures all { IfOk result (λ v. IsPermutation keys.now v.items) }
-    ensures rising { IfOk result (λ v. IsSorted shown_cmp v.items) }
-{
-    let mut keys = keys.to_vec(alloc)?;
-    keys.sort()?;
-    Ok(keys)
-}
-
 // The answers, and the keys with their values behind the last step.
 fn outcome(alloc: Global, script: &Script) -> Result<(Vec<Answer>, Vec<Declared>), AllocError>
     ensures { IfOk result (λ o. IsOutcome script.now o.0.items o.1.items) }
 {
     let mut runner = Runner::new(alloc, script)?;
-    let answers = runner.answers(alloc, script.steps())?;
-    let keys = in_order(alloc, script.keys())?;
-    let values = runner.values(alloc, &keys)?;
+    let answers = runner.answers(alloc, script)?;
+    let values = runner.values(alloc, script)?;
     Ok((answers, values))
 }
 

@@ -1,18 +1,25 @@
 //! What a script says.
-ghost use Rattle.std.specs.Prelude.{◌≡◌, ℕ, true, All, OnOk};
+ghost use Rattle.std.specs.Prelude.{◌≡◌, ◌≤◌, ℕ, true, All, OnOk};
 
 use std::alloc::{AllocError, Global};
 use std::marker::Model;
 use xa_words::{Delta, Key, Xid};
 
-// How many threads a script has, until a setting says so.
-pub(crate) const THREADS: u32 = 1;
+/// A count that a line of its own sets.
+#[derive(Clone, Copy, Debug, PartialEq, Eq)]
+pub(crate) enum Count {
+    Threads,
+    Managers,
+    Requests,
+}
 
-// How many managers it has, until a setting says so. They are numbered from 1.
-pub(crate) const MANAGERS: u32 = 1;
-
-// How many requests a run puts to a manager, until a setting says so.
-pub(crate) const REQUESTS: u32 = 256;
+/// The counts that are set; what isn't has its default.
+#[derive(Clone, Copy, Debug, PartialEq, Eq)]
+pub(crate) struct Settings {
+    pub(crate) threads: Option<u32>,
+    pub(crate) managers: Option<u32>,
+    pub(crate) requests: Option<u32>,
+}
 
 /// A key of a manager, and its committed value before the run or after it.
 ///
@@ -36,6 +43,7 @@ pub enum Action {
     End(Xid),
     Prepare(Xid),
     Commit(Xid),
+    Rollback(Xid),
 }
 
 /// A call that a thread makes.
@@ -52,9 +60,10 @@ pub struct Step {
     pub flags: u32,
 }
 
-/// A whole script: its keys and its steps, each in the order of the lines.
+/// A whole script: its settings, and its keys and its steps, each in the order of the lines.
 #[derive(Debug, Drop)]
 pub struct Script {
+    settings: Settings,
     keys: Vec<Declared>,
     steps: Vec<Step>,
 }
@@ -64,27 +73,57 @@ impl Model for Script {
 
     ghost Value = { Content };
 
-    ghost view = { λ s. record { keys = s.keys.items; steps = s.steps.items } };
+    ghost view = { λ s. record { settings = s.settings; keys = s.keys.items; steps = s.steps.items } };
 
-    ghost invariant = { λ s. IsScript (record { keys = s.keys.items; steps = s.steps.items }) };
+    ghost invariant = { λ s. IsScript (record { settings = s.settings; keys = s.keys.items; steps = s.steps.items }) };
 }
 
 impl Script {
     ghost use Rattle.xa_tables.specs.Accounts.{are_accounts};
-    ghost use Rattle.xa_script.specs.Content.{accounts_of, IsOfThread, IsScript, nothing, with_key, with_step};
+    ghost use Rattle.xa_script.specs.Content.{accounts_of, IsOfManager, IsOfThread, IsScript, threads_of, managers_of, requests_of, nothing, with_count, with_key, with_step};
 
     pub(crate) fn new(alloc: Global) -> Script
         ensures { result ≡ nothing }
     {
         Script {
+            settings: Settings {
+                threads: None,
+                managers: None,
+                requests: None,
+            },
             keys: Vec::new(alloc),
             steps: Vec::new(alloc),
         }
     }
 
+    /// How many threads of control there are, 1 to 8.
+    pub fn threads(&self) -> u32
+        ensures threads { result ≡ threads_of self.now }
+        ensures limits { (1 ≤ result) × (result ≤ 8) }
+    {
+        self.settings.threads.unwrap_or(1)
+    }
+
+    /// How many managers there are, 1 to 8.
+    pub fn managers(&self) -> u32
+        ensures managers { result ≡ managers_of self.now }
+        ensures limits { (1 ≤ result) × (result ≤ 8) }
+    {
+        self.settings.managers.unwrap_or(1)
+    }
+
+    /// How many requests a thread may put to a manager, 1 to 4,096.
+    pub fn requests(&self) -> u32
+        ensures requests { result ≡ requests_of self.now }
+        ensures limits { (1 ≤ result) × (result ≤ 4096) }
+    {
+        self.settings.requests.unwrap_or(256)
+    }
+
     /// The declared keys, in the order of their lines.
     pub fn keys(&self) -> &[Declared]
         ensures keys { result.now ≡ self.now.keys }
+        ensures managers { All (IsOfManager self.now) result.now }
         ensures accounts { (m : ℕ) → are_accounts (accounts_of m result.now) ≡ true }
     {
         &self.keys
@@ -93,9 +132,26 @@ impl Script {
     /// The calls of all threads, in the order of their lines.
     pub fn steps(&self) -> &[Step]
         ensures steps { result.now ≡ self.now.steps }
-        ensures threads { All IsOfThread result.now }
+        ensures threads { All (IsOfThread self.now) result.now }
     {
         &self.steps
+    }
+
+    pub(crate) fn settings(&self) -> &Settings
+        ensures { result.now ≡ self.now.settings }
+    {
+        &self.settings
+    }
+
+    pub(crate) fn set(&mut self, count: Count, number: u32)
+        requires { IsScript self.old → IsScript (with_count count number self.old) }
+        ensures { self.new ≡ with_count count number self.old }
+    {
+        match count {
+            Count::Threads => self.settings.threads = Some(number),
+            Count::Managers => self.settings.managers = Some(number),
+            Count::Requests => self.settings.requests = Some(number),
+        }
     }
 
     pub(crate) fn add_key(&mut self, declared: Declared) -> Result<(), AllocError>

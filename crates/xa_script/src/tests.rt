@@ -1,3 +1,4 @@
+mod rules;
 mod running;
 mod statuses;
 
@@ -26,7 +27,7 @@ fn a_faulty_line_is_named_with_its_first_fault(rt: HostRuntime) {
     let long = [b'#'; 513];
     let mut long_and_bad = long;
     long_and_bad[7] = 127;
-    let rows: [(&[u8], u32, Reason); 45] = [
+    let rows: [(&[u8], u32, Reason); 66] = [
         (&long, 1, Reason::LineTooLong),
         (&long_and_bad, 1, Reason::LineTooLong),
         (b"# \x7f", 1, Reason::BadByte),
@@ -34,30 +35,45 @@ fn a_faulty_line_is_named_with_its_first_fault(rt: HostRuntime) {
         (b"1 open 1\r \n", 1, Reason::BadByte),
         (b"1 open 1\r\r\n", 1, Reason::BadByte),
         (b"\n# a\n \t\r\nfoo\n", 4, Reason::UnknownWord),
-        (b"threads 2\n", 1, Reason::UnknownWord),
+        (b"thread 2\n", 1, Reason::UnknownWord),
         (b"turn 1\n", 1, Reason::UnknownWord),
-        (b"1 rollback 1 g.1\n", 1, Reason::UnknownWord),
+        (b"handles 1\n", 1, Reason::UnknownWord),
+        (b"1 shut 1\n", 1, Reason::UnknownWord),
         (b"1 open 1 async\n", 1, Reason::UnknownWord),
+        (b"1 open 1 Join\n", 1, Reason::UnknownWord),
         (b"1 open 1 success 1\n", 1, Reason::UnknownWord),
         (b"1x open 1\n", 1, Reason::UnknownWord),
         (b"key\n", 1, Reason::MissingWord),
         (b"key 1 a\n", 1, Reason::MissingWord),
+        (b"threads\n", 1, Reason::MissingWord),
         (b"1\n", 1, Reason::MissingWord),
         (b"1 open", 1, Reason::MissingWord),
         (b"1 start 1\n", 1, Reason::MissingWord),
+        (b"1 rollback 1\n", 1, Reason::MissingWord),
         (b"1 add 1 a\n", 1, Reason::MissingWord),
         (b"key 1 a 1 2\n", 1, Reason::ExtraWord),
+        (b"managers 1 2\n", 1, Reason::ExtraWord),
         (b"1234567890123456789 fly\n", 1, Reason::BadNumber),
+        (b"threads two\n", 1, Reason::BadNumber),
+        (b"managers -1\n", 1, Reason::BadNumber),
         (b"1 open x\n", 1, Reason::BadNumber),
         (b"1 add 1 a -\n", 1, Reason::BadNumber),
         (b"1 add 1 a --1\n", 1, Reason::BadNumber),
         (b"key -1 a 1\n", 1, Reason::BadNumber),
+        (b"threads 0\n", 1, Reason::OutOfRange),
+        (b"threads 9 9\n", 1, Reason::OutOfRange),
+        (b"managers 9\n", 1, Reason::OutOfRange),
+        (b"requests 0\n", 1, Reason::OutOfRange),
+        (b"requests 4097\n", 1, Reason::OutOfRange),
         (b"0 open 1\n", 1, Reason::OutOfRange),
         (b"2 fly\n", 1, Reason::OutOfRange),
+        (b"threads 2\n3 open 1\n", 2, Reason::OutOfRange),
         (b"1 open 4294967296\n", 1, Reason::OutOfRange),
         (b"1 add 1 a 1000000000001\n", 1, Reason::OutOfRange),
         (b"1 add 1 a -1000000000001 fly\n", 1, Reason::OutOfRange),
         (b"key 2 A 1\n", 1, Reason::OutOfRange),
+        (b"managers 2\nkey 3 a 1\n", 2, Reason::OutOfRange),
+        (b"key 2 a 1\nmanagers 2\n", 1, Reason::OutOfRange),
         (b"key 1 a 1000000000001\n", 1, Reason::OutOfRange),
         (b"key 1 A x\n", 1, Reason::BadKey),
         (b"1 add 1 abcdefghijklmnopq 1\n", 1, Reason::BadKey),
@@ -68,7 +84,25 @@ fn a_faulty_line_is_named_with_its_first_fault(rt: HostRuntime) {
         (b"1 end 1 G.1\n", 1, Reason::BadXid),
         (b"1 open 1\nkey 9 A\n", 2, Reason::SettingAfterAction),
         (b"1 open 1\n\nkey", 3, Reason::SettingAfterAction),
+        (
+            b"threads 2\n1 open 1\nthreads 9\n",
+            3,
+            Reason::SettingAfterAction,
+        ),
+        (b"threads 2\nthreads 3\n", 2, Reason::SettingTwice),
+        (b"threads 2\nthreads 9 9\n", 2, Reason::SettingTwice),
+        (b"managers 1\nmanagers 1\n", 2, Reason::SettingTwice),
+        (
+            b"requests 9\nthreads 1\nrequests\n",
+            3,
+            Reason::SettingTwice,
+        ),
         (b"key 1 a 1\nkey 1 a 2\n", 2, Reason::KeyTwice),
+        (
+            b"managers 2\nkey 1 a 1\nkey 2 a 1\nkey 2 a 1\n",
+            4,
+            Reason::KeyTwice,
+        ),
         (b"key 1 a 1\nkey 1 a 2 3\n", 2, Reason::ExtraWord),
         (b"fly\n# \x7f\n", 1, Reason::UnknownWord),
         (b"# \x7f\nfly\n", 1, Reason::BadByte),
@@ -86,7 +120,7 @@ fn a_faulty_line_is_named_with_its_first_fault(rt: HostRuntime) {
 fn spaces_line_ends_and_large_numbers_are_taken(rt: HostRuntime) {
     let mut full = [b'#'; 513];
     full[512] = b'\r';
-    let rows: [&[u8]; 9] = [
+    let rows: [&[u8]; 12] = [
         b"",
         b"\r",
         b"\r\n\t \n  # fly",
@@ -95,6 +129,9 @@ fn spaces_line_ends_and_large_numbers_are_taken(rt: HostRuntime) {
         b"key 1 abcdefghijklmnop 1000000000000\nkey 1 0 0\n",
         b"1 add 1 a -1000000000000\n1 add 9 z 1000000000000\n1 add 1 a -0\n",
         b"1 start 1 0g.z9\n",
+        b"requests 4096\nkey 1 a 1\nmanagers 8\nthreads 8\nkey 8 a 1\n8 open 8\n",
+        b"threads 1\nmanagers 1\nrequests 1\n",
+        b"1 open 1 onephase fail nowait resume success suspend multiple join join\n",
         &full,
     ];
     for script in rows {
@@ -220,43 +257,57 @@ fn a_failing_read_is_told_wherever_it_comes(rt: HostRuntime) {
 }
 
 #[test]
-fn a_script_is_read_into_keys_and_steps(rt: HostRuntime) -> Result<(), Fail> {
-    let mut text = b"key 1 a 100\n\n1 open 1\n1 start 1 g.1\n1 add 1 a -30\n\
-        1 end 1 g.1 success\n1 prepare 1 g.1\n1 commit 1 g.1\n1 close 2"
+fn a_script_is_read_into_settings_keys_and_steps(rt: HostRuntime) -> Result<(), Fail> {
+    let mut text = b"threads 3\nmanagers 2\nrequests 9\nkey 2 a 100\n1 open 1\n1 start 1 g.1\n\
+        2 add 1 a -30\n1 end 1 g.1 suspend fail\n1 prepare 1 g.1\n3 commit 1 g.1 onephase\n\n\
+        1 rollback 4 g.1 join\n1 close 2"
         .as_slice();
     let script = read_script(rt.alloc(), &mut text, true)?;
+    assert_eq!(rt; script.threads(), 3);
+    assert_eq!(rt; script.managers(), 2);
+    assert_eq!(rt; script.requests(), 9);
     let key = Key::new(b"a").ok_or("key")?;
     let xid = Xid::new(1, b"g", b"1").ok().ok_or("xid")?;
     let delta = Delta::new(-30).ok_or("delta")?;
     assert_eq!(rt;
         script.keys(),
         [Declared {
-            manager: 1,
+            manager: 2,
             key,
             value: 100
         }]
         .as_slice()
     );
     let rows = [
-        (3, 1, Action::Open, 0),
-        (4, 1, Action::Start(xid), 0),
-        (5, 1, Action::Add(key, delta), 0),
-        (6, 1, Action::End(xid), 0x0400_0000),
-        (7, 1, Action::Prepare(xid), 0),
-        (8, 1, Action::Commit(xid), 0),
-        (9, 2, Action::Close, 0),
+        (5, 1, 1, Action::Open, 0),
+        (6, 1, 1, Action::Start(xid), 0),
+        (7, 2, 1, Action::Add(key, delta), 0),
+        (8, 1, 1, Action::End(xid), 0x2200_0000),
+        (9, 1, 1, Action::Prepare(xid), 0),
+        (10, 3, 1, Action::Commit(xid), 0x4000_0000),
+        (12, 1, 4, Action::Rollback(xid), 0x0020_0000),
+        (13, 1, 2, Action::Close, 0),
     ];
-    assert_eq!(rt; script.steps().len(), 7);
-    for (step, (line, manager, action, flags)) in script.steps().iter().zip(rows) {
+    assert_eq!(rt; script.steps().len(), 8);
+    for (step, (line, thread, manager, action, flags)) in script.steps().iter().zip(rows) {
         let want = Step {
             line,
-            thread: 1,
+            thread,
             manager,
             action,
             flags,
         };
         assert_eq!(rt; *step, want);
     }
+    Ok(())
+}
+
+#[test]
+fn settings_have_defaults(rt: HostRuntime) -> Result<(), Fail> {
+    let script = read_script(rt.alloc(), &mut b"".as_slice(), false)?;
+    assert_eq!(rt; script.threads(), 1);
+    assert_eq!(rt; script.managers(), 1);
+    assert_eq!(rt; script.requests(), 256);
     Ok(())
 }
 

@@ -2,7 +2,7 @@
 use super::*;
 
 // Whether the program ends with status 0 on this script, writes this transcript and tells nothing.
-fn shows(alloc: Global, mut script: &[u8], transcript: &[u8]) -> bool {
+pub(super) fn shows(alloc: Global, mut script: &[u8], transcript: &[u8]) -> bool {
     let mut out = Vec::new(alloc);
     let mut err = Vec::new(alloc);
     let status = program(alloc, &["turns"], &mut script, &mut out, &mut err);
@@ -43,6 +43,52 @@ fn a_branch_that_adds_nothing_is_read_only(rt: HostRuntime) {
     let script = b"key 1 a 100\n1 open 1\n1 start 1 g.1\n\
         1 end 1 g.1 success\n1 prepare 1 g.1\n1 commit 1 g.1\n";
     let transcript = b"2 1 0\n3 1 0\n4 1 0\n5 1 3\n6 1 -4\nvalue 1 a 100\n";
+    assert!(rt; shows(rt.alloc(), script, transcript));
+}
+
+#[test]
+fn a_branch_is_started_once_and_joined(rt: HostRuntime) {
+    let script = b"1 open 1\n1 start 1 g.1\n1 start 1 g.1\n1 end 1 g.1 success\n1 start 1 g.1\n\
+        1 start 1 g.1 join\n1 start 1 h.1 join resume\n";
+    let transcript = b"1 1 0\n2 1 0\n3 1 -6\n4 1 0\n5 1 -8\n6 1 0\n7 1 -5\n";
+    assert!(rt; shows(rt.alloc(), script, transcript));
+}
+
+#[test]
+fn two_threads_work_on_a_branch(rt: HostRuntime) {
+    let script = b"threads 2\nkey 1 a 0\n1 open 1\n2 open 1\n1 start 1 g.1\n2 start 1 g.1 join\n\
+        2 add 1 a 5\n1 end 1 g.1 success\n1 prepare 1 g.1\n2 end 1 g.1 success\n\
+        1 prepare 1 g.1\n2 commit 1 g.1\n";
+    let transcript = b"3 1 0\n4 2 0\n5 1 0\n6 2 0\n7 2 0\n8 1 0\n9 1 -6\n10 2 0\n11 1 0\n12 2 0\n\
+        value 1 a 5\n";
+    assert!(rt; shows(rt.alloc(), script, transcript));
+}
+
+#[test]
+fn requests_are_used_up(rt: HostRuntime) {
+    let script = b"requests 2\n1 open 1\n1 close 1\n1 open 1\n";
+    let transcript = b"2 1 0\n3 1 0\n4 1 -3\n";
+    assert!(rt; shows(rt.alloc(), script, transcript));
+}
+
+#[test]
+fn a_failed_branch_can_only_be_rolled_back(rt: HostRuntime) {
+    let script = b"threads 2\nkey 1 a 1\n1 open 1\n2 open 1\n1 start 1 g.1\n1 end 1 g.1 suspend\n\
+        1 add 1 a 1\n2 start 1 g.1 join\n2 end 1 g.1 fail\n1 start 1 g.1 resume\n\
+        1 add 1 a 1\n1 end 1 g.1 success\n1 prepare 1 g.1\n1 rollback 1 g.1\n\
+        1 rollback 1 g.1\n";
+    let transcript = b"3 1 0\n4 2 0\n5 1 0\n6 1 0\n7 1 -6\n8 2 0\n9 2 100\n10 1 0\n11 1 100\n\
+        12 1 100\n13 1 -6\n14 1 100\n15 1 -4\nvalue 1 a 1\n";
+    assert!(rt; shows(rt.alloc(), script, transcript));
+}
+
+#[test]
+fn a_touched_key_makes_the_other_branch_rollback_only(rt: HostRuntime) {
+    let script = b"threads 2\nkey 1 a 7\n1 open 1\n2 open 1\n1 start 1 g.1\n2 start 1 h.1\n\
+        1 add 1 a 1\n2 add 1 a 1\n2 add 1 z 1\n2 end 1 h.1 success\n2 rollback 1 h.1\n\
+        1 end 1 g.1 success\n1 commit 1 g.1 onephase\n";
+    let transcript = b"3 1 0\n4 2 0\n5 1 0\n6 2 0\n7 1 0\n8 2 107\n9 2 -5\n10 2 107\n11 2 107\n\
+        12 1 0\n13 1 0\nvalue 1 a 8\n";
     assert!(rt; shows(rt.alloc(), script, transcript));
 }
 

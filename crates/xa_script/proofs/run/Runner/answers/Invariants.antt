@@ -1,11 +1,10 @@
-use Rattle.std.proofs.Common.{◌≡◌, ◌++◌, drop}
-use Rattle.xa_script.specs.Running.{rest_answers, rest_tables}
+use Rattle.std.proofs.Common.{◌≡◌, take}
+use Rattle.xa_script.specs.Run.{nothing_taken, answers_behind, journals_behind}
+use Rattle.xa_script.specs.Running.{Runs}
 use Rattle.xa_script.proofs.run.Runner.answers.Given as goal
 
--- the answers so far, and what comes of the other steps
+-- the first steps have their answers, and the managers serve behind them
 abbrev pub invariant-loop-step : goal.invariant-loop-step
 invariant-loop-step l =
-    let m = l.self.manager in
-    let n = l.fn.self.manager in
-    (l.answers.items ++ rest_answers m.room m.tables (drop l.step-index l.steps) ≡ rest_answers n.room n.tables l.steps)
-    × (rest_tables m.room m.tables (drop l.step-index l.steps) ≡ rest_tables n.room n.tables l.steps)
+    (l.answers.items ≡ answers_behind l.script nothing_taken (take l.step-index l.steps))
+    × Runs l.script (journals_behind l.script nothing_taken (take l.step-index l.steps)) l.self

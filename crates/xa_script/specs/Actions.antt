@@ -1,0 +1,60 @@
+-- Actions: what the threads do.
+use Rattle.std.specs.Prelude.{ℕ, if◌then◌else◌, List, Option, Some, None, Result, Ok, codes}
+use Rattle.std.specs.Option.{ok_or}
+use Rattle.std.specs.Str.{bytes_eq}
+use Rattle.xa_words.specs.Xid.{XidName}
+use Rattle.xa_script.specs.declared.fault.Reason.{Reason}
+use Rattle.xa_script.specs.declared.fault.Reason.TheVariants.{UnknownWord}
+use Rattle.xa_script.specs.declared.script.Action.{Action}
+use Rattle.xa_script.specs.declared.script.Action.TheVariants as action
+use Rattle.xa_script.specs.declared.script.Step.{Step}
+use Rattle.xa_script.specs.declared.action.Verb.{Verb}
+use Rattle.xa_script.specs.declared.action.Verb.TheVariants as verb
+use Rattle.xa_script.specs.declared.action.BranchVerb.{BranchVerb}
+use Rattle.xa_script.specs.declared.action.BranchVerb.TheVariants as branch
+use Rattle.xa_script.specs.Fields.{◌>>=◌, Word, word_at, number_in, number_at, key_at, xid_at, delta_at, flags_onto}
+use Rattle.xa_script.specs.Content.{Content, threads_of}
+
+-- What T does is one of eight verbs.
+abbrev pub verb_of : Word → Option Verb
+verb_of w =
+    if bytes_eq w (codes "open") then Some verb.Open
+    else if bytes_eq w (codes "close") then Some verb.Close
+    else if bytes_eq w (codes "start") then Some (verb.OnBranch branch.Start)
+    else if bytes_eq w (codes "end") then Some (verb.OnBranch branch.End)
+    else if bytes_eq w (codes "prepare") then Some (verb.OnBranch branch.Prepare)
+    else if bytes_eq w (codes "commit") then Some (verb.OnBranch branch.Commit)
+    else if bytes_eq w (codes "rollback") then Some (verb.OnBranch branch.Rollback)
+    else if bytes_eq w (codes "add") then Some verb.Add
+    else None
+
+-- A verb on a branch is the action on the branch of that xid.
+abbrev pub on_branch : BranchVerb → XidName → Action
+on_branch branch.Start x = action.Start x
+on_branch branch.End x = action.End x
+on_branch branch.Prepare x = action.Prepare x
+on_branch branch.Commit x = action.Commit x
+on_branch branch.Rollback x = action.Rollback x
+
+-- The words between M and the flags: none, XID, or KEY DELTA.
+unfoldable pub action_at : Verb → List Word → Result (Action × List Word) Reason
+action_at verb.Open ws = Ok (action.Open, ws)
+action_at verb.Close ws = Ok (action.Close, ws)
+action_at (verb.OnBranch v) ws = do
+  x ← xid_at ws
+  Ok (on_branch v x.0, x.1)
+action_at verb.Add ws = do
+  k ← key_at ws
+  d ← delta_at k.1
+  Ok (action.Add k.0 d.0, d.1)
+
+-- T VERB M .. flags, on the line of this number; T is one of the threads, and M any number up to 4,294,967,295.
+unfoldable pub step_of : Content → ℕ → Word → List Word → Result Step Reason
+step_of s line first ws = do
+  t ← number_in 1 (threads_of s) first
+  w ← word_at ws
+  v ← ok_or (verb_of w.0) UnknownWord
+  m ← number_at 0 4_294_967_295 w.1
+  a ← action_at v m.1
+  f ← flags_onto 0 a.1
+  Ok (record { line = line; thread = t; manager = m.0; action = a.0; flags = f })
