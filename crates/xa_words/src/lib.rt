@@ -1,5 +1,5 @@
 //! The words of the switch: names of transactions and keys, changes, codes, calls with their flags,
-//! and requests.
+//! requests and completions.
 #![tactic(auto)]
 
 mod code;
@@ -21,6 +21,6 @@ pub use flags::{
     TMRESUME, TMSTARTRSCAN, TMSUCCESS, TMSUSPEND, TMUSEASYNC, check_flags,
 };
 pub use key::Key;
-pub use request::{EndHow, Op, Request, StartHow};
+pub use request::{Completion, EndHow, Op, Request, StartHow};
 pub use tran::Tran;
 pub use xid::{Xid, XidFault};

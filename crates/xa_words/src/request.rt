@@ -1,4 +1,5 @@
-//! Requests to a manager.
+//! Requests to a manager, and its completions.
+use crate::code::Code;
 use crate::delta::Delta;
 use crate::key::Key;
 use crate::xid::Xid;
@@ -57,4 +58,15 @@ pub struct Request {
     pub number: u32,
     /// What is asked.
     pub op: Op,
+}
+
+/// The answer to one request.
+#[derive(Clone, Copy, Debug, PartialEq, Eq)]
+pub struct Completion {
+    /// The manager that answers, from 1.
+    pub manager: u32,
+    /// The number that the thread of control gave the request.
+    pub number: u32,
+    /// The request's return code.
+    pub code: Code,
 }

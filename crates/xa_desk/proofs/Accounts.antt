@@ -1,0 +1,251 @@
+-- What a sending and a collection do to the accounts.
+use Rattle.std.proofs.Common.{◌≡◌, ◌≢◌, ℕ, zero, suc, ◌+◌, ◌-◌, ◌<◌, ◌≤◌, ◌⊎◌, false, is_some, ◌||◌, nat_eq, List, [], ◌∷◌, ◌++◌, length, Option, Some, None, get_or, sum_by, sym, refl, ap, ◌∙◌, subst, inl, inr, arith, length-append}
+use Rattle.std.specs.Cmp.{nat_eq_equiv}
+use Rattle.std.proofs.lemmas.List.{map-append, length-set, get_or-set_same, get_or-set_other, get_or_read, length-map}
+use Rattle.std.proofs.lemmas.List.Sums.{sum_by-set, sum_by-cons}
+use Rattle.std.proofs.lemmas.List.Folds.{list_any-append}
+use Rattle.std.proofs.lemmas.Map.Keys.{IsDistinct-push}
+use Rattle.std.proofs.lemmas.Map.Steps.{length-le_from_distinct_below}
+use Rattle.std.proofs.lemmas.Bool.{cases_eq, false_from_ne_true, eqb-true, or_cases, or_parts, or_from, false≢true, ne_eqb, eqb-false}
+use Rattle.xa_words.specs.declared.request.Op.{Op}
+use Rattle.xa_words.specs.declared.code.Code.{Code}
+use Rattle.xa_desk.specs.declared.operation.Operation.{Operation}
+use Rattle.xa_desk.specs.AccountView.{AccountView, numbers, is_collected, with_sent, with_collected}
+use Rattle.xa_desk.specs.DeskView.{IsKnown, IsSent, IsOut, account, put_account, no_account, after_sent, after_collected}
+use Rattle.xa_desk.specs.Slots.{IsOrderly, planned_total}
+
+pub same_operation : (a b : Operation) → a.manager ≡ b.manager → a.number ≡ b.number → a ≡ b
+same_operation a b e f = λ i. record { manager = e i; number = f i }
+
+pub none_from : {A : Type 0} (x : Option A) → ((a : A) → x ≡ Some a → ⊥) → x ≡ None
+none_from None never = refl
+none_from (Some a) never = absurd (never a refl)
+
+module _ {A : Type 0} (f : Option A → ℕ) (zeros : f None ≡ 0) where
+  pub sum_by-same : (xs ys : List (Option A)) → ((k : ℕ) → get_or ys k None ≡ get_or xs k None) → sum_by f ys ≡ sum_by f xs
+  sum_by-same [] [] same = refl
+  sum_by-same [] (y ∷ ys) same =
+      let rest : sum_by f ys ≡ sum_by f [] = sum_by-same [] ys (λ k. same (suc k)) in
+      let head : f y ≡ f None = ap f (same 0) in
+      omega (arith, sum_by-cons f y ys)
+  sum_by-same (x ∷ xs) [] same =
+      let rest : sum_by f [] ≡ sum_by f xs = sum_by-same xs [] (λ k. same (suc k)) in
+      let head : f None ≡ f x = ap f (same 0) in
+      omega (arith, sum_by-cons f x xs)
+  sum_by-same (x ∷ xs) (y ∷ ys) same =
+      let rest : sum_by f ys ≡ sum_by f xs = sum_by-same xs ys (λ k. same (suc k)) in
+      let head : f y ≡ f x = ap f (same 0) in
+      omega (arith, sum_by-cons f x xs, sum_by-cons f y ys)
+
+  -- a sum over slots changes by the slot that changes
+  pub sum_by-changed : (xs ys : List (Option A)) (key : ℕ) → ((k : ℕ) → k ≢ key → get_or ys k None ≡ get_or xs k None) → sum_by f ys + f (get_or xs key None) ≡ sum_by f xs + f (get_or ys key None)
+  sum_by-changed [] [] key others = refl
+  sum_by-changed [] (y ∷ ys) zero others =
+      let rest : sum_by f ys ≡ sum_by f [] = sum_by-same [] ys (λ k. others (suc k) (λ e. absurd (omega arith))) in
+      omega (arith, sum_by-cons f y ys)
+  sum_by-changed [] (y ∷ ys) (suc key) others =
+      let rest : sum_by f ys + f None ≡ sum_by f [] + f (get_or ys key None) = sum_by-changed [] ys key (λ k differs. others (suc k) (λ e. differs (omega arith))) in
+      let head : f y ≡ f None = ap f (others 0 (λ e. absurd (omega arith))) in
+      omega (arith, sum_by-cons f y ys)
+  sum_by-changed (x ∷ xs) [] zero others =
+      let rest : sum_by f [] ≡ sum_by f xs = sum_by-same xs [] (λ k. others (suc k) (λ e. absurd (omega arith))) in
+      omega (arith, sum_by-cons f x xs)
+  sum_by-changed (x ∷ xs) [] (suc key) others =
+      let rest : sum_by f [] + f (get_or xs key None) ≡ sum_by f xs + f None = sum_by-changed xs [] key (λ k differs. others (suc k) (λ e. differs (omega arith))) in
+      let head : f None ≡ f x = ap f (others 0 (λ e. absurd (omega arith))) in
+      omega (arith, sum_by-cons f x xs)
+  sum_by-changed (x ∷ xs) (y ∷ ys) zero others =
+      let rest : sum_by f ys ≡ sum_by f xs = sum_by-same xs ys (λ k. others (suc k) (λ e. absurd (omega arith))) in
+      omega (arith, sum_by-cons f x xs, sum_by-cons f y ys)
+  sum_by-changed (x ∷ xs) (y ∷ ys) (suc key) others =
+      let rest : sum_by f ys + f (get_or xs key None) ≡ sum_by f xs + f (get_or ys key None) = sum_by-changed xs ys key (λ k differs. others (suc k) (λ e. differs (omega arith))) in
+      let head : f y ≡ f x = ap f (others 0 (λ e. absurd (omega arith))) in
+      omega (arith, sum_by-cons f x xs, sum_by-cons f y ys)
+
+module _ (at : List AccountView) where
+  pub account-put_same : (m : ℕ) (a : AccountView) → IsKnown at m → account (put_account at m a) m ≡ a
+  account-put_same m a known = get_or-set_same at (m - 1) a no_account (omega arith)
+
+  pub account-put_other : (m n : ℕ) (a : AccountView) → 1 ≤ m → 1 ≤ n → n ≢ m → account (put_account at m a) n ≡ account at n
+  account-put_other m n a p q differs = get_or-set_other at (m - 1) (n - 1) a no_account (λ e. differs (omega arith))
+
+  pub known_before : (m n : ℕ) (a : AccountView) → IsKnown (put_account at m a) n → IsKnown at n
+  known_before m n a known = record { positive = known.positive; within = rw (length-set at (m - 1) a) at known.within }
+
+  pub known_after : (m n : ℕ) (a : AccountView) → IsKnown at n → IsKnown (put_account at m a) n
+  known_after m n a known = record { positive = known.positive; within = rw (length-set at (m - 1) a) known.within }
+
+-- fewer were collected than sent, where one is outstanding; and never more
+pub collected-le-sent : (a : AccountView) → IsOrderly a → length a.collected ≤ length a.sent
+collected-le-sent a o =
+    let below : length (numbers a) ≤ length a.sent = length-le_from_distinct_below (numbers a) (length a.sent) o.distinct o.below in
+    rw length-map at below
+
+pub orderly_sent : (a : AccountView) (op : Op) → IsOrderly a → length a.sent < a.plan → IsOrderly (with_sent a op)
+orderly_sent a op o room = record {
+  planned = omega (arith, length-append a.sent (op ∷ []));
+  distinct = o.distinct;
+  below = λ n e. let h = o.below n e in omega (arith, length-append a.sent (op ∷ []));
+}
+
+pub is_collected-push : (a : AccountView) (n : ℕ) (code : Code) (q : ℕ) → is_collected (with_collected a n code) q ≡ (is_collected a q || (nat_eq q n || false))
+is_collected-push a n code q = rw (map-append (λ (p : ℕ × Code). p.0) a.collected ((n, code) ∷ [])) (list_any-append (nat_eq q) (numbers a) (n ∷ []))
+
+pub orderly_collected : (a : AccountView) (n : ℕ) (code : Code) → IsOrderly a → n < length a.sent → is_collected a n ≡ false → IsOrderly (with_collected a n code)
+orderly_collected a n code o sent fresh = record {
+  planned = o.planned;
+  distinct = rw (map-append (λ (p : ℕ × Code). p.0) a.collected ((n, code) ∷ [])) (IsDistinct-push nat_eq_equiv (numbers a) n o.distinct fresh);
+  below = λ q e. elim (or_cases (is_collected a q) (nat_eq q n || false) (sym (is_collected-push a n code q) ∙ e)) [
+    | inl was ↦ o.below q was
+    | inr new ↦ elim (or_cases (nat_eq q n) false new) [
+      | inl same ↦ rw (eqb-true q n same) sent
+      | inr wrong ↦ absurd (false≢true wrong)
+    ]
+  ];
+}
+
+pub collected-lt-sent : (a : AccountView) (n : ℕ) (code : Code) → IsOrderly a → n < length a.sent → is_collected a n ≡ false → length a.collected < length a.sent
+collected-lt-sent a n code o sent fresh =
+    let more : length (a.collected ++ (n, code) ∷ []) ≤ length a.sent = collected-le-sent (with_collected a n code) (orderly_collected a n code o sent fresh) in
+    omega (arith, length-append a.collected ((n, code) ∷ []))
+
+-- sending
+
+module _ (at : List AccountView) (m : ℕ) (op : Op) (known : IsKnown at m) where
+  abbrev pub sent_now : Operation
+  sent_now = record { manager = m; number = length (account at m).sent }
+
+  pub account-sent_same : (n : ℕ) → n ≡ m → account (after_sent at m op) n ≡ with_sent (account at n) op
+  account-sent_same n e = rw e (account-put_same at m (with_sent (account at m) op) known)
+
+  pub account-sent_other : (n : ℕ) → 1 ≤ n → n ≢ m → account (after_sent at m op) n ≡ account at n
+  account-sent_other n p differs = account-put_other at m n (with_sent (account at m) op) known.positive p differs
+
+  pub sent_keeps_sent : (o : Operation) → IsSent at o → IsSent (after_sent at m op) o
+  sent_keeps_sent o was =
+      let k = known_after at m o.manager (with_sent (account at m) op) was.known in
+      elim (cases_eq o.manager m) [
+        | inl same ↦ record { known = k; sent = rw (account-sent_same o.manager same) (let h = was.sent in omega (arith, length-append (account at o.manager).sent (op ∷ []))) }
+        | inr differs ↦ record { known = k; sent = rw (account-sent_other o.manager was.known.positive differs) was.sent }
+      ]
+
+  pub sent_keeps_out : (o : Operation) → IsOut at o → IsOut (after_sent at m op) o
+  sent_keeps_out o was =
+      let k = known_after at m o.manager (with_sent (account at m) op) was.known in
+      elim (cases_eq o.manager m) [
+        | inl same ↦ record {
+          known = k;
+          sent = rw (account-sent_same o.manager same) (let h = was.sent in omega (arith, length-append (account at o.manager).sent (op ∷ [])));
+          open_ = rw (account-sent_same o.manager same) was.open_;
+        }
+        | inr differs ↦ record {
+          known = k;
+          sent = rw (account-sent_other o.manager was.known.positive differs) was.sent;
+          open_ = rw (account-sent_other o.manager was.known.positive differs) was.open_;
+        }
+      ]
+
+  pub sent_now_out : IsOrderly (account at m) → IsOut (after_sent at m op) sent_now
+  sent_now_out o = record {
+    known = known_after at m m (with_sent (account at m) op) known;
+    sent = rw (account-sent_same m refl) (omega (arith, length-append (account at m).sent (op ∷ [])));
+    open_ = rw (account-sent_same m refl) (false_from_ne_true _ (λ e. let h = o.below _ e in omega arith));
+  }
+
+  pub sent_out_cases : (o : Operation) → IsOut (after_sent at m op) o → (o ≡ sent_now) ⊎ IsOut at o
+  sent_out_cases o is =
+      let k = known_before at m o.manager (with_sent (account at m) op) is.known in
+      elim (cases_eq o.manager m) [
+        | inl same ↦
+            let within : o.number < length (with_sent (account at o.manager) op).sent = rw (account-sent_same o.manager same) at is.sent in
+            let fresh : is_collected (account at o.manager) o.number ≡ false = rw (account-sent_same o.manager same) at is.open_ in
+            elim (cases_eq o.number (length (account at o.manager).sent)) [
+              | inl last ↦ inl (same_operation o sent_now same (last ∙ ap (λ n. length (account at n).sent) same))
+              | inr before ↦ inr (record { known = k; sent = omega (arith, length-append (account at o.manager).sent (op ∷ [])); open_ = fresh })
+            ]
+        | inr differs ↦ inr (record {
+          known = k;
+          sent = rw (account-sent_other o.manager k.positive differs) at is.sent;
+          open_ = rw (account-sent_other o.manager k.positive differs) at is.open_;
+        })
+      ]
+
+  pub unsent : (o : Operation) → IsSent at o → o ≢ sent_now
+  unsent o was e =
+      let before : length (account at m).sent < length (account at m).sent = subst (λ p. p.number < length (account at p.manager).sent) e was.sent in
+      omega arith
+
+-- collecting
+
+module _ (at : List AccountView) (o : Operation) (code : Code) (known : IsKnown at o.manager) where
+  pub account-collected_same : (n : ℕ) → n ≡ o.manager → account (after_collected at o code) n ≡ with_collected (account at n) o.number code
+  account-collected_same n e = rw e (account-put_same at o.manager (with_collected (account at o.manager) o.number code) known)
+
+  pub account-collected_other : (n : ℕ) → 1 ≤ n → n ≢ o.manager → account (after_collected at o code) n ≡ account at n
+  account-collected_other n p differs = account-put_other at o.manager n (with_collected (account at o.manager) o.number code) known.positive p differs
+
+  pub known_collected : (n : ℕ) → IsKnown at n → IsKnown (after_collected at o code) n
+  known_collected n k = known_after at o.manager n (with_collected (account at o.manager) o.number code) k
+
+  pub collected_known : (n : ℕ) → IsKnown (after_collected at o code) n → IsKnown at n
+  collected_known n k = known_before at o.manager n (with_collected (account at o.manager) o.number code) k
+
+  pub collected_keeps_sent : (p : Operation) → IsSent at p → IsSent (after_collected at o code) p
+  collected_keeps_sent p was =
+      elim (cases_eq p.manager o.manager) [
+        | inl same ↦ record { known = known_collected p.manager was.known; sent = rw (account-collected_same p.manager same) was.sent }
+        | inr differs ↦ record { known = known_collected p.manager was.known; sent = rw (account-collected_other p.manager was.known.positive differs) was.sent }
+      ]
+
+  pub collected_keeps_out : (p : Operation) → IsOut at p → p ≢ o → IsOut (after_collected at o code) p
+  collected_keeps_out p was other =
+      elim (cases_eq p.manager o.manager) [
+        | inl same ↦ record {
+          known = known_collected p.manager was.known;
+          sent = rw (account-collected_same p.manager same) was.sent;
+          open_ = rw (account-collected_same p.manager same) (is_collected-push (account at p.manager) o.number code p.number
+              ∙ or_from _ _ was.open_ (or_from _ _ (ne_eqb p.number o.number (λ e. other (same_operation p o same e))) refl));
+        }
+        | inr differs ↦ record {
+          known = known_collected p.manager was.known;
+          sent = rw (account-collected_other p.manager was.known.positive differs) was.sent;
+          open_ = rw (account-collected_other p.manager was.known.positive differs) was.open_;
+        }
+      ]
+
+  pub collected_out : (p : Operation) → IsOut (after_collected at o code) p → IsOut at p × (p ≢ o)
+  collected_out p is =
+      let k = collected_known p.manager is.known in
+      elim (cases_eq p.manager o.manager) [
+        | inl same ↦
+            let parts : (is_collected (account at p.manager) p.number ≡ false) × ((nat_eq p.number o.number || false) ≡ false) =
+            or_parts _ _ (sym (is_collected-push (account at p.manager) o.number code p.number) ∙ rw (account-collected_same p.manager same) at is.open_) in (
+              record { known = k; sent = rw (account-collected_same p.manager same) at is.sent; open_ = parts.0 },
+              λ e. eqb-false p.number o.number (or_parts _ _ parts.1).0 (ap (λ (q : Operation). q.number) e),
+            )
+        | inr differs ↦ (
+          record {
+            known = k;
+            sent = rw (account-collected_other p.manager k.positive differs) at is.sent;
+            open_ = rw (account-collected_other p.manager k.positive differs) at is.open_;
+          },
+          λ e. differs (ap (λ (q : Operation). q.manager) e),
+        )
+      ]
+
+-- what a read of the list of accounts gives, and what a write leaves
+
+pub account-read : (at : List AccountView) (m : ℕ) (a : AccountView) → IsKnown at m → a ≡ get_or at (m - 1) a → a ≡ account at m
+account-read at m a known read = get_or_read at (m - 1) a (omega arith) read no_account
+
+pub planned-put : (at : List AccountView) (m : ℕ) (a : AccountView) → IsKnown at m → a.plan ≡ (account at m).plan → planned_total (put_account at m a) ≡ planned_total at
+planned-put at m a known same =
+    let sums : planned_total (put_account at m a) + (account at m).plan ≡ planned_total at + a.plan = sum_by-set (λ (x : AccountView). x.plan) at (m - 1) a no_account (omega arith) in
+    omega arith
+
+pub length-put_account : (at : List AccountView) (m : ℕ) (a : AccountView) → length (put_account at m a) ≡ length at
+length-put_account at m a = length-set at (m - 1) a
+
+pub none_of : {A : Type 0} (x : Option A) → is_some x ≡ false → x ≡ None
+none_of None e = refl
+none_of (Some a) e = absurd (false≢true (sym e))

@@ -1,0 +1,155 @@
+-- The map that a table of kept operations is.
+use Rattle.std.proofs.Common.{◌≡◌, ◌≢◌, ℕ, zero, suc, ◌+◌, ◌-◌, ◌<◌, cond, true, false, List, [], ◌∷◌, length, Option, Some, None, IsSome, IfSome, get_or, set, sym, refl, ap, ◌∙◌, inl, inr, arith}
+use Rattle.std.specs.Ordering.{nat_cmp, eq_by_cmp}
+use Rattle.std.specs.Cmp.{nat_cmp_total, unsigned_tied}
+use Rattle.std.specs.FinMap as map
+use Rattle.std.proofs.lemmas.List.{get_or-set_same, get_or-set_other, get_or_past}
+use Rattle.std.proofs.lemmas.Bool.{cases_eq, cases_lt, false_from_ne_true, eqb-true, eq-eqb}
+use Rattle.slab.specs.Slab.{Slab, get, entries_from}
+use Rattle.xa_words.specs.declared.request.Completion.{Completion}
+use Rattle.xa_desk.specs.AccountView.{AccountView}
+use Rattle.xa_desk.specs.declared.slot.Slot.{Slot}
+use Rattle.xa_desk.specs.declared.operation.Operation.{Operation}
+use Rattle.xa_desk.specs.DeskView.{IsLeastFree}
+use Rattle.xa_desk.specs.Slots.{kept_of, IsBooks}
+use Rattle.xa_desk.proofs.Books.{Rehandles}
+
+pub tied_false : (a b : ℕ) → a ≢ b → eq_by_cmp nat_cmp a b ≡ false
+tied_false a b differs = false_from_ne_true (eq_by_cmp nat_cmp a b) (λ e. differs (eqb-true a b (sym (unsigned_tied a b) ∙ e)))
+
+pub tied_true : (a b : ℕ) → a ≡ b → eq_by_cmp nat_cmp a b ≡ true
+tied_true a b same = unsigned_tied a b ∙ eq-eqb a b same
+
+find_below : (k q : ℕ) (table : List (Option Operation)) → q < k → map.find nat_cmp q (entries_from k table) ≡ None
+find_below k q [] below = refl
+find_below k q (None ∷ rest) below = find_below (k + 1) q rest (omega arith)
+find_below k q (Some o ∷ rest) below = ap (λ b. cond b (Some o) (map.find nat_cmp q (entries_from (k + 1) rest))) (tied_false q k (λ e. absurd (omega arith))) ∙ find_below (k + 1) q rest (omega arith)
+
+find_at : (k j : ℕ) (table : List (Option Operation)) → map.find nat_cmp (k + j) (entries_from k table) ≡ get_or table j None
+find_at k j [] = refl
+find_at k zero (None ∷ rest) = find_below (k + 1) (k + 0) rest (omega arith)
+find_at k (suc j) (None ∷ rest) = let shift : k + suc j ≡ k + 1 + j = omega arith in rw shift (find_at (k + 1) j rest)
+find_at k zero (Some o ∷ rest) = ap (λ b. cond b (Some o) (map.find nat_cmp (k + 0) (entries_from (k + 1) rest))) (tied_true (k + 0) k (omega arith))
+find_at k (suc j) (Some o ∷ rest) =
+    let shift : k + suc j ≡ k + 1 + j = omega arith in
+    ap (λ b. cond b (Some o) (map.find nat_cmp (k + suc j) (entries_from (k + 1) rest))) (tied_false (k + suc j) k (λ e. absurd (omega arith)))
+    ∙ rw shift (find_at (k + 1) j rest)
+
+pub get-kept_of : (table : List (Option Operation)) (j number : ℕ) → number ≡ suc j → map.get (kept_of table) number ≡ get_or table j None
+get-kept_of table j number e =
+    let shift : suc j ≡ 1 + j = omega arith in
+    rw (e, shift) (map.get-from_entries nat_cmp_total (entries_from 1 table) (1 + j) ∙ find_at 1 j table)
+
+pub get-kept_of_zero : (table : List (Option Operation)) → map.get (kept_of table) 0 ≡ None
+get-kept_of_zero table = map.get-from_entries nat_cmp_total (entries_from 1 table) 0 ∙ find_below 1 0 table (omega arith)
+
+module _ (table : List (Option Operation)) (j number : ℕ) (is : number ≡ suc j) (within : j < length table) where
+  pub kept_of-insert : (o : Operation) → kept_of (set table j (Some o)) ≡ map.insert (kept_of table) number o
+  kept_of-insert o = map.same_map nat_cmp_total map.nat_cmp-IsAntisymmetric _ _ (at_each)
+    where
+      at_each : (q : ℕ) → map.get (kept_of (set table j (Some o))) q ≡ map.get (map.insert (kept_of table) number o) q
+      at_each zero =
+          get-kept_of_zero (set table j (Some o))
+          ∙ sym (map.get-insert nat_cmp_total (kept_of table) number o 0
+          ∙ ap (λ b. cond b (Some o) (map.get (kept_of table) 0)) (tied_false 0 number (λ e. absurd (omega arith)))
+          ∙ get-kept_of_zero table)
+      at_each (suc q) =
+          get-kept_of (set table j (Some o)) q (suc q) refl ∙ sym (map.get-insert nat_cmp_total (kept_of table) number o (suc q) ∙ elim (cases_eq q j) [
+            | inl same ↦ ap (λ b. cond b (Some o) (map.get (kept_of table) (suc q))) (tied_true (suc q) number (omega arith)) ∙ sym (rw same (get_or-set_same table j (Some o) None within))
+            | inr differs ↦ ap (λ b. cond b (Some o) (map.get (kept_of table) (suc q))) (tied_false (suc q) number (λ e. differs (omega arith))) ∙ get-kept_of table q (suc q) refl ∙ sym (get_or-set_other table j q (Some o) None differs)
+          ])
+
+  pub kept_of-remove : kept_of (set table j None) ≡ map.remove (kept_of table) number
+  kept_of-remove = map.same_map nat_cmp_total map.nat_cmp-IsAntisymmetric _ _ (at_each)
+    where
+      at_each : (q : ℕ) → map.get (kept_of (set table j None)) q ≡ map.get (map.remove (kept_of table) number) q
+      at_each zero =
+          get-kept_of_zero (set table j None)
+          ∙ sym (map.get-remove nat_cmp_total (kept_of table) number 0
+          ∙ ap (λ b. cond b None (map.get (kept_of table) 0)) (tied_false 0 number (λ e. absurd (omega arith)))
+          ∙ get-kept_of_zero table)
+      at_each (suc q) =
+          get-kept_of (set table j None) q (suc q) refl ∙ sym (map.get-remove nat_cmp_total (kept_of table) number (suc q) ∙ elim (cases_eq q j) [
+            | inl same ↦ ap (λ b. cond b None (map.get (kept_of table) (suc q))) (tied_true (suc q) number (omega arith)) ∙ sym (rw same (get_or-set_same table j None None within))
+            | inr differs ↦ ap (λ b. cond b None (map.get (kept_of table) (suc q))) (tied_false (suc q) number (λ e. differs (omega arith))) ∙ get-kept_of table q (suc q) refl ∙ sym (get_or-set_other table j q None None differs)
+          ])
+
+-- a slot whose operation no number has isn't kept
+pub loose_handle : (at : List AccountView) (s : Slab Slot) (key : ℕ) (slot : Slot) (table : List (Option Operation)) (drained : List Completion) → IsBooks at s table drained → get s key ≡ Some slot → ((k : ℕ) → map.get (kept_of table) k ≢ Some slot.operation) → slot.handle ≡ 0
+loose_handle at s key slot table drained b there loose = from slot.handle refl
+  where
+    from : (h : ℕ) → slot.handle ≡ h → slot.handle ≡ 0
+    from zero e = e
+    from (suc n) e = absurd (loose (suc n) (get-kept_of table n (suc n) refl ∙ b.handled key slot n there e))
+
+pub get-kept_of_past : (table : List (Option Operation)) (number : ℕ) → length table < number → map.get (kept_of table) number ≡ None
+get-kept_of_past table number past =
+    let is : number ≡ suc (number - 1) = omega arith in
+    get-kept_of table (number - 1) number is ∙ get_or_past table (number - 1) None (omega arith)
+
+-- where the operation of a kept number stands
+pub record KeptPlace (table : List (Option Operation)) (number : ℕ) (o : Operation) : Type 0 where
+  pub is : number ≡ suc (number - 1)
+  pub within : number - 1 < length table
+  pub there : get_or table (number - 1) None ≡ Some o
+
+pub kept_place : (table : List (Option Operation)) (number : ℕ) (o : Operation) → map.get (kept_of table) number ≡ Some o → KeptPlace table number o
+kept_place table number o e = elim (cases_lt 0 number) [
+  | inr none ↦
+      let is : number ≡ 0 = omega arith in
+      let no : None ≡ Some o = sym (get-kept_of_zero table) ∙ ap (map.get (kept_of table)) (sym is) ∙ e in absurd cc
+  | inl positive ↦
+      let is : number ≡ suc (number - 1) = omega arith in
+      let there : get_or table (number - 1) None ≡ Some o = sym (get-kept_of table (number - 1) number is) ∙ e in
+      elim (cases_lt (number - 1) (length table)) [
+        | inl within ↦ record { is = is; within = within; there = there }
+        | inr past ↦ let no : None ≡ Some o = sym (get_or_past table (number - 1) None past) ∙ there in absurd cc
+      ]
+]
+
+-- what a slot's handle is, where its operation is kept
+pub kept_handle : (at : List AccountView) (s : Slab Slot) (key : ℕ) (slot : Slot) (table : List (Option Operation)) (drained : List Completion) → IsBooks at s table drained → get s key ≡ Some slot → (number : ℕ) → KeptPlace table number slot.operation → slot.handle ≡ number
+kept_handle at s key slot table drained b there number p =
+    let h = b.tabled (number - 1) slot.operation p.there in
+    let same : h.key ≡ key = b.one_slot h.key key h.slot slot h.found there h.names in
+    let both : Some h.slot ≡ Some slot = sym h.found ∙ ap (get s) same ∙ there in
+    let is : h.slot ≡ slot = cc in
+    sym (ap (λ (z : Slot). z.handle) is) ∙ h.handle ∙ sym p.is
+
+pub rehandles_release : (table : List (Option Operation)) (number : ℕ) (o : Operation) → KeptPlace table number o → Rehandles table (set table (number - 1) None) number 0 o
+rehandles_release table number o p = record {
+  vacant = λ n e. absurd (omega arith);
+  filled = λ n e. absurd (omega arith);
+  freed = λ n e _. let here : n ≡ number - 1 = omega arith in rw here (get_or-set_same table (number - 1) None None p.within);
+  rest = λ n differs _. get_or-set_other table (number - 1) n None None (λ e. differs (p.is ∙ ap suc (sym e)));
+}
+
+pub rehandles_keep : (table : List (Option Operation)) (j : ℕ) (o : Operation) → j < length table → get_or table j None ≡ None → Rehandles table (set table j (Some o)) 0 (suc j) o
+rehandles_keep table j o within free = record {
+  vacant = λ n e. let here : n ≡ j = omega arith in rw here free;
+  filled = λ n e. let here : n ≡ j = omega arith in rw here (get_or-set_same table j (Some o) None within);
+  freed = λ n e _. absurd (omega arith);
+  rest = λ n _ differs. get_or-set_other table j n (Some o) None (λ e. differs (ap suc (sym e)));
+}
+
+pub least_free : (table : List (Option Operation)) (j : ℕ) → get_or table j None ≡ None → ((k : ℕ) → k < j → IsSome (get_or table k None)) → IsLeastFree (kept_of table) (j + 1)
+least_free table j free taken = record {
+  positive = omega arith;
+  free = get-kept_of table j (j + 1) (omega arith) ∙ free;
+  least = λ k positive below. rw (get-kept_of table (k - 1) k (omega arith)) (taken (k - 1) (omega arith));
+}
+
+-- an operation that isn't kept has no number
+pub loose_from_handle : (at : List AccountView) (s : Slab Slot) (key : ℕ) (slot : Slot) (table : List (Option Operation)) (drained : List Completion) → IsBooks at s table drained → get s key ≡ Some slot → slot.handle ≡ 0 → (k : ℕ) → map.get (kept_of table) k ≢ Some slot.operation
+loose_from_handle at s key slot table drained b there zero_handle k e =
+    let p = kept_place table k slot.operation e in
+    let h = b.tabled (k - 1) slot.operation p.there in
+    let same : h.key ≡ key = b.one_slot h.key key h.slot slot h.found there h.names in
+    let both : Some h.slot ≡ Some slot = sym h.found ∙ ap (get s) same ∙ there in
+    let is : h.slot ≡ slot = cc in
+    let no : 0 ≡ suc (k - 1) = sym zero_handle ∙ sym (ap (λ (z : Slot). z.handle) is) ∙ h.handle in
+    absurd (omega arith)
+
+pub IfSome_from : {A : Type 0} (x : Option A) (P : A → Type 0) → ((a : A) → x ≡ Some a → P a) → IfSome x P
+IfSome_from None P each = tt
+IfSome_from (Some a) P each = each a refl

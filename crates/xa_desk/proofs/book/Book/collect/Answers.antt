@@ -1,0 +1,65 @@
+use Rattle.std.proofs.Common.{◌≡◌, ◌+◌, Some, ap, ◌∙◌, sym, refl, subst, arith}
+use Rattle.xa_desk.specs.AccountView.{AccountView, with_collected}
+use Rattle.xa_desk.specs.declared.operation.Operation.{Operation}
+use Rattle.xa_desk.specs.DeskView.{IsOut, account, after_collected}
+use Rattle.xa_desk.specs.Slots.{IsBooks}
+use Rattle.xa_desk.proofs.Accounts.{account-read, collected-lt-sent, planned-put, length-put_account}
+use Rattle.xa_desk.proofs.Books.{books_collected}
+use Rattle.xa_desk.proofs.KeptPlaces.{loose_handle}
+use Rattle.xa_desk.proofs.book.Book.collect.Goals as goal
+use Rattle.xa_desk.proofs.book.Book.collect.Goals.{After-push_collected}
+
+pub push_collected-requires : goal.push_collected-requires
+push_collected-requires c =
+    let at = c.self.inside.accounts.items in
+    let o = c.args.operation in
+    let out = rw (← c.self.view_is) at c.requires.out in
+    let read = account-read at o.manager c.index_mut-account.result.now out.known c.index_mut-account.ensures.value in
+    let orderly = c.self.invariant.books.orderly o.manager out.known in
+    let fewer = collected-lt-sent (account at o.manager) o.number c.in-Some-code.code orderly out.sent out.open_ in
+    let planned = orderly.planned in
+    rw read (omega arith)
+
+out : (c : After-push_collected) → IsOut c.self.inside.accounts.items c.args.operation
+out c = rw (← c.self.view_is) at c.requires.out
+
+written : (c : After-push_collected) → c.push_collected.new.self ≡ with_collected (account c.self.inside.accounts.items c.args.operation.manager) c.args.operation.number c.in-Some-code.code
+written c =
+    let o = c.args.operation in
+    let read = account-read c.self.inside.accounts.items o.manager c.index_mut-account.result.now (out c).known c.index_mut-account.ensures.value in
+    c.push_collected.ensures ∙ ap (λ (a : AccountView). with_collected a o.number c.in-Some-code.code) read
+
+books : (c : After-push_collected) → IsBooks (after_collected c.self.inside.accounts.items c.args.operation c.in-Some-code.code) c.remove.new.self c.self.inside.kept.items c.self.inside.drained.items
+books c =
+    let i = c.self.invariant in
+    let at = c.self.inside.accounts.items in
+    let code = c.in-Some-code.code in
+    let slot = c.in-Some.slot in
+    let named = c.in-Some.ensures.named in
+    let loose = rw (← c.self.view_is) at c.requires.loose in
+    let handle = loose_handle at c.self.inside.slots c.in-Some.key slot c.self.inside.kept.items c.self.inside.drained.items i.books c.in-Some.ensures.found (λ k kept. loose k (kept ∙ ap (λ (p : Operation). Some p) named)) in
+    let after = books_collected at c.self.inside.slots c.remove.new.self c.in-Some.key slot code c.self.inside.kept.items c.self.inside.drained.items i.books c.in-Some.ensures.found c.in-Some-code.is handle c.remove.ensures.updates c.remove.ensures.len in
+    subst (λ p. IsBooks (after_collected at p code) c.remove.new.self c.self.inside.kept.items c.self.inside.drained.items) named after
+
+pub invariant_of-self : goal.invariant_of-self
+invariant_of-self c =
+    let d = (goal.at.invariant_of-self c).After-push_collected in
+    let i = c.self.invariant in
+    let at = c.self.inside.accounts.items in
+    let o = c.args.operation in
+    let code = c.in-Some-code.code in
+    let len = c.remove.ensures.len in
+    let used = i.slots_used in
+    rw (written d) (record {
+      books = books d;
+      slots_used = omega arith;
+      slots_room = rw c.remove.ensures.capacity i.slots_room;
+      places = i.places;
+      drained_room = rw (planned-put at o.manager (with_collected (account at o.manager) o.number code) (out d).known refl) i.drained_room;
+      limits = rw (length-put_account at o.manager (with_collected (account at o.manager) o.number code)) i.limits;
+    })
+
+pub returns-clause-fewer : goal.returns-clause-fewer
+returns-clause-fewer c =
+    let d = (goal.at.returns-clause-fewer c).After-push_collected in
+    rw (written d, ← c.self.view_is) (ap (λ n. n + 1) (sym (books d).count) ∙ c.remove.ensures.len ∙ c.self.invariant.books.count)

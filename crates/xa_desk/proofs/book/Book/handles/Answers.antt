@@ -1,0 +1,11 @@
+use Rattle.std.proofs.Common.{arith}
+use Rattle.xa_desk.proofs.KeptPlaces.{get-kept_of_past}
+use Rattle.xa_desk.proofs.book.Book.handles.Goals as goal
+
+pub returns-clause-limit : goal.returns-clause-limit
+returns-clause-limit c = c.self.invariant.limits.handles.1
+
+pub returns-clause-past : goal.returns-clause-past
+returns-clause-past c = λ k past.
+    let places = c.self.invariant.places in
+    rw (← c.self.view_is) (get-kept_of_past c.self.inside.kept.items k (omega arith))

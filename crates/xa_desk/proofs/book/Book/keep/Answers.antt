@@ -1,0 +1,76 @@
+use Rattle.std.proofs.Common.{◌≡◌, ◌<◌, ℕ, suc, ◌+◌, Some, None, IsSome, get_or, set, ◌∙◌, ap, arith, length}
+use Rattle.std.specs.Ordering.{nat_cmp}
+use Rattle.std.specs.FinMap as map
+use Rattle.std.proofs.lemmas.List.{length-set}
+use Rattle.xa_desk.specs.declared.operation.Operation.{Operation}
+use Rattle.xa_desk.specs.Book.{desk_of}
+use Rattle.xa_desk.proofs.Books.{books_rehandled, Rehandles}
+use Rattle.xa_desk.proofs.KeptPlaces.{loose_handle, rehandles_keep, kept_of-insert, least_free}
+use Rattle.xa_desk.proofs.Counts.{free_place}
+use Rattle.xa_desk.proofs.book.Book.keep.Goals as goal
+use Rattle.xa_desk.proofs.book.Book.keep.Goals.{After-first_free-place, After-set_slot}
+
+taken : (c : After-first_free-place) (k : ℕ) → k < c.first_free-place.result → IsSome (get_or c.self.inside.kept.items k None)
+taken c k below = rw c.deref.ensures.value at (c.first_free-place.ensures.taken k below)
+
+handle : (c : After-first_free-place) → c.in-Some.slot.handle ≡ 0
+handle c =
+    let loose = rw (← c.self.view_is) at c.requires.loose in
+    loose_handle c.self.inside.accounts.items c.self.inside.slots c.in-Some.key c.in-Some.slot c.self.inside.kept.items c.self.inside.drained.items c.self.invariant.books c.in-Some.ensures.found
+    (λ k kept. loose k (kept ∙ ap (λ (p : Operation). Some p) c.in-Some.ensures.named))
+
+within : (c : After-first_free-place) → c.first_free-place.result < length c.self.inside.kept.items
+within c =
+    let i = c.self.invariant in
+    let used = i.books.count in
+    let slot = rw (← c.self.view_is) at c.requires.slot in
+    let places = i.places in
+    let most = rw c.deref.ensures.value at c.first_free-place.ensures.within in
+    free_place c.self.inside.accounts.items c.self.inside.slots c.self.inside.kept.items c.self.inside.drained.items c.in-Some.key c.in-Some.slot i.books c.in-Some.ensures.found (handle c) (omega arith) c.first_free-place.result most (taken c)
+
+free : (c : After-first_free-place) → get_or c.self.inside.kept.items c.first_free-place.result None ≡ None
+free c = rw c.deref.ensures.value at c.first_free-place.ensures.free (within c)
+
+pub index_mut-requires : goal.index_mut-requires
+index_mut-requires c =
+    let below = within ((goal.at.index_mut-requires c).After-first_free-place) in
+    let same = c.self.inside.kept.ok.0 in
+    omega arith
+
+pub invariant_of-self : goal.invariant_of-self
+invariant_of-self c =
+    let i = c.self.invariant in
+    let d = (goal.at.invariant_of-self c).After-first_free-place in
+    let slot = c.in-Some.slot in
+    let place = c.first_free-place.result in
+    let old = c.self.inside.kept.items in
+    let named = c.in-Some.ensures.named in
+    let next : place + 1 ≡ suc place = omega arith in
+    let moves : Rehandles old (set old place (Some c.args.operation)) slot.handle (place + 1) slot.operation = rw (handle d, next, named) (rehandles_keep old place c.args.operation (within d) (free d)) in
+    record {
+      books = books_rehandled c.self.inside.accounts.items c.self.inside.slots c.set_slot.new.slots c.in-Some.key slot (place + 1) old (set old place (Some c.args.operation)) c.self.inside.drained.items i.books c.in-Some.ensures.found moves c.set_slot.ensures.updates c.set_slot.ensures.len;
+      slots_used = rw c.set_slot.ensures.len i.slots_used;
+      slots_room = rw c.set_slot.ensures.capacity i.slots_room;
+      places = length-set old place (Some c.args.operation) ∙ i.places;
+      drained_room = i.drained_room;
+      limits = i.limits;
+    }
+
+pub returns-clause-least : goal.returns-clause-least
+returns-clause-least c =
+    let d = (goal.at.returns-clause-least c).After-first_free-place in
+    rw (← c.self.view_is) (least_free c.self.inside.kept.items c.first_free-place.result (free d) (taken d))
+
+pub returns-clause-kept : goal.returns-clause-kept
+returns-clause-kept c =
+    let d = (goal.at.returns-clause-kept c).After-first_free-place in
+    let next : c.first_free-place.result + 1 ≡ suc c.first_free-place.result = omega arith in
+    rw (← c.self.view_is) (ap (λ (k : map.FinMap nat_cmp Operation). record (desk_of c.self.inside) { kept = k }) (kept_of-insert c.self.inside.kept.items c.first_free-place.result (c.first_free-place.result + 1) next (within d) c.args.operation))
+
+pub returns-clause-handle : goal.returns-clause-handle
+returns-clause-handle c =
+    let i = c.self.invariant in
+    let below = within ((goal.at.returns-clause-handle c).After-first_free-place) in
+    let places = i.places in
+    let most = i.limits.handles in
+    record { positive = omega arith; limit = omega arith }

@@ -1,0 +1,10 @@
+use Rattle.std.proofs.Common.{ap, inl, inr, arith}
+use Rattle.std.proofs.lemmas.Bool.{cases_lt}
+use Rattle.xa_desk.specs.DeskView.{asked_at}
+use Rattle.xa_desk.proofs.kept.keeps_any.Goals as goal
+
+pub returns-clause-none : goal.returns-clause-none
+returns-clause-none c = λ _ k. elim (cases_lt k c.loop-number.number) [
+  | inl below ↦ c.loop-number.invariant k below
+  | inr past ↦ let test = c.loop-number-test.false in ap (asked_at c.args.manager) (c.handles-end.ensures.past k (omega arith))
+]

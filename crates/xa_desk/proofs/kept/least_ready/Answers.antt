@@ -1,0 +1,10 @@
+use Rattle.std.proofs.Common.{ap, inl, inr, arith}
+use Rattle.std.proofs.lemmas.Bool.{cases_lt}
+use Rattle.xa_desk.specs.DeskView.{ready_with}
+use Rattle.xa_desk.proofs.kept.least_ready.Goals as goal
+
+pub returns-clause-absent : goal.returns-clause-absent
+returns-clause-absent c = λ k. elim (cases_lt k c.loop-number.number) [
+  | inl below ↦ c.loop-number.invariant k below
+  | inr past ↦ let test = c.loop-number-test.false in ap (ready_with c.args.book.now.drained c.args.manager) (c.handles-end.ensures.past k (omega arith))
+]

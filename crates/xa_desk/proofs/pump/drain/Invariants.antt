@@ -1,0 +1,10 @@
+use Rattle.xa_desk.specs.Looks.{Looks}
+use Rattle.xa_desk.proofs.pump.drain.Given as goal
+
+-- the book has changed by pops alone
+abbrev pub invariant-loop : goal.invariant-loop
+invariant-loop g l = record {
+  can : (goal.iterator-loop g).can_next l.iterator';
+  finite : (goal.iterator-loop g).is_finite l.iterator';
+  looks : Looks l.initial.book l.book;
+}

@@ -1,0 +1,23 @@
+use Rattle.std.proofs.Common.{refl}
+use Rattle.xa_desk.proofs.Looks.{looks_start, looks_out, looks_loose, looks_chain, quiet_looks, collects_chain}
+use Rattle.xa_desk.proofs.pump.wait_for.Goals as goal
+
+pub loop-init : goal.loop-init
+loop-init g c = record { can = tt; finite = tt; looks = looks_start _ _ refl; idled = g.met.I.Idle.leads_start _ }
+
+pub try_collect-requires-clause-out : goal.try_collect-requires-clause-out
+try_collect-requires-clause-out g c = looks_out _ _ c.args.operation c.loop.invariant.looks c.requires.out
+
+pub try_collect-requires-clause-loose : goal.try_collect-requires-clause-loose
+try_collect-requires-clause-loose g c = looks_loose _ _ c.args.operation c.loop.invariant.looks c.requires.loose
+
+pub returns-in-Some-try_collect-clause-collected : goal.returns-in-Some-try_collect-clause-collected
+returns-in-Some-try_collect-clause-collected g c = collects_chain _ _ _ c.args.operation _ c.loop.invariant.looks c.in-Some-try_collect.ensures.collected
+
+pub loop-preserved : goal.loop-preserved
+loop-preserved g c = record {
+  can = tt;
+  finite = tt;
+  looks = looks_chain _ _ _ c.loop.invariant.looks (quiet_looks _ _ (c.in_default.ensures.quiet refl));
+  idled = g.met.I.Idle.leads_chain _ _ _ c.loop.invariant.idled c.idle.ensures;
+}

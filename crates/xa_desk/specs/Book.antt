@@ -1,0 +1,34 @@
+-- How a book keeps what contracts see of a desk.
+use Rattle.std.specs.Prelude.{◌≡◌, ℕ, ◌+◌, ◌≤◌, length, vec_capacity}
+use Rattle.slab.specs.Slab.{slab_len}
+use Rattle.xa_desk.specs.DeskView.{DeskView}
+use Rattle.xa_desk.specs.Slots.{IsBooks, kept_of, planned_total}
+use Rattle.xa_desk.specs.declared.book.Book.TheInside.{Inside}
+
+-- what contracts see
+abbrev pub desk_of : Inside → DeskView
+desk_of b = record {
+  thread = b.thread;
+  handles = b.handles;
+  accounts = b.accounts.items;
+  kept = kept_of b.kept.items;
+  drained = b.drained.items;
+  quiet = b.quiet;
+  drained_then = b.drained_then;
+}
+
+-- threads are numbered from 1 to 8, there are 1 to 32 handles, and there are 1 to 8 managers
+pub record IsWithinLimits (t h m : ℕ) : Type 0 where
+  pub thread : (1 ≤ t) × (t ≤ 8)
+  pub handles : (1 ≤ h) × (h ≤ 32)
+  pub managers : (1 ≤ m) × (m ≤ 8)
+
+-- the books are in order; there is a slot for each handle and one more, a place for each handle, and room for
+-- each planned completion
+pub record IsBook (b : Inside) : Type 0 where
+  pub books : IsBooks b.accounts.items b.slots b.kept.items b.drained.items
+  pub slots_used : slab_len b.slots ≤ b.handles + 1
+  pub slots_room : b.handles + 1 ≤ b.slots.capacity
+  pub places : length b.kept.items ≡ b.handles
+  pub drained_room : planned_total b.accounts.items ≤ vec_capacity b.drained
+  pub limits : IsWithinLimits b.thread b.handles (length b.accounts.items)

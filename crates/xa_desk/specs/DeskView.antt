@@ -1,0 +1,195 @@
+-- What contracts see of a desk, and the words for what stands in it.
+use Rattle.std.specs.Prelude.{◌≡◌, ◌≢◌, not, ℕ, ◌-◌, ◌<◌, ◌≤◌, nat_lt, nat_le, Bool, false, ◌&&◌, ◌||◌, ◌==◌, is_some, if◌then◌else◌, List, [], ◌∷◌, length, map, Option, Some, None, IsSome, slice_index_or, slice_set, true, refl}
+use Rattle.std.specs.List.{sum_by}
+use Rattle.std.specs.Ordering.{nat_cmp}
+use Rattle.std.specs.FinMap as finmap
+use Rattle.std.specs.Coded.{Coded, code_by, coded×, coded_ℕ}
+use Rattle.xa_words.specs.declared.request.Op.{Op}
+use Rattle.xa_words.specs.declared.code.Code.{Code}
+use Rattle.xa_words.specs.declared.request.Completion.{Completion}
+use Rattle.xa_desk.specs.declared.operation.Operation.{Operation}
+use Rattle.xa_desk.specs.AccountView.{AccountView, new_account, learnt_shut, is_collected, with_sent, with_collected}
+use Rattle.xa_desk.specs.declared.refused.Refused.{Refused}
+use Rattle.xa_desk.specs.declared.refused.Refused.TheVariants.{NoSuchManager, Shut, TooMany, Spent}
+
+-- the thread, how many handles it has, its account with each manager, which operation is kept under which number,
+-- the completions that were the first for an outstanding operation as they were popped, how many quiet moments
+-- there were, and how many completions were drained at the last one
+pub record DeskView : Type 0 where
+  pub thread : ℕ
+  pub handles : ℕ
+  pub accounts : List AccountView
+  pub kept : finmap.FinMap nat_cmp Operation
+  pub drained : List Completion
+  pub quiet : ℕ
+  pub drained_then : ℕ
+
+-- what contracts see of a ticket
+pub record TicketView : Type 0 where
+  pub thread : ℕ
+  pub operation : Operation
+
+-- operations, maps of them and tickets as data
+abbrev pub operation_code : Coded Operation
+operation_code = code_by (ℕ × ℕ) (coded× coded_ℕ coded_ℕ) (λ o. (o.manager, o.number)) (λ p. record { manager = p.0; number = p.1 }) (λ _. refl)
+
+abbrev pub kept_code : Coded (finmap.FinMap nat_cmp Operation)
+kept_code = finmap.code coded_ℕ operation_code
+
+abbrev pub ticket_code : Coded TicketView
+ticket_code = code_by (ℕ × Operation) (coded× coded_ℕ operation_code) (λ t. (t.thread, t.operation)) (λ p. record { thread = p.0; operation = p.1 }) (λ _. refl)
+
+abbrev pub ticket_of : ℕ → Operation → TicketView
+ticket_of thread operation = record { thread = thread; operation = operation }
+
+abbrev pub operation_of : Completion → Operation
+operation_of c = record { manager = c.manager; number = c.number }
+
+-- ---- the accounts: managers are numbered from 1
+
+-- the manager is one of the desk's
+pub record IsKnown (at : List AccountView) (m : ℕ) : Type 0 where
+  pub positive : 1 ≤ m
+  pub within : m ≤ length at
+
+-- the same as a test
+abbrev pub is_known : List AccountView → ℕ → Bool
+is_known at m = nat_le 1 m && nat_le m (length at)
+
+abbrev pub no_account : AccountView
+no_account = new_account false 0
+
+-- the account with manager m
+abbrev pub account : List AccountView → ℕ → AccountView
+account at m = slice_index_or at (m - 1) no_account
+
+abbrev pub put_account : List AccountView → ℕ → AccountView → List AccountView
+put_account at m a = slice_set at (m - 1) a
+
+-- one more request was sent to the manager
+abbrev pub after_sent : List AccountView → ℕ → Op → List AccountView
+after_sent at m op = put_account at m (with_sent (account at m) op)
+
+-- the operation was collected with this code
+abbrev pub after_collected : List AccountView → Operation → Code → List AccountView
+after_collected at o code = put_account at o.manager (with_collected (account at o.manager) o.number code)
+
+-- the operation that the next request to the manager will be
+abbrev pub next_operation : List AccountView → ℕ → Operation
+next_operation at m = record { manager = m; number = length (account at m).sent }
+
+-- how many planned requests are left for the manager; 0 for no manager
+abbrev pub room_at : List AccountView → ℕ → ℕ
+room_at at m = if (m == 0) || nat_lt (length at) m then 0 else ((account at m).plan - length (account at m).sent)
+
+-- what was sent to the manager, and what was collected from it; nothing for no manager
+abbrev pub sent_to : List AccountView → ℕ → List Op
+sent_to at m = if is_known at m then (account at m).sent else []
+
+abbrev pub collected_from : List AccountView → ℕ → List (ℕ × Code)
+collected_from at m = if is_known at m then (account at m).collected else []
+
+-- ---- what is outstanding
+
+-- the operation was sent
+pub record IsSent (at : List AccountView) (o : Operation) : Type 0 where
+  pub known : IsKnown at o.manager
+  pub sent : o.number < length (account at o.manager).sent
+
+-- the operation is outstanding: it was sent and not collected
+pub record IsOut (at : List AccountView) (o : Operation) : Type 0 where
+  pub known : IsKnown at o.manager
+  pub sent : o.number < length (account at o.manager).sent
+  pub open_ : is_collected (account at o.manager) o.number ≡ false
+
+-- how many operations are outstanding
+abbrev pub outstanding : List AccountView → ℕ
+outstanding at = sum_by (λ a. length a.sent - length a.collected) at
+
+-- no number has the operation
+abbrev pub IsLoose : DeskView → Operation → Type 0
+IsLoose d o = (k : ℕ) → finmap.get d.kept k ≢ Some o
+
+-- the ticket is of the desk's thread, and its operation is outstanding and not kept
+pub record Owns (d : DeskView) (t : TicketView) : Type 0 where
+  pub thread : t.thread ≡ d.thread
+  pub out : IsOut d.accounts t.operation
+  pub loose : IsLoose d t.operation
+
+-- ---- what was drained
+
+abbrev pub names : Operation → Completion → Bool
+names o c = (o.manager == c.manager) && (o.number == c.number)
+
+-- the code of the completion that was drained for the operation
+abbrev pub drained_code : Operation → List Completion → Option Code
+drained_code o [] = None
+drained_code o (c ∷ cs) = if names o c then Some c.code else drained_code o cs
+
+-- ---- what is kept, and under which numbers
+
+-- the number of a handle: positive, and no greater than a thread may have handles
+pub record IsHandle (number : ℕ) : Type 0 where
+  pub positive : 0 < number
+  pub limit : number ≤ 32
+
+-- the least positive number that isn't kept
+pub record IsLeastFree (kept : finmap.FinMap nat_cmp Operation) (number : ℕ) : Type 0 where
+  pub positive : 0 < number
+  pub free : finmap.get kept number ≡ None
+  pub least : (k : ℕ) → 0 < k → k < number → IsSome (finmap.get kept k)
+
+-- an operation of manager m, or any operation where m is 0
+abbrev pub is_asked : ℕ → Operation → Bool
+is_asked m o = (m == 0) || (o.manager == m)
+
+abbrev pub asked_at : ℕ → Option Operation → Bool
+asked_at m None = false
+asked_at m (Some o) = is_asked m o
+
+abbrev pub ready_with : List Completion → ℕ → Option Operation → Bool
+ready_with drained m None = false
+ready_with drained m (Some o) = is_asked m o && is_some (drained_code o drained)
+
+-- an operation of m is kept under the number
+abbrev pub keeps_at : DeskView → ℕ → ℕ → Bool
+keeps_at d m k = asked_at m (finmap.get d.kept k)
+
+-- an operation of m is kept under the number, and its completion was drained
+abbrev pub ready_at : DeskView → ℕ → ℕ → Bool
+ready_at d m k = ready_with d.drained m (finmap.get d.kept k)
+
+-- the least number that passes
+pub record IsLeast (passes : ℕ → Bool) (k : ℕ) : Type 0 where
+  pub passes_ : passes k ≡ true
+  pub least : (j : ℕ) → j < k → passes j ≡ false
+
+-- ---- a desk that has done nothing, and what a desk refuses
+
+abbrev pub new_desk : ℕ → ℕ → ℕ → List Bool → DeskView
+new_desk thread handles requests use_async = record {
+  thread = thread;
+  handles = handles;
+  accounts = map (λ carries. new_account carries requests) use_async;
+  kept = finmap.empty;
+  drained = [];
+  quiet = 0;
+  drained_then = 0;
+}
+
+-- why a request may not be sent, a full queue aside: the first line that fits
+abbrev pub submit_refusal : DeskView → ℕ → Option Refused
+submit_refusal d m =
+    if not (is_known d.accounts m) then Some NoSuchManager
+    else (if learnt_shut (account d.accounts m) then Some Shut
+    else (if nat_le d.handles (outstanding d.accounts) then Some TooMany
+    else (if nat_le (account d.accounts m).plan (length (account d.accounts m).sent) then Some Spent
+    else None)))
+
+-- the same for a synchronous call, which has a slot beyond the handles
+abbrev pub call_refusal : DeskView → ℕ → Option Refused
+call_refusal d m =
+    if not (is_known d.accounts m) then Some NoSuchManager
+    else (if learnt_shut (account d.accounts m) then Some Shut
+    else (if nat_le (account d.accounts m).plan (length (account d.accounts m).sent) then Some Spent
+    else None))

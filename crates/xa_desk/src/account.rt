@@ -1,0 +1,123 @@
+//! A desk's account with one manager.
+ghost use Rattle.std.specs.Prelude.{◌≡◌, ◌-◌, ◌<◌, ◌≤◌, [], ◌∷◌, ◌++◌, length, map, IfOk};
+ghost use Rattle.xa_desk.specs.AccountView.{new_account, learnt_shut, with_sent, with_collected};
+
+use std::alloc::{AllocError, Global};
+use std::marker::Model;
+use xa_words::{Code, Op};
+
+/// What was sent to one manager and what was collected from it, in memory that was reserved for the plan.
+#[derive(Drop)]
+pub(crate) struct Account {
+    carries_async: bool,
+    learnt_shut: bool,
+    plan: u32,
+    sent: Vec<Op>,
+    collected: Vec<(u32, Code)>,
+}
+
+impl Model for Account {
+    ghost use Rattle.xa_desk.specs.AccountView.{AccountView};
+    ghost use Rattle.xa_desk.specs.Account.{account_of, IsAccount};
+
+    ghost Value = { AccountView };
+
+    ghost view = { account_of };
+
+    ghost invariant = { IsAccount };
+}
+
+impl Account {
+    /// An account with which nothing was done, and room for `plan` requests.
+    pub(crate) fn new(alloc: Global, plan: u32, carries_async: bool) -> Result<Account, AllocError>
+        ensures { IfOk result (λ a. a ≡ new_account carries_async plan) }
+    {
+        let sent = Vec::with_capacity(alloc, plan as usize)?;
+        let collected = Vec::with_capacity(alloc, plan as usize)?;
+        Ok(Account {
+            carries_async,
+            learnt_shut: false,
+            plan,
+            sent,
+            collected,
+        })
+    }
+
+    /// Whether the manager takes asynchronous calls: `TMUSEASYNC` (C193, chapter 4).
+    pub(crate) fn carries_async(&self) -> bool
+        ensures { result ≡ self.now.carries_async }
+    {
+        self.carries_async
+    }
+
+    /// Whether `XAER_RMFAIL` was collected.
+    pub(crate) fn learnt_shut(&self) -> bool
+        ensures { result ≡ learnt_shut self.now }
+    {
+        self.learnt_shut
+    }
+
+    /// How many requests were sent, which is the number of the next.
+    pub(crate) fn next_number(&self) -> u32
+        ensures sent { result ≡ length self.now.sent }
+        ensures planned { result ≤ self.now.plan }
+    {
+        let _plan = self.plan;
+        self.sent.len() as u32
+    }
+
+    /// How many planned requests are left.
+    pub(crate) fn room(&self) -> u32
+        ensures { result ≡ self.now.plan - length self.now.sent }
+    {
+        self.plan - self.sent.len() as u32
+    }
+
+    /// The requests that were sent, in order.
+    pub(crate) fn sent(&self) -> &[Op]
+        ensures { result.now ≡ self.now.sent }
+    {
+        &self.sent
+    }
+
+    /// What was collected, in order: numbers with their codes.
+    pub(crate) fn collected(&self) -> &[(u32, Code)]
+        ensures { result.now ≡ self.now.collected }
+    {
+        &self.collected
+    }
+
+    /// One more request was sent.
+    pub(crate) fn push_sent(&mut self, op: Op)
+        requires { length self.old.sent < self.old.plan }
+        ensures { self.new ≡ with_sent self.old op }
+    {
+        self.sent.push_reserved(op);
+    }
+
+    /// One more request was collected.
+    pub(crate) fn push_collected(&mut self, number: u32, code: Code)
+        requires { length self.old.collected < self.old.plan }
+        ensures { self.new ≡ with_collected self.old number code }
+    {
+        self.collected.push_reserved((number, code));
+        if matches!(code, Code::RmFail) {
+            self.learnt_shut = true;
+        }
+    }
+}
+
+/// An account with each manager, and whether it takes asynchronous calls.
+pub(crate) fn open_accounts(
+    alloc: Global,
+    requests: u32,
+    use_async: &[bool],
+) -> Result<Vec<Account>, AllocError>
+    ensures { IfOk result (λ v. v.items ≡ map (λ carries. new_account carries requests) use_async.now) }
+{
+    let mut accounts = Vec::with_capacity(alloc, use_async.len())?;
+    for carries_async in use_async {
+        accounts.push(Account::new(alloc, requests, *carries_async)?)?;
+    }
+    Ok(accounts)
+}

@@ -1,0 +1,347 @@
+//! One thread of control's desk over its queues.
+ghost use Rattle.std.specs.Prelude.{◌≡◌, ℕ, ◌-◌, ◌<◌, ◌≤◌, ◌↔◌, length, IfOk, IfErr, IfSome, IfNone, OnOk, OnErr, OnSome, IsTrue, IsSome, IsNone, IsOk, IsErr, Some, None, true, false, option_map, ◌&&◌};
+ghost use Rattle.std.specs.FinMap as map;
+ghost use Rattle.xa_desk.specs.AccountView.{learnt_shut, IsSettled};
+ghost use Rattle.xa_desk.specs.DeskView.{IsKnown, IsHandle, Owns, account, after_sent, outstanding, drained_code, ticket_of, next_operation, submit_refusal, call_refusal, IsLeastFree, ready_at, keeps_at, new_desk, room_at, is_known};
+ghost use Rattle.xa_desk.specs.Looks.{EndsQuiet, Collects, CollectsKept, CollectsLeast};
+
+use crate::book::Book;
+use crate::ended::EndedDesk;
+use crate::idle::Idle;
+use crate::kept::keeps_any;
+use crate::post::Post;
+use crate::pump::{
+    put_waiting, try_collect, try_collect_any, try_collect_kept, wait_for, wait_for_any,
+};
+use crate::refusal::{call_refusal, submit_refusal};
+use crate::refused::{AnyFault, NothingOutstanding, Refused};
+use crate::ticket::Ticket;
+use std::alloc::{AllocError, Global};
+use std::marker::Model;
+use std::sync::Wait;
+use xa_words::{Code, Completion, Op, Request};
+
+/// What one thread of control sends requests and collects completions by.
+///
+/// All memory is reserved as the desk is made: no call after that takes any. A call that waits looks
+/// first, and idles only where what it asks for isn't there; it may never return, and its promise holds
+/// if it does. What a call's contract doesn't name of the desk stays.
+#[derive(Drop)]
+pub struct Desk {
+    book: Book,
+    posts: Vec<Post<Request>>,
+    completions: Post<Completion>,
+}
+
+impl Model for Desk {
+    ghost use Rattle.std.specs.Prelude.{◌≡◌, ◌≤◌, length};
+    ghost use Rattle.std.specs.Coded.{codes};
+    ghost use Rattle.xa_desk.specs.DeskView.{DeskView, kept_code, outstanding};
+
+    ghost Value = { DeskView };
+
+    ghost coded = { Prim.hlevel (codes, kept_code) };
+
+    ghost view = { λ d. d.book };
+
+    ghost invariant = { λ d. (length d.posts.items ≡ length d.book.accounts) × (outstanding d.book.accounts ≤ d.book.handles) };
+}
+
+impl Desk {
+    /// A desk that has done nothing.
+    ///
+    /// `thread` and the managers are numbered from 1. There are `handles` handles and at most `requests`
+    /// requests to each manager. `use_async` says of each manager whether it takes asynchronous calls
+    /// (`TMUSEASYNC`; C193, chapter 4), and `posts` has each manager's request queue. Fails only for want
+    /// of memory.
+    pub fn over(
+        alloc: Global,
+        thread: u32,
+        handles: u32,
+        requests: u32,
+        use_async: &[bool],
+        posts: Vec<Post<Request>>,
+        completions: Post<Completion>,
+    ) -> Result<Desk, AllocError>
+        requires thread { (1 ≤ thread) × (thread ≤ 8) }
+        requires handles { (1 ≤ handles) × (handles ≤ 32) }
+        requires requests { (1 ≤ requests) × (requests ≤ 4096) }
+        requires managers { (1 ≤ length use_async.now) × (length use_async.now ≤ 8) }
+        requires posts { length posts.items ≡ length use_async.now }
+        ensures { IfOk result (λ d. d ≡ new_desk thread handles requests use_async.now) }
+    {
+        let book = Book::new(alloc, thread, handles, requests, use_async)?;
+        Ok(Desk {
+            book,
+            posts,
+            completions,
+        })
+    }
+
+    /// The thread of control, from 1.
+    pub fn thread(&self) -> u32
+        ensures thread { result ≡ self.now.thread }
+        ensures limits { (1 ≤ result) × (result ≤ 8) }
+    {
+        self.book.thread()
+    }
+
+    /// How many handles are free: those there are, less the operations that are outstanding.
+    pub fn free(&self) -> u32
+        ensures free { result ≡ self.now.handles - outstanding self.now.accounts }
+        ensures within { outstanding self.now.accounts ≤ self.now.handles }
+        ensures limit { self.now.handles ≤ 32 }
+    {
+        // No more are outstanding than there are handles.
+        let _handles = self.book.handles();
+        self.book.free()
+    }
+
+    /// How many planned requests are left for the manager; 0 for no manager.
+    pub fn room(&self, manager: u32) -> u32
+        ensures { result ≡ room_at self.now.accounts manager }
+    {
+        self.book.room(manager)
+    }
+
+    /// How many managers there are, which are numbered from 1.
+    pub fn managers(&self) -> u32
+        ensures managers { result ≡ length self.now.accounts }
+        ensures limits { (1 ≤ result) × (result ≤ 8) }
+    {
+        self.book.managers()
+    }
+
+    /// Whether `XAER_RMFAIL` was collected from the manager, so that nothing more is sent to it; false
+    /// for no manager.
+    pub fn learnt_shut(&self, manager: u32) -> bool
+        ensures { result ≡ (is_known self.now.accounts manager && learnt_shut (account self.now.accounts manager)) }
+    {
+        self.book.learnt_shut(manager)
+    }
+
+    /// Whether the manager takes asynchronous calls: `TMUSEASYNC` (C193, chapter 4); false for no
+    /// manager.
+    pub fn carries_async(&self, manager: u32) -> bool
+        ensures { result ≡ (is_known self.now.accounts manager && (account self.now.accounts manager).carries_async) }
+    {
+        self.book.carries_async(manager)
+    }
+
+    /// Whether the ticket is of the desk's thread, and its operation is outstanding and not kept.
+    pub fn owns(&self, ticket: &Ticket) -> bool
+        ensures { IsTrue result ↔ Owns self.now ticket.now }
+    {
+        ticket.thread() == self.book.thread() && self.book.is_loose(ticket.operation())
+    }
+
+    /// Sends a request to a manager; its completion is collected later, by the ticket.
+    ///
+    /// The refusals come in the order of `Refused`, each where its condition holds and nowhere else.
+    /// When a queue is full, no contract says. No completion is looked at.
+    pub fn submit<R: Wait>(&mut self, rt: &R, manager: u32, op: Op) -> Result<Ticket, Refused>
+        ensures refused { (why : _) → submit_refusal self.old manager ≡ Some why → result ≡ Err why }
+        ensures full { submit_refusal self.old manager ≡ None → IfErr result (λ why. why ≡ Refused.Full) }
+        ensures unchanged { OnErr result (self.new ≡ self.old) }
+
+        // A sent request has the next number, and the desk owns its ticket.
+        ensures ticket { IfOk result (λ t. t ≡ ticket_of self.old.thread (next_operation self.old.accounts manager)) }
+        ensures owned { IfOk result (λ t. Owns self.new t) }
+        ensures sent { OnOk result (self.new ≡ record self.old { accounts = after_sent self.old.accounts manager op }) }
+    {
+        if let Some(why) = submit_refusal(&self.book, manager) {
+            return Err(why);
+        }
+        let request = &Request {
+            thread: self.book.thread(),
+            number: self.book.next_number(manager),
+            op,
+        };
+        if self.posts[manager as usize - 1].put(rt, *request).is_err() {
+            return Err(Refused::Full);
+        }
+        let operation = self.book.note_sent(manager, request.op);
+        Ok(Ticket::new(self.book.thread(), operation))
+    }
+
+    /// Sends a request to a manager and collects its completion: the synchronous form, with a slot of its
+    /// own beyond the handles.
+    ///
+    /// It is refused as `NoSuchManager`, `Shut` or `Spent`, in this order, each where its condition holds
+    /// and nowhere else. Where the manager's queue is full it idles on the manager and tries again.
+    pub fn call<R: Wait, I: Idle>(
+        &mut self,
+        rt: &R,
+        manager: u32,
+        op: Op,
+        idle: &mut I,
+    ) -> Result<Code, Refused>
+        ensures refused { (why : _) → call_refusal self.old manager ≡ Some why → result ≡ Err why }
+        ensures answered { call_refusal self.old manager ≡ None → IsOk result }
+        ensures unchanged { OnErr result (self.new ≡ self.old) }
+        ensures collected { IfOk result (Collects (record self.old { accounts = after_sent self.old.accounts manager op }) self.new (next_operation self.old.accounts manager)) }
+        ensures idled { I.leads idle.old idle.new }
+    {
+        if let Some(why) = call_refusal(&self.book, manager) {
+            return Err(why);
+        }
+        let request = &Request {
+            thread: self.book.thread(),
+            number: self.book.next_number(manager),
+            op,
+        };
+        let post = &self.posts[manager as usize - 1];
+        put_waiting(rt, post, manager, request, idle);
+        let operation = self.book.note_sent(manager, request.op);
+        Ok(wait_for(rt, &mut self.book, &self.completions, operation, idle))
+    }
+
+    /// Collects the ticket's operation, waiting for its completion: `xa_complete()` of a handle with
+    /// `TMNOFLAGS` (C193, chapter 5).
+    pub fn complete<R: Wait, I: Idle>(&mut self, rt: &R, ticket: Ticket, idle: &mut I) -> Code
+        requires { Owns self.old ticket }
+        ensures collected { Collects self.old self.new ticket.operation result }
+        ensures idled { I.leads idle.old idle.new }
+    {
+        wait_for(rt, &mut self.book, &self.completions, ticket.spend(), idle)
+    }
+
+    /// Collects the ticket's operation where its completion came; else the ticket comes back, which is
+    /// `XA_RETRY` of `xa_complete()` with `TMNOWAIT` (C193, chapter 5).
+    ///
+    /// It comes back only behind a quiet moment at which the completion wasn't drained.
+    pub fn try_complete<R: Wait>(&mut self, rt: &R, ticket: Ticket) -> Result<Code, Ticket>
+        requires { Owns self.old ticket }
+        ensures collected { IfOk result (Collects self.old self.new ticket.operation) }
+        ensures back { IfErr result (λ t. t ≡ ticket) }
+        ensures owned { IfErr result (λ t. Owns self.new t) }
+        ensures quiet { OnErr result (EndsQuiet self.old self.new) }
+        ensures nothing { OnErr result (drained_code ticket.operation self.new.drained ≡ None) }
+    {
+        match try_collect(rt, &mut self.book, &self.completions, ticket.operation()) {
+            Some(code) => {
+                ticket.spend();
+                Ok(code)
+            }
+            None => Err(ticket),
+        }
+    }
+
+    /// Keeps the ticket's operation under the least positive number that no kept operation has: the
+    /// handle that a call with `TMASYNC` answers (C193, chapter 4).
+    pub fn keep(&mut self, ticket: Ticket) -> u32
+        requires { Owns self.old ticket }
+        ensures least { IsLeastFree self.old.kept result }
+        ensures kept { self.new ≡ record self.old { kept = map.insert self.old.kept result ticket.operation } }
+        ensures handle { IsHandle result }
+    {
+        self.book.keep(ticket.spend())
+    }
+
+    /// The ticket of the operation that is kept under the number, which is free again; `None` for a
+    /// number that isn't kept.
+    pub fn redeem(&mut self, number: u32) -> Option<Ticket>
+        ensures kept { IfSome result (λ t. map.get self.old.kept number ≡ Some t.operation) }
+        ensures owned { IfSome result (λ t. Owns self.new t) }
+        ensures freed { OnSome result (self.new ≡ record self.old { kept = map.remove self.old.kept number }) }
+        ensures absent { IsNone result ↔ (map.get self.old.kept number ≡ None) }
+        ensures unchanged { IfNone result (self.new ≡ self.old) }
+    {
+        let thread = self.book.thread();
+        let operation = self.book.release(number)?;
+        Some(Ticket::new(thread, operation))
+    }
+
+    /// The manager of the operation that is kept under the number; `None` for a number that isn't kept.
+    pub fn manager_of(&self, number: u32) -> Option<u32>
+        ensures manager { result ≡ option_map (λ o. o.manager) (map.get self.now.kept number) }
+        ensures known { IfSome result (IsKnown self.now.accounts) }
+        ensures handle { IfSome result (λ _. IsHandle number) }
+    {
+        match self.book.kept_at(number) {
+            Some(operation) => Some(operation.manager),
+            None => None,
+        }
+    }
+
+    /// Collects what is kept under the number where its completion came, and frees the number: as
+    /// `xa_complete()` with `TMNOWAIT` does (C193, chapter 5). `None` is `XA_RETRY`.
+    ///
+    /// `None` comes only behind a quiet moment at which the completion wasn't drained; the operation stays
+    /// kept under its number.
+    pub fn try_kept<R: Wait>(&mut self, rt: &R, number: u32) -> Option<Code>
+        requires { IsSome (map.get self.old.kept number) }
+        ensures collected { IfSome result (CollectsKept self.old self.new number) }
+        ensures quiet { IsNone result → EndsQuiet self.old self.new }
+        ensures nothing { IsNone result → ready_at self.new 0 number ≡ false }
+    {
+        try_collect_kept(rt, &mut self.book, &self.completions, number)
+    }
+
+    /// Collects the least number of the manager, of any for 0, whose completion came, waiting for one:
+    /// `xa_complete()` with `TMMULTIPLE` (C193, chapter 5).
+    ///
+    /// Before it answers, and before each idle, it looks until the completion queue is found empty.
+    pub fn complete_any<R: Wait, I: Idle>(
+        &mut self,
+        rt: &R,
+        manager: u32,
+        idle: &mut I,
+    ) -> Result<(u32, Code), NothingOutstanding>
+        ensures collected { IfOk result (λ r. CollectsLeast self.old self.new manager r.0 r.1) }
+        ensures handle { IfOk result (λ r. IsHandle r.0) }
+        ensures some { IsOk result → (k : ℕ) × (keeps_at self.old manager k ≡ true) }
+        ensures nothing { IsErr result → (k : ℕ) → keeps_at self.old manager k ≡ false }
+        ensures unchanged { OnErr result (self.new ≡ self.old) }
+        ensures idled { I.leads idle.old idle.new }
+    {
+        if !keeps_any(&self.book, manager) {
+            return Err(NothingOutstanding);
+        }
+        Ok(wait_for_any(rt, &mut self.book, &self.completions, manager, idle))
+    }
+
+    /// Collects the least number of the manager, of any for 0, whose completion came: `xa_complete()` with
+    /// `TMMULTIPLE` and `TMNOWAIT` (C193, chapter 5).
+    ///
+    /// The faults come in the order of `AnyFault`. Before it answers `Ok` or `Retry` it looks until the
+    /// completion queue is found empty.
+    pub fn try_complete_any<R: Wait>(
+        &mut self,
+        rt: &R,
+        manager: u32,
+    ) -> Result<(u32, Code), AnyFault>
+        ensures collected { IfOk result (λ r. CollectsLeast self.old self.new manager r.0 r.1) }
+        ensures handle { IfOk result (λ r. IsHandle r.0) }
+        ensures some { IsOk result → (k : ℕ) × (keeps_at self.old manager k ≡ true) }
+
+        ensures nothing { result ≡ Err AnyFault.NothingOutstanding → (k : ℕ) → keeps_at self.old manager k ≡ false }
+        ensures unchanged { result ≡ Err AnyFault.NothingOutstanding → self.new ≡ self.old }
+
+        ensures retry_some { result ≡ Err AnyFault.Retry → (k : ℕ) × (keeps_at self.old manager k ≡ true) }
+        ensures retry_quiet { result ≡ Err AnyFault.Retry → EndsQuiet self.old self.new }
+        ensures retry_none { result ≡ Err AnyFault.Retry → (k : ℕ) → ready_at self.new manager k ≡ false }
+    {
+        if !keeps_any(&self.book, manager) {
+            return Err(AnyFault::NothingOutstanding);
+        }
+        let Some(collected) = try_collect_any(rt, &mut self.book, &self.completions, manager) else {
+            return Err(AnyFault::Retry);
+        };
+        Ok(collected)
+    }
+
+    /// Ends the desk where nothing is outstanding, so that each request was collected once; else the desk
+    /// comes back as it was.
+    pub fn finish(self) -> Result<EndedDesk, Desk>
+        ensures ended { IfOk result (λ e. e ≡ self) }
+        ensures back { IfErr result (λ d. d ≡ self) }
+        ensures outstanding { IsErr result ↔ (0 < outstanding self.accounts) }
+        ensures settled { IfOk result (λ e. (m : ℕ) → IsKnown e.accounts m → IsSettled (account e.accounts m)) }
+    {
+        if self.book.is_outstanding() {
+            return Err(self);
+        }
+        Ok(EndedDesk::new(self.book))
+    }
+}

@@ -1,0 +1,7 @@
+pub mod Closes
+pub mod Counts
+pub mod Keeps
+pub mod Parcels
+pub mod Promises
+pub mod RingClosing
+pub mod RingLists

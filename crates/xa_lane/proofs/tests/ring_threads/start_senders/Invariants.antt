@@ -1,0 +1,11 @@
+use Rattle.std.proofs.Common.{◌≡◌, ◌++◌, map, length}
+use Rattle.std.specs.Vec.Iter.{into_iter_items, into_iter_len}
+use Rattle.xa_lane.specs.Rings.{place}
+use Rattle.xa_lane.proofs.tests.ring_threads.start_senders.Given as goal
+
+abbrev pub invariant-loop-sender : goal.invariant-loop-sender
+invariant-loop-sender g l = record {
+  so_far : l.yielded ++ into_iter_items l.sender-iterator ≡ into_iter_items l.initial.sender-iterator;
+  counted : into_iter_len l.sender-iterator ≡ length (into_iter_items l.sender-iterator);
+  promised : map (λ h. place h.promise.0.value) l.handles.items ≡ map place l.yielded;
+}

@@ -1,0 +1,4 @@
+pub mod Order
+pub mod Ends
+pub mod Closing
+pub mod Rings

@@ -1,0 +1,27 @@
+//! A lane: up to eight senders and one receiver, with an end mark of each sender.
+//!
+//! What is taken of a sender, and then what is left of it, is what it sent, in order. A lane is one
+//! bounded queue that its senders share (`open_lane`), or a bounded ring for each of them
+//! (`open_rings`).
+#![tactic(auto)]
+
+mod closing;
+mod ended;
+mod lane;
+pub mod laws;
+mod name;
+mod order;
+mod parcel;
+mod receiver;
+mod rings;
+mod sender;
+#[cfg(test)]
+mod tests;
+
+pub use ended::Ended;
+pub use lane::{CloseFault, CloseWhy, LaneFault, close_lane, open_lane};
+pub use name::LaneName;
+pub use parcel::{Full, Taken};
+pub use receiver::Receiver;
+pub use rings::{RingCloseFault, RingEnded, RingReceiver, RingSender, close_rings, open_rings};
+pub use sender::Sender;
