@@ -333,11 +333,14 @@ impl Desk {
 
     /// Ends the desk where nothing is outstanding, so that each request was collected once; else the desk
     /// comes back as it was.
-    pub fn finish(self) -> Result<EndedDesk, Desk>
+    ///
+    /// A `Post` takes no end mark, so there is nothing to wait for.
+    pub fn finish<R: Wait, I: Idle>(self, _rt: &R, _idle: &mut I) -> Result<EndedDesk, Desk>
         ensures ended { IfOk result (λ e. e ≡ self) }
         ensures back { IfErr result (λ d. d ≡ self) }
         ensures outstanding { IsErr result ↔ (0 < outstanding self.accounts) }
         ensures settled { IfOk result (λ e. (m : ℕ) → IsKnown e.accounts m → IsSettled (account e.accounts m)) }
+        ensures idled { I.leads _idle.old _idle.new }
     {
         if self.book.is_outstanding() {
             return Err(self);

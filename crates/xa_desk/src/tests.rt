@@ -48,7 +48,7 @@ fn an_ended_desk_shows_what_was_sent_and_collected(rt: HostRuntime) -> Result<()
         desk.call(&rt, 2, Op::OpenRm, &mut stepping(&managers)),
         Ok(Code::Done)
     );
-    let mut desk = match desk.finish() {
+    let mut desk = match desk.finish(&rt, &mut stepping(&managers)) {
         Ok(_) => panic!(rt; "an operation is outstanding"),
         Err(desk) => desk,
     };
@@ -56,7 +56,7 @@ fn an_ended_desk_shows_what_was_sent_and_collected(rt: HostRuntime) -> Result<()
         desk.complete_any(&rt, 0, &mut stepping(&managers)),
         Ok((number, Code::Proto))
     );
-    let ended: EndedDesk = match desk.finish() {
+    let ended: EndedDesk = match desk.finish(&rt, &mut stepping(&managers)) {
         Ok(ended) => ended,
         Err(_) => panic!(rt; "nothing is outstanding"),
     };
@@ -250,7 +250,7 @@ fn a_foreign_completion_changes_nothing(rt: HostRuntime) -> Result<(), Fail> {
         Err(AnyFault::NothingOutstanding)
     );
     assert!(rt; !desk.learnt_shut(1) && !desk.learnt_shut(2));
-    assert!(rt; desk.finish().is_ok());
+    assert!(rt; desk.finish(&rt, &mut stepping(&managers)).is_ok());
     Ok(())
 }
 

@@ -64,14 +64,14 @@ strip_len xs = cut (ends_with_byte 13 xs)
     cut false = omega arith
 
 -- A line past the last is refused whatever it holds.
-refuses_many : (s : Content) (n : ℕ) (line : List ℕ) (lines : List (List ℕ)) → 100000 < n → script_from n s (line ∷ lines) ≡ Err (n, TooManyLines)
+refuses_many : (mode : Bool) (s : Content) (n : ℕ) (line : List ℕ) (lines : List (List ℕ)) → 100000 < n → script_from mode n s (line ∷ lines) ≡ Err (n, TooManyLines)
 unfolding script_from after_line line_of
-refuses_many s n line lines lt = let e : nat_lt 100000 n ≡ true = grind arith in rw e refl
+refuses_many mode s n line lines lt = let e : nat_lt 100000 n ≡ true = grind arith in rw e refl
 
 -- A line of more than 513 bytes is refused, as only one of them may be a carriage return.
-refuses_long : (s : Content) (n : ℕ) (line : List ℕ) (lines : List (List ℕ)) → n ≤ 100000 → 513 < length line → script_from n s (line ∷ lines) ≡ Err (n, LineTooLong)
+refuses_long : (mode : Bool) (s : Content) (n : ℕ) (line : List ℕ) (lines : List (List ℕ)) → n ≤ 100000 → 513 < length line → script_from mode n s (line ∷ lines) ≡ Err (n, LineTooLong)
 unfolding script_from after_line line_of
-refuses_long s n line lines le lt =
+refuses_long mode s n line lines le lt =
     let e : nat_lt 100000 n ≡ false = grind arith in
     let len : 512 < length (without_return line) = omega (arith, strip_len line) in
     let f : nat_lt 512 (length (without_return line)) ≡ true = grind (arith, len) in
@@ -82,34 +82,34 @@ more_no_end : (line : List ℕ) (b : ℕ) → HasNoEnd line → (b == 10) ≡ fa
 more_no_end line b h e = rw (list_all-append (λ b. not (b == 10)) line (b ∷ []), h, e) refl
 
 -- One more byte of a line past the last: there are too many lines.
-pub too_many : (s : Content) (n : ℕ) (line : List ℕ) (b : ℕ) (bytes : List ℕ) → HasNoEnd line → (b == 10) ≡ false → 100000 < n
-    → script_from n s (lines_of (line ++ b ∷ bytes)) ≡ Err (n, TooManyLines)
-too_many s n line b bytes h e lt =
+pub too_many : (mode : Bool) (s : Content) (n : ℕ) (line : List ℕ) (b : ℕ) (bytes : List ℕ) → HasNoEnd line → (b == 10) ≡ false → 100000 < n
+    → script_from mode n s (lines_of (line ++ b ∷ bytes)) ≡ Err (n, TooManyLines)
+too_many mode s n line b bytes h e lt =
     let w : List ℕ = line ++ b ∷ [] in
     let p = first_line w bytes (more_no_end line b h e) (omega (arith, length-append line (b ∷ []))) in
-    ap (λ x. script_from n s (lines_of x)) (sym (append_assoc line (b ∷ []) bytes)) ∙ ap (script_from n s) p.2 ∙ refuses_many s n (w ++ p.0) p.1 lt
+    ap (λ x. script_from mode n s (lines_of x)) (sym (append_assoc line (b ∷ []) bytes)) ∙ ap (script_from mode n s) p.2 ∙ refuses_many mode s n (w ++ p.0) p.1 lt
 
 -- One more byte of a line that is full: it is too long.
-pub too_long : (s : Content) (n : ℕ) (line : List ℕ) (b : ℕ) (bytes : List ℕ) → HasNoEnd line → (b == 10) ≡ false → n ≤ 100000 → length line ≡ 513
-    → script_from n s (lines_of (line ++ b ∷ bytes)) ≡ Err (n, LineTooLong)
-too_long s n line b bytes h e le len =
+pub too_long : (mode : Bool) (s : Content) (n : ℕ) (line : List ℕ) (b : ℕ) (bytes : List ℕ) → HasNoEnd line → (b == 10) ≡ false → n ≤ 100000 → length line ≡ 513
+    → script_from mode n s (lines_of (line ++ b ∷ bytes)) ≡ Err (n, LineTooLong)
+too_long mode s n line b bytes h e le len =
     let w : List ℕ = line ++ b ∷ [] in
     let p = first_line w bytes (more_no_end line b h e) (omega (arith, length-append line (b ∷ []))) in
-    ap (λ x. script_from n s (lines_of x)) (sym (append_assoc line (b ∷ []) bytes)) ∙ ap (script_from n s) p.2 ∙ refuses_long s n (w ++ p.0) p.1 le (omega (arith, len, length-append line (b ∷ []), length-append w p.0))
+    ap (λ x. script_from mode n s (lines_of x)) (sym (append_assoc line (b ∷ []) bytes)) ∙ ap (script_from mode n s) p.2 ∙ refuses_long mode s n (w ++ p.0) p.1 le (omega (arith, len, length-append line (b ∷ []), length-append w p.0))
 
 -- A line that is taken: the next line goes on from there.
-pub goes_further : (s t : Content) (n : ℕ) (line bytes : List ℕ) → HasNoEnd line → after_line s n line ≡ Ok t
-    → script_from n s (lines_of (line ++ 10 ∷ bytes)) ≡ script_from (n + 1) t (lines_of bytes)
+pub goes_further : (mode : Bool) (s t : Content) (n : ℕ) (line bytes : List ℕ) → HasNoEnd line → after_line mode s n line ≡ Ok t
+    → script_from mode n s (lines_of (line ++ 10 ∷ bytes)) ≡ script_from mode (n + 1) t (lines_of bytes)
 unfolding script_from
-goes_further s t n line bytes h e = ap (script_from n s) (whole_line line bytes h) ∙ rw e refl
+goes_further mode s t n line bytes h e = ap (script_from mode n s) (whole_line line bytes h) ∙ rw e refl
 
 -- A line that is faulty: its fault is that of the script.
-pub stops_there : (e : ScriptFault) (s : Content) (n : ℕ) (line bytes : List ℕ) → HasNoEnd line → FailsAt n e (after_line s n line)
-    → Fails e (script_from n s (lines_of (line ++ 10 ∷ bytes)))
+pub stops_there : (mode : Bool) (e : ScriptFault) (s : Content) (n : ℕ) (line bytes : List ℕ) → HasNoEnd line → FailsAt n e (after_line mode s n line)
+    → Fails e (script_from mode n s (lines_of (line ++ 10 ∷ bytes)))
 unfolding script_from
-stops_there (faults.Line k why) s n line bytes h f = ap (script_from n s) (whole_line line bytes h) ∙ rw (f.1, f.0) refl
-stops_there faults.Read s n line bytes h f = tt
-stops_there faults.NoMemory s n line bytes h f = tt
+stops_there mode (faults.Line k why) s n line bytes h f = ap (script_from mode n s) (whole_line line bytes h) ∙ rw (f.1, f.0) refl
+stops_there mode faults.Read s n line bytes h f = tt
+stops_there mode faults.NoMemory s n line bytes h f = tt
 
 -- A list of no length is empty.
 nil_of : (xs : List ℕ) → length xs ≡ 0 → xs ≡ []
@@ -117,18 +117,18 @@ nil_of [] h = refl
 nil_of (x ∷ xs) h = absurd (omega (arith, h))
 
 -- The bytes end behind a line feed.
-pub ends_empty : (s : Content) (n : ℕ) (line : List ℕ) → length line ≡ 0 → script_from n s (lines_of (line ++ [])) ≡ Ok s
+pub ends_empty : (mode : Bool) (s : Content) (n : ℕ) (line : List ℕ) → length line ≡ 0 → script_from mode n s (lines_of (line ++ [])) ≡ Ok s
 unfolding script_from
-ends_empty s n line h = ap (λ (xs : List ℕ). script_from n s (lines_of (xs ++ []))) (nil_of line h)
+ends_empty mode s n line h = ap (λ (xs : List ℕ). script_from mode n s (lines_of (xs ++ []))) (nil_of line h)
 
 -- The bytes end in a line without a line feed, which is taken.
-pub ends : (s t : Content) (n : ℕ) (line : List ℕ) → HasNoEnd line → 0 < length line → after_line s n line ≡ Ok t → script_from n s (lines_of (line ++ [])) ≡ Ok t
+pub ends : (mode : Bool) (s t : Content) (n : ℕ) (line : List ℕ) → HasNoEnd line → 0 < length line → after_line mode s n line ≡ Ok t → script_from mode n s (lines_of (line ++ [])) ≡ Ok t
 unfolding script_from
-ends s t n line h lt e = ap (λ (xs : List ℕ). script_from n s (lines_of xs)) (append-nil line) ∙ ap (script_from n s) (last_line line h lt) ∙ rw e refl
+ends mode s t n line h lt e = ap (λ (xs : List ℕ). script_from mode n s (lines_of xs)) (append-nil line) ∙ ap (script_from mode n s) (last_line line h lt) ∙ rw e refl
 
 -- The bytes end in a line without a line feed, which is faulty.
-pub ends_in_fault : (e : ScriptFault) (s : Content) (n : ℕ) (line : List ℕ) → HasNoEnd line → 0 < length line → FailsAt n e (after_line s n line) → Fails e (script_from n s (lines_of (line ++ [])))
+pub ends_in_fault : (mode : Bool) (e : ScriptFault) (s : Content) (n : ℕ) (line : List ℕ) → HasNoEnd line → 0 < length line → FailsAt n e (after_line mode s n line) → Fails e (script_from mode n s (lines_of (line ++ [])))
 unfolding script_from
-ends_in_fault (faults.Line k why) s n line h lt f = ap (λ (xs : List ℕ). script_from n s (lines_of xs)) (append-nil line) ∙ ap (script_from n s) (last_line line h lt) ∙ rw (f.1, f.0) refl
-ends_in_fault faults.Read s n line h lt f = tt
-ends_in_fault faults.NoMemory s n line h lt f = tt
+ends_in_fault mode (faults.Line k why) s n line h lt f = ap (λ (xs : List ℕ). script_from mode n s (lines_of xs)) (append-nil line) ∙ ap (script_from mode n s) (last_line line h lt) ∙ rw (f.1, f.0) refl
+ends_in_fault mode faults.Read s n line h lt f = tt
+ends_in_fault mode faults.NoMemory s n line h lt f = tt

@@ -16,18 +16,20 @@ use Rattle.xa_tables.specs.Accounts.{are_accounts, are_apart}
 use Rattle.xa_script.specs.declared.fault.Reason.{Reason}
 use Rattle.xa_script.specs.declared.fault.Reason.TheVariants.{KeyTwice, TooManyKeys, OutOfRange, BadNumber, TooManyLines, LineTooLong, BadByte}
 use Rattle.xa_script.specs.declared.script.Declared.{Declared}
+use Rattle.xa_script.specs.declared.script.Called.{Called}
 use Rattle.xa_script.specs.declared.script.Step.{Step}
+use Rattle.xa_script.specs.declared.script.Step.TheVariants.{Call, Turn}
 use Rattle.xa_script.specs.declared.script.Count.{Count}
-use Rattle.xa_script.specs.declared.script.Count.TheVariants.{Threads, Managers, Requests}
+use Rattle.xa_script.specs.declared.script.Count.TheVariants.{Threads, Managers, Handles, Queue, Requests}
 use Rattle.xa_script.specs.declared.line.Head.{Head}
 use Rattle.xa_script.specs.declared.line.Head.TheVariants as head
 use Rattle.xa_script.specs.declared.line.Item.{Item}
 use Rattle.xa_script.specs.declared.line.Item.TheVariants as item
 use Rattle.xa_script.specs.Text.{is_script_byte, words_of}
 use Rattle.xa_script.specs.Fields.{◌>>=◌, Word, word_at, end_of, number_of, number_in, number_at, key_at, flags_onto}
-use Rattle.xa_script.specs.Content.{Content, IsScript, IsOfManager, IsOfThread, threads_of, managers_of, accounts_of, with_count, with_key, with_step}
-use Rattle.xa_script.specs.Settings.{before_actions, count_of, not_set, limit_of, setting_of, has_key, key_count, declared_of}
-use Rattle.xa_script.specs.Actions.{verb_of, action_at, step_of}
+use Rattle.xa_script.specs.Content.{Content, IsScript, IsOfManager, IsOfScript, threads_of, managers_of, accounts_of, with_count, with_key, with_sync, with_step}
+use Rattle.xa_script.specs.Settings.{before_actions, count_of, not_set, limit_of, setting_of, sync_of, has_key, key_count, declared_of}
+use Rattle.xa_script.specs.Actions.{verb_of, action_at, called_of, turn_of}
 use Rattle.xa_script.specs.Grammar.{head_of, item_by, item_of, line_of, with_item}
 
 -- ---- reading without a fault
@@ -97,6 +99,8 @@ key_kept s d of new few small is =
     record {
       threads = is.threads;
       managers = is.managers;
+      handles = is.handles;
+      queue = is.queue;
       requests = is.requests;
       of_managers = All-append (IsOfManager s) s.keys (d ∷ []) is.of_managers (just (IsOfManager s) d of);
       accounts = λ m. ap are_accounts (accounts-push m s.keys d)
@@ -109,18 +113,33 @@ key_kept s d of new few small is =
                 (new_account m d.key s.keys (ap (λ n. has_key n d.key s.keys) (sym same) ∙ new))
             | false ↦ λ t. ap are_accounts (append-nil (accounts_of m s.keys)) ∙ is.accounts m
           ] refl;
-      of_threads = is.of_threads;
+      of_steps = is.of_steps;
     }
 
-step_kept : (s : Content) (p : Step) → IsOfThread s p → IsScript s → IsScript (with_step p s)
+step_kept : (s : Content) (p : Step) → IsOfScript s p → IsScript s → IsScript (with_step p s)
 step_kept s p of is =
     record {
       threads = is.threads;
       managers = is.managers;
+      handles = is.handles;
+      queue = is.queue;
       requests = is.requests;
       of_managers = is.of_managers;
       accounts = is.accounts;
-      of_threads = All-append (IsOfThread s) s.steps (p ∷ []) is.of_threads (just (IsOfThread s) p of);
+      of_steps = All-append (IsOfScript s) s.steps (p ∷ []) is.of_steps (just (IsOfScript s) p of);
+    }
+
+sync_kept : (s : Content) (m : ℕ) → IsScript s → IsScript (with_sync m s)
+sync_kept s m is =
+    record {
+      threads = is.threads;
+      managers = is.managers;
+      handles = is.handles;
+      queue = is.queue;
+      requests = is.requests;
+      of_managers = is.of_managers;
+      accounts = is.accounts;
+      of_steps = is.of_steps;
     }
 
 -- the first count of managers has the keys that were declared before it, of the one manager that there was
@@ -132,28 +151,56 @@ count_kept s Threads n none unset low high is =
     record {
       threads = (low, high);
       managers = is.managers;
+      handles = is.handles;
+      queue = is.queue;
       requests = is.requests;
       of_managers = is.of_managers;
       accounts = is.accounts;
-      of_threads = subst (λ ps. All (IsOfThread (with_count Threads n s)) ps) (sym none) (All-nil (IsOfThread (with_count Threads n s)));
+      of_steps = subst (λ ps. All (IsOfScript (with_count Threads n s)) ps) (sym none) (All-nil (IsOfScript (with_count Threads n s)));
     }
 count_kept s Managers n none unset low high is =
     record {
       threads = is.threads;
       managers = (low, high);
+      handles = is.handles;
+      queue = is.queue;
       requests = is.requests;
       of_managers = λ i d l. more_managers s n unset low (slice_index_or s.keys i d) (is.of_managers i d l);
       accounts = is.accounts;
-      of_threads = is.of_threads;
+      of_steps = subst (λ ps. All (IsOfScript (with_count Managers n s)) ps) (sym none) (All-nil (IsOfScript (with_count Managers n s)));
+    }
+count_kept s Handles n none unset low high is =
+    record {
+      threads = is.threads;
+      managers = is.managers;
+      handles = (low, high);
+      queue = is.queue;
+      requests = is.requests;
+      of_managers = is.of_managers;
+      accounts = is.accounts;
+      of_steps = is.of_steps;
+    }
+count_kept s Queue n none unset low high is =
+    record {
+      threads = is.threads;
+      managers = is.managers;
+      handles = is.handles;
+      queue = (low, high);
+      requests = is.requests;
+      of_managers = is.of_managers;
+      accounts = is.accounts;
+      of_steps = is.of_steps;
     }
 count_kept s Requests n none unset low high is =
     record {
       threads = is.threads;
       managers = is.managers;
+      handles = is.handles;
+      queue = is.queue;
       requests = (low, high);
       of_managers = is.of_managers;
       accounts = is.accounts;
-      of_threads = is.of_threads;
+      of_steps = is.of_steps;
     }
 
 no_steps : (steps : List Step) (u : Unit {0}) → before_actions steps ≡ Ok u → steps ≡ []
@@ -208,44 +255,61 @@ declared_kept s ws d e =
     subst (λ (z : Declared). IsScript s → IsScript (with_key z s)) same
     (key_kept s made (number_is 1 (managers_of s) ws m.0 m.1.0) new.0 (grind (arith, few.0)) (number_is 0 1000000000000 k.0.1 v.0 v.1.0).1)
 
-step_of_kept : (s : Content) (line : ℕ) (w : Word) (ws : List Word) (p : Step) → step_of s line w ws ≡ Ok p → IsScript s → IsScript (with_step p s)
-unfolding step_of
-step_of_kept s line w ws p e =
+called_is : (s : Content) (line : ℕ) (w : Word) (ws : List Word) (p : Called) → called_of s line w ws ≡ Ok p → IsOfScript s (Call p)
+unfolding called_of
+called_is s line w ws p e =
     let t = and_then (number_in 1 (threads_of s) w) _ p e in
     let v = and_then (word_at ws) _ p t.1.1 in
     let verb = and_then (ok_or (verb_of v.0.0) _) _ p v.1.1 in
     let m = and_then (number_at 0 4294967295 v.0.1) _ p verb.1.1 in
     let a = and_then (action_at verb.0 m.0.1) _ p m.1.1 in
     let f = and_then (flags_onto 0 a.0.1) _ p a.1.1 in
-    let made : Step = record { line = line; thread = t.0; manager = m.0.0; action = a.0.0; flags = f.0 } in
+    let made : Called = record { line = line; thread = t.0; manager = m.0.0; action = a.0.0; flags = f.0 } in
     let same : made ≡ p = ok_is made p f.1.1 in
-    subst (λ (z : Step). IsScript s → IsScript (with_step z s)) same (step_kept s made (in_range 1 (threads_of s) w t.0 t.1.0))
+    subst (λ (z : Called). IsOfScript s (Call z)) same (in_range 1 (threads_of s) w t.0 t.1.0)
 
-item_by_kept : (h : Option Head) (s : Content) (n : ℕ) (w : Word) (ws : List Word) (i : Item) → item_by h s n w ws ≡ Ok i → IsScript s → IsScript (with_item i s)
+turn_is : (mode : Bool) (s : Content) (line : ℕ) (ws : List Word) (m : ℕ) → turn_of mode s ws ≡ Ok m → IsOfScript s (Turn line m)
+unfolding turn_of
+turn_is true s line ws m e = let never : ⊥ = cc in absurd never
+turn_is false s line ws m e =
+    let n = and_then (number_at 1 (managers_of s) ws) _ m e in
+    let last = and_then (end_of n.0.1) _ m n.1.1 in
+    let same : n.0.0 ≡ m = ok_is n.0.0 m last.1.1 in
+    subst (λ (z : ℕ). IsOfScript s (Turn line z)) same (number_is 1 (managers_of s) ws n.0 n.1.0)
+
+item_by_kept : (h : Option Head) (mode : Bool) (s : Content) (n : ℕ) (w : Word) (ws : List Word) (i : Item) → item_by h mode s n w ws ≡ Ok i → IsScript s → IsScript (with_item i s)
 unfolding item_by
-item_by_kept None s n w ws i e is = let never : ⊥ = cc in absurd never
-item_by_kept (Some head.Comment) s n w ws i e is = let same : item.Nothing ≡ i = cc in subst (λ (z : Item). IsScript (with_item z s)) same is
-item_by_kept (Some (head.Count count)) s n w ws i e is =
+item_by_kept None mode s n w ws i e is = let never : ⊥ = cc in absurd never
+item_by_kept (Some head.Comment) mode s n w ws i e is = let same : item.Nothing ≡ i = cc in subst (λ (z : Item). IsScript (with_item z s)) same is
+item_by_kept (Some (head.Count count)) mode s n w ws i e is =
     let c = and_then (setting_of s count ws) (λ number. Ok (item.Count count number)) i e in
     let same : item.Count count c.0 ≡ i = ok_is (item.Count count c.0) i c.1.1 in
     subst (λ (z : Item). IsScript (with_item z s)) same (setting_kept s count ws c.0 c.1.0 is)
-item_by_kept (Some head.Key) s n w ws i e is =
+item_by_kept (Some head.Sync) mode s n w ws i e is =
+    let m = and_then (sync_of s ws) (λ m. Ok (item.Sync m)) i e in
+    let same : item.Sync m.0 ≡ i = ok_is (item.Sync m.0) i m.1.1 in
+    subst (λ (z : Item). IsScript (with_item z s)) same (sync_kept s m.0 is)
+item_by_kept (Some head.Key) mode s n w ws i e is =
     let d = and_then (declared_of s ws) (λ d. Ok (item.Key d)) i e in
     let same : item.Key d.0 ≡ i = ok_is (item.Key d.0) i d.1.1 in
     subst (λ (z : Item). IsScript (with_item z s)) same (declared_kept s ws d.0 d.1.0 is)
-item_by_kept (Some head.Thread) s n w ws i e is =
-    let p = and_then (step_of s n w ws) (λ p. Ok (item.Step p)) i e in
-    let same : item.Step p.0 ≡ i = ok_is (item.Step p.0) i p.1.1 in
-    subst (λ (z : Item). IsScript (with_item z s)) same (step_of_kept s n w ws p.0 p.1.0 is)
+item_by_kept (Some head.Turn) mode s n w ws i e is =
+    let m = and_then (turn_of mode s ws) (λ m. Ok (item.Step (Turn n m))) i e in
+    let same : item.Step (Turn n m.0) ≡ i = ok_is (item.Step (Turn n m.0)) i m.1.1 in
+    subst (λ (z : Item). IsScript (with_item z s)) same (step_kept s (Turn n m.0) (turn_is mode s n ws m.0 m.1.0) is)
+item_by_kept (Some head.Thread) mode s n w ws i e is =
+    let p = and_then (called_of s n w ws) (λ p. Ok (item.Step (Call p))) i e in
+    let same : item.Step (Call p.0) ≡ i = ok_is (item.Step (Call p.0)) i p.1.1 in
+    subst (λ (z : Item). IsScript (with_item z s)) same (step_kept s (Call p.0) (called_is s n w ws p.0 p.1.0) is)
 
-item_kept : (s : Content) (n : ℕ) (ws : List Word) (i : Item) → item_of s n ws ≡ Ok i → IsScript s → IsScript (with_item i s)
-item_kept s n [] i e is = let same : item.Nothing ≡ i = cc in subst (λ (z : Item). IsScript (with_item z s)) same is
-item_kept s n (w ∷ ws) i e is = item_by_kept (head_of w) s n w ws i e is
+item_kept : (mode : Bool) (s : Content) (n : ℕ) (ws : List Word) (i : Item) → item_of mode s n ws ≡ Ok i → IsScript s → IsScript (with_item i s)
+item_kept mode s n [] i e is = let same : item.Nothing ≡ i = cc in subst (λ (z : Item). IsScript (with_item z s)) same is
+item_kept mode s n (w ∷ ws) i e is = item_by_kept (head_of w) mode s n w ws i e is
 
-pub line_kept : (s : Content) (n : ℕ) (line : List ℕ) (i : Item) → line_of s n line ≡ Ok i → IsScript s → IsScript (with_item i s)
+pub line_kept : (mode : Bool) (s : Content) (n : ℕ) (line : List ℕ) (i : Item) → line_of mode s n line ≡ Ok i → IsScript s → IsScript (with_item i s)
 unfolding line_of
-line_kept s n line i e =
+line_kept mode s n line i e =
     let few = not_then (nat_lt 100000 n) TooManyLines _ i e in
     let short = not_then (nat_lt 512 (length line)) LineTooLong _ i few.1 in
     let bytes = not_then (not (list_all is_script_byte line)) BadByte _ i short.1 in
-    item_kept s n (words_of line) i bytes.1
+    item_kept mode s n (words_of line) i bytes.1

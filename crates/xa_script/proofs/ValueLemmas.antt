@@ -1,6 +1,6 @@
 -- Each declared key has a value, whatever its manager has carried out.
-use Rattle.std.specs.Prelude.{◌≡◌, ℕ, ℤ, ◌+ℤ◌, zero, suc, pos, ◌+◌, ◌-◌, ◌<◌, ◌≤◌, ◌==◌, Bool, true, false, cond, ◌||◌, Option, None, Some, is_some, option_map, List, [], ◌∷◌, length, map, filter, refl}
-use Rattle.std.proofs.Common.{sym, ap, ◌∙◌, subst, arith}
+use Rattle.std.specs.Prelude.{◌≡◌, ℕ, ℤ, ◌+ℤ◌, zero, suc, pos, ◌<◌, ◌==◌, Bool, true, false, cond, ◌||◌, Option, None, Some, is_some, option_map, List, [], ◌∷◌, length, map, filter, refl}
+use Rattle.std.proofs.Common.{sym, ap, ◌∙◌, arith}
 use Rattle.std.specs.List.{list_any, slice_index_or}
 use Rattle.std.specs.FinMap as finmap
 use Rattle.std.specs.FinMap.{get-from_entries}
@@ -14,11 +14,9 @@ use Rattle.xa_tables.specs.Tables.{Tables}
 use Rattle.xa_tables.specs.History.{History, IsOpening, ValueIsSum, accepted, added_in, value_after}
 use Rattle.xa_tables.specs.Managers.{opening}
 use Rattle.xa_script.specs.declared.script.Declared.{Declared}
-use Rattle.xa_script.specs.declared.run.Served.{Served}
-use Rattle.xa_script.specs.declared.run.Runner.{Runner}
-use Rattle.xa_script.specs.Content.{Content, accounts_of, managers_of}
-use Rattle.xa_script.specs.Run.{Journals, opened}
-use Rattle.xa_script.specs.Running.{Serves, Runs}
+use Rattle.xa_script.specs.declared.turns.Station.{Station}
+use Rattle.xa_script.specs.Content.{Content, accounts_of}
+use Rattle.xa_script.specs.Turns.{opened, IsBehind}
 
 -- the keys that a manager is opened with
 abbrev names : ℕ → List Declared → List (List ℕ)
@@ -61,15 +59,9 @@ abbrev pub IsLaw : Type 0
 IsLaw = (h : History) (k : List ℕ) (T : Tables) → IsOpening T → ValueIsSum k h T
 
 -- what a manager tells of a key is its value behind the journal
-pub value_is : IsLaw → (s : Content) (m : ℕ) (h : History) (served : Served) (k : List ℕ) (told : Option ℕ) → Serves s m h served → option_map pos told ≡ finmap.get served.manager.tables.values k → option_map pos told ≡ value_after k h (opened s m)
-value_is law s m h served k told serves e = e ∙ ap (λ (T : Tables). finmap.get T.values k) serves.tables ∙ law h k (opened s m) (at_opening (accounts_of m s.keys))
+pub value_is : IsLaw → (s : Content) (m : ℕ) (h : History) (station : Station) (k : List ℕ) (told : Option ℕ) → IsBehind s m h station → option_map pos told ≡ finmap.get station.manager.tables.values k → option_map pos told ≡ value_after k h (opened s m)
+value_is law s m h station k told is e = e ∙ ap (λ (T : Tables). finmap.get T.values k) is.tables ∙ law h k (opened s m) (at_opening (accounts_of m s.keys))
 
 -- and of a declared key it tells one
 pub value_is_told : (s : Content) (h : History) (i : ℕ) (d : Declared) (told : Option ℕ) → i < length s.keys → d ≡ slice_index_or s.keys i d → option_map pos told ≡ value_after d.key h (opened s d.manager) → is_some told ≡ true
 value_is_told s h i d told below is e = sym (is_some-map (λ n. pos n) told) ∙ ap is_some e ∙ is_some-map (λ v. v +ℤ added_in d.key (accepted h) (opened s d.manager)) (finmap.get (opened s d.manager).values d.key) ∙ has_value s i d below is
-
--- the manager of a declared key serves behind its journal
-pub serves_at : (s : Content) (js : Journals) (r : Runner) (m : ℕ) (d : Served) → Runs s js r → 1 ≤ m → m ≤ managers_of s → Serves s m (js m) (slice_index_or r.served.items (m - 1) d)
-serves_at s js r m d runs low high =
-    let next_one : m - 1 + 1 ≡ m = omega (arith, low) in
-    subst (λ n. Serves s n (js n) (slice_index_or r.served.items (m - 1) d)) next_one (runs.each (m - 1) d (omega (arith, low, high, runs.managers)))

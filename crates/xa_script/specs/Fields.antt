@@ -7,7 +7,7 @@ use Rattle.std.specs.Str.{bytes_eq}
 use Rattle.xa_words.specs.Xid.{XidName}
 use Rattle.xa_words.specs.Key.{key_of}
 use Rattle.xa_words.specs.Delta.{delta_of}
-use Rattle.xa_words.specs.Flags.{TMONEPHASE, TMFAIL, TMNOWAIT, TMRESUME, TMSUCCESS, TMSUSPEND, TMMULTIPLE, TMJOIN}
+use Rattle.xa_words.specs.Flags.{TMASYNC, TMONEPHASE, TMFAIL, TMNOWAIT, TMRESUME, TMSUCCESS, TMSUSPEND, TMMULTIPLE, TMJOIN}
 use Rattle.xa_script.specs.Text.{dot, minus}
 use Rattle.xa_script.specs.declared.fault.Reason.{Reason}
 use Rattle.xa_script.specs.declared.fault.Reason.TheVariants.{UnknownWord, MissingWord, ExtraWord, BadNumber, OutOfRange, BadKey, BadXid}
@@ -117,7 +117,8 @@ delta_at ws = field delta_in ws
 -- Each flag word stands for a flag of xa.h.
 abbrev pub flag_of : Word → Option ℕ
 flag_of w =
-    if bytes_eq w (codes "onephase") then Some TMONEPHASE
+    if bytes_eq w (codes "async") then Some TMASYNC
+    else if bytes_eq w (codes "onephase") then Some TMONEPHASE
     else if bytes_eq w (codes "fail") then Some TMFAIL
     else if bytes_eq w (codes "nowait") then Some TMNOWAIT
     else if bytes_eq w (codes "resume") then Some TMRESUME

@@ -6,16 +6,17 @@ use Rattle.xa_script.specs.declared.fault.Reason.{Reason}
 use Rattle.xa_script.specs.declared.fault.Reason.TheVariants.{LineTooLong, BadByte, TooManyLines, UnknownWord}
 use Rattle.xa_script.specs.declared.fault.ScriptFault.{ScriptFault}
 use Rattle.xa_script.specs.declared.fault.ScriptFault.TheVariants as faults
-use Rattle.xa_script.specs.declared.script.Count.TheVariants.{Threads, Managers, Requests}
+use Rattle.xa_script.specs.declared.script.Count.TheVariants.{Threads, Managers, Handles, Queue, Requests}
+use Rattle.xa_script.specs.declared.script.Step.TheVariants as steps
 use Rattle.xa_script.specs.declared.line.Head.{Head}
 use Rattle.xa_script.specs.declared.line.Head.TheVariants as head
 use Rattle.xa_script.specs.declared.line.Item.{Item}
 use Rattle.xa_script.specs.declared.line.Item.TheVariants as item
 use Rattle.xa_script.specs.Text.{hash, lines_of, words_of, without_return, is_script_byte}
 use Rattle.xa_script.specs.Fields.{◌>>=◌, Word, all_digits}
-use Rattle.xa_script.specs.Content.{Content, nothing, with_count, with_key, with_step}
-use Rattle.xa_script.specs.Settings.{setting_of, declared_of}
-use Rattle.xa_script.specs.Actions.{step_of}
+use Rattle.xa_script.specs.Content.{Content, nothing, with_count, with_key, with_sync, with_step}
+use Rattle.xa_script.specs.Settings.{setting_of, sync_of, declared_of}
+use Rattle.xa_script.specs.Actions.{called_of, turn_of}
 
 -- ---- lines
 
@@ -30,49 +31,60 @@ head_of w =
     if is_comment w then Some head.Comment
     else if bytes_eq w (codes "threads") then Some (head.Count Threads)
     else if bytes_eq w (codes "managers") then Some (head.Count Managers)
+    else if bytes_eq w (codes "handles") then Some (head.Count Handles)
+    else if bytes_eq w (codes "queue") then Some (head.Count Queue)
     else if bytes_eq w (codes "requests") then Some (head.Count Requests)
+    else if bytes_eq w (codes "sync") then Some head.Sync
     else if bytes_eq w (codes "key") then Some head.Key
+    else if bytes_eq w (codes "turn") then Some head.Turn
     else if all_digits w then Some head.Thread
     else None
 
--- What the words w and ws of line n say.
-unfoldable pub item_by : Option Head → Content → ℕ → Word → List Word → Result Item Reason
-item_by None s n w ws = Err UnknownWord
-item_by (Some head.Comment) s n w ws = Ok item.Nothing
-item_by (Some (head.Count count)) s n w ws = do
+-- What the words w and ws of line n say; mode is whether threads run side by side.
+unfoldable pub item_by : Option Head → Bool → Content → ℕ → Word → List Word → Result Item Reason
+item_by None mode s n w ws = Err UnknownWord
+item_by (Some head.Comment) mode s n w ws = Ok item.Nothing
+item_by (Some (head.Count count)) mode s n w ws = do
   number ← setting_of s count ws
   Ok (item.Count count number)
-item_by (Some head.Key) s n w ws = do
+item_by (Some head.Sync) mode s n w ws = do
+  m ← sync_of s ws
+  Ok (item.Sync m)
+item_by (Some head.Key) mode s n w ws = do
   d ← declared_of s ws
   Ok (item.Key d)
-item_by (Some head.Thread) s n w ws = do
-  p ← step_of s n w ws
-  Ok (item.Step p)
+item_by (Some head.Turn) mode s n w ws = do
+  m ← turn_of mode s ws
+  Ok (item.Step (steps.Turn n m))
+item_by (Some head.Thread) mode s n w ws = do
+  p ← called_of s n w ws
+  Ok (item.Step (steps.Call p))
 
 -- What the words of line n say. Without words it says nothing.
-abbrev pub item_of : Content → ℕ → List Word → Result Item Reason
-item_of s n [] = Ok item.Nothing
-item_of s n (w ∷ ws) = item_by (head_of w) s n w ws
+abbrev pub item_of : Bool → Content → ℕ → List Word → Result Item Reason
+item_of mode s n [] = Ok item.Nothing
+item_of mode s n (w ∷ ws) = item_by (head_of w) mode s n w ws
 
 -- What line n says. There are at most 100,000 lines, and a line has at most 512 bytes, each 32 to 126 or a tab.
-unfoldable pub line_of : Content → ℕ → List ℕ → Result Item Reason
-line_of s n line =
+unfoldable pub line_of : Bool → Content → ℕ → List ℕ → Result Item Reason
+line_of mode s n line =
     if nat_lt 100_000 n then Err TooManyLines
     else if nat_lt 512 (length line) then Err LineTooLong
     else if not (list_all is_script_byte line) then Err BadByte
-    else item_of s n (words_of line)
+    else item_of mode s n (words_of line)
 
 -- What a line says is added to the script.
 abbrev pub with_item : Item → Content → Content
 with_item item.Nothing s = s
 with_item (item.Count count n) s = with_count count n s
+with_item (item.Sync m) s = with_sync m s
 with_item (item.Key d) s = with_key d s
 with_item (item.Step p) s = with_step p s
 
 -- The script with line n, whose carriage return is dropped.
-unfoldable pub after_line : Content → ℕ → List ℕ → Result Content Reason
-after_line s n line = do
-  i ← line_of s n (without_return line)
+unfoldable pub after_line : Bool → Content → ℕ → List ℕ → Result Content Reason
+after_line mode s n line = do
+  i ← line_of mode s n (without_return line)
   Ok (with_item i s)
 
 -- ---- the script
@@ -87,13 +99,13 @@ then_on n (Ok s) rest = rest s
 then_on n (Err why) rest = Err (n, why)
 
 -- The script with these lines, the first of which has number n.
-unfoldable pub script_from : ℕ → Content → List (List ℕ) → Outcome
-script_from n s [] = Ok s
-script_from n s (line ∷ lines) = then_on n (after_line s n line) (λ t. script_from (n + 1) t lines)
+unfoldable pub script_from : Bool → ℕ → Content → List (List ℕ) → Outcome
+script_from mode n s [] = Ok s
+script_from mode n s (line ∷ lines) = then_on n (after_line mode s n line) (λ t. script_from mode (n + 1) t lines)
 
 -- The script that the bytes are, or the first faulty line and its fault. Lines count from 1.
-abbrev pub script_of : List ℕ → Outcome
-script_of bytes = script_from 1 nothing (lines_of bytes)
+abbrev pub script_of : Bool → List ℕ → Outcome
+script_of mode bytes = script_from mode 1 nothing (lines_of bytes)
 
 -- ---- what was read
 

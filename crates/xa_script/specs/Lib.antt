@@ -6,7 +6,8 @@ pub mod Actions
 pub mod Grammar
 pub mod Reading
 pub mod Transcript
-pub mod Calls
+pub mod Xa
 pub mod Run
-pub mod Running
+pub mod Turns
+pub mod Turning
 pub mod Program

@@ -1,5 +1,5 @@
 -- What the program answers, and what it has then shown.
-use Rattle.std.specs.Prelude.{◌≡◌, ◌⊎◌, ℕ, List, [], ◌∷◌, Option, IfSome, Ok, Err, map, codes}
+use Rattle.std.specs.Prelude.{◌≡◌, false, ◌⊎◌, ℕ, List, [], ◌∷◌, Option, IfSome, Ok, Err, map, codes}
 use Rattle.std.specs.Borrow.{Bor}
 use Rattle.xa_script.specs.declared.fault.Reason.{Reason}
 use Rattle.xa_script.specs.declared.fault.ScriptFault.TheVariants as script
@@ -30,17 +30,17 @@ IsJudged fault = (fault ≡ Usage) ⊎ (fault ≡ NoMemory)
 
 -- The bytes are a script, and what the writer holds grew by its transcript.
 abbrev pub ShowsRun : Option (List ℕ) → Option (List ℕ) → List ℕ → Type 0
-ShowsRun before behind bytes = (s : Content) × (script_of bytes ≡ Ok s) × WritesTranscript s before behind
+ShowsRun before behind bytes = (s : Content) × (script_of false bytes ≡ Ok s) × WritesTranscript s before behind
 
 -- The bytes are no script: a line is faulty.
 abbrev pub IsFaulty : List ℕ → Type 0
-IsFaulty bytes = (fault : ℕ × Reason) × (script_of bytes ≡ Err fault)
+IsFaulty bytes = (fault : ℕ × Reason) × (script_of false bytes ≡ Err fault)
 
 -- On a fault nothing is shown, but where a write failed; and a faulty line is the one that the grammar finds.
 abbrev pub FailsBy : Fault → Option (List ℕ) → Option (List ℕ) → Option (List ℕ) → Type 0
 FailsBy Usage bytes before behind = behind ≡ before
 FailsBy NoMemory bytes before behind = behind ≡ before
-FailsBy (Script (script.Line n why)) bytes before behind = (behind ≡ before) × IfSome bytes (λ b. script_of b ≡ Err (n, why))
+FailsBy (Script (script.Line n why)) bytes before behind = (behind ≡ before) × IfSome bytes (λ b. script_of false b ≡ Err (n, why))
 FailsBy (Script script.Read) bytes before behind = behind ≡ before
 FailsBy (Script script.NoMemory) bytes before behind = behind ≡ before
 FailsBy (Run run.NoMemory) bytes before behind = behind ≡ before

@@ -1,5 +1,5 @@
 -- What comes of the bytes that are still to be read.
-use Rattle.std.specs.Prelude.{◌≡◌, ℕ, List, ◌++◌}
+use Rattle.std.specs.Prelude.{◌≡◌, ℕ, Bool, List, ◌++◌}
 use Rattle.xa_script.specs.declared.fault.ScriptFault.{ScriptFault}
 use Rattle.xa_script.specs.declared.read.Reading.{Reading}
 use Rattle.xa_script.specs.Text.{lines_of}
@@ -7,11 +7,11 @@ use Rattle.xa_script.specs.Grammar.{Outcome, script_from, script_of, Fails}
 
 -- The whole lines so far are read, and the bytes go on with the next line.
 abbrev pub goes_on : Reading → List ℕ → Outcome
-goes_on r bytes = script_from r.number r.script (lines_of (r.line.items ++ bytes))
+goes_on r bytes = script_from r.threads_mode r.number r.script (lines_of (r.line.items ++ bytes))
 
 -- Nothing is read yet: the bytes that come are the script.
-abbrev pub IsFresh : Reading → Type 0
-IsFresh r = (bytes : List ℕ) → goes_on r bytes ≡ script_of bytes
+abbrev pub IsFresh : Bool → Reading → Type 0
+IsFresh mode r = (bytes : List ℕ) → goes_on r bytes ≡ script_of mode bytes
 
 -- The piece is taken: whatever comes behind it, the new reading goes on as the old one would.
 abbrev pub HasTaken : Reading → Reading → List ℕ → Type 0

@@ -1,120 +1,166 @@
--- What a script puts to its managers, what each of its steps answers, and what its transcript is.
-use Rattle.std.specs.Prelude.{◌≡◌, ℕ, pos, Bool, not, ◌&&◌, ◌==◌, nat_le, nat_lt, if◌then◌else◌, Option, Some, Result, Ok, Err, All, List, [], ◌∷◌, ◌++◌, length, map, fold}
-use Rattle.std.specs.Ordering.{nat_cmp, ordering_then}
-use Rattle.std.specs.declared.cmp.Ordering.{Ordering}
-use Rattle.std.specs.List.Sorted.{IsPermutation, IsSorted}
+-- A run of a script: what its steps answer over the desks of its threads, and what its transcript is.
+use Rattle.std.specs.Prelude.{◌≡◌, ℕ, ℤ, pos, ◌+◌, ◌-◌, if◌then◌else◌, Bool, Option, Some, None, Result, List, [], ◌∷◌, ◌++◌, length, map, slice_index_or, slice_set}
+use Rattle.std.specs.FinMap as map_of
+use Rattle.std.specs.List.{range_with_len}
+use Rattle.std.specs.Ordering.{int_eq}
 use Rattle.std.specs.Io.KnownBytes.{Appends}
 use Rattle.xa_words.specs.Code.{number_of}
-use Rattle.xa_words.specs.Key.{key_cmp}
 use Rattle.xa_words.specs.declared.code.Code.{Code}
-use Rattle.xa_words.specs.declared.code.Code.TheVariants.{Async, Inval, RmErr}
-use Rattle.xa_words.specs.declared.request.Op.{Op}
-use Rattle.xa_tables.specs.Tables.{Tables}
-use Rattle.xa_tables.specs.Next.{next}
-use Rattle.xa_tables.specs.History.{History, of_thread, tables_after, value_after}
-use Rattle.xa_tables.specs.Managers.{opening}
+use Rattle.xa_words.specs.declared.flags.Call.TheVariants as call
+use Rattle.xa_words.specs.declared.request.Op.TheVariants as op
+use Rattle.xa_desk.specs.DeskView.{DeskView, new_desk}
+use Rattle.xa_script.specs.declared.script.Action.{Action}
+use Rattle.xa_script.specs.declared.script.Action.TheVariants as action
+use Rattle.xa_script.specs.declared.script.Called.{Called}
 use Rattle.xa_script.specs.declared.script.Declared.{Declared}
 use Rattle.xa_script.specs.declared.script.Step.{Step}
+use Rattle.xa_script.specs.declared.script.Step.TheVariants as step
 use Rattle.xa_script.specs.declared.transcript.Answer.{Answer}
-use Rattle.xa_script.specs.Fields.{◌>>=◌}
-use Rattle.xa_script.specs.Content.{Content, managers_of, requests_of, accounts_of}
-use Rattle.xa_script.specs.Calls.{asked_of}
+use Rattle.xa_script.specs.declared.transcript.Answer.TheVariants as answer
+use Rattle.xa_script.specs.declared.turns.Turned.{Turned}
+use Rattle.xa_script.specs.declared.xa.Asked.{Asked}
+use Rattle.xa_script.specs.Content.{Content, threads_of, managers_of, handles_of, requests_of, carries_async}
+use Rattle.xa_script.specs.Xa.{asked_of, native, Calls, CollectsRedeemed, HasCompleted}
+use Rattle.xa_script.specs.Turns.{Journals, AreValues}
 use Rattle.xa_script.specs.Transcript.{text}
 
--- ---- requests
+-- ---- the answer to a call
 
--- What each manager has taken, by its number.
-abbrev pub Journals : Type 0
-Journals = ℕ → History
+-- A code or a handle.
+abbrev pub shown : Called → ℤ → Answer
+shown p n = answer.Called p.line p.thread n
 
--- Nothing yet.
-abbrev pub nothing_taken : Journals
-nothing_taken m = []
+-- What a call that asks for this does to its thread's desk, and what it answers.
+pub record HasAnswered (asked : Result Asked Code) (p : Called) (old new : DeskView) (a : Answer) : Type 0 where
+  pub answer : ℤ
+  pub calls : Calls asked old p.manager new answer
+  pub shown : a ≡ shown p answer
 
--- The tables of manager m at its opening.
-abbrev pub opened : Content → ℕ → Tables
-opened s m = opening (accounts_of m s.keys)
+-- XA_OK is shown with the handle and its code.
+abbrev pub completed : Called → ℤ → ℤ → ℤ → Answer
+completed p handle retval n = if int_eq n (pos 0) then answer.Completed p.line p.thread handle retval else shown p n
 
--- A request of thread t to manager m, whose journal is h: the journal with it, and its code. Where the thread has used up its requests to the manager it is XAER_RMERR, and nothing is taken.
-abbrev pub take_request : Content → ℕ → ℕ → Op → History → History × Code
-take_request s m t op h =
-    let n = length (of_thread t h) in
-    if nat_lt n (requests_of s) then (h ++ record { thread = t; number = n; op = op } ∷ [], (next t op (tables_after h (opened s m))).1)
-    else (h, RmErr)
+-- What an xa_complete of this handle does to its thread's desk, and what it answers.
+pub record HasCollected (p : Called) (old : DeskView) (h : ℤ) (new : DeskView) (a : Answer) : Type 0 where
+  pub handle : ℤ
+  pub retval : ℤ
+  pub answer : ℤ
+  pub completes : HasCompleted old h (pos 0) p.manager p.flags new handle retval answer
+  pub shown : a ≡ completed p handle retval answer
 
--- ---- steps
+-- What an action does to its thread's desk, and what it answers.
+abbrev pub Answers : Action → Called → DeskView → DeskView → Answer → Type 0
+Answers action.Open p old new a = HasAnswered (asked_of call.OpenRm None p.flags) p old new a
+Answers action.Close p old new a = HasAnswered (asked_of call.CloseRm None p.flags) p old new a
+Answers (action.Start x) p old new a = HasAnswered (asked_of call.Start (Some x) p.flags) p old new a
+Answers (action.Add k d) p old new a = HasAnswered (native (op.Add k d) p.flags) p old new a
+Answers (action.End x) p old new a = HasAnswered (asked_of call.End (Some x) p.flags) p old new a
+Answers (action.Prepare x) p old new a = HasAnswered (asked_of call.Prepare (Some x) p.flags) p old new a
+Answers (action.Commit x) p old new a = HasAnswered (asked_of call.Commit (Some x) p.flags) p old new a
+Answers (action.Rollback x) p old new a = HasAnswered (asked_of call.Rollback (Some x) p.flags) p old new a
+Answers (action.Complete h) p old new a = HasCollected p old h new a
 
--- Where this doesn't hold, this is the answer.
-abbrev pub unless : Bool → Code → Result (Unit {0}) Code
-unless holds c = if holds then Ok tt else Err c
+-- ---- the desks of a run
 
--- m is the number of a manager.
-abbrev pub is_manager : Content → ℕ → Bool
-is_manager s m = nat_le 1 m && nat_le m (managers_of s)
+-- The desk of a thread that there isn't.
+abbrev pub no_desk : DeskView
+no_desk = new_desk 0 0 0 []
 
--- What a step asks of its manager, or the first refusal: XAER_INVAL for its flags, XAER_INVAL for a number that no manager has, and XAER_ASYNC, since no manager takes calls asynchronously.
-abbrev pub judged : Content → Step → Result Op Code
-judged s p = do
-  asked ← asked_of p.action p.flags
-  known ← unless (is_manager s p.manager) Inval
-  sync ← unless (not asked.asynchronous) Async
-  Ok asked.op
+-- The desk of thread t; threads are numbered from 1.
+abbrev pub desk_of : List DeskView → ℕ → DeskView
+desk_of desks t = slice_index_or desks (t - 1) no_desk
 
--- Manager m has this journal, and the others have theirs.
-abbrev pub with_journal : ℕ → History → Journals → Journals
-with_journal m h js n = if n == m then h else js n
+-- Thread t's desk is now this.
+abbrev pub with_desk : List DeskView → ℕ → DeskView → List DeskView
+with_desk desks t d = slice_set desks (t - 1) d
 
--- The journals behind a step that asks for this, and what it answers.
-abbrev pub step_by : Result Op Code → Content → Journals → Step → Journals × Code
-step_by (Ok op) s js p =
-    let taken = take_request s p.manager p.thread op (js p.manager) in
-    (with_journal p.manager taken.0 js, taken.1)
-step_by (Err c) s js p = (js, c)
+-- Which managers take asynchronous calls, by rising number.
+abbrev pub asyncs_of : Content → List Bool
+asyncs_of s = map (carries_async s) (range_with_len 1 (managers_of s))
 
-abbrev pub step : Content → Journals → Step → Journals × Code
-step s js p = step_by (judged s p) s js p
+-- The desk that thread t begins with.
+abbrev pub first_desk : Content → ℕ → DeskView
+first_desk s t = new_desk t (handles_of s) (requests_of s) (asyncs_of s)
 
--- The journals behind these steps.
-abbrev pub journals_behind : Content → Journals → List Step → Journals
-journals_behind s js ps = fold (λ js p. (step s js p).0) js ps
+-- The desks that a script's threads begin with.
+abbrev pub first_desks : Content → List DeskView
+first_desks s = map (first_desk s) (range_with_len 1 (threads_of s))
 
--- The answer to a step.
-abbrev pub answer : Step → Code → Answer
-answer p c = record { line = p.line; thread = p.thread; code = number_of c }
+-- ---- the steps of a script
 
--- The answers to these steps.
-abbrev pub answers_behind : Content → Journals → List Step → List Answer
-answers_behind s js [] = []
-answers_behind s js (p ∷ ps) = answer p (step s js p).1 ∷ answers_behind s (step s js p).0 ps
+-- One thread's desk answers a call, and the others stay.
+pub record HasCalled (p : Called) (old new : List DeskView) (a : Answer) : Type 0 where
+  pub desk : DeskView
+  pub answers : Answers p.action p (desk_of old p.thread) desk a
+  pub rest : new ≡ with_desk old p.thread desk
+
+-- A manager takes a turn, and the desks stay.
+pub record HasTurned (line : ℕ) (old new : List DeskView) (a : Answer) : Type 0 where
+  pub turned : Turned
+  pub answer : a ≡ answer.Turned line turned
+  pub rest : new ≡ old
+
+-- What a step does to the desks, and what it answers.
+abbrev pub Steps : Step → List DeskView → List DeskView → Answer → Type 0
+Steps (step.Call p) old new a = HasCalled p old new a
+Steps (step.Turn line m) old new a = HasTurned line old new a
+
+-- A run at some moment: the desks, and the answers so far.
+pub record Course : Type 0 where
+  pub desks : List DeskView
+  pub answers : List Answer
+
+-- A step goes on with a run.
+pub record HasStepped (p : Step) (old new : Course) : Type 0 where
+  pub answer : Answer
+  pub steps : Steps p old.desks new.desks answer
+  pub told : new.answers ≡ old.answers ++ answer ∷ []
+
+-- One after the other, the first n of these led from the first state to the last.
+pub data Chain {A : Type 0} (leads : ℕ → A → A → Type 0) (first : A) : ℕ → A → Type 0 where
+  none : (n : ℕ) (last : A) → n ≡ 0 → last ≡ first → Chain leads first n last
+  more : (n : ℕ) (now last : A) → Chain leads first n now → leads n now last → Chain leads first (n + 1) last
+
+-- The first n steps of a script went so.
+abbrev pub HasRun : Content → ℕ → Course → Type 0
+HasRun s n now = Chain (λ i. HasStepped (slice_index_or s.steps i (step.Turn 0 0))) (record { desks = first_desks s; answers = [] }) n now
+
+-- ---- what is outstanding behind the last step
+
+-- What thread t keeps under the number is collected and told; where it keeps nothing there, nothing is done.
+pub data EndsNumber (t number : ℕ) (old new : DeskView × List Answer) : Type 0 where
+  kept : (c : Code) → CollectsRedeemed old.0 new.0 number c → new.1 ≡ old.1 ++ answer.Ended t number (number_of c) ∷ [] → EndsNumber t number old new
+  free : map_of.get old.0.kept number ≡ None → new ≡ old → EndsNumber t number old new
+
+-- The same for each number that a handle may have, in rising order.
+abbrev pub EndsDesk : ℕ → DeskView × List Answer → DeskView × List Answer → Type 0
+EndsDesk t first last = Chain (λ i. EndsNumber t (i + 1)) first 32 last
+
+-- The same for thread t of a run.
+pub record EndsThread (t : ℕ) (old new : Course) : Type 0 where
+  pub desk : DeskView
+  pub ends : EndsDesk t (desk_of old.desks t, old.answers) (desk, new.answers)
+  pub rest : new.desks ≡ with_desk old.desks t desk
+
+-- The same for the first n threads, in rising order.
+abbrev pub HasEnded : ℕ → Course → Course → Type 0
+HasEnded n first last = Chain (λ i. EndsThread (i + 1)) first n last
 
 -- ---- the whole script
 
--- What a script puts to its managers.
-abbrev pub journals : Content → Journals
-journals s = journals_behind s nothing_taken s.steps
+-- What all steps answer, and then what was outstanding.
+pub record AreAnswers (s : Content) (answers : List Answer) : Type 0 where
+  pub ran : Course
+  pub ended : Course
+  pub runs : HasRun s (length s.steps) ran
+  pub ends : HasEnded (threads_of s) ran ended
+  pub all : answers ≡ ended.answers
 
--- What its steps answer.
-abbrev pub answers_of : Content → List Answer
-answers_of s = answers_behind s nothing_taken s.steps
-
--- A key by its manager and its name.
-abbrev pub name_of : Declared → ℕ × List ℕ
-name_of d = (d.manager, d.key)
-
--- The key has the value that it has behind these journals.
-abbrev pub IsWorth : Content → Journals → Declared → Type 0
-IsWorth s js d = value_after d.key (js d.manager) (opened s d.manager) ≡ Some (pos d.value)
-
--- Keys are shown by rising manager, and of one manager by the bytes of the key.
-abbrev pub shown_cmp : Declared → Declared → Ordering
-shown_cmp d e = ordering_then (nat_cmp d.manager e.manager) (ordering_then (key_cmp d.key e.key) (nat_cmp d.value e.value))
-
--- What a run of a script comes to: the answers to its steps in their order, and each declared key with its value behind the last step, in the order in which keys are shown.
+-- What a run of a script comes to: what was answered, and the declared keys with their values behind the requests that their managers carried out.
 pub record IsOutcome (s : Content) (answers : List Answer) (values : List Declared) : Type 0 where
-  pub answered : answers ≡ answers_of s
-  pub all : IsPermutation (map name_of s.keys) (map name_of values)
-  pub worth : All (IsWorth s (journals s)) values
-  pub rising : IsSorted shown_cmp values
+  pub answered : AreAnswers s answers
+  pub journals : Journals
+  pub shown : AreValues s journals values
 
 -- What a writer holds grew by the transcript of a script.
 pub record WritesTranscript (s : Content) (before behind : Option (List ℕ)) : Type 0 where

@@ -5,7 +5,7 @@ use Rattle.xa_words.specs.Key.{key_eq}
 use Rattle.xa_script.specs.declared.fault.Reason.{Reason}
 use Rattle.xa_script.specs.declared.fault.Reason.TheVariants.{SettingAfterAction, SettingTwice, KeyTwice, TooManyKeys}
 use Rattle.xa_script.specs.declared.script.Count.{Count}
-use Rattle.xa_script.specs.declared.script.Count.TheVariants.{Threads, Managers, Requests}
+use Rattle.xa_script.specs.declared.script.Count.TheVariants.{Threads, Managers, Handles, Queue, Requests}
 use Rattle.xa_script.specs.declared.script.Settings.{Settings}
 use Rattle.xa_script.specs.declared.script.Declared.{Declared}
 use Rattle.xa_script.specs.declared.script.Step.{Step}
@@ -23,6 +23,8 @@ before_actions (step ∷ steps) = Err SettingAfterAction
 abbrev pub count_of : Count → Settings → Option ℕ
 count_of Threads s = s.threads
 count_of Managers s = s.managers
+count_of Handles s = s.handles
+count_of Queue s = s.queue
 count_of Requests s = s.requests
 
 -- A count is set once.
@@ -33,9 +35,11 @@ not_set count = if is_some count then Err SettingTwice else Ok tt
 abbrev pub limit_of : Count → ℕ
 limit_of Threads = 8
 limit_of Managers = 8
+limit_of Handles = 32
+limit_of Queue = 64
 limit_of Requests = 4096
 
--- threads N, managers N, requests N
+-- threads N, managers N, handles N, queue N, requests N
 unfoldable pub setting_of : Content → Count → List Word → Result ℕ Reason
 setting_of s count ws = do
   first ← before_actions s.steps
@@ -43,6 +47,14 @@ setting_of s count ws = do
   n ← number_at 1 (limit_of count) ws
   last ← end_of n.1
   Ok n.0
+
+-- sync M; M is one of the managers that there are by then.
+unfoldable pub sync_of : Content → List Word → Result ℕ Reason
+sync_of s ws = do
+  first ← before_actions s.steps
+  m ← number_at 1 (managers_of s) ws
+  last ← end_of m.1
+  Ok m.0
 
 -- ---- keys
 

@@ -1,13 +1,33 @@
 -- The text of a run's answers and values.
-use Rattle.std.specs.Prelude.{ℕ, List, ◌++◌, codes, decimal}
+use Rattle.std.specs.Prelude.{ℕ, ℤ, List, ◌++◌, codes, decimal}
 use Rattle.std.specs.List.{flat_map}
 use Rattle.std.specs.Fmt.{signed_decimal}
 use Rattle.xa_script.specs.declared.script.Declared.{Declared}
 use Rattle.xa_script.specs.declared.transcript.Answer.{Answer}
+use Rattle.xa_script.specs.declared.transcript.Answer.TheVariants.{Called, Completed, Turned as TurnedAnswer, Ended}
+use Rattle.xa_script.specs.declared.turns.Turned.{Turned}
+use Rattle.xa_script.specs.declared.turns.Turned.TheVariants.{Did, Empty, Blocked}
 
--- L T C
+-- did, empty, blocked
+abbrev pub turn_text : Turned → List ℕ
+turn_text Did = codes "did"
+turn_text Empty = codes "empty"
+turn_text Blocked = codes "blocked"
+
+-- handle H retval R, behind a space
+abbrev pub handle_text : List ℕ → ℤ → List ℕ
+handle_text handle retval = codes " handle " ++ handle ++ codes " retval " ++ signed_decimal retval ++ codes "\n"
+
+-- L T
+abbrev pub call_text : ℕ → ℕ → List ℕ
+call_text line thread = decimal line ++ codes " " ++ decimal thread
+
+-- L T C, L T 0 handle H retval R, L turn S, end T handle H retval R
 abbrev pub answer_text : Answer → List ℕ
-answer_text a = decimal a.line ++ codes " " ++ decimal a.thread ++ codes " " ++ signed_decimal a.code ++ codes "\n"
+answer_text (Called line thread answer) = call_text line thread ++ codes " " ++ signed_decimal answer ++ codes "\n"
+answer_text (Completed line thread handle retval) = call_text line thread ++ codes " 0" ++ handle_text (signed_decimal handle) retval
+answer_text (TurnedAnswer line turned) = decimal line ++ codes " turn " ++ turn_text turned ++ codes "\n"
+answer_text (Ended thread handle retval) = codes "end " ++ decimal thread ++ handle_text (decimal handle) retval
 
 -- value M KEY V
 abbrev pub value_text : Declared → List ℕ

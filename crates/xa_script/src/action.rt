@@ -1,13 +1,16 @@
 //! What a thread is told to do.
 ghost use Rattle.std.specs.Prelude.{◌≡◌};
 ghost use Rattle.xa_script.specs.Fields.{Takes};
-ghost use Rattle.xa_script.specs.Actions.{verb_of, on_branch, action_at, step_of};
+ghost use Rattle.xa_script.specs.Actions.{verb_of, on_branch, action_at, called_of, turn_of};
 
 use crate::fault::Reason;
 use crate::field::number_in;
-use crate::script::{Action, Script, Step};
+use crate::script::{Action, Called, Script};
 use crate::words::Words;
 use xa_words::Xid;
+
+// A handle is a positive 32-bit number with a sign, or 0, which is none.
+const MOST_HANDLE: u64 = i32::MAX as u64;
 
 /// What a thread does to one branch.
 #[derive(Clone, Copy, Debug)]
@@ -26,6 +29,7 @@ pub(crate) enum Verb {
     Close,
     OnBranch(BranchVerb),
     Add,
+    Complete,
 }
 
 fn verb_of(word: &[u8]) -> Option<Verb>
@@ -47,6 +51,8 @@ fn verb_of(word: &[u8]) -> Option<Verb>
         Some(Verb::OnBranch(BranchVerb::Rollback))
     } else if word == b"add".as_slice() {
         Some(Verb::Add)
+    } else if word == b"complete".as_slice() {
+        Some(Verb::Complete)
     } else {
         None
     }
@@ -78,29 +84,43 @@ fn action_at(verb: Verb, words: &mut Words) -> Result<Action, Reason>
             let delta = words.delta()?;
             Ok(Action::Add(key, delta))
         }
+        Verb::Complete => Ok(Action::Complete(words.number(0, MOST_HANDLE)? as i32)),
     }
 }
 
 // The words behind `first`, the word that names the thread.
-#[tactic(auto, unfolding(crate::specs::Actions::step_of))]
-pub(crate) fn step_of(
+#[tactic(auto, unfolding(crate::specs::Actions::called_of))]
+pub(crate) fn called_of(
     script: &Script,
     line: u32,
     first: &[u8],
     words: &mut Words,
-) -> Result<Step, Reason>
-    ensures { result ≡ step_of script.now line first.now words.old }
+) -> Result<Called, Reason>
+    ensures { result ≡ called_of script.now line first.now words.old }
 {
     let thread = number_in(1, u64::from(script.threads()), first)? as u32;
     let verb = verb_of(words.word()?).ok_or(Reason::UnknownWord)?;
     let manager = words.number(0, u64::from(u32::MAX))? as u32;
     let action = action_at(verb, words)?;
     let flags = words.flags()?;
-    Ok(Step {
+    Ok(Called {
         line,
         thread,
         manager,
         action,
         flags,
     })
+}
+
+// The words behind `turn`: the manager.
+#[tactic(auto, unfolding(crate::specs::Actions::turn_of))]
+pub(crate) fn turn_of(script: &Script, threads_mode: bool, words: &mut Words) -> Result<u32, Reason>
+    ensures { result ≡ turn_of threads_mode script.now words.old }
+{
+    if threads_mode {
+        return Err(Reason::TurnInThreadsMode);
+    }
+    let manager = words.number(1, u64::from(script.managers()))? as u32;
+    words.end()?;
+    Ok(manager)
 }

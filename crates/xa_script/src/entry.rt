@@ -11,6 +11,7 @@ use clap::error::ErrorKind;
 use clap::{Arg, Command};
 use std::alloc::{AllocError, Global};
 use std::io::{Read, Write};
+use std::sync::Wait;
 use thiserror::Error;
 
 // Why the program shows no transcript, or not all of it.
@@ -77,7 +78,8 @@ fn judge(alloc: Global, words: &[&str]) -> Result<(), Fault>
 }
 
 // Judges the words, and only then reads the script and runs it.
-fn carry_out<R: Read, W: Write>(
+fn carry_out<H: Wait, R: Read, W: Write>(
+    rt: &H,
     alloc: Global,
     words: &[&str],
     reader: &mut R,
@@ -95,7 +97,7 @@ fn carry_out<R: Read, W: Write>(
 {
     judge(alloc, words)?;
     let script = read_script(alloc, reader, false).map_err(Fault::Script)?;
-    run_turns(alloc, &script, out).map_err(Fault::Run)
+    run_turns(rt, alloc, &script, out).map_err(Fault::Run)
 }
 
 /// The whole program: judges the words behind its name, reads the script, runs it and writes its
@@ -110,7 +112,8 @@ fn carry_out<R: Read, W: Write>(
 /// | 4 | a read or a write that failed | `input failed` or `output failed` |
 ///
 /// The words are judged before anything is read. A failing write to `err` changes nothing.
-pub fn program<R: Read, W: Write, E: Write>(
+pub fn program<H: Wait, R: Read, W: Write, E: Write>(
+    rt: &H,
     alloc: Global,
     words: &[&str],
     reader: &mut R,
@@ -127,7 +130,7 @@ pub fn program<R: Read, W: Write, E: Write>(
     ensures faulty { result ≡ 1 → IfSome (R.remaining reader.old) IsFaulty }
     ensures nothing_shown { 0 < result → result < 4 → W.contents out.new ≡ W.contents out.old }
 {
-    match carry_out(alloc, words, reader, out) {
+    match carry_out(rt, alloc, words, reader, out) {
         Ok(()) => 0,
         Err(fault) => {
             let _ = writeln!(err, "{fault}");

@@ -6,7 +6,8 @@ ghost use Rattle.xa_script.specs.Fields.{all_digits, number_of, number_in, is_na
 
 use crate::fault::Reason;
 use xa_words::{
-    Delta, TMFAIL, TMJOIN, TMMULTIPLE, TMNOWAIT, TMONEPHASE, TMRESUME, TMSUCCESS, TMSUSPEND, Xid,
+    Delta, TMASYNC, TMFAIL, TMJOIN, TMMULTIPLE, TMNOWAIT, TMONEPHASE, TMRESUME, TMSUCCESS,
+    TMSUSPEND, Xid,
 };
 
 pub(crate) fn all_digits(word: &[u8]) -> bool
@@ -112,7 +113,9 @@ pub(crate) fn delta_in(word: &[u8]) -> Result<Delta, Reason>
 pub(crate) fn flag_of(word: &[u8]) -> Option<u32>
     ensures { result ≡ flag_of word.now }
 {
-    if word == b"onephase".as_slice() {
+    if word == b"async".as_slice() {
+        Some(TMASYNC)
+    } else if word == b"onephase".as_slice() {
         Some(TMONEPHASE)
     } else if word == b"fail".as_slice() {
         Some(TMFAIL)

@@ -6,7 +6,6 @@
 #![tactic(auto)]
 
 mod action;
-mod call;
 mod entry;
 mod fault;
 mod field;
@@ -16,14 +15,17 @@ mod run;
 mod script;
 mod setting;
 mod transcript;
+mod turns;
 mod words;
+mod xa;
 
 pub use entry::program;
 pub use fault::{Reason, ScriptFault};
 pub use read::read_script;
 pub use run::run_turns;
-pub use script::{Action, Declared, Script, Step};
+pub use script::{Action, Called, Declared, Script, Step};
 pub use transcript::{Answer, RunFault};
+pub use turns::Turned;
 
 #[cfg(test)]
 mod tests;

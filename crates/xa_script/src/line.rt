@@ -5,11 +5,11 @@ ghost use Rattle.xa_script.specs.Text.{words_of, is_script_byte, without_return}
 ghost use Rattle.xa_script.specs.Content.{IsScript};
 ghost use Rattle.xa_script.specs.Grammar.{head_of, item_by, item_of, line_of, with_item, after_line, FailsAt};
 
-use crate::action::step_of;
+use crate::action::{called_of, turn_of};
 use crate::fault::{Reason, ScriptFault};
 use crate::field::all_digits;
 use crate::script::{Count, Declared, Script, Step};
-use crate::setting::{declared_of, setting_of};
+use crate::setting::{declared_of, setting_of, sync_of};
 use crate::words::Words;
 use std::alloc::AllocError;
 
@@ -24,7 +24,9 @@ pub(crate) const LONGEST_LINE: usize = 512;
 pub(crate) enum Head {
     Comment,
     Count(Count),
+    Sync,
     Key,
+    Turn,
     Thread,
 }
 
@@ -33,6 +35,7 @@ pub(crate) enum Head {
 pub(crate) enum Item {
     Nothing,
     Count(Count, u32),
+    Sync(u32),
     Key(Declared),
     Step(Step),
 }
@@ -46,10 +49,18 @@ fn head_of(word: &[u8]) -> Option<Head>
         Some(Head::Count(Count::Threads))
     } else if word == b"managers".as_slice() {
         Some(Head::Count(Count::Managers))
+    } else if word == b"handles".as_slice() {
+        Some(Head::Count(Count::Handles))
+    } else if word == b"queue".as_slice() {
+        Some(Head::Count(Count::Queue))
     } else if word == b"requests".as_slice() {
         Some(Head::Count(Count::Requests))
+    } else if word == b"sync".as_slice() {
+        Some(Head::Sync)
     } else if word == b"key".as_slice() {
         Some(Head::Key)
+    } else if word == b"turn".as_slice() {
+        Some(Head::Turn)
     } else if all_digits(word) {
         Some(Head::Thread)
     } else {
@@ -58,8 +69,8 @@ fn head_of(word: &[u8]) -> Option<Head>
 }
 
 #[tactic(auto, unfolding(crate::specs::Grammar::item_by))]
-fn item_of(script: &Script, number: u32, line: &[u8]) -> Result<Item, Reason>
-    ensures { result ≡ item_of script.now number (words_of line.now) }
+fn item_of(script: &Script, threads_mode: bool, number: u32, line: &[u8]) -> Result<Item, Reason>
+    ensures { result ≡ item_of threads_mode script.now number (words_of line.now) }
 {
     let mut words = Words::new(line);
     let Some(first) = words.next() else {
@@ -68,8 +79,16 @@ fn item_of(script: &Script, number: u32, line: &[u8]) -> Result<Item, Reason>
     match head_of(first).ok_or(Reason::UnknownWord)? {
         Head::Comment => Ok(Item::Nothing),
         Head::Count(count) => Ok(Item::Count(count, setting_of(script, count, &mut words)?)),
+        Head::Sync => Ok(Item::Sync(sync_of(script, &mut words)?)),
         Head::Key => Ok(Item::Key(declared_of(script, &mut words)?)),
-        Head::Thread => Ok(Item::Step(step_of(script, number, first, &mut words)?)),
+        Head::Turn => Ok(Item::Step(Step::Turn {
+            line: number,
+            manager: turn_of(script, threads_mode, &mut words)?,
+        })),
+        Head::Thread => {
+            let called = called_of(script, number, first, &mut words)?;
+            Ok(Item::Step(Step::Call(called)))
+        }
     }
 }
 
@@ -95,8 +114,8 @@ fn without_return(line: &[u8]) -> &[u8]
 }
 
 #[tactic(auto, unfolding(crate::specs::Grammar::line_of))]
-fn line_of(script: &Script, number: u32, line: &[u8]) -> Result<Item, Reason>
-    ensures item { result ≡ line_of script.now number line.now }
+fn line_of(script: &Script, threads_mode: bool, number: u32, line: &[u8]) -> Result<Item, Reason>
+    ensures item { result ≡ line_of threads_mode script.now number line.now }
     ensures few { OnOk result (number ≤ 100_000) }
 {
     if number > MOST_LINES {
@@ -108,7 +127,7 @@ fn line_of(script: &Script, number: u32, line: &[u8]) -> Result<Item, Reason>
     if !all_script_bytes(line) {
         return Err(Reason::BadByte);
     }
-    item_of(script, number, line)
+    item_of(script, threads_mode, number, line)
 }
 
 fn put(script: &mut Script, item: Item) -> Result<(), AllocError>
@@ -121,6 +140,7 @@ fn put(script: &mut Script, item: Item) -> Result<(), AllocError>
             script.set(count, number);
             Ok(())
         }
+        Item::Sync(manager) => script.add_sync(manager),
         Item::Key(declared) => script.add_key(declared),
         Item::Step(step) => script.add_step(step),
     }
@@ -128,13 +148,18 @@ fn put(script: &mut Script, item: Item) -> Result<(), AllocError>
 
 // Takes the line of this number, which may end with a carriage return.
 #[tactic(auto, unfolding(crate::specs::Grammar::after_line))]
-pub(crate) fn read_line(script: &mut Script, number: u32, line: &[u8]) -> Result<(), ScriptFault>
-    ensures ok { OnOk result (after_line script.old number line.now ≡ Ok script.new) }
+pub(crate) fn read_line(
+    script: &mut Script,
+    threads_mode: bool,
+    number: u32,
+    line: &[u8],
+) -> Result<(), ScriptFault>
+    ensures ok { OnOk result (after_line threads_mode script.old number line.now ≡ Ok script.new) }
     ensures few { OnOk result (number ≤ 100_000) }
     ensures err { IfErr result (λ fault.
-        FailsAt number fault (after_line script.old number line.now)) }
+        FailsAt number fault (after_line threads_mode script.old number line.now)) }
 {
-    match line_of(script, number, without_return(line)) {
+    match line_of(script, threads_mode, number, without_return(line)) {
         Ok(item) => Ok(put(script, item)?),
         Err(why) => Err(ScriptFault::Line { line: number, why }),
     }

@@ -15,6 +15,8 @@ const ROOM: usize = LONGEST_LINE + 1;
 // What the whole lines so far say, and what has come of the next.
 #[derive(Drop)]
 struct Reading {
+    // Whether the threads of the script are to run side by side.
+    threads_mode: bool,
     script: Script,
     // The number of the next line.
     number: u32,
@@ -30,10 +32,11 @@ impl Reading {
     ghost use Rattle.xa_script.specs.Grammar.{Reads};
     ghost use Rattle.xa_script.specs.Reading.{goes_on, IsFresh, HasTaken, FailsOn};
 
-    fn new(alloc: Global) -> Result<Reading, AllocError>
-        ensures { IfOk result IsFresh }
+    fn new(alloc: Global, threads_mode: bool) -> Result<Reading, AllocError>
+        ensures { IfOk result (IsFresh threads_mode) }
     {
         Ok(Reading {
+            threads_mode,
             script: Script::new(alloc),
             number: 1,
             line: Vec::with_capacity(alloc, ROOM)?,
@@ -65,7 +68,7 @@ impl Reading {
         ensures ok { OnOk result (HasTaken self.old self.new (line_feed ∷ [])) }
         ensures err { IfErr result (FailsOn self.old (line_feed ∷ [])) }
     {
-        read_line(&mut self.script, self.number, &self.line)?;
+        read_line(&mut self.script, self.threads_mode, self.number, &self.line)?;
         self.line.clear();
         self.number += 1;
         Ok(())
@@ -86,6 +89,7 @@ impl Reading {
         ensures { Reads result (goes_on self []) }
     {
         let Reading {
+            threads_mode,
             mut script,
             number,
             line,
@@ -94,7 +98,7 @@ impl Reading {
         if line.is_empty() {
             return Ok(script);
         }
-        read_line(&mut script, number, &line)?;
+        read_line(&mut script, threads_mode, number, &line)?;
         Ok(script)
     }
 }
@@ -104,17 +108,16 @@ impl Reading {
 /// The first faulty line decides: its number, from 1, and its first fault. Reading stops there.
 /// A read that fails is `Read`, and want of memory `NoMemory`.
 ///
-/// No word of this grammar depends on `threads_mode`, which says whether the threads of the
-/// script are to run side by side.
+/// `threads_mode` says whether the threads of the script are to run side by side; then no line of it
+/// may be a `turn`.
 pub fn read_script<R: Read>(
     alloc: Global,
     reader: &mut R,
     threads_mode: bool,
 ) -> Result<Script, ScriptFault>
-    ensures { IfSome (R.remaining reader.old) (λ bytes. Reads result (script_of bytes)) }
+    ensures { IfSome (R.remaining reader.old) (λ bytes. Reads result (script_of threads_mode bytes)) }
 {
-    let _ = threads_mode;
-    let mut reading = Reading::new(alloc)?;
+    let mut reading = Reading::new(alloc, threads_mode)?;
     let mut chunk = [0; 4096];
     for _ in 0..u64::MAX {
         let count = reader.read(&mut chunk).map_err(|_| ScriptFault::Read)?;

@@ -10,6 +10,8 @@ use xa_words::{Delta, Key, Xid};
 pub(crate) enum Count {
     Threads,
     Managers,
+    Handles,
+    Queue,
     Requests,
 }
 
@@ -18,6 +20,8 @@ pub(crate) enum Count {
 pub(crate) struct Settings {
     pub(crate) threads: Option<u32>,
     pub(crate) managers: Option<u32>,
+    pub(crate) handles: Option<u32>,
+    pub(crate) queue: Option<u32>,
     pub(crate) requests: Option<u32>,
 }
 
@@ -44,11 +48,13 @@ pub enum Action {
     Prepare(Xid),
     Commit(Xid),
     Rollback(Xid),
+    /// The handle that the line gives, which isn't negative.
+    Complete(i32),
 }
 
 /// A call that a thread makes.
 #[derive(Clone, Copy, Debug, PartialEq, Eq)]
-pub struct Step {
+pub struct Called {
     /// The number of its line, from 1.
     pub line: u32,
     /// The thread's number, from 1.
@@ -60,11 +66,26 @@ pub struct Step {
     pub flags: u32,
 }
 
+/// What is to be done next.
+#[derive(Clone, Copy, Debug, PartialEq, Eq)]
+pub enum Step {
+    Call(Called),
+    /// A manager takes one request, if there is one.
+    Turn {
+        /// The number of its line, from 1.
+        line: u32,
+        /// The manager's number, from 1.
+        manager: u32,
+    },
+}
+
 /// A whole script: its settings, and its keys and its steps, each in the order of the lines.
 #[derive(Debug, Drop)]
 pub struct Script {
     settings: Settings,
     keys: Vec<Declared>,
+    // The managers that take no asynchronous calls.
+    syncs: Vec<u32>,
     steps: Vec<Step>,
 }
 
@@ -73,14 +94,14 @@ impl Model for Script {
 
     ghost Value = { Content };
 
-    ghost view = { λ s. record { settings = s.settings; keys = s.keys.items; steps = s.steps.items } };
+    ghost view = { λ s. record { settings = s.settings; keys = s.keys.items; syncs = s.syncs.items; steps = s.steps.items } };
 
-    ghost invariant = { λ s. IsScript (record { settings = s.settings; keys = s.keys.items; steps = s.steps.items }) };
+    ghost invariant = { λ s. IsScript (record { settings = s.settings; keys = s.keys.items; syncs = s.syncs.items; steps = s.steps.items }) };
 }
 
 impl Script {
     ghost use Rattle.xa_tables.specs.Accounts.{are_accounts};
-    ghost use Rattle.xa_script.specs.Content.{accounts_of, IsOfManager, IsOfThread, IsScript, threads_of, managers_of, requests_of, nothing, with_count, with_key, with_step};
+    ghost use Rattle.xa_script.specs.Content.{accounts_of, IsOfManager, IsOfScript, IsScript, threads_of, managers_of, handles_of, queue_of, requests_of, carries_async, nothing, with_count, with_key, with_sync, with_step};
 
     pub(crate) fn new(alloc: Global) -> Script
         ensures { result ≡ nothing }
@@ -89,9 +110,12 @@ impl Script {
             settings: Settings {
                 threads: None,
                 managers: None,
+                handles: None,
+                queue: None,
                 requests: None,
             },
             keys: Vec::new(alloc),
+            syncs: Vec::new(alloc),
             steps: Vec::new(alloc),
         }
     }
@@ -112,6 +136,22 @@ impl Script {
         self.settings.managers.unwrap_or(1)
     }
 
+    /// How many handles a thread has, 1 to 32.
+    pub fn handles(&self) -> u32
+        ensures handles { result ≡ handles_of self.now }
+        ensures limits { (1 ≤ result) × (result ≤ 32) }
+    {
+        self.settings.handles.unwrap_or(4)
+    }
+
+    /// How many requests a manager's queue holds, 1 to 64.
+    pub fn queue(&self) -> u32
+        ensures queue { result ≡ queue_of self.now }
+        ensures limits { (1 ≤ result) × (result ≤ 64) }
+    {
+        self.settings.queue.unwrap_or(8)
+    }
+
     /// How many requests a thread may put to a manager, 1 to 4,096.
     pub fn requests(&self) -> u32
         ensures requests { result ≡ requests_of self.now }
@@ -129,10 +169,17 @@ impl Script {
         &self.keys
     }
 
-    /// The calls of all threads, in the order of their lines.
+    /// Whether the manager takes asynchronous calls: whether its switch carries `TMUSEASYNC`.
+    pub fn carries_async(&self, manager: u32) -> bool
+        ensures { result ≡ carries_async self.now manager }
+    {
+        !self.syncs.contains(&manager)
+    }
+
+    /// The calls of all threads and the turns of managers, in the order of their lines.
     pub fn steps(&self) -> &[Step]
         ensures steps { result.now ≡ self.now.steps }
-        ensures threads { All (IsOfThread self.now) result.now }
+        ensures of { All (IsOfScript self.now) result.now }
     {
         &self.steps
     }
@@ -150,6 +197,8 @@ impl Script {
         match count {
             Count::Threads => self.settings.threads = Some(number),
             Count::Managers => self.settings.managers = Some(number),
+            Count::Handles => self.settings.handles = Some(number),
+            Count::Queue => self.settings.queue = Some(number),
             Count::Requests => self.settings.requests = Some(number),
         }
     }
@@ -162,12 +211,19 @@ impl Script {
         Ok(())
     }
 
+    pub(crate) fn add_sync(&mut self, manager: u32) -> Result<(), AllocError>
+        ensures { OnOk result (self.new ≡ with_sync manager self.old) }
+    {
+        self.syncs.push(manager)?;
+        Ok(())
+    }
+
     pub(crate) fn add_step(&mut self, step: Step) -> Result<(), AllocError>
         requires { IsScript self.old → IsScript (with_step step self.old) }
         ensures { OnOk result (self.new ≡ with_step step self.old) }
     {
-        // It names `Action`: a `push` of a type that only contains it gets no proof.
-        let _named: Option<Action> = None;
+        // It names `Action` and `Called`: a `push` of a type that only contains them gets no proof.
+        let _named: Option<(Action, Called)> = None;
         self.steps.push(step)?;
         Ok(())
     }

@@ -1,6 +1,6 @@
 //! What a line sets or declares.
 ghost use Rattle.std.specs.Prelude.{◌≡◌};
-ghost use Rattle.xa_script.specs.Settings.{before_actions, count_of, not_set, limit_of, setting_of, has_key, key_count, new_key, declared_of};
+ghost use Rattle.xa_script.specs.Settings.{before_actions, count_of, not_set, limit_of, setting_of, sync_of, has_key, key_count, new_key, declared_of};
 
 use crate::fault::Reason;
 use crate::script::{Count, Declared, Script, Settings, Step};
@@ -28,6 +28,8 @@ fn count_of(count: Count, settings: &Settings) -> Option<u32>
     match count {
         Count::Threads => settings.threads,
         Count::Managers => settings.managers,
+        Count::Handles => settings.handles,
+        Count::Queue => settings.queue,
         Count::Requests => settings.requests,
     }
 }
@@ -46,6 +48,8 @@ fn limit_of(count: Count) -> u64
 {
     match count {
         Count::Threads | Count::Managers => 8,
+        Count::Handles => 32,
+        Count::Queue => 64,
         Count::Requests => 4096,
     }
 }
@@ -60,6 +64,17 @@ pub(crate) fn setting_of(script: &Script, count: Count, words: &mut Words) -> Re
     let number = words.number(1, limit_of(count))? as u32;
     words.end()?;
     Ok(number)
+}
+
+// The words behind `sync`.
+#[tactic(auto, unfolding(crate::specs::Settings::sync_of))]
+pub(crate) fn sync_of(script: &Script, words: &mut Words) -> Result<u32, Reason>
+    ensures { result ≡ sync_of script.now words.old }
+{
+    before_actions(script.steps())?;
+    let manager = words.number(1, u64::from(script.managers()))? as u32;
+    words.end()?;
+    Ok(manager)
 }
 
 fn has_key(manager: u32, key: &Key, keys: &[Declared]) -> bool

@@ -7,6 +7,7 @@ use crate::transcript::write_transcript;
 use std::alloc::{AllocError, Global};
 use std::io;
 use std::io::{Read, Write};
+use std::sync::Wait;
 use std::test::Fail;
 use xa_words::{Delta, Key, Xid};
 
@@ -27,7 +28,7 @@ fn a_faulty_line_is_named_with_its_first_fault(rt: HostRuntime) {
     let long = [b'#'; 513];
     let mut long_and_bad = long;
     long_and_bad[7] = 127;
-    let rows: [(&[u8], u32, Reason); 66] = [
+    let rows: [(&[u8], u32, Reason); 65] = [
         (&long, 1, Reason::LineTooLong),
         (&long_and_bad, 1, Reason::LineTooLong),
         (b"# \x7f", 1, Reason::BadByte),
@@ -36,10 +37,9 @@ fn a_faulty_line_is_named_with_its_first_fault(rt: HostRuntime) {
         (b"1 open 1\r\r\n", 1, Reason::BadByte),
         (b"\n# a\n \t\r\nfoo\n", 4, Reason::UnknownWord),
         (b"thread 2\n", 1, Reason::UnknownWord),
-        (b"turn 1\n", 1, Reason::UnknownWord),
-        (b"handles 1\n", 1, Reason::UnknownWord),
+        (b"logfail 1 1\n", 1, Reason::UnknownWord),
         (b"1 shut 1\n", 1, Reason::UnknownWord),
-        (b"1 open 1 async\n", 1, Reason::UnknownWord),
+        (b"1 commitall g 1\n", 1, Reason::UnknownWord),
         (b"1 open 1 Join\n", 1, Reason::UnknownWord),
         (b"1 open 1 success 1\n", 1, Reason::UnknownWord),
         (b"1x open 1\n", 1, Reason::UnknownWord),
@@ -290,13 +290,13 @@ fn a_script_is_read_into_settings_keys_and_steps(rt: HostRuntime) -> Result<(), 
     ];
     assert_eq!(rt; script.steps().len(), 8);
     for (step, (line, thread, manager, action, flags)) in script.steps().iter().zip(rows) {
-        let want = Step {
+        let want = Step::Call(Called {
             line,
             thread,
             manager,
             action,
             flags,
-        };
+        });
         assert_eq!(rt; *step, want);
     }
     Ok(())
@@ -334,15 +334,30 @@ impl Write for Refusing {
 #[test]
 fn a_transcript_has_the_answers_and_then_the_values(rt: HostRuntime) -> Result<(), Fail> {
     let answers = [
-        Answer {
+        Answer::Called {
             line: 2,
             thread: 1,
-            code: 0,
+            answer: 0,
         },
-        Answer {
+        Answer::Completed {
+            line: 3,
+            thread: 2,
+            handle: 4,
+            retval: -3,
+        },
+        Answer::Turned {
+            line: 5,
+            turned: Turned::Empty,
+        },
+        Answer::Called {
             line: 100_000,
             thread: 8,
-            code: -6,
+            answer: -6,
+        },
+        Answer::Ended {
+            thread: 8,
+            handle: 32,
+            retval: 103,
         },
     ];
     let key = Key::new(b"a1").ok_or("key")?;
@@ -355,7 +370,9 @@ fn a_transcript_has_the_answers_and_then_the_values(rt: HostRuntime) -> Result<(
     write_transcript(rt.alloc(), &answers, &values, &mut out)?;
     assert_eq!(rt;
         out.as_slice(),
-        b"2 1 0\n100000 8 -6\nvalue 1 a1 70\n".as_slice()
+        b"2 1 0\n3 2 0 handle 4 retval -3\n5 turn empty\n100000 8 -6\n\
+        end 8 handle 32 retval 103\nvalue 1 a1 70\n"
+            .as_slice()
     );
     for writes in 0..5 {
         let mut writer = Refusing { writes };

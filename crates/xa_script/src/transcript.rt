@@ -1,23 +1,42 @@
 //! The transcript of a run.
 ghost use Rattle.std.specs.Prelude.{◌≡◌, ◌++◌, OnOk, IfOk, IsErrOf};
 ghost use Rattle.std.specs.Io.KnownBytes.{Appends};
-ghost use Rattle.xa_script.specs.Transcript.{answer_text, value_text, text};
+ghost use Rattle.xa_script.specs.Transcript.{turn_text, handle_text, call_text, answer_text, value_text, text};
 
 use crate::script::Declared;
+use crate::turns::Turned;
 use itoa::{Buffer, Integer};
 use std::alloc::{AllocError, Global};
 use std::io::Write;
 use thiserror::Error;
 
-/// What a call answered: a line `L T C` of the transcript.
+/// A line of the transcript before the values. Lines, threads and handles count from 1.
 #[derive(Clone, Copy, Debug, PartialEq, Eq)]
-pub struct Answer {
-    /// The number of the call's line in the script, from 1.
-    pub line: u32,
-    /// The number of the thread that called, from 1.
-    pub thread: u32,
-    /// The code that the call answered.
-    pub code: i32,
+pub enum Answer {
+    /// The call on this line, by this thread, answered a code or a handle: `L T C`.
+    Called {
+        line: u32,
+        thread: u32,
+        answer: i32,
+    },
+    /// The xa_complete on this line answered XA_OK: `L T 0 handle H retval R`.
+    Completed {
+        line: u32,
+        thread: u32,
+        handle: i32,
+        retval: i32,
+    },
+    /// What a manager did in its turn: `L turn S`.
+    Turned {
+        line: u32,
+        turned: Turned,
+    },
+    /// An operation that was outstanding after the thread's last line: `end T handle H retval R`.
+    Ended {
+        thread: u32,
+        handle: u32,
+        retval: i32,
+    },
 }
 
 /// Why a run shows nothing, or not all.
@@ -35,15 +54,77 @@ fn put_number<I: Integer>(out: &mut Vec<u8>, number: I) -> Result<(), AllocError
     out.extend_from_slice(Buffer::new().format(number).as_bytes())
 }
 
+// What stands for a turn: did, empty or blocked.
+fn turn_text(turned: Turned) -> &'static [u8]
+    ensures { result.now ≡ turn_text turned }
+{
+    match turned {
+        Turned::Did => b"did",
+        Turned::Empty => b"empty",
+        Turned::Blocked => b"blocked",
+    }
+}
+
+// ` handle H retval R`
+fn put_handle<I: Integer>(out: &mut Vec<u8>, handle: I, retval: i32) -> Result<(), AllocError>
+    ensures { OnOk result (out.new.items ≡ out.old.items ++ handle_text (I.text handle) retval) }
+{
+    out.extend_from_slice(b" handle ")?;
+    put_number(out, handle)?;
+    out.extend_from_slice(b" retval ")?;
+    put_number(out, retval)?;
+    out.extend_from_slice(b"\n")
+}
+
+// `L T`
+fn put_call(out: &mut Vec<u8>, line: u32, thread: u32) -> Result<(), AllocError>
+    ensures { OnOk result (out.new.items ≡ out.old.items ++ call_text line thread) }
+{
+    put_number(out, line)?;
+    out.extend_from_slice(b" ")?;
+    put_number(out, thread)
+}
+
 fn put_answer(out: &mut Vec<u8>, answer: &Answer) -> Result<(), AllocError>
     ensures { OnOk result (out.new.items ≡ out.old.items ++ answer_text answer.now) }
 {
-    put_number(out, answer.line)?;
-    out.extend_from_slice(b" ")?;
-    put_number(out, answer.thread)?;
-    out.extend_from_slice(b" ")?;
-    put_number(out, answer.code)?;
-    out.extend_from_slice(b"\n")
+    match *answer {
+        Answer::Called {
+            line,
+            thread,
+            answer,
+        } => {
+            put_call(out, line, thread)?;
+            out.extend_from_slice(b" ")?;
+            put_number(out, answer)?;
+            out.extend_from_slice(b"\n")
+        }
+        Answer::Completed {
+            line,
+            thread,
+            handle,
+            retval,
+        } => {
+            put_call(out, line, thread)?;
+            out.extend_from_slice(b" 0")?;
+            put_handle(out, handle, retval)
+        }
+        Answer::Turned { line, turned } => {
+            put_number(out, line)?;
+            out.extend_from_slice(b" turn ")?;
+            out.extend_from_slice(turn_text(turned))?;
+            out.extend_from_slice(b"\n")
+        }
+        Answer::Ended {
+            thread,
+            handle,
+            retval,
+        } => {
+            out.extend_from_slice(b"end ")?;
+            put_number(out, thread)?;
+            put_handle(out, handle, retval)
+        }
+    }
 }
 
 fn put_value(out: &mut Vec<u8>, value: &Declared) -> Result<(), AllocError>

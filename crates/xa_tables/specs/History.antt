@@ -1,5 +1,5 @@
 -- Histories: the requests of one manager, in the order in which its worker took them.
-use Rattle.std.specs.Prelude.{◌≡◌, ℕ, ℤ, pos, ◌+ℤ◌, Bool, true, false, ◌||◌, ◌&&◌, ◌==◌, if◌then◌else◌, Option, None, Some, option_map, List, [], ◌∷◌, ◌++◌, map, filter}
+use Rattle.std.specs.Prelude.{◌≡◌, ℕ, ℤ, pos, ◌+ℤ◌, Bool, true, false, ◌||◌, ◌&&◌, ◌==◌, if◌then◌else◌, Option, None, Some, option_map, List, [], ◌∷◌, ◌++◌, map, filter, refl}
 use Rattle.std.specs.List.{filter_map}
 use Rattle.std.specs.FinSet as finset
 use Rattle.std.specs.FinMap as finmap
@@ -28,6 +28,11 @@ of_thread t h = filter (λ r. r.thread == t) h
 abbrev pub tables_after : History → Tables → Tables
 tables_after [] T = T
 tables_after (r ∷ h) T = tables_after h (next r.thread r.op T).0
+
+-- what a history is followed by begins with the tables behind it
+pub tables_after-append : (h g : History) (T : Tables) → tables_after (h ++ g) T ≡ tables_after g (tables_after h T)
+tables_after-append [] g T = refl
+tables_after-append (r ∷ h) g T = tables_after-append h g (next r.thread r.op T).0
 
 -- each request with its code: what `next` answers behind the requests before it
 abbrev pub coded : History → Tables → List (Request × Code)

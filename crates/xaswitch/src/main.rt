@@ -6,6 +6,7 @@ use std::env;
 use std::io::{self, ErrorKind, Read, Write};
 use std::process::ExitCode;
 use std::rt::Env;
+use std::sync::Wait;
 use xa_script::program;
 
 // The words behind the program's name.
@@ -18,7 +19,7 @@ fn words<R: Env + AllocGlobal>(rt: &R) -> io::Result<Vec<String>> {
 }
 
 // The exit status of the program with these words.
-fn status<R: AllocGlobal>(
+fn status<R: AllocGlobal + Wait>(
     rt: &R,
     words: &[String],
     reader: &mut impl Read,
@@ -29,7 +30,7 @@ fn status<R: AllocGlobal>(
     for word in words {
         texts.push(word.as_str())?;
     }
-    Ok(program(rt.alloc(), &texts, reader, out, err))
+    Ok(program(rt, rt.alloc(), &texts, reader, out, err))
 }
 
 fn main(rt: HostRuntime) -> ExitCode {

@@ -3,20 +3,21 @@ use super::*;
 
 // Whether the program shows nothing on these words and this reader, but ends with this status and
 // tells this of its fault, and whether it ends so too where it can't tell it.
-fn fails<R: Read + Copy>(
-    alloc: Global,
+fn fails<H: Wait + AllocGlobal, R: Read + Copy>(
+    rt: &H,
     words: &[&str],
     reader: R,
     status: u8,
     told: &[u8],
 ) -> bool {
+    let alloc = rt.alloc();
     let mut out = Vec::new(alloc);
     let mut err = Vec::new(alloc);
     let mut first = reader;
-    let found = program(alloc, words, &mut first, &mut out, &mut err);
+    let found = program(rt, alloc, words, &mut first, &mut out, &mut err);
     let mut silent = Refusing { writes: 0 };
     let mut second = reader;
-    let again = program(alloc, words, &mut second, &mut out, &mut silent);
+    let again = program(rt, alloc, words, &mut second, &mut out, &mut silent);
     found == status && again == status && out.is_empty() && err.as_slice() == told
 }
 
@@ -48,10 +49,10 @@ fn other_words_than_turns_give_the_usage(rt: HostRuntime) {
     ];
     let usage = b"usage: xaswitch turns or threads\n";
     for words in rows {
-        assert!(rt; fails(rt.alloc(), words, reader, 2, usage), "at {words:?}");
+        assert!(rt; fails(&rt, words, reader, 2, usage), "at {words:?}");
     }
     let turns = ["turns"].as_slice();
-    assert!(rt; fails(rt.alloc(), turns, reader, 4, b"input failed\n"));
+    assert!(rt; fails(&rt, turns, reader, 4, b"input failed\n"));
 }
 
 #[test]
@@ -72,7 +73,7 @@ fn a_faulty_script_is_told_and_shows_nothing(rt: HostRuntime) {
     ];
     let turns = ["turns"].as_slice();
     for (script, told) in rows {
-        assert!(rt; fails(rt.alloc(), turns, script, 1, told), "at {script:?}");
+        assert!(rt; fails(&rt, turns, script, 1, told), "at {script:?}");
     }
 }
 
@@ -84,12 +85,12 @@ fn a_failing_read_shows_nothing(rt: HostRuntime) {
     for reads in 0..19 {
         let reader = Failing { bytes, reads };
         assert!(rt;
-            fails(rt.alloc(), turns, reader, 4, b"input failed\n"),
+            fails(&rt, turns, reader, 4, b"input failed\n"),
             "after {reads} reads"
         );
     }
     let reader = Failing { bytes, reads: 19 };
-    assert!(rt; !fails(rt.alloc(), turns, reader, 4, b"input failed\n"));
+    assert!(rt; !fails(&rt, turns, reader, 4, b"input failed\n"));
 }
 
 // The transcript has 18 bytes, and each write takes three.
@@ -99,7 +100,7 @@ fn a_failing_write_is_told(rt: HostRuntime) {
         let mut script = b"key 1 a 1\n1 open 1".as_slice();
         let mut out = Refusing { writes };
         let mut err = Vec::new(rt.alloc());
-        let status = program(rt.alloc(), &["turns"], &mut script, &mut out, &mut err);
+        let status = program(&rt, rt.alloc(), &["turns"], &mut script, &mut out, &mut err);
         let (want, told) = if writes < 6 {
             (4, b"output failed\n".as_slice())
         } else {

@@ -8,19 +8,19 @@ use Rattle.xa_script.proofs.read.Reading.finish.Goals as goal
 pub returns-then-is_empty : goal.returns-then-is_empty
 returns-then-is_empty c =
     let r = c.args.self in
-    ends_empty r.script r.number r.line.items (grind arith)
+    ends_empty r.threads_mode r.script r.number r.line.items (grind arith)
 
 pub returns-in_err-read_line : goal.returns-in_err-read_line
 returns-in_err-read_line c =
     let p = err_from_is_err_and c.from_residual.result c.from_residual.ensures.1 in
     let r = c.args.self in
     let fault = c.in_err-read_line.field-0.0 in
-    let fails : FailsAt r.number fault (after_line r.script r.number r.line.items) = subst (λ (l : List ℕ). FailsAt r.number fault (after_line r.script r.number l)) c.deref.ensures.value c.in_err-read_line.ensures.err in
-    rw (p.1, p.2) (ends_in_fault fault r.script r.number r.line.items r.no_end (grind arith) fails)
+    let fails : FailsAt r.number fault (after_line r.threads_mode r.script r.number r.line.items) = subst (λ (l : List ℕ). FailsAt r.number fault (after_line r.threads_mode r.script r.number l)) c.deref.ensures.value c.in_err-read_line.ensures.err in
+    rw (p.1, p.2) (ends_in_fault r.threads_mode fault r.script r.number r.line.items r.no_end (grind arith) fails)
 
 pub returns : goal.returns
 returns c =
     let r = c.args.self in
     let t = c.read_line.new.script in
-    let taken : after_line r.script r.number r.line.items ≡ Ok t = ap (after_line r.script r.number) (sym c.deref.ensures.value) ∙ c.in_ok-read_line.ensures.ok in
-    ends r.script t r.number r.line.items r.no_end (grind arith) taken
+    let taken : after_line r.threads_mode r.script r.number r.line.items ≡ Ok t = ap (after_line r.threads_mode r.script r.number) (sym c.deref.ensures.value) ∙ c.in_ok-read_line.ensures.ok in
+    ends r.threads_mode r.script t r.number r.line.items r.no_end (grind arith) taken
