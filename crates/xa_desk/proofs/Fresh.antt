@@ -1,5 +1,5 @@
 -- A desk that has done nothing keeps its books.
-use Rattle.std.proofs.Common.{◌≡◌, ◌<◌, ◌-◌, ◌*◌, ℕ, zero, suc, Bool, nat_eq, List, [], ◌∷◌, length, map, Option, Some, None, get_or, replicate, sym, ◌∙◌, refl, ap, arith}
+use Rattle.std.proofs.Common.{◌≡◌, ◌<◌, ◌-◌, ◌*◌, ℕ, zero, suc, Bool, nat_eq, List, [], ◌∷◌, length, Option, Some, None, get_or, replicate, sym, ◌∙◌, refl, ap, arith}
 use Rattle.std.specs.Ordering.{nat_cmp}
 use Rattle.std.specs.List.{IsDistinct}
 use Rattle.std.specs.Cmp.{nat_cmp_total}
@@ -10,12 +10,10 @@ use Rattle.slab.specs.Slab.{Slab, get}
 use Rattle.xa_desk.specs.declared.operation.Operation.{Operation}
 use Rattle.xa_desk.specs.declared.slot.Slot.{Slot}
 use Rattle.xa_desk.specs.AccountView.{AccountView, new_account}
+use Rattle.xa_desk.specs.Lanes.{new_accounts}
 use Rattle.xa_desk.specs.DeskView.{no_account, account, outstanding}
 use Rattle.xa_desk.specs.Slots.{IsOrderly, IsBooks, kept_of, planned_total, collected_total, ready_count}
 use Rattle.xa_desk.proofs.KeptPlaces.{get-kept_of, get-kept_of_zero}
-
-abbrev pub new_accounts : ℕ → List Bool → List AccountView
-new_accounts requests use_async = map (λ carries. new_account carries requests) use_async
 
 fresh_sent : (requests : ℕ) (use_async : List Bool) (i : ℕ) → (get_or (new_accounts requests use_async) i no_account).sent ≡ []
 fresh_sent requests [] i = refl
@@ -27,7 +25,7 @@ fresh_collected requests [] i = refl
 fresh_collected requests (b ∷ bs) zero = refl
 fresh_collected requests (b ∷ bs) (suc i) = fresh_collected requests bs i
 
-nothing_out : (requests : ℕ) (use_async : List Bool) → outstanding (new_accounts requests use_async) ≡ 0
+pub nothing_out : (requests : ℕ) (use_async : List Bool) → outstanding (new_accounts requests use_async) ≡ 0
 nothing_out requests [] = refl
 nothing_out requests (b ∷ bs) =
     let rest : outstanding (new_accounts requests bs) ≡ 0 = nothing_out requests bs in

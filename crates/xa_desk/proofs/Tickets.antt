@@ -6,15 +6,17 @@ use Rattle.std.specs.FinMap as map
 use Rattle.xa_words.specs.declared.code.Code.{Code}
 use Rattle.xa_words.specs.declared.request.Op.{Op}
 use Rattle.xa_desk.specs.declared.operation.Operation.{Operation}
-use Rattle.xa_desk.specs.DeskView.{DeskView, TicketView, IsKnown, IsOut, Owns, after_sent, next_operation}
+use Rattle.xa_desk.specs.DeskView.{DeskView, TicketView, IsKnown, IsOut, Owns, next_operation}
+use Rattle.xa_desk.specs.Lanes.{submitted, after_full}
 use Rattle.xa_desk.specs.Looks.{Collects}
 use Rattle.xa_desk.specs.Tickets.{LeavesTickets, LeavesOthers}
 use Rattle.xa_desk.proofs.Accounts.{sent_keeps_out, unsent, collected_keeps_out}
 use Rattle.xa_desk.proofs.KeptPlaces.{tied_true, tied_false}
 use Rattle.xa_desk.proofs.Looks.{looks_owned, looks_out}
 
-pub sent_leaves : (old : DeskView) (m : ℕ) (op : Op) → IsKnown old.accounts m → LeavesTickets old (record old { accounts = after_sent old.accounts m op })
+pub sent_leaves : (old : DeskView) (m : ℕ) (op : Op) → IsKnown old.accounts m → LeavesTickets old (submitted old m op)
 sent_leaves old m op known t owned = record {
+  opening = owned.opening;
   thread = owned.thread;
   out = sent_keeps_out old.accounts m op known t.operation owned.out;
   loose = owned.loose;
@@ -28,6 +30,7 @@ collected_leaves old new o code out x t owned differs =
     let still = looks_owned old x.before t x.looks owned in
     let known = (looks_out old x.before o x.looks out).known in
     subst (λ (d : DeskView). Owns d t) (sym x.collected) (record {
+      opening = still.opening;
       thread = still.thread;
       out = collected_keeps_out x.before.accounts o code known t.operation still.out differs;
       loose = still.loose;
@@ -35,6 +38,7 @@ collected_leaves old new o code out x t owned differs =
 
 pub kept_leaves : (old : DeskView) (o : Operation) (number : ℕ) → LeavesOthers old (record old { kept = map.insert old.kept number o }) o
 kept_leaves old o number t owned differs = record {
+  opening = owned.opening;
   thread = owned.thread;
   out = owned.out;
   loose = λ k kept. elim (cases_eq k number) [
@@ -51,6 +55,7 @@ kept_leaves old o number t owned differs = record {
 
 pub freed_leaves : (old : DeskView) (number : ℕ) → LeavesTickets old (record old { kept = map.remove old.kept number })
 freed_leaves old number t owned = record {
+  opening = owned.opening;
   thread = owned.thread;
   out = owned.out;
   loose = λ k kept. elim (cases_eq k number) [
@@ -63,3 +68,6 @@ freed_leaves old number t owned = record {
         owned.loose k (sym there ∙ kept)
   ];
 }
+
+pub full_leaves : (old : DeskView) (m : ℕ) → LeavesTickets old (after_full old m)
+full_leaves old m t owned = record { opening = owned.opening; thread = owned.thread; out = owned.out; loose = owned.loose }

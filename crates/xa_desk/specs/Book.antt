@@ -1,8 +1,8 @@
 -- How a book keeps what contracts see of a desk.
-use Rattle.std.specs.Prelude.{◌≡◌, ℕ, ◌+◌, ◌≤◌, length, vec_capacity}
+use Rattle.std.specs.Prelude.{◌≡◌, ℕ, ◌+◌, ◌≤◌, [], length, vec_capacity}
 use Rattle.slab.specs.Slab.{slab_len}
 use Rattle.xa_desk.specs.DeskView.{DeskView}
-use Rattle.xa_desk.specs.Slots.{IsBooks, kept_of, planned_total}
+use Rattle.xa_desk.specs.Slots.{IsBooks, AreKeys, kept_of, planned_total}
 use Rattle.xa_desk.specs.declared.book.Book.TheInside.{Inside}
 
 -- what contracts see
@@ -13,8 +13,9 @@ desk_of b = record {
   accounts = b.accounts.items;
   kept = kept_of b.kept.items;
   drained = b.drained.items;
-  quiet = b.quiet;
   drained_then = b.drained_then;
+  requests = b.requests.items;
+  completions = b.completions;
 }
 
 -- threads are numbered from 1 to 8, there are 1 to 32 handles, and there are 1 to 8 managers
@@ -23,12 +24,15 @@ pub record IsWithinLimits (t h m : ℕ) : Type 0 where
   pub handles : (1 ≤ h) × (h ≤ 32)
   pub managers : (1 ≤ m) × (m ≤ 8)
 
--- the books are in order; there is a slot for each handle and one more, a place for each handle, and room for
--- each planned completion
+-- the books are in order, and each slot is found; there is a slot for each handle and one more, a place for each
+-- handle, and room for each planned completion and for each end of a lane
 pub record IsBook (b : Inside) : Type 0 where
   pub books : IsBooks b.accounts.items b.slots b.kept.items b.drained.items
+  pub keys : AreKeys b.accounts.items b.rows.items b.slots
   pub slots_used : slab_len b.slots ≤ b.handles + 1
   pub slots_room : b.handles + 1 ≤ b.slots.capacity
   pub places : length b.kept.items ≡ b.handles
   pub drained_room : planned_total b.accounts.items ≤ vec_capacity b.drained
   pub limits : IsWithinLimits b.thread b.handles (length b.accounts.items)
+  pub ends : b.ends.items ≡ []
+  pub ends_room : 8 ≤ vec_capacity b.ends

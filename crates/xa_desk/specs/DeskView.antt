@@ -1,31 +1,42 @@
 -- What contracts see of a desk, and the words for what stands in it.
-use Rattle.std.specs.Prelude.{◌≡◌, ◌≢◌, not, ℕ, ◌-◌, ◌<◌, ◌≤◌, nat_lt, nat_le, Bool, false, ◌&&◌, ◌||◌, ◌==◌, is_some, if◌then◌else◌, List, [], ◌∷◌, length, map, Option, Some, None, IsSome, slice_index_or, slice_set, true, refl}
+use Rattle.std.specs.Prelude.{◌≡◌, ◌≢◌, not, ℕ, ◌-◌, ◌<◌, ◌≤◌, nat_lt, nat_le, Bool, false, ◌&&◌, ◌||◌, ◌==◌, is_some, if◌then◌else◌, List, [], ◌∷◌, length, Option, Some, None, IsSome, slice_index_or, slice_set, true, refl}
 use Rattle.std.specs.List.{sum_by}
 use Rattle.std.specs.Ordering.{nat_cmp}
 use Rattle.std.specs.FinMap as finmap
 use Rattle.std.specs.Coded.{Coded, code_by, coded×, coded_ℕ}
 use Rattle.xa_words.specs.declared.request.Op.{Op}
 use Rattle.xa_words.specs.declared.code.Code.{Code}
+use Rattle.xa_words.specs.declared.request.Request.{Request}
 use Rattle.xa_words.specs.declared.request.Completion.{Completion}
+use Rattle.xa_lane.specs.Ends.{Sending, Receiving}
+use Rattle.xa_lane.specs.Rings.{RingId}
+use Rattle.xa_lane.specs.Senders.{QueueId}
 use Rattle.xa_desk.specs.declared.operation.Operation.{Operation}
 use Rattle.xa_desk.specs.AccountView.{AccountView, new_account, learnt_shut, is_collected, with_sent, with_collected}
 use Rattle.xa_desk.specs.declared.refused.Refused.{Refused}
 use Rattle.xa_desk.specs.declared.refused.Refused.TheVariants.{NoSuchManager, Shut, TooMany, Spent}
 
 -- the thread, how many handles it has, its account with each manager, which operation is kept under which number,
--- the completions that were the first for an outstanding operation as they were popped, how many quiet moments
--- there were, and how many completions were drained at the last one
+-- the completions that were the first for an outstanding operation as they were taken, how many of them there were
+-- at the last quiet moment; its ends of the lanes to the managers, that to manager m at place m - 1; and its end of
+-- the lane that completions come by, which counts the quiet moments
 pub record DeskView : Type 0 where
   pub thread : ℕ
   pub handles : ℕ
   pub accounts : List AccountView
   pub kept : finmap.FinMap nat_cmp Operation
   pub drained : List Completion
-  pub quiet : ℕ
   pub drained_then : ℕ
+  pub requests : List (Sending RingId Request)
+  pub completions : Receiving QueueId Completion
+
+-- the opening that a desk is of, which its lanes' names tell
+abbrev pub opening_of : DeskView → ℕ
+opening_of d = d.completions.lane.opening
 
 -- what contracts see of a ticket
 pub record TicketView : Type 0 where
+  pub opening : ℕ
   pub thread : ℕ
   pub operation : Operation
 
@@ -37,10 +48,11 @@ abbrev pub kept_code : Coded (finmap.FinMap nat_cmp Operation)
 kept_code = finmap.code coded_ℕ operation_code
 
 abbrev pub ticket_code : Coded TicketView
-ticket_code = code_by (ℕ × Operation) (coded× coded_ℕ operation_code) (λ t. (t.thread, t.operation)) (λ p. record { thread = p.0; operation = p.1 }) (λ _. refl)
+ticket_code = code_by (ℕ × (ℕ × Operation)) (coded× coded_ℕ (coded× coded_ℕ operation_code)) (λ t. (t.opening, (t.thread, t.operation))) (λ p. record { opening = p.0; thread = p.1.0; operation = p.1.1 }) (λ _. refl)
 
-abbrev pub ticket_of : ℕ → Operation → TicketView
-ticket_of thread operation = record { thread = thread; operation = operation }
+-- the ticket that a desk gives for an operation
+abbrev pub ticket_of : DeskView → Operation → TicketView
+ticket_of d operation = record { opening = opening_of d; thread = d.thread; operation = operation }
 
 abbrev pub operation_of : Completion → Operation
 operation_of c = record { manager = c.manager; number = c.number }
@@ -110,8 +122,9 @@ outstanding at = sum_by (λ a. length a.sent - length a.collected) at
 abbrev pub IsLoose : DeskView → Operation → Type 0
 IsLoose d o = (k : ℕ) → finmap.get d.kept k ≢ Some o
 
--- the ticket is of the desk's thread, and its operation is outstanding and not kept
+-- the ticket is of the desk's opening and thread, and its operation is outstanding and not kept
 pub record Owns (d : DeskView) (t : TicketView) : Type 0 where
+  pub opening : t.opening ≡ opening_of d
   pub thread : t.thread ≡ d.thread
   pub out : IsOut d.accounts t.operation
   pub loose : IsLoose d t.operation
@@ -164,20 +177,9 @@ pub record IsLeast (passes : ℕ → Bool) (k : ℕ) : Type 0 where
   pub passes_ : passes k ≡ true
   pub least : (j : ℕ) → j < k → passes j ≡ false
 
--- ---- a desk that has done nothing, and what a desk refuses
+-- ---- what a desk refuses
 
-abbrev pub new_desk : ℕ → ℕ → ℕ → List Bool → DeskView
-new_desk thread handles requests use_async = record {
-  thread = thread;
-  handles = handles;
-  accounts = map (λ carries. new_account carries requests) use_async;
-  kept = finmap.empty;
-  drained = [];
-  quiet = 0;
-  drained_then = 0;
-}
-
--- why a request may not be sent, a full queue aside: the first line that fits
+-- why a request may not be sent, a full lane aside: the first line that fits
 abbrev pub submit_refusal : DeskView → ℕ → Option Refused
 submit_refusal d m =
     if not (is_known d.accounts m) then Some NoSuchManager

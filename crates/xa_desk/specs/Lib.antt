@@ -5,3 +5,7 @@ pub mod Account
 pub mod Slots
 pub mod Book
 pub mod Tickets
+pub mod Lanes
+pub mod Ended
+pub mod Parts
+pub mod EndedParts

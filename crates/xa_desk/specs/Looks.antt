@@ -1,41 +1,51 @@
--- What a desk's calls do as they look at its completion queue.
-use Rattle.std.specs.Prelude.{◌≡◌, ℕ, ◌+◌, ◌-◌, ◌^◌, nat_lt, if◌then◌else◌, [], ◌∷◌, ◌++◌, length, Some, None}
+-- What a desk's calls do as they look at the lane that its completions come by.
+use Rattle.std.specs.Prelude.{◌≡◌, ℕ, ◌+◌, [], ◌∷◌, ◌++◌, length, Some, None}
 use Rattle.std.specs.FinMap as finmap
 use Rattle.xa_words.specs.declared.code.Code.{Code}
 use Rattle.xa_words.specs.declared.request.Completion.{Completion}
+use Rattle.xa_lane.specs.declared.parcel.Taken.{Taken}
+use Rattle.xa_lane.specs.declared.parcel.Taken.TheVariants.{Item, EndOf, Empty}
+use Rattle.xa_lane.specs.Ends.{Took}
 use Rattle.xa_desk.specs.declared.operation.Operation.{Operation}
 use Rattle.xa_desk.specs.DeskView.{DeskView, IsOut, IsLeast, operation_of, after_collected, drained_code, outstanding, ready_at}
 
--- a popped completion is drained where it is the first for an outstanding operation, and else changes nothing
+-- a completion that was taken is drained where it is the first for an outstanding operation, and else changes nothing
 pub data Drains (old : DeskView) (c : Completion) (new : DeskView) : Type 0 where
   first : IsOut old.accounts (operation_of c) → drained_code (operation_of c) old.drained ≡ None → new ≡ record old { drained = old.drained ++ c ∷ [] } → Drains old c new
   other : (IsOut old.accounts (operation_of c) → drained_code (operation_of c) old.drained ≡ None → ⊥) → new ≡ old → Drains old c new
 
--- a quiet moment: a pop found the queue empty; the count stays at its limit
+-- a quiet moment: a take found the lane empty
 abbrev pub after_quiet : DeskView → DeskView
-after_quiet d = record d { quiet = (if nat_lt d.quiet (2 ^ 64 - 1) then d.quiet + 1 else d.quiet); drained_then = length d.drained }
+after_quiet d = record d { drained_then = length d.drained }
 
--- pops of the completion queue, successful or not, took old to new
+-- what a take of the completion lane does to a desk, by what was taken: a completion may be drained, an end mark
+-- changes nothing else, and nothing taken is a quiet moment
+abbrev pub Draws : DeskView → Taken Completion → DeskView → Type 0
+Draws old (Item s c) new = Took old.completions (Item s c) new.completions × Drains (record old { completions = new.completions }) c new
+Draws old (EndOf s) new = Took old.completions (EndOf s) new.completions × (new ≡ record old { completions = new.completions })
+Draws old Empty new = Took old.completions Empty new.completions × (new ≡ after_quiet (record old { completions = new.completions }))
+
+-- takes of the completion lane took old to new
 pub data Pops (old : DeskView) : DeskView → Type 0 where
   start : (new : DeskView) → new ≡ old → Pops old new
-  popped : (now new : DeskView) → Pops old now → (c : Completion) → Drains now c new → Pops old new
-  empty_found : (now new : DeskView) → Pops old now → new ≡ after_quiet now → Pops old new
+  drawn : (now new : DeskView) → Pops old now → (taken : Taken Completion) → Draws now taken new → Pops old new
 
--- nothing but such pops was done, so the accounts and what is kept stay
+-- nothing but such takes was done, so the accounts, what is kept and the lanes stay
 pub record Looks (old new : DeskView) : Type 0 where
   pub pops : Pops old new
-  pub rest : new ≡ record old { drained = new.drained; quiet = new.quiet; drained_then = new.drained_then }
+  pub rest : new ≡ record old { drained = new.drained; drained_then = new.drained_then; completions = record old.completions { taken = new.completions.taken; quiet = new.completions.quiet } }
 
--- the last of these pops found the queue empty
+-- the last of these takes found the lane empty, which its end counts as a quiet moment
 pub record EndsQuiet (old new : DeskView) : Type 0 where
   pub before : DeskView
   pub looks : Looks old before
-  pub quiet : new ≡ after_quiet before
+  pub quiet : Draws before Empty new
 
--- after some pops the drained completion of the operation was collected, with this code
+-- after some takes the drained completion of the outstanding operation was collected, with this code
 pub record Collects (old new : DeskView) (o : Operation) (code : Code) : Type 0 where
   pub before : DeskView
   pub looks : Looks old before
+  pub out : IsOut before.accounts o
   pub drained : drained_code o before.drained ≡ Some code
   pub collected : new ≡ record before { accounts = after_collected before.accounts o code }
   pub fewer : outstanding new.accounts + 1 ≡ outstanding old.accounts
@@ -44,17 +54,18 @@ pub record Collects (old new : DeskView) (o : Operation) (code : Code) : Type 0 
 pub record TakesKept (old new : DeskView) (number : ℕ) (code : Code) : Type 0 where
   pub operation : Operation
   pub kept : finmap.get old.kept number ≡ Some operation
+  pub out : IsOut old.accounts operation
   pub drained : drained_code operation old.drained ≡ Some code
   pub taken : new ≡ record old { accounts = after_collected old.accounts operation code; kept = finmap.remove old.kept number }
   pub fewer : outstanding new.accounts + 1 ≡ outstanding old.accounts
 
--- the same after some pops
+-- the same after some takes
 pub record CollectsKept (old new : DeskView) (number : ℕ) (code : Code) : Type 0 where
   pub before : DeskView
   pub looks : Looks old before
   pub takes : TakesKept before new number code
 
--- after pops up to a quiet moment the least ready number of m was collected
+-- after takes up to a quiet moment the least ready number of m was collected
 pub record CollectsLeast (old new : DeskView) (m number : ℕ) (code : Code) : Type 0 where
   pub before : DeskView
   pub quiet : EndsQuiet old before

@@ -1,5 +1,5 @@
 -- How a desk's slots, its table of kept operations and its list of drained completions go together.
-use Rattle.std.specs.Prelude.{◌≡◌, ℕ, suc, ◌+◌, ◌<◌, ◌≤◌, true, nat_eq, cond, List, length, Option, Some, None, is_some, slice_index_or}
+use Rattle.std.specs.Prelude.{◌≡◌, ℕ, suc, ◌+◌, ◌-◌, ◌<◌, ◌≤◌, true, nat_eq, cond, List, [], length, Option, Some, None, is_some, slice_get, slice_index_or}
 use Rattle.std.specs.List.{sum_by, IsDistinct}
 use Rattle.std.specs.Ordering.{nat_cmp}
 use Rattle.std.specs.FinMap as map
@@ -31,6 +31,20 @@ pub record IsOrderly (a : AccountView) : Type 0 where
   pub planned : length a.sent ≤ a.plan
   pub distinct : IsDistinct nat_eq (numbers a)
   pub below : (n : ℕ) → is_collected a n ≡ true → n < length a.sent
+
+-- the key that the rows of keys, one for each manager, tell for an operation
+abbrev pub key_at : List (List ℕ) → Operation → Option ℕ
+key_at rows o = slice_get (slice_index_or rows (o.manager - 1) []) o.number
+
+-- the rows tell the key of each slot
+abbrev pub AreTold : List (List ℕ) → Slab Slot → Type 0
+AreTold rows s = (key : ℕ) (slot : Slot) → get s key ≡ Some slot → key_at rows slot.operation ≡ Some key
+
+-- each manager has a row, with a place for each planned request, and the rows tell the key of each slot
+pub record AreKeys (at : List AccountView) (rows : List (List ℕ)) (s : Slab Slot) : Type 0 where
+  pub number : length rows ≡ length at
+  pub planned : (m : ℕ) → IsKnown at m → length (slice_index_or rows (m - 1) []) ≡ (account at m).plan
+  pub told : AreTold rows s
 
 -- 1 for a slot whose completion was drained
 abbrev pub ready_weight : Option Slot → ℕ

@@ -1,6 +1,7 @@
 //! A desk's account with one manager.
-ghost use Rattle.std.specs.Prelude.{◌≡◌, ◌-◌, ◌<◌, ◌≤◌, [], ◌∷◌, ◌++◌, length, map, IfOk};
+ghost use Rattle.std.specs.Prelude.{◌≡◌, ◌-◌, ◌<◌, ◌≤◌, [], ◌∷◌, ◌++◌, length, IfOk};
 ghost use Rattle.xa_desk.specs.AccountView.{new_account, learnt_shut, with_sent, with_collected};
+ghost use Rattle.xa_desk.specs.Lanes.{new_accounts};
 
 use std::alloc::{AllocError, Global};
 use std::marker::Model;
@@ -8,7 +9,7 @@ use xa_words::{Code, Op};
 
 /// What was sent to one manager and what was collected from it, in memory that was reserved for the plan.
 #[derive(Drop)]
-pub(crate) struct Account {
+pub struct Account {
     carries_async: bool,
     learnt_shut: bool,
     plan: u32,
@@ -44,7 +45,7 @@ impl Account {
     }
 
     /// Whether the manager takes asynchronous calls: `TMUSEASYNC` (C193, chapter 4).
-    pub(crate) fn carries_async(&self) -> bool
+    pub fn carries_async(&self) -> bool
         ensures { result ≡ self.now.carries_async }
     {
         self.carries_async
@@ -73,15 +74,15 @@ impl Account {
         self.plan - self.sent.len() as u32
     }
 
-    /// The requests that were sent, in order.
-    pub(crate) fn sent(&self) -> &[Op]
+    /// The requests that were sent, in order: the one at place n has number n.
+    pub fn sent(&self) -> &[Op]
         ensures { result.now ≡ self.now.sent }
     {
         &self.sent
     }
 
     /// What was collected, in order: numbers with their codes.
-    pub(crate) fn collected(&self) -> &[(u32, Code)]
+    pub fn collected(&self) -> &[(u32, Code)]
         ensures { result.now ≡ self.now.collected }
     {
         &self.collected
@@ -113,7 +114,7 @@ pub(crate) fn open_accounts(
     requests: u32,
     use_async: &[bool],
 ) -> Result<Vec<Account>, AllocError>
-    ensures { IfOk result (λ v. v.items ≡ map (λ carries. new_account carries requests) use_async.now) }
+    ensures { IfOk result (λ v. v.items ≡ new_accounts requests use_async.now) }
 {
     let mut accounts = Vec::with_capacity(alloc, use_async.len())?;
     for carries_async in use_async {

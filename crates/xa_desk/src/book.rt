@@ -1,31 +1,41 @@
-//! What a desk knows. No queue is here, and no wait.
-ghost use Rattle.std.specs.Prelude.{◌≡◌, ℕ, ◌+◌, ◌-◌, ◌<◌, ◌≤◌, ◌↔◌, length, IfOk, IfSome, IfNone, OnSome, IsTrue, None, is_some, ◌&&◌, false};
+//! What a desk knows, and its ends of lanes.
+ghost use Rattle.std.specs.Prelude.{◌≡◌, ℕ, ◌+◌, ◌-◌, ◌<◌, ◌≤◌, ◌↔◌, length, IfSome, IfNone, OnSome, IsTrue, None, is_some, ◌&&◌, false};
 ghost use Rattle.std.specs.FinMap as map;
-ghost use Rattle.xa_desk.specs.AccountView.{learnt_shut, IsSettled};
-ghost use Rattle.xa_desk.specs.DeskView.{IsKnown, IsOut, IsLoose, IsHandle, IsLeastFree, account, after_sent, after_collected, outstanding, drained_code, room_at, is_known, new_desk, next_operation, sent_to, collected_from};
-ghost use Rattle.xa_desk.specs.Looks.{Drains, after_quiet};
+ghost use Rattle.xa_desk.specs.AccountView.{learnt_shut};
+ghost use Rattle.xa_desk.specs.DeskView.{IsKnown, IsOut, IsLoose, IsHandle, IsLeastFree, account, after_sent, after_collected, opening_of, outstanding, drained_code, room_at, is_known, next_operation};
+ghost use Rattle.xa_desk.specs.Ended.{AreSettled};
+ghost use Rattle.xa_desk.specs.Lanes.{new_desk};
+ghost use Rattle.xa_desk.specs.Looks.{Drains};
 
-use crate::account::{Account, open_accounts};
+mod lanes;
+
+use crate::account::Account;
+use crate::keys::Keys;
 use crate::operation::Operation;
-use crate::places::{empty_places, first_free};
+use crate::parts::DeskParts;
+use crate::places::first_free;
 use crate::slot::{Slot, find_slot, set_slot};
 use slab::Slab;
-use std::alloc::{AllocError, Global};
 use std::marker::Model;
-use xa_words::{Code, Completion, Op};
+use xa_lane::{Receiver, RingEnded, RingSender};
+use xa_words::{Code, Completion, Op, Request};
 
-/// The accounts with the managers, the slots of what is outstanding, the places of what is kept, the
-/// completions that were drained, and the quiet moments. All memory is reserved as it is made.
+/// The accounts with the managers, the slots of what is outstanding and where each is, the places of what
+/// is kept, the completions that were drained, and the ends of the lanes. All memory is reserved as it is
+/// made, that for the ended senders too.
 #[derive(Drop)]
 pub(crate) struct Book {
-    thread: u32,
-    handles: u32,
-    accounts: Vec<Account>,
-    slots: Slab<Slot>,
-    kept: Vec<Option<Operation>>,
-    drained: Vec<Completion>,
-    quiet: u64,
-    drained_then: usize,
+    pub(crate) thread: u32,
+    pub(crate) handles: u32,
+    pub(crate) accounts: Vec<Account>,
+    pub(crate) slots: Slab<Slot>,
+    pub(crate) rows: Vec<Keys>,
+    pub(crate) kept: Vec<Option<Operation>>,
+    pub(crate) drained: Vec<Completion>,
+    pub(crate) drained_then: usize,
+    pub(crate) requests: Vec<RingSender<Request>>,
+    pub(crate) completions: Receiver<Completion>,
+    pub(crate) ends: Vec<RingEnded<Request>>,
 }
 
 impl Model for Book {
@@ -44,34 +54,37 @@ impl Model for Book {
 
 impl Book {
     /// The book of a desk that has done nothing.
-    pub(crate) fn new(
-        alloc: Global,
-        thread: u32,
-        handles: u32,
-        requests: u32,
-        use_async: &[bool],
-    ) -> Result<Book, AllocError>
-        requires thread { (1 ≤ thread) × (thread ≤ 8) }
-        requires handles { (1 ≤ handles) × (handles ≤ 32) }
-        requires requests { requests ≤ 4096 }
-        requires managers { (1 ≤ length use_async.now) × (length use_async.now ≤ 8) }
-        ensures { IfOk result (λ b. b ≡ new_desk thread handles requests use_async.now) }
+    pub(crate) fn assemble(
+        parts: DeskParts,
+        requests: Vec<RingSender<Request>>,
+        completions: Receiver<Completion>,
+    ) -> Book
+        ensures { result ≡ new_desk parts requests.items completions }
     {
-        let accounts = open_accounts(alloc, requests, use_async)?;
-        // One slot beyond the handles is for a synchronous call.
-        let slots = Slab::with_capacity(alloc, handles as usize + 1)?;
-        let kept = empty_places(alloc, handles as usize)?;
-        let drained = Vec::with_capacity(alloc, requests as usize * use_async.len())?;
-        Ok(Book {
+        let DeskParts {
+            thread,
+            handles,
+            plan: _,
+            accounts,
+            slots,
+            rows,
+            kept,
+            drained,
+            ends,
+        } = parts;
+        Book {
             thread,
             handles,
             accounts,
             slots,
+            rows,
             kept,
             drained,
-            quiet: 0,
             drained_then: 0,
-        })
+            requests,
+            completions,
+            ends,
+        }
     }
 
     /// A request was sent, which is outstanding from now on.
@@ -89,24 +102,26 @@ impl Book {
         let number = account.next_number();
         account.push_sent(op);
         let operation = Operation { manager, number };
-        self.slots.insert_reserved(Slot {
+        let key = self.slots.insert_reserved(Slot {
             operation,
             code: None,
             handle: 0,
         });
+        let row = &mut self.rows[manager as usize - 1];
+        row.enter(number, key);
         operation
     }
 
-    /// A completion was popped. One that names nothing outstanding, or that isn't the first for its
+    /// A completion was taken. One that names nothing outstanding, or that isn't the first for its
     /// operation, changes nothing.
-    pub(crate) fn note_popped(&mut self, completion: Completion)
+    pub(crate) fn note_taken(&mut self, completion: Completion)
         ensures { Drains self.old completion self.new }
     {
         let operation = Operation {
             manager: completion.manager,
             number: completion.number,
         };
-        if let Some((key, slot)) = find_slot(&self.slots, operation) {
+        if let Some((key, slot)) = find_slot(&self.rows, &self.slots, operation) {
             if slot.code.is_none() {
                 set_slot(
                     &mut self.slots,
@@ -122,16 +137,6 @@ impl Book {
         }
     }
 
-    /// A pop found the queue empty.
-    pub(crate) fn note_quiet(&mut self)
-        ensures { self.new ≡ after_quiet self.old }
-    {
-        if self.quiet < u64::MAX {
-            self.quiet += 1;
-        }
-        self.drained_then = self.drained.len();
-    }
-
     /// Collects an operation that isn't kept, where its completion was drained.
     pub(crate) fn collect(&mut self, operation: Operation) -> Option<Code>
         requires out { IsOut self.old.accounts operation }
@@ -141,7 +146,7 @@ impl Book {
         ensures fewer { OnSome result (outstanding self.new.accounts + 1 ≡ outstanding self.old.accounts) }
         ensures waiting { IfNone result (self.new ≡ self.old) }
     {
-        let Some((key, slot)) = find_slot(&self.slots, operation) else {
+        let Some((key, slot)) = find_slot(&self.rows, &self.slots, operation) else {
             unreachable!()
         };
         let Some(code) = slot.code else {
@@ -162,7 +167,7 @@ impl Book {
         ensures kept { self.new ≡ record self.old { kept = map.insert self.old.kept result operation } }
         ensures handle { IsHandle result }
     {
-        let Some((key, slot)) = find_slot(&self.slots, operation) else {
+        let Some((key, slot)) = find_slot(&self.rows, &self.slots, operation) else {
             unreachable!()
         };
         let place = first_free(&self.kept);
@@ -184,13 +189,14 @@ impl Book {
     pub(crate) fn release(&mut self, number: u32) -> Option<Operation>
         ensures found { result ≡ map.get self.old.kept number }
         ensures freed { IfSome result (λ _. self.new ≡ record self.old { kept = map.remove self.old.kept number }) }
+        ensures was_out { IfSome result (λ o. IsOut self.old.accounts o) }
         ensures out { IfSome result (λ o. IsOut self.new.accounts o) }
         ensures loose { IfSome result (λ o. IsLoose self.new o) }
         ensures handle { IfSome result (λ _. IsHandle number) }
         ensures absent { IfNone result (self.new ≡ self.old) }
     {
         let operation = self.kept_at(number)?;
-        let Some((key, slot)) = find_slot(&self.slots, operation) else {
+        let Some((key, slot)) = find_slot(&self.rows, &self.slots, operation) else {
             unreachable!()
         };
         self.kept[number as usize - 1] = None;
@@ -226,6 +232,7 @@ impl Book {
         ensures handles { result ≡ self.now.handles }
         ensures limit { result ≤ 32 }
         ensures past { (k : ℕ) → result < k → map.get self.now.kept k ≡ None }
+        ensures zero { map.get self.now.kept 0 ≡ None }
     {
         self.handles
     }
@@ -240,7 +247,7 @@ impl Book {
     /// Whether an operation is outstanding. Where none is, each request was collected once.
     pub(crate) fn is_outstanding(&self) -> bool
         ensures some { IsTrue result ↔ (0 < outstanding self.now.accounts) }
-        ensures settled { result ≡ false → (m : ℕ) → IsKnown self.now.accounts m → IsSettled (account self.now.accounts m) }
+        ensures settled { result ≡ false → AreSettled self.now.accounts }
     {
         self.slots.len() > 0
     }
@@ -249,7 +256,7 @@ impl Book {
     pub(crate) fn is_loose(&self, operation: Operation) -> bool
         ensures { IsTrue result ↔ (IsOut self.now.accounts operation × IsLoose self.now operation) }
     {
-        match find_slot(&self.slots, operation) {
+        match find_slot(&self.rows, &self.slots, operation) {
             Some((_, slot)) => slot.handle == 0,
             None => false,
         }
@@ -260,7 +267,7 @@ impl Book {
         requires { IsOut self.now.accounts operation }
         ensures { result ≡ is_some (drained_code operation self.now.drained) }
     {
-        let Some((_, slot)) = find_slot(&self.slots, operation) else {
+        let Some((_, slot)) = find_slot(&self.rows, &self.slots, operation) else {
             unreachable!()
         };
         slot.code.is_some()
@@ -272,6 +279,13 @@ impl Book {
         ensures limits { (1 ≤ result) × (result ≤ 8) }
     {
         self.thread
+    }
+
+    /// The opening that its lanes are of.
+    pub(crate) fn opening(&self) -> u64
+        ensures { result ≡ opening_of self.now }
+    {
+        self.completions.name().opening
     }
 
     /// How many managers there are, which are numbered from 1.
@@ -319,25 +333,5 @@ impl Book {
         ensures { result ≡ (is_known self.now.accounts manager && (account self.now.accounts manager).carries_async) }
     {
         self.knows(manager) && self.accounts[manager as usize - 1].carries_async()
-    }
-
-    /// The requests that were sent to the manager, in order; none for no manager.
-    pub(crate) fn sent(&self, manager: u32) -> &[Op]
-        ensures { result.now ≡ sent_to self.now.accounts manager }
-    {
-        if !self.knows(manager) {
-            return &[];
-        }
-        self.accounts[manager as usize - 1].sent()
-    }
-
-    /// What was collected from the manager, in order: numbers with their codes; nothing for no manager.
-    pub(crate) fn collected(&self, manager: u32) -> &[(u32, Code)]
-        ensures { result.now ≡ collected_from self.now.accounts manager }
-    {
-        if !self.knows(manager) {
-            return &[];
-        }
-        self.accounts[manager as usize - 1].collected()
     }
 }

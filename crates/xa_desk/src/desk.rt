@@ -1,42 +1,44 @@
-//! One thread of control's desk over its queues.
-ghost use Rattle.std.specs.Prelude.{◌≡◌, ℕ, ◌-◌, ◌<◌, ◌≤◌, ◌↔◌, length, IfOk, IfErr, IfSome, IfNone, OnOk, OnErr, OnSome, IsTrue, IsSome, IsNone, IsOk, IsErr, Some, None, true, false, option_map, ◌&&◌};
+//! One thread of control's desk over its lanes.
+ghost use Rattle.std.specs.Prelude.{◌≡◌, ℕ, ◌-◌, ◌<◌, ◌≤◌, ◌↔◌, length, IfOk, IfErr, IfSome, IfNone, OnOk, OnErr, OnSome, IsTrue, IsSome, IsNone, IsOk, IsErr, Some, None, false, true, option_map, ◌&&◌};
 ghost use Rattle.std.specs.FinMap as map;
-ghost use Rattle.xa_desk.specs.AccountView.{learnt_shut, IsSettled};
-ghost use Rattle.xa_desk.specs.DeskView.{IsKnown, IsHandle, Owns, account, after_sent, outstanding, drained_code, ticket_of, next_operation, submit_refusal, call_refusal, IsLeastFree, ready_at, keeps_at, new_desk, room_at, is_known};
+ghost use Rattle.xa_desk.specs.AccountView.{learnt_shut};
+ghost use Rattle.xa_desk.specs.DeskView.{IsKnown, IsHandle, Owns, account, outstanding, drained_code, ticket_of, next_operation, submit_refusal, call_refusal, IsLeastFree, ready_at, keeps_at, room_at, is_known};
+ghost use Rattle.xa_desk.specs.Ended.{Ends, AreSettled};
+ghost use Rattle.xa_desk.specs.Lanes.{AreEnds, AreNew, IsDesk, new_desk, submitted, after_full, after_fulls};
 ghost use Rattle.xa_desk.specs.Looks.{EndsQuiet, Collects, CollectsKept, CollectsLeast};
 
 use crate::book::Book;
-use crate::ended::EndedDesk;
+use crate::ended::{EndedDesk, end};
 use crate::idle::Idle;
 use crate::kept::keeps_any;
-use crate::post::Post;
+use crate::parts::DeskParts;
 use crate::pump::{
-    put_waiting, try_collect, try_collect_any, try_collect_kept, wait_for, wait_for_any,
+    send_waiting, try_collect, try_collect_any, try_collect_kept, wait_for, wait_for_any,
 };
 use crate::refusal::{call_refusal, submit_refusal};
 use crate::refused::{AnyFault, NothingOutstanding, Refused};
 use crate::ticket::Ticket;
-use std::alloc::{AllocError, Global};
 use std::marker::Model;
 use std::sync::Wait;
+use xa_lane::{Receiver, RingSender};
 use xa_words::{Code, Completion, Op, Request};
 
 /// What one thread of control sends requests and collects completions by.
 ///
-/// All memory is reserved as the desk is made: no call after that takes any. A call that waits looks
-/// first, and idles only where what it asks for isn't there; it may never return, and its promise holds
-/// if it does. What a call's contract doesn't name of the desk stays.
+/// All memory is reserved by `DeskParts`: no call of a desk takes any. A call that waits looks first, and
+/// idles only where what it asks for isn't there; it may never return, and its promise holds if it does.
+/// What a call's contract doesn't name of the desk stays. `tied` says that the accounts and what was
+/// drained say what the ends of the lanes do.
 #[derive(Drop)]
 pub struct Desk {
     book: Book,
-    posts: Vec<Post<Request>>,
-    completions: Post<Completion>,
 }
 
 impl Model for Desk {
-    ghost use Rattle.std.specs.Prelude.{◌≡◌, ◌≤◌, length};
+    ghost use Rattle.std.specs.Prelude.{◌≤◌};
     ghost use Rattle.std.specs.Coded.{codes};
     ghost use Rattle.xa_desk.specs.DeskView.{DeskView, kept_code, outstanding};
+    ghost use Rattle.xa_desk.specs.Lanes.{IsDesk};
 
     ghost Value = { DeskView };
 
@@ -44,38 +46,28 @@ impl Model for Desk {
 
     ghost view = { λ d. d.book };
 
-    ghost invariant = { λ d. (length d.posts.items ≡ length d.book.accounts) × (outstanding d.book.accounts ≤ d.book.handles) };
+    ghost invariant = { λ d. (outstanding d.book.accounts ≤ d.book.handles) × IsDesk d.book };
 }
 
 impl Desk {
-    /// A desk that has done nothing.
+    /// A desk that has done nothing, over ends of lanes on which nothing was sent and taken.
     ///
-    /// `thread` and the managers are numbered from 1. There are `handles` handles and at most `requests`
-    /// requests to each manager. `use_async` says of each manager whether it takes asynchronous calls
-    /// (`TMUSEASYNC`; C193, chapter 4), and `posts` has each manager's request queue. Fails only for want
-    /// of memory.
-    pub fn over(
-        alloc: Global,
-        thread: u32,
-        handles: u32,
-        requests: u32,
-        use_async: &[bool],
-        posts: Vec<Post<Request>>,
-        completions: Post<Completion>,
-    ) -> Result<Desk, AllocError>
-        requires thread { (1 ≤ thread) × (thread ≤ 8) }
-        requires handles { (1 ≤ handles) × (handles ≤ 32) }
-        requires requests { (1 ≤ requests) × (requests ≤ 4096) }
-        requires managers { (1 ≤ length use_async.now) × (length use_async.now ≤ 8) }
-        requires posts { length posts.items ≡ length use_async.now }
-        ensures { IfOk result (λ d. d ≡ new_desk thread handles requests use_async.now) }
+    /// `requests` has the thread's end of the lane to each manager, by rising manager, and on the lane of
+    /// `completions` each manager sends. The names of these lanes have one opening, and as index the
+    /// manager, that of `completions` the thread. It takes no memory.
+    pub fn assemble(
+        parts: DeskParts,
+        requests: Vec<RingSender<Request>>,
+        completions: Receiver<Completion>,
+    ) -> Desk
+        requires ends { AreEnds parts.thread (length parts.use_async) requests.items completions }
+        requires new { AreNew requests.items completions }
+        ensures made { result ≡ new_desk parts requests.items completions }
+        ensures tied { IsDesk result }
     {
-        let book = Book::new(alloc, thread, handles, requests, use_async)?;
-        Ok(Desk {
-            book,
-            posts,
-            completions,
-        })
+        Desk {
+            book: Book::assemble(parts, requests, completions),
+        }
     }
 
     /// The thread of control, from 1.
@@ -84,6 +76,16 @@ impl Desk {
         ensures limits { (1 ≤ result) × (result ≤ 8) }
     {
         self.book.thread()
+    }
+
+    /// How many handles there are. Nothing is kept under 0 and under a greater number.
+    pub fn handles(&self) -> u32
+        ensures handles { result ≡ self.now.handles }
+        ensures limit { result ≤ 32 }
+        ensures past { (k : ℕ) → result < k → map.get self.now.kept k ≡ None }
+        ensures zero { map.get self.now.kept 0 ≡ None }
+    {
+        self.book.handles()
     }
 
     /// How many handles are free: those there are, less the operations that are outstanding.
@@ -128,47 +130,45 @@ impl Desk {
         self.book.carries_async(manager)
     }
 
-    /// Whether the ticket is of the desk's thread, and its operation is outstanding and not kept.
+    /// Whether the ticket is of the desk's opening and thread, and its operation is outstanding and not
+    /// kept.
     pub fn owns(&self, ticket: &Ticket) -> bool
         ensures { IsTrue result ↔ Owns self.now ticket.now }
     {
-        ticket.thread() == self.book.thread() && self.book.is_loose(ticket.operation())
+        ticket.opening() == self.book.opening()
+            && ticket.thread() == self.book.thread()
+            && self.book.is_loose(ticket.operation())
     }
 
     /// Sends a request to a manager; its completion is collected later, by the ticket.
     ///
-    /// The refusals come in the order of `Refused`, each where its condition holds and nowhere else.
-    /// When a queue is full, no contract says. No completion is looked at.
+    /// The refusals come in the order of `Refused`, each where its condition holds and nowhere else; `Full`
+    /// where the lane to the manager handed the request back, which its end counts. No completion is
+    /// looked at.
     pub fn submit<R: Wait>(&mut self, rt: &R, manager: u32, op: Op) -> Result<Ticket, Refused>
-        ensures refused { (why : _) → submit_refusal self.old manager ≡ Some why → result ≡ Err why }
-        ensures full { submit_refusal self.old manager ≡ None → IfErr result (λ why. why ≡ Refused.Full) }
-        ensures unchanged { OnErr result (self.new ≡ self.old) }
+        ensures refused { (why : _) → submit_refusal self.old manager ≡ Some why → (result ≡ Err why) × (self.new ≡ self.old) }
+        ensures full { submit_refusal self.old manager ≡ None → IfErr result (λ why. (why ≡ Refused.Full) × (self.new ≡ after_full self.old manager)) }
 
         // A sent request has the next number, and the desk owns its ticket.
-        ensures ticket { IfOk result (λ t. t ≡ ticket_of self.old.thread (next_operation self.old.accounts manager)) }
+        ensures ticket { IfOk result (λ t. t ≡ ticket_of self.old (next_operation self.old.accounts manager)) }
         ensures owned { IfOk result (λ t. Owns self.new t) }
-        ensures sent { OnOk result (self.new ≡ record self.old { accounts = after_sent self.old.accounts manager op }) }
+        ensures sent { OnOk result (self.new ≡ submitted self.old manager op) }
+        ensures tied { IsDesk self.new }
     {
         if let Some(why) = submit_refusal(&self.book, manager) {
             return Err(why);
         }
-        let request = &Request {
-            thread: self.book.thread(),
-            number: self.book.next_number(manager),
-            op,
-        };
-        if self.posts[manager as usize - 1].put(rt, *request).is_err() {
+        let Some(operation) = self.book.offer(rt, manager, &op) else {
             return Err(Refused::Full);
-        }
-        let operation = self.book.note_sent(manager, request.op);
-        Ok(Ticket::new(self.book.thread(), operation))
+        };
+        Ok(Ticket::new(&self.book, operation))
     }
 
     /// Sends a request to a manager and collects its completion: the synchronous form, with a slot of its
     /// own beyond the handles.
     ///
     /// It is refused as `NoSuchManager`, `Shut` or `Spent`, in this order, each where its condition holds
-    /// and nowhere else. Where the manager's queue is full it idles on the manager and tries again.
+    /// and nowhere else. Where the lane to the manager is full it idles on the manager and tries again.
     pub fn call<R: Wait, I: Idle>(
         &mut self,
         rt: &R,
@@ -179,21 +179,17 @@ impl Desk {
         ensures refused { (why : _) → call_refusal self.old manager ≡ Some why → result ≡ Err why }
         ensures answered { call_refusal self.old manager ≡ None → IsOk result }
         ensures unchanged { OnErr result (self.new ≡ self.old) }
-        ensures collected { IfOk result (Collects (record self.old { accounts = after_sent self.old.accounts manager op }) self.new (next_operation self.old.accounts manager)) }
+
+        // Once the lane was found full so many times, the request was sent.
+        ensures collected { IfOk result (λ code. (n : ℕ) × Collects (submitted (after_fulls n self.old manager) manager op) self.new (next_operation self.old.accounts manager) code) }
+        ensures tied { IsDesk self.new }
         ensures idled { I.leads idle.old idle.new }
     {
         if let Some(why) = call_refusal(&self.book, manager) {
             return Err(why);
         }
-        let request = &Request {
-            thread: self.book.thread(),
-            number: self.book.next_number(manager),
-            op,
-        };
-        let post = &self.posts[manager as usize - 1];
-        put_waiting(rt, post, manager, request, idle);
-        let operation = self.book.note_sent(manager, request.op);
-        Ok(wait_for(rt, &mut self.book, &self.completions, operation, idle))
+        let operation = send_waiting(rt, &mut self.book, manager, &op, idle);
+        Ok(wait_for(rt, &mut self.book, operation, idle))
     }
 
     /// Collects the ticket's operation, waiting for its completion: `xa_complete()` of a handle with
@@ -201,9 +197,10 @@ impl Desk {
     pub fn complete<R: Wait, I: Idle>(&mut self, rt: &R, ticket: Ticket, idle: &mut I) -> Code
         requires { Owns self.old ticket }
         ensures collected { Collects self.old self.new ticket.operation result }
+        ensures tied { IsDesk self.new }
         ensures idled { I.leads idle.old idle.new }
     {
-        wait_for(rt, &mut self.book, &self.completions, ticket.spend(), idle)
+        wait_for(rt, &mut self.book, ticket.spend(), idle)
     }
 
     /// Collects the ticket's operation where its completion came; else the ticket comes back, which is
@@ -217,8 +214,9 @@ impl Desk {
         ensures owned { IfErr result (λ t. Owns self.new t) }
         ensures quiet { OnErr result (EndsQuiet self.old self.new) }
         ensures nothing { OnErr result (drained_code ticket.operation self.new.drained ≡ None) }
+        ensures tied { IsDesk self.new }
     {
-        match try_collect(rt, &mut self.book, &self.completions, ticket.operation()) {
+        match try_collect(rt, &mut self.book, ticket.operation()) {
             Some(code) => {
                 ticket.spend();
                 Ok(code)
@@ -247,9 +245,8 @@ impl Desk {
         ensures absent { IsNone result ↔ (map.get self.old.kept number ≡ None) }
         ensures unchanged { IfNone result (self.new ≡ self.old) }
     {
-        let thread = self.book.thread();
         let operation = self.book.release(number)?;
-        Some(Ticket::new(thread, operation))
+        Some(Ticket::new(&self.book, operation))
     }
 
     /// The manager of the operation that is kept under the number; `None` for a number that isn't kept.
@@ -274,14 +271,15 @@ impl Desk {
         ensures collected { IfSome result (CollectsKept self.old self.new number) }
         ensures quiet { IsNone result → EndsQuiet self.old self.new }
         ensures nothing { IsNone result → ready_at self.new 0 number ≡ false }
+        ensures tied { IsDesk self.new }
     {
-        try_collect_kept(rt, &mut self.book, &self.completions, number)
+        try_collect_kept(rt, &mut self.book, number)
     }
 
     /// Collects the least number of the manager, of any for 0, whose completion came, waiting for one:
     /// `xa_complete()` with `TMMULTIPLE` (C193, chapter 5).
     ///
-    /// Before it answers, and before each idle, it looks until the completion queue is found empty.
+    /// Before it answers, and before each idle, it looks until the lane of completions is found empty.
     pub fn complete_any<R: Wait, I: Idle>(
         &mut self,
         rt: &R,
@@ -293,19 +291,21 @@ impl Desk {
         ensures some { IsOk result → (k : ℕ) × (keeps_at self.old manager k ≡ true) }
         ensures nothing { IsErr result → (k : ℕ) → keeps_at self.old manager k ≡ false }
         ensures unchanged { OnErr result (self.new ≡ self.old) }
+        ensures idle_stays { OnErr result (idle.new ≡ idle.old) }
+        ensures tied { IsDesk self.new }
         ensures idled { I.leads idle.old idle.new }
     {
         if !keeps_any(&self.book, manager) {
             return Err(NothingOutstanding);
         }
-        Ok(wait_for_any(rt, &mut self.book, &self.completions, manager, idle))
+        Ok(wait_for_any(rt, &mut self.book, manager, idle))
     }
 
     /// Collects the least number of the manager, of any for 0, whose completion came: `xa_complete()` with
     /// `TMMULTIPLE` and `TMNOWAIT` (C193, chapter 5).
     ///
     /// The faults come in the order of `AnyFault`. Before it answers `Ok` or `Retry` it looks until the
-    /// completion queue is found empty.
+    /// lane of completions is found empty.
     pub fn try_complete_any<R: Wait>(
         &mut self,
         rt: &R,
@@ -321,11 +321,12 @@ impl Desk {
         ensures retry_some { result ≡ Err AnyFault.Retry → (k : ℕ) × (keeps_at self.old manager k ≡ true) }
         ensures retry_quiet { result ≡ Err AnyFault.Retry → EndsQuiet self.old self.new }
         ensures retry_none { result ≡ Err AnyFault.Retry → (k : ℕ) → ready_at self.new manager k ≡ false }
+        ensures tied { IsDesk self.new }
     {
         if !keeps_any(&self.book, manager) {
             return Err(AnyFault::NothingOutstanding);
         }
-        let Some(collected) = try_collect_any(rt, &mut self.book, &self.completions, manager) else {
+        let Some(collected) = try_collect_any(rt, &mut self.book, manager) else {
             return Err(AnyFault::Retry);
         };
         Ok(collected)
@@ -334,17 +335,18 @@ impl Desk {
     /// Ends the desk where nothing is outstanding, so that each request was collected once; else the desk
     /// comes back as it was.
     ///
-    /// A `Post` takes no end mark, so there is nothing to wait for.
-    pub fn finish<R: Wait, I: Idle>(self, _rt: &R, _idle: &mut I) -> Result<EndedDesk, Desk>
-        ensures ended { IfOk result (λ e. e ≡ self) }
+    /// It sends its end mark to each manager, by rising manager, and idles on the manager where the lane to
+    /// it is full.
+    pub fn finish<R: Wait, I: Idle>(self, rt: &R, idle: &mut I) -> Result<EndedDesk, Desk>
+        ensures ended { IfOk result (Ends self) }
         ensures back { IfErr result (λ d. d ≡ self) }
         ensures outstanding { IsErr result ↔ (0 < outstanding self.accounts) }
-        ensures settled { IfOk result (λ e. (m : ℕ) → IsKnown e.accounts m → IsSettled (account e.accounts m)) }
-        ensures idled { I.leads _idle.old _idle.new }
+        ensures settled { IfOk result (λ e. AreSettled e.accounts) }
+        ensures idled { I.leads idle.old idle.new }
     {
         if self.book.is_outstanding() {
             return Err(self);
         }
-        Ok(EndedDesk::new(self.book))
+        Ok(end(rt, self.book, idle))
     }
 }

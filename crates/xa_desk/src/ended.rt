@@ -1,34 +1,73 @@
 //! What a desk leaves.
-use crate::book::Book;
-use std::marker::Model;
-use xa_words::{Code, Op};
+ghost use Rattle.std.specs.Prelude.{◌≡◌, ◌+◌, ◌≤◌, length, map, vec_capacity, []};
+ghost use Rattle.xa_lane.specs.Senders.{but_full};
+ghost use Rattle.xa_desk.specs.DeskView.{outstanding, sent_to, collected_from};
+ghost use Rattle.xa_desk.specs.Ended.{Ends, IsEnded, AreSettled};
+ghost use Rattle.xa_desk.specs.Lanes.{IsDesk};
 
-/// A desk that has ended: nothing is outstanding, and nothing more is sent or collected.
+use crate::account::Account;
+use crate::book::Book;
+use crate::idle::Idle;
+use std::marker::Model;
+use std::sync::Wait;
+use xa_lane::{Receiver, RingEnded, RingSender};
+use xa_words::{Code, Completion, Op, Request};
+
+/// A desk that has ended: nothing is outstanding, nothing more is sent or collected, and each manager's
+/// lane has its end mark.
 #[derive(Drop)]
 pub struct EndedDesk {
-    book: Book,
+    thread: u32,
+    accounts: Vec<Account>,
+    drained: Vec<Completion>,
+    requests: Vec<RingEnded<Request>>,
+    completions: Receiver<Completion>,
 }
 
 impl Model for EndedDesk {
-    ghost use Rattle.std.specs.Coded.{codes};
-    ghost use Rattle.xa_desk.specs.DeskView.{DeskView, kept_code};
+    ghost use Rattle.xa_desk.specs.Ended.{EndedView};
+    ghost use Rattle.xa_desk.specs.EndedParts.{ended_of, AreEndedParts};
 
-    ghost Value = { DeskView };
+    ghost Value = { EndedView };
 
-    ghost coded = { Prim.hlevel (codes, kept_code) };
+    ghost view = { ended_of };
 
-    ghost view = { λ d. d.book };
+    ghost invariant = { AreEndedParts };
+}
+
+/// What an ended desk hands out.
+#[derive(Drop)]
+pub struct DeskEnds {
+    /// The ends of the lanes to the managers, by rising manager.
+    pub requests: Vec<RingEnded<Request>>,
+    /// The end of the lane of completions.
+    pub completions: Receiver<Completion>,
+    /// The accounts with the managers, by rising manager.
+    pub accounts: Vec<Account>,
 }
 
 impl EndedDesk {
-    ghost use Rattle.std.specs.Prelude.{◌≡◌};
-    ghost use Rattle.xa_desk.specs.DeskView.{sent_to, collected_from};
-
-    /// What the book of a desk says at its end.
-    pub(crate) fn new(book: Book) -> EndedDesk
-        ensures { result ≡ book }
+    /// The number of the opening that its lanes are of.
+    pub fn opening(&self) -> u64
+        ensures { result ≡ self.now.completions.lane.opening }
     {
-        EndedDesk { book }
+        self.completions.name().opening
+    }
+
+    /// The thread of control, from 1.
+    pub fn number(&self) -> u32
+        ensures thread { result ≡ self.now.thread }
+        ensures limits { (1 ≤ result) × (result ≤ 8) }
+    {
+        self.thread
+    }
+
+    /// How many managers there are, which are numbered from 1.
+    pub fn peers(&self) -> u32
+        ensures managers { result ≡ length self.now.accounts }
+        ensures limits { (1 ≤ result) × (result ≤ 8) }
+    {
+        self.accounts.len() as u32
     }
 
     /// The requests that were sent to the manager, in order: the one at place n has number n. None for
@@ -36,7 +75,10 @@ impl EndedDesk {
     pub fn sent(&self, manager: u32) -> &[Op]
         ensures { result.now ≡ sent_to self.now.accounts manager }
     {
-        self.book.sent(manager)
+        if manager == 0 || manager > self.peers() {
+            return &[];
+        }
+        self.accounts[manager as usize - 1].sent()
     }
 
     /// What was collected from the manager, in the order of collection: each request's number with its
@@ -44,6 +86,103 @@ impl EndedDesk {
     pub fn collected(&self, manager: u32) -> &[(u32, Code)]
         ensures { result.now ≡ collected_from self.now.accounts manager }
     {
-        self.book.collected(manager)
+        if manager == 0 || manager > self.peers() {
+            return &[];
+        }
+        self.accounts[manager as usize - 1].collected()
     }
+
+    /// Its ends of lanes and its lists. It takes no memory.
+    pub fn apart(self) -> DeskEnds
+        ensures requests { result.requests.items ≡ self.requests }
+        ensures completions { result.completions ≡ self.completions }
+        ensures accounts { result.accounts.items ≡ self.accounts }
+        ensures known { IsEnded self }
+    {
+        let EndedDesk {
+            thread: _,
+            accounts,
+            drained: _,
+            requests,
+            completions,
+        } = self;
+        DeskEnds {
+            requests,
+            completions,
+            accounts,
+        }
+    }
+}
+
+/// Ends a desk with which nothing is outstanding.
+pub(crate) fn end<R: Wait, I: Idle>(rt: &R, book: Book, idle: &mut I) -> EndedDesk
+    requires tied { IsDesk book }
+    requires settled { AreSettled book.accounts }
+    ensures ended { Ends book result }
+    ensures idled { I.leads idle.old idle.new }
+{
+    let Book {
+        thread,
+        handles: _,
+        accounts,
+        slots: _,
+        rows: _,
+        kept: _,
+        drained,
+        drained_then: _,
+        requests,
+        completions,
+        ends,
+    } = book;
+    let requests = end_all(rt, requests, ends, idle);
+    EndedDesk {
+        thread,
+        accounts,
+        drained,
+        requests,
+        completions,
+    }
+}
+
+// Puts the end mark of each lane to a manager.
+fn end_all<R: Wait, I: Idle>(
+    rt: &R,
+    requests: Vec<RingSender<Request>>,
+    mut ends: Vec<RingEnded<Request>>,
+    idle: &mut I,
+) -> Vec<RingEnded<Request>>
+    requires none { ends.items ≡ [] }
+    requires room { length requests.items ≤ vec_capacity ends }
+    requires few { length requests.items ≤ 8 }
+    ensures ended { map but_full result.items ≡ map but_full requests.items }
+    ensures idled { I.leads idle.old idle.new }
+{
+    let mut manager = 0;
+    for sender in requests {
+        manager += 1;
+        let end = end_one(rt, sender, manager, idle);
+        ends.push_reserved(end);
+    }
+    ends
+}
+
+// Puts the end mark of the lane to the manager, and idles while it is full.
+fn end_one<R: Wait, I: Idle>(
+    rt: &R,
+    sender: RingSender<Request>,
+    manager: u32,
+    idle: &mut I,
+) -> RingEnded<Request>
+    ensures ended { but_full result ≡ but_full sender }
+    ensures idled { I.leads idle.old idle.new }
+{
+    let mut sender = sender;
+    for _ in rt.forever() {
+        match sender.finish(rt) {
+            Ok(end) => return end,
+            Err(back) => sender = back,
+        }
+        idle.idle(rt, manager);
+    }
+    unreachable!()
 }

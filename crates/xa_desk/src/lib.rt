@@ -1,8 +1,9 @@
 //! One thread of control's desk: what it has sent, what it has collected, and what is outstanding.
 //!
-//! A `Desk` puts requests to managers and collects their completions, as calls with `TMASYNC` and
-//! `xa_complete()` do (C193, chapters 4 and 5). Contracts see it as a `DeskView`. Each operation that was
-//! sent is collected once, by its `Ticket`, or by the number of the handle under which it is kept.
+//! A `Desk` sends requests to managers and collects their completions, as calls with `TMASYNC` and
+//! `xa_complete()` do (C193, chapters 4 and 5), over its ends of lanes. Contracts see it as a `DeskView`.
+//! Each operation that was sent is collected once, by its `Ticket`, or by the number of the handle under
+//! which it is kept.
 #![tactic(auto)]
 
 mod account;
@@ -11,24 +12,28 @@ mod desk;
 mod ended;
 mod idle;
 mod kept;
+mod keys;
 pub mod laws;
 mod operation;
+mod parts;
 mod places;
-mod post;
 mod pump;
 mod refusal;
 mod refused;
 mod slot;
+mod spin;
 #[cfg(test)]
 mod stepped;
 #[cfg(test)]
 mod tests;
 mod ticket;
 
+pub use account::Account;
 pub use desk::Desk;
-pub use ended::EndedDesk;
+pub use ended::{DeskEnds, EndedDesk};
 pub use idle::Idle;
 pub use operation::Operation;
-pub use post::Post;
+pub use parts::DeskParts;
 pub use refused::{AnyFault, NothingOutstanding, Refused};
+pub use spin::Spin;
 pub use ticket::Ticket;

@@ -1,8 +1,7 @@
-//! Pops of a completion queue into a book, with and without waiting.
-//!
-//! They are functions over the book and the queue, so that they say what becomes of the book alone.
-ghost use Rattle.std.specs.Prelude.{◌≡◌, ◌≢◌, ℕ, IfSome, OnSome, IfNone, IsNone, IsTrue, IsSome, None, false};
-ghost use Rattle.xa_desk.specs.DeskView.{IsHandle, IsOut, IsLoose, drained_code, ready_at};
+//! Calls of a book that look at the lane of completions, with and without waiting.
+ghost use Rattle.std.specs.Prelude.{◌≡◌, ℕ, ◌+◌, ◌<◌, ◌≤◌, length, IfSome, IsNone, IsTrue, IsSome, None, false};
+ghost use Rattle.xa_desk.specs.DeskView.{IsHandle, IsKnown, IsOut, IsLoose, account, outstanding, next_operation, drained_code, ready_at};
+ghost use Rattle.xa_desk.specs.Lanes.{submitted, after_fulls};
 ghost use Rattle.xa_desk.specs.Looks.{Looks, EndsQuiet, Collects, CollectsKept, CollectsLeast};
 ghost use Rattle.std.specs.FinMap as map;
 
@@ -10,17 +9,11 @@ use crate::book::Book;
 use crate::idle::Idle;
 use crate::kept::{collect_kept, least_ready};
 use crate::operation::Operation;
-use crate::post::Post;
 use std::sync::Wait;
-use xa_words::{Code, Completion, Request};
+use xa_words::{Code, Op};
 
-// Pops until the operation's completion is drained, or the queue is found empty.
-fn look_for<R: Wait>(
-    rt: &R,
-    book: &mut Book,
-    completions: &Post<Completion>,
-    operation: Operation,
-) -> bool
+// Takes until the operation's completion is drained, or the lane is found empty.
+fn look_for<R: Wait>(rt: &R, book: &mut Book, operation: Operation) -> bool
     requires { IsOut book.old.accounts operation }
     ensures looks { Looks book.old book.new }
     ensures found { IsTrue result → IsSome (drained_code operation book.new.drained) }
@@ -31,29 +24,22 @@ fn look_for<R: Wait>(
         if book.is_drained(operation) {
             return true;
         }
-        let Some(completion) = completions.get(rt) else {
-            book.note_quiet();
+        if !book.draw(rt) {
             return false;
-        };
-        book.note_popped(completion);
+        }
     }
     unreachable!()
 }
 
 /// Collects an operation that isn't kept, where its completion came.
-pub(crate) fn try_collect<R: Wait>(
-    rt: &R,
-    book: &mut Book,
-    completions: &Post<Completion>,
-    operation: Operation,
-) -> Option<Code>
+pub(crate) fn try_collect<R: Wait>(rt: &R, book: &mut Book, operation: Operation) -> Option<Code>
     requires out { IsOut book.old.accounts operation }
     requires loose { IsLoose book.old operation }
     ensures collected { IfSome result (Collects book.old book.new operation) }
     ensures quiet { IsNone result → EndsQuiet book.old book.new }
     ensures missing { IsNone result → drained_code operation book.new.drained ≡ None }
 {
-    if look_for(rt, book, completions, operation) {
+    if look_for(rt, book, operation) {
         book.collect(operation)
     } else {
         None
@@ -64,7 +50,6 @@ pub(crate) fn try_collect<R: Wait>(
 pub(crate) fn wait_for<R: Wait, I: Idle>(
     rt: &R,
     book: &mut Book,
-    completions: &Post<Completion>,
     operation: Operation,
     idle: &mut I,
 ) -> Code
@@ -74,7 +59,7 @@ pub(crate) fn wait_for<R: Wait, I: Idle>(
     ensures idled { I.leads idle.old idle.new }
 {
     for _ in rt.forever() {
-        if let Some(code) = try_collect(rt, book, completions, operation) {
+        if let Some(code) = try_collect(rt, book, operation) {
             return code;
         }
         idle.idle(rt, operation.manager);
@@ -82,27 +67,20 @@ pub(crate) fn wait_for<R: Wait, I: Idle>(
     unreachable!()
 }
 
-// Pops until the queue is found empty.
-fn drain<R: Wait>(rt: &R, book: &mut Book, completions: &Post<Completion>)
+// Takes until the lane is found empty.
+fn drain<R: Wait>(rt: &R, book: &mut Book)
     ensures { EndsQuiet book.old book.new }
 {
     for _ in rt.forever() {
-        let Some(completion) = completions.get(rt) else {
-            book.note_quiet();
+        if !book.draw(rt) {
             return;
-        };
-        book.note_popped(completion);
+        }
     }
     unreachable!()
 }
 
 /// Collects what is kept under the number, where its completion came.
-pub(crate) fn try_collect_kept<R: Wait>(
-    rt: &R,
-    book: &mut Book,
-    completions: &Post<Completion>,
-    number: u32,
-) -> Option<Code>
+pub(crate) fn try_collect_kept<R: Wait>(rt: &R, book: &mut Book, number: u32) -> Option<Code>
     requires { IsSome (map.get book.old.kept number) }
     ensures collected { IfSome result (CollectsKept book.old book.new number) }
     ensures quiet { IsNone result → EndsQuiet book.old book.new }
@@ -111,26 +89,21 @@ pub(crate) fn try_collect_kept<R: Wait>(
     let Some(operation) = book.kept_at(number) else {
         unreachable!()
     };
-    if look_for(rt, book, completions, operation) {
+    if look_for(rt, book, operation) {
         Some(collect_kept(book, number))
     } else {
         None
     }
 }
 
-/// Collects the least ready number of the manager, of any for 0, once the queue was found empty.
-pub(crate) fn try_collect_any<R: Wait>(
-    rt: &R,
-    book: &mut Book,
-    completions: &Post<Completion>,
-    manager: u32,
-) -> Option<(u32, Code)>
+/// Collects the least ready number of the manager, of any for 0, once the lane was found empty.
+pub(crate) fn try_collect_any<R: Wait>(rt: &R, book: &mut Book, manager: u32) -> Option<(u32, Code)>
     ensures collected { IfSome result (λ r. CollectsLeast book.old book.new manager r.0 r.1) }
     ensures quiet { IsNone result → EndsQuiet book.old book.new }
     ensures missing { IsNone result → (k : ℕ) → ready_at book.new manager k ≡ false }
     ensures handle { IfSome result (λ r. IsHandle r.0) }
 {
-    drain(rt, book, completions);
+    drain(rt, book);
     let Some(number) = least_ready(book, manager) else {
         return None;
     };
@@ -142,7 +115,6 @@ pub(crate) fn try_collect_any<R: Wait>(
 pub(crate) fn wait_for_any<R: Wait, I: Idle>(
     rt: &R,
     book: &mut Book,
-    completions: &Post<Completion>,
     manager: u32,
     idle: &mut I,
 ) -> (u32, Code)
@@ -151,7 +123,7 @@ pub(crate) fn wait_for_any<R: Wait, I: Idle>(
     ensures idled { I.leads idle.old idle.new }
 {
     for _ in rt.forever() {
-        if let Some(collected) = try_collect_any(rt, book, completions, manager) {
+        if let Some(collected) = try_collect_any(rt, book, manager) {
             return collected;
         }
         idle.idle(rt, manager);
@@ -159,20 +131,30 @@ pub(crate) fn wait_for_any<R: Wait, I: Idle>(
     unreachable!()
 }
 
-/// Puts a request, and idles while the queue is full.
-pub(crate) fn put_waiting<R: Wait, I: Idle>(
+/// Sends the next request to the manager, and idles while the lane to it is full.
+pub(crate) fn send_waiting<R: Wait, I: Idle>(
     rt: &R,
-    post: &Post<Request>,
+    book: &mut Book,
     manager: u32,
-    request: &Request,
+    op: &Op,
     idle: &mut I,
-)
-    ensures { I.leads idle.old idle.new }
+) -> Operation
+    requires known { IsKnown book.old.accounts manager }
+    requires lanes { length book.old.requests ≡ length book.old.accounts }
+    requires room { length (account book.old.accounts manager).sent < (account book.old.accounts manager).plan }
+    requires slot { outstanding book.old.accounts ≤ book.old.handles }
+    ensures named { result ≡ next_operation book.old.accounts manager }
+    ensures sent { (n : ℕ) × (book.new ≡ submitted (after_fulls n book.old manager) manager op.now) }
+    ensures more { outstanding book.new.accounts ≡ outstanding book.old.accounts + 1 }
+    ensures out { IsOut book.new.accounts result }
+    ensures loose { IsLoose book.new result }
+    ensures idled { I.leads idle.old idle.new }
 {
     for _ in rt.forever() {
-        if post.put(rt, *request).is_ok() {
-            return;
+        if let Some(operation) = book.offer(rt, manager, op) {
+            return operation;
         }
         idle.idle(rt, manager);
     }
+    unreachable!()
 }

@@ -1,4 +1,4 @@
-//! Why a request may not be sent, a full queue aside.
+//! Why a request may not be sent, a full lane aside.
 ghost use Rattle.std.specs.Prelude.{◌≡◌};
 ghost use Rattle.xa_desk.specs.DeskView.{submit_refusal, call_refusal};
 

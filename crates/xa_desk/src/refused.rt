@@ -11,7 +11,7 @@ pub enum Refused {
     TooMany,
     /// As many requests were sent to the manager as were planned.
     Spent,
-    /// The manager's request queue is full.
+    /// The lane to the manager is full.
     Full,
 }
 

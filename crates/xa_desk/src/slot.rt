@@ -1,7 +1,9 @@
 //! Slots of outstanding operations.
 ghost use Rattle.std.specs.Prelude.{◌≡◌, ◌≢◌, ℕ, Some, IfSome, IfNone};
 ghost use Rattle.slab.specs.Slab.{get, slab_len, ContainsKey, Updates};
+ghost use Rattle.xa_desk.specs.Slots.{AreTold};
 
+use crate::keys::{Keys, key_of};
 use crate::operation::Operation;
 use slab::Slab;
 use xa_words::Code;
@@ -17,18 +19,27 @@ pub(crate) struct Slot {
     pub(crate) handle: u32,
 }
 
-/// The slot of an operation, with its key. There are at most 33 slots.
-pub(crate) fn find_slot(slots: &Slab<Slot>, wanted: Operation) -> Option<(usize, Slot)>
+/// The slot of an operation, with its key.
+pub(crate) fn find_slot(
+    rows: &Vec<Keys>,
+    slots: &Slab<Slot>,
+    wanted: Operation,
+) -> Option<(usize, Slot)>
+    requires { AreTold rows.now.items slots.now }
     ensures found { IfSome result (λ r. get slots.now r.0 ≡ Some r.1) }
     ensures named { IfSome result (λ r. r.1.operation ≡ wanted) }
     ensures absent { IfNone result ((key : ℕ) (slot : _) → get slots.now key ≡ Some slot → slot.operation ≢ wanted) }
 {
-    for (key, slot) in slots.iter() {
-        if slot.operation.is(wanted) {
-            return Some((key, *slot));
-        }
+    let Some(key) = key_of(rows, wanted) else {
+        return None;
+    };
+    let Some(slot) = slots.get(key) else {
+        return None;
+    };
+    if !slot.operation.is(wanted) {
+        return None;
     }
-    None
+    Some((key, *slot))
 }
 
 /// Writes a slot anew.

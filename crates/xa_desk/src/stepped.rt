@@ -1,76 +1,203 @@
-//! Managers that tests step by hand, and a desk over their queues.
-ghost use Rattle.std.specs.Prelude.{◌≤◌, length};
+//! Managers that tests step by hand, and a desk over lanes to them.
+ghost use Rattle.std.specs.Prelude.{◌≡◌, ◌≤◌, [], length, All};
 ghost use Rattle.xa_desk.specs.DeskView.{Owns};
+ghost use Rattle.xa_desk.specs.Lanes.{AreEndsTo, IsEndTo};
 
-use crate::{Desk, Idle, Post, Refused, Ticket};
-use std::alloc::{AllocError, Global};
+use crate::{Desk, DeskParts, Idle, Refused, Ticket};
+use std::alloc::Global;
 use std::process::Abort;
 use std::sync::Wait;
+use xa_lane::{LaneName, Receiver, RingReceiver, RingSender, Sender, Taken, open_lane, open_rings};
 use xa_words::{Code, Completion, Op, Request};
 
-/// The managers' ends of the queues of one desk.
+/// The managers' ends of the lanes of one desk. Each idle lets the manager that is waited for, or each
+/// manager, answer one request.
 #[derive(Drop)]
 pub(crate) struct Managers {
-    requests: Vec<Post<Request>>,
-    completions: Post<Completion>,
+    pub(crate) requests: Vec<RingReceiver<Request>>,
+    pub(crate) completions: Vec<Sender<Completion>>,
+    pub(crate) idled: u32,
 }
 
 impl Managers {
-    /// The next request to a manager.
-    pub(crate) fn take<R: Wait>(&self, rt: &R, manager: u32) -> Option<Request> {
-        self.requests.get(manager.wrapping_sub(1) as usize)?.get(rt)
+    /// What stands at the front of the lane to a manager.
+    pub(crate) fn take<R: Wait + Abort>(&mut self, rt: &R, manager: u32) -> Taken<Request> {
+        let Some(lane) = self.requests.get_mut((manager as usize).wrapping_sub(1)) else {
+            panic!(rt; "no manager {manager}");
+        };
+        lane.take(rt)
     }
 
-    /// Answers a request of a manager.
-    pub(crate) fn answer<R: Wait + Abort>(&self, rt: &R, manager: u32, number: u32, code: Code) {
+    /// The next request to a manager.
+    pub(crate) fn next<R: Wait + Abort>(&mut self, rt: &R, manager: u32) -> Option<Request> {
+        match self.take(rt, manager) {
+            Taken::Item(_, request) => Some(request),
+            Taken::EndOf(_) | Taken::Empty => None,
+        }
+    }
+
+    /// Answers a request of a manager; the first manager speaks for one that there isn't.
+    pub(crate) fn answer<R: Wait + Abort>(
+        &mut self,
+        rt: &R,
+        manager: u32,
+        number: u32,
+        code: Code,
+    ) {
         let completion = Completion {
             manager,
             number,
             code,
         };
-        assert!(rt;
-            self.completions.put(rt, completion).is_ok(),
-            "room for completions"
-        );
+        let place = (manager as usize).wrapping_sub(1);
+        let place = if place < self.completions.len() {
+            place
+        } else {
+            0
+        };
+        let Some(lane) = self.completions.get_mut(place) else {
+            panic!(rt; "no manager");
+        };
+        assert!(rt; lane.offer(rt, completion).is_ok(), "room for completions");
+    }
+
+    // Carries out the next request to a manager.
+    fn step<R: Wait>(&mut self, rt: &R, manager: u32) {
+        let place = (manager as usize).wrapping_sub(1);
+        let Some(lane) = self.requests.get_mut(place) else {
+            return;
+        };
+        let Taken::Item(_, request) = lane.take(rt) else {
+            return;
+        };
+        let completion = Completion {
+            manager,
+            number: request.number,
+            code: code_of(&request.op),
+        };
+        if let Some(lane) = self.completions.get_mut(place) {
+            let _ = lane.offer(rt, completion);
+        }
     }
 }
 
-/// A desk of thread 1 with a manager for each of `use_async`, and the managers' ends of its queues.
+impl Idle for Managers {
+    ghost use Rattle.std.specs.Prelude.{◌≤◌};
+    ghost use Rattle.std.proofs.Common.{arith};
+
+    ghost leads = { λ before after. before.idled ≤ after.idled };
+
+    ghost leads_start = { λ x. Prim.omega arith };
+
+    ghost leads_chain = { λ x y z p q. Prim.omega arith };
+
+    fn idle<R: Wait>(&mut self, rt: &R, manager: u32) {
+        let idled = self.idled.saturating_add(1);
+        if manager > 0 {
+            self.step(rt, manager);
+        } else {
+            for number in 1..9 {
+                self.step(rt, number);
+            }
+        }
+        self.idled = idled;
+    }
+}
+
+/// What each manager answers.
+pub(crate) fn code_of(op: &Op) -> Code {
+    match op {
+        Op::OpenRm => Code::Done,
+        Op::CloseRm => Code::Proto,
+        Op::Shut => Code::RmFail,
+        _ => Code::Nota,
+    }
+}
+
+// A lane of requests from thread 1 to a manager.
+fn open_one(
+    rt: &impl Abort,
+    alloc: Global,
+    manager: u32,
+    capacity: usize,
+) -> (RingSender<Request>, RingReceiver<Request>)
+    ensures end { IsEndTo 1 1 manager result.0 }
+    ensures new { result.0.sent ≡ [] }
+{
+    let name = LaneName {
+        opening: 1,
+        kind: 0,
+        index: manager,
+    };
+    let (mut senders, receiver) = open_rings(alloc, name, 1, capacity).expect(rt, "a lane");
+    let sender = senders.pop().expect(rt, "a sender");
+    (sender, receiver)
+}
+
+// The lanes of requests from thread 1 to so many managers.
+fn open_requests(
+    rt: &impl Abort,
+    alloc: Global,
+    managers: usize,
+    capacity: usize,
+) -> (Vec<RingSender<Request>>, Vec<RingReceiver<Request>>)
+    requires { managers ≤ 8 }
+    ensures ends { AreEndsTo 1 1 result.0.items }
+    ensures number { length result.0.items ≡ managers }
+    ensures new { All (λ s. s.sent ≡ []) result.0.items }
+{
+    let mut senders = Vec::new(alloc);
+    let mut receivers = Vec::new(alloc);
+    let mut manager = 0;
+    for _place in 0..managers {
+        manager += 1;
+        let (sender, receiver) = open_one(rt, alloc, manager, capacity);
+        senders.push(sender).expect(rt, "memory");
+        receivers.push(receiver).expect(rt, "memory");
+    }
+    (senders, receivers)
+}
+
+// The lane of completions of thread 1 from so many managers.
+fn open_completions(
+    rt: &impl Abort,
+    alloc: Global,
+    managers: usize,
+) -> (Vec<Sender<Completion>>, Receiver<Completion>)
+    ensures named { (result.1.lane.opening ≡ 1) × (result.1.lane.index ≡ 1) }
+    ensures new { (result.1.senders ≡ managers) × (result.1.taken ≡ []) }
+{
+    let name = LaneName {
+        opening: 1,
+        kind: 1,
+        index: 1,
+    };
+    open_lane(alloc, name, managers, 64).expect(rt, "a lane")
+}
+
+/// A desk of thread 1 of opening 1, with a manager for each of `use_async`, and the managers' ends of its
+/// lanes.
 pub(crate) fn opened(
     rt: &impl Abort,
     alloc: Global,
     handles: u32,
     requests: u32,
     use_async: &[bool],
-    queue: usize,
-) -> Result<(Desk, Managers), AllocError>
+    capacity: usize,
+) -> (Desk, Managers)
     requires handles { (1 ≤ handles) × (handles ≤ 32) }
     requires requests { (1 ≤ requests) × (requests ≤ 4096) }
     requires managers { (1 ≤ length use_async.now) × (length use_async.now ≤ 8) }
 {
-    let completions = Post::new(alloc, 64)?;
-    let mut posts = Vec::new(alloc);
-    let mut ends = Vec::new(alloc);
-    for _manager in use_async {
-        let post = Post::new(alloc, queue)?;
-        posts.push(post.share()?)?;
-        ends.push(post)?;
-    }
-    assert_eq!(rt; posts.len(), use_async.len());
-    let desk = Desk::over(
-        alloc,
-        1,
-        handles,
-        requests,
-        use_async,
-        posts,
-        completions.share()?,
-    )?;
+    let parts = DeskParts::reserve(alloc, 1, handles, requests, use_async).expect(rt, "memory");
+    let (senders, receivers) = open_requests(rt, alloc, use_async.len(), capacity);
+    let (workers, completions) = open_completions(rt, alloc, use_async.len());
     let managers = Managers {
-        requests: ends,
-        completions,
+        requests: receivers,
+        completions: workers,
+        idled: 0,
     };
-    Ok((desk, managers))
+    (Desk::assemble(parts, senders, completions), managers)
 }
 
 /// Sends a request that is not to be refused.
@@ -98,58 +225,4 @@ pub(crate) fn refusal<R: Wait + Abort>(rt: &R, desk: &mut Desk, manager: u32, op
         }
         Err(why) => why,
     }
-}
-
-/// Each idle lets the manager that is waited for, or each manager, answer one request.
-#[derive(Drop)]
-pub(crate) struct Steps<'a> {
-    managers: &'a Managers,
-    pub(crate) idled: u32,
-}
-
-fn code_of(op: &Op) -> Code {
-    match op {
-        Op::OpenRm => Code::Done,
-        Op::CloseRm => Code::Proto,
-        Op::Shut => Code::RmFail,
-        _ => Code::Nota,
-    }
-}
-
-fn step<R: Wait>(rt: &R, managers: &Managers, manager: u32) {
-    if let Some(request) = managers.take(rt, manager) {
-        let completion = Completion {
-            manager,
-            number: request.number,
-            code: code_of(&request.op),
-        };
-        let _ = managers.completions.put(rt, completion);
-    }
-}
-
-impl Idle for Steps<'_> {
-    ghost use Rattle.std.specs.Prelude.{◌≤◌};
-    ghost use Rattle.std.proofs.Common.{arith};
-
-    ghost leads = { λ before after. before.idled ≤ after.idled };
-
-    ghost leads_start = { λ x. Prim.omega arith };
-
-    ghost leads_chain = { λ x y z p q. Prim.omega arith };
-
-    fn idle<R: Wait>(&mut self, rt: &R, manager: u32) {
-        self.idled = self.idled.saturating_add(1);
-        if manager > 0 {
-            step(rt, self.managers, manager);
-        } else {
-            for number in 1..9 {
-                step(rt, self.managers, number);
-            }
-        }
-    }
-}
-
-/// Idles by stepping these managers.
-pub(crate) fn stepping(managers: &Managers) -> Steps<'_> {
-    Steps { managers, idled: 0 }
 }

@@ -1,21 +1,24 @@
 //! A desk with managers that are stepped by hand, in one thread.
-use crate::stepped::{kept, opened, refusal, sent, stepping};
-use crate::{AnyFault, EndedDesk, NothingOutstanding, Post, Refused};
+use crate::stepped::{kept, opened, refusal, sent};
+use crate::{AnyFault, EndedDesk, NothingOutstanding, Refused};
 use std::test::Fail;
+use xa_lane::Taken;
 use xa_words::{Code, Op};
+
+mod threads;
 
 #[test]
 fn a_request_is_collected_by_its_ticket(rt: HostRuntime) -> Result<(), Fail> {
-    let (mut desk, managers) = opened(&rt, rt.alloc(), 2, 4, &[true], 4)?;
+    let (mut desk, mut managers) = opened(&rt, rt.alloc(), 2, 4, &[true], 4);
     let first = sent(&rt, &mut desk, 1, Op::OpenRm);
     let second = sent(&rt, &mut desk, 1, Op::CloseRm);
     assert_eq!(rt; desk.free(), 0);
     assert_eq!(rt; desk.room(1), 2);
     for number in 0..2 {
-        let request = managers.take(&rt, 1).expect(&rt, "a request");
+        let request = managers.next(&rt, 1).expect(&rt, "a request");
         assert_eq!(rt; (request.thread, request.number), (1, number));
     }
-    assert!(rt; managers.take(&rt, 1).is_none());
+    assert!(rt; managers.next(&rt, 1).is_none());
     managers.answer(&rt, 1, 1, Code::Proto);
     assert!(rt; desk.owns(&first));
     let first = match desk.try_complete(&rt, first) {
@@ -24,10 +27,7 @@ fn a_request_is_collected_by_its_ticket(rt: HostRuntime) -> Result<(), Fail> {
     };
     managers.answer(&rt, 1, 0, Code::Done);
     assert!(rt; desk.owns(&first));
-    assert_eq!(rt;
-        desk.complete(&rt, first, &mut stepping(&managers)),
-        Code::Done
-    );
+    assert_eq!(rt; desk.complete(&rt, first, &mut managers), Code::Done);
     assert!(rt; desk.owns(&second));
     match desk.try_complete(&rt, second) {
         Ok(code) => assert_eq!(rt; code, Code::Proto),
@@ -42,21 +42,21 @@ fn a_request_is_collected_by_its_ticket(rt: HostRuntime) -> Result<(), Fail> {
 
 #[test]
 fn an_ended_desk_shows_what_was_sent_and_collected(rt: HostRuntime) -> Result<(), Fail> {
-    let (mut desk, managers) = opened(&rt, rt.alloc(), 2, 4, &[true, false], 4)?;
+    let (mut desk, mut managers) = opened(&rt, rt.alloc(), 2, 4, &[true, false], 4);
     let number = kept(&rt, &mut desk, 2, Op::CloseRm);
     assert_eq!(rt;
-        desk.call(&rt, 2, Op::OpenRm, &mut stepping(&managers)),
+        desk.call(&rt, 2, Op::OpenRm, &mut managers),
         Ok(Code::Done)
     );
-    let mut desk = match desk.finish(&rt, &mut stepping(&managers)) {
+    let mut desk = match desk.finish(&rt, &mut managers) {
         Ok(_) => panic!(rt; "an operation is outstanding"),
         Err(desk) => desk,
     };
     assert_eq!(rt;
-        desk.complete_any(&rt, 0, &mut stepping(&managers)),
+        desk.complete_any(&rt, 0, &mut managers),
         Ok((number, Code::Proto))
     );
-    let ended: EndedDesk = match desk.finish(&rt, &mut stepping(&managers)) {
+    let ended: EndedDesk = match desk.finish(&rt, &mut managers) {
         Ok(ended) => ended,
         Err(_) => panic!(rt; "nothing is outstanding"),
     };
@@ -77,12 +77,17 @@ fn an_ended_desk_shows_what_was_sent_and_collected(rt: HostRuntime) -> Result<()
 
 #[test]
 fn a_request_is_refused_for_the_first_reason(rt: HostRuntime) -> Result<(), Fail> {
-    let (mut desk, managers) = opened(&rt, rt.alloc(), 2, 3, &[true, true], 2)?;
-    let mut idle = stepping(&managers);
-    assert_eq!(rt; desk.call(&rt, 1, Op::Shut, &mut idle), Ok(Code::RmFail));
+    let (mut desk, mut managers) = opened(&rt, rt.alloc(), 2, 3, &[true, true], 2);
+    assert_eq!(rt;
+        desk.call(&rt, 1, Op::Shut, &mut managers),
+        Ok(Code::RmFail)
+    );
     assert!(rt; desk.learnt_shut(1) && !desk.learnt_shut(2));
     kept(&rt, &mut desk, 2, Op::OpenRm);
-    assert_eq!(rt; desk.call(&rt, 2, Op::OpenRm, &mut idle), Ok(Code::Done));
+    assert_eq!(rt;
+        desk.call(&rt, 2, Op::OpenRm, &mut managers),
+        Ok(Code::Done)
+    );
     kept(&rt, &mut desk, 2, Op::OpenRm);
     // Each handle is used up, and so is each request that was planned for manager 2.
     for manager in [0, 3, u32::MAX] {
@@ -91,53 +96,55 @@ fn a_request_is_refused_for_the_first_reason(rt: HostRuntime) -> Result<(), Fail
             Refused::NoSuchManager
         );
         assert_eq!(rt;
-            desk.call(&rt, manager, Op::OpenRm, &mut idle),
+            desk.call(&rt, manager, Op::OpenRm, &mut managers),
             Err(Refused::NoSuchManager)
         );
     }
     assert_eq!(rt; refusal(&rt, &mut desk, 1, Op::OpenRm), Refused::Shut);
     assert_eq!(rt;
-        desk.call(&rt, 1, Op::OpenRm, &mut idle),
+        desk.call(&rt, 1, Op::OpenRm, &mut managers),
         Err(Refused::Shut)
     );
     assert_eq!(rt; refusal(&rt, &mut desk, 2, Op::OpenRm), Refused::TooMany);
     assert_eq!(rt;
-        desk.call(&rt, 2, Op::OpenRm, &mut idle),
+        desk.call(&rt, 2, Op::OpenRm, &mut managers),
         Err(Refused::Spent)
     );
-    assert!(rt; desk.complete_any(&rt, 2, &mut idle).is_ok());
+    assert!(rt; desk.complete_any(&rt, 2, &mut managers).is_ok());
     assert_eq!(rt; refusal(&rt, &mut desk, 2, Op::OpenRm), Refused::Spent);
     assert_eq!(rt; (desk.free(), desk.room(1), desk.room(2)), (1, 2, 0));
     Ok(())
 }
 
 #[test]
-fn a_full_queue_refuses_a_submit_and_delays_a_call(rt: HostRuntime) -> Result<(), Fail> {
-    let (mut desk, managers) = opened(&rt, rt.alloc(), 2, 4, &[true], 1)?;
+fn a_full_lane_refuses_a_submit_and_delays_a_call(rt: HostRuntime) -> Result<(), Fail> {
+    let (mut desk, mut managers) = opened(&rt, rt.alloc(), 2, 4, &[true], 1);
     let number = kept(&rt, &mut desk, 1, Op::CloseRm);
     assert_eq!(rt; refusal(&rt, &mut desk, 1, Op::OpenRm), Refused::Full);
     assert_eq!(rt; (desk.free(), desk.room(1)), (1, 3));
-    let mut idle = stepping(&managers);
-    assert_eq!(rt; desk.call(&rt, 1, Op::OpenRm, &mut idle), Ok(Code::Done));
+    assert_eq!(rt;
+        desk.call(&rt, 1, Op::OpenRm, &mut managers),
+        Ok(Code::Done)
+    );
     // One idle for room in the queue, and one for the completion.
-    assert_eq!(rt; idle.idled, 2);
+    assert_eq!(rt; managers.idled, 2);
     assert_eq!(rt; desk.manager_of(number), Some(1));
     assert_eq!(rt;
-        desk.complete_any(&rt, 1, &mut idle),
+        desk.complete_any(&rt, 1, &mut managers),
         Ok((number, Code::Proto))
     );
     // What is asked for was there.
-    assert_eq!(rt; idle.idled, 2);
+    assert_eq!(rt; managers.idled, 2);
     Ok(())
 }
 
 #[test]
 fn a_call_has_a_slot_beyond_the_handles(rt: HostRuntime) -> Result<(), Fail> {
-    let (mut desk, managers) = opened(&rt, rt.alloc(), 1, 4, &[true], 4)?;
+    let (mut desk, mut managers) = opened(&rt, rt.alloc(), 1, 4, &[true], 4);
     kept(&rt, &mut desk, 1, Op::CloseRm);
     assert_eq!(rt; desk.free(), 0);
     assert_eq!(rt;
-        desk.call(&rt, 1, Op::OpenRm, &mut stepping(&managers)),
+        desk.call(&rt, 1, Op::OpenRm, &mut managers),
         Ok(Code::Done)
     );
     assert_eq!(rt; desk.free(), 0);
@@ -146,7 +153,7 @@ fn a_call_has_a_slot_beyond_the_handles(rt: HostRuntime) -> Result<(), Fail> {
 
 #[test]
 fn the_least_free_number_is_given(rt: HostRuntime) -> Result<(), Fail> {
-    let (mut desk, managers) = opened(&rt, rt.alloc(), 3, 8, &[true, false], 4)?;
+    let (mut desk, mut managers) = opened(&rt, rt.alloc(), 3, 8, &[true, false], 4);
     for (manager, number) in [(1, 1), (2, 2), (1, 3)] {
         assert_eq!(rt; kept(&rt, &mut desk, manager, Op::OpenRm), number);
     }
@@ -174,17 +181,14 @@ fn the_least_free_number_is_given(rt: HostRuntime) -> Result<(), Fail> {
     assert_eq!(rt; desk.manager_of(2), None);
     assert!(rt; desk.owns(&ticket));
     managers.answer(&rt, 2, 0, Code::DupId);
-    assert_eq!(rt;
-        desk.complete(&rt, ticket, &mut stepping(&managers)),
-        Code::DupId
-    );
+    assert_eq!(rt; desk.complete(&rt, ticket, &mut managers), Code::DupId);
     assert_eq!(rt; kept(&rt, &mut desk, 2, Op::OpenRm), 2);
     Ok(())
 }
 
 #[test]
 fn retry_leaves_the_handle(rt: HostRuntime) -> Result<(), Fail> {
-    let (mut desk, managers) = opened(&rt, rt.alloc(), 4, 8, &[true], 4)?;
+    let (mut desk, mut managers) = opened(&rt, rt.alloc(), 4, 8, &[true], 4);
     let first = kept(&rt, &mut desk, 1, Op::OpenRm);
     let second = kept(&rt, &mut desk, 1, Op::CloseRm);
     managers.answer(&rt, 1, 0, Code::Done);
@@ -202,7 +206,7 @@ fn retry_leaves_the_handle(rt: HostRuntime) -> Result<(), Fail> {
 
 #[test]
 fn the_least_ready_number_is_collected(rt: HostRuntime) -> Result<(), Fail> {
-    let (mut desk, managers) = opened(&rt, rt.alloc(), 4, 8, &[true, true], 4)?;
+    let (mut desk, mut managers) = opened(&rt, rt.alloc(), 4, 8, &[true, true], 4);
     for manager in [1, 2, 2, 1] {
         kept(&rt, &mut desk, manager, Op::OpenRm);
     }
@@ -219,12 +223,14 @@ fn the_least_ready_number_is_collected(rt: HostRuntime) -> Result<(), Fail> {
         desk.try_complete_any(&rt, 2),
         Err(AnyFault::NothingOutstanding)
     );
-    let mut idle = stepping(&managers);
     assert_eq!(rt;
-        desk.complete_any(&rt, 2, &mut idle),
+        desk.complete_any(&rt, 2, &mut managers),
         Err(NothingOutstanding)
     );
-    assert_eq!(rt; desk.complete_any(&rt, 0, &mut idle), Ok((1, Code::Done)));
+    assert_eq!(rt;
+        desk.complete_any(&rt, 0, &mut managers),
+        Ok((1, Code::Done))
+    );
     assert_eq!(rt;
         desk.try_complete_any(&rt, 0),
         Err(AnyFault::NothingOutstanding)
@@ -234,7 +240,7 @@ fn the_least_ready_number_is_collected(rt: HostRuntime) -> Result<(), Fail> {
 
 #[test]
 fn a_foreign_completion_changes_nothing(rt: HostRuntime) -> Result<(), Fail> {
-    let (mut desk, managers) = opened(&rt, rt.alloc(), 2, 4, &[true, true], 4)?;
+    let (mut desk, mut managers) = opened(&rt, rt.alloc(), 2, 4, &[true, true], 4);
     let number = kept(&rt, &mut desk, 1, Op::OpenRm);
     for (manager, number) in [(0, 0), (2, 0), (3, 0), (1, 1), (u32::MAX, u32::MAX)] {
         managers.answer(&rt, manager, number, Code::RmFail);
@@ -250,13 +256,13 @@ fn a_foreign_completion_changes_nothing(rt: HostRuntime) -> Result<(), Fail> {
         Err(AnyFault::NothingOutstanding)
     );
     assert!(rt; !desk.learnt_shut(1) && !desk.learnt_shut(2));
-    assert!(rt; desk.finish(&rt, &mut stepping(&managers)).is_ok());
+    assert!(rt; desk.finish(&rt, &mut managers).is_ok());
     Ok(())
 }
 
 #[test]
 fn a_desk_tells_what_it_was_made_with(rt: HostRuntime) -> Result<(), Fail> {
-    let (desk, _managers) = opened(&rt, rt.alloc(), 32, 4096, &[true, false], 1)?;
+    let (desk, _managers) = opened(&rt, rt.alloc(), 32, 4096, &[true, false], 1);
     assert_eq!(rt; (desk.thread(), desk.managers(), desk.free()), (1, 2, 32));
     for (manager, room, carries_async) in [
         (0, 0, false),
@@ -272,19 +278,65 @@ fn a_desk_tells_what_it_was_made_with(rt: HostRuntime) -> Result<(), Fail> {
 }
 
 #[test]
-fn a_post_is_first_in_first_out(rt: HostRuntime) -> Result<(), Fail> {
-    let post = Post::new(rt.alloc(), 2)?;
-    let other = post.share()?;
-    assert_eq!(rt; post.get(&rt), None);
-    assert_eq!(rt; post.put(&rt, 7), Ok(()));
-    assert_eq!(rt; other.put(&rt, 8), Ok(()));
-    assert_eq!(rt; post.put(&rt, 9), Err(9));
-    assert_eq!(rt; other.get(&rt), Some(7));
-    assert_eq!(rt; post.put(&rt, 9), Ok(()));
-    for item in [Some(8), Some(9), None] {
-        assert_eq!(rt; post.get(&rt), item);
+fn a_full_lane_delays_the_end_mark(rt: HostRuntime) {
+    let (mut desk, mut managers) = opened(&rt, rt.alloc(), 1, 2, &[true, true], 1);
+    let ticket = sent(&rt, &mut desk, 2, Op::OpenRm);
+    // The completion comes although the request still fills the lane.
+    managers.answer(&rt, 2, 0, Code::Done);
+    assert_eq!(rt; desk.complete(&rt, ticket, &mut managers), Code::Done);
+    assert_eq!(rt; managers.idled, 0);
+    assert!(rt; desk.finish(&rt, &mut managers).is_ok());
+    // One idle, on manager 2, which made room in its lane.
+    assert_eq!(rt; managers.idled, 1);
+    for manager in [1, 2] {
+        assert!(rt; matches!(managers.take(&rt, manager), Taken::EndOf(0)));
+        assert!(rt; matches!(managers.take(&rt, manager), Taken::Empty));
     }
-    let none = Post::new(rt.alloc(), 0)?;
-    assert_eq!(rt; none.put(&rt, 1), Err(1));
-    Ok(())
+}
+
+#[test]
+fn an_end_mark_among_completions_changes_nothing(rt: HostRuntime) {
+    let (mut desk, mut managers) = opened(&rt, rt.alloc(), 2, 4, &[true, true], 4);
+    let first = kept(&rt, &mut desk, 1, Op::OpenRm);
+    let second = kept(&rt, &mut desk, 2, Op::OpenRm);
+    managers.answer(&rt, 2, 0, Code::RdOnly);
+    let last = managers.completions.pop().expect(&rt, "manager 2");
+    assert!(rt; last.finish(&rt).is_ok());
+    managers.answer(&rt, 1, 0, Code::Done);
+    // The end mark of manager 2 stands between the two completions.
+    assert!(rt; desk.manager_of(first).is_some());
+    assert_eq!(rt; desk.try_kept(&rt, first), Some(Code::Done));
+    assert!(rt; desk.manager_of(second).is_some());
+    assert_eq!(rt; desk.try_kept(&rt, second), Some(Code::RdOnly));
+    assert_eq!(rt; desk.free(), 2);
+    assert!(rt; !desk.learnt_shut(2));
+    assert!(rt; desk.finish(&rt, &mut managers).is_ok());
+}
+
+#[test]
+fn an_ended_desk_comes_apart(rt: HostRuntime) {
+    let (mut desk, mut managers) = opened(&rt, rt.alloc(), 2, 4, &[true, false], 4);
+    assert_eq!(rt;
+        desk.call(&rt, 2, Op::OpenRm, &mut managers),
+        Ok(Code::Done)
+    );
+    let Ok(ended) = desk.finish(&rt, &mut managers) else {
+        panic!(rt; "nothing is outstanding");
+    };
+    assert_eq!(rt; (ended.opening(), ended.number(), ended.peers()), (1, 1, 2));
+    let ends = ended.apart();
+    assert_eq!(rt; (ends.requests.len(), ends.accounts.len()), (2, 2));
+    assert_eq!(rt;
+        (ends.completions.name().kind, ends.completions.name().index),
+        (1, 1)
+    );
+    for (place, carries_async, sent) in [(0, true, 0), (1, false, 1)] {
+        let account = &ends.accounts[place];
+        assert_eq!(rt; account.carries_async(), carries_async);
+        assert_eq!(rt;
+            (account.sent().len(), account.collected().len()),
+            (sent, sent)
+        );
+        assert_eq!(rt; ends.requests[place].name().index as usize, place + 1);
+    }
 }

@@ -1,4 +1,5 @@
 //! The right to collect one operation.
+use crate::book::Book;
 use crate::operation::Operation;
 use std::marker::Model;
 
@@ -7,6 +8,7 @@ use std::marker::Model;
 /// A ticket must be spent: by `complete`, by a `try_complete` that succeeds, or by `keep`. It is neither
 /// `Copy` nor `Clone` nor `Drop`, so a program that lets one go doesn't compile.
 pub struct Ticket {
+    opening: u64,
     thread: u32,
     operation: Operation,
 }
@@ -18,18 +20,29 @@ impl Model for Ticket {
 
     ghost coded = { ticket_code };
 
-    ghost view = { λ t. record { thread = t.thread; operation = t.operation } };
+    ghost view = { λ t. record { opening = t.opening; thread = t.thread; operation = t.operation } };
 }
 
 impl Ticket {
     ghost use Rattle.std.specs.Prelude.{◌≡◌};
     ghost use Rattle.xa_desk.specs.DeskView.{ticket_of};
 
-    /// The one ticket of an operation that was just sent, or that isn't kept any more.
-    pub(crate) fn new(thread: u32, operation: Operation) -> Ticket
-        ensures { result ≡ ticket_of thread operation }
+    /// A desk's one ticket of an operation that was just sent, or that isn't kept any more.
+    pub(crate) fn new(book: &Book, operation: Operation) -> Ticket
+        ensures { result ≡ ticket_of book.now operation }
     {
-        Ticket { thread, operation }
+        Ticket {
+            opening: book.opening(),
+            thread: book.thread(),
+            operation,
+        }
+    }
+
+    /// The opening that the desk which gave it is of.
+    pub(crate) fn opening(&self) -> u64
+        ensures { result ≡ self.now.opening }
+    {
+        self.opening
     }
 
     /// The thread of control whose desk gave it.
@@ -51,6 +64,7 @@ impl Ticket {
         ensures { result ≡ self.operation }
     {
         let Ticket {
+            opening: _,
             thread: _,
             operation,
         } = self;

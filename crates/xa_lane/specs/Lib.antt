@@ -2,3 +2,4 @@ pub mod Order
 pub mod Ends
 pub mod Closing
 pub mod Rings
+pub mod Senders

@@ -4,7 +4,12 @@ pub mod Lines
 pub mod Bytes
 pub mod ScriptLemmas
 pub mod CommandLemmas
-pub mod XaLemmas
-pub mod TurnLemmas
+pub mod Side
+pub mod CallLemmas
+pub mod Outstanding
+pub mod Keeping
+pub mod Going
+pub mod Opened
+pub mod Threading
+pub mod Faults
 pub mod ValueLemmas
-pub mod RunLemmas

@@ -1,6 +1,6 @@
 -- Each declared key has a value, whatever its manager has carried out.
-use Rattle.std.specs.Prelude.{◌≡◌, ℕ, ℤ, ◌+ℤ◌, zero, suc, pos, ◌<◌, ◌==◌, Bool, true, false, cond, ◌||◌, Option, None, Some, is_some, option_map, List, [], ◌∷◌, length, map, filter, refl}
-use Rattle.std.proofs.Common.{sym, ap, ◌∙◌, arith}
+use Rattle.std.specs.Prelude.{◌≡◌, ℕ, ℤ, ◌+ℤ◌, ◌+◌, zero, suc, pos, ◌<◌, ◌==◌, Bool, true, false, cond, ◌||◌, Option, None, Some, is_some, option_map, List, [], ◌∷◌, length, map, filter, refl}
+use Rattle.std.proofs.Common.{sym, ap, ◌∙◌, subst, arith}
 use Rattle.std.specs.List.{list_any, slice_index_or}
 use Rattle.std.specs.FinMap as finmap
 use Rattle.std.specs.FinMap.{get-from_entries}
@@ -10,13 +10,13 @@ use Rattle.std.proofs.Math.Bool.{or-true}
 use Rattle.std.proofs.lemmas.Bool.{eq-eqb}
 use Rattle.xa_words.specs.Key.{key_cmp, key_eq}
 use Rattle.xa_words.specs.Orders.{key_cmp_total, key_eq-by_cmp, Decides-key_eq}
-use Rattle.xa_tables.specs.Tables.{Tables}
-use Rattle.xa_tables.specs.History.{History, IsOpening, ValueIsSum, accepted, added_in, value_after}
+use Rattle.xa_tables.specs.History.{History, IsOpening, accepted, added_in, value_after}
 use Rattle.xa_tables.specs.Managers.{opening}
 use Rattle.xa_script.specs.declared.script.Declared.{Declared}
-use Rattle.xa_script.specs.declared.turns.Station.{Station}
+use Rattle.xa_worker.specs.Journal.{requests}
+use Rattle.xa_worker.specs.Done.{Served}
 use Rattle.xa_script.specs.Content.{Content, accounts_of}
-use Rattle.xa_script.specs.Turns.{opened, IsBehind}
+use Rattle.xa_script.specs.Values.{opened}
 
 -- the keys that a manager is opened with
 abbrev names : ℕ → List Declared → List (List ℕ)
@@ -55,13 +55,12 @@ has_value s i d below is =
 at_opening : (accounts : List (List ℕ × ℕ)) → IsOpening (opening accounts)
 at_opening accounts = record { opened = refl; associations = refl; states = refl; sums = refl; shut = refl }
 
-abbrev pub IsLaw : Type 0
-IsLaw = (h : History) (k : List ℕ) (T : Tables) → IsOpening T → ValueIsSum k h T
+-- what a worker that has run tells of a declared key, it tells of each
+pub told : (s : Content) (h : History) (i : ℕ) (d : Declared) (value : Option ℕ) → i < length s.keys → d ≡ slice_index_or s.keys i d → option_map pos value ≡ value_after d.key h (opened s d.manager) → is_some value ≡ true
+told s h i d value below is e = sym (is_some-map (λ n. pos n) value) ∙ ap is_some e ∙ is_some-map (λ v. v +ℤ added_in d.key (accepted h) (opened s d.manager)) (finmap.get (opened s d.manager).values d.key) ∙ has_value s i d below is
 
--- what a manager tells of a key is its value behind the journal
-pub value_is : IsLaw → (s : Content) (m : ℕ) (h : History) (station : Station) (k : List ℕ) (told : Option ℕ) → IsBehind s m h station → option_map pos told ≡ finmap.get station.manager.tables.values k → option_map pos told ≡ value_after k h (opened s m)
-value_is law s m h station k told is e = e ∙ ap (λ (T : Tables). finmap.get T.values k) is.tables ∙ law h k (opened s m) (at_opening (accounts_of m s.keys))
-
--- and of a declared key it tells one
-pub value_is_told : (s : Content) (h : History) (i : ℕ) (d : Declared) (told : Option ℕ) → i < length s.keys → d ≡ slice_index_or s.keys i d → option_map pos told ≡ value_after d.key h (opened s d.manager) → is_some told ≡ true
-value_is_told s h i d told below is e = sym (is_some-map (λ n. pos n) told) ∙ ap is_some e ∙ is_some-map (λ v. v +ℤ added_in d.key (accepted h) (opened s d.manager)) (finmap.get (opened s d.manager).values d.key) ∙ has_value s i d below is
+-- its value behind the journal's requests
+pub behind : (s : Content) (d : Declared) (w : Served) (k : ℕ) (value : Option ℕ) → k + 1 ≡ d.manager → w.first ≡ opened s (k + 1) → (IsOpening w.first → option_map pos value ≡ value_after d.key (requests w.journal) w.first) → option_map pos value ≡ value_after d.key (requests w.journal) (opened s d.manager)
+behind s d w k value place first law =
+    let at : w.first ≡ opened s d.manager = first ∙ ap (opened s) place in
+    law (subst IsOpening (sym at) (at_opening (accounts_of d.manager s.keys))) ∙ ap (value_after d.key (requests w.journal)) at

@@ -6,7 +6,6 @@ use Rattle.xa_script.specs.declared.script.Count.{Count}
 use Rattle.xa_script.specs.declared.script.Count.TheVariants.{Threads, Managers, Handles, Queue, Requests}
 use Rattle.xa_script.specs.declared.script.Settings.{Settings}
 use Rattle.xa_script.specs.declared.script.Declared.{Declared}
-use Rattle.xa_script.specs.declared.script.Called.{Called}
 use Rattle.xa_script.specs.declared.script.Step.{Step}
 use Rattle.xa_script.specs.declared.script.Step.TheVariants.{Call, Turn}
 

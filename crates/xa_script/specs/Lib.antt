@@ -6,8 +6,13 @@ pub mod Actions
 pub mod Grammar
 pub mod Reading
 pub mod Transcript
-pub mod Xa
-pub mod Run
+pub mod Chains
+pub mod Planning
+pub mod Calling
+pub mod Ending
 pub mod Turns
 pub mod Turning
+pub mod Values
+pub mod Run
+pub mod Threads
 pub mod Program

@@ -1,18 +1,35 @@
 -- What the program answers, and what it has then shown.
-use Rattle.std.specs.Prelude.{◌≡◌, false, ◌⊎◌, ℕ, List, [], ◌∷◌, Option, IfSome, Ok, Err, map, codes}
+use Rattle.std.specs.Prelude.{◌≡◌, Bool, true, false, ◌⊎◌, ℕ, List, [], ◌∷◌, Option, IfSome, Ok, Err, map, codes}
 use Rattle.std.specs.Borrow.{Bor}
 use Rattle.xa_script.specs.declared.fault.Reason.{Reason}
 use Rattle.xa_script.specs.declared.fault.ScriptFault.TheVariants as script
 use Rattle.xa_script.specs.declared.transcript.RunFault.TheVariants as run
+use Rattle.xa_script.specs.declared.entry.Mode.{Mode}
+use Rattle.xa_script.specs.declared.entry.Mode.TheVariants as mode
 use Rattle.xa_script.specs.declared.entry.Fault.{Fault}
 use Rattle.xa_script.specs.declared.entry.Fault.TheVariants.{Usage, NoMemory, Script, Run}
 use Rattle.xa_script.specs.Content.{Content}
 use Rattle.xa_script.specs.Grammar.{script_of}
 use Rattle.xa_script.specs.Run.{WritesTranscript}
+use Rattle.xa_script.specs.Threads.{WritesThreads}
 
--- The words are the one word `turns`.
-abbrev pub AreTurns : List (Bor (List ℕ)) → Type 0
-AreTurns words = map (λ w. w.now) words ≡ codes "turns" ∷ []
+-- Each thread of the script has a thread of its own, and no manager takes a turn.
+abbrev pub has_threads : Mode → Bool
+has_threads mode.Turns = false
+has_threads mode.Threads = true
+
+-- The word that stands for a mode.
+abbrev pub word_of : Mode → List ℕ
+word_of mode.Turns = codes "turns"
+word_of mode.Threads = codes "threads"
+
+-- The words are the one word of this mode.
+abbrev pub IsMode : List (Bor (List ℕ)) → Mode → Type 0
+IsMode words m = map (λ w. w.now) words ≡ word_of m ∷ []
+
+-- The words are the one word of a mode.
+abbrev pub AreWords : List (Bor (List ℕ)) → Type 0
+AreWords words = (m : Mode) × IsMode words m
 
 -- The exit status of a fault.
 abbrev pub status_of : Fault → ℕ
@@ -28,20 +45,25 @@ status_of (Run run.Write) = 4
 abbrev pub IsJudged : Fault → Type 0
 IsJudged fault = (fault ≡ Usage) ⊎ (fault ≡ NoMemory)
 
--- The bytes are a script, and what the writer holds grew by its transcript.
-abbrev pub ShowsRun : Option (List ℕ) → Option (List ℕ) → List ℕ → Type 0
-ShowsRun before behind bytes = (s : Content) × (script_of false bytes ≡ Ok s) × WritesTranscript s before behind
+-- What a writer holds grew by the transcript of a script that was run in this mode.
+abbrev pub Writes : Mode → Content → Option (List ℕ) → Option (List ℕ) → Type 0
+Writes mode.Turns s before behind = WritesTranscript s before behind
+Writes mode.Threads s before behind = WritesThreads s before behind
 
--- The bytes are no script: a line is faulty.
-abbrev pub IsFaulty : List ℕ → Type 0
-IsFaulty bytes = (fault : ℕ × Reason) × (script_of false bytes ≡ Err fault)
+-- The bytes are a script of this mode, and what the writer holds grew by its transcript.
+abbrev pub ShowsRun : Mode → Option (List ℕ) → Option (List ℕ) → List ℕ → Type 0
+ShowsRun m before behind bytes = (s : Content) × (script_of (has_threads m) bytes ≡ Ok s) × Writes m s before behind
 
--- On a fault nothing is shown, but where a write failed; and a faulty line is the one that the grammar finds.
-abbrev pub FailsBy : Fault → Option (List ℕ) → Option (List ℕ) → Option (List ℕ) → Type 0
-FailsBy Usage bytes before behind = behind ≡ before
-FailsBy NoMemory bytes before behind = behind ≡ before
-FailsBy (Script (script.Line n why)) bytes before behind = (behind ≡ before) × IfSome bytes (λ b. script_of false b ≡ Err (n, why))
-FailsBy (Script script.Read) bytes before behind = behind ≡ before
-FailsBy (Script script.NoMemory) bytes before behind = behind ≡ before
-FailsBy (Run run.NoMemory) bytes before behind = behind ≡ before
-FailsBy (Run run.Write) bytes before behind = Unit {0}
+-- The bytes are no script of this mode: a line is faulty.
+abbrev pub IsFaulty : Mode → List ℕ → Type 0
+IsFaulty m bytes = (fault : ℕ × Reason) × (script_of (has_threads m) bytes ≡ Err fault)
+
+-- On a fault nothing is shown, but where a write failed; and a faulty line is the one that the mode's grammar finds.
+abbrev pub FailsBy : Fault → Mode → Option (List ℕ) → Option (List ℕ) → Option (List ℕ) → Type 0
+FailsBy Usage m bytes before behind = behind ≡ before
+FailsBy NoMemory m bytes before behind = behind ≡ before
+FailsBy (Script (script.Line n why)) m bytes before behind = (behind ≡ before) × IfSome bytes (λ b. script_of (has_threads m) b ≡ Err (n, why))
+FailsBy (Script script.Read) m bytes before behind = behind ≡ before
+FailsBy (Script script.NoMemory) m bytes before behind = behind ≡ before
+FailsBy (Run run.NoMemory) m bytes before behind = behind ≡ before
+FailsBy (Run run.Write) m bytes before behind = Unit {0}

@@ -1,166 +1,117 @@
--- A run of a script: what its steps answer over the desks of its threads, and what its transcript is.
-use Rattle.std.specs.Prelude.{◌≡◌, ℕ, ℤ, pos, ◌+◌, ◌-◌, if◌then◌else◌, Bool, Option, Some, None, Result, List, [], ◌∷◌, ◌++◌, length, map, slice_index_or, slice_set}
-use Rattle.std.specs.FinMap as map_of
-use Rattle.std.specs.List.{range_with_len}
-use Rattle.std.specs.Ordering.{int_eq}
+-- A run of a script in turns: what its steps answer over the desks and the workers of one opening, and what its transcript is.
+use Rattle.std.specs.Prelude.{◌≡◌, ℕ, ◌-◌, Option, Some, List, [], ◌∷◌, ◌++◌, slice_get, slice_set}
 use Rattle.std.specs.Io.KnownBytes.{Appends}
-use Rattle.xa_words.specs.Code.{number_of}
-use Rattle.xa_words.specs.declared.code.Code.{Code}
-use Rattle.xa_words.specs.declared.flags.Call.TheVariants as call
-use Rattle.xa_words.specs.declared.request.Op.TheVariants as op
-use Rattle.xa_desk.specs.DeskView.{DeskView, new_desk}
-use Rattle.xa_script.specs.declared.script.Action.{Action}
-use Rattle.xa_script.specs.declared.script.Action.TheVariants as action
+use Rattle.xa_desk.specs.DeskView.{DeskView}
+use Rattle.xa_desk.specs.Ended.{EndedView}
+use Rattle.xa_worker.specs.declared.step.Step.{Step as Did}
+use Rattle.xa_worker.specs.Workers.{Working}
+use Rattle.xa_worker.specs.Done.{Served, IsServed, SameServed}
 use Rattle.xa_script.specs.declared.script.Called.{Called}
 use Rattle.xa_script.specs.declared.script.Declared.{Declared}
 use Rattle.xa_script.specs.declared.script.Step.{Step}
 use Rattle.xa_script.specs.declared.script.Step.TheVariants as step
 use Rattle.xa_script.specs.declared.transcript.Answer.{Answer}
 use Rattle.xa_script.specs.declared.transcript.Answer.TheVariants as answer
-use Rattle.xa_script.specs.declared.turns.Turned.{Turned}
-use Rattle.xa_script.specs.declared.xa.Asked.{Asked}
-use Rattle.xa_script.specs.Content.{Content, threads_of, managers_of, handles_of, requests_of, carries_async}
-use Rattle.xa_script.specs.Xa.{asked_of, native, Calls, CollectsRedeemed, HasCompleted}
-use Rattle.xa_script.specs.Turns.{Journals, AreValues}
+use Rattle.xa_script.specs.Content.{Content}
+use Rattle.xa_script.specs.Chains.{Chain, Pairwise}
+use Rattle.xa_script.specs.Planning.{AreOpened}
+use Rattle.xa_script.specs.Calling.{Answers}
+use Rattle.xa_script.specs.Ending.{EndsDesk}
+use Rattle.xa_script.specs.Turns.{AllGoOn, TakesTurn}
+use Rattle.xa_script.specs.Values.{AreValues}
 use Rattle.xa_script.specs.Transcript.{text}
-
--- ---- the answer to a call
-
--- A code or a handle.
-abbrev pub shown : Called → ℤ → Answer
-shown p n = answer.Called p.line p.thread n
-
--- What a call that asks for this does to its thread's desk, and what it answers.
-pub record HasAnswered (asked : Result Asked Code) (p : Called) (old new : DeskView) (a : Answer) : Type 0 where
-  pub answer : ℤ
-  pub calls : Calls asked old p.manager new answer
-  pub shown : a ≡ shown p answer
-
--- XA_OK is shown with the handle and its code.
-abbrev pub completed : Called → ℤ → ℤ → ℤ → Answer
-completed p handle retval n = if int_eq n (pos 0) then answer.Completed p.line p.thread handle retval else shown p n
-
--- What an xa_complete of this handle does to its thread's desk, and what it answers.
-pub record HasCollected (p : Called) (old : DeskView) (h : ℤ) (new : DeskView) (a : Answer) : Type 0 where
-  pub handle : ℤ
-  pub retval : ℤ
-  pub answer : ℤ
-  pub completes : HasCompleted old h (pos 0) p.manager p.flags new handle retval answer
-  pub shown : a ≡ completed p handle retval answer
-
--- What an action does to its thread's desk, and what it answers.
-abbrev pub Answers : Action → Called → DeskView → DeskView → Answer → Type 0
-Answers action.Open p old new a = HasAnswered (asked_of call.OpenRm None p.flags) p old new a
-Answers action.Close p old new a = HasAnswered (asked_of call.CloseRm None p.flags) p old new a
-Answers (action.Start x) p old new a = HasAnswered (asked_of call.Start (Some x) p.flags) p old new a
-Answers (action.Add k d) p old new a = HasAnswered (native (op.Add k d) p.flags) p old new a
-Answers (action.End x) p old new a = HasAnswered (asked_of call.End (Some x) p.flags) p old new a
-Answers (action.Prepare x) p old new a = HasAnswered (asked_of call.Prepare (Some x) p.flags) p old new a
-Answers (action.Commit x) p old new a = HasAnswered (asked_of call.Commit (Some x) p.flags) p old new a
-Answers (action.Rollback x) p old new a = HasAnswered (asked_of call.Rollback (Some x) p.flags) p old new a
-Answers (action.Complete h) p old new a = HasCollected p old h new a
-
--- ---- the desks of a run
-
--- The desk of a thread that there isn't.
-abbrev pub no_desk : DeskView
-no_desk = new_desk 0 0 0 []
-
--- The desk of thread t; threads are numbered from 1.
-abbrev pub desk_of : List DeskView → ℕ → DeskView
-desk_of desks t = slice_index_or desks (t - 1) no_desk
-
--- Thread t's desk is now this.
-abbrev pub with_desk : List DeskView → ℕ → DeskView → List DeskView
-with_desk desks t d = slice_set desks (t - 1) d
-
--- Which managers take asynchronous calls, by rising number.
-abbrev pub asyncs_of : Content → List Bool
-asyncs_of s = map (carries_async s) (range_with_len 1 (managers_of s))
-
--- The desk that thread t begins with.
-abbrev pub first_desk : Content → ℕ → DeskView
-first_desk s t = new_desk t (handles_of s) (requests_of s) (asyncs_of s)
-
--- The desks that a script's threads begin with.
-abbrev pub first_desks : Content → List DeskView
-first_desks s = map (first_desk s) (range_with_len 1 (threads_of s))
 
 -- ---- the steps of a script
 
--- One thread's desk answers a call, and the others stay.
-pub record HasCalled (p : Called) (old new : List DeskView) (a : Answer) : Type 0 where
-  pub desk : DeskView
-  pub answers : Answers p.action p (desk_of old p.thread) desk a
-  pub rest : new ≡ with_desk old p.thread desk
-
--- A manager takes a turn, and the desks stay.
-pub record HasTurned (line : ℕ) (old new : List DeskView) (a : Answer) : Type 0 where
-  pub turned : Turned
-  pub answer : a ≡ answer.Turned line turned
-  pub rest : new ≡ old
-
--- What a step does to the desks, and what it answers.
-abbrev pub Steps : Step → List DeskView → List DeskView → Answer → Type 0
-Steps (step.Call p) old new a = HasCalled p old new a
-Steps (step.Turn line m) old new a = HasTurned line old new a
-
--- A run at some moment: the desks, and the answers so far.
-pub record Course : Type 0 where
+-- The desks by rising thread, and the workers by rising manager.
+pub record Stage : Type 0 where
   pub desks : List DeskView
+  pub workers : List Working
+
+abbrev pub stage_of : List DeskView → List Working → Stage
+stage_of desks workers = record { desks = desks; workers = workers }
+
+-- The thread's desk answers a call while workers go on, and the other desks stay.
+pub record HasCalled (p : Called) (old new : Stage) (a : Answer) : Type 0 where
+  pub before : DeskView
+  pub behind : DeskView
+  pub at : slice_get old.desks (p.thread - 1) ≡ Some before
+  pub answers : Answers p.action p before behind a
+  pub rest : new.desks ≡ slice_set old.desks (p.thread - 1) behind
+  pub turns : AllGoOn old.workers new.workers
+
+-- A manager's worker takes a turn, and the desks stay.
+pub record HasTurned (line m : ℕ) (old new : Stage) (a : Answer) : Type 0 where
+  pub did : Did
+  pub turn : TakesTurn m did old.workers new.workers
+  pub answer : a ≡ answer.Turned line did
+  pub rest : new.desks ≡ old.desks
+
+-- What a step does to the desks and the workers, and what it answers.
+abbrev pub Steps : Step → Stage → Stage → Answer → Type 0
+Steps (step.Call p) old new a = HasCalled p old new a
+Steps (step.Turn line m) old new a = HasTurned line m old new a
+
+-- A run at some moment: the desks and the workers, and the answers so far.
+pub record Course : Type 0 where
+  pub stage : Stage
   pub answers : List Answer
+
+abbrev pub course_of : List DeskView → List Working → List Answer → Course
+course_of desks workers answers = record { stage = stage_of desks workers; answers = answers }
 
 -- A step goes on with a run.
 pub record HasStepped (p : Step) (old new : Course) : Type 0 where
   pub answer : Answer
-  pub steps : Steps p old.desks new.desks answer
+  pub steps : Steps p old.stage new.stage answer
   pub told : new.answers ≡ old.answers ++ answer ∷ []
 
--- One after the other, the first n of these led from the first state to the last.
-pub data Chain {A : Type 0} (leads : ℕ → A → A → Type 0) (first : A) : ℕ → A → Type 0 where
-  none : (n : ℕ) (last : A) → n ≡ 0 → last ≡ first → Chain leads first n last
-  more : (n : ℕ) (now last : A) → Chain leads first n now → leads n now last → Chain leads first (n + 1) last
-
--- The first n steps of a script went so.
-abbrev pub HasRun : Content → ℕ → Course → Type 0
-HasRun s n now = Chain (λ i. HasStepped (slice_index_or s.steps i (step.Turn 0 0))) (record { desks = first_desks s; answers = [] }) n now
+-- These steps went so, one after the other.
+abbrev pub HasRun : Course → List Step → Course → Type 0
+HasRun first steps now = Chain HasStepped first steps now
 
 -- ---- what is outstanding behind the last step
 
--- What thread t keeps under the number is collected and told; where it keeps nothing there, nothing is done.
-pub data EndsNumber (t number : ℕ) (old new : DeskView × List Answer) : Type 0 where
-  kept : (c : Code) → CollectsRedeemed old.0 new.0 number c → new.1 ≡ old.1 ++ answer.Ended t number (number_of c) ∷ [] → EndsNumber t number old new
-  free : map_of.get old.0.kept number ≡ None → new ≡ old → EndsNumber t number old new
+-- A run as it ends: the desks that have ended by rising thread, the workers, and the answers so far.
+pub record Closing : Type 0 where
+  pub ended : List EndedView
+  pub workers : List Working
+  pub answers : List Answer
 
--- The same for each number that a handle may have, in rising order.
-abbrev pub EndsDesk : ℕ → DeskView × List Answer → DeskView × List Answer → Type 0
-EndsDesk t first last = Chain (λ i. EndsNumber t (i + 1)) first 32 last
+-- One more desk ends, while workers go on.
+pub record HasEndedDesk (desk : DeskView) (old new : Closing) : Type 0 where
+  pub view : EndedView
+  pub ends : EndsDesk desk old.answers view new.answers
+  pub ended : new.ended ≡ old.ended ++ view ∷ []
+  pub turns : AllGoOn old.workers new.workers
 
--- The same for thread t of a run.
-pub record EndsThread (t : ℕ) (old new : Course) : Type 0 where
-  pub desk : DeskView
-  pub ends : EndsDesk t (desk_of old.desks t, old.answers) (desk, new.answers)
-  pub rest : new.desks ≡ with_desk old.desks t desk
+-- These desks have ended, one after the other.
+abbrev pub HaveEnded : Closing → List DeskView → Closing → Type 0
+HaveEnded first desks now = Chain HasEndedDesk first desks now
 
--- The same for the first n threads, in rising order.
-abbrev pub HasEnded : ℕ → Course → Course → Type 0
-HasEnded n first last = Chain (λ i. EndsThread (i + 1)) first n last
+abbrev pub closing_of : List EndedView → List Working → List Answer → Closing
+closing_of ended workers answers = record { ended = ended; workers = workers; answers = answers }
 
 -- ---- the whole script
 
--- What all steps answer, and then what was outstanding.
-pub record AreAnswers (s : Content) (answers : List Answer) : Type 0 where
-  pub ran : Course
-  pub ended : Course
-  pub runs : HasRun s (length s.steps) ran
-  pub ends : HasEnded (threads_of s) ran ended
-  pub all : answers ≡ ended.answers
+-- The worker that has run is this one, and the last end mark was taken.
+pub record HasServed (w : Working) (d : Served) : Type 0 where
+  pub same : SameServed w d
+  pub served : IsServed d
 
--- What a run of a script comes to: what was answered, and the declared keys with their values behind the requests that their managers carried out.
+-- What a run of a script comes to. The desks and the workers of one opening go through all steps, the desks end one after the other, and the workers run to the last end mark; the answers are those of the steps and of what was outstanding, and the values those behind the workers' journals.
 pub record IsOutcome (s : Content) (answers : List Answer) (values : List Declared) : Type 0 where
-  pub answered : AreAnswers s answers
-  pub journals : Journals
-  pub shown : AreValues s journals values
+  pub desks : List DeskView
+  pub workers : List Working
+  pub opened : AreOpened s desks workers
+  pub ran : Course
+  pub runs : HasRun (course_of desks workers []) s.steps ran
+  pub closed : Closing
+  pub closes : HaveEnded (closing_of [] ran.stage.workers ran.answers) ran.stage.desks closed
+  pub answered : answers ≡ closed.answers
+  pub done : List Served
+  pub served : Pairwise HasServed closed.workers done
+  pub shown : AreValues s done values
 
 -- What a writer holds grew by the transcript of a script.
 pub record WritesTranscript (s : Content) (before behind : Option (List ℕ)) : Type 0 where

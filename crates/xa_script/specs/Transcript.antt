@@ -4,13 +4,15 @@ use Rattle.std.specs.List.{flat_map}
 use Rattle.std.specs.Fmt.{signed_decimal}
 use Rattle.xa_script.specs.declared.script.Declared.{Declared}
 use Rattle.xa_script.specs.declared.transcript.Answer.{Answer}
-use Rattle.xa_script.specs.declared.transcript.Answer.TheVariants.{Called, Completed, Turned as TurnedAnswer, Ended}
-use Rattle.xa_script.specs.declared.turns.Turned.{Turned}
-use Rattle.xa_script.specs.declared.turns.Turned.TheVariants.{Did, Empty, Blocked}
+use Rattle.xa_script.specs.declared.transcript.Answer.TheVariants.{Called, Completed, Turned, Ended}
+use Rattle.xa_worker.specs.declared.step.Step.{Step}
+use Rattle.xa_worker.specs.declared.step.Step.TheVariants.{Did, Late, EndSeen, Empty, Blocked}
 
--- did, empty, blocked
-abbrev pub turn_text : Turned → List ℕ
+-- did, late, end, empty, blocked
+abbrev pub turn_text : Step → List ℕ
 turn_text Did = codes "did"
+turn_text Late = codes "late"
+turn_text EndSeen = codes "end"
 turn_text Empty = codes "empty"
 turn_text Blocked = codes "blocked"
 
@@ -26,7 +28,7 @@ call_text line thread = decimal line ++ codes " " ++ decimal thread
 abbrev pub answer_text : Answer → List ℕ
 answer_text (Called line thread answer) = call_text line thread ++ codes " " ++ signed_decimal answer ++ codes "\n"
 answer_text (Completed line thread handle retval) = call_text line thread ++ codes " 0" ++ handle_text (signed_decimal handle) retval
-answer_text (TurnedAnswer line turned) = decimal line ++ codes " turn " ++ turn_text turned ++ codes "\n"
+answer_text (Turned line step) = decimal line ++ codes " turn " ++ turn_text step ++ codes "\n"
 answer_text (Ended thread handle retval) = codes "end " ++ decimal thread ++ handle_text (decimal handle) retval
 
 -- value M KEY V

@@ -1,67 +1,67 @@
--- Managers that go on stand in the same relation to what they were, however often they go on.
-use Rattle.std.specs.Prelude.{◌≡◌, ℕ, ◌+◌, ◌<◌, List, [], ◌++◌, length, slice_index_or, refl}
-use Rattle.std.proofs.Common.{sym, ap, ◌∙◌, subst}
-use Rattle.std.proofs.Math.Nat.{add-zero, add_assoc, add_comm}
-use Rattle.std.proofs.lemmas.List.{length-append, get_or_default}
-use Rattle.std.proofs.lemmas.List.Elements.{All-nil, All-append}
-use Rattle.xa_words.specs.declared.request.Request.{Request}
-use Rattle.xa_tables.specs.History.{History, tables_after, tables_after-append}
-use Rattle.xa_script.specs.declared.turns.Station.{Station}
+-- Workers that go on stand in the same relation to what they were, however often they go on.
+use Rattle.std.specs.Prelude.{◌≡◌, Some, List, [], ◌++◌, slice_get, refl}
+use Rattle.std.proofs.Common.{sym, ap, ◌∙◌, subst, arith, append_assoc, append-nil}
+use Rattle.std.proofs.lemmas.Option.{slice_get_within, slice_get-get_or}
+use Rattle.std.specs.List.{slice_index_or}
+use Rattle.xa_worker.specs.Journal.{Entry}
+use Rattle.xa_worker.specs.Workers.{Working, SameWorker, Extends}
 use Rattle.xa_script.specs.declared.turns.Turns.{Turns}
-use Rattle.xa_script.specs.Content.{IsUpTo}
-use Rattle.xa_script.specs.Turns.{AreOfThreads, Takes, AllGoOn, TurnsOn, no_journals, followed_by}
+use Rattle.xa_script.specs.Turns.{GoesOn, AllGoOn, TurnsOn}
 
--- ---- one manager
+-- ---- one worker
 
--- a manager that is as it was has carried out nothing
-pub takes_nothing : (x : Station) → Takes [] x x
-takes_nothing x = record { number = refl; threads = refl; of_threads = All-nil (λ (r : Request). IsUpTo x.threads r.thread); tables = refl; room = add-zero x.manager.room }
-
--- requests of the threads, and then more of them
-pub of_both : (threads : ℕ) (g h : History) → AreOfThreads threads g → AreOfThreads threads h → AreOfThreads threads (g ++ h)
-of_both threads g h = All-append (λ (r : Request). IsUpTo threads r.thread) g h
-
--- requests that use up room one after the other, use it up together
-pub left_by : (before between behind p q : ℕ) → between + p ≡ before → behind + q ≡ between → behind + (p + q) ≡ before
-left_by before between behind p q first later = ap (λ n. behind + n) (add_comm p q) ∙ sym (add_assoc behind q p) ∙ ap (λ n. n + p) later ∙ first
-
--- a manager that goes on twice has carried out the first requests, and then the others
-pub takes_both : (g h : History) (x y z : Station) → Takes g x y → Takes h y z → Takes (g ++ h) x z
-takes_both g h x y z first later = record {
+same_worker : (u v w : Working) → SameWorker u v → SameWorker v w → SameWorker u w
+same_worker u v w first later = record {
   number = later.number ∙ first.number;
+  first = later.first ∙ first.first;
   threads = later.threads ∙ first.threads;
-  of_threads = of_both x.threads g h first.of_threads (subst (λ n. AreOfThreads n h) first.threads later.of_threads);
-  tables = later.tables ∙ ap (tables_after h) first.tables ∙ sym (tables_after-append g h x.manager.tables);
-  room = ap (λ n. z.manager.room + n) (length-append g h) ∙ left_by x.manager.room y.manager.room z.manager.room (length g) (length h) first.room later.room;
+  receiver = (later.receiver.0 ∙ first.receiver.0, later.receiver.1 ∙ first.receiver.1, later.receiver.2 ∙ first.receiver.2, later.receiver.3 ∙ first.receiver.3);
+  lanes = later.lanes ∙ first.lanes;
+}
+
+extends_both : (i j k : List Entry) → Extends i j → Extends j k → Extends i k
+extends_both i j k first later = (first.0 ++ later.0, later.1 ∙ ap (λ l. l ++ later.0) first.1 ∙ append_assoc i first.0 later.0)
+
+-- a worker that is as it was has gone on by nothing
+pub goes_nowhere : (w : Working) → GoesOn w w
+goes_nowhere w = record {
+  same = record { number = refl; first = refl; threads = refl; receiver = (refl, refl, refl, refl); lanes = refl };
+  journal = ([], sym (append-nil w.journal));
+  tied = λ is. is;
+}
+
+-- a worker that goes on twice has gone on
+pub goes_both : (u v w : Working) → GoesOn u v → GoesOn v w → GoesOn u w
+goes_both u v w first later = record {
+  same = same_worker u v w first.same later.same;
+  journal = extends_both u.journal v.journal w.journal first.journal later.journal;
+  tied = λ is. later.tied (first.tied is);
 }
 
 -- ---- all of them
 
--- managers that are as they were have carried out nothing
-all_stay : (xs : List Station) → AllGoOn xs xs
-all_stay xs = record {
-  taken = no_journals;
-  managers = refl;
-  each = λ i d e below. subst (λ y. Takes [] (slice_index_or xs i d) y) (get_or_default xs i d e below) (takes_nothing (slice_index_or xs i d));
+some_same : (v w : Working) → Some v ≡ Some w → v ≡ w
+some_same v w e = cc
+
+-- workers that are as they were
+pub all_stay : (ws : List Working) → AllGoOn ws ws
+all_stay ws = record { as_many = refl; each = λ k w w' at at'. subst (λ (v : Working). GoesOn w v) (some_same w w' (sym at ∙ at')) (goes_nowhere w) }
+
+-- workers that go on twice
+pub all_go_on : (us vs ws : List Working) → AllGoOn us vs → AllGoOn vs ws → AllGoOn us ws
+all_go_on us vs ws first later = record {
+  as_many = later.as_many ∙ first.as_many;
+  each = λ k u w at_u at_w.
+      let within = slice_get_within us k u at_u in
+      let many = first.as_many in
+      let at_v : slice_get vs k ≡ Some (slice_index_or vs k u) = slice_get-get_or vs k u (omega (arith, within, many)) in
+      goes_both u (slice_index_or vs k u) w (first.each k u (slice_index_or vs k u) at_u at_v) (later.each k (slice_index_or vs k u) w at_v at_w);
 }
 
--- managers that go on twice have gone on
-all_go_on : (xs ys zs : List Station) → AllGoOn xs ys → AllGoOn ys zs → AllGoOn xs zs
-all_go_on xs ys zs first later = record {
-  taken = followed_by first.taken later.taken;
-  managers = later.managers ∙ first.managers;
-  each = λ i d e below. takes_both (first.taken (i + 1)) (later.taken (i + 1)) (slice_index_or xs i d) (slice_index_or ys i d) (slice_index_or zs i e) (first.each i d d below) (later.each i d e (subst (λ n. i < n) (sym first.managers) below));
-}
+-- ---- as they take turns
 
--- ---- with their queues
-
--- what is as it was has gone on
 pub turns_stay : (x : Turns) → TurnsOn x x
-turns_stay x = record { stations = all_stay x.stations.items; completions = refl }
+turns_stay x = all_stay x.workers.items
 
--- and so has what goes on twice
 pub turns_chain : (x y z : Turns) → TurnsOn x y → TurnsOn y z → TurnsOn x z
-turns_chain x y z first later = record {
-  stations = all_go_on x.stations.items y.stations.items z.stations.items first.stations later.stations;
-  completions = later.completions ∙ first.completions;
-}
+turns_chain x y z first later = all_go_on x.workers.items y.workers.items z.workers.items first later

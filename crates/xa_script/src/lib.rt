@@ -6,26 +6,32 @@
 #![tactic(auto)]
 
 mod action;
+mod calls;
+mod ending;
 mod entry;
 mod fault;
 mod field;
 mod line;
+mod plan;
 mod read;
 mod run;
 mod script;
+mod serving;
 mod setting;
+mod threads;
 mod transcript;
 mod turns;
+mod values;
 mod words;
-mod xa;
+mod working;
 
 pub use entry::program;
 pub use fault::{Reason, ScriptFault};
 pub use read::read_script;
 pub use run::run_turns;
 pub use script::{Action, Called, Declared, Script, Step};
+pub use threads::run_threads;
 pub use transcript::{Answer, RunFault};
-pub use turns::Turned;
 
 #[cfg(test)]
 mod tests;

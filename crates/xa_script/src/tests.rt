@@ -1,6 +1,7 @@
 mod rules;
 mod running;
 mod statuses;
+mod threads;
 
 use super::*;
 use crate::transcript::write_transcript;
@@ -9,6 +10,7 @@ use std::io;
 use std::io::{Read, Write};
 use std::sync::Wait;
 use std::test::Fail;
+use std::thread::Threads;
 use xa_words::{Delta, Key, Xid};
 
 // The line and the reason of a script's fault, where it has one.
@@ -347,7 +349,7 @@ fn a_transcript_has_the_answers_and_then_the_values(rt: HostRuntime) -> Result<(
         },
         Answer::Turned {
             line: 5,
-            turned: Turned::Empty,
+            step: xa_worker::Step::Empty,
         },
         Answer::Called {
             line: 100_000,

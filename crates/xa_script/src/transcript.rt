@@ -4,11 +4,11 @@ ghost use Rattle.std.specs.Io.KnownBytes.{Appends};
 ghost use Rattle.xa_script.specs.Transcript.{turn_text, handle_text, call_text, answer_text, value_text, text};
 
 use crate::script::Declared;
-use crate::turns::Turned;
 use itoa::{Buffer, Integer};
 use std::alloc::{AllocError, Global};
 use std::io::Write;
 use thiserror::Error;
+use xa_worker::Step;
 
 /// A line of the transcript before the values. Lines, threads and handles count from 1.
 #[derive(Clone, Copy, Debug, PartialEq, Eq)]
@@ -26,10 +26,10 @@ pub enum Answer {
         handle: i32,
         retval: i32,
     },
-    /// What a manager did in its turn: `L turn S`.
+    /// What a manager's worker did in its turn: `L turn S`.
     Turned {
         line: u32,
-        turned: Turned,
+        step: Step,
     },
     /// An operation that was outstanding after the thread's last line: `end T handle H retval R`.
     Ended {
@@ -54,14 +54,16 @@ fn put_number<I: Integer>(out: &mut Vec<u8>, number: I) -> Result<(), AllocError
     out.extend_from_slice(Buffer::new().format(number).as_bytes())
 }
 
-// What stands for a turn: did, empty or blocked.
-fn turn_text(turned: Turned) -> &'static [u8]
-    ensures { result.now ≡ turn_text turned }
+// What stands for a turn: did, late, end, empty or blocked.
+fn turn_text(step: Step) -> &'static [u8]
+    ensures { result.now ≡ turn_text step }
 {
-    match turned {
-        Turned::Did => b"did",
-        Turned::Empty => b"empty",
-        Turned::Blocked => b"blocked",
+    match step {
+        Step::Did => b"did",
+        Step::Late => b"late",
+        Step::EndSeen => b"end",
+        Step::Empty => b"empty",
+        Step::Blocked => b"blocked",
     }
 }
 
@@ -109,10 +111,10 @@ fn put_answer(out: &mut Vec<u8>, answer: &Answer) -> Result<(), AllocError>
             out.extend_from_slice(b" 0")?;
             put_handle(out, handle, retval)
         }
-        Answer::Turned { line, turned } => {
+        Answer::Turned { line, step } => {
             put_number(out, line)?;
             out.extend_from_slice(b" turn ")?;
-            out.extend_from_slice(turn_text(turned))?;
+            out.extend_from_slice(turn_text(step))?;
             out.extend_from_slice(b"\n")
         }
         Answer::Ended {

@@ -1,4 +1,4 @@
-//! Runs a script of XA calls: `xaswitch turns`.
+//! Runs a script of XA calls: `xaswitch turns` or `xaswitch threads`.
 #![tactic(auto)]
 
 use std::alloc::AllocError;
@@ -7,6 +7,7 @@ use std::io::{self, ErrorKind, Read, Write};
 use std::process::ExitCode;
 use std::rt::Env;
 use std::sync::Wait;
+use std::thread::Threads;
 use xa_script::program;
 
 // The words behind the program's name.
@@ -19,7 +20,7 @@ fn words<R: Env + AllocGlobal>(rt: &R) -> io::Result<Vec<String>> {
 }
 
 // The exit status of the program with these words.
-fn status<R: AllocGlobal + Wait>(
+fn status<R: AllocGlobal + Threads + Wait + Copy + Send + 'static>(
     rt: &R,
     words: &[String],
     reader: &mut impl Read,

@@ -2,7 +2,11 @@
 use super::*;
 
 // Whether the program ends with status 0 on this script, writes this transcript and tells nothing.
-pub(super) fn shows<R: Wait + AllocGlobal>(rt: &R, mut script: &[u8], transcript: &[u8]) -> bool {
+pub(super) fn shows<R: Threads + Wait + AllocGlobal + Copy + Send + 'static>(
+    rt: &R,
+    mut script: &[u8],
+    transcript: &[u8],
+) -> bool {
     let alloc = rt.alloc();
     let mut out = Vec::new(alloc);
     let mut err = Vec::new(alloc);

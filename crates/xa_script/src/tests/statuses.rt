@@ -3,7 +3,7 @@ use super::*;
 
 // Whether the program shows nothing on these words and this reader, but ends with this status and
 // tells this of its fault, and whether it ends so too where it can't tell it.
-fn fails<H: Wait + AllocGlobal, R: Read + Copy>(
+fn fails<H: Threads + Wait + AllocGlobal + Copy + Send + 'static, R: Read + Copy>(
     rt: &H,
     words: &[&str],
     reader: R,
@@ -23,7 +23,7 @@ fn fails<H: Wait + AllocGlobal, R: Read + Copy>(
 
 // Each read of this reader fails, with status 4: so the words are judged before anything is read.
 #[test]
-fn other_words_than_turns_give_the_usage(rt: HostRuntime) {
+fn other_words_than_the_two_give_the_usage(rt: HostRuntime) {
     let reader = Failing {
         bytes: b"",
         reads: 0,
@@ -34,7 +34,7 @@ fn other_words_than_turns_give_the_usage(rt: HostRuntime) {
         &["turns", ""],
         &["turns", "-h"],
         &["--", "turns"],
-        &["threads"],
+        &["threads", "turns"],
         &["turn"],
         &["turnss"],
         &["TURNS"],
@@ -51,8 +51,13 @@ fn other_words_than_turns_give_the_usage(rt: HostRuntime) {
     for words in rows {
         assert!(rt; fails(&rt, words, reader, 2, usage), "at {words:?}");
     }
-    let turns = ["turns"].as_slice();
-    assert!(rt; fails(&rt, turns, reader, 4, b"input failed\n"));
+    for word in ["turns", "threads"] {
+        let words = [word];
+        assert!(rt;
+            fails(&rt, &words, reader, 4, b"input failed\n"),
+            "at {word}"
+        );
+    }
 }
 
 #[test]
@@ -75,6 +80,14 @@ fn a_faulty_script_is_told_and_shows_nothing(rt: HostRuntime) {
     for (script, told) in rows {
         assert!(rt; fails(&rt, turns, script, 1, told), "at {script:?}");
     }
+}
+
+#[test]
+fn a_turn_is_a_fault_in_threads_mode(rt: HostRuntime) {
+    let threads = ["threads"].as_slice();
+    let told = b"line 1: turn in threads mode\n";
+    assert!(rt; fails(&rt, threads, b"turn 1".as_slice(), 1, told));
+    assert!(rt; fails(&rt, threads, b"turn 9 9\n1 fly\n".as_slice(), 1, told));
 }
 
 // The script has 18 bytes, each read gives one, and the 19th finds the end.

@@ -1,5 +1,6 @@
 use Rattle.std.proofs.Common.{refl}
-use Rattle.xa_desk.proofs.Looks.{looks_start, looks_popped, looks_empty, looks_out}
+use Rattle.xa_lane.specs.declared.parcel.Taken.TheVariants.{Empty}
+use Rattle.xa_desk.proofs.Looks.{looks_start, looks_drawn, looks_out}
 use Rattle.xa_desk.proofs.pump.look_for.Goals as goal
 
 pub loop-init : goal.loop-init
@@ -8,8 +9,13 @@ loop-init g c = record { can = tt; finite = tt; looks = looks_start _ _ refl }
 pub is_drained-requires : goal.is_drained-requires
 is_drained-requires g c = looks_out _ _ c.args.operation c.loop.invariant.looks c.requires
 
-pub returns-in_default-clause-looks : goal.returns-in_default-clause-looks
-returns-in_default-clause-looks g c = looks_empty _ _ _ c.loop.invariant.looks c.note_quiet.ensures
+pub returns-then-not-draw-clause-looks : goal.returns-then-not-draw-clause-looks
+returns-then-not-draw-clause-looks g c = looks_drawn _ _ _ Empty c.loop.invariant.looks (c.draw.ensures.quiet c.if-not-draw.true)
+
+pub returns-then-not-draw-clause-quiet : goal.returns-then-not-draw-clause-quiet
+returns-then-not-draw-clause-quiet g c = λ _. record { before = c.loop.book; looks = c.loop.invariant.looks; quiet = c.draw.ensures.quiet c.if-not-draw.true }
 
 pub loop-preserved : goal.loop-preserved
-loop-preserved g c = record { can = tt; finite = tt; looks = looks_popped _ _ _ _ c.loop.invariant.looks c.note_popped.ensures }
+loop-preserved g c =
+    let d = c.draw.ensures.drawn c.if-not-draw.false in
+    record { can = tt; finite = tt; looks = looks_drawn _ _ _ d.0 c.loop.invariant.looks d.1 }

@@ -1,9 +1,9 @@
-use Rattle.std.proofs.Common.{rules, ◌≡◌, ◌==◌, ap, ap₂, sym, ◌∙◌, ℕ, true, false, List, [], ◌∷◌, codes, refl, slice_index, slice_index_or, arith}
-use Rattle.std.specs.Str.{bytes_eq}
+use Rattle.std.proofs.Common.{rules, ◌≡◌, ◌==◌, ap, ap₂, sym, ◌∙◌, ℕ, true, false, List, [], ◌∷◌, refl, slice_index, slice_index_or, arith}
 use Rattle.clap.specs.Words.{app_of, with_rule, takes, fault_of, is_simple_and_free}
 use Rattle.clap.specs.ValueTests.{accepts}
 use Rattle.clap.specs.declared.error.kind.ErrorKind.TheVariants.{OutOfMemory}
-use Rattle.xa_script.proofs.CommandLemmas.{command, free, takes_turns, turns_only, mode_is, top_is, accepts_one, one_word}
+use Rattle.xa_script.proofs.CommandLemmas.{command, free, takes_mode, is_either, either_mode, only_either, mode_is, top_is, accepts_two, one_word}
+use Rattle.xa_script.specs.Program.{word_of}
 use Rattle.xa_script.proofs.entry.judge.Goals as goal
 
 pub returns-in-Ok-clause-ok : goal.returns-in-Ok-clause-ok
@@ -12,12 +12,13 @@ returns-in-Ok-clause-ok c =
     let command_is : app_of c.in_ok-command.command ≡ command q.0 = c.in_ok-command.ensures.shape (search rules)
     ∙ ap₂ with_rule (top_is _ _ _ c.new-2.ensures.app c.no_binary_name.ensures c.disable_help_flag.ensures)
     (mode_is _ _ _ q.0 c.new.ensures.rule c.required.ensures c.value_parser-mode.ensures.others q.1) in
-    let only : (v : List ℕ) → accepts false q.0 v ≡ bytes_eq (codes "turns") v = λ v. ap (λ p. accepts false p v) q.2 ∙ accepts_one c.as_slice.result _ v c.as_slice.ensures in
+    let only : (v : List ℕ) → accepts false q.0 v ≡ is_either v = λ v. ap (λ p. accepts false p v) q.2 ∙ accepts_two c.as_slice.result _ _ v c.as_slice.ensures in
     let texts = one_word c.args.words.now (record { ref_ptr = (0, 0); now = [] }) c.if-words-ne1.false in
     let w : List ℕ = (slice_index_or c.args.words.now 0 (record { ref_ptr = (0, 0); now = [] })).now in
     let minus : (slice_index w 0 == 45) ≡ false = sym (c.starts_with.ensures.byte (omega arith) (omega arith) (λ w o h. h)) ∙ c.if-starts_with.false in
     let none : fault_of (command q.0) (w ∷ []) ≡ [] = sym (ap₂ fault_of command_is texts) ∙ c.in-Ok.ensures.kinds (ap is_simple_and_free command_is ∙ free q.0) in
-    texts ∙ ap (λ (t : List ℕ). t ∷ []) (turns_only q.0 w only minus none)
+    let m = only_either q.0 w only minus none in
+    (m.0, texts ∙ ap (λ (t : List ℕ). t ∷ []) m.1)
 
 pub returns-clause-usage : goal.returns-clause-usage
 returns-clause-usage c usage are =
@@ -25,8 +26,8 @@ returns-clause-usage c usage are =
     let command_is : app_of c.in_ok-command.command ≡ command q.0 = c.in_ok-command.ensures.shape (search rules)
     ∙ ap₂ with_rule (top_is _ _ _ c.new-2.ensures.app c.no_binary_name.ensures c.disable_help_flag.ensures)
     (mode_is _ _ _ q.0 c.new.ensures.rule c.required.ensures c.value_parser-mode.ensures.others q.1) in
-    let accepted : accepts false q.0 (codes "turns") ≡ true = ap (λ p. accepts false p (codes "turns")) q.2 ∙ accepts_one c.as_slice.result _ (codes "turns") c.as_slice.ensures in
-    let memory = c.in-Err.ensures.passes (ap₂ takes command_is are ∙ takes_turns q.0 accepted) in
+    let accepted : accepts false q.0 (word_of are.0) ≡ true = ap (λ p. accepts false p (word_of are.0)) q.2 ∙ accepts_two c.as_slice.result _ _ (word_of are.0) c.as_slice.ensures ∙ either_mode are.0 in
+    let memory = c.in-Err.ensures.passes (ap₂ takes command_is are.1 ∙ takes_mode q.0 are.0 accepted) in
     let same : c.kind.result ≡ OutOfMemory = c.kind.ensures ∙ memory in
     let bad : true ≡ false = sym (c.eq.ensures ∙ rw same refl) ∙ c.if-eq.false in
     cc

@@ -5,6 +5,7 @@ use Rattle.xa_desk.specs.DeskView.{IsOut, account, after_collected}
 use Rattle.xa_desk.specs.Slots.{IsBooks}
 use Rattle.xa_desk.proofs.Accounts.{account-read, collected-lt-sent, planned-put, length-put_account}
 use Rattle.xa_desk.proofs.Books.{books_collected}
+use Rattle.xa_desk.proofs.KeyRows.{keys_collected}
 use Rattle.xa_desk.proofs.KeptPlaces.{loose_handle}
 use Rattle.xa_desk.proofs.book.Book.collect.Goals as goal
 use Rattle.xa_desk.proofs.book.Book.collect.Goals.{After-push_collected}
@@ -52,11 +53,14 @@ invariant_of-self c =
     let used = i.slots_used in
     rw (written d) (record {
       books = books d;
+      keys = keys_collected at o code (out d).known c.self.inside.rows.items c.self.inside.slots c.remove.new.self c.in-Some.key i.keys c.remove.ensures.updates;
       slots_used = omega arith;
       slots_room = rw c.remove.ensures.capacity i.slots_room;
       places = i.places;
       drained_room = rw (planned-put at o.manager (with_collected (account at o.manager) o.number code) (out d).known refl) i.drained_room;
       limits = rw (length-put_account at o.manager (with_collected (account at o.manager) o.number code)) i.limits;
+      ends = i.ends;
+      ends_room = i.ends_room;
     })
 
 pub returns-clause-fewer : goal.returns-clause-fewer

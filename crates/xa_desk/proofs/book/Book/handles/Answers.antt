@@ -1,5 +1,5 @@
 use Rattle.std.proofs.Common.{arith}
-use Rattle.xa_desk.proofs.KeptPlaces.{get-kept_of_past}
+use Rattle.xa_desk.proofs.KeptPlaces.{get-kept_of_past, get-kept_of_zero}
 use Rattle.xa_desk.proofs.book.Book.handles.Goals as goal
 
 pub returns-clause-limit : goal.returns-clause-limit
@@ -9,3 +9,6 @@ pub returns-clause-past : goal.returns-clause-past
 returns-clause-past c = λ k past.
     let places = c.self.invariant.places in
     rw (← c.self.view_is) (get-kept_of_past c.self.inside.kept.items k (omega arith))
+
+pub returns-clause-zero : goal.returns-clause-zero
+returns-clause-zero c = rw (← c.self.view_is) (get-kept_of_zero c.self.inside.kept.items)

@@ -1,10 +1,11 @@
-use Rattle.std.proofs.Common.{◌≡◌, ◌<◌, ℕ, suc, ◌+◌, Some, None, IsSome, get_or, set, ◌∙◌, ap, arith, length}
+use Rattle.std.proofs.Common.{◌≡◌, ◌<◌, ℕ, suc, ◌+◌, Some, None, IsSome, get_or, set, ◌∙◌, refl, ap, arith, length}
 use Rattle.std.specs.Ordering.{nat_cmp}
 use Rattle.std.specs.FinMap as map
 use Rattle.std.proofs.lemmas.List.{length-set}
 use Rattle.xa_desk.specs.declared.operation.Operation.{Operation}
 use Rattle.xa_desk.specs.Book.{desk_of}
 use Rattle.xa_desk.proofs.Books.{books_rehandled, Rehandles}
+use Rattle.xa_desk.proofs.KeyRows.{keys_kept}
 use Rattle.xa_desk.proofs.KeptPlaces.{loose_handle, rehandles_keep, kept_of-insert, least_free}
 use Rattle.xa_desk.proofs.Counts.{free_place}
 use Rattle.xa_desk.proofs.book.Book.keep.Goals as goal
@@ -49,11 +50,14 @@ invariant_of-self c =
     let moves : Rehandles old (set old place (Some c.args.operation)) slot.handle (place + 1) slot.operation = rw (handle d, next, named) (rehandles_keep old place c.args.operation (within d) (free d)) in
     record {
       books = books_rehandled c.self.inside.accounts.items c.self.inside.slots c.set_slot.new.slots c.in-Some.key slot (place + 1) old (set old place (Some c.args.operation)) c.self.inside.drained.items i.books c.in-Some.ensures.found moves c.set_slot.ensures.updates c.set_slot.ensures.len;
+      keys = keys_kept c.self.inside.accounts.items c.self.inside.rows.items c.self.inside.slots c.set_slot.new.slots c.in-Some.key c.in-Some.slot _ i.keys c.in-Some.ensures.found refl c.set_slot.ensures.updates;
       slots_used = rw c.set_slot.ensures.len i.slots_used;
       slots_room = rw c.set_slot.ensures.capacity i.slots_room;
       places = length-set old place (Some c.args.operation) ∙ i.places;
       drained_room = i.drained_room;
       limits = i.limits;
+      ends = i.ends;
+      ends_room = i.ends_room;
     }
 
 pub returns-clause-least : goal.returns-clause-least

@@ -6,6 +6,7 @@ use Rattle.xa_desk.specs.declared.operation.Operation.{Operation}
 use Rattle.xa_desk.specs.Slots.{IsBooks}
 use Rattle.xa_desk.specs.Book.{desk_of}
 use Rattle.xa_desk.proofs.Books.{books_rehandled, rehandled, Rehandles}
+use Rattle.xa_desk.proofs.KeyRows.{keys_kept}
 use Rattle.xa_desk.proofs.KeptPlaces.{kept_place, KeptPlace, kept_handle, rehandles_release, kept_of-remove, loose_from_handle}
 use Rattle.xa_desk.proofs.book.Book.release.Goals as goal
 use Rattle.xa_desk.proofs.book.Book.release.Goals.{In_ok-operation, After-set_slot}
@@ -51,11 +52,14 @@ invariant_of-self c =
     let i = c.self.invariant in
     record {
       books = books c;
+      keys = keys_kept c.self.inside.accounts.items c.self.inside.rows.items c.self.inside.slots c.set_slot.new.slots c.in-Some.key c.in-Some.slot _ i.keys c.in-Some.ensures.found refl c.set_slot.ensures.updates;
       slots_used = rw c.set_slot.ensures.len i.slots_used;
       slots_room = rw c.set_slot.ensures.capacity i.slots_room;
       places = length-set c.self.inside.kept.items (c.args.number - 1) None ∙ i.places;
       drained_room = i.drained_room;
       limits = i.limits;
+      ends = i.ends;
+      ends_room = i.ends_room;
     }
 
 pub returns-clause-freed : goal.returns-clause-freed

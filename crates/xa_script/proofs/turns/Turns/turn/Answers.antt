@@ -1,10 +1,30 @@
-use Rattle.std.proofs.Common.{◌-◌, arith, refl}
-use Rattle.xa_script.proofs.TurnLemmas.{one_goes_on}
+use Rattle.std.proofs.Common.{◌-◌, ◌<◌, length, Some, sym, ap, ◌∙◌, refl, arith}
+use Rattle.std.proofs.lemmas.Option.{slice_get-get_or}
+use Rattle.xa_worker.specs.Workers.{Working}
+use Rattle.xa_script.proofs.Going.{step_goes, one_goes_on}
 use Rattle.xa_script.proofs.turns.Turns.turn.Goals as goal
 
-pub returns : goal.returns
-returns g c =
+pub returns-clause-turn : goal.returns-clause-turn
+returns-clause-turn g c =
+    let ws = c.args.self.now.workers.items in
+    let i = c.args.manager - 1 in
+    let before = c.index_mut.result.now in
+    let behind = c.step.new.self in
+    let inside : i < length ws = omega arith in
     record {
-      stations = one_goes_on c.args.self.now.stations.items (c.args.manager - 1) c.index_mut.result.now c.step.new.self c.step.ensures.0 (omega arith) c.index_mut.ensures.value c.step.ensures.1;
-      completions = refl;
+      before = before;
+      behind = behind;
+      at = slice_get-get_or ws i before inside ∙ ap (λ (w : Working). Some w) (sym c.index_mut.ensures.value);
+      stepped = c.step.ensures.step;
+      goes = step_goes before c.step.result behind c.step.ensures.step c.step.ensures.same c.step.ensures.tied;
+      rest = refl;
     }
+
+pub returns-clause-on : goal.returns-clause-on
+returns-clause-on g c =
+    let ws = c.args.self.now.workers.items in
+    let i = c.args.manager - 1 in
+    let before = c.index_mut.result.now in
+    let behind = c.step.new.self in
+    let inside : i < length ws = omega arith in
+    one_goes_on ws i before behind (slice_get-get_or ws i before inside ∙ ap (λ (w : Working). Some w) (sym c.index_mut.ensures.value)) (step_goes before c.step.result behind c.step.ensures.step c.step.ensures.same c.step.ensures.tied)

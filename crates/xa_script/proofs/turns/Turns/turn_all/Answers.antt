@@ -1,20 +1,20 @@
-use Rattle.std.proofs.Common.{arith, refl}
-use Rattle.xa_script.specs.declared.turns.Turns.{Turns}
-use Rattle.std.specs.Vec.{with_item}
-use Rattle.xa_script.specs.Turns.{TurnsOn}
-use Rattle.xa_script.specs.Turning.{turns_stay, turns_chain}
-use Rattle.xa_script.proofs.TurnLemmas.{one_goes_on}
+use Rattle.std.proofs.Common.{◌<◌, length, slice_set, Some, sym, ap, ◌∙◌, arith}
+use Rattle.std.proofs.lemmas.Option.{slice_get-get_or}
+use Rattle.xa_worker.specs.Workers.{Working}
+use Rattle.xa_script.specs.Turning.{all_stay, all_go_on}
+use Rattle.xa_script.proofs.Going.{step_goes, one_goes_on}
 use Rattle.xa_script.proofs.turns.Turns.turn_all.Goals as goal
 
 pub loop-place-init : goal.loop-place-init
-loop-place-init g c = turns_stay c.args.self.now
+loop-place-init g c = all_stay c.args.self.now.workers.items
 
 pub loop-place-preserved : goal.loop-place-preserved
 loop-place-preserved g c =
-    let before : Turns = c.loop-place.self in
-    let behind : Turns = record { stations = with_item before.stations c.loop-place.place c.step.new.self; completions = before.completions } in
-    let on : TurnsOn before behind = record {
-      stations = one_goes_on before.stations.items c.loop-place.place c.index_mut.result.now c.step.new.self c.step.ensures.0 (omega (arith, c.loop-place.invariant.stations.managers)) c.index_mut.ensures.value c.step.ensures.1;
-      completions = refl;
-    } in
-    turns_chain c.args.self.now before behind c.loop-place.invariant on
+    let ws = c.loop-place.self.workers.items in
+    let i = c.loop-place.place in
+    let before = c.index_mut.result.now in
+    let behind = c.step.new.self in
+    let many = c.loop-place.invariant.as_many in
+    let inside : i < length ws = omega (arith, many) in
+    all_go_on c.args.self.now.workers.items ws (slice_set ws i behind) c.loop-place.invariant
+    (one_goes_on ws i before behind (slice_get-get_or ws i before inside ∙ ap (λ (w : Working). Some w) (sym c.index_mut.ensures.value)) (step_goes before c.step.result behind c.step.ensures.step c.step.ensures.same c.step.ensures.tied))

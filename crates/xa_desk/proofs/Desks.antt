@@ -1,0 +1,59 @@
+-- Which calls a desk doesn't refuse, and that a desk stays one.
+use Rattle.std.proofs.Common.{◌≡◌, ◌≤◌, ◌<◌, ◌+◌, ℕ, Bool, true, false, not, cond, leb, List, length, Option, Some, None, sym, ◌∙◌, refl, ap, subst, arith}
+use Rattle.std.proofs.lemmas.Bool.{not-false, and_parts, leb-true, leb-false}
+use Rattle.xa_words.specs.declared.request.Op.{Op}
+use Rattle.xa_desk.specs.AccountView.{AccountView, learnt_shut}
+use Rattle.xa_desk.specs.DeskView.{DeskView, IsKnown, is_known, account, outstanding, submit_refusal, call_refusal}
+use Rattle.xa_desk.specs.Lanes.{IsDesk, submitted, after_full, after_fulls}
+use Rattle.xa_desk.specs.declared.refused.Refused.{Refused}
+use Rattle.xa_desk.specs.declared.refused.Refused.TheVariants.{NoSuchManager, Shut, TooMany, Spent}
+use Rattle.xa_desk.proofs.Ties.{tied_full, tied_fulls, tied_submitted, fulls_alike}
+
+unless : {A : Type 0} (b : Bool) (x : A) (r : Option A) → None ≡ cond b (Some x) r → (b ≡ false) × (None ≡ r)
+unless true x r e = absurd (cc)
+unless false x r e = (refl, e)
+
+abbrev is_spent : DeskView → ℕ → Option Refused
+is_spent d m = cond (leb (account d.accounts m).plan (length (account d.accounts m).sent)) (Some Spent) None
+
+abbrev is_too_many : DeskView → ℕ → Option Refused
+is_too_many d m = cond (leb d.handles (outstanding d.accounts)) (Some TooMany) (is_spent d m)
+
+known_from : (at : List AccountView) (m : ℕ) → not (is_known at m) ≡ false → IsKnown at m
+known_from at m e =
+    let parts = and_parts (leb 1 m) (leb m (length at)) (not-false (is_known at m) e) in
+    record { positive = leb-true 1 m parts.0; within = leb-true m (length at) parts.1 }
+
+-- a request that isn't refused is of a manager that there is, and has a handle
+pub submit_known : (d : DeskView) (m : ℕ) → None ≡ submit_refusal d m → IsKnown d.accounts m
+submit_known d m e = known_from d.accounts m (unless (not (is_known d.accounts m)) NoSuchManager (cond (learnt_shut (account d.accounts m)) (Some Shut) (is_too_many d m)) e).0
+
+pub submit_free : (d : DeskView) (m : ℕ) → None ≡ submit_refusal d m → outstanding d.accounts < d.handles
+submit_free d m e =
+    let open_ = unless (not (is_known d.accounts m)) NoSuchManager (cond (learnt_shut (account d.accounts m)) (Some Shut) (is_too_many d m)) e in
+    let heard = unless (learnt_shut (account d.accounts m)) Shut (is_too_many d m) open_.1 in
+    leb-false d.handles (outstanding d.accounts) (unless (leb d.handles (outstanding d.accounts)) TooMany (is_spent d m) heard.1).0
+
+pub call_known : (d : DeskView) (m : ℕ) → None ≡ call_refusal d m → IsKnown d.accounts m
+call_known d m e = known_from d.accounts m (unless (not (is_known d.accounts m)) NoSuchManager (cond (learnt_shut (account d.accounts m)) (Some Shut) (is_spent d m)) e).0
+
+-- what holds of every desk
+abbrev pub Fits : DeskView → Type 0
+Fits d = (outstanding d.accounts ≤ d.handles) × IsDesk d
+
+pub full_desk : (d d' : DeskView) (m : ℕ) → d' ≡ after_full d m → Fits d → Fits d'
+full_desk d d' m e fits = subst Fits (sym e) (fits.0, tied_full d m fits.1)
+
+pub submitted_desk : (d d' : DeskView) (m : ℕ) (op : Op) → None ≡ submit_refusal d m → outstanding d'.accounts ≡ outstanding d.accounts + 1 → d' ≡ submitted d m op → Fits d → Fits d'
+submitted_desk d d' m op allowed more e fits =
+    let free = submit_free d m allowed in
+    let handles : d'.handles ≡ d.handles = ap (λ (x : DeskView). x.handles) e in
+    (omega arith, subst IsDesk (sym e) (tied_submitted d m op (submit_known d m allowed) fits.1))
+
+-- the desk between a call's request and its completion
+pub called_desk : (d d' : DeskView) (n m : ℕ) (op : Op) → None ≡ call_refusal d m → d' ≡ submitted (after_fulls n d m) m op → IsDesk d → IsDesk d' × (d'.handles ≡ d.handles)
+called_desk d d' n m op allowed e tied =
+    let alike = fulls_alike n d (after_fulls n d m) m refl in (
+      subst IsDesk (sym e) (tied_submitted (after_fulls n d m) m op (subst (λ at. IsKnown at m) (sym alike.accounts) (call_known d m allowed)) (tied_fulls n d m tied)),
+      ap (λ (x : DeskView). x.handles) e ∙ alike.handles,
+    )

@@ -1,0 +1,256 @@
+-- A desk's accounts go on saying what its ends of lanes do.
+use Rattle.std.proofs.Common.{◌≡◌, ◌≢◌, ℕ, zero, suc, ◌+◌, ◌-◌, ◌<◌, Bool, List, [], ◌∷◌, ◌++◌, length, map, Option, Some, None, get_or, sym, refl, ap, ◌∙◌, subst, inl, inr, arith, append-nil}
+use Rattle.std.specs.List.{All, slice_get}
+use Rattle.std.proofs.lemmas.List.{map-append, length-map}
+use Rattle.std.proofs.lemmas.List.Elements.{All-append, All-cons, All-nil}
+use Rattle.std.proofs.lemmas.Bool.{cases_eq}
+use Rattle.xa_words.specs.declared.request.Op.{Op}
+use Rattle.xa_words.specs.declared.code.Code.{Code}
+use Rattle.xa_words.specs.declared.request.Request.{Request}
+use Rattle.xa_words.specs.declared.request.Completion.{Completion}
+use Rattle.xa_lane.specs.declared.parcel.Parcel.{Parcel}
+use Rattle.xa_lane.specs.declared.parcel.Taken.{Taken}
+use Rattle.xa_lane.specs.declared.parcel.Taken.TheVariants.{Item, EndOf, Empty}
+use Rattle.xa_lane.specs.Ends.{Sending, Receiving, somes, parcel}
+use Rattle.xa_lane.specs.Rings.{RingId}
+use Rattle.xa_lane.specs.Senders.{QueueId, at_place, with_item, with_full, but_full, sent_at}
+use Rattle.xa_desk.specs.declared.operation.Operation.{Operation}
+use Rattle.xa_desk.specs.AccountView.{AccountView, new_account, with_sent, with_collected}
+use Rattle.xa_desk.specs.DeskView.{DeskView, IsKnown, account, no_account, after_collected, drained_code}
+use Rattle.xa_desk.specs.Lanes.{next_request, submitted, after_full, after_fulls, numbered, arrived, IsPartOf, nothing, with_last, without_last, IsEndTo, AreEnds, WasDrained, IsTied, IsDesk, PartsView, AreNew, new_accounts, new_desk}
+use Rattle.xa_desk.specs.Looks.{Drains, first, other, Draws, Pops, start, drawn, Looks}
+use Rattle.xa_desk.proofs.Accounts.{same_operation, account-sent_same, account-sent_other, account-collected_same, account-collected_other, known_before, collected_known, length-put_account}
+use Rattle.xa_desk.proofs.AtPlace.{length-at_place, at_place_cases, sent_at-full, sent_at-item, sent_at-other, sent_at-but_full, nothing_sent}
+use Rattle.xa_desk.proofs.Books.{drained_code-push_again}
+
+-- ---- what was taken
+
+somes-append : {T : Type 0} (xs ys : List (Option T)) → somes (xs ++ ys) ≡ somes xs ++ somes ys
+somes-append [] ys = refl
+somes-append (Some y ∷ xs) ys = ap (λ l. y ∷ l) (somes-append xs ys)
+somes-append (None ∷ xs) ys = somes-append xs ys
+
+arrived-item : (taken : List (Parcel Completion)) (s : ℕ) (c : Completion) → arrived (taken ++ parcel s (Some c) ∷ []) ≡ arrived taken ++ c ∷ []
+arrived-item taken s c = ap somes (map-append (λ (x : Parcel Completion). x.item) taken (parcel s (Some c) ∷ [])) ∙ somes-append (map (λ (x : Parcel Completion). x.item) taken) (Some c ∷ [])
+
+arrived-mark : (taken : List (Parcel Completion)) (s : ℕ) → arrived (taken ++ parcel s None ∷ []) ≡ arrived taken
+arrived-mark taken s =
+    ap somes (map-append (λ (x : Parcel Completion). x.item) taken (parcel s None ∷ []))
+    ∙ somes-append (map (λ (x : Parcel Completion). x.item) taken) (None ∷ [])
+    ∙ append-nil (arrived taken)
+
+module _ (t : ℕ) (at : List AccountView) (drained : List Completion) (requests : List (Sending RingId Request)) (r : Receiving QueueId Completion) (b : IsTied t at drained requests r) where
+  tied_first : (s : ℕ) (c : Completion) → IsTied t at (drained ++ c ∷ []) requests (record r { taken = r.taken ++ parcel s (Some c) ∷ [] })
+  tied_first s c = record {
+    ends = record { number = b.ends.number; to = b.ends.to; lane = b.ends.lane; senders = b.ends.senders };
+    sent = b.sent;
+    drained_ = with_last drained (arrived r.taken) (arrived (r.taken ++ parcel s (Some c) ∷ [])) c b.drained_ (arrived-item r.taken s c);
+    collected = λ m known k d below. drained_code-push_again (record { manager = m; number = (get_or (account at m).collected k d).0 }) drained c (get_or (account at m).collected k d).1 (b.collected m known k d below);
+  }
+
+  tied_other : (s : ℕ) (c : Completion) → IsTied t at drained requests (record r { taken = r.taken ++ parcel s (Some c) ∷ [] })
+  tied_other s c = record {
+    ends = record { number = b.ends.number; to = b.ends.to; lane = b.ends.lane; senders = b.ends.senders };
+    sent = b.sent;
+    drained_ = without_last drained (arrived r.taken) (arrived (r.taken ++ parcel s (Some c) ∷ [])) c b.drained_ (arrived-item r.taken s c);
+    collected = b.collected;
+  }
+
+  tied_mark : (s : ℕ) → IsTied t at drained requests (record r { taken = r.taken ++ parcel s None ∷ [] })
+  tied_mark s = record {
+    ends = record { number = b.ends.number; to = b.ends.to; lane = b.ends.lane; senders = b.ends.senders };
+    sent = b.sent;
+    drained_ = subst (IsPartOf drained) (sym (arrived-mark r.taken s)) b.drained_;
+    collected = b.collected;
+  }
+
+  tied_quiet : (n : ℕ) → IsTied t at drained requests (record r { quiet = n })
+  tied_quiet n = record {
+    ends = record { number = b.ends.number; to = b.ends.to; lane = b.ends.lane; senders = b.ends.senders };
+    sent = b.sent;
+    drained_ = b.drained_;
+    collected = b.collected;
+  }
+
+tied_drains : (old new : DeskView) (s : ℕ) (c : Completion) (r : Receiving QueueId Completion) → IsDesk old → r ≡ record old.completions { taken = old.completions.taken ++ parcel s (Some c) ∷ [] } → Drains (record old { completions = r }) c new → IsDesk new
+tied_drains old new s c r b e (first out none is) = subst IsDesk (sym is) (subst (IsTied old.thread old.accounts (old.drained ++ c ∷ []) old.requests) (sym e) (tied_first old.thread old.accounts old.drained old.requests old.completions b s c))
+tied_drains old new s c r b e (other never is) = subst IsDesk (sym is) (subst (IsTied old.thread old.accounts old.drained old.requests) (sym e) (tied_other old.thread old.accounts old.drained old.requests old.completions b s c))
+
+pub tied_draws : (old new : DeskView) (a : Taken Completion) → Draws old a new → IsDesk old → IsDesk new
+tied_draws old new (Item s c) d b = tied_drains old new s c new.completions b d.0.1 d.1
+tied_draws old new (EndOf s) d b = subst IsDesk (sym d.1) (subst (IsTied old.thread old.accounts old.drained old.requests) (sym d.0.1) (tied_mark old.thread old.accounts old.drained old.requests old.completions b s))
+tied_draws old new Empty d b = subst IsDesk (sym d.1) (subst (IsTied old.thread old.accounts old.drained old.requests) (sym d.0) (tied_quiet old.thread old.accounts old.drained old.requests old.completions b _))
+
+tied_pops : (old new : DeskView) → Pops old new → IsDesk old → IsDesk new
+tied_pops old new (start _ e) b = subst IsDesk (sym e) b
+tied_pops old new (drawn now _ before a d) b = tied_draws now new a d (tied_pops old now before b)
+
+pub tied_looks : (old new : DeskView) → Looks old new → IsDesk old → IsDesk new
+tied_looks old new l b = tied_pops old new l.pops b
+
+-- ---- what was collected
+
+pub tied_collected : (d : DeskView) (o : Operation) (code : Code) → IsKnown d.accounts o.manager → drained_code o d.drained ≡ Some code → IsDesk d → IsTied d.thread (after_collected d.accounts o code) d.drained d.requests d.completions
+tied_collected d o code known was b = let at = d.accounts in record {
+  ends = record { number = b.ends.number ∙ sym same; to = b.ends.to; lane = b.ends.lane; senders = b.ends.senders ∙ sym same };
+  sent = λ m is. let before = collected_known at o code known m is in elim (cases_eq m o.manager) [
+    | inl here ↦ b.sent m before ∙ ap (numbered d.thread 0) (sym (ap (λ (a : AccountView). a.sent) (account-collected_same at o code known m here)))
+    | inr apart ↦ b.sent m before ∙ ap (numbered d.thread 0) (sym (ap (λ (a : AccountView). a.sent) (account-collected_other at o code known m before.positive apart)))
+  ];
+  drained_ = b.drained_;
+  collected = λ m is. let before = collected_known at o code known m is in elim (cases_eq m o.manager) [
+    | inl here ↦
+        let more : All (WasDrained d.drained m) ((account at m).collected ++ (o.number, code) ∷ []) =
+        All-append (WasDrained d.drained m) (account at m).collected ((o.number, code) ∷ []) (b.collected m before)
+        (All-cons (WasDrained d.drained m) (o.number, code) [] (ap (λ p. drained_code p d.drained) (same_operation (record { manager = m; number = o.number }) o here refl) ∙ was) (All-nil (WasDrained d.drained m))) in
+        subst (λ (a : AccountView). All (WasDrained d.drained m) a.collected) (sym (account-collected_same at o code known m here)) more
+    | inr apart ↦ subst (λ (a : AccountView). All (WasDrained d.drained m) a.collected) (sym (account-collected_other at o code known m before.positive apart)) (b.collected m before)
+  ];
+}
+  where
+    same : length (after_collected d.accounts o code) ≡ length d.accounts
+    same = length-put_account d.accounts o.manager (with_collected (account d.accounts o.manager) o.number code)
+
+-- ---- what was sent
+
+abbrev request_at : ℕ → ℕ → Op → Request
+request_at t k op = record { thread = t; number = k; op = op }
+
+numbered-append : (t n : ℕ) (ops : List Op) (op : Op) → numbered t n (ops ++ op ∷ []) ≡ numbered t n ops ++ request_at t (n + length ops) op ∷ []
+numbered-append t n [] op = ap (λ k. request_at t k op ∷ []) (let from : n ≡ n + 0 = omega arith in from)
+numbered-append t n (o ∷ ops) op = ap (λ l. request_at t n o ∷ l) (numbered-append t (suc n) ops op ∙ ap (λ k. numbered t (suc n) ops ++ request_at t k op ∷ []) (let from : suc n + length ops ≡ n + suc (length ops) = omega arith in from))
+
+pub ends_changed : (t n k : ℕ) (f : Sending RingId Request → Sending RingId Request) (requests : List (Sending RingId Request)) (r : Receiving QueueId Completion)
+    → ((opening m : ℕ) (s : Sending RingId Request) → IsEndTo t opening m s → IsEndTo t opening m (f s)) → AreEnds t n requests r → AreEnds t n (at_place k f requests) r
+ends_changed t n k f requests r keeps b = record {
+  number = length-at_place f k requests ∙ b.number;
+  to = λ j y found.
+      let p = at_place_cases f k j requests y found in
+      elim p.2 [
+        | inl same ↦ subst (IsEndTo t r.lane.opening (j + 1)) (sym same) (b.to j p.0 p.1)
+        | inr changed ↦ subst (IsEndTo t r.lane.opening (j + 1)) (sym changed) (keeps r.lane.opening (j + 1) p.0 (b.to j p.0 p.1))
+      ];
+  lane = b.lane;
+  senders = b.senders;
+}
+
+item_keeps : (t : ℕ) (x : Request) (opening m : ℕ) (s : Sending RingId Request) → IsEndTo t opening m s → IsEndTo t opening m (with_item x s)
+item_keeps t x opening m s e = record { sender = e.sender; opening_ = e.opening_; lane = e.lane }
+
+full_keeps : (t opening m : ℕ) (s : Sending RingId Request) → IsEndTo t opening m s → IsEndTo t opening m (with_full s)
+full_keeps t opening m s e = record { sender = e.sender; opening_ = e.opening_; lane = e.lane }
+
+pub tied_submitted : (d : DeskView) (m : ℕ) (op : Op) → IsKnown d.accounts m → IsDesk d → IsDesk (submitted d m op)
+tied_submitted d m op known b = let at = d.accounts in let x = next_request d m op in record {
+  ends = subst (λ n. AreEnds d.thread n (at_place (m - 1) (with_item x) d.requests) d.completions) (sym (length-put_account at m (with_sent (account at m) op))) (ends_changed d.thread (length at) (m - 1) (with_item x) d.requests d.completions (item_keeps d.thread x) b.ends);
+  sent = λ q is. let before = known_before at m q (with_sent (account at m) op) is in elim (cases_eq q m) [
+    | inl same ↦
+        let here : q - 1 ≡ m - 1 = ap (λ k. k - 1) same in
+        ap (λ k. sent_at k (at_place (m - 1) (with_item x) d.requests)) here
+        ∙ sent_at-item (m - 1) x d.requests within
+        ∙ ap (λ l. l ++ x ∷ []) (b.sent m known)
+        ∙ ap (λ k. numbered d.thread 0 (account at m).sent ++ request_at d.thread k op ∷ []) (let from : length (account at m).sent ≡ 0 + length (account at m).sent = omega arith in from)
+        ∙ sym (numbered-append d.thread 0 (account at m).sent op)
+        ∙ ap (numbered d.thread 0) (sym (ap (λ (a : AccountView). a.sent) (account-sent_same at m op known q same) ∙ ap (λ k. (account at k).sent ++ op ∷ []) same))
+    | inr apart ↦
+        sent_at-other (q - 1) (m - 1) x d.requests (not_here q before apart)
+        ∙ b.sent q before
+        ∙ ap (numbered d.thread 0) (sym (ap (λ (a : AccountView). a.sent) (account-sent_other at m op known q before.positive apart)))
+  ];
+  drained_ = b.drained_;
+  collected = λ q is. let before = known_before at m q (with_sent (account at m) op) is in elim (cases_eq q m) [
+    | inl same ↦ subst (λ (a : AccountView). All (WasDrained d.drained q) a.collected) (sym (account-sent_same at m op known q same)) (b.collected q before)
+    | inr apart ↦ subst (λ (a : AccountView). All (WasDrained d.drained q) a.collected) (sym (account-sent_other at m op known q before.positive apart)) (b.collected q before)
+  ];
+}
+  where
+    within : m - 1 < length d.requests
+    within = let n = b.ends.number in let p = known.positive in let w = known.within in omega arith
+
+    not_here : (q : ℕ) → IsKnown d.accounts q → q ≢ m → q - 1 ≢ m - 1
+    not_here q was differs e = let p = known.positive in let w = was.positive in differs (omega arith)
+
+pub tied_full : (d : DeskView) (m : ℕ) → IsDesk d → IsDesk (after_full d m)
+tied_full d m b = record {
+  ends = ends_changed d.thread (length d.accounts) (m - 1) with_full d.requests d.completions (full_keeps d.thread) b.ends;
+  sent = λ q known. sent_at-full (q - 1) (m - 1) d.requests ∙ b.sent q known;
+  drained_ = b.drained_;
+  collected = b.collected;
+}
+
+pub tied_fulls : (n : ℕ) (d : DeskView) (m : ℕ) → IsDesk d → IsDesk (after_fulls n d m)
+tied_fulls zero d m b = b
+tied_fulls (suc n) d m b = tied_full (after_fulls n d m) m (tied_fulls n d m b)
+
+-- full lanes leave the rest of a desk
+pub record AreAlike (d d' : DeskView) : Type 0 where
+  pub accounts : d'.accounts ≡ d.accounts
+  pub handles : d'.handles ≡ d.handles
+  pub requests : length d'.requests ≡ length d.requests
+
+fulls_are_alike : (n : ℕ) (d : DeskView) (m : ℕ) → AreAlike d (after_fulls n d m)
+fulls_are_alike zero d m = record { accounts = refl; handles = refl; requests = refl }
+fulls_are_alike (suc n) d m =
+    let a = fulls_are_alike n d m in
+    record { accounts = a.accounts; handles = a.handles; requests = length-at_place with_full (m - 1) (after_fulls n d m).requests ∙ a.requests }
+
+pub fulls_alike : (n : ℕ) (d d' : DeskView) (m : ℕ) → d' ≡ after_fulls n d m → AreAlike d d'
+fulls_alike n d d' m e = subst (AreAlike d) (sym e) (fulls_are_alike n d m)
+
+-- ---- the end, and the beginning
+
+abbrev bared : Option (Sending RingId Request) → Option (Sending RingId Request)
+bared None = None
+bared (Some s) = Some (but_full s)
+
+-- ends that differ in their full moments alone are tied alike
+pub tied_ended : (t : ℕ) (at : List AccountView) (drained : List Completion) (es ds : List (Sending RingId Request)) (r : Receiving QueueId Completion) → map but_full es ≡ map but_full ds → IsTied t at drained ds r → IsTied t at drained es r
+tied_ended t at drained es ds r same b = record {
+  ends = record {
+    number = sym (length-map es but_full) ∙ ap length same ∙ length-map ds but_full ∙ b.ends.number;
+    to = λ k e found. from k e (slice_get ds k) refl found;
+    lane = b.ends.lane;
+    senders = b.ends.senders;
+  };
+  sent = λ m known. sym (sent_at-but_full (m - 1) es) ∙ ap (sent_at (m - 1)) same ∙ sent_at-but_full (m - 1) ds ∙ b.sent m known;
+  drained_ = b.drained_;
+  collected = b.collected;
+}
+  where
+    bared-get : (xs : List (Sending RingId Request)) (k : ℕ) → slice_get (map but_full xs) k ≡ bared (slice_get xs k)
+    bared-get [] k = refl
+    bared-get (x ∷ xs) zero = refl
+    bared-get (x ∷ xs) (suc k) = bared-get xs k
+
+    alike : (k : ℕ) → bared (slice_get es k) ≡ bared (slice_get ds k)
+    alike k = sym (bared-get es k) ∙ ap (λ l. slice_get l k) same ∙ bared-get ds k
+
+    from : (k : ℕ) (e : Sending RingId Request) (d : Option (Sending RingId Request)) → slice_get ds k ≡ d → slice_get es k ≡ Some e → IsEndTo t r.lane.opening (k + 1) e
+    from k e None there found = absurd (let no : Some (but_full e) ≡ None = sym (ap bared found) ∙ alike k ∙ ap bared there in cc)
+    from k e (Some d) there found =
+        let both : Some (but_full e) ≡ Some (but_full d) = sym (ap bared found) ∙ alike k ∙ ap bared there in
+        let one : but_full e ≡ but_full d = cc in
+        let was = b.ends.to k d there in
+        record {
+          sender = ap (λ (s : Sending RingId Request). s.index + 1) one ∙ was.sender;
+          opening_ = ap (λ (s : Sending RingId Request). s.lane.opening) one ∙ was.opening_;
+          lane = ap (λ (s : Sending RingId Request). s.lane.index) one ∙ was.lane;
+        }
+
+new_sent : (plan : ℕ) (use_async : List Bool) (i : ℕ) → (get_or (new_accounts plan use_async) i no_account).sent ≡ []
+new_sent plan [] i = refl
+new_sent plan (b ∷ bs) zero = refl
+new_sent plan (b ∷ bs) (suc i) = new_sent plan bs i
+
+new_collected : (plan : ℕ) (use_async : List Bool) (i : ℕ) → (get_or (new_accounts plan use_async) i no_account).collected ≡ []
+new_collected plan [] i = refl
+new_collected plan (b ∷ bs) zero = refl
+new_collected plan (b ∷ bs) (suc i) = new_collected plan bs i
+
+pub tied_new : (p : PartsView) (requests : List (Sending RingId Request)) (r : Receiving QueueId Completion) → AreEnds p.thread (length p.use_async) requests r → AreNew requests r → IsDesk (new_desk p requests r)
+tied_new p requests r ends new = record {
+  ends = subst (λ n. AreEnds p.thread n requests r) (sym (length-map p.use_async (λ carries. new_account carries p.plan))) ends;
+  sent = λ m known. nothing_sent (m - 1) requests new.sent ∙ ap (numbered p.thread 0) (sym (new_sent p.plan p.use_async (m - 1)));
+  drained_ = subst (IsPartOf []) (sym (ap arrived new.taken)) nothing;
+  collected = λ m known. subst (All (WasDrained [] m)) (sym (new_collected p.plan p.use_async (m - 1))) (All-nil (WasDrained [] m));
+}

@@ -1,0 +1,14 @@
+use Rattle.xa_desk.proofs.Desks.{full_desk, submitted_desk}
+use Rattle.xa_desk.proofs.desk.Desk.submit.Goals as goal
+
+pub invariant_of-self : goal.invariant_of-self
+invariant_of-self g c = full_desk _ _ c.args.manager c.in_default-offer.ensures.full c.self.invariant
+
+pub returns-in_default-offer-clause-tied : goal.returns-in_default-offer-clause-tied
+returns-in_default-offer-clause-tied g c = (full_desk _ _ c.args.manager c.in_default-offer.ensures.full c.self.invariant).1
+
+pub invariant_of-self-2 : goal.invariant_of-self-2
+invariant_of-self-2 g c = submitted_desk _ _ c.args.manager c.args.op c.in_default.ensures c.in-Some-offer.ensures.more c.in-Some-offer.ensures.sent c.self.invariant
+
+pub returns-clause-tied : goal.returns-clause-tied
+returns-clause-tied g c = (submitted_desk _ _ c.args.manager c.args.op c.in_default.ensures c.in-Some-offer.ensures.more c.in-Some-offer.ensures.sent c.self.invariant).1

@@ -1,0 +1,5 @@
+use Rattle.std.proofs.Common.{◌≡◌, replicate}
+use Rattle.xa_desk.proofs.keys.reserve_keys.Given as goal
+
+abbrev pub invariant-loop-manager : goal.invariant-loop-manager
+invariant-loop-manager l = l.rows.items ≡ replicate l._manager (replicate l.plan 0)

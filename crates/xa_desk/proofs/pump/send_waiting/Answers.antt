@@ -1,0 +1,50 @@
+use Rattle.std.proofs.Common.{suc, ◌+◌, List, length, ap, sym, subst, ◌∙◌, refl}
+use Rattle.xa_desk.specs.AccountView.{AccountView}
+use Rattle.xa_desk.specs.DeskView.{DeskView, IsKnown, next_operation, outstanding}
+use Rattle.xa_desk.specs.Lanes.{after_full, submitted}
+use Rattle.xa_desk.proofs.Ties.{fulls_alike}
+use Rattle.xa_desk.proofs.pump.send_waiting.Goals as goal
+
+pub loop-init : goal.loop-init
+loop-init g c = record { can = tt; finite = tt; fulls = (0, refl); idled = g.met.I.Idle.leads_start _ }
+
+pub offer-requires-clause-known : goal.offer-requires-clause-known
+offer-requires-clause-known g c =
+    let a = fulls_alike c.loop.invariant.fulls.0 c.args.book.now c.loop.book c.args.manager c.loop.invariant.fulls.1 in
+    subst (λ (at : List AccountView). IsKnown at c.args.manager) (sym a.accounts) c.requires.known
+
+pub offer-requires-clause-lanes : goal.offer-requires-clause-lanes
+offer-requires-clause-lanes g c =
+    let a = fulls_alike c.loop.invariant.fulls.0 c.args.book.now c.loop.book c.args.manager c.loop.invariant.fulls.1 in
+    a.requests ∙ c.requires.lanes ∙ sym (ap length a.accounts)
+
+pub offer-requires-clause-room : goal.offer-requires-clause-room
+offer-requires-clause-room g c =
+    let a = fulls_alike c.loop.invariant.fulls.0 c.args.book.now c.loop.book c.args.manager c.loop.invariant.fulls.1 in
+    rw a.accounts c.requires.room
+
+pub offer-requires-clause-slot : goal.offer-requires-clause-slot
+offer-requires-clause-slot g c =
+    let a = fulls_alike c.loop.invariant.fulls.0 c.args.book.now c.loop.book c.args.manager c.loop.invariant.fulls.1 in
+    rw (a.accounts, a.handles) c.requires.slot
+
+pub returns-in-Some-offer-clause-named : goal.returns-in-Some-offer-clause-named
+returns-in-Some-offer-clause-named g c =
+    let a = fulls_alike c.loop.invariant.fulls.0 c.args.book.now c.loop.book c.args.manager c.loop.invariant.fulls.1 in
+    c.in-Some-offer.ensures.named ∙ ap (λ (at : List AccountView). next_operation at c.args.manager) a.accounts
+
+pub returns-in-Some-offer-clause-sent : goal.returns-in-Some-offer-clause-sent
+returns-in-Some-offer-clause-sent g c = (c.loop.invariant.fulls.0, c.in-Some-offer.ensures.sent ∙ ap (λ (d : DeskView). submitted d c.args.manager c.args.op.now) c.loop.invariant.fulls.1)
+
+pub returns-in-Some-offer-clause-more : goal.returns-in-Some-offer-clause-more
+returns-in-Some-offer-clause-more g c =
+    let a = fulls_alike c.loop.invariant.fulls.0 c.args.book.now c.loop.book c.args.manager c.loop.invariant.fulls.1 in
+    c.in-Some-offer.ensures.more ∙ ap (λ (at : List AccountView). outstanding at + 1) a.accounts
+
+pub loop-preserved : goal.loop-preserved
+loop-preserved g c = record {
+  can = tt;
+  finite = tt;
+  fulls = (suc c.loop.invariant.fulls.0, c.in_default.ensures.full ∙ ap (λ (d : DeskView). after_full d c.args.manager) c.loop.invariant.fulls.1);
+  idled = g.met.I.Idle.leads_chain _ _ _ c.loop.invariant.idled c.idle.ensures;
+}

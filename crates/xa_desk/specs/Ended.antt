@@ -1,0 +1,36 @@
+-- What contracts see of a desk that has ended.
+use Rattle.std.specs.Prelude.{◌≡◌, ℕ, List, map}
+use Rattle.xa_words.specs.declared.request.Request.{Request}
+use Rattle.xa_words.specs.declared.request.Completion.{Completion}
+use Rattle.xa_lane.specs.Ends.{Sending, Receiving}
+use Rattle.xa_lane.specs.Rings.{RingId}
+use Rattle.xa_lane.specs.Senders.{QueueId, but_full}
+use Rattle.xa_desk.specs.AccountView.{AccountView, IsSettled}
+use Rattle.xa_desk.specs.DeskView.{DeskView, IsKnown, account}
+use Rattle.xa_desk.specs.Lanes.{IsTied}
+
+-- the thread, its account with each manager, what was drained, its ends of the lanes to the managers, which have sent
+-- their end marks, and its end of the lane of its completions
+pub record EndedView : Type 0 where
+  pub thread : ℕ
+  pub accounts : List AccountView
+  pub drained : List Completion
+  pub requests : List (Sending RingId Request)
+  pub completions : Receiving QueueId Completion
+
+-- the desk has ended: all is as it was, but that lanes may have been found full
+pub record Ends (d : DeskView) (e : EndedView) : Type 0 where
+  pub thread : e.thread ≡ d.thread
+  pub accounts : e.accounts ≡ d.accounts
+  pub drained : e.drained ≡ d.drained
+  pub requests : map but_full e.requests ≡ map but_full d.requests
+  pub completions : e.completions ≡ d.completions
+
+-- each number that was sent to a manager was collected once, and no other
+abbrev pub AreSettled : List AccountView → Type 0
+AreSettled at = (m : ℕ) → IsKnown at m → IsSettled (account at m)
+
+-- what is known of every desk that has ended
+pub record IsEnded (e : EndedView) : Type 0 where
+  pub tied : IsTied e.thread e.accounts e.drained e.requests e.completions
+  pub settled : AreSettled e.accounts

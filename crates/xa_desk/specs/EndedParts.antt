@@ -1,0 +1,20 @@
+-- How an ended desk keeps what contracts see of it.
+use Rattle.std.specs.Prelude.{◌≤◌, length}
+use Rattle.xa_desk.specs.Ended.{EndedView, IsEnded}
+use Rattle.xa_desk.specs.declared.ended.EndedDesk.TheInside.{Inside}
+
+-- what contracts see
+abbrev pub ended_of : Inside → EndedView
+ended_of e = record {
+  thread = e.thread;
+  accounts = e.accounts.items;
+  drained = e.drained.items;
+  requests = e.requests.items;
+  completions = e.completions;
+}
+
+-- the threads and the managers are within the limits
+pub record AreEndedParts (e : Inside) : Type 0 where
+  pub known : IsEnded (ended_of e)
+  pub thread : (1 ≤ e.thread) × (e.thread ≤ 8)
+  pub managers : (1 ≤ length e.accounts.items) × (length e.accounts.items ≤ 8)

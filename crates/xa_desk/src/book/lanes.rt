@@ -1,0 +1,58 @@
+//! What a book does with its ends of lanes.
+ghost use Rattle.std.specs.Prelude.{◌≡◌, ◌+◌, ◌<◌, ◌≤◌, length, IfSome, OnSome, IfNone, IsTrue, false};
+ghost use Rattle.xa_lane.specs.declared.parcel.Taken.{Taken};
+ghost use Rattle.xa_lane.specs.declared.parcel.Taken.TheVariants.{Empty};
+ghost use Rattle.xa_words.specs.declared.request.Completion.{Completion};
+ghost use Rattle.xa_desk.specs.DeskView.{IsKnown, IsOut, IsLoose, account, outstanding, next_operation};
+ghost use Rattle.xa_desk.specs.Lanes.{submitted, after_full};
+ghost use Rattle.xa_desk.specs.Looks.{Draws};
+
+use crate::book::Book;
+use crate::operation::Operation;
+use std::sync::Wait;
+use xa_lane::Taken;
+use xa_words::{Op, Request};
+
+impl Book {
+    /// Sends the next request to the manager, unless the lane to it is full.
+    pub(crate) fn offer<R: Wait>(&mut self, rt: &R, manager: u32, op: &Op) -> Option<Operation>
+        requires known { IsKnown self.old.accounts manager }
+        requires lanes { length self.old.requests ≡ length self.old.accounts }
+        requires room { length (account self.old.accounts manager).sent < (account self.old.accounts manager).plan }
+        requires slot { outstanding self.old.accounts ≤ self.old.handles }
+        ensures named { IfSome result (λ o. o ≡ next_operation self.old.accounts manager) }
+        ensures sent { OnSome result (self.new ≡ submitted self.old manager op.now) }
+        ensures more { OnSome result (outstanding self.new.accounts ≡ outstanding self.old.accounts + 1) }
+        ensures out { IfSome result (λ o. IsOut self.new.accounts o) }
+        ensures loose { IfSome result (λ o. IsLoose self.new o) }
+        ensures full { IfNone result (self.new ≡ after_full self.old manager) }
+    {
+        let request = &Request {
+            thread: self.thread,
+            number: self.next_number(manager),
+            op: *op,
+        };
+        match self.requests[manager as usize - 1].offer(rt, *request) {
+            Ok(()) => Some(self.note_sent(manager, *op)),
+            Err(_) => None,
+        }
+    }
+
+    /// Takes from the lane of completions once. False where nothing stood there.
+    pub(crate) fn draw<R: Wait>(&mut self, rt: &R) -> bool
+        ensures drawn { IsTrue result → (taken : Taken Completion) × Draws self.old taken self.new }
+        ensures quiet { result ≡ false → Draws self.old Empty self.new }
+    {
+        match self.completions.take(rt) {
+            Taken::Item(_, completion) => {
+                self.note_taken(completion);
+                true
+            }
+            Taken::EndOf(_) => true,
+            Taken::Empty => {
+                self.drained_then = self.drained.len();
+                false
+            }
+        }
+    }
+}

@@ -1,0 +1,81 @@
+//! What a desk is made of.
+ghost use Rattle.std.specs.Prelude.{◌≡◌, ◌≤◌, length, IfOk};
+
+use crate::account::{Account, open_accounts};
+use crate::keys::{Keys, reserve_keys};
+use crate::operation::Operation;
+use crate::places::empty_places;
+use crate::slot::Slot;
+use slab::Slab;
+use std::alloc::{AllocError, Global};
+use std::marker::Model;
+use xa_lane::RingEnded;
+use xa_words::{Completion, Request};
+
+// No thread has more lanes to managers.
+const MOST_MANAGERS: usize = 8;
+
+/// All the memory that a desk ever takes.
+#[derive(Drop)]
+pub struct DeskParts {
+    pub(crate) thread: u32,
+    pub(crate) handles: u32,
+    pub(crate) plan: u32,
+    pub(crate) accounts: Vec<Account>,
+    pub(crate) slots: Slab<Slot>,
+    pub(crate) rows: Vec<Keys>,
+    pub(crate) kept: Vec<Option<Operation>>,
+    pub(crate) drained: Vec<Completion>,
+    pub(crate) ends: Vec<RingEnded<Request>>,
+}
+
+impl Model for DeskParts {
+    ghost use Rattle.xa_desk.specs.Lanes.{PartsView};
+    ghost use Rattle.xa_desk.specs.Parts.{parts_of, AreParts};
+
+    ghost Value = { PartsView };
+
+    ghost view = { parts_of };
+
+    ghost invariant = { AreParts };
+}
+
+impl DeskParts {
+    /// Reserves the memory of a desk.
+    ///
+    /// `thread` and the managers are numbered from 1. There are `handles` handles and at most `requests`
+    /// requests to each manager. `use_async` says of each manager whether it takes asynchronous calls
+    /// (`TMUSEASYNC`; C193, chapter 4). Fails only for want of memory.
+    pub fn reserve(
+        alloc: Global,
+        thread: u32,
+        handles: u32,
+        requests: u32,
+        use_async: &[bool],
+    ) -> Result<DeskParts, AllocError>
+        requires thread { (1 ≤ thread) × (thread ≤ 8) }
+        requires handles { (1 ≤ handles) × (handles ≤ 32) }
+        requires requests { (1 ≤ requests) × (requests ≤ 4096) }
+        requires managers { (1 ≤ length use_async.now) × (length use_async.now ≤ 8) }
+        ensures { IfOk result (λ p. p ≡ record { thread = thread; handles = handles; plan = requests; use_async = use_async.now }) }
+    {
+        let accounts = open_accounts(alloc, requests, use_async)?;
+        // One slot beyond the handles is for a synchronous call.
+        let slots = Slab::with_capacity(alloc, handles as usize + 1)?;
+        let rows = reserve_keys(alloc, use_async.len(), requests)?;
+        let kept = empty_places(alloc, handles as usize)?;
+        let drained = Vec::with_capacity(alloc, requests as usize * use_async.len())?;
+        let ends = Vec::with_capacity(alloc, MOST_MANAGERS)?;
+        Ok(DeskParts {
+            thread,
+            handles,
+            plan: requests,
+            accounts,
+            slots,
+            rows,
+            kept,
+            drained,
+            ends,
+        })
+    }
+}

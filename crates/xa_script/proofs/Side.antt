@@ -1,0 +1,100 @@
+-- Lists side by side, and what is in their places.
+use Rattle.std.proofs.Common.{◌≡◌, ℕ, ◌+◌, ◌<◌, ◌≤◌, ◌⊎◌, ⊎_elim, zero, suc, List, [], ◌∷◌, ◌++◌, length, Some, None, sym, refl, ap, ◌∙◌, subst, inl, inr, arith, length-append, take}
+use Rattle.std.specs.Prelude.{slice_get, slice_set}
+use Rattle.std.specs.List.{slice_index_or, range_with_len}
+use Rattle.std.proofs.lemmas.Bool.{cases_eq}
+use Rattle.std.proofs.lemmas.List.{length-set, get_or-set_other, get_or-set_same}
+use Rattle.std.proofs.lemmas.Option.{slice_get_within, slice_get-get_or, slice_get_cases}
+use Rattle.std.proofs.Math.Seq.{take-suc}
+use Rattle.xa_script.specs.Chains.{Pairwise}
+
+pub some_same : {A : Type 0} (x y : A) → Some x ≡ Some y → x ≡ y
+some_same x y e = cc
+
+-- what is in a place
+pub got : {A : Type 0} (xs : List A) (k : ℕ) → k < length xs → (x : A) × (slice_get xs k ≡ Some x)
+got {A} xs k below =
+    ⊎_elim (λ (h : (x : A) × (k < length xs) × (slice_get xs k ≡ Some x) × (slice_index_or xs k x ≡ x)). (h.0, h.2))
+    (λ (h : (length xs ≤ k) × (slice_get xs k ≡ None)). absurd (let past = h.0 in omega (arith, past, below)))
+    (slice_get_cases xs k).1
+
+-- an element that was written is there, and the others stay
+pub got_set : {A : Type 0} (xs : List A) (i : ℕ) (y : A) (k : ℕ) (z : A) → i < length xs → slice_get (slice_set xs i y) k ≡ Some z → ((k ≡ i) × (z ≡ y)) ⊎ (slice_get xs k ≡ Some z)
+got_set {A} xs i y k z inside at =
+    let within : k < length (slice_set xs i y) = slice_get_within (slice_set xs i y) k z at in
+    let size = length-set xs i y in
+    let is : slice_index_or (slice_set xs i y) k z ≡ z = some_same _ z (sym (slice_get-get_or (slice_set xs i y) k z within) ∙ at) in
+    elim (cases_eq k i) [
+      | inl same ↦ inl (same, sym is ∙ ap (λ n. slice_index_or (slice_set xs i y) n z) same ∙ get_or-set_same xs i y z inside)
+      | inr differs ↦
+          let stays : slice_index_or (slice_set xs i y) k z ≡ slice_index_or xs k z = get_or-set_other xs i k y z differs in
+          inr (slice_get-get_or xs k z (omega (arith, within, size)) ∙ ap (λ (x : A). Some x) (sym stays ∙ is))
+    ]
+
+-- the last of a list, or one before it
+pub got_push : {A : Type 0} (xs : List A) (x : A) (k : ℕ) (y : A) → slice_get (xs ++ x ∷ []) k ≡ Some y → (slice_get xs k ≡ Some y) ⊎ ((k ≡ length xs) × (y ≡ x))
+got_push [] x zero y e = inr (refl, some_same y x (sym e))
+got_push [] x (suc k) y e = absurd (cc)
+got_push (z ∷ xs) x zero y e = inl e
+got_push {A} (z ∷ xs) x (suc k) y e =
+    ⊎_elim (λ (h : slice_get xs k ≡ Some y). inl h) (λ (h : (k ≡ length xs) × (y ≡ x)). inr (omega (arith, h.0), h.1)) (got_push xs x k y e)
+
+module _ {A B : Type 0} (P : A → B → Type 0) where
+  pub none_side : (xs : List A) (ys : List B) → xs ≡ [] → ys ≡ [] → Pairwise P xs ys
+  none_side xs ys e f = record {
+    as_many = ap (λ l. length l) f ∙ sym (ap (λ l. length l) e);
+    each = λ k x y at at'. absurd (let within = slice_get_within xs k x at in let none = ap (λ l. length l) e in omega (arith, within, none));
+  }
+
+  pub push_side : (xs : List A) (ys : List B) (x : A) (y : B) → Pairwise P xs ys → P x y → Pairwise P (xs ++ x ∷ []) (ys ++ y ∷ [])
+  push_side xs ys x y all here = record {
+    as_many = let many = all.as_many in omega (arith, many, length-append xs (x ∷ []), length-append ys (y ∷ []));
+    each = λ k v w at_v at_w.
+        ⊎_elim
+        (λ (h : slice_get xs k ≡ Some v).
+        ⊎_elim (λ (i : slice_get ys k ≡ Some w). all.each k v w h i)
+        (λ (i : (k ≡ length ys) × (w ≡ y)). absurd (let within = slice_get_within xs k v h in let many = all.as_many in let last = i.0 in omega (arith, within, many, last)))
+        (got_push ys y k w at_w))
+        (λ (h : (k ≡ length xs) × (v ≡ x)).
+        ⊎_elim (λ (i : slice_get ys k ≡ Some w). absurd (let within = slice_get_within ys k w i in let many = all.as_many in let last = h.0 in omega (arith, within, many, last)))
+        (λ (i : (k ≡ length ys) × (w ≡ y)). subst (λ b. P v b) (sym i.1) (subst (λ a. P a y) (sym h.1) here))
+        (got_push ys y k w at_w))
+        (got_push xs x k v at_v);
+  }
+
+pub one_more : {A : Type 0} (xs : List A) (i : ℕ) (x : A) → i < length xs → x ≡ slice_index_or xs i x → take (i + 1) xs ≡ take i xs ++ x ∷ []
+one_more xs i x below is = let next_one : i + 1 ≡ suc i = omega arith in ap (λ n. take n xs) next_one ∙ take-suc xs i x below ∙ ap (λ y. take i xs ++ y ∷ []) (sym is)
+
+-- one more number
+range_suc : (a n : ℕ) → range_with_len a (suc n) ≡ range_with_len a n ++ (a + n) ∷ []
+range_suc a zero = let same : a ≡ a + 0 = omega arith in ap (λ x. x ∷ []) same
+range_suc a (suc n) = let same : a + 1 + n ≡ a + suc n = omega arith in ap (λ l. a ∷ l) (range_suc (a + 1) n ∙ ap (λ x. range_with_len (a + 1) n ++ x ∷ []) same)
+
+pub range_more : (n : ℕ) → range_with_len 1 (n + 1) ≡ range_with_len 1 n ++ (n + 1) ∷ []
+range_more n =
+    let next_one : n + 1 ≡ suc n = omega arith in
+    let last : 1 + n ≡ n + 1 = omega arith in
+    ap (range_with_len 1) next_one ∙ range_suc 1 n ∙ ap (λ x. range_with_len 1 n ++ x ∷ []) last
+
+-- the element behind the first ones
+pub next_there : {A : Type 0} (xs ys rest : List A) (x : A) → ys ++ x ∷ rest ≡ xs → slice_get xs (length ys) ≡ Some x
+next_there {A} xs ys rest x e = ap (λ (l : List A). slice_get l (length ys)) (sym e) ∙ behind ys
+  where
+    behind : (ys : List A) → slice_get (ys ++ x ∷ rest) (length ys) ≡ Some x
+    behind [] = refl
+    behind (y ∷ ys) = behind ys
+
+-- what goes from the first list to the second, and on to the third
+pub through : {A B C : Type 0} (P : A → B → Type 0) (Q : B → C → Type 0) (R : A → C → Type 0) → ((a : A) (b : B) (c : C) → P a b → Q b c → R a c) → (xs : List A) (ys : List B) (zs : List C) → Pairwise P xs ys → Pairwise Q ys zs → Pairwise R xs zs
+through P Q R goes xs ys zs p q = record {
+  as_many = q.as_many ∙ p.as_many;
+  each = λ k x z at_x at_z.
+      let within = slice_get_within xs k x at_x in
+      let many = p.as_many in
+      let y = got ys k (omega (arith, within, many)) in
+      goes x y.0 z (p.each k x y.0 at_x y.1) (q.each k y.0 z y.1 at_z);
+}
+
+pub none_of : {A : Type 0} (xs : List A) → length xs ≡ 0 → xs ≡ []
+none_of [] e = refl
+none_of (x ∷ xs) e = absurd (omega (arith, e))

@@ -1,0 +1,12 @@
+use Rattle.std.proofs.Common.{◌≡◌, ◌++◌}
+use Rattle.std.specs.Vec.Iter.{into_iter_items}
+use Rattle.xa_script.specs.Chains.{Pairwise}
+use Rattle.xa_script.specs.Threads.{IsReady}
+use Rattle.xa_script.proofs.working.lines_of.Given as goal
+
+-- the first threads have their lines
+abbrev pub invariant-loop-desk : goal.invariant-loop-desk
+invariant-loop-desk l = record {
+  so_far : l.yielded ++ into_iter_items l.desk-iterator ≡ l.fn.desks.items;
+  ready : Pairwise (IsReady l.script.steps) l.yielded l.lines.items;
+}

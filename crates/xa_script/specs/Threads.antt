@@ -1,0 +1,105 @@
+-- A run of a script in threads: what each thread of the script comes to, and what the transcript is.
+use Rattle.std.specs.Prelude.{◌≡◌, ℕ, ◌+◌, ◌≤◌, ◌==◌, if◌then◌else◌, Option, Some, None, filter_map, List, [], ◌∷◌, ◌++◌, length, vec_capacity}
+use Rattle.std.specs.List.{flat_map}
+use Rattle.std.specs.Io.KnownBytes.{Appends}
+use Rattle.xa_desk.specs.DeskView.{DeskView}
+use Rattle.xa_worker.specs.Workers.{Working}
+use Rattle.xa_worker.specs.Done.{Served}
+use Rattle.xa_script.specs.declared.script.Called.{Called}
+use Rattle.xa_script.specs.declared.script.Declared.{Declared}
+use Rattle.xa_script.specs.declared.script.Step.{Step}
+use Rattle.xa_script.specs.declared.script.Step.TheVariants as step
+use Rattle.xa_script.specs.declared.transcript.Answer.{Answer}
+use Rattle.xa_script.specs.declared.working.Worked.{Worked}
+use Rattle.xa_script.specs.declared.working.Lines.{Lines}
+use Rattle.xa_script.specs.declared.working.Post.{Post}
+use Rattle.xa_script.specs.declared.working.Post.TheVariants.{There, Here}
+use Rattle.xa_script.specs.declared.serving.Back.{Back}
+use Rattle.xa_script.specs.declared.serving.Back.TheVariants.{Ran, Unrun}
+use Rattle.xa_script.specs.declared.serving.Place.{Place}
+use Rattle.xa_script.specs.declared.serving.Place.TheVariants as serving
+use Rattle.xa_script.specs.Content.{Content}
+use Rattle.xa_script.specs.Chains.{Chain, Pairwise}
+use Rattle.xa_script.specs.Planning.{AreOpened}
+use Rattle.xa_script.specs.Calling.{Answers}
+use Rattle.xa_script.specs.Ending.{AllKept, EndsDesk}
+use Rattle.xa_script.specs.Values.{AreValues}
+use Rattle.xa_script.specs.Run.{HasServed}
+use Rattle.xa_script.specs.Transcript.{text}
+
+-- ---- the threads of a script
+
+-- The step where it is a call of thread t.
+abbrev pub call_of : ℕ → Step → Option Called
+call_of t (step.Call p) = if p.thread == t then Some p else None
+call_of t (step.Turn line m) = None
+
+-- The calls of thread t, in the order of their lines.
+abbrev pub calls_of : ℕ → List Step → List Called
+calls_of t steps = filter_map (call_of t) steps
+
+-- The desk answers a call.
+pub record Goes (p : Called) (old new : DeskView × List Answer) : Type 0 where
+  pub answer : Answer
+  pub answers : Answers p.action p old.0 new.0 answer
+  pub told : new.1 ≡ old.1 ++ answer ∷ []
+
+-- The desk answered these calls, one after the other; then what was outstanding was told, and the desk ended.
+pub record HasWorked (calls : List Called) (desk : DeskView) (worked : Worked) : Type 0 where
+  pub last : DeskView × List Answer
+  pub runs : Chain Goes (desk, []) calls last
+  pub ends : EndsDesk last.0 last.1 worked.desk worked.answers.items
+
+-- What is outstanding at the desk is kept, and there is room for the answers of the calls and for what may be outstanding behind them.
+pub record IsFit (lines : Lines) : Type 0 where
+  pub kept : AllKept lines.desk
+  pub none : lines.answers.items ≡ []
+  pub room : length lines.calls.items + 32 ≤ vec_capacity lines.answers
+
+-- What the desk's thread is to do: its own calls.
+pub record IsReady (steps : List Step) (desk : DeskView) (lines : Lines) : Type 0 where
+  pub own : lines.desk ≡ desk
+  pub calls : lines.calls.items ≡ calls_of desk.thread steps
+  pub fit : IsFit lines
+
+-- The lines' calls were made over their desk.
+abbrev pub IsDone : Lines → Worked → Type 0
+IsDone lines worked = HasWorked lines.calls.items lines.desk worked
+
+-- The lines' thread is at work, or was done with.
+abbrev pub IsAtWork : Lines → Post → Type 0
+IsAtWork lines (There handle) = handle.promise.0.value ≡ lines
+IsAtWork lines (Here worked) = IsDone lines worked
+
+-- ---- the workers
+
+-- The worker came back unrun, or has run.
+abbrev pub IsBack : Working → Back → Type 0
+IsBack w (Ran d) = HasServed w d
+IsBack w (Unrun v) = v ≡ w
+
+-- The worker's thread is at work, or the worker is back.
+abbrev pub IsServing : Working → Place → Type 0
+IsServing w (serving.There handle) = handle.promise.0.value ≡ w
+IsServing w (serving.Here back) = IsBack w back
+
+-- ---- the whole script
+
+-- What a run of a script in threads comes to. Over the desks of one opening each thread has made its own calls, and each worker of that opening has run to the last end mark; the answers are those of the threads by rising number, and the values those behind the workers' journals.
+pub record IsOutcomeOfThreads (s : Content) (answers : List Answer) (values : List Declared) : Type 0 where
+  pub desks : List DeskView
+  pub workers : List Working
+  pub opened : AreOpened s desks workers
+  pub threads : List Worked
+  pub worked : Pairwise (λ d w. HasWorked (calls_of d.thread s.steps) d w) desks threads
+  pub answered : answers ≡ flat_map (λ w. w.answers.items) threads
+  pub done : List Served
+  pub served : Pairwise HasServed workers done
+  pub shown : AreValues s done values
+
+-- What a writer holds grew by the transcript of a script that was run in threads.
+pub record WritesThreads (s : Content) (before behind : Option (List ℕ)) : Type 0 where
+  pub answers : List Answer
+  pub values : List Declared
+  pub outcome : IsOutcomeOfThreads s answers values
+  pub written : Appends before behind (text answers values)

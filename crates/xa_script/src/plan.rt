@@ -1,0 +1,84 @@
+//! What a script has opened: a desk for each of its threads and a worker for each of its managers.
+ghost use Rattle.std.specs.Prelude.{◌≡◌, ◌≤◌, All, IfOk, length, map};
+ghost use Rattle.std.specs.List.{range_with_len};
+ghost use Rattle.xa_switch.specs.Plans.{IsUpTo, IsSoundManager, IsSound};
+ghost use Rattle.xa_script.specs.Content.{accounts_of, managers_of};
+ghost use Rattle.xa_script.specs.Planning.{planned_of, planned, IsPlanOf, AreOpened};
+
+use crate::script::{Declared, Script};
+use std::alloc::{AllocError, Global};
+use xa_desk::Desk;
+use xa_switch::{ManagerPlan, OpenFault, Plan, open_switch};
+use xa_words::Key;
+use xa_worker::Worker;
+
+// The number of a run's one opening.
+const OPENING: u64 = 1;
+
+// What a manager is opened with.
+fn accounts_of(
+    alloc: Global,
+    manager: u32,
+    keys: &[Declared],
+) -> Result<Vec<(Key, u64)>, AllocError>
+    ensures { IfOk result (λ v. v.items ≡ accounts_of manager keys.now) }
+{
+    keys.iter()
+        .filter(|declared| declared.manager == manager)
+        .map(|declared| (declared.key, declared.value))
+        .collect(alloc)
+}
+
+// What the script says of a manager.
+fn manager_plan(alloc: Global, script: &Script, manager: u32) -> Result<ManagerPlan, AllocError>
+    ensures planned { IfOk result (λ p. planned_of p ≡ planned script.now manager) }
+    ensures sound { IfOk result IsSoundManager }
+{
+    Ok(ManagerPlan {
+        use_async: script.carries_async(manager),
+        accounts: accounts_of(alloc, manager, script.keys())?,
+    })
+}
+
+// The script's managers, by rising number.
+fn manager_plans(alloc: Global, script: &Script) -> Result<Vec<ManagerPlan>, AllocError>
+    ensures planned { IfOk result (λ v. map planned_of v.items ≡ map (planned script.now) (range_with_len 1 (managers_of script.now))) }
+    ensures sound { IfOk result (λ v. All IsSoundManager v.items) }
+    ensures limits { IfOk result (λ v. IsUpTo 8 (length v.items)) }
+{
+    let managers = script.managers();
+    let mut plans = Vec::with_capacity(alloc, managers as usize)?;
+    for before in 0..managers {
+        plans.push(manager_plan(alloc, script, before + 1)?)?;
+    }
+    Ok(plans)
+}
+
+// What the script says is to be opened.
+fn plan_of(alloc: Global, script: &Script) -> Result<Plan, AllocError>
+    ensures plan { IfOk result (IsPlanOf script.now) }
+    ensures sound { IfOk result IsSound }
+{
+    Ok(Plan {
+        opening: OPENING,
+        threads: script.threads(),
+        handles: script.handles(),
+        queue: script.queue(),
+        requests: script.requests(),
+        managers: manager_plans(alloc, script)?,
+    })
+}
+
+/// The desks of the script's threads and the workers of its managers, each by rising number.
+pub(crate) fn open(alloc: Global, script: &Script) -> Result<(Vec<Desk>, Vec<Worker>), AllocError>
+    ensures opened { IfOk result (λ r. AreOpened script.now r.0.items r.1.items) }
+    ensures few { IfOk result (λ r. length r.1.items ≤ 8) }
+{
+    let plan = plan_of(alloc, script)?;
+    match open_switch(alloc, &plan) {
+        Ok(opened) => Ok(opened),
+        Err(OpenFault::NoMemory) => Err(AllocError),
+        // A script's counts are within the limits, and its managers can be opened with their keys.
+        Err(OpenFault::BadPlan) => unreachable!(),
+    }
+}

@@ -1,0 +1,188 @@
+-- Desks and workers of one opening.
+use Rattle.std.proofs.Common.{◌≡◌, ℕ, zero, suc, ◌+◌, ◌<◌, ◌≤◌, List, [], ◌∷◌, length, slice_get, get_or, refl, sym, ap, ◌∙◌, subst, arith, map, Some}
+use Rattle.std.specs.List.{All}
+use Rattle.std.proofs.lemmas.List.{length-map}
+use Rattle.std.proofs.lemmas.Option.{slice_get_within, slice_get-get_or}
+use Rattle.xa_switch.specs.Columns.{Each}
+use Rattle.xa_switch.specs.Lanes.{AreRequestLanes, AreCompletionLanes, IsRequestSender, IsCompletionSender}
+use Rattle.xa_switch.specs.Openings.{desk_parts, worker_parts, DesksFit, WorkersFit, IsDeskOf, IsWorkerOf, IsNewDesk, IsNewWorker, AreTogether, AreOfOneOpening}
+use Rattle.xa_words.specs.declared.request.Request.{Request}
+use Rattle.xa_words.specs.declared.request.Completion.{Completion}
+use Rattle.xa_lane.specs.Rings.{RingId}
+use Rattle.xa_lane.specs.Senders.{QueueId}
+use Rattle.xa_lane.specs.Ends.{Sending, Receiving}
+use Rattle.xa_desk.specs.DeskView.{DeskView}
+use Rattle.xa_desk.specs.Lanes.{PartsView, new_desk}
+use Rattle.xa_worker.specs.Outgoing.{Answering}
+use Rattle.xa_worker.specs.Workers.{Reserved, Asking, Working, new_worker}
+use Rattle.xa_tables.specs.Managers.{Managed}
+use Rattle.xa_switch.specs.Plans.{manager_room, new_manager, completion_room}
+use Rattle.xa_switch.specs.declared.plan.Plan.{Plan}
+
+-- an element that is there
+pub element : {X : Type 0} (xs : List X) (k : ℕ) → k < length xs → (x : X) × (slice_get xs k ≡ Some x)
+element [] k h = absurd (omega arith)
+element (x ∷ xs) zero h = (x, refl)
+element (x ∷ xs) (suc k) h = element xs k (omega arith)
+
+pub same_element : {X : Type 0} (xs : List X) (k : ℕ) (x y : X) → slice_get xs k ≡ Some x → slice_get xs k ≡ Some y → x ≡ y
+same_element xs k x y e f = cc
+
+-- an element of the list that a function makes
+pub mapped : {X Y : Type 0} (f : X → Y) (xs : List X) (k : ℕ) (y : Y) → slice_get (map f xs) k ≡ Some y → (x : X) × (slice_get xs k ≡ Some x) × (y ≡ f x)
+mapped f [] k y e = cc
+mapped f (x ∷ xs) zero y e = let h : f x ≡ y = cc in (x, refl, sym h)
+mapped f (x ∷ xs) (suc k) y e = mapped f xs k y e
+
+-- what holds of each element with its place holds of each element
+all_each : {X : Type 0} (P : X → Type 0) (xs : List X) → Each (λ k x. P x) xs → All P xs
+all_each P xs each k d low = each k (get_or xs k d) (slice_get-get_or xs k d low)
+
+-- lanes, and desks and workers made of their ends
+pub record Ends (p : Plan) (deskparts : List PartsView) (workerparts : List Reserved) (managed : List Managed) (asks : List (List (Sending RingId Request))) (takes : List Asking) (answers : List (List Answering)) (hears : List (Receiving QueueId Completion)) : Type 0 where
+  pub threads : length deskparts ≡ p.threads
+  pub managers : length workerparts ≡ length p.managers.items
+  pub desk_parts_ : Each (λ k x. x ≡ desk_parts p (k + 1)) deskparts
+  pub worker_parts_ : Each (λ k x. x ≡ worker_parts p (k + 1)) workerparts
+  pub managed_ : managed ≡ map (new_manager p.threads (manager_room p)) p.managers.items
+  pub requests : AreRequestLanes p.opening p.threads (length p.managers.items) p.queue asks takes
+  pub completions : AreCompletionLanes p.opening p.threads (length p.managers.items) (completion_room p) answers hears
+
+-- the same where the number of managers was counted
+pub ends_of : (p : Plan) (many : ℕ) (deskparts : List PartsView) (workerparts : List Reserved) (managed : List Managed) (asks : List (List (Sending RingId Request))) (takes : List Asking) (answers : List (List Answering)) (hears : List (Receiving QueueId Completion))
+    → many ≡ length p.managers.items → length deskparts ≡ p.threads → length workerparts ≡ length p.managers.items → Each (λ k x. x ≡ desk_parts p (k + 1)) deskparts → Each (λ k x. x ≡ worker_parts p (k + 1)) workerparts → managed ≡ map (new_manager p.threads (manager_room p)) p.managers.items
+    → AreRequestLanes p.opening p.threads many p.queue asks takes → AreCompletionLanes p.opening p.threads many (p.handles + 1 + many) answers hears
+    → Ends p deskparts workerparts managed asks takes answers hears
+ends_of p many deskparts workerparts managed asks takes answers hears counted threads managers desks workers managed_ requests completions = record {
+  threads = threads;
+  managers = managers;
+  desk_parts_ = desks;
+  worker_parts_ = workers;
+  managed_ = managed_;
+  requests = subst (λ n. AreRequestLanes p.opening p.threads n p.queue asks takes) counted requests;
+  completions = subst (λ n. AreCompletionLanes p.opening p.threads n (p.handles + 1 + n) answers hears) counted completions;
+}
+
+module _ (p : Plan) (deskparts : List PartsView) (workerparts : List Reserved) (managed : List Managed) (asks : List (List (Sending RingId Request))) (takes : List Asking) (answers : List (List Answering)) (hears : List (Receiving QueueId Completion))
+    (is : Ends p deskparts workerparts managed asks takes answers hears) where
+  -- the senders of thread t + 1 are on the lanes to each manager
+  request_senders : (t : ℕ) (c : List (Sending RingId Request)) → slice_get asks t ≡ Some c → Each (IsRequestSender p.opening p.queue t) c
+  request_senders t c at m s at_s =
+      let low = slice_get_within c m s at_s in
+      let deep = is.requests.deep t c at in
+      let many = is.requests.many in
+      let r = element takes m (omega (arith, low, deep, many)) in
+      (is.requests.dealt t m c s r.0 at at_s r.1).0
+
+  completion_senders : (m : ℕ) (c : List Answering) → slice_get answers m ≡ Some c → Each (IsCompletionSender p.opening (completion_room p) m) c
+  completion_senders m c at t s at_s =
+      let low = slice_get_within c t s at_s in
+      let deep = is.completions.deep m c at in
+      let many = is.completions.many in
+      let r = element hears t (omega (arith, low, deep, many)) in
+      (is.completions.dealt m t c s r.0 at at_s r.1).0
+
+  -- a manager's room and threads are the plan's
+  managed_is : (m : ℕ) (x : Managed) → slice_get managed m ≡ Some x → (x.threads ≡ p.threads) × (x.room ≡ manager_room p)
+  managed_is m x at =
+      let plan = mapped (new_manager p.threads (manager_room p)) p.managers.items m x (ap (λ l. slice_get l m) (sym is.managed_) ∙ at) in
+      (ap (λ y. y.threads) plan.2, ap (λ y. y.room) plan.2)
+
+  -- what goes together fits together: a desk
+  pub desks_fit : DesksFit deskparts asks hears
+  desks_fit t part c r at_part at_c at_r =
+      let same = is.desk_parts_ t part at_part in
+      let thread : part.thread ≡ t + 1 = ap (λ x. x.thread) same in
+      let managers : length part.use_async ≡ length p.managers.items = ap (λ x. length x.use_async) same ∙ length-map p.managers.items (λ m. m.use_async) in
+      let senders = request_senders t c at_c in
+      let receiver = is.completions.receivers t r at_r in
+      let opening : r.lane.opening ≡ p.opening = ap (λ x. x.lane.opening) receiver in (
+        record {
+          number = is.requests.deep t c at_c ∙ sym managers;
+          to = λ m s at_s. record {
+            sender = ap (λ x. x.index + 1) (senders m s at_s) ∙ sym thread;
+            opening_ = ap (λ x. x.lane.opening) (senders m s at_s) ∙ sym opening;
+            lane = ap (λ x. x.lane.index) (senders m s at_s);
+          };
+          lane = ap (λ x. x.lane.index) receiver ∙ sym thread;
+          senders = ap (λ x. x.senders) receiver ∙ sym managers;
+        },
+        record {
+          sent = all_each (λ s. s.sent ≡ []) c (λ m s at_s. ap (λ x. x.sent) (senders m s at_s));
+          taken = ap (λ x. x.taken) receiver;
+        },
+      )
+
+  -- a worker with its manager
+  manager_fits : p.threads ≤ 8 → (m : ℕ) (part : Reserved) (x : Managed) → slice_get workerparts m ≡ Some part → slice_get managed m ≡ Some x → (x.room ≡ part.room) × (x.threads ≤ 8)
+  manager_fits low m part x at_part at_x =
+      let of = managed_is m x at_x in
+      let threads = of.0 in
+      (of.1 ∙ sym (ap (λ y. y.room) (is.worker_parts_ m part at_part)), omega (arith, threads, low))
+
+  -- a manager with the lane of its requests
+  requests_fit : (m : ℕ) (x : Managed) (r : Asking) → slice_get managed m ≡ Some x → slice_get takes m ≡ Some r → (r.senders ≡ x.threads) × (r.taken ≡ [])
+  requests_fit m x r at_x at_r =
+      let receiver = (is.requests.receivers m r at_r).0 in
+      (ap (λ y. y.senders) receiver ∙ sym (managed_is m x at_x).0, ap (λ y. y.taken) receiver)
+
+  -- a manager with its senders of completions
+  completions_fit : (m : ℕ) (x : Managed) (c : List Answering) → slice_get managed m ≡ Some x → slice_get answers m ≡ Some c → (length c ≡ x.threads) × All (λ s. s.sent ≡ []) c
+  completions_fit m x c at_x at_c =
+      (is.completions.deep m c at_c ∙ sym (managed_is m x at_x).0, all_each (λ s. s.sent ≡ []) c (λ t s at_s. ap (λ y. y.sent) (completion_senders m c at_c t s at_s)))
+
+  pub workers_fit : p.threads ≤ 8 → WorkersFit workerparts managed takes answers
+  workers_fit low = record { memory = manager_fits low; requests = requests_fit; completions = completions_fit }
+
+  new_desk_is : (t : ℕ) (d : DeskView) → IsDeskOf deskparts asks hears t d → IsNewDesk p t d
+  new_desk_is t d of =
+      subst (λ x. IsNewDesk p t x) (sym of.made)
+      (record {
+        made = ap (λ x. new_desk x of.requests of.completions) (is.desk_parts_ t of.part of.part_at);
+        managers = is.requests.deep t of.requests of.requests_at;
+        requests = request_senders t of.requests of.requests_at;
+        completions = is.completions.receivers t of.completions of.completions_at;
+      })
+
+  new_worker_is : (m : ℕ) (w : Working) → IsWorkerOf workerparts managed takes answers m w → IsNewWorker p m w
+  new_worker_is m w of =
+      let plan = mapped (new_manager p.threads (manager_room p)) p.managers.items m of.manager (ap (λ l. slice_get l m) (sym is.managed_) ∙ of.manager_at) in
+      subst (λ x. IsNewWorker p m x) (sym of.made)
+      (record {
+        plan = plan.0;
+        planned = plan.1;
+        made = ap (λ x. new_worker x.number of.manager of.requests of.senders) (is.worker_parts_ m of.part of.part_at) ∙ ap (λ x. new_worker (m + 1) x of.requests of.senders) plan.2;
+        threads = is.completions.deep m of.senders of.senders_at;
+        requests = is.requests.receivers m of.requests of.requests_at;
+        completions = completion_senders m of.senders of.senders_at;
+      })
+
+  together_are : (t m : ℕ) (d : DeskView) (w : Working) → IsDeskOf deskparts asks hears t d → IsWorkerOf workerparts managed takes answers m w → AreTogether t m d w
+  together_are t m d w of_d of_w =
+      let t_low = slice_get_within deskparts t of_d.part of_d.part_at in
+      let m_low = slice_get_within workerparts m of_w.part of_w.part_at in
+      let t_many = is.threads in
+      let m_many = is.managers in
+      let asks_deep = is.requests.deep t of_d.requests of_d.requests_at in
+      let answers_deep = is.completions.deep m of_w.senders of_w.senders_at in
+      let s = element of_d.requests m (omega (arith, m_low, m_many, asks_deep)) in
+      let a = element of_w.senders t (omega (arith, t_low, t_many, answers_deep)) in
+      subst (λ x. AreTogether t m x w) (sym of_d.made)
+      (subst (λ x. AreTogether t m (new_desk of_d.part of_d.requests of_d.completions) x) (sym of_w.made)
+      (record {
+        asking = s.0;
+        asks = s.1;
+        asked = (is.requests.dealt t m of_d.requests s.0 of_w.requests of_d.requests_at s.1 of_w.requests_at).1;
+        answering = a.0;
+        answers = a.1;
+        answered = (is.completions.dealt m t of_w.senders a.0 of_d.completions of_w.senders_at a.1 of_d.completions_at).1;
+      }))
+
+  pub one_opening : (ds : List DeskView) (ws : List Working) → length ds ≡ length deskparts → length ws ≡ length workerparts → Each (IsDeskOf deskparts asks hears) ds → Each (IsWorkerOf workerparts managed takes answers) ws → AreOfOneOpening p ds ws
+  one_opening ds ws many_d many_w desks workers = record {
+    threads = many_d ∙ is.threads;
+    managers = many_w ∙ is.managers;
+    desks = λ t d at. new_desk_is t d (desks t d at);
+    workers = λ m w at. new_worker_is m w (workers m w at);
+    together = λ t m d w at_d at_w. together_are t m d w (desks t d at_d) (workers m w at_w);
+  }

@@ -1,0 +1,62 @@
+//! What is to be opened.
+ghost use Rattle.std.specs.Prelude.{◌≡◌, ◌↔◌, IsTrue};
+ghost use Rattle.xa_switch.specs.Plans.{IsUpTo, IsWithinLimits, manager_room};
+
+use xa_words::Key;
+
+/// An opening: its number, which is its own, and what it has.
+#[derive(Drop)]
+pub struct Plan {
+    /// The number of the opening, which no other has.
+    pub opening: u64,
+    /// How many threads of control there are: 1 to 8.
+    pub threads: u32,
+    /// How many operations of a thread may be outstanding: 1 to 32.
+    pub handles: u32,
+    /// How many requests of a thread a manager's queue holds: 1 to 64.
+    pub queue: u32,
+    /// How many requests a thread may put to a manager: 1 to 4,096.
+    pub requests: u32,
+    /// The managers, 1 to 8, which are numbered from 1.
+    pub managers: Vec<ManagerPlan>,
+}
+
+/// One manager of an opening.
+#[derive(Drop)]
+pub struct ManagerPlan {
+    /// Whether it takes asynchronous calls: `TMUSEASYNC` (C193, chapter 4).
+    pub use_async: bool,
+    /// Its keys with their values: at most 256, none twice, and no value over 1,000,000,000,000.
+    pub accounts: Vec<(Key, u64)>,
+}
+
+/// Why nothing is opened: the first reason that holds.
+#[derive(Clone, Copy, Debug, PartialEq, Eq)]
+pub enum OpenFault {
+    /// A number is outside its limits, or a manager's accounts are not to be had.
+    BadPlan,
+    /// There is no memory for it.
+    NoMemory,
+}
+
+impl Plan {
+    /// Whether each number is within its limits.
+    pub(crate) fn is_within_limits(&self) -> bool
+        ensures { IsTrue result ↔ IsWithinLimits self.now }
+    {
+        (1..=8).contains(&self.threads)
+            && (1..=8).contains(&self.managers.len())
+            && (1..=32).contains(&self.handles)
+            && (1..=64).contains(&self.queue)
+            && (1..=4096).contains(&self.requests)
+    }
+
+    /// How many requests may be put to a manager.
+    pub(crate) fn manager_room(&self) -> u32
+        requires { IsWithinLimits self.now }
+        ensures room { result ≡ manager_room self.now }
+        ensures limits { IsUpTo 32768 result }
+    {
+        self.threads * self.requests
+    }
+}

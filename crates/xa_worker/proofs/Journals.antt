@@ -1,0 +1,58 @@
+-- Journals that grow by an entry.
+use Rattle.std.proofs.Common.{◌≡◌, ℕ, ◌-◌, ◌<◌, ◌==◌, true, false, cond, List, [], ◌∷◌, ◌++◌, length, map, get_or, refl, sym, ap, subst, ◌∙◌, arith, Option, Some, None}
+use Rattle.std.specs.Prelude.{filter}
+use Rattle.std.specs.List.{last_or}
+use Rattle.std.proofs.lemmas.List.{map-append}
+use Rattle.std.proofs.lemmas.List.Elements.{filter-append}
+use Rattle.xa_words.specs.declared.request.Request.{Request}
+use Rattle.xa_tables.specs.Tables.{Tables}
+use Rattle.xa_tables.specs.Next.{next}
+use Rattle.xa_tables.specs.History.{History, codes, tables_after}
+use Rattle.xa_worker.specs.Journal.{Entry, entry_next, tables_next, requests, codes_in, Follows, completion_of, answers}
+
+codes-more : (h : History) (r : Request) (T : Tables) → codes (h ++ r ∷ []) T ≡ codes h T ++ (entry_next r (tables_after h T)).1 ∷ []
+codes-more [] r T = refl
+codes-more (x ∷ h) r T = ap (λ cs. (next x.thread x.op T).1 ∷ cs) (codes-more h r (next x.thread x.op T).0)
+
+tables-more : (h : History) (r : Request) (T : Tables) → tables_after (h ++ r ∷ []) T ≡ tables_next r (tables_after h T)
+tables-more [] r T = refl
+tables-more (x ∷ h) r T = tables-more h r (next x.thread x.op T).0
+
+-- one more request, with the code and the tables that come next
+pub follows_more : (first : Tables) (journal after : List Entry) (now then : Tables) (r : Request) → after ≡ journal ++ entry_next r now ∷ [] → then ≡ tables_next r now → Follows first journal now → Follows first after then
+follows_more first journal after now then r e n f =
+    let h : requests after ≡ requests journal ++ r ∷ [] = ap requests e ∙ map-append (λ (x : Entry). x.0) journal (entry_next r now ∷ []) in
+    let k : codes_in after ≡ codes_in journal ++ (entry_next r now).1 ∷ [] = ap codes_in e ∙ map-append (λ (x : Entry). x.1) journal (entry_next r now ∷ []) in
+    record {
+      codes_then = k ∙ ap (λ cs. cs ++ (entry_next r now).1 ∷ []) f.codes_then ∙ ap (λ (t : Tables). codes (requests journal) first ++ (entry_next r t).1 ∷ []) f.tables_then ∙ sym (codes-more (requests journal) r first) ∙ ap (λ (x : History). codes x first) (sym h);
+      tables_then = n ∙ ap (λ (t : Tables). tables_next r t) f.tables_then ∙ sym (tables-more (requests journal) r first) ∙ ap (λ (x : History). tables_after x first) (sym h);
+    }
+
+-- an empty journal follows
+pub follows_none : (first : Tables) → Follows first [] first
+follows_none first = record { codes_then = refl; tables_then = refl }
+
+-- one more answer
+pub answers-more : (m t : ℕ) (journal : List Entry) (e : Entry) → answers m t (journal ++ e ∷ []) ≡ answers m t journal ++ cond (e.0.thread == t) (completion_of m e ∷ []) []
+answers-more m t journal e =
+    ap (map (completion_of m)) (filter-append (λ (x : Entry). x.0.thread == t) journal (e ∷ [])) ∙ map-append (completion_of m) (filter (λ (x : Entry). x.0.thread == t) journal) (filter (λ (x : Entry). x.0.thread == t) (e ∷ []))
+    ∙ elim (e.0.thread == t) as (λ b. answers m t journal ++ map (completion_of m) (cond b (e ∷ []) []) ≡ answers m t journal ++ cond b (completion_of m e ∷ []) []) [ true ↦ refl | false ↦ refl ]
+
+-- the last entry is the one that was entered last
+pub last_or-more : (o : Option Entry) (journal : List Entry) (e : Entry) → last_or o (journal ++ e ∷ []) ≡ Some e
+last_or-more o [] e = refl
+last_or-more o (x ∷ journal) e = last_or-more (Some x) journal e
+
+pub last_entered : (journal after : List Entry) (e : Entry) → after ≡ journal ++ e ∷ [] → last_or None after ≡ Some e
+last_entered journal after e grown = ap (last_or None) grown ∙ last_or-more None journal e
+
+-- the last entry stands at the last place
+last_here : (o : Option Entry) (x : Entry) (xs : List Entry) (d : Entry) → last_or o (x ∷ xs) ≡ Some (get_or (x ∷ xs) (length xs) d)
+last_here o x [] d = refl
+last_here o x (y ∷ ys) d = last_here (Some x) y ys d
+
+pub last_or-get : (xs : List Entry) (d : Entry) → 0 < length xs → last_or None xs ≡ Some (get_or xs (length xs - 1) d)
+last_or-get [] d h = absurd (omega arith)
+last_or-get (x ∷ xs) d h =
+    let e : length xs ≡ length (x ∷ xs) - 1 = omega arith in
+    subst (λ n. last_or None (x ∷ xs) ≡ Some (get_or (x ∷ xs) n d)) e (last_here None x xs d)

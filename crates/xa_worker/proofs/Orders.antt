@@ -1,0 +1,34 @@
+-- Of each thread: what the journal has, and what was taken of its sender.
+use Rattle.std.proofs.Common.{◌≡◌, ℕ, ◌+◌, ◌==◌, true, false, cond, List, [], ◌∷◌, map, Option, Some, None, refl, sym, ap, ◌∙◌, arith}
+use Rattle.xa_words.specs.declared.request.Request.{Request}
+use Rattle.xa_tables.specs.History.{of_thread}
+use Rattle.xa_lane.specs.declared.parcel.Parcel.{Parcel}
+use Rattle.xa_lane.specs.Order.{of_sender}
+use Rattle.xa_lane.specs.Ends.{somes}
+use Rattle.xa_lane.specs.Closing.{kept, items_in, left_of}
+use Rattle.xa_worker.specs.Journal.{Entry, requests}
+use Rattle.xa_worker.specs.Workers.{of_sender_thread, of_own_thread}
+use Rattle.xa_worker.specs.Done.{Served, IsServed, IsOrdered}
+use Rattle.xa_worker.proofs.Lanes.{same_eqb}
+
+module _ {T : Type 0} where
+  left_kept : (p q : ℕ) (i : Option T) (r : List (ℕ × T)) (ys : List (Option T)) → left_of p r ≡ somes ys → left_of p (kept q i r) ≡ somes (cond (q == p) (i ∷ ys) ys)
+  left_kept p q (Some y) r ys e = elim (q == p) as (λ b. cond b (y ∷ left_of p r) (left_of p r) ≡ somes (cond b (Some y ∷ ys) ys)) [ true ↦ ap (λ l. y ∷ l) e | false ↦ e ]
+  left_kept p q None r ys e = elim (q == p) as (λ b. left_of p r ≡ somes (cond b (None ∷ ys) ys)) [ true ↦ e | false ↦ e ]
+
+  left_is : (p : ℕ) (taken : List (Parcel T)) → left_of p (items_in taken) ≡ somes (of_sender p taken)
+  left_is p [] = refl
+  left_is p (x ∷ xs) = left_kept p x.from x.item (items_in xs) (of_sender p xs) (left_is p xs)
+
+left_numbered : (s : ℕ) (xs : List (ℕ × Request)) → left_of (s + 1) (map of_sender_thread xs) ≡ left_of s xs
+left_numbered s [] = refl
+left_numbered s (x ∷ xs) =
+    ap (λ b. cond b (x.1 ∷ left_of (s + 1) (map of_sender_thread xs)) (left_of (s + 1) (map of_sender_thread xs))) (same_eqb (x.0 + 1) (s + 1) x.0 s (λ e. omega arith) (λ e. omega arith))
+    ∙ ap (λ l. cond (x.0 == s) (x.1 ∷ l) l) (left_numbered s xs)
+
+left_threaded : (t : ℕ) (journal : List Entry) → left_of t (map of_own_thread journal) ≡ of_thread t (requests journal)
+left_threaded t [] = refl
+left_threaded t (e ∷ journal) = ap (λ l. cond (e.0.thread == t) (e.0 ∷ l) l) (left_threaded t journal)
+
+pub ordered : (d : Served) → IsServed d → IsOrdered d
+ordered d h s = sym (left_threaded (s + 1) d.journal) ∙ ap (left_of (s + 1)) (sym h.taken) ∙ left_numbered s (items_in d.receiver.taken) ∙ left_is s d.receiver.taken

@@ -1,0 +1,69 @@
+-- What was taken of a lane, with one parcel more.
+use Rattle.std.proofs.Common.{◌≡◌, ◌≢◌, ⊎_elim, ℕ, ◌+◌, ◌<◌, ◌==◌, Bool, true, false, ◌||◌, cond, List, [], ◌∷◌, ◌++◌, length, map, get_or, Option, Some, None, refl, sym, ap, ◌∙◌, subst, arith}
+use Rattle.std.proofs.Math.ListN.{set}
+use Rattle.std.proofs.Math.Bool.{or-false, or-true}
+use Rattle.std.proofs.lemmas.Bool.Decides.{eqb_tells}
+use Rattle.std.proofs.lemmas.List.{append-nil, map-append, get_or-set_same, get_or-set_other}
+use Rattle.xa_words.specs.declared.request.Request.{Request}
+use Rattle.xa_lane.specs.declared.parcel.Parcel.{Parcel}
+use Rattle.xa_lane.specs.Order.{of_sender}
+use Rattle.xa_lane.specs.Ends.{parcel, has_mark, has_ended}
+use Rattle.xa_lane.specs.Closing.{kept, items_in}
+use Rattle.xa_worker.specs.Workers.{asked, of_sender_thread}
+
+module _ {T : Type 0} where
+  kept-append : (p : ℕ) (i : Option T) (xs ys : List (ℕ × T)) → kept p i (xs ++ ys) ≡ kept p i xs ++ ys
+  kept-append p (Some y) xs ys = refl
+  kept-append p None xs ys = refl
+
+  items_in-append : (xs ys : List (Parcel T)) → items_in (xs ++ ys) ≡ items_in xs ++ items_in ys
+  items_in-append [] ys = refl
+  items_in-append (x ∷ xs) ys = ap (kept x.from x.item) (items_in-append xs ys) ∙ kept-append x.from x.item (items_in xs) (items_in ys)
+
+  of_sender-append : (p : ℕ) (xs ys : List (Parcel T)) → of_sender p (xs ++ ys) ≡ of_sender p xs ++ of_sender p ys
+  of_sender-append p [] ys = refl
+  of_sender-append p (x ∷ xs) ys =
+      elim (x.from == p) as (λ b. cond b (x.item ∷ of_sender p (xs ++ ys)) (of_sender p (xs ++ ys)) ≡ cond b (x.item ∷ of_sender p xs) (of_sender p xs) ++ of_sender p ys)
+      [ true ↦ ap (λ l. x.item ∷ l) (of_sender-append p xs ys) | false ↦ of_sender-append p xs ys ]
+
+  has_mark-append : (xs ys : List (Option T)) → has_mark (xs ++ ys) ≡ (has_mark xs || has_mark ys)
+  has_mark-append [] ys = refl
+  has_mark-append (Some y ∷ xs) ys = has_mark-append xs ys
+  has_mark-append (None ∷ xs) ys = refl
+
+  has_ended-append : (p : ℕ) (xs ys : List (Parcel T)) → has_ended p (xs ++ ys) ≡ (has_ended p xs || has_ended p ys)
+  has_ended-append p xs ys = ap has_mark (of_sender-append p xs ys) ∙ has_mark-append (of_sender p xs) (of_sender p ys)
+
+  -- an item ends nobody
+  pub ended_item : (p s : ℕ) (taken : List (Parcel T)) (x : T) → has_ended p (taken ++ parcel s (Some x) ∷ []) ≡ has_ended p taken
+  ended_item p s taken x =
+      has_ended-append p taken (parcel s (Some x) ∷ [])
+      ∙ elim (s == p) as (λ b. (has_ended p taken || has_mark (cond b (Some x ∷ []) [])) ≡ has_ended p taken) [ true ↦ or-false (has_ended p taken) | false ↦ or-false (has_ended p taken) ]
+
+  abbrev no_marks : List (Option T)
+  no_marks = []
+
+  -- an end mark ends its sender
+  ended_mark : (p s : ℕ) (taken : List (Parcel T)) → has_ended p (taken ++ parcel s None ∷ []) ≡ (has_ended p taken || (s == p))
+  ended_mark p s taken =
+      has_ended-append p taken (parcel s None ∷ [])
+      ∙ elim (s == p) as (λ b. (has_ended p taken || has_mark (cond b (None ∷ []) no_marks)) ≡ (has_ended p taken || b)) [ true ↦ refl | false ↦ refl ]
+
+  -- the flags of the senders, one more set
+  pub marked_end : (marks : List Bool) (taken : List (Parcel T)) (s : ℕ) → length marks ≡ 8 → s < 8 → ((i : ℕ) → i < 8 → get_or marks i false ≡ has_ended i taken)
+      → (i : ℕ) → i < 8 → get_or (set marks s true) i false ≡ has_ended i (taken ++ parcel s None ∷ [])
+  marked_end marks taken s eight below were i h =
+      ⊎_elim
+      (λ (x : ((s == i) ≡ true) × (s ≡ i)).
+      subst (λ j. get_or (set marks s true) j false ≡ true) x.1 (get_or-set_same marks s true false (omega (arith, eight, below)))
+      ∙ sym (ended_mark i s taken ∙ ap (λ b. has_ended i taken || b) x.0 ∙ or-true (has_ended i taken)))
+      (λ (x : ((s == i) ≡ false) × (s ≢ i)).
+      get_or-set_other marks s i true false (λ e. x.1 (sym e)) ∙ were i h
+      ∙ sym (ended_mark i s taken ∙ ap (λ b. has_ended i taken || b) x.0 ∙ or-false (has_ended i taken)))
+      (eqb_tells s i)
+
+pub asked_end : (taken : List (Parcel Request)) (s : ℕ) → asked (taken ++ parcel s None ∷ []) ≡ asked taken
+asked_end taken s = ap (map of_sender_thread) (items_in-append taken (parcel s None ∷ []) ∙ append-nil (items_in taken))
+
+pub asked_item : (taken : List (Parcel Request)) (s : ℕ) (r : Request) → asked (taken ++ parcel s (Some r) ∷ []) ≡ asked taken ++ (s + 1, r) ∷ []
+asked_item taken s r = ap (map of_sender_thread) (items_in-append taken (parcel s (Some r) ∷ [])) ∙ map-append of_sender_thread (items_in taken) ((s, r) ∷ [])

@@ -1,0 +1,155 @@
+-- What each kind of step keeps of a worker.
+use Rattle.std.proofs.Common.{◌≡◌, ◌⊎◌, ⊎_elim, append_assoc, ℕ, ◌+◌, ◌-◌, ◌<◌, ◌==◌, Bool, true, false, cond, List, [], ◌∷◌, ◌++◌, length, map, get_or, Option, Some, None, refl, sym, ap, ◌∙◌, subst, arith}
+use Rattle.std.specs.Prelude.{is_some}
+use Rattle.std.proofs.lemmas.List.{append-nil, map-append, length-map}
+use Rattle.xa_words.specs.declared.request.Request.{Request}
+use Rattle.xa_words.specs.declared.request.Completion.{Completion}
+use Rattle.xa_tables.specs.Managers.{Managed}
+use Rattle.xa_lane.specs.declared.parcel.Taken.TheVariants.{Item, EndOf, Empty as Nothing}
+use Rattle.xa_lane.specs.Ends.{Took}
+use Rattle.xa_worker.specs.Journal.{Entry, entry_next, applied, completion_of, answers}
+use Rattle.xa_worker.specs.Outgoing.{Answering, Outgoing, SameLanes, plain, sent_at, waiting_at, put_to}
+use Rattle.xa_worker.specs.Workers.{Working, Asking, IsTied, IsUnfit, IsHeldUnfit, IsFinished, SameWorker, Extends, asked, of_own_thread, in_hand, new_worker}
+use Rattle.xa_worker.specs.declared.step.Step.{Step}
+use Rattle.xa_worker.specs.declared.step.Step.TheVariants.{Did, Late, EndSeen, Empty, Blocked}
+use Rattle.xa_worker.specs.Steps.{EntersOne, Waits, StillHolds, Holds, Stepped, step_of}
+use Rattle.xa_worker.specs.Done.{served, IsServed}
+use Rattle.xa_worker.proofs.Journals.{follows_more, follows_none, answers-more}
+use Rattle.xa_worker.proofs.Lanes.{same_eqb, length-lanes, sent_none, sent_plain}
+use Rattle.xa_worker.proofs.Parcels.{asked_end, asked_item}
+
+pub tied_new : (number : ℕ) (manager : Managed) (receiver : Asking) (senders : List Answering) → receiver.senders ≡ manager.threads → length senders ≡ manager.threads → receiver.taken ≡ []
+    → ((i : ℕ) (d : Answering) → i < length senders → (get_or senders i d).sent ≡ []) → IsTied (new_worker number manager receiver senders)
+tied_new number manager receiver senders threads lanes taken none = record {
+  follows = follows_none manager.tables;
+  taken = ap asked taken;
+  sent = λ k. append-nil (sent_at k senders) ∙ sent_none k senders none;
+  held = tt;
+  senders = threads;
+  lanes = lanes;
+}
+
+module _ (w : Working) (o : Outgoing) (same : SameLanes w.out.senders o.senders) (put : (k : ℕ) → put_to k o ≡ put_to k w.out) (t : IsTied w) where
+  -- an earlier completion was sent, or still waits
+  pub tied_out : IsTied (record w { out = o })
+  tied_out = record {
+    follows = t.follows;
+    taken = t.taken;
+    sent = λ k. put k ∙ t.sent k;
+    held = t.held;
+    senders = t.senders;
+    lanes = length-lanes w.out.senders o.senders same ∙ t.lanes;
+  }
+
+  module _ (r' : Asking) where
+    pub tied_nothing : Took w.receiver Nothing r' → IsTied (record w { receiver = r'; out = o })
+    tied_nothing took = record {
+      follows = t.follows;
+      taken = ap (λ (x : Asking). asked x.taken) took ∙ t.taken;
+      sent = λ k. put k ∙ t.sent k;
+      held = t.held;
+      senders = ap (λ (x : Asking). x.senders) took ∙ t.senders;
+      lanes = length-lanes w.out.senders o.senders same ∙ t.lanes;
+    }
+
+    pub tied_end : (s : ℕ) → Took w.receiver (EndOf s) r' → IsTied (record w { receiver = r'; out = o })
+    tied_end s took = record {
+      follows = t.follows;
+      taken = ap (λ (x : Asking). asked x.taken) took.1 ∙ asked_end w.receiver.taken s ∙ t.taken;
+      sent = λ k. put k ∙ t.sent k;
+      held = t.held;
+      senders = ap (λ (x : Asking). x.senders) took.1 ∙ t.senders;
+      lanes = length-lanes w.out.senders o.senders same ∙ t.lanes;
+    }
+
+    module _ (s : ℕ) (r : Request) (none : w.held ≡ None) (took : Took w.receiver (Item s r) r') where
+      before : asked w.receiver.taken ≡ map of_own_thread w.journal
+      before = t.taken ∙ ap (λ h. map of_own_thread w.journal ++ in_hand h) none ∙ append-nil (map of_own_thread w.journal)
+
+      after : asked r'.taken ≡ map of_own_thread w.journal ++ (s + 1, r) ∷ []
+      after = ap (λ (x : Asking). asked x.taken) took.1 ∙ asked_item w.receiver.taken s r ∙ ap (λ xs. xs ++ (s + 1, r) ∷ []) before
+
+      pub tied_hold : IsUnfit s r w.manager.room → IsTied (record w { receiver = r'; out = o; held = Some (s, r) })
+      tied_hold unfit = record {
+        follows = t.follows;
+        taken = after;
+        sent = λ k. put k ∙ t.sent k;
+        held = unfit;
+        senders = ap (λ (x : Asking). x.senders) took.1 ∙ t.senders;
+        lanes = length-lanes w.out.senders o.senders same ∙ t.lanes;
+      }
+
+      pub tied_enter : (m : Managed) (p : Outgoing) (journal : List Entry) → r.thread ≡ s + 1 → m ≡ applied r w.manager → journal ≡ w.journal ++ entry_next r w.manager.tables ∷ [] → SameLanes o.senders p.senders
+          → ((k : ℕ) → put_to k p ≡ put_to k o ++ cond ((r.thread - 1) == k) (completion_of w.number (entry_next r w.manager.tables) ∷ []) []) → IsTied (record w { manager = m; receiver = r'; out = p; journal = journal })
+      tied_enter m p journal thread carried entered lanes more =
+          let e : Entry = entry_next r w.manager.tables in
+          let c : Completion = completion_of w.number e in
+          let threads : m.threads ≡ w.manager.threads = ap (λ (x : Managed). x.threads) carried in
+          record {
+            follows = follows_more w.first w.journal journal w.manager.tables m.tables r entered (ap (λ (x : Managed). x.tables) carried) t.follows;
+            taken =
+                after ∙ ap (λ n. map of_own_thread w.journal ++ (n, r) ∷ []) (sym thread) ∙ sym (map-append of_own_thread w.journal (e ∷ [])) ∙ ap (map of_own_thread) (sym entered)
+                ∙ sym (append-nil (map of_own_thread journal)) ∙ ap (λ h. map of_own_thread journal ++ in_hand h) (sym none);
+            sent = λ k. more k ∙ ap (λ xs. xs ++ cond ((r.thread - 1) == k) (c ∷ []) []) (put k ∙ t.sent k)
+                ∙ ap (λ b. answers w.number (k + 1) w.journal ++ cond b (c ∷ []) []) (same_eqb (r.thread - 1) k r.thread (k + 1) (λ q. omega (arith, thread)) (λ q. omega (arith, thread)))
+                ∙ sym (answers-more w.number (k + 1) w.journal e) ∙ ap (answers w.number (k + 1)) (sym entered);
+            held = subst (λ x. IsHeldUnfit x m.room) (sym none) tt;
+            senders = ap (λ (x : Asking). x.senders) took.1 ∙ t.senders ∙ sym threads;
+            lanes = length-lanes o.senders p.senders lanes ∙ length-lanes w.out.senders o.senders same ∙ t.lanes ∙ sym threads;
+          }
+
+pub none_of : {X : Type 0} (h : Option X) → is_some h ≡ false → h ≡ None
+none_of None e = refl
+none_of (Some x) e = absurd (cc)
+
+pub some_of : {X : Type 0} (h : Option X) → is_some h ≡ true → (x : X) × (h ≡ Some x)
+some_of None e = absurd (cc)
+some_of (Some x) e = (x, refl)
+
+-- a worker that has finished, and has put its end marks
+pub served_by : (w : Working) (ends : List Answering) → IsTied w → IsFinished w → map plain ends ≡ map plain w.out.senders → IsServed (served w.number w.first w.manager w.receiver ends w.journal)
+served_by w ends t f e = record {
+  follows = t.follows;
+  taken = t.taken ∙ ap (λ h. map of_own_thread w.journal ++ in_hand h) f.held ∙ append-nil (map of_own_thread w.journal);
+  sent = λ k. sent_plain k w.out.senders ends e ∙ sym (ap (λ h. sent_at k w.out.senders ++ waiting_at k h) f.waiting ∙ append-nil (sent_at k w.out.senders)) ∙ t.sent k;
+  ended = f.ended;
+  senders = t.senders;
+  lanes = sym (length-map ends plain) ∙ ap length e ∙ length-map w.out.senders plain ∙ t.lanes;
+}
+
+-- a request is late where the manager was shut before it
+pub stepped : (w w' : Working) (b : Bool) → w.manager.tables.shut ≡ b → EntersOne w w' → Stepped w (step_of b) w'
+stepped w w' true e n = (n, e)
+stepped w w' false e n = (n, e)
+
+-- steps follow one another
+pub same-chain : (u v w : Working) → SameWorker u v → SameWorker v w → SameWorker u w
+same-chain u v w a b = record {
+  number = b.number ∙ a.number;
+  first = b.first ∙ a.first;
+  threads = b.threads ∙ a.threads;
+  receiver = (b.receiver.0 ∙ a.receiver.0, b.receiver.1 ∙ a.receiver.1, b.receiver.2 ∙ a.receiver.2, b.receiver.3 ∙ a.receiver.3);
+  lanes = b.lanes ∙ a.lanes;
+}
+
+pub extends-chain : (i j k : List Entry) → Extends i j → Extends j k → Extends i k
+extends-chain i j k a b = (a.0 ++ b.0, b.1 ∙ ap (λ es. es ++ b.0) a.1 ∙ append_assoc i a.0 b.0)
+
+stays : (w w' : Working) → w'.journal ≡ w.journal → Extends w.journal w'.journal
+stays w w' e = ([], e ∙ sym (append-nil w.journal))
+
+-- each step leaves the journal or adds to it
+pub stepped-extends : (w : Working) (s : Step) (w' : Working) → Stepped w s w' → Extends w.journal w'.journal
+stepped-extends w Did w' h = (entry_next h.0.1 w.manager.tables ∷ [], h.0.2.journal)
+stepped-extends w Late w' h = (entry_next h.0.1 w.manager.tables ∷ [], h.0.2.journal)
+stepped-extends w EndSeen w' h = stays w w' (ap (λ (x : Working). x.journal) h.3)
+stepped-extends w Empty w' h = stays w w' (ap (λ (x : Working). x.journal) h.2)
+stepped-extends w Blocked w' h =
+    ⊎_elim
+    (λ (x : Waits w w'). stays w w' (ap (λ (y : Working). y.journal) x.1))
+    (λ (x : StillHolds w w' ⊎ Holds w w').
+    ⊎_elim
+    (λ (y : StillHolds w w'). stays w w' (ap (λ (z : Working). z.journal) y.3))
+    (λ (y : Holds w w'). stays w w' (ap (λ (z : Working). z.journal) y.5))
+    x)
+    h

@@ -1,0 +1,7 @@
+use Rattle.std.proofs.Common.{subst}
+use Rattle.xa_worker.specs.Done.{IsServed}
+use Rattle.xa_worker.proofs.Orders.{ordered}
+use Rattle.xa_worker.proofs.done.DoneWorker.journal.Goals as goal
+
+pub returns-clause-ordered : goal.returns-clause-ordered
+returns-clause-ordered c = ordered _ (subst IsServed c.self.view_is c.self.invariant.served)

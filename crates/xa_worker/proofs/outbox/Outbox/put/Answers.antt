@@ -1,0 +1,8 @@
+use Rattle.std.proofs.Common.{length, ap, arith}
+use Rattle.xa_worker.specs.Outgoing.{Outgoing}
+use Rattle.xa_worker.proofs.outbox.Outbox.put.Goals as goal
+
+pub invariant_of-self : goal.invariant_of-self
+invariant_of-self g c =
+    let e = ap (λ (o : Outgoing). length o.senders) c.self.view_is in
+    omega (arith, c.offer_at.ensures.len, c.requires.place, e)

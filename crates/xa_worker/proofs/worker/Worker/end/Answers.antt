@@ -1,0 +1,17 @@
+use Rattle.std.proofs.Common.{map, sym, ap, subst, ◌∙◌, refl, append-nil, []}
+use Rattle.xa_worker.specs.Outgoing.{plain}
+use Rattle.xa_worker.specs.Workers.{IsFinished}
+use Rattle.xa_worker.specs.Inner.{working_of}
+use Rattle.xa_worker.proofs.Lanes.{lanes_plain}
+use Rattle.xa_worker.proofs.Ties.{served_by}
+use Rattle.xa_worker.proofs.worker.Worker.end.Goals as goal
+
+pub new-requires-clause-served : goal.new-requires-clause-served
+new-requires-clause-served g c =
+    let f = subst IsFinished (sym c.self.view_is) c.requires in
+    served_by (working_of c.self.inside) _ c.self.invariant.tied f (c.end_all-ends.ensures ∙ ap (map plain) c.into_senders.ensures)
+
+pub returns-clause-same : goal.returns-clause-same
+returns-clause-same g c =
+    let e = lanes_plain _ _ (c.end_all-ends.ensures ∙ ap (map plain) c.into_senders.ensures) in
+    rw (c.new.ensures, ← c.self.view_is) (record { number = refl; first = refl; threads = refl; receiver = (refl, refl, refl, refl); lanes = e; journal = ([], sym (append-nil _)) })

@@ -1,0 +1,8 @@
+use Rattle.xa_worker.proofs.Ties.{same-chain, extends-chain, stepped-extends}
+use Rattle.xa_worker.proofs.worker.Worker.run.Goals as goal
+
+pub loop-preserved : goal.loop-preserved
+loop-preserved g c = record {
+  same = same-chain c.args.self c.loop.worker c.step.new.self c.loop.invariant.same c.step.ensures.same;
+  journal = extends-chain c.args.self.journal c.loop.worker.journal c.step.new.self.journal c.loop.invariant.journal (stepped-extends c.loop.worker c.step.result c.step.new.self c.step.ensures.step);
+}

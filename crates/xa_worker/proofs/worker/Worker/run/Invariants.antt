@@ -1,0 +1,8 @@
+use Rattle.xa_worker.specs.Workers.{SameWorker, Extends}
+use Rattle.xa_worker.proofs.worker.Worker.run.Given as goal
+
+abbrev pub invariant-loop : goal.invariant-loop
+invariant-loop g l = record {
+  same : SameWorker l.fn.self l.worker;
+  journal : Extends l.fn.self.journal l.worker.journal;
+}

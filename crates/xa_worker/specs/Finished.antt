@@ -1,0 +1,14 @@
+-- How the parts of a worker that has run are kept.
+use Rattle.std.specs.Prelude.{◌≤◌}
+use Rattle.xa_worker.specs.Workers.{first_tables}
+use Rattle.xa_worker.specs.Done.{Served, served, IsServed}
+use Rattle.xa_worker.specs.declared.done.DoneWorker.TheInside.{Inside}
+
+-- what contracts see of the parts
+abbrev pub served_of : Inside → Served
+served_of w = served w.number (first_tables w.given.items) w.manager w.receiver w.ends.items w.journal.items
+
+-- what holds of the parts
+pub record IsDone (w : Inside) : Type 0 where
+  pub served : IsServed (served_of w)
+  pub few : w.manager.threads ≤ 8

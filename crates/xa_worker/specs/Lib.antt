@@ -1,0 +1,7 @@
+pub mod Journal
+pub mod Outgoing
+pub mod Workers
+pub mod Steps
+pub mod Done
+pub mod Inner
+pub mod Finished

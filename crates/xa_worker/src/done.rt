@@ -1,0 +1,141 @@
+//! A worker that has run.
+ghost use Rattle.std.specs.Prelude.{◌≡◌, ◌≤◌, option_map, pos};
+ghost use Rattle.std.specs.FinMap as finmap;
+ghost use Rattle.xa_tables.specs.History.{IsOpening, value_after};
+ghost use Rattle.xa_worker.specs.Journal.{requests};
+ghost use Rattle.xa_worker.specs.Done.{IsServed, IsOrdered, served};
+ghost use Rattle.xa_worker.specs.Workers.{first_tables};
+
+use http_server::Log;
+use std::marker::Model;
+use xa_lane::{Ended, RingReceiver};
+use xa_tables::Manager;
+use xa_tables::laws::value_is_sum;
+use xa_words::{Code, Completion, Key, Request};
+
+/// A worker that has run: each thread's end mark was taken, nothing is held, and its senders are ended.
+#[derive(Drop)]
+pub struct DoneWorker {
+    number: u32,
+    // The manager as it was given, with its number. It has no bytes: only proofs read it.
+    given: Log<u32, Manager>,
+    manager: Manager,
+    receiver: RingReceiver<Request>,
+    ends: Vec<Ended<Completion>>,
+    journal: Vec<(Request, Code)>,
+}
+
+impl Model for DoneWorker {
+    ghost use Rattle.std.specs.Coded.{codes};
+    ghost use Rattle.xa_tables.specs.Managers.{tables_code, managed_code};
+    ghost use Rattle.xa_worker.specs.Done.{Served};
+
+    ghost Value = { Served };
+
+    ghost coded = { Prim.hlevel (codes, tables_code, managed_code) };
+
+    ghost use Rattle.xa_worker.specs.Finished.{served_of, IsDone};
+
+    ghost view = { served_of };
+
+    ghost invariant = { IsDone };
+}
+
+/// The parts of a worker that has run.
+#[derive(Drop)]
+pub struct Apart {
+    pub manager: Manager,
+    /// The end of the lane of requests.
+    pub receiver: RingReceiver<Request>,
+    /// The ends of the lanes of completions, by rising thread.
+    pub ends: Vec<Ended<Completion>>,
+    /// The requests in the order in which they were taken, each with its code.
+    pub journal: Vec<(Request, Code)>,
+}
+
+impl DoneWorker {
+    pub(crate) fn new(
+        number: u32,
+        given: Log<u32, Manager>,
+        manager: Manager,
+        receiver: RingReceiver<Request>,
+        ends: Vec<Ended<Completion>>,
+        journal: Vec<(Request, Code)>,
+    ) -> DoneWorker
+        requires served { IsServed (served number (first_tables given.items) manager receiver ends.items journal.items) }
+        requires few { manager.threads ≤ 8 }
+        ensures { result ≡ served number (first_tables given.items) manager receiver ends.items journal.items }
+    {
+        DoneWorker {
+            number,
+            given,
+            manager,
+            receiver,
+            ends,
+            journal,
+        }
+    }
+
+    /// The number of its manager, from 1.
+    pub fn number(&self) -> u32
+        ensures { result ≡ self.now.number }
+    {
+        self.number
+    }
+
+    /// The opening that its lane of requests is of.
+    pub fn opening(&self) -> u64
+        ensures { result ≡ self.now.receiver.lane.opening }
+    {
+        self.receiver.name().opening
+    }
+
+    /// How many threads its opening has, 1 to 8.
+    pub fn peers(&self) -> u32
+        ensures { result ≡ self.now.manager.threads }
+    {
+        self.ends.len() as u32
+    }
+
+    /// The requests in the order in which they were taken, each with its code.
+    pub fn journal(&self) -> &[(Request, Code)]
+        ensures journal { result.now ≡ self.now.journal }
+        ensures served { IsServed self.now }
+        ensures ordered { IsOrdered self.now }
+    {
+        &self.journal
+    }
+
+    /// The committed value of a key, and `None` for a key that wasn't declared.
+    pub fn value(&self, key: &Key) -> Option<u64>
+        ensures value { option_map pos result ≡ finmap.get self.now.manager.tables.values key.now }
+
+        // From an opening on it is the value after the journal's requests.
+        ensures sum { IsOpening self.now.first → option_map pos result ≡ value_after key.now (requests self.now.journal) self.now.first }
+    {
+        value_is_sum();
+        self.manager.value(key)
+    }
+
+    /// Its manager, the ends of its lanes and its journal.
+    pub fn apart(self) -> Apart
+        ensures parts { served self.number self.first result.manager result.receiver result.ends.items result.journal.items ≡ self }
+        ensures served { IsServed self }
+        ensures ordered { IsOrdered self }
+    {
+        let DoneWorker {
+            number: _,
+            given: _,
+            manager,
+            receiver,
+            ends,
+            journal,
+        } = self;
+        Apart {
+            manager,
+            receiver,
+            ends,
+            journal,
+        }
+    }
+}

@@ -1,0 +1,22 @@
+//! One manager's worker: it takes the requests from the manager's lane, one after another, enters each
+//! with its code in its journal, and sends the completions to the threads that asked.
+//!
+//! A `Worker` is put together of parts that were reserved before, goes a `Step` at a time or by `run`,
+//! and comes out of `run` as a `DoneWorker`.
+#![tactic(auto)]
+
+mod carry;
+mod done;
+mod outbox;
+mod pace;
+mod parts;
+mod step;
+#[cfg(test)]
+mod tests;
+mod worker;
+
+pub use done::{Apart, DoneWorker};
+pub use pace::{Free, Pace};
+pub use parts::WorkerParts;
+pub use step::Step;
+pub use worker::Worker;

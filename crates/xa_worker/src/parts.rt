@@ -1,0 +1,47 @@
+//! What a worker is put together of.
+ghost use Rattle.std.specs.Prelude.{◌≡◌, IfOk};
+
+use std::alloc::{AllocError, Global};
+use std::marker::Model;
+use xa_lane::Ended;
+use xa_words::{Code, Completion, Request};
+
+/// The memory of one manager's worker, which takes no more once it is put together.
+#[derive(Drop)]
+pub struct WorkerParts {
+    pub(crate) number: u32,
+    pub(crate) room: u32,
+    pub(crate) journal: Vec<(Request, Code)>,
+    // Reserved for the ends of the lanes that the worker sends on.
+    pub(crate) ends: Vec<Ended<Completion>>,
+}
+
+impl Model for WorkerParts {
+    ghost use Rattle.xa_worker.specs.Workers.{Reserved};
+
+    ghost Value = { Reserved };
+
+    ghost use Rattle.std.specs.Prelude.{◌≡◌, ◌≤◌, [], vec_capacity};
+
+    ghost view = { λ p. record { number = p.number; room = p.room } };
+
+    ghost invariant = { λ p. (p.journal.items ≡ []) × (p.room ≤ vec_capacity p.journal) × (p.ends.items ≡ []) × (8 ≤ vec_capacity p.ends) };
+}
+
+impl WorkerParts {
+    /// Memory for the worker of the manager with this number, and for a journal of `room` requests.
+    /// Fails only for want of memory.
+    pub fn reserve(alloc: Global, number: u32, room: u32) -> Result<WorkerParts, AllocError>
+        ensures number { IfOk result (λ p. p.number ≡ number) }
+        ensures room { IfOk result (λ p. p.room ≡ room) }
+    {
+        let journal = Vec::with_capacity(alloc, room as usize)?;
+        let ends = Vec::with_capacity(alloc, 8)?;
+        Ok(WorkerParts {
+            number,
+            room,
+            journal,
+            ends,
+        })
+    }
+}

@@ -1,0 +1,207 @@
+//! One manager's worker.
+ghost use Rattle.std.specs.Prelude.{◌≡◌, ◌↔◌, ◌≤◌, [], length, All, IsTrue};
+ghost use Rattle.xa_worker.specs.Workers.{IsTied, IsFinished, SameWorker, new_worker};
+ghost use Rattle.xa_worker.specs.Steps.{Stepped};
+ghost use Rattle.xa_worker.specs.Done.{IsServed, SameServed};
+ghost use Rattle.xa_worker.specs.Inner.{AreSet};
+
+use crate::carry::carry_out;
+use crate::done::DoneWorker;
+use crate::outbox::{Outbox, end_all};
+use crate::pace::Pace;
+use crate::parts::WorkerParts;
+use crate::step::Step;
+use crossbeam_utils::Backoff;
+use http_server::Log;
+use std::marker::Model;
+use std::sync::Wait;
+use xa_lane::{Ended, RingReceiver, Sender, Taken};
+use xa_tables::Manager;
+use xa_words::{Code, Completion, Request};
+
+/// Carries out the requests of one manager's lane, one after another.
+///
+/// It takes no memory. What a call's contract doesn't name of the worker stays.
+#[derive(Drop)]
+pub struct Worker {
+    number: u32,
+    // The manager as it was given, with its number. It has no bytes: only proofs read it.
+    given: Log<u32, Manager>,
+    manager: Manager,
+    receiver: RingReceiver<Request>,
+    out: Outbox,
+    journal: Vec<(Request, Code)>,
+    // Which threads' end marks were taken.
+    ended: [bool; 8],
+    // A request that was taken and can't be carried out, with its sender.
+    held: Option<(usize, Request)>,
+    // Reserved for the ends of the lanes of completions.
+    ends: Vec<Ended<Completion>>,
+}
+
+impl Model for Worker {
+    ghost use Rattle.std.specs.Coded.{codes};
+    ghost use Rattle.xa_tables.specs.Managers.{tables_code, managed_code};
+    ghost use Rattle.xa_worker.specs.Workers.{Working};
+
+    ghost Value = { Working };
+
+    ghost coded = { Prim.hlevel (codes, tables_code, managed_code) };
+
+    ghost use Rattle.xa_worker.specs.Inner.{working_of, IsWorker};
+
+    ghost view = { working_of };
+
+    ghost invariant = { IsWorker };
+}
+
+// Whether the end marks of so many threads were all taken.
+fn are_all(ended: &[bool; 8], threads: usize) -> bool
+    requires { threads ≤ 8 }
+    ensures { IsTrue result ↔ AreSet threads ended.now }
+{
+    for thread in 0..threads {
+        if !ended[thread] {
+            return false;
+        }
+    }
+    true
+}
+
+impl Worker {
+    /// A worker that has done nothing, of a manager and the lanes that are its own: `receiver` takes the
+    /// requests, and `senders` has the lane of each thread's completions, by rising thread.
+    ///
+    /// The manager has the room that the parts were reserved for and at most 8 threads, as many as the
+    /// lane of requests has senders. Of the lanes nothing was taken, and nothing was sent on them.
+    pub fn assemble(
+        parts: WorkerParts,
+        manager: Manager,
+        receiver: RingReceiver<Request>,
+        senders: Vec<Sender<Completion>>,
+    ) -> Worker
+        requires room { manager.room ≡ parts.room }
+        requires threads { manager.threads ≤ 8 }
+        requires requests { receiver.senders ≡ manager.threads }
+        requires lanes { length senders.items ≡ manager.threads }
+        requires taken { receiver.taken ≡ [] }
+        requires sent { All (λ s. s.sent ≡ []) senders.items }
+        ensures new { result ≡ new_worker parts.number manager receiver senders.items }
+        ensures tied { IsTied result }
+    {
+        let WorkerParts {
+            number,
+            room: _,
+            journal,
+            ends,
+        } = parts;
+        Worker {
+            number,
+            given: Log::new().and(&number, &manager),
+            manager,
+            receiver,
+            out: Outbox::new(senders),
+            journal,
+            ended: [false; 8],
+            held: None,
+            ends,
+        }
+    }
+
+    /// The number of its manager, from 1.
+    pub fn manager(&self) -> u32
+        ensures { result ≡ self.now.number }
+    {
+        self.number
+    }
+
+    /// Does one thing. First a completion that waits for its lane is offered once more; where it was sent
+    /// or none waits, and no request is held, one thing is taken from the lane of requests.
+    ///
+    /// A request is entered in the journal with its code before its completion is sent. A Shut is carried
+    /// out as any request; behind it each is late.
+    pub fn step<R: Wait, P: Pace>(&mut self, rt: &R, pace: &mut P) -> Step
+        ensures step { Stepped self.old result self.new }
+        ensures same { SameWorker self.old self.new }
+        ensures tied { IsTied self.new }
+    {
+        if !self.out.flush(rt) {
+            return Step::Blocked;
+        }
+        if self.held.is_some() {
+            return Step::Blocked;
+        }
+        match self.receiver.take(rt) {
+            Taken::Empty => Step::Empty,
+            Taken::EndOf(from) => {
+                self.ended[from] = true;
+                Step::EndSeen
+            }
+            Taken::Item(from, request) => {
+                if request.thread as usize != from + 1 || self.manager.room() == 0 {
+                    self.held = Some((from, request));
+                    return Step::Blocked;
+                }
+                pace.before(rt, &request);
+                let number = self.number;
+                carry_out(
+                    rt,
+                    number,
+                    &mut self.manager,
+                    &mut self.journal,
+                    &mut self.out,
+                    request,
+                )
+            }
+        }
+    }
+
+    fn is_finished(&self) -> bool
+        ensures { IsTrue result ↔ IsFinished self.now }
+    {
+        self.held.is_none() && !self.out.is_waiting() && are_all(&self.ended, self.out.len())
+    }
+
+    /// Steps until each thread's end mark was taken and nothing is held, and then ends its own senders.
+    ///
+    /// It backs off while there is nothing to be done. With a request that can't be carried out it never
+    /// returns.
+    pub fn run<R: Wait, P: Pace>(self, rt: &R, pace: &mut P) -> DoneWorker
+        ensures same { SameServed self result }
+        ensures served { IsServed result }
+    {
+        let mut worker = self;
+        let backoff = Backoff::new();
+        for _ in rt.forever() {
+            if worker.is_finished() {
+                break;
+            }
+            match worker.step(rt, pace) {
+                Step::Empty | Step::Blocked => backoff.snooze(),
+                Step::Did | Step::Late | Step::EndSeen => backoff.reset(),
+            }
+        }
+        worker.end(rt)
+    }
+
+    // Puts the end marks of its lanes.
+    fn end<R: Wait>(self, rt: &R) -> DoneWorker
+        requires { IsFinished self }
+        ensures same { SameServed self result }
+        ensures served { IsServed result }
+    {
+        let Worker {
+            number,
+            given,
+            manager,
+            receiver,
+            out,
+            journal,
+            ended: _,
+            held: _,
+            ends,
+        } = self;
+        let ends = end_all(rt, out.into_senders(), ends);
+        DoneWorker::new(number, given, manager, receiver, ends, journal)
+    }
+}
