@@ -6,7 +6,7 @@ use Rattle.xa_words.specs.Code.{number_of}
 use Rattle.xa_words.specs.declared.code.Code.{Code}
 use Rattle.xa_words.specs.declared.code.Code.TheVariants.{Done, RdOnly, Retry, HeurMix, HeurRb, HeurCom, HeurHaz, RbRollback, RbCommFail, RbDeadlock, RbIntegrity, RbOther, RbProto, RbTimeout, RbTransient, Async, RmErr, Nota, Inval, Proto, RmFail, DupId, Outside}
 use Rattle.xa_desk.specs.DeskView.{IsHandle}
-use Rattle.xa_script.specs.declared.script.Called.{Called}
+use Rattle.xa_grammar.specs.declared.script.Called.{Called}
 use Rattle.xa_script.specs.declared.transcript.Answer.{Answer}
 use Rattle.xa_switch.specs.Completing.{Tells}
 use Rattle.xa_script.specs.Calling.{completed}

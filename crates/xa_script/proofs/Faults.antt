@@ -2,13 +2,13 @@
 use Rattle.std.proofs.Common.{◌≡◌, ◌⊎◌, ⊎_elim, ◌<◌, ℕ, List, Option, Some, None, Err, arith}
 use Rattle.std.specs.Prelude.{IfSome}
 use Rattle.std.specs.Borrow.{Bor}
-use Rattle.xa_script.specs.declared.fault.Reason.{Reason}
-use Rattle.xa_script.specs.declared.fault.ScriptFault.TheVariants as script
+use Rattle.xa_grammar.specs.declared.fault.Reason.{Reason}
+use Rattle.xa_grammar.specs.declared.fault.ScriptFault.TheVariants as script
+use Rattle.xa_grammar.specs.Grammar.{script_of}
 use Rattle.xa_script.specs.declared.transcript.RunFault.TheVariants as run
 use Rattle.xa_script.specs.declared.entry.Mode.{Mode}
 use Rattle.xa_script.specs.declared.entry.Fault.{Fault}
 use Rattle.xa_script.specs.declared.entry.Fault.TheVariants.{Usage, NoMemory, Script, Run}
-use Rattle.xa_script.specs.Grammar.{script_of}
 use Rattle.xa_script.specs.Program.{status_of, has_threads, IsMode, AreWords, IsJudged, IsFaulty, FailsBy}
 
 -- with another status than 4 nothing is shown

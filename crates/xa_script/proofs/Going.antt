@@ -10,8 +10,8 @@ use Rattle.xa_worker.specs.Journal.{Entry, entry_next}
 use Rattle.xa_worker.specs.Workers.{Working, SameWorker, Extends, IsTied}
 use Rattle.xa_worker.specs.Steps.{Stepped, EntersOne, Waits, StillHolds, Holds}
 use Rattle.std.proofs.Common.{append-nil}
-use Rattle.xa_script.specs.declared.script.Step.{Step}
-use Rattle.xa_script.specs.declared.script.Step.TheVariants as step
+use Rattle.xa_grammar.specs.declared.script.Step.{Step}
+use Rattle.xa_grammar.specs.declared.script.Step.TheVariants as step
 use Rattle.xa_script.specs.declared.transcript.Answer.{Answer}
 use Rattle.xa_script.specs.Chains.{Chain}
 use Rattle.xa_script.specs.Chains.Chain.{none, more}

@@ -21,11 +21,11 @@ use Rattle.xa_switch.specs.Putting.Puts.{refused, full, kept, answered}
 use Rattle.xa_switch.specs.Completing.{CompletesOne, CompletesAny, CompletesAt, CompletesBy, CollectsRedeemed, may_complete}
 use Rattle.xa_switch.specs.Completing.CompletesOne.{unknown, retry as retry_one, ready, waited}
 use Rattle.xa_switch.specs.Completing.CompletesAny.{nothing, retry as retry_any, least}
-use Rattle.xa_script.specs.declared.script.Action.{Action}
-use Rattle.xa_script.specs.declared.script.Action.TheVariants as action
-use Rattle.xa_script.specs.declared.script.Called.{Called}
-use Rattle.xa_script.specs.declared.script.Step.{Step}
-use Rattle.xa_script.specs.declared.script.Step.TheVariants as step
+use Rattle.xa_grammar.specs.declared.script.Action.{Action}
+use Rattle.xa_grammar.specs.declared.script.Action.TheVariants as action
+use Rattle.xa_grammar.specs.declared.script.Called.{Called}
+use Rattle.xa_grammar.specs.declared.script.Step.{Step}
+use Rattle.xa_grammar.specs.declared.script.Step.TheVariants as step
 use Rattle.xa_script.specs.declared.transcript.Answer.{Answer}
 use Rattle.xa_script.specs.Chains.{Chain}
 use Rattle.xa_script.specs.Chains.Chain.{none, more}
@@ -117,17 +117,17 @@ is_known_of at m e =
 some_refusal : (d : DeskView) (m : ℕ) (b : Bool) → is_known d.accounts m ≡ false → put_refusal d m b ≡ None → ⊥
 some_refusal d m b missing e = let f : put_refusal d m b ≡ Some Inval = rw missing refl in cc
 
-known_here : (d : DeskView) (m : ℕ) (b : Bool) → put_refusal d m b ≡ None → IsKnown d.accounts m
+pub known_here : (d : DeskView) (m : ℕ) (b : Bool) → put_refusal d m b ≡ None → IsKnown d.accounts m
 known_here d m b e = elim (cases_Bool (is_known d.accounts m)) [
   | inl there ↦ is_known_of d.accounts m there
   | inr missing ↦ absurd (some_refusal d m b missing e)
 ]
 
-fulls_accounts : (n : ℕ) (d : DeskView) (m : ℕ) → (after_fulls n d m).accounts ≡ d.accounts
+pub fulls_accounts : (n : ℕ) (d : DeskView) (m : ℕ) → (after_fulls n d m).accounts ≡ d.accounts
 fulls_accounts zero d m = refl
 fulls_accounts (suc n) d m = fulls_accounts n d m
 
-fulls_kept : (n : ℕ) (d : DeskView) (m : ℕ) → (after_fulls n d m).kept ≡ d.kept
+pub fulls_kept : (n : ℕ) (d : DeskView) (m : ℕ) → (after_fulls n d m).kept ≡ d.kept
 fulls_kept zero d m = refl
 fulls_kept (suc n) d m = fulls_kept n d m
 
@@ -195,6 +195,7 @@ answers_keep (action.End x) p old new a is all = calls_keep _ old p.manager new 
 answers_keep (action.Prepare x) p old new a is all = calls_keep _ old p.manager new is.answer is.calls all
 answers_keep (action.Commit x) p old new a is all = calls_keep _ old p.manager new is.answer is.calls all
 answers_keep (action.Rollback x) p old new a is all = calls_keep _ old p.manager new is.answer is.calls all
+answers_keep action.Shut p old new a is all = calls_keep _ old p.manager new is.answer is.calls all
 answers_keep (action.Complete h) p old new a is all = by_keep _ old _ p.manager new is.completes.collected is.completes.completes all
 
 -- ---- the numbers of a desk that ends

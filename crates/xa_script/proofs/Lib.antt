@@ -1,8 +1,3 @@
-pub mod Splits
-pub mod Numbers
-pub mod Lines
-pub mod Bytes
-pub mod ScriptLemmas
 pub mod CommandLemmas
 pub mod Side
 pub mod CallLemmas
@@ -13,3 +8,11 @@ pub mod Opened
 pub mod Threading
 pub mod Faults
 pub mod ValueLemmas
+pub mod Accounts
+pub mod Sending
+pub mod Carrying
+pub mod Projecting
+pub mod Pieces
+pub mod Becoming
+pub mod InJournals
+pub mod Handing

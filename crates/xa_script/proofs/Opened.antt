@@ -1,28 +1,25 @@
 -- What holds of the desks and the workers that a script has opened.
-use Rattle.std.proofs.Common.{◌≡◌, ℕ, ◌+◌, ◌-◌, ◌<◌, zero, suc, Bool, List, [], ◌∷◌, length, map, Some, sym, refl, ap, ◌∙◌, arith}
+use Rattle.std.proofs.Common.{◌≡◌, ℕ, ◌+◌, ◌-◌, ◌<◌, zero, suc, Bool, true, false, cond, List, [], ◌∷◌, length, map, Some, sym, refl, ap, ◌∙◌, arith}
 use Rattle.std.specs.Prelude.{slice_get, All, option_map}
 use Rattle.std.specs.List.{range_with_len, slice_index_or}
 use Rattle.std.proofs.lemmas.List.{length-map}
 use Rattle.std.proofs.lemmas.List.FromFn.{length-map-range_with_len, get_or-map-range_with_len}
 use Rattle.std.proofs.lemmas.Option.{slice_get_within, slice_get-get_or, slice_get-map}
+use Rattle.xa_words.specs.declared.request.Op.{Op}
 use Rattle.xa_desk.specs.AccountView.{AccountView}
-use Rattle.xa_desk.specs.DeskView.{DeskView, no_account, account}
+use Rattle.xa_desk.specs.DeskView.{DeskView, no_account, account, is_known, sent_to}
 use Rattle.xa_desk.specs.Lanes.{new_accounts}
 use Rattle.xa_worker.specs.Workers.{Working}
-use Rattle.xa_worker.specs.Done.{Served}
 use Rattle.xa_tables.specs.Managers.{opening}
 use Rattle.xa_switch.specs.declared.plan.Plan.{Plan}
 use Rattle.xa_switch.specs.declared.plan.ManagerPlan.{ManagerPlan}
 use Rattle.xa_switch.specs.Plans.{use_async}
 use Rattle.xa_switch.specs.Openings.{IsNewDesk, IsNewWorker}
-use Rattle.xa_script.specs.Content.{Content, threads_of, managers_of}
-use Rattle.xa_script.specs.Chains.{Pairwise}
+use Rattle.xa_grammar.specs.Content.{Content, threads_of, managers_of}
 use Rattle.xa_script.specs.Planning.{IsPlanOf, AreOpened, planned, planned_of}
 use Rattle.xa_script.specs.Ending.{AllKept}
-use Rattle.xa_script.specs.Turns.{AllGoOn}
-use Rattle.xa_script.specs.Values.{opened, AreOfScript}
-use Rattle.xa_script.specs.Run.{HasServed}
-use Rattle.xa_script.proofs.Side.{some_same, got}
+use Rattle.xa_script.specs.Values.{opened}
+use Rattle.xa_script.proofs.Side.{some_same}
 
 -- ---- the desks
 
@@ -30,6 +27,17 @@ fresh_sent : (plan : ℕ) (flags : List Bool) (i : ℕ) → (slice_index_or (new
 fresh_sent plan [] i = refl
 fresh_sent plan (b ∷ flags) zero = refl
 fresh_sent plan (b ∷ flags) (suc i) = fresh_sent plan flags i
+
+none_either : (b : Bool) (l : List Op) → l ≡ [] → cond b l [] ≡ []
+none_either true l e = e
+none_either false l e = refl
+
+-- nothing was sent to any manager
+pub new_sent : (plan : ℕ) (flags : List Bool) (m : ℕ) → sent_to (new_accounts plan flags) m ≡ []
+new_sent plan flags m = none_either (is_known (new_accounts plan flags) m) (account (new_accounts plan flags) m).sent (fresh_sent plan flags (m - 1))
+
+pub nobody_sent : (m : ℕ) → sent_to [] m ≡ []
+nobody_sent m = none_either (is_known [] m) (account [] m).sent refl
 
 -- with a new desk nothing is outstanding
 new_kept : (p : Plan) (t : ℕ) (d : DeskView) → IsNewDesk p t d → AllKept d
@@ -67,18 +75,9 @@ planned_at s p is k m at =
     let here : slice_get plans k ≡ Some (slice_index_or plans k (planned_of m)) = slice_get-get_or plans k (planned_of m) (omega (arith, below, size)) in
     some_same _ _ (sym there ∙ here) ∙ get_or-map-range_with_len (planned s) 1 (managers_of s) k (k + 1) (planned_of m) below (omega arith)
 
-opened_first : (s : Content) (p : Plan) → IsPlanOf s p → (k : ℕ) (w : Working) → IsNewWorker p k w → w.first ≡ opened s (k + 1)
+pub opened_first : (s : Content) (p : Plan) → IsPlanOf s p → (k : ℕ) (w : Working) → IsNewWorker p k w → w.first ≡ opened s (k + 1)
 opened_first s p is k w new = ap (λ (x : Working). x.first) new.made ∙ ap (λ (a : Bool × List (List ℕ × ℕ)). opening a.1) (planned_at s p is k new.plan new.planned)
 
--- the workers that have run are the script's, however they went on
-pub done_of_script : (s : Content) (desks : List DeskView) (workers last : List Working) (done : List Served) → AreOpened s desks workers → AllGoOn workers last → Pairwise HasServed last done → AreOfScript s done
-done_of_script s desks workers last done is goes served = record {
-  managers = served.as_many ∙ goes.as_many ∙ opened_managers s desks workers is;
-  first = λ k d at.
-      let within = slice_get_within done k d at in
-      let many = served.as_many in
-      let more = goes.as_many in
-      let before = got workers k (omega (arith, within, many, more)) in
-      let behind = got last k (omega (arith, within, many)) in
-      (served.each k behind.0 d behind.1 at).same.first ∙ (goes.each k before.0 behind.0 before.1 behind.1).same.first ∙ opened_first s is.plan is.said k before.0 (is.opened.workers k before.0 before.1);
-}
+-- the desk at place k is that of thread k + 1
+pub opened_thread : (s : Content) (desks : List DeskView) (workers : List Working) → AreOpened s desks workers → (k : ℕ) (d : DeskView) → slice_get desks k ≡ Some d → d.thread ≡ k + 1
+opened_thread s desks workers is k d at = let new : IsNewDesk is.plan k d = is.opened.desks k d at in ap (λ (x : DeskView). x.thread) new.made

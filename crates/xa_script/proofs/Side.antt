@@ -1,8 +1,8 @@
 -- Lists side by side, and what is in their places.
-use Rattle.std.proofs.Common.{◌≡◌, ℕ, ◌+◌, ◌<◌, ◌≤◌, ◌⊎◌, ⊎_elim, zero, suc, List, [], ◌∷◌, ◌++◌, length, Some, None, sym, refl, ap, ◌∙◌, subst, inl, inr, arith, length-append, take}
-use Rattle.std.specs.Prelude.{slice_get, slice_set}
-use Rattle.std.specs.List.{slice_index_or, range_with_len}
-use Rattle.std.proofs.lemmas.Bool.{cases_eq}
+use Rattle.std.proofs.Common.{◌≡◌, ◌≢◌, ℕ, ◌+◌, ◌<◌, ◌≤◌, ◌⊎◌, ⊎_elim, zero, suc, Bool, true, false, cond, ◌==◌, ◌||◌, List, [], ◌∷◌, ◌++◌, length, map, Some, None, sym, refl, ap, ◌∙◌, subst, inl, inr, arith, length-append, take}
+use Rattle.std.specs.Prelude.{slice_get, slice_set, All}
+use Rattle.std.specs.List.{slice_index_or, range_with_len, list_any, find}
+use Rattle.std.proofs.lemmas.Bool.{cases_eq, eq-eqb, eqb-true, false_from_ne_true}
 use Rattle.std.proofs.lemmas.List.{length-set, get_or-set_other, get_or-set_same}
 use Rattle.std.proofs.lemmas.Option.{slice_get_within, slice_get-get_or, slice_get_cases}
 use Rattle.std.proofs.Math.Seq.{take-suc}
@@ -98,3 +98,47 @@ through P Q R goes xs ys zs p q = record {
 pub none_of : {A : Type 0} (xs : List A) → length xs ≡ 0 → xs ≡ []
 none_of [] e = refl
 none_of (x ∷ xs) e = absurd (omega (arith, e))
+
+-- ---- elements and what they are numbered
+
+pub all_from : {A : Type 0} (P : A → Type 0) (xs : List A) → ((k : ℕ) (x : A) → slice_get xs k ≡ Some x → P x) → All P xs
+all_from P xs is k d below = is k (slice_index_or xs k d) (slice_get-get_or xs k d below)
+
+pub any_at : {A : Type 0} (p : A → Bool) (xs : List A) (k : ℕ) (x : A) → slice_get xs k ≡ Some x → p x ≡ true → list_any p xs ≡ true
+any_at p [] k x at e = absurd (cc)
+any_at {A} p (y ∷ xs) zero x at e = let same : y ≡ x = some_same y x at in ap (λ (z : A). p z || list_any p xs) same ∙ ap (λ b. b || list_any p xs) e
+any_at p (y ∷ xs) (suc k) x at e = or_there (p y) (any_at p xs k x at e)
+  where
+    or_there : (b : Bool) → list_any p xs ≡ true → (b || list_any p xs) ≡ true
+    or_there true f = refl
+    or_there false f = f
+
+tail_side : {A B : Type 0} (P : A → B → Type 0) (x : A) (xs : List A) (y : B) (ys : List B) → Pairwise P (x ∷ xs) (y ∷ ys) → Pairwise P xs ys
+tail_side P x xs y ys all = record { as_many = let many = all.as_many in omega (arith, many); each = λ k. all.each (suc k) }
+
+pub map_alike : {A B C : Type 0} (P : A → B → Type 0) (f : A → C) (g : B → C) → ((x : A) (y : B) → P x y → g y ≡ f x) → (xs : List A) (ys : List B) → Pairwise P xs ys → map g ys ≡ map f xs
+map_alike P f g alike [] [] all = refl
+map_alike P f g alike [] (y ∷ ys) all = absurd (let many = all.as_many in omega (arith, many))
+map_alike P f g alike (x ∷ xs) [] all = absurd (let many = all.as_many in omega (arith, many))
+map_alike P f g alike (x ∷ xs) (y ∷ ys) all = λ i. alike x y (all.each 0 x y refl refl) i ∷ map_alike P f g alike xs ys (tail_side P x xs y ys all) i
+
+-- the element with its number, where they are numbered by rising place
+pub find_numbered : {A : Type 0} (n : A → ℕ) (base : ℕ) (xs : List A) → ((k : ℕ) (x : A) → slice_get xs k ≡ Some x → n x ≡ base + k + 1) → (k : ℕ) (x : A) → slice_get xs k ≡ Some x → find (λ y. n y == base + k + 1) xs ≡ Some x
+find_numbered n base [] numbers k x at = absurd (cc)
+find_numbered {A} n base (y ∷ xs) numbers zero x at = ap (λ b. cond b (Some y) (find (λ z. n z == base + 0 + 1) xs)) (eq-eqb (n y) (base + 0 + 1) (numbers 0 y refl)) ∙ at
+find_numbered n base (y ∷ xs) numbers (suc k) x at =
+    let first : n y ≡ base + 0 + 1 = numbers 0 y refl in
+    let other : (n y == base + suc k + 1) ≡ false = false_from_ne_true (n y == base + suc k + 1) (λ e. let same = eqb-true (n y) (base + suc k + 1) e in omega (arith, first, same)) in
+    let there : suc base + k + 1 ≡ base + suc k + 1 = omega arith in
+    ap (λ b. cond b (Some y) (find (λ z. n z == base + suc k + 1) xs)) other
+    ∙ ap (λ j. find (λ z. n z == j) xs) (sym there)
+    ∙ find_numbered n (suc base) xs (λ j z at_z. let e = numbers (suc j) z at_z in omega (arith, e)) k x at
+
+pub find_none : {A : Type 0} (n : A → ℕ) (t : ℕ) (xs : List A) → ((k : ℕ) (x : A) → slice_get xs k ≡ Some x → n x ≢ t) → find (λ y. n y == t) xs ≡ None
+find_none n t [] differs = refl
+find_none n t (y ∷ xs) differs = ap (λ b. cond b (Some y) (find (λ z. n z == t) xs)) (false_from_ne_true (n y == t) (λ e. differs 0 y refl (eqb-true (n y) t e))) ∙ find_none n t xs (λ k. differs (suc k))
+
+pub was_mapped : {A B : Type 0} (f : A → B) (xs : List A) (k : ℕ) (y : B) → slice_get (map f xs) k ≡ Some y → (x : A) × (slice_get xs k ≡ Some x) × (f x ≡ y)
+was_mapped f [] k y e = absurd (cc)
+was_mapped f (x ∷ xs) zero y e = (x, refl, some_same (f x) y e)
+was_mapped f (x ∷ xs) (suc k) y e = was_mapped f xs k y e

@@ -4,17 +4,18 @@ use Rattle.std.specs.Prelude.{All}
 use Rattle.std.specs.List.{slice_index_or}
 use Rattle.std.proofs.lemmas.Option.{slice_get-get_or}
 use Rattle.xa_desk.specs.DeskView.{DeskView}
-use Rattle.xa_script.specs.declared.script.Called.{Called}
-use Rattle.xa_script.specs.declared.script.Step.{Step}
+use Rattle.xa_grammar.specs.declared.script.Called.{Called}
+use Rattle.xa_grammar.specs.declared.script.Step.{Step}
 use Rattle.xa_worker.specs.Workers.{Working}
 use Rattle.xa_worker.specs.Done.{Served}
+use Rattle.xa_grammar.specs.Content.{calls_of}
 use Rattle.xa_script.specs.declared.serving.Place.{Place}
 use Rattle.xa_script.specs.declared.working.Lines.{Lines}
 use Rattle.xa_script.specs.declared.working.Post.{Post}
 use Rattle.xa_script.specs.declared.working.Worked.{Worked}
 use Rattle.xa_script.specs.Chains.{Pairwise}
 use Rattle.xa_script.specs.Run.{HasServed}
-use Rattle.xa_script.specs.Threads.{calls_of, HasWorked, IsFit, IsReady, IsServing, IsAtWork, IsDone}
+use Rattle.xa_script.specs.Threads.{HasWorked, IsFit, IsReady, IsServing, IsAtWork, IsDone}
 use Rattle.xa_script.proofs.Side.{got, through}
 
 -- whichever worker is there, it is this one that has run

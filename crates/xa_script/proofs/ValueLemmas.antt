@@ -1,6 +1,6 @@
 -- Each declared key has a value, whatever its manager has carried out.
-use Rattle.std.specs.Prelude.{◌≡◌, ℕ, ℤ, ◌+ℤ◌, ◌+◌, zero, suc, pos, ◌<◌, ◌==◌, Bool, true, false, cond, ◌||◌, Option, None, Some, is_some, option_map, List, [], ◌∷◌, length, map, filter, refl}
-use Rattle.std.proofs.Common.{sym, ap, ◌∙◌, subst, arith}
+use Rattle.std.specs.Prelude.{◌≡◌, ℕ, ℤ, ◌+ℤ◌, ◌+◌, ◌-◌, ◌≤◌, zero, suc, pos, ◌<◌, ◌==◌, Bool, true, false, cond, ◌||◌, Option, None, Some, is_some, option_map, List, [], ◌∷◌, length, map, filter, refl}
+use Rattle.std.proofs.Common.{sym, ap, ◌∙◌, arith}
 use Rattle.std.specs.List.{list_any, slice_index_or}
 use Rattle.std.specs.FinMap as finmap
 use Rattle.std.specs.FinMap.{get-from_entries}
@@ -10,13 +10,13 @@ use Rattle.std.proofs.Math.Bool.{or-true}
 use Rattle.std.proofs.lemmas.Bool.{eq-eqb}
 use Rattle.xa_words.specs.Key.{key_cmp, key_eq}
 use Rattle.xa_words.specs.Orders.{key_cmp_total, key_eq-by_cmp, Decides-key_eq}
-use Rattle.xa_tables.specs.History.{History, IsOpening, accepted, added_in, value_after}
-use Rattle.xa_tables.specs.Managers.{opening}
-use Rattle.xa_script.specs.declared.script.Declared.{Declared}
+use Rattle.xa_tables.specs.History.{History, accepted, added_in, value_after}
+use Rattle.xa_grammar.specs.declared.script.Declared.{Declared}
 use Rattle.xa_worker.specs.Journal.{requests}
-use Rattle.xa_worker.specs.Done.{Served}
-use Rattle.xa_script.specs.Content.{Content, accounts_of}
-use Rattle.xa_script.specs.Values.{opened}
+use Rattle.xa_switch.specs.Settling.{ManagerPart, Settling, find_manager, journal, journal_in, value, value_in}
+use Rattle.xa_grammar.specs.Content.{Content, accounts_of, managers_of}
+use Rattle.xa_script.specs.Values.{opened, AreOfScript}
+use Rattle.xa_script.proofs.Side.{got, find_numbered}
 
 -- the keys that a manager is opened with
 abbrev names : ℕ → List Declared → List (List ℕ)
@@ -52,15 +52,17 @@ has_value s i d below is =
     let entries = map (λ (e : List ℕ × ℕ). (e.0, pos e.1)) (accounts_of d.manager s.keys) in
     ap is_some (get-from_entries key_cmp_total entries d.key) ∙ is_some-find key_cmp d.key entries ∙ sym (any_alike (λ k. key_eq d.key k) (eq_by_cmp key_cmp d.key) (key_eq-by_cmp d.key) (names d.manager s.keys)) ∙ is_among s.keys i d below is
 
-at_opening : (accounts : List (List ℕ × ℕ)) → IsOpening (opening accounts)
-at_opening accounts = record { opened = refl; associations = refl; states = refl; sums = refl; shut = refl }
-
--- what a worker that has run tells of a declared key, it tells of each
+-- so it has one behind every history
 pub told : (s : Content) (h : History) (i : ℕ) (d : Declared) (value : Option ℕ) → i < length s.keys → d ≡ slice_index_or s.keys i d → option_map pos value ≡ value_after d.key h (opened s d.manager) → is_some value ≡ true
 told s h i d value below is e = sym (is_some-map (λ n. pos n) value) ∙ ap is_some e ∙ is_some-map (λ v. v +ℤ added_in d.key (accepted h) (opened s d.manager)) (finmap.get (opened s d.manager).values d.key) ∙ has_value s i d below is
 
--- its value behind the journal's requests
-pub behind : (s : Content) (d : Declared) (w : Served) (k : ℕ) (value : Option ℕ) → k + 1 ≡ d.manager → w.first ≡ opened s (k + 1) → (IsOpening w.first → option_map pos value ≡ value_after d.key (requests w.journal) w.first) → option_map pos value ≡ value_after d.key (requests w.journal) (opened s d.manager)
-behind s d w k value place first law =
-    let at : w.first ≡ opened s d.manager = first ∙ ap (opened s) place in
-    law (subst IsOpening (sym at) (at_opening (accounts_of d.manager s.keys))) ∙ ap (value_after d.key (requests w.journal)) at
+-- the settled value of a key is that behind its manager's journal
+pub settled_value : (s : Content) (settled : Settling) → AreOfScript s settled.managers → (m : ℕ) (k : List ℕ) → 1 ≤ m → m ≤ managers_of s → value settled m k ≡ value_after k (requests (journal settled m)) (opened s m)
+settled_value s settled is m k low high =
+    let many = is.many in
+    let p = got settled.managers (m - 1) (omega (arith, low, high, many)) in
+    let place : 0 + (m - 1) + 1 ≡ m = omega (arith, low) in
+    let next : m - 1 + 1 ≡ m = omega (arith, low) in
+    let found : find_manager m settled.managers ≡ Some p.0 = ap (λ n. find_manager n settled.managers) (sym place) ∙ find_numbered (λ (q : ManagerPart). q.number) 0 settled.managers (λ j q at. let number = is.numbers j q at in omega (arith, number)) (m - 1) p.0 p.1 in
+    let first : p.0.first ≡ opened s m = is.first (m - 1) p.0 p.1 ∙ ap (opened s) next in
+    ap (value_in k) found ∙ (λ i. value_after k (requests (sym (ap journal_in found) i)) (first i))

@@ -7,9 +7,9 @@ use Rattle.xa_switch.specs.declared.asked.RmOp.TheVariants as rm
 use Rattle.xa_switch.specs.Asking.{asked_of, native}
 use Rattle.xa_switch.specs.Putting.{Calls}
 use Rattle.xa_switch.specs.Completing.{HasCompleted}
-use Rattle.xa_script.specs.declared.script.Action.{Action}
-use Rattle.xa_script.specs.declared.script.Action.TheVariants as action
-use Rattle.xa_script.specs.declared.script.Called.{Called}
+use Rattle.xa_grammar.specs.declared.script.Action.{Action}
+use Rattle.xa_grammar.specs.declared.script.Action.TheVariants as action
+use Rattle.xa_grammar.specs.declared.script.Called.{Called}
 use Rattle.xa_script.specs.declared.transcript.Answer.{Answer}
 use Rattle.xa_script.specs.declared.transcript.Answer.TheVariants as answer
 
@@ -45,4 +45,5 @@ Answers (action.End x) p old new a = HasAnswered (Calls (asked_of call.End (Some
 Answers (action.Prepare x) p old new a = HasAnswered (Calls (asked_of call.Prepare (Some x) p.flags)) p old new a
 Answers (action.Commit x) p old new a = HasAnswered (Calls (asked_of call.Commit (Some x) p.flags)) p old new a
 Answers (action.Rollback x) p old new a = HasAnswered (Calls (asked_of call.Rollback (Some x) p.flags)) p old new a
+Answers action.Shut p old new a = HasAnswered (Calls (native rm.Shut p.flags)) p old new a
 Answers (action.Complete h) p old new a = HasCollected p old h new a

@@ -1,10 +1,3 @@
-pub mod Text
-pub mod Fields
-pub mod Content
-pub mod Settings
-pub mod Actions
-pub mod Grammar
-pub mod Reading
 pub mod Transcript
 pub mod Chains
 pub mod Planning
@@ -13,6 +6,8 @@ pub mod Ending
 pub mod Turns
 pub mod Turning
 pub mod Values
+pub mod Seating
+pub mod Journals
 pub mod Run
 pub mod Threads
 pub mod Program

@@ -5,8 +5,9 @@ use Rattle.xa_desk.specs.DeskView.{DeskView}
 use Rattle.xa_worker.specs.Workers.{Working}
 use Rattle.xa_switch.specs.declared.plan.Plan.{Plan}
 use Rattle.xa_switch.specs.declared.plan.ManagerPlan.{ManagerPlan}
+use Rattle.xa_switch.specs.Plans.{IsSound}
 use Rattle.xa_switch.specs.Openings.{AreOfOneOpening}
-use Rattle.xa_script.specs.Content.{Content, threads_of, managers_of, handles_of, queue_of, requests_of, accounts_of, carries_async}
+use Rattle.xa_grammar.specs.Content.{Content, threads_of, managers_of, handles_of, queue_of, requests_of, accounts_of, carries_async}
 
 -- What a plan says of a manager: whether it takes asynchronous calls, and its keys with their values.
 abbrev pub planned_of : ManagerPlan → Bool × List (List ℕ × ℕ)
@@ -25,8 +26,9 @@ pub record IsPlanOf (s : Content) (p : Plan) : Type 0 where
   pub requests : p.requests ≡ requests_of s
   pub managers : map planned_of p.managers.items ≡ map (planned s) (range_with_len 1 (managers_of s))
 
--- These are the desks and the workers of one opening of the script's plan.
+-- These are the desks and the workers of one opening of the script's plan, which can be opened.
 pub record AreOpened (s : Content) (desks : List DeskView) (workers : List Working) : Type 0 where
   pub plan : Plan
   pub said : IsPlanOf s plan
+  pub sound : IsSound plan
   pub opened : AreOfOneOpening plan desks workers

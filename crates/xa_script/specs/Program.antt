@@ -1,15 +1,15 @@
 -- What the program answers, and what it has then shown.
 use Rattle.std.specs.Prelude.{◌≡◌, Bool, true, false, ◌⊎◌, ℕ, List, [], ◌∷◌, Option, IfSome, Ok, Err, map, codes}
 use Rattle.std.specs.Borrow.{Bor}
-use Rattle.xa_script.specs.declared.fault.Reason.{Reason}
-use Rattle.xa_script.specs.declared.fault.ScriptFault.TheVariants as script
+use Rattle.xa_grammar.specs.declared.fault.Reason.{Reason}
+use Rattle.xa_grammar.specs.declared.fault.ScriptFault.TheVariants as script
+use Rattle.xa_grammar.specs.Content.{Content}
+use Rattle.xa_grammar.specs.Grammar.{script_of}
 use Rattle.xa_script.specs.declared.transcript.RunFault.TheVariants as run
 use Rattle.xa_script.specs.declared.entry.Mode.{Mode}
 use Rattle.xa_script.specs.declared.entry.Mode.TheVariants as mode
 use Rattle.xa_script.specs.declared.entry.Fault.{Fault}
 use Rattle.xa_script.specs.declared.entry.Fault.TheVariants.{Usage, NoMemory, Script, Run}
-use Rattle.xa_script.specs.Content.{Content}
-use Rattle.xa_script.specs.Grammar.{script_of}
 use Rattle.xa_script.specs.Run.{WritesTranscript}
 use Rattle.xa_script.specs.Threads.{WritesThreads}
 

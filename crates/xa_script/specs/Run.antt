@@ -6,19 +6,21 @@ use Rattle.xa_desk.specs.Ended.{EndedView}
 use Rattle.xa_worker.specs.declared.step.Step.{Step as Did}
 use Rattle.xa_worker.specs.Workers.{Working}
 use Rattle.xa_worker.specs.Done.{Served, IsServed, SameServed}
-use Rattle.xa_script.specs.declared.script.Called.{Called}
-use Rattle.xa_script.specs.declared.script.Declared.{Declared}
-use Rattle.xa_script.specs.declared.script.Step.{Step}
-use Rattle.xa_script.specs.declared.script.Step.TheVariants as step
+use Rattle.xa_grammar.specs.declared.script.Called.{Called}
+use Rattle.xa_grammar.specs.declared.script.Declared.{Declared}
+use Rattle.xa_grammar.specs.declared.script.Step.{Step}
+use Rattle.xa_grammar.specs.declared.script.Step.TheVariants as step
+use Rattle.xa_grammar.specs.Content.{Content}
 use Rattle.xa_script.specs.declared.transcript.Answer.{Answer}
 use Rattle.xa_script.specs.declared.transcript.Answer.TheVariants as answer
-use Rattle.xa_script.specs.Content.{Content}
 use Rattle.xa_script.specs.Chains.{Chain, Pairwise}
 use Rattle.xa_script.specs.Planning.{AreOpened}
 use Rattle.xa_script.specs.Calling.{Answers}
 use Rattle.xa_script.specs.Ending.{EndsDesk}
 use Rattle.xa_script.specs.Turns.{AllGoOn, TakesTurn}
-use Rattle.xa_script.specs.Values.{AreValues}
+use Rattle.xa_switch.specs.Settling.{Settling}
+use Rattle.xa_switch.specs.Closing.{settling}
+use Rattle.xa_script.specs.Journals.{TellsOf}
 use Rattle.xa_script.specs.Transcript.{text}
 
 -- ---- the steps of a script
@@ -99,7 +101,7 @@ pub record HasServed (w : Working) (d : Served) : Type 0 where
   pub same : SameServed w d
   pub served : IsServed d
 
--- What a run of a script comes to. The desks and the workers of one opening go through all steps, the desks end one after the other, and the workers run to the last end mark; the answers are those of the steps and of what was outstanding, and the values those behind the workers' journals.
+-- What a run of a script comes to. The desks and the workers of one opening go through all steps, the desks end one after the other, the workers run to the last end mark, and the opening is settled; the answers are those of the steps and of what was outstanding, and with the values they tell of the settled opening.
 pub record IsOutcome (s : Content) (answers : List Answer) (values : List Declared) : Type 0 where
   pub desks : List DeskView
   pub workers : List Working
@@ -111,7 +113,9 @@ pub record IsOutcome (s : Content) (answers : List Answer) (values : List Declar
   pub answered : answers ≡ closed.answers
   pub done : List Served
   pub served : Pairwise HasServed closed.workers done
-  pub shown : AreValues s done values
+  pub settled : Settling
+  pub settles : settled ≡ settling closed.ended done
+  pub tells : TellsOf s answers values settled
 
 -- What a writer holds grew by the transcript of a script.
 pub record WritesTranscript (s : Content) (before behind : Option (List ℕ)) : Type 0 where

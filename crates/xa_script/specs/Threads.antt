@@ -1,14 +1,16 @@
 -- A run of a script in threads: what each thread of the script comes to, and what the transcript is.
-use Rattle.std.specs.Prelude.{◌≡◌, ℕ, ◌+◌, ◌≤◌, ◌==◌, if◌then◌else◌, Option, Some, None, filter_map, List, [], ◌∷◌, ◌++◌, length, vec_capacity}
+use Rattle.std.specs.Prelude.{◌≡◌, ℕ, ◌+◌, ◌≤◌, Option, List, [], ◌∷◌, ◌++◌, length, map, vec_capacity}
 use Rattle.std.specs.List.{flat_map}
 use Rattle.std.specs.Io.KnownBytes.{Appends}
 use Rattle.xa_desk.specs.DeskView.{DeskView}
 use Rattle.xa_worker.specs.Workers.{Working}
 use Rattle.xa_worker.specs.Done.{Served}
-use Rattle.xa_script.specs.declared.script.Called.{Called}
-use Rattle.xa_script.specs.declared.script.Declared.{Declared}
-use Rattle.xa_script.specs.declared.script.Step.{Step}
-use Rattle.xa_script.specs.declared.script.Step.TheVariants as step
+use Rattle.xa_switch.specs.Settling.{Settling}
+use Rattle.xa_switch.specs.Closing.{settling}
+use Rattle.xa_grammar.specs.declared.script.Called.{Called}
+use Rattle.xa_grammar.specs.declared.script.Declared.{Declared}
+use Rattle.xa_grammar.specs.declared.script.Step.{Step}
+use Rattle.xa_grammar.specs.Content.{Content, calls_of}
 use Rattle.xa_script.specs.declared.transcript.Answer.{Answer}
 use Rattle.xa_script.specs.declared.working.Worked.{Worked}
 use Rattle.xa_script.specs.declared.working.Lines.{Lines}
@@ -18,25 +20,15 @@ use Rattle.xa_script.specs.declared.serving.Back.{Back}
 use Rattle.xa_script.specs.declared.serving.Back.TheVariants.{Ran, Unrun}
 use Rattle.xa_script.specs.declared.serving.Place.{Place}
 use Rattle.xa_script.specs.declared.serving.Place.TheVariants as serving
-use Rattle.xa_script.specs.Content.{Content}
 use Rattle.xa_script.specs.Chains.{Chain, Pairwise}
 use Rattle.xa_script.specs.Planning.{AreOpened}
 use Rattle.xa_script.specs.Calling.{Answers}
 use Rattle.xa_script.specs.Ending.{AllKept, EndsDesk}
-use Rattle.xa_script.specs.Values.{AreValues}
+use Rattle.xa_script.specs.Journals.{TellsOf}
 use Rattle.xa_script.specs.Run.{HasServed}
 use Rattle.xa_script.specs.Transcript.{text}
 
 -- ---- the threads of a script
-
--- The step where it is a call of thread t.
-abbrev pub call_of : ℕ → Step → Option Called
-call_of t (step.Call p) = if p.thread == t then Some p else None
-call_of t (step.Turn line m) = None
-
--- The calls of thread t, in the order of their lines.
-abbrev pub calls_of : ℕ → List Step → List Called
-calls_of t steps = filter_map (call_of t) steps
 
 -- The desk answers a call.
 pub record Goes (p : Called) (old new : DeskView × List Answer) : Type 0 where
@@ -85,7 +77,7 @@ IsServing w (serving.Here back) = IsBack w back
 
 -- ---- the whole script
 
--- What a run of a script in threads comes to. Over the desks of one opening each thread has made its own calls, and each worker of that opening has run to the last end mark; the answers are those of the threads by rising number, and the values those behind the workers' journals.
+-- What a run of a script in threads comes to. Over the desks of one opening each thread has made its own calls and ended its desk, each worker of that opening has run to the last end mark, and the opening is settled; the answers are those of the threads by rising number, and with the values they tell of the settled opening.
 pub record IsOutcomeOfThreads (s : Content) (answers : List Answer) (values : List Declared) : Type 0 where
   pub desks : List DeskView
   pub workers : List Working
@@ -95,7 +87,9 @@ pub record IsOutcomeOfThreads (s : Content) (answers : List Answer) (values : Li
   pub answered : answers ≡ flat_map (λ w. w.answers.items) threads
   pub done : List Served
   pub served : Pairwise HasServed workers done
-  pub shown : AreValues s done values
+  pub settled : Settling
+  pub settles : settled ≡ settling (map (λ w. w.desk) threads) done
+  pub tells : TellsOf s answers values settled
 
 -- What a writer holds grew by the transcript of a script that was run in threads.
 pub record WritesThreads (s : Content) (before behind : Option (List ℕ)) : Type 0 where

@@ -2,7 +2,7 @@
 use Rattle.std.specs.Prelude.{ℕ, ℤ, List, ◌++◌, codes, decimal}
 use Rattle.std.specs.List.{flat_map}
 use Rattle.std.specs.Fmt.{signed_decimal}
-use Rattle.xa_script.specs.declared.script.Declared.{Declared}
+use Rattle.xa_grammar.specs.declared.script.Declared.{Declared}
 use Rattle.xa_script.specs.declared.transcript.Answer.{Answer}
 use Rattle.xa_script.specs.declared.transcript.Answer.TheVariants.{Called, Completed, Turned, Ended}
 use Rattle.xa_worker.specs.declared.step.Step.{Step}

@@ -19,7 +19,7 @@ same_worker u v w first later = record {
   lanes = later.lanes ∙ first.lanes;
 }
 
-extends_both : (i j k : List Entry) → Extends i j → Extends j k → Extends i k
+pub extends_both : (i j k : List Entry) → Extends i j → Extends j k → Extends i k
 extends_both i j k first later = (first.0 ++ later.0, later.1 ∙ ap (λ l. l ++ later.0) first.1 ∙ append_assoc i first.0 later.0)
 
 -- a worker that is as it was has gone on by nothing

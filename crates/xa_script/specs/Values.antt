@@ -1,5 +1,5 @@
 -- The values of the declared keys behind a run.
-use Rattle.std.specs.Prelude.{◌≡◌, ℕ, ◌+◌, ◌-◌, pos, Some, All, List, length, map, slice_get}
+use Rattle.std.specs.Prelude.{◌≡◌, ℕ, ◌+◌, pos, Some, All, List, length, map, slice_get}
 use Rattle.std.specs.Ordering.{nat_cmp, ordering_then}
 use Rattle.std.specs.declared.cmp.Ordering.{Ordering}
 use Rattle.std.specs.List.Sorted.{IsPermutation, IsSorted}
@@ -7,36 +7,35 @@ use Rattle.xa_words.specs.Key.{key_cmp}
 use Rattle.xa_tables.specs.Tables.{Tables}
 use Rattle.xa_tables.specs.History.{value_after}
 use Rattle.xa_tables.specs.Managers.{opening}
-use Rattle.xa_worker.specs.Done.{Served}
 use Rattle.xa_worker.specs.Journal.{requests}
-use Rattle.xa_script.specs.declared.script.Declared.{Declared}
-use Rattle.xa_script.specs.Content.{Content, managers_of, accounts_of}
+use Rattle.xa_switch.specs.Settling.{ManagerPart, Settling, journal}
+use Rattle.xa_grammar.specs.declared.script.Declared.{Declared}
+use Rattle.xa_grammar.specs.Content.{Content, managers_of, accounts_of}
 
 -- The tables of manager m at its opening.
 abbrev pub opened : Content → ℕ → Tables
 opened s m = opening (accounts_of m s.keys)
 
--- There is a worker for each manager, by rising number, whose manager was given with the tables of its opening.
-pub record AreOfScript (s : Content) (done : List Served) : Type 0 where
-  pub managers : length done ≡ managers_of s
-  pub first : (k : ℕ) (d : Served) → slice_get done k ≡ Some d → d.first ≡ opened s (k + 1)
+-- Each manager of the script is there, by rising number, and was opened with the keys that the script declares for it.
+pub record AreOfScript (s : Content) (managers : List ManagerPart) : Type 0 where
+  pub many : length managers ≡ managers_of s
+  pub numbers : (k : ℕ) (p : ManagerPart) → slice_get managers k ≡ Some p → p.number ≡ k + 1
+  pub first : (k : ℕ) (p : ManagerPart) → slice_get managers k ≡ Some p → p.first ≡ opened s (k + 1)
 
 -- A key by its manager and its name.
 abbrev pub name_of : Declared → ℕ × List ℕ
 name_of d = (d.manager, d.key)
 
 -- The key has the value that it has behind the requests in its manager's journal.
-pub record IsWorth (s : Content) (done : List Served) (d : Declared) : Type 0 where
-  pub worker : Served
-  pub at : slice_get done (d.manager - 1) ≡ Some worker
-  pub value : value_after d.key (requests worker.journal) (opened s d.manager) ≡ Some (pos d.value)
+abbrev pub IsWorth : Content → Settling → Declared → Type 0
+IsWorth s settled d = value_after d.key (requests (journal settled d.manager)) (opened s d.manager) ≡ Some (pos d.value)
 
 -- Keys are shown by rising manager, and of one manager by the bytes of the key.
 abbrev pub shown_cmp : Declared → Declared → Ordering
 shown_cmp d e = ordering_then (nat_cmp d.manager e.manager) (ordering_then (key_cmp d.key e.key) (nat_cmp d.value e.value))
 
 -- These are the declared keys, each once and with its value behind the journals, in the order in which keys are shown.
-pub record AreValues (s : Content) (done : List Served) (values : List Declared) : Type 0 where
+pub record AreValues (s : Content) (settled : Settling) (values : List Declared) : Type 0 where
   pub all : IsPermutation (map name_of s.keys) (map name_of values)
-  pub worth : All (IsWorth s done) values
+  pub worth : All (IsWorth s settled) values
   pub rising : IsSorted shown_cmp values

@@ -2,15 +2,14 @@
 ghost use Rattle.std.specs.Prelude.{◌≡◌, Some, None};
 ghost use Rattle.xa_switch.specs.Asking.{asked_of, native};
 ghost use Rattle.xa_switch.specs.Putting.{Calls};
-ghost use Rattle.xa_switch.specs.declared.asked.RmOp.TheVariants.{Add};
 ghost use Rattle.xa_script.specs.Calling.{shown, completed, HasAnswered, HasCollected, Answers};
 
-use crate::script::{Action, Called};
 use crate::transcript::Answer;
 use std::sync::Wait;
 use xa_desk::{Desk, Idle};
+use xa_grammar::{Action, Called};
 use xa_switch::{RmOp, native, xa_call, xa_complete};
-use xa_words::{Call, Delta, Key, Xid};
+use xa_words::{Call, Xid};
 
 // The answer of a call that is no xa_complete.
 fn shown(called: &Called, answer: i32) -> Answer
@@ -53,28 +52,27 @@ pub(crate) fn answer<R: Wait, I: Idle>(
         Action::Open => xa_called(rt, desk, called, Call::OpenRm, None, idle),
         Action::Close => xa_called(rt, desk, called, Call::CloseRm, None, idle),
         Action::Start(xid) => xa_called(rt, desk, called, Call::Start, Some(xid), idle),
-        Action::Add(key, delta) => added(rt, desk, called, key, delta, idle),
+        Action::Add(key, delta) => native_called(rt, desk, called, RmOp::Add(key, delta), idle),
         Action::End(xid) => xa_called(rt, desk, called, Call::End, Some(xid), idle),
         Action::Prepare(xid) => xa_called(rt, desk, called, Call::Prepare, Some(xid), idle),
         Action::Commit(xid) => xa_called(rt, desk, called, Call::Commit, Some(xid), idle),
         Action::Rollback(xid) => xa_called(rt, desk, called, Call::Rollback, Some(xid), idle),
+        Action::Shut => native_called(rt, desk, called, RmOp::Shut, idle),
         Action::Complete(handle) => completed(rt, desk, called, handle, idle),
     }
 }
 
-// What adding to a key answers.
-fn added<R: Wait, I: Idle>(
+// What a call outside XA answers.
+fn native_called<R: Wait, I: Idle>(
     rt: &R,
     desk: &mut Desk,
     called: &Called,
-    key: Key,
-    delta: Delta,
+    op: RmOp,
     idle: &mut I,
 ) -> Answer
-    ensures answers { HasAnswered (Calls (native (Add key delta) called.now.flags)) called.now desk.old desk.new result }
+    ensures answers { HasAnswered (Calls (native op called.now.flags)) called.now desk.old desk.new result }
     ensures idled { I.leads idle.old idle.new }
 {
-    let op = RmOp::Add(key, delta);
     let answer = native(rt, desk, op, called.manager, called.flags, idle);
     shown(called, answer)
 }

@@ -4,10 +4,7 @@ ghost use Rattle.xa_script.specs.declared.entry.Mode.{Mode};
 ghost use Rattle.xa_script.specs.declared.entry.Fault.TheVariants.{NoMemory};
 ghost use Rattle.xa_script.specs.Program.{status_of, IsMode, AreWords, IsJudged, Writes, ShowsRun, IsFaulty, FailsBy};
 
-use crate::fault::ScriptFault;
-use crate::read::read_script;
 use crate::run::run_turns;
-use crate::script::Script;
 use crate::threads::run_threads;
 use crate::transcript::RunFault;
 use clap::error::ErrorKind;
@@ -17,6 +14,7 @@ use std::io::{Read, Write};
 use std::sync::Wait;
 use std::thread::Threads;
 use thiserror::Error;
+use xa_grammar::{Script, ScriptFault, read_script};
 use xa_worker::Free;
 
 // Why the program shows no transcript, or not all of it.

@@ -1,37 +1,30 @@
-//! The script of the switch: its grammar, its reading, and the transcript of its run.
+//! Scripts are run: in turns or in threads, over the desks and the workers of one opening, to a transcript.
 //!
-//! A line declares a key of a manager, as `key 1 a 100`, or is a call of a thread, as
-//! `1 end 1 g.1 success`: the thread, the verb, the manager, the verb's words, and flag words.
-//! `specs/Grammar.antt` is the whole grammar, in the order in which a line is judged.
+//! `run_turns` does all in one thread, `run_threads` gives each thread of the script and each manager a
+//! thread of its own. `specs/Run.antt` and `specs/Threads.antt` say what a run comes to,
+//! `specs/Journals.antt` what its transcript tells of the managers' journals, and `program` is the whole
+//! program over any reader and writers. What a script says, and how it is read, is xa_grammar's.
 #![tactic(auto)]
 
-mod action;
 mod calls;
 mod ending;
 mod entry;
-mod fault;
-mod field;
-mod line;
+pub mod laws;
 mod plan;
-mod read;
 mod run;
-mod script;
 mod serving;
-mod setting;
+mod settling;
 mod threads;
 mod transcript;
 mod turns;
 mod values;
-mod words;
 mod working;
 
 pub use entry::program;
-pub use fault::{Reason, ScriptFault};
-pub use read::read_script;
 pub use run::run_turns;
-pub use script::{Action, Called, Declared, Script, Step};
 pub use threads::run_threads;
 pub use transcript::{Answer, RunFault};
+pub use xa_grammar::{Action, Called, Declared, Reason, Script, ScriptFault, Step, read_script};
 
 #[cfg(test)]
 mod tests;

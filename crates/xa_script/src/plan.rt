@@ -2,12 +2,12 @@
 ghost use Rattle.std.specs.Prelude.{◌≡◌, ◌≤◌, All, IfOk, length, map};
 ghost use Rattle.std.specs.List.{range_with_len};
 ghost use Rattle.xa_switch.specs.Plans.{IsUpTo, IsSoundManager, IsSound};
-ghost use Rattle.xa_script.specs.Content.{accounts_of, managers_of};
+ghost use Rattle.xa_grammar.specs.Content.{accounts_of, managers_of};
 ghost use Rattle.xa_script.specs.Planning.{planned_of, planned, IsPlanOf, AreOpened};
 
-use crate::script::{Declared, Script};
 use std::alloc::{AllocError, Global};
 use xa_desk::Desk;
+use xa_grammar::{Declared, Script};
 use xa_switch::{ManagerPlan, OpenFault, Plan, open_switch};
 use xa_words::Key;
 use xa_worker::Worker;

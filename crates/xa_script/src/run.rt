@@ -1,8 +1,8 @@
 //! Running a script, step by step in one thread.
 ghost use Rattle.std.specs.Prelude.{◌≡◌, ◌+◌, ◌*◌, ◌<◌, ◌≤◌, ℕ, [], length, All, IfOk, OnOk, IsErrOf, vec_capacity};
 ghost use Rattle.xa_desk.specs.DeskView.{DeskView};
+ghost use Rattle.xa_grammar.specs.Content.{Fits};
 ghost use Rattle.xa_script.specs.Chains.{Pairwise};
-ghost use Rattle.xa_script.specs.Content.{Fits};
 ghost use Rattle.xa_script.specs.Ending.{AllKept};
 ghost use Rattle.xa_script.specs.Turns.{TurnsOn};
 ghost use Rattle.xa_script.specs.Run.{stage_of, course_of, closing_of, Steps, HasRun, HaveEnded, HasServed, IsOutcome, WritesTranscript};
@@ -10,7 +10,7 @@ ghost use Rattle.xa_script.specs.Run.{stage_of, course_of, closing_of, Steps, Ha
 use crate::calls::answer;
 use crate::ending::{MOST_HANDLES, end_desk};
 use crate::plan::open;
-use crate::script::{Declared, Script, Step};
+use crate::settling::{seats_are_kept, settle_all};
 use crate::transcript::{Answer, RunFault, write_transcript};
 use crate::turns::Turns;
 use crate::values::values_of;
@@ -18,6 +18,7 @@ use std::alloc::{AllocError, Global};
 use std::io::Write;
 use std::sync::Wait;
 use xa_desk::{Desk, EndedDesk};
+use xa_grammar::{Declared, Script, Step};
 use xa_worker::{DoneWorker, Free, Worker};
 
 // What runs a script: a desk for each thread, and the workers, which take turns.
@@ -130,9 +131,11 @@ fn outcome<R: Wait>(
     let mut runner = Runner { desks, turns };
     runner.run(rt, steps, &mut answers);
     let Runner { desks, mut turns } = runner;
-    end_desks(rt, desks, &mut turns, &mut answers, ended);
+    let ended = end_desks(rt, desks, &mut turns, &mut answers, ended);
     let Turns { workers } = turns;
     let done = run_workers(rt, workers, done);
-    let values = values_of(alloc, script, &done)?;
+    seats_are_kept();
+    let settled = settle_all(rt, alloc, ended, done)?;
+    let values = values_of(alloc, script, &settled)?;
     Ok((answers, values))
 }

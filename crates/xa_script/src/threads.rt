@@ -1,11 +1,11 @@
 //! Running a script in threads: one for each of its threads, and one for each manager's worker.
-ghost use Rattle.std.specs.Prelude.{◌≡◌, ◌≤◌, length, All, IfOk, OnOk, IsErrOf};
+ghost use Rattle.std.specs.Prelude.{◌≡◌, ◌≤◌, length, map, All, IfOk, OnOk, IsErrOf};
 ghost use Rattle.std.specs.List.{flat_map};
 ghost use Rattle.xa_script.specs.Threads.{IsFit, IsOutcomeOfThreads, WritesThreads};
 
 use crate::plan::open;
-use crate::script::{Declared, Script};
 use crate::serving::Serving;
+use crate::settling::{seats_are_kept, settle_all};
 use crate::transcript::{Answer, RunFault, write_transcript};
 use crate::turns::Turns;
 use crate::values::values_of;
@@ -14,6 +14,8 @@ use std::alloc::{AllocError, Global};
 use std::io::Write;
 use std::sync::Wait;
 use std::thread::Threads;
+use xa_desk::EndedDesk;
+use xa_grammar::{Declared, Script};
 use xa_worker::{Free, Pace, Worker};
 
 /// Runs a script in threads, one for each of its threads and one for each manager's worker, and writes
@@ -50,7 +52,7 @@ fn outcome<R: Threads + Wait + Copy + Send + 'static, P: Pace + Drop + Send + 's
     ensures { IfOk result (λ o. IsOutcomeOfThreads script.now o.0.items o.1.items) }
 {
     let (desks, workers) = open(alloc, script)?;
-    let threads = lines_of(alloc, script, desks)?;
+    let threads = lines_of(alloc, script.steps(), desks)?;
     let unrun = Vec::with_capacity(alloc, workers.len())?;
     let done = Vec::with_capacity(alloc, workers.len())?;
     let worked = Vec::with_capacity(alloc, threads.len())?;
@@ -69,8 +71,10 @@ fn outcome<R: Threads + Wait + Copy + Send + 'static, P: Pace + Drop + Send + 's
     if refused {
         return Err(AllocError);
     }
-    let answers = answers_of(alloc, worked)?;
-    let values = values_of(alloc, script, &done)?;
+    let (ended, answers) = apart(alloc, worked)?;
+    seats_are_kept();
+    let settled = settle_all(rt, alloc, ended, done)?;
+    let values = values_of(alloc, script, &settled)?;
     Ok((answers, values))
 }
 
@@ -87,13 +91,16 @@ fn give_up<R: Wait>(rt: &R, threads: Vec<Lines>, workers: Vec<Worker>)
     }
 }
 
-// The answers of all threads, by rising thread.
-fn answers_of(alloc: Global, threads: Vec<Worked>) -> Result<Vec<Answer>, AllocError>
-    ensures { IfOk result (λ v. v.items ≡ flat_map (λ w. w.answers.items) threads.items) }
+// The desks of all threads, and their answers, each by rising thread.
+fn apart(alloc: Global, threads: Vec<Worked>) -> Result<(Vec<EndedDesk>, Vec<Answer>), AllocError>
+    ensures desks { IfOk result (λ r. r.0.items ≡ map (λ w. w.desk) threads.items) }
+    ensures answers { IfOk result (λ r. r.1.items ≡ flat_map (λ w. w.answers.items) threads.items) }
 {
+    let mut desks = Vec::new(alloc);
     let mut answers = Vec::new(alloc);
     for worked in threads {
         answers.extend_from_slice(&worked.answers)?;
+        desks.push(worked.desk)?;
     }
-    Ok(answers)
+    Ok((desks, answers))
 }

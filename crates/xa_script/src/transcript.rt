@@ -3,11 +3,11 @@ ghost use Rattle.std.specs.Prelude.{◌≡◌, ◌++◌, OnOk, IfOk, IsErrOf};
 ghost use Rattle.std.specs.Io.KnownBytes.{Appends};
 ghost use Rattle.xa_script.specs.Transcript.{turn_text, handle_text, call_text, answer_text, value_text, text};
 
-use crate::script::Declared;
 use itoa::{Buffer, Integer};
 use std::alloc::{AllocError, Global};
 use std::io::Write;
 use thiserror::Error;
+use xa_grammar::Declared;
 use xa_worker::Step;
 
 /// A line of the transcript before the values. Lines, threads and handles count from 1.

@@ -2,24 +2,23 @@
 ghost use Rattle.std.specs.Prelude.{IfOk};
 ghost use Rattle.xa_script.specs.Values.{AreOfScript, AreValues};
 
-use crate::script::{Declared, Script};
 use std::alloc::{AllocError, Global};
-use xa_worker::DoneWorker;
+use xa_grammar::{Declared, Script};
+use xa_switch::Settled;
 
-/// The keys of a script with their committed values, in the order in which they are shown.
+/// The keys of a script with their values in the settled opening, in the order in which they are shown.
 pub(crate) fn values_of(
     alloc: Global,
     script: &Script,
-    workers: &[DoneWorker],
+    settled: &Settled,
 ) -> Result<Vec<Declared>, AllocError>
-    requires { AreOfScript script.now workers.now }
-    ensures { IfOk result (λ values. AreValues script.now workers.now values.items) }
+    requires { AreOfScript script.now settled.now.managers }
+    ensures { IfOk result (λ values. AreValues script.now settled.now values.items) }
 {
     let keys = script.keys();
     let mut values = Vec::with_capacity(alloc, keys.len())?;
     for declared in keys {
-        let worker = &workers[declared.manager as usize - 1];
-        let value = worker.value(&declared.key).unwrap();
+        let value = settled.value(declared.manager, &declared.key).unwrap();
         values.push(Declared { value, ..*declared })?;
     }
     values.sort()?;

@@ -1,13 +1,13 @@
 //! A thread for each thread of a script, which runs its own lines in their order.
 ghost use Rattle.std.specs.Prelude.{◌≡◌, ◌+◌, ◌≤◌, [], List, false, length, All, IfOk, vec_capacity};
+ghost use Rattle.xa_grammar.specs.Content.{call_of, calls_of};
 ghost use Rattle.xa_script.specs.declared.working.Lines.{Lines};
 ghost use Rattle.xa_script.specs.Chains.{Pairwise};
 ghost use Rattle.xa_script.specs.Ending.{AllKept};
-ghost use Rattle.xa_script.specs.Threads.{call_of, calls_of, HasWorked, IsFit, IsReady, IsDone, IsAtWork};
+ghost use Rattle.xa_script.specs.Threads.{HasWorked, IsFit, IsReady, IsDone, IsAtWork};
 
 use crate::calls::answer;
 use crate::ending::{MOST_HANDLES, end_desk};
-use crate::script::{Called, Script, Step};
 use crate::transcript::Answer;
 use std::alloc::{AllocError, Global};
 use std::snapshot::Snapshot;
@@ -15,6 +15,7 @@ use std::sync::Wait;
 use std::thread;
 use std::thread::{Promise, PromisedHandle, Threads};
 use xa_desk::{Desk, EndedDesk, Idle, Spin};
+use xa_grammar::{Called, Step};
 
 /// A thread of the script before it runs: its desk and its calls, and room for their answers.
 #[derive(Drop)]
@@ -76,11 +77,11 @@ fn calls_of(alloc: Global, thread: u32, steps: &[Step]) -> Result<Vec<Called>, A
 
 impl Lines {
     // What the desk's thread is to do.
-    fn reserve(alloc: Global, script: &Script, desk: Desk) -> Result<Lines, AllocError>
+    fn reserve(alloc: Global, steps: &[Step], desk: Desk) -> Result<Lines, AllocError>
         requires { AllKept desk }
-        ensures { IfOk result (IsReady script.now.steps desk) }
+        ensures { IfOk result (IsReady steps.now desk) }
     {
-        let calls = calls_of(alloc, desk.thread(), script.steps())?;
+        let calls = calls_of(alloc, desk.thread(), steps)?;
         let answers = Vec::with_capacity(alloc, calls.len() + MOST_HANDLES as usize)?;
         Ok(Lines {
             desk,
@@ -127,15 +128,15 @@ impl Lines {
 /// What each desk's thread is to do, by rising thread.
 pub(crate) fn lines_of(
     alloc: Global,
-    script: &Script,
+    steps: &[Step],
     desks: Vec<Desk>,
 ) -> Result<Vec<Lines>, AllocError>
     requires { All AllKept desks.items }
-    ensures { IfOk result (λ v. Pairwise (IsReady script.now.steps) desks.items v.items) }
+    ensures { IfOk result (λ v. Pairwise (IsReady steps.now) desks.items v.items) }
 {
     let mut lines = Vec::with_capacity(alloc, desks.len())?;
     for desk in desks {
-        lines.push(Lines::reserve(alloc, script, desk)?)?;
+        lines.push(Lines::reserve(alloc, steps, desk)?)?;
     }
     Ok(lines)
 }

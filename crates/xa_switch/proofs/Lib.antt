@@ -1,3 +1,11 @@
 pub mod Dealing
 pub mod NewEnds
 pub mod Meeting
+pub mod Lists
+pub mod Gathering
+pub mod OneLane
+pub mod Pieces
+pub mod Agreeing
+pub mod Seated
+pub mod Mixing
+pub mod Parting

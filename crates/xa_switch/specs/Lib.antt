@@ -5,3 +5,6 @@ pub mod Plans
 pub mod Columns
 pub mod Lanes
 pub mod Openings
+pub mod Settling
+pub mod Seats
+pub mod Closing

@@ -1,19 +1,26 @@
-//! The switch: how desks and workers of one opening are made, and the calls of XA over a thread's desk.
+//! The switch: how desks and workers of one opening are made, the calls of XA over a thread's desk, and
+//! how an opening is settled.
 //!
 //! `open_switch` gives a desk for each thread of control and a worker for each manager. A thread calls
 //! `xa_call`, `native` and `xa_complete` over its desk (C193, chapters 3 to 5).
 #![tactic(auto)]
 
+mod apart;
 mod asked;
 mod assemble;
 mod calls;
+mod checks;
+mod closing;
 mod columns;
 mod completing;
 mod lanes;
+pub mod laws;
 mod managers;
 mod opening;
 mod plan;
 mod reserve;
+mod settled;
+mod settling;
 #[cfg(test)]
 mod tests;
 
@@ -22,3 +29,5 @@ pub use calls::{native, xa_call};
 pub use completing::xa_complete;
 pub use opening::open_switch;
 pub use plan::{ManagerPlan, OpenFault, Plan};
+pub use settled::Settled;
+pub use settling::{Unsettled, Why, settle};

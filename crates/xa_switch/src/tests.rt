@@ -1,5 +1,7 @@
 //! Openings of a switch.
 mod calls;
+mod settling;
+mod shut;
 mod threads;
 
 use crate::{ManagerPlan, OpenFault, Plan, open_switch};

@@ -6,12 +6,12 @@ use crate::padded::padded;
 use std::marker::Model;
 
 /// The name of a global transaction: the format and the gtrid that its branches share.
-#[derive(Clone, Copy, Debug, PartialEq, Eq)]
+#[derive(Clone, Copy, Debug, PartialEq, Eq, Hash)]
 pub struct Tran {
     parts: Parts,
 }
 
-#[derive(Clone, Copy, Debug, PartialEq, Eq)]
+#[derive(Clone, Copy, Debug, PartialEq, Eq, Hash)]
 struct Parts {
     format: i32,
     gtrid_len: u8,

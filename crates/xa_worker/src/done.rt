@@ -1,8 +1,5 @@
 //! A worker that has run.
-ghost use Rattle.std.specs.Prelude.{◌≡◌, ◌≤◌, option_map, pos};
-ghost use Rattle.std.specs.FinMap as finmap;
-ghost use Rattle.xa_tables.specs.History.{IsOpening, value_after};
-ghost use Rattle.xa_worker.specs.Journal.{requests};
+ghost use Rattle.std.specs.Prelude.{◌≡◌, ◌≤◌};
 ghost use Rattle.xa_worker.specs.Done.{IsServed, IsOrdered, served};
 ghost use Rattle.xa_worker.specs.Workers.{first_tables};
 
@@ -10,8 +7,7 @@ use http_server::Log;
 use std::marker::Model;
 use xa_lane::{Ended, RingReceiver};
 use xa_tables::Manager;
-use xa_tables::laws::value_is_sum;
-use xa_words::{Code, Completion, Key, Request};
+use xa_words::{Code, Completion, Request};
 
 /// A worker that has run: each thread's end mark was taken, nothing is held, and its senders are ended.
 #[derive(Drop)]
@@ -104,17 +100,6 @@ impl DoneWorker {
         ensures ordered { IsOrdered self.now }
     {
         &self.journal
-    }
-
-    /// The committed value of a key, and `None` for a key that wasn't declared.
-    pub fn value(&self, key: &Key) -> Option<u64>
-        ensures value { option_map pos result ≡ finmap.get self.now.manager.tables.values key.now }
-
-        // From an opening on it is the value after the journal's requests.
-        ensures sum { IsOpening self.now.first → option_map pos result ≡ value_after key.now (requests self.now.journal) self.now.first }
-    {
-        value_is_sum();
-        self.manager.value(key)
     }
 
     /// Its manager, the ends of its lanes and its journal.

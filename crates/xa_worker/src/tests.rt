@@ -174,9 +174,9 @@ fn the_journal_has_the_codes_and_the_manager_the_values(rt: HostRuntime) {
     let done = worker.run(&rt, &mut pace);
     assert_eq!(rt; (done.number(), done.opening(), done.peers()), (1, 7, 1));
     assert!(rt; has_entries(done.journal(), &ops, &[-6, 0, 0, 0, 0, 0, 0]));
-    assert_eq!(rt; done.value(&key), Some(70));
-    assert_eq!(rt; done.value(&other), None);
     let parts = done.apart();
+    assert_eq!(rt; parts.manager.value(&key), Some(70));
+    assert_eq!(rt; parts.manager.value(&other), None);
     assert_eq!(rt; (parts.journal.len(), parts.ends.len()), (7, 1));
     assert_eq!(rt; parts.manager.room(), 1);
 }

@@ -3,65 +3,67 @@
 use super::running::shows;
 use super::*;
 
+mod adding;
+mod associations;
 mod branches;
 mod calls;
-mod threads;
+mod openings;
 
 // What a row shows, its script and the transcript of it.
 type Row = (&'static str, &'static [u8], &'static [u8]);
 
 #[test]
 fn managers_are_opened(rt: HostRuntime) {
-    for (name, script, transcript) in threads::OPENING {
+    for (name, script, transcript) in openings::OPENING {
         assert!(rt; shows(&rt, script, transcript), "{name}");
     }
 }
 
 #[test]
 fn managers_are_closed(rt: HostRuntime) {
-    for (name, script, transcript) in threads::CLOSING {
+    for (name, script, transcript) in openings::CLOSING {
         assert!(rt; shows(&rt, script, transcript), "{name}");
     }
 }
 
 #[test]
 fn threads_that_have_not_opened_are_refused(rt: HostRuntime) {
-    for (name, script, transcript) in threads::NOT_OPENED {
+    for (name, script, transcript) in openings::NOT_OPENED {
         assert!(rt; shows(&rt, script, transcript), "{name}");
     }
 }
 
 #[test]
 fn branches_are_started(rt: HostRuntime) {
-    for (name, script, transcript) in threads::STARTING {
+    for (name, script, transcript) in associations::STARTING {
         assert!(rt; shows(&rt, script, transcript), "{name}");
     }
 }
 
 #[test]
 fn branches_are_joined(rt: HostRuntime) {
-    for (name, script, transcript) in threads::JOINING {
+    for (name, script, transcript) in associations::JOINING {
         assert!(rt; shows(&rt, script, transcript), "{name}");
     }
 }
 
 #[test]
 fn associations_are_resumed(rt: HostRuntime) {
-    for (name, script, transcript) in threads::RESUMING {
+    for (name, script, transcript) in associations::RESUMING {
         assert!(rt; shows(&rt, script, transcript), "{name}");
     }
 }
 
 #[test]
 fn keys_are_added_to(rt: HostRuntime) {
-    for (name, script, transcript) in threads::ADDING {
+    for (name, script, transcript) in adding::ADDING {
         assert!(rt; shows(&rt, script, transcript), "{name}");
     }
 }
 
 #[test]
 fn associations_are_ended(rt: HostRuntime) {
-    for (name, script, transcript) in threads::ENDING {
+    for (name, script, transcript) in associations::ENDING {
         assert!(rt; shows(&rt, script, transcript), "{name}");
     }
 }

@@ -25,7 +25,8 @@ fn shown<R: Threads + Wait + AllocGlobal + Copy + Send + 'static>(
     }
 }
 
-fn shows<R: Threads + Wait + AllocGlobal + Copy + Send + 'static>(
+// Whether it writes this transcript.
+pub(super) fn shows<R: Threads + Wait + AllocGlobal + Copy + Send + 'static>(
     rt: &R,
     script: &[u8],
     transcript: &[u8],
@@ -86,12 +87,37 @@ fn two_threads_open(rt: HostRuntime) -> Result<(), Fail> {
     Ok(())
 }
 
-// Each thread adds 1 to a key of its own of each manager, so many times.
-fn additions(alloc: Global, threads: u32, rounds: u32) -> Result<(Vec<u8>, Vec<u8>), AllocError> {
-    let mut script = format!(in alloc; "threads {threads}\nmanagers {threads}\n")?;
-    let mut values = String::new(alloc);
+// The lines of a thread that opens each manager, and then in each round adds 1 to its own key of each.
+fn additions_of(alloc: Global, t: u32, managers: u32, rounds: u32) -> Result<String, AllocError> {
+    let mut lines = String::new(alloc);
+    for manager in 0..managers {
+        let m = manager.saturating_add(1);
+        lines.push_str(&format!(in alloc; "{t} open {m}\n")?)?;
+    }
+    for round in 0..rounds {
+        for manager in 0..managers {
+            let (k, m) = (round.saturating_add(1), manager.saturating_add(1));
+            let xid = format!(in alloc; "t{t}x{k}.{m}")?;
+            lines.push_str(&format!(in alloc; "{t} start {m} {xid}\n{t} add {m} k{t} 1\n")?)?;
+            lines.push_str(&format!(in alloc; "{t} end {m} {xid} success\n")?)?;
+            lines.push_str(&format!(in alloc; "{t} commit {m} {xid} onephase\n")?)?;
+        }
+    }
+    Ok(lines)
+}
+
+// Threads that do so, and their transcript: each line answers 0, and each key has as many as there are
+// rounds.
+fn additions(
+    alloc: Global,
+    threads: u32,
+    managers: u32,
+    rounds: u32,
+) -> Result<(Vec<u8>, Vec<u8>), AllocError> {
+    let mut script = format!(in alloc; "threads {threads}\nmanagers {managers}\n")?;
+    let (mut transcript, mut values) = (String::new(alloc), String::new(alloc));
     let mut line: u32 = 2;
-    for manager in 0..threads {
+    for manager in 0..managers {
         for thread in 0..threads {
             let (m, t) = (manager.saturating_add(1), thread.saturating_add(1));
             script.push_str(&format!(in alloc; "key {m} k{t} 0\n")?)?;
@@ -99,22 +125,16 @@ fn additions(alloc: Global, threads: u32, rounds: u32) -> Result<(Vec<u8>, Vec<u
             line = line.saturating_add(1);
         }
     }
-    let mut transcript = String::new(alloc);
+    let lines = rounds
+        .saturating_mul(4)
+        .saturating_add(1)
+        .saturating_mul(managers);
     for thread in 0..threads {
         let t = thread.saturating_add(1);
-        for manager in 0..threads {
-            let m = manager.saturating_add(1);
-            script.push_str(&format!(in alloc; "{t} open {m}\n")?)?;
-            for k in 0..rounds {
-                let xid = format!(in alloc; "t{t}x{k}.{m}")?;
-                script.push_str(&format!(in alloc; "{t} start {m} {xid}\n{t} add {m} k{t} 1\n")?)?;
-                script.push_str(&format!(in alloc; "{t} end {m} {xid} success\n")?)?;
-                script.push_str(&format!(in alloc; "{t} commit {m} {xid} onephase\n")?)?;
-            }
-            for _ in 0..rounds.saturating_mul(4).saturating_add(1) {
-                line = line.saturating_add(1);
-                transcript.push_str(&format!(in alloc; "{line} {t} 0\n")?)?;
-            }
+        script.push_str(&additions_of(alloc, t, managers, rounds)?)?;
+        for _ in 0..lines {
+            line = line.saturating_add(1);
+            transcript.push_str(&format!(in alloc; "{line} {t} 0\n")?)?;
         }
     }
     transcript.push_str(&values)?;
@@ -123,9 +143,18 @@ fn additions(alloc: Global, threads: u32, rounds: u32) -> Result<(Vec<u8>, Vec<u
 
 #[test]
 fn threads_add_to_keys_of_their_own(rt: HostRuntime) -> Result<(), Fail> {
-    for threads in [1, 2, 8] {
-        let (script, transcript) = additions(rt.alloc(), threads, 20)?;
-        assert!(rt; shows(&rt, &script, &transcript), "{threads} threads");
+    let rows = [
+        (1, 1, 82),
+        (2, 2, 328),
+        (8, 8, 5_248),
+        (8, 1, 656),
+        (1, 8, 656),
+    ];
+    for (threads, managers, lines) in rows {
+        let (script, transcript) = additions(rt.alloc(), threads, managers, 20)?;
+        let out = shown(&rt, &script).ok_or("a transcript")?;
+        assert!(rt; out == transcript, "{threads} threads, {managers} managers");
+        assert_eq!(rt; out.iter().filter(|byte| **byte == b'\n').count(), lines);
     }
     Ok(())
 }

@@ -1,14 +1,13 @@
 use Rattle.std.proofs.Common.{length, sym, ap, subst, refl, arith, [], List}
 use Rattle.std.specs.Prelude.{All}
+use Rattle.xa_grammar.specs.Content.{Fits, threads_of, managers_of}
 use Rattle.xa_script.specs.declared.transcript.Answer.{Answer}
-use Rattle.xa_script.specs.Content.{Fits, threads_of, managers_of}
-use Rattle.xa_worker.specs.Done.{Served}
-use Rattle.xa_script.specs.Turning.{all_go_on}
-use Rattle.xa_script.specs.Values.{AreOfScript, AreValues}
 use Rattle.xa_script.specs.Run.{Course, Closing, HasRun, course_of, closing_of}
 use Rattle.xa_script.proofs.Keeping.{run_keeps}
 use Rattle.xa_script.proofs.Going.{run_goes, ends_go, run_count}
-use Rattle.xa_script.proofs.Opened.{opened_kept, opened_threads, opened_managers, done_of_script}
+use Rattle.xa_script.proofs.Opened.{opened_kept, opened_threads, opened_managers}
+use Rattle.xa_script.proofs.Pieces.{from_opening, of_one_opening, all_pieces, settled_of_script, tells}
+use Rattle.xa_script.proofs.Becoming.{turns_ran}
 use Rattle.xa_script.proofs.run.outcome.Goals as goal
 
 pub run-requires-clause-fit : goal.run-requires-clause-fit
@@ -21,16 +20,16 @@ run-requires-clause-fit g c =
     subst (λ n. All (Fits n (length workers)) steps) (sym (opened_threads s desks workers c.in_ok-desks.ensures.opened))
     (subst (λ n. All (Fits (threads_of s) n) steps) (sym (opened_managers s desks workers c.in_ok-desks.ensures.opened)) of)
 
-pub end_desks-requires-clause-kept : goal.end_desks-requires-clause-kept
-end_desks-requires-clause-kept g c =
+pub end_desks-ended-requires-clause-kept : goal.end_desks-ended-requires-clause-kept
+end_desks-ended-requires-clause-kept g c =
     let desks = c.in_ok-desks.desks.items in
     let workers = c.in_ok-desks.workers.items in
     let first : Course = course_of desks workers c.in_ok-answers.answers.items in
     let last : Course = course_of c.run.new.self.desks.items c.run.new.self.turns.workers.items c.run.new.answers.items in
     run_keeps first c.steps-steps.result.now last c.run.ensures.runs (opened_kept c.args.script.now desks workers c.in_ok-desks.ensures.opened)
 
-pub end_desks-requires-clause-ends : goal.end_desks-requires-clause-ends
-end_desks-requires-clause-ends g c =
+pub end_desks-ended-requires-clause-ends : goal.end_desks-ended-requires-clause-ends
+end_desks-ended-requires-clause-ends g c =
     let first : Course = course_of c.in_ok-desks.desks.items c.in_ok-desks.workers.items c.in_ok-answers.answers.items in
     let last : Course = course_of c.run.new.self.desks.items c.run.new.self.turns.workers.items c.run.new.answers.items in
     let count = run_count first c.steps-steps.result.now last c.run.ensures.runs in
@@ -39,8 +38,8 @@ end_desks-requires-clause-ends g c =
     let ok = c.in_ok-desks.desks.ok in
     omega (arith, count, exact, len, ok)
 
-pub end_desks-requires-clause-room : goal.end_desks-requires-clause-room
-end_desks-requires-clause-room g c =
+pub end_desks-ended-requires-clause-room : goal.end_desks-ended-requires-clause-room
+end_desks-ended-requires-clause-room g c =
     let s = c.args.script.now in
     let desks = c.in_ok-desks.desks.items in
     let workers = c.in_ok-desks.workers.items in
@@ -60,44 +59,99 @@ run_workers-done-requires-clause-room g c =
     let first : Course = course_of c.in_ok-desks.desks.items c.in_ok-desks.workers.items c.in_ok-answers.answers.items in
     let last : Course = course_of c.run.new.self.desks.items c.run.new.self.turns.workers.items c.run.new.answers.items in
     let closes : Closing = closing_of [] c.run.new.self.turns.workers.items c.run.new.answers.items in
-    let closed : Closing = closing_of c.end_desks.result.items c.end_desks.new.turns.workers.items c.end_desks.new.answers.items in
+    let closed : Closing = closing_of c.end_desks-ended.result.items c.end_desks-ended.new.turns.workers.items c.end_desks-ended.new.answers.items in
     let ran = (run_goes first c.steps-steps.result.now last c.run.ensures.runs).as_many in
-    let ended = (ends_go closes c.run.new.self.desks.items closed c.end_desks.ensures).as_many in
+    let ended = (ends_go closes c.run.new.self.desks.items closed c.end_desks-ended.ensures).as_many in
     let exact = c.in_ok-done.ensures.exact in
     let len = c.len-2.ensures in
     let ok = c.in_ok-desks.workers.ok in
     omega (arith, ran, ended, exact, len, ok)
+
+pub settle_all-requires-clause-from : goal.settle_all-requires-clause-from
+settle_all-requires-clause-from g c =
+    let s = c.args.script.now in
+    let desks = c.in_ok-desks.desks.items in
+    let workers = c.in_ok-desks.workers.items in
+    let ended = c.end_desks-ended.result.items in
+    let done = c.run_workers-done.result.items in
+    let answers = c.end_desks-ended.new.answers.items in
+    let last : Course = course_of c.run.new.self.desks.items c.run.new.self.turns.workers.items c.run.new.answers.items in
+    let closed : Closing = closing_of ended c.end_desks-ended.new.turns.workers.items answers in
+    let runs = subst (λ l. HasRun (course_of desks workers []) l last) c.steps-steps.ensures.steps (subst (λ (l : List Answer). HasRun (course_of desks workers l) c.steps-steps.result.now last) c.in_ok-answers.ensures.items c.run.ensures.runs) in
+    let of_steps = subst (All (Fits (threads_of s) (managers_of s))) c.steps-steps.ensures.steps c.steps-steps.ensures.of in
+    let ran = turns_ran s desks workers c.in_ok-desks.ensures.opened of_steps c.seats_are_kept.ensures last runs closed c.end_desks-ended.ensures done c.run_workers-done.ensures in
+    from_opening s answers desks workers ended done ran
+
+pub settle_all-requires-clause-one : goal.settle_all-requires-clause-one
+settle_all-requires-clause-one g c =
+    let s = c.args.script.now in
+    let desks = c.in_ok-desks.desks.items in
+    let workers = c.in_ok-desks.workers.items in
+    let ended = c.end_desks-ended.result.items in
+    let done = c.run_workers-done.result.items in
+    let answers = c.end_desks-ended.new.answers.items in
+    let last : Course = course_of c.run.new.self.desks.items c.run.new.self.turns.workers.items c.run.new.answers.items in
+    let closed : Closing = closing_of ended c.end_desks-ended.new.turns.workers.items answers in
+    let runs = subst (λ l. HasRun (course_of desks workers []) l last) c.steps-steps.ensures.steps (subst (λ (l : List Answer). HasRun (course_of desks workers l) c.steps-steps.result.now last) c.in_ok-answers.ensures.items c.run.ensures.runs) in
+    let of_steps = subst (All (Fits (threads_of s) (managers_of s))) c.steps-steps.ensures.steps c.steps-steps.ensures.of in
+    let ran = turns_ran s desks workers c.in_ok-desks.ensures.opened of_steps c.seats_are_kept.ensures last runs closed c.end_desks-ended.ensures done c.run_workers-done.ensures in
+    of_one_opening s answers desks workers ended done ran
+
+pub settle_all-requires-clause-all : goal.settle_all-requires-clause-all
+settle_all-requires-clause-all g c =
+    let s = c.args.script.now in
+    let desks = c.in_ok-desks.desks.items in
+    let workers = c.in_ok-desks.workers.items in
+    let ended = c.end_desks-ended.result.items in
+    let done = c.run_workers-done.result.items in
+    let answers = c.end_desks-ended.new.answers.items in
+    let last : Course = course_of c.run.new.self.desks.items c.run.new.self.turns.workers.items c.run.new.answers.items in
+    let closed : Closing = closing_of ended c.end_desks-ended.new.turns.workers.items answers in
+    let runs = subst (λ l. HasRun (course_of desks workers []) l last) c.steps-steps.ensures.steps (subst (λ (l : List Answer). HasRun (course_of desks workers l) c.steps-steps.result.now last) c.in_ok-answers.ensures.items c.run.ensures.runs) in
+    let of_steps = subst (All (Fits (threads_of s) (managers_of s))) c.steps-steps.ensures.steps c.steps-steps.ensures.of in
+    let ran = turns_ran s desks workers c.in_ok-desks.ensures.opened of_steps c.seats_are_kept.ensures last runs closed c.end_desks-ended.ensures done c.run_workers-done.ensures in
+    all_pieces s answers desks workers ended done ran
 
 pub values_of-requires : goal.values_of-requires
 values_of-requires g c =
     let s = c.args.script.now in
     let desks = c.in_ok-desks.desks.items in
     let workers = c.in_ok-desks.workers.items in
-    let first : Course = course_of desks workers c.in_ok-answers.answers.items in
+    let ended = c.end_desks-ended.result.items in
+    let done = c.run_workers-done.result.items in
+    let answers = c.end_desks-ended.new.answers.items in
     let last : Course = course_of c.run.new.self.desks.items c.run.new.self.turns.workers.items c.run.new.answers.items in
-    let closes : Closing = closing_of [] c.run.new.self.turns.workers.items c.run.new.answers.items in
-    let closed : Closing = closing_of c.end_desks.result.items c.end_desks.new.turns.workers.items c.end_desks.new.answers.items in
-    let goes = all_go_on workers last.stage.workers closed.workers (run_goes first c.steps-steps.result.now last c.run.ensures.runs) (ends_go closes c.run.new.self.desks.items closed c.end_desks.ensures) in
-    subst (AreOfScript s) (sym c.deref.ensures.value) (done_of_script s desks workers closed.workers c.run_workers-done.result.items c.in_ok-desks.ensures.opened goes c.run_workers-done.ensures)
+    let closed : Closing = closing_of ended c.end_desks-ended.new.turns.workers.items answers in
+    let runs = subst (λ l. HasRun (course_of desks workers []) l last) c.steps-steps.ensures.steps (subst (λ (l : List Answer). HasRun (course_of desks workers l) c.steps-steps.result.now last) c.in_ok-answers.ensures.items c.run.ensures.runs) in
+    let of_steps = subst (All (Fits (threads_of s) (managers_of s))) c.steps-steps.ensures.steps c.steps-steps.ensures.of in
+    let ran = turns_ran s desks workers c.in_ok-desks.ensures.opened of_steps c.seats_are_kept.ensures last runs closed c.end_desks-ended.ensures done c.run_workers-done.ensures in
+    settled_of_script s answers desks workers ended done ran c.in_ok-settled.settled c.in_ok-settled.ensures.pieces
 
 pub returns : goal.returns
 returns g c =
     let s = c.args.script.now in
     let desks = c.in_ok-desks.desks.items in
     let workers = c.in_ok-desks.workers.items in
-    let steps = c.steps-steps.result.now in
+    let ended = c.end_desks-ended.result.items in
+    let done = c.run_workers-done.result.items in
+    let answers = c.end_desks-ended.new.answers.items in
     let last : Course = course_of c.run.new.self.desks.items c.run.new.self.turns.workers.items c.run.new.answers.items in
-    let closed : Closing = closing_of c.end_desks.result.items c.end_desks.new.turns.workers.items c.end_desks.new.answers.items in
+    let closed : Closing = closing_of ended c.end_desks-ended.new.turns.workers.items answers in
+    let runs = subst (λ l. HasRun (course_of desks workers []) l last) c.steps-steps.ensures.steps (subst (λ (l : List Answer). HasRun (course_of desks workers l) c.steps-steps.result.now last) c.in_ok-answers.ensures.items c.run.ensures.runs) in
+    let of_steps = subst (All (Fits (threads_of s) (managers_of s))) c.steps-steps.ensures.steps c.steps-steps.ensures.of in
+    let ran = turns_ran s desks workers c.in_ok-desks.ensures.opened of_steps c.seats_are_kept.ensures last runs closed c.end_desks-ended.ensures done c.run_workers-done.ensures in
     record {
       desks = desks;
       workers = workers;
       opened = c.in_ok-desks.ensures.opened;
       ran = last;
-      runs = subst (λ l. HasRun (course_of desks workers []) l last) c.steps-steps.ensures.steps (subst (λ (l : List Answer). HasRun (course_of desks workers l) steps last) c.in_ok-answers.ensures.items c.run.ensures.runs);
+      runs = runs;
       closed = closed;
-      closes = c.end_desks.ensures;
+      closes = c.end_desks-ended.ensures;
       answered = refl;
-      done = c.run_workers-done.result.items;
+      done = done;
       served = c.run_workers-done.ensures;
-      shown = subst (λ (l : List Served). AreValues s l c.in_ok-values.values.items) c.deref.ensures.value c.in_ok-values.ensures;
+      settled = c.in_ok-settled.settled;
+      settles = c.in_ok-settled.ensures.pieces;
+      tells = tells s answers desks workers ended done ran c.in_ok-settled.settled c.in_ok-settled.ensures.pieces c.in_ok-values.values.items c.in_ok-settled.ensures.settled c.in_ok-values.ensures;
     }

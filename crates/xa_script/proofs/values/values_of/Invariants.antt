@@ -7,5 +7,5 @@ use Rattle.xa_script.proofs.values.values_of.Given as goal
 abbrev pub invariant-loop-declared : goal.invariant-loop-declared
 invariant-loop-declared l = record {
   named : map name_of l.values.items ≡ map name_of (take l.declared-index l.keys);
-  worth : All (IsWorth l.script l.workers) l.values.items;
+  worth : All (IsWorth l.script l.settled) l.values.items;
 }

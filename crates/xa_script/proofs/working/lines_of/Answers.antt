@@ -8,7 +8,7 @@ use Rattle.xa_script.proofs.Keeping.{all_at}
 use Rattle.xa_script.proofs.working.lines_of.Goals as goal
 
 pub loop-desk-init : goal.loop-desk-init
-loop-desk-init c = record { so_far = search rules; ready = none_side (IsReady c.args.script.now.steps) [] _ refl c.in_ok-lines.ensures.items }
+loop-desk-init c = record { so_far = search rules; ready = none_side (IsReady c.args.steps.now) [] _ refl c.in_ok-lines.ensures.items }
 
 pub reserve-requires : goal.reserve-requires
 reserve-requires c =
@@ -20,7 +20,7 @@ pub loop-desk-preserved : goal.loop-desk-preserved
 loop-desk-preserved c =
     let i = c.loop-desk.invariant in
     let d = c.in-Some.desk in
-    let steps = c.args.script.now.steps in
+    let steps = c.args.steps.now in
     record {
       so_far = append_assoc c.loop-desk.yielded (d ∷ []) (into_iter_items c.next.new.self) ∙ ap (λ l. c.loop-desk.yielded ++ l) (sym c.in-Some.ensures.steps.0) ∙ i.so_far;
       ready = subst (λ l. Pairwise (IsReady steps) (c.loop-desk.yielded ++ d ∷ []) l) (sym c.in_ok-push.ensures.items) (push_side (IsReady steps) c.loop-desk.yielded c.loop-desk.lines.items d c.in_ok-reserve.field-0 i.ready c.in_ok-reserve.ensures);

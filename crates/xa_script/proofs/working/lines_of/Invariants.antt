@@ -8,5 +8,5 @@ use Rattle.xa_script.proofs.working.lines_of.Given as goal
 abbrev pub invariant-loop-desk : goal.invariant-loop-desk
 invariant-loop-desk l = record {
   so_far : l.yielded ++ into_iter_items l.desk-iterator ≡ l.fn.desks.items;
-  ready : Pairwise (IsReady l.script.steps) l.yielded l.lines.items;
+  ready : Pairwise (IsReady l.steps) l.yielded l.lines.items;
 }

@@ -2,7 +2,7 @@
 use super::Row;
 
 // Flags (any other flag or combination is XAER_INVAL, and nothing is carried out).
-pub(super) const FLAGS: [Row; 13] = [
+pub(super) const FLAGS: [Row; 14] = [
     (
         "an open takes no flag",
         b"1 open 1 success\n1 open 1 suspend\n1 open 1 fail\n1 open 1 join\n1 open 1 resume\n\
@@ -93,6 +93,14 @@ pub(super) const FLAGS: [Row; 13] = [
             1 add 1 a 1 multiple\n1 add 1 a 1 nowait\n1 end 1 g.1 success\n1 prepare 1 g.1\n",
         b"2 1 0\n3 1 0\n4 1 -5\n5 1 -5\n6 1 -5\n7 1 -5\n8 1 -5\n9 1 -5\n10 1 -5\n11 1 -5\n\
             12 1 0\n13 1 3\nvalue 1 a 5\n",
+    ),
+    (
+        "a shut takes no flag",
+        b"1 open 1\n1 shut 1 success\n1 shut 1 suspend\n1 shut 1 fail\n1 shut 1 join\n\
+            1 shut 1 resume\n1 shut 1 onephase\n1 shut 1 multiple\n1 shut 1 nowait\n\
+            1 start 1 g.1\n1 shut 1\n1 end 1 g.1 success\n",
+        b"1 1 0\n2 1 -5\n3 1 -5\n4 1 -5\n5 1 -5\n6 1 -5\n7 1 -5\n8 1 -5\n9 1 -5\n10 1 0\n\
+            11 1 0\n12 1 -7\n",
     ),
     (
         "a flag that stands twice is one flag",

@@ -1,7 +1,7 @@
 use Rattle.std.proofs.Common.{length, take, sym, ap, ◌∙◌, subst, refl, arith, ◌∷◌, []}
 use Rattle.std.proofs.lemmas.List.{length-append, take_all}
+use Rattle.xa_grammar.specs.Content.{Fits}
 use Rattle.xa_script.specs.Chains.Chain.{none, more}
-use Rattle.xa_script.specs.Content.{Fits}
 use Rattle.xa_script.specs.Run.{Course, HasRun, course_of}
 use Rattle.xa_script.proofs.Side.{one_more}
 use Rattle.xa_script.proofs.Going.{steps_go, steps_count}

@@ -1,9 +1,9 @@
 use Rattle.std.proofs.Common.{◌-◌, ◌<◌, length, slice_set, Some, sym, ap, ◌∙◌, subst, refl, arith}
 use Rattle.std.proofs.lemmas.Option.{slice_get-get_or}
 use Rattle.xa_desk.specs.DeskView.{DeskView}
-use Rattle.xa_script.specs.declared.script.Step.{Step}
+use Rattle.xa_grammar.specs.declared.script.Step.{Step}
+use Rattle.xa_grammar.specs.Content.{Fits, IsUpTo}
 use Rattle.xa_script.specs.declared.transcript.Answer.TheVariants.{Turned}
-use Rattle.xa_script.specs.Content.{Fits, IsUpTo}
 use Rattle.xa_script.specs.Run.{Stage, Steps, stage_of}
 use Rattle.xa_script.proofs.run.Runner.step.Goals as goal
 

@@ -1,7 +1,7 @@
 use Rattle.std.proofs.Common.{List, [], ◌∷◌, length, take, sym, ap, ◌∙◌, subst, refl, arith}
 use Rattle.std.proofs.lemmas.List.{length-append, take_all}
 use Rattle.xa_desk.specs.DeskView.{DeskView}
-use Rattle.xa_script.specs.declared.script.Called.{Called}
+use Rattle.xa_grammar.specs.declared.script.Called.{Called}
 use Rattle.xa_script.specs.declared.transcript.Answer.{Answer}
 use Rattle.xa_script.specs.Chains.{Chain}
 use Rattle.xa_script.specs.Chains.Chain.{none, more}

@@ -1,0 +1,82 @@
+-- On abort no Commit is sent.
+use Rattle.std.specs.Prelude.{◌≡◌, Bool, true, false, not, ◌&&◌, ◌||◌, if◌then◌else◌, Option, None, Some, List, [], ◌∷◌, ◌++◌, refl}
+use Rattle.std.proofs.Common.{sym, ap, ◌∙◌, subst, append_assoc}
+use Rattle.std.proofs.lemmas.List.Folds.{list_any-append}
+use Rattle.xa_words.specs.Xid.{XidName}
+use Rattle.xa_words.specs.Tran.{TranName}
+use Rattle.xa_words.specs.declared.code.Code.{Code}
+use Rattle.xa_words.specs.declared.request.Op.{Op}
+use Rattle.xa_words.specs.declared.request.Op.TheVariants.{Prepare, Rollback}
+use Rattle.xa_tables.specs.History.{is_rolled_back}
+use Rattle.xa_desk.specs.AccountView.{AccountView, learnt_shut}
+use Rattle.xa_desk.specs.DeskView.{account}
+use Rattle.xa_driver.specs.declared.branch.Branch.{Branch}
+use Rattle.xa_driver.specs.declared.done.Done.{Done}
+use Rattle.xa_driver.specs.declared.done.Ending.{Ending}
+use Rattle.xa_driver.specs.Decision.{is_read, decides_commit, has_yes}
+use Rattle.xa_driver.specs.Endings.{second_op, ending_of, is_out_of_reach}
+use Rattle.xa_driver.specs.Log.{LogState}
+use Rattle.xa_driver.specs.Asks.{asked}
+use Rattle.xa_driver.specs.Trace.{BranchTrace, EachBranch, IsTraceOfCommit, commits, voted, wants_record}
+use Rattle.xa_driver.specs.Commits.{HasSentNoCommit, EachHasSentNoCommit, is_commit}
+
+pub by_if : {A : Type 0} (P : A → Type 0) (b : Bool) (p q : A) → (b ≡ true → P p) → (b ≡ false → P q) → P (if b then p else q)
+by_if P b p q one two = elim b as (λ c. b ≡ c → P (if c then p else q)) [ true ↦ one | false ↦ two ] refl
+
+nil_right : {A : Type 0} (xs : List A) → xs ++ [] ≡ xs
+nil_right [] = refl
+nil_right (x ∷ xs) = ap (λ ys. x ∷ ys) (nil_right xs)
+
+is_commit_asked : Option Op → Bool
+is_commit_asked None = false
+is_commit_asked (Some op) = is_commit op
+
+nothing_more : (a : AccountView) → HasSentNoCommit a a
+nothing_more a = record { more = []; sent = sym (nil_right a.sent); none = refl }
+
+asked_none : (a : AccountView) (op : Option Op) (code : Option Code) → is_commit_asked op ≡ false → HasSentNoCommit a (asked a op code)
+unfolding is_commit_asked
+asked_none a None code e = nothing_more a
+asked_none a (Some op) None e = nothing_more a
+asked_none a (Some op) (Some code) e =
+    by_if (HasSentNoCommit a) (learnt_shut a) _ _ (λ _. nothing_more a) (λ _. record { more = op ∷ []; sent = refl; none = ap (λ q. q || false) e })
+
+chained : (a b c : AccountView) → HasSentNoCommit a b → HasSentNoCommit b c → HasSentNoCommit a c
+chained a b c p q = record {
+  more = p.more ++ q.more;
+  sent = q.sent ∙ ap (λ xs. xs ++ q.more) p.sent ∙ append_assoc a.sent p.more q.more;
+  none = list_any-append is_commit p.more q.more ∙ (λ i. p.none i || q.none i);
+}
+
+on_abort : (x : XidName) (v : Code) → is_commit_asked (second_op false x v) ≡ false
+unfolding is_commit_asked
+on_abort x v = by_if (λ o. is_commit_asked o ≡ false) (is_read v || (is_rolled_back v || is_out_of_reach v)) None (Some (Rollback x)) (λ _. refl) (λ _. refl)
+
+no_commit : (b : Branch) (v : Code) (s : Option Code) (a a' : AccountView) → BranchTrace false b v s a a' → HasSentNoCommit a a'
+unfolding is_commit_asked
+no_commit b v s a a' tr =
+    subst (HasSentNoCommit a) (sym tr.trace) (chained a (voted b v a) _ (asked_none a (Some (Prepare b.xid)) (Some v) refl) (asked_none (voted b v a) (second_op false b.xid v) s (on_abort b.xid v)))
+
+and_false : (b : Bool) → (b && false) ≡ false
+and_false true = refl
+and_false false = refl
+
+right_holds : (a b : Bool) → (a && b) ≡ true → b ≡ true
+right_holds true b e = e
+right_holds false b e = cc
+
+-- on abort no Commit is sent
+each_no_commit : (old new : List AccountView) (commit : Bool) → commit ≡ false → (bs : List Branch) (vs : List Code) (ss : List (Option Code)) (es : List Ending)
+    → EachBranch (λ b v s e. BranchTrace commit b v s (account old b.m) (account new b.m) × (e ≡ ending_of commit v s)) bs vs ss es → EachHasSentNoCommit old new bs
+each_no_commit old new commit off [] [] [] [] h = tt
+each_no_commit old new commit off (b ∷ bs) (v ∷ vs) (s ∷ ss) (e ∷ es) h =
+    (no_commit b v s (account old b.m) (account new b.m) (subst (λ c. BranchTrace c b v s (account old b.m) (account new b.m)) off h.0.0), each_no_commit old new commit off bs vs ss es h.1)
+each_no_commit old new commit off bs vs ss es h = absurd h
+
+pub failed_append_law : (tran : TranName) (bs : List Branch) (old new : List AccountView) (log later : LogState) (done : Done)
+    → IsTraceOfCommit tran bs old new log later done → wants_record done.votes.items ≡ true → done.logged ≡ false → EachHasSentNoCommit old new bs
+failed_append_law tran bs old new log later done call wanted off =
+    let votes : List Code = done.votes.items in
+    let some_yes : has_yes votes ≡ true = right_holds _ _ wanted in
+    let z : commits votes done.logged ≡ false = (λ i. decides_commit votes && (not (some_yes i) || off i)) ∙ and_false (decides_commit votes) in
+    each_no_commit old new done.commit (call.decision ∙ z) bs votes call.seconds done.endings.items call.each

@@ -1,0 +1,113 @@
+-- What a request to one manager does to a desk.
+use Rattle.std.specs.Prelude.{◌≡◌, ◌≢◌, ℕ, ◌+◌, ◌<◌, ◌≤◌, Bool, true, false, if◌then◌else◌, Option, None, Some, List, [], ◌∷◌, length, refl}
+use Rattle.std.proofs.Common.{sym, ap, ◌∙◌, subst, arith, get_or, drop, drop-cons, suc}
+use Rattle.xa_words.specs.declared.code.Code.{Code}
+use Rattle.xa_words.specs.declared.request.Op.{Op}
+use Rattle.xa_desk.specs.declared.operation.Operation.{Operation}
+use Rattle.xa_desk.specs.AccountView.{AccountView, learnt_shut, with_sent, with_collected}
+use Rattle.xa_desk.specs.DeskView.{DeskView, TicketView, IsKnown, account, put_account, after_collected, opening_of, outstanding}
+use Rattle.xa_desk.specs.Looks.{Collects}
+use Rattle.xa_driver.specs.declared.ask.Ask.{Ask}
+use Rattle.xa_driver.specs.Asks.{sent_by, SameAsks, AreRising, KeepsDesk, IsUnsent, IsSending, Begins, Ends}
+use Rattle.xa_driver.proofs.Accounts.{open_count, put_same, put_other, put_length, put_open}
+
+pub at_false : {A : Type 0} (b : Bool) (p q : A) → b ≡ false → (if b then p else q) ≡ q
+at_false true p q e = cc
+at_false false p q e = refl
+
+pub at_true : {A : Type 0} (b : Bool) (p q : A) → b ≡ true → (if b then p else q) ≡ p
+at_true true p q e = refl
+at_true false p q e = cc
+
+rising_from : (lo hi : ℕ) (ks : List Ask) → lo ≤ hi → AreRising hi ks → AreRising lo ks
+rising_from lo hi [] h r = tt
+rising_from lo hi (k ∷ ks) h r = (let z = r.0 in omega arith, r.1)
+
+pub rising_same : (lo : ℕ) (js ks : List Ask) → SameAsks js ks → AreRising lo js → AreRising lo ks
+rising_same lo [] [] s r = tt
+rising_same lo [] (k ∷ ks) s r = absurd s
+rising_same lo (j ∷ js) [] s r = absurd s
+rising_same lo (j ∷ js) (k ∷ ks) s r =
+    (let z = r.0 in let e = s.0.manager in omega arith, rising_from k.manager j.manager ks (let e = s.0.manager in omega arith) (rising_same j.manager js ks s.1 r.1))
+
+-- what one request does to a desk
+pub record Moved (m : ℕ) (a' : AccountView) (old new : DeskView) : Type 0 where
+  pub here : account new.accounts m ≡ a'
+  pub others : (n : ℕ) → 1 ≤ n → n ≢ m → account new.accounts n ≡ account old.accounts n
+  pub managers : length new.accounts ≡ length old.accounts
+  pub open_ : outstanding new.accounts + open_count (account old.accounts m) ≡ outstanding old.accounts + open_count a'
+  pub keeps : KeepsDesk old new
+
+pub keeps_start : (d : DeskView) → KeepsDesk d d
+keeps_start d = record { thread = refl; opening = refl; handles = refl; kept = refl }
+
+pub keeps_chain : (a b c : DeskView) → KeepsDesk a b → KeepsDesk b c → KeepsDesk a c
+keeps_chain a b c p q = record { thread = q.thread ∙ p.thread; opening = q.opening ∙ p.opening; handles = q.handles ∙ p.handles; kept = q.kept ∙ p.kept }
+
+unmoved : (m : ℕ) (a' : AccountView) (old new : DeskView) → new ≡ old → account old.accounts m ≡ a' → Moved m a' old new
+unmoved m a' old new e h =
+    subst (λ (d : DeskView). Moved m a' old d) (sym e) (record {
+      here = h;
+      others = λ n p q. refl;
+      managers = refl;
+      open_ = ap (λ (a : AccountView). outstanding old.accounts + open_count a) h;
+      keeps = keeps_start old;
+    })
+
+-- one account was written, and nothing else that counts
+put_moved : (m : ℕ) (a' : AccountView) (old new : DeskView) → IsKnown old.accounts m → new.accounts ≡ put_account old.accounts m a' → KeepsDesk old new → Moved m a' old new
+put_moved m a' old new known e keeps = record {
+  here = ap (λ l. account l m) e ∙ put_same old.accounts m a' known;
+  others = λ n p q. ap (λ l. account l n) e ∙ put_other old.accounts m a' known n p q;
+  managers = ap length e ∙ put_length old.accounts m a' known;
+  open_ = ap (λ l. outstanding l + open_count (account old.accounts m)) e ∙ put_open old.accounts m a' known;
+  keeps = keeps;
+}
+
+sent_none : (a : AccountView) (op : Option Op) → IsUnsent a op → a ≡ sent_by a op
+sent_none a None h = refl
+sent_none a (Some op) h = sym (at_true (learnt_shut a) _ _ h)
+
+pub began_moved : (k : Ask) (old new : DeskView) (r : Option TicketView) → IsKnown old.accounts k.manager → Begins k old new r → Moved k.manager (sent_by (account old.accounts k.manager) k.op) old new
+began_moved k old new None known b = unmoved k.manager _ old new b.0 (sent_none (account old.accounts k.manager) k.op b.1)
+began_moved k old new (Some t) known b =
+    let a : AccountView = account old.accounts k.manager in
+    let is : with_sent a b.op ≡ sent_by a k.op = sym (at_false (learnt_shut a) _ _ b.open_) ∙ ap (sent_by a) (sym b.wanted) in
+    subst (λ (x : AccountView). Moved k.manager x old new) is (put_moved k.manager (with_sent a b.op) old new known b.sent b.keeps)
+
+-- a request that was sent stands in its manager's account
+pub sent_is : (k : Ask) (t : TicketView) (d d' : DeskView) → IsKnown d.accounts k.manager → (b : IsSending k d d' t) → account d'.accounts k.manager ≡ with_sent (account d.accounts k.manager) b.op
+sent_is k t d d' known b = ap (λ l. account l k.manager) b.sent ∙ put_same d.accounts k.manager (with_sent (account d.accounts k.manager) b.op) known
+
+unfoldable pub collected_of : (a : AccountView) (r : Option TicketView) (code : Option Code) → AccountView
+collected_of a None code = a
+collected_of a (Some t) None = a
+collected_of a (Some t) (Some c) = with_collected a t.operation.number c
+
+pub ended_moved : (k : Ask) (old new : DeskView) (r : Option TicketView) (code : Option Code) → ((t : TicketView) → r ≡ Some t → t.operation.manager ≡ k.manager) → IsKnown old.accounts k.manager → Ends k old new r code → Moved k.manager (collected_of (account old.accounts k.manager) r code) old new
+unfolding collected_of
+ended_moved k old new None code at known e = unmoved k.manager (account old.accounts k.manager) old new e.0 refl
+ended_moved k old new (Some t) code at known e =
+    subst (λ (o : Option Code). Moved k.manager (collected_of (account old.accounts k.manager) (Some t) o) old new) (sym e.1.0) (moved e.0 e.1.1)
+  where
+    moved : (c : Code) → Collects old new t.operation c → Moved k.manager (with_collected (account old.accounts k.manager) t.operation.number c) old new
+    moved c x =
+        let o : Operation = t.operation in
+        let names : o.manager ≡ k.manager = at t refl in
+        let same : x.before.accounts ≡ old.accounts = ap (λ (d : DeskView). d.accounts) x.looks.rest in
+        let written : new.accounts ≡ put_account old.accounts o.manager (with_collected (account old.accounts o.manager) o.number c) =
+        ap (λ (d : DeskView). d.accounts) x.collected ∙ ap (λ l. after_collected l o c) same in
+        let keeps : KeepsDesk old new = record {
+          thread = ap (λ (d : DeskView). d.thread) x.collected ∙ ap (λ (d : DeskView). d.thread) x.looks.rest;
+          opening = ap opening_of x.collected ∙ ap opening_of x.looks.rest;
+          handles = ap (λ (d : DeskView). d.handles) x.collected ∙ ap (λ (d : DeskView). d.handles) x.looks.rest;
+          kept = ap (λ (d : DeskView). d.kept) x.collected ∙ ap (λ (d : DeskView). d.kept) x.looks.rest;
+        } in
+        put_moved k.manager (with_collected (account old.accounts k.manager) o.number c) old new known
+        (written ∙ ap (λ (m : ℕ). put_account old.accounts m (with_collected (account old.accounts m) o.number c)) names) keeps
+
+pub known_by : (l l' : List AccountView) (m : ℕ) → length l' ≡ length l → IsKnown l m → IsKnown l' m
+known_by l l' m e k = record { positive = k.positive; within = let z = k.within in omega arith }
+
+pub split_at : (xs : List Ask) (i : ℕ) (k : Ask) → i < length xs → k ≡ get_or xs i k → drop i xs ≡ k ∷ drop (i + 1) xs
+split_at xs i k lt is = let one : suc i ≡ i + 1 = omega arith in drop-cons xs i k lt ∙ (λ j. (sym is j) ∷ drop (one j) xs)

@@ -1,0 +1,188 @@
+-- The two rounds make a call.
+use Rattle.std.specs.Prelude.{◌≡◌, ℕ, ◌+◌, ◌<◌, ◌≤◌, Bool, ◌||◌, ◌&&◌, ◌==◌, Option, None, Some, unwrap_or, List, [], ◌∷◌, ◌++◌, length, map, refl}
+use Rattle.std.proofs.Common.{sym, ap, ◌∙◌, subst, arith, get_or, length-append}
+use Rattle.std.proofs.Common.{take}
+use Rattle.std.proofs.Math.Seq.{take-append_seam}
+use Rattle.xa_words.specs.Tran.{TranName, tran_of}
+use Rattle.xa_words.specs.declared.code.Code.{Code}
+use Rattle.xa_words.specs.declared.code.Code.TheVariants.{RmFail}
+use Rattle.xa_words.specs.declared.request.Op.{Op}
+use Rattle.xa_words.specs.declared.request.Op.TheVariants.{Prepare}
+use Rattle.xa_desk.specs.AccountView.{AccountView, learnt_shut}
+use Rattle.xa_desk.specs.DeskView.{DeskView, account}
+use Rattle.xa_driver.specs.declared.branch.Branch.{Branch}
+use Rattle.xa_driver.specs.declared.ask.Ask.{Ask}
+use Rattle.xa_driver.specs.declared.done.Done.{Done}
+use Rattle.xa_driver.specs.declared.done.Ending.{Ending}
+use Rattle.xa_driver.specs.Decision.{is_yes, voted_yes, yes_of}
+use Rattle.xa_driver.specs.Endings.{second_op, ending_of}
+use Rattle.xa_driver.specs.Log.{LogState, record_of}
+use Rattle.xa_driver.specs.Asks.{asked, IsAnswered, AskTrace, EachAsk, among_asks, Asks, SameAsks, IsSameAsk, AreRising, AllCanAsk}
+use Rattle.xa_driver.specs.Rounds.{first_ask, code_of, second_ask, ending_of_ask, asked_yes}
+use Rattle.xa_driver.specs.Trace.{BranchTrace, EachBranch, has_branch_at, IsTranOf, AreBranchesRising, HasRoom, HaveRoom, MayCommit, Logs, commits, IsTraceOfCommit}
+use Rattle.xa_driver.proofs.Aborts.{by_if}
+
+pub first_rising : (lo : ℕ) (bs : List Branch) → AreBranchesRising lo bs → AreRising lo (map first_ask bs)
+first_rising lo [] r = tt
+first_rising lo (b ∷ bs) r = (r.0, first_rising b.m bs r.1)
+
+pub first_can : (at : List AccountView) (bs : List Branch) → HaveRoom at bs → AllCanAsk (map first_ask bs) at
+first_can at [] h = tt
+first_can at (b ∷ bs) h = (record { known = h.0.known; room = let z = h.0.room in omega arith }, first_can at bs h.1)
+
+pub firsts : (bs : List Branch) → length (map first_ask bs) ≡ length bs
+firsts [] = refl
+firsts (b ∷ bs) = let z = firsts bs in omega arith
+
+rising_by : (lo hi : ℕ) (ks : List Ask) → hi ≡ lo → AreRising hi ks → AreRising lo ks
+rising_by lo hi ks e r = subst (λ (n : ℕ). AreRising n ks) e r
+
+pub second_rising : (commit : Bool) (lo : ℕ) (bs : List Branch) (ks : List Ask) → SameAsks (map first_ask bs) ks → AreBranchesRising lo bs → AreRising lo (map (second_ask commit) ks)
+second_rising commit lo [] [] s r = tt
+second_rising commit lo [] (k ∷ ks) s r = absurd s
+second_rising commit lo (b ∷ bs) [] s r = absurd s
+second_rising commit lo (b ∷ bs) (k ∷ ks) s r =
+    (subst (λ (n : ℕ). lo < n) (sym s.0.manager) r.0, rising_by k.manager b.m (map (second_ask commit) ks) (sym s.0.manager) (second_rising commit b.m bs ks s.1 r.1))
+
+-- a request adds at most one
+record AtMostOne (a a' : AccountView) : Type 0 where
+  sent : length a'.sent ≤ length a.sent + 1
+  plan : a'.plan ≡ a.plan
+
+none_more : (a : AccountView) → AtMostOne a a
+none_more a = record { sent = omega arith; plan = refl }
+
+one_more : (a : AccountView) (op : Option Op) (code : Option Code) → AtMostOne a (asked a op code)
+one_more a None code = none_more a
+one_more a (Some op) None = none_more a
+one_more a (Some op) (Some c) = by_if (AtMostOne a) (learnt_shut a) _ _ (λ _. none_more a) (λ _. record { sent = omega (arith, length-append a.sent (op ∷ [])); plan = refl })
+
+pub second_can : (commit : Bool) (old mid : List AccountView) (bs : List Branch) (ks : List Ask) → length mid ≡ length old → SameAsks (map first_ask bs) ks → EachAsk ks old mid → HaveRoom old bs → AllCanAsk (map (second_ask commit) ks) mid
+second_can commit old mid [] [] l s e h = tt
+second_can commit old mid [] (k ∷ ks) l s e h = absurd s
+second_can commit old mid (b ∷ bs) [] l s e h = absurd s
+second_can commit old mid (b ∷ bs) (k ∷ ks) l s e h =
+    let room : HasRoom old k.manager = subst (HasRoom old) (sym s.0.manager) h.0 in
+    let more : AtMostOne (account old k.manager) (account mid k.manager) = subst (AtMostOne (account old k.manager)) (sym e.0.trace) (one_more (account old k.manager) k.op k.code) in (
+      record {
+        known = record { positive = room.known.positive; within = let z = room.known.within in omega arith };
+        room = let x = room.room in let y = more.sent in let z = more.plan in omega arith;
+      },
+      second_can commit old mid bs ks l s.1 e.1 h.1,
+    )
+
+pub seconds_long : (commit : Bool) (bs : List Branch) (ks : List Ask) → SameAsks (map first_ask bs) ks → length (map (second_ask commit) ks) ≡ length bs
+seconds_long commit [] [] s = refl
+seconds_long commit [] (k ∷ ks) s = absurd s
+seconds_long commit (b ∷ bs) [] s = absurd s
+seconds_long commit (b ∷ bs) (k ∷ ks) s = let z = seconds_long commit bs ks s.1 in omega arith
+
+pub asks_long : (bs : List Branch) (ks : List Ask) → SameAsks (map first_ask bs) ks → length ks ≡ length bs
+asks_long [] [] s = refl
+asks_long [] (k ∷ ks) s = absurd s
+asks_long (b ∷ bs) [] s = absurd s
+asks_long (b ∷ bs) (k ∷ ks) s = let z = asks_long bs ks s.1 in omega arith
+
+pub same_long : (js ks : List Ask) → SameAsks js ks → length ks ≡ length js
+same_long [] [] s = refl
+same_long [] (k ∷ ks) s = absurd s
+same_long (j ∷ js) [] s = absurd s
+same_long (j ∷ js) (k ∷ ks) s = let z = same_long js ks s.1 in omega arith
+
+-- a Prepare is answered
+answered_some : (a : AccountView) (op : Op) (k : Ask) → IsAnswered a (Some op) k.code → k.code ≡ Some (code_of k)
+answered_some a op k h = elim (k.code) as (λ c. IsAnswered a (Some op) c → k.code ≡ c → k.code ≡ Some (code_of k)) [
+  | None ↦ λ no_code e. absurd no_code
+  | Some c ↦ λ ok e. e ∙ ap (λ (d : Code). Some d) (sym (code_is k c e))
+] h refl
+  where
+    code_is : (k : Ask) (c : Code) → k.code ≡ Some c → code_of k ≡ c
+    code_is k c e = ap (λ (o : Option Code). unwrap_or o RmFail) e
+
+-- a branch's manager was asked twice
+branch_trace : (commit : Bool) (b : Branch) (k j : Ask) (old mid new : List AccountView) → IsSameAsk (first_ask b) k → IsSameAsk (second_ask commit k) j
+    → AskTrace k.op k.code (account old k.manager) (account mid k.manager) → AskTrace j.op j.code (account mid j.manager) (account new j.manager)
+    → BranchTrace commit b (code_of k) j.code (account old b.m) (account new b.m)
+branch_trace commit b k j old mid new s r one two =
+    let x : AskTrace (Some (Prepare b.xid)) k.code (account old b.m) (account mid b.m) =
+    subst (λ (o : Option Op). AskTrace o k.code (account old b.m) (account mid b.m)) s.op (subst (λ (m : ℕ). AskTrace k.op k.code (account old m) (account mid m)) s.manager one) in
+    let code : k.code ≡ Some (code_of k) = answered_some (account old b.m) (Prepare b.xid) k x.answered in
+    let x1 : AskTrace (Some (Prepare b.xid)) (Some (code_of k)) (account old b.m) (account mid b.m) = subst (λ (c : Option Code). AskTrace (Some (Prepare b.xid)) c (account old b.m) (account mid b.m)) code x in
+    let op : j.op ≡ second_op commit b.xid (code_of k) = r.op ∙ ap (λ q. second_op commit q (code_of k)) s.xid in
+    let y : AskTrace (second_op commit b.xid (code_of k)) j.code (account mid b.m) (account new b.m) =
+    subst (λ (o : Option Op). AskTrace o j.code (account mid b.m) (account new b.m)) op (subst (λ (m : ℕ). AskTrace j.op j.code (account mid m) (account new m)) (r.manager ∙ s.manager) two) in
+    record {
+      prepared = x1.answered;
+      decided = subst (λ (a : AccountView). IsAnswered a (second_op commit b.xid (code_of k)) j.code) x1.trace y.answered;
+      trace = y.trace ∙ ap (λ (a : AccountView). asked a (second_op commit b.xid (code_of k)) j.code) x1.trace;
+    }
+
+abbrev second_code : Ask → Option Code
+second_code k = k.code
+
+each_branch : (commit : Bool) (bs : List Branch) (ks js : List Ask) (old mid new : List AccountView) → SameAsks (map first_ask bs) ks → SameAsks (map (second_ask commit) ks) js → EachAsk ks old mid → EachAsk js mid new
+    → EachBranch (λ b v s e. BranchTrace commit b v s (account old b.m) (account new b.m) × (e ≡ ending_of commit v s)) bs (map code_of ks) (map second_code js) (map (ending_of_ask commit) js)
+each_branch commit [] [] [] old mid new s r e f = tt
+each_branch commit [] [] (j ∷ js) old mid new s r e f = absurd r
+each_branch commit [] (k ∷ ks) js old mid new s r e f = absurd s
+each_branch commit (b ∷ bs) [] js old mid new s r e f = absurd s
+each_branch commit (b ∷ bs) (k ∷ ks) [] old mid new s r e f = absurd r
+each_branch commit (b ∷ bs) (k ∷ ks) (j ∷ js) old mid new s r e f =
+    ((branch_trace commit b k j old mid new s.0 r.0 e.0 f.0, ap (λ v. ending_of commit v j.code) r.0.vote), each_branch commit bs ks js old mid new s.1 r.1 e.1 f.1)
+
+among_first : (bs : List Branch) (ks : List Ask) (m : ℕ) → SameAsks (map first_ask bs) ks → among_asks ks m ≡ has_branch_at bs m
+among_first [] [] m s = refl
+among_first [] (k ∷ ks) m s = absurd s
+among_first (b ∷ bs) [] m s = absurd s
+among_first (b ∷ bs) (k ∷ ks) m s = λ i. (s.0.manager i == m) || among_first bs ks m s.1 i
+
+among_second : (commit : Bool) (ks js : List Ask) (m : ℕ) → SameAsks (map (second_ask commit) ks) js → among_asks js m ≡ among_asks ks m
+among_second commit [] [] m s = refl
+among_second commit [] (j ∷ js) m s = absurd s
+among_second commit (k ∷ ks) [] m s = absurd s
+among_second commit (k ∷ ks) (j ∷ js) m s = λ i. (s.0.manager i == m) || among_second commit ks js m s.1 i
+
+yes_at : (m : ℕ) (bs : List Branch) (ks : List Ask) → SameAsks (map first_ask bs) ks → asked_yes m ks ≡ voted_yes m bs (map code_of ks)
+yes_at m [] [] s = refl
+yes_at m [] (k ∷ ks) s = absurd s
+yes_at m (b ∷ bs) [] s = absurd s
+yes_at m (b ∷ bs) (k ∷ ks) s = λ i. ((s.0.manager i == m) && is_yes (code_of k)) || yes_at m bs ks s.1 i
+
+abbrev pub yes_asked : List Ask → List Bool
+yes_asked ks = asked_yes 1 ks ∷ asked_yes 2 ks ∷ asked_yes 3 ks ∷ asked_yes 4 ks ∷ asked_yes 5 ks ∷ asked_yes 6 ks ∷ asked_yes 7 ks ∷ asked_yes 8 ks ∷ []
+
+pub yes_is : (bs : List Branch) (ks : List Ask) → SameAsks (map first_ask bs) ks → yes_asked ks ≡ yes_of bs (map code_of ks)
+yes_is bs ks s = λ i. yes_at 1 bs ks s i ∷ yes_at 2 bs ks s i ∷ yes_at 3 bs ks s i ∷ yes_at 4 bs ks s i ∷ yes_at 5 bs ks s i ∷ yes_at 6 bs ks s i ∷ yes_at 7 bs ks s i ∷ yes_at 8 bs ks s i ∷ []
+
+-- the transaction of the first branch is that of all
+pub tran_first : (bs : List Branch) (b : Branch) (t : TranName) → 1 ≤ length bs → b ≡ get_or bs 0 b → IsTranOf bs t → tran_of b.xid ≡ t
+tran_first [] b t h e all = absurd (omega arith)
+tran_first (c ∷ bs) b t h e all = ap (λ (d : Branch). tran_of d.xid) e ∙ all.0
+
+pub absent_first : (d : DeskView) (log : LogState) (bs : List Branch) (b : Branch) → MayCommit d log bs → b ≡ get_or bs 0 b → record_of log (tran_of b.xid) ≡ None
+absent_first d log bs b may e = ap (record_of log) (tran_first bs b may.tran may.some e may.one) ∙ may.absent
+
+pub call_is : (done : Done) (bs : List Branch) (ks js : List Ask) (old mid new : List AccountView) (log log' : LogState) (b : Branch) (t : TranName)
+    → 1 ≤ length bs → b ≡ get_or bs 0 b → IsTranOf bs t
+    → SameAsks (map first_ask bs) ks → Asks ks old mid → SameAsks (map (second_ask done.commit) ks) js → Asks js mid new
+    → done.votes.items ≡ map code_of ks → done.endings.items ≡ map (ending_of_ask done.commit) js
+    → done.commit ≡ commits (map code_of ks) done.logged → Logs (tran_of b.xid) (yes_asked ks) (map code_of ks) done.logged log log'
+    → IsTraceOfCommit t bs old new log log' done
+call_is done bs ks js old mid new log log' b t some is all s one r two votes endings decision logs =
+    let branch : Branch → Code → Option Code → Ending → Type 0 = λ b v s e. BranchTrace done.commit b v s (account old b.m) (account new b.m) × (e ≡ ending_of done.commit v s) in
+    record {
+      seconds = map second_code js;
+      each = subst (λ (vs : List Code). EachBranch branch bs vs (map second_code js) done.endings.items) (sym votes)
+          (subst (λ (es : List Ending). EachBranch branch bs (map code_of ks) (map second_code js) es) (sym endings) (each_branch done.commit bs ks js old mid new s r one.each two.each));
+      others = λ m p n.
+          two.others m p (among_second done.commit ks js m r ∙ among_first bs ks m s ∙ n) ∙ one.others m p (among_first bs ks m s ∙ n);
+      managers = two.managers ∙ one.managers;
+      decision = decision ∙ ap (λ vs. commits vs done.logged) (sym votes);
+      logs = subst (λ (vs : List Code). Logs t (yes_of bs vs) vs done.logged log log') (sym votes)
+          (subst (λ (z : TranName). Logs z (yes_of bs (map code_of ks)) (map code_of ks) done.logged log log') (tran_first bs b t some is all)
+          (subst (λ (y : List Bool). Logs (tran_of b.xid) y (map code_of ks) done.logged log log') (yes_is bs ks s) logs));
+    }
+
+-- a list that a vector was lent out as
+pub seam : (n : ℕ) (xs ys : List Ask) → n ≡ length xs → take n (xs ++ ys) ≡ xs
+seam n xs ys e = ap (λ m. take m (xs ++ ys)) e ∙ take-append_seam xs ys

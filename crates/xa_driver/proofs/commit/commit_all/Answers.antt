@@ -1,0 +1,63 @@
+use Rattle.std.proofs.Common.{◌≡◌, List, map, sym, ap, ◌∙◌, subst, arith}
+use Rattle.xa_words.specs.declared.code.Code.{Code}
+use Rattle.xa_driver.specs.declared.ask.Ask.{Ask}
+use Rattle.xa_driver.specs.declared.branch.Branch.{Branch}
+use Rattle.xa_driver.specs.Asks.{AreRising, AllCanAsk, Asks, SameAsks}
+use Rattle.xa_words.specs.Tran.{TranName, tran_of}
+use Rattle.std.specs.Prelude.{Bool}
+use Rattle.xa_driver.specs.Log.{LogState}
+use Rattle.xa_driver.specs.Rounds.{first_ask, code_of, second_ask, ending_of_ask}
+use Rattle.xa_driver.specs.Trace.{Logs, commits}
+use Rattle.xa_driver.proofs.Calls.{first_rising, first_can, second_rising, second_can, call_is, yes_asked, seam}
+use Rattle.xa_driver.proofs.commit.commit_all.Goals as goal
+
+pub ask_all-requires-clause-rising : goal.ask_all-requires-clause-rising
+ask_all-requires-clause-rising g c =
+    let e : c.as_mut_slice.result.now ≡ map first_ask c.args.branches.now = c.as_mut_slice.ensures.value ∙ c.in-Ok.ensures in
+    subst (AreRising 0) (sym e) (first_rising 0 c.args.branches.now c.requires.rising)
+
+pub ask_all-requires-clause-can : goal.ask_all-requires-clause-can
+ask_all-requires-clause-can g c =
+    let e : c.as_mut_slice.result.now ≡ map first_ask c.args.branches.now = c.as_mut_slice.ensures.value ∙ c.in-Ok.ensures in
+    subst (λ (l : List Ask). AllCanAsk l c.args.desk.now.accounts) (sym e) (first_can c.args.desk.now.accounts c.args.branches.now c.requires.room)
+
+pub ask_all-requires-2-clause-rising : goal.ask_all-requires-2-clause-rising
+ask_all-requires-2-clause-rising g c =
+    let e : c.as_mut_slice.result.now ≡ map first_ask c.args.branches.now = c.as_mut_slice.ensures.value ∙ c.in-Ok.ensures in
+    let s : SameAsks (map first_ask c.args.branches.now) c.ask_all.new.asks = subst (λ (l : List Ask). SameAsks l c.ask_all.new.asks) e c.ask_all.ensures.same in
+    let f : c.as_mut_slice-2.result.now ≡ map (second_ask c.decide-commit.result.0) c.ask_all.new.asks = c.as_mut_slice-2.ensures.value ∙ c.second_round.ensures ∙ ap (map (second_ask c.decide-commit.result.0)) (c.deref-4.ensures.value ∙ seam c.in-Ok.asks.len c.ask_all.new.asks _ (omega arith)) in
+    subst (AreRising 0) (sym f) (second_rising c.decide-commit.result.0 0 c.args.branches.now c.ask_all.new.asks s c.requires.rising)
+
+pub ask_all-requires-2-clause-can : goal.ask_all-requires-2-clause-can
+ask_all-requires-2-clause-can g c =
+    let e : c.as_mut_slice.result.now ≡ map first_ask c.args.branches.now = c.as_mut_slice.ensures.value ∙ c.in-Ok.ensures in
+    let s : SameAsks (map first_ask c.args.branches.now) c.ask_all.new.asks = subst (λ (l : List Ask). SameAsks l c.ask_all.new.asks) e c.ask_all.ensures.same in
+    let f : c.as_mut_slice-2.result.now ≡ map (second_ask c.decide-commit.result.0) c.ask_all.new.asks = c.as_mut_slice-2.ensures.value ∙ c.second_round.ensures ∙ ap (map (second_ask c.decide-commit.result.0)) (c.deref-4.ensures.value ∙ seam c.in-Ok.asks.len c.ask_all.new.asks _ (omega arith)) in
+    let one : Asks c.ask_all.new.asks c.args.desk.now.accounts c.ask_all.new.desk.accounts = c.ask_all.ensures.asked in
+    subst (λ (l : List Ask). AllCanAsk l c.ask_all.new.desk.accounts) (sym f) (second_can c.decide-commit.result.0 c.args.desk.now.accounts c.ask_all.new.desk.accounts c.args.branches.now c.ask_all.new.asks one.managers s one.each c.requires.room)
+
+pub returns-clause-call : goal.returns-clause-call
+returns-clause-call g c t all =
+    let bs : List Branch = c.args.branches.now in
+    let ks : List Ask = c.ask_all.new.asks in
+    let js : List Ask = c.ask_all-2.new.asks in
+    let commit = c.decide-commit.result.0 in
+    let logged = c.decide-commit.result.1 in
+    let e : c.as_mut_slice.result.now ≡ map first_ask bs = c.as_mut_slice.ensures.value ∙ c.in-Ok.ensures in
+    let s : SameAsks (map first_ask bs) ks = subst (λ (l : List Ask). SameAsks l ks) e c.ask_all.ensures.same in
+    let f : c.as_mut_slice-2.result.now ≡ map (second_ask commit) ks = c.as_mut_slice-2.ensures.value ∙ c.second_round.ensures ∙ ap (map (second_ask commit)) (c.deref-4.ensures.value ∙ seam c.in-Ok.asks.len ks _ (omega arith)) in
+    let r : SameAsks (map (second_ask commit) ks) js = subst (λ (l : List Ask). SameAsks l js) f c.ask_all-2.ensures.same in
+    let votes : c.read_votes.new.votes.items ≡ map code_of ks = c.read_votes.ensures ∙ ap (map code_of) (c.deref.ensures.value ∙ seam c.in-Ok.asks.len ks _ (omega arith)) in
+    let endings : c.read_endings.new.endings.items ≡ map (ending_of_ask commit) js = c.read_endings.ensures ∙ ap (map (ending_of_ask commit)) (c.deref-5.ensures.value ∙ seam _ js _ (omega arith)) in
+    let lent : c.deref-3.result.now ≡ map code_of ks = c.deref-3.ensures.value ∙ votes in
+    let b : Branch = c.index-branches-0.result in
+    let yes_lent : c.deref-2.result.now ≡ ks = c.deref-2.ensures.value ∙ seam c.in-Ok.asks.len ks _ (omega arith) in
+    let decision : commit ≡ commits (map code_of ks) logged = c.decide-commit.ensures.decision ∙ ap (λ vs. commits vs logged) lent in
+    let old_log : LogState = g.L.DecisionLog.state c.args.log.now in
+    let new_log : LogState = g.L.DecisionLog.state c.decide-commit.new.log in
+    let yes_list : c.yes_of.result ≡ yes_asked ks = c.yes_of.ensures ∙ ap yes_asked yes_lent in
+    let logs : Logs (tran_of b.xid) (yes_asked ks) (map code_of ks) logged old_log new_log =
+    subst (λ (z : TranName). Logs z (yes_asked ks) (map code_of ks) logged old_log new_log) (c.tran-tran.ensures ∙ ap (λ (d : Branch). tran_of d.xid) (sym c.index-branches-0.is))
+    (subst (λ (y : List Bool). Logs c.tran-tran.result y (map code_of ks) logged old_log new_log) yes_list
+    (subst (λ (vs : List Code). Logs c.tran-tran.result c.yes_of.result vs logged old_log new_log) lent c.decide-commit.ensures.logs)) in
+    call_is _ bs ks js c.args.desk.now.accounts c.ask_all.new.desk.accounts c.ask_all-2.new.desk.accounts old_log new_log b t c.requires.some c.index-branches-0.is all s c.ask_all.ensures.asked r c.ask_all-2.ensures.asked votes endings decision logs

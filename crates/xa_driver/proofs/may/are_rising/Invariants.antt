@@ -1,0 +1,7 @@
+use Rattle.std.proofs.Common.{drop}
+use Rattle.std.specs.Prelude.{◌↔◌}
+use Rattle.xa_driver.specs.Trace.{AreBranchesRising}
+use Rattle.xa_driver.proofs.may.are_rising.Given as goal
+
+abbrev pub invariant-loop-branch : goal.invariant-loop-branch
+invariant-loop-branch l = AreBranchesRising 0 l.branches ↔ AreBranchesRising l.last (drop l.branch-index l.branches)

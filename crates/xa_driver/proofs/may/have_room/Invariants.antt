@@ -1,0 +1,7 @@
+use Rattle.std.proofs.Common.{drop}
+use Rattle.std.specs.Prelude.{◌↔◌}
+use Rattle.xa_driver.specs.Trace.{HaveRoom}
+use Rattle.xa_driver.proofs.may.have_room.Given as goal
+
+abbrev pub invariant-loop-branch : goal.invariant-loop-branch
+invariant-loop-branch l = HaveRoom l.desk.accounts l.branches ↔ HaveRoom l.desk.accounts (drop l.branch-index l.branches)

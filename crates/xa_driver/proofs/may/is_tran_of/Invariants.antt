@@ -1,0 +1,7 @@
+use Rattle.std.proofs.Common.{drop}
+use Rattle.std.specs.Prelude.{◌↔◌}
+use Rattle.xa_driver.specs.Trace.{IsTranOf}
+use Rattle.xa_driver.proofs.may.is_tran_of.Given as goal
+
+abbrev pub invariant-loop-branch : goal.invariant-loop-branch
+invariant-loop-branch l = IsTranOf l.branches l.tran ↔ IsTranOf (drop l.branch-index l.branches) l.tran

@@ -1,0 +1,24 @@
+-- Whether a Commit is among what was sent.
+use Rattle.std.specs.Prelude.{◌≡◌, Bool, true, false, List, [], ◌∷◌, ◌++◌}
+use Rattle.std.specs.List.{list_any}
+use Rattle.xa_words.specs.declared.request.Op.{Op}
+use Rattle.xa_words.specs.declared.request.Op.TheVariants.{Commit}
+use Rattle.xa_desk.specs.AccountView.{AccountView}
+use Rattle.xa_desk.specs.DeskView.{account}
+use Rattle.xa_driver.specs.declared.branch.Branch.{Branch}
+
+-- a Commit, in one phase or two
+abbrev pub is_commit : Op → Bool
+is_commit (Commit x one_phase) = true
+is_commit op = false
+
+-- what was sent to the manager since, and no Commit among it
+pub record HasSentNoCommit (a a' : AccountView) : Type 0 where
+  pub more : List Op
+  pub sent : a'.sent ≡ a.sent ++ more
+  pub none : list_any is_commit more ≡ false
+
+-- so for each branch
+abbrev pub EachHasSentNoCommit : List AccountView → List AccountView → List Branch → Type 0
+EachHasSentNoCommit old new [] = Unit {0}
+EachHasSentNoCommit old new (b ∷ bs) = HasSentNoCommit (account old b.m) (account new b.m) × EachHasSentNoCommit old new bs

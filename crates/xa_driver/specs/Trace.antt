@@ -1,0 +1,91 @@
+-- What a commit of several branches adds to a desk's lists and to the log.
+use Rattle.std.specs.Prelude.{◌≡◌, ℕ, ◌+◌, ◌<◌, ◌≤◌, Bool, true, false, not, ◌==◌, ◌&&◌, ◌||◌, Option, None, Some, List, [], ◌∷◌, length}
+use Rattle.std.specs.List.{list_any}
+use Rattle.xa_words.specs.Tran.{TranName, tran_of}
+use Rattle.xa_words.specs.declared.code.Code.{Code}
+use Rattle.xa_words.specs.declared.request.Op.TheVariants.{Prepare}
+use Rattle.xa_desk.specs.AccountView.{AccountView}
+use Rattle.xa_desk.specs.DeskView.{DeskView, IsKnown, account, outstanding}
+use Rattle.xa_driver.specs.declared.branch.Branch.{Branch}
+use Rattle.xa_driver.specs.declared.done.Done.{Done}
+use Rattle.xa_driver.specs.declared.done.Ending.{Ending}
+use Rattle.xa_driver.specs.Decision.{decides_commit, has_yes, yes_of}
+use Rattle.xa_driver.specs.Endings.{second_op, ending_of}
+use Rattle.xa_driver.specs.Log.{LogState, record_of, with_record, with_failure}
+use Rattle.xa_driver.specs.Asks.{asked, IsAnswered}
+
+-- the account after the Prepare
+abbrev pub voted : Branch → Code → AccountView → AccountView
+voted b vote a = asked a (Some (Prepare b.xid)) (Some vote)
+
+-- a branch's manager got a Prepare and, where the decision wants one, a second request; each was collected;
+-- nothing else was sent to it or collected from it
+pub record BranchTrace (commit : Bool) (b : Branch) (vote : Code) (second : Option Code) (a a' : AccountView) : Type 0 where
+  pub prepared : IsAnswered a (Some (Prepare b.xid)) (Some vote)
+  pub decided : IsAnswered (voted b vote a) (second_op commit b.xid vote) second
+  pub trace : a' ≡ asked (voted b vote a) (second_op commit b.xid vote) second
+
+-- branch by branch, with its vote, its second code and its ending
+abbrev pub EachBranch : (Branch → Code → Option Code → Ending → Type 0) → List Branch → List Code → List (Option Code) → List Ending → Type 0
+EachBranch P [] [] [] [] = Unit {0}
+EachBranch P (b ∷ bs) (v ∷ vs) (s ∷ ss) (e ∷ es) = P b v s e × EachBranch P bs vs ss es
+EachBranch P bs vs ss es = ⊥
+
+-- one of the branches is at the manager
+abbrev pub has_branch_at : List Branch → ℕ → Bool
+has_branch_at bs m = list_any (λ b. b.m == m) bs
+
+-- the transaction that the branches belong to
+abbrev pub IsTranOf : List Branch → TranName → Type 0
+IsTranOf [] t = Unit {0}
+IsTranOf (b ∷ bs) t = (tran_of b.xid ≡ t) × IsTranOf bs t
+
+-- each branch is at a manager behind those before it
+abbrev pub AreBranchesRising : ℕ → List Branch → Type 0
+AreBranchesRising lo [] = Unit {0}
+AreBranchesRising lo (b ∷ bs) = (lo < b.m) × AreBranchesRising b.m bs
+
+-- the manager is known, and the plan has room for two requests to it
+pub record HasRoom (at : List AccountView) (m : ℕ) : Type 0 where
+  pub known : IsKnown at m
+  pub room : length (account at m).sent + 2 ≤ (account at m).plan
+
+-- so for each branch
+abbrev pub HaveRoom : List AccountView → List Branch → Type 0
+HaveRoom at [] = Unit {0}
+HaveRoom at (b ∷ bs) = HasRoom at b.m × HaveRoom at bs
+
+-- when the branches may be committed
+pub record MayCommit (d : DeskView) (log : LogState) (bs : List Branch) : Type 0 where
+  pub some : 1 ≤ length bs
+  pub most : length bs ≤ 8
+  pub rising : AreBranchesRising 0 bs
+  pub room : HaveRoom d.accounts bs
+  pub free : outstanding d.accounts + length bs ≤ d.handles
+  pub tran : TranName
+  pub one : IsTranOf bs tran
+  pub absent : record_of log tran ≡ None
+
+-- the votes want a record: they decide commit, and one is yes
+abbrev pub wants_record : List Code → Bool
+wants_record votes = decides_commit votes && has_yes votes
+
+-- What becomes of the log. Where the votes want it, a record with the yes managers is appended, or that fails; else nothing is appended.
+pub data Logs (tran : TranName) (yes : List Bool) (votes : List Code) (logged : Bool) (old new : LogState) : Type 0 where
+  appended : wants_record votes ≡ true → logged ≡ true → new ≡ with_record old tran yes → Logs tran yes votes logged old new
+  failed : wants_record votes ≡ true → logged ≡ false → new ≡ with_failure old → Logs tran yes votes logged old new
+  unwanted : wants_record votes ≡ false → logged ≡ false → new ≡ old → Logs tran yes votes logged old new
+
+-- the votes decide commit, and no append failed
+abbrev pub commits : List Code → Bool → Bool
+commits votes logged = decides_commit votes && (not (has_yes votes) || logged)
+
+-- what a commit_all of the branches left is its trace: each branch's requests, its vote and its ending; nothing for
+-- any other manager; the decision by the votes and the log; and the record, where there is one to make
+pub record IsTraceOfCommit (tran : TranName) (bs : List Branch) (old new : List AccountView) (log log' : LogState) (d : Done) : Type 0 where
+  pub seconds : List (Option Code)
+  pub each : EachBranch (λ b v s e. BranchTrace d.commit b v s (account old b.m) (account new b.m) × (e ≡ ending_of d.commit v s)) bs d.votes.items seconds d.endings.items
+  pub others : (m : ℕ) → 1 ≤ m → has_branch_at bs m ≡ false → account new m ≡ account old m
+  pub managers : length new ≡ length old
+  pub decision : d.commit ≡ commits d.votes.items d.logged
+  pub logs : Logs tran (yes_of bs d.votes.items) d.votes.items d.logged log log'

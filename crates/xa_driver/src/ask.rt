@@ -1,0 +1,173 @@
+//! Requests to several managers at once.
+ghost use Rattle.std.specs.Prelude.{◌≡◌, ◌+◌, ◌<◌, ◌≤◌, [], length, true, false, IfSome, IfNone, OnSome, IsNone, IsSome, vec_capacity};
+ghost use Rattle.xa_desk.specs.AccountView.{learnt_shut};
+ghost use Rattle.xa_desk.specs.DeskView.{Owns, account, after_sent, next_operation, outstanding, ticket_of};
+ghost use Rattle.xa_driver.specs.Asks.{CanAsk, AllCanAsk, AreRising, Asks, SameAsks, KeepsDesk, Begins, Ends, HaveBegun, Owning};
+
+use std::snapshot::Snapshot;
+use std::sync::Wait;
+use xa_desk::{Desk, Idle, Ticket};
+use xa_words::{Code, Op, Xid};
+
+/// What a manager is asked for a branch, if anything, the code that it answered, and the branch's vote.
+#[derive(Clone, Copy, Debug)]
+pub(crate) struct Ask {
+    pub(crate) manager: u32,
+    pub(crate) xid: Xid,
+    pub(crate) vote: Code,
+    pub(crate) op: Option<Op>,
+    pub(crate) code: Option<Code>,
+}
+
+// Sends a request, and idles while the queue is full. None where the manager is learnt to be shut.
+fn submit_waiting<R: Wait, I: Idle>(
+    rt: &R,
+    desk: &mut Desk,
+    manager: u32,
+    op: &Op,
+    idle: &mut I,
+) -> Option<Ticket>
+    requires can { CanAsk desk.old.accounts manager }
+    requires free { outstanding desk.old.accounts < desk.old.handles }
+    ensures shut { IsNone result → learnt_shut (account desk.old.accounts manager) ≡ true }
+    ensures open_ { IsSome result → learnt_shut (account desk.old.accounts manager) ≡ false }
+    ensures unsent { IfNone result (desk.new ≡ desk.old) }
+    ensures ticket { IfSome result (λ t. t ≡ ticket_of desk.old (next_operation desk.old.accounts manager)) }
+    ensures owned { IfSome result (λ t. Owns desk.new t) }
+    ensures sent { OnSome result (desk.new.accounts ≡ after_sent desk.old.accounts manager op.now) }
+    ensures keeps { OnSome result (KeepsDesk desk.old desk.new) }
+    ensures idled { I.leads idle.old idle.new }
+{
+    if desk.learnt_shut(manager) {
+        return None;
+    }
+    for _ in rt.forever() {
+        if let Ok(ticket) = desk.submit(rt, manager, *op) {
+            return Some(ticket);
+        }
+        idle.idle(rt, manager);
+    }
+    unreachable!()
+}
+
+// Sends what is asked. None where nothing is, or where the manager is learnt to be shut.
+fn begin<R: Wait, I: Idle>(rt: &R, desk: &mut Desk, ask: &Ask, idle: &mut I) -> Option<Ticket>
+    requires can { CanAsk desk.old.accounts ask.now.manager }
+    requires free { outstanding desk.old.accounts < desk.old.handles }
+    ensures began { Begins ask.now desk.old desk.new result }
+    ensures idled { I.leads idle.old idle.new }
+{
+    let Some(op) = &ask.op else {
+        return None;
+    };
+    submit_waiting(rt, desk, ask.manager, op, idle)
+}
+
+// Collects what was sent, and tells its code.
+fn end<R: Wait, I: Idle>(
+    rt: &R,
+    desk: &mut Desk,
+    ask: &Ask,
+    ticket: Option<Ticket>,
+    idle: &mut I,
+) -> Option<Code>
+    requires { Owning desk.old ticket }
+    ensures ended { Ends ask.now desk.old desk.new ticket result }
+    ensures idled { I.leads idle.old idle.new }
+{
+    let Some(ticket) = ticket else {
+        if ask.op.is_none() {
+            return None;
+        }
+        return Some(Code::RmFail);
+    };
+    Some(desk.complete(rt, ticket, idle))
+}
+
+// Sends all that is asked, in the order of the asks.
+fn begin_all<R: Wait, I: Idle>(
+    rt: &R,
+    desk: &mut Desk,
+    asks: &[Ask],
+    tickets: &mut Vec<Option<Ticket>>,
+    idle: &mut I,
+)
+    requires rising { AreRising 0 asks.now }
+    requires can { AllCanAsk asks.now desk.old.accounts }
+    requires free { outstanding desk.old.accounts + length asks.now ≤ desk.old.handles }
+    requires none { tickets.old.items ≡ [] }
+    requires room { length asks.now ≤ vec_capacity tickets.old }
+    ensures begun { HaveBegun asks.now tickets.new.items desk.old desk.new }
+    ensures room { vec_capacity tickets.new ≡ vec_capacity tickets.old }
+    ensures idled { I.leads idle.old idle.new }
+{
+    for ask in asks {
+        let ticket = begin(rt, desk, ask, idle);
+        tickets.push_reserved(ticket);
+    }
+}
+
+// Collects all that was sent since the desk was as `before`, in the order of the asks.
+fn end_all<R: Wait, I: Idle>(
+    rt: &R,
+    before: &Snapshot<Desk>,
+    desk: &mut Desk,
+    asks: &mut [Ask],
+    tickets: &mut Vec<Option<Ticket>>,
+    idle: &mut I,
+)
+    requires rising { AreRising 0 asks.old }
+    requires can { AllCanAsk asks.old before.now.value.accounts }
+    requires begun { HaveBegun asks.old tickets.old.items before.now.value desk.old }
+    ensures same { SameAsks asks.old asks.new }
+    ensures asked { Asks asks.new before.now.value.accounts desk.new.accounts }
+    ensures keeps { KeepsDesk before.now.value desk.new }
+    ensures none { tickets.new.items ≡ [] }
+    ensures room { vec_capacity tickets.new ≡ vec_capacity tickets.old }
+    ensures idled { I.leads idle.old idle.new }
+{
+    // The ticket of the first ask comes off first.
+    tickets.reverse();
+    for place in 0..asks.len() {
+        let Some(ticket) = tickets.pop() else {
+            unreachable!()
+        };
+        let ask = asks[place];
+        let code = end(rt, desk, &ask, ticket, idle);
+        asks[place] = Ask {
+            manager: ask.manager,
+            xid: ask.xid,
+            vote: ask.vote,
+            op: ask.op,
+            code,
+        };
+    }
+}
+
+/// Asks all the managers before it collects from any, and collects in the order of the asks.
+///
+/// The tickets are kept in a list without any, which has room for them.
+pub(crate) fn ask_all<R: Wait, I: Idle>(
+    rt: &R,
+    desk: &mut Desk,
+    asks: &mut [Ask],
+    tickets: &mut Vec<Option<Ticket>>,
+    idle: &mut I,
+)
+    requires rising { AreRising 0 asks.old }
+    requires can { AllCanAsk asks.old desk.old.accounts }
+    requires free { outstanding desk.old.accounts + length asks.old ≤ desk.old.handles }
+    requires none { tickets.old.items ≡ [] }
+    requires room { length asks.old ≤ vec_capacity tickets.old }
+    ensures same { SameAsks asks.old asks.new }
+    ensures asked { Asks asks.new desk.old.accounts desk.new.accounts }
+    ensures keeps { KeepsDesk desk.old desk.new }
+    ensures free { outstanding desk.new.accounts ≡ outstanding desk.old.accounts }
+    ensures none { tickets.new.items ≡ [] }
+    ensures room { vec_capacity tickets.new ≡ vec_capacity tickets.old }
+    ensures idled { I.leads idle.old idle.new }
+{
+    let before = Snapshot::of(desk);
+    begin_all(rt, desk, asks, tickets, idle);
+    end_all(rt, &before, desk, asks, tickets, idle);
+}

@@ -1,0 +1,37 @@
+//! What became of a global transaction.
+use xa_words::Code;
+
+/// What became of a branch.
+#[derive(Clone, Copy, Debug, PartialEq, Eq)]
+pub enum Ending {
+    /// It was committed.
+    Committed,
+    /// It only read, and was gone once it had voted.
+    ReadOnly,
+    /// It was rolled back.
+    RolledBack,
+    /// It voted yes, and its manager was shut before it heard the decision.
+    InDoubt,
+    /// The branch may still be there: the manager answered this code.
+    Left(Code),
+}
+
+/// What became of a global transaction.
+#[derive(Debug, Drop)]
+pub struct Done {
+    /// The decision.
+    pub commit: bool,
+    /// Whether the log took a record of it.
+    pub logged: bool,
+    /// The code of each branch's Prepare, in the order of the branches.
+    pub votes: Vec<Code>,
+    /// What became of each branch, in the same order.
+    pub endings: Vec<Ending>,
+}
+
+/// Why the branches were left as they were, and nothing was sent.
+#[derive(Clone, Copy, Debug, PartialEq, Eq)]
+pub enum DriverFault {
+    /// Memory was refused.
+    NoMemory,
+}

@@ -1,0 +1,39 @@
+//! The decision log.
+ghost use Rattle.std.specs.Prelude.{◌≡◌, OnOk, OnErr, None};
+ghost use Rattle.xa_driver.specs.Log.{LogState, record_of, with_record, with_failure};
+
+use xa_words::Tran;
+
+/// Which managers voted yes: place m - 1 for manager m.
+pub type Yes = [bool; 8];
+
+/// The record of a decision to commit.
+#[derive(Clone, Copy, Debug)]
+pub struct CommitRecord {
+    pub tran: Tran,
+    pub yes: Yes,
+}
+
+/// The log didn't take the record.
+#[derive(Clone, Copy, Debug, PartialEq, Eq)]
+pub struct LogFault;
+
+/// What a coordinator decides by. A transaction that the log has no record of is presumed aborted.
+pub trait DecisionLog {
+    /// The records, and how many appends failed.
+    ghost state: { Self → LogState };
+
+    /// Adds a record of a transaction that has none. A failed append leaves the records, and is counted.
+    fn append(&mut self, decision: &CommitRecord) -> Result<(), LogFault>
+        requires { record_of (state self.old) decision.now.tran ≡ None }
+        ensures appended { OnOk result (state self.new ≡ with_record (state self.old) decision.now.tran decision.now.yes) }
+        ensures failed { OnErr result (state self.new ≡ with_failure (state self.old)) };
+
+    /// The managers that voted yes, where there is a record of the transaction.
+    fn has(&self, tran: &Tran) -> Option<Yes>
+        ensures { result ≡ record_of (state self.now) tran.now };
+
+    /// How many appends failed; at `u64::MAX` it stays.
+    fn failures(&self) -> u64
+        ensures { result ≡ (state self.now).failures };
+}

@@ -1,0 +1,74 @@
+//! When branches may be committed.
+ghost use Rattle.std.specs.Prelude.{◌≡◌, ◌↔◌, IsTrue, length};
+ghost use Rattle.xa_words.specs.Tran.{TranName, tran_of};
+ghost use Rattle.xa_driver.specs.Trace.{AreBranchesRising, HaveRoom, IsTranOf, MayCommit};
+
+use crate::branch::Branch;
+use crate::log::DecisionLog;
+use xa_desk::Desk;
+use xa_words::Tran;
+
+fn are_rising(branches: &[Branch]) -> bool
+    ensures { IsTrue result ↔ AreBranchesRising 0 branches.now }
+{
+    let mut last = 0;
+    for branch in branches {
+        if branch.m <= last {
+            return false;
+        }
+        last = branch.m;
+    }
+    true
+}
+
+fn have_room(desk: &Desk, branches: &[Branch]) -> bool
+    ensures { IsTrue result ↔ HaveRoom desk.now.accounts branches.now }
+{
+    for branch in branches {
+        if desk.room(branch.m) < 2 {
+            return false;
+        }
+    }
+    true
+}
+
+fn is_of(branch: &Branch, tran: &Tran) -> bool
+    ensures { IsTrue result ↔ (tran_of branch.now.xid ≡ tran.now) }
+{
+    branch.xid.tran() == *tran
+}
+
+fn is_tran_of(branches: &[Branch], tran: Tran) -> bool
+    ensures { IsTrue result ↔ IsTranOf branches.now tran }
+{
+    for branch in branches {
+        if !is_of(branch, &tran) {
+            return false;
+        }
+    }
+    true
+}
+
+/// Whether `commit_all` may be called: 1 to 8 branches of one global transaction, at known managers in
+/// rising order, a free handle for each, room for two requests to each manager, and no record yet.
+pub fn may_commit<L: DecisionLog>(desk: &Desk, log: &L, branches: &[Branch]) -> bool
+    ensures { IsTrue result ↔ MayCommit desk.now (L.state log.now) branches.now }
+{
+    if branches.is_empty() || branches.len() > 8 {
+        return false;
+    }
+    if !are_rising(branches) {
+        return false;
+    }
+    if !have_room(desk, branches) {
+        return false;
+    }
+    if (desk.free() as usize) < branches.len() {
+        return false;
+    }
+    let tran = branches[0].xid.tran();
+    if !is_tran_of(branches, tran) {
+        return false;
+    }
+    log.has(&tran).is_none()
+}

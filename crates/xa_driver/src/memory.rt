@@ -1,0 +1,110 @@
+//! A decision log in memory.
+ghost use Rattle.std.specs.Prelude.{◌≡◌, OnOk, OnErr, IsErr, true, false};
+ghost use Rattle.xa_driver.specs.Log.{no_records, with_record, with_failure, counted};
+
+use crate::log::{CommitRecord, DecisionLog, LogFault, Yes};
+use std::alloc::Global;
+use std::collections::HashMap;
+use std::marker::Model;
+use xa_words::Tran;
+
+/// A log that forgets all when it ends. Want of memory is a failed append.
+#[derive(Drop)]
+pub struct MemoryLog {
+    records: HashMap<Tran, Yes>,
+    appends: u64,
+    failing: u32,
+    failures: u64,
+}
+
+impl Model for MemoryLog {
+    ghost use Rattle.std.specs.FinMap.{from_entries};
+    ghost use Rattle.xa_driver.specs.Log.{LogView, log_code};
+
+    ghost Value = { LogView };
+
+    ghost coded = { log_code };
+
+    ghost view = { λ l. record { state = record { records = from_entries l.records.entries; failures = l.failures }; appends = l.appends; failing = l.failing } };
+}
+
+impl MemoryLog {
+    /// A log with no record, which takes no memory yet.
+    pub fn new(alloc: Global) -> MemoryLog
+        ensures { result ≡ record { state = no_records; appends = 0; failing = 0 } }
+    {
+        MemoryLog {
+            records: HashMap::new(alloc),
+            appends: 0,
+            failing: 0,
+            failures: 0,
+        }
+    }
+
+    /// A log with no record whose k-th append, from 1, fails.
+    pub fn failing_at(alloc: Global, k: u32) -> MemoryLog
+        ensures { result ≡ record { state = no_records; appends = 0; failing = k } }
+    {
+        MemoryLog {
+            records: HashMap::new(alloc),
+            appends: 0,
+            failing: k,
+            failures: 0,
+        }
+    }
+
+    fn count_failure(&mut self)
+        ensures { self.new ≡ record self.old { state = with_failure self.old.state } }
+    {
+        if self.failures < u64::MAX {
+            self.failures += 1;
+        }
+    }
+
+    fn count_append(&mut self)
+        ensures { self.new ≡ record self.old { appends = counted self.old.appends } }
+    {
+        if self.appends < u64::MAX {
+            self.appends += 1;
+        }
+    }
+
+    // Whether the record was put.
+    fn put(&mut self, tran: Tran, yes: Yes) -> bool
+        ensures put { result ≡ true → self.new ≡ record self.old { state = with_record self.old.state tran yes } }
+        ensures unchanged { result ≡ false → self.new ≡ self.old }
+    {
+        self.records.insert(tran, yes).is_ok()
+    }
+}
+
+impl DecisionLog for MemoryLog {
+    ghost state = { λ l. l.state };
+
+    fn append(&mut self, decision: &CommitRecord) -> Result<(), LogFault>
+        ensures appended { OnOk result (self.new.state ≡ with_record self.old.state decision.now.tran decision.now.yes) }
+        ensures failed { OnErr result (self.new.state ≡ with_failure self.old.state) }
+        ensures counted { self.new.appends ≡ counted self.old.appends }
+        ensures kept { self.new.failing ≡ self.old.failing }
+        ensures injected { counted self.old.appends ≡ self.old.failing → IsErr result }
+    {
+        self.count_append();
+        if self.appends == self.failing as u64 {
+            self.count_failure();
+            return Err(LogFault);
+        }
+        if !self.put(decision.tran, decision.yes) {
+            self.count_failure();
+            return Err(LogFault);
+        }
+        Ok(())
+    }
+
+    fn has(&self, tran: &Tran) -> Option<Yes> {
+        self.records.get(tran).copied()
+    }
+
+    fn failures(&self) -> u64 {
+        self.failures
+    }
+}

@@ -1,0 +1,208 @@
+//! The two rounds of requests, and what is read off them.
+ghost use Rattle.std.specs.Prelude.{◌≡◌, ℕ, ◌≤◌, map, IfOk, length, vec_capacity, Some, [], ◌∷◌};
+ghost use Rattle.std.specs.List.{list_any};
+ghost use Rattle.xa_driver.specs.Decision.{is_yes, is_read, is_no};
+ghost use Rattle.xa_driver.specs.Endings.{second_op, ending_of, is_out_of_reach};
+ghost use Rattle.xa_driver.specs.Rounds.{first_ask, code_of, second_ask, ending_of_ask, asked_yes};
+ghost use Rattle.xa_tables.specs.History.{is_rolled_back};
+
+use crate::ask::Ask;
+use crate::branch::Branch;
+use crate::done::Ending;
+use crate::log::Yes;
+use std::alloc::{AllocError, Global};
+use xa_words::{Code, Op, Xid};
+
+fn is_yes(code: Code) -> bool
+    ensures { result ≡ is_yes code }
+{
+    matches!(code, Code::Done)
+}
+
+fn is_read(code: Code) -> bool
+    ensures { result ≡ is_read code }
+{
+    matches!(code, Code::RdOnly)
+}
+
+fn is_rolled_back(code: Code) -> bool
+    ensures { result ≡ is_rolled_back code }
+{
+    matches!(
+        code,
+        Code::RbRollback
+            | Code::RbCommFail
+            | Code::RbDeadlock
+            | Code::RbIntegrity
+            | Code::RbOther
+            | Code::RbProto
+            | Code::RbTimeout
+            | Code::RbTransient
+    )
+}
+
+fn is_out_of_reach(code: Code) -> bool
+    ensures { result ≡ is_out_of_reach code }
+{
+    matches!(code, Code::Nota | Code::RmFail)
+}
+
+// The second request of a branch with this vote.
+fn second_op(commit: bool, xid: &Xid, vote: Code) -> Option<Op>
+    ensures { result ≡ second_op commit xid.now vote }
+{
+    if commit {
+        if is_yes(vote) {
+            return Some(Op::Commit(*xid, false));
+        }
+        return None;
+    }
+    if is_read(vote) || is_rolled_back(vote) || is_out_of_reach(vote) {
+        return None;
+    }
+    Some(Op::Rollback(*xid))
+}
+
+// The ending of a branch by its vote and its second code.
+fn ending_of(commit: bool, vote: Code, second: Option<Code>) -> Ending
+    ensures { result ≡ ending_of commit vote second }
+{
+    if is_yes(vote) {
+        let Some(code) = second else {
+            return Ending::InDoubt;
+        };
+        if is_yes(code) {
+            if commit {
+                return Ending::Committed;
+            }
+            return Ending::RolledBack;
+        }
+        if matches!(code, Code::RmFail) {
+            return Ending::InDoubt;
+        }
+        return Ending::Left(code);
+    }
+    if is_read(vote) {
+        return Ending::ReadOnly;
+    }
+    if is_rolled_back(vote) {
+        return Ending::RolledBack;
+    }
+    if is_out_of_reach(vote) {
+        return Ending::Left(vote);
+    }
+    let Some(code) = second else {
+        return Ending::Left(vote);
+    };
+    if is_yes(code) || is_rolled_back(code) {
+        return Ending::RolledBack;
+    }
+    Ending::Left(code)
+}
+
+fn code_of(ask: &Ask) -> Code
+    ensures { result ≡ code_of ask.now }
+{
+    match ask.code {
+        Some(code) => code,
+        None => Code::RmFail,
+    }
+}
+
+fn is_no(code: Code) -> bool
+    ensures { result ≡ is_no code }
+{
+    !matches!(code, Code::Done | Code::RdOnly)
+}
+
+pub(crate) fn has_no(votes: &[Code]) -> bool
+    ensures { result ≡ list_any is_no votes.now }
+{
+    votes.iter().any(|vote| is_no(*vote))
+}
+
+pub(crate) fn has_yes(votes: &[Code]) -> bool
+    ensures { result ≡ list_any is_yes votes.now }
+{
+    votes.iter().any(|vote| is_yes(*vote))
+}
+
+/// The first round: a Prepare of each branch.
+pub(crate) fn first_round(alloc: Global, branches: &[Branch]) -> Result<Vec<Ask>, AllocError>
+    ensures { IfOk result (λ v. v.items ≡ map first_ask branches.now) }
+{
+    let mut asks = Vec::with_capacity(alloc, branches.len())?;
+    for branch in branches {
+        asks.push_reserved(Ask {
+            manager: branch.m,
+            xid: branch.xid,
+            vote: Code::RmFail,
+            op: Some(Op::Prepare(branch.xid)),
+            code: None,
+        });
+    }
+    Ok(asks)
+}
+
+/// The votes, into a list with room for them.
+pub(crate) fn read_votes(asks: &[Ask], votes: &mut Vec<Code>)
+    requires empty { votes.old.items ≡ [] }
+    requires room { length asks.now ≤ vec_capacity votes.old }
+    ensures { votes.new.items ≡ map code_of asks.now }
+{
+    for ask in asks {
+        votes.push_reserved(code_of(ask));
+    }
+}
+
+/// The second round, into a list with room for it.
+pub(crate) fn second_round(asks: &[Ask], commit: bool, seconds: &mut Vec<Ask>)
+    requires empty { seconds.old.items ≡ [] }
+    requires room { length asks.now ≤ vec_capacity seconds.old }
+    ensures { seconds.new.items ≡ map (second_ask commit) asks.now }
+{
+    for ask in asks {
+        let vote = code_of(ask);
+        seconds.push_reserved(Ask {
+            manager: ask.manager,
+            xid: ask.xid,
+            vote,
+            op: second_op(commit, &ask.xid, vote),
+            code: None,
+        });
+    }
+}
+
+/// The endings, into a list with room for them.
+pub(crate) fn read_endings(asks: &[Ask], commit: bool, endings: &mut Vec<Ending>)
+    requires empty { endings.old.items ≡ [] }
+    requires room { length asks.now ≤ vec_capacity endings.old }
+    ensures { endings.new.items ≡ map (ending_of_ask commit) asks.now }
+{
+    for ask in asks {
+        endings.push_reserved(ending_of(commit, ask.vote, ask.code));
+    }
+}
+
+fn asked_yes(asks: &[Ask], manager: u32) -> bool
+    ensures { result ≡ asked_yes manager asks.now }
+{
+    asks.iter()
+        .any(|ask| ask.manager == manager && is_yes(code_of(ask)))
+}
+
+/// The managers that voted yes.
+pub(crate) fn yes_of(asks: &[Ask]) -> Yes
+    ensures { result ≡ asked_yes 1 asks.now ∷ asked_yes 2 asks.now ∷ asked_yes 3 asks.now ∷ asked_yes 4 asks.now ∷ asked_yes 5 asks.now ∷ asked_yes 6 asks.now ∷ asked_yes 7 asks.now ∷ asked_yes 8 asks.now ∷ [] }
+{
+    [
+        asked_yes(asks, 1),
+        asked_yes(asks, 2),
+        asked_yes(asks, 3),
+        asked_yes(asks, 4),
+        asked_yes(asks, 5),
+        asked_yes(asks, 6),
+        asked_yes(asks, 7),
+        asked_yes(asks, 8),
+    ]
+}

@@ -1,0 +1,315 @@
+-- A line that the grammar reads leaves a script: each manager can be opened with its keys, and each step is of a thread.
+use Rattle.std.specs.Prelude.{◌≡◌, ℕ, ◌<◌, ◌≤◌, Bool, true, false, not, cond, ◌&&◌, ◌||◌, ◌==◌, nat_le, nat_lt, if◌then◌else◌, List, [], ◌∷◌, ◌++◌, length, map, filter, Option, None, Some, unwrap_or, All, Result, Ok, Err, refl}
+use Rattle.std.proofs.Common.{sym, ap, ◌∙◌, subst, arith}
+use Rattle.std.specs.List.{list_all, list_any, slice_index_or}
+use Rattle.std.specs.Option.{ok_or}
+use Rattle.std.specs.Cmp.Derive.{both_true}
+use Rattle.std.proofs.Math.Bool.{or-false}
+use Rattle.std.proofs.lemmas.Bool.{le-leb, leb-true, eqb-true, and_parts}
+use Rattle.std.proofs.lemmas.List.{map-append, append-nil, length-map, length-append}
+use Rattle.std.proofs.lemmas.List.Elements.{All-append, filter-append, All-cons, All-nil}
+use Rattle.std.proofs.lemmas.List.Folds.{list_any-append, list_all-append}
+use Rattle.std.proofs.lemmas.List.Sums.{length-filter}
+use Rattle.xa_words.specs.Key.{key_eq}
+use Rattle.xa_words.specs.Orders.{Decides-key_eq}
+use Rattle.xa_tables.specs.Accounts.{are_accounts, are_apart}
+use Rattle.xa_grammar.specs.declared.fault.Reason.{Reason}
+use Rattle.xa_grammar.specs.declared.fault.Reason.TheVariants.{KeyTwice, TooManyKeys, OutOfRange, BadNumber, TooManyLines, LineTooLong, BadByte}
+use Rattle.xa_grammar.specs.declared.script.Declared.{Declared}
+use Rattle.xa_grammar.specs.declared.script.Called.{Called}
+use Rattle.xa_grammar.specs.declared.script.Step.{Step}
+use Rattle.xa_grammar.specs.declared.script.Step.TheVariants.{Call, Turn}
+use Rattle.xa_grammar.specs.declared.script.Count.{Count}
+use Rattle.xa_grammar.specs.declared.script.Count.TheVariants.{Threads, Managers, Handles, Queue, Requests}
+use Rattle.xa_grammar.specs.declared.line.Head.{Head}
+use Rattle.xa_grammar.specs.declared.line.Head.TheVariants as head
+use Rattle.xa_grammar.specs.declared.line.Item.{Item}
+use Rattle.xa_grammar.specs.declared.line.Item.TheVariants as item
+use Rattle.xa_grammar.specs.Text.{is_script_byte, words_of}
+use Rattle.xa_grammar.specs.Fields.{◌>>=◌, Word, word_at, end_of, number_of, number_in, number_at, key_at, flags_onto}
+use Rattle.xa_grammar.specs.Content.{Content, IsScript, IsOfManager, IsOfScript, threads_of, managers_of, accounts_of, with_count, with_key, with_sync, with_step}
+use Rattle.xa_grammar.specs.Settings.{before_actions, count_of, not_set, limit_of, setting_of, sync_of, has_key, key_count, declared_of}
+use Rattle.xa_grammar.specs.Actions.{verb_of, action_at, called_of, turn_of}
+use Rattle.xa_grammar.specs.Grammar.{head_of, item_by, item_of, line_of, with_item}
+
+-- ---- reading without a fault
+
+and_then : {A B : Type 0} (r : Result A Reason) (f : A → Result B Reason) (y : B) → (r >>= f) ≡ Ok y → (x : A) × ((r ≡ Ok x) × (f x ≡ Ok y))
+and_then (Ok x) f y e = (x, (refl, e))
+and_then (Err why) f y e = let never : ⊥ = cc in absurd never
+
+ok_is : {A : Type 0} (x y : A) → ◌≡◌ {A = Result A Reason} (Ok x) (Ok y) → x ≡ y
+ok_is x y e = cc
+
+not_then : {A : Type 0} (b : Bool) (why : Reason) (r : Result A Reason) (y : A) → (if b then Err why else r) ≡ Ok y → (b ≡ false) × (r ≡ Ok y)
+not_then true why r y e = let never : ⊥ = cc in absurd never
+not_then false why r y e = (refl, e)
+
+if_then : {A : Type 0} (b : Bool) (why : Reason) (r : Result A Reason) (y : A) → (if b then r else Err why) ≡ Ok y → (b ≡ true) × (r ≡ Ok y)
+if_then true why r y e = (refl, e)
+if_then false why r y e = let never : ⊥ = cc in absurd never
+
+-- ---- the keys of a manager
+
+other_way : (k l : List ℕ) → key_eq k l ≡ false → key_eq l k ≡ false
+other_way k l e =
+    elim (key_eq l k) as (λ b. key_eq l k ≡ b → b ≡ false) [
+      | true ↦ λ t. let again : key_eq k l ≡ true = (Decides-key_eq k l).1 (sym ((Decides-key_eq l k).0 t)) in cc
+      | false ↦ λ t. refl
+    ] refl
+
+no_later : (d : List ℕ × ℕ) (ds : List (List ℕ × ℕ)) (y : List ℕ × ℕ) → list_any (λ e. key_eq e.0 y.0) (d ∷ ds) ≡ false → (key_eq d.0 y.0 ≡ false) × (list_any (λ e. key_eq e.0 y.0) ds ≡ false)
+no_later d ds y e = elim (key_eq d.0 y.0) as (λ b. (b || list_any (λ e. key_eq e.0 y.0) ds) ≡ false → (b ≡ false) × (list_any (λ e. key_eq e.0 y.0) ds ≡ false)) [ true ↦ λ f. (f, absurd (let never : ⊥ = cc in never)) | false ↦ λ f. (refl, f) ] e
+
+are_apart-push : (ds : List (List ℕ × ℕ)) (y : List ℕ × ℕ) → are_apart ds ≡ true → list_any (λ e. key_eq e.0 y.0) ds ≡ false → are_apart (ds ++ y ∷ []) ≡ true
+are_apart-push [] y apart new = refl
+are_apart-push (d ∷ ds) y apart new =
+    let split = no_later d ds y new in
+    let none : list_any (λ e. key_eq e.0 d.0) (ds ++ y ∷ []) ≡ list_any (λ e. key_eq e.0 d.0) ds =
+    list_any-append (λ (e : List ℕ × ℕ). key_eq e.0 d.0) ds (y ∷ []) ∙ ap (λ b. list_any (λ e. key_eq e.0 d.0) ds || (b || false)) (other_way d.0 y.0 split.0) ∙ or-false _ in
+    both_true (ap not none ∙ (and_parts _ _ apart).0) (are_apart-push ds y (and_parts _ _ apart).1 split.1)
+
+are_accounts-push : (ds : List (List ℕ × ℕ)) (y : List ℕ × ℕ) → are_accounts ds ≡ true → length ds < 256 → y.1 ≤ 1000000000000 → list_any (λ e. key_eq e.0 y.0) ds ≡ false → are_accounts (ds ++ y ∷ []) ≡ true
+are_accounts-push ds y old few small new =
+    let rest : (list_all (λ (d : List ℕ × ℕ). nat_le d.1 1000000000000) ds && are_apart ds) ≡ true = (and_parts _ _ old).1 in
+    both_true (le-leb _ 256 (omega (arith, length-append ds (y ∷ []))))
+    (both_true (list_all-append (λ (d : List ℕ × ℕ). nat_le d.1 1000000000000) ds (y ∷ []) ∙ both_true (and_parts _ _ rest).0 (both_true (le-leb y.1 1000000000000 small) refl))
+    (are_apart-push ds y (and_parts _ _ rest).1 new))
+
+-- a key that no declaration of the manager has isn't among its accounts
+new_account : (m : ℕ) (k : List ℕ) (keys : List Declared) → has_key m k keys ≡ false → list_any (λ e. key_eq e.0 k) (accounts_of m keys) ≡ false
+new_account m k [] e = refl
+new_account m k (d ∷ keys) e =
+    elim (d.manager == m) as (λ b. ((b && key_eq d.key k) || has_key m k keys) ≡ false → list_any (λ (e : List ℕ × ℕ). key_eq e.0 k) (map {B = List ℕ × ℕ} (λ (d : Declared). (d.key, d.value)) (cond b (d ∷ filter (λ d. d.manager == m) keys) (filter (λ d. d.manager == m) keys))) ≡ false) [
+      | true ↦ λ f. elim (key_eq d.key k) as (λ c. (c || has_key m k keys) ≡ false → (c || list_any (λ (e : List ℕ × ℕ). key_eq e.0 k) (accounts_of m keys)) ≡ false) [ true ↦ λ g. g | false ↦ λ g. new_account m k keys g ] f
+      | false ↦ λ f. new_account m k keys f
+    ] e
+
+just : {A : Type 0} (P : A → Type 0) (x : A) → P x → All P (x ∷ [])
+just P x p = All-cons P x [] p (All-nil P)
+
+accounts-push : (m : ℕ) (keys : List Declared) (d : Declared) → accounts_of m (keys ++ d ∷ []) ≡ accounts_of m keys ++ (if d.manager == m then (d.key, d.value) ∷ [] else [])
+accounts-push m keys d =
+    ap (map {B = List ℕ × ℕ} (λ (e : Declared). (e.key, e.value))) (filter-append (λ (e : Declared). e.manager == m) keys (d ∷ []))
+    ∙ map-append {B = List ℕ × ℕ} (λ (e : Declared). (e.key, e.value)) (filter (λ e. e.manager == m) keys) (filter (λ e. e.manager == m) (d ∷ []))
+    ∙ ap (λ l. accounts_of m keys ++ l) (elim (d.manager == m) as (λ b. map {B = List ℕ × ℕ} (λ (e : Declared). (e.key, e.value)) (cond b (d ∷ []) []) ≡ (if b then (d.key, d.value) ∷ [] else [])) [ true ↦ refl | false ↦ refl ])
+
+key_kept : (s : Content) (d : Declared) → IsOfManager s d → has_key d.manager d.key s.keys ≡ false → key_count d.manager s.keys < 256 → d.value ≤ 1000000000000 → IsScript s → IsScript (with_key d s)
+key_kept s d of new few small is =
+    record {
+      threads = is.threads;
+      managers = is.managers;
+      handles = is.handles;
+      queue = is.queue;
+      requests = is.requests;
+      of_managers = All-append (IsOfManager s) s.keys (d ∷ []) is.of_managers (just (IsOfManager s) d of);
+      accounts = λ m. ap are_accounts (accounts-push m s.keys d)
+          ∙ elim (d.manager == m) as (λ b. (d.manager == m) ≡ b → are_accounts (accounts_of m s.keys ++ (if b then (d.key, d.value) ∷ [] else [])) ≡ true) [
+            | true ↦ λ t.
+                let same : d.manager ≡ m = eqb-true d.manager m t in
+                let size : length (accounts_of m s.keys) ≡ key_count m s.keys = length-map {B = List ℕ × ℕ} (filter (λ e. e.manager == m) s.keys) (λ (e : Declared). (e.key, e.value)) ∙ length-filter (λ (e : Declared). e.manager == m) s.keys in
+                let room : key_count m s.keys < 256 = subst (λ n. key_count n s.keys < 256) same few in
+                are_accounts-push (accounts_of m s.keys) (d.key, d.value) (is.accounts m) (omega arith) small
+                (new_account m d.key s.keys (ap (λ n. has_key n d.key s.keys) (sym same) ∙ new))
+            | false ↦ λ t. ap are_accounts (append-nil (accounts_of m s.keys)) ∙ is.accounts m
+          ] refl;
+      of_steps = is.of_steps;
+    }
+
+step_kept : (s : Content) (p : Step) → IsOfScript s p → IsScript s → IsScript (with_step p s)
+step_kept s p of is =
+    record {
+      threads = is.threads;
+      managers = is.managers;
+      handles = is.handles;
+      queue = is.queue;
+      requests = is.requests;
+      of_managers = is.of_managers;
+      accounts = is.accounts;
+      of_steps = All-append (IsOfScript s) s.steps (p ∷ []) is.of_steps (just (IsOfScript s) p of);
+    }
+
+sync_kept : (s : Content) (m : ℕ) → IsScript s → IsScript (with_sync m s)
+sync_kept s m is =
+    record {
+      threads = is.threads;
+      managers = is.managers;
+      handles = is.handles;
+      queue = is.queue;
+      requests = is.requests;
+      of_managers = is.of_managers;
+      accounts = is.accounts;
+      of_steps = is.of_steps;
+    }
+
+-- the first count of managers has the keys that were declared before it, of the one manager that there was
+more_managers : (s : Content) (n : ℕ) → s.settings.managers ≡ None → 1 ≤ n → (d : Declared) → IsOfManager s d → IsOfManager (with_count Managers n s) d
+more_managers s n unset low d of = (of.0, let one : managers_of s ≡ 1 = ap (λ (c : Option ℕ). unwrap_or c 1) unset in let most : d.manager ≤ managers_of s = of.1 in omega arith)
+
+count_kept : (s : Content) (c : Count) (n : ℕ) → s.steps ≡ [] → count_of c s.settings ≡ None → 1 ≤ n → n ≤ limit_of c → IsScript s → IsScript (with_count c n s)
+count_kept s Threads n none unset low high is =
+    record {
+      threads = (low, high);
+      managers = is.managers;
+      handles = is.handles;
+      queue = is.queue;
+      requests = is.requests;
+      of_managers = is.of_managers;
+      accounts = is.accounts;
+      of_steps = subst (λ ps. All (IsOfScript (with_count Threads n s)) ps) (sym none) (All-nil (IsOfScript (with_count Threads n s)));
+    }
+count_kept s Managers n none unset low high is =
+    record {
+      threads = is.threads;
+      managers = (low, high);
+      handles = is.handles;
+      queue = is.queue;
+      requests = is.requests;
+      of_managers = λ i d l. more_managers s n unset low (slice_index_or s.keys i d) (is.of_managers i d l);
+      accounts = is.accounts;
+      of_steps = subst (λ ps. All (IsOfScript (with_count Managers n s)) ps) (sym none) (All-nil (IsOfScript (with_count Managers n s)));
+    }
+count_kept s Handles n none unset low high is =
+    record {
+      threads = is.threads;
+      managers = is.managers;
+      handles = (low, high);
+      queue = is.queue;
+      requests = is.requests;
+      of_managers = is.of_managers;
+      accounts = is.accounts;
+      of_steps = is.of_steps;
+    }
+count_kept s Queue n none unset low high is =
+    record {
+      threads = is.threads;
+      managers = is.managers;
+      handles = is.handles;
+      queue = (low, high);
+      requests = is.requests;
+      of_managers = is.of_managers;
+      accounts = is.accounts;
+      of_steps = is.of_steps;
+    }
+count_kept s Requests n none unset low high is =
+    record {
+      threads = is.threads;
+      managers = is.managers;
+      handles = is.handles;
+      queue = is.queue;
+      requests = (low, high);
+      of_managers = is.of_managers;
+      accounts = is.accounts;
+      of_steps = is.of_steps;
+    }
+
+no_steps : (steps : List Step) (u : Unit {0}) → before_actions steps ≡ Ok u → steps ≡ []
+no_steps [] u e = refl
+no_steps (p ∷ steps) u e = let never : ⊥ = cc in absurd never
+
+unset_yet : (c : Option ℕ) (u : Unit {0}) → not_set c ≡ Ok u → c ≡ None
+unset_yet None u e = refl
+unset_yet (Some n) u e = let never : ⊥ = cc in absurd never
+
+-- ---- the grammar
+
+in_range : (low high : ℕ) (w : Word) (n : ℕ) → number_in low high w ≡ Ok n → (low ≤ n) × (n ≤ high)
+in_range low high w n e =
+    let a = and_then (ok_or (number_of w) BadNumber) _ n e in
+    let b = if_then (nat_le low a.0 && nat_le a.0 high) OutOfRange (Ok a.0) n a.1.1 in
+    let same : a.0 ≡ n = ok_is a.0 n b.1 in
+    subst (λ z. (low ≤ z) × (z ≤ high)) same (leb-true low a.0 (and_parts _ _ b.0).0, leb-true a.0 high (and_parts _ _ b.0).1)
+
+number_is : (low high : ℕ) (ws : List Word) (x : ℕ × List Word) → number_at low high ws ≡ Ok x → (low ≤ x.0) × (x.0 ≤ high)
+unfolding number_at
+number_is low high ws x e =
+    let w = and_then (word_at ws) _ x e in
+    let n = and_then (number_in low high w.0.0) _ x w.1.1 in
+    let same : n.0 ≡ x.0 = ap (λ (y : Result (ℕ × List Word) Reason). elim y [ Ok z ↦ z.0 | Err why ↦ 0 ]) n.1.1 in
+    subst (λ z. (low ≤ z) × (z ≤ high)) same (in_range low high w.0.0 n.0 n.1.0)
+
+setting_kept : (s : Content) (c : Count) (ws : List Word) (n : ℕ) → setting_of s c ws ≡ Ok n → IsScript s → IsScript (with_count c n s)
+unfolding setting_of
+setting_kept s c ws n e =
+    let first = and_then (before_actions s.steps) _ n e in
+    let new = and_then (not_set (count_of c s.settings)) _ n first.1.1 in
+    let number = and_then (number_at 1 (limit_of c) ws) _ n new.1.1 in
+    let last = and_then (end_of number.0.1) _ n number.1.1 in
+    let same : number.0.0 ≡ n = ok_is number.0.0 n last.1.1 in
+    let within = number_is 1 (limit_of c) ws number.0 number.1.0 in
+    subst (λ (z : ℕ). IsScript s → IsScript (with_count c z s)) same
+    (count_kept s c number.0.0 (no_steps s.steps first.0 first.1.0) (unset_yet (count_of c s.settings) new.0 new.1.0) within.0 within.1)
+
+declared_kept : (s : Content) (ws : List Word) (d : Declared) → declared_of s ws ≡ Ok d → IsScript s → IsScript (with_key d s)
+unfolding declared_of
+declared_kept s ws d e =
+    let first = and_then (before_actions s.steps) _ d e in
+    let m = and_then (number_at 1 (managers_of s) ws) _ d first.1.1 in
+    let k = and_then (key_at m.0.1) _ d m.1.1 in
+    let v = and_then (number_at 0 1000000000000 k.0.1) _ d k.1.1 in
+    let last = and_then (end_of v.0.1) _ d v.1.1 in
+    let made : Declared = record { manager = m.0.0; key = k.0.0; value = v.0.0 } in
+    let new = not_then (has_key made.manager made.key s.keys) KeyTwice _ d last.1.1 in
+    let few = not_then (nat_le 256 (key_count made.manager s.keys)) TooManyKeys (Ok made) d new.1 in
+    let same : made ≡ d = ok_is made d few.1 in
+    subst (λ (z : Declared). IsScript s → IsScript (with_key z s)) same
+    (key_kept s made (number_is 1 (managers_of s) ws m.0 m.1.0) new.0 (grind (arith, few.0)) (number_is 0 1000000000000 k.0.1 v.0 v.1.0).1)
+
+called_is : (s : Content) (line : ℕ) (w : Word) (ws : List Word) (p : Called) → called_of s line w ws ≡ Ok p → IsOfScript s (Call p)
+unfolding called_of
+called_is s line w ws p e =
+    let t = and_then (number_in 1 (threads_of s) w) _ p e in
+    let v = and_then (word_at ws) _ p t.1.1 in
+    let verb = and_then (ok_or (verb_of v.0.0) _) _ p v.1.1 in
+    let m = and_then (number_at 0 4294967295 v.0.1) _ p verb.1.1 in
+    let a = and_then (action_at verb.0 m.0.1) _ p m.1.1 in
+    let f = and_then (flags_onto 0 a.0.1) _ p a.1.1 in
+    let made : Called = record { line = line; thread = t.0; manager = m.0.0; action = a.0.0; flags = f.0 } in
+    let same : made ≡ p = ok_is made p f.1.1 in
+    subst (λ (z : Called). IsOfScript s (Call z)) same (in_range 1 (threads_of s) w t.0 t.1.0)
+
+turn_is : (mode : Bool) (s : Content) (line : ℕ) (ws : List Word) (m : ℕ) → turn_of mode s ws ≡ Ok m → IsOfScript s (Turn line m)
+unfolding turn_of
+turn_is true s line ws m e = let never : ⊥ = cc in absurd never
+turn_is false s line ws m e =
+    let n = and_then (number_at 1 (managers_of s) ws) _ m e in
+    let last = and_then (end_of n.0.1) _ m n.1.1 in
+    let same : n.0.0 ≡ m = ok_is n.0.0 m last.1.1 in
+    subst (λ (z : ℕ). IsOfScript s (Turn line z)) same (number_is 1 (managers_of s) ws n.0 n.1.0)
+
+item_by_kept : (h : Option Head) (mode : Bool) (s : Content) (n : ℕ) (w : Word) (ws : List Word) (i : Item) → item_by h mode s n w ws ≡ Ok i → IsScript s → IsScript (with_item i s)
+unfolding item_by
+item_by_kept None mode s n w ws i e is = let never : ⊥ = cc in absurd never
+item_by_kept (Some head.Comment) mode s n w ws i e is = let same : item.Nothing ≡ i = cc in subst (λ (z : Item). IsScript (with_item z s)) same is
+item_by_kept (Some (head.Count count)) mode s n w ws i e is =
+    let c = and_then (setting_of s count ws) (λ number. Ok (item.Count count number)) i e in
+    let same : item.Count count c.0 ≡ i = ok_is (item.Count count c.0) i c.1.1 in
+    subst (λ (z : Item). IsScript (with_item z s)) same (setting_kept s count ws c.0 c.1.0 is)
+item_by_kept (Some head.Sync) mode s n w ws i e is =
+    let m = and_then (sync_of s ws) (λ m. Ok (item.Sync m)) i e in
+    let same : item.Sync m.0 ≡ i = ok_is (item.Sync m.0) i m.1.1 in
+    subst (λ (z : Item). IsScript (with_item z s)) same (sync_kept s m.0 is)
+item_by_kept (Some head.Key) mode s n w ws i e is =
+    let d = and_then (declared_of s ws) (λ d. Ok (item.Key d)) i e in
+    let same : item.Key d.0 ≡ i = ok_is (item.Key d.0) i d.1.1 in
+    subst (λ (z : Item). IsScript (with_item z s)) same (declared_kept s ws d.0 d.1.0 is)
+item_by_kept (Some head.Turn) mode s n w ws i e is =
+    let m = and_then (turn_of mode s ws) (λ m. Ok (item.Step (Turn n m))) i e in
+    let same : item.Step (Turn n m.0) ≡ i = ok_is (item.Step (Turn n m.0)) i m.1.1 in
+    subst (λ (z : Item). IsScript (with_item z s)) same (step_kept s (Turn n m.0) (turn_is mode s n ws m.0 m.1.0) is)
+item_by_kept (Some head.Thread) mode s n w ws i e is =
+    let p = and_then (called_of s n w ws) (λ p. Ok (item.Step (Call p))) i e in
+    let same : item.Step (Call p.0) ≡ i = ok_is (item.Step (Call p.0)) i p.1.1 in
+    subst (λ (z : Item). IsScript (with_item z s)) same (step_kept s (Call p.0) (called_is s n w ws p.0 p.1.0) is)
+
+item_kept : (mode : Bool) (s : Content) (n : ℕ) (ws : List Word) (i : Item) → item_of mode s n ws ≡ Ok i → IsScript s → IsScript (with_item i s)
+item_kept mode s n [] i e is = let same : item.Nothing ≡ i = cc in subst (λ (z : Item). IsScript (with_item z s)) same is
+item_kept mode s n (w ∷ ws) i e is = item_by_kept (head_of w) mode s n w ws i e is
+
+pub line_kept : (mode : Bool) (s : Content) (n : ℕ) (line : List ℕ) (i : Item) → line_of mode s n line ≡ Ok i → IsScript s → IsScript (with_item i s)
+unfolding line_of
+line_kept mode s n line i e =
+    let few = not_then (nat_lt 100000 n) TooManyLines _ i e in
+    let short = not_then (nat_lt 512 (length line)) LineTooLong _ i few.1 in
+    let bytes = not_then (not (list_all is_script_byte line)) BadByte _ i short.1 in
+    item_kept mode s n (words_of line) i bytes.1

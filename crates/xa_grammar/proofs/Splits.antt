@@ -1,0 +1,43 @@
+-- Words are cut off the front of a line one by one.
+use Rattle.std.proofs.Common.{◌≡◌, ℕ, ◌<◌, Bool, true, false, List, [], ◌∷◌, ◌++◌, length, refl, ap, sym, ◌∙◌, arith}
+use Rattle.std.specs.Prelude.{◌&&◌, not, filter}
+use Rattle.std.specs.List.{list_all, onto_first, slice_split}
+use Rattle.xa_grammar.specs.Text.{is_space, starts_blank, has_bytes, words_of, IsWord}
+
+-- The first byte of a word is no space.
+no_space : (b : ℕ) (w : List ℕ) → IsWord (b ∷ w) → is_space b ≡ false
+no_space b w h = of_not (is_space b) (list_all (λ b. not (is_space b)) w) h
+  where
+    of_not : (s r : Bool) → (not s && r) ≡ true → s ≡ false
+    of_not false r h = refl
+    of_not true r h = absurd cc
+
+-- The rest of a word has no space either.
+rest_word : (b : ℕ) (w : List ℕ) → IsWord (b ∷ w) → IsWord w
+rest_word b w h = of_and (not (is_space b)) (list_all (λ b. not (is_space b)) w) h
+  where
+    of_and : (s r : Bool) → (s && r) ≡ true → r ≡ true
+    of_and true r h = h
+    of_and false r h = absurd cc
+
+-- A space at the front parts no words.
+pub words_of_space : (b : ℕ) (line : List ℕ) → is_space b ≡ true → words_of (b ∷ line) ≡ words_of line
+words_of_space b line h = rw h refl
+
+-- The first part of a line that starts blank is empty.
+blank_parts : (line : List ℕ) → starts_blank line ≡ true
+    → (parts : List (List ℕ)) × (slice_split is_space line ≡ [] ∷ parts) × (words_of line ≡ filter has_bytes parts)
+blank_parts [] h = ([], refl, refl)
+blank_parts (b ∷ line) h = (slice_split is_space line, rw h refl, words_of_space b line h)
+
+-- A word ahead of an empty part is that part.
+word_parts : (w line : List ℕ) (parts : List (List ℕ)) → IsWord w → slice_split is_space line ≡ [] ∷ parts → slice_split is_space (w ++ line) ≡ w ∷ parts
+word_parts [] line parts h e = e
+word_parts (b ∷ w) line parts h e = let s : is_space b ≡ false = no_space b w h in rw s (ap (onto_first b) (word_parts w line parts (rest_word b w h) e))
+
+-- A word that a space or the end follows is the first word.
+pub first_word : (w line : List ℕ) → IsWord w → 0 < length w → starts_blank line ≡ true → words_of (w ++ line) ≡ w ∷ words_of line
+first_word [] line h lt blank = absurd (omega arith)
+first_word (b ∷ w) line h lt blank =
+    let p = blank_parts line blank in
+    ap (filter has_bytes) (word_parts (b ∷ w) line p.0 h p.1) ∙ ap (λ ws. (b ∷ w) ∷ ws) (sym p.2)

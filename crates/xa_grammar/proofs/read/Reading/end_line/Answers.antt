@@ -1,0 +1,23 @@
+use Rattle.std.proofs.Common.{◌≡◌, ℕ, List, ◌++◌, ◌+◌, sym, ap, subst, ◌∙◌}
+use Rattle.std.specs.Prelude.{Ok}
+use Rattle.std.proofs.lemmas.Result.{err_from_is_err_and}
+use Rattle.xa_grammar.specs.Text.{lines_of}
+use Rattle.xa_grammar.specs.Grammar.{script_from, after_line, FailsAt}
+use Rattle.xa_grammar.proofs.Lines.{goes_further, stops_there}
+use Rattle.xa_grammar.proofs.read.Reading.end_line.Goals as goal
+
+pub returns-in_err-read_line-clause-err : goal.returns-in_err-read_line-clause-err
+returns-in_err-read_line-clause-err c =
+    let p = err_from_is_err_and c.from_residual.result c.from_residual.ensures.1 in
+    let r = c.args.self.now in
+    let fault = c.in_err-read_line.field-0.0 in
+    let fails : FailsAt r.number fault (after_line r.threads_mode r.script r.number r.line.items) = subst (λ (l : List ℕ). FailsAt r.number fault (after_line r.threads_mode r.script r.number l)) c.deref.ensures.value c.in_err-read_line.ensures.err in
+    rw (p.1, p.2) (λ bytes. stops_there r.threads_mode fault r.script r.number r.line.items bytes r.no_end fails)
+
+pub returns-clause-ok : goal.returns-clause-ok
+returns-clause-ok c = λ bytes.
+    let r = c.args.self.now in
+    let t = c.read_line.new.script in
+    let taken : after_line r.threads_mode r.script r.number r.line.items ≡ Ok t = ap (after_line r.threads_mode r.script r.number) (sym c.deref.ensures.value) ∙ c.in_ok-read_line.ensures.ok in
+    goes_further r.threads_mode r.script t r.number r.line.items bytes r.no_end taken
+    ∙ ap (λ (xs : List ℕ). script_from r.threads_mode (r.number + 1) t (lines_of (xs ++ bytes))) (sym c.clear.ensures.items)

@@ -1,0 +1,20 @@
+use Rattle.std.proofs.Common.{◌≡◌, ◌<◌, ◌∷◌, take, drop, length, sym, ap, ◌∙◌, arith, true, false, take-append-drop, refl}
+use Rattle.std.specs.Prelude.{List, ℕ, Bool}
+use Rattle.xa_grammar.specs.Text.{words_of, starts_blank}
+use Rattle.xa_grammar.proofs.Splits.{first_word}
+use Rattle.xa_grammar.proofs.words.Words.next.Goals as goal
+
+-- Where only an empty line starts blank, a line that isn't empty doesn't.
+starts_full : (b : Bool) (line : List ℕ) → (b ≡ true → length line ≡ 0) → 0 < length line → b ≡ false
+starts_full false line h lt = refl
+starts_full true line h lt = absurd (omega (arith, h refl))
+
+pub returns : goal.returns
+returns c =
+    let line = c.without_spaces-line.result.now in
+    let n = c.word_len.result in
+    let full : 0 < length line = grind arith in
+    let begins : starts_blank line ≡ false = starts_full (starts_blank line) line (λ h. ap length (c.without_spaces-line.ensures.word h)) full in
+    let some : 0 < length (take n line) = grind (arith, c.word_len.ensures.some begins, c.word_len.ensures.fits) in
+    let parts : words_of line ≡ take n line ∷ words_of (drop n line) = ap words_of (sym (take-append-drop n line)) ∙ first_word (take n line) (drop n line) c.word_len.ensures.word some c.word_len.ensures.stops in
+    sym c.self.view_is ∙ sym c.without_spaces-line.ensures.words ∙ parts ∙ (λ i. sym c.split_at.ensures.front i ∷ words_of (sym c.split_at.ensures.back i))

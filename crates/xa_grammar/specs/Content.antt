@@ -1,0 +1,114 @@
+-- A script as contracts see it: its settings, the keys that it declares and the steps of its threads, in the order of its lines.
+use Rattle.std.specs.Prelude.{◌≡◌, ℕ, ◌≤◌, ◌==◌, Bool, not, true, if◌then◌else◌, All, Option, Some, None, unwrap_or, List, [], ◌∷◌, ◌++◌, map, filter, filter_map}
+use Rattle.std.specs.List.{list_any}
+use Rattle.xa_tables.specs.Accounts.{are_accounts}
+use Rattle.xa_grammar.specs.declared.script.Count.{Count}
+use Rattle.xa_grammar.specs.declared.script.Count.TheVariants.{Threads, Managers, Handles, Queue, Requests}
+use Rattle.xa_grammar.specs.declared.script.Settings.{Settings}
+use Rattle.xa_grammar.specs.declared.script.Declared.{Declared}
+use Rattle.xa_grammar.specs.declared.script.Called.{Called}
+use Rattle.xa_grammar.specs.declared.script.Step.{Step}
+use Rattle.xa_grammar.specs.declared.script.Step.TheVariants.{Call, Turn}
+
+-- ---- what a script says
+
+pub record Content : Type 0 where
+  pub settings : Settings
+  pub keys : List Declared
+  pub syncs : List ℕ
+  pub steps : List Step
+
+-- How many threads there are, 1 where no line sets it.
+abbrev pub threads_of : Content → ℕ
+threads_of s = unwrap_or s.settings.threads 1
+
+-- How many managers there are, 1 where no line sets it. They are numbered from 1.
+abbrev pub managers_of : Content → ℕ
+managers_of s = unwrap_or s.settings.managers 1
+
+-- How many handles a thread has, 4 where no line sets it.
+abbrev pub handles_of : Content → ℕ
+handles_of s = unwrap_or s.settings.handles 4
+
+-- How many requests a manager's queue holds, 8 where no line sets it.
+abbrev pub queue_of : Content → ℕ
+queue_of s = unwrap_or s.settings.queue 8
+
+-- How many requests a thread may put to a manager, 256 where no line sets it.
+abbrev pub requests_of : Content → ℕ
+requests_of s = unwrap_or s.settings.requests 256
+
+-- What manager m is opened with: its keys and their values.
+abbrev pub accounts_of : ℕ → List Declared → List (List ℕ × ℕ)
+accounts_of m keys = map (λ d. (d.key, d.value)) (filter (λ d. d.manager == m) keys)
+
+-- Manager m takes asynchronous calls, unless a line says that it doesn't.
+abbrev pub carries_async : Content → ℕ → Bool
+carries_async s m = not (list_any (λ n. n == m) s.syncs)
+
+-- The step where it is a call of thread t.
+abbrev pub call_of : ℕ → Step → Option Called
+call_of t (Call p) = if p.thread == t then Some p else None
+call_of t (Turn line m) = None
+
+-- The calls of thread t, in the order of their lines.
+abbrev pub calls_of : ℕ → List Step → List Called
+calls_of t steps = filter_map (call_of t) steps
+
+-- ---- what a line adds to it
+
+-- Nothing is set or declared, and nothing is to be done.
+abbrev pub nothing : Content
+nothing = record { settings = record { threads = None; managers = None; handles = None; queue = None; requests = None }; keys = []; syncs = []; steps = [] }
+
+-- One more count is set.
+abbrev pub with_setting : Count → ℕ → Settings → Settings
+with_setting Threads n s = record s { threads = Some n }
+with_setting Managers n s = record s { managers = Some n }
+with_setting Handles n s = record s { handles = Some n }
+with_setting Queue n s = record s { queue = Some n }
+with_setting Requests n s = record s { requests = Some n }
+
+abbrev pub with_count : Count → ℕ → Content → Content
+with_count count n s = record s { settings = with_setting count n s.settings }
+
+-- One more key is declared.
+abbrev pub with_key : Declared → Content → Content
+with_key declared s = record s { keys = s.keys ++ declared ∷ [] }
+
+-- One more manager takes no asynchronous calls.
+abbrev pub with_sync : ℕ → Content → Content
+with_sync m s = record s { syncs = s.syncs ++ m ∷ [] }
+
+-- One more step is to be done.
+abbrev pub with_step : Step → Content → Content
+with_step step s = record s { steps = s.steps ++ step ∷ [] }
+
+-- ---- what holds of it
+
+-- A key is of a manager that there is.
+abbrev pub IsOfManager : Content → Declared → Type 0
+IsOfManager s d = (1 ≤ d.manager) × (d.manager ≤ managers_of s)
+
+-- A count is from 1 to a limit.
+abbrev pub IsUpTo : ℕ → ℕ → Type 0
+IsUpTo limit n = (1 ≤ n) × (n ≤ limit)
+
+-- With so many threads and managers, a call is of a thread that there is, and a turn of a manager that there is.
+abbrev pub Fits : ℕ → ℕ → Step → Type 0
+Fits threads managers (Call p) = IsUpTo threads p.thread
+Fits threads managers (Turn line m) = IsUpTo managers m
+
+abbrev pub IsOfScript : Content → Step → Type 0
+IsOfScript s p = Fits (threads_of s) (managers_of s) p
+
+-- What holds of every script: its counts are within the limits, each key is of a manager that there is, each manager can be opened with its keys, and each step is of a thread or a manager that there is.
+pub record IsScript (s : Content) : Type 0 where
+  pub threads : IsUpTo 8 (threads_of s)
+  pub managers : IsUpTo 8 (managers_of s)
+  pub handles : IsUpTo 32 (handles_of s)
+  pub queue : IsUpTo 64 (queue_of s)
+  pub requests : IsUpTo 4096 (requests_of s)
+  pub of_managers : All (IsOfManager s) s.keys
+  pub accounts : (m : ℕ) → are_accounts (accounts_of m s.keys) ≡ true
+  pub of_steps : All (IsOfScript s) s.steps

@@ -1,0 +1,127 @@
+-- What a line says, the first fault in it, and the script that all lines make.
+use Rattle.std.specs.Prelude.{◌≡◌, ℕ, ◌+◌, Bool, false, not, ◌==◌, nat_lt, if◌then◌else◌, List, [], ◌∷◌, length, Option, Some, None, Result, Ok, Err, codes}
+use Rattle.std.specs.List.{list_all}
+use Rattle.std.specs.Str.{bytes_eq}
+use Rattle.xa_grammar.specs.declared.fault.Reason.{Reason}
+use Rattle.xa_grammar.specs.declared.fault.Reason.TheVariants.{LineTooLong, BadByte, TooManyLines, UnknownWord}
+use Rattle.xa_grammar.specs.declared.fault.ScriptFault.{ScriptFault}
+use Rattle.xa_grammar.specs.declared.fault.ScriptFault.TheVariants as faults
+use Rattle.xa_grammar.specs.declared.script.Count.TheVariants.{Threads, Managers, Handles, Queue, Requests}
+use Rattle.xa_grammar.specs.declared.script.Step.TheVariants as steps
+use Rattle.xa_grammar.specs.declared.line.Head.{Head}
+use Rattle.xa_grammar.specs.declared.line.Head.TheVariants as head
+use Rattle.xa_grammar.specs.declared.line.Item.{Item}
+use Rattle.xa_grammar.specs.declared.line.Item.TheVariants as item
+use Rattle.xa_grammar.specs.Text.{hash, lines_of, words_of, without_return, is_script_byte}
+use Rattle.xa_grammar.specs.Fields.{◌>>=◌, Word, all_digits}
+use Rattle.xa_grammar.specs.Content.{Content, nothing, with_count, with_key, with_sync, with_step}
+use Rattle.xa_grammar.specs.Settings.{setting_of, sync_of, declared_of}
+use Rattle.xa_grammar.specs.Actions.{called_of, turn_of}
+
+-- ---- lines
+
+-- A line whose first word begins with `#` is a comment.
+abbrev pub is_comment : Word → Bool
+is_comment [] = false
+is_comment (b ∷ bs) = b == hash
+
+-- The first word of a line tells what the line is.
+abbrev pub head_of : Word → Option Head
+head_of w =
+    if is_comment w then Some head.Comment
+    else if bytes_eq w (codes "threads") then Some (head.Count Threads)
+    else if bytes_eq w (codes "managers") then Some (head.Count Managers)
+    else if bytes_eq w (codes "handles") then Some (head.Count Handles)
+    else if bytes_eq w (codes "queue") then Some (head.Count Queue)
+    else if bytes_eq w (codes "requests") then Some (head.Count Requests)
+    else if bytes_eq w (codes "sync") then Some head.Sync
+    else if bytes_eq w (codes "key") then Some head.Key
+    else if bytes_eq w (codes "turn") then Some head.Turn
+    else if all_digits w then Some head.Thread
+    else None
+
+-- What the words w and ws of line n say; mode is whether threads run side by side.
+unfoldable pub item_by : Option Head → Bool → Content → ℕ → Word → List Word → Result Item Reason
+item_by None mode s n w ws = Err UnknownWord
+item_by (Some head.Comment) mode s n w ws = Ok item.Nothing
+item_by (Some (head.Count count)) mode s n w ws = do
+  number ← setting_of s count ws
+  Ok (item.Count count number)
+item_by (Some head.Sync) mode s n w ws = do
+  m ← sync_of s ws
+  Ok (item.Sync m)
+item_by (Some head.Key) mode s n w ws = do
+  d ← declared_of s ws
+  Ok (item.Key d)
+item_by (Some head.Turn) mode s n w ws = do
+  m ← turn_of mode s ws
+  Ok (item.Step (steps.Turn n m))
+item_by (Some head.Thread) mode s n w ws = do
+  p ← called_of s n w ws
+  Ok (item.Step (steps.Call p))
+
+-- What the words of line n say. Without words it says nothing.
+abbrev pub item_of : Bool → Content → ℕ → List Word → Result Item Reason
+item_of mode s n [] = Ok item.Nothing
+item_of mode s n (w ∷ ws) = item_by (head_of w) mode s n w ws
+
+-- What line n says. There are at most 100,000 lines, and a line has at most 512 bytes, each 32 to 126 or a tab.
+unfoldable pub line_of : Bool → Content → ℕ → List ℕ → Result Item Reason
+line_of mode s n line =
+    if nat_lt 100_000 n then Err TooManyLines
+    else if nat_lt 512 (length line) then Err LineTooLong
+    else if not (list_all is_script_byte line) then Err BadByte
+    else item_of mode s n (words_of line)
+
+-- What a line says is added to the script.
+abbrev pub with_item : Item → Content → Content
+with_item item.Nothing s = s
+with_item (item.Count count n) s = with_count count n s
+with_item (item.Sync m) s = with_sync m s
+with_item (item.Key d) s = with_key d s
+with_item (item.Step p) s = with_step p s
+
+-- The script with line n, whose carriage return is dropped.
+unfoldable pub after_line : Bool → Content → ℕ → List ℕ → Result Content Reason
+after_line mode s n line = do
+  i ← line_of mode s n (without_return line)
+  Ok (with_item i s)
+
+-- ---- the script
+
+-- What lines come to: a script, or the number of the first faulty line and its fault.
+abbrev pub Outcome : Type 0
+Outcome = Result Content (ℕ × Reason)
+
+-- A fault has the number of its line, and the first faulty line decides.
+abbrev pub then_on : ℕ → Result Content Reason → (Content → Outcome) → Outcome
+then_on n (Ok s) rest = rest s
+then_on n (Err why) rest = Err (n, why)
+
+-- The script with these lines, the first of which has number n.
+unfoldable pub script_from : Bool → ℕ → Content → List (List ℕ) → Outcome
+script_from mode n s [] = Ok s
+script_from mode n s (line ∷ lines) = then_on n (after_line mode s n line) (λ t. script_from mode (n + 1) t lines)
+
+-- The script that the bytes are, or the first faulty line and its fault. Lines count from 1.
+abbrev pub script_of : Bool → List ℕ → Outcome
+script_of mode bytes = script_from mode 1 nothing (lines_of bytes)
+
+-- ---- what was read
+
+-- A fault of a line is the one that the grammar finds.
+abbrev pub Fails : ScriptFault → Outcome → Type 0
+Fails (faults.Line n why) read = read ≡ Err (n, why)
+Fails faults.Read read = Unit {0}
+Fails faults.NoMemory read = Unit {0}
+
+-- The script is the one that the grammar reads, unless reading failed or memory ran out.
+abbrev pub Reads : Result Content ScriptFault → Outcome → Type 0
+Reads (Ok s) read = read ≡ Ok s
+Reads (Err fault) read = Fails fault read
+
+-- A fault of line n is the one that the grammar finds there.
+abbrev pub FailsAt : ℕ → ScriptFault → Result Content Reason → Type 0
+FailsAt n (faults.Line m why) read = (m ≡ n) × (read ≡ Err why)
+FailsAt n faults.Read read = Unit {0}
+FailsAt n faults.NoMemory read = Unit {0}

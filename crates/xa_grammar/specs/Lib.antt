@@ -1,0 +1,7 @@
+pub mod Text
+pub mod Fields
+pub mod Content
+pub mod Settings
+pub mod Actions
+pub mod Grammar
+pub mod Reading

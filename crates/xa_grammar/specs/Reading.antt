@@ -1,0 +1,22 @@
+-- What comes of the bytes that are still to be read.
+use Rattle.std.specs.Prelude.{◌≡◌, ℕ, Bool, List, ◌++◌}
+use Rattle.xa_grammar.specs.declared.fault.ScriptFault.{ScriptFault}
+use Rattle.xa_grammar.specs.declared.read.Reading.{Reading}
+use Rattle.xa_grammar.specs.Text.{lines_of}
+use Rattle.xa_grammar.specs.Grammar.{Outcome, script_from, script_of, Fails}
+
+-- The whole lines so far are read, and the bytes go on with the next line.
+abbrev pub goes_on : Reading → List ℕ → Outcome
+goes_on r bytes = script_from r.threads_mode r.number r.script (lines_of (r.line.items ++ bytes))
+
+-- Nothing is read yet: the bytes that come are the script.
+abbrev pub IsFresh : Bool → Reading → Type 0
+IsFresh mode r = (bytes : List ℕ) → goes_on r bytes ≡ script_of mode bytes
+
+-- The piece is taken: whatever comes behind it, the new reading goes on as the old one would.
+abbrev pub HasTaken : Reading → Reading → List ℕ → Type 0
+HasTaken old new piece = (bytes : List ℕ) → goes_on old (piece ++ bytes) ≡ goes_on new bytes
+
+-- The piece has a fault: whatever comes behind it, the grammar finds that fault.
+abbrev pub FailsOn : Reading → List ℕ → ScriptFault → Type 0
+FailsOn r piece fault = (bytes : List ℕ) → Fails fault (goes_on r (piece ++ bytes))

@@ -1,0 +1,84 @@
+-- Settings: the lines that come before the first action.
+use Rattle.std.specs.Prelude.{ℕ, Bool, ◌&&◌, ◌==◌, nat_le, is_some, if◌then◌else◌, List, [], ◌∷◌, count_by, Option, Result, Ok, Err}
+use Rattle.std.specs.List.{list_any}
+use Rattle.xa_words.specs.Key.{key_eq}
+use Rattle.xa_grammar.specs.declared.fault.Reason.{Reason}
+use Rattle.xa_grammar.specs.declared.fault.Reason.TheVariants.{SettingAfterAction, SettingTwice, KeyTwice, TooManyKeys}
+use Rattle.xa_grammar.specs.declared.script.Count.{Count}
+use Rattle.xa_grammar.specs.declared.script.Count.TheVariants.{Threads, Managers, Handles, Queue, Requests}
+use Rattle.xa_grammar.specs.declared.script.Settings.{Settings}
+use Rattle.xa_grammar.specs.declared.script.Declared.{Declared}
+use Rattle.xa_grammar.specs.declared.script.Step.{Step}
+use Rattle.xa_grammar.specs.Fields.{◌>>=◌, Word, end_of, number_at, key_at}
+use Rattle.xa_grammar.specs.Content.{Content, managers_of}
+
+-- Settings stand before the first action.
+abbrev pub before_actions : List Step → Result (Unit {0}) Reason
+before_actions [] = Ok tt
+before_actions (step ∷ steps) = Err SettingAfterAction
+
+-- ---- counts
+
+-- What is set.
+abbrev pub count_of : Count → Settings → Option ℕ
+count_of Threads s = s.threads
+count_of Managers s = s.managers
+count_of Handles s = s.handles
+count_of Queue s = s.queue
+count_of Requests s = s.requests
+
+-- A count is set once.
+abbrev pub not_set : Option ℕ → Result (Unit {0}) Reason
+not_set count = if is_some count then Err SettingTwice else Ok tt
+
+-- The most that it may be.
+abbrev pub limit_of : Count → ℕ
+limit_of Threads = 8
+limit_of Managers = 8
+limit_of Handles = 32
+limit_of Queue = 64
+limit_of Requests = 4096
+
+-- threads N, managers N, handles N, queue N, requests N
+unfoldable pub setting_of : Content → Count → List Word → Result ℕ Reason
+setting_of s count ws = do
+  first ← before_actions s.steps
+  new ← not_set (count_of count s.settings)
+  n ← number_at 1 (limit_of count) ws
+  last ← end_of n.1
+  Ok n.0
+
+-- sync M; M is one of the managers that there are by then.
+unfoldable pub sync_of : Content → List Word → Result ℕ Reason
+sync_of s ws = do
+  first ← before_actions s.steps
+  m ← number_at 1 (managers_of s) ws
+  last ← end_of m.1
+  Ok m.0
+
+-- ---- keys
+
+-- Manager m has declared this key.
+abbrev pub has_key : ℕ → List ℕ → List Declared → Bool
+has_key m k keys = list_any (λ d. (d.manager == m) && key_eq d.key k) keys
+
+-- How many keys manager m has declared.
+abbrev pub key_count : ℕ → List Declared → ℕ
+key_count m keys = count_by (λ d. d.manager == m) keys
+
+-- A key is declared once, and a manager has at most 256.
+abbrev pub new_key : List Declared → Declared → Result Declared Reason
+new_key keys d =
+    if has_key d.manager d.key keys then Err KeyTwice
+    else if nat_le 256 (key_count d.manager keys) then Err TooManyKeys
+    else Ok d
+
+-- key M KEY VALUE; M is one of the managers that there are by then, and VALUE at most 1,000,000,000,000.
+unfoldable pub declared_of : Content → List Word → Result Declared Reason
+declared_of s ws = do
+  first ← before_actions s.steps
+  m ← number_at 1 (managers_of s) ws
+  k ← key_at m.1
+  v ← number_at 0 1_000_000_000_000 k.1
+  last ← end_of v.1
+  new_key s.keys (record { manager = m.0; key = k.0; value = v.0 })

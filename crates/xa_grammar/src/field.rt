@@ -1,0 +1,137 @@
+//! What one word stands for.
+ghost use Rattle.std.specs.Prelude.{◌≡◌, ◌<◌, ◌≤◌, ◌==◌, IfOk, IfSome, length};
+ghost use Rattle.std.specs.List.{list_all, position_or_len};
+ghost use Rattle.xa_grammar.specs.Text.{dot};
+ghost use Rattle.xa_grammar.specs.Fields.{all_digits, number_of, number_in, is_name_byte, is_name, xid_of, signed_number_of, delta_in, flag_of};
+
+use crate::fault::Reason;
+use xa_words::{
+    Delta, TMASYNC, TMFAIL, TMJOIN, TMMULTIPLE, TMNOWAIT, TMONEPHASE, TMRESUME, TMSUCCESS,
+    TMSUSPEND, Xid,
+};
+
+pub(crate) fn all_digits(word: &[u8]) -> bool
+    ensures { result ≡ all_digits word.now }
+{
+    word.iter().all(|b| b.is_ascii_digit())
+}
+
+// The number that 1 to 18 digits are.
+fn number_of(word: &[u8]) -> Option<u64>
+    ensures value { result ≡ number_of word.now }
+    ensures fits { IfSome result (λ n. n < 1_000_000_000_000_000_000) }
+{
+    if word.is_empty() || word.len() > 18 {
+        return None;
+    }
+    let mut value: u64 = 0;
+    for b in word {
+        if !b.is_ascii_digit() {
+            return None;
+        }
+        value = 10 * value + u64::from(*b - b'0');
+    }
+    Some(value)
+}
+
+pub(crate) fn number_in(low: u64, high: u64, word: &[u8]) -> Result<u64, Reason>
+    ensures value { result ≡ number_in low high word.now }
+    ensures in_range { IfOk result (λ n. n ≤ high) }
+{
+    let number = number_of(word).ok_or(Reason::BadNumber)?;
+    if number < low || number > high {
+        return Err(Reason::OutOfRange);
+    }
+    Ok(number)
+}
+
+fn is_name_byte(b: u8) -> bool
+    ensures { result ≡ is_name_byte b }
+{
+    b.is_ascii_lowercase() || b.is_ascii_digit()
+}
+
+fn all_name_bytes(bytes: &[u8]) -> bool
+    ensures { result ≡ list_all is_name_byte bytes.now }
+{
+    bytes.iter().all(|b| is_name_byte(*b))
+}
+
+// Whether these are 1 to `most` of a to z and 0 to 9.
+fn is_name(bytes: &[u8]) -> bool
+    ensures { result ≡ is_name bytes.now }
+{
+    !bytes.is_empty() && bytes.len() <= 64 && all_name_bytes(bytes)
+}
+
+// Where the first dot stands, or the length where there is none.
+fn dot_at(word: &[u8]) -> usize
+    ensures place { result ≡ position_or_len (λ b. b == dot) word.now }
+    ensures fits { result ≤ length word.now }
+{
+    for (i, b) in word.iter().enumerate() {
+        if *b == b'.' {
+            return i;
+        }
+    }
+    word.len()
+}
+
+// The branch that `G.B` names, of format 1.
+pub(crate) fn xid_of(word: &[u8]) -> Option<Xid>
+    ensures { result ≡ xid_of word.now }
+{
+    let dot = dot_at(word);
+    if dot == word.len() {
+        return None;
+    }
+    let (gtrid, bqual) = (&word[..dot], &word[dot + 1..]);
+    if !is_name(gtrid) || !is_name(bqual) {
+        return None;
+    }
+    Xid::new(1, gtrid, bqual).ok()
+}
+
+// A number that may have a minus before it.
+fn signed_number_of(word: &[u8]) -> Option<i64>
+    ensures { result ≡ signed_number_of word.now }
+{
+    match word {
+        [b'-', digits @ ..] => Some(-(number_of(digits)? as i64)),
+        _ => Some(number_of(word)? as i64),
+    }
+}
+
+pub(crate) fn delta_in(word: &[u8]) -> Result<Delta, Reason>
+    ensures { result ≡ delta_in word.now }
+{
+    let amount = signed_number_of(word).ok_or(Reason::BadNumber)?;
+    Delta::new(amount).ok_or(Reason::OutOfRange)
+}
+
+// The flag of `xa.h` that a flag word stands for.
+pub(crate) fn flag_of(word: &[u8]) -> Option<u32>
+    ensures { result ≡ flag_of word.now }
+{
+    if word == b"async".as_slice() {
+        Some(TMASYNC)
+    } else if word == b"onephase".as_slice() {
+        Some(TMONEPHASE)
+    } else if word == b"fail".as_slice() {
+        Some(TMFAIL)
+    } else if word == b"nowait".as_slice() {
+        Some(TMNOWAIT)
+    } else if word == b"resume".as_slice() {
+        Some(TMRESUME)
+    } else if word == b"success".as_slice() {
+        Some(TMSUCCESS)
+    } else if word == b"suspend".as_slice() {
+        Some(TMSUSPEND)
+    } else if word == b"multiple".as_slice() {
+        Some(TMMULTIPLE)
+    } else if word == b"join".as_slice() {
+        Some(TMJOIN)
+    } else {
+        None
+    }
+}

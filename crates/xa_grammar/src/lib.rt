@@ -1,0 +1,23 @@
+//! The script of the switch: its grammar, and how it is read.
+//!
+//! A line declares a key of a manager, as `key 1 a 100`, or is a call of a thread, as
+//! `1 end 1 g.1 success`: the thread, the verb, the manager, the verb's words, and flag words.
+//! `specs/Grammar.antt` is the whole grammar, in the order in which a line is judged; `read_script`
+//! answers the `Script` that it gives, or its first fault. Nothing is run here.
+#![tactic(auto)]
+
+mod action;
+mod fault;
+mod field;
+mod line;
+mod read;
+mod script;
+mod setting;
+mod words;
+
+pub use fault::{Reason, ScriptFault};
+pub use read::read_script;
+pub use script::{Action, Called, Declared, Script, Step};
+
+#[cfg(test)]
+mod tests;

@@ -1,0 +1,166 @@
+//! What one line says.
+ghost use Rattle.std.specs.Prelude.{◌≡◌, ◌≤◌, OnOk, IfErr, Ok};
+ghost use Rattle.std.specs.List.{list_all};
+ghost use Rattle.xa_grammar.specs.Text.{words_of, is_script_byte, without_return};
+ghost use Rattle.xa_grammar.specs.Content.{IsScript};
+ghost use Rattle.xa_grammar.specs.Grammar.{head_of, item_by, item_of, line_of, with_item, after_line, FailsAt};
+
+use crate::action::{called_of, turn_of};
+use crate::fault::{Reason, ScriptFault};
+use crate::field::all_digits;
+use crate::script::{Count, Declared, Script, Step};
+use crate::setting::{declared_of, setting_of, sync_of};
+use crate::words::Words;
+use std::alloc::AllocError;
+
+// How many lines a script may have.
+pub(crate) const MOST_LINES: u32 = 100_000;
+
+// How many bytes a line may have, its carriage return and line feed not counted.
+pub(crate) const LONGEST_LINE: usize = 512;
+
+/// What the first word of a line says that the line is.
+#[derive(Clone, Copy, Debug)]
+pub(crate) enum Head {
+    Comment,
+    Count(Count),
+    Sync,
+    Key,
+    Turn,
+    Thread,
+}
+
+/// What a line adds to a script.
+#[derive(Clone, Copy, Debug)]
+pub(crate) enum Item {
+    Nothing,
+    Count(Count, u32),
+    Sync(u32),
+    Key(Declared),
+    Step(Step),
+}
+
+fn head_of(word: &[u8]) -> Option<Head>
+    ensures { result ≡ head_of word.now }
+{
+    if word.starts_with(b"#") {
+        Some(Head::Comment)
+    } else if word == b"threads".as_slice() {
+        Some(Head::Count(Count::Threads))
+    } else if word == b"managers".as_slice() {
+        Some(Head::Count(Count::Managers))
+    } else if word == b"handles".as_slice() {
+        Some(Head::Count(Count::Handles))
+    } else if word == b"queue".as_slice() {
+        Some(Head::Count(Count::Queue))
+    } else if word == b"requests".as_slice() {
+        Some(Head::Count(Count::Requests))
+    } else if word == b"sync".as_slice() {
+        Some(Head::Sync)
+    } else if word == b"key".as_slice() {
+        Some(Head::Key)
+    } else if word == b"turn".as_slice() {
+        Some(Head::Turn)
+    } else if all_digits(word) {
+        Some(Head::Thread)
+    } else {
+        None
+    }
+}
+
+#[tactic(auto, unfolding(crate::specs::Grammar::item_by))]
+fn item_of(script: &Script, threads_mode: bool, number: u32, line: &[u8]) -> Result<Item, Reason>
+    ensures { result ≡ item_of threads_mode script.now number (words_of line.now) }
+{
+    let mut words = Words::new(line);
+    let Some(first) = words.next() else {
+        return Ok(Item::Nothing);
+    };
+    match head_of(first).ok_or(Reason::UnknownWord)? {
+        Head::Comment => Ok(Item::Nothing),
+        Head::Count(count) => Ok(Item::Count(count, setting_of(script, count, &mut words)?)),
+        Head::Sync => Ok(Item::Sync(sync_of(script, &mut words)?)),
+        Head::Key => Ok(Item::Key(declared_of(script, &mut words)?)),
+        Head::Turn => Ok(Item::Step(Step::Turn {
+            line: number,
+            manager: turn_of(script, threads_mode, &mut words)?,
+        })),
+        Head::Thread => {
+            let called = called_of(script, number, first, &mut words)?;
+            Ok(Item::Step(Step::Call(called)))
+        }
+    }
+}
+
+fn is_script_byte(b: u8) -> bool
+    ensures { result ≡ is_script_byte b }
+{
+    matches!(b, b' '..=b'~' | b'\t')
+}
+
+fn all_script_bytes(line: &[u8]) -> bool
+    ensures { result ≡ list_all is_script_byte line.now }
+{
+    line.iter().all(|b| is_script_byte(*b))
+}
+
+fn without_return(line: &[u8]) -> &[u8]
+    ensures { result.now ≡ without_return line.now }
+{
+    match line {
+        [front @ .., b'\r'] => front,
+        _ => line,
+    }
+}
+
+#[tactic(auto, unfolding(crate::specs::Grammar::line_of))]
+fn line_of(script: &Script, threads_mode: bool, number: u32, line: &[u8]) -> Result<Item, Reason>
+    ensures item { result ≡ line_of threads_mode script.now number line.now }
+    ensures few { OnOk result (number ≤ 100_000) }
+{
+    if number > MOST_LINES {
+        return Err(Reason::TooManyLines);
+    }
+    if line.len() > LONGEST_LINE {
+        return Err(Reason::LineTooLong);
+    }
+    if !all_script_bytes(line) {
+        return Err(Reason::BadByte);
+    }
+    item_of(script, threads_mode, number, line)
+}
+
+fn put(script: &mut Script, item: Item) -> Result<(), AllocError>
+    requires { IsScript script.old → IsScript (with_item item script.old) }
+    ensures { OnOk result (script.new ≡ with_item item script.old) }
+{
+    match item {
+        Item::Nothing => Ok(()),
+        Item::Count(count, number) => {
+            script.set(count, number);
+            Ok(())
+        }
+        Item::Sync(manager) => script.add_sync(manager),
+        Item::Key(declared) => script.add_key(declared),
+        Item::Step(step) => script.add_step(step),
+    }
+}
+
+// Takes the line of this number, which may end with a carriage return.
+#[tactic(auto, unfolding(crate::specs::Grammar::after_line))]
+pub(crate) fn read_line(
+    script: &mut Script,
+    threads_mode: bool,
+    number: u32,
+    line: &[u8],
+) -> Result<(), ScriptFault>
+    ensures ok { OnOk result (after_line threads_mode script.old number line.now ≡ Ok script.new) }
+    ensures few { OnOk result (number ≤ 100_000) }
+    ensures err { IfErr result (λ fault.
+        FailsAt number fault (after_line threads_mode script.old number line.now)) }
+{
+    match line_of(script, threads_mode, number, without_return(line)) {
+        Ok(item) => Ok(put(script, item)?),
+        Err(why) => Err(ScriptFault::Line { line: number, why }),
+    }
+}

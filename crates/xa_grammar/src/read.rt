@@ -1,0 +1,131 @@
+//! Reading a script to its end.
+ghost use Rattle.std.specs.Prelude.{◌≤◌, length, IfSome};
+ghost use Rattle.xa_grammar.specs.Text.{HasNoEnd};
+ghost use Rattle.xa_grammar.specs.Grammar.{Reads, script_of};
+
+use crate::fault::{Reason, ScriptFault};
+use crate::line::{LONGEST_LINE, MOST_LINES, read_line};
+use crate::script::Script;
+use std::alloc::{AllocError, Global};
+use std::io::Read;
+
+// Room for a line and its carriage return.
+const ROOM: usize = LONGEST_LINE + 1;
+
+// What the whole lines so far say, and what has come of the next.
+#[derive(Drop)]
+struct Reading {
+    // Whether the threads of the script are to run side by side.
+    threads_mode: bool,
+    script: Script,
+    // The number of the next line.
+    number: u32,
+    line: Vec<u8>,
+    ghost no_end: { HasNoEnd line.items },
+    ghost short: { length line.items ≤ 513 },
+    ghost few: { number ≤ 100_001 },
+}
+
+impl Reading {
+    ghost use Rattle.std.specs.Prelude.{[], ◌∷◌, OnOk, IfOk, IfErr};
+    ghost use Rattle.xa_grammar.specs.Text.{line_feed};
+    ghost use Rattle.xa_grammar.specs.Grammar.{Reads};
+    ghost use Rattle.xa_grammar.specs.Reading.{goes_on, IsFresh, HasTaken, FailsOn};
+
+    fn new(alloc: Global, threads_mode: bool) -> Result<Reading, AllocError>
+        ensures { IfOk result (IsFresh threads_mode) }
+    {
+        Ok(Reading {
+            threads_mode,
+            script: Script::new(alloc),
+            number: 1,
+            line: Vec::with_capacity(alloc, ROOM)?,
+        })
+    }
+
+    // Takes one byte, which may end a line.
+    fn take_byte(&mut self, b: u8) -> Result<(), ScriptFault>
+        ensures ok { OnOk result (HasTaken self.old self.new (b ∷ [])) }
+        ensures err { IfErr result (FailsOn self.old (b ∷ [])) }
+    {
+        if b == b'\n' {
+            return self.end_line();
+        }
+        if self.line.len() == ROOM {
+            // No line end is waited for: the line may have none.
+            let line = self.number;
+            let why = if line > MOST_LINES {
+                Reason::TooManyLines
+            } else {
+                Reason::LineTooLong
+            };
+            return Err(ScriptFault::Line { line, why });
+        }
+        self.line.push(b).map_err(|_| ScriptFault::NoMemory)
+    }
+
+    fn end_line(&mut self) -> Result<(), ScriptFault>
+        ensures ok { OnOk result (HasTaken self.old self.new (line_feed ∷ [])) }
+        ensures err { IfErr result (FailsOn self.old (line_feed ∷ [])) }
+    {
+        read_line(&mut self.script, self.threads_mode, self.number, &self.line)?;
+        self.line.clear();
+        self.number += 1;
+        Ok(())
+    }
+
+    fn take_chunk(&mut self, chunk: &[u8]) -> Result<(), ScriptFault>
+        ensures ok { OnOk result (HasTaken self.old self.new chunk.now) }
+        ensures err { IfErr result (FailsOn self.old chunk.now) }
+    {
+        for b in chunk {
+            self.take_byte(*b)?;
+        }
+        Ok(())
+    }
+
+    // Takes the last line, which may lack its line feed.
+    fn finish(self) -> Result<Script, ScriptFault>
+        ensures { Reads result (goes_on self []) }
+    {
+        let Reading {
+            threads_mode,
+            mut script,
+            number,
+            line,
+            ..
+        } = self;
+        if line.is_empty() {
+            return Ok(script);
+        }
+        read_line(&mut script, threads_mode, number, &line)?;
+        Ok(script)
+    }
+}
+
+/// Reads the whole script before anything runs.
+///
+/// The first faulty line decides: its number, from 1, and its first fault. Reading stops there.
+/// A read that fails is `Read`, and want of memory `NoMemory`.
+///
+/// `threads_mode` says whether the threads of the script are to run side by side; then no line of it
+/// may be a `turn`.
+pub fn read_script<R: Read>(
+    alloc: Global,
+    reader: &mut R,
+    threads_mode: bool,
+) -> Result<Script, ScriptFault>
+    ensures { IfSome (R.remaining reader.old) (λ bytes. Reads result (script_of threads_mode bytes)) }
+{
+    let mut reading = Reading::new(alloc, threads_mode)?;
+    let mut chunk = [0; 4096];
+    for _ in 0..u64::MAX {
+        let count = reader.read(&mut chunk).map_err(|_| ScriptFault::Read)?;
+        if count == 0 {
+            return reading.finish();
+        }
+        reading.take_chunk(&chunk[..count])?;
+    }
+    // The reader has no end.
+    Err(ScriptFault::Read)
+}

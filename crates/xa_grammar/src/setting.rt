@@ -1,0 +1,121 @@
+//! What a line sets or declares.
+ghost use Rattle.std.specs.Prelude.{◌≡◌};
+ghost use Rattle.xa_grammar.specs.Settings.{before_actions, count_of, not_set, limit_of, setting_of, sync_of, has_key, key_count, new_key, declared_of};
+
+use crate::fault::Reason;
+use crate::script::{Count, Declared, Script, Settings, Step};
+use crate::words::Words;
+use xa_words::Key;
+
+// How many keys a manager may have.
+const MOST_KEYS: usize = 256;
+
+// What a key may be worth at the opening.
+const MOST_VALUE: u64 = 1_000_000_000_000;
+
+fn before_actions(steps: &[Step]) -> Result<(), Reason>
+    ensures { result ≡ before_actions steps.now }
+{
+    match steps {
+        [] => Ok(()),
+        [..] => Err(Reason::SettingAfterAction),
+    }
+}
+
+fn count_of(count: Count, settings: &Settings) -> Option<u32>
+    ensures { result ≡ count_of count settings.now }
+{
+    match count {
+        Count::Threads => settings.threads,
+        Count::Managers => settings.managers,
+        Count::Handles => settings.handles,
+        Count::Queue => settings.queue,
+        Count::Requests => settings.requests,
+    }
+}
+
+fn not_set(count: Option<u32>) -> Result<(), Reason>
+    ensures { result ≡ not_set count }
+{
+    if count.is_some() {
+        return Err(Reason::SettingTwice);
+    }
+    Ok(())
+}
+
+fn limit_of(count: Count) -> u64
+    ensures { result ≡ limit_of count }
+{
+    match count {
+        Count::Threads | Count::Managers => 8,
+        Count::Handles => 32,
+        Count::Queue => 64,
+        Count::Requests => 4096,
+    }
+}
+
+// The words behind the name of a count.
+#[tactic(auto, unfolding(crate::specs::Settings::setting_of))]
+pub(crate) fn setting_of(script: &Script, count: Count, words: &mut Words) -> Result<u32, Reason>
+    ensures { result ≡ setting_of script.now count words.old }
+{
+    before_actions(script.steps())?;
+    not_set(count_of(count, script.settings()))?;
+    let number = words.number(1, limit_of(count))? as u32;
+    words.end()?;
+    Ok(number)
+}
+
+// The words behind `sync`.
+#[tactic(auto, unfolding(crate::specs::Settings::sync_of))]
+pub(crate) fn sync_of(script: &Script, words: &mut Words) -> Result<u32, Reason>
+    ensures { result ≡ sync_of script.now words.old }
+{
+    before_actions(script.steps())?;
+    let manager = words.number(1, u64::from(script.managers()))? as u32;
+    words.end()?;
+    Ok(manager)
+}
+
+fn has_key(manager: u32, key: &Key, keys: &[Declared]) -> bool
+    ensures { result ≡ has_key manager key.now keys.now }
+{
+    keys.iter().any(|d| d.manager == manager && d.key == *key)
+}
+
+fn key_count(manager: u32, keys: &[Declared]) -> usize
+    ensures { result ≡ key_count manager keys.now }
+{
+    keys.iter().filter(|d| d.manager == manager).count()
+}
+
+// The declaration, where its manager has no such key and room for one more.
+fn new_key(keys: &[Declared], declared: Declared) -> Result<Declared, Reason>
+    ensures { result ≡ new_key keys.now declared }
+{
+    if has_key(declared.manager, &declared.key, keys) {
+        return Err(Reason::KeyTwice);
+    }
+    if key_count(declared.manager, keys) >= MOST_KEYS {
+        return Err(Reason::TooManyKeys);
+    }
+    Ok(declared)
+}
+
+// The words behind `key`.
+#[tactic(auto, unfolding(crate::specs::Settings::declared_of))]
+pub(crate) fn declared_of(script: &Script, words: &mut Words) -> Result<Declared, Reason>
+    ensures { result ≡ declared_of script.now words.old }
+{
+    before_actions(script.steps())?;
+    let manager = words.number(1, u64::from(script.managers()))? as u32;
+    let key = words.key()?;
+    let value = words.number(0, MOST_VALUE)?;
+    words.end()?;
+    let declared = Declared {
+        manager,
+        key,
+        value,
+    };
+    new_key(script.keys(), declared)
+}

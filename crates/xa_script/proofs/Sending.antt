@@ -1,0 +1,226 @@
+-- What a thread's calls send to a manager and collect from it.
+use Rattle.std.proofs.Common.{◌≡◌, ◌≢◌, ℕ, ℤ, ◌≤◌, Bool, true, false, ◌&&◌, not, List, [], ◌∷◌, ◌++◌, length, Option, Some, None, Result, Ok, Err, sym, refl, ap, ◌∙◌, subst, inl, inr, arith}
+use Rattle.std.specs.Prelude.{pos, if◌then◌else◌}
+use Rattle.std.specs.List.{Contains}
+use Rattle.std.specs.FinMap as finmap
+use Rattle.std.proofs.lemmas.Bool.{cases_eq}
+use Rattle.xa_words.specs.Code.{number_of}
+use Rattle.xa_words.specs.declared.code.Code.{Code}
+use Rattle.xa_words.specs.declared.code.Code.TheVariants.{Async, Inval, RmErr, RmFail}
+use Rattle.xa_words.specs.declared.flags.Call.TheVariants as call
+use Rattle.xa_words.specs.declared.flags.Mode.{Mode}
+use Rattle.xa_words.specs.declared.request.Op.{Op}
+use Rattle.xa_words.specs.Flags.{check_flags}
+use Rattle.xa_desk.specs.declared.operation.Operation.{Operation}
+use Rattle.xa_desk.specs.AccountView.{AccountView, learnt_shut}
+use Rattle.xa_desk.specs.DeskView.{DeskView, is_known, account, next_operation, after_sent, after_collected, sent_to, collected_from}
+use Rattle.xa_desk.specs.Ended.{EndedView}
+use Rattle.xa_desk.specs.Lanes.{submitted, after_fulls}
+use Rattle.xa_desk.specs.Looks.{Looks, Collects, TakesKept}
+use Rattle.xa_worker.specs.Journal.{Entry}
+use Rattle.xa_switch.specs.Putting.{put_refusal, Puts, Calls}
+use Rattle.xa_switch.specs.Putting.Puts.{refused as put_refused, full, kept as put_kept, answered as put_answered}
+use Rattle.xa_switch.specs.Completing.{number_in, CompletesOne, CompletesAny, CompletesAt, CompletesBy, CollectsRedeemed, HasCompleted, may_complete}
+use Rattle.xa_switch.specs.Completing.CompletesOne.{unknown, retry as retry_one, ready, waited}
+use Rattle.xa_switch.specs.Completing.CompletesAny.{nothing as nothing_kept, retry as retry_any, least}
+use Rattle.xa_grammar.specs.declared.script.Action.{Action}
+use Rattle.xa_grammar.specs.declared.script.Action.TheVariants as action
+use Rattle.xa_grammar.specs.declared.script.Called.{Called}
+use Rattle.xa_script.specs.declared.transcript.Answer.{Answer}
+use Rattle.xa_script.specs.Chains.{Chain}
+use Rattle.xa_script.specs.Chains.Chain.{none, more}
+use Rattle.xa_script.specs.Calling.{shown, Answers}
+use Rattle.xa_script.specs.Ending.{EndsNumber, EndsDesk}
+use Rattle.xa_script.specs.Ending.EndsNumber.{kept as kept_there, free}
+use Rattle.xa_script.specs.Journals.{Ask, ask, asked_by, asked_in, refusals, IsRefusal, Line, Adds}
+use Rattle.xa_script.specs.Journals.Ask.{code_of, handle_for}
+use Rattle.xa_script.specs.Journals.Adds.{refused, elsewhere, completes}
+use Rattle.xa_script.proofs.Accounts.{Grows, grows_same, grows_both, grows_sent, grows_collected, sent_here, sent_elsewhere, sending_collects_none, numbered_so, sent_known, collected_here, collecting_sends_none}
+use Rattle.xa_script.proofs.Keeping.{quiet_same, known_here, fulls_accounts}
+
+abbrev accounts_of : DeskView → List AccountView
+accounts_of d = d.accounts
+
+-- ---- collecting sends nothing
+
+-- nothing is sent, and what was collected only grows
+abbrev pub Collecting : List AccountView → List AccountView → Type 0
+Collecting old new = (m : ℕ) → Grows m old new × (sent_to new m ≡ sent_to old m)
+
+pub collecting_none : (old new : List AccountView) → new ≡ old → Collecting old new
+collecting_none old new e m = (grows_same m old new e, ap (λ l. sent_to l m) e)
+
+pub collecting_both : (u v w : List AccountView) → Collecting u v → Collecting v w → Collecting u w
+collecting_both u v w c d m = (grows_both m u v w (c m).0 (d m).0, (d m).1 ∙ (c m).1)
+
+looking : (old new : DeskView) → Looks old new → new.accounts ≡ old.accounts
+looking old new is = ap accounts_of is.rest
+
+collects_so : (old new : DeskView) (o : Operation) (c : Code) → Collects old new o c → new.accounts ≡ after_collected old.accounts o c
+collects_so old new o c is = ap accounts_of is.collected ∙ ap (λ (at : List AccountView). after_collected at o c) (looking old is.before is.looks)
+
+collecting_one : (old new : DeskView) (o : Operation) (c : Code) → Collects old new o c → Collecting old.accounts new.accounts
+collecting_one old new o c is =
+    let before = looking old is.before is.looks in
+    collecting_both old.accounts is.before.accounts new.accounts (collecting_none old.accounts is.before.accounts before)
+    (subst (Collecting is.before.accounts) (sym (ap accounts_of is.collected)) (λ m. (grows_collected m is.before.accounts o c is.out.known, collecting_sends_none is.before.accounts o c is.out.known m)))
+
+taking : (old new : DeskView) (k : ℕ) (c : Code) → TakesKept old new k c → Collecting old.accounts new.accounts
+taking old new k c is = subst (Collecting old.accounts) (sym (ap accounts_of is.taken)) (λ m. (grows_collected m old.accounts is.operation c is.out.known, collecting_sends_none old.accounts is.operation c is.out.known m))
+
+redeeming : (old new : DeskView) (k : ℕ) (c : Code) → CollectsRedeemed old new k c → Collecting old.accounts new.accounts
+redeeming old new k c is = collecting_one (record old { kept = finmap.remove old.kept k }) new is.operation c is.collects
+
+one_collects : (old : DeskView) (k : Option ℕ) (m : ℕ) (nowait : Bool) (new : DeskView) (r : Result (ℕ × Code) Code) → CompletesOne old k m nowait new r → Collecting old.accounts new.accounts
+one_collects old k m nowait new r (unknown missing told e) = collecting_none old.accounts new.accounts (ap accounts_of e)
+one_collects old k m nowait new r (retry_one j is there way told quiet unready) = collecting_none old.accounts new.accounts (quiet_same old new quiet).0
+one_collects old k m nowait new r (ready j c is there way told takes) = collecting_both old.accounts takes.before.accounts new.accounts (collecting_none old.accounts takes.before.accounts (looking old takes.before takes.looks)) (taking takes.before new j c takes.takes)
+one_collects old k m nowait new r (waited j c is there way told takes) = redeeming old new j c takes
+
+any_collects : (old : DeskView) (m : ℕ) (nowait : Bool) (new : DeskView) (r : Result (ℕ × Code) Code) → CompletesAny old m nowait new r → Collecting old.accounts new.accounts
+any_collects old m nowait new r (nothing_kept empty told e) = collecting_none old.accounts new.accounts (ap accounts_of e)
+any_collects old m nowait new r (retry_any j there way told quiet unready) = collecting_none old.accounts new.accounts (quiet_same old new quiet).0
+any_collects old m nowait new r (least j c told takes) = collecting_both old.accounts takes.before.accounts new.accounts (collecting_none old.accounts takes.before.accounts (quiet_same old takes.before takes.quiet).0) (taking takes.before new j c takes.takes)
+
+at_collects : (may multiple nowait : Bool) (old : DeskView) (k : Option ℕ) (m : ℕ) (new : DeskView) (r : Result (ℕ × Code) Code) → CompletesAt may multiple nowait old k m new r → Collecting old.accounts new.accounts
+at_collects false multiple nowait old k m new r is = collecting_none old.accounts new.accounts (ap accounts_of is.1)
+at_collects true true nowait old k m new r is = any_collects old m nowait new r is
+at_collects true false nowait old k m new r is = one_collects old k m nowait new r is
+
+by_collects : (mode : Result Mode Code) (old : DeskView) (k : Option ℕ) (m : ℕ) (new : DeskView) (r : Result (ℕ × Code) Code) → CompletesBy mode old k m new r → Collecting old.accounts new.accounts
+by_collects (Ok mode) old k m new r is = at_collects (may_complete old m mode.multiple) mode.multiple mode.nowait old k m new r is
+by_collects (Err c) old k m new r is = collecting_none old.accounts new.accounts (ap accounts_of is.1)
+
+completing : (old : DeskView) (h r : ℤ) (m f : ℕ) (new : DeskView) (h' r' a : ℤ) → HasCompleted old h r m f new h' r' a → Collecting old.accounts new.accounts
+completing old h r m f new h' r' a is = by_collects (check_flags call.Complete f) old (number_in h) m new is.collected is.completes
+
+number_collects : (k : ℕ) (old new : DeskView × List Answer) → EndsNumber k old new → Collecting old.0.accounts new.0.accounts
+number_collects k old new (kept_there c takes told) = redeeming old.0 new.0 k c takes
+number_collects k old new (free empty e) = collecting_none old.0.accounts new.0.accounts (ap (λ (s : DeskView × List Answer). s.0.accounts) e)
+
+numbers_collect : (old : DeskView × List Answer) (ks : List ℕ) (new : DeskView × List Answer) → Chain EndsNumber old ks new → Collecting old.0.accounts new.0.accounts
+numbers_collect old ks new (none xs last e f) = collecting_none old.0.accounts new.0.accounts (ap (λ (s : DeskView × List Answer). s.0.accounts) f)
+numbers_collect old ks new (more xs x now last before is) = collecting_both old.0.accounts now.0.accounts last.0.accounts (numbers_collect old xs now before) (number_collects x now last is)
+
+-- a desk that ends sends nothing more
+pub ending_collects : (old : DeskView) (told : List Answer) (ended : EndedView) (told' : List Answer) → EndsDesk old told ended told' → Collecting old.accounts ended.accounts
+ending_collects old told ended told' is = subst (Collecting old.accounts) (sym is.ends.accounts) (numbers_collect (old, told) _ (is.settled, told') is.collects)
+
+-- ---- what a call does to the account with manager m
+
+abbrev pub line : Called → Answer → Line
+line p a = record { call = p; answer = a }
+
+pub data Sends (m : ℕ) (p : Called) (a : Answer) (old new : List AccountView) : Type 0 where
+  answered : (o : Op) (c : Code) → p.manager ≡ m → asked_in p ≡ code_of o → a ≡ shown p (number_of c) → sent_to new m ≡ sent_to old m ++ o ∷ [] → collected_from new m ≡ collected_from old m ++ (length (sent_to old m), c) ∷ [] → Sends m p a old new
+  kept : (o : Op) (k : ℕ) → p.manager ≡ m → asked_in p ≡ handle_for o → 1 ≤ k → a ≡ shown p (pos k) → sent_to new m ≡ sent_to old m ++ o ∷ [] → Sends m p a old new
+  nothing : ((es : List Entry) → Adds m (line p a) es es) → sent_to new m ≡ sent_to old m → Sends m p a old new
+
+same_code : (a b : Code) → Some a ≡ Some b → a ≡ b
+same_code a b e = cc
+
+not_none : (c : Code) → None ≡ Some c → ⊥
+not_none c e = cc
+
+-- each refusal is among those that there are
+refusal_in : (b k s ca fh sp : Bool) (c : Code) → (if not k then Some Inval else if s then Some RmFail else if b && not ca then Some Async else if b && fh then Some Async else if sp then Some RmErr else None) ≡ Some c → Contains (refusals b) c
+refusal_in false false s ca fh sp c e = subst (Contains (refusals false)) (same_code Inval c e) (0, omega arith, refl)
+refusal_in true false s ca fh sp c e = subst (Contains (refusals true)) (same_code Inval c e) (0, omega arith, refl)
+refusal_in false true true ca fh sp c e = subst (Contains (refusals false)) (same_code RmFail c e) (1, omega arith, refl)
+refusal_in true true true ca fh sp c e = subst (Contains (refusals true)) (same_code RmFail c e) (1, omega arith, refl)
+refusal_in false true false ca fh true c e = subst (Contains (refusals false)) (same_code RmErr c e) (2, omega arith, refl)
+refusal_in false true false ca fh false c e = absurd (not_none c e)
+refusal_in true true false false fh sp c e = subst (Contains (refusals true)) (same_code Async c e) (3, omega arith, refl)
+refusal_in true true false true true sp c e = subst (Contains (refusals true)) (same_code Async c e) (3, omega arith, refl)
+refusal_in true true false true false true c e = subst (Contains (refusals true)) (same_code RmErr c e) (2, omega arith, refl)
+refusal_in true true false true false false c e = absurd (not_none c e)
+
+pub is_refusal : (old : DeskView) (n : ℕ) (b : Bool) (c : Code) → put_refusal old n b ≡ Some c → Contains (refusals b) c
+is_refusal old n b c e = refusal_in b (is_known old.accounts n) (learnt_shut (account old.accounts n)) (account old.accounts n).carries_async _ _ c e
+
+pub no_place : (b : Bool) → b ≡ true → Contains (refusals b) Async
+no_place b e = subst (λ x. Contains (refusals x) Async) (sym e) (3, omega arith, refl)
+
+-- what is asked for, where TMASYNC is there or not
+abbrev pub asks : Bool → Op → Ask
+asks b o = if b then handle_for o else code_of o
+
+pub refusal_by : (b : Bool) (o : Op) (c : Code) → Contains (refusals b) c → IsRefusal (asks b o) c
+refusal_by true o c is = is
+refusal_by false o c is = is
+
+refused_so : (p : Called) (b : Bool) (o : Op) → asks b o ≡ asked_in p → (a : Answer) (n : ℤ) → a ≡ shown p n → (m : ℕ) (c : Code) → Contains (refusals b) c → n ≡ number_of c → (es : List Entry) → Adds m (line p a) es es
+refused_so p b o e a n told m c is of es = refused c (subst (λ r. IsRefusal r c) e (refusal_by b o c is)) (told ∙ ap (shown p) of) refl
+
+-- of its own manager
+puts_here : (p : Called) (old new : DeskView) (a : Answer) (n : ℤ) (asked : _) → Puts old p.manager asked new n → asks asked.asynchronous asked.op ≡ asked_in p → a ≡ shown p n → Sends p.manager p a old.accounts new.accounts
+puts_here p old new a n asked (put_refused c why of same) e told = nothing (refused_so p asked.asynchronous asked.op e a n told p.manager c (is_refusal old p.manager asked.asynchronous c why) of) (ap (λ (d : DeskView). sent_to d.accounts p.manager) same)
+puts_here p old new a n asked (full why async of same) e told = nothing (refused_so p asked.asynchronous asked.op e a n told p.manager Async (no_place asked.asynchronous async) of) (ap (λ (d : DeskView). sent_to d.accounts p.manager) same)
+puts_here p old new a n asked (put_kept why async k of is same) e told =
+    kept asked.op k refl (sym e ∙ ap (λ b. asks b asked.op) async) is.positive (told ∙ ap (shown p) of)
+    (ap (λ (d : DeskView). sent_to d.accounts p.manager) same ∙ sent_here old.accounts p.manager asked.op (known_here old p.manager asked.asynchronous why))
+puts_here p old new a n asked (put_answered why async times c of is) e told =
+    let before = after_fulls times old p.manager in
+    let known = known_here old p.manager asked.asynchronous why in
+    let accounts : before.accounts ≡ old.accounts = fulls_accounts times old p.manager in
+    let o = next_operation old.accounts p.manager in
+    let became : new.accounts ≡ after_collected (after_sent old.accounts p.manager asked.op) o c = collects_so (submitted before p.manager asked.op) new o c is ∙ ap (λ (at : List AccountView). after_collected (after_sent at p.manager asked.op) o c) accounts in
+    let sent_then = sent_known old.accounts p.manager asked.op known in
+    answered asked.op c refl (sym e ∙ ap (λ b. asks b asked.op) async) (told ∙ ap (shown p) of)
+    (ap (λ (at : List AccountView). sent_to at p.manager) became ∙ collecting_sends_none (after_sent old.accounts p.manager asked.op) o c sent_then p.manager ∙ sent_here old.accounts p.manager asked.op known)
+    (ap (λ (at : List AccountView). collected_from at p.manager) became
+    ∙ collected_here (after_sent old.accounts p.manager asked.op) o c sent_then
+    ∙ (λ i. sending_collects_none old.accounts p.manager asked.op known p.manager i ++ (numbered_so old.accounts p.manager asked.op known i, c) ∷ []))
+
+-- of another manager
+puts_elsewhere : (m n : ℕ) → m ≢ n → (old new : DeskView) (a : ℤ) (asked : _) → Puts old n asked new a → sent_to new.accounts m ≡ sent_to old.accounts m
+puts_elsewhere m n differs old new a asked (put_refused c why of same) = ap (λ (d : DeskView). sent_to d.accounts m) same
+puts_elsewhere m n differs old new a asked (full why async of same) = ap (λ (d : DeskView). sent_to d.accounts m) same
+puts_elsewhere m n differs old new a asked (put_kept why async k of is same) = ap (λ (d : DeskView). sent_to d.accounts m) same ∙ sent_elsewhere old.accounts n asked.op (known_here old n asked.asynchronous why) m differs
+puts_elsewhere m n differs old new a asked (put_answered why async times c of is) =
+    (collecting_one (submitted (after_fulls times old n) n asked.op) new (next_operation old.accounts n) c is m).1
+    ∙ ap (λ (at : List AccountView). sent_to (after_sent at n asked.op) m) (fulls_accounts times old n)
+    ∙ sent_elsewhere old.accounts n asked.op (known_here old n asked.asynchronous why) m differs
+
+puts_send : (p : Called) (old new : DeskView) (a : Answer) (n : ℤ) (asked : _) → Puts old p.manager asked new n → asks asked.asynchronous asked.op ≡ asked_in p → a ≡ shown p n → (m : ℕ) → Sends m p a old.accounts new.accounts
+puts_send p old new a n asked is e told m =
+    elim (cases_eq m p.manager) [
+      | inl same ↦ subst (λ k. Sends k p a old.accounts new.accounts) (sym same) (puts_here p old new a n asked is e told)
+      | inr differs ↦ nothing (λ es. elsewhere (λ here. differs (sym here)) refl) (puts_elsewhere m p.manager differs old new n asked is)
+    ]
+
+puts_grow : (m n : ℕ) (old new : DeskView) (a : ℤ) (asked : _) → Puts old n asked new a → Grows m old.accounts new.accounts
+puts_grow m n old new a asked (put_refused c why of same) = grows_same m old.accounts new.accounts (ap accounts_of same)
+puts_grow m n old new a asked (full why async of same) = grows_same m old.accounts new.accounts (ap accounts_of same)
+puts_grow m n old new a asked (put_kept why async k of is same) = subst (Grows m old.accounts) (sym (ap accounts_of same)) (grows_sent m old.accounts n asked.op (known_here old n asked.asynchronous why))
+puts_grow m n old new a asked (put_answered why async times c of is) =
+    let mid = submitted (after_fulls times old n) n asked.op in
+    let became : mid.accounts ≡ after_sent old.accounts n asked.op = ap (λ (at : List AccountView). after_sent at n asked.op) (fulls_accounts times old n) in
+    grows_both m old.accounts mid.accounts new.accounts (subst (Grows m old.accounts) (sym became) (grows_sent m old.accounts n asked.op (known_here old n asked.asynchronous why)))
+    (collecting_one mid new (next_operation old.accounts n) c is m).0
+
+-- what a call sends and collects at manager m, and that it only adds to what was sent and collected
+abbrev pub Does : ℕ → Called → Answer → List AccountView → List AccountView → Type 0
+Does m p a old new = Sends m p a old new × Grows m old new
+
+calls_do : (p : Called) (old new : DeskView) (a : Answer) (n : ℤ) (r : Result _ Code) → Calls r old p.manager new n → ask r (λ asked. asked.op) (λ asked. asked.asynchronous) ≡ asked_in p → a ≡ shown p n → (m : ℕ) → Does m p a old.accounts new.accounts
+calls_do p old new a n (Ok asked) is e told m = (puts_send p old new a n asked is e told m, puts_grow m p.manager old new n asked is)
+calls_do p old new a n (Err c) is e told m = (
+  nothing (λ es. refused c (subst (λ r. IsRefusal r c) e refl) (told ∙ ap (shown p) is.0) refl) (ap (λ (d : DeskView). sent_to d.accounts m) is.1),
+  grows_same m old.accounts new.accounts (ap accounts_of is.1),
+)
+
+-- an action of a line
+pub answers_do : (x : Action) (p : Called) → asked_by x p.flags ≡ asked_in p → (old new : DeskView) (a : Answer) → Answers x p old new a → (m : ℕ) → Does m p a old.accounts new.accounts
+answers_do action.Open p e old new a is m = calls_do p old new a is.answer _ is.calls e is.shown m
+answers_do action.Close p e old new a is m = calls_do p old new a is.answer _ is.calls e is.shown m
+answers_do (action.Start x) p e old new a is m = calls_do p old new a is.answer _ is.calls e is.shown m
+answers_do (action.Add k d) p e old new a is m = calls_do p old new a is.answer _ is.calls e is.shown m
+answers_do (action.End x) p e old new a is m = calls_do p old new a is.answer _ is.calls e is.shown m
+answers_do (action.Prepare x) p e old new a is m = calls_do p old new a is.answer _ is.calls e is.shown m
+answers_do (action.Commit x) p e old new a is m = calls_do p old new a is.answer _ is.calls e is.shown m
+answers_do (action.Rollback x) p e old new a is m = calls_do p old new a is.answer _ is.calls e is.shown m
+answers_do action.Shut p e old new a is m = calls_do p old new a is.answer _ is.calls e is.shown m
+answers_do (action.Complete h) p e old new a is m =
+    let collects = completing old h (pos 0) p.manager p.flags new is.handle is.retval is.answer is.completes m in
+    (nothing (λ es. completes (sym e) refl) collects.1, collects.0)

@@ -1,6 +1,0 @@
-use Rattle.xa_script.specs.Reading.{goes_on}
-use Rattle.xa_script.proofs.Bytes.{Leads}
-use Rattle.xa_script.proofs.read.read_script.Given as goal
-
-abbrev pub invariant-loop : goal.invariant-loop
-invariant-loop g l = Leads l.fn.threads_mode (g.R.Read.remaining l.fn.reader) (g.R.Read.remaining l.reader) (goes_on l.reading)

@@ -1,0 +1,101 @@
+-- Ends of lanes that are dealt by row into the column of their lane.
+use Rattle.std.proofs.Common.{◌≡◌, ℕ, zero, suc, ◌+◌, ◌<◌, ◌≤◌, List, [], ◌∷◌, ◌++◌, length, map, set, get_or, slice_get, replicate, refl, sym, ap, ◌∙◌, subst, arith, length-append, Some}
+use Rattle.std.specs.List.{All, AllPairs}
+use Rattle.std.proofs.lemmas.List.{get_or-map as get_or-map', get_or-set_other, map-set, length-map}
+use Rattle.std.proofs.Math.ListN.{get_or-map}
+use Rattle.std.proofs.lemmas.List.Elements.{All-push}
+use Rattle.xa_switch.specs.Columns.{put_row}
+use Rattle.xa_switch.specs.Closing.{dealt, column}
+use Rattle.xa_switch.proofs.Dealing.{length_put}
+use Rattle.xa_switch.proofs.Lists.{In, in_front, in_back}
+
+pub all_mid : {X : Type 0} (P : X → Type 0) (xs ys : List X) (x : X) → All P (xs ++ x ∷ ys) → P x
+all_mid P [] ys x h = h 0 x (omega arith)
+all_mid P (y ∷ xs) ys x h = all_mid P xs ys x (λ k d below. h (suc k) d (omega arith))
+
+pub pairs_mid : {X : Type 0} (R : X → X → Type 0) (xs : List X) (x : X) (ys : List X) → AllPairs R (xs ++ x ∷ ys) → All (R x) ys
+pairs_mid R [] x ys h = λ k d below. h 0 (suc k) d (omega arith) (omega arith)
+pairs_mid R (y ∷ xs) x ys h = pairs_mid R xs x ys (λ i j d lt below. h (suc i) (suc j) d (omega arith) (omega arith))
+
+pub all_back : {X : Type 0} (P : X → Type 0) (xs ys : List X) → All P (xs ++ ys) → All P ys
+all_back P [] ys h = h
+all_back P (x ∷ xs) ys h = all_back P xs ys (λ k d below. h (suc k) d (omega arith))
+
+module _ {X : Type 0} where
+  pub length_dealt : (C rows : List (List X)) → length (dealt C rows) ≡ length C
+  length_dealt C [] = refl
+  length_dealt C (row ∷ rows) = length_dealt (put_row C row) rows ∙ length_put C row
+
+  pub dealt_snoc : (C rows : List (List X)) (row : List X) → dealt C (rows ++ row ∷ []) ≡ put_row (dealt C rows) row
+  dealt_snoc C [] row = refl
+  dealt_snoc C (r ∷ rows) row = dealt_snoc (put_row C r) rows row
+
+  put_keeps : (C : List (List X)) (row : List X) (k : ℕ) (x : X) → In x (column C k) → In x (column (put_row C row) k)
+  put_keeps [] row k x h = h
+  put_keeps (c ∷ cs) [] k x h = h
+  put_keeps (c ∷ cs) (y ∷ row) zero x h = in_front x c (y ∷ []) h
+  put_keeps (c ∷ cs) (y ∷ row) (suc k) x h = put_keeps cs row k x h
+
+  put_adds : (C : List (List X)) (row : List X) (k : ℕ) (x : X) → slice_get row k ≡ Some x → k < length C → In x (column (put_row C row) k)
+  put_adds [] row k x e h = absurd (omega arith)
+  put_adds (c ∷ cs) [] k x e h = cc
+  put_adds (c ∷ cs) (y ∷ row) zero x e h = let f : y ≡ x = cc in subst (λ z. In x (c ++ z ∷ [])) (sym f) (in_back x c)
+  put_adds (c ∷ cs) (y ∷ row) (suc k) x e h = put_adds cs row k x e (omega arith)
+
+  dealt_keeps : (C rows : List (List X)) (k : ℕ) (x : X) → In x (column C k) → In x (column (dealt C rows) k)
+  dealt_keeps C [] k x h = h
+  dealt_keeps C (row ∷ rows) k x h = dealt_keeps (put_row C row) rows k x (put_keeps C row k x h)
+
+  -- each element of a row is in its column
+  pub dealt_adds : (C rows : List (List X)) (k i : ℕ) (row : List X) (x : X) → slice_get rows i ≡ Some row → slice_get row k ≡ Some x → k < length C → In x (column (dealt C rows) k)
+  dealt_adds C [] k i row x e f h = cc
+  dealt_adds C (r ∷ rows) k zero row x e f h =
+      let g : r ≡ row = cc in
+      dealt_keeps (put_row C r) rows k x (put_adds C r k x (ap (λ l. slice_get l k) g ∙ f) h)
+  dealt_adds C (r ∷ rows) k (suc i) row x e f h = let l = length_put C r in dealt_adds (put_row C r) rows k i row x e f (omega (arith, l))
+
+  module _ (P : X → Type 0) where
+    put_all : (C : List (List X)) (row : List X) (k : ℕ) → All P (column C k) → ((x : X) → slice_get row k ≡ Some x → P x) → All P (column (put_row C row) k)
+    put_all [] row k h each = h
+    put_all (c ∷ cs) [] k h each = h
+    put_all (c ∷ cs) (y ∷ row) zero h each = All-push P c y h (each y refl)
+    put_all (c ∷ cs) (y ∷ row) (suc k) h each = put_all cs row k h each
+
+    -- what holds of each row's element holds in the column
+    pub dealt_all : (C rows : List (List X)) (k : ℕ) → All P (column C k) → ((i : ℕ) (row : List X) (x : X) → slice_get rows i ≡ Some row → slice_get row k ≡ Some x → P x) → All P (column (dealt C rows) k)
+    dealt_all C [] k h each = h
+    dealt_all C (row ∷ rows) k h each = dealt_all (put_row C row) rows k (put_all C row k h (λ x e. each 0 row x refl e)) (λ i r x e f. each (suc i) r x e f)
+
+  pub column_none : (n k : ℕ) → column {X = X} (replicate n []) k ≡ []
+  column_none zero k = refl
+  column_none (suc n) zero = refl
+  column_none (suc n) (suc k) = column_none n k
+
+  put_short : (C : List (List X)) (row : List X) (n k : ℕ) → length (column C k) ≤ n → length (column (put_row C row) k) ≤ n + 1
+  put_short [] row n k h = omega arith
+  put_short (c ∷ cs) [] n k h = omega arith
+  put_short (c ∷ cs) (y ∷ row) n zero h = omega (arith, length-append c (y ∷ []))
+  put_short (c ∷ cs) (y ∷ row) n (suc k) h = put_short cs row n k h
+
+  pub dealt_short : (C rows : List (List X)) (n k : ℕ) → length (column C k) ≤ n → length (column (dealt C rows) k) ≤ n + length rows
+  dealt_short C [] n k h = omega arith
+  dealt_short C (row ∷ rows) n k h = let r = dealt_short (put_row C row) rows (n + 1) k (put_short C row n k h) in omega (arith, r)
+
+  -- columns with room for as many as there are rows have room for one row more
+  pub room_for_row : {V : Type 0} (items : V → List X) (cap : V → ℕ) (C₀ C : List V) (rows : List (List X)) (m n : ℕ) → map items C ≡ dealt (replicate m []) rows → map cap C ≡ map cap C₀ → All (λ c. n ≤ cap c) C₀ → length rows < n
+      → All (λ c. length (items c) < cap c) C
+  room_for_row items cap C₀ C rows m n dealt_is caps room few k d below =
+      let many : length C ≡ length C₀ = sym (length-map C cap) ∙ ap length caps ∙ length-map C₀ cap in
+      let short = dealt_short (replicate m []) rows 0 k (subst (λ l. length l ≤ 0) (sym (column_none m k)) (omega arith)) in
+      let here : length (items (get_or C k d)) ≡ length (column (dealt (replicate m []) rows) k) = ap length (sym (get_or-map' items C k d [] below) ∙ ap (λ l. get_or l k []) dealt_is) in
+      let cap_is : cap (get_or C k d) ≡ cap (get_or C₀ k d) = sym (get_or-map cap C k d) ∙ ap (λ l. get_or l k (cap d)) caps ∙ get_or-map cap C₀ k d in
+      let deep = room k d (omega (arith, many)) in
+      omega (arith, short, here, cap_is, deep, few)
+
+module _ {V X : Type 0} (items : V → List X) where
+  -- a list of which another was replaced
+  pub column_kept : (C : List V) (k j : ℕ) (c : V) → (k ≡ j → ⊥) → column (map items (set C j c)) k ≡ column (map items C) k
+  column_kept C k j c n = ap (λ l. get_or l k []) (map-set items C j c) ∙ get_or-set_other (map items C) j k (items c) [] n
+
+  pub column_at : (C : List V) (k : ℕ) (d : V) → k < length C → items (get_or C k d) ≡ column (map items C) k
+  column_at C k d below = sym (get_or-map' items C k d [] below)

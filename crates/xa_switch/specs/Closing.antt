@@ -1,0 +1,66 @@
+-- How the lanes of an opening are closed.
+use Rattle.std.specs.Prelude.{◌≡◌, ℕ, ◌-◌, ◌≤◌, List, [], ◌∷◌, map, replicate, slice_index_or, vec_capacity}
+use Rattle.std.specs.List.{All}
+use Rattle.xa_words.specs.declared.request.Completion.{Completion}
+use Rattle.xa_lane.specs.Ends.{Sending, Receiving}
+use Rattle.xa_lane.specs.Closing.{IsWhole, Conserves, LeavesNothing, AreKnown}
+use Rattle.xa_lane.specs.Senders.{QueueId}
+use Rattle.xa_desk.specs.Ended.{EndedView}
+use Rattle.xa_worker.specs.Workers.{Asking}
+use Rattle.xa_worker.specs.Done.{Served}
+use Rattle.xa_switch.specs.Columns.{put_row}
+use Rattle.xa_switch.specs.Settling.{ThreadPart, ManagerPart, Settling}
+use Rattle.xa_switch.specs.declared.apart.Room.{Room}
+
+-- one row after another, each element at the end of its column
+abbrev pub dealt : {X : Type 0} → List (List X) → List (List X) → List (List X)
+dealt cs [] = cs
+dealt cs (row ∷ rows) = dealt (put_row cs row) rows
+
+-- the column at a place
+abbrev pub column : {X : Type 0} → List (List X) → ℕ → List X
+column cs k = slice_index_or cs k []
+
+-- these are all the ends of the receiver's lane, and of no other
+pub record IsClosable {Line Lines T : Type 0} (IsEnd : Sending Line T → Lines → Type 0) (r : Receiving Lines T) (ends : List (Sending Line T)) : Type 0 where
+  pub lanes : All (λ e. e.lane ≡ r.lane) ends
+  pub lines : All (λ e. IsEnd e r.line) ends
+  pub whole : IsWhole r.senders ends
+
+-- the lane was closed with these ends: of each, what was taken and what was left is what it sent
+pub record IsClosed {Line Lines T : Type 0} (r : Receiving Lines T) (ends : List (Sending Line T)) : Type 0 where
+  pub left : List (ℕ × T)
+  pub whole : IsWhole r.senders ends
+  pub conserves : Conserves ends r.taken left
+  pub nothing : LeavesNothing ends r.taken left
+  pub known : AreKnown r.senders r.taken left
+
+-- the end is of this queue
+abbrev pub IsQueueEnd : {T : Type 0} → Sending QueueId T → QueueId → Type 0
+IsQueueEnd e line = e.line ≡ line
+
+-- a lane with its place among the lanes
+abbrev pub desk_lane : EndedView → ℕ × Receiving QueueId Completion
+desk_lane d = (d.thread - 1, d.completions)
+
+abbrev pub worker_lane : Served → ℕ × Asking
+worker_lane w = (w.number - 1, w.receiver)
+
+-- what becomes part of a settled opening
+abbrev pub thread_part : EndedView → ThreadPart
+thread_part d = record { thread = d.thread; accounts = d.accounts }
+
+abbrev pub manager_part : Served → ManagerPart
+manager_part w = record { number = w.number; first = w.first; journal = w.journal }
+
+abbrev pub settling : List EndedView → List Served → Settling
+settling ds ws = record { threads = map thread_part ds; managers = map manager_part ws }
+
+-- eight empty columns and two empty lists, with room for n of each
+pub record IsRoomFor {E R P : Type 0} (n : ℕ) (r : Room E R P) : Type 0 where
+  pub columns : map (λ c. c.items) r.columns.items ≡ replicate 8 []
+  pub deep : All (λ c. n ≤ vec_capacity c) r.columns.items
+  pub lanes : r.lanes.items ≡ []
+  pub lanes_room : n ≤ vec_capacity r.lanes
+  pub parts : r.parts.items ≡ []
+  pub parts_room : n ≤ vec_capacity r.parts

@@ -1,0 +1,123 @@
+//! How desks and workers are taken apart, as their opening is settled.
+ghost use Rattle.std.specs.Prelude.{◌≡◌, ◌≤◌, [], length, map, replicate, IfOk};
+ghost use Rattle.std.specs.List.{All};
+ghost use Rattle.xa_desk.specs.Ended.{IsEnded};
+ghost use Rattle.xa_tables.specs.History.{IsOpening};
+ghost use Rattle.xa_worker.specs.Done.{IsServed, IsOrdered};
+ghost use Rattle.xa_switch.specs.Closing.{dealt, desk_lane, worker_lane, thread_part, manager_part, IsRoomFor};
+
+use crate::columns::{deal, reserve_columns};
+use crate::settled::{Carried, Thread};
+use std::alloc::{AllocError, Global};
+use std::snapshot::Snapshot;
+use xa_desk::{DeskEnds, EndedDesk};
+use xa_lane::{Ended, Receiver, RingEnded, RingReceiver};
+use xa_words::{Completion, Request};
+use xa_worker::{Apart, DoneWorker};
+
+// A thread has at most so many managers, and a manager so many threads.
+const MOST: usize = 8;
+
+/// The pieces' ends of lanes, dealt by the lane that they are of, the receivers of their own lanes, each
+/// with its place, and what becomes part of a settled opening.
+#[derive(Drop)]
+pub(crate) struct Room<E: Drop, R: Drop, P: Drop> {
+    pub(crate) columns: Vec<Vec<E>>,
+    pub(crate) lanes: Vec<(usize, R)>,
+    pub(crate) parts: Vec<P>,
+}
+
+pub(crate) type DeskRoom = Room<RingEnded<Request>, Receiver<Completion>, Thread>;
+
+pub(crate) type WorkerRoom = Room<Ended<Completion>, RingReceiver<Request>, Carried>;
+
+/// Room for so many pieces.
+pub(crate) fn reserve_room<E: Drop, R: Drop, P: Drop>(
+    alloc: Global,
+    pieces: usize,
+) -> Result<Room<E, R, P>, AllocError>
+    ensures { IfOk result (λ r. IsRoomFor pieces r) }
+{
+    let columns = reserve_columns(alloc, MOST, pieces)?;
+    let lanes = Vec::with_capacity(alloc, pieces)?;
+    let parts = Vec::with_capacity(alloc, pieces)?;
+    Ok(Room {
+        columns,
+        lanes,
+        parts,
+    })
+}
+
+/// Takes the desks apart. It takes no memory.
+pub(crate) fn take_desks(desks: Vec<EndedDesk>, room: DeskRoom) -> DeskRoom
+    requires room { IsRoomFor (length desks.items) room }
+    requires few { All (λ d. length d.accounts ≤ 8) desks.items }
+    ensures columns { map (λ c. c.items) result.columns.items ≡ dealt (replicate 8 []) (map (λ d. d.requests) desks.items) }
+    ensures lanes { result.lanes.items ≡ map desk_lane desks.items }
+    ensures parts { result.parts.items ≡ map thread_part desks.items }
+    ensures known { All IsEnded desks.items }
+{
+    let Room {
+        mut columns,
+        mut lanes,
+        mut parts,
+    } = room;
+    for desk in desks {
+        let number = desk.number();
+        let DeskEnds {
+            requests,
+            completions,
+            accounts,
+        } = desk.apart();
+        columns = deal(columns, requests);
+        lanes.push_reserved((number as usize - 1, completions));
+        parts.push_reserved(Thread { number, accounts });
+    }
+    Room {
+        columns,
+        lanes,
+        parts,
+    }
+}
+
+/// Takes the workers apart. It takes no memory.
+pub(crate) fn take_workers(workers: Vec<DoneWorker>, room: WorkerRoom) -> WorkerRoom
+    requires room { IsRoomFor (length workers.items) room }
+    requires few { All (λ w. w.manager.threads ≤ 8) workers.items }
+    requires numbered { All (λ w. 1 ≤ w.number) workers.items }
+    requires opened { All (λ w. IsOpening w.first) workers.items }
+    ensures columns { map (λ c. c.items) result.columns.items ≡ dealt (replicate 8 []) (map (λ w. w.ends) workers.items) }
+    ensures lanes { result.lanes.items ≡ map worker_lane workers.items }
+    ensures parts { result.parts.items ≡ map manager_part workers.items }
+    ensures known { All IsServed workers.items }
+    ensures ordered { All IsOrdered workers.items }
+{
+    let Room {
+        mut columns,
+        mut lanes,
+        mut parts,
+    } = room;
+    for worker in workers {
+        let number = worker.number();
+        let done = Snapshot::of(&worker);
+        let Apart {
+            manager,
+            receiver,
+            ends,
+            journal,
+        } = worker.apart();
+        columns = deal(columns, ends);
+        lanes.push_reserved((number as usize - 1, receiver));
+        parts.push_reserved(Carried {
+            number,
+            done,
+            manager,
+            journal,
+        });
+    }
+    Room {
+        columns,
+        lanes,
+        parts,
+    }
+}

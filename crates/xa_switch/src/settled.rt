@@ -1,0 +1,186 @@
+//! What a settled opening has.
+ghost use Rattle.std.specs.Prelude.{◌≡◌, option_map, pos};
+ghost use Rattle.xa_tables.specs.History.{value_after};
+ghost use Rattle.xa_desk.specs.DeskView.{sent_to, collected_from};
+ghost use Rattle.xa_worker.specs.Journal.{requests};
+ghost use Rattle.xa_switch.specs.Settling.{IsSettled, accounts_in, find_thread, find_manager, sent, collected, journal, value};
+
+use std::marker::Model;
+use std::snapshot::Snapshot;
+use xa_desk::Account;
+use xa_tables::Manager;
+use xa_tables::laws::value_is_sum;
+use xa_words::{Code, Key, Op, Request};
+use xa_worker::DoneWorker;
+
+/// What a thread's desk leaves.
+#[derive(Drop)]
+pub(crate) struct Thread {
+    pub(crate) number: u32,
+    pub(crate) accounts: Vec<Account>,
+}
+
+impl Model for Thread {
+    ghost use Rattle.xa_switch.specs.Settling.{ThreadPart};
+
+    ghost Value = { ThreadPart };
+
+    ghost view = { λ t. record { thread = t.number; accounts = t.accounts.items } };
+}
+
+impl Thread {
+    fn number(&self) -> u32
+        ensures { result ≡ self.now.thread }
+    {
+        self.number
+    }
+}
+
+/// What a manager's worker leaves.
+#[derive(Drop)]
+pub(crate) struct Carried {
+    pub(crate) number: u32,
+    // Of what is settled: the tables that the manager was opened with. It has no bytes: only proofs
+    // read it.
+    pub(crate) done: Snapshot<DoneWorker>,
+    pub(crate) manager: Manager,
+    pub(crate) journal: Vec<(Request, Code)>,
+}
+
+impl Model for Carried {
+    ghost use Rattle.std.specs.Coded.{codes};
+    ghost use Rattle.xa_tables.specs.Managers.{tables_code};
+    ghost use Rattle.xa_tables.specs.History.{IsOpening};
+    ghost use Rattle.xa_worker.specs.Journal.{Follows};
+    ghost use Rattle.xa_switch.specs.Settling.{ManagerPart};
+
+    ghost Value = { ManagerPart };
+
+    ghost coded = { Prim.hlevel (codes, tables_code) };
+
+    ghost view = { λ c. record { number = c.number; first = c.done.value.first; journal = c.journal.items } };
+
+    ghost invariant = { λ c. IsOpening c.done.value.first × Follows c.done.value.first c.journal.items c.manager.tables };
+}
+
+impl Carried {
+    fn number(&self) -> u32
+        ensures { result ≡ self.now.number }
+    {
+        self.number
+    }
+
+    // The value of a key after the journal.
+    fn value(&self, key: &Key) -> Option<u64>
+        ensures { option_map pos result ≡ value_after key.now (requests self.now.journal) self.now.first }
+    {
+        value_is_sum();
+        self.manager.value(key)
+    }
+}
+
+/// A settled opening: for every thread and every manager, what was sent, what was carried out and what
+/// was collected agree.
+#[derive(Drop)]
+pub struct Settled {
+    pub(crate) threads: Vec<Thread>,
+    pub(crate) managers: Vec<Carried>,
+}
+
+impl Model for Settled {
+    ghost use Rattle.std.specs.Coded.{codes};
+    ghost use Rattle.xa_tables.specs.Managers.{tables_code};
+    ghost use Rattle.xa_switch.specs.Settling.{Settling, IsSettled};
+
+    ghost Value = { Settling };
+
+    ghost coded = { Prim.hlevel (codes, tables_code) };
+
+    ghost view = { λ s. record { threads = s.threads.items; managers = s.managers.items } };
+
+    ghost invariant = { λ s. IsSettled (record { threads = s.threads.items; managers = s.managers.items }) };
+}
+
+fn find_account(threads: &[Thread], thread: u32) -> Option<&Thread>
+    ensures { option_map (λ t. t.now) result ≡ find_thread thread threads.now }
+{
+    threads.iter().find(|part| part.number() == thread)
+}
+
+fn find_carried(managers: &[Carried], manager: u32) -> Option<&Carried>
+    ensures { option_map (λ m. m.now) result ≡ find_manager manager managers.now }
+{
+    managers.iter().find(|part| part.number() == manager)
+}
+
+fn accounts(threads: &[Thread], thread: u32) -> &[Account]
+    ensures { result.now ≡ accounts_in (find_thread thread threads.now) }
+{
+    match find_account(threads, thread) {
+        Some(part) => &part.accounts,
+        None => &[],
+    }
+}
+
+// The requests that were sent to the manager.
+fn sent_in(accounts: &[Account], manager: u32) -> &[Op]
+    ensures { result.now ≡ sent_to accounts.now manager }
+{
+    if manager == 0 || manager as usize > accounts.len() {
+        return &[];
+    }
+    accounts[manager as usize - 1].sent()
+}
+
+fn collected_in(accounts: &[Account], manager: u32) -> &[(u32, Code)]
+    ensures { result.now ≡ collected_from accounts.now manager }
+{
+    if manager == 0 || manager as usize > accounts.len() {
+        return &[];
+    }
+    accounts[manager as usize - 1].collected()
+}
+
+impl Settled {
+    /// What the manager took, in order, each request with its code. Nothing for no manager.
+    pub fn journal(&self, manager: u32) -> &[(Request, Code)]
+        ensures journal { result.now ≡ journal self.now manager }
+        ensures settled { IsSettled self.now }
+    {
+        match find_carried(&self.managers, manager) {
+            Some(part) => &part.journal,
+            None => &[],
+        }
+    }
+
+    /// What the thread sent to the manager, in order: the request at place n has number n. Nothing
+    /// where one of them isn't there.
+    pub fn sent(&self, thread: u32, manager: u32) -> &[Op]
+        ensures sent { result.now ≡ sent self.now thread manager }
+        ensures settled { IsSettled self.now }
+    {
+        sent_in(accounts(&self.threads, thread), manager)
+    }
+
+    /// What the thread collected from the manager, in the order of collection: each request's number
+    /// with its code. Nothing where one of them isn't there.
+    pub fn collected(&self, thread: u32, manager: u32) -> &[(u32, Code)]
+        ensures collected { result.now ≡ collected self.now thread manager }
+        ensures settled { IsSettled self.now }
+    {
+        collected_in(accounts(&self.threads, thread), manager)
+    }
+
+    /// The committed value of a key at the manager: what it was declared with, and each addition in the
+    /// journal whose branch commits behind it. None for no manager, or for a key that wasn't declared
+    /// there.
+    pub fn value(&self, manager: u32, key: &Key) -> Option<u64>
+        ensures value { option_map pos result ≡ value self.now manager key.now }
+        ensures settled { IsSettled self.now }
+    {
+        match find_carried(&self.managers, manager) {
+            Some(part) => part.value(key),
+            None => None,
+        }
+    }
+}
