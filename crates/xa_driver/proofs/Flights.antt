@@ -7,6 +7,7 @@ use Rattle.xa_words.specs.declared.code.Code.{Code}
 use Rattle.xa_words.specs.declared.request.Op.{Op}
 use Rattle.xa_desk.specs.AccountView.{AccountView, learnt_shut, is_collected, with_sent, with_collected}
 use Rattle.xa_desk.specs.DeskView.{DeskView, TicketView, IsKnown, Owns, account, outstanding}
+use Rattle.xa_switch.specs.Seats.{DeskSeat}
 use Rattle.xa_driver.specs.declared.ask.Ask.{Ask}
 use Rattle.xa_driver.specs.Asks.{sent_by, AskTrace, EachAsk, among_asks, AreRising, CanAsk, AllCanAsk, KeepsDesk, IsUnsent, unsent_code, Begins, Ends, HasBegun, EachBegan, HaveBegun}
 use Rattle.xa_driver.proofs.Accounts.{open_count}
@@ -66,8 +67,8 @@ can_at (a ∷ js) k bs at c = can_at js k bs at c.1
 
 owns_stays : (t : TicketView) (d d' : DeskView) → account d'.accounts t.operation.manager ≡ account d.accounts t.operation.manager → length d'.accounts ≡ length d.accounts → KeepsDesk d d' → Owns d t → Owns d' t
 owns_stays t d d' same managers keeps o = record {
-  opening = o.opening ∙ sym keeps.opening;
-  thread = o.thread ∙ sym keeps.thread;
+  opening = o.opening ∙ sym (ap (λ (s : DeskSeat). s.lane.opening) keeps.seat);
+  thread = o.thread ∙ sym (ap (λ (s : DeskSeat). s.thread) keeps.seat);
   out = record {
     known = known_by d.accounts d'.accounts t.operation.manager managers o.out.known;
     sent = subst (λ (a : AccountView). t.operation.number < length a.sent) (sym same) o.out.sent;

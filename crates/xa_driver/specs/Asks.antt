@@ -5,8 +5,9 @@ use Rattle.xa_words.specs.declared.code.Code.{Code}
 use Rattle.xa_words.specs.declared.code.Code.TheVariants.{RmFail}
 use Rattle.xa_words.specs.declared.request.Op.{Op}
 use Rattle.xa_desk.specs.AccountView.{AccountView, learnt_shut, with_sent, with_collected}
-use Rattle.xa_desk.specs.DeskView.{DeskView, TicketView, IsKnown, Owns, account, after_sent, next_operation, opening_of, ticket_of}
+use Rattle.xa_desk.specs.DeskView.{DeskView, TicketView, IsKnown, Owns, account, after_sent, next_operation, ticket_of}
 use Rattle.xa_desk.specs.Looks.{Collects}
+use Rattle.xa_switch.specs.Seats.{seat_of_desk}
 use Rattle.xa_driver.specs.declared.ask.Ask.{Ask}
 
 -- a request is sent where its manager isn't learnt to be shut
@@ -75,10 +76,9 @@ abbrev pub AllCanAsk : List Ask → List AccountView → Type 0
 AllCanAsk [] at = Unit {0}
 AllCanAsk (k ∷ ks) at = CanAsk at k.manager × AllCanAsk ks at
 
--- what a desk keeps whatever it sends and collects: whose it is, its handles, and what is kept
+-- what a desk keeps whatever it sends and collects: its seat in its opening, its handles, and what is kept
 pub record KeepsDesk (old new : DeskView) : Type 0 where
-  pub thread : new.thread ≡ old.thread
-  pub opening : opening_of new ≡ opening_of old
+  pub seat : seat_of_desk new ≡ seat_of_desk old
   pub handles : new.handles ≡ old.handles
   pub kept : new.kept ≡ old.kept
 

@@ -7,6 +7,7 @@ ghost use Rattle.xa_driver.specs.Asks.{CanAsk, AllCanAsk, AreRising, Asks, SameA
 use std::snapshot::Snapshot;
 use std::sync::Wait;
 use xa_desk::{Desk, Idle, Ticket};
+use xa_switch::laws::operations_keep_the_seat;
 use xa_words::{Code, Op, Xid};
 
 /// What a manager is asked for a branch, if anything, the code that it answered, and the branch's vote.
@@ -41,6 +42,7 @@ fn submit_waiting<R: Wait, I: Idle>(
     if desk.learnt_shut(manager) {
         return None;
     }
+    operations_keep_the_seat();
     for _ in rt.forever() {
         if let Ok(ticket) = desk.submit(rt, manager, *op) {
             return Some(ticket);

@@ -1,5 +1,5 @@
--- A line that the grammar reads leaves a script: each manager can be opened with its keys, and each step is of a thread.
-use Rattle.std.specs.Prelude.{◌≡◌, ℕ, ◌<◌, ◌≤◌, Bool, true, false, not, cond, ◌&&◌, ◌||◌, ◌==◌, nat_le, nat_lt, if◌then◌else◌, List, [], ◌∷◌, ◌++◌, length, map, filter, Option, None, Some, unwrap_or, All, Result, Ok, Err, refl}
+-- A line that the grammar reads leaves a script: each manager can be opened with its keys, and each step is of a thread or a manager that there is.
+use Rattle.std.specs.Prelude.{◌≡◌, ℕ, zero, suc, ◌-◌, ◌<◌, ◌≤◌, Bool, true, false, not, cond, ◌&&◌, ◌||◌, ◌==◌, nat_le, nat_lt, if◌then◌else◌, List, [], ◌∷◌, ◌++◌, length, map, filter, Option, None, Some, unwrap_or, get_or, slice_set, IfSome, All, Result, Ok, Err, refl}
 use Rattle.std.proofs.Common.{sym, ap, ◌∙◌, subst, arith}
 use Rattle.std.specs.List.{list_all, list_any, slice_index_or}
 use Rattle.std.specs.Option.{ok_or}
@@ -17,8 +17,11 @@ use Rattle.xa_grammar.specs.declared.fault.Reason.{Reason}
 use Rattle.xa_grammar.specs.declared.fault.Reason.TheVariants.{KeyTwice, TooManyKeys, OutOfRange, BadNumber, TooManyLines, LineTooLong, BadByte}
 use Rattle.xa_grammar.specs.declared.script.Declared.{Declared}
 use Rattle.xa_grammar.specs.declared.script.Called.{Called}
+use Rattle.xa_grammar.specs.declared.script.CommitAll.{CommitAll}
+use Rattle.xa_grammar.specs.declared.script.Task.{Task}
+use Rattle.xa_grammar.specs.declared.script.Task.TheVariants as task
 use Rattle.xa_grammar.specs.declared.script.Step.{Step}
-use Rattle.xa_grammar.specs.declared.script.Step.TheVariants.{Call, Turn}
+use Rattle.xa_grammar.specs.declared.script.Step.TheVariants as step
 use Rattle.xa_grammar.specs.declared.script.Count.{Count}
 use Rattle.xa_grammar.specs.declared.script.Count.TheVariants.{Threads, Managers, Handles, Queue, Requests}
 use Rattle.xa_grammar.specs.declared.line.Head.{Head}
@@ -26,10 +29,13 @@ use Rattle.xa_grammar.specs.declared.line.Head.TheVariants as head
 use Rattle.xa_grammar.specs.declared.line.Item.{Item}
 use Rattle.xa_grammar.specs.declared.line.Item.TheVariants as item
 use Rattle.xa_grammar.specs.Text.{is_script_byte, words_of}
-use Rattle.xa_grammar.specs.Fields.{◌>>=◌, Word, word_at, end_of, number_of, number_in, number_at, key_at, flags_onto}
-use Rattle.xa_grammar.specs.Content.{Content, IsScript, IsOfManager, IsOfScript, threads_of, managers_of, accounts_of, with_count, with_key, with_sync, with_step}
-use Rattle.xa_grammar.specs.Settings.{before_actions, count_of, not_set, limit_of, setting_of, sync_of, has_key, key_count, declared_of}
-use Rattle.xa_grammar.specs.Actions.{verb_of, action_at, called_of, turn_of}
+use Rattle.xa_grammar.specs.Fields.{◌>>=◌, Word, word_at, end_of, number_of, number_in, number_at, key_at, tran_at, flags_onto}
+use Rattle.xa_grammar.specs.Content.{Content, IsScript, IsUpTo, IsOfManager, IsOfLog, IsOfScript, threads_of, managers_of, accounts_of, failing_append, thread_of, with_count, with_key, with_sync, with_failing, with_step}
+use Rattle.xa_grammar.specs.Settings.{before_actions, count_of, not_set, limit_of, setting_of, sync_of, logfail_of, has_key, key_count, declared_of}
+use Rattle.xa_grammar.specs.Commits.{branches_at, commit_of}
+use Rattle.xa_grammar.specs.declared.action.Verb.{Verb}
+use Rattle.xa_grammar.specs.declared.action.Verb.TheVariants as verb
+use Rattle.xa_grammar.specs.Actions.{verb_of, action_at, called_of, task_by, task_of_line, turn_of}
 use Rattle.xa_grammar.specs.Grammar.{head_of, item_by, item_of, line_of, with_item}
 
 -- ---- reading without a fault
@@ -113,6 +119,7 @@ key_kept s d of new few small is =
                 (new_account m d.key s.keys (ap (λ n. has_key n d.key s.keys) (sym same) ∙ new))
             | false ↦ λ t. ap are_accounts (append-nil (accounts_of m s.keys)) ∙ is.accounts m
           ] refl;
+      of_logs = is.of_logs;
       of_steps = is.of_steps;
     }
 
@@ -126,6 +133,7 @@ step_kept s p of is =
       requests = is.requests;
       of_managers = is.of_managers;
       accounts = is.accounts;
+      of_logs = is.of_logs;
       of_steps = All-append (IsOfScript s) s.steps (p ∷ []) is.of_steps (just (IsOfScript s) p of);
     }
 
@@ -139,12 +147,50 @@ sync_kept s m is =
       requests = is.requests;
       of_managers = is.of_managers;
       accounts = is.accounts;
+      of_logs = is.of_logs;
+      of_steps = is.of_steps;
+    }
+
+-- one place is written, the others are as they were
+after_set : (P : Option ℕ → Type 0) (xs : List (Option ℕ)) (i j : ℕ) (x : Option ℕ) → P (get_or xs j None) → (i ≡ j → P x) → P (get_or (slice_set xs i x) j None)
+after_set P [] i j x old new = old
+after_set P (y ∷ xs) zero zero x old new = new refl
+after_set P (y ∷ xs) zero (suc j) x old new = old
+after_set P (y ∷ xs) (suc i) zero x old new = old
+after_set P (y ∷ xs) (suc i) (suc j) x old new = after_set P xs i j x old (λ e. new (ap suc e))
+
+log_kept : (s : Content) (t k u : ℕ) → IsUpTo (threads_of s) t → IsUpTo 1000000 k → IsOfLog s u → IsOfLog (with_failing t k s) u
+log_kept s t k u of small old =
+    elim (nat_lt 0 u) as (λ b. nat_lt 0 u ≡ b → IfSome (if b then get_or s.failing (u - 1) None else None) (λ k. IsUpTo 1000000 k × IsUpTo (threads_of s) u) → IfSome (if b then get_or (slice_set s.failing (t - 1) (Some k)) (u - 1) None else None) (λ k. IsUpTo 1000000 k × IsUpTo (threads_of s) u)) [
+      | true ↦ λ lt was. after_set (λ o. IfSome o (λ k. IsUpTo 1000000 k × IsUpTo (threads_of s) u)) s.failing (t - 1) (u - 1) (Some k) was (λ e. (small, let first : 0 < u = grind (arith, lt) in let same : t ≡ u = omega (arith, of.0, e, first) in subst (IsUpTo (threads_of s)) same of))
+      | false ↦ λ lt was. was
+    ] refl old
+
+failing_kept : (s : Content) (t k : ℕ) → IsUpTo (threads_of s) t → IsUpTo 1000000 k → IsScript s → IsScript (with_failing t k s)
+failing_kept s t k of small is =
+    record {
+      threads = is.threads;
+      managers = is.managers;
+      handles = is.handles;
+      queue = is.queue;
+      requests = is.requests;
+      of_managers = is.of_managers;
+      accounts = is.accounts;
+      of_logs = λ u. log_kept s t k u of small (is.of_logs u);
       of_steps = is.of_steps;
     }
 
 -- the first count of managers has the keys that were declared before it, of the one manager that there was
 more_managers : (s : Content) (n : ℕ) → s.settings.managers ≡ None → 1 ≤ n → (d : Declared) → IsOfManager s d → IsOfManager (with_count Managers n s) d
 more_managers s n unset low d of = (of.0, let one : managers_of s ≡ 1 = ap (λ (c : Option ℕ). unwrap_or c 1) unset in let most : d.manager ≤ managers_of s = of.1 in omega arith)
+
+-- the first count of threads has the log of the one thread that there was
+more_threads : (s : Content) (n : ℕ) → s.settings.threads ≡ None → 1 ≤ n → (u : ℕ) → IsOfLog s u → IsOfLog (with_count Threads n s) u
+more_threads s n unset low u of =
+    elim (failing_append s u) as (λ o. IfSome o (λ k. IsUpTo 1000000 k × IsUpTo (threads_of s) u) → IfSome o (λ k. IsUpTo 1000000 k × IsUpTo n u)) [
+      | Some k ↦ λ h. (h.0, (h.1.0, let one : threads_of s ≡ 1 = ap (λ (c : Option ℕ). unwrap_or c 1) unset in let most : u ≤ threads_of s = h.1.1 in omega arith))
+      | None ↦ λ h. h
+    ] of
 
 count_kept : (s : Content) (c : Count) (n : ℕ) → s.steps ≡ [] → count_of c s.settings ≡ None → 1 ≤ n → n ≤ limit_of c → IsScript s → IsScript (with_count c n s)
 count_kept s Threads n none unset low high is =
@@ -156,6 +202,7 @@ count_kept s Threads n none unset low high is =
       requests = is.requests;
       of_managers = is.of_managers;
       accounts = is.accounts;
+      of_logs = λ u. more_threads s n unset low u (is.of_logs u);
       of_steps = subst (λ ps. All (IsOfScript (with_count Threads n s)) ps) (sym none) (All-nil (IsOfScript (with_count Threads n s)));
     }
 count_kept s Managers n none unset low high is =
@@ -167,6 +214,7 @@ count_kept s Managers n none unset low high is =
       requests = is.requests;
       of_managers = λ i d l. more_managers s n unset low (slice_index_or s.keys i d) (is.of_managers i d l);
       accounts = is.accounts;
+      of_logs = is.of_logs;
       of_steps = subst (λ ps. All (IsOfScript (with_count Managers n s)) ps) (sym none) (All-nil (IsOfScript (with_count Managers n s)));
     }
 count_kept s Handles n none unset low high is =
@@ -178,6 +226,7 @@ count_kept s Handles n none unset low high is =
       requests = is.requests;
       of_managers = is.of_managers;
       accounts = is.accounts;
+      of_logs = is.of_logs;
       of_steps = is.of_steps;
     }
 count_kept s Queue n none unset low high is =
@@ -189,6 +238,7 @@ count_kept s Queue n none unset low high is =
       requests = is.requests;
       of_managers = is.of_managers;
       accounts = is.accounts;
+      of_logs = is.of_logs;
       of_steps = is.of_steps;
     }
 count_kept s Requests n none unset low high is =
@@ -200,6 +250,7 @@ count_kept s Requests n none unset low high is =
       requests = (low, high);
       of_managers = is.of_managers;
       accounts = is.accounts;
+      of_logs = is.of_logs;
       of_steps = is.of_steps;
     }
 
@@ -240,6 +291,17 @@ setting_kept s c ws n e =
     subst (λ (z : ℕ). IsScript s → IsScript (with_count c z s)) same
     (count_kept s c number.0.0 (no_steps s.steps first.0 first.1.0) (unset_yet (count_of c s.settings) new.0 new.1.0) within.0 within.1)
 
+logfail_kept : (s : Content) (ws : List Word) (x : ℕ × ℕ) → logfail_of s ws ≡ Ok x → IsScript s → IsScript (with_failing x.0 x.1 s)
+unfolding logfail_of
+logfail_kept s ws x e =
+    let first = and_then (before_actions s.steps) _ x e in
+    let t = and_then (number_at 1 (threads_of s) ws) _ x first.1.1 in
+    let k = and_then (number_at 1 1000000 t.0.1) _ x t.1.1 in
+    let last = and_then (end_of k.0.1) _ x k.1.1 in
+    let same : (t.0.0, k.0.0) ≡ x = ok_is (t.0.0, k.0.0) x last.1.1 in
+    subst (λ (z : ℕ × ℕ). IsScript s → IsScript (with_failing z.0 z.1 s)) same
+    (failing_kept s t.0.0 k.0.0 (number_is 1 (threads_of s) ws t.0 t.1.0) (number_is 1 1000000 t.0.1 k.0 k.1.0))
+
 declared_kept : (s : Content) (ws : List Word) (d : Declared) → declared_of s ws ≡ Ok d → IsScript s → IsScript (with_key d s)
 unfolding declared_of
 declared_kept s ws d e =
@@ -255,27 +317,42 @@ declared_kept s ws d e =
     subst (λ (z : Declared). IsScript s → IsScript (with_key z s)) same
     (key_kept s made (number_is 1 (managers_of s) ws m.0 m.1.0) new.0 (grind (arith, few.0)) (number_is 0 1000000000000 k.0.1 v.0 v.1.0).1)
 
-called_is : (s : Content) (line : ℕ) (w : Word) (ws : List Word) (p : Called) → called_of s line w ws ≡ Ok p → IsOfScript s (Call p)
-unfolding called_of
-called_is s line w ws p e =
+of_thread : (v : Verb) (s : Content) (line t : ℕ) (ws : List Word) (p : Task) → task_by v s line t ws ≡ Ok p → thread_of p ≡ t
+unfolding task_by called_of commit_of
+of_thread (verb.Call v) s line t ws p e =
+    let c = and_then (called_of line t v ws) _ p e in
+    let m = and_then (number_at 0 4294967295 ws) _ c.0 c.1.0 in
+    let a = and_then (action_at v m.0.1) _ c.0 m.1.1 in
+    let f = and_then (flags_onto 0 a.0.1) _ c.0 a.1.1 in
+    let made : Called = record { line = line; thread = t; manager = m.0.0; action = a.0.0; flags = f.0 } in
+    let same : made ≡ c.0 = ok_is made c.0 f.1.1 in
+    let is : task.Call c.0 ≡ p = ok_is (task.Call c.0) p c.1.1 in
+    sym (ap (λ (z : Called). z.thread) {x = made} {y = c.0} same ∙ ap thread_of is)
+of_thread verb.CommitAll s line t ws p e =
+    let c = and_then (commit_of s line t ws) _ p e in
+    let g = and_then (tran_at ws) _ c.0 c.1.0 in
+    let at = and_then (branches_at (managers_of s) g.0.1) _ c.0 g.1.1 in
+    let made : CommitAll = record { line = line; thread = t; tran = g.0.0; managers = at.0 } in
+    let same : made ≡ c.0 = ok_is made c.0 at.1.1 in
+    let is : task.CommitAll c.0 ≡ p = ok_is (task.CommitAll c.0) p c.1.1 in
+    sym (ap (λ (z : CommitAll). z.thread) {x = made} {y = c.0} same ∙ ap thread_of is)
+
+task_is : (s : Content) (line : ℕ) (w : Word) (ws : List Word) (p : Task) → task_of_line s line w ws ≡ Ok p → IsOfScript s (step.Task p)
+unfolding task_of_line
+task_is s line w ws p e =
     let t = and_then (number_in 1 (threads_of s) w) _ p e in
     let v = and_then (word_at ws) _ p t.1.1 in
     let verb = and_then (ok_or (verb_of v.0.0) _) _ p v.1.1 in
-    let m = and_then (number_at 0 4294967295 v.0.1) _ p verb.1.1 in
-    let a = and_then (action_at verb.0 m.0.1) _ p m.1.1 in
-    let f = and_then (flags_onto 0 a.0.1) _ p a.1.1 in
-    let made : Called = record { line = line; thread = t.0; manager = m.0.0; action = a.0.0; flags = f.0 } in
-    let same : made ≡ p = ok_is made p f.1.1 in
-    subst (λ (z : Called). IsOfScript s (Call z)) same (in_range 1 (threads_of s) w t.0 t.1.0)
+    subst (IsUpTo (threads_of s)) (sym (of_thread verb.0 s line t.0 v.0.1 p verb.1.1)) (in_range 1 (threads_of s) w t.0 t.1.0)
 
-turn_is : (mode : Bool) (s : Content) (line : ℕ) (ws : List Word) (m : ℕ) → turn_of mode s ws ≡ Ok m → IsOfScript s (Turn line m)
+turn_is : (mode : Bool) (s : Content) (line : ℕ) (ws : List Word) (m : ℕ) → turn_of mode s ws ≡ Ok m → IsOfScript s (step.Turn line m)
 unfolding turn_of
 turn_is true s line ws m e = let never : ⊥ = cc in absurd never
 turn_is false s line ws m e =
     let n = and_then (number_at 1 (managers_of s) ws) _ m e in
     let last = and_then (end_of n.0.1) _ m n.1.1 in
     let same : n.0.0 ≡ m = ok_is n.0.0 m last.1.1 in
-    subst (λ (z : ℕ). IsOfScript s (Turn line z)) same (number_is 1 (managers_of s) ws n.0 n.1.0)
+    subst (λ (z : ℕ). IsOfScript s (step.Turn line z)) same (number_is 1 (managers_of s) ws n.0 n.1.0)
 
 item_by_kept : (h : Option Head) (mode : Bool) (s : Content) (n : ℕ) (w : Word) (ws : List Word) (i : Item) → item_by h mode s n w ws ≡ Ok i → IsScript s → IsScript (with_item i s)
 unfolding item_by
@@ -289,18 +366,22 @@ item_by_kept (Some head.Sync) mode s n w ws i e is =
     let m = and_then (sync_of s ws) (λ m. Ok (item.Sync m)) i e in
     let same : item.Sync m.0 ≡ i = ok_is (item.Sync m.0) i m.1.1 in
     subst (λ (z : Item). IsScript (with_item z s)) same (sync_kept s m.0 is)
+item_by_kept (Some head.LogFail) mode s n w ws i e is =
+    let x = and_then (logfail_of s ws) (λ x. Ok (item.LogFail x.0 x.1)) i e in
+    let same : item.LogFail x.0.0 x.0.1 ≡ i = ok_is (item.LogFail x.0.0 x.0.1) i x.1.1 in
+    subst (λ (z : Item). IsScript (with_item z s)) same (logfail_kept s ws x.0 x.1.0 is)
 item_by_kept (Some head.Key) mode s n w ws i e is =
     let d = and_then (declared_of s ws) (λ d. Ok (item.Key d)) i e in
     let same : item.Key d.0 ≡ i = ok_is (item.Key d.0) i d.1.1 in
     subst (λ (z : Item). IsScript (with_item z s)) same (declared_kept s ws d.0 d.1.0 is)
 item_by_kept (Some head.Turn) mode s n w ws i e is =
-    let m = and_then (turn_of mode s ws) (λ m. Ok (item.Step (Turn n m))) i e in
-    let same : item.Step (Turn n m.0) ≡ i = ok_is (item.Step (Turn n m.0)) i m.1.1 in
-    subst (λ (z : Item). IsScript (with_item z s)) same (step_kept s (Turn n m.0) (turn_is mode s n ws m.0 m.1.0) is)
+    let m = and_then (turn_of mode s ws) (λ m. Ok (item.Step (step.Turn n m))) i e in
+    let same : item.Step (step.Turn n m.0) ≡ i = ok_is (item.Step (step.Turn n m.0)) i m.1.1 in
+    subst (λ (z : Item). IsScript (with_item z s)) same (step_kept s (step.Turn n m.0) (turn_is mode s n ws m.0 m.1.0) is)
 item_by_kept (Some head.Thread) mode s n w ws i e is =
-    let p = and_then (called_of s n w ws) (λ p. Ok (item.Step (Call p))) i e in
-    let same : item.Step (Call p.0) ≡ i = ok_is (item.Step (Call p.0)) i p.1.1 in
-    subst (λ (z : Item). IsScript (with_item z s)) same (step_kept s (Call p.0) (called_is s n w ws p.0 p.1.0) is)
+    let p = and_then (task_of_line s n w ws) (λ p. Ok (item.Step (step.Task p))) i e in
+    let same : item.Step (step.Task p.0) ≡ i = ok_is (item.Step (step.Task p.0)) i p.1.1 in
+    subst (λ (z : Item). IsScript (with_item z s)) same (step_kept s (step.Task p.0) (task_is s n w ws p.0 p.1.0) is)
 
 item_kept : (mode : Bool) (s : Content) (n : ℕ) (ws : List Word) (i : Item) → item_of mode s n ws ≡ Ok i → IsScript s → IsScript (with_item i s)
 item_kept mode s n [] i e is = let same : item.Nothing ≡ i = cc in subst (λ (z : Item). IsScript (with_item z s)) same is

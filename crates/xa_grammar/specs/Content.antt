@@ -1,14 +1,15 @@
 -- A script as contracts see it: its settings, the keys that it declares and the steps of its threads, in the order of its lines.
-use Rattle.std.specs.Prelude.{◌≡◌, ℕ, ◌≤◌, ◌==◌, Bool, not, true, if◌then◌else◌, All, Option, Some, None, unwrap_or, List, [], ◌∷◌, ◌++◌, map, filter, filter_map}
+use Rattle.std.specs.Prelude.{◌≡◌, ℕ, ◌≤◌, ◌-◌, ◌==◌, nat_lt, Bool, not, true, if◌then◌else◌, All, IfSome, Option, Some, None, unwrap_or, List, [], ◌∷◌, ◌++◌, map, filter, filter_map, get_or, slice_set, replicate}
 use Rattle.std.specs.List.{list_any}
 use Rattle.xa_tables.specs.Accounts.{are_accounts}
 use Rattle.xa_grammar.specs.declared.script.Count.{Count}
 use Rattle.xa_grammar.specs.declared.script.Count.TheVariants.{Threads, Managers, Handles, Queue, Requests}
 use Rattle.xa_grammar.specs.declared.script.Settings.{Settings}
 use Rattle.xa_grammar.specs.declared.script.Declared.{Declared}
-use Rattle.xa_grammar.specs.declared.script.Called.{Called}
+use Rattle.xa_grammar.specs.declared.script.Task.{Task}
+use Rattle.xa_grammar.specs.declared.script.Task.TheVariants as task
 use Rattle.xa_grammar.specs.declared.script.Step.{Step}
-use Rattle.xa_grammar.specs.declared.script.Step.TheVariants.{Call, Turn}
+use Rattle.xa_grammar.specs.declared.script.Step.TheVariants as step
 
 -- ---- what a script says
 
@@ -16,6 +17,8 @@ pub record Content : Type 0 where
   pub settings : Settings
   pub keys : List Declared
   pub syncs : List ℕ
+  -- Which append of a thread's log fails, at place t - 1 of thread t.
+  pub failing : List (Option ℕ)
   pub steps : List Step
 
 -- How many threads there are, 1 where no line sets it.
@@ -46,20 +49,29 @@ accounts_of m keys = map (λ d. (d.key, d.value)) (filter (λ d. d.manager == m)
 abbrev pub carries_async : Content → ℕ → Bool
 carries_async s m = not (list_any (λ n. n == m) s.syncs)
 
--- The step where it is a call of thread t.
-abbrev pub call_of : ℕ → Step → Option Called
-call_of t (Call p) = if p.thread == t then Some p else None
-call_of t (Turn line m) = None
+-- Which append of thread t's log fails, if one does.
+abbrev pub failing_append : Content → ℕ → Option ℕ
+failing_append s t = if nat_lt 0 t then get_or s.failing (t - 1) None else None
 
--- The calls of thread t, in the order of their lines.
-abbrev pub calls_of : ℕ → List Step → List Called
-calls_of t steps = filter_map (call_of t) steps
+-- The thread that does a task.
+abbrev pub thread_of : Task → ℕ
+thread_of (task.Call p) = p.thread
+thread_of (task.CommitAll c) = c.thread
+
+-- The step where it is a task of thread t.
+abbrev pub task_of : ℕ → Step → Option Task
+task_of t (step.Task p) = if thread_of p == t then Some p else None
+task_of t (step.Turn line m) = None
+
+-- The tasks of thread t, in the order of their lines.
+abbrev pub tasks_of : ℕ → List Step → List Task
+tasks_of t steps = filter_map (task_of t) steps
 
 -- ---- what a line adds to it
 
 -- Nothing is set or declared, and nothing is to be done.
 abbrev pub nothing : Content
-nothing = record { settings = record { threads = None; managers = None; handles = None; queue = None; requests = None }; keys = []; syncs = []; steps = [] }
+nothing = record { settings = record { threads = None; managers = None; handles = None; queue = None; requests = None }; keys = []; syncs = []; failing = replicate 8 None; steps = [] }
 
 -- One more count is set.
 abbrev pub with_setting : Count → ℕ → Settings → Settings
@@ -80,9 +92,13 @@ with_key declared s = record s { keys = s.keys ++ declared ∷ [] }
 abbrev pub with_sync : ℕ → Content → Content
 with_sync m s = record s { syncs = s.syncs ++ m ∷ [] }
 
+-- From now on the k-th append of thread t's log fails, and no other.
+abbrev pub with_failing : ℕ → ℕ → Content → Content
+with_failing t k s = record s { failing = slice_set s.failing (t - 1) (Some k) }
+
 -- One more step is to be done.
 abbrev pub with_step : Step → Content → Content
-with_step step s = record s { steps = s.steps ++ step ∷ [] }
+with_step p s = record s { steps = s.steps ++ p ∷ [] }
 
 -- ---- what holds of it
 
@@ -94,15 +110,19 @@ IsOfManager s d = (1 ≤ d.manager) × (d.manager ≤ managers_of s)
 abbrev pub IsUpTo : ℕ → ℕ → Type 0
 IsUpTo limit n = (1 ≤ n) × (n ≤ limit)
 
--- With so many threads and managers, a call is of a thread that there is, and a turn of a manager that there is.
+-- With so many threads and managers, a task is of a thread that there is, and a turn of a manager that there is.
 abbrev pub Fits : ℕ → ℕ → Step → Type 0
-Fits threads managers (Call p) = IsUpTo threads p.thread
-Fits threads managers (Turn line m) = IsUpTo managers m
+Fits threads managers (step.Task p) = IsUpTo threads (thread_of p)
+Fits threads managers (step.Turn line m) = IsUpTo managers m
 
 abbrev pub IsOfScript : Content → Step → Type 0
 IsOfScript s p = Fits (threads_of s) (managers_of s) p
 
--- What holds of every script: its counts are within the limits, each key is of a manager that there is, each manager can be opened with its keys, and each step is of a thread or a manager that there is.
+-- An append that fails is one of the first 1,000,000 of a log, and the log is of a thread that there is.
+abbrev pub IsOfLog : Content → ℕ → Type 0
+IsOfLog s t = IfSome (failing_append s t) (λ k. IsUpTo 1_000_000 k × IsUpTo (threads_of s) t)
+
+-- What holds of every script: its counts are within the limits, each key is of a manager that there is, each manager can be opened with its keys, appends fail in logs that there are, and each step is of a thread or a manager that there is.
 pub record IsScript (s : Content) : Type 0 where
   pub threads : IsUpTo 8 (threads_of s)
   pub managers : IsUpTo 8 (managers_of s)
@@ -111,4 +131,5 @@ pub record IsScript (s : Content) : Type 0 where
   pub requests : IsUpTo 4096 (requests_of s)
   pub of_managers : All (IsOfManager s) s.keys
   pub accounts : (m : ℕ) → are_accounts (accounts_of m s.keys) ≡ true
+  pub of_logs : (t : ℕ) → IsOfLog s t
   pub of_steps : All (IsOfScript s) s.steps

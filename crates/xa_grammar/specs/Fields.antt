@@ -5,6 +5,7 @@ use Rattle.std.specs.Option.{ok_or, option_map}
 use Rattle.std.specs.Char.{is_ascii_digit, is_ascii_lowercase}
 use Rattle.std.specs.Str.{bytes_eq}
 use Rattle.xa_words.specs.Xid.{XidName}
+use Rattle.xa_words.specs.Tran.{TranName}
 use Rattle.xa_words.specs.Key.{key_of}
 use Rattle.xa_words.specs.Delta.{delta_of}
 use Rattle.xa_words.specs.Flags.{TMASYNC, TMONEPHASE, TMFAIL, TMNOWAIT, TMRESUME, TMSUCCESS, TMSUSPEND, TMMULTIPLE, TMJOIN}
@@ -68,6 +69,14 @@ number_in low high w = do
 unfoldable pub number_at : ℕ → ℕ → List Word → Result (ℕ × List Word) Reason
 number_at low high ws = field (number_in low high) ws
 
+-- Numbers from low to high, up to the end of the line.
+unfoldable pub numbers_to_end : ℕ → ℕ → List Word → Result (List ℕ) Reason
+numbers_to_end low high [] = Ok []
+numbers_to_end low high (w ∷ ws) = do
+  n ← number_in low high w
+  ns ← numbers_to_end low high ws
+  Ok (n ∷ ns)
+
 -- ---- names
 
 -- The bytes of names are a to z and 0 to 9.
@@ -92,6 +101,14 @@ xid_of w =
 -- The next word, as an xid.
 unfoldable pub xid_at : List Word → Result (XidName × List Word) Reason
 xid_at ws = field (λ w. ok_or (xid_of w) BadXid) ws
+
+-- A name stands for the global transaction of format 1 that has it as gtrid.
+abbrev pub tran_of : Word → Option TranName
+tran_of w = if is_name w then Some (record { format = pos 1; gtrid = w }) else None
+
+-- The next word, as a global transaction.
+unfoldable pub tran_at : List Word → Result (TranName × List Word) Reason
+tran_at ws = field (λ w. ok_or (tran_of w) BadXid) ws
 
 -- ---- deltas
 

@@ -14,9 +14,9 @@ use Rattle.xa_grammar.specs.declared.line.Item.{Item}
 use Rattle.xa_grammar.specs.declared.line.Item.TheVariants as item
 use Rattle.xa_grammar.specs.Text.{hash, lines_of, words_of, without_return, is_script_byte}
 use Rattle.xa_grammar.specs.Fields.{◌>>=◌, Word, all_digits}
-use Rattle.xa_grammar.specs.Content.{Content, nothing, with_count, with_key, with_sync, with_step}
-use Rattle.xa_grammar.specs.Settings.{setting_of, sync_of, declared_of}
-use Rattle.xa_grammar.specs.Actions.{called_of, turn_of}
+use Rattle.xa_grammar.specs.Content.{Content, nothing, with_count, with_key, with_sync, with_failing, with_step, IsUpTo}
+use Rattle.xa_grammar.specs.Settings.{setting_of, sync_of, logfail_of, declared_of}
+use Rattle.xa_grammar.specs.Actions.{task_of_line, turn_of}
 
 -- ---- lines
 
@@ -35,6 +35,7 @@ head_of w =
     else if bytes_eq w (codes "queue") then Some (head.Count Queue)
     else if bytes_eq w (codes "requests") then Some (head.Count Requests)
     else if bytes_eq w (codes "sync") then Some head.Sync
+    else if bytes_eq w (codes "logfail") then Some head.LogFail
     else if bytes_eq w (codes "key") then Some head.Key
     else if bytes_eq w (codes "turn") then Some head.Turn
     else if all_digits w then Some head.Thread
@@ -50,6 +51,9 @@ item_by (Some (head.Count count)) mode s n w ws = do
 item_by (Some head.Sync) mode s n w ws = do
   m ← sync_of s ws
   Ok (item.Sync m)
+item_by (Some head.LogFail) mode s n w ws = do
+  x ← logfail_of s ws
+  Ok (item.LogFail x.0 x.1)
 item_by (Some head.Key) mode s n w ws = do
   d ← declared_of s ws
   Ok (item.Key d)
@@ -57,8 +61,8 @@ item_by (Some head.Turn) mode s n w ws = do
   m ← turn_of mode s ws
   Ok (item.Step (steps.Turn n m))
 item_by (Some head.Thread) mode s n w ws = do
-  p ← called_of s n w ws
-  Ok (item.Step (steps.Call p))
+  p ← task_of_line s n w ws
+  Ok (item.Step (steps.Task p))
 
 -- What the words of line n say. Without words it says nothing.
 abbrev pub item_of : Bool → Content → ℕ → List Word → Result Item Reason
@@ -78,8 +82,18 @@ abbrev pub with_item : Item → Content → Content
 with_item item.Nothing s = s
 with_item (item.Count count n) s = with_count count n s
 with_item (item.Sync m) s = with_sync m s
+with_item (item.LogFail t k) s = with_failing t k s
 with_item (item.Key d) s = with_key d s
 with_item (item.Step p) s = with_step p s
+
+-- A log that fails is that of one of eight threads.
+abbrev pub HasPlace : Item → Type 0
+HasPlace item.Nothing = Unit {0}
+HasPlace (item.Count count n) = Unit {0}
+HasPlace (item.Sync m) = Unit {0}
+HasPlace (item.LogFail t k) = IsUpTo 8 t
+HasPlace (item.Key d) = Unit {0}
+HasPlace (item.Step p) = Unit {0}
 
 -- The script with line n, whose carriage return is dropped.
 unfoldable pub after_line : Bool → Content → ℕ → List ℕ → Result Content Reason

@@ -10,7 +10,7 @@ use Rattle.xa_grammar.specs.declared.script.Settings.{Settings}
 use Rattle.xa_grammar.specs.declared.script.Declared.{Declared}
 use Rattle.xa_grammar.specs.declared.script.Step.{Step}
 use Rattle.xa_grammar.specs.Fields.{◌>>=◌, Word, end_of, number_at, key_at}
-use Rattle.xa_grammar.specs.Content.{Content, managers_of}
+use Rattle.xa_grammar.specs.Content.{Content, threads_of, managers_of}
 
 -- Settings stand before the first action.
 abbrev pub before_actions : List Step → Result (Unit {0}) Reason
@@ -55,6 +55,15 @@ sync_of s ws = do
   m ← number_at 1 (managers_of s) ws
   last ← end_of m.1
   Ok m.0
+
+-- logfail T K; T is one of the threads that there are by then, and K at most 1,000,000.
+unfoldable pub logfail_of : Content → List Word → Result (ℕ × ℕ) Reason
+logfail_of s ws = do
+  first ← before_actions s.steps
+  t ← number_at 1 (threads_of s) ws
+  k ← number_at 1 1_000_000 t.1
+  last ← end_of k.1
+  Ok (t.0, k.0)
 
 -- ---- keys
 

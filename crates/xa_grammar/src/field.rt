@@ -2,12 +2,12 @@
 ghost use Rattle.std.specs.Prelude.{◌≡◌, ◌<◌, ◌≤◌, ◌==◌, IfOk, IfSome, length};
 ghost use Rattle.std.specs.List.{list_all, position_or_len};
 ghost use Rattle.xa_grammar.specs.Text.{dot};
-ghost use Rattle.xa_grammar.specs.Fields.{all_digits, number_of, number_in, is_name_byte, is_name, xid_of, signed_number_of, delta_in, flag_of};
+ghost use Rattle.xa_grammar.specs.Fields.{all_digits, number_of, number_in, is_name_byte, is_name, xid_of, tran_of, signed_number_of, delta_in, flag_of};
 
 use crate::fault::Reason;
 use xa_words::{
     Delta, TMASYNC, TMFAIL, TMJOIN, TMMULTIPLE, TMNOWAIT, TMONEPHASE, TMRESUME, TMSUCCESS,
-    TMSUSPEND, Xid,
+    TMSUSPEND, Tran, Xid,
 };
 
 pub(crate) fn all_digits(word: &[u8]) -> bool
@@ -36,7 +36,8 @@ fn number_of(word: &[u8]) -> Option<u64>
 
 pub(crate) fn number_in(low: u64, high: u64, word: &[u8]) -> Result<u64, Reason>
     ensures value { result ≡ number_in low high word.now }
-    ensures in_range { IfOk result (λ n. n ≤ high) }
+    ensures at_least { IfOk result (λ n. low ≤ n) }
+    ensures at_most { IfOk result (λ n. n ≤ high) }
 {
     let number = number_of(word).ok_or(Reason::BadNumber)?;
     if number < low || number > high {
@@ -57,7 +58,7 @@ fn all_name_bytes(bytes: &[u8]) -> bool
     bytes.iter().all(|b| is_name_byte(*b))
 }
 
-// Whether these are 1 to `most` of a to z and 0 to 9.
+// Whether these are 1 to 64 of a to z and 0 to 9.
 fn is_name(bytes: &[u8]) -> bool
     ensures { result ≡ is_name bytes.now }
 {
@@ -90,6 +91,18 @@ pub(crate) fn xid_of(word: &[u8]) -> Option<Xid>
         return None;
     }
     Xid::new(1, gtrid, bqual).ok()
+}
+
+// The global transaction that a name stands for, of format 1.
+pub(crate) fn tran_of(word: &[u8]) -> Option<Tran>
+    ensures { result ≡ tran_of word.now }
+{
+    if !is_name(word) {
+        return None;
+    }
+    // It is that of any branch with this gtrid.
+    let branch = Xid::new(1, word, b"1").ok()?;
+    Some(branch.tran())
 }
 
 // A number that may have a minus before it.

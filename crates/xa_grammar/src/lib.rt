@@ -7,9 +7,11 @@
 #![tactic(auto)]
 
 mod action;
+mod commit;
 mod fault;
 mod field;
 mod line;
+mod named;
 mod read;
 mod script;
 mod setting;
@@ -17,7 +19,7 @@ mod words;
 
 pub use fault::{Reason, ScriptFault};
 pub use read::read_script;
-pub use script::{Action, Called, Declared, Script, Step};
+pub use script::{Action, Called, CommitAll, Declared, Script, Step, Task};
 
 #[cfg(test)]
 mod tests;

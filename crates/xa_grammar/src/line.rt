@@ -1,15 +1,15 @@
 //! What one line says.
-ghost use Rattle.std.specs.Prelude.{◌≡◌, ◌≤◌, OnOk, IfErr, Ok};
+ghost use Rattle.std.specs.Prelude.{◌≡◌, ◌≤◌, OnOk, IfOk, IfErr, Ok};
 ghost use Rattle.std.specs.List.{list_all};
 ghost use Rattle.xa_grammar.specs.Text.{words_of, is_script_byte, without_return};
 ghost use Rattle.xa_grammar.specs.Content.{IsScript};
-ghost use Rattle.xa_grammar.specs.Grammar.{head_of, item_by, item_of, line_of, with_item, after_line, FailsAt};
+ghost use Rattle.xa_grammar.specs.Grammar.{head_of, item_by, item_of, line_of, with_item, HasPlace, after_line, FailsAt};
 
-use crate::action::{called_of, turn_of};
+use crate::action::{task_of_line, turn_of};
 use crate::fault::{Reason, ScriptFault};
 use crate::field::all_digits;
 use crate::script::{Count, Declared, Script, Step};
-use crate::setting::{declared_of, setting_of, sync_of};
+use crate::setting::{declared_of, logfail_of, setting_of, sync_of};
 use crate::words::Words;
 use std::alloc::AllocError;
 
@@ -25,6 +25,7 @@ pub(crate) enum Head {
     Comment,
     Count(Count),
     Sync,
+    LogFail,
     Key,
     Turn,
     Thread,
@@ -36,6 +37,8 @@ pub(crate) enum Item {
     Nothing,
     Count(Count, u32),
     Sync(u32),
+    /// An append of a thread's log fails.
+    LogFail { thread: u32, append: u32 },
     Key(Declared),
     Step(Step),
 }
@@ -57,6 +60,8 @@ fn head_of(word: &[u8]) -> Option<Head>
         Some(Head::Count(Count::Requests))
     } else if word == b"sync".as_slice() {
         Some(Head::Sync)
+    } else if word == b"logfail".as_slice() {
+        Some(Head::LogFail)
     } else if word == b"key".as_slice() {
         Some(Head::Key)
     } else if word == b"turn".as_slice() {
@@ -70,7 +75,8 @@ fn head_of(word: &[u8]) -> Option<Head>
 
 #[tactic(auto, unfolding(crate::specs::Grammar::item_by))]
 fn item_of(script: &Script, threads_mode: bool, number: u32, line: &[u8]) -> Result<Item, Reason>
-    ensures { result ≡ item_of threads_mode script.now number (words_of line.now) }
+    ensures item { result ≡ item_of threads_mode script.now number (words_of line.now) }
+    ensures place { IfOk result HasPlace }
 {
     let mut words = Words::new(line);
     let Some(first) = words.next() else {
@@ -80,14 +86,18 @@ fn item_of(script: &Script, threads_mode: bool, number: u32, line: &[u8]) -> Res
         Head::Comment => Ok(Item::Nothing),
         Head::Count(count) => Ok(Item::Count(count, setting_of(script, count, &mut words)?)),
         Head::Sync => Ok(Item::Sync(sync_of(script, &mut words)?)),
+        Head::LogFail => {
+            let (thread, append) = logfail_of(script, &mut words)?;
+            Ok(Item::LogFail { thread, append })
+        }
         Head::Key => Ok(Item::Key(declared_of(script, &mut words)?)),
         Head::Turn => Ok(Item::Step(Step::Turn {
             line: number,
             manager: turn_of(script, threads_mode, &mut words)?,
         })),
         Head::Thread => {
-            let called = called_of(script, number, first, &mut words)?;
-            Ok(Item::Step(Step::Call(called)))
+            let task = task_of_line(script, number, first, &mut words)?;
+            Ok(Item::Step(Step::Task(task)))
         }
     }
 }
@@ -117,6 +127,7 @@ fn without_return(line: &[u8]) -> &[u8]
 fn line_of(script: &Script, threads_mode: bool, number: u32, line: &[u8]) -> Result<Item, Reason>
     ensures item { result ≡ line_of threads_mode script.now number line.now }
     ensures few { OnOk result (number ≤ 100_000) }
+    ensures place { IfOk result HasPlace }
 {
     if number > MOST_LINES {
         return Err(Reason::TooManyLines);
@@ -131,7 +142,8 @@ fn line_of(script: &Script, threads_mode: bool, number: u32, line: &[u8]) -> Res
 }
 
 fn put(script: &mut Script, item: Item) -> Result<(), AllocError>
-    requires { IsScript script.old → IsScript (with_item item script.old) }
+    requires script { IsScript script.old → IsScript (with_item item script.old) }
+    requires place { HasPlace item }
     ensures { OnOk result (script.new ≡ with_item item script.old) }
 {
     match item {
@@ -141,6 +153,10 @@ fn put(script: &mut Script, item: Item) -> Result<(), AllocError>
             Ok(())
         }
         Item::Sync(manager) => script.add_sync(manager),
+        Item::LogFail { thread, append } => {
+            script.set_failing(thread, append);
+            Ok(())
+        }
         Item::Key(declared) => script.add_key(declared),
         Item::Step(step) => script.add_step(step),
     }

@@ -1,9 +1,9 @@
 //! What a script says.
-ghost use Rattle.std.specs.Prelude.{◌≡◌, ◌≤◌, ℕ, true, All, OnOk};
+ghost use Rattle.std.specs.Prelude.{◌≡◌, ◌≤◌, ℕ, true, All, IfSome, OnOk};
 
 use std::alloc::{AllocError, Global};
 use std::marker::Model;
-use xa_words::{Delta, Key, Xid};
+use xa_words::{Delta, Key, Tran, Xid};
 
 /// A count that a line of its own sets.
 #[derive(Clone, Copy, Debug, PartialEq, Eq)]
@@ -67,10 +67,45 @@ pub struct Called {
     pub flags: u32,
 }
 
+/// A commit of a global transaction in two phases. Its branch at manager M is `G.M`.
+#[derive(Clone, Copy, Debug, PartialEq, Eq)]
+pub struct CommitAll {
+    /// The number of its line, from 1.
+    pub line: u32,
+    /// The thread's number, from 1.
+    pub thread: u32,
+    /// The global transaction, of format 1.
+    pub tran: Tran,
+    /// Where its branches are: place m - 1 for manager m.
+    pub managers: [bool; 8],
+}
+
+/// What a thread does on a line of its own.
+#[derive(Clone, Copy, Debug, PartialEq, Eq)]
+pub enum Task {
+    Call(Called),
+    CommitAll(CommitAll),
+}
+
+impl Task {
+    ghost use Rattle.xa_grammar.specs.Content.{thread_of};
+
+    /// The thread's number, from 1.
+    pub fn thread(&self) -> u32
+        ensures { result ≡ thread_of self.now }
+    {
+        match self {
+            Task::Call(called) => called.thread,
+            Task::CommitAll(commit) => commit.thread,
+        }
+    }
+}
+
 /// What is to be done next.
 #[derive(Clone, Copy, Debug, PartialEq, Eq)]
 pub enum Step {
-    Call(Called),
+    /// A thread does something.
+    Task(Task),
     /// A manager takes one request, if there is one.
     Turn {
         /// The number of its line, from 1.
@@ -87,6 +122,8 @@ pub struct Script {
     keys: Vec<Declared>,
     // The managers that take no asynchronous calls.
     syncs: Vec<u32>,
+    // Which append of a thread's log fails: place t - 1 for thread t.
+    failing: [Option<u32>; 8],
     steps: Vec<Step>,
 }
 
@@ -95,14 +132,14 @@ impl Model for Script {
 
     ghost Value = { Content };
 
-    ghost view = { λ s. record { settings = s.settings; keys = s.keys.items; syncs = s.syncs.items; steps = s.steps.items } };
+    ghost view = { λ s. record { settings = s.settings; keys = s.keys.items; syncs = s.syncs.items; failing = s.failing; steps = s.steps.items } };
 
-    ghost invariant = { λ s. IsScript (record { settings = s.settings; keys = s.keys.items; syncs = s.syncs.items; steps = s.steps.items }) };
+    ghost invariant = { λ s. IsScript (record { settings = s.settings; keys = s.keys.items; syncs = s.syncs.items; failing = s.failing; steps = s.steps.items }) };
 }
 
 impl Script {
     ghost use Rattle.xa_tables.specs.Accounts.{are_accounts};
-    ghost use Rattle.xa_grammar.specs.Content.{accounts_of, IsOfManager, IsOfScript, IsScript, threads_of, managers_of, handles_of, queue_of, requests_of, carries_async, nothing, with_count, with_key, with_sync, with_step};
+    ghost use Rattle.xa_grammar.specs.Content.{accounts_of, IsOfManager, IsOfScript, IsScript, threads_of, managers_of, handles_of, queue_of, requests_of, carries_async, failing_append, nothing, with_count, with_key, with_sync, with_failing, with_step};
 
     pub(crate) fn new(alloc: Global) -> Script
         ensures { result ≡ nothing }
@@ -117,6 +154,7 @@ impl Script {
             },
             keys: Vec::new(alloc),
             syncs: Vec::new(alloc),
+            failing: [None; 8],
             steps: Vec::new(alloc),
         }
     }
@@ -177,7 +215,19 @@ impl Script {
         !self.syncs.contains(&manager)
     }
 
-    /// The calls of all threads and the turns of managers, in the order of their lines.
+    /// Which append of the thread's log fails, from 1, if one does. No log fails of a thread that there isn't.
+    pub fn failing_append(&self, thread: u32) -> Option<u32>
+        ensures append { result ≡ failing_append self.now thread }
+        ensures limits { IfSome result (λ k. (1 ≤ k) × (k ≤ 1_000_000)) }
+        ensures of { IfSome result (λ k. (1 ≤ thread) × (thread ≤ threads_of self.now)) }
+    {
+        match thread {
+            1..=8 => self.failing[thread as usize - 1],
+            _ => None,
+        }
+    }
+
+    /// The tasks of all threads and the turns of managers, in the order of their lines.
     pub fn steps(&self) -> &[Step]
         ensures steps { result.now ≡ self.now.steps }
         ensures of { All (IsOfScript self.now) result.now }
@@ -219,12 +269,20 @@ impl Script {
         Ok(())
     }
 
+    pub(crate) fn set_failing(&mut self, thread: u32, append: u32)
+        requires script { IsScript self.old → IsScript (with_failing thread append self.old) }
+        requires place { (1 ≤ thread) × (thread ≤ 8) }
+        ensures { self.new ≡ with_failing thread append self.old }
+    {
+        self.failing[thread as usize - 1] = Some(append);
+    }
+
     pub(crate) fn add_step(&mut self, step: Step) -> Result<(), AllocError>
         requires { IsScript self.old → IsScript (with_step step self.old) }
         ensures { OnOk result (self.new ≡ with_step step self.old) }
     {
-        // It names `Action` and `Called`: a `push` of a type that only contains them gets no proof.
-        let _named: Option<(Action, Called)> = None;
+        // It names the types within a step: a `push` of a type that only contains them gets no proof.
+        let _named: Option<(Action, Called, CommitAll, Task)> = None;
         self.steps.push(step)?;
         Ok(())
     }

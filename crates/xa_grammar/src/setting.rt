@@ -1,6 +1,6 @@
 //! What a line sets or declares.
-ghost use Rattle.std.specs.Prelude.{◌≡◌};
-ghost use Rattle.xa_grammar.specs.Settings.{before_actions, count_of, not_set, limit_of, setting_of, sync_of, has_key, key_count, new_key, declared_of};
+ghost use Rattle.std.specs.Prelude.{◌≡◌, ◌≤◌, IfOk};
+ghost use Rattle.xa_grammar.specs.Settings.{before_actions, count_of, not_set, limit_of, setting_of, sync_of, logfail_of, has_key, key_count, new_key, declared_of};
 
 use crate::fault::Reason;
 use crate::script::{Count, Declared, Script, Settings, Step};
@@ -12,6 +12,9 @@ const MOST_KEYS: usize = 256;
 
 // What a key may be worth at the opening.
 const MOST_VALUE: u64 = 1_000_000_000_000;
+
+// How late the append of a log may fail.
+const MOST_APPENDS: u64 = 1_000_000;
 
 fn before_actions(steps: &[Step]) -> Result<(), Reason>
     ensures { result ≡ before_actions steps.now }
@@ -75,6 +78,19 @@ pub(crate) fn sync_of(script: &Script, words: &mut Words) -> Result<u32, Reason>
     let manager = words.number(1, u64::from(script.managers()))? as u32;
     words.end()?;
     Ok(manager)
+}
+
+// The words behind `logfail`: the thread, and which append of its log fails.
+#[tactic(auto, unfolding(crate::specs::Settings::logfail_of))]
+pub(crate) fn logfail_of(script: &Script, words: &mut Words) -> Result<(u32, u32), Reason>
+    ensures value { result ≡ logfail_of script.now words.old }
+    ensures place { IfOk result (λ x. (1 ≤ x.0) × (x.0 ≤ 8)) }
+{
+    before_actions(script.steps())?;
+    let thread = words.number(1, u64::from(script.threads()))? as u32;
+    let append = words.number(1, MOST_APPENDS)? as u32;
+    words.end()?;
+    Ok((thread, append))
 }
 
 fn has_key(manager: u32, key: &Key, keys: &[Declared]) -> bool

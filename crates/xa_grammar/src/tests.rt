@@ -1,3 +1,5 @@
+mod tasks;
+
 use super::*;
 use std::alloc::{AllocError, Global};
 use std::io;
@@ -22,7 +24,7 @@ fn a_faulty_line_is_named_with_its_first_fault(rt: HostRuntime) {
     let long = [b'#'; 513];
     let mut long_and_bad = long;
     long_and_bad[7] = 127;
-    let rows: [(&[u8], u32, Reason); 67] = [
+    let rows: [(&[u8], u32, Reason); 65] = [
         (&long, 1, Reason::LineTooLong),
         (&long_and_bad, 1, Reason::LineTooLong),
         (b"# \x7f", 1, Reason::BadByte),
@@ -31,10 +33,8 @@ fn a_faulty_line_is_named_with_its_first_fault(rt: HostRuntime) {
         (b"1 open 1\r\r\n", 1, Reason::BadByte),
         (b"\n# a\n \t\r\nfoo\n", 4, Reason::UnknownWord),
         (b"thread 2\n", 1, Reason::UnknownWord),
-        (b"logfail 1 1\n", 1, Reason::UnknownWord),
         (b"1 shuts 1\n", 1, Reason::UnknownWord),
         (b"1 shut 1 g.1\n", 1, Reason::UnknownWord),
-        (b"1 commitall g 1\n", 1, Reason::UnknownWord),
         (b"1 open 1 Join\n", 1, Reason::UnknownWord),
         (b"1 open 1 success 1\n", 1, Reason::UnknownWord),
         (b"1x open 1\n", 1, Reason::UnknownWord),
@@ -278,13 +278,13 @@ fn a_script_is_read_into_settings_keys_and_steps(rt: HostRuntime) -> Result<(), 
     ];
     assert_eq!(rt; script.steps().len(), 9);
     for (step, (line, thread, manager, action, flags)) in script.steps().iter().zip(rows) {
-        let want = Step::Call(Called {
+        let want = Step::Task(Task::Call(Called {
             line,
             thread,
             manager,
             action,
             flags,
-        });
+        }));
         assert_eq!(rt; *step, want);
     }
     Ok(())

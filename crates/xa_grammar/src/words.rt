@@ -1,12 +1,12 @@
 //! The words of a line, taken from left to right.
 ghost use Rattle.std.specs.Prelude.{◌≡◌, ◌<◌, ◌≤◌, ◌∷◌, [], length, take, drop, true, false, Ok, Err, IfOk, MatchOption, MatchResult};
 ghost use Rattle.xa_grammar.specs.Text.{is_space, starts_blank, words_of, IsWord};
-ghost use Rattle.xa_grammar.specs.Fields.{Takes, word_at, end_of, number_at, key_at, xid_at, delta_at, flags_onto};
+ghost use Rattle.xa_grammar.specs.Fields.{Takes, word_at, end_of, number_at, key_at, xid_at, tran_at, delta_at, flags_onto};
 
 use crate::fault::Reason;
-use crate::field::{delta_in, flag_of, number_in, xid_of};
+use crate::field::{delta_in, flag_of, number_in, tran_of, xid_of};
 use std::marker::Model;
-use xa_words::{Delta, Key, Xid};
+use xa_words::{Delta, Key, Tran, Xid};
 
 // What is left of a line. A clause sees its words.
 #[derive(Drop)]
@@ -64,7 +64,8 @@ impl<'a> Words<'a> {
     #[tactic(auto, unfolding(crate::specs::Fields::number_at))]
     pub(crate) fn number(&mut self, low: u64, high: u64) -> Result<u64, Reason>
         ensures takes { Takes result self.new (number_at low high self.old) }
-        ensures in_range { IfOk result (λ n. n ≤ high) }
+        ensures at_least { IfOk result (λ n. low ≤ n) }
+        ensures at_most { IfOk result (λ n. n ≤ high) }
     {
         number_in(low, high, self.word()?)
     }
@@ -81,6 +82,13 @@ impl<'a> Words<'a> {
         ensures { Takes result self.new (xid_at self.old) }
     {
         xid_of(self.word()?).ok_or(Reason::BadXid)
+    }
+
+    #[tactic(auto, unfolding(crate::specs::Fields::tran_at))]
+    pub(crate) fn tran(&mut self) -> Result<Tran, Reason>
+        ensures { Takes result self.new (tran_at self.old) }
+    {
+        tran_of(self.word()?).ok_or(Reason::BadXid)
     }
 
     #[tactic(auto, unfolding(crate::specs::Fields::delta_at))]

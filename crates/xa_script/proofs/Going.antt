@@ -3,7 +3,6 @@ use Rattle.std.proofs.Common.{◌≡◌, ℕ, ◌-◌, ◌⊎◌, ⊎_elim, List
 use Rattle.std.specs.Prelude.{slice_get, slice_set}
 use Rattle.std.proofs.lemmas.List.{length-set}
 use Rattle.std.proofs.lemmas.Option.{slice_get_within}
-use Rattle.xa_desk.specs.DeskView.{DeskView}
 use Rattle.xa_worker.specs.declared.step.Step.{Step as Did}
 use Rattle.xa_worker.specs.declared.step.Step.TheVariants as did
 use Rattle.xa_worker.specs.Journal.{Entry, entry_next}
@@ -12,6 +11,8 @@ use Rattle.xa_worker.specs.Steps.{Stepped, EntersOne, Waits, StillHolds, Holds}
 use Rattle.std.proofs.Common.{append-nil}
 use Rattle.xa_grammar.specs.declared.script.Step.{Step}
 use Rattle.xa_grammar.specs.declared.script.Step.TheVariants as step
+use Rattle.xa_grammar.specs.Content.{thread_of}
+use Rattle.xa_script.specs.declared.control.Control.{Control}
 use Rattle.xa_script.specs.declared.transcript.Answer.{Answer}
 use Rattle.xa_script.specs.Chains.{Chain}
 use Rattle.xa_script.specs.Chains.Chain.{none, more}
@@ -67,23 +68,23 @@ turn_goes m s old new is = subst (AllGoOn old) (sym is.rest) (one_goes_on old (m
 -- ---- all of a run
 
 pub steps_go : (p : Step) (old new : Stage) (a : Answer) → Steps p old new a → AllGoOn old.workers new.workers
-steps_go (step.Call p) old new a is = is.turns
+steps_go (step.Task p) old new a is = is.turns
 steps_go (step.Turn line m) old new a is = turn_goes m is.did old.workers new.workers is.turn
 
 pub run_goes : (old : Course) (steps : List Step) (new : Course) → Chain HasStepped old steps new → AllGoOn old.stage.workers new.stage.workers
 run_goes old steps new (none xs last e f) = subst (λ (c : Course). AllGoOn old.stage.workers c.stage.workers) (sym f) (all_stay old.stage.workers)
 run_goes old steps new (more xs x now last before is) = all_go_on old.stage.workers now.stage.workers last.stage.workers (run_goes old xs now before) (steps_go x now.stage last.stage is.answer is.steps)
 
-pub ends_go : (old : Closing) (desks : List DeskView) (new : Closing) → Chain HasEndedDesk old desks new → AllGoOn old.workers new.workers
-ends_go old desks new (none xs last e f) = subst (λ (c : Closing). AllGoOn old.workers c.workers) (sym f) (all_stay old.workers)
-ends_go old desks new (more xs x now last before is) = all_go_on old.workers now.workers last.workers (ends_go old xs now before) is.turns
+pub ends_go : (old : Closing) (controls : List Control) (new : Closing) → Chain HasEndedDesk old controls new → AllGoOn old.workers new.workers
+ends_go old controls new (none xs last e f) = subst (λ (c : Closing). AllGoOn old.workers c.workers) (sym f) (all_stay old.workers)
+ends_go old controls new (more xs x now last before is) = all_go_on old.workers now.workers last.workers (ends_go old xs now before) is.turns
 
--- ---- as many desks as there were
+-- ---- as many threads as there were
 
-pub steps_count : (p : Step) (old new : Stage) (a : Answer) → Steps p old new a → length new.desks ≡ length old.desks
-steps_count (step.Call p) old new a is = ap (λ l. length l) is.rest ∙ length-set old.desks (p.thread - 1) is.behind
+pub steps_count : (p : Step) (old new : Stage) (a : Answer) → Steps p old new a → length new.controls ≡ length old.controls
+steps_count (step.Task p) old new a is = ap (λ l. length l) is.rest ∙ length-set old.controls (thread_of p - 1) is.behind
 steps_count (step.Turn line m) old new a is = ap (λ l. length l) is.rest
 
-pub run_count : (old : Course) (steps : List Step) (new : Course) → Chain HasStepped old steps new → length new.stage.desks ≡ length old.stage.desks
-run_count old steps new (none xs last e f) = ap (λ (c : Course). length c.stage.desks) f
+pub run_count : (old : Course) (steps : List Step) (new : Course) → Chain HasStepped old steps new → length new.stage.controls ≡ length old.stage.controls
+run_count old steps new (none xs last e f) = ap (λ (c : Course). length c.stage.controls) f
 run_count old steps new (more xs x now last before is) = steps_count x now.stage last.stage is.answer is.steps ∙ run_count old xs now before

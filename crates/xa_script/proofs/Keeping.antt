@@ -24,16 +24,23 @@ use Rattle.xa_switch.specs.Completing.CompletesAny.{nothing, retry as retry_any,
 use Rattle.xa_grammar.specs.declared.script.Action.{Action}
 use Rattle.xa_grammar.specs.declared.script.Action.TheVariants as action
 use Rattle.xa_grammar.specs.declared.script.Called.{Called}
+use Rattle.xa_grammar.specs.declared.script.CommitAll.{CommitAll}
+use Rattle.xa_grammar.specs.declared.script.Task.{Task}
+use Rattle.xa_grammar.specs.declared.script.Task.TheVariants as task
 use Rattle.xa_grammar.specs.declared.script.Step.{Step}
 use Rattle.xa_grammar.specs.declared.script.Step.TheVariants as step
+use Rattle.xa_grammar.specs.Content.{thread_of}
+use Rattle.xa_script.specs.declared.control.Control.{Control}
 use Rattle.xa_script.specs.declared.transcript.Answer.{Answer}
 use Rattle.xa_script.specs.Chains.{Chain}
 use Rattle.xa_script.specs.Chains.Chain.{none, more}
 use Rattle.xa_script.specs.Calling.{Answers}
+use Rattle.xa_script.specs.Committing.{named, branches_of, Commits, Does}
+use Rattle.xa_script.specs.Committing.Commits.{refused as not_committed, decided}
 use Rattle.xa_script.specs.Ending.{AllKept, HoldsNone, EndsNumber}
 use Rattle.xa_script.specs.Ending.EndsNumber.{kept as kept_there, free}
 use Rattle.xa_script.specs.Run.{Stage, Course, Steps, HasStepped}
-use Rattle.xa_script.proofs.Outstanding.{out_sent, out_collected}
+use Rattle.xa_script.proofs.Outstanding.{out_sent, out_collected, out_committed}
 
 -- ---- what is kept under which number
 
@@ -198,6 +205,17 @@ answers_keep (action.Rollback x) p old new a is all = calls_keep _ old p.manager
 answers_keep action.Shut p old new a is all = calls_keep _ old p.manager new is.answer is.calls all
 answers_keep (action.Complete h) p old new a is all = by_keep _ old _ p.manager new is.completes.collected is.completes.completes all
 
+-- a commit of several branches collects all that it sends
+commits_keep : (c : CommitAll) (old new : Control) (a : Answer) → Commits c old new a → AllKept old.desk → AllKept new.desk
+commits_keep c old new a (not_committed may told e) all = subst (λ (x : Control). AllKept x.desk) (sym e) all
+commits_keep c old new a (decided done may is keeps as_many told) all = λ o out.
+    let k = all o (out_committed (named c) (branches_of c) old.desk.accounts new.desk.accounts old.log.state new.log.state done is o out) in
+    (k.0, ap (λ (m : Handles). finmap.get m k.0) keeps.kept ∙ k.1)
+
+pub does_keep : (p : Task) (old new : Control) (a : Answer) → Does p old new a → AllKept old.desk → AllKept new.desk
+does_keep (task.Call p) old new a is all = answers_keep p.action p old.desk new.desk a is.0 all
+does_keep (task.CommitAll c) old new a is all = commits_keep c old new a is all
+
 -- ---- the numbers of a desk that ends
 
 pub number_keeps : (k : ℕ) (old new : DeskView × List Answer) → EndsNumber k old new → AllKept old.0 → AllKept new.0
@@ -219,10 +237,10 @@ pub numbers_keep : (old : DeskView × List Answer) (ks : List ℕ) (new : DeskVi
 numbers_keep old ks new (none xs last e f) all = subst (λ (s : DeskView × List Answer). AllKept s.0) (sym f) all
 numbers_keep old ks new (more xs x now last before is) all = number_keeps x now last is (numbers_keep old xs now before all)
 
--- ---- the desks of a run
+-- ---- the threads of a run
 
-abbrev pub AreKept : List DeskView → Type 0
-AreKept desks = All AllKept desks
+abbrev pub AreKept : List Control → Type 0
+AreKept controls = All (λ c. AllKept c.desk) controls
 
 some_same : {A : Type 0} (x y : A) → Some x ≡ Some y → x ≡ y
 some_same x y e = cc
@@ -232,12 +250,14 @@ all_at P xs k x all at =
     let within = slice_get_within xs k x at in
     subst P (some_same _ x (sym (slice_get-get_or xs k x within) ∙ at)) (all k x within)
 
-steps_keep : (p : Step) (old new : Stage) (a : Answer) → Steps p old new a → AreKept old.desks → AreKept new.desks
-steps_keep (step.Call p) old new a is all = subst AreKept (sym is.rest) (All-set AllKept old.desks (p.thread - 1) is.behind (answers_keep p.action p is.before is.behind a is.answers (all_at AllKept old.desks (p.thread - 1) is.before all is.at)) all)
+steps_keep : (p : Step) (old new : Stage) (a : Answer) → Steps p old new a → AreKept old.controls → AreKept new.controls
+steps_keep (step.Task p) old new a is all =
+    let here : AllKept is.before.desk = all_at (λ c. AllKept c.desk) old.controls (thread_of p - 1) is.before all is.at in
+    subst AreKept (sym is.rest) (All-set (λ c. AllKept c.desk) old.controls (thread_of p - 1) is.behind (does_keep p is.before is.behind a is.does here) all)
 steps_keep (step.Turn line m) old new a is all = subst AreKept (sym is.rest) all
 
-pub run_keeps : (old : Course) (steps : List Step) (new : Course) → Chain HasStepped old steps new → AreKept old.stage.desks → AreKept new.stage.desks
-run_keeps old steps new (none xs last e f) all = subst (λ (c : Course). AreKept c.stage.desks) (sym f) all
+pub run_keeps : (old : Course) (steps : List Step) (new : Course) → Chain HasStepped old steps new → AreKept old.stage.controls → AreKept new.stage.controls
+run_keeps old steps new (none xs last e f) all = subst (λ (c : Course). AreKept c.stage.controls) (sym f) all
 run_keeps old steps new (more xs x now last before is) all = steps_keep x now.stage last.stage is.answer is.steps (run_keeps old xs now before all)
 
 -- ---- a desk that keeps nothing

@@ -16,3 +16,5 @@ pub mod Pieces
 pub mod Becoming
 pub mod InJournals
 pub mod Handing
+pub mod Entering
+pub mod Branches

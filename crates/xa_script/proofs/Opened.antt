@@ -5,9 +5,8 @@ use Rattle.std.specs.List.{range_with_len, slice_index_or}
 use Rattle.std.proofs.lemmas.List.{length-map}
 use Rattle.std.proofs.lemmas.List.FromFn.{length-map-range_with_len, get_or-map-range_with_len}
 use Rattle.std.proofs.lemmas.Option.{slice_get_within, slice_get-get_or, slice_get-map}
-use Rattle.xa_words.specs.declared.request.Op.{Op}
 use Rattle.xa_desk.specs.AccountView.{AccountView}
-use Rattle.xa_desk.specs.DeskView.{DeskView, no_account, account, is_known, sent_to}
+use Rattle.xa_desk.specs.DeskView.{DeskView, no_account, account, is_known, sent_to, collected_from}
 use Rattle.xa_desk.specs.Lanes.{new_accounts}
 use Rattle.xa_worker.specs.Workers.{Working}
 use Rattle.xa_tables.specs.Managers.{opening}
@@ -28,13 +27,22 @@ fresh_sent plan [] i = refl
 fresh_sent plan (b ∷ flags) zero = refl
 fresh_sent plan (b ∷ flags) (suc i) = fresh_sent plan flags i
 
-none_either : (b : Bool) (l : List Op) → l ≡ [] → cond b l [] ≡ []
+none_either : {X : Type 0} (b : Bool) (l : List X) → l ≡ [] → cond b l [] ≡ []
 none_either true l e = e
 none_either false l e = refl
 
 -- nothing was sent to any manager
 pub new_sent : (plan : ℕ) (flags : List Bool) (m : ℕ) → sent_to (new_accounts plan flags) m ≡ []
 new_sent plan flags m = none_either (is_known (new_accounts plan flags) m) (account (new_accounts plan flags) m).sent (fresh_sent plan flags (m - 1))
+
+fresh_collected : (plan : ℕ) (flags : List Bool) (i : ℕ) → (slice_index_or (new_accounts plan flags) i no_account).collected ≡ []
+fresh_collected plan [] i = refl
+fresh_collected plan (b ∷ flags) zero = refl
+fresh_collected plan (b ∷ flags) (suc i) = fresh_collected plan flags i
+
+-- nor collected from it
+pub new_collected : (plan : ℕ) (flags : List Bool) (m : ℕ) → collected_from (new_accounts plan flags) m ≡ []
+new_collected plan flags m = none_either (is_known (new_accounts plan flags) m) (account (new_accounts plan flags) m).collected (fresh_collected plan flags (m - 1))
 
 pub nobody_sent : (m : ℕ) → sent_to [] m ≡ []
 nobody_sent m = none_either (is_known [] m) (account [] m).sent refl

@@ -1,15 +1,25 @@
 -- What is outstanding as operations are sent and collected.
-use Rattle.std.proofs.Common.{◌≡◌, ◌≢◌, ℕ, ◌+◌, ◌-◌, ◌<◌, ◌≤◌, ◌⊎◌, suc, false, true, ◌||◌, nat_eq, List, [], ◌∷◌, length, sum_by, sym, refl, ap, ◌∙◌, subst, inl, inr, arith, length-append, slice_index_or}
+use Rattle.std.proofs.Common.{◌≡◌, ◌≢◌, ℕ, ◌+◌, ◌-◌, ◌<◌, ◌≤◌, ◌⊎◌, suc, Bool, false, true, ◌||◌, ◌==◌, nat_eq, Option, Some, None, List, [], ◌∷◌, length, sum_by, sym, refl, ap, ◌∙◌, subst, inl, inr, arith, length-append, slice_index_or}
 use Rattle.std.proofs.lemmas.List.{map-append, length-set, length-map, get_or-set_same, get_or-set_other}
 use Rattle.std.proofs.lemmas.List.Sums.{sum_by-cons}
 use Rattle.std.proofs.lemmas.List.Folds.{list_any-append}
 use Rattle.std.proofs.lemmas.Map.Steps.{le-length_from_below}
-use Rattle.std.proofs.lemmas.Bool.{cases_eq, cases_Bool, eqb-false, or_parts}
+use Rattle.std.proofs.lemmas.Bool.{cases_eq, cases_Bool, eqb-true, eqb-false, or_parts}
+use Rattle.std.specs.Prelude.{if◌then◌else◌}
+use Rattle.xa_words.specs.Tran.{TranName}
 use Rattle.xa_words.specs.declared.request.Op.{Op}
+use Rattle.xa_words.specs.declared.request.Op.TheVariants.{Prepare}
 use Rattle.xa_words.specs.declared.code.Code.{Code}
 use Rattle.xa_desk.specs.declared.operation.Operation.{Operation}
-use Rattle.xa_desk.specs.AccountView.{AccountView, numbers, is_collected, with_sent, with_collected}
+use Rattle.xa_desk.specs.AccountView.{AccountView, numbers, is_collected, learnt_shut, with_sent, with_collected}
 use Rattle.xa_desk.specs.DeskView.{IsKnown, IsOut, account, no_account, put_account, after_sent, after_collected, next_operation, outstanding}
+use Rattle.xa_driver.specs.declared.branch.Branch.{Branch}
+use Rattle.xa_driver.specs.declared.done.Done.{Done}
+use Rattle.xa_driver.specs.declared.done.Ending.{Ending}
+use Rattle.xa_driver.specs.Log.{LogState}
+use Rattle.xa_driver.specs.Asks.{asked}
+use Rattle.xa_driver.specs.Endings.{second_op, ending_of}
+use Rattle.xa_driver.specs.Trace.{BranchTrace, EachBranch, IsTraceOfCommit, has_branch_at, voted}
 
 same_operation : (a b : Operation) → a.manager ≡ b.manager → a.number ≡ b.number → a ≡ b
 same_operation a b e f = λ i. record { manager = e i; number = f i }
@@ -84,6 +94,70 @@ out_collected at o code known p is =
             λ is_o. differs (ap (λ (q : Operation). q.manager) is_o),
           )
     ]
+
+-- ---- a commit of several branches
+
+-- what is outstanding in the later account was so in the earlier one
+pub record Leaves (a a' : AccountView) : Type 0 where
+  pub sent : (n : ℕ) → n < length a'.sent → is_collected a' n ≡ false → n < length a.sent
+  pub open_ : (n : ℕ) → is_collected a' n ≡ false → is_collected a n ≡ false
+
+leaves_same : (a : AccountView) → Leaves a a
+leaves_same a = record { sent = λ n within fresh. within; open_ = λ n fresh. fresh }
+
+leaves_both : (a b c : AccountView) → Leaves a b → Leaves b c → Leaves a c
+leaves_both a b c first later = record {
+  sent = λ n within fresh. first.sent n (later.sent n within fresh) (later.open_ n fresh);
+  open_ = λ n fresh. first.open_ n (later.open_ n fresh);
+}
+
+-- a request that is sent and collected leaves what is outstanding
+leaves_answered : (a : AccountView) (op : Op) (code : Code) → Leaves a (with_collected (with_sent a op) (length a.sent) code)
+leaves_answered a op code = record {
+  sent = λ n within fresh.
+      let parts = or_parts (is_collected a n) (nat_eq n (length a.sent) || false) (sym (collected_push (with_sent a op) (length a.sent) code n) ∙ fresh) in
+      let differs = eqb-false n (length a.sent) (or_parts (nat_eq n (length a.sent)) false parts.1).0 in
+      omega (arith, within, differs, length-append a.sent (op ∷ []));
+  open_ = λ n fresh. (or_parts (is_collected a n) (nat_eq n (length a.sent) || false) (sym (collected_push (with_sent a op) (length a.sent) code n) ∙ fresh)).0;
+}
+
+either_leaves : (a b : AccountView) (shut : Bool) → Leaves a b → Leaves a (if shut then a else b)
+either_leaves a b true leaves = leaves_same a
+either_leaves a b false leaves = leaves
+
+asked_leaves : (a : AccountView) (op : Option Op) (code : Option Code) → Leaves a (asked a op code)
+asked_leaves a None code = leaves_same a
+asked_leaves a (Some op) None = leaves_same a
+asked_leaves a (Some op) (Some code) = either_leaves a _ (learnt_shut a) (leaves_answered a op code)
+
+-- the two requests of a branch
+branch_leaves : (commit : Bool) (b : Branch) (vote : Code) (second : Option Code) (a a' : AccountView) → BranchTrace commit b vote second a a' → Leaves a a'
+branch_leaves commit b vote second a a' is =
+    subst (Leaves a) (sym is.trace) (leaves_both a (voted b vote a) (asked (voted b vote a) (second_op commit b.xid vote) second) (asked_leaves a (Some (Prepare b.xid)) (Some vote)) (asked_leaves (voted b vote a) (second_op commit b.xid vote) second))
+
+-- the branch at the manager is one of these
+there_leaves : (commit : Bool) (old new : List AccountView) (m : ℕ) (bs : List Branch) (vs : List Code) (ss : List (Option Code)) (es : List Ending)
+    → EachBranch (λ b v s e. BranchTrace commit b v s (account old b.m) (account new b.m) × (e ≡ ending_of commit v s)) bs vs ss es
+    → has_branch_at bs m ≡ true → Leaves (account old m) (account new m)
+there_leaves commit old new m [] [] [] [] each there = absurd (cc)
+there_leaves commit old new m (b ∷ bs) (v ∷ vs) (s ∷ ss) (e ∷ es) each there = elim (cases_Bool (b.m == m)) [
+  | inl here ↦ subst (λ n. Leaves (account old n) (account new n)) (eqb-true b.m m here) (branch_leaves commit b v s (account old b.m) (account new b.m) each.0.0)
+  | inr other ↦ there_leaves commit old new m bs vs ss es each.1 (ap (λ c. c || has_branch_at bs m) (sym other) ∙ there)
+]
+there_leaves commit old new m bs vs ss es each there = absurd each
+
+-- what is outstanding behind a commit was outstanding before it
+pub out_committed : (t : TranName) (bs : List Branch) (old new : List AccountView) (log log' : LogState) (done : Done) → IsTraceOfCommit t bs old new log log' done → (o : Operation) → IsOut new o → IsOut old o
+out_committed t bs old new log log' done is o out =
+    let leaves : Leaves (account old o.manager) (account new o.manager) = elim (cases_Bool (has_branch_at bs o.manager)) [
+      | inl there ↦ there_leaves done.commit old new o.manager bs done.votes.items is.seconds done.endings.items is.each there
+      | inr elsewhere ↦ subst (Leaves (account old o.manager)) (sym (is.others o.manager out.known.positive elsewhere)) (leaves_same (account old o.manager))
+    ] in
+    record {
+      known = record { positive = out.known.positive; within = subst (λ n. o.manager ≤ n) is.managers out.known.within };
+      sent = leaves.sent o.number out.sent out.open_;
+      open_ = leaves.open_ o.number out.open_;
+    }
 
 -- ---- where no operation is outstanding
 

@@ -20,29 +20,36 @@ use Rattle.xa_switch.specs.Completing.{CollectsRedeemed}
 use Rattle.xa_switch.specs.Seats.{DeskSeat, WorkerSeat, ComeFromOpenings, seat_of_desk, seat_of_ended, seat_of_worker, seat_of_done, desk_seats, worker_seats, desk_opening, worker_opening, first_opening, AreOfOne, AreAll, HasDesks, HasWorkers, has_desk, has_worker}
 use Rattle.xa_switch.specs.Settling.{Settling, ThreadPart, ManagerPart, IsSettled, find_thread, accounts_in, sent, collected, journal}
 use Rattle.xa_switch.specs.Closing.{thread_part, manager_part, settling}
+use Rattle.xa_driver.specs.Log.{no_records}
 use Rattle.xa_grammar.specs.declared.script.Action.{Action}
 use Rattle.xa_grammar.specs.declared.script.Action.TheVariants as action
 use Rattle.xa_grammar.specs.declared.script.Called.{Called}
 use Rattle.xa_grammar.specs.declared.script.Declared.{Declared}
-use Rattle.xa_grammar.specs.declared.script.Step.{Step}
-use Rattle.xa_grammar.specs.Content.{Content, calls_of, Fits, threads_of, managers_of}
+use Rattle.xa_grammar.specs.declared.script.CommitAll.{CommitAll}
+use Rattle.xa_grammar.specs.declared.script.Task.{Task}
+use Rattle.xa_grammar.specs.declared.script.Task.TheVariants as task
+use Rattle.xa_grammar.specs.Content.{Content, tasks_of, Fits, threads_of, managers_of}
+use Rattle.xa_script.specs.declared.control.Control.{Control}
 use Rattle.xa_script.specs.declared.transcript.Answer.{Answer}
 use Rattle.xa_script.specs.Chains.{Chain, Pairwise}
 use Rattle.xa_script.specs.Chains.Chain.{none, more}
 use Rattle.xa_script.specs.Calling.{Answers}
+use Rattle.xa_script.specs.Committing.{Commits, Does}
+use Rattle.xa_script.specs.Committing.Commits.{refused, decided}
 use Rattle.xa_script.specs.Ending.{EndsNumber, EndsDesk}
 use Rattle.xa_script.specs.Ending.EndsNumber.{kept, free}
-use Rattle.xa_script.specs.Planning.{AreOpened}
+use Rattle.xa_script.specs.Planning.{AreOpened, control_of}
 use Rattle.xa_script.specs.Seating.{SeatsAreKept}
 use Rattle.xa_script.specs.Threads.{Goes}
 use Rattle.xa_script.specs.Values.{AreOfScript, AreValues}
 use Rattle.xa_script.specs.Journals.{answers_to, entries_of, AreCarriedOut, TellsOf}
 use Rattle.xa_script.proofs.Side.{got, all_from, any_at, map_alike, find_numbered, find_none, was_mapped}
-use Rattle.xa_script.proofs.Opened.{opened_threads, opened_managers, opened_first, opened_thread, new_sent, nobody_sent}
+use Rattle.xa_script.proofs.Opened.{opened_threads, opened_managers, opened_first, opened_thread, new_sent, new_collected, nobody_sent}
 use Rattle.xa_script.proofs.Accounts.{Begins, Grows}
 use Rattle.xa_script.proofs.Sending.{ending_collects}
-use Rattle.xa_script.proofs.Carrying.{Fits as Agrees, agreed_fits, lines_in, calls_in, answers_in, carried_all, runs_grow, no_entries}
-use Rattle.xa_script.proofs.Projecting.{calls_are_of, no_calls}
+use Rattle.xa_script.proofs.Entering.{Fits as Agrees, agreed_fits, no_entries}
+use Rattle.xa_script.proofs.Carrying.{lines_in, tasks_in, answers_in, carried_all, runs_grow}
+use Rattle.xa_script.proofs.Projecting.{tasks_are_of, no_tasks}
 
 -- ---- seats
 
@@ -59,9 +66,17 @@ module _ (seats : SeatsAreKept) where
   answer_keeps action.Shut p old new a is = seats.calls _ old p.manager new is.answer is.calls
   answer_keeps (action.Complete h) p old new a is = seats.completions old h _ p.manager p.flags new is.handle is.retval is.answer is.completes
 
-  runs_keep : (first : DeskView × List Answer) (calls : List Called) (last : DeskView × List Answer) → Chain Goes first calls last → seat_of_desk last.0 ≡ seat_of_desk first.0
-  runs_keep first calls last (none xs l e f) = ap (λ (s : DeskView × List Answer). seat_of_desk s.0) f
-  runs_keep first calls last (more xs x now l before is) = answer_keeps x.action x now.0 l.0 is.answer is.answers ∙ runs_keep first xs now before
+  commit_keeps : (c : CommitAll) (old new : Control) (a : Answer) → Commits c old new a → seat_of_desk new.desk ≡ seat_of_desk old.desk
+  commit_keeps c old new a (refused why told e) = ap (λ (x : Control). seat_of_desk x.desk) e
+  commit_keeps c old new a (decided done may trace keeps as_many told) = keeps.seat
+
+  does_keep : (p : Task) (old new : Control) (a : Answer) → Does p old new a → seat_of_desk new.desk ≡ seat_of_desk old.desk
+  does_keep (task.Call p) old new a is = answer_keeps p.action p old.desk new.desk a is.0
+  does_keep (task.CommitAll c) old new a is = commit_keeps c old new a is
+
+  runs_keep : (first : Control × List Answer) (tasks : List Task) (last : Control × List Answer) → Chain Goes first tasks last → seat_of_desk last.0.desk ≡ seat_of_desk first.0.desk
+  runs_keep first tasks last (none xs l e f) = ap (λ (s : Control × List Answer). seat_of_desk s.0.desk) f
+  runs_keep first tasks last (more xs x now l before is) = does_keep x now.0 l.0 is.answer is.does ∙ runs_keep first xs now before
 
   redeeming_keeps : (old new : DeskView) (k : ℕ) (c : Code) → CollectsRedeemed old new k c → seat_of_desk new ≡ seat_of_desk old
   redeeming_keeps old new k c is = ap seat_of_desk is.collects.collected ∙ ap seat_of_desk is.collects.looks.rest
@@ -79,20 +94,20 @@ module _ (seats : SeatsAreKept) where
 
 -- ---- the desks of a run
 
--- the desk that was opened has answered its thread's calls, and this is what it has ended as
-pub record Comes (steps : List Step) (answers : List Answer) (d : DeskView) (e : EndedView) : Type 0 where
-  pub last : DeskView
-  pub runs : Chain Goes (d, []) (calls_of d.thread steps) (last, answers_to d.thread answers)
+-- the thread of the desk that was opened has done its tasks, and this is what the desk has ended as
+pub record Comes (s : Content) (answers : List Answer) (d : DeskView) (e : EndedView) : Type 0 where
+  pub last : Control
+  pub runs : Chain Goes (control_of s d, []) (tasks_of d.thread s.steps) (last, answers_to d.thread answers)
   pub told : List Answer
   pub told' : List Answer
-  pub ends : EndsDesk last told e told'
+  pub ends : EndsDesk last.desk told e told'
 
 -- all that is known of a run's pieces: the desks and the workers that were opened, and what they have become
 pub record Ran (s : Content) (answers : List Answer) (desks : List DeskView) (workers : List Working) (ended : List EndedView) (done : List Served) : Type 0 where
   pub opened : AreOpened s desks workers
   pub of_steps : All (Fits (threads_of s) (managers_of s)) s.steps
-  pub threads : Pairwise (Comes s.steps answers) desks ended
-  pub others : (t : ℕ) → ((k : ℕ) (d : DeskView) → slice_get desks k ≡ Some d → d.thread ≢ t) → calls_of t s.steps ≡ [] → answers_to t answers ≡ []
+  pub threads : Pairwise (Comes s answers) desks ended
+  pub others : (t : ℕ) → ((k : ℕ) (d : DeskView) → slice_get desks k ≡ Some d → d.thread ≢ t) → tasks_of t s.steps ≡ [] → answers_to t answers ≡ []
   pub managers : Pairwise SameServed workers done
   pub seats : SeatsAreKept
 
@@ -100,8 +115,8 @@ module _ (s : Content) (answers : List Answer) (desks : List DeskView) (workers 
   abbrev plan : Plan
   plan = r.opened.plan
 
-  comes_seat : (d : DeskView) (e : EndedView) → Comes s.steps answers d e → seat_of_ended e ≡ seat_of_desk d
-  comes_seat d e c = ending_keeps r.seats c.last c.told e c.told' c.ends ∙ runs_keep r.seats (d, []) (calls_of d.thread s.steps) (c.last, answers_to d.thread answers) c.runs
+  comes_seat : (d : DeskView) (e : EndedView) → Comes s answers d e → seat_of_ended e ≡ seat_of_desk d
+  comes_seat d e c = ending_keeps r.seats c.last.desk c.told e c.told' c.ends ∙ runs_keep r.seats (control_of s d, []) (tasks_of d.thread s.steps) (c.last, answers_to d.thread answers) c.runs
 
   served_seat : (w : Working) (d : Served) → SameServed w d → seat_of_done d ≡ seat_of_worker w
   served_seat w d same = r.seats.running w d same
@@ -110,11 +125,11 @@ module _ (s : Content) (answers : List Answer) (desks : List DeskView) (workers 
   pub from_opening : ComeFromOpenings (desk_seats ended) (worker_seats done)
   from_opening =
       let come : ComeFromOpenings (map seat_of_desk desks) (map seat_of_worker workers) = r.seats.opened plan desks workers r.opened.opened in
-      subst (λ (ds : List DeskSeat). ComeFromOpenings ds (worker_seats done)) (sym (map_alike (Comes s.steps answers) seat_of_desk seat_of_ended comes_seat desks ended r.threads))
+      subst (λ (ds : List DeskSeat). ComeFromOpenings ds (worker_seats done)) (sym (map_alike (Comes s answers) seat_of_desk seat_of_ended comes_seat desks ended r.threads))
       (subst (λ (ws : List WorkerSeat). ComeFromOpenings (map seat_of_desk desks) ws) (sym (map_alike SameServed seat_of_worker seat_of_done served_seat workers done r.managers)) come)
 
   -- the opened desk of an ended one, and the opened worker of one that has run
-  desk_of : (k : ℕ) (e : EndedView) → slice_get ended k ≡ Some e → (d : DeskView) × (slice_get desks k ≡ Some d) × Comes s.steps answers d e
+  desk_of : (k : ℕ) (e : EndedView) → slice_get ended k ≡ Some e → (d : DeskView) × (slice_get desks k ≡ Some d) × Comes s answers d e
   desk_of k e at =
       let within = slice_get_within ended k e at in
       let many = r.threads.as_many in
@@ -191,16 +206,16 @@ module _ (s : Content) (answers : List Answer) (desks : List DeskView) (workers 
       let number = done_number (m - 1) d.0 d.1 in
       any_at (λ (w : Served). w.number == m) done (m - 1) d.0 d.1 (eq-eqb d.0.number m (omega (arith, number, low)))
 
-  -- what an ended desk has sent and collected is what its last calls left
-  comes_grow : (d : DeskView) (e : EndedView) (c : Comes s.steps answers d e) (m : ℕ) → Grows m d.accounts c.last.accounts
-  comes_grow d e c m = runs_grow m (d, []) (calls_of d.thread s.steps) (c.last, answers_to d.thread answers) c.runs
+  -- what an ended desk has sent and collected is what its thread's last task left
+  comes_grow : (d : DeskView) (e : EndedView) (c : Comes s answers d e) (m : ℕ) → Grows m d.accounts c.last.desk.accounts
+  comes_grow d e c m = runs_grow m (control_of s d, []) (tasks_of d.thread s.steps) (c.last, answers_to d.thread answers) c.runs
 
   ended_accounts : (k : ℕ) (e : EndedView) → slice_get ended k ≡ Some e → length e.accounts ≡ length plan.managers.items
   ended_accounts k e at =
       let d = desk_of k e at in
       let new = new_desk_at k d.0 d.1 in
       let accounts : d.0.accounts ≡ new_accounts plan.requests (use_async plan.managers.items) = ap (λ (x : DeskView). x.accounts) new.made in
-      (ending_collects d.2.last d.2.told e d.2.told' d.2.ends 0).0.many ∙ (comes_grow d.0 e d.2 0).many ∙ ap (λ l. length l) accounts ∙ length-map (use_async plan.managers.items) _ ∙ length-map plan.managers.items _
+      (ending_collects d.2.last.desk d.2.told e d.2.told' d.2.ends 0).0.many ∙ (comes_grow d.0 e d.2 0).many ∙ ap (λ l. length l) accounts ∙ length-map (use_async plan.managers.items) _ ∙ length-map plan.managers.items _
 
   done_threads : (k : ℕ) (d : Served) → slice_get done k ≡ Some d → d.manager.threads ≡ plan.threads
   done_threads k d at = let w = worker_of k d at in let new = new_worker_at k w.0 w.1 in w.2.threads ∙ ap (λ (x : Working). x.manager.threads) new.made
@@ -254,6 +269,12 @@ module _ (s : Content) (answers : List Answer) (desks : List DeskView) (workers 
         let accounts : d.accounts ≡ new_accounts plan.requests (use_async plan.managers.items) = ap (λ (x : DeskView). x.accounts) new.made in
         ap (λ (l : List AccountView). sent_to l m) accounts ∙ new_sent plan.requests (use_async plan.managers.items) m
 
+    uncollected : (k : ℕ) (d : DeskView) (m : ℕ) → slice_get desks k ≡ Some d → collected_from d.accounts m ≡ []
+    uncollected k d m at =
+        let new = new_desk_at k d at in
+        let accounts : d.accounts ≡ new_accounts plan.requests (use_async plan.managers.items) = ap (λ (x : DeskView). x.accounts) new.made in
+        ap (λ (l : List AccountView). collected_from l m) accounts ∙ new_collected plan.requests (use_async plan.managers.items) m
+
     unkept : (k : ℕ) (d : DeskView) → slice_get desks k ≡ Some d → d.kept ≡ finmap.empty
     unkept k d at = let new = new_desk_at k d at in ap (λ (x : DeskView). x.kept) new.made
 
@@ -263,43 +284,45 @@ module _ (s : Content) (answers : List Answer) (desks : List DeskView) (workers 
         let within = slice_get_within desks k d at in
         let many = r.threads.as_many in
         let e = got ended k (omega (arith, within, many)) in
-        let c : Comes s.steps answers d e.0 = r.threads.each k d e.0 at e.1 in
+        let c : Comes s answers d e.0 = r.threads.each k d e.0 at e.1 in
         let t : d.thread ≡ k + 1 = thread_at k d at in
         let found = found_thread k e.0 e.1 in
         subst (AreCarriedOut s answers settled) t (record {
-          lines = lines_in (d, []) (calls_of d.thread s.steps) (c.last, answers_to d.thread answers) c.runs;
-          calls = calls_in (d, []) (calls_of d.thread s.steps) (c.last, answers_to d.thread answers) c.runs;
-          told = answers_in (d, []) (calls_of d.thread s.steps) (c.last, answers_to d.thread answers) c.runs refl;
-          left = c.last.kept;
+          lines = lines_in (control_of s d, []) (tasks_of d.thread s.steps) (c.last, answers_to d.thread answers) c.runs;
+          tasks = tasks_in (control_of s d, []) (tasks_of d.thread s.steps) (c.last, answers_to d.thread answers) c.runs;
+          told = answers_in (control_of s d, []) (tasks_of d.thread s.steps) (c.last, answers_to d.thread answers) c.runs refl;
+          left = c.last.desk.kept;
+          log = c.last.log.state;
           carried =
               let found_so = ap (λ n. find_thread n (map thread_part ended)) t ∙ found in
               let sent_so : (m : ℕ) → sent settled d.thread m ≡ sent_to e.0.accounts m = λ m. ap (λ o. sent_to (accounts_in o) m) found_so in
               let collected_so : (m : ℕ) → collected settled d.thread m ≡ collected_from e.0.accounts m = λ m. ap (λ o. collected_from (accounts_in o) m) found_so in
-              let ends = ending_collects c.last c.told e.0 c.told' c.ends in
-              carried_all settled d.thread (sent settled d.thread) (collected settled d.thread) (λ m. agreed_fits d.thread (sent settled d.thread m) (collected settled d.thread m) (journal settled m) (is.agree d.thread m)) (d, []) (λ m. fresh k d m at) (unkept k d at)
-              (calls_of d.thread s.steps) (c.last, answers_to d.thread answers) c.runs (calls_are_of d.thread s.steps) (λ m. sym (ends m).1 ∙ sym (sent_so m))
-              (λ m. subst (Begins (collected_from c.last.accounts m)) (sym (collected_so m)) (ends m).0.collected);
+              let ends = ending_collects c.last.desk c.told e.0 c.told' c.ends in
+              carried_all settled d.thread (sent settled d.thread) (collected settled d.thread) (λ m. agreed_fits d.thread (sent settled d.thread m) (collected settled d.thread m) (journal settled m) (is.agree d.thread m)) (control_of s d, []) (λ m. fresh k d m at) (λ m. uncollected k d m at) (unkept k d at) refl
+              (tasks_of d.thread s.steps) (c.last, answers_to d.thread answers) c.runs (tasks_are_of d.thread s.steps) (λ m. sym (ends m).1 ∙ sym (sent_so m))
+              (λ m. subst (Begins (collected_from c.last.desk.accounts m)) (sym (collected_so m)) (ends m).0.collected);
         })
 
     -- of one that there isn't
     other_carried : (t : ℕ) → ((k : ℕ) (d : DeskView) → slice_get desks k ≡ Some d → d.thread ≢ t) → AreCarriedOut s answers settled t
     other_carried t none_there =
-        let silent = no_calls t (threads_of s) (managers_of s) s.steps r.of_steps (λ low high.
+        let silent = no_tasks t (threads_of s) (managers_of s) s.steps r.of_steps (λ low high.
         let many = opened_threads s desks workers r.opened in
         let d = got desks (t - 1) (omega (arith, low, high, many)) in
         let thread = thread_at (t - 1) d.0 d.1 in
         none_there (t - 1) d.0 d.1 (omega (arith, thread, low))) in
         record {
           lines = [];
-          calls = sym silent;
+          tasks = sym silent;
           told = sym (r.others t none_there silent);
           left = finmap.empty;
+          log = no_records;
           carried =
               let nothing_there : (m : ℕ) → entries_of t (journal settled m) ≡ [] = λ m.
               let nothing_sent : sent settled t m ≡ [] = ap (λ o. sent_to (accounts_in o) m) (no_thread t none_there) ∙ nobody_sent m in
               let fits = agreed_fits t (sent settled t m) (collected settled t m) (journal settled m) (is.agree t m) in
               no_entries t (collected settled t m) (entries_of t (journal settled m)) (subst (λ ops. Agrees t ops (collected settled t m) (entries_of t (journal settled m))) nothing_sent fits) in
-              none [] (record { entries = λ m. entries_of t (journal settled m); handles = finmap.empty }) refl (λ i. record { entries = λ m. nothing_there m i; handles = finmap.empty });
+              none [] (record { entries = λ m. entries_of t (journal settled m); handles = finmap.empty; log = no_records }) refl (λ i. record { entries = λ m. nothing_there m i; handles = finmap.empty; log = no_records });
         }
 
     -- of each

@@ -32,7 +32,7 @@ use Rattle.xa_script.specs.Chains.Chain.{none, more}
 use Rattle.xa_script.specs.Calling.{shown, Answers}
 use Rattle.xa_script.specs.Ending.{EndsNumber, EndsDesk}
 use Rattle.xa_script.specs.Ending.EndsNumber.{kept as kept_there, free}
-use Rattle.xa_script.specs.Journals.{Ask, ask, asked_by, asked_in, refusals, IsRefusal, Line, Adds}
+use Rattle.xa_script.specs.Journals.{Ask, ask, asked_by, asked_in, refusals, IsRefusal, Adds}
 use Rattle.xa_script.specs.Journals.Ask.{code_of, handle_for}
 use Rattle.xa_script.specs.Journals.Adds.{refused, elsewhere, completes}
 use Rattle.xa_script.proofs.Accounts.{Grows, grows_same, grows_both, grows_sent, grows_collected, sent_here, sent_elsewhere, sending_collects_none, numbered_so, sent_known, collected_here, collecting_sends_none}
@@ -63,10 +63,10 @@ collecting_one : (old new : DeskView) (o : Operation) (c : Code) → Collects ol
 collecting_one old new o c is =
     let before = looking old is.before is.looks in
     collecting_both old.accounts is.before.accounts new.accounts (collecting_none old.accounts is.before.accounts before)
-    (subst (Collecting is.before.accounts) (sym (ap accounts_of is.collected)) (λ m. (grows_collected m is.before.accounts o c is.out.known, collecting_sends_none is.before.accounts o c is.out.known m)))
+    (subst (Collecting is.before.accounts) (sym (ap accounts_of is.collected)) (λ m. (grows_collected m is.before.accounts o c is.out, collecting_sends_none is.before.accounts o c is.out.known m)))
 
 taking : (old new : DeskView) (k : ℕ) (c : Code) → TakesKept old new k c → Collecting old.accounts new.accounts
-taking old new k c is = subst (Collecting old.accounts) (sym (ap accounts_of is.taken)) (λ m. (grows_collected m old.accounts is.operation c is.out.known, collecting_sends_none old.accounts is.operation c is.out.known m))
+taking old new k c is = subst (Collecting old.accounts) (sym (ap accounts_of is.taken)) (λ m. (grows_collected m old.accounts is.operation c is.out, collecting_sends_none old.accounts is.operation c is.out.known m))
 
 redeeming : (old new : DeskView) (k : ℕ) (c : Code) → CollectsRedeemed old new k c → Collecting old.accounts new.accounts
 redeeming old new k c is = collecting_one (record old { kept = finmap.remove old.kept k }) new is.operation c is.collects
@@ -108,13 +108,10 @@ ending_collects old told ended told' is = subst (Collecting old.accounts) (sym i
 
 -- ---- what a call does to the account with manager m
 
-abbrev pub line : Called → Answer → Line
-line p a = record { call = p; answer = a }
-
 pub data Sends (m : ℕ) (p : Called) (a : Answer) (old new : List AccountView) : Type 0 where
   answered : (o : Op) (c : Code) → p.manager ≡ m → asked_in p ≡ code_of o → a ≡ shown p (number_of c) → sent_to new m ≡ sent_to old m ++ o ∷ [] → collected_from new m ≡ collected_from old m ++ (length (sent_to old m), c) ∷ [] → Sends m p a old new
   kept : (o : Op) (k : ℕ) → p.manager ≡ m → asked_in p ≡ handle_for o → 1 ≤ k → a ≡ shown p (pos k) → sent_to new m ≡ sent_to old m ++ o ∷ [] → Sends m p a old new
-  nothing : ((es : List Entry) → Adds m (line p a) es es) → sent_to new m ≡ sent_to old m → Sends m p a old new
+  nothing : ((es : List Entry) → Adds m p a es es) → sent_to new m ≡ sent_to old m → Sends m p a old new
 
 same_code : (a b : Code) → Some a ≡ Some b → a ≡ b
 same_code a b e = cc
@@ -149,7 +146,7 @@ pub refusal_by : (b : Bool) (o : Op) (c : Code) → Contains (refusals b) c → 
 refusal_by true o c is = is
 refusal_by false o c is = is
 
-refused_so : (p : Called) (b : Bool) (o : Op) → asks b o ≡ asked_in p → (a : Answer) (n : ℤ) → a ≡ shown p n → (m : ℕ) (c : Code) → Contains (refusals b) c → n ≡ number_of c → (es : List Entry) → Adds m (line p a) es es
+refused_so : (p : Called) (b : Bool) (o : Op) → asks b o ≡ asked_in p → (a : Answer) (n : ℤ) → a ≡ shown p n → (m : ℕ) (c : Code) → Contains (refusals b) c → n ≡ number_of c → (es : List Entry) → Adds m p a es es
 refused_so p b o e a n told m c is of es = refused c (subst (λ r. IsRefusal r c) e (refusal_by b o c is)) (told ∙ ap (shown p) of) refl
 
 -- of its own manager
@@ -200,10 +197,10 @@ puts_grow m n old new a asked (put_answered why async times c of is) =
     (collecting_one mid new (next_operation old.accounts n) c is m).0
 
 -- what a call sends and collects at manager m, and that it only adds to what was sent and collected
-abbrev pub Does : ℕ → Called → Answer → List AccountView → List AccountView → Type 0
-Does m p a old new = Sends m p a old new × Grows m old new
+abbrev pub Moves : ℕ → Called → Answer → List AccountView → List AccountView → Type 0
+Moves m p a old new = Sends m p a old new × Grows m old new
 
-calls_do : (p : Called) (old new : DeskView) (a : Answer) (n : ℤ) (r : Result _ Code) → Calls r old p.manager new n → ask r (λ asked. asked.op) (λ asked. asked.asynchronous) ≡ asked_in p → a ≡ shown p n → (m : ℕ) → Does m p a old.accounts new.accounts
+calls_do : (p : Called) (old new : DeskView) (a : Answer) (n : ℤ) (r : Result _ Code) → Calls r old p.manager new n → ask r (λ asked. asked.op) (λ asked. asked.asynchronous) ≡ asked_in p → a ≡ shown p n → (m : ℕ) → Moves m p a old.accounts new.accounts
 calls_do p old new a n (Ok asked) is e told m = (puts_send p old new a n asked is e told m, puts_grow m p.manager old new n asked is)
 calls_do p old new a n (Err c) is e told m = (
   nothing (λ es. refused c (subst (λ r. IsRefusal r c) e refl) (told ∙ ap (shown p) is.0) refl) (ap (λ (d : DeskView). sent_to d.accounts m) is.1),
@@ -211,7 +208,7 @@ calls_do p old new a n (Err c) is e told m = (
 )
 
 -- an action of a line
-pub answers_do : (x : Action) (p : Called) → asked_by x p.flags ≡ asked_in p → (old new : DeskView) (a : Answer) → Answers x p old new a → (m : ℕ) → Does m p a old.accounts new.accounts
+pub answers_do : (x : Action) (p : Called) → asked_by x p.flags ≡ asked_in p → (old new : DeskView) (a : Answer) → Answers x p old new a → (m : ℕ) → Moves m p a old.accounts new.accounts
 answers_do action.Open p e old new a is m = calls_do p old new a is.answer _ is.calls e is.shown m
 answers_do action.Close p e old new a is m = calls_do p old new a is.answer _ is.calls e is.shown m
 answers_do (action.Start x) p e old new a is m = calls_do p old new a is.answer _ is.calls e is.shown m

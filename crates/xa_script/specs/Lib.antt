@@ -2,6 +2,7 @@ pub mod Transcript
 pub mod Chains
 pub mod Planning
 pub mod Calling
+pub mod Committing
 pub mod Ending
 pub mod Turns
 pub mod Turning

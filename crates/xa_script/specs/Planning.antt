@@ -1,5 +1,5 @@
--- What a script has opened: a desk for each of its threads and a worker for each of its managers.
-use Rattle.std.specs.Prelude.{◌≡◌, ℕ, Bool, List, map}
+-- What a script has opened: a desk for each of its threads and a worker for each of its managers; and the threads with their logs.
+use Rattle.std.specs.Prelude.{◌≡◌, ℕ, Bool, unwrap_or, List, map}
 use Rattle.std.specs.List.{range_with_len}
 use Rattle.xa_desk.specs.DeskView.{DeskView}
 use Rattle.xa_worker.specs.Workers.{Working}
@@ -7,7 +7,9 @@ use Rattle.xa_switch.specs.declared.plan.Plan.{Plan}
 use Rattle.xa_switch.specs.declared.plan.ManagerPlan.{ManagerPlan}
 use Rattle.xa_switch.specs.Plans.{IsSound}
 use Rattle.xa_switch.specs.Openings.{AreOfOneOpening}
-use Rattle.xa_grammar.specs.Content.{Content, threads_of, managers_of, handles_of, queue_of, requests_of, accounts_of, carries_async}
+use Rattle.xa_driver.specs.Log.{LogView, no_records}
+use Rattle.xa_grammar.specs.Content.{Content, threads_of, managers_of, handles_of, queue_of, requests_of, accounts_of, carries_async, failing_append}
+use Rattle.xa_script.specs.declared.control.Control.{Control}
 
 -- What a plan says of a manager: whether it takes asynchronous calls, and its keys with their values.
 abbrev pub planned_of : ManagerPlan → Bool × List (List ℕ × ℕ)
@@ -32,3 +34,15 @@ pub record AreOpened (s : Content) (desks : List DeskView) (workers : List Worki
   pub said : IsPlanOf s plan
   pub sound : IsSound plan
   pub opened : AreOfOneOpening plan desks workers
+
+-- The log of thread t at first: without a record, and none of its appends fails but the one that a line of the script names.
+abbrev pub log_of : Content → ℕ → LogView
+log_of s t = record { state = no_records; appends = 0; failing = unwrap_or (failing_append s t) 0 }
+
+-- The thread of this desk at first.
+abbrev pub control_of : Content → DeskView → Control
+control_of s d = record { desk = d; log = log_of s d.thread }
+
+-- The threads at first, each with its desk and a log of its own.
+abbrev pub controls_of : Content → List DeskView → List Control
+controls_of s desks = map (control_of s) desks

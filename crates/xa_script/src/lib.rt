@@ -7,6 +7,7 @@
 #![tactic(auto)]
 
 mod calls;
+mod control;
 mod ending;
 mod entry;
 pub mod laws;
@@ -24,7 +25,9 @@ pub use entry::program;
 pub use run::run_turns;
 pub use threads::run_threads;
 pub use transcript::{Answer, RunFault};
-pub use xa_grammar::{Action, Called, Declared, Reason, Script, ScriptFault, Step, read_script};
+pub use xa_grammar::{
+    Action, Called, CommitAll, Declared, Reason, Script, ScriptFault, Step, Task, read_script,
+};
 
 #[cfg(test)]
 mod tests;

@@ -1,13 +1,14 @@
 //! Running a script, step by step in one thread.
 ghost use Rattle.std.specs.Prelude.{◌≡◌, ◌+◌, ◌*◌, ◌<◌, ◌≤◌, ℕ, [], length, All, IfOk, OnOk, IsErrOf, vec_capacity};
 ghost use Rattle.xa_desk.specs.DeskView.{DeskView};
+ghost use Rattle.xa_script.specs.Planning.{controls_of};
 ghost use Rattle.xa_grammar.specs.Content.{Fits};
 ghost use Rattle.xa_script.specs.Chains.{Pairwise};
 ghost use Rattle.xa_script.specs.Ending.{AllKept};
 ghost use Rattle.xa_script.specs.Turns.{TurnsOn};
 ghost use Rattle.xa_script.specs.Run.{stage_of, course_of, closing_of, Steps, HasRun, HaveEnded, HasServed, IsOutcome, WritesTranscript};
 
-use crate::calls::answer;
+use crate::control::{Control, controls_of};
 use crate::ending::{MOST_HANDLES, end_desk};
 use crate::plan::open;
 use crate::settling::{seats_are_kept, settle_all};
@@ -17,68 +18,73 @@ use crate::values::values_of;
 use std::alloc::{AllocError, Global};
 use std::io::Write;
 use std::sync::Wait;
-use xa_desk::{Desk, EndedDesk};
+use xa_desk::EndedDesk;
 use xa_grammar::{Declared, Script, Step};
 use xa_worker::{DoneWorker, Free, Worker};
 
-// What runs a script: a desk for each thread, and the workers, which take turns.
+// What runs a script: its threads of control, and the workers, which take turns.
 #[derive(Drop)]
 struct Runner {
-    desks: Vec<Desk>,
+    controls: Vec<Control>,
     turns: Turns,
 }
 
 impl Runner {
-    // The answer to a step.
-    fn step<R: Wait>(&mut self, rt: &R, step: &Step) -> Answer
-        requires { Fits (length self.old.desks.items) (length self.old.turns.workers.items) step.now }
-        ensures { Steps step.now (stage_of self.old.desks.items self.old.turns.workers.items) (stage_of self.new.desks.items self.new.turns.workers.items) result }
+    // The answer to a step. It fails only for want of memory.
+    fn step<R: Wait>(&mut self, rt: &R, alloc: Global, step: &Step) -> Result<Answer, AllocError>
+        requires { Fits (length self.old.controls.items) (length self.old.turns.workers.items) step.now }
+        ensures { IfOk result (Steps step.now (stage_of self.old.controls.items self.old.turns.workers.items) (stage_of self.new.controls.items self.new.turns.workers.items)) }
     {
         match *step {
-            Step::Call(called) => answer(
-                rt,
-                &mut self.desks[called.thread as usize - 1],
-                &called,
-                &mut self.turns,
-            ),
-            Step::Turn { line, manager } => Answer::Turned {
+            Step::Task(task) => {
+                let control = &mut self.controls[task.thread() as usize - 1];
+                control.carry_out(rt, alloc, &task, &mut self.turns)
+            }
+            Step::Turn { line, manager } => Ok(Answer::Turned {
                 line,
                 step: self.turns.turn(rt, manager),
-            },
+            }),
         }
     }
 
-    // The answers to the steps, in their order.
-    fn run<R: Wait>(&mut self, rt: &R, steps: &[Step], answers: &mut Vec<Answer>)
-        requires fit { All (Fits (length self.old.desks.items) (length self.old.turns.workers.items)) steps.now }
+    // The answers to the steps, in their order. It fails only for want of memory.
+    fn run<R: Wait>(
+        &mut self,
+        rt: &R,
+        alloc: Global,
+        steps: &[Step],
+        answers: &mut Vec<Answer>,
+    ) -> Result<(), AllocError>
+        requires fit { All (Fits (length self.old.controls.items) (length self.old.turns.workers.items)) steps.now }
         requires room { length answers.old.items + length steps.now ≤ vec_capacity answers.old }
-        ensures runs { HasRun (course_of self.old.desks.items self.old.turns.workers.items answers.old.items) steps.now (course_of self.new.desks.items self.new.turns.workers.items answers.new.items) }
-        ensures few { length answers.new.items ≡ length answers.old.items + length steps.now }
+        ensures runs { OnOk result (HasRun (course_of self.old.controls.items self.old.turns.workers.items answers.old.items) steps.now (course_of self.new.controls.items self.new.turns.workers.items answers.new.items)) }
+        ensures few { OnOk result (length answers.new.items ≡ length answers.old.items + length steps.now) }
         ensures room { vec_capacity answers.new ≡ vec_capacity answers.old }
     {
         for step in steps {
-            let answer = self.step(rt, step);
+            let answer = self.step(rt, alloc, step)?;
             answers.push_reserved(answer);
         }
+        Ok(())
     }
 }
 
 // Ends the desks by rising thread, and tells what was outstanding.
 fn end_desks<R: Wait>(
     rt: &R,
-    desks: Vec<Desk>,
+    controls: Vec<Control>,
     turns: &mut Turns,
     answers: &mut Vec<Answer>,
     mut ended: Vec<EndedDesk>,
 ) -> Vec<EndedDesk>
-    requires kept { All AllKept desks.items }
+    requires kept { All (λ c. AllKept c.desk) controls.items }
     requires none { ended.items ≡ [] }
-    requires ends { length desks.items ≤ vec_capacity ended }
-    requires room { length answers.old.items + length desks.items * 32 ≤ vec_capacity answers.old }
-    ensures { HaveEnded (closing_of [] turns.old.workers.items answers.old.items) desks.items (closing_of result.items turns.new.workers.items answers.new.items) }
+    requires ends { length controls.items ≤ vec_capacity ended }
+    requires room { length answers.old.items + length controls.items * 32 ≤ vec_capacity answers.old }
+    ensures { HaveEnded (closing_of [] turns.old.workers.items answers.old.items) controls.items (closing_of result.items turns.new.workers.items answers.new.items) }
 {
-    for desk in desks {
-        ended.push_reserved(end_desk(rt, desk, turns, answers));
+    for control in controls {
+        ended.push_reserved(end_desk(rt, control.desk, turns, answers));
     }
     ended
 }
@@ -127,11 +133,15 @@ fn outcome<R: Wait>(
     let mut answers = Vec::with_capacity(alloc, steps.len() + outstanding)?;
     let ended = Vec::with_capacity(alloc, desks.len())?;
     let done = Vec::with_capacity(alloc, workers.len())?;
+    let controls = controls_of(alloc, script, desks)?;
     let turns = Turns { workers };
-    let mut runner = Runner { desks, turns };
-    runner.run(rt, steps, &mut answers);
-    let Runner { desks, mut turns } = runner;
-    let ended = end_desks(rt, desks, &mut turns, &mut answers, ended);
+    let mut runner = Runner { controls, turns };
+    runner.run(rt, alloc, steps, &mut answers)?;
+    let Runner {
+        controls,
+        mut turns,
+    } = runner;
+    let ended = end_desks(rt, controls, &mut turns, &mut answers, ended);
     let Turns { workers } = turns;
     let done = run_workers(rt, workers, done);
     seats_are_kept();

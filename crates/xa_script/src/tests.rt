@@ -1,3 +1,4 @@
+mod committing;
 mod rules;
 mod running;
 mod shut;

@@ -3,6 +3,7 @@ ghost use Rattle.std.specs.Prelude.{◌≡◌, ◌≤◌, length, map, All, IfOk
 ghost use Rattle.std.specs.List.{flat_map};
 ghost use Rattle.xa_script.specs.Threads.{IsFit, IsOutcomeOfThreads, WritesThreads};
 
+use crate::control::controls_of;
 use crate::plan::open;
 use crate::serving::Serving;
 use crate::settling::{seats_are_kept, settle_all};
@@ -52,7 +53,8 @@ fn outcome<R: Threads + Wait + Copy + Send + 'static, P: Pace + Drop + Send + 's
     ensures { IfOk result (λ o. IsOutcomeOfThreads script.now o.0.items o.1.items) }
 {
     let (desks, workers) = open(alloc, script)?;
-    let threads = lines_of(alloc, script.steps(), desks)?;
+    let controls = controls_of(alloc, script, desks)?;
+    let threads = lines_of(alloc, script.steps(), controls)?;
     let unrun = Vec::with_capacity(alloc, workers.len())?;
     let done = Vec::with_capacity(alloc, workers.len())?;
     let worked = Vec::with_capacity(alloc, threads.len())?;
@@ -64,14 +66,10 @@ fn outcome<R: Threads + Wait + Copy + Send + 'static, P: Pace + Drop + Send + 's
         return Err(AllocError);
     }
     serving.go();
-    working.start(rt, threads);
-    let refused = working.is_refused();
+    working.start(rt, alloc, threads);
     let worked = working.join(rt, worked);
     let done = serving.join(rt, done);
-    if refused {
-        return Err(AllocError);
-    }
-    let (ended, answers) = apart(alloc, worked)?;
+    let (ended, answers) = apart(alloc, worked?)?;
     seats_are_kept();
     let settled = settle_all(rt, alloc, ended, done)?;
     let values = values_of(alloc, script, &settled)?;
@@ -99,8 +97,12 @@ fn apart(alloc: Global, threads: Vec<Worked>) -> Result<(Vec<EndedDesk>, Vec<Ans
     let mut desks = Vec::new(alloc);
     let mut answers = Vec::new(alloc);
     for worked in threads {
-        answers.extend_from_slice(&worked.answers)?;
-        desks.push(worked.desk)?;
+        let Worked {
+            desk,
+            answers: mut told,
+        } = worked;
+        answers.append(&mut told)?;
+        desks.push(desk)?;
     }
     Ok((desks, answers))
 }

@@ -1,17 +1,18 @@
 //! The transcript of a run.
 ghost use Rattle.std.specs.Prelude.{◌≡◌, ◌++◌, OnOk, IfOk, IsErrOf};
 ghost use Rattle.std.specs.Io.KnownBytes.{Appends};
-ghost use Rattle.xa_script.specs.Transcript.{turn_text, handle_text, call_text, answer_text, value_text, text};
+ghost use Rattle.xa_script.specs.Transcript.{turn_text, handle_text, call_text, decision_text, record_text, ending_text, endings_text, done_text, answer_text, value_text, text};
 
 use itoa::{Buffer, Integer};
 use std::alloc::{AllocError, Global};
 use std::io::Write;
 use thiserror::Error;
+use xa_driver::{Done, Ending};
 use xa_grammar::Declared;
 use xa_worker::Step;
 
 /// A line of the transcript before the values. Lines, threads and handles count from 1.
-#[derive(Clone, Copy, Debug, PartialEq, Eq)]
+#[derive(Debug, Drop)]
 pub enum Answer {
     /// The call on this line, by this thread, answered a code or a handle: `L T C`.
     Called {
@@ -25,6 +26,18 @@ pub enum Answer {
         thread: u32,
         handle: i32,
         retval: i32,
+    },
+    /// The branches on this line may not be committed, and nothing was done: `L T refused`.
+    Refused {
+        line: u32,
+        thread: u32,
+    },
+    /// What became of the branches on this line: `L T commit logged E ..`, `L T commit unlogged E ..`
+    /// or `L T abort unlogged E ..`.
+    Decided {
+        line: u32,
+        thread: u32,
+        done: Done,
     },
     /// What a manager's worker did in its turn: `L turn S`.
     Turned {
@@ -87,18 +100,69 @@ fn put_call(out: &mut Vec<u8>, line: u32, thread: u32) -> Result<(), AllocError>
     put_number(out, thread)
 }
 
+// What stands for a decision: commit or abort.
+fn decision_text(commit: bool) -> &'static [u8]
+    ensures { result.now ≡ decision_text commit }
+{
+    if commit { b"commit" } else { b"abort" }
+}
+
+// What stands for a record: logged or unlogged.
+fn record_text(logged: bool) -> &'static [u8]
+    ensures { result.now ≡ record_text logged }
+{
+    if logged { b"logged" } else { b"unlogged" }
+}
+
+// What stands for an ending: committed, readonly, rolledback, indoubt or `left:C`.
+fn put_ending(out: &mut Vec<u8>, ending: Ending) -> Result<(), AllocError>
+    ensures { OnOk result (out.new.items ≡ out.old.items ++ ending_text ending) }
+{
+    match ending {
+        Ending::Committed => out.extend_from_slice(b"committed"),
+        Ending::ReadOnly => out.extend_from_slice(b"readonly"),
+        Ending::RolledBack => out.extend_from_slice(b"rolledback"),
+        Ending::InDoubt => out.extend_from_slice(b"indoubt"),
+        Ending::Left(code) => {
+            out.extend_from_slice(b"left:")?;
+            put_number(out, code.value())
+        }
+    }
+}
+
+// A word for each branch, behind a space.
+fn put_endings(out: &mut Vec<u8>, endings: &[Ending]) -> Result<(), AllocError>
+    ensures { OnOk result (out.new.items ≡ out.old.items ++ endings_text endings.now) }
+{
+    for ending in endings {
+        out.extend_from_slice(b" ")?;
+        put_ending(out, *ending)?;
+    }
+    Ok(())
+}
+
+// The decision, whether it was logged, and what became of each branch.
+fn put_done(out: &mut Vec<u8>, done: &Done) -> Result<(), AllocError>
+    ensures { OnOk result (out.new.items ≡ out.old.items ++ done_text done.now) }
+{
+    out.extend_from_slice(decision_text(done.commit))?;
+    out.extend_from_slice(b" ")?;
+    out.extend_from_slice(record_text(done.logged))?;
+    put_endings(out, &done.endings)
+}
+
 fn put_answer(out: &mut Vec<u8>, answer: &Answer) -> Result<(), AllocError>
     ensures { OnOk result (out.new.items ≡ out.old.items ++ answer_text answer.now) }
 {
-    match *answer {
+    match answer {
         Answer::Called {
             line,
             thread,
             answer,
         } => {
-            put_call(out, line, thread)?;
+            put_call(out, *line, *thread)?;
             out.extend_from_slice(b" ")?;
-            put_number(out, answer)?;
+            put_number(out, *answer)?;
             out.extend_from_slice(b"\n")
         }
         Answer::Completed {
@@ -107,14 +171,24 @@ fn put_answer(out: &mut Vec<u8>, answer: &Answer) -> Result<(), AllocError>
             handle,
             retval,
         } => {
-            put_call(out, line, thread)?;
+            put_call(out, *line, *thread)?;
             out.extend_from_slice(b" 0")?;
-            put_handle(out, handle, retval)
+            put_handle(out, *handle, *retval)
+        }
+        Answer::Refused { line, thread } => {
+            put_call(out, *line, *thread)?;
+            out.extend_from_slice(b" refused\n")
+        }
+        Answer::Decided { line, thread, done } => {
+            put_call(out, *line, *thread)?;
+            out.extend_from_slice(b" ")?;
+            put_done(out, done)?;
+            out.extend_from_slice(b"\n")
         }
         Answer::Turned { line, step } => {
-            put_number(out, line)?;
+            put_number(out, *line)?;
             out.extend_from_slice(b" turn ")?;
-            out.extend_from_slice(turn_text(step))?;
+            out.extend_from_slice(turn_text(*step))?;
             out.extend_from_slice(b"\n")
         }
         Answer::Ended {
@@ -123,8 +197,8 @@ fn put_answer(out: &mut Vec<u8>, answer: &Answer) -> Result<(), AllocError>
             retval,
         } => {
             out.extend_from_slice(b"end ")?;
-            put_number(out, thread)?;
-            put_handle(out, handle, retval)
+            put_number(out, *thread)?;
+            put_handle(out, *handle, *retval)
         }
     }
 }

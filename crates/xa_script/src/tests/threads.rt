@@ -10,7 +10,7 @@ use xa_words::Request;
 use xa_worker::{Free, Pace};
 
 // What the program writes for this script in threads mode, where it ends with status 0 and tells nothing.
-fn shown<R: Threads + Wait + AllocGlobal + Copy + Send + 'static>(
+pub(super) fn shown<R: Threads + Wait + AllocGlobal + Copy + Send + 'static>(
     rt: &R,
     mut script: &[u8],
 ) -> Option<Vec<u8>> {

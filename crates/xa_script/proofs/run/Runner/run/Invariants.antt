@@ -6,8 +6,8 @@ use Rattle.xa_script.proofs.run.Runner.run.Given as goal
 -- the first steps went so
 abbrev pub invariant-loop-step : goal.invariant-loop-step
 invariant-loop-step g l = record {
-  runs : HasRun (course_of l.fn.self.desks.items l.fn.self.turns.workers.items l.fn.answers.items) (take l.step-index l.steps) (course_of l.self.desks.items l.self.turns.workers.items l.answers.items);
-  threads : length l.self.desks.items ≡ length l.fn.self.desks.items;
+  runs : HasRun (course_of l.fn.self.controls.items l.fn.self.turns.workers.items l.fn.answers.items) (take l.step-index l.steps) (course_of l.self.controls.items l.self.turns.workers.items l.answers.items);
+  threads : length l.self.controls.items ≡ length l.fn.self.controls.items;
   managers : length l.self.turns.workers.items ≡ length l.fn.self.turns.workers.items;
   few : length l.answers.items ≡ length l.fn.answers.items + l.step-index;
   room : vec_capacity l.answers ≡ vec_capacity l.fn.answers;

@@ -6,7 +6,7 @@ use Rattle.xa_script.proofs.working.Lines.leave.Goals as goal
 
 pub returns : goal.returns
 returns g c = record {
-  last = (c.args.self.desk, []);
-  runs = none [] (c.args.self.desk, []) refl refl;
-  ends = subst (λ (l : List Answer). EndsDesk c.args.self.desk l c.end_desk-desk.result c.end_desk-desk.new.answers.items) c.requires.none c.end_desk-desk.ensures.ends;
+  last = (c.args.self.control, []);
+  runs = none [] (c.args.self.control, []) refl refl;
+  ends = subst (λ (l : List Answer). EndsDesk c.args.self.control.desk l c.end_desk-desk.result c.end_desk-desk.new.answers.items) c.requires.none c.end_desk-desk.ensures.ends;
 }

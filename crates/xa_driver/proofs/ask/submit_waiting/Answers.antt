@@ -1,0 +1,28 @@
+use Rattle.std.proofs.Common.{◌≡◌, ◌⊎◌, ⊎_elim, inl, inr, None, Some, refl, sym, ap, ◌∙◌, subst, rules}
+use Rattle.xa_desk.specs.DeskView.{DeskView, submit_refusal}
+use Rattle.xa_desk.specs.Lanes.{after_full}
+use Rattle.xa_driver.specs.Asks.{KeepsDesk}
+use Rattle.xa_driver.proofs.ask.submit_waiting.Goals as goal
+
+pub loop-preserved : goal.loop-preserved
+loop-preserved g c =
+    let now : DeskView = c.loop.desk in
+    let new : DeskView = c.submit.new.self in
+    let m = c.args.manager in
+    let either : (new ≡ now) ⊎ (new ≡ after_full now m) =
+    elim (submit_refusal now m) as (λ r. submit_refusal now m ≡ r → (new ≡ now) ⊎ (new ≡ after_full now m)) [
+      | None ↦ λ e. inr (c.in_default.ensures.full e).1
+      | Some why ↦ λ e. inl (c.in_default.ensures.refused why e).1
+    ] refl in
+    let before : KeepsDesk c.args.desk.now now = c.loop.invariant.keeps in
+    record {
+      can = search rules;
+      finite = search rules;
+      unsent = ⊎_elim (λ (e : new ≡ now). ap (λ (d : DeskView). d.accounts) e) (λ (e : new ≡ after_full now m). ap (λ (d : DeskView). d.accounts) e) either ∙ c.loop.invariant.unsent;
+      keeps =
+          ⊎_elim (λ (e : new ≡ now). subst (KeepsDesk c.args.desk.now) (sym e) before)
+          (λ (e : new ≡ after_full now m).
+          subst (KeepsDesk c.args.desk.now) (sym e) (record { seat = c.operations_keep_the_seat.ensures.full 1 now m ∙ before.seat; handles = before.handles; kept = before.kept }))
+          either;
+      idled = search rules;
+    }

@@ -1,0 +1,45 @@
+//! The line of a commit of several branches.
+ghost use Rattle.std.specs.Prelude.{◌≡◌, ◌≤◌};
+ghost use Rattle.xa_grammar.specs.Commits.{branches_at, commit_of};
+
+use crate::fault::Reason;
+use crate::field::number_in;
+use crate::named::Named;
+use crate::script::{CommitAll, Script};
+use crate::words::Words;
+
+// How large a manager's number may be on a line, whether or not there is such a manager.
+const MOST_MANAGER: u64 = u32::MAX as u64;
+
+// The words behind the global transaction, where there are so many managers.
+fn branches_at(count: u32, words: &mut Words) -> Result<[bool; 8], Reason>
+    requires { count ≤ 8 }
+    ensures { result ≡ branches_at count words.old }
+{
+    let mut named = Named::new(count);
+    named.add(words.number(0, MOST_MANAGER)? as u32);
+    while let Some(word) = words.next() {
+        named.add(number_in(0, MOST_MANAGER, word)? as u32);
+    }
+    named.places()
+}
+
+// The words behind `commitall`.
+#[tactic(auto, unfolding(crate::specs::Commits::commit_of))]
+pub(crate) fn commit_of(
+    script: &Script,
+    line: u32,
+    thread: u32,
+    words: &mut Words,
+) -> Result<CommitAll, Reason>
+    ensures { result ≡ commit_of script.now line thread words.old }
+{
+    let tran = words.tran()?;
+    let managers = branches_at(script.managers(), words)?;
+    Ok(CommitAll {
+        line,
+        thread,
+        tran,
+        managers,
+    })
+}

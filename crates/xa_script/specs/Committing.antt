@@ -1,0 +1,42 @@
+-- What a commit of several branches does to its thread of control, and what each task does.
+use Rattle.std.specs.Prelude.{◌≡◌, ℕ, ◌-◌, pos, Bool, false, List, decimal, map, filter}
+use Rattle.std.specs.List.{range_with_len, slice_index_or}
+use Rattle.xa_words.specs.Tran.{TranName}
+use Rattle.xa_desk.specs.DeskView.{outstanding}
+use Rattle.xa_driver.specs.declared.branch.Branch.{Branch}
+use Rattle.xa_driver.specs.declared.done.Done.{Done}
+use Rattle.xa_driver.specs.Asks.{KeepsDesk}
+use Rattle.xa_driver.specs.Trace.{MayCommit, IsTraceOfCommit}
+use Rattle.xa_grammar.specs.declared.script.CommitAll.{CommitAll}
+use Rattle.xa_grammar.specs.declared.script.Task.{Task}
+use Rattle.xa_grammar.specs.declared.script.Task.TheVariants as task
+use Rattle.xa_script.specs.declared.control.Control.{Control}
+use Rattle.xa_script.specs.declared.transcript.Answer.{Answer}
+use Rattle.xa_script.specs.declared.transcript.Answer.TheVariants as answer
+use Rattle.xa_script.specs.Calling.{Answers}
+
+-- The transaction that a commit names, of format 1.
+abbrev pub named : CommitAll → TranName
+named c = record { format = pos 1; gtrid = c.tran.gtrid }
+
+-- Its branch at manager m: the qualifier is the manager's number.
+abbrev pub branch_at : CommitAll → ℕ → Branch
+branch_at c m = record { m = m; xid = record { format = pos 1; gtrid = c.tran.gtrid; bqual = decimal m } }
+
+-- The commit has a branch at manager m.
+abbrev pub is_at : CommitAll → ℕ → Bool
+is_at c m = slice_index_or c.managers (m - 1) false
+
+-- The branches of a commit, by rising manager.
+abbrev pub branches_of : CommitAll → List Branch
+branches_of c = map (branch_at c) (filter (is_at c) (range_with_len 1 8))
+
+-- What a commit of several branches does to its thread's desk and log, and what it answers: where the branches may not be committed nothing is done; else it is the trace of the coordinator.
+pub data Commits (c : CommitAll) (old new : Control) (a : Answer) : Type 0 where
+  refused : (MayCommit old.desk old.log.state (branches_of c) → ⊥) → a ≡ answer.Refused c.line c.thread → new ≡ old → Commits c old new a
+  decided : (done : Done) → MayCommit old.desk old.log.state (branches_of c) → IsTraceOfCommit (named c) (branches_of c) old.desk.accounts new.desk.accounts old.log.state new.log.state done → KeepsDesk old.desk new.desk → outstanding new.desk.accounts ≡ outstanding old.desk.accounts → a ≡ answer.Decided c.line c.thread done → Commits c old new a
+
+-- What a task does to its thread, and what it answers. A call leaves the log.
+abbrev pub Does : Task → Control → Control → Answer → Type 0
+Does (task.Call p) old new a = Answers p.action p old.desk new.desk a × (new.log ≡ old.log)
+Does (task.CommitAll c) old new a = Commits c old new a
