@@ -9,16 +9,15 @@ use Rattle.xa_words.specs.declared.request.Op.{Op}
 use Rattle.xa_words.specs.declared.request.Op.TheVariants.{Prepare, Rollback}
 use Rattle.xa_tables.specs.History.{is_rolled_back}
 use Rattle.xa_desk.specs.AccountView.{AccountView, learnt_shut}
-use Rattle.xa_desk.specs.DeskView.{account}
 use Rattle.xa_driver.specs.declared.branch.Branch.{Branch}
 use Rattle.xa_driver.specs.declared.done.Done.{Done}
-use Rattle.xa_driver.specs.declared.done.Ending.{Ending}
 use Rattle.xa_driver.specs.Decision.{is_read, decides_commit, has_yes}
-use Rattle.xa_driver.specs.Endings.{second_op, ending_of, is_out_of_reach}
+use Rattle.xa_driver.specs.Endings.{second_op, is_out_of_reach}
 use Rattle.xa_driver.specs.Log.{LogState}
 use Rattle.xa_driver.specs.Asks.{asked}
-use Rattle.xa_driver.specs.Trace.{BranchTrace, EachBranch, IsTraceOfCommit, commits, voted, wants_record}
-use Rattle.xa_driver.specs.Commits.{HasSentNoCommit, EachHasSentNoCommit, is_commit}
+use Rattle.xa_driver.specs.Trace.{BranchTrace, IsTraceOfCommit, voted, wants_record}
+use Rattle.xa_driver.specs.Commits.{HasSentNoCommit, NoCommitWasSent, is_commit}
+use Rattle.xa_driver.proofs.EachManager.{every_manager}
 
 pub by_if : {A : Type 0} (P : A → Type 0) (b : Bool) (p q : A) → (b ≡ true → P p) → (b ≡ false → P q) → P (if b then p else q)
 by_if P b p q one two = elim b as (λ c. b ≡ c → P (if c then p else q)) [ true ↦ one | false ↦ two ] refl
@@ -57,6 +56,12 @@ unfolding is_commit_asked
 no_commit b v s a a' tr =
     subst (HasSentNoCommit a) (sym tr.trace) (chained a (voted b v a) _ (asked_none a (Some (Prepare b.xid)) (Some v) refl) (asked_none (voted b v a) (second_op false b.xid v) s (on_abort b.xid v)))
 
+-- on abort no Commit is sent to any manager
+pub abort_sends_no_commit : (tran : TranName) (bs : List Branch) (old new : List AccountView) (log later : LogState) (done : Done)
+    → IsTraceOfCommit tran bs old new log later done → done.commit ≡ false → NoCommitWasSent old new
+abort_sends_no_commit tran bs old new log later done call off =
+    every_manager HasSentNoCommit nothing_more tran bs old new log later done (λ b v s a a' tr. no_commit b v s a a' (subst (λ c. BranchTrace c b v s a a') off tr)) call
+
 and_false : (b : Bool) → (b && false) ≡ false
 and_false true = refl
 and_false false = refl
@@ -65,18 +70,10 @@ right_holds : (a b : Bool) → (a && b) ≡ true → b ≡ true
 right_holds true b e = e
 right_holds false b e = cc
 
--- on abort no Commit is sent
-each_no_commit : (old new : List AccountView) (commit : Bool) → commit ≡ false → (bs : List Branch) (vs : List Code) (ss : List (Option Code)) (es : List Ending)
-    → EachBranch (λ b v s e. BranchTrace commit b v s (account old b.m) (account new b.m) × (e ≡ ending_of commit v s)) bs vs ss es → EachHasSentNoCommit old new bs
-each_no_commit old new commit off [] [] [] [] h = tt
-each_no_commit old new commit off (b ∷ bs) (v ∷ vs) (s ∷ ss) (e ∷ es) h =
-    (no_commit b v s (account old b.m) (account new b.m) (subst (λ c. BranchTrace c b v s (account old b.m) (account new b.m)) off h.0.0), each_no_commit old new commit off bs vs ss es h.1)
-each_no_commit old new commit off bs vs ss es h = absurd h
-
-pub failed_append_law : (tran : TranName) (bs : List Branch) (old new : List AccountView) (log later : LogState) (done : Done)
-    → IsTraceOfCommit tran bs old new log later done → wants_record done.votes.items ≡ true → done.logged ≡ false → EachHasSentNoCommit old new bs
-failed_append_law tran bs old new log later done call wanted off =
+-- where the log didn't take the record, the decision is to abort
+pub failed_append_aborts : (tran : TranName) (bs : List Branch) (old new : List AccountView) (log later : LogState) (done : Done)
+    → IsTraceOfCommit tran bs old new log later done → wants_record done.votes.items ≡ true → done.logged ≡ false → done.commit ≡ false
+failed_append_aborts tran bs old new log later done call wanted off =
     let votes : List Code = done.votes.items in
     let some_yes : has_yes votes ≡ true = right_holds _ _ wanted in
-    let z : commits votes done.logged ≡ false = (λ i. decides_commit votes && (not (some_yes i) || off i)) ∙ and_false (decides_commit votes) in
-    each_no_commit old new done.commit (call.decision ∙ z) bs votes call.seconds done.endings.items call.each
+    call.decision ∙ (λ i. decides_commit votes && (not (some_yes i) || off i)) ∙ and_false (decides_commit votes)

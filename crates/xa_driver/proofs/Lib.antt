@@ -4,4 +4,9 @@ pub mod Asking
 pub mod Flights
 pub mod Gathering
 pub mod Calls
+pub mod EachManager
 pub mod Aborts
+pub mod Placing
+pub mod Branches
+pub mod OneOutcome
+pub mod Settled

@@ -1,11 +1,10 @@
 -- Whether a Commit is among what was sent.
-use Rattle.std.specs.Prelude.{◌≡◌, Bool, true, false, List, [], ◌∷◌, ◌++◌}
+use Rattle.std.specs.Prelude.{◌≡◌, ℕ, ◌≤◌, Bool, true, false, List, ◌++◌}
 use Rattle.std.specs.List.{list_any}
 use Rattle.xa_words.specs.declared.request.Op.{Op}
 use Rattle.xa_words.specs.declared.request.Op.TheVariants.{Commit}
 use Rattle.xa_desk.specs.AccountView.{AccountView}
 use Rattle.xa_desk.specs.DeskView.{account}
-use Rattle.xa_driver.specs.declared.branch.Branch.{Branch}
 
 -- a Commit, in one phase or two
 abbrev pub is_commit : Op → Bool
@@ -18,7 +17,6 @@ pub record HasSentNoCommit (a a' : AccountView) : Type 0 where
   pub sent : a'.sent ≡ a.sent ++ more
   pub none : list_any is_commit more ≡ false
 
--- so for each branch
-abbrev pub EachHasSentNoCommit : List AccountView → List AccountView → List Branch → Type 0
-EachHasSentNoCommit old new [] = Unit {0}
-EachHasSentNoCommit old new (b ∷ bs) = HasSentNoCommit (account old b.m) (account new b.m) × EachHasSentNoCommit old new bs
+-- so for every manager
+abbrev pub NoCommitWasSent : List AccountView → List AccountView → Type 0
+NoCommitWasSent old new = (m : ℕ) → 1 ≤ m → HasSentNoCommit (account old m) (account new m)

@@ -6,3 +6,4 @@ pub mod Asks
 pub mod Rounds
 pub mod Trace
 pub mod Commits
+pub mod Outcomes

@@ -89,3 +89,8 @@ pub record IsTraceOfCommit (tran : TranName) (bs : List Branch) (old new : List 
   pub managers : length new ≡ length old
   pub decision : d.commit ≡ commits d.votes.items d.logged
   pub logs : Logs tran (yes_of bs d.votes.items) d.votes.items d.logged log log'
+
+-- A commit of the branches was made: it might be, and the desk's lists, the log and what it told grew by its trace.
+pub record IsCommit (bs : List Branch) (desk : DeskView) (new : List AccountView) (log later : LogState) (d : Done) : Type 0 where
+  pub may : MayCommit desk log bs
+  pub trace : IsTraceOfCommit may.tran bs desk.accounts new log later d

@@ -3,8 +3,9 @@ ghost use Rattle.std.specs.Prelude.{◌≡◌, OnErr, IfOk, OnOk, None};
 ghost use Rattle.xa_driver.specs.Log.{record_of};
 ghost use Rattle.xa_words.specs.Tran.{TranName};
 ghost use Rattle.xa_desk.specs.DeskView.{outstanding};
+ghost use Rattle.xa_switch.specs.Growth.{HaveGrown};
 ghost use Rattle.xa_driver.specs.Asks.{KeepsDesk};
-ghost use Rattle.xa_driver.specs.Trace.{IsTraceOfCommit, IsTranOf, Logs, MayCommit, commits};
+ghost use Rattle.xa_driver.specs.Trace.{IsCommit, IsTraceOfCommit, IsTranOf, Logs, MayCommit, commits};
 
 use crate::ask::ask_all;
 use crate::branch::Branch;
@@ -55,6 +56,8 @@ pub fn commit_all<R: Wait, L: DecisionLog, I: Idle>(
 
     // The lists of the desk grow by the call's trace, and the result is what it shows.
     ensures call { IfOk result (λ d. (t : TranName) → IsTranOf branches.now t → IsTraceOfCommit t branches.now desk.old.accounts desk.new.accounts (L.state log.old) (L.state log.new) d) }
+    ensures made { IfOk result (IsCommit branches.now desk.old desk.new.accounts (L.state log.old) (L.state log.new)) }
+    ensures grown { OnOk result (HaveGrown desk.old.accounts desk.new.accounts) }
     ensures keeps { OnOk result (KeepsDesk desk.old desk.new) }
     ensures free { OnOk result (outstanding desk.new.accounts ≡ outstanding desk.old.accounts) }
 

@@ -1,14 +1,88 @@
 //! Laws of the definitions, for any commit of several branches.
-ghost use Rattle.std.specs.Prelude.{◌≡◌, true, false, List};
+//!
+//! What `commit_all` and `settle` promise gives their premises. A commit that was made is `commit_all`'s clause
+//! `made`. The desk's lists lead to what the settled opening has of its thread, since every call says that
+//! they only grow (`xa_switch::laws::growth_goes_on` joins two such calls) and `settle` has the lists with
+//! which the desk ended. That nobody else names a branch behind its Prepare is for the caller to know.
+ghost use Rattle.std.specs.Prelude.{◌≡◌, ℕ, true, false, List};
 ghost use Rattle.xa_words.specs.Tran.{TranName};
 ghost use Rattle.xa_desk.specs.AccountView.{AccountView};
+ghost use Rattle.xa_desk.specs.DeskView.{DeskView};
+ghost use Rattle.xa_switch.specs.Settling.{Settling, IsSettled};
+ghost use Rattle.xa_switch.specs.Growth.{HaveGrown, accounts_of};
 ghost use Rattle.xa_driver.specs.declared.branch.Branch.{Branch};
 ghost use Rattle.xa_driver.specs.declared.done.Done.{Done};
 ghost use Rattle.xa_driver.specs.Log.{LogState};
-ghost use Rattle.xa_driver.specs.Trace.{IsTraceOfCommit, wants_record};
-ghost use Rattle.xa_driver.specs.Commits.{EachHasSentNoCommit};
+ghost use Rattle.xa_driver.specs.Trace.{IsCommit, IsTraceOfCommit, IsTranOf, wants_record};
+ghost use Rattle.xa_driver.specs.Commits.{NoCommitWasSent};
+ghost use Rattle.xa_driver.specs.Outcomes.{AreLeftAlone, IsCommittedTransaction, IsAbortedTransaction, KeepsTheVotes, TellsTheFates, has_committed, was_refused};
 
-/// Of one call alone: where the append failed, no Commit was sent.
+use crate::branch::Branch;
+use crate::done::Done;
+use crate::log::DecisionLog;
+use std::snapshot::Snapshot;
+use xa_desk::Desk;
+use xa_switch::Settled;
+use xa_switch::laws::settled_journals_follow_the_tables;
+use xa_tables::laws::{
+    late_requests_leave_fates, only_a_shut_shuts, prepared_branches_await_the_outcome,
+    refused_prepares_tell_integrity,
+};
+
+/// Of one call alone: where the append failed, no Commit was sent to any manager.
 pub fn failed_append()
-    ensures { (tran : TranName) (bs : List Branch) (old new : List AccountView) (log later : LogState) (done : Done) → IsTraceOfCommit tran bs old new log later done → wants_record done.votes.items ≡ true → done.logged ≡ false → EachHasSentNoCommit old new bs }
+    ensures { (tran : TranName) (bs : List Branch) (old new : List AccountView) (log later : LogState) (done : Done) → IsTraceOfCommit tran bs old new log later done → wants_record done.votes.items ≡ true → done.logged ≡ false → NoCommitWasSent old new }
 {}
+
+/// Of one call alone: all its branches have one outcome. Where a branch was committed, every vote was to
+/// commit or of a branch that only read, the log has the record with exactly the managers that voted to
+/// commit, and no branch was rolled back. Where a vote was against, a branch was rolled back or the append
+/// failed, no branch was committed, the log has nothing of the transaction, and no Commit was sent to any
+/// manager.
+pub fn one_outcome()
+    ensures committed { (tran : TranName) (bs : List Branch) (desk : DeskView) (new : List AccountView) (log later : LogState) (done : Done) → IsCommit bs desk new log later done → IsTranOf bs tran → has_committed done ≡ true → IsCommittedTransaction tran bs later done }
+    ensures aborted { (tran : TranName) (bs : List Branch) (desk : DeskView) (new : List AccountView) (log later : LogState) (done : Done) → IsCommit bs desk new log later done → IsTranOf bs tran → was_refused done ≡ true → IsAbortedTransaction tran desk.accounts new later done }
+{}
+
+/// In a settled opening, where nobody but the call named a branch behind its Prepare: a branch that voted
+/// to commit isn't left, and is in doubt only where its manager was shut before the place of its second
+/// request; and what the call tells of each branch is what became of it by its manager's journal.
+pub fn endings_are_fates()
+    ensures votes { (s : Settling) (t : ℕ) (bs : List Branch) (desk : DeskView) (new : List AccountView) (log later : LogState) (done : Done) → IsSettled s → IsCommit bs desk new log later done → HaveGrown new (accounts_of s t) → AreLeftAlone s t bs desk.accounts new → KeepsTheVotes s t bs desk.accounts done }
+    ensures fates { (s : Settling) (t : ℕ) (bs : List Branch) (desk : DeskView) (new : List AccountView) (log later : LogState) (done : Done) → IsSettled s → IsCommit bs desk new log later done → HaveGrown new (accounts_of s t) → AreLeftAlone s t bs desk.accounts new → TellsTheFates s bs done }
+{
+    prepared_branches_await_the_outcome();
+    only_a_shut_shuts();
+    late_requests_leave_fates();
+    refused_prepares_tell_integrity();
+    settled_journals_follow_the_tables();
+}
+
+/// A commit of several branches only makes its desk's lists grow.
+pub fn commits_grow_the_lists()
+    ensures { (tran : TranName) (bs : List Branch) (old new : List AccountView) (log later : LogState) (done : Done) → IsTraceOfCommit tran bs old new log later done → HaveGrown old new }
+{}
+
+/// The laws for a caller that kept its desk and its log as they were before and after a commit: all its
+/// branches have one outcome, and where nobody else named them, what it told of each is what became of it.
+pub fn commit_in_a_settled_opening<L: DecisionLog>(
+    settled: &Settled,
+    thread: u32,
+    branches: &[Branch],
+    before: &Snapshot<Desk>,
+    after: &Snapshot<Desk>,
+    log_before: &Snapshot<L>,
+    log_after: &Snapshot<L>,
+    done: &Done,
+)
+    requires made { IsCommit branches.now before.now.value after.now.value.accounts (L.state log_before.now.value) (L.state log_after.now.value) done.now }
+    requires grown { HaveGrown after.now.value.accounts (accounts_of settled.now thread) }
+    ensures committed { has_committed done.now ≡ true → (tran : TranName) → IsTranOf branches.now tran → IsCommittedTransaction tran branches.now (L.state log_after.now.value) done.now }
+    ensures aborted { was_refused done.now ≡ true → (tran : TranName) → IsTranOf branches.now tran → IsAbortedTransaction tran before.now.value.accounts after.now.value.accounts (L.state log_after.now.value) done.now }
+    ensures votes { AreLeftAlone settled.now thread branches.now before.now.value.accounts after.now.value.accounts → KeepsTheVotes settled.now thread branches.now before.now.value.accounts done.now }
+    ensures fates { AreLeftAlone settled.now thread branches.now before.now.value.accounts after.now.value.accounts → TellsTheFates settled.now branches.now done.now }
+{
+    one_outcome();
+    endings_are_fates();
+    let _settled = settled.journal(1);
+}

@@ -1,6 +1,11 @@
 //! Commits over an opening whose workers are stepped by hand, and the log in memory.
+ghost use Rattle.std.specs.Prelude.{◌≡◌, map, refl};
+ghost use Rattle.std.proofs.Common.{◌∙◌};
+ghost use Rattle.xa_switch.specs.Seats.{seat_of_worker};
+
 mod appending;
 mod endings;
+mod outcomes;
 mod threads;
 
 use crate::{
@@ -10,6 +15,7 @@ use std::alloc::Global;
 use std::process::Abort;
 use std::sync::Wait;
 use xa_desk::{Desk, Idle};
+use xa_switch::laws::steps_keep_the_seat;
 use xa_switch::{ManagerPlan, Plan, RmOp, native, open_switch, xa_call};
 use xa_words::{Call, Code, Delta, Key, TMNOFLAGS, TMSUCCESS, Tran, Xid};
 use xa_worker::{Free, Worker};
@@ -20,18 +26,31 @@ struct Workers {
     workers: Vec<Worker>,
 }
 
+impl Workers {
+    // The worker at the place does one step, where the wait is for it.
+    fn step<R: Wait>(&mut self, rt: &R, place: usize, manager: u32)
+        ensures { map seat_of_worker self.new.workers.items ≡ map seat_of_worker self.old.workers.items }
+    {
+        steps_keep_the_seat();
+        if place >= self.workers.len() {
+            return;
+        }
+        if manager == 0 || self.workers[place].manager() == manager {
+            self.workers[place].step(rt, &mut Free);
+        }
+    }
+}
+
 impl Idle for Workers {
-    ghost leads = { λ before after. Unit {0} };
+    ghost leads = { λ before after. map seat_of_worker after.workers.items ≡ map seat_of_worker before.workers.items };
 
-    ghost leads_start = { λ x. tt };
+    ghost leads_start = { λ x. refl };
 
-    ghost leads_chain = { λ x y z p q. tt };
+    ghost leads_chain = { λ x y z p q. q ∙ p };
 
     fn idle<R: Wait>(&mut self, rt: &R, manager: u32) {
-        for worker in &mut self.workers {
-            if manager == 0 || worker.manager() == manager {
-                worker.step(rt, &mut Free);
-            }
+        for place in 0..self.workers.len() {
+            self.step(rt, place, manager);
         }
     }
 }

@@ -9,3 +9,5 @@ pub mod Agreeing
 pub mod Seated
 pub mod Mixing
 pub mod Parting
+pub mod Growing
+pub mod Journaled

@@ -153,7 +153,7 @@ looking_keeps old new h = ap seat_of_desk h.rest
 pub collecting_keeps : (old new : DeskView) (o : Operation) (code : Code) → Collects old new o code → seat_of_desk new ≡ seat_of_desk old
 collecting_keeps old new o code h = ap seat_of_desk h.collected ∙ looking_keeps old h.before h.looks
 
-puts_keep : (old : DeskView) (m : ℕ) (asked : Asked) (new : DeskView) (answer : ℤ) → Puts old m asked new answer → seat_of_desk new ≡ seat_of_desk old
+pub puts_keep : (old : DeskView) (m : ℕ) (asked : Asked) (new : DeskView) (answer : ℤ) → Puts old m asked new answer → seat_of_desk new ≡ seat_of_desk old
 puts_keep old m asked new answer (refused c a b e) = ap seat_of_desk e
 puts_keep old m asked new answer (full a b f e) = ap seat_of_desk e ∙ full_keeps old m
 puts_keep old m asked new answer (kept a b k f l e) = ap seat_of_desk e ∙ sending_keeps old m asked.op
@@ -186,7 +186,7 @@ at_keeps false multiple nowait old number m new result h = ap seat_of_desk h.1
 at_keeps true true nowait old number m new result h = any_keeps old m nowait new result h
 at_keeps true false nowait old number m new result h = one_keeps old number m nowait new result h
 
-by_keeps : (flags : Result Mode Code) (old : DeskView) (number : Option ℕ) (m : ℕ) (new : DeskView) (result : Result (ℕ × Code) Code) → CompletesBy flags old number m new result → seat_of_desk new ≡ seat_of_desk old
+pub by_keeps : (flags : Result Mode Code) (old : DeskView) (number : Option ℕ) (m : ℕ) (new : DeskView) (result : Result (ℕ × Code) Code) → CompletesBy flags old number m new result → seat_of_desk new ≡ seat_of_desk old
 by_keeps (Ok mode) old number m new result h = at_keeps (may_complete old m mode.multiple) mode.multiple mode.nowait old number m new result h
 by_keeps (Err c) old number m new result h = ap seat_of_desk h.1
 

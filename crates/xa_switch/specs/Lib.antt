@@ -8,3 +8,4 @@ pub mod Openings
 pub mod Settling
 pub mod Seats
 pub mod Closing
+pub mod Growth

@@ -2,6 +2,8 @@
 ghost use Rattle.std.specs.Prelude.{◌≡◌, false, Ok};
 ghost use Rattle.xa_switch.specs.Asking.{asked_of, native};
 ghost use Rattle.xa_switch.specs.Putting.{put_refusal, Puts, Calls, waits};
+ghost use Rattle.xa_switch.specs.Seats.{seat_of_desk};
+ghost use Rattle.xa_switch.specs.Growth.{HaveGrown};
 
 use crate::asked::{Asked, RmOp, asked_of, native_of};
 use std::sync::Wait;
@@ -59,6 +61,8 @@ fn put_asked<R: Wait, I: Idle>(
     idle: &mut I,
 ) -> i32
     ensures calls { Calls asked desk.old manager desk.new result }
+    ensures seat { seat_of_desk desk.new ≡ seat_of_desk desk.old }
+    ensures grown { HaveGrown desk.old.accounts desk.new.accounts }
     ensures idled { I.leads idle.old idle.new }
     ensures prompt { waits desk.old manager asked ≡ false → idle.new ≡ idle.old }
 {
@@ -86,6 +90,8 @@ pub fn xa_call<R: Wait, I: Idle>(
     idle: &mut I,
 ) -> i32
     ensures calls { Calls (asked_of call xid flags) desk.old manager desk.new result }
+    ensures seat { seat_of_desk desk.new ≡ seat_of_desk desk.old }
+    ensures grown { HaveGrown desk.old.accounts desk.new.accounts }
     ensures idled { I.leads idle.old idle.new }
     ensures prompt { waits desk.old manager (asked_of call xid flags) ≡ false → idle.new ≡ idle.old }
 {
@@ -102,6 +108,8 @@ pub fn native<R: Wait, I: Idle>(
     idle: &mut I,
 ) -> i32
     ensures calls { Calls (native op flags) desk.old manager desk.new result }
+    ensures seat { seat_of_desk desk.new ≡ seat_of_desk desk.old }
+    ensures grown { HaveGrown desk.old.accounts desk.new.accounts }
     ensures idled { I.leads idle.old idle.new }
     ensures prompt { waits desk.old manager (native op flags) ≡ false → idle.new ≡ idle.old }
 {

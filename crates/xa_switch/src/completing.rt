@@ -3,6 +3,8 @@ ghost use Rattle.std.specs.Prelude.{◌≡◌, false, IfOk, IsTrue};
 ghost use Rattle.xa_words.specs.Flags.{check_flags};
 ghost use Rattle.xa_desk.specs.DeskView.{IsHandle};
 ghost use Rattle.xa_switch.specs.Completing.{number_in, keeps_for, CompletesOne, CompletesAny, may_complete, CompletesIn, CompletesBy, Tells, HasCompleted, waits};
+ghost use Rattle.xa_switch.specs.Seats.{seat_of_desk};
+ghost use Rattle.xa_switch.specs.Growth.{HaveGrown};
 
 use std::sync::Wait;
 use xa_desk::{AnyFault, Desk, Idle, NothingOutstanding};
@@ -169,6 +171,8 @@ pub fn xa_complete<R: Wait, I: Idle>(
     idle: &mut I,
 ) -> i32
     ensures completes { HasCompleted desk.old handle.old retval.old manager flags desk.new handle.new retval.new result }
+    ensures seat { seat_of_desk desk.new ≡ seat_of_desk desk.old }
+    ensures grown { HaveGrown desk.old.accounts desk.new.accounts }
     ensures idled { I.leads idle.old idle.new }
     ensures prompt { waits (check_flags Call.Complete flags) ≡ false → idle.new ≡ idle.old }
 {

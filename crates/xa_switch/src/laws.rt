@@ -3,10 +3,16 @@
 //!
 //! The pieces of an opening come from it. A desk keeps its seat at every call and as it ends, a worker at
 //! every step and as it runs, so the seats of what is left at the end are those of the opening.
+//!
+//! And laws of lists: how a caller knows that what a settled opening has of a thread begins with what the
+//! thread's desk had at some moment. A desk's lists only grow, which each call of XA says itself, and
+//! `settle` has the lists with which each desk ended.
 ghost use Rattle.std.specs.Prelude.{◌≡◌, ◌≢◌, ℕ, ℤ, List, ◌++◌, map, Result};
 ghost use Rattle.std.specs.List.{All};
 ghost use Rattle.xa_words.specs.declared.code.Code.{Code};
 ghost use Rattle.xa_words.specs.declared.request.Op.{Op};
+ghost use Rattle.xa_tables.specs.Tables.{Tables};
+ghost use Rattle.xa_desk.specs.AccountView.{AccountView};
 ghost use Rattle.xa_desk.specs.declared.operation.Operation.{Operation};
 ghost use Rattle.xa_desk.specs.DeskView.{DeskView};
 ghost use Rattle.xa_desk.specs.Lanes.{submitted, after_fulls};
@@ -19,7 +25,9 @@ ghost use Rattle.xa_switch.specs.declared.plan.Plan.{Plan};
 ghost use Rattle.xa_switch.specs.Openings.{AreOfOneOpening};
 ghost use Rattle.xa_switch.specs.Putting.{Calls};
 ghost use Rattle.xa_switch.specs.Completing.{HasCompleted};
-ghost use Rattle.xa_switch.specs.Seats.{DeskSeat, WorkerSeat, ComeFromOpenings, AreSomeOf, openings_of, seat_of_desk, seat_of_ended, seat_of_worker, seat_of_done};
+ghost use Rattle.xa_switch.specs.Settling.{Settling, IsSettled};
+ghost use Rattle.xa_switch.specs.Growth.{HaveGrown, IsOpenedWith};
+ghost use Rattle.xa_switch.specs.Seats.{DeskSeat, WorkerSeat, ComeFromOpenings, AreSomeOf, AreOfOne, desk_seats, worker_seats, openings_of, seat_of_desk, seat_of_ended, seat_of_worker, seat_of_done};
 
 /// The desks and workers that an opening gives come from it.
 pub fn opened_pieces_come_from_their_opening()
@@ -70,4 +78,32 @@ pub fn some_pieces_come_from_their_openings()
 /// Pieces of several openings may be mixed, since no two openings have one number.
 pub fn mixed_pieces_come_from_their_openings()
     ensures { (ds others : List DeskSeat) (ws other_ws : List WorkerSeat) → All (λ a. All (λ b. a ≢ b) (openings_of others other_ws)) (openings_of ds ws) → ComeFromOpenings ds ws → ComeFromOpenings others other_ws → ComeFromOpenings (ds ++ others) (ws ++ other_ws) }
+{}
+
+/// Lists that have grown may grow on.
+pub fn growth_goes_on()
+    ensures same { (at : List AccountView) → HaveGrown at at }
+    ensures further { (old mid new : List AccountView) → HaveGrown old mid → HaveGrown mid new → HaveGrown old new }
+{}
+
+/// Whatever a thread calls, its desk's lists only grow.
+pub fn calls_grow_the_lists()
+    ensures calls { (asked : Result Asked Code) (old : DeskView) (m : ℕ) (new : DeskView) (answer : ℤ) → Calls asked old m new answer → HaveGrown old.accounts new.accounts }
+    ensures completions { (old : DeskView) (handle retval : ℤ) (m flags : ℕ) (new : DeskView) (handle' retval' answer : ℤ) → HasCompleted old handle retval m flags new handle' retval' answer → HaveGrown old.accounts new.accounts }
+{}
+
+/// So do those of a desk whose own calls are used, and of one that ends.
+pub fn operations_grow_the_lists()
+    ensures sending { (d : DeskView) (m : ℕ) (op : Op) → HaveGrown d.accounts (submitted d m op).accounts }
+    ensures full { (n : ℕ) (d : DeskView) (m : ℕ) → HaveGrown d.accounts (after_fulls n d m).accounts }
+    ensures looking { (old new : DeskView) → Looks old new → HaveGrown old.accounts new.accounts }
+    ensures quiet { (old new : DeskView) → EndsQuiet old new → HaveGrown old.accounts new.accounts }
+    ensures collecting { (old new : DeskView) (o : Operation) (code : Code) → Collects old new o code → HaveGrown old.accounts new.accounts }
+    ensures ending { (d : DeskView) (e : EndedView) → Ends d e → HaveGrown d.accounts e.accounts }
+{}
+
+/// In a settled opening each journal is what the tables that its manager was opened with make of the
+/// requests that it took.
+pub fn settled_journals_follow_the_tables()
+    ensures { (s : Settling) (m : ℕ) → IsSettled s → (T : Tables) × IsOpenedWith s m T }
 {}

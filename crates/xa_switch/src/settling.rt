@@ -1,9 +1,10 @@
 //! How an opening is settled, once its desks have ended and its workers have run.
-ghost use Rattle.std.specs.Prelude.{◌≡◌, ◌≤◌, length, IfOk, IfErr, OnOk};
+ghost use Rattle.std.specs.Prelude.{◌≡◌, ◌≤◌, length, map, IfOk, IfErr, OnOk};
 ghost use Rattle.std.specs.List.{All};
 ghost use Rattle.xa_switch.specs.Settling.{IsSettled};
 ghost use Rattle.xa_switch.specs.Seats.{desk_seats, worker_seats, ComeFromOpenings, AreOfOne, AreAll, IsWhyUnsettled};
 ghost use Rattle.xa_switch.specs.Closing.{settling, IsRoomFor};
+ghost use Rattle.xa_switch.specs.Growth.{accounts_of};
 
 use crate::apart::{DeskRoom, Room, WorkerRoom, reserve_room, take_desks, take_workers};
 use crate::checks::{are_all, are_of_one};
@@ -50,6 +51,7 @@ pub fn settle<R: Wait>(
     requires { ComeFromOpenings (desk_seats desks.items) (worker_seats workers.items) }
     ensures settled { IfOk result (λ s. IsSettled s) }
     ensures parts { IfOk result (λ s. s ≡ settling desks.items workers.items) }
+    ensures lists { IfOk result (λ s. map (λ e. accounts_of s e.thread) desks.items ≡ map (λ e. e.accounts) desks.items) }
     ensures whole { OnOk result (AreOfOne desks.items workers.items × AreAll desks.items workers.items) }
     ensures why { IfErr result (λ u. IsWhyUnsettled u.why desks.items workers.items) }
     ensures back { IfErr result (λ u. (u.desks.items ≡ desks.items) × (u.workers.items ≡ workers.items)) }
@@ -96,6 +98,7 @@ fn close_all<R: Wait>(
     requires desk_room { IsRoomFor (length desks.items) desk_room }
     requires worker_room { IsRoomFor (length workers.items) worker_room }
     ensures parts { result ≡ settling desks.items workers.items }
+    ensures lists { map (λ e. accounts_of result e.thread) desks.items ≡ map (λ e. e.accounts) desks.items }
     ensures settled { IsSettled result }
 {
     let Room {

@@ -6,6 +6,11 @@ pub mod SoundLemmas
 pub mod ShutLemmas
 pub mod AccountLemmas
 pub mod PlaceLemmas
+pub mod Effects
 pub mod Law
 pub mod ValueLaw
 pub mod LateLaw
+pub mod Unnamed
+pub mod Opened
+pub mod PreparedLaw
+pub mod FateLaw

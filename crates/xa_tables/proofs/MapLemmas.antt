@@ -131,3 +131,12 @@ module _ {K X : Type 0} {R : K → K → Ordering} (o : IsTotalOrder R) (same : 
         | true ↦ λ t. let some = d.1 (k, (v, (sym (get-entries m k) ∙ found, t))) in cc
         | false ↦ λ t. refl
       ] refl
+
+  -- where no entry that is found passes, none does
+  pub none_pass : (p : K → X → Bool) (m : FinMap R X) → ((k : K) (v : X) → get m k ≡ Some v → p k v ≡ false) → any_entry p m ≡ false
+  none_pass p m fails =
+      let d = any_has p (entries m) (sorted_distinct (entries m) (entries_sorted m)) in
+      elim (any_entry p m) as (λ b. any_entry p m ≡ b → b ≡ false) [
+        | true ↦ λ t. let h = d.0 t in let f = fails h.0 h.1.0 (get-entries m h.0 ∙ h.1.1.0) in let g = h.1.1.1 in cc
+        | false ↦ λ t. refl
+      ] refl

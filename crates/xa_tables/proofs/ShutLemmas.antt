@@ -3,7 +3,7 @@ use Rattle.std.specs.Prelude.{◌≡◌, ℕ, true, false, if◌then◌else◌, 
 use Rattle.std.proofs.Common.{ap, ◌∙◌}
 use Rattle.xa_words.specs.declared.code.Code.TheVariants.{Done, RmFail}
 use Rattle.xa_words.specs.declared.request.Op.{Op}
-use Rattle.xa_words.specs.declared.request.Op.TheVariants.{OpenRm, CloseRm, Start, Add, End, Prepare, Commit, Rollback, Shut}
+use Rattle.xa_words.specs.declared.request.Op.TheVariants.{Shut}
 use Rattle.xa_tables.specs.Tables.{Tables}
 use Rattle.xa_tables.specs.Next.{Answer, next, next_open, shut_down}
 use Rattle.xa_tables.specs.History.{History, tables_after, is_shut, accepted}
@@ -18,15 +18,8 @@ shut_stays [] T s = refl
 shut_stays (r ∷ h) T s = ap (λ (a : Answer). tables_after h a.0) (next-shut r.thread r.op T s) ∙ shut_stays h T s
 
 pub shut_op : (op : Op) → is_shut op ≡ true → op ≡ Shut
-shut_op OpenRm e = cc
-shut_op CloseRm e = cc
-shut_op (Start x how) e = cc
-shut_op (Add k d) e = cc
-shut_op (End x how) e = cc
-shut_op (Prepare x) e = cc
-shut_op (Commit x one_phase) e = cc
-shut_op (Rollback x) e = cc
 shut_op Shut e = refl
+shut_op op e = cc
 
 pub next-Shut : (t : ℕ) (T : Tables) → T.shut ≡ false → next t Shut T ≡ (shut_down T, Done)
 unfolding next

@@ -1,30 +1,23 @@
 -- The law: a key's value is its value at the opening and the additions whose branches commit.
-use Rattle.std.specs.Prelude.{◌≡◌, ◌≢◌, ℕ, ℤ, pos, ◌+ℤ◌, option_map, Bool, true, false, cond, not, ◌&&◌, ◌||◌, if◌then◌else◌, Option, None, Some, is_some, unwrap_or, List, [], ◌∷◌, refl}
+use Rattle.std.specs.Prelude.{◌≡◌, ◌≢◌, ℕ, ℤ, pos, ◌+ℤ◌, option_map, Bool, true, false, cond, not, ◌&&◌, if◌then◌else◌, Option, None, Some, unwrap_or, List, [], ◌∷◌, refl}
 use Rattle.std.proofs.Common.{sym, ap, ◌∙◌, subst, arith}
 use Rattle.std.specs.FinMap as map
 use Rattle.std.specs.FinMap.{get-empty, get-insert, get-retain_keys, FinMap}
-use Rattle.std.proofs.Math.Bool.{or-true}
 use Rattle.std.proofs.lemmas.Bool.{false_from_ne_true, not-false}
 use Rattle.xa_words.specs.Xid.{XidName, xid_eq}
 use Rattle.xa_words.specs.Orders.{Decides-xid_eq, key_cmp_total, key_cmp-IsAntisymmetric, Decides-key_eq}
 use Rattle.xa_words.specs.declared.code.Code.{Code}
-use Rattle.xa_words.specs.declared.code.Code.TheVariants.{Done, RdOnly, RbRollback, RbIntegrity, RbTransient, Nota, Inval, Proto, RmFail, DupId}
+use Rattle.xa_words.specs.declared.code.Code.TheVariants.{Done, RbTransient}
 use Rattle.xa_words.specs.declared.request.Op.{Op}
-use Rattle.xa_words.specs.declared.request.Op.TheVariants.{OpenRm, CloseRm, Start, Add, End, Prepare, Commit, Rollback, Shut}
-use Rattle.xa_words.specs.declared.request.StartHow.TheVariants.{Fresh, Join, Resume}
-use Rattle.xa_words.specs.declared.request.EndHow.{EndHow}
-use Rattle.xa_words.specs.declared.request.EndHow.TheVariants.{Success, Suspend, Fail}
-use Rattle.xa_tables.specs.declared.state.State.TheVariants.{Active, Idle, Prepared as S3, RollbackOnly}
-use Rattle.xa_tables.specs.declared.state.RollbackReason.TheVariants.{Rollback as Failed, Transient}
+use Rattle.xa_words.specs.declared.request.Op.TheVariants.{Add, Commit}
 use Rattle.xa_tables.specs.declared.state.Association.{Association}
-use Rattle.xa_tables.specs.Tables.{Tables, has_opened, association_of, state_of, exists, is_somebody_associated, has_touched, has_other_touched, is_broken, is_declared, Touch, touch_cmp, sum_of, sums_without}
-use Rattle.xa_tables.specs.Next.{Answer, next, next_open, next_opened, if_opened, open_rm, start, join_unless, add, add_by, add_unless, end, end_unless, ended, prepare, commit_two, commit_one, rollback, rollback_unless, is_prepared, is_idle, is_suspend, is_suspended, is_associated_with, reason_of, gone, stated, associated, dissociated, committed}
-use Rattle.xa_tables.specs.History.{History, coded, accepted, Fate, InDoubt, Live, Committed, ReadOnly, RolledBack, fate_of, if_named, is_rolled_back, is_done, tables_after, added_by, added_in, share_of, share, commits, ending, or_later, ValueIsSum, IsOpening}
+use Rattle.xa_tables.specs.Tables.{Tables, association_of, has_other_touched, Touch, touch_cmp, sum_of, sums_without}
+use Rattle.xa_tables.specs.Next.{Answer, next, gone, committed}
+use Rattle.xa_tables.specs.History.{History, coded, accepted, Fate, InDoubt, Live, Committed, fate_of, if_named, tables_after, added_in, share_of, share, commits, ending, or_later, ValueIsSum, IsOpening}
 use Rattle.xa_tables.proofs.ShutLemmas.{after_accepted}
-use Rattle.xa_tables.proofs.Law.{by_if, swap_xid, Sound, reason_rolls_back, sound_after, opening_sound}
+use Rattle.xa_tables.proofs.Effects.{Effect, Stays, Starts, Joins, Resumes, Dooms, Adds, Prepares, Commits, Drops, TellsDropped, effect_of, undone_adds}
+use Rattle.xa_tables.proofs.Law.{swap_xid, Sound, sound_after, opening_sound}
 use Rattle.std.proofs.lemmas.Int.{ints}
-use Rattle.std.specs.FinSet as finset
-use Rattle.xa_words.specs.declared.request.StartHow.{StartHow}
 use Rattle.xa_words.specs.Key.{key_eq}
 use Rattle.xa_tables.proofs.MapLemmas.{get-map_values, none_passes}
 use Rattle.xa_tables.proofs.AccountLemmas.{touch_cmp_total, touch_cmp-IsAntisymmetric, touch_from, touch_self}
@@ -45,7 +38,8 @@ due (Some p) later = if later p.0 then p.1 else pos 0
 abbrev before : Op → Code → (XidName → Bool) → XidName → Bool
 before op c later x = or_later (ending (fate_of x op c)) (later x)
 
-record VStep (k : List ℕ) (p : Held) (op : Op) (l : Option Association) (T : Tables) (a : Answer) : Type 0 where
+-- what a request moves of the value of k, and what is due behind it
+record ValueStep (k : List ℕ) (p : Held) (op : Op) (l : Option Association) (T : Tables) (a : Answer) : Type 0 where
   held : Held
   pending : IsPending k held a.0.sums
   moved : ℤ
@@ -63,22 +57,10 @@ due_same (Some p) C D h = ap (λ b. if b then p.1 else pos 0) (h p.0)
 zero_plus : (d e s : ℤ) → e ≡ d → s ≡ pos 0 → pos 0 +ℤ d ≡ e +ℤ s
 zero_plus d e s h z = omega (arith, ints)
 
--- neither sums nor values change, and the entry ends nothing
-still : (k : List ℕ) (p : Held) (op : Op) (l : Option Association) (T : Tables) (a : Answer) → IsPending k p T.sums → a.0.sums ≡ T.sums → a.0.values ≡ T.values
-    → ((x : XidName) → ending (fate_of x op a.1) ≡ None) → ((later : XidName → Bool) → share_of k op a.1 l later ≡ pos 0) → VStep k p op l T a
-still k p op l T a held sums values quiet none =
-    record {
-      held = p;
-      pending = subst (IsPending k p) (sym sums) held;
-      moved = pos 0;
-      values = ap (λ m. map.get m k) values ∙ plus_zero _;
-      owes = λ later. zero_plus _ _ _ (due_same p later (before op a.1 later) (λ x. ap (λ o. or_later o (later x)) (quiet x))) (none later);
-    }
-
 quiet_named : (x y : XidName) (o : Option Fate) → ending o ≡ None → ending (if_named x y o) ≡ None
 quiet_named x y o e = elim (xid_eq y x) as (λ b. ending (if b then o else None) ≡ None) [ true ↦ e | false ↦ refl ]
 
-get_without : (sums : FinMap touch_cmp ℤ) (y x : XidName) (k : List ℕ) → map.get (sums_without sums y) (x, k) ≡ (if xid_eq x y then None else map.get sums (x, k))
+pub get_without : (sums : FinMap touch_cmp ℤ) (y x : XidName) (k : List ℕ) → map.get (sums_without sums y) (x, k) ≡ (if xid_eq x y then None else map.get sums (x, k))
 get_without sums y x k =
     get-retain_keys sums (λ p. not (xid_eq p.0 y)) (x, k) (λ q e. ap (λ (r : Touch). not (xid_eq r.0 y)) (sym (touch_cmp-IsAntisymmetric (x, k) q e)))
     ∙ elim (xid_eq x y) as (λ b. cond (not b) (map.get sums (x, k)) None ≡ (if b then None else map.get sums (x, k))) [ true ↦ refl | false ↦ refl ]
@@ -123,23 +105,8 @@ due_ended y b (Some p) op c later h =
       | false ↦ elim b as (λ d. (if later p.0 then p.1 else pos 0) ≡ (if d then pos 0 else pos 0) +ℤ (if later p.0 then p.1 else pos 0)) [ true ↦ omega (arith, ints) | false ↦ omega (arith, ints) ]
     ]
 
-no_share : (b : Bool) (z : ℤ) → (if b && false then z else pos 0) ≡ pos 0
-no_share true z = refl
-no_share false z = refl
-
 add_zero : (d e m s : ℤ) → e ≡ m +ℤ d → s ≡ pos 0 → m +ℤ d ≡ e +ℤ s
 add_zero d e m s h z = omega (arith, ints)
-
-lost : (k : List ℕ) (p : Held) (op : Op) (l : Option Association) (y : XidName) (T : Tables) (c : Code) → IsPending k p T.sums
-    → ((x : XidName) → ending (fate_of x op c) ≡ (if xid_eq y x then Some false else None)) → ((later : XidName → Bool) → share_of k op c l later ≡ pos 0) → VStep k p op l T (gone y T, c)
-lost k p op l y T c held ends none =
-    record {
-      held = left_by p y;
-      pending = due_left k y p T.sums held;
-      moved = pos 0;
-      values = plus_zero _;
-      owes = λ later. add_zero (due (left_by p y) later) _ (pos 0) _ (due_ended y false p op c later ends) (none later);
-    }
 
 amount_is : (k : List ℕ) (p : Held) (y : XidName) (sums : FinMap touch_cmp ℤ) → IsPending k p sums → sum_of sums y k ≡ amount_of_held p y
 unfolding amount_of_held
@@ -150,18 +117,7 @@ amount_is k (Some p) y sums h =
       | false ↦ λ t. ap (λ o. unwrap_or o (pos 0)) (h.1 y (λ e. let z = (Decides-xid_eq p.0 y).1 (sym e) in cc))
     ] refl
 
-paid : (k : List ℕ) (p : Held) (op : Op) (l : Option Association) (y : XidName) (T : Tables) (c : Code) → IsPending k p T.sums
-    → ((x : XidName) → ending (fate_of x op c) ≡ (if xid_eq y x then Some true else None)) → ((later : XidName → Bool) → share_of k op c l later ≡ pos 0) → VStep k p op l T (gone y (committed y T), c)
-paid k p op l y T c held ends none =
-    record {
-      held = left_by p y;
-      pending = due_left k y p T.sums held;
-      moved = amount_of_held p y;
-      values = get-map_values key_cmp_total key_cmp-IsAntisymmetric (λ q v. v +ℤ sum_of T.sums y q) T.values k ∙ ap (λ m. option_map (λ v. v +ℤ m) (map.get T.values k)) (amount_is k p y T.sums held);
-      owes = λ later. add_zero (due (left_by p y) later) _ (amount_of_held p y) _ (due_ended y true p op c later ends) (none later);
-    }
-
-get_added : (sums : FinMap touch_cmp ℤ) (y x : XidName) (own k : List ℕ) (s : ℤ) → (x ≡ y → k ≡ own → ⊥) → map.get (map.insert sums (y, own) s) (x, k) ≡ map.get sums (x, k)
+pub get_added : (sums : FinMap touch_cmp ℤ) (y x : XidName) (own k : List ℕ) (s : ℤ) → (x ≡ y → k ≡ own → ⊥) → map.get (map.insert sums (y, own) s) (x, k) ≡ map.get sums (x, k)
 get_added sums y x own k s apart =
     get-insert touch_cmp_total sums (y, own) s (x, k)
     ∙ ap (λ b. cond b (Some s) (map.get sums (x, k))) (false_from_ne_true _ (λ t. let e = touch_from (x, k) (y, own) t in apart (ap (λ (r : Touch). r.0) e) (ap (λ (r : Touch). r.1) e)))
@@ -195,9 +151,9 @@ split_due true u d = omega (arith, ints)
 split_due false u d = refl
 
 gained : (k own : List ℕ) (d : ℤ) (p : Held) (l : Association) (T : Tables) → IsPending k p T.sums → has_other_touched T.sums l.xid own ≡ false
-    → VStep k p (Add own d) (Some l) T (record T { sums = map.insert T.sums (l.xid, own) (sum_of T.sums l.xid own +ℤ d) }, Done)
+    → ValueStep k p (Add own d) (Some l) T (record T { sums = map.insert T.sums (l.xid, own) (sum_of T.sums l.xid own +ℤ d) }, Done)
 gained k own d p l T held none =
-    elim (key_eq own k) as (λ b. key_eq own k ≡ b → VStep k p (Add own d) (Some l) T (record T { sums = map.insert T.sums (l.xid, own) (sum_of T.sums l.xid own +ℤ d) }, Done)) [
+    elim (key_eq own k) as (λ b. key_eq own k ≡ b → ValueStep k p (Add own d) (Some l) T (record T { sums = map.insert T.sums (l.xid, own) (sum_of T.sums l.xid own +ℤ d) }, Done)) [
       | false ↦ λ t. record {
         held = p;
         pending = pending_other k p l.xid own _ T.sums (λ e. let z = (Decides-key_eq own k).1 (sym e) in cc) held;
@@ -218,166 +174,54 @@ gained k own d p l T held none =
           }
     ] refl
 
-commit_two_v : (k : List ℕ) (p : Held) (l : Option Association) (y : XidName) (T : Tables) → IsPending k p T.sums → VStep k p (Commit y false) l T (commit_two y T)
-commit_two_v k p l y T h =
-    let P : Answer → Type 0 = VStep k p (Commit y false) l T in
-    by_if P (not (exists T y)) _ _ (λ _. still k p (Commit y false) l T (T, Nota) h refl refl (λ x. quiet_named x y None refl) (λ _. refl)) (λ _.
-    by_if P (is_somebody_associated T.associations y || not (is_prepared (state_of T y))) _ _ (λ _. still k p (Commit y false) l T (T, Proto) h refl refl (λ x. quiet_named x y None refl) (λ _. refl)) (λ _.
-    paid k p (Commit y false) l y T Done h (λ x. ended_named x y Committed true refl) (λ _. refl)))
+module _ (t : ℕ) (k : List ℕ) (p : Held) (T : Tables) (h : IsPending k p T.sums) where
+  -- neither sums nor values change, and the request ends nothing
+  still : {op : Op} {a : Answer} → a.0.sums ≡ T.sums → a.0.values ≡ T.values → ((x : XidName) → ending (fate_of x op a.1) ≡ None) → ((later : XidName → Bool) → share_of k op a.1 (association_of T t) later ≡ pos 0)
+      → ValueStep k p op (association_of T t) T a
+  still {op = op} {a = a} sums values quiet none = record {
+    held = p;
+    pending = subst (IsPending k p) (sym sums) h;
+    moved = pos 0;
+    values = ap (λ m. map.get m k) values ∙ plus_zero _;
+    owes = λ later. zero_plus _ _ _ (due_same p later (before op a.1 later) (λ x. ap (λ o. or_later o (later x)) (quiet x))) (none later);
+  }
 
-commit_one_v : (k : List ℕ) (p : Held) (l : Option Association) (y : XidName) (T : Tables) → IsPending k p T.sums → VStep k p (Commit y true) l T (commit_one y T)
-commit_one_v k p l y T h =
-    let P : Answer → Type 0 = VStep k p (Commit y true) l T in
-    by_if P (not (exists T y)) _ _ (λ _. still k p (Commit y true) l T (T, Nota) h refl refl (λ x. quiet_named x y None refl) (λ _. refl)) (λ _.
-    by_if P (is_somebody_associated T.associations y || not (is_idle (state_of T y))) _ _ (λ _. still k p (Commit y true) l T (T, Proto) h refl refl (λ x. quiet_named x y None refl) (λ _. refl)) (λ _.
-    by_if P (is_broken T.values T.sums y) _ _ (λ _. lost k p (Commit y true) l y T RbIntegrity h (λ x. ended_named x y RolledBack false refl) (λ _. refl)) (λ _.
-    paid k p (Commit y true) l y T Done h (λ x. ended_named x y Committed true refl) (λ _. refl))))
+  -- y is gone without a commit
+  lost : (op : Op) (y : XidName) (c : Code) → TellsDropped op y c → ValueStep k p op (association_of T t) T (gone y T, c)
+  lost op y c tells = record {
+    held = left_by p y;
+    pending = due_left k y p T.sums h;
+    moved = pos 0;
+    values = plus_zero _;
+    owes = λ later. add_zero (due (left_by p y) later) _ (pos 0) _ (due_ended y false p op c later (λ x. ap ending (tells.fates x) ∙ ended_named x y tells.fate false tells.uncommitted)) (tells.shares k _ later);
+  }
 
-prepare_v : (k : List ℕ) (p : Held) (l : Option Association) (y : XidName) (T : Tables) → IsPending k p T.sums → VStep k p (Prepare y) l T (prepare y T)
-prepare_v k p l y T h =
-    let P : Answer → Type 0 = VStep k p (Prepare y) l T in
-    by_if P (not (exists T y)) _ _ (λ _. still k p (Prepare y) l T (T, Nota) h refl refl (λ x. quiet_named x y None refl) (λ _. refl)) (λ _.
-    by_if P (is_somebody_associated T.associations y || (is_prepared (state_of T y) || is_some (reason_of (state_of T y)))) _ _ (λ _. still k p (Prepare y) l T (T, Proto) h refl refl (λ x. quiet_named x y None refl) (λ _. refl)) (λ _.
-    by_if P (not (has_touched T.sums y)) _ _ (λ _. lost k p (Prepare y) l y T RdOnly h (λ x. ended_named x y ReadOnly false refl) (λ _. refl)) (λ _.
-    by_if P (is_broken T.values T.sums y) _ _ (λ _. lost k p (Prepare y) l y T RbIntegrity h (λ x. ended_named x y RolledBack false refl) (λ _. refl)) (λ _.
-    still k p (Prepare y) l T (stated y S3 T, Done) h refl refl (λ x. quiet_named x y (Some InDoubt) refl) (λ _. refl)))))
+  -- y is committed
+  paid : (y : XidName) (one_phase : Bool) → ValueStep k p (Commit y one_phase) (association_of T t) T (gone y (committed y T), Done)
+  paid y one_phase = record {
+    held = left_by p y;
+    pending = due_left k y p T.sums h;
+    moved = amount_of_held p y;
+    values = get-map_values key_cmp_total key_cmp-IsAntisymmetric (λ q v. v +ℤ sum_of T.sums y q) T.values k ∙ ap (λ m. option_map (λ v. v +ℤ m) (map.get T.values k)) (amount_is k p y T.sums h);
+    owes = λ later. add_zero (due (left_by p y) later) _ (amount_of_held p y) _ (due_ended y true p (Commit y one_phase) Done later (λ x. ended_named x y Committed true refl)) refl;
+  }
 
-rollback_v : (k : List ℕ) (p : Held) (l : Option Association) (y : XidName) (T : Tables) → IsPending k p T.sums → VStep k p (Rollback y) l T (rollback y T)
-rollback_v k p l y T h =
-    let P : Answer → Type 0 = VStep k p (Rollback y) l T in
-    by_if P (not (exists T y)) _ _ (λ _. still k p (Rollback y) l T (T, Nota) h refl refl (λ x. quiet_named x y None refl) (λ _. refl)) (λ _.
-    by_if P (is_somebody_associated T.associations y) _ _ (λ _. still k p (Rollback y) l T (T, Proto) h refl refl (λ x. quiet_named x y None refl) (λ _. refl)) (λ _.
-    elim (reason_of (state_of T y)) as (λ o. reason_of (state_of T y) ≡ o → P (rollback_unless o y T)) [
-      | None ↦ λ e. lost k p (Rollback y) l y T Done h (λ x. ended_named x y RolledBack false refl) (λ _. refl)
-      | Some r ↦ λ e. lost k p (Rollback y) l y T r h (λ x. ap (λ b. ending (if_named x y (if is_done r || b then Some RolledBack else None))) (reason_rolls_back (state_of T y) r e) ∙ ap (λ b. ending (if_named x y (if b then Some RolledBack else None))) (or-true (is_done r)) ∙ ended_named x y RolledBack false refl) (λ _. refl)
-    ] refl))
+  by_effect : {op : Op} {a : Answer} → Effect t T op a → ValueStep k p op (association_of T t) T a
+  by_effect (Stays op c tells) = still refl refl (λ x. ap ending (tells.fates x)) (λ later. tells.shares k _ later)
+  by_effect (Starts y) = still refl refl (λ x. quiet_named x y (Some Live) refl) (λ later. refl)
+  by_effect (Joins y there unprepared) = still refl refl (λ x. quiet_named x y None refl) (λ later. refl)
+  by_effect (Resumes y own) = still refl refl (λ x. quiet_named x y None refl) (λ later. refl)
+  by_effect (Dooms own d l mine) = still refl refl (λ x. refl) (λ later. (undone_adds own d RbTransient refl).shares k _ later)
+  by_effect (Adds own d l mine alone) =
+      subst (λ (o : Option Association). ValueStep k p (Add own d) o T (record T { sums = map.insert T.sums (l.xid, own) (sum_of T.sums l.xid own +ℤ d) }, Done)) (sym mine) (gained k own d p l T h alone)
+  by_effect (Prepares y nobody) = still refl refl (λ x. quiet_named x y (Some InDoubt) refl) (λ later. refl)
+  by_effect (Commits y one_phase nobody) = paid y one_phase
+  by_effect (Drops op y c nobody tells) = lost op y c tells
+  -- the others change no sum and no value
+  by_effect effect = still refl refl (λ x. refl) (λ later. refl)
 
-not_done : (r : Code) → is_rolled_back r ≡ true → is_done r ≡ false
-not_done Done e = cc
-not_done r e = refl
-
-add_v : (t : ℕ) (k own : List ℕ) (d : ℤ) (p : Held) (T : Tables) → IsPending k p T.sums → VStep k p (Add own d) (association_of T t) T (add t own d T)
-add_v t k own d p T h =
-    elim (association_of T t) as (λ o. VStep k p (Add own d) o T (add_by o own d T)) [
-      | None ↦ still k p (Add own d) None T (T, Proto) h refl refl (λ x. refl) (λ _. no_share (key_eq own k) _)
-      | Some l ↦
-          let P : Answer → Type 0 = VStep k p (Add own d) (Some l) T in
-          by_if P (l.suspended) _ _ (λ _. still k p (Add own d) (Some l) T (T, Proto) h refl refl (λ x. refl) (λ later. no_share (key_eq own k) _)) (λ _.
-          by_if P (not (is_declared T own)) _ _ (λ _. still k p (Add own d) (Some l) T (T, Inval) h refl refl (λ x. refl) (λ later. no_share (key_eq own k) _)) (λ _.
-          elim (reason_of (state_of T l.xid)) as (λ o. reason_of (state_of T l.xid) ≡ o → P (add_unless o l.xid own d T)) [
-            | None ↦ λ e. by_if P (has_other_touched T.sums l.xid own) _ _
-                (λ _. still k p (Add own d) (Some l) T (stated l.xid (RollbackOnly Transient) T, RbTransient) h refl refl (λ x. refl) (λ later. no_share (key_eq own k) _))
-                (λ none. gained k own d p l T h none)
-            | Some r ↦ λ e. still k p (Add own d) (Some l) T (T, r) h refl refl (λ x. refl) (λ later. ap (λ b. if key_eq own k && b then (if later l.xid then d else pos 0) else pos 0) (not_done r (reason_rolls_back (state_of T l.xid) r e)) ∙ no_share (key_eq own k) _)
-          ] refl))
-    ]
-
-start_v : (t : ℕ) (k : List ℕ) (p : Held) (l : Option Association) (how : StartHow) (y : XidName) (T : Tables) → IsPending k p T.sums → VStep k p (Start y how) l T (start how t y T)
-start_v t k p l Fresh y T h =
-    let P : Answer → Type 0 = VStep k p (Start y Fresh) l T in
-    by_if P (is_some (association_of T t)) _ _ (λ _. still k p (Start y Fresh) l T (T, Proto) h refl refl (λ x. quiet_named x y None refl) (λ _. refl)) (λ _.
-    by_if P (exists T y) _ _ (λ _. still k p (Start y Fresh) l T (T, DupId) h refl refl (λ x. quiet_named x y None refl) (λ _. refl)) (λ _. still k p (Start y Fresh) l T (associated t y false (stated y Active T), Done) h refl refl (λ x. quiet_named x y (Some Live) refl) (λ _. refl)))
-start_v t k p l Join y T h =
-    let P : Answer → Type 0 = VStep k p (Start y Join) l T in
-    by_if P (is_some (association_of T t)) _ _ (λ _. still k p (Start y Join) l T (T, Proto) h refl refl (λ x. quiet_named x y None refl) (λ _. refl)) (λ _.
-    by_if P (not (exists T y)) _ _ (λ _. still k p (Start y Join) l T (T, Nota) h refl refl (λ x. quiet_named x y None refl) (λ _. refl)) (λ _.
-    by_if P (is_prepared (state_of T y)) _ _ (λ _. still k p (Start y Join) l T (T, Proto) h refl refl (λ x. quiet_named x y None refl) (λ _. refl)) (λ _.
-    elim (reason_of (state_of T y)) as (λ o. P (join_unless o t y T)) [ None ↦ still k p (Start y Join) l T (associated t y false (stated y Active T), Done) h refl refl (λ x. quiet_named x y None refl) (λ _. refl) | Some r ↦ still k p (Start y Join) l T (T, r) h refl refl (λ x. quiet_named x y None refl) (λ _. refl) ])))
-start_v t k p l Resume y T h =
-    let P : Answer → Type 0 = VStep k p (Start y Resume) l T in
-    by_if P (is_associated_with y (association_of T t) && is_suspended (association_of T t)) _ _ (λ _. still k p (Start y Resume) l T (associated t y false T, Done) h refl refl (λ x. quiet_named x y None refl) (λ _. refl)) (λ _.
-    by_if P (not (exists T y)) _ _ (λ _. still k p (Start y Resume) l T (T, Nota) h refl refl (λ x. quiet_named x y None refl) (λ _. refl)) (λ _. still k p (Start y Resume) l T (T, Proto) h refl refl (λ x. quiet_named x y None refl) (λ _. refl)))
-
-end_v : (t : ℕ) (k : List ℕ) (p : Held) (l : Option Association) (how : EndHow) (y : XidName) (T : Tables) → IsPending k p T.sums → VStep k p (End y how) l T (end how t y T)
-end_v t k p l how y T h =
-    let P : Answer → Type 0 = VStep k p (End y how) l T in
-    by_if P (not (is_associated_with y (association_of T t)) && not (exists T y)) _ _ (λ _. still k p (End y how) l T (T, Nota) h refl refl (λ x. refl) (λ _. refl)) (λ _.
-    by_if P (not (is_associated_with y (association_of T t))) _ _ (λ _. still k p (End y how) l T (T, Proto) h refl refl (λ x. refl) (λ _. refl)) (λ _.
-    by_if P (is_suspend how && is_suspended (association_of T t)) _ _ (λ _. still k p (End y how) l T (T, Proto) h refl refl (λ x. refl) (λ _. refl)) (λ _.
-    elim (reason_of (state_of T y)) as (λ o. P (end_unless o how t y T)) [
-      | Some r ↦ still k p (End y how) l T (dissociated t T, r) h refl refl (λ x. refl) (λ _. refl)
-      | None ↦ elim how as (λ w. VStep k p (End y w) l T (ended w t y T)) [
-        | Suspend ↦ still k p (End y Suspend) l T (associated t y true T, Done) h refl refl (λ x. refl) (λ _. refl)
-        | Fail ↦ still k p (End y Fail) l T (stated y (RollbackOnly Failed) (dissociated t T), RbRollback) h refl refl (λ x. refl) (λ _. refl)
-        | Success ↦ by_if (VStep k p (End y Success) l T) (is_somebody_associated (dissociated t T).associations y) _ _ (λ _. still k p (End y Success) l T (dissociated t T, Done) h refl refl (λ x. refl) (λ _. refl)) (λ _. still k p (End y Success) l T (stated y Idle (dissociated t T), Done) h refl refl (λ x. refl) (λ _. refl))
-      ]
-    ])))
-
-opened_v : (t : ℕ) (k : List ℕ) (p : Held) (op : Op) (T : Tables) → IsPending k p T.sums → VStep k p op (association_of T t) T (next_opened t op T)
-opened_v t k p (Start y how) T h = start_v t k p _ how y T h
-opened_v t k p (Add own d) T h = add_v t k own d p T h
-opened_v t k p (End y how) T h = end_v t k p _ how y T h
-opened_v t k p (Prepare y) T h = prepare_v k p _ y T h
-opened_v t k p (Commit y true) T h = commit_one_v k p _ y T h
-opened_v t k p (Commit y false) T h = commit_two_v k p _ y T h
-opened_v t k p (Rollback y) T h = rollback_v k p _ y T h
-opened_v t k p OpenRm T h = still k p OpenRm _ T (T, Proto) h refl refl (λ x. refl) (λ _. refl)
-opened_v t k p CloseRm T h = still k p CloseRm _ T (T, Proto) h refl refl (λ x. refl) (λ _. refl)
-opened_v t k p Shut T h = still k p Shut _ T (T, Proto) h refl refl (λ x. refl) (λ _. refl)
-
-refused_share : (k : List ℕ) (op : Op) (c : Code) (l : Option Association) (later : XidName → Bool) → is_done c ≡ false → share_of k op c l later ≡ pos 0
-refused_share k (Add own d) c l later e = ap (λ b. if key_eq own k && b then added_by l d later else pos 0) e ∙ no_share (key_eq own k) _
-refused_share k (Start y how) c l later e = refl
-refused_share k (End y how) c l later e = refl
-refused_share k (Prepare y) c l later e = refl
-refused_share k (Commit y b) c l later e = refl
-refused_share k (Rollback y) c l later e = refl
-refused_share k OpenRm c l later e = refl
-refused_share k CloseRm c l later e = refl
-refused_share k Shut c l later e = refl
-
--- XAER_PROTO and XAER_RMFAIL
-abbrev IsRefusal : Code → Type 0
-IsRefusal c = (is_done c ≡ false) × ((x : XidName) (op : Op) → ending (fate_of x op c) ≡ None)
-
-refused_v : (k : List ℕ) (p : Held) (op : Op) (l : Option Association) (T : Tables) (c : Code) → IsRefusal c → IsPending k p T.sums → VStep k p op l T (T, c)
-refused_v k p op l T c e h = still k p op l T (T, c) h refl refl (λ x. e.1 x op) (λ later. refused_share k op c l later e.0)
-
-proto_ends : (x : XidName) (op : Op) → ending (fate_of x op Proto) ≡ None
-proto_ends x (Start y Fresh) = quiet_named x y None refl
-proto_ends x (Start y Join) = quiet_named x y None refl
-proto_ends x (Start y Resume) = quiet_named x y None refl
-proto_ends x (Prepare y) = quiet_named x y None refl
-proto_ends x (Commit y b) = quiet_named x y None refl
-proto_ends x (Rollback y) = quiet_named x y None refl
-proto_ends x (Add k d) = refl
-proto_ends x (End y how) = refl
-proto_ends x OpenRm = refl
-proto_ends x CloseRm = refl
-proto_ends x Shut = refl
-
-late_ends : (x : XidName) (op : Op) → ending (fate_of x op RmFail) ≡ None
-late_ends x (Start y Fresh) = quiet_named x y None refl
-late_ends x (Start y Join) = quiet_named x y None refl
-late_ends x (Start y Resume) = quiet_named x y None refl
-late_ends x (Prepare y) = quiet_named x y None refl
-late_ends x (Commit y b) = quiet_named x y None refl
-late_ends x (Rollback y) = quiet_named x y None refl
-late_ends x (Add k d) = refl
-late_ends x (End y how) = refl
-late_ends x OpenRm = refl
-late_ends x CloseRm = refl
-late_ends x Shut = refl
-
-if_opened_v : (t : ℕ) (k : List ℕ) (p : Held) (op : Op) (T : Tables) → IsPending k p T.sums → VStep k p op (association_of T t) T (if_opened t op T)
-if_opened_v t k p op T h = by_if (VStep k p op (association_of T t) T) (not (has_opened T t)) _ _ (λ _. refused_v k p op _ T Proto (refl, proto_ends) h) (λ _. opened_v t k p op T h)
-
-open_v : (t : ℕ) (k : List ℕ) (p : Held) (op : Op) (T : Tables) → IsPending k p T.sums → VStep k p op (association_of T t) T (next_open t op T)
-open_v t k p (Start y how) T h = if_opened_v t k p (Start y how) T h
-open_v t k p (Add own d) T h = if_opened_v t k p (Add own d) T h
-open_v t k p (End y how) T h = if_opened_v t k p (End y how) T h
-open_v t k p (Prepare y) T h = if_opened_v t k p (Prepare y) T h
-open_v t k p (Commit y b) T h = if_opened_v t k p (Commit y b) T h
-open_v t k p (Rollback y) T h = if_opened_v t k p (Rollback y) T h
-open_v t k p OpenRm T h = still k p OpenRm _ T (open_rm t T) h refl refl (λ x. refl) (λ _. refl)
-open_v t k p CloseRm T h =
-    by_if (VStep k p CloseRm (association_of T t) T) (not (has_opened T t)) _ _ (λ _. still k p CloseRm _ T (T, Done) h refl refl (λ x. refl) (λ _. refl)) (λ _.
-    by_if (VStep k p CloseRm (association_of T t) T) (is_some (association_of T t)) _ _ (λ _. still k p CloseRm _ T (T, Proto) h refl refl (λ x. refl) (λ _. refl)) (λ _. still k p CloseRm _ T (record T { opened = finset.remove T.opened t }, Done) h refl refl (λ x. refl) (λ _. refl)))
-open_v t k p Shut T h = still k p Shut _ T (next_open t Shut T) h refl refl (λ x. refl) (λ _. refl)
-
-next_v : (t : ℕ) (k : List ℕ) (p : Held) (op : Op) (T : Tables) → IsPending k p T.sums → VStep k p op (association_of T t) T (next t op T)
-unfolding next
-next_v t k p op T h = by_if (VStep k p op (association_of T t) T) (T.shut) _ _ (λ _. refused_v k p op _ T RmFail (refl, late_ends) h) (λ _. open_v t k p op T h)
+value_step : (t : ℕ) (k : List ℕ) (p : Held) (op : Op) (T : Tables) → IsPending k p T.sums → ValueStep k p op (association_of T t) T (next t op T)
+value_step t k p op T h = by_effect t k p T h (effect_of t op T)
 
 zero_left : (z : ℤ) → pos 0 +ℤ z ≡ z
 zero_left z = omega (arith, ints)
@@ -391,19 +235,19 @@ none_due None = refl
 none_due (Some p) = refl
 
 -- the values behind H, with what is due to the branch that has touched the key
-run_v : (H : History) (k : List ℕ) (p : Held) (T : Tables) → Sound T → IsPending k p T.sums
+values_behind : (H : History) (k : List ℕ) (p : Held) (T : Tables) → Sound T → IsPending k p T.sums
     → map.get (tables_after H T).values k ≡ option_map (λ v. v +ℤ (due p (λ x. commits x (coded H T)) +ℤ added_in k H T)) (map.get T.values k)
-run_v [] k p T s h = plus_zero _ ∙ ap (λ d. option_map (λ v. v +ℤ (d +ℤ pos 0)) (map.get T.values k)) (sym (none_due p))
-run_v (r ∷ H) k p T s h =
+values_behind [] k p T s h = plus_zero _ ∙ ap (λ d. option_map (λ v. v +ℤ (d +ℤ pos 0)) (map.get T.values k)) (sym (none_due p))
+values_behind (r ∷ H) k p T s h =
     let T1 : Tables = (next r.thread r.op T).0 in
-    let a : VStep k p r.op (association_of T r.thread) T (next r.thread r.op T) = next_v r.thread k p r.op T h in
+    let a : ValueStep k p r.op (association_of T r.thread) T (next r.thread r.op T) = value_step r.thread k p r.op T h in
     let sound = sound_after r.thread r.op T s in
-    run_v H k a.held T1 sound a.pending
+    values_behind H k a.held T1 sound a.pending
     ∙ ap (option_map (λ v. v +ℤ (due a.held (λ x. commits x (coded H T1)) +ℤ added_in k H T1))) a.values
     ∙ joined (map.get T.values k) a.moved (due a.held (λ x. commits x (coded H T1))) (added_in k H T1) (due p (λ x. commits x (coded (r ∷ H) T))) (share k r H T) (a.owes (λ x. commits x (coded H T1)))
 
 pub value_law : (H : History) (k : List ℕ) (T : Tables) → IsOpening T → ValueIsSum k H T
 value_law H k T o =
     after_accepted (λ (U : Tables). map.get U.values k) (λ _. refl) H T
-    ∙ run_v (accepted H) k None T (opening_sound T o) (λ x. ap (λ m. map.get m (x, k)) o.sums ∙ get-empty touch_cmp (x, k))
+    ∙ values_behind (accepted H) k None T (opening_sound T o) (λ x. ap (λ m. map.get m (x, k)) o.sums ∙ get-empty touch_cmp (x, k))
     ∙ ap (λ d. option_map d (map.get T.values k)) (λ i v. v +ℤ zero_left (added_in k (accepted H) T) i)

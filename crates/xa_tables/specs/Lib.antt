@@ -7,3 +7,4 @@ pub mod Accounts
 pub mod Managers
 pub mod History
 pub mod Worked
+pub mod Prepared

@@ -1,8 +1,12 @@
 //! Laws of the definitions, for any history.
-ghost use Rattle.std.specs.Prelude.{◌≡◌, ℕ, List, []};
+ghost use Rattle.std.specs.Prelude.{◌≡◌, ◌++◌, ℕ, List, [], true, false};
 ghost use Rattle.xa_words.specs.Xid.{XidName};
-ghost use Rattle.xa_tables.specs.Tables.{Tables};
-ghost use Rattle.xa_tables.specs.History.{History, IsOpening, PreparedIsInDoubt, ExistsWhileUnfinished, ValueIsSum, LateAreRefused, LateChangeNothing, fate_in, Absent, Live, InDoubt, Committed, ReadOnly, RolledBack};
+ghost use Rattle.xa_words.specs.declared.code.Code.TheVariants.{Done, RbIntegrity};
+ghost use Rattle.xa_words.specs.declared.request.Op.TheVariants.{Prepare};
+ghost use Rattle.xa_tables.specs.Tables.{Tables, is_somebody_associated};
+ghost use Rattle.xa_tables.specs.History.{History, IsOpening, PreparedIsInDoubt, ExistsWhileUnfinished, ValueIsSum, LateAreRefused, LateChangeNothing, tables_after, coded, fate, fate_in, is_rolled_back, Absent, Live, InDoubt, Committed, ReadOnly, RolledBack};
+ghost use Rattle.xa_tables.specs.Next.{next};
+ghost use Rattle.xa_tables.specs.Prepared.{NamesNowhere, LeavesWaiting, StaysAsItWas, IsPrepared, StaysPrepared, AwaitsTheOutcome, has_shut};
 ghost use Rattle.xa_tables.specs.Worked.{branch, worked, voted, transferred, undone, overdrawn, unchanged, failed, begun_again};
 
 /// Whatever is requested, a branch is prepared exactly if its fate is to be in doubt.
@@ -26,6 +30,38 @@ pub fn value_is_sum()
 pub fn late_requests_are_refused()
     ensures codes { (h : History) (T : Tables) → IsOpening T → LateAreRefused h T }
     ensures tables { (h : History) (T : Tables) → IsOpening T → LateChangeNothing h T }
+{}
+
+/// They make nothing of any branch, so its fate may be read from the whole history.
+pub fn late_requests_leave_fates()
+    ensures { (h : History) (x : XidName) (T : Tables) → fate x h T ≡ fate_in x (coded h T) }
+{}
+
+/// A manager is shut exactly where a Shut stands before.
+pub fn only_a_shut_shuts()
+    ensures { (h : History) (T : Tables) → IsOpening T → (tables_after h T).shut ≡ has_shut h }
+{}
+
+/// A branch with which nobody is associated stays as it is, whatever is requested that doesn't name it.
+pub fn unnamed_branches_stay()
+    ensures { (h g : History) (x : XidName) (T : Tables) → is_somebody_associated (tables_after h T).associations x ≡ false → NamesNowhere x g → StaysAsItWas x (tables_after h T) (tables_after (h ++ g) T) }
+{}
+
+/// A prepared branch stays prepared, and keeps its sums, whatever is requested that doesn't name it, a
+/// Shut included.
+pub fn prepared_branches_stay_prepared()
+    ensures { (h g : History) (x : XidName) (T : Tables) → IsOpening T → IsPrepared x (tables_after h T) → NamesNowhere x g → StaysPrepared x (tables_after h T) (tables_after (h ++ g) T) }
+{}
+
+/// A branch whose Prepare a thread got answered XA_OK awaits the outcome from that thread, whatever
+/// is requested in between that doesn't name it, but for a CloseRm of the thread itself.
+pub fn prepared_branches_await_the_outcome()
+    ensures { (h g : History) (t : ℕ) (x : XidName) (T : Tables) → IsOpening T → (next t (Prepare x) (tables_after h T)).1 ≡ Done → LeavesWaiting t x g → AwaitsTheOutcome t x (tables_after g (next t (Prepare x) (tables_after h T)).0) }
+{}
+
+/// A Prepare that rolls its branch back answers XA_RBINTEGRITY.
+pub fn refused_prepares_tell_integrity()
+    ensures { (t : ℕ) (x : XidName) (T : Tables) → is_rolled_back (next t (Prepare x) T).1 ≡ true → (next t (Prepare x) T).1 ≡ RbIntegrity }
 {}
 
 /// The fates of worked histories: a branch that works, votes, commits, is rolled back, would take

@@ -16,7 +16,7 @@ use xa_worker::Pace;
 const TURNS: u32 = 10_000_000;
 
 // Waits until it is so, and gives up in the end.
-fn comes(flag: &AtomicBool) -> bool {
+pub(super) fn comes(flag: &AtomicBool) -> bool {
     for _turn in 0..TURNS {
         if flag.load(Ordering::SeqCst) {
             return true;

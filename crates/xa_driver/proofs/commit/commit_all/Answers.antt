@@ -9,6 +9,7 @@ use Rattle.xa_driver.specs.Log.{LogState}
 use Rattle.xa_driver.specs.Rounds.{first_ask, code_of, second_ask, ending_of_ask}
 use Rattle.xa_driver.specs.Trace.{Logs, commits}
 use Rattle.xa_driver.proofs.Calls.{first_rising, first_can, second_rising, second_can, call_is, yes_asked, seam}
+use Rattle.xa_driver.proofs.Settled.{growth_law}
 use Rattle.xa_driver.proofs.commit.commit_all.Goals as goal
 
 pub ask_all-requires-clause-rising : goal.ask_all-requires-clause-rising
@@ -61,3 +62,9 @@ returns-clause-call g c t all =
     (subst (λ (y : List Bool). Logs c.tran-tran.result y (map code_of ks) logged old_log new_log) yes_list
     (subst (λ (vs : List Code). Logs c.tran-tran.result c.yes_of.result vs logged old_log new_log) lent c.decide-commit.ensures.logs)) in
     call_is _ bs ks js c.args.desk.now.accounts c.ask_all.new.desk.accounts c.ask_all-2.new.desk.accounts old_log new_log b t c.requires.some c.index-branches-0.is all s c.ask_all.ensures.asked r c.ask_all-2.ensures.asked votes endings decision logs
+
+pub returns-clause-made : goal.returns-clause-made
+returns-clause-made g c = record { may = c.requires; trace = returns-clause-call g c c.requires.tran c.requires.one }
+
+pub returns-clause-grown : goal.returns-clause-grown
+returns-clause-grown g c = growth_law c.requires.tran c.args.branches.now c.args.desk.now.accounts c.ask_all-2.new.desk.accounts _ _ _ (returns-clause-call g c c.requires.tran c.requires.one)

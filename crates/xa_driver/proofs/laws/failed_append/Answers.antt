@@ -1,5 +1,6 @@
-use Rattle.xa_driver.proofs.Aborts.{failed_append_law}
+use Rattle.xa_driver.proofs.Aborts.{abort_sends_no_commit, failed_append_aborts}
 use Rattle.xa_driver.proofs.laws.failed_append.Goals as goal
 
 pub returns : goal.returns
-returns c tran bs old new log later done call wanted off = failed_append_law tran bs old new log later done call wanted off
+returns c tran bs old new log later done call wanted off =
+    abort_sends_no_commit tran bs old new log later done call (failed_append_aborts tran bs old new log later done call wanted off)

@@ -8,11 +8,14 @@ use Rattle.xa_lane.specs.Rings.{RingId, IsEndOf}
 use Rattle.xa_lane.specs.Senders.{QueueId}
 use Rattle.xa_worker.specs.Outgoing.{Answering}
 use Rattle.xa_worker.specs.Workers.{Asking}
-use Rattle.xa_switch.specs.Settling.{IsSettled}
+use Rattle.xa_desk.specs.Ended.{EndedView}
+use Rattle.xa_switch.specs.Settling.{Settling, IsSettled}
+use Rattle.xa_switch.specs.Growth.{accounts_of}
 use Rattle.xa_switch.specs.Closing.{dealt, column, IsClosable, IsClosed, IsQueueEnd}
 use Rattle.xa_switch.proofs.Gathering.{length_dealt}
 use Rattle.xa_switch.proofs.Pieces.{request_columns, completion_columns, workers_numbered, workers_opened, request_lanes_apart, request_lanes_places, request_lanes_closable, completion_lanes_apart, completion_lanes_places, completion_lanes_closable}
 use Rattle.xa_switch.proofs.Agreeing.{settled}
+use Rattle.xa_switch.proofs.Growing.{all_settled_accounts}
 use Rattle.xa_switch.proofs.settling.close_all.Goals as goal
 
 -- eight columns
@@ -77,6 +80,12 @@ returns-clause-settled g c =
     let cs' = subst (All (λ (r : ℕ × Receiving QueueId Completion). IsClosed r.1 (column (completion_columns ws) r.0))) c.take_desks-sent.ensures.lanes cs in
     subst IsSettled (λ i. record { threads = sym c.take_desks-sent.ensures.parts i; managers = sym c.take_workers-answered.ensures.parts i })
     (settled ds ws (record { all = record { from = c.requires.from; one = c.requires.one; whole = c.requires.whole }; few_managers = c.requires.few_managers; few_threads = c.requires.few_threads; desks = c.take_desks-sent.ensures.known; workers = c.take_workers-answered.ensures.known; ordered = c.take_workers-answered.ensures.ordered }) rs' cs')
+
+pub returns-clause-lists : goal.returns-clause-lists
+returns-clause-lists g c =
+    let ds = c.args.desks.items in
+    subst (λ (s : Settling). map (λ (e : EndedView). accounts_of s e.thread) ds ≡ map (λ (e : EndedView). e.accounts) ds) (λ i. record { threads = sym c.take_desks-sent.ensures.parts i; managers = sym c.take_workers-answered.ensures.parts i })
+    (all_settled_accounts ds c.args.workers.items c.requires.from c.requires.one)
 
 pub invariant_of-result : goal.invariant_of-result
 invariant_of-result g c = returns-clause-settled g c

@@ -1,0 +1,193 @@
+-- Where the requests of one thread stand in a history, and what they were answered.
+use Rattle.std.proofs.Common.{◌≡◌, ◌≢◌, ℕ, zero, suc, ◌+◌, ◌<◌, ◌≤◌, true, false, ◌==◌, cond, List, [], ◌∷◌, ◌++◌, length, map, slice_get, get_or, sym, refl, ap, ◌∙◌, arith, Option, Some, None}
+use Rattle.std.specs.Prelude.{filter}
+use Rattle.std.specs.List.{filter_map, cons_option}
+use Rattle.std.proofs.lemmas.Bool.{eqb-false}
+use Rattle.xa_words.specs.Xid.{XidName}
+use Rattle.xa_words.specs.declared.code.Code.{Code}
+use Rattle.xa_words.specs.declared.request.Op.{Op}
+use Rattle.xa_words.specs.declared.request.Request.{Request}
+use Rattle.xa_tables.specs.Tables.{Tables}
+use Rattle.xa_tables.specs.Next.{next}
+use Rattle.xa_tables.specs.History.{History, Fate, Absent, of_thread, tables_after, coded, fate_of, fate_in, last_or}
+use Rattle.xa_desk.specs.Lanes.{numbered}
+use Rattle.xa_worker.specs.Journal.{Entry}
+use Rattle.xa_switch.specs.Settling.{answers}
+
+-- thread t's request of number n
+abbrev pub request_of : ℕ → ℕ → Op → Request
+request_of t n op = record { thread = t; number = n; op = op }
+
+pub eqb-self : (n : ℕ) → (n == n) ≡ true
+eqb-self n = elim (n == n) as (λ b. (n == n) ≡ b → b ≡ true) [ true ↦ λ e. refl | false ↦ λ e. absurd (eqb-false n n e refl) ] refl
+
+-- ---- a history, parted at a request of the thread
+
+pub record Parted (t : ℕ) (xs ys : History) (r : Request) (h : History) : Type 0 where
+  pub before : History
+  pub behind : History
+  pub place : h ≡ before ++ r ∷ behind
+  pub earlier : of_thread t before ≡ xs
+  pub later : of_thread t behind ≡ ys
+
+module _ (t : ℕ) where
+  part_first : (q : Request) (h : History) (xs ys : History) (r : Request) → (q.thread == t) ≡ true → q ∷ of_thread t h ≡ xs ++ r ∷ ys
+      → ((zs : History) → of_thread t h ≡ zs ++ r ∷ ys → Parted t zs ys r h) → Parted t xs ys r (q ∷ h)
+  part_first q h [] ys r own e on =
+      let head : q ≡ r = cc in
+      let tail : of_thread t h ≡ ys = cc in
+      record { before = []; behind = h; place = ap (λ (p : Request). p ∷ h) head; earlier = refl; later = tail }
+  part_first q h (z ∷ zs) ys r own e on =
+      let head : q ≡ z = cc in
+      let tail : of_thread t h ≡ zs ++ r ∷ ys = cc in
+      let p = on zs tail in
+      record {
+        before = q ∷ p.before;
+        behind = p.behind;
+        place = ap (λ l. q ∷ l) p.place;
+        earlier = ap (λ b. cond b (q ∷ of_thread t p.before) (of_thread t p.before)) own ∙ (λ i. head i ∷ p.earlier i);
+        later = p.later;
+      }
+
+  pub part : (h : History) (xs ys : History) (r : Request) → of_thread t h ≡ xs ++ r ∷ ys → Parted t xs ys r h
+  part [] [] ys r e = cc
+  part [] (x ∷ xs) ys r e = cc
+  part (q ∷ h) xs ys r e =
+      elim (q.thread == t) as (λ b. (q.thread == t) ≡ b → cond b (q ∷ of_thread t h) (of_thread t h) ≡ xs ++ r ∷ ys → Parted t xs ys r (q ∷ h)) [
+        | true ↦ λ own e. part_first q h xs ys r own e (λ zs tail. part h zs ys r tail)
+        | false ↦ λ other e.
+            let p = part h xs ys r e in
+            record {
+              before = q ∷ p.before;
+              behind = p.behind;
+              place = ap (λ l. q ∷ l) p.place;
+              earlier = ap (λ b. cond b (q ∷ of_thread t p.before) (of_thread t p.before)) other ∙ p.earlier;
+              later = p.later;
+            }
+      ] refl e
+
+  -- nothing of the thread
+  others_first : (q : Request) (h : History) → of_thread t (q ∷ h) ≡ [] → (q.thread ≢ t) × (of_thread t h ≡ [])
+  others_first q h e =
+      elim (q.thread == t) as (λ b. (q.thread == t) ≡ b → cond b (q ∷ of_thread t h) (of_thread t h) ≡ [] → (q.thread ≢ t) × (of_thread t h ≡ [])) [
+        | true ↦ λ own e. cc
+        | false ↦ λ other e. (eqb-false q.thread t other, e)
+      ] refl e
+
+  pub all_others : (h : History) → of_thread t h ≡ [] → (k : ℕ) (d : Request) → k < length h → (get_or h k d).thread ≢ t
+  all_others [] e k d lt = absurd (omega arith)
+  all_others (q ∷ h) e zero d lt = (others_first q h e).0
+  all_others (q ∷ h) e (suc k) d lt = all_others h (others_first q h e).1 k d (omega arith)
+
+  -- the numbers of the thread's requests rise
+  numbers_first : (q : Request) (h : History) (n : ℕ) (ops : List Op) → of_thread t (q ∷ h) ≡ numbered t n ops
+      → (q.thread ≡ t → n ≤ q.number) × ((m : ℕ) × ((n ≤ m) × ((more : List Op) × (of_thread t h ≡ numbered t m more))))
+  numbers_first q h n ops e =
+      elim (q.thread == t) as (λ b. (q.thread == t) ≡ b → cond b (q ∷ of_thread t h) (of_thread t h) ≡ numbered t n ops → (q.thread ≡ t → n ≤ q.number) × ((m : ℕ) × ((n ≤ m) × ((more : List Op) × (of_thread t h ≡ numbered t m more))))) [
+        | true ↦ λ own. elim ops as (λ o. q ∷ of_thread t h ≡ numbered t n o → (q.thread ≡ t → n ≤ q.number) × ((m : ℕ) × ((n ≤ m) × ((more : List Op) × (of_thread t h ≡ numbered t m more))))) [
+          | [] ↦ λ e. cc
+          | op ∷ rest ↦ λ e.
+              let head : q ≡ request_of t n op = cc in
+              let tail : of_thread t h ≡ numbered t (suc n) rest = cc in
+              let number : q.number ≡ n = ap (λ (p : Request). p.number) head in
+              ((λ _. omega (arith, number)), (suc n, (omega arith, (rest, tail))))
+        ]
+        | false ↦ λ other e. ((λ own. absurd (eqb-false q.thread t other own)), (n, (omega arith, (ops, e))))
+      ] refl e
+
+  pub all_later : (h : History) (n : ℕ) (ops : List Op) → of_thread t h ≡ numbered t n ops → (k : ℕ) (d : Request) → k < length h → (get_or h k d).thread ≡ t → n ≤ (get_or h k d).number
+  all_later [] n ops e k d lt own = absurd (omega arith)
+  all_later (q ∷ h) n ops e zero d lt own = (numbers_first q h n ops e).0 own
+  all_later (q ∷ h) n ops e (suc k) d lt own =
+      let r = (numbers_first q h n ops e).1 in
+      let on = all_later h r.0 r.1.1.0 r.1.1.1 k d (omega arith) own in
+      let up = r.1.0 in
+      omega (arith, on, up)
+
+  -- ---- the answers
+
+  answers_both : (xs ys : List Entry) → answers t (xs ++ ys) ≡ answers t xs ++ answers t ys
+  answers_both [] ys = refl
+  answers_both (x ∷ xs) ys =
+      elim (x.0.thread == t) as (λ b. map (λ (e : Entry). (e.0.number, e.1)) (cond b (x ∷ filter (λ (e : Entry). e.0.thread == t) (xs ++ ys)) (filter (λ (e : Entry). e.0.thread == t) (xs ++ ys)))
+      ≡ map (λ (e : Entry). (e.0.number, e.1)) (cond b (x ∷ filter (λ (e : Entry). e.0.thread == t) xs) (filter (λ (e : Entry). e.0.thread == t) xs)) ++ answers t ys) [
+        | true ↦ ap (λ l. (x.0.number, x.1) ∷ l) (answers_both xs ys)
+        | false ↦ answers_both xs ys
+      ]
+
+  answers_length : (h : History) (T : Tables) → length (answers t (coded h T)) ≡ length (of_thread t h)
+  answers_length [] T = refl
+  answers_length (r ∷ h) T =
+      let T1 : Tables = (next r.thread r.op T).0 in
+      let own : Entry = (r, (next r.thread r.op T).1) in
+      let told : List Entry → List (ℕ × Code) = λ es. map (λ (e : Entry). (e.0.number, e.1)) es in
+      elim (r.thread == t) as (λ b. length (told (cond b (own ∷ filter (λ (e : Entry). e.0.thread == t) (coded h T1)) (filter (λ (e : Entry). e.0.thread == t) (coded h T1))))
+      ≡ length (cond b (r ∷ of_thread t h) (of_thread t h))) [
+        | true ↦ let z = answers_length h T1 in omega (arith, z)
+        | false ↦ answers_length h T1
+      ]
+
+  pub coded_both : (h g : History) (T : Tables) → coded (h ++ g) T ≡ coded h T ++ coded g (tables_after h T)
+  coded_both [] g T = refl
+  coded_both (r ∷ h) g T = ap (λ l. (r, (next r.thread r.op T).1) ∷ l) (coded_both h g (next r.thread r.op T).0)
+
+  at_seam : {A : Type 0} (xs : List A) (y : A) (ys : List A) → slice_get (xs ++ y ∷ ys) (length xs) ≡ Some y
+  at_seam [] y ys = refl
+  at_seam (x ∷ xs) y ys = at_seam xs y ys
+
+  -- what a request of the thread is answered, behind n others of it
+  pub answer_at : (before behind : History) (r : Request) (T : Tables) (n : ℕ) → r.thread ≡ t → length (of_thread t before) ≡ n
+      → slice_get (answers t (coded (before ++ r ∷ behind) T)) n ≡ Some (r.number, (next r.thread r.op (tables_after before T)).1)
+  answer_at before behind r T n own count =
+      let here : Tables = tables_after before T in
+      let there : List Entry = coded behind (next r.thread r.op here).0 in
+      let code : Code = (next r.thread r.op here).1 in
+      let mine : answers t ((r, code) ∷ there) ≡ (r.number, code) ∷ answers t there =
+      ap (λ b. map (λ (e : Entry). (e.0.number, e.1)) (cond b ((r, code) ∷ filter (λ (e : Entry). e.0.thread == t) there) (filter (λ (e : Entry). e.0.thread == t) there))) (ap (λ u. u == t) own ∙ eqb-self t) in
+      ap (λ l. slice_get l n) (ap (answers t) (coded_both before (r ∷ behind) T) ∙ answers_both (coded before T) ((r, code) ∷ there) ∙ ap (λ l. answers t (coded before T) ++ l) mine)
+      ∙ ap (λ k. slice_get (answers t (coded before T) ++ (r.number, code) ∷ answers t there) k) (sym (answers_length before T ∙ count))
+      ∙ at_seam (answers t (coded before T)) (r.number, code) (answers t there)
+
+-- ---- numbers
+
+pub numbered_both : (t n : ℕ) (xs ys : List Op) → numbered t n (xs ++ ys) ≡ numbered t n xs ++ numbered t (n + length xs) ys
+numbered_both t n [] ys = ap (λ k. numbered t k ys) (let e : n ≡ n + 0 = omega arith in e)
+numbered_both t n (x ∷ xs) ys =
+    ap (λ l. request_of t n x ∷ l) (numbered_both t (suc n) xs ys ∙ ap (λ k. numbered t (suc n) xs ++ numbered t k ys) (let e : suc n + length xs ≡ n + suc (length xs) = omega arith in e))
+
+pub numbered_length : (t n : ℕ) (xs : List Op) → length (numbered t n xs) ≡ length xs
+numbered_length t n [] = refl
+numbered_length t n (x ∷ xs) = let e = numbered_length t (suc n) xs in omega (arith, e)
+
+-- ---- fates
+
+-- the fates that a history gives x, one by one
+abbrev pub fates : XidName → History → Tables → List Fate
+fates x h T = filter_map (λ e. fate_of x e.0.op e.1) (coded h T)
+
+fates_both : (x : XidName) (h g : History) (T : Tables) → fates x (h ++ g) T ≡ fates x h T ++ fates x g (tables_after h T)
+fates_both x [] g T = refl
+fates_both x (r ∷ h) g T =
+    let o : Option Fate = fate_of x r.op (next r.thread r.op T).1 in
+    let T1 : Tables = (next r.thread r.op T).0 in
+    ap (cons_option o) (fates_both x h g T1)
+    ∙ elim o as (λ o. cons_option o (fates x h T1 ++ fates x g (tables_after h T1)) ≡ cons_option o (fates x h T1) ++ fates x g (tables_after h T1)) [ None ↦ refl | Some f ↦ refl ]
+
+last_is : (fs : List Fate) (f g : Fate) → last_or f (fs ++ g ∷ []) ≡ g
+last_is [] f g = refl
+last_is (x ∷ fs) f g = last_is fs x g
+
+-- the fate is what a request makes of the branch, where nothing behind it makes anything of it
+pub fate_is : (x : XidName) (before behind : History) (r : Request) (T : Tables) (f : Fate) → fate_of x r.op (next r.thread r.op (tables_after before T)).1 ≡ Some f
+    → fates x behind (next r.thread r.op (tables_after before T)).0 ≡ [] → fate_in x (coded (before ++ r ∷ behind) T) ≡ f
+fate_is x before behind r T f e none =
+    ap (last_or Absent) (fates_both x before (r ∷ behind) T
+    ∙ ap (λ l. fates x before T ++ l) ((λ i. cons_option (e i) (none i))))
+    ∙ last_is (fates x before T) Absent f
+
+-- histories that make nothing of the branch, one behind the other
+pub none_both : (x : XidName) (h g : History) (T : Tables) → fates x h T ≡ [] → fates x g (tables_after h T) ≡ [] → fates x (h ++ g) T ≡ []
+none_both x h g T e f = fates_both x h g T ∙ (λ i. e i ++ f i)
+
+pub none_first : (x : XidName) (r : Request) (h : History) (T : Tables) → fate_of x r.op (next r.thread r.op T).1 ≡ None → fates x h (next r.thread r.op T).0 ≡ [] → fates x (r ∷ h) T ≡ []
+none_first x r h T e f = λ i. cons_option (e i) (f i)

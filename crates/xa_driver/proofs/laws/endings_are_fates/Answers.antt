@@ -1,0 +1,23 @@
+use Rattle.xa_driver.proofs.Branches.{Tabled}
+use Rattle.xa_driver.proofs.Settled.{votes_law, fates_law}
+use Rattle.xa_driver.proofs.laws.endings_are_fates.Goals as goal
+
+pub returns-clause-votes : goal.returns-clause-votes
+returns-clause-votes c = λ s t bs desk new log later done settled made grown alone.
+    let law : Tabled = record {
+      awaits = c.prepared_branches_await_the_outcome.ensures;
+      shuts = c.only_a_shut_shuts.ensures;
+      leaves = c.late_requests_leave_fates.ensures;
+      breaks = c.refused_prepares_tell_integrity.ensures;
+    } in
+    votes_law law c.settled_journals_follow_the_tables.ensures s t bs desk new log later done settled made grown alone
+
+pub returns-clause-fates : goal.returns-clause-fates
+returns-clause-fates c = λ s t bs desk new log later done settled made grown alone.
+    let law : Tabled = record {
+      awaits = c.prepared_branches_await_the_outcome.ensures;
+      shuts = c.only_a_shut_shuts.ensures;
+      leaves = c.late_requests_leave_fates.ensures;
+      breaks = c.refused_prepares_tell_integrity.ensures;
+    } in
+    fates_law law c.settled_journals_follow_the_tables.ensures s t bs desk new log later done settled made grown alone

@@ -1,0 +1,133 @@
+-- What becomes of the branches of a global transaction: presumed abort.
+use Rattle.std.specs.Prelude.{◌≡◌, ℕ, ◌+◌, ◌≤◌, ◌<◌, Bool, true, false, not, ◌&&◌, ◌||◌, Option, None, Some, List, [], ◌∷◌, ◌++◌, length}
+use Rattle.std.specs.List.{All, list_any}
+use Rattle.xa_words.specs.Xid.{XidName}
+use Rattle.xa_words.specs.Tran.{TranName}
+use Rattle.xa_words.specs.declared.code.Code.{Code}
+use Rattle.xa_words.specs.declared.request.Request.{Request}
+use Rattle.xa_tables.specs.History as history
+use Rattle.xa_tables.specs.History.{History, Fate}
+use Rattle.xa_tables.specs.Prepared.{names, has_shut}
+use Rattle.xa_desk.specs.AccountView.{AccountView}
+use Rattle.xa_desk.specs.DeskView.{account}
+use Rattle.xa_switch.specs.Settling.{Settling}
+use Rattle.xa_switch.specs.Growth.{history as history_of, settled_fate}
+use Rattle.xa_driver.specs.declared.branch.Branch.{Branch}
+use Rattle.xa_driver.specs.declared.done.Done.{Done}
+use Rattle.xa_driver.specs.declared.done.Ending.{Ending}
+use Rattle.xa_driver.specs.declared.done.Ending.TheVariants.{Committed, ReadOnly, RolledBack, InDoubt, Left}
+use Rattle.xa_driver.specs.Decision.{is_yes, is_no, yes_of}
+use Rattle.xa_driver.specs.Log.{LogState, record_of}
+use Rattle.xa_driver.specs.Trace.{wants_record}
+use Rattle.xa_driver.specs.Commits.{NoCommitWasSent}
+
+-- ---- one outcome for all branches
+
+-- the ending is this one
+abbrev pub is_committed : Ending → Bool
+is_committed Committed = true
+is_committed e = false
+
+abbrev pub is_rolled_back : Ending → Bool
+is_rolled_back RolledBack = true
+is_rolled_back e = false
+
+abbrev pub is_in_doubt : Ending → Bool
+is_in_doubt InDoubt = true
+is_in_doubt e = false
+
+abbrev pub is_left : Ending → Bool
+is_left (Left c) = true
+is_left e = false
+
+-- some branch was committed
+abbrev pub has_committed : Done → Bool
+has_committed d = list_any is_committed d.endings.items
+
+-- some branch was rolled back
+abbrev pub has_rolled_back : Done → Bool
+has_rolled_back d = list_any is_rolled_back d.endings.items
+
+-- some branch voted against
+abbrev pub has_vote_against : Done → Bool
+has_vote_against d = list_any is_no d.votes.items
+
+-- the votes want a record, and the log didn't take it
+abbrev pub append_failed : Done → Bool
+append_failed d = wants_record d.votes.items && not d.logged
+
+-- a branch voted against or was rolled back, or the log didn't take the record
+abbrev pub was_refused : Done → Bool
+was_refused d = has_vote_against d || (has_rolled_back d || append_failed d)
+
+-- the transaction is committed: no branch voted against and none was rolled back, and the log has the record, with
+-- exactly the managers that voted to commit
+pub record IsCommittedTransaction (tran : TranName) (bs : List Branch) (later : LogState) (d : Done) : Type 0 where
+  pub unopposed : has_vote_against d ≡ false
+  pub recorded : record_of later tran ≡ Some (yes_of bs d.votes.items)
+  pub kept : has_rolled_back d ≡ false
+
+-- the transaction is aborted: no branch is committed, the log has nothing of it, and no Commit was sent to any manager
+pub record IsAbortedTransaction (tran : TranName) (old new : List AccountView) (later : LogState) (d : Done) : Type 0 where
+  pub uncommitted : has_committed d ≡ false
+  pub unrecorded : record_of later tran ≡ None
+  pub unsent : NoCommitWasSent old new
+
+-- ---- in a settled opening
+
+-- a request of thread t, with a number from `first` to below `last`
+pub record IsBetween (t first last : ℕ) (r : Request) : Type 0 where
+  pub thread : r.thread ≡ t
+  pub from : first ≤ r.number
+  pub below : r.number < last
+
+-- Behind thread t's request of number `first` no request names the branch but those of t itself, up to before number
+-- `last`.
+abbrev pub OnlyTheseName : XidName → ℕ → ℕ → ℕ → History → Type 0
+OnlyTheseName x t first last h =
+    (before behind : History) (r : Request) → h ≡ before ++ r ∷ behind → r.thread ≡ t → r.number ≡ first → All (λ q. names x q.op ≡ true → IsBetween t first last q) behind
+
+-- so for each branch and the requests that the call of thread t sent to its manager: nobody else names it
+pub record AreLeftAlone (s : Settling) (t : ℕ) (bs : List Branch) (old new : List AccountView) : Type 0 where
+  pub each : All (λ b. OnlyTheseName b.xid t (length (account old b.m).sent) (length (account new b.m).sent) (history_of s b.m)) bs
+
+-- a Shut stands before thread t's request of this number
+pub record IsBehindShut (t n : ℕ) (h : History) : Type 0 where
+  pub before : History
+  pub behind : History
+  pub request : Request
+  pub place : h ≡ before ++ request ∷ behind
+  pub thread : request.thread ≡ t
+  pub number : request.number ≡ n
+  pub shut : has_shut before ≡ true
+
+-- the fate that an ending tells; what is left has any
+abbrev pub told_fate : Ending → Option Fate
+told_fate Committed = Some history.Committed
+told_fate ReadOnly = Some history.ReadOnly
+told_fate RolledBack = Some history.RolledBack
+told_fate InDoubt = Some history.InDoubt
+told_fate (Left c) = None
+
+-- A branch that voted to commit isn't left, and it is in doubt only where its manager was shut before the place of its
+-- second request.
+pub record KeepsItsVote (s : Settling) (t : ℕ) (b : Branch) (old : AccountView) (vote : Code) (ending : Ending) : Type 0 where
+  pub reached : is_yes vote ≡ true → is_left ending ≡ false
+  pub shut : is_yes vote ≡ true → is_in_doubt ending ≡ true → IsBehindShut t (length old.sent + 1) (history_of s b.m)
+
+-- what is told of a branch became of it
+abbrev pub TellsTheFate : Settling → Branch → Ending → Type 0
+TellsTheFate s b ending = (f : Fate) → told_fate ending ≡ Some f → settled_fate s b.m b.xid ≡ f
+
+-- branch by branch, with its vote and its ending
+abbrev pub EachOutcome : (Branch → Code → Ending → Type 0) → List Branch → List Code → List Ending → Type 0
+EachOutcome P [] [] [] = Unit {0}
+EachOutcome P (b ∷ bs) (v ∷ vs) (e ∷ es) = P b v e × EachOutcome P bs vs es
+EachOutcome P bs vs es = ⊥
+
+-- so for each branch of a call
+pub record KeepsTheVotes (s : Settling) (t : ℕ) (bs : List Branch) (old : List AccountView) (d : Done) : Type 0 where
+  pub each : EachOutcome (λ b v e. KeepsItsVote s t b (account old b.m) v e) bs d.votes.items d.endings.items
+
+pub record TellsTheFates (s : Settling) (bs : List Branch) (d : Done) : Type 0 where
+  pub each : EachOutcome (λ b v e. TellsTheFate s b e) bs d.votes.items d.endings.items

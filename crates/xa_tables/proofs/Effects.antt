@@ -1,0 +1,290 @@
+-- What one request does to the tables. The rules are walked here alone: a law of all requests is one of their effects.
+use Rattle.std.specs.Prelude.{◌≡◌, ℕ, ℤ, pos, ◌+ℤ◌, Bool, true, false, not, ◌&&◌, ◌||◌, if◌then◌else◌, Option, None, Some, is_some, List, refl}
+use Rattle.std.proofs.Common.{ap, ◌∙◌, subst}
+use Rattle.std.specs.FinSet as set
+use Rattle.std.specs.FinMap as map
+use Rattle.std.proofs.Math.Bool.{or-true}
+use Rattle.std.proofs.lemmas.Bool.{and_parts, or_parts, not-false}
+use Rattle.xa_words.specs.Xid.{XidName, xid_eq}
+use Rattle.xa_words.specs.Key.{key_eq}
+use Rattle.xa_words.specs.declared.code.Code.{Code}
+use Rattle.xa_words.specs.declared.code.Code.TheVariants.{Done, RdOnly, RbRollback, RbCommFail, RbDeadlock, RbIntegrity, RbOther, RbProto, RbTimeout, RbTransient, Async, RmErr, Nota, Inval, Proto, RmFail, DupId, Outside}
+use Rattle.xa_words.specs.declared.request.Op.{Op}
+use Rattle.xa_words.specs.declared.request.Op.TheVariants.{OpenRm, CloseRm, Start, Add, End, Prepare, Commit, Rollback, Shut}
+use Rattle.xa_words.specs.declared.request.StartHow.{StartHow}
+use Rattle.xa_words.specs.declared.request.StartHow.TheVariants.{Fresh, Join, Resume}
+use Rattle.xa_words.specs.declared.request.EndHow.{EndHow}
+use Rattle.xa_words.specs.declared.request.EndHow.TheVariants.{Success, Suspend, Fail}
+use Rattle.xa_tables.specs.declared.state.State.{State}
+use Rattle.xa_tables.specs.declared.state.State.TheVariants.{Active, Idle, Prepared as S3, RollbackOnly}
+use Rattle.xa_tables.specs.declared.state.RollbackReason.{RollbackReason}
+use Rattle.xa_tables.specs.declared.state.RollbackReason.TheVariants.{Rollback as Failed, Transient}
+use Rattle.xa_tables.specs.declared.state.Association.{Association}
+use Rattle.xa_tables.specs.Tables.{Tables, has_opened, association_of, state_of, exists, is_somebody_associated, is_declared, sum_of, has_touched, has_other_touched, is_broken}
+use Rattle.xa_tables.specs.Reasons.{reason_code}
+use Rattle.xa_tables.specs.Next.{Answer, next, next_open, next_opened, open_rm, close_rm, start, join_unless, add, add_by, add_unless, end, end_unless, ended, prepare, commit_one, commit_two, rollback, rollback_unless, is_prepared, is_idle, is_suspend, is_suspended, is_associated_with, reason_of, associated, dissociated, stated, gone, committed, shut_down}
+use Rattle.xa_tables.specs.History.{Fate, Live, ReadOnly, RolledBack, fate_of, if_named, prepare_fate, commit_fate, rollback_fate, ending_by, is_done, is_rolled_back, added_by, share_of}
+use Rattle.xa_tables.specs.Prepared.{names}
+
+pub by_if : {A : Type 0} (P : A → Type 0) (b : Bool) (p q : A) → (b ≡ true → P p) → (b ≡ false → P q) → P (if b then p else q)
+by_if P b p q one two = elim b as (λ c. b ≡ c → P (if c then p else q)) [ true ↦ one | false ↦ two ] refl
+
+pub at_false : {A : Type 0} (b : Bool) (p q : A) → b ≡ false → (if b then p else q) ≡ q
+at_false true p q e = cc
+at_false false p q e = refl
+
+-- ---- what a code tells
+
+-- the request with this code makes nothing of any branch, and adds nothing to any key
+pub record TellsNothing (op : Op) (c : Code) : Type 0 where
+  pub fates : (x : XidName) → fate_of x op c ≡ None
+  pub shares : (k : List ℕ) (l : Option Association) (later : XidName → Bool) → share_of k op c l later ≡ pos 0
+
+-- the request names y alone, and with this code y has ended without a commit
+pub record TellsDropped (op : Op) (y : XidName) (c : Code) : Type 0 where
+  pub fate : Fate
+  pub uncommitted : ending_by fate ≡ Some false
+  pub fates : (x : XidName) → fate_of x op c ≡ if_named x y (Some fate)
+  pub shares : (k : List ℕ) (l : Option Association) (later : XidName → Bool) → share_of k op c l later ≡ pos 0
+  pub named : (x : XidName) → names x op ≡ xid_eq y x
+
+-- XAER_*
+abbrev is_error : Code → Bool
+is_error Async = true
+is_error RmErr = true
+is_error Nota = true
+is_error Inval = true
+is_error Proto = true
+is_error RmFail = true
+is_error DupId = true
+is_error Outside = true
+is_error c = false
+
+pub named_none : (x y : XidName) → if_named x y None ≡ None
+named_none x y = elim (xid_eq y x) as (λ b. ◌≡◌ {A = Option Fate} (if b then None else None) None) [ true ↦ refl | false ↦ refl ]
+
+no_share : (b : Bool) (z : ℤ) → (if b && false then z else pos 0) ≡ pos 0
+no_share true z = refl
+no_share false z = refl
+
+-- an addition with another code than XA_OK tells nothing
+pub undone_adds : (own : List ℕ) (d : ℤ) (c : Code) → is_done c ≡ false → TellsNothing (Add own d) c
+undone_adds own d c e = record {
+  fates = λ x. refl;
+  shares = λ k l later. ap (λ b. if key_eq own k && b then added_by l d later else pos 0) e ∙ no_share (key_eq own k) _;
+}
+
+error_undone : (c : Code) → is_error c ≡ true → is_done c ≡ false
+error_undone Done e = cc
+error_undone c e = refl
+
+error_prepare : (c : Code) → is_error c ≡ true → prepare_fate c ≡ None
+error_prepare Done e = cc
+error_prepare RdOnly e = cc
+error_prepare RbIntegrity e = cc
+error_prepare c e = refl
+
+error_commit : (c : Code) → is_error c ≡ true → commit_fate c ≡ None
+error_commit Done e = cc
+error_commit RbIntegrity e = cc
+error_commit c e = refl
+
+error_rollback : (c : Code) → is_error c ≡ true → rollback_fate c ≡ None
+error_rollback Done e = cc
+error_rollback RbRollback e = cc
+error_rollback RbCommFail e = cc
+error_rollback RbDeadlock e = cc
+error_rollback RbIntegrity e = cc
+error_rollback RbOther e = cc
+error_rollback RbProto e = cc
+error_rollback RbTimeout e = cc
+error_rollback RbTransient e = cc
+error_rollback c e = refl
+
+error_fate : (x : XidName) (op : Op) (c : Code) → is_error c ≡ true → fate_of x op c ≡ None
+error_fate x (Start y Fresh) c e = ap (λ b. if_named x y (if b then Some Live else None)) (error_undone c e) ∙ named_none x y
+error_fate x (Start y how) c e = named_none x y
+error_fate x (Prepare y) c e = ap (if_named x y) (error_prepare c e) ∙ named_none x y
+error_fate x (Commit y one_phase) c e = ap (if_named x y) (error_commit c e) ∙ named_none x y
+error_fate x (Rollback y) c e = ap (if_named x y) (error_rollback c e) ∙ named_none x y
+error_fate x op c e = refl
+
+-- an error tells nothing, whatever was requested
+pub error_tells : (op : Op) (c : Code) → is_error c ≡ true → TellsNothing op c
+error_tells (Add own d) c e = undone_adds own d c (error_undone c e)
+error_tells op c e = record { fates = λ x. error_fate x op c e; shares = λ k l later. refl }
+
+code_rolls_back : (reason : RollbackReason) → is_rolled_back (reason_code reason) ≡ true
+code_rolls_back Failed = refl
+code_rolls_back Transient = refl
+
+-- the reason of a branch that can only be rolled back is an XA_RB* code
+reason_rolls_back : (o : Option State) (r : Code) → reason_of o ≡ Some r → is_rolled_back r ≡ true
+reason_rolls_back None r e = cc
+reason_rolls_back (Some Active) r e = cc
+reason_rolls_back (Some Idle) r e = cc
+reason_rolls_back (Some S3) r e = cc
+reason_rolls_back (Some (RollbackOnly reason)) r e = let same : reason_code reason ≡ r = cc in subst (λ (c : Code). is_rolled_back c ≡ true) same (code_rolls_back reason)
+
+not_done : (r : Code) → is_rolled_back r ≡ true → is_done r ≡ false
+not_done Done e = cc
+not_done r e = refl
+
+read_only_drops : (y : XidName) → TellsDropped (Prepare y) y RdOnly
+read_only_drops y = record { fate = ReadOnly; uncommitted = refl; fates = λ x. refl; shares = λ k l later. refl; named = λ x. refl }
+
+broken_prepare_drops : (y : XidName) → TellsDropped (Prepare y) y RbIntegrity
+broken_prepare_drops y = record { fate = RolledBack; uncommitted = refl; fates = λ x. refl; shares = λ k l later. refl; named = λ x. refl }
+
+broken_commit_drops : (y : XidName) → TellsDropped (Commit y true) y RbIntegrity
+broken_commit_drops y = record { fate = RolledBack; uncommitted = refl; fates = λ x. refl; shares = λ k l later. refl; named = λ x. refl }
+
+rollback_drops : (y : XidName) (c : Code) → (is_done c || is_rolled_back c) ≡ true → TellsDropped (Rollback y) y c
+rollback_drops y c e = record {
+  fate = RolledBack;
+  uncommitted = refl;
+  fates = λ x. ap (λ b. if_named x y (if b then Some RolledBack else None)) e;
+  shares = λ k l later. refl;
+  named = λ x. refl;
+}
+
+-- ---- the effects
+
+-- what a request of thread t that is so answered does to the tables T
+pub data Effect (t : ℕ) (T : Tables) : Op → Answer → Type 0 where
+  -- nothing
+  Stays : (op : Op) (c : Code) → TellsNothing op c → Effect t T op (T, c)
+  -- the manager is shut
+  Shuts : Effect t T Shut (shut_down T, Done)
+  -- t opens the manager, and closes it
+  Opens : Effect t T OpenRm (open_rm t T)
+  Closes : Effect t T CloseRm (record T { opened = set.remove T.opened t }, Done)
+  -- t begins a branch, joins one that is at work, and goes on with its own
+  Starts : (y : XidName) → Effect t T (Start y Fresh) (associated t y false (stated y Active T), Done)
+  Joins : (y : XidName) → exists T y ≡ true → is_prepared (state_of T y) ≡ false → Effect t T (Start y Join) (associated t y false (stated y Active T), Done)
+  Resumes : (y : XidName) → is_associated_with y (association_of T t) ≡ true → Effect t T (Start y Resume) (associated t y false T, Done)
+  -- t pauses, or leaves its branch as it is, only to be rolled back, or idle
+  Suspends : (y : XidName) → is_associated_with y (association_of T t) ≡ true → Effect t T (End y Suspend) (associated t y true T, Done)
+  Leaves : (y : XidName) (how : EndHow) (c : Code) → Effect t T (End y how) (dissociated t T, c)
+  Fails : (y : XidName) → is_associated_with y (association_of T t) ≡ true → Effect t T (End y Fail) (stated y (RollbackOnly Failed) (dissociated t T), RbRollback)
+  Idles : (y : XidName) → is_associated_with y (association_of T t) ≡ true → Effect t T (End y Success) (stated y Idle (dissociated t T), Done)
+  -- t's branch meets a key that another has touched, and adds to one that none has
+  Dooms : (k : List ℕ) (d : ℤ) (l : Association) → association_of T t ≡ Some l → Effect t T (Add k d) (stated l.xid (RollbackOnly Transient) T, RbTransient)
+  Adds : (k : List ℕ) (d : ℤ) (l : Association) → association_of T t ≡ Some l → has_other_touched T.sums l.xid k ≡ false → Effect t T (Add k d) (record T { sums = map.insert T.sums (l.xid, k) (sum_of T.sums l.xid k +ℤ d) }, Done)
+  -- a branch with which nobody is associated is prepared, is committed, or ends without a commit
+  Prepares : (y : XidName) → is_somebody_associated T.associations y ≡ false → Effect t T (Prepare y) (stated y S3 T, Done)
+  Commits : (y : XidName) (one_phase : Bool) → is_somebody_associated T.associations y ≡ false → Effect t T (Commit y one_phase) (gone y (committed y T), Done)
+  Drops : (op : Op) (y : XidName) (c : Code) → is_somebody_associated T.associations y ≡ false → TellsDropped op y c → Effect t T op (gone y T, c)
+
+-- ---- the walk
+
+module _ (t : ℕ) (T : Tables) where
+  refuses : (op : Op) (c : Code) → is_error c ≡ true → Effect t T op (T, c)
+  refuses op c error = Stays op c (error_tells op c error)
+
+  at_close : Effect t T CloseRm (close_rm t T)
+  at_close =
+      let Q : Answer → Type 0 = Effect t T CloseRm in
+      by_if Q (not (has_opened T t)) _ _ (λ _. Stays CloseRm Done (record { fates = λ x. refl; shares = λ k l later. refl })) (λ _.
+      by_if Q (is_some (association_of T t)) _ _ (λ _. refuses CloseRm Proto refl) (λ _. Closes))
+
+  at_start : (how : StartHow) (y : XidName) → Effect t T (Start y how) (start how t y T)
+  at_start Fresh y =
+      let Q : Answer → Type 0 = Effect t T (Start y Fresh) in
+      by_if Q (is_some (association_of T t)) _ _ (λ _. refuses (Start y Fresh) Proto refl) (λ _.
+      by_if Q (exists T y) _ _ (λ _. refuses (Start y Fresh) DupId refl) (λ _. Starts y))
+  at_start Join y =
+      let Q : Answer → Type 0 = Effect t T (Start y Join) in
+      by_if Q (is_some (association_of T t)) _ _ (λ _. refuses (Start y Join) Proto refl) (λ _.
+      by_if Q (not (exists T y)) _ _ (λ _. refuses (Start y Join) Nota refl) (λ there.
+      by_if Q (is_prepared (state_of T y)) _ _ (λ _. refuses (Start y Join) Proto refl) (λ unprepared.
+      elim (reason_of (state_of T y)) as (λ o. Q (join_unless o t y T)) [
+        | None ↦ Joins y (not-false _ there) unprepared
+        | Some r ↦ Stays (Start y Join) r (record { fates = λ x. named_none x y; shares = λ k l later. refl })
+      ])))
+  at_start Resume y =
+      let Q : Answer → Type 0 = Effect t T (Start y Resume) in
+      by_if Q (is_associated_with y (association_of T t) && is_suspended (association_of T t)) _ _ (λ own. Resumes y (and_parts _ _ own).0) (λ _.
+      by_if Q (not (exists T y)) _ _ (λ _. refuses (Start y Resume) Nota refl) (λ _. refuses (Start y Resume) Proto refl))
+
+  at_add : (k : List ℕ) (d : ℤ) → Effect t T (Add k d) (add t k d T)
+  at_add k d =
+      let Q : Answer → Type 0 = Effect t T (Add k d) in
+      elim (association_of T t) as (λ o. association_of T t ≡ o → Q (add_by o k d T)) [
+        | None ↦ λ _. refuses (Add k d) Proto refl
+        | Some l ↦ λ own.
+            by_if Q (l.suspended) _ _ (λ _. refuses (Add k d) Proto refl) (λ _.
+            by_if Q (not (is_declared T k)) _ _ (λ _. refuses (Add k d) Inval refl) (λ _.
+            elim (reason_of (state_of T l.xid)) as (λ o. reason_of (state_of T l.xid) ≡ o → Q (add_unless o l.xid k d T)) [
+              | None ↦ λ _. by_if Q (has_other_touched T.sums l.xid k) _ _ (λ _. Dooms k d l own) (λ alone. Adds k d l own alone)
+              | Some r ↦ λ doomed. Stays (Add k d) r (undone_adds k d r (not_done r (reason_rolls_back _ r doomed)))
+            ] refl))
+      ] refl
+
+  at_ended : (how : EndHow) (y : XidName) → is_associated_with y (association_of T t) ≡ true → Effect t T (End y how) (ended how t y T)
+  at_ended Suspend y own = Suspends y own
+  at_ended Fail y own = Fails y own
+  at_ended Success y own = by_if (Effect t T (End y Success)) (is_somebody_associated (dissociated t T).associations y) _ _ (λ _. Leaves y Success Done) (λ _. Idles y own)
+
+  at_end : (how : EndHow) (y : XidName) → Effect t T (End y how) (end how t y T)
+  at_end how y =
+      let Q : Answer → Type 0 = Effect t T (End y how) in
+      by_if Q (not (is_associated_with y (association_of T t)) && not (exists T y)) _ _ (λ _. refuses (End y how) Nota refl) (λ _.
+      by_if Q (not (is_associated_with y (association_of T t))) _ _ (λ _. refuses (End y how) Proto refl) (λ own.
+      by_if Q (is_suspend how && is_suspended (association_of T t)) _ _ (λ _. refuses (End y how) Proto refl) (λ _.
+      elim (reason_of (state_of T y)) as (λ o. Q (end_unless o how t y T)) [
+        | None ↦ at_ended how y (not-false _ own)
+        | Some r ↦ Leaves y how r
+      ])))
+
+  at_prepare : (y : XidName) → Effect t T (Prepare y) (prepare y T)
+  at_prepare y =
+      let Q : Answer → Type 0 = Effect t T (Prepare y) in
+      by_if Q (not (exists T y)) _ _ (λ _. refuses (Prepare y) Nota refl) (λ _.
+      by_if Q (is_somebody_associated T.associations y || (is_prepared (state_of T y) || is_some (reason_of (state_of T y)))) _ _ (λ _. refuses (Prepare y) Proto refl) (λ free.
+      let nobody = (or_parts (is_somebody_associated T.associations y) _ free).0 in
+      by_if Q (not (has_touched T.sums y)) _ _ (λ _. Drops (Prepare y) y RdOnly nobody (read_only_drops y)) (λ _.
+      by_if Q (is_broken T.values T.sums y) _ _ (λ _. Drops (Prepare y) y RbIntegrity nobody (broken_prepare_drops y)) (λ _. Prepares y nobody))))
+
+  at_commit : (one_phase : Bool) (y : XidName) → Effect t T (Commit y one_phase) (if one_phase then commit_one y T else commit_two y T)
+  at_commit true y =
+      let Q : Answer → Type 0 = Effect t T (Commit y true) in
+      by_if Q (not (exists T y)) _ _ (λ _. refuses (Commit y true) Nota refl) (λ _.
+      by_if Q (is_somebody_associated T.associations y || not (is_idle (state_of T y))) _ _ (λ _. refuses (Commit y true) Proto refl) (λ free.
+      let nobody = (or_parts (is_somebody_associated T.associations y) _ free).0 in
+      by_if Q (is_broken T.values T.sums y) _ _ (λ _. Drops (Commit y true) y RbIntegrity nobody (broken_commit_drops y)) (λ _. Commits y true nobody)))
+  at_commit false y =
+      let Q : Answer → Type 0 = Effect t T (Commit y false) in
+      by_if Q (not (exists T y)) _ _ (λ _. refuses (Commit y false) Nota refl) (λ _.
+      by_if Q (is_somebody_associated T.associations y || not (is_prepared (state_of T y))) _ _ (λ _. refuses (Commit y false) Proto refl) (λ free.
+      Commits y false (or_parts (is_somebody_associated T.associations y) _ free).0))
+
+  at_rollback : (y : XidName) → Effect t T (Rollback y) (rollback y T)
+  at_rollback y =
+      let Q : Answer → Type 0 = Effect t T (Rollback y) in
+      by_if Q (not (exists T y)) _ _ (λ _. refuses (Rollback y) Nota refl) (λ _.
+      by_if Q (is_somebody_associated T.associations y) _ _ (λ _. refuses (Rollback y) Proto refl) (λ nobody.
+      elim (reason_of (state_of T y)) as (λ o. reason_of (state_of T y) ≡ o → Q (rollback_unless o y T)) [
+        | None ↦ λ _. Drops (Rollback y) y Done nobody (rollback_drops y Done refl)
+        | Some r ↦ λ doomed. Drops (Rollback y) y r nobody (rollback_drops y r (ap (λ b. is_done r || b) (reason_rolls_back _ r doomed) ∙ or-true (is_done r)))
+      ] refl))
+
+  at_opened : (op : Op) → Effect t T op (next_opened t op T)
+  at_opened (Start y how) = at_start how y
+  at_opened (Add k d) = at_add k d
+  at_opened (End y how) = at_end how y
+  at_opened (Prepare y) = at_prepare y
+  at_opened (Commit y one_phase) = at_commit one_phase y
+  at_opened (Rollback y) = at_rollback y
+  at_opened op = refuses op Proto refl
+
+  at_open : (op : Op) → Effect t T op (next_open t op T)
+  at_open Shut = Shuts
+  at_open OpenRm = Opens
+  at_open CloseRm = at_close
+  at_open op = by_if (Effect t T op) (not (has_opened T t)) _ _ (λ _. refuses op Proto refl) (λ _. at_opened op)
+
+-- each request has one of them
+pub effect_of : (t : ℕ) (op : Op) (T : Tables) → Effect t T op (next t op T)
+unfolding next
+effect_of t op T = by_if (Effect t T op) (T.shut) _ _ (λ _. refuses t T op RmFail refl) (λ _. at_open t T op)

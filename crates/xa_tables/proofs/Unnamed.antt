@@ -1,0 +1,99 @@
+-- The law: a branch with which nobody is associated stays as it is under every request that doesn't name it.
+use Rattle.std.specs.Prelude.{◌≡◌, ◌≢◌, ℕ, Bool, true, false, cond, None, Some, List, [], ◌∷◌, ◌++◌, refl}
+use Rattle.std.proofs.Common.{sym, ap, ◌∙◌, subst}
+use Rattle.std.specs.Ordering.{nat_cmp, eq_by_cmp}
+use Rattle.std.specs.Cmp.{nat_cmp_total}
+use Rattle.std.specs.FinMap as map
+use Rattle.std.specs.FinMap.{FinMap, get-insert, get-remove, nat_cmp-IsAntisymmetric}
+use Rattle.std.proofs.lemmas.List.Elements.{All-head, All-tail}
+use Rattle.xa_words.specs.Xid.{XidName, xid_eq}
+use Rattle.xa_words.specs.Orders.{Decides-xid_eq}
+use Rattle.xa_words.specs.declared.request.Op.{Op}
+use Rattle.xa_words.specs.declared.request.Request.{Request}
+use Rattle.xa_tables.specs.declared.state.State.TheVariants.{Active, Idle, Prepared as S3, RollbackOnly}
+use Rattle.xa_tables.specs.declared.state.RollbackReason.TheVariants.{Rollback as Failed, Transient}
+use Rattle.xa_tables.specs.declared.state.Association.{Association}
+use Rattle.xa_tables.specs.Tables.{Tables, association_of, is_somebody_associated}
+use Rattle.xa_tables.specs.Next.{Answer, next, gone, association}
+use Rattle.xa_tables.specs.History.{History, tables_after, tables_after-append}
+use Rattle.xa_tables.specs.Prepared.{names, NamesNowhere, StaysAsItWas}
+use Rattle.xa_tables.proofs.MapLemmas.{none_pass, none_passes}
+use Rattle.xa_tables.proofs.SoundLemmas.{others_put, others_removed}
+use Rattle.xa_tables.proofs.Effects.{at_false, Effect, Starts, Joins, Resumes, Suspends, Leaves, Fails, Idles, Dooms, Adds, Prepares, Commits, Drops, effect_of}
+use Rattle.xa_tables.proofs.Law.{swap_xid}
+use Rattle.xa_tables.proofs.ValueLaw.{get_without, get_added}
+
+-- each association is with another branch than x
+pub apart_from : (x : XidName) (associations : FinMap nat_cmp Association) → is_somebody_associated associations x ≡ false → (t : ℕ) (l : Association) → map.get associations t ≡ Some l → xid_eq l.xid x ≡ false
+apart_from x associations nobody t l found = none_passes nat_cmp_total nat_cmp-IsAntisymmetric (λ u k. xid_eq k.xid x) associations t l nobody found
+
+-- and where each is, nobody is associated with x
+pub nobody_with : (x : XidName) (associations : FinMap nat_cmp Association) → ((t : ℕ) (l : Association) → map.get associations t ≡ Some l → xid_eq l.xid x ≡ false) → is_somebody_associated associations x ≡ false
+nobody_with x associations apart = none_pass nat_cmp_total nat_cmp-IsAntisymmetric (λ u k. xid_eq k.xid x) associations apart
+
+-- a thread becomes associated with another branch, and a thread loses its association
+nobody_joins : (x : XidName) (associations : FinMap nat_cmp Association) (t : ℕ) (l : Association) → xid_eq l.xid x ≡ false → is_somebody_associated associations x ≡ false → is_somebody_associated (map.insert associations t l) x ≡ false
+nobody_joins x associations t l other nobody =
+    nobody_with x (map.insert associations t l) (λ u k found.
+    elim (eq_by_cmp nat_cmp u t) as (λ b. cond b (Some l) (map.get associations u) ≡ Some k → xid_eq k.xid x ≡ false) [
+      | true ↦ λ is. let same : l ≡ k = cc in ap (λ (j : Association). xid_eq j.xid x) (sym same) ∙ other
+      | false ↦ λ is. apart_from x associations nobody u k is
+    ] (sym (get-insert nat_cmp_total associations t l u) ∙ found))
+
+nobody_leaves : (x : XidName) (associations : FinMap nat_cmp Association) (t : ℕ) → is_somebody_associated associations x ≡ false → is_somebody_associated (map.remove associations t) x ≡ false
+nobody_leaves x associations t nobody =
+    nobody_with x (map.remove associations t) (λ u k found.
+    elim (eq_by_cmp nat_cmp u t) as (λ b. cond b None (map.get associations u) ≡ Some k → xid_eq k.xid x ≡ false) [
+      | true ↦ λ is. cc
+      | false ↦ λ is. apart_from x associations nobody u k is
+    ] (sym (get-remove nat_cmp_total associations t u) ∙ found))
+
+-- another branch
+differs : (x y : XidName) → xid_eq y x ≡ false → x ≢ y
+differs x y other same = let z = (Decides-xid_eq y x).1 (sym same) in cc
+
+module _ (t : ℕ) (x : XidName) (T : Tables) (nobody : is_somebody_associated T.associations x ≡ false) where
+  joined : (y : XidName) (suspended : Bool) → xid_eq y x ≡ false → is_somebody_associated (map.insert T.associations t (association y suspended)) x ≡ false
+  joined y suspended other = nobody_joins x T.associations t (association y suspended) other nobody
+
+  left : is_somebody_associated (map.remove T.associations t) x ≡ false
+  left = nobody_leaves x T.associations t nobody
+
+  another : (l : Association) → association_of T t ≡ Some l → x ≢ l.xid
+  another l own = differs x l.xid (apart_from x T.associations nobody t l own)
+
+  others_gone : (y : XidName) → xid_eq y x ≡ false → (k : List ℕ) → map.get (gone y T).sums (x, k) ≡ map.get T.sums (x, k)
+  others_gone y other k = get_without T.sums y x k ∙ at_false (xid_eq x y) None _ (swap_xid x y ∙ other)
+
+  by_effect : {op : Op} {a : Answer} → Effect t T op a → names x op ≡ false → StaysAsItWas x T a.0
+  by_effect (Starts y) n = record { state = others_put T.states y Active x (differs x y n); sums = λ k. refl; apart = joined y false n }
+  by_effect (Joins y there unprepared) n = record { state = others_put T.states y Active x (differs x y n); sums = λ k. refl; apart = joined y false n }
+  by_effect (Resumes y own) n = record { state = refl; sums = λ k. refl; apart = joined y false n }
+  by_effect (Suspends y own) n = record { state = refl; sums = λ k. refl; apart = joined y true n }
+  by_effect (Leaves y how c) n = record { state = refl; sums = λ k. refl; apart = left }
+  by_effect (Fails y own) n = record { state = others_put T.states y (RollbackOnly Failed) x (differs x y n); sums = λ k. refl; apart = left }
+  by_effect (Idles y own) n = record { state = others_put T.states y Idle x (differs x y n); sums = λ k. refl; apart = left }
+  by_effect (Dooms k d l own) n = record { state = others_put T.states l.xid (RollbackOnly Transient) x (another l own); sums = λ q. refl; apart = nobody }
+  by_effect (Adds k d l own alone) n = record { state = refl; sums = λ q. get_added T.sums l.xid x k q _ (λ same _. another l own same); apart = nobody }
+  by_effect (Prepares y free) n = record { state = others_put T.states y S3 x (differs x y n); sums = λ k. refl; apart = nobody }
+  by_effect (Commits y one_phase free) n = record { state = others_removed T.states y x (differs x y n); sums = others_gone y n; apart = nobody }
+  by_effect (Drops op y c free tells) n =
+      let other = sym (tells.named x) ∙ n in
+      record { state = others_removed T.states y x (differs x y other); sums = others_gone y other; apart = nobody }
+  -- the others change no branch
+  by_effect effect n = record { state = refl; sums = λ k. refl; apart = nobody }
+
+pub unnamed_stays : (t : ℕ) (op : Op) (x : XidName) (T : Tables) → is_somebody_associated T.associations x ≡ false → names x op ≡ false → StaysAsItWas x T (next t op T).0
+unnamed_stays t op x T nobody = by_effect t x T nobody (effect_of t op T)
+
+-- the same for the requests of a history
+pub unnamed_on : (g : History) (x : XidName) (T : Tables) → is_somebody_associated T.associations x ≡ false → NamesNowhere x g → StaysAsItWas x T (tables_after g T)
+unnamed_on [] x T nobody n = record { state = refl; sums = λ k. refl; apart = nobody }
+unnamed_on (r ∷ g) x T nobody n =
+    let P : Request → Type 0 = λ q. names x q.op ≡ false in
+    let one = unnamed_stays r.thread r.op x T nobody (All-head P r g n) in
+    let rest = unnamed_on g x (next r.thread r.op T).0 one.apart (All-tail P r g n) in
+    record { state = rest.state ∙ one.state; sums = λ k. rest.sums k ∙ one.sums k; apart = rest.apart }
+
+pub unnamed_law : (h g : History) (x : XidName) (T : Tables) → is_somebody_associated (tables_after h T).associations x ≡ false → NamesNowhere x g → StaysAsItWas x (tables_after h T) (tables_after (h ++ g) T)
+unnamed_law h g x T nobody n = subst (StaysAsItWas x (tables_after h T)) (sym (tables_after-append h g T)) (unnamed_on g x (tables_after h T) nobody n)
