@@ -5,8 +5,6 @@ use Rattle.slab.specs.Slab.{Slab}
 use Rattle.xa_words.specs.declared.request.Request.{Request}
 use Rattle.xa_words.specs.declared.request.Completion.{Completion}
 use Rattle.xa_lane.specs.Ends.{Sending, Receiving}
-use Rattle.xa_lane.specs.Rings.{RingId}
-use Rattle.xa_lane.specs.Senders.{QueueId}
 use Rattle.xa_desk.specs.declared.operation.Operation.{Operation}
 use Rattle.xa_desk.specs.declared.slot.Slot.{Slot}
 use Rattle.xa_desk.specs.AccountView.{AccountView}
@@ -35,7 +33,7 @@ module _ (plan : ℕ) (at : List AccountView) (use_async : List Bool) (new : at 
   planned_from = ap planned_total new ∙ planned-new plan use_async
 
 -- what contracts see of such a book
-module _ (t h plan : ℕ) (at : List AccountView) (table : List (Option Operation)) (drained : List Completion) (requests : List (Sending RingId Request)) (r : Receiving QueueId Completion) where
+module _ (t h plan : ℕ) (at : List AccountView) (table : List (Option Operation)) (drained : List Completion) (requests : List (Sending Request)) (r : Receiving Completion) where
   abbrev pub begun : DeskView
   begun = record { thread = t; handles = h; accounts = at; kept = kept_of table; drained = drained; drained_then = 0; requests = requests; completions = r }
 

@@ -1,41 +1,42 @@
 -- Which calls a desk doesn't refuse, and that a desk stays one.
 use Rattle.std.proofs.Common.{◌≡◌, ◌≤◌, ◌<◌, ◌+◌, ℕ, Bool, true, false, not, cond, leb, List, length, Option, Some, None, sym, ◌∙◌, refl, ap, subst, arith}
+use Rattle.std.specs.Option.{option_or}
 use Rattle.std.proofs.lemmas.Bool.{not-false, and_parts, leb-true, leb-false}
 use Rattle.xa_words.specs.declared.request.Op.{Op}
 use Rattle.xa_desk.specs.AccountView.{AccountView, learnt_shut}
-use Rattle.xa_desk.specs.DeskView.{DeskView, IsKnown, is_known, account, outstanding, submit_refusal, call_refusal}
+use Rattle.xa_desk.specs.DeskView.{DeskView, IsKnown, is_known, account, outstanding, reach_refusal, handle_refusal, spent_refusal, submit_refusal, call_refusal}
 use Rattle.xa_desk.specs.Lanes.{IsDesk, submitted, after_full, after_fulls}
-use Rattle.xa_desk.specs.declared.refused.Refused.{Refused}
-use Rattle.xa_desk.specs.declared.refused.Refused.TheVariants.{NoSuchManager, Shut, TooMany, Spent}
+use Rattle.xa_desk.specs.declared.refused.Refused.TheVariants.{NoSuchManager, Shut, TooMany}
 use Rattle.xa_desk.proofs.Ties.{tied_full, tied_fulls, tied_submitted, fulls_alike}
 
 unless : {A : Type 0} (b : Bool) (x : A) (r : Option A) → None ≡ cond b (Some x) r → (b ≡ false) × (None ≡ r)
 unless true x r e = absurd (cc)
 unless false x r e = (refl, e)
 
-abbrev is_spent : DeskView → ℕ → Option Refused
-is_spent d m = cond (leb (account d.accounts m).plan (length (account d.accounts m).sent)) (Some Spent) None
-
-abbrev is_too_many : DeskView → ℕ → Option Refused
-is_too_many d m = cond (leb d.handles (outstanding d.accounts)) (Some TooMany) (is_spent d m)
+neither : {A : Type 0} (a b : Option A) → None ≡ option_or a b → (None ≡ a) × (None ≡ b)
+neither None b e = (refl, e)
+neither (Some x) b e = absurd (cc)
 
 known_from : (at : List AccountView) (m : ℕ) → not (is_known at m) ≡ false → IsKnown at m
 known_from at m e =
     let parts = and_parts (leb 1 m) (leb m (length at)) (not-false (is_known at m) e) in
     record { positive = leb-true 1 m parts.0; within = leb-true m (length at) parts.1 }
 
+reaches : (d : DeskView) (m : ℕ) → None ≡ reach_refusal d m → IsKnown d.accounts m
+reaches d m e = known_from d.accounts m (unless (not (is_known d.accounts m)) NoSuchManager (cond (learnt_shut (account d.accounts m)) (Some Shut) None) e).0
+
 -- a request that isn't refused is of a manager that there is, and has a handle
 pub submit_known : (d : DeskView) (m : ℕ) → None ≡ submit_refusal d m → IsKnown d.accounts m
-submit_known d m e = known_from d.accounts m (unless (not (is_known d.accounts m)) NoSuchManager (cond (learnt_shut (account d.accounts m)) (Some Shut) (is_too_many d m)) e).0
+submit_known d m e = reaches d m (neither (reach_refusal d m) (option_or (handle_refusal d) (spent_refusal d m)) e).0
 
 pub submit_free : (d : DeskView) (m : ℕ) → None ≡ submit_refusal d m → outstanding d.accounts < d.handles
 submit_free d m e =
-    let open_ = unless (not (is_known d.accounts m)) NoSuchManager (cond (learnt_shut (account d.accounts m)) (Some Shut) (is_too_many d m)) e in
-    let heard = unless (learnt_shut (account d.accounts m)) Shut (is_too_many d m) open_.1 in
-    leb-false d.handles (outstanding d.accounts) (unless (leb d.handles (outstanding d.accounts)) TooMany (is_spent d m) heard.1).0
+    let reached = neither (reach_refusal d m) (option_or (handle_refusal d) (spent_refusal d m)) e in
+    let has_handle = neither (handle_refusal d) (spent_refusal d m) reached.1 in
+    leb-false d.handles (outstanding d.accounts) (unless (leb d.handles (outstanding d.accounts)) TooMany None has_handle.0).0
 
 pub call_known : (d : DeskView) (m : ℕ) → None ≡ call_refusal d m → IsKnown d.accounts m
-call_known d m e = known_from d.accounts m (unless (not (is_known d.accounts m)) NoSuchManager (cond (learnt_shut (account d.accounts m)) (Some Shut) (is_spent d m)) e).0
+call_known d m e = reaches d m (neither (reach_refusal d m) (spent_refusal d m) e).0
 
 -- what holds of every desk
 abbrev pub Fits : DeskView → Type 0

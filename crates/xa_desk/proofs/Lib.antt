@@ -5,8 +5,10 @@ pub mod Counts
 pub mod Looks
 pub mod Fresh
 pub mod Tickets
-pub mod AtPlace
 pub mod KeyRows
 pub mod Ties
 pub mod Begins
 pub mod Desks
+pub mod Growing
+pub mod Going
+pub mod Waiting

@@ -6,7 +6,6 @@ use Rattle.xa_words.specs.declared.request.Completion.{Completion}
 use Rattle.xa_lane.specs.declared.parcel.Taken.{Taken}
 use Rattle.xa_lane.specs.declared.parcel.Taken.TheVariants.{Item, EndOf, Empty}
 use Rattle.xa_lane.specs.Ends.{Receiving, Took}
-use Rattle.xa_lane.specs.Senders.{QueueId}
 use Rattle.xa_desk.specs.declared.operation.Operation.{Operation}
 use Rattle.xa_desk.specs.DeskView.{DeskView, TicketView, IsOut, IsLoose, Owns, opening_of, ready_at, ready_with, after_collected, outstanding, drained_code}
 use Rattle.xa_desk.specs.Lanes.{IsDesk}
@@ -15,27 +14,27 @@ use Rattle.xa_desk.proofs.Ties.{tied_looks, tied_collected}
 
 -- only what was drained and taken, and the quiet moments, may differ
 abbrev IsSameBut : DeskView → DeskView → Type 0
-IsSameBut old new = new ≡ record old { drained = new.drained; drained_then = new.drained_then; completions = record old.completions { taken = new.completions.taken; quiet = new.completions.quiet } }
+IsSameBut old new = new ≡ record old { drained = new.drained; drained_then = new.drained_then; completions = record old.completions { taken = new.completions.taken; quiet = new.completions.quiet; taken_then = new.completions.taken_then } }
 
 -- a step changes the receiver first, and then what was drained
 abbrev IsSameFrom : DeskView → DeskView → Type 0
 IsSameFrom old new = new ≡ record old { drained = new.drained; drained_then = new.drained_then; completions = new.completions }
 
-abbrev SameEnd : Receiving QueueId Completion → Receiving QueueId Completion → Type 0
-SameEnd r r' = r' ≡ record r { taken = r'.taken; quiet = r'.quiet }
+abbrev SameEnd : Receiving Completion → Receiving Completion → Type 0
+SameEnd r r' = r' ≡ record r { taken = r'.taken; quiet = r'.quiet; taken_then = r'.taken_then }
 
 same_start : (old new : DeskView) → new ≡ old → IsSameBut old new
 same_start old new e = subst (IsSameBut old) (sym e) refl
 
 same_from : (old new : DeskView) → SameEnd old.completions new.completions → IsSameFrom old new → IsSameBut old new
-same_from old new r e = e ∙ ap (λ (x : Receiving QueueId Completion). record old { drained = new.drained; drained_then = new.drained_then; completions = x }) r
+same_from old new r e = e ∙ ap (λ (x : Receiving Completion). record old { drained = new.drained; drained_then = new.drained_then; completions = x }) r
 
-same_took : (a : Taken Completion) (r r' : Receiving QueueId Completion) → Took r a r' → SameEnd r r'
+same_took : (a : Taken Completion) (r r' : Receiving Completion) → Took r a r' → SameEnd r r'
 same_took (Item s c) r r' t = subst (SameEnd r) (sym t.1) refl
 same_took (EndOf s) r r' t = subst (SameEnd r) (sym t.1) refl
 same_took Empty r r' t = subst (SameEnd r) (sym t) refl
 
-same_drains : (old new : DeskView) (r : Receiving QueueId Completion) (c : Completion) → Drains (record old { completions = r }) c new → IsSameFrom old new
+same_drains : (old new : DeskView) (r : Receiving Completion) (c : Completion) → Drains (record old { completions = r }) c new → IsSameFrom old new
 same_drains old new r c (first out none e) = subst (IsSameFrom old) (sym e) refl
 same_drains old new r c (other never e) = subst (IsSameFrom old) (sym e) refl
 
@@ -48,7 +47,7 @@ same_draws old new (EndOf s) d = same_from old new (same_took (EndOf s) old.comp
 same_draws old new Empty d = same_from old new (same_took Empty old.completions new.completions d.0) (same_then old new old.drained (length old.drained) d.1)
 
 same_chain : (a b c : DeskView) → IsSameBut a b → IsSameBut b c → IsSameBut a c
-same_chain a b c p q = q ∙ ap (λ (x : DeskView). record x { drained = c.drained; drained_then = c.drained_then; completions = record x.completions { taken = c.completions.taken; quiet = c.completions.quiet } }) p
+same_chain a b c p q = q ∙ ap (λ (x : DeskView). record x { drained = c.drained; drained_then = c.drained_then; completions = record x.completions { taken = c.completions.taken; quiet = c.completions.quiet; taken_then = c.completions.taken_then } }) p
 
 pub looks_start : (old new : DeskView) → new ≡ old → Looks old new
 looks_start old new e = record { pops = start new e; rest = same_start old new e }

@@ -12,15 +12,14 @@ use Rattle.xa_lane.specs.declared.parcel.Parcel.{Parcel}
 use Rattle.xa_lane.specs.declared.parcel.Taken.{Taken}
 use Rattle.xa_lane.specs.declared.parcel.Taken.TheVariants.{Item, EndOf, Empty}
 use Rattle.xa_lane.specs.Ends.{Sending, Receiving, somes, parcel}
-use Rattle.xa_lane.specs.Rings.{RingId}
-use Rattle.xa_lane.specs.Senders.{QueueId, at_place, with_item, with_full, but_full, sent_at}
+use Rattle.xa_lane.specs.Senders.{at_place, with_item, with_full, but_full, sent_at}
 use Rattle.xa_desk.specs.declared.operation.Operation.{Operation}
 use Rattle.xa_desk.specs.AccountView.{AccountView, new_account, with_sent, with_collected}
 use Rattle.xa_desk.specs.DeskView.{DeskView, IsKnown, account, no_account, after_collected, drained_code}
 use Rattle.xa_desk.specs.Lanes.{next_request, submitted, after_full, after_fulls, numbered, arrived, IsPartOf, nothing, with_last, without_last, IsEndTo, AreEnds, WasDrained, IsTied, IsDesk, PartsView, AreNew, new_accounts, new_desk}
 use Rattle.xa_desk.specs.Looks.{Drains, first, other, Draws, Pops, start, drawn, Looks}
 use Rattle.xa_desk.proofs.Accounts.{same_operation, account-sent_same, account-sent_other, account-collected_same, account-collected_other, known_before, collected_known, length-put_account}
-use Rattle.xa_desk.proofs.AtPlace.{length-at_place, at_place_cases, sent_at-full, sent_at-item, sent_at-other, sent_at-but_full, nothing_sent}
+use Rattle.xa_lane.proofs.Senders.{length-at_place, at_place_cases, sent_at-full, sent_at-item, sent_at-other, sent_at-but_full, nothing_sent}
 use Rattle.xa_desk.proofs.Books.{drained_code-push_again}
 
 -- ---- what was taken
@@ -39,7 +38,7 @@ arrived-mark taken s =
     ∙ somes-append (map (λ (x : Parcel Completion). x.item) taken) (None ∷ [])
     ∙ append-nil (arrived taken)
 
-module _ (t : ℕ) (at : List AccountView) (drained : List Completion) (requests : List (Sending RingId Request)) (r : Receiving QueueId Completion) (b : IsTied t at drained requests r) where
+module _ (t : ℕ) (at : List AccountView) (drained : List Completion) (requests : List (Sending Request)) (r : Receiving Completion) (b : IsTied t at drained requests r) where
   tied_first : (s : ℕ) (c : Completion) → IsTied t at (drained ++ c ∷ []) requests (record r { taken = r.taken ++ parcel s (Some c) ∷ [] })
   tied_first s c = record {
     ends = record { number = b.ends.number; to = b.ends.to; lane = b.ends.lane; senders = b.ends.senders };
@@ -64,22 +63,22 @@ module _ (t : ℕ) (at : List AccountView) (drained : List Completion) (requests
     collected = b.collected;
   }
 
-  tied_quiet : (n : ℕ) → IsTied t at drained requests (record r { quiet = n })
-  tied_quiet n = record {
+  tied_quiet : (n then : ℕ) → IsTied t at drained requests (record r { quiet = n; taken_then = then })
+  tied_quiet n then = record {
     ends = record { number = b.ends.number; to = b.ends.to; lane = b.ends.lane; senders = b.ends.senders };
     sent = b.sent;
     drained_ = b.drained_;
     collected = b.collected;
   }
 
-tied_drains : (old new : DeskView) (s : ℕ) (c : Completion) (r : Receiving QueueId Completion) → IsDesk old → r ≡ record old.completions { taken = old.completions.taken ++ parcel s (Some c) ∷ [] } → Drains (record old { completions = r }) c new → IsDesk new
+tied_drains : (old new : DeskView) (s : ℕ) (c : Completion) (r : Receiving Completion) → IsDesk old → r ≡ record old.completions { taken = old.completions.taken ++ parcel s (Some c) ∷ [] } → Drains (record old { completions = r }) c new → IsDesk new
 tied_drains old new s c r b e (first out none is) = subst IsDesk (sym is) (subst (IsTied old.thread old.accounts (old.drained ++ c ∷ []) old.requests) (sym e) (tied_first old.thread old.accounts old.drained old.requests old.completions b s c))
 tied_drains old new s c r b e (other never is) = subst IsDesk (sym is) (subst (IsTied old.thread old.accounts old.drained old.requests) (sym e) (tied_other old.thread old.accounts old.drained old.requests old.completions b s c))
 
 pub tied_draws : (old new : DeskView) (a : Taken Completion) → Draws old a new → IsDesk old → IsDesk new
 tied_draws old new (Item s c) d b = tied_drains old new s c new.completions b d.0.1 d.1
 tied_draws old new (EndOf s) d b = subst IsDesk (sym d.1) (subst (IsTied old.thread old.accounts old.drained old.requests) (sym d.0.1) (tied_mark old.thread old.accounts old.drained old.requests old.completions b s))
-tied_draws old new Empty d b = subst IsDesk (sym d.1) (subst (IsTied old.thread old.accounts old.drained old.requests) (sym d.0) (tied_quiet old.thread old.accounts old.drained old.requests old.completions b _))
+tied_draws old new Empty d b = subst IsDesk (sym d.1) (subst (IsTied old.thread old.accounts old.drained old.requests) (sym d.0) (tied_quiet old.thread old.accounts old.drained old.requests old.completions b _ _))
 
 tied_pops : (old new : DeskView) → Pops old new → IsDesk old → IsDesk new
 tied_pops old new (start _ e) b = subst IsDesk (sym e) b
@@ -120,8 +119,8 @@ numbered-append : (t n : ℕ) (ops : List Op) (op : Op) → numbered t n (ops ++
 numbered-append t n [] op = ap (λ k. request_at t k op ∷ []) (let from : n ≡ n + 0 = omega arith in from)
 numbered-append t n (o ∷ ops) op = ap (λ l. request_at t n o ∷ l) (numbered-append t (suc n) ops op ∙ ap (λ k. numbered t (suc n) ops ++ request_at t k op ∷ []) (let from : suc n + length ops ≡ n + suc (length ops) = omega arith in from))
 
-pub ends_changed : (t n k : ℕ) (f : Sending RingId Request → Sending RingId Request) (requests : List (Sending RingId Request)) (r : Receiving QueueId Completion)
-    → ((opening m : ℕ) (s : Sending RingId Request) → IsEndTo t opening m s → IsEndTo t opening m (f s)) → AreEnds t n requests r → AreEnds t n (at_place k f requests) r
+pub ends_changed : (t n k : ℕ) (f : Sending Request → Sending Request) (requests : List (Sending Request)) (r : Receiving Completion)
+    → ((opening m : ℕ) (s : Sending Request) → IsEndTo t opening m s → IsEndTo t opening m (f s)) → AreEnds t n requests r → AreEnds t n (at_place k f requests) r
 ends_changed t n k f requests r keeps b = record {
   number = length-at_place f k requests ∙ b.number;
   to = λ j y found.
@@ -134,10 +133,10 @@ ends_changed t n k f requests r keeps b = record {
   senders = b.senders;
 }
 
-item_keeps : (t : ℕ) (x : Request) (opening m : ℕ) (s : Sending RingId Request) → IsEndTo t opening m s → IsEndTo t opening m (with_item x s)
+item_keeps : (t : ℕ) (x : Request) (opening m : ℕ) (s : Sending Request) → IsEndTo t opening m s → IsEndTo t opening m (with_item x s)
 item_keeps t x opening m s e = record { sender = e.sender; opening_ = e.opening_; lane = e.lane }
 
-full_keeps : (t opening m : ℕ) (s : Sending RingId Request) → IsEndTo t opening m s → IsEndTo t opening m (with_full s)
+full_keeps : (t opening m : ℕ) (s : Sending Request) → IsEndTo t opening m s → IsEndTo t opening m (with_full s)
 full_keeps t opening m s e = record { sender = e.sender; opening_ = e.opening_; lane = e.lane }
 
 pub tied_submitted : (d : DeskView) (m : ℕ) (op : Op) → IsKnown d.accounts m → IsDesk d → IsDesk (submitted d m op)
@@ -199,12 +198,12 @@ fulls_alike n d d' m e = subst (AreAlike d) (sym e) (fulls_are_alike n d m)
 
 -- ---- the end, and the beginning
 
-abbrev bared : Option (Sending RingId Request) → Option (Sending RingId Request)
+abbrev bared : Option (Sending Request) → Option (Sending Request)
 bared None = None
 bared (Some s) = Some (but_full s)
 
 -- ends that differ in their full moments alone are tied alike
-pub tied_ended : (t : ℕ) (at : List AccountView) (drained : List Completion) (es ds : List (Sending RingId Request)) (r : Receiving QueueId Completion) → map but_full es ≡ map but_full ds → IsTied t at drained ds r → IsTied t at drained es r
+pub tied_ended : (t : ℕ) (at : List AccountView) (drained : List Completion) (es ds : List (Sending Request)) (r : Receiving Completion) → map but_full es ≡ map but_full ds → IsTied t at drained ds r → IsTied t at drained es r
 tied_ended t at drained es ds r same b = record {
   ends = record {
     number = sym (length-map es but_full) ∙ ap length same ∙ length-map ds but_full ∙ b.ends.number;
@@ -217,7 +216,7 @@ tied_ended t at drained es ds r same b = record {
   collected = b.collected;
 }
   where
-    bared-get : (xs : List (Sending RingId Request)) (k : ℕ) → slice_get (map but_full xs) k ≡ bared (slice_get xs k)
+    bared-get : (xs : List (Sending Request)) (k : ℕ) → slice_get (map but_full xs) k ≡ bared (slice_get xs k)
     bared-get [] k = refl
     bared-get (x ∷ xs) zero = refl
     bared-get (x ∷ xs) (suc k) = bared-get xs k
@@ -225,16 +224,16 @@ tied_ended t at drained es ds r same b = record {
     alike : (k : ℕ) → bared (slice_get es k) ≡ bared (slice_get ds k)
     alike k = sym (bared-get es k) ∙ ap (λ l. slice_get l k) same ∙ bared-get ds k
 
-    from : (k : ℕ) (e : Sending RingId Request) (d : Option (Sending RingId Request)) → slice_get ds k ≡ d → slice_get es k ≡ Some e → IsEndTo t r.lane.opening (k + 1) e
+    from : (k : ℕ) (e : Sending Request) (d : Option (Sending Request)) → slice_get ds k ≡ d → slice_get es k ≡ Some e → IsEndTo t r.lane.opening (k + 1) e
     from k e None there found = absurd (let no : Some (but_full e) ≡ None = sym (ap bared found) ∙ alike k ∙ ap bared there in cc)
     from k e (Some d) there found =
         let both : Some (but_full e) ≡ Some (but_full d) = sym (ap bared found) ∙ alike k ∙ ap bared there in
         let one : but_full e ≡ but_full d = cc in
         let was = b.ends.to k d there in
         record {
-          sender = ap (λ (s : Sending RingId Request). s.index + 1) one ∙ was.sender;
-          opening_ = ap (λ (s : Sending RingId Request). s.lane.opening) one ∙ was.opening_;
-          lane = ap (λ (s : Sending RingId Request). s.lane.index) one ∙ was.lane;
+          sender = ap (λ (s : Sending Request). s.index + 1) one ∙ was.sender;
+          opening_ = ap (λ (s : Sending Request). s.lane.opening) one ∙ was.opening_;
+          lane = ap (λ (s : Sending Request). s.lane.index) one ∙ was.lane;
         }
 
 new_sent : (plan : ℕ) (use_async : List Bool) (i : ℕ) → (get_or (new_accounts plan use_async) i no_account).sent ≡ []
@@ -247,7 +246,7 @@ new_collected plan [] i = refl
 new_collected plan (b ∷ bs) zero = refl
 new_collected plan (b ∷ bs) (suc i) = new_collected plan bs i
 
-pub tied_new : (p : PartsView) (requests : List (Sending RingId Request)) (r : Receiving QueueId Completion) → AreEnds p.thread (length p.use_async) requests r → AreNew requests r → IsDesk (new_desk p requests r)
+pub tied_new : (p : PartsView) (requests : List (Sending Request)) (r : Receiving Completion) → AreEnds p.thread (length p.use_async) requests r → AreNew requests r → IsDesk (new_desk p requests r)
 tied_new p requests r ends new = record {
   ends = subst (λ n. AreEnds p.thread n requests r) (sym (length-map p.use_async (λ carries. new_account carries p.plan))) ends;
   sent = λ m known. nothing_sent (m - 1) requests new.sent ∙ ap (numbered p.thread 0) (sym (new_sent p.plan p.use_async (m - 1)));

@@ -1,6 +1,7 @@
 -- What contracts see of a desk, and the words for what stands in it.
 use Rattle.std.specs.Prelude.{◌≡◌, ◌≢◌, not, ℕ, ◌-◌, ◌<◌, ◌≤◌, nat_lt, nat_le, Bool, false, ◌&&◌, ◌||◌, ◌==◌, is_some, if◌then◌else◌, List, [], ◌∷◌, length, Option, Some, None, IsSome, slice_index_or, slice_set, true, refl}
 use Rattle.std.specs.List.{sum_by}
+use Rattle.std.specs.Option.{option_or}
 use Rattle.std.specs.Ordering.{nat_cmp}
 use Rattle.std.specs.FinMap as finmap
 use Rattle.std.specs.Coded.{Coded, code_by, coded×, coded_ℕ}
@@ -9,8 +10,6 @@ use Rattle.xa_words.specs.declared.code.Code.{Code}
 use Rattle.xa_words.specs.declared.request.Request.{Request}
 use Rattle.xa_words.specs.declared.request.Completion.{Completion}
 use Rattle.xa_lane.specs.Ends.{Sending, Receiving}
-use Rattle.xa_lane.specs.Rings.{RingId}
-use Rattle.xa_lane.specs.Senders.{QueueId}
 use Rattle.xa_desk.specs.declared.operation.Operation.{Operation}
 use Rattle.xa_desk.specs.AccountView.{AccountView, new_account, learnt_shut, is_collected, with_sent, with_collected}
 use Rattle.xa_desk.specs.declared.refused.Refused.{Refused}
@@ -27,8 +26,8 @@ pub record DeskView : Type 0 where
   pub kept : finmap.FinMap nat_cmp Operation
   pub drained : List Completion
   pub drained_then : ℕ
-  pub requests : List (Sending RingId Request)
-  pub completions : Receiving QueueId Completion
+  pub requests : List (Sending Request)
+  pub completions : Receiving Completion
 
 -- the opening that a desk is of, which its lanes' names tell
 abbrev pub opening_of : DeskView → ℕ
@@ -179,19 +178,25 @@ pub record IsLeast (passes : ℕ → Bool) (k : ℕ) : Type 0 where
 
 -- ---- what a desk refuses
 
--- why a request may not be sent, a full lane aside: the first line that fits
-abbrev pub submit_refusal : DeskView → ℕ → Option Refused
-submit_refusal d m =
+-- why nothing may be sent to manager m
+abbrev pub reach_refusal : DeskView → ℕ → Option Refused
+reach_refusal d m =
     if not (is_known d.accounts m) then Some NoSuchManager
     else (if learnt_shut (account d.accounts m) then Some Shut
-    else (if nat_le d.handles (outstanding d.accounts) then Some TooMany
-    else (if nat_le (account d.accounts m).plan (length (account d.accounts m).sent) then Some Spent
-    else None)))
+    else None)
+
+-- why no operation may be begun that takes a handle: none is free
+abbrev pub handle_refusal : DeskView → Option Refused
+handle_refusal d = if nat_le d.handles (outstanding d.accounts) then Some TooMany else None
+
+-- why no further request may be sent to manager m: no planned one is left
+abbrev pub spent_refusal : DeskView → ℕ → Option Refused
+spent_refusal d m = if room_at d.accounts m == 0 then Some Spent else None
+
+-- why a request may not be sent, a full lane aside: the first of these
+abbrev pub submit_refusal : DeskView → ℕ → Option Refused
+submit_refusal d m = option_or (reach_refusal d m) (option_or (handle_refusal d) (spent_refusal d m))
 
 -- the same for a synchronous call, which has a slot beyond the handles
 abbrev pub call_refusal : DeskView → ℕ → Option Refused
-call_refusal d m =
-    if not (is_known d.accounts m) then Some NoSuchManager
-    else (if learnt_shut (account d.accounts m) then Some Shut
-    else (if nat_le (account d.accounts m).plan (length (account d.accounts m).sent) then Some Spent
-    else None))
+call_refusal d m = option_or (reach_refusal d m) (spent_refusal d m)

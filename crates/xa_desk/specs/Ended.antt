@@ -3,8 +3,7 @@ use Rattle.std.specs.Prelude.{◌≡◌, ℕ, List, map}
 use Rattle.xa_words.specs.declared.request.Request.{Request}
 use Rattle.xa_words.specs.declared.request.Completion.{Completion}
 use Rattle.xa_lane.specs.Ends.{Sending, Receiving}
-use Rattle.xa_lane.specs.Rings.{RingId}
-use Rattle.xa_lane.specs.Senders.{QueueId, but_full}
+use Rattle.xa_lane.specs.Senders.{but_full}
 use Rattle.xa_desk.specs.AccountView.{AccountView, IsSettled}
 use Rattle.xa_desk.specs.DeskView.{DeskView, IsKnown, account}
 use Rattle.xa_desk.specs.Lanes.{IsTied}
@@ -15,8 +14,8 @@ pub record EndedView : Type 0 where
   pub thread : ℕ
   pub accounts : List AccountView
   pub drained : List Completion
-  pub requests : List (Sending RingId Request)
-  pub completions : Receiving QueueId Completion
+  pub requests : List (Sending Request)
+  pub completions : Receiving Completion
 
 -- the desk has ended: all is as it was, but that lanes may have been found full
 pub record Ends (d : DeskView) (e : EndedView) : Type 0 where

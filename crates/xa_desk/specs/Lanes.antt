@@ -8,8 +8,7 @@ use Rattle.xa_words.specs.declared.request.Request.{Request}
 use Rattle.xa_words.specs.declared.request.Completion.{Completion}
 use Rattle.xa_lane.specs.declared.parcel.Parcel.{Parcel}
 use Rattle.xa_lane.specs.Ends.{Sending, Receiving, somes}
-use Rattle.xa_lane.specs.Rings.{RingId}
-use Rattle.xa_lane.specs.Senders.{QueueId, at_place, with_item, with_full, sent_at}
+use Rattle.xa_lane.specs.Senders.{at_place, with_item, with_full, sent_at}
 use Rattle.xa_desk.specs.AccountView.{AccountView, new_account}
 use Rattle.xa_desk.specs.DeskView.{DeskView, IsKnown, account, after_sent, drained_code}
 
@@ -23,7 +22,7 @@ next_request d m op = record { thread = d.thread; number = length (account d.acc
 abbrev pub submitted : DeskView → ℕ → Op → DeskView
 submitted d m op = record d { accounts = after_sent d.accounts m op; requests = at_place (m - 1) (with_item (next_request d m op)) d.requests }
 
--- the lane to manager m was found full
+-- the lane to manager m was found full, which its end counts
 abbrev pub after_full : DeskView → ℕ → DeskView
 after_full d m = record d { requests = at_place (m - 1) with_full d.requests }
 
@@ -50,18 +49,18 @@ pub data IsPartOf {A : Type 0} : List A → List A → Type 0 where
   without_last : (xs ys zs : List A) (y : A) → IsPartOf xs ys → zs ≡ ys ++ y ∷ [] → IsPartOf xs zs
 
 -- the sender that thread t is of the lane to manager m, in this opening
-pub record IsEndTo (t opening m : ℕ) (s : Sending RingId Request) : Type 0 where
+pub record IsEndTo (t opening m : ℕ) (s : Sending Request) : Type 0 where
   pub sender : s.index + 1 ≡ t
   pub opening_ : s.lane.opening ≡ opening
   pub lane : s.lane.index ≡ m
 
 -- the same of the lanes to each manager, by rising manager
-abbrev pub AreEndsTo : ℕ → ℕ → List (Sending RingId Request) → Type 0
-AreEndsTo t opening requests = (k : ℕ) (s : Sending RingId Request) → slice_get requests k ≡ Some s → IsEndTo t opening (k + 1) s
+abbrev pub AreEndsTo : ℕ → ℕ → List (Sending Request) → Type 0
+AreEndsTo t opening requests = (k : ℕ) (s : Sending Request) → slice_get requests k ≡ Some s → IsEndTo t opening (k + 1) s
 
 -- the ends of thread t: of the lanes to so many managers, and of the lane of its completions, on
 -- which each manager sends
-pub record AreEnds (t managers : ℕ) (requests : List (Sending RingId Request)) (completions : Receiving QueueId Completion) : Type 0 where
+pub record AreEnds (t managers : ℕ) (requests : List (Sending Request)) (completions : Receiving Completion) : Type 0 where
   pub number : length requests ≡ managers
   pub to : AreEndsTo t completions.lane.opening requests
   pub lane : completions.lane.index ≡ t
@@ -73,7 +72,7 @@ WasDrained drained m p = drained_code (record { manager = m; number = p.0 }) dra
 
 -- a desk's accounts and what it drained say what its ends of lanes do: what was sent to a manager is what the end of
 -- the lane to it sent, what was drained are completions that were taken, and what was collected was drained
-pub record IsTied (t : ℕ) (at : List AccountView) (drained : List Completion) (requests : List (Sending RingId Request)) (completions : Receiving QueueId Completion) : Type 0 where
+pub record IsTied (t : ℕ) (at : List AccountView) (drained : List Completion) (requests : List (Sending Request)) (completions : Receiving Completion) : Type 0 where
   pub ends : AreEnds t (length at) requests completions
   pub sent : (m : ℕ) → IsKnown at m → sent_at (m - 1) requests ≡ numbered t 0 (account at m).sent
   pub drained_ : IsPartOf drained (arrived completions.taken)
@@ -93,14 +92,14 @@ pub record PartsView : Type 0 where
   pub use_async : List Bool
 
 -- nothing was sent and nothing was taken
-pub record AreNew (requests : List (Sending RingId Request)) (completions : Receiving QueueId Completion) : Type 0 where
+pub record AreNew (requests : List (Sending Request)) (completions : Receiving Completion) : Type 0 where
   pub sent : All (λ s. s.sent ≡ []) requests
   pub taken : completions.taken ≡ []
 
 abbrev pub new_accounts : ℕ → List Bool → List AccountView
 new_accounts plan use_async = map (λ carries. new_account carries plan) use_async
 
-abbrev pub new_desk : PartsView → List (Sending RingId Request) → Receiving QueueId Completion → DeskView
+abbrev pub new_desk : PartsView → List (Sending Request) → Receiving Completion → DeskView
 new_desk p requests completions = record {
   thread = p.thread;
   handles = p.handles;

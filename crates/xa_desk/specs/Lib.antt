@@ -9,3 +9,7 @@ pub mod Lanes
 pub mod Ended
 pub mod Parts
 pub mod EndedParts
+pub mod Seats
+pub mod Growth
+pub mod GoesOn
+pub mod Waits

@@ -5,7 +5,7 @@ use Rattle.xa_words.specs.declared.code.Code.{Code}
 use Rattle.xa_words.specs.declared.request.Completion.{Completion}
 use Rattle.xa_lane.specs.declared.parcel.Taken.{Taken}
 use Rattle.xa_lane.specs.declared.parcel.Taken.TheVariants.{Item, EndOf, Empty}
-use Rattle.xa_lane.specs.Ends.{Took}
+use Rattle.xa_lane.specs.Ends.{Took, counted}
 use Rattle.xa_desk.specs.declared.operation.Operation.{Operation}
 use Rattle.xa_desk.specs.DeskView.{DeskView, IsOut, IsLeast, operation_of, after_collected, drained_code, outstanding, ready_at}
 
@@ -33,13 +33,18 @@ pub data Pops (old : DeskView) : DeskView → Type 0 where
 -- nothing but such takes was done, so the accounts, what is kept and the lanes stay
 pub record Looks (old new : DeskView) : Type 0 where
   pub pops : Pops old new
-  pub rest : new ≡ record old { drained = new.drained; drained_then = new.drained_then; completions = record old.completions { taken = new.completions.taken; quiet = new.completions.quiet } }
+  pub rest : new ≡ record old { drained = new.drained; drained_then = new.drained_then; completions = record old.completions { taken = new.completions.taken; quiet = new.completions.quiet; taken_then = new.completions.taken_then } }
 
 -- the last of these takes found the lane empty, which its end counts as a quiet moment
 pub record EndsQuiet (old new : DeskView) : Type 0 where
   pub before : DeskView
   pub looks : Looks old before
   pub quiet : Draws before Empty new
+
+-- and it was the only one of these takes that did
+pub record LooksOnce (old new : DeskView) : Type 0 where
+  pub quiet : EndsQuiet old new
+  pub once : new.completions.quiet ≡ counted old.completions.quiet
 
 -- after some takes the drained completion of the outstanding operation was collected, with this code
 pub record Collects (old new : DeskView) (o : Operation) (code : Code) : Type 0 where

@@ -17,7 +17,7 @@ use crate::places::first_free;
 use crate::slot::{Slot, find_slot, set_slot};
 use slab::Slab;
 use std::marker::Model;
-use xa_lane::{Receiver, RingEnded, RingSender};
+use xa_lane::{Ended, Receiver, Sender};
 use xa_words::{Code, Completion, Op, Request};
 
 /// The accounts with the managers, the slots of what is outstanding and where each is, the places of what
@@ -33,9 +33,9 @@ pub(crate) struct Book {
     pub(crate) kept: Vec<Option<Operation>>,
     pub(crate) drained: Vec<Completion>,
     pub(crate) drained_then: usize,
-    pub(crate) requests: Vec<RingSender<Request>>,
+    pub(crate) requests: Vec<Sender<Request>>,
     pub(crate) completions: Receiver<Completion>,
-    pub(crate) ends: Vec<RingEnded<Request>>,
+    pub(crate) ends: Vec<Ended<Request>>,
 }
 
 impl Model for Book {
@@ -56,7 +56,7 @@ impl Book {
     /// The book of a desk that has done nothing.
     pub(crate) fn assemble(
         parts: DeskParts,
-        requests: Vec<RingSender<Request>>,
+        requests: Vec<Sender<Request>>,
         completions: Receiver<Completion>,
     ) -> Book
         ensures { result ≡ new_desk parts requests.items completions }

@@ -1,11 +1,14 @@
 //! One thread of control's desk over its lanes.
-ghost use Rattle.std.specs.Prelude.{◌≡◌, ℕ, ◌-◌, ◌<◌, ◌≤◌, ◌↔◌, length, IfOk, IfErr, IfSome, IfNone, OnOk, OnErr, OnSome, IsTrue, IsSome, IsNone, IsOk, IsErr, Some, None, false, true, option_map, ◌&&◌};
+ghost use Rattle.std.specs.Prelude.{◌≡◌, ◌≢◌, ℕ, ◌-◌, ◌<◌, ◌≤◌, ◌↔◌, length, IfOk, IfErr, IfSome, IfNone, OnOk, OnErr, OnSome, IsTrue, IsSome, IsNone, IsOk, IsErr, Some, None, false, true, option_map, ◌&&◌};
 ghost use Rattle.std.specs.FinMap as map;
 ghost use Rattle.xa_desk.specs.AccountView.{learnt_shut};
-ghost use Rattle.xa_desk.specs.DeskView.{IsKnown, IsHandle, Owns, account, outstanding, drained_code, ticket_of, next_operation, submit_refusal, call_refusal, IsLeastFree, ready_at, keeps_at, room_at, is_known};
+ghost use Rattle.xa_desk.specs.DeskView.{TicketView, IsKnown, IsHandle, Owns, account, outstanding, drained_code, ticket_of, next_operation, reach_refusal, submit_refusal, call_refusal, IsLeastFree, ready_at, keeps_at, room_at, is_known};
 ghost use Rattle.xa_desk.specs.Ended.{Ends, AreSettled};
+ghost use Rattle.xa_desk.specs.GoesOn.{GoesOn, GoesOut};
 ghost use Rattle.xa_desk.specs.Lanes.{AreEnds, AreNew, IsDesk, new_desk, submitted, after_full, after_fulls};
 ghost use Rattle.xa_desk.specs.Looks.{EndsQuiet, Collects, CollectsKept, CollectsLeast};
+ghost use Rattle.xa_desk.specs.Tickets.{LeavesTickets, LeavesOthers};
+ghost use Rattle.xa_desk.specs.Waits.{WaitsFor, WaitsForAny, SendsAndWaits, MarkEnds};
 
 use crate::book::Book;
 use crate::ended::{EndedDesk, end};
@@ -15,20 +18,21 @@ use crate::parts::DeskParts;
 use crate::pump::{
     send_waiting, try_collect, try_collect_any, try_collect_kept, wait_for, wait_for_any,
 };
-use crate::refusal::{call_refusal, submit_refusal};
+use crate::refusal::{call_refusal, reach_refusal, submit_refusal};
 use crate::refused::{AnyFault, NothingOutstanding, Refused};
 use crate::ticket::Ticket;
 use std::marker::Model;
 use std::sync::Wait;
-use xa_lane::{Receiver, RingSender};
+use xa_lane::{Receiver, Sender};
 use xa_words::{Code, Completion, Op, Request};
 
 /// What one thread of control sends requests and collects completions by.
 ///
 /// All memory is reserved by `DeskParts`: no call of a desk takes any. A call that waits looks first, and
-/// idles only where what it asks for isn't there; it may never return, and its promise holds if it does.
-/// What a call's contract doesn't name of the desk stays. `tied` says that the accounts and what was
-/// drained say what the ends of the lanes do.
+/// idles on what it waits for after each look that found nothing, and nowhere else (`waited`); it may never
+/// return, and its promise holds if it does. What a call's contract doesn't name of the desk stays. `tied`
+/// says that the accounts and what was drained say what the ends of the lanes do, `goes_on` what each call
+/// keeps of a desk, and `tickets` or `others` which of the tickets that were owned still are.
 #[derive(Drop)]
 pub struct Desk {
     book: Book,
@@ -57,7 +61,7 @@ impl Desk {
     /// manager, that of `completions` the thread. It takes no memory.
     pub fn assemble(
         parts: DeskParts,
-        requests: Vec<RingSender<Request>>,
+        requests: Vec<Sender<Request>>,
         completions: Receiver<Completion>,
     ) -> Desk
         requires ends { AreEnds parts.thread (length parts.use_async) requests.items completions }
@@ -140,11 +144,19 @@ impl Desk {
             && self.book.is_loose(ticket.operation())
     }
 
+    /// Why nothing may be sent to the manager, handles, planned requests and a full lane aside:
+    /// `NoSuchManager` or `Shut`, the first that holds.
+    pub fn reach_refusal(&self, manager: u32) -> Option<Refused>
+        ensures { result ≡ reach_refusal self.now manager }
+    {
+        reach_refusal(&self.book, manager)
+    }
+
     /// Sends a request to a manager; its completion is collected later, by the ticket.
     ///
     /// The refusals come in the order of `Refused`, each where its condition holds and nowhere else; `Full`
-    /// where the lane to the manager handed the request back, which its end counts. No completion is
-    /// looked at.
+    /// where a push of this call found the queue of the lane to the manager full, which the lane's end
+    /// counts. No completion is looked at.
     pub fn submit<R: Wait>(&mut self, rt: &R, manager: u32, op: Op) -> Result<Ticket, Refused>
         ensures refused { (why : _) → submit_refusal self.old manager ≡ Some why → (result ≡ Err why) × (self.new ≡ self.old) }
         ensures full { submit_refusal self.old manager ≡ None → IfErr result (λ why. (why ≡ Refused.Full) × (self.new ≡ after_full self.old manager)) }
@@ -154,6 +166,11 @@ impl Desk {
         ensures owned { IfOk result (λ t. Owns self.new t) }
         ensures sent { OnOk result (self.new ≡ submitted self.old manager op) }
         ensures tied { IsDesk self.new }
+        ensures goes_on { GoesOn self.old self.new }
+
+        // Each older ticket is still owned, and of another operation.
+        ensures tickets { LeavesTickets self.old self.new }
+        ensures fresh { IfOk result (λ t. (older : TicketView) → Owns self.old older → older.operation ≢ t.operation) }
     {
         if let Some(why) = submit_refusal(&self.book, manager) {
             return Err(why);
@@ -183,7 +200,11 @@ impl Desk {
         // Once the lane was found full so many times, the request was sent.
         ensures collected { IfOk result (λ code. (n : ℕ) × Collects (submitted (after_fulls n self.old manager) manager op) self.new (next_operation self.old.accounts manager) code) }
         ensures tied { IsDesk self.new }
+        ensures goes_on { GoesOn self.old self.new }
+        ensures tickets { LeavesTickets self.old self.new }
+        ensures waited { IfOk result (SendsAndWaits (I.leads_by manager) self.old self.new idle.old idle.new manager op) }
         ensures idled { I.leads idle.old idle.new }
+        ensures idle_stays { OnErr result (idle.new ≡ idle.old) }
     {
         if let Some(why) = call_refusal(&self.book, manager) {
             return Err(why);
@@ -198,6 +219,9 @@ impl Desk {
         requires { Owns self.old ticket }
         ensures collected { Collects self.old self.new ticket.operation result }
         ensures tied { IsDesk self.new }
+        ensures goes_on { GoesOn self.old self.new }
+        ensures others { LeavesOthers self.old self.new ticket.operation }
+        ensures waited { WaitsFor (I.leads_by ticket.operation.manager) self.old self.new idle.old idle.new ticket.operation result }
         ensures idled { I.leads idle.old idle.new }
     {
         wait_for(rt, &mut self.book, ticket.spend(), idle)
@@ -206,7 +230,7 @@ impl Desk {
     /// Collects the ticket's operation where its completion came; else the ticket comes back, which is
     /// `XA_RETRY` of `xa_complete()` with `TMNOWAIT` (C193, chapter 5).
     ///
-    /// It comes back only behind a quiet moment at which the completion wasn't drained.
+    /// It comes back only after a quiet moment at which the completion wasn't drained.
     pub fn try_complete<R: Wait>(&mut self, rt: &R, ticket: Ticket) -> Result<Code, Ticket>
         requires { Owns self.old ticket }
         ensures collected { IfOk result (Collects self.old self.new ticket.operation) }
@@ -215,6 +239,9 @@ impl Desk {
         ensures quiet { OnErr result (EndsQuiet self.old self.new) }
         ensures nothing { OnErr result (drained_code ticket.operation self.new.drained ≡ None) }
         ensures tied { IsDesk self.new }
+        ensures goes_on { GoesOn self.old self.new }
+        ensures others { LeavesOthers self.old self.new ticket.operation }
+        ensures tickets { OnErr result (LeavesTickets self.old self.new) }
     {
         match try_collect(rt, &mut self.book, ticket.operation()) {
             Some(code) => {
@@ -232,6 +259,9 @@ impl Desk {
         ensures least { IsLeastFree self.old.kept result }
         ensures kept { self.new ≡ record self.old { kept = map.insert self.old.kept result ticket.operation } }
         ensures handle { IsHandle result }
+        ensures tied { IsDesk self.new }
+        ensures goes_on { GoesOn self.old self.new }
+        ensures others { LeavesOthers self.old self.new ticket.operation }
     {
         self.book.keep(ticket.spend())
     }
@@ -244,6 +274,12 @@ impl Desk {
         ensures freed { OnSome result (self.new ≡ record self.old { kept = map.remove self.old.kept number }) }
         ensures absent { IsNone result ↔ (map.get self.old.kept number ≡ None) }
         ensures unchanged { IfNone result (self.new ≡ self.old) }
+        ensures tied { IsDesk self.new }
+        ensures goes_on { GoesOn self.old self.new }
+
+        // Each older ticket is still owned, and of another operation.
+        ensures tickets { LeavesTickets self.old self.new }
+        ensures fresh { IfSome result (λ t. (older : TicketView) → Owns self.old older → older.operation ≢ t.operation) }
     {
         let operation = self.book.release(number)?;
         Some(Ticket::new(&self.book, operation))
@@ -264,7 +300,7 @@ impl Desk {
     /// Collects what is kept under the number where its completion came, and frees the number: as
     /// `xa_complete()` with `TMNOWAIT` does (C193, chapter 5). `None` is `XA_RETRY`.
     ///
-    /// `None` comes only behind a quiet moment at which the completion wasn't drained; the operation stays
+    /// `None` comes only after a quiet moment at which the completion wasn't drained; the operation stays
     /// kept under its number.
     pub fn try_kept<R: Wait>(&mut self, rt: &R, number: u32) -> Option<Code>
         requires { IsSome (map.get self.old.kept number) }
@@ -272,6 +308,8 @@ impl Desk {
         ensures quiet { IsNone result → EndsQuiet self.old self.new }
         ensures nothing { IsNone result → ready_at self.new 0 number ≡ false }
         ensures tied { IsDesk self.new }
+        ensures goes_on { GoesOn self.old self.new }
+        ensures tickets { LeavesTickets self.old self.new }
     {
         try_collect_kept(rt, &mut self.book, number)
     }
@@ -291,9 +329,12 @@ impl Desk {
         ensures some { IsOk result → (k : ℕ) × (keeps_at self.old manager k ≡ true) }
         ensures nothing { IsErr result → (k : ℕ) → keeps_at self.old manager k ≡ false }
         ensures unchanged { OnErr result (self.new ≡ self.old) }
-        ensures idle_stays { OnErr result (idle.new ≡ idle.old) }
         ensures tied { IsDesk self.new }
+        ensures goes_on { GoesOn self.old self.new }
+        ensures tickets { LeavesTickets self.old self.new }
+        ensures waited { IfOk result (λ r. WaitsForAny (I.leads_by manager) self.old self.new idle.old idle.new manager r.0 r.1) }
         ensures idled { I.leads idle.old idle.new }
+        ensures idle_stays { OnErr result (idle.new ≡ idle.old) }
     {
         if !keeps_any(&self.book, manager) {
             return Err(NothingOutstanding);
@@ -322,6 +363,8 @@ impl Desk {
         ensures retry_quiet { result ≡ Err AnyFault.Retry → EndsQuiet self.old self.new }
         ensures retry_none { result ≡ Err AnyFault.Retry → (k : ℕ) → ready_at self.new manager k ≡ false }
         ensures tied { IsDesk self.new }
+        ensures goes_on { GoesOn self.old self.new }
+        ensures tickets { LeavesTickets self.old self.new }
     {
         if !keeps_any(&self.book, manager) {
             return Err(AnyFault::NothingOutstanding);
@@ -342,7 +385,10 @@ impl Desk {
         ensures back { IfErr result (λ d. d ≡ self) }
         ensures outstanding { IsErr result ↔ (0 < outstanding self.accounts) }
         ensures settled { IfOk result (λ e. AreSettled e.accounts) }
+        ensures goes_out { IfOk result (GoesOut self) }
+        ensures marked { IfOk result (λ e. MarkEnds I.leads_by 0 self.requests e.requests idle.old idle.new) }
         ensures idled { I.leads idle.old idle.new }
+        ensures idle_stays { OnErr result (idle.new ≡ idle.old) }
     {
         if self.book.is_outstanding() {
             return Err(self);

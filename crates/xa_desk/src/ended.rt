@@ -4,13 +4,14 @@ ghost use Rattle.xa_lane.specs.Senders.{but_full};
 ghost use Rattle.xa_desk.specs.DeskView.{outstanding, sent_to, collected_from};
 ghost use Rattle.xa_desk.specs.Ended.{Ends, IsEnded, AreSettled};
 ghost use Rattle.xa_desk.specs.Lanes.{IsDesk};
+ghost use Rattle.xa_desk.specs.Waits.{MarksEnd, MarkEnds};
 
 use crate::account::Account;
 use crate::book::Book;
 use crate::idle::Idle;
 use std::marker::Model;
 use std::sync::Wait;
-use xa_lane::{Receiver, RingEnded, RingSender};
+use xa_lane::{Ended, Receiver, Sender};
 use xa_words::{Code, Completion, Op, Request};
 
 /// A desk that has ended: nothing is outstanding, nothing more is sent or collected, and each manager's
@@ -20,7 +21,7 @@ pub struct EndedDesk {
     thread: u32,
     accounts: Vec<Account>,
     drained: Vec<Completion>,
-    requests: Vec<RingEnded<Request>>,
+    requests: Vec<Ended<Request>>,
     completions: Receiver<Completion>,
 }
 
@@ -39,7 +40,7 @@ impl Model for EndedDesk {
 #[derive(Drop)]
 pub struct DeskEnds {
     /// The ends of the lanes to the managers, by rising manager.
-    pub requests: Vec<RingEnded<Request>>,
+    pub requests: Vec<Ended<Request>>,
     /// The end of the lane of completions.
     pub completions: Receiver<Completion>,
     /// The accounts with the managers, by rising manager.
@@ -119,6 +120,7 @@ pub(crate) fn end<R: Wait, I: Idle>(rt: &R, book: Book, idle: &mut I) -> EndedDe
     requires tied { IsDesk book }
     requires settled { AreSettled book.accounts }
     ensures ended { Ends book result }
+    ensures marked { MarkEnds I.leads_by 0 book.requests result.requests idle.old idle.new }
     ensures idled { I.leads idle.old idle.new }
 {
     let Book {
@@ -147,14 +149,15 @@ pub(crate) fn end<R: Wait, I: Idle>(rt: &R, book: Book, idle: &mut I) -> EndedDe
 // Puts the end mark of each lane to a manager.
 fn end_all<R: Wait, I: Idle>(
     rt: &R,
-    requests: Vec<RingSender<Request>>,
-    mut ends: Vec<RingEnded<Request>>,
+    requests: Vec<Sender<Request>>,
+    mut ends: Vec<Ended<Request>>,
     idle: &mut I,
-) -> Vec<RingEnded<Request>>
+) -> Vec<Ended<Request>>
     requires none { ends.items ≡ [] }
     requires room { length requests.items ≤ vec_capacity ends }
     requires few { length requests.items ≤ 8 }
     ensures ended { map but_full result.items ≡ map but_full requests.items }
+    ensures marked { MarkEnds I.leads_by 0 requests.items result.items idle.old idle.new }
     ensures idled { I.leads idle.old idle.new }
 {
     let mut manager = 0;
@@ -169,11 +172,12 @@ fn end_all<R: Wait, I: Idle>(
 // Puts the end mark of the lane to the manager, and idles while it is full.
 fn end_one<R: Wait, I: Idle>(
     rt: &R,
-    sender: RingSender<Request>,
+    sender: Sender<Request>,
     manager: u32,
     idle: &mut I,
-) -> RingEnded<Request>
+) -> Ended<Request>
     ensures ended { but_full result ≡ but_full sender }
+    ensures marked { MarksEnd (I.leads_by manager) sender result idle.old idle.new }
     ensures idled { I.leads idle.old idle.new }
 {
     let mut sender = sender;

@@ -23,8 +23,6 @@ mod refused;
 mod slot;
 mod spin;
 #[cfg(test)]
-mod stepped;
-#[cfg(test)]
 mod tests;
 mod ticket;
 

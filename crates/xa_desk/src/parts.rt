@@ -9,7 +9,7 @@ use crate::slot::Slot;
 use slab::Slab;
 use std::alloc::{AllocError, Global};
 use std::marker::Model;
-use xa_lane::RingEnded;
+use xa_lane::Ended;
 use xa_words::{Completion, Request};
 
 // No thread has more lanes to managers.
@@ -26,7 +26,7 @@ pub struct DeskParts {
     pub(crate) rows: Vec<Keys>,
     pub(crate) kept: Vec<Option<Operation>>,
     pub(crate) drained: Vec<Completion>,
-    pub(crate) ends: Vec<RingEnded<Request>>,
+    pub(crate) ends: Vec<Ended<Request>>,
 }
 
 impl Model for DeskParts {

@@ -1,8 +1,10 @@
 //! Calls of a book that look at the lane of completions, with and without waiting.
-ghost use Rattle.std.specs.Prelude.{◌≡◌, ℕ, ◌+◌, ◌<◌, ◌≤◌, length, IfSome, IsNone, IsTrue, IsSome, None, false};
+ghost use Rattle.std.specs.Prelude.{◌≡◌, ℕ, ◌+◌, ◌<◌, ◌≤◌, length, IfSome, OnSome, IsNone, IsTrue, IsSome, None, false};
+ghost use Rattle.xa_lane.specs.Ends.{counted};
 ghost use Rattle.xa_desk.specs.DeskView.{IsHandle, IsKnown, IsOut, IsLoose, account, outstanding, next_operation, drained_code, ready_at};
 ghost use Rattle.xa_desk.specs.Lanes.{submitted, after_fulls};
 ghost use Rattle.xa_desk.specs.Looks.{Looks, EndsQuiet, Collects, CollectsKept, CollectsLeast};
+ghost use Rattle.xa_desk.specs.Waits.{Idles, WaitsFor, WaitsForAny};
 ghost use Rattle.std.specs.FinMap as map;
 
 use crate::book::Book;
@@ -18,6 +20,8 @@ fn look_for<R: Wait>(rt: &R, book: &mut Book, operation: Operation) -> bool
     ensures looks { Looks book.old book.new }
     ensures found { IsTrue result → IsSome (drained_code operation book.new.drained) }
     ensures quiet { result ≡ false → EndsQuiet book.old book.new }
+    ensures at_once { IsTrue result → book.new.completions.quiet ≡ book.old.completions.quiet }
+    ensures once { result ≡ false → book.new.completions.quiet ≡ counted book.old.completions.quiet }
     ensures missing { result ≡ false → drained_code operation book.new.drained ≡ None }
 {
     for _ in rt.forever() {
@@ -38,6 +42,8 @@ pub(crate) fn try_collect<R: Wait>(rt: &R, book: &mut Book, operation: Operation
     ensures collected { IfSome result (Collects book.old book.new operation) }
     ensures quiet { IsNone result → EndsQuiet book.old book.new }
     ensures missing { IsNone result → drained_code operation book.new.drained ≡ None }
+    ensures at_once { OnSome result (book.new.completions.quiet ≡ book.old.completions.quiet) }
+    ensures once { IsNone result → book.new.completions.quiet ≡ counted book.old.completions.quiet }
 {
     if look_for(rt, book, operation) {
         book.collect(operation)
@@ -56,6 +62,7 @@ pub(crate) fn wait_for<R: Wait, I: Idle>(
     requires out { IsOut book.old.accounts operation }
     requires loose { IsLoose book.old operation }
     ensures collected { Collects book.old book.new operation result }
+    ensures waited { WaitsFor (I.leads_by operation.manager) book.old book.new idle.old idle.new operation result }
     ensures idled { I.leads idle.old idle.new }
 {
     for _ in rt.forever() {
@@ -69,7 +76,8 @@ pub(crate) fn wait_for<R: Wait, I: Idle>(
 
 // Takes until the lane is found empty.
 fn drain<R: Wait>(rt: &R, book: &mut Book)
-    ensures { EndsQuiet book.old book.new }
+    ensures quiet { EndsQuiet book.old book.new }
+    ensures once { book.new.completions.quiet ≡ counted book.old.completions.quiet }
 {
     for _ in rt.forever() {
         if !book.draw(rt) {
@@ -102,6 +110,7 @@ pub(crate) fn try_collect_any<R: Wait>(rt: &R, book: &mut Book, manager: u32) ->
     ensures quiet { IsNone result → EndsQuiet book.old book.new }
     ensures missing { IsNone result → (k : ℕ) → ready_at book.new manager k ≡ false }
     ensures handle { IfSome result (λ r. IsHandle r.0) }
+    ensures once { book.new.completions.quiet ≡ counted book.old.completions.quiet }
 {
     drain(rt, book);
     let Some(number) = least_ready(book, manager) else {
@@ -119,6 +128,7 @@ pub(crate) fn wait_for_any<R: Wait, I: Idle>(
     idle: &mut I,
 ) -> (u32, Code)
     ensures collected { CollectsLeast book.old book.new manager result.0 result.1 }
+    ensures waited { WaitsForAny (I.leads_by manager) book.old book.new idle.old idle.new manager result.0 result.1 }
     ensures handle { IsHandle result.0 }
     ensures idled { I.leads idle.old idle.new }
 {
@@ -144,7 +154,7 @@ pub(crate) fn send_waiting<R: Wait, I: Idle>(
     requires room { length (account book.old.accounts manager).sent < (account book.old.accounts manager).plan }
     requires slot { outstanding book.old.accounts ≤ book.old.handles }
     ensures named { result ≡ next_operation book.old.accounts manager }
-    ensures sent { (n : ℕ) × (book.new ≡ submitted (after_fulls n book.old manager) manager op.now) }
+    ensures sent { (n : ℕ) × (book.new ≡ submitted (after_fulls n book.old manager) manager op.now) × Idles (I.leads_by manager) n idle.old idle.new }
     ensures more { outstanding book.new.accounts ≡ outstanding book.old.accounts + 1 }
     ensures out { IsOut book.new.accounts result }
     ensures loose { IsLoose book.new result }

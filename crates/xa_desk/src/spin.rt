@@ -37,7 +37,11 @@ impl Default for Spin {
 }
 
 impl Idle for Spin {
+    ghost leads_by = { λ manager before after. Unit {0} };
+
     ghost leads = { λ before after. Unit {0} };
+
+    ghost leads_each = { λ manager x y p. tt };
 
     ghost leads_start = { λ x. tt };
 

@@ -1,11 +1,13 @@
 //! A desk with managers that are stepped by hand, in one thread.
-use crate::stepped::{kept, opened, refusal, sent};
 use crate::{AnyFault, EndedDesk, NothingOutstanding, Refused};
 use std::test::Fail;
+use stepped::{kept, opened, refusal, sent};
 use xa_lane::Taken;
 use xa_words::{Code, Op};
 
+mod stepped;
 mod threads;
+mod turns;
 
 #[test]
 fn a_request_is_collected_by_its_ticket(rt: HostRuntime) -> Result<(), Fail> {

@@ -7,8 +7,8 @@ use Rattle.xa_desk.specs.declared.operation.Operation.{Operation}
 use Rattle.xa_desk.specs.AccountView.{AccountView, learnt_shut, with_sent, with_collected}
 use Rattle.xa_desk.specs.DeskView.{DeskView, TicketView, IsKnown, account, put_account, after_collected, outstanding}
 use Rattle.xa_desk.specs.Looks.{Collects}
-use Rattle.xa_switch.specs.Seats.{seat_of_desk}
 use Rattle.xa_driver.specs.declared.ask.Ask.{Ask}
+use Rattle.xa_desk.proofs.Going.{goes_same, goes_further, goes_collecting}
 use Rattle.xa_driver.specs.Asks.{sent_by, SameAsks, AreRising, KeepsDesk, IsUnsent, IsSending, Begins, Ends}
 use Rattle.xa_driver.proofs.Accounts.{open_count, put_same, put_other, put_length, put_open}
 
@@ -40,10 +40,10 @@ pub record Moved (m : ℕ) (a' : AccountView) (old new : DeskView) : Type 0 wher
   pub keeps : KeepsDesk old new
 
 pub keeps_start : (d : DeskView) → KeepsDesk d d
-keeps_start d = record { seat = refl; handles = refl; kept = refl }
+keeps_start d = record { goes_on = goes_same d; kept = refl }
 
 pub keeps_chain : (a b c : DeskView) → KeepsDesk a b → KeepsDesk b c → KeepsDesk a c
-keeps_chain a b c p q = record { seat = q.seat ∙ p.seat; handles = q.handles ∙ p.handles; kept = q.kept ∙ p.kept }
+keeps_chain a b c p q = record { goes_on = goes_further a b c p.goes_on q.goes_on; kept = q.kept ∙ p.kept }
 
 unmoved : (m : ℕ) (a' : AccountView) (old new : DeskView) → new ≡ old → account old.accounts m ≡ a' → Moved m a' old new
 unmoved m a' old new e h =
@@ -99,8 +99,7 @@ ended_moved k old new (Some t) code at known e =
         let written : new.accounts ≡ put_account old.accounts o.manager (with_collected (account old.accounts o.manager) o.number c) =
         ap (λ (d : DeskView). d.accounts) x.collected ∙ ap (λ l. after_collected l o c) same in
         let keeps : KeepsDesk old new = record {
-          seat = ap seat_of_desk x.collected ∙ ap seat_of_desk x.looks.rest;
-          handles = ap (λ (d : DeskView). d.handles) x.collected ∙ ap (λ (d : DeskView). d.handles) x.looks.rest;
+          goes_on = goes_collecting old new o c x;
           kept = ap (λ (d : DeskView). d.kept) x.collected ∙ ap (λ (d : DeskView). d.kept) x.looks.rest;
         } in
         put_moved k.manager (with_collected (account old.accounts k.manager) o.number c) old new known

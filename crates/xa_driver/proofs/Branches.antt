@@ -19,7 +19,7 @@ use Rattle.xa_tables.specs.Prepared.{names, NamesNowhere, LeavesWaiting, AwaitsT
 use Rattle.xa_desk.specs.AccountView.{AccountView, is_rm_fail, learnt_shut, with_sent, with_collected}
 use Rattle.xa_desk.specs.Lanes.{numbered}
 use Rattle.xa_switch.specs.Settling.{answers}
-use Rattle.xa_switch.specs.Growth.{Begins}
+use Rattle.xa_desk.specs.Growth.{Begins}
 use Rattle.xa_driver.specs.declared.branch.Branch.{Branch}
 use Rattle.xa_driver.specs.declared.done.Ending.{Ending}
 use Rattle.xa_driver.specs.declared.done.Ending.TheVariants.{Committed, ReadOnly, RolledBack, InDoubt, Left}
@@ -84,7 +84,7 @@ unnamed : (x : XidName) (h : History) (T : Tables) → NamesNowhere x h → fate
 unnamed x [] T n = refl
 unnamed x (r ∷ h) T n = none_first x r h T (unnamed_first x r.op _ (n 0 r (omega arith))) (unnamed x h (next r.thread r.op T).0 (λ k d lt. n (suc k) d (omega arith)))
 
--- behind its own numbers a thread doesn't name the branch, and no other thread does
+-- after its own numbers a thread doesn't name the branch, and no other thread does
 never_named : (t : ℕ) (x : XidName) (first last : ℕ) (q : Request) → (names x q.op ≡ true → IsBetween t first last q) → (q.thread ≡ t → last ≤ q.number) → names x q.op ≡ false
 never_named t x first last q only later =
     elim (names x q.op) as (λ b. names x q.op ≡ b → b ≡ false) [
@@ -245,7 +245,7 @@ module _ (law : Tabled) (t : ℕ) (x : XidName) (T : Tables) (H : History) (open
         ∙ none_both x mid (S ∷ rest) after (unnamed x mid after (λ k d lt. (others k d lt).0))
         (none_first x S rest there (ap (fate_of x op) (sym code) ∙ none) (unnamed x rest _ quiet_rest)))
 
-    -- behind a yes vote the branch awaits the outcome
+    -- after a yes vote the branch awaits the outcome
     awaits : vote ≡ Done → AwaitsTheOutcome t x there
     awaits done = law.awaits f.parted.before mid t x T opening (sym f.code ∙ done) others
 

@@ -12,7 +12,7 @@ use Rattle.xa_driver.specs.Endings.{ending_of}
 use Rattle.xa_driver.specs.Log.{LogState}
 use Rattle.xa_driver.specs.Trace.{BranchTrace, EachBranch, IsTraceOfCommit, has_branch_at}
 
--- P holds of each account before and behind, if it holds where nothing was done and where a branch's trace was
+-- P holds of each account before and after, if it holds where nothing was done and where a branch's trace was
 module _ (P : AccountView → AccountView → Type 0) (stays : (a : AccountView) → P a a) (commit : Bool) (old new : List AccountView)
     (traced : (b : Branch) (v : Code) (s : Option Code) (a a' : AccountView) → BranchTrace commit b v s a a' → P a a') where
   abbrev Traces : List Branch → List Code → List (Option Code) → List Ending → Type 0

@@ -40,7 +40,7 @@ pub rising_above : (lo : ℕ) (js : List Ask) (k : Ask) (bs : List Ask) → AreR
 rising_above lo [] k bs r = r.0
 rising_above lo (a ∷ js) k bs r = let one = r.0 in let two = rising_above a.manager js k bs r.1 in omega arith
 
--- a request's manager is behind those before it, so it isn't among them
+-- a request's manager is after those before it, so it isn't among them
 pub rising_apart : (lo : ℕ) (js : List Ask) (k : Ask) (bs : List Ask) → AreRising lo (js ++ k ∷ bs) → among_asks js k.manager ≡ false
 rising_apart lo [] k bs r = refl
 rising_apart lo (a ∷ js) k bs r =
@@ -67,8 +67,8 @@ can_at (a ∷ js) k bs at c = can_at js k bs at c.1
 
 owns_stays : (t : TicketView) (d d' : DeskView) → account d'.accounts t.operation.manager ≡ account d.accounts t.operation.manager → length d'.accounts ≡ length d.accounts → KeepsDesk d d' → Owns d t → Owns d' t
 owns_stays t d d' same managers keeps o = record {
-  opening = o.opening ∙ sym (ap (λ (s : DeskSeat). s.lane.opening) keeps.seat);
-  thread = o.thread ∙ sym (ap (λ (s : DeskSeat). s.thread) keeps.seat);
+  opening = o.opening ∙ sym (ap (λ (s : DeskSeat). s.lane.opening) keeps.goes_on.seat);
+  thread = o.thread ∙ sym (ap (λ (s : DeskSeat). s.thread) keeps.goes_on.seat);
   out = record {
     known = known_by d.accounts d'.accounts t.operation.manager managers o.out.known;
     sent = subst (λ (a : AccountView). t.operation.number < length a.sent) (sym same) o.out.sent;

@@ -42,7 +42,7 @@ same_can [] (k ∷ ks) at s c = absurd s
 same_can (j ∷ js) [] at s c = absurd s
 same_can (j ∷ js) (k ∷ ks) at s c = (subst (CanAsk at) (sym s.0.manager) c.0, same_can js ks at s.1 c.1)
 
--- what rises behind a manager doesn't reach it
+-- what rises after a manager doesn't reach it
 behind : (lo m : ℕ) (ks : List Ask) → m ≤ lo → AreRising lo ks → among_asks ks m ≡ false
 behind lo m [] h r = refl
 behind lo m (k ∷ ks) h r =
@@ -77,7 +77,7 @@ all_begun xs n rs old now long h = subst (λ (l : List Ask). HaveBegun l rs old 
 
 -- ---- js they are collected
 
--- the first n of the requests were collected, and those behind them are in flight
+-- the first n of the requests were collected, and those after them are in flight
 pub record HaveEnded (xs ys : List Ask) (n : ℕ) (rs : List (Option TicketView)) (old now : DeskView) : Type 0 where
   pub same : SameAsks xs ys
   pub done : EachAsk (take n ys) old.accounts now.accounts

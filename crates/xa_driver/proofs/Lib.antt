@@ -10,3 +10,4 @@ pub mod Placing
 pub mod Branches
 pub mod OneOutcome
 pub mod Settled
+pub mod Staying

@@ -135,7 +135,7 @@ module _ (t : ℕ) where
   at_seam [] y ys = refl
   at_seam (x ∷ xs) y ys = at_seam xs y ys
 
-  -- what a request of the thread is answered, behind n others of it
+  -- what a request of the thread is answered, after n others of it
   pub answer_at : (before behind : History) (r : Request) (T : Tables) (n : ℕ) → r.thread ≡ t → length (of_thread t before) ≡ n
       → slice_get (answers t (coded (before ++ r ∷ behind) T)) n ≡ Some (r.number, (next r.thread r.op (tables_after before T)).1)
   answer_at before behind r T n own count =
@@ -177,7 +177,7 @@ last_is : (fs : List Fate) (f g : Fate) → last_or f (fs ++ g ∷ []) ≡ g
 last_is [] f g = refl
 last_is (x ∷ fs) f g = last_is fs x g
 
--- the fate is what a request makes of the branch, where nothing behind it makes anything of it
+-- the fate is what a request makes of the branch, where nothing after it makes anything of it
 pub fate_is : (x : XidName) (before behind : History) (r : Request) (T : Tables) (f : Fate) → fate_of x r.op (next r.thread r.op (tables_after before T)).1 ≡ Some f
     → fates x behind (next r.thread r.op (tables_after before T)).0 ≡ [] → fate_in x (coded (before ++ r ∷ behind) T) ≡ f
 fate_is x before behind r T f e none =
@@ -185,7 +185,7 @@ fate_is x before behind r T f e none =
     ∙ ap (λ l. fates x before T ++ l) ((λ i. cons_option (e i) (none i))))
     ∙ last_is (fates x before T) Absent f
 
--- histories that make nothing of the branch, one behind the other
+-- histories that make nothing of the branch, one after the other
 pub none_both : (x : XidName) (h g : History) (T : Tables) → fates x h T ≡ [] → fates x g (tables_after h T) ≡ [] → fates x (h ++ g) T ≡ []
 none_both x h g T e f = fates_both x h g T ∙ (λ i. e i ++ f i)
 

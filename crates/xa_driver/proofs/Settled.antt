@@ -13,7 +13,8 @@ use Rattle.xa_desk.specs.AccountView.{AccountView, learnt_shut}
 use Rattle.xa_desk.specs.DeskView.{DeskView, account, no_account, is_known}
 use Rattle.xa_worker.specs.Journal.{Entry}
 use Rattle.xa_switch.specs.Settling.{Settling, IsSettled, Agree, sent, collected, journal, answers}
-use Rattle.xa_switch.specs.Growth.{Begins, HasGrown, HaveGrown, IsOpenedWith, accounts_of, history as history_of}
+use Rattle.xa_desk.specs.Growth.{Begins, HasGrown, HaveGrown}
+use Rattle.xa_switch.specs.Fates.{IsOpenedWith, accounts_of, history as history_of}
 use Rattle.xa_driver.specs.declared.branch.Branch.{Branch}
 use Rattle.xa_driver.specs.declared.done.Done.{Done}
 use Rattle.xa_driver.specs.declared.done.Ending.{Ending}

@@ -5,9 +5,10 @@ use Rattle.xa_words.specs.declared.code.Code.{Code}
 use Rattle.xa_words.specs.declared.code.Code.TheVariants.{RmFail}
 use Rattle.xa_words.specs.declared.request.Op.{Op}
 use Rattle.xa_desk.specs.AccountView.{AccountView, learnt_shut, with_sent, with_collected}
-use Rattle.xa_desk.specs.DeskView.{DeskView, TicketView, IsKnown, Owns, account, after_sent, next_operation, ticket_of}
+use Rattle.xa_desk.specs.declared.operation.Operation.{Operation}
+use Rattle.xa_desk.specs.DeskView.{DeskView, TicketView, IsKnown, IsOut, Owns, account, after_sent, next_operation, ticket_of}
+use Rattle.xa_desk.specs.GoesOn.{GoesOn}
 use Rattle.xa_desk.specs.Looks.{Collects}
-use Rattle.xa_switch.specs.Seats.{seat_of_desk}
 use Rattle.xa_driver.specs.declared.ask.Ask.{Ask}
 
 -- a request is sent where its manager isn't learnt to be shut
@@ -61,7 +62,7 @@ SameAsks [] (k ∷ ks) = ⊥
 SameAsks (j ∷ js) [] = ⊥
 SameAsks (j ∷ js) (k ∷ ks) = IsSameAsk j k × SameAsks js ks
 
--- each manager is behind those before it
+-- each manager is after those before it
 abbrev pub AreRising : ℕ → List Ask → Type 0
 AreRising lo [] = Unit {0}
 AreRising lo (k ∷ ks) = (lo < k.manager) × AreRising k.manager ks
@@ -76,11 +77,14 @@ abbrev pub AllCanAsk : List Ask → List AccountView → Type 0
 AllCanAsk [] at = Unit {0}
 AllCanAsk (k ∷ ks) at = CanAsk at k.manager × AllCanAsk ks at
 
--- what a desk keeps whatever it sends and collects: its seat in its opening, its handles, and what is kept
+-- what a desk keeps whatever it sends and collects: it goes on, and what is kept stays
 pub record KeepsDesk (old new : DeskView) : Type 0 where
-  pub seat : seat_of_desk new ≡ seat_of_desk old
-  pub handles : new.handles ≡ old.handles
+  pub goes_on : GoesOn old new
   pub kept : new.kept ≡ old.kept
+
+-- every operation that was outstanding still is
+abbrev pub LeavesOutstanding : List AccountView → List AccountView → Type 0
+LeavesOutstanding at at' = (o : Operation) → IsOut at o → IsOut at' o
 
 -- nothing is asked, or the manager is learnt to be shut
 abbrev pub IsUnsent : AccountView → Option Op → Type 0

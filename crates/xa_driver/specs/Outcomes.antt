@@ -11,7 +11,7 @@ use Rattle.xa_tables.specs.Prepared.{names, has_shut}
 use Rattle.xa_desk.specs.AccountView.{AccountView}
 use Rattle.xa_desk.specs.DeskView.{account}
 use Rattle.xa_switch.specs.Settling.{Settling}
-use Rattle.xa_switch.specs.Growth.{history as history_of, settled_fate}
+use Rattle.xa_switch.specs.Fates.{history as history_of, settled_fate}
 use Rattle.xa_driver.specs.declared.branch.Branch.{Branch}
 use Rattle.xa_driver.specs.declared.done.Done.{Done}
 use Rattle.xa_driver.specs.declared.done.Ending.{Ending}
@@ -23,22 +23,37 @@ use Rattle.xa_driver.specs.Commits.{NoCommitWasSent}
 
 -- ---- one outcome for all branches
 
--- the ending is this one
+-- the ending, as a test
 abbrev pub is_committed : Ending → Bool
 is_committed Committed = true
-is_committed e = false
+is_committed ReadOnly = false
+is_committed RolledBack = false
+is_committed InDoubt = false
+is_committed (Left c) = false
 
+-- the ending, as a test
 abbrev pub is_rolled_back : Ending → Bool
+is_rolled_back Committed = false
+is_rolled_back ReadOnly = false
 is_rolled_back RolledBack = true
-is_rolled_back e = false
+is_rolled_back InDoubt = false
+is_rolled_back (Left c) = false
 
+-- the ending, as a test
 abbrev pub is_in_doubt : Ending → Bool
+is_in_doubt Committed = false
+is_in_doubt ReadOnly = false
+is_in_doubt RolledBack = false
 is_in_doubt InDoubt = true
-is_in_doubt e = false
+is_in_doubt (Left c) = false
 
+-- the ending, as a test
 abbrev pub is_left : Ending → Bool
+is_left Committed = false
+is_left ReadOnly = false
+is_left RolledBack = false
+is_left InDoubt = false
 is_left (Left c) = true
-is_left e = false
 
 -- some branch was committed
 abbrev pub has_committed : Done → Bool

@@ -40,7 +40,7 @@ abbrev pub IsTranOf : List Branch → TranName → Type 0
 IsTranOf [] t = Unit {0}
 IsTranOf (b ∷ bs) t = (tran_of b.xid ≡ t) × IsTranOf bs t
 
--- each branch is at a manager behind those before it
+-- each branch is at a manager after those before it
 abbrev pub AreBranchesRising : ℕ → List Branch → Type 0
 AreBranchesRising lo [] = Unit {0}
 AreBranchesRising lo (b ∷ bs) = (lo < b.m) × AreBranchesRising b.m bs

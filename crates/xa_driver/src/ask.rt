@@ -2,12 +2,12 @@
 ghost use Rattle.std.specs.Prelude.{◌≡◌, ◌+◌, ◌<◌, ◌≤◌, [], length, true, false, IfSome, IfNone, OnSome, IsNone, IsSome, vec_capacity};
 ghost use Rattle.xa_desk.specs.AccountView.{learnt_shut};
 ghost use Rattle.xa_desk.specs.DeskView.{Owns, account, after_sent, next_operation, outstanding, ticket_of};
-ghost use Rattle.xa_driver.specs.Asks.{CanAsk, AllCanAsk, AreRising, Asks, SameAsks, KeepsDesk, Begins, Ends, HaveBegun, Owning};
+ghost use Rattle.xa_driver.specs.Asks.{CanAsk, AllCanAsk, AreRising, Asks, SameAsks, KeepsDesk, LeavesOutstanding, Begins, Ends, HaveBegun, Owning};
 
 use std::snapshot::Snapshot;
 use std::sync::Wait;
+use xa_desk::laws::desks_go_on;
 use xa_desk::{Desk, Idle, Ticket};
-use xa_switch::laws::operations_keep_the_seat;
 use xa_words::{Code, Op, Xid};
 
 /// What a manager is asked for a branch, if anything, the code that it answered, and the branch's vote.
@@ -42,7 +42,7 @@ fn submit_waiting<R: Wait, I: Idle>(
     if desk.learnt_shut(manager) {
         return None;
     }
-    operations_keep_the_seat();
+    desks_go_on();
     for _ in rt.forever() {
         if let Ok(ticket) = desk.submit(rt, manager, *op) {
             return Some(ticket);
@@ -164,6 +164,7 @@ pub(crate) fn ask_all<R: Wait, I: Idle>(
     ensures same { SameAsks asks.old asks.new }
     ensures asked { Asks asks.new desk.old.accounts desk.new.accounts }
     ensures keeps { KeepsDesk desk.old desk.new }
+    ensures left { LeavesOutstanding desk.old.accounts desk.new.accounts }
     ensures free { outstanding desk.new.accounts ≡ outstanding desk.old.accounts }
     ensures none { tickets.new.items ≡ [] }
     ensures room { vec_capacity tickets.new ≡ vec_capacity tickets.old }

@@ -3,8 +3,8 @@ ghost use Rattle.std.specs.Prelude.{◌≡◌, OnErr, IfOk, OnOk, None};
 ghost use Rattle.xa_driver.specs.Log.{record_of};
 ghost use Rattle.xa_words.specs.Tran.{TranName};
 ghost use Rattle.xa_desk.specs.DeskView.{outstanding};
-ghost use Rattle.xa_switch.specs.Growth.{HaveGrown};
-ghost use Rattle.xa_driver.specs.Asks.{KeepsDesk};
+ghost use Rattle.xa_desk.specs.Tickets.{LeavesTickets};
+ghost use Rattle.xa_driver.specs.Asks.{KeepsDesk, LeavesOutstanding};
 ghost use Rattle.xa_driver.specs.Trace.{IsCommit, IsTraceOfCommit, IsTranOf, Logs, MayCommit, commits};
 
 use crate::ask::ask_all;
@@ -57,8 +57,11 @@ pub fn commit_all<R: Wait, L: DecisionLog, I: Idle>(
     // The lists of the desk grow by the call's trace, and the result is what it shows.
     ensures call { IfOk result (λ d. (t : TranName) → IsTranOf branches.now t → IsTraceOfCommit t branches.now desk.old.accounts desk.new.accounts (L.state log.old) (L.state log.new) d) }
     ensures made { IfOk result (IsCommit branches.now desk.old desk.new.accounts (L.state log.old) (L.state log.new)) }
-    ensures grown { OnOk result (HaveGrown desk.old.accounts desk.new.accounts) }
+
+    // What is kept under the handles stays, and so does all that was outstanding, with its tickets.
     ensures keeps { OnOk result (KeepsDesk desk.old desk.new) }
+    ensures left { OnOk result (LeavesOutstanding desk.old.accounts desk.new.accounts) }
+    ensures tickets { OnOk result (LeavesTickets desk.old desk.new) }
     ensures free { OnOk result (outstanding desk.new.accounts ≡ outstanding desk.old.accounts) }
 
     // Want of memory comes before anything is sent.

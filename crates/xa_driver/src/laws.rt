@@ -2,14 +2,15 @@
 //!
 //! What `commit_all` and `settle` promise gives their premises. A commit that was made is `commit_all`'s clause
 //! `made`. The desk's lists lead to what the settled opening has of its thread, since every call says that
-//! they only grow (`xa_switch::laws::growth_goes_on` joins two such calls) and `settle` has the lists with
-//! which the desk ended. That nobody else names a branch behind its Prepare is for the caller to know.
+//! it goes on (`xa_desk::laws::desks_go_on` joins two such calls) and `settle` has the lists with
+//! which the desk ended. That nobody else names a branch after its Prepare is for the caller to know.
 ghost use Rattle.std.specs.Prelude.{◌≡◌, ℕ, true, false, List};
 ghost use Rattle.xa_words.specs.Tran.{TranName};
 ghost use Rattle.xa_desk.specs.AccountView.{AccountView};
 ghost use Rattle.xa_desk.specs.DeskView.{DeskView};
 ghost use Rattle.xa_switch.specs.Settling.{Settling, IsSettled};
-ghost use Rattle.xa_switch.specs.Growth.{HaveGrown, accounts_of};
+ghost use Rattle.xa_desk.specs.Growth.{HaveGrown};
+ghost use Rattle.xa_switch.specs.Fates.{accounts_of};
 ghost use Rattle.xa_driver.specs.declared.branch.Branch.{Branch};
 ghost use Rattle.xa_driver.specs.declared.done.Done.{Done};
 ghost use Rattle.xa_driver.specs.Log.{LogState};
@@ -44,7 +45,7 @@ pub fn one_outcome()
     ensures aborted { (tran : TranName) (bs : List Branch) (desk : DeskView) (new : List AccountView) (log later : LogState) (done : Done) → IsCommit bs desk new log later done → IsTranOf bs tran → was_refused done ≡ true → IsAbortedTransaction tran desk.accounts new later done }
 {}
 
-/// In a settled opening, where nobody but the call named a branch behind its Prepare: a branch that voted
+/// In a settled opening, where nobody but the call named a branch after its Prepare: a branch that voted
 /// to commit isn't left, and is in doubt only where its manager was shut before the place of its second
 /// request; and what the call tells of each branch is what became of it by its manager's journal.
 pub fn endings_are_fates()

@@ -15,7 +15,6 @@ use std::alloc::Global;
 use std::process::Abort;
 use std::sync::Wait;
 use xa_desk::{Desk, Idle};
-use xa_switch::laws::steps_keep_the_seat;
 use xa_switch::{ManagerPlan, Plan, RmOp, native, open_switch, xa_call};
 use xa_words::{Call, Code, Delta, Key, TMNOFLAGS, TMSUCCESS, Tran, Xid};
 use xa_worker::{Free, Worker};
@@ -31,7 +30,6 @@ impl Workers {
     fn step<R: Wait>(&mut self, rt: &R, place: usize, manager: u32)
         ensures { map seat_of_worker self.new.workers.items ≡ map seat_of_worker self.old.workers.items }
     {
-        steps_keep_the_seat();
         if place >= self.workers.len() {
             return;
         }
@@ -42,7 +40,11 @@ impl Workers {
 }
 
 impl Idle for Workers {
+    ghost leads_by = { λ manager before after. map seat_of_worker after.workers.items ≡ map seat_of_worker before.workers.items };
+
     ghost leads = { λ before after. map seat_of_worker after.workers.items ≡ map seat_of_worker before.workers.items };
+
+    ghost leads_each = { λ manager x y p. p };
 
     ghost leads_start = { λ x. refl };
 
@@ -114,7 +116,7 @@ impl Opened {
     // An opening in which both threads have opened each manager.
     fn new<R: Wait + Abort>(rt: &R, alloc: Global, managers: u32) -> Opened {
         let plan = plan_of(rt, alloc, managers as usize);
-        let (mut desks, workers) = open_switch(alloc, &plan).expect(rt, "an opening");
+        let (mut desks, workers) = open_switch(rt, alloc, &plan).expect(rt, "an opening");
         let second = desks.pop().expect(rt, "a desk");
         let first = desks.pop().expect(rt, "another desk");
         let mut opened = Opened {

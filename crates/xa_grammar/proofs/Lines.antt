@@ -43,7 +43,7 @@ onto_parts : (b : ℕ) (xss : List (List ℕ)) → (more : List ℕ) × (yss : L
 onto_parts b [] = ([], [], refl)
 onto_parts b (xs ∷ xss) = (xs, xss, refl)
 
--- Bytes without a line feed begin the first line, whatever comes behind them.
+-- Bytes without a line feed begin the first line, whatever comes after them.
 first_line : (line bytes : List ℕ) → HasNoEnd line → 0 < length line → (more : List ℕ) × (lines : List (List ℕ)) × (lines_of (line ++ bytes) ≡ (line ++ more) ∷ lines)
 first_line [] bytes h lt = absurd (omega arith)
 first_line (b ∷ []) bytes h lt =
@@ -116,7 +116,7 @@ nil_of : (xs : List ℕ) → length xs ≡ 0 → xs ≡ []
 nil_of [] h = refl
 nil_of (x ∷ xs) h = absurd (omega (arith, h))
 
--- The bytes end behind a line feed.
+-- The bytes end after a line feed.
 pub ends_empty : (mode : Bool) (s : Content) (n : ℕ) (line : List ℕ) → length line ≡ 0 → script_from mode n s (lines_of (line ++ [])) ≡ Ok s
 unfolding script_from
 ends_empty mode s n line h = ap (λ (xs : List ℕ). script_from mode n s (lines_of (xs ++ []))) (nil_of line h)

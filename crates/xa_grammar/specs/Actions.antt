@@ -71,7 +71,7 @@ called_of line t v ws = do
   f ← flags_onto 0 a.1
   Ok (record { line = line; thread = t; manager = m.0; action = a.0; flags = f })
 
--- The words behind the verb.
+-- The words after the verb.
 unfoldable pub task_by : Verb → Content → ℕ → ℕ → List Word → Result Task Reason
 task_by (verb.Call v) s line t ws = do
   p ← called_of line t v ws

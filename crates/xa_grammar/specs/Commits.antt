@@ -32,7 +32,7 @@ places is_in = map is_in (1 ∷ 2 ∷ 3 ∷ 4 ∷ 5 ∷ 6 ∷ 7 ∷ 8 ∷ [])
 abbrev pub branches_of : ℕ → List ℕ → Result (List Bool) Reason
 branches_of count ms = if are_rising count 0 ms then Ok (places (is_named ms)) else Err BadBranches
 
--- M M .., judged behind the last of them.
+-- M M .., judged after the last of them.
 unfoldable pub branches_at : ℕ → List Word → Result (List Bool) Reason
 branches_at count ws = do
   ms ← numbers_at ws
@@ -47,7 +47,7 @@ commit_of s line t ws = do
 
 -- ---- while they are read
 
--- Where the branches are, if these managers are named behind those so far.
+-- Where the branches are, if these managers are named after those so far.
 abbrev pub goes_on : Named → List ℕ → Result (List Bool) Reason
 goes_on so_far ms =
     if so_far.rising && are_rising so_far.count so_far.last ms

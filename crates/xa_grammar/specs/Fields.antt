@@ -28,12 +28,12 @@ Takes (Err why) left read = read ≡ Err why
 abbrev pub Word : Type 0
 Word = List ℕ
 
--- The next word, and the words behind it.
+-- The next word, and the words after it.
 abbrev pub word_at : List Word → Result (Word × List Word) Reason
 word_at [] = Err MissingWord
 word_at (w ∷ ws) = Ok (w, ws)
 
--- What the next word stands for, and the words behind it.
+-- What the next word stands for, and the words after it.
 abbrev pub field : {X : Type 0} → (Word → Result X Reason) → List Word → Result (X × List Word) Reason
 field read ws = do
   w ← word_at ws

@@ -13,10 +13,10 @@ goes_on r bytes = script_from r.threads_mode r.number r.script (lines_of (r.line
 abbrev pub IsFresh : Bool → Reading → Type 0
 IsFresh mode r = (bytes : List ℕ) → goes_on r bytes ≡ script_of mode bytes
 
--- The piece is taken: whatever comes behind it, the new reading goes on as the old one would.
+-- The piece is taken: whatever comes after it, the new reading goes on as the old one would.
 abbrev pub HasTaken : Reading → Reading → List ℕ → Type 0
 HasTaken old new piece = (bytes : List ℕ) → goes_on old (piece ++ bytes) ≡ goes_on new bytes
 
--- The piece has a fault: whatever comes behind it, the grammar finds that fault.
+-- The piece has a fault: whatever comes after it, the grammar finds that fault.
 abbrev pub FailsOn : Reading → List ℕ → ScriptFault → Type 0
 FailsOn r piece fault = (bytes : List ℕ) → Fails fault (goes_on r (piece ++ bytes))

@@ -109,7 +109,7 @@ fn action_at(verb: CallVerb, words: &mut Words) -> Result<Action, Reason>
     }
 }
 
-// The words behind the verb of a call.
+// The words after the verb of a call.
 #[tactic(auto, unfolding(crate::specs::Actions::called_of))]
 fn called_of(line: u32, thread: u32, verb: CallVerb, words: &mut Words) -> Result<Called, Reason>
     ensures { result ≡ called_of line thread verb words.old }
@@ -126,7 +126,7 @@ fn called_of(line: u32, thread: u32, verb: CallVerb, words: &mut Words) -> Resul
     })
 }
 
-// The words behind the verb.
+// The words after the verb.
 #[tactic(auto, unfolding(crate::specs::Actions::task_by))]
 fn task_by(
     verb: Verb,
@@ -143,7 +143,7 @@ fn task_by(
     }
 }
 
-// The words behind `first`, the word that names the thread.
+// The words after `first`, the word that names the thread.
 #[tactic(auto, unfolding(crate::specs::Actions::task_of_line))]
 pub(crate) fn task_of_line(
     script: &Script,
@@ -158,7 +158,7 @@ pub(crate) fn task_of_line(
     task_by(verb, script, line, thread, words)
 }
 
-// The words behind `turn`: the manager.
+// The words after `turn`: the manager.
 #[tactic(auto, unfolding(crate::specs::Actions::turn_of))]
 pub(crate) fn turn_of(script: &Script, threads_mode: bool, words: &mut Words) -> Result<u32, Reason>
     ensures { result ≡ turn_of threads_mode script.now words.old }

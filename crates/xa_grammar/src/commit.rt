@@ -11,7 +11,7 @@ use crate::words::Words;
 // How large a manager's number may be on a line, whether or not there is such a manager.
 const MOST_MANAGER: u64 = u32::MAX as u64;
 
-// The words behind the global transaction, where there are so many managers.
+// The words after the global transaction, where there are so many managers.
 fn branches_at(count: u32, words: &mut Words) -> Result<[bool; 8], Reason>
     requires { count ≤ 8 }
     ensures { result ≡ branches_at count words.old }
@@ -24,7 +24,7 @@ fn branches_at(count: u32, words: &mut Words) -> Result<[bool; 8], Reason>
     named.places()
 }
 
-// The words behind `commitall`.
+// The words after `commitall`.
 #[tactic(auto, unfolding(crate::specs::Commits::commit_of))]
 pub(crate) fn commit_of(
     script: &Script,

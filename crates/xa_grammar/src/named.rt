@@ -32,7 +32,7 @@ impl Named {
         }
     }
 
-    // Whether all are rising with this one behind them.
+    // Whether all are rising with this one after them.
     fn may_add(&self, manager: u32) -> bool
         ensures { result ≡ (self.now.rising && (nat_lt self.now.last manager && nat_le manager self.now.count)) }
     {

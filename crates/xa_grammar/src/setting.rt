@@ -57,7 +57,7 @@ fn limit_of(count: Count) -> u64
     }
 }
 
-// The words behind the name of a count.
+// The words after the name of a count.
 #[tactic(auto, unfolding(crate::specs::Settings::setting_of))]
 pub(crate) fn setting_of(script: &Script, count: Count, words: &mut Words) -> Result<u32, Reason>
     ensures { result ≡ setting_of script.now count words.old }
@@ -69,7 +69,7 @@ pub(crate) fn setting_of(script: &Script, count: Count, words: &mut Words) -> Re
     Ok(number)
 }
 
-// The words behind `sync`.
+// The words after `sync`.
 #[tactic(auto, unfolding(crate::specs::Settings::sync_of))]
 pub(crate) fn sync_of(script: &Script, words: &mut Words) -> Result<u32, Reason>
     ensures { result ≡ sync_of script.now words.old }
@@ -80,7 +80,7 @@ pub(crate) fn sync_of(script: &Script, words: &mut Words) -> Result<u32, Reason>
     Ok(manager)
 }
 
-// The words behind `logfail`: the thread, and which append of its log fails.
+// The words after `logfail`: the thread, and which append of its log fails.
 #[tactic(auto, unfolding(crate::specs::Settings::logfail_of))]
 pub(crate) fn logfail_of(script: &Script, words: &mut Words) -> Result<(u32, u32), Reason>
     ensures value { result ≡ logfail_of script.now words.old }
@@ -118,7 +118,7 @@ fn new_key(keys: &[Declared], declared: Declared) -> Result<Declared, Reason>
     Ok(declared)
 }
 
-// The words behind `key`.
+// The words after `key`.
 #[tactic(auto, unfolding(crate::specs::Settings::declared_of))]
 pub(crate) fn declared_of(script: &Script, words: &mut Words) -> Result<Declared, Reason>
     ensures { result ≡ declared_of script.now words.old }

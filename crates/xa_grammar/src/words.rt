@@ -117,7 +117,7 @@ fn is_space(b: u8) -> bool
     b == b' ' || b == b'\t'
 }
 
-// The line behind the spaces at its front.
+// The line after the spaces at its front.
 #[tactic(auto, using(crate::proofs::Splits::words_of_space))]
 fn without_spaces(line: &[u8]) -> &[u8]
     ensures words { words_of result.now ≡ words_of line.now }

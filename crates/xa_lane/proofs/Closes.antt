@@ -51,39 +51,39 @@ module _ {T : Type 0} where
       are_known n taken held left l
       (subst (λ m. Within m (taken ++ held)) m (subst (λ g. Within made (g ++ held)) g (subst (λ v. Within (made_in v) (taken_in v ++ held)) e w)))
 
-module _ {Line T : Type 0} where
+module _ {T : Type 0} where
   -- what the end marks say gives what the items say
-  pub conserves_of_ends : (ends : List (Sending Line T)) (taken : List (Parcel T)) (left : List (ℕ × T)) → EndsLast ends taken left → Conserves ends taken left
+  pub conserves_of_ends : (ends : List (Sending T)) (taken : List (Parcel T)) (left : List (ℕ × T)) → EndsLast ends taken left → Conserves ends taken left
   conserves_of_ends ends taken left h k d below =
-      let e : Sending Line T = get_or ends k d in
+      let e : Sending T = get_or ends k d in
       ap (λ l. somes (of_sender e.index taken) ++ left_of e.index l) h.1 ∙ ap (λ l. somes (of_sender e.index taken) ++ l) (left_is e.index h.0)
       ∙ sym (somes-append (of_sender e.index taken) (of_sender e.index h.0)) ∙ ap somes (sym (of_sender-append e.index taken h.0)) ∙ ap somes (h.2 k d below) ∙ somes_marks e.sent
 
-  told_at : (ends : List (Sending Line T)) (k : ℕ) (d : Sending Line T) → k < length ends → get_elem? (map told_of ends) k ≡ some (told_of (get_or ends k d))
+  told_at : (ends : List (Sending T)) (k : ℕ) (d : Sending T) → k < length ends → get_elem? (map told_of ends) k ≡ some (told_of (get_or ends k d))
   told_at [] k d h = absurd (omega arith)
   told_at (x ∷ xs) zero d h = refl
   told_at (x ∷ xs) (suc k) d h = told_at xs k d (omega arith)
 
-  pub marked : (ends : List (Sending Line T)) (taken held : List (Parcel T)) → Tied (map told_of ends) (taken ++ held) → EndsLast ends taken (items_in held)
+  pub marked : (ends : List (Sending T)) (taken held : List (Parcel T)) → Tied (map told_of ends) (taken ++ held) → EndsLast ends taken (items_in held)
   marked ends taken held h = (held, refl, λ k d below. h k (told_of (get_or ends k d)) (told_at ends k d below))
 
-  pub leaves_nothing : (ends : List (Sending Line T)) (taken : List (Parcel T)) (left : List (ℕ × T)) → EndsLast ends taken left → LeavesNothing ends taken left
+  pub leaves_nothing : (ends : List (Sending T)) (taken : List (Parcel T)) (left : List (ℕ × T)) → EndsLast ends taken left → LeavesNothing ends taken left
   leaves_nothing ends taken left h k d below ended =
-      let e : Sending Line T = get_or ends k d in
+      let e : Sending T = get_or ends k d in
       let r = nothing_behind (of_sender e.index taken) (of_sender e.index h.0) e.sent (sym (of_sender-append e.index taken h.0) ∙ h.2 k d below) ended in
       (r.0, ap (left_of e.index) h.1 ∙ left_is e.index h.0 ∙ ap somes r.1)
 
-  pub covers : (n : ℕ) (ends : List (Sending Line T)) → IsWhole n ends → Covers n (map told_of ends)
+  pub covers : (n : ℕ) (ends : List (Sending T)) → IsWhole n ends → Covers n (map told_of ends)
   covers n ends whole p e =
-      let c = Any-from_list_any (λ (e : Sending Line T). e.index == p) ends (whole p e) in
-      (c.0, told_of (get_or ends c.0 c.1), told_at ends c.0 c.1 c.2, ap (λ (e : Sending Line T). e.index) c.3 ∙ eqb-true c.1.index p c.4)
+      let c = Any-from_list_any (λ (e : Sending T). e.index == p) ends (whole p e) in
+      (c.0, told_of (get_or ends c.0 c.1), told_at ends c.0 c.1 c.2, ap (λ (e : Sending T). e.index) c.3 ∙ eqb-true c.1.index p c.4)
 
   -- the same of the pass that took the senders in
-  pub covers_as : (n made : ℕ) (got : List (Parcel T)) (ends : List (Sending Line T)) (v : View T) → v ≡ Receives made got (map told_of ends) → made ≡ n → IsWhole n ends → Covers (made_in v) (told_in v)
+  pub covers_as : (n made : ℕ) (got : List (Parcel T)) (ends : List (Sending T)) (v : View T) → v ≡ Receives made got (map told_of ends) → made ≡ n → IsWhole n ends → Covers (made_in v) (told_in v)
   covers_as n made got ends v e m whole =
       subst (λ v. Covers (made_in v) (told_in v)) (sym e) (subst (λ m. Covers m (map told_of ends)) (sym m) (covers n ends whole))
 
-  pub marked_as : (made : ℕ) (got taken held : List (Parcel T)) (ends : List (Sending Line T)) (v : View T) (left : List (ℕ × T)) → v ≡ Receives made got (map told_of ends) → got ≡ taken
+  pub marked_as : (made : ℕ) (got taken held : List (Parcel T)) (ends : List (Sending T)) (v : View T) (left : List (ℕ × T)) → v ≡ Receives made got (map told_of ends) → got ≡ taken
       → left ≡ items_in held → Tied (told_in v) (taken_in v ++ held) → EndsLast ends taken left
   marked_as made got taken held ends v left e g l tie =
       let t : Tied (map told_of ends) (taken ++ held) = subst (λ g. Tied (map told_of ends) (g ++ held)) g (subst (λ v. Tied (told_in v) (taken_in v ++ held)) e tie) in

@@ -3,5 +3,4 @@ pub mod Counts
 pub mod Keeps
 pub mod Parcels
 pub mod Promises
-pub mod RingClosing
-pub mod RingLists
+pub mod Senders

@@ -55,7 +55,7 @@ module _ {T : Type 0} where
   few_items [] = omega arith
   few_items (x ∷ xs) = let r = few_items xs in let s = few_kept x.from x.item (items_in xs) in omega arith
 
-  -- behind an end mark nothing stands
+  -- after an end mark nothing stands
   pub nothing_behind : (xs ys : List (Option T)) (sent : List T) → xs ++ ys ≡ marks sent true → has_mark xs ≡ true → (somes xs ≡ sent) × (ys ≡ [])
   nothing_behind [] ys sent e h = absurd (cc)
   nothing_behind (None ∷ []) ys [] e h = (refl, cc)

@@ -34,32 +34,32 @@ module _ {T : Type 0} where
   abbrev pub Covers : ℕ → List (Log T) → Type 0
   Covers n told = (p : ℕ) → p < n → (k : ℕ) × (l : Log T) × (get_elem? told k ≡ some l) × (l.from ≡ p)
 
-module _ {Line T : Type 0} where
+module _ {T : Type 0} where
   -- what a sender that has ended has put
-  abbrev pub told_of : Sending Line T → Log T
+  abbrev pub told_of : Sending T → Log T
   told_of e = log e.index e.sent true
 
   -- whether the end of sender p is there
-  abbrev pub has_end : ℕ → List (Sending Line T) → Bool
+  abbrev pub has_end : ℕ → List (Sending T) → Bool
   has_end p ends = list_any (λ e. e.index == p) ends
 
   -- the end of each sender is there
-  abbrev pub IsWhole : ℕ → List (Sending Line T) → Type 0
+  abbrev pub IsWhole : ℕ → List (Sending T) → Type 0
   IsWhole senders ends = (p : ℕ) → p < senders → has_end p ends ≡ true
 
   -- of each sender: what was taken and then what was left is what it sent
-  abbrev pub Conserves : List (Sending Line T) → List (Parcel T) → List (ℕ × T) → Type 0
+  abbrev pub Conserves : List (Sending T) → List (Parcel T) → List (ℕ × T) → Type 0
   Conserves ends taken left = All (λ e. received e.index taken ++ left_of e.index left ≡ e.sent) ends
 
-  -- what was left are the items of parcels that stood behind those taken, and the end mark of each sender is its last parcel
-  abbrev pub EndsLast : List (Sending Line T) → List (Parcel T) → List (ℕ × T) → Type 0
+  -- what was left are the items of parcels that stood after those taken, and the end mark of each sender is its last parcel
+  abbrev pub EndsLast : List (Sending T) → List (Parcel T) → List (ℕ × T) → Type 0
   EndsLast ends taken left = (held : List (Parcel T)) × (left ≡ items_in held) × All (λ e. of_sender e.index (taken ++ held) ≡ marks e.sent true) ends
 
   -- of each sender whose end mark was taken, all that it sent was taken, and nothing is left
-  abbrev pub LeavesNothing : List (Sending Line T) → List (Parcel T) → List (ℕ × T) → Type 0
+  abbrev pub LeavesNothing : List (Sending T) → List (Parcel T) → List (ℕ × T) → Type 0
   LeavesNothing ends taken left = All (λ e. has_ended e.index taken ≡ true → (received e.index taken ≡ e.sent) × (left_of e.index left ≡ [])) ends
 
   -- why a lane was not closed: an end of another lane first, then an end that is not there
-  abbrev pub IsWhy : {Lines : Type 0} → CloseWhy → Receiving Lines T → List (Sending Line T) → Type 0
+  abbrev pub IsWhy : CloseWhy → Receiving T → List (Sending T) → Type 0
   IsWhy Stranger r ends = ¬ All (λ e. e.lane ≡ r.lane) ends
   IsWhy Missing r ends = All (λ e. e.lane ≡ r.lane) ends × (¬ IsWhole r.senders ends)

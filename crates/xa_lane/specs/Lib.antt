@@ -1,5 +1,5 @@
 pub mod Order
 pub mod Ends
 pub mod Closing
-pub mod Rings
 pub mod Senders
+pub mod Seats

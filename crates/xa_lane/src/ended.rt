@@ -12,7 +12,7 @@ use std::alloc::Global;
 use std::marker::Model;
 use std::sync::Arc;
 
-/// A sender that has put its end mark, behind all that it sent.
+/// A sender that has put its end mark, after all that it sent.
 #[derive(Drop)]
 pub struct Ended<T: Copy> {
     pub(crate) line: Arc<Line<T>, Global>,
@@ -23,10 +23,9 @@ pub struct Ended<T: Copy> {
 }
 
 impl<T: Copy> Model for Ended<T> {
-    ghost use Rattle.atomic_table.specs.Seated.{TableId};
     ghost use Rattle.xa_lane.specs.Ends.{Sending};
 
-    ghost Value = { Sending TableId T };
+    ghost Value = { Sending T };
 
     ghost use Rattle.std.specs.Prelude.{◌≡◌, true};
     ghost use Rattle.std.specs.Arc.{arc_value};

@@ -45,7 +45,8 @@ pub struct CloseFault<T: Copy> {
 ///
 /// Its one queue holds `capacity` items and end marks. All memory that the lane ever takes is
 /// reserved here, that for closing it too.
-pub fn open_lane<T: Copy>(
+pub fn open_lane<T: Copy, R: Wait>(
+    _rt: &R,
     alloc: Global,
     name: LaneName,
     senders: usize,
@@ -95,6 +96,8 @@ fn new_lane<T: Copy>(
         name,
         senders,
         quiet: 0,
+        taken: 0,
+        taken_then: 0,
         left,
     };
     Ok((ends, receiver))
@@ -138,6 +141,8 @@ pub fn close_lane<T: Copy, R: Wait>(
         name: _,
         senders: _,
         quiet: _,
+        taken: _,
+        taken_then: _,
         left,
     } = receiver;
     let pass = take_in(&line, pass, ended);

@@ -1,8 +1,7 @@
 //! A lane: up to eight senders and one receiver, with an end mark of each sender.
 //!
 //! What is taken of a sender, and then what is left of it, is what it sent, in order. A lane is one
-//! bounded queue that its senders share (`open_lane`), or a bounded ring for each of them
-//! (`open_rings`).
+//! bounded queue that its senders share.
 #![tactic(auto)]
 
 mod closing;
@@ -13,7 +12,6 @@ mod name;
 mod order;
 mod parcel;
 mod receiver;
-mod rings;
 mod sender;
 #[cfg(test)]
 mod tests;
@@ -23,5 +21,4 @@ pub use lane::{CloseFault, CloseWhy, LaneFault, close_lane, open_lane};
 pub use name::LaneName;
 pub use parcel::{Full, Taken};
 pub use receiver::Receiver;
-pub use rings::{RingCloseFault, RingEnded, RingReceiver, RingSender, close_rings, open_rings};
 pub use sender::Sender;

@@ -1,6 +1,6 @@
 //! The end of a lane that receives.
 ghost use Rattle.std.specs.Prelude.{◌≡◌};
-ghost use Rattle.xa_lane.specs.Ends.{Took, QuietIfEmpty, SameReceiver};
+ghost use Rattle.xa_lane.specs.Ends.{Took, SameReceiver};
 
 use crate::name::LaneName;
 use crate::order::{Gets, Line, View};
@@ -18,26 +18,28 @@ pub struct Receiver<T: Copy> {
     pub(crate) name: LaneName,
     pub(crate) senders: usize,
     pub(crate) quiet: u64,
+    // How many parcels were taken, and how many had been at the last quiet moment.
+    pub(crate) taken: u64,
+    pub(crate) taken_then: u64,
     // Reserved for what closing the lane finds.
     pub(crate) left: Vec<(usize, T)>,
 }
 
 impl<T: Copy> Model for Receiver<T> {
-    ghost use Rattle.atomic_table.specs.Seated.{TableId};
     ghost use Rattle.xa_lane.specs.Ends.{Receiving};
 
-    ghost Value = { Receiving TableId T };
+    ghost Value = { Receiving T };
 
-    ghost use Rattle.std.specs.Prelude.{◌≡◌, ◌≤◌, [], vec_capacity};
+    ghost use Rattle.std.specs.Prelude.{◌≡◌, ◌≤◌, [], length, vec_capacity};
     ghost use Rattle.std.specs.Arc.{arc_value};
     ghost use Rattle.crossbeam_queue.specs.Passes.{view as knows, IsPassOf, ruled_capacity};
     ghost use Rattle.xa_lane.specs.Order.{most, taken_in};
-    ghost use Rattle.xa_lane.specs.Ends.{line_of};
+    ghost use Rattle.xa_lane.specs.Ends.{line_of, at_most_counted};
     ghost use Rattle.xa_lane.specs.declared.order.View.TheVariants.{Receives};
 
-    ghost view = { λ s. record { lane = s.name; line = line_of (arc_value s.line); capacity = ruled_capacity (arc_value s.line); senders = s.senders; taken = taken_in (knows s.pass); quiet = s.quiet } };
+    ghost view = { λ s. record { lane = s.name; line = line_of (arc_value s.line); capacity = ruled_capacity (arc_value s.line); senders = s.senders; taken = taken_in (knows s.pass); quiet = s.quiet; taken_then = s.taken_then } };
 
-    ghost invariant = { λ s. IsPassOf (arc_value s.line) s.pass × (knows s.pass ≡ Receives s.senders (taken_in (knows s.pass)) []) × (s.left.items ≡ []) × (most ≤ vec_capacity s.left) };
+    ghost invariant = { λ s. IsPassOf (arc_value s.line) s.pass × (knows s.pass ≡ Receives s.senders (taken_in (knows s.pass)) []) × (s.taken ≡ at_most_counted (length (taken_in (knows s.pass)))) × (s.left.items ≡ []) × (most ≤ vec_capacity s.left) };
 }
 
 impl<T: Copy> Receiver<T> {
@@ -50,25 +52,21 @@ impl<T: Copy> Receiver<T> {
 
     /// Takes what stands at the front of the lane.
     ///
-    /// `Empty` is answered where nothing stood in the lane at some moment of the call, which is a
-    /// quiet moment and is counted. The count stays at `u64::MAX`.
+    /// `Empty` is answered where a pop found nothing in the queue, which is a quiet moment and is counted.
+    /// The count stays at `u64::MAX`. What had been taken by then is the receiver's `taken_then`.
     pub fn take<R: Wait>(&mut self, rt: &R) -> Taken<T>
         ensures same { SameReceiver self.old self.new }
         ensures took { Took self.old result self.new }
-        ensures moment { QuietIfEmpty self.old result }
     {
-        match self.line.pop_as::<Gets, R>(rt, &mut self.pass) {
-            Some(
-                Parcel {
-                    from,
-                    item: Some(item),
-                },
-            ) => Taken::Item(from, item),
-            Some(Parcel { from, item: None }) => Taken::EndOf(from),
-            None => {
-                self.quiet = self.quiet.saturating_add(1);
-                Taken::Empty
-            }
+        let Some(parcel) = self.line.pop_as::<Gets, R>(rt, &mut self.pass) else {
+            self.quiet = self.quiet.saturating_add(1);
+            self.taken_then = self.taken;
+            return Taken::Empty;
+        };
+        self.taken = self.taken.saturating_add(1);
+        match parcel.item {
+            Some(item) => Taken::Item(parcel.from, item),
+            None => Taken::EndOf(parcel.from),
         }
     }
 }

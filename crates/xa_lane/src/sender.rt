@@ -1,6 +1,6 @@
 //! The ends of a lane that send.
 ghost use Rattle.std.specs.Prelude.{◌≡◌, ◌++◌, ◌∷◌, [], OnOk, OnErr, IfErr, MatchResult};
-ghost use Rattle.xa_lane.specs.Ends.{counted, FullMoment, SameSender};
+ghost use Rattle.xa_lane.specs.Ends.{counted, SameSender};
 
 use crate::ended::Ended;
 use crate::name::LaneName;
@@ -22,10 +22,9 @@ pub struct Sender<T: Copy> {
 }
 
 impl<T: Copy> Model for Sender<T> {
-    ghost use Rattle.atomic_table.specs.Seated.{TableId};
     ghost use Rattle.xa_lane.specs.Ends.{Sending};
 
-    ghost Value = { Sending TableId T };
+    ghost Value = { Sending T };
 
     ghost use Rattle.std.specs.Prelude.{◌≡◌, ◌≤◌, false};
     ghost use Rattle.std.specs.Arc.{arc_value};
@@ -49,13 +48,12 @@ impl<T: Copy> Sender<T> {
 
     /// Sends an item.
     ///
-    /// `Full` hands it back where the lane's queue was full at some moment of the call: nothing was
-    /// sent, and the full moment is counted. The count stays at `u64::MAX`.
+    /// `Full` hands it back where the queue refused it as full: nothing was sent, and the full moment is
+    /// counted. The count stays at `u64::MAX`.
     pub fn offer<R: Wait>(&mut self, rt: &R, item: T) -> Result<(), Full<T>>
         ensures same { SameSender self.old self.new }
         ensures sent { OnOk result (self.new ≡ record self.old { sent = self.old.sent ++ item ∷ [] }) }
         ensures full { IfErr result (λ f. (f.item ≡ item) × (self.new ≡ record self.old { full = counted self.old.full })) }
-        ensures moment { OnErr result (FullMoment self.old) }
     {
         let parcel = Parcel {
             from: self.index,
@@ -72,11 +70,10 @@ impl<T: Copy> Sender<T> {
 
     /// Puts the sender's end mark, which is the last that it puts.
     ///
-    /// The sender comes back where the lane's queue was full at some moment of the call, which is a
-    /// full moment and is counted as in `offer`.
+    /// The sender comes back where the queue refused the mark as full, which is a full moment and is
+    /// counted as in `offer`.
     pub fn finish<R: Wait>(mut self, rt: &R) -> Result<Ended<T>, Sender<T>>
         ensures ended { MatchResult result (λ e. e ≡ self) (λ s. s ≡ record self { full = counted self.full }) }
-        ensures moment { OnErr result (FullMoment self) }
     {
         let mark = Parcel {
             from: self.index,

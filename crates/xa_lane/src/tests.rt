@@ -1,8 +1,7 @@
 //! What no clause says: that calls succeed, and what they answer on worked lanes.
 ghost use Rattle.std.specs.Prelude.{◌≡◌, []};
 
-mod ring_threads;
-mod rings;
+mod driven;
 mod threads;
 
 use crate::{CloseWhy, Ended, LaneFault, LaneName, Receiver, Sender, Taken, close_lane, open_lane};
@@ -18,15 +17,15 @@ const NAME: LaneName = LaneName {
 };
 
 // A lane of one sender.
-fn open_one(
-    rt: &impl Abort,
+fn open_one<R: Wait + Abort>(
+    rt: &R,
     alloc: Global,
     name: LaneName,
     capacity: usize,
 ) -> (Sender<u32>, Receiver<u32>)
     ensures { (result.0.line ≡ result.1.line) × (result.0.lane ≡ name) × (result.1.lane ≡ name) }
 {
-    let (mut senders, receiver) = open_lane(alloc, name, 1, capacity).expect(rt, "a lane");
+    let (mut senders, receiver) = open_lane(rt, alloc, name, 1, capacity).expect(rt, "a lane");
     let sender = senders.pop().expect(rt, "a sender");
     (sender, receiver)
 }
@@ -70,6 +69,22 @@ fn a_full_lane_hands_the_item_and_the_sender_back(rt: HostRuntime) {
     // The end mark needn't have been taken.
     let left = left_of_one(&rt, rt.alloc(), end, fault.receiver);
     assert!(rt; left.is_empty());
+}
+
+#[test]
+fn a_full_lane_is_full_for_each_sender(rt: HostRuntime) {
+    let (mut senders, mut receiver) = open_lane::<u32, _>(&rt, rt.alloc(), NAME, 2, 1).expect(
+        &rt, "a lane",
+    );
+    let mut second = senders.pop().expect(&rt, "a sender");
+    let mut first = senders.pop().expect(&rt, "a sender");
+    assert!(rt; first.offer(&rt, 1).is_ok());
+    assert_eq!(rt; second.offer(&rt, 2).map_err(|full| full.item), Err(2));
+    assert!(rt; matches!(receiver.take(&rt), Taken::Item(0, 1)));
+    assert!(rt; second.offer(&rt, 3).is_ok());
+    assert_eq!(rt; first.offer(&rt, 4).map_err(|full| full.item), Err(4));
+    assert!(rt; matches!(receiver.take(&rt), Taken::Item(1, 3)));
+    assert!(rt; matches!(receiver.take(&rt), Taken::Empty));
 }
 
 #[test]
@@ -117,7 +132,7 @@ fn an_end_of_another_lane_is_a_stranger(rt: HostRuntime) {
 #[test]
 fn counts_are_within_the_limits(rt: HostRuntime) {
     for (senders, capacity) in [(0, 1), (9, 1), (1, 0), (1, 65)] {
-        let opened = open_lane::<u32>(rt.alloc(), NAME, senders, capacity);
+        let opened = open_lane::<u32, _>(&rt, rt.alloc(), NAME, senders, capacity);
         assert_eq!(rt;
             opened.err(),
             Some(LaneFault::BadCount),
@@ -125,7 +140,7 @@ fn counts_are_within_the_limits(rt: HostRuntime) {
         );
     }
     for (senders, capacity) in [(1, 1), (8, 1), (1, 64), (8, 64)] {
-        let opened = open_lane::<u32>(rt.alloc(), NAME, senders, capacity);
+        let opened = open_lane::<u32, _>(&rt, rt.alloc(), NAME, senders, capacity);
         let count = opened.map(|ends| ends.0.len()).ok();
         assert_eq!(rt; count, Some(senders), "at {senders}, {capacity}");
     }
@@ -134,11 +149,11 @@ fn counts_are_within_the_limits(rt: HostRuntime) {
 /// With memory refused once, the opening that met it made nothing, and the next succeeds.
 #[test]
 fn an_opening_that_was_refused_memory_succeeds_again(rt: HostRuntime) -> Result<(), Fail> {
-    match open_lane::<u32>(rt.alloc(), NAME, 8, 64) {
+    match open_lane::<u32, _>(&rt, rt.alloc(), NAME, 8, 64) {
         Ok(_) => Ok(()),
         Err(fault) => {
             assert_eq!(rt; fault, LaneFault::NoMemory);
-            assert!(rt; open_lane::<u32>(rt.alloc(), NAME, 8, 64).is_ok());
+            assert!(rt; open_lane::<u32, _>(&rt, rt.alloc(), NAME, 8, 64).is_ok());
             Ok(())
         }
     }

@@ -131,7 +131,7 @@ module _ (t : ℕ) (ops : List Op) (pairs : List (ℕ × Code)) (es : List Entry
       let code : e.0.1 ≡ c = ap (λ (p : ℕ × Code). p.1) e.2 in
       contains_at (codes_in (so_far sent)) n c (slice_get-map (λ (e : Entry). e.1) (so_far sent) n ∙ ap (option_map (λ (e : Entry). e.1)) among ∙ ap (λ (d : Code). Some d) code)
 
--- what is behind the pairs so far
+-- what is after the pairs so far
 pub pair_there : (pairs old new : List (ℕ × Code)) (n : ℕ) (c : Code) → new ≡ old ++ (n, c) ∷ [] → Begins new pairs → slice_get pairs (length old) ≡ Some (n, c)
 pair_there pairs old new n c collected b = ap (λ l. slice_get l (length old)) (b.1 ∙ ap (λ l. l ++ b.0) collected ∙ append_assoc old ((n, c) ∷ []) b.0) ∙ behind old
   where

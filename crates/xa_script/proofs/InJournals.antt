@@ -256,7 +256,7 @@ takes_adds settled (task.CommitAll c) a old new is m = commit_adds c a old new i
 no_element : (ls : List Line) (l : Line) → ls ≡ [] → Contains ls l → ⊥
 no_element ls l e there = let size = ap (λ xs. length xs) e in let below = there.1 in omega (arith, size, below)
 
--- what a line has put into the journals is there behind the last line
+-- what a line has put into the journals is there after the last line
 module _ (settled : Settling) (l : Line) (Has : (ℕ → List Entry) → Type 0) (stays : (old new : ℕ → List Entry) → ((m : ℕ) → Adding (old m) (new m)) → Has old → Has new) (puts : (old new : Part) → TakesPart settled l old new → Has new.entries) where
   chain_has : (ls : List Line) (p : Part) → Chain (TakesPart settled) no_part ls p → Contains ls l → Has p.entries
   chain_has ls p (none xs last e f) there = absurd (no_element xs l e there)

@@ -122,7 +122,8 @@ is_known_of at m e =
     record { positive = leb-true 1 m parts.0; within = leb-true m (length at) parts.1 }
 
 some_refusal : (d : DeskView) (m : ℕ) (b : Bool) → is_known d.accounts m ≡ false → put_refusal d m b ≡ None → ⊥
-some_refusal d m b missing e = let f : put_refusal d m b ≡ Some Inval = rw missing refl in cc
+some_refusal d m false missing e = let f : put_refusal d m false ≡ Some Inval = rw missing refl in cc
+some_refusal d m true missing e = let f : put_refusal d m true ≡ Some Inval = rw missing refl in cc
 
 pub known_here : (d : DeskView) (m : ℕ) (b : Bool) → put_refusal d m b ≡ None → IsKnown d.accounts m
 known_here d m b e = elim (cases_Bool (is_known d.accounts m)) [

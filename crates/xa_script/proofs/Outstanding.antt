@@ -36,7 +36,7 @@ module _ (at : List AccountView) (m : ℕ) (a : AccountView) (known : IsKnown at
   known_before : (n : ℕ) → IsKnown (put_account at m a) n → IsKnown at n
   known_before n k = record { positive = k.positive; within = subst (λ l. n ≤ l) (length-set at (m - 1) a) k.within }
 
--- what is outstanding behind a sending is what was sent, or was outstanding before
+-- what is outstanding after a sending is what was sent, or was outstanding before
 pub out_sent : (at : List AccountView) (m : ℕ) (op : Op) → IsKnown at m → (o : Operation) → IsOut (after_sent at m op) o → (o ≡ next_operation at m) ⊎ IsOut at o
 out_sent at m op known o is =
     let a = with_sent (account at m) op in
@@ -66,7 +66,7 @@ out_sent at m op known o is =
 collected_push : (a : AccountView) (n : ℕ) (code : Code) (q : ℕ) → is_collected (with_collected a n code) q ≡ (is_collected a q || (nat_eq q n || false))
 collected_push a n code q = rw (map-append (λ (p : ℕ × Code). p.0) a.collected ((n, code) ∷ [])) (list_any-append (nat_eq q) (numbers a) (n ∷ []))
 
--- what is outstanding behind a collection was outstanding, and wasn't collected
+-- what is outstanding after a collection was outstanding, and wasn't collected
 pub out_collected : (at : List AccountView) (o : Operation) (code : Code) → IsKnown at o.manager → (p : Operation) → IsOut (after_collected at o code) p → IsOut at p × (p ≢ o)
 out_collected at o code known p is =
     let a = with_collected (account at o.manager) o.number code in
@@ -146,7 +146,7 @@ there_leaves commit old new m (b ∷ bs) (v ∷ vs) (s ∷ ss) (e ∷ es) each t
 ]
 there_leaves commit old new m bs vs ss es each there = absurd each
 
--- what is outstanding behind a commit was outstanding before it
+-- what is outstanding after a commit was outstanding before it
 pub out_committed : (t : TranName) (bs : List Branch) (old new : List AccountView) (log log' : LogState) (done : Done) → IsTraceOfCommit t bs old new log log' done → (o : Operation) → IsOut new o → IsOut old o
 out_committed t bs old new log log' done is o out =
     let leaves : Leaves (account old o.manager) (account new o.manager) = elim (cases_Bool (has_branch_at bs o.manager)) [

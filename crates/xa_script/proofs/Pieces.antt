@@ -68,7 +68,7 @@ module _ (seats : SeatsAreKept) where
 
   commit_keeps : (c : CommitAll) (old new : Control) (a : Answer) → Commits c old new a → seat_of_desk new.desk ≡ seat_of_desk old.desk
   commit_keeps c old new a (refused why told e) = ap (λ (x : Control). seat_of_desk x.desk) e
-  commit_keeps c old new a (decided done may trace keeps as_many told) = keeps.seat
+  commit_keeps c old new a (decided done may trace keeps as_many told) = keeps.goes_on.seat
 
   does_keep : (p : Task) (old new : Control) (a : Answer) → Does p old new a → seat_of_desk new.desk ≡ seat_of_desk old.desk
   does_keep (task.Call p) old new a is = answer_keeps p.action p old.desk new.desk a is.0
@@ -168,7 +168,7 @@ module _ (s : Content) (answers : List Answer) (desks : List DeskView) (workers 
   done_opening k d at =
       let w = worker_of k d at in
       let new = new_worker_at k w.0 w.1 in
-      ap (λ (x : WorkerSeat). x.lane.opening) (served_seat w.0 d w.2) ∙ (λ i. (new.requests.0 i).lane.opening)
+      ap (λ (x : WorkerSeat). x.lane.opening) (served_seat w.0 d w.2) ∙ (λ i. (new.requests i).lane.opening)
 
   many_ended : length ended ≡ plan.threads
   many_ended = r.threads.as_many ∙ r.opened.opened.threads

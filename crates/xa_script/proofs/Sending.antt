@@ -1,6 +1,7 @@
 -- What a thread's calls send to a manager and collect from it.
 use Rattle.std.proofs.Common.{◌≡◌, ◌≢◌, ℕ, ℤ, ◌≤◌, Bool, true, false, ◌&&◌, not, List, [], ◌∷◌, ◌++◌, length, Option, Some, None, Result, Ok, Err, sym, refl, ap, ◌∙◌, subst, inl, inr, arith}
-use Rattle.std.specs.Prelude.{pos, if◌then◌else◌}
+use Rattle.std.specs.Prelude.{pos, if◌then◌else◌, option_map}
+use Rattle.std.specs.Option.{option_or}
 use Rattle.std.specs.List.{Contains}
 use Rattle.std.specs.FinMap as finmap
 use Rattle.std.proofs.lemmas.Bool.{cases_eq}
@@ -18,7 +19,9 @@ use Rattle.xa_desk.specs.Ended.{EndedView}
 use Rattle.xa_desk.specs.Lanes.{submitted, after_fulls}
 use Rattle.xa_desk.specs.Looks.{Looks, Collects, TakesKept}
 use Rattle.xa_worker.specs.Journal.{Entry}
-use Rattle.xa_switch.specs.Putting.{put_refusal, Puts, Calls}
+use Rattle.xa_desk.specs.declared.refused.Refused.{Refused}
+use Rattle.xa_desk.specs.declared.refused.Refused.TheVariants.{NoSuchManager, Shut, TooMany, Spent}
+use Rattle.xa_switch.specs.Putting.{code_of as to_code, put_refusal, Puts, Calls}
 use Rattle.xa_switch.specs.Putting.Puts.{refused as put_refused, full, kept as put_kept, answered as put_answered}
 use Rattle.xa_switch.specs.Completing.{number_in, CompletesOne, CompletesAny, CompletesAt, CompletesBy, CollectsRedeemed, HasCompleted, may_complete}
 use Rattle.xa_switch.specs.Completing.CompletesOne.{unknown, retry as retry_one, ready, waited}
@@ -119,21 +122,38 @@ same_code a b e = cc
 not_none : (c : Code) → None ≡ Some c → ⊥
 not_none c e = cc
 
+-- the refusals by what holds: the manager is known (k), it is learnt to be shut (s), it takes asynchronous calls (ca),
+-- no handle is free (fh), no request is left (sp)
+abbrev reach_by : (k s : Bool) → Option Refused
+reach_by k s = if not k then Some NoSuchManager else if s then Some Shut else None
+
+abbrev async_by : Bool → Option Code
+async_by ca = if ca then None else Some Async
+
+abbrev spent_by : Bool → Option Refused
+spent_by sp = if sp then Some Spent else None
+
+abbrev submit_by : (k s fh sp : Bool) → Option Refused
+submit_by k s fh sp = option_or (reach_by k s) (option_or (if fh then Some TooMany else None) (spent_by sp))
+
 -- each refusal is among those that there are
-refusal_in : (b k s ca fh sp : Bool) (c : Code) → (if not k then Some Inval else if s then Some RmFail else if b && not ca then Some Async else if b && fh then Some Async else if sp then Some RmErr else None) ≡ Some c → Contains (refusals b) c
-refusal_in false false s ca fh sp c e = subst (Contains (refusals false)) (same_code Inval c e) (0, omega arith, refl)
-refusal_in true false s ca fh sp c e = subst (Contains (refusals true)) (same_code Inval c e) (0, omega arith, refl)
-refusal_in false true true ca fh sp c e = subst (Contains (refusals false)) (same_code RmFail c e) (1, omega arith, refl)
-refusal_in true true true ca fh sp c e = subst (Contains (refusals true)) (same_code RmFail c e) (1, omega arith, refl)
-refusal_in false true false ca fh true c e = subst (Contains (refusals false)) (same_code RmErr c e) (2, omega arith, refl)
-refusal_in false true false ca fh false c e = absurd (not_none c e)
-refusal_in true true false false fh sp c e = subst (Contains (refusals true)) (same_code Async c e) (3, omega arith, refl)
-refusal_in true true false true true sp c e = subst (Contains (refusals true)) (same_code Async c e) (3, omega arith, refl)
-refusal_in true true false true false true c e = subst (Contains (refusals true)) (same_code RmErr c e) (2, omega arith, refl)
-refusal_in true true false true false false c e = absurd (not_none c e)
+called_in : (k s sp : Bool) (c : Code) → option_map to_code (option_or (reach_by k s) (spent_by sp)) ≡ Some c → Contains (refusals false) c
+called_in false s sp c e = subst (Contains (refusals false)) (same_code Inval c e) (0, omega arith, refl)
+called_in true true sp c e = subst (Contains (refusals false)) (same_code RmFail c e) (1, omega arith, refl)
+called_in true false true c e = subst (Contains (refusals false)) (same_code RmErr c e) (2, omega arith, refl)
+called_in true false false c e = absurd (not_none c e)
+
+put_later_in : (k s ca fh sp : Bool) (c : Code) → option_or (option_map to_code (reach_by k s)) (option_or (async_by ca) (option_map to_code (submit_by k s fh sp))) ≡ Some c → Contains (refusals true) c
+put_later_in false s ca fh sp c e = subst (Contains (refusals true)) (same_code Inval c e) (0, omega arith, refl)
+put_later_in true true ca fh sp c e = subst (Contains (refusals true)) (same_code RmFail c e) (1, omega arith, refl)
+put_later_in true false false fh sp c e = subst (Contains (refusals true)) (same_code Async c e) (3, omega arith, refl)
+put_later_in true false true true sp c e = subst (Contains (refusals true)) (same_code Async c e) (3, omega arith, refl)
+put_later_in true false true false true c e = subst (Contains (refusals true)) (same_code RmErr c e) (2, omega arith, refl)
+put_later_in true false true false false c e = absurd (not_none c e)
 
 pub is_refusal : (old : DeskView) (n : ℕ) (b : Bool) (c : Code) → put_refusal old n b ≡ Some c → Contains (refusals b) c
-is_refusal old n b c e = refusal_in b (is_known old.accounts n) (learnt_shut (account old.accounts n)) (account old.accounts n).carries_async _ _ c e
+is_refusal old n false c e = called_in (is_known old.accounts n) (learnt_shut (account old.accounts n)) _ c e
+is_refusal old n true c e = put_later_in (is_known old.accounts n) (learnt_shut (account old.accounts n)) (account old.accounts n).carries_async _ _ c e
 
 pub no_place : (b : Bool) → b ≡ true → Contains (refusals b) Async
 no_place b e = subst (λ x. Contains (refusals x) Async) (sym e) (3, omega arith, refl)

@@ -76,7 +76,7 @@ range_more n =
     let last : 1 + n ≡ n + 1 = omega arith in
     ap (range_with_len 1) next_one ∙ range_suc 1 n ∙ ap (λ x. range_with_len 1 n ++ x ∷ []) last
 
--- the element behind the first ones
+-- the element after the first ones
 pub next_there : {A : Type 0} (xs ys rest : List A) (x : A) → ys ++ x ∷ rest ≡ xs → slice_get xs (length ys) ≡ Some x
 next_there {A} xs ys rest x e = ap (λ (l : List A). slice_get l (length ys)) (sym e) ∙ behind ys
   where

@@ -52,11 +52,11 @@ has_value s i d below is =
     let entries = map (λ (e : List ℕ × ℕ). (e.0, pos e.1)) (accounts_of d.manager s.keys) in
     ap is_some (get-from_entries key_cmp_total entries d.key) ∙ is_some-find key_cmp d.key entries ∙ sym (any_alike (λ k. key_eq d.key k) (eq_by_cmp key_cmp d.key) (key_eq-by_cmp d.key) (names d.manager s.keys)) ∙ is_among s.keys i d below is
 
--- so it has one behind every history
+-- so it has one after every history
 pub told : (s : Content) (h : History) (i : ℕ) (d : Declared) (value : Option ℕ) → i < length s.keys → d ≡ slice_index_or s.keys i d → option_map pos value ≡ value_after d.key h (opened s d.manager) → is_some value ≡ true
 told s h i d value below is e = sym (is_some-map (λ n. pos n) value) ∙ ap is_some e ∙ is_some-map (λ v. v +ℤ added_in d.key (accepted h) (opened s d.manager)) (finmap.get (opened s d.manager).values d.key) ∙ has_value s i d below is
 
--- the settled value of a key is that behind its manager's journal
+-- the settled value of a key is that after its manager's journal
 pub settled_value : (s : Content) (settled : Settling) → AreOfScript s settled.managers → (m : ℕ) (k : List ℕ) → 1 ≤ m → m ≤ managers_of s → value settled m k ≡ value_after k (requests (journal settled m)) (opened s m)
 settled_value s settled is m k low high =
     let many = is.many in

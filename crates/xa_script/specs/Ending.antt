@@ -1,4 +1,4 @@
--- The end of a thread: what is outstanding behind its last line is collected, and its desk ends.
+-- The end of a thread: what is outstanding after its last line is collected, and its desk ends.
 use Rattle.std.specs.Prelude.{◌≡◌, ℕ, None, Some, List, [], ◌∷◌, ◌++◌}
 use Rattle.std.specs.List.{range_with_len}
 use Rattle.std.specs.FinMap as map

@@ -252,7 +252,7 @@ AddsNoCommit old new = (more : List Entry) × (new ≡ old ++ more) × (list_any
 
 -- ---- the whole transcript
 
--- What a transcript of these answers and values tells of the settled opening: what was sent, carried out and collected agrees; of every thread the journals have what its lines put to the managers, with the codes that they answer; and the values are those behind the journals.
+-- What a transcript of these answers and values tells of the settled opening: what was sent, carried out and collected agrees; of every thread the journals have what its lines put to the managers, with the codes that they answer; and the values are those after the journals.
 pub record TellsOf (s : Content) (answers : List Answer) (values : List Declared) (settled : Settling) : Type 0 where
   pub agree : IsSettled settled
   pub opened : AreOfScript s settled.managers

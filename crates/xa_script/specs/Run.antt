@@ -73,7 +73,7 @@ pub record HasStepped (p : Step) (old new : Course) : Type 0 where
 abbrev pub HasRun : Course → List Step → Course → Type 0
 HasRun first steps now = Chain HasStepped first steps now
 
--- ---- what is outstanding behind the last step
+-- ---- what is outstanding after the last step
 
 -- A run as it ends: the desks that have ended by rising thread, the workers, and the answers so far.
 pub record Closing : Type 0 where

@@ -44,7 +44,7 @@ pub record HasWorked (tasks : List Task) (control : Control) (worked : Worked) :
   pub runs : Chain Goes (control, []) tasks last
   pub ends : EndsDesk last.0.desk last.1 worked.desk worked.answers.items
 
--- What is outstanding at the desk is kept, and there is room for the answers of the tasks and for what may be outstanding behind them.
+-- What is outstanding at the desk is kept, and there is room for the answers of the tasks and for what may be outstanding after them.
 pub record IsFit (lines : Lines) : Type 0 where
   pub kept : AllKept lines.control.desk
   pub none : lines.answers.items ≡ []

@@ -20,7 +20,7 @@ turn_text EndSeen = codes "end"
 turn_text Empty = codes "empty"
 turn_text Blocked = codes "blocked"
 
--- handle H retval R, behind a space
+-- handle H retval R, after a space
 abbrev pub handle_text : List ℕ → ℤ → List ℕ
 handle_text handle retval = codes " handle " ++ handle ++ codes " retval " ++ signed_decimal retval ++ codes "\n"
 
@@ -46,7 +46,7 @@ abbrev pub record_text : Bool → List ℕ
 record_text true = codes "logged"
 record_text false = codes "unlogged"
 
--- A word for each branch, behind a space.
+-- A word for each branch, after a space.
 abbrev pub endings_text : List Ending → List ℕ
 endings_text endings = flat_map (λ e. codes " " ++ ending_text e) endings
 

@@ -1,4 +1,4 @@
--- The values of the declared keys behind a run.
+-- The values of the declared keys after a run.
 use Rattle.std.specs.Prelude.{◌≡◌, ℕ, ◌+◌, pos, Some, All, List, length, map, slice_get}
 use Rattle.std.specs.Ordering.{nat_cmp, ordering_then}
 use Rattle.std.specs.declared.cmp.Ordering.{Ordering}
@@ -26,7 +26,7 @@ pub record AreOfScript (s : Content) (managers : List ManagerPart) : Type 0 wher
 abbrev pub name_of : Declared → ℕ × List ℕ
 name_of d = (d.manager, d.key)
 
--- The key has the value that it has behind the requests in its manager's journal.
+-- The key has the value that it has after the requests in its manager's journal.
 abbrev pub IsWorth : Content → Settling → Declared → Type 0
 IsWorth s settled d = value_after d.key (requests (journal settled d.manager)) (opened s d.manager) ≡ Some (pos d.value)
 
@@ -34,7 +34,7 @@ IsWorth s settled d = value_after d.key (requests (journal settled d.manager)) (
 abbrev pub shown_cmp : Declared → Declared → Ordering
 shown_cmp d e = ordering_then (nat_cmp d.manager e.manager) (ordering_then (key_cmp d.key e.key) (nat_cmp d.value e.value))
 
--- These are the declared keys, each once and with its value behind the journals, in the order in which keys are shown.
+-- These are the declared keys, each once and with its value after the journals, in the order in which keys are shown.
 pub record AreValues (s : Content) (settled : Settling) (values : List Declared) : Type 0 where
   pub all : IsPermutation (map name_of s.keys) (map name_of values)
   pub worth : All (IsWorth s settled) values

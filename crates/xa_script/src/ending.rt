@@ -1,4 +1,4 @@
-//! The end of a thread: what is outstanding behind its last line is collected, and its desk ends.
+//! The end of a thread: what is outstanding after its last line is collected, and its desk ends.
 ghost use Rattle.std.specs.Prelude.{◌≡◌, ◌+◌, ◌<◌, ◌≤◌, length, vec_capacity};
 ghost use Rattle.xa_words.specs.Code.{number_of};
 ghost use Rattle.xa_desk.specs.Ended.{Ends};

@@ -163,7 +163,7 @@ fn carry_out<H: Threads + Wait + Copy + Send + 'static, R: Read, W: Write>(
     show(rt, alloc, mode_of(words), reader, out)
 }
 
-/// The whole program: judges the words behind its name, reads the script, runs it and writes its
+/// The whole program: judges the words after its name, reads the script, runs it and writes its
 /// transcript to `out`, and answers the exit status.
 ///
 /// | status | cause | written to `err` |

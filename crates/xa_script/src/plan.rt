@@ -6,6 +6,7 @@ ghost use Rattle.xa_grammar.specs.Content.{accounts_of, managers_of};
 ghost use Rattle.xa_script.specs.Planning.{planned_of, planned, IsPlanOf, AreOpened};
 
 use std::alloc::{AllocError, Global};
+use std::sync::Wait;
 use xa_desk::Desk;
 use xa_grammar::{Declared, Script};
 use xa_switch::{ManagerPlan, OpenFault, Plan, open_switch};
@@ -70,12 +71,16 @@ fn plan_of(alloc: Global, script: &Script) -> Result<Plan, AllocError>
 }
 
 /// The desks of the script's threads and the workers of its managers, each by rising number.
-pub(crate) fn open(alloc: Global, script: &Script) -> Result<(Vec<Desk>, Vec<Worker>), AllocError>
+pub(crate) fn open<R: Wait>(
+    rt: &R,
+    alloc: Global,
+    script: &Script,
+) -> Result<(Vec<Desk>, Vec<Worker>), AllocError>
     ensures opened { IfOk result (λ r. AreOpened script.now r.0.items r.1.items) }
     ensures few { IfOk result (λ r. length r.1.items ≤ 8) }
 {
     let plan = plan_of(alloc, script)?;
-    match open_switch(alloc, &plan) {
+    match open_switch(rt, alloc, &plan) {
         Ok(opened) => Ok(opened),
         Err(OpenFault::NoMemory) => Err(AllocError),
         // A script's counts are within the limits, and its managers can be opened with their keys.

@@ -102,7 +102,7 @@ fn run_workers<R: Wait>(rt: &R, workers: Vec<Worker>, mut done: Vec<DoneWorker>)
 }
 
 /// Runs a script in turns and writes its transcript: the answer to each step in the order of the
-/// lines, what was outstanding behind the last, and the committed value of each declared key.
+/// lines, what was outstanding after the last, and the committed value of each declared key.
 ///
 /// Nothing is written before the run is over. On `NoMemory` nothing is written at all; after
 /// `Write` the writer may have taken a part. It returns once all that it waits for has come.
@@ -119,7 +119,7 @@ pub fn run_turns<R: Wait, W: Write>(
     write_transcript(alloc, &answers, &values, writer)
 }
 
-// The answers, and the keys with their values behind the last step.
+// The answers, and the keys with their values after the last step.
 fn outcome<R: Wait>(
     rt: &R,
     alloc: Global,
@@ -127,7 +127,7 @@ fn outcome<R: Wait>(
 ) -> Result<(Vec<Answer>, Vec<Declared>), AllocError>
     ensures { IfOk result (λ o. IsOutcome script.now o.0.items o.1.items) }
 {
-    let (desks, workers) = open(alloc, script)?;
+    let (desks, workers) = open(rt, alloc, script)?;
     let steps = script.steps();
     let outstanding = script.threads() as usize * MOST_HANDLES as usize;
     let mut answers = Vec::with_capacity(alloc, steps.len() + outstanding)?;

@@ -8,10 +8,8 @@ ghost use Rattle.xa_script.specs.Seating.{SeatsAreKept};
 use std::alloc::{AllocError, Global};
 use std::sync::Wait;
 use xa_desk::EndedDesk;
-use xa_switch::laws::{
-    calls_keep_the_seat, ending_keeps_the_seat, opened_pieces_come_from_their_opening,
-    running_keeps_the_seat,
-};
+use xa_desk::laws::desks_go_out;
+use xa_switch::laws::{calls_go_on, opened_pieces_come_from_their_opening};
 use xa_switch::{Settled, Why, settle};
 use xa_worker::DoneWorker;
 
@@ -20,9 +18,8 @@ pub(crate) fn seats_are_kept()
     ensures { SeatsAreKept }
 {
     opened_pieces_come_from_their_opening();
-    calls_keep_the_seat();
-    ending_keeps_the_seat();
-    running_keeps_the_seat();
+    calls_go_on();
+    desks_go_out();
 }
 
 /// Settles the opening whose desks and workers these are, all of them. It fails only for want of memory.

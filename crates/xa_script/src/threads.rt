@@ -20,7 +20,7 @@ use xa_grammar::{Declared, Script};
 use xa_worker::{Free, Pace, Worker};
 
 /// Runs a script in threads, one for each of its threads and one for each manager's worker, and writes
-/// its transcript: the answers to the lines of thread 1 in their order and what was outstanding behind
+/// its transcript: the answers to the lines of thread 1 in their order and what was outstanding after
 /// the last, then those of thread 2, and so on; then the committed value of each declared key.
 ///
 /// A script that was read for threads has no turns, and one that has is run without them. There are eight
@@ -42,7 +42,7 @@ pub fn run_threads<
     write_transcript(alloc, &answers, &values, writer)
 }
 
-// The answers, and the keys with their values behind the last step.
+// The answers, and the keys with their values after the last step.
 fn outcome<R: Threads + Wait + Copy + Send + 'static, P: Pace + Drop + Send + 'static>(
     rt: &R,
     alloc: Global,
@@ -52,7 +52,7 @@ fn outcome<R: Threads + Wait + Copy + Send + 'static, P: Pace + Drop + Send + 's
     requires { length paces.items ≡ 8 }
     ensures { IfOk result (λ o. IsOutcomeOfThreads script.now o.0.items o.1.items) }
 {
-    let (desks, workers) = open(alloc, script)?;
+    let (desks, workers) = open(rt, alloc, script)?;
     let controls = controls_of(alloc, script, desks)?;
     let threads = lines_of(alloc, script.steps(), controls)?;
     let unrun = Vec::with_capacity(alloc, workers.len())?;

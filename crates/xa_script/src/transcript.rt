@@ -130,7 +130,7 @@ fn put_ending(out: &mut Vec<u8>, ending: Ending) -> Result<(), AllocError>
     }
 }
 
-// A word for each branch, behind a space.
+// A word for each branch, after a space.
 fn put_endings(out: &mut Vec<u8>, endings: &[Ending]) -> Result<(), AllocError>
     ensures { OnOk result (out.new.items ≡ out.old.items ++ endings_text endings.now) }
 {

@@ -38,7 +38,11 @@ impl Idle for Turns {
     ghost use Rattle.xa_script.specs.Turns.{TurnsOn};
     ghost use Rattle.xa_script.specs.Turning.{turns_stay, turns_chain};
 
+    ghost leads_by = { λ manager. TurnsOn };
+
     ghost leads = { TurnsOn };
+
+    ghost leads_each = { λ manager x y p. p };
 
     ghost leads_start = { turns_stay };
 

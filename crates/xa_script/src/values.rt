@@ -1,4 +1,4 @@
-//! The values of the declared keys behind a run.
+//! The values of the declared keys after a run.
 ghost use Rattle.std.specs.Prelude.{IfOk};
 ghost use Rattle.xa_script.specs.Values.{AreOfScript, AreValues};
 

@@ -186,7 +186,7 @@ impl Working {
     }
 
     /// Starts a thread for each thread of the script. One that can't be started does its tasks here, and
-    /// those behind it do none.
+    /// those after it do none.
     pub(crate) fn start<R: Threads + Wait + Copy + Send + 'static>(
         &mut self,
         rt: &R,

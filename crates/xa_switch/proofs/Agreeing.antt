@@ -7,19 +7,18 @@ use Rattle.xa_words.specs.declared.code.Code.{Code}
 use Rattle.xa_words.specs.declared.request.Op.{Op}
 use Rattle.xa_words.specs.declared.request.Request.{Request}
 use Rattle.xa_words.specs.declared.request.Completion.{Completion}
-use Rattle.xa_lane.specs.Senders.{QueueId}
 use Rattle.xa_lane.specs.Ends.{Receiving}
-use Rattle.xa_tables.specs.History.{of_thread, IsOpening}
+use Rattle.xa_tables.specs.History.{of_thread, accepted, parted, IsOpening}
 use Rattle.xa_desk.specs.AccountView.{AccountView}
 use Rattle.xa_desk.specs.DeskView.{IsKnown, is_known, account, sent_to, collected_from}
 use Rattle.xa_desk.specs.Ended.{EndedView}
 use Rattle.xa_worker.specs.Journal.{Entry, requests}
-use Rattle.xa_worker.specs.Workers.{Asking, of_sender_thread, of_own_thread}
+use Rattle.xa_worker.specs.Workers.{Asking, asked, of_sender_thread, of_own_thread}
 use Rattle.xa_worker.specs.Done.{Served, IsServed, IsOrdered}
 use Rattle.xa_lane.specs.Closing.{items_in}
 use Rattle.xa_switch.specs.Seats.{HasDesks, HasWorkers, has_desk, has_worker}
 use Rattle.xa_switch.specs.Settling.{FollowsTables, Agree, IsSettled, accounts_in, journal_in, find_thread, find_manager}
-use Rattle.xa_switch.specs.Closing.{column, IsClosed, desk_lane, worker_lane, thread_part, manager_part, settling}
+use Rattle.xa_switch.specs.Closing.{column, IsClosed, desk_lane, worker_lane, thread_part, manager_part, taken_by, settling}
 use Rattle.xa_switch.proofs.Lists.{all_contains, all_map, contains_map, searched}
 use Rattle.xa_switch.proofs.OneLane.{none_of}
 use Rattle.xa_switch.proofs.Pieces.{Joint, workers_opened, request_columns, completion_columns, pair_agrees, known_at}
@@ -62,12 +61,25 @@ no_zero (x ∷ xs) (e ∷ J) h =
     let g : map of_sender_thread xs ≡ map of_own_thread J = cc in
     no_zero_step e J x.0 (sym (ap (λ (p : ℕ × Request). p.0) f)) (no_zero xs J g)
 
+-- a journal has what its worker took
+requests_taken : (xs : List (ℕ × Request)) (J : List Entry) → map of_sender_thread xs ≡ map of_own_thread J → requests J ≡ map (λ (p : ℕ × Request). p.1) xs
+requests_taken [] [] h = refl
+requests_taken (x ∷ xs) [] h = cc
+requests_taken [] (e ∷ J) h = cc
+requests_taken (x ∷ xs) (e ∷ J) h =
+    let f : of_sender_thread x ≡ of_own_thread e = cc in
+    let g : map of_sender_thread xs ≡ map of_own_thread J = cc in
+    λ i. ap (λ (p : ℕ × Request). p.1) (sym f) i ∷ requests_taken xs J g i
+
+all_taken : (w : Served) → asked w.receiver.taken ≡ map of_own_thread w.journal → requests w.journal ≡ taken_by w
+all_taken w h = requests_taken (items_in w.receiver.taken) w.journal h
+
 module _ (ds : List EndedView) (ws : List Served) (j : Joint ds ws) (rs : All (λ r. IsClosed r.1 (column (request_columns ds) r.0)) (map worker_lane ws)) (cs : All (λ r. IsClosed r.1 (column (completion_columns ws) r.0)) (map desk_lane ds)) where
   requests_closed : (w : Served) → Contains ws w → IsClosed w.receiver (column (request_columns ds) (w.number - 1))
   requests_closed w cw = all_contains (λ (r : ℕ × Asking). IsClosed r.1 (column (request_columns ds) r.0)) (map worker_lane ws) (worker_lane w) rs (contains_map worker_lane ws w cw)
 
   completions_closed : (d : EndedView) → Contains ds d → IsClosed d.completions (column (completion_columns ws) (d.thread - 1))
-  completions_closed d cd = all_contains (λ (r : ℕ × Receiving QueueId Completion). IsClosed r.1 (column (completion_columns ws) r.0)) (map desk_lane ds) (desk_lane d) cs (contains_map desk_lane ds d cd)
+  completions_closed d cd = all_contains (λ (r : ℕ × Receiving Completion). IsClosed r.1 (column (completion_columns ws) r.0)) (map desk_lane ds) (desk_lane d) cs (contains_map desk_lane ds d cd)
 
   -- a journal has nothing of a thread that isn't there
   no_desk : (t : ℕ) (w : Served) → Contains ws w → has_desk t ds ≡ false → of_thread t (requests w.journal) ≡ []
@@ -150,5 +162,11 @@ module _ (ds : List EndedView) (ws : List Served) (j : Joint ds ws) (rs : All (�
     agree = agrees;
     tables = all_map manager_part FollowsTables ws (λ w cw.
         let k : IsServed w = all_contains IsServed ws w j.workers cw in
-        record { opened = all_contains (λ (w : Served). IsOpening w.first) ws w (workers_opened ds ws j.all) cw; coded = k.follows.codes_then });
+        record {
+          opened = all_contains (λ (w : Served). IsOpening w.first) ws w (workers_opened ds ws j.all) cw;
+          coded = k.follows.codes_then;
+          entered = all_taken w k.taken ∙ parted (taken_by w);
+          carried = ap accepted (all_taken w k.taken);
+          left = k.follows.tables_then;
+        });
   }

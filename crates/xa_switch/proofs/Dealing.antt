@@ -79,7 +79,7 @@ each_push P xs x each last k y e =
     (λ (h : (k ≡ length xs) × (x ≡ y)). subst (λ n. P n y) (sym h.0) (subst (P (length xs)) h.1 last))
     (snoc_cases xs x k y e)
 
--- what a column is behind a row
+-- what a column is after a row
 pub put_cases : {X : Type 0} (C : List (List X)) (row : List X) (k : ℕ) (c' : List X) → length row ≡ length C → slice_get (put_row C row) k ≡ Some c' → (c : List X) × (x : X) × (slice_get C k ≡ Some c) × (slice_get row k ≡ Some x) × (c' ≡ c ++ x ∷ [])
 put_cases [] row k c' e at = absurd (no_element k c' at)
 put_cases (c ∷ cs) [] k c' e at = absurd (omega (arith, e))
@@ -168,6 +168,6 @@ next_left (z ∷ zs) ys (suc k) x e =
     let more : suc k + 1 ≡ suc (k + 1) = omega arith in
     (rest.0, ap (λ n. drop n (z ∷ zs)) more ∙ rest.1)
 
--- the element behind those that were taken
+-- the element after those that were taken
 pub next_taken : {X : Type 0} (xs ys rest : List X) (x : X) → ys ++ (x ∷ rest) ≡ xs → slice_get xs (length ys) ≡ Some x
 next_taken xs ys rest x e = ap (λ l. slice_get l (length ys)) (sym e) ∙ behind ys rest x

@@ -7,7 +7,7 @@ use Rattle.xa_tables.specs.Next.{next}
 use Rattle.xa_tables.specs.History.{coded, codes, fate, IsOpening}
 use Rattle.xa_worker.specs.Journal.{Entry, requests, codes_in}
 use Rattle.xa_switch.specs.Settling.{ManagerPart, Settling, FollowsTables, IsSettled, find_manager, journal_in}
-use Rattle.xa_switch.specs.Growth.{IsOpenedWith, fate_in}
+use Rattle.xa_switch.specs.Fates.{IsOpenedWith, fate_in}
 use Rattle.xa_switch.proofs.Lists.{all_contains, found}
 
 -- entries with the codes of their places

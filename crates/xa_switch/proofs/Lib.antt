@@ -9,5 +9,7 @@ pub mod Agreeing
 pub mod Seated
 pub mod Mixing
 pub mod Parting
-pub mod Growing
+pub mod Going
+pub mod Accounts
 pub mod Journaled
+pub mod OfPlans

@@ -8,8 +8,6 @@ use Rattle.xa_switch.specs.Lanes.{AreRequestLanes, AreCompletionLanes, IsRequest
 use Rattle.xa_switch.specs.Openings.{desk_parts, worker_parts, DesksFit, WorkersFit, IsDeskOf, IsWorkerOf, IsNewDesk, IsNewWorker, AreTogether, AreOfOneOpening}
 use Rattle.xa_words.specs.declared.request.Request.{Request}
 use Rattle.xa_words.specs.declared.request.Completion.{Completion}
-use Rattle.xa_lane.specs.Rings.{RingId}
-use Rattle.xa_lane.specs.Senders.{QueueId}
 use Rattle.xa_lane.specs.Ends.{Sending, Receiving}
 use Rattle.xa_desk.specs.DeskView.{DeskView}
 use Rattle.xa_desk.specs.Lanes.{PartsView, new_desk}
@@ -39,7 +37,7 @@ all_each : {X : Type 0} (P : X → Type 0) (xs : List X) → Each (λ k x. P x) 
 all_each P xs each k d low = each k (get_or xs k d) (slice_get-get_or xs k d low)
 
 -- lanes, and desks and workers made of their ends
-pub record Ends (p : Plan) (deskparts : List PartsView) (workerparts : List Reserved) (managed : List Managed) (asks : List (List (Sending RingId Request))) (takes : List Asking) (answers : List (List Answering)) (hears : List (Receiving QueueId Completion)) : Type 0 where
+pub record Ends (p : Plan) (deskparts : List PartsView) (workerparts : List Reserved) (managed : List Managed) (asks : List (List (Sending Request))) (takes : List Asking) (answers : List (List Answering)) (hears : List (Receiving Completion)) : Type 0 where
   pub threads : length deskparts ≡ p.threads
   pub managers : length workerparts ≡ length p.managers.items
   pub desk_parts_ : Each (λ k x. x ≡ desk_parts p (k + 1)) deskparts
@@ -49,7 +47,7 @@ pub record Ends (p : Plan) (deskparts : List PartsView) (workerparts : List Rese
   pub completions : AreCompletionLanes p.opening p.threads (length p.managers.items) (completion_room p) answers hears
 
 -- the same where the number of managers was counted
-pub ends_of : (p : Plan) (many : ℕ) (deskparts : List PartsView) (workerparts : List Reserved) (managed : List Managed) (asks : List (List (Sending RingId Request))) (takes : List Asking) (answers : List (List Answering)) (hears : List (Receiving QueueId Completion))
+pub ends_of : (p : Plan) (many : ℕ) (deskparts : List PartsView) (workerparts : List Reserved) (managed : List Managed) (asks : List (List (Sending Request))) (takes : List Asking) (answers : List (List Answering)) (hears : List (Receiving Completion))
     → many ≡ length p.managers.items → length deskparts ≡ p.threads → length workerparts ≡ length p.managers.items → Each (λ k x. x ≡ desk_parts p (k + 1)) deskparts → Each (λ k x. x ≡ worker_parts p (k + 1)) workerparts → managed ≡ map (new_manager p.threads (manager_room p)) p.managers.items
     → AreRequestLanes p.opening p.threads many p.queue asks takes → AreCompletionLanes p.opening p.threads many (p.handles + 1 + many) answers hears
     → Ends p deskparts workerparts managed asks takes answers hears
@@ -63,10 +61,10 @@ ends_of p many deskparts workerparts managed asks takes answers hears counted th
   completions = subst (λ n. AreCompletionLanes p.opening p.threads n (p.handles + 1 + n) answers hears) counted completions;
 }
 
-module _ (p : Plan) (deskparts : List PartsView) (workerparts : List Reserved) (managed : List Managed) (asks : List (List (Sending RingId Request))) (takes : List Asking) (answers : List (List Answering)) (hears : List (Receiving QueueId Completion))
+module _ (p : Plan) (deskparts : List PartsView) (workerparts : List Reserved) (managed : List Managed) (asks : List (List (Sending Request))) (takes : List Asking) (answers : List (List Answering)) (hears : List (Receiving Completion))
     (is : Ends p deskparts workerparts managed asks takes answers hears) where
   -- the senders of thread t + 1 are on the lanes to each manager
-  request_senders : (t : ℕ) (c : List (Sending RingId Request)) → slice_get asks t ≡ Some c → Each (IsRequestSender p.opening p.queue t) c
+  request_senders : (t : ℕ) (c : List (Sending Request)) → slice_get asks t ≡ Some c → Each (IsRequestSender p.opening p.queue t) c
   request_senders t c at m s at_s =
       let low = slice_get_within c m s at_s in
       let deep = is.requests.deep t c at in
@@ -123,7 +121,7 @@ module _ (p : Plan) (deskparts : List PartsView) (workerparts : List Reserved) (
   -- a manager with the lane of its requests
   requests_fit : (m : ℕ) (x : Managed) (r : Asking) → slice_get managed m ≡ Some x → slice_get takes m ≡ Some r → (r.senders ≡ x.threads) × (r.taken ≡ [])
   requests_fit m x r at_x at_r =
-      let receiver = (is.requests.receivers m r at_r).0 in
+      let receiver = is.requests.receivers m r at_r in
       (ap (λ y. y.senders) receiver ∙ sym (managed_is m x at_x).0, ap (λ y. y.taken) receiver)
 
   -- a manager with its senders of completions

@@ -12,42 +12,41 @@ use Rattle.xa_lane.specs.declared.parcel.Parcel.{Parcel}
 use Rattle.xa_lane.specs.Order.{of_sender}
 use Rattle.xa_lane.specs.Ends.{Sending, Receiving, somes, received, has_ended}
 use Rattle.xa_lane.specs.Closing.{left_of}
-use Rattle.xa_lane.specs.Rings.{RingId}
-use Rattle.xa_lane.specs.Senders.{QueueId, sent_at}
+use Rattle.xa_lane.specs.Senders.{sent_at}
 use Rattle.xa_tables.specs.History.{of_thread}
 use Rattle.xa_desk.specs.DeskView.{drained_code}
 use Rattle.xa_desk.specs.Lanes.{numbered, arrived, IsPartOf, nothing, with_last, without_last}
 use Rattle.xa_worker.specs.Journal.{Entry, requests, completion_of}
-use Rattle.xa_worker.specs.Outgoing.{Answering, sent_at as answered_at}
+use Rattle.xa_worker.specs.Outgoing.{Answering}
 use Rattle.xa_switch.specs.Settling.{answers}
 use Rattle.xa_switch.specs.Closing.{IsClosed}
 use Rattle.xa_switch.proofs.Lists.{In, in_front, in_map, place_of, all_contains}
 
 -- what the end at a place has sent
-pub asked_there : (ss : List (Sending RingId Request)) (k : ℕ) (e : Sending RingId Request) → slice_get ss k ≡ Some e → sent_at k ss ≡ e.sent
+pub asked_there : (ss : List (Sending Request)) (k : ℕ) (e : Sending Request) → slice_get ss k ≡ Some e → sent_at k ss ≡ e.sent
 asked_there [] k e at = cc
-asked_there (s ∷ ss) zero e at = let f : s ≡ e = cc in ap (λ (x : Sending RingId Request). x.sent) f
+asked_there (s ∷ ss) zero e at = let f : s ≡ e = cc in ap (λ (x : Sending Request). x.sent) f
 asked_there (s ∷ ss) (suc k) e at = asked_there ss k e at
 
-pub answered_there : (ss : List Answering) (k : ℕ) (e : Answering) → slice_get ss k ≡ Some e → answered_at k ss ≡ e.sent
+pub answered_there : (ss : List Answering) (k : ℕ) (e : Answering) → slice_get ss k ≡ Some e → sent_at k ss ≡ e.sent
 answered_there [] k e at = cc
 answered_there (s ∷ ss) zero e at = let f : s ≡ e = cc in ap (λ (x : Answering). x.sent) f
 answered_there (s ∷ ss) (suc k) e at = answered_there ss k e at
 
-module _ {Line Lines T : Type 0} (r : Receiving Lines T) (ends : List (Sending Line T)) (h : IsClosed r ends) where
+module _ {T : Type 0} (r : Receiving T) (ends : List (Sending T)) (h : IsClosed r ends) where
   -- once its end mark was taken, all that an end sent was
-  pub taken_whole : (e : Sending Line T) → Contains ends e → has_ended e.index r.taken ≡ true → received e.index r.taken ≡ e.sent
-  taken_whole e c m = (all_contains (λ (e : Sending Line T). has_ended e.index r.taken ≡ true → (received e.index r.taken ≡ e.sent) × (left_of e.index h.left ≡ [])) ends e h.nothing c m).0
+  pub taken_whole : (e : Sending T) → Contains ends e → has_ended e.index r.taken ≡ true → received e.index r.taken ≡ e.sent
+  taken_whole e c m = (all_contains (λ (e : Sending T). has_ended e.index r.taken ≡ true → (received e.index r.taken ≡ e.sent) × (left_of e.index h.left ≡ [])) ends e h.nothing c m).0
 
   -- what was taken of an end was sent by it
-  pub in_sent : (e : Sending Line T) → Contains ends e → (x : T) → In x (received e.index r.taken) → In x e.sent
+  pub in_sent : (e : Sending T) → Contains ends e → (x : T) → In x (received e.index r.taken) → In x e.sent
   in_sent e c x i =
-      subst (In x) (all_contains (λ (e : Sending Line T). received e.index r.taken ++ left_of e.index h.left ≡ e.sent) ends e h.conserves c) (in_front x (received e.index r.taken) (left_of e.index h.left) i)
+      subst (In x) (all_contains (λ (e : Sending T). received e.index r.taken ++ left_of e.index h.left ≡ e.sent) ends e h.conserves c) (in_front x (received e.index r.taken) (left_of e.index h.left) i)
 
   -- there is an end for each number of a sender
-  pub end_of : (p : ℕ) → p < r.senders → (e : Sending Line T) × Contains ends e × (e.index ≡ p)
+  pub end_of : (p : ℕ) → p < r.senders → (e : Sending T) × Contains ends e × (e.index ≡ p)
   end_of p below =
-      let c = Any-from_list_any (λ (e : Sending Line T). e.index == p) ends (h.whole p below) in
+      let c = Any-from_list_any (λ (e : Sending T). e.index == p) ends (h.whole p below) in
       (c.1, (c.0, c.2, c.3), eqb-true c.1.index p c.4)
 
 -- ---- what was taken
@@ -130,11 +129,11 @@ placed t J ops q e i =
     ap (slice_get (answers t J)) same ∙ slice_get-map (λ (e : Entry). (e.0.number, e.1)) F x.0 ∙ ap (option_map (λ (e : Entry). (e.0.number, e.1))) x.1
 
 -- what a worker's end sent are answers of its manager
-abbrev pub Answers : Sending QueueId Completion → Type 0
+abbrev pub Answers : Sending Completion → Type 0
 Answers e = (A : List Entry) × (e.sent ≡ map (completion_of (e.index + 1)) A)
 
 -- a completion of manager m that was taken is one that its end sent
-pub drawn_law : (r : Receiving QueueId Completion) (ends : List (Sending QueueId Completion)) → IsClosed r ends → All Answers ends → (m : ℕ) (e : Sending QueueId Completion) (A : List Entry) → Contains ends e → e.index + 1 ≡ m
+pub drawn_law : (r : Receiving Completion) (ends : List (Sending Completion)) → IsClosed r ends → All Answers ends → (m : ℕ) (e : Sending Completion) (A : List Entry) → Contains ends e → e.index + 1 ≡ m
     → e.sent ≡ map (completion_of m) A → (c : Completion) → c.manager ≡ m → In c (arrived r.taken) → (q : Entry) × In q A × (completion_of m q ≡ c)
 drawn_law r ends h each m e A c i s y of_m drawn =
     let x = in_received y r.senders r.taken h.known.0 drawn in

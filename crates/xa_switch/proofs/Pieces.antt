@@ -4,15 +4,11 @@ use Rattle.std.specs.List.{All, AllPairs, Contains}
 use Rattle.std.proofs.lemmas.Bool.{eqb-true}
 use Rattle.std.proofs.lemmas.List.Folds.{Any-from_list_any, list_any_at}
 use Rattle.std.proofs.lemmas.Option.{slice_get_within, slice_get-map}
-use mathlib.Core.Option.{some}
-use lib.ListN.{get_elem?}
 use Rattle.xa_words.specs.declared.code.Code.{Code}
 use Rattle.xa_words.specs.declared.request.Request.{Request}
 use Rattle.xa_words.specs.declared.request.Completion.{Completion}
 use Rattle.xa_lane.specs.Ends.{Sending, Receiving}
 use Rattle.xa_lane.specs.Closing.{IsWhole}
-use Rattle.xa_lane.specs.Rings.{RingId, IsEndOf}
-use Rattle.xa_lane.specs.Senders.{QueueId}
 use Rattle.xa_tables.specs.History.{of_thread, IsOpening}
 use Rattle.xa_desk.specs.DeskView.{IsKnown, account}
 use Rattle.xa_desk.specs.Lanes.{numbered, arrived}
@@ -23,7 +19,7 @@ use Rattle.xa_worker.specs.Workers.{Asking}
 use Rattle.xa_worker.specs.Done.{Served, IsServed, IsOrdered}
 use Rattle.xa_switch.specs.Settling.{Agree, answers}
 use Rattle.xa_switch.specs.Seats.{EndSeat, WorkerSeat, end_seat, seat_of_ended, seat_of_done, ShareLanes, AreTogether, AreApartDesks, AreApartWorkers, ComeFromOpenings, desk_seats, worker_seats, desk_opening, worker_opening, first_opening, AreOfOne, HasDesks, HasWorkers, has_desk, has_worker, AreAll}
-use Rattle.xa_switch.specs.Closing.{dealt, column, IsClosable, IsClosed, IsQueueEnd, desk_lane, worker_lane}
+use Rattle.xa_switch.specs.Closing.{dealt, column, IsClosable, IsClosed, desk_lane, worker_lane}
 use Rattle.xa_switch.proofs.Lists.{In, all_map, pairs_map, pairs_at, all_contains, contains_at, contains_in, get_contained, contains_map, contains_place, get_map}
 use Rattle.xa_switch.proofs.Gathering.{dealt_adds, dealt_all, column_none}
 use Rattle.xa_switch.proofs.OneLane.{Answers, asked_there, answered_there, taken_whole, in_drained, in_part, placed, drawn_law}
@@ -52,7 +48,7 @@ some_of [] h = absurd (omega arith)
 some_of (x ∷ xs) h = (x, (0, omega arith, refl))
 
 -- the ends of lanes to each manager, and to each thread
-abbrev pub request_columns : List EndedView → List (List (Sending RingId Request))
+abbrev pub request_columns : List EndedView → List (List (Sending Request))
 request_columns ds = dealt (replicate 8 []) (map (λ d. d.requests) ds)
 
 abbrev pub completion_columns : List Served → List (List Answering)
@@ -69,18 +65,18 @@ module _ (ds : List EndedView) (ws : List Served) (h : Whole ds ws) where
       (contains_map seat_of_done ws w cw) (same_opening d w cd cw)
 
   -- the desk's end on the worker's lane
-  pub sends_at : (d : EndedView) (w : Served) → Contains ds d → Contains ws w → (e : Sending RingId Request) × (slice_get d.requests (w.number - 1) ≡ Some e) × ((e.lane ≡ w.receiver.lane) × IsEndOf e w.receiver.line) × (e.index + 1 ≡ d.thread)
+  pub sends_at : (d : EndedView) (w : Served) → Contains ds d → Contains ws w → (e : Sending Request) × (slice_get d.requests (w.number - 1) ≡ Some e) × ((e.lane ≡ w.receiver.lane) × (e.line ≡ w.receiver.line)) × (e.index + 1 ≡ d.thread)
   sends_at d w cd cw =
       let s = pair_at d w cd cw in
-      let x = get_map (λ (e : Sending RingId Request). end_seat e) d.requests (w.number - 1) s.asking s.asks in
-      (x.0, x.1, (ap (λ (v : EndSeat RingId). v.lane) x.2 ∙ s.asked.0, subst (λ (v : EndSeat RingId). get_elem? w.receiver.line v.index ≡ some v.line) (sym x.2) s.asked.1), ap (λ (v : EndSeat RingId). v.index + 1) x.2 ∙ s.asker)
+      let x = get_map (λ (e : Sending Request). end_seat e) d.requests (w.number - 1) s.asking s.asks in
+      (x.0, x.1, (ap (λ (v : EndSeat). v.lane) x.2 ∙ s.asked.0, ap (λ (v : EndSeat). v.line) x.2 ∙ s.asked.1), ap (λ (v : EndSeat). v.index + 1) x.2 ∙ s.asker)
 
   -- the worker's end on the desk's lane
   pub answers_at : (d : EndedView) (w : Served) → Contains ds d → Contains ws w → (e : Answering) × (slice_get w.ends (d.thread - 1) ≡ Some e) × ((e.lane ≡ d.completions.lane) × (e.line ≡ d.completions.line)) × (e.index + 1 ≡ w.number)
   answers_at d w cd cw =
       let s = pair_at d w cd cw in
       let x = get_map (λ (e : Answering). end_seat e) w.ends (d.thread - 1) s.answering s.answers in
-      (x.0, x.1, (ap (λ (v : EndSeat QueueId). v.lane) x.2 ∙ s.answered.0, ap (λ (v : EndSeat QueueId). v.line) x.2 ∙ s.answered.1), ap (λ (v : EndSeat QueueId). v.index + 1) x.2 ∙ s.answerer)
+      (x.0, x.1, (ap (λ (v : EndSeat). v.lane) x.2 ∙ s.answered.0, ap (λ (v : EndSeat). v.line) x.2 ∙ s.answered.1), ap (λ (v : EndSeat). v.index + 1) x.2 ∙ s.answerer)
 
   pub a_desk : (d : EndedView) × Contains ds d
   a_desk = some_of ds h.whole.some_desk
@@ -126,10 +122,10 @@ module _ (ds : List EndedView) (ws : List Served) (j : Joint ds ws) where
 
   -- ---- the lanes of requests
 
-  abbrev RequestFits : Served → Sending RingId Request → Type 0
-  RequestFits w e = (e.lane ≡ w.receiver.lane) × IsEndOf e w.receiver.line
+  abbrev RequestFits : Served → Sending Request → Type 0
+  RequestFits w e = (e.lane ≡ w.receiver.lane) × (e.line ≡ w.receiver.line)
 
-  request_fits : (w : Served) → Contains ws w → (i : ℕ) (row : List (Sending RingId Request)) (e : Sending RingId Request) → slice_get (map (λ (d : EndedView). d.requests) ds) i ≡ Some row → slice_get row (w.number - 1) ≡ Some e → RequestFits w e
+  request_fits : (w : Served) → Contains ws w → (i : ℕ) (row : List (Sending Request)) (e : Sending Request) → slice_get (map (λ (d : EndedView). d.requests) ds) i ≡ Some row → slice_get row (w.number - 1) ≡ Some e → RequestFits w e
   request_fits w cw i row e at_row at_e =
       let x = get_map (λ (d : EndedView). d.requests) ds i row at_row in
       let own = sends_at ds ws j.all x.0 w (contains_at ds i x.0 x.1) cw in
@@ -142,7 +138,7 @@ module _ (ds : List EndedView) (ws : List Served) (j : Joint ds ws) where
       dealt_all (RequestFits w) (replicate 8 []) (map (λ d. d.requests) ds) (w.number - 1) (subst (All (RequestFits w)) (sym (column_none 8 (w.number - 1))) (λ k d below. absurd (omega arith))) (request_fits w cw)
 
   -- the desk's end is among the ends of the worker's lane
-  pub request_in : (d : EndedView) (w : Served) → Contains ds d → Contains ws w → (e : Sending RingId Request) → slice_get d.requests (w.number - 1) ≡ Some e → Contains (column (request_columns ds) (w.number - 1)) e
+  pub request_in : (d : EndedView) (w : Served) → Contains ds d → Contains ws w → (e : Sending Request) → slice_get d.requests (w.number - 1) ≡ Some e → Contains (column (request_columns ds) (w.number - 1)) e
   request_in d w cd cw e at =
       contains_in e (column (request_columns ds) (w.number - 1))
       (dealt_adds (replicate 8 []) (map (λ d. d.requests) ds) (w.number - 1) cd.0 d.requests e (slice_get-map (λ (d : EndedView). d.requests) ds cd.0 ∙ ap (option_map (λ (d : EndedView). d.requests)) (get_contained ds d cd)) at (worker_place w cw))
@@ -158,9 +154,9 @@ module _ (ds : List EndedView) (ws : List Served) (j : Joint ds ws) where
       let thread = eqb-true found.1.thread (p + 1) found.4 in
       let index : own.0.index ≡ p = let i = own.3 in omega (arith, i, thread) in
       let in_ = request_in found.1 w cd cw own.0 own.1 in
-      list_any_at (λ (e : Sending RingId Request). e.index == p) (column (request_columns ds) (w.number - 1)) in_.0 own.0 in_.1 (ap (λ (e : Sending RingId Request). e.index == p) in_.2 ∙ eq-eqb own.0.index p index)
+      list_any_at (λ (e : Sending Request). e.index == p) (column (request_columns ds) (w.number - 1)) in_.0 own.0 in_.1 (ap (λ (e : Sending Request). e.index == p) in_.2 ∙ eq-eqb own.0.index p index)
 
-  pub request_closable : (w : Served) → Contains ws w → IsClosable IsEndOf w.receiver (column (request_columns ds) (w.number - 1))
+  pub request_closable : (w : Served) → Contains ws w → IsClosable w.receiver (column (request_columns ds) (w.number - 1))
   request_closable w cw = record {
     lanes = λ k e below. (request_all w cw k e below).0;
     lines = λ k e below. (request_all w cw k e below).1;
@@ -217,7 +213,7 @@ module _ (ds : List EndedView) (ws : List Served) (j : Joint ds ws) where
       let in_ = completion_in d found.1 cd cw own.0 own.1 in
       list_any_at (λ (e : Answering). e.index == p) (column (completion_columns ws) (d.thread - 1)) in_.0 own.0 in_.1 (ap (λ (e : Answering). e.index == p) in_.2 ∙ eq-eqb own.0.index p index)
 
-  pub completion_closable : (d : EndedView) → Contains ds d → IsClosable IsQueueEnd d.completions (column (completion_columns ws) (d.thread - 1))
+  pub completion_closable : (d : EndedView) → Contains ds d → IsClosable d.completions (column (completion_columns ws) (d.thread - 1))
   completion_closable d cd = record {
     lanes = λ k e below. (completion_all d cd k e below).0.0;
     lines = λ k e below. (completion_all d cd k e below).0.1;
@@ -281,17 +277,17 @@ module _ (ds : List EndedView) (ws : List Served) (j : Joint ds ws) where
 
   -- ---- what closing the lanes asks
 
-  pub request_lanes_closable : All (λ r. IsClosable IsEndOf r.1 (column (request_columns ds) r.0)) (map worker_lane ws)
-  request_lanes_closable = all_map worker_lane (λ (r : ℕ × Asking). IsClosable IsEndOf r.1 (column (request_columns ds) r.0)) ws request_closable
+  pub request_lanes_closable : All (λ r. IsClosable r.1 (column (request_columns ds) r.0)) (map worker_lane ws)
+  request_lanes_closable = all_map worker_lane (λ (r : ℕ × Asking). IsClosable r.1 (column (request_columns ds) r.0)) ws request_closable
 
-  pub completion_lanes_closable : All (λ r. IsClosable IsQueueEnd r.1 (column (completion_columns ws) r.0)) (map desk_lane ds)
-  completion_lanes_closable = all_map desk_lane (λ (r : ℕ × Receiving QueueId Completion). IsClosable IsQueueEnd r.1 (column (completion_columns ws) r.0)) ds completion_closable
+  pub completion_lanes_closable : All (λ r. IsClosable r.1 (column (completion_columns ws) r.0)) (map desk_lane ds)
+  completion_lanes_closable = all_map desk_lane (λ (r : ℕ × Receiving Completion). IsClosable r.1 (column (completion_columns ws) r.0)) ds completion_closable
 
   pub request_lanes_places : All (λ r. r.0 < 8) (map worker_lane ws)
   request_lanes_places = all_map worker_lane (λ (r : ℕ × Asking). r.0 < 8) ws worker_place
 
   pub completion_lanes_places : All (λ r. r.0 < 8) (map desk_lane ds)
-  completion_lanes_places = all_map desk_lane (λ (r : ℕ × Receiving QueueId Completion). r.0 < 8) ds desk_place
+  completion_lanes_places = all_map desk_lane (λ (r : ℕ × Receiving Completion). r.0 < 8) ds desk_place
 
   pub request_lanes_apart : AllPairs (λ a b. a.0 ≢ b.0) (map worker_lane ws)
   request_lanes_apart =
@@ -306,7 +302,7 @@ module _ (ds : List EndedView) (ws : List Served) (j : Joint ds ws) where
 
   pub completion_lanes_apart : AllPairs (λ a b. a.0 ≢ b.0) (map desk_lane ds)
   completion_lanes_apart =
-      pairs_map desk_lane (λ (a b : ℕ × Receiving QueueId Completion). a.0 ≢ b.0) ds
+      pairs_map desk_lane (λ (a b : ℕ × Receiving Completion). a.0 ≢ b.0) ds
       (λ a b ca cb i k lt below d ea eb e.
       let x = pairs_at seat_of_ended AreApartDesks ds j.all.from.desks_apart i k lt below d in
       let same : desk_opening a ≡ desk_opening b = all_contains (λ d. desk_opening d ≡ first_opening ds ws) ds a j.all.one.0 ca ∙ sym (all_contains (λ d. desk_opening d ≡ first_opening ds ws) ds b j.all.one.0 cb) in

@@ -3,8 +3,8 @@ use Rattle.std.specs.Prelude.{◌≡◌, ℕ, ◌-◌, ◌≤◌, List, [], ◌�
 use Rattle.std.specs.List.{All}
 use Rattle.xa_words.specs.declared.request.Completion.{Completion}
 use Rattle.xa_lane.specs.Ends.{Sending, Receiving}
-use Rattle.xa_lane.specs.Closing.{IsWhole, Conserves, LeavesNothing, AreKnown}
-use Rattle.xa_lane.specs.Senders.{QueueId}
+use Rattle.xa_lane.specs.Closing.{IsWhole, Conserves, LeavesNothing, AreKnown, items_in}
+use Rattle.xa_tables.specs.History.{History}
 use Rattle.xa_desk.specs.Ended.{EndedView}
 use Rattle.xa_worker.specs.Workers.{Asking}
 use Rattle.xa_worker.specs.Done.{Served}
@@ -22,25 +22,21 @@ abbrev pub column : {X : Type 0} → List (List X) → ℕ → List X
 column cs k = slice_index_or cs k []
 
 -- these are all the ends of the receiver's lane, and of no other
-pub record IsClosable {Line Lines T : Type 0} (IsEnd : Sending Line T → Lines → Type 0) (r : Receiving Lines T) (ends : List (Sending Line T)) : Type 0 where
+pub record IsClosable {T : Type 0} (r : Receiving T) (ends : List (Sending T)) : Type 0 where
   pub lanes : All (λ e. e.lane ≡ r.lane) ends
-  pub lines : All (λ e. IsEnd e r.line) ends
+  pub lines : All (λ e. e.line ≡ r.line) ends
   pub whole : IsWhole r.senders ends
 
 -- the lane was closed with these ends: of each, what was taken and what was left is what it sent
-pub record IsClosed {Line Lines T : Type 0} (r : Receiving Lines T) (ends : List (Sending Line T)) : Type 0 where
+pub record IsClosed {T : Type 0} (r : Receiving T) (ends : List (Sending T)) : Type 0 where
   pub left : List (ℕ × T)
   pub whole : IsWhole r.senders ends
   pub conserves : Conserves ends r.taken left
   pub nothing : LeavesNothing ends r.taken left
   pub known : AreKnown r.senders r.taken left
 
--- the end is of this queue
-abbrev pub IsQueueEnd : {T : Type 0} → Sending QueueId T → QueueId → Type 0
-IsQueueEnd e line = e.line ≡ line
-
 -- a lane with its place among the lanes
-abbrev pub desk_lane : EndedView → ℕ × Receiving QueueId Completion
+abbrev pub desk_lane : EndedView → ℕ × Receiving Completion
 desk_lane d = (d.thread - 1, d.completions)
 
 abbrev pub worker_lane : Served → ℕ × Asking
@@ -50,8 +46,12 @@ worker_lane w = (w.number - 1, w.receiver)
 abbrev pub thread_part : EndedView → ThreadPart
 thread_part d = record { thread = d.thread; accounts = d.accounts }
 
+-- what a worker took from its lane, in order
+abbrev pub taken_by : Served → History
+taken_by w = map (λ p. p.1) (items_in w.receiver.taken)
+
 abbrev pub manager_part : Served → ManagerPart
-manager_part w = record { number = w.number; first = w.first; journal = w.journal }
+manager_part w = record { number = w.number; first = w.first; taken = taken_by w; journal = w.journal; last = w.manager.tables }
 
 abbrev pub settling : List EndedView → List Served → Settling
 settling ds ws = record { threads = map thread_part ds; managers = map manager_part ws }

@@ -35,7 +35,7 @@ pub record CollectsRedeemed (old new : DeskView) (k : ℕ) (c : Code) : Type 0 w
   pub kept : map.get old.kept k ≡ Some operation
   pub collects : Collects (record old { kept = map.remove old.kept k }) new operation c
 
--- What comes of collecting by a handle: XAER_INVAL where no operation of the manager is kept under it; without waiting, XA_RETRY behind a quiet moment with its completion not drained; else its number and its code.
+-- What comes of collecting by a handle: XAER_INVAL where no operation of the manager is kept under it; without waiting, XA_RETRY after a quiet moment with its completion not drained; else its number and its code.
 pub data CompletesOne (old : DeskView) (number : Option ℕ) (m : ℕ) (nowait : Bool) (new : DeskView) (result : Result (ℕ × Code) Code) : Type 0 where
   unknown : keeps_by old number m ≡ false → result ≡ Err Inval → new ≡ old → CompletesOne old number m nowait new result
   retry : (k : ℕ) → number ≡ Some k → keeps_for old k m ≡ true → nowait ≡ true → result ≡ Err Retry → EndsQuiet old new → ready_at new 0 k ≡ false → CompletesOne old number m nowait new result
@@ -46,7 +46,7 @@ pub data CompletesOne (old : DeskView) (number : Option ℕ) (m : ℕ) (nowait :
 abbrev pub KeepsNothing : DeskView → ℕ → Type 0
 KeepsNothing d m = (k : ℕ) → keeps_at d m k ≡ false
 
--- What comes of collecting any operation of m: XAER_PROTO where nothing of it is kept; without waiting, XA_RETRY behind a quiet moment with nothing of it ready; else the least number that is ready at a quiet moment, and its code.
+-- What comes of collecting any operation of m: XAER_PROTO where nothing of it is kept; without waiting, XA_RETRY after a quiet moment with nothing of it ready; else the least number that is ready at a quiet moment, and its code.
 pub data CompletesAny (old : DeskView) (m : ℕ) (nowait : Bool) (new : DeskView) (result : Result (ℕ × Code) Code) : Type 0 where
   nothing : KeepsNothing old m → result ≡ Err Proto → new ≡ old → CompletesAny old m nowait new result
   retry : (k : ℕ) → keeps_at old m k ≡ true → nowait ≡ true → result ≡ Err Retry → EndsQuiet old new → ((j : ℕ) → ready_at new m j ≡ false) → CompletesAny old m nowait new result

@@ -1,47 +1,51 @@
 -- The lanes of an opening, on which nothing was sent.
-use Rattle.std.specs.Prelude.{◌≡◌, ℕ, ◌+◌, List, length}
+use Rattle.std.specs.Prelude.{◌≡◌, ℕ, ◌+◌, List}
 use Rattle.xa_words.specs.declared.request.Request.{Request}
 use Rattle.xa_words.specs.declared.request.Completion.{Completion}
 use Rattle.xa_lane.specs.declared.name.LaneName.{LaneName}
 use Rattle.xa_lane.specs.Ends.{Sending, Receiving, new_sender, new_receiver}
-use Rattle.xa_lane.specs.Rings.{RingId, IsEndOf}
-use Rattle.xa_lane.specs.Senders.{QueueId}
 use Rattle.xa_switch.specs.Columns.{AreLanes}
 
--- the lane of the requests to a manager, and the lane of the completions for a thread
-abbrev pub request_lane : ℕ → ℕ → LaneName
-request_lane opening manager = record { opening = opening; kind = 0; index = manager }
+-- the lane to the manager or thread with this number; the lanes of requests are of kind 0, those of completions of kind 1
+abbrev pub lane_to : ℕ → ℕ → ℕ → LaneName
+lane_to opening kind number = record { opening = opening; kind = kind; index = number }
 
-abbrev pub completion_lane : ℕ → ℕ → LaneName
-completion_lane opening thread = record { opening = opening; kind = 1; index = thread }
+module _ {T : Type 0} (opening kind : ℕ) where
+  -- the receiver of lane k + 1 with so many senders and places, which has taken nothing
+  abbrev pub IsNewReceiver : ℕ → ℕ → ℕ → Receiving T → Type 0
+  IsNewReceiver senders room k r = r ≡ new_receiver (lane_to opening kind (k + 1)) r.line room senders
 
--- the receiver of the requests to manager m + 1, which has taken nothing; there is a ring for each thread
-abbrev pub IsRequestEnd : ℕ → ℕ → ℕ → ℕ → Receiving (List RingId) Request → Type 0
-IsRequestEnd opening threads queue m r = (r ≡ new_receiver (request_lane opening (m + 1)) r.line queue threads) × (length r.line ≡ threads)
+  -- the sender with number i on lane k + 1, which has sent nothing
+  abbrev pub IsNewSender : ℕ → ℕ → ℕ → Sending T → Type 0
+  IsNewSender room i k s = s ≡ new_sender (lane_to opening kind (k + 1)) s.line room i
+
+  -- the same, and the receiver is that of its lane
+  abbrev pub IsNewPair : ℕ → ℕ → ℕ → Sending T → Receiving T → Type 0
+  IsNewPair room i k s r = IsNewSender room i k s × (s.line ≡ r.line)
+
+  -- so many lanes, by rising number
+  abbrev pub AreNewLanes : ℕ → ℕ → ℕ → List (List (Sending T)) → List (Receiving T) → Type 0
+  AreNewLanes senders lanes room columns rs = AreLanes (IsNewReceiver senders room) (IsNewPair room) senders lanes columns rs
+
+-- the receiver of the requests to manager m + 1, which has taken nothing
+abbrev pub IsRequestEnd : ℕ → ℕ → ℕ → ℕ → Receiving Request → Type 0
+IsRequestEnd opening threads queue m r = IsNewReceiver opening 0 threads queue m r
 
 -- the sender of thread t + 1 on the lane to manager m + 1, which has sent nothing
-abbrev pub IsRequestSender : ℕ → ℕ → ℕ → ℕ → Sending RingId Request → Type 0
-IsRequestSender opening queue t m s = s ≡ new_sender (request_lane opening (m + 1)) s.line queue t
-
--- the same, and the receiver is that of its lane
-abbrev pub IsRequestPair : ℕ → ℕ → ℕ → ℕ → Sending RingId Request → Receiving (List RingId) Request → Type 0
-IsRequestPair opening queue t m s r = IsRequestSender opening queue t m s × IsEndOf s r.line
+abbrev pub IsRequestSender : ℕ → ℕ → ℕ → ℕ → Sending Request → Type 0
+IsRequestSender opening queue t m s = IsNewSender opening 0 queue t m s
 
 -- the receiver of the completions for thread t + 1, which has taken nothing
-abbrev pub IsCompletionEnd : ℕ → ℕ → ℕ → ℕ → Receiving QueueId Completion → Type 0
-IsCompletionEnd opening managers room t r = r ≡ new_receiver (completion_lane opening (t + 1)) r.line room managers
+abbrev pub IsCompletionEnd : ℕ → ℕ → ℕ → ℕ → Receiving Completion → Type 0
+IsCompletionEnd opening managers room t r = IsNewReceiver opening 1 managers room t r
 
 -- the sender of manager m + 1 on the lane to thread t + 1, which has sent nothing
-abbrev pub IsCompletionSender : ℕ → ℕ → ℕ → ℕ → Sending QueueId Completion → Type 0
-IsCompletionSender opening room m t s = s ≡ new_sender (completion_lane opening (t + 1)) s.line room m
-
--- the same, and the receiver is that of its lane
-abbrev pub IsCompletionPair : ℕ → ℕ → ℕ → ℕ → Sending QueueId Completion → Receiving QueueId Completion → Type 0
-IsCompletionPair opening room m t s r = IsCompletionSender opening room m t s × (s.line ≡ r.line)
+abbrev pub IsCompletionSender : ℕ → ℕ → ℕ → ℕ → Sending Completion → Type 0
+IsCompletionSender opening room m t s = IsNewSender opening 1 room m t s
 
 -- the lanes of requests, by rising manager, and the lanes of completions, by rising thread
-abbrev pub AreRequestLanes : ℕ → ℕ → ℕ → ℕ → List (List (Sending RingId Request)) → List (Receiving (List RingId) Request) → Type 0
-AreRequestLanes opening threads managers queue columns rs = AreLanes (IsRequestEnd opening threads queue) (IsRequestPair opening queue) threads managers columns rs
+abbrev pub AreRequestLanes : ℕ → ℕ → ℕ → ℕ → List (List (Sending Request)) → List (Receiving Request) → Type 0
+AreRequestLanes opening threads managers queue columns rs = AreNewLanes opening 0 threads managers queue columns rs
 
-abbrev pub AreCompletionLanes : ℕ → ℕ → ℕ → ℕ → List (List (Sending QueueId Completion)) → List (Receiving QueueId Completion) → Type 0
-AreCompletionLanes opening threads managers room columns rs = AreLanes (IsCompletionEnd opening managers room) (IsCompletionPair opening room) managers threads columns rs
+abbrev pub AreCompletionLanes : ℕ → ℕ → ℕ → ℕ → List (List (Sending Completion)) → List (Receiving Completion) → Type 0
+AreCompletionLanes opening threads managers room columns rs = AreNewLanes opening 1 managers threads room columns rs

@@ -8,4 +8,5 @@ pub mod Openings
 pub mod Settling
 pub mod Seats
 pub mod Closing
-pub mod Growth
+pub mod Fates
+pub mod OfPlans

@@ -4,8 +4,6 @@ use Rattle.std.specs.List.{All}
 use Rattle.xa_words.specs.declared.request.Request.{Request}
 use Rattle.xa_words.specs.declared.request.Completion.{Completion}
 use Rattle.xa_lane.specs.Ends.{Sending, Receiving}
-use Rattle.xa_lane.specs.Rings.{RingId, IsEndOf}
-use Rattle.xa_lane.specs.Senders.{QueueId}
 use Rattle.xa_desk.specs.DeskView.{DeskView}
 use Rattle.xa_desk.specs.Lanes.{PartsView, AreEnds, AreNew, new_desk}
 use Rattle.xa_worker.specs.Outgoing.{Answering}
@@ -26,8 +24,8 @@ abbrev pub worker_parts : Plan → ℕ → Reserved
 worker_parts p manager = record { number = manager; room = manager_room p }
 
 -- part k, column k and receiver k are of one thread, and nothing was sent on the lanes and taken from them
-abbrev pub DesksFit : List PartsView → List (List (Sending RingId Request)) → List (Receiving QueueId Completion) → Type 0
-DesksFit parts columns receivers = (k : ℕ) (p : PartsView) (c : List (Sending RingId Request)) (r : Receiving QueueId Completion) → slice_get parts k ≡ Some p → slice_get columns k ≡ Some c → slice_get receivers k ≡ Some r → AreEnds p.thread (length p.use_async) c r × AreNew c r
+abbrev pub DesksFit : List PartsView → List (List (Sending Request)) → List (Receiving Completion) → Type 0
+DesksFit parts columns receivers = (k : ℕ) (p : PartsView) (c : List (Sending Request)) (r : Receiving Completion) → slice_get parts k ≡ Some p → slice_get columns k ≡ Some c → slice_get receivers k ≡ Some r → AreEnds p.thread (length p.use_async) c r × AreNew c r
 
 -- manager k has the room of part k and a lane for each of its at most 8 threads in receiver k and in column k, and nothing was taken from them and sent on them
 pub record WorkersFit (parts : List Reserved) (managers : List Managed) (receivers : List Asking) (columns : List (List Answering)) : Type 0 where
@@ -36,10 +34,10 @@ pub record WorkersFit (parts : List Reserved) (managers : List Managed) (receive
   pub completions : (k : ℕ) (m : Managed) (c : List Answering) → slice_get managers k ≡ Some m → slice_get columns k ≡ Some c → (length c ≡ m.threads) × All (λ s. s.sent ≡ []) c
 
 -- desk k is made of part k, column k and receiver k
-pub record IsDeskOf (parts : List PartsView) (columns : List (List (Sending RingId Request))) (receivers : List (Receiving QueueId Completion)) (k : ℕ) (d : DeskView) : Type 0 where
+pub record IsDeskOf (parts : List PartsView) (columns : List (List (Sending Request))) (receivers : List (Receiving Completion)) (k : ℕ) (d : DeskView) : Type 0 where
   pub part : PartsView
-  pub requests : List (Sending RingId Request)
-  pub completions : Receiving QueueId Completion
+  pub requests : List (Sending Request)
+  pub completions : Receiving Completion
   pub part_at : slice_get parts k ≡ Some part
   pub requests_at : slice_get columns k ≡ Some requests
   pub completions_at : slice_get receivers k ≡ Some completions
@@ -75,9 +73,9 @@ pub record IsNewWorker (p : Plan) (m : ℕ) (w : Working) : Type 0 where
 
 -- thread t + 1 sends to manager m + 1 on the lane that the manager's worker receives from, and the worker sends on the lane that the thread's desk receives from
 pub record AreTogether (t m : ℕ) (d : DeskView) (w : Working) : Type 0 where
-  pub asking : Sending RingId Request
+  pub asking : Sending Request
   pub asks : slice_get d.requests m ≡ Some asking
-  pub asked : IsEndOf asking w.receiver.line
+  pub asked : asking.line ≡ w.receiver.line
   pub answering : Answering
   pub answers : slice_get w.out.senders t ≡ Some answering
   pub answered : answering.line ≡ d.completions.line

@@ -1,24 +1,34 @@
 -- What a call of XA puts to a manager, and what it answers.
-use Rattle.std.specs.Prelude.{◌≡◌, ℕ, ℤ, pos, Bool, true, false, not, ◌&&◌, is_some, nat_le, if◌then◌else◌, length, Option, Some, None, Result, Ok, Err}
+use Rattle.std.specs.Prelude.{◌≡◌, ℕ, ℤ, pos, Bool, true, false, not, ◌&&◌, is_some, if◌then◌else◌, Option, Some, None, option_map, Result, Ok, Err}
 use Rattle.std.specs.FinMap as map
+use Rattle.std.specs.Option.{option_or}
 use Rattle.xa_words.specs.Code.{number_of}
 use Rattle.xa_words.specs.declared.code.Code.{Code}
 use Rattle.xa_words.specs.declared.code.Code.TheVariants.{Async, Inval, RmErr, RmFail}
-use Rattle.xa_desk.specs.AccountView.{learnt_shut}
-use Rattle.xa_desk.specs.DeskView.{DeskView, is_known, account, outstanding, next_operation, IsLeastFree}
+use Rattle.xa_desk.specs.declared.refused.Refused.{Refused}
+use Rattle.xa_desk.specs.declared.refused.Refused.TheVariants.{NoSuchManager, Shut, TooMany, Spent, Full}
+use Rattle.xa_desk.specs.DeskView.{DeskView, account, next_operation, IsLeastFree, reach_refusal, submit_refusal, call_refusal}
 use Rattle.xa_desk.specs.Lanes.{submitted, after_full, after_fulls}
 use Rattle.xa_desk.specs.Looks.{Collects}
 use Rattle.xa_switch.specs.declared.asked.Asked.{Asked}
 
--- Why nothing may be put to the manager, a full queue aside: the first line that fits.
+-- the code that a refusal of a desk is answered as
+abbrev pub code_of : Refused → Code
+code_of NoSuchManager = Inval
+code_of Shut = RmFail
+code_of TooMany = Async
+code_of Spent = RmErr
+code_of Full = Async
+
+-- why nothing asynchronous may be put to manager m: it takes no such call
+abbrev pub async_refusal : DeskView → ℕ → Option Code
+async_refusal d m = if (account d.accounts m).carries_async then None else Some Async
+
+-- Why nothing may be put to manager m, a full queue aside: the desk's refusal, as a code. An asynchronous call asks whether
+-- the manager takes any before handles and planned requests are looked at.
 abbrev pub put_refusal : DeskView → ℕ → Bool → Option Code
-put_refusal d m asynchronous =
-    if not (is_known d.accounts m) then Some Inval
-    else if learnt_shut (account d.accounts m) then Some RmFail
-    else if asynchronous && not (account d.accounts m).carries_async then Some Async
-    else if asynchronous && nat_le d.handles (outstanding d.accounts) then Some Async
-    else if nat_le (account d.accounts m).plan (length (account d.accounts m).sent) then Some RmErr
-    else None
+put_refusal d m false = option_map code_of (call_refusal d m)
+put_refusal d m true = option_or (option_map code_of (reach_refusal d m)) (option_or (async_refusal d m) (option_map code_of (submit_refusal d m)))
 
 -- What becomes of what is asked for, and the answer: a refusal; XAER_ASYNC where the queue was full, which the end of the lane counts; the handle under which the request that was sent is kept; or the collected code of the request that was sent once the queue was found full n times.
 pub data Puts (old : DeskView) (m : ℕ) (asked : Asked) (new : DeskView) (answer : ℤ) : Type 0 where

@@ -2,70 +2,14 @@
 use Rattle.std.specs.Prelude.{◌≡◌, ◌≢◌, ℕ, ◌+◌, ◌-◌, ◌<◌, ◌≤◌, Bool, true, ◌==◌, List, [], ◌∷◌, ◌++◌, length, map, slice_get, Some}
 use Rattle.std.specs.List.{All, AllPairs, list_any}
 use Rattle.std.specs.List.Sorted.{IsPermutation}
-use mathlib.Core.Option.{some}
-use lib.ListN.{get_elem?}
-use Rattle.xa_words.specs.declared.request.Request.{Request}
-use Rattle.xa_words.specs.declared.request.Completion.{Completion}
-use Rattle.xa_tables.specs.Tables.{Tables}
 use Rattle.xa_tables.specs.History.{IsOpening}
-use Rattle.xa_lane.specs.declared.name.LaneName.{LaneName}
-use Rattle.xa_lane.specs.Ends.{Sending, Receiving}
-use Rattle.xa_lane.specs.Rings.{RingId}
-use Rattle.xa_lane.specs.Senders.{QueueId}
-use Rattle.xa_desk.specs.DeskView.{DeskView}
 use Rattle.xa_desk.specs.Ended.{EndedView}
-use Rattle.xa_worker.specs.Outgoing.{Answering}
-use Rattle.xa_worker.specs.Workers.{Asking, Working}
 use Rattle.xa_worker.specs.Done.{Served}
+pub use Rattle.xa_lane.specs.Seats.{EndSeat, end_seat}
+pub use Rattle.xa_desk.specs.Seats.{DeskSeat, desk_seat, seat_of_desk, seat_of_ended}
+pub use Rattle.xa_worker.specs.Seats.{WorkerSeat, worker_seat, seat_of_worker, seat_of_done}
 use Rattle.xa_switch.specs.declared.settling.Why.{Why}
 use Rattle.xa_switch.specs.declared.settling.Why.TheVariants.{NoMemory, Stranger, Missing}
-
--- ---- seats: what a piece has of its opening, whatever it does
-
--- of a sender: the name of its lane, which lane that is, and its number there
-pub record EndSeat (Line : Type 0) : Type 0 where
-  pub lane : LaneName
-  pub line : Line
-  pub index : ℕ
-
--- of a desk: its thread, its ends of the lanes to the managers, by rising manager, and its own lane
-pub record DeskSeat : Type 0 where
-  pub thread : ℕ
-  pub ends : List (EndSeat RingId)
-  pub lane : LaneName
-  pub line : QueueId
-
--- of a worker: its manager, the tables that the manager was opened with, its ends of the lanes to the threads, by rising
--- thread, and its own lane with a ring for each thread
-pub record WorkerSeat : Type 0 where
-  pub number : ℕ
-  pub first : Tables
-  pub ends : List (EndSeat QueueId)
-  pub lane : LaneName
-  pub rings : List RingId
-
--- the seat of a sender, and that of a piece by what it holds
-abbrev pub end_seat : {Line T : Type 0} → Sending Line T → EndSeat Line
-end_seat s = record { lane = s.lane; line = s.line; index = s.index }
-
-abbrev pub desk_seat : ℕ → List (Sending RingId Request) → Receiving QueueId Completion → DeskSeat
-desk_seat t senders receiver = record { thread = t; ends = map end_seat senders; lane = receiver.lane; line = receiver.line }
-
-abbrev pub worker_seat : ℕ → Tables → List Answering → Asking → WorkerSeat
-worker_seat m first senders receiver = record { number = m; first = first; ends = map end_seat senders; lane = receiver.lane; rings = receiver.line }
-
--- the seat of a desk at work and of one that has ended, of a worker at work and of one that has run
-abbrev pub seat_of_desk : DeskView → DeskSeat
-seat_of_desk d = desk_seat d.thread d.requests d.completions
-
-abbrev pub seat_of_ended : EndedView → DeskSeat
-seat_of_ended d = desk_seat d.thread d.requests d.completions
-
-abbrev pub seat_of_worker : Working → WorkerSeat
-seat_of_worker w = worker_seat w.number w.first w.out.senders w.receiver
-
-abbrev pub seat_of_done : Served → WorkerSeat
-seat_of_done w = worker_seat w.number w.first w.ends w.receiver
 
 -- ---- pieces of one opening
 
@@ -73,12 +17,12 @@ seat_of_done w = worker_seat w.number w.first w.ends w.receiver
 -- sender of its own number
 pub record ShareLanes (d : DeskSeat) (w : WorkerSeat) : Type 0 where
   -- the desk's end of the lane of requests
-  pub asking : EndSeat RingId
+  pub asking : EndSeat
   pub asks : slice_get d.ends (w.number - 1) ≡ Some asking
-  pub asked : (asking.lane ≡ w.lane) × (get_elem? w.rings asking.index ≡ some asking.line)
+  pub asked : (asking.lane ≡ w.lane) × (asking.line ≡ w.line)
   pub asker : asking.index + 1 ≡ d.thread
   -- the worker's end of the lane of completions
-  pub answering : EndSeat QueueId
+  pub answering : EndSeat
   pub answers : slice_get w.ends (d.thread - 1) ≡ Some answering
   pub answered : (answering.lane ≡ d.lane) × (answering.line ≡ d.line)
   pub answerer : answering.index + 1 ≡ w.number

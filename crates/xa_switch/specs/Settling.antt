@@ -1,10 +1,10 @@
 -- What a settled opening has: what was sent, what was carried out and what was collected agree.
-use Rattle.std.specs.Prelude.{◌≡◌, ◌↔◌, ℕ, ℤ, ◌<◌, nat_eq, true, ◌==◌, List, [], length, map, filter, slice_get, Option, Some, None}
+use Rattle.std.specs.Prelude.{◌≡◌, ◌↔◌, ℕ, ℤ, ◌<◌, nat_eq, true, ◌==◌, List, [], length, map, filter, slice_get, Option, Some, None, ◌++◌}
 use Rattle.std.specs.List.{All, IsDistinct, list_any, find}
 use Rattle.xa_words.specs.declared.code.Code.{Code}
 use Rattle.xa_words.specs.declared.request.Op.{Op}
 use Rattle.xa_tables.specs.Tables.{Tables}
-use Rattle.xa_tables.specs.History.{of_thread, codes, value_after, IsOpening}
+use Rattle.xa_tables.specs.History.{History, of_thread, codes, tables_after, accepted, first_shut, late, carried_out, value_after, IsOpening}
 use Rattle.xa_desk.specs.AccountView.{AccountView}
 use Rattle.xa_desk.specs.DeskView.{sent_to, collected_from}
 use Rattle.xa_desk.specs.Lanes.{numbered}
@@ -17,11 +17,14 @@ pub record ThreadPart : Type 0 where
   pub thread : ℕ
   pub accounts : List AccountView
 
--- of a manager: its number, the tables that it was opened with, and its journal
+-- of a manager: its number, the tables that it was opened with, what it took, in order, its journal, and its tables at the
+-- end
 pub record ManagerPart : Type 0 where
   pub number : ℕ
   pub first : Tables
+  pub taken : History
   pub journal : List Entry
+  pub last : Tables
 
 -- the parts of all threads and of all managers
 pub record Settling : Type 0 where
@@ -77,12 +80,19 @@ pub record Agree (t : ℕ) (ops : List Op) (pairs : List (ℕ × Code)) (entries
   -- each was collected with the code that stands at its request's place in the journal
   pub coded : All (λ p. slice_get (answers t entries) p.0 ≡ Some p) pairs
 
--- The manager was opened, and each entry of its journal has the code that the sequential tables give at its place.
+-- The manager was opened, its journal has what it took, each entry with the code that the sequential tables give at its
+-- place, and what it carried out is what it accepted.
 pub record FollowsTables (p : ManagerPart) : Type 0 where
   -- at first nobody had it open, it had no branch, and it wasn't shut
   pub opened : IsOpening p.first
-  -- from these tables on each request has the code that `next` gives behind those before it
+  -- from these tables on each request has the code that `next` gives after those before it
   pub coded : codes_in p.journal ≡ codes (requests p.journal) p.first
+  -- the journal has what was taken, in that order: the accepted requests, then the first Shut, then the late ones
+  pub entered : requests p.journal ≡ accepted p.taken ++ (first_shut p.taken ++ late p.taken)
+  -- what was carried out is what was accepted
+  pub carried : carried_out p.journal ≡ accepted p.taken
+  -- and it left the tables that it leaves by the sequential tables
+  pub left : p.last ≡ tables_after (requests p.journal) p.first
 
 -- For every thread and every manager what was sent, carried out and collected agree, and each manager carried out what
 -- its journal has as the sequential tables do.

@@ -11,7 +11,7 @@ use crate::settled::{Carried, Thread};
 use std::alloc::{AllocError, Global};
 use std::snapshot::Snapshot;
 use xa_desk::{DeskEnds, EndedDesk};
-use xa_lane::{Ended, Receiver, RingEnded, RingReceiver};
+use xa_lane::{Ended, Receiver};
 use xa_words::{Completion, Request};
 use xa_worker::{Apart, DoneWorker};
 
@@ -27,9 +27,9 @@ pub(crate) struct Room<E: Drop, R: Drop, P: Drop> {
     pub(crate) parts: Vec<P>,
 }
 
-pub(crate) type DeskRoom = Room<RingEnded<Request>, Receiver<Completion>, Thread>;
+pub(crate) type DeskRoom = Room<Ended<Request>, Receiver<Completion>, Thread>;
 
-pub(crate) type WorkerRoom = Room<Ended<Completion>, RingReceiver<Request>, Carried>;
+pub(crate) type WorkerRoom = Room<Ended<Completion>, Receiver<Request>, Carried>;
 
 /// Room for so many pieces.
 pub(crate) fn reserve_room<E: Drop, R: Drop, P: Drop>(

@@ -4,7 +4,7 @@ ghost use Rattle.xa_switch.specs.Columns.{Each};
 ghost use Rattle.xa_switch.specs.Openings.{DesksFit, WorkersFit, IsDeskOf, IsWorkerOf};
 
 use xa_desk::{Desk, DeskParts};
-use xa_lane::{Receiver, RingReceiver, RingSender, Sender};
+use xa_lane::{Receiver, Sender};
 use xa_tables::Manager;
 use xa_words::{Completion, Request};
 use xa_worker::{Worker, WorkerParts};
@@ -13,7 +13,7 @@ use xa_worker::{Worker, WorkerParts};
 pub(crate) fn assemble_desks(
     mut desks: Vec<Desk>,
     parts: Vec<DeskParts>,
-    columns: Vec<Vec<RingSender<Request>>>,
+    columns: Vec<Vec<Sender<Request>>>,
     receivers: Vec<Receiver<Completion>>,
 ) -> Vec<Desk>
     requires none { desks.items ≡ [] }
@@ -44,7 +44,7 @@ pub(crate) fn assemble_workers(
     mut workers: Vec<Worker>,
     parts: Vec<WorkerParts>,
     managers: Vec<Manager>,
-    receivers: Vec<RingReceiver<Request>>,
+    receivers: Vec<Receiver<Request>>,
     columns: Vec<Vec<Sender<Completion>>>,
 ) -> Vec<Worker>
     requires none { workers.items ≡ [] }

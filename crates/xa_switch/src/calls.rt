@@ -1,54 +1,72 @@
 //! The calls of XA that put a request to a manager.
-ghost use Rattle.std.specs.Prelude.{◌≡◌, false, Ok};
+ghost use Rattle.std.specs.Prelude.{◌≡◌, false, true, IfOk, IfErr, Some, None, Ok, Err};
+ghost use Rattle.std.specs.FinMap as map;
+ghost use Rattle.xa_desk.specs.DeskView.{IsLeastFree, IsHandle, next_operation};
+ghost use Rattle.xa_desk.specs.GoesOn.{GoesOn};
+ghost use Rattle.xa_desk.specs.Lanes.{submitted, after_full};
+ghost use Rattle.xa_desk.specs.Tickets.{LeavesTickets};
 ghost use Rattle.xa_switch.specs.Asking.{asked_of, native};
-ghost use Rattle.xa_switch.specs.Putting.{put_refusal, Puts, Calls, waits};
-ghost use Rattle.xa_switch.specs.Seats.{seat_of_desk};
-ghost use Rattle.xa_switch.specs.Growth.{HaveGrown};
+ghost use Rattle.xa_switch.specs.Putting.{code_of, put_refusal, Puts, Calls, waits};
 
 use crate::asked::{Asked, RmOp, asked_of, native_of};
 use std::sync::Wait;
-use xa_desk::{Desk, Idle};
-use xa_words::{Call, Code, Xid};
+use xa_desk::laws::desks_go_on;
+use xa_desk::{Desk, Idle, Refused};
+use xa_words::{Call, Code, Op, Xid};
 
-// Why nothing may be put to the manager, a full queue aside.
-fn put_refusal(desk: &Desk, manager: u32, asynchronous: bool) -> Option<Code>
-    ensures { result ≡ put_refusal desk.now manager asynchronous }
+// The code that a refusal of a desk is answered as.
+fn code_of(why: Refused) -> Code
+    ensures { result ≡ code_of why }
 {
-    if manager == 0 || manager > desk.managers() {
-        return Some(Code::Inval);
+    match why {
+        Refused::NoSuchManager => Code::Inval,
+        Refused::Shut => Code::RmFail,
+        Refused::TooMany | Refused::Full => Code::Async,
+        Refused::Spent => Code::RmErr,
     }
-    if desk.learnt_shut(manager) {
-        return Some(Code::RmFail);
+}
+
+// Puts an asynchronous request to a manager, and answers the handle that it is kept under, or why it wasn't put.
+fn put_later<R: Wait>(rt: &R, desk: &mut Desk, manager: u32, op: Op) -> Result<u32, Code>
+    ensures refused { (c : _) → put_refusal desk.old manager true ≡ Some c → (result ≡ Err c) × (desk.new ≡ desk.old) }
+    ensures full { put_refusal desk.old manager true ≡ None → IfErr result (λ c. (c ≡ Code.Async) × (desk.new ≡ after_full desk.old manager)) }
+    ensures put { IfOk result (λ k. put_refusal desk.old manager true ≡ None) }
+    ensures kept { IfOk result (λ k. IsLeastFree desk.old.kept k × (desk.new ≡ record (submitted desk.old manager op) { kept = map.insert desk.old.kept k (next_operation desk.old.accounts manager) })) }
+    ensures handle { IfOk result (λ k. IsHandle k) }
+    ensures goes_on { GoesOn desk.old desk.new }
+    ensures tickets { LeavesTickets desk.old desk.new }
+{
+    desks_go_on();
+    if let Some(why) = desk.reach_refusal(manager) {
+        return Err(code_of(why));
     }
-    if asynchronous && !desk.carries_async(manager) {
-        return Some(Code::Async);
+    if !desk.carries_async(manager) {
+        return Err(Code::Async);
     }
-    if asynchronous && desk.free() == 0 {
-        return Some(Code::Async);
+    match desk.submit(rt, manager, op) {
+        Ok(ticket) => Ok(desk.keep(ticket)),
+        Err(why) => Err(code_of(why)),
     }
-    if desk.room(manager) == 0 {
-        return Some(Code::RmErr);
-    }
-    None
 }
 
 // Puts what is asked for to a manager, and answers the handle, or the code of a synchronous request.
 fn put<R: Wait, I: Idle>(rt: &R, desk: &mut Desk, manager: u32, asked: Asked, idle: &mut I) -> i32
     ensures puts { Puts desk.old manager asked desk.new result }
+    ensures goes_on { GoesOn desk.old desk.new }
+    ensures tickets { LeavesTickets desk.old desk.new }
     ensures idled { I.leads idle.old idle.new }
     ensures prompt { waits desk.old manager (Ok asked) ≡ false → idle.new ≡ idle.old }
 {
-    match put_refusal(desk, manager, asked.asynchronous) {
-        Some(code) => code.value(),
-        None if asked.asynchronous => match desk.submit(rt, manager, asked.op) {
-            Ok(ticket) => desk.keep(ticket) as i32,
-            // The manager's queue is full.
-            Err(_) => Code::Async.value(),
-        },
-        None => match desk.call(rt, manager, asked.op, idle) {
-            Ok(code) => code.value(),
-            Err(_) => unreachable!(),
-        },
+    desks_go_on();
+    if asked.asynchronous {
+        return match put_later(rt, desk, manager, asked.op) {
+            Ok(handle) => handle as i32,
+            Err(code) => code.value(),
+        };
+    }
+    match desk.call(rt, manager, asked.op, idle) {
+        Ok(code) => code.value(),
+        Err(why) => code_of(why).value(),
     }
 }
 
@@ -61,11 +79,12 @@ fn put_asked<R: Wait, I: Idle>(
     idle: &mut I,
 ) -> i32
     ensures calls { Calls asked desk.old manager desk.new result }
-    ensures seat { seat_of_desk desk.new ≡ seat_of_desk desk.old }
-    ensures grown { HaveGrown desk.old.accounts desk.new.accounts }
+    ensures goes_on { GoesOn desk.old desk.new }
+    ensures tickets { LeavesTickets desk.old desk.new }
     ensures idled { I.leads idle.old idle.new }
     ensures prompt { waits desk.old manager asked ≡ false → idle.new ≡ idle.old }
 {
+    desks_go_on();
     match asked {
         Ok(asked) => put(rt, desk, manager, asked, idle),
         Err(code) => code.value(),
@@ -90,8 +109,8 @@ pub fn xa_call<R: Wait, I: Idle>(
     idle: &mut I,
 ) -> i32
     ensures calls { Calls (asked_of call xid flags) desk.old manager desk.new result }
-    ensures seat { seat_of_desk desk.new ≡ seat_of_desk desk.old }
-    ensures grown { HaveGrown desk.old.accounts desk.new.accounts }
+    ensures goes_on { GoesOn desk.old desk.new }
+    ensures tickets { LeavesTickets desk.old desk.new }
     ensures idled { I.leads idle.old idle.new }
     ensures prompt { waits desk.old manager (asked_of call xid flags) ≡ false → idle.new ≡ idle.old }
 {
@@ -108,8 +127,8 @@ pub fn native<R: Wait, I: Idle>(
     idle: &mut I,
 ) -> i32
     ensures calls { Calls (native op flags) desk.old manager desk.new result }
-    ensures seat { seat_of_desk desk.new ≡ seat_of_desk desk.old }
-    ensures grown { HaveGrown desk.old.accounts desk.new.accounts }
+    ensures goes_on { GoesOn desk.old desk.new }
+    ensures tickets { LeavesTickets desk.old desk.new }
     ensures idled { I.leads idle.old idle.new }
     ensures prompt { waits desk.old manager (native op flags) ≡ false → idle.new ≡ idle.old }
 {

@@ -1,12 +1,13 @@
 //! The call of XA that collects what was put to a manager.
-ghost use Rattle.std.specs.Prelude.{◌≡◌, false, IfOk, IsTrue};
+ghost use Rattle.std.specs.Prelude.{◌≡◌, ◌≢◌, false, pos, IfOk, IsErr, IsTrue};
 ghost use Rattle.xa_words.specs.Flags.{check_flags};
 ghost use Rattle.xa_desk.specs.DeskView.{IsHandle};
+ghost use Rattle.xa_desk.specs.GoesOn.{GoesOn};
+ghost use Rattle.xa_desk.specs.Tickets.{LeavesTickets};
 ghost use Rattle.xa_switch.specs.Completing.{number_in, keeps_for, CompletesOne, CompletesAny, may_complete, CompletesIn, CompletesBy, Tells, HasCompleted, waits};
-ghost use Rattle.xa_switch.specs.Seats.{seat_of_desk};
-ghost use Rattle.xa_switch.specs.Growth.{HaveGrown};
 
 use std::sync::Wait;
+use xa_desk::laws::desks_go_on;
 use xa_desk::{AnyFault, Desk, Idle, NothingOutstanding};
 use xa_words::{Call, Code, Mode, check_flags};
 
@@ -38,10 +39,14 @@ fn complete_one<R: Wait, I: Idle>(
     idle: &mut I,
 ) -> Result<(u32, Code), Code>
     ensures completes { CompletesOne desk.old number manager nowait desk.new result }
+    ensures goes_on { GoesOn desk.old desk.new }
+    ensures tickets { LeavesTickets desk.old desk.new }
     ensures handle { IfOk result (λ r. IsHandle r.0) }
     ensures idled { I.leads idle.old idle.new }
+    ensures refused { IsErr result → idle.new ≡ idle.old }
     ensures prompt { IsTrue nowait → idle.new ≡ idle.old }
 {
+    desks_go_on();
     let Some(number) = number else {
         return Err(Code::Inval);
     };
@@ -69,10 +74,14 @@ fn complete_any<R: Wait, I: Idle>(
     idle: &mut I,
 ) -> Result<(u32, Code), Code>
     ensures completes { CompletesAny desk.old manager nowait desk.new result }
+    ensures goes_on { GoesOn desk.old desk.new }
+    ensures tickets { LeavesTickets desk.old desk.new }
     ensures handle { IfOk result (λ r. IsHandle r.0) }
     ensures idled { I.leads idle.old idle.new }
+    ensures refused { IsErr result → idle.new ≡ idle.old }
     ensures prompt { IsTrue nowait → idle.new ≡ idle.old }
 {
+    desks_go_on();
     if nowait {
         return match desk.try_complete_any(rt, manager) {
             Ok(collected) => Ok(collected),
@@ -103,10 +112,14 @@ fn complete_in<R: Wait, I: Idle>(
     idle: &mut I,
 ) -> Result<(u32, Code), Code>
     ensures completes { CompletesIn mode desk.old number manager desk.new result }
+    ensures goes_on { GoesOn desk.old desk.new }
+    ensures tickets { LeavesTickets desk.old desk.new }
     ensures handle { IfOk result (λ r. IsHandle r.0) }
     ensures idled { I.leads idle.old idle.new }
+    ensures refused { IsErr result → idle.new ≡ idle.old }
     ensures prompt { IsTrue mode.nowait → idle.new ≡ idle.old }
 {
+    desks_go_on();
     if !may_complete(desk, manager, mode.multiple) {
         return Err(Code::Inval);
     }
@@ -127,10 +140,14 @@ fn complete_by<R: Wait, I: Idle>(
     idle: &mut I,
 ) -> Result<(u32, Code), Code>
     ensures completes { CompletesBy mode desk.old number manager desk.new result }
+    ensures goes_on { GoesOn desk.old desk.new }
+    ensures tickets { LeavesTickets desk.old desk.new }
     ensures handle { IfOk result (λ r. IsHandle r.0) }
     ensures idled { I.leads idle.old idle.new }
+    ensures refused { IsErr result → idle.new ≡ idle.old }
     ensures prompt { waits mode ≡ false → idle.new ≡ idle.old }
 {
+    desks_go_on();
     match mode {
         Ok(mode) => complete_in(rt, desk, number, manager, mode, idle),
         Err(code) => Err(code),
@@ -171,9 +188,10 @@ pub fn xa_complete<R: Wait, I: Idle>(
     idle: &mut I,
 ) -> i32
     ensures completes { HasCompleted desk.old handle.old retval.old manager flags desk.new handle.new retval.new result }
-    ensures seat { seat_of_desk desk.new ≡ seat_of_desk desk.old }
-    ensures grown { HaveGrown desk.old.accounts desk.new.accounts }
+    ensures goes_on { GoesOn desk.old desk.new }
+    ensures tickets { LeavesTickets desk.old desk.new }
     ensures idled { I.leads idle.old idle.new }
+    ensures refused { result ≢ pos 0 → idle.new ≡ idle.old }
     ensures prompt { waits (check_flags Call.Complete flags) ≡ false → idle.new ≡ idle.old }
 {
     let (number, mode) = (number_in(*handle), check_flags(Call::Complete, flags));

@@ -13,7 +13,7 @@ pub struct Plan {
     pub threads: u32,
     /// How many operations of a thread may be outstanding: 1 to 32.
     pub handles: u32,
-    /// How many requests of a thread a manager's queue holds: 1 to 64.
+    /// How many requests and end marks a manager's queue holds: 1 to 64.
     pub queue: u32,
     /// How many requests a thread may put to a manager: 1 to 4,096.
     pub requests: u32,

@@ -1,5 +1,5 @@
 //! What a settled opening has.
-ghost use Rattle.std.specs.Prelude.{◌≡◌, option_map, pos};
+ghost use Rattle.std.specs.Prelude.{◌≡◌, ◌≤◌, option_map, pos, IfSome};
 ghost use Rattle.xa_tables.specs.History.{value_after};
 ghost use Rattle.xa_desk.specs.DeskView.{sent_to, collected_from};
 ghost use Rattle.xa_worker.specs.Journal.{requests};
@@ -40,8 +40,8 @@ impl Thread {
 #[derive(Drop)]
 pub(crate) struct Carried {
     pub(crate) number: u32,
-    // Of what is settled: the tables that the manager was opened with. It has no bytes: only proofs
-    // read it.
+    // Of what is settled: the tables that the manager was opened with, and what was taken. It has no bytes:
+    // only proofs read it.
     pub(crate) done: Snapshot<DoneWorker>,
     pub(crate) manager: Manager,
     pub(crate) journal: Vec<(Request, Code)>,
@@ -53,12 +53,13 @@ impl Model for Carried {
     ghost use Rattle.xa_tables.specs.History.{IsOpening};
     ghost use Rattle.xa_worker.specs.Journal.{Follows};
     ghost use Rattle.xa_switch.specs.Settling.{ManagerPart};
+    ghost use Rattle.xa_switch.specs.Closing.{taken_by};
 
     ghost Value = { ManagerPart };
 
     ghost coded = { Prim.hlevel (codes, tables_code) };
 
-    ghost view = { λ c. record { number = c.number; first = c.done.value.first; journal = c.journal.items } };
+    ghost view = { λ c. record { number = c.number; first = c.done.value.first; taken = taken_by c.done.value; journal = c.journal.items; last = c.manager.tables } };
 
     ghost invariant = { λ c. IsOpening c.done.value.first × Follows c.done.value.first c.journal.items c.manager.tables };
 }
@@ -72,7 +73,8 @@ impl Carried {
 
     // The value of a key after the journal.
     fn value(&self, key: &Key) -> Option<u64>
-        ensures { option_map pos result ≡ value_after key.now (requests self.now.journal) self.now.first }
+        ensures value { option_map pos result ≡ value_after key.now (requests self.now.journal) self.now.first }
+        ensures bounded { IfSome result (λ v. v ≤ 1000000000000) }
     {
         value_is_sum();
         self.manager.value(key)
@@ -171,11 +173,12 @@ impl Settled {
         collected_in(accounts(&self.threads, thread), manager)
     }
 
-    /// The committed value of a key at the manager: what it was declared with, and each addition in the
-    /// journal whose branch commits behind it. None for no manager, or for a key that wasn't declared
-    /// there.
+    /// The committed value of a key at the manager, from 0 to 10^12: what it was declared with, and each
+    /// addition in the journal whose branch commits after it. None for no manager, or for a key that wasn't
+    /// declared there.
     pub fn value(&self, manager: u32, key: &Key) -> Option<u64>
         ensures value { option_map pos result ≡ value self.now manager key.now }
+        ensures bounded { IfSome result (λ v. v ≤ 1000000000000) }
         ensures settled { IsSettled self.now }
     {
         match find_carried(&self.managers, manager) {

@@ -4,7 +4,7 @@ ghost use Rattle.std.specs.List.{All};
 ghost use Rattle.xa_switch.specs.Settling.{IsSettled};
 ghost use Rattle.xa_switch.specs.Seats.{desk_seats, worker_seats, ComeFromOpenings, AreOfOne, AreAll, IsWhyUnsettled};
 ghost use Rattle.xa_switch.specs.Closing.{settling, IsRoomFor};
-ghost use Rattle.xa_switch.specs.Growth.{accounts_of};
+ghost use Rattle.xa_switch.specs.Fates.{accounts_of};
 
 use crate::apart::{DeskRoom, Room, WorkerRoom, reserve_room, take_desks, take_workers};
 use crate::checks::{are_all, are_of_one};

@@ -1,12 +1,14 @@
 //! Openings of a switch.
 mod calls;
 mod settling;
+mod sharing;
 mod shut;
 mod threads;
 
 use crate::{ManagerPlan, OpenFault, Plan, open_switch};
 use std::alloc::Global;
 use std::process::Abort;
+use std::sync::Wait;
 use xa_words::Key;
 
 // A plan of so many managers, each with the one key `a` of value 100.
@@ -35,8 +37,8 @@ fn key(rt: &impl Abort, text: &[u8]) -> Key {
     Key::new(text).expect(rt, "a key")
 }
 
-fn is_bad(alloc: Global, plan: &Plan) -> bool {
-    matches!(open_switch(alloc, plan), Err(OpenFault::BadPlan))
+fn is_bad<R: Wait>(rt: &R, alloc: Global, plan: &Plan) -> bool {
+    matches!(open_switch(rt, alloc, plan), Err(OpenFault::BadPlan))
 }
 
 #[test]
@@ -45,7 +47,7 @@ fn a_plan_at_the_limits_opens(rt: HostRuntime) {
     plan.handles = 32;
     plan.queue = 64;
     plan.requests = 4096;
-    let (desks, workers) = open_switch(rt.alloc(), &plan).expect(&rt, "an opening");
+    let (desks, workers) = open_switch(&rt, rt.alloc(), &plan).expect(&rt, "an opening");
     assert_eq!(rt; (desks.len(), workers.len()), (8, 8));
     for (place, desk) in desks.iter().enumerate() {
         assert_eq!(rt; desk.thread() as usize, place.wrapping_add(1));
@@ -61,7 +63,7 @@ fn a_plan_at_the_limits_opens(rt: HostRuntime) {
         requests: 1,
         ..plan_of(&rt, rt.alloc(), 1, 1)
     };
-    let (desks, workers) = open_switch(rt.alloc(), &least).expect(&rt, "an opening");
+    let (desks, workers) = open_switch(&rt, rt.alloc(), &least).expect(&rt, "an opening");
     assert_eq!(rt; (desks.len(), workers.len()), (1, 1));
 }
 
@@ -70,13 +72,13 @@ fn a_number_outside_its_limits_is_a_bad_plan(rt: HostRuntime) {
     let alloc = rt.alloc();
     for threads in [0, 9, u32::MAX] {
         assert!(rt;
-            is_bad(alloc, &plan_of(&rt, alloc, threads, 1)),
+            is_bad(&rt, alloc, &plan_of(&rt, alloc, threads, 1)),
             "{threads} threads"
         );
     }
     for managers in [0, 9] {
         assert!(rt;
-            is_bad(alloc, &plan_of(&rt, alloc, 1, managers)),
+            is_bad(&rt, alloc, &plan_of(&rt, alloc, 1, managers)),
             "{managers} managers"
         );
     }
@@ -85,32 +87,32 @@ fn a_number_outside_its_limits_is_a_bad_plan(rt: HostRuntime) {
             handles,
             ..plan_of(&rt, alloc, 1, 1)
         };
-        assert!(rt; is_bad(alloc, &plan), "{handles} handles");
+        assert!(rt; is_bad(&rt, alloc, &plan), "{handles} handles");
     }
     for queue in [0, 65] {
         let plan = Plan {
             queue,
             ..plan_of(&rt, alloc, 1, 1)
         };
-        assert!(rt; is_bad(alloc, &plan), "a queue of {queue}");
+        assert!(rt; is_bad(&rt, alloc, &plan), "a queue of {queue}");
     }
     for requests in [0, 4097] {
         let plan = Plan {
             requests,
             ..plan_of(&rt, alloc, 1, 1)
         };
-        assert!(rt; is_bad(alloc, &plan), "{requests} requests");
+        assert!(rt; is_bad(&rt, alloc, &plan), "{requests} requests");
     }
 }
 
 #[test]
 fn a_key_twice_is_a_bad_plan(rt: HostRuntime) {
     let mut plan = plan_of(&rt, rt.alloc(), 1, 2);
-    assert!(rt; !is_bad(rt.alloc(), &plan));
+    assert!(rt; !is_bad(&rt, rt.alloc(), &plan));
     let twice = key(&rt, b"a");
     let Some(last) = plan.managers.get_mut(1) else {
         panic!(rt; "two managers");
     };
     last.accounts.push((twice, 1)).expect(&rt, "memory");
-    assert!(rt; is_bad(rt.alloc(), &plan));
+    assert!(rt; is_bad(&rt, rt.alloc(), &plan));
 }

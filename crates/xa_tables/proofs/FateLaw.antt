@@ -23,7 +23,7 @@ none_shut x (r ∷ h) T s =
     ap (λ (a : Answer). cons_option (fate_of x r.op a.1) (fates x h a.0)) (next-shut r.thread r.op T s)
     ∙ ap (λ o. cons_option o (fates x h T)) ((error_tells r.op RmFail refl).fates x) ∙ none_shut x h T s
 
--- a Shut and what is behind it
+-- a Shut and what is after it
 none_from : (x : XidName) (t : ℕ) (op : Op) (h : History) (T : Tables) → op ≡ Shut → cons_option (fate_of x op (next t op T).1) (fates x h (next t op T).0) ≡ []
 none_from x t op h T is =
     ap (λ (o : Op). cons_option (fate_of x o (next t o T).1) (fates x h (next t o T).0)) is

@@ -1,4 +1,4 @@
--- The law: what comes behind the first Shut is refused and changes nothing.
+-- The law: what comes after the first Shut is refused and changes nothing.
 use Rattle.std.specs.Prelude.{◌≡◌, ℕ, true, false, if◌then◌else◌, [], ◌∷◌, ◌++◌, map, refl}
 use Rattle.std.proofs.Common.{ap, ◌∙◌}
 use Rattle.xa_words.specs.declared.code.Code.TheVariants.{Done, RmFail}
@@ -7,7 +7,7 @@ use Rattle.xa_words.specs.declared.request.Op.TheVariants.{Shut}
 use Rattle.xa_words.specs.declared.request.Request.{Request}
 use Rattle.xa_tables.specs.Tables.{Tables}
 use Rattle.xa_tables.specs.Next.{Answer, next, shut_down}
-use Rattle.xa_tables.specs.History.{History, codes, is_shut, accepted, codes_from_shut, LateAreRefused, LateChangeNothing}
+use Rattle.xa_tables.specs.History.{History, codes, is_shut, accepted, first_shut, late, LateAreRefused, LateChangeNothing}
 use Rattle.xa_tables.proofs.Effects.{Effect, Shuts, effect_of}
 use Rattle.xa_tables.proofs.ShutLemmas.{next-shut, next-Shut, shut_op, after_accepted}
 
@@ -31,7 +31,8 @@ from_shut t op h T is s =
 pub late_are_refused : (h : History) (T : Tables) → T.shut ≡ false → LateAreRefused h T
 late_are_refused [] T s = refl
 late_are_refused (r ∷ h) T s =
-    elim (is_shut r.op) as (λ b. is_shut r.op ≡ b → (next r.thread r.op T).1 ∷ codes h (next r.thread r.op T).0 ≡ codes (if b then [] else r ∷ accepted h) T ++ (if b then Done ∷ map (λ (q : Request). RmFail) h else codes_from_shut h)) [
+    elim (is_shut r.op) as (λ b. is_shut r.op ≡ b → (next r.thread r.op T).1 ∷ codes h (next r.thread r.op T).0
+    ≡ codes (if b then [] else r ∷ accepted h) T ++ (map (λ (q : Request). Done) (if b then r ∷ [] else first_shut h) ++ map (λ (q : Request). RmFail) (if b then h else late h))) [
       | true ↦ λ e. from_shut r.thread r.op h T (shut_op r.op e) s
       | false ↦ λ e. ap (λ cs. (next r.thread r.op T).1 ∷ cs) (late_are_refused h (next r.thread r.op T).0 (stays_open r.thread r.op T e ∙ s))
     ] refl

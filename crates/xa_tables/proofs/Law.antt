@@ -105,7 +105,7 @@ works (Some (RollbackOnly reason)) some e = refl
 pub record Sound (T : Tables) : Type 0 where
   pub at_work : AreHeld standing AtWork T.associations T.states
 
--- what a step keeps and owes: behind it the state of x and its fate agree
+-- what a step keeps and owes: after it the state of x and its fate agree
 pub record Step (x : XidName) (op : Op) (f : Fate) (a : Answer) : Type 0 where
   pub sound : Sound a.0
   pub owes : standing (state_of a.0 x) ≡ standing_of (unwrap_or (fate_of x op a.1) f)

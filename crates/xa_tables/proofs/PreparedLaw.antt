@@ -120,7 +120,7 @@ outcome_law h g t x T o e n =
     let p = prepare_holds t x (tables_after h T) e in
     waits_on g t x _ (sound_after t (Prepare x) (tables_after h T) s) p.prepared p.opened n
 
--- ---- a manager is shut behind a Shut alone
+-- ---- a manager is shut after a Shut alone
 
 shut_stays_on : (h : History) (T : Tables) → T.shut ≡ true → (tables_after h T).shut ≡ true
 shut_stays_on [] T s = s

@@ -25,7 +25,7 @@ pub next-Shut : (t : ℕ) (T : Tables) → T.shut ≡ false → next t Shut T �
 unfolding next
 next-Shut t T s = ap (λ b. if b then (T, RmFail) else next_open t Shut T) s
 
--- what a Shut leaves is left by all behind it
+-- what a Shut leaves is left by all after it
 behind_shut : {A : Type 0} (view : Tables → A) → ((T : Tables) → view (shut_down T) ≡ view T) → (t : ℕ) (op : Op) (h : History) (T : Tables) → op ≡ Shut → view (tables_after h (next t op T).0) ≡ view T
 behind_shut view keeps t op h T is =
     elim (T.shut) as (λ b. T.shut ≡ b → view (tables_after h (next t op T).0) ≡ view T) [

@@ -38,7 +38,7 @@ due (Some p) later = if later p.0 then p.1 else pos 0
 abbrev before : Op → Code → (XidName → Bool) → XidName → Bool
 before op c later x = or_later (ending (fate_of x op c)) (later x)
 
--- what a request moves of the value of k, and what is due behind it
+-- what a request moves of the value of k, and what is due after it
 record ValueStep (k : List ℕ) (p : Held) (op : Op) (l : Option Association) (T : Tables) (a : Answer) : Type 0 where
   held : Held
   pending : IsPending k held a.0.sums
@@ -234,7 +234,7 @@ none_due : (p : Held) → due p (λ x. false) ≡ pos 0
 none_due None = refl
 none_due (Some p) = refl
 
--- the values behind H, with what is due to the branch that has touched the key
+-- the values after H, with what is due to the branch that has touched the key
 values_behind : (H : History) (k : List ℕ) (p : Held) (T : Tables) → Sound T → IsPending k p T.sums
     → map.get (tables_after H T).values k ≡ option_map (λ v. v +ℤ (due p (λ x. commits x (coded H T)) +ℤ added_in k H T)) (map.get T.values k)
 values_behind [] k p T s h = plus_zero _ ∙ ap (λ d. option_map (λ v. v +ℤ (d +ℤ pos 0)) (map.get T.values k)) (sym (none_due p))

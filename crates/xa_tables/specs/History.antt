@@ -24,17 +24,17 @@ History = List Request
 abbrev pub of_thread : ℕ → History → History
 of_thread t h = filter (λ r. r.thread == t) h
 
--- the tables behind a history that begins with the tables T
+-- the tables after a history that begins with the tables T
 abbrev pub tables_after : History → Tables → Tables
 tables_after [] T = T
 tables_after (r ∷ h) T = tables_after h (next r.thread r.op T).0
 
--- what a history is followed by begins with the tables behind it
+-- what a history is followed by begins with the tables after it
 pub tables_after-append : (h g : History) (T : Tables) → tables_after (h ++ g) T ≡ tables_after g (tables_after h T)
 tables_after-append [] g T = refl
 tables_after-append (r ∷ h) g T = tables_after-append h g (next r.thread r.op T).0
 
--- each request with its code: what `next` answers behind the requests before it
+-- each request with its code: what `next` answers after the requests before it
 abbrev pub coded : History → Tables → List (Request × Code)
 coded [] T = []
 coded (r ∷ h) T = (r, (next r.thread r.op T).1) ∷ coded h (next r.thread r.op T).0
@@ -62,10 +62,21 @@ abbrev pub accepted : History → History
 accepted [] = []
 accepted (r ∷ h) = if is_shut r.op then [] else r ∷ accepted h
 
--- the requests behind it
+-- the first Shut itself, where there is one
+abbrev pub first_shut : History → History
+first_shut [] = []
+first_shut (r ∷ h) = if is_shut r.op then r ∷ [] else first_shut h
+
+-- the requests after it
 abbrev pub late : History → History
 late [] = []
 late (r ∷ h) = if is_shut r.op then h else late h
+
+-- it parts the history into them
+pub parted : (h : History) → h ≡ accepted h ++ (first_shut h ++ late h)
+parted [] = refl
+parted (r ∷ h) =
+    elim (is_shut r.op) as (λ b. r ∷ h ≡ (if b then [] else r ∷ accepted h) ++ ((if b then r ∷ [] else first_shut h) ++ (if b then h else late h))) [ true ↦ refl | false ↦ λ i. r ∷ parted h i ]
 
 -- what a worker carried out, by its journal of requests and codes
 abbrev pub carried_out : List (Request × Code) → History
@@ -252,15 +263,10 @@ ExistsWhileUnfinished x h T = exists (tables_after h T) x ≡ is_unfinished (fat
 abbrev pub ValueIsSum : List ℕ → History → Tables → Type 0
 ValueIsSum k h T = finmap.get (tables_after h T).values k ≡ value_after k h T
 
--- the codes from the first Shut on: it is carried out, and every request behind it is refused
-abbrev pub codes_from_shut : History → List Code
-codes_from_shut [] = []
-codes_from_shut (r ∷ h) = if is_shut r.op then Done ∷ map (λ q. RmFail) h else codes_from_shut h
-
--- the accepted requests have the codes that they have alone, and the late ones are refused
+-- the accepted requests have the codes that they have alone, the first Shut is carried out, and the late ones are refused
 abbrev pub LateAreRefused : History → Tables → Type 0
-LateAreRefused h T = codes h T ≡ codes (accepted h) T ++ codes_from_shut h
+LateAreRefused h T = codes h T ≡ codes (accepted h) T ++ (map (λ r. Done) (first_shut h) ++ map (λ r. RmFail) (late h))
 
--- but for being shut, the tables are those behind the accepted requests
+-- but for being shut, the tables are those after the accepted requests
 abbrev pub LateChangeNothing : History → Tables → Type 0
 LateChangeNothing h T = shut_down (tables_after h T) ≡ shut_down (tables_after (accepted h) T)

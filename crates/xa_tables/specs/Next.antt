@@ -20,7 +20,7 @@ use Rattle.xa_tables.specs.declared.state.Association.{Association}
 use Rattle.xa_tables.specs.Reasons.{reason_code}
 use Rattle.xa_tables.specs.Tables.{Tables, has_opened, association_of, state_of, exists, is_somebody_associated, is_declared, sum_of, has_touched, has_other_touched, is_broken, settled, sums_without}
 
--- the tables behind a request, and its code
+-- the tables after a request, and its code
 abbrev pub Answer : Type 0
 Answer = Tables × Code
 

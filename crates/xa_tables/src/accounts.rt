@@ -1,5 +1,5 @@
 //! The declared keys: their committed values, and what branches have added.
-ghost use Rattle.std.specs.Prelude.{◌≡◌, ◌≢◌, ◌+◌, ◌<◌, ◌≤◌, ◌^◌, ◌+ℤ◌, ◌≤ℤ◌, IfOk, is_some, true, false, option_map, map, nat_le, pos};
+ghost use Rattle.std.specs.Prelude.{◌≡◌, ◌≢◌, ◌+◌, ◌<◌, ◌≤◌, ◌^◌, ◌+ℤ◌, ◌≤ℤ◌, IfOk, IfSome, is_some, true, false, option_map, map, nat_le, pos};
 ghost use Rattle.std.specs.List.{list_any, list_all};
 ghost use Rattle.std.specs.FinMap as finmap;
 ghost use Rattle.xa_words.specs.Delta.{IsDelta};
@@ -76,7 +76,8 @@ impl Accounts {
 
     /// The committed value of a key, and `None` where it isn't declared.
     pub(crate) fn value(&self, key: &Key) -> Option<u64>
-        ensures { option_map pos result ≡ finmap.get self.now.values key.now }
+        ensures value { option_map pos result ≡ finmap.get self.now.values key.now }
+        ensures bounded { IfSome result (λ v. v ≤ 1000000000000) }
     {
         let place = self.places.get(key)?;
         Some(committed(&self.accounts[place]))

@@ -1,5 +1,5 @@
 //! The tables of a manager, a group of rules at a time.
-ghost use Rattle.std.specs.Prelude.{◌≡◌, ◌≤◌, ◌<◌, ◌^◌, IfOk, true, option_map, pos};
+ghost use Rattle.std.specs.Prelude.{◌≡◌, ◌≤◌, ◌<◌, ◌^◌, IfOk, IfSome, true, option_map, pos};
 ghost use Rattle.std.specs.FinMap as finmap;
 ghost use Rattle.xa_tables.specs.Next.{shut_down, open_rm, close_rm, start_fresh, start_join, start_resume, add, end, prepare, commit_one, commit_two, rollback, gone};
 ghost use Rattle.xa_tables.specs.Tables.{has_opened};
@@ -61,7 +61,8 @@ impl BranchTables {
 
     /// The committed value of a key.
     pub(crate) fn value(&self, key: &Key) -> Option<u64>
-        ensures { option_map pos result ≡ finmap.get self.now.tables.values key.now }
+        ensures value { option_map pos result ≡ finmap.get self.now.tables.values key.now }
+        ensures bounded { IfSome result (λ v. v ≤ 1000000000000) }
     {
         self.accounts.value(key)
     }

@@ -4,7 +4,7 @@ ghost use Rattle.xa_words.specs.Xid.{XidName};
 ghost use Rattle.xa_words.specs.declared.code.Code.TheVariants.{Done, RbIntegrity};
 ghost use Rattle.xa_words.specs.declared.request.Op.TheVariants.{Prepare};
 ghost use Rattle.xa_tables.specs.Tables.{Tables, is_somebody_associated};
-ghost use Rattle.xa_tables.specs.History.{History, IsOpening, PreparedIsInDoubt, ExistsWhileUnfinished, ValueIsSum, LateAreRefused, LateChangeNothing, tables_after, coded, fate, fate_in, is_rolled_back, Absent, Live, InDoubt, Committed, ReadOnly, RolledBack};
+ghost use Rattle.xa_tables.specs.History.{History, IsOpening, PreparedIsInDoubt, ExistsWhileUnfinished, ValueIsSum, LateAreRefused, LateChangeNothing, tables_after, coded, accepted, first_shut, late, fate, fate_in, is_rolled_back, Absent, Live, InDoubt, Committed, ReadOnly, RolledBack};
 ghost use Rattle.xa_tables.specs.Next.{next};
 ghost use Rattle.xa_tables.specs.Prepared.{NamesNowhere, LeavesWaiting, StaysAsItWas, IsPrepared, StaysPrepared, AwaitsTheOutcome, has_shut};
 ghost use Rattle.xa_tables.specs.Worked.{branch, worked, voted, transferred, undone, overdrawn, unchanged, failed, begun_again};
@@ -25,9 +25,10 @@ pub fn value_is_sum()
     ensures { (h : History) (k : List ℕ) (T : Tables) → IsOpening T → ValueIsSum k h T }
 {}
 
-/// Behind the first Shut every request is refused with XAER_RMFAIL and changes nothing; what stands
-/// before it goes as if nothing came behind.
+/// The first Shut parts a history into the accepted requests, itself and the late ones. A late request is
+/// refused with XAER_RMFAIL and changes nothing; the accepted ones go as if nothing came after them.
 pub fn late_requests_are_refused()
+    ensures parted { (h : History) → h ≡ accepted h ++ (first_shut h ++ late h) }
     ensures codes { (h : History) (T : Tables) → IsOpening T → LateAreRefused h T }
     ensures tables { (h : History) (T : Tables) → IsOpening T → LateChangeNothing h T }
 {}

@@ -1,5 +1,5 @@
 //! One manager.
-ghost use Rattle.std.specs.Prelude.{◌≡◌, ◌↔◌, ◌≤◌, ◌<◌, ◌+◌, ◌^◌, IfOk, OnOk, IsErrOf, true, false, option_map, pos};
+ghost use Rattle.std.specs.Prelude.{◌≡◌, ◌↔◌, ◌≤◌, ◌<◌, ◌+◌, ◌^◌, IfOk, IfSome, OnOk, IsErrOf, true, false, option_map, pos};
 ghost use Rattle.std.specs.FinMap as finmap;
 ghost use Rattle.xa_tables.specs.Accounts.{are_accounts};
 ghost use Rattle.xa_tables.specs.Managers.{Keeps, opening};
@@ -87,7 +87,8 @@ impl Manager {
 
     /// The committed value of a key, and `None` for a key that wasn't declared.
     pub fn value(&self, key: &Key) -> Option<u64>
-        ensures { option_map pos result ≡ finmap.get self.now.tables.values key.now }
+        ensures value { option_map pos result ≡ finmap.get self.now.tables.values key.now }
+        ensures bounded { IfSome result (λ v. v ≤ 1000000000000) }
     {
         self.inner.value(key)
     }

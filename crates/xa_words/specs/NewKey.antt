@@ -3,7 +3,7 @@ use Rattle.std.specs.Prelude.{◌≡◌, ℕ, ◌-◌, ◌≤◌, List, length, 
 use Rattle.std.proofs.Common.{arith, length-take-le, take-append-drop}
 use Rattle.xa_words.specs.Key.{is_key, padded_key}
 
--- the first n bytes are a key, and zeros stand behind them up to 16
+-- the first n bytes are a key, and zeros stand after them up to 16
 pub record IsPaddedKey (n : ℕ) (bytes : List ℕ) : Type 0 where
   pub valid : IsTrue (is_key (take n bytes))
   pub fits : n ≤ 16

@@ -2,7 +2,7 @@
 use Rattle.std.specs.Prelude.{◌≡◌, ℕ, ◌-◌, ◌≤◌, List, ◌++◌, length, take, drop, replicate, refl}
 use Rattle.std.proofs.Common.{arith, length-take-le, take-append-drop}
 
--- the gtrid's g bytes, and zeros behind them up to 64
+-- the gtrid's g bytes, and zeros after them up to 64
 pub record IsPaddedTran (g : ℕ) (bytes : List ℕ) : Type 0 where
   pub gtrid_nonempty : 1 ≤ g
   pub gtrid_fits : g ≤ 64

@@ -3,7 +3,7 @@ use Rattle.std.specs.Prelude.{◌≡◌, ℕ, ◌+◌, ◌-◌, ◌≤◌, List,
 use Rattle.std.proofs.Common.{arith, length-drop, length-take-le, take-append-drop}
 use Rattle.std.proofs.lemmas.List.{drop-drop}
 
--- the gtrid's g bytes stand before the bqual's b bytes, and zeros behind them up to 128
+-- the gtrid's g bytes stand before the bqual's b bytes, and zeros after them up to 128
 pub record IsPaddedXid (g b : ℕ) (bytes : List ℕ) : Type 0 where
   pub gtrid_nonempty : 1 ≤ g
   pub gtrid_fits : g ≤ 64

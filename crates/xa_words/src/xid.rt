@@ -137,7 +137,7 @@ fn is_part(bytes: &[u8]) -> bool
     (1..=Xid::MAX_PART_LEN).contains(&bytes.len())
 }
 
-// The two parts, one behind the other, and zeros up to the end.
+// The two parts, one after the other, and zeros up to the end.
 fn joined(gtrid: &[u8], bqual: &[u8]) -> [u8; 128]
     requires gtrid { length gtrid.now ≤ 64 }
     requires bqual { length bqual.now ≤ 64 }

@@ -3,3 +3,5 @@ pub mod Parcels
 pub mod Journals
 pub mod Ties
 pub mod Orders
+pub mod Seated
+pub mod Kept

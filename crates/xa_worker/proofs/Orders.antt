@@ -1,24 +1,13 @@
 -- Of each thread: what the journal has, and what was taken of its sender.
-use Rattle.std.proofs.Common.{◌≡◌, ℕ, ◌+◌, ◌==◌, true, false, cond, List, [], ◌∷◌, map, Option, Some, None, refl, sym, ap, ◌∙◌, arith}
+use Rattle.std.proofs.Common.{◌≡◌, ℕ, ◌+◌, ◌==◌, cond, List, [], ◌∷◌, map, refl, sym, ap, ◌∙◌, arith}
 use Rattle.xa_words.specs.declared.request.Request.{Request}
 use Rattle.xa_tables.specs.History.{of_thread}
-use Rattle.xa_lane.specs.declared.parcel.Parcel.{Parcel}
-use Rattle.xa_lane.specs.Order.{of_sender}
-use Rattle.xa_lane.specs.Ends.{somes}
-use Rattle.xa_lane.specs.Closing.{kept, items_in, left_of}
+use Rattle.xa_lane.specs.Closing.{items_in, left_of}
+use Rattle.xa_lane.proofs.Parcels.{left_is}
 use Rattle.xa_worker.specs.Journal.{Entry, requests}
 use Rattle.xa_worker.specs.Workers.{of_sender_thread, of_own_thread}
 use Rattle.xa_worker.specs.Done.{Served, IsServed, IsOrdered}
 use Rattle.xa_worker.proofs.Lanes.{same_eqb}
-
-module _ {T : Type 0} where
-  left_kept : (p q : ℕ) (i : Option T) (r : List (ℕ × T)) (ys : List (Option T)) → left_of p r ≡ somes ys → left_of p (kept q i r) ≡ somes (cond (q == p) (i ∷ ys) ys)
-  left_kept p q (Some y) r ys e = elim (q == p) as (λ b. cond b (y ∷ left_of p r) (left_of p r) ≡ somes (cond b (Some y ∷ ys) ys)) [ true ↦ ap (λ l. y ∷ l) e | false ↦ e ]
-  left_kept p q None r ys e = elim (q == p) as (λ b. left_of p r ≡ somes (cond b (None ∷ ys) ys)) [ true ↦ e | false ↦ e ]
-
-  left_is : (p : ℕ) (taken : List (Parcel T)) → left_of p (items_in taken) ≡ somes (of_sender p taken)
-  left_is p [] = refl
-  left_is p (x ∷ xs) = left_kept p x.from x.item (items_in xs) (of_sender p xs) (left_is p xs)
 
 left_numbered : (s : ℕ) (xs : List (ℕ × Request)) → left_of (s + 1) (map of_sender_thread xs) ≡ left_of s xs
 left_numbered s [] = refl

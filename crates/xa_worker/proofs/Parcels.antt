@@ -8,24 +8,11 @@ use Rattle.xa_words.specs.declared.request.Request.{Request}
 use Rattle.xa_lane.specs.declared.parcel.Parcel.{Parcel}
 use Rattle.xa_lane.specs.Order.{of_sender}
 use Rattle.xa_lane.specs.Ends.{parcel, has_mark, has_ended}
-use Rattle.xa_lane.specs.Closing.{kept, items_in}
+use Rattle.xa_lane.specs.Closing.{items_in}
+use Rattle.xa_lane.proofs.Parcels.{of_sender-append, items_in-append}
 use Rattle.xa_worker.specs.Workers.{asked, of_sender_thread}
 
 module _ {T : Type 0} where
-  kept-append : (p : ℕ) (i : Option T) (xs ys : List (ℕ × T)) → kept p i (xs ++ ys) ≡ kept p i xs ++ ys
-  kept-append p (Some y) xs ys = refl
-  kept-append p None xs ys = refl
-
-  items_in-append : (xs ys : List (Parcel T)) → items_in (xs ++ ys) ≡ items_in xs ++ items_in ys
-  items_in-append [] ys = refl
-  items_in-append (x ∷ xs) ys = ap (kept x.from x.item) (items_in-append xs ys) ∙ kept-append x.from x.item (items_in xs) (items_in ys)
-
-  of_sender-append : (p : ℕ) (xs ys : List (Parcel T)) → of_sender p (xs ++ ys) ≡ of_sender p xs ++ of_sender p ys
-  of_sender-append p [] ys = refl
-  of_sender-append p (x ∷ xs) ys =
-      elim (x.from == p) as (λ b. cond b (x.item ∷ of_sender p (xs ++ ys)) (of_sender p (xs ++ ys)) ≡ cond b (x.item ∷ of_sender p xs) (of_sender p xs) ++ of_sender p ys)
-      [ true ↦ ap (λ l. x.item ∷ l) (of_sender-append p xs ys) | false ↦ of_sender-append p xs ys ]
-
   has_mark-append : (xs ys : List (Option T)) → has_mark (xs ++ ys) ≡ (has_mark xs || has_mark ys)
   has_mark-append [] ys = refl
   has_mark-append (Some y ∷ xs) ys = has_mark-append xs ys

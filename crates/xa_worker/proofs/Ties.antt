@@ -8,14 +8,16 @@ use Rattle.xa_tables.specs.Managers.{Managed}
 use Rattle.xa_lane.specs.declared.parcel.Taken.TheVariants.{Item, EndOf, Empty as Nothing}
 use Rattle.xa_lane.specs.Ends.{Took}
 use Rattle.xa_worker.specs.Journal.{Entry, entry_next, applied, completion_of, answers}
-use Rattle.xa_worker.specs.Outgoing.{Answering, Outgoing, SameLanes, plain, sent_at, waiting_at, put_to}
+use Rattle.xa_lane.specs.Senders.{but_full, bare, sent_at}
+use Rattle.xa_lane.proofs.Senders.{nothing_sent}
+use Rattle.xa_worker.specs.Outgoing.{Answering, Outgoing, SameLanes, Puts, flushed, waiting_at, put_to}
 use Rattle.xa_worker.specs.Workers.{Working, Asking, IsTied, IsUnfit, IsHeldUnfit, IsFinished, SameWorker, Extends, asked, of_own_thread, in_hand, new_worker}
 use Rattle.xa_worker.specs.declared.step.Step.{Step}
 use Rattle.xa_worker.specs.declared.step.Step.TheVariants.{Did, Late, EndSeen, Empty, Blocked}
 use Rattle.xa_worker.specs.Steps.{EntersOne, Waits, StillHolds, Holds, Stepped, step_of}
 use Rattle.xa_worker.specs.Done.{served, IsServed}
 use Rattle.xa_worker.proofs.Journals.{follows_more, follows_none, answers-more}
-use Rattle.xa_worker.proofs.Lanes.{same_eqb, length-lanes, sent_none, sent_plain}
+use Rattle.xa_worker.proofs.Lanes.{same_eqb, length-lanes, lanes-flushed, none-flushed, lanes-puts, put-puts, sent_alike}
 use Rattle.xa_worker.proofs.Parcels.{asked_end, asked_item}
 
 pub tied_new : (number : ℕ) (manager : Managed) (receiver : Asking) (senders : List Answering) → receiver.senders ≡ manager.threads → length senders ≡ manager.threads → receiver.taken ≡ []
@@ -23,7 +25,7 @@ pub tied_new : (number : ℕ) (manager : Managed) (receiver : Asking) (senders :
 tied_new number manager receiver senders threads lanes taken none = record {
   follows = follows_none manager.tables;
   taken = ap asked taken;
-  sent = λ k. append-nil (sent_at k senders) ∙ sent_none k senders none;
+  sent = λ k. append-nil (sent_at k senders) ∙ nothing_sent k senders none;
   held = tt;
   senders = threads;
   lanes = lanes;
@@ -98,6 +100,17 @@ module _ (w : Working) (o : Outgoing) (same : SameLanes w.out.senders o.senders)
             lanes = length-lanes o.senders p.senders lanes ∙ length-lanes w.out.senders o.senders same ∙ t.lanes ∙ sym threads;
           }
 
+-- the completion that waited was sent, and then a request was taken and carried out
+pub tied_carried : (w : Working) (o : Outgoing) (r' : Asking) (s : ℕ) (r : Request) (m : Managed) (p : Outgoing) (journal : List Entry) → IsTied w → o ≡ flushed w.out → ((k : ℕ) → put_to k o ≡ put_to k w.out) → w.held ≡ None
+    → Took w.receiver (Item s r) r' → r.thread ≡ s + 1 → m ≡ applied r w.manager → journal ≡ w.journal ++ entry_next r w.manager.tables ∷ [] → Puts o (r.thread - 1) (completion_of w.number (entry_next r w.manager.tables)) p
+    → IsTied (record w { manager = m; receiver = r'; out = p; journal = journal })
+tied_carried w o r' s r m p journal t sent put none took thread carried entered puts =
+    let lanes : SameLanes w.out.senders o.senders = ap (λ (x : Outgoing). map bare x.senders) sent ∙ lanes-flushed w.out in
+    let count : length o.senders ≡ length w.out.senders = length-lanes w.out.senders o.senders lanes in
+    let idle : o.waiting ≡ None = ap (λ (x : Outgoing). x.waiting) sent ∙ none-flushed w.out in
+    let place : r.thread - 1 < length o.senders = omega (arith, count, t.lanes, t.senders, took.0, thread) in
+    tied_enter w o lanes put t r' s r none took m p journal thread carried entered (lanes-puts o _ _ p puts) (put-puts o _ _ p place idle puts)
+
 pub none_of : {X : Type 0} (h : Option X) → is_some h ≡ false → h ≡ None
 none_of None e = refl
 none_of (Some x) e = absurd (cc)
@@ -107,14 +120,14 @@ some_of None e = absurd (cc)
 some_of (Some x) e = (x, refl)
 
 -- a worker that has finished, and has put its end marks
-pub served_by : (w : Working) (ends : List Answering) → IsTied w → IsFinished w → map plain ends ≡ map plain w.out.senders → IsServed (served w.number w.first w.manager w.receiver ends w.journal)
+pub served_by : (w : Working) (ends : List Answering) → IsTied w → IsFinished w → map but_full ends ≡ map but_full w.out.senders → IsServed (served w.number w.first w.manager w.receiver ends w.journal)
 served_by w ends t f e = record {
   follows = t.follows;
   taken = t.taken ∙ ap (λ h. map of_own_thread w.journal ++ in_hand h) f.held ∙ append-nil (map of_own_thread w.journal);
-  sent = λ k. sent_plain k w.out.senders ends e ∙ sym (ap (λ h. sent_at k w.out.senders ++ waiting_at k h) f.waiting ∙ append-nil (sent_at k w.out.senders)) ∙ t.sent k;
+  sent = λ k. sent_alike k w.out.senders ends e ∙ sym (ap (λ h. sent_at k w.out.senders ++ waiting_at k h) f.waiting ∙ append-nil (sent_at k w.out.senders)) ∙ t.sent k;
   ended = f.ended;
   senders = t.senders;
-  lanes = sym (length-map ends plain) ∙ ap length e ∙ length-map w.out.senders plain ∙ t.lanes;
+  lanes = sym (length-map ends but_full) ∙ ap length e ∙ length-map w.out.senders but_full ∙ t.lanes;
 }
 
 -- a request is late where the manager was shut before it

@@ -4,8 +4,9 @@ use Rattle.xa_tables.specs.Tables.{Tables}
 use Rattle.xa_tables.specs.Managers.{Managed}
 use Rattle.xa_tables.specs.History.{of_thread}
 use Rattle.xa_lane.specs.Ends.{SameReceiver, received, has_ended}
+use Rattle.xa_lane.specs.Senders.{sent_at}
 use Rattle.xa_worker.specs.Journal.{Entry, Follows, requests, answers}
-use Rattle.xa_worker.specs.Outgoing.{Answering, SameLanes, sent_at}
+use Rattle.xa_worker.specs.Outgoing.{Answering, SameLanes}
 use Rattle.xa_worker.specs.Workers.{Working, Asking, Extends, asked, of_own_thread}
 
 -- a worker that has run: its manager's number, the tables that the manager was given with, the manager, the lane of requests, the ends of the lanes of completions, and the journal
@@ -23,7 +24,7 @@ served number first manager receiver ends journal = record { number = number; fi
 
 -- what holds of every worker that has run
 pub record IsServed (d : Served) : Type 0 where
-  -- from the tables at first on the journal has the codes of its places, and the manager the tables behind it
+  -- from the tables at first on the journal has the codes of its places, and the manager the tables after it
   pub follows : Follows d.first d.journal d.manager.tables
   -- the journal's requests are what was taken, in that order, each of its sender's thread
   pub taken : asked d.receiver.taken ≡ map of_own_thread d.journal

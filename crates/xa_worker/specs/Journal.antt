@@ -20,7 +20,7 @@ entry r c = (r, c)
 abbrev pub entry_next : Request → Tables → Entry
 entry_next r T = entry r (next r.thread r.op T).1
 
--- the tables behind it
+-- the tables after it
 abbrev pub tables_next : Request → Tables → Tables
 tables_next r T = (next r.thread r.op T).0
 
@@ -36,7 +36,7 @@ requests journal = map (λ e. e.0) journal
 abbrev pub codes_in : List Entry → List Code
 codes_in journal = map (λ e. e.1) journal
 
--- behind the tables `first` each entry has the code of its place, and `now` are the tables behind them all
+-- after the tables `first` each entry has the code of its place, and `now` are the tables after them all
 pub record Follows (first : Tables) (journal : List Entry) (now : Tables) : Type 0 where
   pub codes_then : codes_in journal ≡ codes (requests journal) first
   pub tables_then : now ≡ tables_after (requests journal) first

@@ -33,7 +33,7 @@ EntersOne w w' = (s : ℕ) × (r : Request) × Enters s r w w'
 abbrev pub SeesEnd : Working → Working → Type 0
 SeesEnd w w' = (s : ℕ) × (w.held ≡ None) × Took w.receiver (EndOf s) w'.receiver × (w' ≡ record w { receiver = w'.receiver; out = flushed w.out })
 
--- nothing was there, and nothing but an earlier completion was sent
+-- a take found nothing there, and nothing but an earlier completion was sent
 abbrev pub FindsNothing : Working → Working → Type 0
 FindsNothing w w' = (w.held ≡ None) × Took w.receiver Nothing w'.receiver × (w' ≡ record w { receiver = w'.receiver; out = flushed w.out })
 

@@ -4,7 +4,6 @@ use Rattle.xa_words.specs.declared.request.Request.{Request}
 use Rattle.xa_tables.specs.Tables.{Tables}
 use Rattle.xa_tables.specs.Managers.{Managed, opening}
 use Rattle.xa_lane.specs.declared.parcel.Parcel.{Parcel}
-use Rattle.xa_lane.specs.Rings.{RingId}
 use Rattle.xa_lane.specs.Ends.{Receiving, SameReceiver, has_ended}
 use Rattle.xa_lane.specs.Closing.{items_in}
 use Rattle.xa_worker.specs.Journal.{Entry, Follows, answers}
@@ -22,7 +21,7 @@ first_tables (p ∷ rest) = p.1.tables
 
 -- the lane that a worker takes requests from
 abbrev pub Asking : Type 0
-Asking = Receiving (List RingId) Request
+Asking = Receiving Request
 
 -- a worker: its manager's number, the tables that the manager was given with, the manager, the lane of requests, the lanes of completions, the journal, and a request that was taken and can't be carried out, with its sender's number
 pub record Working : Type 0 where
@@ -62,7 +61,7 @@ IsHeldUnfit (Some p) room = IsUnfit p.0 p.1 room
 
 -- what holds of every worker
 pub record IsTied (w : Working) : Type 0 where
-  -- from the tables at first on the journal has the codes of its places, and the manager the tables behind it
+  -- from the tables at first on the journal has the codes of its places, and the manager the tables after it
   pub follows : Follows w.first w.journal w.manager.tables
   -- the journal's requests, then one that is held, are what was taken, in that order, and each in the journal is of its sender's thread
   pub taken : asked w.receiver.taken ≡ map of_own_thread w.journal ++ in_hand w.held

@@ -5,7 +5,7 @@ ghost use Rattle.xa_worker.specs.Workers.{first_tables};
 
 use http_server::Log;
 use std::marker::Model;
-use xa_lane::{Ended, RingReceiver};
+use xa_lane::{Ended, Receiver};
 use xa_tables::Manager;
 use xa_words::{Code, Completion, Request};
 
@@ -16,7 +16,7 @@ pub struct DoneWorker {
     // The manager as it was given, with its number. It has no bytes: only proofs read it.
     given: Log<u32, Manager>,
     manager: Manager,
-    receiver: RingReceiver<Request>,
+    receiver: Receiver<Request>,
     ends: Vec<Ended<Completion>>,
     journal: Vec<(Request, Code)>,
 }
@@ -42,7 +42,7 @@ impl Model for DoneWorker {
 pub struct Apart {
     pub manager: Manager,
     /// The end of the lane of requests.
-    pub receiver: RingReceiver<Request>,
+    pub receiver: Receiver<Request>,
     /// The ends of the lanes of completions, by rising thread.
     pub ends: Vec<Ended<Completion>>,
     /// The requests in the order in which they were taken, each with its code.
@@ -54,7 +54,7 @@ impl DoneWorker {
         number: u32,
         given: Log<u32, Manager>,
         manager: Manager,
-        receiver: RingReceiver<Request>,
+        receiver: Receiver<Request>,
         ends: Vec<Ended<Completion>>,
         journal: Vec<(Request, Code)>,
     ) -> DoneWorker

@@ -1,6 +1,7 @@
 //! Where a worker puts completions.
 ghost use Rattle.std.specs.Prelude.{◌≡◌, ◌↔◌, ◌<◌, ◌≤◌, ℕ, [], length, map, None, IsTrue, IsSome, MatchBool, vec_capacity};
-ghost use Rattle.xa_worker.specs.Outgoing.{FullAt, StillFull, Puts, with_sent, with_full, flushed, put_to, plain};
+ghost use Rattle.xa_lane.specs.Senders.{at_place, with_item, with_full, but_full};
+ghost use Rattle.xa_worker.specs.Outgoing.{StillFull, Puts, flushed, put_to};
 
 use crossbeam_utils::Backoff;
 use std::marker::Model;
@@ -37,7 +38,7 @@ fn offer_at<R: Wait>(
 ) -> bool
     requires { place < length senders.old.items }
     ensures len { length senders.new.items ≡ length senders.old.items }
-    ensures offered { MatchBool result (senders.new.items ≡ with_sent place completion senders.old.items) (FullAt place senders.old.items × (senders.new.items ≡ with_full place senders.old.items)) }
+    ensures offered { MatchBool result (senders.new.items ≡ at_place place (with_item completion) senders.old.items) (senders.new.items ≡ at_place place with_full senders.old.items) }
 {
     match senders[place].offer(rt, completion) {
         Ok(()) => true,
@@ -104,7 +105,7 @@ impl Outbox {
 
 // Puts the end mark of one lane.
 fn end_one<R: Wait>(rt: &R, mut sender: Sender<Completion>) -> Ended<Completion>
-    ensures { plain result ≡ plain sender }
+    ensures { but_full result ≡ but_full sender }
 {
     let backoff = Backoff::new();
     for _ in rt.forever() {
@@ -125,7 +126,7 @@ pub(crate) fn end_all<R: Wait>(
 ) -> Vec<Ended<Completion>>
     requires none { ends.items ≡ [] }
     requires room { length senders.items ≤ vec_capacity ends }
-    ensures { map plain result.items ≡ map plain senders.items }
+    ensures { map but_full result.items ≡ map but_full senders.items }
 {
     for sender in senders {
         let end = end_one(rt, sender);

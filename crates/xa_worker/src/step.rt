@@ -5,7 +5,7 @@
 pub enum Step {
     /// One request was taken and carried out, be it the first Shut.
     Did,
-    /// One request was taken that stands behind a Shut: it changed no table, and is answered
+    /// One request was taken that stands after a Shut: it changed no table, and is answered
     /// `XAER_RMFAIL`.
     Late,
     /// One thread's end mark was taken.

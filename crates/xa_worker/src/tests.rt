@@ -6,7 +6,7 @@ use crate::{Pace, Step, Worker};
 use opened::opened;
 use std::process::Abort;
 use std::sync::Wait;
-use xa_lane::{Receiver, RingSender, Taken};
+use xa_lane::{Receiver, Sender, Taken};
 use xa_words::{Code, Completion, Delta, EndHow, Key, Op, Request, StartHow, Xid};
 
 // Counts what it is called before.
@@ -22,7 +22,7 @@ impl Pace for Counting {
 }
 
 // Sends a thread's requests, numbered from 0.
-fn ask<R: Wait + Abort>(rt: &R, sender: &mut RingSender<Request>, thread: u32, ops: &[Op]) {
+fn ask<R: Wait + Abort>(rt: &R, sender: &mut Sender<Request>, thread: u32, ops: &[Op]) {
     let mut number: u32 = 0;
     for op in ops {
         let request = Request {
@@ -56,10 +56,10 @@ fn collect<R: Wait + Abort>(rt: &R, answers: &mut Receiver<Completion>, number: 
 }
 
 /// A completion that finds its lane full blocks the worker until there is a place. A Shut is carried
-/// out, and the request behind it is late.
+/// out, and the request after it is late.
 #[test]
 fn each_answer_of_a_step(rt: HostRuntime) {
-    let (mut worker, mut asks, mut answers) = opened(rt.alloc(), &[], 1, 8, 1).expect(
+    let (mut worker, mut asks, mut answers) = opened(&rt, rt.alloc(), &[], 1, 8, 1).expect(
         &rt, "memory",
     );
     let mut sender = asks.pop().expect(&rt, "a sender");
@@ -90,10 +90,10 @@ fn each_answer_of_a_step(rt: HostRuntime) {
     assert!(rt; matches!(answers.take(&rt), Taken::EndOf(0)));
 }
 
-/// It is held whatever is done, and what stands behind it, also of another thread, is never taken.
+/// It is held whatever is done, and what stands after it, also of another thread, is never taken.
 #[test]
 fn a_request_of_another_thread_is_held(rt: HostRuntime) {
-    let (mut worker, mut asks, mut answers) = opened(rt.alloc(), &[], 2, 8, 4).expect(
+    let (mut worker, mut asks, mut answers) = opened(&rt, rt.alloc(), &[], 2, 8, 4).expect(
         &rt, "memory",
     );
     let mut pace = Counting { requests: 0 };
@@ -114,7 +114,7 @@ fn a_request_of_another_thread_is_held(rt: HostRuntime) {
 /// The completion before it is sent all the same.
 #[test]
 fn a_request_without_room_is_held(rt: HostRuntime) {
-    let (mut worker, mut asks, mut answers) = opened(rt.alloc(), &[], 1, 2, 1).expect(
+    let (mut worker, mut asks, mut answers) = opened(&rt, rt.alloc(), &[], 1, 2, 1).expect(
         &rt, "memory",
     );
     let mut pace = Counting { requests: 0 };
@@ -157,7 +157,9 @@ fn the_journal_has_the_codes_and_the_manager_the_values(rt: HostRuntime) {
     let other = Key::new(b"b").expect(&rt, "a short name");
     let xid = Xid::new(1, b"g", b"1").expect(&rt, "a short name");
     let delta = Delta::new(-30).expect(&rt, "within the limit");
-    let (worker, mut asks, _) = opened(rt.alloc(), &[(key, 100)], 1, 8, 8).expect(&rt, "memory");
+    let (worker, mut asks, _) = opened(&rt, rt.alloc(), &[(key, 100)], 1, 8, 8).expect(
+        &rt, "memory",
+    );
     let mut sender = asks.pop().expect(&rt, "a sender");
     let ops = [
         Op::Prepare(xid),
@@ -184,7 +186,7 @@ fn the_journal_has_the_codes_and_the_manager_the_values(rt: HostRuntime) {
 /// With the end mark of only one of two threads it goes on.
 #[test]
 fn a_worker_without_requests_ends_with_the_last_mark(rt: HostRuntime) {
-    let (mut worker, mut asks, mut answers) = opened(rt.alloc(), &[], 2, 1, 1).expect(
+    let (mut worker, mut asks, mut answers) = opened(&rt, rt.alloc(), &[], 2, 1, 1).expect(
         &rt, "memory",
     );
     let mut pace = Counting { requests: 0 };

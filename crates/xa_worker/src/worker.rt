@@ -3,6 +3,7 @@ ghost use Rattle.std.specs.Prelude.{◌≡◌, ◌↔◌, ◌≤◌, [], length,
 ghost use Rattle.xa_worker.specs.Workers.{IsTied, IsFinished, SameWorker, new_worker};
 ghost use Rattle.xa_worker.specs.Steps.{Stepped};
 ghost use Rattle.xa_worker.specs.Done.{IsServed, SameServed};
+ghost use Rattle.xa_worker.specs.Seats.{seat_of_worker, seat_of_done};
 ghost use Rattle.xa_worker.specs.Inner.{AreSet};
 
 use crate::carry::carry_out;
@@ -15,7 +16,7 @@ use crossbeam_utils::Backoff;
 use http_server::Log;
 use std::marker::Model;
 use std::sync::Wait;
-use xa_lane::{Ended, RingReceiver, Sender, Taken};
+use xa_lane::{Ended, Receiver, Sender, Taken};
 use xa_tables::Manager;
 use xa_words::{Code, Completion, Request};
 
@@ -28,7 +29,7 @@ pub struct Worker {
     // The manager as it was given, with its number. It has no bytes: only proofs read it.
     given: Log<u32, Manager>,
     manager: Manager,
-    receiver: RingReceiver<Request>,
+    receiver: Receiver<Request>,
     out: Outbox,
     journal: Vec<(Request, Code)>,
     // Which threads' end marks were taken.
@@ -77,7 +78,7 @@ impl Worker {
     pub fn assemble(
         parts: WorkerParts,
         manager: Manager,
-        receiver: RingReceiver<Request>,
+        receiver: Receiver<Request>,
         senders: Vec<Sender<Completion>>,
     ) -> Worker
         requires room { manager.room ≡ parts.room }
@@ -119,11 +120,14 @@ impl Worker {
     /// or none waits, and no request is held, one thing is taken from the lane of requests.
     ///
     /// A request is entered in the journal with its code before its completion is sent. A Shut is carried
-    /// out as any request; behind it each is late.
+    /// out as any request; after it each is late. `Empty` is answered only where a take of this call was
+    /// answered `Empty`, and `Blocked` only where an offer of this call was answered `Full` or a request is
+    /// held.
     pub fn step<R: Wait, P: Pace>(&mut self, rt: &R, pace: &mut P) -> Step
         ensures step { Stepped self.old result self.new }
         ensures same { SameWorker self.old self.new }
         ensures tied { IsTied self.new }
+        ensures seat { seat_of_worker self.new ≡ seat_of_worker self.old }
     {
         if !self.out.flush(rt) {
             return Step::Blocked;
@@ -169,6 +173,7 @@ impl Worker {
     pub fn run<R: Wait, P: Pace>(self, rt: &R, pace: &mut P) -> DoneWorker
         ensures same { SameServed self result }
         ensures served { IsServed result }
+        ensures seat { seat_of_done result ≡ seat_of_worker self }
     {
         let mut worker = self;
         let backoff = Backoff::new();
@@ -189,6 +194,7 @@ impl Worker {
         requires { IsFinished self }
         ensures same { SameServed self result }
         ensures served { IsServed result }
+        ensures seat { seat_of_done result ≡ seat_of_worker self }
     {
         let Worker {
             number,

@@ -10,7 +10,7 @@ use std::sync::Wait;
 use std::thread::Threads;
 use xa_script::program;
 
-// The words behind the program's name.
+// The words after the program's name.
 fn words<R: Env + AllocGlobal>(rt: &R) -> io::Result<Vec<String>> {
     let mut words = Vec::new(rt.alloc());
     for word in env::args(rt)?.skip(1) {

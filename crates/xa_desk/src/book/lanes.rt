@@ -42,6 +42,7 @@ impl Book {
     pub(crate) fn draw<R: Wait>(&mut self, rt: &R) -> bool
         ensures drawn { IsTrue result → (taken : Taken Completion) × Draws self.old taken self.new }
         ensures quiet { result ≡ false → Draws self.old Empty self.new }
+        ensures came { IsTrue result → self.new.completions.quiet ≡ self.old.completions.quiet }
     {
         match self.completions.take(rt) {
             Taken::Item(_, completion) => {

@@ -1,5 +1,5 @@
 //! A desk and its managers, in threads of their own.
-use crate::stepped::{Managers, code_of, kept, opened};
+use super::stepped::{Managers, code_of, kept, opened};
 use crate::{Desk, EndedDesk, Spin};
 use crossbeam_utils::Backoff;
 use std::process::Abort;

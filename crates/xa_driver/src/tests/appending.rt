@@ -95,7 +95,7 @@ fn the_record_stands_before_the_first_commit_is_sent(rt: HostRuntime) {
     let alloc = rt.alloc();
     let mut plan = plan_of(&rt, alloc, 2);
     plan.threads = 1;
-    let (mut desks, mut workers) = open_switch(alloc, &plan).expect(&rt, "an opening");
+    let (mut desks, mut workers) = open_switch(&rt, alloc, &plan).expect(&rt, "an opening");
     let desk = desks.pop().expect(&rt, "a desk");
     let second = workers.pop().expect(&rt, "a worker");
     let first = workers.pop().expect(&rt, "another worker");

@@ -40,7 +40,11 @@ impl Meddler {
 }
 
 impl Idle for Meddler {
+    ghost leads_by = { λ manager before after. Unit {0} };
+
     ghost leads = { λ before after. Unit {0} };
+
+    ghost leads_each = { λ manager x y p. tt };
 
     ghost leads_start = { λ x. tt };
 

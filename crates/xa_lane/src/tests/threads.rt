@@ -135,7 +135,7 @@ fn relay<R: Threads + Wait + Copy + Send + 'static>(
     senders: usize,
     count: u32,
 ) -> Option<(Vec<(usize, u32)>, Vec<(usize, u32)>)> {
-    let Ok((ends, receiver)) = open_lane(alloc, NAME, senders, 8) else {
+    let Ok((ends, receiver)) = open_lane(&rt, alloc, NAME, senders, 8) else {
         return None;
     };
     let handles = start_senders(rt, alloc, ends, count)?;

@@ -1,5 +1,5 @@
 //! Scripts whose transcripts were worked out by hand, from the rules of the branch tables alone: for
-//! each line of each rule at least one, with what is left of the tables behind it.
+//! each line of each rule at least one, with what is left of the tables after it.
 use super::running::shows;
 use super::*;
 

@@ -109,7 +109,7 @@ fn a_branch_that_meets_another_is_refused(rt: HostRuntime) {
     assert!(rt; shows(&rt, script, transcript));
 }
 
-// Each call that answers -5 leaves the manager as it was: the calls behind it show that it isn't
+// Each call that answers -5 leaves the manager as it was: the calls after it show that it isn't
 // open, that the branch is still active, not yet prepared, or that the manager isn't closed.
 #[test]
 fn other_managers_and_flags_answer_inval(rt: HostRuntime) {
@@ -233,6 +233,15 @@ fn a_full_queue_takes_no_asynchronous_call(rt: HostRuntime) {
         1 complete 1 2\n1 complete 1 1\n";
     let transcript = b"2 1 1\n3 1 -2\n4 turn did\n5 1 2\n6 1 0 handle 2 retval 0\n\
         7 1 0 handle 1 retval 0\n";
+    assert!(rt; shows(&rt, script, transcript));
+}
+
+#[test]
+fn a_full_queue_is_full_for_every_thread(rt: HostRuntime) {
+    let script = b"threads 2\nqueue 1\n1 open 1 async\n2 open 1 async\nturn 1\n2 open 1 async\n\
+        2 complete 1 1\n1 complete 1 1\n";
+    let transcript = b"3 1 1\n4 2 -2\n5 turn did\n6 2 1\n7 2 0 handle 1 retval 0\n\
+        8 1 0 handle 1 retval 0\n";
     assert!(rt; shows(&rt, script, transcript));
 }
 

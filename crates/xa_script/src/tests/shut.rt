@@ -28,6 +28,19 @@ fn a_second_shut_is_late(rt: HostRuntime) {
     assert!(rt; shows(&rt, script, transcript));
 }
 
+// The requests of both threads stand in one queue, in the order of the lines.
+#[test]
+fn a_shut_between_two_requests_of_another_thread(rt: HostRuntime) {
+    let script = b"threads 2\nkey 1 a 10\nkey 1 b 10\n1 open 1\n2 open 1\n1 start 1 g.1\n\
+        1 add 1 a 1\n1 end 1 g.1 success\n1 commit 1 g.1 onephase\n1 start 1 h.1\n\
+        1 add 1 a 5 async\n2 shut 1 async\n1 add 1 b 5 async\n1 complete 1 2\n\
+        1 complete 1 1 nowait\n1 prepare 1 h.1\n2 complete 1 1\n2 open 1\n";
+    let transcript = b"4 1 0\n5 2 0\n6 1 0\n7 1 0\n8 1 0\n9 1 0\n10 1 0\n11 1 1\n12 2 1\n13 1 2\n\
+        14 1 0 handle 2 retval -7\n15 1 0 handle 1 retval 0\n16 1 -7\n17 2 0 handle 1 retval 0\n\
+        18 2 -7\nvalue 1 a 11\nvalue 1 b 10\n";
+    assert!(rt; shows(&rt, script, transcript));
+}
+
 // A thread that has collected no XAER_RMFAIL still sends, and is late; from then on it is refused.
 #[test]
 fn each_thread_learns_of_a_shut_by_a_late_request(rt: HostRuntime) {
@@ -90,7 +103,7 @@ fn a_shut_manager_is_told_of_in_its_place(rt: HostRuntime) {
     assert!(rt; shows(&rt, script, transcript));
 }
 
-// What is outstanding behind the last line is collected, be it late.
+// What is outstanding after the last line is collected, be it late.
 #[test]
 fn late_requests_are_collected_at_the_end(rt: HostRuntime) {
     let script =

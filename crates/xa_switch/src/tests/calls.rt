@@ -15,7 +15,11 @@ struct Workers {
 }
 
 impl Idle for Workers {
+    ghost leads_by = { λ manager before after. Unit {0} };
+
     ghost leads = { λ before after. Unit {0} };
+
+    ghost leads_each = { λ manager x y p. tt };
 
     ghost leads_start = { λ x. tt };
 
@@ -38,8 +42,8 @@ struct Opened {
 }
 
 impl Opened {
-    fn new(rt: &impl Abort, alloc: Global, plan: &Plan) -> Opened {
-        let (desks, workers) = open_switch(alloc, plan).expect(rt, "an opening");
+    fn new<R: Wait + Abort>(rt: &R, alloc: Global, plan: &Plan) -> Opened {
+        let (desks, workers) = open_switch(rt, alloc, plan).expect(rt, "an opening");
         Opened {
             desk: desks.into_iter().next().expect(rt, "a desk"),
             workers: Workers { workers },
@@ -72,7 +76,7 @@ impl Opened {
         xa_call(rt, desk, Call::OpenRm, None, manager, flags, idle)
     }
 
-    // The answer, and behind it the handle and the code, which is 55 if it isn't written.
+    // The answer, and after it the handle and the code, which is 55 if it isn't written.
     fn complete<R: Wait>(&mut self, rt: &R, number: i32, m: u32, flags: u32) -> (i32, i32, i32) {
         let (mut handle, mut code) = (number, 55);
         let (desk, idle) = (&mut self.desk, &mut self.workers);
@@ -154,7 +158,7 @@ fn a_call_is_refused_for_the_first_reason(rt: HostRuntime) {
     // No handle is free.
     assert_eq!(rt; opened.step(&rt, 1), Step::Did);
     assert_eq!(rt; opened.open(&rt, 1, TMASYNC), busy);
-    // What comes behind the Shut is late, and then the manager is known to be shut.
+    // What comes after the Shut is late, and then the manager is known to be shut.
     assert_eq!(rt; opened.open(&rt, 1, TMNOFLAGS), shut);
     assert_eq!(rt; opened.open(&rt, 1, TMASYNC), shut);
 }

@@ -11,10 +11,7 @@ mod threads;
 mod turns;
 
 use super::key;
-use crate::laws::{
-    calls_keep_the_seat, ending_keeps_the_seat, opened_pieces_come_from_their_opening,
-    running_keeps_the_seat,
-};
+use crate::laws::opened_pieces_come_from_their_opening;
 use crate::{
     ManagerPlan, Plan, RmOp, Settled, Why, native, open_switch, settle, xa_call, xa_complete,
 };
@@ -76,7 +73,6 @@ fn ask<R: Wait, I: Idle>(rt: &R, desk: &mut Desk, manager: u32, asks: Asks, idle
     ensures seat { seat_of_desk desk.new ≡ seat_of_desk desk.old }
     ensures idled { I.leads idle.old idle.new }
 {
-    calls_keep_the_seat();
     match asks {
         Asks::Xa(call, xid, flags) => xa_call(rt, desk, call, xid, manager, flags, idle),
         Asks::Native(op, flags) => native(rt, desk, op, manager, flags, idle),
@@ -105,7 +101,6 @@ fn play<R: Wait + Abort, I: Idle>(rt: &R, desk: &mut Desk, acts: &[Act], idle: &
 fn end<R: Wait + Abort>(rt: &R, desk: Desk) -> EndedDesk
     ensures { seat_of_ended result ≡ seat_of_desk desk }
 {
-    ending_keeps_the_seat();
     match desk.finish(rt, &mut Spin::new()) {
         Ok(ended) => ended,
         Err(_) => panic!(rt; "something is outstanding"),
@@ -115,7 +110,6 @@ fn end<R: Wait + Abort>(rt: &R, desk: Desk) -> EndedDesk
 fn run<R: Wait>(rt: &R, worker: Worker) -> DoneWorker
     ensures { seat_of_done result ≡ seat_of_worker worker }
 {
-    running_keeps_the_seat();
     worker.run(rt, &mut Free)
 }
 
@@ -189,7 +183,7 @@ fn open_and_settle<R: Wait + Abort>(rt: &R, alloc: Global, plan: &Plan) -> Settl
     ensures { IsSettled result }
 {
     opened_pieces_come_from_their_opening();
-    let Ok((desks, workers)) = open_switch(alloc, plan) else {
+    let Ok((desks, workers)) = open_switch(rt, alloc, plan) else {
         panic!(rt; "it is not opened");
     };
     let ended = end_all(rt, alloc, desks);

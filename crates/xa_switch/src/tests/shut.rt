@@ -4,10 +4,7 @@ ghost use Rattle.xa_switch.specs.Settling.{IsSettled};
 ghost use Rattle.xa_switch.specs.Seats.{ComeFromOpenings, seat_of_desk, seat_of_ended, seat_of_worker, seat_of_done};
 
 use super::plan_of;
-use crate::laws::{
-    calls_keep_the_seat, ending_keeps_the_seat, opened_pieces_come_from_their_opening,
-    running_keeps_the_seat,
-};
+use crate::laws::opened_pieces_come_from_their_opening;
 use crate::{Plan, RmOp, Settled, native, open_switch, settle, xa_call, xa_complete};
 use std::alloc::Global;
 use std::process::Abort;
@@ -43,7 +40,6 @@ fn mark(rt: &impl Abort, open: &mut Open, handle: i32, is_open: bool) {
 fn collects<R: Wait + Abort>(rt: &R, desk: &mut Desk, open: &mut Open) -> bool
     ensures { seat_of_desk desk.new ≡ seat_of_desk desk.old }
 {
-    calls_keep_the_seat();
     let (mut handle, mut retval) = (0, 55);
     let mut spin = Spin::new();
     let answer = xa_complete(rt, desk, &mut handle, &mut retval, 1, TMMULTIPLE, &mut spin);
@@ -69,7 +65,6 @@ enum Put {
 fn puts<R: Wait + Abort>(rt: &R, desk: &mut Desk, number: usize, open: &mut Open) -> Put
     ensures { seat_of_desk desk.new ≡ seat_of_desk desk.old }
 {
-    calls_keep_the_seat();
     let call = if number % 2 == 0 {
         Call::OpenRm
     } else {
@@ -92,7 +87,6 @@ fn puts<R: Wait + Abort>(rt: &R, desk: &mut Desk, number: usize, open: &mut Open
 fn end<R: Wait + Abort>(rt: &R, desk: Desk, open: &mut Open) -> EndedDesk
     ensures { seat_of_ended result ≡ seat_of_desk desk }
 {
-    ending_keeps_the_seat();
     let mut desk = desk;
     for _handle in 0..HANDLES {
         collects(rt, &mut desk, open);
@@ -131,7 +125,6 @@ fn ask<R: Wait + Abort>(rt: &R, desk: Desk) -> EndedDesk
 fn opens<R: Wait>(rt: &R, desk: &mut Desk) -> i32
     ensures { seat_of_desk desk.new ≡ seat_of_desk desk.old }
 {
-    calls_keep_the_seat();
     let mut spin = Spin::new();
     xa_call(rt, desk, Call::OpenRm, None, 1, TMNOFLAGS, &mut spin)
 }
@@ -140,12 +133,11 @@ fn opens<R: Wait>(rt: &R, desk: &mut Desk) -> i32
 fn shuts<R: Wait>(rt: &R, desk: &mut Desk) -> i32
     ensures { seat_of_desk desk.new ≡ seat_of_desk desk.old }
 {
-    calls_keep_the_seat();
     let mut spin = Spin::new();
     native(rt, desk, RmOp::Shut, 1, TMNOFLAGS, &mut spin)
 }
 
-// Shuts the manager behind so many calls. The second Shut is late, and the third isn't sent.
+// Shuts the manager after so many calls. The second Shut is late, and the third isn't sent.
 fn shut<R: Wait + Abort>(rt: &R, desk: Desk, calls: u32) -> EndedDesk
     ensures { seat_of_ended result ≡ seat_of_desk desk }
 {
@@ -165,11 +157,10 @@ fn shut<R: Wait + Abort>(rt: &R, desk: Desk, calls: u32) -> EndedDesk
 fn run<R: Wait>(rt: &R, worker: Worker) -> DoneWorker
     ensures { seat_of_done result ≡ seat_of_worker worker }
 {
-    running_keeps_the_seat();
     worker.run(rt, &mut Free)
 }
 
-// One thread shuts the manager behind so many calls, beside its worker.
+// One thread shuts the manager after so many calls, beside its worker.
 fn shut_beside<R: Threads + Wait + Abort + Sync>(
     rt: &R,
     desk: Desk,
@@ -223,7 +214,7 @@ fn settle_three<R: Wait>(
     }
 }
 
-// One thread asks, one shuts the manager behind so many calls, and then the opening is settled.
+// One thread asks, one shuts the manager after so many calls, and then the opening is settled.
 fn settled<R: Threads + Wait + Abort + Sync>(
     rt: &R,
     alloc: Global,
@@ -233,7 +224,7 @@ fn settled<R: Threads + Wait + Abort + Sync>(
     ensures { IfSome result IsSettled }
 {
     opened_pieces_come_from_their_opening();
-    let Ok((mut desks, mut workers)) = open_switch(alloc, plan) else {
+    let Ok((mut desks, mut workers)) = open_switch(rt, alloc, plan) else {
         return None;
     };
     let second = desks.pop()?;
@@ -261,7 +252,7 @@ fn only_code(collected: &[(u32, Code)], number: u32) -> Option<Code> {
 }
 
 // Nothing is lost: the thread's requests stand in the journal in their order, each with the code that was
-// collected for it, once; and behind the first XAER_RMFAIL there is no other code.
+// collected for it, once; and after the first XAER_RMFAIL there is no other code.
 fn agrees(settled: &Settled, thread: u32) -> bool {
     let collected = settled.collected(thread, 1);
     let mut next: u32 = 0;

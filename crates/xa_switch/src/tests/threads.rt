@@ -87,7 +87,7 @@ fn pass_by<R: Wait + Abort>(rt: &R, mut desk: Desk, gate: &Gate) -> EndedDesk {
 #[test]
 fn a_held_manager_holds_up_no_other(rt: HostRuntime) {
     let plan = plan_of(&rt, rt.alloc(), 1, 2);
-    let (mut desks, mut workers) = open_switch(rt.alloc(), &plan).expect(&rt, "an opening");
+    let (mut desks, mut workers) = open_switch(&rt, rt.alloc(), &plan).expect(&rt, "an opening");
     let desk = desks.pop().expect(&rt, "a desk");
     let second = workers.pop().expect(&rt, "a worker");
     let first = workers.pop().expect(&rt, "another worker");
@@ -142,7 +142,7 @@ fn complete_both<R: Wait + Abort>(rt: &R, mut desk: Desk, gate: &Gate) -> EndedD
 #[test]
 fn handles_of_a_held_manager_are_not_ready(rt: HostRuntime) {
     let plan = plan_of(&rt, rt.alloc(), 1, 1);
-    let (mut desks, mut workers) = open_switch(rt.alloc(), &plan).expect(&rt, "an opening");
+    let (mut desks, mut workers) = open_switch(&rt, rt.alloc(), &plan).expect(&rt, "an opening");
     let desk = desks.pop().expect(&rt, "a desk");
     let worker = workers.pop().expect(&rt, "a worker");
     let gate = Gate::new();

@@ -3,7 +3,8 @@ ghost use Rattle.std.specs.Prelude.{◌≡◌, ◌≤◌, [], length, All, IfSom
 
 use crate::{Worker, WorkerParts};
 use std::alloc::Global;
-use xa_lane::{LaneName, Receiver, RingSender, Sender, open_lane, open_rings};
+use std::sync::Wait;
+use xa_lane::{LaneName, Receiver, Sender, open_lane};
 use xa_tables::Manager;
 use xa_words::{Completion, Key, Request};
 
@@ -16,14 +17,15 @@ fn name(kind: u32, index: u32) -> LaneName {
 }
 
 // One thread's lane of completions.
-fn completions(
+fn completions<R: Wait>(
+    rt: &R,
     alloc: Global,
     thread: u32,
     places: usize,
 ) -> Option<(Sender<Completion>, Receiver<Completion>)>
     ensures { IfSome result (λ r. r.0.sent ≡ []) }
 {
-    let Ok((mut senders, receiver)) = open_lane(alloc, name(1, thread), 1, places) else {
+    let Ok((mut senders, receiver)) = open_lane(rt, alloc, name(1, thread), 1, places) else {
         return None;
     };
     let sender = senders.pop()?;
@@ -31,7 +33,8 @@ fn completions(
 }
 
 // The lanes of completions, by rising thread.
-fn all_completions(
+fn all_completions<R: Wait>(
+    rt: &R,
     alloc: Global,
     threads: u32,
     places: usize,
@@ -42,7 +45,7 @@ fn all_completions(
     let mut senders = Vec::new(alloc);
     let mut answers = Vec::new(alloc);
     for thread in 0..threads {
-        let (sender, receiver) = completions(alloc, thread, places)?;
+        let (sender, receiver) = completions(rt, alloc, thread, places)?;
         senders.push(sender).ok()?;
         answers.push(receiver).ok()?;
     }
@@ -51,14 +54,15 @@ fn all_completions(
 
 /// The worker of manager 1 of opening 7, with these accounts, so many threads and so much room; the
 /// threads' senders of requests and their receivers of completions. Each lane has so many places, that
-/// of requests eight for each thread.
-pub(super) fn opened(
+/// of requests eight.
+pub(super) fn opened<R: Wait>(
+    rt: &R,
     alloc: Global,
     accounts: &[(Key, u64)],
     threads: u32,
     room: u32,
     places: usize,
-) -> Option<(Worker, Vec<RingSender<Request>>, Vec<Receiver<Completion>>)>
+) -> Option<(Worker, Vec<Sender<Request>>, Vec<Receiver<Completion>>)>
     requires threads { (1 ≤ threads) × (threads ≤ 8) }
     requires room { (1 ≤ room) × (room ≤ 32768) }
 {
@@ -68,10 +72,10 @@ pub(super) fn opened(
     let Ok(parts) = WorkerParts::reserve(alloc, 1, room) else {
         return None;
     };
-    let Ok((asks, requests)) = open_rings(alloc, name(0, 1), threads as usize, 8) else {
+    let Ok((asks, requests)) = open_lane(rt, alloc, name(0, 1), threads as usize, 8) else {
         return None;
     };
-    let (senders, answers) = all_completions(alloc, threads, places)?;
+    let (senders, answers) = all_completions(rt, alloc, threads, places)?;
     let worker = Worker::assemble(parts, manager, requests, senders);
     Some((worker, asks, answers))
 }

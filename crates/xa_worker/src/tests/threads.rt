@@ -9,7 +9,7 @@ use std::process::Abort;
 use std::sync::Wait;
 use std::thread;
 use std::thread::Threads;
-use xa_lane::{Receiver, RingSender, Taken};
+use xa_lane::{Receiver, Sender, Taken};
 use xa_tables::Manager;
 use xa_words::{Code, Completion, EndHow, Op, Request, StartHow, Xid};
 
@@ -31,7 +31,7 @@ fn ops(alloc: Global, rounds: u32, shuts: bool) -> Option<Vec<Op>> {
 }
 
 // Puts the end mark.
-fn finish<R: Wait>(rt: &R, mut sender: RingSender<Request>) {
+fn finish<R: Wait>(rt: &R, mut sender: Sender<Request>) {
     let backoff = Backoff::new();
     for _ in rt.forever() {
         match sender.finish(rt) {
@@ -46,7 +46,7 @@ fn finish<R: Wait>(rt: &R, mut sender: RingSender<Request>) {
 fn ask_all<R: Wait>(
     rt: &R,
     alloc: Global,
-    mut sender: RingSender<Request>,
+    mut sender: Sender<Request>,
     mut answers: Receiver<Completion>,
     thread: u32,
     ops: Vec<Op>,
@@ -92,7 +92,7 @@ fn serve<R: Threads + Wait + Copy + Send + 'static>(
 ) -> Option<(DoneWorker, Vec<Vec<Completion>>)>
     requires { (1 ≤ threads) × (threads ≤ 8) }
 {
-    let (worker, asks, answers) = opened(alloc, &[], threads, 1000, 2)?;
+    let (worker, asks, answers) = opened(&rt, alloc, &[], threads, 1000, 2)?;
     let mut handles = Vec::new(alloc);
     let mut thread: u32 = 0;
     for (sender, answers) in asks.into_iter().zip(answers) {

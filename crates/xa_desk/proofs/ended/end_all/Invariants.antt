@@ -2,6 +2,7 @@ use Rattle.std.proofs.Common.{◌≡◌, ◌≤◌, ◌++◌, map, length}
 use Rattle.std.specs.Prelude.{vec_capacity}
 use Rattle.std.specs.Vec.Iter.{into_iter_items, into_iter_len}
 use Rattle.xa_lane.specs.Senders.{but_full}
+use Rattle.xa_desk.specs.Waits.{MarkEnds}
 use Rattle.xa_desk.proofs.ended.end_all.Given as goal
 
 -- the senders so far have ended, and the idle has changed by idling alone
@@ -13,5 +14,6 @@ invariant-loop-sender g l = record {
   room : length (into_iter_items l.initial.sender-iterator) ≤ vec_capacity l.ends;
   few : length (into_iter_items l.initial.sender-iterator) ≤ 8;
   named : l.manager ≡ length l.yielded;
+  marked : MarkEnds g.I.Idle.leads_by 0 l.yielded l.ends.items l.initial.idle l.idle;
   idled : g.I.Idle.leads l.initial.idle l.idle;
 }

@@ -1,5 +1,22 @@
-use Rattle.std.proofs.Common.{refl}
+use Rattle.std.proofs.Common.{suc, refl, ap, ◌∙◌}
+use Rattle.xa_lane.specs.Senders.{but_full, with_full}
+use Rattle.xa_desk.proofs.Waiting.{bare_full}
 use Rattle.xa_desk.proofs.ended.end_one.Goals as goal
 
 pub loop-init : goal.loop-init
-loop-init g c = record { can = tt; finite = tt; sender = refl; idled = g.met.I.Idle.leads_start _ }
+loop-init g c = record { can = tt; finite = tt; fulls = (0, refl, refl); idled = g.met.I.Idle.leads_start _ }
+
+pub returns-in-Ok-clause-ended : goal.returns-in-Ok-clause-ended
+returns-in-Ok-clause-ended g c =
+    let fulls = c.loop.invariant.fulls in
+    ap but_full (c.in-Ok.ensures.ended ∙ fulls.1) ∙ bare_full fulls.0 c.args.sender
+
+pub loop-preserved : goal.loop-preserved
+loop-preserved g c =
+    let fulls = c.loop.invariant.fulls in
+    record {
+      can = tt;
+      finite = tt;
+      fulls = (suc fulls.0, c.in-Err.ensures.ended ∙ ap with_full fulls.1, (_, fulls.2, c.idle.ensures));
+      idled = g.met.I.Idle.leads_chain _ _ _ c.loop.invariant.idled (g.met.I.Idle.leads_each _ _ _ c.idle.ensures);
+    }

@@ -1,12 +1,13 @@
 use Rattle.std.proofs.Common.{◌≡◌, ℕ}
 use Rattle.xa_desk.specs.Lanes.{after_fulls}
+use Rattle.xa_desk.specs.Waits.{Idles}
 use Rattle.xa_desk.proofs.pump.send_waiting.Given as goal
 
--- the lane was found full some times, and the idle has changed by idling alone
+-- the lane was found full some times, with an idle after each
 abbrev pub invariant-loop : goal.invariant-loop
 invariant-loop g l = record {
   can : (goal.iterator-loop g).can_next l.iterator';
   finite : (goal.iterator-loop g).is_finite l.iterator';
-  fulls : (n : ℕ) × (l.book ≡ after_fulls n l.initial.book l.manager);
+  fulls : (n : ℕ) × (l.book ≡ after_fulls n l.initial.book l.manager) × Idles (g.I.Idle.leads_by l.manager) n l.initial.idle l.idle;
   idled : g.I.Idle.leads l.initial.idle l.idle;
 }

@@ -19,10 +19,9 @@ loop-preserved g c =
       can = search rules;
       finite = search rules;
       unsent = ⊎_elim (λ (e : new ≡ now). ap (λ (d : DeskView). d.accounts) e) (λ (e : new ≡ after_full now m). ap (λ (d : DeskView). d.accounts) e) either ∙ c.loop.invariant.unsent;
-      keeps =
-          ⊎_elim (λ (e : new ≡ now). subst (KeepsDesk c.args.desk.now) (sym e) before)
-          (λ (e : new ≡ after_full now m).
-          subst (KeepsDesk c.args.desk.now) (sym e) (record { seat = c.operations_keep_the_seat.ensures.full 1 now m ∙ before.seat; handles = before.handles; kept = before.kept }))
-          either;
+      keeps = record {
+        goes_on = c.desks_go_on.ensures.further _ _ _ before.goes_on c.in_default.ensures.goes_on;
+        kept = ⊎_elim (λ (e : new ≡ now). ap (λ (d : DeskView). d.kept) e) (λ (e : new ≡ after_full now m). ap (λ (d : DeskView). d.kept) e) either ∙ before.kept;
+      };
       idled = search rules;
     }

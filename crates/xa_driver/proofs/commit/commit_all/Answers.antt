@@ -8,8 +8,9 @@ use Rattle.std.specs.Prelude.{Bool}
 use Rattle.xa_driver.specs.Log.{LogState}
 use Rattle.xa_driver.specs.Rounds.{first_ask, code_of, second_ask, ending_of_ask}
 use Rattle.xa_driver.specs.Trace.{Logs, commits}
+use Rattle.xa_driver.proofs.Asking.{keeps_chain}
 use Rattle.xa_driver.proofs.Calls.{first_rising, first_can, second_rising, second_can, call_is, yes_asked, seam}
-use Rattle.xa_driver.proofs.Settled.{growth_law}
+use Rattle.xa_driver.proofs.Staying.{outstanding_chain, tickets_stay}
 use Rattle.xa_driver.proofs.commit.commit_all.Goals as goal
 
 pub ask_all-requires-clause-rising : goal.ask_all-requires-clause-rising
@@ -66,5 +67,14 @@ returns-clause-call g c t all =
 pub returns-clause-made : goal.returns-clause-made
 returns-clause-made g c = record { may = c.requires; trace = returns-clause-call g c c.requires.tran c.requires.one }
 
-pub returns-clause-grown : goal.returns-clause-grown
-returns-clause-grown g c = growth_law c.requires.tran c.args.branches.now c.args.desk.now.accounts c.ask_all-2.new.desk.accounts _ _ _ (returns-clause-call g c c.requires.tran c.requires.one)
+pub returns-clause-keeps : goal.returns-clause-keeps
+returns-clause-keeps g c = keeps_chain c.args.desk.now c.ask_all.new.desk c.ask_all-2.new.desk c.ask_all.ensures.keeps c.ask_all-2.ensures.keeps
+
+pub returns-clause-left : goal.returns-clause-left
+returns-clause-left g c = outstanding_chain c.args.desk.now.accounts c.ask_all.new.desk.accounts c.ask_all-2.new.desk.accounts c.ask_all.ensures.left c.ask_all-2.ensures.left
+
+pub returns-clause-tickets : goal.returns-clause-tickets
+returns-clause-tickets g c =
+    tickets_stay c.args.desk.now c.ask_all-2.new.desk
+    (keeps_chain c.args.desk.now c.ask_all.new.desk c.ask_all-2.new.desk c.ask_all.ensures.keeps c.ask_all-2.ensures.keeps)
+    (outstanding_chain c.args.desk.now.accounts c.ask_all.new.desk.accounts c.ask_all-2.new.desk.accounts c.ask_all.ensures.left c.ask_all-2.ensures.left)

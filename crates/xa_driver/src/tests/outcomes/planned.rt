@@ -7,11 +7,11 @@ use xa_words::Code;
 // How many transactions each thread commits.
 pub(super) const COMMITS: u32 = 20;
 
-// Thread 4 shuts manager 3 behind so many of its own.
+// Thread 4 shuts manager 3 after so many of its own.
 pub(super) const COMMITS_BEFORE_SHUT: u32 = 10;
 
 // What a thread told: its commits, how many appends of its log failed, and whether one of them went on
-// behind the Shut.
+// after the Shut.
 #[derive(Drop)]
 pub(super) struct Told {
     pub(super) thread: u32,

@@ -1,13 +1,12 @@
 //! How an opening ends.
 ghost use Rattle.std.specs.Prelude.{◌≡◌, map};
 ghost use Rattle.xa_switch.specs.Seats.{ComeFromOpenings, desk_seats, worker_seats, seat_of_desk, seat_of_ended, seat_of_worker, seat_of_done};
-ghost use Rattle.xa_switch.specs.Growth.{accounts_of};
+ghost use Rattle.xa_switch.specs.Fates.{accounts_of};
 
 use std::alloc::Global;
 use std::process::Abort;
 use std::sync::Wait;
 use xa_desk::{Desk, EndedDesk, Idle};
-use xa_switch::laws::{ending_keeps_the_seat, running_keeps_the_seat};
 use xa_switch::{Settled, settle};
 use xa_worker::{DoneWorker, Free, Worker};
 
@@ -17,7 +16,6 @@ pub(super) fn end<R: Wait + Abort, I: Idle>(rt: &R, desk: Desk, idle: &mut I) ->
     ensures lists { result.accounts ≡ desk.accounts }
     ensures idled { I.leads idle.old idle.new }
 {
-    ending_keeps_the_seat();
     match desk.finish(rt, idle) {
         Ok(ended) => ended,
         Err(_) => panic!(rt; "something is outstanding"),
@@ -28,7 +26,6 @@ pub(super) fn end<R: Wait + Abort, I: Idle>(rt: &R, desk: Desk, idle: &mut I) ->
 pub(super) fn run<R: Wait>(rt: &R, worker: Worker) -> DoneWorker
     ensures { seat_of_done result ≡ seat_of_worker worker }
 {
-    running_keeps_the_seat();
     worker.run(rt, &mut Free)
 }
 

@@ -192,7 +192,7 @@ fn start_workers<R: Threads + Wait + Abort + Copy + Send + 'static>(
     threads
 }
 
-// Waits for the threads. What they told is put behind what is there.
+// Waits for the threads. What they told is put after what is there.
 fn join_desks<R: Threads + Abort>(
     rt: &R,
     alloc: Global,
@@ -233,7 +233,7 @@ fn commit_in_threads<R: Threads + Wait + Abort + Copy + Send + 'static>(
     told: &mut Vec<Told>,
 ) -> Settled {
     opened_pieces_come_from_their_opening();
-    let Ok((desks, workers)) = open_switch(alloc, plan) else {
+    let Ok((desks, workers)) = open_switch(rt, alloc, plan) else {
         panic!(rt; "it is not opened");
     };
     let serving = start_workers(rt, alloc, workers);

@@ -2,7 +2,7 @@
 //! proof of this caller, what the commit told of its branches is what became of them.
 ghost use Rattle.std.specs.Prelude.{◌≡◌, ◌∷◌, [], map};
 ghost use Rattle.xa_switch.specs.Seats.{ComeFromOpenings, seat_of_desk, seat_of_worker};
-ghost use Rattle.xa_switch.specs.Growth.{HaveGrown};
+ghost use Rattle.xa_desk.specs.Growth.{HaveGrown};
 ghost use Rattle.xa_driver.specs.Trace.{IsCommit};
 ghost use Rattle.xa_driver.specs.Outcomes.{AreLeftAlone, KeepsTheVotes, TellsTheFates};
 
@@ -15,7 +15,8 @@ use std::process::Abort;
 use std::snapshot::Snapshot;
 use std::sync::Wait;
 use xa_desk::Desk;
-use xa_switch::laws::{growth_goes_on, opened_pieces_come_from_their_opening};
+use xa_desk::laws::{desks_go_on, growth_goes_on};
+use xa_switch::laws::opened_pieces_come_from_their_opening;
 use xa_switch::{Plan, RmOp, Settled, native, open_switch, xa_call};
 use xa_words::{Call, TMNOFLAGS, TMSUCCESS};
 
@@ -39,11 +40,11 @@ fn one_desk(rt: &impl Abort, desks: Vec<Desk>) -> Desk
     desk
 }
 
-fn open(rt: &impl Abort, alloc: Global, plan: &Plan) -> Opened
+fn open<R: Wait + Abort>(rt: &R, alloc: Global, plan: &Plan) -> Opened
     ensures { ComeFromOpenings (seat_of_desk result.desk ∷ []) (map seat_of_worker result.workers.workers.items) }
 {
     opened_pieces_come_from_their_opening();
-    let Ok((desks, workers)) = open_switch(alloc, plan) else {
+    let Ok((desks, workers)) = open_switch(rt, alloc, plan) else {
         panic!(rt; "it is not opened");
     };
     Opened {
@@ -112,7 +113,7 @@ fn close<R: Wait + Abort>(rt: &R, desk: &mut Desk, idle: &mut Workers)
     ensures grown { HaveGrown desk.old.accounts desk.new.accounts }
     ensures idled { map seat_of_worker idle.new.workers.items ≡ map seat_of_worker idle.old.workers.items }
 {
-    growth_goes_on();
+    desks_go_on();
     let first = xa_call(rt, desk, Call::CloseRm, None, 1, TMNOFLAGS, idle);
     let second = xa_call(rt, desk, Call::CloseRm, None, 2, TMNOFLAGS, idle);
     assert_eq!(rt; (first, second), (0, 0));

@@ -18,7 +18,7 @@ use xa_switch::laws::opened_pieces_come_from_their_opening;
 use xa_switch::{RmOp, Settled, open_switch};
 use xa_words::Code;
 
-// Each idle lets each worker do one step. Where it is to, the second thread shuts manager 3 behind the
+// Each idle lets each worker do one step. Where it is to, the second thread shuts manager 3 after the
 // next one.
 #[derive(Drop)]
 struct Turns {
@@ -28,7 +28,11 @@ struct Turns {
 }
 
 impl Idle for Turns {
+    ghost leads_by = { λ manager before after. (seat_of_desk after.second ≡ seat_of_desk before.second) × (map seat_of_worker after.workers.workers.items ≡ map seat_of_worker before.workers.workers.items) };
+
     ghost leads = { λ before after. (seat_of_desk after.second ≡ seat_of_desk before.second) × (map seat_of_worker after.workers.workers.items ≡ map seat_of_worker before.workers.workers.items) };
+
+    ghost leads_each = { λ manager x y p. p };
 
     ghost leads_start = { λ x. (refl, refl) };
 
@@ -112,7 +116,7 @@ fn commit_in_turns<R: Wait + Abort>(
     commits: &mut Vec<Committed>,
 ) -> Settled {
     opened_pieces_come_from_their_opening();
-    let Ok((desks, workers)) = open_switch(alloc, &plan(rt, alloc, 2)) else {
+    let Ok((desks, workers)) = open_switch(rt, alloc, &plan(rt, alloc, 2)) else {
         panic!(rt; "it is not opened");
     };
     let (first, second) = both(rt, desks);

@@ -27,7 +27,7 @@ pub(super) struct Work {
 }
 
 // A commit: its thread, what the transaction did, the branches, how many requests the thread had sent to
-// each manager before it and behind it, what it told, and what the log had of the transaction then.
+// each manager before it and after it, what it told, and what the log had of the transaction then.
 #[derive(Drop)]
 pub(super) struct Committed {
     pub(super) thread: u32,

@@ -1,4 +1,4 @@
-//! What is judged before a manager is asked, and what stands before and behind the calls.
+//! What is judged before a manager is asked, and what stands before and after the calls.
 use super::Row;
 
 // Flags (any other flag or combination is XAER_INVAL, and nothing is carried out).

@@ -1,12 +1,29 @@
-use Rattle.std.proofs.Common.{◌≡◌, ◌<◌, ◌∷◌, [], ◌++◌, length, length-append, map, replicate, vec_capacity, append_assoc, rules, arith, sym, ap, ◌∙◌}
+use Rattle.std.proofs.Common.{◌≡◌, ◌<◌, ◌∷◌, [], ◌++◌, length, length-append, map, get_or, replicate, vec_capacity, append_assoc, rules, arith, sym, refl, ap, ◌∙◌}
 use Rattle.std.specs.Vec.Iter.{into_iter_items}
-use Rattle.std.proofs.lemmas.List.{length-map, map-append}
+use Rattle.std.proofs.lemmas.List.{length-map, get_or_at, map-append}
 use Rattle.std.proofs.lemmas.List.Elements.{All-push}
-use Rattle.xa_desk.specs.Ended.{IsEnded}
+use Rattle.xa_desk.specs.Ended.{EndedView, IsEnded}
 use Rattle.xa_switch.specs.Columns.{put_row}
 use Rattle.xa_switch.specs.Closing.{dealt, desk_lane, thread_part}
 use Rattle.xa_switch.proofs.Gathering.{room_for_row, dealt_snoc}
 use Rattle.xa_switch.proofs.apart.take_desks.Goals as goal
+
+pub deal-columns-requires-clause-row : goal.deal-columns-requires-clause-row
+deal-columns-requires-clause-row c =
+    let i = c.loop-desk.invariant in
+    let Y = c.loop-desk.yielded in
+    let x = c.in-Some.desk in
+    let rest = into_iter_items c.next.new.self in
+    let all : Y ++ x ∷ rest ≡ c.args.desks.items = ap (λ l. Y ++ l) (sym c.in-Some.ensures.steps.0) ∙ i.so_far ∙ c.into_iter-desk-iterator.ensures.into_iter_gives.0 in
+    let below : length Y < length c.args.desks.items = let n = ap length all in omega (arith, n, length-append Y (x ∷ rest)) in
+    let here : get_or c.args.desks.items (length Y) x ≡ x = ap (λ l. get_or l (length Y) x) (sym all) ∙ get_or_at Y x rest x (length Y) refl in
+    let most = c.requires.few (length Y) x below in
+    let accounts = ap (λ (d : EndedView). length d.accounts) here in
+    let row = ap length c.apart-requests.ensures.requests in
+    let ends = c.apart-requests.ensures.known.tied.ends.number in
+    let room : length (map (λ v. v.items) c.args.room.columns.items) ≡ 8 = ap length c.requires.room.columns in
+    let depth = ap length i.depth in
+    omega (arith, most, accounts, row, ends, room, depth, length-map c.args.room.columns.items (λ v. v.items), length-map c.args.room.columns.items (λ v. vec_capacity v), length-map c.loop-desk.columns.items (λ v. vec_capacity v))
 
 pub deal-columns-requires-clause-room : goal.deal-columns-requires-clause-room
 deal-columns-requires-clause-room c =

@@ -1,32 +1,55 @@
-use Rattle.std.proofs.Common.{◌≡◌, ◌≤◌, sym, ap, ◌∙◌, subst, arith, refl, to_z, of_z, w32, pos}
-use Rattle.std.specs.FinMap as map
+use Rattle.std.proofs.Common.{◌≡◌, ◌≤◌, ℕ, ℤ, true, Option, Some, None, Result, Ok, Err, IsOk, sym, ap, ◌∙◌, subst, arith, refl, to_z, of_z, w32, pos}
+use Rattle.std.specs.Prelude.{option_map}
 use Rattle.std.proofs.lemmas.Int.{to_z-of_z, to_z_pos, ints}
-use Rattle.xa_desk.specs.declared.operation.Operation.{Operation}
-use Rattle.xa_desk.specs.DeskView.{DeskView, TicketView, IsLeastFree}
-use Rattle.xa_desk.specs.Lanes.{submitted}
-use Rattle.xa_switch.specs.Putting.{refused, kept, answered}
+use Rattle.xa_words.specs.Code.{number_of}
+use Rattle.xa_words.specs.declared.code.Code.{Code}
+use Rattle.xa_words.specs.declared.code.Code.TheVariants.{Async}
+use Rattle.xa_desk.specs.declared.refused.Refused.{Refused}
+use Rattle.xa_desk.specs.DeskView.{DeskView, call_refusal}
+use Rattle.xa_desk.specs.Lanes.{after_full}
+use Rattle.xa_switch.specs.declared.asked.Asked.{Asked}
+use Rattle.xa_switch.specs.Putting.{code_of, put_refusal, Puts, refused, full, kept, answered}
 use Rattle.xa_switch.proofs.calls.put.Goals as goal
 
-pub returns-in-Some-clause-puts : goal.returns-in-Some-clause-puts
-returns-in-Some-clause-puts g c =
+-- an asynchronous request that wasn't put
+unput : (old : DeskView) (m : ℕ) (asked : Asked) (new : DeskView) (answer : ℤ) (code : Code) → asked.asynchronous ≡ true → answer ≡ number_of code → ((c : Code) → put_refusal old m true ≡ Some c → (code ≡ c) × (new ≡ old)) → (put_refusal old m true ≡ None → (code ≡ Async) × (new ≡ after_full old m)) → Puts old m asked new answer
+unput old m asked new answer code later told was_refused was_full =
+    let at : (r : Option Code) → put_refusal old m true ≡ r → put_refusal old m asked.asynchronous ≡ r = λ r e. subst (λ b. put_refusal old m b ≡ r) (sym later) e in
+    elim (put_refusal old m true) as (λ r. put_refusal old m true ≡ r → Puts old m asked new answer) [
+      | None ↦ λ e. full (at None e) later (told ∙ ap number_of (was_full e).0) (was_full e).1
+      | Some c ↦ λ e. refused c (at (Some c) e) (told ∙ ap number_of (was_refused c e).0) (was_refused c e).1
+    ] refl
+
+-- the refusal of a synchronous request that was answered, and of one that wasn't
+no_refusal : (answer : Result Code Refused) (code : Code) (r : Option Refused) → answer ≡ Ok code → ((why : Refused) → r ≡ Some why → answer ≡ Err why) → r ≡ None
+no_refusal answer code None is same = refl
+no_refusal answer code (Some why) is same = let e = same why refl in cc
+
+its_refusal : (answer : Result Code Refused) (why : Refused) (r : Option Refused) → answer ≡ Err why → ((w : Refused) → r ≡ Some w → answer ≡ Err w) → (r ≡ None → IsOk answer) → r ≡ Some why
+its_refusal answer why None is same never = let e = subst IsOk is (never refl) in cc
+its_refusal answer why (Some w) is same never = let e = same w refl in cc
+
+pub returns-in-Err-clause-puts : goal.returns-in-Err-clause-puts
+returns-in-Err-clause-puts g c =
     let told : to_z w32 (of_z w32 c.value.result) ≡ c.value.result = to_z-of_z w32 c.value.result (omega (arith, ints)) in
-    refused c.in-Some.code (sym c.put_refusal.ensures ∙ c.in-Some.is) (told ∙ c.value.ensures) refl
+    unput c.args.desk.now c.args.manager c.args.asked c.put_later.new.desk _ c.in-Err.code c.if-asked.true (told ∙ c.value.ensures) (λ r e. let w = c.in-Err.ensures.refused r e in (let same = w.0 in cc, w.1)) c.in-Err.ensures.full
 
 pub returns-in-Ok-clause-puts : goal.returns-in-Ok-clause-puts
 returns-in-Ok-clause-puts g c =
-    let old = c.args.desk.now in
-    let k = c.keep.result in
-    let small : k ≤ 32 = c.keep.ensures.handle.limit in
+    let k = c.in-Ok.handle in
+    let small : k ≤ 32 = c.in-Ok.ensures.handle.limit in
     let told : to_z w32 k ≡ pos k = to_z_pos w32 k (omega (arith, small)) in
-    let ticket = ap (λ (t : TicketView). t.operation) c.in-Ok.ensures.ticket in
-    let sent = c.in-Ok.ensures.sent in
-    kept (sym c.put_refusal.ensures ∙ c.in-None.is) c.if-asked.true k told
-    (subst (λ (d : DeskView). IsLeastFree d.kept k) sent c.keep.ensures.least)
-    (c.keep.ensures.kept
-    ∙ ap (λ (d : DeskView). record d { kept = map.insert d.kept k c.in-Ok.ticket.operation }) sent
-    ∙ ap (λ (o : Operation). record (submitted old c.args.manager c.args.asked.op) { kept = map.insert old.kept k o }) ticket)
+    kept (subst (λ b. put_refusal c.args.desk.now c.args.manager b ≡ None) (sym c.if-asked.true) c.in-Ok.ensures.put) c.if-asked.true k told c.in-Ok.ensures.kept.0 c.in-Ok.ensures.kept.1
 
 pub returns-in-Ok-call-clause-puts : goal.returns-in-Ok-call-clause-puts
 returns-in-Ok-call-clause-puts g c =
     let told : to_z w32 (of_z w32 c.value-in-Ok-call.result) ≡ c.value-in-Ok-call.result = to_z-of_z w32 c.value-in-Ok-call.result (omega (arith, ints)) in
-    answered (sym c.put_refusal.ensures ∙ c.in-None.is) c.if-asked.false c.in-Ok-call.ensures.collected.0 c.in-Ok-call.code (told ∙ c.value-in-Ok-call.ensures) c.in-Ok-call.ensures.collected.1
+    let none : call_refusal c.args.desk.now c.args.manager ≡ None = no_refusal (Ok c.in-Ok-call.code) c.in-Ok-call.code _ refl c.in-Ok-call.ensures.refused in
+    answered (subst (λ b. put_refusal c.args.desk.now c.args.manager b ≡ None) (sym c.if-asked.false) (ap (option_map code_of) none)) c.if-asked.false c.in-Ok-call.ensures.collected.0 c.in-Ok-call.code (told ∙ c.value-in-Ok-call.ensures) c.in-Ok-call.ensures.collected.1
+
+pub returns-in-Err-call-clause-puts : goal.returns-in-Err-call-clause-puts
+returns-in-Err-call-clause-puts g c =
+    let told : to_z w32 (of_z w32 c.value-in-Err-call.result) ≡ c.value-in-Err-call.result = to_z-of_z w32 c.value-in-Err-call.result (omega (arith, ints)) in
+    let why = c.in-Err-call.why in
+    let some : call_refusal c.args.desk.now c.args.manager ≡ Some why = its_refusal (Err why) why _ refl c.in-Err-call.ensures.refused c.in-Err-call.ensures.answered in
+    refused (code_of why) (subst (λ b. put_refusal c.args.desk.now c.args.manager b ≡ Some (code_of why)) (sym c.if-asked.false) (ap (option_map code_of) some)) (told ∙ c.value-in-Err-call.ensures ∙ ap number_of c.code_of.ensures) c.in-Err-call.ensures.unchanged

@@ -1,8 +1,6 @@
-use Rattle.std.proofs.Common.{◌≡◌, refl, sym, subst, arith, to_z, of_z, w32, ℤ}
+use Rattle.std.proofs.Common.{◌≡◌, sym, subst, arith, to_z, of_z, w32, ℤ}
 use Rattle.std.proofs.lemmas.Int.{to_z-of_z, ints}
 use Rattle.xa_switch.specs.Putting.{Puts, Calls}
-use Rattle.xa_switch.proofs.Seated.{puts_keep}
-use Rattle.xa_switch.proofs.Growing.{puts_grow, stays}
 use Rattle.xa_switch.proofs.calls.put_asked.Goals as goal
 
 pub returns-in-Ok-clause-calls : goal.returns-in-Ok-clause-calls
@@ -10,12 +8,3 @@ returns-in-Ok-clause-calls g c =
     let told : to_z w32 (of_z w32 c.put.result) ≡ c.put.result = to_z-of_z w32 c.put.result (omega (arith, ints)) in
     subst (λ r. Calls r c.args.desk.now c.args.manager c.put.new.desk (to_z w32 (of_z w32 c.put.result))) (sym c.in-Ok.is)
     (subst (λ (z : ℤ). Puts c.args.desk.now c.args.manager c.in-Ok.asked c.put.new.desk z) (sym told) c.put.ensures.puts)
-
-pub returns-in-Ok-clause-seat : goal.returns-in-Ok-clause-seat
-returns-in-Ok-clause-seat g c = puts_keep c.args.desk.now c.args.manager c.in-Ok.asked c.put.new.desk c.put.result c.put.ensures.puts
-
-pub returns-in-Ok-clause-grown : goal.returns-in-Ok-clause-grown
-returns-in-Ok-clause-grown g c = puts_grow c.args.desk.now c.args.manager c.in-Ok.asked c.put.new.desk c.put.result c.put.ensures.puts
-
-pub returns-in-Err-clause-grown : goal.returns-in-Err-clause-grown
-returns-in-Err-clause-grown g c = stays c.args.desk.now c.args.desk.now refl

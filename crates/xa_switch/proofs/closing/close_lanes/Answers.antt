@@ -3,7 +3,7 @@ use Rattle.std.specs.List.{All, AllPairs}
 use Rattle.std.specs.Vec.Iter.{into_iter_items}
 use Rattle.std.proofs.lemmas.List.{length-set}
 use Rattle.std.proofs.lemmas.List.Elements.{All-push}
-use Rattle.xa_switch.specs.Closing.{column}
+use Rattle.xa_switch.specs.Closing.{column, IsClosable, IsClosed}
 use Rattle.xa_switch.proofs.Gathering.{all_mid, pairs_mid, column_kept, column_at}
 use Rattle.xa_switch.proofs.closing.close_lanes.Goals as goal
 
@@ -23,8 +23,8 @@ close-requires g c =
     let C = map (λ c. c.items) c.args.columns.items in
     let all : c.args.receivers.items ≡ c.loop-place.yielded ++ (c.in-Some.place, c.in-Some.receiver) ∷ into_iter_items c.next.new.self
     = sym c.into_iter-place-iterator.ensures.into_iter_gives.0 ∙ sym i.so_far ∙ ap (λ l. c.loop-place.yielded ++ l) c.in-Some.ensures.steps.0 in
-    let fits : g.L.Closes.closable c.in-Some.receiver (column C c.in-Some.place) =
-    all_mid (λ r. g.L.Closes.closable r.1 (column C r.0)) c.loop-place.yielded (into_iter_items c.next.new.self) (c.in-Some.place, c.in-Some.receiver) (subst (All (λ r. g.L.Closes.closable r.1 (column C r.0))) all c.requires.closable) in
+    let fits : IsClosable c.in-Some.receiver (column C c.in-Some.place) =
+    all_mid (λ r. IsClosable r.1 (column C r.0)) c.loop-place.yielded (into_iter_items c.next.new.self) (c.in-Some.place, c.in-Some.receiver) (subst (All (λ r. IsClosable r.1 (column C r.0))) all c.requires.closable) in
     let below : c.in-Some.place < length c.loop-place.columns.items =
     let lt = all_mid (λ r. r.0 < length c.args.columns.items) c.loop-place.yielded (into_iter_items c.next.new.self) (c.in-Some.place, c.in-Some.receiver) (subst (All (λ r. r.0 < length c.args.columns.items)) all c.requires.places) in
     let many = i.many in
@@ -34,7 +34,7 @@ close-requires g c =
     ap (λ v. v.items) (c.replace-ends.ensures.value ∙ c.index_mut-column.ensures.value)
     ∙ column_at (λ v. v.items) c.loop-place.columns.items c.in-Some.place c.index_mut-column.result.now below
     ∙ left 0 (c.in-Some.place, c.in-Some.receiver) (omega arith) in
-    subst (g.L.Closes.closable c.in-Some.receiver) (sym same) fits
+    subst (IsClosable c.in-Some.receiver) (sym same) fits
 
 pub loop-place-preserved : goal.loop-place-preserved
 loop-place-preserved g c =
@@ -57,7 +57,7 @@ loop-place-preserved g c =
       so_far = append_assoc c.loop-place.yielded ((c.in-Some.place, c.in-Some.receiver) ∷ []) (into_iter_items c.next.new.self) ∙ ap (λ l. c.loop-place.yielded ++ l) (sym c.in-Some.ensures.steps.0) ∙ i.so_far;
       counted = let n = i.counted in let s = c.in-Some.ensures.steps.1 in omega (arith, n, s, more);
       many = length-set _ _ _ ∙ i.many;
-      closed = All-push (λ r. g.L.Closes.closed r.1 (column C r.0)) c.loop-place.yielded (c.in-Some.place, c.in-Some.receiver) i.closed (subst (g.L.Closes.closed c.in-Some.receiver) same c.close.ensures);
+      closed = All-push (λ r. IsClosed r.1 (column C r.0)) c.loop-place.yielded (c.in-Some.place, c.in-Some.receiver) i.closed (subst (IsClosed c.in-Some.receiver) same c.close.ensures);
       left = λ k d lt.
           column_kept (λ v. v.items) c.loop-place.columns.items (get_or (into_iter_items c.next.new.self) k d).0 c.in-Some.place c.replace-ends.new.dest (λ e. apart k d lt (sym e))
           ∙ left (suc k) d (omega arith);

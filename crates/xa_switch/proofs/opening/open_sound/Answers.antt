@@ -5,7 +5,7 @@ use Rattle.xa_switch.proofs.Meeting.{ends_of, desks_fit, workers_fit, one_openin
 use Rattle.xa_switch.proofs.opening.open_sound.Goals as goal
 
 pub assemble_desks-desks-requires : goal.assemble_desks-desks-requires
-assemble_desks-desks-requires c =
+assemble_desks-desks-requires g c =
     let many : c.len-many.result ≡ length c.args.plan.now.managers.items = let len = c.len-many.ensures in let ok = c.args.plan.now.managers.ok in omega (arith, len, ok) in
     let ends =
     ends_of c.args.plan.now c.len-many.result c.in_ok-desk_parts.desk_parts.items c.in_ok-worker_parts.worker_parts.items c.args.managers.items (map (λ v. v.items) c.in_ok-requests.requests.columns.items) c.in_ok-requests.requests.receivers.items (map (λ v. v.items) c.in_ok-completions.completions.columns.items) c.in_ok-completions.completions.receivers.items
@@ -22,7 +22,7 @@ assemble_desks-desks-requires c =
     }
 
 pub assemble_workers-workers-requires : goal.assemble_workers-workers-requires
-assemble_workers-workers-requires c =
+assemble_workers-workers-requires g c =
     let many : c.len-many.result ≡ length c.args.plan.now.managers.items = let len = c.len-many.ensures in let ok = c.args.plan.now.managers.ok in omega (arith, len, ok) in
     let ends =
     ends_of c.args.plan.now c.len-many.result c.in_ok-desk_parts.desk_parts.items c.in_ok-worker_parts.worker_parts.items c.args.managers.items (map (λ v. v.items) c.in_ok-requests.requests.columns.items) c.in_ok-requests.requests.receivers.items (map (λ v. v.items) c.in_ok-completions.completions.columns.items) c.in_ok-completions.completions.receivers.items
@@ -42,7 +42,7 @@ assemble_workers-workers-requires c =
     }
 
 pub returns : goal.returns
-returns c =
+returns g c =
     let many : c.len-many.result ≡ length c.args.plan.now.managers.items = let len = c.len-many.ensures in let ok = c.args.plan.now.managers.ok in omega (arith, len, ok) in
     let ends =
     ends_of c.args.plan.now c.len-many.result c.in_ok-desk_parts.desk_parts.items c.in_ok-worker_parts.worker_parts.items c.args.managers.items (map (λ v. v.items) c.in_ok-requests.requests.columns.items) c.in_ok-requests.requests.receivers.items (map (λ v. v.items) c.in_ok-completions.completions.columns.items) c.in_ok-completions.completions.receivers.items

@@ -5,7 +5,7 @@ use Rattle.xa_switch.specs.Plans.{IsWithinLimits, IsSoundManager}
 use Rattle.xa_switch.proofs.opening.open_switch.Goals as goal
 
 pub returns-in_err-managers-clause-bad : goal.returns-in_err-managers-clause-bad
-returns-in_err-managers-clause-bad c =
+returns-in_err-managers-clause-bad g c =
     let p = err_from_is_err_and c.from_residual.result c.from_residual.ensures.1 in
     let limits : IsWithinLimits c.args.plan.now = search rules in
     let bad = c.in_err-managers.ensures.bad in

@@ -14,7 +14,7 @@ fn pieces_of<R: Wait + Abort>(rt: &R, alloc: Global, plan: &Plan) -> Pieces
 {
     opened_pieces_come_from_their_opening();
     opened_pieces_have_their_number();
-    let Ok((desks, workers)) = open_switch(alloc, plan) else {
+    let Ok((desks, workers)) = open_switch(rt, alloc, plan) else {
         panic!(rt; "it is not opened");
     };
     Pieces {

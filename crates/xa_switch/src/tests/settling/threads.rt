@@ -144,7 +144,7 @@ fn run_in_threads<R: Threads + Wait + Abort + Copy + Send + 'static>(
     ensures { IsSettled result }
 {
     opened_pieces_come_from_their_opening();
-    let Ok((desks, workers)) = open_switch(alloc, plan) else {
+    let Ok((desks, workers)) = open_switch(rt, alloc, plan) else {
         panic!(rt; "it is not opened");
     };
     let serving = start_workers(rt, alloc, workers);

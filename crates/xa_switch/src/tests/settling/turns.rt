@@ -5,7 +5,6 @@ ghost use Rattle.xa_switch.specs.Settling.{IsSettled};
 ghost use Rattle.xa_switch.specs.Seats.{ComeFromOpenings, seat_of_desk, seat_of_worker};
 
 use super::*;
-use crate::laws::steps_keep_the_seat;
 use xa_words::{EndHow, StartHow, TMASYNC, TMSUCCESS};
 
 // The workers of an opening. Each idle lets each of them do one thing.
@@ -18,7 +17,6 @@ impl Workers {
     fn step<R: Wait>(&mut self, rt: &R, place: usize)
         ensures { map seat_of_worker self.new.all.items ≡ map seat_of_worker self.old.all.items }
     {
-        steps_keep_the_seat();
         if place < self.all.len() {
             self.all[place].step(rt, &mut Free);
         }
@@ -26,7 +24,11 @@ impl Workers {
 }
 
 impl Idle for Workers {
+    ghost leads_by = { λ manager before after. map seat_of_worker after.all.items ≡ map seat_of_worker before.all.items };
+
     ghost leads = { λ before after. map seat_of_worker after.all.items ≡ map seat_of_worker before.all.items };
+
+    ghost leads_each = { λ manager x y p. p };
 
     ghost leads_start = { λ x. refl };
 
@@ -47,11 +49,11 @@ struct Opened {
 }
 
 impl Opened {
-    fn new(rt: &impl Abort, alloc: Global, plan: &Plan) -> Opened
+    fn new<R: Wait + Abort>(rt: &R, alloc: Global, plan: &Plan) -> Opened
         ensures { ComeFromOpenings (map seat_of_desk result.desks.items) (map seat_of_worker result.workers.all.items) }
     {
         opened_pieces_come_from_their_opening();
-        let Ok((desks, all)) = open_switch(alloc, plan) else {
+        let Ok((desks, all)) = open_switch(rt, alloc, plan) else {
             panic!(rt; "it is not opened");
         };
         Opened {

@@ -2,7 +2,7 @@ use Rattle.std.proofs.Common.{◌≡◌, ◌+◌, ◌-◌, length, replicate, ap
 use Rattle.std.proofs.lemmas.List.{drop-replicate}
 use Rattle.xa_words.proofs.xid.joined.Goals as goal
 
--- behind both parts there are still the zeros
+-- after both parts there are still the zeros
 rest_of : (g b : ℕ) → drop b (drop g (replicate {A = ℕ} 128 0)) ≡ replicate (128 - (g + b)) 0
 rest_of g b = ap (drop b) (drop-replicate g 128 0) ∙ drop-replicate b (128 - g) 0 ∙ ap (λ n. replicate n 0) (omega arith)
 

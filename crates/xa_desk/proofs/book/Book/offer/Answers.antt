@@ -2,12 +2,11 @@ use Rattle.std.proofs.Common.{◌≡◌, ◌-◌, ◌<◌, ℕ, List, length, se
 use Rattle.xa_words.specs.declared.request.Op.{Op}
 use Rattle.xa_words.specs.declared.request.Request.{Request}
 use Rattle.xa_lane.specs.Ends.{Sending}
-use Rattle.xa_lane.specs.Rings.{RingId}
 use Rattle.xa_lane.specs.Senders.{with_item, with_full}
 use Rattle.xa_desk.specs.Book.{desk_of}
 use Rattle.xa_desk.specs.DeskView.{after_sent}
 use Rattle.xa_desk.specs.Lanes.{next_request}
-use Rattle.xa_desk.proofs.AtPlace.{at_place-set}
+use Rattle.xa_lane.proofs.Senders.{at_place-set}
 use Rattle.xa_desk.proofs.book.Book.offer.Goals as goal
 
 abbrev request_of : ℕ → ℕ → Op → Request
@@ -20,7 +19,7 @@ returns-in-Err-clause-full g c =
     let positive = known.positive in
     let most = known.within in
     let within : c.args.manager - 1 < length c.self.inside.requests.items = omega arith in
-    rw (← c.self.view_is) (ap (λ (rs : List (Sending RingId Request)). record (desk_of c.self.inside) { requests = rs })
+    rw (← c.self.view_is) (ap (λ (rs : List (Sending Request)). record (desk_of c.self.inside) { requests = rs })
     (ap (set c.self.inside.requests.items (c.args.manager - 1)) c.in-Err.ensures.full.1 ∙ at_place-set with_full (c.args.manager - 1) c.self.inside.requests.items c.index_mut.result.now within c.index_mut.ensures.value))
 
 pub returns-in-Ok-clause-sent : goal.returns-in-Ok-clause-sent
@@ -37,5 +36,5 @@ returns-in-Ok-clause-sent g c =
     let one : c.offer.new.self ≡ with_item request old =
     c.in-Ok.ensures.sent ∙ ap (λ (n : ℕ). with_item (request_of c.self.inside.thread n c.args.op.now) old) number in
     rw (← c.self.view_is) (c.note_sent.ensures.sent
-    ∙ ap (λ (rs : List (Sending RingId Request)). record (desk_of c.self.inside) { accounts = after_sent c.self.inside.accounts.items c.args.manager c.args.op.now; requests = rs })
+    ∙ ap (λ (rs : List (Sending Request)). record (desk_of c.self.inside) { accounts = after_sent c.self.inside.accounts.items c.args.manager c.args.op.now; requests = rs })
     (ap (set requests (c.args.manager - 1)) one ∙ at_place-set (with_item request) (c.args.manager - 1) requests old within c.index_mut.ensures.value))

@@ -1,6 +1,8 @@
 use Rattle.std.proofs.Common.{arith}
-use Rattle.xa_desk.proofs.Desks.{called_desk}
+use Rattle.xa_desk.proofs.Desks.{call_known, called_desk}
 use Rattle.xa_desk.proofs.Looks.{collects_stays}
+use Rattle.xa_desk.proofs.Going.{goes_called}
+use Rattle.xa_desk.proofs.Tickets.{called_leaves, leaves_seen}
 use Rattle.xa_desk.proofs.desk.Desk.call.Goals as goal
 
 -- the slot beyond the handles is free again
@@ -21,3 +23,13 @@ returns-clause-tied g c =
     let sent = c.send_waiting-operation.ensures.sent in
     let called = called_desk _ _ sent.0 c.args.manager c.args.op c.in_default.ensures sent.1 c.self.invariant.1 in
     (collects_stays _ _ _ _ c.wait_for.ensures.collected).tied called.0
+
+pub returns-clause-goes_on : goal.returns-clause-goes_on
+returns-clause-goes_on g c =
+    let sent = c.send_waiting-operation.ensures.sent in
+    rw (← c.self.view_is) (goes_called sent.0 _ _ _ c.args.manager c.args.op _ _ sent.1 c.wait_for.ensures.collected)
+
+pub returns-clause-tickets : goal.returns-clause-tickets
+returns-clause-tickets g c =
+    let sent = c.send_waiting-operation.ensures.sent in
+    leaves_seen _ _ _ c.self.view_is (called_leaves sent.0 _ _ _ c.args.manager c.args.op _ _ (call_known c.self.inside.book c.args.manager c.in_default.ensures) sent.1 c.send_waiting-operation.ensures.named c.wait_for.ensures.collected)

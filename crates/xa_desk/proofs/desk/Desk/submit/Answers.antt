@@ -1,4 +1,5 @@
 use Rattle.xa_desk.proofs.Desks.{full_desk, submitted_desk}
+use Rattle.xa_desk.proofs.Going.{goes_submitted, goes_fuller}
 use Rattle.xa_desk.proofs.desk.Desk.submit.Goals as goal
 
 pub invariant_of-self : goal.invariant_of-self
@@ -12,3 +13,9 @@ invariant_of-self-2 g c = submitted_desk _ _ c.args.manager c.args.op c.in_defau
 
 pub returns-clause-tied : goal.returns-clause-tied
 returns-clause-tied g c = (submitted_desk _ _ c.args.manager c.args.op c.in_default.ensures c.in-Some-offer.ensures.more c.in-Some-offer.ensures.sent c.self.invariant).1
+
+pub returns-in_default-offer-clause-goes_on : goal.returns-in_default-offer-clause-goes_on
+returns-in_default-offer-clause-goes_on g c = rw (← c.self.view_is) (goes_fuller _ _ c.args.manager c.in_default-offer.ensures.full)
+
+pub returns-clause-goes_on : goal.returns-clause-goes_on
+returns-clause-goes_on g c = rw (← c.self.view_is) (goes_submitted _ _ c.args.manager c.args.op c.in-Some-offer.ensures.sent)

@@ -6,4 +6,4 @@ use Rattle.xa_driver.proofs.tests.Workers.step.Goals as goal
 pub returns-then-manager-eq0 : goal.returns-then-manager-eq0
 returns-then-manager-eq0 g c =
     map-set_same seat_of_worker c.args.self.now.workers.items c.args.place c.step.new.self c.index_mut.result.now
-    (c.steps_keep_the_seat.ensures c.index_mut.result.now c.step.new.self c.step.ensures.same ∙ ap seat_of_worker c.index_mut.ensures.value)
+    (c.step.ensures.seat ∙ ap seat_of_worker c.index_mut.ensures.value)

@@ -1,6 +1,7 @@
-use Rattle.std.proofs.Common.{sym, ap, ◌∙◌, subst, arith}
+use Rattle.std.proofs.Common.{◌≡◌, sym, ap, ◌∙◌, subst, arith}
 use Rattle.std.specs.Prelude.{pos, ◌≤ℤ◌, Some, option_map}
 use Rattle.std.specs.FinMap as finmap
+use Rattle.std.proofs.lemmas.Int.{ints}
 use Rattle.std.specs.FinMap.{get-from_entries}
 use Rattle.xa_words.specs.Orders.{key_cmp_total}
 use Rattle.xa_tables.specs.Accounts.{value_entries}
@@ -20,16 +21,26 @@ committed-requires c =
     let good = c.self.invariant.1 c.in_ok-place.place c.index.result.now (place_within c.args.key.now items c.in_ok-place.place there) in
     subst (λ a. pos 0 ≤ℤ a.value) (sym c.index.ensures) good.0
 
-pub returns : goal.returns
-returns c =
+pub returns-clause-value : goal.returns-clause-value
+returns-clause-value c =
     let items = c.self.inside.accounts.items in
     let there = sym (c.self.invariant.2 c.args.key.now) ∙ sym c.get.ensures ∙ c.in_ok-place.was in
     ap (λ v. Some v) c.committed.ensures ∙ sym (value_at c.args.key.now items c.in_ok-place.place c.index.result.now c.self.invariant.0 there c.index.ensures)
     ∙ sym (get-from_entries key_cmp_total (value_entries items) c.args.key.now) ∙ ap (λ h. finmap.get h.values c.args.key.now) c.self.view_is
 
-pub returns-in_err-place : goal.returns-in_err-place
-returns-in_err-place c =
+pub returns-in_err-place-clause-value : goal.returns-in_err-place-clause-value
+returns-in_err-place-clause-value c =
     let items = c.self.inside.accounts.items in
     let nowhere = sym (c.self.invariant.2 c.args.key.now) ∙ sym c.get.ensures ∙ c.in_err-place.was in
     ap (option_map (λ x. pos x)) c.from_residual.ensures ∙ sym (value_none c.args.key.now items nowhere)
     ∙ sym (get-from_entries key_cmp_total (value_entries items) c.args.key.now) ∙ ap (λ h. finmap.get h.values c.args.key.now) c.self.view_is
+
+pub returns-clause-bounded : goal.returns-clause-bounded
+returns-clause-bounded c =
+    let items = c.self.inside.accounts.items in
+    let there = sym (c.self.invariant.2 c.args.key.now) ∙ sym c.get.ensures ∙ c.in_ok-place.was in
+    let good = c.self.invariant.1 c.in_ok-place.place c.index.result.now (place_within c.args.key.now items c.in_ok-place.place there) in
+    let within : c.index.result.now.value ≤ℤ pos 1000000000000 = subst (λ a. a.value ≤ℤ pos 1000000000000) (sym c.index.ensures) good.1 in
+    let is : pos c.committed.result ≡ c.index.result.now.value = c.committed.ensures in
+    let small : pos c.committed.result ≤ℤ pos 1000000000000 = subst (λ v. v ≤ℤ pos 1000000000000) (sym is) within in
+    omega (arith, ints, small)

@@ -12,4 +12,4 @@ pub invariant_of-self-else-offer_at : goal.invariant_of-self-else-offer_at
 invariant_of-self-else-offer_at g c = subst (λ n. IfSome c.self.inside.waiting (λ p. p.0 < n)) (sym c.offer_at.ensures.len) c.self.invariant
 
 pub returns-clause-put : goal.returns-clause-put
-returns-clause-put g c = rw (← c.self.view_is) (put-full _ _ _ _ c.if-offer_at.ensures.offered.1)
+returns-clause-put g c = rw (← c.self.view_is) (put-full _ _ _ _ c.if-offer_at.ensures.offered)

@@ -4,7 +4,7 @@ use Rattle.xa_worker.specs.Outgoing.{Answering}
 use Rattle.xa_worker.proofs.tests.opened.all_completions.Given as goal
 
 abbrev pub invariant-loop-thread : goal.invariant-loop-thread
-invariant-loop-thread l = record {
+invariant-loop-thread g l = record {
   lanes : length l.senders.items ≡ l.thread;
   sent : All (λ (s : Answering). s.sent ≡ []) l.senders.items;
 }

@@ -1,3 +1,5 @@
+use Rattle.std.proofs.Common.{◌∙◌}
+use Rattle.xa_worker.proofs.Seated.{stepped_keeps}
 use Rattle.xa_worker.proofs.Ties.{same-chain, extends-chain, stepped-extends}
 use Rattle.xa_worker.proofs.worker.Worker.run.Goals as goal
 
@@ -6,3 +8,6 @@ loop-preserved g c = record {
   same = same-chain c.args.self c.loop.worker c.step.new.self c.loop.invariant.same c.step.ensures.same;
   journal = extends-chain c.args.self.journal c.loop.worker.journal c.step.new.self.journal c.loop.invariant.journal (stepped-extends c.loop.worker c.step.result c.step.new.self c.step.ensures.step);
 }
+
+pub returns-clause-seat : goal.returns-clause-seat
+returns-clause-seat g c = c.end.ensures.seat ∙ stepped_keeps _ _ c.loop.invariant.same

@@ -1,13 +1,15 @@
-use Rattle.std.proofs.Common.{◌≡◌, inl, inr, ◌<◌, ◌-◌, ◌∙◌, None, sym, ap, refl, subst, arith, length, length-append, length-set}
+use Rattle.std.proofs.Common.{◌≡◌, inl, inr, ◌<◌, ◌-◌, ◌∙◌, sym, ap, refl, subst, arith, length, length-append, length-set}
 use Rattle.xa_lane.specs.Ends.{has_ended}
 use Rattle.xa_tables.specs.Managers.{Managed}
 use Rattle.xa_worker.specs.Journal.{completion_of, entry_next}
 use Rattle.xa_worker.specs.Outgoing.{Outgoing, Puts, SameLanes}
 use Rattle.xa_worker.specs.Workers.{Asking, IsUnfit}
 use Rattle.xa_worker.specs.Inner.{working_of}
-use Rattle.xa_worker.proofs.Lanes.{lanes_flush, lanes-puts, put-puts, none-flushed, lanes-chain, length-lanes}
+use Rattle.xa_worker.proofs.Kept.{unentered}
+use Rattle.xa_worker.proofs.Lanes.{lanes_flush, lanes-puts, lanes-chain, length-lanes}
 use Rattle.xa_worker.proofs.Parcels.{marked_end, ended_item}
-use Rattle.xa_worker.proofs.Ties.{tied_out, tied_nothing, tied_end, tied_hold, tied_enter, none_of, some_of, stepped}
+use Rattle.xa_worker.proofs.Seated.{stepped_keeps}
+use Rattle.xa_worker.proofs.Ties.{tied_out, tied_nothing, tied_end, tied_hold, tied_carried, none_of, some_of, stepped}
 use Rattle.xa_worker.proofs.worker.Worker.step.Goals as goal
 use Rattle.xa_worker.proofs.worker.Worker.step.Goals.{then-request-from-via-then-request-from, then-request-from-via-else-request-from+then-room-eq0}
 
@@ -17,18 +19,13 @@ pub invariant_of-self : goal.invariant_of-self
 invariant_of-self g c =
     let e = c.flush.ensures in
     let i = c.self.invariant in
-    record {
-      tied = tied_out (working_of c.self.inside) c.flush.new.self (lanes_flush c.flush.result c.self.inside.out c.flush.new.self e.flushed) e.put i.tied;
-      room = i.room;
-      marks = i.marks;
-      ended = i.ended;
-      few = i.few;
-      none = i.none;
-      enough = i.enough;
-    }
+    unentered _ _ i refl refl refl refl (λ s. refl) (tied_out (working_of c.self.inside) c.flush.new.self (lanes_flush c.flush.result c.self.inside.out c.flush.new.self e.flushed) e.put i.tied)
 
 pub returns-then-not-flush-clause-same : goal.returns-then-not-flush-clause-same
 returns-then-not-flush-clause-same g c = rw (← c.self.view_is) (record { number = refl; first = refl; threads = refl; receiver = (refl, refl, refl, refl); lanes = lanes_flush c.flush.result c.self.inside.out c.flush.new.self c.flush.ensures.flushed })
+
+pub returns-then-not-flush-clause-seat : goal.returns-then-not-flush-clause-seat
+returns-then-not-flush-clause-seat g c = stepped_keeps _ _ (returns-then-not-flush-clause-same g c)
 
 pub returns-then-not-flush-clause-tied : goal.returns-then-not-flush-clause-tied
 returns-then-not-flush-clause-tied g c = tied_out (working_of c.self.inside) c.flush.new.self (lanes_flush c.flush.result c.self.inside.out c.flush.new.self c.flush.ensures.flushed) c.flush.ensures.put c.self.invariant.tied
@@ -39,15 +36,7 @@ pub invariant_of-self-then-is_some : goal.invariant_of-self-then-is_some
 invariant_of-self-then-is_some g c =
     let e = c.flush.ensures in
     let i = c.self.invariant in
-    record {
-      tied = tied_out (working_of c.self.inside) c.flush.new.self (lanes_flush c.flush.result c.self.inside.out c.flush.new.self e.flushed) e.put i.tied;
-      room = i.room;
-      marks = i.marks;
-      ended = i.ended;
-      few = i.few;
-      none = i.none;
-      enough = i.enough;
-    }
+    unentered _ _ i refl refl refl refl (λ s. refl) (tied_out (working_of c.self.inside) c.flush.new.self (lanes_flush c.flush.result c.self.inside.out c.flush.new.self e.flushed) e.put i.tied)
 
 pub returns-then-is_some-clause-step : goal.returns-then-is_some-clause-step
 returns-then-is_some-clause-step g c =
@@ -56,6 +45,9 @@ returns-then-is_some-clause-step g c =
 
 pub returns-then-is_some-clause-same : goal.returns-then-is_some-clause-same
 returns-then-is_some-clause-same g c = rw (← c.self.view_is) (record { number = refl; first = refl; threads = refl; receiver = (refl, refl, refl, refl); lanes = lanes_flush c.flush.result c.self.inside.out c.flush.new.self c.flush.ensures.flushed })
+
+pub returns-then-is_some-clause-seat : goal.returns-then-is_some-clause-seat
+returns-then-is_some-clause-seat g c = stepped_keeps _ _ (returns-then-is_some-clause-same g c)
 
 pub returns-then-is_some-clause-tied : goal.returns-then-is_some-clause-tied
 returns-then-is_some-clause-tied g c = tied_out (working_of c.self.inside) c.flush.new.self (lanes_flush c.flush.result c.self.inside.out c.flush.new.self c.flush.ensures.flushed) c.flush.ensures.put c.self.invariant.tied
@@ -67,18 +59,13 @@ invariant_of-self-in-Empty g c =
     let e = c.flush.ensures in
     let i = c.self.invariant in
     let took = c.in-Empty.ensures.took in
-    record {
-      tied = tied_nothing (working_of c.self.inside) c.flush.new.self (lanes_flush c.flush.result c.self.inside.out c.flush.new.self e.flushed) e.put i.tied c.take.new.self took;
-      room = i.room;
-      marks = i.marks;
-      ended = λ k h. i.ended k h ∙ sym (ap (λ (r : Asking). has_ended k r.taken) took);
-      few = i.few;
-      none = i.none;
-      enough = i.enough;
-    }
+    unentered _ _ i refl refl refl refl (λ s. ap (λ (r : Asking). has_ended s r.taken) took) (tied_nothing (working_of c.self.inside) c.flush.new.self (lanes_flush c.flush.result c.self.inside.out c.flush.new.self e.flushed) e.put i.tied c.take.new.self took)
 
 pub returns-in-Empty-clause-same : goal.returns-in-Empty-clause-same
 returns-in-Empty-clause-same g c = rw (← c.self.view_is) (record { number = refl; first = refl; threads = refl; receiver = c.take.ensures.same; lanes = lanes_flush c.flush.result c.self.inside.out c.flush.new.self c.flush.ensures.flushed })
+
+pub returns-in-Empty-clause-seat : goal.returns-in-Empty-clause-seat
+returns-in-Empty-clause-seat g c = stepped_keeps _ _ (returns-in-Empty-clause-same g c)
 
 pub returns-in-Empty-clause-tied : goal.returns-in-Empty-clause-tied
 returns-in-Empty-clause-tied g c = tied_nothing (working_of c.self.inside) c.flush.new.self (lanes_flush c.flush.result c.self.inside.out c.flush.new.self c.flush.ensures.flushed) c.flush.ensures.put c.self.invariant.tied c.take.new.self c.in-Empty.ensures.took
@@ -104,6 +91,9 @@ invariant_of-self-in-EndOf g c =
 pub returns-in-EndOf-clause-same : goal.returns-in-EndOf-clause-same
 returns-in-EndOf-clause-same g c = rw (← c.self.view_is) (record { number = refl; first = refl; threads = refl; receiver = c.take.ensures.same; lanes = lanes_flush c.flush.result c.self.inside.out c.flush.new.self c.flush.ensures.flushed })
 
+pub returns-in-EndOf-clause-seat : goal.returns-in-EndOf-clause-seat
+returns-in-EndOf-clause-seat g c = stepped_keeps _ _ (returns-in-EndOf-clause-same g c)
+
 pub returns-in-EndOf-clause-tied : goal.returns-in-EndOf-clause-tied
 returns-in-EndOf-clause-tied g c = tied_end (working_of c.self.inside) c.flush.new.self (lanes_flush c.flush.result c.self.inside.out c.flush.new.self c.flush.ensures.flushed) c.flush.ensures.put c.self.invariant.tied c.take.new.self c.in-EndOf.from c.in-EndOf.ensures.took
 
@@ -116,18 +106,13 @@ invariant_of-self-then-request-from g c =
     let took = c.in-Item.ensures.took in
     let none = none_of c.self.inside.held (sym c.is_some.ensures ∙ c.if-is_some.false) in
     let unfit : IsUnfit c.in-Item.from c.in-Item.request c.self.inside.manager.room = elim c.then-request-from.branch [ then-request-from-via-then-request-from w ↦ inl w.if-request-from.true | then-request-from-via-else-request-from+then-room-eq0 w ↦ inr (sym w.room.ensures ∙ w.if-room-eq0.true) ] in
-    record {
-      tied = tied_hold (working_of c.self.inside) c.flush.new.self (lanes_flush c.flush.result c.self.inside.out c.flush.new.self e.flushed) e.put i.tied c.take.new.self c.in-Item.from c.in-Item.request none took unfit;
-      room = i.room;
-      marks = i.marks;
-      ended = λ k h. i.ended k h ∙ sym (ap (λ (r : Asking). has_ended k r.taken) took.1 ∙ ended_item k c.in-Item.from c.self.inside.receiver.taken c.in-Item.request);
-      few = i.few;
-      none = i.none;
-      enough = i.enough;
-    }
+    unentered _ _ i refl refl refl refl (λ s. ap (λ (r : Asking). has_ended s r.taken) took.1 ∙ ended_item s c.in-Item.from c.self.inside.receiver.taken c.in-Item.request) (tied_hold (working_of c.self.inside) c.flush.new.self (lanes_flush c.flush.result c.self.inside.out c.flush.new.self e.flushed) e.put i.tied c.take.new.self c.in-Item.from c.in-Item.request none took unfit)
 
 pub returns-then-request-from-clause-same : goal.returns-then-request-from-clause-same
 returns-then-request-from-clause-same g c = rw (← c.self.view_is) (record { number = refl; first = refl; threads = refl; receiver = c.take.ensures.same; lanes = lanes_flush c.flush.result c.self.inside.out c.flush.new.self c.flush.ensures.flushed })
+
+pub returns-then-request-from-clause-seat : goal.returns-then-request-from-clause-seat
+returns-then-request-from-clause-seat g c = stepped_keeps _ _ (returns-then-request-from-clause-same g c)
 
 pub returns-then-request-from-clause-tied : goal.returns-then-request-from-clause-tied
 returns-then-request-from-clause-tied g c =
@@ -146,24 +131,17 @@ carry_out-requires-clause-lanes g c =
 
 pub invariant_of-self-in-Item : goal.invariant_of-self-in-Item
 invariant_of-self-in-Item g c =
-    let e = c.flush.ensures in
     let i = c.self.invariant in
     let d = c.carry_out.ensures in
-    let took = c.in-Item.ensures.took in
     let none = none_of c.self.inside.held (sym c.is_some.ensures ∙ c.if-is_some.false) in
-    let lanes : SameLanes c.self.inside.out.senders c.flush.new.self.senders = lanes_flush c.flush.result c.self.inside.out c.flush.new.self e.flushed in
-    let count : length c.flush.new.self.senders ≡ length c.self.inside.out.senders = length-lanes c.self.inside.out.senders c.flush.new.self.senders lanes in
-    let idle : c.flush.new.self.waiting ≡ None = ap (λ (o : Outgoing). o.waiting) c.if-not-flush.ensures.flushed ∙ none-flushed c.self.inside.out in
-    let place : c.in-Item.request.thread - 1 < length c.flush.new.self.senders = omega (arith, count, i.tied.lanes, i.tied.senders, took.0, c.if-request-from.false) in
     let more = simp length-append at (ap length d.journal) in
-    let m = d.manager in
-    let room = ap (λ (x : Managed). x.room) m in
-    let threads = ap (λ (x : Managed). x.threads) m in
+    let room = ap (λ (x : Managed). x.room) d.manager in
+    let threads = ap (λ (x : Managed). x.threads) d.manager in
     record {
-      tied = tied_enter (working_of c.self.inside) c.flush.new.self lanes e.put i.tied c.take.new.self c.in-Item.from c.in-Item.request none took c.carry_out.new.manager c.carry_out.new.out c.carry_out.new.journal.items c.if-request-from.false m d.journal (lanes-puts _ _ _ _ d.out) (put-puts _ _ _ _ place idle d.out);
+      tied = tied_carried (working_of c.self.inside) c.flush.new.self c.take.new.self c.in-Item.from c.in-Item.request c.carry_out.new.manager c.carry_out.new.out c.carry_out.new.journal.items c.self.invariant.tied c.if-not-flush.ensures.flushed c.flush.ensures.put none c.in-Item.ensures.took c.if-request-from.false d.manager d.journal d.out;
       room = omega (arith, more, room, d.space, i.room);
       marks = i.marks;
-      ended = λ k h. i.ended k h ∙ sym (ap (λ (r : Asking). has_ended k r.taken) took.1 ∙ ended_item k c.in-Item.from c.self.inside.receiver.taken c.in-Item.request);
+      ended = λ k h. i.ended k h ∙ sym (ap (λ (r : Asking). has_ended k r.taken) c.in-Item.ensures.took.1 ∙ ended_item k c.in-Item.from c.self.inside.receiver.taken c.in-Item.request);
       few = omega (arith, threads, i.few);
       none = i.none;
       enough = i.enough;
@@ -174,18 +152,14 @@ returns-else-room-eq0-clause-same g c =
     let threads = ap (λ (x : Managed). x.threads) c.carry_out.ensures.manager in
     rw (← c.self.view_is) (record { number = refl; first = refl; threads = threads; receiver = c.take.ensures.same; lanes = lanes-chain _ _ _ (lanes_flush c.flush.result c.self.inside.out c.flush.new.self c.flush.ensures.flushed) (lanes-puts _ _ _ _ c.carry_out.ensures.out) })
 
+pub returns-else-room-eq0-clause-seat : goal.returns-else-room-eq0-clause-seat
+returns-else-room-eq0-clause-seat g c = stepped_keeps _ _ (returns-else-room-eq0-clause-same g c)
+
 pub returns-else-room-eq0-clause-tied : goal.returns-else-room-eq0-clause-tied
 returns-else-room-eq0-clause-tied g c =
-    let e = c.flush.ensures in
-    let i = c.self.invariant in
     let d = c.carry_out.ensures in
-    let took = c.in-Item.ensures.took in
     let none = none_of c.self.inside.held (sym c.is_some.ensures ∙ c.if-is_some.false) in
-    let lanes : SameLanes c.self.inside.out.senders c.flush.new.self.senders = lanes_flush c.flush.result c.self.inside.out c.flush.new.self e.flushed in
-    let count : length c.flush.new.self.senders ≡ length c.self.inside.out.senders = length-lanes c.self.inside.out.senders c.flush.new.self.senders lanes in
-    let idle : c.flush.new.self.waiting ≡ None = ap (λ (o : Outgoing). o.waiting) c.if-not-flush.ensures.flushed ∙ none-flushed c.self.inside.out in
-    let place : c.in-Item.request.thread - 1 < length c.flush.new.self.senders = omega (arith, count, i.tied.lanes, i.tied.senders, took.0, c.if-request-from.false) in
-    tied_enter (working_of c.self.inside) c.flush.new.self lanes e.put i.tied c.take.new.self c.in-Item.from c.in-Item.request none took c.carry_out.new.manager c.carry_out.new.out c.carry_out.new.journal.items c.if-request-from.false d.manager d.journal (lanes-puts _ _ _ _ d.out) (put-puts _ _ _ _ place idle d.out)
+    tied_carried (working_of c.self.inside) c.flush.new.self c.take.new.self c.in-Item.from c.in-Item.request c.carry_out.new.manager c.carry_out.new.out c.carry_out.new.journal.items c.self.invariant.tied c.if-not-flush.ensures.flushed c.flush.ensures.put none c.in-Item.ensures.took c.if-request-from.false d.manager d.journal d.out
 
 pub returns-else-room-eq0-clause-step : goal.returns-else-room-eq0-clause-step
 returns-else-room-eq0-clause-step g c =

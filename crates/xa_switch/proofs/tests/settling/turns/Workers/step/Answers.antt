@@ -6,4 +6,4 @@ use Rattle.xa_switch.proofs.tests.settling.turns.Workers.step.Goals as goal
 pub returns-then-place-len : goal.returns-then-place-len
 returns-then-place-len g c =
     map-set_same seat_of_worker c.args.self.now.all.items c.args.place c.step.new.self c.index_mut.result.now
-    (c.steps_keep_the_seat.ensures c.index_mut.result.now c.step.new.self c.step.ensures.same ∙ ap seat_of_worker c.index_mut.ensures.value)
+    (c.step.ensures.seat ∙ ap seat_of_worker c.index_mut.ensures.value)

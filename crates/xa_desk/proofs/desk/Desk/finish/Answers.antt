@@ -1,0 +1,5 @@
+use Rattle.xa_desk.proofs.Going.{goes_out}
+use Rattle.xa_desk.proofs.desk.Desk.finish.Goals as goal
+
+pub returns-clause-goes_out : goal.returns-clause-goes_out
+returns-clause-goes_out g c = rw (← c.self.view_is) (goes_out _ _ c.end.ensures.ended)

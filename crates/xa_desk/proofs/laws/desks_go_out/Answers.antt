@@ -1,0 +1,5 @@
+use Rattle.xa_desk.proofs.Going.{goes_out}
+use Rattle.xa_desk.proofs.laws.desks_go_out.Goals as goal
+
+pub returns : goal.returns
+returns c = goes_out
