@@ -7,22 +7,22 @@ use Rattle.xa_words.specs.declared.request.Completion.{Completion}
 use Rattle.xa_lane.specs.Ends.{Sending, Receiving}
 use Rattle.xa_desk.specs.declared.operation.Operation.{Operation}
 use Rattle.xa_desk.specs.declared.slot.Slot.{Slot}
-use Rattle.xa_desk.specs.AccountView.{AccountView}
+use Rattle.xa_desk.specs.LedgerView.{LedgerView}
 use Rattle.xa_desk.specs.DeskView.{DeskView}
-use Rattle.xa_desk.specs.Lanes.{PartsView, new_accounts, new_desk}
+use Rattle.xa_desk.specs.Lanes.{PartsView, new_ledgers, new_desk}
 use Rattle.xa_desk.specs.Parts.{carried}
 use Rattle.xa_desk.specs.Slots.{IsBooks, AreKeys, kept_of, planned_total}
 use Rattle.xa_desk.proofs.Fresh.{books_new, planned-new, kept_of-replicate}
 use Rattle.xa_desk.proofs.KeyRows.{keys_new}
 
-pub carried-new : (plan : ℕ) (use_async : List Bool) → carried (new_accounts plan use_async) ≡ use_async
+pub carried-new : (plan : ℕ) (use_async : List Bool) → carried (new_ledgers plan use_async) ≡ use_async
 carried-new plan [] = refl
 carried-new plan (b ∷ bs) = ap (λ l. b ∷ l) (carried-new plan bs)
 
-pub length-carried : (at : List AccountView) → length (carried at) ≡ length at
+pub length-carried : (at : List LedgerView) → length (carried at) ≡ length at
 length-carried at = length-map at (λ a. a.carries_async)
 
-module _ (plan : ℕ) (at : List AccountView) (use_async : List Bool) (new : at ≡ new_accounts plan use_async) (s : Slab Slot) (empty : s.slots ≡ []) where
+module _ (plan : ℕ) (at : List LedgerView) (use_async : List Bool) (new : at ≡ new_ledgers plan use_async) (s : Slab Slot) (empty : s.slots ≡ []) where
   pub books_from : (n : ℕ) (table : List (Option Operation)) (drained : List Completion) → table ≡ replicate n None → drained ≡ [] → IsBooks at s table drained
   books_from n table drained t d = rw (new, t, d) (books_new plan use_async s n empty)
 
@@ -33,18 +33,18 @@ module _ (plan : ℕ) (at : List AccountView) (use_async : List Bool) (new : at 
   planned_from = ap planned_total new ∙ planned-new plan use_async
 
 -- what contracts see of such a book
-module _ (t h plan : ℕ) (at : List AccountView) (table : List (Option Operation)) (drained : List Completion) (requests : List (Sending Request)) (r : Receiving Completion) where
+module _ (t h plan : ℕ) (at : List LedgerView) (table : List (Option Operation)) (drained : List Completion) (requests : List (Sending Request)) (r : Receiving Completion) where
   abbrev pub begun : DeskView
-  begun = record { thread = t; handles = h; accounts = at; kept = kept_of table; drained = drained; drained_then = 0; requests = requests; completions = r }
+  begun = record { thread = t; handles = h; ledgers = at; kept = kept_of table; drained = drained; drained_then = 0; requests = requests; completions = r }
 
   abbrev pub made_with : PartsView
   made_with = record { thread = t; handles = h; plan = plan; use_async = carried at }
 
-  pub begun-new : at ≡ new_accounts plan (carried at) → table ≡ replicate h None → drained ≡ [] → begun ≡ new_desk made_with requests r
+  pub begun-new : at ≡ new_ledgers plan (carried at) → table ≡ replicate h None → drained ≡ [] → begun ≡ new_desk made_with requests r
   begun-new new empty none = λ i. record {
     thread = t;
     handles = h;
-    accounts = new i;
+    ledgers = new i;
     kept = (ap kept_of empty ∙ kept_of-replicate h) i;
     drained = none i;
     drained_then = 0;

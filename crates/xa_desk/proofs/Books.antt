@@ -8,10 +8,10 @@ use Rattle.xa_words.specs.declared.code.Code.{Code}
 use Rattle.xa_words.specs.declared.request.Completion.{Completion}
 use Rattle.xa_desk.specs.declared.operation.Operation.{Operation}
 use Rattle.xa_desk.specs.declared.slot.Slot.{Slot}
-use Rattle.xa_desk.specs.AccountView.{AccountView, with_sent, with_collected}
-use Rattle.xa_desk.specs.DeskView.{IsKnown, IsSent, IsOut, account, no_account, after_sent, after_collected, outstanding, names, drained_code, operation_of}
+use Rattle.xa_desk.specs.LedgerView.{LedgerView, with_sent, with_collected}
+use Rattle.xa_desk.specs.DeskView.{IsKnown, IsSent, IsOut, ledger, no_ledger, after_sent, after_collected, outstanding, names, drained_code, operation_of}
 use Rattle.xa_desk.specs.Slots.{HasSlot, IsBooks, ready_weight, ready_count, collected_total}
-use Rattle.xa_desk.proofs.Accounts.{same_operation, none_from, sum_by-changed, collected-le-sent, collected-lt-sent, orderly_sent, orderly_collected, sent_now, account-sent_same, account-sent_other, sent_keeps_sent, sent_keeps_out, sent_now_out, sent_out_cases, unsent, known_before, collected_known, collected_out, collected_keeps_out, collected_keeps_sent, account-collected_same, account-collected_other}
+use Rattle.xa_desk.proofs.Ledgers.{same_operation, none_from, sum_by-changed, collected-le-sent, collected-lt-sent, orderly_sent, orderly_collected, sent_now, ledger-sent_same, ledger-sent_other, sent_keeps_sent, sent_keeps_out, sent_now_out, sent_out_cases, unsent, known_before, collected_known, collected_out, collected_keeps_out, collected_keeps_sent, ledger-collected_same, ledger-collected_other}
 
 module _ (s t : Slab Slot) (key : ℕ) where
   -- a value found after a change is the new one, or was there
@@ -42,15 +42,15 @@ key_apart s key k y none found e = let no : None ≡ Some y = sym none ∙ ap (g
 
 -- sending
 
-module _ (at : List AccountView) (m : ℕ) (op : Op) (known : IsKnown at m) (s t : Slab Slot) (key : ℕ) (table : List (Option Operation)) (drained : List Completion) where
+module _ (at : List LedgerView) (m : ℕ) (op : Op) (known : IsKnown at m) (s t : Slab Slot) (key : ℕ) (table : List (Option Operation)) (drained : List Completion) where
   abbrev pub fresh : Slot
   fresh = record { operation = sent_now at m op known; code = None; handle = 0 }
 
-  pub books_sent : IsBooks at s table drained → length (account at m).sent < (account at m).plan → get s key ≡ None → Updates s t key (Some fresh) → slab_len t ≡ slab_len s + 1 → IsBooks (after_sent at m op) t table drained
+  pub books_sent : IsBooks at s table drained → length (ledger at m).sent < (ledger at m).plan → get s key ≡ None → Updates s t key (Some fresh) → slab_len t ≡ slab_len s + 1 → IsBooks (after_sent at m op) t table drained
   books_sent b room none u len = record {
-    orderly = λ n k. let k' = known_before at m n (with_sent (account at m) op) k in elim (cases_eq n m) [
-      | inl same ↦ rw (account-sent_same at m op known n same) (orderly_sent (account at n) op (b.orderly n k') (rw same room))
-      | inr differs ↦ rw (account-sent_other at m op known n k'.positive differs) (b.orderly n k')
+    orderly = λ n k. let k' = known_before at m n (with_sent (ledger at m) op) k in elim (cases_eq n m) [
+      | inl same ↦ rw (ledger-sent_same at m op known n same) (orderly_sent (ledger at n) op (b.orderly n k') (rw same room))
+      | inr differs ↦ rw (ledger-sent_other at m op known n k'.positive differs) (b.orderly n k')
     ];
     slot_out = λ k y found. elim (found_cases s t key fresh u k y found) [
       | inl new ↦ subst (λ (z : Slot). IsOut (after_sent at m op) z.operation) new.1 (sent_now_out at m op known (b.orderly m known))
@@ -71,11 +71,11 @@ module _ (at : List AccountView) (m : ℕ) (op : Op) (known : IsKnown at m) (s t
       ]
     ];
     count =
-        let sums : outstanding (after_sent at m op) + (length (account at m).sent - length (account at m).collected) ≡ outstanding at + (length ((account at m).sent ++ op ∷ []) - length (account at m).collected) =
-        sum_by-set (λ (a : AccountView). length a.sent - length a.collected) at (m - 1) (with_sent (account at m) op) no_account (let h = known.within in let p = known.positive in omega arith) in
-        let le = collected-le-sent (account at m) (b.orderly m known) in
+        let sums : outstanding (after_sent at m op) + (length (ledger at m).sent - length (ledger at m).collected) ≡ outstanding at + (length ((ledger at m).sent ++ op ∷ []) - length (ledger at m).collected) =
+        sum_by-set (λ (a : LedgerView). length a.sent - length a.collected) at (m - 1) (with_sent (ledger at m) op) no_ledger (let h = known.within in let p = known.positive in omega arith) in
+        let le = collected-le-sent (ledger at m) (b.orderly m known) in
         let c = b.count in
-        omega (arith, length-append (account at m).sent (op ∷ []));
+        omega (arith, length-append (ledger at m).sent (op ∷ []));
     handled = λ k y n found e. elim (found_cases s t key fresh u k y found) [
       | inl new ↦ let h : 0 ≡ suc n = ap (λ (z : Slot). z.handle) new.1 ∙ e in absurd (omega arith)
       | inr old ↦ b.handled k y n old.1 e
@@ -87,8 +87,8 @@ module _ (at : List AccountView) (m : ℕ) (op : Op) (known : IsKnown at m) (s t
     ];
     drained_sent = λ o code e. sent_keeps_sent at m op known o (b.drained_sent o code e);
     drained_count =
-        let sums : collected_total (after_sent at m op) + length (account at m).collected ≡ collected_total at + length (account at m).collected =
-        sum_by-set (λ (a : AccountView). length a.collected) at (m - 1) (with_sent (account at m) op) no_account (let h = known.within in let p = known.positive in omega arith) in
+        let sums : collected_total (after_sent at m op) + length (ledger at m).collected ≡ collected_total at + length (ledger at m).collected =
+        sum_by-set (λ (a : LedgerView). length a.collected) at (m - 1) (with_sent (ledger at m) op) no_ledger (let h = known.within in let p = known.positive in omega arith) in
         let ready : ready_count t + ready_weight (get s key) ≡ ready_count s + 0 = ready_count-changed s t key (Some fresh) u in
         let zeros : ready_weight (get s key) ≡ 0 = ap ready_weight none in
         let c = b.drained_count in
@@ -146,7 +146,7 @@ module _ (o : Operation) where
   drained_code-push_again cs c code some = drained_code-append cs c ∙ ap (λ x. code_or x (drained_code o (c ∷ []))) some
 
 -- the slot at a key changes its code or its handle, and keeps its operation
-module _ (at : List AccountView) (s t : Slab Slot) (key : ℕ) (slot x : Slot) (table : List (Option Operation)) (drained : List Completion) (b : IsBooks at s table drained) (there : get s key ≡ Some slot) (u : Updates s t key (Some x)) (keeps : slot.operation ≡ x.operation) where
+module _ (at : List LedgerView) (s t : Slab Slot) (key : ℕ) (slot x : Slot) (table : List (Option Operation)) (drained : List Completion) (b : IsBooks at s table drained) (there : get s key ≡ Some slot) (u : Updates s t key (Some x)) (keeps : slot.operation ≡ x.operation) where
   pub changed_out : (k : ℕ) (y : Slot) → get t k ≡ Some y → IsOut at y.operation
   changed_out k y found = elim (found_cases s t key x u k y found) [
     | inl new ↦ subst (λ o. IsOut at o) (keeps ∙ ap (λ (z : Slot). z.operation) new.1) (b.slot_out key slot there)
@@ -177,7 +177,7 @@ module _ (at : List AccountView) (s t : Slab Slot) (key : ℕ) (slot x : Slot) (
   pub changed_apart : (k : ℕ) (y : Slot) → k ≢ key → get s k ≡ Some y → y.operation ≢ slot.operation
   changed_apart k y differs found e = differs (b.one_slot k key y slot found there e)
 
-module _ (at : List AccountView) (s t : Slab Slot) (key : ℕ) (slot : Slot) (table : List (Option Operation)) (drained : List Completion) (c : Completion) where
+module _ (at : List LedgerView) (s t : Slab Slot) (key : ℕ) (slot : Slot) (table : List (Option Operation)) (drained : List Completion) (c : Completion) where
   abbrev pub answered : Slot
   answered = record slot { code = Some c.code }
 
@@ -219,7 +219,7 @@ pub record Rehandles (old new : List (Option Operation)) (from to : ℕ) (o : Op
   pub freed : (n : ℕ) → from ≡ suc n → to ≢ suc n → get_or new n None ≡ None
   pub rest : (n : ℕ) → from ≢ suc n → to ≢ suc n → get_or new n None ≡ get_or old n None
 
-module _ (at : List AccountView) (s t : Slab Slot) (key : ℕ) (slot : Slot) (handle : ℕ) (old new : List (Option Operation)) (drained : List Completion) where
+module _ (at : List LedgerView) (s t : Slab Slot) (key : ℕ) (slot : Slot) (handle : ℕ) (old new : List (Option Operation)) (drained : List Completion) where
   abbrev pub rehandled : Slot
   rehandled = record slot { handle = handle }
 
@@ -264,19 +264,19 @@ module _ (at : List AccountView) (s t : Slab Slot) (key : ℕ) (slot : Slot) (ha
 
 -- collecting
 
-module _ (at : List AccountView) (s t : Slab Slot) (key : ℕ) (slot : Slot) (code : Code) (table : List (Option Operation)) (drained : List Completion) where
+module _ (at : List LedgerView) (s t : Slab Slot) (key : ℕ) (slot : Slot) (code : Code) (table : List (Option Operation)) (drained : List Completion) where
   pub books_collected : IsBooks at s table drained → get s key ≡ Some slot → slot.code ≡ Some code → slot.handle ≡ 0 → Updates s t key None → slab_len t + 1 ≡ slab_len s → IsBooks (after_collected at slot.operation code) t table drained
   books_collected b there ready_code loose u len =
       let out = b.slot_out key slot there in
       let o = slot.operation in
       let fresh_code = out.open_ in
       let within : o.manager - 1 < length at = (let w = out.known.within in let p = out.known.positive in omega arith) in
-      let fewer : length (account at o.manager).collected < length (account at o.manager).sent = collected-lt-sent (account at o.manager) o.number code (b.orderly o.manager out.known) out.sent out.open_ in
+      let fewer : length (ledger at o.manager).collected < length (ledger at o.manager).sent = collected-lt-sent (ledger at o.manager) o.number code (b.orderly o.manager out.known) out.sent out.open_ in
       let differs : (k : ℕ) (y : Slot) → k ≢ key → get s k ≡ Some y → y.operation ≢ o = λ k y apart found e. apart (b.one_slot k key y slot found there e) in
       record {
         orderly = λ n k. let k' = collected_known at o code out.known n k in elim (cases_eq n o.manager) [
-          | inl same ↦ rw (account-collected_same at o code out.known n same) (orderly_collected (account at n) o.number code (b.orderly n k') (rw same out.sent) (rw same out.open_))
-          | inr apart ↦ rw (account-collected_other at o code out.known n k'.positive apart) (b.orderly n k')
+          | inl same ↦ rw (ledger-collected_same at o code out.known n same) (orderly_collected (ledger at n) o.number code (b.orderly n k') (rw same out.sent) (rw same out.open_))
+          | inr apart ↦ rw (ledger-collected_other at o code out.known n k'.positive apart) (b.orderly n k')
         ];
         slot_out = λ k y found. let p = found_before s t key u k y found in collected_keeps_out at o code out.known y.operation (b.slot_out k y p.1) (differs k y p.0 p.1);
         out_slot = λ q is.
@@ -286,10 +286,10 @@ module _ (at : List AccountView) (s t : Slab Slot) (key : ℕ) (slot : Slot) (co
             record { key = h.key; slot = h.slot; found = found_still s t key None u h.key h.slot apart h.found; names = h.names };
         one_slot = λ j k x y fx fy e. b.one_slot j k x y (found_before s t key u j x fx).1 (found_before s t key u k y fy).1 e;
         count =
-            let sums : outstanding (after_collected at o code) + (length (account at o.manager).sent - length (account at o.manager).collected) ≡ outstanding at + (length (account at o.manager).sent - length ((account at o.manager).collected ++ (o.number, code) ∷ [])) =
-            sum_by-set (λ (a : AccountView). length a.sent - length a.collected) at (o.manager - 1) (with_collected (account at o.manager) o.number code) no_account within in
+            let sums : outstanding (after_collected at o code) + (length (ledger at o.manager).sent - length (ledger at o.manager).collected) ≡ outstanding at + (length (ledger at o.manager).sent - length ((ledger at o.manager).collected ++ (o.number, code) ∷ [])) =
+            sum_by-set (λ (a : LedgerView). length a.sent - length a.collected) at (o.manager - 1) (with_collected (ledger at o.manager) o.number code) no_ledger within in
             let c = b.count in
-            omega (arith, length-append (account at o.manager).collected ((o.number, code) ∷ []));
+            omega (arith, length-append (ledger at o.manager).collected ((o.number, code) ∷ []));
         handled = λ k y n found e. b.handled k y n (found_before s t key u k y found).1 e;
         tabled = λ n q e.
             let h = b.tabled n q e in
@@ -298,10 +298,10 @@ module _ (at : List AccountView) (s t : Slab Slot) (key : ℕ) (slot : Slot) (co
         coded = λ k y found. b.coded k y (found_before s t key u k y found).1;
         drained_sent = λ q c e. collected_keeps_sent at o code out.known q (b.drained_sent q c e);
         drained_count =
-            let sums : collected_total (after_collected at o code) + length (account at o.manager).collected ≡ collected_total at + length ((account at o.manager).collected ++ (o.number, code) ∷ []) =
-            sum_by-set (λ (a : AccountView). length a.collected) at (o.manager - 1) (with_collected (account at o.manager) o.number code) no_account within in
+            let sums : collected_total (after_collected at o code) + length (ledger at o.manager).collected ≡ collected_total at + length ((ledger at o.manager).collected ++ (o.number, code) ∷ []) =
+            sum_by-set (λ (a : LedgerView). length a.collected) at (o.manager - 1) (with_collected (ledger at o.manager) o.number code) no_ledger within in
             let ready : ready_count t + ready_weight (get s key) ≡ ready_count s + 0 = ready_count-changed s t key None u in
             let one : ready_weight (get s key) ≡ 1 = ap ready_weight there ∙ ap (λ (x : Option Code). cond (is_some x) 1 0) ready_code in
             let n = b.drained_count in
-            omega (arith, length-append (account at o.manager).collected ((o.number, code) ∷ []));
+            omega (arith, length-append (ledger at o.manager).collected ((o.number, code) ∷ []));
       }

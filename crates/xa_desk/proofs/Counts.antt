@@ -8,10 +8,10 @@ use Rattle.xa_words.specs.declared.code.Code.{Code}
 use Rattle.xa_words.specs.declared.request.Completion.{Completion}
 use Rattle.xa_desk.specs.declared.operation.Operation.{Operation}
 use Rattle.xa_desk.specs.declared.slot.Slot.{Slot}
-use Rattle.xa_desk.specs.AccountView.{AccountView, IsSettled, is_collected}
-use Rattle.xa_desk.specs.DeskView.{IsKnown, no_account, outstanding, account}
+use Rattle.xa_desk.specs.LedgerView.{LedgerView, IsBalanced, is_collected}
+use Rattle.xa_desk.specs.DeskView.{IsKnown, no_ledger, outstanding, ledger}
 use Rattle.xa_desk.specs.Slots.{IsOrderly, IsBooks, HasKept, ready_weight, ready_count, collected_total, planned_total}
-use Rattle.xa_desk.proofs.Accounts.{collected-le-sent}
+use Rattle.xa_desk.proofs.Ledgers.{collected-le-sent}
 
 sum_by-within : {A : Type 0} (f g h : A → ℕ) (d : A) (xs : List A) → ((i : ℕ) → i < length xs → f (get_or xs i d) + g (get_or xs i d) ≤ h (get_or xs i d)) → sum_by f xs + sum_by g xs ≤ sum_by h xs
 sum_by-within f g h d [] each = omega arith
@@ -42,7 +42,7 @@ ready-le-there (Some slot) = at_most slot.code
     at_most (Some a) = omega arith
 
 -- a slot that waits leaves room in the list of drained completions
-pub drained-lt-planned : (at : List AccountView) (s : Slab Slot) (table : List (Option Operation)) (drained : List Completion) (key : ℕ) (slot : Slot) → IsBooks at s table drained → get s key ≡ Some slot → slot.code ≡ None → length drained < planned_total at
+pub drained-lt-planned : (at : List LedgerView) (s : Slab Slot) (table : List (Option Operation)) (drained : List Completion) (key : ℕ) (slot : Slot) → IsBooks at s table drained → get s key ≡ Some slot → slot.code ≡ None → length drained < planned_total at
 drained-lt-planned at s table drained key slot b there waiting =
     let within : key < length s.slots = ContainsKey-within s key (rw there refl) in
     let fewer_ready : ready_count (record s { slots = set s.slots key None }) + ready_weight (get s key) ≡ ready_count s + 0 = sum_by-set ready_weight s.slots key None None within in
@@ -50,11 +50,11 @@ drained-lt-planned at s table drained key slot b there waiting =
     let fewer : slab_len (record s { slots = set s.slots key None }) + there_weight (get s key) ≡ slab_len s + 0 = sum_by-set there_weight s.slots key None None within in
     let one : there_weight (get s key) ≡ 1 = ap there_weight there in
     let below : ready_count (record s { slots = set s.slots key None }) ≤ slab_len (record s { slots = set s.slots key None }) = sum_by-le-sum_by ready_weight there_weight (set s.slots key None) ready-le-there in
-    let sums : collected_total at + outstanding at ≤ planned_total at = sum_by-within (λ (a : AccountView). length a.collected) (λ (a : AccountView). length a.sent - length a.collected) (λ (a : AccountView). a.plan) no_account at (λ i below.
+    let sums : collected_total at + outstanding at ≤ planned_total at = sum_by-within (λ (a : LedgerView). length a.collected) (λ (a : LedgerView). length a.sent - length a.collected) (λ (a : LedgerView). a.plan) no_ledger at (λ i below.
     let known : IsKnown at (i + 1) = record { positive = omega arith; within = omega arith } in
     let back : i + 1 - 1 ≡ i = omega arith in
-    let o : IsOrderly (get_or at i no_account) = rw back at (b.orderly (i + 1) known) in
-    let le = collected-le-sent (get_or at i no_account) o in
+    let o : IsOrderly (get_or at i no_ledger) = rw back at (b.orderly (i + 1) known) in
+    let le = collected-le-sent (get_or at i no_ledger) o in
     let p = o.planned in
     omega arith) in
     let c = b.count in
@@ -112,7 +112,7 @@ numbers-lt-slots s key slot there loose n each =
     omega arith
 
 -- among as many numbers as there may be slots one is free, where an operation isn't kept
-pub free_place : (at : List AccountView) (s : Slab Slot) (table : List (Option Operation)) (drained : List Completion) (key : ℕ) (slot : Slot) → IsBooks at s table drained → get s key ≡ Some slot → slot.handle ≡ 0 → slab_len s ≤ length table → (n : ℕ) → n ≤ length table → ((k : ℕ) → k < n → IsSome (get_or table k None)) → n < length table
+pub free_place : (at : List LedgerView) (s : Slab Slot) (table : List (Option Operation)) (drained : List Completion) (key : ℕ) (slot : Slot) → IsBooks at s table drained → get s key ≡ Some slot → slot.handle ≡ 0 → slab_len s ≤ length table → (n : ℕ) → n ≤ length table → ((k : ℕ) → k < n → IsSome (get_or table k None)) → n < length table
 free_place at s table drained key slot b there loose fits n within taken =
     let below : n < slab_len s = numbers-lt-slots s key slot there loose n (λ k under. let o = some_is (get_or table k None) (taken k under) in (o.0, b.tabled k o.0 o.1)) in
     omega arith
@@ -122,13 +122,13 @@ free_place at s table drained key slot b there loose fits n within taken =
     some_is (Some o) h = (o, refl)
 
 -- where nothing is outstanding, every request was collected
-pub nothing_open : (at : List AccountView) (s : Slab Slot) (table : List (Option Operation)) (drained : List Completion) → IsBooks at s table drained → slab_len s ≡ 0 → (m : ℕ) → IsKnown at m → IsSettled (account at m)
+pub nothing_open : (at : List LedgerView) (s : Slab Slot) (table : List (Option Operation)) (drained : List Completion) → IsBooks at s table drained → slab_len s ≡ 0 → (m : ℕ) → IsKnown at m → IsBalanced (ledger at m)
 nothing_open at s table drained b none m known =
     let o = b.orderly m known in
     record {
       distinct = o.distinct;
       below = o.below;
-      all = λ n sent. elim (cases_Bool (is_collected (account at m) n)) [
+      all = λ n sent. elim (cases_Bool (is_collected (ledger at m) n)) [
         | inl done ↦ done
         | inr open_is ↦
             let h = b.out_slot (record { manager = m; number = n }) (record { known = known; sent = sent; open_ = open_is }) in

@@ -9,41 +9,41 @@ use Rattle.std.proofs.lemmas.Bool.{false≢true}
 use Rattle.slab.specs.Slab.{Slab, get}
 use Rattle.xa_desk.specs.declared.operation.Operation.{Operation}
 use Rattle.xa_desk.specs.declared.slot.Slot.{Slot}
-use Rattle.xa_desk.specs.AccountView.{AccountView, new_account}
-use Rattle.xa_desk.specs.Lanes.{new_accounts}
-use Rattle.xa_desk.specs.DeskView.{no_account, account, outstanding}
+use Rattle.xa_desk.specs.LedgerView.{LedgerView, new_ledger}
+use Rattle.xa_desk.specs.Lanes.{new_ledgers}
+use Rattle.xa_desk.specs.DeskView.{no_ledger, ledger, outstanding}
 use Rattle.xa_desk.specs.Slots.{IsOrderly, IsBooks, kept_of, planned_total, collected_total, ready_count}
 use Rattle.xa_desk.proofs.KeptPlaces.{get-kept_of, get-kept_of_zero}
 
-fresh_sent : (requests : ℕ) (use_async : List Bool) (i : ℕ) → (get_or (new_accounts requests use_async) i no_account).sent ≡ []
+fresh_sent : (requests : ℕ) (use_async : List Bool) (i : ℕ) → (get_or (new_ledgers requests use_async) i no_ledger).sent ≡ []
 fresh_sent requests [] i = refl
 fresh_sent requests (b ∷ bs) zero = refl
 fresh_sent requests (b ∷ bs) (suc i) = fresh_sent requests bs i
 
-fresh_collected : (requests : ℕ) (use_async : List Bool) (i : ℕ) → (get_or (new_accounts requests use_async) i no_account).collected ≡ []
+fresh_collected : (requests : ℕ) (use_async : List Bool) (i : ℕ) → (get_or (new_ledgers requests use_async) i no_ledger).collected ≡ []
 fresh_collected requests [] i = refl
 fresh_collected requests (b ∷ bs) zero = refl
 fresh_collected requests (b ∷ bs) (suc i) = fresh_collected requests bs i
 
-pub nothing_out : (requests : ℕ) (use_async : List Bool) → outstanding (new_accounts requests use_async) ≡ 0
+pub nothing_out : (requests : ℕ) (use_async : List Bool) → outstanding (new_ledgers requests use_async) ≡ 0
 nothing_out requests [] = refl
 nothing_out requests (b ∷ bs) =
-    let rest : outstanding (new_accounts requests bs) ≡ 0 = nothing_out requests bs in
-    omega (arith, sum_by-cons (λ (a : AccountView). length a.sent - length a.collected) (new_account b requests) (new_accounts requests bs))
+    let rest : outstanding (new_ledgers requests bs) ≡ 0 = nothing_out requests bs in
+    omega (arith, sum_by-cons (λ (a : LedgerView). length a.sent - length a.collected) (new_ledger b requests) (new_ledgers requests bs))
 
-nothing_collected : (requests : ℕ) (use_async : List Bool) → collected_total (new_accounts requests use_async) ≡ 0
+nothing_collected : (requests : ℕ) (use_async : List Bool) → collected_total (new_ledgers requests use_async) ≡ 0
 nothing_collected requests [] = refl
 nothing_collected requests (b ∷ bs) =
-    let rest : collected_total (new_accounts requests bs) ≡ 0 = nothing_collected requests bs in
-    omega (arith, sum_by-cons (λ (a : AccountView). length a.collected) (new_account b requests) (new_accounts requests bs))
+    let rest : collected_total (new_ledgers requests bs) ≡ 0 = nothing_collected requests bs in
+    omega (arith, sum_by-cons (λ (a : LedgerView). length a.collected) (new_ledger b requests) (new_ledgers requests bs))
 
-pub planned-new : (requests : ℕ) (use_async : List Bool) → planned_total (new_accounts requests use_async) ≡ requests * length use_async
+pub planned-new : (requests : ℕ) (use_async : List Bool) → planned_total (new_ledgers requests use_async) ≡ requests * length use_async
 planned-new requests [] = grind arith
 planned-new requests (b ∷ bs) =
-    let rest : planned_total (new_accounts requests bs) ≡ requests * length bs = planned-new requests bs in
-    grind (arith, sum_by-cons (λ (a : AccountView). a.plan) (new_account b requests) (new_accounts requests bs), rest)
+    let rest : planned_total (new_ledgers requests bs) ≡ requests * length bs = planned-new requests bs in
+    grind (arith, sum_by-cons (λ (a : LedgerView). a.plan) (new_ledger b requests) (new_ledgers requests bs), rest)
 
-orderly_empty : (a : AccountView) → a.sent ≡ [] → a.collected ≡ [] → IsOrderly a
+orderly_empty : (a : LedgerView) → a.sent ≡ [] → a.collected ≡ [] → IsOrderly a
 unfolding IsDistinct
 orderly_empty a s c = record {
   planned = rw s (omega arith);
@@ -69,18 +69,18 @@ kept_of-replicate n = finmap.same_map nat_cmp_total finmap.nat_cmp-IsAntisymmetr
     at_each zero = get-kept_of_zero (replicate n None) ∙ sym (finmap.get-empty nat_cmp 0)
     at_each (suc q) = get-kept_of (replicate n None) q (suc q) refl ∙ no_operation n q ∙ sym (finmap.get-empty nat_cmp (suc q))
 
-pub books_new : (requests : ℕ) (use_async : List Bool) (s : Slab Slot) (n : ℕ) → s.slots ≡ [] → IsBooks (new_accounts requests use_async) s (replicate n None) []
+pub books_new : (requests : ℕ) (use_async : List Bool) (s : Slab Slot) (n : ℕ) → s.slots ≡ [] → IsBooks (new_ledgers requests use_async) s (replicate n None) []
 books_new requests use_async s n empty = record {
-  orderly = λ m known. orderly_empty (account (new_accounts requests use_async) m) (fresh_sent requests use_async (m - 1)) (fresh_collected requests use_async (m - 1));
+  orderly = λ m known. orderly_empty (ledger (new_ledgers requests use_async) m) (fresh_sent requests use_async (m - 1)) (fresh_collected requests use_async (m - 1));
   slot_out = λ key slot found. absurd (none key slot found);
-  out_slot = λ o out. let sent : o.number < length (account (new_accounts requests use_async) o.manager).sent = out.sent in let nothing = fresh_sent requests use_async (o.manager - 1) in absurd (let h : o.number < 0 = rw nothing at sent in omega arith);
+  out_slot = λ o out. let sent : o.number < length (ledger (new_ledgers requests use_async) o.manager).sent = out.sent in let nothing = fresh_sent requests use_async (o.manager - 1) in absurd (let h : o.number < 0 = rw nothing at sent in omega arith);
   one_slot = λ j k x y fx fy e. absurd (none j x fx);
   count = rw empty (sym (nothing_out requests use_async));
   handled = λ key slot k found e. absurd (none key slot found);
   tabled = λ k o e. let no : None ≡ Some o = sym (no_operation n k) ∙ e in absurd cc;
   coded = λ key slot found. absurd (none key slot found);
   drained_sent = λ o code e. let no : None ≡ Some code = e in absurd cc;
-  drained_count = let c : collected_total (new_accounts requests use_async) ≡ 0 = nothing_collected requests use_async in let r : ready_count s ≡ 0 = rw empty refl in omega arith;
+  drained_count = let c : collected_total (new_ledgers requests use_async) ≡ 0 = nothing_collected requests use_async in let r : ready_count s ≡ 0 = rw empty refl in omega arith;
 }
   where
     none : (key : ℕ) (slot : Slot) → get s key ≡ Some slot → ⊥

@@ -15,8 +15,8 @@ use Rattle.xa_lane.specs.Senders.{with_item, with_full, but_full}
 use Rattle.xa_lane.specs.Seats.{EndSeat, end_seat}
 use Rattle.xa_lane.proofs.Senders.{map-at_place, map-alike}
 use Rattle.xa_desk.specs.declared.operation.Operation.{Operation}
-use Rattle.xa_desk.specs.AccountView.{AccountView, with_sent, with_collected}
-use Rattle.xa_desk.specs.DeskView.{DeskView, account, no_account, put_account, after_collected}
+use Rattle.xa_desk.specs.LedgerView.{LedgerView, with_sent, with_collected}
+use Rattle.xa_desk.specs.DeskView.{DeskView, ledger, no_ledger, put_ledger, after_collected}
 use Rattle.xa_desk.specs.Ended.{EndedView, Ends}
 use Rattle.xa_desk.specs.Lanes.{next_request, submitted, after_full, after_fulls}
 use Rattle.xa_desk.specs.Looks.{Drains, first, other, Draws, Pops, start, drawn, Looks, EndsQuiet, Collects, CollectsKept, CollectsLeast, TakesKept}
@@ -38,16 +38,20 @@ counts_on a b c p q = let l : at_most_counted a ≤ at_most_counted b = le-min p
 
 -- ---- any steps
 
-pub goes_same : (d : DeskView) → GoesOn d d
-goes_same d = record {
+-- nothing but what is kept may differ
+pub goes_keeping : (d : DeskView) (kept : finmap.FinMap nat_cmp Operation) → GoesOn d (record d { kept = kept })
+goes_keeping d kept = record {
   seat = refl;
   handles = refl;
   plan = refl;
-  lists = same_lists d.accounts d.accounts refl;
+  lists = same_lists d.ledgers d.ledgers refl;
   taken = same_begins d.completions.taken;
   drained = same_begins d.drained;
   quiet = same_count d.completions.quiet;
 }
+
+pub goes_same : (d : DeskView) → GoesOn d d
+goes_same d = goes_keeping d d.kept
 
 pub goes_nowhere : (old new : DeskView) → new ≡ old → GoesOn old new
 goes_nowhere old new e = subst (GoesOn old) (sym e) (goes_same old)
@@ -57,7 +61,7 @@ goes_further a b c p q = record {
   seat = q.seat ∙ p.seat;
   handles = q.handles ∙ p.handles;
   plan = q.plan ∙ p.plan;
-  lists = growing_on a.accounts b.accounts c.accounts p.lists q.lists;
+  lists = growing_on a.ledgers b.ledgers c.ledgers p.lists q.lists;
   taken = begins_on a.completions.taken b.completions.taken c.completions.taken p.taken q.taken;
   drained = begins_on a.drained b.drained c.drained p.drained q.drained;
   quiet = counts_on a.completions.quiet b.completions.quiet c.completions.quiet p.quiet q.quiet;
@@ -71,16 +75,16 @@ seat_of s = end_seat s
 with_ends : (d : DeskView) (ss : List (Sending Request)) → map end_seat ss ≡ map end_seat d.requests → desk_seat d.thread ss d.completions ≡ seat_of_desk d
 with_ends d ss e = λ i. record { thread = d.thread; ends = e i; lane = d.completions.lane; line = d.completions.line }
 
--- the account that is put has the plan of the one that stood there
-put_plans : (at : List AccountView) (m : ℕ) (a : AccountView) → plan_of a ≡ plan_of (account at m) → plans (put_account at m a) ≡ plans at
-put_plans at m a same = map-set_same plan_of at (m - 1) a no_account same
+-- the ledger that is put has the plan of the one that stood there
+put_plans : (at : List LedgerView) (m : ℕ) (a : LedgerView) → plan_of a ≡ plan_of (ledger at m) → plans (put_ledger at m a) ≡ plans at
+put_plans at m a same = map-set_same plan_of at (m - 1) a no_ledger same
 
 pub goes_sent : (d : DeskView) (m : ℕ) (op : Op) → GoesOn d (submitted d m op)
 goes_sent d m op = record {
   seat = with_ends d (submitted d m op).requests (map-at_place (with_item (next_request d m op)) seat_of (λ _. refl) (m - 1) d.requests);
   handles = refl;
-  plan = put_plans d.accounts m (with_sent (account d.accounts m) op) refl;
-  lists = sending_grows d.accounts m op;
+  plan = put_plans d.ledgers m (with_sent (ledger d.ledgers m) op) refl;
+  lists = sending_grows d.ledgers m op;
   taken = same_begins d.completions.taken;
   drained = same_begins d.drained;
   quiet = same_count d.completions.quiet;
@@ -91,7 +95,7 @@ goes_full d m = record {
   seat = with_ends d (after_full d m).requests (map-at_place with_full seat_of (λ _. refl) (m - 1) d.requests);
   handles = refl;
   plan = refl;
-  lists = same_lists d.accounts d.accounts refl;
+  lists = same_lists d.ledgers d.ledgers refl;
   taken = same_begins d.completions.taken;
   drained = same_begins d.drained;
   quiet = same_count d.completions.quiet;
@@ -119,7 +123,7 @@ goes_moved d drained then r lane line taken more quiet = record {
   seat = λ i. record { thread = d.thread; ends = map end_seat d.requests; lane = lane i; line = line i };
   handles = refl;
   plan = refl;
-  lists = same_lists d.accounts d.accounts refl;
+  lists = same_lists d.ledgers d.ledgers refl;
   taken = taken;
   drained = more;
   quiet = quiet;
@@ -152,24 +156,12 @@ goes_quiet old new q = goes_further old q.before new (goes_looking old q.before 
 
 -- ---- collecting and keeping
 
--- nothing but what is kept may differ
-pub goes_keeping : (d : DeskView) (kept : finmap.FinMap nat_cmp Operation) → GoesOn d (record d { kept = kept })
-goes_keeping d kept = record {
-  seat = refl;
-  handles = refl;
-  plan = refl;
-  lists = same_lists d.accounts d.accounts refl;
-  taken = same_begins d.completions.taken;
-  drained = same_begins d.drained;
-  quiet = same_count d.completions.quiet;
-}
-
-goes_collected : (d : DeskView) (o : Operation) (code : Code) (kept : finmap.FinMap nat_cmp Operation) → GoesOn d (record d { accounts = after_collected d.accounts o code; kept = kept })
+goes_collected : (d : DeskView) (o : Operation) (code : Code) (kept : finmap.FinMap nat_cmp Operation) → GoesOn d (record d { ledgers = after_collected d.ledgers o code; kept = kept })
 goes_collected d o code kept = record {
   seat = refl;
   handles = refl;
-  plan = put_plans d.accounts o.manager (with_collected (account d.accounts o.manager) o.number code) refl;
-  lists = collecting_grows d.accounts o code;
+  plan = put_plans d.ledgers o.manager (with_collected (ledger d.ledgers o.manager) o.number code) refl;
+  lists = collecting_grows d.ledgers o code;
   taken = same_begins d.completions.taken;
   drained = same_begins d.drained;
   quiet = same_count d.completions.quiet;
@@ -215,6 +207,6 @@ goes_out d e h =
     record {
       thread = h.thread;
       seat = λ i. record { thread = h.thread i; ends = ends i; lane = (h.completions i).lane; line = (h.completions i).line };
-      accounts = h.accounts;
-      lists = same_lists d.accounts e.accounts h.accounts;
+      ledgers = h.ledgers;
+      lists = same_lists d.ledgers e.ledgers h.ledgers;
     }

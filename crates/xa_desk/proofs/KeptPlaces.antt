@@ -7,7 +7,7 @@ use Rattle.std.proofs.lemmas.List.{get_or-set_same, get_or-set_other, get_or_pas
 use Rattle.std.proofs.lemmas.Bool.{cases_eq, cases_lt, false_from_ne_true, eqb-true, eq-eqb}
 use Rattle.slab.specs.Slab.{Slab, get, entries_from}
 use Rattle.xa_words.specs.declared.request.Completion.{Completion}
-use Rattle.xa_desk.specs.AccountView.{AccountView}
+use Rattle.xa_desk.specs.LedgerView.{LedgerView}
 use Rattle.xa_desk.specs.declared.slot.Slot.{Slot}
 use Rattle.xa_desk.specs.declared.operation.Operation.{Operation}
 use Rattle.xa_desk.specs.DeskView.{IsLeastFree}
@@ -75,7 +75,7 @@ module _ (table : List (Option Operation)) (j number : ℕ) (is : number ≡ suc
           ])
 
 -- a slot whose operation no number has isn't kept
-pub loose_handle : (at : List AccountView) (s : Slab Slot) (key : ℕ) (slot : Slot) (table : List (Option Operation)) (drained : List Completion) → IsBooks at s table drained → get s key ≡ Some slot → ((k : ℕ) → map.get (kept_of table) k ≢ Some slot.operation) → slot.handle ≡ 0
+pub loose_handle : (at : List LedgerView) (s : Slab Slot) (key : ℕ) (slot : Slot) (table : List (Option Operation)) (drained : List Completion) → IsBooks at s table drained → get s key ≡ Some slot → ((k : ℕ) → map.get (kept_of table) k ≢ Some slot.operation) → slot.handle ≡ 0
 loose_handle at s key slot table drained b there loose = from slot.handle refl
   where
     from : (h : ℕ) → slot.handle ≡ h → slot.handle ≡ 0
@@ -108,7 +108,7 @@ kept_place table number o e = elim (cases_lt 0 number) [
 ]
 
 -- what a slot's handle is, where its operation is kept
-pub kept_handle : (at : List AccountView) (s : Slab Slot) (key : ℕ) (slot : Slot) (table : List (Option Operation)) (drained : List Completion) → IsBooks at s table drained → get s key ≡ Some slot → (number : ℕ) → KeptPlace table number slot.operation → slot.handle ≡ number
+pub kept_handle : (at : List LedgerView) (s : Slab Slot) (key : ℕ) (slot : Slot) (table : List (Option Operation)) (drained : List Completion) → IsBooks at s table drained → get s key ≡ Some slot → (number : ℕ) → KeptPlace table number slot.operation → slot.handle ≡ number
 kept_handle at s key slot table drained b there number p =
     let h = b.tabled (number - 1) slot.operation p.there in
     let same : h.key ≡ key = b.one_slot h.key key h.slot slot h.found there h.names in
@@ -140,7 +140,7 @@ least_free table j free taken = record {
 }
 
 -- an operation that isn't kept has no number
-pub loose_from_handle : (at : List AccountView) (s : Slab Slot) (key : ℕ) (slot : Slot) (table : List (Option Operation)) (drained : List Completion) → IsBooks at s table drained → get s key ≡ Some slot → slot.handle ≡ 0 → (k : ℕ) → map.get (kept_of table) k ≢ Some slot.operation
+pub loose_from_handle : (at : List LedgerView) (s : Slab Slot) (key : ℕ) (slot : Slot) (table : List (Option Operation)) (drained : List Completion) → IsBooks at s table drained → get s key ≡ Some slot → slot.handle ≡ 0 → (k : ℕ) → map.get (kept_of table) k ≢ Some slot.operation
 loose_from_handle at s key slot table drained b there zero_handle k e =
     let p = kept_place table k slot.operation e in
     let h = b.tabled (k - 1) slot.operation p.there in

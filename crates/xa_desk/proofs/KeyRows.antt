@@ -9,11 +9,11 @@ use Rattle.xa_words.specs.declared.request.Op.{Op}
 use Rattle.xa_words.specs.declared.code.Code.{Code}
 use Rattle.xa_desk.specs.declared.operation.Operation.{Operation}
 use Rattle.xa_desk.specs.declared.slot.Slot.{Slot}
-use Rattle.xa_desk.specs.AccountView.{AccountView, new_account, with_sent, with_collected}
-use Rattle.xa_desk.specs.DeskView.{IsKnown, no_account, account, after_sent, after_collected}
-use Rattle.xa_desk.specs.Lanes.{new_accounts}
+use Rattle.xa_desk.specs.LedgerView.{LedgerView, new_ledger, with_sent, with_collected}
+use Rattle.xa_desk.specs.DeskView.{IsKnown, no_ledger, ledger, after_sent, after_collected}
+use Rattle.xa_desk.specs.Lanes.{new_ledgers}
 use Rattle.xa_desk.specs.Slots.{key_at, AreTold, AreKeys}
-use Rattle.xa_desk.proofs.Accounts.{same_operation, account-sent_same, account-sent_other, account-collected_same, account-collected_other, known_before, collected_known, length-put_account}
+use Rattle.xa_desk.proofs.Ledgers.{same_operation, ledger-sent_same, ledger-sent_other, ledger-collected_same, ledger-collected_other, known_before, collected_known, length-put_ledger}
 use Rattle.xa_desk.proofs.Books.{found_cases, found_before}
 
 slice_get-set_other : {A : Type 0} (xs : List A) (i j : ℕ) (x : A) → j ≢ i → slice_get (set xs i x) j ≡ slice_get xs j
@@ -50,26 +50,26 @@ module _ (rows : List (List ℕ)) (m n key : ℕ) where
 
 -- sending
 
-module _ (at : List AccountView) (m : ℕ) (op : Op) (known : IsKnown at m) (rows : List (List ℕ)) (s t : Slab Slot) (key : ℕ) (slot : Slot) where
+module _ (at : List LedgerView) (m : ℕ) (op : Op) (known : IsKnown at m) (rows : List (List ℕ)) (s t : Slab Slot) (key : ℕ) (slot : Slot) where
   abbrev n : ℕ
-  n = length (account at m).sent
+  n = length (ledger at m).sent
 
-  pub keys_sent : AreKeys at rows s → n < (account at m).plan → slot.operation ≡ record { manager = m; number = n } → ((k : ℕ) (y : Slot) → get s k ≡ Some y → (1 ≤ y.operation.manager) × (y.operation ≢ record { manager = m; number = n })) → Updates s t key (Some slot)
+  pub keys_sent : AreKeys at rows s → n < (ledger at m).plan → slot.operation ≡ record { manager = m; number = n } → ((k : ℕ) (y : Slot) → get s k ≡ Some y → (1 ≤ y.operation.manager) × (y.operation ≢ record { manager = m; number = n })) → Updates s t key (Some slot)
       → AreKeys (after_sent at m op) (entered rows m n key) t
   keys_sent r planned named apart u = record {
-    number = length-set rows (m - 1) (set (row rows m n key) n key) ∙ r.number ∙ sym (length-put_account at m (with_sent (account at m) op));
-    planned = λ q is. let was = known_before at m q (with_sent (account at m) op) is in elim (cases_eq q m) [
+    number = length-set rows (m - 1) (set (row rows m n key) n key) ∙ r.number ∙ sym (length-put_ledger at m (with_sent (ledger at m) op));
+    planned = λ q is. let was = known_before at m q (with_sent (ledger at m) op) is in elim (cases_eq q m) [
       | inl same ↦
           let here : q - 1 ≡ m - 1 = ap (λ k. k - 1) same in
           ap (λ k. length (get_or (entered rows m n key) k [])) here
           ∙ ap length (get_or-set_same rows (m - 1) (set (row rows m n key) n key) [] within)
           ∙ length-set (row rows m n key) n key
           ∙ r.planned m known
-          ∙ sym (ap (λ (a : AccountView). a.plan) (account-sent_same at m op known q same) ∙ ap (λ k. (account at k).plan) same)
+          ∙ sym (ap (λ (a : LedgerView). a.plan) (ledger-sent_same at m op known q same) ∙ ap (λ k. (ledger at k).plan) same)
       | inr differs ↦
           ap length (get_or-set_other rows (m - 1) (q - 1) (set (row rows m n key) n key) [] (not_here q was differs))
           ∙ r.planned q was
-          ∙ sym (ap (λ (a : AccountView). a.plan) (account-sent_other at m op known q was.positive differs))
+          ∙ sym (ap (λ (a : LedgerView). a.plan) (ledger-sent_other at m op known q was.positive differs))
     ];
     told = λ k y found. elim (found_cases s t key slot u k y found) [
       | inl new ↦
@@ -94,33 +94,33 @@ told_kept rows s t key slot x r there keeps u k y found = elim (found_cases s t 
   | inr old ↦ r k y old.1
 ]
 
-pub keys_kept : (at : List AccountView) (rows : List (List ℕ)) (s t : Slab Slot) (key : ℕ) (slot x : Slot) → AreKeys at rows s → get s key ≡ Some slot → slot.operation ≡ x.operation → Updates s t key (Some x) → AreKeys at rows t
+pub keys_kept : (at : List LedgerView) (rows : List (List ℕ)) (s t : Slab Slot) (key : ℕ) (slot x : Slot) → AreKeys at rows s → get s key ≡ Some slot → slot.operation ≡ x.operation → Updates s t key (Some x) → AreKeys at rows t
 keys_kept at rows s t key slot x r there keeps u = record { number = r.number; planned = r.planned; told = told_kept rows s t key slot x r.told there keeps u }
 
 -- collecting
 
-pub keys_collected : (at : List AccountView) (o : Operation) (code : Code) (known : IsKnown at o.manager) (rows : List (List ℕ)) (s t : Slab Slot) (key : ℕ) → AreKeys at rows s → Updates s t key None → AreKeys (after_collected at o code) rows t
+pub keys_collected : (at : List LedgerView) (o : Operation) (code : Code) (known : IsKnown at o.manager) (rows : List (List ℕ)) (s t : Slab Slot) (key : ℕ) → AreKeys at rows s → Updates s t key None → AreKeys (after_collected at o code) rows t
 keys_collected at o code known rows s t key r u = record {
-  number = r.number ∙ sym (length-put_account at o.manager (with_collected (account at o.manager) o.number code));
+  number = r.number ∙ sym (length-put_ledger at o.manager (with_collected (ledger at o.manager) o.number code));
   planned = λ q is. let was = collected_known at o code known q is in elim (cases_eq q o.manager) [
-    | inl same ↦ r.planned q was ∙ sym (ap (λ (a : AccountView). a.plan) (account-collected_same at o code known q same))
-    | inr differs ↦ r.planned q was ∙ sym (ap (λ (a : AccountView). a.plan) (account-collected_other at o code known q was.positive differs))
+    | inl same ↦ r.planned q was ∙ sym (ap (λ (a : LedgerView). a.plan) (ledger-collected_same at o code known q same))
+    | inr differs ↦ r.planned q was ∙ sym (ap (λ (a : LedgerView). a.plan) (ledger-collected_other at o code known q was.positive differs))
   ];
   told = λ k y found. r.told k y (found_before s t key u k y found).1;
 }
 
 -- a desk that has done nothing
 
-fresh_plan : (plan : ℕ) (use_async : List Bool) (i : ℕ) → i < length use_async → (get_or (new_accounts plan use_async) i (no_account)).plan ≡ plan
+fresh_plan : (plan : ℕ) (use_async : List Bool) (i : ℕ) → i < length use_async → (get_or (new_ledgers plan use_async) i (no_ledger)).plan ≡ plan
 fresh_plan plan [] i within = absurd (omega arith)
 fresh_plan plan (b ∷ bs) zero within = refl
 fresh_plan plan (b ∷ bs) (suc i) within = fresh_plan plan bs i (omega arith)
 
-pub keys_new : (plan : ℕ) (use_async : List Bool) (s : Slab Slot) → s.slots ≡ [] → AreKeys (new_accounts plan use_async) (replicate (length use_async) (replicate plan 0)) s
+pub keys_new : (plan : ℕ) (use_async : List Bool) (s : Slab Slot) → s.slots ≡ [] → AreKeys (new_ledgers plan use_async) (replicate (length use_async) (replicate plan 0)) s
 keys_new plan use_async s empty = record {
-  number = length-replicate (length use_async) (replicate plan 0) ∙ sym (length-map use_async (λ carries. new_account carries plan));
+  number = length-replicate (length use_async) (replicate plan 0) ∙ sym (length-map use_async (λ carries. new_ledger carries plan));
   planned = λ m known.
-      let few = rw (length-map use_async (λ carries. new_account carries plan)) at known.within in
+      let few = rw (length-map use_async (λ carries. new_ledger carries plan)) at known.within in
       let positive = known.positive in
       let within : m - 1 < length use_async = omega arith in
       ap length (get_or-replicate (length use_async) (m - 1) (replicate plan 0) [] within)

@@ -1,4 +1,4 @@
-pub mod Accounts
+pub mod Ledgers
 pub mod Books
 pub mod KeptPlaces
 pub mod Counts

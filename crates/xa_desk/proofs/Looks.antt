@@ -65,8 +65,8 @@ looks_chain a b c l m = record { pops = pops_chain a b c l.pops m.pops; rest = s
 pub quiet_looks : (a b : DeskView) → EndsQuiet a b → Looks a b
 quiet_looks a b q = looks_drawn a q.before b Empty q.looks q.quiet
 
-pub looks_out : (a b : DeskView) (o : Operation) → Looks a b → IsOut a.accounts o → IsOut b.accounts o
-looks_out a b o l out = subst (λ at. IsOut at o) (sym (ap (λ (x : DeskView). x.accounts) l.rest)) out
+pub looks_out : (a b : DeskView) (o : Operation) → Looks a b → IsOut a.ledgers o → IsOut b.ledgers o
+looks_out a b o l out = subst (λ at. IsOut at o) (sym (ap (λ (x : DeskView). x.ledgers) l.rest)) out
 
 pub looks_loose : (a b : DeskView) (o : Operation) → Looks a b → IsLoose a o → IsLoose b o
 looks_loose a b o l loose k e = loose k (ap (λ m. finmap.get m k) (sym (ap (λ (x : DeskView). x.kept) l.rest)) ∙ e)
@@ -79,13 +79,13 @@ looks_owned a b t l o = record {
   loose = looks_loose a b t.operation l o.loose;
 }
 
-pub looks_outstanding : (a b : DeskView) → Looks a b → outstanding b.accounts ≡ outstanding a.accounts
-looks_outstanding a b l = ap (λ (x : DeskView). outstanding x.accounts) l.rest
+pub looks_outstanding : (a b : DeskView) → Looks a b → outstanding b.ledgers ≡ outstanding a.ledgers
+looks_outstanding a b l = ap (λ (x : DeskView). outstanding x.ledgers) l.rest
 
 pub collects_chain : (a b c : DeskView) (o : Operation) (code : Code) → Looks a b → Collects b c o code → Collects a c o code
 collects_chain a b c o code l x = record { before = x.before; looks = looks_chain a b x.before l x.looks; out = x.out; drained = x.drained; collected = x.collected; fewer = x.fewer ∙ looks_outstanding a b l }
 
-pub collects_from : (old now new : DeskView) (o : Operation) (r : Option Code) → Looks old now → IsOut now.accounts o → r ≡ drained_code o now.drained → IfSome r (λ code. new ≡ record now { accounts = after_collected now.accounts o code }) → OnSome r (outstanding new.accounts + 1 ≡ outstanding now.accounts) → IfSome r (Collects old new o)
+pub collects_from : (old now new : DeskView) (o : Operation) (r : Option Code) → Looks old now → IsOut now.ledgers o → r ≡ drained_code o now.drained → IfSome r (λ code. new ≡ record now { ledgers = after_collected now.ledgers o code }) → OnSome r (outstanding new.ledgers + 1 ≡ outstanding now.ledgers) → IfSome r (Collects old new o)
 collects_from old now new o None l out e h f = tt
 collects_from old now new o (Some code) l out e h f = record { before = now; looks = l; out = out; drained = sym e; collected = h; fewer = f ∙ looks_outstanding old now l }
 
@@ -105,10 +105,10 @@ ready_from d number o kept drained = ap (ready_with d.drained 0) kept ∙ draine
 pub not_ready_from : (d : DeskView) (number : ℕ) (o : Operation) → finmap.get d.kept number ≡ Some o → drained_code o d.drained ≡ None → ready_at d 0 number ≡ false
 not_ready_from d number o kept none = ap (ready_with d.drained 0) kept ∙ ap is_some none
 
--- no more is outstanding than was, and the accounts go on saying what the lanes do
+-- no more is outstanding than was, and the ledgers go on saying what the lanes do
 pub record Stays (old new : DeskView) : Type 0 where
   pub handles : new.handles ≡ old.handles
-  pub fewer : outstanding new.accounts ≤ outstanding old.accounts
+  pub fewer : outstanding new.ledgers ≤ outstanding old.ledgers
   pub tied : IsDesk old → IsDesk new
 
 pub looks_stays : (old new : DeskView) → Looks old new → Stays old new
@@ -157,5 +157,5 @@ any_stays old new m None some none = looks_stays old new (quiet_looks old new (n
 any_stays old new m (Some p) some none = least_stays old new m p.0 p.1 some
 
 -- so a desk stays one
-pub desk_stays : (old new : DeskView) → Stays old new → (outstanding old.accounts ≤ old.handles) × IsDesk old → (outstanding new.accounts ≤ new.handles) × IsDesk new
+pub desk_stays : (old new : DeskView) → Stays old new → (outstanding old.ledgers ≤ old.handles) × IsDesk old → (outstanding new.ledgers ≤ new.handles) × IsDesk new
 desk_stays old new s was = (let h = s.handles in let f = s.fewer in let w = was.0 in omega arith, s.tied was.1)

@@ -10,21 +10,21 @@ use Rattle.xa_desk.specs.DeskView.{DeskView, TicketView, IsKnown, Owns, next_ope
 use Rattle.xa_desk.specs.Lanes.{submitted, after_full, after_fulls}
 use Rattle.xa_desk.specs.Looks.{Looks, EndsQuiet, Collects, TakesKept, CollectsKept, CollectsLeast}
 use Rattle.xa_desk.specs.Tickets.{LeavesTickets, LeavesOthers}
-use Rattle.xa_desk.proofs.Accounts.{sent_keeps_out, unsent, collected_keeps_out}
+use Rattle.xa_desk.proofs.Ledgers.{sent_keeps_out, unsent, collected_keeps_out}
 use Rattle.xa_desk.proofs.KeptPlaces.{tied_true, tied_false}
 use Rattle.xa_desk.proofs.Looks.{looks_owned, quiet_looks}
 use Rattle.xa_desk.proofs.Ties.{fulls_alike}
 
-pub sent_leaves : (old : DeskView) (m : ℕ) (op : Op) → IsKnown old.accounts m → LeavesTickets old (submitted old m op)
+pub sent_leaves : (old : DeskView) (m : ℕ) (op : Op) → IsKnown old.ledgers m → LeavesTickets old (submitted old m op)
 sent_leaves old m op known t owned = record {
   opening = owned.opening;
   thread = owned.thread;
-  out = sent_keeps_out old.accounts m op known t.operation owned.out;
+  out = sent_keeps_out old.ledgers m op known t.operation owned.out;
   loose = owned.loose;
 }
 
-pub sent_fresh : (old : DeskView) (m : ℕ) (op : Op) → IsKnown old.accounts m → (t : TicketView) → Owns old t → t.operation ≢ next_operation old.accounts m
-sent_fresh old m op known t owned = unsent old.accounts m op known t.operation (record { known = owned.out.known; sent = owned.out.sent })
+pub sent_fresh : (old : DeskView) (m : ℕ) (op : Op) → IsKnown old.ledgers m → (t : TicketView) → Owns old t → t.operation ≢ next_operation old.ledgers m
+sent_fresh old m op known t owned = unsent old.ledgers m op known t.operation (record { known = owned.out.known; sent = owned.out.sent })
 
 pub collected_leaves : (old new : DeskView) (o : Operation) (code : Code) → Collects old new o code → LeavesOthers old new o
 collected_leaves old new o code x t owned differs =
@@ -32,7 +32,7 @@ collected_leaves old new o code x t owned differs =
     subst (λ (d : DeskView). Owns d t) (sym x.collected) (record {
       opening = still.opening;
       thread = still.thread;
-      out = collected_keeps_out x.before.accounts o code x.out.known t.operation still.out differs;
+      out = collected_keeps_out x.before.ledgers o code x.out.known t.operation still.out differs;
       loose = still.loose;
     })
 
@@ -87,7 +87,7 @@ taken_leaves old new number code x t owned =
     subst (λ (d : DeskView). Owns d t) (sym x.taken) (record {
       opening = owned.opening;
       thread = owned.thread;
-      out = collected_keeps_out old.accounts x.operation code x.out.known t.operation owned.out (λ same. owned.loose number (x.kept ∙ ap Some (sym same)));
+      out = collected_keeps_out old.ledgers x.operation code x.out.known t.operation owned.out (λ same. owned.loose number (x.kept ∙ ap Some (sym same)));
       loose = freed.loose;
     })
 
@@ -98,14 +98,14 @@ pub least_collected_leaves : (old new : DeskView) (m number : ℕ) (code : Code)
 least_collected_leaves old new m number code x t owned = taken_leaves x.before new number code x.takes t (looks_owned old x.before t (quiet_looks old x.before x.quiet) owned)
 
 -- a call collects what it sent itself, which had no ticket before
-pub called_leaves : (n : ℕ) (old sent new : DeskView) (m : ℕ) (op : Op) (o : Operation) (code : Code) → IsKnown old.accounts m
-    → sent ≡ submitted (after_fulls n old m) m op → o ≡ next_operation old.accounts m → Collects sent new o code → LeavesTickets old new
+pub called_leaves : (n : ℕ) (old sent new : DeskView) (m : ℕ) (op : Op) (o : Operation) (code : Code) → IsKnown old.ledgers m
+    → sent ≡ submitted (after_fulls n old m) m op → o ≡ next_operation old.ledgers m → Collects sent new o code → LeavesTickets old new
 called_leaves n old sent new m op o code known e named x t owned =
     let full : DeskView = after_fulls n old m in
-    let same : full.accounts ≡ old.accounts = (fulls_alike n old full m refl).accounts in
-    let known_still : IsKnown full.accounts m = subst (λ at. IsKnown at m) (sym same) known in
+    let same : full.ledgers ≡ old.ledgers = (fulls_alike n old full m refl).ledgers in
+    let known_still : IsKnown full.ledgers m = subst (λ at. IsKnown at m) (sym same) known in
     let still : Owns full t = fulls_leave n old m t owned in
-    let fresh : t.operation ≢ next_operation old.accounts m = sent_fresh old m op known t owned in
+    let fresh : t.operation ≢ next_operation old.ledgers m = sent_fresh old m op known t owned in
     let here : Owns sent t = subst (λ (d : DeskView). Owns d t) (sym e) (sent_leaves full m op known_still t still) in
     collected_leaves sent new o code x t here (λ same. fresh (same ∙ named))
   where

@@ -1,4 +1,4 @@
--- A desk's accounts go on saying what its ends of lanes do.
+-- A desk's ledgers go on saying what its ends of lanes do.
 use Rattle.std.proofs.Common.{◌≡◌, ◌≢◌, ℕ, zero, suc, ◌+◌, ◌-◌, ◌<◌, Bool, List, [], ◌∷◌, ◌++◌, length, map, Option, Some, None, get_or, sym, refl, ap, ◌∙◌, subst, inl, inr, arith, append-nil}
 use Rattle.std.specs.List.{All, slice_get}
 use Rattle.std.proofs.lemmas.List.{map-append, length-map}
@@ -14,11 +14,11 @@ use Rattle.xa_lane.specs.declared.parcel.Taken.TheVariants.{Item, EndOf, Empty}
 use Rattle.xa_lane.specs.Ends.{Sending, Receiving, somes, parcel}
 use Rattle.xa_lane.specs.Senders.{at_place, with_item, with_full, but_full, sent_at}
 use Rattle.xa_desk.specs.declared.operation.Operation.{Operation}
-use Rattle.xa_desk.specs.AccountView.{AccountView, new_account, with_sent, with_collected}
-use Rattle.xa_desk.specs.DeskView.{DeskView, IsKnown, account, no_account, after_collected, drained_code}
-use Rattle.xa_desk.specs.Lanes.{next_request, submitted, after_full, after_fulls, numbered, arrived, IsPartOf, nothing, with_last, without_last, IsEndTo, AreEnds, WasDrained, IsTied, IsDesk, PartsView, AreNew, new_accounts, new_desk}
+use Rattle.xa_desk.specs.LedgerView.{LedgerView, new_ledger, with_sent, with_collected}
+use Rattle.xa_desk.specs.DeskView.{DeskView, IsKnown, ledger, no_ledger, after_collected, drained_code}
+use Rattle.xa_desk.specs.Lanes.{next_request, submitted, after_full, after_fulls, numbered, arrived, IsPartOf, nothing, with_last, without_last, IsEndTo, AreEnds, WasDrained, IsTied, IsDesk, PartsView, AreNew, new_ledgers, new_desk}
 use Rattle.xa_desk.specs.Looks.{Drains, first, other, Draws, Pops, start, drawn, Looks}
-use Rattle.xa_desk.proofs.Accounts.{same_operation, account-sent_same, account-sent_other, account-collected_same, account-collected_other, known_before, collected_known, length-put_account}
+use Rattle.xa_desk.proofs.Ledgers.{same_operation, ledger-sent_same, ledger-sent_other, ledger-collected_same, ledger-collected_other, known_before, collected_known, length-put_ledger}
 use Rattle.xa_lane.proofs.Senders.{length-at_place, at_place_cases, sent_at-full, sent_at-item, sent_at-other, sent_at-but_full, nothing_sent}
 use Rattle.xa_desk.proofs.Books.{drained_code-push_again}
 
@@ -38,13 +38,13 @@ arrived-mark taken s =
     ∙ somes-append (map (λ (x : Parcel Completion). x.item) taken) (None ∷ [])
     ∙ append-nil (arrived taken)
 
-module _ (t : ℕ) (at : List AccountView) (drained : List Completion) (requests : List (Sending Request)) (r : Receiving Completion) (b : IsTied t at drained requests r) where
+module _ (t : ℕ) (at : List LedgerView) (drained : List Completion) (requests : List (Sending Request)) (r : Receiving Completion) (b : IsTied t at drained requests r) where
   tied_first : (s : ℕ) (c : Completion) → IsTied t at (drained ++ c ∷ []) requests (record r { taken = r.taken ++ parcel s (Some c) ∷ [] })
   tied_first s c = record {
     ends = record { number = b.ends.number; to = b.ends.to; lane = b.ends.lane; senders = b.ends.senders };
     sent = b.sent;
     drained_ = with_last drained (arrived r.taken) (arrived (r.taken ++ parcel s (Some c) ∷ [])) c b.drained_ (arrived-item r.taken s c);
-    collected = λ m known k d below. drained_code-push_again (record { manager = m; number = (get_or (account at m).collected k d).0 }) drained c (get_or (account at m).collected k d).1 (b.collected m known k d below);
+    collected = λ m known k d below. drained_code-push_again (record { manager = m; number = (get_or (ledger at m).collected k d).0 }) drained c (get_or (ledger at m).collected k d).1 (b.collected m known k d below);
   }
 
   tied_other : (s : ℕ) (c : Completion) → IsTied t at drained requests (record r { taken = r.taken ++ parcel s (Some c) ∷ [] })
@@ -72,13 +72,13 @@ module _ (t : ℕ) (at : List AccountView) (drained : List Completion) (requests
   }
 
 tied_drains : (old new : DeskView) (s : ℕ) (c : Completion) (r : Receiving Completion) → IsDesk old → r ≡ record old.completions { taken = old.completions.taken ++ parcel s (Some c) ∷ [] } → Drains (record old { completions = r }) c new → IsDesk new
-tied_drains old new s c r b e (first out none is) = subst IsDesk (sym is) (subst (IsTied old.thread old.accounts (old.drained ++ c ∷ []) old.requests) (sym e) (tied_first old.thread old.accounts old.drained old.requests old.completions b s c))
-tied_drains old new s c r b e (other never is) = subst IsDesk (sym is) (subst (IsTied old.thread old.accounts old.drained old.requests) (sym e) (tied_other old.thread old.accounts old.drained old.requests old.completions b s c))
+tied_drains old new s c r b e (first out none is) = subst IsDesk (sym is) (subst (IsTied old.thread old.ledgers (old.drained ++ c ∷ []) old.requests) (sym e) (tied_first old.thread old.ledgers old.drained old.requests old.completions b s c))
+tied_drains old new s c r b e (other never is) = subst IsDesk (sym is) (subst (IsTied old.thread old.ledgers old.drained old.requests) (sym e) (tied_other old.thread old.ledgers old.drained old.requests old.completions b s c))
 
 pub tied_draws : (old new : DeskView) (a : Taken Completion) → Draws old a new → IsDesk old → IsDesk new
 tied_draws old new (Item s c) d b = tied_drains old new s c new.completions b d.0.1 d.1
-tied_draws old new (EndOf s) d b = subst IsDesk (sym d.1) (subst (IsTied old.thread old.accounts old.drained old.requests) (sym d.0.1) (tied_mark old.thread old.accounts old.drained old.requests old.completions b s))
-tied_draws old new Empty d b = subst IsDesk (sym d.1) (subst (IsTied old.thread old.accounts old.drained old.requests) (sym d.0) (tied_quiet old.thread old.accounts old.drained old.requests old.completions b _ _))
+tied_draws old new (EndOf s) d b = subst IsDesk (sym d.1) (subst (IsTied old.thread old.ledgers old.drained old.requests) (sym d.0.1) (tied_mark old.thread old.ledgers old.drained old.requests old.completions b s))
+tied_draws old new Empty d b = subst IsDesk (sym d.1) (subst (IsTied old.thread old.ledgers old.drained old.requests) (sym d.0) (tied_quiet old.thread old.ledgers old.drained old.requests old.completions b _ _))
 
 tied_pops : (old new : DeskView) → Pops old new → IsDesk old → IsDesk new
 tied_pops old new (start _ e) b = subst IsDesk (sym e) b
@@ -89,26 +89,26 @@ tied_looks old new l b = tied_pops old new l.pops b
 
 -- ---- what was collected
 
-pub tied_collected : (d : DeskView) (o : Operation) (code : Code) → IsKnown d.accounts o.manager → drained_code o d.drained ≡ Some code → IsDesk d → IsTied d.thread (after_collected d.accounts o code) d.drained d.requests d.completions
-tied_collected d o code known was b = let at = d.accounts in record {
+pub tied_collected : (d : DeskView) (o : Operation) (code : Code) → IsKnown d.ledgers o.manager → drained_code o d.drained ≡ Some code → IsDesk d → IsTied d.thread (after_collected d.ledgers o code) d.drained d.requests d.completions
+tied_collected d o code known was b = let at = d.ledgers in record {
   ends = record { number = b.ends.number ∙ sym same; to = b.ends.to; lane = b.ends.lane; senders = b.ends.senders ∙ sym same };
   sent = λ m is. let before = collected_known at o code known m is in elim (cases_eq m o.manager) [
-    | inl here ↦ b.sent m before ∙ ap (numbered d.thread 0) (sym (ap (λ (a : AccountView). a.sent) (account-collected_same at o code known m here)))
-    | inr apart ↦ b.sent m before ∙ ap (numbered d.thread 0) (sym (ap (λ (a : AccountView). a.sent) (account-collected_other at o code known m before.positive apart)))
+    | inl here ↦ b.sent m before ∙ ap (numbered d.thread 0) (sym (ap (λ (a : LedgerView). a.sent) (ledger-collected_same at o code known m here)))
+    | inr apart ↦ b.sent m before ∙ ap (numbered d.thread 0) (sym (ap (λ (a : LedgerView). a.sent) (ledger-collected_other at o code known m before.positive apart)))
   ];
   drained_ = b.drained_;
   collected = λ m is. let before = collected_known at o code known m is in elim (cases_eq m o.manager) [
     | inl here ↦
-        let more : All (WasDrained d.drained m) ((account at m).collected ++ (o.number, code) ∷ []) =
-        All-append (WasDrained d.drained m) (account at m).collected ((o.number, code) ∷ []) (b.collected m before)
+        let more : All (WasDrained d.drained m) ((ledger at m).collected ++ (o.number, code) ∷ []) =
+        All-append (WasDrained d.drained m) (ledger at m).collected ((o.number, code) ∷ []) (b.collected m before)
         (All-cons (WasDrained d.drained m) (o.number, code) [] (ap (λ p. drained_code p d.drained) (same_operation (record { manager = m; number = o.number }) o here refl) ∙ was) (All-nil (WasDrained d.drained m))) in
-        subst (λ (a : AccountView). All (WasDrained d.drained m) a.collected) (sym (account-collected_same at o code known m here)) more
-    | inr apart ↦ subst (λ (a : AccountView). All (WasDrained d.drained m) a.collected) (sym (account-collected_other at o code known m before.positive apart)) (b.collected m before)
+        subst (λ (a : LedgerView). All (WasDrained d.drained m) a.collected) (sym (ledger-collected_same at o code known m here)) more
+    | inr apart ↦ subst (λ (a : LedgerView). All (WasDrained d.drained m) a.collected) (sym (ledger-collected_other at o code known m before.positive apart)) (b.collected m before)
   ];
 }
   where
-    same : length (after_collected d.accounts o code) ≡ length d.accounts
-    same = length-put_account d.accounts o.manager (with_collected (account d.accounts o.manager) o.number code)
+    same : length (after_collected d.ledgers o code) ≡ length d.ledgers
+    same = length-put_ledger d.ledgers o.manager (with_collected (ledger d.ledgers o.manager) o.number code)
 
 -- ---- what was sent
 
@@ -139,39 +139,39 @@ item_keeps t x opening m s e = record { sender = e.sender; opening_ = e.opening_
 full_keeps : (t opening m : ℕ) (s : Sending Request) → IsEndTo t opening m s → IsEndTo t opening m (with_full s)
 full_keeps t opening m s e = record { sender = e.sender; opening_ = e.opening_; lane = e.lane }
 
-pub tied_submitted : (d : DeskView) (m : ℕ) (op : Op) → IsKnown d.accounts m → IsDesk d → IsDesk (submitted d m op)
-tied_submitted d m op known b = let at = d.accounts in let x = next_request d m op in record {
-  ends = subst (λ n. AreEnds d.thread n (at_place (m - 1) (with_item x) d.requests) d.completions) (sym (length-put_account at m (with_sent (account at m) op))) (ends_changed d.thread (length at) (m - 1) (with_item x) d.requests d.completions (item_keeps d.thread x) b.ends);
-  sent = λ q is. let before = known_before at m q (with_sent (account at m) op) is in elim (cases_eq q m) [
+pub tied_submitted : (d : DeskView) (m : ℕ) (op : Op) → IsKnown d.ledgers m → IsDesk d → IsDesk (submitted d m op)
+tied_submitted d m op known b = let at = d.ledgers in let x = next_request d m op in record {
+  ends = subst (λ n. AreEnds d.thread n (at_place (m - 1) (with_item x) d.requests) d.completions) (sym (length-put_ledger at m (with_sent (ledger at m) op))) (ends_changed d.thread (length at) (m - 1) (with_item x) d.requests d.completions (item_keeps d.thread x) b.ends);
+  sent = λ q is. let before = known_before at m q (with_sent (ledger at m) op) is in elim (cases_eq q m) [
     | inl same ↦
         let here : q - 1 ≡ m - 1 = ap (λ k. k - 1) same in
         ap (λ k. sent_at k (at_place (m - 1) (with_item x) d.requests)) here
         ∙ sent_at-item (m - 1) x d.requests within
         ∙ ap (λ l. l ++ x ∷ []) (b.sent m known)
-        ∙ ap (λ k. numbered d.thread 0 (account at m).sent ++ request_at d.thread k op ∷ []) (let from : length (account at m).sent ≡ 0 + length (account at m).sent = omega arith in from)
-        ∙ sym (numbered-append d.thread 0 (account at m).sent op)
-        ∙ ap (numbered d.thread 0) (sym (ap (λ (a : AccountView). a.sent) (account-sent_same at m op known q same) ∙ ap (λ k. (account at k).sent ++ op ∷ []) same))
+        ∙ ap (λ k. numbered d.thread 0 (ledger at m).sent ++ request_at d.thread k op ∷ []) (let from : length (ledger at m).sent ≡ 0 + length (ledger at m).sent = omega arith in from)
+        ∙ sym (numbered-append d.thread 0 (ledger at m).sent op)
+        ∙ ap (numbered d.thread 0) (sym (ap (λ (a : LedgerView). a.sent) (ledger-sent_same at m op known q same) ∙ ap (λ k. (ledger at k).sent ++ op ∷ []) same))
     | inr apart ↦
         sent_at-other (q - 1) (m - 1) x d.requests (not_here q before apart)
         ∙ b.sent q before
-        ∙ ap (numbered d.thread 0) (sym (ap (λ (a : AccountView). a.sent) (account-sent_other at m op known q before.positive apart)))
+        ∙ ap (numbered d.thread 0) (sym (ap (λ (a : LedgerView). a.sent) (ledger-sent_other at m op known q before.positive apart)))
   ];
   drained_ = b.drained_;
-  collected = λ q is. let before = known_before at m q (with_sent (account at m) op) is in elim (cases_eq q m) [
-    | inl same ↦ subst (λ (a : AccountView). All (WasDrained d.drained q) a.collected) (sym (account-sent_same at m op known q same)) (b.collected q before)
-    | inr apart ↦ subst (λ (a : AccountView). All (WasDrained d.drained q) a.collected) (sym (account-sent_other at m op known q before.positive apart)) (b.collected q before)
+  collected = λ q is. let before = known_before at m q (with_sent (ledger at m) op) is in elim (cases_eq q m) [
+    | inl same ↦ subst (λ (a : LedgerView). All (WasDrained d.drained q) a.collected) (sym (ledger-sent_same at m op known q same)) (b.collected q before)
+    | inr apart ↦ subst (λ (a : LedgerView). All (WasDrained d.drained q) a.collected) (sym (ledger-sent_other at m op known q before.positive apart)) (b.collected q before)
   ];
 }
   where
     within : m - 1 < length d.requests
     within = let n = b.ends.number in let p = known.positive in let w = known.within in omega arith
 
-    not_here : (q : ℕ) → IsKnown d.accounts q → q ≢ m → q - 1 ≢ m - 1
+    not_here : (q : ℕ) → IsKnown d.ledgers q → q ≢ m → q - 1 ≢ m - 1
     not_here q was differs e = let p = known.positive in let w = was.positive in differs (omega arith)
 
 pub tied_full : (d : DeskView) (m : ℕ) → IsDesk d → IsDesk (after_full d m)
 tied_full d m b = record {
-  ends = ends_changed d.thread (length d.accounts) (m - 1) with_full d.requests d.completions (full_keeps d.thread) b.ends;
+  ends = ends_changed d.thread (length d.ledgers) (m - 1) with_full d.requests d.completions (full_keeps d.thread) b.ends;
   sent = λ q known. sent_at-full (q - 1) (m - 1) d.requests ∙ b.sent q known;
   drained_ = b.drained_;
   collected = b.collected;
@@ -183,15 +183,15 @@ tied_fulls (suc n) d m b = tied_full (after_fulls n d m) m (tied_fulls n d m b)
 
 -- full lanes leave the rest of a desk
 pub record AreAlike (d d' : DeskView) : Type 0 where
-  pub accounts : d'.accounts ≡ d.accounts
+  pub ledgers : d'.ledgers ≡ d.ledgers
   pub handles : d'.handles ≡ d.handles
   pub requests : length d'.requests ≡ length d.requests
 
 fulls_are_alike : (n : ℕ) (d : DeskView) (m : ℕ) → AreAlike d (after_fulls n d m)
-fulls_are_alike zero d m = record { accounts = refl; handles = refl; requests = refl }
+fulls_are_alike zero d m = record { ledgers = refl; handles = refl; requests = refl }
 fulls_are_alike (suc n) d m =
     let a = fulls_are_alike n d m in
-    record { accounts = a.accounts; handles = a.handles; requests = length-at_place with_full (m - 1) (after_fulls n d m).requests ∙ a.requests }
+    record { ledgers = a.ledgers; handles = a.handles; requests = length-at_place with_full (m - 1) (after_fulls n d m).requests ∙ a.requests }
 
 pub fulls_alike : (n : ℕ) (d d' : DeskView) (m : ℕ) → d' ≡ after_fulls n d m → AreAlike d d'
 fulls_alike n d d' m e = subst (AreAlike d) (sym e) (fulls_are_alike n d m)
@@ -203,7 +203,7 @@ bared None = None
 bared (Some s) = Some (but_full s)
 
 -- ends that differ in their full moments alone are tied alike
-pub tied_ended : (t : ℕ) (at : List AccountView) (drained : List Completion) (es ds : List (Sending Request)) (r : Receiving Completion) → map but_full es ≡ map but_full ds → IsTied t at drained ds r → IsTied t at drained es r
+pub tied_ended : (t : ℕ) (at : List LedgerView) (drained : List Completion) (es ds : List (Sending Request)) (r : Receiving Completion) → map but_full es ≡ map but_full ds → IsTied t at drained ds r → IsTied t at drained es r
 tied_ended t at drained es ds r same b = record {
   ends = record {
     number = sym (length-map es but_full) ∙ ap length same ∙ length-map ds but_full ∙ b.ends.number;
@@ -236,19 +236,19 @@ tied_ended t at drained es ds r same b = record {
           lane = ap (λ (s : Sending Request). s.lane.index) one ∙ was.lane;
         }
 
-new_sent : (plan : ℕ) (use_async : List Bool) (i : ℕ) → (get_or (new_accounts plan use_async) i no_account).sent ≡ []
+new_sent : (plan : ℕ) (use_async : List Bool) (i : ℕ) → (get_or (new_ledgers plan use_async) i no_ledger).sent ≡ []
 new_sent plan [] i = refl
 new_sent plan (b ∷ bs) zero = refl
 new_sent plan (b ∷ bs) (suc i) = new_sent plan bs i
 
-new_collected : (plan : ℕ) (use_async : List Bool) (i : ℕ) → (get_or (new_accounts plan use_async) i no_account).collected ≡ []
+new_collected : (plan : ℕ) (use_async : List Bool) (i : ℕ) → (get_or (new_ledgers plan use_async) i no_ledger).collected ≡ []
 new_collected plan [] i = refl
 new_collected plan (b ∷ bs) zero = refl
 new_collected plan (b ∷ bs) (suc i) = new_collected plan bs i
 
 pub tied_new : (p : PartsView) (requests : List (Sending Request)) (r : Receiving Completion) → AreEnds p.thread (length p.use_async) requests r → AreNew requests r → IsDesk (new_desk p requests r)
 tied_new p requests r ends new = record {
-  ends = subst (λ n. AreEnds p.thread n requests r) (sym (length-map p.use_async (λ carries. new_account carries p.plan))) ends;
+  ends = subst (λ n. AreEnds p.thread n requests r) (sym (length-map p.use_async (λ carries. new_ledger carries p.plan))) ends;
   sent = λ m known. nothing_sent (m - 1) requests new.sent ∙ ap (numbered p.thread 0) (sym (new_sent p.plan p.use_async (m - 1)));
   drained_ = subst (IsPartOf []) (sym (ap arrived new.taken)) nothing;
   collected = λ m known. subst (All (WasDrained [] m)) (sym (new_collected p.plan p.use_async (m - 1))) (All-nil (WasDrained [] m));

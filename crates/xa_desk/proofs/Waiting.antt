@@ -12,12 +12,12 @@ use Rattle.xa_desk.specs.Waits.{Idles, WaitsFor, SendsAndWaits, MarksEnd, MarkEn
 
 module _ {I : Type 0} (by : ℕ → I → I → Type 0) where
   pub sends_and_waits : (n : ℕ) (old sent new : DeskView) (before mid after : I) (m : ℕ) (op : Op) (o : Operation) (code : Code)
-      → sent ≡ submitted (after_fulls n old m) m op → o ≡ next_operation old.accounts m → Idles (by m) n before mid → WaitsFor (by o.manager) sent new mid after o code → SendsAndWaits (by m) old new before after m op code
+      → sent ≡ submitted (after_fulls n old m) m op → o ≡ next_operation old.ledgers m → Idles (by m) n before mid → WaitsFor (by o.manager) sent new mid after o code → SendsAndWaits (by m) old new before after m op code
   sends_and_waits n old sent new before mid after m op o code e named idled waited = record {
     fulls = n;
     mid = mid;
     idles_ = idled;
-    waits = subst (λ (d : DeskView). WaitsFor (by m) d new mid after (next_operation old.accounts m) code) e (subst (λ (o : Operation). WaitsFor (by o.manager) sent new mid after o code) named waited);
+    waits = subst (λ (d : DeskView). WaitsFor (by m) d new mid after (next_operation old.ledgers m) code) e (subst (λ (o : Operation). WaitsFor (by o.manager) sent new mid after o code) named waited);
   }
 
   -- one more end mark was put

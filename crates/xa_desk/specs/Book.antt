@@ -10,7 +10,7 @@ abbrev pub desk_of : Inside → DeskView
 desk_of b = record {
   thread = b.thread;
   handles = b.handles;
-  accounts = b.accounts.items;
+  ledgers = b.ledgers.items;
   kept = kept_of b.kept.items;
   drained = b.drained.items;
   drained_then = b.drained_then;
@@ -27,12 +27,12 @@ pub record IsWithinLimits (t h m : ℕ) : Type 0 where
 -- the books are in order, and each slot is found; there is a slot for each handle and one more, a place for each
 -- handle, and room for each planned completion and for each end of a lane
 pub record IsBook (b : Inside) : Type 0 where
-  pub books : IsBooks b.accounts.items b.slots b.kept.items b.drained.items
-  pub keys : AreKeys b.accounts.items b.rows.items b.slots
+  pub books : IsBooks b.ledgers.items b.slots b.kept.items b.drained.items
+  pub keys : AreKeys b.ledgers.items b.rows.items b.slots
   pub slots_used : slab_len b.slots ≤ b.handles + 1
   pub slots_room : b.handles + 1 ≤ b.slots.capacity
   pub places : length b.kept.items ≡ b.handles
-  pub drained_room : planned_total b.accounts.items ≤ vec_capacity b.drained
-  pub limits : IsWithinLimits b.thread b.handles (length b.accounts.items)
+  pub drained_room : planned_total b.ledgers.items ≤ vec_capacity b.drained
+  pub limits : IsWithinLimits b.thread b.handles (length b.ledgers.items)
   pub ends : b.ends.items ≡ []
   pub ends_room : 8 ≤ vec_capacity b.ends

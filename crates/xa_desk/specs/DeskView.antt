@@ -11,18 +11,18 @@ use Rattle.xa_words.specs.declared.request.Request.{Request}
 use Rattle.xa_words.specs.declared.request.Completion.{Completion}
 use Rattle.xa_lane.specs.Ends.{Sending, Receiving}
 use Rattle.xa_desk.specs.declared.operation.Operation.{Operation}
-use Rattle.xa_desk.specs.AccountView.{AccountView, new_account, learnt_shut, is_collected, with_sent, with_collected}
+use Rattle.xa_desk.specs.LedgerView.{LedgerView, new_ledger, learnt_shut, is_collected, with_sent, with_collected}
 use Rattle.xa_desk.specs.declared.refused.Refused.{Refused}
 use Rattle.xa_desk.specs.declared.refused.Refused.TheVariants.{NoSuchManager, Shut, TooMany, Spent}
 
--- the thread, how many handles it has, its account with each manager, which operation is kept under which number,
+-- the thread, how many handles it has, its ledger with each manager, which operation is kept under which number,
 -- the completions that were the first for an outstanding operation as they were taken, how many of them there were
 -- at the last quiet moment; its ends of the lanes to the managers, that to manager m at place m - 1; and its end of
 -- the lane that completions come by, which counts the quiet moments
 pub record DeskView : Type 0 where
   pub thread : ℕ
   pub handles : ℕ
-  pub accounts : List AccountView
+  pub ledgers : List LedgerView
   pub kept : finmap.FinMap nat_cmp Operation
   pub drained : List Completion
   pub drained_then : ℕ
@@ -56,65 +56,65 @@ ticket_of d operation = record { opening = opening_of d; thread = d.thread; oper
 abbrev pub operation_of : Completion → Operation
 operation_of c = record { manager = c.manager; number = c.number }
 
--- ---- the accounts: managers are numbered from 1
+-- ---- the ledgers: managers are numbered from 1
 
 -- the manager is one of the desk's
-pub record IsKnown (at : List AccountView) (m : ℕ) : Type 0 where
+pub record IsKnown (at : List LedgerView) (m : ℕ) : Type 0 where
   pub positive : 1 ≤ m
   pub within : m ≤ length at
 
 -- the same as a test
-abbrev pub is_known : List AccountView → ℕ → Bool
+abbrev pub is_known : List LedgerView → ℕ → Bool
 is_known at m = nat_le 1 m && nat_le m (length at)
 
-abbrev pub no_account : AccountView
-no_account = new_account false 0
+abbrev pub no_ledger : LedgerView
+no_ledger = new_ledger false 0
 
--- the account with manager m
-abbrev pub account : List AccountView → ℕ → AccountView
-account at m = slice_index_or at (m - 1) no_account
+-- the ledger with manager m
+abbrev pub ledger : List LedgerView → ℕ → LedgerView
+ledger at m = slice_index_or at (m - 1) no_ledger
 
-abbrev pub put_account : List AccountView → ℕ → AccountView → List AccountView
-put_account at m a = slice_set at (m - 1) a
+abbrev pub put_ledger : List LedgerView → ℕ → LedgerView → List LedgerView
+put_ledger at m a = slice_set at (m - 1) a
 
 -- one more request was sent to the manager
-abbrev pub after_sent : List AccountView → ℕ → Op → List AccountView
-after_sent at m op = put_account at m (with_sent (account at m) op)
+abbrev pub after_sent : List LedgerView → ℕ → Op → List LedgerView
+after_sent at m op = put_ledger at m (with_sent (ledger at m) op)
 
 -- the operation was collected with this code
-abbrev pub after_collected : List AccountView → Operation → Code → List AccountView
-after_collected at o code = put_account at o.manager (with_collected (account at o.manager) o.number code)
+abbrev pub after_collected : List LedgerView → Operation → Code → List LedgerView
+after_collected at o code = put_ledger at o.manager (with_collected (ledger at o.manager) o.number code)
 
 -- the operation that the next request to the manager will be
-abbrev pub next_operation : List AccountView → ℕ → Operation
-next_operation at m = record { manager = m; number = length (account at m).sent }
+abbrev pub next_operation : List LedgerView → ℕ → Operation
+next_operation at m = record { manager = m; number = length (ledger at m).sent }
 
 -- how many planned requests are left for the manager; 0 for no manager
-abbrev pub room_at : List AccountView → ℕ → ℕ
-room_at at m = if (m == 0) || nat_lt (length at) m then 0 else ((account at m).plan - length (account at m).sent)
+abbrev pub room_at : List LedgerView → ℕ → ℕ
+room_at at m = if (m == 0) || nat_lt (length at) m then 0 else ((ledger at m).plan - length (ledger at m).sent)
 
 -- what was sent to the manager, and what was collected from it; nothing for no manager
-abbrev pub sent_to : List AccountView → ℕ → List Op
-sent_to at m = if is_known at m then (account at m).sent else []
+abbrev pub sent_to : List LedgerView → ℕ → List Op
+sent_to at m = if is_known at m then (ledger at m).sent else []
 
-abbrev pub collected_from : List AccountView → ℕ → List (ℕ × Code)
-collected_from at m = if is_known at m then (account at m).collected else []
+abbrev pub collected_from : List LedgerView → ℕ → List (ℕ × Code)
+collected_from at m = if is_known at m then (ledger at m).collected else []
 
 -- ---- what is outstanding
 
 -- the operation was sent
-pub record IsSent (at : List AccountView) (o : Operation) : Type 0 where
+pub record IsSent (at : List LedgerView) (o : Operation) : Type 0 where
   pub known : IsKnown at o.manager
-  pub sent : o.number < length (account at o.manager).sent
+  pub sent : o.number < length (ledger at o.manager).sent
 
 -- the operation is outstanding: it was sent and not collected
-pub record IsOut (at : List AccountView) (o : Operation) : Type 0 where
+pub record IsOut (at : List LedgerView) (o : Operation) : Type 0 where
   pub known : IsKnown at o.manager
-  pub sent : o.number < length (account at o.manager).sent
-  pub open_ : is_collected (account at o.manager) o.number ≡ false
+  pub sent : o.number < length (ledger at o.manager).sent
+  pub open_ : is_collected (ledger at o.manager) o.number ≡ false
 
 -- how many operations are outstanding
-abbrev pub outstanding : List AccountView → ℕ
+abbrev pub outstanding : List LedgerView → ℕ
 outstanding at = sum_by (λ a. length a.sent - length a.collected) at
 
 -- no number has the operation
@@ -125,7 +125,7 @@ IsLoose d o = (k : ℕ) → finmap.get d.kept k ≢ Some o
 pub record Owns (d : DeskView) (t : TicketView) : Type 0 where
   pub opening : t.opening ≡ opening_of d
   pub thread : t.thread ≡ d.thread
-  pub out : IsOut d.accounts t.operation
+  pub out : IsOut d.ledgers t.operation
   pub loose : IsLoose d t.operation
 
 -- ---- what was drained
@@ -181,17 +181,17 @@ pub record IsLeast (passes : ℕ → Bool) (k : ℕ) : Type 0 where
 -- why nothing may be sent to manager m
 abbrev pub reach_refusal : DeskView → ℕ → Option Refused
 reach_refusal d m =
-    if not (is_known d.accounts m) then Some NoSuchManager
-    else (if learnt_shut (account d.accounts m) then Some Shut
+    if not (is_known d.ledgers m) then Some NoSuchManager
+    else (if learnt_shut (ledger d.ledgers m) then Some Shut
     else None)
 
 -- why no operation may be begun that takes a handle: none is free
 abbrev pub handle_refusal : DeskView → Option Refused
-handle_refusal d = if nat_le d.handles (outstanding d.accounts) then Some TooMany else None
+handle_refusal d = if nat_le d.handles (outstanding d.ledgers) then Some TooMany else None
 
 -- why no further request may be sent to manager m: no planned one is left
 abbrev pub spent_refusal : DeskView → ℕ → Option Refused
-spent_refusal d m = if room_at d.accounts m == 0 then Some Spent else None
+spent_refusal d m = if room_at d.ledgers m == 0 then Some Spent else None
 
 -- why a request may not be sent, a full lane aside: the first of these
 abbrev pub submit_refusal : DeskView → ℕ → Option Refused

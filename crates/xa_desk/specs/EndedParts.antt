@@ -7,7 +7,7 @@ use Rattle.xa_desk.specs.declared.ended.EndedDesk.TheInside.{Inside}
 abbrev pub ended_of : Inside → EndedView
 ended_of e = record {
   thread = e.thread;
-  accounts = e.accounts.items;
+  ledgers = e.ledgers.items;
   drained = e.drained.items;
   requests = e.requests.items;
   completions = e.completions;
@@ -17,4 +17,4 @@ ended_of e = record {
 pub record AreEndedParts (e : Inside) : Type 0 where
   pub known : IsEnded (ended_of e)
   pub thread : (1 ≤ e.thread) × (e.thread ≤ 8)
-  pub managers : (1 ≤ length e.accounts.items) × (length e.accounts.items ≤ 8)
+  pub managers : (1 ≤ length e.ledgers.items) × (length e.ledgers.items ≤ 8)

@@ -9,18 +9,18 @@ use Rattle.xa_words.specs.declared.request.Completion.{Completion}
 use Rattle.xa_lane.specs.declared.parcel.Parcel.{Parcel}
 use Rattle.xa_lane.specs.Ends.{Sending, Receiving, somes}
 use Rattle.xa_lane.specs.Senders.{at_place, with_item, with_full, sent_at}
-use Rattle.xa_desk.specs.AccountView.{AccountView, new_account}
-use Rattle.xa_desk.specs.DeskView.{DeskView, IsKnown, account, after_sent, drained_code}
+use Rattle.xa_desk.specs.LedgerView.{LedgerView, new_ledger}
+use Rattle.xa_desk.specs.DeskView.{DeskView, IsKnown, ledger, after_sent, drained_code}
 
 -- ---- sending
 
 -- the thread's next request to manager m
 abbrev pub next_request : DeskView → ℕ → Op → Request
-next_request d m op = record { thread = d.thread; number = length (account d.accounts m).sent; op = op }
+next_request d m op = record { thread = d.thread; number = length (ledger d.ledgers m).sent; op = op }
 
--- the request was sent: it is the next of the account, and the end of the lane to m sent it
+-- the request was sent: it is the next of the ledger, and the end of the lane to m sent it
 abbrev pub submitted : DeskView → ℕ → Op → DeskView
-submitted d m op = record d { accounts = after_sent d.accounts m op; requests = at_place (m - 1) (with_item (next_request d m op)) d.requests }
+submitted d m op = record d { ledgers = after_sent d.ledgers m op; requests = at_place (m - 1) (with_item (next_request d m op)) d.requests }
 
 -- the lane to manager m was found full, which its end counts
 abbrev pub after_full : DeskView → ℕ → DeskView
@@ -70,16 +70,16 @@ pub record AreEnds (t managers : ℕ) (requests : List (Sending Request)) (compl
 abbrev pub WasDrained : List Completion → ℕ → ℕ × Code → Type 0
 WasDrained drained m p = drained_code (record { manager = m; number = p.0 }) drained ≡ Some p.1
 
--- a desk's accounts and what it drained say what its ends of lanes do: what was sent to a manager is what the end of
+-- a desk's ledgers and what it drained say what its ends of lanes do: what was sent to a manager is what the end of
 -- the lane to it sent, what was drained are completions that were taken, and what was collected was drained
-pub record IsTied (t : ℕ) (at : List AccountView) (drained : List Completion) (requests : List (Sending Request)) (completions : Receiving Completion) : Type 0 where
+pub record IsTied (t : ℕ) (at : List LedgerView) (drained : List Completion) (requests : List (Sending Request)) (completions : Receiving Completion) : Type 0 where
   pub ends : AreEnds t (length at) requests completions
-  pub sent : (m : ℕ) → IsKnown at m → sent_at (m - 1) requests ≡ numbered t 0 (account at m).sent
+  pub sent : (m : ℕ) → IsKnown at m → sent_at (m - 1) requests ≡ numbered t 0 (ledger at m).sent
   pub drained_ : IsPartOf drained (arrived completions.taken)
-  pub collected : (m : ℕ) → IsKnown at m → All (WasDrained drained m) (account at m).collected
+  pub collected : (m : ℕ) → IsKnown at m → All (WasDrained drained m) (ledger at m).collected
 
 abbrev pub IsDesk : DeskView → Type 0
-IsDesk d = IsTied d.thread d.accounts d.drained d.requests d.completions
+IsDesk d = IsTied d.thread d.ledgers d.drained d.requests d.completions
 
 -- ---- a desk that has done nothing
 
@@ -96,14 +96,14 @@ pub record AreNew (requests : List (Sending Request)) (completions : Receiving C
   pub sent : All (λ s. s.sent ≡ []) requests
   pub taken : completions.taken ≡ []
 
-abbrev pub new_accounts : ℕ → List Bool → List AccountView
-new_accounts plan use_async = map (λ carries. new_account carries plan) use_async
+abbrev pub new_ledgers : ℕ → List Bool → List LedgerView
+new_ledgers plan use_async = map (λ carries. new_ledger carries plan) use_async
 
 abbrev pub new_desk : PartsView → List (Sending Request) → Receiving Completion → DeskView
 new_desk p requests completions = record {
   thread = p.thread;
   handles = p.handles;
-  accounts = new_accounts p.plan p.use_async;
+  ledgers = new_ledgers p.plan p.use_async;
   kept = finmap.empty;
   drained = [];
   drained_then = 0;

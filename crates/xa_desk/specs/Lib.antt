@@ -1,7 +1,7 @@
-pub mod AccountView
+pub mod LedgerView
 pub mod DeskView
 pub mod Looks
-pub mod Account
+pub mod Ledger
 pub mod Slots
 pub mod Book
 pub mod Tickets

@@ -11,8 +11,8 @@ use Rattle.xa_desk.specs.DeskView.{DeskView, IsOut, IsLeast, operation_of, after
 
 -- a completion that was taken is drained where it is the first for an outstanding operation, and else changes nothing
 pub data Drains (old : DeskView) (c : Completion) (new : DeskView) : Type 0 where
-  first : IsOut old.accounts (operation_of c) → drained_code (operation_of c) old.drained ≡ None → new ≡ record old { drained = old.drained ++ c ∷ [] } → Drains old c new
-  other : (IsOut old.accounts (operation_of c) → drained_code (operation_of c) old.drained ≡ None → ⊥) → new ≡ old → Drains old c new
+  first : IsOut old.ledgers (operation_of c) → drained_code (operation_of c) old.drained ≡ None → new ≡ record old { drained = old.drained ++ c ∷ [] } → Drains old c new
+  other : (IsOut old.ledgers (operation_of c) → drained_code (operation_of c) old.drained ≡ None → ⊥) → new ≡ old → Drains old c new
 
 -- a quiet moment: a take found the lane empty
 abbrev pub after_quiet : DeskView → DeskView
@@ -30,7 +30,7 @@ pub data Pops (old : DeskView) : DeskView → Type 0 where
   start : (new : DeskView) → new ≡ old → Pops old new
   drawn : (now new : DeskView) → Pops old now → (taken : Taken Completion) → Draws now taken new → Pops old new
 
--- nothing but such takes was done, so the accounts, what is kept and the lanes stay
+-- nothing but such takes was done, so the ledgers, what is kept and the lanes stay
 pub record Looks (old new : DeskView) : Type 0 where
   pub pops : Pops old new
   pub rest : new ≡ record old { drained = new.drained; drained_then = new.drained_then; completions = record old.completions { taken = new.completions.taken; quiet = new.completions.quiet; taken_then = new.completions.taken_then } }
@@ -50,19 +50,19 @@ pub record LooksOnce (old new : DeskView) : Type 0 where
 pub record Collects (old new : DeskView) (o : Operation) (code : Code) : Type 0 where
   pub before : DeskView
   pub looks : Looks old before
-  pub out : IsOut before.accounts o
+  pub out : IsOut before.ledgers o
   pub drained : drained_code o before.drained ≡ Some code
-  pub collected : new ≡ record before { accounts = after_collected before.accounts o code }
-  pub fewer : outstanding new.accounts + 1 ≡ outstanding old.accounts
+  pub collected : new ≡ record before { ledgers = after_collected before.ledgers o code }
+  pub fewer : outstanding new.ledgers + 1 ≡ outstanding old.ledgers
 
 -- the drained completion of the operation that was kept under the number was collected, and the number is free
 pub record TakesKept (old new : DeskView) (number : ℕ) (code : Code) : Type 0 where
   pub operation : Operation
   pub kept : finmap.get old.kept number ≡ Some operation
-  pub out : IsOut old.accounts operation
+  pub out : IsOut old.ledgers operation
   pub drained : drained_code operation old.drained ≡ Some code
-  pub taken : new ≡ record old { accounts = after_collected old.accounts operation code; kept = finmap.remove old.kept number }
-  pub fewer : outstanding new.accounts + 1 ≡ outstanding old.accounts
+  pub taken : new ≡ record old { ledgers = after_collected old.ledgers operation code; kept = finmap.remove old.kept number }
+  pub fewer : outstanding new.ledgers + 1 ≡ outstanding old.ledgers
 
 -- the same after some takes
 pub record CollectsKept (old new : DeskView) (number : ℕ) (code : Code) : Type 0 where

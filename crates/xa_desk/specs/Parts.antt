@@ -1,27 +1,27 @@
 -- How the parts of a desk keep what they are made with.
 use Rattle.std.specs.Prelude.{◌≡◌, ◌+◌, ◌*◌, ◌≤◌, Bool, List, [], None, length, map, replicate, vec_capacity}
-use Rattle.xa_desk.specs.AccountView.{AccountView}
-use Rattle.xa_desk.specs.Lanes.{PartsView, new_accounts}
+use Rattle.xa_desk.specs.LedgerView.{LedgerView}
+use Rattle.xa_desk.specs.Lanes.{PartsView, new_ledgers}
 use Rattle.xa_desk.specs.Book.{IsWithinLimits}
 use Rattle.xa_desk.specs.declared.parts.DeskParts.TheInside.{Inside}
 
 -- of each manager whether it takes asynchronous calls
-abbrev pub carried : List AccountView → List Bool
+abbrev pub carried : List LedgerView → List Bool
 carried at = map (λ a. a.carries_async) at
 
 -- what contracts see
 abbrev pub parts_of : Inside → PartsView
-parts_of p = record { thread = p.thread; handles = p.handles; plan = p.plan; use_async = carried p.accounts.items }
+parts_of p = record { thread = p.thread; handles = p.handles; plan = p.plan; use_async = carried p.ledgers.items }
 
 -- nothing was done with any part, and there is room for all that is planned
 pub record AreParts (p : Inside) : Type 0 where
-  pub accounts : p.accounts.items ≡ new_accounts p.plan (carried p.accounts.items)
+  pub ledgers : p.ledgers.items ≡ new_ledgers p.plan (carried p.ledgers.items)
   pub slots : p.slots.slots ≡ []
   pub slots_room : p.handles + 1 ≤ p.slots.capacity
-  pub rows : p.rows.items ≡ replicate (length p.accounts.items) (replicate p.plan 0)
+  pub rows : p.rows.items ≡ replicate (length p.ledgers.items) (replicate p.plan 0)
   pub kept : p.kept.items ≡ replicate p.handles None
   pub drained : p.drained.items ≡ []
-  pub drained_room : p.plan * length p.accounts.items ≤ vec_capacity p.drained
+  pub drained_room : p.plan * length p.ledgers.items ≤ vec_capacity p.drained
   pub ends : p.ends.items ≡ []
   pub ends_room : 8 ≤ vec_capacity p.ends
-  pub limits : IsWithinLimits p.thread p.handles (length p.accounts.items)
+  pub limits : IsWithinLimits p.thread p.handles (length p.ledgers.items)

@@ -8,8 +8,8 @@ use Rattle.xa_words.specs.declared.code.Code.{Code}
 use Rattle.xa_words.specs.declared.request.Completion.{Completion}
 use Rattle.xa_desk.specs.declared.operation.Operation.{Operation}
 use Rattle.xa_desk.specs.declared.slot.Slot.{Slot}
-use Rattle.xa_desk.specs.AccountView.{AccountView, numbers, is_collected}
-use Rattle.xa_desk.specs.DeskView.{IsKnown, IsSent, IsOut, account, outstanding, drained_code}
+use Rattle.xa_desk.specs.LedgerView.{LedgerView, numbers, is_collected}
+use Rattle.xa_desk.specs.DeskView.{IsKnown, IsSent, IsOut, ledger, outstanding, drained_code}
 
 -- a slot has the operation
 pub record HasSlot (s : Slab Slot) (o : Operation) : Type 0 where
@@ -27,7 +27,7 @@ pub record HasKept (s : Slab Slot) (o : Operation) (number : ℕ) : Type 0 where
   pub handle : slot.handle ≡ number
 
 -- the numbers collected from a manager are apart, and were sent
-pub record IsOrderly (a : AccountView) : Type 0 where
+pub record IsOrderly (a : LedgerView) : Type 0 where
   pub planned : length a.sent ≤ a.plan
   pub distinct : IsDistinct nat_eq (numbers a)
   pub below : (n : ℕ) → is_collected a n ≡ true → n < length a.sent
@@ -41,9 +41,9 @@ abbrev pub AreTold : List (List ℕ) → Slab Slot → Type 0
 AreTold rows s = (key : ℕ) (slot : Slot) → get s key ≡ Some slot → key_at rows slot.operation ≡ Some key
 
 -- each manager has a row, with a place for each planned request, and the rows tell the key of each slot
-pub record AreKeys (at : List AccountView) (rows : List (List ℕ)) (s : Slab Slot) : Type 0 where
+pub record AreKeys (at : List LedgerView) (rows : List (List ℕ)) (s : Slab Slot) : Type 0 where
   pub number : length rows ≡ length at
-  pub planned : (m : ℕ) → IsKnown at m → length (slice_index_or rows (m - 1) []) ≡ (account at m).plan
+  pub planned : (m : ℕ) → IsKnown at m → length (slice_index_or rows (m - 1) []) ≡ (ledger at m).plan
   pub told : AreTold rows s
 
 -- 1 for a slot whose completion was drained
@@ -54,10 +54,10 @@ ready_weight (Some slot) = cond (is_some slot.code) 1 0
 abbrev pub ready_count : Slab Slot → ℕ
 ready_count s = sum_by ready_weight s.slots
 
-abbrev pub collected_total : List AccountView → ℕ
+abbrev pub collected_total : List LedgerView → ℕ
 collected_total at = sum_by (λ a. length a.collected) at
 
-abbrev pub planned_total : List AccountView → ℕ
+abbrev pub planned_total : List LedgerView → ℕ
 planned_total at = sum_by (λ a. a.plan) at
 
 -- the map that a table of kept operations is: number k stands at place k - 1
@@ -66,8 +66,8 @@ kept_of table = map.from_entries (entries_from 1 table)
 
 -- the slots are the outstanding operations, each with the code that was drained for it; the table and the slots
 -- agree on what is kept; and a drained completion is of a sent request
-pub record IsBooks (at : List AccountView) (s : Slab Slot) (table : List (Option Operation)) (drained : List Completion) : Type 0 where
-  pub orderly : (m : ℕ) → IsKnown at m → IsOrderly (account at m)
+pub record IsBooks (at : List LedgerView) (s : Slab Slot) (table : List (Option Operation)) (drained : List Completion) : Type 0 where
+  pub orderly : (m : ℕ) → IsKnown at m → IsOrderly (ledger at m)
   pub slot_out : (key : ℕ) (slot : Slot) → get s key ≡ Some slot → IsOut at slot.operation
   pub out_slot : (o : Operation) → IsOut at o → HasSlot s o
   pub one_slot : (j k : ℕ) (x y : Slot) → get s j ≡ Some x → get s k ≡ Some y → x.operation ≡ y.operation → j ≡ k

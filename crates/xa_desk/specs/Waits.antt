@@ -44,7 +44,7 @@ module _ {I : Type 0} (by : I → I → Type 0) where
     pub fulls : ℕ
     pub mid : I
     pub idles_ : Idles by fulls before mid
-    pub waits : WaitsFor (submitted (after_fulls fulls old m) m op) new mid after (next_operation old.accounts m) code
+    pub waits : WaitsFor (submitted (after_fulls fulls old m) m op) new mid after (next_operation old.ledgers m) code
 
 -- ---- waiting for room
 

@@ -1,9 +1,9 @@
 //! One thread of control's desk over its lanes.
 ghost use Rattle.std.specs.Prelude.{◌≡◌, ◌≢◌, ℕ, ◌-◌, ◌<◌, ◌≤◌, ◌↔◌, length, IfOk, IfErr, IfSome, IfNone, OnOk, OnErr, OnSome, IsTrue, IsSome, IsNone, IsOk, IsErr, Some, None, false, true, option_map, ◌&&◌};
 ghost use Rattle.std.specs.FinMap as map;
-ghost use Rattle.xa_desk.specs.AccountView.{learnt_shut};
-ghost use Rattle.xa_desk.specs.DeskView.{TicketView, IsKnown, IsHandle, Owns, account, outstanding, drained_code, ticket_of, next_operation, reach_refusal, submit_refusal, call_refusal, IsLeastFree, ready_at, keeps_at, room_at, is_known};
-ghost use Rattle.xa_desk.specs.Ended.{Ends, AreSettled};
+ghost use Rattle.xa_desk.specs.LedgerView.{learnt_shut};
+ghost use Rattle.xa_desk.specs.DeskView.{TicketView, IsKnown, IsHandle, Owns, ledger, outstanding, drained_code, ticket_of, next_operation, submit_refusal, call_refusal, IsLeastFree, ready_at, keeps_at, room_at, is_known};
+ghost use Rattle.xa_desk.specs.Ended.{Ends, AreBalanced};
 ghost use Rattle.xa_desk.specs.GoesOn.{GoesOn, GoesOut};
 ghost use Rattle.xa_desk.specs.Lanes.{AreEnds, AreNew, IsDesk, new_desk, submitted, after_full, after_fulls};
 ghost use Rattle.xa_desk.specs.Looks.{EndsQuiet, Collects, CollectsKept, CollectsLeast};
@@ -18,7 +18,6 @@ use crate::parts::DeskParts;
 use crate::pump::{
     send_waiting, try_collect, try_collect_any, try_collect_kept, wait_for, wait_for_any,
 };
-use crate::refusal::{call_refusal, reach_refusal, submit_refusal};
 use crate::refused::{AnyFault, NothingOutstanding, Refused};
 use crate::ticket::Ticket;
 use std::marker::Model;
@@ -31,7 +30,7 @@ use xa_words::{Code, Completion, Op, Request};
 /// All memory is reserved by `DeskParts`: no call of a desk takes any. A call that waits looks first, and
 /// idles on what it waits for after each look that found nothing, and nowhere else (`waited`); it may never
 /// return, and its promise holds if it does. What a call's contract doesn't name of the desk stays. `tied`
-/// says that the accounts and what was drained say what the ends of the lanes do, `goes_on` what each call
+/// says that the ledgers and what was drained say what the ends of the lanes do, `goes_on` what each call
 /// keeps of a desk, and `tickets` or `others` which of the tickets that were owned still are.
 #[derive(Drop)]
 pub struct Desk {
@@ -50,7 +49,7 @@ impl Model for Desk {
 
     ghost view = { λ d. d.book };
 
-    ghost invariant = { λ d. (outstanding d.book.accounts ≤ d.book.handles) × IsDesk d.book };
+    ghost invariant = { λ d. (outstanding d.book.ledgers ≤ d.book.handles) × IsDesk d.book };
 }
 
 impl Desk {
@@ -94,44 +93,53 @@ impl Desk {
 
     /// How many handles are free: those there are, less the operations that are outstanding.
     pub fn free(&self) -> u32
-        ensures free { result ≡ self.now.handles - outstanding self.now.accounts }
-        ensures within { outstanding self.now.accounts ≤ self.now.handles }
+        ensures free { result ≡ self.now.handles - outstanding self.now.ledgers }
+        ensures within { outstanding self.now.ledgers ≤ self.now.handles }
         ensures limit { self.now.handles ≤ 32 }
     {
         // No more are outstanding than there are handles.
-        let _handles = self.book.handles();
-        self.book.free()
+        self.handles() - self.book.slots.len() as u32
     }
 
     /// How many planned requests are left for the manager; 0 for no manager.
     pub fn room(&self, manager: u32) -> u32
-        ensures { result ≡ room_at self.now.accounts manager }
+        ensures { result ≡ room_at self.now.ledgers manager }
     {
-        self.book.room(manager)
+        if !self.knows(manager) {
+            return 0;
+        }
+        self.book.ledgers[manager as usize - 1].room()
     }
 
     /// How many managers there are, which are numbered from 1.
     pub fn managers(&self) -> u32
-        ensures managers { result ≡ length self.now.accounts }
+        ensures managers { result ≡ length self.now.ledgers }
         ensures limits { (1 ≤ result) × (result ≤ 8) }
     {
         self.book.managers()
     }
 
+    // Whether there is a manager of this number.
+    pub(crate) fn knows(&self, manager: u32) -> bool
+        ensures { result ≡ is_known self.now.ledgers manager }
+    {
+        1 <= manager && manager <= self.managers()
+    }
+
     /// Whether `XAER_RMFAIL` was collected from the manager, so that nothing more is sent to it; false
     /// for no manager.
     pub fn learnt_shut(&self, manager: u32) -> bool
-        ensures { result ≡ (is_known self.now.accounts manager && learnt_shut (account self.now.accounts manager)) }
+        ensures { result ≡ (is_known self.now.ledgers manager && learnt_shut (ledger self.now.ledgers manager)) }
     {
-        self.book.learnt_shut(manager)
+        self.knows(manager) && self.book.ledgers[manager as usize - 1].learnt_shut()
     }
 
     /// Whether the manager takes asynchronous calls: `TMUSEASYNC` (C193, chapter 4); false for no
     /// manager.
     pub fn carries_async(&self, manager: u32) -> bool
-        ensures { result ≡ (is_known self.now.accounts manager && (account self.now.accounts manager).carries_async) }
+        ensures { result ≡ (is_known self.now.ledgers manager && (ledger self.now.ledgers manager).carries_async) }
     {
-        self.book.carries_async(manager)
+        self.knows(manager) && self.book.ledgers[manager as usize - 1].carries_async()
     }
 
     /// Whether the ticket is of the desk's opening and thread, and its operation is outstanding and not
@@ -140,16 +148,8 @@ impl Desk {
         ensures { IsTrue result ↔ Owns self.now ticket.now }
     {
         ticket.opening() == self.book.opening()
-            && ticket.thread() == self.book.thread()
+            && ticket.thread() == self.thread()
             && self.book.is_loose(ticket.operation())
-    }
-
-    /// Why nothing may be sent to the manager, handles, planned requests and a full lane aside:
-    /// `NoSuchManager` or `Shut`, the first that holds.
-    pub fn reach_refusal(&self, manager: u32) -> Option<Refused>
-        ensures { result ≡ reach_refusal self.now manager }
-    {
-        reach_refusal(&self.book, manager)
     }
 
     /// Sends a request to a manager; its completion is collected later, by the ticket.
@@ -162,7 +162,7 @@ impl Desk {
         ensures full { submit_refusal self.old manager ≡ None → IfErr result (λ why. (why ≡ Refused.Full) × (self.new ≡ after_full self.old manager)) }
 
         // A sent request has the next number, and the desk owns its ticket.
-        ensures ticket { IfOk result (λ t. t ≡ ticket_of self.old (next_operation self.old.accounts manager)) }
+        ensures ticket { IfOk result (λ t. t ≡ ticket_of self.old (next_operation self.old.ledgers manager)) }
         ensures owned { IfOk result (λ t. Owns self.new t) }
         ensures sent { OnOk result (self.new ≡ submitted self.old manager op) }
         ensures tied { IsDesk self.new }
@@ -172,7 +172,7 @@ impl Desk {
         ensures tickets { LeavesTickets self.old self.new }
         ensures fresh { IfOk result (λ t. (older : TicketView) → Owns self.old older → older.operation ≢ t.operation) }
     {
-        if let Some(why) = submit_refusal(&self.book, manager) {
+        if let Some(why) = self.submit_refusal(manager) {
             return Err(why);
         }
         let Some(operation) = self.book.offer(rt, manager, &op) else {
@@ -198,7 +198,7 @@ impl Desk {
         ensures unchanged { OnErr result (self.new ≡ self.old) }
 
         // Once the lane was found full so many times, the request was sent.
-        ensures collected { IfOk result (λ code. (n : ℕ) × Collects (submitted (after_fulls n self.old manager) manager op) self.new (next_operation self.old.accounts manager) code) }
+        ensures collected { IfOk result (λ code. (n : ℕ) × Collects (submitted (after_fulls n self.old manager) manager op) self.new (next_operation self.old.ledgers manager) code) }
         ensures tied { IsDesk self.new }
         ensures goes_on { GoesOn self.old self.new }
         ensures tickets { LeavesTickets self.old self.new }
@@ -206,7 +206,7 @@ impl Desk {
         ensures idled { I.leads idle.old idle.new }
         ensures idle_stays { OnErr result (idle.new ≡ idle.old) }
     {
-        if let Some(why) = call_refusal(&self.book, manager) {
+        if let Some(why) = self.call_refusal(manager) {
             return Err(why);
         }
         let operation = send_waiting(rt, &mut self.book, manager, &op, idle);
@@ -288,7 +288,7 @@ impl Desk {
     /// The manager of the operation that is kept under the number; `None` for a number that isn't kept.
     pub fn manager_of(&self, number: u32) -> Option<u32>
         ensures manager { result ≡ option_map (λ o. o.manager) (map.get self.now.kept number) }
-        ensures known { IfSome result (IsKnown self.now.accounts) }
+        ensures known { IfSome result (IsKnown self.now.ledgers) }
         ensures handle { IfSome result (λ _. IsHandle number) }
     {
         match self.book.kept_at(number) {
@@ -383,8 +383,8 @@ impl Desk {
     pub fn finish<R: Wait, I: Idle>(self, rt: &R, idle: &mut I) -> Result<EndedDesk, Desk>
         ensures ended { IfOk result (Ends self) }
         ensures back { IfErr result (λ d. d ≡ self) }
-        ensures outstanding { IsErr result ↔ (0 < outstanding self.accounts) }
-        ensures settled { IfOk result (λ e. AreSettled e.accounts) }
+        ensures outstanding { IsErr result ↔ (0 < outstanding self.ledgers) }
+        ensures settled { IfOk result (λ e. AreBalanced e.ledgers) }
         ensures goes_out { IfOk result (GoesOut self) }
         ensures marked { IfOk result (λ e. MarkEnds I.leads_by 0 self.requests e.requests idle.old idle.new) }
         ensures idled { I.leads idle.old idle.new }

@@ -2,13 +2,13 @@
 ghost use Rattle.std.specs.Prelude.{◌≡◌, ◌+◌, ◌≤◌, length, map, vec_capacity, []};
 ghost use Rattle.xa_lane.specs.Senders.{but_full};
 ghost use Rattle.xa_desk.specs.DeskView.{outstanding, sent_to, collected_from};
-ghost use Rattle.xa_desk.specs.Ended.{Ends, IsEnded, AreSettled};
+ghost use Rattle.xa_desk.specs.Ended.{Ends, IsEnded, AreBalanced};
 ghost use Rattle.xa_desk.specs.Lanes.{IsDesk};
 ghost use Rattle.xa_desk.specs.Waits.{MarksEnd, MarkEnds};
 
-use crate::account::Account;
 use crate::book::Book;
 use crate::idle::Idle;
+use crate::ledger::Ledger;
 use std::marker::Model;
 use std::sync::Wait;
 use xa_lane::{Ended, Receiver, Sender};
@@ -19,7 +19,7 @@ use xa_words::{Code, Completion, Op, Request};
 #[derive(Drop)]
 pub struct EndedDesk {
     thread: u32,
-    accounts: Vec<Account>,
+    ledgers: Vec<Ledger>,
     drained: Vec<Completion>,
     requests: Vec<Ended<Request>>,
     completions: Receiver<Completion>,
@@ -43,8 +43,8 @@ pub struct DeskEnds {
     pub requests: Vec<Ended<Request>>,
     /// The end of the lane of completions.
     pub completions: Receiver<Completion>,
-    /// The accounts with the managers, by rising manager.
-    pub accounts: Vec<Account>,
+    /// The ledgers with the managers, by rising manager.
+    pub ledgers: Vec<Ledger>,
 }
 
 impl EndedDesk {
@@ -65,44 +65,44 @@ impl EndedDesk {
 
     /// How many managers there are, which are numbered from 1.
     pub fn peers(&self) -> u32
-        ensures managers { result ≡ length self.now.accounts }
+        ensures managers { result ≡ length self.now.ledgers }
         ensures limits { (1 ≤ result) × (result ≤ 8) }
     {
-        self.accounts.len() as u32
+        self.ledgers.len() as u32
     }
 
     /// The requests that were sent to the manager, in order: the one at place n has number n. None for
     /// no manager.
     pub fn sent(&self, manager: u32) -> &[Op]
-        ensures { result.now ≡ sent_to self.now.accounts manager }
+        ensures { result.now ≡ sent_to self.now.ledgers manager }
     {
         if manager == 0 || manager > self.peers() {
             return &[];
         }
-        self.accounts[manager as usize - 1].sent()
+        self.ledgers[manager as usize - 1].sent()
     }
 
     /// What was collected from the manager, in the order of collection: each request's number with its
     /// code. Nothing for no manager.
     pub fn collected(&self, manager: u32) -> &[(u32, Code)]
-        ensures { result.now ≡ collected_from self.now.accounts manager }
+        ensures { result.now ≡ collected_from self.now.ledgers manager }
     {
         if manager == 0 || manager > self.peers() {
             return &[];
         }
-        self.accounts[manager as usize - 1].collected()
+        self.ledgers[manager as usize - 1].collected()
     }
 
     /// Its ends of lanes and its lists. It takes no memory.
     pub fn apart(self) -> DeskEnds
         ensures requests { result.requests.items ≡ self.requests }
         ensures completions { result.completions ≡ self.completions }
-        ensures accounts { result.accounts.items ≡ self.accounts }
+        ensures ledgers { result.ledgers.items ≡ self.ledgers }
         ensures known { IsEnded self }
     {
         let EndedDesk {
             thread: _,
-            accounts,
+            ledgers,
             drained: _,
             requests,
             completions,
@@ -110,7 +110,7 @@ impl EndedDesk {
         DeskEnds {
             requests,
             completions,
-            accounts,
+            ledgers,
         }
     }
 }
@@ -118,7 +118,7 @@ impl EndedDesk {
 /// Ends a desk with which nothing is outstanding.
 pub(crate) fn end<R: Wait, I: Idle>(rt: &R, book: Book, idle: &mut I) -> EndedDesk
     requires tied { IsDesk book }
-    requires settled { AreSettled book.accounts }
+    requires settled { AreBalanced book.ledgers }
     ensures ended { Ends book result }
     ensures marked { MarkEnds I.leads_by 0 book.requests result.requests idle.old idle.new }
     ensures idled { I.leads idle.old idle.new }
@@ -126,7 +126,7 @@ pub(crate) fn end<R: Wait, I: Idle>(rt: &R, book: Book, idle: &mut I) -> EndedDe
     let Book {
         thread,
         handles: _,
-        accounts,
+        ledgers,
         slots: _,
         rows: _,
         kept: _,
@@ -139,7 +139,7 @@ pub(crate) fn end<R: Wait, I: Idle>(rt: &R, book: Book, idle: &mut I) -> EndedDe
     let requests = end_all(rt, requests, ends, idle);
     EndedDesk {
         thread,
-        accounts,
+        ledgers,
         drained,
         requests,
         completions,

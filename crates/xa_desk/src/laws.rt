@@ -6,7 +6,7 @@ ghost use Rattle.std.specs.Prelude.{◌≢◌, ℕ, List};
 ghost use Rattle.std.specs.FinMap as map;
 ghost use Rattle.xa_words.specs.declared.code.Code.{Code};
 ghost use Rattle.xa_words.specs.declared.request.Op.{Op};
-ghost use Rattle.xa_desk.specs.AccountView.{AccountView};
+ghost use Rattle.xa_desk.specs.LedgerView.{LedgerView};
 ghost use Rattle.xa_desk.specs.declared.operation.Operation.{Operation};
 ghost use Rattle.xa_desk.specs.DeskView.{DeskView, TicketView, IsKnown, Owns, next_operation};
 ghost use Rattle.xa_desk.specs.Ended.{EndedView, Ends};
@@ -24,8 +24,8 @@ pub fn looking_leaves_tickets()
 /// Sending a request leaves every ticket owned, and none of them is of the new operation. A lane that is
 /// full leaves them too.
 pub fn sending_leaves_tickets()
-    ensures left { (old : DeskView) (m : ℕ) (op : Op) → IsKnown old.accounts m → LeavesTickets old (submitted old m op) }
-    ensures fresh { (old : DeskView) (m : ℕ) (op : Op) → IsKnown old.accounts m → (t : TicketView) → Owns old t → t.operation ≢ next_operation old.accounts m }
+    ensures left { (old : DeskView) (m : ℕ) (op : Op) → IsKnown old.ledgers m → LeavesTickets old (submitted old m op) }
+    ensures fresh { (old : DeskView) (m : ℕ) (op : Op) → IsKnown old.ledgers m → (t : TicketView) → Owns old t → t.operation ≢ next_operation old.ledgers m }
     ensures full { (old : DeskView) (m : ℕ) → LeavesTickets old (after_full old m) }
 {}
 
@@ -48,8 +48,8 @@ pub fn desks_go_on()
 
 /// So may lists that have grown.
 pub fn growth_goes_on()
-    ensures same { (at : List AccountView) → HaveGrown at at }
-    ensures further { (old mid new : List AccountView) → HaveGrown old mid → HaveGrown mid new → HaveGrown old new }
+    ensures same { (at : List LedgerView) → HaveGrown at at }
+    ensures further { (old mid new : List LedgerView) → HaveGrown old mid → HaveGrown mid new → HaveGrown old new }
 {}
 
 /// What a desk's calls do to it has it go on: sending, also where lanes are full, looking, and collecting.

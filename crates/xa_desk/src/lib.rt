@@ -6,7 +6,6 @@
 //! which it is kept.
 #![tactic(auto)]
 
-mod account;
 mod book;
 mod desk;
 mod ended;
@@ -14,6 +13,7 @@ mod idle;
 mod kept;
 mod keys;
 pub mod laws;
+mod ledger;
 mod operation;
 mod parts;
 mod places;
@@ -26,11 +26,10 @@ mod spin;
 mod tests;
 mod ticket;
 
-pub use account::Account;
 pub use desk::Desk;
 pub use ended::{DeskEnds, EndedDesk};
 pub use idle::Idle;
-pub use operation::Operation;
+pub use ledger::Ledger;
 pub use parts::DeskParts;
 pub use refused::{AnyFault, NothingOutstanding, Refused};
 pub use spin::Spin;

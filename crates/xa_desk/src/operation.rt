@@ -2,11 +2,11 @@
 
 /// An operation's name: its manager, from 1, and its number, from 0, among the requests of one thread to it.
 #[derive(Clone, Copy, Debug, PartialEq, Eq)]
-pub struct Operation {
+pub(crate) struct Operation {
     /// The manager that it was put to, from 1.
-    pub manager: u32,
+    pub(crate) manager: u32,
     /// Its number among the thread's requests to this manager, from 0.
-    pub number: u32,
+    pub(crate) number: u32,
 }
 
 impl Operation {

@@ -1,8 +1,8 @@
 //! What a desk is made of.
 ghost use Rattle.std.specs.Prelude.{◌≡◌, ◌≤◌, length, IfOk};
 
-use crate::account::{Account, open_accounts};
 use crate::keys::{Keys, reserve_keys};
+use crate::ledger::{Ledger, open_ledgers};
 use crate::operation::Operation;
 use crate::places::empty_places;
 use crate::slot::Slot;
@@ -21,7 +21,7 @@ pub struct DeskParts {
     pub(crate) thread: u32,
     pub(crate) handles: u32,
     pub(crate) plan: u32,
-    pub(crate) accounts: Vec<Account>,
+    pub(crate) ledgers: Vec<Ledger>,
     pub(crate) slots: Slab<Slot>,
     pub(crate) rows: Vec<Keys>,
     pub(crate) kept: Vec<Option<Operation>>,
@@ -59,7 +59,7 @@ impl DeskParts {
         requires managers { (1 ≤ length use_async.now) × (length use_async.now ≤ 8) }
         ensures { IfOk result (λ p. p ≡ record { thread = thread; handles = handles; plan = requests; use_async = use_async.now }) }
     {
-        let accounts = open_accounts(alloc, requests, use_async)?;
+        let ledgers = open_ledgers(alloc, requests, use_async)?;
         // One slot beyond the handles is for a synchronous call.
         let slots = Slab::with_capacity(alloc, handles as usize + 1)?;
         let rows = reserve_keys(alloc, use_async.len(), requests)?;
@@ -70,7 +70,7 @@ impl DeskParts {
             thread,
             handles,
             plan: requests,
-            accounts,
+            ledgers,
             slots,
             rows,
             kept,

@@ -1,7 +1,7 @@
 //! Calls of a book that look at the lane of completions, with and without waiting.
 ghost use Rattle.std.specs.Prelude.{◌≡◌, ℕ, ◌+◌, ◌<◌, ◌≤◌, length, IfSome, OnSome, IsNone, IsTrue, IsSome, None, false};
 ghost use Rattle.xa_lane.specs.Ends.{counted};
-ghost use Rattle.xa_desk.specs.DeskView.{IsHandle, IsKnown, IsOut, IsLoose, account, outstanding, next_operation, drained_code, ready_at};
+ghost use Rattle.xa_desk.specs.DeskView.{IsHandle, IsKnown, IsOut, IsLoose, ledger, outstanding, next_operation, drained_code, ready_at};
 ghost use Rattle.xa_desk.specs.Lanes.{submitted, after_fulls};
 ghost use Rattle.xa_desk.specs.Looks.{Looks, EndsQuiet, Collects, CollectsKept, CollectsLeast};
 ghost use Rattle.xa_desk.specs.Waits.{Idles, WaitsFor, WaitsForAny};
@@ -16,7 +16,7 @@ use xa_words::{Code, Op};
 
 // Takes until the operation's completion is drained, or the lane is found empty.
 fn look_for<R: Wait>(rt: &R, book: &mut Book, operation: Operation) -> bool
-    requires { IsOut book.old.accounts operation }
+    requires { IsOut book.old.ledgers operation }
     ensures looks { Looks book.old book.new }
     ensures found { IsTrue result → IsSome (drained_code operation book.new.drained) }
     ensures quiet { result ≡ false → EndsQuiet book.old book.new }
@@ -37,7 +37,7 @@ fn look_for<R: Wait>(rt: &R, book: &mut Book, operation: Operation) -> bool
 
 /// Collects an operation that isn't kept, where its completion came.
 pub(crate) fn try_collect<R: Wait>(rt: &R, book: &mut Book, operation: Operation) -> Option<Code>
-    requires out { IsOut book.old.accounts operation }
+    requires out { IsOut book.old.ledgers operation }
     requires loose { IsLoose book.old operation }
     ensures collected { IfSome result (Collects book.old book.new operation) }
     ensures quiet { IsNone result → EndsQuiet book.old book.new }
@@ -59,7 +59,7 @@ pub(crate) fn wait_for<R: Wait, I: Idle>(
     operation: Operation,
     idle: &mut I,
 ) -> Code
-    requires out { IsOut book.old.accounts operation }
+    requires out { IsOut book.old.ledgers operation }
     requires loose { IsLoose book.old operation }
     ensures collected { Collects book.old book.new operation result }
     ensures waited { WaitsFor (I.leads_by operation.manager) book.old book.new idle.old idle.new operation result }
@@ -149,14 +149,14 @@ pub(crate) fn send_waiting<R: Wait, I: Idle>(
     op: &Op,
     idle: &mut I,
 ) -> Operation
-    requires known { IsKnown book.old.accounts manager }
-    requires lanes { length book.old.requests ≡ length book.old.accounts }
-    requires room { length (account book.old.accounts manager).sent < (account book.old.accounts manager).plan }
-    requires slot { outstanding book.old.accounts ≤ book.old.handles }
-    ensures named { result ≡ next_operation book.old.accounts manager }
+    requires known { IsKnown book.old.ledgers manager }
+    requires lanes { length book.old.requests ≡ length book.old.ledgers }
+    requires room { length (ledger book.old.ledgers manager).sent < (ledger book.old.ledgers manager).plan }
+    requires slot { outstanding book.old.ledgers ≤ book.old.handles }
+    ensures named { result ≡ next_operation book.old.ledgers manager }
     ensures sent { (n : ℕ) × (book.new ≡ submitted (after_fulls n book.old manager) manager op.now) × Idles (I.leads_by manager) n idle.old idle.new }
-    ensures more { outstanding book.new.accounts ≡ outstanding book.old.accounts + 1 }
-    ensures out { IsOut book.new.accounts result }
+    ensures more { outstanding book.new.ledgers ≡ outstanding book.old.ledgers + 1 }
+    ensures out { IsOut book.new.ledgers result }
     ensures loose { IsLoose book.new result }
     ensures idled { I.leads idle.old idle.new }
 {

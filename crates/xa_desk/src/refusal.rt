@@ -2,46 +2,51 @@
 ghost use Rattle.std.specs.Prelude.{◌≡◌};
 ghost use Rattle.xa_desk.specs.DeskView.{reach_refusal, handle_refusal, spent_refusal, submit_refusal, call_refusal};
 
-use crate::book::Book;
+use crate::desk::Desk;
 use crate::refused::Refused;
 
-/// Why nothing may be sent to the manager: the first reason that holds.
-pub(crate) fn reach_refusal(book: &Book, manager: u32) -> Option<Refused>
-    ensures { result ≡ reach_refusal book.now manager }
-{
-    if !book.knows(manager) {
-        return Some(Refused::NoSuchManager);
+impl Desk {
+    /// Why nothing may be sent to the manager, handles, planned requests and a full lane aside:
+    /// `NoSuchManager` or `Shut`, the first that holds.
+    pub fn reach_refusal(&self, manager: u32) -> Option<Refused>
+        ensures { result ≡ reach_refusal self.now manager }
+    {
+        if !self.knows(manager) {
+            return Some(Refused::NoSuchManager);
+        }
+        if self.learnt_shut(manager) {
+            return Some(Refused::Shut);
+        }
+        None
     }
-    if book.learnt_shut(manager) {
-        return Some(Refused::Shut);
+
+    // Why no operation may be begun that takes a handle.
+    fn handle_refusal(&self) -> Option<Refused>
+        ensures { result ≡ handle_refusal self.now }
+    {
+        (self.free() == 0).then_some(Refused::TooMany)
     }
-    None
-}
 
-fn handle_refusal(book: &Book) -> Option<Refused>
-    ensures { result ≡ handle_refusal book.now }
-{
-    (book.free() == 0).then_some(Refused::TooMany)
-}
+    // Why no further request may be sent to the manager.
+    fn spent_refusal(&self, manager: u32) -> Option<Refused>
+        ensures { result ≡ spent_refusal self.now manager }
+    {
+        (self.room(manager) == 0).then_some(Refused::Spent)
+    }
 
-fn spent_refusal(book: &Book, manager: u32) -> Option<Refused>
-    ensures { result ≡ spent_refusal book.now manager }
-{
-    (book.room(manager) == 0).then_some(Refused::Spent)
-}
+    /// Why no asynchronous request may be sent to the manager: the first reason that holds.
+    pub(crate) fn submit_refusal(&self, manager: u32) -> Option<Refused>
+        ensures { result ≡ submit_refusal self.now manager }
+    {
+        self.reach_refusal(manager)
+            .or(self.handle_refusal())
+            .or(self.spent_refusal(manager))
+    }
 
-/// Why no asynchronous request may be sent to the manager: the first reason that holds.
-pub(crate) fn submit_refusal(book: &Book, manager: u32) -> Option<Refused>
-    ensures { result ≡ submit_refusal book.now manager }
-{
-    reach_refusal(book, manager)
-        .or(handle_refusal(book))
-        .or(spent_refusal(book, manager))
-}
-
-/// Why no synchronous request may be sent to the manager: the first reason that holds.
-pub(crate) fn call_refusal(book: &Book, manager: u32) -> Option<Refused>
-    ensures { result ≡ call_refusal book.now manager }
-{
-    reach_refusal(book, manager).or(spent_refusal(book, manager))
+    /// Why no synchronous request may be sent to the manager: the first reason that holds.
+    pub(crate) fn call_refusal(&self, manager: u32) -> Option<Refused>
+        ensures { result ≡ call_refusal self.now manager }
+    {
+        self.reach_refusal(manager).or(self.spent_refusal(manager))
+    }
 }

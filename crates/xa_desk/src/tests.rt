@@ -327,16 +327,16 @@ fn an_ended_desk_comes_apart(rt: HostRuntime) {
     };
     assert_eq!(rt; (ended.opening(), ended.number(), ended.peers()), (1, 1, 2));
     let ends = ended.apart();
-    assert_eq!(rt; (ends.requests.len(), ends.accounts.len()), (2, 2));
+    assert_eq!(rt; (ends.requests.len(), ends.ledgers.len()), (2, 2));
     assert_eq!(rt;
         (ends.completions.name().kind, ends.completions.name().index),
         (1, 1)
     );
     for (place, carries_async, sent) in [(0, true, 0), (1, false, 1)] {
-        let account = &ends.accounts[place];
-        assert_eq!(rt; account.carries_async(), carries_async);
+        let ledger = &ends.ledgers[place];
+        assert_eq!(rt; ledger.carries_async(), carries_async);
         assert_eq!(rt;
-            (account.sent().len(), account.collected().len()),
+            (ledger.sent().len(), ledger.collected().len()),
             (sent, sent)
         );
         assert_eq!(rt; ends.requests[place].name().index as usize, place + 1);

@@ -4,13 +4,13 @@ use Rattle.std.proofs.Common.{sym, ap, ◌∙◌, subst, arith, get_or, drop, dr
 use Rattle.xa_words.specs.declared.code.Code.{Code}
 use Rattle.xa_words.specs.declared.request.Op.{Op}
 use Rattle.xa_desk.specs.declared.operation.Operation.{Operation}
-use Rattle.xa_desk.specs.AccountView.{AccountView, learnt_shut, with_sent, with_collected}
-use Rattle.xa_desk.specs.DeskView.{DeskView, TicketView, IsKnown, account, put_account, after_collected, outstanding}
+use Rattle.xa_desk.specs.LedgerView.{LedgerView, learnt_shut, with_sent, with_collected}
+use Rattle.xa_desk.specs.DeskView.{DeskView, TicketView, IsKnown, ledger, put_ledger, after_collected, outstanding}
 use Rattle.xa_desk.specs.Looks.{Collects}
 use Rattle.xa_driver.specs.declared.ask.Ask.{Ask}
 use Rattle.xa_desk.proofs.Going.{goes_same, goes_further, goes_collecting}
 use Rattle.xa_driver.specs.Asks.{sent_by, SameAsks, AreRising, KeepsDesk, IsUnsent, IsSending, Begins, Ends}
-use Rattle.xa_driver.proofs.Accounts.{open_count, put_same, put_other, put_length, put_open}
+use Rattle.xa_driver.proofs.Ledgers.{open_count, put_same, put_other, put_length, put_open}
 
 pub at_false : {A : Type 0} (b : Bool) (p q : A) → b ≡ false → (if b then p else q) ≡ q
 at_false true p q e = cc
@@ -32,11 +32,11 @@ rising_same lo (j ∷ js) (k ∷ ks) s r =
     (let z = r.0 in let e = s.0.manager in omega arith, rising_from k.manager j.manager ks (let e = s.0.manager in omega arith) (rising_same j.manager js ks s.1 r.1))
 
 -- what one request does to a desk
-pub record Moved (m : ℕ) (a' : AccountView) (old new : DeskView) : Type 0 where
-  pub here : account new.accounts m ≡ a'
-  pub others : (n : ℕ) → 1 ≤ n → n ≢ m → account new.accounts n ≡ account old.accounts n
-  pub managers : length new.accounts ≡ length old.accounts
-  pub open_ : outstanding new.accounts + open_count (account old.accounts m) ≡ outstanding old.accounts + open_count a'
+pub record Moved (m : ℕ) (a' : LedgerView) (old new : DeskView) : Type 0 where
+  pub here : ledger new.ledgers m ≡ a'
+  pub others : (n : ℕ) → 1 ≤ n → n ≢ m → ledger new.ledgers n ≡ ledger old.ledgers n
+  pub managers : length new.ledgers ≡ length old.ledgers
+  pub open_ : outstanding new.ledgers + open_count (ledger old.ledgers m) ≡ outstanding old.ledgers + open_count a'
   pub keeps : KeepsDesk old new
 
 pub keeps_start : (d : DeskView) → KeepsDesk d d
@@ -45,67 +45,67 @@ keeps_start d = record { goes_on = goes_same d; kept = refl }
 pub keeps_chain : (a b c : DeskView) → KeepsDesk a b → KeepsDesk b c → KeepsDesk a c
 keeps_chain a b c p q = record { goes_on = goes_further a b c p.goes_on q.goes_on; kept = q.kept ∙ p.kept }
 
-unmoved : (m : ℕ) (a' : AccountView) (old new : DeskView) → new ≡ old → account old.accounts m ≡ a' → Moved m a' old new
+unmoved : (m : ℕ) (a' : LedgerView) (old new : DeskView) → new ≡ old → ledger old.ledgers m ≡ a' → Moved m a' old new
 unmoved m a' old new e h =
     subst (λ (d : DeskView). Moved m a' old d) (sym e) (record {
       here = h;
       others = λ n p q. refl;
       managers = refl;
-      open_ = ap (λ (a : AccountView). outstanding old.accounts + open_count a) h;
+      open_ = ap (λ (a : LedgerView). outstanding old.ledgers + open_count a) h;
       keeps = keeps_start old;
     })
 
--- one account was written, and nothing else that counts
-put_moved : (m : ℕ) (a' : AccountView) (old new : DeskView) → IsKnown old.accounts m → new.accounts ≡ put_account old.accounts m a' → KeepsDesk old new → Moved m a' old new
+-- one ledger was written, and nothing else that counts
+put_moved : (m : ℕ) (a' : LedgerView) (old new : DeskView) → IsKnown old.ledgers m → new.ledgers ≡ put_ledger old.ledgers m a' → KeepsDesk old new → Moved m a' old new
 put_moved m a' old new known e keeps = record {
-  here = ap (λ l. account l m) e ∙ put_same old.accounts m a' known;
-  others = λ n p q. ap (λ l. account l n) e ∙ put_other old.accounts m a' known n p q;
-  managers = ap length e ∙ put_length old.accounts m a' known;
-  open_ = ap (λ l. outstanding l + open_count (account old.accounts m)) e ∙ put_open old.accounts m a' known;
+  here = ap (λ l. ledger l m) e ∙ put_same old.ledgers m a' known;
+  others = λ n p q. ap (λ l. ledger l n) e ∙ put_other old.ledgers m a' known n p q;
+  managers = ap length e ∙ put_length old.ledgers m a' known;
+  open_ = ap (λ l. outstanding l + open_count (ledger old.ledgers m)) e ∙ put_open old.ledgers m a' known;
   keeps = keeps;
 }
 
-sent_none : (a : AccountView) (op : Option Op) → IsUnsent a op → a ≡ sent_by a op
+sent_none : (a : LedgerView) (op : Option Op) → IsUnsent a op → a ≡ sent_by a op
 sent_none a None h = refl
 sent_none a (Some op) h = sym (at_true (learnt_shut a) _ _ h)
 
-pub began_moved : (k : Ask) (old new : DeskView) (r : Option TicketView) → IsKnown old.accounts k.manager → Begins k old new r → Moved k.manager (sent_by (account old.accounts k.manager) k.op) old new
-began_moved k old new None known b = unmoved k.manager _ old new b.0 (sent_none (account old.accounts k.manager) k.op b.1)
+pub began_moved : (k : Ask) (old new : DeskView) (r : Option TicketView) → IsKnown old.ledgers k.manager → Begins k old new r → Moved k.manager (sent_by (ledger old.ledgers k.manager) k.op) old new
+began_moved k old new None known b = unmoved k.manager _ old new b.0 (sent_none (ledger old.ledgers k.manager) k.op b.1)
 began_moved k old new (Some t) known b =
-    let a : AccountView = account old.accounts k.manager in
+    let a : LedgerView = ledger old.ledgers k.manager in
     let is : with_sent a b.op ≡ sent_by a k.op = sym (at_false (learnt_shut a) _ _ b.open_) ∙ ap (sent_by a) (sym b.wanted) in
-    subst (λ (x : AccountView). Moved k.manager x old new) is (put_moved k.manager (with_sent a b.op) old new known b.sent b.keeps)
+    subst (λ (x : LedgerView). Moved k.manager x old new) is (put_moved k.manager (with_sent a b.op) old new known b.sent b.keeps)
 
--- a request that was sent stands in its manager's account
-pub sent_is : (k : Ask) (t : TicketView) (d d' : DeskView) → IsKnown d.accounts k.manager → (b : IsSending k d d' t) → account d'.accounts k.manager ≡ with_sent (account d.accounts k.manager) b.op
-sent_is k t d d' known b = ap (λ l. account l k.manager) b.sent ∙ put_same d.accounts k.manager (with_sent (account d.accounts k.manager) b.op) known
+-- a request that was sent stands in its manager's ledger
+pub sent_is : (k : Ask) (t : TicketView) (d d' : DeskView) → IsKnown d.ledgers k.manager → (b : IsSending k d d' t) → ledger d'.ledgers k.manager ≡ with_sent (ledger d.ledgers k.manager) b.op
+sent_is k t d d' known b = ap (λ l. ledger l k.manager) b.sent ∙ put_same d.ledgers k.manager (with_sent (ledger d.ledgers k.manager) b.op) known
 
-unfoldable pub collected_of : (a : AccountView) (r : Option TicketView) (code : Option Code) → AccountView
+unfoldable pub collected_of : (a : LedgerView) (r : Option TicketView) (code : Option Code) → LedgerView
 collected_of a None code = a
 collected_of a (Some t) None = a
 collected_of a (Some t) (Some c) = with_collected a t.operation.number c
 
-pub ended_moved : (k : Ask) (old new : DeskView) (r : Option TicketView) (code : Option Code) → ((t : TicketView) → r ≡ Some t → t.operation.manager ≡ k.manager) → IsKnown old.accounts k.manager → Ends k old new r code → Moved k.manager (collected_of (account old.accounts k.manager) r code) old new
+pub ended_moved : (k : Ask) (old new : DeskView) (r : Option TicketView) (code : Option Code) → ((t : TicketView) → r ≡ Some t → t.operation.manager ≡ k.manager) → IsKnown old.ledgers k.manager → Ends k old new r code → Moved k.manager (collected_of (ledger old.ledgers k.manager) r code) old new
 unfolding collected_of
-ended_moved k old new None code at known e = unmoved k.manager (account old.accounts k.manager) old new e.0 refl
+ended_moved k old new None code at known e = unmoved k.manager (ledger old.ledgers k.manager) old new e.0 refl
 ended_moved k old new (Some t) code at known e =
-    subst (λ (o : Option Code). Moved k.manager (collected_of (account old.accounts k.manager) (Some t) o) old new) (sym e.1.0) (moved e.0 e.1.1)
+    subst (λ (o : Option Code). Moved k.manager (collected_of (ledger old.ledgers k.manager) (Some t) o) old new) (sym e.1.0) (moved e.0 e.1.1)
   where
-    moved : (c : Code) → Collects old new t.operation c → Moved k.manager (with_collected (account old.accounts k.manager) t.operation.number c) old new
+    moved : (c : Code) → Collects old new t.operation c → Moved k.manager (with_collected (ledger old.ledgers k.manager) t.operation.number c) old new
     moved c x =
         let o : Operation = t.operation in
         let names : o.manager ≡ k.manager = at t refl in
-        let same : x.before.accounts ≡ old.accounts = ap (λ (d : DeskView). d.accounts) x.looks.rest in
-        let written : new.accounts ≡ put_account old.accounts o.manager (with_collected (account old.accounts o.manager) o.number c) =
-        ap (λ (d : DeskView). d.accounts) x.collected ∙ ap (λ l. after_collected l o c) same in
+        let same : x.before.ledgers ≡ old.ledgers = ap (λ (d : DeskView). d.ledgers) x.looks.rest in
+        let written : new.ledgers ≡ put_ledger old.ledgers o.manager (with_collected (ledger old.ledgers o.manager) o.number c) =
+        ap (λ (d : DeskView). d.ledgers) x.collected ∙ ap (λ l. after_collected l o c) same in
         let keeps : KeepsDesk old new = record {
           goes_on = goes_collecting old new o c x;
           kept = ap (λ (d : DeskView). d.kept) x.collected ∙ ap (λ (d : DeskView). d.kept) x.looks.rest;
         } in
-        put_moved k.manager (with_collected (account old.accounts k.manager) o.number c) old new known
-        (written ∙ ap (λ (m : ℕ). put_account old.accounts m (with_collected (account old.accounts m) o.number c)) names) keeps
+        put_moved k.manager (with_collected (ledger old.ledgers k.manager) o.number c) old new known
+        (written ∙ ap (λ (m : ℕ). put_ledger old.ledgers m (with_collected (ledger old.ledgers m) o.number c)) names) keeps
 
-pub known_by : (l l' : List AccountView) (m : ℕ) → length l' ≡ length l → IsKnown l m → IsKnown l' m
+pub known_by : (l l' : List LedgerView) (m : ℕ) → length l' ≡ length l → IsKnown l m → IsKnown l' m
 known_by l l' m e k = record { positive = k.positive; within = let z = k.within in omega arith }
 
 pub split_at : (xs : List Ask) (i : ℕ) (k : Ask) → i < length xs → k ≡ get_or xs i k → drop i xs ≡ k ∷ drop (i + 1) xs

@@ -16,7 +16,7 @@ use Rattle.xa_tables.specs.Next.{next}
 use Rattle.xa_tables.specs.History as history
 use Rattle.xa_tables.specs.History.{History, Fate, fate, fate_in, fate_of, coded, of_thread, tables_after, tables_after-append, is_done, is_read_only, is_rolled_back, prepare_fate, IsOpening}
 use Rattle.xa_tables.specs.Prepared.{names, NamesNowhere, LeavesWaiting, AwaitsTheOutcome, closes, is_close, has_shut}
-use Rattle.xa_desk.specs.AccountView.{AccountView, is_rm_fail, learnt_shut, with_sent, with_collected}
+use Rattle.xa_desk.specs.LedgerView.{LedgerView, is_rm_fail, learnt_shut, with_sent, with_collected}
 use Rattle.xa_desk.specs.Lanes.{numbered}
 use Rattle.xa_switch.specs.Settling.{answers}
 use Rattle.xa_desk.specs.Growth.{Begins}
@@ -110,7 +110,7 @@ mine : (t n : ℕ) (op : Op) (h : History) → of_thread t h ≡ [] → of_threa
 mine t n op h e =
     ap (λ b. cond b (request_of t n op ∷ of_thread t h) (of_thread t h)) (eqb-self t) ∙ ap (λ l. request_of t n op ∷ l) e
 
-module _ (law : Tabled) (t : ℕ) (x : XidName) (T : Tables) (H : History) (opening : IsOpening T) (a : AccountView) (vote : Code) (ops : List Op) (pairs : List (ℕ × Code))
+module _ (law : Tabled) (t : ℕ) (x : XidName) (T : Tables) (H : History) (opening : IsOpening T) (a : LedgerView) (vote : Code) (ops : List Op) (pairs : List (ℕ × Code))
     (carried : of_thread t H ≡ numbered t 0 ops) (answered : All (λ p. slice_get (answers t (coded H T)) p.0 ≡ Some p) pairs) where
   abbrev n : ℕ
   n = length a.sent
@@ -275,27 +275,27 @@ none_wanted : (commit : Bool) (x : XidName) (v : Code) → is_yes v ≡ false �
 none_wanted true x v y e = at_false (is_yes v) _ None y
 none_wanted false x v y e = at_true (is_read v || (is_rolled_back v || is_out_of_reach v)) None _ e
 
--- what a branch that voted so, and whose account with its manager was `a`, came to by the manager's history
-pub record Outcome (t : ℕ) (x : XidName) (T : Tables) (H : History) (a : AccountView) (vote : Code) (e : Ending) : Type 0 where
+-- what a branch that voted so, and whose ledger with its manager was `a`, came to by the manager's history
+pub record Outcome (t : ℕ) (x : XidName) (T : Tables) (H : History) (a : LedgerView) (vote : Code) (e : Ending) : Type 0 where
   pub reached : is_yes vote ≡ true → is_left e ≡ false
   pub shut : is_yes vote ≡ true → is_in_doubt e ≡ true → IsBehindShut t (length a.sent + 1) H
   pub told : (f : Fate) → told_fate e ≡ Some f → fate x H T ≡ f
 
-module _ (law : Tabled) (t : ℕ) (x : XidName) (T : Tables) (H : History) (opening : IsOpening T) (a : AccountView) (vote : Code) (ops : List Op) (pairs : List (ℕ × Code))
+module _ (law : Tabled) (t : ℕ) (x : XidName) (T : Tables) (H : History) (opening : IsOpening T) (a : LedgerView) (vote : Code) (ops : List Op) (pairs : List (ℕ × Code))
     (carried : of_thread t H ≡ numbered t 0 ops) (answered : All (λ p. slice_get (answers t (coded H T)) p.0 ≡ Some p) pairs)
-    (a' : AccountView) (sent : Begins a'.sent ops) (collected : Begins a'.collected pairs) (only : OnlyTheseName x t (length a.sent) (length a'.sent) H) where
+    (a' : LedgerView) (sent : Begins a'.sent ops) (collected : Begins a'.collected pairs) (only : OnlyTheseName x t (length a.sent) (length a'.sent) H) where
   abbrev Goal : Ending → Type 0
   Goal e = Outcome t x T H a vote e
 
   abbrev m : ℕ
   m = length a.sent
 
-  -- the account once the vote was collected
-  abbrev X : AccountView
+  -- the ledger once the vote was collected
+  abbrev X : LedgerView
   X = with_collected (with_sent a (Prepare x)) m vote
 
   only_one : a' ≡ X → OnlyTheseName x t m (m + 1) H
-  only_one is = subst (λ k. OnlyTheseName x t m k H) (ap (λ (z : AccountView). length z.sent) is ∙ length-append a.sent (Prepare x ∷ [])) only
+  only_one is = subst (λ k. OnlyTheseName x t m k H) (ap (λ (z : LedgerView). length z.sent) is ∙ length-append a.sent (Prepare x ∷ [])) only
 
   -- the Prepare alone was sent
   record Single : Type 0 where
@@ -306,8 +306,8 @@ module _ (law : Tabled) (t : ℕ) (x : XidName) (T : Tables) (H : History) (open
   single : a' ≡ X → Single
   single is =
       let z = alone law t x T H opening a vote ops pairs carried answered (only_one is) sent.0 collected.0
-      (sent.1 ∙ ap (λ (z : AccountView). z.sent ++ sent.0) is ∙ append_assoc a.sent (Prepare x ∷ []) sent.0)
-      (collected.1 ∙ ap (λ (z : AccountView). z.collected ++ collected.0) is ∙ append_assoc a.collected ((m, vote) ∷ []) collected.0) in
+      (sent.1 ∙ ap (λ (z : LedgerView). z.sent ++ sent.0) is ∙ append_assoc a.sent (Prepare x ∷ []) sent.0)
+      (collected.1 ∙ ap (λ (z : LedgerView). z.collected ++ collected.0) is ∙ append_assoc a.collected ((m, vote) ∷ []) collected.0) in
       record { here = z.here; code = z.code; told = z.fate_of_vote }
 
   -- and a second request
@@ -322,12 +322,12 @@ module _ (law : Tabled) (t : ℕ) (x : XidName) (T : Tables) (H : History) (open
   double : (op : Op) (c : Code) → a' ≡ with_collected (with_sent X op) (length X.sent) c → Double op c
   double op c is =
       let number : length X.sent ≡ m + 1 = length-append a.sent (Prepare x ∷ []) in
-      let limit : length a'.sent ≡ m + 1 + 1 = ap (λ (z : AccountView). length z.sent) is ∙ length-append (a.sent ++ Prepare x ∷ []) (op ∷ []) ∙ ap (λ k. k + 1) number in
+      let limit : length a'.sent ≡ m + 1 + 1 = ap (λ (z : LedgerView). length z.sent) is ∙ length-append (a.sent ++ Prepare x ∷ []) (op ∷ []) ∙ ap (λ k. k + 1) number in
       let only_two : OnlyTheseName x t m (m + 1 + 1) H = subst (λ k. OnlyTheseName x t m k H) limit only in
       let all_sent : ops ≡ a.sent ++ Prepare x ∷ op ∷ sent.0 =
-      sent.1 ∙ ap (λ (z : AccountView). z.sent ++ sent.0) is ∙ append_assoc (a.sent ++ Prepare x ∷ []) (op ∷ []) sent.0 ∙ append_assoc a.sent (Prepare x ∷ []) (op ∷ sent.0) in
+      sent.1 ∙ ap (λ (z : LedgerView). z.sent ++ sent.0) is ∙ append_assoc (a.sent ++ Prepare x ∷ []) (op ∷ []) sent.0 ∙ append_assoc a.sent (Prepare x ∷ []) (op ∷ sent.0) in
       let all_collected : pairs ≡ a.collected ++ (m, vote) ∷ (m + 1, c) ∷ collected.0 =
-      collected.1 ∙ ap (λ (z : AccountView). z.collected ++ collected.0) is
+      collected.1 ∙ ap (λ (z : LedgerView). z.collected ++ collected.0) is
       ∙ append_assoc (a.collected ++ (m, vote) ∷ []) ((length X.sent, c) ∷ []) collected.0 ∙ append_assoc a.collected ((m, vote) ∷ []) ((length X.sent, c) ∷ collected.0)
       ∙ ap (λ k. a.collected ++ (m, vote) ∷ (k, c) ∷ collected.0) number in
       record {
@@ -431,7 +431,7 @@ module _ (law : Tabled) (t : ℕ) (x : XidName) (T : Tables) (H : History) (open
       by_if Goal (is_out_of_reach vote) _ _ (λ out. left vote y) (λ o. no_part commit second y r k o got is))))
 
 -- what a branch of a call came to
-pub branch_outcome : (law : Tabled) (t : ℕ) (b : Branch) (vote : Code) (second : Option Code) (commit : Bool) (a a' : AccountView) (T : Tables) (H : History) (ops : List Op) (pairs : List (ℕ × Code)) → IsOpening T
+pub branch_outcome : (law : Tabled) (t : ℕ) (b : Branch) (vote : Code) (second : Option Code) (commit : Bool) (a a' : LedgerView) (T : Tables) (H : History) (ops : List Op) (pairs : List (ℕ × Code)) → IsOpening T
     → of_thread t H ≡ numbered t 0 ops → All (λ p. slice_get (answers t (coded H T)) p.0 ≡ Some p) pairs → Begins a'.sent ops → Begins a'.collected pairs
     → OnlyTheseName b.xid t (length a.sent) (length a'.sent) H → BranchTrace commit b vote second a a' → Outcome t b.xid T H a vote (ending_of commit vote second)
 branch_outcome law t b vote second commit a a' T H ops pairs opening carried answered sent collected only tr =
@@ -442,5 +442,5 @@ branch_outcome law t b vote second commit a a' T H ops pairs opening carried ans
       | false ↦ λ shut.
           let e : voted b vote a ≡ with_collected (with_sent a (Prepare b.xid)) (length a.sent) vote = at_false (learnt_shut a) _ _ shut in
           open_outcome law t b.xid T H opening a vote ops pairs carried answered a' sent collected only commit second shut
-          (subst (λ (z : AccountView). IsAnswered z (second_op commit b.xid vote) second) e tr.decided) (tr.trace ∙ ap (λ (z : AccountView). asked z (second_op commit b.xid vote) second) e)
+          (subst (λ (z : LedgerView). IsAnswered z (second_op commit b.xid vote) second) e tr.decided) (tr.trace ∙ ap (λ (z : LedgerView). asked z (second_op commit b.xid vote) second) e)
     ] refl

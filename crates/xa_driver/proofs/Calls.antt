@@ -8,8 +8,8 @@ use Rattle.xa_words.specs.declared.code.Code.{Code}
 use Rattle.xa_words.specs.declared.code.Code.TheVariants.{RmFail}
 use Rattle.xa_words.specs.declared.request.Op.{Op}
 use Rattle.xa_words.specs.declared.request.Op.TheVariants.{Prepare}
-use Rattle.xa_desk.specs.AccountView.{AccountView, learnt_shut}
-use Rattle.xa_desk.specs.DeskView.{DeskView, account}
+use Rattle.xa_desk.specs.LedgerView.{LedgerView, learnt_shut}
+use Rattle.xa_desk.specs.DeskView.{DeskView, ledger}
 use Rattle.xa_driver.specs.declared.branch.Branch.{Branch}
 use Rattle.xa_driver.specs.declared.ask.Ask.{Ask}
 use Rattle.xa_driver.specs.declared.done.Done.{Done}
@@ -26,7 +26,7 @@ pub first_rising : (lo : ℕ) (bs : List Branch) → AreBranchesRising lo bs →
 first_rising lo [] r = tt
 first_rising lo (b ∷ bs) r = (r.0, first_rising b.m bs r.1)
 
-pub first_can : (at : List AccountView) (bs : List Branch) → HaveRoom at bs → AllCanAsk (map first_ask bs) at
+pub first_can : (at : List LedgerView) (bs : List Branch) → HaveRoom at bs → AllCanAsk (map first_ask bs) at
 first_can at [] h = tt
 first_can at (b ∷ bs) h = (record { known = h.0.known; room = let z = h.0.room in omega arith }, first_can at bs h.1)
 
@@ -45,25 +45,25 @@ second_rising commit lo (b ∷ bs) (k ∷ ks) s r =
     (subst (λ (n : ℕ). lo < n) (sym s.0.manager) r.0, rising_by k.manager b.m (map (second_ask commit) ks) (sym s.0.manager) (second_rising commit b.m bs ks s.1 r.1))
 
 -- a request adds at most one
-record AtMostOne (a a' : AccountView) : Type 0 where
+record AtMostOne (a a' : LedgerView) : Type 0 where
   sent : length a'.sent ≤ length a.sent + 1
   plan : a'.plan ≡ a.plan
 
-none_more : (a : AccountView) → AtMostOne a a
+none_more : (a : LedgerView) → AtMostOne a a
 none_more a = record { sent = omega arith; plan = refl }
 
-one_more : (a : AccountView) (op : Option Op) (code : Option Code) → AtMostOne a (asked a op code)
+one_more : (a : LedgerView) (op : Option Op) (code : Option Code) → AtMostOne a (asked a op code)
 one_more a None code = none_more a
 one_more a (Some op) None = none_more a
 one_more a (Some op) (Some c) = by_if (AtMostOne a) (learnt_shut a) _ _ (λ _. none_more a) (λ _. record { sent = omega (arith, length-append a.sent (op ∷ [])); plan = refl })
 
-pub second_can : (commit : Bool) (old mid : List AccountView) (bs : List Branch) (ks : List Ask) → length mid ≡ length old → SameAsks (map first_ask bs) ks → EachAsk ks old mid → HaveRoom old bs → AllCanAsk (map (second_ask commit) ks) mid
+pub second_can : (commit : Bool) (old mid : List LedgerView) (bs : List Branch) (ks : List Ask) → length mid ≡ length old → SameAsks (map first_ask bs) ks → EachAsk ks old mid → HaveRoom old bs → AllCanAsk (map (second_ask commit) ks) mid
 second_can commit old mid [] [] l s e h = tt
 second_can commit old mid [] (k ∷ ks) l s e h = absurd s
 second_can commit old mid (b ∷ bs) [] l s e h = absurd s
 second_can commit old mid (b ∷ bs) (k ∷ ks) l s e h =
     let room : HasRoom old k.manager = subst (HasRoom old) (sym s.0.manager) h.0 in
-    let more : AtMostOne (account old k.manager) (account mid k.manager) = subst (AtMostOne (account old k.manager)) (sym e.0.trace) (one_more (account old k.manager) k.op k.code) in (
+    let more : AtMostOne (ledger old k.manager) (ledger mid k.manager) = subst (AtMostOne (ledger old k.manager)) (sym e.0.trace) (one_more (ledger old k.manager) k.op k.code) in (
       record {
         known = record { positive = room.known.positive; within = let z = room.known.within in omega arith };
         room = let x = room.room in let y = more.sent in let z = more.plan in omega arith;
@@ -90,7 +90,7 @@ same_long (j ∷ js) [] s = absurd s
 same_long (j ∷ js) (k ∷ ks) s = let z = same_long js ks s.1 in omega arith
 
 -- a Prepare is answered
-answered_some : (a : AccountView) (op : Op) (k : Ask) → IsAnswered a (Some op) k.code → k.code ≡ Some (code_of k)
+answered_some : (a : LedgerView) (op : Op) (k : Ask) → IsAnswered a (Some op) k.code → k.code ≡ Some (code_of k)
 answered_some a op k h = elim (k.code) as (λ c. IsAnswered a (Some op) c → k.code ≡ c → k.code ≡ Some (code_of k)) [
   | None ↦ λ no_code e. absurd no_code
   | Some c ↦ λ ok e. e ∙ ap (λ (d : Code). Some d) (sym (code_is k c e))
@@ -100,28 +100,28 @@ answered_some a op k h = elim (k.code) as (λ c. IsAnswered a (Some op) c → k.
     code_is k c e = ap (λ (o : Option Code). unwrap_or o RmFail) e
 
 -- a branch's manager was asked twice
-branch_trace : (commit : Bool) (b : Branch) (k j : Ask) (old mid new : List AccountView) → IsSameAsk (first_ask b) k → IsSameAsk (second_ask commit k) j
-    → AskTrace k.op k.code (account old k.manager) (account mid k.manager) → AskTrace j.op j.code (account mid j.manager) (account new j.manager)
-    → BranchTrace commit b (code_of k) j.code (account old b.m) (account new b.m)
+branch_trace : (commit : Bool) (b : Branch) (k j : Ask) (old mid new : List LedgerView) → IsSameAsk (first_ask b) k → IsSameAsk (second_ask commit k) j
+    → AskTrace k.op k.code (ledger old k.manager) (ledger mid k.manager) → AskTrace j.op j.code (ledger mid j.manager) (ledger new j.manager)
+    → BranchTrace commit b (code_of k) j.code (ledger old b.m) (ledger new b.m)
 branch_trace commit b k j old mid new s r one two =
-    let x : AskTrace (Some (Prepare b.xid)) k.code (account old b.m) (account mid b.m) =
-    subst (λ (o : Option Op). AskTrace o k.code (account old b.m) (account mid b.m)) s.op (subst (λ (m : ℕ). AskTrace k.op k.code (account old m) (account mid m)) s.manager one) in
-    let code : k.code ≡ Some (code_of k) = answered_some (account old b.m) (Prepare b.xid) k x.answered in
-    let x1 : AskTrace (Some (Prepare b.xid)) (Some (code_of k)) (account old b.m) (account mid b.m) = subst (λ (c : Option Code). AskTrace (Some (Prepare b.xid)) c (account old b.m) (account mid b.m)) code x in
+    let x : AskTrace (Some (Prepare b.xid)) k.code (ledger old b.m) (ledger mid b.m) =
+    subst (λ (o : Option Op). AskTrace o k.code (ledger old b.m) (ledger mid b.m)) s.op (subst (λ (m : ℕ). AskTrace k.op k.code (ledger old m) (ledger mid m)) s.manager one) in
+    let code : k.code ≡ Some (code_of k) = answered_some (ledger old b.m) (Prepare b.xid) k x.answered in
+    let x1 : AskTrace (Some (Prepare b.xid)) (Some (code_of k)) (ledger old b.m) (ledger mid b.m) = subst (λ (c : Option Code). AskTrace (Some (Prepare b.xid)) c (ledger old b.m) (ledger mid b.m)) code x in
     let op : j.op ≡ second_op commit b.xid (code_of k) = r.op ∙ ap (λ q. second_op commit q (code_of k)) s.xid in
-    let y : AskTrace (second_op commit b.xid (code_of k)) j.code (account mid b.m) (account new b.m) =
-    subst (λ (o : Option Op). AskTrace o j.code (account mid b.m) (account new b.m)) op (subst (λ (m : ℕ). AskTrace j.op j.code (account mid m) (account new m)) (r.manager ∙ s.manager) two) in
+    let y : AskTrace (second_op commit b.xid (code_of k)) j.code (ledger mid b.m) (ledger new b.m) =
+    subst (λ (o : Option Op). AskTrace o j.code (ledger mid b.m) (ledger new b.m)) op (subst (λ (m : ℕ). AskTrace j.op j.code (ledger mid m) (ledger new m)) (r.manager ∙ s.manager) two) in
     record {
       prepared = x1.answered;
-      decided = subst (λ (a : AccountView). IsAnswered a (second_op commit b.xid (code_of k)) j.code) x1.trace y.answered;
-      trace = y.trace ∙ ap (λ (a : AccountView). asked a (second_op commit b.xid (code_of k)) j.code) x1.trace;
+      decided = subst (λ (a : LedgerView). IsAnswered a (second_op commit b.xid (code_of k)) j.code) x1.trace y.answered;
+      trace = y.trace ∙ ap (λ (a : LedgerView). asked a (second_op commit b.xid (code_of k)) j.code) x1.trace;
     }
 
 abbrev second_code : Ask → Option Code
 second_code k = k.code
 
-each_branch : (commit : Bool) (bs : List Branch) (ks js : List Ask) (old mid new : List AccountView) → SameAsks (map first_ask bs) ks → SameAsks (map (second_ask commit) ks) js → EachAsk ks old mid → EachAsk js mid new
-    → EachBranch (λ b v s e. BranchTrace commit b v s (account old b.m) (account new b.m) × (e ≡ ending_of commit v s)) bs (map code_of ks) (map second_code js) (map (ending_of_ask commit) js)
+each_branch : (commit : Bool) (bs : List Branch) (ks js : List Ask) (old mid new : List LedgerView) → SameAsks (map first_ask bs) ks → SameAsks (map (second_ask commit) ks) js → EachAsk ks old mid → EachAsk js mid new
+    → EachBranch (λ b v s e. BranchTrace commit b v s (ledger old b.m) (ledger new b.m) × (e ≡ ending_of commit v s)) bs (map code_of ks) (map second_code js) (map (ending_of_ask commit) js)
 each_branch commit [] [] [] old mid new s r e f = tt
 each_branch commit [] [] (j ∷ js) old mid new s r e f = absurd r
 each_branch commit [] (k ∷ ks) js old mid new s r e f = absurd s
@@ -162,14 +162,14 @@ tran_first (c ∷ bs) b t h e all = ap (λ (d : Branch). tran_of d.xid) e ∙ al
 pub absent_first : (d : DeskView) (log : LogState) (bs : List Branch) (b : Branch) → MayCommit d log bs → b ≡ get_or bs 0 b → record_of log (tran_of b.xid) ≡ None
 absent_first d log bs b may e = ap (record_of log) (tran_first bs b may.tran may.some e may.one) ∙ may.absent
 
-pub call_is : (done : Done) (bs : List Branch) (ks js : List Ask) (old mid new : List AccountView) (log log' : LogState) (b : Branch) (t : TranName)
+pub call_is : (done : Done) (bs : List Branch) (ks js : List Ask) (old mid new : List LedgerView) (log log' : LogState) (b : Branch) (t : TranName)
     → 1 ≤ length bs → b ≡ get_or bs 0 b → IsTranOf bs t
     → SameAsks (map first_ask bs) ks → Asks ks old mid → SameAsks (map (second_ask done.commit) ks) js → Asks js mid new
     → done.votes.items ≡ map code_of ks → done.endings.items ≡ map (ending_of_ask done.commit) js
     → done.commit ≡ commits (map code_of ks) done.logged → Logs (tran_of b.xid) (yes_asked ks) (map code_of ks) done.logged log log'
     → IsTraceOfCommit t bs old new log log' done
 call_is done bs ks js old mid new log log' b t some is all s one r two votes endings decision logs =
-    let branch : Branch → Code → Option Code → Ending → Type 0 = λ b v s e. BranchTrace done.commit b v s (account old b.m) (account new b.m) × (e ≡ ending_of done.commit v s) in
+    let branch : Branch → Code → Option Code → Ending → Type 0 = λ b v s e. BranchTrace done.commit b v s (ledger old b.m) (ledger new b.m) × (e ≡ ending_of done.commit v s) in
     record {
       seconds = map second_code js;
       each = subst (λ (vs : List Code). EachBranch branch bs vs (map second_code js) done.endings.items) (sym votes)

@@ -5,12 +5,12 @@ use Rattle.std.specs.FinMap as finmap
 use Rattle.std.proofs.lemmas.Bool.{eqb-false, ne_eqb}
 use Rattle.xa_words.specs.declared.code.Code.{Code}
 use Rattle.xa_words.specs.declared.request.Op.{Op}
-use Rattle.xa_desk.specs.AccountView.{AccountView, learnt_shut, is_collected, with_sent, with_collected}
-use Rattle.xa_desk.specs.DeskView.{DeskView, TicketView, IsKnown, Owns, account, outstanding}
+use Rattle.xa_desk.specs.LedgerView.{LedgerView, learnt_shut, is_collected, with_sent, with_collected}
+use Rattle.xa_desk.specs.DeskView.{DeskView, TicketView, IsKnown, Owns, ledger, outstanding}
 use Rattle.xa_switch.specs.Seats.{DeskSeat}
 use Rattle.xa_driver.specs.declared.ask.Ask.{Ask}
 use Rattle.xa_driver.specs.Asks.{sent_by, AskTrace, EachAsk, among_asks, AreRising, CanAsk, AllCanAsk, KeepsDesk, IsUnsent, unsent_code, Begins, Ends, HasBegun, EachBegan, HaveBegun}
-use Rattle.xa_driver.proofs.Accounts.{open_count}
+use Rattle.xa_driver.proofs.Ledgers.{open_count}
 use Rattle.xa_driver.proofs.Asking.{Moved, at_false, at_true, began_moved, ended_moved, collected_of, keeps_start, keeps_chain, known_by, sent_is}
 
 -- ---- which managers are among requests
@@ -59,30 +59,30 @@ pub rising_to : (lo : ℕ) (js : List Ask) (k : Ask) (bs : List Ask) → AreRisi
 rising_to lo [] k bs r = (r.0, tt)
 rising_to lo (a ∷ js) k bs r = (r.0, rising_to a.manager js k bs r.1)
 
-pub can_at : (js : List Ask) (k : Ask) (bs : List Ask) (at : List AccountView) → AllCanAsk (js ++ k ∷ bs) at → CanAsk at k.manager
+pub can_at : (js : List Ask) (k : Ask) (bs : List Ask) (at : List LedgerView) → AllCanAsk (js ++ k ∷ bs) at → CanAsk at k.manager
 can_at [] k bs at c = c.0
 can_at (a ∷ js) k bs at c = can_at js k bs at c.1
 
--- ---- what moves one account leaves the requests to the others
+-- ---- what moves one ledger leaves the requests to the others
 
-owns_stays : (t : TicketView) (d d' : DeskView) → account d'.accounts t.operation.manager ≡ account d.accounts t.operation.manager → length d'.accounts ≡ length d.accounts → KeepsDesk d d' → Owns d t → Owns d' t
+owns_stays : (t : TicketView) (d d' : DeskView) → ledger d'.ledgers t.operation.manager ≡ ledger d.ledgers t.operation.manager → length d'.ledgers ≡ length d.ledgers → KeepsDesk d d' → Owns d t → Owns d' t
 owns_stays t d d' same managers keeps o = record {
   opening = o.opening ∙ sym (ap (λ (s : DeskSeat). s.lane.opening) keeps.goes_on.seat);
   thread = o.thread ∙ sym (ap (λ (s : DeskSeat). s.thread) keeps.goes_on.seat);
   out = record {
-    known = known_by d.accounts d'.accounts t.operation.manager managers o.out.known;
-    sent = subst (λ (a : AccountView). t.operation.number < length a.sent) (sym same) o.out.sent;
-    open_ = ap (λ (a : AccountView). is_collected a t.operation.number) same ∙ o.out.open_;
+    known = known_by d.ledgers d'.ledgers t.operation.manager managers o.out.known;
+    sent = subst (λ (a : LedgerView). t.operation.number < length a.sent) (sym same) o.out.sent;
+    open_ = ap (λ (a : LedgerView). is_collected a t.operation.number) same ∙ o.out.open_;
   };
   loose = λ q e. o.loose q (ap (λ m. finmap.get m q) (sym keeps.kept) ∙ e);
 }
 
-one_stays : (k : Ask) (r : Option TicketView) (at : List AccountView) (d d' : DeskView) (m : ℕ) (a' : AccountView) → 1 ≤ k.manager → k.manager ≢ m → Moved m a' d d' → HasBegun k r at d → HasBegun k r at d'
+one_stays : (k : Ask) (r : Option TicketView) (at : List LedgerView) (d d' : DeskView) (m : ℕ) (a' : LedgerView) → 1 ≤ k.manager → k.manager ≢ m → Moved m a' d d' → HasBegun k r at d → HasBegun k r at d'
 one_stays k None at d d' m a' p differs moved h = (h.0, moved.others k.manager p differs ∙ h.1)
 one_stays k (Some t) at d d' m a' p differs moved h =
     let names : t.operation.manager ≡ k.manager = ap (λ o. o.manager) h.operation in
-    let stays : account d'.accounts k.manager ≡ account d.accounts k.manager = moved.others k.manager p differs in
-    let same : account d'.accounts t.operation.manager ≡ account d.accounts t.operation.manager = ap (account d'.accounts) names ∙ stays ∙ ap (account d.accounts) (sym names) in
+    let stays : ledger d'.ledgers k.manager ≡ ledger d.ledgers k.manager = moved.others k.manager p differs in
+    let same : ledger d'.ledgers t.operation.manager ≡ ledger d.ledgers t.operation.manager = ap (ledger d'.ledgers) names ∙ stays ∙ ap (ledger d.ledgers) (sym names) in
     record {
       op = h.op;
       wanted = h.wanted;
@@ -92,55 +92,55 @@ one_stays k (Some t) at d d' m a' p differs moved h =
       sent = stays ∙ h.sent;
     }
 
-pub begun_stays : (lo : ℕ) (ks : List Ask) (rs : List (Option TicketView)) (at : List AccountView) (d d' : DeskView) (m : ℕ) (a' : AccountView) → AreRising lo ks → among_asks ks m ≡ false → Moved m a' d d' → EachBegan ks rs at d → EachBegan ks rs at d'
+pub begun_stays : (lo : ℕ) (ks : List Ask) (rs : List (Option TicketView)) (at : List LedgerView) (d d' : DeskView) (m : ℕ) (a' : LedgerView) → AreRising lo ks → among_asks ks m ≡ false → Moved m a' d d' → EachBegan ks rs at d → EachBegan ks rs at d'
 begun_stays lo [] [] at d d' m a' up none moved h = tt
 begun_stays lo [] (r ∷ rs) at d d' m a' up none moved h = absurd h
 begun_stays lo (k ∷ ks) [] at d d' m a' up none moved h = absurd h
 begun_stays lo (k ∷ ks) (r ∷ rs) at d d' m a' up none moved h =
     (one_stays k r at d d' m a' (let z = up.0 in omega arith) (apart k ks m none) moved h.0, begun_stays k.manager ks rs at d d' m a' up.1 (right_falls (k.manager == m) _ none) moved h.1)
 
-pub asked_stays : (lo : ℕ) (ks : List Ask) (at : List AccountView) (d d' : DeskView) (m : ℕ) (a' : AccountView) → AreRising lo ks → among_asks ks m ≡ false → Moved m a' d d' → EachAsk ks at d.accounts → EachAsk ks at d'.accounts
+pub asked_stays : (lo : ℕ) (ks : List Ask) (at : List LedgerView) (d d' : DeskView) (m : ℕ) (a' : LedgerView) → AreRising lo ks → among_asks ks m ≡ false → Moved m a' d d' → EachAsk ks at d.ledgers → EachAsk ks at d'.ledgers
 asked_stays lo [] at d d' m a' up none moved h = tt
 asked_stays lo (k ∷ ks) at d d' m a' up none moved h = (
-  subst (λ (a : AccountView). AskTrace k.op k.code (account at k.manager) a) (sym (moved.others k.manager (let z = up.0 in omega arith) (apart k ks m none))) h.0,
+  subst (λ (a : LedgerView). AskTrace k.op k.code (ledger at k.manager) a) (sym (moved.others k.manager (let z = up.0 in omega arith) (apart k ks m none))) h.0,
   asked_stays k.manager ks at d d' m a' up.1 (right_falls (k.manager == m) _ none) moved h.1,
 )
 
 -- ---- one more request
 
-begun_more : (ks : List Ask) (rs : List (Option TicketView)) (k : Ask) (r : Option TicketView) (at : List AccountView) (d : DeskView) → EachBegan ks rs at d → HasBegun k r at d → EachBegan (ks ++ k ∷ []) (rs ++ r ∷ []) at d
+begun_more : (ks : List Ask) (rs : List (Option TicketView)) (k : Ask) (r : Option TicketView) (at : List LedgerView) (d : DeskView) → EachBegan ks rs at d → HasBegun k r at d → EachBegan (ks ++ k ∷ []) (rs ++ r ∷ []) at d
 begun_more [] [] k r at d h one = (one, tt)
 begun_more [] (q ∷ rs) k r at d h one = absurd h
 begun_more (j ∷ ks) [] k r at d h one = absurd h
 begun_more (j ∷ ks) (q ∷ rs) k r at d h one = (h.0, begun_more ks rs k r at d h.1 one)
 
-pub asked_more : (ks : List Ask) (k : Ask) (at at' : List AccountView) → EachAsk ks at at' → AskTrace k.op k.code (account at k.manager) (account at' k.manager) → EachAsk (ks ++ k ∷ []) at at'
+pub asked_more : (ks : List Ask) (k : Ask) (at at' : List LedgerView) → EachAsk ks at at' → AskTrace k.op k.code (ledger at k.manager) (ledger at' k.manager) → EachAsk (ks ++ k ∷ []) at at'
 asked_more [] k at at' h one = (one, tt)
 asked_more (j ∷ ks) k at at' h one = (h.0, asked_more ks k at at' h.1 one)
 
 -- the first request to a manager that nothing was sent to yet
-begins_flight : (k : Ask) (r : Option TicketView) (d0 d d' : DeskView) → account d.accounts k.manager ≡ account d0.accounts k.manager → IsKnown d.accounts k.manager → Begins k d d' r → HasBegun k r d0.accounts d'
+begins_flight : (k : Ask) (r : Option TicketView) (d0 d d' : DeskView) → ledger d.ledgers k.manager ≡ ledger d0.ledgers k.manager → IsKnown d.ledgers k.manager → Begins k d d' r → HasBegun k r d0.ledgers d'
 begins_flight k None d0 d d' same known b =
-    (subst (λ (a : AccountView). IsUnsent a k.op) same b.1, ap (λ (e : DeskView). account e.accounts k.manager) b.0 ∙ same)
+    (subst (λ (a : LedgerView). IsUnsent a k.op) same b.1, ap (λ (e : DeskView). ledger e.ledgers k.manager) b.0 ∙ same)
 begins_flight k (Some t) d0 d d' same known b = record {
   op = b.op;
   wanted = b.wanted;
   open_ = ap learnt_shut (sym same) ∙ b.open_;
-  operation = ap (λ (z : TicketView). z.operation) b.ticket ∙ ap (λ (a : AccountView). record { manager = k.manager; number = length a.sent }) same;
+  operation = ap (λ (z : TicketView). z.operation) b.ticket ∙ ap (λ (a : LedgerView). record { manager = k.manager; number = length a.sent }) same;
   owned = b.owned;
-  sent = sent_is k t d d' known b ∙ ap (λ (a : AccountView). with_sent a b.op) same;
+  sent = sent_is k t d d' known b ∙ ap (λ (a : LedgerView). with_sent a b.op) same;
 }
 
 -- one more was sent
 pub sent_more : (ks : List Ask) (rs : List (Option TicketView)) (k : Ask) (r : Option TicketView) (d0 d d' : DeskView)
-    → AreRising 0 (ks ++ k ∷ []) → IsKnown d0.accounts k.manager → HaveBegun ks rs d0 d → Begins k d d' r → HaveBegun (ks ++ k ∷ []) (rs ++ r ∷ []) d0 d'
+    → AreRising 0 (ks ++ k ∷ []) → IsKnown d0.ledgers k.manager → HaveBegun ks rs d0 d → Begins k d d' r → HaveBegun (ks ++ k ∷ []) (rs ++ r ∷ []) d0 d'
 sent_more ks rs k r d0 d d' up known h b =
     let none : among_asks ks k.manager ≡ false = rising_apart 0 ks k [] up in
-    let same : account d.accounts k.manager ≡ account d0.accounts k.manager = h.others k.manager known.positive none in
-    let here : IsKnown d.accounts k.manager = known_by d0.accounts d.accounts k.manager h.managers known in
-    let moved : Moved k.manager (sent_by (account d.accounts k.manager) k.op) d d' = began_moved k d d' r here b in
+    let same : ledger d.ledgers k.manager ≡ ledger d0.ledgers k.manager = h.others k.manager known.positive none in
+    let here : IsKnown d.ledgers k.manager = known_by d0.ledgers d.ledgers k.manager h.managers known in
+    let moved : Moved k.manager (sent_by (ledger d.ledgers k.manager) k.op) d d' = began_moved k d d' r here b in
     record {
-      each = begun_more ks rs k r d0.accounts d' (begun_stays 0 ks rs d0.accounts d d' k.manager _ (rising_first_part 0 ks (k ∷ []) up) none moved h.each) (begins_flight k r d0 d d' same here b);
+      each = begun_more ks rs k r d0.ledgers d' (begun_stays 0 ks rs d0.ledgers d d' k.manager _ (rising_first_part 0 ks (k ∷ []) up) none moved h.each) (begins_flight k r d0 d d' same here b);
       others = λ m p without.
           let differs : m ≢ k.manager = λ e. apart k [] m (among_last_part ks (k ∷ []) m without) (sym e) in
           moved.others m p differs ∙ h.others m p (among_first_part ks (k ∷ []) m without);
@@ -149,13 +149,13 @@ sent_more ks rs k r d0 d d' up known h b =
     }
 
 -- it takes one handle at most
-pub sent_takes_one : (k : Ask) (r : Option TicketView) (d d' : DeskView) → IsKnown d.accounts k.manager → Begins k d d' r → outstanding d'.accounts ≤ outstanding d.accounts + 1
-sent_takes_one k None d d' known b = let z = ap (λ (e : DeskView). outstanding e.accounts) b.0 in omega arith
+pub sent_takes_one : (k : Ask) (r : Option TicketView) (d d' : DeskView) → IsKnown d.ledgers k.manager → Begins k d d' r → outstanding d'.ledgers ≤ outstanding d.ledgers + 1
+sent_takes_one k None d d' known b = let z = ap (λ (e : DeskView). outstanding e.ledgers) b.0 in omega arith
 sent_takes_one k (Some t) d d' known b =
     let moved = began_moved k d d' (Some t) known b in
-    let a : AccountView = account d.accounts k.manager in
+    let a : LedgerView = ledger d.ledgers k.manager in
     let is : with_sent a b.op ≡ sent_by a k.op = sym (at_false (learnt_shut a) _ _ b.open_) ∙ ap (sent_by a) (sym b.wanted) in
-    let open_ : outstanding d'.accounts + open_count a ≡ outstanding d.accounts + open_count (with_sent a b.op) = subst (λ (x : AccountView). outstanding d'.accounts + open_count a ≡ outstanding d.accounts + open_count x) (sym is) moved.open_ in
+    let open_ : outstanding d'.ledgers + open_count a ≡ outstanding d.ledgers + open_count (with_sent a b.op) = subst (λ (x : LedgerView). outstanding d'.ledgers + open_count a ≡ outstanding d.ledgers + open_count x) (sym is) moved.open_ in
     omega (arith, length-append a.sent (b.op ∷ []))
 
 pub nothing_begun : (d : DeskView) → HaveBegun [] [] d d
@@ -163,34 +163,34 @@ nothing_begun d = record { each = tt; others = λ m p none. refl; managers = ref
 
 -- ---- one is collected
 
-flight_manager : (k : Ask) (r : Option TicketView) (at : List AccountView) (d : DeskView) → HasBegun k r at d → (t : TicketView) → r ≡ Some t → t.operation.manager ≡ k.manager
+flight_manager : (k : Ask) (r : Option TicketView) (at : List LedgerView) (d : DeskView) → HasBegun k r at d → (t : TicketView) → r ≡ Some t → t.operation.manager ≡ k.manager
 flight_manager k None at d h t e = absurd (none_is t e)
   where
     none_is : (t : TicketView) → None ≡ Some t → ⊥
     none_is t e = cc
 flight_manager k (Some q) at d h t e = let same : q ≡ t = cc in ap (λ (z : TicketView). z.operation.manager) (sym same) ∙ ap (λ o. o.manager) h.operation
 
--- the account moves by what was collected
-pub end_moves : (k : Ask) (r : Option TicketView) (code : Option Code) (at : List AccountView) (d d' : DeskView) → IsKnown d.accounts k.manager → HasBegun k r at d → Ends k d d' r code → Moved k.manager (collected_of (account d.accounts k.manager) r code) d d'
+-- the ledger moves by what was collected
+pub end_moves : (k : Ask) (r : Option TicketView) (code : Option Code) (at : List LedgerView) (d d' : DeskView) → IsKnown d.ledgers k.manager → HasBegun k r at d → Ends k d d' r code → Moved k.manager (collected_of (ledger d.ledgers k.manager) r code) d d'
 end_moves k r code at d d' known h e = ended_moved k d d' r code (flight_manager k r at d h) known e
 
-unsent_trace : (k : Ask) (op : Option Op) (a a' : AccountView) → IsUnsent a op → a' ≡ a → AskTrace op (unsent_code op) a a'
+unsent_trace : (k : Ask) (op : Option Op) (a a' : LedgerView) → IsUnsent a op → a' ≡ a → AskTrace op (unsent_code op) a a'
 unsent_trace k None a a' h e = record { answered = refl; trace = e }
 unsent_trace k (Some op) a a' h e = record { answered = λ shut. refl; trace = e ∙ sym (at_true (learnt_shut a) _ _ h) }
 
 -- the manager was asked, and answered
-pub end_answers : (k : Ask) (r : Option TicketView) (code : Option Code) (at : List AccountView) (d d' : DeskView) → HasBegun k r at d → Ends k d d' r code → account d'.accounts k.manager ≡ collected_of (account d.accounts k.manager) r code
-    → AskTrace k.op code (account at k.manager) (account d'.accounts k.manager)
+pub end_answers : (k : Ask) (r : Option TicketView) (code : Option Code) (at : List LedgerView) (d d' : DeskView) → HasBegun k r at d → Ends k d d' r code → ledger d'.ledgers k.manager ≡ collected_of (ledger d.ledgers k.manager) r code
+    → AskTrace k.op code (ledger at k.manager) (ledger d'.ledgers k.manager)
 unfolding collected_of
 end_answers k None code at d d' h e is =
-    subst (λ (c : Option Code). AskTrace k.op c (account at k.manager) (account d'.accounts k.manager)) (sym e.1) (unsent_trace k k.op (account at k.manager) (account d'.accounts k.manager) h.0 (is ∙ h.1))
+    subst (λ (c : Option Code). AskTrace k.op c (ledger at k.manager) (ledger d'.ledgers k.manager)) (sym e.1) (unsent_trace k k.op (ledger at k.manager) (ledger d'.ledgers k.manager) h.0 (is ∙ h.1))
 end_answers k (Some t) code at d d' h e is =
-    let a : AccountView = account at k.manager in
+    let a : LedgerView = ledger at k.manager in
     let number : t.operation.number ≡ length a.sent = ap (λ o. o.number) h.operation in
-    let sent : account d.accounts k.manager ≡ with_sent a h.op = h.sent in
-    let all : account d'.accounts k.manager ≡ with_collected (with_sent a h.op) (length a.sent) e.0 =
-    is ∙ ap (collected_of (account d.accounts k.manager) (Some t)) e.1.0 ∙ (λ i. with_collected (sent i) (number i) e.0) in
-    subst (λ (o : Option Op). AskTrace o code a (account d'.accounts k.manager)) (sym h.wanted) (subst (λ (c : Option Code). AskTrace (Some h.op) c a (account d'.accounts k.manager)) (sym e.1.0) (record {
+    let sent : ledger d.ledgers k.manager ≡ with_sent a h.op = h.sent in
+    let all : ledger d'.ledgers k.manager ≡ with_collected (with_sent a h.op) (length a.sent) e.0 =
+    is ∙ ap (collected_of (ledger d.ledgers k.manager) (Some t)) e.1.0 ∙ (λ i. with_collected (sent i) (number i) e.0) in
+    subst (λ (o : Option Op). AskTrace o code a (ledger d'.ledgers k.manager)) (sym h.wanted) (subst (λ (c : Option Code). AskTrace (Some h.op) c a (ledger d'.ledgers k.manager)) (sym e.1.0) (record {
       answered = λ shut. let z = h.open_ in cc;
       trace = all ∙ sym (at_false (learnt_shut a) _ _ h.open_);
     }))

@@ -1,5 +1,5 @@
 pub mod Transactions
-pub mod Accounts
+pub mod Ledgers
 pub mod Asking
 pub mod Flights
 pub mod Gathering

@@ -10,8 +10,8 @@ use Rattle.xa_words.specs.Tran.{TranName}
 use Rattle.xa_words.specs.declared.code.Code.{Code}
 use Rattle.xa_tables.specs.History.{is_done}
 use Rattle.xa_tables.specs.History as history
-use Rattle.xa_desk.specs.AccountView.{AccountView, is_rm_fail}
-use Rattle.xa_desk.specs.DeskView.{DeskView, account}
+use Rattle.xa_desk.specs.LedgerView.{LedgerView, is_rm_fail}
+use Rattle.xa_desk.specs.DeskView.{DeskView, ledger}
 use Rattle.xa_driver.specs.Transactions.{tran_cmp}
 use Rattle.xa_driver.specs.declared.branch.Branch.{Branch}
 use Rattle.xa_driver.specs.declared.done.Done.{Done}
@@ -115,7 +115,7 @@ one_tran : (bs : List Branch) (s t : TranName) → 1 ≤ length bs → IsTranOf 
 one_tran [] s t some e f = absurd (omega arith)
 one_tran (b ∷ bs) s t some e f = sym e.0 ∙ f.0
 
-module _ (tran : TranName) (bs : List Branch) (desk : DeskView) (new : List AccountView) (log later : LogState) (d : Done)
+module _ (tran : TranName) (bs : List Branch) (desk : DeskView) (new : List LedgerView) (log later : LogState) (d : Done)
     (made : IsCommit bs desk new log later d) (of_tran : IsTranOf bs tran) where
   abbrev may : MayCommit desk log bs
   may = made.may
@@ -123,14 +123,14 @@ module _ (tran : TranName) (bs : List Branch) (desk : DeskView) (new : List Acco
   same_tran_here : may.tran ≡ tran
   same_tran_here = one_tran bs may.tran tran may.some may.one of_tran
 
-  call : IsTraceOfCommit tran bs desk.accounts new log later d
-  call = subst (λ (t : TranName). IsTraceOfCommit t bs desk.accounts new log later d) same_tran_here made.trace
+  call : IsTraceOfCommit tran bs desk.ledgers new log later d
+  call = subst (λ (t : TranName). IsTraceOfCommit t bs desk.ledgers new log later d) same_tran_here made.trace
 
   abbrev votes : List Code
   votes = d.votes.items
 
   abbrev Traces : Branch → Code → Option Code → Ending → Type 0
-  Traces b v s e = BranchTrace d.commit b v s (account desk.accounts b.m) (account new b.m)
+  Traces b v s e = BranchTrace d.commit b v s (ledger desk.ledgers b.m) (ledger new b.m)
 
   absent : record_of log tran ≡ None
   absent = ap (record_of log) (sym same_tran_here) ∙ may.absent
@@ -152,11 +152,11 @@ module _ (tran : TranName) (bs : List Branch) (desk : DeskView) (new : List Acco
   unrecorded (unwanted wants off is) e = ap (λ l. record_of l tran) is ∙ absent
 
   -- on abort
-  aborted : d.commit ≡ false → IsAbortedTransaction tran desk.accounts new later d
+  aborted : d.commit ≡ false → IsAbortedTransaction tran desk.ledgers new later d
   aborted off = record {
     uncommitted = none_end Traces d.commit is_committed never (λ v s _. ap (λ c. is_committed (ending_of c v s)) off ∙ uncommitted v s) bs votes call.seconds d.endings.items call.each (any_never votes);
     unrecorded = unrecorded call.logs off;
-    unsent = abort_sends_no_commit tran bs desk.accounts new log later d call off;
+    unsent = abort_sends_no_commit tran bs desk.ledgers new log later d call off;
   }
 
   -- on commit no vote is against, and nothing is rolled back
@@ -179,9 +179,9 @@ module _ (tran : TranName) (bs : List Branch) (desk : DeskView) (new : List Acco
   -- where the log didn't take the record
   unlogged : append_failed d ≡ true → d.commit ≡ false
   unlogged e =
-      failed_append_aborts tran bs desk.accounts new log later d call (left_holds _ _ e) (not_holds _ (right_holds (wants_record votes) (not d.logged) e))
+      failed_append_aborts tran bs desk.ledgers new log later d call (left_holds _ _ e) (not_holds _ (right_holds (wants_record votes) (not d.logged) e))
 
-  pub aborted_law : was_refused d ≡ true → IsAbortedTransaction tran desk.accounts new later d
+  pub aborted_law : was_refused d ≡ true → IsAbortedTransaction tran desk.ledgers new later d
   aborted_law refused =
       aborted (elim (d.commit) as (λ c. d.commit ≡ c → c ≡ false) [
         | false ↦ λ e. refl

@@ -9,12 +9,12 @@ use Rattle.xa_words.specs.declared.request.Op.{Op}
 use Rattle.xa_words.specs.declared.request.Op.TheVariants.{Prepare}
 use Rattle.xa_tables.specs.Tables.{Tables}
 use Rattle.xa_tables.specs.History.{History}
-use Rattle.xa_desk.specs.AccountView.{AccountView, learnt_shut}
-use Rattle.xa_desk.specs.DeskView.{DeskView, account, no_account, is_known}
+use Rattle.xa_desk.specs.LedgerView.{LedgerView, learnt_shut}
+use Rattle.xa_desk.specs.DeskView.{DeskView, ledger, no_ledger, is_known}
 use Rattle.xa_worker.specs.Journal.{Entry}
 use Rattle.xa_switch.specs.Settling.{Settling, IsSettled, Agree, sent, collected, journal, answers}
 use Rattle.xa_desk.specs.Growth.{Begins, HasGrown, HaveGrown}
-use Rattle.xa_switch.specs.Fates.{IsOpenedWith, accounts_of, history as history_of}
+use Rattle.xa_switch.specs.Fates.{IsOpenedWith, ledgers_of, history as history_of}
 use Rattle.xa_driver.specs.declared.branch.Branch.{Branch}
 use Rattle.xa_driver.specs.declared.done.Done.{Done}
 use Rattle.xa_driver.specs.declared.done.Ending.{Ending}
@@ -33,36 +33,36 @@ all_first P y ys h = h 0 y (omega arith)
 all_rest : {A : Type 0} (P : A → Type 0) (y : A) (ys : List A) → All P (y ∷ ys) → All P ys
 all_rest P y ys h k d lt = h (suc k) d (omega arith)
 
-past_end : (l : List AccountView) (k : ℕ) → length l ≤ k → get_or l k no_account ≡ no_account
+past_end : (l : List LedgerView) (k : ℕ) → length l ≤ k → get_or l k no_ledger ≡ no_ledger
 past_end [] k h = refl
 past_end (x ∷ l) zero h = absurd (omega arith)
 past_end (x ∷ l) (suc k) h = past_end l k (omega arith)
 
--- what was sent to a manager, and collected from it, stands in the account with it
-by_account : {X : Type 0} (at : List AccountView) (m : ℕ) (f : AccountView → List X) → 1 ≤ m → f no_account ≡ [] → (if is_known at m then f (account at m) else []) ≡ f (account at m)
-by_account at m f positive none =
+-- what was sent to a manager, and collected from it, stands in the ledger with it
+by_ledger : {X : Type 0} (at : List LedgerView) (m : ℕ) (f : LedgerView → List X) → 1 ≤ m → f no_ledger ≡ [] → (if is_known at m then f (ledger at m) else []) ≡ f (ledger at m)
+by_ledger at m f positive none =
     ⊎_elim
-    (λ (past : length at < m). by_if (λ l. l ≡ f (account at m)) (is_known at m) _ _ (λ _. refl) (λ _. sym (ap f (past_end at (m - 1) (omega (arith, past))) ∙ none)))
-    (λ (within : m ≤ length at). ap (λ b. if b then f (account at m) else []) (λ i. le-leb 1 m positive i && le-leb m (length at) within i))
+    (λ (past : length at < m). by_if (λ l. l ≡ f (ledger at m)) (is_known at m) _ _ (λ _. refl) (λ _. sym (ap f (past_end at (m - 1) (omega (arith, past))) ∙ none)))
+    (λ (within : m ≤ length at). ap (λ b. if b then f (ledger at m) else []) (λ i. le-leb 1 m positive i && le-leb m (length at) within i))
     (cases_lt (length at) m)
 
 module _ (law : Tabled) (opened : (s : Settling) (m : ℕ) → IsSettled s → (T : Tables) × IsOpenedWith s m T) (s : Settling) (t : ℕ) where
   -- one branch
-  record Both (b : Branch) (old : AccountView) (vote : Code) (ending : Ending) : Type 0 where
+  record Both (b : Branch) (old : LedgerView) (vote : Code) (ending : Ending) : Type 0 where
     keeps : KeepsItsVote s t b old vote ending
     tells : TellsTheFate s b ending
 
-  one : IsSettled s → (commit : Bool) (b : Branch) (vote : Code) (second : Option Code) (ending : Ending) (a a' : AccountView) → 1 ≤ b.m → HasGrown a' (account (accounts_of s t) b.m)
+  one : IsSettled s → (commit : Bool) (b : Branch) (vote : Code) (second : Option Code) (ending : Ending) (a a' : LedgerView) → 1 ≤ b.m → HasGrown a' (ledger (ledgers_of s t) b.m)
       → OnlyTheseName b.xid t (length a.sent) (length a'.sent) (history_of s b.m) → BranchTrace commit b vote second a a' → ending ≡ ending_of commit vote second → Both b a vote ending
   one settled commit b vote second ending a a' positive grown only tr is =
-      let at : List AccountView = accounts_of s t in
+      let at : List LedgerView = ledgers_of s t in
       let open_ = opened s b.m settled in
       let T : Tables = open_.0 in
       let H : History = history_of s b.m in
       let agree : Agree t (sent s t b.m) (collected s t b.m) (journal s b.m) = settled.agree t b.m in
       let answered = subst (λ (J : List Entry). All (λ (p : ℕ × Code). slice_get (answers t J) p.0 ≡ Some p) (collected s t b.m)) open_.1.codes agree.coded in
-      let all_sent : Begins a'.sent (sent s t b.m) = subst (Begins a'.sent) (sym (by_account at b.m (λ (z : AccountView). z.sent) positive refl)) grown.sent in
-      let all_collected : Begins a'.collected (collected s t b.m) = subst (Begins a'.collected) (sym (by_account at b.m (λ (z : AccountView). z.collected) positive refl)) grown.collected in
+      let all_sent : Begins a'.sent (sent s t b.m) = subst (Begins a'.sent) (sym (by_ledger at b.m (λ (z : LedgerView). z.sent) positive refl)) grown.sent in
+      let all_collected : Begins a'.collected (collected s t b.m) = subst (Begins a'.collected) (sym (by_ledger at b.m (λ (z : LedgerView). z.collected) positive refl)) grown.collected in
       let z : Outcome t b.xid T H a vote (ending_of commit vote second) =
       branch_outcome law t b vote second commit a a' T H (sent s t b.m) (collected s t b.m) open_.1.opened agree.carried answered all_sent all_collected only tr in
       subst (Both b a vote) (sym is) (record {
@@ -70,52 +70,52 @@ module _ (law : Tabled) (opened : (s : Settling) (m : ℕ) → IsSettled s → (
         tells = λ f e. open_.1.fates b.xid ∙ z.told f e;
       })
 
-  module _ (settled : IsSettled s) (commit : Bool) (old new : List AccountView) (grown : HaveGrown new (accounts_of s t)) where
+  module _ (settled : IsSettled s) (commit : Bool) (old new : List LedgerView) (grown : HaveGrown new (ledgers_of s t)) where
     abbrev Traced : List Branch → List Code → List (Option Code) → List Ending → Type 0
-    Traced = EachBranch (λ b v z e. BranchTrace commit b v z (account old b.m) (account new b.m) × (e ≡ ending_of commit v z))
+    Traced = EachBranch (λ b v z e. BranchTrace commit b v z (ledger old b.m) (ledger new b.m) × (e ≡ ending_of commit v z))
 
     -- nobody else names the branch, as the call has it
     abbrev Alone : Branch → Type 0
-    Alone b = OnlyTheseName b.xid t (length (account old b.m).sent) (length (account new b.m).sent) (history_of s b.m)
+    Alone b = OnlyTheseName b.xid t (length (ledger old b.m).sent) (length (ledger new b.m).sent) (history_of s b.m)
 
-    each : (lo : ℕ) (bs : List Branch) (vs : List Code) (zs : List (Option Code)) (es : List Ending) → AreBranchesRising lo bs → All Alone bs → Traced bs vs zs es → EachOutcome (λ b v e. Both b (account old b.m) v e) bs vs es
+    each : (lo : ℕ) (bs : List Branch) (vs : List Code) (zs : List (Option Code)) (es : List Ending) → AreBranchesRising lo bs → All Alone bs → Traced bs vs zs es → EachOutcome (λ b v e. Both b (ledger old b.m) v e) bs vs es
     each lo [] [] [] [] r only h = tt
     each lo (b ∷ bs) (v ∷ vs) (z ∷ zs) (e ∷ es) r only h =
         let up = r.0 in
         let positive : 1 ≤ b.m = omega (arith, up) in
-        (one settled commit b v z e (account old b.m) (account new b.m) positive (grown.each b.m positive) (all_first Alone b bs only) h.0.0 h.0.1, each b.m bs vs zs es r.1 (all_rest Alone b bs only) h.1)
+        (one settled commit b v z e (ledger old b.m) (ledger new b.m) positive (grown.each b.m positive) (all_first Alone b bs only) h.0.0 h.0.1, each b.m bs vs zs es r.1 (all_rest Alone b bs only) h.1)
     each lo bs vs zs es r only h = absurd h
 
-  each_keeps : (old : List AccountView) (bs : List Branch) (vs : List Code) (es : List Ending) → EachOutcome (λ b v e. Both b (account old b.m) v e) bs vs es → EachOutcome (λ b v e. KeepsItsVote s t b (account old b.m) v e) bs vs es
+  each_keeps : (old : List LedgerView) (bs : List Branch) (vs : List Code) (es : List Ending) → EachOutcome (λ b v e. Both b (ledger old b.m) v e) bs vs es → EachOutcome (λ b v e. KeepsItsVote s t b (ledger old b.m) v e) bs vs es
   each_keeps old [] [] [] h = tt
   each_keeps old (b ∷ bs) (v ∷ vs) (e ∷ es) h = (h.0.keeps, each_keeps old bs vs es h.1)
   each_keeps old bs vs es h = absurd h
 
-  each_tells : (old : List AccountView) (bs : List Branch) (vs : List Code) (es : List Ending) → EachOutcome (λ b v e. Both b (account old b.m) v e) bs vs es → EachOutcome (λ b v e. TellsTheFate s b e) bs vs es
+  each_tells : (old : List LedgerView) (bs : List Branch) (vs : List Code) (es : List Ending) → EachOutcome (λ b v e. Both b (ledger old b.m) v e) bs vs es → EachOutcome (λ b v e. TellsTheFate s b e) bs vs es
   each_tells old [] [] [] h = tt
   each_tells old (b ∷ bs) (v ∷ vs) (e ∷ es) h = (h.0.tells, each_tells old bs vs es h.1)
   each_tells old bs vs es h = absurd h
 
-  module _ (bs : List Branch) (desk : DeskView) (new : List AccountView) (log later : LogState) (d : Done)
-      (settled : IsSettled s) (made : IsCommit bs desk new log later d) (grown : HaveGrown new (accounts_of s t)) (alone : AreLeftAlone s t bs desk.accounts new) where
-    all_outcomes : EachOutcome (λ b v e. Both b (account desk.accounts b.m) v e) bs d.votes.items d.endings.items
-    all_outcomes = each settled d.commit desk.accounts new grown 0 bs d.votes.items made.trace.seconds d.endings.items made.may.rising alone.each made.trace.each
+  module _ (bs : List Branch) (desk : DeskView) (new : List LedgerView) (log later : LogState) (d : Done)
+      (settled : IsSettled s) (made : IsCommit bs desk new log later d) (grown : HaveGrown new (ledgers_of s t)) (alone : AreLeftAlone s t bs desk.ledgers new) where
+    all_outcomes : EachOutcome (λ b v e. Both b (ledger desk.ledgers b.m) v e) bs d.votes.items d.endings.items
+    all_outcomes = each settled d.commit desk.ledgers new grown 0 bs d.votes.items made.trace.seconds d.endings.items made.may.rising alone.each made.trace.each
 
-    pub votes_law : KeepsTheVotes s t bs desk.accounts d
-    votes_law = record { each = each_keeps desk.accounts bs d.votes.items d.endings.items all_outcomes }
+    pub votes_law : KeepsTheVotes s t bs desk.ledgers d
+    votes_law = record { each = each_keeps desk.ledgers bs d.votes.items d.endings.items all_outcomes }
 
     pub fates_law : TellsTheFates s bs d
-    fates_law = record { each = each_tells desk.accounts bs d.votes.items d.endings.items all_outcomes }
+    fates_law = record { each = each_tells desk.ledgers bs d.votes.items d.endings.items all_outcomes }
 
 -- ---- a commit only makes the lists grow
 
 same_begins : {X : Type 0} (xs : List X) → Begins xs xs
 same_begins xs = ([], sym (append-nil xs))
 
-unchanged : (a : AccountView) → HasGrown a a
+unchanged : (a : LedgerView) → HasGrown a a
 unchanged a = record { sent = same_begins a.sent; collected = same_begins a.collected }
 
-asked_grows : (a : AccountView) (op : Option Op) (code : Option Code) → HasGrown a (asked a op code)
+asked_grows : (a : LedgerView) (op : Option Op) (code : Option Code) → HasGrown a (asked a op code)
 asked_grows a None code = unchanged a
 asked_grows a (Some op) None = unchanged a
 asked_grows a (Some op) (Some code) =
@@ -124,13 +124,13 @@ asked_grows a (Some op) (Some code) =
 begins_on : {X : Type 0} (xs ys zs : List X) → Begins xs ys → Begins ys zs → Begins xs zs
 begins_on xs ys zs p q = (p.0 ++ q.0, q.1 ∙ ap (λ l. l ++ q.0) p.1 ∙ append_assoc xs p.0 q.0)
 
-grown_on : (a b c : AccountView) → HasGrown a b → HasGrown b c → HasGrown a c
+grown_on : (a b c : LedgerView) → HasGrown a b → HasGrown b c → HasGrown a c
 grown_on a b c p q = record { sent = begins_on a.sent b.sent c.sent p.sent q.sent; collected = begins_on a.collected b.collected c.collected p.collected q.collected }
 
-traced_grows : (commit : Bool) (b : Branch) (v : Code) (z : Option Code) (a a' : AccountView) → BranchTrace commit b v z a a' → HasGrown a a'
+traced_grows : (commit : Bool) (b : Branch) (v : Code) (z : Option Code) (a a' : LedgerView) → BranchTrace commit b v z a a' → HasGrown a a'
 traced_grows commit b v z a a' tr =
     subst (HasGrown a) (sym tr.trace)
     (grown_on a (voted b v a) (asked (voted b v a) (second_op commit b.xid v) z) (asked_grows a (Some (Prepare b.xid)) (Some v)) (asked_grows (voted b v a) (second_op commit b.xid v) z))
 
-pub growth_law : (tran : TranName) (bs : List Branch) (old new : List AccountView) (log later : LogState) (d : Done) → IsTraceOfCommit tran bs old new log later d → HaveGrown old new
+pub growth_law : (tran : TranName) (bs : List Branch) (old new : List LedgerView) (log later : LogState) (d : Done) → IsTraceOfCommit tran bs old new log later d → HaveGrown old new
 growth_law tran bs old new log later d call = record { each = every_manager HasGrown unchanged tran bs old new log later d (traced_grows d.commit) call }

@@ -5,22 +5,22 @@ use Rattle.std.proofs.lemmas.Bool.{eqb-true, ne_eqb, or_from}
 use Rattle.xa_words.specs.declared.code.Code.{Code}
 use Rattle.xa_words.specs.declared.request.Op.{Op}
 use Rattle.xa_desk.specs.declared.operation.Operation.{Operation}
-use Rattle.xa_desk.specs.AccountView.{AccountView, learnt_shut, is_collected, with_sent, with_collected}
-use Rattle.xa_desk.specs.DeskView.{DeskView, IsOut, account}
+use Rattle.xa_desk.specs.LedgerView.{LedgerView, learnt_shut, is_collected, with_sent, with_collected}
+use Rattle.xa_desk.specs.DeskView.{DeskView, IsOut, ledger}
 use Rattle.xa_desk.specs.Seats.{DeskSeat}
 use Rattle.xa_desk.specs.Tickets.{LeavesTickets}
-use Rattle.xa_desk.proofs.Accounts.{is_collected-push}
+use Rattle.xa_desk.proofs.Ledgers.{is_collected-push}
 use Rattle.xa_driver.specs.declared.ask.Ask.{Ask}
 use Rattle.xa_driver.specs.Asks.{asked, among_asks, Asks, EachAsk, KeepsDesk, LeavesOutstanding}
 use Rattle.xa_driver.proofs.Aborts.{by_if}
 use Rattle.xa_driver.proofs.Asking.{known_by}
 
 -- the request of this number was sent and not collected
-pub record IsOpen (n : ℕ) (a : AccountView) : Type 0 where
+pub record IsOpen (n : ℕ) (a : LedgerView) : Type 0 where
   pub sent : n < length a.sent
   pub open_ : is_collected a n ≡ false
 
-asked_leaves_open : (a : AccountView) (op : Option Op) (code : Option Code) (n : ℕ) → IsOpen n a → IsOpen n (asked a op code)
+asked_leaves_open : (a : LedgerView) (op : Option Op) (code : Option Code) (n : ℕ) → IsOpen n a → IsOpen n (asked a op code)
 asked_leaves_open a None code n h = h
 asked_leaves_open a (Some op) None n h = h
 asked_leaves_open a (Some op) (Some c) n h =
@@ -29,34 +29,34 @@ asked_leaves_open a (Some op) (Some c) n h =
       open_ = is_collected-push (with_sent a op) (length a.sent) c n ∙ or_from _ _ h.open_ (or_from _ _ (ne_eqb n (length a.sent) (λ e. let z = h.sent in absurd (omega (arith, e)))) refl);
     })
 
-open_there : (ks : List Ask) (at at' : List AccountView) (m n : ℕ) → EachAsk ks at at' → among_asks ks m ≡ true → IsOpen n (account at m) → IsOpen n (account at' m)
+open_there : (ks : List Ask) (at at' : List LedgerView) (m n : ℕ) → EachAsk ks at at' → among_asks ks m ≡ true → IsOpen n (ledger at m) → IsOpen n (ledger at' m)
 open_there [] at at' m n e there h = cc
 open_there (k ∷ ks) at at' m n e there h =
-    elim (k.manager == m) as (λ b. (k.manager == m) ≡ b → (b || among_asks ks m) ≡ true → IsOpen n (account at' m)) [
+    elim (k.manager == m) as (λ b. (k.manager == m) ≡ b → (b || among_asks ks m) ≡ true → IsOpen n (ledger at' m)) [
       | true ↦ λ is _.
           let same : k.manager ≡ m = eqb-true k.manager m is in
-          let before : IsOpen n (account at k.manager) = subst (λ (q : ℕ). IsOpen n (account at q)) (sym same) h in
-          let after : IsOpen n (account at' k.manager) = subst (IsOpen n) (sym e.0.trace) (asked_leaves_open (account at k.manager) k.op k.code n before) in
-          subst (λ (q : ℕ). IsOpen n (account at' q)) same after
+          let before : IsOpen n (ledger at k.manager) = subst (λ (q : ℕ). IsOpen n (ledger at q)) (sym same) h in
+          let after : IsOpen n (ledger at' k.manager) = subst (IsOpen n) (sym e.0.trace) (asked_leaves_open (ledger at k.manager) k.op k.code n before) in
+          subst (λ (q : ℕ). IsOpen n (ledger at' q)) same after
       | false ↦ λ is there. open_there ks at at' m n e.1 there h
     ] refl there
 
-open_at : (ks : List Ask) (at at' : List AccountView) (m n : ℕ) → 1 ≤ m → Asks ks at at' → IsOpen n (account at m) → IsOpen n (account at' m)
-open_at ks at at' m n p asks h = elim (among_asks ks m) as (λ b. among_asks ks m ≡ b → IsOpen n (account at' m)) [
+open_at : (ks : List Ask) (at at' : List LedgerView) (m n : ℕ) → 1 ≤ m → Asks ks at at' → IsOpen n (ledger at m) → IsOpen n (ledger at' m)
+open_at ks at at' m n p asks h = elim (among_asks ks m) as (λ b. among_asks ks m ≡ b → IsOpen n (ledger at' m)) [
   | true ↦ λ there. open_there ks at at' m n asks.each there h
   | false ↦ λ none. subst (IsOpen n) (sym (asks.others m p none)) h
 ] refl
 
-pub asks_leave_outstanding : (ks : List Ask) (at at' : List AccountView) → Asks ks at at' → LeavesOutstanding at at'
+pub asks_leave_outstanding : (ks : List Ask) (at at' : List LedgerView) → Asks ks at at' → LeavesOutstanding at at'
 asks_leave_outstanding ks at at' asks o out =
     let open_ = open_at ks at at' o.manager o.number out.known.positive asks (record { sent = out.sent; open_ = out.open_ }) in
     record { known = known_by at at' o.manager asks.managers out.known; sent = open_.sent; open_ = open_.open_ }
 
-pub outstanding_chain : (a b c : List AccountView) → LeavesOutstanding a b → LeavesOutstanding b c → LeavesOutstanding a c
+pub outstanding_chain : (a b c : List LedgerView) → LeavesOutstanding a b → LeavesOutstanding b c → LeavesOutstanding a c
 outstanding_chain a b c p q o out = q o (p o out)
 
 -- a desk that keeps what is kept leaves the tickets of what is outstanding
-pub tickets_stay : (old new : DeskView) → KeepsDesk old new → LeavesOutstanding old.accounts new.accounts → LeavesTickets old new
+pub tickets_stay : (old new : DeskView) → KeepsDesk old new → LeavesOutstanding old.ledgers new.ledgers → LeavesTickets old new
 tickets_stay old new keeps out t owned = record {
   opening = owned.opening ∙ sym (ap (λ (s : DeskSeat). s.lane.opening) keeps.goes_on.seat);
   thread = owned.thread ∙ sym (ap (λ (s : DeskSeat). s.thread) keeps.goes_on.seat);

@@ -4,48 +4,48 @@ use Rattle.std.specs.List.{list_any}
 use Rattle.xa_words.specs.declared.code.Code.{Code}
 use Rattle.xa_words.specs.declared.code.Code.TheVariants.{RmFail}
 use Rattle.xa_words.specs.declared.request.Op.{Op}
-use Rattle.xa_desk.specs.AccountView.{AccountView, learnt_shut, with_sent, with_collected}
+use Rattle.xa_desk.specs.LedgerView.{LedgerView, learnt_shut, with_sent, with_collected}
 use Rattle.xa_desk.specs.declared.operation.Operation.{Operation}
-use Rattle.xa_desk.specs.DeskView.{DeskView, TicketView, IsKnown, IsOut, Owns, account, after_sent, next_operation, ticket_of}
+use Rattle.xa_desk.specs.DeskView.{DeskView, TicketView, IsKnown, IsOut, Owns, ledger, after_sent, next_operation, ticket_of}
 use Rattle.xa_desk.specs.GoesOn.{GoesOn}
 use Rattle.xa_desk.specs.Looks.{Collects}
 use Rattle.xa_driver.specs.declared.ask.Ask.{Ask}
 
 -- a request is sent where its manager isn't learnt to be shut
-abbrev pub sent_by : AccountView → Option Op → AccountView
+abbrev pub sent_by : LedgerView → Option Op → LedgerView
 sent_by a None = a
 sent_by a (Some op) = if learnt_shut a then a else with_sent a op
 
 -- and then collected, under the number that it was sent with
-abbrev pub asked : AccountView → Option Op → Option Code → AccountView
+abbrev pub asked : LedgerView → Option Op → Option Code → LedgerView
 asked a None code = a
 asked a (Some op) None = a
 asked a (Some op) (Some code) = if learnt_shut a then a else with_collected (with_sent a op) (length a.sent) code
 
 -- what is asked has a code; where nothing was sent it is XAER_RMFAIL
-abbrev pub IsAnswered : AccountView → Option Op → Option Code → Type 0
+abbrev pub IsAnswered : LedgerView → Option Op → Option Code → Type 0
 IsAnswered a None code = code ≡ None
 IsAnswered a (Some op) None = ⊥
 IsAnswered a (Some op) (Some code) = learnt_shut a ≡ true → code ≡ RmFail
 
 -- the request and its collection took a to a'
-pub record AskTrace (op : Option Op) (code : Option Code) (a a' : AccountView) : Type 0 where
+pub record AskTrace (op : Option Op) (code : Option Code) (a a' : LedgerView) : Type 0 where
   pub answered : IsAnswered a op code
   pub trace : a' ≡ asked a op code
 
--- each request took its manager's account from one list to that of the other
-abbrev pub EachAsk : List Ask → List AccountView → List AccountView → Type 0
+-- each request took its manager's ledger from one list to that of the other
+abbrev pub EachAsk : List Ask → List LedgerView → List LedgerView → Type 0
 EachAsk [] at at' = Unit {0}
-EachAsk (k ∷ ks) at at' = AskTrace k.op k.code (account at k.manager) (account at' k.manager) × EachAsk ks at at'
+EachAsk (k ∷ ks) at at' = AskTrace k.op k.code (ledger at k.manager) (ledger at' k.manager) × EachAsk ks at at'
 
 -- one of the requests is to the manager
 abbrev pub among_asks : List Ask → ℕ → Bool
 among_asks ks m = list_any (λ k. k.manager == m) ks
 
 -- the requests took the lists from at to at', and nothing else did
-pub record Asks (ks : List Ask) (at at' : List AccountView) : Type 0 where
+pub record Asks (ks : List Ask) (at at' : List LedgerView) : Type 0 where
   pub each : EachAsk ks at at'
-  pub others : (m : ℕ) → 1 ≤ m → among_asks ks m ≡ false → account at' m ≡ account at m
+  pub others : (m : ℕ) → 1 ≤ m → among_asks ks m ≡ false → ledger at' m ≡ ledger at m
   pub managers : length at' ≡ length at
 
 -- the same but for the code
@@ -68,12 +68,12 @@ AreRising lo [] = Unit {0}
 AreRising lo (k ∷ ks) = (lo < k.manager) × AreRising k.manager ks
 
 -- the manager is known, and the plan has room for one more request to it
-pub record CanAsk (at : List AccountView) (m : ℕ) : Type 0 where
+pub record CanAsk (at : List LedgerView) (m : ℕ) : Type 0 where
   pub known : IsKnown at m
-  pub room : length (account at m).sent < (account at m).plan
+  pub room : length (ledger at m).sent < (ledger at m).plan
 
 -- so for each request
-abbrev pub AllCanAsk : List Ask → List AccountView → Type 0
+abbrev pub AllCanAsk : List Ask → List LedgerView → Type 0
 AllCanAsk [] at = Unit {0}
 AllCanAsk (k ∷ ks) at = CanAsk at k.manager × AllCanAsk ks at
 
@@ -83,11 +83,11 @@ pub record KeepsDesk (old new : DeskView) : Type 0 where
   pub kept : new.kept ≡ old.kept
 
 -- every operation that was outstanding still is
-abbrev pub LeavesOutstanding : List AccountView → List AccountView → Type 0
+abbrev pub LeavesOutstanding : List LedgerView → List LedgerView → Type 0
 LeavesOutstanding at at' = (o : Operation) → IsOut at o → IsOut at' o
 
 -- nothing is asked, or the manager is learnt to be shut
-abbrev pub IsUnsent : AccountView → Option Op → Type 0
+abbrev pub IsUnsent : LedgerView → Option Op → Type 0
 IsUnsent a None = Unit {0}
 IsUnsent a (Some op) = learnt_shut a ≡ true
 
@@ -100,15 +100,15 @@ unsent_code (Some op) = Some RmFail
 pub record IsSending (k : Ask) (old new : DeskView) (t : TicketView) : Type 0 where
   pub op : Op
   pub wanted : k.op ≡ Some op
-  pub open_ : learnt_shut (account old.accounts k.manager) ≡ false
-  pub ticket : t ≡ ticket_of old (next_operation old.accounts k.manager)
+  pub open_ : learnt_shut (ledger old.ledgers k.manager) ≡ false
+  pub ticket : t ≡ ticket_of old (next_operation old.ledgers k.manager)
   pub owned : Owns new t
-  pub sent : new.accounts ≡ after_sent old.accounts k.manager op
+  pub sent : new.ledgers ≡ after_sent old.ledgers k.manager op
   pub keeps : KeepsDesk old new
 
 -- what sending a request does: nothing, and no ticket, or it is sent
 abbrev pub Begins : Ask → DeskView → DeskView → Option TicketView → Type 0
-Begins k old new None = (new ≡ old) × IsUnsent (account old.accounts k.manager) k.op
+Begins k old new None = (new ≡ old) × IsUnsent (ledger old.ledgers k.manager) k.op
 Begins k old new (Some t) = IsSending k old new t
 
 -- what collecting it does: its code is the one collected, or the one that counts where nothing was sent
@@ -121,22 +121,22 @@ abbrev pub Owning : DeskView → Option TicketView → Type 0
 Owning d None = Unit {0}
 Owning d (Some t) = Owns d t
 
--- the request was sent since the accounts were `at`, and the desk owns its ticket
-pub record IsInFlight (k : Ask) (at : List AccountView) (d : DeskView) (t : TicketView) : Type 0 where
+-- the request was sent since the ledgers were `at`, and the desk owns its ticket
+pub record IsInFlight (k : Ask) (at : List LedgerView) (d : DeskView) (t : TicketView) : Type 0 where
   pub op : Op
   pub wanted : k.op ≡ Some op
-  pub open_ : learnt_shut (account at k.manager) ≡ false
+  pub open_ : learnt_shut (ledger at k.manager) ≡ false
   pub operation : t.operation ≡ next_operation at k.manager
   pub owned : Owns d t
-  pub sent : account d.accounts k.manager ≡ with_sent (account at k.manager) op
+  pub sent : ledger d.ledgers k.manager ≡ with_sent (ledger at k.manager) op
 
 -- the request is in flight, or nothing was sent
-abbrev pub HasBegun : Ask → Option TicketView → List AccountView → DeskView → Type 0
-HasBegun k None at d = IsUnsent (account at k.manager) k.op × (account d.accounts k.manager ≡ account at k.manager)
+abbrev pub HasBegun : Ask → Option TicketView → List LedgerView → DeskView → Type 0
+HasBegun k None at d = IsUnsent (ledger at k.manager) k.op × (ledger d.ledgers k.manager ≡ ledger at k.manager)
 HasBegun k (Some t) at d = IsInFlight k at d t
 
 -- so for each request and its ticket
-abbrev pub EachBegan : List Ask → List (Option TicketView) → List AccountView → DeskView → Type 0
+abbrev pub EachBegan : List Ask → List (Option TicketView) → List LedgerView → DeskView → Type 0
 EachBegan [] [] at d = Unit {0}
 EachBegan [] (r ∷ rs) at d = ⊥
 EachBegan (k ∷ ks) [] at d = ⊥
@@ -144,7 +144,7 @@ EachBegan (k ∷ ks) (r ∷ rs) at d = HasBegun k r at d × EachBegan ks rs at d
 
 -- the requests were sent, and nothing else was done
 pub record HaveBegun (ks : List Ask) (rs : List (Option TicketView)) (old new : DeskView) : Type 0 where
-  pub each : EachBegan ks rs old.accounts new
-  pub others : (m : ℕ) → 1 ≤ m → among_asks ks m ≡ false → account new.accounts m ≡ account old.accounts m
-  pub managers : length new.accounts ≡ length old.accounts
+  pub each : EachBegan ks rs old.ledgers new
+  pub others : (m : ℕ) → 1 ≤ m → among_asks ks m ≡ false → ledger new.ledgers m ≡ ledger old.ledgers m
+  pub managers : length new.ledgers ≡ length old.ledgers
   pub keeps : KeepsDesk old new

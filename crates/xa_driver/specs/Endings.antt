@@ -6,7 +6,7 @@ use Rattle.xa_words.specs.declared.code.Code.TheVariants.{Nota, RmFail}
 use Rattle.xa_words.specs.declared.request.Op.{Op}
 use Rattle.xa_words.specs.declared.request.Op.TheVariants.{Commit, Rollback}
 use Rattle.xa_tables.specs.History.{is_done, is_rolled_back}
-use Rattle.xa_desk.specs.AccountView.{is_rm_fail}
+use Rattle.xa_desk.specs.LedgerView.{is_rm_fail}
 use Rattle.xa_driver.specs.declared.done.Ending.{Ending}
 use Rattle.xa_driver.specs.declared.done.Ending.TheVariants.{Committed, ReadOnly, RolledBack, InDoubt, Left}
 use Rattle.xa_driver.specs.Decision.{is_yes, is_read}

@@ -8,8 +8,8 @@ use Rattle.xa_words.specs.declared.request.Request.{Request}
 use Rattle.xa_tables.specs.History as history
 use Rattle.xa_tables.specs.History.{History, Fate}
 use Rattle.xa_tables.specs.Prepared.{names, has_shut}
-use Rattle.xa_desk.specs.AccountView.{AccountView}
-use Rattle.xa_desk.specs.DeskView.{account}
+use Rattle.xa_desk.specs.LedgerView.{LedgerView}
+use Rattle.xa_desk.specs.DeskView.{ledger}
 use Rattle.xa_switch.specs.Settling.{Settling}
 use Rattle.xa_switch.specs.Fates.{history as history_of, settled_fate}
 use Rattle.xa_driver.specs.declared.branch.Branch.{Branch}
@@ -83,7 +83,7 @@ pub record IsCommittedTransaction (tran : TranName) (bs : List Branch) (later : 
   pub kept : has_rolled_back d ≡ false
 
 -- the transaction is aborted: no branch is committed, the log has nothing of it, and no Commit was sent to any manager
-pub record IsAbortedTransaction (tran : TranName) (old new : List AccountView) (later : LogState) (d : Done) : Type 0 where
+pub record IsAbortedTransaction (tran : TranName) (old new : List LedgerView) (later : LogState) (d : Done) : Type 0 where
   pub uncommitted : has_committed d ≡ false
   pub unrecorded : record_of later tran ≡ None
   pub unsent : NoCommitWasSent old new
@@ -103,8 +103,8 @@ OnlyTheseName x t first last h =
     (before behind : History) (r : Request) → h ≡ before ++ r ∷ behind → r.thread ≡ t → r.number ≡ first → All (λ q. names x q.op ≡ true → IsBetween t first last q) behind
 
 -- so for each branch and the requests that the call of thread t sent to its manager: nobody else names it
-pub record AreLeftAlone (s : Settling) (t : ℕ) (bs : List Branch) (old new : List AccountView) : Type 0 where
-  pub each : All (λ b. OnlyTheseName b.xid t (length (account old b.m).sent) (length (account new b.m).sent) (history_of s b.m)) bs
+pub record AreLeftAlone (s : Settling) (t : ℕ) (bs : List Branch) (old new : List LedgerView) : Type 0 where
+  pub each : All (λ b. OnlyTheseName b.xid t (length (ledger old b.m).sent) (length (ledger new b.m).sent) (history_of s b.m)) bs
 
 -- a Shut stands before thread t's request of this number
 pub record IsBehindShut (t n : ℕ) (h : History) : Type 0 where
@@ -126,7 +126,7 @@ told_fate (Left c) = None
 
 -- A branch that voted to commit isn't left, and it is in doubt only where its manager was shut before the place of its
 -- second request.
-pub record KeepsItsVote (s : Settling) (t : ℕ) (b : Branch) (old : AccountView) (vote : Code) (ending : Ending) : Type 0 where
+pub record KeepsItsVote (s : Settling) (t : ℕ) (b : Branch) (old : LedgerView) (vote : Code) (ending : Ending) : Type 0 where
   pub reached : is_yes vote ≡ true → is_left ending ≡ false
   pub shut : is_yes vote ≡ true → is_in_doubt ending ≡ true → IsBehindShut t (length old.sent + 1) (history_of s b.m)
 
@@ -141,8 +141,8 @@ EachOutcome P (b ∷ bs) (v ∷ vs) (e ∷ es) = P b v e × EachOutcome P bs vs 
 EachOutcome P bs vs es = ⊥
 
 -- so for each branch of a call
-pub record KeepsTheVotes (s : Settling) (t : ℕ) (bs : List Branch) (old : List AccountView) (d : Done) : Type 0 where
-  pub each : EachOutcome (λ b v e. KeepsItsVote s t b (account old b.m) v e) bs d.votes.items d.endings.items
+pub record KeepsTheVotes (s : Settling) (t : ℕ) (bs : List Branch) (old : List LedgerView) (d : Done) : Type 0 where
+  pub each : EachOutcome (λ b v e. KeepsItsVote s t b (ledger old b.m) v e) bs d.votes.items d.endings.items
 
 pub record TellsTheFates (s : Settling) (bs : List Branch) (d : Done) : Type 0 where
   pub each : EachOutcome (λ b v e. TellsTheFate s b e) bs d.votes.items d.endings.items

@@ -4,8 +4,8 @@ use Rattle.std.specs.List.{list_any}
 use Rattle.xa_words.specs.Tran.{TranName, tran_of}
 use Rattle.xa_words.specs.declared.code.Code.{Code}
 use Rattle.xa_words.specs.declared.request.Op.TheVariants.{Prepare}
-use Rattle.xa_desk.specs.AccountView.{AccountView}
-use Rattle.xa_desk.specs.DeskView.{DeskView, IsKnown, account, outstanding}
+use Rattle.xa_desk.specs.LedgerView.{LedgerView}
+use Rattle.xa_desk.specs.DeskView.{DeskView, IsKnown, ledger, outstanding}
 use Rattle.xa_driver.specs.declared.branch.Branch.{Branch}
 use Rattle.xa_driver.specs.declared.done.Done.{Done}
 use Rattle.xa_driver.specs.declared.done.Ending.{Ending}
@@ -14,13 +14,13 @@ use Rattle.xa_driver.specs.Endings.{second_op, ending_of}
 use Rattle.xa_driver.specs.Log.{LogState, record_of, with_record, with_failure}
 use Rattle.xa_driver.specs.Asks.{asked, IsAnswered}
 
--- the account after the Prepare
-abbrev pub voted : Branch → Code → AccountView → AccountView
+-- the ledger after the Prepare
+abbrev pub voted : Branch → Code → LedgerView → LedgerView
 voted b vote a = asked a (Some (Prepare b.xid)) (Some vote)
 
 -- a branch's manager got a Prepare and, where the decision wants one, a second request; each was collected;
 -- nothing else was sent to it or collected from it
-pub record BranchTrace (commit : Bool) (b : Branch) (vote : Code) (second : Option Code) (a a' : AccountView) : Type 0 where
+pub record BranchTrace (commit : Bool) (b : Branch) (vote : Code) (second : Option Code) (a a' : LedgerView) : Type 0 where
   pub prepared : IsAnswered a (Some (Prepare b.xid)) (Some vote)
   pub decided : IsAnswered (voted b vote a) (second_op commit b.xid vote) second
   pub trace : a' ≡ asked (voted b vote a) (second_op commit b.xid vote) second
@@ -46,12 +46,12 @@ AreBranchesRising lo [] = Unit {0}
 AreBranchesRising lo (b ∷ bs) = (lo < b.m) × AreBranchesRising b.m bs
 
 -- the manager is known, and the plan has room for two requests to it
-pub record HasRoom (at : List AccountView) (m : ℕ) : Type 0 where
+pub record HasRoom (at : List LedgerView) (m : ℕ) : Type 0 where
   pub known : IsKnown at m
-  pub room : length (account at m).sent + 2 ≤ (account at m).plan
+  pub room : length (ledger at m).sent + 2 ≤ (ledger at m).plan
 
 -- so for each branch
-abbrev pub HaveRoom : List AccountView → List Branch → Type 0
+abbrev pub HaveRoom : List LedgerView → List Branch → Type 0
 HaveRoom at [] = Unit {0}
 HaveRoom at (b ∷ bs) = HasRoom at b.m × HaveRoom at bs
 
@@ -60,8 +60,8 @@ pub record MayCommit (d : DeskView) (log : LogState) (bs : List Branch) : Type 0
   pub some : 1 ≤ length bs
   pub most : length bs ≤ 8
   pub rising : AreBranchesRising 0 bs
-  pub room : HaveRoom d.accounts bs
-  pub free : outstanding d.accounts + length bs ≤ d.handles
+  pub room : HaveRoom d.ledgers bs
+  pub free : outstanding d.ledgers + length bs ≤ d.handles
   pub tran : TranName
   pub one : IsTranOf bs tran
   pub absent : record_of log tran ≡ None
@@ -82,15 +82,15 @@ commits votes logged = decides_commit votes && (not (has_yes votes) || logged)
 
 -- what a commit_all of the branches left is its trace: each branch's requests, its vote and its ending; nothing for
 -- any other manager; the decision by the votes and the log; and the record, where there is one to make
-pub record IsTraceOfCommit (tran : TranName) (bs : List Branch) (old new : List AccountView) (log log' : LogState) (d : Done) : Type 0 where
+pub record IsTraceOfCommit (tran : TranName) (bs : List Branch) (old new : List LedgerView) (log log' : LogState) (d : Done) : Type 0 where
   pub seconds : List (Option Code)
-  pub each : EachBranch (λ b v s e. BranchTrace d.commit b v s (account old b.m) (account new b.m) × (e ≡ ending_of d.commit v s)) bs d.votes.items seconds d.endings.items
-  pub others : (m : ℕ) → 1 ≤ m → has_branch_at bs m ≡ false → account new m ≡ account old m
+  pub each : EachBranch (λ b v s e. BranchTrace d.commit b v s (ledger old b.m) (ledger new b.m) × (e ≡ ending_of d.commit v s)) bs d.votes.items seconds d.endings.items
+  pub others : (m : ℕ) → 1 ≤ m → has_branch_at bs m ≡ false → ledger new m ≡ ledger old m
   pub managers : length new ≡ length old
   pub decision : d.commit ≡ commits d.votes.items d.logged
   pub logs : Logs tran (yes_of bs d.votes.items) d.votes.items d.logged log log'
 
 -- A commit of the branches was made: it might be, and the desk's lists, the log and what it told grew by its trace.
-pub record IsCommit (bs : List Branch) (desk : DeskView) (new : List AccountView) (log later : LogState) (d : Done) : Type 0 where
+pub record IsCommit (bs : List Branch) (desk : DeskView) (new : List LedgerView) (log later : LogState) (d : Done) : Type 0 where
   pub may : MayCommit desk log bs
-  pub trace : IsTraceOfCommit may.tran bs desk.accounts new log later d
+  pub trace : IsTraceOfCommit may.tran bs desk.ledgers new log later d

@@ -1,7 +1,7 @@
 //! Requests to several managers at once.
 ghost use Rattle.std.specs.Prelude.{◌≡◌, ◌+◌, ◌<◌, ◌≤◌, [], length, true, false, IfSome, IfNone, OnSome, IsNone, IsSome, vec_capacity};
-ghost use Rattle.xa_desk.specs.AccountView.{learnt_shut};
-ghost use Rattle.xa_desk.specs.DeskView.{Owns, account, after_sent, next_operation, outstanding, ticket_of};
+ghost use Rattle.xa_desk.specs.LedgerView.{learnt_shut};
+ghost use Rattle.xa_desk.specs.DeskView.{Owns, ledger, after_sent, next_operation, outstanding, ticket_of};
 ghost use Rattle.xa_driver.specs.Asks.{CanAsk, AllCanAsk, AreRising, Asks, SameAsks, KeepsDesk, LeavesOutstanding, Begins, Ends, HaveBegun, Owning};
 
 use std::snapshot::Snapshot;
@@ -28,14 +28,14 @@ fn submit_waiting<R: Wait, I: Idle>(
     op: &Op,
     idle: &mut I,
 ) -> Option<Ticket>
-    requires can { CanAsk desk.old.accounts manager }
-    requires free { outstanding desk.old.accounts < desk.old.handles }
-    ensures shut { IsNone result → learnt_shut (account desk.old.accounts manager) ≡ true }
-    ensures open_ { IsSome result → learnt_shut (account desk.old.accounts manager) ≡ false }
+    requires can { CanAsk desk.old.ledgers manager }
+    requires free { outstanding desk.old.ledgers < desk.old.handles }
+    ensures shut { IsNone result → learnt_shut (ledger desk.old.ledgers manager) ≡ true }
+    ensures open_ { IsSome result → learnt_shut (ledger desk.old.ledgers manager) ≡ false }
     ensures unsent { IfNone result (desk.new ≡ desk.old) }
-    ensures ticket { IfSome result (λ t. t ≡ ticket_of desk.old (next_operation desk.old.accounts manager)) }
+    ensures ticket { IfSome result (λ t. t ≡ ticket_of desk.old (next_operation desk.old.ledgers manager)) }
     ensures owned { IfSome result (λ t. Owns desk.new t) }
-    ensures sent { OnSome result (desk.new.accounts ≡ after_sent desk.old.accounts manager op.now) }
+    ensures sent { OnSome result (desk.new.ledgers ≡ after_sent desk.old.ledgers manager op.now) }
     ensures keeps { OnSome result (KeepsDesk desk.old desk.new) }
     ensures idled { I.leads idle.old idle.new }
 {
@@ -54,8 +54,8 @@ fn submit_waiting<R: Wait, I: Idle>(
 
 // Sends what is asked. None where nothing is, or where the manager is learnt to be shut.
 fn begin<R: Wait, I: Idle>(rt: &R, desk: &mut Desk, ask: &Ask, idle: &mut I) -> Option<Ticket>
-    requires can { CanAsk desk.old.accounts ask.now.manager }
-    requires free { outstanding desk.old.accounts < desk.old.handles }
+    requires can { CanAsk desk.old.ledgers ask.now.manager }
+    requires free { outstanding desk.old.ledgers < desk.old.handles }
     ensures began { Begins ask.now desk.old desk.new result }
     ensures idled { I.leads idle.old idle.new }
 {
@@ -95,8 +95,8 @@ fn begin_all<R: Wait, I: Idle>(
     idle: &mut I,
 )
     requires rising { AreRising 0 asks.now }
-    requires can { AllCanAsk asks.now desk.old.accounts }
-    requires free { outstanding desk.old.accounts + length asks.now ≤ desk.old.handles }
+    requires can { AllCanAsk asks.now desk.old.ledgers }
+    requires free { outstanding desk.old.ledgers + length asks.now ≤ desk.old.handles }
     requires none { tickets.old.items ≡ [] }
     requires room { length asks.now ≤ vec_capacity tickets.old }
     ensures begun { HaveBegun asks.now tickets.new.items desk.old desk.new }
@@ -119,10 +119,10 @@ fn end_all<R: Wait, I: Idle>(
     idle: &mut I,
 )
     requires rising { AreRising 0 asks.old }
-    requires can { AllCanAsk asks.old before.now.value.accounts }
+    requires can { AllCanAsk asks.old before.now.value.ledgers }
     requires begun { HaveBegun asks.old tickets.old.items before.now.value desk.old }
     ensures same { SameAsks asks.old asks.new }
-    ensures asked { Asks asks.new before.now.value.accounts desk.new.accounts }
+    ensures asked { Asks asks.new before.now.value.ledgers desk.new.ledgers }
     ensures keeps { KeepsDesk before.now.value desk.new }
     ensures none { tickets.new.items ≡ [] }
     ensures room { vec_capacity tickets.new ≡ vec_capacity tickets.old }
@@ -157,15 +157,15 @@ pub(crate) fn ask_all<R: Wait, I: Idle>(
     idle: &mut I,
 )
     requires rising { AreRising 0 asks.old }
-    requires can { AllCanAsk asks.old desk.old.accounts }
-    requires free { outstanding desk.old.accounts + length asks.old ≤ desk.old.handles }
+    requires can { AllCanAsk asks.old desk.old.ledgers }
+    requires free { outstanding desk.old.ledgers + length asks.old ≤ desk.old.handles }
     requires none { tickets.old.items ≡ [] }
     requires room { length asks.old ≤ vec_capacity tickets.old }
     ensures same { SameAsks asks.old asks.new }
-    ensures asked { Asks asks.new desk.old.accounts desk.new.accounts }
+    ensures asked { Asks asks.new desk.old.ledgers desk.new.ledgers }
     ensures keeps { KeepsDesk desk.old desk.new }
-    ensures left { LeavesOutstanding desk.old.accounts desk.new.accounts }
-    ensures free { outstanding desk.new.accounts ≡ outstanding desk.old.accounts }
+    ensures left { LeavesOutstanding desk.old.ledgers desk.new.ledgers }
+    ensures free { outstanding desk.new.ledgers ≡ outstanding desk.old.ledgers }
     ensures none { tickets.new.items ≡ [] }
     ensures room { vec_capacity tickets.new ≡ vec_capacity tickets.old }
     ensures idled { I.leads idle.old idle.new }

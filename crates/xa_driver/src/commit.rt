@@ -55,14 +55,14 @@ pub fn commit_all<R: Wait, L: DecisionLog, I: Idle>(
     requires { MayCommit desk.old (L.state log.old) branches.now }
 
     // The lists of the desk grow by the call's trace, and the result is what it shows.
-    ensures call { IfOk result (λ d. (t : TranName) → IsTranOf branches.now t → IsTraceOfCommit t branches.now desk.old.accounts desk.new.accounts (L.state log.old) (L.state log.new) d) }
-    ensures made { IfOk result (IsCommit branches.now desk.old desk.new.accounts (L.state log.old) (L.state log.new)) }
+    ensures call { IfOk result (λ d. (t : TranName) → IsTranOf branches.now t → IsTraceOfCommit t branches.now desk.old.ledgers desk.new.ledgers (L.state log.old) (L.state log.new) d) }
+    ensures made { IfOk result (IsCommit branches.now desk.old desk.new.ledgers (L.state log.old) (L.state log.new)) }
 
     // What is kept under the handles stays, and so does all that was outstanding, with its tickets.
     ensures keeps { OnOk result (KeepsDesk desk.old desk.new) }
-    ensures left { OnOk result (LeavesOutstanding desk.old.accounts desk.new.accounts) }
+    ensures left { OnOk result (LeavesOutstanding desk.old.ledgers desk.new.ledgers) }
     ensures tickets { OnOk result (LeavesTickets desk.old desk.new) }
-    ensures free { OnOk result (outstanding desk.new.accounts ≡ outstanding desk.old.accounts) }
+    ensures free { OnOk result (outstanding desk.new.ledgers ≡ outstanding desk.old.ledgers) }
 
     // Want of memory comes before anything is sent.
     ensures unsent { OnErr result (desk.new ≡ desk.old) }

@@ -6,11 +6,11 @@
 //! which the desk ended. That nobody else names a branch after its Prepare is for the caller to know.
 ghost use Rattle.std.specs.Prelude.{◌≡◌, ℕ, true, false, List};
 ghost use Rattle.xa_words.specs.Tran.{TranName};
-ghost use Rattle.xa_desk.specs.AccountView.{AccountView};
+ghost use Rattle.xa_desk.specs.LedgerView.{LedgerView};
 ghost use Rattle.xa_desk.specs.DeskView.{DeskView};
 ghost use Rattle.xa_switch.specs.Settling.{Settling, IsSettled};
 ghost use Rattle.xa_desk.specs.Growth.{HaveGrown};
-ghost use Rattle.xa_switch.specs.Fates.{accounts_of};
+ghost use Rattle.xa_switch.specs.Fates.{ledgers_of};
 ghost use Rattle.xa_driver.specs.declared.branch.Branch.{Branch};
 ghost use Rattle.xa_driver.specs.declared.done.Done.{Done};
 ghost use Rattle.xa_driver.specs.Log.{LogState};
@@ -32,7 +32,7 @@ use xa_tables::laws::{
 
 /// Of one call alone: where the append failed, no Commit was sent to any manager.
 pub fn failed_append()
-    ensures { (tran : TranName) (bs : List Branch) (old new : List AccountView) (log later : LogState) (done : Done) → IsTraceOfCommit tran bs old new log later done → wants_record done.votes.items ≡ true → done.logged ≡ false → NoCommitWasSent old new }
+    ensures { (tran : TranName) (bs : List Branch) (old new : List LedgerView) (log later : LogState) (done : Done) → IsTraceOfCommit tran bs old new log later done → wants_record done.votes.items ≡ true → done.logged ≡ false → NoCommitWasSent old new }
 {}
 
 /// Of one call alone: all its branches have one outcome. Where a branch was committed, every vote was to
@@ -41,16 +41,16 @@ pub fn failed_append()
 /// failed, no branch was committed, the log has nothing of the transaction, and no Commit was sent to any
 /// manager.
 pub fn one_outcome()
-    ensures committed { (tran : TranName) (bs : List Branch) (desk : DeskView) (new : List AccountView) (log later : LogState) (done : Done) → IsCommit bs desk new log later done → IsTranOf bs tran → has_committed done ≡ true → IsCommittedTransaction tran bs later done }
-    ensures aborted { (tran : TranName) (bs : List Branch) (desk : DeskView) (new : List AccountView) (log later : LogState) (done : Done) → IsCommit bs desk new log later done → IsTranOf bs tran → was_refused done ≡ true → IsAbortedTransaction tran desk.accounts new later done }
+    ensures committed { (tran : TranName) (bs : List Branch) (desk : DeskView) (new : List LedgerView) (log later : LogState) (done : Done) → IsCommit bs desk new log later done → IsTranOf bs tran → has_committed done ≡ true → IsCommittedTransaction tran bs later done }
+    ensures aborted { (tran : TranName) (bs : List Branch) (desk : DeskView) (new : List LedgerView) (log later : LogState) (done : Done) → IsCommit bs desk new log later done → IsTranOf bs tran → was_refused done ≡ true → IsAbortedTransaction tran desk.ledgers new later done }
 {}
 
 /// In a settled opening, where nobody but the call named a branch after its Prepare: a branch that voted
 /// to commit isn't left, and is in doubt only where its manager was shut before the place of its second
 /// request; and what the call tells of each branch is what became of it by its manager's journal.
 pub fn endings_are_fates()
-    ensures votes { (s : Settling) (t : ℕ) (bs : List Branch) (desk : DeskView) (new : List AccountView) (log later : LogState) (done : Done) → IsSettled s → IsCommit bs desk new log later done → HaveGrown new (accounts_of s t) → AreLeftAlone s t bs desk.accounts new → KeepsTheVotes s t bs desk.accounts done }
-    ensures fates { (s : Settling) (t : ℕ) (bs : List Branch) (desk : DeskView) (new : List AccountView) (log later : LogState) (done : Done) → IsSettled s → IsCommit bs desk new log later done → HaveGrown new (accounts_of s t) → AreLeftAlone s t bs desk.accounts new → TellsTheFates s bs done }
+    ensures votes { (s : Settling) (t : ℕ) (bs : List Branch) (desk : DeskView) (new : List LedgerView) (log later : LogState) (done : Done) → IsSettled s → IsCommit bs desk new log later done → HaveGrown new (ledgers_of s t) → AreLeftAlone s t bs desk.ledgers new → KeepsTheVotes s t bs desk.ledgers done }
+    ensures fates { (s : Settling) (t : ℕ) (bs : List Branch) (desk : DeskView) (new : List LedgerView) (log later : LogState) (done : Done) → IsSettled s → IsCommit bs desk new log later done → HaveGrown new (ledgers_of s t) → AreLeftAlone s t bs desk.ledgers new → TellsTheFates s bs done }
 {
     prepared_branches_await_the_outcome();
     only_a_shut_shuts();
@@ -61,7 +61,7 @@ pub fn endings_are_fates()
 
 /// A commit of several branches only makes its desk's lists grow.
 pub fn commits_grow_the_lists()
-    ensures { (tran : TranName) (bs : List Branch) (old new : List AccountView) (log later : LogState) (done : Done) → IsTraceOfCommit tran bs old new log later done → HaveGrown old new }
+    ensures { (tran : TranName) (bs : List Branch) (old new : List LedgerView) (log later : LogState) (done : Done) → IsTraceOfCommit tran bs old new log later done → HaveGrown old new }
 {}
 
 /// The laws for a caller that kept its desk and its log as they were before and after a commit: all its
@@ -76,12 +76,12 @@ pub fn commit_in_a_settled_opening<L: DecisionLog>(
     log_after: &Snapshot<L>,
     done: &Done,
 )
-    requires made { IsCommit branches.now before.now.value after.now.value.accounts (L.state log_before.now.value) (L.state log_after.now.value) done.now }
-    requires grown { HaveGrown after.now.value.accounts (accounts_of settled.now thread) }
+    requires made { IsCommit branches.now before.now.value after.now.value.ledgers (L.state log_before.now.value) (L.state log_after.now.value) done.now }
+    requires grown { HaveGrown after.now.value.ledgers (ledgers_of settled.now thread) }
     ensures committed { has_committed done.now ≡ true → (tran : TranName) → IsTranOf branches.now tran → IsCommittedTransaction tran branches.now (L.state log_after.now.value) done.now }
-    ensures aborted { was_refused done.now ≡ true → (tran : TranName) → IsTranOf branches.now tran → IsAbortedTransaction tran before.now.value.accounts after.now.value.accounts (L.state log_after.now.value) done.now }
-    ensures votes { AreLeftAlone settled.now thread branches.now before.now.value.accounts after.now.value.accounts → KeepsTheVotes settled.now thread branches.now before.now.value.accounts done.now }
-    ensures fates { AreLeftAlone settled.now thread branches.now before.now.value.accounts after.now.value.accounts → TellsTheFates settled.now branches.now done.now }
+    ensures aborted { was_refused done.now ≡ true → (tran : TranName) → IsTranOf branches.now tran → IsAbortedTransaction tran before.now.value.ledgers after.now.value.ledgers (L.state log_after.now.value) done.now }
+    ensures votes { AreLeftAlone settled.now thread branches.now before.now.value.ledgers after.now.value.ledgers → KeepsTheVotes settled.now thread branches.now before.now.value.ledgers done.now }
+    ensures fates { AreLeftAlone settled.now thread branches.now before.now.value.ledgers after.now.value.ledgers → TellsTheFates settled.now branches.now done.now }
 {
     one_outcome();
     endings_are_fates();

@@ -22,7 +22,7 @@ fn are_rising(branches: &[Branch]) -> bool
 }
 
 fn have_room(desk: &Desk, branches: &[Branch]) -> bool
-    ensures { IsTrue result ↔ HaveRoom desk.now.accounts branches.now }
+    ensures { IsTrue result ↔ HaveRoom desk.now.ledgers branches.now }
 {
     for branch in branches {
         if desk.room(branch.m) < 2 {

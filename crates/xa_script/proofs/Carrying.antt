@@ -7,7 +7,7 @@ use Rattle.std.proofs.lemmas.List.{map-append, length-append, take_all, get_or_a
 use Rattle.xa_words.specs.Tran.{TranName}
 use Rattle.xa_words.specs.declared.code.Code.{Code}
 use Rattle.xa_words.specs.declared.request.Op.{Op}
-use Rattle.xa_desk.specs.AccountView.{AccountView}
+use Rattle.xa_desk.specs.LedgerView.{LedgerView}
 use Rattle.xa_desk.specs.DeskView.{sent_to, collected_from}
 use Rattle.xa_worker.specs.Journal.{Entry}
 use Rattle.xa_switch.specs.Settling.{Settling, journal}
@@ -30,7 +30,7 @@ use Rattle.xa_script.specs.Journals.{Line, Adds, Part, Hands, HasCode, CallTakes
 use Rattle.xa_script.specs.Journals.Hands.{gives as hands_gives, takes as hands_takes, shows as hands_shows}
 use Rattle.xa_script.specs.Journals.Adds.{answered as adds_answered, kept as adds_kept}
 use Rattle.xa_script.specs.Journals.CommitTakes.{refused as takes_none, decided as takes_decided}
-use Rattle.xa_script.proofs.Accounts.{numbered_so, Begins, Grows, AllSent, begins_both, grows_same, grows_both}
+use Rattle.xa_script.proofs.Ledgers.{numbered_so, Begins, Grows, AllSent, begins_both, grows_same, grows_both}
 use Rattle.xa_script.proofs.Branches.{trace_grows, branches_at, none_elsewhere}
 use Rattle.xa_script.proofs.Entering.{Fits, many_entries, within, enters, enters_coded, pair_there}
 use Rattle.xa_script.proofs.Handing.{Holds, gives, takes, shows, answers_hold}
@@ -38,11 +38,11 @@ use Rattle.xa_script.proofs.Sending.{Sends, answered, kept, nothing, answers_do}
 
 -- ---- a thread's tasks only add to what it sent and collected
 
-commit_grows : (m : ℕ) (c : CommitAll) (old new : Control) (a : Answer) → Commits c old new a → Grows m old.desk.accounts new.desk.accounts
-commit_grows m c old new a (refused why told e) = grows_same m old.desk.accounts new.desk.accounts (ap (λ (x : Control). x.desk.accounts) e)
-commit_grows m c old new a (decided done may trace keeps as_many told) = trace_grows (named c) (branches_of c) old.desk.accounts new.desk.accounts old.log.state new.log.state done trace may.room m
+commit_grows : (m : ℕ) (c : CommitAll) (old new : Control) (a : Answer) → Commits c old new a → Grows m old.desk.ledgers new.desk.ledgers
+commit_grows m c old new a (refused why told e) = grows_same m old.desk.ledgers new.desk.ledgers (ap (λ (x : Control). x.desk.ledgers) e)
+commit_grows m c old new a (decided done may trace keeps as_many told) = trace_grows (named c) (branches_of c) old.desk.ledgers new.desk.ledgers old.log.state new.log.state done trace may.room m
 
-does_grow : (m : ℕ) (p : Task) (old new : Control) (a : Answer) → Does p old new a → Grows m old.desk.accounts new.desk.accounts
+does_grow : (m : ℕ) (p : Task) (old new : Control) (a : Answer) → Does p old new a → Grows m old.desk.ledgers new.desk.ledgers
 does_grow m (task.Call p) old new a is = (answers_do p.action p refl old.desk new.desk a is.0 m).1
 does_grow m (task.CommitAll c) old new a is = commit_grows m c old new a is
 
@@ -50,9 +50,9 @@ does_grow m (task.CommitAll c) old new a is = commit_grows m c old new a is
 abbrev State : Type 0
 State = Control × List Answer
 
-pub runs_grow : (m : ℕ) (first : State) (tasks : List Task) (last : State) → Chain Goes first tasks last → Grows m first.0.desk.accounts last.0.desk.accounts
-runs_grow m first tasks last (none xs l e f) = grows_same m first.0.desk.accounts l.0.desk.accounts (ap (λ (s : State). s.0.desk.accounts) f)
-runs_grow m first tasks last (more xs x now l before is) = grows_both m first.0.desk.accounts now.0.desk.accounts l.0.desk.accounts (runs_grow m first xs now before) (does_grow m x now.0 l.0 is.answer is.does)
+pub runs_grow : (m : ℕ) (first : State) (tasks : List Task) (last : State) → Chain Goes first tasks last → Grows m first.0.desk.ledgers last.0.desk.ledgers
+runs_grow m first tasks last (none xs l e f) = grows_same m first.0.desk.ledgers l.0.desk.ledgers (ap (λ (s : State). s.0.desk.ledgers) f)
+runs_grow m first tasks last (more xs x now l before is) = grows_both m first.0.desk.ledgers now.0.desk.ledgers l.0.desk.ledgers (runs_grow m first xs now before) (does_grow m x now.0 l.0 is.answer is.does)
 
 -- ---- the lines of a thread
 
@@ -91,21 +91,21 @@ module _ (settled : Settling) (t : ℕ) (ops : ℕ → List Op) (pairs : ℕ →
   abbrev own_entries : ℕ → List Entry
   own_entries m = entries_of t (journal settled m)
 
-  abbrev entries_so_far : List AccountView → ℕ → List Entry
+  abbrev entries_so_far : List LedgerView → ℕ → List Entry
   entries_so_far at m = take (length (sent_to at m)) (own_entries m)
 
   -- a thread's part in the journals, and its log
   abbrev part_of : Control → Part
-  part_of x = record { entries = entries_so_far x.desk.accounts; handles = x.desk.kept; log = x.log.state }
+  part_of x = record { entries = entries_so_far x.desk.ledgers; handles = x.desk.kept; log = x.log.state }
 
-  -- all that these accounts have is in the journals
-  abbrev AllThere : List AccountView → Type 0
+  -- all that these ledgers have is in the journals
+  abbrev AllThere : List LedgerView → Type 0
   AllThere at = (m : ℕ) → Begins (sent_to at m) (ops m) × Begins (collected_from at m) (pairs m)
 
-  there_before : (old new : List AccountView) → ((m : ℕ) → Grows m old new) → AllThere new → AllThere old
+  there_before : (old new : List LedgerView) → ((m : ℕ) → Grows m old new) → AllThere new → AllThere old
   there_before old new grows all m = (begins_both (sent_to old m) (sent_to new m) (ops m) (grows m).sent (all m).0, begins_both (collected_from old m) (collected_from new m) (pairs m) (grows m).collected (all m).1)
 
-  adds : (m : ℕ) (p : Called) (a : Answer) (old new : List AccountView) → p.thread ≡ t → AllThere new → Sends m p a old new → Adds m p a (entries_so_far old m) (entries_so_far new m)
+  adds : (m : ℕ) (p : Called) (a : Answer) (old new : List LedgerView) → p.thread ≡ t → AllThere new → Sends m p a old new → Adds m p a (entries_so_far old m) (entries_so_far new m)
   adds m p a old new own all (nothing adds_none same) = subst (λ (l : List Op). Adds m p a (entries_so_far old m) (take (length l) (own_entries m))) (sym same) (adds_none (entries_so_far old m))
   adds m p a old new own all (kept o k here asks low told sent) =
       let e = enters t (ops m) (pairs m) (own_entries m) (fits m) (sent_to old m) (sent_to new m) o sent (all m).0 in
@@ -115,32 +115,32 @@ module _ (settled : Settling) (t : ℕ) (ops : ℕ → List Op) (pairs : ℕ →
       let e = enters_coded t (ops m) (pairs m) (own_entries m) (fits m) (sent_to old m) (sent_to new m) o sent (all m).0 (length (collected_from old m)) c collected in
       adds_answered o c here asks told (subst (λ u. entries_so_far new m ≡ entries_so_far old m ++ next_entry u (entries_so_far old m) o c ∷ []) (sym own) e)
 
-  hands : (p : Called) (a : Answer) (old new : Control) → p.thread ≡ t → AllThere old.desk.accounts → AllThere new.desk.accounts → Holds p a old.desk new.desk → Hands settled p a (part_of old) new.desk.kept
+  hands : (p : Called) (a : Answer) (old new : Control) → p.thread ≡ t → AllThere old.desk.ledgers → AllThere new.desk.ledgers → Holds p a old.desk new.desk → Hands settled p a (part_of old) new.desk.kept
   hands p a old new own was all (gives o k asked told free now known) =
       let m = p.manager in
-      let size = within t (ops m) (pairs m) (own_entries m) (fits m) (sent_to old.desk.accounts m) (was m).0 in
-      let number = numbered_so old.desk.accounts m o known ∙ sym size in
+      let size = within t (ops m) (pairs m) (own_entries m) (fits m) (sent_to old.desk.ledgers m) (was m).0 in
+      let number = numbered_so old.desk.ledgers m o known ∙ sym size in
       hands_gives o k asked told free (now ∙ (λ i. finmap.insert old.desk.kept k (record { manager = m; number = number i })))
   hands p a old new own was all (takes o k c asked at told now got) =
       let m = o.manager in
-      let there = (fits m).coded (length (collected_from old.desk.accounts m)) (o.number, c) (pair_there (pairs m) (collected_from old.desk.accounts m) (collected_from new.desk.accounts m) o.number c got (all m).1) in
+      let there = (fits m).coded (length (collected_from old.desk.ledgers m)) (o.number, c) (pair_there (pairs m) (collected_from old.desk.ledgers m) (collected_from new.desk.ledgers m) o.number c got (all m).1) in
       hands_takes o k c asked at (subst (λ u. HasCode settled u o c) (sym own) there) told now
   hands p a old new own was all (shows c may told now) = hands_shows c may told now
 
   -- what a call does to its thread's part
-  call_takes : (p : Called) (old new : Control) (a : Answer) → p.thread ≡ t → AllThere old.desk.accounts → AllThere new.desk.accounts → Answers p.action p old.desk new.desk a → new.log ≡ old.log → CallTakes settled p a (part_of old) (part_of new)
+  call_takes : (p : Called) (old new : Control) (a : Answer) → p.thread ≡ t → AllThere old.desk.ledgers → AllThere new.desk.ledgers → Answers p.action p old.desk new.desk a → new.log ≡ old.log → CallTakes settled p a (part_of old) (part_of new)
   call_takes p old new a own was all is same = record {
-    adds = λ m. adds m p a old.desk.accounts new.desk.accounts own all (answers_do p.action p refl old.desk new.desk a is m).0;
+    adds = λ m. adds m p a old.desk.ledgers new.desk.ledgers own all (answers_do p.action p refl old.desk new.desk a is m).0;
     hands = hands p a old new own was all (answers_hold p.action p refl old.desk new.desk a is);
     log = ap (λ (l : LogView). l.state) same;
   }
 
   -- and what a commit does
-  commit_takes : (c : CommitAll) (old new : Control) (a : Answer) → c.thread ≡ t → ((m : ℕ) → AllSent m old.desk.accounts) → AllThere new.desk.accounts → Commits c old new a → CommitTakes c a (part_of old) (part_of new)
+  commit_takes : (c : CommitAll) (old new : Control) (a : Answer) → c.thread ≡ t → ((m : ℕ) → AllSent m old.desk.ledgers) → AllThere new.desk.ledgers → Commits c old new a → CommitTakes c a (part_of old) (part_of new)
   commit_takes c old new a own sound all (refused why told e) = takes_none told (ap part_of e)
   commit_takes c old new a own sound all (decided done may trace keeps as_many told) =
-      let at = old.desk.accounts in
-      let at' = new.desk.accounts in
+      let at = old.desk.ledgers in
+      let at' = new.desk.ledgers in
       takes_decided done told (record {
         seconds = trace.seconds;
         branches =
@@ -153,26 +153,26 @@ module _ (settled : Settling) (t : ℕ) (ops : ℕ → List Op) (pairs : ℕ →
         handles = keeps.kept;
       })
 
-  does_takes : (p : Task) (old new : Control) (a : Answer) → thread_of p ≡ t → ((m : ℕ) → AllSent m old.desk.accounts) → AllThere old.desk.accounts → AllThere new.desk.accounts → Does p old new a → Takes settled p a (part_of old) (part_of new)
+  does_takes : (p : Task) (old new : Control) (a : Answer) → thread_of p ≡ t → ((m : ℕ) → AllSent m old.desk.ledgers) → AllThere old.desk.ledgers → AllThere new.desk.ledgers → Does p old new a → Takes settled p a (part_of old) (part_of new)
   does_takes (task.Call p) old new a own sound was all is = call_takes p old new a own was all is.0 is.1
   does_takes (task.CommitAll c) old new a own sound was all is = commit_takes c old new a own sound all is
 
   -- line by line
-  carried_so_far : (first : State) → ((m : ℕ) → AllSent m first.0.desk.accounts) → (tasks : List Task) (last : State) (runs : Chain Goes first tasks last) → AreOf t tasks → AllThere last.0.desk.accounts → Chain (TakesPart settled) (part_of first.0) (lines_in first tasks last runs) (part_of last.0)
+  carried_so_far : (first : State) → ((m : ℕ) → AllSent m first.0.desk.ledgers) → (tasks : List Task) (last : State) (runs : Chain Goes first tasks last) → AreOf t tasks → AllThere last.0.desk.ledgers → Chain (TakesPart settled) (part_of first.0) (lines_in first tasks last runs) (part_of last.0)
   carried_so_far first sound tasks last (none xs l e f) own all = none [] (part_of l.0) refl (ap (λ (s : State). part_of s.0) f)
   carried_so_far first sound tasks last (more xs x now l before is) own all =
-      let was = there_before now.0.desk.accounts l.0.desk.accounts (λ m. does_grow m x now.0 l.0 is.answer is.does) all in
-      let sound_now : (m : ℕ) → AllSent m now.0.desk.accounts = λ m. (runs_grow m first xs now before).below (sound m) in
+      let was = there_before now.0.desk.ledgers l.0.desk.ledgers (λ m. does_grow m x now.0 l.0 is.answer is.does) all in
+      let sound_now : (m : ℕ) → AllSent m now.0.desk.ledgers = λ m. (runs_grow m first xs now before).below (sound m) in
       more (lines_in first xs now before) (line x is.answer) (part_of now.0) (part_of l.0) (carried_so_far first sound xs now before (front_of t xs x own) was)
       (does_takes x now.0 l.0 is.answer (last_of t xs x own) sound_now was all is.does)
 
   -- all lines, and all entries
-  pub carried_all : (first : State) → ((m : ℕ) → sent_to first.0.desk.accounts m ≡ []) → ((m : ℕ) → collected_from first.0.desk.accounts m ≡ []) → first.0.desk.kept ≡ finmap.empty → first.0.log.state ≡ no_records → (tasks : List Task) (last : State) (runs : Chain Goes first tasks last) → AreOf t tasks
-      → ((m : ℕ) → sent_to last.0.desk.accounts m ≡ ops m) → ((m : ℕ) → Begins (collected_from last.0.desk.accounts m) (pairs m))
+  pub carried_all : (first : State) → ((m : ℕ) → sent_to first.0.desk.ledgers m ≡ []) → ((m : ℕ) → collected_from first.0.desk.ledgers m ≡ []) → first.0.desk.kept ≡ finmap.empty → first.0.log.state ≡ no_records → (tasks : List Task) (last : State) (runs : Chain Goes first tasks last) → AreOf t tasks
+      → ((m : ℕ) → sent_to last.0.desk.ledgers m ≡ ops m) → ((m : ℕ) → Begins (collected_from last.0.desk.ledgers m) (pairs m))
       → Chain (TakesPart settled) no_part (lines_in first tasks last runs) (record { entries = own_entries; handles = last.0.desk.kept; log = last.0.log.state })
   carried_all first fresh uncollected unkept unlogged tasks last runs own sent collected =
-      let at = last.0.desk.accounts in
-      let sound : (m : ℕ) → AllSent m first.0.desk.accounts = λ m k p there. absurd (nothing_there k p (ap (λ l. slice_get l k) (sym (uncollected m)) ∙ there)) in
+      let at = last.0.desk.ledgers in
+      let sound : (m : ℕ) → AllSent m first.0.desk.ledgers = λ m k p there. absurd (nothing_there k p (ap (λ l. slice_get l k) (sym (uncollected m)) ∙ there)) in
       let all = carried_so_far first sound tasks last runs own (λ m. (([], sym (sent m) ∙ sym (append-nil (sent_to at m))), collected m)) in
       let start : part_of first.0 ≡ no_part = λ i. record { entries = λ m. take (length (fresh m i)) (own_entries m); handles = unkept i; log = unlogged i } in
       let whole : (m : ℕ) → entries_so_far at m ≡ own_entries m = λ m.

@@ -12,7 +12,7 @@ use Rattle.xa_tables.specs.History.{of_thread}
 use Rattle.xa_worker.specs.Journal.{Entry, entry, requests, codes_in}
 use Rattle.xa_switch.specs.Settling.{Agree, answers}
 use Rattle.xa_script.specs.Journals.{entries_of, next_entry}
-use Rattle.xa_script.proofs.Accounts.{Begins}
+use Rattle.xa_script.proofs.Ledgers.{Begins}
 
 -- ---- the entries of a thread
 

@@ -1,6 +1,7 @@
 -- How workers go on as they take turns.
-use Rattle.std.proofs.Common.{◌≡◌, ℕ, ◌-◌, ◌⊎◌, ⊎_elim, List, [], ◌∷◌, length, Some, sym, ap, ◌∙◌, subst}
+use Rattle.std.proofs.Common.{◌≡◌, ℕ, ◌+◌, ◌-◌, ◌<◌, ◌≤◌, ◌⊎◌, ⊎_elim, List, [], ◌∷◌, length, Some, sym, refl, ap, ◌∙◌, subst, arith}
 use Rattle.std.specs.Prelude.{slice_get, slice_set}
+use Rattle.std.proofs.lemmas.Bool.{cases_eq}
 use Rattle.std.proofs.lemmas.List.{length-set}
 use Rattle.std.proofs.lemmas.Option.{slice_get_within}
 use Rattle.xa_worker.specs.declared.step.Step.{Step as Did}
@@ -14,12 +15,12 @@ use Rattle.xa_grammar.specs.declared.script.Step.TheVariants as step
 use Rattle.xa_grammar.specs.Content.{thread_of}
 use Rattle.xa_script.specs.declared.control.Control.{Control}
 use Rattle.xa_script.specs.declared.transcript.Answer.{Answer}
-use Rattle.xa_script.specs.Chains.{Chain}
+use Rattle.xa_script.specs.Chains.{Chain, Pairwise}
 use Rattle.xa_script.specs.Chains.Chain.{none, more}
-use Rattle.xa_script.specs.Turns.{GoesOn, AllGoOn, TakesTurn}
+use Rattle.xa_script.specs.Turns.{GoesOn, AllGoOn, TakesTurn, HadTurn}
 use Rattle.xa_script.specs.Turning.{goes_nowhere, all_stay, all_go_on}
 use Rattle.xa_script.specs.Run.{Stage, Course, Steps, HasStepped, Closing, HasEndedDesk}
-use Rattle.xa_script.proofs.Side.{some_same, got_set}
+use Rattle.xa_script.proofs.Side.{some_same, got_set, set_there}
 
 -- ---- one step
 
@@ -88,3 +89,38 @@ steps_count (step.Turn line m) old new a is = ap (λ l. length l) is.rest
 pub run_count : (old : Course) (steps : List Step) (new : Course) → Chain HasStepped old steps new → length new.stage.controls ≡ length old.stage.controls
 run_count old steps new (none xs last e f) = ap (λ (c : Course). length c.stage.controls) f
 run_count old steps new (more xs x now last before is) = steps_count x now.stage last.stage is.answer is.steps ∙ run_count old xs now before
+
+-- ---- all of them, one after the other
+
+-- the first n workers had a turn, and the others are as they were
+pub record HaveTurned (n : ℕ) (old new : List Working) : Type 0 where
+  pub as_many : length new ≡ length old
+  pub turned : (k : ℕ) (w w' : Working) → k < n → slice_get old k ≡ Some w → slice_get new k ≡ Some w' → HadTurn w w'
+  pub left : (k : ℕ) (w : Working) → n ≤ k → slice_get new k ≡ Some w → slice_get old k ≡ Some w
+
+pub none_turned : (ws : List Working) → HaveTurned 0 ws ws
+none_turned ws = record { as_many = refl; turned = λ k w w' below at at'. absurd (omega (arith, below)); left = λ k w le at. at }
+
+pub one_more_turned : (n : ℕ) (old ws : List Working) (x y : Working) → HaveTurned n old ws → slice_get ws n ≡ Some x → HadTurn x y → HaveTurned (n + 1) old (slice_set ws n y)
+one_more_turned n old ws x y h at had = record {
+  as_many = length-set ws n y ∙ h.as_many;
+  turned = λ k w w' below at_w at_w'.
+      ⊎_elim
+      (λ (same : k ≡ n).
+      let was : w ≡ x = some_same w x (sym at_w ∙ h.left k x (omega (arith, same)) (ap (slice_get ws) same ∙ at)) in
+      let is : w' ≡ y = some_same w' y (sym at_w' ∙ ap (slice_get (slice_set ws n y)) same ∙ set_there ws n y (slice_get_within ws n x at)) in
+      subst (λ (p : Working × Working). HadTurn p.0 p.1) (λ j. (sym was j, sym is j)) had)
+      (λ (other : k ≡ n → ⊥). h.turned k w w' (omega (arith, below, other)) at_w (stays k w' other at_w'))
+      (cases_eq k n);
+  left = λ k w le at_w. h.left k w (omega (arith, le)) (stays k w (λ same. omega (arith, le, same)) at_w);
+}
+  where
+    stays : (k : ℕ) (w : Working) → (k ≡ n → ⊥) → slice_get (slice_set ws n y) k ≡ Some w → slice_get ws k ≡ Some w
+    stays k w other at_w =
+        ⊎_elim (λ (here : (k ≡ n) × (w ≡ y)). absurd (other here.0)) (λ (e : slice_get ws k ≡ Some w). e) (got_set ws n y k w (slice_get_within ws n x at) at_w)
+
+pub all_turned : (n : ℕ) (old new : List Working) → length old ≤ n → HaveTurned n old new → Pairwise HadTurn old new
+all_turned n old new many h = record {
+  as_many = h.as_many;
+  each = λ k w w' at at'. h.turned k w w' (let within = slice_get_within old k w at in omega (arith, within, many)) at at';
+}

@@ -12,7 +12,7 @@ use Rattle.xa_words.specs.declared.flags.Mode.{Mode}
 use Rattle.xa_words.specs.declared.request.Op.{Op}
 use Rattle.xa_words.specs.Flags.{has_only, bits_of, go_together, mode_of}
 use Rattle.xa_desk.specs.declared.operation.Operation.{Operation}
-use Rattle.xa_desk.specs.AccountView.{AccountView}
+use Rattle.xa_desk.specs.LedgerView.{LedgerView}
 use Rattle.xa_desk.specs.DeskView.{DeskView, IsKnown, next_operation, collected_from}
 use Rattle.xa_desk.specs.Looks.{TakesKept}
 use Rattle.xa_switch.specs.Putting.{Puts, Calls}
@@ -28,7 +28,7 @@ use Rattle.xa_script.specs.declared.transcript.Answer.TheVariants as answer
 use Rattle.xa_script.specs.Calling.{shown, completed, Answers}
 use Rattle.xa_script.specs.Journals.{Ask, ask, asked_by, asked_in, IsRefusal, MayShow}
 use Rattle.xa_script.specs.Journals.Ask.{code_of, handle_for, in_vain, completion}
-use Rattle.xa_script.proofs.Accounts.{collected_here}
+use Rattle.xa_script.proofs.Ledgers.{collected_here}
 use Rattle.xa_script.proofs.Sending.{asks, refusal_by, is_refusal, no_place}
 use Rattle.xa_script.proofs.Keeping.{quiet_same, known_here, fulls_kept}
 
@@ -40,8 +40,8 @@ kept_of d = d.kept
 
 -- what a call does with its desk's handles
 pub data Holds (p : Called) (a : Answer) (old new : DeskView) : Type 0 where
-  gives : (o : Op) (k : ℕ) → asked_in p ≡ handle_for o → a ≡ shown p (pos k) → finmap.get old.kept k ≡ None → new.kept ≡ finmap.insert old.kept k (next_operation old.accounts p.manager) → IsKnown old.accounts p.manager → Holds p a old new
-  takes : (o : Operation) (k : ℕ) (c : Code) → asked_in p ≡ completion → finmap.get old.kept k ≡ Some o → a ≡ answer.Completed p.line p.thread (pos k) (number_of c) → new.kept ≡ finmap.remove old.kept k → collected_from new.accounts o.manager ≡ collected_from old.accounts o.manager ++ (o.number, c) ∷ [] → Holds p a old new
+  gives : (o : Op) (k : ℕ) → asked_in p ≡ handle_for o → a ≡ shown p (pos k) → finmap.get old.kept k ≡ None → new.kept ≡ finmap.insert old.kept k (next_operation old.ledgers p.manager) → IsKnown old.ledgers p.manager → Holds p a old new
+  takes : (o : Operation) (k : ℕ) (c : Code) → asked_in p ≡ completion → finmap.get old.kept k ≡ Some o → a ≡ answer.Completed p.line p.thread (pos k) (number_of c) → new.kept ≡ finmap.remove old.kept k → collected_from new.ledgers o.manager ≡ collected_from old.ledgers o.manager ++ (o.number, c) ∷ [] → Holds p a old new
   shows : (c : Code) → MayShow (asked_in p) c → a ≡ shown p (number_of c) → new.kept ≡ old.kept → Holds p a old new
 
 -- ---- a call that puts something
@@ -68,7 +68,7 @@ calls_hold p old new a n (Err c) is e told = shows c (subst (λ r. MayShow r c) 
 
 -- what came of it
 data Comes (old new : DeskView) (collected : Result (ℕ × Code) Code) : Type 0 where
-  took : (o : Operation) (k : ℕ) (c : Code) → collected ≡ Ok (k, c) → finmap.get old.kept k ≡ Some o → new.kept ≡ finmap.remove old.kept k → collected_from new.accounts o.manager ≡ collected_from old.accounts o.manager ++ (o.number, c) ∷ [] → Comes old new collected
+  took : (o : Operation) (k : ℕ) (c : Code) → collected ≡ Ok (k, c) → finmap.get old.kept k ≡ Some o → new.kept ≡ finmap.remove old.kept k → collected_from new.ledgers o.manager ≡ collected_from old.ledgers o.manager ++ (o.number, c) ∷ [] → Comes old new collected
   left : (why : Code) → collected ≡ Err why → Contains (Inval ∷ Proto ∷ Retry ∷ []) why → new.kept ≡ old.kept → Comes old new collected
 
 inval : Contains (Inval ∷ Proto ∷ Retry ∷ []) Inval
@@ -81,22 +81,22 @@ again : Contains (Inval ∷ Proto ∷ Retry ∷ []) Retry
 again = (2, omega arith, refl)
 
 -- a number that was kept as the lane was looked at, and then freed
-taking : (old before new : DeskView) (k : ℕ) (c : Code) (r : Result (ℕ × Code) Code) → before.kept ≡ old.kept → before.accounts ≡ old.accounts → TakesKept before new k c → r ≡ Ok (k, c) → Comes old new r
-taking old before new k c r kept_same accounts_same is e =
+taking : (old before new : DeskView) (k : ℕ) (c : Code) (r : Result (ℕ × Code) Code) → before.kept ≡ old.kept → before.ledgers ≡ old.ledgers → TakesKept before new k c → r ≡ Ok (k, c) → Comes old new r
+taking old before new k c r kept_same ledgers_same is e =
     took is.operation k c e (ap (λ (m : Handles). finmap.get m k) (sym kept_same) ∙ is.kept) (ap kept_of is.taken ∙ ap (λ (m : Handles). finmap.remove m k) kept_same)
-    (ap (λ (d : DeskView). collected_from d.accounts is.operation.manager) is.taken ∙ collected_here before.accounts is.operation c is.out.known ∙ ap (λ (at : List AccountView). collected_from at is.operation.manager ++ (is.operation.number, c) ∷ []) accounts_same)
+    (ap (λ (d : DeskView). collected_from d.ledgers is.operation.manager) is.taken ∙ collected_here before.ledgers is.operation c is.out.known ∙ ap (λ (at : List LedgerView). collected_from at is.operation.manager ++ (is.operation.number, c) ∷ []) ledgers_same)
 
 redeeming : (old new : DeskView) (k : ℕ) (c : Code) (r : Result (ℕ × Code) Code) → CollectsRedeemed old new k c → r ≡ Ok (k, c) → Comes old new r
 redeeming old new k c r is e =
     took is.operation k c e is.kept (ap kept_of is.collects.collected ∙ ap kept_of is.collects.looks.rest)
-    (ap (λ (d : DeskView). collected_from d.accounts is.operation.manager) is.collects.collected
-    ∙ collected_here is.collects.before.accounts is.operation c is.collects.out.known
-    ∙ ap (λ (d : DeskView). collected_from d.accounts is.operation.manager ++ (is.operation.number, c) ∷ []) is.collects.looks.rest)
+    (ap (λ (d : DeskView). collected_from d.ledgers is.operation.manager) is.collects.collected
+    ∙ collected_here is.collects.before.ledgers is.operation c is.collects.out.known
+    ∙ ap (λ (d : DeskView). collected_from d.ledgers is.operation.manager ++ (is.operation.number, c) ∷ []) is.collects.looks.rest)
 
 one_comes : (old : DeskView) (k : Option ℕ) (m : ℕ) (nowait : Bool) (new : DeskView) (r : Result (ℕ × Code) Code) → CompletesOne old k m nowait new r → Comes old new r
 one_comes old k m nowait new r (unknown missing told e) = left Inval told inval (ap kept_of e)
 one_comes old k m nowait new r (retry_one j is there way told quiet unready) = left Retry told again (quiet_same old new quiet).1
-one_comes old k m nowait new r (ready j c is there way told takes_it) = taking old takes_it.before new j c r (ap kept_of takes_it.looks.rest) (ap (λ (d : DeskView). d.accounts) takes_it.looks.rest) takes_it.takes told
+one_comes old k m nowait new r (ready j c is there way told takes_it) = taking old takes_it.before new j c r (ap kept_of takes_it.looks.rest) (ap (λ (d : DeskView). d.ledgers) takes_it.looks.rest) takes_it.takes told
 one_comes old k m nowait new r (waited j c is there way told takes_it) = redeeming old new j c r takes_it told
 
 any_comes : (old : DeskView) (m : ℕ) (nowait : Bool) (new : DeskView) (r : Result (ℕ × Code) Code) → CompletesAny old m nowait new r → Comes old new r

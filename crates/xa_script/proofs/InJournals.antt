@@ -12,7 +12,7 @@ use Rattle.xa_words.specs.declared.code.Code.TheVariants.{Done, RdOnly, Retry, H
 use Rattle.xa_words.specs.declared.request.Op.{Op}
 use Rattle.xa_words.specs.declared.request.Op.TheVariants.{Prepare, Commit, Rollback}
 use Rattle.xa_tables.specs.History.{is_done, is_rolled_back}
-use Rattle.xa_desk.specs.AccountView.{is_rm_fail}
+use Rattle.xa_desk.specs.LedgerView.{is_rm_fail}
 use Rattle.xa_worker.specs.Journal.{Entry, entry}
 use Rattle.xa_switch.specs.Settling.{Settling, journal}
 use Rattle.xa_driver.specs.declared.branch.Branch.{Branch}

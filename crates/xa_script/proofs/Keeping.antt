@@ -12,7 +12,7 @@ use Rattle.xa_words.specs.declared.code.Code.TheVariants.{Inval}
 use Rattle.xa_words.specs.declared.flags.Mode.{Mode}
 use Rattle.xa_words.specs.declared.request.Op.{Op}
 use Rattle.xa_desk.specs.declared.operation.Operation.{Operation}
-use Rattle.xa_desk.specs.AccountView.{AccountView}
+use Rattle.xa_desk.specs.LedgerView.{LedgerView}
 use Rattle.xa_desk.specs.DeskView.{DeskView, IsKnown, IsOut, is_known, next_operation}
 use Rattle.xa_desk.specs.Lanes.{submitted, after_fulls}
 use Rattle.xa_desk.specs.Looks.{EndsQuiet, Collects, TakesKept}
@@ -77,24 +77,24 @@ other_operation o p q e f = cc
 
 -- ---- one desk
 
--- where the accounts and what is kept stay
-pub same_kept : (old new : DeskView) → new.accounts ≡ old.accounts → new.kept ≡ old.kept → AllKept old → AllKept new
-same_kept old new accounts handles all o out =
-    let k = all o (subst (λ (at : List AccountView). IsOut at o) accounts out) in
+-- where the ledgers and what is kept stay
+pub same_kept : (old new : DeskView) → new.ledgers ≡ old.ledgers → new.kept ≡ old.kept → AllKept old → AllKept new
+same_kept old new ledgers handles all o out =
+    let k = all o (subst (λ (at : List LedgerView). IsOut at o) ledgers out) in
     (k.0, ap (λ (m : Handles). finmap.get m k.0) handles ∙ k.1)
 
-pub quiet_same : (old new : DeskView) → EndsQuiet old new → (new.accounts ≡ old.accounts) × (new.kept ≡ old.kept)
+pub quiet_same : (old new : DeskView) → EndsQuiet old new → (new.ledgers ≡ old.ledgers) × (new.kept ≡ old.kept)
 quiet_same old new q = (
-  ap (λ (d : DeskView). d.accounts) q.quiet.1 ∙ ap (λ (d : DeskView). d.accounts) q.looks.rest,
+  ap (λ (d : DeskView). d.ledgers) q.quiet.1 ∙ ap (λ (d : DeskView). d.ledgers) q.looks.rest,
   ap (λ (d : DeskView). d.kept) q.quiet.1 ∙ ap (λ (d : DeskView). d.kept) q.looks.rest,
 )
 
 -- where an operation is collected, and each other one that was outstanding was kept
-collects_keep : (mid new : DeskView) (o : Operation) (c : Code) → Collects mid new o c → ((p : Operation) → IsOut mid.accounts p → p ≢ o → (k : ℕ) × (finmap.get mid.kept k ≡ Some p)) → AllKept new
+collects_keep : (mid new : DeskView) (o : Operation) (c : Code) → Collects mid new o c → ((p : Operation) → IsOut mid.ledgers p → p ≢ o → (k : ℕ) × (finmap.get mid.kept k ≡ Some p)) → AllKept new
 collects_keep mid new o c is rest p out =
-    let accounts = ap (λ (d : DeskView). d.accounts) is.collected in
-    let parts = out_collected is.before.accounts o c is.out.known p (subst (λ (at : List AccountView). IsOut at p) accounts out) in
-    let k = rest p (subst (λ (at : List AccountView). IsOut at p) (ap (λ (d : DeskView). d.accounts) is.looks.rest) parts.0) parts.1 in
+    let ledgers = ap (λ (d : DeskView). d.ledgers) is.collected in
+    let parts = out_collected is.before.ledgers o c is.out.known p (subst (λ (at : List LedgerView). IsOut at p) ledgers out) in
+    let k = rest p (subst (λ (at : List LedgerView). IsOut at p) (ap (λ (d : DeskView). d.ledgers) is.looks.rest) parts.0) parts.1 in
     (k.0, ap (λ (d : DeskView). finmap.get d.kept k.0) is.collected ∙ ap (λ (d : DeskView). finmap.get d.kept k.0) is.looks.rest ∙ k.1)
 
 -- an operation that is kept under the number is collected, and the number is free
@@ -109,62 +109,62 @@ redeemed_keep old new k c is all = collects_keep (record old { kept = finmap.rem
 
 takes_keep : (old new : DeskView) (k : ℕ) (c : Code) → TakesKept old new k c → AllKept old → AllKept new
 takes_keep old new k c is all p out =
-    let accounts = ap (λ (d : DeskView). d.accounts) is.taken in
-    let parts = out_collected old.accounts is.operation c is.out.known p (subst (λ (at : List AccountView). IsOut at p) accounts out) in
+    let ledgers = ap (λ (d : DeskView). d.ledgers) is.taken in
+    let parts = out_collected old.ledgers is.operation c is.out.known p (subst (λ (at : List LedgerView). IsOut at p) ledgers out) in
     let j = freed_kept old.kept k is.operation is.kept p parts.1 (all p parts.0) in
     (j.0, ap (λ (d : DeskView). finmap.get d.kept j.0) is.taken ∙ j.1)
 
 -- ---- putting
 
-is_known_of : (at : List AccountView) (m : ℕ) → is_known at m ≡ true → IsKnown at m
+is_known_of : (at : List LedgerView) (m : ℕ) → is_known at m ≡ true → IsKnown at m
 is_known_of at m e =
     let parts = and_parts (nat_le 1 m) (nat_le m (length at)) e in
     record { positive = leb-true 1 m parts.0; within = leb-true m (length at) parts.1 }
 
-some_refusal : (d : DeskView) (m : ℕ) (b : Bool) → is_known d.accounts m ≡ false → put_refusal d m b ≡ None → ⊥
+some_refusal : (d : DeskView) (m : ℕ) (b : Bool) → is_known d.ledgers m ≡ false → put_refusal d m b ≡ None → ⊥
 some_refusal d m false missing e = let f : put_refusal d m false ≡ Some Inval = rw missing refl in cc
 some_refusal d m true missing e = let f : put_refusal d m true ≡ Some Inval = rw missing refl in cc
 
-pub known_here : (d : DeskView) (m : ℕ) (b : Bool) → put_refusal d m b ≡ None → IsKnown d.accounts m
-known_here d m b e = elim (cases_Bool (is_known d.accounts m)) [
-  | inl there ↦ is_known_of d.accounts m there
+pub known_here : (d : DeskView) (m : ℕ) (b : Bool) → put_refusal d m b ≡ None → IsKnown d.ledgers m
+known_here d m b e = elim (cases_Bool (is_known d.ledgers m)) [
+  | inl there ↦ is_known_of d.ledgers m there
   | inr missing ↦ absurd (some_refusal d m b missing e)
 ]
 
-pub fulls_accounts : (n : ℕ) (d : DeskView) (m : ℕ) → (after_fulls n d m).accounts ≡ d.accounts
-fulls_accounts zero d m = refl
-fulls_accounts (suc n) d m = fulls_accounts n d m
+pub fulls_ledgers : (n : ℕ) (d : DeskView) (m : ℕ) → (after_fulls n d m).ledgers ≡ d.ledgers
+fulls_ledgers zero d m = refl
+fulls_ledgers (suc n) d m = fulls_ledgers n d m
 
 pub fulls_kept : (n : ℕ) (d : DeskView) (m : ℕ) → (after_fulls n d m).kept ≡ d.kept
 fulls_kept zero d m = refl
 fulls_kept (suc n) d m = fulls_kept n d m
 
 -- an operation that is sent and kept
-inserted_keep : (old : DeskView) (m : ℕ) (op : Op) (k : ℕ) → IsKnown old.accounts m → finmap.get old.kept k ≡ None → AllKept old → AllKept (record (submitted old m op) { kept = finmap.insert old.kept k (next_operation old.accounts m) })
+inserted_keep : (old : DeskView) (m : ℕ) (op : Op) (k : ℕ) → IsKnown old.ledgers m → finmap.get old.kept k ≡ None → AllKept old → AllKept (record (submitted old m op) { kept = finmap.insert old.kept k (next_operation old.ledgers m) })
 inserted_keep old m op k known unkept all p out =
-    let next = next_operation old.accounts m in
+    let next = next_operation old.ledgers m in
     ⊎_elim
     (λ (e : p ≡ next). (k, inserted_there old.kept k next ∙ ap (λ (o : Operation). Some o) (sym e)))
-    (λ (before : IsOut old.accounts p).
+    (λ (before : IsOut old.ledgers p).
     let j = all p before in
     let differs : j.0 ≢ k = λ same. not_none (finmap.get old.kept k) p unkept (subst (λ n. finmap.get old.kept n ≡ Some p) same j.1) in
     (j.0, inserted_other old.kept k next j.0 differs ∙ j.1))
-    (out_sent old.accounts m op known p out)
+    (out_sent old.ledgers m op known p out)
 
 -- an operation that is sent and collected
-answered_keep : (old mid new : DeskView) (m : ℕ) (op : Op) (c : Code) → mid.accounts ≡ old.accounts → mid.kept ≡ old.kept → IsKnown old.accounts m → Collects (submitted mid m op) new (next_operation old.accounts m) c → AllKept old → AllKept new
-answered_keep old mid new m op c accounts handles known is all =
-    collects_keep (submitted mid m op) new (next_operation old.accounts m) c is (λ p out differs.
+answered_keep : (old mid new : DeskView) (m : ℕ) (op : Op) (c : Code) → mid.ledgers ≡ old.ledgers → mid.kept ≡ old.kept → IsKnown old.ledgers m → Collects (submitted mid m op) new (next_operation old.ledgers m) c → AllKept old → AllKept new
+answered_keep old mid new m op c ledgers handles known is all =
+    collects_keep (submitted mid m op) new (next_operation old.ledgers m) c is (λ p out differs.
     ⊎_elim
-    (λ (e : p ≡ next_operation mid.accounts m). absurd (differs (e ∙ ap (λ (at : List AccountView). next_operation at m) accounts)))
-    (λ (before : IsOut mid.accounts p). same_kept old mid accounts handles all p before)
-    (out_sent mid.accounts m op (subst (λ (at : List AccountView). IsKnown at m) (sym accounts) known) p out))
+    (λ (e : p ≡ next_operation mid.ledgers m). absurd (differs (e ∙ ap (λ (at : List LedgerView). next_operation at m) ledgers)))
+    (λ (before : IsOut mid.ledgers p). same_kept old mid ledgers handles all p before)
+    (out_sent mid.ledgers m op (subst (λ (at : List LedgerView). IsKnown at m) (sym ledgers) known) p out))
 
 puts_keep : (old : DeskView) (m : ℕ) (asked : _) (new : DeskView) (n : ℤ) → Puts old m asked new n → AllKept old → AllKept new
 puts_keep old m asked new n (refused c why told e) all = subst AllKept (sym e) all
-puts_keep old m asked new n (full why async told e) all = same_kept old new (ap (λ (d : DeskView). d.accounts) e) (ap (λ (d : DeskView). d.kept) e) all
+puts_keep old m asked new n (full why async told e) all = same_kept old new (ap (λ (d : DeskView). d.ledgers) e) (ap (λ (d : DeskView). d.kept) e) all
 puts_keep old m asked new n (kept why async k told is e) all = subst AllKept (sym e) (inserted_keep old m asked.op k (known_here old m asked.asynchronous why) is.free all)
-puts_keep old m asked new n (answered why async times c told is) all = answered_keep old (after_fulls times old m) new m asked.op c (fulls_accounts times old m) (fulls_kept times old m) (known_here old m asked.asynchronous why) is all
+puts_keep old m asked new n (answered why async times c told is) all = answered_keep old (after_fulls times old m) new m asked.op c (fulls_ledgers times old m) (fulls_kept times old m) (known_here old m asked.asynchronous why) is all
 
 calls_keep : (asked : Result _ Code) (old : DeskView) (m : ℕ) (new : DeskView) (n : ℤ) → Calls asked old m new n → AllKept old → AllKept new
 calls_keep (Ok asked) old m new n is all = puts_keep old m asked new n is all
@@ -175,7 +175,7 @@ calls_keep (Err c) old m new n is all = subst AllKept (sym is.1) all
 one_keep : (old : DeskView) (k : Option ℕ) (m : ℕ) (nowait : Bool) (new : DeskView) (r : Result (ℕ × Code) Code) → CompletesOne old k m nowait new r → AllKept old → AllKept new
 one_keep old k m nowait new r (unknown missing told e) all = subst AllKept (sym e) all
 one_keep old k m nowait new r (retry_one j is there way told quiet unready) all = let same = quiet_same old new quiet in same_kept old new same.0 same.1 all
-one_keep old k m nowait new r (ready j c is there way told takes) all = takes_keep takes.before new j c takes.takes (same_kept old takes.before (ap (λ (d : DeskView). d.accounts) takes.looks.rest) (ap (λ (d : DeskView). d.kept) takes.looks.rest) all)
+one_keep old k m nowait new r (ready j c is there way told takes) all = takes_keep takes.before new j c takes.takes (same_kept old takes.before (ap (λ (d : DeskView). d.ledgers) takes.looks.rest) (ap (λ (d : DeskView). d.kept) takes.looks.rest) all)
 one_keep old k m nowait new r (waited j c is there way told takes) all = redeemed_keep old new j c takes all
 
 any_keep : (old : DeskView) (m : ℕ) (nowait : Bool) (new : DeskView) (r : Result (ℕ × Code) Code) → CompletesAny old m nowait new r → AllKept old → AllKept new
@@ -210,7 +210,7 @@ answers_keep (action.Complete h) p old new a is all = by_keep _ old _ p.manager 
 commits_keep : (c : CommitAll) (old new : Control) (a : Answer) → Commits c old new a → AllKept old.desk → AllKept new.desk
 commits_keep c old new a (not_committed may told e) all = subst (λ (x : Control). AllKept x.desk) (sym e) all
 commits_keep c old new a (decided done may is keeps as_many told) all = λ o out.
-    let k = all o (out_committed (named c) (branches_of c) old.desk.accounts new.desk.accounts old.log.state new.log.state done is o out) in
+    let k = all o (out_committed (named c) (branches_of c) old.desk.ledgers new.desk.ledgers old.log.state new.log.state done is o out) in
     (k.0, ap (λ (m : Handles). finmap.get m k.0) keeps.kept ∙ k.1)
 
 pub does_keep : (p : Task) (old new : Control) (a : Answer) → Does p old new a → AllKept old.desk → AllKept new.desk
@@ -264,5 +264,5 @@ run_keeps old steps new (more xs x now last before is) all = steps_keep x now.st
 -- ---- a desk that keeps nothing
 
 -- where nothing is kept, nothing is outstanding
-pub nothing_out : (d : DeskView) → AllKept d → HoldsNone d → (o : Operation) → IsOut d.accounts o → ⊥
+pub nothing_out : (d : DeskView) → AllKept d → HoldsNone d → (o : Operation) → IsOut d.ledgers o → ⊥
 nothing_out d all empty o out = let k = all o out in not_none (finmap.get d.kept k.0) o (empty k.0) k.1

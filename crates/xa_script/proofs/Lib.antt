@@ -8,7 +8,7 @@ pub mod Opened
 pub mod Threading
 pub mod Faults
 pub mod ValueLemmas
-pub mod Accounts
+pub mod Ledgers
 pub mod Sending
 pub mod Carrying
 pub mod Projecting

@@ -5,9 +5,9 @@ use Rattle.std.specs.List.{range_with_len, slice_index_or}
 use Rattle.std.proofs.lemmas.List.{length-map}
 use Rattle.std.proofs.lemmas.List.FromFn.{length-map-range_with_len, get_or-map-range_with_len}
 use Rattle.std.proofs.lemmas.Option.{slice_get_within, slice_get-get_or, slice_get-map}
-use Rattle.xa_desk.specs.AccountView.{AccountView}
-use Rattle.xa_desk.specs.DeskView.{DeskView, no_account, account, is_known, sent_to, collected_from}
-use Rattle.xa_desk.specs.Lanes.{new_accounts}
+use Rattle.xa_desk.specs.LedgerView.{LedgerView}
+use Rattle.xa_desk.specs.DeskView.{DeskView, no_ledger, ledger, is_known, sent_to, collected_from}
+use Rattle.xa_desk.specs.Lanes.{new_ledgers}
 use Rattle.xa_worker.specs.Workers.{Working}
 use Rattle.xa_tables.specs.Managers.{opening}
 use Rattle.xa_switch.specs.declared.plan.Plan.{Plan}
@@ -22,7 +22,7 @@ use Rattle.xa_script.proofs.Side.{some_same}
 
 -- ---- the desks
 
-fresh_sent : (plan : ℕ) (flags : List Bool) (i : ℕ) → (slice_index_or (new_accounts plan flags) i no_account).sent ≡ []
+fresh_sent : (plan : ℕ) (flags : List Bool) (i : ℕ) → (slice_index_or (new_ledgers plan flags) i no_ledger).sent ≡ []
 fresh_sent plan [] i = refl
 fresh_sent plan (b ∷ flags) zero = refl
 fresh_sent plan (b ∷ flags) (suc i) = fresh_sent plan flags i
@@ -32,28 +32,28 @@ none_either true l e = e
 none_either false l e = refl
 
 -- nothing was sent to any manager
-pub new_sent : (plan : ℕ) (flags : List Bool) (m : ℕ) → sent_to (new_accounts plan flags) m ≡ []
-new_sent plan flags m = none_either (is_known (new_accounts plan flags) m) (account (new_accounts plan flags) m).sent (fresh_sent plan flags (m - 1))
+pub new_sent : (plan : ℕ) (flags : List Bool) (m : ℕ) → sent_to (new_ledgers plan flags) m ≡ []
+new_sent plan flags m = none_either (is_known (new_ledgers plan flags) m) (ledger (new_ledgers plan flags) m).sent (fresh_sent plan flags (m - 1))
 
-fresh_collected : (plan : ℕ) (flags : List Bool) (i : ℕ) → (slice_index_or (new_accounts plan flags) i no_account).collected ≡ []
+fresh_collected : (plan : ℕ) (flags : List Bool) (i : ℕ) → (slice_index_or (new_ledgers plan flags) i no_ledger).collected ≡ []
 fresh_collected plan [] i = refl
 fresh_collected plan (b ∷ flags) zero = refl
 fresh_collected plan (b ∷ flags) (suc i) = fresh_collected plan flags i
 
 -- nor collected from it
-pub new_collected : (plan : ℕ) (flags : List Bool) (m : ℕ) → collected_from (new_accounts plan flags) m ≡ []
-new_collected plan flags m = none_either (is_known (new_accounts plan flags) m) (account (new_accounts plan flags) m).collected (fresh_collected plan flags (m - 1))
+pub new_collected : (plan : ℕ) (flags : List Bool) (m : ℕ) → collected_from (new_ledgers plan flags) m ≡ []
+new_collected plan flags m = none_either (is_known (new_ledgers plan flags) m) (ledger (new_ledgers plan flags) m).collected (fresh_collected plan flags (m - 1))
 
 pub nobody_sent : (m : ℕ) → sent_to [] m ≡ []
-nobody_sent m = none_either (is_known [] m) (account [] m).sent refl
+nobody_sent m = none_either (is_known [] m) (ledger [] m).sent refl
 
 -- with a new desk nothing is outstanding
 new_kept : (p : Plan) (t : ℕ) (d : DeskView) → IsNewDesk p t d → AllKept d
 new_kept p t d is o out =
-    let accounts : d.accounts ≡ new_accounts p.requests (use_async p.managers.items) = ap (λ (x : DeskView). x.accounts) is.made in
-    let none : (account d.accounts o.manager).sent ≡ [] = ap (λ (at : List AccountView). (account at o.manager).sent) accounts ∙ fresh_sent p.requests (use_async p.managers.items) (o.manager - 1) in
+    let ledgers : d.ledgers ≡ new_ledgers p.requests (use_async p.managers.items) = ap (λ (x : DeskView). x.ledgers) is.made in
+    let none : (ledger d.ledgers o.manager).sent ≡ [] = ap (λ (at : List LedgerView). (ledger at o.manager).sent) ledgers ∙ fresh_sent p.requests (use_async p.managers.items) (o.manager - 1) in
     let sent = out.sent in
-    let size : length (account d.accounts o.manager).sent ≡ 0 = ap (λ l. length l) none in
+    let size : length (ledger d.ledgers o.manager).sent ≡ 0 = ap (λ l. length l) none in
     absurd (omega (arith, sent, size))
 
 pub opened_kept : (s : Content) (desks : List DeskView) (workers : List Working) → AreOpened s desks workers → All AllKept desks

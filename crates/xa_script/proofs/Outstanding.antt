@@ -11,8 +11,8 @@ use Rattle.xa_words.specs.declared.request.Op.{Op}
 use Rattle.xa_words.specs.declared.request.Op.TheVariants.{Prepare}
 use Rattle.xa_words.specs.declared.code.Code.{Code}
 use Rattle.xa_desk.specs.declared.operation.Operation.{Operation}
-use Rattle.xa_desk.specs.AccountView.{AccountView, numbers, is_collected, learnt_shut, with_sent, with_collected}
-use Rattle.xa_desk.specs.DeskView.{IsKnown, IsOut, account, no_account, put_account, after_sent, after_collected, next_operation, outstanding}
+use Rattle.xa_desk.specs.LedgerView.{LedgerView, numbers, is_collected, learnt_shut, with_sent, with_collected}
+use Rattle.xa_desk.specs.DeskView.{IsKnown, IsOut, ledger, no_ledger, put_ledger, after_sent, after_collected, next_operation, outstanding}
 use Rattle.xa_driver.specs.declared.branch.Branch.{Branch}
 use Rattle.xa_driver.specs.declared.done.Done.{Done}
 use Rattle.xa_driver.specs.declared.done.Ending.{Ending}
@@ -24,63 +24,63 @@ use Rattle.xa_driver.specs.Trace.{BranchTrace, EachBranch, IsTraceOfCommit, has_
 same_operation : (a b : Operation) → a.manager ≡ b.manager → a.number ≡ b.number → a ≡ b
 same_operation a b e f = λ i. record { manager = e i; number = f i }
 
--- ---- the accounts
+-- ---- the ledgers
 
-module _ (at : List AccountView) (m : ℕ) (a : AccountView) (known : IsKnown at m) where
-  put_same : (n : ℕ) → n ≡ m → account (put_account at m a) n ≡ a
-  put_same n e = rw e (get_or-set_same at (m - 1) a no_account (omega (arith, known.positive, known.within)))
+module _ (at : List LedgerView) (m : ℕ) (a : LedgerView) (known : IsKnown at m) where
+  put_same : (n : ℕ) → n ≡ m → ledger (put_ledger at m a) n ≡ a
+  put_same n e = rw e (get_or-set_same at (m - 1) a no_ledger (omega (arith, known.positive, known.within)))
 
-  put_other : (n : ℕ) → 1 ≤ n → n ≢ m → account (put_account at m a) n ≡ account at n
-  put_other n low differs = get_or-set_other at (m - 1) (n - 1) a no_account (λ e. differs (omega (arith, low, known.positive)))
+  put_other : (n : ℕ) → 1 ≤ n → n ≢ m → ledger (put_ledger at m a) n ≡ ledger at n
+  put_other n low differs = get_or-set_other at (m - 1) (n - 1) a no_ledger (λ e. differs (omega (arith, low, known.positive)))
 
-  known_before : (n : ℕ) → IsKnown (put_account at m a) n → IsKnown at n
+  known_before : (n : ℕ) → IsKnown (put_ledger at m a) n → IsKnown at n
   known_before n k = record { positive = k.positive; within = subst (λ l. n ≤ l) (length-set at (m - 1) a) k.within }
 
 -- what is outstanding after a sending is what was sent, or was outstanding before
-pub out_sent : (at : List AccountView) (m : ℕ) (op : Op) → IsKnown at m → (o : Operation) → IsOut (after_sent at m op) o → (o ≡ next_operation at m) ⊎ IsOut at o
+pub out_sent : (at : List LedgerView) (m : ℕ) (op : Op) → IsKnown at m → (o : Operation) → IsOut (after_sent at m op) o → (o ≡ next_operation at m) ⊎ IsOut at o
 out_sent at m op known o is =
-    let a = with_sent (account at m) op in
+    let a = with_sent (ledger at m) op in
     let k = known_before at m a known o.manager is.known in
     elim (cases_eq o.manager m) [
       | inl same ↦
           let e = put_same at m a known o.manager same in
-          let within : o.number < length a.sent = subst (λ (x : AccountView). o.number < length x.sent) e is.sent in
-          let fresh : is_collected (account at m) o.number ≡ false = subst (λ (x : AccountView). is_collected x o.number ≡ false) e is.open_ in
-          elim (cases_eq o.number (length (account at m).sent)) [
+          let within : o.number < length a.sent = subst (λ (x : LedgerView). o.number < length x.sent) e is.sent in
+          let fresh : is_collected (ledger at m) o.number ≡ false = subst (λ (x : LedgerView). is_collected x o.number ≡ false) e is.open_ in
+          elim (cases_eq o.number (length (ledger at m).sent)) [
             | inl last ↦ inl (same_operation o (next_operation at m) same last)
             | inr before ↦ inr (record {
               known = k;
-              sent = subst (λ n. o.number < length (account at n).sent) (sym same) (omega (arith, within, before, length-append (account at m).sent (op ∷ [])));
-              open_ = subst (λ n. is_collected (account at n) o.number ≡ false) (sym same) fresh;
+              sent = subst (λ n. o.number < length (ledger at n).sent) (sym same) (omega (arith, within, before, length-append (ledger at m).sent (op ∷ [])));
+              open_ = subst (λ n. is_collected (ledger at n) o.number ≡ false) (sym same) fresh;
             })
           ]
       | inr differs ↦
           let e = put_other at m a known o.manager k.positive differs in
           inr (record {
             known = k;
-            sent = subst (λ (x : AccountView). o.number < length x.sent) e is.sent;
-            open_ = subst (λ (x : AccountView). is_collected x o.number ≡ false) e is.open_;
+            sent = subst (λ (x : LedgerView). o.number < length x.sent) e is.sent;
+            open_ = subst (λ (x : LedgerView). is_collected x o.number ≡ false) e is.open_;
           })
     ]
 
-collected_push : (a : AccountView) (n : ℕ) (code : Code) (q : ℕ) → is_collected (with_collected a n code) q ≡ (is_collected a q || (nat_eq q n || false))
+collected_push : (a : LedgerView) (n : ℕ) (code : Code) (q : ℕ) → is_collected (with_collected a n code) q ≡ (is_collected a q || (nat_eq q n || false))
 collected_push a n code q = rw (map-append (λ (p : ℕ × Code). p.0) a.collected ((n, code) ∷ [])) (list_any-append (nat_eq q) (numbers a) (n ∷ []))
 
 -- what is outstanding after a collection was outstanding, and wasn't collected
-pub out_collected : (at : List AccountView) (o : Operation) (code : Code) → IsKnown at o.manager → (p : Operation) → IsOut (after_collected at o code) p → IsOut at p × (p ≢ o)
+pub out_collected : (at : List LedgerView) (o : Operation) (code : Code) → IsKnown at o.manager → (p : Operation) → IsOut (after_collected at o code) p → IsOut at p × (p ≢ o)
 out_collected at o code known p is =
-    let a = with_collected (account at o.manager) o.number code in
+    let a = with_collected (ledger at o.manager) o.number code in
     let k = known_before at o.manager a known p.manager is.known in
     elim (cases_eq p.manager o.manager) [
       | inl same ↦
           let e = put_same at o.manager a known p.manager same in
-          let within : p.number < length (account at o.manager).sent = subst (λ (x : AccountView). p.number < length x.sent) e is.sent in
-          let open_now : is_collected a p.number ≡ false = subst (λ (x : AccountView). is_collected x p.number ≡ false) e is.open_ in
-          let parts = or_parts (is_collected (account at o.manager) p.number) (nat_eq p.number o.number || false) (sym (collected_push (account at o.manager) o.number code p.number) ∙ open_now) in (
+          let within : p.number < length (ledger at o.manager).sent = subst (λ (x : LedgerView). p.number < length x.sent) e is.sent in
+          let open_now : is_collected a p.number ≡ false = subst (λ (x : LedgerView). is_collected x p.number ≡ false) e is.open_ in
+          let parts = or_parts (is_collected (ledger at o.manager) p.number) (nat_eq p.number o.number || false) (sym (collected_push (ledger at o.manager) o.number code p.number) ∙ open_now) in (
             record {
               known = k;
-              sent = subst (λ n. p.number < length (account at n).sent) (sym same) within;
-              open_ = subst (λ n. is_collected (account at n) p.number ≡ false) (sym same) parts.0;
+              sent = subst (λ n. p.number < length (ledger at n).sent) (sym same) within;
+              open_ = subst (λ n. is_collected (ledger at n) p.number ≡ false) (sym same) parts.0;
             },
             λ is_o. eqb-false p.number o.number (or_parts (nat_eq p.number o.number) false parts.1).0 (ap (λ (q : Operation). q.number) is_o),
           )
@@ -88,8 +88,8 @@ out_collected at o code known p is =
           let e = put_other at o.manager a known p.manager k.positive differs in (
             record {
               known = k;
-              sent = subst (λ (x : AccountView). p.number < length x.sent) e is.sent;
-              open_ = subst (λ (x : AccountView). is_collected x p.number ≡ false) e is.open_;
+              sent = subst (λ (x : LedgerView). p.number < length x.sent) e is.sent;
+              open_ = subst (λ (x : LedgerView). is_collected x p.number ≡ false) e is.open_;
             },
             λ is_o. differs (ap (λ (q : Operation). q.manager) is_o),
           )
@@ -97,22 +97,22 @@ out_collected at o code known p is =
 
 -- ---- a commit of several branches
 
--- what is outstanding in the later account was so in the earlier one
-pub record Leaves (a a' : AccountView) : Type 0 where
+-- what is outstanding in the later ledger was so in the earlier one
+pub record Leaves (a a' : LedgerView) : Type 0 where
   pub sent : (n : ℕ) → n < length a'.sent → is_collected a' n ≡ false → n < length a.sent
   pub open_ : (n : ℕ) → is_collected a' n ≡ false → is_collected a n ≡ false
 
-leaves_same : (a : AccountView) → Leaves a a
+leaves_same : (a : LedgerView) → Leaves a a
 leaves_same a = record { sent = λ n within fresh. within; open_ = λ n fresh. fresh }
 
-leaves_both : (a b c : AccountView) → Leaves a b → Leaves b c → Leaves a c
+leaves_both : (a b c : LedgerView) → Leaves a b → Leaves b c → Leaves a c
 leaves_both a b c first later = record {
   sent = λ n within fresh. first.sent n (later.sent n within fresh) (later.open_ n fresh);
   open_ = λ n fresh. first.open_ n (later.open_ n fresh);
 }
 
 -- a request that is sent and collected leaves what is outstanding
-leaves_answered : (a : AccountView) (op : Op) (code : Code) → Leaves a (with_collected (with_sent a op) (length a.sent) code)
+leaves_answered : (a : LedgerView) (op : Op) (code : Code) → Leaves a (with_collected (with_sent a op) (length a.sent) code)
 leaves_answered a op code = record {
   sent = λ n within fresh.
       let parts = or_parts (is_collected a n) (nat_eq n (length a.sent) || false) (sym (collected_push (with_sent a op) (length a.sent) code n) ∙ fresh) in
@@ -121,37 +121,37 @@ leaves_answered a op code = record {
   open_ = λ n fresh. (or_parts (is_collected a n) (nat_eq n (length a.sent) || false) (sym (collected_push (with_sent a op) (length a.sent) code n) ∙ fresh)).0;
 }
 
-either_leaves : (a b : AccountView) (shut : Bool) → Leaves a b → Leaves a (if shut then a else b)
+either_leaves : (a b : LedgerView) (shut : Bool) → Leaves a b → Leaves a (if shut then a else b)
 either_leaves a b true leaves = leaves_same a
 either_leaves a b false leaves = leaves
 
-asked_leaves : (a : AccountView) (op : Option Op) (code : Option Code) → Leaves a (asked a op code)
+asked_leaves : (a : LedgerView) (op : Option Op) (code : Option Code) → Leaves a (asked a op code)
 asked_leaves a None code = leaves_same a
 asked_leaves a (Some op) None = leaves_same a
 asked_leaves a (Some op) (Some code) = either_leaves a _ (learnt_shut a) (leaves_answered a op code)
 
 -- the two requests of a branch
-branch_leaves : (commit : Bool) (b : Branch) (vote : Code) (second : Option Code) (a a' : AccountView) → BranchTrace commit b vote second a a' → Leaves a a'
+branch_leaves : (commit : Bool) (b : Branch) (vote : Code) (second : Option Code) (a a' : LedgerView) → BranchTrace commit b vote second a a' → Leaves a a'
 branch_leaves commit b vote second a a' is =
     subst (Leaves a) (sym is.trace) (leaves_both a (voted b vote a) (asked (voted b vote a) (second_op commit b.xid vote) second) (asked_leaves a (Some (Prepare b.xid)) (Some vote)) (asked_leaves (voted b vote a) (second_op commit b.xid vote) second))
 
 -- the branch at the manager is one of these
-there_leaves : (commit : Bool) (old new : List AccountView) (m : ℕ) (bs : List Branch) (vs : List Code) (ss : List (Option Code)) (es : List Ending)
-    → EachBranch (λ b v s e. BranchTrace commit b v s (account old b.m) (account new b.m) × (e ≡ ending_of commit v s)) bs vs ss es
-    → has_branch_at bs m ≡ true → Leaves (account old m) (account new m)
+there_leaves : (commit : Bool) (old new : List LedgerView) (m : ℕ) (bs : List Branch) (vs : List Code) (ss : List (Option Code)) (es : List Ending)
+    → EachBranch (λ b v s e. BranchTrace commit b v s (ledger old b.m) (ledger new b.m) × (e ≡ ending_of commit v s)) bs vs ss es
+    → has_branch_at bs m ≡ true → Leaves (ledger old m) (ledger new m)
 there_leaves commit old new m [] [] [] [] each there = absurd (cc)
 there_leaves commit old new m (b ∷ bs) (v ∷ vs) (s ∷ ss) (e ∷ es) each there = elim (cases_Bool (b.m == m)) [
-  | inl here ↦ subst (λ n. Leaves (account old n) (account new n)) (eqb-true b.m m here) (branch_leaves commit b v s (account old b.m) (account new b.m) each.0.0)
+  | inl here ↦ subst (λ n. Leaves (ledger old n) (ledger new n)) (eqb-true b.m m here) (branch_leaves commit b v s (ledger old b.m) (ledger new b.m) each.0.0)
   | inr other ↦ there_leaves commit old new m bs vs ss es each.1 (ap (λ c. c || has_branch_at bs m) (sym other) ∙ there)
 ]
 there_leaves commit old new m bs vs ss es each there = absurd each
 
 -- what is outstanding after a commit was outstanding before it
-pub out_committed : (t : TranName) (bs : List Branch) (old new : List AccountView) (log log' : LogState) (done : Done) → IsTraceOfCommit t bs old new log log' done → (o : Operation) → IsOut new o → IsOut old o
+pub out_committed : (t : TranName) (bs : List Branch) (old new : List LedgerView) (log log' : LogState) (done : Done) → IsTraceOfCommit t bs old new log log' done → (o : Operation) → IsOut new o → IsOut old o
 out_committed t bs old new log log' done is o out =
-    let leaves : Leaves (account old o.manager) (account new o.manager) = elim (cases_Bool (has_branch_at bs o.manager)) [
+    let leaves : Leaves (ledger old o.manager) (ledger new o.manager) = elim (cases_Bool (has_branch_at bs o.manager)) [
       | inl there ↦ there_leaves done.commit old new o.manager bs done.votes.items is.seconds done.endings.items is.each there
-      | inr elsewhere ↦ subst (Leaves (account old o.manager)) (sym (is.others o.manager out.known.positive elsewhere)) (leaves_same (account old o.manager))
+      | inr elsewhere ↦ subst (Leaves (ledger old o.manager)) (sym (is.others o.manager out.known.positive elsewhere)) (leaves_same (ledger old o.manager))
     ] in
     record {
       known = record { positive = out.known.positive; within = subst (λ n. o.manager ≤ n) is.managers out.known.within };
@@ -162,33 +162,33 @@ out_committed t bs old new log log' done is o out =
 -- ---- where no operation is outstanding
 
 -- each request was collected
-abbrev AllCollected : AccountView → Type 0
+abbrev AllCollected : LedgerView → Type 0
 AllCollected a = (n : ℕ) → n < length a.sent → is_collected a n ≡ true
 
-none_left : (a : AccountView) → AllCollected a → length a.sent - length a.collected ≡ 0
+none_left : (a : LedgerView) → AllCollected a → length a.sent - length a.collected ≡ 0
 none_left a all =
     let many : length a.sent ≤ length (numbers a) = le-length_from_below (numbers a) (length a.sent) all in
     let enough : length a.sent ≤ length a.collected = rw length-map at many in
     omega (arith, enough)
 
-abbrev left_of : AccountView → ℕ
+abbrev left_of : LedgerView → ℕ
 left_of a = length a.sent - length a.collected
 
-sum_none : (at : List AccountView) → ((i : ℕ) → i < length at → AllCollected (slice_index_or at i no_account)) → sum_by left_of at ≡ 0
+sum_none : (at : List LedgerView) → ((i : ℕ) → i < length at → AllCollected (slice_index_or at i no_ledger)) → sum_by left_of at ≡ 0
 sum_none [] all = refl
 sum_none (a ∷ at) all =
     let first : left_of a ≡ 0 = none_left a (all 0 (omega arith)) in
     let rest : sum_by left_of at ≡ 0 = sum_none at (λ i below. all (suc i) (omega (arith, below))) in
     omega (arith, sum_by-cons left_of a at, first, rest)
 
-pub none_outstanding : (at : List AccountView) → ((o : Operation) → IsOut at o → ⊥) → outstanding at ≡ 0
+pub none_outstanding : (at : List LedgerView) → ((o : Operation) → IsOut at o → ⊥) → outstanding at ≡ 0
 none_outstanding at none = sum_none at (λ i below n within.
     let back : i + 1 - 1 ≡ i = omega arith in
-    elim (cases_Bool (is_collected (slice_index_or at i no_account) n)) [
+    elim (cases_Bool (is_collected (slice_index_or at i no_ledger) n)) [
       | inl yes' ↦ yes'
       | inr no' ↦ absurd (none (record { manager = i + 1; number = n }) (record {
         known = record { positive = omega arith; within = omega (arith, below) };
-        sent = subst (λ j. n < length (slice_index_or at j no_account).sent) (sym back) within;
-        open_ = subst (λ j. is_collected (slice_index_or at j no_account) n ≡ false) (sym back) no';
+        sent = subst (λ j. n < length (slice_index_or at j no_ledger).sent) (sym back) within;
+        open_ = subst (λ j. is_collected (slice_index_or at j no_ledger) n ≡ false) (sym back) no';
       }))
     ])

@@ -7,10 +7,10 @@ use Rattle.std.proofs.lemmas.Bool.{eq-eqb}
 use Rattle.std.proofs.lemmas.List.{length-map}
 use Rattle.std.proofs.lemmas.Option.{slice_get-map, slice_get_within, slice_get_cases}
 use Rattle.xa_words.specs.declared.code.Code.{Code}
-use Rattle.xa_desk.specs.AccountView.{AccountView}
+use Rattle.xa_desk.specs.LedgerView.{LedgerView}
 use Rattle.xa_desk.specs.DeskView.{DeskView, sent_to, collected_from}
 use Rattle.xa_desk.specs.Ended.{EndedView}
-use Rattle.xa_desk.specs.Lanes.{new_accounts}
+use Rattle.xa_desk.specs.Lanes.{new_ledgers}
 use Rattle.xa_worker.specs.Workers.{Working}
 use Rattle.xa_worker.specs.Done.{Served, SameServed}
 use Rattle.xa_switch.specs.declared.plan.Plan.{Plan}
@@ -18,7 +18,7 @@ use Rattle.xa_switch.specs.Plans.{use_async}
 use Rattle.xa_switch.specs.Openings.{IsNewDesk, IsNewWorker}
 use Rattle.xa_switch.specs.Completing.{CollectsRedeemed}
 use Rattle.xa_switch.specs.Seats.{DeskSeat, WorkerSeat, ComeFromOpenings, seat_of_desk, seat_of_ended, seat_of_worker, seat_of_done, desk_seats, worker_seats, desk_opening, worker_opening, first_opening, AreOfOne, AreAll, HasDesks, HasWorkers, has_desk, has_worker}
-use Rattle.xa_switch.specs.Settling.{Settling, ThreadPart, ManagerPart, IsSettled, find_thread, accounts_in, sent, collected, journal}
+use Rattle.xa_switch.specs.Settling.{Settling, ThreadPart, ManagerPart, IsSettled, find_thread, ledgers_in, sent, collected, journal}
 use Rattle.xa_switch.specs.Closing.{thread_part, manager_part, settling}
 use Rattle.xa_driver.specs.Log.{no_records}
 use Rattle.xa_grammar.specs.declared.script.Action.{Action}
@@ -45,7 +45,7 @@ use Rattle.xa_script.specs.Values.{AreOfScript, AreValues}
 use Rattle.xa_script.specs.Journals.{answers_to, entries_of, AreCarriedOut, TellsOf}
 use Rattle.xa_script.proofs.Side.{got, all_from, any_at, map_alike, find_numbered, find_none, was_mapped}
 use Rattle.xa_script.proofs.Opened.{opened_threads, opened_managers, opened_first, opened_thread, new_sent, new_collected, nobody_sent}
-use Rattle.xa_script.proofs.Accounts.{Begins, Grows}
+use Rattle.xa_script.proofs.Ledgers.{Begins, Grows}
 use Rattle.xa_script.proofs.Sending.{ending_collects}
 use Rattle.xa_script.proofs.Entering.{Fits as Agrees, agreed_fits, no_entries}
 use Rattle.xa_script.proofs.Carrying.{lines_in, tasks_in, answers_in, carried_all, runs_grow}
@@ -207,15 +207,15 @@ module _ (s : Content) (answers : List Answer) (desks : List DeskView) (workers 
       any_at (λ (w : Served). w.number == m) done (m - 1) d.0 d.1 (eq-eqb d.0.number m (omega (arith, number, low)))
 
   -- what an ended desk has sent and collected is what its thread's last task left
-  comes_grow : (d : DeskView) (e : EndedView) (c : Comes s answers d e) (m : ℕ) → Grows m d.accounts c.last.desk.accounts
+  comes_grow : (d : DeskView) (e : EndedView) (c : Comes s answers d e) (m : ℕ) → Grows m d.ledgers c.last.desk.ledgers
   comes_grow d e c m = runs_grow m (control_of s d, []) (tasks_of d.thread s.steps) (c.last, answers_to d.thread answers) c.runs
 
-  ended_accounts : (k : ℕ) (e : EndedView) → slice_get ended k ≡ Some e → length e.accounts ≡ length plan.managers.items
-  ended_accounts k e at =
+  ended_ledgers : (k : ℕ) (e : EndedView) → slice_get ended k ≡ Some e → length e.ledgers ≡ length plan.managers.items
+  ended_ledgers k e at =
       let d = desk_of k e at in
       let new = new_desk_at k d.0 d.1 in
-      let accounts : d.0.accounts ≡ new_accounts plan.requests (use_async plan.managers.items) = ap (λ (x : DeskView). x.accounts) new.made in
-      (ending_collects d.2.last.desk d.2.told e d.2.told' d.2.ends 0).0.many ∙ (comes_grow d.0 e d.2 0).many ∙ ap (λ l. length l) accounts ∙ length-map (use_async plan.managers.items) _ ∙ length-map plan.managers.items _
+      let ledgers : d.0.ledgers ≡ new_ledgers plan.requests (use_async plan.managers.items) = ap (λ (x : DeskView). x.ledgers) new.made in
+      (ending_collects d.2.last.desk d.2.told e d.2.told' d.2.ends 0).0.many ∙ (comes_grow d.0 e d.2 0).many ∙ ap (λ l. length l) ledgers ∙ length-map (use_async plan.managers.items) _ ∙ length-map plan.managers.items _
 
   done_threads : (k : ℕ) (d : Served) → slice_get done k ≡ Some d → d.manager.threads ≡ plan.threads
   done_threads k d at = let w = worker_of k d at in let new = new_worker_at k w.0 w.1 in w.2.threads ∙ ap (λ (x : Working). x.manager.threads) new.made
@@ -225,7 +225,7 @@ module _ (s : Content) (answers : List Answer) (desks : List DeskView) (workers 
   all_pieces = record {
     some_desk = some_ended;
     some_worker = some_done;
-    workers = all_from (λ d. HasWorkers (length d.accounts) done) ended (λ k e at m low high. let many = many_done in let accounts = ended_accounts k e at in has_done m low (omega (arith, high, many, accounts)));
+    workers = all_from (λ d. HasWorkers (length d.ledgers) done) ended (λ k e at m low high. let many = many_done in let ledgers = ended_ledgers k e at in has_done m low (omega (arith, high, many, ledgers)));
     desks = all_from (λ w. HasDesks w.manager.threads ended) done (λ k d at t low high. let many = many_ended in let threads = done_threads k d at in has_ended t low (omega (arith, high, many, threads)));
   }
 
@@ -263,17 +263,17 @@ module _ (s : Content) (answers : List Answer) (desks : List DeskView) (workers 
     abbrev settled : Settling
     settled = settling ended done
 
-    fresh : (k : ℕ) (d : DeskView) (m : ℕ) → slice_get desks k ≡ Some d → sent_to d.accounts m ≡ []
+    fresh : (k : ℕ) (d : DeskView) (m : ℕ) → slice_get desks k ≡ Some d → sent_to d.ledgers m ≡ []
     fresh k d m at =
         let new = new_desk_at k d at in
-        let accounts : d.accounts ≡ new_accounts plan.requests (use_async plan.managers.items) = ap (λ (x : DeskView). x.accounts) new.made in
-        ap (λ (l : List AccountView). sent_to l m) accounts ∙ new_sent plan.requests (use_async plan.managers.items) m
+        let ledgers : d.ledgers ≡ new_ledgers plan.requests (use_async plan.managers.items) = ap (λ (x : DeskView). x.ledgers) new.made in
+        ap (λ (l : List LedgerView). sent_to l m) ledgers ∙ new_sent plan.requests (use_async plan.managers.items) m
 
-    uncollected : (k : ℕ) (d : DeskView) (m : ℕ) → slice_get desks k ≡ Some d → collected_from d.accounts m ≡ []
+    uncollected : (k : ℕ) (d : DeskView) (m : ℕ) → slice_get desks k ≡ Some d → collected_from d.ledgers m ≡ []
     uncollected k d m at =
         let new = new_desk_at k d at in
-        let accounts : d.accounts ≡ new_accounts plan.requests (use_async plan.managers.items) = ap (λ (x : DeskView). x.accounts) new.made in
-        ap (λ (l : List AccountView). collected_from l m) accounts ∙ new_collected plan.requests (use_async plan.managers.items) m
+        let ledgers : d.ledgers ≡ new_ledgers plan.requests (use_async plan.managers.items) = ap (λ (x : DeskView). x.ledgers) new.made in
+        ap (λ (l : List LedgerView). collected_from l m) ledgers ∙ new_collected plan.requests (use_async plan.managers.items) m
 
     unkept : (k : ℕ) (d : DeskView) → slice_get desks k ≡ Some d → d.kept ≡ finmap.empty
     unkept k d at = let new = new_desk_at k d at in ap (λ (x : DeskView). x.kept) new.made
@@ -295,12 +295,12 @@ module _ (s : Content) (answers : List Answer) (desks : List DeskView) (workers 
           log = c.last.log.state;
           carried =
               let found_so = ap (λ n. find_thread n (map thread_part ended)) t ∙ found in
-              let sent_so : (m : ℕ) → sent settled d.thread m ≡ sent_to e.0.accounts m = λ m. ap (λ o. sent_to (accounts_in o) m) found_so in
-              let collected_so : (m : ℕ) → collected settled d.thread m ≡ collected_from e.0.accounts m = λ m. ap (λ o. collected_from (accounts_in o) m) found_so in
+              let sent_so : (m : ℕ) → sent settled d.thread m ≡ sent_to e.0.ledgers m = λ m. ap (λ o. sent_to (ledgers_in o) m) found_so in
+              let collected_so : (m : ℕ) → collected settled d.thread m ≡ collected_from e.0.ledgers m = λ m. ap (λ o. collected_from (ledgers_in o) m) found_so in
               let ends = ending_collects c.last.desk c.told e.0 c.told' c.ends in
               carried_all settled d.thread (sent settled d.thread) (collected settled d.thread) (λ m. agreed_fits d.thread (sent settled d.thread m) (collected settled d.thread m) (journal settled m) (is.agree d.thread m)) (control_of s d, []) (λ m. fresh k d m at) (λ m. uncollected k d m at) (unkept k d at) refl
               (tasks_of d.thread s.steps) (c.last, answers_to d.thread answers) c.runs (tasks_are_of d.thread s.steps) (λ m. sym (ends m).1 ∙ sym (sent_so m))
-              (λ m. subst (Begins (collected_from c.last.desk.accounts m)) (sym (collected_so m)) (ends m).0.collected);
+              (λ m. subst (Begins (collected_from c.last.desk.ledgers m)) (sym (collected_so m)) (ends m).0.collected);
         })
 
     -- of one that there isn't
@@ -319,7 +319,7 @@ module _ (s : Content) (answers : List Answer) (desks : List DeskView) (workers 
           log = no_records;
           carried =
               let nothing_there : (m : ℕ) → entries_of t (journal settled m) ≡ [] = λ m.
-              let nothing_sent : sent settled t m ≡ [] = ap (λ o. sent_to (accounts_in o) m) (no_thread t none_there) ∙ nobody_sent m in
+              let nothing_sent : sent settled t m ≡ [] = ap (λ o. sent_to (ledgers_in o) m) (no_thread t none_there) ∙ nobody_sent m in
               let fits = agreed_fits t (sent settled t m) (collected settled t m) (journal settled m) (is.agree t m) in
               no_entries t (collected settled t m) (entries_of t (journal settled m)) (subst (λ ops. Agrees t ops (collected settled t m) (entries_of t (journal settled m))) nothing_sent fits) in
               none [] (record { entries = λ m. entries_of t (journal settled m); handles = finmap.empty; log = no_records }) refl (λ i. record { entries = λ m. nothing_there m i; handles = finmap.empty; log = no_records });

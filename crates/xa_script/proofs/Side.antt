@@ -31,6 +31,10 @@ got_set {A} xs i y k z inside at =
           inr (slice_get-get_or xs k z (omega (arith, within, size)) ∙ ap (λ (x : A). Some x) (sym stays ∙ is))
     ]
 
+-- an element that was written is there
+pub set_there : {A : Type 0} (xs : List A) (i : ℕ) (y : A) → i < length xs → slice_get (slice_set xs i y) i ≡ Some y
+set_there xs i y inside = slice_get-get_or (slice_set xs i y) i y (omega (arith, inside, length-set xs i y)) ∙ ap Some (get_or-set_same xs i y y inside)
+
 -- the last of a list, or one before it
 pub got_push : {A : Type 0} (xs : List A) (x : A) (k : ℕ) (y : A) → slice_get (xs ++ x ∷ []) k ≡ Some y → (slice_get xs k ≡ Some y) ⊎ ((k ≡ length xs) × (y ≡ x))
 got_push [] x zero y e = inr (refl, some_same y x (sym e))

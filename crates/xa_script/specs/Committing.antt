@@ -34,7 +34,7 @@ branches_of c = map (branch_at c) (filter (is_at c) (range_with_len 1 8))
 -- What a commit of several branches does to its thread's desk and log, and what it answers: where the branches may not be committed nothing is done; else it is the trace of the coordinator.
 pub data Commits (c : CommitAll) (old new : Control) (a : Answer) : Type 0 where
   refused : (MayCommit old.desk old.log.state (branches_of c) → ⊥) → a ≡ answer.Refused c.line c.thread → new ≡ old → Commits c old new a
-  decided : (done : Done) → MayCommit old.desk old.log.state (branches_of c) → IsTraceOfCommit (named c) (branches_of c) old.desk.accounts new.desk.accounts old.log.state new.log.state done → KeepsDesk old.desk new.desk → outstanding new.desk.accounts ≡ outstanding old.desk.accounts → a ≡ answer.Decided c.line c.thread done → Commits c old new a
+  decided : (done : Done) → MayCommit old.desk old.log.state (branches_of c) → IsTraceOfCommit (named c) (branches_of c) old.desk.ledgers new.desk.ledgers old.log.state new.log.state done → KeepsDesk old.desk new.desk → outstanding new.desk.ledgers ≡ outstanding old.desk.ledgers → a ≡ answer.Decided c.line c.thread done → Commits c old new a
 
 -- What a task does to its thread, and what it answers. A call leaves the log.
 abbrev pub Does : Task → Control → Control → Answer → Type 0

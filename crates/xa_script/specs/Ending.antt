@@ -14,7 +14,7 @@ use Rattle.xa_script.specs.Chains.{Chain}
 
 -- Each operation that is outstanding is kept under a number: a synchronous call collects what it sends.
 abbrev pub AllKept : DeskView → Type 0
-AllKept d = (o : Operation) → IsOut d.accounts o → (k : ℕ) × (map.get d.kept k ≡ Some o)
+AllKept d = (o : Operation) → IsOut d.ledgers o → (k : ℕ) × (map.get d.kept k ≡ Some o)
 
 -- No operation is kept.
 abbrev pub HoldsNone : DeskView → Type 0

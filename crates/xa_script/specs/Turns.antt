@@ -1,5 +1,5 @@
 -- Workers that take turns: how they go on.
-use Rattle.std.specs.Prelude.{◌≡◌, ℕ, ◌-◌, Some, List, slice_get, slice_set}
+use Rattle.std.specs.Prelude.{◌≡◌, ℕ, ◌-◌, ◌<◌, ◌≤◌, Some, List, length, slice_get, slice_set}
 use Rattle.xa_worker.specs.declared.step.Step.{Step}
 use Rattle.xa_worker.specs.Workers.{Working, SameWorker, Extends, IsTied}
 use Rattle.xa_worker.specs.Steps.{Stepped}
@@ -27,3 +27,19 @@ pub record TakesTurn (m : ℕ) (did : Step) (old new : List Working) : Type 0 wh
   pub stepped : Stepped before did behind
   pub goes : GoesOn before behind
   pub rest : new ≡ slice_set old (m - 1) behind
+
+-- The worker had a turn.
+abbrev pub HadTurn : Working → Working → Type 0
+HadTurn old new = (did : Step) × Stepped old did new
+
+-- Who had a turn while a call waited for manager m: the manager's worker, for any manager, 0, each worker, and for a number
+-- that no manager has none.
+pub data TurnsFor (m : ℕ) (old new : List Working) : Type 0 where
+  its : (did : Step) → 1 ≤ m → m ≤ length old → TakesTurn m did old new → TurnsFor m old new
+  each : m ≡ 0 → Pairwise HadTurn old new → TurnsFor m old new
+  none : length old < m → new ≡ old → TurnsFor m old new
+
+-- They had their turns, and each worker has gone on.
+pub record GivesTurns (m : ℕ) (old new : Turns) : Type 0 where
+  pub turns : TurnsFor m old.workers.items new.workers.items
+  pub on : TurnsOn old new

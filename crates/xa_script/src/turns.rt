@@ -12,7 +12,8 @@ pub(crate) struct Turns {
 }
 
 impl Turns {
-    ghost use Rattle.xa_script.specs.Turns.{TurnsOn, TakesTurn};
+    ghost use Rattle.xa_script.specs.Chains.{Pairwise};
+    ghost use Rattle.xa_script.specs.Turns.{TurnsOn, TakesTurn, HadTurn};
 
     // The worker of this manager does one thing.
     pub(crate) fn turn<R: Wait>(&mut self, rt: &R, manager: u32) -> Step
@@ -25,7 +26,8 @@ impl Turns {
 
     // Each worker does one thing, in rising order.
     fn turn_all<R: Wait>(&mut self, rt: &R)
-        ensures { TurnsOn self.old self.new }
+        ensures turns { Pairwise HadTurn self.old.workers.items self.new.workers.items }
+        ensures on { TurnsOn self.old self.new }
     {
         for place in 0..self.workers.len() {
             self.workers[place].step(rt, &mut Free);
@@ -35,14 +37,14 @@ impl Turns {
 
 // A wait for a manager gives its worker one turn, and a wait for any gives one to each.
 impl Idle for Turns {
-    ghost use Rattle.xa_script.specs.Turns.{TurnsOn};
+    ghost use Rattle.xa_script.specs.Turns.{TurnsOn, GivesTurns};
     ghost use Rattle.xa_script.specs.Turning.{turns_stay, turns_chain};
 
-    ghost leads_by = { λ manager. TurnsOn };
+    ghost leads_by = { GivesTurns };
 
     ghost leads = { TurnsOn };
 
-    ghost leads_each = { λ manager x y p. p };
+    ghost leads_each = { λ manager x y given. given.on };
 
     ghost leads_start = { turns_stay };
 

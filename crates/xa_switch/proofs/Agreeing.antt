@@ -9,15 +9,15 @@ use Rattle.xa_words.specs.declared.request.Request.{Request}
 use Rattle.xa_words.specs.declared.request.Completion.{Completion}
 use Rattle.xa_lane.specs.Ends.{Receiving}
 use Rattle.xa_tables.specs.History.{of_thread, accepted, parted, IsOpening}
-use Rattle.xa_desk.specs.AccountView.{AccountView}
-use Rattle.xa_desk.specs.DeskView.{IsKnown, is_known, account, sent_to, collected_from}
+use Rattle.xa_desk.specs.LedgerView.{LedgerView}
+use Rattle.xa_desk.specs.DeskView.{IsKnown, is_known, ledger, sent_to, collected_from}
 use Rattle.xa_desk.specs.Ended.{EndedView}
 use Rattle.xa_worker.specs.Journal.{Entry, requests}
 use Rattle.xa_worker.specs.Workers.{Asking, asked, of_sender_thread, of_own_thread}
 use Rattle.xa_worker.specs.Done.{Served, IsServed, IsOrdered}
 use Rattle.xa_lane.specs.Closing.{items_in}
 use Rattle.xa_switch.specs.Seats.{HasDesks, HasWorkers, has_desk, has_worker}
-use Rattle.xa_switch.specs.Settling.{FollowsTables, Agree, IsSettled, accounts_in, journal_in, find_thread, find_manager}
+use Rattle.xa_switch.specs.Settling.{FollowsTables, Agree, IsSettled, ledgers_in, journal_in, find_thread, find_manager}
 use Rattle.xa_switch.specs.Closing.{column, IsClosed, desk_lane, worker_lane, thread_part, manager_part, taken_by, settling}
 use Rattle.xa_switch.proofs.Lists.{all_contains, all_map, contains_map, searched}
 use Rattle.xa_switch.proofs.OneLane.{none_of}
@@ -34,17 +34,17 @@ nothing_agrees t J e = record { carried = e; each = λ n. ((λ h. absurd (omega 
 agree_along : {t u : ℕ} {a b : List Op} {p q : List (ℕ × Code)} {J K : List Entry} → t ≡ u → a ≡ b → p ≡ q → J ≡ K → Agree t a p J → Agree u b q K
 agree_along {t} {u} {a} {b} {p} {q} {J} {K} e f g h x = subst (λ (v : ℕ × List Op × List (ℕ × Code) × List Entry). Agree v.0 v.1 v.2 v.3) (λ i. (e i, f i, g i, h i)) x
 
--- ---- accounts with a manager that is known, and with one that isn't
+-- ---- ledgers with a manager that is known, and with one that isn't
 
 both : (a b : Bool) → a && b ≡ true → (a ≡ true) × (b ≡ true)
 both true true e = (refl, refl)
 both true false e = cc
 both false b e = cc
 
-known_is : (at : List AccountView) (m : ℕ) → is_known at m ≡ true → IsKnown at m
+known_is : (at : List LedgerView) (m : ℕ) → is_known at m ≡ true → IsKnown at m
 known_is at m e = let x = both (leb 1 m) (leb m (length at)) e in record { positive = leb-true 1 m x.0; within = leb-true m (length at) x.1 }
 
-known_true : (at : List AccountView) (m : ℕ) → IsKnown at m → is_known at m ≡ true
+known_true : (at : List LedgerView) (m : ℕ) → IsKnown at m → is_known at m ≡ true
 known_true at m k = λ i. le-leb 1 m k.positive i && le-leb m (length at) k.within i
 
 -- ---- what no desk sent
@@ -100,55 +100,55 @@ module _ (ds : List EndedView) (ws : List Served) (j : Joint ds ws) (rs : All (�
       (cases_lt s w.manager.threads)
 
   -- a desk did nothing with a manager that isn't there
-  no_worker : (m : ℕ) (d : EndedView) → Contains ds d → has_worker m ws ≡ false → is_known d.accounts m ≡ false
-  no_worker m d cd none = no_worker_by (is_known d.accounts m) refl where
-    no_worker_by : (b : Bool) → is_known d.accounts m ≡ b → b ≡ false
+  no_worker : (m : ℕ) (d : EndedView) → Contains ds d → has_worker m ws ≡ false → is_known d.ledgers m ≡ false
+  no_worker m d cd none = no_worker_by (is_known d.ledgers m) refl where
+    no_worker_by : (b : Bool) → is_known d.ledgers m ≡ b → b ≡ false
     no_worker_by false e = refl
     no_worker_by true e =
-        let k = known_is d.accounts m e in
-        let there : has_worker m ws ≡ true = all_contains (λ (d : EndedView). HasWorkers (length d.accounts) ws) ds d j.all.whole.workers cd m k.positive k.within in
+        let k = known_is d.ledgers m e in
+        let there : has_worker m ws ≡ true = all_contains (λ (d : EndedView). HasWorkers (length d.ledgers) ws) ds d j.all.whole.workers cd m k.positive k.within in
         absurd (cc (none, there))
 
-  sent_by : (at : List AccountView) (m : ℕ) (b : Bool) → is_known at m ≡ b → sent_to at m ≡ cond b (account at m).sent []
-  sent_by at m b e = ap (λ c. cond c (account at m).sent []) e
+  sent_by : (at : List LedgerView) (m : ℕ) (b : Bool) → is_known at m ≡ b → sent_to at m ≡ cond b (ledger at m).sent []
+  sent_by at m b e = ap (λ c. cond c (ledger at m).sent []) e
 
-  collected_by : (at : List AccountView) (m : ℕ) (b : Bool) → is_known at m ≡ b → collected_from at m ≡ cond b (account at m).collected []
-  collected_by at m b e = ap (λ c. cond c (account at m).collected []) e
+  collected_by : (at : List LedgerView) (m : ℕ) (b : Bool) → is_known at m ≡ b → collected_from at m ≡ cond b (ledger at m).collected []
+  collected_by at m b e = ap (λ c. cond c (ledger at m).collected []) e
 
   -- no desk
-  sent_nobody : (m : ℕ) (b : Bool) → cond b (account [] m).sent [] ≡ []
+  sent_nobody : (m : ℕ) (b : Bool) → cond b (ledger [] m).sent [] ≡ []
   sent_nobody m true = refl
   sent_nobody m false = refl
 
-  collected_nobody : (m : ℕ) (b : Bool) → cond b (account [] m).collected [] ≡ []
+  collected_nobody : (m : ℕ) (b : Bool) → cond b (ledger [] m).collected [] ≡ []
   collected_nobody m true = refl
   collected_nobody m false = refl
 
-  agrees : (t m : ℕ) → Agree t (sent_to (accounts_in (find_thread t (map thread_part ds))) m) (collected_from (accounts_in (find_thread t (map thread_part ds))) m) (journal_in (find_manager m (map manager_part ws)))
+  agrees : (t m : ℕ) → Agree t (sent_to (ledgers_in (find_thread t (map thread_part ds))) m) (collected_from (ledgers_in (find_thread t (map thread_part ds))) m) (journal_in (find_manager m (map manager_part ws)))
   agrees t m =
       let D = find_thread t (map thread_part ds) in
       let W = find_manager m (map manager_part ws) in
       ⊎_elim
       (λ (x : (d : EndedView) × Contains ds d × ((d.thread == t) ≡ true) × (D ≡ Some (thread_part d))).
       let d = x.0 in
-      let at : accounts_in D ≡ d.accounts = ap accounts_in x.3 in
+      let at : ledgers_in D ≡ d.ledgers = ap ledgers_in x.3 in
       ⊎_elim
       (λ (y : (w : Served) × Contains ws w × ((w.number == m) ≡ true) × (W ≡ Some (manager_part w))).
       let w = y.0 in
       let here : w.number ≡ m = eqb-true w.number m y.2 in
-      let known = known_true d.accounts w.number (known_at ds ws j d w x.1 y.1) in
+      let known = known_true d.ledgers w.number (known_at ds ws j d w x.1 y.1) in
       agree_along (eqb-true d.thread t x.2)
-      (sym (ap (λ l. sent_to l m) at ∙ ap (sent_to d.accounts) (sym here) ∙ sent_by d.accounts w.number true known))
-      (sym (ap (λ l. collected_from l m) at ∙ ap (collected_from d.accounts) (sym here) ∙ collected_by d.accounts w.number true known))
+      (sym (ap (λ l. sent_to l m) at ∙ ap (sent_to d.ledgers) (sym here) ∙ sent_by d.ledgers w.number true known))
+      (sym (ap (λ l. collected_from l m) at ∙ ap (collected_from d.ledgers) (sym here) ∙ collected_by d.ledgers w.number true known))
       (sym (ap journal_in y.3))
       (pair_agrees ds ws j d w x.1 y.1 (requests_closed w y.1) (completions_closed d x.1)))
       (λ (y : (W ≡ None) × (has_worker m ws ≡ false)).
       let none = no_worker m d x.1 y.1 in
-      agree_along refl (sym (ap (λ l. sent_to l m) at ∙ sent_by d.accounts m false none)) (sym (ap (λ l. collected_from l m) at ∙ collected_by d.accounts m false none)) (sym (ap journal_in y.0)) (nothing_agrees t [] refl))
+      agree_along refl (sym (ap (λ l. sent_to l m) at ∙ sent_by d.ledgers m false none)) (sym (ap (λ l. collected_from l m) at ∙ collected_by d.ledgers m false none)) (sym (ap journal_in y.0)) (nothing_agrees t [] refl))
       (searched manager_part (λ p. p.number == m) ws))
       (λ (x : (D ≡ None) × (has_desk t ds ≡ false)).
-      let sent_none = ap (λ o. sent_to (accounts_in o) m) x.0 ∙ sent_nobody m (is_known [] m) in
-      let collected_none = ap (λ o. collected_from (accounts_in o) m) x.0 ∙ collected_nobody m (is_known [] m) in
+      let sent_none = ap (λ o. sent_to (ledgers_in o) m) x.0 ∙ sent_nobody m (is_known [] m) in
+      let collected_none = ap (λ o. collected_from (ledgers_in o) m) x.0 ∙ collected_nobody m (is_known [] m) in
       ⊎_elim
       (λ (y : (w : Served) × Contains ws w × ((w.number == m) ≡ true) × (W ≡ Some (manager_part w))).
       agree_along refl (sym sent_none) (sym collected_none) (sym (ap journal_in y.3)) (nothing_agrees t y.0.journal (no_desk t y.0 y.1 x.1)))

@@ -1,11 +1,12 @@
 -- Ends of lanes that are dealt by row into the column of their lane.
-use Rattle.std.proofs.Common.{◌≡◌, ℕ, zero, suc, ◌+◌, ◌<◌, ◌≤◌, List, [], ◌∷◌, ◌++◌, length, map, set, get_or, slice_get, replicate, refl, sym, ap, ◌∙◌, subst, arith, length-append, Some}
+use Rattle.std.proofs.Common.{◌≡◌, ℕ, zero, suc, ◌+◌, ◌<◌, ◌≤◌, List, [], ◌∷◌, ◌++◌, length, map, set, get_or, slice_get, replicate, refl, sym, ap, ◌∙◌, subst, arith, length-append, vec_capacity, Some}
 use Rattle.std.specs.List.{All, AllPairs}
-use Rattle.std.proofs.lemmas.List.{get_or-map as get_or-map', get_or-set_other, map-set, length-map}
+use Rattle.std.proofs.lemmas.List.{get_or-map as get_or-map', get_or-set_other, map-set, length-map, map-append}
 use Rattle.std.proofs.Math.ListN.{get_or-map}
 use Rattle.std.proofs.lemmas.List.Elements.{All-push}
 use Rattle.xa_switch.specs.Columns.{put_row}
-use Rattle.xa_switch.specs.Closing.{dealt, column}
+use Rattle.xa_switch.specs.Closing.{dealt, column, HasTaken, HasRoom, TakesIn}
+use Rattle.xa_switch.specs.declared.apart.Room.{Room}
 use Rattle.xa_switch.proofs.Dealing.{length_put}
 use Rattle.xa_switch.proofs.Lists.{In, in_front, in_back}
 
@@ -99,3 +100,37 @@ module _ {V X : Type 0} (items : V → List X) where
 
   pub column_at : (C : List V) (k : ℕ) (d : V) → k < length C → items (get_or C k d) ≡ column (map items C) k
   column_at C k d below = sym (get_or-map' items C k d [] below)
+
+-- ---- pieces that are taken in
+
+deep_still : {V : Type 0} (cap : V → ℕ) (C C' : List V) (n : ℕ) → map cap C' ≡ map cap C → All (λ c. n ≤ cap c) C → All (λ c. n ≤ cap c) C'
+deep_still cap C C' n same deep k d below =
+    let many : length C' ≡ length C = sym (length-map C' cap) ∙ ap length same ∙ length-map C cap in
+    let cap_is : cap (get_or C' k d) ≡ cap (get_or C k d) = sym (get_or-map cap C' k d) ∙ ap (λ l. get_or l k (cap d)) same ∙ get_or-map cap C k d in
+    let here = deep k d (omega (arith, many)) in
+    omega (arith, cap_is, here)
+
+module _ {E R P : Type 0} where
+  -- where fewer were taken in than there is room for, there is room for one more
+  pub room_left : {X : Type 0} (n : ℕ) (f : X → List E) (g : X → ℕ × R) (h : X → P) (Y : List X) (r : Room E R P) → HasTaken n (map f Y) (map g Y) (map h Y) r → length Y < n → HasRoom r
+  room_left n f g h Y r taken few = record {
+    columns = room_for_row (λ c. c.items) (λ c. vec_capacity c) r.columns.items r.columns.items (map f Y) 8 n taken.columns refl taken.deep (let l = length-map Y f in omega (arith, l, few));
+    lanes = let l = length-map Y g in let e = ap length taken.lanes in let c = taken.lanes_room in omega (arith, l, e, c, few);
+    parts = let l = length-map Y h in let e = ap length taken.parts in let c = taken.parts_room in omega (arith, l, e, c, few);
+  }
+
+  -- one more was taken in
+  pub one_more_taken : {X : Type 0} (n : ℕ) (f : X → List E) (g : X → ℕ × R) (h : X → P) (Y : List X) (x : X) (r r' : Room E R P)
+      → HasTaken n (map f Y) (map g Y) (map h Y) r → TakesIn (f x) (g x) (h x) r r' → HasTaken n (map f (Y ++ x ∷ [])) (map g (Y ++ x ∷ [])) (map h (Y ++ x ∷ [])) r'
+  one_more_taken n f g h Y x r r' taken takes = record {
+    columns = takes.columns ∙ ap (λ C. put_row C (f x)) taken.columns ∙ sym (dealt_snoc (replicate 8 []) (map f Y) (f x)) ∙ ap (dealt (replicate 8 [])) (sym (map-append f Y (x ∷ [])));
+    deep = deep_still (λ c. vec_capacity c) r.columns.items r'.columns.items n takes.depth taken.deep;
+    lanes = takes.lanes ∙ ap (λ l. l ++ g x ∷ []) taken.lanes ∙ sym (map-append g Y (x ∷ []));
+    lanes_room = let e = takes.lanes_room in let c = taken.lanes_room in omega (arith, e, c);
+    parts = takes.parts ∙ ap (λ l. l ++ h x ∷ []) taken.parts ∙ sym (map-append h Y (x ∷ []));
+    parts_room = let e = takes.parts_room in let c = taken.parts_room in omega (arith, e, c);
+  }
+
+  -- there are eight columns
+  pub eight_columns : (n : ℕ) (rows : List (List E)) (lanes : List (ℕ × R)) (parts : List P) (r : Room E R P) → HasTaken n rows lanes parts r → length r.columns.items ≡ 8
+  eight_columns n rows lanes parts r taken = sym (length-map r.columns.items (λ c. c.items)) ∙ ap length taken.columns ∙ length_dealt (replicate 8 []) rows

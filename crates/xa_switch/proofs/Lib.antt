@@ -10,6 +10,6 @@ pub mod Seated
 pub mod Mixing
 pub mod Parting
 pub mod Going
-pub mod Accounts
+pub mod Ledgers
 pub mod Journaled
 pub mod OfPlans

@@ -35,6 +35,11 @@ all_contains P xs x h c = subst P c.2 (h c.0 x c.1)
 pub contains_at : {X : Type 0} (xs : List X) (k : ℕ) (x : X) → slice_get xs k ≡ Some x → Contains xs x
 contains_at xs k x e = (k, slice_get_within xs k x e, get_or_from_slice_get xs k x x e)
 
+pub element_at : {X : Type 0} (xs : List X) (k : ℕ) → k < length xs → (x : X) × (slice_get xs k ≡ Some x)
+element_at [] k h = absurd (omega arith)
+element_at (x ∷ xs) zero h = (x, refl)
+element_at (x ∷ xs) (suc k) h = element_at xs k (omega (arith, h))
+
 pub in_back : {X : Type 0} (y : X) (xs : List X) → In y (xs ++ y ∷ [])
 in_back y [] = inl refl
 in_back y (x ∷ xs) = inr (in_back y xs)
@@ -111,3 +116,17 @@ searched_step {X} {Y} f p x xs false e r =
 pub searched : {X Y : Type 0} (f : X → Y) (p : Y → Bool) (xs : List X) → SearchedAs f p xs (find p (map f xs)) (list_any (λ y. p (f y)) xs)
 searched f p [] = inr (refl, refl)
 searched f p (x ∷ xs) = searched_step f p x xs (p (f x)) refl (searched f p xs)
+
+neither : (a b : Bool) → (a || b) ≡ false → (a ≡ false) × (b ≡ false)
+neither true b e = cc
+neither false b e = (refl, e)
+
+fails_in : {X : Type 0} (p : X → Bool) (xs : List X) (x : X) → In x xs → list_any p xs ≡ false → p x ≡ false
+fails_in p [] x h none = absurd h
+fails_in p (y ∷ ys) x h none =
+    let both = neither (p y) (list_any p ys) none in
+    ⊎_elim (λ (same : y ≡ x). ap p (sym same) ∙ both.0) (λ (i : In x ys). fails_in p ys x i both.1) h
+
+-- a test that none passes is failed by each
+pub fails_each : {X : Type 0} (p : X → Bool) (xs : List X) (x : X) → Contains xs x → list_any p xs ≡ false → p x ≡ false
+fails_each p xs x c none = fails_in p xs x (in_contains x xs c) none

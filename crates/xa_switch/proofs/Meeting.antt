@@ -5,7 +5,7 @@ use Rattle.std.proofs.lemmas.List.{length-map}
 use Rattle.std.proofs.lemmas.Option.{slice_get_within, slice_get-get_or}
 use Rattle.xa_switch.specs.Columns.{Each}
 use Rattle.xa_switch.specs.Lanes.{AreRequestLanes, AreCompletionLanes, IsRequestSender, IsCompletionSender}
-use Rattle.xa_switch.specs.Openings.{desk_parts, worker_parts, DesksFit, WorkersFit, IsDeskOf, IsWorkerOf, IsNewDesk, IsNewWorker, AreTogether, AreOfOneOpening}
+use Rattle.xa_switch.specs.Openings.{desk_parts, worker_parts, DesksFit, WorkersFit, IsDeskOf, IsWorkerOf, IsNewDesk, IsNewWorker, ShareNewLanes, AreOfOneOpening}
 use Rattle.xa_words.specs.declared.request.Request.{Request}
 use Rattle.xa_words.specs.declared.request.Completion.{Completion}
 use Rattle.xa_lane.specs.Ends.{Sending, Receiving}
@@ -155,7 +155,7 @@ module _ (p : Plan) (deskparts : List PartsView) (workerparts : List Reserved) (
         completions = completion_senders m of.senders of.senders_at;
       })
 
-  together_are : (t m : ℕ) (d : DeskView) (w : Working) → IsDeskOf deskparts asks hears t d → IsWorkerOf workerparts managed takes answers m w → AreTogether t m d w
+  together_are : (t m : ℕ) (d : DeskView) (w : Working) → IsDeskOf deskparts asks hears t d → IsWorkerOf workerparts managed takes answers m w → ShareNewLanes t m d w
   together_are t m d w of_d of_w =
       let t_low = slice_get_within deskparts t of_d.part of_d.part_at in
       let m_low = slice_get_within workerparts m of_w.part of_w.part_at in
@@ -165,8 +165,8 @@ module _ (p : Plan) (deskparts : List PartsView) (workerparts : List Reserved) (
       let answers_deep = is.completions.deep m of_w.senders of_w.senders_at in
       let s = element of_d.requests m (omega (arith, m_low, m_many, asks_deep)) in
       let a = element of_w.senders t (omega (arith, t_low, t_many, answers_deep)) in
-      subst (λ x. AreTogether t m x w) (sym of_d.made)
-      (subst (λ x. AreTogether t m (new_desk of_d.part of_d.requests of_d.completions) x) (sym of_w.made)
+      subst (λ x. ShareNewLanes t m x w) (sym of_d.made)
+      (subst (λ x. ShareNewLanes t m (new_desk of_d.part of_d.requests of_d.completions) x) (sym of_w.made)
       (record {
         asking = s.0;
         asks = s.1;

@@ -1,7 +1,10 @@
--- What is settled by rising number is of the plan that it was opened by.
-use Rattle.std.proofs.Common.{◌≡◌, ℕ, suc, ◌+◌, List, [], ◌∷◌, length, map, slice_get, Some, sym, refl, ap, ◌∙◌, arith}
-use Rattle.std.specs.List.{range_with_len}
-use Rattle.std.proofs.lemmas.Option.{same_Some}
+-- What is settled of all pieces of an opening is of the plan that it was opened by.
+use Rattle.std.proofs.Common.{◌≡◌, ℕ, suc, ◌+◌, ◌<◌, ◌==◌, true, false, List, [], ◌∷◌, length, map, slice_get, option_map, Option, Some, None, sym, refl, ap, subst, ◌∙◌, ⊎_elim, eq-eqb, arith}
+use Rattle.std.specs.List.{Contains, list_any, range_with_len}
+use Rattle.std.specs.List.Sorted.{IsPermutation}
+use Rattle.std.proofs.lemmas.Bool.{eqb-true}
+use Rattle.std.proofs.lemmas.List.Sorted.{IsPermutation-sym, IsPermutation-map, Contains-permutation}
+use Rattle.std.proofs.lemmas.Option.{same_Some, slice_get_within}
 use Rattle.xa_tables.specs.Managers.{opening}
 use Rattle.xa_desk.specs.DeskView.{DeskView}
 use Rattle.xa_desk.specs.Ended.{EndedView}
@@ -12,9 +15,10 @@ use Rattle.xa_switch.specs.Columns.{Each}
 use Rattle.xa_switch.specs.OfPlans.{IsOfPlan}
 use Rattle.xa_switch.specs.Openings.{AreOfOneOpening, IsNewWorker}
 use Rattle.xa_switch.specs.Seats.{DeskSeat, WorkerSeat, desk_seats, worker_seats, seat_of_desk, seat_of_worker, seat_of_ended, seat_of_done}
-use Rattle.xa_switch.specs.Settling.{ThreadPart, ManagerPart}
+use Rattle.xa_switch.specs.Settling.{ThreadPart, ManagerPart, find_manager}
 use Rattle.xa_switch.specs.declared.plan.Plan.{Plan}
 use Rattle.xa_switch.specs.declared.plan.ManagerPlan.{ManagerPlan}
+use Rattle.xa_switch.proofs.Lists.{contains_at, contains_map, get_contained, get_map, element_at, fails_each, searched}
 
 -- a list whose elements have rising numbers
 numbers_of : {X : Type 0} (f : X → ℕ) (a : ℕ) (xs : List X) → Each (λ k x. f x ≡ a + k) xs → map f xs ≡ range_with_len a (length xs)
@@ -24,54 +28,70 @@ numbers_of f a (x ∷ xs) each =
     let others : map f xs ≡ range_with_len (a + 1) (length xs) = numbers_of f (a + 1) xs (λ k y at. each (suc k) y at ∙ (omega arith)) in
     λ i. first i ∷ others i
 
--- two lists that are alike at each place
-alike : {X Y Z : Type 0} (f : X → Z) (g : Y → Z) (xs : List X) (ys : List Y) → length xs ≡ length ys
-    → ((k : ℕ) (x : X) (y : Y) → slice_get xs k ≡ Some x → slice_get ys k ≡ Some y → f x ≡ g y) → map f xs ≡ map g ys
-alike f g [] [] n each = refl
-alike f g [] (y ∷ ys) n each = absurd (omega (arith, n))
-alike f g (x ∷ xs) [] n each = absurd (omega (arith, n))
-alike f g (x ∷ xs) (y ∷ ys) n each =
-    let first : f x ≡ g y = each 0 x y refl refl in
-    let others : map f xs ≡ map g ys = alike f g xs ys (omega (arith, n)) (λ k a b at bt. each (suc k) a b at bt) in
-    λ i. first i ∷ others i
+-- what is read of what is made of pieces
+read : {X Y W : Type 0} (f : Y → W) (g : X → Y) (h : X → W) → ((x : X) → f (g x) ≡ h x) → (xs : List X) → map f (map g xs) ≡ map h xs
+read f g h same [] = refl
+read f g h same (x ∷ xs) = λ i. same x i ∷ read f g h same xs i
 
--- what is read of parts that are made of pieces, and of the pieces' seats
-through : {X Y Z W : Type 0} (part : X → Y) (f : Y → W) (seat : X → Z) (g : Z → W) → ((x : X) → f (part x) ≡ g (seat x)) → (xs : List X) → map f (map part xs) ≡ map g (map seat xs)
-through part f seat g same [] = refl
-through part f seat g same (x ∷ xs) = λ i. same x i ∷ through part f seat g same xs i
+-- the opening has a worker of each manager of its plan, with the plan's accounts
+module _ (p : Plan) (ds : List DeskView) (ws : List Working) (o : AreOfOneOpening p ds ws) (vs : List Served) (workers : IsPermutation (map seat_of_worker ws) (worker_seats vs)) where
+  -- the worker that the settled one was
+  worker_of : (v : Served) → Contains vs v → (k : ℕ) × (w : Working) × (slice_get ws k ≡ Some w) × (seat_of_worker w ≡ seat_of_done v)
+  worker_of v in_v =
+      let there : Contains (map seat_of_worker ws) (seat_of_done v) = Contains-permutation (worker_seats vs) (map seat_of_worker ws) (seat_of_done v) (IsPermutation-sym _ _ workers) (contains_map seat_of_done vs v in_v) in
+      let got = get_map seat_of_worker ws there.0 (seat_of_done v) (get_contained (map seat_of_worker ws) (seat_of_done v) there) in
+      (there.0, got.0, got.1, got.2)
+
+  opened_with : (m : ℕ) (plan : ManagerPlan) → slice_get p.managers.items m ≡ Some plan → (v : Served) → Contains vs v → v.number ≡ m + 1 → v.first ≡ opening plan.accounts.items
+  opened_with m plan planned v in_v number =
+      let (k, w, at, same) = worker_of v in_v in
+      let new : IsNewWorker p k w = o.workers k w at in
+      let made : w.number ≡ k + 1 = ap (λ (x : Working). x.number) new.made in
+      let seated : w.number ≡ v.number = ap (λ (s : WorkerSeat). s.number) same in
+      let place : k ≡ m = omega (arith, made, seated, number) in
+      let is : new.plan ≡ plan = same_Some new.plan plan (sym new.planned ∙ ap (slice_get p.managers.items) place ∙ planned) in
+      ap (λ (s : WorkerSeat). s.first) (sym same) ∙ ap (λ (x : Working). x.first) new.made ∙ ap (λ (x : ManagerPlan). opening x.accounts.items) is
+
+  -- it is there
+  settled_worker : (m : ℕ) (plan : ManagerPlan) → slice_get p.managers.items m ≡ Some plan → (v : Served) × Contains vs v × (v.number ≡ m + 1)
+  settled_worker m plan planned =
+      let below = slice_get_within p.managers.items m plan planned in
+      let many = o.managers in
+      let opened = element_at ws m (omega (arith, below, many)) in
+      let w : Working = opened.0 in
+      let there : Contains (worker_seats vs) (seat_of_worker w) = Contains-permutation (map seat_of_worker ws) (worker_seats vs) (seat_of_worker w) workers (contains_map seat_of_worker ws w (contains_at ws m w opened.1)) in
+      let got = get_map seat_of_done vs there.0 (seat_of_worker w) (get_contained (worker_seats vs) (seat_of_worker w) there) in
+      (got.0, contains_at vs there.0 got.0 got.1, ap (λ (s : WorkerSeat). s.number) got.2 ∙ ap (λ (x : Working). x.number) (o.workers m w opened.1).made)
+
+  found_with : (es : List EndedView) (m : ℕ) (plan : ManagerPlan) → slice_get p.managers.items m ≡ Some plan
+      → option_map (λ (part : ManagerPart). part.first) (find_manager (m + 1) (settling es vs).managers) ≡ Some (opening plan.accounts.items)
+  found_with es m plan planned =
+      ⊎_elim
+      (λ (x : (v : Served) × Contains vs v × ((v.number == m + 1) ≡ true) × (find_manager (m + 1) (map manager_part vs) ≡ Some (manager_part v))).
+      ap (option_map (λ (part : ManagerPart). part.first)) x.3 ∙ ap Some (opened_with m plan planned x.0 x.1 (eqb-true x.0.number (m + 1) x.2)))
+      (λ (x : (find_manager (m + 1) (map manager_part vs) ≡ None) × (list_any (λ (v : Served). v.number == m + 1) vs ≡ false)).
+      let there = settled_worker m plan planned in
+      let passes : (there.0.number == m + 1) ≡ true = eq-eqb there.0.number (m + 1) there.2 in
+      let fails : (there.0.number == m + 1) ≡ false = fails_each (λ (v : Served). v.number == m + 1) vs there.0 there.1 x.1 in
+      cc)
+      (searched manager_part (λ (q : ManagerPart). q.number == m + 1) vs)
 
 pub of_plan : (p : Plan) (ds : List DeskView) (ws : List Working) (es : List EndedView) (vs : List Served)
-    → AreOfOneOpening p ds ws → desk_seats es ≡ map seat_of_desk ds → worker_seats vs ≡ map seat_of_worker ws → IsOfPlan p (settling es vs)
+    → AreOfOneOpening p ds ws → IsPermutation (map seat_of_desk ds) (desk_seats es) → IsPermutation (map seat_of_worker ws) (worker_seats vs) → IsOfPlan p (settling es vs)
 of_plan p ds ws es vs o desks workers = record {
-  threads =
-      through thread_part (λ (t : ThreadPart). t.thread) seat_of_ended (λ (s : DeskSeat). s.thread) (λ e. refl) es
-      ∙ ap (map (λ (s : DeskSeat). s.thread)) desks
-      ∙ through seat_of_desk (λ (s : DeskSeat). s.thread) (λ (d : DeskView). d) (λ (d : DeskView). d.thread) (λ d. refl) ds
-      ∙ ap (map (λ (d : DeskView). d.thread)) (same ds)
-      ∙ numbers_of (λ (d : DeskView). d.thread) 1 ds (λ k d at. ap (λ (x : DeskView). x.thread) (o.desks k d at).made ∙ (omega arith))
-      ∙ ap (range_with_len 1) o.threads;
-  managers =
-      read (λ w. w.number) (λ s. s.number) (λ w. w.number) (λ v. refl) (λ w. refl)
-      ∙ numbers_of (λ (w : Working). w.number) 1 ws (λ k w at. ap (λ (x : Working). x.number) (o.workers k w at).made ∙ (omega arith))
-      ∙ ap (range_with_len 1) o.managers;
-  opened =
-      read (λ w. w.first) (λ s. s.first) (λ w. w.first) (λ v. refl) (λ w. refl)
-      ∙ alike (λ (w : Working). w.first) (λ (m : ManagerPlan). opening m.accounts.items) ws p.managers.items o.managers (λ k w m at planned. opens k w m (o.workers k w at) planned);
+  threads = rearranged (λ (s : DeskSeat). s.thread) seat_of_desk (λ (d : DeskView). d.thread) (λ d. refl) seat_of_ended thread_part (λ (t : ThreadPart). t.thread) (λ e. refl) p.threads ds es o.threads
+      (λ k d at. ap (λ (x : DeskView). x.thread) (o.desks k d at).made ∙ (omega arith)) desks;
+  managers = rearranged (λ (s : WorkerSeat). s.number) seat_of_worker (λ (w : Working). w.number) (λ w. refl) seat_of_done manager_part (λ (m : ManagerPart). m.number) (λ v. refl) (length p.managers.items) ws vs o.managers
+      (λ k w at. ap (λ (x : Working). x.number) (o.workers k w at).made ∙ (omega arith)) workers;
+  opened = found_with p ds ws o vs workers es;
 }
   where
-    same : {X : Type 0} (xs : List X) → map (λ x. x) xs ≡ xs
-    same [] = refl
-    same (x ∷ xs) = ap (λ r. x ∷ r) (same xs)
-
-    read : {W : Type 0} (f : ManagerPart → W) (g : WorkerSeat → W) (h : Working → W) → ((v : Served) → f (manager_part v) ≡ g (seat_of_done v)) → ((w : Working) → g (seat_of_worker w) ≡ h w)
-        → map f (map manager_part vs) ≡ map h ws
-    read f g h of_part of_seat =
-        through manager_part f seat_of_done g of_part vs
-        ∙ ap (map g) workers
-        ∙ through seat_of_worker g (λ (w : Working). w) h of_seat ws
-        ∙ ap (map h) (same ws)
-
-    opens : (k : ℕ) (w : Working) (m : ManagerPlan) → IsNewWorker p k w → slice_get p.managers.items k ≡ Some m → w.first ≡ opening m.accounts.items
-    opens k w m new planned =
-        let is : new.plan ≡ m = same_Some new.plan m (sym new.planned ∙ planned) in
-        ap (λ (x : Working). x.first) new.made ∙ ap (λ (x : ManagerPlan). opening x.accounts.items) is
+    -- the numbers of what is settled, in the order of its pieces
+    rearranged : {S X Y Z : Type 0} (of_seat : S → ℕ) (seat : X → S) (of_piece : X → ℕ) → ((x : X) → of_seat (seat x) ≡ of_piece x)
+        → (seat' : Y → S) (part : Y → Z) (of_part : Z → ℕ) → ((y : Y) → of_part (part y) ≡ of_seat (seat' y))
+        → (n : ℕ) (xs : List X) (ys : List Y) → length xs ≡ n → Each (λ k x. of_piece x ≡ 1 + k) xs → IsPermutation (map seat xs) (map seat' ys)
+        → IsPermutation (range_with_len 1 n) (map of_part (map part ys))
+    rearranged of_seat seat of_piece same seat' part of_part same' n xs ys many numbered moved =
+        let before : map of_seat (map seat xs) ≡ range_with_len 1 n = read of_seat seat of_piece same xs ∙ numbers_of of_piece 1 xs numbered ∙ ap (range_with_len 1) many in
+        let after : map of_seat (map seat' ys) ≡ map of_part (map part ys) = read of_seat seat' (λ y. of_seat (seat' y)) (λ y. refl) ys ∙ sym (read of_part part (λ y. of_seat (seat' y)) same' ys) in
+        subst (λ (l : List ℕ × List ℕ). IsPermutation l.0 l.1) (λ j. (before j, after j)) (IsPermutation-map of_seat (map seat xs) (map seat' ys) moved)

@@ -10,7 +10,7 @@ use Rattle.xa_words.specs.declared.request.Completion.{Completion}
 use Rattle.xa_lane.specs.Ends.{Sending, Receiving}
 use Rattle.xa_lane.specs.Closing.{IsWhole}
 use Rattle.xa_tables.specs.History.{of_thread, IsOpening}
-use Rattle.xa_desk.specs.DeskView.{IsKnown, account}
+use Rattle.xa_desk.specs.DeskView.{IsKnown, ledger}
 use Rattle.xa_desk.specs.Lanes.{numbered, arrived}
 use Rattle.xa_desk.specs.Ended.{EndedView, IsEnded}
 use Rattle.xa_worker.specs.Journal.{Entry, requests, completion_of}
@@ -33,7 +33,7 @@ pub record Whole (ds : List EndedView) (ws : List Served) : Type 0 where
 -- and what is known of each
 pub record Joint (ds : List EndedView) (ws : List Served) : Type 0 where
   pub all : Whole ds ws
-  pub few_managers : All (λ d. length d.accounts ≤ 8) ds
+  pub few_managers : All (λ d. length d.ledgers ≤ 8) ds
   pub few_threads : All (λ w. w.manager.threads ≤ 8) ws
   pub desks : All IsEnded ds
   pub workers : All IsServed ws
@@ -108,7 +108,7 @@ module _ (ds : List EndedView) (ws : List Served) (j : Joint ds ws) where
       let e = sends_at ds ws j.all d.0 w d.1 cw in
       let below = slice_get_within d.0.requests (w.number - 1) e.0 e.1 in
       let many = (desk_known d.0 d.1).tied.ends.number in
-      let few = all_contains (λ (d : EndedView). length d.accounts ≤ 8) ds d.0 j.few_managers d.1 in
+      let few = all_contains (λ (d : EndedView). length d.ledgers ≤ 8) ds d.0 j.few_managers d.1 in
       omega (arith, below, few, many)
 
   pub desk_place : (d : EndedView) → Contains ds d → d.thread - 1 < 8
@@ -204,7 +204,7 @@ module _ (ds : List EndedView) (ws : List Served) (j : Joint ds ws) where
   completion_whole : (d : EndedView) → Contains ds d → IsWhole d.completions.senders (column (completion_columns ws) (d.thread - 1))
   completion_whole d cd p below =
       let senders = (desk_known d cd).tied.ends.senders in
-      let there : has_worker (p + 1) ws ≡ true = all_contains (λ (d : EndedView). HasWorkers (length d.accounts) ws) ds d j.all.whole.workers cd (p + 1) (omega arith) (omega (arith, senders, below)) in
+      let there : has_worker (p + 1) ws ≡ true = all_contains (λ (d : EndedView). HasWorkers (length d.ledgers) ws) ds d j.all.whole.workers cd (p + 1) (omega arith) (omega (arith, senders, below)) in
       let found = Any-from_list_any (λ (w : Served). w.number == p + 1) ws there in
       let cw : Contains ws found.1 = (found.0, found.2, found.3) in
       let own = answers_at ds ws j.all d found.1 cd cw in
@@ -225,7 +225,7 @@ module _ (ds : List EndedView) (ws : List Served) (j : Joint ds ws) where
 
   -- ---- a desk and a worker whose lanes were closed
 
-  pub known_at : (d : EndedView) (w : Served) → Contains ds d → Contains ws w → IsKnown d.accounts w.number
+  pub known_at : (d : EndedView) (w : Served) → Contains ds d → Contains ws w → IsKnown d.ledgers w.number
   known_at d w cd cw =
       let own = sends_at ds ws j.all d w cd cw in
       let below = slice_get_within d.requests (w.number - 1) own.0 own.1 in
@@ -235,7 +235,7 @@ module _ (ds : List EndedView) (ws : List Served) (j : Joint ds ws) where
 
   module _ (d : EndedView) (w : Served) (cd : Contains ds d) (cw : Contains ws w) where
     -- the journal has of the thread what it sent
-    carried : IsClosed w.receiver (column (request_columns ds) (w.number - 1)) → of_thread d.thread (requests w.journal) ≡ numbered d.thread 0 (account d.accounts w.number).sent
+    carried : IsClosed w.receiver (column (request_columns ds) (w.number - 1)) → of_thread d.thread (requests w.journal) ≡ numbered d.thread 0 (ledger d.ledgers w.number).sent
     carried hs =
         let own = sends_at ds ws j.all d w cd cw in
         let e = own.0 in
@@ -259,15 +259,15 @@ module _ (ds : List EndedView) (ws : List Served) (j : Joint ds ws) where
         let q =
         drawn_law d.completions (column (completion_columns ws) (d.thread - 1)) ha (completion_answers d cd) w.number own.0 (entries_of d.thread w.journal) (completion_in d w cd cw own.0 own.1) own.3 (answered d w cd cw own.0 own.1) c refl
         (in_part c d.drained (arrived d.completions.taken) (desk_known d cd).tied.drained_ drawn) in
-        let here = placed d.thread w.journal (account d.accounts w.number).sent q.0 (carried hs) q.1 in
+        let here = placed d.thread w.journal (ledger d.ledgers w.number).sent q.0 (carried hs) q.1 in
         subst (λ (v : ℕ × Code). slice_get (answers d.thread w.journal) v.0 ≡ Some v) (λ i. (ap (λ (v : Completion). v.number) q.2 i, ap (λ (v : Completion). v.code) q.2 i)) here
 
     pub pair_agrees : IsClosed w.receiver (column (request_columns ds) (w.number - 1)) → IsClosed d.completions (column (completion_columns ws) (d.thread - 1))
-        → Agree d.thread (account d.accounts w.number).sent (account d.accounts w.number).collected w.journal
+        → Agree d.thread (ledger d.ledgers w.number).sent (ledger d.ledgers w.number).collected w.journal
     pair_agrees hs ha =
         let k = known_at d w cd cw in
         let settled = (desk_known d cd).settled w.number k in
-        let A = account d.accounts w.number in
+        let A = ledger d.ledgers w.number in
         record {
           carried = carried hs;
           each = λ n. (settled.all n, settled.below n);

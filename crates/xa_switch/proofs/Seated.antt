@@ -16,7 +16,7 @@ use Rattle.xa_tables.specs.History.{IsOpening}
 use Rattle.xa_lane.specs.Ends.{Sending, Receiving}
 use Rattle.xa_lane.specs.Senders.{at_place, with_item, with_full, but_full}
 use Rattle.xa_desk.specs.declared.operation.Operation.{Operation}
-use Rattle.xa_desk.specs.DeskView.{DeskView, account}
+use Rattle.xa_desk.specs.DeskView.{DeskView, ledger}
 use Rattle.xa_desk.specs.Ended.{EndedView, Ends}
 use Rattle.xa_desk.specs.Lanes.{submitted, after_full, after_fulls}
 use Rattle.xa_desk.specs.Looks.{Looks, EndsQuiet, Collects, TakesKept}
@@ -30,7 +30,7 @@ use Rattle.xa_switch.specs.Putting.{Puts, refused, full, kept, answered, Calls}
 use Rattle.xa_switch.specs.Completing.{number_in, may_complete, CompletesOne, CompletesAny, CompletesAt, CompletesBy, HasCompleted}
 use Rattle.xa_switch.specs.Completing.CompletesOne.{unknown, retry as retry_one, ready, waited}
 use Rattle.xa_switch.specs.Completing.CompletesAny.{nothing, retry as retry_any, least}
-use Rattle.xa_switch.specs.Openings.{IsNewDesk, IsNewWorker, AreTogether as ShareFrom, AreOfOneOpening}
+use Rattle.xa_switch.specs.Openings.{IsNewDesk, IsNewWorker, ShareNewLanes, AreOfOneOpening}
 use Rattle.xa_switch.specs.Seats.{DeskSeat, WorkerSeat, openings_of, end_seat, desk_seat, seat_of_desk, seat_of_ended, seat_of_worker, seat_of_done, ShareLanes, AreTogether, AreApartDesks, AreApartWorkers, ComeFromOpenings}
 use Rattle.xa_switch.proofs.Lists.{all_map, all_contains, pairs_map, get_contained}
 
@@ -41,7 +41,7 @@ module _ (p : Plan) (ds : List DeskView) (ws : List Working) (h : AreOfOneOpenin
   share t m d w at_d at_w =
       let D : IsNewDesk p t d = h.desks t d at_d in
       let W : IsNewWorker p m w = h.workers m w at_w in
-      let T : ShareFrom t m d w = h.together t m d w at_d at_w in
+      let T : ShareNewLanes t m d w = h.together t m d w at_d at_w in
       let thread : d.thread ≡ t + 1 = ap (λ (d : DeskView). d.thread) D.made in
       let number : w.number ≡ m + 1 = ap (λ (w : Working). w.number) W.made in
       let m_is : w.number - 1 ≡ m = omega (arith, number) in

@@ -1,5 +1,5 @@
 -- How the lanes of an opening are closed.
-use Rattle.std.specs.Prelude.{◌≡◌, ℕ, ◌-◌, ◌≤◌, List, [], ◌∷◌, map, replicate, slice_index_or, vec_capacity}
+use Rattle.std.specs.Prelude.{◌≡◌, ℕ, ◌-◌, ◌<◌, ◌≤◌, List, [], ◌∷◌, ◌++◌, length, map, replicate, slice_index_or, vec_capacity}
 use Rattle.std.specs.List.{All}
 use Rattle.xa_words.specs.declared.request.Completion.{Completion}
 use Rattle.xa_lane.specs.Ends.{Sending, Receiving}
@@ -44,7 +44,7 @@ worker_lane w = (w.number - 1, w.receiver)
 
 -- what becomes part of a settled opening
 abbrev pub thread_part : EndedView → ThreadPart
-thread_part d = record { thread = d.thread; accounts = d.accounts }
+thread_part d = record { thread = d.thread; ledgers = d.ledgers }
 
 -- what a worker took from its lane, in order
 abbrev pub taken_by : Served → History
@@ -56,11 +56,31 @@ manager_part w = record { number = w.number; first = w.first; taken = taken_by w
 abbrev pub settling : List EndedView → List Served → Settling
 settling ds ws = record { threads = map thread_part ds; managers = map manager_part ws }
 
--- eight empty columns and two empty lists, with room for n of each
-pub record IsRoomFor {E R P : Type 0} (n : ℕ) (r : Room E R P) : Type 0 where
-  pub columns : map (λ c. c.items) r.columns.items ≡ replicate 8 []
+-- pieces with these rows of ends, lanes and parts were taken in, of the n that there is room for: the rows were dealt into
+-- eight columns
+pub record HasTaken {E R P : Type 0} (n : ℕ) (rows : List (List E)) (ls : List (ℕ × R)) (ps : List P) (r : Room E R P) : Type 0 where
+  pub columns : map (λ c. c.items) r.columns.items ≡ dealt (replicate 8 []) rows
   pub deep : All (λ c. n ≤ vec_capacity c) r.columns.items
-  pub lanes : r.lanes.items ≡ []
+  pub lanes : r.lanes.items ≡ ls
   pub lanes_room : n ≤ vec_capacity r.lanes
-  pub parts : r.parts.items ≡ []
+  pub parts : r.parts.items ≡ ps
   pub parts_room : n ≤ vec_capacity r.parts
+
+-- none was taken in yet
+abbrev pub IsRoomFor : {E R P : Type 0} → ℕ → Room E R P → Type 0
+IsRoomFor {E} {R} {P} n r = HasTaken n [] [] [] r
+
+-- there is room for one piece more
+pub record HasRoom {E R P : Type 0} (r : Room E R P) : Type 0 where
+  pub columns : All (λ c. length c.items < vec_capacity c) r.columns.items
+  pub lanes : length r.lanes.items < vec_capacity r.lanes
+  pub parts : length r.parts.items < vec_capacity r.parts
+
+-- one piece more was taken in: its row of ends was dealt, and its lane and its part come last
+pub record TakesIn {E R P : Type 0} (row : List E) (lane : ℕ × R) (part : P) (old new : Room E R P) : Type 0 where
+  pub columns : map (λ c. c.items) new.columns.items ≡ put_row (map (λ c. c.items) old.columns.items) row
+  pub depth : map (λ c. vec_capacity c) new.columns.items ≡ map (λ c. vec_capacity c) old.columns.items
+  pub lanes : new.lanes.items ≡ old.lanes.items ++ lane ∷ []
+  pub lanes_room : vec_capacity new.lanes ≡ vec_capacity old.lanes
+  pub parts : new.parts.items ≡ old.parts.items ++ part ∷ []
+  pub parts_room : vec_capacity new.parts ≡ vec_capacity old.parts

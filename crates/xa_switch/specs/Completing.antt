@@ -56,7 +56,7 @@ pub data CompletesAny (old : DeskView) (m : ℕ) (nowait : Bool) (new : DeskView
 
 -- m is the number of a manager; with TMMULTIPLE it may be 0, for any manager.
 abbrev pub may_complete : DeskView → ℕ → Bool → Bool
-may_complete d m multiple = is_known d.accounts m || (multiple && (m == 0))
+may_complete d m multiple = is_known d.ledgers m || (multiple && (m == 0))
 
 -- What comes of an xa_complete at m, where it may be called there, with TMMULTIPLE or not, with TMNOWAIT or not.
 abbrev pub CompletesAt : Bool → Bool → Bool → DeskView → Option ℕ → ℕ → DeskView → Result (ℕ × Code) Code → Type 0
@@ -85,6 +85,6 @@ pub record HasCompleted (old : DeskView) (handle retval : ℤ) (m flags : ℕ) (
   pub tells : Tells collected handle retval handle' retval' answer
 
 -- Without TMNOWAIT it may wait.
-abbrev pub waits : Result Mode Code → Bool
-waits (Ok mode) = not mode.nowait
-waits (Err c) = false
+abbrev pub completion_waits : Result Mode Code → Bool
+completion_waits (Ok mode) = not mode.nowait
+completion_waits (Err c) = false

@@ -3,13 +3,13 @@ use Rattle.std.specs.Prelude.{◌≡◌, ℕ, Option, None, Some, List}
 use Rattle.xa_words.specs.Xid.{XidName}
 use Rattle.xa_tables.specs.Tables.{Tables}
 use Rattle.xa_tables.specs.History.{History, Fate, Absent, fate, coded, IsOpening}
-use Rattle.xa_desk.specs.AccountView.{AccountView}
+use Rattle.xa_desk.specs.LedgerView.{LedgerView}
 use Rattle.xa_worker.specs.Journal.{requests}
-use Rattle.xa_switch.specs.Settling.{ManagerPart, Settling, accounts_in, find_thread, find_manager, journal}
+use Rattle.xa_switch.specs.Settling.{ManagerPart, Settling, ledgers_in, find_thread, find_manager, journal}
 
 -- what the settled opening has of thread t
-abbrev pub accounts_of : Settling → ℕ → List AccountView
-accounts_of s t = accounts_in (find_thread t s.threads)
+abbrev pub ledgers_of : Settling → ℕ → List LedgerView
+ledgers_of s t = ledgers_in (find_thread t s.threads)
 
 -- what manager m took, in order
 abbrev pub history : Settling → ℕ → History

@@ -72,7 +72,7 @@ pub record IsNewWorker (p : Plan) (m : ℕ) (w : Working) : Type 0 where
   pub completions : Each (IsCompletionSender p.opening (completion_room p) m) w.out.senders
 
 -- thread t + 1 sends to manager m + 1 on the lane that the manager's worker receives from, and the worker sends on the lane that the thread's desk receives from
-pub record AreTogether (t m : ℕ) (d : DeskView) (w : Working) : Type 0 where
+pub record ShareNewLanes (t m : ℕ) (d : DeskView) (w : Working) : Type 0 where
   pub asking : Sending Request
   pub asks : slice_get d.requests m ≡ Some asking
   pub asked : asking.line ≡ w.receiver.line
@@ -86,4 +86,4 @@ pub record AreOfOneOpening (p : Plan) (ds : List DeskView) (ws : List Working) :
   pub managers : length ws ≡ length p.managers.items
   pub desks : Each (IsNewDesk p) ds
   pub workers : Each (IsNewWorker p) ws
-  pub together : (t m : ℕ) (d : DeskView) (w : Working) → slice_get ds t ≡ Some d → slice_get ws m ≡ Some w → AreTogether t m d w
+  pub together : (t m : ℕ) (d : DeskView) (w : Working) → slice_get ds t ≡ Some d → slice_get ws m ≡ Some w → ShareNewLanes t m d w

@@ -7,7 +7,7 @@ use Rattle.xa_words.specs.declared.code.Code.{Code}
 use Rattle.xa_words.specs.declared.code.Code.TheVariants.{Async, Inval, RmErr, RmFail}
 use Rattle.xa_desk.specs.declared.refused.Refused.{Refused}
 use Rattle.xa_desk.specs.declared.refused.Refused.TheVariants.{NoSuchManager, Shut, TooMany, Spent, Full}
-use Rattle.xa_desk.specs.DeskView.{DeskView, account, next_operation, IsLeastFree, reach_refusal, submit_refusal, call_refusal}
+use Rattle.xa_desk.specs.DeskView.{DeskView, ledger, next_operation, IsLeastFree, reach_refusal, submit_refusal, call_refusal}
 use Rattle.xa_desk.specs.Lanes.{submitted, after_full, after_fulls}
 use Rattle.xa_desk.specs.Looks.{Collects}
 use Rattle.xa_switch.specs.declared.asked.Asked.{Asked}
@@ -22,7 +22,7 @@ code_of Full = Async
 
 -- why nothing asynchronous may be put to manager m: it takes no such call
 abbrev pub async_refusal : DeskView → ℕ → Option Code
-async_refusal d m = if (account d.accounts m).carries_async then None else Some Async
+async_refusal d m = if (ledger d.ledgers m).carries_async then None else Some Async
 
 -- Why nothing may be put to manager m, a full queue aside: the desk's refusal, as a code. An asynchronous call asks whether
 -- the manager takes any before handles and planned requests are looked at.
@@ -34,8 +34,8 @@ put_refusal d m true = option_or (option_map code_of (reach_refusal d m)) (optio
 pub data Puts (old : DeskView) (m : ℕ) (asked : Asked) (new : DeskView) (answer : ℤ) : Type 0 where
   refused : (c : Code) → put_refusal old m asked.asynchronous ≡ Some c → answer ≡ number_of c → new ≡ old → Puts old m asked new answer
   full : put_refusal old m asked.asynchronous ≡ None → asked.asynchronous ≡ true → answer ≡ number_of Async → new ≡ after_full old m → Puts old m asked new answer
-  kept : put_refusal old m asked.asynchronous ≡ None → asked.asynchronous ≡ true → (k : ℕ) → answer ≡ pos k → IsLeastFree old.kept k → new ≡ record (submitted old m asked.op) { kept = map.insert old.kept k (next_operation old.accounts m) } → Puts old m asked new answer
-  answered : put_refusal old m asked.asynchronous ≡ None → asked.asynchronous ≡ false → (n : ℕ) (c : Code) → answer ≡ number_of c → Collects (submitted (after_fulls n old m) m asked.op) new (next_operation old.accounts m) c → Puts old m asked new answer
+  kept : put_refusal old m asked.asynchronous ≡ None → asked.asynchronous ≡ true → (k : ℕ) → answer ≡ pos k → IsLeastFree old.kept k → new ≡ record (submitted old m asked.op) { kept = map.insert old.kept k (next_operation old.ledgers m) } → Puts old m asked new answer
+  answered : put_refusal old m asked.asynchronous ≡ None → asked.asynchronous ≡ false → (n : ℕ) (c : Code) → answer ≡ number_of c → Collects (submitted (after_fulls n old m) m asked.op) new (next_operation old.ledgers m) c → Puts old m asked new answer
 
 -- A call that asks for nothing is refused, and the desk stays.
 abbrev pub Calls : Result Asked Code → DeskView → ℕ → DeskView → ℤ → Type 0
@@ -43,6 +43,6 @@ Calls (Ok asked) old m new answer = Puts old m asked new answer
 Calls (Err c) old m new answer = (answer ≡ number_of c) × (new ≡ old)
 
 -- Only a synchronous call that isn't refused may wait.
-abbrev pub waits : DeskView → ℕ → Result Asked Code → Bool
-waits d m (Ok asked) = not asked.asynchronous && not (is_some (put_refusal d m asked.asynchronous))
-waits d m (Err c) = false
+abbrev pub call_waits : DeskView → ℕ → Result Asked Code → Bool
+call_waits d m (Ok asked) = not asked.asynchronous && not (is_some (put_refusal d m asked.asynchronous))
+call_waits d m (Err c) = false

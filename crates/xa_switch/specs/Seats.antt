@@ -102,7 +102,7 @@ HasWorkers n ws = (m : ℕ) → 1 ≤ m → m ≤ n → has_worker m ws ≡ true
 pub record AreAll (ds : List EndedView) (ws : List Served) : Type 0 where
   pub some_desk : 0 < length ds
   pub some_worker : 0 < length ws
-  pub workers : All (λ d. HasWorkers (length d.accounts) ws) ds
+  pub workers : All (λ d. HasWorkers (length d.ledgers) ws) ds
   pub desks : All (λ w. HasDesks w.manager.threads ds) ws
 
 -- why pieces are not settled: a piece of another opening comes before one that isn't there

@@ -5,17 +5,17 @@ use Rattle.xa_words.specs.declared.code.Code.{Code}
 use Rattle.xa_words.specs.declared.request.Op.{Op}
 use Rattle.xa_tables.specs.Tables.{Tables}
 use Rattle.xa_tables.specs.History.{History, of_thread, codes, tables_after, accepted, first_shut, late, carried_out, value_after, IsOpening}
-use Rattle.xa_desk.specs.AccountView.{AccountView}
+use Rattle.xa_desk.specs.LedgerView.{LedgerView}
 use Rattle.xa_desk.specs.DeskView.{sent_to, collected_from}
 use Rattle.xa_desk.specs.Lanes.{numbered}
 use Rattle.xa_worker.specs.Journal.{Entry, requests, codes_in}
 
 -- ---- what a settled opening has
 
--- of a thread: its number, and its account with each manager
+-- of a thread: its number, and its ledger with each manager
 pub record ThreadPart : Type 0 where
   pub thread : ℕ
-  pub accounts : List AccountView
+  pub ledgers : List LedgerView
 
 -- of a manager: its number, the tables that it was opened with, what it took, in order, its journal, and its tables at the
 -- end
@@ -38,10 +38,10 @@ find_thread t parts = find (λ p. p.thread == t) parts
 abbrev pub find_manager : ℕ → List ManagerPart → Option ManagerPart
 find_manager m parts = find (λ p. p.number == m) parts
 
--- the accounts and the journal of a part, nothing where there is none
-abbrev pub accounts_in : Option ThreadPart → List AccountView
-accounts_in None = []
-accounts_in (Some p) = p.accounts
+-- the ledgers and the journal of a part, nothing where there is none
+abbrev pub ledgers_in : Option ThreadPart → List LedgerView
+ledgers_in None = []
+ledgers_in (Some p) = p.ledgers
 
 abbrev pub journal_in : Option ManagerPart → List Entry
 journal_in None = []
@@ -49,11 +49,11 @@ journal_in (Some p) = p.journal
 
 -- what thread t sent to manager m, in order; nothing where one of them isn't there
 abbrev pub sent : Settling → ℕ → ℕ → List Op
-sent s t m = sent_to (accounts_in (find_thread t s.threads)) m
+sent s t m = sent_to (ledgers_in (find_thread t s.threads)) m
 
 -- what thread t collected from manager m, in the order of collection: numbers with their codes
 abbrev pub collected : Settling → ℕ → ℕ → List (ℕ × Code)
-collected s t m = collected_from (accounts_in (find_thread t s.threads)) m
+collected s t m = collected_from (ledgers_in (find_thread t s.threads)) m
 
 -- what manager m took, in order, each request with its code
 abbrev pub journal : Settling → ℕ → List Entry

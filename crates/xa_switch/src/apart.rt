@@ -1,10 +1,10 @@
 //! How desks and workers are taken apart, as their opening is settled.
-ghost use Rattle.std.specs.Prelude.{◌≡◌, ◌≤◌, [], length, map, replicate, IfOk};
+ghost use Rattle.std.specs.Prelude.{◌≤◌, length, map, IfOk};
 ghost use Rattle.std.specs.List.{All};
 ghost use Rattle.xa_desk.specs.Ended.{IsEnded};
 ghost use Rattle.xa_tables.specs.History.{IsOpening};
 ghost use Rattle.xa_worker.specs.Done.{IsServed, IsOrdered};
-ghost use Rattle.xa_switch.specs.Closing.{dealt, desk_lane, worker_lane, thread_part, manager_part, IsRoomFor};
+ghost use Rattle.xa_switch.specs.Closing.{desk_lane, worker_lane, thread_part, manager_part, IsRoomFor, HasRoom, HasTaken, TakesIn};
 
 use crate::columns::{deal, reserve_columns};
 use crate::settled::{Carried, Thread};
@@ -13,7 +13,7 @@ use std::snapshot::Snapshot;
 use xa_desk::{DeskEnds, EndedDesk};
 use xa_lane::{Ended, Receiver};
 use xa_words::{Completion, Request};
-use xa_worker::{Apart, DoneWorker};
+use xa_worker::{DoneWorker, WorkerEnds};
 
 // A thread has at most so many managers, and a manager so many threads.
 const MOST: usize = 8;
@@ -48,76 +48,75 @@ pub(crate) fn reserve_room<E: Drop, R: Drop, P: Drop>(
     })
 }
 
+impl<E: Drop, R: Drop, P: Drop> Room<E, R, P> {
+    // Takes in one piece more: its ends of lanes, its own lane with the lane's place, and its part.
+    fn take_in(self, ends: Vec<E>, lane: (usize, R), part: P) -> Room<E, R, P>
+        requires row { length ends.items ≤ length self.columns.items }
+        requires room { HasRoom self }
+        ensures { TakesIn ends.items lane part self result }
+    {
+        let Room {
+            columns,
+            mut lanes,
+            mut parts,
+        } = self;
+        lanes.push_reserved(lane);
+        parts.push_reserved(part);
+        Room {
+            columns: deal(columns, ends),
+            lanes,
+            parts,
+        }
+    }
+}
+
 /// Takes the desks apart. It takes no memory.
-pub(crate) fn take_desks(desks: Vec<EndedDesk>, room: DeskRoom) -> DeskRoom
+pub(crate) fn take_desks(desks: Vec<EndedDesk>, mut room: DeskRoom) -> DeskRoom
     requires room { IsRoomFor (length desks.items) room }
-    requires few { All (λ d. length d.accounts ≤ 8) desks.items }
-    ensures columns { map (λ c. c.items) result.columns.items ≡ dealt (replicate 8 []) (map (λ d. d.requests) desks.items) }
-    ensures lanes { result.lanes.items ≡ map desk_lane desks.items }
-    ensures parts { result.parts.items ≡ map thread_part desks.items }
+    requires few { All (λ d. length d.ledgers ≤ 8) desks.items }
+    ensures taken { HasTaken (length desks.items) (map (λ d. d.requests) desks.items) (map desk_lane desks.items) (map thread_part desks.items) result }
     ensures known { All IsEnded desks.items }
 {
-    let Room {
-        mut columns,
-        mut lanes,
-        mut parts,
-    } = room;
     for desk in desks {
         let number = desk.number();
         let DeskEnds {
             requests,
             completions,
-            accounts,
+            ledgers,
         } = desk.apart();
-        columns = deal(columns, requests);
-        lanes.push_reserved((number as usize - 1, completions));
-        parts.push_reserved(Thread { number, accounts });
+        let lane = (number as usize - 1, completions);
+        room = room.take_in(requests, lane, Thread { number, ledgers });
     }
-    Room {
-        columns,
-        lanes,
-        parts,
-    }
+    room
 }
 
 /// Takes the workers apart. It takes no memory.
-pub(crate) fn take_workers(workers: Vec<DoneWorker>, room: WorkerRoom) -> WorkerRoom
+pub(crate) fn take_workers(workers: Vec<DoneWorker>, mut room: WorkerRoom) -> WorkerRoom
     requires room { IsRoomFor (length workers.items) room }
     requires few { All (λ w. w.manager.threads ≤ 8) workers.items }
     requires numbered { All (λ w. 1 ≤ w.number) workers.items }
     requires opened { All (λ w. IsOpening w.first) workers.items }
-    ensures columns { map (λ c. c.items) result.columns.items ≡ dealt (replicate 8 []) (map (λ w. w.ends) workers.items) }
-    ensures lanes { result.lanes.items ≡ map worker_lane workers.items }
-    ensures parts { result.parts.items ≡ map manager_part workers.items }
+    ensures taken { HasTaken (length workers.items) (map (λ w. w.ends) workers.items) (map worker_lane workers.items) (map manager_part workers.items) result }
     ensures known { All IsServed workers.items }
     ensures ordered { All IsOrdered workers.items }
 {
-    let Room {
-        mut columns,
-        mut lanes,
-        mut parts,
-    } = room;
     for worker in workers {
         let number = worker.number();
         let done = Snapshot::of(&worker);
-        let Apart {
+        let WorkerEnds {
             manager,
             receiver,
             ends,
             journal,
         } = worker.apart();
-        columns = deal(columns, ends);
-        lanes.push_reserved((number as usize - 1, receiver));
-        parts.push_reserved(Carried {
+        let lane = (number as usize - 1, receiver);
+        let part = Carried {
             number,
             done,
             manager,
             journal,
-        });
+        };
+        room = room.take_in(ends, lane, part);
     }
-    Room {
-        columns,
-        lanes,
-        parts,
-    }
+    room
 }

@@ -6,7 +6,7 @@ ghost use Rattle.xa_desk.specs.GoesOn.{GoesOn};
 ghost use Rattle.xa_desk.specs.Lanes.{submitted, after_full};
 ghost use Rattle.xa_desk.specs.Tickets.{LeavesTickets};
 ghost use Rattle.xa_switch.specs.Asking.{asked_of, native};
-ghost use Rattle.xa_switch.specs.Putting.{code_of, put_refusal, Puts, Calls, waits};
+ghost use Rattle.xa_switch.specs.Putting.{code_of, put_refusal, Puts, Calls, call_waits};
 
 use crate::asked::{Asked, RmOp, asked_of, native_of};
 use std::sync::Wait;
@@ -31,7 +31,7 @@ fn put_later<R: Wait>(rt: &R, desk: &mut Desk, manager: u32, op: Op) -> Result<u
     ensures refused { (c : _) → put_refusal desk.old manager true ≡ Some c → (result ≡ Err c) × (desk.new ≡ desk.old) }
     ensures full { put_refusal desk.old manager true ≡ None → IfErr result (λ c. (c ≡ Code.Async) × (desk.new ≡ after_full desk.old manager)) }
     ensures put { IfOk result (λ k. put_refusal desk.old manager true ≡ None) }
-    ensures kept { IfOk result (λ k. IsLeastFree desk.old.kept k × (desk.new ≡ record (submitted desk.old manager op) { kept = map.insert desk.old.kept k (next_operation desk.old.accounts manager) })) }
+    ensures kept { IfOk result (λ k. IsLeastFree desk.old.kept k × (desk.new ≡ record (submitted desk.old manager op) { kept = map.insert desk.old.kept k (next_operation desk.old.ledgers manager) })) }
     ensures handle { IfOk result (λ k. IsHandle k) }
     ensures goes_on { GoesOn desk.old desk.new }
     ensures tickets { LeavesTickets desk.old desk.new }
@@ -55,7 +55,7 @@ fn put<R: Wait, I: Idle>(rt: &R, desk: &mut Desk, manager: u32, asked: Asked, id
     ensures goes_on { GoesOn desk.old desk.new }
     ensures tickets { LeavesTickets desk.old desk.new }
     ensures idled { I.leads idle.old idle.new }
-    ensures prompt { waits desk.old manager (Ok asked) ≡ false → idle.new ≡ idle.old }
+    ensures prompt { call_waits desk.old manager (Ok asked) ≡ false → idle.new ≡ idle.old }
 {
     desks_go_on();
     if asked.asynchronous {
@@ -82,7 +82,7 @@ fn put_asked<R: Wait, I: Idle>(
     ensures goes_on { GoesOn desk.old desk.new }
     ensures tickets { LeavesTickets desk.old desk.new }
     ensures idled { I.leads idle.old idle.new }
-    ensures prompt { waits desk.old manager asked ≡ false → idle.new ≡ idle.old }
+    ensures prompt { call_waits desk.old manager asked ≡ false → idle.new ≡ idle.old }
 {
     desks_go_on();
     match asked {
@@ -112,7 +112,7 @@ pub fn xa_call<R: Wait, I: Idle>(
     ensures goes_on { GoesOn desk.old desk.new }
     ensures tickets { LeavesTickets desk.old desk.new }
     ensures idled { I.leads idle.old idle.new }
-    ensures prompt { waits desk.old manager (asked_of call xid flags) ≡ false → idle.new ≡ idle.old }
+    ensures prompt { call_waits desk.old manager (asked_of call xid flags) ≡ false → idle.new ≡ idle.old }
 {
     put_asked(rt, desk, manager, asked_of(call, xid, flags), idle)
 }
@@ -130,7 +130,7 @@ pub fn native<R: Wait, I: Idle>(
     ensures goes_on { GoesOn desk.old desk.new }
     ensures tickets { LeavesTickets desk.old desk.new }
     ensures idled { I.leads idle.old idle.new }
-    ensures prompt { waits desk.old manager (native op flags) ≡ false → idle.new ≡ idle.old }
+    ensures prompt { call_waits desk.old manager (native op flags) ≡ false → idle.new ≡ idle.old }
 {
     put_asked(rt, desk, manager, native_of(op, flags), idle)
 }

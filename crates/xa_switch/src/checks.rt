@@ -71,8 +71,8 @@ fn has_workers(count: u32, workers: &[DoneWorker]) -> bool
 }
 
 fn each_has_workers(desks: &[EndedDesk], workers: &[DoneWorker]) -> bool
-    ensures there { IsTrue result ↔ All (λ d. HasWorkers (length d.accounts) workers.now) desks.now }
-    ensures few { IsTrue result → All (λ d. length d.accounts ≤ 8) desks.now }
+    ensures there { IsTrue result ↔ All (λ d. HasWorkers (length d.ledgers) workers.now) desks.now }
+    ensures few { IsTrue result → All (λ d. length d.ledgers ≤ 8) desks.now }
 {
     for desk in desks {
         if !has_workers(desk.peers(), workers) {
@@ -97,7 +97,7 @@ fn each_has_desks(desks: &[EndedDesk], workers: &[DoneWorker]) -> bool
 /// Whether every desk and every worker of the opening is there.
 pub(crate) fn are_all(desks: &[EndedDesk], workers: &[DoneWorker]) -> bool
     ensures all { IsTrue result ↔ AreAll desks.now workers.now }
-    ensures few_managers { IsTrue result → All (λ d. length d.accounts ≤ 8) desks.now }
+    ensures few_managers { IsTrue result → All (λ d. length d.ledgers ≤ 8) desks.now }
     ensures few_threads { IsTrue result → All (λ w. w.manager.threads ≤ 8) workers.now }
 {
     !desks.is_empty()

@@ -4,7 +4,7 @@ ghost use Rattle.xa_words.specs.Flags.{check_flags};
 ghost use Rattle.xa_desk.specs.DeskView.{IsHandle};
 ghost use Rattle.xa_desk.specs.GoesOn.{GoesOn};
 ghost use Rattle.xa_desk.specs.Tickets.{LeavesTickets};
-ghost use Rattle.xa_switch.specs.Completing.{number_in, keeps_for, CompletesOne, CompletesAny, may_complete, CompletesIn, CompletesBy, Tells, HasCompleted, waits};
+ghost use Rattle.xa_switch.specs.Completing.{number_in, keeps_for, CompletesOne, CompletesAny, may_complete, CompletesIn, CompletesBy, Tells, HasCompleted, completion_waits};
 
 use std::sync::Wait;
 use xa_desk::laws::desks_go_on;
@@ -145,7 +145,7 @@ fn complete_by<R: Wait, I: Idle>(
     ensures handle { IfOk result (λ r. IsHandle r.0) }
     ensures idled { I.leads idle.old idle.new }
     ensures refused { IsErr result → idle.new ≡ idle.old }
-    ensures prompt { waits mode ≡ false → idle.new ≡ idle.old }
+    ensures prompt { completion_waits mode ≡ false → idle.new ≡ idle.old }
 {
     desks_go_on();
     match mode {
@@ -192,7 +192,7 @@ pub fn xa_complete<R: Wait, I: Idle>(
     ensures tickets { LeavesTickets desk.old desk.new }
     ensures idled { I.leads idle.old idle.new }
     ensures refused { result ≢ pos 0 → idle.new ≡ idle.old }
-    ensures prompt { waits (check_flags Call.Complete flags) ≡ false → idle.new ≡ idle.old }
+    ensures prompt { completion_waits (check_flags Call.Complete flags) ≡ false → idle.new ≡ idle.old }
 {
     let (number, mode) = (number_in(*handle), check_flags(Call::Complete, flags));
     let collected = complete_by(rt, desk, number, manager, mode, idle);

@@ -6,6 +6,7 @@
 //! those of the opening.
 ghost use Rattle.std.specs.Prelude.{◌≡◌, ◌≢◌, ℕ, ℤ, List, ◌++◌, map, Result};
 ghost use Rattle.std.specs.List.{All};
+ghost use Rattle.std.specs.List.Sorted.{IsPermutation};
 ghost use Rattle.xa_words.specs.declared.code.Code.{Code};
 ghost use Rattle.xa_tables.specs.Tables.{Tables};
 ghost use Rattle.xa_desk.specs.DeskView.{DeskView};
@@ -55,10 +56,10 @@ pub fn mixed_pieces_come_from_their_openings()
     ensures { (ds others : List DeskSeat) (ws other_ws : List WorkerSeat) → All (λ a. All (λ b. a ≢ b) (openings_of others other_ws)) (openings_of ds ws) → ComeFromOpenings ds ws → ComeFromOpenings others other_ws → ComeFromOpenings (ds ++ others) (ws ++ other_ws) }
 {}
 
-/// What is settled by rising number is of the plan that it was opened by: its threads and its managers are
-/// those of the plan, and each manager was opened with the plan's accounts.
+/// What is settled of all pieces of an opening, in any order, is of the plan that it was opened by: its
+/// threads and its managers are those of the plan, and each manager was opened with the plan's accounts.
 pub fn settled_openings_are_of_their_plan()
-    ensures { (p : Plan) (ds : List DeskView) (ws : List Working) (es : List EndedView) (vs : List Served) → AreOfOneOpening p ds ws → desk_seats es ≡ map seat_of_desk ds → worker_seats vs ≡ map seat_of_worker ws → IsOfPlan p (settling es vs) }
+    ensures { (p : Plan) (ds : List DeskView) (ws : List Working) (es : List EndedView) (vs : List Served) → AreOfOneOpening p ds ws → IsPermutation (map seat_of_desk ds) (desk_seats es) → IsPermutation (map seat_of_worker ws) (worker_seats vs) → IsOfPlan p (settling es vs) }
 {}
 
 /// In a settled opening each journal is what the tables that its manager was opened with make of the

@@ -3,11 +3,11 @@ ghost use Rattle.std.specs.Prelude.{◌≡◌, ◌≤◌, option_map, pos, IfSom
 ghost use Rattle.xa_tables.specs.History.{value_after};
 ghost use Rattle.xa_desk.specs.DeskView.{sent_to, collected_from};
 ghost use Rattle.xa_worker.specs.Journal.{requests};
-ghost use Rattle.xa_switch.specs.Settling.{IsSettled, accounts_in, find_thread, find_manager, sent, collected, journal, value};
+ghost use Rattle.xa_switch.specs.Settling.{IsSettled, ledgers_in, find_thread, find_manager, sent, collected, journal, value};
 
 use std::marker::Model;
 use std::snapshot::Snapshot;
-use xa_desk::Account;
+use xa_desk::Ledger;
 use xa_tables::Manager;
 use xa_tables::laws::value_is_sum;
 use xa_words::{Code, Key, Op, Request};
@@ -17,7 +17,7 @@ use xa_worker::DoneWorker;
 #[derive(Drop)]
 pub(crate) struct Thread {
     pub(crate) number: u32,
-    pub(crate) accounts: Vec<Account>,
+    pub(crate) ledgers: Vec<Ledger>,
 }
 
 impl Model for Thread {
@@ -25,7 +25,7 @@ impl Model for Thread {
 
     ghost Value = { ThreadPart };
 
-    ghost view = { λ t. record { thread = t.number; accounts = t.accounts.items } };
+    ghost view = { λ t. record { thread = t.number; ledgers = t.ledgers.items } };
 }
 
 impl Thread {
@@ -103,7 +103,7 @@ impl Model for Settled {
     ghost invariant = { λ s. IsSettled (record { threads = s.threads.items; managers = s.managers.items }) };
 }
 
-fn find_account(threads: &[Thread], thread: u32) -> Option<&Thread>
+fn find_ledger(threads: &[Thread], thread: u32) -> Option<&Thread>
     ensures { option_map (λ t. t.now) result ≡ find_thread thread threads.now }
 {
     threads.iter().find(|part| part.number() == thread)
@@ -115,32 +115,32 @@ fn find_carried(managers: &[Carried], manager: u32) -> Option<&Carried>
     managers.iter().find(|part| part.number() == manager)
 }
 
-fn accounts(threads: &[Thread], thread: u32) -> &[Account]
-    ensures { result.now ≡ accounts_in (find_thread thread threads.now) }
+fn ledgers(threads: &[Thread], thread: u32) -> &[Ledger]
+    ensures { result.now ≡ ledgers_in (find_thread thread threads.now) }
 {
-    match find_account(threads, thread) {
-        Some(part) => &part.accounts,
+    match find_ledger(threads, thread) {
+        Some(part) => &part.ledgers,
         None => &[],
     }
 }
 
 // The requests that were sent to the manager.
-fn sent_in(accounts: &[Account], manager: u32) -> &[Op]
-    ensures { result.now ≡ sent_to accounts.now manager }
+fn sent_in(ledgers: &[Ledger], manager: u32) -> &[Op]
+    ensures { result.now ≡ sent_to ledgers.now manager }
 {
-    if manager == 0 || manager as usize > accounts.len() {
+    if manager == 0 || manager as usize > ledgers.len() {
         return &[];
     }
-    accounts[manager as usize - 1].sent()
+    ledgers[manager as usize - 1].sent()
 }
 
-fn collected_in(accounts: &[Account], manager: u32) -> &[(u32, Code)]
-    ensures { result.now ≡ collected_from accounts.now manager }
+fn collected_in(ledgers: &[Ledger], manager: u32) -> &[(u32, Code)]
+    ensures { result.now ≡ collected_from ledgers.now manager }
 {
-    if manager == 0 || manager as usize > accounts.len() {
+    if manager == 0 || manager as usize > ledgers.len() {
         return &[];
     }
-    accounts[manager as usize - 1].collected()
+    ledgers[manager as usize - 1].collected()
 }
 
 impl Settled {
@@ -161,7 +161,7 @@ impl Settled {
         ensures sent { result.now ≡ sent self.now thread manager }
         ensures settled { IsSettled self.now }
     {
-        sent_in(accounts(&self.threads, thread), manager)
+        sent_in(ledgers(&self.threads, thread), manager)
     }
 
     /// What the thread collected from the manager, in the order of collection: each request's number
@@ -170,7 +170,7 @@ impl Settled {
         ensures collected { result.now ≡ collected self.now thread manager }
         ensures settled { IsSettled self.now }
     {
-        collected_in(accounts(&self.threads, thread), manager)
+        collected_in(ledgers(&self.threads, thread), manager)
     }
 
     /// The committed value of a key at the manager, from 0 to 10^12: what it was declared with, and each

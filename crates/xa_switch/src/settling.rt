@@ -4,7 +4,7 @@ ghost use Rattle.std.specs.List.{All};
 ghost use Rattle.xa_switch.specs.Settling.{IsSettled};
 ghost use Rattle.xa_switch.specs.Seats.{desk_seats, worker_seats, ComeFromOpenings, AreOfOne, AreAll, IsWhyUnsettled};
 ghost use Rattle.xa_switch.specs.Closing.{settling, IsRoomFor};
-ghost use Rattle.xa_switch.specs.Fates.{accounts_of};
+ghost use Rattle.xa_switch.specs.Fates.{ledgers_of};
 
 use crate::apart::{DeskRoom, Room, WorkerRoom, reserve_room, take_desks, take_workers};
 use crate::checks::{are_all, are_of_one};
@@ -51,7 +51,7 @@ pub fn settle<R: Wait>(
     requires { ComeFromOpenings (desk_seats desks.items) (worker_seats workers.items) }
     ensures settled { IfOk result (λ s. IsSettled s) }
     ensures parts { IfOk result (λ s. s ≡ settling desks.items workers.items) }
-    ensures lists { IfOk result (λ s. map (λ e. accounts_of s e.thread) desks.items ≡ map (λ e. e.accounts) desks.items) }
+    ensures lists { IfOk result (λ s. map (λ e. ledgers_of s e.thread) desks.items ≡ map (λ e. e.ledgers) desks.items) }
     ensures whole { OnOk result (AreOfOne desks.items workers.items × AreAll desks.items workers.items) }
     ensures why { IfErr result (λ u. IsWhyUnsettled u.why desks.items workers.items) }
     ensures back { IfErr result (λ u. (u.desks.items ≡ desks.items) × (u.workers.items ≡ workers.items)) }
@@ -93,12 +93,12 @@ fn close_all<R: Wait>(
     requires from { ComeFromOpenings (desk_seats desks.items) (worker_seats workers.items) }
     requires one { AreOfOne desks.items workers.items }
     requires whole { AreAll desks.items workers.items }
-    requires few_managers { All (λ d. length d.accounts ≤ 8) desks.items }
+    requires few_managers { All (λ d. length d.ledgers ≤ 8) desks.items }
     requires few_threads { All (λ w. w.manager.threads ≤ 8) workers.items }
     requires desk_room { IsRoomFor (length desks.items) desk_room }
     requires worker_room { IsRoomFor (length workers.items) worker_room }
     ensures parts { result ≡ settling desks.items workers.items }
-    ensures lists { map (λ e. accounts_of result e.thread) desks.items ≡ map (λ e. e.accounts) desks.items }
+    ensures lists { map (λ e. ledgers_of result e.thread) desks.items ≡ map (λ e. e.ledgers) desks.items }
     ensures settled { IsSettled result }
 {
     let Room {

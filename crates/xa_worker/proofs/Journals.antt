@@ -8,7 +8,7 @@ use Rattle.xa_words.specs.declared.request.Request.{Request}
 use Rattle.xa_tables.specs.Tables.{Tables}
 use Rattle.xa_tables.specs.Next.{next}
 use Rattle.xa_tables.specs.History.{History, codes, tables_after}
-use Rattle.xa_worker.specs.Journal.{Entry, entry_next, tables_next, requests, codes_in, Follows, completion_of, answers}
+use Rattle.xa_worker.specs.Journal.{Entry, entry_next, tables_next, requests, codes_in, Follows, completion_of, owed}
 
 codes-more : (h : History) (r : Request) (T : Tables) → codes (h ++ r ∷ []) T ≡ codes h T ++ (entry_next r (tables_after h T)).1 ∷ []
 codes-more [] r T = refl
@@ -33,10 +33,10 @@ pub follows_none : (first : Tables) → Follows first [] first
 follows_none first = record { codes_then = refl; tables_then = refl }
 
 -- one more answer
-pub answers-more : (m t : ℕ) (journal : List Entry) (e : Entry) → answers m t (journal ++ e ∷ []) ≡ answers m t journal ++ cond (e.0.thread == t) (completion_of m e ∷ []) []
-answers-more m t journal e =
+pub owed-more : (m t : ℕ) (journal : List Entry) (e : Entry) → owed m t (journal ++ e ∷ []) ≡ owed m t journal ++ cond (e.0.thread == t) (completion_of m e ∷ []) []
+owed-more m t journal e =
     ap (map (completion_of m)) (filter-append (λ (x : Entry). x.0.thread == t) journal (e ∷ [])) ∙ map-append (completion_of m) (filter (λ (x : Entry). x.0.thread == t) journal) (filter (λ (x : Entry). x.0.thread == t) (e ∷ []))
-    ∙ elim (e.0.thread == t) as (λ b. answers m t journal ++ map (completion_of m) (cond b (e ∷ []) []) ≡ answers m t journal ++ cond b (completion_of m e ∷ []) []) [ true ↦ refl | false ↦ refl ]
+    ∙ elim (e.0.thread == t) as (λ b. owed m t journal ++ map (completion_of m) (cond b (e ∷ []) []) ≡ owed m t journal ++ cond b (completion_of m e ∷ []) []) [ true ↦ refl | false ↦ refl ]
 
 -- the last entry is the one that was entered last
 pub last_or-more : (o : Option Entry) (journal : List Entry) (e : Entry) → last_or o (journal ++ e ∷ []) ≡ Some e

@@ -7,7 +7,7 @@ use Rattle.xa_words.specs.declared.request.Completion.{Completion}
 use Rattle.xa_tables.specs.Managers.{Managed}
 use Rattle.xa_lane.specs.declared.parcel.Taken.TheVariants.{Item, EndOf, Empty as Nothing}
 use Rattle.xa_lane.specs.Ends.{Took}
-use Rattle.xa_worker.specs.Journal.{Entry, entry_next, applied, completion_of, answers}
+use Rattle.xa_worker.specs.Journal.{Entry, entry_next, applied, completion_of, owed}
 use Rattle.xa_lane.specs.Senders.{but_full, bare, sent_at}
 use Rattle.xa_lane.proofs.Senders.{nothing_sent}
 use Rattle.xa_worker.specs.Outgoing.{Answering, Outgoing, SameLanes, Puts, flushed, waiting_at, put_to}
@@ -16,7 +16,7 @@ use Rattle.xa_worker.specs.declared.step.Step.{Step}
 use Rattle.xa_worker.specs.declared.step.Step.TheVariants.{Did, Late, EndSeen, Empty, Blocked}
 use Rattle.xa_worker.specs.Steps.{EntersOne, Waits, StillHolds, Holds, Stepped, step_of}
 use Rattle.xa_worker.specs.Done.{served, IsServed}
-use Rattle.xa_worker.proofs.Journals.{follows_more, follows_none, answers-more}
+use Rattle.xa_worker.proofs.Journals.{follows_more, follows_none, owed-more}
 use Rattle.xa_worker.proofs.Lanes.{same_eqb, length-lanes, lanes-flushed, none-flushed, lanes-puts, put-puts, sent_alike}
 use Rattle.xa_worker.proofs.Parcels.{asked_end, asked_item}
 
@@ -93,8 +93,8 @@ module _ (w : Working) (o : Outgoing) (same : SameLanes w.out.senders o.senders)
                 after ∙ ap (λ n. map of_own_thread w.journal ++ (n, r) ∷ []) (sym thread) ∙ sym (map-append of_own_thread w.journal (e ∷ [])) ∙ ap (map of_own_thread) (sym entered)
                 ∙ sym (append-nil (map of_own_thread journal)) ∙ ap (λ h. map of_own_thread journal ++ in_hand h) (sym none);
             sent = λ k. more k ∙ ap (λ xs. xs ++ cond ((r.thread - 1) == k) (c ∷ []) []) (put k ∙ t.sent k)
-                ∙ ap (λ b. answers w.number (k + 1) w.journal ++ cond b (c ∷ []) []) (same_eqb (r.thread - 1) k r.thread (k + 1) (λ q. omega (arith, thread)) (λ q. omega (arith, thread)))
-                ∙ sym (answers-more w.number (k + 1) w.journal e) ∙ ap (answers w.number (k + 1)) (sym entered);
+                ∙ ap (λ b. owed w.number (k + 1) w.journal ++ cond b (c ∷ []) []) (same_eqb (r.thread - 1) k r.thread (k + 1) (λ q. omega (arith, thread)) (λ q. omega (arith, thread)))
+                ∙ sym (owed-more w.number (k + 1) w.journal e) ∙ ap (owed w.number (k + 1)) (sym entered);
             held = subst (λ x. IsHeldUnfit x m.room) (sym none) tt;
             senders = ap (λ (x : Asking). x.senders) took.1 ∙ t.senders ∙ sym threads;
             lanes = length-lanes o.senders p.senders lanes ∙ length-lanes w.out.senders o.senders same ∙ t.lanes ∙ sym threads;

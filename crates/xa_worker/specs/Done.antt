@@ -5,7 +5,7 @@ use Rattle.xa_tables.specs.Managers.{Managed}
 use Rattle.xa_tables.specs.History.{of_thread}
 use Rattle.xa_lane.specs.Ends.{SameReceiver, received, has_ended}
 use Rattle.xa_lane.specs.Senders.{sent_at}
-use Rattle.xa_worker.specs.Journal.{Entry, Follows, requests, answers}
+use Rattle.xa_worker.specs.Journal.{Entry, Follows, requests, owed}
 use Rattle.xa_worker.specs.Outgoing.{Answering, SameLanes}
 use Rattle.xa_worker.specs.Workers.{Working, Asking, Extends, asked, of_own_thread}
 
@@ -29,7 +29,7 @@ pub record IsServed (d : Served) : Type 0 where
   -- the journal's requests are what was taken, in that order, each of its sender's thread
   pub taken : asked d.receiver.taken ≡ map of_own_thread d.journal
   -- what was sent to thread k + 1 is what the journal owes it
-  pub sent : (k : ℕ) → sent_at k d.ends ≡ answers d.number (k + 1) d.journal
+  pub sent : (k : ℕ) → sent_at k d.ends ≡ owed d.number (k + 1) d.journal
   -- the end of each thread was taken
   pub ended : (s : ℕ) → s < d.manager.threads → has_ended s d.receiver.taken ≡ true
   -- one sender of requests and one lane of completions for each thread

@@ -45,6 +45,6 @@ pub record Follows (first : Tables) (journal : List Entry) (now : Tables) : Type
 abbrev pub completion_of : ℕ → Entry → Completion
 completion_of m e = record { manager = m; number = e.0.number; code = e.1 }
 
--- the answers of manager m that a journal owes thread t, in its order
-abbrev pub answers : ℕ → ℕ → List Entry → List Completion
-answers m t journal = map (completion_of m) (filter (λ e. e.0.thread == t) journal)
+-- the completions of manager m that a journal owes thread t, in its order
+abbrev pub owed : ℕ → ℕ → List Entry → List Completion
+owed m t journal = map (completion_of m) (filter (λ e. e.0.thread == t) journal)

@@ -6,7 +6,7 @@ use Rattle.xa_tables.specs.Managers.{Managed, opening}
 use Rattle.xa_lane.specs.declared.parcel.Parcel.{Parcel}
 use Rattle.xa_lane.specs.Ends.{Receiving, SameReceiver, has_ended}
 use Rattle.xa_lane.specs.Closing.{items_in}
-use Rattle.xa_worker.specs.Journal.{Entry, Follows, answers}
+use Rattle.xa_worker.specs.Journal.{Entry, Follows, owed}
 use Rattle.xa_worker.specs.Outgoing.{Answering, Outgoing, SameLanes, put_to}
 
 -- the memory of a worker: its manager's number, and for how many requests there is room
@@ -66,7 +66,7 @@ pub record IsTied (w : Working) : Type 0 where
   -- the journal's requests, then one that is held, are what was taken, in that order, and each in the journal is of its sender's thread
   pub taken : asked w.receiver.taken ≡ map of_own_thread w.journal ++ in_hand w.held
   -- what was sent to thread k + 1, then a completion that waits for its lane, is what the journal owes it
-  pub sent : (k : ℕ) → put_to k w.out ≡ answers w.number (k + 1) w.journal
+  pub sent : (k : ℕ) → put_to k w.out ≡ owed w.number (k + 1) w.journal
   -- a request that is held can't be carried out
   pub held : IsHeldUnfit w.held w.manager.room
   -- one sender of requests and one lane of completions for each thread

@@ -39,7 +39,7 @@ impl Model for DoneWorker {
 
 /// The parts of a worker that has run.
 #[derive(Drop)]
-pub struct Apart {
+pub struct WorkerEnds {
     pub manager: Manager,
     /// The end of the lane of requests.
     pub receiver: Receiver<Request>,
@@ -103,7 +103,7 @@ impl DoneWorker {
     }
 
     /// Its manager, the ends of its lanes and its journal.
-    pub fn apart(self) -> Apart
+    pub fn apart(self) -> WorkerEnds
         ensures parts { served self.number self.first result.manager result.receiver result.ends.items result.journal.items ≡ self }
         ensures served { IsServed self }
         ensures ordered { IsOrdered self }
@@ -116,7 +116,7 @@ impl DoneWorker {
             ends,
             journal,
         } = self;
-        Apart {
+        WorkerEnds {
             manager,
             receiver,
             ends,

@@ -15,7 +15,7 @@ mod step;
 mod tests;
 mod worker;
 
-pub use done::{Apart, DoneWorker};
+pub use done::{DoneWorker, WorkerEnds};
 pub use pace::{Free, Pace};
 pub use parts::WorkerParts;
 pub use step::Step;

@@ -3,7 +3,7 @@ ghost use Rattle.std.specs.Prelude.{◌≡◌, ◌+◌, ◌<◌, ◌≤◌, leng
 ghost use Rattle.xa_lane.specs.declared.parcel.Taken.{Taken};
 ghost use Rattle.xa_lane.specs.declared.parcel.Taken.TheVariants.{Empty};
 ghost use Rattle.xa_words.specs.declared.request.Completion.{Completion};
-ghost use Rattle.xa_desk.specs.DeskView.{IsKnown, IsOut, IsLoose, account, outstanding, next_operation};
+ghost use Rattle.xa_desk.specs.DeskView.{IsKnown, IsOut, IsLoose, ledger, outstanding, next_operation};
 ghost use Rattle.xa_desk.specs.Lanes.{submitted, after_full};
 ghost use Rattle.xa_desk.specs.Looks.{Draws};
 
@@ -16,14 +16,14 @@ use xa_words::{Op, Request};
 impl Book {
     /// Sends the next request to the manager, unless the lane to it is full.
     pub(crate) fn offer<R: Wait>(&mut self, rt: &R, manager: u32, op: &Op) -> Option<Operation>
-        requires known { IsKnown self.old.accounts manager }
-        requires lanes { length self.old.requests ≡ length self.old.accounts }
-        requires room { length (account self.old.accounts manager).sent < (account self.old.accounts manager).plan }
-        requires slot { outstanding self.old.accounts ≤ self.old.handles }
-        ensures named { IfSome result (λ o. o ≡ next_operation self.old.accounts manager) }
+        requires known { IsKnown self.old.ledgers manager }
+        requires lanes { length self.old.requests ≡ length self.old.ledgers }
+        requires room { length (ledger self.old.ledgers manager).sent < (ledger self.old.ledgers manager).plan }
+        requires slot { outstanding self.old.ledgers ≤ self.old.handles }
+        ensures named { IfSome result (λ o. o ≡ next_operation self.old.ledgers manager) }
         ensures sent { OnSome result (self.new ≡ submitted self.old manager op.now) }
-        ensures more { OnSome result (outstanding self.new.accounts ≡ outstanding self.old.accounts + 1) }
-        ensures out { IfSome result (λ o. IsOut self.new.accounts o) }
+        ensures more { OnSome result (outstanding self.new.ledgers ≡ outstanding self.old.ledgers + 1) }
+        ensures out { IfSome result (λ o. IsOut self.new.ledgers o) }
         ensures loose { IfSome result (λ o. IsLoose self.new o) }
         ensures full { IfNone result (self.new ≡ after_full self.old manager) }
     {

@@ -1,5 +1,5 @@
 use Rattle.std.proofs.Common.{suc, ◌+◌, List, length, ap, sym, subst, ◌∙◌, refl}
-use Rattle.xa_desk.specs.AccountView.{AccountView}
+use Rattle.xa_desk.specs.LedgerView.{LedgerView}
 use Rattle.xa_desk.specs.DeskView.{DeskView, IsKnown, next_operation, outstanding}
 use Rattle.xa_desk.specs.Lanes.{after_full, submitted}
 use Rattle.xa_desk.proofs.Ties.{fulls_alike}
@@ -11,27 +11,27 @@ loop-init g c = record { can = tt; finite = tt; fulls = (0, refl, refl); idled =
 pub offer-requires-clause-known : goal.offer-requires-clause-known
 offer-requires-clause-known g c =
     let a = fulls_alike c.loop.invariant.fulls.0 c.args.book.now c.loop.book c.args.manager c.loop.invariant.fulls.1 in
-    subst (λ (at : List AccountView). IsKnown at c.args.manager) (sym a.accounts) c.requires.known
+    subst (λ (at : List LedgerView). IsKnown at c.args.manager) (sym a.ledgers) c.requires.known
 
 pub offer-requires-clause-lanes : goal.offer-requires-clause-lanes
 offer-requires-clause-lanes g c =
     let a = fulls_alike c.loop.invariant.fulls.0 c.args.book.now c.loop.book c.args.manager c.loop.invariant.fulls.1 in
-    a.requests ∙ c.requires.lanes ∙ sym (ap length a.accounts)
+    a.requests ∙ c.requires.lanes ∙ sym (ap length a.ledgers)
 
 pub offer-requires-clause-room : goal.offer-requires-clause-room
 offer-requires-clause-room g c =
     let a = fulls_alike c.loop.invariant.fulls.0 c.args.book.now c.loop.book c.args.manager c.loop.invariant.fulls.1 in
-    rw a.accounts c.requires.room
+    rw a.ledgers c.requires.room
 
 pub offer-requires-clause-slot : goal.offer-requires-clause-slot
 offer-requires-clause-slot g c =
     let a = fulls_alike c.loop.invariant.fulls.0 c.args.book.now c.loop.book c.args.manager c.loop.invariant.fulls.1 in
-    rw (a.accounts, a.handles) c.requires.slot
+    rw (a.ledgers, a.handles) c.requires.slot
 
 pub returns-in-Some-offer-clause-named : goal.returns-in-Some-offer-clause-named
 returns-in-Some-offer-clause-named g c =
     let a = fulls_alike c.loop.invariant.fulls.0 c.args.book.now c.loop.book c.args.manager c.loop.invariant.fulls.1 in
-    c.in-Some-offer.ensures.named ∙ ap (λ (at : List AccountView). next_operation at c.args.manager) a.accounts
+    c.in-Some-offer.ensures.named ∙ ap (λ (at : List LedgerView). next_operation at c.args.manager) a.ledgers
 
 pub returns-in-Some-offer-clause-sent : goal.returns-in-Some-offer-clause-sent
 returns-in-Some-offer-clause-sent g c = (c.loop.invariant.fulls.0, c.in-Some-offer.ensures.sent ∙ ap (λ (d : DeskView). submitted d c.args.manager c.args.op.now) c.loop.invariant.fulls.1, c.loop.invariant.fulls.2)
@@ -39,7 +39,7 @@ returns-in-Some-offer-clause-sent g c = (c.loop.invariant.fulls.0, c.in-Some-off
 pub returns-in-Some-offer-clause-more : goal.returns-in-Some-offer-clause-more
 returns-in-Some-offer-clause-more g c =
     let a = fulls_alike c.loop.invariant.fulls.0 c.args.book.now c.loop.book c.args.manager c.loop.invariant.fulls.1 in
-    c.in-Some-offer.ensures.more ∙ ap (λ (at : List AccountView). outstanding at + 1) a.accounts
+    c.in-Some-offer.ensures.more ∙ ap (λ (at : List LedgerView). outstanding at + 1) a.ledgers
 
 pub loop-preserved : goal.loop-preserved
 loop-preserved g c = record {

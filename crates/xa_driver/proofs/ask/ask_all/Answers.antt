@@ -7,10 +7,10 @@ use Rattle.xa_driver.proofs.ask.ask_all.Goals as goal
 
 pub returns-clause-free : goal.returns-clause-free
 returns-clause-free g c =
-    as_many_open c.end_all.new.asks c.args.desk.now.accounts c.end_all.new.desk.accounts
-    (subst (λ (d : DeskView). Asks c.end_all.new.asks d.accounts c.end_all.new.desk.accounts) c.of-before.ensures c.end_all.ensures.asked)
+    as_many_open c.end_all.new.asks c.args.desk.now.ledgers c.end_all.new.desk.ledgers
+    (subst (λ (d : DeskView). Asks c.end_all.new.asks d.ledgers c.end_all.new.desk.ledgers) c.of-before.ensures c.end_all.ensures.asked)
 
 pub returns-clause-left : goal.returns-clause-left
 returns-clause-left g c =
-    asks_leave_outstanding c.end_all.new.asks c.args.desk.now.accounts c.end_all.new.desk.accounts
-    (subst (λ (d : DeskView). Asks c.end_all.new.asks d.accounts c.end_all.new.desk.accounts) c.of-before.ensures c.end_all.ensures.asked)
+    asks_leave_outstanding c.end_all.new.asks c.args.desk.now.ledgers c.end_all.new.desk.ledgers
+    (subst (λ (d : DeskView). Asks c.end_all.new.asks d.ledgers c.end_all.new.desk.ledgers) c.of-before.ensures c.end_all.ensures.asked)

@@ -12,7 +12,7 @@ begin-ticket-requires-clause-can g c =
 pub loop-ask-preserved : goal.loop-ask-preserved
 loop-ask-preserved g c =
     let within : c.loop-ask.ask-index < length c.args.asks.now = let z = c.loop-ask-test.true in omega arith in
-    let can : CanAsk c.loop-ask.desk.accounts c.ask-item.result.manager =
+    let can : CanAsk c.loop-ask.desk.ledgers c.ask-item.result.manager =
     can_now c.args.asks.now c.loop-ask.ask-index c.ask-item.result c.loop-ask.tickets.items c.args.desk.now c.loop-ask.desk within c.ask-item.is c.requires.rising c.requires.can c.loop-ask.invariant.begun in
     let more = one_more_begun c.args.asks.now c.loop-ask.ask-index c.ask-item.result c.loop-ask.tickets.items c.args.desk.now c.loop-ask.desk within c.ask-item.is c.requires.rising c.requires.can c.loop-ask.invariant.begun
     c.begin-ticket.result c.begin-ticket.new.desk c.begin-ticket.ensures.began in

@@ -7,7 +7,7 @@ use Rattle.xa_driver.proofs.ask.begin_all.Given as goal
 abbrev pub invariant-loop-ask : goal.invariant-loop-ask
 invariant-loop-ask g l = record {
   begun : HaveBegun (take l.ask-index l.asks) l.tickets.items l.initial.desk l.desk;
-  fewer : outstanding l.desk.accounts ≤ outstanding l.initial.desk.accounts + l.ask-index;
+  fewer : outstanding l.desk.ledgers ≤ outstanding l.initial.desk.ledgers + l.ask-index;
   counted : length l.tickets.items ≡ l.ask-index;
   room : vec_capacity l.tickets ≡ vec_capacity l.initial.tickets;
   idled : g.I.Idle.leads l.initial.idle l.idle;

@@ -18,7 +18,7 @@ loop-preserved g c =
     record {
       can = search rules;
       finite = search rules;
-      unsent = ⊎_elim (λ (e : new ≡ now). ap (λ (d : DeskView). d.accounts) e) (λ (e : new ≡ after_full now m). ap (λ (d : DeskView). d.accounts) e) either ∙ c.loop.invariant.unsent;
+      unsent = ⊎_elim (λ (e : new ≡ now). ap (λ (d : DeskView). d.ledgers) e) (λ (e : new ≡ after_full now m). ap (λ (d : DeskView). d.ledgers) e) either ∙ c.loop.invariant.unsent;
       keeps = record {
         goes_on = c.desks_go_on.ensures.further _ _ _ before.goes_on c.in_default.ensures.goes_on;
         kept = ⊎_elim (λ (e : new ≡ now). ap (λ (d : DeskView). d.kept) e) (λ (e : new ≡ after_full now m). ap (λ (d : DeskView). d.kept) e) either ∙ before.kept;

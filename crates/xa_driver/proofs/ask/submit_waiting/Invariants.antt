@@ -7,7 +7,7 @@ abbrev pub invariant-loop : goal.invariant-loop
 invariant-loop g l = record {
   can : (goal.iterator-loop g).can_next l.iterator';
   finite : (goal.iterator-loop g).is_finite l.iterator';
-  unsent : l.desk.accounts ≡ l.initial.desk.accounts;
+  unsent : l.desk.ledgers ≡ l.initial.desk.ledgers;
   keeps : KeepsDesk l.initial.desk l.desk;
   idled : g.I.Idle.leads l.initial.idle l.idle;
 }

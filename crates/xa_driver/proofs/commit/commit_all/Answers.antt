@@ -21,7 +21,7 @@ ask_all-requires-clause-rising g c =
 pub ask_all-requires-clause-can : goal.ask_all-requires-clause-can
 ask_all-requires-clause-can g c =
     let e : c.as_mut_slice.result.now ≡ map first_ask c.args.branches.now = c.as_mut_slice.ensures.value ∙ c.in-Ok.ensures in
-    subst (λ (l : List Ask). AllCanAsk l c.args.desk.now.accounts) (sym e) (first_can c.args.desk.now.accounts c.args.branches.now c.requires.room)
+    subst (λ (l : List Ask). AllCanAsk l c.args.desk.now.ledgers) (sym e) (first_can c.args.desk.now.ledgers c.args.branches.now c.requires.room)
 
 pub ask_all-requires-2-clause-rising : goal.ask_all-requires-2-clause-rising
 ask_all-requires-2-clause-rising g c =
@@ -35,8 +35,8 @@ ask_all-requires-2-clause-can g c =
     let e : c.as_mut_slice.result.now ≡ map first_ask c.args.branches.now = c.as_mut_slice.ensures.value ∙ c.in-Ok.ensures in
     let s : SameAsks (map first_ask c.args.branches.now) c.ask_all.new.asks = subst (λ (l : List Ask). SameAsks l c.ask_all.new.asks) e c.ask_all.ensures.same in
     let f : c.as_mut_slice-2.result.now ≡ map (second_ask c.decide-commit.result.0) c.ask_all.new.asks = c.as_mut_slice-2.ensures.value ∙ c.second_round.ensures ∙ ap (map (second_ask c.decide-commit.result.0)) (c.deref-4.ensures.value ∙ seam c.in-Ok.asks.len c.ask_all.new.asks _ (omega arith)) in
-    let one : Asks c.ask_all.new.asks c.args.desk.now.accounts c.ask_all.new.desk.accounts = c.ask_all.ensures.asked in
-    subst (λ (l : List Ask). AllCanAsk l c.ask_all.new.desk.accounts) (sym f) (second_can c.decide-commit.result.0 c.args.desk.now.accounts c.ask_all.new.desk.accounts c.args.branches.now c.ask_all.new.asks one.managers s one.each c.requires.room)
+    let one : Asks c.ask_all.new.asks c.args.desk.now.ledgers c.ask_all.new.desk.ledgers = c.ask_all.ensures.asked in
+    subst (λ (l : List Ask). AllCanAsk l c.ask_all.new.desk.ledgers) (sym f) (second_can c.decide-commit.result.0 c.args.desk.now.ledgers c.ask_all.new.desk.ledgers c.args.branches.now c.ask_all.new.asks one.managers s one.each c.requires.room)
 
 pub returns-clause-call : goal.returns-clause-call
 returns-clause-call g c t all =
@@ -62,7 +62,7 @@ returns-clause-call g c t all =
     subst (λ (z : TranName). Logs z (yes_asked ks) (map code_of ks) logged old_log new_log) (c.tran-tran.ensures ∙ ap (λ (d : Branch). tran_of d.xid) (sym c.index-branches-0.is))
     (subst (λ (y : List Bool). Logs c.tran-tran.result y (map code_of ks) logged old_log new_log) yes_list
     (subst (λ (vs : List Code). Logs c.tran-tran.result c.yes_of.result vs logged old_log new_log) lent c.decide-commit.ensures.logs)) in
-    call_is _ bs ks js c.args.desk.now.accounts c.ask_all.new.desk.accounts c.ask_all-2.new.desk.accounts old_log new_log b t c.requires.some c.index-branches-0.is all s c.ask_all.ensures.asked r c.ask_all-2.ensures.asked votes endings decision logs
+    call_is _ bs ks js c.args.desk.now.ledgers c.ask_all.new.desk.ledgers c.ask_all-2.new.desk.ledgers old_log new_log b t c.requires.some c.index-branches-0.is all s c.ask_all.ensures.asked r c.ask_all-2.ensures.asked votes endings decision logs
 
 pub returns-clause-made : goal.returns-clause-made
 returns-clause-made g c = record { may = c.requires; trace = returns-clause-call g c c.requires.tran c.requires.one }
@@ -71,10 +71,10 @@ pub returns-clause-keeps : goal.returns-clause-keeps
 returns-clause-keeps g c = keeps_chain c.args.desk.now c.ask_all.new.desk c.ask_all-2.new.desk c.ask_all.ensures.keeps c.ask_all-2.ensures.keeps
 
 pub returns-clause-left : goal.returns-clause-left
-returns-clause-left g c = outstanding_chain c.args.desk.now.accounts c.ask_all.new.desk.accounts c.ask_all-2.new.desk.accounts c.ask_all.ensures.left c.ask_all-2.ensures.left
+returns-clause-left g c = outstanding_chain c.args.desk.now.ledgers c.ask_all.new.desk.ledgers c.ask_all-2.new.desk.ledgers c.ask_all.ensures.left c.ask_all-2.ensures.left
 
 pub returns-clause-tickets : goal.returns-clause-tickets
 returns-clause-tickets g c =
     tickets_stay c.args.desk.now c.ask_all-2.new.desk
     (keeps_chain c.args.desk.now c.ask_all.new.desk c.ask_all-2.new.desk c.ask_all.ensures.keeps c.ask_all-2.ensures.keeps)
-    (outstanding_chain c.args.desk.now.accounts c.ask_all.new.desk.accounts c.ask_all-2.new.desk.accounts c.ask_all.ensures.left c.ask_all-2.ensures.left)
+    (outstanding_chain c.args.desk.now.ledgers c.ask_all.new.desk.ledgers c.ask_all-2.new.desk.ledgers c.ask_all.ensures.left c.ask_all-2.ensures.left)

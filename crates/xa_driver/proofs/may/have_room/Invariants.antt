@@ -4,4 +4,4 @@ use Rattle.xa_driver.specs.Trace.{HaveRoom}
 use Rattle.xa_driver.proofs.may.have_room.Given as goal
 
 abbrev pub invariant-loop-branch : goal.invariant-loop-branch
-invariant-loop-branch l = HaveRoom l.desk.accounts l.branches ↔ HaveRoom l.desk.accounts (drop l.branch-index l.branches)
+invariant-loop-branch l = HaveRoom l.desk.ledgers l.branches ↔ HaveRoom l.desk.ledgers (drop l.branch-index l.branches)

@@ -1,7 +1,7 @@
 //! How an opening ends.
 ghost use Rattle.std.specs.Prelude.{◌≡◌, map};
 ghost use Rattle.xa_switch.specs.Seats.{ComeFromOpenings, desk_seats, worker_seats, seat_of_desk, seat_of_ended, seat_of_worker, seat_of_done};
-ghost use Rattle.xa_switch.specs.Fates.{accounts_of};
+ghost use Rattle.xa_switch.specs.Fates.{ledgers_of};
 
 use std::alloc::Global;
 use std::process::Abort;
@@ -13,7 +13,7 @@ use xa_worker::{DoneWorker, Free, Worker};
 // Ends a desk with which nothing is outstanding.
 pub(super) fn end<R: Wait + Abort, I: Idle>(rt: &R, desk: Desk, idle: &mut I) -> EndedDesk
     ensures seat { seat_of_ended result ≡ seat_of_desk desk }
-    ensures lists { result.accounts ≡ desk.accounts }
+    ensures lists { result.ledgers ≡ desk.ledgers }
     ensures idled { I.leads idle.old idle.new }
 {
     match desk.finish(rt, idle) {
@@ -53,7 +53,7 @@ pub(super) fn settle_all<R: Wait + Abort>(
     workers: Vec<DoneWorker>,
 ) -> Settled
     requires { ComeFromOpenings (desk_seats desks.items) (worker_seats workers.items) }
-    ensures { map (λ e. accounts_of result e.thread) desks.items ≡ map (λ e. e.accounts) desks.items }
+    ensures { map (λ e. ledgers_of result e.thread) desks.items ≡ map (λ e. e.ledgers) desks.items }
 {
     match settle(rt, alloc, desks, workers) {
         Ok(settled) => settled,

@@ -85,8 +85,8 @@ fn commit<R: Wait + Abort>(
     branches: &[Branch],
     idle: &mut Workers,
 ) -> Made
-    ensures made { IsCommit branches.now result.before.value result.after.value.accounts result.log_before.value.state result.log_after.value.state result.done }
-    ensures grown { HaveGrown result.after.value.accounts desk.new.accounts }
+    ensures made { IsCommit branches.now result.before.value result.after.value.ledgers result.log_before.value.state result.log_after.value.state result.done }
+    ensures grown { HaveGrown result.after.value.ledgers desk.new.ledgers }
     ensures seat { seat_of_desk desk.new ≡ seat_of_desk desk.old }
     ensures idled { map seat_of_worker idle.new.workers.items ≡ map seat_of_worker idle.old.workers.items }
 {
@@ -110,7 +110,7 @@ fn commit<R: Wait + Abort>(
 // After the commit the thread closes the managers.
 fn close<R: Wait + Abort>(rt: &R, desk: &mut Desk, idle: &mut Workers)
     ensures seat { seat_of_desk desk.new ≡ seat_of_desk desk.old }
-    ensures grown { HaveGrown desk.old.accounts desk.new.accounts }
+    ensures grown { HaveGrown desk.old.ledgers desk.new.ledgers }
     ensures idled { map seat_of_worker idle.new.workers.items ≡ map seat_of_worker idle.old.workers.items }
 {
     desks_go_on();
@@ -136,8 +136,8 @@ fn commit_and_settle<R: Wait + Abort>(
     branches: &[Branch; 2],
 ) -> Told
     requires { ComeFromOpenings (seat_of_desk opened.desk ∷ []) (map seat_of_worker opened.workers.workers.items) }
-    ensures votes { AreLeftAlone result.settled result.thread branches.now result.made.before.value.accounts result.made.after.value.accounts → KeepsTheVotes result.settled result.thread branches.now result.made.before.value.accounts result.made.done }
-    ensures fates { AreLeftAlone result.settled result.thread branches.now result.made.before.value.accounts result.made.after.value.accounts → TellsTheFates result.settled branches.now result.made.done }
+    ensures votes { AreLeftAlone result.settled result.thread branches.now result.made.before.value.ledgers result.made.after.value.ledgers → KeepsTheVotes result.settled result.thread branches.now result.made.before.value.ledgers result.made.done }
+    ensures fates { AreLeftAlone result.settled result.thread branches.now result.made.before.value.ledgers result.made.after.value.ledgers → TellsTheFates result.settled branches.now result.made.done }
 {
     growth_goes_on();
     let Opened {

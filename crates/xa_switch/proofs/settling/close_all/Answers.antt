@@ -8,12 +8,12 @@ use Rattle.xa_worker.specs.Outgoing.{Answering}
 use Rattle.xa_worker.specs.Workers.{Asking}
 use Rattle.xa_desk.specs.Ended.{EndedView}
 use Rattle.xa_switch.specs.Settling.{Settling, IsSettled}
-use Rattle.xa_switch.specs.Fates.{accounts_of}
+use Rattle.xa_switch.specs.Fates.{ledgers_of}
 use Rattle.xa_switch.specs.Closing.{dealt, column, IsClosable, IsClosed}
 use Rattle.xa_switch.proofs.Gathering.{length_dealt}
 use Rattle.xa_switch.proofs.Pieces.{request_columns, completion_columns, workers_numbered, workers_opened, request_lanes_apart, request_lanes_places, request_lanes_closable, completion_lanes_apart, completion_lanes_places, completion_lanes_closable}
 use Rattle.xa_switch.proofs.Agreeing.{settled}
-use Rattle.xa_switch.proofs.Accounts.{all_settled_accounts}
+use Rattle.xa_switch.proofs.Ledgers.{all_settled_ledgers}
 use Rattle.xa_switch.proofs.settling.close_all.Goals as goal
 
 -- eight columns
@@ -30,60 +30,60 @@ pub close_lanes-requires-clause-apart : goal.close_lanes-requires-clause-apart
 close_lanes-requires-clause-apart g c =
     let ds = c.args.desks.items in
     let ws = c.args.workers.items in
-    subst (AllPairs (λ (a b : ℕ × Asking). a.0 ≢ b.0)) (sym c.take_workers-answered.ensures.lanes) (request_lanes_apart ds ws (record { all = record { from = c.requires.from; one = c.requires.one; whole = c.requires.whole }; few_managers = c.requires.few_managers; few_threads = c.requires.few_threads; desks = c.take_desks-sent.ensures.known; workers = c.take_workers-answered.ensures.known; ordered = c.take_workers-answered.ensures.ordered }))
+    subst (AllPairs (λ (a b : ℕ × Asking). a.0 ≢ b.0)) (sym c.take_workers-answered.ensures.taken.lanes) (request_lanes_apart ds ws (record { all = record { from = c.requires.from; one = c.requires.one; whole = c.requires.whole }; few_managers = c.requires.few_managers; few_threads = c.requires.few_threads; desks = c.take_desks-sent.ensures.known; workers = c.take_workers-answered.ensures.known; ordered = c.take_workers-answered.ensures.ordered }))
 
 pub close_lanes-requires-clause-places : goal.close_lanes-requires-clause-places
 close_lanes-requires-clause-places g c =
     let ds = c.args.desks.items in
     let ws = c.args.workers.items in
-    let n = many (λ v. v.items) c.take_desks-sent.result.columns.items (map (λ p. p.requests) ds) c.take_desks-sent.ensures.columns in
+    let n = many (λ v. v.items) c.take_desks-sent.result.columns.items (map (λ p. p.requests) ds) c.take_desks-sent.ensures.taken.columns in
     subst (λ n. All (λ (r : ℕ × Asking). r.0 < n) c.take_workers-answered.result.lanes.items) n
-    (subst (All (λ (r : ℕ × Asking). r.0 < 8)) (sym c.take_workers-answered.ensures.lanes) (request_lanes_places ds ws (record { all = record { from = c.requires.from; one = c.requires.one; whole = c.requires.whole }; few_managers = c.requires.few_managers; few_threads = c.requires.few_threads; desks = c.take_desks-sent.ensures.known; workers = c.take_workers-answered.ensures.known; ordered = c.take_workers-answered.ensures.ordered })))
+    (subst (All (λ (r : ℕ × Asking). r.0 < 8)) (sym c.take_workers-answered.ensures.taken.lanes) (request_lanes_places ds ws (record { all = record { from = c.requires.from; one = c.requires.one; whole = c.requires.whole }; few_managers = c.requires.few_managers; few_threads = c.requires.few_threads; desks = c.take_desks-sent.ensures.known; workers = c.take_workers-answered.ensures.known; ordered = c.take_workers-answered.ensures.ordered })))
 
 pub close_lanes-requires-clause-closable : goal.close_lanes-requires-clause-closable
 close_lanes-requires-clause-closable g c =
     let ds = c.args.desks.items in
     let ws = c.args.workers.items in
-    subst (λ (C : List (List (Sending Request))). All (λ (r : ℕ × Asking). IsClosable r.1 (column C r.0)) c.take_workers-answered.result.lanes.items) (sym c.take_desks-sent.ensures.columns)
-    (subst (All (λ (r : ℕ × Asking). IsClosable r.1 (column (request_columns ds) r.0))) (sym c.take_workers-answered.ensures.lanes) (request_lanes_closable ds ws (record { all = record { from = c.requires.from; one = c.requires.one; whole = c.requires.whole }; few_managers = c.requires.few_managers; few_threads = c.requires.few_threads; desks = c.take_desks-sent.ensures.known; workers = c.take_workers-answered.ensures.known; ordered = c.take_workers-answered.ensures.ordered })))
+    subst (λ (C : List (List (Sending Request))). All (λ (r : ℕ × Asking). IsClosable r.1 (column C r.0)) c.take_workers-answered.result.lanes.items) (sym c.take_desks-sent.ensures.taken.columns)
+    (subst (All (λ (r : ℕ × Asking). IsClosable r.1 (column (request_columns ds) r.0))) (sym c.take_workers-answered.ensures.taken.lanes) (request_lanes_closable ds ws (record { all = record { from = c.requires.from; one = c.requires.one; whole = c.requires.whole }; few_managers = c.requires.few_managers; few_threads = c.requires.few_threads; desks = c.take_desks-sent.ensures.known; workers = c.take_workers-answered.ensures.known; ordered = c.take_workers-answered.ensures.ordered })))
 
 pub close_lanes-requires-2-clause-apart : goal.close_lanes-requires-2-clause-apart
 close_lanes-requires-2-clause-apart g c =
     let ds = c.args.desks.items in
     let ws = c.args.workers.items in
-    subst (AllPairs (λ (a b : ℕ × Receiving Completion). a.0 ≢ b.0)) (sym c.take_desks-sent.ensures.lanes) (completion_lanes_apart ds ws (record { all = record { from = c.requires.from; one = c.requires.one; whole = c.requires.whole }; few_managers = c.requires.few_managers; few_threads = c.requires.few_threads; desks = c.take_desks-sent.ensures.known; workers = c.take_workers-answered.ensures.known; ordered = c.take_workers-answered.ensures.ordered }))
+    subst (AllPairs (λ (a b : ℕ × Receiving Completion). a.0 ≢ b.0)) (sym c.take_desks-sent.ensures.taken.lanes) (completion_lanes_apart ds ws (record { all = record { from = c.requires.from; one = c.requires.one; whole = c.requires.whole }; few_managers = c.requires.few_managers; few_threads = c.requires.few_threads; desks = c.take_desks-sent.ensures.known; workers = c.take_workers-answered.ensures.known; ordered = c.take_workers-answered.ensures.ordered }))
 
 pub close_lanes-requires-2-clause-places : goal.close_lanes-requires-2-clause-places
 close_lanes-requires-2-clause-places g c =
     let ds = c.args.desks.items in
     let ws = c.args.workers.items in
-    let n = many (λ v. v.items) c.take_workers-answered.result.columns.items (map (λ p. p.ends) ws) c.take_workers-answered.ensures.columns in
+    let n = many (λ v. v.items) c.take_workers-answered.result.columns.items (map (λ p. p.ends) ws) c.take_workers-answered.ensures.taken.columns in
     subst (λ n. All (λ (r : ℕ × Receiving Completion). r.0 < n) c.take_desks-sent.result.lanes.items) n
-    (subst (All (λ (r : ℕ × Receiving Completion). r.0 < 8)) (sym c.take_desks-sent.ensures.lanes) (completion_lanes_places ds ws (record { all = record { from = c.requires.from; one = c.requires.one; whole = c.requires.whole }; few_managers = c.requires.few_managers; few_threads = c.requires.few_threads; desks = c.take_desks-sent.ensures.known; workers = c.take_workers-answered.ensures.known; ordered = c.take_workers-answered.ensures.ordered })))
+    (subst (All (λ (r : ℕ × Receiving Completion). r.0 < 8)) (sym c.take_desks-sent.ensures.taken.lanes) (completion_lanes_places ds ws (record { all = record { from = c.requires.from; one = c.requires.one; whole = c.requires.whole }; few_managers = c.requires.few_managers; few_threads = c.requires.few_threads; desks = c.take_desks-sent.ensures.known; workers = c.take_workers-answered.ensures.known; ordered = c.take_workers-answered.ensures.ordered })))
 
 pub close_lanes-requires-2-clause-closable : goal.close_lanes-requires-2-clause-closable
 close_lanes-requires-2-clause-closable g c =
     let ds = c.args.desks.items in
     let ws = c.args.workers.items in
-    subst (λ (C : List (List (Answering))). All (λ (r : ℕ × Receiving Completion). IsClosable r.1 (column C r.0)) c.take_desks-sent.result.lanes.items) (sym c.take_workers-answered.ensures.columns)
-    (subst (All (λ (r : ℕ × Receiving Completion). IsClosable r.1 (column (completion_columns ws) r.0))) (sym c.take_desks-sent.ensures.lanes) (completion_lanes_closable ds ws (record { all = record { from = c.requires.from; one = c.requires.one; whole = c.requires.whole }; few_managers = c.requires.few_managers; few_threads = c.requires.few_threads; desks = c.take_desks-sent.ensures.known; workers = c.take_workers-answered.ensures.known; ordered = c.take_workers-answered.ensures.ordered })))
+    subst (λ (C : List (List (Answering))). All (λ (r : ℕ × Receiving Completion). IsClosable r.1 (column C r.0)) c.take_desks-sent.result.lanes.items) (sym c.take_workers-answered.ensures.taken.columns)
+    (subst (All (λ (r : ℕ × Receiving Completion). IsClosable r.1 (column (completion_columns ws) r.0))) (sym c.take_desks-sent.ensures.taken.lanes) (completion_lanes_closable ds ws (record { all = record { from = c.requires.from; one = c.requires.one; whole = c.requires.whole }; few_managers = c.requires.few_managers; few_threads = c.requires.few_threads; desks = c.take_desks-sent.ensures.known; workers = c.take_workers-answered.ensures.known; ordered = c.take_workers-answered.ensures.ordered })))
 
 pub returns-clause-settled : goal.returns-clause-settled
 returns-clause-settled g c =
     let ds = c.args.desks.items in
     let ws = c.args.workers.items in
-    let rs = subst (λ (C : List (List (Sending Request))). All (λ (r : ℕ × Asking). IsClosed r.1 (column C r.0)) c.take_workers-answered.result.lanes.items) c.take_desks-sent.ensures.columns c.close_lanes.ensures in
-    let rs' = subst (All (λ (r : ℕ × Asking). IsClosed r.1 (column (request_columns ds) r.0))) c.take_workers-answered.ensures.lanes rs in
-    let cs = subst (λ (C : List (List Answering)). All (λ (r : ℕ × Receiving Completion). IsClosed r.1 (column C r.0)) c.take_desks-sent.result.lanes.items) c.take_workers-answered.ensures.columns c.close_lanes-2.ensures in
-    let cs' = subst (All (λ (r : ℕ × Receiving Completion). IsClosed r.1 (column (completion_columns ws) r.0))) c.take_desks-sent.ensures.lanes cs in
-    subst IsSettled (λ i. record { threads = sym c.take_desks-sent.ensures.parts i; managers = sym c.take_workers-answered.ensures.parts i })
+    let rs = subst (λ (C : List (List (Sending Request))). All (λ (r : ℕ × Asking). IsClosed r.1 (column C r.0)) c.take_workers-answered.result.lanes.items) c.take_desks-sent.ensures.taken.columns c.close_lanes.ensures in
+    let rs' = subst (All (λ (r : ℕ × Asking). IsClosed r.1 (column (request_columns ds) r.0))) c.take_workers-answered.ensures.taken.lanes rs in
+    let cs = subst (λ (C : List (List Answering)). All (λ (r : ℕ × Receiving Completion). IsClosed r.1 (column C r.0)) c.take_desks-sent.result.lanes.items) c.take_workers-answered.ensures.taken.columns c.close_lanes-2.ensures in
+    let cs' = subst (All (λ (r : ℕ × Receiving Completion). IsClosed r.1 (column (completion_columns ws) r.0))) c.take_desks-sent.ensures.taken.lanes cs in
+    subst IsSettled (λ i. record { threads = sym c.take_desks-sent.ensures.taken.parts i; managers = sym c.take_workers-answered.ensures.taken.parts i })
     (settled ds ws (record { all = record { from = c.requires.from; one = c.requires.one; whole = c.requires.whole }; few_managers = c.requires.few_managers; few_threads = c.requires.few_threads; desks = c.take_desks-sent.ensures.known; workers = c.take_workers-answered.ensures.known; ordered = c.take_workers-answered.ensures.ordered }) rs' cs')
 
 pub returns-clause-lists : goal.returns-clause-lists
 returns-clause-lists g c =
     let ds = c.args.desks.items in
-    subst (λ (s : Settling). map (λ (e : EndedView). accounts_of s e.thread) ds ≡ map (λ (e : EndedView). e.accounts) ds) (λ i. record { threads = sym c.take_desks-sent.ensures.parts i; managers = sym c.take_workers-answered.ensures.parts i })
-    (all_settled_accounts ds c.args.workers.items c.requires.from c.requires.one)
+    subst (λ (s : Settling). map (λ (e : EndedView). ledgers_of s e.thread) ds ≡ map (λ (e : EndedView). e.ledgers) ds) (λ i. record { threads = sym c.take_desks-sent.ensures.taken.parts i; managers = sym c.take_workers-answered.ensures.taken.parts i })
+    (all_settled_ledgers ds c.args.workers.items c.requires.from c.requires.one)
 
 pub invariant_of-result : goal.invariant_of-result
 invariant_of-result g c = returns-clause-settled g c

@@ -1,9 +1,9 @@
 use Rattle.std.proofs.Common.{◌≡◌, ◌+◌, Some, ap, ◌∙◌, sym, refl, subst, arith}
-use Rattle.xa_desk.specs.AccountView.{AccountView, with_collected}
+use Rattle.xa_desk.specs.LedgerView.{LedgerView, with_collected}
 use Rattle.xa_desk.specs.declared.operation.Operation.{Operation}
-use Rattle.xa_desk.specs.DeskView.{IsOut, account, after_collected}
+use Rattle.xa_desk.specs.DeskView.{IsOut, ledger, after_collected}
 use Rattle.xa_desk.specs.Slots.{IsBooks}
-use Rattle.xa_desk.proofs.Accounts.{account-read, collected-lt-sent, planned-put, length-put_account}
+use Rattle.xa_desk.proofs.Ledgers.{ledger-read, collected-lt-sent, planned-put, length-put_ledger}
 use Rattle.xa_desk.proofs.Books.{books_collected}
 use Rattle.xa_desk.proofs.KeyRows.{keys_collected}
 use Rattle.xa_desk.proofs.KeptPlaces.{loose_handle}
@@ -12,28 +12,28 @@ use Rattle.xa_desk.proofs.book.Book.collect.Goals.{After-push_collected}
 
 pub push_collected-requires : goal.push_collected-requires
 push_collected-requires c =
-    let at = c.self.inside.accounts.items in
+    let at = c.self.inside.ledgers.items in
     let o = c.args.operation in
     let out = rw (← c.self.view_is) at c.requires.out in
-    let read = account-read at o.manager c.index_mut-account.result.now out.known c.index_mut-account.ensures.value in
+    let read = ledger-read at o.manager c.index_mut-ledger.result.now out.known c.index_mut-ledger.ensures.value in
     let orderly = c.self.invariant.books.orderly o.manager out.known in
-    let fewer = collected-lt-sent (account at o.manager) o.number c.in-Some-code.code orderly out.sent out.open_ in
+    let fewer = collected-lt-sent (ledger at o.manager) o.number c.in-Some-code.code orderly out.sent out.open_ in
     let planned = orderly.planned in
     rw read (omega arith)
 
-out : (c : After-push_collected) → IsOut c.self.inside.accounts.items c.args.operation
+out : (c : After-push_collected) → IsOut c.self.inside.ledgers.items c.args.operation
 out c = rw (← c.self.view_is) at c.requires.out
 
-written : (c : After-push_collected) → c.push_collected.new.self ≡ with_collected (account c.self.inside.accounts.items c.args.operation.manager) c.args.operation.number c.in-Some-code.code
+written : (c : After-push_collected) → c.push_collected.new.self ≡ with_collected (ledger c.self.inside.ledgers.items c.args.operation.manager) c.args.operation.number c.in-Some-code.code
 written c =
     let o = c.args.operation in
-    let read = account-read c.self.inside.accounts.items o.manager c.index_mut-account.result.now (out c).known c.index_mut-account.ensures.value in
-    c.push_collected.ensures ∙ ap (λ (a : AccountView). with_collected a o.number c.in-Some-code.code) read
+    let read = ledger-read c.self.inside.ledgers.items o.manager c.index_mut-ledger.result.now (out c).known c.index_mut-ledger.ensures.value in
+    c.push_collected.ensures ∙ ap (λ (a : LedgerView). with_collected a o.number c.in-Some-code.code) read
 
-books : (c : After-push_collected) → IsBooks (after_collected c.self.inside.accounts.items c.args.operation c.in-Some-code.code) c.remove.new.self c.self.inside.kept.items c.self.inside.drained.items
+books : (c : After-push_collected) → IsBooks (after_collected c.self.inside.ledgers.items c.args.operation c.in-Some-code.code) c.remove.new.self c.self.inside.kept.items c.self.inside.drained.items
 books c =
     let i = c.self.invariant in
-    let at = c.self.inside.accounts.items in
+    let at = c.self.inside.ledgers.items in
     let code = c.in-Some-code.code in
     let slot = c.in-Some.slot in
     let named = c.in-Some.ensures.named in
@@ -46,7 +46,7 @@ pub invariant_of-self : goal.invariant_of-self
 invariant_of-self c =
     let d = (goal.at.invariant_of-self c).After-push_collected in
     let i = c.self.invariant in
-    let at = c.self.inside.accounts.items in
+    let at = c.self.inside.ledgers.items in
     let o = c.args.operation in
     let code = c.in-Some-code.code in
     let len = c.remove.ensures.len in
@@ -57,8 +57,8 @@ invariant_of-self c =
       slots_used = omega arith;
       slots_room = rw c.remove.ensures.capacity i.slots_room;
       places = i.places;
-      drained_room = rw (planned-put at o.manager (with_collected (account at o.manager) o.number code) (out d).known refl) i.drained_room;
-      limits = rw (length-put_account at o.manager (with_collected (account at o.manager) o.number code)) i.limits;
+      drained_room = rw (planned-put at o.manager (with_collected (ledger at o.manager) o.number code) (out d).known refl) i.drained_room;
+      limits = rw (length-put_ledger at o.manager (with_collected (ledger at o.manager) o.number code)) i.limits;
       ends = i.ends;
       ends_room = i.ends_room;
     })

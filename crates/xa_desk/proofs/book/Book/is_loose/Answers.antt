@@ -7,7 +7,7 @@ use Rattle.xa_desk.proofs.book.Book.is_loose.Goals as goal
 
 pub returns-in-Some : goal.returns-in-Some
 returns-in-Some c =
-    let at = c.self.inside.accounts.items in
+    let at = c.self.inside.ledgers.items in
     let table = c.self.inside.kept.items in
     let b = c.self.invariant.books in
     let there = c.in-Some.ensures.found in

@@ -9,4 +9,4 @@ returns-clause-settled c = λ e m known.
     let len = c.len.ensures in
     let few = ltb-false 0 c.len.result e in
     let none : slab_len c.self.inside.slots ≡ 0 = omega arith in
-    rw (← c.self.view_is) (nothing_open c.self.inside.accounts.items c.self.inside.slots c.self.inside.kept.items c.self.inside.drained.items c.self.invariant.books none m (rw (← c.self.view_is) at known))
+    rw (← c.self.view_is) (nothing_open c.self.inside.ledgers.items c.self.inside.slots c.self.inside.kept.items c.self.inside.drained.items c.self.invariant.books none m (rw (← c.self.view_is) at known))

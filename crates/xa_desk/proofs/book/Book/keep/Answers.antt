@@ -17,7 +17,7 @@ taken c k below = rw c.deref.ensures.value at (c.first_free-place.ensures.taken 
 handle : (c : After-first_free-place) → c.in-Some.slot.handle ≡ 0
 handle c =
     let loose = rw (← c.self.view_is) at c.requires.loose in
-    loose_handle c.self.inside.accounts.items c.self.inside.slots c.in-Some.key c.in-Some.slot c.self.inside.kept.items c.self.inside.drained.items c.self.invariant.books c.in-Some.ensures.found
+    loose_handle c.self.inside.ledgers.items c.self.inside.slots c.in-Some.key c.in-Some.slot c.self.inside.kept.items c.self.inside.drained.items c.self.invariant.books c.in-Some.ensures.found
     (λ k kept. loose k (kept ∙ ap (λ (p : Operation). Some p) c.in-Some.ensures.named))
 
 within : (c : After-first_free-place) → c.first_free-place.result < length c.self.inside.kept.items
@@ -27,7 +27,7 @@ within c =
     let slot = rw (← c.self.view_is) at c.requires.slot in
     let places = i.places in
     let most = rw c.deref.ensures.value at c.first_free-place.ensures.within in
-    free_place c.self.inside.accounts.items c.self.inside.slots c.self.inside.kept.items c.self.inside.drained.items c.in-Some.key c.in-Some.slot i.books c.in-Some.ensures.found (handle c) (omega arith) c.first_free-place.result most (taken c)
+    free_place c.self.inside.ledgers.items c.self.inside.slots c.self.inside.kept.items c.self.inside.drained.items c.in-Some.key c.in-Some.slot i.books c.in-Some.ensures.found (handle c) (omega arith) c.first_free-place.result most (taken c)
 
 free : (c : After-first_free-place) → get_or c.self.inside.kept.items c.first_free-place.result None ≡ None
 free c = rw c.deref.ensures.value at c.first_free-place.ensures.free (within c)
@@ -49,8 +49,8 @@ invariant_of-self c =
     let next : place + 1 ≡ suc place = omega arith in
     let moves : Rehandles old (set old place (Some c.args.operation)) slot.handle (place + 1) slot.operation = rw (handle d, next, named) (rehandles_keep old place c.args.operation (within d) (free d)) in
     record {
-      books = books_rehandled c.self.inside.accounts.items c.self.inside.slots c.set_slot.new.slots c.in-Some.key slot (place + 1) old (set old place (Some c.args.operation)) c.self.inside.drained.items i.books c.in-Some.ensures.found moves c.set_slot.ensures.updates c.set_slot.ensures.len;
-      keys = keys_kept c.self.inside.accounts.items c.self.inside.rows.items c.self.inside.slots c.set_slot.new.slots c.in-Some.key c.in-Some.slot _ i.keys c.in-Some.ensures.found refl c.set_slot.ensures.updates;
+      books = books_rehandled c.self.inside.ledgers.items c.self.inside.slots c.set_slot.new.slots c.in-Some.key slot (place + 1) old (set old place (Some c.args.operation)) c.self.inside.drained.items i.books c.in-Some.ensures.found moves c.set_slot.ensures.updates c.set_slot.ensures.len;
+      keys = keys_kept c.self.inside.ledgers.items c.self.inside.rows.items c.self.inside.slots c.set_slot.new.slots c.in-Some.key c.in-Some.slot _ i.keys c.in-Some.ensures.found refl c.set_slot.ensures.updates;
       slots_used = rw c.set_slot.ensures.len i.slots_used;
       slots_room = rw c.set_slot.ensures.capacity i.slots_room;
       places = length-set old place (Some c.args.operation) ∙ i.places;

@@ -14,12 +14,12 @@ returns-then-number-len-clause-kept c =
     rw (← c.self.view_is) (sym (get-kept_of_past c.self.inside.kept.items c.args.number (omega arith)))
 
 pub returns-clause-out : goal.returns-clause-out
-returns-clause-out c = IfSome_from c.index.result.now (λ o. IsOut c.args.self.now.accounts o) (λ o e.
+returns-clause-out c = IfSome_from c.index.result.now (λ o. IsOut c.args.self.now.ledgers o) (λ o e.
     let same = c.self.inside.kept.ok.0 in
     let positive = c.if-number-eq0.false in
     let there = get_or_read c.self.inside.kept.items (c.args.number - 1) c.index.result.now (omega arith) c.index.ensures None in
     let h = c.self.invariant.books.tabled (c.args.number - 1) o (sym there ∙ e) in
-    rw (← c.self.view_is) (subst (λ (p : Operation). IsOut c.self.inside.accounts.items p) h.names (c.self.invariant.books.slot_out h.key h.slot h.found)))
+    rw (← c.self.view_is) (subst (λ (p : Operation). IsOut c.self.inside.ledgers.items p) h.names (c.self.invariant.books.slot_out h.key h.slot h.found)))
 
 pub returns-clause-kept : goal.returns-clause-kept
 returns-clause-kept c =

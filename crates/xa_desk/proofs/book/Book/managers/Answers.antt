@@ -5,5 +5,5 @@ pub returns-clause-limits : goal.returns-clause-limits
 returns-clause-limits c =
     let len = c.len.ensures in
     let limits = c.self.invariant.limits.managers in
-    let same = c.self.inside.accounts.ok.0 in
+    let same = c.self.inside.ledgers.ok.0 in
     (omega arith, omega arith)

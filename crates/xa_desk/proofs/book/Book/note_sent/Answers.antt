@@ -2,10 +2,10 @@ use Rattle.std.proofs.Common.{◌≡◌, ◌+◌, ◌-◌, ◌<◌, ℕ, List, [
 use Rattle.std.proofs.lemmas.List.{get_or_read}
 use Rattle.slab.specs.Slab.{Updates}
 use Rattle.xa_desk.specs.declared.operation.Operation.{Operation}
-use Rattle.xa_desk.specs.AccountView.{AccountView, with_sent}
-use Rattle.xa_desk.specs.DeskView.{IsKnown, account, after_sent}
+use Rattle.xa_desk.specs.LedgerView.{LedgerView, with_sent}
+use Rattle.xa_desk.specs.DeskView.{IsKnown, ledger, after_sent}
 use Rattle.xa_desk.specs.Slots.{IsBooks, AreKeys}
-use Rattle.xa_desk.proofs.Accounts.{account-read, planned-put, length-put_account, sent_now_out, unsent}
+use Rattle.xa_desk.proofs.Ledgers.{ledger-read, planned-put, length-put_ledger, sent_now_out, unsent}
 use Rattle.xa_desk.proofs.KeptPlaces.{loose_from_handle}
 use Rattle.xa_desk.proofs.Books.{books_sent, fresh}
 use Rattle.xa_desk.proofs.KeyRows.{entered, keys_sent}
@@ -17,7 +17,7 @@ operation_at m n = record { manager = m; number = n }
 
 pub enter-requires : goal.enter-requires
 enter-requires c =
-    let at = c.self.inside.accounts.items in
+    let at = c.self.inside.ledgers.items in
     let m = c.args.manager in
     let is_known = rw (← c.self.view_is) at c.requires.known in
     let room = rw (← c.self.view_is) at c.requires.room in
@@ -26,28 +26,28 @@ enter-requires c =
     let most = is_known.within in
     let below : m - 1 < length c.self.inside.rows.items = omega arith in
     let read = get_or_read c.self.inside.rows.items (m - 1) c.index_mut-row.result.now below c.index_mut-row.ensures.value [] in
-    let sent = c.next_number-number.ensures.sent ∙ ap (λ (a : AccountView). length a.sent) (account-read at m c.index_mut-account.result.now is_known c.index_mut-account.ensures.value) in
+    let sent = c.next_number-number.ensures.sent ∙ ap (λ (a : LedgerView). length a.sent) (ledger-read at m c.index_mut-ledger.result.now is_known c.index_mut-ledger.ensures.value) in
     rw (sent, read, c.self.invariant.keys.planned m is_known) room
 
-known : (c : After-enter) → IsKnown c.self.inside.accounts.items c.args.manager
+known : (c : After-enter) → IsKnown c.self.inside.ledgers.items c.args.manager
 known c = rw (← c.self.view_is) at c.requires.known
 
-read : (c : After-enter) → c.index_mut-account.result.now ≡ account c.self.inside.accounts.items c.args.manager
-read c = account-read c.self.inside.accounts.items c.args.manager c.index_mut-account.result.now (known c) c.index_mut-account.ensures.value
+read : (c : After-enter) → c.index_mut-ledger.result.now ≡ ledger c.self.inside.ledgers.items c.args.manager
+read c = ledger-read c.self.inside.ledgers.items c.args.manager c.index_mut-ledger.result.now (known c) c.index_mut-ledger.ensures.value
 
-written : (c : After-enter) → c.push_sent.new.self ≡ with_sent (account c.self.inside.accounts.items c.args.manager) c.args.op
-written c = c.push_sent.ensures ∙ ap (λ (a : AccountView). with_sent a c.args.op) (read c)
+written : (c : After-enter) → c.push_sent.new.self ≡ with_sent (ledger c.self.inside.ledgers.items c.args.manager) c.args.op
+written c = c.push_sent.ensures ∙ ap (λ (a : LedgerView). with_sent a c.args.op) (read c)
 
-number : (c : After-enter) → c.next_number-number.result ≡ length (account c.self.inside.accounts.items c.args.manager).sent
-number c = c.next_number-number.ensures.sent ∙ ap (λ (a : AccountView). length a.sent) (read c)
+number : (c : After-enter) → c.next_number-number.result ≡ length (ledger c.self.inside.ledgers.items c.args.manager).sent
+number c = c.next_number-number.ensures.sent ∙ ap (λ (a : LedgerView). length a.sent) (read c)
 
-updates : (c : After-enter) → Updates c.self.inside.slots c.insert_reserved-key.new.self c.insert_reserved-key.result (Some (record { operation = record { manager = c.args.manager; number = length (account c.self.inside.accounts.items c.args.manager).sent }; code = None; handle = 0 }))
+updates : (c : After-enter) → Updates c.self.inside.slots c.insert_reserved-key.new.self c.insert_reserved-key.result (Some (record { operation = record { manager = c.args.manager; number = length (ledger c.self.inside.ledgers.items c.args.manager).sent }; code = None; handle = 0 }))
 updates c = subst (λ k. Updates c.self.inside.slots c.insert_reserved-key.new.self c.insert_reserved-key.result (Some (record { operation = record { manager = c.args.manager; number = k }; code = None; handle = 0 }))) (number c) c.insert_reserved-key.ensures.updates
 
-books : (c : After-enter) → IsBooks (after_sent c.self.inside.accounts.items c.args.manager c.args.op) c.insert_reserved-key.new.self c.self.inside.kept.items c.self.inside.drained.items
+books : (c : After-enter) → IsBooks (after_sent c.self.inside.ledgers.items c.args.manager c.args.op) c.insert_reserved-key.new.self c.self.inside.kept.items c.self.inside.drained.items
 books c =
     let room = rw (← c.self.view_is) at c.requires.room in
-    books_sent c.self.inside.accounts.items c.args.manager c.args.op (known c) c.self.inside.slots c.insert_reserved-key.new.self c.insert_reserved-key.result c.self.inside.kept.items c.self.inside.drained.items c.self.invariant.books room c.insert_reserved-key.ensures.was_vacant (updates c) c.insert_reserved-key.ensures.len
+    books_sent c.self.inside.ledgers.items c.args.manager c.args.op (known c) c.self.inside.slots c.insert_reserved-key.new.self c.insert_reserved-key.result c.self.inside.kept.items c.self.inside.drained.items c.self.invariant.books room c.insert_reserved-key.ensures.was_vacant (updates c) c.insert_reserved-key.ensures.len
 
 within : (c : After-enter) → c.args.manager - 1 < length c.self.inside.rows.items
 within c =
@@ -57,14 +57,14 @@ within c =
     let most = k.within in
     omega arith
 
-entering : (c : After-enter) → c.enter.new.self ≡ set (get_or c.self.inside.rows.items (c.args.manager - 1) []) (length (account c.self.inside.accounts.items c.args.manager).sent) c.insert_reserved-key.result
+entering : (c : After-enter) → c.enter.new.self ≡ set (get_or c.self.inside.rows.items (c.args.manager - 1) []) (length (ledger c.self.inside.ledgers.items c.args.manager).sent) c.insert_reserved-key.result
 entering c =
     let read = get_or_read c.self.inside.rows.items (c.args.manager - 1) c.index_mut-row.result.now (within c) c.index_mut-row.ensures.value [] in
     c.enter.ensures ∙ ap (λ (row : List ℕ). set row c.next_number-number.result c.insert_reserved-key.result) read ∙ ap (λ n. set (get_or c.self.inside.rows.items (c.args.manager - 1) []) n c.insert_reserved-key.result) (number c)
 
-keys : (c : After-enter) → AreKeys (after_sent c.self.inside.accounts.items c.args.manager c.args.op) (entered c.self.inside.rows.items c.args.manager (length (account c.self.inside.accounts.items c.args.manager).sent) c.insert_reserved-key.result) c.insert_reserved-key.new.self
+keys : (c : After-enter) → AreKeys (after_sent c.self.inside.ledgers.items c.args.manager c.args.op) (entered c.self.inside.rows.items c.args.manager (length (ledger c.self.inside.ledgers.items c.args.manager).sent) c.insert_reserved-key.result) c.insert_reserved-key.new.self
 keys c =
-    let at = c.self.inside.accounts.items in
+    let at = c.self.inside.ledgers.items in
     let m = c.args.manager in
     let room = rw (← c.self.view_is) at c.requires.room in
     let b = c.self.invariant.books in
@@ -77,7 +77,7 @@ keys c =
 pub invariant_of-self : goal.invariant_of-self
 invariant_of-self c =
     let d = (goal.at.invariant_of-self c).After-enter in
-    let at = c.self.inside.accounts.items in
+    let at = c.self.inside.ledgers.items in
     let m = c.args.manager in
     let i = c.self.invariant in
     let slot = rw (← c.self.view_is) at c.requires.slot in
@@ -89,8 +89,8 @@ invariant_of-self c =
       slots_used = omega arith;
       slots_room = rw c.insert_reserved-key.ensures.capacity i.slots_room;
       places = i.places;
-      drained_room = rw (planned-put at m (with_sent (account at m) c.args.op) (known d) refl) i.drained_room;
-      limits = rw (length-put_account at m (with_sent (account at m) c.args.op)) i.limits;
+      drained_room = rw (planned-put at m (with_sent (ledger at m) c.args.op) (known d) refl) i.drained_room;
+      limits = rw (length-put_ledger at m (with_sent (ledger at m) c.args.op)) i.limits;
       ends = i.ends;
       ends_room = i.ends_room;
     })
@@ -98,13 +98,13 @@ invariant_of-self c =
 pub returns-clause-out : goal.returns-clause-out
 returns-clause-out c =
     let d = (goal.at.returns-clause-out c).After-enter in
-    let at = c.self.inside.accounts.items in
+    let at = c.self.inside.ledgers.items in
     rw (written d, number d) (sent_now_out at c.args.manager c.args.op (known d) (c.self.invariant.books.orderly c.args.manager (known d)))
 
 pub returns-clause-loose : goal.returns-clause-loose
 returns-clause-loose c = λ k e.
     let d = (goal.at.returns-clause-loose c).After-enter in
-    let at = c.self.inside.accounts.items in
+    let at = c.self.inside.ledgers.items in
     loose_from_handle (after_sent at c.args.manager c.args.op) c.insert_reserved-key.new.self c.insert_reserved-key.result (fresh at c.args.manager c.args.op (known d) c.self.inside.slots c.insert_reserved-key.new.self c.insert_reserved-key.result c.self.inside.kept.items c.self.inside.drained.items) c.self.inside.kept.items c.self.inside.drained.items (books d) (updates d).changed refl k
     (e ∙ ap (λ n. Some (operation_at c.args.manager n)) (number d))
 

@@ -36,5 +36,5 @@ returns-in-Ok-clause-sent g c =
     let one : c.offer.new.self ≡ with_item request old =
     c.in-Ok.ensures.sent ∙ ap (λ (n : ℕ). with_item (request_of c.self.inside.thread n c.args.op.now) old) number in
     rw (← c.self.view_is) (c.note_sent.ensures.sent
-    ∙ ap (λ (rs : List (Sending Request)). record (desk_of c.self.inside) { accounts = after_sent c.self.inside.accounts.items c.args.manager c.args.op.now; requests = rs })
+    ∙ ap (λ (rs : List (Sending Request)). record (desk_of c.self.inside) { ledgers = after_sent c.self.inside.ledgers.items c.args.manager c.args.op.now; requests = rs })
     (ap (set requests (c.args.manager - 1)) one ∙ at_place-set (with_item request) (c.args.manager - 1) requests old within c.index_mut.ensures.value))

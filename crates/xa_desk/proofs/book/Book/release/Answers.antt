@@ -35,7 +35,7 @@ index_mut-requires c =
     let same = c.self.inside.kept.ok.0 in
     omega arith
 
-books : (c : After-set_slot) → IsBooks c.self.inside.accounts.items c.set_slot.new.slots (set c.self.inside.kept.items (c.args.number - 1) None) c.self.inside.drained.items
+books : (c : After-set_slot) → IsBooks c.self.inside.ledgers.items c.set_slot.new.slots (set c.self.inside.kept.items (c.args.number - 1) None) c.self.inside.drained.items
 books c =
     let i = c.self.invariant in
     let p = place ((goal.at.returns-clause-freed c).In_ok-operation) in
@@ -43,16 +43,16 @@ books c =
     let named = c.in-Some.ensures.named in
     let there = c.in-Some.ensures.found in
     let p' : KeptPlace c.self.inside.kept.items c.args.number slot.operation = rw named p in
-    let handle = kept_handle c.self.inside.accounts.items c.self.inside.slots c.in-Some.key slot c.self.inside.kept.items c.self.inside.drained.items i.books there c.args.number p' in
+    let handle = kept_handle c.self.inside.ledgers.items c.self.inside.slots c.in-Some.key slot c.self.inside.kept.items c.self.inside.drained.items i.books there c.args.number p' in
     let moves : Rehandles c.self.inside.kept.items (set c.self.inside.kept.items (c.args.number - 1) None) slot.handle 0 slot.operation = rw handle (rehandles_release c.self.inside.kept.items c.args.number slot.operation p') in
-    books_rehandled c.self.inside.accounts.items c.self.inside.slots c.set_slot.new.slots c.in-Some.key slot 0 c.self.inside.kept.items (set c.self.inside.kept.items (c.args.number - 1) None) c.self.inside.drained.items i.books there moves c.set_slot.ensures.updates c.set_slot.ensures.len
+    books_rehandled c.self.inside.ledgers.items c.self.inside.slots c.set_slot.new.slots c.in-Some.key slot 0 c.self.inside.kept.items (set c.self.inside.kept.items (c.args.number - 1) None) c.self.inside.drained.items i.books there moves c.set_slot.ensures.updates c.set_slot.ensures.len
 
 pub invariant_of-self : goal.invariant_of-self
 invariant_of-self c =
     let i = c.self.invariant in
     record {
       books = books c;
-      keys = keys_kept c.self.inside.accounts.items c.self.inside.rows.items c.self.inside.slots c.set_slot.new.slots c.in-Some.key c.in-Some.slot _ i.keys c.in-Some.ensures.found refl c.set_slot.ensures.updates;
+      keys = keys_kept c.self.inside.ledgers.items c.self.inside.rows.items c.self.inside.slots c.set_slot.new.slots c.in-Some.key c.in-Some.slot _ i.keys c.in-Some.ensures.found refl c.set_slot.ensures.updates;
       slots_used = rw c.set_slot.ensures.len i.slots_used;
       slots_room = rw c.set_slot.ensures.capacity i.slots_room;
       places = length-set c.self.inside.kept.items (c.args.number - 1) None ∙ i.places;
@@ -69,4 +69,4 @@ returns-clause-freed c =
 
 pub returns-clause-loose : goal.returns-clause-loose
 returns-clause-loose c = λ k kept.
-    loose_from_handle c.self.inside.accounts.items c.set_slot.new.slots c.in-Some.key (rehandled c.self.inside.accounts.items c.self.inside.slots c.set_slot.new.slots c.in-Some.key c.in-Some.slot 0 c.self.inside.kept.items (set c.self.inside.kept.items (c.args.number - 1) None) c.self.inside.drained.items) (set c.self.inside.kept.items (c.args.number - 1) None) c.self.inside.drained.items (books c) c.set_slot.ensures.updates.changed refl k (kept ∙ ap (λ (o : Operation). Some o) (sym c.in-Some.ensures.named))
+    loose_from_handle c.self.inside.ledgers.items c.set_slot.new.slots c.in-Some.key (rehandled c.self.inside.ledgers.items c.self.inside.slots c.set_slot.new.slots c.in-Some.key c.in-Some.slot 0 c.self.inside.kept.items (set c.self.inside.kept.items (c.args.number - 1) None) c.self.inside.drained.items) (set c.self.inside.kept.items (c.args.number - 1) None) c.self.inside.drained.items (books c) c.set_slot.ensures.updates.changed refl k (kept ∙ ap (λ (o : Operation). Some o) (sym c.in-Some.ensures.named))

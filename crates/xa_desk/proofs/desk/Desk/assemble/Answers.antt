@@ -7,7 +7,7 @@ use Rattle.xa_desk.proofs.desk.Desk.assemble.Goals as goal
 
 pub invariant_of-result : goal.invariant_of-result
 invariant_of-result c =
-    let none = ap (λ (d : DeskView). outstanding d.accounts) c.assemble.ensures in
+    let none = ap (λ (d : DeskView). outstanding d.ledgers) c.assemble.ensures in
     let zero = nothing_out c.args.parts.plan c.args.parts.use_async in
     (omega arith, subst IsDesk (sym c.assemble.ensures) (tied_new c.args.parts c.args.requests.items c.args.completions c.requires.ends c.requires.new))
 

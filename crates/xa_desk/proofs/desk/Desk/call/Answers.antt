@@ -1,4 +1,5 @@
-use Rattle.std.proofs.Common.{arith}
+use Rattle.std.proofs.Common.{◌≡◌, None, sym, subst, arith}
+use Rattle.xa_desk.specs.DeskView.{call_refusal}
 use Rattle.xa_desk.proofs.Desks.{call_known, called_desk}
 use Rattle.xa_desk.proofs.Looks.{collects_stays}
 use Rattle.xa_desk.proofs.Going.{goes_called}
@@ -9,7 +10,7 @@ use Rattle.xa_desk.proofs.desk.Desk.call.Goals as goal
 pub invariant_of-self : goal.invariant_of-self
 invariant_of-self g c =
     let sent = c.send_waiting-operation.ensures.sent in
-    let called = called_desk _ _ sent.0 c.args.manager c.args.op c.in_default.ensures sent.1 c.self.invariant.1 in
+    let called = called_desk _ _ sent.0 c.args.manager c.args.op (subst (λ d. None ≡ call_refusal d c.args.manager) (sym c.self.view_is) c.in_default.ensures) sent.1 c.self.invariant.1 in
     let stays = collects_stays _ _ _ _ c.wait_for.ensures.collected in
     let fewer = c.wait_for.ensures.collected.fewer in
     let more = c.send_waiting-operation.ensures.more in
@@ -21,7 +22,7 @@ invariant_of-self g c =
 pub returns-clause-tied : goal.returns-clause-tied
 returns-clause-tied g c =
     let sent = c.send_waiting-operation.ensures.sent in
-    let called = called_desk _ _ sent.0 c.args.manager c.args.op c.in_default.ensures sent.1 c.self.invariant.1 in
+    let called = called_desk _ _ sent.0 c.args.manager c.args.op (subst (λ d. None ≡ call_refusal d c.args.manager) (sym c.self.view_is) c.in_default.ensures) sent.1 c.self.invariant.1 in
     (collects_stays _ _ _ _ c.wait_for.ensures.collected).tied called.0
 
 pub returns-clause-goes_on : goal.returns-clause-goes_on
@@ -32,4 +33,4 @@ returns-clause-goes_on g c =
 pub returns-clause-tickets : goal.returns-clause-tickets
 returns-clause-tickets g c =
     let sent = c.send_waiting-operation.ensures.sent in
-    leaves_seen _ _ _ c.self.view_is (called_leaves sent.0 _ _ _ c.args.manager c.args.op _ _ (call_known c.self.inside.book c.args.manager c.in_default.ensures) sent.1 c.send_waiting-operation.ensures.named c.wait_for.ensures.collected)
+    leaves_seen _ _ _ c.self.view_is (called_leaves sent.0 _ _ _ c.args.manager c.args.op _ _ (call_known c.self.inside.book c.args.manager (subst (λ d. None ≡ call_refusal d c.args.manager) (sym c.self.view_is) c.in_default.ensures)) sent.1 c.send_waiting-operation.ensures.named c.wait_for.ensures.collected)

@@ -1,23 +1,23 @@
 use Rattle.std.proofs.Common.{◌≡◌, length, replicate, sym, ◌∙◌, ap, refl}
 use Rattle.std.proofs.lemmas.List.{length-map}
-use Rattle.xa_desk.specs.AccountView.{new_account}
-use Rattle.xa_desk.specs.Lanes.{new_accounts}
+use Rattle.xa_desk.specs.LedgerView.{new_ledger}
+use Rattle.xa_desk.specs.Lanes.{new_ledgers}
 use Rattle.xa_desk.specs.Parts.{carried}
 use Rattle.xa_desk.proofs.Begins.{carried-new}
 use Rattle.xa_desk.proofs.parts.DeskParts.reserve.Goals as goal
 use Rattle.xa_desk.proofs.parts.DeskParts.reserve.Goals.{In_ok-ends}
 
-number : (c : In_ok-ends) → length c.in_ok-accounts.accounts.items ≡ length c.args.use_async.now
-number c = ap length c.in_ok-accounts.ensures ∙ length-map c.args.use_async.now (λ carries. new_account carries c.args.requests)
+number : (c : In_ok-ends) → length c.in_ok-ledgers.ledgers.items ≡ length c.args.use_async.now
+number c = ap length c.in_ok-ledgers.ensures ∙ length-map c.args.use_async.now (λ carries. new_ledger carries c.args.requests)
 
-flags : (c : In_ok-ends) → carried c.in_ok-accounts.accounts.items ≡ c.args.use_async.now
-flags c = ap carried c.in_ok-accounts.ensures ∙ carried-new c.args.requests c.args.use_async.now
+flags : (c : In_ok-ends) → carried c.in_ok-ledgers.ledgers.items ≡ c.args.use_async.now
+flags c = ap carried c.in_ok-ledgers.ensures ∙ carried-new c.args.requests c.args.use_async.now
 
 pub invariant_of-result : goal.invariant_of-result
 invariant_of-result c =
     let d = (goal.at.invariant_of-result c).In_ok-ends in
     record {
-      accounts = c.in_ok-accounts.ensures ∙ ap (new_accounts c.args.requests) (sym (flags d));
+      ledgers = c.in_ok-ledgers.ensures ∙ ap (new_ledgers c.args.requests) (sym (flags d));
       slots = c.in_ok-slots.ensures.empty;
       slots_room = c.in_ok-slots.ensures.capacity;
       rows = c.in_ok-rows.ensures ∙ ap (λ n. replicate n (replicate c.args.requests 0)) (sym (number d));

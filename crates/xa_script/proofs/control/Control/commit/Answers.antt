@@ -19,5 +19,5 @@ returns-in-Ok-clause-commits g c =
     let bs' : c.deref-2.result.now ≡ branches_of asked = c.deref-2.ensures.value ∙ c.in_ok-branches.ensures in
     let own : IsTranOf c.deref-2.result.now (named asked) = subst (λ (l : List Branch). IsTranOf l (named asked)) (sym bs') (of_tran asked _) in
     let may : MayCommit old.desk old.log.state (branches_of asked) = subst (MayCommit old.desk old.log.state) bs (c.may_commit.ensures.0 c.if-not-may_commit.false) in
-    let trace = subst (λ (l : List Branch). IsTraceOfCommit (named asked) l old.desk.accounts c.commit_all.new.desk.accounts old.log.state c.commit_all.new.log.state c.in-Ok.done) bs' (c.in-Ok.ensures.call (named asked) own) in
+    let trace = subst (λ (l : List Branch). IsTraceOfCommit (named asked) l old.desk.ledgers c.commit_all.new.desk.ledgers old.log.state c.commit_all.new.log.state c.in-Ok.done) bs' (c.in-Ok.ensures.call (named asked) own) in
     decided c.in-Ok.done may trace c.in-Ok.ensures.keeps c.in-Ok.ensures.free refl

@@ -1,6 +1,10 @@
 use Rattle.xa_script.specs.Turns.{TurnsOn}
+use Rattle.xa_script.proofs.Going.{HaveTurned}
 use Rattle.xa_script.proofs.turns.Turns.turn_all.Given as goal
 
--- the workers have gone on
+-- the workers so far had a turn each, and all have gone on
 abbrev pub invariant-loop-place : goal.invariant-loop-place
-invariant-loop-place g l = TurnsOn l.initial.self l.self
+invariant-loop-place g l = record {
+  turned : HaveTurned l.place l.initial.self.workers.items l.self.workers.items;
+  on : TurnsOn l.initial.self l.self;
+}

@@ -1,22 +1,15 @@
 -- What a settled opening has of a thread is what its desk had in the end.
-use Rattle.std.proofs.Common.{◌≡◌, ℕ, suc, ◌-◌, ◌<◌, ◌≤◌, Bool, true, false, ◌||◌, ◌==◌, List, [], ◌∷◌, length, map, get_or, sym, refl, ap, ◌∙◌, arith, Some, None, ⊎_elim}
+use Rattle.std.proofs.Common.{◌≡◌, ℕ, suc, ◌-◌, ◌<◌, ◌≤◌, true, false, ◌==◌, List, [], ◌∷◌, length, map, get_or, sym, refl, ap, ◌∙◌, arith, Some, None, ⊎_elim, eq-eqb}
 use Rattle.std.specs.List.{All, Contains, find, list_any}
 use Rattle.std.proofs.lemmas.List.{get_or_default}
-use Rattle.std.proofs.lemmas.Bool.{eqb-true, eqb-false, cases_lt, cases_eq}
+use Rattle.std.proofs.lemmas.Bool.{eqb-true, cases_lt, cases_eq}
 use Rattle.xa_desk.specs.Ended.{EndedView}
 use Rattle.xa_worker.specs.Done.{Served}
 use Rattle.xa_switch.specs.Seats.{AreApartDesks, ComeFromOpenings, AreOfOne, desk_seats, worker_seats, seat_of_ended}
 use Rattle.xa_switch.specs.Closing.{settling, thread_part}
-use Rattle.xa_switch.specs.Settling.{accounts_in}
-use Rattle.xa_switch.specs.Fates.{accounts_of}
-use Rattle.xa_switch.proofs.Lists.{In, in_contains, searched, pairs_at}
-
-right_false : (a b : Bool) → (a || b) ≡ false → b ≡ false
-right_false true b e = cc
-right_false false b e = e
-
-eqb-self : (n : ℕ) → (n == n) ≡ true
-eqb-self n = elim (n == n) as (λ b. (n == n) ≡ b → b ≡ true) [ true ↦ λ e. refl | false ↦ λ e. absurd (eqb-false n n e refl) ] refl
+use Rattle.xa_switch.specs.Settling.{ledgers_in}
+use Rattle.xa_switch.specs.Fates.{ledgers_of}
+use Rattle.xa_switch.proofs.Lists.{searched, fails_each, pairs_at}
 
 -- ---- the settled opening has of a thread what its desk had in the end
 
@@ -41,25 +34,21 @@ module _ (ds : List EndedView) (ws : List Served) (from : ComeFromOpenings (desk
       ⊎_elim (λ (lt : i < k). absurd (apart i k d lt in_e.1 threads)) (λ (le : k ≤ i). absurd (apart k i d (omega (arith, le, other)) in_d.1 (sym threads))) (cases_lt i k))
       (cases_eq i k)
 
-  pub settled_accounts : (e : EndedView) → Contains ds e → accounts_of (settling ds ws) e.thread ≡ e.accounts
-  settled_accounts e in_e =
+  pub settled_ledgers : (e : EndedView) → Contains ds e → ledgers_of (settling ds ws) e.thread ≡ e.ledgers
+  settled_ledgers e in_e =
       ⊎_elim
       (λ (x : (d : EndedView) × Contains ds d × ((d.thread == e.thread) ≡ true) × (find (λ p. p.thread == e.thread) (map thread_part ds) ≡ Some (thread_part d))).
-      ap accounts_in x.3 ∙ ap (λ (d : EndedView). d.accounts) (the_desk x.0 e x.1 in_e (eqb-true x.0.thread e.thread x.2)))
+      ap ledgers_in x.3 ∙ ap (λ (d : EndedView). d.ledgers) (the_desk x.0 e x.1 in_e (eqb-true x.0.thread e.thread x.2)))
       (λ (x : (find (λ p. p.thread == e.thread) (map thread_part ds) ≡ None) × (list_any (λ (d : EndedView). d.thread == e.thread) ds ≡ false)).
-      absurd (none_there ds e in_e x.1))
+      let passes : (e.thread == e.thread) ≡ true = eq-eqb e.thread e.thread refl in
+      let fails : (e.thread == e.thread) ≡ false = fails_each (λ (d : EndedView). d.thread == e.thread) ds e in_e x.1 in
+      cc)
       (searched thread_part (λ p. p.thread == e.thread) ds)
-    where
-      none_there : (l : List EndedView) (e : EndedView) → Contains l e → list_any (λ (d : EndedView). d.thread == e.thread) l ≡ false → ⊥
-      none_there l e c none = there l (in_contains e l c) none where
-        there : (l : List EndedView) → In e l → list_any (λ (d : EndedView). d.thread == e.thread) l ≡ false → ⊥
-        there [] h n = absurd h
-        there (x ∷ l) h n = ⊎_elim (λ (same : x ≡ e). let z : (x.thread == e.thread) ≡ true = ap (λ (d : EndedView). d.thread == e.thread) same ∙ eqb-self e.thread in cc) (λ (i : In e l). there l i (right_false (x.thread == e.thread) _ n)) h
 
-  pub all_settled_accounts : map (λ (e : EndedView). accounts_of (settling ds ws) e.thread) ds ≡ map (λ (e : EndedView). e.accounts) ds
-  all_settled_accounts =
-      mapped (λ (e : EndedView). accounts_of (settling ds ws) e.thread) (λ (e : EndedView). e.accounts) ds
-      (λ k e lt. settled_accounts (get_or ds k e) (k, lt, sym (get_or_default ds k e (get_or ds k e) lt)))
+  pub all_settled_ledgers : map (λ (e : EndedView). ledgers_of (settling ds ws) e.thread) ds ≡ map (λ (e : EndedView). e.ledgers) ds
+  all_settled_ledgers =
+      mapped (λ (e : EndedView). ledgers_of (settling ds ws) e.thread) (λ (e : EndedView). e.ledgers) ds
+      (λ k e lt. settled_ledgers (get_or ds k e) (k, lt, sym (get_or_default ds k e (get_or ds k e) lt)))
     where
       mapped : {X Y : Type 0} (f g : X → Y) (xs : List X) → All (λ x. f x ≡ g x) xs → map f xs ≡ map g xs
       mapped f g [] h = refl

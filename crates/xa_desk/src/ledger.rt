@@ -1,7 +1,7 @@
-//! A desk's account with one manager.
+//! A desk's ledger with one manager.
 ghost use Rattle.std.specs.Prelude.{◌≡◌, ◌-◌, ◌<◌, ◌≤◌, [], ◌∷◌, ◌++◌, length, IfOk};
-ghost use Rattle.xa_desk.specs.AccountView.{new_account, learnt_shut, with_sent, with_collected};
-ghost use Rattle.xa_desk.specs.Lanes.{new_accounts};
+ghost use Rattle.xa_desk.specs.LedgerView.{new_ledger, learnt_shut, with_sent, with_collected};
+ghost use Rattle.xa_desk.specs.Lanes.{new_ledgers};
 
 use std::alloc::{AllocError, Global};
 use std::marker::Model;
@@ -9,7 +9,7 @@ use xa_words::{Code, Op};
 
 /// What was sent to one manager and what was collected from it, in memory that was reserved for the plan.
 #[derive(Drop)]
-pub struct Account {
+pub struct Ledger {
     carries_async: bool,
     learnt_shut: bool,
     plan: u32,
@@ -17,25 +17,25 @@ pub struct Account {
     collected: Vec<(u32, Code)>,
 }
 
-impl Model for Account {
-    ghost use Rattle.xa_desk.specs.AccountView.{AccountView};
-    ghost use Rattle.xa_desk.specs.Account.{account_of, IsAccount};
+impl Model for Ledger {
+    ghost use Rattle.xa_desk.specs.LedgerView.{LedgerView};
+    ghost use Rattle.xa_desk.specs.Ledger.{ledger_of, IsLedger};
 
-    ghost Value = { AccountView };
+    ghost Value = { LedgerView };
 
-    ghost view = { account_of };
+    ghost view = { ledger_of };
 
-    ghost invariant = { IsAccount };
+    ghost invariant = { IsLedger };
 }
 
-impl Account {
-    /// An account with which nothing was done, and room for `plan` requests.
-    pub(crate) fn new(alloc: Global, plan: u32, carries_async: bool) -> Result<Account, AllocError>
-        ensures { IfOk result (λ a. a ≡ new_account carries_async plan) }
+impl Ledger {
+    /// A ledger with which nothing was done, and room for `plan` requests.
+    pub(crate) fn new(alloc: Global, plan: u32, carries_async: bool) -> Result<Ledger, AllocError>
+        ensures { IfOk result (λ a. a ≡ new_ledger carries_async plan) }
     {
         let sent = Vec::with_capacity(alloc, plan as usize)?;
         let collected = Vec::with_capacity(alloc, plan as usize)?;
-        Ok(Account {
+        Ok(Ledger {
             carries_async,
             learnt_shut: false,
             plan,
@@ -108,17 +108,17 @@ impl Account {
     }
 }
 
-/// An account with each manager, and whether it takes asynchronous calls.
-pub(crate) fn open_accounts(
+/// A ledger with each manager, and whether it takes asynchronous calls.
+pub(crate) fn open_ledgers(
     alloc: Global,
     requests: u32,
     use_async: &[bool],
-) -> Result<Vec<Account>, AllocError>
-    ensures { IfOk result (λ v. v.items ≡ new_accounts requests use_async.now) }
+) -> Result<Vec<Ledger>, AllocError>
+    ensures { IfOk result (λ v. v.items ≡ new_ledgers requests use_async.now) }
 {
-    let mut accounts = Vec::with_capacity(alloc, use_async.len())?;
+    let mut ledgers = Vec::with_capacity(alloc, use_async.len())?;
     for carries_async in use_async {
-        accounts.push(Account::new(alloc, requests, *carries_async)?)?;
+        ledgers.push(Ledger::new(alloc, requests, *carries_async)?)?;
     }
-    Ok(accounts)
+    Ok(ledgers)
 }

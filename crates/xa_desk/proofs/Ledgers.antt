@@ -1,4 +1,4 @@
--- What a sending and a collection do to the accounts.
+-- What a sending and a collection do to the ledgers.
 use Rattle.std.proofs.Common.{◌≡◌, ◌≢◌, ℕ, zero, suc, ◌+◌, ◌-◌, ◌<◌, ◌≤◌, ◌⊎◌, false, is_some, ◌||◌, nat_eq, List, [], ◌∷◌, ◌++◌, length, Option, Some, None, get_or, sum_by, sym, refl, ap, ◌∙◌, subst, inl, inr, arith, length-append}
 use Rattle.std.specs.Cmp.{nat_eq_equiv}
 use Rattle.std.proofs.lemmas.List.{map-append, length-set, get_or-set_same, get_or-set_other, get_or_read, length-map}
@@ -10,8 +10,8 @@ use Rattle.std.proofs.lemmas.Bool.{cases_eq, false_from_ne_true, eqb-true, or_ca
 use Rattle.xa_words.specs.declared.request.Op.{Op}
 use Rattle.xa_words.specs.declared.code.Code.{Code}
 use Rattle.xa_desk.specs.declared.operation.Operation.{Operation}
-use Rattle.xa_desk.specs.AccountView.{AccountView, numbers, is_collected, with_sent, with_collected}
-use Rattle.xa_desk.specs.DeskView.{IsKnown, IsSent, IsOut, account, put_account, no_account, after_sent, after_collected}
+use Rattle.xa_desk.specs.LedgerView.{LedgerView, numbers, is_collected, with_sent, with_collected}
+use Rattle.xa_desk.specs.DeskView.{IsKnown, IsSent, IsOut, ledger, put_ledger, no_ledger, after_sent, after_collected}
 use Rattle.xa_desk.specs.Slots.{IsOrderly, planned_total}
 
 pub same_operation : (a b : Operation) → a.manager ≡ b.manager → a.number ≡ b.number → a ≡ b
@@ -62,36 +62,36 @@ module _ {A : Type 0} (f : Option A → ℕ) (zeros : f None ≡ 0) where
       let head : f y ≡ f x = ap f (others 0 (λ e. absurd (omega arith))) in
       omega (arith, sum_by-cons f x xs, sum_by-cons f y ys)
 
-module _ (at : List AccountView) where
-  pub account-put_same : (m : ℕ) (a : AccountView) → IsKnown at m → account (put_account at m a) m ≡ a
-  account-put_same m a known = get_or-set_same at (m - 1) a no_account (omega arith)
+module _ (at : List LedgerView) where
+  pub ledger-put_same : (m : ℕ) (a : LedgerView) → IsKnown at m → ledger (put_ledger at m a) m ≡ a
+  ledger-put_same m a known = get_or-set_same at (m - 1) a no_ledger (omega arith)
 
-  pub account-put_other : (m n : ℕ) (a : AccountView) → 1 ≤ m → 1 ≤ n → n ≢ m → account (put_account at m a) n ≡ account at n
-  account-put_other m n a p q differs = get_or-set_other at (m - 1) (n - 1) a no_account (λ e. differs (omega arith))
+  pub ledger-put_other : (m n : ℕ) (a : LedgerView) → 1 ≤ m → 1 ≤ n → n ≢ m → ledger (put_ledger at m a) n ≡ ledger at n
+  ledger-put_other m n a p q differs = get_or-set_other at (m - 1) (n - 1) a no_ledger (λ e. differs (omega arith))
 
-  pub known_before : (m n : ℕ) (a : AccountView) → IsKnown (put_account at m a) n → IsKnown at n
+  pub known_before : (m n : ℕ) (a : LedgerView) → IsKnown (put_ledger at m a) n → IsKnown at n
   known_before m n a known = record { positive = known.positive; within = rw (length-set at (m - 1) a) at known.within }
 
-  pub known_after : (m n : ℕ) (a : AccountView) → IsKnown at n → IsKnown (put_account at m a) n
+  pub known_after : (m n : ℕ) (a : LedgerView) → IsKnown at n → IsKnown (put_ledger at m a) n
   known_after m n a known = record { positive = known.positive; within = rw (length-set at (m - 1) a) known.within }
 
 -- fewer were collected than sent, where one is outstanding; and never more
-pub collected-le-sent : (a : AccountView) → IsOrderly a → length a.collected ≤ length a.sent
+pub collected-le-sent : (a : LedgerView) → IsOrderly a → length a.collected ≤ length a.sent
 collected-le-sent a o =
     let below : length (numbers a) ≤ length a.sent = length-le_from_distinct_below (numbers a) (length a.sent) o.distinct o.below in
     rw length-map at below
 
-pub orderly_sent : (a : AccountView) (op : Op) → IsOrderly a → length a.sent < a.plan → IsOrderly (with_sent a op)
+pub orderly_sent : (a : LedgerView) (op : Op) → IsOrderly a → length a.sent < a.plan → IsOrderly (with_sent a op)
 orderly_sent a op o room = record {
   planned = omega (arith, length-append a.sent (op ∷ []));
   distinct = o.distinct;
   below = λ n e. let h = o.below n e in omega (arith, length-append a.sent (op ∷ []));
 }
 
-pub is_collected-push : (a : AccountView) (n : ℕ) (code : Code) (q : ℕ) → is_collected (with_collected a n code) q ≡ (is_collected a q || (nat_eq q n || false))
+pub is_collected-push : (a : LedgerView) (n : ℕ) (code : Code) (q : ℕ) → is_collected (with_collected a n code) q ≡ (is_collected a q || (nat_eq q n || false))
 is_collected-push a n code q = rw (map-append (λ (p : ℕ × Code). p.0) a.collected ((n, code) ∷ [])) (list_any-append (nat_eq q) (numbers a) (n ∷ []))
 
-pub orderly_collected : (a : AccountView) (n : ℕ) (code : Code) → IsOrderly a → n < length a.sent → is_collected a n ≡ false → IsOrderly (with_collected a n code)
+pub orderly_collected : (a : LedgerView) (n : ℕ) (code : Code) → IsOrderly a → n < length a.sent → is_collected a n ≡ false → IsOrderly (with_collected a n code)
 orderly_collected a n code o sent fresh = record {
   planned = o.planned;
   distinct = rw (map-append (λ (p : ℕ × Code). p.0) a.collected ((n, code) ∷ [])) (IsDistinct-push nat_eq_equiv (numbers a) n o.distinct fresh);
@@ -104,97 +104,97 @@ orderly_collected a n code o sent fresh = record {
   ];
 }
 
-pub collected-lt-sent : (a : AccountView) (n : ℕ) (code : Code) → IsOrderly a → n < length a.sent → is_collected a n ≡ false → length a.collected < length a.sent
+pub collected-lt-sent : (a : LedgerView) (n : ℕ) (code : Code) → IsOrderly a → n < length a.sent → is_collected a n ≡ false → length a.collected < length a.sent
 collected-lt-sent a n code o sent fresh =
     let more : length (a.collected ++ (n, code) ∷ []) ≤ length a.sent = collected-le-sent (with_collected a n code) (orderly_collected a n code o sent fresh) in
     omega (arith, length-append a.collected ((n, code) ∷ []))
 
 -- sending
 
-module _ (at : List AccountView) (m : ℕ) (op : Op) (known : IsKnown at m) where
+module _ (at : List LedgerView) (m : ℕ) (op : Op) (known : IsKnown at m) where
   abbrev pub sent_now : Operation
-  sent_now = record { manager = m; number = length (account at m).sent }
+  sent_now = record { manager = m; number = length (ledger at m).sent }
 
-  pub account-sent_same : (n : ℕ) → n ≡ m → account (after_sent at m op) n ≡ with_sent (account at n) op
-  account-sent_same n e = rw e (account-put_same at m (with_sent (account at m) op) known)
+  pub ledger-sent_same : (n : ℕ) → n ≡ m → ledger (after_sent at m op) n ≡ with_sent (ledger at n) op
+  ledger-sent_same n e = rw e (ledger-put_same at m (with_sent (ledger at m) op) known)
 
-  pub account-sent_other : (n : ℕ) → 1 ≤ n → n ≢ m → account (after_sent at m op) n ≡ account at n
-  account-sent_other n p differs = account-put_other at m n (with_sent (account at m) op) known.positive p differs
+  pub ledger-sent_other : (n : ℕ) → 1 ≤ n → n ≢ m → ledger (after_sent at m op) n ≡ ledger at n
+  ledger-sent_other n p differs = ledger-put_other at m n (with_sent (ledger at m) op) known.positive p differs
 
   pub sent_keeps_sent : (o : Operation) → IsSent at o → IsSent (after_sent at m op) o
   sent_keeps_sent o was =
-      let k = known_after at m o.manager (with_sent (account at m) op) was.known in
+      let k = known_after at m o.manager (with_sent (ledger at m) op) was.known in
       elim (cases_eq o.manager m) [
-        | inl same ↦ record { known = k; sent = rw (account-sent_same o.manager same) (let h = was.sent in omega (arith, length-append (account at o.manager).sent (op ∷ []))) }
-        | inr differs ↦ record { known = k; sent = rw (account-sent_other o.manager was.known.positive differs) was.sent }
+        | inl same ↦ record { known = k; sent = rw (ledger-sent_same o.manager same) (let h = was.sent in omega (arith, length-append (ledger at o.manager).sent (op ∷ []))) }
+        | inr differs ↦ record { known = k; sent = rw (ledger-sent_other o.manager was.known.positive differs) was.sent }
       ]
 
   pub sent_keeps_out : (o : Operation) → IsOut at o → IsOut (after_sent at m op) o
   sent_keeps_out o was =
-      let k = known_after at m o.manager (with_sent (account at m) op) was.known in
+      let k = known_after at m o.manager (with_sent (ledger at m) op) was.known in
       elim (cases_eq o.manager m) [
         | inl same ↦ record {
           known = k;
-          sent = rw (account-sent_same o.manager same) (let h = was.sent in omega (arith, length-append (account at o.manager).sent (op ∷ [])));
-          open_ = rw (account-sent_same o.manager same) was.open_;
+          sent = rw (ledger-sent_same o.manager same) (let h = was.sent in omega (arith, length-append (ledger at o.manager).sent (op ∷ [])));
+          open_ = rw (ledger-sent_same o.manager same) was.open_;
         }
         | inr differs ↦ record {
           known = k;
-          sent = rw (account-sent_other o.manager was.known.positive differs) was.sent;
-          open_ = rw (account-sent_other o.manager was.known.positive differs) was.open_;
+          sent = rw (ledger-sent_other o.manager was.known.positive differs) was.sent;
+          open_ = rw (ledger-sent_other o.manager was.known.positive differs) was.open_;
         }
       ]
 
-  pub sent_now_out : IsOrderly (account at m) → IsOut (after_sent at m op) sent_now
+  pub sent_now_out : IsOrderly (ledger at m) → IsOut (after_sent at m op) sent_now
   sent_now_out o = record {
-    known = known_after at m m (with_sent (account at m) op) known;
-    sent = rw (account-sent_same m refl) (omega (arith, length-append (account at m).sent (op ∷ [])));
-    open_ = rw (account-sent_same m refl) (false_from_ne_true _ (λ e. let h = o.below _ e in omega arith));
+    known = known_after at m m (with_sent (ledger at m) op) known;
+    sent = rw (ledger-sent_same m refl) (omega (arith, length-append (ledger at m).sent (op ∷ [])));
+    open_ = rw (ledger-sent_same m refl) (false_from_ne_true _ (λ e. let h = o.below _ e in omega arith));
   }
 
   pub sent_out_cases : (o : Operation) → IsOut (after_sent at m op) o → (o ≡ sent_now) ⊎ IsOut at o
   sent_out_cases o is =
-      let k = known_before at m o.manager (with_sent (account at m) op) is.known in
+      let k = known_before at m o.manager (with_sent (ledger at m) op) is.known in
       elim (cases_eq o.manager m) [
         | inl same ↦
-            let within : o.number < length (with_sent (account at o.manager) op).sent = rw (account-sent_same o.manager same) at is.sent in
-            let fresh : is_collected (account at o.manager) o.number ≡ false = rw (account-sent_same o.manager same) at is.open_ in
-            elim (cases_eq o.number (length (account at o.manager).sent)) [
-              | inl last ↦ inl (same_operation o sent_now same (last ∙ ap (λ n. length (account at n).sent) same))
-              | inr before ↦ inr (record { known = k; sent = omega (arith, length-append (account at o.manager).sent (op ∷ [])); open_ = fresh })
+            let within : o.number < length (with_sent (ledger at o.manager) op).sent = rw (ledger-sent_same o.manager same) at is.sent in
+            let fresh : is_collected (ledger at o.manager) o.number ≡ false = rw (ledger-sent_same o.manager same) at is.open_ in
+            elim (cases_eq o.number (length (ledger at o.manager).sent)) [
+              | inl last ↦ inl (same_operation o sent_now same (last ∙ ap (λ n. length (ledger at n).sent) same))
+              | inr before ↦ inr (record { known = k; sent = omega (arith, length-append (ledger at o.manager).sent (op ∷ [])); open_ = fresh })
             ]
         | inr differs ↦ inr (record {
           known = k;
-          sent = rw (account-sent_other o.manager k.positive differs) at is.sent;
-          open_ = rw (account-sent_other o.manager k.positive differs) at is.open_;
+          sent = rw (ledger-sent_other o.manager k.positive differs) at is.sent;
+          open_ = rw (ledger-sent_other o.manager k.positive differs) at is.open_;
         })
       ]
 
   pub unsent : (o : Operation) → IsSent at o → o ≢ sent_now
   unsent o was e =
-      let before : length (account at m).sent < length (account at m).sent = subst (λ p. p.number < length (account at p.manager).sent) e was.sent in
+      let before : length (ledger at m).sent < length (ledger at m).sent = subst (λ p. p.number < length (ledger at p.manager).sent) e was.sent in
       omega arith
 
 -- collecting
 
-module _ (at : List AccountView) (o : Operation) (code : Code) (known : IsKnown at o.manager) where
-  pub account-collected_same : (n : ℕ) → n ≡ o.manager → account (after_collected at o code) n ≡ with_collected (account at n) o.number code
-  account-collected_same n e = rw e (account-put_same at o.manager (with_collected (account at o.manager) o.number code) known)
+module _ (at : List LedgerView) (o : Operation) (code : Code) (known : IsKnown at o.manager) where
+  pub ledger-collected_same : (n : ℕ) → n ≡ o.manager → ledger (after_collected at o code) n ≡ with_collected (ledger at n) o.number code
+  ledger-collected_same n e = rw e (ledger-put_same at o.manager (with_collected (ledger at o.manager) o.number code) known)
 
-  pub account-collected_other : (n : ℕ) → 1 ≤ n → n ≢ o.manager → account (after_collected at o code) n ≡ account at n
-  account-collected_other n p differs = account-put_other at o.manager n (with_collected (account at o.manager) o.number code) known.positive p differs
+  pub ledger-collected_other : (n : ℕ) → 1 ≤ n → n ≢ o.manager → ledger (after_collected at o code) n ≡ ledger at n
+  ledger-collected_other n p differs = ledger-put_other at o.manager n (with_collected (ledger at o.manager) o.number code) known.positive p differs
 
   pub known_collected : (n : ℕ) → IsKnown at n → IsKnown (after_collected at o code) n
-  known_collected n k = known_after at o.manager n (with_collected (account at o.manager) o.number code) k
+  known_collected n k = known_after at o.manager n (with_collected (ledger at o.manager) o.number code) k
 
   pub collected_known : (n : ℕ) → IsKnown (after_collected at o code) n → IsKnown at n
-  collected_known n k = known_before at o.manager n (with_collected (account at o.manager) o.number code) k
+  collected_known n k = known_before at o.manager n (with_collected (ledger at o.manager) o.number code) k
 
   pub collected_keeps_sent : (p : Operation) → IsSent at p → IsSent (after_collected at o code) p
   collected_keeps_sent p was =
       elim (cases_eq p.manager o.manager) [
-        | inl same ↦ record { known = known_collected p.manager was.known; sent = rw (account-collected_same p.manager same) was.sent }
-        | inr differs ↦ record { known = known_collected p.manager was.known; sent = rw (account-collected_other p.manager was.known.positive differs) was.sent }
+        | inl same ↦ record { known = known_collected p.manager was.known; sent = rw (ledger-collected_same p.manager same) was.sent }
+        | inr differs ↦ record { known = known_collected p.manager was.known; sent = rw (ledger-collected_other p.manager was.known.positive differs) was.sent }
       ]
 
   pub collected_keeps_out : (p : Operation) → IsOut at p → p ≢ o → IsOut (after_collected at o code) p
@@ -202,14 +202,14 @@ module _ (at : List AccountView) (o : Operation) (code : Code) (known : IsKnown 
       elim (cases_eq p.manager o.manager) [
         | inl same ↦ record {
           known = known_collected p.manager was.known;
-          sent = rw (account-collected_same p.manager same) was.sent;
-          open_ = rw (account-collected_same p.manager same) (is_collected-push (account at p.manager) o.number code p.number
+          sent = rw (ledger-collected_same p.manager same) was.sent;
+          open_ = rw (ledger-collected_same p.manager same) (is_collected-push (ledger at p.manager) o.number code p.number
               ∙ or_from _ _ was.open_ (or_from _ _ (ne_eqb p.number o.number (λ e. other (same_operation p o same e))) refl));
         }
         | inr differs ↦ record {
           known = known_collected p.manager was.known;
-          sent = rw (account-collected_other p.manager was.known.positive differs) was.sent;
-          open_ = rw (account-collected_other p.manager was.known.positive differs) was.open_;
+          sent = rw (ledger-collected_other p.manager was.known.positive differs) was.sent;
+          open_ = rw (ledger-collected_other p.manager was.known.positive differs) was.open_;
         }
       ]
 
@@ -218,33 +218,33 @@ module _ (at : List AccountView) (o : Operation) (code : Code) (known : IsKnown 
       let k = collected_known p.manager is.known in
       elim (cases_eq p.manager o.manager) [
         | inl same ↦
-            let parts : (is_collected (account at p.manager) p.number ≡ false) × ((nat_eq p.number o.number || false) ≡ false) =
-            or_parts _ _ (sym (is_collected-push (account at p.manager) o.number code p.number) ∙ rw (account-collected_same p.manager same) at is.open_) in (
-              record { known = k; sent = rw (account-collected_same p.manager same) at is.sent; open_ = parts.0 },
+            let parts : (is_collected (ledger at p.manager) p.number ≡ false) × ((nat_eq p.number o.number || false) ≡ false) =
+            or_parts _ _ (sym (is_collected-push (ledger at p.manager) o.number code p.number) ∙ rw (ledger-collected_same p.manager same) at is.open_) in (
+              record { known = k; sent = rw (ledger-collected_same p.manager same) at is.sent; open_ = parts.0 },
               λ e. eqb-false p.number o.number (or_parts _ _ parts.1).0 (ap (λ (q : Operation). q.number) e),
             )
         | inr differs ↦ (
           record {
             known = k;
-            sent = rw (account-collected_other p.manager k.positive differs) at is.sent;
-            open_ = rw (account-collected_other p.manager k.positive differs) at is.open_;
+            sent = rw (ledger-collected_other p.manager k.positive differs) at is.sent;
+            open_ = rw (ledger-collected_other p.manager k.positive differs) at is.open_;
           },
           λ e. differs (ap (λ (q : Operation). q.manager) e),
         )
       ]
 
--- what a read of the list of accounts gives, and what a write leaves
+-- what a read of the list of ledgers gives, and what a write leaves
 
-pub account-read : (at : List AccountView) (m : ℕ) (a : AccountView) → IsKnown at m → a ≡ get_or at (m - 1) a → a ≡ account at m
-account-read at m a known read = get_or_read at (m - 1) a (omega arith) read no_account
+pub ledger-read : (at : List LedgerView) (m : ℕ) (a : LedgerView) → IsKnown at m → a ≡ get_or at (m - 1) a → a ≡ ledger at m
+ledger-read at m a known read = get_or_read at (m - 1) a (omega arith) read no_ledger
 
-pub planned-put : (at : List AccountView) (m : ℕ) (a : AccountView) → IsKnown at m → a.plan ≡ (account at m).plan → planned_total (put_account at m a) ≡ planned_total at
+pub planned-put : (at : List LedgerView) (m : ℕ) (a : LedgerView) → IsKnown at m → a.plan ≡ (ledger at m).plan → planned_total (put_ledger at m a) ≡ planned_total at
 planned-put at m a known same =
-    let sums : planned_total (put_account at m a) + (account at m).plan ≡ planned_total at + a.plan = sum_by-set (λ (x : AccountView). x.plan) at (m - 1) a no_account (omega arith) in
+    let sums : planned_total (put_ledger at m a) + (ledger at m).plan ≡ planned_total at + a.plan = sum_by-set (λ (x : LedgerView). x.plan) at (m - 1) a no_ledger (omega arith) in
     omega arith
 
-pub length-put_account : (at : List AccountView) (m : ℕ) (a : AccountView) → length (put_account at m a) ≡ length at
-length-put_account at m a = length-set at (m - 1) a
+pub length-put_ledger : (at : List LedgerView) (m : ℕ) (a : LedgerView) → length (put_ledger at m a) ≡ length at
+length-put_ledger at m a = length-set at (m - 1) a
 
 pub none_of : {A : Type 0} (x : Option A) → is_some x ≡ false → x ≡ None
 none_of None e = refl
