@@ -1,5 +1,6 @@
 pub mod LedgerView
 pub mod DeskView
+pub mod Kept
 pub mod Looks
 pub mod Ledger
 pub mod Slots

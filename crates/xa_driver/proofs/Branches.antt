@@ -27,7 +27,7 @@ use Rattle.xa_driver.specs.Decision.{is_yes, is_read}
 use Rattle.xa_driver.specs.Endings.{second_op, ending_of, yes_ending, no_ending, is_out_of_reach}
 use Rattle.xa_driver.specs.Asks.{asked, IsAnswered}
 use Rattle.xa_driver.specs.Trace.{BranchTrace, voted}
-use Rattle.xa_driver.specs.Outcomes.{IsBetween, OnlyTheseName, IsBehindShut, told_fate, is_left, is_in_doubt}
+use Rattle.xa_driver.specs.Outcomes.{IsBetween, OnlyTheseName, IsAfterShut, told_fate, is_left, is_in_doubt}
 use Rattle.xa_driver.proofs.Aborts.{by_if}
 use Rattle.xa_driver.proofs.Placing.{eqb-self, request_of, Parted, part, all_others, all_later, answer_at, numbered_both, numbered_length, fates, fate_is, none_both, none_first}
 
@@ -134,7 +134,7 @@ module _ (law : Tabled) (t : ℕ) (x : XidName) (T : Tables) (H : History) (open
       (subst (All (λ (q : ℕ × Code). slice_get (answers t (coded H T)) q.0 ≡ Some q)) collected answered) in
       let is : slice_get (answers t (coded H T)) n ≡ Some (n, (next t P (tables_after p.before T)).1) =
       ap (λ (h : History). slice_get (answers t (coded h T)) n) p.place
-      ∙ answer_at t p.before p.behind (request_of t n P) T n refl (ap (λ (h : History). length h) p.earlier ∙ numbered_length t 0 a.sent) in
+      ∙ answer_at t p.before p.after (request_of t n P) T n refl (ap (λ (h : History). length h) p.earlier ∙ numbered_length t 0 a.sent) in
       record { parted = p; code = same_code _ n n vote _ got is }
 
   -- the fate that a Prepare leaves
@@ -152,17 +152,17 @@ module _ (law : Tabled) (t : ℕ) (x : XidName) (T : Tables) (H : History) (open
     alone post more sent collected =
         let f : First post = first post more sent collected in
         let before : History = f.parted.before in
-        let behind : History = f.parted.behind in
+        let after : History = f.parted.after in
         let here : Tables = tables_after before T in
-        let nowhere : NamesNowhere x behind = λ k d lt.
-        never_named t x n (n + 1) (get_or behind k d) (only before behind (request_of t n P) f.parted.place refl refl k d lt)
-        (λ own. let up = all_later t behind (suc n) post f.parted.later k d lt own in omega (arith, up)) in
+        let nowhere : NamesNowhere x after = λ k d lt.
+        never_named t x n (n + 1) (get_or after k d) (only before after (request_of t n P) f.parted.place refl refl k d lt)
+        (λ own. let up = all_later t after (suc n) post f.parted.later k d lt own in omega (arith, up)) in
         record {
           here = here;
           code = f.code;
           fate_of_vote = λ g e.
               law.leaves H x T ∙ ap (λ (h : History). fate_in x (coded h T)) f.parted.place
-              ∙ fate_is x before behind (request_of t n P) T g (ap (fate_of x P) (sym f.code) ∙ prepare_named vote ∙ e) (unnamed x behind (next t P here).0 nowhere);
+              ∙ fate_is x before after (request_of t n P) T g (ap (fate_of x P) (sym f.code) ∙ prepare_named vote ∙ e) (unnamed x after (next t P here).0 nowhere);
         }
 
   -- ---- a second request was sent
@@ -171,14 +171,14 @@ module _ (law : Tabled) (t : ℕ) (x : XidName) (T : Tables) (H : History) (open
     f : First (op ∷ post)
     f = first (op ∷ post) ((n + 1, c) ∷ more) sent collected
 
-    second : Parted t [] (numbered t (suc (suc n)) post) (request_of t (suc n) op) f.parted.behind
-    second = part t f.parted.behind [] (numbered t (suc (suc n)) post) (request_of t (suc n) op) f.parted.later
+    second : Parted t [] (numbered t (suc (suc n)) post) (request_of t (suc n) op) f.parted.after
+    second = part t f.parted.after [] (numbered t (suc (suc n)) post) (request_of t (suc n) op) f.parted.later
 
     abbrev mid : History
     mid = second.before
 
     abbrev rest : History
-    rest = second.behind
+    rest = second.after
 
     abbrev S : Request
     S = request_of t (suc n) op
@@ -196,14 +196,14 @@ module _ (law : Tabled) (t : ℕ) (x : XidName) (T : Tables) (H : History) (open
     place : H ≡ all_before ++ S ∷ rest
     place = f.parted.place ∙ ap (λ l. f.parted.before ++ request_of t n P ∷ l) second.place ∙ sym (append_assoc f.parted.before (request_of t n P ∷ mid) (S ∷ rest))
 
-    only_behind : All (λ q. names x q.op ≡ true → IsBetween t n (n + 1 + 1) q) f.parted.behind
-    only_behind = only f.parted.before f.parted.behind (request_of t n P) f.parted.place refl refl
+    only_after : All (λ q. names x q.op ≡ true → IsBetween t n (n + 1 + 1) q) f.parted.after
+    only_after = only f.parted.before f.parted.after (request_of t n P) f.parted.place refl refl
 
-    behind_is : f.parted.behind ≡ mid ++ S ∷ rest
-    behind_is = second.place
+    after_is : f.parted.after ≡ mid ++ S ∷ rest
+    after_is = second.place
 
     only_parts : All (λ q. names x q.op ≡ true → IsBetween t n (n + 1 + 1) q) (mid ++ S ∷ rest)
-    only_parts = subst (All (λ (q : Request). names x q.op ≡ true → IsBetween t n (n + 1 + 1) q)) behind_is only_behind
+    only_parts = subst (All (λ (q : Request). names x q.op ≡ true → IsBetween t n (n + 1 + 1) q)) after_is only_after
 
     others : LeavesWaiting t x mid
     others k d lt =
@@ -238,21 +238,21 @@ module _ (law : Tabled) (t : ℕ) (x : XidName) (T : Tables) (H : History) (open
     -- where it made nothing of it, what the Prepare did
     fate_of_first : (g : Fate) → prepare_fate vote ≡ Some g → fate_of x op c ≡ None → fate x H T ≡ g
     fate_of_first g e none =
-        let after : Tables = (next t P (tables_after f.parted.before T)).0 in
+        let now : Tables = (next t P (tables_after f.parted.before T)).0 in
         law.leaves H x T ∙ ap (λ (h : History). fate_in x (coded h T)) f.parted.place
-        ∙ fate_is x f.parted.before f.parted.behind (request_of t n P) T g (ap (fate_of x P) (sym f.code) ∙ prepare_named vote ∙ e)
-        (ap (λ (h : History). fates x h after) behind_is
-        ∙ none_both x mid (S ∷ rest) after (unnamed x mid after (λ k d lt. (others k d lt).0))
+        ∙ fate_is x f.parted.before f.parted.after (request_of t n P) T g (ap (fate_of x P) (sym f.code) ∙ prepare_named vote ∙ e)
+        (ap (λ (h : History). fates x h now) after_is
+        ∙ none_both x mid (S ∷ rest) now (unnamed x mid now (λ k d lt. (others k d lt).0))
         (none_first x S rest there (ap (fate_of x op) (sym code) ∙ none) (unnamed x rest _ quiet_rest)))
 
     -- after a yes vote the branch awaits the outcome
     awaits : vote ≡ Done → AwaitsTheOutcome t x there
     awaits done = law.awaits f.parted.before mid t x T opening (sym f.code ∙ done) others
 
-    behind_shut : there.shut ≡ true → IsBehindShut t (n + 1) H
-    behind_shut e = record {
+    after_shut : there.shut ≡ true → IsAfterShut t (n + 1) H
+    after_shut e = record {
       before = all_before;
-      behind = rest;
+      after = rest;
       request = S;
       place = place;
       thread = refl;
@@ -278,7 +278,7 @@ none_wanted false x v y e = at_true (is_read v || (is_rolled_back v || is_out_of
 -- what a branch that voted so, and whose ledger with its manager was `a`, came to by the manager's history
 pub record Outcome (t : ℕ) (x : XidName) (T : Tables) (H : History) (a : LedgerView) (vote : Code) (e : Ending) : Type 0 where
   pub reached : is_yes vote ≡ true → is_left e ≡ false
-  pub shut : is_yes vote ≡ true → is_in_doubt e ≡ true → IsBehindShut t (length a.sent + 1) H
+  pub shut : is_yes vote ≡ true → is_in_doubt e ≡ true → IsAfterShut t (length a.sent + 1) H
   pub told : (f : Fate) → told_fate e ≡ Some f → fate x H T ≡ f
 
 module _ (law : Tabled) (t : ℕ) (x : XidName) (T : Tables) (H : History) (opening : IsOpening T) (a : LedgerView) (vote : Code) (ops : List Op) (pairs : List (ℕ × Code))
@@ -317,7 +317,7 @@ module _ (law : Tabled) (t : ℕ) (x : XidName) (T : Tables) (H : History) (open
     there : Tables
     code : c ≡ (next t op there).1
     awaits : vote ≡ Done → AwaitsTheOutcome t x there
-    behind_shut : there.shut ≡ true → IsBehindShut t (m + 1) H
+    after_shut : there.shut ≡ true → IsAfterShut t (m + 1) H
 
   double : (op : Op) (c : Code) → a' ≡ with_collected (with_sent X op) (length X.sent) c → Double op c
   double op c is =
@@ -336,7 +336,7 @@ module _ (law : Tabled) (t : ℕ) (x : XidName) (T : Tables) (H : History) (open
         there = there law t x T H opening a vote ops pairs carried answered only_two op c sent.0 collected.0 all_sent all_collected;
         code = code law t x T H opening a vote ops pairs carried answered only_two op c sent.0 collected.0 all_sent all_collected;
         awaits = awaits law t x T H opening a vote ops pairs carried answered only_two op c sent.0 collected.0 all_sent all_collected;
-        behind_shut = behind_shut law t x T H opening a vote ops pairs carried answered only_two op c sent.0 collected.0 all_sent all_collected;
+        after_shut = after_shut law t x T H opening a vote ops pairs carried answered only_two op c sent.0 collected.0 all_sent all_collected;
       }
 
   -- a no vote that leaves the branch
@@ -396,7 +396,7 @@ module _ (law : Tabled) (t : ℕ) (x : XidName) (T : Tables) (H : History) (open
             let code : c ≡ RmFail = z.code ∙ answers_so z.there (z.awaits done) ∙ ap (λ l. if l then RmFail else Done) closed in
             subst (λ (d : Code). Goal (if is_done d then e else (if is_rm_fail d then InDoubt else Left d))) (sym code) (record {
               reached = λ _. refl;
-              shut = λ _ _. z.behind_shut closed;
+              shut = λ _ _. z.after_shut closed;
               told = λ f h. z.told_first f (ap prepare_fate done ∙ h) (ap (fate_of x op) code ∙ by_fail);
             })
       ] refl

@@ -11,3 +11,4 @@ pub mod Branches
 pub mod OneOutcome
 pub mod Settled
 pub mod Staying
+pub mod Kept

@@ -25,10 +25,10 @@ eqb-self n = elim (n == n) as (λ b. (n == n) ≡ b → b ≡ true) [ true ↦ �
 
 pub record Parted (t : ℕ) (xs ys : History) (r : Request) (h : History) : Type 0 where
   pub before : History
-  pub behind : History
-  pub place : h ≡ before ++ r ∷ behind
+  pub after : History
+  pub place : h ≡ before ++ r ∷ after
   pub earlier : of_thread t before ≡ xs
-  pub later : of_thread t behind ≡ ys
+  pub later : of_thread t after ≡ ys
 
 module _ (t : ℕ) where
   part_first : (q : Request) (h : History) (xs ys : History) (r : Request) → (q.thread == t) ≡ true → q ∷ of_thread t h ≡ xs ++ r ∷ ys
@@ -36,14 +36,14 @@ module _ (t : ℕ) where
   part_first q h [] ys r own e on =
       let head : q ≡ r = cc in
       let tail : of_thread t h ≡ ys = cc in
-      record { before = []; behind = h; place = ap (λ (p : Request). p ∷ h) head; earlier = refl; later = tail }
+      record { before = []; after = h; place = ap (λ (p : Request). p ∷ h) head; earlier = refl; later = tail }
   part_first q h (z ∷ zs) ys r own e on =
       let head : q ≡ z = cc in
       let tail : of_thread t h ≡ zs ++ r ∷ ys = cc in
       let p = on zs tail in
       record {
         before = q ∷ p.before;
-        behind = p.behind;
+        after = p.after;
         place = ap (λ l. q ∷ l) p.place;
         earlier = ap (λ b. cond b (q ∷ of_thread t p.before) (of_thread t p.before)) own ∙ (λ i. head i ∷ p.earlier i);
         later = p.later;
@@ -59,7 +59,7 @@ module _ (t : ℕ) where
             let p = part h xs ys r e in
             record {
               before = q ∷ p.before;
-              behind = p.behind;
+              after = p.after;
               place = ap (λ l. q ∷ l) p.place;
               earlier = ap (λ b. cond b (q ∷ of_thread t p.before) (of_thread t p.before)) other ∙ p.earlier;
               later = p.later;
@@ -136,15 +136,15 @@ module _ (t : ℕ) where
   at_seam (x ∷ xs) y ys = at_seam xs y ys
 
   -- what a request of the thread is answered, after n others of it
-  pub answer_at : (before behind : History) (r : Request) (T : Tables) (n : ℕ) → r.thread ≡ t → length (of_thread t before) ≡ n
-      → slice_get (answers t (coded (before ++ r ∷ behind) T)) n ≡ Some (r.number, (next r.thread r.op (tables_after before T)).1)
-  answer_at before behind r T n own count =
+  pub answer_at : (before after : History) (r : Request) (T : Tables) (n : ℕ) → r.thread ≡ t → length (of_thread t before) ≡ n
+      → slice_get (answers t (coded (before ++ r ∷ after) T)) n ≡ Some (r.number, (next r.thread r.op (tables_after before T)).1)
+  answer_at before after r T n own count =
       let here : Tables = tables_after before T in
-      let there : List Entry = coded behind (next r.thread r.op here).0 in
+      let there : List Entry = coded after (next r.thread r.op here).0 in
       let code : Code = (next r.thread r.op here).1 in
       let mine : answers t ((r, code) ∷ there) ≡ (r.number, code) ∷ answers t there =
       ap (λ b. map (λ (e : Entry). (e.0.number, e.1)) (cond b ((r, code) ∷ filter (λ (e : Entry). e.0.thread == t) there) (filter (λ (e : Entry). e.0.thread == t) there))) (ap (λ u. u == t) own ∙ eqb-self t) in
-      ap (λ l. slice_get l n) (ap (answers t) (coded_both before (r ∷ behind) T) ∙ answers_both (coded before T) ((r, code) ∷ there) ∙ ap (λ l. answers t (coded before T) ++ l) mine)
+      ap (λ l. slice_get l n) (ap (answers t) (coded_both before (r ∷ after) T) ∙ answers_both (coded before T) ((r, code) ∷ there) ∙ ap (λ l. answers t (coded before T) ++ l) mine)
       ∙ ap (λ k. slice_get (answers t (coded before T) ++ (r.number, code) ∷ answers t there) k) (sym (answers_length before T ∙ count))
       ∙ at_seam (answers t (coded before T)) (r.number, code) (answers t there)
 
@@ -178,10 +178,10 @@ last_is [] f g = refl
 last_is (x ∷ fs) f g = last_is fs x g
 
 -- the fate is what a request makes of the branch, where nothing after it makes anything of it
-pub fate_is : (x : XidName) (before behind : History) (r : Request) (T : Tables) (f : Fate) → fate_of x r.op (next r.thread r.op (tables_after before T)).1 ≡ Some f
-    → fates x behind (next r.thread r.op (tables_after before T)).0 ≡ [] → fate_in x (coded (before ++ r ∷ behind) T) ≡ f
-fate_is x before behind r T f e none =
-    ap (last_or Absent) (fates_both x before (r ∷ behind) T
+pub fate_is : (x : XidName) (before after : History) (r : Request) (T : Tables) (f : Fate) → fate_of x r.op (next r.thread r.op (tables_after before T)).1 ≡ Some f
+    → fates x after (next r.thread r.op (tables_after before T)).0 ≡ [] → fate_in x (coded (before ++ r ∷ after) T) ≡ f
+fate_is x before after r T f e none =
+    ap (last_or Absent) (fates_both x before (r ∷ after) T
     ∙ ap (λ l. fates x before T ++ l) ((λ i. cons_option (e i) (none i))))
     ∙ last_is (fates x before T) Absent f
 

@@ -1,12 +1,11 @@
 -- What requests to managers leave of the operations that were outstanding before.
-use Rattle.std.proofs.Common.{◌≡◌, ◌≢◌, ℕ, ◌<◌, ◌≤◌, Bool, true, false, ◌==◌, ◌||◌, Option, None, Some, List, [], ◌∷◌, ◌++◌, length, refl, sym, ap, ◌∙◌, subst, arith, length-append}
+use Rattle.std.proofs.Common.{◌≡◌, ℕ, ◌<◌, ◌≤◌, true, false, ◌==◌, ◌||◌, Option, None, Some, List, [], ◌∷◌, length, refl, sym, ap, ◌∙◌, subst, arith, length-append}
 use Rattle.std.specs.FinMap as finmap
 use Rattle.std.proofs.lemmas.Bool.{eqb-true, ne_eqb, or_from}
 use Rattle.xa_words.specs.declared.code.Code.{Code}
 use Rattle.xa_words.specs.declared.request.Op.{Op}
-use Rattle.xa_desk.specs.declared.operation.Operation.{Operation}
-use Rattle.xa_desk.specs.LedgerView.{LedgerView, learnt_shut, is_collected, with_sent, with_collected}
-use Rattle.xa_desk.specs.DeskView.{DeskView, IsOut, ledger}
+use Rattle.xa_desk.specs.LedgerView.{LedgerView, learnt_shut, is_collected, with_sent}
+use Rattle.xa_desk.specs.DeskView.{DeskView, ledger}
 use Rattle.xa_desk.specs.Seats.{DeskSeat}
 use Rattle.xa_desk.specs.Tickets.{LeavesTickets}
 use Rattle.xa_desk.proofs.Ledgers.{is_collected-push}

@@ -96,22 +96,22 @@ pub record IsBetween (t first last : ℕ) (r : Request) : Type 0 where
   pub from : first ≤ r.number
   pub below : r.number < last
 
--- Behind thread t's request of number `first` no request names the branch but those of t itself, up to before number
+-- After thread t's request of number `first` no request names the branch but those of t itself, up to before number
 -- `last`.
 abbrev pub OnlyTheseName : XidName → ℕ → ℕ → ℕ → History → Type 0
 OnlyTheseName x t first last h =
-    (before behind : History) (r : Request) → h ≡ before ++ r ∷ behind → r.thread ≡ t → r.number ≡ first → All (λ q. names x q.op ≡ true → IsBetween t first last q) behind
+    (before after : History) (r : Request) → h ≡ before ++ r ∷ after → r.thread ≡ t → r.number ≡ first → All (λ q. names x q.op ≡ true → IsBetween t first last q) after
 
 -- so for each branch and the requests that the call of thread t sent to its manager: nobody else names it
 pub record AreLeftAlone (s : Settling) (t : ℕ) (bs : List Branch) (old new : List LedgerView) : Type 0 where
   pub each : All (λ b. OnlyTheseName b.xid t (length (ledger old b.m).sent) (length (ledger new b.m).sent) (history_of s b.m)) bs
 
 -- a Shut stands before thread t's request of this number
-pub record IsBehindShut (t n : ℕ) (h : History) : Type 0 where
+pub record IsAfterShut (t n : ℕ) (h : History) : Type 0 where
   pub before : History
-  pub behind : History
+  pub after : History
   pub request : Request
-  pub place : h ≡ before ++ request ∷ behind
+  pub place : h ≡ before ++ request ∷ after
   pub thread : request.thread ≡ t
   pub number : request.number ≡ n
   pub shut : has_shut before ≡ true
@@ -128,7 +128,7 @@ told_fate (Left c) = None
 -- second request.
 pub record KeepsItsVote (s : Settling) (t : ℕ) (b : Branch) (old : LedgerView) (vote : Code) (ending : Ending) : Type 0 where
   pub reached : is_yes vote ≡ true → is_left ending ≡ false
-  pub shut : is_yes vote ≡ true → is_in_doubt ending ≡ true → IsBehindShut t (length old.sent + 1) (history_of s b.m)
+  pub shut : is_yes vote ≡ true → is_in_doubt ending ≡ true → IsAfterShut t (length old.sent + 1) (history_of s b.m)
 
 -- what is told of a branch became of it
 abbrev pub TellsTheFate : Settling → Branch → Ending → Type 0

@@ -3,6 +3,7 @@ ghost use Rattle.std.specs.Prelude.{◌≡◌, OnErr, IfOk, OnOk, None};
 ghost use Rattle.xa_driver.specs.Log.{record_of};
 ghost use Rattle.xa_words.specs.Tran.{TranName};
 ghost use Rattle.xa_desk.specs.DeskView.{outstanding};
+ghost use Rattle.xa_desk.specs.Kept.{AllKept};
 ghost use Rattle.xa_desk.specs.Tickets.{LeavesTickets};
 ghost use Rattle.xa_driver.specs.Asks.{KeepsDesk, LeavesOutstanding};
 ghost use Rattle.xa_driver.specs.Trace.{IsCommit, IsTraceOfCommit, IsTranOf, Logs, MayCommit, commits};
@@ -60,6 +61,7 @@ pub fn commit_all<R: Wait, L: DecisionLog, I: Idle>(
 
     // What is kept under the handles stays, and so does all that was outstanding, with its tickets.
     ensures keeps { OnOk result (KeepsDesk desk.old desk.new) }
+    ensures kept { OnOk result (AllKept desk.old → AllKept desk.new) }
     ensures left { OnOk result (LeavesOutstanding desk.old.ledgers desk.new.ledgers) }
     ensures tickets { OnOk result (LeavesTickets desk.old desk.new) }
     ensures free { OnOk result (outstanding desk.new.ledgers ≡ outstanding desk.old.ledgers) }
@@ -69,21 +71,11 @@ pub fn commit_all<R: Wait, L: DecisionLog, I: Idle>(
     ensures unlogged { OnErr result (log.new ≡ log.old) }
     ensures idled { I.leads idle.old idle.new }
 {
-    let Ok(mut asks) = first_round(alloc, branches) else {
-        return Err(DriverFault::NoMemory);
-    };
-    let Ok(mut seconds) = Vec::with_capacity(alloc, branches.len()) else {
-        return Err(DriverFault::NoMemory);
-    };
-    let Ok(mut votes) = Vec::with_capacity(alloc, branches.len()) else {
-        return Err(DriverFault::NoMemory);
-    };
-    let Ok(mut endings) = Vec::with_capacity(alloc, branches.len()) else {
-        return Err(DriverFault::NoMemory);
-    };
-    let Ok(mut tickets) = Vec::with_capacity(alloc, branches.len()) else {
-        return Err(DriverFault::NoMemory);
-    };
+    let mut asks = first_round(alloc, branches)?;
+    let mut seconds = Vec::with_capacity(alloc, branches.len())?;
+    let mut votes = Vec::with_capacity(alloc, branches.len())?;
+    let mut endings = Vec::with_capacity(alloc, branches.len())?;
+    let mut tickets = Vec::with_capacity(alloc, branches.len())?;
     ask_all(rt, desk, asks.as_mut_slice(), &mut tickets, idle);
     read_votes(&asks, &mut votes);
     let tran = branches[0].xid.tran();

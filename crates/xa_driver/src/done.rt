@@ -1,4 +1,7 @@
 //! What became of a global transaction.
+ghost use Rattle.std.specs.Prelude.{◌≡◌};
+
+use std::alloc::AllocError;
 use xa_words::Code;
 
 /// What became of a branch.
@@ -34,4 +37,14 @@ pub struct Done {
 pub enum DriverFault {
     /// Memory was refused.
     NoMemory,
+}
+
+impl From<AllocError> for DriverFault {
+    ghost use Rattle.xa_driver.specs.declared.done.DriverFault.TheVariants.{NoMemory};
+
+    ghost from_gives = { λ _ fault. fault ≡ NoMemory };
+
+    fn from(_error: AllocError) -> DriverFault {
+        DriverFault::NoMemory
+    }
 }

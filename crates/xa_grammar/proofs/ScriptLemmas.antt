@@ -1,8 +1,9 @@
 -- A line that the grammar reads leaves a script: each manager can be opened with its keys, and each step is of a thread or a manager that there is.
-use Rattle.std.specs.Prelude.{◌≡◌, ℕ, zero, suc, ◌-◌, ◌<◌, ◌≤◌, Bool, true, false, not, cond, ◌&&◌, ◌||◌, ◌==◌, nat_le, nat_lt, if◌then◌else◌, List, [], ◌∷◌, ◌++◌, length, map, filter, Option, None, Some, unwrap_or, get_or, slice_set, IfSome, All, Result, Ok, Err, refl}
+use Rattle.std.specs.Prelude.{◌≡◌, ℕ, zero, suc, ◌-◌, ◌<◌, ◌≤◌, Bool, true, false, not, cond, ◌&&◌, ◌||◌, ◌==◌, nat_le, nat_lt, if◌then◌else◌, List, [], ◌∷◌, ◌++◌, length, map, filter, Option, None, Some, unwrap_or, get_or, slice_set, IfSome, All, Result, Ok, Err, codes, refl}
 use Rattle.std.proofs.Common.{sym, ap, ◌∙◌, subst, arith}
 use Rattle.std.specs.List.{list_all, list_any, slice_index_or}
 use Rattle.std.specs.Option.{ok_or}
+use Rattle.std.specs.Str.{bytes_eq}
 use Rattle.std.specs.Cmp.Derive.{both_true}
 use Rattle.std.proofs.Math.Bool.{or-false}
 use Rattle.std.proofs.lemmas.Bool.{le-leb, leb-true, eqb-true, and_parts}
@@ -14,7 +15,7 @@ use Rattle.xa_words.specs.Key.{key_eq}
 use Rattle.xa_words.specs.Orders.{Decides-key_eq}
 use Rattle.xa_tables.specs.Accounts.{are_accounts, are_apart}
 use Rattle.xa_grammar.specs.declared.fault.Reason.{Reason}
-use Rattle.xa_grammar.specs.declared.fault.Reason.TheVariants.{KeyTwice, TooManyKeys, OutOfRange, BadNumber, TooManyLines, LineTooLong, BadByte}
+use Rattle.xa_grammar.specs.declared.fault.Reason.TheVariants.{KeyTwice, TooManyKeys, OutOfRange, BadNumber, UnknownWord, TooManyLines, LineTooLong, BadByte}
 use Rattle.xa_grammar.specs.declared.script.Declared.{Declared}
 use Rattle.xa_grammar.specs.declared.script.Called.{Called}
 use Rattle.xa_grammar.specs.declared.script.CommitAll.{CommitAll}
@@ -33,9 +34,7 @@ use Rattle.xa_grammar.specs.Fields.{◌>>=◌, Word, word_at, end_of, number_of,
 use Rattle.xa_grammar.specs.Content.{Content, IsScript, IsUpTo, IsOfManager, IsOfLog, IsOfScript, threads_of, managers_of, accounts_of, failing_append, thread_of, with_count, with_key, with_sync, with_failing, with_step}
 use Rattle.xa_grammar.specs.Settings.{before_actions, count_of, not_set, limit_of, setting_of, sync_of, logfail_of, has_key, key_count, declared_of}
 use Rattle.xa_grammar.specs.Commits.{branches_at, commit_of}
-use Rattle.xa_grammar.specs.declared.action.Verb.{Verb}
-use Rattle.xa_grammar.specs.declared.action.Verb.TheVariants as verb
-use Rattle.xa_grammar.specs.Actions.{verb_of, action_at, called_of, task_by, task_of_line, turn_of}
+use Rattle.xa_grammar.specs.Actions.{verb_of, action_at, called_of, call_task, commit_task, task_by, task_of_line, turn_of}
 use Rattle.xa_grammar.specs.Grammar.{head_of, item_by, item_of, line_of, with_item}
 
 -- ---- reading without a fault
@@ -317,18 +316,22 @@ declared_kept s ws d e =
     subst (λ (z : Declared). IsScript s → IsScript (with_key z s)) same
     (key_kept s made (number_is 1 (managers_of s) ws m.0 m.1.0) new.0 (grind (arith, few.0)) (number_is 0 1000000000000 k.0.1 v.0 v.1.0).1)
 
-of_thread : (v : Verb) (s : Content) (line t : ℕ) (ws : List Word) (p : Task) → task_by v s line t ws ≡ Ok p → thread_of p ≡ t
-unfolding task_by called_of commit_of
-of_thread (verb.Call v) s line t ws p e =
-    let c = and_then (called_of line t v ws) _ p e in
+thread_of_call : (line t : ℕ) (w : Word) (ws : List Word) (p : Task) → call_task line t w ws ≡ Ok p → thread_of p ≡ t
+unfolding call_task called_of
+thread_of_call line t w ws p e =
+    let v = and_then (ok_or (verb_of w) UnknownWord) _ p e in
+    let c = and_then (called_of line t v.0 ws) _ p v.1.1 in
     let m = and_then (number_at 0 4294967295 ws) _ c.0 c.1.0 in
-    let a = and_then (action_at v m.0.1) _ c.0 m.1.1 in
+    let a = and_then (action_at v.0 m.0.1) _ c.0 m.1.1 in
     let f = and_then (flags_onto 0 a.0.1) _ c.0 a.1.1 in
     let made : Called = record { line = line; thread = t; manager = m.0.0; action = a.0.0; flags = f.0 } in
     let same : made ≡ c.0 = ok_is made c.0 f.1.1 in
     let is : task.Call c.0 ≡ p = ok_is (task.Call c.0) p c.1.1 in
     sym (ap (λ (z : Called). z.thread) {x = made} {y = c.0} same ∙ ap thread_of is)
-of_thread verb.CommitAll s line t ws p e =
+
+thread_of_commit : (s : Content) (line t : ℕ) (ws : List Word) (p : Task) → commit_task s line t ws ≡ Ok p → thread_of p ≡ t
+unfolding commit_task commit_of
+thread_of_commit s line t ws p e =
     let c = and_then (commit_of s line t ws) _ p e in
     let g = and_then (tran_at ws) _ c.0 c.1.0 in
     let at = and_then (branches_at (managers_of s) g.0.1) _ c.0 g.1.1 in
@@ -337,13 +340,19 @@ of_thread verb.CommitAll s line t ws p e =
     let is : task.CommitAll c.0 ≡ p = ok_is (task.CommitAll c.0) p c.1.1 in
     sym (ap (λ (z : CommitAll). z.thread) {x = made} {y = c.0} same ∙ ap thread_of is)
 
+of_thread : (s : Content) (line t : ℕ) (w : Word) (ws : List Word) (p : Task) → task_by s line t w ws ≡ Ok p → thread_of p ≡ t
+of_thread s line t w ws p =
+    elim (bytes_eq w (codes "commitall")) as (λ b. (if b then commit_task s line t ws else call_task line t w ws) ≡ Ok p → thread_of p ≡ t) [
+      | true ↦ thread_of_commit s line t ws p
+      | false ↦ thread_of_call line t w ws p
+    ]
+
 task_is : (s : Content) (line : ℕ) (w : Word) (ws : List Word) (p : Task) → task_of_line s line w ws ≡ Ok p → IsOfScript s (step.Task p)
 unfolding task_of_line
 task_is s line w ws p e =
     let t = and_then (number_in 1 (threads_of s) w) _ p e in
     let v = and_then (word_at ws) _ p t.1.1 in
-    let verb = and_then (ok_or (verb_of v.0.0) _) _ p v.1.1 in
-    subst (IsUpTo (threads_of s)) (sym (of_thread verb.0 s line t.0 v.0.1 p verb.1.1)) (in_range 1 (threads_of s) w t.0 t.1.0)
+    subst (IsUpTo (threads_of s)) (sym (of_thread s line t.0 v.0.0 v.0.1 p v.1.1)) (in_range 1 (threads_of s) w t.0 t.1.0)
 
 turn_is : (mode : Bool) (s : Content) (line : ℕ) (ws : List Word) (m : ℕ) → turn_of mode s ws ≡ Ok m → IsOfScript s (step.Turn line m)
 unfolding turn_of

@@ -1,117 +1,82 @@
 //! What a thread is told to do.
 ghost use Rattle.std.specs.Prelude.{◌≡◌};
 ghost use Rattle.xa_grammar.specs.Fields.{Takes};
-ghost use Rattle.xa_grammar.specs.Actions.{call_verb_of, verb_of, on_branch, action_at, called_of, task_by, task_of_line, turn_of};
+ghost use Rattle.xa_grammar.specs.Actions.{verb_of, action_at, called_of, commit_task, call_task, task_by, task_of_line, turn_of};
 
 use crate::commit::commit_of;
 use crate::fault::Reason;
 use crate::field::number_in;
 use crate::script::{Action, Called, Script, Task};
 use crate::words::Words;
-use xa_words::Xid;
+use xa_words::{Call, RmOp};
 
 // A handle is a positive 32-bit number with a sign, or 0, which is none.
 const MOST_HANDLE: u64 = i32::MAX as u64;
 
-/// What a thread does to one branch.
-#[derive(Clone, Copy, Debug)]
-pub(crate) enum BranchVerb {
-    Start,
-    End,
-    Prepare,
-    Commit,
-    Rollback,
-}
-
-/// The verb of a call.
-#[derive(Clone, Copy, Debug)]
-pub(crate) enum CallVerb {
-    Open,
-    Close,
-    OnBranch(BranchVerb),
-    Add,
-    Shut,
-    Complete,
-}
-
-/// The verb of an action.
+/// The verb of a call, by what stands between the manager and the flags.
 #[derive(Clone, Copy, Debug)]
 pub(crate) enum Verb {
-    Call(CallVerb),
-    CommitAll,
-}
-
-fn call_verb_of(word: &[u8]) -> Option<CallVerb>
-    ensures { result ≡ call_verb_of word.now }
-{
-    if word == b"open".as_slice() {
-        Some(CallVerb::Open)
-    } else if word == b"close".as_slice() {
-        Some(CallVerb::Close)
-    } else if word == b"start".as_slice() {
-        Some(CallVerb::OnBranch(BranchVerb::Start))
-    } else if word == b"end".as_slice() {
-        Some(CallVerb::OnBranch(BranchVerb::End))
-    } else if word == b"prepare".as_slice() {
-        Some(CallVerb::OnBranch(BranchVerb::Prepare))
-    } else if word == b"commit".as_slice() {
-        Some(CallVerb::OnBranch(BranchVerb::Commit))
-    } else if word == b"rollback".as_slice() {
-        Some(CallVerb::OnBranch(BranchVerb::Rollback))
-    } else if word == b"add".as_slice() {
-        Some(CallVerb::Add)
-    } else if word == b"shut".as_slice() {
-        Some(CallVerb::Shut)
-    } else if word == b"complete".as_slice() {
-        Some(CallVerb::Complete)
-    } else {
-        None
-    }
+    /// Nothing: a call of XA that names no branch.
+    Plain(Call),
+    /// `XID`: a call of XA that names a branch.
+    OnBranch(Call),
+    /// `KEY DELTA`
+    Add,
+    /// Nothing.
+    Shut,
+    /// `HANDLE`
+    Complete,
 }
 
 fn verb_of(word: &[u8]) -> Option<Verb>
     ensures { result ≡ verb_of word.now }
 {
-    if word == b"commitall".as_slice() {
-        return Some(Verb::CommitAll);
-    }
-    Some(Verb::Call(call_verb_of(word)?))
-}
-
-fn on_branch(verb: BranchVerb, xid: Xid) -> Action
-    ensures { result ≡ on_branch verb xid }
-{
-    match verb {
-        BranchVerb::Start => Action::Start(xid),
-        BranchVerb::End => Action::End(xid),
-        BranchVerb::Prepare => Action::Prepare(xid),
-        BranchVerb::Commit => Action::Commit(xid),
-        BranchVerb::Rollback => Action::Rollback(xid),
+    if word == b"open".as_slice() {
+        Some(Verb::Plain(Call::OpenRm))
+    } else if word == b"close".as_slice() {
+        Some(Verb::Plain(Call::CloseRm))
+    } else if word == b"start".as_slice() {
+        Some(Verb::OnBranch(Call::Start))
+    } else if word == b"end".as_slice() {
+        Some(Verb::OnBranch(Call::End))
+    } else if word == b"prepare".as_slice() {
+        Some(Verb::OnBranch(Call::Prepare))
+    } else if word == b"commit".as_slice() {
+        Some(Verb::OnBranch(Call::Commit))
+    } else if word == b"rollback".as_slice() {
+        Some(Verb::OnBranch(Call::Rollback))
+    } else if word == b"add".as_slice() {
+        Some(Verb::Add)
+    } else if word == b"shut".as_slice() {
+        Some(Verb::Shut)
+    } else if word == b"complete".as_slice() {
+        Some(Verb::Complete)
+    } else {
+        None
     }
 }
 
 // The words between the manager and the flags.
 #[tactic(auto, unfolding(crate::specs::Actions::action_at))]
-fn action_at(verb: CallVerb, words: &mut Words) -> Result<Action, Reason>
+fn action_at(verb: Verb, words: &mut Words) -> Result<Action, Reason>
     ensures { Takes result words.new (action_at verb words.old) }
 {
     match verb {
-        CallVerb::Open => Ok(Action::Open),
-        CallVerb::Close => Ok(Action::Close),
-        CallVerb::OnBranch(verb) => Ok(on_branch(verb, words.xid()?)),
-        CallVerb::Add => {
+        Verb::Plain(call) => Ok(Action::Xa(call, None)),
+        Verb::OnBranch(call) => Ok(Action::Xa(call, Some(words.xid()?))),
+        Verb::Add => {
             let key = words.key()?;
             let delta = words.delta()?;
-            Ok(Action::Add(key, delta))
+            Ok(Action::Native(RmOp::Add(key, delta)))
         }
-        CallVerb::Shut => Ok(Action::Shut),
-        CallVerb::Complete => Ok(Action::Complete(words.number(0, MOST_HANDLE)? as i32)),
+        Verb::Shut => Ok(Action::Native(RmOp::Shut)),
+        Verb::Complete => Ok(Action::Complete(words.number(0, MOST_HANDLE)? as i32)),
     }
 }
 
 // The words after the verb of a call.
 #[tactic(auto, unfolding(crate::specs::Actions::called_of))]
-fn called_of(line: u32, thread: u32, verb: CallVerb, words: &mut Words) -> Result<Called, Reason>
+fn called_of(line: u32, thread: u32, verb: Verb, words: &mut Words) -> Result<Called, Reason>
     ensures { result ≡ called_of line thread verb words.old }
 {
     let manager = words.number(0, u64::from(u32::MAX))? as u32;
@@ -126,20 +91,37 @@ fn called_of(line: u32, thread: u32, verb: CallVerb, words: &mut Words) -> Resul
     })
 }
 
-// The words after the verb.
-#[tactic(auto, unfolding(crate::specs::Actions::task_by))]
+// The words after `commitall`.
+#[tactic(auto, unfolding(crate::specs::Actions::commit_task))]
+fn commit_task(script: &Script, line: u32, thread: u32, words: &mut Words) -> Result<Task, Reason>
+    ensures { result ≡ commit_task script.now line thread words.old }
+{
+    Ok(Task::CommitAll(commit_of(script, line, thread, words)?))
+}
+
+// Any other verb, with the words after it.
+#[tactic(auto, unfolding(crate::specs::Actions::call_task))]
+fn call_task(line: u32, thread: u32, verb: &[u8], words: &mut Words) -> Result<Task, Reason>
+    ensures { result ≡ call_task line thread verb.now words.old }
+{
+    let verb = verb_of(verb).ok_or(Reason::UnknownWord)?;
+    Ok(Task::Call(called_of(line, thread, verb, words)?))
+}
+
+// The verb and the words after it.
 fn task_by(
-    verb: Verb,
     script: &Script,
     line: u32,
     thread: u32,
+    verb: &[u8],
     words: &mut Words,
 ) -> Result<Task, Reason>
-    ensures { result ≡ task_by verb script.now line thread words.old }
+    ensures { result ≡ task_by script.now line thread verb.now words.old }
 {
-    match verb {
-        Verb::Call(verb) => Ok(Task::Call(called_of(line, thread, verb, words)?)),
-        Verb::CommitAll => Ok(Task::CommitAll(commit_of(script, line, thread, words)?)),
+    if verb == b"commitall".as_slice() {
+        commit_task(script, line, thread, words)
+    } else {
+        call_task(line, thread, verb, words)
     }
 }
 
@@ -154,8 +136,8 @@ pub(crate) fn task_of_line(
     ensures { result ≡ task_of_line script.now line first.now words.old }
 {
     let thread = number_in(1, u64::from(script.threads()), first)? as u32;
-    let verb = verb_of(words.word()?).ok_or(Reason::UnknownWord)?;
-    task_by(verb, script, line, thread, words)
+    let verb = words.word()?;
+    task_by(script, line, thread, verb, words)
 }
 
 // The words after `turn`: the manager.

@@ -3,7 +3,7 @@ ghost use Rattle.std.specs.Prelude.{◌≡◌, ◌≤◌, ℕ, true, All, IfSome
 
 use std::alloc::{AllocError, Global};
 use std::marker::Model;
-use xa_words::{Delta, Key, Tran, Xid};
+use xa_words::{Call, Key, RmOp, Tran, Xid};
 
 /// A count that a line of its own sets.
 #[derive(Clone, Copy, Debug, PartialEq, Eq)]
@@ -37,19 +37,14 @@ pub struct Declared {
     pub value: u64,
 }
 
-/// What a thread calls.
+/// What a thread calls, as the switch takes it.
 #[derive(Clone, Copy, Debug, PartialEq, Eq)]
 pub enum Action {
-    Open,
-    Close,
-    Start(Xid),
-    Add(Key, Delta),
-    End(Xid),
-    Prepare(Xid),
-    Commit(Xid),
-    Rollback(Xid),
-    Shut,
-    /// The handle that the line gives, which isn't negative.
+    /// A call of XA but `xa_complete()`, with its xid where it takes one.
+    Xa(Call, Option<Xid>),
+    /// A call outside XA.
+    Native(RmOp),
+    /// `xa_complete()` with the handle that the line gives, which isn't negative.
     Complete(i32),
 }
 
@@ -282,7 +277,7 @@ impl Script {
         ensures { OnOk result (self.new ≡ with_step step self.old) }
     {
         // It names the types within a step: a `push` of a type that only contains them gets no proof.
-        let _named: Option<(Action, Called, CommitAll, Task)> = None;
+        let _named: Option<(Xid, RmOp, Action, Called, CommitAll, Task)> = None;
         self.steps.push(step)?;
         Ok(())
     }

@@ -5,7 +5,7 @@ use std::alloc::{AllocError, Global};
 use std::io;
 use std::io::Read;
 use std::test::Fail;
-use xa_words::{Delta, Key, Xid};
+use xa_words::{Call, Delta, Key, RmOp, Xid};
 
 // The line and the reason of a script's fault, where it has one.
 fn fault_of(alloc: Global, mut script: &[u8]) -> Option<(u32, Reason)> {
@@ -266,15 +266,15 @@ fn a_script_is_read_into_settings_keys_and_steps(rt: HostRuntime) -> Result<(), 
         .as_slice()
     );
     let rows = [
-        (5, 1, 1, Action::Open, 0),
-        (6, 1, 1, Action::Start(xid), 0),
-        (7, 2, 1, Action::Add(key, delta), 0),
-        (8, 1, 1, Action::End(xid), 0x2200_0000),
-        (9, 1, 1, Action::Prepare(xid), 0),
-        (10, 3, 1, Action::Commit(xid), 0x4000_0000),
-        (12, 1, 4, Action::Rollback(xid), 0x0020_0000),
-        (13, 1, 2, Action::Close, 0),
-        (14, 2, 1, Action::Shut, 0x8000_0000),
+        (5, 1, 1, Action::Xa(Call::OpenRm, None), 0),
+        (6, 1, 1, Action::Xa(Call::Start, Some(xid)), 0),
+        (7, 2, 1, Action::Native(RmOp::Add(key, delta)), 0),
+        (8, 1, 1, Action::Xa(Call::End, Some(xid)), 0x2200_0000),
+        (9, 1, 1, Action::Xa(Call::Prepare, Some(xid)), 0),
+        (10, 3, 1, Action::Xa(Call::Commit, Some(xid)), 0x4000_0000),
+        (12, 1, 4, Action::Xa(Call::Rollback, Some(xid)), 0x0020_0000),
+        (13, 1, 2, Action::Xa(Call::CloseRm, None), 0),
+        (14, 2, 1, Action::Native(RmOp::Shut), 0x8000_0000),
     ];
     assert_eq!(rt; script.steps().len(), 9);
     for (step, (line, thread, manager, action, flags)) in script.steps().iter().zip(rows) {

@@ -24,6 +24,16 @@ pub enum LaneFault {
     NoMemory,
 }
 
+impl From<AllocError> for LaneFault {
+    ghost use Rattle.xa_lane.specs.declared.lane.LaneFault.TheVariants.{NoMemory};
+
+    ghost from_gives = { λ _ fault. fault ≡ NoMemory };
+
+    fn from(_error: AllocError) -> LaneFault {
+        LaneFault::NoMemory
+    }
+}
+
 /// Why a lane is not closed: the first reason that holds.
 #[derive(Clone, Copy, Debug, PartialEq, Eq)]
 pub enum CloseWhy {
@@ -60,10 +70,7 @@ pub fn open_lane<T: Copy, R: Wait>(
     if !(1..=8).contains(&senders) || !(1..=MOST).contains(&capacity) {
         return Err(LaneFault::BadCount);
     }
-    match new_lane(alloc, name, senders, capacity) {
-        Ok(ends) => Ok(ends),
-        Err(_) => Err(LaneFault::NoMemory),
-    }
+    Ok(new_lane(alloc, name, senders, capacity)?)
 }
 
 fn new_lane<T: Copy>(

@@ -1,127 +1,156 @@
--- What the pieces of a run have become, in turns and in threads.
-use Rattle.std.proofs.Common.{◌≡◌, ◌≢◌, ℕ, ◌+◌, List, [], map, Some, sym, refl, ◌∙◌, ap, subst, arith}
+-- What the threads and the managers of a run have come to, in turns and in threads.
+use Rattle.std.proofs.Common.{◌≡◌, ◌≢◌, ℕ, ◌+◌, List, [], length, map, Some, sym, refl, ◌∙◌, ap, subst, arith}
 use Rattle.std.specs.Prelude.{slice_get, option_map, All}
 use Rattle.std.specs.List.{flat_map}
 use Rattle.std.proofs.lemmas.List.{length-map}
-use Rattle.std.proofs.lemmas.Option.{slice_get_within, slice_get-map}
+use Rattle.std.proofs.lemmas.Option.{slice_get-map}
 use Rattle.xa_desk.specs.DeskView.{DeskView}
 use Rattle.xa_desk.specs.Ended.{EndedView}
 use Rattle.xa_worker.specs.Workers.{Working}
-use Rattle.xa_worker.specs.Done.{Served, SameServed}
+use Rattle.xa_worker.specs.Done.{Served}
 use Rattle.xa_grammar.specs.Content.{Content, tasks_of, Fits, threads_of, managers_of}
-use Rattle.xa_script.specs.declared.transcript.Answer.{Answer}
-use Rattle.xa_script.specs.declared.working.Worked.{Worked}
-use Rattle.xa_script.specs.Chains.{Chain, Pairwise}
-use Rattle.xa_script.specs.Ending.{EndsDesk}
-use Rattle.xa_script.specs.Planning.{AreOpened, control_of, controls_of}
-use Rattle.xa_script.specs.Seating.{SeatsAreKept}
+use Rattle.xa_base.specs.Lists.{Chain}
+use Rattle.xa_base.proofs.Lists.{through, was_mapped, all_at}
+use Rattle.xa_crew.specs.Pieces.{HasServed}
+use Rattle.xa_crew.specs.Run.{Member}
+use Rattle.xa_session.specs.declared.answer.Answer.{Answer}
+use Rattle.xa_session.specs.declared.script_thread.ScriptThread.{ScriptThread}
+use Rattle.xa_session.specs.Sessions.{new_session, new_sessions, HasDone}
+use Rattle.xa_transcript.specs.Planning.{AreOpened}
+use Rattle.xa_transcript.specs.Journals.{answers_to}
+use Rattle.xa_transcript.specs.Runs.{Comes, Ran}
+use Rattle.xa_transcript.proofs.Opened.{opened_thread}
+use Rattle.xa_transcript.proofs.Tasks.{tasks_are_of}
+use Rattle.xa_script.specs.InThreads.{HasWorked, InThreads}
+use Rattle.xa_script.specs.InTurns.{Course, Closing, InTurns, course_of, closing_of}
 use Rattle.xa_script.specs.Turns.{GoesOn}
 use Rattle.xa_script.specs.Turning.{extends_both, all_go_on}
-use Rattle.xa_script.specs.Run.{Course, Closing, HasRun, HaveEnded, HasServed, course_of, closing_of}
-use Rattle.xa_script.specs.Threads.{Goes, HasWorked}
-use Rattle.xa_script.specs.Journals.{answers_to}
-use Rattle.xa_script.proofs.Side.{got, through, was_mapped}
 use Rattle.xa_script.proofs.Going.{run_goes, ends_go, run_count}
-use Rattle.xa_script.proofs.Projecting.{Went, run_went, run_silent, EndedAs, ends_side, ends_tell, ending_tells, told_all, told_none, told_by, flat_none, flat_one, tasks_are_of}
-use Rattle.xa_script.proofs.Opened.{opened_thread}
-use Rattle.xa_script.proofs.Pieces.{Comes, Ran}
+use Rattle.xa_script.proofs.Projecting.{Went, run_went, run_silent, EndedAs, ends_side, ends_tell, ends_silent, told_all, told_none, told, flat_none, flat_one}
 
 -- ---- in turns
 
 -- a worker that went on and then ran
-same_served : (w v : Working) (d : Served) → GoesOn w v → HasServed v d → SameServed w d
-same_served w v d goes served =
+then_served : (w v : Working) (d : Served) → GoesOn w v → HasServed v d → HasServed w d
+then_served w v d goes served =
     let first = goes.same in
     let later = served.same in
     record {
-      number = later.number ∙ first.number;
-      first = later.first ∙ first.first;
-      threads = later.threads ∙ first.threads;
-      receiver = (later.receiver.0 ∙ first.receiver.0, later.receiver.1 ∙ first.receiver.1, later.receiver.2 ∙ first.receiver.2, later.receiver.3 ∙ first.receiver.3);
-      lanes = later.lanes ∙ first.lanes;
-      journal = extends_both w.journal v.journal d.journal goes.journal later.journal;
+      same = record {
+        number = later.number ∙ first.number;
+        first = later.first ∙ first.first;
+        threads = later.threads ∙ first.threads;
+        receiver = (later.receiver.0 ∙ first.receiver.0, later.receiver.1 ∙ first.receiver.1, later.receiver.2 ∙ first.receiver.2, later.receiver.3 ∙ first.receiver.3);
+        lanes = later.lanes ∙ first.lanes;
+        journal = extends_both w.journal v.journal d.journal goes.journal later.journal;
+      };
+      served = served.served;
+      seat = served.seat ∙ goes.seat;
     }
 
-module _ (s : Content) (desks : List DeskView) (workers : List Working) (opened : AreOpened s desks workers) (of_steps : All (Fits (threads_of s) (managers_of s)) s.steps) (seats : SeatsAreKept) where
-  module _ (ran : Course) (runs : HasRun (course_of (controls_of s desks) workers []) s.steps ran) (closed : Closing) (closes : HaveEnded (closing_of [] ran.stage.workers ran.answers) ran.stage.controls closed) (done : List Served) (served : Pairwise HasServed closed.workers done) where
+module _ (s : Content) (desks : List DeskView) (workers : List Working) (opened : AreOpened s desks workers) (fits : All (Fits (threads_of s) (managers_of s)) s.steps) where
+  module _ (ended : List EndedView) (done : List Served) (answers : List Answer) (runs : InTurns s desks workers ended done answers) where
     abbrev first : Course
-    first = course_of (controls_of s desks) workers []
+    first = course_of (new_sessions s desks) workers []
 
     abbrev closing : Closing
-    closing = closing_of [] ran.stage.workers ran.answers
+    closing = closing_of [] runs.ran.stage.workers runs.ran.answers
 
-    desk_comes : (k : ℕ) (d : DeskView) (e : EndedView) → slice_get desks k ≡ Some d → slice_get closed.ended k ≡ Some e → Comes s closed.answers d e
+    desk_comes : (k : ℕ) (d : DeskView) (e : EndedView) → slice_get desks k ≡ Some d → slice_get runs.closed.ended k ≡ Some e → Comes s runs.closed.answers d e
     desk_comes k d e at at_e =
         let t : d.thread ≡ k + 1 = opened_thread s desks workers opened k d at in
-        let at_first : slice_get (controls_of s desks) k ≡ Some (control_of s d) = slice_get-map (control_of s) desks k ∙ ap (option_map (control_of s)) at in
-        let w : Went k (control_of s d) s.steps ran = run_went k (control_of s d) (threads_of s) (managers_of s) first at_first refl s.steps ran runs of_steps in
-        let end : EndedAs w.last e = (ends_side closing refl ran.stage.controls closed closes).each k w.last e w.at at_e in
+        let at_first : slice_get (new_sessions s desks) k ≡ Some (new_session s d) = slice_get-map (new_session s) desks k ∙ ap (option_map (new_session s)) at in
+        let w : Went k (new_session s d) s.steps runs.ran = run_went k (new_session s d) (threads_of s) (managers_of s) first at_first refl s.steps runs.ran runs.runs fits in
+        let end : EndedAs w.last e = (ends_side closing refl runs.ran.stage.sessions runs.closed runs.closes).each k w.last e w.at at_e in
         record {
-          last = w.last;
+          left = w.last;
           runs =
-              subst (λ (n : ℕ). Chain Goes (control_of s d, []) (tasks_of n s.steps) (w.last, answers_to n closed.answers)) (sym t)
-              (subst (λ (l : List Answer). Chain Goes (control_of s d, []) (tasks_of (k + 1) s.steps) (w.last, l)) (sym (ends_tell (k + 1) closing ran.stage.controls closed closes)) w.runs);
-          told = end.told;
-          told' = end.told';
+              subst (λ (n : ℕ). Chain HasDone (new_session s d, []) (tasks_of n s.steps) (w.last, answers_to n runs.closed.answers)) (sym t)
+              (subst (λ (l : List Answer). Chain HasDone (new_session s d, []) (tasks_of (k + 1) s.steps) (w.last, l)) (sym (ends_tell (k + 1) closing runs.ran.stage.sessions runs.closed runs.closes)) w.runs);
+          outstanding = end.outstanding;
           ends = end.ends;
         }
 
-    -- what a run in turns knows of its pieces
-    pub turns_ran : Ran s closed.answers desks workers closed.ended done
-    turns_ran = record {
+    all_come : Ran s runs.closed.answers desks workers runs.closed.ended done
+    all_come = record {
       opened = opened;
-      of_steps = of_steps;
+      fits = fits;
       threads = record {
-        as_many = (ends_side closing refl ran.stage.controls closed closes).as_many ∙ run_count first s.steps ran runs ∙ length-map desks (control_of s);
+        as_many = (ends_side closing refl runs.ran.stage.sessions runs.closed runs.closes).as_many ∙ run_count first s.steps runs.ran runs.runs ∙ length-map desks (new_session s);
         each = desk_comes;
       };
-      others = λ t none_there silent. ends_tell t closing ran.stage.controls closed closes ∙ run_silent t first refl s.steps ran runs silent;
-      managers = through GoesOn HasServed SameServed same_served workers closed.workers done (all_go_on workers ran.stage.workers closed.workers (run_goes first s.steps ran runs) (ends_go closing ran.stage.controls closed closes)) served;
-      seats = seats;
+      others = λ t none_there silent. ends_tell t closing runs.ran.stage.sessions runs.closed runs.closes ∙ run_silent t first refl s.steps runs.ran runs.runs silent;
+      managers = through GoesOn HasServed HasServed then_served workers runs.closed.workers done (all_go_on workers runs.ran.stage.workers runs.closed.workers (run_goes first s.steps runs.ran runs.runs) (ends_go closing runs.ran.stage.sessions runs.closed runs.closes)) runs.served;
     }
+
+    -- what a run in turns has come to
+    pub turns_ran : Ran s answers desks workers ended done
+    turns_ran =
+        subst (λ (l : List Answer). Ran s l desks workers ended done) (sym runs.answered)
+        (subst (λ (l : List EndedView). Ran s runs.closed.answers desks workers l done) (sym runs.ended_are) all_come)
 
   -- ---- in threads
 
-  module _ (threads : List Worked) (worked : Pairwise (λ d w. HasWorked (tasks_of d.thread s.steps) (control_of s d) w) desks threads) (done : List Served) (served : Pairwise HasServed workers done) where
+  module _ (ended : List EndedView) (done : List Served) (answers : List Answer) (runs : InThreads s desks workers ended done answers) where
+    abbrev threads : List (Member ScriptThread)
+    threads = runs.threads
+
+    desk_at : (k : ℕ) (x : Member ScriptThread) → slice_get threads k ≡ Some x → slice_get desks k ≡ Some x.desk
+    desk_at k x at = ap (λ l. slice_get l k) runs.desks_are ∙ slice_get-map (λ (t : Member ScriptThread). t.desk) threads k ∙ ap (option_map (λ (t : Member ScriptThread). t.desk)) at
+
+    -- the thread at place k is of number k + 1
+    number_at : (k : ℕ) (x : Member ScriptThread) → slice_get threads k ≡ Some x → x.desk.thread ≡ k + 1
+    number_at k x at = opened_thread s desks workers opened k x.desk (desk_at k x at)
+
+    worked_at : (k : ℕ) (x : Member ScriptThread) → slice_get threads k ≡ Some x → HasWorked s x
+    worked_at k x at = all_at (HasWorked s) threads k x runs.worked at
+
     -- another thread's answers
-    told_elsewhere : (t k : ℕ) (w : Worked) → t ≢ k + 1 → slice_get threads k ≡ Some w → answers_to t (told_by w) ≡ []
-    told_elsewhere t k w differs at =
-        let within = slice_get_within threads k w at in
-        let many = worked.as_many in
-        let d = got desks k (omega (arith, within, many)) in
-        let has : HasWorked (tasks_of d.0.thread s.steps) (control_of s d.0) w = worked.each k d.0 w d.1 at in
-        let own : d.0.thread ≡ k + 1 = opened_thread s desks workers opened k d.0 d.1 in
-        ending_tells t has.last.0.desk has.last.1 w.desk (told_by w) has.ends ∙ told_none t d.0.thread (λ e. differs (sym e ∙ own)) (control_of s d.0, []) refl (tasks_of d.0.thread s.steps) has.last has.runs (tasks_are_of d.0.thread s.steps)
+    told_elsewhere : (t k : ℕ) (x : Member ScriptThread) → t ≢ k + 1 → slice_get threads k ≡ Some x → answers_to t (told x) ≡ []
+    told_elsewhere t k x differs at =
+        let has = worked_at k x at in
+        let own = number_at k x at in
+        ends_silent t x.attended.client.thread x.attended.client.answers.items x.attended.outstanding.items
+        ∙ told_none t x.desk.thread (λ e. differs (sym e ∙ own)) (new_session s x.desk, []) refl (tasks_of x.desk.thread s.steps) (has.left, x.attended.client.answers.items) has.runs (tasks_are_of x.desk.thread s.steps)
 
-    thread_comes : (k : ℕ) (d : DeskView) (e : EndedView) → slice_get desks k ≡ Some d → slice_get (map (λ (w : Worked). w.desk) threads) k ≡ Some e → Comes s (flat_map told_by threads) d e
+    thread_comes : (k : ℕ) (d : DeskView) (e : EndedView) → slice_get (map (λ (t : Member ScriptThread). t.desk) threads) k ≡ Some d → slice_get (map (λ (t : Member ScriptThread). t.ended) threads) k ≡ Some e → Comes s (flat_map told threads) d e
     thread_comes k d e at at_e =
-        let found = was_mapped (λ (w : Worked). w.desk) threads k e at_e in
-        let w = found.0 in
-        let has : HasWorked (tasks_of d.thread s.steps) (control_of s d) w = worked.each k d w at found.1 in
-        let own : d.thread ≡ k + 1 = opened_thread s desks workers opened k d at in
-        let told : answers_to d.thread (flat_map told_by threads) ≡ has.last.1 =
-        flat_one d.thread threads k w found.1 (λ j v differs at_v. told_elsewhere d.thread j v (λ same. differs (omega (arith, same, own))) at_v)
-        ∙ ending_tells d.thread has.last.0.desk has.last.1 w.desk (told_by w) has.ends
-        ∙ told_all d.thread (control_of s d, []) refl (tasks_of d.thread s.steps) has.last has.runs (tasks_are_of d.thread s.steps) in
-        record {
-          last = has.last.0;
-          runs = subst (λ (l : List Answer). Chain Goes (control_of s d, []) (tasks_of d.thread s.steps) (has.last.0, l)) (sym told) has.runs;
-          told = has.last.1;
-          told' = told_by w;
-          ends = subst (λ (x : EndedView). EndsDesk has.last.0.desk has.last.1 x (told_by w)) found.2 has.ends;
-        }
+        let found = was_mapped (λ (t : Member ScriptThread). t.desk) threads k d at in
+        let x = found.0 in
+        let also = was_mapped (λ (t : Member ScriptThread). t.ended) threads k e at_e in
+        let same_end : x.ended ≡ e = some_same (x.ended) e (sym (slice_get-map (λ (t : Member ScriptThread). t.ended) threads k ∙ ap (option_map (λ (t : Member ScriptThread). t.ended)) found.1) ∙ at_e) in
+        let has = worked_at k x found.1 in
+        let own = number_at k x found.1 in
+        let t = x.desk.thread in
+        let all_told : answers_to t (flat_map told threads) ≡ x.attended.client.answers.items =
+        flat_one t threads k x found.1 (λ j v differs at_v. told_elsewhere t j v (λ same. differs (omega (arith, same, own))) at_v)
+        ∙ ends_silent t x.attended.client.thread x.attended.client.answers.items x.attended.outstanding.items
+        ∙ told_all t (new_session s x.desk, []) refl (tasks_of t s.steps) (has.left, x.attended.client.answers.items) has.runs (tasks_are_of t s.steps) in
+        let comes : Comes s (flat_map told threads) x.desk x.ended = record {
+          left = has.left;
+          runs = subst (λ (l : List Answer). Chain HasDone (new_session s x.desk, []) (tasks_of t s.steps) (has.left, l)) (sym all_told) has.runs;
+          outstanding = x.attended.outstanding.items;
+          ends = has.ends;
+        } in
+        subst (λ (y : EndedView). Comes s (flat_map told threads) d y) same_end (subst (λ (y : DeskView). Comes s (flat_map told threads) y x.ended) found.2 comes)
+      where
+        some_same : (x y : EndedView) → Some x ≡ Some y → x ≡ y
+        some_same x y e = cc
 
-    -- what a run in threads knows of its pieces
-    pub threads_ran : Ran s (flat_map told_by threads) desks workers (map (λ w. w.desk) threads) done
-    threads_ran = record {
+    all_there : Ran s (flat_map told threads) desks workers (map (λ (t : Member ScriptThread). t.ended) threads) done
+    all_there = record {
       opened = opened;
-      of_steps = of_steps;
-      threads = record { as_many = length-map threads (λ w. w.desk) ∙ worked.as_many; each = thread_comes };
-      others = λ t none_there silent. flat_none t threads (λ k w at.
-          let within = slice_get_within threads k w at in
-          let many = worked.as_many in
-          let d = got desks k (omega (arith, within, many)) in
-          told_elsewhere t k w (λ same. none_there k d.0 d.1 (opened_thread s desks workers opened k d.0 d.1 ∙ sym same)) at);
-      managers = record { as_many = served.as_many; each = λ k w d at at'. (served.each k w d at at').same };
-      seats = seats;
+      fits = fits;
+      threads = record {
+        as_many = length-map threads (λ (t : Member ScriptThread). t.ended) ∙ sym (length-map threads (λ (t : Member ScriptThread). t.desk)) ∙ ap (λ (l : List DeskView). length l) (sym runs.desks_are);
+        each = λ k d e at at_e. thread_comes k d e (ap (λ l. slice_get l k) (sym runs.desks_are) ∙ at) at_e;
+      };
+      others = λ t none_there silent. flat_none t threads (λ k x at. told_elsewhere t k x (λ same. none_there k x.desk (desk_at k x at) (number_at k x at ∙ sym same)) at);
+      managers = runs.served;
     }
+
+    -- what a run in threads has come to
+    pub threads_ran : Ran s answers desks workers ended done
+    threads_ran =
+        subst (λ (l : List Answer). Ran s l desks workers ended done) (sym runs.answered)
+        (subst (λ (l : List EndedView). Ran s (flat_map told threads) desks workers l done) (sym runs.ended_are) all_there)

@@ -7,20 +7,21 @@ use Rattle.std.proofs.lemmas.Option.{slice_get_within}
 use Rattle.xa_worker.specs.declared.step.Step.{Step as Did}
 use Rattle.xa_worker.specs.declared.step.Step.TheVariants as did
 use Rattle.xa_worker.specs.Journal.{Entry, entry_next}
+use Rattle.xa_worker.specs.Seats.{seat_of_worker}
 use Rattle.xa_worker.specs.Workers.{Working, SameWorker, Extends, IsTied}
 use Rattle.xa_worker.specs.Steps.{Stepped, EntersOne, Waits, StillHolds, Holds}
 use Rattle.std.proofs.Common.{append-nil}
 use Rattle.xa_grammar.specs.declared.script.Step.{Step}
 use Rattle.xa_grammar.specs.declared.script.Step.TheVariants as step
 use Rattle.xa_grammar.specs.Content.{thread_of}
-use Rattle.xa_script.specs.declared.control.Control.{Control}
-use Rattle.xa_script.specs.declared.transcript.Answer.{Answer}
-use Rattle.xa_script.specs.Chains.{Chain, Pairwise}
-use Rattle.xa_script.specs.Chains.Chain.{none, more}
+use Rattle.xa_session.specs.declared.session.Session.{Session}
+use Rattle.xa_session.specs.declared.answer.Answer.{Answer}
+use Rattle.xa_base.specs.Lists.{Chain, Pairwise}
+use Rattle.xa_base.specs.Lists.Chain.{none, more}
 use Rattle.xa_script.specs.Turns.{GoesOn, AllGoOn, TakesTurn, HadTurn}
 use Rattle.xa_script.specs.Turning.{goes_nowhere, all_stay, all_go_on}
-use Rattle.xa_script.specs.Run.{Stage, Course, Steps, HasStepped, Closing, HasEndedDesk}
-use Rattle.xa_script.proofs.Side.{some_same, got_set, set_there}
+use Rattle.xa_script.specs.InTurns.{Stage, Course, Steps, HasStepped, Closing, HasEndedDesk}
+use Rattle.xa_base.proofs.Lists.{some_same, got_set, set_there}
 
 -- ---- one step
 
@@ -46,8 +47,8 @@ stepped_extends w did.EndSeen w' is = as_it_was w.journal w'.journal (ap journal
 stepped_extends w did.Empty w' is = as_it_was w.journal w'.journal (ap journal_of is.2)
 stepped_extends w did.Blocked w' is = blocked w w' is
 
-pub step_goes : (w : Working) (s : Did) (w' : Working) → Stepped w s w' → SameWorker w w' → IsTied w' → GoesOn w w'
-step_goes w s w' is same tied = record { same = same; journal = stepped_extends w s w' is; tied = λ before. tied }
+pub step_goes : (w : Working) (s : Did) (w' : Working) → Stepped w s w' → SameWorker w w' → seat_of_worker w' ≡ seat_of_worker w → IsTied w' → GoesOn w w'
+step_goes w s w' is same seat tied = record { same = same; seat = seat; journal = stepped_extends w s w' is; tied = λ before. tied }
 
 -- ---- one worker of all
 
@@ -64,7 +65,7 @@ one_goes_on ws i x y at goes = record {
 }
 
 pub turn_goes : (m : ℕ) (s : Did) (old new : List Working) → TakesTurn m s old new → AllGoOn old new
-turn_goes m s old new is = subst (AllGoOn old) (sym is.rest) (one_goes_on old (m - 1) is.before is.behind is.at is.goes)
+turn_goes m s old new is = subst (AllGoOn old) (sym is.rest) (one_goes_on old (m - 1) is.before is.after is.at is.goes)
 
 -- ---- all of a run
 
@@ -76,18 +77,18 @@ pub run_goes : (old : Course) (steps : List Step) (new : Course) → Chain HasSt
 run_goes old steps new (none xs last e f) = subst (λ (c : Course). AllGoOn old.stage.workers c.stage.workers) (sym f) (all_stay old.stage.workers)
 run_goes old steps new (more xs x now last before is) = all_go_on old.stage.workers now.stage.workers last.stage.workers (run_goes old xs now before) (steps_go x now.stage last.stage is.answer is.steps)
 
-pub ends_go : (old : Closing) (controls : List Control) (new : Closing) → Chain HasEndedDesk old controls new → AllGoOn old.workers new.workers
-ends_go old controls new (none xs last e f) = subst (λ (c : Closing). AllGoOn old.workers c.workers) (sym f) (all_stay old.workers)
-ends_go old controls new (more xs x now last before is) = all_go_on old.workers now.workers last.workers (ends_go old xs now before) is.turns
+pub ends_go : (old : Closing) (sessions : List Session) (new : Closing) → Chain HasEndedDesk old sessions new → AllGoOn old.workers new.workers
+ends_go old sessions new (none xs last e f) = subst (λ (c : Closing). AllGoOn old.workers c.workers) (sym f) (all_stay old.workers)
+ends_go old sessions new (more xs x now last before is) = all_go_on old.workers now.workers last.workers (ends_go old xs now before) is.turns
 
 -- ---- as many threads as there were
 
-pub steps_count : (p : Step) (old new : Stage) (a : Answer) → Steps p old new a → length new.controls ≡ length old.controls
-steps_count (step.Task p) old new a is = ap (λ l. length l) is.rest ∙ length-set old.controls (thread_of p - 1) is.behind
+pub steps_count : (p : Step) (old new : Stage) (a : Answer) → Steps p old new a → length new.sessions ≡ length old.sessions
+steps_count (step.Task p) old new a is = ap (λ l. length l) is.rest ∙ length-set old.sessions (thread_of p - 1) is.after
 steps_count (step.Turn line m) old new a is = ap (λ l. length l) is.rest
 
-pub run_count : (old : Course) (steps : List Step) (new : Course) → Chain HasStepped old steps new → length new.stage.controls ≡ length old.stage.controls
-run_count old steps new (none xs last e f) = ap (λ (c : Course). length c.stage.controls) f
+pub run_count : (old : Course) (steps : List Step) (new : Course) → Chain HasStepped old steps new → length new.stage.sessions ≡ length old.stage.sessions
+run_count old steps new (none xs last e f) = ap (λ (c : Course). length c.stage.sessions) f
 run_count old steps new (more xs x now last before is) = steps_count x now.stage last.stage is.answer is.steps ∙ run_count old xs now before
 
 -- ---- all of them, one after the other

@@ -1,14 +1,6 @@
-pub mod Transcript
-pub mod Chains
-pub mod Planning
-pub mod Calling
-pub mod Committing
-pub mod Ending
 pub mod Turns
 pub mod Turning
-pub mod Values
-pub mod Seating
-pub mod Journals
-pub mod Run
-pub mod Threads
+pub mod InTurns
+pub mod InThreads
+pub mod Outcome
 pub mod Program

@@ -5,13 +5,12 @@ use Rattle.xa_grammar.specs.declared.fault.Reason.{Reason}
 use Rattle.xa_grammar.specs.declared.fault.ScriptFault.TheVariants as script
 use Rattle.xa_grammar.specs.Content.{Content}
 use Rattle.xa_grammar.specs.Grammar.{script_of}
-use Rattle.xa_script.specs.declared.transcript.RunFault.TheVariants as run
-use Rattle.xa_script.specs.declared.entry.Mode.{Mode}
-use Rattle.xa_script.specs.declared.entry.Mode.TheVariants as mode
+use Rattle.xa_transcript.specs.declared.transcript.RunFault.TheVariants as run
+use Rattle.xa_script.specs.declared.mode.Mode.{Mode}
+use Rattle.xa_script.specs.declared.mode.Mode.TheVariants as mode
 use Rattle.xa_script.specs.declared.entry.Fault.{Fault}
 use Rattle.xa_script.specs.declared.entry.Fault.TheVariants.{Usage, NoMemory, Script, Run}
-use Rattle.xa_script.specs.Run.{WritesTranscript}
-use Rattle.xa_script.specs.Threads.{WritesThreads}
+use Rattle.xa_script.specs.Outcome.{Writes}
 
 -- Each thread of the script has a thread of its own, and no manager takes a turn.
 abbrev pub has_threads : Mode → Bool
@@ -45,14 +44,9 @@ status_of (Run run.Write) = 4
 abbrev pub IsJudged : Fault → Type 0
 IsJudged fault = (fault ≡ Usage) ⊎ (fault ≡ NoMemory)
 
--- What a writer holds grew by the transcript of a script that was run in this mode.
-abbrev pub Writes : Mode → Content → Option (List ℕ) → Option (List ℕ) → Type 0
-Writes mode.Turns s before behind = WritesTranscript s before behind
-Writes mode.Threads s before behind = WritesThreads s before behind
-
 -- The bytes are a script of this mode, and what the writer holds grew by its transcript.
 abbrev pub ShowsRun : Mode → Option (List ℕ) → Option (List ℕ) → List ℕ → Type 0
-ShowsRun m before behind bytes = (s : Content) × (script_of (has_threads m) bytes ≡ Ok s) × Writes m s before behind
+ShowsRun m before after bytes = (s : Content) × (script_of (has_threads m) bytes ≡ Ok s) × Writes m s before after
 
 -- The bytes are no script of this mode: a line is faulty.
 abbrev pub IsFaulty : Mode → List ℕ → Type 0
@@ -60,10 +54,10 @@ IsFaulty m bytes = (fault : ℕ × Reason) × (script_of (has_threads m) bytes �
 
 -- On a fault nothing is shown, but where a write failed; and a faulty line is the one that the mode's grammar finds.
 abbrev pub FailsBy : Fault → Mode → Option (List ℕ) → Option (List ℕ) → Option (List ℕ) → Type 0
-FailsBy Usage m bytes before behind = behind ≡ before
-FailsBy NoMemory m bytes before behind = behind ≡ before
-FailsBy (Script (script.Line n why)) m bytes before behind = (behind ≡ before) × IfSome bytes (λ b. script_of (has_threads m) b ≡ Err (n, why))
-FailsBy (Script script.Read) m bytes before behind = behind ≡ before
-FailsBy (Script script.NoMemory) m bytes before behind = behind ≡ before
-FailsBy (Run run.NoMemory) m bytes before behind = behind ≡ before
-FailsBy (Run run.Write) m bytes before behind = Unit {0}
+FailsBy Usage m bytes before after = after ≡ before
+FailsBy NoMemory m bytes before after = after ≡ before
+FailsBy (Script (script.Line n why)) m bytes before after = (after ≡ before) × IfSome bytes (λ b. script_of (has_threads m) b ≡ Err (n, why))
+FailsBy (Script script.Read) m bytes before after = after ≡ before
+FailsBy (Script script.NoMemory) m bytes before after = after ≡ before
+FailsBy (Run run.NoMemory) m bytes before after = after ≡ before
+FailsBy (Run run.Write) m bytes before after = Unit {0}

@@ -26,6 +26,7 @@ extends_both i j k first later = (first.0 ++ later.0, later.1 ∙ ap (λ l. l ++
 pub goes_nowhere : (w : Working) → GoesOn w w
 goes_nowhere w = record {
   same = record { number = refl; first = refl; threads = refl; receiver = (refl, refl, refl, refl); lanes = refl };
+  seat = refl;
   journal = ([], sym (append-nil w.journal));
   tied = λ is. is;
 }
@@ -34,6 +35,7 @@ goes_nowhere w = record {
 pub goes_both : (u v w : Working) → GoesOn u v → GoesOn v w → GoesOn u w
 goes_both u v w first later = record {
   same = same_worker u v w first.same later.same;
+  seat = later.seat ∙ first.seat;
   journal = extends_both u.journal v.journal w.journal first.journal later.journal;
   tied = λ is. later.tied (first.tied is);
 }

@@ -1,12 +1,13 @@
 //! The program, over any reader and writers.
 ghost use Rattle.std.specs.Prelude.{◌≡◌, ◌⊎◌, ◌<◌, OnOk, IfErr, IsErrOf, IfSome};
-ghost use Rattle.xa_script.specs.declared.entry.Mode.{Mode};
+ghost use Rattle.xa_script.specs.declared.mode.Mode.{Mode};
 ghost use Rattle.xa_script.specs.declared.entry.Fault.TheVariants.{NoMemory};
-ghost use Rattle.xa_script.specs.Program.{status_of, IsMode, AreWords, IsJudged, Writes, ShowsRun, IsFaulty, FailsBy};
+ghost use Rattle.xa_script.specs.Outcome.{Writes};
+ghost use Rattle.xa_script.specs.Program.{status_of, IsMode, AreWords, IsJudged, ShowsRun, IsFaulty, FailsBy};
 
-use crate::run::run_turns;
-use crate::threads::run_threads;
-use crate::transcript::RunFault;
+use crate::in_threads::run_threads;
+use crate::in_turns::run_turns;
+use crate::mode::Mode;
 use clap::error::ErrorKind;
 use clap::{Arg, Command};
 use std::alloc::{AllocError, Global};
@@ -15,6 +16,7 @@ use std::sync::Wait;
 use std::thread::Threads;
 use thiserror::Error;
 use xa_grammar::{Script, ScriptFault, read_script};
+use xa_transcript::RunFault;
 use xa_worker::Free;
 
 // Why the program shows no transcript, or not all of it.
@@ -50,15 +52,6 @@ fn status_of(fault: Fault) -> u8
             3,
         Fault::Script(ScriptFault::Read) | Fault::Run(RunFault::Write) => 4,
     }
-}
-
-// How a script is run.
-#[derive(Clone, Copy, Debug, PartialEq, Eq)]
-pub(crate) enum Mode {
-    // In one thread, in which the workers take turns.
-    Turns,
-    // Each thread of the script and each worker has a thread of its own.
-    Threads,
 }
 
 // Judges whether the words are the one word of a mode. A word that could be an option is judged before

@@ -1,17 +1,14 @@
-//! What a script has opened: a desk for each of its threads and a worker for each of its managers.
+//! What a script has opened.
 ghost use Rattle.std.specs.Prelude.{◌≡◌, ◌≤◌, All, IfOk, length, map};
 ghost use Rattle.std.specs.List.{range_with_len};
 ghost use Rattle.xa_switch.specs.Plans.{IsUpTo, IsSoundManager, IsSound};
 ghost use Rattle.xa_grammar.specs.Content.{accounts_of, managers_of};
-ghost use Rattle.xa_script.specs.Planning.{planned_of, planned, IsPlanOf, AreOpened};
+ghost use Rattle.xa_transcript.specs.Planning.{planned_of, planned, IsPlanOf};
 
 use std::alloc::{AllocError, Global};
-use std::sync::Wait;
-use xa_desk::Desk;
 use xa_grammar::{Declared, Script};
-use xa_switch::{ManagerPlan, OpenFault, Plan, open_switch};
+use xa_switch::{ManagerPlan, Plan};
 use xa_words::Key;
-use xa_worker::Worker;
 
 // The number of a run's one opening.
 const OPENING: u64 = 1;
@@ -55,8 +52,8 @@ fn manager_plans(alloc: Global, script: &Script) -> Result<Vec<ManagerPlan>, All
     Ok(plans)
 }
 
-// What the script says is to be opened.
-fn plan_of(alloc: Global, script: &Script) -> Result<Plan, AllocError>
+/// What the script says is to be opened.
+pub(crate) fn plan_of(alloc: Global, script: &Script) -> Result<Plan, AllocError>
     ensures plan { IfOk result (IsPlanOf script.now) }
     ensures sound { IfOk result IsSound }
 {
@@ -68,22 +65,4 @@ fn plan_of(alloc: Global, script: &Script) -> Result<Plan, AllocError>
         requests: script.requests(),
         managers: manager_plans(alloc, script)?,
     })
-}
-
-/// The desks of the script's threads and the workers of its managers, each by rising number.
-pub(crate) fn open<R: Wait>(
-    rt: &R,
-    alloc: Global,
-    script: &Script,
-) -> Result<(Vec<Desk>, Vec<Worker>), AllocError>
-    ensures opened { IfOk result (λ r. AreOpened script.now r.0.items r.1.items) }
-    ensures few { IfOk result (λ r. length r.1.items ≤ 8) }
-{
-    let plan = plan_of(alloc, script)?;
-    match open_switch(rt, alloc, &plan) {
-        Ok(opened) => Ok(opened),
-        Err(OpenFault::NoMemory) => Err(AllocError),
-        // A script's counts are within the limits, and its managers can be opened with their keys.
-        Err(OpenFault::BadPlan) => unreachable!(),
-    }
 }

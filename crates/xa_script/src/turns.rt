@@ -12,7 +12,7 @@ pub(crate) struct Turns {
 }
 
 impl Turns {
-    ghost use Rattle.xa_script.specs.Chains.{Pairwise};
+    ghost use Rattle.xa_base.specs.Lists.{Pairwise};
     ghost use Rattle.xa_script.specs.Turns.{TurnsOn, TakesTurn, HadTurn};
 
     // The worker of this manager does one thing.

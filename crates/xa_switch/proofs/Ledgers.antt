@@ -1,5 +1,5 @@
 -- What a settled opening has of a thread is what its desk had in the end.
-use Rattle.std.proofs.Common.{◌≡◌, ℕ, suc, ◌-◌, ◌<◌, ◌≤◌, true, false, ◌==◌, List, [], ◌∷◌, length, map, get_or, sym, refl, ap, ◌∙◌, arith, Some, None, ⊎_elim, eq-eqb}
+use Rattle.std.proofs.Common.{◌≡◌, ℕ, suc, ◌<◌, ◌≤◌, true, false, ◌==◌, List, [], ◌∷◌, length, map, get_or, sym, refl, ap, ◌∙◌, arith, Some, None, ⊎_elim, eq-eqb}
 use Rattle.std.specs.List.{All, Contains, find, list_any}
 use Rattle.std.proofs.lemmas.List.{get_or_default}
 use Rattle.std.proofs.lemmas.Bool.{eqb-true, cases_lt, cases_eq}

@@ -9,7 +9,8 @@ pub mod Agreeing
 pub mod Seated
 pub mod Mixing
 pub mod Parting
-pub mod Going
 pub mod Ledgers
 pub mod Journaled
 pub mod OfPlans
+pub mod Outstanding
+pub mod Keeping

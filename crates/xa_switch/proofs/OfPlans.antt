@@ -1,5 +1,5 @@
 -- What is settled of all pieces of an opening is of the plan that it was opened by.
-use Rattle.std.proofs.Common.{◌≡◌, ℕ, suc, ◌+◌, ◌<◌, ◌==◌, true, false, List, [], ◌∷◌, length, map, slice_get, option_map, Option, Some, None, sym, refl, ap, subst, ◌∙◌, ⊎_elim, eq-eqb, arith}
+use Rattle.std.proofs.Common.{◌≡◌, ℕ, suc, ◌+◌, ◌==◌, true, false, List, [], ◌∷◌, length, map, slice_get, option_map, Some, None, sym, refl, ap, subst, ◌∙◌, ⊎_elim, eq-eqb, arith}
 use Rattle.std.specs.List.{Contains, list_any, range_with_len}
 use Rattle.std.specs.List.Sorted.{IsPermutation}
 use Rattle.std.proofs.lemmas.Bool.{eqb-true}

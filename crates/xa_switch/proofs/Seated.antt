@@ -1,37 +1,19 @@
 -- The desks and workers of an opening come from it.
-use Rattle.std.proofs.Common.{◌≡◌, ℕ, ℤ, zero, suc, ◌+◌, ◌-◌, Bool, true, false, List, [], ◌∷◌, length, map, slice_get, option_map, sym, refl, ap, ◌∙◌, subst, arith, Option, Some, Result, Ok, Err}
+use Rattle.std.proofs.Common.{◌≡◌, ℕ, ◌+◌, ◌-◌, List, map, slice_get, option_map, sym, refl, ap, ◌∙◌, subst, arith, Some}
 use Rattle.std.specs.List.{All}
-use Rattle.std.specs.FinMap as finmap
 use Rattle.std.proofs.lemmas.List.Elements.{All-append}
 use Rattle.std.proofs.lemmas.Option.{slice_get-map, slice_get-get_or}
-use Rattle.xa_words.specs.declared.code.Code.{Code}
-use Rattle.xa_words.specs.declared.flags.Call.TheVariants as call
-use Rattle.xa_words.specs.declared.flags.Mode.{Mode}
-use Rattle.xa_words.specs.declared.request.Op.{Op}
 use Rattle.xa_words.specs.declared.request.Request.{Request}
 use Rattle.xa_words.specs.declared.request.Completion.{Completion}
-use Rattle.xa_words.specs.Flags.{check_flags}
 use Rattle.xa_tables.specs.Managers.{opening}
 use Rattle.xa_tables.specs.History.{IsOpening}
 use Rattle.xa_lane.specs.Ends.{Sending, Receiving}
-use Rattle.xa_lane.specs.Senders.{at_place, with_item, with_full, but_full}
-use Rattle.xa_desk.specs.declared.operation.Operation.{Operation}
-use Rattle.xa_desk.specs.DeskView.{DeskView, ledger}
-use Rattle.xa_desk.specs.Ended.{EndedView, Ends}
-use Rattle.xa_desk.specs.Lanes.{submitted, after_full, after_fulls}
-use Rattle.xa_desk.specs.Looks.{Looks, EndsQuiet, Collects, TakesKept}
-use Rattle.xa_lane.specs.Senders.{bare}
+use Rattle.xa_desk.specs.DeskView.{DeskView}
 use Rattle.xa_worker.specs.Outgoing.{Answering}
-use Rattle.xa_worker.specs.Workers.{Working, SameWorker}
-use Rattle.xa_worker.specs.Done.{Served, SameServed}
-use Rattle.xa_switch.specs.declared.asked.Asked.{Asked}
+use Rattle.xa_worker.specs.Workers.{Working}
 use Rattle.xa_switch.specs.declared.plan.Plan.{Plan}
-use Rattle.xa_switch.specs.Putting.{Puts, refused, full, kept, answered, Calls}
-use Rattle.xa_switch.specs.Completing.{number_in, may_complete, CompletesOne, CompletesAny, CompletesAt, CompletesBy, HasCompleted}
-use Rattle.xa_switch.specs.Completing.CompletesOne.{unknown, retry as retry_one, ready, waited}
-use Rattle.xa_switch.specs.Completing.CompletesAny.{nothing, retry as retry_any, least}
 use Rattle.xa_switch.specs.Openings.{IsNewDesk, IsNewWorker, ShareNewLanes, AreOfOneOpening}
-use Rattle.xa_switch.specs.Seats.{DeskSeat, WorkerSeat, openings_of, end_seat, desk_seat, seat_of_desk, seat_of_ended, seat_of_worker, seat_of_done, ShareLanes, AreTogether, AreApartDesks, AreApartWorkers, ComeFromOpenings}
+use Rattle.xa_switch.specs.Seats.{DeskSeat, WorkerSeat, openings_of, end_seat, seat_of_desk, seat_of_worker, ShareLanes, AreTogether, AreApartDesks, AreApartWorkers, ComeFromOpenings}
 use Rattle.xa_switch.proofs.Lists.{all_map, all_contains, pairs_map, get_contained}
 
 -- ---- an opening

@@ -10,8 +10,8 @@ use Rattle.xa_words.specs.declared.flags.Mode.{Mode}
 use Rattle.xa_words.specs.declared.request.Op.{Op}
 use Rattle.xa_words.specs.declared.request.Op.TheVariants as op
 use Rattle.xa_switch.specs.declared.asked.Asked.{Asked}
-use Rattle.xa_switch.specs.declared.asked.RmOp.{RmOp}
-use Rattle.xa_switch.specs.declared.asked.RmOp.TheVariants as rm
+use Rattle.xa_words.specs.declared.request.RmOp.{RmOp}
+use Rattle.xa_words.specs.declared.request.RmOp.TheVariants as rm
 
 -- The first fault decides.
 infixl 10 ◌>>=◌

@@ -2,16 +2,7 @@
 ghost use Rattle.std.specs.Prelude.{◌≡◌};
 ghost use Rattle.xa_switch.specs.Asking.{asked_of, native, rm_op};
 
-use xa_words::{Call, Code, Delta, Key, Op, TMASYNC, TMNOFLAGS, Xid, check_flags};
-
-/// A request outside XA.
-#[derive(Clone, Copy, Debug, PartialEq, Eq)]
-pub enum RmOp {
-    /// The thread's branch adds to the key's value.
-    Add(Key, Delta),
-    /// The manager takes nothing from then on.
-    Shut,
-}
+use xa_words::{Call, Code, Op, RmOp, TMASYNC, TMNOFLAGS, Xid, check_flags};
 
 /// A request that a call asks for.
 #[derive(Clone, Copy, Debug, PartialEq, Eq)]

@@ -3,16 +3,17 @@ ghost use Rattle.std.specs.Prelude.{◌≡◌, false, true, IfOk, IfErr, Some, N
 ghost use Rattle.std.specs.FinMap as map;
 ghost use Rattle.xa_desk.specs.DeskView.{IsLeastFree, IsHandle, next_operation};
 ghost use Rattle.xa_desk.specs.GoesOn.{GoesOn};
+ghost use Rattle.xa_desk.specs.Kept.{AllKept};
 ghost use Rattle.xa_desk.specs.Lanes.{submitted, after_full};
 ghost use Rattle.xa_desk.specs.Tickets.{LeavesTickets};
 ghost use Rattle.xa_switch.specs.Asking.{asked_of, native};
 ghost use Rattle.xa_switch.specs.Putting.{code_of, put_refusal, Puts, Calls, call_waits};
 
-use crate::asked::{Asked, RmOp, asked_of, native_of};
+use crate::asked::{Asked, asked_of, native_of};
 use std::sync::Wait;
 use xa_desk::laws::desks_go_on;
 use xa_desk::{Desk, Idle, Refused};
-use xa_words::{Call, Code, Op, Xid};
+use xa_words::{Call, Code, Op, RmOp, Xid};
 
 // The code that a refusal of a desk is answered as.
 fn code_of(why: Refused) -> Code
@@ -110,6 +111,7 @@ pub fn xa_call<R: Wait, I: Idle>(
 ) -> i32
     ensures calls { Calls (asked_of call xid flags) desk.old manager desk.new result }
     ensures goes_on { GoesOn desk.old desk.new }
+    ensures kept { AllKept desk.old → AllKept desk.new }
     ensures tickets { LeavesTickets desk.old desk.new }
     ensures idled { I.leads idle.old idle.new }
     ensures prompt { call_waits desk.old manager (asked_of call xid flags) ≡ false → idle.new ≡ idle.old }
@@ -128,6 +130,7 @@ pub fn native<R: Wait, I: Idle>(
 ) -> i32
     ensures calls { Calls (native op flags) desk.old manager desk.new result }
     ensures goes_on { GoesOn desk.old desk.new }
+    ensures kept { AllKept desk.old → AllKept desk.new }
     ensures tickets { LeavesTickets desk.old desk.new }
     ensures idled { I.leads idle.old idle.new }
     ensures prompt { call_waits desk.old manager (native op flags) ≡ false → idle.new ≡ idle.old }

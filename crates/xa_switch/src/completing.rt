@@ -3,6 +3,7 @@ ghost use Rattle.std.specs.Prelude.{◌≡◌, ◌≢◌, false, pos, IfOk, IsEr
 ghost use Rattle.xa_words.specs.Flags.{check_flags};
 ghost use Rattle.xa_desk.specs.DeskView.{IsHandle};
 ghost use Rattle.xa_desk.specs.GoesOn.{GoesOn};
+ghost use Rattle.xa_desk.specs.Kept.{AllKept};
 ghost use Rattle.xa_desk.specs.Tickets.{LeavesTickets};
 ghost use Rattle.xa_switch.specs.Completing.{number_in, keeps_for, CompletesOne, CompletesAny, may_complete, CompletesIn, CompletesBy, Tells, HasCompleted, completion_waits};
 
@@ -189,6 +190,7 @@ pub fn xa_complete<R: Wait, I: Idle>(
 ) -> i32
     ensures completes { HasCompleted desk.old handle.old retval.old manager flags desk.new handle.new retval.new result }
     ensures goes_on { GoesOn desk.old desk.new }
+    ensures kept { AllKept desk.old → AllKept desk.new }
     ensures tickets { LeavesTickets desk.old desk.new }
     ensures idled { I.leads idle.old idle.new }
     ensures refused { result ≢ pos 0 → idle.new ≡ idle.old }

@@ -4,28 +4,24 @@
 //! The pieces of an opening come from it. A desk keeps its seat at every call and as it ends, a worker at
 //! every step and as it runs, which each of them says itself; so the seats of what is left at the end are
 //! those of the opening.
-ghost use Rattle.std.specs.Prelude.{◌≡◌, ◌≢◌, ℕ, ℤ, List, ◌++◌, map, Result};
+ghost use Rattle.std.specs.Prelude.{◌≡◌, ◌≢◌, ℕ, List, ◌++◌, map};
 ghost use Rattle.std.specs.List.{All};
 ghost use Rattle.std.specs.List.Sorted.{IsPermutation};
 ghost use Rattle.xa_words.specs.declared.code.Code.{Code};
 ghost use Rattle.xa_tables.specs.Tables.{Tables};
-ghost use Rattle.xa_desk.specs.DeskView.{DeskView};
-ghost use Rattle.xa_desk.specs.GoesOn.{GoesOn};
+ghost use Rattle.xa_desk.specs.DeskView.{DeskView, outstanding};
+ghost use Rattle.xa_desk.specs.Kept.{AllKept, HoldsNone};
 ghost use Rattle.xa_desk.specs.Ended.{EndedView};
 ghost use Rattle.xa_worker.specs.Done.{Served};
 ghost use Rattle.xa_worker.specs.Workers.{Working};
-ghost use Rattle.xa_switch.specs.declared.asked.Asked.{Asked};
 ghost use Rattle.xa_switch.specs.declared.plan.Plan.{Plan};
 ghost use Rattle.xa_switch.specs.Closing.{settling};
 ghost use Rattle.xa_switch.specs.OfPlans.{IsOfPlan};
 ghost use Rattle.xa_switch.specs.Openings.{AreOfOneOpening};
-ghost use Rattle.xa_switch.specs.Putting.{Calls};
-ghost use Rattle.xa_switch.specs.Completing.{HasCompleted};
+ghost use Rattle.xa_switch.specs.Completing.{CollectsRedeemed};
 ghost use Rattle.xa_switch.specs.Settling.{Settling, IsSettled};
 ghost use Rattle.xa_switch.specs.Fates.{IsOpenedWith};
 ghost use Rattle.xa_switch.specs.Seats.{DeskSeat, WorkerSeat, ComeFromOpenings, AreSomeOf, AreOfOne, desk_seats, worker_seats, openings_of, seat_of_desk, seat_of_worker};
-
-use xa_desk::laws::{desks_go_on, operations_go_on};
 
 /// The desks and workers that an opening gives come from it.
 pub fn opened_pieces_come_from_their_opening()
@@ -36,15 +32,6 @@ pub fn opened_pieces_come_from_their_opening()
 pub fn opened_pieces_have_their_number()
     ensures { (p : Plan) (ds : List DeskView) (ws : List Working) → AreOfOneOpening p ds ws → All (λ n. n ≡ p.opening) (openings_of (map seat_of_desk ds) (map seat_of_worker ws)) }
 {}
-
-/// Whatever a thread calls, its desk goes on: it keeps its seat, and its lists only grow.
-pub fn calls_go_on()
-    ensures calls { (asked : Result Asked Code) (old : DeskView) (m : ℕ) (new : DeskView) (answer : ℤ) → Calls asked old m new answer → GoesOn old new }
-    ensures completions { (old : DeskView) (handle retval : ℤ) (m flags : ℕ) (new : DeskView) (handle' retval' answer : ℤ) → HasCompleted old handle retval m flags new handle' retval' answer → GoesOn old new }
-{
-    desks_go_on();
-    operations_go_on();
-}
 
 /// Some of the pieces, in any order, still come from their openings.
 pub fn some_pieces_come_from_their_openings()
@@ -66,4 +53,13 @@ pub fn settled_openings_are_of_their_plan()
 /// requests that it took.
 pub fn settled_journals_follow_the_tables()
     ensures { (s : Settling) (m : ℕ) → IsSettled s → (T : Tables) × IsOpenedWith s m T }
+{}
+
+/// At the desks of an opening nothing is outstanding that isn't kept. As an operation that is kept under a
+/// number is collected, the others stay kept; and where all that is outstanding is kept and nothing is
+/// kept, nothing is outstanding.
+pub fn outstanding_operations_stay_kept()
+    ensures opened { (p : Plan) (ds : List DeskView) (ws : List Working) → AreOfOneOpening p ds ws → All AllKept ds }
+    ensures collected { (old new : DeskView) (k : ℕ) (c : Code) → CollectsRedeemed old new k c → AllKept old → AllKept new }
+    ensures none { (d : DeskView) → AllKept d → HoldsNone d → outstanding d.ledgers ≡ 0 }
 {}

@@ -24,10 +24,10 @@ mod settling;
 #[cfg(test)]
 mod tests;
 
-pub use asked::RmOp;
 pub use calls::{native, xa_call};
 pub use completing::xa_complete;
 pub use opening::open_switch;
 pub use plan::{ManagerPlan, OpenFault, Plan};
 pub use settled::Settled;
 pub use settling::{Unsettled, Why, settle};
+pub use xa_words::RmOp;

@@ -34,7 +34,7 @@ pub fn open_switch<R: Wait>(
     }
     let room = plan.manager_room();
     let managers = open_managers(alloc, &plan.managers, plan.threads, room)?;
-    open_sound(rt, alloc, plan, managers).map_err(|_| OpenFault::NoMemory)
+    Ok(open_sound(rt, alloc, plan, managers)?)
 }
 
 // Opens a sound plan, with its managers.

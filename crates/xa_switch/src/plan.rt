@@ -2,6 +2,7 @@
 ghost use Rattle.std.specs.Prelude.{◌≡◌, ◌↔◌, IsTrue};
 ghost use Rattle.xa_switch.specs.Plans.{IsUpTo, IsWithinLimits, manager_room};
 
+use std::alloc::AllocError;
 use xa_words::Key;
 
 /// An opening: its number, which is its own, and what it has.
@@ -37,6 +38,16 @@ pub enum OpenFault {
     BadPlan,
     /// There is no memory for it.
     NoMemory,
+}
+
+impl From<AllocError> for OpenFault {
+    ghost use Rattle.xa_switch.specs.declared.plan.OpenFault.TheVariants.{NoMemory};
+
+    ghost from_gives = { λ _ fault. fault ≡ NoMemory };
+
+    fn from(_error: AllocError) -> OpenFault {
+        OpenFault::NoMemory
+    }
 }
 
 impl Plan {

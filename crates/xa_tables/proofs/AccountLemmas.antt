@@ -25,8 +25,8 @@ use Rattle.xa_words.specs.Key.{key_eq}
 use Rattle.xa_words.specs.Orders.{key_cmp, key_cmp_total, key_cmp-IsAntisymmetric, xid_cmp_total, xid_cmp-IsAntisymmetric, Decides-xid_eq, Decides-key_eq}
 use Rattle.xa_tables.specs.declared.accounts.Account.{Account}
 use Rattle.xa_tables.specs.declared.accounts.Hold.{Hold}
-use Rattle.xa_tables.specs.Tables.{Touch, touch_cmp, is_within, value_of, sum_of, has_touched, has_other_touched, is_broken, settled, sums_without}
-use Rattle.xa_tables.specs.Accounts.{IsSmall, IsGood, with_hold, hold_entries, value_entries, AreDistinct, AreDistinctEntries, hold_is_of, is_held_by, hold_is_other, hold_breaks, is_broken_by, amount_in, added_to, hold_without, amount_of, settled_by, forgotten_by}
+use Rattle.xa_tables.specs.Tables.{Touch, touch_cmp, is_within, value_of, sum_of, has_touched, has_other_touched, is_broken, posted, sums_without}
+use Rattle.xa_tables.specs.Accounts.{IsSmall, IsGood, with_hold, hold_entries, value_entries, AreDistinct, AreDistinctEntries, hold_is_of, is_held_by, hold_is_other, hold_breaks, is_broken_by, amount_in, added_to, hold_without, amount_of, posted_by, forgotten_by}
 use Rattle.xa_tables.proofs.MapLemmas.{equal_from, put_one, retain_some, map_some, any_entries, Distinct}
 
 -- touches are ordered, and no two are tied
@@ -177,8 +177,8 @@ pub record LetsGo (x : XidName) (f : Account → Account) : Type 0 where
   pub key : (a : Account) → (f a).key ≡ a.key
   pub hold : (a : Account) → (f a).hold ≡ hold_without a.hold x
 
-pub settled_goes : (x : XidName) → LetsGo x (settled_by x)
-settled_goes x = record { key = λ a. refl; hold = λ a. refl }
+pub posted_goes : (x : XidName) → LetsGo x (posted_by x)
+posted_goes x = record { key = λ a. refl; hold = λ a. refl }
 
 pub forgotten_goes : (x : XidName) → LetsGo x (forgotten_by x)
 forgotten_goes x = record { key = λ a. refl; hold = λ a. refl }
@@ -254,31 +254,31 @@ amounts_all x [] h = tt
 amounts_all x (a ∷ rest) h = (amount_first x a.key a.hold (hold_entries rest) (lacks_hold x a.key rest h.0), amounts_more x a.key a.hold (hold_entries rest) rest h.0 (amounts_all x rest h.1))
 
 settled_finds : (x : XidName) (sums : FinMap touch_cmp ℤ) (es : List (Touch × ℤ)) → ((p : Touch) → finmap.get sums p ≡ find touch_cmp p es) → (accounts : List Account) → Amounts x es accounts
-    → (q : List ℕ) → find key_cmp q (value_entries (map (settled_by x) accounts)) ≡ option_map (λ v. v +ℤ sum_of sums x q) (find key_cmp q (value_entries accounts))
+    → (q : List ℕ) → find key_cmp q (value_entries (map (posted_by x) accounts)) ≡ option_map (λ v. v +ℤ sum_of sums x q) (find key_cmp q (value_entries accounts))
 settled_finds x sums es gets [] v q = refl
 settled_finds x sums es gets (a ∷ rest) v q =
-    elim (same_key q a.key) as (λ b. same_key q a.key ≡ b → cond b (Some (a.value +ℤ amount_of a.hold x)) (find key_cmp q (value_entries (map (settled_by x) rest))) ≡ option_map (λ v. v +ℤ sum_of sums x q) (cond b (Some a.value) (find key_cmp q (value_entries rest)))) [
+    elim (same_key q a.key) as (λ b. same_key q a.key ≡ b → cond b (Some (a.value +ℤ amount_of a.hold x)) (find key_cmp q (value_entries (map (posted_by x) rest))) ≡ option_map (λ v. v +ℤ sum_of sums x q) (cond b (Some a.value) (find key_cmp q (value_entries rest)))) [
       | true ↦ λ t. ap (λ s. Some (a.value +ℤ s)) (sym (ap (λ k. sum_of sums x k) (key_from q a.key t) ∙ ap (λ o. unwrap_or o (pos 0)) (gets (x, a.key)) ∙ v.0))
       | false ↦ λ t. settled_finds x sums es gets rest v.1 q
     ] refl
 
 -- the values once x has committed
-pub values_settled : (x : XidName) (accounts : List Account) → AreDistinct accounts
-    → from_entries {R = key_cmp} (value_entries (map (settled_by x) accounts)) ≡ settled (from_entries (value_entries accounts)) (from_entries (hold_entries accounts)) x
-values_settled x accounts h =
+pub values_posted : (x : XidName) (accounts : List Account) → AreDistinct accounts
+    → from_entries {R = key_cmp} (value_entries (map (posted_by x) accounts)) ≡ posted (from_entries (value_entries accounts)) (from_entries (hold_entries accounts)) x
+values_posted x accounts h =
     let sums : FinMap touch_cmp ℤ = from_entries (hold_entries accounts) in
     map_some key_cmp_total key_cmp-IsAntisymmetric (λ k v. v +ℤ sum_of sums x k) _ _ (settled_finds x sums (hold_entries accounts) (λ p. get-from_entries touch_cmp_total (hold_entries accounts) p) accounts (amounts_all x accounts h))
 
-lacks_settled : (x : XidName) (k : List ℕ) (accounts : List Account) → Lacks k accounts → Lacks k (map (settled_by x) accounts)
-lacks_settled x k [] h = refl
-lacks_settled x k (a ∷ rest) h =
+lacks_posted : (x : XidName) (k : List ℕ) (accounts : List Account) → Lacks k accounts → Lacks k (map (posted_by x) accounts)
+lacks_posted x k [] h = refl
+lacks_posted x k (a ∷ rest) h =
     let d = lacks_split k a rest h in
-    ap (λ b. cond b (Some (a.value +ℤ amount_of a.hold x)) (find key_cmp k (value_entries (map (settled_by x) rest)))) (key_apart k a.key d.0) ∙ lacks_settled x k rest d.1
+    ap (λ b. cond b (Some (a.value +ℤ amount_of a.hold x)) (find key_cmp k (value_entries (map (posted_by x) rest)))) (key_apart k a.key d.0) ∙ lacks_posted x k rest d.1
 
 -- the keys stay
-pub distinct_settled : (x : XidName) (accounts : List Account) → AreDistinct accounts → AreDistinct (map (settled_by x) accounts)
-distinct_settled x [] h = tt
-distinct_settled x (a ∷ rest) h = (lacks_settled x a.key rest h.0, distinct_settled x rest h.1)
+pub distinct_posted : (x : XidName) (accounts : List Account) → AreDistinct accounts → AreDistinct (map (posted_by x) accounts)
+distinct_posted x [] h = tt
+distinct_posted x (a ∷ rest) h = (lacks_posted x a.key rest h.0, distinct_posted x rest h.1)
 
 pub distinct_forgotten : (x : XidName) (accounts : List Account) → AreDistinct accounts → AreDistinct (map (forgotten_by x) accounts)
 distinct_forgotten x accounts h = subst AreDistinctEntries (sym (forgotten_values x accounts)) h
@@ -311,11 +311,11 @@ others_forgotten x accounts h y apart =
     broken_any (map (forgotten_by x) accounts) y (distinct_forgotten x accounts h)
     ∙ each_as_was (λ a. is_broken_by a y) (forgotten_by x) (λ a. forgotten_breaks x y apart a.value a.hold) accounts ∙ sym (broken_any accounts y h)
 
-pub others_settled : (x : XidName) (accounts : List Account) → AreDistinct accounts → (y : XidName) → y ≢ x
-    → is_broken (from_entries (value_entries (map (settled_by x) accounts))) (from_entries (hold_entries (map (settled_by x) accounts))) y ≡ is_broken (from_entries (value_entries accounts)) (from_entries (hold_entries accounts)) y
-others_settled x accounts h y apart =
-    broken_any (map (settled_by x) accounts) y (distinct_settled x accounts h)
-    ∙ each_as_was (λ a. is_broken_by a y) (settled_by x) (λ a. settled_breaks x y apart a.value a.hold) accounts ∙ sym (broken_any accounts y h)
+pub others_posted : (x : XidName) (accounts : List Account) → AreDistinct accounts → (y : XidName) → y ≢ x
+    → is_broken (from_entries (value_entries (map (posted_by x) accounts))) (from_entries (hold_entries (map (posted_by x) accounts))) y ≡ is_broken (from_entries (value_entries accounts)) (from_entries (hold_entries accounts)) y
+others_posted x accounts h y apart =
+    broken_any (map (posted_by x) accounts) y (distinct_posted x accounts h)
+    ∙ each_as_was (λ a. is_broken_by a y) (posted_by x) (λ a. settled_breaks x y apart a.value a.hold) accounts ∙ sym (broken_any accounts y h)
 
 -- what is written over the whole of a list
 over_whole : (n : ℕ) (xs ys : List Account) → length xs ≡ length ys → length ys ≡ n → take n (xs ++ drop (length xs) ys) ≡ xs
@@ -434,7 +434,7 @@ others_added accounts i a x d dist h e for y apart =
 
 -- ---- the bounds
 
-within_bounds : (v : ℤ) → is_within v ≡ true → (pos 0 ≤ℤ v) × (v ≤ℤ pos 1000000000000)
+pub within_bounds : (v : ℤ) → is_within v ≡ true → (pos 0 ≤ℤ v) × (v ≤ℤ pos 1000000000000)
 within_bounds v e = (le_z_yes (T_from_true _ (and_parts _ _ e).0), le_z_yes (T_from_true _ (and_parts _ _ e).1))
 
 small_without : (n : ℕ) (x : XidName) (o : Option Hold) → IsSmall n o → IsSmall n (hold_without o x)
@@ -444,16 +444,16 @@ small_without n x (Some l) s = elim (xid_eq l.xid x) as (λ b. IsSmall n (if b t
 good_forgotten : (n : ℕ) (x : XidName) (a : Account) → IsGood n a → IsGood n (forgotten_by x a)
 good_forgotten n x a g = (g.0, g.1, small_without n x a.hold g.2)
 
-settled_value : (x : XidName) (v : ℤ) (o : Option Hold) → hold_breaks v o x ≡ false → (pos 0 ≤ℤ v) × (v ≤ℤ pos 1000000000000) → (pos 0 ≤ℤ (v +ℤ amount_of o x)) × ((v +ℤ amount_of o x) ≤ℤ pos 1000000000000)
-settled_value x v None e g = subst (λ (w : ℤ). (pos 0 ≤ℤ w) × (w ≤ℤ pos 1000000000000)) (sym (plus_none v)) g
-settled_value x v (Some l) e g =
+posted_value : (x : XidName) (v : ℤ) (o : Option Hold) → hold_breaks v o x ≡ false → (pos 0 ≤ℤ v) × (v ≤ℤ pos 1000000000000) → (pos 0 ≤ℤ (v +ℤ amount_of o x)) × ((v +ℤ amount_of o x) ≤ℤ pos 1000000000000)
+posted_value x v None e g = subst (λ (w : ℤ). (pos 0 ≤ℤ w) × (w ≤ℤ pos 1000000000000)) (sym (plus_none v)) g
+posted_value x v (Some l) e g =
     elim (xid_eq l.xid x) as (λ b. (b && not (is_within (v +ℤ l.amount))) ≡ false → (pos 0 ≤ℤ (v +ℤ (if b then l.amount else pos 0))) × ((v +ℤ (if b then l.amount else pos 0)) ≤ℤ pos 1000000000000)) [
       | true ↦ λ h. within_bounds _ (not-false _ h)
       | false ↦ λ h. subst (λ (w : ℤ). (pos 0 ≤ℤ w) × (w ≤ℤ pos 1000000000000)) (sym (plus_none v)) g
     ] e
 
-good_settled : (n : ℕ) (x : XidName) (a : Account) → IsGood n a → is_broken_by a x ≡ false → IsGood n (settled_by x a)
-good_settled n x a g e = let v = settled_value x a.value a.hold e (g.0, g.1) in (v.0, v.1, small_without n x a.hold g.2)
+good_posted : (n : ℕ) (x : XidName) (a : Account) → IsGood n a → is_broken_by a x ≡ false → IsGood n (posted_by x a)
+good_posted n x a g e = let v = posted_value x a.value a.hold e (g.0, g.1) in (v.0, v.1, small_without n x a.hold g.2)
 
 small_more : (n : ℕ) (o : Option Hold) → IsSmall n o → IsSmall (n + 1) o
 small_more n None s = tt
@@ -467,10 +467,10 @@ small_added n x d (Some l) h s = (omega (arith, ints), omega (arith, ints))
 pub all_forgotten : (n : ℕ) (x : XidName) (accounts : List Account) → All (IsGood n) accounts → All (IsGood n) (map (forgotten_by x) accounts)
 all_forgotten n x accounts g = All-map (IsGood n) (forgotten_by x) accounts (λ k d h. good_forgotten n x (get_or accounts k d) (g k d h))
 
-pub all_settled : (n : ℕ) (x : XidName) (accounts : List Account) → All (IsGood n) accounts → list_any (λ a. is_broken_by a x) accounts ≡ false → All (IsGood n) (map (settled_by x) accounts)
-all_settled n x accounts g e =
-    All-map (IsGood n) (settled_by x) accounts (λ k d h.
-    good_settled n x (get_or accounts k d) (g k d h) (false_from_ne_true _ (λ t. let some = list_any_at (λ a. is_broken_by a x) accounts k d h t in cc)))
+pub all_posted : (n : ℕ) (x : XidName) (accounts : List Account) → All (IsGood n) accounts → list_any (λ a. is_broken_by a x) accounts ≡ false → All (IsGood n) (map (posted_by x) accounts)
+all_posted n x accounts g e =
+    All-map (IsGood n) (posted_by x) accounts (λ k d h.
+    good_posted n x (get_or accounts k d) (g k d h) (false_from_ne_true _ (λ t. let some = list_any_at (λ a. is_broken_by a x) accounts k d h t in cc)))
 
 pub all_added : (n i : ℕ) (a : Account) (x : XidName) (d : ℤ) (accounts : List Account) → IsDelta d → i < length accounts → a ≡ get_or accounts i a → All (IsGood n) accounts → All (IsGood (n + 1)) (set accounts i (added_to a x d))
 all_added n i a x d accounts delta h e g k b j =

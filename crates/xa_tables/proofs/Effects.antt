@@ -1,6 +1,6 @@
 -- What one request does to the tables. The rules are walked here alone: a law of all requests is one of their effects.
-use Rattle.std.specs.Prelude.{◌≡◌, ℕ, ℤ, pos, ◌+ℤ◌, Bool, true, false, not, ◌&&◌, ◌||◌, if◌then◌else◌, Option, None, Some, is_some, List, refl}
-use Rattle.std.proofs.Common.{ap, ◌∙◌, subst}
+use Rattle.std.specs.Prelude.{◌≡◌, ℕ, ℤ, pos, ◌+ℤ◌, Bool, true, false, not, ◌&&◌, ◌||◌, if◌then◌else◌, Option, None, Some, List, refl}
+use Rattle.std.proofs.Common.{ap, ◌∙◌, subst, ◌⊎◌, inl, inr}
 use Rattle.std.specs.FinSet as set
 use Rattle.std.specs.FinMap as map
 use Rattle.std.proofs.Math.Bool.{or-true}
@@ -18,11 +18,11 @@ use Rattle.xa_words.specs.declared.request.EndHow.TheVariants.{Success, Suspend,
 use Rattle.xa_tables.specs.declared.state.State.{State}
 use Rattle.xa_tables.specs.declared.state.State.TheVariants.{Active, Idle, Prepared as S3, RollbackOnly}
 use Rattle.xa_tables.specs.declared.state.RollbackReason.{RollbackReason}
-use Rattle.xa_tables.specs.declared.state.RollbackReason.TheVariants.{Rollback as Failed, Transient}
+use Rattle.xa_tables.specs.declared.state.RollbackReason.TheVariants.{Failed, Transient}
 use Rattle.xa_tables.specs.declared.state.Association.{Association}
-use Rattle.xa_tables.specs.Tables.{Tables, has_opened, association_of, state_of, exists, is_somebody_associated, is_declared, sum_of, has_touched, has_other_touched, is_broken}
+use Rattle.xa_tables.specs.Tables.{Tables, has_opened, association_of, has_association, is_T1, branch_in, state_of, exists, is_S4, is_suspended, is_associated, is_idle, is_prepared, is_rollback_only, reason_in, reason_of, is_somebody_associated, is_declared, has_touched, has_other_touched, is_broken}
 use Rattle.xa_tables.specs.Reasons.{reason_code}
-use Rattle.xa_tables.specs.Next.{Answer, next, next_open, next_opened, open_rm, close_rm, start, join_unless, add, add_by, add_unless, end, end_unless, ended, prepare, commit_one, commit_two, rollback, rollback_unless, is_prepared, is_idle, is_suspend, is_suspended, is_associated_with, reason_of, associated, dissociated, stated, gone, committed, shut_down}
+use Rattle.xa_tables.specs.Next.{Answer, next, needs_opening, by_rules, open_rm, close_rm, start, add, end, prepare, commit_one, commit_two, rollback, is_suspend, associated, suspended, dissociated, stated, added, gone, committed, shut_down}
 use Rattle.xa_tables.specs.History.{Fate, Live, ReadOnly, RolledBack, fate_of, if_named, prepare_fate, commit_fate, rollback_fate, ending_by, is_done, is_rolled_back, added_by, share_of}
 use Rattle.xa_tables.specs.Prepared.{names}
 
@@ -119,12 +119,12 @@ code_rolls_back Failed = refl
 code_rolls_back Transient = refl
 
 -- the reason of a branch that can only be rolled back is an XA_RB* code
-reason_rolls_back : (o : Option State) (r : Code) → reason_of o ≡ Some r → is_rolled_back r ≡ true
-reason_rolls_back None r e = cc
-reason_rolls_back (Some Active) r e = cc
-reason_rolls_back (Some Idle) r e = cc
-reason_rolls_back (Some S3) r e = cc
-reason_rolls_back (Some (RollbackOnly reason)) r e = let same : reason_code reason ≡ r = cc in subst (λ (c : Code). is_rolled_back c ≡ true) same (code_rolls_back reason)
+reason_rolls_back : (o : Option State) → is_S4 o ≡ true → is_rolled_back (reason_in o) ≡ true
+reason_rolls_back None e = cc
+reason_rolls_back (Some Active) e = cc
+reason_rolls_back (Some Idle) e = cc
+reason_rolls_back (Some S3) e = cc
+reason_rolls_back (Some (RollbackOnly reason)) e = code_rolls_back reason
 
 not_done : (r : Code) → is_rolled_back r ≡ true → is_done r ≡ false
 not_done Done e = cc
@@ -160,20 +160,20 @@ pub data Effect (t : ℕ) (T : Tables) : Op → Answer → Type 0 where
   Opens : Effect t T OpenRm (open_rm t T)
   Closes : Effect t T CloseRm (record T { opened = set.remove T.opened t }, Done)
   -- t begins a branch, joins one that is at work, and goes on with its own
-  Starts : (y : XidName) → Effect t T (Start y Fresh) (associated t y false (stated y Active T), Done)
-  Joins : (y : XidName) → exists T y ≡ true → is_prepared (state_of T y) ≡ false → Effect t T (Start y Join) (associated t y false (stated y Active T), Done)
-  Resumes : (y : XidName) → is_associated_with y (association_of T t) ≡ true → Effect t T (Start y Resume) (associated t y false T, Done)
+  Starts : (y : XidName) → has_association T t ≡ false → Effect t T (Start y Fresh) (associated t y (stated y Active T), Done)
+  Joins : (y : XidName) → has_association T t ≡ false → exists T y ≡ true → is_prepared T y ≡ false → Effect t T (Start y Join) (associated t y (stated y Active T), Done)
+  Resumes : (y : XidName) → is_associated T t y ≡ true → Effect t T (Start y Resume) (associated t y T, Done)
   -- t pauses, or leaves its branch as it is, only to be rolled back, or idle
-  Suspends : (y : XidName) → is_associated_with y (association_of T t) ≡ true → Effect t T (End y Suspend) (associated t y true T, Done)
-  Leaves : (y : XidName) (how : EndHow) (c : Code) → Effect t T (End y how) (dissociated t T, c)
-  Fails : (y : XidName) → is_associated_with y (association_of T t) ≡ true → Effect t T (End y Fail) (stated y (RollbackOnly Failed) (dissociated t T), RbRollback)
-  Idles : (y : XidName) → is_associated_with y (association_of T t) ≡ true → Effect t T (End y Success) (stated y Idle (dissociated t T), Done)
+  Suspends : (y : XidName) → is_associated T t y ≡ true → Effect t T (End y Suspend) (suspended t y T, Done)
+  Leaves : (y : XidName) (how : EndHow) (c : Code) → is_associated T t y ≡ true → (is_rollback_only T y || is_somebody_associated (dissociated t T).associations y) ≡ true → Effect t T (End y how) (dissociated t T, c)
+  Fails : (y : XidName) → is_associated T t y ≡ true → Effect t T (End y Fail) (stated y (RollbackOnly Failed) (dissociated t T), RbRollback)
+  Idles : (y : XidName) → is_associated T t y ≡ true → is_somebody_associated (dissociated t T).associations y ≡ false → Effect t T (End y Success) (stated y Idle (dissociated t T), Done)
   -- t's branch meets a key that another has touched, and adds to one that none has
   Dooms : (k : List ℕ) (d : ℤ) (l : Association) → association_of T t ≡ Some l → Effect t T (Add k d) (stated l.xid (RollbackOnly Transient) T, RbTransient)
-  Adds : (k : List ℕ) (d : ℤ) (l : Association) → association_of T t ≡ Some l → has_other_touched T.sums l.xid k ≡ false → Effect t T (Add k d) (record T { sums = map.insert T.sums (l.xid, k) (sum_of T.sums l.xid k +ℤ d) }, Done)
+  Adds : (k : List ℕ) (d : ℤ) (l : Association) → association_of T t ≡ Some l → has_other_touched T.sums l.xid k ≡ false → Effect t T (Add k d) (added l.xid k d T, Done)
   -- a branch with which nobody is associated is prepared, is committed, or ends without a commit
-  Prepares : (y : XidName) → is_somebody_associated T.associations y ≡ false → Effect t T (Prepare y) (stated y S3 T, Done)
-  Commits : (y : XidName) (one_phase : Bool) → is_somebody_associated T.associations y ≡ false → Effect t T (Commit y one_phase) (gone y (committed y T), Done)
+  Prepares : (y : XidName) → is_somebody_associated T.associations y ≡ false → is_broken T.values T.sums y ≡ false → Effect t T (Prepare y) (stated y S3 T, Done)
+  Commits : (y : XidName) (one_phase : Bool) → is_somebody_associated T.associations y ≡ false → (is_prepared T y ≡ true) ⊎ (is_broken T.values T.sums y ≡ false) → Effect t T (Commit y one_phase) (gone y (committed y T), Done)
   Drops : (op : Op) (y : XidName) (c : Code) → is_somebody_associated T.associations y ≡ false → TellsDropped op y c → Effect t T op (gone y T, c)
 
 -- ---- the walk
@@ -186,105 +186,110 @@ module _ (t : ℕ) (T : Tables) where
   at_close =
       let Q : Answer → Type 0 = Effect t T CloseRm in
       by_if Q (not (has_opened T t)) _ _ (λ _. Stays CloseRm Done (record { fates = λ x. refl; shares = λ k l later. refl })) (λ _.
-      by_if Q (is_some (association_of T t)) _ _ (λ _. refuses CloseRm Proto refl) (λ _. Closes))
+      by_if Q (has_association T t) _ _ (λ _. refuses CloseRm Proto refl) (λ _. Closes))
 
   at_start : (how : StartHow) (y : XidName) → Effect t T (Start y how) (start how t y T)
   at_start Fresh y =
       let Q : Answer → Type 0 = Effect t T (Start y Fresh) in
-      by_if Q (is_some (association_of T t)) _ _ (λ _. refuses (Start y Fresh) Proto refl) (λ _.
-      by_if Q (exists T y) _ _ (λ _. refuses (Start y Fresh) DupId refl) (λ _. Starts y))
+      by_if Q (has_association T t) _ _ (λ _. refuses (Start y Fresh) Proto refl) (λ free.
+      by_if Q (exists T y) _ _ (λ _. refuses (Start y Fresh) DupId refl) (λ _. Starts y free))
   at_start Join y =
       let Q : Answer → Type 0 = Effect t T (Start y Join) in
-      by_if Q (is_some (association_of T t)) _ _ (λ _. refuses (Start y Join) Proto refl) (λ _.
+      by_if Q (has_association T t) _ _ (λ _. refuses (Start y Join) Proto refl) (λ free.
       by_if Q (not (exists T y)) _ _ (λ _. refuses (Start y Join) Nota refl) (λ there.
-      by_if Q (is_prepared (state_of T y)) _ _ (λ _. refuses (Start y Join) Proto refl) (λ unprepared.
-      elim (reason_of (state_of T y)) as (λ o. Q (join_unless o t y T)) [
-        | None ↦ Joins y (not-false _ there) unprepared
-        | Some r ↦ Stays (Start y Join) r (record { fates = λ x. named_none x y; shares = λ k l later. refl })
-      ])))
+      by_if Q (is_prepared T y) _ _ (λ _. refuses (Start y Join) Proto refl) (λ unprepared.
+      by_if Q (is_rollback_only T y) _ _ (λ _. Stays (Start y Join) (reason_of T y) (record { fates = λ x. named_none x y; shares = λ k l later. refl })) (λ _.
+      Joins y free (not-false _ there) unprepared))))
   at_start Resume y =
       let Q : Answer → Type 0 = Effect t T (Start y Resume) in
-      by_if Q (is_associated_with y (association_of T t) && is_suspended (association_of T t)) _ _ (λ own. Resumes y (and_parts _ _ own).0) (λ _.
+      by_if Q (is_associated T t y && is_suspended T t) _ _ (λ own. Resumes y (and_parts _ _ own).0) (λ _.
       by_if Q (not (exists T y)) _ _ (λ _. refuses (Start y Resume) Nota refl) (λ _. refuses (Start y Resume) Proto refl))
+
+  -- the rule of an addition by a thread with this association
+  abbrev add_with : Option Association → List ℕ → ℤ → Answer
+  add_with o k d =
+      if not (is_T1 o) then (T, Proto)
+      else if not (is_declared T k) then (T, Inval)
+      else if is_rollback_only T (branch_in o) then (T, reason_of T (branch_in o))
+      else if has_other_touched T.sums (branch_in o) k then (stated (branch_in o) (RollbackOnly Transient) T, RbTransient)
+      else (added (branch_in o) k d T, Done)
 
   at_add : (k : List ℕ) (d : ℤ) → Effect t T (Add k d) (add t k d T)
   at_add k d =
       let Q : Answer → Type 0 = Effect t T (Add k d) in
-      elim (association_of T t) as (λ o. association_of T t ≡ o → Q (add_by o k d T)) [
+      elim (association_of T t) as (λ o. association_of T t ≡ o → Q (add_with o k d)) [
         | None ↦ λ _. refuses (Add k d) Proto refl
         | Some l ↦ λ own.
-            by_if Q (l.suspended) _ _ (λ _. refuses (Add k d) Proto refl) (λ _.
+            by_if Q (not (is_T1 (Some l))) _ _ (λ _. refuses (Add k d) Proto refl) (λ _.
             by_if Q (not (is_declared T k)) _ _ (λ _. refuses (Add k d) Inval refl) (λ _.
-            elim (reason_of (state_of T l.xid)) as (λ o. reason_of (state_of T l.xid) ≡ o → Q (add_unless o l.xid k d T)) [
-              | None ↦ λ _. by_if Q (has_other_touched T.sums l.xid k) _ _ (λ _. Dooms k d l own) (λ alone. Adds k d l own alone)
-              | Some r ↦ λ doomed. Stays (Add k d) r (undone_adds k d r (not_done r (reason_rolls_back _ r doomed)))
-            ] refl))
+            by_if Q (is_rollback_only T l.xid) _ _ (λ doomed. Stays (Add k d) (reason_of T l.xid) (undone_adds k d (reason_of T l.xid) (not_done (reason_of T l.xid) (reason_rolls_back (state_of T l.xid) doomed)))) (λ _.
+            by_if Q (has_other_touched T.sums l.xid k) _ _ (λ _. Dooms k d l own) (λ alone. Adds k d l own alone))))
       ] refl
 
-  at_ended : (how : EndHow) (y : XidName) → is_associated_with y (association_of T t) ≡ true → Effect t T (End y how) (ended how t y T)
-  at_ended Suspend y own = Suspends y own
-  at_ended Fail y own = Fails y own
-  at_ended Success y own = by_if (Effect t T (End y Success)) (is_somebody_associated (dissociated t T).associations y) _ _ (λ _. Leaves y Success Done) (λ _. Idles y own)
+  -- an xa_end, with what it does where t may end its work and y isn't doomed
+  at_end_by : (how : EndHow) (y : XidName) (last : Answer) → (is_associated T t y ≡ true → Effect t T (End y how) last)
+      → Effect t T (End y how) (if not (is_associated T t y) && not (exists T y) then (T, Nota)
+      else if not (is_associated T t y) then (T, Proto)
+      else if is_suspend how && is_suspended T t then (T, Proto)
+      else if is_rollback_only T y then (dissociated t T, reason_of T y)
+      else last)
+  at_end_by how y last ends =
+      let Q : Answer → Type 0 = Effect t T (End y how) in
+      by_if Q (not (is_associated T t y) && not (exists T y)) _ _ (λ _. refuses (End y how) Nota refl) (λ _.
+      by_if Q (not (is_associated T t y)) _ _ (λ _. refuses (End y how) Proto refl) (λ own.
+      by_if Q (is_suspend how && is_suspended T t) _ _ (λ _. refuses (End y how) Proto refl) (λ _.
+      by_if Q (is_rollback_only T y) _ _ (λ doomed. Leaves y how (reason_of T y) (not-false _ own) (ap (λ b. b || is_somebody_associated (dissociated t T).associations y) doomed)) (λ _. ends (not-false _ own)))))
 
   at_end : (how : EndHow) (y : XidName) → Effect t T (End y how) (end how t y T)
-  at_end how y =
-      let Q : Answer → Type 0 = Effect t T (End y how) in
-      by_if Q (not (is_associated_with y (association_of T t)) && not (exists T y)) _ _ (λ _. refuses (End y how) Nota refl) (λ _.
-      by_if Q (not (is_associated_with y (association_of T t))) _ _ (λ _. refuses (End y how) Proto refl) (λ own.
-      by_if Q (is_suspend how && is_suspended (association_of T t)) _ _ (λ _. refuses (End y how) Proto refl) (λ _.
-      elim (reason_of (state_of T y)) as (λ o. Q (end_unless o how t y T)) [
-        | None ↦ at_ended how y (not-false _ own)
-        | Some r ↦ Leaves y how r
-      ])))
+  at_end Suspend y = at_end_by Suspend y (suspended t y T, Done) (Suspends y)
+  at_end Fail y = at_end_by Fail y (stated y (RollbackOnly Failed) (dissociated t T), RbRollback) (Fails y)
+  at_end Success y = at_end_by Success y (if is_somebody_associated (dissociated t T).associations y then (dissociated t T, Done) else (stated y Idle (dissociated t T), Done)) (λ own. by_if (Effect t T (End y Success)) (is_somebody_associated (dissociated t T).associations y) _ _ (λ left. Leaves y Success Done own (ap (λ b. is_rollback_only T y || b) left ∙ or-true (is_rollback_only T y))) (λ alone. Idles y own alone))
 
   at_prepare : (y : XidName) → Effect t T (Prepare y) (prepare y T)
   at_prepare y =
       let Q : Answer → Type 0 = Effect t T (Prepare y) in
       by_if Q (not (exists T y)) _ _ (λ _. refuses (Prepare y) Nota refl) (λ _.
-      by_if Q (is_somebody_associated T.associations y || (is_prepared (state_of T y) || is_some (reason_of (state_of T y)))) _ _ (λ _. refuses (Prepare y) Proto refl) (λ free.
+      by_if Q (is_somebody_associated T.associations y || (is_prepared T y || is_rollback_only T y)) _ _ (λ _. refuses (Prepare y) Proto refl) (λ free.
       let nobody = (or_parts (is_somebody_associated T.associations y) _ free).0 in
       by_if Q (not (has_touched T.sums y)) _ _ (λ _. Drops (Prepare y) y RdOnly nobody (read_only_drops y)) (λ _.
-      by_if Q (is_broken T.values T.sums y) _ _ (λ _. Drops (Prepare y) y RbIntegrity nobody (broken_prepare_drops y)) (λ _. Prepares y nobody))))
+      by_if Q (is_broken T.values T.sums y) _ _ (λ _. Drops (Prepare y) y RbIntegrity nobody (broken_prepare_drops y)) (λ unbroken. Prepares y nobody unbroken))))
 
   at_commit : (one_phase : Bool) (y : XidName) → Effect t T (Commit y one_phase) (if one_phase then commit_one y T else commit_two y T)
   at_commit true y =
       let Q : Answer → Type 0 = Effect t T (Commit y true) in
       by_if Q (not (exists T y)) _ _ (λ _. refuses (Commit y true) Nota refl) (λ _.
-      by_if Q (is_somebody_associated T.associations y || not (is_idle (state_of T y))) _ _ (λ _. refuses (Commit y true) Proto refl) (λ free.
+      by_if Q (is_somebody_associated T.associations y || not (is_idle T y)) _ _ (λ _. refuses (Commit y true) Proto refl) (λ free.
       let nobody = (or_parts (is_somebody_associated T.associations y) _ free).0 in
-      by_if Q (is_broken T.values T.sums y) _ _ (λ _. Drops (Commit y true) y RbIntegrity nobody (broken_commit_drops y)) (λ _. Commits y true nobody)))
+      by_if Q (is_broken T.values T.sums y) _ _ (λ _. Drops (Commit y true) y RbIntegrity nobody (broken_commit_drops y)) (λ unbroken. Commits y true nobody (inr unbroken))))
   at_commit false y =
       let Q : Answer → Type 0 = Effect t T (Commit y false) in
       by_if Q (not (exists T y)) _ _ (λ _. refuses (Commit y false) Nota refl) (λ _.
-      by_if Q (is_somebody_associated T.associations y || not (is_prepared (state_of T y))) _ _ (λ _. refuses (Commit y false) Proto refl) (λ free.
-      Commits y false (or_parts (is_somebody_associated T.associations y) _ free).0))
+      by_if Q (is_somebody_associated T.associations y || not (is_prepared T y)) _ _ (λ _. refuses (Commit y false) Proto refl) (λ free.
+      let parts = or_parts (is_somebody_associated T.associations y) _ free in
+      Commits y false parts.0 (inl (not-false (is_prepared T y) parts.1))))
 
   at_rollback : (y : XidName) → Effect t T (Rollback y) (rollback y T)
   at_rollback y =
       let Q : Answer → Type 0 = Effect t T (Rollback y) in
       by_if Q (not (exists T y)) _ _ (λ _. refuses (Rollback y) Nota refl) (λ _.
       by_if Q (is_somebody_associated T.associations y) _ _ (λ _. refuses (Rollback y) Proto refl) (λ nobody.
-      elim (reason_of (state_of T y)) as (λ o. reason_of (state_of T y) ≡ o → Q (rollback_unless o y T)) [
-        | None ↦ λ _. Drops (Rollback y) y Done nobody (rollback_drops y Done refl)
-        | Some r ↦ λ doomed. Drops (Rollback y) y r nobody (rollback_drops y r (ap (λ b. is_done r || b) (reason_rolls_back _ r doomed) ∙ or-true (is_done r)))
-      ] refl))
+      by_if Q (is_rollback_only T y) _ _ (λ doomed. Drops (Rollback y) y (reason_of T y) nobody (rollback_drops y (reason_of T y) (ap (λ b. is_done (reason_of T y) || b) (reason_rolls_back (state_of T y) doomed) ∙ or-true (is_done (reason_of T y))))) (λ _.
+      Drops (Rollback y) y Done nobody (rollback_drops y Done refl))))
 
-  at_opened : (op : Op) → Effect t T op (next_opened t op T)
-  at_opened (Start y how) = at_start how y
-  at_opened (Add k d) = at_add k d
-  at_opened (End y how) = at_end how y
-  at_opened (Prepare y) = at_prepare y
-  at_opened (Commit y one_phase) = at_commit one_phase y
-  at_opened (Rollback y) = at_rollback y
-  at_opened op = refuses op Proto refl
-
-  at_open : (op : Op) → Effect t T op (next_open t op T)
-  at_open Shut = Shuts
-  at_open OpenRm = Opens
-  at_open CloseRm = at_close
-  at_open op = by_if (Effect t T op) (not (has_opened T t)) _ _ (λ _. refuses op Proto refl) (λ _. at_opened op)
+  at_rules : (op : Op) → Effect t T op (by_rules t op T)
+  at_rules Shut = Shuts
+  at_rules OpenRm = Opens
+  at_rules CloseRm = at_close
+  at_rules (Start y how) = at_start how y
+  at_rules (Add k d) = at_add k d
+  at_rules (End y how) = at_end how y
+  at_rules (Prepare y) = at_prepare y
+  at_rules (Commit y one_phase) = at_commit one_phase y
+  at_rules (Rollback y) = at_rollback y
 
 -- each request has one of them
 pub effect_of : (t : ℕ) (op : Op) (T : Tables) → Effect t T op (next t op T)
 unfolding next
-effect_of t op T = by_if (Effect t T op) (T.shut) _ _ (λ _. refuses t T op RmFail refl) (λ _. at_open t T op)
+effect_of t op T =
+    by_if (Effect t T op) (T.shut) _ _ (λ _. refuses t T op RmFail refl) (λ _.
+    by_if (Effect t T op) (needs_opening op && not (has_opened T t)) _ _ (λ _. refuses t T op Proto refl) (λ _. at_rules t T op))

@@ -12,9 +12,11 @@ use Rattle.xa_words.specs.declared.request.Op.TheVariants.{Start}
 use Rattle.xa_words.specs.declared.request.StartHow.TheVariants.{Join, Resume}
 use Rattle.xa_tables.specs.declared.state.State.{State}
 use Rattle.xa_tables.specs.declared.state.State.TheVariants.{Active, Idle, Prepared as S3, RollbackOnly}
-use Rattle.xa_tables.specs.declared.state.RollbackReason.TheVariants.{Rollback as Failed, Transient}
-use Rattle.xa_tables.specs.Tables.{Tables, association_of, state_of, is_somebody_associated}
-use Rattle.xa_tables.specs.Next.{Answer, next, is_prepared, is_associated_with, gone, stated, associated, dissociated, association}
+use Rattle.xa_tables.specs.declared.state.RollbackReason.TheVariants.{Failed, Transient}
+use Rattle.xa_tables.specs.declared.state.AssociationState.{AssociationState}
+use Rattle.xa_tables.specs.declared.state.AssociationState.TheVariants.{Associated, Suspended}
+use Rattle.xa_tables.specs.Tables.{Tables, association_of, state_of, is_S3, is_association_with, is_associated, is_somebody_associated}
+use Rattle.xa_tables.specs.Next.{Answer, next, gone, stated, with_association, associated, dissociated, association}
 use Rattle.xa_tables.specs.History.{History, Fate, ending_by, InDoubt, Live, Committed, ReadOnly, RolledBack, Absent, is_in_doubt, is_unfinished, fate, fate_of, last_or, if_named, tables_after, coded, accepted, IsOpening, PreparedIsInDoubt, ExistsWhileUnfinished}
 use Rattle.std.specs.List.{filter_map, cons_option}
 use Rattle.xa_tables.proofs.ShutLemmas.{after_accepted}
@@ -58,7 +60,7 @@ is_voted Nowhere = false
 is_voted AtWork = false
 is_voted Voted = true
 
-state_voted : (o : Option State) → is_prepared o ≡ is_voted (standing o)
+state_voted : (o : Option State) → is_S3 o ≡ is_voted (standing o)
 state_voted None = refl
 state_voted (Some Active) = refl
 state_voted (Some Idle) = refl
@@ -94,7 +96,7 @@ fate_there ReadOnly = refl
 fate_there RolledBack = refl
 
 -- a branch that exists and isn't in S3
-works : (o : Option State) → is_some o ≡ true → is_prepared o ≡ false → standing o ≡ AtWork
+works : (o : Option State) → is_some o ≡ true → is_S3 o ≡ false → standing o ≡ AtWork
 works None some e = cc
 works (Some Active) some e = refl
 works (Some Idle) some e = refl
@@ -117,7 +119,7 @@ swap_xid x y = same_from_decides _ _ (Decides-xid_eq x y) ((λ t. sym ((Decides-
 pub get_put : (T : Tables) (y x : XidName) (s : State) → state_of (stated y s T) x ≡ (if xid_eq y x then Some s else state_of T x)
 get_put T y x s = get-insert xid_cmp_total T.states y s x ∙ ap (λ b. cond b (Some s) (state_of T x)) (sym (xid_eq-by_cmp x y) ∙ swap_xid x y)
 
-get_gone : (T : Tables) (y x : XidName) → state_of (gone y T) x ≡ (if xid_eq y x then None else state_of T x)
+pub get_gone : (T : Tables) (y x : XidName) → state_of (gone y T) x ≡ (if xid_eq y x then None else state_of T x)
 get_gone T y x = get-remove xid_cmp_total T.states y x ∙ ap (λ b. cond b None (state_of T x)) (sym (xid_eq-by_cmp x y) ∙ swap_xid x y)
 
 -- y is put into a state, and its fate says so
@@ -143,10 +145,10 @@ quiet_put x y s T e =
     ] refl
 
 -- t is associated with y, and y is S1
-started : (t : ℕ) (y : XidName) (T : Tables) → Sound T → Sound (associated t y false (stated y Active T))
+started : (t : ℕ) (y : XidName) (T : Tables) → Sound T → Sound (associated t y (stated y Active T))
 started t y T s =
     record {
-      at_work = held_associated standing AtWork _ _ _ t (association y false) refl (held_now standing AtWork _ _ y Active refl refl) (held_put standing AtWork _ _ _ y Active refl refl s.at_work);
+      at_work = held_associated standing AtWork _ _ _ t (association y Associated) refl (held_now standing AtWork _ _ y Active refl refl) (held_put standing AtWork _ _ _ y Active refl refl s.at_work);
     }
 
 -- y is put into a state of work
@@ -154,15 +156,15 @@ worked : (y : XidName) (o : State) (T : Tables) → standing (Some o) ≡ AtWork
 worked y o T e s = record { at_work = held_put standing AtWork _ _ _ y o refl e s.at_work }
 
 -- a branch with which a thread is associated is at work
-associated_alive : (t : ℕ) (y : XidName) (T : Tables) → Sound T → is_associated_with y (association_of T t) ≡ true → standing (state_of T y) ≡ AtWork
+associated_alive : (t : ℕ) (y : XidName) (T : Tables) → Sound T → is_associated T t y ≡ true → standing (state_of T y) ≡ AtWork
 associated_alive t y T s =
-    elim (association_of T t) as (λ o. association_of T t ≡ o → is_associated_with y o ≡ true → standing (state_of T y) ≡ AtWork) [
+    elim (association_of T t) as (λ o. association_of T t ≡ o → is_association_with o y ≡ true → standing (state_of T y) ≡ AtWork) [
       | None ↦ λ e h. cc
       | Some l ↦ λ e h. associated_held standing AtWork T.associations T.states t l y s.at_work (sym e) (sym h)
     ] refl
 
-reassociated : (t : ℕ) (y : XidName) (b : Bool) (T : Tables) → Sound T → is_associated_with y (association_of T t) ≡ true → Sound (associated t y b T)
-reassociated t y b T s h = record { at_work = held_associated standing AtWork T.associations _ T.states t (association y b) refl (associated_alive t y T s h) s.at_work }
+reassociated : (t : ℕ) (y : XidName) (state : AssociationState) (T : Tables) → Sound T → is_associated T t y ≡ true → Sound (with_association t (association y state) T)
+reassociated t y state T s h = record { at_work = held_associated standing AtWork T.associations _ T.states t (association y state) refl (associated_alive t y T s h) s.at_work }
 
 -- a fate that ends a branch without a commit leaves it nowhere
 dropped_nowhere : (g : Fate) → ending_by g ≡ Some false → Nowhere ≡ standing_of g
@@ -185,16 +187,16 @@ module _ (t : ℕ) (x : XidName) (f : Fate) (T : Tables) (s : Sound T) (h : stan
 
   by_effect : {op : Op} {a : Answer} → Effect t T op a → Step x op f a
   by_effect (Stays op c tells) = same op (T, c) s (tells.fates x) h
-  by_effect (Starts y) = record { sound = started t y T s; owes = owes_put x y Active Live f T refl h }
-  by_effect (Joins y there unprepared) = same (Start y Join) _ (started t y T s) (named_none x y) (quiet_put x y Active T (sym (works _ there unprepared)) ∙ h)
-  by_effect (Resumes y own) = same (Start y Resume) _ (reassociated t y false T s own) (named_none x y) h
-  by_effect (Suspends y own) = record { sound = reassociated t y true T s own; owes = h }
-  by_effect (Leaves y how c) = record { sound = left; owes = h }
+  by_effect (Starts y free) = record { sound = started t y T s; owes = owes_put x y Active Live f T refl h }
+  by_effect (Joins y free there unprepared) = same (Start y Join) _ (started t y T s) (named_none x y) (quiet_put x y Active T (sym (works _ there unprepared)) ∙ h)
+  by_effect (Resumes y own) = same (Start y Resume) _ (reassociated t y Associated T s own) (named_none x y) h
+  by_effect (Suspends y own) = record { sound = reassociated t y Suspended T s own; owes = h }
+  by_effect (Leaves y how c own why) = record { sound = left; owes = h }
   by_effect (Fails y own) = record {
     sound = worked y (RollbackOnly Failed) (dissociated t T) refl left;
     owes = quiet_put x y (RollbackOnly Failed) (dissociated t T) (sym (associated_alive t y T s own)) ∙ h;
   }
-  by_effect (Idles y own) = record {
+  by_effect (Idles y own alone) = record {
     sound = worked y Idle (dissociated t T) refl left;
     owes = quiet_put x y Idle (dissociated t T) (sym (associated_alive t y T s own)) ∙ h;
   }
@@ -202,11 +204,11 @@ module _ (t : ℕ) (x : XidName) (f : Fate) (T : Tables) (s : Sound T) (h : stan
     sound = worked l.xid (RollbackOnly Transient) T refl s;
     owes = quiet_put x l.xid (RollbackOnly Transient) T (sym (s.at_work t l own)) ∙ h;
   }
-  by_effect (Prepares y nobody) = record {
+  by_effect (Prepares y nobody unbroken) = record {
     sound = record { at_work = held_apart standing AtWork T.associations T.states _ y (others_put T.states y S3) nobody s.at_work };
     owes = owes_put x y S3 InDoubt f T refl h;
   }
-  by_effect (Commits y one_phase nobody) = record { sound = record { at_work = removed y nobody }; owes = owes_gone x y Committed f T refl h }
+  by_effect (Commits y one_phase nobody may) = record { sound = record { at_work = removed y nobody }; owes = owes_gone x y Committed f T refl h }
   by_effect (Drops op y c nobody tells) = record {
     sound = record { at_work = removed y nobody };
     owes = owes_gone x y tells.fate f T (dropped_nowhere tells.fate tells.uncommitted) h ∙ ap (λ o. standing_of (unwrap_or o f)) (sym (tells.fates x));
@@ -237,6 +239,10 @@ pub sound_after : (t : ℕ) (op : Op) (T : Tables) → Sound T → Sound (next t
 sound_after t op T s =
     let x : XidName = record { format = pos 0; gtrid = []; bqual = [] } in
     (step t op x (fate_at (standing (state_of T x))) T s (sym (at_fate (standing (state_of T x))))).sound
+
+pub run_sound : (h : History) (T : Tables) → Sound T → Sound (tables_after h T)
+run_sound [] T s = s
+run_sound (r ∷ h) T s = run_sound h (next r.thread r.op T).0 (sound_after r.thread r.op T s)
 
 pub opening_sound : (T : Tables) → IsOpening T → Sound T
 opening_sound T o = record { at_work = λ t a found. let n = ap (λ m. map.get m t) o.associations ∙ get-empty nat_cmp t in cc }

@@ -13,4 +13,6 @@ pub mod LateLaw
 pub mod Unnamed
 pub mod Opened
 pub mod PreparedLaw
+pub mod ActiveLaw
+pub mod WithinLaw
 pub mod FateLaw

@@ -11,13 +11,13 @@ use Rattle.xa_words.specs.declared.request.Op.TheVariants.{Prepare, Commit, Roll
 use Rattle.xa_words.specs.declared.request.Request.{Request}
 use Rattle.xa_tables.specs.declared.state.State.TheVariants.{Prepared as S3}
 use Rattle.xa_tables.specs.declared.state.Association.{Association}
-use Rattle.xa_tables.specs.Tables.{Tables, has_opened, association_of, state_of, exists, is_somebody_associated, has_touched, is_broken}
-use Rattle.xa_tables.specs.Next.{Answer, next, rollback_unless, is_prepared, reason_of}
+use Rattle.xa_tables.specs.Tables.{Tables, has_opened, association_of, state_of, exists, is_S3, is_S4, is_prepared, is_rollback_only, is_somebody_associated, has_touched, is_broken}
+use Rattle.xa_tables.specs.Next.{Answer, next}
 use Rattle.xa_tables.specs.History.{History, is_shut, is_rolled_back, tables_after, IsOpening}
 use Rattle.xa_tables.specs.Prepared.{names, closes, NamesNowhere, LeavesWaiting, has_shut, IsPrepared, StaysPrepared, AwaitsTheOutcome}
 use Rattle.xa_tables.proofs.ShutLemmas.{next-shut, next-Shut, shut_op}
 use Rattle.xa_tables.proofs.Effects.{by_if, at_false}
-use Rattle.xa_tables.proofs.Law.{Sound, Voted, AtWork, standing, get_put, sound_after, opening_sound}
+use Rattle.xa_tables.proofs.Law.{Sound, Voted, AtWork, standing, get_put, sound_after, run_sound, opening_sound}
 use Rattle.xa_tables.proofs.Unnamed.{nobody_with, unnamed_on, unnamed_law}
 use Rattle.xa_tables.proofs.Opened.{opened_on}
 use Rattle.xa_tables.proofs.LateLaw.{stays_open}
@@ -33,10 +33,6 @@ prepared_apart x T s h t a found =
 
 nobody : (x : XidName) (T : Tables) → Sound T → IsPrepared x T → is_somebody_associated T.associations x ≡ false
 nobody x T s h = nobody_with x T.associations (prepared_apart x T s h)
-
-run_sound : (h : History) (T : Tables) → Sound T → Sound (tables_after h T)
-run_sound [] T s = s
-run_sound (r ∷ h) T s = run_sound h (next r.thread r.op T).0 (sound_after r.thread r.op T s)
 
 pub prepared_law : (h g : History) (x : XidName) (T : Tables) → IsOpening T → IsPrepared x (tables_after h T) → NamesNowhere x g → StaysPrepared x (tables_after h T) (tables_after (h ++ g) T)
 prepared_law h g x T o p n =
@@ -62,7 +58,7 @@ module _ (t : ℕ) (x : XidName) (T : Tables) (h : IsPrepared x T) (free : is_so
       by_if (λ (a : Answer). T.shut ≡ T.shut → a.1 ≡ (if T.shut then RmFail else Done)) (T.shut) _ _ (λ e _. ap (λ b. if b then RmFail else Done) (sym e)) (λ e _.
       ap (λ (a : Answer). a.1)
       (at_false (not (has_opened T t)) _ _ unopened ∙ at_false (not (exists T x)) _ _ unknown
-      ∙ at_false (is_somebody_associated T.associations x || not (is_prepared (state_of T x))) _ _ (both_false _ _ free (ap (λ st. not (is_prepared st)) h)))
+      ∙ at_false (is_somebody_associated T.associations x || not (is_prepared T x)) _ _ (both_false _ _ free (ap (λ st. not (is_S3 st)) h)))
       ∙ ap (λ b. if b then RmFail else Done) (sym e)) refl
 
   rollback_done : (next t (Rollback x) T).1 ≡ (if T.shut then RmFail else Done)
@@ -71,7 +67,7 @@ module _ (t : ℕ) (x : XidName) (T : Tables) (h : IsPrepared x T) (free : is_so
       by_if (λ (a : Answer). T.shut ≡ T.shut → a.1 ≡ (if T.shut then RmFail else Done)) (T.shut) _ _ (λ e _. ap (λ b. if b then RmFail else Done) (sym e)) (λ e _.
       ap (λ (a : Answer). a.1)
       (at_false (not (has_opened T t)) _ _ unopened ∙ at_false (not (exists T x)) _ _ unknown
-      ∙ at_false (is_somebody_associated T.associations x) _ _ free ∙ ap (λ st. rollback_unless (reason_of st) x T) h)
+      ∙ at_false (is_somebody_associated T.associations x) _ _ free ∙ at_false (is_rollback_only T x) _ _ (ap is_S4 h))
       ∙ ap (λ b. if b then RmFail else Done) (sym e)) refl
 
   awaits : AwaitsTheOutcome t x T
@@ -89,7 +85,7 @@ prepare_holds t x T =
     by_if P (T.shut) _ _ (λ _ e. cc) (λ _.
     by_if P (not (has_opened T t)) _ _ (λ _ e. cc) (λ opened_now.
     by_if P (not (exists T x)) _ _ (λ _ e. cc) (λ _.
-    by_if P (is_somebody_associated T.associations x || (is_prepared (state_of T x) || is_some (reason_of (state_of T x)))) _ _ (λ _ e. cc) (λ _.
+    by_if P (is_somebody_associated T.associations x || (is_prepared T x || is_rollback_only T x)) _ _ (λ _ e. cc) (λ _.
     by_if P (not (has_touched T.sums x)) _ _ (λ _ e. cc) (λ _.
     by_if P (is_broken T.values T.sums x) _ _ (λ _ e. cc) (λ _ e. record {
       prepared = get_put T x x S3 ∙ ap (λ b. if b then Some S3 else state_of T x) ((Decides-xid_eq x x).1 refl);
@@ -103,7 +99,7 @@ prepare_breaks t x T =
     by_if P (T.shut) _ _ (λ _ e. cc) (λ _.
     by_if P (not (has_opened T t)) _ _ (λ _ e. cc) (λ _.
     by_if P (not (exists T x)) _ _ (λ _ e. cc) (λ _.
-    by_if P (is_somebody_associated T.associations x || (is_prepared (state_of T x) || is_some (reason_of (state_of T x)))) _ _ (λ _ e. cc) (λ _.
+    by_if P (is_somebody_associated T.associations x || (is_prepared T x || is_rollback_only T x)) _ _ (λ _ e. cc) (λ _.
     by_if P (not (has_touched T.sums x)) _ _ (λ _ e. cc) (λ _.
     by_if P (is_broken T.values T.sums x) _ _ (λ _ e. refl) (λ _ e. cc))))))
 

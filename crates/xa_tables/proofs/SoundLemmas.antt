@@ -11,7 +11,7 @@ use Rattle.xa_tables.specs.declared.state.State.{State}
 use Rattle.xa_tables.specs.declared.state.State.TheVariants.{Prepared}
 use Rattle.xa_tables.specs.declared.state.Association.{Association}
 use Rattle.xa_tables.specs.Tables.{touch_cmp, is_broken, is_somebody_associated}
-use Rattle.xa_tables.specs.Next.{is_prepared}
+use Rattle.xa_tables.specs.Tables.{is_S3}
 use Rattle.xa_tables.specs.Managers.{AreAssociationsLive, ArePreparedSound}
 use Rattle.xa_tables.proofs.MapLemmas.{equal_from, none_passes}
 
@@ -96,52 +96,52 @@ module _ {A : Type 0} (f : Option State → A) (v : A) where
       subst (λ (y : XidName). f (map.get states y) ≡ v) ((Decides-xid_eq l.xid x).0 (sym same)) (held t l (sym found))
 
 -- the same of being in another state than S3
-pub live_put : (associations : Associations) (states states' : States) (x : XidName) (s : State) → states' ≡ map.insert states x s → is_prepared (Some s) ≡ false → AreAssociationsLive associations states → AreAssociationsLive associations states'
-live_put = held_put is_prepared false
+pub live_put : (associations : Associations) (states states' : States) (x : XidName) (s : State) → states' ≡ map.insert states x s → is_S3 (Some s) ≡ false → AreAssociationsLive associations states → AreAssociationsLive associations states'
+live_put = held_put is_S3 false
 
-pub live_associated : (associations associations' : Associations) (states : States) (t : ℕ) (l : Association) → associations' ≡ map.insert associations t l → is_prepared (map.get states l.xid) ≡ false → AreAssociationsLive associations states → AreAssociationsLive associations' states
-live_associated = held_associated is_prepared false
+pub live_associated : (associations associations' : Associations) (states : States) (t : ℕ) (l : Association) → associations' ≡ map.insert associations t l → is_S3 (map.get states l.xid) ≡ false → AreAssociationsLive associations states → AreAssociationsLive associations' states
+live_associated = held_associated is_S3 false
 
 pub live_dissociated : (associations associations' : Associations) (states : States) (t : ℕ) → associations' ≡ map.remove associations t → AreAssociationsLive associations states → AreAssociationsLive associations' states
-live_dissociated = held_dissociated is_prepared false
+live_dissociated = held_dissociated is_S3 false
 
 pub live_prepared : (associations : Associations) (states states' : States) (x : XidName) → states' ≡ map.insert states x Prepared → is_somebody_associated associations x ≡ false → AreAssociationsLive associations states → AreAssociationsLive associations states'
-live_prepared associations states states' x e = held_apart is_prepared false associations states states' x (λ y apart. ap (λ m. map.get m y) e ∙ others_put states x Prepared y apart)
+live_prepared associations states states' x e = held_apart is_S3 false associations states states' x (λ y apart. ap (λ m. map.get m y) e ∙ others_put states x Prepared y apart)
 
-pub now_at : (states states' : States) (x : XidName) (s : State) → states' ≡ map.insert states x s → is_prepared (Some s) ≡ false → is_prepared (map.get states' x) ≡ false
-now_at = held_now is_prepared false
+pub now_at : (states states' : States) (x : XidName) (s : State) → states' ≡ map.insert states x s → is_S3 (Some s) ≡ false → is_S3 (map.get states' x) ≡ false
+now_at = held_now is_S3 false
 
-pub associated_live : (associations : Associations) (states : States) (t : ℕ) (l : Association) (x : XidName) → AreAssociationsLive associations states → Some l ≡ map.get associations t → true ≡ xid_eq l.xid x → is_prepared (map.get states x) ≡ false
-associated_live = associated_held is_prepared false
+pub associated_live : (associations : Associations) (states : States) (t : ℕ) (l : Association) (x : XidName) → AreAssociationsLive associations states → Some l ≡ map.get associations t → true ≡ xid_eq l.xid x → is_S3 (map.get states x) ≡ false
+associated_live = associated_held is_S3 false
 
-pub sound_put : (states states' : States) (sums : Sums) (values : Values) (x : XidName) (s : State) → states' ≡ map.insert states x s → is_prepared (Some s) ≡ false
+pub sound_put : (states states' : States) (sums : Sums) (values : Values) (x : XidName) (s : State) → states' ≡ map.insert states x s → is_S3 (Some s) ≡ false
     → ArePreparedSound states sums values → ArePreparedSound states' sums values
 sound_put states states' sums values x s e not_prepared sound y =
-    subst (λ (o : Option State). is_prepared o ≡ true → is_broken values sums y ≡ false) (sym (ap (λ m. map.get m y) e ∙ get-insert xid_cmp_total states x s y))
-    (by_xid y x (λ b. is_prepared (cond b (Some s) (map.get states y)) ≡ true → is_broken values sums y ≡ false) (λ _ h. cc) (λ _. sound y))
+    subst (λ (o : Option State). is_S3 o ≡ true → is_broken values sums y ≡ false) (sym (ap (λ m. map.get m y) e ∙ get-insert xid_cmp_total states x s y))
+    (by_xid y x (λ b. is_S3 (cond b (Some s) (map.get states y)) ≡ true → is_broken values sums y ≡ false) (λ _ h. cc) (λ _. sound y))
 
 -- a branch is gone
 pub live_removed : (associations : Associations) (states states' : States) (x : XidName) → states' ≡ map.remove states x → AreAssociationsLive associations states → AreAssociationsLive associations states'
 live_removed associations states states' x e live t l found =
-    ap (λ m. is_prepared (map.get m l.xid)) e ∙ ap is_prepared (get-remove xid_cmp_total states x l.xid)
-    ∙ by_xid l.xid x (λ b. is_prepared (cond b None (map.get states l.xid)) ≡ false) (λ _. refl) (λ _. live t l found)
+    ap (λ m. is_S3 (map.get m l.xid)) e ∙ ap is_S3 (get-remove xid_cmp_total states x l.xid)
+    ∙ by_xid l.xid x (λ b. is_S3 (cond b None (map.get states l.xid)) ≡ false) (λ _. refl) (λ _. live t l found)
 
 -- x is gone, and the other branches stand as they stood
 pub sound_removed : (states states' : States) (sums sums' : Sums) (values values' : Values) (x : XidName) → states' ≡ map.remove states x
     → ((y : XidName) → y ≢ x → is_broken values' sums' y ≡ is_broken values sums y) → ArePreparedSound states sums values → ArePreparedSound states' sums' values'
 sound_removed states states' sums sums' values values' x e others sound y =
-    subst (λ (o : Option State). is_prepared o ≡ true → is_broken values' sums' y ≡ false) (sym (ap (λ m. map.get m y) e ∙ get-remove xid_cmp_total states x y))
-    (by_xid y x (λ b. is_prepared (cond b None (map.get states y)) ≡ true → is_broken values' sums' y ≡ false) (λ _ h. cc) (λ apart h. others y apart ∙ sound y h))
+    subst (λ (o : Option State). is_S3 o ≡ true → is_broken values' sums' y ≡ false) (sym (ap (λ m. map.get m y) e ∙ get-remove xid_cmp_total states x y))
+    (by_xid y x (λ b. is_S3 (cond b None (map.get states y)) ≡ true → is_broken values' sums' y ≡ false) (λ _ h. cc) (λ apart h. others y apart ∙ sound y h))
 
 -- x isn't in S3, and the other branches stand as they stood
-pub sound_others : (states : States) (sums sums' : Sums) (values values' : Values) (x : XidName) → is_prepared (map.get states x) ≡ false
+pub sound_others : (states : States) (sums sums' : Sums) (values values' : Values) (x : XidName) → is_S3 (map.get states x) ≡ false
     → ((y : XidName) → y ≢ x → is_broken values' sums' y ≡ is_broken values sums y) → ArePreparedSound states sums values → ArePreparedSound states sums' values'
 sound_others states sums sums' values values' x not_prepared others sound y h =
-    others y (λ e. let z = ap (λ w. is_prepared (map.get states w)) e in cc) ∙ sound y h
+    others y (λ e. let z = ap (λ w. is_S3 (map.get states w)) e in cc) ∙ sound y h
 
 -- a branch that keeps the values within the limits is put into S3
 pub sound_prepared : (states states' : States) (sums : Sums) (values : Values) (x : XidName) → states' ≡ map.insert states x Prepared → is_broken values sums x ≡ false
     → ArePreparedSound states sums values → ArePreparedSound states' sums values
 sound_prepared states states' sums values x e whole sound y =
-    subst (λ (o : Option State). is_prepared o ≡ true → is_broken values sums y ≡ false) (sym (ap (λ m. map.get m y) e ∙ get-insert xid_cmp_total states x Prepared y))
-    (by_xid y x (λ b. is_prepared (cond b (Some Prepared) (map.get states y)) ≡ true → is_broken values sums y ≡ false) (λ same h. ap (λ w. is_broken values sums w) same ∙ whole) (λ _. sound y))
+    subst (λ (o : Option State). is_S3 o ≡ true → is_broken values sums y ≡ false) (sym (ap (λ m. map.get m y) e ∙ get-insert xid_cmp_total states x Prepared y))
+    (by_xid y x (λ b. is_S3 (cond b (Some Prepared) (map.get states y)) ≡ true → is_broken values sums y ≡ false) (λ same h. ap (λ w. is_broken values sums w) same ∙ whole) (λ _. sound y))

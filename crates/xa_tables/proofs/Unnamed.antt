@@ -11,8 +11,10 @@ use Rattle.xa_words.specs.Orders.{Decides-xid_eq}
 use Rattle.xa_words.specs.declared.request.Op.{Op}
 use Rattle.xa_words.specs.declared.request.Request.{Request}
 use Rattle.xa_tables.specs.declared.state.State.TheVariants.{Active, Idle, Prepared as S3, RollbackOnly}
-use Rattle.xa_tables.specs.declared.state.RollbackReason.TheVariants.{Rollback as Failed, Transient}
+use Rattle.xa_tables.specs.declared.state.RollbackReason.TheVariants.{Failed, Transient}
 use Rattle.xa_tables.specs.declared.state.Association.{Association}
+use Rattle.xa_tables.specs.declared.state.AssociationState.{AssociationState}
+use Rattle.xa_tables.specs.declared.state.AssociationState.TheVariants.{Associated, Suspended}
 use Rattle.xa_tables.specs.Tables.{Tables, association_of, is_somebody_associated}
 use Rattle.xa_tables.specs.Next.{Answer, next, gone, association}
 use Rattle.xa_tables.specs.History.{History, tables_after, tables_after-append}
@@ -32,7 +34,7 @@ pub nobody_with : (x : XidName) (associations : FinMap nat_cmp Association) → 
 nobody_with x associations apart = none_pass nat_cmp_total nat_cmp-IsAntisymmetric (λ u k. xid_eq k.xid x) associations apart
 
 -- a thread becomes associated with another branch, and a thread loses its association
-nobody_joins : (x : XidName) (associations : FinMap nat_cmp Association) (t : ℕ) (l : Association) → xid_eq l.xid x ≡ false → is_somebody_associated associations x ≡ false → is_somebody_associated (map.insert associations t l) x ≡ false
+pub nobody_joins : (x : XidName) (associations : FinMap nat_cmp Association) (t : ℕ) (l : Association) → xid_eq l.xid x ≡ false → is_somebody_associated associations x ≡ false → is_somebody_associated (map.insert associations t l) x ≡ false
 nobody_joins x associations t l other nobody =
     nobody_with x (map.insert associations t l) (λ u k found.
     elim (eq_by_cmp nat_cmp u t) as (λ b. cond b (Some l) (map.get associations u) ≡ Some k → xid_eq k.xid x ≡ false) [
@@ -40,7 +42,7 @@ nobody_joins x associations t l other nobody =
       | false ↦ λ is. apart_from x associations nobody u k is
     ] (sym (get-insert nat_cmp_total associations t l u) ∙ found))
 
-nobody_leaves : (x : XidName) (associations : FinMap nat_cmp Association) (t : ℕ) → is_somebody_associated associations x ≡ false → is_somebody_associated (map.remove associations t) x ≡ false
+pub nobody_leaves : (x : XidName) (associations : FinMap nat_cmp Association) (t : ℕ) → is_somebody_associated associations x ≡ false → is_somebody_associated (map.remove associations t) x ≡ false
 nobody_leaves x associations t nobody =
     nobody_with x (map.remove associations t) (λ u k found.
     elim (eq_by_cmp nat_cmp u t) as (λ b. cond b None (map.get associations u) ≡ Some k → xid_eq k.xid x ≡ false) [
@@ -53,8 +55,8 @@ differs : (x y : XidName) → xid_eq y x ≡ false → x ≢ y
 differs x y other same = let z = (Decides-xid_eq y x).1 (sym same) in cc
 
 module _ (t : ℕ) (x : XidName) (T : Tables) (nobody : is_somebody_associated T.associations x ≡ false) where
-  joined : (y : XidName) (suspended : Bool) → xid_eq y x ≡ false → is_somebody_associated (map.insert T.associations t (association y suspended)) x ≡ false
-  joined y suspended other = nobody_joins x T.associations t (association y suspended) other nobody
+  joined : (y : XidName) (state : AssociationState) → xid_eq y x ≡ false → is_somebody_associated (map.insert T.associations t (association y state)) x ≡ false
+  joined y state other = nobody_joins x T.associations t (association y state) other nobody
 
   left : is_somebody_associated (map.remove T.associations t) x ≡ false
   left = nobody_leaves x T.associations t nobody
@@ -66,17 +68,17 @@ module _ (t : ℕ) (x : XidName) (T : Tables) (nobody : is_somebody_associated T
   others_gone y other k = get_without T.sums y x k ∙ at_false (xid_eq x y) None _ (swap_xid x y ∙ other)
 
   by_effect : {op : Op} {a : Answer} → Effect t T op a → names x op ≡ false → StaysAsItWas x T a.0
-  by_effect (Starts y) n = record { state = others_put T.states y Active x (differs x y n); sums = λ k. refl; apart = joined y false n }
-  by_effect (Joins y there unprepared) n = record { state = others_put T.states y Active x (differs x y n); sums = λ k. refl; apart = joined y false n }
-  by_effect (Resumes y own) n = record { state = refl; sums = λ k. refl; apart = joined y false n }
-  by_effect (Suspends y own) n = record { state = refl; sums = λ k. refl; apart = joined y true n }
-  by_effect (Leaves y how c) n = record { state = refl; sums = λ k. refl; apart = left }
+  by_effect (Starts y free) n = record { state = others_put T.states y Active x (differs x y n); sums = λ k. refl; apart = joined y Associated n }
+  by_effect (Joins y free there unprepared) n = record { state = others_put T.states y Active x (differs x y n); sums = λ k. refl; apart = joined y Associated n }
+  by_effect (Resumes y own) n = record { state = refl; sums = λ k. refl; apart = joined y Associated n }
+  by_effect (Suspends y own) n = record { state = refl; sums = λ k. refl; apart = joined y Suspended n }
+  by_effect (Leaves y how c own why) n = record { state = refl; sums = λ k. refl; apart = left }
   by_effect (Fails y own) n = record { state = others_put T.states y (RollbackOnly Failed) x (differs x y n); sums = λ k. refl; apart = left }
-  by_effect (Idles y own) n = record { state = others_put T.states y Idle x (differs x y n); sums = λ k. refl; apart = left }
+  by_effect (Idles y own alone) n = record { state = others_put T.states y Idle x (differs x y n); sums = λ k. refl; apart = left }
   by_effect (Dooms k d l own) n = record { state = others_put T.states l.xid (RollbackOnly Transient) x (another l own); sums = λ q. refl; apart = nobody }
   by_effect (Adds k d l own alone) n = record { state = refl; sums = λ q. get_added T.sums l.xid x k q _ (λ same _. another l own same); apart = nobody }
-  by_effect (Prepares y free) n = record { state = others_put T.states y S3 x (differs x y n); sums = λ k. refl; apart = nobody }
-  by_effect (Commits y one_phase free) n = record { state = others_removed T.states y x (differs x y n); sums = others_gone y n; apart = nobody }
+  by_effect (Prepares y free unbroken) n = record { state = others_put T.states y S3 x (differs x y n); sums = λ k. refl; apart = nobody }
+  by_effect (Commits y one_phase free may) n = record { state = others_removed T.states y x (differs x y n); sums = others_gone y n; apart = nobody }
   by_effect (Drops op y c free tells) n =
       let other = sym (tells.named x) ∙ n in
       record { state = others_removed T.states y x (differs x y other); sums = others_gone y other; apart = nobody }

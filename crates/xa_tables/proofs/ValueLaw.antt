@@ -208,14 +208,14 @@ module _ (t : ℕ) (k : List ℕ) (p : Held) (T : Tables) (h : IsPending k p T.s
 
   by_effect : {op : Op} {a : Answer} → Effect t T op a → ValueStep k p op (association_of T t) T a
   by_effect (Stays op c tells) = still refl refl (λ x. ap ending (tells.fates x)) (λ later. tells.shares k _ later)
-  by_effect (Starts y) = still refl refl (λ x. quiet_named x y (Some Live) refl) (λ later. refl)
-  by_effect (Joins y there unprepared) = still refl refl (λ x. quiet_named x y None refl) (λ later. refl)
+  by_effect (Starts y free) = still refl refl (λ x. quiet_named x y (Some Live) refl) (λ later. refl)
+  by_effect (Joins y free there unprepared) = still refl refl (λ x. quiet_named x y None refl) (λ later. refl)
   by_effect (Resumes y own) = still refl refl (λ x. quiet_named x y None refl) (λ later. refl)
   by_effect (Dooms own d l mine) = still refl refl (λ x. refl) (λ later. (undone_adds own d RbTransient refl).shares k _ later)
   by_effect (Adds own d l mine alone) =
       subst (λ (o : Option Association). ValueStep k p (Add own d) o T (record T { sums = map.insert T.sums (l.xid, own) (sum_of T.sums l.xid own +ℤ d) }, Done)) (sym mine) (gained k own d p l T h alone)
-  by_effect (Prepares y nobody) = still refl refl (λ x. quiet_named x y (Some InDoubt) refl) (λ later. refl)
-  by_effect (Commits y one_phase nobody) = paid y one_phase
+  by_effect (Prepares y nobody unbroken) = still refl refl (λ x. quiet_named x y (Some InDoubt) refl) (λ later. refl)
+  by_effect (Commits y one_phase nobody may) = paid y one_phase
   by_effect (Drops op y c nobody tells) = lost op y c tells
   -- the others change no sum and no value
   by_effect effect = still refl refl (λ x. refl) (λ later. refl)
@@ -235,19 +235,19 @@ none_due None = refl
 none_due (Some p) = refl
 
 -- the values after H, with what is due to the branch that has touched the key
-values_behind : (H : History) (k : List ℕ) (p : Held) (T : Tables) → Sound T → IsPending k p T.sums
+values_after : (H : History) (k : List ℕ) (p : Held) (T : Tables) → Sound T → IsPending k p T.sums
     → map.get (tables_after H T).values k ≡ option_map (λ v. v +ℤ (due p (λ x. commits x (coded H T)) +ℤ added_in k H T)) (map.get T.values k)
-values_behind [] k p T s h = plus_zero _ ∙ ap (λ d. option_map (λ v. v +ℤ (d +ℤ pos 0)) (map.get T.values k)) (sym (none_due p))
-values_behind (r ∷ H) k p T s h =
+values_after [] k p T s h = plus_zero _ ∙ ap (λ d. option_map (λ v. v +ℤ (d +ℤ pos 0)) (map.get T.values k)) (sym (none_due p))
+values_after (r ∷ H) k p T s h =
     let T1 : Tables = (next r.thread r.op T).0 in
     let a : ValueStep k p r.op (association_of T r.thread) T (next r.thread r.op T) = value_step r.thread k p r.op T h in
     let sound = sound_after r.thread r.op T s in
-    values_behind H k a.held T1 sound a.pending
+    values_after H k a.held T1 sound a.pending
     ∙ ap (option_map (λ v. v +ℤ (due a.held (λ x. commits x (coded H T1)) +ℤ added_in k H T1))) a.values
     ∙ joined (map.get T.values k) a.moved (due a.held (λ x. commits x (coded H T1))) (added_in k H T1) (due p (λ x. commits x (coded (r ∷ H) T))) (share k r H T) (a.owes (λ x. commits x (coded H T1)))
 
 pub value_law : (H : History) (k : List ℕ) (T : Tables) → IsOpening T → ValueIsSum k H T
 value_law H k T o =
     after_accepted (λ (U : Tables). map.get U.values k) (λ _. refl) H T
-    ∙ values_behind (accepted H) k None T (opening_sound T o) (λ x. ap (λ m. map.get m (x, k)) o.sums ∙ get-empty touch_cmp (x, k))
+    ∙ values_after (accepted H) k None T (opening_sound T o) (λ x. ap (λ m. map.get m (x, k)) o.sums ∙ get-empty touch_cmp (x, k))
     ∙ ap (λ d. option_map d (map.get T.values k)) (λ i v. v +ℤ zero_left (added_in k (accepted H) T) i)

@@ -87,8 +87,8 @@ amount_of None x = pos 0
 amount_of (Some h) x = if xid_eq h.xid x then h.amount else pos 0
 
 -- the account once x has committed
-abbrev pub settled_by : XidName → Account → Account
-settled_by x a = record { key = a.key; value = a.value +ℤ amount_of a.hold x; hold = hold_without a.hold x }
+abbrev pub posted_by : XidName → Account → Account
+posted_by x a = record { key = a.key; value = a.value +ℤ amount_of a.hold x; hold = hold_without a.hold x }
 
 -- the account once x is rolled back
 abbrev pub forgotten_by : XidName → Account → Account

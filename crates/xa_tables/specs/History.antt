@@ -1,5 +1,5 @@
 -- Histories: the requests of one manager, in the order in which its worker took them.
-use Rattle.std.specs.Prelude.{◌≡◌, ℕ, ℤ, pos, ◌+ℤ◌, Bool, true, false, ◌||◌, ◌&&◌, ◌==◌, if◌then◌else◌, Option, None, Some, option_map, List, [], ◌∷◌, ◌++◌, map, filter, refl}
+use Rattle.std.specs.Prelude.{◌≡◌, ℕ, ℤ, pos, ◌+ℤ◌, ◌≤ℤ◌, Bool, true, false, not, ◌||◌, ◌&&◌, ◌==◌, if◌then◌else◌, Option, None, Some, option_map, List, [], ◌∷◌, ◌++◌, map, filter, refl}
 use Rattle.std.specs.List.{filter_map}
 use Rattle.std.specs.FinSet as finset
 use Rattle.std.specs.FinMap as finmap
@@ -13,8 +13,8 @@ use Rattle.xa_words.specs.declared.request.StartHow.{StartHow}
 use Rattle.xa_words.specs.declared.request.StartHow.TheVariants.{Fresh, Join, Resume}
 use Rattle.xa_words.specs.declared.request.Request.{Request}
 use Rattle.xa_tables.specs.declared.state.Association.{Association}
-use Rattle.xa_tables.specs.Tables.{Tables, association_of, state_of, exists}
-use Rattle.xa_tables.specs.Next.{next, is_prepared, shut_down}
+use Rattle.xa_tables.specs.Tables.{Tables, association_of, exists, is_active, is_prepared, is_rollback_only, is_somebody_associated}
+use Rattle.xa_tables.specs.Next.{next, shut_down}
 
 -- requests in the order in which they were taken
 abbrev pub History : Type 0
@@ -253,11 +253,22 @@ pub record IsOpening (T : Tables) : Type 0 where
 
 -- a branch is in S3 exactly if its fate is InDoubt
 abbrev pub PreparedIsInDoubt : XidName → History → Tables → Type 0
-PreparedIsInDoubt x h T = is_prepared (state_of (tables_after h T) x) ≡ is_in_doubt (fate x h T)
+PreparedIsInDoubt x h T = is_prepared (tables_after h T) x ≡ is_in_doubt (fate x h T)
 
 -- a branch exists exactly while its fate is Live or InDoubt
 abbrev pub ExistsWhileUnfinished : XidName → History → Tables → Type 0
 ExistsWhileUnfinished x h T = exists (tables_after h T) x ≡ is_unfinished (fate x h T)
+
+-- a branch is active exactly while somebody is associated with it, suspended or not, and it is neither prepared nor
+-- rollback-only
+abbrev pub ActiveWhileAssociated : XidName → History → Tables → Type 0
+ActiveWhileAssociated x h T =
+    is_active (tables_after h T) x
+    ≡ (is_somebody_associated (tables_after h T).associations x && not (is_prepared (tables_after h T) x || is_rollback_only (tables_after h T) x))
+
+-- a declared key's value is from 0 to 10^12
+abbrev pub StaysWithin : List ℕ → History → Tables → Type 0
+StaysWithin k h T = (v : ℤ) → finmap.get (tables_after h T).values k ≡ Some v → (pos 0 ≤ℤ v) × (v ≤ℤ pos 1000000000000)
 
 -- the tables' value of a key is the value after the history
 abbrev pub ValueIsSum : List ℕ → History → Tables → Type 0

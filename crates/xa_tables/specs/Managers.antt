@@ -10,8 +10,7 @@ use Rattle.xa_words.specs.Xid.{XidName, xid_cmp}
 use Rattle.xa_words.specs.Orders.{key_cmp}
 use Rattle.xa_tables.specs.declared.state.State.{State}
 use Rattle.xa_tables.specs.declared.state.Association.{Association}
-use Rattle.xa_tables.specs.Tables.{Tables, touch_cmp, is_broken, set_code, associations_code, states_code, sums_code, values_code}
-use Rattle.xa_tables.specs.Next.{is_prepared}
+use Rattle.xa_tables.specs.Tables.{Tables, touch_cmp, is_S3, is_broken, set_code, associations_code, states_code, sums_code, values_code}
 use Rattle.xa_tables.specs.Views.{ThreadTable, BranchTable}
 use Rattle.xa_tables.specs.Accounts.{Holdings, declared_values}
 
@@ -60,8 +59,8 @@ pub record Keeps (old new : TablesWithRoom) : Type 0 where
 
 -- no thread is associated with a branch in S3
 abbrev pub AreAssociationsLive : FinMap nat_cmp Association → FinMap xid_cmp State → Type 0
-AreAssociationsLive associations states = (t : ℕ) (l : Association) → map.get associations t ≡ Some l → is_prepared (map.get states l.xid) ≡ false
+AreAssociationsLive associations states = (t : ℕ) (l : Association) → map.get associations t ≡ Some l → is_S3 (map.get states l.xid) ≡ false
 
 -- a branch in S3 keeps each value within the limits
 abbrev pub ArePreparedSound : FinMap xid_cmp State → FinMap touch_cmp ℤ → FinMap key_cmp ℤ → Type 0
-ArePreparedSound states sums values = (x : XidName) → is_prepared (map.get states x) ≡ true → is_broken values sums x ≡ false
+ArePreparedSound states sums values = (x : XidName) → is_S3 (map.get states x) ≡ true → is_broken values sums x ≡ false

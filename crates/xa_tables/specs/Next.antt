@@ -1,10 +1,10 @@
 -- One request at a manager: the rules of the branch tables.
 -- In each group the first line that fits decides. t is the thread that asks, x the xid, T the tables.
 -- The states are those of C193, chapter 6: T0 to T2 of a thread, S0 to S4 of a branch.
-use Rattle.std.specs.Prelude.{ℕ, ℤ, Bool, true, false, not, ◌||◌, ◌&&◌, if◌then◌else◌, Option, None, Some, is_some, List, ◌+ℤ◌}
+use Rattle.std.specs.Prelude.{ℕ, ℤ, Bool, true, false, not, ◌||◌, ◌&&◌, if◌then◌else◌, List, ◌+ℤ◌}
 use Rattle.std.specs.FinSet as set
 use Rattle.std.specs.FinMap as map
-use Rattle.xa_words.specs.Xid.{XidName, xid_eq}
+use Rattle.xa_words.specs.Xid.{XidName}
 use Rattle.xa_words.specs.declared.code.Code.{Code}
 use Rattle.xa_words.specs.declared.code.Code.TheVariants.{Done, RdOnly, RbRollback, RbIntegrity, RbTransient, Nota, Inval, Proto, RmFail, DupId}
 use Rattle.xa_words.specs.declared.request.Op.{Op}
@@ -15,60 +15,54 @@ use Rattle.xa_words.specs.declared.request.EndHow.{EndHow}
 use Rattle.xa_words.specs.declared.request.EndHow.TheVariants.{Success, Suspend, Fail}
 use Rattle.xa_tables.specs.declared.state.State.{State}
 use Rattle.xa_tables.specs.declared.state.State.TheVariants.{Active, Idle, Prepared, RollbackOnly}
-use Rattle.xa_tables.specs.declared.state.RollbackReason.TheVariants.{Rollback as Failed, Transient}
+use Rattle.xa_tables.specs.declared.state.RollbackReason.TheVariants.{Failed, Transient}
 use Rattle.xa_tables.specs.declared.state.Association.{Association}
-use Rattle.xa_tables.specs.Reasons.{reason_code}
-use Rattle.xa_tables.specs.Tables.{Tables, has_opened, association_of, state_of, exists, is_somebody_associated, is_declared, sum_of, has_touched, has_other_touched, is_broken, settled, sums_without}
+use Rattle.xa_tables.specs.declared.state.AssociationState.{AssociationState}
+use Rattle.xa_tables.specs.declared.state.AssociationState.TheVariants.{Associated, Suspended}
+use Rattle.xa_tables.specs.Tables.{Tables, has_opened, has_association, is_at_work, is_suspended, is_associated, branch_of, exists, is_idle, is_prepared, is_rollback_only, reason_of, is_somebody_associated, is_declared, sum_of, has_touched, has_other_touched, is_broken, posted, sums_without}
 
 -- the tables after a request, and its code
 abbrev pub Answer : Type 0
 Answer = Tables × Code
 
--- ---- what a rule says of a thread and of a branch
+-- ---- before all others
 
--- an association with x, of kind suspended or associated
-abbrev pub association : XidName → Bool → Association
-association x suspended = record { xid = x; suspended = suspended }
+-- a manager that is shut answers XAER_RMFAIL, and nothing changes
+abbrev pub unless_shut : Tables → Answer → Answer
+unless_shut T answer = if T.shut then (T, RmFail) else answer
 
--- the association is with x
-abbrev pub is_associated_with : XidName → Option Association → Bool
-is_associated_with x None = false
-is_associated_with x (Some a) = xid_eq a.xid x
+-- what a thread that hasn't opened may not ask (C193, table 6-1)
+abbrev pub needs_opening : Op → Bool
+needs_opening Shut = false
+needs_opening OpenRm = false
+needs_opening CloseRm = false
+needs_opening (Start x how) = true
+needs_opening (Add k d) = true
+needs_opening (End x how) = true
+needs_opening (Prepare x) = true
+needs_opening (Commit x one_phase) = true
+needs_opening (Rollback x) = true
 
--- T2
-abbrev pub is_suspended : Option Association → Bool
-is_suspended None = false
-is_suspended (Some a) = a.suspended
-
--- S4's reason, as its code
-abbrev pub reason_of : Option State → Option Code
-reason_of None = None
-reason_of (Some Active) = None
-reason_of (Some Idle) = None
-reason_of (Some Prepared) = None
-reason_of (Some (RollbackOnly reason)) = Some (reason_code reason)
-
--- S3
-abbrev pub is_prepared : Option State → Bool
-is_prepared None = false
-is_prepared (Some Active) = false
-is_prepared (Some Idle) = false
-is_prepared (Some Prepared) = true
-is_prepared (Some (RollbackOnly reason)) = false
-
--- S2
-abbrev pub is_idle : Option State → Bool
-is_idle None = false
-is_idle (Some Active) = false
-is_idle (Some Idle) = true
-is_idle (Some Prepared) = false
-is_idle (Some (RollbackOnly reason)) = false
+abbrev pub if_opened : ℕ → Op → Tables → Answer → Answer
+if_opened t op T answer = if needs_opening op && not (has_opened T t) then (T, Proto) else answer
 
 -- ---- what a rule changes
 
+-- an association with x
+abbrev pub association : XidName → AssociationState → Association
+association x state = record { xid = x; state = state }
+
+-- t has this association
+abbrev pub with_association : ℕ → Association → Tables → Tables
+with_association t a T = record T { associations = map.insert T.associations t a }
+
 -- t is associated with x
-abbrev pub associated : ℕ → XidName → Bool → Tables → Tables
-associated t x suspended T = record T { associations = map.insert T.associations t (association x suspended) }
+abbrev pub associated : ℕ → XidName → Tables → Tables
+associated t x T = with_association t (association x Associated) T
+
+-- t's association with x is suspended
+abbrev pub suspended : ℕ → XidName → Tables → Tables
+suspended t x T = with_association t (association x Suspended) T
 
 -- t has no association
 abbrev pub dissociated : ℕ → Tables → Tables
@@ -78,13 +72,17 @@ dissociated t T = record T { associations = map.remove T.associations t }
 abbrev pub stated : XidName → State → Tables → Tables
 stated x s T = record T { states = map.insert T.states x s }
 
+-- d is added to the sum of (x, k)
+abbrev pub added : XidName → List ℕ → ℤ → Tables → Tables
+added x k d T = record T { sums = map.insert T.sums (x, k) (sum_of T.sums x k +ℤ d) }
+
 -- x is gone: it has no state, no sums and no touched keys
 abbrev pub gone : XidName → Tables → Tables
 gone x T = record T { states = map.remove T.states x; sums = sums_without T.sums x }
 
 -- each sum of x is added to its key's value
 abbrev pub committed : XidName → Tables → Tables
-committed x T = record T { values = settled T.values T.sums x }
+committed x T = record T { values = posted T.values T.sums x }
 
 -- ---- Shut (this project's own, native): the thread needn't have it open
 
@@ -104,7 +102,7 @@ open_rm t T = (record T { opened = set.insert T.opened t }, Done)
 abbrev pub close_rm : ℕ → Tables → Answer
 close_rm t T =
     if not (has_opened T t) then (T, Done)
-    else if is_some (association_of T t) then (T, Proto)
+    else if has_association T t then (T, Proto)
     else (record T { opened = set.remove T.opened t }, Done)
 
 -- ---- Start (xa_start; C193, tables 6-2 and 6-4)
@@ -112,27 +110,23 @@ close_rm t T =
 -- with no flag
 abbrev pub start_fresh : ℕ → XidName → Tables → Answer
 start_fresh t x T =
-    if is_some (association_of T t) then (T, Proto)
+    if has_association T t then (T, Proto)
     else if exists T x then (T, DupId)
-    else (associated t x false (stated x Active T), Done)
-
--- x is S4: its reason, and t isn't associated; else t joins it
-abbrev pub join_unless : Option Code → ℕ → XidName → Tables → Answer
-join_unless (Some reason) t x T = (T, reason)
-join_unless None t x T = (associated t x false (stated x Active T), Done)
+    else (associated t x (stated x Active T), Done)
 
 -- TMJOIN
 abbrev pub start_join : ℕ → XidName → Tables → Answer
 start_join t x T =
-    if is_some (association_of T t) then (T, Proto)
+    if has_association T t then (T, Proto)
     else if not (exists T x) then (T, Nota)
-    else if is_prepared (state_of T x) then (T, Proto)
-    else join_unless (reason_of (state_of T x)) t x T
+    else if is_prepared T x then (T, Proto)
+    else if is_rollback_only T x then (T, reason_of T x)
+    else (associated t x (stated x Active T), Done)
 
 -- TMRESUME: the state of x stays, in S4 too
 abbrev pub start_resume : ℕ → XidName → Tables → Answer
 start_resume t x T =
-    if is_associated_with x (association_of T t) && is_suspended (association_of T t) then (associated t x false T, Done)
+    if is_associated T t x && is_suspended T t then (associated t x T, Done)
     else if not (exists T x) then (T, Nota)
     else (T, Proto)
 
@@ -142,41 +136,18 @@ start Fresh t x T = start_fresh t x T
 start Join t x T = start_join t x T
 start Resume t x T = start_resume t x T
 
--- ---- Add (this project's own, native): work of the branch that t is associated with
+-- ---- Add (this project's own, native)
 
--- the branch x is S4: its reason; another branch has touched the key: x becomes S4; else the delta is added to its sum
-abbrev pub add_unless : Option Code → XidName → List ℕ → ℤ → Tables → Answer
-add_unless (Some reason) x k d T = (T, reason)
-add_unless None x k d T =
-    if has_other_touched T.sums x k then (stated x (RollbackOnly Transient) T, RbTransient)
-    else (record T { sums = map.insert T.sums (x, k) (sum_of T.sums x k +ℤ d) }, Done)
-
--- t's association has to be of kind associated, and the key declared
-abbrev pub add_by : Option Association → List ℕ → ℤ → Tables → Answer
-add_by None k d T = (T, Proto)
-add_by (Some a) k d T =
-    if a.suspended then (T, Proto)
-    else if not (is_declared T k) then (T, Inval)
-    else add_unless (reason_of (state_of T a.xid)) a.xid k d T
-
--- by the association of t
+-- work of the branch that t is associated with
 abbrev pub add : ℕ → List ℕ → ℤ → Tables → Answer
-add t k d T = add_by (association_of T t) k d T
+add t k d T =
+    if not (is_at_work T t) then (T, Proto)
+    else if not (is_declared T k) then (T, Inval)
+    else if is_rollback_only T (branch_of T t) then (T, reason_of T (branch_of T t))
+    else if has_other_touched T.sums (branch_of T t) k then (stated (branch_of T t) (RollbackOnly Transient) T, RbTransient)
+    else (added (branch_of T t) k d T, Done)
 
 -- ---- End (xa_end; C193, tables 6-2 and 6-4)
-
--- TMSUSPEND; TMFAIL; TMSUCCESS, with which x becomes S2 where nobody else is associated with it
-abbrev pub ended : EndHow → ℕ → XidName → Tables → Answer
-ended Suspend t x T = (associated t x true T, Done)
-ended Fail t x T = (stated x (RollbackOnly Failed) (dissociated t T), RbRollback)
-ended Success t x T =
-    if is_somebody_associated (dissociated t T).associations x then (dissociated t T, Done)
-    else (stated x Idle (dissociated t T), Done)
-
--- x is S4: t has no association, and the reason of x is told
-abbrev pub end_unless : Option Code → EndHow → ℕ → XidName → Tables → Answer
-end_unless (Some reason) how t x T = (dissociated t T, reason)
-end_unless None how t x T = ended how t x T
 
 -- TMSUSPEND
 abbrev pub is_suspend : EndHow → Bool
@@ -184,13 +155,23 @@ is_suspend Success = false
 is_suspend Suspend = true
 is_suspend Fail = false
 
--- t's association has to be with x, and not suspended twice
+-- TMFAIL
+abbrev pub is_fail : EndHow → Bool
+is_fail Success = false
+is_fail Suspend = false
+is_fail Fail = true
+
+-- with TMSUCCESS x becomes S2 where nobody else is associated with it
 abbrev pub end : EndHow → ℕ → XidName → Tables → Answer
 end how t x T =
-    if not (is_associated_with x (association_of T t)) && not (exists T x) then (T, Nota)
-    else if not (is_associated_with x (association_of T t)) then (T, Proto)
-    else if is_suspend how && is_suspended (association_of T t) then (T, Proto)
-    else end_unless (reason_of (state_of T x)) how t x T
+    if not (is_associated T t x) && not (exists T x) then (T, Nota)
+    else if not (is_associated T t x) then (T, Proto)
+    else if is_suspend how && is_suspended T t then (T, Proto)
+    else if is_rollback_only T x then (dissociated t T, reason_of T x)
+    else if is_suspend how then (suspended t x T, Done)
+    else if is_fail how then (stated x (RollbackOnly Failed) (dissociated t T), RbRollback)
+    else if is_somebody_associated (dissociated t T).associations x then (dissociated t T, Done)
+    else (stated x Idle (dissociated t T), Done)
 
 -- ---- Prepare (xa_prepare; C193, table 6-4)
 
@@ -198,7 +179,7 @@ end how t x T =
 abbrev pub prepare : XidName → Tables → Answer
 prepare x T =
     if not (exists T x) then (T, Nota)
-    else if is_somebody_associated T.associations x || (is_prepared (state_of T x) || is_some (reason_of (state_of T x))) then (T, Proto)
+    else if is_somebody_associated T.associations x || (is_prepared T x || is_rollback_only T x) then (T, Proto)
     else if not (has_touched T.sums x) then (gone x T, RdOnly)
     else if is_broken T.values T.sums x then (gone x T, RbIntegrity)
     else (stated x Prepared T, Done)
@@ -209,61 +190,40 @@ prepare x T =
 abbrev pub commit_two : XidName → Tables → Answer
 commit_two x T =
     if not (exists T x) then (T, Nota)
-    else if is_somebody_associated T.associations x || not (is_prepared (state_of T x)) then (T, Proto)
+    else if is_somebody_associated T.associations x || not (is_prepared T x) then (T, Proto)
     else (gone x (committed x T), Done)
 
 -- TMONEPHASE
 abbrev pub commit_one : XidName → Tables → Answer
 commit_one x T =
     if not (exists T x) then (T, Nota)
-    else if is_somebody_associated T.associations x || not (is_idle (state_of T x)) then (T, Proto)
+    else if is_somebody_associated T.associations x || not (is_idle T x) then (T, Proto)
     else if is_broken T.values T.sums x then (gone x T, RbIntegrity)
     else (gone x (committed x T), Done)
 
 -- ---- Rollback (xa_rollback; C193, table 6-4)
 
--- x is gone, and its reason is told if it is S4
-abbrev pub rollback_unless : Option Code → XidName → Tables → Answer
-rollback_unless (Some reason) x T = (gone x T, reason)
-rollback_unless None x T = (gone x T, Done)
-
--- x is gone unless somebody is associated with it
+-- S4's reason is told
 abbrev pub rollback : XidName → Tables → Answer
 rollback x T =
     if not (exists T x) then (T, Nota)
     else if is_somebody_associated T.associations x then (T, Proto)
-    else rollback_unless (reason_of (state_of T x)) x T
+    else if is_rollback_only T x then (gone x T, reason_of T x)
+    else (gone x T, Done)
 
 -- ---- all groups
 
--- a thread that has it open
-abbrev pub next_opened : ℕ → Op → Tables → Answer
-next_opened t (Start x how) T = start how t x T
-next_opened t (Add k d) T = add t k d T
-next_opened t (End x how) T = end how t x T
-next_opened t (Prepare x) T = prepare x T
-next_opened t (Commit x one_phase) T = if one_phase then commit_one x T else commit_two x T
-next_opened t (Rollback x) T = rollback x T
-next_opened t OpenRm T = (T, Proto)
-next_opened t CloseRm T = (T, Proto)
-next_opened t Shut T = (T, Proto)
+abbrev pub by_rules : ℕ → Op → Tables → Answer
+by_rules t Shut T = (shut_down T, Done)
+by_rules t OpenRm T = open_rm t T
+by_rules t CloseRm T = close_rm t T
+by_rules t (Start x how) T = start how t x T
+by_rules t (Add k d) T = add t k d T
+by_rules t (End x how) T = end how t x T
+by_rules t (Prepare x) T = prepare x T
+by_rules t (Commit x one_phase) T = if one_phase then commit_one x T else commit_two x T
+by_rules t (Rollback x) T = rollback x T
 
--- any other thread asks against the protocol
-abbrev pub if_opened : ℕ → Op → Tables → Answer
-if_opened t op T = if not (has_opened T t) then (T, Proto) else next_opened t op T
-
--- a manager that isn't shut
-abbrev pub next_open : ℕ → Op → Tables → Answer
-next_open t Shut T = (shut_down T, Done)
-next_open t OpenRm T = open_rm t T
-next_open t CloseRm T = close_rm t T
-next_open t (Start x how) T = if_opened t (Start x how) T
-next_open t (Add k d) T = if_opened t (Add k d) T
-next_open t (End x how) T = if_opened t (End x how) T
-next_open t (Prepare x) T = if_opened t (Prepare x) T
-next_open t (Commit x one_phase) T = if_opened t (Commit x one_phase) T
-next_open t (Rollback x) T = if_opened t (Rollback x) T
-
--- one request: a manager that is shut answers XAER_RMFAIL, and nothing changes
+-- one request
 unfoldable pub next : ℕ → Op → Tables → Answer
-next t op T = if T.shut then (T, RmFail) else next_open t op T
+next t op T = unless_shut T (if_opened t op T (by_rules t op T))

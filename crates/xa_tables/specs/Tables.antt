@@ -1,5 +1,5 @@
 -- The tables of one manager: the sets and finite maps of a resource manager.
-use Rattle.std.specs.Prelude.{ℕ, ℤ, pos, ◌+ℤ◌, Bool, not, ◌&&◌, Option, is_some, unwrap_or, List}
+use Rattle.std.specs.Prelude.{ℕ, ℤ, pos, neg_ℤ, ◌+ℤ◌, Bool, true, false, not, ◌&&◌, Option, None, Some, is_some, unwrap_or, List, []}
 use Rattle.std.specs.Ordering.{nat_cmp, ordering_then}
 use Rattle.std.specs.declared.cmp.Ordering.{Ordering}
 use Rattle.std.specs.Int.Signed.{le_z}
@@ -11,8 +11,14 @@ use Rattle.std.specs.Coded.{Coded, coded×, coded_ℕ, coded_ℤ, coded_list}
 use Rattle.xa_words.specs.Xid.{XidName, xid_cmp, xid_eq, xid_code}
 use Rattle.xa_words.specs.Key.{key_eq}
 use Rattle.xa_words.specs.Orders.{key_cmp}
+use Rattle.xa_words.specs.declared.code.Code.{Code}
+use Rattle.xa_words.specs.declared.code.Code.TheVariants.{Done}
 use Rattle.xa_tables.specs.declared.state.State.{State}
+use Rattle.xa_tables.specs.declared.state.State.TheVariants.{Active, Idle, Prepared, RollbackOnly}
 use Rattle.xa_tables.specs.declared.state.Association.{Association}
+use Rattle.xa_tables.specs.declared.state.AssociationState.{AssociationState}
+use Rattle.xa_tables.specs.declared.state.AssociationState.TheVariants.{Associated, Suspended}
+use Rattle.xa_tables.specs.Reasons.{reason_code}
 use Rattle.xa_tables.specs.contracts.state.State as state_type
 use Rattle.xa_tables.specs.contracts.state.Association as association_type
 use Rattle.xa_tables.specs.Maps.{any_entry, map_values}
@@ -66,9 +72,58 @@ values_code = map.code (coded_list coded_ℕ) coded_ℤ
 abbrev pub has_opened : Tables → ℕ → Bool
 has_opened T t = set.contains T.opened t
 
--- t's association
+-- t's association, None for T0
 abbrev pub association_of : Tables → ℕ → Option Association
 association_of T t = map.get T.associations t
+
+-- t has an association: it isn't T0
+abbrev pub has_association : Tables → ℕ → Bool
+has_association T t = is_some (association_of T t)
+
+-- the association may be resumed
+abbrev pub is_suspended_state : AssociationState → Bool
+is_suspended_state Associated = false
+is_suspended_state Suspended = true
+
+-- T1
+abbrev pub is_T1 : Option Association → Bool
+is_T1 None = false
+is_T1 (Some a) = not (is_suspended_state a.state)
+
+-- T2
+abbrev pub is_T2 : Option Association → Bool
+is_T2 None = false
+is_T2 (Some a) = is_suspended_state a.state
+
+-- t is associated, and not suspended
+abbrev pub is_at_work : Tables → ℕ → Bool
+is_at_work T t = is_T1 (association_of T t)
+
+-- t's association is suspended
+abbrev pub is_suspended : Tables → ℕ → Bool
+is_suspended T t = is_T2 (association_of T t)
+
+-- the association is with x
+abbrev pub is_association_with : Option Association → XidName → Bool
+is_association_with None x = false
+is_association_with (Some a) x = xid_eq a.xid x
+
+-- t is associated with x, be it suspended or not
+abbrev pub is_associated : Tables → ℕ → XidName → Bool
+is_associated T t x = is_association_with (association_of T t) x
+
+-- the null xid
+abbrev pub no_xid : XidName
+no_xid = record { format = neg_ℤ (pos 1); gtrid = []; bqual = [] }
+
+-- the association's branch
+abbrev pub branch_in : Option Association → XidName
+branch_in None = no_xid
+branch_in (Some a) = a.xid
+
+-- the branch that t is associated with, the null xid for T0
+abbrev pub branch_of : Tables → ℕ → XidName
+branch_of T t = branch_in (association_of T t)
 
 -- the state of x, None for S0
 abbrev pub state_of : Tables → XidName → Option State
@@ -77,6 +132,63 @@ state_of T x = map.get T.states x
 -- x exists: it isn't S0
 abbrev pub exists : Tables → XidName → Bool
 exists T x = is_some (state_of T x)
+
+-- S1
+abbrev pub is_S1 : Option State → Bool
+is_S1 None = false
+is_S1 (Some Active) = true
+is_S1 (Some Idle) = false
+is_S1 (Some Prepared) = false
+is_S1 (Some (RollbackOnly reason)) = false
+
+-- S2
+abbrev pub is_S2 : Option State → Bool
+is_S2 None = false
+is_S2 (Some Active) = false
+is_S2 (Some Idle) = true
+is_S2 (Some Prepared) = false
+is_S2 (Some (RollbackOnly reason)) = false
+
+-- S3
+abbrev pub is_S3 : Option State → Bool
+is_S3 None = false
+is_S3 (Some Active) = false
+is_S3 (Some Idle) = false
+is_S3 (Some Prepared) = true
+is_S3 (Some (RollbackOnly reason)) = false
+
+-- S4
+abbrev pub is_S4 : Option State → Bool
+is_S4 None = false
+is_S4 (Some Active) = false
+is_S4 (Some Idle) = false
+is_S4 (Some Prepared) = false
+is_S4 (Some (RollbackOnly reason)) = true
+
+-- the code of S4's reason, XA_OK in any other state
+abbrev pub reason_in : Option State → Code
+reason_in None = Done
+reason_in (Some Active) = Done
+reason_in (Some Idle) = Done
+reason_in (Some Prepared) = Done
+reason_in (Some (RollbackOnly reason)) = reason_code reason
+
+-- x is active, idle, prepared, or can only be rolled back
+abbrev pub is_active : Tables → XidName → Bool
+is_active T x = is_S1 (state_of T x)
+
+abbrev pub is_idle : Tables → XidName → Bool
+is_idle T x = is_S2 (state_of T x)
+
+abbrev pub is_prepared : Tables → XidName → Bool
+is_prepared T x = is_S3 (state_of T x)
+
+abbrev pub is_rollback_only : Tables → XidName → Bool
+is_rollback_only T x = is_S4 (state_of T x)
+
+-- why x can only be rolled back
+abbrev pub reason_of : Tables → XidName → Code
+reason_of T x = reason_in (state_of T x)
 
 -- "somebody is associated" counts both kinds
 abbrev pub is_somebody_associated : FinMap nat_cmp Association → XidName → Bool
@@ -111,8 +223,8 @@ abbrev pub is_broken : FinMap key_cmp ℤ → FinMap touch_cmp ℤ → XidName �
 is_broken values sums x = any_entry (λ p s. xid_eq p.0 x && not (is_within (value_of values p.1 +ℤ s))) sums
 
 -- each sum of x added to its key's value
-abbrev pub settled : FinMap key_cmp ℤ → FinMap touch_cmp ℤ → XidName → FinMap key_cmp ℤ
-settled values sums x = map_values (λ k v. v +ℤ sum_of sums x k) values
+abbrev pub posted : FinMap key_cmp ℤ → FinMap touch_cmp ℤ → XidName → FinMap key_cmp ℤ
+posted values sums x = map_values (λ k v. v +ℤ sum_of sums x k) values
 
 -- the sums of the other branches than x
 abbrev pub sums_without : FinMap touch_cmp ℤ → XidName → FinMap touch_cmp ℤ

@@ -10,7 +10,7 @@ use Rattle.xa_words.specs.Xid.{XidName, xid_cmp, xid_eq}
 use Rattle.xa_tables.specs.declared.state.State.{State}
 use Rattle.xa_tables.specs.declared.threads.Thread.{Thread}
 use Rattle.xa_tables.specs.declared.state.Association.{Association}
-use Rattle.xa_tables.specs.Tables.{states_code, set_code, associations_code}
+use Rattle.xa_tables.specs.Tables.{is_association_with, states_code, set_code, associations_code}
 
 -- the branches that exist, and for how many more there is room
 pub record BranchTable : Type 0 where
@@ -65,11 +65,6 @@ thread_table_of threads = record {
   associations = from_entries (entries_from association_in 1 threads);
   threads = length threads;
 }
-
--- the association is with x
-abbrev pub is_association_with : Option Association → XidName → Bool
-is_association_with None x = false
-is_association_with (Some l) x = xid_eq l.xid x
 
 -- the thread is associated with x
 abbrev pub is_thread_with : Thread → XidName → Bool

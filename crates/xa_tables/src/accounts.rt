@@ -5,8 +5,8 @@ ghost use Rattle.std.specs.FinMap as finmap;
 ghost use Rattle.xa_words.specs.Delta.{IsDelta};
 ghost use Rattle.xa_words.specs.Key.{key_eq};
 ghost use Rattle.xa_words.specs.Xid.{XidName};
-ghost use Rattle.xa_tables.specs.Accounts.{are_accounts, are_apart, declared_values, is_held_by, is_held_by_other, is_broken_by, IsGood, added_to, settled_by, forgotten_by};
-ghost use Rattle.xa_tables.specs.Tables.{is_within, sum_of, has_touched, has_other_touched, is_broken, settled, sums_without};
+ghost use Rattle.xa_tables.specs.Accounts.{are_accounts, are_apart, declared_values, is_held_by, is_held_by_other, is_broken_by, IsGood, added_to, posted_by, forgotten_by};
+ghost use Rattle.xa_tables.specs.Tables.{is_within, sum_of, has_touched, has_other_touched, is_broken, posted, sums_without};
 
 use crate::places::Places;
 use std::alloc::{AllocError, Global};
@@ -130,14 +130,14 @@ impl Accounts {
     }
 
     /// Adds the branch's sums to the values; the branch has touched no key any more.
-    pub(crate) fn settle(&mut self, xid: &Xid)
+    pub(crate) fn post(&mut self, xid: &Xid)
         requires { is_broken self.old.values self.old.sums xid.now ≡ false }
-        ensures values { self.new.values ≡ settled self.old.values self.old.sums xid.now }
+        ensures values { self.new.values ≡ posted self.old.values self.old.sums xid.now }
         ensures sums { self.new.sums ≡ sums_without self.old.sums xid.now }
         ensures adds { self.new.adds ≡ self.old.adds }
         ensures others { (y : XidName) → y ≢ xid.now → is_broken self.new.values self.new.sums y ≡ is_broken self.old.values self.old.sums y }
     {
-        settle_all(&mut self.accounts, xid);
+        post_all(&mut self.accounts, xid);
     }
 
     /// Leaves the values as they are; the branch has touched no key any more.
@@ -278,18 +278,18 @@ fn with_added(account: &Account, adds: u64, xid: Xid, delta: Delta) -> Account
 }
 
 // Adds to the values what the branch holds, and lets go of it.
-fn settle_all(accounts: &mut [Account], xid: &Xid)
+fn post_all(accounts: &mut [Account], xid: &Xid)
     requires { list_any (λ a. is_broken_by a xid.now) accounts.old ≡ false }
-    ensures { accounts.new ≡ map (settled_by xid.now) accounts.old }
+    ensures { accounts.new ≡ map (posted_by xid.now) accounts.old }
 {
     for i in 0..accounts.len() {
-        settle_account(&mut accounts[i], xid);
+        post_account(&mut accounts[i], xid);
     }
 }
 
-fn settle_account(account: &mut Account, xid: &Xid)
+fn post_account(account: &mut Account, xid: &Xid)
     requires { is_broken_by account.old xid.now ≡ false }
-    ensures { account.new ≡ settled_by xid.now account.old }
+    ensures { account.new ≡ posted_by xid.now account.old }
 {
     if let Some(hold) = &account.hold {
         if hold.xid == *xid {

@@ -1,14 +1,15 @@
 //! The tables of a manager, a group of rules at a time.
 ghost use Rattle.std.specs.Prelude.{◌≡◌, ◌≤◌, ◌<◌, ◌^◌, IfOk, IfSome, true, option_map, pos};
 ghost use Rattle.std.specs.FinMap as finmap;
-ghost use Rattle.xa_tables.specs.Next.{shut_down, open_rm, close_rm, start_fresh, start_join, start_resume, add, end, prepare, commit_one, commit_two, rollback, gone};
+ghost use Rattle.xa_tables.specs.declared.state.AssociationState.TheVariants.{Associated, Suspended};
+ghost use Rattle.xa_tables.specs.Next.{association, shut_down, open_rm, close_rm, start_fresh, start_join, start_resume, add, end, prepare, commit_one, commit_two, rollback, gone};
 ghost use Rattle.xa_tables.specs.Tables.{has_opened};
 ghost use Rattle.xa_tables.specs.Accounts.{are_accounts};
 ghost use Rattle.xa_tables.specs.Managers.{Keeps, opening};
 
 use crate::accounts::Accounts;
 use crate::branches::Branches;
-use crate::state::{Association, RollbackReason, State};
+use crate::state::{Association, AssociationState, RollbackReason, State};
 use crate::threads::Threads;
 use std::alloc::{AllocError, Global};
 use std::marker::Model;
@@ -35,6 +36,26 @@ impl Model for BranchTables {
     ghost view = { λ b. record { tables = tables_of b.threads b.branches b.accounts b.is_shut; threads = b.threads.threads; spare = b.branches.spare; adds = b.accounts.adds } };
 
     ghost invariant = { λ b. AreAssociationsLive b.threads.associations b.branches.states × ArePreparedSound b.branches.states b.accounts.sums b.accounts.values };
+}
+
+// T1 with the branch.
+fn associated(xid: Xid) -> Association
+    ensures { result ≡ association xid Associated }
+{
+    Association {
+        xid,
+        state: AssociationState::Associated,
+    }
+}
+
+// T2 with the branch.
+fn suspended(xid: Xid) -> Association
+    ensures { result ≡ association xid Suspended }
+{
+    Association {
+        xid,
+        state: AssociationState::Suspended,
+    }
 }
 
 impl BranchTables {
@@ -134,13 +155,7 @@ impl BranchTables {
             return Code::DupId;
         }
         self.branches.put(xid, State::Active);
-        self.threads.associate(
-            t,
-            Association {
-                xid,
-                suspended: false,
-            },
-        );
+        self.threads.associate(t, associated(xid));
         Code::Done
     }
 
@@ -161,13 +176,7 @@ impl BranchTables {
             Some(State::RollbackOnly(reason)) => reason.code(),
             Some(State::Active | State::Idle) => {
                 self.branches.put(xid, State::Active);
-                self.threads.associate(
-                    t,
-                    Association {
-                        xid,
-                        suspended: false,
-                    },
-                );
+                self.threads.associate(t, associated(xid));
                 Code::Done
             }
         }
@@ -181,14 +190,8 @@ impl BranchTables {
         ensures kept { Keeps self.old self.new }
     {
         if let Some(association) = self.threads.association(t) {
-            if association.xid == xid && association.suspended {
-                self.threads.associate(
-                    t,
-                    Association {
-                        xid,
-                        suspended: false,
-                    },
-                );
+            if association.xid == xid && association.state.is_suspended() {
+                self.threads.associate(t, associated(xid));
                 return Code::Done;
             }
         }
@@ -210,7 +213,7 @@ impl BranchTables {
         let Some(association) = self.threads.association(t) else {
             return Code::Proto;
         };
-        if association.suspended {
+        if association.state.is_suspended() {
             return Code::Proto;
         }
         if !self.accounts.is_declared(&key) {
@@ -247,7 +250,7 @@ impl BranchTables {
                 };
             }
         };
-        if how == EndHow::Suspend && association.suspended {
+        if how == EndHow::Suspend && association.state.is_suspended() {
             return Code::Proto;
         }
         if let Some(State::RollbackOnly(reason)) = self.branches.get(&xid) {
@@ -256,19 +259,13 @@ impl BranchTables {
         }
         match how {
             EndHow::Suspend => {
-                self.threads.associate(
-                    t,
-                    Association {
-                        xid,
-                        suspended: true,
-                    },
-                );
+                self.threads.associate(t, suspended(xid));
                 Code::Done
             }
             EndHow::Fail => {
                 self.threads.dissociate(t);
                 self.branches
-                    .put(xid, State::RollbackOnly(RollbackReason::Rollback));
+                    .put(xid, State::RollbackOnly(RollbackReason::Failed));
                 Code::RbRollback
             }
             EndHow::Success => {
@@ -319,7 +316,7 @@ impl BranchTables {
         if self.threads.is_somebody_associated(&xid) || state != State::Prepared {
             return Code::Proto;
         }
-        self.accounts.settle(&xid);
+        self.accounts.post(&xid);
         self.branches.remove(&xid);
         Code::Done
     }
@@ -339,7 +336,7 @@ impl BranchTables {
             self.remove(xid);
             return Code::RbIntegrity;
         }
-        self.accounts.settle(&xid);
+        self.accounts.post(&xid);
         self.branches.remove(&xid);
         Code::Done
     }

@@ -4,7 +4,9 @@ ghost use Rattle.xa_words.specs.Xid.{XidName};
 ghost use Rattle.xa_words.specs.declared.code.Code.TheVariants.{Done, RbIntegrity};
 ghost use Rattle.xa_words.specs.declared.request.Op.TheVariants.{Prepare};
 ghost use Rattle.xa_tables.specs.Tables.{Tables, is_somebody_associated};
-ghost use Rattle.xa_tables.specs.History.{History, IsOpening, PreparedIsInDoubt, ExistsWhileUnfinished, ValueIsSum, LateAreRefused, LateChangeNothing, tables_after, coded, accepted, first_shut, late, fate, fate_in, is_rolled_back, Absent, Live, InDoubt, Committed, ReadOnly, RolledBack};
+ghost use Rattle.xa_tables.specs.History.{History, IsOpening, PreparedIsInDoubt, ExistsWhileUnfinished, ActiveWhileAssociated, StaysWithin, ValueIsSum, LateAreRefused, LateChangeNothing, tables_after, coded, accepted, first_shut, late, fate, fate_in, is_rolled_back, Absent, Live, InDoubt, Committed, ReadOnly, RolledBack};
+ghost use Rattle.xa_tables.specs.Accounts.{are_accounts};
+ghost use Rattle.xa_tables.specs.Managers.{opening};
 ghost use Rattle.xa_tables.specs.Next.{next};
 ghost use Rattle.xa_tables.specs.Prepared.{NamesNowhere, LeavesWaiting, StaysAsItWas, IsPrepared, StaysPrepared, AwaitsTheOutcome, has_shut};
 ghost use Rattle.xa_tables.specs.Worked.{branch, worked, voted, transferred, undone, overdrawn, unchanged, failed, begun_again};
@@ -17,6 +19,17 @@ pub fn prepared_is_in_doubt()
 /// Whatever is requested, a branch exists exactly while its fate is that it is at work or in doubt.
 pub fn branches_exist_until_they_end()
     ensures { (h : History) (x : XidName) (T : Tables) → IsOpening T → ExistsWhileUnfinished x h T }
+{}
+
+/// Whatever is requested, a branch is active exactly while somebody is associated with it, suspended or
+/// not, and it is neither prepared nor rollback-only.
+pub fn branches_are_active_while_associated()
+    ensures { (h : History) (x : XidName) (T : Tables) → IsOpening T → ActiveWhileAssociated x h T }
+{}
+
+/// Whatever is requested, a declared key's value is from 0 to 10^12.
+pub fn values_stay_within_the_limits()
+    ensures { (accounts : List (List ℕ × ℕ)) (h : History) (k : List ℕ) → are_accounts accounts ≡ true → StaysWithin k h (opening accounts) }
 {}
 
 /// Whatever is requested, the tables' value of a key is its value at the opening and each accepted

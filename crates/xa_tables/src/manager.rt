@@ -3,11 +3,11 @@ ghost use Rattle.std.specs.Prelude.{◌≡◌, ◌↔◌, ◌≤◌, ◌<◌, �
 ghost use Rattle.std.specs.FinMap as finmap;
 ghost use Rattle.xa_tables.specs.Accounts.{are_accounts};
 ghost use Rattle.xa_tables.specs.Managers.{Keeps, opening};
-ghost use Rattle.xa_tables.specs.Next.{next, next_opened, start};
+ghost use Rattle.xa_tables.specs.Next.{next, needs_opening, by_rules, start};
 
 use crate::accounts::are_accounts;
 use crate::branch_tables::BranchTables;
-use std::alloc::Global;
+use std::alloc::{AllocError, Global};
 use std::marker::Model;
 use xa_words::{Code, Key, Op, StartHow, Xid};
 
@@ -18,6 +18,16 @@ pub enum TableFault {
     BadAccounts,
     /// There is no memory for the requests that are to be carried out.
     NoMemory,
+}
+
+impl From<AllocError> for TableFault {
+    ghost use Rattle.xa_tables.specs.declared.manager.TableFault.TheVariants.{NoMemory};
+
+    ghost from_gives = { λ _ fault. fault ≡ NoMemory };
+
+    fn from(_error: AllocError) -> TableFault {
+        TableFault::NoMemory
+    }
 }
 
 /// One resource manager: its sequential tables and its store.
@@ -62,14 +72,12 @@ impl Manager {
         if !are_accounts(accounts) {
             return Err(TableFault::BadAccounts);
         }
-        match BranchTables::new(alloc, accounts, threads as usize, room as usize) {
-            Ok(inner) => Ok(Manager {
-                inner,
-                threads,
-                left: room,
-            }),
-            Err(_) => Err(TableFault::NoMemory),
-        }
+        let inner = BranchTables::new(alloc, accounts, threads as usize, room as usize)?;
+        Ok(Manager {
+            inner,
+            threads,
+            left: room,
+        })
     }
 
     /// Carries out one request of a thread, and answers its code. It takes no memory.
@@ -121,33 +129,44 @@ fn step(tables: &mut BranchTables, t: usize, op: Op) -> Code
     if tables.is_shut() {
         return Code::RmFail;
     }
+    if needs_opening(&op) && !tables.has_opened(t) {
+        return Code::Proto;
+    }
+    step_by_rules(tables, t, op)
+}
+
+// Whether a thread that hasn't opened may not ask it.
+fn needs_opening(op: &Op) -> bool
+    ensures { result ≡ needs_opening op.now }
+{
     match op {
+        Op::Shut | Op::OpenRm | Op::CloseRm => false,
+        Op::Start(..)
+        | Op::Add(..)
+        | Op::End(..)
+        | Op::Prepare(_)
+        | Op::Commit(..)
+        | Op::Rollback(_) => true,
+    }
+}
+
+// A request that may be asked, by the rules of its group.
+fn step_by_rules(tables: &mut BranchTables, t: usize, op: Op) -> Code
+    requires first { 0 < t }
+    requires last { t ≤ tables.old.threads }
+    requires room { 0 < tables.old.spare }
+    requires few { tables.old.adds < 2 ^ 20 }
+    ensures step { (tables.new.tables, result) ≡ by_rules t op tables.old.tables }
+    ensures kept { Keeps tables.old tables.new }
+{
+    // By reference: today no proof is generated where a request is taken apart by value.
+    match &op {
         Op::Shut => {
             tables.shut();
             Code::Done
         }
         Op::OpenRm => tables.open_rm(t),
         Op::CloseRm => tables.close_rm(t),
-        _ => {
-            if !tables.has_opened(t) {
-                return Code::Proto;
-            }
-            step_opened(tables, t, op)
-        }
-    }
-}
-
-// A request of a thread that has the manager open.
-fn step_opened(tables: &mut BranchTables, t: usize, op: Op) -> Code
-    requires first { 0 < t }
-    requires last { t ≤ tables.old.threads }
-    requires room { 0 < tables.old.spare }
-    requires few { tables.old.adds < 2 ^ 20 }
-    ensures step { (tables.new.tables, result) ≡ next_opened t op tables.old.tables }
-    ensures kept { Keeps tables.old tables.new }
-{
-    // By reference: today no proof is generated where a request is taken apart by value.
-    match &op {
         Op::Start(xid, how) => start(tables, t, *xid, *how),
         Op::Add(key, delta) => tables.add(t, *key, *delta),
         Op::End(xid, how) => tables.end(t, *xid, *how),
@@ -155,7 +174,6 @@ fn step_opened(tables: &mut BranchTables, t: usize, op: Op) -> Code
         Op::Commit(xid, true) => tables.commit_one(*xid),
         Op::Commit(xid, false) => tables.commit_two(*xid),
         Op::Rollback(xid) => tables.rollback(*xid),
-        Op::OpenRm | Op::CloseRm | Op::Shut => Code::Proto,
     }
 }
 

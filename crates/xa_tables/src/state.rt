@@ -1,6 +1,7 @@
 //! What the tables hold of a branch and of a thread.
 ghost use Rattle.std.specs.Prelude.{◌≡◌};
 ghost use Rattle.xa_tables.specs.Reasons.{reason_code};
+ghost use Rattle.xa_tables.specs.Tables.{is_suspended_state};
 
 use xa_words::{Code, Xid};
 
@@ -21,7 +22,7 @@ pub enum State {
 #[derive(Clone, Copy, Debug, PartialEq, Eq)]
 pub enum RollbackReason {
     /// A thread ended its work on the branch with TMFAIL: XA_RBROLLBACK.
-    Rollback,
+    Failed,
     /// It needed a key that another branch had touched: XA_RBTRANSIENT.
     Transient,
 }
@@ -32,15 +33,36 @@ impl RollbackReason {
         ensures { result ≡ reason_code self }
     {
         match self {
-            RollbackReason::Rollback => Code::RbRollback,
+            RollbackReason::Failed => Code::RbRollback,
             RollbackReason::Transient => Code::RbTransient,
         }
     }
 }
 
-/// A thread's association with a branch (C193, table 6-2): T2 where it is suspended, else T1.
+/// How a thread is associated with a branch (C193, table 6-2).
+#[derive(Clone, Copy, Debug, PartialEq, Eq)]
+pub enum AssociationState {
+    /// T1: it works for the branch.
+    Associated,
+    /// T2: it may resume its work.
+    Suspended,
+}
+
+impl AssociationState {
+    /// Whether the thread may resume its work.
+    pub(crate) fn is_suspended(self) -> bool
+        ensures { result ≡ is_suspended_state self }
+    {
+        match self {
+            AssociationState::Associated => false,
+            AssociationState::Suspended => true,
+        }
+    }
+}
+
+/// A thread's association with a branch.
 #[derive(Clone, Copy, Debug, PartialEq, Eq)]
 pub struct Association {
     pub xid: Xid,
-    pub suspended: bool,
+    pub state: AssociationState,
 }

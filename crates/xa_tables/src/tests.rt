@@ -164,7 +164,7 @@ fn a_second_branch_on_a_key_is_refused(rt: HostRuntime) {
 }
 
 #[test]
-fn nothing_is_done_behind_a_shut(rt: HostRuntime) {
+fn nothing_is_done_after_a_shut(rt: HostRuntime) {
     let (g, h) = (branch(&rt, b"g"), branch(&rt, b"h"));
     let (a, b) = (key(&rt, b"a"), key(&rt, b"b"));
     let steps = [

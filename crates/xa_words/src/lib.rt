@@ -21,6 +21,6 @@ pub use flags::{
     TMRESUME, TMSTARTRSCAN, TMSUCCESS, TMSUSPEND, TMUSEASYNC, check_flags,
 };
 pub use key::Key;
-pub use request::{Completion, EndHow, Op, Request, StartHow};
+pub use request::{Completion, EndHow, Op, Request, RmOp, StartHow};
 pub use tran::Tran;
 pub use xid::{Xid, XidFault};

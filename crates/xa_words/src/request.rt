@@ -49,6 +49,15 @@ pub enum Op {
     Shut,
 }
 
+/// A request outside XA.
+#[derive(Clone, Copy, Debug, PartialEq, Eq)]
+pub enum RmOp {
+    /// The thread's branch adds to the key's value.
+    Add(Key, Delta),
+    /// The manager takes nothing from then on.
+    Shut,
+}
+
 /// One request to a manager.
 #[derive(Clone, Copy, Debug, PartialEq, Eq)]
 pub struct Request {

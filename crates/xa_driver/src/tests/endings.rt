@@ -153,7 +153,7 @@ fn a_branch_at_which_another_thread_works_votes_no_and_is_left(rt: HostRuntime) 
 }
 
 #[test]
-fn a_branch_whose_work_ends_behind_its_vote_is_rolled_back(rt: HostRuntime) {
+fn a_branch_whose_work_ends_after_its_vote_is_rolled_back(rt: HostRuntime) {
     let alloc = rt.alloc();
     let mut opened = Opened::new(&rt, alloc, 2);
     let branches = two_branches(&rt, &mut opened, 1);

@@ -2,7 +2,7 @@
 use super::{fault_of, is_script};
 use crate::{Action, Called, CommitAll, Reason, Step, Task, read_script};
 use std::test::Fail;
-use xa_words::{TMASYNC, Xid};
+use xa_words::{Call, TMASYNC, Xid};
 
 // A gtrid of the 64 bytes that it may have.
 const LONGEST: &[u8; 64] = b"abcdefghijklmnopqrstuvwxyz0123456789abcdefghijklmnopqrstuvwxyz01";
@@ -138,7 +138,7 @@ fn tasks_are_read_in_the_order_of_the_lines(rt: HostRuntime) -> Result<(), Fail>
         line: 4,
         thread: 1,
         manager: 9,
-        action: Action::Open,
+        action: Action::Xa(Call::OpenRm, None),
         flags: TMASYNC,
     };
     let (y, n) = (true, false);
@@ -164,7 +164,7 @@ fn a_task_has_its_thread(rt: HostRuntime) -> Result<(), Fail> {
         line: 1,
         thread: 3,
         manager: 4,
-        action: Action::Open,
+        action: Action::Xa(Call::OpenRm, None),
         flags: 0,
     });
     assert_eq!(rt; call.thread(), 3);

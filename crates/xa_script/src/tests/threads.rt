@@ -10,7 +10,7 @@ use xa_words::Request;
 use xa_worker::{Free, Pace};
 
 // What the program writes for this script in threads mode, where it ends with status 0 and tells nothing.
-pub(super) fn shown<R: Threads + Wait + AllocGlobal + Copy + Send + 'static>(
+fn shown<R: Threads + Wait + AllocGlobal + Copy + Send + 'static>(
     rt: &R,
     mut script: &[u8],
 ) -> Option<Vec<u8>> {
@@ -23,52 +23,6 @@ pub(super) fn shown<R: Threads + Wait + AllocGlobal + Copy + Send + 'static>(
     } else {
         None
     }
-}
-
-// Whether it writes this transcript.
-pub(super) fn shows<R: Threads + Wait + AllocGlobal + Copy + Send + 'static>(
-    rt: &R,
-    script: &[u8],
-    transcript: &[u8],
-) -> bool {
-    match shown(rt, script) {
-        Some(out) => out.as_slice() == transcript,
-        None => false,
-    }
-}
-
-#[test]
-fn one_thread_shows_what_it_shows_in_turns(rt: HostRuntime) {
-    let rows: [(&[u8], &[u8]); 4] = [
-        (b"", b""),
-        (
-            b"key 1 a 100\n1 open 1\n1 start 1 g.1\n1 add 1 a -30\n\
-                1 end 1 g.1 success\n1 prepare 1 g.1\n1 commit 1 g.1\n",
-            b"2 1 0\n3 1 0\n4 1 0\n5 1 0\n6 1 0\n7 1 0\nvalue 1 a 70\n",
-        ),
-        (
-            b"handles 2\n1 open 1 async\n1 prepare 1 g.1 async\n1 prepare 1 h.1 async\n\
-                1 complete 1 1\n1 prepare 1 h.1 async\n1 complete 1 2\n",
-            b"2 1 1\n3 1 2\n4 1 -2\n5 1 0 handle 1 retval 0\n6 1 1\n\
-                7 1 0 handle 2 retval -4\nend 1 handle 1 retval -4\n",
-        ),
-        (
-            b"requests 2\n1 open 1\n1 close 1\n1 open 1\n",
-            b"2 1 0\n3 1 0\n4 1 -3\n",
-        ),
-    ];
-    for (script, transcript) in rows {
-        assert!(rt; shows(&rt, script, transcript), "at {script:?}");
-    }
-}
-
-#[test]
-fn a_thread_shows_its_end_lines_before_the_next_thread(rt: HostRuntime) {
-    let script =
-        b"threads 3\nmanagers 2\n3 open 2\n2 open 1 async\n1 open 1\n2 open 2 async\n1 close 1\n";
-    let transcript = b"5 1 0\n7 1 0\n4 2 1\n6 2 2\nend 2 handle 1 retval 0\n\
-        end 2 handle 2 retval 0\n3 3 0\n";
-    assert!(rt; shows(&rt, script, transcript));
 }
 
 // What the other lines answer depends on the schedule.
@@ -156,6 +110,72 @@ fn threads_add_to_keys_of_their_own(rt: HostRuntime) -> Result<(), Fail> {
         assert!(rt; out == transcript, "{threads} threads, {managers} managers");
         assert_eq!(rt; out.iter().filter(|byte| **byte == b'\n').count(), lines);
     }
+    Ok(())
+}
+
+// The lines of a thread that opens each of 8 managers, and then in each round adds 1 to its own key of
+// each and commits all of that; with the transcript of these lines from the given one on.
+fn commits_of(
+    alloc: Global,
+    t: u32,
+    rounds: u32,
+    first: u32,
+) -> Result<(String, String), AllocError> {
+    let (mut lines, mut transcript) = (String::new(alloc), String::new(alloc));
+    let mut line = first;
+    for manager in 1..9u32 {
+        lines.push_str(&format!(in alloc; "{t} open {manager}\n")?)?;
+        transcript.push_str(&format!(in alloc; "{line} {t} 0\n")?)?;
+        line = line.saturating_add(1);
+    }
+    for round in 0..rounds {
+        let tran = format!(in alloc; "t{t}x{}", round.saturating_add(1))?;
+        for m in 1..9u32 {
+            lines.push_str(&format!(in alloc; "{t} start {m} {tran}.{m}\n{t} add {m} k{t} 1\n")?)?;
+            lines.push_str(&format!(in alloc; "{t} end {m} {tran}.{m} success\n")?)?;
+            for _ in 0..3 {
+                transcript.push_str(&format!(in alloc; "{line} {t} 0\n")?)?;
+                line = line.saturating_add(1);
+            }
+        }
+        lines.push_str(&format!(in alloc; "{t} commitall {tran} 1 2 3 4 5 6 7 8\n")?)?;
+        transcript.push_str(&format!(in alloc; "{line} {t} commit logged")?)?;
+        for _ in 0..8 {
+            transcript.push_str(" committed")?;
+        }
+        transcript.push_str("\n")?;
+        line = line.saturating_add(1);
+    }
+    Ok((lines, transcript))
+}
+
+// Eight threads that do so, and their transcript: each key has as many as there are rounds.
+fn commits(alloc: Global, rounds: u32) -> Result<(Vec<u8>, Vec<u8>), AllocError> {
+    let mut script = format!(in alloc; "threads 8\nmanagers 8\nhandles 8\n")?;
+    let (mut transcript, mut values) = (String::new(alloc), String::new(alloc));
+    for m in 1..9u32 {
+        for t in 1..9u32 {
+            script.push_str(&format!(in alloc; "key {m} k{t} 0\n")?)?;
+            values.push_str(&format!(in alloc; "value {m} k{t} {rounds}\n")?)?;
+        }
+    }
+    let mut line: u32 = 68;
+    for t in 1..9u32 {
+        let (lines, answers) = commits_of(alloc, t, rounds, line)?;
+        script.push_str(&lines)?;
+        transcript.push_str(&answers)?;
+        line = line.saturating_add(rounds.saturating_mul(25).saturating_add(8));
+    }
+    transcript.push_str(&values)?;
+    Ok((script.into_bytes(), transcript.into_bytes()))
+}
+
+#[test]
+fn eight_threads_commit_over_eight_managers(rt: HostRuntime) -> Result<(), Fail> {
+    let (script, transcript) = commits(rt.alloc(), 50)?;
+    let out = shown(&rt, &script).ok_or("a transcript")?;
+    assert!(rt; out == transcript);
+    assert_eq!(rt; out.iter().filter(|byte| **byte == b'\n').count(), 10_128);
     Ok(())
 }
 

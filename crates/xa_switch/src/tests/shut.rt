@@ -272,7 +272,7 @@ fn agrees(settled: &Settled, thread: u32) -> bool {
     next as usize == sent && collected.len() == sent
 }
 
-// Behind the first Shut each code is XAER_RMFAIL, and no other is.
+// After the first Shut each code is XAER_RMFAIL, and no other is.
 fn is_shut_once(journal: &[(Request, Code)]) -> bool {
     let mut is_shut = false;
     for (request, code) in journal {
@@ -307,10 +307,10 @@ fn requests_race_with_a_shut(rt: HostRuntime) {
             ..plan_of(&rt, alloc, 2, 1)
         };
         let settled = settled(&rt, alloc, &plan, calls).expect(&rt, "a settled opening");
-        assert!(rt; is_shut_once(settled.journal(1)), "behind {calls} calls");
+        assert!(rt; is_shut_once(settled.journal(1)), "after {calls} calls");
         assert!(rt;
             is_replayed(&rt, alloc, settled.journal(1)),
-            "behind {calls} calls"
+            "after {calls} calls"
         );
         for thread in 1..3 {
             assert!(rt; agrees(&settled, thread), "thread {thread}, {calls} calls");

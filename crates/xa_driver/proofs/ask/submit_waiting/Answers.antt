@@ -1,4 +1,4 @@
-use Rattle.std.proofs.Common.{◌≡◌, ◌⊎◌, ⊎_elim, inl, inr, None, Some, refl, sym, ap, ◌∙◌, subst, rules}
+use Rattle.std.proofs.Common.{◌≡◌, ◌⊎◌, ⊎_elim, inl, inr, None, Some, refl, ap, ◌∙◌, rules}
 use Rattle.xa_desk.specs.DeskView.{DeskView, submit_refusal}
 use Rattle.xa_desk.specs.Lanes.{after_full}
 use Rattle.xa_driver.specs.Asks.{KeepsDesk}

@@ -10,31 +10,32 @@ use Rattle.xa_driver.specs.Rounds.{first_ask, code_of, second_ask, ending_of_ask
 use Rattle.xa_driver.specs.Trace.{Logs, commits}
 use Rattle.xa_driver.proofs.Asking.{keeps_chain}
 use Rattle.xa_driver.proofs.Calls.{first_rising, first_can, second_rising, second_can, call_is, yes_asked, seam}
+use Rattle.xa_driver.proofs.Kept.{commit_keeps}
 use Rattle.xa_driver.proofs.Staying.{outstanding_chain, tickets_stay}
 use Rattle.xa_driver.proofs.commit.commit_all.Goals as goal
 
 pub ask_all-requires-clause-rising : goal.ask_all-requires-clause-rising
 ask_all-requires-clause-rising g c =
-    let e : c.as_mut_slice.result.now ≡ map first_ask c.args.branches.now = c.as_mut_slice.ensures.value ∙ c.in-Ok.ensures in
+    let e : c.as_mut_slice.result.now ≡ map first_ask c.args.branches.now = c.as_mut_slice.ensures.value ∙ c.in_ok-asks.ensures in
     subst (AreRising 0) (sym e) (first_rising 0 c.args.branches.now c.requires.rising)
 
 pub ask_all-requires-clause-can : goal.ask_all-requires-clause-can
 ask_all-requires-clause-can g c =
-    let e : c.as_mut_slice.result.now ≡ map first_ask c.args.branches.now = c.as_mut_slice.ensures.value ∙ c.in-Ok.ensures in
+    let e : c.as_mut_slice.result.now ≡ map first_ask c.args.branches.now = c.as_mut_slice.ensures.value ∙ c.in_ok-asks.ensures in
     subst (λ (l : List Ask). AllCanAsk l c.args.desk.now.ledgers) (sym e) (first_can c.args.desk.now.ledgers c.args.branches.now c.requires.room)
 
 pub ask_all-requires-2-clause-rising : goal.ask_all-requires-2-clause-rising
 ask_all-requires-2-clause-rising g c =
-    let e : c.as_mut_slice.result.now ≡ map first_ask c.args.branches.now = c.as_mut_slice.ensures.value ∙ c.in-Ok.ensures in
+    let e : c.as_mut_slice.result.now ≡ map first_ask c.args.branches.now = c.as_mut_slice.ensures.value ∙ c.in_ok-asks.ensures in
     let s : SameAsks (map first_ask c.args.branches.now) c.ask_all.new.asks = subst (λ (l : List Ask). SameAsks l c.ask_all.new.asks) e c.ask_all.ensures.same in
-    let f : c.as_mut_slice-2.result.now ≡ map (second_ask c.decide-commit.result.0) c.ask_all.new.asks = c.as_mut_slice-2.ensures.value ∙ c.second_round.ensures ∙ ap (map (second_ask c.decide-commit.result.0)) (c.deref-4.ensures.value ∙ seam c.in-Ok.asks.len c.ask_all.new.asks _ (omega arith)) in
+    let f : c.as_mut_slice-2.result.now ≡ map (second_ask c.decide-commit.result.0) c.ask_all.new.asks = c.as_mut_slice-2.ensures.value ∙ c.second_round.ensures ∙ ap (map (second_ask c.decide-commit.result.0)) (c.deref-4.ensures.value ∙ seam c.in_ok-asks.asks.len c.ask_all.new.asks _ (omega arith)) in
     subst (AreRising 0) (sym f) (second_rising c.decide-commit.result.0 0 c.args.branches.now c.ask_all.new.asks s c.requires.rising)
 
 pub ask_all-requires-2-clause-can : goal.ask_all-requires-2-clause-can
 ask_all-requires-2-clause-can g c =
-    let e : c.as_mut_slice.result.now ≡ map first_ask c.args.branches.now = c.as_mut_slice.ensures.value ∙ c.in-Ok.ensures in
+    let e : c.as_mut_slice.result.now ≡ map first_ask c.args.branches.now = c.as_mut_slice.ensures.value ∙ c.in_ok-asks.ensures in
     let s : SameAsks (map first_ask c.args.branches.now) c.ask_all.new.asks = subst (λ (l : List Ask). SameAsks l c.ask_all.new.asks) e c.ask_all.ensures.same in
-    let f : c.as_mut_slice-2.result.now ≡ map (second_ask c.decide-commit.result.0) c.ask_all.new.asks = c.as_mut_slice-2.ensures.value ∙ c.second_round.ensures ∙ ap (map (second_ask c.decide-commit.result.0)) (c.deref-4.ensures.value ∙ seam c.in-Ok.asks.len c.ask_all.new.asks _ (omega arith)) in
+    let f : c.as_mut_slice-2.result.now ≡ map (second_ask c.decide-commit.result.0) c.ask_all.new.asks = c.as_mut_slice-2.ensures.value ∙ c.second_round.ensures ∙ ap (map (second_ask c.decide-commit.result.0)) (c.deref-4.ensures.value ∙ seam c.in_ok-asks.asks.len c.ask_all.new.asks _ (omega arith)) in
     let one : Asks c.ask_all.new.asks c.args.desk.now.ledgers c.ask_all.new.desk.ledgers = c.ask_all.ensures.asked in
     subst (λ (l : List Ask). AllCanAsk l c.ask_all.new.desk.ledgers) (sym f) (second_can c.decide-commit.result.0 c.args.desk.now.ledgers c.ask_all.new.desk.ledgers c.args.branches.now c.ask_all.new.asks one.managers s one.each c.requires.room)
 
@@ -45,15 +46,15 @@ returns-clause-call g c t all =
     let js : List Ask = c.ask_all-2.new.asks in
     let commit = c.decide-commit.result.0 in
     let logged = c.decide-commit.result.1 in
-    let e : c.as_mut_slice.result.now ≡ map first_ask bs = c.as_mut_slice.ensures.value ∙ c.in-Ok.ensures in
+    let e : c.as_mut_slice.result.now ≡ map first_ask bs = c.as_mut_slice.ensures.value ∙ c.in_ok-asks.ensures in
     let s : SameAsks (map first_ask bs) ks = subst (λ (l : List Ask). SameAsks l ks) e c.ask_all.ensures.same in
-    let f : c.as_mut_slice-2.result.now ≡ map (second_ask commit) ks = c.as_mut_slice-2.ensures.value ∙ c.second_round.ensures ∙ ap (map (second_ask commit)) (c.deref-4.ensures.value ∙ seam c.in-Ok.asks.len ks _ (omega arith)) in
+    let f : c.as_mut_slice-2.result.now ≡ map (second_ask commit) ks = c.as_mut_slice-2.ensures.value ∙ c.second_round.ensures ∙ ap (map (second_ask commit)) (c.deref-4.ensures.value ∙ seam c.in_ok-asks.asks.len ks _ (omega arith)) in
     let r : SameAsks (map (second_ask commit) ks) js = subst (λ (l : List Ask). SameAsks l js) f c.ask_all-2.ensures.same in
-    let votes : c.read_votes.new.votes.items ≡ map code_of ks = c.read_votes.ensures ∙ ap (map code_of) (c.deref.ensures.value ∙ seam c.in-Ok.asks.len ks _ (omega arith)) in
+    let votes : c.read_votes.new.votes.items ≡ map code_of ks = c.read_votes.ensures ∙ ap (map code_of) (c.deref.ensures.value ∙ seam c.in_ok-asks.asks.len ks _ (omega arith)) in
     let endings : c.read_endings.new.endings.items ≡ map (ending_of_ask commit) js = c.read_endings.ensures ∙ ap (map (ending_of_ask commit)) (c.deref-5.ensures.value ∙ seam _ js _ (omega arith)) in
     let lent : c.deref-3.result.now ≡ map code_of ks = c.deref-3.ensures.value ∙ votes in
     let b : Branch = c.index-branches-0.result in
-    let yes_lent : c.deref-2.result.now ≡ ks = c.deref-2.ensures.value ∙ seam c.in-Ok.asks.len ks _ (omega arith) in
+    let yes_lent : c.deref-2.result.now ≡ ks = c.deref-2.ensures.value ∙ seam c.in_ok-asks.asks.len ks _ (omega arith) in
     let decision : commit ≡ commits (map code_of ks) logged = c.decide-commit.ensures.decision ∙ ap (λ vs. commits vs logged) lent in
     let old_log : LogState = g.L.DecisionLog.state c.args.log.now in
     let new_log : LogState = g.L.DecisionLog.state c.decide-commit.new.log in
@@ -78,3 +79,7 @@ returns-clause-tickets g c =
     tickets_stay c.args.desk.now c.ask_all-2.new.desk
     (keeps_chain c.args.desk.now c.ask_all.new.desk c.ask_all-2.new.desk c.ask_all.ensures.keeps c.ask_all-2.ensures.keeps)
     (outstanding_chain c.args.desk.now.ledgers c.ask_all.new.desk.ledgers c.ask_all-2.new.desk.ledgers c.ask_all.ensures.left c.ask_all-2.ensures.left)
+
+pub returns-clause-kept : goal.returns-clause-kept
+returns-clause-kept g c =
+    commit_keeps c.requires.tran c.args.branches.now c.args.desk.now c.ask_all-2.new.desk _ _ _ (returns-clause-call g c c.requires.tran c.requires.one) (returns-clause-keeps g c)

@@ -67,7 +67,7 @@ pub(super) fn code_of(journal: &[(Request, Code)], thread: u32, number: u32) -> 
 }
 
 // Whether a Shut stands before the thread's request of this number.
-pub(super) fn is_behind_shut(journal: &[(Request, Code)], thread: u32, number: u32) -> bool {
+pub(super) fn is_after_shut(journal: &[(Request, Code)], thread: u32, number: u32) -> bool {
     let Some(place) = place_of(journal, thread, number) else {
         return false;
     };

@@ -1,6 +1,6 @@
 //! Whether what a commit told agrees with the settled journals: the votes, the decision, and the four
 //! statements of atomic commitment. It is read off the journals and what was told, and nothing else.
-use super::journals::{Fate, code_of, fate_of, is_behind_shut};
+use super::journals::{Fate, code_of, fate_of, is_after_shut};
 use super::working::Committed;
 use crate::{Done, Ending, Yes};
 use xa_switch::Settled;
@@ -74,7 +74,7 @@ struct Outcome<'a> {
 fn outcome_of<'a>(settled: &'a Settled, commit: &Committed, place: usize) -> Option<Outcome<'a>> {
     let branch = commit.branches.get(place)?;
     let first = *commit.before.get(place)?;
-    let behind = *commit.behind.get(place)?;
+    let after = *commit.after.get(place)?;
     let sent = settled.sent(commit.thread, branch.m);
     Some(Outcome {
         thread: commit.thread,
@@ -83,7 +83,7 @@ fn outcome_of<'a>(settled: &'a Settled, commit: &Committed, place: usize) -> Opt
         ending: *commit.done.endings.get(place)?,
         journal: settled.journal(branch.m),
         first,
-        asked: sent.get(first as usize..behind as usize)?,
+        asked: sent.get(first as usize..after as usize)?,
     })
 }
 
@@ -103,7 +103,7 @@ fn keeps_its_vote(outcome: &Outcome) -> bool {
     outcome.vote != Code::Done
         || match outcome.ending {
             Ending::Left(_) => false,
-            Ending::InDoubt => is_behind_shut(outcome.journal, outcome.thread, second),
+            Ending::InDoubt => is_after_shut(outcome.journal, outcome.thread, second),
             _ => true,
         }
 }

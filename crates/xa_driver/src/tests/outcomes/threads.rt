@@ -257,8 +257,8 @@ fn shows_thread<R: Abort>(rt: &R, settled: &Settled, told: &Told) {
     let left = count(told, 2, Ending::Left(Code::RmFail));
     assert!(rt; in_doubt == 1 || !told.saw_shut);
     if told.thread == 4 {
-        let behind = (COMMITS - COMMITS_BEFORE_SHUT) as usize;
-        assert_eq!(rt; (in_doubt, left), (0, behind));
+        let after = (COMMITS - COMMITS_BEFORE_SHUT) as usize;
+        assert_eq!(rt; (in_doubt, left), (0, after));
     }
 }
 

@@ -34,7 +34,7 @@ pub(super) struct Committed {
     pub(super) works: [Work; 3],
     pub(super) branches: [Branch; 3],
     pub(super) before: [u32; 3],
-    pub(super) behind: [u32; 3],
+    pub(super) after: [u32; 3],
     pub(super) done: Done,
     pub(super) record: Option<Yes>,
 }
@@ -175,7 +175,7 @@ pub(super) fn commit<R: Wait + Abort, L: DecisionLog, I: Idle>(
         works,
         branches,
         before,
-        behind: sent(desk),
+        after: sent(desk),
         done,
         record,
     }

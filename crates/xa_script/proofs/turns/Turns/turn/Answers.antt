@@ -9,14 +9,14 @@ returns-clause-turn g c =
     let ws = c.args.self.now.workers.items in
     let i = c.args.manager - 1 in
     let before = c.index_mut.result.now in
-    let behind = c.step.new.self in
+    let after = c.step.new.self in
     let inside : i < length ws = omega arith in
     record {
       before = before;
-      behind = behind;
+      after = after;
       at = slice_get-get_or ws i before inside ∙ ap (λ (w : Working). Some w) (sym c.index_mut.ensures.value);
       stepped = c.step.ensures.step;
-      goes = step_goes before c.step.result behind c.step.ensures.step c.step.ensures.same c.step.ensures.tied;
+      goes = step_goes before c.step.result after c.step.ensures.step c.step.ensures.same c.step.ensures.seat c.step.ensures.tied;
       rest = refl;
     }
 
@@ -25,6 +25,6 @@ returns-clause-on g c =
     let ws = c.args.self.now.workers.items in
     let i = c.args.manager - 1 in
     let before = c.index_mut.result.now in
-    let behind = c.step.new.self in
+    let after = c.step.new.self in
     let inside : i < length ws = omega arith in
-    one_goes_on ws i before behind (slice_get-get_or ws i before inside ∙ ap (λ (w : Working). Some w) (sym c.index_mut.ensures.value)) (step_goes before c.step.result behind c.step.ensures.step c.step.ensures.same c.step.ensures.tied)
+    one_goes_on ws i before after (slice_get-get_or ws i before inside ∙ ap (λ (w : Working). Some w) (sym c.index_mut.ensures.value)) (step_goes before c.step.result after c.step.ensures.step c.step.ensures.same c.step.ensures.seat c.step.ensures.tied)

@@ -14,13 +14,13 @@ loop-place-preserved g c =
     let ws = c.loop-place.self.workers.items in
     let i = c.loop-place.place in
     let before = c.index_mut.result.now in
-    let behind = c.step.new.self in
+    let after = c.step.new.self in
     let many = c.loop-place.invariant.turned.as_many in
     let inside : i < length ws = omega (arith, many) in
     let at : slice_get ws i ≡ Some before = slice_get-get_or ws i before inside ∙ ap (λ (w : Working). Some w) (sym c.index_mut.ensures.value) in
     record {
-      turned = one_more_turned i old ws before behind c.loop-place.invariant.turned at (c.step.result, c.step.ensures.step);
-      on = all_go_on old ws (slice_set ws i behind) c.loop-place.invariant.on (one_goes_on ws i before behind at (step_goes before c.step.result behind c.step.ensures.step c.step.ensures.same c.step.ensures.tied));
+      turned = one_more_turned i old ws before after c.loop-place.invariant.turned at (c.step.result, c.step.ensures.step);
+      on = all_go_on old ws (slice_set ws i after) c.loop-place.invariant.on (one_goes_on ws i before after at (step_goes before c.step.result after c.step.ensures.step c.step.ensures.same c.step.ensures.seat c.step.ensures.tied));
     }
 
 pub returns-clause-turns : goal.returns-clause-turns

@@ -1,4 +1,5 @@
-use Rattle.std.proofs.Common.{refl}
+use Rattle.std.proofs.Common.{refl, ap, ◌∙◌}
+use Rattle.std.specs.FinMap as map
 use Rattle.xa_tables.proofs.SoundLemmas.{live_put, live_associated, live_dissociated, associated_live, sound_put}
 use Rattle.xa_tables.proofs.branch_tables.BranchTables.end.Goals as goal
 
@@ -7,7 +8,7 @@ invariant_of-self c = (live_dissociated _ _ _ _ c.dissociate.ensures.association
 
 pub invariant_of-self-in-Suspend : goal.invariant_of-self-in-Suspend
 invariant_of-self-in-Suspend c =
-    (live_associated _ _ _ _ _ c.associate.ensures.associations (associated_live _ _ _ _ _ c.self.invariant.0 c.in-Some.ensures c.if-eq.ensures) c.self.invariant.0, c.self.invariant.1)
+    (live_associated _ _ _ _ _ (c.associate.ensures.associations ∙ ap (map.insert _ _) c.suspended.ensures) (associated_live _ _ _ _ _ c.self.invariant.0 c.in-Some.ensures c.if-eq.ensures) c.self.invariant.0, c.self.invariant.1)
 
 pub invariant_of-self-in-Fail : goal.invariant_of-self-in-Fail
 invariant_of-self-in-Fail c =

@@ -4,8 +4,8 @@ use Rattle.std.specs.List.{list_any}
 use Rattle.xa_words.specs.Xid.{XidName, xid_eq}
 use Rattle.xa_tables.specs.declared.state.Association.{Association}
 use Rattle.xa_tables.specs.declared.threads.Thread.{Thread}
-use Rattle.xa_tables.specs.Tables.{is_somebody_associated}
-use Rattle.xa_tables.specs.Views.{association_in, is_thread_with, is_association_with}
+use Rattle.xa_tables.specs.Tables.{is_association_with, is_somebody_associated}
+use Rattle.xa_tables.specs.Views.{association_in, is_thread_with}
 use Rattle.xa_tables.proofs.ThreadLemmas.{any_thread}
 use Rattle.xa_tables.proofs.threads.Threads.is_somebody_associated.Goals as goal
 

@@ -1,0 +1,182 @@
+-- Lemmas of lists: what is in their places, lists side by side, and numbers that follow each other.
+use Rattle.std.proofs.Common.{append_assoc, append-nil, ◌≡◌, ◌≢◌, ℕ, ◌+◌, ◌<◌, ◌≤◌, ◌⊎◌, ⊎_elim, zero, suc, Bool, true, false, cond, ◌==◌, ◌||◌, List, [], ◌∷◌, ◌++◌, length, map, Some, None, sym, refl, ap, ◌∙◌, subst, inl, inr, arith, length-append, take}
+use Rattle.std.specs.Prelude.{slice_get, slice_set, All}
+use Rattle.std.specs.List.{Contains, slice_index_or, range_with_len, list_any, find}
+use Rattle.std.proofs.lemmas.Bool.{cases_eq, eq-eqb, eqb-true, false_from_ne_true}
+use Rattle.std.proofs.lemmas.List.{length-map, length-set, get_or-set_other, get_or-set_same}
+use Rattle.std.proofs.lemmas.Option.{slice_get_within, slice_get-get_or, slice_get_cases, get_or_from_slice_get}
+use Rattle.std.proofs.Math.Seq.{take-suc}
+use Rattle.xa_base.specs.Lists.{Begins, Pairwise}
+
+pub some_same : {A : Type 0} (x y : A) → Some x ≡ Some y → x ≡ y
+some_same x y e = cc
+
+-- what is in a place
+pub got : {A : Type 0} (xs : List A) (k : ℕ) → k < length xs → (x : A) × (slice_get xs k ≡ Some x)
+got {A} xs k below =
+    ⊎_elim (λ (h : (x : A) × (k < length xs) × (slice_get xs k ≡ Some x) × (slice_index_or xs k x ≡ x)). (h.0, h.2))
+    (λ (h : (length xs ≤ k) × (slice_get xs k ≡ None)). absurd (let past = h.0 in omega (arith, past, below)))
+    (slice_get_cases xs k).1
+
+-- an element that was written is there, and the others stay
+pub got_set : {A : Type 0} (xs : List A) (i : ℕ) (y : A) (k : ℕ) (z : A) → i < length xs → slice_get (slice_set xs i y) k ≡ Some z → ((k ≡ i) × (z ≡ y)) ⊎ (slice_get xs k ≡ Some z)
+got_set {A} xs i y k z inside at =
+    let within : k < length (slice_set xs i y) = slice_get_within (slice_set xs i y) k z at in
+    let size = length-set xs i y in
+    let is : slice_index_or (slice_set xs i y) k z ≡ z = some_same _ z (sym (slice_get-get_or (slice_set xs i y) k z within) ∙ at) in
+    elim (cases_eq k i) [
+      | inl same ↦ inl (same, sym is ∙ ap (λ n. slice_index_or (slice_set xs i y) n z) same ∙ get_or-set_same xs i y z inside)
+      | inr differs ↦
+          let stays : slice_index_or (slice_set xs i y) k z ≡ slice_index_or xs k z = get_or-set_other xs i k y z differs in
+          inr (slice_get-get_or xs k z (omega (arith, within, size)) ∙ ap (λ (x : A). Some x) (sym stays ∙ is))
+    ]
+
+-- an element that was written is there
+pub set_there : {A : Type 0} (xs : List A) (i : ℕ) (y : A) → i < length xs → slice_get (slice_set xs i y) i ≡ Some y
+set_there xs i y inside = slice_get-get_or (slice_set xs i y) i y (omega (arith, inside, length-set xs i y)) ∙ ap Some (get_or-set_same xs i y y inside)
+
+-- the last of a list, or one before it
+pub got_push : {A : Type 0} (xs : List A) (x : A) (k : ℕ) (y : A) → slice_get (xs ++ x ∷ []) k ≡ Some y → (slice_get xs k ≡ Some y) ⊎ ((k ≡ length xs) × (y ≡ x))
+got_push [] x zero y e = inr (refl, some_same y x (sym e))
+got_push [] x (suc k) y e = absurd (cc)
+got_push (z ∷ xs) x zero y e = inl e
+got_push {A} (z ∷ xs) x (suc k) y e =
+    ⊎_elim (λ (h : slice_get xs k ≡ Some y). inl h) (λ (h : (k ≡ length xs) × (y ≡ x)). inr (omega (arith, h.0), h.1)) (got_push xs x k y e)
+
+module _ {A B : Type 0} (P : A → B → Type 0) where
+  pub none_side : (xs : List A) (ys : List B) → xs ≡ [] → ys ≡ [] → Pairwise P xs ys
+  none_side xs ys e f = record {
+    as_many = ap (λ l. length l) f ∙ sym (ap (λ l. length l) e);
+    each = λ k x y at at'. absurd (let within = slice_get_within xs k x at in let none = ap (λ l. length l) e in omega (arith, within, none));
+  }
+
+  pub push_side : (xs : List A) (ys : List B) (x : A) (y : B) → Pairwise P xs ys → P x y → Pairwise P (xs ++ x ∷ []) (ys ++ y ∷ [])
+  push_side xs ys x y all here = record {
+    as_many = let many = all.as_many in omega (arith, many, length-append xs (x ∷ []), length-append ys (y ∷ []));
+    each = λ k v w at_v at_w.
+        ⊎_elim
+        (λ (h : slice_get xs k ≡ Some v).
+        ⊎_elim (λ (i : slice_get ys k ≡ Some w). all.each k v w h i)
+        (λ (i : (k ≡ length ys) × (w ≡ y)). absurd (let within = slice_get_within xs k v h in let many = all.as_many in let last = i.0 in omega (arith, within, many, last)))
+        (got_push ys y k w at_w))
+        (λ (h : (k ≡ length xs) × (v ≡ x)).
+        ⊎_elim (λ (i : slice_get ys k ≡ Some w). absurd (let within = slice_get_within ys k w i in let many = all.as_many in let last = h.0 in omega (arith, within, many, last)))
+        (λ (i : (k ≡ length ys) × (w ≡ y)). subst (λ b. P v b) (sym i.1) (subst (λ a. P a y) (sym h.1) here))
+        (got_push ys y k w at_w))
+        (got_push xs x k v at_v);
+  }
+
+pub one_more : {A : Type 0} (xs : List A) (i : ℕ) (x : A) → i < length xs → x ≡ slice_index_or xs i x → take (i + 1) xs ≡ take i xs ++ x ∷ []
+one_more xs i x below is = let next_one : i + 1 ≡ suc i = omega arith in ap (λ n. take n xs) next_one ∙ take-suc xs i x below ∙ ap (λ y. take i xs ++ y ∷ []) (sym is)
+
+-- one more number
+pub range_suc : (a n : ℕ) → range_with_len a (suc n) ≡ range_with_len a n ++ (a + n) ∷ []
+range_suc a zero = let same : a ≡ a + 0 = omega arith in ap (λ x. x ∷ []) same
+range_suc a (suc n) = let same : a + 1 + n ≡ a + suc n = omega arith in ap (λ l. a ∷ l) (range_suc (a + 1) n ∙ ap (λ x. range_with_len (a + 1) n ++ x ∷ []) same)
+
+pub range_more : (n : ℕ) → range_with_len 1 (n + 1) ≡ range_with_len 1 n ++ (n + 1) ∷ []
+range_more n =
+    let next_one : n + 1 ≡ suc n = omega arith in
+    let last : 1 + n ≡ n + 1 = omega arith in
+    ap (range_with_len 1) next_one ∙ range_suc 1 n ∙ ap (λ x. range_with_len 1 n ++ x ∷ []) last
+
+-- the element after the first ones
+pub next_there : {A : Type 0} (xs ys rest : List A) (x : A) → ys ++ x ∷ rest ≡ xs → slice_get xs (length ys) ≡ Some x
+next_there {A} xs ys rest x e = ap (λ (l : List A). slice_get l (length ys)) (sym e) ∙ behind ys
+  where
+    behind : (ys : List A) → slice_get (ys ++ x ∷ rest) (length ys) ≡ Some x
+    behind [] = refl
+    behind (y ∷ ys) = behind ys
+
+-- what goes from the first list to the second, and on to the third
+pub through : {A B C : Type 0} (P : A → B → Type 0) (Q : B → C → Type 0) (R : A → C → Type 0) → ((a : A) (b : B) (c : C) → P a b → Q b c → R a c) → (xs : List A) (ys : List B) (zs : List C) → Pairwise P xs ys → Pairwise Q ys zs → Pairwise R xs zs
+through P Q R goes xs ys zs p q = record {
+  as_many = q.as_many ∙ p.as_many;
+  each = λ k x z at_x at_z.
+      let within = slice_get_within xs k x at_x in
+      let many = p.as_many in
+      let y = got ys k (omega (arith, within, many)) in
+      goes x y.0 z (p.each k x y.0 at_x y.1) (q.each k y.0 z y.1 at_z);
+}
+
+pub none_of : {A : Type 0} (xs : List A) → length xs ≡ 0 → xs ≡ []
+none_of [] e = refl
+none_of (x ∷ xs) e = absurd (omega (arith, e))
+
+-- ---- elements and what they are numbered
+
+pub all_from : {A : Type 0} (P : A → Type 0) (xs : List A) → ((k : ℕ) (x : A) → slice_get xs k ≡ Some x → P x) → All P xs
+all_from P xs is k d below = is k (slice_index_or xs k d) (slice_get-get_or xs k d below)
+
+pub any_at : {A : Type 0} (p : A → Bool) (xs : List A) (k : ℕ) (x : A) → slice_get xs k ≡ Some x → p x ≡ true → list_any p xs ≡ true
+any_at p [] k x at e = absurd (cc)
+any_at {A} p (y ∷ xs) zero x at e = let same : y ≡ x = some_same y x at in ap (λ (z : A). p z || list_any p xs) same ∙ ap (λ b. b || list_any p xs) e
+any_at p (y ∷ xs) (suc k) x at e = or_there (p y) (any_at p xs k x at e)
+  where
+    or_there : (b : Bool) → list_any p xs ≡ true → (b || list_any p xs) ≡ true
+    or_there true f = refl
+    or_there false f = f
+
+pub tail_side : {A B : Type 0} (P : A → B → Type 0) (x : A) (xs : List A) (y : B) (ys : List B) → Pairwise P (x ∷ xs) (y ∷ ys) → Pairwise P xs ys
+tail_side P x xs y ys all = record { as_many = let many = all.as_many in omega (arith, many); each = λ k. all.each (suc k) }
+
+pub map_alike : {A B C : Type 0} (P : A → B → Type 0) (f : A → C) (g : B → C) → ((x : A) (y : B) → P x y → g y ≡ f x) → (xs : List A) (ys : List B) → Pairwise P xs ys → map g ys ≡ map f xs
+map_alike P f g alike [] [] all = refl
+map_alike P f g alike [] (y ∷ ys) all = absurd (let many = all.as_many in omega (arith, many))
+map_alike P f g alike (x ∷ xs) [] all = absurd (let many = all.as_many in omega (arith, many))
+map_alike P f g alike (x ∷ xs) (y ∷ ys) all = λ i. alike x y (all.each 0 x y refl refl) i ∷ map_alike P f g alike xs ys (tail_side P x xs y ys all) i
+
+-- the element with its number, where they are numbered by rising place
+pub find_numbered : {A : Type 0} (n : A → ℕ) (base : ℕ) (xs : List A) → ((k : ℕ) (x : A) → slice_get xs k ≡ Some x → n x ≡ base + k + 1) → (k : ℕ) (x : A) → slice_get xs k ≡ Some x → find (λ y. n y == base + k + 1) xs ≡ Some x
+find_numbered n base [] numbers k x at = absurd (cc)
+find_numbered {A} n base (y ∷ xs) numbers zero x at = ap (λ b. cond b (Some y) (find (λ z. n z == base + 0 + 1) xs)) (eq-eqb (n y) (base + 0 + 1) (numbers 0 y refl)) ∙ at
+find_numbered n base (y ∷ xs) numbers (suc k) x at =
+    let first : n y ≡ base + 0 + 1 = numbers 0 y refl in
+    let other : (n y == base + suc k + 1) ≡ false = false_from_ne_true (n y == base + suc k + 1) (λ e. let same = eqb-true (n y) (base + suc k + 1) e in omega (arith, first, same)) in
+    let there : suc base + k + 1 ≡ base + suc k + 1 = omega arith in
+    ap (λ b. cond b (Some y) (find (λ z. n z == base + suc k + 1) xs)) other
+    ∙ ap (λ j. find (λ z. n z == j) xs) (sym there)
+    ∙ find_numbered n (suc base) xs (λ j z at_z. let e = numbers (suc j) z at_z in omega (arith, e)) k x at
+
+pub find_none : {A : Type 0} (n : A → ℕ) (t : ℕ) (xs : List A) → ((k : ℕ) (x : A) → slice_get xs k ≡ Some x → n x ≢ t) → find (λ y. n y == t) xs ≡ None
+find_none n t [] differs = refl
+find_none n t (y ∷ xs) differs = ap (λ b. cond b (Some y) (find (λ z. n z == t) xs)) (false_from_ne_true (n y == t) (λ e. differs 0 y refl (eqb-true (n y) t e))) ∙ find_none n t xs (λ k. differs (suc k))
+
+pub was_mapped : {A B : Type 0} (f : A → B) (xs : List A) (k : ℕ) (y : B) → slice_get (map f xs) k ≡ Some y → (x : A) × (slice_get xs k ≡ Some x) × (f x ≡ y)
+was_mapped f [] k y e = absurd (cc)
+was_mapped f (x ∷ xs) zero y e = (x, refl, some_same (f x) y e)
+was_mapped f (x ∷ xs) (suc k) y e = was_mapped f xs k y e
+
+pub contains_at : {A : Type 0} (xs : List A) (k : ℕ) (x : A) → slice_get xs k ≡ Some x → Contains xs x
+contains_at xs k x at = (k, slice_get_within xs k x at, get_or_from_slice_get xs k x x at)
+
+-- what holds of all holds of the one in the middle, and of the first ones
+pub all_mid : {A : Type 0} (P : A → Type 0) (xs ys : List A) (x : A) → All P (xs ++ x ∷ ys) → P x
+all_mid P [] ys x h = h 0 x (omega arith)
+all_mid P (y ∷ xs) ys x h = all_mid P xs ys x (λ k d below. h (suc k) d (omega arith))
+
+pub all_at : {A : Type 0} (P : A → Type 0) (xs : List A) (k : ℕ) (x : A) → All P xs → slice_get xs k ≡ Some x → P x
+all_at P xs k x all at =
+    let within = slice_get_within xs k x at in
+    subst P (some_same _ x (sym (slice_get-get_or xs k x within) ∙ at)) (all k x within)
+
+-- what holds of what is made of the elements of the first list, or of the second
+pub side_of : {A B X : Type 0} (P : X → B → Type 0) (f : A → X) (xs : List A) (ys : List B) → Pairwise (λ x y. P (f x) y) xs ys → Pairwise P (map f xs) ys
+side_of P f xs ys all = record {
+  as_many = all.as_many ∙ sym (length-map xs f);
+  each = λ k z y at at'. let x = was_mapped f xs k z at in subst (λ v. P v y) x.2 (all.each k x.0 y x.1 at');
+}
+
+pub side_to : {A B Y : Type 0} (P : A → Y → Type 0) (g : B → Y) (xs : List A) (ys : List B) → Pairwise (λ x y. P x (g y)) xs ys → Pairwise P xs (map g ys)
+side_to P g xs ys all = record {
+  as_many = length-map ys g ∙ all.as_many;
+  each = λ k x z at at'. let y = was_mapped g ys k z at' in subst (λ v. P x v) y.2 (all.each k x y.0 at y.1);
+}
+
+-- ---- lists that have grown
+
+pub begins_same : {X : Type 0} (xs ys : List X) → ys ≡ xs → Begins xs ys
+begins_same xs ys e = ([], e ∙ sym (append-nil xs))
+
+pub begins_on : {X : Type 0} (xs ys zs : List X) → Begins xs ys → Begins ys zs → Begins xs zs
+begins_on xs ys zs p q = (p.0 ++ q.0, q.1 ∙ ap (λ l. l ++ q.0) p.1 ∙ append_assoc xs p.0 q.0)

@@ -1,0 +1,4 @@
+pub mod Bringing
+pub mod Keeping
+pub mod Settled
+pub mod Members

@@ -1,0 +1,61 @@
+use Rattle.std.proofs.Common.{◌≡◌, ◌+◌, ◌≤◌, ◌<◌, None, sym, refl, subst, arith, inl, inr, ◌∙◌}
+use Rattle.std.specs.FinMap as finmap
+use Rattle.std.specs.List.{range_with_len}
+use Rattle.std.proofs.lemmas.Bool.{cases_eq, cases_lt}
+use Rattle.xa_base.specs.Lists.{Chain}
+use Rattle.xa_base.specs.Lists.Chain.{none, more}
+use Rattle.xa_crew.specs.Ending.{Telling, EndsNumber}
+use Rattle.xa_base.proofs.Lists.{range_more}
+use Rattle.xa_crew.proofs.Keeping.{number_freed, number_leaves}
+use Rattle.xa_crew.proofs.ending.end_numbers.Goals as goal
+
+pub loop-before-init : goal.loop-before-init
+loop-before-init g c = record {
+  ends = none (range_with_len 1 0) (c.args.desk.now, c.args.told.now.items) refl refl;
+  none = λ k which. elim which [
+    | inl first ↦ subst (λ j. finmap.get c.args.desk.now.kept j ≡ None) (omega (arith, first)) c.handles-before-end.ensures.zero
+    | inr past ↦ c.handles-before-end.ensures.past k (subst (λ n. n < k) (sym c.handles-before-end.ensures.handles) past)
+  ];
+  goes_on = c.desks_go_on.ensures.same _;
+  idled = g.met.I.Idle.leads_start _;
+  few = omega arith;
+  room = refl;
+}
+
+pub end_number-requires : goal.end_number-requires
+end_number-requires g c = let few = c.loop-before.invariant.few in let room = c.loop-before.invariant.room in omega (arith, few, room)
+
+pub loop-before-preserved : goal.loop-before-preserved
+loop-before-preserved g c =
+    let i = c.loop-before.invariant in
+    let n = c.loop-before.before in
+    let old : Telling = (c.loop-before.desk, c.loop-before.told.items) in
+    let new : Telling = (c.end_number.new.desk, c.end_number.new.told.items) in
+    let one = c.end_number.ensures in
+    record {
+      ends = subst (λ ks. Chain EndsNumber (c.args.desk.now, c.args.told.now.items) ks new) (sym (range_more n)) (more (range_with_len 1 n) (n + 1) old new i.ends one.ends);
+      none = λ k which. elim (cases_eq k (n + 1)) [
+        | inl same ↦ subst (λ j. finmap.get c.end_number.new.desk.kept j ≡ None) (sym same) (number_freed (n + 1) old new one.ends)
+        | inr differs ↦ number_leaves (n + 1) old new one.ends k (i.none k (elim which [
+          | inl first ↦ inl (omega (arith, first, differs))
+          | inr past ↦ inr past
+        ]))
+      ];
+      goes_on = c.desks_go_on.ensures.further _ _ _ i.goes_on one.goes_on;
+      idled = g.met.I.Idle.leads_chain _ _ _ i.idled one.idled;
+      few = let few = i.few in let more_few = one.few in omega (arith, few, more_few);
+      room = one.room ∙ i.room;
+    }
+
+pub returns-clause-ends : goal.returns-clause-ends
+returns-clause-ends g c =
+    let all : c.loop-before.before ≡ c.args.desk.now.handles = let same = c.handles-before-end.ensures.handles in omega (arith, same) in
+    subst (λ n. Chain EndsNumber (c.args.desk.now, c.args.told.now.items) (range_with_len 1 n) (c.loop-before.desk, c.loop-before.told.items)) all c.loop-before.invariant.ends
+
+pub returns-clause-none : goal.returns-clause-none
+returns-clause-none g c k =
+    let all : c.loop-before.before ≡ c.args.desk.now.handles = let same = c.handles-before-end.ensures.handles in omega (arith, same) in
+    elim (cases_lt c.args.desk.now.handles k) [
+      | inl past ↦ c.loop-before.invariant.none k (inr past)
+      | inr first ↦ c.loop-before.invariant.none k (inl (subst (λ n. k ≤ n) (sym all) first))
+    ]

@@ -1,0 +1,19 @@
+use Rattle.std.proofs.Common.{◌≡◌, ◌⊎◌, ℕ, ◌+◌, ◌<◌, ◌≤◌, length, None}
+use Rattle.std.specs.Prelude.{vec_capacity}
+use Rattle.std.specs.List.{range_with_len}
+use Rattle.std.specs.FinMap as finmap
+use Rattle.xa_desk.specs.GoesOn.{GoesOn}
+use Rattle.xa_base.specs.Lists.{Chain}
+use Rattle.xa_crew.specs.Ending.{EndsNumber}
+use Rattle.xa_crew.proofs.ending.end_numbers.Given as goal
+
+-- the first numbers are done, and nothing is kept under them, under 0 and past the handles
+abbrev pub invariant-loop-before : goal.invariant-loop-before
+invariant-loop-before g l = record {
+  ends : Chain EndsNumber (l.fn.desk, l.fn.told.items) (range_with_len 1 l.before) (l.desk, l.told.items);
+  none : (k : ℕ) → (k ≤ l.before) ⊎ (l.fn.desk.handles < k) → finmap.get l.desk.kept k ≡ None;
+  goes_on : GoesOn l.fn.desk l.desk;
+  idled : g.I.Idle.leads l.fn.idle l.idle;
+  few : length l.told.items ≤ length l.fn.told.items + l.before;
+  room : vec_capacity l.told ≡ vec_capacity l.fn.told;
+}

@@ -1,0 +1,35 @@
+-- The end of a desk: what is outstanding is collected and told, and then the desk ends.
+use Rattle.std.specs.Prelude.{◌≡◌, ℕ, None, List, [], ◌∷◌, ◌++◌}
+use Rattle.std.specs.List.{range_with_len}
+use Rattle.std.specs.FinMap as map
+use Rattle.xa_words.specs.declared.code.Code.{Code}
+use Rattle.xa_desk.specs.DeskView.{DeskView}
+use Rattle.xa_desk.specs.Ended.{EndedView, Ends}
+use Rattle.xa_desk.specs.GoesOn.{GoesOn}
+use Rattle.xa_switch.specs.Completing.{CollectsRedeemed}
+use Rattle.xa_base.specs.Lists.{Chain}
+
+-- What was told of a desk: the numbers of handles with their codes.
+abbrev pub Told : Type 0
+Told = List (ℕ × Code)
+
+-- A desk, and what was told of it.
+abbrev pub Telling : Type 0
+Telling = DeskView × Told
+
+-- What the desk keeps under the number is collected and told; where it keeps nothing there, nothing is done.
+pub data EndsNumber (number : ℕ) (old new : Telling) : Type 0 where
+  kept : (c : Code) → CollectsRedeemed old.0 new.0 number c → new.1 ≡ old.1 ++ (number, c) ∷ []
+      → EndsNumber number old new
+  free : map.get old.0.kept number ≡ None → new ≡ old → EndsNumber number old new
+
+-- The same for the number of each handle, in rising order.
+abbrev pub EndsNumbers : Telling → Telling → Type 0
+EndsNumbers first last = Chain EndsNumber first (range_with_len 1 first.0.handles) last
+
+-- The same, and then the desk ends. By all of that it went on.
+pub record EndsDesk (old : DeskView) (told : Told) (ended : EndedView) (told' : Told) : Type 0 where
+  pub emptied : DeskView
+  pub collects : EndsNumbers (old, told) (emptied, told')
+  pub goes_on : GoesOn old emptied
+  pub ends : Ends emptied ended

@@ -1,0 +1,4 @@
+pub mod Ending
+pub mod Pieces
+pub mod Hands
+pub mod Run

@@ -1,0 +1,81 @@
+-- A run of clients in threads: what each client and its desk come to, and what is settled.
+use Rattle.std.specs.Prelude.{◌≡◌, ◌≤◌, List, [], map, vec_capacity}
+use Rattle.std.specs.List.{All}
+use Rattle.xa_desk.specs.DeskView.{DeskView}
+use Rattle.xa_desk.specs.Ended.{EndedView}
+use Rattle.xa_desk.specs.GoesOn.{GoesOn}
+use Rattle.xa_worker.specs.Workers.{Working}
+use Rattle.xa_worker.specs.Done.{Served}
+use Rattle.xa_switch.specs.declared.plan.Plan.{Plan}
+use Rattle.xa_switch.specs.declared.plan.OpenFault.{OpenFault}
+use Rattle.xa_switch.specs.declared.plan.OpenFault.TheVariants as open_
+use Rattle.xa_switch.specs.Plans.{IsSound}
+use Rattle.xa_switch.specs.Openings.{AreOfOneOpening}
+use Rattle.xa_switch.specs.Settling.{Settling, IsSettled}
+use Rattle.xa_switch.specs.Closing.{settling}
+use Rattle.xa_switch.specs.OfPlans.{IsOfPlan}
+use Rattle.xa_crew.specs.declared.fault.CrewFault.{CrewFault}
+use Rattle.xa_crew.specs.declared.fault.CrewFault.TheVariants as crew
+use Rattle.xa_crew.specs.declared.attending.Attending.{Attending}
+use Rattle.xa_crew.specs.declared.attending.Attended.{Attended}
+use Rattle.xa_crew.specs.declared.attending.Worked.{Worked}
+use Rattle.xa_base.specs.Lists.{Pairwise}
+use Rattle.xa_desk.specs.Kept.{AllKept}
+use Rattle.xa_crew.specs.Ending.{EndsDesk}
+use Rattle.xa_crew.specs.Pieces.{HasServed}
+
+-- What a run fails by where the switch can't be opened.
+abbrev pub fault_of : OpenFault → CrewFault
+fault_of open_.BadPlan = crew.BadPlan
+fault_of open_.NoMemory = crew.NoMemory
+
+-- ---- one thread
+
+-- One thread of control of a run: its client and its desk at first, the client with what was outstanding at its end,
+-- and the desk as it ended.
+pub record Member (C : Type 0) : Type 0 where
+  pub client : C
+  pub desk : DeskView
+  pub attended : Attended C
+  pub ended : EndedView
+
+-- The client worked with its desk; then what was outstanding there was collected and told, and the desk ended.
+pub record HasRun {C : Type 0} (works : C → DeskView → C → DeskView → Type 0) (t : Member C) : Type 0 where
+  pub left : DeskView
+  pub worked : works t.client t.desk t.attended.client left
+  pub goes_on : GoesOn t.desk left
+  pub ends : EndsDesk left [] t.ended t.attended.outstanding.items
+
+-- What is outstanding at the desk is kept, and there is room to tell what may be outstanding at the end.
+pub record IsReady {C : Type 0} (a : Attending C) : Type 0 where
+  pub kept : AllKept a.desk
+  pub none : a.outstanding.items ≡ []
+  pub room : 32 ≤ vec_capacity a.outstanding
+
+-- A client's thread as a member, by what it was given and what it came to.
+abbrev pub member_of : {C : Type 0} → Attending C → Worked C → Member C
+member_of a w = record { client = a.client; desk = a.desk; attended = w.attended; ended = w.desk }
+
+-- ---- the whole run
+
+-- What a run of these clients comes to. The plan was opened, and each client worked with the desk at its own place;
+-- each worker of that opening ran to the last end mark; and the opening is settled with what all of them came to, so
+-- that what was sent, carried out and collected agree.
+pub record IsRun {C : Type 0} (works : C → DeskView → C → DeskView → Type 0) (p : Plan) (clients : List C)
+    (attended : List (Attended C)) (settled : Settling) : Type 0 where
+  -- the threads and the workers of one opening of the plan
+  pub members : List (Member C)
+  pub workers : List Working
+  pub sound : IsSound p
+  pub opened : AreOfOneOpening p (map (λ t. t.desk) members) workers
+  -- each thread has the client at its place, and ran with it
+  pub clients_are : clients ≡ map (λ t. t.client) members
+  pub ran : All (HasRun works) members
+  pub attended_are : attended ≡ map (λ t. t.attended) members
+  -- each worker ran
+  pub done : List Served
+  pub served : Pairwise HasServed workers done
+  -- and just these are settled
+  pub settles : settled ≡ settling (map (λ t. t.ended) members) done
+  pub agrees : IsSettled settled
+  pub of_plan : IsOfPlan p settled

@@ -1,0 +1,28 @@
+//! A crew of threads over one opening of the switch: a thread for each client, and one for each manager's
+//! worker.
+//!
+//! Write what a thread of control does as a `Client`, and give `run_clients` a plan and a client for each
+//! of its threads. All threads run or none does; what a client leaves outstanding is collected and told;
+//! and what comes back is settled: what was sent, carried out and collected agree. `specs/Run.antt` says it
+//! whole. A caller with one thread ends its desks by `end_desk` and settles them by `settle_all`.
+#![tactic(auto)]
+
+mod attending;
+mod client;
+mod ending;
+mod fault;
+mod hands;
+mod job;
+mod run;
+mod serving;
+mod settling;
+#[cfg(test)]
+mod tests;
+mod word;
+
+pub use attending::Attended;
+pub use client::Client;
+pub use ending::{MOST_HANDLES, end_desk};
+pub use fault::CrewFault;
+pub use run::{Run, run_clients};
+pub use settling::settle_all;

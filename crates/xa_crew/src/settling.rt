@@ -1,0 +1,41 @@
+//! How an opening is settled whose desks have all ended and whose workers have all run.
+ghost use Rattle.std.specs.Prelude.{◌≡◌, IfOk};
+ghost use Rattle.xa_switch.specs.Closing.{settling};
+ghost use Rattle.xa_switch.specs.OfPlans.{IsOfPlan};
+ghost use Rattle.xa_switch.specs.Settling.{IsSettled};
+ghost use Rattle.xa_crew.specs.Pieces.{ArePiecesOf};
+
+use std::alloc::{AllocError, Global};
+use std::sync::Wait;
+use xa_desk::EndedDesk;
+use xa_desk::laws::desks_go_out;
+use xa_switch::laws::{opened_pieces_come_from_their_opening, settled_openings_are_of_their_plan};
+use xa_switch::{Plan, Settled, Why, settle};
+use xa_worker::DoneWorker;
+
+/// Settles the opening of the plan whose desks and workers these are, all of them by rising number. It fails
+/// only for want of memory, and what was run is lost then.
+pub fn settle_all<R: Wait>(
+    rt: &R,
+    alloc: Global,
+    plan: &Plan,
+    desks: Vec<EndedDesk>,
+    workers: Vec<DoneWorker>,
+) -> Result<Settled, AllocError>
+    requires { ArePiecesOf plan.now desks.items workers.items }
+    ensures settled { IfOk result (λ s. IsSettled s) }
+    ensures pieces { IfOk result (λ s. s ≡ settling desks.items workers.items) }
+    ensures of_plan { IfOk result (λ s. IsOfPlan plan.now s) }
+{
+    opened_pieces_come_from_their_opening();
+    settled_openings_are_of_their_plan();
+    desks_go_out();
+    match settle(rt, alloc, desks, workers) {
+        Ok(settled) => Ok(settled),
+        Err(unsettled) => match unsettled.why {
+            Why::NoMemory => Err(AllocError),
+            // They are all of one opening.
+            Why::Stranger | Why::Missing => unreachable!(),
+        },
+    }
+}

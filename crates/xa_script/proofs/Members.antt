@@ -1,0 +1,86 @@
+-- What the threads of a script came to as a crew.
+use Rattle.std.proofs.Common.{◌≡◌, ◌+◌, ◌<◌, ℕ, List, [], ◌∷◌, ◌++◌, Some, length, map, false, refl, ap, ◌∙◌, sym, subst, arith}
+use Rattle.std.specs.Prelude.{All, slice_get, option_map}
+use Rattle.std.specs.List.{flat_map, range_with_len, slice_index_or}
+use Rattle.std.proofs.lemmas.List.{length-map}
+use Rattle.std.proofs.lemmas.List.FromFn.{length-map-range_with_len, get_or-map-range_with_len}
+use Rattle.std.proofs.lemmas.Option.{slice_get-map, slice_get_within, slice_get-get_or}
+use Rattle.xa_base.specs.Lists.{Chain, Pairwise}
+use Rattle.xa_base.proofs.Lists.{all_at, all_from}
+use Rattle.xa_worker.specs.Workers.{Working}
+use Rattle.xa_grammar.specs.declared.script.Task.{Task}
+use Rattle.xa_grammar.specs.Content.{Content, tasks_of, threads_of}
+use Rattle.xa_driver.specs.Log.{LogView}
+use Rattle.xa_crew.specs.declared.attending.Attended.{Attended}
+use Rattle.xa_crew.specs.Run.{Member, HasRun}
+use Rattle.xa_session.specs.declared.answer.Answer.{Answer}
+use Rattle.xa_session.specs.declared.script_thread.ScriptThread.{ScriptThread}
+use Rattle.xa_session.specs.declared.session.Session.{Session}
+use Rattle.xa_session.specs.Sessions.{session_of, log_of, HasDone}
+use Rattle.xa_session.specs.ScriptThreads.{IsNew, Works}
+use Rattle.xa_transcript.specs.Planning.{AreOpened}
+use Rattle.xa_transcript.proofs.Opened.{opened_thread}
+use Rattle.xa_script.specs.InThreads.{told_by, HasWorked}
+
+-- the numbers from 1 on
+length_range : (n : ℕ) → length (range_with_len 1 n) ≡ n
+length_range n = sym (length-map (range_with_len 1 n) (λ k. k)) ∙ length-map-range_with_len (λ (k : ℕ). k) 1 n
+
+number_there : (n k : ℕ) → k < n → slice_get (range_with_len 1 n) k ≡ Some (k + 1)
+number_there n k below =
+    let size = length_range n in
+    let within : k < length (range_with_len 1 n) = omega (arith, below, size) in
+    slice_get-get_or (range_with_len 1 n) k (k + 1) within ∙ ap (λ (x : ℕ). Some x) (same n k below)
+  where
+    map_same : (xs : List ℕ) → map (λ (k : ℕ). k) xs ≡ xs
+    map_same [] = refl
+    map_same (x ∷ xs) = ap (λ l. x ∷ l) (map_same xs)
+
+    same : (n k : ℕ) → k < n → slice_index_or (range_with_len 1 n) k (k + 1) ≡ k + 1
+    same n k below = ap (λ l. slice_index_or l k (k + 1)) (sym (map_same (range_with_len 1 n))) ∙ get_or-map-range_with_len (λ (k : ℕ). k) 1 n k (k + 1) (k + 1) below (omega arith)
+
+-- as many threads as the script has
+pub as_many_new : (s : Content) (threads : List ScriptThread) → Pairwise (IsNew s) (range_with_len 1 (threads_of s)) threads → length threads ≡ threads_of s
+as_many_new s threads new = new.as_many ∙ length_range (threads_of s)
+
+-- the answers of all members
+pub members_tell : (ms : List (Member ScriptThread)) (clients : List (Attended ScriptThread)) → clients ≡ map (λ t. t.attended) ms → flat_map told_by clients ≡ flat_map (λ t. told_by t.attended) ms
+members_tell ms clients are = ap (flat_map told_by) are ∙ all_tell ms
+  where
+    all_tell : (ms : List (Member ScriptThread)) → flat_map told_by (map (λ t. t.attended) ms) ≡ flat_map (λ t. told_by t.attended) ms
+    all_tell [] = refl
+    all_tell (m ∷ ms) = ap (λ l. told_by m.attended ++ l) (all_tell ms)
+
+-- a member that was new and to which no memory was refused
+one_worked : (s : Content) (t : ℕ) (m : Member ScriptThread) → m.desk.thread ≡ t → IsNew s t m.client → HasRun Works m → m.attended.client.wants_memory ≡ false → HasWorked s m
+one_worked s t m number new ran done =
+    let x = m.client in
+    let x' = m.attended.client in
+    let last : Session × List Answer = (session_of ran.left x'.log, x'.answers.items) in
+    let runs : Chain HasDone (session_of m.desk x.log, x.answers.items) x.tasks.items last = ran.worked.runs done in
+    let log : x.log ≡ log_of s m.desk.thread = new.log ∙ ap (log_of s) (sym number) in
+    let tasks : x.tasks.items ≡ tasks_of m.desk.thread s.steps = new.tasks ∙ ap (λ (n : ℕ). tasks_of n s.steps) (sym number) in
+    record {
+      own = ran.worked.own ∙ new.own ∙ sym number;
+      left = session_of ran.left x'.log;
+      runs =
+          subst (λ (l : LogView). Chain HasDone (session_of m.desk l, []) (tasks_of m.desk.thread s.steps) last) log
+          (subst (λ (l : List Answer). Chain HasDone (session_of m.desk x.log, l) (tasks_of m.desk.thread s.steps) last) new.answers
+          (subst (λ (l : List Task). Chain HasDone (session_of m.desk x.log, x.answers.items) l last) tasks runs));
+      ends = ran.ends;
+    }
+
+-- all members
+pub members_worked : (s : Content) (ms : List (Member ScriptThread)) (workers : List Working) → AreOpened s (map (λ t. t.desk) ms) workers
+    → (threads : List ScriptThread) → Pairwise (IsNew s) (range_with_len 1 (threads_of s)) threads → threads ≡ map (λ t. t.client) ms → All (HasRun Works) ms
+    → (clients : List (Attended ScriptThread)) → clients ≡ map (λ t. t.attended) ms → All (λ t. t.client.wants_memory ≡ false) clients → All (HasWorked s) ms
+members_worked s ms workers opened threads new are ran clients attended done =
+    all_from (HasWorked s) ms (λ k m at.
+    let client_at : slice_get threads k ≡ Some m.client = ap (λ l. slice_get l k) are ∙ slice_get-map (λ (t : Member ScriptThread). t.client) ms k ∙ ap (option_map (λ (t : Member ScriptThread). t.client)) at in
+    let attended_at : slice_get clients k ≡ Some m.attended = ap (λ l. slice_get l k) attended ∙ slice_get-map (λ (t : Member ScriptThread). t.attended) ms k ∙ ap (option_map (λ (t : Member ScriptThread). t.attended)) at in
+    let desk_at : slice_get (map (λ (t : Member ScriptThread). t.desk) ms) k ≡ Some m.desk = slice_get-map (λ (t : Member ScriptThread). t.desk) ms k ∙ ap (option_map (λ (t : Member ScriptThread). t.desk)) at in
+    let within = slice_get_within threads k m.client client_at in
+    let many = as_many_new s threads new in
+    let below : k < threads_of s = omega (arith, within, many) in
+    one_worked s (k + 1) m (opened_thread s (map (λ (t : Member ScriptThread). t.desk) ms) workers opened k m.desk desk_at) (new.each k (k + 1) m.client (number_there (threads_of s) k below) client_at) (all_at (HasRun Works) ms k m ran at)
+    (all_at (λ (t : Attended ScriptThread). t.client.wants_memory ≡ false) clients k m.attended done attended_at))

@@ -1,0 +1,7 @@
+-- Lemmas of what a call answers where it goes well.
+use Rattle.std.proofs.Common.{Result, Ok, Err, OnOk}
+
+-- what follows from what it answers
+pub on_ok : {T E : Type 0} (r : Result T E) (P Q : Type 0) → (P → Q) → OnOk r P → OnOk r Q
+on_ok (Ok x) P Q f p = f p
+on_ok (Err e) P Q f p = p

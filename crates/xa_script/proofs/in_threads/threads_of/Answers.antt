@@ -1,0 +1,27 @@
+use Rattle.std.proofs.Common.{◌≡◌, ◌+◌, ◌++◌, ◌∷◌, [], List, ℕ, sym, subst, refl, arith}
+use Rattle.std.specs.List.{range_with_len}
+use Rattle.xa_grammar.specs.Content.{threads_of}
+use Rattle.xa_base.specs.Lists.{Pairwise}
+use Rattle.xa_base.proofs.Lists.{none_side, push_side, range_more}
+use Rattle.xa_session.specs.declared.script_thread.ScriptThread.{ScriptThread}
+use Rattle.xa_session.specs.ScriptThreads.{IsNew}
+use Rattle.xa_script.proofs.in_threads.threads_of.Goals as goal
+
+pub loop-before-init : goal.loop-before-init
+loop-before-init c = record { new = none_side (IsNew c.args.script.now) (range_with_len 1 0) _ refl c.in_ok-threads.ensures.items }
+
+pub loop-before-preserved : goal.loop-before-preserved
+loop-before-preserved c =
+    let new = IsNew c.args.script.now in
+    let n = c.loop-before.before in
+    let threads = c.loop-before.threads.items in
+    let one = c.in_ok-new.field-0 in
+    record {
+      new = subst (λ (l : List ScriptThread). Pairwise new (range_with_len 1 (n + 1)) l) (sym c.in_ok-push.ensures.items)
+          (subst (λ (l : List ℕ). Pairwise new l (threads ++ one ∷ [])) (sym (range_more n)) (push_side new (range_with_len 1 n) threads (n + 1) one c.loop-before.invariant.new c.in_ok-new.ensures));
+    }
+
+pub returns : goal.returns
+returns c =
+    let all : c.loop-before.before ≡ threads_of c.args.script.now = let same = c.threads-before-end.ensures.threads in omega (arith, same) in
+    subst (λ (n : ℕ). Pairwise (IsNew c.args.script.now) (range_with_len 1 n) c.loop-before.threads.items) all c.loop-before.invariant.new

@@ -1,0 +1,10 @@
+use Rattle.std.specs.List.{range_with_len}
+use Rattle.xa_base.specs.Lists.{Pairwise}
+use Rattle.xa_session.specs.ScriptThreads.{IsNew}
+use Rattle.xa_script.proofs.in_threads.threads_of.Given as goal
+
+-- the first threads are there
+abbrev pub invariant-loop-before : goal.invariant-loop-before
+invariant-loop-before l = record {
+  new : Pairwise (IsNew l.script) (range_with_len 1 l.before) l.threads.items;
+}

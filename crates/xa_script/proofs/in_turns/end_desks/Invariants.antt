@@ -1,0 +1,11 @@
+use Rattle.std.proofs.Common.{◌≡◌, ◌++◌, []}
+use Rattle.std.specs.Vec.Iter.{into_iter_items}
+use Rattle.xa_script.specs.InTurns.{HaveEnded, closing_of}
+use Rattle.xa_script.proofs.in_turns.end_desks.Given as goal
+
+-- the first desks have ended
+abbrev pub invariant-loop-session : goal.invariant-loop-session
+invariant-loop-session g l = record {
+  so_far : l.yielded ++ into_iter_items l.session-iterator ≡ l.fn.sessions.items;
+  ends : HaveEnded (closing_of [] l.fn.turns.workers.items l.fn.answers.items) l.yielded (closing_of l.ended.items l.turns.workers.items l.answers.items);
+}

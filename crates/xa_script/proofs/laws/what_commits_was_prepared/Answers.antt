@@ -1,5 +1,0 @@
-use Rattle.xa_script.proofs.InJournals.{all_prepared}
-use Rattle.xa_script.proofs.laws.what_commits_was_prepared.Goals as goal
-
-pub returns : goal.returns
-returns c = λ s answers settled t told. all_prepared s answers settled t told

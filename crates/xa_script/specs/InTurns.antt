@@ -1,0 +1,106 @@
+-- A run of a script in turns: what its steps do to the threads of control and the workers of one opening, and how they end.
+use Rattle.std.specs.Prelude.{◌≡◌, ℕ, ◌-◌, Some, List, [], ◌∷◌, ◌++◌, slice_get, slice_set}
+use Rattle.xa_words.specs.declared.code.Code.{Code}
+use Rattle.xa_desk.specs.DeskView.{DeskView}
+use Rattle.xa_desk.specs.Ended.{EndedView}
+use Rattle.xa_worker.specs.declared.step.Step.{Step as Did}
+use Rattle.xa_worker.specs.Workers.{Working}
+use Rattle.xa_worker.specs.Done.{Served}
+use Rattle.xa_grammar.specs.declared.script.Step.{Step}
+use Rattle.xa_grammar.specs.declared.script.Step.TheVariants as step
+use Rattle.xa_grammar.specs.declared.script.Task.{Task}
+use Rattle.xa_grammar.specs.Content.{Content, thread_of}
+use Rattle.xa_base.specs.Lists.{Chain, Pairwise}
+use Rattle.xa_crew.specs.Ending.{EndsDesk}
+use Rattle.xa_crew.specs.Pieces.{HasServed}
+use Rattle.xa_session.specs.declared.answer.Answer.{Answer}
+use Rattle.xa_session.specs.declared.answer.Answer.TheVariants as answer
+use Rattle.xa_session.specs.declared.session.Session.{Session}
+use Rattle.xa_session.specs.Sessions.{new_sessions, Does}
+use Rattle.xa_session.specs.Ended.{all_ended}
+use Rattle.xa_script.specs.Turns.{AllGoOn, TakesTurn}
+
+-- ---- the steps of a script
+
+-- The threads of control by rising number, and the workers by rising manager.
+pub record Stage : Type 0 where
+  pub sessions : List Session
+  pub workers : List Working
+
+abbrev pub stage_of : List Session → List Working → Stage
+stage_of sessions workers = record { sessions = sessions; workers = workers }
+
+-- A thread does its task while workers go on, and the other threads stay.
+pub record HasCalled (p : Task) (old new : Stage) (a : Answer) : Type 0 where
+  pub before : Session
+  pub after : Session
+  pub at : slice_get old.sessions (thread_of p - 1) ≡ Some before
+  pub does : Does p before after a
+  pub rest : new.sessions ≡ slice_set old.sessions (thread_of p - 1) after
+  pub turns : AllGoOn old.workers new.workers
+
+-- A manager's worker takes a turn, and the threads stay.
+pub record HasTurned (line m : ℕ) (old new : Stage) (a : Answer) : Type 0 where
+  pub did : Did
+  pub turn : TakesTurn m did old.workers new.workers
+  pub answer : a ≡ answer.Turned line did
+  pub rest : new.sessions ≡ old.sessions
+
+-- What a step does to the threads and the workers, and what it answers.
+abbrev pub Steps : Step → Stage → Stage → Answer → Type 0
+Steps (step.Task p) old new a = HasCalled p old new a
+Steps (step.Turn line m) old new a = HasTurned line m old new a
+
+-- A run at some moment: the threads and the workers, and the answers so far.
+pub record Course : Type 0 where
+  pub stage : Stage
+  pub answers : List Answer
+
+abbrev pub course_of : List Session → List Working → List Answer → Course
+course_of sessions workers answers = record { stage = stage_of sessions workers; answers = answers }
+
+-- A step goes on with a run.
+pub record HasStepped (p : Step) (old new : Course) : Type 0 where
+  pub answer : Answer
+  pub steps : Steps p old.stage new.stage answer
+  pub told : new.answers ≡ old.answers ++ answer ∷ []
+
+-- These steps went so, one after the other.
+abbrev pub HasRun : Course → List Step → Course → Type 0
+HasRun first steps now = Chain HasStepped first steps now
+
+-- ---- what is outstanding after the last step
+
+-- A run as it ends: the desks that have ended by rising thread, the workers, and the answers so far.
+pub record Closing : Type 0 where
+  pub ended : List EndedView
+  pub workers : List Working
+  pub answers : List Answer
+
+-- The desk of one more thread ends, while workers go on, and what was outstanding is told.
+pub record HasEndedDesk (session : Session) (old new : Closing) : Type 0 where
+  pub view : EndedView
+  pub outstanding : List (ℕ × Code)
+  pub ends : EndsDesk session.desk [] view outstanding
+  pub ended : new.ended ≡ old.ended ++ view ∷ []
+  pub told : new.answers ≡ old.answers ++ all_ended session.desk.thread outstanding
+  pub turns : AllGoOn old.workers new.workers
+
+-- The desks of these threads have ended, one after the other.
+abbrev pub HaveEnded : Closing → List Session → Closing → Type 0
+HaveEnded first sessions now = Chain HasEndedDesk first sessions now
+
+abbrev pub closing_of : List EndedView → List Working → List Answer → Closing
+closing_of ended workers answers = record { ended = ended; workers = workers; answers = answers }
+
+-- ---- the whole run
+
+-- The threads, with logs without a record, went through all steps; then their desks ended one after the other, and then each worker ran to the last end mark.
+pub record InTurns (s : Content) (desks : List DeskView) (workers : List Working) (ended : List EndedView) (done : List Served) (answers : List Answer) : Type 0 where
+  pub ran : Course
+  pub runs : HasRun (course_of (new_sessions s desks) workers []) s.steps ran
+  pub closed : Closing
+  pub closes : HaveEnded (closing_of [] ran.stage.workers ran.answers) ran.stage.sessions closed
+  pub ended_are : ended ≡ closed.ended
+  pub served : Pairwise HasServed closed.workers done
+  pub answered : answers ≡ closed.answers

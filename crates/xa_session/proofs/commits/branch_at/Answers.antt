@@ -1,0 +1,27 @@
+use Rattle.std.proofs.Common.{◌≡◌, ◌≢◌, ◌≤◌, pos, true, Err, List, ℕ, length, decimal, sym, ap, ◌∙◌, arith}
+use Rattle.std.specs.Prelude.{◌&&◌, Bool}
+use Rattle.std.proofs.lemmas.Bool.{le-leb}
+use Rattle.std.proofs.lemmas.Fmt.{decimal_nonempty}
+use Rattle.xa_words.specs.declared.xid.XidFault.{XidFault}
+use Rattle.xa_words.specs.NewXid.{is_part, xid_of}
+use Rattle.xa_session.proofs.commits.branch_at.Goals as goal
+
+both : (a b : Bool) → a ≡ true → b ≡ true → (a && b) ≡ true
+both a b e f = cc
+
+-- 1 to 64 bytes are a part of a name
+part : (bytes : List ℕ) → 1 ≤ length bytes → length bytes ≤ 64 → is_part bytes ≡ true
+part bytes some few = both _ _ (le-leb 1 (length bytes) some) (le-leb (length bytes) 64 few)
+
+-- two parts make a name
+named : (gtrid bqual : List ℕ) (why : XidFault) → is_part gtrid ≡ true → is_part bqual ≡ true → xid_of (pos 1) gtrid bqual ≢ Err why
+named gtrid bqual why e f = rw e (rw f (λ wrong. cc))
+
+pub unreachable-requires : goal.unreachable-requires
+unreachable-requires c =
+    let text : c.as_bytes.result.now ≡ decimal c.args.m = c.as_bytes.ensures.value ∙ c.format.ensures.text in
+    let short = c.format.ensures.short in
+    let value = ap (λ (l : List ℕ). length l) c.as_bytes.ensures.value in
+    let size = ap (λ (l : List ℕ). length l) text in
+    let some = decimal_nonempty c.args.m (omega arith) in
+    named c.gtrid.result.now c.as_bytes.result.now c.in-Err.field-0 c.gtrid.ensures.valid (part c.as_bytes.result.now (omega (arith, some, size)) (omega (arith, short, value))) (sym c.new-2.ensures ∙ c.in-Err.is)

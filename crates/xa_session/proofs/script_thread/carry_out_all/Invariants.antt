@@ -1,0 +1,14 @@
+use Rattle.std.proofs.Common.{take}
+use Rattle.xa_base.specs.Lists.{Chain}
+use Rattle.xa_desk.specs.GoesOn.{GoesOn}
+use Rattle.xa_desk.specs.Kept.{AllKept}
+use Rattle.xa_session.specs.Sessions.{session_of, HasDone}
+use Rattle.xa_session.proofs.script_thread.carry_out_all.Given as goal
+
+-- the first tasks were done
+abbrev pub invariant-loop-task : goal.invariant-loop-task
+invariant-loop-task g l = record {
+  runs : Chain HasDone (session_of l.fn.desk l.fn.log, l.fn.answers.items) (take l.task-index l.tasks) (session_of l.desk l.log, l.answers.items);
+  goes_on : GoesOn l.fn.desk l.desk;
+  kept : AllKept l.fn.desk → AllKept l.desk;
+}

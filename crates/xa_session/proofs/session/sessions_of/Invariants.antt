@@ -1,0 +1,11 @@
+use Rattle.std.proofs.Common.{◌≡◌, ◌++◌}
+use Rattle.std.specs.Vec.Iter.{into_iter_items}
+use Rattle.xa_session.specs.Sessions.{new_sessions}
+use Rattle.xa_session.proofs.session.sessions_of.Given as goal
+
+-- the first threads have their logs
+abbrev pub invariant-loop-desk : goal.invariant-loop-desk
+invariant-loop-desk l = record {
+  so_far : l.yielded ++ into_iter_items l.desk-iterator ≡ l.fn.desks.items;
+  done : l.sessions.items ≡ new_sessions l.script l.yielded;
+}

@@ -1,0 +1,5 @@
+pub mod Calling
+pub mod Committing
+pub mod Sessions
+pub mod ScriptThreads
+pub mod Ended

@@ -1,0 +1,44 @@
+//! What the lines of a script answer.
+use xa_driver::Done;
+use xa_worker::Step;
+
+/// A line of the transcript before the values. Lines, threads and handles count from 1.
+#[derive(Debug, Drop)]
+pub enum Answer {
+    /// The call on this line, by this thread, answered a code or a handle: `L T C`.
+    Called {
+        line: u32,
+        thread: u32,
+        answer: i32,
+    },
+    /// The xa_complete on this line answered XA_OK: `L T 0 handle H retval R`.
+    Completed {
+        line: u32,
+        thread: u32,
+        handle: i32,
+        retval: i32,
+    },
+    /// The branches on this line may not be committed, and nothing was done: `L T refused`.
+    Refused {
+        line: u32,
+        thread: u32,
+    },
+    /// What became of the branches on this line: `L T commit logged E ..`, `L T commit unlogged E ..`
+    /// or `L T abort unlogged E ..`.
+    Decided {
+        line: u32,
+        thread: u32,
+        done: Done,
+    },
+    /// What a manager's worker did in its turn: `L turn S`.
+    Turned {
+        line: u32,
+        step: Step,
+    },
+    /// An operation that was outstanding after the thread's last line: `end T handle H retval R`.
+    Ended {
+        thread: u32,
+        handle: u32,
+        retval: i32,
+    },
+}

@@ -1,0 +1,113 @@
+//! What a script's calls answer over the desk of their thread.
+ghost use Rattle.std.specs.Prelude.{◌≡◌};
+ghost use Rattle.xa_desk.specs.GoesOn.{GoesOn};
+ghost use Rattle.xa_desk.specs.Kept.{AllKept};
+ghost use Rattle.xa_switch.specs.Asking.{asked_of, native};
+ghost use Rattle.xa_switch.specs.Putting.{Calls};
+ghost use Rattle.xa_session.specs.Calling.{shown, completed, HasAnswered, HasCollected, Answers};
+
+use crate::answer::Answer;
+use std::sync::Wait;
+use xa_desk::{Desk, Idle};
+use xa_grammar::{Action, Called};
+use xa_switch::{native, xa_call, xa_complete};
+use xa_words::{Call, RmOp, Xid};
+
+// The answer of a call that is no xa_complete.
+fn shown(called: &Called, answer: i32) -> Answer
+    ensures { result ≡ shown called.now answer }
+{
+    Answer::Called {
+        line: called.line,
+        thread: called.thread,
+        answer,
+    }
+}
+
+// What an XA call answers.
+fn xa_called<R: Wait, I: Idle>(
+    rt: &R,
+    desk: &mut Desk,
+    called: &Called,
+    call: Call,
+    xid: Option<Xid>,
+    idle: &mut I,
+) -> Answer
+    ensures answers { HasAnswered (Calls (asked_of call xid called.now.flags)) called.now desk.old desk.new result }
+    ensures goes_on { GoesOn desk.old desk.new }
+    ensures kept { AllKept desk.old → AllKept desk.new }
+    ensures idled { I.leads idle.old idle.new }
+{
+    let answer = xa_call(rt, desk, call, xid, called.manager, called.flags, idle);
+    shown(called, answer)
+}
+
+/// What a call answers.
+pub(crate) fn answer<R: Wait, I: Idle>(
+    rt: &R,
+    desk: &mut Desk,
+    called: &Called,
+    idle: &mut I,
+) -> Answer
+    ensures answers { Answers called.now.action called.now desk.old desk.new result }
+    ensures goes_on { GoesOn desk.old desk.new }
+    ensures kept { AllKept desk.old → AllKept desk.new }
+    ensures idled { I.leads idle.old idle.new }
+{
+    match called.action {
+        Action::Xa(call, xid) => xa_called(rt, desk, called, call, xid, idle),
+        Action::Native(op) => native_called(rt, desk, called, op, idle),
+        Action::Complete(handle) => completed(rt, desk, called, handle, idle),
+    }
+}
+
+// What a call outside XA answers.
+fn native_called<R: Wait, I: Idle>(
+    rt: &R,
+    desk: &mut Desk,
+    called: &Called,
+    op: RmOp,
+    idle: &mut I,
+) -> Answer
+    ensures answers { HasAnswered (Calls (native op called.now.flags)) called.now desk.old desk.new result }
+    ensures goes_on { GoesOn desk.old desk.new }
+    ensures kept { AllKept desk.old → AllKept desk.new }
+    ensures idled { I.leads idle.old idle.new }
+{
+    let answer = native(rt, desk, op, called.manager, called.flags, idle);
+    shown(called, answer)
+}
+
+// What an xa_complete of the handle answers.
+fn completed<R: Wait, I: Idle>(
+    rt: &R,
+    desk: &mut Desk,
+    called: &Called,
+    handle: i32,
+    idle: &mut I,
+) -> Answer
+    ensures answers { HasCollected called.now desk.old handle desk.new result }
+    ensures goes_on { GoesOn desk.old desk.new }
+    ensures kept { AllKept desk.old → AllKept desk.new }
+    ensures idled { I.leads idle.old idle.new }
+{
+    let (manager, flags) = (called.manager, called.flags);
+    let (mut handle, mut retval) = (handle, 0);
+    let answer = xa_complete(rt, desk, &mut handle, &mut retval, manager, flags, idle);
+    told(called, answer, handle, retval)
+}
+
+// The answer of an xa_complete, which on XA_OK is shown with what it wrote.
+fn told(called: &Called, answer: i32, handle: i32, retval: i32) -> Answer
+    ensures { result ≡ completed called.now handle retval answer }
+{
+    if answer != 0 {
+        return shown(called, answer);
+    }
+    Answer::Completed {
+        line: called.line,
+        thread: called.thread,
+        handle,
+        retval,
+    }
+}

@@ -1,0 +1,69 @@
+//! A commit of several branches by a line of a script.
+ghost use Rattle.std.specs.Prelude.{◌≡◌, IfOk, OnErr};
+ghost use Rattle.xa_desk.specs.GoesOn.{GoesOn};
+ghost use Rattle.xa_desk.specs.Kept.{AllKept};
+ghost use Rattle.xa_session.specs.Committing.{branch_at, branches_of, Commits};
+ghost use Rattle.xa_session.specs.Sessions.{session_of};
+
+use crate::answer::Answer;
+use itoa::Buffer;
+use std::alloc::{AllocError, Global};
+use std::sync::Wait;
+use xa_desk::laws::desks_go_on;
+use xa_desk::{Desk, Idle};
+use xa_driver::{Branch, DriverFault, MemoryLog, commit_all, may_commit};
+use xa_grammar::CommitAll;
+use xa_words::Xid;
+
+// The branch `G.M` at a manager.
+fn branch_at(asked: &CommitAll, m: u32) -> Branch
+    ensures { result ≡ branch_at asked.now m }
+{
+    match Xid::new(1, asked.tran.gtrid(), Buffer::new().format(m).as_bytes()) {
+        Ok(xid) => Branch { m, xid },
+        // A gtrid has 1 to 64 bytes, and a number has few digits.
+        Err(_) => unreachable!(),
+    }
+}
+
+// The branches of a commit, by rising manager.
+fn branches_of(alloc: Global, asked: &CommitAll) -> Result<Vec<Branch>, AllocError>
+    ensures { IfOk result (λ v. v.items ≡ branches_of asked.now) }
+{
+    let mut branches = Vec::with_capacity(alloc, asked.managers.len())?;
+    for before in 0..8 {
+        if asked.managers[before as usize] {
+            branches.push_reserved(branch_at(asked, before + 1));
+        }
+    }
+    Ok(branches)
+}
+
+/// Commits the branches, where that may be done. It fails only for want of memory, and then nothing is
+/// done.
+pub(crate) fn commit<R: Wait, I: Idle>(
+    rt: &R,
+    alloc: Global,
+    desk: &mut Desk,
+    log: &mut MemoryLog,
+    asked: &CommitAll,
+    idle: &mut I,
+) -> Result<Answer, AllocError>
+    ensures commits { IfOk result (Commits asked.now (session_of desk.old log.old) (session_of desk.new log.new)) }
+    ensures goes_on { GoesOn desk.old desk.new }
+    ensures kept { AllKept desk.old → AllKept desk.new }
+    ensures unsent { OnErr result (desk.new ≡ desk.old) }
+    ensures unlogged { OnErr result (log.new ≡ log.old) }
+    ensures idled { I.leads idle.old idle.new }
+{
+    desks_go_on();
+    let (line, thread) = (asked.line, asked.thread);
+    let branches = branches_of(alloc, asked)?;
+    if !may_commit(desk, log, &branches) {
+        return Ok(Answer::Refused { line, thread });
+    }
+    match commit_all(rt, alloc, desk, log, &branches, idle) {
+        Ok(done) => Ok(Answer::Decided { line, thread, done }),
+        Err(DriverFault::NoMemory) => Err(AllocError),
+    }
+}

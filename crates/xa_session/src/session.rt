@@ -1,0 +1,70 @@
+//! A thread of a script: its desk with its decision log.
+ghost use Rattle.std.specs.Prelude.{◌≡◌, IfOk, OnErr};
+ghost use Rattle.xa_desk.specs.GoesOn.{GoesOn};
+ghost use Rattle.xa_desk.specs.Kept.{AllKept};
+ghost use Rattle.xa_session.specs.Sessions.{log_of, session_of, new_session, new_sessions, Does};
+
+use crate::answer::Answer;
+use crate::calls::answer;
+use crate::commits::commit;
+use std::alloc::{AllocError, Global};
+use std::sync::Wait;
+use xa_desk::{Desk, Idle};
+use xa_driver::MemoryLog;
+use xa_grammar::{Script, Task};
+
+/// A thread of control with its decision log.
+#[derive(Drop)]
+pub struct Session {
+    pub desk: Desk,
+    pub log: MemoryLog,
+}
+
+/// The log of a thread that has committed nothing. The append that the script names for it, counted
+/// from 1, fails.
+pub(crate) fn log_of(alloc: Global, script: &Script, thread: u32) -> MemoryLog
+    ensures { result ≡ log_of script.now thread }
+{
+    match script.failing_append(thread) {
+        Some(k) => MemoryLog::failing_at(alloc, k),
+        None => MemoryLog::new(alloc),
+    }
+}
+
+/// Does a task and tells its answer. It fails only for want of memory, and then nothing is done.
+pub fn carry_out<R: Wait, I: Idle>(
+    rt: &R,
+    alloc: Global,
+    desk: &mut Desk,
+    log: &mut MemoryLog,
+    task: &Task,
+    idle: &mut I,
+) -> Result<Answer, AllocError>
+    ensures does { IfOk result (Does task.now (session_of desk.old log.old) (session_of desk.new log.new)) }
+    ensures goes_on { GoesOn desk.old desk.new }
+    ensures kept { AllKept desk.old → AllKept desk.new }
+    ensures unsent { OnErr result (desk.new ≡ desk.old) }
+    ensures unlogged { OnErr result (log.new ≡ log.old) }
+    ensures idled { I.leads idle.old idle.new }
+{
+    match task {
+        Task::Call(called) => Ok(answer(rt, desk, called, idle)),
+        Task::CommitAll(asked) => commit(rt, alloc, desk, log, asked, idle),
+    }
+}
+
+/// The threads of these desks, with logs as the script says.
+pub fn sessions_of(
+    alloc: Global,
+    script: &Script,
+    desks: Vec<Desk>,
+) -> Result<Vec<Session>, AllocError>
+    ensures { IfOk result (λ v. v.items ≡ new_sessions script.now desks.items) }
+{
+    let mut sessions = Vec::with_capacity(alloc, desks.len())?;
+    for desk in desks {
+        let log = log_of(alloc, script, desk.thread());
+        sessions.push(Session { desk, log })?;
+    }
+    Ok(sessions)
+}

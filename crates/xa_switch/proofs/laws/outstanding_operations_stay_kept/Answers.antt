@@ -1,0 +1,11 @@
+use Rattle.xa_switch.proofs.Keeping.{opened_kept, redeemed_keep, none_left}
+use Rattle.xa_switch.proofs.laws.outstanding_operations_stay_kept.Goals as goal
+
+pub returns-clause-collected : goal.returns-clause-collected
+returns-clause-collected c = redeemed_keep
+
+pub returns-clause-none : goal.returns-clause-none
+returns-clause-none c = none_left
+
+pub returns-clause-opened : goal.returns-clause-opened
+returns-clause-opened c = opened_kept

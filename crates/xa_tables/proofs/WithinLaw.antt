@@ -1,0 +1,202 @@
+-- The law: the value of a declared key stays within the limits, whatever is requested.
+use Rattle.std.specs.Prelude.{◌≡◌, ◌≢◌, ℕ, ℤ, pos, ◌+ℤ◌, ◌≤ℤ◌, Bool, true, false, cond, not, ◌&&◌, if◌then◌else◌, Option, None, Some, option_map, unwrap_or, List, [], ◌∷◌, length, map, refl, nat_le}
+use Rattle.std.specs.List.{list_all}
+use Rattle.std.proofs.Common.{sym, ap, ◌∙◌, subst, ⊎_elim, le-leb, arith}
+use Rattle.std.proofs.lemmas.Int.{ints}
+use Rattle.std.specs.FinMap as finmap
+use Rattle.std.specs.FinMap.{FinMap, from_entries, find, get-empty, get-insert, get-from_entries}
+use Rattle.std.specs.Ordering.{eq_by_cmp}
+use Rattle.std.proofs.lemmas.Bool.{and_parts, not-false}
+use Rattle.xa_words.specs.Xid.{XidName, xid_eq}
+use Rattle.xa_words.specs.Key.{key_eq}
+use Rattle.xa_words.specs.Orders.{key_cmp, key_cmp_total, key_cmp-IsAntisymmetric, Decides-xid_eq, Decides-key_eq}
+use Rattle.xa_words.specs.declared.request.Op.{Op}
+use Rattle.xa_words.specs.declared.request.Request.{Request}
+use Rattle.xa_tables.specs.declared.state.State.{State}
+use Rattle.xa_tables.specs.declared.state.State.TheVariants.{Active, Idle, Prepared as S3, RollbackOnly}
+use Rattle.xa_tables.specs.declared.state.RollbackReason.TheVariants.{Failed, Transient}
+use Rattle.xa_tables.specs.declared.state.Association.{Association}
+use Rattle.xa_tables.specs.Tables.{Tables, Touch, touch_cmp, association_of, state_of, is_S3, is_prepared, is_within, value_of, sum_of, has_other_touched, is_broken, sums_without}
+use Rattle.xa_tables.specs.Next.{Answer, next, stated, added, gone, committed, dissociated}
+use Rattle.xa_tables.specs.Accounts.{are_accounts, declared_values}
+use Rattle.xa_tables.specs.Managers.{opening}
+use Rattle.xa_tables.specs.History.{History, tables_after, IsOpening, StaysWithin}
+use Rattle.xa_tables.proofs.MapLemmas.{none_passes, get-map_values}
+use Rattle.xa_tables.proofs.AccountLemmas.{touch_cmp_total, touch_cmp-IsAntisymmetric, touch_from, within_bounds}
+use Rattle.xa_tables.proofs.Effects.{Effect, Starts, Joins, Fails, Idles, Dooms, Adds, Prepares, Commits, Drops, effect_of}
+use Rattle.xa_tables.proofs.Law.{Sound, AtWork, standing, get_put, get_gone, sound_after, opening_sound}
+use Rattle.xa_tables.proofs.ValueLaw.{get_without, get_added}
+
+-- each sum of x and its key's value are together within the limits
+abbrev Fits : Tables → XidName → Type 0
+Fits T x = (k : List ℕ) (s : ℤ) → finmap.get T.sums (x, k) ≡ Some s → is_within (value_of T.values k +ℤ s) ≡ true
+
+-- each value is within the limits, no two branches have touched one key, and a prepared branch fits
+record Kept (T : Tables) : Type 0 where
+  values : (k : List ℕ) (v : ℤ) → finmap.get T.values k ≡ Some v → is_within v ≡ true
+  alone : (x y : XidName) (k : List ℕ) (s r : ℤ) → finmap.get T.sums (x, k) ≡ Some s → finmap.get T.sums (y, k) ≡ Some r → x ≡ y
+  prepared : (x : XidName) → is_S3 (state_of T x) ≡ true → Fits T x
+
+-- a branch that breaks no limit fits
+unbroken_fits : (T : Tables) (x : XidName) → is_broken T.values T.sums x ≡ false → Fits T x
+unbroken_fits T x unbroken k s at =
+    let none = none_passes touch_cmp_total touch_cmp-IsAntisymmetric (λ p r. xid_eq p.0 x && not (is_within (value_of T.values p.1 +ℤ r))) T.sums (x, k) s unbroken at in
+    not-false (is_within (value_of T.values k +ℤ s)) (ap (λ b. b && not (is_within (value_of T.values k +ℤ s))) (sym ((Decides-xid_eq x x).1 refl)) ∙ none)
+
+by_bool : (P : Bool → Type 0) (b : Bool) → (b ≡ true → P true) → (b ≡ false → P false) → P b
+by_bool P b one two = elim b as (λ c. b ≡ c → P c) [ true ↦ one | false ↦ two ] refl
+
+-- a prepared branch isn't at work
+S3_rests : (o : Option State) → is_S3 o ≡ true → standing o ≢ AtWork
+S3_rests None e = cc
+S3_rests (Some Active) e = cc
+S3_rests (Some Idle) e = cc
+S3_rests (Some S3) e = λ w. cc
+S3_rests (Some (RollbackOnly reason)) e = cc
+
+some_same : {u v : ℤ} → Some u ≡ Some v → u ≡ v
+some_same e = cc
+
+plus_none : (v : ℤ) → v +ℤ pos 0 ≡ v
+plus_none v = omega (arith, ints)
+
+module _ (t : ℕ) (T : Tables) (s : Sound T) (w : Kept T) where
+  -- y is put into another state than S3
+  put : (y : XidName) (o : State) → is_S3 (Some o) ≡ false → Kept (stated y o T)
+  put y o other = record {
+    values = w.values;
+    alone = w.alone;
+    prepared = λ x is.
+        by_bool (λ b. is_S3 (if b then Some o else state_of T x) ≡ true → Fits T x) (xid_eq y x) (λ _ e. let z : true ≡ false = sym e ∙ other in cc) (λ _ e. w.prepared x e) (sym (ap is_S3 (get_put T y x o)) ∙ is);
+  }
+
+  -- y, which fits, is prepared
+  prepares : (y : XidName) → Fits T y → Kept (stated y S3 T)
+  prepares y fits = record {
+    values = w.values;
+    alone = w.alone;
+    prepared = λ x is.
+        by_bool (λ b. xid_eq y x ≡ b → is_S3 (if b then Some S3 else state_of T x) ≡ true → Fits T x) (xid_eq y x)
+        (λ _ here e. subst (Fits T) ((Decides-xid_eq y x).0 here) fits) (λ _ _ e. w.prepared x e) refl (sym (ap is_S3 (get_put T y x S3)) ∙ is);
+  }
+
+  -- the branch of a thread's association, which alone has touched the key, adds to it
+  adds : (k : List ℕ) (d : ℤ) (l : Association) → association_of T t ≡ Some l → has_other_touched T.sums l.xid k ≡ false → Kept (added l.xid k d T)
+  adds k d l own free = record {
+    values = w.values;
+    alone = λ x y q a b at_x at_y.
+        by_bool (λ c. eq_by_cmp touch_cmp (x, q) (l.xid, k) ≡ c → cond c (Some (sum_of T.sums l.xid k +ℤ d)) (finmap.get T.sums (x, q)) ≡ Some a → x ≡ y) (eq_by_cmp touch_cmp (x, q) (l.xid, k))
+        (λ _ here e. let one = touch_from (x, q) (l.xid, k) here in ap (λ (p : Touch). p.0) one ∙ sym (only y q b (ap (λ (p : Touch). p.1) one) at_y))
+        (λ _ there e.
+        by_bool (λ c. eq_by_cmp touch_cmp (y, q) (l.xid, k) ≡ c → cond c (Some (sum_of T.sums l.xid k +ℤ d)) (finmap.get T.sums (y, q)) ≡ Some b → x ≡ y) (eq_by_cmp touch_cmp (y, q) (l.xid, k))
+        (λ _ here f. let one = touch_from (y, q) (l.xid, k) here in only x q a (ap (λ (p : Touch). p.1) one) at_x ∙ sym (ap (λ (p : Touch). p.0) one))
+        (λ _ _ f. w.alone x y q a b e f) refl (sym (get-insert touch_cmp_total T.sums (l.xid, k) (sum_of T.sums l.xid k +ℤ d) (y, q)) ∙ at_y))
+        refl (sym (get-insert touch_cmp_total T.sums (l.xid, k) (sum_of T.sums l.xid k +ℤ d) (x, q)) ∙ at_x);
+    prepared = λ x is q r at. w.prepared x is q r (sym (get_added T.sums l.xid x k q (sum_of T.sums l.xid k +ℤ d) (λ same _. S3_rests (state_of T x) is (ap (λ z. standing (state_of T z)) same ∙ s.at_work t l own))) ∙ at);
+  }
+    where
+      -- whoever has touched that key is the branch itself
+      only : (y : XidName) (q : List ℕ) (b : ℤ) → q ≡ k → finmap.get (finmap.insert T.sums (l.xid, k) (sum_of T.sums l.xid k +ℤ d)) (y, q) ≡ Some b → y ≡ l.xid
+      only y q b same at =
+          by_bool (λ c. eq_by_cmp touch_cmp (y, q) (l.xid, k) ≡ c → cond c (Some (sum_of T.sums l.xid k +ℤ d)) (finmap.get T.sums (y, q)) ≡ Some b → y ≡ l.xid) (eq_by_cmp touch_cmp (y, q) (l.xid, k))
+          (λ _ here e. ap (λ (p : Touch). p.0) (touch_from (y, q) (l.xid, k) here))
+          (λ _ _ e.
+          let none = none_passes touch_cmp_total touch_cmp-IsAntisymmetric (λ p r. key_eq p.1 k && not (xid_eq p.0 l.xid)) T.sums (y, q) b free e in
+          (Decides-xid_eq y l.xid).0 (not-false (xid_eq y l.xid) (ap (λ c. c && not (xid_eq y l.xid)) (sym ((Decides-key_eq q k).1 same)) ∙ none)))
+          refl (sym (get-insert touch_cmp_total T.sums (l.xid, k) (sum_of T.sums l.xid k +ℤ d) (y, q)) ∙ at)
+
+  -- what was touched by a branch that is left when y is gone
+  left : (y x : XidName) (k : List ℕ) (r : ℤ) → finmap.get (sums_without T.sums y) (x, k) ≡ Some r → finmap.get T.sums (x, k) ≡ Some r
+  left y x k r at = by_bool (λ b. (if b then None else finmap.get T.sums (x, k)) ≡ Some r → finmap.get T.sums (x, k) ≡ Some r) (xid_eq x y) (λ _ e. cc) (λ _ e. e) (sym (get_without T.sums y x k) ∙ at)
+
+  -- a branch that is prepared when y is gone is another one, and was prepared
+  still : (y x : XidName) → is_S3 (state_of (gone y T) x) ≡ true → (is_S3 (state_of T x) ≡ true) × (x ≢ y)
+  still y x is =
+      by_bool (λ b. xid_eq y x ≡ b → is_S3 (if b then None else state_of T x) ≡ true → (is_S3 (state_of T x) ≡ true) × (x ≢ y)) (xid_eq y x)
+      (λ _ _ e. cc) (λ _ other e. (e, λ same. let z : true ≡ false = sym ((Decides-xid_eq y x).1 (sym same)) ∙ other in cc)) refl (sym (ap is_S3 (get_gone T y x)) ∙ is)
+
+  drops : (y : XidName) → Kept (gone y T)
+  drops y = record {
+    values = w.values;
+    alone = λ x z k a b at_x at_z. w.alone x z k a b (left y x k a at_x) (left y z k b at_z);
+    prepared = λ x is k r at. w.prepared x (still y x is).0 k r (left y x k r at);
+  }
+
+  -- y, which fits, is committed
+  commits : (y : XidName) → Fits T y → Kept (gone y (committed y T))
+  commits y fits = record {
+    values = λ k v at. value_fits (finmap.get T.values k) (finmap.get T.sums (y, k)) k v refl refl (sym (valued k) ∙ at);
+    alone = (drops y).alone;
+    prepared = λ x is k r at.
+        let old = still y x is in
+        let own = left y x k r at in
+        let untouched : finmap.get T.sums (y, k) ≡ None = nobody_else x k r own old.1 in
+        subst (λ (v : ℤ). is_within (v +ℤ r) ≡ true)
+        (sym (ap (λ o. unwrap_or o (pos 0)) (valued k) ∙ ap (λ o. unwrap_or (option_map (λ v. v +ℤ unwrap_or o (pos 0)) (finmap.get T.values k)) (pos 0)) untouched ∙ none_more (finmap.get T.values k)))
+        (w.prepared x old.0 k r own);
+  }
+    where
+      valued : (k : List ℕ) → finmap.get (committed y T).values k ≡ option_map (λ v. v +ℤ sum_of T.sums y k) (finmap.get T.values k)
+      valued k = get-map_values key_cmp_total key_cmp-IsAntisymmetric (λ q v. v +ℤ sum_of T.sums y q) T.values k
+
+      none_more : (o : Option ℤ) → unwrap_or (option_map (λ v. v +ℤ pos 0) o) (pos 0) ≡ unwrap_or o (pos 0)
+      none_more None = refl
+      none_more (Some v) = plus_none v
+
+      value_fits : (o q : Option ℤ) (k : List ℕ) (v : ℤ) → finmap.get T.values k ≡ o → finmap.get T.sums (y, k) ≡ q → option_map (λ u. u +ℤ sum_of T.sums y k) (finmap.get T.values k) ≡ Some v → is_within v ≡ true
+      value_fits None q k v here there at = let z : None ≡ Some v = sym (ap (option_map (λ u. u +ℤ sum_of T.sums y k)) here) ∙ at in cc
+      value_fits (Some u) None k v here there at =
+          let same : u +ℤ pos 0 ≡ v = some_same (ap (λ (z : ℤ). Some (u +ℤ z)) (sym (ap (λ o. unwrap_or o (pos 0)) there)) ∙ sym (ap (option_map (λ u. u +ℤ sum_of T.sums y k)) here) ∙ at) in
+          subst (λ (z : ℤ). is_within z ≡ true) (sym (plus_none u) ∙ same) (w.values k u here)
+      value_fits (Some u) (Some r) k v here there at =
+          let same : u +ℤ r ≡ v = some_same (ap (λ (z : ℤ). Some (u +ℤ z)) (sym (ap (λ o. unwrap_or o (pos 0)) there)) ∙ sym (ap (option_map (λ u. u +ℤ sum_of T.sums y k)) here) ∙ at) in
+          subst (λ (z : ℤ). is_within z ≡ true) (ap (λ o. unwrap_or o (pos 0) +ℤ r) here ∙ same) (fits k r there)
+
+      nobody_else : (x : XidName) (k : List ℕ) (r : ℤ) → finmap.get T.sums (x, k) ≡ Some r → x ≢ y → finmap.get T.sums (y, k) ≡ None
+      nobody_else x k r own other =
+          elim (finmap.get T.sums (y, k)) as (λ o. finmap.get T.sums (y, k) ≡ o → o ≡ None) [
+            | None ↦ λ _. refl
+            | Some q ↦ λ there. absurd (other (w.alone x y k r q own there))
+          ] refl
+
+  by_effect : {op : Op} {a : Answer} → Effect t T op a → Kept a.0
+  by_effect (Starts y free) = let p = put y Active refl in record { values = p.values; alone = p.alone; prepared = p.prepared }
+  by_effect (Joins y free there unprepared) = let p = put y Active refl in record { values = p.values; alone = p.alone; prepared = p.prepared }
+  by_effect (Fails y own) = let p = put y (RollbackOnly Failed) refl in record { values = p.values; alone = p.alone; prepared = p.prepared }
+  by_effect (Idles y own alone) = let p = put y Idle refl in record { values = p.values; alone = p.alone; prepared = p.prepared }
+  by_effect (Dooms k d l own) = put l.xid (RollbackOnly Transient) refl
+  by_effect (Adds k d l own free) = adds k d l own free
+  by_effect (Prepares y nobody unbroken) = prepares y (unbroken_fits T y unbroken)
+  by_effect (Commits y one_phase nobody may) = commits y (⊎_elim (λ (is : is_prepared T y ≡ true). w.prepared y is) (λ (unbroken : is_broken T.values T.sums y ≡ false). unbroken_fits T y unbroken) may)
+  by_effect (Drops op y c nobody tells) = drops y
+  -- the others change no state, no sum and no value
+  by_effect effect = record { values = w.values; alone = w.alone; prepared = w.prepared }
+
+-- ---- after a history
+
+run_kept : (h : History) (T : Tables) → Sound T → Kept T → Kept (tables_after h T)
+run_kept [] T s w = w
+run_kept (r ∷ h) T s w = run_kept h (next r.thread r.op T).0 (sound_after r.thread r.op T s) (by_effect r.thread T s w (effect_of r.thread r.op T))
+
+-- a declared value
+declared_within : (accounts : List (List ℕ × ℕ)) → list_all (λ d. nat_le d.1 1000000000000) accounts ≡ true → (k : List ℕ) (v : ℤ) → find key_cmp k (map (λ d. (d.0, pos d.1)) accounts) ≡ Some v → is_within v ≡ true
+declared_within [] all k v at = cc
+declared_within (d ∷ ds) all k v at =
+    let both : (nat_le d.1 1000000000000 ≡ true) × (list_all (λ e. nat_le e.1 1000000000000) ds ≡ true) = and_parts _ _ all in
+    let within : is_within (pos d.1) ≡ true = ap (λ b. b && nat_le d.1 1000000000000) (le-leb 0 d.1 (omega arith)) ∙ both.0 in
+    by_bool (λ b. cond b (Some (pos d.1)) (find key_cmp k (map (λ d. (d.0, pos d.1)) ds)) ≡ Some v → is_within v ≡ true) (eq_by_cmp key_cmp k d.0)
+    (λ _ e. let same : pos d.1 ≡ v = cc in subst (λ (z : ℤ). is_within z ≡ true) same within)
+    (λ _ e. declared_within ds both.1 k v e) at
+
+opening_kept : (accounts : List (List ℕ × ℕ)) → are_accounts accounts ≡ true → Kept (opening accounts)
+opening_kept accounts are = record {
+  values = λ k v at. declared_within accounts (and_parts _ _ (and_parts _ _ are).1).0 k v (sym (get-from_entries key_cmp_total (map (λ d. (d.0, pos d.1)) accounts) k) ∙ at);
+  alone = λ x y k s r at_x at_y. let z : None ≡ Some s = sym (get-empty touch_cmp (x, k)) ∙ at_x in cc;
+  prepared = λ x is k s at. let z : None ≡ Some s = sym (get-empty touch_cmp (x, k)) ∙ at in cc;
+}
+
+opens : (accounts : List (List ℕ × ℕ)) → IsOpening (opening accounts)
+opens accounts = record { opened = refl; associations = refl; states = refl; sums = refl; shut = refl }
+
+pub within_law : (accounts : List (List ℕ × ℕ)) (h : History) (k : List ℕ) → are_accounts accounts ≡ true → StaysWithin k h (opening accounts)
+within_law accounts h k are v at = within_bounds v ((run_kept h (opening accounts) (opening_sound (opening accounts) (opens accounts)) (opening_kept accounts are)).values k v at)

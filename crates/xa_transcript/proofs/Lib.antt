@@ -1,0 +1,11 @@
+pub mod Tasks
+pub mod Ledgers
+pub mod Sending
+pub mod Entering
+pub mod Branches
+pub mod Handing
+pub mod Carrying
+pub mod Opened
+pub mod ValueLemmas
+pub mod Pieces
+pub mod InJournals

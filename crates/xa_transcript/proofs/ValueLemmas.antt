@@ -1,0 +1,68 @@
+-- Each declared key has a value, whatever its manager has carried out.
+use Rattle.std.specs.Prelude.{◌≡◌, ℕ, ℤ, ◌+ℤ◌, ◌+◌, ◌-◌, ◌≤◌, zero, suc, pos, ◌<◌, ◌==◌, Bool, true, false, cond, ◌||◌, Option, None, Some, is_some, option_map, List, [], ◌∷◌, length, map, filter, refl}
+use Rattle.std.proofs.Common.{sym, ap, ◌∙◌, arith}
+use Rattle.std.specs.List.{list_any, slice_index_or}
+use Rattle.std.specs.FinMap as finmap
+use Rattle.std.specs.FinMap.{get-from_entries}
+use Rattle.std.specs.FinMap.Entries.{is_some-find}
+use Rattle.std.specs.Ordering.{eq_by_cmp}
+use Rattle.std.proofs.Math.Bool.{or-true}
+use Rattle.std.proofs.lemmas.Bool.{eq-eqb}
+use Rattle.xa_words.specs.Key.{key_cmp, key_eq}
+use Rattle.xa_words.specs.Orders.{key_cmp_total, key_eq-by_cmp, Decides-key_eq}
+use Rattle.xa_tables.specs.History.{History, accepted, added_in, value_after}
+use Rattle.xa_grammar.specs.declared.script.Declared.{Declared}
+use Rattle.xa_worker.specs.Journal.{requests}
+use Rattle.xa_switch.specs.Settling.{ManagerPart, Settling, find_manager, journal, journal_in, value, value_in}
+use Rattle.xa_grammar.specs.Content.{Content, accounts_of, managers_of}
+use Rattle.xa_transcript.specs.Values.{opened, AreOfScript}
+use Rattle.xa_base.proofs.Lists.{got, find_numbered}
+
+-- the keys that a manager is opened with
+abbrev names : ℕ → List Declared → List (List ℕ)
+names m keys = map (λ (e : List ℕ × ℤ). e.0) (map (λ (d : List ℕ × ℕ). (d.0, pos d.1)) (accounts_of m keys))
+
+abbrev is_listed : Bool → Declared → Declared → List Declared → Bool
+is_listed b d e keys =
+    let rest = filter (λ (f : Declared). f.manager == d.manager) keys in
+    list_any (λ k. key_eq d.key k) (map (λ (f : List ℕ × ℤ). f.0) (map (λ (f : List ℕ × ℕ). (f.0, pos f.1)) (map {B = List ℕ × ℕ} (λ (f : Declared). (f.key, f.value)) (cond b (e ∷ rest) rest))))
+
+-- a key that is declared is among them
+is_among : (keys : List Declared) (i : ℕ) (d : Declared) → i < length keys → d ≡ slice_index_or keys i d → list_any (λ k. key_eq d.key k) (names d.manager keys) ≡ true
+is_among [] i d below is = absurd (omega (arith, below))
+is_among (e ∷ keys) zero d below is =
+    let same : (e.manager == d.manager) ≡ true = eq-eqb e.manager d.manager (ap (λ (x : Declared). x.manager) (sym is)) in
+    let own : key_eq d.key e.key ≡ true = (Decides-key_eq d.key e.key).1 (ap (λ (x : Declared). x.key) is) in
+    ap (λ b. is_listed b d e keys) same ∙ ap (λ b. b || list_any (λ k. key_eq d.key k) (names d.manager keys)) own
+is_among (e ∷ keys) (suc i) d below is =
+    let rest : list_any (λ k. key_eq d.key k) (names d.manager keys) ≡ true = is_among keys i d (omega (arith, below)) is in
+    elim (e.manager == d.manager) as (λ b. is_listed b d e keys ≡ true) [ true ↦ ap (λ b. key_eq d.key e.key || b) rest ∙ or-true (key_eq d.key e.key) | false ↦ rest ]
+
+is_some-map : {A B : Type 0} (f : A → B) (o : Option A) → is_some (option_map f o) ≡ is_some o
+is_some-map f None = refl
+is_some-map f (Some x) = refl
+
+any_alike : {A : Type 0} (p q : A → Bool) → ((x : A) → p x ≡ q x) → (xs : List A) → list_any p xs ≡ list_any q xs
+any_alike p q alike [] = refl
+any_alike p q alike (x ∷ xs) = λ i. alike x i || any_alike p q alike xs i
+
+-- so it has a value at the opening
+has_value : (s : Content) (i : ℕ) (d : Declared) → i < length s.keys → d ≡ slice_index_or s.keys i d → is_some (finmap.get (opened s d.manager).values d.key) ≡ true
+has_value s i d below is =
+    let entries = map (λ (e : List ℕ × ℕ). (e.0, pos e.1)) (accounts_of d.manager s.keys) in
+    ap is_some (get-from_entries key_cmp_total entries d.key) ∙ is_some-find key_cmp d.key entries ∙ sym (any_alike (λ k. key_eq d.key k) (eq_by_cmp key_cmp d.key) (key_eq-by_cmp d.key) (names d.manager s.keys)) ∙ is_among s.keys i d below is
+
+-- so it has one after every history
+pub told : (s : Content) (h : History) (i : ℕ) (d : Declared) (value : Option ℕ) → i < length s.keys → d ≡ slice_index_or s.keys i d → option_map pos value ≡ value_after d.key h (opened s d.manager) → is_some value ≡ true
+told s h i d value below is e = sym (is_some-map (λ n. pos n) value) ∙ ap is_some e ∙ is_some-map (λ v. v +ℤ added_in d.key (accepted h) (opened s d.manager)) (finmap.get (opened s d.manager).values d.key) ∙ has_value s i d below is
+
+-- the settled value of a key is that after its manager's journal
+pub settled_value : (s : Content) (settled : Settling) → AreOfScript s settled.managers → (m : ℕ) (k : List ℕ) → 1 ≤ m → m ≤ managers_of s → value settled m k ≡ value_after k (requests (journal settled m)) (opened s m)
+settled_value s settled is m k low high =
+    let many = is.many in
+    let p = got settled.managers (m - 1) (omega (arith, low, high, many)) in
+    let place : 0 + (m - 1) + 1 ≡ m = omega (arith, low) in
+    let next : m - 1 + 1 ≡ m = omega (arith, low) in
+    let found : find_manager m settled.managers ≡ Some p.0 = ap (λ n. find_manager n settled.managers) (sym place) ∙ find_numbered (λ (q : ManagerPart). q.number) 0 settled.managers (λ j q at. let number = is.numbers j q at in omega (arith, number)) (m - 1) p.0 p.1 in
+    let first : p.0.first ≡ opened s m = is.first (m - 1) p.0 p.1 ∙ ap (opened s) next in
+    ap (value_in k) found ∙ (λ i. value_after k (requests (sym (ap journal_in found) i)) (first i))

@@ -1,0 +1,53 @@
+use Rattle.std.proofs.Common.{◌≡◌, ◌<◌, sym, ap, ◌∙◌, subst, ◌++◌, ◌∷◌, ◌+◌, [], length, map, take, option_map, pos, slice_index_or, arith}
+use Rattle.std.specs.Prelude.{All}
+use Rattle.std.specs.List.Sorted.{IsPermutation}
+use Rattle.std.proofs.lemmas.List.{map-append, take_all}
+use Rattle.std.proofs.lemmas.List.Elements.{All-push}
+use Rattle.std.proofs.lemmas.List.Sorted.{IsPermutation-map, All-permutation}
+use Rattle.xa_worker.specs.Journal.{requests}
+use Rattle.xa_switch.specs.Settling.{journal}
+use Rattle.xa_grammar.specs.declared.script.Declared.{Declared}
+use Rattle.xa_grammar.specs.Content.{IsOfManager}
+use Rattle.xa_transcript.specs.Values.{name_of, IsWorth}
+use Rattle.xa_base.proofs.Lists.{one_more}
+use Rattle.xa_transcript.proofs.ValueLemmas.{told, settled_value}
+use Rattle.xa_transcript.proofs.values.values_of.Goals as goal
+
+pub unwrap-value-requires : goal.unwrap-value-requires
+unwrap-value-requires c =
+    let s = c.args.script.now in
+    let i = c.loop-declared.declared-index in
+    let d = c.declared-item.result in
+    let there = c.declared-item.is ∙ ap (λ l. slice_index_or l i d) c.keys-keys.ensures.keys in
+    let below : i < length s.keys = subst (λ l. i < length l) c.keys-keys.ensures.keys c.loop-declared-test.true in
+    let of : IsOfManager s d = subst (IsOfManager s) (sym c.declared-item.is) (c.keys-keys.ensures.managers i d c.loop-declared-test.true) in
+    told s (requests (journal c.args.settled.now d.manager)) i d c.value.result below there (c.value.ensures.value ∙ settled_value s c.args.settled.now c.requires d.manager d.key of.0 of.1)
+
+pub loop-declared-preserved : goal.loop-declared-preserved
+loop-declared-preserved c =
+    let s = c.args.script.now in
+    let settled = c.args.settled.now in
+    let i = c.loop-declared.declared-index in
+    let d = c.declared-item.result in
+    let keys = c.keys-keys.result.now in
+    let values = c.loop-declared.values.items in
+    let e : Declared = record { manager = d.manager; key = d.key; value = c.unwrap-value.result } in
+    let of : IsOfManager s d = subst (IsOfManager s) (sym c.declared-item.is) (c.keys-keys.ensures.managers i d c.loop-declared-test.true) in
+    let worth : IsWorth s settled e = sym (settled_value s settled c.requires d.manager d.key of.0 of.1) ∙ sym c.value.ensures.value ∙ ap (option_map (λ n. pos n)) c.unwrap-value.ensures in
+    let more : map name_of (values ++ e ∷ []) ≡ map name_of (take (i + 1) keys) =
+    map-append name_of values (e ∷ []) ∙ ap (λ l. l ++ name_of d ∷ []) c.loop-declared.invariant.named ∙ sym (map-append name_of (take i keys) (d ∷ [])) ∙ ap (map name_of) (sym (one_more keys i d c.loop-declared-test.true c.declared-item.is)) in
+    record {
+      named = ap (map name_of) c.in_ok-push.ensures.items ∙ more;
+      worth = subst (All (IsWorth s settled)) (sym c.in_ok-push.ensures.items) (All-push (IsWorth s settled) values e c.loop-declared.invariant.worth worth);
+    }
+
+pub returns : goal.returns
+returns c =
+    let keys = c.keys-keys.result.now in
+    let values = c.loop-declared.values.items in
+    let named = c.loop-declared.invariant.named ∙ ap (map name_of) (take_all c.loop-declared.declared-index keys (omega arith) ∙ c.keys-keys.ensures.keys) in
+    record {
+      all = subst (λ l. IsPermutation l (map name_of c.sort.new.self.items)) named (IsPermutation-map name_of values c.sort.new.self.items c.in_ok-sort.ensures.permutation);
+      worth = All-permutation (IsWorth c.args.script.now c.args.settled.now) values c.sort.new.self.items c.in_ok-sort.ensures.permutation c.loop-declared.invariant.worth;
+      rising = c.in_ok-sort.ensures.sorted;
+    }
