@@ -1,11 +1,13 @@
 -- Lemmas of lists: what is in their places, lists side by side, and numbers that follow each other.
 use Rattle.std.proofs.Common.{append_assoc, append-nil, ◌≡◌, ◌≢◌, ℕ, ◌+◌, ◌<◌, ◌≤◌, ◌⊎◌, ⊎_elim, zero, suc, Bool, true, false, cond, ◌==◌, ◌||◌, List, [], ◌∷◌, ◌++◌, length, map, Some, None, sym, refl, ap, ◌∙◌, subst, inl, inr, arith, length-append, take}
 use Rattle.std.specs.Prelude.{slice_get, slice_set, All}
-use Rattle.std.specs.List.{Contains, slice_index_or, range_with_len, list_any, find}
+use Rattle.std.specs.List.{AllPairs, Contains, filter, flat_map, slice_index_or, range_with_len, list_any, find}
 use Rattle.std.proofs.lemmas.Bool.{cases_eq, eq-eqb, eqb-true, false_from_ne_true}
 use Rattle.std.proofs.lemmas.List.{length-map, length-set, get_or-set_other, get_or-set_same}
 use Rattle.std.proofs.lemmas.Option.{slice_get_within, slice_get-get_or, slice_get_cases, get_or_from_slice_get}
 use Rattle.std.proofs.Math.Seq.{take-suc}
+use Rattle.std.proofs.lemmas.List.Elements.{All-push, filter-append}
+use Rattle.std.proofs.lemmas.List.Kept.{AllPairs-cons}
 use Rattle.xa_base.specs.Lists.{Begins, Pairwise}
 
 pub some_same : {A : Type 0} (x y : A) → Some x ≡ Some y → x ≡ y
@@ -178,5 +180,54 @@ side_to P g xs ys all = record {
 pub begins_same : {X : Type 0} (xs ys : List X) → ys ≡ xs → Begins xs ys
 begins_same xs ys e = ([], e ∙ sym (append-nil xs))
 
+pub same_begins : {X : Type 0} (xs : List X) → Begins xs xs
+same_begins xs = begins_same xs xs refl
+
 pub begins_on : {X : Type 0} (xs ys zs : List X) → Begins xs ys → Begins ys zs → Begins xs zs
 begins_on xs ys zs p q = (p.0 ++ q.0, q.1 ∙ ap (λ l. l ++ q.0) p.1 ∙ append_assoc xs p.0 q.0)
+
+-- ---- one more at the end
+
+pub snoc_parts : {A : Type 0} (xs ys : List A) (x y : A) → xs ++ x ∷ [] ≡ ys ++ y ∷ [] → (xs ≡ ys) × (x ≡ y)
+snoc_parts [] [] x y e = (refl, cc)
+snoc_parts [] (b ∷ ys) x y e =
+    let size = ap (λ l. length l) e in
+    absurd (omega (arith, size, length-append ys (y ∷ [])))
+snoc_parts (a ∷ xs) [] x y e =
+    let size = ap (λ l. length l) e in
+    absurd (omega (arith, size, length-append xs (x ∷ [])))
+snoc_parts (a ∷ xs) (b ∷ ys) x y e =
+    let head : a ≡ b = cc in
+    let tail : xs ++ x ∷ [] ≡ ys ++ y ∷ [] = cc in
+    let rest = snoc_parts xs ys x y tail in
+    (λ i. head i ∷ rest.0 i, rest.1)
+
+pub pairs_push : {A : Type 0} (R : A → A → Type 0) (xs : List A) (y : A) → AllPairs R xs → All (λ x. R x y) xs → AllPairs R (xs ++ y ∷ [])
+pairs_push R [] y pairs all = λ i j d below within. absurd (omega (arith, below, within))
+pairs_push R (x ∷ xs) y pairs all =
+    AllPairs-cons R x (xs ++ y ∷ [])
+    (All-push (R x) xs y (λ k d below. pairs 0 (suc k) d (omega arith) (omega (arith, below))) (all 0 x (omega arith)))
+    (pairs_push R xs y (λ i j d below within. pairs (suc i) (suc j) d (omega (arith, below)) (omega (arith, within))) (λ k d below. all (suc k) d (omega (arith, below))))
+
+-- ---- what passes a filter, of lists one after the other
+
+pub flat_none : {X A : Type 0} (p : A → Bool) (f : X → List A) (xs : List X) → ((k : ℕ) (x : X) → slice_get xs k ≡ Some x → filter p (f x) ≡ []) → filter p (flat_map f xs) ≡ []
+flat_none p f [] all = refl
+flat_none p f (x ∷ xs) all = filter-append p (f x) (flat_map f xs) ∙ (λ i. all 0 x refl i ++ flat_none p f xs (λ k. all (suc k)) i)
+
+-- where that of one alone passes
+pub flat_one : {X A : Type 0} (p : A → Bool) (f : X → List A) (xs : List X) (k : ℕ) (x : X) → slice_get xs k ≡ Some x → ((j : ℕ) (y : X) → j ≢ k → slice_get xs j ≡ Some y → filter p (f y) ≡ []) → filter p (flat_map f xs) ≡ filter p (f x)
+flat_one p f [] k x at others = absurd (cc)
+flat_one {X} p f (y ∷ xs) zero x at others =
+    let same : y ≡ x = some_same y x at in
+    filter-append p (f y) (flat_map f xs)
+    ∙ ap (λ l. filter p (f y) ++ l) (flat_none p f xs (λ k z at_z. others (suc k) z (λ e. absurd (omega (arith, e))) at_z))
+    ∙ append-nil (filter p (f y))
+    ∙ ap (λ (z : X). filter p (f z)) same
+flat_one p f (y ∷ xs) (suc k) x at others =
+    filter-append p (f y) (flat_map f xs)
+    ∙ (λ i. others 0 y (λ e. absurd (omega (arith, e))) refl i ++ flat_one p f xs k x at (λ j z differs at_z. others (suc j) z (λ e. differs (omega (arith, e))) at_z) i)
+
+pub flat_push : {X A : Type 0} (f : X → List A) (xs : List X) (x : X) → flat_map f (xs ++ x ∷ []) ≡ flat_map f xs ++ f x
+flat_push f [] x = append-nil (f x)
+flat_push f (y ∷ xs) x = ap (λ l. f y ++ l) (flat_push f xs x) ∙ sym (append_assoc (f y) (flat_map f xs) (f x))

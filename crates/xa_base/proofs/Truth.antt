@@ -9,6 +9,10 @@ use Rattle.std.proofs.lemmas.Bool.{false_from_ne_true, eqb-true, eq-eqb}
 pub by_if : {A : Type 0} (P : A → Type 0) (b : Bool) (p q : A) → (b ≡ true → P p) → (b ≡ false → P q) → P (if b then p else q)
 by_if P b p q one two = elim b as (λ c. b ≡ c → P (if c then p else q)) [ true ↦ one | false ↦ two ] refl
 
+pub at_true : {A : Type 0} (b : Bool) (p q : A) → b ≡ true → (if b then p else q) ≡ p
+at_true true p q e = refl
+at_true false p q e = cc
+
 pub at_false : {A : Type 0} (b : Bool) (p q : A) → b ≡ false → (if b then p else q) ≡ q
 at_false true p q e = cc
 at_false false p q e = refl

@@ -1,4 +1,4 @@
-pub mod Bringing
-pub mod Keeping
+pub mod Joined
+pub mod Kept
 pub mod Settled
 pub mod Members

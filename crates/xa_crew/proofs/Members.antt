@@ -3,26 +3,26 @@ use Rattle.std.proofs.Common.{◌≡◌, zero, suc, List, [], ◌∷◌, length,
 use Rattle.std.specs.Prelude.{All}
 use Rattle.xa_desk.specs.DeskView.{DeskView}
 use Rattle.xa_desk.specs.GoesOn.{GoesOn}
-use Rattle.xa_crew.specs.declared.attending.Attending.{Attending}
-use Rattle.xa_crew.specs.declared.attending.Worked.{Worked}
+use Rattle.xa_crew.specs.declared.client_job.ClientJob.{ClientJob}
+use Rattle.xa_crew.specs.declared.client_job.Worked.{Worked}
 use Rattle.xa_base.specs.Lists.{Pairwise}
 use Rattle.xa_crew.specs.Pieces.{HasGone}
 use Rattle.xa_crew.specs.Run.{Member, member_of, HasRun}
 use Rattle.xa_base.proofs.Lists.{tail_side, side_of, side_to}
 
-abbrev pub members : {C : Type 0} → List (Attending C) → List (Worked C) → List (Member C)
+abbrev pub members : {C : Type 0} → List (ClientJob C) → List (Worked C) → List (Member C)
 members [] ws = []
 members (a ∷ gs) [] = []
 members (a ∷ gs) (w ∷ ws) = member_of a w ∷ members gs ws
 
 -- what is read of each member and of what its thread was given
-pub read_given : {C X : Type 0} (f : Member C → X) (g : Attending C → X) → ((a : Attending C) (w : Worked C) → f (member_of a w) ≡ g a) → (gs : List (Attending C)) (ws : List (Worked C)) → length ws ≡ length gs → map f (members gs ws) ≡ map g gs
+pub read_given : {C X : Type 0} (f : Member C → X) (g : ClientJob C → X) → ((a : ClientJob C) (w : Worked C) → f (member_of a w) ≡ g a) → (gs : List (ClientJob C)) (ws : List (Worked C)) → length ws ≡ length gs → map f (members gs ws) ≡ map g gs
 read_given f g same [] ws many = refl
 read_given f g same (a ∷ gs) [] many = absurd (omega (arith, many))
 read_given f g same (a ∷ gs) (w ∷ ws) many = λ i. same a w i ∷ read_given f g same gs ws (omega (arith, many)) i
 
 -- and of what it came to
-pub read_come : {C X : Type 0} (f : Member C → X) (g : Worked C → X) → ((a : Attending C) (w : Worked C) → f (member_of a w) ≡ g w) → (gs : List (Attending C)) (ws : List (Worked C)) → length ws ≡ length gs → map f (members gs ws) ≡ map g ws
+pub read_come : {C X : Type 0} (f : Member C → X) (g : Worked C → X) → ((a : ClientJob C) (w : Worked C) → f (member_of a w) ≡ g w) → (gs : List (ClientJob C)) (ws : List (Worked C)) → length ws ≡ length gs → map f (members gs ws) ≡ map g ws
 read_come f g same [] [] many = refl
 read_come f g same [] (w ∷ ws) many = absurd (omega (arith, many))
 read_come f g same (a ∷ gs) [] many = absurd (omega (arith, many))
@@ -30,19 +30,19 @@ read_come f g same (a ∷ gs) (w ∷ ws) many = λ i. same a w i ∷ read_come f
 
 module _ {C : Type 0} (works : C → DeskView → C → DeskView → Type 0) where
   -- each thread ran with its client
-  abbrev pub Ran : Attending C → Worked C → Type 0
+  abbrev pub Ran : ClientJob C → Worked C → Type 0
   Ran a w = HasRun works (member_of a w)
 
-  pub all_ran : (gs : List (Attending C)) (ws : List (Worked C)) → Pairwise Ran gs ws → All (HasRun works) (members gs ws)
+  pub all_ran : (gs : List (ClientJob C)) (ws : List (Worked C)) → Pairwise Ran gs ws → All (HasRun works) (members gs ws)
   all_ran [] ws all k d below = absurd (omega (arith, below))
   all_ran (a ∷ gs) [] all k d below = absurd (omega (arith, below))
   all_ran (a ∷ gs) (w ∷ ws) all zero d below = all.each 0 a w refl refl
   all_ran (a ∷ gs) (w ∷ ws) all (suc k) d below = all_ran gs ws (tail_side Ran a gs w ws all) k d (omega (arith, below))
 
   -- so each desk went on, and ended
-  pub all_gone : ((old mid new : DeskView) → GoesOn old mid → GoesOn mid new → GoesOn old new) → (gs : List (Attending C)) (ws : List (Worked C)) → Pairwise Ran gs ws → Pairwise HasGone (map (λ a. a.desk) gs) (map (λ w. w.desk) ws)
+  pub all_gone : ((old mid new : DeskView) → GoesOn old mid → GoesOn mid new → GoesOn old new) → (gs : List (ClientJob C)) (ws : List (Worked C)) → Pairwise Ran gs ws → Pairwise HasGone (map (λ a. a.desk) gs) (map (λ w. w.desk) ws)
   all_gone further gs ws all =
-      side_of HasGone (λ (a : Attending C). a.desk) gs (map (λ w. w.desk) ws)
+      side_of HasGone (λ (a : ClientJob C). a.desk) gs (map (λ w. w.desk) ws)
       (side_to (λ a e. HasGone a.desk e) (λ (w : Worked C). w.desk) gs ws (record {
         as_many = all.as_many;
         each = λ k a w at at'.

@@ -11,7 +11,7 @@ use Rattle.xa_desk.specs.DeskView.{DeskView}
 use Rattle.xa_desk.specs.Ended.{EndedView, Ends}
 use Rattle.xa_desk.specs.GoesOn.{GoesOut}
 use Rattle.xa_desk.specs.Lanes.{new_ledgers}
-use Rattle.xa_worker.specs.Workers.{Working}
+use Rattle.xa_worker.specs.Workers.{WorkerView}
 use Rattle.xa_worker.specs.Done.{Served}
 use Rattle.xa_switch.specs.declared.plan.Plan.{Plan}
 use Rattle.xa_switch.specs.Plans.{use_async}
@@ -63,7 +63,7 @@ module _ (out : GoOut) (p : Plan) (ended : List EndedView) (done : List Served) 
       let d = got r.desks k (omega (arith, within, many)) in
       (d.0, r.opened.desks k d.0 d.1, r.gone.each k d.0 e d.1 at)
 
-  worker_of : (k : ℕ) (d : Served) → slice_get done k ≡ Some d → (w : Working) × IsNewWorker p k w × HasServed w d
+  worker_of : (k : ℕ) (d : Served) → slice_get done k ≡ Some d → (w : WorkerView) × IsNewWorker p k w × HasServed w d
   worker_of k d at =
       let within = slice_get_within done k d at in
       let many = r.served.as_many in
@@ -74,7 +74,7 @@ module _ (out : GoOut) (p : Plan) (ended : List EndedView) (done : List Served) 
   ended_thread k e at = let d = desk_of k e at in ap (λ (x : DeskSeat). x.thread) (gone_seat out d.0 e d.2) ∙ ap (λ (x : DeskView). x.thread) d.1.made
 
   done_number : (k : ℕ) (d : Served) → slice_get done k ≡ Some d → d.number ≡ k + 1
-  done_number k d at = let w = worker_of k d at in w.2.same.number ∙ ap (λ (x : Working). x.number) w.1.made
+  done_number k d at = let w = worker_of k d at in w.2.same.number ∙ ap (λ (x : WorkerView). x.number) w.1.made
 
   ended_opening : (k : ℕ) (e : EndedView) → slice_get ended k ≡ Some e → desk_opening e ≡ p.opening
   ended_opening k e at =
@@ -129,7 +129,7 @@ module _ (out : GoOut) (p : Plan) (ended : List EndedView) (done : List Served) 
       gone_ledgers out d.0 e d.2 ∙ ap (λ l. length l) ledgers ∙ length-map (use_async p.managers.items) _ ∙ length-map p.managers.items _
 
   done_threads : (k : ℕ) (d : Served) → slice_get done k ≡ Some d → d.manager.threads ≡ p.threads
-  done_threads k d at = let w = worker_of k d at in w.2.same.threads ∙ ap (λ (x : Working). x.manager.threads) w.1.made
+  done_threads k d at = let w = worker_of k d at in w.2.same.threads ∙ ap (λ (x : WorkerView). x.manager.threads) w.1.made
 
   -- all of them
   pub all_pieces : AreAll ended done

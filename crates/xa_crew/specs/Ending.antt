@@ -6,6 +6,7 @@ use Rattle.xa_words.specs.declared.code.Code.{Code}
 use Rattle.xa_desk.specs.DeskView.{DeskView}
 use Rattle.xa_desk.specs.Ended.{EndedView, Ends}
 use Rattle.xa_desk.specs.GoesOn.{GoesOn}
+use Rattle.xa_desk.specs.Kept.{HoldsNone}
 use Rattle.xa_switch.specs.Completing.{CollectsRedeemed}
 use Rattle.xa_base.specs.Lists.{Chain}
 
@@ -27,9 +28,10 @@ pub data EndsNumber (number : ℕ) (old new : Telling) : Type 0 where
 abbrev pub EndsNumbers : Telling → Telling → Type 0
 EndsNumbers first last = Chain EndsNumber first (range_with_len 1 first.0.handles) last
 
--- The same, and then the desk ends. By all of that it went on.
+-- The same, so that nothing is kept, and then the desk ends. By all of that it went on.
 pub record EndsDesk (old : DeskView) (told : Told) (ended : EndedView) (told' : Told) : Type 0 where
   pub emptied : DeskView
   pub collects : EndsNumbers (old, told) (emptied, told')
+  pub none : HoldsNone emptied
   pub goes_on : GoesOn old emptied
   pub ends : Ends emptied ended

@@ -3,7 +3,7 @@ use Rattle.std.specs.Prelude.{◌≡◌, List}
 use Rattle.xa_desk.specs.DeskView.{DeskView}
 use Rattle.xa_desk.specs.Ended.{EndedView, Ends}
 use Rattle.xa_desk.specs.GoesOn.{GoesOn}
-use Rattle.xa_worker.specs.Workers.{Working}
+use Rattle.xa_worker.specs.Workers.{WorkerView}
 use Rattle.xa_worker.specs.Done.{Served, IsServed, SameServed}
 use Rattle.xa_switch.specs.declared.plan.Plan.{Plan}
 use Rattle.xa_switch.specs.Plans.{IsSound}
@@ -18,7 +18,7 @@ pub record HasGone (d : DeskView) (e : EndedView) : Type 0 where
   pub ends : Ends last e
 
 -- The worker that has run is this one, and the last end mark was taken.
-pub record HasServed (w : Working) (d : Served) : Type 0 where
+pub record HasServed (w : WorkerView) (d : Served) : Type 0 where
   pub same : SameServed w d
   pub served : IsServed d
   pub seat : seat_of_done d ≡ seat_of_worker w
@@ -27,7 +27,7 @@ pub record HasServed (w : Working) (d : Served) : Type 0 where
 -- workers have run.
 pub record ArePiecesOf (p : Plan) (ended : List EndedView) (done : List Served) : Type 0 where
   pub desks : List DeskView
-  pub workers : List Working
+  pub workers : List WorkerView
   pub sound : IsSound p
   pub opened : AreOfOneOpening p desks workers
   pub gone : Pairwise HasGone desks ended

@@ -1,10 +1,11 @@
 -- A run of clients in threads: what each client and its desk come to, and what is settled.
 use Rattle.std.specs.Prelude.{◌≡◌, ◌≤◌, List, [], map, vec_capacity}
 use Rattle.std.specs.List.{All}
+use Rattle.xa_base.specs.declared.limits.TheConstants.{MOST_HANDLES}
 use Rattle.xa_desk.specs.DeskView.{DeskView}
 use Rattle.xa_desk.specs.Ended.{EndedView}
 use Rattle.xa_desk.specs.GoesOn.{GoesOn}
-use Rattle.xa_worker.specs.Workers.{Working}
+use Rattle.xa_worker.specs.Workers.{WorkerView}
 use Rattle.xa_worker.specs.Done.{Served}
 use Rattle.xa_switch.specs.declared.plan.Plan.{Plan}
 use Rattle.xa_switch.specs.declared.plan.OpenFault.{OpenFault}
@@ -16,9 +17,9 @@ use Rattle.xa_switch.specs.Closing.{settling}
 use Rattle.xa_switch.specs.OfPlans.{IsOfPlan}
 use Rattle.xa_crew.specs.declared.fault.CrewFault.{CrewFault}
 use Rattle.xa_crew.specs.declared.fault.CrewFault.TheVariants as crew
-use Rattle.xa_crew.specs.declared.attending.Attending.{Attending}
-use Rattle.xa_crew.specs.declared.attending.Attended.{Attended}
-use Rattle.xa_crew.specs.declared.attending.Worked.{Worked}
+use Rattle.xa_crew.specs.declared.client_job.ClientJob.{ClientJob}
+use Rattle.xa_crew.specs.declared.client_job.Attended.{Attended}
+use Rattle.xa_crew.specs.declared.client_job.Worked.{Worked}
 use Rattle.xa_base.specs.Lists.{Pairwise}
 use Rattle.xa_desk.specs.Kept.{AllKept}
 use Rattle.xa_crew.specs.Ending.{EndsDesk}
@@ -47,13 +48,13 @@ pub record HasRun {C : Type 0} (works : C → DeskView → C → DeskView → Ty
   pub ends : EndsDesk left [] t.ended t.attended.outstanding.items
 
 -- What is outstanding at the desk is kept, and there is room to tell what may be outstanding at the end.
-pub record IsReady {C : Type 0} (a : Attending C) : Type 0 where
+pub record IsReady {C : Type 0} (a : ClientJob C) : Type 0 where
   pub kept : AllKept a.desk
   pub none : a.outstanding.items ≡ []
-  pub room : 32 ≤ vec_capacity a.outstanding
+  pub room : MOST_HANDLES ≤ vec_capacity a.outstanding
 
 -- A client's thread as a member, by what it was given and what it came to.
-abbrev pub member_of : {C : Type 0} → Attending C → Worked C → Member C
+abbrev pub member_of : {C : Type 0} → ClientJob C → Worked C → Member C
 member_of a w = record { client = a.client; desk = a.desk; attended = w.attended; ended = w.desk }
 
 -- ---- the whole run
@@ -65,7 +66,7 @@ pub record IsRun {C : Type 0} (works : C → DeskView → C → DeskView → Typ
     (attended : List (Attended C)) (settled : Settling) : Type 0 where
   -- the threads and the workers of one opening of the plan
   pub members : List (Member C)
-  pub workers : List Working
+  pub workers : List WorkerView
   pub sound : IsSound p
   pub opened : AreOfOneOpening p (map (λ t. t.desk) members) workers
   -- each thread has the client at its place, and ran with it

@@ -6,13 +6,11 @@ ghost use Rattle.xa_desk.specs.Kept.{AllKept, HoldsNone};
 ghost use Rattle.xa_crew.specs.Ending.{EndsNumber, EndsNumbers, EndsDesk};
 
 use std::sync::Wait;
+use xa_base::MOST_HANDLES;
 use xa_desk::laws::desks_go_on;
 use xa_desk::{Desk, EndedDesk, Idle};
 use xa_switch::laws::outstanding_operations_stay_kept;
 use xa_words::Code;
-
-/// No desk has more handles.
-pub const MOST_HANDLES: usize = 32;
 
 // Collects what the desk keeps under the number, and tells it.
 fn end_number<R: Wait, I: Idle>(
@@ -39,12 +37,12 @@ fn end_number<R: Wait, I: Idle>(
 
 // The same for the number of each handle, in rising order.
 fn end_numbers<R: Wait, I: Idle>(rt: &R, desk: &mut Desk, idle: &mut I, told: &mut Vec<(u32, Code)>)
-    requires { length told.old.items + 32 ≤ vec_capacity told.old }
+    requires { length told.old.items + MOST_HANDLES ≤ vec_capacity told.old }
     ensures ends { EndsNumbers (desk.old, told.old.items) (desk.new, told.new.items) }
     ensures none { HoldsNone desk.new }
     ensures goes_on { GoesOn desk.old desk.new }
     ensures idled { I.leads idle.old idle.new }
-    ensures few { length told.new.items ≤ length told.old.items + 32 }
+    ensures few { length told.new.items ≤ length told.old.items + MOST_HANDLES }
     ensures room { vec_capacity told.new ≡ vec_capacity told.old }
 {
     desks_go_on();
@@ -65,10 +63,10 @@ pub fn end_desk<R: Wait, I: Idle>(
     told: &mut Vec<(u32, Code)>,
 ) -> EndedDesk
     requires kept { AllKept desk }
-    requires room { length told.old.items + 32 ≤ vec_capacity told.old }
+    requires room { length told.old.items + MOST_HANDLES ≤ vec_capacity told.old }
     ensures ends { EndsDesk desk told.old.items result told.new.items }
     ensures idled { I.leads idle.old idle.new }
-    ensures few { length told.new.items ≤ length told.old.items + 32 }
+    ensures few { length told.new.items ≤ length told.old.items + MOST_HANDLES }
     ensures room { vec_capacity told.new ≡ vec_capacity told.old }
 {
     outstanding_operations_stay_kept();

@@ -7,22 +7,22 @@
 //! whole. A caller with one thread ends its desks by `end_desk` and settles them by `settle_all`.
 #![tactic(auto)]
 
-mod attending;
 mod client;
+mod client_job;
 mod ending;
 mod fault;
 mod hands;
 mod job;
 mod run;
-mod serving;
 mod settling;
 #[cfg(test)]
 mod tests;
 mod word;
+mod worker_job;
 
-pub use attending::Attended;
 pub use client::Client;
-pub use ending::{MOST_HANDLES, end_desk};
+pub use client_job::Attended;
+pub use ending::end_desk;
 pub use fault::CrewFault;
 pub use run::{Run, run_clients};
 pub use settling::settle_all;

@@ -4,12 +4,12 @@ ghost use Rattle.xa_switch.specs.Openings.{AreOfOneOpening};
 ghost use Rattle.xa_switch.specs.Plans.{IsSound};
 ghost use Rattle.xa_crew.specs.Run.{IsRun};
 
-use crate::attending::{Attended, Worked, attendings_of};
 use crate::client::Client;
+use crate::client_job::{Attended, Worked, client_jobs_of};
 use crate::fault::CrewFault;
 use crate::hands::do_all;
-use crate::serving::servings_of;
 use crate::settling::settle_all;
+use crate::worker_job::worker_jobs_of;
 use std::alloc::{AllocError, Global};
 use std::sync::Wait;
 use std::thread::Threads;
@@ -71,9 +71,9 @@ fn run_opened<
     ensures { IfOk result (λ r. IsRun C.works plan.now clients.items r.clients.items r.settled) }
 {
     outstanding_operations_stay_kept();
-    let attendings = attendings_of(alloc, clients, desks)?;
-    let servings = servings_of(alloc, workers, paces)?;
-    let (worked, done) = do_all(rt, alloc, attendings, servings)?;
+    let client_jobs = client_jobs_of(alloc, clients, desks)?;
+    let worker_jobs = worker_jobs_of(alloc, workers, paces)?;
+    let (worked, done) = do_all(rt, alloc, client_jobs, worker_jobs)?;
     let (clients, desks) = apart(alloc, worked)?;
     desks_go_on();
     let settled = settle_all(rt, alloc, plan, desks, done)?;

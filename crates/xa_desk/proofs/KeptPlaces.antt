@@ -6,6 +6,7 @@ use Rattle.std.specs.FinMap as map
 use Rattle.std.proofs.lemmas.List.{get_or-set_same, get_or-set_other, get_or_past}
 use Rattle.std.proofs.lemmas.Bool.{cases_eq, cases_lt, false_from_ne_true, eqb-true, eq-eqb}
 use Rattle.slab.specs.Slab.{Slab, get, entries_from}
+use Rattle.xa_base.proofs.Truth.{tied_true, tied_false}
 use Rattle.xa_words.specs.declared.request.Completion.{Completion}
 use Rattle.xa_desk.specs.LedgerView.{LedgerView}
 use Rattle.xa_desk.specs.declared.slot.Slot.{Slot}
@@ -13,12 +14,6 @@ use Rattle.xa_desk.specs.declared.operation.Operation.{Operation}
 use Rattle.xa_desk.specs.DeskView.{IsLeastFree}
 use Rattle.xa_desk.specs.Slots.{kept_of, IsBooks}
 use Rattle.xa_desk.proofs.Books.{Rehandles}
-
-pub tied_false : (a b : ℕ) → a ≢ b → eq_by_cmp nat_cmp a b ≡ false
-tied_false a b differs = false_from_ne_true (eq_by_cmp nat_cmp a b) (λ e. differs (eqb-true a b (sym (unsigned_tied a b) ∙ e)))
-
-pub tied_true : (a b : ℕ) → a ≡ b → eq_by_cmp nat_cmp a b ≡ true
-tied_true a b same = unsigned_tied a b ∙ eq-eqb a b same
 
 find_below : (k q : ℕ) (table : List (Option Operation)) → q < k → map.find nat_cmp q (entries_from k table) ≡ None
 find_below k q [] below = refl

@@ -9,6 +9,6 @@ pub mod KeyRows
 pub mod Ties
 pub mod Begins
 pub mod Desks
-pub mod Growing
-pub mod Going
+pub mod Growth
+pub mod GoesOn
 pub mod Waiting

@@ -11,7 +11,7 @@ use Rattle.xa_desk.specs.Lanes.{submitted, after_full, after_fulls}
 use Rattle.xa_desk.specs.Looks.{Looks, EndsQuiet, Collects, TakesKept, CollectsKept, CollectsLeast}
 use Rattle.xa_desk.specs.Tickets.{LeavesTickets, LeavesOthers}
 use Rattle.xa_desk.proofs.Ledgers.{sent_keeps_out, unsent, collected_keeps_out}
-use Rattle.xa_desk.proofs.KeptPlaces.{tied_true, tied_false}
+use Rattle.xa_base.proofs.Truth.{tied_true, tied_false}
 use Rattle.xa_desk.proofs.Looks.{looks_owned, quiet_looks}
 use Rattle.xa_desk.proofs.Ties.{fulls_alike}
 

@@ -1,5 +1,6 @@
 -- How a book keeps what contracts see of a desk.
 use Rattle.std.specs.Prelude.{◌≡◌, ℕ, ◌+◌, ◌≤◌, [], length, vec_capacity}
+use Rattle.xa_base.specs.declared.limits.TheConstants.{MOST_HANDLES, MOST_MANAGERS, MOST_THREADS}
 use Rattle.slab.specs.Slab.{slab_len}
 use Rattle.xa_desk.specs.DeskView.{DeskView}
 use Rattle.xa_desk.specs.Slots.{IsBooks, AreKeys, kept_of, planned_total}
@@ -20,9 +21,9 @@ desk_of b = record {
 
 -- threads are numbered from 1 to 8, there are 1 to 32 handles, and there are 1 to 8 managers
 pub record IsWithinLimits (t h m : ℕ) : Type 0 where
-  pub thread : (1 ≤ t) × (t ≤ 8)
-  pub handles : (1 ≤ h) × (h ≤ 32)
-  pub managers : (1 ≤ m) × (m ≤ 8)
+  pub thread : (1 ≤ t) × (t ≤ MOST_THREADS)
+  pub handles : (1 ≤ h) × (h ≤ MOST_HANDLES)
+  pub managers : (1 ≤ m) × (m ≤ MOST_MANAGERS)
 
 -- the books are in order, and each slot is found; there is a slot for each handle and one more, a place for each
 -- handle, and room for each planned completion and for each end of a lane
@@ -35,4 +36,4 @@ pub record IsBook (b : Inside) : Type 0 where
   pub drained_room : planned_total b.ledgers.items ≤ vec_capacity b.drained
   pub limits : IsWithinLimits b.thread b.handles (length b.ledgers.items)
   pub ends : b.ends.items ≡ []
-  pub ends_room : 8 ≤ vec_capacity b.ends
+  pub ends_room : MOST_MANAGERS ≤ vec_capacity b.ends

@@ -1,10 +1,13 @@
 -- What contracts see of a desk, and the words for what stands in it.
-use Rattle.std.specs.Prelude.{◌≡◌, ◌≢◌, not, ℕ, ◌-◌, ◌<◌, ◌≤◌, nat_lt, nat_le, Bool, false, ◌&&◌, ◌||◌, ◌==◌, is_some, if◌then◌else◌, List, [], ◌∷◌, length, Option, Some, None, IsSome, slice_index_or, slice_set, true, refl}
+use Rattle.std.specs.Prelude.{◌≡◌, ◌≢◌, not, ℕ, ◌-◌, ◌<◌, ◌≤◌, nat_lt, nat_le, Bool, false, ◌&&◌, ◌||◌, ◌==◌, is_some}
+use Rattle.std.specs.Prelude.{if◌then◌else◌, List, [], ◌∷◌, length, Option, Some, None, IsSome, slice_index_or}
+use Rattle.std.specs.Prelude.{slice_set, true, refl}
 use Rattle.std.specs.List.{sum_by}
 use Rattle.std.specs.Option.{option_or}
 use Rattle.std.specs.Ordering.{nat_cmp}
 use Rattle.std.specs.FinMap as finmap
 use Rattle.std.specs.Coded.{Coded, code_by, coded×, coded_ℕ}
+use Rattle.xa_base.specs.declared.limits.TheConstants.{MOST_HANDLES}
 use Rattle.xa_words.specs.declared.request.Op.{Op}
 use Rattle.xa_words.specs.declared.code.Code.{Code}
 use Rattle.xa_words.specs.declared.request.Request.{Request}
@@ -15,10 +18,10 @@ use Rattle.xa_desk.specs.LedgerView.{LedgerView, new_ledger, learnt_shut, is_col
 use Rattle.xa_desk.specs.declared.refused.Refused.{Refused}
 use Rattle.xa_desk.specs.declared.refused.Refused.TheVariants.{NoSuchManager, Shut, TooMany, Spent}
 
--- the thread, how many handles it has, its ledger with each manager, which operation is kept under which number,
--- the completions that were the first for an outstanding operation as they were taken, how many of them there were
--- at the last quiet moment; its ends of the lanes to the managers, that to manager m at place m - 1; and its end of
--- the lane that completions come by, which counts the quiet moments
+-- the thread, how many handles it has, its ledger with each manager, which operation is kept under which number, the
+-- completions that were the first for an outstanding operation as they were taken, how many of them there were at the
+-- last quiet moment; its ends of the lanes to the managers, that to manager m at place m - 1; and its end of the lane
+-- that completions come by, which counts the quiet moments
 pub record DeskView : Type 0 where
   pub thread : ℕ
   pub handles : ℕ
@@ -41,13 +44,18 @@ pub record TicketView : Type 0 where
 
 -- operations, maps of them and tickets as data
 abbrev pub operation_code : Coded Operation
-operation_code = code_by (ℕ × ℕ) (coded× coded_ℕ coded_ℕ) (λ o. (o.manager, o.number)) (λ p. record { manager = p.0; number = p.1 }) (λ _. refl)
+operation_code =
+    code_by (ℕ × ℕ) (coded× coded_ℕ coded_ℕ) (λ o. (o.manager, o.number)) (λ p. record { manager = p.0; number = p.1 })
+    (λ _. refl)
 
 abbrev pub kept_code : Coded (finmap.FinMap nat_cmp Operation)
 kept_code = finmap.code coded_ℕ operation_code
 
 abbrev pub ticket_code : Coded TicketView
-ticket_code = code_by (ℕ × (ℕ × Operation)) (coded× coded_ℕ (coded× coded_ℕ operation_code)) (λ t. (t.opening, (t.thread, t.operation))) (λ p. record { opening = p.0; thread = p.1.0; operation = p.1.1 }) (λ _. refl)
+ticket_code =
+    code_by (ℕ × (ℕ × Operation)) (coded× coded_ℕ (coded× coded_ℕ operation_code))
+    (λ t. (t.opening, (t.thread, t.operation))) (λ p. record { opening = p.0; thread = p.1.0; operation = p.1.1 })
+    (λ _. refl)
 
 -- the ticket that a desk gives for an operation
 abbrev pub ticket_of : DeskView → Operation → TicketView
@@ -143,7 +151,7 @@ drained_code o (c ∷ cs) = if names o c then Some c.code else drained_code o cs
 -- the number of a handle: positive, and no greater than a thread may have handles
 pub record IsHandle (number : ℕ) : Type 0 where
   pub positive : 0 < number
-  pub limit : number ≤ 32
+  pub limit : number ≤ MOST_HANDLES
 
 -- the least positive number that isn't kept
 pub record IsLeastFree (kept : finmap.FinMap nat_cmp Operation) (number : ℕ) : Type 0 where

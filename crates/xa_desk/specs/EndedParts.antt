@@ -1,5 +1,6 @@
 -- How an ended desk keeps what contracts see of it.
 use Rattle.std.specs.Prelude.{◌≤◌, length}
+use Rattle.xa_base.specs.declared.limits.TheConstants.{MOST_MANAGERS, MOST_THREADS}
 use Rattle.xa_desk.specs.Ended.{EndedView, IsEnded}
 use Rattle.xa_desk.specs.declared.ended.EndedDesk.TheInside.{Inside}
 
@@ -16,5 +17,5 @@ ended_of e = record {
 -- the threads and the managers are within the limits
 pub record AreEndedParts (e : Inside) : Type 0 where
   pub known : IsEnded (ended_of e)
-  pub thread : (1 ≤ e.thread) × (e.thread ≤ 8)
-  pub managers : (1 ≤ length e.ledgers.items) × (length e.ledgers.items ≤ 8)
+  pub thread : (1 ≤ e.thread) × (e.thread ≤ MOST_THREADS)
+  pub managers : (1 ≤ length e.ledgers.items) × (length e.ledgers.items ≤ MOST_MANAGERS)

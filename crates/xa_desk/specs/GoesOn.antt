@@ -5,7 +5,8 @@ use Rattle.xa_desk.specs.LedgerView.{LedgerView}
 use Rattle.xa_desk.specs.DeskView.{DeskView}
 use Rattle.xa_desk.specs.Ended.{EndedView}
 use Rattle.xa_desk.specs.Seats.{seat_of_desk, seat_of_ended}
-use Rattle.xa_desk.specs.Growth.{Begins, HaveGrown}
+use Rattle.xa_base.specs.Lists.{Begins}
+use Rattle.xa_desk.specs.Growth.{HaveGrown}
 
 -- whether the manager takes asynchronous calls, and how many requests are planned for it
 abbrev pub plan_of : LedgerView → Bool × ℕ

@@ -1,11 +1,8 @@
 -- How what a desk sent and collected grows.
 use Rattle.std.specs.Prelude.{◌≡◌, ℕ, ◌≤◌, List, ◌++◌}
+use Rattle.xa_base.specs.Lists.{Begins}
 use Rattle.xa_desk.specs.LedgerView.{LedgerView}
 use Rattle.xa_desk.specs.DeskView.{ledger}
-
--- ys begin with xs
-abbrev pub Begins : {X : Type 0} → List X → List X → Type 0
-Begins {X} xs ys = (rest : List X) × (ys ≡ xs ++ rest)
 
 -- the ledger has what it had, in its order, and perhaps more after it
 pub record HasGrown (a a' : LedgerView) : Type 0 where

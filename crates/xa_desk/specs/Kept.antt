@@ -5,8 +5,8 @@ use Rattle.xa_desk.specs.declared.operation.Operation.{Operation}
 use Rattle.xa_desk.specs.DeskView.{DeskView, IsOut}
 
 -- each operation that is outstanding is kept under a number
-abbrev pub AllKept : DeskView → Type 0
-AllKept d = (o : Operation) → IsOut d.ledgers o → (k : ℕ) × (map.get d.kept k ≡ Some o)
+pub record AllKept (d : DeskView) : Type 0 where
+  pub each : (o : Operation) → IsOut d.ledgers o → (k : ℕ) × (map.get d.kept k ≡ Some o)
 
 -- no operation is kept
 abbrev pub HoldsNone : DeskView → Type 0

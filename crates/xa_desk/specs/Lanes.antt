@@ -20,7 +20,11 @@ next_request d m op = record { thread = d.thread; number = length (ledger d.ledg
 
 -- the request was sent: it is the next of the ledger, and the end of the lane to m sent it
 abbrev pub submitted : DeskView → ℕ → Op → DeskView
-submitted d m op = record d { ledgers = after_sent d.ledgers m op; requests = at_place (m - 1) (with_item (next_request d m op)) d.requests }
+submitted d m op =
+    record d {
+      ledgers = after_sent d.ledgers m op;
+      requests = at_place (m - 1) (with_item (next_request d m op)) d.requests;
+    }
 
 -- the lane to manager m was found full, which its end counts
 abbrev pub after_full : DeskView → ℕ → DeskView
@@ -56,11 +60,13 @@ pub record IsEndTo (t opening m : ℕ) (s : Sending Request) : Type 0 where
 
 -- the same of the lanes to each manager, by rising manager
 abbrev pub AreEndsTo : ℕ → ℕ → List (Sending Request) → Type 0
-AreEndsTo t opening requests = (k : ℕ) (s : Sending Request) → slice_get requests k ≡ Some s → IsEndTo t opening (k + 1) s
+AreEndsTo t opening requests = (k : ℕ) (s : Sending Request) → slice_get requests k ≡ Some s
+    → IsEndTo t opening (k + 1) s
 
--- the ends of thread t: of the lanes to so many managers, and of the lane of its completions, on
--- which each manager sends
-pub record AreEnds (t managers : ℕ) (requests : List (Sending Request)) (completions : Receiving Completion) : Type 0 where
+-- the ends of thread t: of the lanes to so many managers, and of the lane of its completions, on which each manager
+-- sends
+pub record AreEnds (t managers : ℕ) (requests : List (Sending Request))
+    (completions : Receiving Completion) : Type 0 where
   pub number : length requests ≡ managers
   pub to : AreEndsTo t completions.lane.opening requests
   pub lane : completions.lane.index ≡ t
@@ -72,7 +78,8 @@ WasDrained drained m p = drained_code (record { manager = m; number = p.0 }) dra
 
 -- a desk's ledgers and what it drained say what its ends of lanes do: what was sent to a manager is what the end of
 -- the lane to it sent, what was drained are completions that were taken, and what was collected was drained
-pub record IsTied (t : ℕ) (at : List LedgerView) (drained : List Completion) (requests : List (Sending Request)) (completions : Receiving Completion) : Type 0 where
+pub record IsTied (t : ℕ) (at : List LedgerView) (drained : List Completion) (requests : List (Sending Request))
+    (completions : Receiving Completion) : Type 0 where
   pub ends : AreEnds t (length at) requests completions
   pub sent : (m : ℕ) → IsKnown at m → sent_at (m - 1) requests ≡ numbered t 0 (ledger at m).sent
   pub drained_ : IsPartOf drained (arrived completions.taken)

@@ -5,8 +5,8 @@ use Rattle.xa_words.specs.declared.request.Op.{Op}
 use Rattle.xa_words.specs.declared.code.Code.{Code}
 use Rattle.xa_words.specs.declared.code.Code.TheVariants.{RmFail}
 
--- whether the manager takes asynchronous calls, how many requests are planned for it, the requests that were sent
--- to it in order, which are numbered from 0, and what was collected from it in order, as numbers with their codes
+-- whether the manager takes asynchronous calls, how many requests are planned for it, the requests that were sent to it
+-- in order, which are numbered from 0, and what was collected from it in order, as numbers with their codes
 pub record LedgerView : Type 0 where
   pub carries_async : Bool
   pub plan : ℕ

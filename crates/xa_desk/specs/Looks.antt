@@ -7,12 +7,15 @@ use Rattle.xa_lane.specs.declared.parcel.Taken.{Taken}
 use Rattle.xa_lane.specs.declared.parcel.Taken.TheVariants.{Item, EndOf, Empty}
 use Rattle.xa_lane.specs.Ends.{Took, counted}
 use Rattle.xa_desk.specs.declared.operation.Operation.{Operation}
-use Rattle.xa_desk.specs.DeskView.{DeskView, IsOut, IsLeast, operation_of, after_collected, drained_code, outstanding, ready_at}
+use Rattle.xa_desk.specs.DeskView.{DeskView, IsOut, IsLeast, operation_of, after_collected, drained_code, outstanding}
+use Rattle.xa_desk.specs.DeskView.{ready_at}
 
 -- a completion that was taken is drained where it is the first for an outstanding operation, and else changes nothing
 pub data Drains (old : DeskView) (c : Completion) (new : DeskView) : Type 0 where
-  first : IsOut old.ledgers (operation_of c) → drained_code (operation_of c) old.drained ≡ None → new ≡ record old { drained = old.drained ++ c ∷ [] } → Drains old c new
-  other : (IsOut old.ledgers (operation_of c) → drained_code (operation_of c) old.drained ≡ None → ⊥) → new ≡ old → Drains old c new
+  first : IsOut old.ledgers (operation_of c) → drained_code (operation_of c) old.drained ≡ None
+      → new ≡ record old { drained = old.drained ++ c ∷ [] } → Drains old c new
+  other : (IsOut old.ledgers (operation_of c) → drained_code (operation_of c) old.drained ≡ None → ⊥) → new ≡ old
+      → Drains old c new
 
 -- a quiet moment: a take found the lane empty
 abbrev pub after_quiet : DeskView → DeskView
@@ -21,9 +24,12 @@ after_quiet d = record d { drained_then = length d.drained }
 -- what a take of the completion lane does to a desk, by what was taken: a completion may be drained, an end mark
 -- changes nothing else, and nothing taken is a quiet moment
 abbrev pub Draws : DeskView → Taken Completion → DeskView → Type 0
-Draws old (Item s c) new = Took old.completions (Item s c) new.completions × Drains (record old { completions = new.completions }) c new
-Draws old (EndOf s) new = Took old.completions (EndOf s) new.completions × (new ≡ record old { completions = new.completions })
-Draws old Empty new = Took old.completions Empty new.completions × (new ≡ after_quiet (record old { completions = new.completions }))
+Draws old (Item s c) new =
+    Took old.completions (Item s c) new.completions × Drains (record old { completions = new.completions }) c new
+Draws old (EndOf s) new =
+    Took old.completions (EndOf s) new.completions × (new ≡ record old { completions = new.completions })
+Draws old Empty new =
+    Took old.completions Empty new.completions × (new ≡ after_quiet (record old { completions = new.completions }))
 
 -- takes of the completion lane took old to new
 pub data Pops (old : DeskView) : DeskView → Type 0 where
@@ -33,7 +39,16 @@ pub data Pops (old : DeskView) : DeskView → Type 0 where
 -- nothing but such takes was done, so the ledgers, what is kept and the lanes stay
 pub record Looks (old new : DeskView) : Type 0 where
   pub pops : Pops old new
-  pub rest : new ≡ record old { drained = new.drained; drained_then = new.drained_then; completions = record old.completions { taken = new.completions.taken; quiet = new.completions.quiet; taken_then = new.completions.taken_then } }
+  pub rest : new
+      ≡ record old {
+        drained = new.drained;
+        drained_then = new.drained_then;
+        completions = record old.completions {
+          taken = new.completions.taken;
+          quiet = new.completions.quiet;
+          taken_then = new.completions.taken_then;
+        };
+      }
 
 -- the last of these takes found the lane empty, which its end counts as a quiet moment
 pub record EndsQuiet (old new : DeskView) : Type 0 where
@@ -61,7 +76,8 @@ pub record TakesKept (old new : DeskView) (number : ℕ) (code : Code) : Type 0 
   pub kept : finmap.get old.kept number ≡ Some operation
   pub out : IsOut old.ledgers operation
   pub drained : drained_code operation old.drained ≡ Some code
-  pub taken : new ≡ record old { ledgers = after_collected old.ledgers operation code; kept = finmap.remove old.kept number }
+  pub taken : new
+      ≡ record old { ledgers = after_collected old.ledgers operation code; kept = finmap.remove old.kept number }
   pub fewer : outstanding new.ledgers + 1 ≡ outstanding old.ledgers
 
 -- the same after some takes

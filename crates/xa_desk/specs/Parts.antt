@@ -1,5 +1,6 @@
 -- How the parts of a desk keep what they are made with.
 use Rattle.std.specs.Prelude.{◌≡◌, ◌+◌, ◌*◌, ◌≤◌, Bool, List, [], None, length, map, replicate, vec_capacity}
+use Rattle.xa_base.specs.declared.limits.TheConstants.{MOST_MANAGERS}
 use Rattle.xa_desk.specs.LedgerView.{LedgerView}
 use Rattle.xa_desk.specs.Lanes.{PartsView, new_ledgers}
 use Rattle.xa_desk.specs.Book.{IsWithinLimits}
@@ -23,5 +24,5 @@ pub record AreParts (p : Inside) : Type 0 where
   pub drained : p.drained.items ≡ []
   pub drained_room : p.plan * length p.ledgers.items ≤ vec_capacity p.drained
   pub ends : p.ends.items ≡ []
-  pub ends_room : 8 ≤ vec_capacity p.ends
+  pub ends_room : MOST_MANAGERS ≤ vec_capacity p.ends
   pub limits : IsWithinLimits p.thread p.handles (length p.ledgers.items)

@@ -17,7 +17,8 @@ pub record DeskSeat : Type 0 where
 
 -- the seat of a desk by what it holds
 abbrev pub desk_seat : ℕ → List (Sending Request) → Receiving Completion → DeskSeat
-desk_seat t senders receiver = record { thread = t; ends = map end_seat senders; lane = receiver.lane; line = receiver.line }
+desk_seat t senders receiver =
+    record { thread = t; ends = map end_seat senders; lane = receiver.lane; line = receiver.line }
 
 -- that of a desk at work
 abbrev pub seat_of_desk : DeskView → DeskSeat

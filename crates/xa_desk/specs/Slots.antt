@@ -1,5 +1,6 @@
 -- How a desk's slots, its table of kept operations and its list of drained completions go together.
-use Rattle.std.specs.Prelude.{◌≡◌, ℕ, suc, ◌+◌, ◌-◌, ◌<◌, ◌≤◌, true, nat_eq, cond, List, [], length, Option, Some, None, is_some, slice_get, slice_index_or}
+use Rattle.std.specs.Prelude.{◌≡◌, ℕ, suc, ◌+◌, ◌-◌, ◌<◌, ◌≤◌, true, nat_eq, cond, List, [], length, Option, Some, None}
+use Rattle.std.specs.Prelude.{is_some, slice_get, slice_index_or}
 use Rattle.std.specs.List.{sum_by, IsDistinct}
 use Rattle.std.specs.Ordering.{nat_cmp}
 use Rattle.std.specs.FinMap as map
@@ -64,15 +65,17 @@ planned_total at = sum_by (λ a. a.plan) at
 abbrev pub kept_of : List (Option Operation) → map.FinMap nat_cmp Operation
 kept_of table = map.from_entries (entries_from 1 table)
 
--- the slots are the outstanding operations, each with the code that was drained for it; the table and the slots
--- agree on what is kept; and a drained completion is of a sent request
-pub record IsBooks (at : List LedgerView) (s : Slab Slot) (table : List (Option Operation)) (drained : List Completion) : Type 0 where
+-- the slots are the outstanding operations, each with the code that was drained for it; the table and the slots agree
+-- on what is kept; and a drained completion is of a sent request
+pub record IsBooks (at : List LedgerView) (s : Slab Slot) (table : List (Option Operation))
+    (drained : List Completion) : Type 0 where
   pub orderly : (m : ℕ) → IsKnown at m → IsOrderly (ledger at m)
   pub slot_out : (key : ℕ) (slot : Slot) → get s key ≡ Some slot → IsOut at slot.operation
   pub out_slot : (o : Operation) → IsOut at o → HasSlot s o
   pub one_slot : (j k : ℕ) (x y : Slot) → get s j ≡ Some x → get s k ≡ Some y → x.operation ≡ y.operation → j ≡ k
   pub count : slab_len s ≡ outstanding at
-  pub handled : (key : ℕ) (slot : Slot) (k : ℕ) → get s key ≡ Some slot → slot.handle ≡ suc k → slice_index_or table k None ≡ Some slot.operation
+  pub handled : (key : ℕ) (slot : Slot) (k : ℕ) → get s key ≡ Some slot → slot.handle ≡ suc k
+      → slice_index_or table k None ≡ Some slot.operation
   pub tabled : (k : ℕ) (o : Operation) → slice_index_or table k None ≡ Some o → HasKept s o (suc k)
   pub coded : (key : ℕ) (slot : Slot) → get s key ≡ Some slot → slot.code ≡ drained_code slot.operation drained
   pub drained_sent : (o : Operation) (code : Code) → drained_code o drained ≡ Some code → IsSent at o

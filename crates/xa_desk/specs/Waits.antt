@@ -22,7 +22,8 @@ module _ {I : Type 0} (by : I → I → Type 0) where
   -- looks, each up to its one quiet moment, and an idle after each
   pub data Waits (old : DeskView) (before : I) : DeskView → I → Type 0 where
     begins : (new : DeskView) (after : I) → new ≡ old → after ≡ before → Waits old before new after
-    idles : (now new : DeskView) (mid after : I) → Waits old before now mid → LooksOnce now new → by mid after → Waits old before new after
+    idles : (now new : DeskView) (mid after : I) → Waits old before now mid → LooksOnce now new → by mid after
+        → Waits old before new after
 
   -- and a look without a quiet moment, before the drained completion of the operation was collected
   pub record WaitsFor (old new : DeskView) (before after : I) (o : Operation) (code : Code) : Type 0 where
@@ -63,6 +64,7 @@ module _ {I : Type 0} where
   -- so for each lane in turn: that to manager m + 1, and those after it
   abbrev pub MarkEnds : (ℕ → I → I → Type 0) → ℕ → List (Sending Request) → List (Sending Request) → I → I → Type 0
   MarkEnds by m [] [] before after = after ≡ before
-  MarkEnds by m (s ∷ ss) (e ∷ es) before after = (mid : I) × MarksEnd (by (suc m)) s e before mid × MarkEnds by (suc m) ss es mid after
+  MarkEnds by m (s ∷ ss) (e ∷ es) before after =
+      (mid : I) × MarksEnd (by (suc m)) s e before mid × MarkEnds by (suc m) ss es mid after
   MarkEnds by m [] (e ∷ es) before after = ⊥
   MarkEnds by m (s ∷ ss) [] before after = ⊥

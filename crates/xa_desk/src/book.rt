@@ -17,6 +17,7 @@ use crate::places::first_free;
 use crate::slot::{Slot, find_slot, set_slot};
 use slab::Slab;
 use std::marker::Model;
+use xa_base::{MOST_HANDLES, MOST_MANAGERS, MOST_THREADS};
 use xa_lane::{Ended, Receiver, Sender};
 use xa_words::{Code, Completion, Op, Request};
 
@@ -230,7 +231,7 @@ impl Book {
     /// How many handles there are. No greater number is kept.
     pub(crate) fn handles(&self) -> u32
         ensures handles { result ≡ self.now.handles }
-        ensures limit { result ≤ 32 }
+        ensures limit { result ≤ MOST_HANDLES }
         ensures past { (k : ℕ) → result < k → map.get self.now.kept k ≡ None }
         ensures zero { map.get self.now.kept 0 ≡ None }
     {
@@ -269,7 +270,7 @@ impl Book {
     /// The thread of control, from 1.
     pub(crate) fn thread(&self) -> u32
         ensures thread { result ≡ self.now.thread }
-        ensures limits { (1 ≤ result) × (result ≤ 8) }
+        ensures limits { (1 ≤ result) × (result ≤ MOST_THREADS) }
     {
         self.thread
     }
@@ -284,7 +285,7 @@ impl Book {
     /// How many managers there are, which are numbered from 1.
     pub(crate) fn managers(&self) -> u32
         ensures managers { result ≡ length self.now.ledgers }
-        ensures limits { (1 ≤ result) × (result ≤ 8) }
+        ensures limits { (1 ≤ result) × (result ≤ MOST_MANAGERS) }
     {
         self.ledgers.len() as u32
     }

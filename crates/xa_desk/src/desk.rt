@@ -22,6 +22,7 @@ use crate::refused::{AnyFault, NothingOutstanding, Refused};
 use crate::ticket::Ticket;
 use std::marker::Model;
 use std::sync::Wait;
+use xa_base::{MOST_HANDLES, MOST_MANAGERS, MOST_THREADS};
 use xa_lane::{Receiver, Sender};
 use xa_words::{Code, Completion, Op, Request};
 
@@ -76,7 +77,7 @@ impl Desk {
     /// The thread of control, from 1.
     pub fn thread(&self) -> u32
         ensures thread { result ≡ self.now.thread }
-        ensures limits { (1 ≤ result) × (result ≤ 8) }
+        ensures limits { (1 ≤ result) × (result ≤ MOST_THREADS) }
     {
         self.book.thread()
     }
@@ -84,7 +85,7 @@ impl Desk {
     /// How many handles there are. Nothing is kept under 0 and under a greater number.
     pub fn handles(&self) -> u32
         ensures handles { result ≡ self.now.handles }
-        ensures limit { result ≤ 32 }
+        ensures limit { result ≤ MOST_HANDLES }
         ensures past { (k : ℕ) → result < k → map.get self.now.kept k ≡ None }
         ensures zero { map.get self.now.kept 0 ≡ None }
     {
@@ -95,7 +96,7 @@ impl Desk {
     pub fn free(&self) -> u32
         ensures free { result ≡ self.now.handles - outstanding self.now.ledgers }
         ensures within { outstanding self.now.ledgers ≤ self.now.handles }
-        ensures limit { self.now.handles ≤ 32 }
+        ensures limit { self.now.handles ≤ MOST_HANDLES }
     {
         // No more are outstanding than there are handles.
         self.handles() - self.book.slots.len() as u32
@@ -114,7 +115,7 @@ impl Desk {
     /// How many managers there are, which are numbered from 1.
     pub fn managers(&self) -> u32
         ensures managers { result ≡ length self.now.ledgers }
-        ensures limits { (1 ≤ result) × (result ≤ 8) }
+        ensures limits { (1 ≤ result) × (result ≤ MOST_MANAGERS) }
     {
         self.book.managers()
     }

@@ -11,6 +11,7 @@ use crate::idle::Idle;
 use crate::ledger::Ledger;
 use std::marker::Model;
 use std::sync::Wait;
+use xa_base::{MOST_MANAGERS, MOST_THREADS};
 use xa_lane::{Ended, Receiver, Sender};
 use xa_words::{Code, Completion, Op, Request};
 
@@ -58,7 +59,7 @@ impl EndedDesk {
     /// The thread of control, from 1.
     pub fn number(&self) -> u32
         ensures thread { result ≡ self.now.thread }
-        ensures limits { (1 ≤ result) × (result ≤ 8) }
+        ensures limits { (1 ≤ result) × (result ≤ MOST_THREADS) }
     {
         self.thread
     }
@@ -66,7 +67,7 @@ impl EndedDesk {
     /// How many managers there are, which are numbered from 1.
     pub fn peers(&self) -> u32
         ensures managers { result ≡ length self.now.ledgers }
-        ensures limits { (1 ≤ result) × (result ≤ 8) }
+        ensures limits { (1 ≤ result) × (result ≤ MOST_MANAGERS) }
     {
         self.ledgers.len() as u32
     }
@@ -155,7 +156,7 @@ fn end_all<R: Wait, I: Idle>(
 ) -> Vec<Ended<Request>>
     requires none { ends.items ≡ [] }
     requires room { length requests.items ≤ vec_capacity ends }
-    requires few { length requests.items ≤ 8 }
+    requires few { length requests.items ≤ MOST_MANAGERS }
     ensures ended { map but_full result.items ≡ map but_full requests.items }
     ensures marked { MarkEnds I.leads_by 0 requests.items result.items idle.old idle.new }
     ensures idled { I.leads idle.old idle.new }

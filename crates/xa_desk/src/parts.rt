@@ -9,11 +9,9 @@ use crate::slot::Slot;
 use slab::Slab;
 use std::alloc::{AllocError, Global};
 use std::marker::Model;
+use xa_base::{MOST_HANDLES, MOST_MANAGERS, MOST_REQUESTS, MOST_THREADS};
 use xa_lane::Ended;
 use xa_words::{Completion, Request};
-
-// No thread has more lanes to managers.
-const MOST_MANAGERS: usize = 8;
 
 /// All the memory that a desk ever takes.
 #[derive(Drop)]
@@ -53,10 +51,10 @@ impl DeskParts {
         requests: u32,
         use_async: &[bool],
     ) -> Result<DeskParts, AllocError>
-        requires thread { (1 ≤ thread) × (thread ≤ 8) }
-        requires handles { (1 ≤ handles) × (handles ≤ 32) }
-        requires requests { (1 ≤ requests) × (requests ≤ 4096) }
-        requires managers { (1 ≤ length use_async.now) × (length use_async.now ≤ 8) }
+        requires thread { (1 ≤ thread) × (thread ≤ MOST_THREADS) }
+        requires handles { (1 ≤ handles) × (handles ≤ MOST_HANDLES) }
+        requires requests { (1 ≤ requests) × (requests ≤ MOST_REQUESTS) }
+        requires managers { (1 ≤ length use_async.now) × (length use_async.now ≤ MOST_MANAGERS) }
         ensures { IfOk result (λ p. p ≡ record { thread = thread; handles = handles; plan = requests; use_async = use_async.now }) }
     {
         let ledgers = open_ledgers(alloc, requests, use_async)?;

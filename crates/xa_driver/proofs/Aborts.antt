@@ -1,7 +1,8 @@
 -- On abort no Commit is sent.
-use Rattle.std.specs.Prelude.{◌≡◌, Bool, true, false, not, ◌&&◌, ◌||◌, if◌then◌else◌, Option, None, Some, List, [], ◌∷◌, ◌++◌, refl}
+use Rattle.std.specs.Prelude.{◌≡◌, Bool, true, false, not, ◌&&◌, ◌||◌, Option, None, Some, List, [], ◌∷◌, ◌++◌, refl}
 use Rattle.std.proofs.Common.{sym, ap, ◌∙◌, subst, append_assoc}
 use Rattle.std.proofs.lemmas.List.Folds.{list_any-append}
+use Rattle.xa_base.proofs.Truth.{by_if}
 use Rattle.xa_words.specs.Xid.{XidName}
 use Rattle.xa_words.specs.Tran.{TranName}
 use Rattle.xa_words.specs.declared.code.Code.{Code}
@@ -18,9 +19,6 @@ use Rattle.xa_driver.specs.Asks.{asked}
 use Rattle.xa_driver.specs.Trace.{BranchTrace, IsTraceOfCommit, voted, wants_record}
 use Rattle.xa_driver.specs.Commits.{HasSentNoCommit, NoCommitWasSent, is_commit}
 use Rattle.xa_driver.proofs.EachManager.{every_manager}
-
-pub by_if : {A : Type 0} (P : A → Type 0) (b : Bool) (p q : A) → (b ≡ true → P p) → (b ≡ false → P q) → P (if b then p else q)
-by_if P b p q one two = elim b as (λ c. b ≡ c → P (if c then p else q)) [ true ↦ one | false ↦ two ] refl
 
 nil_right : {A : Type 0} (xs : List A) → xs ++ [] ≡ xs
 nil_right [] = refl

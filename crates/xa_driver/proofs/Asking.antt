@@ -1,6 +1,7 @@
 -- What a request to one manager does to a desk.
 use Rattle.std.specs.Prelude.{◌≡◌, ◌≢◌, ℕ, ◌+◌, ◌<◌, ◌≤◌, Bool, true, false, if◌then◌else◌, Option, None, Some, List, [], ◌∷◌, length, refl}
 use Rattle.std.proofs.Common.{sym, ap, ◌∙◌, subst, arith, get_or, drop, drop-cons, suc}
+use Rattle.xa_base.proofs.Truth.{at_false}
 use Rattle.xa_words.specs.declared.code.Code.{Code}
 use Rattle.xa_words.specs.declared.request.Op.{Op}
 use Rattle.xa_desk.specs.declared.operation.Operation.{Operation}
@@ -8,13 +9,9 @@ use Rattle.xa_desk.specs.LedgerView.{LedgerView, learnt_shut, with_sent, with_co
 use Rattle.xa_desk.specs.DeskView.{DeskView, TicketView, IsKnown, ledger, put_ledger, after_collected, outstanding}
 use Rattle.xa_desk.specs.Looks.{Collects}
 use Rattle.xa_driver.specs.declared.ask.Ask.{Ask}
-use Rattle.xa_desk.proofs.Going.{goes_same, goes_further, goes_collecting}
-use Rattle.xa_driver.specs.Asks.{sent_by, SameAsks, AreRising, KeepsDesk, IsUnsent, IsSending, Begins, Ends}
+use Rattle.xa_desk.proofs.GoesOn.{goes_same, goes_further, goes_collecting}
+use Rattle.xa_driver.specs.Asks.{SameAsks, AreRising, KeepsDesk, IsUnsent, IsSending, BeginsAsk, Ends}
 use Rattle.xa_driver.proofs.Ledgers.{open_count, put_same, put_other, put_length, put_open}
-
-pub at_false : {A : Type 0} (b : Bool) (p q : A) → b ≡ false → (if b then p else q) ≡ q
-at_false true p q e = cc
-at_false false p q e = refl
 
 pub at_true : {A : Type 0} (b : Bool) (p q : A) → b ≡ true → (if b then p else q) ≡ p
 at_true true p q e = refl
@@ -65,11 +62,16 @@ put_moved m a' old new known e keeps = record {
   keeps = keeps;
 }
 
+-- a request is sent where its manager isn't learnt to be shut
+abbrev pub sent_by : LedgerView → Option Op → LedgerView
+sent_by a None = a
+sent_by a (Some op) = if learnt_shut a then a else with_sent a op
+
 sent_none : (a : LedgerView) (op : Option Op) → IsUnsent a op → a ≡ sent_by a op
 sent_none a None h = refl
 sent_none a (Some op) h = sym (at_true (learnt_shut a) _ _ h)
 
-pub began_moved : (k : Ask) (old new : DeskView) (r : Option TicketView) → IsKnown old.ledgers k.manager → Begins k old new r → Moved k.manager (sent_by (ledger old.ledgers k.manager) k.op) old new
+pub began_moved : (k : Ask) (old new : DeskView) (r : Option TicketView) → IsKnown old.ledgers k.manager → BeginsAsk k old new r → Moved k.manager (sent_by (ledger old.ledgers k.manager) k.op) old new
 began_moved k old new None known b = unmoved k.manager _ old new b.0 (sent_none (ledger old.ledgers k.manager) k.op b.1)
 began_moved k old new (Some t) known b =
     let a : LedgerView = ledger old.ledgers k.manager in

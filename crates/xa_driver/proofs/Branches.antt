@@ -13,13 +13,14 @@ use Rattle.xa_words.specs.declared.request.Op.TheVariants.{OpenRm, CloseRm, Star
 use Rattle.xa_words.specs.declared.request.Request.{Request}
 use Rattle.xa_tables.specs.Tables.{Tables}
 use Rattle.xa_tables.specs.Next.{next}
+use Rattle.xa_tables.proofs.Unnamed.{tables_after-append}
 use Rattle.xa_tables.specs.History as history
-use Rattle.xa_tables.specs.History.{History, Fate, fate, fate_in, fate_of, coded, of_thread, tables_after, tables_after-append, is_done, is_read_only, is_rolled_back, prepare_fate, IsOpening}
+use Rattle.xa_tables.specs.History.{History, Fate, fate, fate_in, fate_of, coded, of_thread, tables_after, is_done, is_read_only, is_rolled_back, prepare_fate, IsOpening}
 use Rattle.xa_tables.specs.Prepared.{names, NamesNowhere, LeavesWaiting, AwaitsTheOutcome, closes, is_close, has_shut}
 use Rattle.xa_desk.specs.LedgerView.{LedgerView, is_rm_fail, learnt_shut, with_sent, with_collected}
 use Rattle.xa_desk.specs.Lanes.{numbered}
 use Rattle.xa_switch.specs.Settling.{answers}
-use Rattle.xa_desk.specs.Growth.{Begins}
+use Rattle.xa_base.specs.Lists.{Begins}
 use Rattle.xa_driver.specs.declared.branch.Branch.{Branch}
 use Rattle.xa_driver.specs.declared.done.Ending.{Ending}
 use Rattle.xa_driver.specs.declared.done.Ending.TheVariants.{Committed, ReadOnly, RolledBack, InDoubt, Left}
@@ -28,7 +29,7 @@ use Rattle.xa_driver.specs.Endings.{second_op, ending_of, yes_ending, no_ending,
 use Rattle.xa_driver.specs.Asks.{asked, IsAnswered}
 use Rattle.xa_driver.specs.Trace.{BranchTrace, voted}
 use Rattle.xa_driver.specs.Outcomes.{IsBetween, OnlyTheseName, IsAfterShut, told_fate, is_left, is_in_doubt}
-use Rattle.xa_driver.proofs.Aborts.{by_if}
+use Rattle.xa_base.proofs.Truth.{by_if, at_false}
 use Rattle.xa_driver.proofs.Placing.{eqb-self, request_of, Parted, part, all_others, all_later, answer_at, numbered_both, numbered_length, fates, fate_is, none_both, none_first}
 
 -- what the laws of the tables say
@@ -37,10 +38,6 @@ pub record Tabled : Type 0 where
   pub shuts : (h : History) (T : Tables) → IsOpening T → (tables_after h T).shut ≡ has_shut h
   pub leaves : (h : History) (x : XidName) (T : Tables) → fate x h T ≡ fate_in x (coded h T)
   pub breaks : (t : ℕ) (x : XidName) (T : Tables) → is_rolled_back (next t (Prepare x) T).1 ≡ true → (next t (Prepare x) T).1 ≡ RbIntegrity
-
-at_false : {A : Type 0} (b : Bool) (p q : A) → b ≡ false → (if b then p else q) ≡ q
-at_false true p q e = cc
-at_false false p q e = refl
 
 at_true : {A : Type 0} (b : Bool) (p q : A) → b ≡ true → (if b then p else q) ≡ p
 at_true true p q e = refl

@@ -19,8 +19,8 @@ use Rattle.xa_driver.specs.Endings.{second_op, ending_of}
 use Rattle.xa_driver.specs.Log.{LogState, record_of}
 use Rattle.xa_driver.specs.Asks.{asked, IsAnswered, AskTrace, EachAsk, among_asks, Asks, SameAsks, IsSameAsk, AreRising, AllCanAsk}
 use Rattle.xa_driver.specs.Rounds.{first_ask, code_of, second_ask, ending_of_ask, asked_yes}
-use Rattle.xa_driver.specs.Trace.{BranchTrace, EachBranch, has_branch_at, IsTranOf, AreBranchesRising, HasRoom, HaveRoom, MayCommit, Logs, commits, IsTraceOfCommit}
-use Rattle.xa_driver.proofs.Aborts.{by_if}
+use Rattle.xa_driver.specs.Trace.{BranchTrace, EachBranch, has_branch_at, IsTranOf, AreBranchesRising, HasRoom, HaveRoom, MayCommit, Logs, decision_of, IsTraceOfCommit}
+use Rattle.xa_base.proofs.Truth.{by_if}
 
 pub first_rising : (lo : ℕ) (bs : List Branch) → AreBranchesRising lo bs → AreRising lo (map first_ask bs)
 first_rising lo [] r = tt
@@ -166,7 +166,7 @@ pub call_is : (done : Done) (bs : List Branch) (ks js : List Ask) (old mid new :
     → 1 ≤ length bs → b ≡ get_or bs 0 b → IsTranOf bs t
     → SameAsks (map first_ask bs) ks → Asks ks old mid → SameAsks (map (second_ask done.commit) ks) js → Asks js mid new
     → done.votes.items ≡ map code_of ks → done.endings.items ≡ map (ending_of_ask done.commit) js
-    → done.commit ≡ commits (map code_of ks) done.logged → Logs (tran_of b.xid) (yes_asked ks) (map code_of ks) done.logged log log'
+    → done.commit ≡ decision_of (map code_of ks) done.logged → Logs (tran_of b.xid) (yes_asked ks) (map code_of ks) done.logged log log'
     → IsTraceOfCommit t bs old new log log' done
 call_is done bs ks js old mid new log log' b t some is all s one r two votes endings decision logs =
     let branch : Branch → Code → Option Code → Ending → Type 0 = λ b v s e. BranchTrace done.commit b v s (ledger old b.m) (ledger new b.m) × (e ≡ ending_of done.commit v s) in
@@ -177,7 +177,7 @@ call_is done bs ks js old mid new log log' b t some is all s one r two votes end
       others = λ m p n.
           two.others m p (among_second done.commit ks js m r ∙ among_first bs ks m s ∙ n) ∙ one.others m p (among_first bs ks m s ∙ n);
       managers = two.managers ∙ one.managers;
-      decision = decision ∙ ap (λ vs. commits vs done.logged) (sym votes);
+      decision = decision ∙ ap (λ vs. decision_of vs done.logged) (sym votes);
       logs = subst (λ (vs : List Code). Logs t (yes_of bs vs) vs done.logged log log') (sym votes)
           (subst (λ (z : TranName). Logs z (yes_of bs (map code_of ks)) (map code_of ks) done.logged log log') (tran_first bs b t some is all)
           (subst (λ (y : List Bool). Logs (tran_of b.xid) y (map code_of ks) done.logged log log') (yes_is bs ks s) logs));

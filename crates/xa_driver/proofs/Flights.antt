@@ -9,9 +9,10 @@ use Rattle.xa_desk.specs.LedgerView.{LedgerView, learnt_shut, is_collected, with
 use Rattle.xa_desk.specs.DeskView.{DeskView, TicketView, IsKnown, Owns, ledger, outstanding}
 use Rattle.xa_switch.specs.Seats.{DeskSeat}
 use Rattle.xa_driver.specs.declared.ask.Ask.{Ask}
-use Rattle.xa_driver.specs.Asks.{sent_by, AskTrace, EachAsk, among_asks, AreRising, CanAsk, AllCanAsk, KeepsDesk, IsUnsent, unsent_code, Begins, Ends, HasBegun, EachBegan, HaveBegun}
+use Rattle.xa_driver.specs.Asks.{AskTrace, EachAsk, among_asks, AreRising, CanAsk, AllCanAsk, KeepsDesk, IsUnsent, unsent_code, BeginsAsk, Ends, HasBegun, EachBegan, HaveBegun}
 use Rattle.xa_driver.proofs.Ledgers.{open_count}
-use Rattle.xa_driver.proofs.Asking.{Moved, at_false, at_true, began_moved, ended_moved, collected_of, keeps_start, keeps_chain, known_by, sent_is}
+use Rattle.xa_base.proofs.Truth.{at_false}
+use Rattle.xa_driver.proofs.Asking.{sent_by, Moved, at_true, began_moved, ended_moved, collected_of, keeps_start, keeps_chain, known_by, sent_is}
 
 -- ---- which managers are among requests
 
@@ -119,7 +120,7 @@ asked_more [] k at at' h one = (one, tt)
 asked_more (j ∷ ks) k at at' h one = (h.0, asked_more ks k at at' h.1 one)
 
 -- the first request to a manager that nothing was sent to yet
-begins_flight : (k : Ask) (r : Option TicketView) (d0 d d' : DeskView) → ledger d.ledgers k.manager ≡ ledger d0.ledgers k.manager → IsKnown d.ledgers k.manager → Begins k d d' r → HasBegun k r d0.ledgers d'
+begins_flight : (k : Ask) (r : Option TicketView) (d0 d d' : DeskView) → ledger d.ledgers k.manager ≡ ledger d0.ledgers k.manager → IsKnown d.ledgers k.manager → BeginsAsk k d d' r → HasBegun k r d0.ledgers d'
 begins_flight k None d0 d d' same known b =
     (subst (λ (a : LedgerView). IsUnsent a k.op) same b.1, ap (λ (e : DeskView). ledger e.ledgers k.manager) b.0 ∙ same)
 begins_flight k (Some t) d0 d d' same known b = record {
@@ -133,7 +134,7 @@ begins_flight k (Some t) d0 d d' same known b = record {
 
 -- one more was sent
 pub sent_more : (ks : List Ask) (rs : List (Option TicketView)) (k : Ask) (r : Option TicketView) (d0 d d' : DeskView)
-    → AreRising 0 (ks ++ k ∷ []) → IsKnown d0.ledgers k.manager → HaveBegun ks rs d0 d → Begins k d d' r → HaveBegun (ks ++ k ∷ []) (rs ++ r ∷ []) d0 d'
+    → AreRising 0 (ks ++ k ∷ []) → IsKnown d0.ledgers k.manager → HaveBegun ks rs d0 d → BeginsAsk k d d' r → HaveBegun (ks ++ k ∷ []) (rs ++ r ∷ []) d0 d'
 sent_more ks rs k r d0 d d' up known h b =
     let none : among_asks ks k.manager ≡ false = rising_apart 0 ks k [] up in
     let same : ledger d.ledgers k.manager ≡ ledger d0.ledgers k.manager = h.others k.manager known.positive none in
@@ -149,7 +150,7 @@ sent_more ks rs k r d0 d d' up known h b =
     }
 
 -- it takes one handle at most
-pub sent_takes_one : (k : Ask) (r : Option TicketView) (d d' : DeskView) → IsKnown d.ledgers k.manager → Begins k d d' r → outstanding d'.ledgers ≤ outstanding d.ledgers + 1
+pub sent_takes_one : (k : Ask) (r : Option TicketView) (d d' : DeskView) → IsKnown d.ledgers k.manager → BeginsAsk k d d' r → outstanding d'.ledgers ≤ outstanding d.ledgers + 1
 sent_takes_one k None d d' known b = let z = ap (λ (e : DeskView). outstanding e.ledgers) b.0 in omega arith
 sent_takes_one k (Some t) d d' known b =
     let moved = began_moved k d d' (Some t) known b in

@@ -8,9 +8,9 @@ use Rattle.xa_words.specs.declared.request.Op.{Op}
 use Rattle.xa_desk.specs.LedgerView.{LedgerView, learnt_shut}
 use Rattle.xa_desk.specs.DeskView.{DeskView, TicketView, IsKnown, ledger, no_ledger, outstanding}
 use Rattle.xa_driver.specs.declared.ask.Ask.{Ask}
-use Rattle.xa_driver.specs.Asks.{asked, AskTrace, EachAsk, among_asks, Asks, SameAsks, IsSameAsk, AreRising, CanAsk, AllCanAsk, KeepsDesk, Begins, Ends, HasBegun, EachBegan, HaveBegun}
+use Rattle.xa_driver.specs.Asks.{asked, AskTrace, EachAsk, among_asks, Asks, SameAsks, IsSameAsk, AreRising, CanAsk, AllCanAsk, KeepsDesk, BeginsAsk, Ends, HasBegun, EachBegan, HaveBegun}
 use Rattle.xa_driver.proofs.Ledgers.{open_count}
-use Rattle.xa_driver.proofs.Aborts.{by_if}
+use Rattle.xa_base.proofs.Truth.{by_if}
 use Rattle.xa_driver.proofs.Asking.{Moved, keeps_chain, known_by, collected_of, rising_same, split_at}
 use Rattle.xa_driver.proofs.Flights.{among_last_part, apart, rising_apart, rising_first_part, rising_last_part, rising_to, can_at, sent_more, begun_stays, asked_stays, asked_more, end_moves, end_answers}
 
@@ -66,7 +66,7 @@ module _ (xs : List Ask) (n : ℕ) (k : Ask) (rs : List (Option TicketView)) (ol
       let same : ledger now.ledgers k.manager ≡ ledger old.ledgers k.manager = h.others k.manager can_first.known.positive (rising_apart 0 (take n xs) k (drop (n + 1) xs) up_parts) in
       record { known = known_by old.ledgers now.ledgers k.manager h.managers can_first.known; room = subst (λ (a : LedgerView). length a.sent < a.plan) (sym same) can_first.room }
 
-  pub one_more_begun : (r : Option TicketView) (new : DeskView) → Begins k now new r → HaveBegun (take (n + 1) xs) (rs ++ r ∷ []) old new
+  pub one_more_begun : (r : Option TicketView) (new : DeskView) → BeginsAsk k now new r → HaveBegun (take (n + 1) xs) (rs ++ r ∷ []) old new
   one_more_begun r new b =
       let more : take (n + 1) xs ≡ take n xs ++ k ∷ [] = take_more xs n k within ∙ (λ i. take n xs ++ sym is i ∷ []) in
       let up_more : AreRising 0 (take n xs ++ k ∷ []) = rising_to 0 (take n xs) k (drop (n + 1) xs) up_parts in

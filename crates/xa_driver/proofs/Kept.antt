@@ -84,6 +84,8 @@ out_committed t bs old new log log' done is o out =
 
 -- and so it stays kept
 pub commit_keeps : (t : TranName) (bs : List Branch) (old new : DeskView) (log log' : LogState) (done : Done) → IsTraceOfCommit t bs old.ledgers new.ledgers log log' done → KeepsDesk old new → AllKept old → AllKept new
-commit_keeps t bs old new log log' done is keeps all o out =
-    let k = all o (out_committed t bs old.ledgers new.ledgers log log' done is o out) in
-    (k.0, ap (λ m. finmap.get m k.0) keeps.kept ∙ k.1)
+commit_keeps t bs old new log log' done is keeps all = record {
+  each = λ o out.
+      let k = all.each o (out_committed t bs old.ledgers new.ledgers log log' done is o out) in
+      (k.0, ap (λ m. finmap.get m k.0) keeps.kept ∙ k.1);
+}

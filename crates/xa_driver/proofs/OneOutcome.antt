@@ -21,7 +21,8 @@ use Rattle.xa_driver.specs.Endings.{ending_of, yes_ending, no_ending, is_out_of_
 use Rattle.xa_driver.specs.Log.{LogState, record_of}
 use Rattle.xa_driver.specs.Trace.{EachBranch, BranchTrace, IsCommit, IsTraceOfCommit, IsTranOf, MayCommit, Logs, appended, failed, unwanted, wants_record}
 use Rattle.xa_driver.specs.Outcomes.{is_committed, is_rolled_back, has_committed, has_rolled_back, has_vote_against, append_failed, was_refused, IsCommittedTransaction, IsAbortedTransaction}
-use Rattle.xa_driver.proofs.Aborts.{by_if, abort_sends_no_commit, failed_append_aborts}
+use Rattle.xa_base.proofs.Truth.{by_if}
+use Rattle.xa_driver.proofs.Aborts.{abort_sends_no_commit, failed_append_aborts}
 use Rattle.xa_driver.proofs.Transactions.{tran_cmp_total}
 
 abbrev Falls : (Ending → Bool) → Ending → Type 0

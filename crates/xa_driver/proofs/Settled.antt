@@ -1,8 +1,8 @@
 -- What the branches of a call came to in a settled opening.
-use Rattle.std.proofs.Common.{◌≡◌, ℕ, zero, suc, ◌-◌, ◌<◌, ◌≤◌, Bool, ◌&&◌, if◌then◌else◌, List, [], ◌∷◌, ◌++◌, length, append_assoc, slice_get, get_or, sym, refl, ap, ◌∙◌, subst, arith, Option, Some, None, ⊎_elim}
+use Rattle.std.proofs.Common.{◌≡◌, ℕ, zero, suc, ◌-◌, ◌<◌, ◌≤◌, Bool, ◌&&◌, if◌then◌else◌, List, [], ◌∷◌, length, slice_get, get_or, sym, refl, ap, ◌∙◌, subst, arith, Option, Some, None, ⊎_elim}
 use Rattle.std.specs.List.{All}
 use Rattle.std.proofs.lemmas.Bool.{le-leb, cases_lt}
-use Rattle.std.proofs.lemmas.List.{append-nil}
+use Rattle.xa_base.proofs.Lists.{same_begins, begins_on}
 use Rattle.xa_words.specs.Tran.{TranName}
 use Rattle.xa_words.specs.declared.code.Code.{Code}
 use Rattle.xa_words.specs.declared.request.Op.{Op}
@@ -13,7 +13,8 @@ use Rattle.xa_desk.specs.LedgerView.{LedgerView, learnt_shut}
 use Rattle.xa_desk.specs.DeskView.{DeskView, ledger, no_ledger, is_known}
 use Rattle.xa_worker.specs.Journal.{Entry}
 use Rattle.xa_switch.specs.Settling.{Settling, IsSettled, Agree, sent, collected, journal, answers}
-use Rattle.xa_desk.specs.Growth.{Begins, HasGrown, HaveGrown}
+use Rattle.xa_base.specs.Lists.{Begins}
+use Rattle.xa_desk.specs.Growth.{HasGrown, HaveGrown}
 use Rattle.xa_switch.specs.Fates.{IsOpenedWith, ledgers_of, history as history_of}
 use Rattle.xa_driver.specs.declared.branch.Branch.{Branch}
 use Rattle.xa_driver.specs.declared.done.Done.{Done}
@@ -23,7 +24,7 @@ use Rattle.xa_driver.specs.Log.{LogState}
 use Rattle.xa_driver.specs.Asks.{asked}
 use Rattle.xa_driver.specs.Trace.{BranchTrace, EachBranch, IsCommit, IsTraceOfCommit, AreBranchesRising, voted}
 use Rattle.xa_driver.specs.Outcomes.{AreLeftAlone, OnlyTheseName, KeepsItsVote, TellsTheFate, EachOutcome, KeepsTheVotes, TellsTheFates}
-use Rattle.xa_driver.proofs.Aborts.{by_if}
+use Rattle.xa_base.proofs.Truth.{by_if}
 use Rattle.xa_driver.proofs.EachManager.{every_manager}
 use Rattle.xa_driver.proofs.Branches.{Tabled, Outcome, branch_outcome}
 
@@ -109,9 +110,6 @@ module _ (law : Tabled) (opened : (s : Settling) (m : ℕ) → IsSettled s → (
 
 -- ---- a commit only makes the lists grow
 
-same_begins : {X : Type 0} (xs : List X) → Begins xs xs
-same_begins xs = ([], sym (append-nil xs))
-
 unchanged : (a : LedgerView) → HasGrown a a
 unchanged a = record { sent = same_begins a.sent; collected = same_begins a.collected }
 
@@ -120,9 +118,6 @@ asked_grows a None code = unchanged a
 asked_grows a (Some op) None = unchanged a
 asked_grows a (Some op) (Some code) =
     by_if (HasGrown a) (learnt_shut a) _ _ (λ _. unchanged a) (λ _. record { sent = (op ∷ [], refl); collected = ((length a.sent, code) ∷ [], refl) })
-
-begins_on : {X : Type 0} (xs ys zs : List X) → Begins xs ys → Begins ys zs → Begins xs zs
-begins_on xs ys zs p q = (p.0 ++ q.0, q.1 ∙ ap (λ l. l ++ q.0) p.1 ∙ append_assoc xs p.0 q.0)
 
 grown_on : (a b c : LedgerView) → HasGrown a b → HasGrown b c → HasGrown a c
 grown_on a b c p q = record { sent = begins_on a.sent b.sent c.sent p.sent q.sent; collected = begins_on a.collected b.collected c.collected p.collected q.collected }

@@ -11,7 +11,7 @@ use Rattle.xa_desk.specs.Tickets.{LeavesTickets}
 use Rattle.xa_desk.proofs.Ledgers.{is_collected-push}
 use Rattle.xa_driver.specs.declared.ask.Ask.{Ask}
 use Rattle.xa_driver.specs.Asks.{asked, among_asks, Asks, EachAsk, KeepsDesk, LeavesOutstanding}
-use Rattle.xa_driver.proofs.Aborts.{by_if}
+use Rattle.xa_base.proofs.Truth.{by_if}
 use Rattle.xa_driver.proofs.Asking.{known_by}
 
 -- the request of this number was sent and not collected

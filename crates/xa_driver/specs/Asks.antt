@@ -1,20 +1,17 @@
 -- What requests to several managers add to a desk's lists.
-use Rattle.std.specs.Prelude.{◌≡◌, ℕ, ◌<◌, ◌≤◌, Bool, true, false, ◌==◌, if◌then◌else◌, Option, None, Some, List, [], ◌∷◌, length}
+use Rattle.std.specs.Prelude.{◌≡◌, ℕ, ◌<◌, ◌≤◌, Bool, true, false, ◌==◌, if◌then◌else◌, Option, None, Some, List, []}
+use Rattle.std.specs.Prelude.{◌∷◌, length}
 use Rattle.std.specs.List.{list_any}
 use Rattle.xa_words.specs.declared.code.Code.{Code}
 use Rattle.xa_words.specs.declared.code.Code.TheVariants.{RmFail}
 use Rattle.xa_words.specs.declared.request.Op.{Op}
 use Rattle.xa_desk.specs.LedgerView.{LedgerView, learnt_shut, with_sent, with_collected}
 use Rattle.xa_desk.specs.declared.operation.Operation.{Operation}
-use Rattle.xa_desk.specs.DeskView.{DeskView, TicketView, IsKnown, IsOut, Owns, ledger, after_sent, next_operation, ticket_of}
+use Rattle.xa_desk.specs.DeskView.{DeskView, TicketView, IsKnown, IsOut, Owns, ledger, after_sent, next_operation}
+use Rattle.xa_desk.specs.DeskView.{ticket_of}
 use Rattle.xa_desk.specs.GoesOn.{GoesOn}
 use Rattle.xa_desk.specs.Looks.{Collects}
 use Rattle.xa_driver.specs.declared.ask.Ask.{Ask}
-
--- a request is sent where its manager isn't learnt to be shut
-abbrev pub sent_by : LedgerView → Option Op → LedgerView
-sent_by a None = a
-sent_by a (Some op) = if learnt_shut a then a else with_sent a op
 
 -- and then collected, under the number that it was sent with
 abbrev pub asked : LedgerView → Option Op → Option Code → LedgerView
@@ -107,9 +104,9 @@ pub record IsSending (k : Ask) (old new : DeskView) (t : TicketView) : Type 0 wh
   pub keeps : KeepsDesk old new
 
 -- what sending a request does: nothing, and no ticket, or it is sent
-abbrev pub Begins : Ask → DeskView → DeskView → Option TicketView → Type 0
-Begins k old new None = (new ≡ old) × IsUnsent (ledger old.ledgers k.manager) k.op
-Begins k old new (Some t) = IsSending k old new t
+abbrev pub BeginsAsk : Ask → DeskView → DeskView → Option TicketView → Type 0
+BeginsAsk k old new None = (new ≡ old) × IsUnsent (ledger old.ledgers k.manager) k.op
+BeginsAsk k old new (Some t) = IsSending k old new t
 
 -- what collecting it does: its code is the one collected, or the one that counts where nothing was sent
 abbrev pub Ends : Ask → DeskView → DeskView → Option TicketView → Option Code → Type 0

@@ -44,5 +44,8 @@ pub record LogView : Type 0 where
 -- a log in memory as data
 abbrev pub log_code : Coded LogView
 log_code =
-    code_by (Records × (ℕ × (ℕ × ℕ))) (coded× (map.code tran_code (coded_list coded_bool)) (coded× coded_ℕ (coded× coded_ℕ coded_ℕ))) (λ l. (l.state.records, (l.state.failures, (l.appends, l.failing))))
-    (λ p. record { state = record { records = p.0; failures = p.1.0 }; appends = p.1.1.0; failing = p.1.1.1 }) (λ _. refl)
+    code_by (Records × (ℕ × (ℕ × ℕ)))
+    (coded× (map.code tran_code (coded_list coded_bool)) (coded× coded_ℕ (coded× coded_ℕ coded_ℕ)))
+    (λ l. (l.state.records, (l.state.failures, (l.appends, l.failing))))
+    (λ p. record { state = record { records = p.0; failures = p.1.0 }; appends = p.1.1.0; failing = p.1.1.1 })
+    (λ _. refl)

@@ -1,5 +1,6 @@
 -- What becomes of the branches of a global transaction: presumed abort.
-use Rattle.std.specs.Prelude.{◌≡◌, ℕ, ◌+◌, ◌≤◌, ◌<◌, Bool, true, false, not, ◌&&◌, ◌||◌, Option, None, Some, List, [], ◌∷◌, ◌++◌, length}
+use Rattle.std.specs.Prelude.{◌≡◌, ℕ, ◌+◌, ◌≤◌, ◌<◌, Bool, true, false, not, ◌&&◌, ◌||◌, Option, None, Some, List, []}
+use Rattle.std.specs.Prelude.{◌∷◌, ◌++◌, length}
 use Rattle.std.specs.List.{All, list_any}
 use Rattle.xa_words.specs.Xid.{XidName}
 use Rattle.xa_words.specs.Tran.{TranName}
@@ -83,7 +84,8 @@ pub record IsCommittedTransaction (tran : TranName) (bs : List Branch) (later : 
   pub kept : has_rolled_back d ≡ false
 
 -- the transaction is aborted: no branch is committed, the log has nothing of it, and no Commit was sent to any manager
-pub record IsAbortedTransaction (tran : TranName) (old new : List LedgerView) (later : LogState) (d : Done) : Type 0 where
+pub record IsAbortedTransaction (tran : TranName) (old new : List LedgerView) (later : LogState)
+    (d : Done) : Type 0 where
   pub uncommitted : has_committed d ≡ false
   pub unrecorded : record_of later tran ≡ None
   pub unsent : NoCommitWasSent old new
@@ -100,11 +102,13 @@ pub record IsBetween (t first last : ℕ) (r : Request) : Type 0 where
 -- `last`.
 abbrev pub OnlyTheseName : XidName → ℕ → ℕ → ℕ → History → Type 0
 OnlyTheseName x t first last h =
-    (before after : History) (r : Request) → h ≡ before ++ r ∷ after → r.thread ≡ t → r.number ≡ first → All (λ q. names x q.op ≡ true → IsBetween t first last q) after
+    (before after : History) (r : Request) → h ≡ before ++ r ∷ after → r.thread ≡ t → r.number ≡ first
+    → All (λ q. names x q.op ≡ true → IsBetween t first last q) after
 
 -- so for each branch and the requests that the call of thread t sent to its manager: nobody else names it
 pub record AreLeftAlone (s : Settling) (t : ℕ) (bs : List Branch) (old new : List LedgerView) : Type 0 where
-  pub each : All (λ b. OnlyTheseName b.xid t (length (ledger old b.m).sent) (length (ledger new b.m).sent) (history_of s b.m)) bs
+  pub each : All
+      (λ b. OnlyTheseName b.xid t (length (ledger old b.m).sent) (length (ledger new b.m).sent) (history_of s b.m)) bs
 
 -- a Shut stands before thread t's request of this number
 pub record IsAfterShut (t n : ℕ) (h : History) : Type 0 where
@@ -126,7 +130,8 @@ told_fate (Left c) = None
 
 -- A branch that voted to commit isn't left, and it is in doubt only where its manager was shut before the place of its
 -- second request.
-pub record KeepsItsVote (s : Settling) (t : ℕ) (b : Branch) (old : LedgerView) (vote : Code) (ending : Ending) : Type 0 where
+pub record KeepsItsVote (s : Settling) (t : ℕ) (b : Branch) (old : LedgerView) (vote : Code)
+    (ending : Ending) : Type 0 where
   pub reached : is_yes vote ≡ true → is_left ending ≡ false
   pub shut : is_yes vote ≡ true → is_in_doubt ending ≡ true → IsAfterShut t (length old.sent + 1) (history_of s b.m)
 

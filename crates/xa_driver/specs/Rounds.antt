@@ -20,7 +20,8 @@ code_of k = unwrap_or k.code RmFail
 
 -- what it is asked by the decision and its vote
 abbrev pub second_ask : Bool → Ask → Ask
-second_ask commit k = record { manager = k.manager; xid = k.xid; vote = code_of k; op = second_op commit k.xid (code_of k); code = None }
+second_ask commit k =
+    record { manager = k.manager; xid = k.xid; vote = code_of k; op = second_op commit k.xid (code_of k); code = None }
 
 -- its ending by the decision and both codes
 abbrev pub ending_of_ask : Bool → Ask → Ending

@@ -1,6 +1,8 @@
 -- What a commit of several branches adds to a desk's lists and to the log.
-use Rattle.std.specs.Prelude.{◌≡◌, ℕ, ◌+◌, ◌<◌, ◌≤◌, Bool, true, false, not, ◌==◌, ◌&&◌, ◌||◌, Option, None, Some, List, [], ◌∷◌, length}
+use Rattle.std.specs.Prelude.{◌≡◌, ℕ, ◌+◌, ◌<◌, ◌≤◌, Bool, true, false, not, ◌==◌, ◌&&◌, ◌||◌, Option, None, Some, List}
+use Rattle.std.specs.Prelude.{[], ◌∷◌, length}
 use Rattle.std.specs.List.{list_any}
+use Rattle.xa_base.specs.declared.limits.TheConstants.{MOST_MANAGERS}
 use Rattle.xa_words.specs.Tran.{TranName, tran_of}
 use Rattle.xa_words.specs.declared.code.Code.{Code}
 use Rattle.xa_words.specs.declared.request.Op.TheVariants.{Prepare}
@@ -20,13 +22,15 @@ voted b vote a = asked a (Some (Prepare b.xid)) (Some vote)
 
 -- a branch's manager got a Prepare and, where the decision wants one, a second request; each was collected;
 -- nothing else was sent to it or collected from it
-pub record BranchTrace (commit : Bool) (b : Branch) (vote : Code) (second : Option Code) (a a' : LedgerView) : Type 0 where
+pub record BranchTrace (commit : Bool) (b : Branch) (vote : Code) (second : Option Code)
+    (a a' : LedgerView) : Type 0 where
   pub prepared : IsAnswered a (Some (Prepare b.xid)) (Some vote)
   pub decided : IsAnswered (voted b vote a) (second_op commit b.xid vote) second
   pub trace : a' ≡ asked (voted b vote a) (second_op commit b.xid vote) second
 
 -- branch by branch, with its vote, its second code and its ending
-abbrev pub EachBranch : (Branch → Code → Option Code → Ending → Type 0) → List Branch → List Code → List (Option Code) → List Ending → Type 0
+abbrev pub EachBranch : (Branch → Code → Option Code → Ending → Type 0) → List Branch → List Code → List (Option Code)
+    → List Ending → Type 0
 EachBranch P [] [] [] [] = Unit {0}
 EachBranch P (b ∷ bs) (v ∷ vs) (s ∷ ss) (e ∷ es) = P b v s e × EachBranch P bs vs ss es
 EachBranch P bs vs ss es = ⊥
@@ -58,7 +62,7 @@ HaveRoom at (b ∷ bs) = HasRoom at b.m × HaveRoom at bs
 -- when the branches may be committed
 pub record MayCommit (d : DeskView) (log : LogState) (bs : List Branch) : Type 0 where
   pub some : 1 ≤ length bs
-  pub most : length bs ≤ 8
+  pub most : length bs ≤ MOST_MANAGERS
   pub rising : AreBranchesRising 0 bs
   pub room : HaveRoom d.ledgers bs
   pub free : outstanding d.ledgers + length bs ≤ d.handles
@@ -70,27 +74,34 @@ pub record MayCommit (d : DeskView) (log : LogState) (bs : List Branch) : Type 0
 abbrev pub wants_record : List Code → Bool
 wants_record votes = decides_commit votes && has_yes votes
 
--- What becomes of the log. Where the votes want it, a record with the yes managers is appended, or that fails; else nothing is appended.
-pub data Logs (tran : TranName) (yes : List Bool) (votes : List Code) (logged : Bool) (old new : LogState) : Type 0 where
-  appended : wants_record votes ≡ true → logged ≡ true → new ≡ with_record old tran yes → Logs tran yes votes logged old new
+-- What becomes of the log. Where the votes want it, a record with the yes managers is appended, or that fails; else
+-- nothing is appended.
+pub data Logs (tran : TranName) (yes : List Bool) (votes : List Code) (logged : Bool)
+    (old new : LogState) : Type 0 where
+  appended : wants_record votes ≡ true → logged ≡ true → new ≡ with_record old tran yes
+      → Logs tran yes votes logged old new
   failed : wants_record votes ≡ true → logged ≡ false → new ≡ with_failure old → Logs tran yes votes logged old new
   unwanted : wants_record votes ≡ false → logged ≡ false → new ≡ old → Logs tran yes votes logged old new
 
 -- the votes decide commit, and no append failed
-abbrev pub commits : List Code → Bool → Bool
-commits votes logged = decides_commit votes && (not (has_yes votes) || logged)
+abbrev pub decision_of : List Code → Bool → Bool
+decision_of votes logged = decides_commit votes && (not (has_yes votes) || logged)
 
 -- what a commit_all of the branches left is its trace: each branch's requests, its vote and its ending; nothing for
 -- any other manager; the decision by the votes and the log; and the record, where there is one to make
-pub record IsTraceOfCommit (tran : TranName) (bs : List Branch) (old new : List LedgerView) (log log' : LogState) (d : Done) : Type 0 where
+pub record IsTraceOfCommit (tran : TranName) (bs : List Branch) (old new : List LedgerView) (log log' : LogState)
+    (d : Done) : Type 0 where
   pub seconds : List (Option Code)
-  pub each : EachBranch (λ b v s e. BranchTrace d.commit b v s (ledger old b.m) (ledger new b.m) × (e ≡ ending_of d.commit v s)) bs d.votes.items seconds d.endings.items
+  pub each : EachBranch
+      (λ b v s e. BranchTrace d.commit b v s (ledger old b.m) (ledger new b.m) × (e ≡ ending_of d.commit v s))
+      bs d.votes.items seconds d.endings.items
   pub others : (m : ℕ) → 1 ≤ m → has_branch_at bs m ≡ false → ledger new m ≡ ledger old m
   pub managers : length new ≡ length old
-  pub decision : d.commit ≡ commits d.votes.items d.logged
+  pub decision : d.commit ≡ decision_of d.votes.items d.logged
   pub logs : Logs tran (yes_of bs d.votes.items) d.votes.items d.logged log log'
 
 -- A commit of the branches was made: it might be, and the desk's lists, the log and what it told grew by its trace.
-pub record IsCommit (bs : List Branch) (desk : DeskView) (new : List LedgerView) (log later : LogState) (d : Done) : Type 0 where
+pub record IsCommit (bs : List Branch) (desk : DeskView) (new : List LedgerView) (log later : LogState)
+    (d : Done) : Type 0 where
   pub may : MayCommit desk log bs
   pub trace : IsTraceOfCommit may.tran bs desk.ledgers new log later d

@@ -2,7 +2,7 @@
 ghost use Rattle.std.specs.Prelude.{◌≡◌, ◌+◌, ◌<◌, ◌≤◌, [], length, true, false, IfSome, IfNone, OnSome, IsNone, IsSome, vec_capacity};
 ghost use Rattle.xa_desk.specs.LedgerView.{learnt_shut};
 ghost use Rattle.xa_desk.specs.DeskView.{Owns, ledger, after_sent, next_operation, outstanding, ticket_of};
-ghost use Rattle.xa_driver.specs.Asks.{CanAsk, AllCanAsk, AreRising, Asks, SameAsks, KeepsDesk, LeavesOutstanding, Begins, Ends, HaveBegun, Owning};
+ghost use Rattle.xa_driver.specs.Asks.{CanAsk, AllCanAsk, AreRising, Asks, SameAsks, KeepsDesk, LeavesOutstanding, BeginsAsk, Ends, HaveBegun, Owning};
 
 use std::snapshot::Snapshot;
 use std::sync::Wait;
@@ -56,7 +56,7 @@ fn submit_waiting<R: Wait, I: Idle>(
 fn begin<R: Wait, I: Idle>(rt: &R, desk: &mut Desk, ask: &Ask, idle: &mut I) -> Option<Ticket>
     requires can { CanAsk desk.old.ledgers ask.now.manager }
     requires free { outstanding desk.old.ledgers < desk.old.handles }
-    ensures began { Begins ask.now desk.old desk.new result }
+    ensures began { BeginsAsk ask.now desk.old desk.new result }
     ensures idled { I.leads idle.old idle.new }
 {
     let Some(op) = &ask.op else {

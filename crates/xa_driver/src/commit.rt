@@ -6,7 +6,7 @@ ghost use Rattle.xa_desk.specs.DeskView.{outstanding};
 ghost use Rattle.xa_desk.specs.Kept.{AllKept};
 ghost use Rattle.xa_desk.specs.Tickets.{LeavesTickets};
 ghost use Rattle.xa_driver.specs.Asks.{KeepsDesk, LeavesOutstanding};
-ghost use Rattle.xa_driver.specs.Trace.{IsCommit, IsTraceOfCommit, IsTranOf, Logs, MayCommit, commits};
+ghost use Rattle.xa_driver.specs.Trace.{IsCommit, IsTraceOfCommit, IsTranOf, Logs, MayCommit, decision_of};
 
 use crate::ask::ask_all;
 use crate::branch::Branch;
@@ -21,7 +21,7 @@ use xa_words::{Code, Tran};
 // Whether to commit, and whether that was logged.
 fn decide<L: DecisionLog>(log: &mut L, tran: Tran, yes: Yes, votes: &[Code]) -> (bool, bool)
     requires { record_of (L.state log.old) tran ≡ None }
-    ensures decision { result.0 ≡ commits votes.now result.1 }
+    ensures decision { result.0 ≡ decision_of votes.now result.1 }
     ensures logs { Logs tran yes votes.now result.1 (L.state log.old) (L.state log.new) }
 {
     if has_no(votes) {

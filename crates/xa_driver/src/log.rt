@@ -2,10 +2,11 @@
 ghost use Rattle.std.specs.Prelude.{◌≡◌, OnOk, OnErr, None};
 ghost use Rattle.xa_driver.specs.Log.{LogState, record_of, with_record, with_failure};
 
+use xa_base::MOST_MANAGERS;
 use xa_words::Tran;
 
 /// Which managers voted yes: place m - 1 for manager m.
-pub type Yes = [bool; 8];
+pub type Yes = [bool; MOST_MANAGERS];
 
 /// The record of a decision to commit.
 #[derive(Clone, Copy, Debug)]

@@ -5,6 +5,7 @@ ghost use Rattle.xa_driver.specs.Trace.{AreBranchesRising, HaveRoom, IsTranOf, M
 
 use crate::branch::Branch;
 use crate::log::DecisionLog;
+use xa_base::MOST_MANAGERS;
 use xa_desk::Desk;
 use xa_words::Tran;
 
@@ -54,7 +55,7 @@ fn is_tran_of(branches: &[Branch], tran: Tran) -> bool
 pub fn may_commit<L: DecisionLog>(desk: &Desk, log: &L, branches: &[Branch]) -> bool
     ensures { IsTrue result ↔ MayCommit desk.now (L.state log.now) branches.now }
 {
-    if branches.is_empty() || branches.len() > 8 {
+    if branches.is_empty() || branches.len() > MOST_MANAGERS {
         return false;
     }
     if !are_rising(branches) {

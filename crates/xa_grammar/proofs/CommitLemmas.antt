@@ -3,7 +3,7 @@ use Rattle.std.specs.Prelude.{◌≡◌, ℕ, Bool, List, [], ◌∷◌, Result,
 use Rattle.std.proofs.Common.{sym, ◌∙◌}
 use Rattle.xa_grammar.specs.declared.fault.Reason.{Reason}
 use Rattle.xa_grammar.specs.Fields.{◌>>=◌, Word, number_in, number_at, numbers_to_end}
-use Rattle.xa_grammar.specs.Commits.{numbers_at, branches_of, branches_at}
+use Rattle.xa_grammar.specs.Commits.{numbers_at, rising_branches, branches_at}
 
 -- A number ahead of others.
 on_top : (r : Result (List ℕ) Reason) (m : ℕ) (f : List ℕ → Result (List Bool) Reason) → ((r >>= λ ms. Ok (m ∷ ms)) >>= f) ≡ (r >>= λ ms. f (m ∷ ms))
@@ -16,9 +16,9 @@ alike (Ok ms) f g same = same ms
 alike (Err why) f g same = refl
 
 -- The first word is a number, and the others go on.
-pub first_number : (count : ℕ) (ws rest : List Word) (m : ℕ) (g : List ℕ → Result (List Bool) Reason) → number_at 0 4294967295 ws ≡ Ok (m, rest) → ((ms : List ℕ) → g ms ≡ branches_of count (m ∷ ms)) → (numbers_to_end 0 4294967295 rest >>= g) ≡ branches_at count ws
+pub first_number : (count : ℕ) (ws rest : List Word) (m : ℕ) (g : List ℕ → Result (List Bool) Reason) → number_at 0 4294967295 ws ≡ Ok (m, rest) → ((ms : List ℕ) → g ms ≡ rising_branches count (m ∷ ms)) → (numbers_to_end 0 4294967295 rest >>= g) ≡ branches_at count ws
 unfolding branches_at numbers_at
-first_number count ws rest m g e same = rw e (alike (numbers_to_end 0 4294967295 rest) g (λ ms. branches_of count (m ∷ ms)) same ∙ sym (on_top (numbers_to_end 0 4294967295 rest) m (branches_of count)))
+first_number count ws rest m g e same = rw e (alike (numbers_to_end 0 4294967295 rest) g (λ ms. rising_branches count (m ∷ ms)) same ∙ sym (on_top (numbers_to_end 0 4294967295 rest) m (rising_branches count)))
 
 -- Or it is a fault.
 pub no_first_number : (count : ℕ) (ws : List Word) (why : Reason) → number_at 0 4294967295 ws ≡ Err why → branches_at count ws ≡ Err why

@@ -31,7 +31,8 @@ use Rattle.xa_grammar.specs.declared.line.Item.{Item}
 use Rattle.xa_grammar.specs.declared.line.Item.TheVariants as item
 use Rattle.xa_grammar.specs.Text.{is_script_byte, words_of}
 use Rattle.xa_grammar.specs.Fields.{◌>>=◌, Word, word_at, end_of, number_of, number_in, number_at, key_at, tran_at, flags_onto}
-use Rattle.xa_grammar.specs.Content.{Content, IsScript, IsUpTo, IsOfManager, IsOfLog, IsOfScript, threads_of, managers_of, accounts_of, failing_append, thread_of, with_count, with_key, with_sync, with_failing, with_step}
+use Rattle.xa_base.specs.Lists.{IsUpTo}
+use Rattle.xa_grammar.specs.Content.{Content, IsScript, IsOfManager, IsOfLog, IsOfScript, threads_of, managers_of, accounts_of, failing_append, thread_of, with_count, with_key, with_sync, with_failing, with_step}
 use Rattle.xa_grammar.specs.Settings.{before_actions, count_of, not_set, limit_of, setting_of, sync_of, logfail_of, has_key, key_count, declared_of}
 use Rattle.xa_grammar.specs.Commits.{branches_at, commit_of}
 use Rattle.xa_grammar.specs.Actions.{verb_of, action_at, called_of, call_task, commit_task, task_by, task_of_line, turn_of}

@@ -13,7 +13,8 @@ use Rattle.xa_grammar.specs.declared.script.Task.{Task}
 use Rattle.xa_grammar.specs.declared.script.Task.TheVariants as task
 use Rattle.xa_grammar.specs.declared.action.Verb.{Verb}
 use Rattle.xa_grammar.specs.declared.action.Verb.TheVariants as verb
-use Rattle.xa_grammar.specs.Fields.{◌>>=◌, Word, word_at, end_of, number_in, number_at, key_at, xid_at, delta_at, flags_onto}
+use Rattle.xa_grammar.specs.Fields.{◌>>=◌, Word, word_at, end_of, number_in, number_at, key_at, xid_at, delta_at}
+use Rattle.xa_grammar.specs.Fields.{flags_onto}
 use Rattle.xa_grammar.specs.Content.{Content, threads_of, managers_of}
 use Rattle.xa_grammar.specs.Commits.{commit_of}
 

@@ -1,5 +1,6 @@
 -- The line of a commit of several branches.
-use Rattle.std.specs.Prelude.{ℕ, Bool, true, false, ◌&&◌, ◌||◌, ◌==◌, nat_lt, nat_le, if◌then◌else◌, List, [], ◌∷◌, map, get_or, Result, Ok, Err}
+use Rattle.std.specs.Prelude.{ℕ, Bool, true, false, ◌&&◌, ◌||◌, ◌==◌, nat_lt, nat_le, if◌then◌else◌, List, [], ◌∷◌, map}
+use Rattle.std.specs.Prelude.{get_or, Result, Ok, Err}
 use Rattle.std.specs.List.{list_any}
 use Rattle.xa_grammar.specs.declared.fault.Reason.{Reason}
 use Rattle.xa_grammar.specs.declared.fault.Reason.TheVariants.{BadBranches}
@@ -29,14 +30,14 @@ abbrev pub places : (ℕ → Bool) → List Bool
 places is_in = map is_in (1 ∷ 2 ∷ 3 ∷ 4 ∷ 5 ∷ 6 ∷ 7 ∷ 8 ∷ [])
 
 -- Where the branches are: at managers that there are, which are named in rising order.
-abbrev pub branches_of : ℕ → List ℕ → Result (List Bool) Reason
-branches_of count ms = if are_rising count 0 ms then Ok (places (is_named ms)) else Err BadBranches
+abbrev pub rising_branches : ℕ → List ℕ → Result (List Bool) Reason
+rising_branches count ms = if are_rising count 0 ms then Ok (places (is_named ms)) else Err BadBranches
 
 -- M M .., judged after the last of them.
 unfoldable pub branches_at : ℕ → List Word → Result (List Bool) Reason
 branches_at count ws = do
   ms ← numbers_at ws
-  branches_of count ms
+  rising_branches count ms
 
 -- G M M .., by a thread, on the line of this number.
 unfoldable pub commit_of : Content → ℕ → ℕ → List Word → Result CommitAll Reason

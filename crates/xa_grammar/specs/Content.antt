@@ -1,6 +1,12 @@
--- A script as contracts see it: its settings, the keys that it declares and the steps of its threads, in the order of its lines.
-use Rattle.std.specs.Prelude.{◌≡◌, ℕ, ◌≤◌, ◌-◌, ◌==◌, nat_lt, Bool, not, true, if◌then◌else◌, All, IfSome, Option, Some, None, unwrap_or, List, [], ◌∷◌, ◌++◌, map, filter, filter_map, get_or, slice_set, replicate}
+-- A script as contracts see it: its settings, the keys that it declares and the steps of its threads, in the order of
+-- its lines.
+use Rattle.std.specs.Prelude.{◌≡◌, ℕ, ◌≤◌, ◌-◌, ◌==◌, nat_lt, Bool, not, true, if◌then◌else◌, All, IfSome, Option, Some}
+use Rattle.std.specs.Prelude.{None, unwrap_or, List, [], ◌∷◌, ◌++◌, map, filter, filter_map, get_or, slice_set}
+use Rattle.std.specs.Prelude.{replicate}
 use Rattle.std.specs.List.{list_any}
+use Rattle.xa_base.specs.declared.limits.TheConstants.{MOST_HANDLES, MOST_MANAGERS, MOST_QUEUED, MOST_REQUESTS}
+use Rattle.xa_base.specs.declared.limits.TheConstants.{MOST_THREADS}
+use Rattle.xa_base.specs.Lists.{IsUpTo}
 use Rattle.xa_tables.specs.Accounts.{are_accounts}
 use Rattle.xa_grammar.specs.declared.script.Count.{Count}
 use Rattle.xa_grammar.specs.declared.script.Count.TheVariants.{Threads, Managers, Handles, Queue, Requests}
@@ -71,7 +77,14 @@ tasks_of t steps = filter_map (task_of t) steps
 
 -- Nothing is set or declared, and nothing is to be done.
 abbrev pub nothing : Content
-nothing = record { settings = record { threads = None; managers = None; handles = None; queue = None; requests = None }; keys = []; syncs = []; failing = replicate 8 None; steps = [] }
+nothing =
+    record {
+      settings = record { threads = None; managers = None; handles = None; queue = None; requests = None };
+      keys = [];
+      syncs = [];
+      failing = replicate 8 None;
+      steps = [];
+    }
 
 -- One more count is set.
 abbrev pub with_setting : Count → ℕ → Settings → Settings
@@ -106,10 +119,6 @@ with_step p s = record s { steps = s.steps ++ p ∷ [] }
 abbrev pub IsOfManager : Content → Declared → Type 0
 IsOfManager s d = (1 ≤ d.manager) × (d.manager ≤ managers_of s)
 
--- A count is from 1 to a limit.
-abbrev pub IsUpTo : ℕ → ℕ → Type 0
-IsUpTo limit n = (1 ≤ n) × (n ≤ limit)
-
 -- With so many threads and managers, a task is of a thread that there is, and a turn of a manager that there is.
 abbrev pub Fits : ℕ → ℕ → Step → Type 0
 Fits threads managers (step.Task p) = IsUpTo threads (thread_of p)
@@ -122,13 +131,15 @@ IsOfScript s p = Fits (threads_of s) (managers_of s) p
 abbrev pub IsOfLog : Content → ℕ → Type 0
 IsOfLog s t = IfSome (failing_append s t) (λ k. IsUpTo 1_000_000 k × IsUpTo (threads_of s) t)
 
--- What holds of every script: its counts are within the limits, each key is of a manager that there is, each manager can be opened with its keys, appends fail in logs that there are, and each step is of a thread or a manager that there is.
+-- What holds of every script: its counts are within the limits, each key is of a manager that there is, each manager
+-- can be opened with its keys, appends fail in logs that there are, and each step is of a thread or a manager that
+-- there is.
 pub record IsScript (s : Content) : Type 0 where
-  pub threads : IsUpTo 8 (threads_of s)
-  pub managers : IsUpTo 8 (managers_of s)
-  pub handles : IsUpTo 32 (handles_of s)
-  pub queue : IsUpTo 64 (queue_of s)
-  pub requests : IsUpTo 4096 (requests_of s)
+  pub threads : IsUpTo MOST_THREADS (threads_of s)
+  pub managers : IsUpTo MOST_MANAGERS (managers_of s)
+  pub handles : IsUpTo MOST_HANDLES (handles_of s)
+  pub queue : IsUpTo MOST_QUEUED (queue_of s)
+  pub requests : IsUpTo MOST_REQUESTS (requests_of s)
   pub of_managers : All (IsOfManager s) s.keys
   pub accounts : (m : ℕ) → are_accounts (accounts_of m s.keys) ≡ true
   pub of_logs : (t : ℕ) → IsOfLog s t

@@ -1,5 +1,6 @@
 -- What a word stands for, and which fault it is where it stands for nothing.
-use Rattle.std.specs.Prelude.{◌≡◌, ℕ, ◌+◌, ◌-◌, ◌*◌, ℤ, pos, neg_ℤ, Bool, ◌&&◌, ◌||◌, ◌==◌, nat_le, if◌then◌else◌, List, [], ◌∷◌, length, fold, Option, Some, None, Result, Ok, Err, bit_or, codes}
+use Rattle.std.specs.Prelude.{◌≡◌, ℕ, ◌+◌, ◌-◌, ◌*◌, ℤ, pos, neg_ℤ, Bool, ◌&&◌, ◌||◌, ◌==◌, nat_le, if◌then◌else◌, List}
+use Rattle.std.specs.Prelude.{[], ◌∷◌, length, fold, Option, Some, None, Result, Ok, Err, bit_or, codes}
 use Rattle.std.specs.List.{list_all, before_first, after_first}
 use Rattle.std.specs.Option.{ok_or, option_map}
 use Rattle.std.specs.Char.{is_ascii_digit, is_ascii_lowercase}
@@ -8,10 +9,12 @@ use Rattle.xa_words.specs.Xid.{XidName}
 use Rattle.xa_words.specs.Tran.{TranName}
 use Rattle.xa_words.specs.Key.{key_of}
 use Rattle.xa_words.specs.Delta.{delta_of}
-use Rattle.xa_words.specs.Flags.{TMASYNC, TMONEPHASE, TMFAIL, TMNOWAIT, TMRESUME, TMSUCCESS, TMSUSPEND, TMMULTIPLE, TMJOIN}
+use Rattle.xa_words.specs.Flags.{TMASYNC, TMONEPHASE, TMFAIL, TMNOWAIT, TMRESUME, TMSUCCESS, TMSUSPEND, TMMULTIPLE}
+use Rattle.xa_words.specs.Flags.{TMJOIN}
 use Rattle.xa_grammar.specs.Text.{dot, minus}
 use Rattle.xa_grammar.specs.declared.fault.Reason.{Reason}
-use Rattle.xa_grammar.specs.declared.fault.Reason.TheVariants.{UnknownWord, MissingWord, ExtraWord, BadNumber, OutOfRange, BadKey, BadXid}
+use Rattle.xa_grammar.specs.declared.fault.Reason.TheVariants.{UnknownWord, MissingWord, ExtraWord, BadNumber}
+use Rattle.xa_grammar.specs.declared.fault.Reason.TheVariants.{OutOfRange, BadKey, BadXid}
 
 -- The first fault decides.
 infixl 10 ◌>>=◌
@@ -103,12 +106,12 @@ unfoldable pub xid_at : List Word → Result (XidName × List Word) Reason
 xid_at ws = field (λ w. ok_or (xid_of w) BadXid) ws
 
 -- A name stands for the global transaction of format 1 that has it as gtrid.
-abbrev pub tran_of : Word → Option TranName
-tran_of w = if is_name w then Some (record { format = pos 1; gtrid = w }) else None
+abbrev pub tran_named : Word → Option TranName
+tran_named w = if is_name w then Some (record { format = pos 1; gtrid = w }) else None
 
 -- The next word, as a global transaction.
 unfoldable pub tran_at : List Word → Result (TranName × List Word) Reason
-tran_at ws = field (λ w. ok_or (tran_of w) BadXid) ws
+tran_at ws = field (λ w. ok_or (tran_named w) BadXid) ws
 
 -- ---- deltas
 

@@ -1,7 +1,9 @@
 -- What a line says, the first fault in it, and the script that all lines make.
-use Rattle.std.specs.Prelude.{◌≡◌, ℕ, ◌+◌, Bool, false, not, ◌==◌, nat_lt, if◌then◌else◌, List, [], ◌∷◌, length, Option, Some, None, Result, Ok, Err, codes}
+use Rattle.std.specs.Prelude.{◌≡◌, ℕ, ◌+◌, Bool, false, not, ◌==◌, nat_lt, if◌then◌else◌, List, [], ◌∷◌, length, Option}
+use Rattle.std.specs.Prelude.{Some, None, Result, Ok, Err, codes}
 use Rattle.std.specs.List.{list_all}
 use Rattle.std.specs.Str.{bytes_eq}
+use Rattle.xa_base.specs.declared.limits.TheConstants.{MOST_THREADS}
 use Rattle.xa_grammar.specs.declared.fault.Reason.{Reason}
 use Rattle.xa_grammar.specs.declared.fault.Reason.TheVariants.{LineTooLong, BadByte, TooManyLines, UnknownWord}
 use Rattle.xa_grammar.specs.declared.fault.ScriptFault.{ScriptFault}
@@ -14,7 +16,8 @@ use Rattle.xa_grammar.specs.declared.line.Item.{Item}
 use Rattle.xa_grammar.specs.declared.line.Item.TheVariants as item
 use Rattle.xa_grammar.specs.Text.{hash, lines_of, words_of, without_return, is_script_byte}
 use Rattle.xa_grammar.specs.Fields.{◌>>=◌, Word, all_digits}
-use Rattle.xa_grammar.specs.Content.{Content, nothing, with_count, with_key, with_sync, with_failing, with_step, IsUpTo}
+use Rattle.xa_base.specs.Lists.{IsUpTo}
+use Rattle.xa_grammar.specs.Content.{Content, nothing, with_count, with_key, with_sync, with_failing, with_step}
 use Rattle.xa_grammar.specs.Settings.{setting_of, sync_of, logfail_of, declared_of}
 use Rattle.xa_grammar.specs.Actions.{task_of_line, turn_of}
 
@@ -91,7 +94,7 @@ abbrev pub HasPlace : Item → Type 0
 HasPlace item.Nothing = Unit {0}
 HasPlace (item.Count count n) = Unit {0}
 HasPlace (item.Sync m) = Unit {0}
-HasPlace (item.LogFail t k) = IsUpTo 8 t
+HasPlace (item.LogFail t k) = IsUpTo MOST_THREADS t
 HasPlace (item.Key d) = Unit {0}
 HasPlace (item.Step p) = Unit {0}
 

@@ -1,6 +1,9 @@
 -- Settings: the lines that come before the first action.
-use Rattle.std.specs.Prelude.{ℕ, Bool, ◌&&◌, ◌==◌, nat_le, is_some, if◌then◌else◌, List, [], ◌∷◌, count_by, Option, Result, Ok, Err}
+use Rattle.std.specs.Prelude.{ℕ, Bool, ◌&&◌, ◌==◌, nat_le, is_some, if◌then◌else◌, List, [], ◌∷◌, count_by, Option}
+use Rattle.std.specs.Prelude.{Result, Ok, Err}
 use Rattle.std.specs.List.{list_any}
+use Rattle.xa_base.specs.declared.limits.TheConstants.{MOST_HANDLES, MOST_KEYS, MOST_MANAGERS, MOST_QUEUED}
+use Rattle.xa_base.specs.declared.limits.TheConstants.{MOST_REQUESTS, MOST_THREADS}
 use Rattle.xa_words.specs.Key.{key_eq}
 use Rattle.xa_grammar.specs.declared.fault.Reason.{Reason}
 use Rattle.xa_grammar.specs.declared.fault.Reason.TheVariants.{SettingAfterAction, SettingTwice, KeyTwice, TooManyKeys}
@@ -33,11 +36,11 @@ not_set count = if is_some count then Err SettingTwice else Ok tt
 
 -- The most that it may be.
 abbrev pub limit_of : Count → ℕ
-limit_of Threads = 8
-limit_of Managers = 8
-limit_of Handles = 32
-limit_of Queue = 64
-limit_of Requests = 4096
+limit_of Threads = MOST_THREADS
+limit_of Managers = MOST_MANAGERS
+limit_of Handles = MOST_HANDLES
+limit_of Queue = MOST_QUEUED
+limit_of Requests = MOST_REQUESTS
 
 -- threads N, managers N, handles N, queue N, requests N
 unfoldable pub setting_of : Content → Count → List Word → Result ℕ Reason
@@ -79,7 +82,7 @@ key_count m keys = count_by (λ d. d.manager == m) keys
 abbrev pub new_key : List Declared → Declared → Result Declared Reason
 new_key keys d =
     if has_key d.manager d.key keys then Err KeyTwice
-    else if nat_le 256 (key_count d.manager keys) then Err TooManyKeys
+    else if nat_le MOST_KEYS (key_count d.manager keys) then Err TooManyKeys
     else Ok d
 
 -- key M KEY VALUE; M is one of the managers that there are by then, and VALUE at most 1,000,000,000,000.

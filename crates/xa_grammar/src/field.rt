@@ -2,7 +2,7 @@
 ghost use Rattle.std.specs.Prelude.{◌≡◌, ◌<◌, ◌≤◌, ◌==◌, IfOk, IfSome, length};
 ghost use Rattle.std.specs.List.{list_all, position_or_len};
 ghost use Rattle.xa_grammar.specs.Text.{dot};
-ghost use Rattle.xa_grammar.specs.Fields.{all_digits, number_of, number_in, is_name_byte, is_name, xid_of, tran_of, signed_number_of, delta_in, flag_of};
+ghost use Rattle.xa_grammar.specs.Fields.{all_digits, number_of, number_in, is_name_byte, is_name, xid_of, tran_named, signed_number_of, delta_in, flag_of};
 
 use crate::fault::Reason;
 use xa_words::{
@@ -94,8 +94,8 @@ pub(crate) fn xid_of(word: &[u8]) -> Option<Xid>
 }
 
 // The global transaction that a name stands for, of format 1.
-pub(crate) fn tran_of(word: &[u8]) -> Option<Tran>
-    ensures { result ≡ tran_of word.now }
+pub(crate) fn tran_named(word: &[u8]) -> Option<Tran>
+    ensures { result ≡ tran_named word.now }
 {
     if !is_name(word) {
         return None;

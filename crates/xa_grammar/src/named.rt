@@ -18,11 +18,11 @@ pub(crate) struct Named {
 }
 
 impl Named {
-    ghost use Rattle.xa_grammar.specs.Commits.{branches_of, goes_on};
+    ghost use Rattle.xa_grammar.specs.Commits.{rising_branches, goes_on};
 
     pub(crate) fn new(count: u32) -> Named
         requires { count ≤ 8 }
-        ensures { (ms : List ℕ) → goes_on result ms ≡ branches_of count ms }
+        ensures { (ms : List ℕ) → goes_on result ms ≡ rising_branches count ms }
     {
         Named {
             count,

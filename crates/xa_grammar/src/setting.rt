@@ -5,13 +5,10 @@ ghost use Rattle.xa_grammar.specs.Settings.{before_actions, count_of, not_set, l
 use crate::fault::Reason;
 use crate::script::{Count, Declared, Script, Settings, Step};
 use crate::words::Words;
+use xa_base::{
+    MOST_HANDLES, MOST_KEYS, MOST_MANAGERS, MOST_QUEUED, MOST_REQUESTS, MOST_THREADS, MOST_VALUE,
+};
 use xa_words::Key;
-
-// How many keys a manager may have.
-const MOST_KEYS: usize = 256;
-
-// What a key may be worth at the opening.
-const MOST_VALUE: u64 = 1_000_000_000_000;
 
 // How late the append of a log may fail.
 const MOST_APPENDS: u64 = 1_000_000;
@@ -50,10 +47,11 @@ fn limit_of(count: Count) -> u64
     ensures { result ≡ limit_of count }
 {
     match count {
-        Count::Threads | Count::Managers => 8,
-        Count::Handles => 32,
-        Count::Queue => 64,
-        Count::Requests => 4096,
+        Count::Threads => MOST_THREADS as u64,
+        Count::Managers => MOST_MANAGERS as u64,
+        Count::Handles => MOST_HANDLES as u64,
+        Count::Queue => MOST_QUEUED as u64,
+        Count::Requests => MOST_REQUESTS as u64,
     }
 }
 

@@ -4,7 +4,7 @@ ghost use Rattle.xa_grammar.specs.Text.{is_space, starts_blank, words_of, IsWord
 ghost use Rattle.xa_grammar.specs.Fields.{Takes, word_at, end_of, number_at, key_at, xid_at, tran_at, delta_at, flags_onto};
 
 use crate::fault::Reason;
-use crate::field::{delta_in, flag_of, number_in, tran_of, xid_of};
+use crate::field::{delta_in, flag_of, number_in, tran_named, xid_of};
 use std::marker::Model;
 use xa_words::{Delta, Key, Tran, Xid};
 
@@ -88,7 +88,7 @@ impl<'a> Words<'a> {
     pub(crate) fn tran(&mut self) -> Result<Tran, Reason>
         ensures { Takes result self.new (tran_at self.old) }
     {
-        tran_of(self.word()?).ok_or(Reason::BadXid)
+        tran_named(self.word()?).ok_or(Reason::BadXid)
     }
 
     #[tactic(auto, unfolding(crate::specs::Fields::delta_at))]

@@ -5,7 +5,8 @@ use Rattle.xa_lane.specs.declared.parcel.Parcel.{Parcel}
 use Rattle.xa_lane.specs.declared.order.Log.{Log}
 use Rattle.xa_lane.specs.declared.order.View.{View}
 use Rattle.xa_lane.specs.declared.order.View.TheVariants.{Receives}
-use Rattle.xa_lane.specs.Order.{most, of_sender, after_get, Popped, receiver_learns, Tied, Within}
+use Rattle.xa_base.specs.declared.limits.TheConstants.{MOST_QUEUED}
+use Rattle.xa_lane.specs.Order.{of_sender, after_get, Popped, receiver_learns, Tied, Within}
 use Rattle.xa_lane.specs.Closing.{items_in, Covers}
 use Rattle.xa_lane.proofs.Parcels.{few_items}
 
@@ -83,7 +84,7 @@ module _ {T : Type 0} where
 
   -- a pop after the first look finds one of the parcels of that look, of which there are few
   pub room_for : (made : ℕ) (got held items : List (Parcel T)) (told : List (Log T)) (v₀ v w : View T) (x : Parcel T) → Covers made told
-      → v₀ ≡ Receives made got told → receiver_learns v₀ items → v ≡ Receives made (got ++ held) told → Popped v x w → length (items_in held) < most
+      → v₀ ≡ Receives made got told → receiver_learns v₀ items → v ≡ Receives made (got ++ held) told → Popped v x w → length (items_in held) < MOST_QUEUED
   room_for made got held items told v₀ v w x covers e₀ look e p =
       let a = subst (λ v. receiver_learns v items) e₀ look in
       let rest : List (Parcel T) = p.2.0 in

@@ -11,7 +11,8 @@ use Rattle.xa_lane.specs.declared.order.Log.{Log}
 use Rattle.xa_lane.specs.declared.order.View.{View}
 use Rattle.xa_lane.specs.declared.order.View.TheVariants.{Sends, Receives, Spent}
 use Rattle.xa_lane.proofs.Parcels.{of_sender-append}
-use Rattle.xa_lane.specs.Order.{most, of_sender, log, put_of, wrote, after_put, Popped, after_deal, dealt, after_join, sender_learns, receiver_learns, Fits, Delivers}
+use Rattle.xa_base.specs.declared.limits.TheConstants.{MOST_QUEUED}
+use Rattle.xa_lane.specs.Order.{of_sender, log, put_of, wrote, after_put, Popped, after_deal, dealt, after_join, sender_learns, receiver_learns, Fits, Delivers}
 
 abbrev Seats : Type 0
 Seats = ℕ → maybe.Option ℕ
@@ -70,7 +71,7 @@ module _ {T : Type 0} where
       (f.0, f.1, f.2, λ k l e. let r = f.3 k l e in (r.0, r.1, of_same l.from got items x (λ e'. some-ne-none writer (sym s ∙ ap seat e' ∙ r.1)) ∙ r.2))
   fits_more receiver made seat got items x writer j s n Spent f = tt
 
-  pub puts_at : (n port : ℕ) (l : Log T) (x : Parcel T) → l.ended ≡ false → x.from ≡ l.from → n ≤ most → Pushes Delivers n port (Sends l) x (λ w. w ≡ Sends (wrote l x.item))
+  pub puts_at : (n port : ℕ) (l : Log T) (x : Parcel T) → l.ended ≡ false → x.from ≡ l.from → n ≤ MOST_QUEUED → Pushes Delivers n port (Sends l) x (λ w. w ≡ Sends (wrote l x.item))
   puts_at n port l x live mine fit items views room h at =
       let f = h.fits port (Sends l) at in
       let s : h.seat x.from ≡ some port = ap h.seat mine ∙ f.0 in
@@ -92,7 +93,7 @@ module _ {T : Type 0} where
         refl,
       )
 
-  pub puts : (n port : ℕ) (v : View T) (l : Log T) (x : Parcel T) → v ≡ Sends l → l.ended ≡ false → x.from ≡ l.from → n ≤ most → Pushes Delivers n port v x (λ w. w ≡ after_put v x)
+  pub puts : (n port : ℕ) (v : View T) (l : Log T) (x : Parcel T) → v ≡ Sends l → l.ended ≡ false → x.from ≡ l.from → n ≤ MOST_QUEUED → Pushes Delivers n port v x (λ w. w ≡ after_put v x)
   puts n port v l x is live mine fit = subst (λ v. Pushes Delivers n port v x (λ w. w ≡ after_put v x)) (sym is) (puts_at n port l x live mine fit)
 
   fits_taken : (receiver made : ℕ) (seat : Seats) (got items : List (Parcel T)) (x : Parcel T) (j : ℕ) → j ≢ receiver

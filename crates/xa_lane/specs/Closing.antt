@@ -51,13 +51,17 @@ module _ {T : Type 0} where
   abbrev pub Conserves : List (Sending T) → List (Parcel T) → List (ℕ × T) → Type 0
   Conserves ends taken left = All (λ e. received e.index taken ++ left_of e.index left ≡ e.sent) ends
 
-  -- what was left are the items of parcels that stood after those taken, and the end mark of each sender is its last parcel
+  -- what was left are the items of parcels that stood after those taken, and the end mark of each sender is its last
+  -- parcel
   abbrev pub EndsLast : List (Sending T) → List (Parcel T) → List (ℕ × T) → Type 0
-  EndsLast ends taken left = (held : List (Parcel T)) × (left ≡ items_in held) × All (λ e. of_sender e.index (taken ++ held) ≡ marks e.sent true) ends
+  EndsLast ends taken left =
+      (held : List (Parcel T)) × (left ≡ items_in held)
+      × All (λ e. of_sender e.index (taken ++ held) ≡ marks e.sent true) ends
 
   -- of each sender whose end mark was taken, all that it sent was taken, and nothing is left
   abbrev pub LeavesNothing : List (Sending T) → List (Parcel T) → List (ℕ × T) → Type 0
-  LeavesNothing ends taken left = All (λ e. has_ended e.index taken ≡ true → (received e.index taken ≡ e.sent) × (left_of e.index left ≡ [])) ends
+  LeavesNothing ends taken left =
+      All (λ e. has_ended e.index taken ≡ true → (received e.index taken ≡ e.sent) × (left_of e.index left ≡ [])) ends
 
   -- why a lane was not closed: an end of another lane first, then an end that is not there
   abbrev pub IsWhy : CloseWhy → Receiving T → List (Sending T) → Type 0

@@ -1,5 +1,7 @@
 -- What a contract sees of the ends of a lane.
-use Rattle.std.specs.Prelude.{◌≡◌, ℕ, zero, suc, Bool, true, false, ◌+◌, ◌≤◌, ◌<◌, ◌^◌, ◌-◌, min, List, [], ◌∷◌, ◌++◌, length, Option, Some, None}
+use Rattle.std.specs.Prelude.{◌≡◌, ℕ, zero, suc, Bool, true, false, ◌+◌, ◌≤◌, ◌<◌, ◌^◌, ◌-◌, min, List, [], ◌∷◌, ◌++◌}
+use Rattle.std.specs.Prelude.{length, Option, Some, None}
+use Rattle.xa_base.specs.declared.limits.TheConstants.{MOST_QUEUED, MOST_SENDERS}
 use Rattle.atomic_table.specs.Seated.{TableId}
 use Rattle.crossbeam_queue.specs.declared.array_queue.Slotted.{Slotted}
 use Rattle.xa_lane.specs.Order.{of_sender}
@@ -12,7 +14,8 @@ use Rattle.xa_lane.specs.declared.name.LaneName.{LaneName}
 abbrev pub QueueId : Type 0
 QueueId = TableId
 
--- a sender: its lane's name, which queue the lane is, how many parcels the lane holds, the sender's number, what it has sent, oldest first, and its full moments
+-- a sender: its lane's name, which queue the lane is, how many parcels the lane holds, the sender's number, what it has
+-- sent, oldest first, and its full moments
 pub record Sending (T : Type 0) : Type 0 where
   pub lane : LaneName
   pub line : QueueId
@@ -21,8 +24,8 @@ pub record Sending (T : Type 0) : Type 0 where
   pub sent : List T
   pub full : ℕ
 
--- a receiver: its lane, how many senders the lane has, what was taken, oldest first, its quiet moments, and how much had
--- been taken at the last of them
+-- a receiver: its lane, how many senders the lane has, what was taken, oldest first, its quiet moments, and how much
+-- had been taken at the last of them
 pub record Receiving (T : Type 0) : Type 0 where
   pub lane : LaneName
   pub line : QueueId
@@ -40,14 +43,14 @@ line_of q = q.table.shared.table_id
 abbrev pub at_most_counted : ℕ → ℕ
 at_most_counted n = min n (2 ^ 64 - 1)
 
--- one moment more; the counts stand alone, since a push or a pop that the queue refuses leaves what its pass knows as it
--- was, and so no clause can tell that there was one
+-- one moment more; the counts stand alone, since a push or a pop that the queue refuses leaves what its pass knows as
+-- it was, and so no clause can tell that there was one
 abbrev pub counted : ℕ → ℕ
 counted n = at_most_counted (n + 1)
 
 -- a lane has 1 to 8 senders and holds 1 to 64 parcels
-abbrev pub IsRoomFor : ℕ → ℕ → Type 0
-IsRoomFor senders capacity = (1 ≤ senders) × (senders ≤ 8) × (1 ≤ capacity) × (capacity ≤ 64)
+abbrev pub IsLaneSize : ℕ → ℕ → Type 0
+IsLaneSize senders capacity = (1 ≤ senders) × (senders ≤ MOST_SENDERS) × (1 ≤ capacity) × (capacity ≤ MOST_QUEUED)
 
 module _ {T : Type 0} where
   abbrev pub parcel : ℕ → Option T → Parcel T
@@ -90,7 +93,8 @@ module _ {T : Type 0} where
 
   -- a sender that has sent nothing
   abbrev pub new_sender : LaneName → QueueId → ℕ → ℕ → Sending T
-  new_sender lane line capacity index = record { lane = lane; line = line; capacity = capacity; index = index; sent = []; full = 0 }
+  new_sender lane line capacity index =
+      record { lane = lane; line = line; capacity = capacity; index = index; sent = []; full = 0 }
 
   -- senders 0 to n - 1, that have sent nothing
   abbrev pub new_senders : LaneName → QueueId → ℕ → ℕ → List (Sending T)
@@ -99,4 +103,5 @@ module _ {T : Type 0} where
 
   -- a receiver that has taken nothing
   abbrev pub new_receiver : LaneName → QueueId → ℕ → ℕ → Receiving T
-  new_receiver lane line capacity senders = record { lane = lane; line = line; capacity = capacity; senders = senders; taken = []; quiet = 0; taken_then = 0 }
+  new_receiver lane line capacity senders =
+      record { lane = lane; line = line; capacity = capacity; senders = senders; taken = []; quiet = 0; taken_then = 0 }

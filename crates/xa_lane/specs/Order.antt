@@ -1,16 +1,14 @@
 -- The rule of a lane's queue, over what it holds and over what each pass knows.
-use Rattle.std.specs.Prelude.{◌≡◌, ℕ, ◌+◌, ◌<◌, ◌≤◌, Bool, true, false, cond, ◌==◌, List, [], ◌∷◌, ◌++◌, length, map, Option, Some, None}
+use Rattle.std.specs.Prelude.{◌≡◌, ℕ, ◌+◌, ◌<◌, ◌≤◌, Bool, true, false, cond, ◌==◌, List, [], ◌∷◌, ◌++◌, length, map}
+use Rattle.std.specs.Prelude.{Option, Some, None}
 use mathlib.Core.Option.{some, none}
 use mathlib.Core.Option as maybe
 use lib.ListN.{get_elem?}
+use Rattle.xa_base.specs.declared.limits.TheConstants.{MOST_QUEUED}
 use Rattle.xa_lane.specs.declared.parcel.Parcel.{Parcel}
 use Rattle.xa_lane.specs.declared.order.Log.{Log}
 use Rattle.xa_lane.specs.declared.order.View.{View}
 use Rattle.xa_lane.specs.declared.order.View.TheVariants.{Sends, Receives, Spent}
-
--- a lane holds so many parcels at most
-abbrev pub most : ℕ
-most = 64
 
 module _ {T : Type 0} where
   -- what sender p put among the parcels, oldest first: its items, and None for its end mark
@@ -100,18 +98,24 @@ module _ {T : Type 0} where
 
   -- the receiver learns this of the parcels taken and held
   abbrev pub receiver_learns : View T → List (Parcel T) → Type 0
-  receiver_learns (Receives made got told) items = Tied told (got ++ items) × Within made (got ++ items) × (length items ≤ most)
+  receiver_learns (Receives made got told) items =
+      Tied told (got ++ items) × Within made (got ++ items) × (length items ≤ MOST_QUEUED)
   receiver_learns v items = Unit {0}
 
-  -- what a pop tells: the receiver has the parcel, which is of one of its senders, and just before it the queue held the parcel at its front
+  -- what a pop tells: the receiver has the parcel, which is of one of its senders, and just before it the queue held
+  -- the parcel at its front
   abbrev pub Popped : View T → Parcel T → View T → Type 0
   Popped v x w = (w ≡ after_get v x) × IsMade v x × ((items : List (Parcel T)) × receiver_learns v (x ∷ items))
 
 module _ {T : Type 0} (receiver made : ℕ) (seat : ℕ → maybe.Option ℕ) (got all : List (Parcel T)) (pass : ℕ) where
-  -- each live sender has one pass, which knows what it put; the one receiver knows what it took, and what each sender put that it took in
+  -- each live sender has one pass, which knows what it put; the one receiver knows what it took, and what each sender
+  -- put that it took in
   abbrev pub Fits : View T → Type 0
   Fits (Sends l) = (seat l.from ≡ some pass) × (of_sender l.from all ≡ put_of l)
-  Fits (Receives m g told) = (pass ≡ receiver) × (m ≡ made) × (g ≡ got) × ((k : ℕ) (l : Log T) → get_elem? told k ≡ some l → (l.from < made) × (seat l.from ≡ none) × (of_sender l.from all ≡ put_of l))
+  Fits (Receives m g told) =
+      (pass ≡ receiver) × (m ≡ made) × (g ≡ got) ×
+      ((k : ℕ) (l : Log T) → get_elem? told k ≡ some l
+      → (l.from < made) × (seat l.from ≡ none) × (of_sender l.from all ≡ put_of l))
   Fits Spent = Unit {0}
 
 -- the rule: some parcels were taken, and for each pass that isn't spent they and those held are as it knows
@@ -120,6 +124,6 @@ pub record Delivers {T : Type 0} (items : List (Parcel T)) (views : List (View T
   pub made : ℕ
   pub seat : ℕ → maybe.Option ℕ
   pub got : List (Parcel T)
-  pub short : length items ≤ most
+  pub short : length items ≤ MOST_QUEUED
   pub unmade : (p : ℕ) → made ≤ p → (seat p ≡ none) × (of_sender p (got ++ items) ≡ [])
   pub fits : (pass : ℕ) (v : View T) → get_elem? views pass ≡ some v → Fits receiver made seat got (got ++ items) pass v

@@ -3,7 +3,8 @@ ghost use Rattle.std.specs.Prelude.{◌≡◌, ◌↔◌, ◌≤◌, [], ◌++�
 ghost use Rattle.crossbeam_queue.specs.Passes.{view, IsPassOf};
 ghost use Rattle.xa_lane.specs.declared.order.View.TheVariants.{Receives};
 ghost use Rattle.xa_lane.specs.declared.parcel.Parcel.{Parcel};
-ghost use Rattle.xa_lane.specs.Order.{Tied, Within, most, made_in, taken_in, told_in};
+ghost use Rattle.xa_base.specs.declared.limits.TheConstants.{MOST_QUEUED};
+ghost use Rattle.xa_lane.specs.Order.{Tied, Within, made_in, taken_in, told_in};
 ghost use Rattle.xa_lane.specs.Ends.{line_of};
 ghost use Rattle.xa_lane.specs.Closing.{IsWhole, told_of, items_in, Covers, has_end};
 
@@ -70,7 +71,7 @@ pub(crate) fn drain<T: Copy, R: Wait>(
 ) -> Vec<(usize, T)>
     requires pass { IsPassOf line.now pass × (view pass ≡ Receives (made_in (view pass)) (taken_in (view pass)) (told_in (view pass))) }
     requires whole { Covers (made_in (view pass)) (told_in (view pass)) }
-    requires left { (left.items ≡ []) × (most ≤ vec_capacity left) }
+    requires left { (left.items ≡ []) × (MOST_QUEUED ≤ vec_capacity left) }
     ensures { (held : List (Parcel T)) × (result.items ≡ items_in held) × Tied (told_in (view pass)) (taken_in (view pass) ++ held) × Within (made_in (view pass)) (taken_in (view pass) ++ held) }
 {
     line.learn_as::<Gets>(&mut pass);

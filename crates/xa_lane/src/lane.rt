@@ -1,6 +1,6 @@
 //! How a lane is opened and closed.
 ghost use Rattle.std.specs.Prelude.{◌≡◌, ◌↔◌, All, IfOk, OnOk, IfErr};
-ghost use Rattle.xa_lane.specs.Ends.{new_senders, new_receiver, IsRoomFor};
+ghost use Rattle.xa_lane.specs.Ends.{new_senders, new_receiver, IsLaneSize};
 ghost use Rattle.xa_lane.specs.Closing.{IsWhole, Conserves, EndsLast, LeavesNothing, AreKnown, IsWhy};
 
 use crate::closing::{are_of, are_whole, drain, take_in};
@@ -11,9 +11,7 @@ use crate::receiver::Receiver;
 use crate::sender::Sender;
 use std::alloc::{AllocError, Global};
 use std::sync::{Arc, Wait};
-
-// A lane holds so many parcels at most.
-pub(crate) const MOST: usize = 64;
+use xa_base::{MOST_QUEUED, MOST_SENDERS};
 
 /// Why a lane is not opened: the first reason that holds.
 #[derive(Clone, Copy, Debug, PartialEq, Eq)]
@@ -62,12 +60,12 @@ pub fn open_lane<T: Copy, R: Wait>(
     senders: usize,
     capacity: usize,
 ) -> Result<(Vec<Sender<T>>, Receiver<T>), LaneFault>
-    ensures refused { IfErr result (λ f. f ≡ LaneFault.BadCount ↔ ¬ IsRoomFor senders capacity) }
-    ensures counts { OnOk result (IsRoomFor senders capacity) }
+    ensures refused { IfErr result (λ f. f ≡ LaneFault.BadCount ↔ ¬ IsLaneSize senders capacity) }
+    ensures counts { OnOk result (IsLaneSize senders capacity) }
     ensures senders { IfOk result (λ r. r.0.items ≡ new_senders name r.1.line capacity senders) }
     ensures receiver { IfOk result (λ r. r.1 ≡ new_receiver name r.1.line capacity senders) }
 {
-    if !(1..=8).contains(&senders) || !(1..=MOST).contains(&capacity) {
+    if !(1..=MOST_SENDERS).contains(&senders) || !(1..=MOST_QUEUED).contains(&capacity) {
         return Err(LaneFault::BadCount);
     }
     Ok(new_lane(alloc, name, senders, capacity)?)
@@ -79,11 +77,11 @@ fn new_lane<T: Copy>(
     senders: usize,
     capacity: usize,
 ) -> Result<(Vec<Sender<T>>, Receiver<T>), AllocError>
-    requires { IsRoomFor senders capacity }
+    requires { IsLaneSize senders capacity }
     ensures senders { IfOk result (λ r. r.0.items ≡ new_senders name r.1.line capacity senders) }
     ensures receiver { IfOk result (λ r. r.1 ≡ new_receiver name r.1.line capacity senders) }
 {
-    let left = Vec::with_capacity(alloc, MOST)?;
+    let left = Vec::with_capacity(alloc, MOST_QUEUED)?;
     let mut ends = Vec::with_capacity(alloc, senders)?;
     let (queue, mut pass) = Line::ruled(alloc, capacity)?;
     let line = Arc::new(alloc, queue)?;

@@ -29,13 +29,14 @@ impl<T: Copy> Model for Sender<T> {
     ghost use Rattle.std.specs.Prelude.{◌≡◌, ◌≤◌, false};
     ghost use Rattle.std.specs.Arc.{arc_value};
     ghost use Rattle.crossbeam_queue.specs.Passes.{view as knows, IsPassOf, ruled_capacity};
-    ghost use Rattle.xa_lane.specs.Order.{log, most, sent_in};
+    ghost use Rattle.xa_base.specs.declared.limits.TheConstants.{MOST_QUEUED};
+    ghost use Rattle.xa_lane.specs.Order.{log, sent_in};
     ghost use Rattle.xa_lane.specs.Ends.{line_of};
     ghost use Rattle.xa_lane.specs.declared.order.View.TheVariants.{Sends};
 
     ghost view = { λ s. record { lane = s.name; line = line_of (arc_value s.line); capacity = ruled_capacity (arc_value s.line); index = s.index; sent = sent_in (knows s.pass); full = s.full } };
 
-    ghost invariant = { λ s. IsPassOf (arc_value s.line) s.pass × (knows s.pass ≡ Sends (log s.index (sent_in (knows s.pass)) false)) × (ruled_capacity (arc_value s.line) ≤ most) };
+    ghost invariant = { λ s. IsPassOf (arc_value s.line) s.pass × (knows s.pass ≡ Sends (log s.index (sent_in (knows s.pass)) false)) × (ruled_capacity (arc_value s.line) ≤ MOST_QUEUED) };
 }
 
 impl<T: Copy> Sender<T> {

@@ -1,9 +1,10 @@
 pub mod CommandLemmas
 pub mod Results
-pub mod Going
-pub mod Keeping
+pub mod WorkersOn
+pub mod Kept
 pub mod Faults
-pub mod Projecting
+pub mod EachThread
+pub mod Ends
 pub mod Members
-pub mod Becoming
-pub mod Settling
+pub mod Runs
+pub mod Pieces

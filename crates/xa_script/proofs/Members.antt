@@ -7,11 +7,11 @@ use Rattle.std.proofs.lemmas.List.FromFn.{length-map-range_with_len, get_or-map-
 use Rattle.std.proofs.lemmas.Option.{slice_get-map, slice_get_within, slice_get-get_or}
 use Rattle.xa_base.specs.Lists.{Chain, Pairwise}
 use Rattle.xa_base.proofs.Lists.{all_at, all_from}
-use Rattle.xa_worker.specs.Workers.{Working}
+use Rattle.xa_worker.specs.Workers.{WorkerView}
 use Rattle.xa_grammar.specs.declared.script.Task.{Task}
 use Rattle.xa_grammar.specs.Content.{Content, tasks_of, threads_of}
 use Rattle.xa_driver.specs.Log.{LogView}
-use Rattle.xa_crew.specs.declared.attending.Attended.{Attended}
+use Rattle.xa_crew.specs.declared.client_job.Attended.{Attended}
 use Rattle.xa_crew.specs.Run.{Member, HasRun}
 use Rattle.xa_session.specs.declared.answer.Answer.{Answer}
 use Rattle.xa_session.specs.declared.script_thread.ScriptThread.{ScriptThread}
@@ -71,7 +71,7 @@ one_worked s t m number new ran done =
     }
 
 -- all members
-pub members_worked : (s : Content) (ms : List (Member ScriptThread)) (workers : List Working) → AreOpened s (map (λ t. t.desk) ms) workers
+pub members_worked : (s : Content) (ms : List (Member ScriptThread)) (workers : List WorkerView) → AreOpened s (map (λ t. t.desk) ms) workers
     → (threads : List ScriptThread) → Pairwise (IsNew s) (range_with_len 1 (threads_of s)) threads → threads ≡ map (λ t. t.client) ms → All (HasRun Works) ms
     → (clients : List (Attended ScriptThread)) → clients ≡ map (λ t. t.attended) ms → All (λ t. t.client.wants_memory ≡ false) clients → All (HasWorked s) ms
 members_worked s ms workers opened threads new are ran clients attended done =

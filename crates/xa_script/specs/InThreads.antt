@@ -3,11 +3,11 @@ use Rattle.std.specs.Prelude.{◌≡◌, List, [], ◌++◌, All, map}
 use Rattle.std.specs.List.{flat_map}
 use Rattle.xa_desk.specs.DeskView.{DeskView}
 use Rattle.xa_desk.specs.Ended.{EndedView}
-use Rattle.xa_worker.specs.Workers.{Working}
+use Rattle.xa_worker.specs.Workers.{WorkerView}
 use Rattle.xa_worker.specs.Done.{Served}
 use Rattle.xa_grammar.specs.Content.{Content, tasks_of}
 use Rattle.xa_base.specs.Lists.{Chain, Pairwise}
-use Rattle.xa_crew.specs.declared.attending.Attended.{Attended}
+use Rattle.xa_crew.specs.declared.client_job.Attended.{Attended}
 use Rattle.xa_crew.specs.Ending.{EndsDesk}
 use Rattle.xa_crew.specs.Pieces.{HasServed}
 use Rattle.xa_crew.specs.Run.{Member}
@@ -21,15 +21,19 @@ use Rattle.xa_session.specs.Ended.{all_ended}
 abbrev pub told_by : Attended ScriptThread → List Answer
 told_by t = t.client.answers.items ++ all_ended t.client.thread t.outstanding.items
 
--- The thread did its own tasks, one after the other, with the desk and a log without a record; then what was outstanding was collected, and the desk ended.
+-- The thread did its own tasks, one after the other, with the desk and a log without a record; then what was
+-- outstanding was collected, and the desk ended.
 pub record HasWorked (s : Content) (t : Member ScriptThread) : Type 0 where
   pub own : t.attended.client.thread ≡ t.desk.thread
   pub left : Session
-  pub runs : Chain HasDone (new_session s t.desk, []) (tasks_of t.desk.thread s.steps) (left, t.attended.client.answers.items)
+  pub runs : Chain HasDone (new_session s t.desk, []) (tasks_of t.desk.thread s.steps)
+      (left, t.attended.client.answers.items)
   pub ends : EndsDesk left.desk [] t.ended t.attended.outstanding.items
 
--- Each thread of the script worked with a desk of the opening, each worker ran to the last end mark, and the answers are those of the threads by rising number.
-pub record InThreads (s : Content) (desks : List DeskView) (workers : List Working) (ended : List EndedView) (done : List Served) (answers : List Answer) : Type 0 where
+-- Each thread of the script worked with a desk of the opening, each worker ran to the last end mark, and the answers
+-- are those of the threads by rising number.
+pub record InThreads (s : Content) (desks : List DeskView) (workers : List WorkerView) (ended : List EndedView)
+    (done : List Served) (answers : List Answer) : Type 0 where
   pub threads : List (Member ScriptThread)
   pub desks_are : desks ≡ map (λ t. t.desk) threads
   pub worked : All (HasWorked s) threads

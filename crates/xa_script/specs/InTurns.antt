@@ -1,10 +1,11 @@
--- A run of a script in turns: what its steps do to the threads of control and the workers of one opening, and how they end.
+-- A run of a script in turns: what its steps do to the threads of control and the workers of one opening, and how they
+-- end.
 use Rattle.std.specs.Prelude.{◌≡◌, ℕ, ◌-◌, Some, List, [], ◌∷◌, ◌++◌, slice_get, slice_set}
 use Rattle.xa_words.specs.declared.code.Code.{Code}
 use Rattle.xa_desk.specs.DeskView.{DeskView}
 use Rattle.xa_desk.specs.Ended.{EndedView}
 use Rattle.xa_worker.specs.declared.step.Step.{Step as Did}
-use Rattle.xa_worker.specs.Workers.{Working}
+use Rattle.xa_worker.specs.Workers.{WorkerView}
 use Rattle.xa_worker.specs.Done.{Served}
 use Rattle.xa_grammar.specs.declared.script.Step.{Step}
 use Rattle.xa_grammar.specs.declared.script.Step.TheVariants as step
@@ -25,9 +26,9 @@ use Rattle.xa_script.specs.Turns.{AllGoOn, TakesTurn}
 -- The threads of control by rising number, and the workers by rising manager.
 pub record Stage : Type 0 where
   pub sessions : List Session
-  pub workers : List Working
+  pub workers : List WorkerView
 
-abbrev pub stage_of : List Session → List Working → Stage
+abbrev pub stage_of : List Session → List WorkerView → Stage
 stage_of sessions workers = record { sessions = sessions; workers = workers }
 
 -- A thread does its task while workers go on, and the other threads stay.
@@ -56,7 +57,7 @@ pub record Course : Type 0 where
   pub stage : Stage
   pub answers : List Answer
 
-abbrev pub course_of : List Session → List Working → List Answer → Course
+abbrev pub course_of : List Session → List WorkerView → List Answer → Course
 course_of sessions workers answers = record { stage = stage_of sessions workers; answers = answers }
 
 -- A step goes on with a run.
@@ -66,15 +67,15 @@ pub record HasStepped (p : Step) (old new : Course) : Type 0 where
   pub told : new.answers ≡ old.answers ++ answer ∷ []
 
 -- These steps went so, one after the other.
-abbrev pub HasRun : Course → List Step → Course → Type 0
-HasRun first steps now = Chain HasStepped first steps now
+abbrev pub HasMadeSteps : Course → List Step → Course → Type 0
+HasMadeSteps first steps now = Chain HasStepped first steps now
 
 -- ---- what is outstanding after the last step
 
 -- A run as it ends: the desks that have ended by rising thread, the workers, and the answers so far.
 pub record Closing : Type 0 where
   pub ended : List EndedView
-  pub workers : List Working
+  pub workers : List WorkerView
   pub answers : List Answer
 
 -- The desk of one more thread ends, while workers go on, and what was outstanding is told.
@@ -90,15 +91,17 @@ pub record HasEndedDesk (session : Session) (old new : Closing) : Type 0 where
 abbrev pub HaveEnded : Closing → List Session → Closing → Type 0
 HaveEnded first sessions now = Chain HasEndedDesk first sessions now
 
-abbrev pub closing_of : List EndedView → List Working → List Answer → Closing
+abbrev pub closing_of : List EndedView → List WorkerView → List Answer → Closing
 closing_of ended workers answers = record { ended = ended; workers = workers; answers = answers }
 
 -- ---- the whole run
 
--- The threads, with logs without a record, went through all steps; then their desks ended one after the other, and then each worker ran to the last end mark.
-pub record InTurns (s : Content) (desks : List DeskView) (workers : List Working) (ended : List EndedView) (done : List Served) (answers : List Answer) : Type 0 where
+-- The threads, with logs without a record, went through all steps; then their desks ended one after the other, and then
+-- each worker ran to the last end mark.
+pub record InTurns (s : Content) (desks : List DeskView) (workers : List WorkerView) (ended : List EndedView)
+    (done : List Served) (answers : List Answer) : Type 0 where
   pub ran : Course
-  pub runs : HasRun (course_of (new_sessions s desks) workers []) s.steps ran
+  pub runs : HasMadeSteps (course_of (new_sessions s desks) workers []) s.steps ran
   pub closed : Closing
   pub closes : HaveEnded (closing_of [] ran.stage.workers ran.answers) ran.stage.sessions closed
   pub ended_are : ended ≡ closed.ended

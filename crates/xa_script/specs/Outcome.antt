@@ -3,7 +3,7 @@ use Rattle.std.specs.Prelude.{◌≡◌, ℕ, Option, List}
 use Rattle.std.specs.Io.KnownBytes.{Appends}
 use Rattle.xa_desk.specs.DeskView.{DeskView}
 use Rattle.xa_desk.specs.Ended.{EndedView}
-use Rattle.xa_worker.specs.Workers.{Working}
+use Rattle.xa_worker.specs.Workers.{WorkerView}
 use Rattle.xa_worker.specs.Done.{Served}
 use Rattle.xa_switch.specs.Settling.{Settling, IsSettled}
 use Rattle.xa_switch.specs.Closing.{settling}
@@ -18,15 +18,16 @@ use Rattle.xa_script.specs.declared.mode.Mode.TheVariants.{Turns, Threads}
 use Rattle.xa_script.specs.InTurns.{InTurns}
 use Rattle.xa_script.specs.InThreads.{InThreads}
 
--- How the desks and the workers of an opening became desks that have ended and workers that have run, and what was answered.
-abbrev pub Runs : Mode → Content → List DeskView → List Working → List EndedView → List Served → List Answer → Type 0
+-- How the desks and the workers of an opening became desks that have ended and workers that have run, and what was
+-- answered.
+abbrev pub Runs : Mode → Content → List DeskView → List WorkerView → List EndedView → List Served → List Answer → Type 0
 Runs Turns s desks workers ended done answers = InTurns s desks workers ended done answers
 Runs Threads s desks workers ended done answers = InThreads s desks workers ended done answers
 
 -- Whichever way, the desks and the workers of one opening of the script's plan have come to what was settled.
 pub record HasCome (s : Content) (answers : List Answer) (settled : Settling) : Type 0 where
   pub desks : List DeskView
-  pub workers : List Working
+  pub workers : List WorkerView
   pub ended : List EndedView
   pub done : List Served
   pub ran : Ran s answers desks workers ended done
@@ -38,7 +39,8 @@ pub record IsOutcome (m : Mode) (s : Content) (answers : List Answer) (settled :
   pub come : HasCome s answers settled
   pub runs : Runs m s come.desks come.workers come.ended come.done answers
 
--- What a writer holds grew by the transcript of a script that was run in this way, and that tells of the settled opening.
+-- What a writer holds grew by the transcript of a script that was run in this way, and that tells of the settled
+-- opening.
 pub record Writes (m : Mode) (s : Content) (before after : Option (List ℕ)) : Type 0 where
   pub answers : List Answer
   pub settled : Settling

@@ -56,7 +56,8 @@ IsFaulty m bytes = (fault : ℕ × Reason) × (script_of (has_threads m) bytes �
 abbrev pub FailsBy : Fault → Mode → Option (List ℕ) → Option (List ℕ) → Option (List ℕ) → Type 0
 FailsBy Usage m bytes before after = after ≡ before
 FailsBy NoMemory m bytes before after = after ≡ before
-FailsBy (Script (script.Line n why)) m bytes before after = (after ≡ before) × IfSome bytes (λ b. script_of (has_threads m) b ≡ Err (n, why))
+FailsBy (Script (script.Line n why)) m bytes before after =
+    (after ≡ before) × IfSome bytes (λ b. script_of (has_threads m) b ≡ Err (n, why))
 FailsBy (Script script.Read) m bytes before after = after ≡ before
 FailsBy (Script script.NoMemory) m bytes before after = after ≡ before
 FailsBy (Run run.NoMemory) m bytes before after = after ≡ before

@@ -5,7 +5,7 @@ ghost use Rattle.xa_grammar.specs.Content.{Fits};
 ghost use Rattle.xa_base.specs.Lists.{Pairwise};
 ghost use Rattle.xa_crew.specs.Pieces.{HasServed};
 ghost use Rattle.xa_script.specs.declared.mode.Mode.TheVariants as mode;
-ghost use Rattle.xa_script.specs.InTurns.{stage_of, course_of, closing_of, Steps, HasRun, HaveEnded};
+ghost use Rattle.xa_script.specs.InTurns.{stage_of, course_of, closing_of, Steps, HasMadeSteps, HaveEnded};
 ghost use Rattle.xa_script.specs.Outcome.{IsOutcome, Writes};
 
 use crate::outcome::show;
@@ -14,7 +14,8 @@ use crate::turns::Turns;
 use std::alloc::{AllocError, Global};
 use std::io::Write;
 use std::sync::Wait;
-use xa_crew::{MOST_HANDLES, end_desk, settle_all};
+use xa_base::MOST_HANDLES;
+use xa_crew::{end_desk, settle_all};
 use xa_desk::EndedDesk;
 use xa_desk::laws::desks_go_on;
 use xa_grammar::{Script, Step};
@@ -60,7 +61,7 @@ impl Runner {
     ) -> Result<(), AllocError>
         requires fit { All (Fits (length self.old.sessions.items) (length self.old.turns.workers.items)) steps.now }
         requires room { length answers.old.items + length steps.now ≤ vec_capacity answers.old }
-        ensures runs { OnOk result (HasRun (course_of self.old.sessions.items self.old.turns.workers.items answers.old.items) steps.now (course_of self.new.sessions.items self.new.turns.workers.items answers.new.items)) }
+        ensures runs { OnOk result (HasMadeSteps (course_of self.old.sessions.items self.old.turns.workers.items answers.old.items) steps.now (course_of self.new.sessions.items self.new.turns.workers.items answers.new.items)) }
         ensures few { OnOk result (length answers.new.items ≡ length answers.old.items + length steps.now) }
         ensures room { vec_capacity answers.new ≡ vec_capacity answers.old }
     {

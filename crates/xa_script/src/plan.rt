@@ -1,11 +1,13 @@
 //! What a script has opened.
 ghost use Rattle.std.specs.Prelude.{◌≡◌, ◌≤◌, All, IfOk, length, map};
 ghost use Rattle.std.specs.List.{range_with_len};
-ghost use Rattle.xa_switch.specs.Plans.{IsUpTo, IsSoundManager, IsSound};
+ghost use Rattle.xa_base.specs.Lists.{IsUpTo};
+ghost use Rattle.xa_switch.specs.Plans.{IsSoundManager, IsSound};
 ghost use Rattle.xa_grammar.specs.Content.{accounts_of, managers_of};
 ghost use Rattle.xa_transcript.specs.Planning.{planned_of, planned, IsPlanOf};
 
 use std::alloc::{AllocError, Global};
+use xa_base::MOST_MANAGERS;
 use xa_grammar::{Declared, Script};
 use xa_switch::{ManagerPlan, Plan};
 use xa_words::Key;
@@ -42,7 +44,7 @@ fn manager_plan(alloc: Global, script: &Script, manager: u32) -> Result<ManagerP
 fn manager_plans(alloc: Global, script: &Script) -> Result<Vec<ManagerPlan>, AllocError>
     ensures planned { IfOk result (λ v. map planned_of v.items ≡ map (planned script.now) (range_with_len 1 (managers_of script.now))) }
     ensures sound { IfOk result (λ v. All IsSoundManager v.items) }
-    ensures limits { IfOk result (λ v. IsUpTo 8 (length v.items)) }
+    ensures limits { IfOk result (λ v. IsUpTo MOST_MANAGERS (length v.items)) }
 {
     let managers = script.managers();
     let mut plans = Vec::with_capacity(alloc, managers as usize)?;

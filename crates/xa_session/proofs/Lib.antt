@@ -1,1 +1,1 @@
-pub mod CallLemmas
+pub mod Told

@@ -16,7 +16,8 @@ abbrev pub shown : Called → ℤ → Answer
 shown p n = answer.Called p.line p.thread n
 
 -- What a call of these effects does to its thread's desk, and what it answers.
-pub record HasAnswered (effects : DeskView → ℕ → DeskView → ℤ → Type 0) (p : Called) (old new : DeskView) (a : Answer) : Type 0 where
+pub record HasAnswered (effects : DeskView → ℕ → DeskView → ℤ → Type 0) (p : Called) (old new : DeskView)
+    (a : Answer) : Type 0 where
   pub answer : ℤ
   pub calls : effects old p.manager new answer
   pub shown : a ≡ shown p answer

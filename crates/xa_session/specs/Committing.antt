@@ -28,12 +28,13 @@ is_at c m = slice_index_or c.managers (m - 1) false
 abbrev pub branches_of : CommitAll → List Branch
 branches_of c = map (branch_at c) (filter (is_at c) (range_with_len 1 8))
 
--- What a commit of several branches does to its thread's desk and log, and what it answers: where the branches may not be committed nothing is done; else it is the trace of the coordinator.
-pub data Commits (c : CommitAll) (old new : Session) (a : Answer) : Type 0 where
+-- What a commit of several branches does to its thread's desk and log, and what it answers: where the branches may not
+-- be committed nothing is done; else it is the trace of the coordinator.
+pub data CommitsAll (c : CommitAll) (old new : Session) (a : Answer) : Type 0 where
   refused :
       (MayCommit old.desk old.log.state (branches_of c) → ⊥) → a ≡ answer.Refused c.line c.thread → new ≡ old
-      → Commits c old new a
+      → CommitsAll c old new a
   decided : (done : Done) → MayCommit old.desk old.log.state (branches_of c)
       → IsTraceOfCommit (named c) (branches_of c) old.desk.ledgers new.desk.ledgers old.log.state new.log.state done
       → KeepsDesk old.desk new.desk → outstanding new.desk.ledgers ≡ outstanding old.desk.ledgers
-      → a ≡ answer.Decided c.line c.thread done → Commits c old new a
+      → a ≡ answer.Decided c.line c.thread done → CommitsAll c old new a

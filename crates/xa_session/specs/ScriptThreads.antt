@@ -13,8 +13,8 @@ pub record IsNew (s : Content) (t : ℕ) (x : ScriptThread) : Type 0 where
   pub tasks : x.tasks.items ≡ tasks_of t s.steps
   pub answers : x.answers.items ≡ []
 
--- The thread keeps its number, and unless memory was refused it did its tasks with the desk, one after the other, and has
--- their answers.
+-- The thread keeps its number, and unless memory was refused it did its tasks with the desk, one after the other, and
+-- has their answers.
 pub record Works (x : ScriptThread) (d : DeskView) (x' : ScriptThread) (d' : DeskView) : Type 0 where
   pub own : x'.thread ≡ x.thread
   pub runs : x'.wants_memory ≡ false

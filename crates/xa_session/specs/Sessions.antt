@@ -10,7 +10,7 @@ use Rattle.xa_grammar.specs.Content.{Content, failing_append}
 use Rattle.xa_session.specs.declared.answer.Answer.{Answer}
 use Rattle.xa_session.specs.declared.session.Session.{Session}
 use Rattle.xa_session.specs.Calling.{Answers}
-use Rattle.xa_session.specs.Committing.{Commits}
+use Rattle.xa_session.specs.Committing.{CommitsAll}
 
 -- The log of thread t at first: without a record, and none of its appends fails but the one that a line of the script
 -- names.
@@ -32,7 +32,7 @@ new_sessions s desks = map (new_session s) desks
 -- What a task answers, and what it does to its thread's desk and log. A call leaves the log.
 abbrev pub Executes : Task → Session → Session → Answer → Type 0
 Executes (Call p) old new a = Answers p.action p old.desk new.desk a × (new.log ≡ old.log)
-Executes (CommitAll c) old new a = Commits c old new a
+Executes (CommitAll c) old new a = CommitsAll c old new a
 
 -- What a task does to its thread, and what it answers. The desk goes on, and what is outstanding stays kept.
 pub record Does (p : Task) (old new : Session) (a : Answer) : Type 0 where

@@ -6,13 +6,9 @@ use Rattle.std.proofs.Math.ListN.{get_or-map}
 use Rattle.std.proofs.lemmas.List.Elements.{All-push}
 use Rattle.xa_switch.specs.Columns.{put_row}
 use Rattle.xa_switch.specs.Closing.{dealt, column, HasTaken, HasRoom, TakesIn}
-use Rattle.xa_switch.specs.declared.apart.Room.{Room}
+use Rattle.xa_switch.specs.declared.gathered.Gathered.{Gathered}
 use Rattle.xa_switch.proofs.Dealing.{length_put}
 use Rattle.xa_switch.proofs.Lists.{In, in_front, in_back}
-
-pub all_mid : {X : Type 0} (P : X → Type 0) (xs ys : List X) (x : X) → All P (xs ++ x ∷ ys) → P x
-all_mid P [] ys x h = h 0 x (omega arith)
-all_mid P (y ∷ xs) ys x h = all_mid P xs ys x (λ k d below. h (suc k) d (omega arith))
 
 pub pairs_mid : {X : Type 0} (R : X → X → Type 0) (xs : List X) (x : X) (ys : List X) → AllPairs R (xs ++ x ∷ ys) → All (R x) ys
 pairs_mid R [] x ys h = λ k d below. h 0 (suc k) d (omega arith) (omega arith)
@@ -112,7 +108,7 @@ deep_still cap C C' n same deep k d below =
 
 module _ {E R P : Type 0} where
   -- where fewer were taken in than there is room for, there is room for one more
-  pub room_left : {X : Type 0} (n : ℕ) (f : X → List E) (g : X → ℕ × R) (h : X → P) (Y : List X) (r : Room E R P) → HasTaken n (map f Y) (map g Y) (map h Y) r → length Y < n → HasRoom r
+  pub room_left : {X : Type 0} (n : ℕ) (f : X → List E) (g : X → ℕ × R) (h : X → P) (Y : List X) (r : Gathered E R P) → HasTaken n (map f Y) (map g Y) (map h Y) r → length Y < n → HasRoom r
   room_left n f g h Y r taken few = record {
     columns = room_for_row (λ c. c.items) (λ c. vec_capacity c) r.columns.items r.columns.items (map f Y) 8 n taken.columns refl taken.deep (let l = length-map Y f in omega (arith, l, few));
     lanes = let l = length-map Y g in let e = ap length taken.lanes in let c = taken.lanes_room in omega (arith, l, e, c, few);
@@ -120,7 +116,7 @@ module _ {E R P : Type 0} where
   }
 
   -- one more was taken in
-  pub one_more_taken : {X : Type 0} (n : ℕ) (f : X → List E) (g : X → ℕ × R) (h : X → P) (Y : List X) (x : X) (r r' : Room E R P)
+  pub one_more_taken : {X : Type 0} (n : ℕ) (f : X → List E) (g : X → ℕ × R) (h : X → P) (Y : List X) (x : X) (r r' : Gathered E R P)
       → HasTaken n (map f Y) (map g Y) (map h Y) r → TakesIn (f x) (g x) (h x) r r' → HasTaken n (map f (Y ++ x ∷ [])) (map g (Y ++ x ∷ [])) (map h (Y ++ x ∷ [])) r'
   one_more_taken n f g h Y x r r' taken takes = record {
     columns = takes.columns ∙ ap (λ C. put_row C (f x)) taken.columns ∙ sym (dealt_snoc (replicate 8 []) (map f Y) (f x)) ∙ ap (dealt (replicate 8 [])) (sym (map-append f Y (x ∷ [])));
@@ -132,5 +128,5 @@ module _ {E R P : Type 0} where
   }
 
   -- there are eight columns
-  pub eight_columns : (n : ℕ) (rows : List (List E)) (lanes : List (ℕ × R)) (parts : List P) (r : Room E R P) → HasTaken n rows lanes parts r → length r.columns.items ≡ 8
+  pub eight_columns : (n : ℕ) (rows : List (List E)) (lanes : List (ℕ × R)) (parts : List P) (r : Gathered E R P) → HasTaken n rows lanes parts r → length r.columns.items ≡ 8
   eight_columns n rows lanes parts r taken = sym (length-map r.columns.items (λ c. c.items)) ∙ ap length taken.columns ∙ length_dealt (replicate 8 []) rows

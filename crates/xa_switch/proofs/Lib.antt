@@ -13,4 +13,4 @@ pub mod Ledgers
 pub mod Journaled
 pub mod OfPlans
 pub mod Outstanding
-pub mod Keeping
+pub mod Kept

@@ -1,8 +1,9 @@
 -- Elements of lists: where they stand, what maps and searches make of them.
 use Rattle.std.proofs.Common.{◌≡◌, ℕ, zero, suc, ◌<◌, Bool, true, false, cond, ◌||◌, List, [], ◌∷◌, ◌++◌, length, map, get_or, slice_get, option_map, sym, refl, ap, ◌∙◌, subst, ◌⊎◌, ⊎_elim, inl, inr, arith, Option, Some, None}
 use Rattle.std.specs.List.{list_any, find, Contains, All, AllPairs}
-use Rattle.std.proofs.lemmas.Option.{slice_get-get_or, get_or_from_slice_get, slice_get_within, slice_get-map}
+use Rattle.std.proofs.lemmas.Option.{slice_get-get_or, slice_get-map}
 use Rattle.std.proofs.lemmas.List.{get_or-map, length-map, get_or_default}
+use Rattle.xa_base.proofs.Lists.{contains_at}
 
 -- y is an element
 abbrev pub In : {X : Type 0} → X → List X → Type 0
@@ -31,9 +32,6 @@ in_map f y (x ∷ xs) h = ⊎_elim (λ (e : f x ≡ y). (x, inl refl, e)) (λ (i
 
 pub all_contains : {X : Type 0} (P : X → Type 0) (xs : List X) (x : X) → All P xs → Contains xs x → P x
 all_contains P xs x h c = subst P c.2 (h c.0 x c.1)
-
-pub contains_at : {X : Type 0} (xs : List X) (k : ℕ) (x : X) → slice_get xs k ≡ Some x → Contains xs x
-contains_at xs k x e = (k, slice_get_within xs k x e, get_or_from_slice_get xs k x x e)
 
 pub element_at : {X : Type 0} (xs : List X) (k : ℕ) → k < length xs → (x : X) × (slice_get xs k ≡ Some x)
 element_at [] k h = absurd (omega arith)

@@ -4,7 +4,7 @@ use Rattle.std.specs.List.{All}
 use Rattle.std.proofs.lemmas.List.{length-map}
 use Rattle.std.proofs.lemmas.Option.{slice_get_within, slice_get-get_or}
 use Rattle.xa_switch.specs.Columns.{Each}
-use Rattle.xa_switch.specs.Lanes.{AreRequestLanes, AreCompletionLanes, IsRequestSender, IsCompletionSender}
+use Rattle.xa_switch.specs.Lanes.{AreNewLanes, IsRequestSender, IsCompletionSender}
 use Rattle.xa_switch.specs.Openings.{desk_parts, worker_parts, DesksFit, WorkersFit, IsDeskOf, IsWorkerOf, IsNewDesk, IsNewWorker, ShareNewLanes, AreOfOneOpening}
 use Rattle.xa_words.specs.declared.request.Request.{Request}
 use Rattle.xa_words.specs.declared.request.Completion.{Completion}
@@ -12,7 +12,7 @@ use Rattle.xa_lane.specs.Ends.{Sending, Receiving}
 use Rattle.xa_desk.specs.DeskView.{DeskView}
 use Rattle.xa_desk.specs.Lanes.{PartsView, new_desk}
 use Rattle.xa_worker.specs.Outgoing.{Answering}
-use Rattle.xa_worker.specs.Workers.{Reserved, Asking, Working, new_worker}
+use Rattle.xa_worker.specs.Workers.{Reserved, Asking, WorkerView, new_worker}
 use Rattle.xa_tables.specs.Managers.{Managed}
 use Rattle.xa_switch.specs.Plans.{manager_room, new_manager, completion_room}
 use Rattle.xa_switch.specs.declared.plan.Plan.{Plan}
@@ -35,6 +35,13 @@ mapped f (x ∷ xs) (suc k) y e = mapped f xs k y e
 -- what holds of each element with its place holds of each element
 all_each : {X : Type 0} (P : X → Type 0) (xs : List X) → Each (λ k x. P x) xs → All P xs
 all_each P xs each k d low = each k (get_or xs k d) (slice_get-get_or xs k d low)
+
+-- the lanes of requests, by rising manager, and the lanes of completions, by rising thread
+abbrev AreRequestLanes : ℕ → ℕ → ℕ → ℕ → List (List (Sending Request)) → List (Receiving Request) → Type 0
+AreRequestLanes opening threads managers queue columns rs = AreNewLanes opening 0 threads managers queue columns rs
+
+abbrev AreCompletionLanes : ℕ → ℕ → ℕ → ℕ → List (List (Sending Completion)) → List (Receiving Completion) → Type 0
+AreCompletionLanes opening threads managers room columns rs = AreNewLanes opening 1 managers threads room columns rs
 
 -- lanes, and desks and workers made of their ends
 pub record Ends (p : Plan) (deskparts : List PartsView) (workerparts : List Reserved) (managed : List Managed) (asks : List (List (Sending Request))) (takes : List Asking) (answers : List (List Answering)) (hears : List (Receiving Completion)) : Type 0 where
@@ -142,7 +149,7 @@ module _ (p : Plan) (deskparts : List PartsView) (workerparts : List Reserved) (
         completions = is.completions.receivers t of.completions of.completions_at;
       })
 
-  new_worker_is : (m : ℕ) (w : Working) → IsWorkerOf workerparts managed takes answers m w → IsNewWorker p m w
+  new_worker_is : (m : ℕ) (w : WorkerView) → IsWorkerOf workerparts managed takes answers m w → IsNewWorker p m w
   new_worker_is m w of =
       let plan = mapped (new_manager p.threads (manager_room p)) p.managers.items m of.manager (ap (λ l. slice_get l m) (sym is.managed_) ∙ of.manager_at) in
       subst (λ x. IsNewWorker p m x) (sym of.made)
@@ -155,7 +162,7 @@ module _ (p : Plan) (deskparts : List PartsView) (workerparts : List Reserved) (
         completions = completion_senders m of.senders of.senders_at;
       })
 
-  together_are : (t m : ℕ) (d : DeskView) (w : Working) → IsDeskOf deskparts asks hears t d → IsWorkerOf workerparts managed takes answers m w → ShareNewLanes t m d w
+  together_are : (t m : ℕ) (d : DeskView) (w : WorkerView) → IsDeskOf deskparts asks hears t d → IsWorkerOf workerparts managed takes answers m w → ShareNewLanes t m d w
   together_are t m d w of_d of_w =
       let t_low = slice_get_within deskparts t of_d.part of_d.part_at in
       let m_low = slice_get_within workerparts m of_w.part of_w.part_at in
@@ -176,7 +183,7 @@ module _ (p : Plan) (deskparts : List PartsView) (workerparts : List Reserved) (
         answered = (is.completions.dealt m t of_w.senders a.0 of_d.completions of_w.senders_at a.1 of_d.completions_at).1;
       }))
 
-  pub one_opening : (ds : List DeskView) (ws : List Working) → length ds ≡ length deskparts → length ws ≡ length workerparts → Each (IsDeskOf deskparts asks hears) ds → Each (IsWorkerOf workerparts managed takes answers) ws → AreOfOneOpening p ds ws
+  pub one_opening : (ds : List DeskView) (ws : List WorkerView) → length ds ≡ length deskparts → length ws ≡ length workerparts → Each (IsDeskOf deskparts asks hears) ds → Each (IsWorkerOf workerparts managed takes answers) ws → AreOfOneOpening p ds ws
   one_opening ds ws many_d many_w desks workers = record {
     threads = many_d ∙ is.threads;
     managers = many_w ∙ is.managers;

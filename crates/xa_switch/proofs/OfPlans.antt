@@ -8,7 +8,7 @@ use Rattle.std.proofs.lemmas.Option.{same_Some, slice_get_within}
 use Rattle.xa_tables.specs.Managers.{opening}
 use Rattle.xa_desk.specs.DeskView.{DeskView}
 use Rattle.xa_desk.specs.Ended.{EndedView}
-use Rattle.xa_worker.specs.Workers.{Working}
+use Rattle.xa_worker.specs.Workers.{WorkerView}
 use Rattle.xa_worker.specs.Done.{Served}
 use Rattle.xa_switch.specs.Closing.{settling, thread_part, manager_part}
 use Rattle.xa_switch.specs.Columns.{Each}
@@ -18,7 +18,8 @@ use Rattle.xa_switch.specs.Seats.{DeskSeat, WorkerSeat, desk_seats, worker_seats
 use Rattle.xa_switch.specs.Settling.{ThreadPart, ManagerPart, find_manager}
 use Rattle.xa_switch.specs.declared.plan.Plan.{Plan}
 use Rattle.xa_switch.specs.declared.plan.ManagerPlan.{ManagerPlan}
-use Rattle.xa_switch.proofs.Lists.{contains_at, contains_map, get_contained, get_map, element_at, fails_each, searched}
+use Rattle.xa_base.proofs.Lists.{contains_at}
+use Rattle.xa_switch.proofs.Lists.{contains_map, get_contained, get_map, element_at, fails_each, searched}
 
 -- a list whose elements have rising numbers
 numbers_of : {X : Type 0} (f : X → ℕ) (a : ℕ) (xs : List X) → Each (λ k x. f x ≡ a + k) xs → map f xs ≡ range_with_len a (length xs)
@@ -34,9 +35,9 @@ read f g h same [] = refl
 read f g h same (x ∷ xs) = λ i. same x i ∷ read f g h same xs i
 
 -- the opening has a worker of each manager of its plan, with the plan's accounts
-module _ (p : Plan) (ds : List DeskView) (ws : List Working) (o : AreOfOneOpening p ds ws) (vs : List Served) (workers : IsPermutation (map seat_of_worker ws) (worker_seats vs)) where
+module _ (p : Plan) (ds : List DeskView) (ws : List WorkerView) (o : AreOfOneOpening p ds ws) (vs : List Served) (workers : IsPermutation (map seat_of_worker ws) (worker_seats vs)) where
   -- the worker that the settled one was
-  worker_of : (v : Served) → Contains vs v → (k : ℕ) × (w : Working) × (slice_get ws k ≡ Some w) × (seat_of_worker w ≡ seat_of_done v)
+  worker_of : (v : Served) → Contains vs v → (k : ℕ) × (w : WorkerView) × (slice_get ws k ≡ Some w) × (seat_of_worker w ≡ seat_of_done v)
   worker_of v in_v =
       let there : Contains (map seat_of_worker ws) (seat_of_done v) = Contains-permutation (worker_seats vs) (map seat_of_worker ws) (seat_of_done v) (IsPermutation-sym _ _ workers) (contains_map seat_of_done vs v in_v) in
       let got = get_map seat_of_worker ws there.0 (seat_of_done v) (get_contained (map seat_of_worker ws) (seat_of_done v) there) in
@@ -46,11 +47,11 @@ module _ (p : Plan) (ds : List DeskView) (ws : List Working) (o : AreOfOneOpenin
   opened_with m plan planned v in_v number =
       let (k, w, at, same) = worker_of v in_v in
       let new : IsNewWorker p k w = o.workers k w at in
-      let made : w.number ≡ k + 1 = ap (λ (x : Working). x.number) new.made in
+      let made : w.number ≡ k + 1 = ap (λ (x : WorkerView). x.number) new.made in
       let seated : w.number ≡ v.number = ap (λ (s : WorkerSeat). s.number) same in
       let place : k ≡ m = omega (arith, made, seated, number) in
       let is : new.plan ≡ plan = same_Some new.plan plan (sym new.planned ∙ ap (slice_get p.managers.items) place ∙ planned) in
-      ap (λ (s : WorkerSeat). s.first) (sym same) ∙ ap (λ (x : Working). x.first) new.made ∙ ap (λ (x : ManagerPlan). opening x.accounts.items) is
+      ap (λ (s : WorkerSeat). s.first) (sym same) ∙ ap (λ (x : WorkerView). x.first) new.made ∙ ap (λ (x : ManagerPlan). opening x.accounts.items) is
 
   -- it is there
   settled_worker : (m : ℕ) (plan : ManagerPlan) → slice_get p.managers.items m ≡ Some plan → (v : Served) × Contains vs v × (v.number ≡ m + 1)
@@ -58,10 +59,10 @@ module _ (p : Plan) (ds : List DeskView) (ws : List Working) (o : AreOfOneOpenin
       let below = slice_get_within p.managers.items m plan planned in
       let many = o.managers in
       let opened = element_at ws m (omega (arith, below, many)) in
-      let w : Working = opened.0 in
+      let w : WorkerView = opened.0 in
       let there : Contains (worker_seats vs) (seat_of_worker w) = Contains-permutation (map seat_of_worker ws) (worker_seats vs) (seat_of_worker w) workers (contains_map seat_of_worker ws w (contains_at ws m w opened.1)) in
       let got = get_map seat_of_done vs there.0 (seat_of_worker w) (get_contained (worker_seats vs) (seat_of_worker w) there) in
-      (got.0, contains_at vs there.0 got.0 got.1, ap (λ (s : WorkerSeat). s.number) got.2 ∙ ap (λ (x : Working). x.number) (o.workers m w opened.1).made)
+      (got.0, contains_at vs there.0 got.0 got.1, ap (λ (s : WorkerSeat). s.number) got.2 ∙ ap (λ (x : WorkerView). x.number) (o.workers m w opened.1).made)
 
   found_with : (es : List EndedView) (m : ℕ) (plan : ManagerPlan) → slice_get p.managers.items m ≡ Some plan
       → option_map (λ (part : ManagerPart). part.first) (find_manager (m + 1) (settling es vs).managers) ≡ Some (opening plan.accounts.items)
@@ -76,13 +77,13 @@ module _ (p : Plan) (ds : List DeskView) (ws : List Working) (o : AreOfOneOpenin
       cc)
       (searched manager_part (λ (q : ManagerPart). q.number == m + 1) vs)
 
-pub of_plan : (p : Plan) (ds : List DeskView) (ws : List Working) (es : List EndedView) (vs : List Served)
+pub of_plan : (p : Plan) (ds : List DeskView) (ws : List WorkerView) (es : List EndedView) (vs : List Served)
     → AreOfOneOpening p ds ws → IsPermutation (map seat_of_desk ds) (desk_seats es) → IsPermutation (map seat_of_worker ws) (worker_seats vs) → IsOfPlan p (settling es vs)
 of_plan p ds ws es vs o desks workers = record {
   threads = rearranged (λ (s : DeskSeat). s.thread) seat_of_desk (λ (d : DeskView). d.thread) (λ d. refl) seat_of_ended thread_part (λ (t : ThreadPart). t.thread) (λ e. refl) p.threads ds es o.threads
       (λ k d at. ap (λ (x : DeskView). x.thread) (o.desks k d at).made ∙ (omega arith)) desks;
-  managers = rearranged (λ (s : WorkerSeat). s.number) seat_of_worker (λ (w : Working). w.number) (λ w. refl) seat_of_done manager_part (λ (m : ManagerPart). m.number) (λ v. refl) (length p.managers.items) ws vs o.managers
-      (λ k w at. ap (λ (x : Working). x.number) (o.workers k w at).made ∙ (omega arith)) workers;
+  managers = rearranged (λ (s : WorkerSeat). s.number) seat_of_worker (λ (w : WorkerView). w.number) (λ w. refl) seat_of_done manager_part (λ (m : ManagerPart). m.number) (λ v. refl) (length p.managers.items) ws vs o.managers
+      (λ k w at. ap (λ (x : WorkerView). x.number) (o.workers k w at).made ∙ (omega arith)) workers;
   opened = found_with p ds ws o vs workers es;
 }
   where

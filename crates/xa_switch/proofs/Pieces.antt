@@ -20,7 +20,8 @@ use Rattle.xa_worker.specs.Done.{Served, IsServed, IsOrdered}
 use Rattle.xa_switch.specs.Settling.{Agree, answers}
 use Rattle.xa_switch.specs.Seats.{EndSeat, WorkerSeat, end_seat, seat_of_ended, seat_of_done, ShareLanes, AreTogether, AreApartDesks, AreApartWorkers, ComeFromOpenings, desk_seats, worker_seats, desk_opening, worker_opening, first_opening, AreOfOne, HasDesks, HasWorkers, has_desk, has_worker, AreAll}
 use Rattle.xa_switch.specs.Closing.{dealt, column, IsClosable, IsClosed, desk_lane, worker_lane}
-use Rattle.xa_switch.proofs.Lists.{In, all_map, pairs_map, pairs_at, all_contains, contains_at, contains_in, get_contained, contains_map, contains_place, get_map}
+use Rattle.xa_base.proofs.Lists.{contains_at}
+use Rattle.xa_switch.proofs.Lists.{In, all_map, pairs_map, pairs_at, all_contains, contains_in, get_contained, contains_map, contains_place, get_map}
 use Rattle.xa_switch.proofs.Gathering.{dealt_adds, dealt_all, column_none}
 use Rattle.xa_switch.proofs.OneLane.{Answers, asked_there, answered_there, taken_whole, in_drained, in_part, placed, drawn_law}
 

@@ -10,7 +10,7 @@ use Rattle.xa_tables.specs.History.{IsOpening}
 use Rattle.xa_lane.specs.Ends.{Sending, Receiving}
 use Rattle.xa_desk.specs.DeskView.{DeskView}
 use Rattle.xa_worker.specs.Outgoing.{Answering}
-use Rattle.xa_worker.specs.Workers.{Working}
+use Rattle.xa_worker.specs.Workers.{WorkerView}
 use Rattle.xa_switch.specs.declared.plan.Plan.{Plan}
 use Rattle.xa_switch.specs.Openings.{IsNewDesk, IsNewWorker, ShareNewLanes, AreOfOneOpening}
 use Rattle.xa_switch.specs.Seats.{DeskSeat, WorkerSeat, openings_of, end_seat, seat_of_desk, seat_of_worker, ShareLanes, AreTogether, AreApartDesks, AreApartWorkers, ComeFromOpenings}
@@ -18,14 +18,14 @@ use Rattle.xa_switch.proofs.Lists.{all_map, all_contains, pairs_map, get_contain
 
 -- ---- an opening
 
-module _ (p : Plan) (ds : List DeskView) (ws : List Working) (h : AreOfOneOpening p ds ws) where
-  share : (t m : ℕ) (d : DeskView) (w : Working) → slice_get ds t ≡ Some d → slice_get ws m ≡ Some w → ShareLanes (seat_of_desk d) (seat_of_worker w)
+module _ (p : Plan) (ds : List DeskView) (ws : List WorkerView) (h : AreOfOneOpening p ds ws) where
+  share : (t m : ℕ) (d : DeskView) (w : WorkerView) → slice_get ds t ≡ Some d → slice_get ws m ≡ Some w → ShareLanes (seat_of_desk d) (seat_of_worker w)
   share t m d w at_d at_w =
       let D : IsNewDesk p t d = h.desks t d at_d in
       let W : IsNewWorker p m w = h.workers m w at_w in
       let T : ShareNewLanes t m d w = h.together t m d w at_d at_w in
       let thread : d.thread ≡ t + 1 = ap (λ (d : DeskView). d.thread) D.made in
-      let number : w.number ≡ m + 1 = ap (λ (w : Working). w.number) W.made in
+      let number : w.number ≡ m + 1 = ap (λ (w : WorkerView). w.number) W.made in
       let m_is : w.number - 1 ≡ m = omega (arith, number) in
       let t_is : d.thread - 1 ≡ t = omega (arith, thread) in
       let asking = D.requests m T.asking T.asks in
@@ -44,14 +44,14 @@ module _ (p : Plan) (ds : List DeskView) (ws : List Working) (h : AreOfOneOpenin
   thread_at : (k : ℕ) (d : DeskView) → slice_get ds k ≡ Some d → d.thread ≡ k + 1
   thread_at k d at = let D : IsNewDesk p k d = h.desks k d at in ap (λ (d : DeskView). d.thread) D.made
 
-  number_at : (k : ℕ) (w : Working) → slice_get ws k ≡ Some w → w.number ≡ k + 1
-  number_at k w at = let W : IsNewWorker p k w = h.workers k w at in ap (λ (w : Working). w.number) W.made
+  number_at : (k : ℕ) (w : WorkerView) → slice_get ws k ≡ Some w → w.number ≡ k + 1
+  number_at k w at = let W : IsNewWorker p k w = h.workers k w at in ap (λ (w : WorkerView). w.number) W.made
 
   is_opening : (accounts : List (List ℕ × ℕ)) → IsOpening (opening accounts)
   is_opening accounts = record { opened = refl; associations = refl; states = refl; sums = refl; shut = refl }
 
-  opened_at : (k : ℕ) (w : Working) → slice_get ws k ≡ Some w → IsOpening w.first
-  opened_at k w at = let W : IsNewWorker p k w = h.workers k w at in subst (λ (w : Working). IsOpening w.first) (sym W.made) (is_opening W.plan.accounts.items)
+  opened_at : (k : ℕ) (w : WorkerView) → slice_get ws k ≡ Some w → IsOpening w.first
+  opened_at k w at = let W : IsNewWorker p k w = h.workers k w at in subst (λ (w : WorkerView). IsOpening w.first) (sym W.made) (is_opening W.plan.accounts.items)
 
   pub opened : ComeFromOpenings (map seat_of_desk ds) (map seat_of_worker ws)
   opened = record {

@@ -1,6 +1,8 @@
 -- How the lanes of an opening are closed.
-use Rattle.std.specs.Prelude.{◌≡◌, ℕ, ◌-◌, ◌<◌, ◌≤◌, List, [], ◌∷◌, ◌++◌, length, map, replicate, slice_index_or, vec_capacity}
+use Rattle.std.specs.Prelude.{◌≡◌, ℕ, ◌-◌, ◌<◌, ◌≤◌, List, [], ◌∷◌, ◌++◌, length, map, replicate, slice_index_or}
+use Rattle.std.specs.Prelude.{vec_capacity}
 use Rattle.std.specs.List.{All}
+use Rattle.xa_base.specs.declared.limits.TheConstants.{MOST_SENDERS}
 use Rattle.xa_words.specs.declared.request.Completion.{Completion}
 use Rattle.xa_lane.specs.Ends.{Sending, Receiving}
 use Rattle.xa_lane.specs.Closing.{IsWhole, Conserves, LeavesNothing, AreKnown, items_in}
@@ -10,7 +12,7 @@ use Rattle.xa_worker.specs.Workers.{Asking}
 use Rattle.xa_worker.specs.Done.{Served}
 use Rattle.xa_switch.specs.Columns.{put_row}
 use Rattle.xa_switch.specs.Settling.{ThreadPart, ManagerPart, Settling}
-use Rattle.xa_switch.specs.declared.apart.Room.{Room}
+use Rattle.xa_switch.specs.declared.gathered.Gathered.{Gathered}
 
 -- one row after another, each element at the end of its column
 abbrev pub dealt : {X : Type 0} → List (List X) → List (List X) → List (List X)
@@ -51,15 +53,17 @@ abbrev pub taken_by : Served → History
 taken_by w = map (λ p. p.1) (items_in w.receiver.taken)
 
 abbrev pub manager_part : Served → ManagerPart
-manager_part w = record { number = w.number; first = w.first; taken = taken_by w; journal = w.journal; last = w.manager.tables }
+manager_part w =
+    record { number = w.number; first = w.first; taken = taken_by w; journal = w.journal; last = w.manager.tables }
 
 abbrev pub settling : List EndedView → List Served → Settling
 settling ds ws = record { threads = map thread_part ds; managers = map manager_part ws }
 
--- pieces with these rows of ends, lanes and parts were taken in, of the n that there is room for: the rows were dealt into
--- eight columns
-pub record HasTaken {E R P : Type 0} (n : ℕ) (rows : List (List E)) (ls : List (ℕ × R)) (ps : List P) (r : Room E R P) : Type 0 where
-  pub columns : map (λ c. c.items) r.columns.items ≡ dealt (replicate 8 []) rows
+-- pieces with these rows of ends, lanes and parts were taken in, of the n that there is room for: the rows were dealt
+-- into eight columns
+pub record HasTaken {E R P : Type 0} (n : ℕ) (rows : List (List E)) (ls : List (ℕ × R)) (ps : List P)
+    (r : Gathered E R P) : Type 0 where
+  pub columns : map (λ c. c.items) r.columns.items ≡ dealt (replicate MOST_SENDERS []) rows
   pub deep : All (λ c. n ≤ vec_capacity c) r.columns.items
   pub lanes : r.lanes.items ≡ ls
   pub lanes_room : n ≤ vec_capacity r.lanes
@@ -67,17 +71,17 @@ pub record HasTaken {E R P : Type 0} (n : ℕ) (rows : List (List E)) (ls : List
   pub parts_room : n ≤ vec_capacity r.parts
 
 -- none was taken in yet
-abbrev pub IsRoomFor : {E R P : Type 0} → ℕ → Room E R P → Type 0
-IsRoomFor {E} {R} {P} n r = HasTaken n [] [] [] r
+abbrev pub HasRoomFor : {E R P : Type 0} → ℕ → Gathered E R P → Type 0
+HasRoomFor {E} {R} {P} n r = HasTaken n [] [] [] r
 
 -- there is room for one piece more
-pub record HasRoom {E R P : Type 0} (r : Room E R P) : Type 0 where
+pub record HasRoom {E R P : Type 0} (r : Gathered E R P) : Type 0 where
   pub columns : All (λ c. length c.items < vec_capacity c) r.columns.items
   pub lanes : length r.lanes.items < vec_capacity r.lanes
   pub parts : length r.parts.items < vec_capacity r.parts
 
 -- one piece more was taken in: its row of ends was dealt, and its lane and its part come last
-pub record TakesIn {E R P : Type 0} (row : List E) (lane : ℕ × R) (part : P) (old new : Room E R P) : Type 0 where
+pub record TakesIn {E R P : Type 0} (row : List E) (lane : ℕ × R) (part : P) (old new : Gathered E R P) : Type 0 where
   pub columns : map (λ c. c.items) new.columns.items ≡ put_row (map (λ c. c.items) old.columns.items) row
   pub depth : map (λ c. vec_capacity c) new.columns.items ≡ map (λ c. vec_capacity c) old.columns.items
   pub lanes : new.lanes.items ≡ old.lanes.items ++ lane ∷ []

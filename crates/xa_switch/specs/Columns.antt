@@ -12,9 +12,11 @@ abbrev pub Each : {X : Type 0} → (ℕ → X → Type 0) → List X → Type 0
 Each {X} P xs = (k : ℕ) (x : X) → slice_get xs k ≡ Some x → P k x
 
 -- ends of lanes: the receivers `rs`, and the senders in columns, so that column k has sender k of each lane
-pub record AreLanes {S R : Type 0} (IsReceiver : ℕ → R → Type 0) (IsSender : ℕ → ℕ → S → R → Type 0) (senders lanes : ℕ) (columns : List (List S)) (rs : List R) : Type 0 where
+pub record AreLanes {S R : Type 0} (IsReceiver : ℕ → R → Type 0) (IsSender : ℕ → ℕ → S → R → Type 0) (senders lanes : ℕ)
+    (columns : List (List S)) (rs : List R) : Type 0 where
   pub many : length rs ≡ lanes
   pub receivers : Each IsReceiver rs
   pub wide : length columns ≡ senders
   pub deep : Each (λ k c. length c ≡ lanes) columns
-  pub dealt : (k j : ℕ) (c : List S) (s : S) (r : R) → slice_get columns k ≡ Some c → slice_get c j ≡ Some s → slice_get rs j ≡ Some r → IsSender k j s r
+  pub dealt : (k j : ℕ) (c : List S) (s : S) (r : R) → slice_get columns k ≡ Some c → slice_get c j ≡ Some s
+      → slice_get rs j ≡ Some r → IsSender k j s r

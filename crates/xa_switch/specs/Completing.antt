@@ -1,5 +1,6 @@
 -- What xa_complete collects, writes and answers.
-use Rattle.std.specs.Prelude.{◌≡◌, ℕ, ℤ, pos, negsuc, Bool, true, false, not, ◌&&◌, ◌||◌, ◌==◌, Option, Some, None, Result, Ok, Err, IfOk}
+use Rattle.std.specs.Prelude.{◌≡◌, ℕ, ℤ, pos, negsuc, Bool, true, false, not, ◌&&◌, ◌||◌, ◌==◌, Option, Some, None}
+use Rattle.std.specs.Prelude.{Result, Ok, Err, IfOk}
 use Rattle.std.specs.FinMap as map
 use Rattle.xa_words.specs.Code.{number_of}
 use Rattle.xa_words.specs.Flags.{check_flags}
@@ -35,21 +36,29 @@ pub record CollectsRedeemed (old new : DeskView) (k : ℕ) (c : Code) : Type 0 w
   pub kept : map.get old.kept k ≡ Some operation
   pub collects : Collects (record old { kept = map.remove old.kept k }) new operation c
 
--- What comes of collecting by a handle: XAER_INVAL where no operation of the manager is kept under it; without waiting, XA_RETRY after a quiet moment with its completion not drained; else its number and its code.
-pub data CompletesOne (old : DeskView) (number : Option ℕ) (m : ℕ) (nowait : Bool) (new : DeskView) (result : Result (ℕ × Code) Code) : Type 0 where
+-- What comes of collecting by a handle: XAER_INVAL where no operation of the manager is kept under it; without waiting,
+-- XA_RETRY after a quiet moment with its completion not drained; else its number and its code.
+pub data CompletesOne (old : DeskView) (number : Option ℕ) (m : ℕ) (nowait : Bool) (new : DeskView)
+    (result : Result (ℕ × Code) Code) : Type 0 where
   unknown : keeps_by old number m ≡ false → result ≡ Err Inval → new ≡ old → CompletesOne old number m nowait new result
-  retry : (k : ℕ) → number ≡ Some k → keeps_for old k m ≡ true → nowait ≡ true → result ≡ Err Retry → EndsQuiet old new → ready_at new 0 k ≡ false → CompletesOne old number m nowait new result
-  ready : (k : ℕ) (c : Code) → number ≡ Some k → keeps_for old k m ≡ true → nowait ≡ true → result ≡ Ok (k, c) → CollectsKept old new k c → CompletesOne old number m nowait new result
-  waited : (k : ℕ) (c : Code) → number ≡ Some k → keeps_for old k m ≡ true → nowait ≡ false → result ≡ Ok (k, c) → CollectsRedeemed old new k c → CompletesOne old number m nowait new result
+  retry : (k : ℕ) → number ≡ Some k → keeps_for old k m ≡ true → nowait ≡ true → result ≡ Err Retry → EndsQuiet old new
+      → ready_at new 0 k ≡ false → CompletesOne old number m nowait new result
+  ready : (k : ℕ) (c : Code) → number ≡ Some k → keeps_for old k m ≡ true → nowait ≡ true → result ≡ Ok (k, c)
+      → CollectsKept old new k c → CompletesOne old number m nowait new result
+  waited : (k : ℕ) (c : Code) → number ≡ Some k → keeps_for old k m ≡ true → nowait ≡ false → result ≡ Ok (k, c)
+      → CollectsRedeemed old new k c → CompletesOne old number m nowait new result
 
 -- Nothing of manager m, of any manager for 0, is kept.
 abbrev pub KeepsNothing : DeskView → ℕ → Type 0
 KeepsNothing d m = (k : ℕ) → keeps_at d m k ≡ false
 
--- What comes of collecting any operation of m: XAER_PROTO where nothing of it is kept; without waiting, XA_RETRY after a quiet moment with nothing of it ready; else the least number that is ready at a quiet moment, and its code.
-pub data CompletesAny (old : DeskView) (m : ℕ) (nowait : Bool) (new : DeskView) (result : Result (ℕ × Code) Code) : Type 0 where
+-- What comes of collecting any operation of m: XAER_PROTO where nothing of it is kept; without waiting, XA_RETRY after
+-- a quiet moment with nothing of it ready; else the least number that is ready at a quiet moment, and its code.
+pub data CompletesAny (old : DeskView) (m : ℕ) (nowait : Bool) (new : DeskView)
+    (result : Result (ℕ × Code) Code) : Type 0 where
   nothing : KeepsNothing old m → result ≡ Err Proto → new ≡ old → CompletesAny old m nowait new result
-  retry : (k : ℕ) → keeps_at old m k ≡ true → nowait ≡ true → result ≡ Err Retry → EndsQuiet old new → ((j : ℕ) → ready_at new m j ≡ false) → CompletesAny old m nowait new result
+  retry : (k : ℕ) → keeps_at old m k ≡ true → nowait ≡ true → result ≡ Err Retry → EndsQuiet old new
+      → ((j : ℕ) → ready_at new m j ≡ false) → CompletesAny old m nowait new result
   least : (k : ℕ) (c : Code) → result ≡ Ok (k, c) → CollectsLeast old new m k c → CompletesAny old m nowait new result
 
 -- ---- xa_complete
@@ -65,7 +74,8 @@ CompletesAt true true nowait old number m new result = CompletesAny old m nowait
 CompletesAt true false nowait old number m new result = CompletesOne old number m nowait new result
 
 abbrev pub CompletesIn : Mode → DeskView → Option ℕ → ℕ → DeskView → Result (ℕ × Code) Code → Type 0
-CompletesIn mode old number m new result = CompletesAt (may_complete old m mode.multiple) mode.multiple mode.nowait old number m new result
+CompletesIn mode old number m new result =
+    CompletesAt (may_complete old m mode.multiple) mode.multiple mode.nowait old number m new result
 
 -- What comes of an xa_complete whose flags came to this.
 abbrev pub CompletesBy : Result Mode Code → DeskView → Option ℕ → ℕ → DeskView → Result (ℕ × Code) Code → Type 0
@@ -78,7 +88,8 @@ Tells (Ok r) handle retval handle' retval' answer = (handle' ≡ pos r.0) × ((r
 Tells (Err c) handle retval handle' retval' answer = (handle' ≡ handle) × ((retval' ≡ retval) × (answer ≡ number_of c))
 
 -- What an xa_complete does to the desk, and what it writes and answers.
-pub record HasCompleted (old : DeskView) (handle retval : ℤ) (m flags : ℕ) (new : DeskView) (handle' retval' answer : ℤ) : Type 0 where
+pub record HasCompleted (old : DeskView) (handle retval : ℤ) (m flags : ℕ) (new : DeskView)
+    (handle' retval' answer : ℤ) : Type 0 where
   pub collected : Result (ℕ × Code) Code
   pub completes : CompletesBy (check_flags call.Complete flags) old (number_in handle) m new collected
   pub numbered : IfOk collected (λ r. IsHandle r.0)

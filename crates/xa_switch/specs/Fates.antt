@@ -23,8 +23,8 @@ fate_in x (Some p) = fate x (requests p.journal) p.first
 abbrev pub settled_fate : Settling → ℕ → XidName → Fate
 settled_fate s m x = fate_in x (find_manager m s.managers)
 
--- The tables are those that manager m was opened with, any for no manager: its journal is what they make of the requests
--- that it took, and so is what became of each branch.
+-- The tables are those that manager m was opened with, any for no manager: its journal is what they make of the
+-- requests that it took, and so is what became of each branch.
 pub record IsOpenedWith (s : Settling) (m : ℕ) (T : Tables) : Type 0 where
   pub opened : IsOpening T
   pub codes : journal s m ≡ coded (history s m) T

@@ -6,7 +6,8 @@ use Rattle.xa_lane.specs.declared.name.LaneName.{LaneName}
 use Rattle.xa_lane.specs.Ends.{Sending, Receiving, new_sender, new_receiver}
 use Rattle.xa_switch.specs.Columns.{AreLanes}
 
--- the lane to the manager or thread with this number; the lanes of requests are of kind 0, those of completions of kind 1
+-- the lane to the manager or thread with this number; the lanes of requests are of kind 0, those of completions of kind
+-- 1
 abbrev pub lane_to : ℕ → ℕ → ℕ → LaneName
 lane_to opening kind number = record { opening = opening; kind = kind; index = number }
 
@@ -25,7 +26,8 @@ module _ {T : Type 0} (opening kind : ℕ) where
 
   -- so many lanes, by rising number
   abbrev pub AreNewLanes : ℕ → ℕ → ℕ → List (List (Sending T)) → List (Receiving T) → Type 0
-  AreNewLanes senders lanes room columns rs = AreLanes (IsNewReceiver senders room) (IsNewPair room) senders lanes columns rs
+  AreNewLanes senders lanes room columns rs =
+      AreLanes (IsNewReceiver senders room) (IsNewPair room) senders lanes columns rs
 
 -- the receiver of the requests to manager m + 1, which has taken nothing
 abbrev pub IsRequestEnd : ℕ → ℕ → ℕ → ℕ → Receiving Request → Type 0
@@ -42,10 +44,3 @@ IsCompletionEnd opening managers room t r = IsNewReceiver opening 1 managers roo
 -- the sender of manager m + 1 on the lane to thread t + 1, which has sent nothing
 abbrev pub IsCompletionSender : ℕ → ℕ → ℕ → ℕ → Sending Completion → Type 0
 IsCompletionSender opening room m t s = IsNewSender opening 1 room m t s
-
--- the lanes of requests, by rising manager, and the lanes of completions, by rising thread
-abbrev pub AreRequestLanes : ℕ → ℕ → ℕ → ℕ → List (List (Sending Request)) → List (Receiving Request) → Type 0
-AreRequestLanes opening threads managers queue columns rs = AreNewLanes opening 0 threads managers queue columns rs
-
-abbrev pub AreCompletionLanes : ℕ → ℕ → ℕ → ℕ → List (List (Sending Completion)) → List (Receiving Completion) → Type 0
-AreCompletionLanes opening threads managers room columns rs = AreNewLanes opening 1 managers threads room columns rs

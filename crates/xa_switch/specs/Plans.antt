@@ -1,22 +1,21 @@
 -- Which plans can be opened, and what they say.
-use Rattle.std.specs.Prelude.{◌≡◌, ℕ, ◌+◌, ◌*◌, ◌≤◌, Bool, true, List, length, map}
+use Rattle.std.specs.Prelude.{◌≡◌, ℕ, ◌+◌, ◌*◌, Bool, true, List, length, map}
 use Rattle.std.specs.List.{All}
+use Rattle.xa_base.specs.declared.limits.TheConstants.{MOST_HANDLES, MOST_MANAGERS, MOST_QUEUED, MOST_REQUESTS}
+use Rattle.xa_base.specs.declared.limits.TheConstants.{MOST_THREADS}
+use Rattle.xa_base.specs.Lists.{IsUpTo}
 use Rattle.xa_tables.specs.Accounts.{are_accounts}
 use Rattle.xa_tables.specs.Managers.{Managed, opening}
 use Rattle.xa_switch.specs.declared.plan.Plan.{Plan}
 use Rattle.xa_switch.specs.declared.plan.ManagerPlan.{ManagerPlan}
 
--- a number from 1 to `most`
-abbrev pub IsUpTo : ℕ → ℕ → Type 0
-IsUpTo most n = (1 ≤ n) × (n ≤ most)
-
 -- each number is within its limits
 pub record IsWithinLimits (p : Plan) : Type 0 where
-  pub threads : IsUpTo 8 p.threads
-  pub managers : IsUpTo 8 (length p.managers.items)
-  pub handles : IsUpTo 32 p.handles
-  pub queue : IsUpTo 64 p.queue
-  pub requests : IsUpTo 4096 p.requests
+  pub threads : IsUpTo MOST_THREADS p.threads
+  pub managers : IsUpTo MOST_MANAGERS (length p.managers.items)
+  pub handles : IsUpTo MOST_HANDLES p.handles
+  pub queue : IsUpTo MOST_QUEUED p.queue
+  pub requests : IsUpTo MOST_REQUESTS p.requests
 
 -- the accounts can be had
 abbrev pub IsSoundManager : ManagerPlan → Type 0
@@ -39,6 +38,7 @@ manager_room p = p.threads * p.requests
 abbrev pub new_manager : ℕ → ℕ → ManagerPlan → Managed
 new_manager threads room m = record { tables = opening m.accounts.items; threads = threads; room = room }
 
--- how many completions and end marks a thread's lane holds: one for each handle and one for a synchronous call, and an end mark of each manager
+-- how many completions and end marks a thread's lane holds: one for each handle and one for a synchronous call, and an
+-- end mark of each manager
 abbrev pub completion_room : Plan → ℕ
 completion_room p = p.handles + 1 + length p.managers.items

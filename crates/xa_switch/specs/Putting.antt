@@ -1,5 +1,6 @@
 -- What a call of XA puts to a manager, and what it answers.
-use Rattle.std.specs.Prelude.{◌≡◌, ℕ, ℤ, pos, Bool, true, false, not, ◌&&◌, is_some, if◌then◌else◌, Option, Some, None, option_map, Result, Ok, Err}
+use Rattle.std.specs.Prelude.{◌≡◌, ℕ, ℤ, pos, Bool, true, false, not, ◌&&◌, is_some, if◌then◌else◌, Option, Some, None}
+use Rattle.std.specs.Prelude.{option_map, Result, Ok, Err}
 use Rattle.std.specs.FinMap as map
 use Rattle.std.specs.Option.{option_or}
 use Rattle.xa_words.specs.Code.{number_of}
@@ -7,7 +8,8 @@ use Rattle.xa_words.specs.declared.code.Code.{Code}
 use Rattle.xa_words.specs.declared.code.Code.TheVariants.{Async, Inval, RmErr, RmFail}
 use Rattle.xa_desk.specs.declared.refused.Refused.{Refused}
 use Rattle.xa_desk.specs.declared.refused.Refused.TheVariants.{NoSuchManager, Shut, TooMany, Spent, Full}
-use Rattle.xa_desk.specs.DeskView.{DeskView, ledger, next_operation, IsLeastFree, reach_refusal, submit_refusal, call_refusal}
+use Rattle.xa_desk.specs.DeskView.{DeskView, ledger, next_operation, IsLeastFree, reach_refusal, submit_refusal}
+use Rattle.xa_desk.specs.DeskView.{call_refusal}
 use Rattle.xa_desk.specs.Lanes.{submitted, after_full, after_fulls}
 use Rattle.xa_desk.specs.Looks.{Collects}
 use Rattle.xa_switch.specs.declared.asked.Asked.{Asked}
@@ -24,18 +26,30 @@ code_of Full = Async
 abbrev pub async_refusal : DeskView → ℕ → Option Code
 async_refusal d m = if (ledger d.ledgers m).carries_async then None else Some Async
 
--- Why nothing may be put to manager m, a full queue aside: the desk's refusal, as a code. An asynchronous call asks whether
--- the manager takes any before handles and planned requests are looked at.
+-- Why nothing may be put to manager m, a full queue aside: the desk's refusal, as a code. An asynchronous call asks
+-- whether the manager takes any before handles and planned requests are looked at.
 abbrev pub put_refusal : DeskView → ℕ → Bool → Option Code
 put_refusal d m false = option_map code_of (call_refusal d m)
-put_refusal d m true = option_or (option_map code_of (reach_refusal d m)) (option_or (async_refusal d m) (option_map code_of (submit_refusal d m)))
+put_refusal d m true =
+    option_or (option_map code_of (reach_refusal d m))
+    (option_or (async_refusal d m) (option_map code_of (submit_refusal d m)))
 
--- What becomes of what is asked for, and the answer: a refusal; XAER_ASYNC where the queue was full, which the end of the lane counts; the handle under which the request that was sent is kept; or the collected code of the request that was sent once the queue was found full n times.
+-- What becomes of what is asked for, and the answer: a refusal; XAER_ASYNC where the queue was full, which the end of
+-- the lane counts; the handle under which the request that was sent is kept; or the collected code of the request that
+-- was sent once the queue was found full n times.
 pub data Puts (old : DeskView) (m : ℕ) (asked : Asked) (new : DeskView) (answer : ℤ) : Type 0 where
-  refused : (c : Code) → put_refusal old m asked.asynchronous ≡ Some c → answer ≡ number_of c → new ≡ old → Puts old m asked new answer
-  full : put_refusal old m asked.asynchronous ≡ None → asked.asynchronous ≡ true → answer ≡ number_of Async → new ≡ after_full old m → Puts old m asked new answer
-  kept : put_refusal old m asked.asynchronous ≡ None → asked.asynchronous ≡ true → (k : ℕ) → answer ≡ pos k → IsLeastFree old.kept k → new ≡ record (submitted old m asked.op) { kept = map.insert old.kept k (next_operation old.ledgers m) } → Puts old m asked new answer
-  answered : put_refusal old m asked.asynchronous ≡ None → asked.asynchronous ≡ false → (n : ℕ) (c : Code) → answer ≡ number_of c → Collects (submitted (after_fulls n old m) m asked.op) new (next_operation old.ledgers m) c → Puts old m asked new answer
+  refused : (c : Code) → put_refusal old m asked.asynchronous ≡ Some c → answer ≡ number_of c → new ≡ old
+      → Puts old m asked new answer
+  full : put_refusal old m asked.asynchronous ≡ None → asked.asynchronous ≡ true → answer ≡ number_of Async
+      → new ≡ after_full old m → Puts old m asked new answer
+  kept : put_refusal old m asked.asynchronous ≡ None → asked.asynchronous ≡ true → (k : ℕ) → answer ≡ pos k
+      → IsLeastFree old.kept k
+      → new ≡ record (submitted old m asked.op) { kept = map.insert old.kept k (next_operation old.ledgers m) }
+      → Puts old m asked new answer
+  answered : put_refusal old m asked.asynchronous ≡ None → asked.asynchronous ≡ false → (n : ℕ) (c : Code)
+      → answer ≡ number_of c
+      → Collects (submitted (after_fulls n old m) m asked.op) new (next_operation old.ledgers m) c
+      → Puts old m asked new answer
 
 -- A call that asks for nothing is refused, and the desk stays.
 abbrev pub Calls : Result Asked Code → DeskView → ℕ → DeskView → ℤ → Type 0

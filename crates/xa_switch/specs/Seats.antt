@@ -1,5 +1,6 @@
 -- Which desks and workers belong together, and why some are not settled.
-use Rattle.std.specs.Prelude.{◌≡◌, ◌≢◌, ℕ, ◌+◌, ◌-◌, ◌<◌, ◌≤◌, Bool, true, ◌==◌, List, [], ◌∷◌, ◌++◌, length, map, slice_get, Some}
+use Rattle.std.specs.Prelude.{◌≡◌, ◌≢◌, ℕ, ◌+◌, ◌-◌, ◌<◌, ◌≤◌, Bool, true, ◌==◌, List, [], ◌∷◌, ◌++◌, length, map}
+use Rattle.std.specs.Prelude.{slice_get, Some}
 use Rattle.std.specs.List.{All, AllPairs, list_any}
 use Rattle.std.specs.List.Sorted.{IsPermutation}
 use Rattle.xa_tables.specs.History.{IsOpening}
@@ -13,8 +14,8 @@ use Rattle.xa_switch.specs.declared.settling.Why.TheVariants.{NoMemory, Stranger
 
 -- ---- pieces of one opening
 
--- the desk sends on the lane that the worker takes from, and the worker on the lane that the desk takes from, each as the
--- sender of its own number
+-- the desk sends on the lane that the worker takes from, and the worker on the lane that the desk takes from, each as
+-- the sender of its own number
 pub record ShareLanes (d : DeskSeat) (w : WorkerSeat) : Type 0 where
   -- the desk's end of the lane of requests
   pub asking : EndSeat
@@ -39,8 +40,8 @@ AreApartDesks a b = a.lane.opening ≡ b.lane.opening → a.thread ≢ b.thread
 abbrev pub AreApartWorkers : WorkerSeat → WorkerSeat → Type 0
 AreApartWorkers a b = a.lane.opening ≡ b.lane.opening → a.number ≢ b.number
 
--- Pieces of one opening number come from one opening: each desk and each worker of it share their lanes, no two desks or
--- workers of it have one number, and each manager was opened.
+-- Pieces of one opening number come from one opening: each desk and each worker of it share their lanes, no two desks
+-- or workers of it have one number, and each manager was opened.
 pub record ComeFromOpenings (desks : List DeskSeat) (workers : List WorkerSeat) : Type 0 where
   pub together : All (λ d. All (AreTogether d) workers) desks
   pub desks_apart : AllPairs AreApartDesks desks
@@ -82,7 +83,8 @@ first_opening (d ∷ ds) ws = desk_opening d
 
 -- no piece is of another opening than the first
 abbrev pub AreOfOne : List EndedView → List Served → Type 0
-AreOfOne ds ws = All (λ d. desk_opening d ≡ first_opening ds ws) ds × All (λ w. worker_opening w ≡ first_opening ds ws) ws
+AreOfOne ds ws =
+    All (λ d. desk_opening d ≡ first_opening ds ws) ds × All (λ w. worker_opening w ≡ first_opening ds ws) ws
 
 -- the desk of this thread is there, and the worker of this manager
 abbrev pub has_desk : ℕ → List EndedView → Bool

@@ -1,10 +1,12 @@
 -- What a settled opening has: what was sent, what was carried out and what was collected agree.
-use Rattle.std.specs.Prelude.{◌≡◌, ◌↔◌, ℕ, ℤ, ◌<◌, nat_eq, true, ◌==◌, List, [], length, map, filter, slice_get, Option, Some, None, ◌++◌}
+use Rattle.std.specs.Prelude.{◌≡◌, ◌↔◌, ℕ, ℤ, ◌<◌, nat_eq, true, ◌==◌, List, [], length, map, filter, slice_get, Option}
+use Rattle.std.specs.Prelude.{Some, None, ◌++◌}
 use Rattle.std.specs.List.{All, IsDistinct, list_any, find}
 use Rattle.xa_words.specs.declared.code.Code.{Code}
 use Rattle.xa_words.specs.declared.request.Op.{Op}
 use Rattle.xa_tables.specs.Tables.{Tables}
-use Rattle.xa_tables.specs.History.{History, of_thread, codes, tables_after, accepted, first_shut, late, carried_out, value_after, IsOpening}
+use Rattle.xa_tables.specs.History.{History, of_thread, codes, tables_after, accepted, first_shut, late, carried_out}
+use Rattle.xa_tables.specs.History.{value_after, IsOpening}
 use Rattle.xa_desk.specs.LedgerView.{LedgerView}
 use Rattle.xa_desk.specs.DeskView.{sent_to, collected_from}
 use Rattle.xa_desk.specs.Lanes.{numbered}
@@ -17,8 +19,8 @@ pub record ThreadPart : Type 0 where
   pub thread : ℕ
   pub ledgers : List LedgerView
 
--- of a manager: its number, the tables that it was opened with, what it took, in order, its journal, and its tables at the
--- end
+-- of a manager: its number, the tables that it was opened with, what it took, in order, its journal, and its tables at
+-- the end
 pub record ManagerPart : Type 0 where
   pub number : ℕ
   pub first : Tables
@@ -107,7 +109,8 @@ abbrev pub value_in : List ℕ → Option ManagerPart → Option ℤ
 value_in k None = None
 value_in k (Some p) = value_after k (requests p.journal) p.first
 
--- the value of a key after manager m's journal: the declared one, and each accepted addition whose branch commits later;
+-- the value of a key after manager m's journal: the declared one, and each accepted addition whose branch commits
+-- later;
 -- none for a manager or a key that isn't there
 abbrev pub value : Settling → ℕ → List ℕ → Option ℤ
 value s m k = value_in k (find_manager m s.managers)

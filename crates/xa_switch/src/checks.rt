@@ -3,6 +3,7 @@ ghost use Rattle.std.specs.Prelude.{◌≡◌, ◌↔◌, ◌≤◌, IsTrue, len
 ghost use Rattle.std.specs.List.{All};
 ghost use Rattle.xa_switch.specs.Seats.{first_opening, has_desk, has_worker, HasDesks, HasWorkers, AreOfOne, AreAll};
 
+use xa_base::MOST_SENDERS;
 use xa_desk::EndedDesk;
 use xa_worker::DoneWorker;
 
@@ -29,7 +30,7 @@ pub(crate) fn are_of_one(desks: &[EndedDesk], workers: &[DoneWorker]) -> bool
 
 fn has_desk(thread: u32, desks: &[EndedDesk]) -> bool
     ensures there { result ≡ has_desk thread desks.now }
-    ensures few { IsTrue result → thread ≤ 8 }
+    ensures few { IsTrue result → thread ≤ MOST_SENDERS }
 {
     for desk in desks {
         if desk.number() == thread {
@@ -48,7 +49,7 @@ fn has_worker(manager: u32, workers: &[DoneWorker]) -> bool
 // Whether the desks of threads 1 to `count` are there.
 fn has_desks(count: u32, desks: &[EndedDesk]) -> bool
     ensures there { IsTrue result ↔ HasDesks count desks.now }
-    ensures few { IsTrue result → count ≤ 8 }
+    ensures few { IsTrue result → count ≤ MOST_SENDERS }
 {
     for before in 0..count {
         if !has_desk(before + 1, desks) {
@@ -72,7 +73,7 @@ fn has_workers(count: u32, workers: &[DoneWorker]) -> bool
 
 fn each_has_workers(desks: &[EndedDesk], workers: &[DoneWorker]) -> bool
     ensures there { IsTrue result ↔ All (λ d. HasWorkers (length d.ledgers) workers.now) desks.now }
-    ensures few { IsTrue result → All (λ d. length d.ledgers ≤ 8) desks.now }
+    ensures few { IsTrue result → All (λ d. length d.ledgers ≤ MOST_SENDERS) desks.now }
 {
     for desk in desks {
         if !has_workers(desk.peers(), workers) {
@@ -84,7 +85,7 @@ fn each_has_workers(desks: &[EndedDesk], workers: &[DoneWorker]) -> bool
 
 fn each_has_desks(desks: &[EndedDesk], workers: &[DoneWorker]) -> bool
     ensures there { IsTrue result ↔ All (λ w. HasDesks w.manager.threads desks.now) workers.now }
-    ensures few { IsTrue result → All (λ w. w.manager.threads ≤ 8) workers.now }
+    ensures few { IsTrue result → All (λ w. w.manager.threads ≤ MOST_SENDERS) workers.now }
 {
     for worker in workers {
         if !has_desks(worker.peers(), desks) {
@@ -97,8 +98,8 @@ fn each_has_desks(desks: &[EndedDesk], workers: &[DoneWorker]) -> bool
 /// Whether every desk and every worker of the opening is there.
 pub(crate) fn are_all(desks: &[EndedDesk], workers: &[DoneWorker]) -> bool
     ensures all { IsTrue result ↔ AreAll desks.now workers.now }
-    ensures few_managers { IsTrue result → All (λ d. length d.ledgers ≤ 8) desks.now }
-    ensures few_threads { IsTrue result → All (λ w. w.manager.threads ≤ 8) workers.now }
+    ensures few_managers { IsTrue result → All (λ d. length d.ledgers ≤ MOST_SENDERS) desks.now }
+    ensures few_threads { IsTrue result → All (λ w. w.manager.threads ≤ MOST_SENDERS) workers.now }
 {
     !desks.is_empty()
         && !workers.is_empty()

@@ -1,11 +1,12 @@
 //! The lanes of an opening.
 ghost use Rattle.std.specs.Prelude.{map, IfOk};
-ghost use Rattle.xa_switch.specs.Plans.{IsUpTo};
+ghost use Rattle.xa_base.specs.Lists.{IsUpTo};
 ghost use Rattle.xa_switch.specs.Lanes.{AreNewLanes};
 
 use crate::columns::{deal, reserve_columns};
 use std::alloc::{AllocError, Global};
 use std::sync::Wait;
+use xa_base::{MOST_QUEUED, MOST_SENDERS};
 use xa_lane::{LaneName, Receiver, Sender, open_lane};
 
 // What a lane's name says of what goes by it.
@@ -31,9 +32,9 @@ pub(crate) fn open_lanes<T: Copy, R: Wait>(
     lanes: u32,
     room: u32,
 ) -> Result<NewLanes<T>, AllocError>
-    requires senders { IsUpTo 8 senders }
-    requires lanes { IsUpTo 8 lanes }
-    requires room { IsUpTo 64 room }
+    requires senders { IsUpTo MOST_SENDERS senders }
+    requires lanes { IsUpTo MOST_SENDERS lanes }
+    requires room { IsUpTo MOST_QUEUED room }
     ensures { IfOk result (λ l. AreNewLanes opening kind senders lanes room (map (λ c. c.items) l.columns.items) l.receivers.items) }
 {
     let mut columns = reserve_columns(alloc, senders as usize, lanes as usize)?;

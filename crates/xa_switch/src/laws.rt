@@ -13,7 +13,7 @@ ghost use Rattle.xa_desk.specs.DeskView.{DeskView, outstanding};
 ghost use Rattle.xa_desk.specs.Kept.{AllKept, HoldsNone};
 ghost use Rattle.xa_desk.specs.Ended.{EndedView};
 ghost use Rattle.xa_worker.specs.Done.{Served};
-ghost use Rattle.xa_worker.specs.Workers.{Working};
+ghost use Rattle.xa_worker.specs.Workers.{WorkerView};
 ghost use Rattle.xa_switch.specs.declared.plan.Plan.{Plan};
 ghost use Rattle.xa_switch.specs.Closing.{settling};
 ghost use Rattle.xa_switch.specs.OfPlans.{IsOfPlan};
@@ -25,12 +25,12 @@ ghost use Rattle.xa_switch.specs.Seats.{DeskSeat, WorkerSeat, ComeFromOpenings, 
 
 /// The desks and workers that an opening gives come from it.
 pub fn opened_pieces_come_from_their_opening()
-    ensures { (p : Plan) (ds : List DeskView) (ws : List Working) → AreOfOneOpening p ds ws → ComeFromOpenings (map seat_of_desk ds) (map seat_of_worker ws) }
+    ensures { (p : Plan) (ds : List DeskView) (ws : List WorkerView) → AreOfOneOpening p ds ws → ComeFromOpenings (map seat_of_desk ds) (map seat_of_worker ws) }
 {}
 
 /// They have its number.
 pub fn opened_pieces_have_their_number()
-    ensures { (p : Plan) (ds : List DeskView) (ws : List Working) → AreOfOneOpening p ds ws → All (λ n. n ≡ p.opening) (openings_of (map seat_of_desk ds) (map seat_of_worker ws)) }
+    ensures { (p : Plan) (ds : List DeskView) (ws : List WorkerView) → AreOfOneOpening p ds ws → All (λ n. n ≡ p.opening) (openings_of (map seat_of_desk ds) (map seat_of_worker ws)) }
 {}
 
 /// Some of the pieces, in any order, still come from their openings.
@@ -46,7 +46,7 @@ pub fn mixed_pieces_come_from_their_openings()
 /// What is settled of all pieces of an opening, in any order, is of the plan that it was opened by: its
 /// threads and its managers are those of the plan, and each manager was opened with the plan's accounts.
 pub fn settled_openings_are_of_their_plan()
-    ensures { (p : Plan) (ds : List DeskView) (ws : List Working) (es : List EndedView) (vs : List Served) → AreOfOneOpening p ds ws → IsPermutation (map seat_of_desk ds) (desk_seats es) → IsPermutation (map seat_of_worker ws) (worker_seats vs) → IsOfPlan p (settling es vs) }
+    ensures { (p : Plan) (ds : List DeskView) (ws : List WorkerView) (es : List EndedView) (vs : List Served) → AreOfOneOpening p ds ws → IsPermutation (map seat_of_desk ds) (desk_seats es) → IsPermutation (map seat_of_worker ws) (worker_seats vs) → IsOfPlan p (settling es vs) }
 {}
 
 /// In a settled opening each journal is what the tables that its manager was opened with make of the
@@ -59,7 +59,7 @@ pub fn settled_journals_follow_the_tables()
 /// number is collected, the others stay kept; and where all that is outstanding is kept and nothing is
 /// kept, nothing is outstanding.
 pub fn outstanding_operations_stay_kept()
-    ensures opened { (p : Plan) (ds : List DeskView) (ws : List Working) → AreOfOneOpening p ds ws → All AllKept ds }
+    ensures opened { (p : Plan) (ds : List DeskView) (ws : List WorkerView) → AreOfOneOpening p ds ws → All AllKept ds }
     ensures collected { (old new : DeskView) (k : ℕ) (c : Code) → CollectsRedeemed old new k c → AllKept old → AllKept new }
     ensures none { (d : DeskView) → AllKept d → HoldsNone d → outstanding d.ledgers ≡ 0 }
 {}

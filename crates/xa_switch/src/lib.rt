@@ -5,7 +5,6 @@
 //! `xa_call`, `native` and `xa_complete` over its desk (C193, chapters 3 to 5).
 #![tactic(auto)]
 
-mod apart;
 mod asked;
 mod assemble;
 mod calls;
@@ -13,6 +12,7 @@ mod checks;
 mod closing;
 mod columns;
 mod completing;
+mod gathered;
 mod lanes;
 pub mod laws;
 mod managers;

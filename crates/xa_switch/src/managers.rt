@@ -1,10 +1,12 @@
 //! The managers of an opening.
 ghost use Rattle.std.specs.Prelude.{◌≡◌, ◌↔◌, map, IfOk, IfErr, OnOk};
 ghost use Rattle.std.specs.List.{All};
-ghost use Rattle.xa_switch.specs.Plans.{IsSoundManager, IsUpTo, new_manager};
+ghost use Rattle.xa_base.specs.Lists.{IsUpTo};
+ghost use Rattle.xa_switch.specs.Plans.{IsSoundManager, new_manager};
 
 use crate::plan::{ManagerPlan, OpenFault};
 use std::alloc::Global;
+use xa_base::{MOST_JOURNALED, MOST_THREADS};
 use xa_tables::{Manager, TableFault};
 
 // One manager. Its accounts are looked at before want of memory is told.
@@ -14,8 +16,8 @@ fn open_manager(
     threads: u32,
     room: u32,
 ) -> Result<Manager, OpenFault>
-    requires threads { IsUpTo 8 threads }
-    requires room { IsUpTo 32768 room }
+    requires threads { IsUpTo MOST_THREADS threads }
+    requires room { IsUpTo MOST_JOURNALED room }
     ensures bad { IfErr result (λ f. f ≡ OpenFault.BadPlan ↔ ¬ IsSoundManager plan.now) }
     ensures sound { OnOk result (IsSoundManager plan.now) }
     ensures opened { IfOk result (λ m. m ≡ new_manager threads room plan.now) }
@@ -34,8 +36,8 @@ pub(crate) fn open_managers(
     threads: u32,
     room: u32,
 ) -> Result<Vec<Manager>, OpenFault>
-    requires threads { IsUpTo 8 threads }
-    requires room { IsUpTo 32768 room }
+    requires threads { IsUpTo MOST_THREADS threads }
+    requires room { IsUpTo MOST_JOURNALED room }
     ensures bad { IfErr result (λ f. f ≡ OpenFault.BadPlan ↔ ¬ All IsSoundManager managers.now) }
     ensures sound { OnOk result (All IsSoundManager managers.now) }
     ensures opened { IfOk result (λ v. v.items ≡ map (new_manager threads room) managers.now) }

@@ -1,8 +1,12 @@
 //! What is to be opened.
 ghost use Rattle.std.specs.Prelude.{◌≡◌, ◌↔◌, IsTrue};
-ghost use Rattle.xa_switch.specs.Plans.{IsUpTo, IsWithinLimits, manager_room};
+ghost use Rattle.xa_base.specs.Lists.{IsUpTo};
+ghost use Rattle.xa_switch.specs.Plans.{IsWithinLimits, manager_room};
 
 use std::alloc::AllocError;
+use xa_base::{
+    MOST_HANDLES, MOST_JOURNALED, MOST_MANAGERS, MOST_QUEUED, MOST_REQUESTS, MOST_THREADS,
+};
 use xa_words::Key;
 
 /// An opening: its number, which is its own, and what it has.
@@ -55,18 +59,18 @@ impl Plan {
     pub(crate) fn is_within_limits(&self) -> bool
         ensures { IsTrue result ↔ IsWithinLimits self.now }
     {
-        (1..=8).contains(&self.threads)
-            && (1..=8).contains(&self.managers.len())
-            && (1..=32).contains(&self.handles)
-            && (1..=64).contains(&self.queue)
-            && (1..=4096).contains(&self.requests)
+        (1..=MOST_THREADS).contains(&(self.threads as usize))
+            && (1..=MOST_MANAGERS).contains(&self.managers.len())
+            && (1..=MOST_HANDLES).contains(&(self.handles as usize))
+            && (1..=MOST_QUEUED).contains(&(self.queue as usize))
+            && (1..=MOST_REQUESTS).contains(&(self.requests as usize))
     }
 
     /// How many requests may be put to a manager.
     pub(crate) fn manager_room(&self) -> u32
         requires { IsWithinLimits self.now }
         ensures room { result ≡ manager_room self.now }
-        ensures limits { IsUpTo 32768 result }
+        ensures limits { IsUpTo MOST_JOURNALED result }
     {
         self.threads * self.requests
     }

@@ -103,7 +103,7 @@ impl Model for Settled {
     ghost invariant = { λ s. IsSettled (record { threads = s.threads.items; managers = s.managers.items }) };
 }
 
-fn find_ledger(threads: &[Thread], thread: u32) -> Option<&Thread>
+fn find_thread_part(threads: &[Thread], thread: u32) -> Option<&Thread>
     ensures { option_map (λ t. t.now) result ≡ find_thread thread threads.now }
 {
     threads.iter().find(|part| part.number() == thread)
@@ -118,7 +118,7 @@ fn find_carried(managers: &[Carried], manager: u32) -> Option<&Carried>
 fn ledgers(threads: &[Thread], thread: u32) -> &[Ledger]
     ensures { result.now ≡ ledgers_in (find_thread thread threads.now) }
 {
-    match find_ledger(threads, thread) {
+    match find_thread_part(threads, thread) {
         Some(part) => &part.ledgers,
         None => &[],
     }

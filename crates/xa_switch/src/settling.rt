@@ -3,15 +3,18 @@ ghost use Rattle.std.specs.Prelude.{◌≡◌, ◌≤◌, length, map, IfOk, IfE
 ghost use Rattle.std.specs.List.{All};
 ghost use Rattle.xa_switch.specs.Settling.{IsSettled};
 ghost use Rattle.xa_switch.specs.Seats.{desk_seats, worker_seats, ComeFromOpenings, AreOfOne, AreAll, IsWhyUnsettled};
-ghost use Rattle.xa_switch.specs.Closing.{settling, IsRoomFor};
+ghost use Rattle.xa_switch.specs.Closing.{settling, HasRoomFor};
 ghost use Rattle.xa_switch.specs.Fates.{ledgers_of};
 
-use crate::apart::{DeskRoom, Room, WorkerRoom, reserve_room, take_desks, take_workers};
 use crate::checks::{are_all, are_of_one};
 use crate::closing::close_lanes;
+use crate::gathered::{
+    Gathered, GatheredDesks, GatheredWorkers, reserve_gathered, take_desks, take_workers,
+};
 use crate::settled::Settled;
 use std::alloc::Global;
 use std::sync::Wait;
+use xa_base::MOST_SENDERS;
 use xa_desk::EndedDesk;
 use xa_worker::DoneWorker;
 
@@ -56,10 +59,10 @@ pub fn settle<R: Wait>(
     ensures why { IfErr result (λ u. IsWhyUnsettled u.why desks.items workers.items) }
     ensures back { IfErr result (λ u. (u.desks.items ≡ desks.items) × (u.workers.items ≡ workers.items)) }
 {
-    let Ok(desk_room) = reserve_room(alloc, desks.len()) else {
+    let Ok(desk_room) = reserve_gathered(alloc, desks.len()) else {
         return Err(refused(Why::NoMemory, desks, workers));
     };
-    let Ok(worker_room) = reserve_room(alloc, workers.len()) else {
+    let Ok(worker_room) = reserve_gathered(alloc, workers.len()) else {
         return Err(refused(Why::NoMemory, desks, workers));
     };
     if !are_of_one(&desks, &workers) {
@@ -87,26 +90,26 @@ fn close_all<R: Wait>(
     alloc: Global,
     desks: Vec<EndedDesk>,
     workers: Vec<DoneWorker>,
-    desk_room: DeskRoom,
-    worker_room: WorkerRoom,
+    desk_room: GatheredDesks,
+    worker_room: GatheredWorkers,
 ) -> Settled
     requires from { ComeFromOpenings (desk_seats desks.items) (worker_seats workers.items) }
     requires one { AreOfOne desks.items workers.items }
     requires whole { AreAll desks.items workers.items }
-    requires few_managers { All (λ d. length d.ledgers ≤ 8) desks.items }
-    requires few_threads { All (λ w. w.manager.threads ≤ 8) workers.items }
-    requires desk_room { IsRoomFor (length desks.items) desk_room }
-    requires worker_room { IsRoomFor (length workers.items) worker_room }
+    requires few_managers { All (λ d. length d.ledgers ≤ MOST_SENDERS) desks.items }
+    requires few_threads { All (λ w. w.manager.threads ≤ MOST_SENDERS) workers.items }
+    requires desk_room { HasRoomFor (length desks.items) desk_room }
+    requires worker_room { HasRoomFor (length workers.items) worker_room }
     ensures parts { result ≡ settling desks.items workers.items }
     ensures lists { map (λ e. ledgers_of result e.thread) desks.items ≡ map (λ e. e.ledgers) desks.items }
     ensures settled { IsSettled result }
 {
-    let Room {
+    let Gathered {
         columns: sent,
         lanes: completions,
         parts: threads,
     } = take_desks(desks, desk_room);
-    let Room {
+    let Gathered {
         columns: answered,
         lanes: requests,
         parts: managers,

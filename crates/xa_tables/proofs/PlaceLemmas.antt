@@ -16,7 +16,7 @@ use Rattle.xa_words.specs.Xid.{XidName}
 use Rattle.xa_words.specs.Key.{key_eq}
 use Rattle.xa_words.specs.Orders.{key_cmp, key_cmp_total, Decides-key_eq, key_eq-by_cmp}
 use Rattle.xa_tables.specs.declared.accounts.Account.{Account}
-use Rattle.xa_tables.specs.Accounts.{AreDistinct, AreIndexed, IsGood, value_entries, hold_entries, place_in, later_place, hold_is_other, is_held_by_other, account_of, are_apart, are_accounts, declared_values}
+use Rattle.xa_tables.specs.Accounts.{AreDistinct, AreIndexed, IsGood, value_entries, hold_entries, place_in, later_place, hold_is_other, is_held_by_other, are_apart, are_accounts, declared_values}
 use Rattle.xa_tables.proofs.AccountLemmas.{same_key, key_self, key_apart, Lacks, is_other}
 
 swapped : (k l : List ℕ) → key_eq l k ≡ same_key k l
@@ -151,6 +151,10 @@ other_at k x (c ∷ rest) (suc i) a dist e h =
     ] refl e
 
 -- ---- what was declared
+
+-- a declared key and its value, with nothing added to it
+abbrev pub account_of : List ℕ × ℕ → Account
+account_of d = record { key = d.0; value = pos d.1; hold = None }
 
 declared_entries : (ds : List (List ℕ × ℕ)) → value_entries (map account_of ds) ≡ map (λ d. (d.0, pos d.1)) ds
 declared_entries [] = refl

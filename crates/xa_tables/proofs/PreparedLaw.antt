@@ -16,7 +16,7 @@ use Rattle.xa_tables.specs.Next.{Answer, next}
 use Rattle.xa_tables.specs.History.{History, is_shut, is_rolled_back, tables_after, IsOpening}
 use Rattle.xa_tables.specs.Prepared.{names, closes, NamesNowhere, LeavesWaiting, has_shut, IsPrepared, StaysPrepared, AwaitsTheOutcome}
 use Rattle.xa_tables.proofs.ShutLemmas.{next-shut, next-Shut, shut_op}
-use Rattle.xa_tables.proofs.Effects.{by_if, at_false}
+use Rattle.xa_base.proofs.Truth.{by_if, at_false}
 use Rattle.xa_tables.proofs.Law.{Sound, Voted, AtWork, standing, get_put, sound_after, run_sound, opening_sound}
 use Rattle.xa_tables.proofs.Unnamed.{nobody_with, unnamed_on, unnamed_law}
 use Rattle.xa_tables.proofs.Opened.{opened_on}

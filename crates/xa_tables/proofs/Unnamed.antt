@@ -1,5 +1,5 @@
 -- The law: a branch with which nobody is associated stays as it is under every request that doesn't name it.
-use Rattle.std.specs.Prelude.{◌≡◌, ◌≢◌, ℕ, Bool, true, false, cond, None, Some, List, [], ◌∷◌, ◌++◌, refl}
+use Rattle.std.specs.Prelude.{◌≡◌, ◌≢◌, ℕ, true, false, cond, None, Some, List, [], ◌∷◌, ◌++◌, refl}
 use Rattle.std.proofs.Common.{sym, ap, ◌∙◌, subst}
 use Rattle.std.specs.Ordering.{nat_cmp, eq_by_cmp}
 use Rattle.std.specs.Cmp.{nat_cmp_total}
@@ -17,11 +17,12 @@ use Rattle.xa_tables.specs.declared.state.AssociationState.{AssociationState}
 use Rattle.xa_tables.specs.declared.state.AssociationState.TheVariants.{Associated, Suspended}
 use Rattle.xa_tables.specs.Tables.{Tables, association_of, is_somebody_associated}
 use Rattle.xa_tables.specs.Next.{Answer, next, gone, association}
-use Rattle.xa_tables.specs.History.{History, tables_after, tables_after-append}
+use Rattle.xa_tables.specs.History.{History, tables_after}
 use Rattle.xa_tables.specs.Prepared.{names, NamesNowhere, StaysAsItWas}
 use Rattle.xa_tables.proofs.MapLemmas.{none_pass, none_passes}
 use Rattle.xa_tables.proofs.SoundLemmas.{others_put, others_removed}
-use Rattle.xa_tables.proofs.Effects.{at_false, Effect, Starts, Joins, Resumes, Suspends, Leaves, Fails, Idles, Dooms, Adds, Prepares, Commits, Drops, effect_of}
+use Rattle.xa_base.proofs.Truth.{at_false}
+use Rattle.xa_tables.proofs.Effects.{Effect, Starts, Joins, Resumes, Suspends, Leaves, Fails, Idles, Dooms, Adds, Prepares, Commits, Drops, effect_of}
 use Rattle.xa_tables.proofs.Law.{swap_xid}
 use Rattle.xa_tables.proofs.ValueLaw.{get_without, get_added}
 
@@ -96,6 +97,11 @@ unnamed_on (r ∷ g) x T nobody n =
     let one = unnamed_stays r.thread r.op x T nobody (All-head P r g n) in
     let rest = unnamed_on g x (next r.thread r.op T).0 one.apart (All-tail P r g n) in
     record { state = rest.state ∙ one.state; sums = λ k. rest.sums k ∙ one.sums k; apart = rest.apart }
+
+-- what a history is followed by begins with the tables after it
+pub tables_after-append : (h g : History) (T : Tables) → tables_after (h ++ g) T ≡ tables_after g (tables_after h T)
+tables_after-append [] g T = refl
+tables_after-append (r ∷ h) g T = tables_after-append h g (next r.thread r.op T).0
 
 pub unnamed_law : (h g : History) (x : XidName) (T : Tables) → is_somebody_associated (tables_after h T).associations x ≡ false → NamesNowhere x g → StaysAsItWas x (tables_after h T) (tables_after (h ++ g) T)
 unnamed_law h g x T nobody n = subst (StaysAsItWas x (tables_after h T)) (sym (tables_after-append h g T)) (unnamed_on g x (tables_after h T) nobody n)

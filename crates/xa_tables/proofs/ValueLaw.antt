@@ -13,7 +13,7 @@ use Rattle.xa_words.specs.declared.request.Op.TheVariants.{Add, Commit}
 use Rattle.xa_tables.specs.declared.state.Association.{Association}
 use Rattle.xa_tables.specs.Tables.{Tables, association_of, has_other_touched, Touch, touch_cmp, sum_of, sums_without}
 use Rattle.xa_tables.specs.Next.{Answer, next, gone, committed}
-use Rattle.xa_tables.specs.History.{History, coded, accepted, Fate, InDoubt, Live, Committed, fate_of, if_named, tables_after, added_in, share_of, share, commits, ending, or_later, ValueIsSum, IsOpening}
+use Rattle.xa_tables.specs.History.{History, coded, accepted, Fate, InDoubt, Live, Committed, fate_of, if_named, tables_after, added_in, share_of, share, commits_later, ending, or_later, ValueIsSum, IsOpening}
 use Rattle.xa_tables.proofs.ShutLemmas.{after_accepted}
 use Rattle.xa_tables.proofs.Effects.{Effect, Stays, Starts, Joins, Resumes, Dooms, Adds, Prepares, Commits, Drops, TellsDropped, effect_of, undone_adds}
 use Rattle.xa_tables.proofs.Law.{swap_xid, Sound, sound_after, opening_sound}
@@ -236,15 +236,15 @@ none_due (Some p) = refl
 
 -- the values after H, with what is due to the branch that has touched the key
 values_after : (H : History) (k : List ℕ) (p : Held) (T : Tables) → Sound T → IsPending k p T.sums
-    → map.get (tables_after H T).values k ≡ option_map (λ v. v +ℤ (due p (λ x. commits x (coded H T)) +ℤ added_in k H T)) (map.get T.values k)
+    → map.get (tables_after H T).values k ≡ option_map (λ v. v +ℤ (due p (λ x. commits_later x (coded H T)) +ℤ added_in k H T)) (map.get T.values k)
 values_after [] k p T s h = plus_zero _ ∙ ap (λ d. option_map (λ v. v +ℤ (d +ℤ pos 0)) (map.get T.values k)) (sym (none_due p))
 values_after (r ∷ H) k p T s h =
     let T1 : Tables = (next r.thread r.op T).0 in
     let a : ValueStep k p r.op (association_of T r.thread) T (next r.thread r.op T) = value_step r.thread k p r.op T h in
     let sound = sound_after r.thread r.op T s in
     values_after H k a.held T1 sound a.pending
-    ∙ ap (option_map (λ v. v +ℤ (due a.held (λ x. commits x (coded H T1)) +ℤ added_in k H T1))) a.values
-    ∙ joined (map.get T.values k) a.moved (due a.held (λ x. commits x (coded H T1))) (added_in k H T1) (due p (λ x. commits x (coded (r ∷ H) T))) (share k r H T) (a.owes (λ x. commits x (coded H T1)))
+    ∙ ap (option_map (λ v. v +ℤ (due a.held (λ x. commits_later x (coded H T1)) +ℤ added_in k H T1))) a.values
+    ∙ joined (map.get T.values k) a.moved (due a.held (λ x. commits_later x (coded H T1))) (added_in k H T1) (due p (λ x. commits_later x (coded (r ∷ H) T))) (share k r H T) (a.owes (λ x. commits_later x (coded H T1)))
 
 pub value_law : (H : History) (k : List ℕ) (T : Tables) → IsOpening T → ValueIsSum k H T
 value_law H k T o =

@@ -1,24 +1,23 @@
 -- The law: the value of a declared key stays within the limits, whatever is requested.
-use Rattle.std.specs.Prelude.{◌≡◌, ◌≢◌, ℕ, ℤ, pos, ◌+ℤ◌, ◌≤ℤ◌, Bool, true, false, cond, not, ◌&&◌, if◌then◌else◌, Option, None, Some, option_map, unwrap_or, List, [], ◌∷◌, length, map, refl, nat_le}
+use Rattle.std.specs.Prelude.{◌≡◌, ◌≢◌, ℕ, ℤ, pos, ◌+ℤ◌, Bool, true, false, cond, not, ◌&&◌, if◌then◌else◌, Option, None, Some, option_map, unwrap_or, List, [], ◌∷◌, map, refl, nat_le}
 use Rattle.std.specs.List.{list_all}
 use Rattle.std.proofs.Common.{sym, ap, ◌∙◌, subst, ⊎_elim, le-leb, arith}
 use Rattle.std.proofs.lemmas.Int.{ints}
 use Rattle.std.specs.FinMap as finmap
-use Rattle.std.specs.FinMap.{FinMap, from_entries, find, get-empty, get-insert, get-from_entries}
+use Rattle.std.specs.FinMap.{find, get-empty, get-insert, get-from_entries}
 use Rattle.std.specs.Ordering.{eq_by_cmp}
 use Rattle.std.proofs.lemmas.Bool.{and_parts, not-false}
 use Rattle.xa_words.specs.Xid.{XidName, xid_eq}
 use Rattle.xa_words.specs.Key.{key_eq}
 use Rattle.xa_words.specs.Orders.{key_cmp, key_cmp_total, key_cmp-IsAntisymmetric, Decides-xid_eq, Decides-key_eq}
 use Rattle.xa_words.specs.declared.request.Op.{Op}
-use Rattle.xa_words.specs.declared.request.Request.{Request}
 use Rattle.xa_tables.specs.declared.state.State.{State}
 use Rattle.xa_tables.specs.declared.state.State.TheVariants.{Active, Idle, Prepared as S3, RollbackOnly}
 use Rattle.xa_tables.specs.declared.state.RollbackReason.TheVariants.{Failed, Transient}
 use Rattle.xa_tables.specs.declared.state.Association.{Association}
 use Rattle.xa_tables.specs.Tables.{Tables, Touch, touch_cmp, association_of, state_of, is_S3, is_prepared, is_within, value_of, sum_of, has_other_touched, is_broken, sums_without}
-use Rattle.xa_tables.specs.Next.{Answer, next, stated, added, gone, committed, dissociated}
-use Rattle.xa_tables.specs.Accounts.{are_accounts, declared_values}
+use Rattle.xa_tables.specs.Next.{Answer, next, stated, added, gone, committed}
+use Rattle.xa_tables.specs.Accounts.{are_accounts}
 use Rattle.xa_tables.specs.Managers.{opening}
 use Rattle.xa_tables.specs.History.{History, tables_after, IsOpening, StaysWithin}
 use Rattle.xa_tables.proofs.MapLemmas.{none_passes, get-map_values}

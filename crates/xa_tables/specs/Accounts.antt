@@ -1,9 +1,11 @@
 -- What contracts see of the accounts.
-use Rattle.std.specs.Prelude.{◌≡◌, ℕ, suc, nat_le, ℤ, pos, neg_ℤ, ◌+ℤ◌, ◌≤ℤ◌, ◌*◌, Bool, true, false, not, ◌&&◌, length, if◌then◌else◌, Option, None, Some, List, [], ◌∷◌, map, refl}
+use Rattle.std.specs.Prelude.{◌≡◌, ℕ, suc, nat_le, ℤ, pos, neg_ℤ, ◌+ℤ◌, ◌≤ℤ◌, ◌*◌, Bool, true, false, not, ◌&&◌, length}
+use Rattle.std.specs.Prelude.{if◌then◌else◌, Option, None, Some, List, [], ◌∷◌, map, refl}
 use Rattle.std.specs.List.{list_any, list_all}
 use Rattle.std.specs.FinMap as finmap
 use Rattle.std.specs.FinMap.{FinMap, from_entries, find}
 use Rattle.std.specs.Coded.{Coded, code_by, coded×, coded_ℕ}
+use Rattle.xa_base.specs.declared.limits.TheConstants.{MOST_KEYS, MOST_VALUE}
 use Rattle.xa_words.specs.Xid.{XidName, xid_eq}
 use Rattle.xa_words.specs.Orders.{key_cmp}
 use Rattle.xa_words.specs.Key.{key_eq}
@@ -19,7 +21,9 @@ pub record Holdings : Type 0 where
 
 -- the holdings as data
 abbrev pub holdings_code : Coded Holdings
-holdings_code = code_by (FinMap touch_cmp ℤ × (FinMap key_cmp ℤ × ℕ)) (coded× sums_code (coded× values_code coded_ℕ)) (λ h. (h.sums, (h.values, h.adds))) (λ p. record { sums = p.0; values = p.1.0; adds = p.1.1 }) (λ _. refl)
+holdings_code =
+    code_by (FinMap touch_cmp ℤ × (FinMap key_cmp ℤ × ℕ)) (coded× sums_code (coded× values_code coded_ℕ))
+    (λ h. (h.sums, (h.values, h.adds))) (λ p. record { sums = p.0; values = p.1.0; adds = p.1.1 }) (λ _. refl)
 
 -- an entry for the hold of the account with the key k, if there is one
 abbrev pub with_hold : List ℕ → Option Hold → List (Touch × ℤ) → List (Touch × ℤ)
@@ -38,7 +42,8 @@ value_entries (a ∷ rest) = (a.key, a.value) ∷ value_entries rest
 
 -- what the accounts hold, after this many additions
 abbrev pub holdings_of : List Account → ℕ → Holdings
-holdings_of accounts adds = record { sums = from_entries (hold_entries accounts); values = from_entries (value_entries accounts); adds = adds }
+holdings_of accounts adds =
+    record { sums = from_entries (hold_entries accounts); values = from_entries (value_entries accounts); adds = adds }
 
 -- the hold is that of x
 abbrev pub hold_is_of : Option Hold → XidName → Bool
@@ -106,17 +111,13 @@ AreDistinct accounts = AreDistinctEntries (value_entries accounts)
 -- the sum of a hold is that of at most n additions
 abbrev pub IsSmall : ℕ → Option Hold → Type 0
 IsSmall n None = Unit {0}
-IsSmall n (Some h) = (neg_ℤ (pos (1000000000000 * n)) ≤ℤ h.amount) × (h.amount ≤ℤ pos (1000000000000 * n))
+IsSmall n (Some h) = (neg_ℤ (pos (MOST_VALUE * n)) ≤ℤ h.amount) × (h.amount ≤ℤ pos (MOST_VALUE * n))
 
 -- the value is within the limits, and the sum is that of at most n additions
 abbrev pub IsGood : ℕ → Account → Type 0
-IsGood n a = (pos 0 ≤ℤ a.value) × (a.value ≤ℤ pos 1000000000000) × IsSmall n a.hold
+IsGood n a = (pos 0 ≤ℤ a.value) × (a.value ≤ℤ pos MOST_VALUE) × IsSmall n a.hold
 
 -- ---- what was declared
-
--- a declared key and its value, with nothing added to it
-abbrev pub account_of : List ℕ × ℕ → Account
-account_of d = record { key = d.0; value = pos d.1; hold = None }
 
 -- no key stands twice
 abbrev pub are_apart : List (List ℕ × ℕ) → Bool
@@ -125,7 +126,7 @@ are_apart (d ∷ ds) = not (list_any (λ e. key_eq e.0 d.0) ds) && are_apart ds
 
 -- at most 256 keys, none twice, each value within the limit
 abbrev pub are_accounts : List (List ℕ × ℕ) → Bool
-are_accounts ds = nat_le (length ds) 256 && (list_all (λ d. nat_le d.1 1000000000000) ds && are_apart ds)
+are_accounts ds = nat_le (length ds) MOST_KEYS && (list_all (λ d. nat_le d.1 MOST_VALUE) ds && are_apart ds)
 
 -- the values at the opening
 abbrev pub declared_values : List (List ℕ × ℕ) → FinMap key_cmp ℤ

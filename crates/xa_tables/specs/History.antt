@@ -1,19 +1,24 @@
 -- Histories: the requests of one manager, in the order in which its worker took them.
-use Rattle.std.specs.Prelude.{◌≡◌, ℕ, ℤ, pos, ◌+ℤ◌, ◌≤ℤ◌, Bool, true, false, not, ◌||◌, ◌&&◌, ◌==◌, if◌then◌else◌, Option, None, Some, option_map, List, [], ◌∷◌, ◌++◌, map, filter, refl}
+use Rattle.std.specs.Prelude.{◌≡◌, ℕ, ℤ, pos, ◌+ℤ◌, ◌≤ℤ◌, Bool, true, false, not, ◌||◌, ◌&&◌, ◌==◌, if◌then◌else◌}
+use Rattle.std.specs.Prelude.{Option, None, Some, option_map, List, [], ◌∷◌, ◌++◌, map, filter, refl}
 use Rattle.std.specs.List.{filter_map}
 use Rattle.std.specs.FinSet as finset
 use Rattle.std.specs.FinMap as finmap
+use Rattle.xa_base.specs.declared.limits.TheConstants.{MOST_VALUE}
 use Rattle.xa_words.specs.Xid.{XidName, xid_eq}
 use Rattle.xa_words.specs.Key.{key_eq}
 use Rattle.xa_words.specs.declared.code.Code.{Code}
-use Rattle.xa_words.specs.declared.code.Code.TheVariants.{Done, RdOnly, RbRollback, RbCommFail, RbDeadlock, RbIntegrity, RbOther, RbProto, RbTimeout, RbTransient, RmFail}
+use Rattle.xa_words.specs.declared.code.Code.TheVariants.{Done, RdOnly, RbRollback, RbCommFail, RbDeadlock, RbIntegrity}
+use Rattle.xa_words.specs.declared.code.Code.TheVariants.{RbOther, RbProto, RbTimeout, RbTransient, RmFail}
 use Rattle.xa_words.specs.declared.request.Op.{Op}
-use Rattle.xa_words.specs.declared.request.Op.TheVariants.{OpenRm, CloseRm, Start, Add, End, Prepare, Commit, Rollback, Shut}
+use Rattle.xa_words.specs.declared.request.Op.TheVariants.{OpenRm, CloseRm, Start, Add, End, Prepare, Commit, Rollback}
+use Rattle.xa_words.specs.declared.request.Op.TheVariants.{Shut}
 use Rattle.xa_words.specs.declared.request.StartHow.{StartHow}
 use Rattle.xa_words.specs.declared.request.StartHow.TheVariants.{Fresh, Join, Resume}
 use Rattle.xa_words.specs.declared.request.Request.{Request}
 use Rattle.xa_tables.specs.declared.state.Association.{Association}
-use Rattle.xa_tables.specs.Tables.{Tables, association_of, exists, is_active, is_prepared, is_rollback_only, is_somebody_associated}
+use Rattle.xa_tables.specs.Tables.{Tables, association_of, exists, is_active, is_prepared, is_rollback_only}
+use Rattle.xa_tables.specs.Tables.{is_somebody_associated}
 use Rattle.xa_tables.specs.Next.{next, shut_down}
 
 -- requests in the order in which they were taken
@@ -28,11 +33,6 @@ of_thread t h = filter (λ r. r.thread == t) h
 abbrev pub tables_after : History → Tables → Tables
 tables_after [] T = T
 tables_after (r ∷ h) T = tables_after h (next r.thread r.op T).0
-
--- what a history is followed by begins with the tables after it
-pub tables_after-append : (h g : History) (T : Tables) → tables_after (h ++ g) T ≡ tables_after g (tables_after h T)
-tables_after-append [] g T = refl
-tables_after-append (r ∷ h) g T = tables_after-append h g (next r.thread r.op T).0
 
 -- each request with its code: what `next` answers after the requests before it
 abbrev pub coded : History → Tables → List (Request × Code)
@@ -76,7 +76,10 @@ late (r ∷ h) = if is_shut r.op then h else late h
 pub parted : (h : History) → h ≡ accepted h ++ (first_shut h ++ late h)
 parted [] = refl
 parted (r ∷ h) =
-    elim (is_shut r.op) as (λ b. r ∷ h ≡ (if b then [] else r ∷ accepted h) ++ ((if b then r ∷ [] else first_shut h) ++ (if b then h else late h))) [ true ↦ refl | false ↦ λ i. r ∷ parted h i ]
+    elim (is_shut r.op) as
+    (λ b. r ∷ h
+    ≡ (if b then [] else r ∷ accepted h) ++ ((if b then r ∷ [] else first_shut h) ++ (if b then h else late h)))
+    [ true ↦ refl | false ↦ λ i. r ∷ parted h i ]
 
 -- what a worker carried out, by its journal of requests and codes
 abbrev pub carried_out : List (Request × Code) → History
@@ -128,7 +131,9 @@ start_fate Resume c = None
 
 -- Prepare: prepared, gone without a change, or refused
 abbrev pub prepare_fate : Code → Option Fate
-prepare_fate c = if is_done c then Some InDoubt else if is_read_only c then Some ReadOnly else if is_integrity c then Some RolledBack else None
+prepare_fate c =
+    if is_done c then Some InDoubt else if is_read_only c then Some ReadOnly else if is_integrity c then Some RolledBack
+    else None
 
 -- Commit, in one phase or two: committed or refused
 abbrev pub commit_fate : Code → Option Fate
@@ -207,9 +212,9 @@ or_later None later = later
 or_later (Some committing) later = committing
 
 -- the first request that ends x commits it
-abbrev pub commits : XidName → List (Request × Code) → Bool
-commits x [] = false
-commits x (e ∷ es) = or_later (ending (fate_of x e.0.op e.1)) (commits x es)
+abbrev pub commits_later : XidName → List (Request × Code) → Bool
+commits_later x [] = false
+commits_later x (e ∷ es) = or_later (ending (fate_of x e.0.op e.1)) (commits_later x es)
 
 -- the delta of an Add by a thread with this association, where its branch commits later
 abbrev pub added_by : Option Association → ℤ → (XidName → Bool) → ℤ
@@ -230,7 +235,9 @@ share_of k Shut c a later = pos 0
 
 -- the same for the first request of a history; its branch is that with which its thread is associated at its place
 abbrev pub share : List ℕ → Request → History → Tables → ℤ
-share k r h T = share_of k r.op (next r.thread r.op T).1 (association_of T r.thread) (λ x. commits x (coded h (next r.thread r.op T).0))
+share k r h T =
+    share_of k r.op (next r.thread r.op T).1 (association_of T r.thread)
+    (λ x. commits_later x (coded h (next r.thread r.op T).0))
 
 -- the sum of the shares
 abbrev pub added_in : List ℕ → History → Tables → ℤ
@@ -264,17 +271,19 @@ ExistsWhileUnfinished x h T = exists (tables_after h T) x ≡ is_unfinished (fat
 abbrev pub ActiveWhileAssociated : XidName → History → Tables → Type 0
 ActiveWhileAssociated x h T =
     is_active (tables_after h T) x
-    ≡ (is_somebody_associated (tables_after h T).associations x && not (is_prepared (tables_after h T) x || is_rollback_only (tables_after h T) x))
+    ≡ (is_somebody_associated (tables_after h T).associations x
+    && not (is_prepared (tables_after h T) x || is_rollback_only (tables_after h T) x))
 
 -- a declared key's value is from 0 to 10^12
 abbrev pub StaysWithin : List ℕ → History → Tables → Type 0
-StaysWithin k h T = (v : ℤ) → finmap.get (tables_after h T).values k ≡ Some v → (pos 0 ≤ℤ v) × (v ≤ℤ pos 1000000000000)
+StaysWithin k h T = (v : ℤ) → finmap.get (tables_after h T).values k ≡ Some v → (pos 0 ≤ℤ v) × (v ≤ℤ pos MOST_VALUE)
 
 -- the tables' value of a key is the value after the history
 abbrev pub ValueIsSum : List ℕ → History → Tables → Type 0
 ValueIsSum k h T = finmap.get (tables_after h T).values k ≡ value_after k h T
 
--- the accepted requests have the codes that they have alone, the first Shut is carried out, and the late ones are refused
+-- the accepted requests have the codes that they have alone, the first Shut is carried out, and the late ones are
+-- refused
 abbrev pub LateAreRefused : History → Tables → Type 0
 LateAreRefused h T = codes h T ≡ codes (accepted h) T ++ (map (λ r. Done) (first_shut h) ++ map (λ r. RmFail) (late h))
 

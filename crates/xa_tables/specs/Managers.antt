@@ -10,7 +10,8 @@ use Rattle.xa_words.specs.Xid.{XidName, xid_cmp}
 use Rattle.xa_words.specs.Orders.{key_cmp}
 use Rattle.xa_tables.specs.declared.state.State.{State}
 use Rattle.xa_tables.specs.declared.state.Association.{Association}
-use Rattle.xa_tables.specs.Tables.{Tables, touch_cmp, is_S3, is_broken, set_code, associations_code, states_code, sums_code, values_code}
+use Rattle.xa_tables.specs.Tables.{Tables, touch_cmp, is_S3, is_broken, set_code, associations_code, states_code}
+use Rattle.xa_tables.specs.Tables.{sums_code, values_code}
 use Rattle.xa_tables.specs.Views.{ThreadTable, BranchTable}
 use Rattle.xa_tables.specs.Accounts.{Holdings, declared_values}
 
@@ -23,22 +24,50 @@ pub record Managed : Type 0 where
 -- the tables as data
 abbrev pub tables_code : Coded Tables
 tables_code =
-    code_by (FinSet nat_cmp × (FinMap nat_cmp Association × (FinMap xid_cmp State × (FinMap touch_cmp ℤ × (FinMap key_cmp ℤ × Bool)))))
+    code_by
+    (FinSet nat_cmp
+    × (FinMap nat_cmp Association × (FinMap xid_cmp State × (FinMap touch_cmp ℤ × (FinMap key_cmp ℤ × Bool)))))
     (coded× set_code (coded× associations_code (coded× states_code (coded× sums_code (coded× values_code coded_bool)))))
     (λ T. (T.opened, (T.associations, (T.states, (T.sums, (T.values, T.shut))))))
-    (λ p. record { opened = p.0; associations = p.1.0; states = p.1.1.0; sums = p.1.1.1.0; values = p.1.1.1.1.0; shut = p.1.1.1.1.1 }) (λ _. refl)
+    (λ p. record {
+      opened = p.0;
+      associations = p.1.0;
+      states = p.1.1.0;
+      sums = p.1.1.1.0;
+      values = p.1.1.1.1.0;
+      shut = p.1.1.1.1.1;
+    })
+    (λ _. refl)
 
 -- a manager as data
 abbrev pub managed_code : Coded Managed
-managed_code = code_by (Tables × (ℕ × ℕ)) (coded× tables_code (coded× coded_ℕ coded_ℕ)) (λ m. (m.tables, (m.threads, m.room))) (λ p. record { tables = p.0; threads = p.1.0; room = p.1.1 }) (λ _. refl)
+managed_code =
+    code_by (Tables × (ℕ × ℕ)) (coded× tables_code (coded× coded_ℕ coded_ℕ)) (λ m. (m.tables, (m.threads, m.room)))
+    (λ p. record { tables = p.0; threads = p.1.0; room = p.1.1 }) (λ _. refl)
 
 -- the tables at the opening: nobody has it open, no branch, the declared values
 abbrev pub opening : List (List ℕ × ℕ) → Tables
-opening accounts = record { opened = set.empty; associations = map.empty; states = map.empty; sums = map.empty; values = declared_values accounts; shut = false }
+opening accounts =
+    record {
+      opened = set.empty;
+      associations = map.empty;
+      states = map.empty;
+      sums = map.empty;
+      values = declared_values accounts;
+      shut = false;
+    }
 
 -- the tables that the threads, the branches and the accounts make
 abbrev pub tables_of : ThreadTable → BranchTable → Holdings → Bool → Tables
-tables_of s b a shut = record { opened = s.opened; associations = s.associations; states = b.states; sums = a.sums; values = a.values; shut = shut }
+tables_of s b a shut =
+    record {
+      opened = s.opened;
+      associations = s.associations;
+      states = b.states;
+      sums = a.sums;
+      values = a.values;
+      shut = shut;
+    }
 
 -- the tables, and what there is room for
 pub record TablesWithRoom : Type 0 where
@@ -49,7 +78,10 @@ pub record TablesWithRoom : Type 0 where
 
 -- the tables with their room as data
 abbrev pub tables_with_room_code : Coded TablesWithRoom
-tables_with_room_code = code_by (Tables × (ℕ × (ℕ × ℕ))) (coded× tables_code (coded× coded_ℕ (coded× coded_ℕ coded_ℕ))) (λ b. (b.tables, (b.threads, (b.spare, b.adds)))) (λ p. record { tables = p.0; threads = p.1.0; spare = p.1.1.0; adds = p.1.1.1 }) (λ _. refl)
+tables_with_room_code =
+    code_by (Tables × (ℕ × (ℕ × ℕ))) (coded× tables_code (coded× coded_ℕ (coded× coded_ℕ coded_ℕ)))
+    (λ b. (b.tables, (b.threads, (b.spare, b.adds))))
+    (λ p. record { tables = p.0; threads = p.1.0; spare = p.1.1.0; adds = p.1.1.1 }) (λ _. refl)
 
 -- one request uses up at most one place and one addition
 pub record Keeps (old new : TablesWithRoom) : Type 0 where
@@ -59,7 +91,8 @@ pub record Keeps (old new : TablesWithRoom) : Type 0 where
 
 -- no thread is associated with a branch in S3
 abbrev pub AreAssociationsLive : FinMap nat_cmp Association → FinMap xid_cmp State → Type 0
-AreAssociationsLive associations states = (t : ℕ) (l : Association) → map.get associations t ≡ Some l → is_S3 (map.get states l.xid) ≡ false
+AreAssociationsLive associations states = (t : ℕ) (l : Association) → map.get associations t ≡ Some l
+    → is_S3 (map.get states l.xid) ≡ false
 
 -- a branch in S3 keeps each value within the limits
 abbrev pub ArePreparedSound : FinMap xid_cmp State → FinMap touch_cmp ℤ → FinMap key_cmp ℤ → Type 0

@@ -6,9 +6,11 @@ use Rattle.std.specs.FinSet as set
 use Rattle.std.specs.FinMap as map
 use Rattle.xa_words.specs.Xid.{XidName}
 use Rattle.xa_words.specs.declared.code.Code.{Code}
-use Rattle.xa_words.specs.declared.code.Code.TheVariants.{Done, RdOnly, RbRollback, RbIntegrity, RbTransient, Nota, Inval, Proto, RmFail, DupId}
+use Rattle.xa_words.specs.declared.code.Code.TheVariants.{Done, RdOnly, RbRollback, RbIntegrity, RbTransient, Nota}
+use Rattle.xa_words.specs.declared.code.Code.TheVariants.{Inval, Proto, RmFail, DupId}
 use Rattle.xa_words.specs.declared.request.Op.{Op}
-use Rattle.xa_words.specs.declared.request.Op.TheVariants.{OpenRm, CloseRm, Start, Add, End, Prepare, Commit, Rollback, Shut}
+use Rattle.xa_words.specs.declared.request.Op.TheVariants.{OpenRm, CloseRm, Start, Add, End, Prepare, Commit, Rollback}
+use Rattle.xa_words.specs.declared.request.Op.TheVariants.{Shut}
 use Rattle.xa_words.specs.declared.request.StartHow.{StartHow}
 use Rattle.xa_words.specs.declared.request.StartHow.TheVariants.{Fresh, Join, Resume}
 use Rattle.xa_words.specs.declared.request.EndHow.{EndHow}
@@ -19,7 +21,10 @@ use Rattle.xa_tables.specs.declared.state.RollbackReason.TheVariants.{Failed, Tr
 use Rattle.xa_tables.specs.declared.state.Association.{Association}
 use Rattle.xa_tables.specs.declared.state.AssociationState.{AssociationState}
 use Rattle.xa_tables.specs.declared.state.AssociationState.TheVariants.{Associated, Suspended}
-use Rattle.xa_tables.specs.Tables.{Tables, has_opened, has_association, is_at_work, is_suspended, is_associated, branch_of, exists, is_idle, is_prepared, is_rollback_only, reason_of, is_somebody_associated, is_declared, sum_of, has_touched, has_other_touched, is_broken, posted, sums_without}
+use Rattle.xa_tables.specs.Tables.{Tables, has_opened, has_association, is_at_work, is_suspended, is_associated}
+use Rattle.xa_tables.specs.Tables.{branch_of, exists, is_idle, is_prepared, is_rollback_only, reason_of}
+use Rattle.xa_tables.specs.Tables.{is_somebody_associated, is_declared, sum_of, has_touched, has_other_touched}
+use Rattle.xa_tables.specs.Tables.{is_broken, posted, sums_without}
 
 -- the tables after a request, and its code
 abbrev pub Answer : Type 0
@@ -144,7 +149,8 @@ add t k d T =
     if not (is_at_work T t) then (T, Proto)
     else if not (is_declared T k) then (T, Inval)
     else if is_rollback_only T (branch_of T t) then (T, reason_of T (branch_of T t))
-    else if has_other_touched T.sums (branch_of T t) k then (stated (branch_of T t) (RollbackOnly Transient) T, RbTransient)
+    else if has_other_touched T.sums (branch_of T t) k
+    then (stated (branch_of T t) (RollbackOnly Transient) T, RbTransient)
     else (added (branch_of T t) k d T, Done)
 
 -- ---- End (xa_end; C193, tables 6-2 and 6-4)

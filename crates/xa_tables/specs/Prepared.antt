@@ -5,7 +5,8 @@ use Rattle.std.specs.FinMap as map
 use Rattle.xa_words.specs.Xid.{XidName, xid_eq}
 use Rattle.xa_words.specs.declared.code.Code.TheVariants.{Done, RmFail}
 use Rattle.xa_words.specs.declared.request.Op.{Op}
-use Rattle.xa_words.specs.declared.request.Op.TheVariants.{OpenRm, CloseRm, Start, Add, End, Prepare, Commit, Rollback, Shut}
+use Rattle.xa_words.specs.declared.request.Op.TheVariants.{OpenRm, CloseRm, Start, Add, End, Prepare, Commit, Rollback}
+use Rattle.xa_words.specs.declared.request.Op.TheVariants.{Shut}
 use Rattle.xa_words.specs.declared.request.Request.{Request}
 use Rattle.xa_tables.specs.declared.state.State.TheVariants.{Prepared}
 use Rattle.xa_tables.specs.Tables.{Tables, state_of, is_somebody_associated}
@@ -60,8 +61,8 @@ pub record StaysPrepared (x : XidName) (T T' : Tables) : Type 0 where
   pub prepared : IsPrepared x T'
   pub sums : (k : List ℕ) → map.get T'.sums (x, k) ≡ map.get T.sums (x, k)
 
--- The branch is prepared, and thread t may end it: its Commit in two phases and its Rollback are carried out, unless the
--- manager is shut.
+-- The branch is prepared, and thread t may end it: its Commit in two phases and its Rollback are carried out, unless
+-- the manager is shut.
 pub record AwaitsTheOutcome (t : ℕ) (x : XidName) (T : Tables) : Type 0 where
   pub prepared : IsPrepared x T
   pub commits : (next t (Commit x false) T).1 ≡ (if T.shut then RmFail else Done)

@@ -1,5 +1,6 @@
 -- The tables of one manager: the sets and finite maps of a resource manager.
-use Rattle.std.specs.Prelude.{ℕ, ℤ, pos, neg_ℤ, ◌+ℤ◌, Bool, true, false, not, ◌&&◌, Option, None, Some, is_some, unwrap_or, List, []}
+use Rattle.std.specs.Prelude.{ℕ, ℤ, pos, neg_ℤ, ◌+ℤ◌, Bool, true, false, not, ◌&&◌, Option, None, Some, is_some}
+use Rattle.std.specs.Prelude.{unwrap_or, List, []}
 use Rattle.std.specs.Ordering.{nat_cmp, ordering_then}
 use Rattle.std.specs.declared.cmp.Ordering.{Ordering}
 use Rattle.std.specs.Int.Signed.{le_z}
@@ -8,6 +9,7 @@ use Rattle.std.specs.FinMap as map
 use Rattle.std.specs.FinSet.{FinSet}
 use Rattle.std.specs.FinMap.{FinMap}
 use Rattle.std.specs.Coded.{Coded, coded×, coded_ℕ, coded_ℤ, coded_list}
+use Rattle.xa_base.specs.declared.limits.TheConstants.{MOST_VALUE}
 use Rattle.xa_words.specs.Xid.{XidName, xid_cmp, xid_eq, xid_code}
 use Rattle.xa_words.specs.Key.{key_eq}
 use Rattle.xa_words.specs.Orders.{key_cmp}
@@ -212,7 +214,7 @@ has_other_touched sums x k = any_entry (λ p s. key_eq p.1 k && not (xid_eq p.0 
 
 -- 0 to 10^12
 abbrev pub is_within : ℤ → Bool
-is_within v = le_z (pos 0) v && le_z v (pos 1000000000000)
+is_within v = le_z (pos 0) v && le_z v (pos MOST_VALUE)
 
 -- the key's committed value, 0 where it isn't declared
 abbrev pub value_of : FinMap key_cmp ℤ → List ℕ → ℤ

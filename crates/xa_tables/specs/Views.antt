@@ -1,12 +1,12 @@
 -- What contracts see of the parts of a manager.
-use Rattle.std.specs.Prelude.{ℕ, Bool, false, suc, map, length, Option, None, Some, List, [], ◌∷◌, if◌then◌else◌, refl}
+use Rattle.std.specs.Prelude.{ℕ, Bool, suc, map, length, Option, None, Some, List, [], ◌∷◌, if◌then◌else◌, refl}
 use Rattle.std.specs.Ordering.{nat_cmp}
 use Rattle.std.specs.FinSet.{FinSet, from_list}
 use Rattle.std.specs.FinMap.{FinMap, from_entries}
 use Rattle.std.specs.Coded.{Coded, code_by, coded×, coded_ℕ, coded_list}
 use Rattle.std.specs.FinMap as finmap
 use Rattle.xa_words.specs.Orders.{key_cmp}
-use Rattle.xa_words.specs.Xid.{XidName, xid_cmp, xid_eq}
+use Rattle.xa_words.specs.Xid.{XidName, xid_cmp}
 use Rattle.xa_tables.specs.declared.state.State.{State}
 use Rattle.xa_tables.specs.declared.threads.Thread.{Thread}
 use Rattle.xa_tables.specs.declared.state.Association.{Association}
@@ -19,7 +19,9 @@ pub record BranchTable : Type 0 where
 
 -- the branches as data
 abbrev pub branch_table_code : Coded BranchTable
-branch_table_code = code_by (FinMap xid_cmp State × ℕ) (coded× states_code coded_ℕ) (λ s. (s.states, s.spare)) (λ p. record { states = p.0; spare = p.1 }) (λ _. refl)
+branch_table_code =
+    code_by (FinMap xid_cmp State × ℕ) (coded× states_code coded_ℕ) (λ s. (s.states, s.spare))
+    (λ p. record { states = p.0; spare = p.1 }) (λ _. refl)
 
 -- where the keys stand, and for how many more there is room
 pub record PlaceTable : Type 0 where
@@ -28,7 +30,9 @@ pub record PlaceTable : Type 0 where
 
 -- the places as data
 abbrev pub place_table_code : Coded PlaceTable
-place_table_code = code_by (FinMap key_cmp ℕ × ℕ) (coded× (finmap.code (coded_list coded_ℕ) coded_ℕ) coded_ℕ) (λ s. (s.places, s.spare)) (λ p. record { places = p.0; spare = p.1 }) (λ _. refl)
+place_table_code =
+    code_by (FinMap key_cmp ℕ × ℕ) (coded× (finmap.code (coded_list coded_ℕ) coded_ℕ) coded_ℕ)
+    (λ s. (s.places, s.spare)) (λ p. record { places = p.0; spare = p.1 }) (λ _. refl)
 
 -- the threads from 1 to threads: which have it open, and their associations
 pub record ThreadTable : Type 0 where
@@ -38,7 +42,10 @@ pub record ThreadTable : Type 0 where
 
 -- the threads as data
 abbrev pub thread_table_code : Coded ThreadTable
-thread_table_code = code_by (FinSet nat_cmp × (FinMap nat_cmp Association × ℕ)) (coded× set_code (coded× associations_code coded_ℕ)) (λ s. (s.opened, (s.associations, s.threads))) (λ p. record { opened = p.0; associations = p.1.0; threads = p.1.1 }) (λ _. refl)
+thread_table_code =
+    code_by (FinSet nat_cmp × (FinMap nat_cmp Association × ℕ)) (coded× set_code (coded× associations_code coded_ℕ))
+    (λ s. (s.opened, (s.associations, s.threads))) (λ p. record { opened = p.0; associations = p.1.0; threads = p.1.1 })
+    (λ _. refl)
 
 -- an entry for the value, if there is one
 abbrev pub with_entry : {K X : Type 0} → K → Option X → List (K × X) → List (K × X)

@@ -19,7 +19,9 @@ entry op code = (record { thread = 1; number = 0; op = op }, code)
 
 -- the branch adds to a key, and its work ends
 abbrev pub worked : List (Request × Code)
-worked = entry (Start branch Fresh) Done ∷ entry (Add (codes "a") (neg_ℤ (pos 30))) Done ∷ entry (End branch Success) Done ∷ []
+worked =
+    entry (Start branch Fresh) Done ∷ entry (Add (codes "a") (neg_ℤ (pos 30))) Done ∷ entry
+    (End branch Success) Done ∷ []
 
 -- it votes yes
 abbrev pub voted : List (Request × Code)
@@ -39,7 +41,9 @@ overdrawn = worked ++ entry (Prepare branch) RbIntegrity ∷ entry (Commit branc
 
 -- it changes nothing
 abbrev pub unchanged : List (Request × Code)
-unchanged = entry (Start branch Fresh) Done ∷ entry (End branch Success) Done ∷ entry (Prepare branch) RdOnly ∷ entry (Commit branch false) Nota ∷ []
+unchanged =
+    entry (Start branch Fresh) Done ∷ entry (End branch Success) Done ∷ entry (Prepare branch) RdOnly ∷ entry
+    (Commit branch false) Nota ∷ []
 
 -- its work fails, and it is rolled back with its reason
 abbrev pub failed : List (Request × Code)

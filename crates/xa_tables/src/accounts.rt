@@ -11,6 +11,7 @@ ghost use Rattle.xa_tables.specs.Tables.{is_within, sum_of, has_touched, has_oth
 use crate::places::Places;
 use std::alloc::{AllocError, Global};
 use std::marker::Model;
+use xa_base::{MOST_KEYS, MOST_VALUE};
 use xa_words::{Delta, Key, Xid};
 
 /// What a branch has added to a key.
@@ -155,15 +156,13 @@ impl Accounts {
 pub(crate) fn are_accounts(declared: &[(Key, u64)]) -> bool
     ensures { result ≡ are_accounts declared.now }
 {
-    declared.len() <= 256 && are_within(declared) && are_apart(declared)
+    declared.len() <= MOST_KEYS && are_within(declared) && are_apart(declared)
 }
 
 fn are_within(declared: &[(Key, u64)]) -> bool
     ensures { result ≡ list_all (λ d. nat_le d.1 1000000000000) declared.now }
 {
-    declared
-        .iter()
-        .all(|(_, value)| *value <= 1_000_000_000_000)
+    declared.iter().all(|(_, value)| *value <= MOST_VALUE)
 }
 
 // Compares each two keys, and so needs no memory; an opening does it once, over at most 256 keys.
@@ -189,7 +188,7 @@ fn has_key(declared: &[(Key, u64)], key: &Key) -> bool
 
 // A declared value as an account keeps it.
 fn signed(value: u64) -> i64
-    requires { value ≤ 1_000_000_000_000 }
+    requires { value ≤ MOST_VALUE }
     ensures { result ≡ pos value }
 {
     value as i64
@@ -251,7 +250,7 @@ fn is_within_with(value: i64, amount: i64) -> bool
     ensures { result ≡ is_within (value +ℤ amount) }
 {
     match value.checked_add(amount) {
-        Some(total) => 0 <= total && total <= 1_000_000_000_000,
+        Some(total) => 0 <= total && total <= MOST_VALUE as i64,
         None => false,
     }
 }

@@ -9,6 +9,7 @@ use crate::accounts::are_accounts;
 use crate::branch_tables::BranchTables;
 use std::alloc::{AllocError, Global};
 use std::marker::Model;
+use xa_base::{MOST_JOURNALED, MOST_THREADS};
 use xa_words::{Code, Key, Op, StartHow, Xid};
 
 /// Why a manager can't be opened: the first reason that holds.
@@ -61,8 +62,8 @@ impl Manager {
         threads: u32,
         room: u32,
     ) -> Result<Manager, TableFault>
-        requires threads { (1 ≤ threads) × (threads ≤ 8) }
-        requires room { (1 ≤ room) × (room ≤ 32768) }
+        requires threads { (1 ≤ threads) × (threads ≤ MOST_THREADS) }
+        requires room { (1 ≤ room) × (room ≤ MOST_JOURNALED) }
         ensures tables { IfOk result (λ m. m.tables ≡ opening accounts.now) }
         ensures threads { IfOk result (λ m. m.threads ≡ threads) }
         ensures room { IfOk result (λ m. m.room ≡ room) }

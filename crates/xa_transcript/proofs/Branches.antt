@@ -18,13 +18,13 @@ use Rattle.xa_driver.specs.Endings.{second_op, ending_of}
 use Rattle.xa_driver.specs.Log.{LogState}
 use Rattle.xa_driver.specs.Trace.{voted, BranchTrace, EachBranch, HasRoom, HaveRoom, has_branch_at, IsTraceOfCommit}
 use Rattle.xa_words.specs.Tran.{TranName}
-use Rattle.xa_transcript.specs.Journals.{Carries, AtBranch}
-use Rattle.xa_transcript.specs.Journals.Carries.{carried, withheld, unwanted}
+use Rattle.xa_transcript.specs.Commits.{Carries, AtBranch}
+use Rattle.xa_transcript.specs.Commits.Carries.{carried, withheld, unwanted}
 use Rattle.xa_base.specs.Lists.{Begins}
 use Rattle.xa_base.proofs.Truth.{by_if}
 use Rattle.xa_base.proofs.Lists.{begins_same, begins_on}
 use Rattle.xa_transcript.proofs.Ledgers.{Grows, AllSent, sent_of, collected_of, sent_same, collected_same}
-use Rattle.xa_transcript.proofs.Entering.{Fits, so_far, enters_coded, code_so_far, pair_there}
+use Rattle.xa_transcript.proofs.Entries.{Fits, so_far, enters_coded, code_so_far, pair_there}
 use Rattle.xa_base.proofs.Lists.{got_push}
 
 -- ---- one request

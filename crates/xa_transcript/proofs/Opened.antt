@@ -8,7 +8,7 @@ use Rattle.std.proofs.lemmas.Option.{slice_get_within, slice_get-get_or, slice_g
 use Rattle.xa_desk.specs.LedgerView.{LedgerView}
 use Rattle.xa_desk.specs.DeskView.{DeskView, no_ledger, ledger, is_known, sent_to, collected_from}
 use Rattle.xa_desk.specs.Lanes.{new_ledgers}
-use Rattle.xa_worker.specs.Workers.{Working}
+use Rattle.xa_worker.specs.Workers.{WorkerView}
 use Rattle.xa_tables.specs.Managers.{opening}
 use Rattle.xa_switch.specs.declared.plan.Plan.{Plan}
 use Rattle.xa_switch.specs.declared.plan.ManagerPlan.{ManagerPlan}
@@ -49,17 +49,19 @@ nobody_sent m = none_either (is_known [] m) (ledger [] m).sent refl
 
 -- with a new desk nothing is outstanding
 new_kept : (p : Plan) (t : ℕ) (d : DeskView) → IsNewDesk p t d → AllKept d
-new_kept p t d is o out =
-    let ledgers : d.ledgers ≡ new_ledgers p.requests (use_async p.managers.items) = ap (λ (x : DeskView). x.ledgers) is.made in
-    let none : (ledger d.ledgers o.manager).sent ≡ [] = ap (λ (at : List LedgerView). (ledger at o.manager).sent) ledgers ∙ fresh_sent p.requests (use_async p.managers.items) (o.manager - 1) in
-    let sent = out.sent in
-    let size : length (ledger d.ledgers o.manager).sent ≡ 0 = ap (λ l. length l) none in
-    absurd (omega (arith, sent, size))
+new_kept p t d is = record {
+  each = λ o out.
+      let ledgers : d.ledgers ≡ new_ledgers p.requests (use_async p.managers.items) = ap (λ (x : DeskView). x.ledgers) is.made in
+      let none : (ledger d.ledgers o.manager).sent ≡ [] = ap (λ (at : List LedgerView). (ledger at o.manager).sent) ledgers ∙ fresh_sent p.requests (use_async p.managers.items) (o.manager - 1) in
+      let sent = out.sent in
+      let size : length (ledger d.ledgers o.manager).sent ≡ 0 = ap (λ l. length l) none in
+      absurd (omega (arith, sent, size));
+}
 
-pub opened_kept : (s : Content) (desks : List DeskView) (workers : List Working) → AreOpened s desks workers → All AllKept desks
+pub opened_kept : (s : Content) (desks : List DeskView) (workers : List WorkerView) → AreOpened s desks workers → All AllKept desks
 opened_kept s desks workers is k d below = new_kept is.plan k (slice_index_or desks k d) (is.opened.desks k (slice_index_or desks k d) (slice_get-get_or desks k d below))
 
-pub opened_threads : (s : Content) (desks : List DeskView) (workers : List Working) → AreOpened s desks workers → length desks ≡ threads_of s
+pub opened_threads : (s : Content) (desks : List DeskView) (workers : List WorkerView) → AreOpened s desks workers → length desks ≡ threads_of s
 opened_threads s desks workers is = is.opened.threads ∙ is.said.threads
 
 planned_many : (s : Content) (p : Plan) → IsPlanOf s p → length p.managers.items ≡ managers_of s
@@ -67,7 +69,7 @@ planned_many s p is =
     let same : length (map planned_of p.managers.items) ≡ managers_of s = ap (λ l. length l) is.managers ∙ length-map-range_with_len (planned s) 1 (managers_of s) in
     rw length-map at same
 
-pub opened_managers : (s : Content) (desks : List DeskView) (workers : List Working) → AreOpened s desks workers → length workers ≡ managers_of s
+pub opened_managers : (s : Content) (desks : List DeskView) (workers : List WorkerView) → AreOpened s desks workers → length workers ≡ managers_of s
 opened_managers s desks workers is = is.opened.managers ∙ planned_many s is.plan is.said
 
 -- ---- the workers
@@ -83,9 +85,9 @@ planned_at s p is k m at =
     let here : slice_get plans k ≡ Some (slice_index_or plans k (planned_of m)) = slice_get-get_or plans k (planned_of m) (omega (arith, below, size)) in
     some_same _ _ (sym there ∙ here) ∙ get_or-map-range_with_len (planned s) 1 (managers_of s) k (k + 1) (planned_of m) below (omega arith)
 
-pub opened_first : (s : Content) (p : Plan) → IsPlanOf s p → (k : ℕ) (w : Working) → IsNewWorker p k w → w.first ≡ opened s (k + 1)
-opened_first s p is k w new = ap (λ (x : Working). x.first) new.made ∙ ap (λ (a : Bool × List (List ℕ × ℕ)). opening a.1) (planned_at s p is k new.plan new.planned)
+pub opened_first : (s : Content) (p : Plan) → IsPlanOf s p → (k : ℕ) (w : WorkerView) → IsNewWorker p k w → w.first ≡ opened s (k + 1)
+opened_first s p is k w new = ap (λ (x : WorkerView). x.first) new.made ∙ ap (λ (a : Bool × List (List ℕ × ℕ)). opening a.1) (planned_at s p is k new.plan new.planned)
 
 -- the desk at place k is that of thread k + 1
-pub opened_thread : (s : Content) (desks : List DeskView) (workers : List Working) → AreOpened s desks workers → (k : ℕ) (d : DeskView) → slice_get desks k ≡ Some d → d.thread ≡ k + 1
+pub opened_thread : (s : Content) (desks : List DeskView) (workers : List WorkerView) → AreOpened s desks workers → (k : ℕ) (d : DeskView) → slice_get desks k ≡ Some d → d.thread ≡ k + 1
 opened_thread s desks workers is k d at = let new : IsNewDesk is.plan k d = is.opened.desks k d at in ap (λ (x : DeskView). x.thread) new.made

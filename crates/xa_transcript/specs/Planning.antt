@@ -2,12 +2,13 @@
 use Rattle.std.specs.Prelude.{◌≡◌, ℕ, Bool, List, map}
 use Rattle.std.specs.List.{range_with_len}
 use Rattle.xa_desk.specs.DeskView.{DeskView}
-use Rattle.xa_worker.specs.Workers.{Working}
+use Rattle.xa_worker.specs.Workers.{WorkerView}
 use Rattle.xa_switch.specs.declared.plan.Plan.{Plan}
 use Rattle.xa_switch.specs.declared.plan.ManagerPlan.{ManagerPlan}
 use Rattle.xa_switch.specs.Plans.{IsSound}
 use Rattle.xa_switch.specs.Openings.{AreOfOneOpening}
-use Rattle.xa_grammar.specs.Content.{Content, threads_of, managers_of, handles_of, queue_of, requests_of, accounts_of, carries_async}
+use Rattle.xa_grammar.specs.Content.{Content, threads_of, managers_of, handles_of, queue_of, requests_of, accounts_of}
+use Rattle.xa_grammar.specs.Content.{carries_async}
 
 -- What a plan says of a manager: whether it takes asynchronous calls, and its keys with their values.
 abbrev pub planned_of : ManagerPlan → Bool × List (List ℕ × ℕ)
@@ -17,7 +18,8 @@ planned_of p = (p.use_async, p.accounts.items)
 abbrev pub planned : Content → ℕ → Bool × List (List ℕ × ℕ)
 planned s m = (carries_async s m, accounts_of m s.keys)
 
--- The plan is the script's: the run's one opening has number 1, and the counts and the managers are those of the script.
+-- The plan is the script's: the run's one opening has number 1, and the counts and the managers are those of the
+-- script.
 pub record IsPlanOf (s : Content) (p : Plan) : Type 0 where
   pub opening : p.opening ≡ 1
   pub threads : p.threads ≡ threads_of s
@@ -27,7 +29,7 @@ pub record IsPlanOf (s : Content) (p : Plan) : Type 0 where
   pub managers : map planned_of p.managers.items ≡ map (planned s) (range_with_len 1 (managers_of s))
 
 -- These are the desks and the workers of one opening of the script's plan, which can be opened.
-pub record AreOpened (s : Content) (desks : List DeskView) (workers : List Working) : Type 0 where
+pub record AreOpened (s : Content) (desks : List DeskView) (workers : List WorkerView) : Type 0 where
   pub plan : Plan
   pub said : IsPlanOf s plan
   pub sound : IsSound plan

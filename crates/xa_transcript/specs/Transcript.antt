@@ -57,7 +57,8 @@ done_text d = decision_text d.commit ++ codes " " ++ record_text d.logged ++ end
 -- L T C, L T 0 handle H retval R, L T refused, L T commit logged E .., L turn S, end T handle H retval R
 abbrev pub answer_text : Answer → List ℕ
 answer_text (Called line thread answer) = call_text line thread ++ codes " " ++ signed_decimal answer ++ codes "\n"
-answer_text (Completed line thread handle retval) = call_text line thread ++ codes " 0" ++ handle_text (signed_decimal handle) retval
+answer_text (Completed line thread handle retval) =
+    call_text line thread ++ codes " 0" ++ handle_text (signed_decimal handle) retval
 answer_text (Refused line thread) = call_text line thread ++ codes " refused\n"
 answer_text (Decided line thread done) = call_text line thread ++ codes " " ++ done_text done ++ codes "\n"
 answer_text (Turned line step) = decimal line ++ codes " turn " ++ turn_text step ++ codes "\n"

@@ -32,7 +32,8 @@ IsWorth s settled d = value_after d.key (requests (journal settled d.manager)) (
 
 -- Keys are shown by rising manager, and of one manager by the bytes of the key.
 abbrev pub shown_cmp : Declared → Declared → Ordering
-shown_cmp d e = ordering_then (nat_cmp d.manager e.manager) (ordering_then (key_cmp d.key e.key) (nat_cmp d.value e.value))
+shown_cmp d e =
+    ordering_then (nat_cmp d.manager e.manager) (ordering_then (key_cmp d.key e.key) (nat_cmp d.value e.value))
 
 -- These are the declared keys, each once and with its value after the journals, in the order in which keys are shown.
 pub record AreValues (s : Content) (settled : Settling) (values : List Declared) : Type 0 where

@@ -2,7 +2,7 @@
 ghost use Rattle.std.specs.Prelude.{◌≡◌, ℕ, List, All, false};
 ghost use Rattle.xa_desk.specs.DeskView.{DeskView};
 ghost use Rattle.xa_desk.specs.Ended.{EndedView};
-ghost use Rattle.xa_worker.specs.Workers.{Working};
+ghost use Rattle.xa_worker.specs.Workers.{WorkerView};
 ghost use Rattle.xa_worker.specs.Done.{Served};
 ghost use Rattle.xa_switch.specs.Closing.{settling};
 ghost use Rattle.xa_switch.specs.Settling.{Settling, IsSettled};
@@ -11,7 +11,9 @@ ghost use Rattle.xa_grammar.specs.declared.script.CommitAll.{CommitAll};
 ghost use Rattle.xa_grammar.specs.declared.script.Declared.{Declared};
 ghost use Rattle.xa_grammar.specs.Content.{Content};
 ghost use Rattle.xa_session.specs.declared.answer.Answer.{Answer};
-ghost use Rattle.xa_transcript.specs.Journals.{AreCarriedOut, IsCarriedOut, AreCommitted, ArePrepared, Part, Decides, AddsNoCommit, TellsOf};
+ghost use Rattle.xa_transcript.specs.Parts.{Part};
+ghost use Rattle.xa_transcript.specs.Commits.{Decides};
+ghost use Rattle.xa_transcript.specs.Journals.{AreCarriedOut, IsCarriedOut, AreCommitted, ArePrepared, AddsNoCommit, TellsOf};
 ghost use Rattle.xa_transcript.specs.Runs.{Ran};
 ghost use Rattle.xa_transcript.specs.Values.{AreOfScript, AreValues};
 
@@ -38,6 +40,6 @@ pub fn what_aborts_adds_no_commit()
 
 /// What a run whose threads and managers came to this tells of, once they are settled.
 pub fn runs_tell_of_their_journals()
-    ensures managers { (s : Content) (answers : List Answer) (desks : List DeskView) (workers : List Working) (ended : List EndedView) (done : List Served) → Ran s answers desks workers ended done → AreOfScript s (settling ended done).managers }
-    ensures tells { (s : Content) (answers : List Answer) (desks : List DeskView) (workers : List Working) (ended : List EndedView) (done : List Served) → Ran s answers desks workers ended done → IsSettled (settling ended done) → (values : List Declared) → AreValues s (settling ended done) values → TellsOf s answers values (settling ended done) }
+    ensures managers { (s : Content) (answers : List Answer) (desks : List DeskView) (workers : List WorkerView) (ended : List EndedView) (done : List Served) → Ran s answers desks workers ended done → AreOfScript s (settling ended done).managers }
+    ensures tells { (s : Content) (answers : List Answer) (desks : List DeskView) (workers : List WorkerView) (ended : List EndedView) (done : List Served) → Ran s answers desks workers ended done → IsSettled (settling ended done) → (values : List Declared) → AreValues s (settling ended done) values → TellsOf s answers values (settling ended done) }
 {}

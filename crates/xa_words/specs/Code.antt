@@ -1,7 +1,10 @@
 -- The numbers of the codes in xa.h.
 use Rattle.std.specs.Prelude.{ℤ, pos, neg_ℤ}
 use Rattle.xa_words.specs.declared.code.Code.{Code}
-use Rattle.xa_words.specs.declared.code.Code.TheVariants.{Done, RdOnly, Retry, HeurMix, HeurRb, HeurCom, HeurHaz, RbRollback, RbCommFail, RbDeadlock, RbIntegrity, RbOther, RbProto, RbTimeout, RbTransient, Async, RmErr, Nota, Inval, Proto, RmFail, DupId, Outside}
+use Rattle.xa_words.specs.declared.code.Code.TheVariants.{Done, RdOnly, Retry, HeurMix, HeurRb, HeurCom, HeurHaz}
+use Rattle.xa_words.specs.declared.code.Code.TheVariants.{RbRollback, RbCommFail, RbDeadlock, RbIntegrity, RbOther}
+use Rattle.xa_words.specs.declared.code.Code.TheVariants.{RbProto, RbTimeout, RbTransient, Async, RmErr, Nota, Inval}
+use Rattle.xa_words.specs.declared.code.Code.TheVariants.{Proto, RmFail, DupId, Outside}
 
 -- the number that xa.h gives the code
 abbrev pub number_of : Code → ℤ

@@ -1,5 +1,6 @@
 -- The flags of xa.h, and what they ask for at each call.
-use Rattle.std.specs.Prelude.{ℕ, Bool, true, false, not, ◌&&◌, ◌||◌, ◌==◌, ◌+◌, if◌then◌else◌, Result, Ok, Err, bit_and, bit_or}
+use Rattle.std.specs.Prelude.{ℕ, Bool, true, false, not, ◌&&◌, ◌||◌, ◌==◌, ◌+◌, if◌then◌else◌, Result, Ok, Err, bit_and}
+use Rattle.std.specs.Prelude.{bit_or}
 use Rattle.xa_words.specs.declared.code.Code.{Code}
 use Rattle.xa_words.specs.declared.code.Code.TheVariants.{Inval}
 use Rattle.xa_words.specs.declared.request.StartHow.{StartHow}
@@ -85,7 +86,15 @@ how_of f = if has f TMSUSPEND then Suspend else if has f TMFAIL then Fail else S
 
 -- what flags ask for
 abbrev pub mode_of : ℕ → Mode
-mode_of f = record { asynchronous = has f TMASYNC; nowait = has f TMNOWAIT; multiple = has f TMMULTIPLE; one_phase = has f TMONEPHASE; start = start_of f; how = how_of f }
+mode_of f =
+    record {
+      asynchronous = has f TMASYNC;
+      nowait = has f TMNOWAIT;
+      multiple = has f TMMULTIPLE;
+      one_phase = has f TMONEPHASE;
+      start = start_of f;
+      how = how_of f;
+    }
 
 -- what the flags of a call ask for, where they are among those that may stand at it and go together
 abbrev pub check_flags : Call → ℕ → Result Mode Code

@@ -41,8 +41,10 @@ name_again : (x : XidName) → name_of (parts_of x) ≡ x
 name_again x =
     let z : List ℕ = replicate (128 - (length x.gtrid + length x.bqual)) 0 in
     let g : take (length x.gtrid) (x.gtrid ++ (x.bqual ++ z)) ≡ x.gtrid = take-append_seam x.gtrid (x.bqual ++ z) in
-    let d : drop (length x.gtrid) (x.gtrid ++ (x.bqual ++ z)) ≡ x.bqual ++ z = drop-append_seam x.gtrid (x.bqual ++ z) in
-    let b : take (length x.bqual) (drop (length x.gtrid) (x.gtrid ++ (x.bqual ++ z))) ≡ x.bqual = ap (take (length x.bqual)) d ∙ take-append_seam x.bqual z in
+    let d : drop (length x.gtrid) (x.gtrid ++ (x.bqual ++ z)) ≡ x.bqual ++ z =
+    drop-append_seam x.gtrid (x.bqual ++ z) in
+    let b : take (length x.bqual) (drop (length x.gtrid) (x.gtrid ++ (x.bqual ++ z))) ≡ x.bqual =
+    ap (take (length x.bqual)) d ∙ take-append_seam x.bqual z in
     λ i. record { format = x.format; gtrid = g i; bqual = b i }
 
 -- names of which the same is compared are one
@@ -52,8 +54,12 @@ same_name x y e = sym (name_again x) ∙ ap name_of e ∙ name_again y
 -- of tied names the same is compared
 exact_parts : (x y : XidName) → xid_cmp x y ≡ Equal → parts_of x ≡ parts_of y
 exact_parts x y e =
-    exact_pairs int_cmp (λ (p q : ℕ × (ℕ × List ℕ)). ordering_then (nat_cmp p.0 q.0) (ordering_then (nat_cmp p.1.0 q.1.0) (slice_cmp nat_cmp p.1.1 q.1.1))) exact_signed
-    (exact_pairs nat_cmp (λ (p q : ℕ × List ℕ). ordering_then (nat_cmp p.0 q.0) (slice_cmp nat_cmp p.1 q.1)) exact_unsigned
+    exact_pairs int_cmp
+    (λ (p q : ℕ × (ℕ × List ℕ)).
+    ordering_then (nat_cmp p.0 q.0) (ordering_then (nat_cmp p.1.0 q.1.0) (slice_cmp nat_cmp p.1.1 q.1.1)))
+    exact_signed
+    (exact_pairs nat_cmp (λ (p q : ℕ × List ℕ). ordering_then (nat_cmp p.0 q.0) (slice_cmp nat_cmp p.1 q.1))
+    exact_unsigned
     (exact_pairs nat_cmp (slice_cmp nat_cmp) exact_unsigned exact_bytes)) (parts_of x) (parts_of y) e
 
 -- no other answer is one of equality
@@ -77,17 +83,25 @@ key_cmp-IsAntisymmetric = slice_cmp-IsAntisymmetric nat_cmp-IsAntisymmetric
 -- `==` of branch names is true exactly of one name
 pub Decides-xid_eq : (x y : XidName) → Decides (xid_eq x y) (x ≡ y)
 Decides-xid_eq x y =
-    let d = Decides-and _ _ (Decides-int_eq x.format y.format) (Decides-and _ _ (Decides-eqb (length x.gtrid) (length y.gtrid)) (Decides-and _ _ (Decides-eqb (length x.bqual) (length y.bqual)) (slice_eq-Decides Decides-eqb (bytes_of x) (bytes_of y) _ refl))) in
-    (λ t. let e = d.0 t in same_name x y (λ i. (e.0 i, (e.1.0 i, (e.1.1.0 i, e.1.1.1 i)))), λ e. d.1 (ap (λ n. n.format) e, (ap (λ n. length n.gtrid) e, (ap (λ n. length n.bqual) e, ap bytes_of e))))
+    let d =
+    Decides-and _ _ (Decides-int_eq x.format y.format)
+    (Decides-and _ _ (Decides-eqb (length x.gtrid) (length y.gtrid))
+    (Decides-and _ _ (Decides-eqb (length x.bqual) (length y.bqual))
+    (slice_eq-Decides Decides-eqb (bytes_of x) (bytes_of y) _ refl))) in (
+      λ t. let e = d.0 t in same_name x y (λ i. (e.0 i, (e.1.0 i, (e.1.1.0 i, e.1.1.1 i)))),
+      λ e. d.1 (ap (λ n. n.format) e, (ap (λ n. length n.gtrid) e, (ap (λ n. length n.bqual) e, ap bytes_of e))),
+    )
 
 -- a total order whose tied values are one answers `Equal` exactly of one value
-Decides-by_cmp : {K : Type 0} (R : K → K → Ordering) → IsTotalOrder R → IsAntisymmetric R → (x y : K) → Decides (eq_by_cmp R x y) (x ≡ y)
+Decides-by_cmp : {K : Type 0} (R : K → K → Ordering) → IsTotalOrder R → IsAntisymmetric R → (x y : K)
+    → Decides (eq_by_cmp R x y) (x ≡ y)
 Decides-by_cmp {K} R o same x y =
     (λ t. same x y (is_equal (R x y) t), λ e. subst (λ (z : K). eq_by_cmp R x z ≡ true) e (ap is_eq (tied_itself o x)))
 
 -- `==` of branch names is true exactly where their order answers `Equal`
 pub xid_eq-by_cmp : (x y : XidName) → xid_eq x y ≡ eq_by_cmp xid_cmp x y
-xid_eq-by_cmp x y = same_from_decides _ _ (Decides-xid_eq x y) (Decides-by_cmp xid_cmp xid_cmp_total xid_cmp-IsAntisymmetric x y)
+xid_eq-by_cmp x y =
+    same_from_decides _ _ (Decides-xid_eq x y) (Decides-by_cmp xid_cmp xid_cmp_total xid_cmp-IsAntisymmetric x y)
 
 -- a key comes back from its padded bytes
 key_again : (k : List ℕ) → take (length k) (padded_key k) ≡ k
@@ -96,9 +110,14 @@ key_again k = take-append_seam k (replicate (16 - length k) 0)
 -- `==` of keys is true exactly of one key
 pub Decides-key_eq : (k l : List ℕ) → Decides (key_eq k l) (k ≡ l)
 Decides-key_eq k l =
-    let d = Decides-and _ _ (slice_eq-Decides Decides-eqb (padded_key k) (padded_key l) _ refl) (Decides-eqb (length k) (length l)) in
-    (λ t. let e = d.0 t in sym (key_again k) ∙ (λ i. take (e.1 i) (e.0 i)) ∙ key_again l, λ e. d.1 (ap padded_key e, ap length e))
+    let d =
+    Decides-and _ _ (slice_eq-Decides Decides-eqb (padded_key k) (padded_key l) _ refl)
+    (Decides-eqb (length k) (length l)) in (
+      λ t. let e = d.0 t in sym (key_again k) ∙ (λ i. take (e.1 i) (e.0 i)) ∙ key_again l,
+      λ e. d.1 (ap padded_key e, ap length e),
+    )
 
 -- `==` of keys is true exactly where their order answers `Equal`
 pub key_eq-by_cmp : (k l : List ℕ) → key_eq k l ≡ eq_by_cmp key_cmp k l
-key_eq-by_cmp k l = same_from_decides _ _ (Decides-key_eq k l) (Decides-by_cmp key_cmp key_cmp_total key_cmp-IsAntisymmetric k l)
+key_eq-by_cmp k l =
+    same_from_decides _ _ (Decides-key_eq k l) (Decides-by_cmp key_cmp key_cmp_total key_cmp-IsAntisymmetric k l)

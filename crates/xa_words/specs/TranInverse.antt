@@ -17,5 +17,6 @@ tran_length g bs p =
     length-take-le g bs (omega (arith, fits, all))
 
 -- the gtrid and zeros up to 64 are the bytes
-pub tran_bytes_again : (g : ℕ) (bs : List ℕ) → IsPaddedTran g bs → take g bs ++ replicate (64 - length (take g bs)) 0 ≡ bs
+pub tran_bytes_again : (g : ℕ) (bs : List ℕ) → IsPaddedTran g bs
+    → take g bs ++ replicate (64 - length (take g bs)) 0 ≡ bs
 tran_bytes_again g bs p = rw (tran_length g bs p, ← p.zeros_behind, take-append-drop g bs) refl

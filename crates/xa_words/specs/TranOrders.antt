@@ -22,7 +22,8 @@ name_of p = record { format = p.0; gtrid = take p.1.0 p.1.1 }
 -- a name comes back from what is compared of it
 name_again : (x : TranName) → name_of (parts_of x) ≡ x
 name_again x =
-    let g : take (length x.gtrid) (tran_bytes x) ≡ x.gtrid = take-append_seam x.gtrid (replicate (64 - length x.gtrid) 0) in
+    let g : take (length x.gtrid) (tran_bytes x) ≡ x.gtrid =
+    take-append_seam x.gtrid (replicate (64 - length x.gtrid) 0) in
     λ i. record { format = x.format; gtrid = g i }
 
 -- names of which the same is compared are one
@@ -32,5 +33,10 @@ same_name x y e = sym (name_again x) ∙ ap name_of e ∙ name_again y
 -- `==` of global transactions is true exactly of one name
 pub Decides-tran_eq : (x y : TranName) → Decides (tran_eq x y) (x ≡ y)
 Decides-tran_eq x y =
-    let d = Decides-and _ _ (Decides-int_eq x.format y.format) (Decides-and _ _ (Decides-eqb (length x.gtrid) (length y.gtrid)) (slice_eq-Decides Decides-eqb (tran_bytes x) (tran_bytes y) _ refl)) in
-    (λ t. let e = d.0 t in same_name x y (λ i. (e.0 i, (e.1.0 i, e.1.1 i))), λ e. d.1 (ap (λ n. n.format) e, (ap (λ n. length n.gtrid) e, ap tran_bytes e)))
+    let d =
+    Decides-and _ _ (Decides-int_eq x.format y.format)
+    (Decides-and _ _ (Decides-eqb (length x.gtrid) (length y.gtrid))
+    (slice_eq-Decides Decides-eqb (tran_bytes x) (tran_bytes y) _ refl)) in (
+      λ t. let e = d.0 t in same_name x y (λ i. (e.0 i, (e.1.0 i, e.1.1 i))),
+      λ e. d.1 (ap (λ n. n.format) e, (ap (λ n. length n.gtrid) e, ap tran_bytes e)),
+    )

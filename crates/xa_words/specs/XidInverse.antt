@@ -31,4 +31,11 @@ length_second g b bs p =
 pub bytes_again : (g b : ℕ) (bs : List ℕ) → IsPaddedXid g b bs
     → take g bs ++ (take b (drop g bs) ++ replicate (128 - (length (take g bs) + length (take b (drop g bs)))) 0) ≡ bs
 bytes_again g b bs p =
-    rw (length_first g b bs p, length_second g b bs p, ← p.zeros_behind, ← drop-drop b g bs, take-append-drop b (drop g bs), take-append-drop g bs) refl
+    rw (
+      length_first g b bs p,
+      length_second g b bs p,
+      ← p.zeros_behind,
+      ← drop-drop b g bs,
+      take-append-drop b (drop g bs),
+      take-append-drop g bs,
+    ) refl

@@ -3,6 +3,7 @@ ghost use Rattle.std.specs.Prelude.{◌≡◌};
 ghost use Rattle.xa_words.specs.Delta.{IsDelta, delta_of};
 
 use std::marker::Model;
+use xa_base::MOST_VALUE;
 
 /// A change of a value, at most 1,000,000,000,000 up or down; 0 is a change too.
 #[derive(Clone, Copy, Debug, PartialEq, Eq)]
@@ -24,7 +25,7 @@ impl Model for Delta {
 }
 
 impl Delta {
-    const LIMIT: i64 = 1_000_000_000_000;
+    const LIMIT: i64 = MOST_VALUE as i64;
 
     /// The change by this amount, `None` where it is beyond the limit.
     pub fn new(amount: i64) -> Option<Delta>

@@ -4,16 +4,16 @@ use Rattle.xa_lane.specs.Senders.{bare}
 use Rattle.xa_lane.specs.Seats.{end_seat}
 use Rattle.xa_lane.proofs.Senders.{map-alike}
 use Rattle.xa_worker.specs.Outgoing.{Answering}
-use Rattle.xa_worker.specs.Workers.{Working, SameWorker}
+use Rattle.xa_worker.specs.Workers.{WorkerView, SameWorker}
 use Rattle.xa_worker.specs.Done.{Served, SameServed}
 use Rattle.xa_worker.specs.Seats.{seat_of_worker, seat_of_done}
 
-pub stepped_keeps : (w w' : Working) → SameWorker w w' → seat_of_worker w' ≡ seat_of_worker w
+pub stepped_keeps : (w w' : WorkerView) → SameWorker w w' → seat_of_worker w' ≡ seat_of_worker w
 stepped_keeps w w' h =
     let ends = map-alike bare (λ (s : Answering). end_seat s) (λ s. refl) w'.out.senders w.out.senders h.lanes in
     λ i. record { number = h.number i; first = h.first i; ends = ends i; lane = h.receiver.0 i; line = h.receiver.1 i }
 
-pub served_keeps : (w : Working) (d : Served) → SameServed w d → seat_of_done d ≡ seat_of_worker w
+pub served_keeps : (w : WorkerView) (d : Served) → SameServed w d → seat_of_done d ≡ seat_of_worker w
 served_keeps w d h =
     let ends = map-alike bare (λ (s : Answering). end_seat s) (λ s. refl) d.ends w.out.senders h.lanes in
     λ i. record { number = h.number i; first = h.first i; ends = ends i; lane = h.receiver.0 i; line = h.receiver.1 i }

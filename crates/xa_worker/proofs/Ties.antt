@@ -11,7 +11,7 @@ use Rattle.xa_worker.specs.Journal.{Entry, entry_next, applied, completion_of, o
 use Rattle.xa_lane.specs.Senders.{but_full, bare, sent_at}
 use Rattle.xa_lane.proofs.Senders.{nothing_sent}
 use Rattle.xa_worker.specs.Outgoing.{Answering, Outgoing, SameLanes, Puts, flushed, waiting_at, put_to}
-use Rattle.xa_worker.specs.Workers.{Working, Asking, IsTied, IsUnfit, IsHeldUnfit, IsFinished, SameWorker, Extends, asked, of_own_thread, in_hand, new_worker}
+use Rattle.xa_worker.specs.Workers.{WorkerView, Asking, IsTied, IsUnfit, IsHeldUnfit, IsFinished, SameWorker, Extends, asked, of_own_thread, in_hand, new_worker}
 use Rattle.xa_worker.specs.declared.step.Step.{Step}
 use Rattle.xa_worker.specs.declared.step.Step.TheVariants.{Did, Late, EndSeen, Empty, Blocked}
 use Rattle.xa_worker.specs.Steps.{EntersOne, Waits, StillHolds, Holds, Stepped, step_of}
@@ -31,7 +31,7 @@ tied_new number manager receiver senders threads lanes taken none = record {
   lanes = lanes;
 }
 
-module _ (w : Working) (o : Outgoing) (same : SameLanes w.out.senders o.senders) (put : (k : ℕ) → put_to k o ≡ put_to k w.out) (t : IsTied w) where
+module _ (w : WorkerView) (o : Outgoing) (same : SameLanes w.out.senders o.senders) (put : (k : ℕ) → put_to k o ≡ put_to k w.out) (t : IsTied w) where
   -- an earlier completion was sent, or still waits
   pub tied_out : IsTied (record w { out = o })
   tied_out = record {
@@ -101,7 +101,7 @@ module _ (w : Working) (o : Outgoing) (same : SameLanes w.out.senders o.senders)
           }
 
 -- the completion that waited was sent, and then a request was taken and carried out
-pub tied_carried : (w : Working) (o : Outgoing) (r' : Asking) (s : ℕ) (r : Request) (m : Managed) (p : Outgoing) (journal : List Entry) → IsTied w → o ≡ flushed w.out → ((k : ℕ) → put_to k o ≡ put_to k w.out) → w.held ≡ None
+pub tied_carried : (w : WorkerView) (o : Outgoing) (r' : Asking) (s : ℕ) (r : Request) (m : Managed) (p : Outgoing) (journal : List Entry) → IsTied w → o ≡ flushed w.out → ((k : ℕ) → put_to k o ≡ put_to k w.out) → w.held ≡ None
     → Took w.receiver (Item s r) r' → r.thread ≡ s + 1 → m ≡ applied r w.manager → journal ≡ w.journal ++ entry_next r w.manager.tables ∷ [] → Puts o (r.thread - 1) (completion_of w.number (entry_next r w.manager.tables)) p
     → IsTied (record w { manager = m; receiver = r'; out = p; journal = journal })
 tied_carried w o r' s r m p journal t sent put none took thread carried entered puts =
@@ -120,7 +120,7 @@ some_of None e = absurd (cc)
 some_of (Some x) e = (x, refl)
 
 -- a worker that has finished, and has put its end marks
-pub served_by : (w : Working) (ends : List Answering) → IsTied w → IsFinished w → map but_full ends ≡ map but_full w.out.senders → IsServed (served w.number w.first w.manager w.receiver ends w.journal)
+pub served_by : (w : WorkerView) (ends : List Answering) → IsTied w → IsFinished w → map but_full ends ≡ map but_full w.out.senders → IsServed (served w.number w.first w.manager w.receiver ends w.journal)
 served_by w ends t f e = record {
   follows = t.follows;
   taken = t.taken ∙ ap (λ h. map of_own_thread w.journal ++ in_hand h) f.held ∙ append-nil (map of_own_thread w.journal);
@@ -131,12 +131,12 @@ served_by w ends t f e = record {
 }
 
 -- a request is late where the manager was shut before it
-pub stepped : (w w' : Working) (b : Bool) → w.manager.tables.shut ≡ b → EntersOne w w' → Stepped w (step_of b) w'
+pub stepped : (w w' : WorkerView) (b : Bool) → w.manager.tables.shut ≡ b → EntersOne w w' → Stepped w (step_of b) w'
 stepped w w' true e n = (n, e)
 stepped w w' false e n = (n, e)
 
 -- steps follow one another
-pub same-chain : (u v w : Working) → SameWorker u v → SameWorker v w → SameWorker u w
+pub same-chain : (u v w : WorkerView) → SameWorker u v → SameWorker v w → SameWorker u w
 same-chain u v w a b = record {
   number = b.number ∙ a.number;
   first = b.first ∙ a.first;
@@ -148,21 +148,21 @@ same-chain u v w a b = record {
 pub extends-chain : (i j k : List Entry) → Extends i j → Extends j k → Extends i k
 extends-chain i j k a b = (a.0 ++ b.0, b.1 ∙ ap (λ es. es ++ b.0) a.1 ∙ append_assoc i a.0 b.0)
 
-stays : (w w' : Working) → w'.journal ≡ w.journal → Extends w.journal w'.journal
+stays : (w w' : WorkerView) → w'.journal ≡ w.journal → Extends w.journal w'.journal
 stays w w' e = ([], e ∙ sym (append-nil w.journal))
 
 -- each step leaves the journal or adds to it
-pub stepped-extends : (w : Working) (s : Step) (w' : Working) → Stepped w s w' → Extends w.journal w'.journal
+pub stepped-extends : (w : WorkerView) (s : Step) (w' : WorkerView) → Stepped w s w' → Extends w.journal w'.journal
 stepped-extends w Did w' h = (entry_next h.0.1 w.manager.tables ∷ [], h.0.2.journal)
 stepped-extends w Late w' h = (entry_next h.0.1 w.manager.tables ∷ [], h.0.2.journal)
-stepped-extends w EndSeen w' h = stays w w' (ap (λ (x : Working). x.journal) h.3)
-stepped-extends w Empty w' h = stays w w' (ap (λ (x : Working). x.journal) h.2)
+stepped-extends w EndSeen w' h = stays w w' (ap (λ (x : WorkerView). x.journal) h.3)
+stepped-extends w Empty w' h = stays w w' (ap (λ (x : WorkerView). x.journal) h.2)
 stepped-extends w Blocked w' h =
     ⊎_elim
-    (λ (x : Waits w w'). stays w w' (ap (λ (y : Working). y.journal) x.1))
+    (λ (x : Waits w w'). stays w w' (ap (λ (y : WorkerView). y.journal) x.1))
     (λ (x : StillHolds w w' ⊎ Holds w w').
     ⊎_elim
-    (λ (y : StillHolds w w'). stays w w' (ap (λ (z : Working). z.journal) y.3))
-    (λ (y : Holds w w'). stays w w' (ap (λ (z : Working). z.journal) y.5))
+    (λ (y : StillHolds w w'). stays w w' (ap (λ (z : WorkerView). z.journal) y.3))
+    (λ (y : Holds w w'). stays w w' (ap (λ (z : WorkerView). z.journal) y.5))
     x)
     h

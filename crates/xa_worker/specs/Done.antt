@@ -7,9 +7,10 @@ use Rattle.xa_lane.specs.Ends.{SameReceiver, received, has_ended}
 use Rattle.xa_lane.specs.Senders.{sent_at}
 use Rattle.xa_worker.specs.Journal.{Entry, Follows, requests, owed}
 use Rattle.xa_worker.specs.Outgoing.{Answering, SameLanes}
-use Rattle.xa_worker.specs.Workers.{Working, Asking, Extends, asked, of_own_thread}
+use Rattle.xa_worker.specs.Workers.{WorkerView, Asking, Extends, asked, of_own_thread}
 
--- a worker that has run: its manager's number, the tables that the manager was given with, the manager, the lane of requests, the ends of the lanes of completions, and the journal
+-- a worker that has run: its manager's number, the tables that the manager was given with, the manager, the lane of
+-- requests, the ends of the lanes of completions, and the journal
 pub record Served : Type 0 where
   pub number : ℕ
   pub first : Tables
@@ -20,7 +21,8 @@ pub record Served : Type 0 where
 
 -- the same by its parts
 abbrev pub served : ℕ → Tables → Managed → Asking → List Answering → List Entry → Served
-served number first manager receiver ends journal = record { number = number; first = first; manager = manager; receiver = receiver; ends = ends; journal = journal }
+served number first manager receiver ends journal =
+    record { number = number; first = first; manager = manager; receiver = receiver; ends = ends; journal = journal }
 
 -- what holds of every worker that has run
 pub record IsServed (d : Served) : Type 0 where
@@ -40,8 +42,9 @@ pub record IsServed (d : Served) : Type 0 where
 abbrev pub IsOrdered : Served → Type 0
 IsOrdered d = (s : ℕ) → of_thread (s + 1) (requests d.journal) ≡ received s d.receiver.taken
 
--- the worker that has run is this one: the number, the tables at first, the threads and the lanes are the same, and the journal has only grown
-pub record SameServed (w : Working) (d : Served) : Type 0 where
+-- the worker that has run is this one: the number, the tables at first, the threads and the lanes are the same, and the
+-- journal has only grown
+pub record SameServed (w : WorkerView) (d : Served) : Type 0 where
   pub number : d.number ≡ w.number
   pub first : d.first ≡ w.first
   pub threads : d.manager.threads ≡ w.manager.threads

@@ -1,5 +1,6 @@
 -- How the parts of a worker that has run are kept.
 use Rattle.std.specs.Prelude.{◌≤◌}
+use Rattle.xa_base.specs.declared.limits.TheConstants.{MOST_THREADS}
 use Rattle.xa_worker.specs.Workers.{first_tables}
 use Rattle.xa_worker.specs.Done.{Served, served, IsServed}
 use Rattle.xa_worker.specs.declared.done.DoneWorker.TheInside.{Inside}
@@ -11,4 +12,4 @@ served_of w = served w.number (first_tables w.given.items) w.manager w.receiver 
 -- what holds of the parts
 pub record IsDone (w : Inside) : Type 0 where
   pub served : IsServed (served_of w)
-  pub few : w.manager.threads ≤ 8
+  pub few : w.manager.threads ≤ MOST_THREADS

@@ -8,7 +8,8 @@ use Rattle.xa_lane.specs.Senders.{at_place, with_item, with_full, bare, sent_at}
 abbrev pub Answering : Type 0
 Answering = Sending Completion
 
--- the senders by rising thread, that of thread k + 1 at place k, and a completion that waits for its lane, with its place
+-- the senders by rising thread, that of thread k + 1 at place k, and a completion that waits for its lane, with its
+-- place
 pub record Outgoing : Type 0 where
   pub senders : List Answering
   pub waiting : Option (ℕ × Completion)
@@ -44,4 +45,6 @@ pub record StillFull (o o' : Outgoing) : Type 0 where
 
 -- c was sent on the lane at place k, or waits for it, since it was full
 abbrev pub Puts : Outgoing → ℕ → Completion → Outgoing → Type 0
-Puts o k c o' = (o' ≡ record o { senders = at_place k (with_item c) o.senders }) ⊎ (o' ≡ record { senders = at_place k with_full o.senders; waiting = Some (k, c) })
+Puts o k c o' =
+    (o' ≡ record o { senders = at_place k (with_item c) o.senders }) ⊎
+    (o' ≡ record { senders = at_place k with_full o.senders; waiting = Some (k, c) })

@@ -5,11 +5,11 @@ use Rattle.xa_lane.specs.declared.name.LaneName.{LaneName}
 use Rattle.xa_lane.specs.Ends.{QueueId}
 use Rattle.xa_lane.specs.Seats.{EndSeat, end_seat}
 use Rattle.xa_worker.specs.Outgoing.{Answering}
-use Rattle.xa_worker.specs.Workers.{Asking, Working}
+use Rattle.xa_worker.specs.Workers.{Asking, WorkerView}
 use Rattle.xa_worker.specs.Done.{Served}
 
--- of a worker: its manager, the tables that the manager was opened with, its ends of the lanes to the threads, by rising
--- thread, and its own lane
+-- of a worker: its manager, the tables that the manager was opened with, its ends of the lanes to the threads, by
+-- rising thread, and its own lane
 pub record WorkerSeat : Type 0 where
   pub number : ℕ
   pub first : Tables
@@ -19,10 +19,11 @@ pub record WorkerSeat : Type 0 where
 
 -- the seat of a worker by what it holds
 abbrev pub worker_seat : ℕ → Tables → List Answering → Asking → WorkerSeat
-worker_seat m first senders receiver = record { number = m; first = first; ends = map end_seat senders; lane = receiver.lane; line = receiver.line }
+worker_seat m first senders receiver =
+    record { number = m; first = first; ends = map end_seat senders; lane = receiver.lane; line = receiver.line }
 
 -- that of a worker at work
-abbrev pub seat_of_worker : Working → WorkerSeat
+abbrev pub seat_of_worker : WorkerView → WorkerSeat
 seat_of_worker w = worker_seat w.number w.first w.out.senders w.receiver
 
 -- and of one that has run

@@ -7,15 +7,16 @@ use Rattle.xa_worker.specs.declared.step.Step.{Step}
 use Rattle.xa_worker.specs.declared.step.Step.TheVariants.{Did, Late, EndSeen, Empty, Blocked}
 use Rattle.xa_worker.specs.Journal.{entry_next, applied, completion_of}
 use Rattle.xa_worker.specs.Outgoing.{StillFull, Puts, flushed}
-use Rattle.xa_worker.specs.Workers.{Working, IsUnfit}
+use Rattle.xa_worker.specs.Workers.{WorkerView, IsUnfit}
 
 -- a request is late where the manager was shut before it
 abbrev pub step_of : Bool → Step
 step_of true = Late
 step_of false = Did
 
--- request r of sender s was taken and carried out once, with the entry and the tables that come next, and its completion was sent or waits; the earlier one was sent before
-pub record Enters (s : ℕ) (r : Request) (w w' : Working) : Type 0 where
+-- request r of sender s was taken and carried out once, with the entry and the tables that come next, and its
+-- completion was sent or waits; the earlier one was sent before
+pub record Enters (s : ℕ) (r : Request) (w w' : WorkerView) : Type 0 where
   pub free : w.held ≡ None
   pub took : Took w.receiver (Item s r) w'.receiver
   pub thread : r.thread ≡ s + 1
@@ -26,31 +27,37 @@ pub record Enters (s : ℕ) (r : Request) (w w' : Working) : Type 0 where
   pub rest : w' ≡ record w { manager = w'.manager; receiver = w'.receiver; out = w'.out; journal = w'.journal }
 
 -- some request was
-abbrev pub EntersOne : Working → Working → Type 0
+abbrev pub EntersOne : WorkerView → WorkerView → Type 0
 EntersOne w w' = (s : ℕ) × (r : Request) × Enters s r w w'
 
 -- the end mark of a sender was taken, and nothing but an earlier completion was sent
-abbrev pub SeesEnd : Working → Working → Type 0
-SeesEnd w w' = (s : ℕ) × (w.held ≡ None) × Took w.receiver (EndOf s) w'.receiver × (w' ≡ record w { receiver = w'.receiver; out = flushed w.out })
+abbrev pub SeesEnd : WorkerView → WorkerView → Type 0
+SeesEnd w w' =
+    (s : ℕ) × (w.held ≡ None) × Took w.receiver (EndOf s) w'.receiver
+    × (w' ≡ record w { receiver = w'.receiver; out = flushed w.out })
 
 -- a take found nothing there, and nothing but an earlier completion was sent
-abbrev pub FindsNothing : Working → Working → Type 0
-FindsNothing w w' = (w.held ≡ None) × Took w.receiver Nothing w'.receiver × (w' ≡ record w { receiver = w'.receiver; out = flushed w.out })
+abbrev pub FindsNothing : WorkerView → WorkerView → Type 0
+FindsNothing w w' =
+    (w.held ≡ None) × Took w.receiver Nothing w'.receiver
+    × (w' ≡ record w { receiver = w'.receiver; out = flushed w.out })
 
 -- an earlier completion still waits, and nothing else was done
-abbrev pub Waits : Working → Working → Type 0
+abbrev pub Waits : WorkerView → WorkerView → Type 0
 Waits w w' = StillFull w.out w'.out × (w' ≡ record w { out = w'.out })
 
 -- a request is held, and still is
-abbrev pub StillHolds : Working → Working → Type 0
+abbrev pub StillHolds : WorkerView → WorkerView → Type 0
 StillHolds w w' = (s : ℕ) × (r : Request) × (w.held ≡ Some (s, r)) × (w' ≡ record w { out = flushed w.out })
 
 -- a request was taken that can't be carried out, and is held from now on
-abbrev pub Holds : Working → Working → Type 0
-Holds w w' = (s : ℕ) × (r : Request) × (w.held ≡ None) × Took w.receiver (Item s r) w'.receiver × IsUnfit s r w.manager.room × (w' ≡ record w { receiver = w'.receiver; out = flushed w.out; held = Some (s, r) })
+abbrev pub Holds : WorkerView → WorkerView → Type 0
+Holds w w' =
+    (s : ℕ) × (r : Request) × (w.held ≡ None) × Took w.receiver (Item s r) w'.receiver × IsUnfit s r w.manager.room
+    × (w' ≡ record w { receiver = w'.receiver; out = flushed w.out; held = Some (s, r) })
 
 -- what each answer of a step says
-abbrev pub Stepped : Working → Step → Working → Type 0
+abbrev pub Stepped : WorkerView → Step → WorkerView → Type 0
 Stepped w Did w' = EntersOne w w' × (w.manager.tables.shut ≡ false)
 Stepped w Late w' = EntersOne w w' × (w.manager.tables.shut ≡ true)
 Stepped w EndSeen w' = SeesEnd w w'

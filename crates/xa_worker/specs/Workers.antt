@@ -23,8 +23,9 @@ first_tables (p ∷ rest) = p.1.tables
 abbrev pub Asking : Type 0
 Asking = Receiving Request
 
--- a worker: its manager's number, the tables that the manager was given with, the manager, the lane of requests, the lanes of completions, the journal, and a request that was taken and can't be carried out, with its sender's number
-pub record Working : Type 0 where
+-- a worker: its manager's number, the tables that the manager was given with, the manager, the lane of requests, the
+-- lanes of completions, the journal, and a request that was taken and can't be carried out, with its sender's number
+pub record WorkerView : Type 0 where
   pub number : ℕ
   pub first : Tables
   pub manager : Managed
@@ -60,10 +61,11 @@ IsHeldUnfit None room = Unit {0}
 IsHeldUnfit (Some p) room = IsUnfit p.0 p.1 room
 
 -- what holds of every worker
-pub record IsTied (w : Working) : Type 0 where
+pub record IsTied (w : WorkerView) : Type 0 where
   -- from the tables at first on the journal has the codes of its places, and the manager the tables after it
   pub follows : Follows w.first w.journal w.manager.tables
-  -- the journal's requests, then one that is held, are what was taken, in that order, and each in the journal is of its sender's thread
+  -- the journal's requests, then one that is held, are what was taken, in that order, and each in the journal is of its
+  -- sender's thread
   pub taken : asked w.receiver.taken ≡ map of_own_thread w.journal ++ in_hand w.held
   -- what was sent to thread k + 1, then a completion that waits for its lane, is what the journal owes it
   pub sent : (k : ℕ) → put_to k w.out ≡ owed w.number (k + 1) w.journal
@@ -74,7 +76,7 @@ pub record IsTied (w : Working) : Type 0 where
   pub lanes : length w.out.senders ≡ w.manager.threads
 
 -- the number, the tables at first, the threads and the lanes stay
-pub record SameWorker (w w' : Working) : Type 0 where
+pub record SameWorker (w w' : WorkerView) : Type 0 where
   pub number : w'.number ≡ w.number
   pub first : w'.first ≡ w.first
   pub threads : w'.manager.threads ≡ w.manager.threads
@@ -86,11 +88,20 @@ abbrev pub Extends : List Entry → List Entry → Type 0
 Extends journal journal' = (more : List Entry) × (journal' ≡ journal ++ more)
 
 -- each thread's end was taken, and nothing is held
-pub record IsFinished (w : Working) : Type 0 where
+pub record IsFinished (w : WorkerView) : Type 0 where
   pub held : w.held ≡ None
   pub waiting : w.out.waiting ≡ None
   pub ended : (s : ℕ) → s < w.manager.threads → has_ended s w.receiver.taken ≡ true
 
 -- a worker that has taken and sent nothing
-abbrev pub new_worker : ℕ → Managed → Asking → List Answering → Working
-new_worker number manager receiver senders = record { number = number; first = manager.tables; manager = manager; receiver = receiver; out = record { senders = senders; waiting = None }; journal = []; held = None }
+abbrev pub new_worker : ℕ → Managed → Asking → List Answering → WorkerView
+new_worker number manager receiver senders =
+    record {
+      number = number;
+      first = manager.tables;
+      manager = manager;
+      receiver = receiver;
+      out = record { senders = senders; waiting = None };
+      journal = [];
+      held = None;
+    }

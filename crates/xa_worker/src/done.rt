@@ -5,6 +5,7 @@ ghost use Rattle.xa_worker.specs.Workers.{first_tables};
 
 use http_server::Log;
 use std::marker::Model;
+use xa_base::MOST_THREADS;
 use xa_lane::{Ended, Receiver};
 use xa_tables::Manager;
 use xa_words::{Code, Completion, Request};
@@ -59,7 +60,7 @@ impl DoneWorker {
         journal: Vec<(Request, Code)>,
     ) -> DoneWorker
         requires served { IsServed (served number (first_tables given.items) manager receiver ends.items journal.items) }
-        requires few { manager.threads ≤ 8 }
+        requires few { manager.threads ≤ MOST_THREADS }
         ensures { result ≡ served number (first_tables given.items) manager receiver ends.items journal.items }
     {
         DoneWorker {

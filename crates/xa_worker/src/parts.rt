@@ -3,6 +3,7 @@ ghost use Rattle.std.specs.Prelude.{◌≡◌, IfOk};
 
 use std::alloc::{AllocError, Global};
 use std::marker::Model;
+use xa_base::MOST_THREADS;
 use xa_lane::Ended;
 use xa_words::{Code, Completion, Request};
 
@@ -22,10 +23,11 @@ impl Model for WorkerParts {
     ghost Value = { Reserved };
 
     ghost use Rattle.std.specs.Prelude.{◌≡◌, ◌≤◌, [], vec_capacity};
+    ghost use Rattle.xa_base.specs.declared.limits.TheConstants.{MOST_THREADS};
 
     ghost view = { λ p. record { number = p.number; room = p.room } };
 
-    ghost invariant = { λ p. (p.journal.items ≡ []) × (p.room ≤ vec_capacity p.journal) × (p.ends.items ≡ []) × (8 ≤ vec_capacity p.ends) };
+    ghost invariant = { λ p. (p.journal.items ≡ []) × (p.room ≤ vec_capacity p.journal) × (p.ends.items ≡ []) × (MOST_THREADS ≤ vec_capacity p.ends) };
 }
 
 impl WorkerParts {
@@ -36,7 +38,7 @@ impl WorkerParts {
         ensures room { IfOk result (λ p. p.room ≡ room) }
     {
         let journal = Vec::with_capacity(alloc, room as usize)?;
-        let ends = Vec::with_capacity(alloc, 8)?;
+        let ends = Vec::with_capacity(alloc, MOST_THREADS)?;
         Ok(WorkerParts {
             number,
             room,

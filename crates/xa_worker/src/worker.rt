@@ -16,6 +16,7 @@ use crossbeam_utils::Backoff;
 use http_server::Log;
 use std::marker::Model;
 use std::sync::Wait;
+use xa_base::MOST_THREADS;
 use xa_lane::{Ended, Receiver, Sender, Taken};
 use xa_tables::Manager;
 use xa_words::{Code, Completion, Request};
@@ -33,7 +34,7 @@ pub struct Worker {
     out: Outbox,
     journal: Vec<(Request, Code)>,
     // Which threads' end marks were taken.
-    ended: [bool; 8],
+    ended: [bool; MOST_THREADS],
     // A request that was taken and can't be carried out, with its sender.
     held: Option<(usize, Request)>,
     // Reserved for the ends of the lanes of completions.
@@ -43,9 +44,9 @@ pub struct Worker {
 impl Model for Worker {
     ghost use Rattle.std.specs.Coded.{codes};
     ghost use Rattle.xa_tables.specs.Managers.{tables_code, managed_code};
-    ghost use Rattle.xa_worker.specs.Workers.{Working};
+    ghost use Rattle.xa_worker.specs.Workers.{WorkerView};
 
-    ghost Value = { Working };
+    ghost Value = { WorkerView };
 
     ghost coded = { Prim.hlevel (codes, tables_code, managed_code) };
 
@@ -57,8 +58,8 @@ impl Model for Worker {
 }
 
 // Whether the end marks of so many threads were all taken.
-fn are_all(ended: &[bool; 8], threads: usize) -> bool
-    requires { threads ≤ 8 }
+fn are_all(ended: &[bool; MOST_THREADS], threads: usize) -> bool
+    requires { threads ≤ MOST_THREADS }
     ensures { IsTrue result ↔ AreSet threads ended.now }
 {
     for thread in 0..threads {
@@ -82,7 +83,7 @@ impl Worker {
         senders: Vec<Sender<Completion>>,
     ) -> Worker
         requires room { manager.room ≡ parts.room }
-        requires threads { manager.threads ≤ 8 }
+        requires threads { manager.threads ≤ MOST_THREADS }
         requires requests { receiver.senders ≡ manager.threads }
         requires lanes { length senders.items ≡ manager.threads }
         requires taken { receiver.taken ≡ [] }
@@ -103,7 +104,7 @@ impl Worker {
             receiver,
             out: Outbox::new(senders),
             journal,
-            ended: [false; 8],
+            ended: [false; MOST_THREADS],
             held: None,
             ends,
         }

@@ -4,6 +4,7 @@ ghost use Rattle.std.specs.Prelude.{◌≡◌, ◌≤◌, [], length, All, IfSom
 use crate::{Worker, WorkerParts};
 use std::alloc::Global;
 use std::sync::Wait;
+use xa_base::MOST_JOURNALED;
 use xa_lane::{LaneName, Receiver, Sender, open_lane};
 use xa_tables::Manager;
 use xa_words::{Completion, Key, Request};
@@ -64,7 +65,7 @@ pub(super) fn opened<R: Wait>(
     places: usize,
 ) -> Option<(Worker, Vec<Sender<Request>>, Vec<Receiver<Completion>>)>
     requires threads { (1 ≤ threads) × (threads ≤ 8) }
-    requires room { (1 ≤ room) × (room ≤ 32768) }
+    requires room { (1 ≤ room) × (room ≤ MOST_JOURNALED) }
 {
     let Ok(manager) = Manager::new(alloc, accounts, threads, room) else {
         return None;

@@ -6,7 +6,7 @@ use Rattle.xa_base.specs.Lists.{Chain}
 use Rattle.xa_base.specs.Lists.Chain.{none, more}
 use Rattle.xa_crew.specs.Ending.{Telling, EndsNumber}
 use Rattle.xa_base.proofs.Lists.{range_more}
-use Rattle.xa_crew.proofs.Keeping.{number_freed, number_leaves}
+use Rattle.xa_crew.proofs.Kept.{number_freed, number_leaves}
 use Rattle.xa_crew.proofs.ending.end_numbers.Goals as goal
 
 pub loop-before-init : goal.loop-before-init

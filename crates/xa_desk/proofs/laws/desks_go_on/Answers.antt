@@ -1,4 +1,4 @@
-use Rattle.xa_desk.proofs.Going.{goes_same, goes_further}
+use Rattle.xa_desk.proofs.GoesOn.{goes_same, goes_further}
 use Rattle.xa_desk.proofs.laws.desks_go_on.Goals as goal
 
 pub returns-clause-same : goal.returns-clause-same

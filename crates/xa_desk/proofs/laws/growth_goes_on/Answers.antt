@@ -1,5 +1,5 @@
 use Rattle.std.proofs.Common.{refl}
-use Rattle.xa_desk.proofs.Growing.{same_lists, growing_on}
+use Rattle.xa_desk.proofs.Growth.{same_lists, growing_on}
 use Rattle.xa_desk.proofs.laws.growth_goes_on.Goals as goal
 
 pub returns-clause-same : goal.returns-clause-same

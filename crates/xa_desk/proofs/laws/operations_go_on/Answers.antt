@@ -1,4 +1,4 @@
-use Rattle.xa_desk.proofs.Going.{goes_sent, goes_fulls, goes_looking, goes_quiet, goes_collecting, goes_collecting_kept, goes_collecting_least}
+use Rattle.xa_desk.proofs.GoesOn.{goes_sent, goes_fulls, goes_looking, goes_quiet, goes_collecting, goes_collecting_kept, goes_collecting_least}
 use Rattle.xa_desk.proofs.laws.operations_go_on.Goals as goal
 
 pub returns-clause-sending : goal.returns-clause-sending

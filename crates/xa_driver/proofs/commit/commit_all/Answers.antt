@@ -7,7 +7,7 @@ use Rattle.xa_words.specs.Tran.{TranName, tran_of}
 use Rattle.std.specs.Prelude.{Bool}
 use Rattle.xa_driver.specs.Log.{LogState}
 use Rattle.xa_driver.specs.Rounds.{first_ask, code_of, second_ask, ending_of_ask}
-use Rattle.xa_driver.specs.Trace.{Logs, commits}
+use Rattle.xa_driver.specs.Trace.{Logs, decision_of}
 use Rattle.xa_driver.proofs.Asking.{keeps_chain}
 use Rattle.xa_driver.proofs.Calls.{first_rising, first_can, second_rising, second_can, call_is, yes_asked, seam}
 use Rattle.xa_driver.proofs.Kept.{commit_keeps}
@@ -55,7 +55,7 @@ returns-clause-call g c t all =
     let lent : c.deref-3.result.now ≡ map code_of ks = c.deref-3.ensures.value ∙ votes in
     let b : Branch = c.index-branches-0.result in
     let yes_lent : c.deref-2.result.now ≡ ks = c.deref-2.ensures.value ∙ seam c.in_ok-asks.asks.len ks _ (omega arith) in
-    let decision : commit ≡ commits (map code_of ks) logged = c.decide-commit.ensures.decision ∙ ap (λ vs. commits vs logged) lent in
+    let decision : commit ≡ decision_of (map code_of ks) logged = c.decide-commit.ensures.decision ∙ ap (λ vs. decision_of vs logged) lent in
     let old_log : LogState = g.L.DecisionLog.state c.args.log.now in
     let new_log : LogState = g.L.DecisionLog.state c.decide-commit.new.log in
     let yes_list : c.yes_of.result ≡ yes_asked ks = c.yes_of.ensures ∙ ap yes_asked yes_lent in

@@ -2,13 +2,14 @@ use Rattle.std.proofs.Common.{◌≡◌, ◌≤◌, ◌++◌, List, vec_capacity
 use Rattle.crossbeam_queue.specs.Passes.{view, IsPassOf}
 use Rattle.xa_lane.specs.declared.parcel.Parcel.{Parcel}
 use Rattle.xa_lane.specs.declared.order.View.TheVariants.{Receives}
-use Rattle.xa_lane.specs.Order.{most, made_in, taken_in, told_in}
+use Rattle.xa_base.specs.declared.limits.TheConstants.{MOST_QUEUED}
+use Rattle.xa_lane.specs.Order.{made_in, taken_in, told_in}
 use Rattle.xa_lane.specs.Closing.{items_in}
 use Rattle.xa_lane.proofs.closing.drain.Given as goal
 
 abbrev pub invariant-loop : goal.invariant-loop
 invariant-loop g l = record {
   of_line : IsPassOf l.line l.pass;
-  room : most ≤ vec_capacity l.left;
+  room : MOST_QUEUED ≤ vec_capacity l.left;
   claim : (held : List (Parcel g.row.T.Denot)) × (view l.pass ≡ Receives (made_in (view l.fn.pass)) (taken_in (view l.fn.pass) ++ held) (told_in (view l.fn.pass))) × (l.left.items ≡ items_in held);
 }

@@ -2,7 +2,7 @@ use Rattle.std.proofs.Common.{◌≡◌, false, ◌++◌, ◌∷◌, [], List, s
 use Rattle.std.specs.List.{flat_map}
 use Rattle.std.specs.Vec.Iter.{into_iter_items}
 use Rattle.std.proofs.lemmas.List.Elements.{All-push}
-use Rattle.xa_crew.specs.declared.attending.Attended.{Attended}
+use Rattle.xa_crew.specs.declared.client_job.Attended.{Attended}
 use Rattle.xa_session.specs.declared.script_thread.ScriptThread.{ScriptThread}
 use Rattle.xa_script.specs.InThreads.{told_by}
 use Rattle.xa_script.proofs.in_threads.answers_of.Goals as goal

@@ -9,7 +9,7 @@ use Rattle.xa_session.specs.declared.script_thread.ScriptThread.{ScriptThread}
 use Rattle.xa_session.specs.ScriptThreads.{Works}
 use Rattle.xa_transcript.specs.Planning.{AreOpened}
 use Rattle.xa_script.specs.InThreads.{InThreads}
-use Rattle.xa_script.proofs.Becoming.{threads_ran}
+use Rattle.xa_script.proofs.Runs.{threads_ran}
 use Rattle.xa_script.proofs.Members.{members_worked, members_tell, as_many_new}
 use Rattle.xa_script.proofs.in_threads.run.Goals as goal
 

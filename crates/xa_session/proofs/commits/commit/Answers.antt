@@ -3,7 +3,7 @@ use Rattle.xa_driver.specs.declared.branch.Branch.{Branch}
 use Rattle.xa_driver.specs.Trace.{MayCommit, IsTraceOfCommit, IsTranOf}
 use Rattle.xa_grammar.specs.declared.script.CommitAll.{CommitAll}
 use Rattle.xa_session.specs.Committing.{named, branch_at, branches_of}
-use Rattle.xa_session.specs.Committing.Commits.{decided}
+use Rattle.xa_session.specs.Committing.CommitsAll.{decided}
 use Rattle.xa_session.proofs.commits.commit.Goals as goal
 
 -- all branches of a commit are of its transaction

@@ -1,4 +1,4 @@
-use Rattle.xa_switch.proofs.Keeping.{calls_keep}
+use Rattle.xa_switch.proofs.Kept.{calls_keep}
 use Rattle.xa_switch.proofs.calls.xa_call.Goals as goal
 
 pub returns-clause-kept : goal.returns-clause-kept

@@ -4,7 +4,8 @@ use Rattle.std.specs.Vec.Iter.{into_iter_items}
 use Rattle.std.proofs.lemmas.List.{length-set}
 use Rattle.std.proofs.lemmas.List.Elements.{All-push}
 use Rattle.xa_switch.specs.Closing.{column, IsClosable, IsClosed}
-use Rattle.xa_switch.proofs.Gathering.{all_mid, pairs_mid, column_kept, column_at}
+use Rattle.xa_base.proofs.Lists.{all_mid}
+use Rattle.xa_switch.proofs.Gathering.{pairs_mid, column_kept, column_at}
 use Rattle.xa_switch.proofs.closing.close_lanes.Goals as goal
 
 pub index_mut-column-requires : goal.index_mut-column-requires

@@ -1,4 +1,4 @@
-use Rattle.xa_switch.proofs.Keeping.{by_keep}
+use Rattle.xa_switch.proofs.Kept.{by_keep}
 use Rattle.xa_switch.proofs.completing.xa_complete.Goals as goal
 
 pub returns-clause-kept : goal.returns-clause-kept

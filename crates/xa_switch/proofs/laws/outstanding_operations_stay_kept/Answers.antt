@@ -1,4 +1,4 @@
-use Rattle.xa_switch.proofs.Keeping.{opened_kept, redeemed_keep, none_left}
+use Rattle.xa_switch.proofs.Kept.{opened_kept, redeemed_keep, none_left}
 use Rattle.xa_switch.proofs.laws.outstanding_operations_stay_kept.Goals as goal
 
 pub returns-clause-collected : goal.returns-clause-collected

@@ -1,4 +1,4 @@
-use Rattle.xa_transcript.proofs.Pieces.{of_script, tells}
+use Rattle.xa_transcript.proofs.Told.{of_script, tells}
 use Rattle.xa_transcript.proofs.laws.runs_tell_of_their_journals.Goals as goal
 
 pub returns-clause-managers : goal.returns-clause-managers

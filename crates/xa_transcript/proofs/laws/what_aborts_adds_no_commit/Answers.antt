@@ -1,4 +1,4 @@
-use Rattle.xa_transcript.proofs.InJournals.{aborts_commit_none}
+use Rattle.xa_transcript.proofs.Shown.{aborts_commit_none}
 use Rattle.xa_transcript.proofs.laws.what_aborts_adds_no_commit.Goals as goal
 
 pub returns : goal.returns

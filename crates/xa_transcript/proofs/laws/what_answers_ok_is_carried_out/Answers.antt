@@ -1,4 +1,4 @@
-use Rattle.xa_transcript.proofs.InJournals.{all_carried_out}
+use Rattle.xa_transcript.proofs.Shown.{all_carried_out}
 use Rattle.xa_transcript.proofs.laws.what_answers_ok_is_carried_out.Goals as goal
 
 pub returns : goal.returns

@@ -1,4 +1,4 @@
-use Rattle.xa_transcript.proofs.InJournals.{all_prepared}
+use Rattle.xa_transcript.proofs.Shown.{all_prepared}
 use Rattle.xa_transcript.proofs.laws.what_commits_was_prepared.Goals as goal
 
 pub returns : goal.returns

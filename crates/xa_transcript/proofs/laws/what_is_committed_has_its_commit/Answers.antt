@@ -1,4 +1,4 @@
-use Rattle.xa_transcript.proofs.InJournals.{all_committed}
+use Rattle.xa_transcript.proofs.Shown.{all_committed}
 use Rattle.xa_transcript.proofs.laws.what_is_committed_has_its_commit.Goals as goal
 
 pub returns : goal.returns

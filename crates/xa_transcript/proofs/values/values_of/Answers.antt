@@ -10,7 +10,7 @@ use Rattle.xa_grammar.specs.declared.script.Declared.{Declared}
 use Rattle.xa_grammar.specs.Content.{IsOfManager}
 use Rattle.xa_transcript.specs.Values.{name_of, IsWorth}
 use Rattle.xa_base.proofs.Lists.{one_more}
-use Rattle.xa_transcript.proofs.ValueLemmas.{told, settled_value}
+use Rattle.xa_transcript.proofs.Worth.{told, settled_value}
 use Rattle.xa_transcript.proofs.values.values_of.Goals as goal
 
 pub unwrap-value-requires : goal.unwrap-value-requires

@@ -2,7 +2,7 @@ use Rattle.std.proofs.Common.{◌++◌, ◌∷◌, [], length, sym, ap, ◌∙�
 use Rattle.std.specs.Vec.Iter.{into_iter_items}
 use Rattle.xa_base.specs.Lists.{Pairwise}
 use Rattle.xa_base.proofs.Lists.{push_side, none_of}
-use Rattle.xa_crew.proofs.Bringing.{Brings, all_done}
+use Rattle.xa_crew.proofs.Joined.{Brings, all_done}
 use Rattle.xa_crew.proofs.hands.Hands.join.Goals as goal
 
 pub loop-hand-preserved-in-Some-join : goal.loop-hand-preserved-in-Some-join

@@ -1,7 +1,7 @@
 use Rattle.std.proofs.Common.{◌≡◌, ◌≤◌, ◌++◌, true, length, vec_capacity}
 use Rattle.std.specs.Vec.Iter.{into_iter_items, into_iter_len}
 use Rattle.xa_base.specs.Lists.{Pairwise}
-use Rattle.xa_crew.proofs.Bringing.{Brings}
+use Rattle.xa_crew.proofs.Joined.{Brings}
 use Rattle.xa_crew.proofs.hands.Hands.join.Given as goal
 
 -- the first threads have ended, and each has done its job, unless one has not

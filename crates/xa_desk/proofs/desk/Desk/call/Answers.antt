@@ -2,7 +2,7 @@ use Rattle.std.proofs.Common.{◌≡◌, None, sym, subst, arith}
 use Rattle.xa_desk.specs.DeskView.{call_refusal}
 use Rattle.xa_desk.proofs.Desks.{call_known, called_desk}
 use Rattle.xa_desk.proofs.Looks.{collects_stays}
-use Rattle.xa_desk.proofs.Going.{goes_called}
+use Rattle.xa_desk.proofs.GoesOn.{goes_called}
 use Rattle.xa_desk.proofs.Tickets.{called_leaves, leaves_seen}
 use Rattle.xa_desk.proofs.desk.Desk.call.Goals as goal
 

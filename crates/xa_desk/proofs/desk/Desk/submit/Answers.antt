@@ -1,7 +1,7 @@
 use Rattle.std.proofs.Common.{◌≡◌, None, sym, subst}
 use Rattle.xa_desk.specs.DeskView.{submit_refusal}
 use Rattle.xa_desk.proofs.Desks.{full_desk, submitted_desk}
-use Rattle.xa_desk.proofs.Going.{goes_submitted, goes_fuller}
+use Rattle.xa_desk.proofs.GoesOn.{goes_submitted, goes_fuller}
 use Rattle.xa_desk.proofs.desk.Desk.submit.Goals as goal
 
 pub invariant_of-self : goal.invariant_of-self

@@ -2,9 +2,9 @@ use Rattle.std.proofs.Common.{length, take, sym, ap, ◌∙◌, subst, refl, ari
 use Rattle.std.proofs.lemmas.List.{length-append, take_all}
 use Rattle.xa_grammar.specs.Content.{Fits}
 use Rattle.xa_base.specs.Lists.Chain.{none, more}
-use Rattle.xa_script.specs.InTurns.{Course, HasRun, course_of}
+use Rattle.xa_script.specs.InTurns.{Course, HasMadeSteps, course_of}
 use Rattle.xa_base.proofs.Lists.{one_more}
-use Rattle.xa_script.proofs.Going.{steps_go, steps_count}
+use Rattle.xa_script.proofs.WorkersOn.{steps_go, steps_count}
 use Rattle.xa_script.proofs.in_turns.Runner.run.Goals as goal
 
 pub loop-step-init : goal.loop-step-init
@@ -27,7 +27,7 @@ loop-step-preserved g c =
     let new : Course = course_of c.step.new.self.sessions.items c.step.new.self.turns.workers.items c.push_reserved.new.self.items in
     let first : Course = course_of c.args.self.now.sessions.items c.args.self.now.turns.workers.items c.args.answers.now.items in
     record {
-      runs = subst (λ l. HasRun first l new) (sym (one_more c.args.steps.now n p c.loop-step-test.true c.step-item.is)) (more (take n c.args.steps.now) p old new i.runs (record { answer = a; steps = c.in_ok-answer.ensures; told = c.push_reserved.ensures.items }));
+      runs = subst (λ l. HasMadeSteps first l new) (sym (one_more c.args.steps.now n p c.loop-step-test.true c.step-item.is)) (more (take n c.args.steps.now) p old new i.runs (record { answer = a; steps = c.in_ok-answer.ensures; told = c.push_reserved.ensures.items }));
       threads = steps_count p old.stage new.stage a c.in_ok-answer.ensures ∙ i.threads;
       managers = (steps_go p old.stage new.stage a c.in_ok-answer.ensures).as_many ∙ i.managers;
       few = let few = i.few in let size = ap (λ l. length l) c.push_reserved.ensures.items in omega (arith, few, size, length-append c.loop-step.answers.items (a ∷ []));
@@ -38,4 +38,4 @@ pub returns-clause-runs : goal.returns-clause-runs
 returns-clause-runs g c =
     let first : Course = course_of c.args.self.now.sessions.items c.args.self.now.turns.workers.items c.args.answers.now.items in
     let last : Course = course_of c.loop-step.self.sessions.items c.loop-step.self.turns.workers.items c.loop-step.answers.items in
-    subst (λ l. HasRun first l last) (take_all c.loop-step.step-index c.args.steps.now (omega arith)) c.loop-step.invariant.runs
+    subst (λ l. HasMadeSteps first l last) (take_all c.loop-step.step-index c.args.steps.now (omega arith)) c.loop-step.invariant.runs

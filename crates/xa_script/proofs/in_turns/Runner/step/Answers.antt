@@ -2,11 +2,12 @@ use Rattle.std.proofs.Common.{◌≡◌, ◌-◌, ◌<◌, ℕ, length, slice_se
 use Rattle.std.specs.declared.alloc.AllocError.{AllocError}
 use Rattle.std.specs.Prelude.{slice_get}
 use Rattle.std.proofs.lemmas.Option.{slice_get-get_or}
-use Rattle.xa_worker.specs.Workers.{Working}
+use Rattle.xa_worker.specs.Workers.{WorkerView}
 use Rattle.xa_grammar.specs.declared.script.Step.{Step}
 use Rattle.xa_grammar.specs.declared.script.Step.TheVariants as step
 use Rattle.xa_grammar.specs.declared.script.Task.{Task}
-use Rattle.xa_grammar.specs.Content.{Fits, IsUpTo, thread_of}
+use Rattle.xa_base.specs.Lists.{IsUpTo}
+use Rattle.xa_grammar.specs.Content.{Fits, thread_of}
 use Rattle.xa_session.specs.declared.session.Session.{Session}
 use Rattle.xa_session.specs.declared.answer.Answer.{Answer}
 use Rattle.xa_session.specs.declared.answer.Answer.TheVariants.{Turned}
@@ -16,7 +17,7 @@ use Rattle.xa_script.specs.InTurns.{Stage, Steps, stage_of}
 use Rattle.xa_script.proofs.in_turns.Runner.step.Goals as goal
 
 -- the thread has done its task, unless memory ran out
-done : (p : Task) (sessions : List Session) (workers workers' : List Working) (before after : Session) (answered : Result Answer AllocError)
+done : (p : Task) (sessions : List Session) (workers workers' : List WorkerView) (before after : Session) (answered : Result Answer AllocError)
     → slice_get sessions (thread_of p - 1) ≡ Some before → AllGoOn workers workers' → IfOk answered (Does p before after)
     → IfOk answered (Steps (step.Task p) (stage_of sessions workers) (stage_of (slice_set sessions (thread_of p - 1) after) workers'))
 done p sessions workers workers' before after (Ok a) at turns does = record { before = before; after = after; at = at; does = does; rest = refl; turns = turns }

@@ -1,8 +1,8 @@
 use Rattle.std.proofs.Common.{◌≡◌, ◌<◌, length, slice_set, slice_get, Some, sym, ap, ◌∙◌, arith}
 use Rattle.std.proofs.lemmas.Option.{slice_get-get_or}
-use Rattle.xa_worker.specs.Workers.{Working}
+use Rattle.xa_worker.specs.Workers.{WorkerView}
 use Rattle.xa_script.specs.Turning.{all_stay, all_go_on}
-use Rattle.xa_script.proofs.Going.{step_goes, one_goes_on, none_turned, one_more_turned, all_turned}
+use Rattle.xa_script.proofs.WorkersOn.{step_goes, one_goes_on, none_turned, one_more_turned, all_turned}
 use Rattle.xa_script.proofs.turns.Turns.turn_all.Goals as goal
 
 pub loop-place-init : goal.loop-place-init
@@ -17,7 +17,7 @@ loop-place-preserved g c =
     let after = c.step.new.self in
     let many = c.loop-place.invariant.turned.as_many in
     let inside : i < length ws = omega (arith, many) in
-    let at : slice_get ws i ≡ Some before = slice_get-get_or ws i before inside ∙ ap (λ (w : Working). Some w) (sym c.index_mut.ensures.value) in
+    let at : slice_get ws i ≡ Some before = slice_get-get_or ws i before inside ∙ ap (λ (w : WorkerView). Some w) (sym c.index_mut.ensures.value) in
     record {
       turned = one_more_turned i old ws before after c.loop-place.invariant.turned at (c.step.result, c.step.ensures.step);
       on = all_go_on old ws (slice_set ws i after) c.loop-place.invariant.on (one_goes_on ws i before after at (step_goes before c.step.result after c.step.ensures.step c.step.ensures.same c.step.ensures.seat c.step.ensures.tied));

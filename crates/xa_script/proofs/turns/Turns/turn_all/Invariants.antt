@@ -1,5 +1,5 @@
 use Rattle.xa_script.specs.Turns.{TurnsOn}
-use Rattle.xa_script.proofs.Going.{HaveTurned}
+use Rattle.xa_script.proofs.WorkersOn.{HaveTurned}
 use Rattle.xa_script.proofs.turns.Turns.turn_all.Given as goal
 
 -- the workers so far had a turn each, and all have gone on

@@ -7,8 +7,8 @@ use Rattle.std.proofs.lemmas.List.{take_all}
 use Rattle.xa_words.specs.Orders.{key_cmp}
 use Rattle.xa_tables.specs.declared.accounts.Account.{Account}
 use Rattle.xa_tables.specs.Tables.{touch_cmp}
-use Rattle.xa_tables.specs.Accounts.{account_of, hold_entries, value_entries, AreDistinct, AreIndexed, IsGood}
-use Rattle.xa_tables.proofs.PlaceLemmas.{indexed_push, values_declared, holds_declared, distinct_declared, good_declared, limit_declared, declared_more, length_declared}
+use Rattle.xa_tables.specs.Accounts.{hold_entries, value_entries, AreDistinct, AreIndexed, IsGood}
+use Rattle.xa_tables.proofs.PlaceLemmas.{account_of, indexed_push, values_declared, holds_declared, distinct_declared, good_declared, limit_declared, declared_more, length_declared}
 use Rattle.xa_tables.proofs.accounts.Accounts.new.Goals as goal
 
 pub loop-place-init : goal.loop-place-init

@@ -1,0 +1,15 @@
+//! A bank over the switch: each resource manager is a store of accounts, and tellers, one for each thread of
+//! control, move money between stores, each transfer as one global transaction.
+//!
+//! It shows how a program uses the library. A teller is the client of a crew (teller.rt): it keeps requests to both
+//! stores in flight, and commits both branches with `commit_all`. `run_day` (day.rt) runs the tellers over a plan, and
+//! ensures that what they sent, what the stores carried out and what was collected agree, and that it is of the plan.
+#![tactic(auto)]
+
+mod day;
+mod teller;
+#[cfg(test)]
+mod tests;
+
+pub use day::{Day, run_day};
+pub use teller::{Outcome, Teller, Transfer};

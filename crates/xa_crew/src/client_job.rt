@@ -1,0 +1,104 @@
+//! A client's thread.
+ghost use Rattle.std.specs.Prelude.{◌≡◌, length, map, All, IfOk};
+ghost use Rattle.xa_desk.specs.Kept.{AllKept};
+ghost use Rattle.xa_crew.specs.Run.{IsReady};
+
+use crate::client::Client;
+use crate::ending::end_desk;
+use crate::job::Job;
+use std::alloc::{AllocError, Global};
+use std::sync::Wait;
+use xa_base::MOST_HANDLES;
+use xa_desk::{Desk, EndedDesk, Spin};
+use xa_words::Code;
+
+/// A client that has worked.
+#[derive(Drop)]
+pub struct Attended<C> {
+    /// The client as its work left it.
+    pub client: C,
+    /// What was outstanding after its work, by rising handle: the number of each handle, from 1 to 32, with
+    /// the code of its operation.
+    pub outstanding: Vec<(u32, Code)>,
+}
+
+/// A client with its desk, and room to tell what will be outstanding.
+#[derive(Drop)]
+pub(crate) struct ClientJob<C> {
+    client: C,
+    desk: Desk,
+    outstanding: Vec<(u32, Code)>,
+}
+
+/// A client that has worked, and its desk that has ended.
+#[derive(Drop)]
+pub(crate) struct Worked<C> {
+    pub(crate) attended: Attended<C>,
+    pub(crate) desk: EndedDesk,
+}
+
+impl<C: Client> Job<Worked<C>> for ClientJob<C> {
+    ghost use Rattle.xa_crew.specs.Run.{IsReady, HasRun, member_of};
+
+    ghost can_run = { λ a. IsReady a };
+
+    ghost comes_to = { λ a w. HasRun C.works (member_of a w) };
+
+    fn run<R: Wait>(self, rt: &R) -> Worked<C> {
+        let ClientJob {
+            mut client,
+            mut desk,
+            mut outstanding,
+        } = self;
+        client.work(rt, &mut desk);
+        let desk = end_desk(rt, desk, &mut Spin::new(), &mut outstanding);
+        Worked {
+            attended: Attended {
+                client,
+                outstanding,
+            },
+            desk,
+        }
+    }
+}
+
+// The client with the desk. It has all memory that the end of the desk takes.
+fn client_job_of<C: Client>(
+    alloc: Global,
+    client: C,
+    desk: Desk,
+) -> Result<ClientJob<C>, AllocError>
+    requires { AllKept desk }
+    ensures client { IfOk result (λ a. a.client ≡ client) }
+    ensures desk { IfOk result (λ a. a.desk ≡ desk) }
+    ensures ready { IfOk result IsReady }
+{
+    Ok(ClientJob {
+        client,
+        desk,
+        outstanding: Vec::with_capacity(alloc, MOST_HANDLES)?,
+    })
+}
+
+/// Each client with the desk at its place.
+pub(crate) fn client_jobs_of<C: Client>(
+    alloc: Global,
+    clients: Vec<C>,
+    desks: Vec<Desk>,
+) -> Result<Vec<ClientJob<C>>, AllocError>
+    requires as_many { length desks.items ≡ length clients.items }
+    requires kept { All AllKept desks.items }
+    ensures clients { IfOk result (λ v. map (λ a. a.client) v.items ≡ clients.items) }
+    ensures desks { IfOk result (λ v. map (λ a. a.desk) v.items ≡ desks.items) }
+    ensures ready { IfOk result (λ v. All IsReady v.items) }
+{
+    let mut client_jobs = Vec::new(alloc);
+    let mut desks = desks.into_iter();
+    for client in clients {
+        let Some(desk) = desks.next() else {
+            unreachable!()
+        };
+        client_jobs.push(client_job_of(alloc, client, desk)?)?;
+    }
+    Ok(client_jobs)
+}

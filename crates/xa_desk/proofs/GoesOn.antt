@@ -1,0 +1,213 @@
+-- A desk goes on by its calls.
+use Rattle.std.proofs.Common.{◌≡◌, ℕ, zero, suc, ◌-◌, ◌^◌, ◌≤◌, List, [], ◌∷◌, ◌++◌, length, map, Option, Some, None, IfSome, IsNone, sym, refl, ◌∙◌, subst, arith}
+use Rattle.std.proofs.Math.Nat.{min-le_left, min-le_right, le-min}
+use Rattle.std.proofs.Math.Seq.{map-set_same}
+use Rattle.std.specs.Ordering.{nat_cmp}
+use Rattle.std.specs.FinMap as finmap
+use Rattle.xa_words.specs.declared.code.Code.{Code}
+use Rattle.xa_words.specs.declared.request.Op.{Op}
+use Rattle.xa_words.specs.declared.request.Request.{Request}
+use Rattle.xa_words.specs.declared.request.Completion.{Completion}
+use Rattle.xa_lane.specs.declared.parcel.Taken.{Taken}
+use Rattle.xa_lane.specs.declared.parcel.Taken.TheVariants.{Item, EndOf, Empty}
+use Rattle.xa_lane.specs.Ends.{Sending, Receiving, parcel, at_most_counted, counted}
+use Rattle.xa_lane.specs.Senders.{with_item, with_full, but_full}
+use Rattle.xa_lane.specs.Seats.{EndSeat, end_seat}
+use Rattle.xa_lane.proofs.Senders.{map-at_place, map-alike}
+use Rattle.xa_desk.specs.declared.operation.Operation.{Operation}
+use Rattle.xa_desk.specs.LedgerView.{LedgerView, with_sent, with_collected}
+use Rattle.xa_desk.specs.DeskView.{DeskView, ledger, no_ledger, put_ledger, after_collected}
+use Rattle.xa_desk.specs.Ended.{EndedView, Ends}
+use Rattle.xa_desk.specs.Lanes.{next_request, submitted, after_full, after_fulls}
+use Rattle.xa_desk.specs.Looks.{Drains, first, other, Draws, Pops, start, drawn, Looks, EndsQuiet, Collects, CollectsKept, CollectsLeast, TakesKept}
+use Rattle.xa_desk.specs.Seats.{desk_seat, seat_of_desk}
+use Rattle.xa_base.specs.Lists.{Begins}
+use Rattle.xa_desk.specs.GoesOn.{GoesOn, GoesOut, plan_of, plans}
+use Rattle.xa_base.proofs.Lists.{same_begins, begins_on}
+use Rattle.xa_desk.proofs.Growth.{same_lists, growing_on, sending_grows, collecting_grows}
+
+-- ---- counts of quiet moments
+
+same_count : (n : ℕ) → at_most_counted n ≤ n
+same_count n = min-le_left n (2 ^ 64 - 1)
+
+one_more : (n : ℕ) → at_most_counted n ≤ counted n
+one_more n = le-min (let l = min-le_left n (2 ^ 64 - 1) in omega (arith, l)) (min-le_right n (2 ^ 64 - 1))
+
+counts_on : (a b c : ℕ) → at_most_counted a ≤ b → at_most_counted b ≤ c → at_most_counted a ≤ c
+counts_on a b c p q = let l : at_most_counted a ≤ at_most_counted b = le-min p (min-le_right a (2 ^ 64 - 1)) in omega (arith, l, q)
+
+-- ---- any steps
+
+-- nothing but what is kept may differ
+pub goes_keeping : (d : DeskView) (kept : finmap.FinMap nat_cmp Operation) → GoesOn d (record d { kept = kept })
+goes_keeping d kept = record {
+  seat = refl;
+  handles = refl;
+  plan = refl;
+  lists = same_lists d.ledgers d.ledgers refl;
+  taken = same_begins d.completions.taken;
+  drained = same_begins d.drained;
+  quiet = same_count d.completions.quiet;
+}
+
+pub goes_same : (d : DeskView) → GoesOn d d
+goes_same d = goes_keeping d d.kept
+
+pub goes_nowhere : (old new : DeskView) → new ≡ old → GoesOn old new
+goes_nowhere old new e = subst (GoesOn old) (sym e) (goes_same old)
+
+pub goes_further : (a b c : DeskView) → GoesOn a b → GoesOn b c → GoesOn a c
+goes_further a b c p q = record {
+  seat = q.seat ∙ p.seat;
+  handles = q.handles ∙ p.handles;
+  plan = q.plan ∙ p.plan;
+  lists = growing_on a.ledgers b.ledgers c.ledgers p.lists q.lists;
+  taken = begins_on a.completions.taken b.completions.taken c.completions.taken p.taken q.taken;
+  drained = begins_on a.drained b.drained c.drained p.drained q.drained;
+  quiet = counts_on a.completions.quiet b.completions.quiet c.completions.quiet p.quiet q.quiet;
+}
+
+-- ---- sending
+
+abbrev seat_of : Sending Request → EndSeat
+seat_of s = end_seat s
+
+with_ends : (d : DeskView) (ss : List (Sending Request)) → map end_seat ss ≡ map end_seat d.requests → desk_seat d.thread ss d.completions ≡ seat_of_desk d
+with_ends d ss e = λ i. record { thread = d.thread; ends = e i; lane = d.completions.lane; line = d.completions.line }
+
+-- the ledger that is put has the plan of the one that stood there
+put_plans : (at : List LedgerView) (m : ℕ) (a : LedgerView) → plan_of a ≡ plan_of (ledger at m) → plans (put_ledger at m a) ≡ plans at
+put_plans at m a same = map-set_same plan_of at (m - 1) a no_ledger same
+
+pub goes_sent : (d : DeskView) (m : ℕ) (op : Op) → GoesOn d (submitted d m op)
+goes_sent d m op = record {
+  seat = with_ends d (submitted d m op).requests (map-at_place (with_item (next_request d m op)) seat_of (λ _. refl) (m - 1) d.requests);
+  handles = refl;
+  plan = put_plans d.ledgers m (with_sent (ledger d.ledgers m) op) refl;
+  lists = sending_grows d.ledgers m op;
+  taken = same_begins d.completions.taken;
+  drained = same_begins d.drained;
+  quiet = same_count d.completions.quiet;
+}
+
+pub goes_full : (d : DeskView) (m : ℕ) → GoesOn d (after_full d m)
+goes_full d m = record {
+  seat = with_ends d (after_full d m).requests (map-at_place with_full seat_of (λ _. refl) (m - 1) d.requests);
+  handles = refl;
+  plan = refl;
+  lists = same_lists d.ledgers d.ledgers refl;
+  taken = same_begins d.completions.taken;
+  drained = same_begins d.drained;
+  quiet = same_count d.completions.quiet;
+}
+
+pub goes_submitted : (d d' : DeskView) (m : ℕ) (op : Op) → d' ≡ submitted d m op → GoesOn d d'
+goes_submitted d d' m op e = subst (GoesOn d) (sym e) (goes_sent d m op)
+
+pub goes_fuller : (d d' : DeskView) (m : ℕ) → d' ≡ after_full d m → GoesOn d d'
+goes_fuller d d' m e = subst (GoesOn d) (sym e) (goes_full d m)
+
+pub goes_fulls : (n : ℕ) (d : DeskView) (m : ℕ) → GoesOn d (after_fulls n d m)
+goes_fulls zero d m = goes_same d
+goes_fulls (suc n) d m = goes_further d (after_fulls n d m) (after_fulls (suc n) d m) (goes_fulls n d m) (goes_full (after_fulls n d m) m)
+
+-- ---- looking
+
+-- the lane of completions has moved on, and what was drained
+abbrev moved : DeskView → List Completion → ℕ → Receiving Completion → DeskView
+moved d drained then r = record d { drained = drained; drained_then = then; completions = r }
+
+goes_moved : (d : DeskView) (drained : List Completion) (then : ℕ) (r : Receiving Completion) → r.lane ≡ d.completions.lane → r.line ≡ d.completions.line → Begins d.completions.taken r.taken → Begins d.drained drained
+    → at_most_counted d.completions.quiet ≤ r.quiet → GoesOn d (moved d drained then r)
+goes_moved d drained then r lane line taken more quiet = record {
+  seat = λ i. record { thread = d.thread; ends = map end_seat d.requests; lane = lane i; line = line i };
+  handles = refl;
+  plan = refl;
+  lists = same_lists d.ledgers d.ledgers refl;
+  taken = taken;
+  drained = more;
+  quiet = quiet;
+}
+
+-- a parcel was taken
+goes_taken : (d : DeskView) (drained : List Completion) (x : _) (r : Receiving Completion) → r ≡ record d.completions { taken = d.completions.taken ++ x ∷ [] } → Begins d.drained drained → GoesOn d (moved d drained d.drained_then r)
+goes_taken d drained x r e more = subst (λ r. GoesOn d (moved d drained d.drained_then r)) (sym e)
+    (goes_moved d drained d.drained_then (record d.completions { taken = d.completions.taken ++ x ∷ [] }) refl refl (x ∷ [], refl) more (same_count d.completions.quiet))
+
+goes_drained : (old new : DeskView) (s : ℕ) (c : Completion) (r : Receiving Completion) → r ≡ record old.completions { taken = old.completions.taken ++ parcel s (Some c) ∷ [] } → Drains (record old { completions = r }) c new → GoesOn old new
+goes_drained old new s c r e (first out none is) = subst (GoesOn old) (sym is) (goes_taken old (old.drained ++ c ∷ []) (parcel s (Some c)) r e (c ∷ [], refl))
+goes_drained old new s c r e (other never is) = subst (GoesOn old) (sym is) (goes_taken old old.drained (parcel s (Some c)) r e (same_begins old.drained))
+
+goes_drawn : (old new : DeskView) (a : Taken Completion) → Draws old a new → GoesOn old new
+goes_drawn old new (Item s c) d = goes_drained old new s c new.completions d.0.1 d.1
+goes_drawn old new (EndOf s) d = subst (GoesOn old) (sym d.1) (goes_taken old old.drained (parcel s None) new.completions d.0.1 (same_begins old.drained))
+goes_drawn old new Empty d = subst (GoesOn old) (sym d.1) (subst (λ r. GoesOn old (moved old old.drained (length old.drained) r)) (sym d.0)
+    (goes_moved old old.drained (length old.drained) (record old.completions { quiet = counted old.completions.quiet; taken_then = at_most_counted (length old.completions.taken) }) refl refl (same_begins old.completions.taken) (same_begins old.drained) (one_more old.completions.quiet)))
+
+goes_popped : (old new : DeskView) → Pops old new → GoesOn old new
+goes_popped old new (start _ e) = goes_nowhere old new e
+goes_popped old new (drawn now _ before a d) = goes_further old now new (goes_popped old now before) (goes_drawn now new a d)
+
+pub goes_looking : (old new : DeskView) → Looks old new → GoesOn old new
+goes_looking old new l = goes_popped old new l.pops
+
+pub goes_quiet : (old new : DeskView) → EndsQuiet old new → GoesOn old new
+goes_quiet old new q = goes_further old q.before new (goes_looking old q.before q.looks) (goes_drawn q.before new Empty q.quiet)
+
+-- ---- collecting and keeping
+
+goes_collected : (d : DeskView) (o : Operation) (code : Code) (kept : finmap.FinMap nat_cmp Operation) → GoesOn d (record d { ledgers = after_collected d.ledgers o code; kept = kept })
+goes_collected d o code kept = record {
+  seat = refl;
+  handles = refl;
+  plan = put_plans d.ledgers o.manager (with_collected (ledger d.ledgers o.manager) o.number code) refl;
+  lists = collecting_grows d.ledgers o code;
+  taken = same_begins d.completions.taken;
+  drained = same_begins d.drained;
+  quiet = same_count d.completions.quiet;
+}
+
+pub goes_collecting : (old new : DeskView) (o : Operation) (code : Code) → Collects old new o code → GoesOn old new
+goes_collecting old new o code x = goes_further old x.before new (goes_looking old x.before x.looks) (subst (GoesOn x.before) (sym x.collected) (goes_collected x.before o code x.before.kept))
+
+goes_taking : (old new : DeskView) (k : ℕ) (code : Code) → TakesKept old new k code → GoesOn old new
+goes_taking old new k code t = subst (GoesOn old) (sym t.taken) (goes_collected old t.operation code (finmap.remove old.kept k))
+
+pub goes_collecting_kept : (old new : DeskView) (k : ℕ) (code : Code) → CollectsKept old new k code → GoesOn old new
+goes_collecting_kept old new k code x = goes_further old x.before new (goes_looking old x.before x.looks) (goes_taking x.before new k code x.takes)
+
+pub goes_collecting_least : (old new : DeskView) (m k : ℕ) (code : Code) → CollectsLeast old new m k code → GoesOn old new
+goes_collecting_least old new m k code x = goes_further old x.before new (goes_quiet old x.before x.quiet) (goes_taking x.before new k code x.takes)
+
+-- what a call sent, where lanes may have been full before, was collected
+pub goes_called : (n : ℕ) (old sent new : DeskView) (m : ℕ) (op : Op) (o : Operation) (code : Code) → sent ≡ submitted (after_fulls n old m) m op → Collects sent new o code → GoesOn old new
+goes_called n old sent new m op o code e x =
+    let full : DeskView = after_fulls n old m in
+    goes_further old full new (goes_fulls n old m) (goes_further full sent new (goes_submitted full sent m op e) (goes_collecting sent new o code x))
+
+-- ---- calls that may find nothing
+
+pub goes_trying : (old new : DeskView) (o : Operation) (r : Option Code) → IfSome r (Collects old new o) → (IsNone r → EndsQuiet old new) → GoesOn old new
+goes_trying old new o None some none = goes_quiet old new (none refl)
+goes_trying old new o (Some code) some none = goes_collecting old new o code some
+
+pub goes_trying_kept : (old new : DeskView) (k : ℕ) (r : Option Code) → IfSome r (CollectsKept old new k) → (IsNone r → EndsQuiet old new) → GoesOn old new
+goes_trying_kept old new k None some none = goes_quiet old new (none refl)
+goes_trying_kept old new k (Some code) some none = goes_collecting_kept old new k code some
+
+pub goes_trying_any : (old new : DeskView) (m : ℕ) (r : Option (ℕ × Code)) → IfSome r (λ p. CollectsLeast old new m p.0 p.1) → (IsNone r → EndsQuiet old new) → GoesOn old new
+goes_trying_any old new m None some none = goes_quiet old new (none refl)
+goes_trying_any old new m (Some p) some none = goes_collecting_least old new m p.0 p.1 some
+
+-- ---- ending
+
+pub goes_out : (d : DeskView) (e : EndedView) → Ends d e → GoesOut d e
+goes_out d e h =
+    let ends = map-alike but_full seat_of (λ _. refl) e.requests d.requests h.requests in
+    record {
+      thread = h.thread;
+      seat = λ i. record { thread = h.thread i; ends = ends i; lane = (h.completions i).lane; line = (h.completions i).line };
+      ledgers = h.ledgers;
+      lists = same_lists d.ledgers e.ledgers h.ledgers;
+    }

@@ -1,0 +1,261 @@
+-- What the threads and the managers of a run have come to, in turns and in threads.
+use Rattle.std.proofs.Common.{◌≡◌, ◌≢◌, ℕ, ◌+◌, List, [], length, map, Some, sym, refl, ◌∙◌, ap, subst, arith, ◌++◌, append-nil}
+use Rattle.std.specs.Prelude.{slice_get, option_map, All}
+use Rattle.std.specs.List.{flat_map}
+use Rattle.std.proofs.lemmas.List.{length-map}
+use Rattle.std.proofs.lemmas.List.Elements.{filter-append}
+use Rattle.std.proofs.lemmas.Option.{slice_get-map, slice_get_within}
+use Rattle.xa_desk.specs.DeskView.{DeskView}
+use Rattle.xa_desk.specs.Ended.{EndedView}
+use Rattle.xa_desk.specs.Seats.{DeskSeat}
+use Rattle.xa_worker.specs.Workers.{WorkerView}
+use Rattle.xa_worker.specs.Done.{Served}
+use Rattle.xa_grammar.specs.declared.script.Task.{Task}
+use Rattle.xa_grammar.specs.Content.{Content, tasks_of, Fits, threads_of, managers_of}
+use Rattle.xa_base.specs.Lists.{Chain}
+use Rattle.xa_base.specs.Lists.Chain.{none, more}
+use Rattle.xa_base.proofs.Lists.{through, was_mapped, all_at, flat_one, flat_none, some_same, got}
+use Rattle.xa_crew.specs.Pieces.{HasServed}
+use Rattle.xa_crew.specs.Ending.{EndsDesk}
+use Rattle.xa_crew.specs.Run.{Member}
+use Rattle.xa_session.specs.declared.answer.Answer.{Answer}
+use Rattle.xa_session.specs.declared.session.Session.{Session}
+use Rattle.xa_session.specs.declared.script_thread.ScriptThread.{ScriptThread}
+use Rattle.xa_session.specs.Sessions.{new_session, new_sessions, HasDone}
+use Rattle.xa_transcript.specs.Planning.{AreOpened}
+use Rattle.xa_session.specs.Ended.{all_ended}
+use Rattle.xa_transcript.specs.Journals.{answers_to, ends_of, is_end_of, is_to}
+use Rattle.xa_transcript.specs.Runs.{Comes, Ran}
+use Rattle.xa_transcript.proofs.Opened.{opened_thread}
+use Rattle.xa_transcript.proofs.Tasks.{tasks_are_of}
+use Rattle.xa_script.specs.InThreads.{HasWorked, InThreads}
+use Rattle.xa_script.specs.InTurns.{Course, Closing, InTurns, course_of, closing_of}
+use Rattle.xa_script.specs.Turns.{WorkerGoesOn}
+use Rattle.xa_script.specs.Turning.{extends_both, all_go_on}
+use Rattle.xa_script.proofs.WorkersOn.{run_goes, ends_go, run_count}
+use Rattle.xa_script.proofs.EachThread.{Went, run_went, run_silent, Ending, ended_by, Closes, closes, ended_tell}
+use Rattle.xa_script.proofs.EachThread.{ends_silent, told_all, told_none, told}
+use Rattle.xa_script.proofs.Ends.{ends_all, ends_other, tasks_no_end, steps_no_end}
+
+-- ---- a thread's number
+
+tasks_thread : (first : Session × List Answer) (tasks : List Task) (last : Session × List Answer) → Chain HasDone first tasks last → last.0.desk.thread ≡ first.0.desk.thread
+tasks_thread first tasks last (none xs l e f) = ap (λ (x : Session × List Answer). x.0.desk.thread) f
+tasks_thread first tasks last (more xs x now l before is) = ap (λ (p : DeskSeat). p.thread) is.does.goes_on.seat ∙ tasks_thread first xs now before
+
+-- ---- in turns
+
+-- a worker that went on and then ran
+then_served : (w v : WorkerView) (d : Served) → WorkerGoesOn w v → HasServed v d → HasServed w d
+then_served w v d goes served =
+    let first = goes.same in
+    let later = served.same in
+    record {
+      same = record {
+        number = later.number ∙ first.number;
+        first = later.first ∙ first.first;
+        threads = later.threads ∙ first.threads;
+        receiver = (later.receiver.0 ∙ first.receiver.0, later.receiver.1 ∙ first.receiver.1, later.receiver.2 ∙ first.receiver.2, later.receiver.3 ∙ first.receiver.3);
+        lanes = later.lanes ∙ first.lanes;
+        journal = extends_both w.journal v.journal d.journal goes.journal later.journal;
+      };
+      served = served.served;
+      seat = served.seat ∙ goes.seat;
+    }
+
+module _ (s : Content) (desks : List DeskView) (workers : List WorkerView) (opened : AreOpened s desks workers) (fits : All (Fits (threads_of s) (managers_of s)) s.steps) where
+  module _ (ended : List EndedView) (done : List Served) (answers : List Answer) (runs : InTurns s desks workers ended done answers) where
+    abbrev first : Course
+    first = course_of (new_sessions s desks) workers []
+
+    abbrev closing : Closing
+    closing = closing_of [] runs.ran.stage.workers runs.ran.answers
+
+    abbrev ended_all : Closes closing runs.ran.stage.sessions runs.closed
+    ended_all = closes closing refl runs.ran.stage.sessions runs.closed runs.closes
+
+    went : (k : ℕ) (d : DeskView) → slice_get desks k ≡ Some d → Went k (new_session s d) s.steps runs.ran
+    went k d at =
+        let at_first : slice_get (new_sessions s desks) k ≡ Some (new_session s d) = slice_get-map (new_session s) desks k ∙ ap (option_map (new_session s)) at in
+        run_went k (new_session s d) (threads_of s) (managers_of s) first at_first refl s.steps runs.ran runs.runs fits
+
+    many_sessions : length runs.ran.stage.sessions ≡ length desks
+    many_sessions = run_count first s.steps runs.ran runs.runs ∙ length-map desks (new_session s)
+
+    -- what stands at a place of the endings
+    session_at : (k : ℕ) (z : Ending) → slice_get ended_all.endings k ≡ Some z → slice_get runs.ran.stage.sessions k ≡ Some z.0
+    session_at k z at =
+        ap (λ l. slice_get l k) (sym ended_all.sessions_are)
+        ∙ slice_get-map (λ (y : Ending). y.0) ended_all.endings k
+        ∙ ap (option_map (λ (y : Ending). y.0)) at
+
+    -- the thread at place k is of number k + 1
+    ending_number : (k : ℕ) (z : Ending) → slice_get ended_all.endings k ≡ Some z → z.0.desk.thread ≡ k + 1
+    ending_number k z at =
+        let there = session_at k z at in
+        let within = slice_get_within runs.ran.stage.sessions k z.0 there in
+        let many = many_sessions in
+        let d = got desks k (omega (arith, within, many)) in
+        let w = went k d.0 d.1 in
+        let same : w.last ≡ z.0 = some_same w.last z.0 (sym w.at ∙ there) in
+        ap (λ (x : Session). x.desk.thread) (sym same)
+        ∙ tasks_thread (new_session s d.0, []) (tasks_of (k + 1) s.steps) (w.last, answers_to (k + 1) runs.ran.answers) w.runs
+        ∙ opened_thread s desks workers opened k d.0 d.1
+
+    -- the lines of what was outstanding
+    ends_told : (k : ℕ) (z : Ending) → slice_get ended_all.endings k ≡ Some z → ends_of (k + 1) runs.closed.answers ≡ all_ended (k + 1) z.1
+    ends_told k z at =
+        ap (ends_of (k + 1)) ended_all.told
+        ∙ filter-append (is_end_of (k + 1)) runs.ran.answers (flat_map ended_by ended_all.endings)
+        ∙ ap (λ l. l ++ ends_of (k + 1) (flat_map ended_by ended_all.endings)) (steps_no_end (k + 1) first refl s.steps runs.ran runs.runs)
+        ∙ flat_one (is_end_of (k + 1)) ended_by ended_all.endings k z at (λ j y differs at_y. ends_other (k + 1) y.0.desk.thread (λ e. let number = ending_number j y at_y in differs (omega (arith, e, number))) y.1)
+        ∙ ap (λ (n : ℕ). ends_of (k + 1) (all_ended n z.1)) (ending_number k z at)
+        ∙ ends_all (k + 1) z.1
+
+    -- no answer to a line is told as a desk ends
+    answers_told : (t : ℕ) → answers_to t runs.closed.answers ≡ answers_to t runs.ran.answers
+    answers_told t =
+        ap (answers_to t) ended_all.told
+        ∙ filter-append (is_to t) runs.ran.answers (flat_map ended_by ended_all.endings)
+        ∙ ap (λ l. answers_to t runs.ran.answers ++ l) (flat_none (is_to t) ended_by ended_all.endings (λ k z at. ended_tell t z.0.desk.thread z.1))
+        ∙ append-nil (answers_to t runs.ran.answers)
+
+    desk_comes : (k : ℕ) (d : DeskView) (e : EndedView) → slice_get desks k ≡ Some d → slice_get runs.closed.ended k ≡ Some e → Comes s runs.closed.answers d e
+    desk_comes k d e at at_e =
+        let t : d.thread ≡ k + 1 = opened_thread s desks workers opened k d at in
+        let w = went k d at in
+        let within = slice_get_within runs.closed.ended k e at_e in
+        let many = ended_all.ended.as_many in
+        let z = got ended_all.endings k (omega (arith, within, many)) in
+        let same : z.0.0 ≡ w.last = some_same z.0.0 w.last (sym (session_at k z.0 z.1) ∙ w.at) in
+        let end : EndsDesk z.0.0.desk [] e z.0.1 = ended_all.ended.each k z.0 e z.1 at_e in
+        record {
+          left = w.last;
+          runs =
+              subst (λ (n : ℕ). Chain HasDone (new_session s d, []) (tasks_of n s.steps) (w.last, answers_to n runs.closed.answers)) (sym t)
+              (subst (λ (l : List Answer). Chain HasDone (new_session s d, []) (tasks_of (k + 1) s.steps) (w.last, l)) (sym (answers_told (k + 1))) w.runs);
+          outstanding = z.0.1;
+          ends = subst (λ (x : Session). EndsDesk x.desk [] e z.0.1) same end;
+          told = subst (λ (n : ℕ). ends_of n runs.closed.answers ≡ all_ended n z.0.1) (sym t) (ends_told k z.0 z.1);
+        }
+
+    -- a thread that there isn't
+    no_other : (t : ℕ) → ((k : ℕ) (d : DeskView) → slice_get desks k ≡ Some d → d.thread ≢ t) → tasks_of t s.steps ≡ [] → (answers_to t runs.closed.answers ≡ []) × (ends_of t runs.closed.answers ≡ [])
+    no_other t none_there silent = (
+      answers_told t ∙ run_silent t first refl s.steps runs.ran runs.runs silent,
+      ap (ends_of t) ended_all.told
+          ∙ filter-append (is_end_of t) runs.ran.answers (flat_map ended_by ended_all.endings)
+          ∙ ap (λ l. l ++ ends_of t (flat_map ended_by ended_all.endings)) (steps_no_end t first refl s.steps runs.ran runs.runs)
+          ∙ flat_none (is_end_of t) ended_by ended_all.endings (λ k z at.
+          let within = slice_get_within runs.ran.stage.sessions k z.0 (session_at k z at) in
+          let many = many_sessions in
+          let d = got desks k (omega (arith, within, many)) in
+          let number = opened_thread s desks workers opened k d.0 d.1 in
+          ends_other t z.0.desk.thread (λ e. none_there k d.0 d.1 (number ∙ sym (ending_number k z at) ∙ e)) z.1),
+    )
+
+    all_come : Ran s runs.closed.answers desks workers runs.closed.ended done
+    all_come = record {
+      opened = opened;
+      fits = fits;
+      threads = record {
+        as_many = ended_all.ended.as_many ∙ sym (length-map ended_all.endings (λ (z : Ending). z.0)) ∙ ap (λ (l : List Session). length l) ended_all.sessions_are ∙ many_sessions;
+        each = desk_comes;
+      };
+      others = no_other;
+      managers = through WorkerGoesOn HasServed HasServed then_served workers runs.closed.workers done (all_go_on workers runs.ran.stage.workers runs.closed.workers (run_goes first s.steps runs.ran runs.runs) (ends_go closing runs.ran.stage.sessions runs.closed runs.closes)) runs.served;
+    }
+
+    -- what a run in turns has come to
+    pub turns_ran : Ran s answers desks workers ended done
+    turns_ran =
+        subst (λ (l : List Answer). Ran s l desks workers ended done) (sym runs.answered)
+        (subst (λ (l : List EndedView). Ran s runs.closed.answers desks workers l done) (sym runs.ended_are) all_come)
+
+  -- ---- in threads
+
+  module _ (ended : List EndedView) (done : List Served) (answers : List Answer) (runs : InThreads s desks workers ended done answers) where
+    abbrev threads : List (Member ScriptThread)
+    threads = runs.threads
+
+    desk_at : (k : ℕ) (x : Member ScriptThread) → slice_get threads k ≡ Some x → slice_get desks k ≡ Some x.desk
+    desk_at k x at = ap (λ l. slice_get l k) runs.desks_are ∙ slice_get-map (λ (t : Member ScriptThread). t.desk) threads k ∙ ap (option_map (λ (t : Member ScriptThread). t.desk)) at
+
+    -- the thread at place k is of number k + 1
+    number_at : (k : ℕ) (x : Member ScriptThread) → slice_get threads k ≡ Some x → x.desk.thread ≡ k + 1
+    number_at k x at = opened_thread s desks workers opened k x.desk (desk_at k x at)
+
+    worked_at : (k : ℕ) (x : Member ScriptThread) → slice_get threads k ≡ Some x → HasWorked s x
+    worked_at k x at = all_at (HasWorked s) threads k x runs.worked at
+
+    -- another thread's answers
+    told_elsewhere : (t k : ℕ) (x : Member ScriptThread) → t ≢ k + 1 → slice_get threads k ≡ Some x → answers_to t (told x) ≡ []
+    told_elsewhere t k x differs at =
+        let has = worked_at k x at in
+        let own = number_at k x at in
+        ends_silent t x.attended.client.thread x.attended.client.answers.items x.attended.outstanding.items
+        ∙ told_none t x.desk.thread (λ e. differs (sym e ∙ own)) (new_session s x.desk, []) refl (tasks_of x.desk.thread s.steps) (has.left, x.attended.client.answers.items) has.runs (tasks_are_of x.desk.thread s.steps)
+
+    -- the lines of what was outstanding
+    ends_by : (t : ℕ) (x : Member ScriptThread) → HasWorked s x → ends_of t (told x) ≡ ends_of t (all_ended x.attended.client.thread x.attended.outstanding.items)
+    ends_by t x has =
+        filter-append (is_end_of t) x.attended.client.answers.items (all_ended x.attended.client.thread x.attended.outstanding.items)
+        ∙ ap (λ l. l ++ ends_of t (all_ended x.attended.client.thread x.attended.outstanding.items)) (tasks_no_end t (new_session s x.desk, []) refl (tasks_of x.desk.thread s.steps) (has.left, x.attended.client.answers.items) has.runs)
+
+    ends_elsewhere : (t k : ℕ) (x : Member ScriptThread) → t ≢ k + 1 → slice_get threads k ≡ Some x → ends_of t (told x) ≡ []
+    ends_elsewhere t k x differs at =
+        let has = worked_at k x at in
+        ends_by t x has ∙ ends_other t x.attended.client.thread (λ e. differs (sym e ∙ has.own ∙ number_at k x at)) x.attended.outstanding.items
+
+    ends_here : (k : ℕ) (x : Member ScriptThread) → slice_get threads k ≡ Some x → ends_of x.desk.thread (flat_map told threads) ≡ all_ended x.desk.thread x.attended.outstanding.items
+    ends_here k x at =
+        let t = x.desk.thread in
+        let own = number_at k x at in
+        let has = worked_at k x at in
+        flat_one (is_end_of t) told threads k x at (λ j v differs at_v. ends_elsewhere t j v (λ same. differs (omega (arith, same, own))) at_v)
+        ∙ ends_by t x has
+        ∙ ap (λ (n : ℕ). ends_of t (all_ended n x.attended.outstanding.items)) has.own
+        ∙ ends_all t x.attended.outstanding.items
+
+    thread_comes : (k : ℕ) (d : DeskView) (e : EndedView) → slice_get (map (λ (t : Member ScriptThread). t.desk) threads) k ≡ Some d → slice_get (map (λ (t : Member ScriptThread). t.ended) threads) k ≡ Some e → Comes s (flat_map told threads) d e
+    thread_comes k d e at at_e =
+        let found = was_mapped (λ (t : Member ScriptThread). t.desk) threads k d at in
+        let x = found.0 in
+        let also = was_mapped (λ (t : Member ScriptThread). t.ended) threads k e at_e in
+        let same_end : x.ended ≡ e = some_same (x.ended) e (sym (slice_get-map (λ (t : Member ScriptThread). t.ended) threads k ∙ ap (option_map (λ (t : Member ScriptThread). t.ended)) found.1) ∙ at_e) in
+        let has = worked_at k x found.1 in
+        let own = number_at k x found.1 in
+        let t = x.desk.thread in
+        let all_told : answers_to t (flat_map told threads) ≡ x.attended.client.answers.items =
+        flat_one (is_to t) told threads k x found.1 (λ j v differs at_v. told_elsewhere t j v (λ same. differs (omega (arith, same, own))) at_v)
+        ∙ ends_silent t x.attended.client.thread x.attended.client.answers.items x.attended.outstanding.items
+        ∙ told_all t (new_session s x.desk, []) refl (tasks_of t s.steps) (has.left, x.attended.client.answers.items) has.runs (tasks_are_of t s.steps) in
+        let comes : Comes s (flat_map told threads) x.desk x.ended = record {
+          left = has.left;
+          runs = subst (λ (l : List Answer). Chain HasDone (new_session s x.desk, []) (tasks_of t s.steps) (has.left, l)) (sym all_told) has.runs;
+          outstanding = x.attended.outstanding.items;
+          ends = has.ends;
+          told = ends_here k x found.1;
+        } in
+        subst (λ (y : EndedView). Comes s (flat_map told threads) d y) same_end (subst (λ (y : DeskView). Comes s (flat_map told threads) y x.ended) found.2 comes)
+
+    all_there : Ran s (flat_map told threads) desks workers (map (λ (t : Member ScriptThread). t.ended) threads) done
+    all_there = record {
+      opened = opened;
+      fits = fits;
+      threads = record {
+        as_many = length-map threads (λ (t : Member ScriptThread). t.ended) ∙ sym (length-map threads (λ (t : Member ScriptThread). t.desk)) ∙ ap (λ (l : List DeskView). length l) (sym runs.desks_are);
+        each = λ k d e at at_e. thread_comes k d e (ap (λ l. slice_get l k) (sym runs.desks_are) ∙ at) at_e;
+      };
+      others = λ t none_there silent. (
+        flat_none (is_to t) told threads (λ k x at. told_elsewhere t k x (λ same. none_there k x.desk (desk_at k x at) (number_at k x at ∙ sym same)) at),
+        flat_none (is_end_of t) told threads (λ k x at. ends_elsewhere t k x (λ same. none_there k x.desk (desk_at k x at) (number_at k x at ∙ sym same)) at),
+      );
+      managers = runs.served;
+    }
+
+    -- what a run in threads has come to
+    pub threads_ran : Ran s answers desks workers ended done
+    threads_ran =
+        subst (λ (l : List Answer). Ran s l desks workers ended done) (sym runs.answered)
+        (subst (λ (l : List EndedView). Ran s (flat_map told threads) desks workers l done) (sym runs.ended_are) all_there)

@@ -1,0 +1,46 @@
+use Rattle.std.proofs.Common.{◌≡◌, ◌<◌, get_or, refl, ◌∷◌, [], ◌++◌, length, length-append, append_assoc, rules, arith, sym, ap, ◌∙◌}
+use Rattle.std.specs.Vec.Iter.{into_iter_items}
+use Rattle.std.proofs.lemmas.List.{get_or_at}
+use Rattle.std.proofs.lemmas.List.Elements.{All-push}
+use Rattle.xa_worker.specs.Done.{Served, IsServed, IsOrdered}
+use Rattle.xa_switch.specs.Closing.{TakesIn, worker_lane, manager_part}
+use Rattle.xa_switch.proofs.Gathering.{room_left, one_more_taken, eight_columns}
+use Rattle.xa_switch.proofs.gathered.take_workers.Goals as goal
+
+pub take_in-room-requires-clause-row : goal.take_in-room-requires-clause-row
+take_in-room-requires-clause-row c =
+    let i = c.loop-worker.invariant in
+    let Y = c.loop-worker.yielded in
+    let x = c.in-Some.worker in
+    let rest = into_iter_items c.next.new.self in
+    let all : Y ++ x ∷ rest ≡ c.args.workers.items = ap (λ l. Y ++ l) (sym c.in-Some.ensures.steps.0) ∙ i.so_far ∙ c.into_iter-worker-iterator.ensures.into_iter_gives.0 in
+    let below : length Y < length c.args.workers.items = let n = ap length all in omega (arith, n, length-append Y (x ∷ rest)) in
+    let here : get_or c.args.workers.items (length Y) x ≡ x = ap (λ l. get_or l (length Y) x) (sym all) ∙ get_or_at Y x rest x (length Y) refl in
+    let most = c.requires.few (length Y) x below in
+    let threads = ap (λ (w : Served). w.manager.threads) here in
+    let row = ap (λ (w : Served). length w.ends) c.apart-manager.ensures.parts in
+    let ends = c.apart-manager.ensures.served.lanes in
+    let eight = eight_columns _ _ _ _ c.loop-worker.room i.taken in
+    omega (arith, most, threads, row, ends, eight)
+
+pub take_in-room-requires-clause-room : goal.take_in-room-requires-clause-room
+take_in-room-requires-clause-room c =
+    let i = c.loop-worker.invariant in
+    let given = ap length i.so_far in
+    let more = ap length c.in-Some.ensures.steps.0 in
+    room_left _ (λ w. w.ends) worker_lane manager_part c.loop-worker.yielded c.loop-worker.room i.taken (omega (arith, given, more, length-append c.loop-worker.yielded (into_iter_items c.loop-worker.worker-iterator)))
+
+pub loop-worker-preserved : goal.loop-worker-preserved
+loop-worker-preserved c =
+    let i = c.loop-worker.invariant in
+    let more = ap length c.in-Some.ensures.steps.0 in
+    let Y = c.loop-worker.yielded in
+    let x = c.in-Some.worker in
+    let takes : TakesIn x.ends (worker_lane x) (manager_part x) c.loop-worker.room c.take_in-room.result = search rules in
+    record {
+      so_far = append_assoc Y (x ∷ []) (into_iter_items c.next.new.self) ∙ ap (λ l. Y ++ l) (sym c.in-Some.ensures.steps.0) ∙ i.so_far;
+      counted = let n = i.counted in let s = c.in-Some.ensures.steps.1 in omega (arith, n, s, more);
+      taken = one_more_taken _ (λ w. w.ends) worker_lane manager_part Y x c.loop-worker.room c.take_in-room.result i.taken takes;
+      known = All-push IsServed Y x i.known c.apart-manager.ensures.served;
+      ordered = All-push IsOrdered Y x i.ordered c.apart-manager.ensures.ordered;
+    }

@@ -1,0 +1,70 @@
+-- A thread's part in the journals, and what a call does to it.
+use Rattle.std.specs.Prelude.{◌≡◌, ℕ, ◌≤◌, pos, ◌==◌, if◌then◌else◌, Some, None, List, [], ◌∷◌, ◌++◌, length, slice_get}
+use Rattle.std.specs.Ordering.{nat_cmp}
+use Rattle.std.specs.FinMap as finmap
+use Rattle.xa_words.specs.Code.{number_of}
+use Rattle.xa_words.specs.declared.code.Code.{Code}
+use Rattle.xa_words.specs.declared.request.Op.{Op}
+use Rattle.xa_desk.specs.declared.operation.Operation.{Operation}
+use Rattle.xa_worker.specs.Journal.{Entry, entry}
+use Rattle.xa_switch.specs.Settling.{Settling, journal, answers}
+use Rattle.xa_driver.specs.Log.{LogState, no_records}
+use Rattle.xa_grammar.specs.declared.script.Called.{Called}
+use Rattle.xa_session.specs.declared.answer.Answer.{Answer}
+use Rattle.xa_session.specs.declared.answer.Answer.TheVariants.{Completed}
+use Rattle.xa_session.specs.Calling.{shown}
+use Rattle.xa_transcript.specs.Wants.{wanted_in, IsRefusal}
+use Rattle.xa_transcript.specs.Wants.Wanted.{code_of, handle_for, completion}
+
+-- A thread's part in the journals, and its log: its entries in each manager's journal, the requests that its handles
+-- stand for, and what it has logged.
+pub record Part : Type 0 where
+  pub entries : ℕ → List Entry
+  pub handles : finmap.FinMap nat_cmp Operation
+  pub log : LogState
+
+-- The part of a thread that has done nothing.
+abbrev pub no_part : Part
+no_part = record { entries = λ m. []; handles = finmap.empty; log = no_records }
+
+-- The next entry of thread t: its op, with the next number.
+abbrev pub next_entry : ℕ → List Entry → Op → Code → Entry
+next_entry t before o c = entry (record { thread = t; number = length before; op = o }) c
+
+-- The part with one more entry of thread t at manager m.
+abbrev pub with_entry : ℕ → ℕ → Op → Code → Part → Part
+with_entry t m o c p =
+    record p { entries = λ n. if n == m then p.entries n ++ next_entry t (p.entries n) o c ∷ [] else p.entries n }
+
+-- The thread's next request to a manager.
+abbrev pub next_request : Part → ℕ → Operation
+next_request p m = record { manager = m; number = length (p.entries m) }
+
+-- The part with a handle that stands for a request, and without one.
+abbrev pub with_handle : ℕ → Operation → Part → Part
+with_handle k o p = record p { handles = finmap.insert p.handles k o }
+
+abbrev pub without_handle : ℕ → Part → Part
+without_handle k p = record p { handles = finmap.remove p.handles k }
+
+-- The code that stands in its manager's journal for a request of thread t.
+abbrev pub HasCode : Settling → ℕ → Operation → Code → Type 0
+HasCode settled t o c = slice_get (answers t (journal settled o.manager)) o.number ≡ Some (o.number, c)
+
+-- What a call does to its thread's part, and what it answers.
+pub data CallTakes (settled : Settling) (p : Called) (a : Answer) (old new : Part) : Type 0 where
+  -- its manager carries its op out, and the call answers the code
+  answered : (o : Op) (c : Code) → wanted_in p ≡ code_of o → a ≡ shown p (number_of c)
+      → new ≡ with_entry p.thread p.manager o c old → CallTakes settled p a old new
+  -- its manager carries its op out, and the call answers a handle that was free, which now stands for it
+  kept : (o : Op) (c : Code) (k : ℕ) → wanted_in p ≡ handle_for o → 1 ≤ k → a ≡ shown p (pos k)
+      → finmap.get old.handles k ≡ None
+      → new ≡ with_handle k (next_request old p.manager) (with_entry p.thread p.manager o c old)
+      → CallTakes settled p a old new
+  -- nothing is done, and the call answers why
+  refused : (c : Code) → IsRefusal (wanted_in p) c → a ≡ shown p (number_of c) → new ≡ old
+      → CallTakes settled p a old new
+  -- a handle is completed, and its call answers the code of what it stood for
+  completes : (o : Operation) (k : ℕ) (c : Code) → wanted_in p ≡ completion → finmap.get old.handles k ≡ Some o
+      → HasCode settled p.thread o c → a ≡ Completed p.line p.thread (pos k) (number_of c) → new ≡ without_handle k old
+      → CallTakes settled p a old new
