@@ -1,22 +1,19 @@
 -- What holds of the desks and the workers that a script has opened.
 use Rattle.std.proofs.Common.{◌≡◌, ℕ, ◌+◌, ◌-◌, ◌<◌, zero, suc, Bool, true, false, cond, List, [], ◌∷◌, length, map, Some, sym, refl, ap, ◌∙◌, arith}
-use Rattle.std.specs.Prelude.{slice_get, All, option_map}
+use Rattle.std.specs.Prelude.{slice_get, option_map}
 use Rattle.std.specs.List.{range_with_len, slice_index_or}
 use Rattle.std.proofs.lemmas.List.{length-map}
 use Rattle.std.proofs.lemmas.List.FromFn.{length-map-range_with_len, get_or-map-range_with_len}
 use Rattle.std.proofs.lemmas.Option.{slice_get_within, slice_get-get_or, slice_get-map}
-use Rattle.xa_desk.specs.LedgerView.{LedgerView}
 use Rattle.xa_desk.specs.DeskView.{DeskView, no_ledger, ledger, is_known, sent_to, collected_from}
 use Rattle.xa_desk.specs.Lanes.{new_ledgers}
 use Rattle.xa_worker.specs.Workers.{WorkerView}
 use Rattle.xa_tables.specs.Managers.{opening}
 use Rattle.xa_switch.specs.declared.plan.Plan.{Plan}
 use Rattle.xa_switch.specs.declared.plan.ManagerPlan.{ManagerPlan}
-use Rattle.xa_switch.specs.Plans.{use_async}
 use Rattle.xa_switch.specs.Openings.{IsNewDesk, IsNewWorker}
 use Rattle.xa_grammar.specs.Content.{Content, threads_of, managers_of}
 use Rattle.xa_transcript.specs.Planning.{IsPlanOf, AreOpened, planned, planned_of}
-use Rattle.xa_desk.specs.Kept.{AllKept}
 use Rattle.xa_transcript.specs.Values.{opened}
 use Rattle.xa_base.proofs.Lists.{some_same}
 
@@ -46,20 +43,6 @@ new_collected plan flags m = none_either (is_known (new_ledgers plan flags) m) (
 
 pub nobody_sent : (m : ℕ) → sent_to [] m ≡ []
 nobody_sent m = none_either (is_known [] m) (ledger [] m).sent refl
-
--- with a new desk nothing is outstanding
-new_kept : (p : Plan) (t : ℕ) (d : DeskView) → IsNewDesk p t d → AllKept d
-new_kept p t d is = record {
-  each = λ o out.
-      let ledgers : d.ledgers ≡ new_ledgers p.requests (use_async p.managers.items) = ap (λ (x : DeskView). x.ledgers) is.made in
-      let none : (ledger d.ledgers o.manager).sent ≡ [] = ap (λ (at : List LedgerView). (ledger at o.manager).sent) ledgers ∙ fresh_sent p.requests (use_async p.managers.items) (o.manager - 1) in
-      let sent = out.sent in
-      let size : length (ledger d.ledgers o.manager).sent ≡ 0 = ap (λ l. length l) none in
-      absurd (omega (arith, sent, size));
-}
-
-pub opened_kept : (s : Content) (desks : List DeskView) (workers : List WorkerView) → AreOpened s desks workers → All AllKept desks
-opened_kept s desks workers is k d below = new_kept is.plan k (slice_index_or desks k d) (is.opened.desks k (slice_index_or desks k d) (slice_get-get_or desks k d below))
 
 pub opened_threads : (s : Content) (desks : List DeskView) (workers : List WorkerView) → AreOpened s desks workers → length desks ≡ threads_of s
 opened_threads s desks workers is = is.opened.threads ∙ is.said.threads
