@@ -1,21 +1,24 @@
 -- What becomes of one branch, over the settled history of its manager.
+use Rattle.std.specs.Prelude.{ℤ, pos, option_map}
 use Rattle.std.proofs.Common.{◌≡◌, ◌≢◌, ℕ, suc, ◌+◌, ◌≤◌, Bool, true, false, cond, ◌==◌, zero, ◌&&◌, ◌||◌, if◌then◌else◌, List, [], ◌∷◌, ◌++◌, length, length-append, append_assoc, slice_get, get_or, sym, refl, ap, ◌∙◌, subst, arith, Option, Some, None}
-use Rattle.std.specs.List.{All}
+use Rattle.std.specs.List.{All, cons_option}
 use Rattle.std.proofs.lemmas.Bool.{and_right, ne_eqb}
 use Rattle.std.proofs.lemmas.List.Folds.{list_any-append}
 use Rattle.std.proofs.lemmas.List.Elements.{filter-append}
 use Rattle.xa_words.specs.Xid.{XidName, xid_eq}
-use Rattle.xa_words.specs.Orders.{Decides-xid_eq}
+use Rattle.xa_words.specs.Key.{key_eq}
+use Rattle.xa_words.specs.Orders.{Decides-xid_eq, Decides-key_eq}
 use Rattle.xa_words.specs.declared.code.Code.{Code}
 use Rattle.xa_words.specs.declared.code.Code.TheVariants.{Done, RdOnly, RbIntegrity, RmFail}
 use Rattle.xa_words.specs.declared.request.Op.{Op}
 use Rattle.xa_words.specs.declared.request.Op.TheVariants.{OpenRm, CloseRm, Start, Add, End, Prepare, Commit, Rollback, Shut}
 use Rattle.xa_words.specs.declared.request.Request.{Request}
-use Rattle.xa_tables.specs.Tables.{Tables}
+use Rattle.xa_tables.specs.declared.state.Association.{Association}
+use Rattle.xa_tables.specs.Tables.{Tables, association_of}
 use Rattle.xa_tables.specs.Next.{next}
 use Rattle.xa_tables.proofs.Unnamed.{tables_after-append}
 use Rattle.xa_tables.specs.History as history
-use Rattle.xa_tables.specs.History.{History, Fate, fate, fate_in, fate_of, coded, of_thread, tables_after, is_done, is_read_only, is_rolled_back, prepare_fate, IsOpening}
+use Rattle.xa_tables.specs.History.{History, Fate, fate, fate_in, fate_of, coded, of_thread, tables_after, is_done, is_read_only, is_rolled_back, is_integrity, prepare_fate, rollback_fate, ending, ending_by, or_later, commits_later, added_by, share, share_of, EndsNowhere, IsOpening}
 use Rattle.xa_tables.specs.Prepared.{names, NamesNowhere, LeavesWaiting, AwaitsTheOutcome, closes, is_close, has_shut}
 use Rattle.xa_desk.specs.LedgerView.{LedgerView, is_rm_fail, learnt_shut, with_sent, with_collected}
 use Rattle.xa_desk.specs.Lanes.{numbered}
@@ -28,20 +31,19 @@ use Rattle.xa_driver.specs.Decision.{is_yes, is_read}
 use Rattle.xa_driver.specs.Endings.{second_op, ending_of, yes_ending, no_ending, is_out_of_reach}
 use Rattle.xa_driver.specs.Asks.{asked, IsAnswered}
 use Rattle.xa_driver.specs.Trace.{BranchTrace, voted}
-use Rattle.xa_driver.specs.Outcomes.{IsBetween, OnlyTheseName, IsAfterShut, told_fate, is_left, is_in_doubt}
-use Rattle.xa_base.proofs.Truth.{by_if, at_false}
-use Rattle.xa_driver.proofs.Placing.{eqb-self, request_of, Parted, part, all_others, all_later, answer_at, numbered_both, numbered_length, fates, fate_is, none_both, none_first}
+use Rattle.xa_driver.specs.Outcomes.{IsBetween, OnlyTheseName, IsAfterShut, told_fate, is_committed, is_left, is_in_doubt, is_read_only as is_read_only_ending}
+use Rattle.xa_driver.specs.Additions.{IsAddition, prepare_of}
+use Rattle.xa_base.proofs.Truth.{by_if, at_false, at_true}
+use Rattle.xa_driver.proofs.Placing.{eqb-self, request_of, Parted, part, all_others, all_later, answer_at, numbered_both, numbered_length, sides, fates, fates_both, fate_is, none_both, none_first}
 
 -- what the laws of the tables say
 pub record Tabled : Type 0 where
   pub awaits : (h g : History) (t : ℕ) (x : XidName) (T : Tables) → IsOpening T → (next t (Prepare x) (tables_after h T)).1 ≡ Done → LeavesWaiting t x g → AwaitsTheOutcome t x (tables_after g (next t (Prepare x) (tables_after h T)).0)
   pub shuts : (h : History) (T : Tables) → IsOpening T → (tables_after h T).shut ≡ has_shut h
   pub leaves : (h : History) (x : XidName) (T : Tables) → fate x h T ≡ fate_in x (coded h T)
+  pub adders : (t u : ℕ) (op : Op) (x : XidName) (k : List ℕ) (d : ℤ) (g : History) (T : Tables) → op ≡ Add k d → option_map (λ (a : Association). a.xid) (association_of T u) ≡ Some x → (next u op T).1 ≡ Done
+      → EndsNowhere x g (next u op T).0 → (next t (Prepare x) (tables_after g (next u op T).0)).1 ≢ RdOnly
   pub breaks : (t : ℕ) (x : XidName) (T : Tables) → is_rolled_back (next t (Prepare x) T).1 ≡ true → (next t (Prepare x) T).1 ≡ RbIntegrity
-
-at_true : {A : Type 0} (b : Bool) (p q : A) → b ≡ true → (if b then p else q) ≡ p
-at_true true p q e = refl
-at_true false p q e = cc
 
 yes_is : (c : Code) → is_yes c ≡ true → c ≡ Done
 yes_is Done e = refl
@@ -80,6 +82,57 @@ unnamed_first x Shut c n = refl
 unnamed : (x : XidName) (h : History) (T : Tables) → NamesNowhere x h → fates x h T ≡ []
 unnamed x [] T n = refl
 unnamed x (r ∷ h) T n = none_first x r h T (unnamed_first x r.op _ (n 0 r (omega arith))) (unnamed x h (next r.thread r.op T).0 (λ k d lt. n (suc k) d (omega arith)))
+
+-- whether the first of these fates that ends the branch commits it
+abbrev pub ends_committed : List Fate → Bool
+ends_committed [] = false
+ends_committed (f ∷ fs) = or_later (ending_by f) (ends_committed fs)
+
+commits_by : (x : XidName) (h : History) (T : Tables) → commits_later x (coded h T) ≡ ends_committed (fates x h T)
+commits_by x [] T = refl
+commits_by x (r ∷ h) T =
+    let T1 : Tables = (next r.thread r.op T).0 in
+    let o : Option Fate = fate_of x r.op (next r.thread r.op T).1 in
+    ap (or_later (ending o)) (commits_by x h T1)
+    ∙ elim o as (λ o. or_later (ending o) (ends_committed (fates x h T1)) ≡ ends_committed (cons_option o (fates x h T1))) [ None ↦ refl | Some f ↦ refl ]
+
+-- a history that doesn't end the branch decides nothing
+commits_past : (x : XidName) (h g : History) (T : Tables) → EndsNowhere x h T → commits_later x (coded (h ++ g) T) ≡ commits_later x (coded g (tables_after h T))
+commits_past x [] g T e = refl
+commits_past x (r ∷ h) g T e =
+    let T1 : Tables = (next r.thread r.op T).0 in
+    ap (λ o. or_later o (commits_later x (coded (h ++ g) T1))) (e 0 (r, (next r.thread r.op T).1) (omega arith)) ∙ commits_past x h g T1 (λ k d lt. e (suc k) d (omega arith))
+
+added_is : (o : Option Association) (d : ℤ) (later : XidName → Bool) (x : XidName) → option_map (λ (a : Association). a.xid) o ≡ Some x → added_by o d later ≡ (if later x then d else pos 0)
+added_is None d later x e = cc
+added_is (Some a) d later x e = let same : a.xid ≡ x = cc in ap (λ y. if later y then d else pos 0) same
+
+-- the share of an addition is decided by what comes from the Prepare on
+share_is : (x : XidName) (k : List ℕ) (d : ℤ) (t n : ℕ) (T : Tables) (H : History) (add : IsAddition x k d t n T H) (b : Bool)
+    → commits_later x (coded (request_of t n (Prepare x) ∷ add.after) (tables_after add.between (next add.adding.thread add.adding.op (tables_after add.before T)).0)) ≡ b
+    → share k add.adding (add.between ++ prepare_of t n x ∷ add.after) (tables_after add.before T) ≡ (if b then d else pos 0)
+share_is x k d t n T H add b e =
+    let here : Tables = tables_after add.before T in
+    let U : Tables = (next add.adding.thread add.adding.op here).0 in
+    let later : XidName → Bool = λ y. commits_later y (coded (add.between ++ prepare_of t n x ∷ add.after) U) in
+    let own : Option Association = association_of here add.adding.thread in
+    let is : later x ≡ b = commits_past x add.between (prepare_of t n x ∷ add.after) U add.unended ∙ e in
+    ap (λ op. share_of k op (next add.adding.thread add.adding.op here).1 own later) add.adds
+    ∙ ap (λ c. if key_eq k k && is_done c then added_by own d later else pos 0) add.answered
+    ∙ ap (λ b. if b && true then added_by own d later else pos 0) ((Decides-key_eq k k).1 refl)
+    ∙ added_is own d later x add.branch ∙ ap (λ b. if b then d else pos 0) is
+
+-- a Prepare commits nothing
+vote_then : (v : Code) (fs : List Fate) → ends_committed fs ≡ false → ends_committed (cons_option (prepare_fate v) fs) ≡ false
+vote_then v fs e =
+    by_if (λ o. ends_committed (cons_option o fs) ≡ false) (is_done v) (Some history.InDoubt) _ (λ _. e) (λ _.
+    by_if (λ o. ends_committed (cons_option o fs) ≡ false) (is_read_only v) (Some history.ReadOnly) _ (λ _. refl) (λ _.
+    by_if (λ o. ends_committed (cons_option o fs) ≡ false) (is_integrity v) (Some history.RolledBack) None (λ _. refl) (λ _. e)))
+
+-- nor does a Rollback after it
+rolled_then : (v c : Code) → ends_committed (cons_option (prepare_fate v) (cons_option (rollback_fate c) [])) ≡ false
+rolled_then v c =
+    vote_then v (cons_option (rollback_fate c) []) (by_if (λ o. ends_committed (cons_option o []) ≡ false) (is_done c || is_rolled_back c) (Some history.RolledBack) None (λ _. refl) (λ _. refl))
 
 -- after its own numbers a thread doesn't name the branch, and no other thread does
 never_named : (t : ℕ) (x : XidName) (first last : ℕ) (q : Request) → (names x q.op ≡ true → IsBetween t first last q) → (q.thread ≡ t → last ≤ q.number) → names x q.op ≡ false
@@ -123,16 +176,58 @@ module _ (law : Tabled) (t : ℕ) (x : XidName) (T : Tables) (H : History) (open
   sent_parts : (post : List Op) → ops ≡ a.sent ++ P ∷ post → of_thread t H ≡ numbered t 0 a.sent ++ request_of t n P ∷ numbered t (suc n) post
   sent_parts post sent = carried ∙ ap (numbered t 0) sent ∙ numbered_both t 0 a.sent (P ∷ post) ∙ ap (λ k. numbered t 0 a.sent ++ numbered t k (P ∷ post)) (let e : 0 + n ≡ n = omega arith in e)
 
-  first : (post : List Op) (more : List (ℕ × Code)) → ops ≡ a.sent ++ P ∷ post → pairs ≡ a.collected ++ (n, vote) ∷ more → First post
-  first post more sent collected =
-      let p : Parted t (numbered t 0 a.sent) (numbered t (suc n) post) (request_of t n P) H = part t H (numbered t 0 a.sent) (numbered t (suc n) post) (request_of t n P) (sent_parts post sent) in
+  code_at : (post : List Op) (more : List (ℕ × Code)) → pairs ≡ a.collected ++ (n, vote) ∷ more → (p : Parted t (numbered t 0 a.sent) (numbered t (suc n) post) (request_of t n P) H) → vote ≡ (next t P (tables_after p.before T)).1
+  code_at post more collected p =
       let got : slice_get (answers t (coded H T)) n ≡ Some (n, vote) =
       all_mid (λ (q : ℕ × Code). slice_get (answers t (coded H T)) q.0 ≡ Some q) a.collected (n, vote) more
       (subst (All (λ (q : ℕ × Code). slice_get (answers t (coded H T)) q.0 ≡ Some q)) collected answered) in
       let is : slice_get (answers t (coded H T)) n ≡ Some (n, (next t P (tables_after p.before T)).1) =
       ap (λ (h : History). slice_get (answers t (coded h T)) n) p.place
       ∙ answer_at t p.before p.after (request_of t n P) T n refl (ap (λ (h : History). length h) p.earlier ∙ numbered_length t 0 a.sent) in
-      record { parted = p; code = same_code _ n n vote _ got is }
+      same_code _ n n vote _ got is
+
+  abbrev first_at : (post : List Op) (more : List (ℕ × Code)) → pairs ≡ a.collected ++ (n, vote) ∷ more → Parted t (numbered t 0 a.sent) (numbered t (suc n) post) (request_of t n P) H → First post
+  first_at post more collected p = record { parted = p; code = code_at post more collected p }
+
+  first : (post : List Op) (more : List (ℕ × Code)) → ops ≡ a.sent ++ P ∷ post → pairs ≡ a.collected ++ (n, vote) ∷ more → First post
+  first post more sent collected = first_at post more collected (part t H (numbered t 0 a.sent) (numbered t (suc n) post) (request_of t n P) (sent_parts post sent))
+
+  -- so it stands where an addition that it votes on has it
+  place_at : (k : List ℕ) (d : ℤ) (add : IsAddition x k d t n T H) → H ≡ (add.before ++ add.adding ∷ add.between) ++ request_of t n P ∷ add.after
+  place_at k d add = add.place ∙ sym (append_assoc add.before (add.adding ∷ add.between) (request_of t n P ∷ add.after))
+
+  sides_at : (k : List ℕ) (d : ℤ) (add : IsAddition x k d t n T H) (post : List Op) → ops ≡ a.sent ++ P ∷ post
+      → (of_thread t (add.before ++ add.adding ∷ add.between) ≡ numbered t 0 a.sent) × (of_thread t add.after ≡ numbered t (suc n) post)
+  sides_at k d add post sent = sides t H (add.before ++ add.adding ∷ add.between) add.after a.sent P post (place_at k d add) (carried ∙ ap (numbered t 0) sent)
+
+  abbrev voted_at : (k : List ℕ) (d : ℤ) (add : IsAddition x k d t n T H) (post : List Op) → ops ≡ a.sent ++ P ∷ post → Parted t (numbered t 0 a.sent) (numbered t (suc n) post) (request_of t n P) H
+  voted_at k d add post sent = record {
+    before = add.before ++ add.adding ∷ add.between;
+    after = add.after;
+    place = place_at k d add;
+    earlier = (sides_at k d add post sent).0;
+    later = (sides_at k d add post sent).1;
+  }
+
+  -- and so the vote isn't that of a branch that only read
+  never_reads : (post : List Op) (more : List (ℕ × Code)) → ops ≡ a.sent ++ P ∷ post → pairs ≡ a.collected ++ (n, vote) ∷ more → (k : List ℕ) (d : ℤ) → IsAddition x k d t n T H → vote ≢ RdOnly
+  never_reads post more sent collected k d add reads =
+      let f : First post = first_at post more collected (voted_at k d add post sent) in
+      law.adders t add.adding.thread add.adding.op x k d add.between (tables_after add.before T) add.adds add.branch add.answered add.unended
+      (ap (λ (U : Tables). (next t P U).1) (sym (tables_after-append add.before (add.adding ∷ add.between) T)) ∙ sym f.code ∙ reads)
+
+  -- whether the branch commits after its Prepare, seen from any of its additions
+  abbrev Counts : Bool → Type 0
+  Counts b = (k : List ℕ) (d : ℤ) (add : IsAddition x k d t n T H)
+      → commits_later x (coded (request_of t n P ∷ add.after) (tables_after add.between (next add.adding.thread add.adding.op (tables_after add.before T)).0)) ≡ b
+
+  -- by the fates that the Prepare and what is after it give the branch
+  counted_by : (post : List Op) (more : List (ℕ × Code)) → ops ≡ a.sent ++ P ∷ post → pairs ≡ a.collected ++ (n, vote) ∷ more → (fs : List Fate)
+      → ((f : First post) → fates x (request_of t n P ∷ f.parted.after) (tables_after f.parted.before T) ≡ fs) → Counts (ends_committed fs)
+  counted_by post more sent collected fs given k d add =
+      let f : First post = first_at post more collected (voted_at k d add post sent) in
+      ap (λ (U : Tables). commits_later x (coded (request_of t n P ∷ add.after) U)) (sym (tables_after-append add.before (add.adding ∷ add.between) T))
+      ∙ commits_by x (request_of t n P ∷ add.after) (tables_after (add.before ++ add.adding ∷ add.between) T) ∙ ap ends_committed (given f)
 
   -- the fate that a Prepare leaves
   prepare_named : (c : Code) → fate_of x P c ≡ prepare_fate c
@@ -140,6 +235,19 @@ module _ (law : Tabled) (t : ℕ) (x : XidName) (T : Tables) (H : History) (open
 
   -- ---- no second request was sent
   module _ (only : OnlyTheseName x t n (n + 1) H) where
+    nowhere_after : (post : List Op) (f : First post) → NamesNowhere x f.parted.after
+    nowhere_after post f k d lt =
+        never_named t x n (n + 1) (get_or f.parted.after k d) (only f.parted.before f.parted.after (request_of t n P) f.parted.place refl refl k d lt)
+        (λ own. let up = all_later t f.parted.after (suc n) post f.parted.later k d lt own in omega (arith, up))
+
+    -- the Prepare alone makes something of the branch
+    one_fate : (post : List Op) (f : First post) → fates x (request_of t n P ∷ f.parted.after) (tables_after f.parted.before T) ≡ cons_option (prepare_fate vote) []
+    one_fate post f =
+        let here : Tables = tables_after f.parted.before T in
+        let own : fate_of x P (next t P here).1 ≡ prepare_fate vote = ap (fate_of x P) (sym f.code) ∙ prepare_named vote in
+        let none : fates x f.parted.after (next t P here).0 ≡ [] = unnamed x f.parted.after (next t P here).0 (nowhere_after post f) in
+        λ i. cons_option (own i) (none i)
+
     record Alone : Type 0 where
       here : Tables
       code : vote ≡ (next t P here).1
@@ -151,9 +259,7 @@ module _ (law : Tabled) (t : ℕ) (x : XidName) (T : Tables) (H : History) (open
         let before : History = f.parted.before in
         let after : History = f.parted.after in
         let here : Tables = tables_after before T in
-        let nowhere : NamesNowhere x after = λ k d lt.
-        never_named t x n (n + 1) (get_or after k d) (only before after (request_of t n P) f.parted.place refl refl k d lt)
-        (λ own. let up = all_later t after (suc n) post f.parted.later k d lt own in omega (arith, up)) in
+        let nowhere : NamesNowhere x after = nowhere_after post f in
         record {
           here = here;
           code = f.code;
@@ -164,10 +270,7 @@ module _ (law : Tabled) (t : ℕ) (x : XidName) (T : Tables) (H : History) (open
 
   -- ---- a second request was sent
   module _ (only : OnlyTheseName x t n (n + 1 + 1) H) (op : Op) (c : Code) (post : List Op) (more : List (ℕ × Code))
-      (sent : ops ≡ a.sent ++ P ∷ op ∷ post) (collected : pairs ≡ a.collected ++ (n, vote) ∷ (n + 1, c) ∷ more) where
-    f : First (op ∷ post)
-    f = first (op ∷ post) ((n + 1, c) ∷ more) sent collected
-
+      (sent : ops ≡ a.sent ++ P ∷ op ∷ post) (collected : pairs ≡ a.collected ++ (n, vote) ∷ (n + 1, c) ∷ more) (f : First (op ∷ post)) where
     second : Parted t [] (numbered t (suc (suc n)) post) (request_of t (suc n) op) f.parted.after
     second = part t f.parted.after [] (numbered t (suc (suc n)) post) (request_of t (suc n) op) f.parted.later
 
@@ -242,6 +345,18 @@ module _ (law : Tabled) (t : ℕ) (x : XidName) (T : Tables) (H : History) (open
         ∙ none_both x mid (S ∷ rest) now (unnamed x mid now (λ k d lt. (others k d lt).0))
         (none_first x S rest there (ap (fate_of x op) (sym code) ∙ none) (unnamed x rest _ quiet_rest)))
 
+    -- the two make something of the branch, and nothing else after the Prepare does
+    two_fates : fates x (request_of t n P ∷ f.parted.after) (tables_after f.parted.before T) ≡ cons_option (prepare_fate vote) (cons_option (fate_of x op c) [])
+    two_fates =
+        let now : Tables = (next t P (tables_after f.parted.before T)).0 in
+        let own : fate_of x P (next t P (tables_after f.parted.before T)).1 ≡ prepare_fate vote = ap (fate_of x P) (sym f.code) ∙ prepare_named vote in
+        let nothing : fates x mid now ≡ [] = unnamed x mid now (λ k d lt. (others k d lt).0) in
+        let last : fate_of x op (next t op there).1 ≡ fate_of x op c = ap (fate_of x op) (sym code) in
+        let end : fates x rest (next t op there).0 ≡ [] = unnamed x rest _ quiet_rest in
+        let later : fates x f.parted.after now ≡ cons_option (fate_of x op c) [] =
+        ap (λ (h : History). fates x h now) after_is ∙ fates_both x mid (S ∷ rest) now ∙ (λ i. nothing i ++ cons_option (last i) (end i)) in
+        λ i. cons_option (own i) (later i)
+
     -- after a yes vote the branch awaits the outcome
     awaits : vote ≡ Done → AwaitsTheOutcome t x there
     awaits done = law.awaits f.parted.before mid t x T opening (sym f.code ∙ done) others
@@ -277,6 +392,9 @@ pub record Outcome (t : ℕ) (x : XidName) (T : Tables) (H : History) (a : Ledge
   pub reached : is_yes vote ≡ true → is_left e ≡ false
   pub shut : is_yes vote ≡ true → is_in_doubt e ≡ true → IsAfterShut t (length a.sent + 1) H
   pub told : (f : Fate) → told_fate e ≡ Some f → fate x H T ≡ f
+  pub counted : (k : List ℕ) (d : ℤ) (add : IsAddition x k d t (length a.sent) T H)
+      → share k add.adding (add.between ++ prepare_of t (length a.sent) x ∷ add.after) (tables_after add.before T) ≡ (if is_committed e then d else pos 0)
+  pub adders : (k : List ℕ) (d : ℤ) → IsAddition x k d t (length a.sent) T H → is_read_only_ending e ≡ false
 
 module _ (law : Tabled) (t : ℕ) (x : XidName) (T : Tables) (H : History) (opening : IsOpening T) (a : LedgerView) (vote : Code) (ops : List Op) (pairs : List (ℕ × Code))
     (carried : of_thread t H ≡ numbered t 0 ops) (answered : All (λ p. slice_get (answers t (coded H T)) p.0 ≡ Some p) pairs)
@@ -291,6 +409,14 @@ module _ (law : Tabled) (t : ℕ) (x : XidName) (T : Tables) (H : History) (open
   abbrev X : LedgerView
   X = with_collected (with_sent a (Prepare x)) m vote
 
+  -- whether the branch commits after its Prepare, seen from any of its additions
+  abbrev CountsAs : Bool → Type 0
+  CountsAs b = Counts law t x T H opening a vote ops pairs carried answered b
+
+  counted_as : (e : Ending) (b : Bool) → CountsAs b → b ≡ is_committed e → (k : List ℕ) (d : ℤ) (add : IsAddition x k d t m T H)
+      → share k add.adding (add.between ++ prepare_of t m x ∷ add.after) (tables_after add.before T) ≡ (if is_committed e then d else pos 0)
+  counted_as e b counts same k d add = share_is x k d t m T H add (is_committed e) (counts k d add ∙ same)
+
   only_one : a' ≡ X → OnlyTheseName x t m (m + 1) H
   only_one is = subst (λ k. OnlyTheseName x t m k H) (ap (λ (z : LedgerView). length z.sent) is ∙ length-append a.sent (Prepare x ∷ [])) only
 
@@ -299,13 +425,24 @@ module _ (law : Tabled) (t : ℕ) (x : XidName) (T : Tables) (H : History) (open
     here : Tables
     code : vote ≡ (next t (Prepare x) here).1
     told : (f : Fate) → prepare_fate vote ≡ Some f → fate x H T ≡ f
+    counted : CountsAs false
+    adders : (k : List ℕ) (d : ℤ) → IsAddition x k d t m T H → vote ≢ RdOnly
 
   single : a' ≡ X → Single
   single is =
-      let z = alone law t x T H opening a vote ops pairs carried answered (only_one is) sent.0 collected.0
-      (sent.1 ∙ ap (λ (z : LedgerView). z.sent ++ sent.0) is ∙ append_assoc a.sent (Prepare x ∷ []) sent.0)
-      (collected.1 ∙ ap (λ (z : LedgerView). z.collected ++ collected.0) is ∙ append_assoc a.collected ((m, vote) ∷ []) collected.0) in
-      record { here = z.here; code = z.code; told = z.fate_of_vote }
+      let all_sent : ops ≡ a.sent ++ Prepare x ∷ sent.0 = sent.1 ∙ ap (λ (z : LedgerView). z.sent ++ sent.0) is ∙ append_assoc a.sent (Prepare x ∷ []) sent.0 in
+      let all_collected : pairs ≡ a.collected ++ (m, vote) ∷ collected.0 =
+      collected.1 ∙ ap (λ (z : LedgerView). z.collected ++ collected.0) is ∙ append_assoc a.collected ((m, vote) ∷ []) collected.0 in
+      let z = alone law t x T H opening a vote ops pairs carried answered (only_one is) sent.0 collected.0 all_sent all_collected in
+      record {
+        here = z.here;
+        code = z.code;
+        told = z.fate_of_vote;
+        counted = λ k d add.
+            counted_by law t x T H opening a vote ops pairs carried answered sent.0 collected.0 all_sent all_collected (cons_option (prepare_fate vote) [])
+            (one_fate law t x T H opening a vote ops pairs carried answered (only_one is) sent.0) k d add ∙ vote_then vote [] refl;
+        adders = never_reads law t x T H opening a vote ops pairs carried answered sent.0 collected.0 all_sent all_collected;
+      }
 
   -- and a second request
   record Double (op : Op) (c : Code) : Type 0 where
@@ -315,6 +452,7 @@ module _ (law : Tabled) (t : ℕ) (x : XidName) (T : Tables) (H : History) (open
     code : c ≡ (next t op there).1
     awaits : vote ≡ Done → AwaitsTheOutcome t x there
     after_shut : there.shut ≡ true → IsAfterShut t (m + 1) H
+    counted : CountsAs (ends_committed (cons_option (prepare_fate vote) (cons_option (fate_of x op c) [])))
 
   double : (op : Op) (c : Code) → a' ≡ with_collected (with_sent X op) (length X.sent) c → Double op c
   double op c is =
@@ -327,60 +465,73 @@ module _ (law : Tabled) (t : ℕ) (x : XidName) (T : Tables) (H : History) (open
       collected.1 ∙ ap (λ (z : LedgerView). z.collected ++ collected.0) is
       ∙ append_assoc (a.collected ++ (m, vote) ∷ []) ((length X.sent, c) ∷ []) collected.0 ∙ append_assoc a.collected ((m, vote) ∷ []) ((length X.sent, c) ∷ collected.0)
       ∙ ap (λ k. a.collected ++ (m, vote) ∷ (k, c) ∷ collected.0) number in
+      let f = first law t x T H opening a vote ops pairs carried answered (op ∷ sent.0) ((m + 1, c) ∷ collected.0) all_sent all_collected in
       record {
-        told = fate_of_second law t x T H opening a vote ops pairs carried answered only_two op c sent.0 collected.0 all_sent all_collected;
-        told_first = fate_of_first law t x T H opening a vote ops pairs carried answered only_two op c sent.0 collected.0 all_sent all_collected;
-        there = there law t x T H opening a vote ops pairs carried answered only_two op c sent.0 collected.0 all_sent all_collected;
-        code = code law t x T H opening a vote ops pairs carried answered only_two op c sent.0 collected.0 all_sent all_collected;
-        awaits = awaits law t x T H opening a vote ops pairs carried answered only_two op c sent.0 collected.0 all_sent all_collected;
-        after_shut = after_shut law t x T H opening a vote ops pairs carried answered only_two op c sent.0 collected.0 all_sent all_collected;
+        told = fate_of_second law t x T H opening a vote ops pairs carried answered only_two op c sent.0 collected.0 all_sent all_collected f;
+        told_first = fate_of_first law t x T H opening a vote ops pairs carried answered only_two op c sent.0 collected.0 all_sent all_collected f;
+        there = there law t x T H opening a vote ops pairs carried answered only_two op c sent.0 collected.0 all_sent all_collected f;
+        code = code law t x T H opening a vote ops pairs carried answered only_two op c sent.0 collected.0 all_sent all_collected f;
+        awaits = awaits law t x T H opening a vote ops pairs carried answered only_two op c sent.0 collected.0 all_sent all_collected f;
+        after_shut = after_shut law t x T H opening a vote ops pairs carried answered only_two op c sent.0 collected.0 all_sent all_collected f;
+        counted = counted_by law t x T H opening a vote ops pairs carried answered (op ∷ sent.0) ((m + 1, c) ∷ collected.0) all_sent all_collected (cons_option (prepare_fate vote) (cons_option (fate_of x op c) []))
+            (two_fates law t x T H opening a vote ops pairs carried answered only_two op c sent.0 collected.0 all_sent all_collected);
       }
 
   -- a no vote that leaves the branch
-  left : (c : Code) → is_yes vote ≡ false → Goal (Left c)
-  left c no_yes = record { reached = λ y. cc; shut = λ y d. cc; told = λ f e. cc }
+  left : (c : Code) → is_yes vote ≡ false → CountsAs false → Goal (Left c)
+  left c no_yes none = record { reached = λ y. cc; shut = λ y d. cc; told = λ f e. cc; counted = counted_as (Left c) false none refl; adders = λ k d add. refl }
 
   -- another vote than yes, with the fate that its ending tells
-  settled_by : (e : Ending) (f : Fate) → is_yes vote ≡ false → told_fate e ≡ Some f → fate x H T ≡ f → Goal e
-  settled_by e f no_yes named is = record {
+  settled_by : (e : Ending) (f : Fate) → is_yes vote ≡ false → told_fate e ≡ Some f → is_committed e ≡ false → ((k : List ℕ) (d : ℤ) → IsAddition x k d t m T H → is_read_only_ending e ≡ false) → fate x H T ≡ f → CountsAs false → Goal e
+  settled_by e f no_yes named uncommitted adders is none = record {
     reached = λ y. cc;
     shut = λ y d. cc;
     told = λ g h. let same : f ≡ g = some_is _ _ _ named h in is ∙ same;
+    counted = counted_as e false none (sym uncommitted);
+    adders = adders;
   }
 
   read_outcome : is_yes vote ≡ false → is_read vote ≡ true → a' ≡ X → Goal ReadOnly
-  read_outcome no_yes read is = settled_by ReadOnly history.ReadOnly no_yes refl ((single is).told history.ReadOnly (ap prepare_fate (read_is vote read)))
+  read_outcome no_yes read is = settled_by ReadOnly history.ReadOnly no_yes refl refl (λ k d add. absurd ((single is).adders k d add (read_is vote read))) ((single is).told history.ReadOnly (ap prepare_fate (read_is vote read))) (single is).counted
 
   broken_outcome : is_yes vote ≡ false → is_rolled_back vote ≡ true → a' ≡ X → Goal RolledBack
   broken_outcome no_yes back is =
       let z = single is in
       let code : vote ≡ RbIntegrity = z.code ∙ law.breaks t x z.here (sym (ap is_rolled_back z.code) ∙ back) in
-      settled_by RolledBack history.RolledBack no_yes refl (z.told history.RolledBack (ap prepare_fate code))
+      settled_by RolledBack history.RolledBack no_yes refl refl (λ k d add. refl) (z.told history.RolledBack (ap prepare_fate code)) z.counted
 
   -- the second request of another vote is a Rollback
   other_outcome : (second : Option Code) → is_yes vote ≡ false → IsAnswered X (Some (Rollback x)) second → a' ≡ asked X (Some (Rollback x)) second → Goal (no_ending vote second)
-  other_outcome None no_yes got is = left vote no_yes
+  other_outcome None no_yes got is = absurd got
   other_outcome (Some c) no_yes got is =
+      let none : CountsAs false = elim (learnt_shut X) as (λ l. learnt_shut X ≡ l → CountsAs false) [
+        | true ↦ λ shut. (single (is ∙ at_true (learnt_shut X) _ _ shut)).counted
+        | false ↦ λ shut. λ k d add.
+            (double (Rollback x) c (is ∙ at_false (learnt_shut X) _ _ shut)).counted k d add
+            ∙ ap (λ o. ends_committed (cons_option (prepare_fate vote) (cons_option o []))) (at_true (xid_eq x x) (rollback_fate c) None (self x)) ∙ rolled_then vote c
+      ] refl in
       by_if Goal (is_done c || is_rolled_back c) RolledBack (Left c) (λ back.
       elim (learnt_shut X) as (λ l. learnt_shut X ≡ l → Goal RolledBack) [
         | true ↦ λ shut. let z = got shut in let w : (is_done RmFail || is_rolled_back RmFail) ≡ true = ap (λ q. is_done q || is_rolled_back q) (sym z) ∙ back in cc
         | false ↦ λ shut.
-            settled_by RolledBack history.RolledBack no_yes refl ((double (Rollback x) c (is ∙ at_false (learnt_shut X) _ _ shut)).told history.RolledBack
-            (at_true (xid_eq x x) _ None (self x) ∙ at_true (is_done c || is_rolled_back c) _ None back))
-      ] refl) (λ _. left c no_yes)
+            settled_by RolledBack history.RolledBack no_yes refl refl (λ k d add. refl) ((double (Rollback x) c (is ∙ at_false (learnt_shut X) _ _ shut)).told history.RolledBack
+            (at_true (xid_eq x x) _ None (self x) ∙ at_true (is_done c || is_rolled_back c) _ None back)) none
+      ] refl) (λ _. left c no_yes none)
 
   -- a yes vote: the manager isn't learnt to be shut
   open_still : learnt_shut a ≡ false → is_yes vote ≡ true → learnt_shut X ≡ false
   open_still shut done = list_any-append (λ (p : ℕ × Code). is_rm_fail p.1) a.collected ((m, vote) ∷ []) ∙ (λ i. shut i || (is_rm_fail (yes_is vote done i) || false))
 
   -- a prepared branch answers XA_OK, unless its manager is shut; so the ending is decided by that
-  yes_outcome : (op : Op) (g : Fate) (e : Ending) (c : Code) → is_yes vote ≡ true → is_in_doubt e ≡ false → is_left e ≡ false → told_fate e ≡ Some g
-      → fate_of x op Done ≡ Some g → fate_of x op RmFail ≡ None
+  yes_outcome : (op : Op) (g : Fate) (e : Ending) (c : Code) → is_yes vote ≡ true → is_in_doubt e ≡ false → is_left e ≡ false → is_read_only_ending e ≡ false → told_fate e ≡ Some g
+      → fate_of x op Done ≡ Some g → fate_of x op RmFail ≡ None → ends_committed (g ∷ []) ≡ is_committed e
       → ((U : Tables) → AwaitsTheOutcome t x U → (next t op U).1 ≡ (if U.shut then RmFail else Done))
       → a' ≡ with_collected (with_sent X op) (length X.sent) c → Goal (if is_done c then e else (if is_rm_fail c then InDoubt else Left c))
-  yes_outcome op g e c agreed decided reached named by_done by_fail answers_so is =
+  yes_outcome op g e c agreed decided reached writes named by_done by_fail counts answers_so is =
       let z = double op c is in
       let done : vote ≡ Done = yes_is vote agreed in
+      let by_second : ends_committed (cons_option (prepare_fate vote) (cons_option (fate_of x op c) [])) ≡ ends_committed (cons_option (fate_of x op c) []) =
+      ap (λ v. ends_committed (cons_option (prepare_fate v) (cons_option (fate_of x op c) []))) done in
       elim (z.there.shut) as (λ l. z.there.shut ≡ l → Goal (if is_done c then e else (if is_rm_fail c then InDoubt else Left c))) [
         | false ↦ λ opened.
             let code : c ≡ Done = z.code ∙ answers_so z.there (z.awaits done) ∙ ap (λ l. if l then RmFail else Done) opened in
@@ -388,6 +539,8 @@ module _ (law : Tabled) (t : ℕ) (x : XidName) (T : Tables) (H : History) (open
               reached = λ _. reached;
               shut = λ _ doubt. cc;
               told = λ f h. z.told f (ap (fate_of x op) code ∙ by_done ∙ sym named ∙ h);
+              counted = counted_as e (is_committed e) (λ k d add. z.counted k d add ∙ by_second ∙ ap (λ o. ends_committed (cons_option o [])) (ap (fate_of x op) code ∙ by_done) ∙ counts) refl;
+              adders = λ k d add. writes;
             })
         | true ↦ λ closed.
             let code : c ≡ RmFail = z.code ∙ answers_so z.there (z.awaits done) ∙ ap (λ l. if l then RmFail else Done) closed in
@@ -395,6 +548,8 @@ module _ (law : Tabled) (t : ℕ) (x : XidName) (T : Tables) (H : History) (open
               reached = λ _. refl;
               shut = λ _ _. z.after_shut closed;
               told = λ f h. z.told_first f (ap prepare_fate done ∙ h) (ap (fate_of x op) code ∙ by_fail);
+              counted = counted_as InDoubt false (λ k d add. z.counted k d add ∙ by_second ∙ ap (λ o. ends_committed (cons_option o [])) (ap (fate_of x op) code ∙ by_fail)) refl;
+              adders = λ k d add. refl;
             })
       ] refl
 
@@ -403,15 +558,15 @@ module _ (law : Tabled) (t : ℕ) (x : XidName) (T : Tables) (H : History) (open
   yes_part false None shut agreed got is =
       absurd (subst (λ (o : Option Op). IsAnswered X o None) (ap (λ v. if is_read v || (is_rolled_back v || is_out_of_reach v) then None else Some (Rollback x)) (yes_is vote agreed)) got)
   yes_part true (Some c) shut agreed got is =
-      yes_outcome (Commit x false) history.Committed Committed c agreed refl refl refl (at_true (xid_eq x x) _ None (self x)) (at_true (xid_eq x x) _ None (self x)) (λ U h. h.commits)
+      yes_outcome (Commit x false) history.Committed Committed c agreed refl refl refl refl (at_true (xid_eq x x) _ None (self x)) (at_true (xid_eq x x) _ None (self x)) refl (λ U h. h.commits)
       (is ∙ ap (λ o. asked X o (Some c)) (at_true (is_yes vote) _ None agreed) ∙ at_false (learnt_shut X) _ _ (open_still shut agreed))
   yes_part false (Some c) shut agreed got is =
-      yes_outcome (Rollback x) history.RolledBack RolledBack c agreed refl refl refl (at_true (xid_eq x x) _ None (self x)) (at_true (xid_eq x x) _ None (self x)) (λ U h. h.rolls_back)
+      yes_outcome (Rollback x) history.RolledBack RolledBack c agreed refl refl refl refl (at_true (xid_eq x x) _ None (self x)) (at_true (xid_eq x x) _ None (self x)) refl (λ U h. h.rolls_back)
       (is ∙ ap (λ o. asked X o (Some c)) (ap (λ v. if is_read v || (is_rolled_back v || is_out_of_reach v) then None else Some (Rollback x)) (yes_is vote agreed)) ∙ at_false (learnt_shut X) _ _ (open_still shut agreed))
 
   no_part : (commit : Bool) (second : Option Code) → is_yes vote ≡ false → is_read vote ≡ false → is_rolled_back vote ≡ false → is_out_of_reach vote ≡ false
       → IsAnswered X (second_op commit x vote) second → a' ≡ asked X (second_op commit x vote) second → Goal (no_ending vote second)
-  no_part true None y r k o got is = left vote y
+  no_part true None y r k o got is = left vote y (single (is ∙ ap (λ p. asked X p None) (at_false (is_yes vote) _ None y))).counted
   no_part true (Some c) y r k o got is =
       let z : Some c ≡ None = subst (λ (p : Option Op). IsAnswered X p (Some c)) (at_false (is_yes vote) _ None y) got in cc
   no_part false second y r k o got is =
@@ -425,7 +580,28 @@ module _ (law : Tabled) (t : ℕ) (x : XidName) (T : Tables) (H : History) (open
       by_if Goal (is_yes vote) _ _ (λ agreed. yes_part commit second shut agreed got is) (λ y.
       by_if Goal (is_read vote) _ _ (λ read. read_outcome y read (alone_now (none_wanted commit x vote y (ap (λ q. q || (is_rolled_back vote || is_out_of_reach vote)) read)))) (λ r.
       by_if Goal (is_rolled_back vote) _ _ (λ back. broken_outcome y back (alone_now (none_wanted commit x vote y (ap (λ q. is_read vote || (q || is_out_of_reach vote)) back ∙ or_true (is_read vote))))) (λ k.
-      by_if Goal (is_out_of_reach vote) _ _ (λ out. left vote y) (λ o. no_part commit second y r k o got is))))
+      by_if Goal (is_out_of_reach vote) _ _ (λ out.
+      left vote y (single (alone_now (none_wanted commit x vote y (ap (λ q. is_read vote || (is_rolled_back vote || q)) out ∙ ap (λ q. is_read vote || q) (or_true (is_rolled_back vote)) ∙ or_true (is_read vote))))).counted) (λ o. no_part commit second y r k o got is))))
+
+nothing_between : (t : ℕ) (x : XidName) (n : ℕ) (q : Request) → (names x q.op ≡ true → IsBetween t n n q) → names x q.op ≡ false
+nothing_between t x n q only =
+    elim (names x q.op) as (λ b. names x q.op ≡ b → b ≡ false) [
+      | true ↦ λ e. let own = only e in let up = own.from in let down = own.below in absurd (omega (arith, up, down))
+      | false ↦ λ e. refl
+    ] refl
+
+-- where nothing was asked, a Prepare of that number commits nothing
+unasked : (t : ℕ) (x : XidName) (T : Tables) (H : History) (n : ℕ) → OnlyTheseName x t n n H → (k : List ℕ) (d : ℤ) (add : IsAddition x k d t n T H)
+    → share k add.adding (add.between ++ prepare_of t n x ∷ add.after) (tables_after add.before T) ≡ pos 0
+unasked t x T H n only k d add =
+    let P : Request = request_of t n (Prepare x) in
+    let there : Tables = tables_after add.between (next add.adding.thread add.adding.op (tables_after add.before T)).0 in
+    let place : H ≡ (add.before ++ add.adding ∷ add.between) ++ P ∷ add.after = add.place ∙ sym (append_assoc add.before (add.adding ∷ add.between) (P ∷ add.after)) in
+    let nowhere : NamesNowhere x add.after = λ j e lt.
+    nothing_between t x n (get_or add.after j e) (only (add.before ++ add.adding ∷ add.between) add.after P place refl refl j e lt) in
+    let own : fate_of x (Prepare x) (next t (Prepare x) there).1 ≡ prepare_fate (next t (Prepare x) there).1 = at_true (xid_eq x x) _ None (self x) in
+    let none : fates x add.after (next t (Prepare x) there).0 ≡ [] = unnamed x add.after (next t (Prepare x) there).0 nowhere in
+    share_is x k d t n T H add false (commits_by x (P ∷ add.after) there ∙ (λ i. ends_committed (cons_option (own i) (none i))) ∙ vote_then (next t (Prepare x) there).1 [] refl)
 
 -- what a branch of a call came to
 pub branch_outcome : (law : Tabled) (t : ℕ) (b : Branch) (vote : Code) (second : Option Code) (commit : Bool) (a a' : LedgerView) (T : Tables) (H : History) (ops : List Op) (pairs : List (ℕ × Code)) → IsOpening T
@@ -435,7 +611,16 @@ branch_outcome law t b vote second commit a a' T H ops pairs opening carried ans
     elim (learnt_shut a) as (λ l. learnt_shut a ≡ l → Outcome t b.xid T H a vote (ending_of commit vote second)) [
       | true ↦ λ shut.
           let code : vote ≡ RmFail = tr.prepared shut in
-          subst (λ (v : Code). Outcome t b.xid T H a v (ending_of commit v second)) (sym code) (record { reached = λ y. cc; shut = λ y d. cc; told = λ f e. cc })
+          let same : a' ≡ a =
+          tr.trace ∙ ap (λ v. asked (voted b v a) (second_op commit b.xid v) second) code ∙ ap (λ z. asked z (second_op commit b.xid RmFail) second) (at_true (learnt_shut a) _ _ shut)
+          ∙ ap (λ o. asked a o second) (none_wanted commit b.xid RmFail refl refl) in
+          subst (λ (v : Code). Outcome t b.xid T H a v (ending_of commit v second)) (sym code) (record {
+            reached = λ y. cc;
+            shut = λ y d. cc;
+            told = λ f e. cc;
+            adders = λ k d add. refl;
+            counted = unasked t b.xid T H (length a.sent) (subst (λ k. OnlyTheseName b.xid t (length a.sent) k H) (ap (λ (z : LedgerView). length z.sent) same) only);
+          })
       | false ↦ λ shut.
           let e : voted b vote a ≡ with_collected (with_sent a (Prepare b.xid)) (length a.sent) vote = at_false (learnt_shut a) _ _ shut in
           open_outcome law t b.xid T H opening a vote ops pairs carried answered a' sent collected only commit second shut

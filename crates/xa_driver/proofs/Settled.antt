@@ -23,10 +23,26 @@ use Rattle.xa_driver.specs.Endings.{ending_of, second_op}
 use Rattle.xa_driver.specs.Log.{LogState}
 use Rattle.xa_driver.specs.Asks.{asked}
 use Rattle.xa_driver.specs.Trace.{BranchTrace, EachBranch, IsCommit, IsTraceOfCommit, AreBranchesRising, voted}
-use Rattle.xa_driver.specs.Outcomes.{AreLeftAlone, OnlyTheseName, KeepsItsVote, TellsTheFate, EachOutcome, KeepsTheVotes, TellsTheFates}
+use Rattle.xa_driver.specs.Outcomes.{AreLeftAlone, OnlyTheseName, KeepsItsVote, TellsTheFate, EachOutcome, KeepsTheVotes, TellsTheFates, has_committed, has_rolled_back, is_committed, is_rolled_back, is_in_doubt, is_left, is_read_only}
+use Rattle.xa_driver.specs.declared.done.Ending.TheVariants.{Committed, ReadOnly, RolledBack, InDoubt, Left}
+use Rattle.std.specs.List.{list_any}
+use Rattle.std.specs.Prelude.{ℤ, pos, true, false, not, ◌||◌}
+use Rattle.xa_driver.specs.Additions.{IsAddition, Shares, CountsTheCommitted, HasAllOrNothing, is_decided}
 use Rattle.xa_base.proofs.Truth.{by_if}
 use Rattle.xa_driver.proofs.EachManager.{every_manager}
 use Rattle.xa_driver.proofs.Branches.{Tabled, Outcome, branch_outcome}
+
+or_none : (a b : Bool) → (a || b) ≡ false → (a ≡ false) × (b ≡ false)
+or_none true b e = cc
+or_none false b e = (refl, e)
+
+or_true : (b : Bool) → (b || true) ≡ true
+or_true true = refl
+or_true false = refl
+
+not_true : (b : Bool) → not b ≡ true → b ≡ false
+not_true true e = cc
+not_true false e = refl
 
 all_first : {A : Type 0} (P : A → Type 0) (y : A) (ys : List A) → All P (y ∷ ys) → P y
 all_first P y ys h = h 0 y (omega arith)
@@ -48,10 +64,16 @@ by_ledger at m f positive none =
     (cases_lt (length at) m)
 
 module _ (law : Tabled) (opened : (s : Settling) (m : ℕ) → IsSettled s → (T : Tables) × IsOpenedWith s m T) (s : Settling) (t : ℕ) where
+  -- a branch with an addition didn't only read
+  abbrev Adders : Settling → ℕ → Branch → LedgerView → Ending → Type 0
+  Adders s t b old ending = (T : Tables) → IsOpenedWith s b.m T → (k : List ℕ) (d : ℤ) → IsAddition b.xid k d t (length old.sent) T (history_of s b.m) → is_read_only ending ≡ false
+
   -- one branch
   record Both (b : Branch) (old : LedgerView) (vote : Code) (ending : Ending) : Type 0 where
     keeps : KeepsItsVote s t b old vote ending
     tells : TellsTheFate s b ending
+    counts : Shares s t b old (is_committed ending)
+    adders : Adders s t b old ending
 
   one : IsSettled s → (commit : Bool) (b : Branch) (vote : Code) (second : Option Code) (ending : Ending) (a a' : LedgerView) → 1 ≤ b.m → HasGrown a' (ledger (ledgers_of s t) b.m)
       → OnlyTheseName b.xid t (length a.sent) (length a'.sent) (history_of s b.m) → BranchTrace commit b vote second a a' → ending ≡ ending_of commit vote second → Both b a vote ending
@@ -61,14 +83,17 @@ module _ (law : Tabled) (opened : (s : Settling) (m : ℕ) → IsSettled s → (
       let T : Tables = open_.0 in
       let H : History = history_of s b.m in
       let agree : Agree t (sent s t b.m) (collected s t b.m) (journal s b.m) = settled.agree t b.m in
-      let answered = subst (λ (J : List Entry). All (λ (p : ℕ × Code). slice_get (answers t J) p.0 ≡ Some p) (collected s t b.m)) open_.1.codes agree.coded in
       let all_sent : Begins a'.sent (sent s t b.m) = subst (Begins a'.sent) (sym (by_ledger at b.m (λ (z : LedgerView). z.sent) positive refl)) grown.sent in
       let all_collected : Begins a'.collected (collected s t b.m) = subst (Begins a'.collected) (sym (by_ledger at b.m (λ (z : LedgerView). z.collected) positive refl)) grown.collected in
-      let z : Outcome t b.xid T H a vote (ending_of commit vote second) =
-      branch_outcome law t b vote second commit a a' T H (sent s t b.m) (collected s t b.m) open_.1.opened agree.carried answered all_sent all_collected only tr in
+      let outcome : (T : Tables) → IsOpenedWith s b.m T → Outcome t b.xid T H a vote (ending_of commit vote second) = λ T with_T.
+      branch_outcome law t b vote second commit a a' T H (sent s t b.m) (collected s t b.m) with_T.opened agree.carried
+      (subst (λ (J : List Entry). All (λ (p : ℕ × Code). slice_get (answers t J) p.0 ≡ Some p) (collected s t b.m)) with_T.codes agree.coded) all_sent all_collected only tr in
+      let z : Outcome t b.xid T H a vote (ending_of commit vote second) = outcome T open_.1 in
       subst (Both b a vote) (sym is) (record {
         keeps = record { reached = z.reached; shut = z.shut };
         tells = λ f e. open_.1.fates b.xid ∙ z.told f e;
+        counts = λ U with_U k d add. (outcome U with_U).counted k d add;
+        adders = λ U with_U k d add. (outcome U with_U).adders k d add;
       })
 
   module _ (settled : IsSettled s) (commit : Bool) (old new : List LedgerView) (grown : HaveGrown new (ledgers_of s t)) where
@@ -97,6 +122,34 @@ module _ (law : Tabled) (opened : (s : Settling) (m : ℕ) → IsSettled s → (
   each_tells old (b ∷ bs) (v ∷ vs) (e ∷ es) h = (h.0.tells, each_tells old bs vs es h.1)
   each_tells old bs vs es h = absurd h
 
+  each_counts : (old : List LedgerView) (bs : List Branch) (vs : List Code) (es : List Ending) → EachOutcome (λ b v e. Both b (ledger old b.m) v e) bs vs es → EachOutcome (λ b v e. Shares s t b (ledger old b.m) (is_committed e)) bs vs es
+  each_counts old [] [] [] h = tt
+  each_counts old (b ∷ bs) (v ∷ vs) (e ∷ es) h = (h.0.counts, each_counts old bs vs es h.1)
+  each_counts old bs vs es h = absurd h
+
+  -- an ending of a call that is decided, where one branch or none was committed
+  ending_is : (whole : Bool) (e : Ending) → (whole ≡ true → is_rolled_back e ≡ false) → (is_committed e ≡ true → whole ≡ true) → is_in_doubt e ≡ false → is_left e ≡ false → is_read_only e ≡ false → is_committed e ≡ whole
+  ending_is true Committed agree some doubt left reads = refl
+  ending_is false Committed agree some doubt left reads = sym (some refl)
+  ending_is whole ReadOnly agree some doubt left reads = cc
+  ending_is true RolledBack agree some doubt left reads = let z : true ≡ false = agree refl in cc
+  ending_is false RolledBack agree some doubt left reads = refl
+  ending_is whole InDoubt agree some doubt left reads = cc
+  ending_is whole (Left c) agree some doubt left reads = cc
+
+  each_whole : (whole : Bool) (old : List LedgerView) (bs : List Branch) (vs : List Code) (es : List Ending) → (whole ≡ true → list_any is_rolled_back es ≡ false) → (list_any is_committed es ≡ true → whole ≡ true)
+      → list_any is_in_doubt es ≡ false → list_any is_left es ≡ false → EachOutcome (λ b v e. Both b (ledger old b.m) v e) bs vs es → EachOutcome (λ b v e. Shares s t b (ledger old b.m) whole) bs vs es
+  each_whole whole old [] [] [] agree some doubt left h = tt
+  each_whole whole old (b ∷ bs) (v ∷ vs) (e ∷ es) agree some doubt left h =
+      let here = or_none (is_in_doubt e) (list_any is_in_doubt es) doubt in
+      let there = or_none (is_left e) (list_any is_left es) left in (
+        λ T with_T k d add.
+            let same : is_committed e ≡ whole = ending_is whole e (λ w. (or_none (is_rolled_back e) (list_any is_rolled_back es) (agree w)).0) (λ c. some (ap (λ q. q || list_any is_committed es) c)) here.0 there.0 (h.0.adders T with_T k d add) in
+            h.0.counts T with_T k d add ∙ ap (λ q. if q then d else pos 0) same,
+        each_whole whole old bs vs es (λ w. (or_none (is_rolled_back e) (list_any is_rolled_back es) (agree w)).1) (λ c. some (ap (λ q. is_committed e || q) c ∙ or_true (is_committed e))) here.1 there.1 h.1,
+      )
+  each_whole whole old bs vs es agree some doubt left h = absurd h
+
   module _ (bs : List Branch) (desk : DeskView) (new : List LedgerView) (log later : LogState) (d : Done)
       (settled : IsSettled s) (made : IsCommit bs desk new log later d) (grown : HaveGrown new (ledgers_of s t)) (alone : AreLeftAlone s t bs desk.ledgers new) where
     all_outcomes : EachOutcome (λ b v e. Both b (ledger desk.ledgers b.m) v e) bs d.votes.items d.endings.items
@@ -107,6 +160,15 @@ module _ (law : Tabled) (opened : (s : Settling) (m : ℕ) → IsSettled s → (
 
     pub fates_law : TellsTheFates s bs d
     fates_law = record { each = each_tells desk.ledgers bs d.votes.items d.endings.items all_outcomes }
+
+    pub counts_law : CountsTheCommitted s t bs desk.ledgers d
+    counts_law = record { each = each_counts desk.ledgers bs d.votes.items d.endings.items all_outcomes }
+
+    -- no branch was rolled back where one was committed
+    pub whole_law : (has_committed d ≡ true → has_rolled_back d ≡ false) → is_decided d ≡ true → HasAllOrNothing s t bs desk.ledgers d
+    whole_law agree decided =
+        let none = not_true _ decided in
+        record { each = each_whole (has_committed d) desk.ledgers bs d.votes.items d.endings.items agree (λ e. e) (or_none _ _ none).0 (or_none _ _ none).1 all_outcomes }
 
 -- ---- a commit only makes the lists grow
 

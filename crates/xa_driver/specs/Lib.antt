@@ -7,3 +7,4 @@ pub mod Rounds
 pub mod Trace
 pub mod Commits
 pub mod Outcomes
+pub mod Additions

@@ -56,6 +56,14 @@ is_left RolledBack = false
 is_left InDoubt = false
 is_left (Left c) = true
 
+-- the ending, as a test
+abbrev pub is_read_only : Ending → Bool
+is_read_only Committed = false
+is_read_only ReadOnly = true
+is_read_only RolledBack = false
+is_read_only InDoubt = false
+is_read_only (Left c) = false
+
 -- some branch was committed
 abbrev pub has_committed : Done → Bool
 has_committed d = list_any is_committed d.endings.items

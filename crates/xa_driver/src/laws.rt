@@ -17,6 +17,7 @@ ghost use Rattle.xa_driver.specs.Log.{LogState};
 ghost use Rattle.xa_driver.specs.Trace.{IsCommit, IsTraceOfCommit, IsTranOf, wants_record};
 ghost use Rattle.xa_driver.specs.Commits.{NoCommitWasSent};
 ghost use Rattle.xa_driver.specs.Outcomes.{AreLeftAlone, IsCommittedTransaction, IsAbortedTransaction, KeepsTheVotes, TellsTheFates, has_committed, was_refused};
+ghost use Rattle.xa_driver.specs.Additions.{CountsTheCommitted, HasAllOrNothing, is_decided};
 
 use crate::branch::Branch;
 use crate::done::Done;
@@ -26,8 +27,8 @@ use xa_desk::Desk;
 use xa_switch::Settled;
 use xa_switch::laws::settled_journals_follow_the_tables;
 use xa_tables::laws::{
-    late_requests_leave_fates, only_a_shut_shuts, prepared_branches_await_the_outcome,
-    refused_prepares_tell_integrity,
+    adders_never_vote_read_only, late_requests_leave_fates, only_a_shut_shuts,
+    prepared_branches_await_the_outcome, refused_prepares_tell_integrity,
 };
 
 /// Of one call alone: where the append failed, no Commit was sent to any manager.
@@ -47,12 +48,17 @@ pub fn one_outcome()
 
 /// In a settled opening, where nobody but the call named a branch after its Prepare: a branch that voted
 /// to commit isn't left, and is in doubt only where its manager was shut before the place of its second
-/// request; and what the call tells of each branch is what became of it by its manager's journal.
+/// request; what the call tells of each branch is what became of it by its manager's journal; the values count
+/// each addition of a branch exactly where the branch was committed; and where no branch is in doubt or left,
+/// they count all additions of the transaction or none.
 pub fn endings_are_fates()
     ensures votes { (s : Settling) (t : ℕ) (bs : List Branch) (desk : DeskView) (new : List LedgerView) (log later : LogState) (done : Done) → IsSettled s → IsCommit bs desk new log later done → HaveGrown new (ledgers_of s t) → AreLeftAlone s t bs desk.ledgers new → KeepsTheVotes s t bs desk.ledgers done }
     ensures fates { (s : Settling) (t : ℕ) (bs : List Branch) (desk : DeskView) (new : List LedgerView) (log later : LogState) (done : Done) → IsSettled s → IsCommit bs desk new log later done → HaveGrown new (ledgers_of s t) → AreLeftAlone s t bs desk.ledgers new → TellsTheFates s bs done }
+    ensures values { (s : Settling) (t : ℕ) (bs : List Branch) (desk : DeskView) (new : List LedgerView) (log later : LogState) (done : Done) → IsSettled s → IsCommit bs desk new log later done → HaveGrown new (ledgers_of s t) → AreLeftAlone s t bs desk.ledgers new → CountsTheCommitted s t bs desk.ledgers done }
+    ensures whole { (s : Settling) (t : ℕ) (bs : List Branch) (desk : DeskView) (new : List LedgerView) (log later : LogState) (done : Done) → IsSettled s → IsCommit bs desk new log later done → HaveGrown new (ledgers_of s t) → AreLeftAlone s t bs desk.ledgers new → is_decided done ≡ true → HasAllOrNothing s t bs desk.ledgers done }
 {
     prepared_branches_await_the_outcome();
+    adders_never_vote_read_only();
     only_a_shut_shuts();
     late_requests_leave_fates();
     refused_prepares_tell_integrity();
@@ -82,6 +88,8 @@ pub fn commit_in_a_settled_opening<L: DecisionLog>(
     ensures aborted { was_refused done.now ≡ true → (tran : TranName) → IsTranOf branches.now tran → IsAbortedTransaction tran before.now.value.ledgers after.now.value.ledgers (L.state log_after.now.value) done.now }
     ensures votes { AreLeftAlone settled.now thread branches.now before.now.value.ledgers after.now.value.ledgers → KeepsTheVotes settled.now thread branches.now before.now.value.ledgers done.now }
     ensures fates { AreLeftAlone settled.now thread branches.now before.now.value.ledgers after.now.value.ledgers → TellsTheFates settled.now branches.now done.now }
+    ensures values { AreLeftAlone settled.now thread branches.now before.now.value.ledgers after.now.value.ledgers → CountsTheCommitted settled.now thread branches.now before.now.value.ledgers done.now }
+    ensures whole { AreLeftAlone settled.now thread branches.now before.now.value.ledgers after.now.value.ledgers → is_decided done.now ≡ true → HasAllOrNothing settled.now thread branches.now before.now.value.ledgers done.now }
 {
     one_outcome();
     endings_are_fates();

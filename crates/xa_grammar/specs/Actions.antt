@@ -13,6 +13,8 @@ use Rattle.xa_grammar.specs.declared.script.Task.{Task}
 use Rattle.xa_grammar.specs.declared.script.Task.TheVariants as task
 use Rattle.xa_grammar.specs.declared.action.Verb.{Verb}
 use Rattle.xa_grammar.specs.declared.action.Verb.TheVariants as verb
+use Rattle.xa_grammar.specs.declared.action.TheConstants.{MOST_HANDLE}
+use Rattle.xa_grammar.specs.declared.commit.TheConstants.{MOST_MANAGER}
 use Rattle.xa_grammar.specs.Fields.{◌>>=◌, Word, word_at, end_of, number_in, number_at, key_at, xid_at, delta_at}
 use Rattle.xa_grammar.specs.Fields.{flags_onto}
 use Rattle.xa_grammar.specs.Content.{Content, threads_of, managers_of}
@@ -45,13 +47,13 @@ action_at verb.Add ws = do
   Ok (action.Native (rm.Add k.0 d.0), d.1)
 action_at verb.Shut ws = Ok (action.Native rm.Shut, ws)
 action_at verb.Complete ws = do
-  h ← number_at 0 2_147_483_647 ws
+  h ← number_at 0 MOST_HANDLE ws
   Ok (action.Complete (pos h.0), h.1)
 
 -- M .. flags, by a thread, on the line of this number; M is any number up to 4,294,967,295.
 unfoldable pub called_of : ℕ → ℕ → Verb → List Word → Result Called Reason
 called_of line t v ws = do
-  m ← number_at 0 4_294_967_295 ws
+  m ← number_at 0 MOST_MANAGER ws
   a ← action_at v m.1
   f ← flags_onto 0 a.1
   Ok (record { line = line; thread = t; manager = m.0; action = a.0; flags = f })

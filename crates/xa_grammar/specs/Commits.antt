@@ -6,14 +6,15 @@ use Rattle.xa_grammar.specs.declared.fault.Reason.{Reason}
 use Rattle.xa_grammar.specs.declared.fault.Reason.TheVariants.{BadBranches}
 use Rattle.xa_grammar.specs.declared.script.CommitAll.{CommitAll}
 use Rattle.xa_grammar.specs.declared.named.Named.{Named}
+use Rattle.xa_grammar.specs.declared.commit.TheConstants.{MOST_MANAGER}
 use Rattle.xa_grammar.specs.Fields.{◌>>=◌, Word, number_at, numbers_to_end, tran_at}
 use Rattle.xa_grammar.specs.Content.{Content, managers_of}
 
 -- M M ..: one number or more.
 unfoldable pub numbers_at : List Word → Result (List ℕ) Reason
 numbers_at ws = do
-  m ← number_at 0 4_294_967_295 ws
-  ms ← numbers_to_end 0 4_294_967_295 m.1
+  m ← number_at 0 MOST_MANAGER ws
+  ms ← numbers_to_end 0 MOST_MANAGER m.1
   Ok (m.0 ∷ ms)
 
 -- Each is one of so many managers, and above the one before it.

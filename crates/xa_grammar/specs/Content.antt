@@ -6,6 +6,7 @@ use Rattle.std.specs.Prelude.{replicate}
 use Rattle.std.specs.List.{list_any}
 use Rattle.xa_base.specs.declared.limits.TheConstants.{MOST_HANDLES, MOST_MANAGERS, MOST_QUEUED, MOST_REQUESTS}
 use Rattle.xa_base.specs.declared.limits.TheConstants.{MOST_THREADS}
+use Rattle.xa_grammar.specs.declared.setting.TheConstants.{MOST_APPENDS}
 use Rattle.xa_base.specs.Lists.{IsUpTo}
 use Rattle.xa_tables.specs.Accounts.{are_accounts}
 use Rattle.xa_grammar.specs.declared.script.Count.{Count}
@@ -129,7 +130,7 @@ IsOfScript s p = Fits (threads_of s) (managers_of s) p
 
 -- An append that fails is one of the first 1,000,000 of a log, and the log is of a thread that there is.
 abbrev pub IsOfLog : Content → ℕ → Type 0
-IsOfLog s t = IfSome (failing_append s t) (λ k. IsUpTo 1_000_000 k × IsUpTo (threads_of s) t)
+IsOfLog s t = IfSome (failing_append s t) (λ k. IsUpTo MOST_APPENDS k × IsUpTo (threads_of s) t)
 
 -- What holds of every script: its counts are within the limits, each key is of a manager that there is, each manager
 -- can be opened with its keys, appends fail in logs that there are, and each step is of a thread or a manager that

@@ -4,6 +4,7 @@ use Rattle.std.specs.Prelude.{Some, None, Result, Ok, Err, codes}
 use Rattle.std.specs.List.{list_all}
 use Rattle.std.specs.Str.{bytes_eq}
 use Rattle.xa_base.specs.declared.limits.TheConstants.{MOST_THREADS}
+use Rattle.xa_grammar.specs.declared.line.TheConstants.{LONGEST_LINE, MOST_LINES}
 use Rattle.xa_grammar.specs.declared.fault.Reason.{Reason}
 use Rattle.xa_grammar.specs.declared.fault.Reason.TheVariants.{LineTooLong, BadByte, TooManyLines, UnknownWord}
 use Rattle.xa_grammar.specs.declared.fault.ScriptFault.{ScriptFault}
@@ -75,8 +76,8 @@ item_of mode s n (w ∷ ws) = item_by (head_of w) mode s n w ws
 -- What line n says. There are at most 100,000 lines, and a line has at most 512 bytes, each 32 to 126 or a tab.
 unfoldable pub line_of : Bool → Content → ℕ → List ℕ → Result Item Reason
 line_of mode s n line =
-    if nat_lt 100_000 n then Err TooManyLines
-    else if nat_lt 512 (length line) then Err LineTooLong
+    if nat_lt MOST_LINES n then Err TooManyLines
+    else if nat_lt LONGEST_LINE (length line) then Err LineTooLong
     else if not (list_all is_script_byte line) then Err BadByte
     else item_of mode s n (words_of line)
 

@@ -3,7 +3,8 @@ use Rattle.std.specs.Prelude.{ℕ, Bool, ◌&&◌, ◌==◌, nat_le, is_some, if
 use Rattle.std.specs.Prelude.{Result, Ok, Err}
 use Rattle.std.specs.List.{list_any}
 use Rattle.xa_base.specs.declared.limits.TheConstants.{MOST_HANDLES, MOST_KEYS, MOST_MANAGERS, MOST_QUEUED}
-use Rattle.xa_base.specs.declared.limits.TheConstants.{MOST_REQUESTS, MOST_THREADS}
+use Rattle.xa_grammar.specs.declared.setting.TheConstants.{MOST_APPENDS}
+use Rattle.xa_base.specs.declared.limits.TheConstants.{MOST_REQUESTS, MOST_THREADS, MOST_VALUE}
 use Rattle.xa_words.specs.Key.{key_eq}
 use Rattle.xa_grammar.specs.declared.fault.Reason.{Reason}
 use Rattle.xa_grammar.specs.declared.fault.Reason.TheVariants.{SettingAfterAction, SettingTwice, KeyTwice, TooManyKeys}
@@ -64,7 +65,7 @@ unfoldable pub logfail_of : Content → List Word → Result (ℕ × ℕ) Reason
 logfail_of s ws = do
   first ← before_actions s.steps
   t ← number_at 1 (threads_of s) ws
-  k ← number_at 1 1_000_000 t.1
+  k ← number_at 1 MOST_APPENDS t.1
   last ← end_of k.1
   Ok (t.0, k.0)
 
@@ -91,6 +92,6 @@ declared_of s ws = do
   first ← before_actions s.steps
   m ← number_at 1 (managers_of s) ws
   k ← key_at m.1
-  v ← number_at 0 1_000_000_000_000 k.1
+  v ← number_at 0 MOST_VALUE k.1
   last ← end_of v.1
   new_key s.keys (record { manager = m.0; key = k.0; value = v.0 })

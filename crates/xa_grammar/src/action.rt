@@ -3,7 +3,7 @@ ghost use Rattle.std.specs.Prelude.{◌≡◌};
 ghost use Rattle.xa_grammar.specs.Fields.{Takes};
 ghost use Rattle.xa_grammar.specs.Actions.{verb_of, action_at, called_of, commit_task, call_task, task_by, task_of_line, turn_of};
 
-use crate::commit::commit_of;
+use crate::commit::{MOST_MANAGER, commit_of};
 use crate::fault::Reason;
 use crate::field::number_in;
 use crate::script::{Action, Called, Script, Task};
@@ -79,7 +79,7 @@ fn action_at(verb: Verb, words: &mut Words) -> Result<Action, Reason>
 fn called_of(line: u32, thread: u32, verb: Verb, words: &mut Words) -> Result<Called, Reason>
     ensures { result ≡ called_of line thread verb words.old }
 {
-    let manager = words.number(0, u64::from(u32::MAX))? as u32;
+    let manager = words.number(0, MOST_MANAGER)? as u32;
     let action = action_at(verb, words)?;
     let flags = words.flags()?;
     Ok(Called {

@@ -9,7 +9,7 @@ use crate::script::{CommitAll, Script};
 use crate::words::Words;
 
 // How large a manager's number may be on a line, whether or not there is such a manager.
-const MOST_MANAGER: u64 = u32::MAX as u64;
+pub(crate) const MOST_MANAGER: u64 = u32::MAX as u64;
 
 // The words after the global transaction, where there are so many managers.
 fn branches_at(count: u32, words: &mut Words) -> Result<[bool; 8], Reason>

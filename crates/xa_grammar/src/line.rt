@@ -126,7 +126,7 @@ fn without_return(line: &[u8]) -> &[u8]
 #[tactic(auto, unfolding(crate::specs::Grammar::line_of))]
 fn line_of(script: &Script, threads_mode: bool, number: u32, line: &[u8]) -> Result<Item, Reason>
     ensures item { result ≡ line_of threads_mode script.now number line.now }
-    ensures few { OnOk result (number ≤ 100_000) }
+    ensures few { OnOk result (number ≤ MOST_LINES) }
     ensures place { IfOk result HasPlace }
 {
     if number > MOST_LINES {
@@ -171,7 +171,7 @@ pub(crate) fn read_line(
     line: &[u8],
 ) -> Result<(), ScriptFault>
     ensures ok { OnOk result (after_line threads_mode script.old number line.now ≡ Ok script.new) }
-    ensures few { OnOk result (number ≤ 100_000) }
+    ensures few { OnOk result (number ≤ MOST_LINES) }
     ensures err { IfErr result (λ fault.
         FailsAt number fault (after_line threads_mode script.old number line.now)) }
 {

@@ -1,5 +1,8 @@
 //! What a script says.
 ghost use Rattle.std.specs.Prelude.{◌≡◌, ◌≤◌, ℕ, true, All, IfSome, OnOk};
+ghost use Rattle.xa_base.specs.declared.limits.TheConstants.{MOST_HANDLES, MOST_MANAGERS, MOST_QUEUED, MOST_REQUESTS, MOST_THREADS};
+ghost use Rattle.xa_base.specs.Lists.{IsUpTo};
+ghost use Rattle.xa_grammar.specs.declared.setting.TheConstants.{MOST_APPENDS};
 
 use std::alloc::{AllocError, Global};
 use std::marker::Model;
@@ -157,7 +160,7 @@ impl Script {
     /// How many threads of control there are, 1 to 8.
     pub fn threads(&self) -> u32
         ensures threads { result ≡ threads_of self.now }
-        ensures limits { (1 ≤ result) × (result ≤ 8) }
+        ensures limits { IsUpTo MOST_THREADS result }
     {
         self.settings.threads.unwrap_or(1)
     }
@@ -165,7 +168,7 @@ impl Script {
     /// How many managers there are, 1 to 8.
     pub fn managers(&self) -> u32
         ensures managers { result ≡ managers_of self.now }
-        ensures limits { (1 ≤ result) × (result ≤ 8) }
+        ensures limits { IsUpTo MOST_MANAGERS result }
     {
         self.settings.managers.unwrap_or(1)
     }
@@ -173,7 +176,7 @@ impl Script {
     /// How many handles a thread has, 1 to 32.
     pub fn handles(&self) -> u32
         ensures handles { result ≡ handles_of self.now }
-        ensures limits { (1 ≤ result) × (result ≤ 32) }
+        ensures limits { IsUpTo MOST_HANDLES result }
     {
         self.settings.handles.unwrap_or(4)
     }
@@ -181,7 +184,7 @@ impl Script {
     /// How many requests a manager's queue holds, 1 to 64.
     pub fn queue(&self) -> u32
         ensures queue { result ≡ queue_of self.now }
-        ensures limits { (1 ≤ result) × (result ≤ 64) }
+        ensures limits { IsUpTo MOST_QUEUED result }
     {
         self.settings.queue.unwrap_or(8)
     }
@@ -189,7 +192,7 @@ impl Script {
     /// How many requests a thread may put to a manager, 1 to 4,096.
     pub fn requests(&self) -> u32
         ensures requests { result ≡ requests_of self.now }
-        ensures limits { (1 ≤ result) × (result ≤ 4096) }
+        ensures limits { IsUpTo MOST_REQUESTS result }
     {
         self.settings.requests.unwrap_or(256)
     }
@@ -213,7 +216,7 @@ impl Script {
     /// Which append of the thread's log fails, from 1, if one does. No log fails of a thread that there isn't.
     pub fn failing_append(&self, thread: u32) -> Option<u32>
         ensures append { result ≡ failing_append self.now thread }
-        ensures limits { IfSome result (λ k. (1 ≤ k) × (k ≤ 1_000_000)) }
+        ensures limits { IfSome result (λ k. IsUpTo MOST_APPENDS k) }
         ensures of { IfSome result (λ k. (1 ≤ thread) × (thread ≤ threads_of self.now)) }
     {
         match thread {

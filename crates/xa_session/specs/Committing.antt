@@ -1,6 +1,7 @@
 -- What a commit of several branches does to its thread, and what it answers.
 use Rattle.std.specs.Prelude.{◌≡◌, ℕ, ◌-◌, pos, Bool, false, List, decimal, map, filter}
 use Rattle.std.specs.List.{range_with_len, slice_index_or}
+use Rattle.xa_base.specs.declared.limits.TheConstants.{MOST_MANAGERS}
 use Rattle.xa_words.specs.Tran.{TranName}
 use Rattle.xa_desk.specs.DeskView.{outstanding}
 use Rattle.xa_driver.specs.declared.branch.Branch.{Branch}
@@ -26,7 +27,7 @@ is_at c m = slice_index_or c.managers (m - 1) false
 
 -- The branches of a commit, by rising manager.
 abbrev pub branches_of : CommitAll → List Branch
-branches_of c = map (branch_at c) (filter (is_at c) (range_with_len 1 8))
+branches_of c = map (branch_at c) (filter (is_at c) (range_with_len 1 MOST_MANAGERS))
 
 -- What a commit of several branches does to its thread's desk and log, and what it answers: where the branches may not
 -- be committed nothing is done; else it is the trace of the coordinator.

@@ -110,7 +110,6 @@ value_in k None = None
 value_in k (Some p) = value_after k (requests p.journal) p.first
 
 -- the value of a key after manager m's journal: the declared one, and each accepted addition whose branch commits
--- later;
--- none for a manager or a key that isn't there
+-- later; none for a manager or a key that isn't there
 abbrev pub value : Settling → ℕ → List ℕ → Option ℤ
 value s m k = value_in k (find_manager m s.managers)

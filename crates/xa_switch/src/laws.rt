@@ -23,6 +23,8 @@ ghost use Rattle.xa_switch.specs.Settling.{Settling, IsSettled};
 ghost use Rattle.xa_switch.specs.Fates.{IsOpenedWith};
 ghost use Rattle.xa_switch.specs.Seats.{DeskSeat, WorkerSeat, ComeFromOpenings, AreSomeOf, AreOfOne, desk_seats, worker_seats, openings_of, seat_of_desk, seat_of_worker};
 
+use xa_tables::laws::late_requests_add_nothing;
+
 /// The desks and workers that an opening gives come from it.
 pub fn opened_pieces_come_from_their_opening()
     ensures { (p : Plan) (ds : List DeskView) (ws : List WorkerView) → AreOfOneOpening p ds ws → ComeFromOpenings (map seat_of_desk ds) (map seat_of_worker ws) }
@@ -53,7 +55,9 @@ pub fn settled_openings_are_of_their_plan()
 /// requests that it took.
 pub fn settled_journals_follow_the_tables()
     ensures { (s : Settling) (m : ℕ) → IsSettled s → (T : Tables) × IsOpenedWith s m T }
-{}
+{
+    late_requests_add_nothing();
+}
 
 /// At the desks of an opening nothing is outstanding that isn't kept. As an operation that is kept under a
 /// number is collected, the others stay kept; and where all that is outstanding is kept and nothing is

@@ -7,6 +7,7 @@ ghost use Rattle.xa_switch.specs.Settling.{IsSettled, ledgers_in, find_thread, f
 
 use std::marker::Model;
 use std::snapshot::Snapshot;
+use xa_base::MOST_VALUE;
 use xa_desk::Ledger;
 use xa_tables::Manager;
 use xa_tables::laws::value_is_sum;
@@ -74,7 +75,7 @@ impl Carried {
     // The value of a key after the journal.
     fn value(&self, key: &Key) -> Option<u64>
         ensures value { option_map pos result ≡ value_after key.now (requests self.now.journal) self.now.first }
-        ensures bounded { IfSome result (λ v. v ≤ 1000000000000) }
+        ensures bounded { IfSome result (λ v. v ≤ MOST_VALUE) }
     {
         value_is_sum();
         self.manager.value(key)
@@ -178,7 +179,7 @@ impl Settled {
     /// declared there.
     pub fn value(&self, manager: u32, key: &Key) -> Option<u64>
         ensures value { option_map pos result ≡ value self.now manager key.now }
-        ensures bounded { IfSome result (λ v. v ≤ 1000000000000) }
+        ensures bounded { IfSome result (λ v. v ≤ MOST_VALUE) }
         ensures settled { IsSettled self.now }
     {
         match find_carried(&self.managers, manager) {

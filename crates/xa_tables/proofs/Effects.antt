@@ -112,7 +112,7 @@ code_rolls_back Failed = refl
 code_rolls_back Transient = refl
 
 -- the reason of a branch that can only be rolled back is an XA_RB* code
-reason_rolls_back : (o : Option State) → is_S4 o ≡ true → is_rolled_back (reason_in o) ≡ true
+pub reason_rolls_back : (o : Option State) → is_S4 o ≡ true → is_rolled_back (reason_in o) ≡ true
 reason_rolls_back None e = cc
 reason_rolls_back (Some Active) e = cc
 reason_rolls_back (Some Idle) e = cc

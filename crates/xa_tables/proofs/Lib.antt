@@ -9,6 +9,7 @@ pub mod PlaceLemmas
 pub mod Effects
 pub mod Law
 pub mod ValueLaw
+pub mod AddedLaw
 pub mod LateLaw
 pub mod Unnamed
 pub mod Opened

@@ -13,7 +13,7 @@ use Rattle.xa_words.specs.declared.request.Op.TheVariants.{Add, Commit}
 use Rattle.xa_tables.specs.declared.state.Association.{Association}
 use Rattle.xa_tables.specs.Tables.{Tables, association_of, has_other_touched, Touch, touch_cmp, sum_of, sums_without}
 use Rattle.xa_tables.specs.Next.{Answer, next, gone, committed}
-use Rattle.xa_tables.specs.History.{History, coded, accepted, Fate, InDoubt, Live, Committed, fate_of, if_named, tables_after, added_in, share_of, share, commits_later, ending, or_later, ValueIsSum, IsOpening}
+use Rattle.xa_tables.specs.History.{History, coded, accepted, Fate, InDoubt, Live, Committed, fate_of, if_named, tables_after, added_in, share_of, share, commits_later, ending, or_later, ValueIsSum, IsSumOfAll, IsOpening}
 use Rattle.xa_tables.proofs.ShutLemmas.{after_accepted}
 use Rattle.xa_tables.proofs.Effects.{Effect, Stays, Starts, Joins, Resumes, Dooms, Adds, Prepares, Commits, Drops, TellsDropped, effect_of, undone_adds}
 use Rattle.xa_tables.proofs.Law.{swap_xid, Sound, sound_after, opening_sound}
@@ -246,8 +246,15 @@ values_after (r ∷ H) k p T s h =
     ∙ ap (option_map (λ v. v +ℤ (due a.held (λ x. commits_later x (coded H T1)) +ℤ added_in k H T1))) a.values
     ∙ joined (map.get T.values k) a.moved (due a.held (λ x. commits_later x (coded H T1))) (added_in k H T1) (due p (λ x. commits_later x (coded (r ∷ H) T))) (share k r H T) (a.owes (λ x. commits_later x (coded H T1)))
 
+-- the values after H, from an opening
+values_from : (H : History) (k : List ℕ) (T : Tables) → IsOpening T → map.get (tables_after H T).values k ≡ option_map (λ v. v +ℤ added_in k H T) (map.get T.values k)
+values_from H k T o =
+    values_after H k None T (opening_sound T o) (λ x. ap (λ m. map.get m (x, k)) o.sums ∙ get-empty touch_cmp (x, k))
+    ∙ ap (λ d. option_map d (map.get T.values k)) (λ i v. v +ℤ zero_left (added_in k H T) i)
+
 pub value_law : (H : History) (k : List ℕ) (T : Tables) → IsOpening T → ValueIsSum k H T
-value_law H k T o =
-    after_accepted (λ (U : Tables). map.get U.values k) (λ _. refl) H T
-    ∙ values_after (accepted H) k None T (opening_sound T o) (λ x. ap (λ m. map.get m (x, k)) o.sums ∙ get-empty touch_cmp (x, k))
-    ∙ ap (λ d. option_map d (map.get T.values k)) (λ i v. v +ℤ zero_left (added_in k (accepted H) T) i)
+value_law H k T o = after_accepted (λ (U : Tables). map.get U.values k) (λ _. refl) H T ∙ values_from (accepted H) k T o
+
+-- late requests add nothing
+pub whole_law : (H : History) (k : List ℕ) (T : Tables) → IsOpening T → IsSumOfAll k H T
+whole_law H k T o = sym (value_law H k T o) ∙ values_from H k T o

@@ -1,7 +1,7 @@
 -- Histories: the requests of one manager, in the order in which its worker took them.
 use Rattle.std.specs.Prelude.{◌≡◌, ℕ, ℤ, pos, ◌+ℤ◌, ◌≤ℤ◌, Bool, true, false, not, ◌||◌, ◌&&◌, ◌==◌, if◌then◌else◌}
 use Rattle.std.specs.Prelude.{Option, None, Some, option_map, List, [], ◌∷◌, ◌++◌, map, filter, refl}
-use Rattle.std.specs.List.{filter_map}
+use Rattle.std.specs.List.{All, filter_map}
 use Rattle.std.specs.FinSet as finset
 use Rattle.std.specs.FinMap as finmap
 use Rattle.xa_base.specs.declared.limits.TheConstants.{MOST_VALUE}
@@ -206,6 +206,10 @@ abbrev pub ending : Option Fate → Option Bool
 ending None = None
 ending (Some f) = ending_by f
 
+-- no request of the history ends x
+abbrev pub EndsNowhere : XidName → History → Tables → Type 0
+EndsNowhere x h T = All (λ e. ending (fate_of x e.0.op e.1) ≡ None) (coded h T)
+
 -- what this request decides, or else the later ones
 abbrev pub or_later : Option Bool → Bool → Bool
 or_later None later = later
@@ -281,6 +285,10 @@ StaysWithin k h T = (v : ℤ) → finmap.get (tables_after h T).values k ≡ Som
 -- the tables' value of a key is the value after the history
 abbrev pub ValueIsSum : List ℕ → History → Tables → Type 0
 ValueIsSum k h T = finmap.get (tables_after h T).values k ≡ value_after k h T
+
+-- the value after the history has the share of each request, also of the late ones
+abbrev pub IsSumOfAll : List ℕ → History → Tables → Type 0
+IsSumOfAll k h T = value_after k h T ≡ option_map (λ v. v +ℤ added_in k h T) (finmap.get T.values k)
 
 -- the accepted requests have the codes that they have alone, the first Shut is carried out, and the late ones are
 -- refused

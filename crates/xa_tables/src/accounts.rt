@@ -78,7 +78,7 @@ impl Accounts {
     /// The committed value of a key, and `None` where it isn't declared.
     pub(crate) fn value(&self, key: &Key) -> Option<u64>
         ensures value { option_map pos result ≡ finmap.get self.now.values key.now }
-        ensures bounded { IfSome result (λ v. v ≤ 1000000000000) }
+        ensures bounded { IfSome result (λ v. v ≤ MOST_VALUE) }
     {
         let place = self.places.get(key)?;
         Some(committed(&self.accounts[place]))
@@ -160,7 +160,7 @@ pub(crate) fn are_accounts(declared: &[(Key, u64)]) -> bool
 }
 
 fn are_within(declared: &[(Key, u64)]) -> bool
-    ensures { result ≡ list_all (λ d. nat_le d.1 1000000000000) declared.now }
+    ensures { result ≡ list_all (λ d. nat_le d.1 MOST_VALUE) declared.now }
 {
     declared.iter().all(|(_, value)| *value <= MOST_VALUE)
 }

@@ -13,6 +13,7 @@ use crate::state::{Association, AssociationState, RollbackReason, State};
 use crate::threads::Threads;
 use std::alloc::{AllocError, Global};
 use std::marker::Model;
+use xa_base::MOST_VALUE;
 use xa_words::{Code, Delta, EndHow, Key, Xid};
 
 /// What one manager's rules speak of: threads, branches, keys, and whether it is shut.
@@ -83,7 +84,7 @@ impl BranchTables {
     /// The committed value of a key.
     pub(crate) fn value(&self, key: &Key) -> Option<u64>
         ensures value { option_map pos result ≡ finmap.get self.now.tables.values key.now }
-        ensures bounded { IfSome result (λ v. v ≤ 1000000000000) }
+        ensures bounded { IfSome result (λ v. v ≤ MOST_VALUE) }
     {
         self.accounts.value(key)
     }

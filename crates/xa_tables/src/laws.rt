@@ -1,10 +1,11 @@
 //! Laws of the definitions, for any history.
-ghost use Rattle.std.specs.Prelude.{◌≡◌, ◌++◌, ℕ, List, [], true, false};
+ghost use Rattle.std.specs.Prelude.{◌≡◌, ◌≢◌, ◌++◌, ℕ, ℤ, List, [], Some, option_map, true, false};
 ghost use Rattle.xa_words.specs.Xid.{XidName};
-ghost use Rattle.xa_words.specs.declared.code.Code.TheVariants.{Done, RbIntegrity};
-ghost use Rattle.xa_words.specs.declared.request.Op.TheVariants.{Prepare};
-ghost use Rattle.xa_tables.specs.Tables.{Tables, is_somebody_associated};
-ghost use Rattle.xa_tables.specs.History.{History, IsOpening, PreparedIsInDoubt, ExistsWhileUnfinished, ActiveWhileAssociated, StaysWithin, ValueIsSum, LateAreRefused, LateChangeNothing, tables_after, coded, accepted, first_shut, late, fate, fate_in, is_rolled_back, Absent, Live, InDoubt, Committed, ReadOnly, RolledBack};
+ghost use Rattle.xa_words.specs.declared.code.Code.TheVariants.{Done, RbIntegrity, RdOnly};
+ghost use Rattle.xa_words.specs.declared.request.Op.{Op};
+ghost use Rattle.xa_words.specs.declared.request.Op.TheVariants.{Add, Prepare};
+ghost use Rattle.xa_tables.specs.Tables.{Tables, association_of, is_somebody_associated};
+ghost use Rattle.xa_tables.specs.History.{History, IsOpening, EndsNowhere, PreparedIsInDoubt, ExistsWhileUnfinished, ActiveWhileAssociated, StaysWithin, ValueIsSum, IsSumOfAll, LateAreRefused, LateChangeNothing, tables_after, coded, accepted, first_shut, late, fate, fate_in, is_rolled_back, Absent, Live, InDoubt, Committed, ReadOnly, RolledBack};
 ghost use Rattle.xa_tables.specs.Accounts.{are_accounts};
 ghost use Rattle.xa_tables.specs.Managers.{opening};
 ghost use Rattle.xa_tables.specs.Next.{next};
@@ -36,6 +37,17 @@ pub fn values_stay_within_the_limits()
 /// addition whose branch commits later.
 pub fn value_is_sum()
     ensures { (h : History) (k : List ℕ) (T : Tables) → IsOpening T → ValueIsSum k h T }
+{}
+
+/// A branch that has added to a key isn't read only: its Prepare isn't answered XA_RDONLY, unless it was
+/// ended in between.
+pub fn adders_never_vote_read_only()
+    ensures { (t u : ℕ) (op : Op) (x : XidName) (k : List ℕ) (d : ℤ) (g : History) (T : Tables) → op ≡ Add k d → option_map (λ a. a.xid) (association_of T u) ≡ Some x → (next u op T).1 ≡ Done → EndsNowhere x g (next u op T).0 → (next t (Prepare x) (tables_after g (next u op T).0)).1 ≢ RdOnly }
+{}
+
+/// Late requests add nothing, so a value may be read from the whole history.
+pub fn late_requests_add_nothing()
+    ensures { (h : History) (k : List ℕ) (T : Tables) → IsOpening T → IsSumOfAll k h T }
 {}
 
 /// The first Shut parts a history into the accepted requests, itself and the late ones. A late request is

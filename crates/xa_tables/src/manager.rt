@@ -9,7 +9,7 @@ use crate::accounts::are_accounts;
 use crate::branch_tables::BranchTables;
 use std::alloc::{AllocError, Global};
 use std::marker::Model;
-use xa_base::{MOST_JOURNALED, MOST_THREADS};
+use xa_base::{MOST_JOURNALED, MOST_THREADS, MOST_VALUE};
 use xa_words::{Code, Key, Op, StartHow, Xid};
 
 /// Why a manager can't be opened: the first reason that holds.
@@ -97,7 +97,7 @@ impl Manager {
     /// The committed value of a key, and `None` for a key that wasn't declared.
     pub fn value(&self, key: &Key) -> Option<u64>
         ensures value { option_map pos result ≡ finmap.get self.now.tables.values key.now }
-        ensures bounded { IfSome result (λ v. v ≤ 1000000000000) }
+        ensures bounded { IfSome result (λ v. v ≤ MOST_VALUE) }
     {
         self.inner.value(key)
     }

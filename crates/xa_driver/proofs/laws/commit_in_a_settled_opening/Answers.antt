@@ -11,3 +11,9 @@ returns-clause-votes g c = λ alone. c.endings_are_fates.ensures.votes _ _ _ _ _
 
 pub returns-clause-fates : goal.returns-clause-fates
 returns-clause-fates g c = λ alone. c.endings_are_fates.ensures.fates _ _ _ _ _ _ _ _ c.journal-settled.ensures.settled c.requires.made c.requires.grown alone
+
+pub returns-clause-values : goal.returns-clause-values
+returns-clause-values g c = λ alone. c.endings_are_fates.ensures.values _ _ _ _ _ _ _ _ c.journal-settled.ensures.settled c.requires.made c.requires.grown alone
+
+pub returns-clause-whole : goal.returns-clause-whole
+returns-clause-whole g c = λ alone decided. c.endings_are_fates.ensures.whole _ _ _ _ _ _ _ _ c.journal-settled.ensures.settled c.requires.made c.requires.grown alone decided

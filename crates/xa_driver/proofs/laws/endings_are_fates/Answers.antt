@@ -1,5 +1,6 @@
 use Rattle.xa_driver.proofs.Branches.{Tabled}
-use Rattle.xa_driver.proofs.Settled.{votes_law, fates_law}
+use Rattle.xa_driver.proofs.Settled.{votes_law, fates_law, counts_law, whole_law}
+use Rattle.xa_driver.proofs.OneOutcome.{committed_law}
 use Rattle.xa_driver.proofs.laws.endings_are_fates.Goals as goal
 
 pub returns-clause-votes : goal.returns-clause-votes
@@ -8,6 +9,7 @@ returns-clause-votes c = λ s t bs desk new log later done settled made grown al
       awaits = c.prepared_branches_await_the_outcome.ensures;
       shuts = c.only_a_shut_shuts.ensures;
       leaves = c.late_requests_leave_fates.ensures;
+      adders = c.adders_never_vote_read_only.ensures;
       breaks = c.refused_prepares_tell_integrity.ensures;
     } in
     votes_law law c.settled_journals_follow_the_tables.ensures s t bs desk new log later done settled made grown alone
@@ -18,6 +20,30 @@ returns-clause-fates c = λ s t bs desk new log later done settled made grown al
       awaits = c.prepared_branches_await_the_outcome.ensures;
       shuts = c.only_a_shut_shuts.ensures;
       leaves = c.late_requests_leave_fates.ensures;
+      adders = c.adders_never_vote_read_only.ensures;
       breaks = c.refused_prepares_tell_integrity.ensures;
     } in
     fates_law law c.settled_journals_follow_the_tables.ensures s t bs desk new log later done settled made grown alone
+
+pub returns-clause-values : goal.returns-clause-values
+returns-clause-values c = λ s t bs desk new log later done settled made grown alone.
+    let law : Tabled = record {
+      awaits = c.prepared_branches_await_the_outcome.ensures;
+      shuts = c.only_a_shut_shuts.ensures;
+      leaves = c.late_requests_leave_fates.ensures;
+      adders = c.adders_never_vote_read_only.ensures;
+      breaks = c.refused_prepares_tell_integrity.ensures;
+    } in
+    counts_law law c.settled_journals_follow_the_tables.ensures s t bs desk new log later done settled made grown alone
+
+pub returns-clause-whole : goal.returns-clause-whole
+returns-clause-whole c = λ s t bs desk new log later done settled made grown alone decided.
+    let law : Tabled = record {
+      awaits = c.prepared_branches_await_the_outcome.ensures;
+      shuts = c.only_a_shut_shuts.ensures;
+      leaves = c.late_requests_leave_fates.ensures;
+      adders = c.adders_never_vote_read_only.ensures;
+      breaks = c.refused_prepares_tell_integrity.ensures;
+    } in
+    whole_law law c.settled_journals_follow_the_tables.ensures s t bs desk new log later done settled made grown alone
+    (λ some. (committed_law made.may.tran bs desk new log later done made made.may.one some).kept) decided
