@@ -1,4 +1,6 @@
 //! Days of two tellers over three stores.
+mod crowded;
+
 ghost use Rattle.std.specs.Prelude.{◌≡◌};
 
 use super::*;
@@ -14,12 +16,12 @@ const START: u64 = 1_000;
 
 const NAMES: [&[u8]; 2] = [b"current", b"savings"];
 
-// A plan of three stores with the same accounts.
-fn plan_of(rt: &impl Abort, alloc: Global, threads: u32) -> Plan
+// A plan of so many stores with the same accounts.
+fn plan_of(rt: &impl Abort, alloc: Global, threads: u32, stores: u32) -> Plan
     ensures { result.threads ≡ threads }
 {
     let mut managers = Vec::new(alloc);
-    for _ in 0..STORES {
+    for _ in 0..stores {
         let mut accounts = Vec::new(alloc);
         for name in NAMES {
             accounts
@@ -43,6 +45,11 @@ fn plan_of(rt: &impl Abort, alloc: Global, threads: u32) -> Plan
     }
 }
 
+// The amount of transfer k.
+fn amount_of(k: u32) -> u32 {
+    k % 7 * 100
+}
+
 // So many transfers round the stores, by turns of one account and the other.
 fn teller_of(rt: &impl Abort, alloc: Global, transfers: u32) -> Teller {
     let mut all = Vec::new(alloc);
@@ -51,7 +58,7 @@ fn teller_of(rt: &impl Abort, alloc: Global, transfers: u32) -> Teller {
             from: k % STORES + 1,
             to: (k + 1) % STORES + 1,
             account: Key::new(NAMES[k as usize % 2]).expect(rt, "a name"),
-            amount: k % 7 * 100,
+            amount: amount_of(k),
         };
         all.push(transfer).expect(rt, "memory");
     }
@@ -89,7 +96,7 @@ fn is_whole(outcome: &Outcome) -> bool {
 #[test]
 fn money_stays_in_the_bank(rt: HostRuntime) {
     let alloc = rt.alloc();
-    let plan = plan_of(&rt, alloc, 2);
+    let plan = plan_of(&rt, alloc, 2, STORES);
     let both = [teller_of(&rt, alloc, 60), teller_of(&rt, alloc, 60)];
     let Ok(tellers) = Vec::from_array(alloc, both) else {
         panic!(rt; "memory");
@@ -116,7 +123,7 @@ fn a_plan_without_stores_is_refused(rt: HostRuntime) {
     let alloc = rt.alloc();
     let plan = Plan {
         managers: Vec::new(alloc),
-        ..plan_of(&rt, alloc, 1)
+        ..plan_of(&rt, alloc, 1, STORES)
     };
     let Ok(tellers) = Vec::from_array(alloc, [teller_of(&rt, alloc, 1)]) else {
         panic!(rt; "memory");

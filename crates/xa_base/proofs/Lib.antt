@@ -1,3 +1,4 @@
 pub mod Lists
 pub mod Truth
 pub mod Maps
+pub mod Sums

@@ -7,6 +7,7 @@ use Rattle.std.proofs.lemmas.List.{length-map, length-set, get_or-set_other, get
 use Rattle.std.proofs.lemmas.Option.{slice_get_within, slice_get-get_or, slice_get_cases, get_or_from_slice_get}
 use Rattle.std.proofs.Math.Seq.{take-suc}
 use Rattle.std.proofs.lemmas.List.Elements.{All-push, filter-append}
+use Rattle.std.proofs.lemmas.List.FromFn.{length-range_with_len, get_or-range_with_len}
 use Rattle.std.proofs.lemmas.List.Kept.{AllPairs-cons}
 use Rattle.xa_base.specs.Lists.{Begins, Pairwise}
 
@@ -231,3 +232,11 @@ flat_one p f (y ∷ xs) (suc k) x at others =
 pub flat_push : {X A : Type 0} (f : X → List A) (xs : List X) (x : X) → flat_map f (xs ++ x ∷ []) ≡ flat_map f xs ++ f x
 flat_push f [] x = append-nil (f x)
 flat_push f (y ∷ xs) x = ap (λ l. f y ++ l) (flat_push f xs x) ∙ sym (append_assoc (f y) (flat_map f xs) (f x))
+
+-- ---- numbers that follow each other
+
+-- what holds of each number of a range holds in each place
+pub range_all : (P : ℕ → Type 0) (a n : ℕ) → ((m : ℕ) → a ≤ m → m < a + n → P m) → All P (range_with_len a n)
+range_all P a n h k d lt =
+    let below : k < n = let e = length-range_with_len a n in omega (arith, e, lt) in
+    subst P (sym (get_or-range_with_len a n k d below)) (h (a + k) (omega arith) (omega (arith, below)))

@@ -1,6 +1,6 @@
 -- The lists of a desk only grow.
-use Rattle.std.proofs.Common.{◌≡◌, ℕ, zero, suc, ◌-◌, ◌≤◌, List, [], ◌∷◌, ◌++◌, length, get_or, set, append_assoc, sym, refl, ap, ◌∙◌, subst, arith, inl, inr}
-use Rattle.std.proofs.lemmas.List.{append-nil, get_or-set_same, get_or-set_other}
+use Rattle.std.proofs.Common.{◌≡◌, ℕ, zero, suc, ◌-◌, ◌≤◌, List, [], ◌∷◌, length, get_or, set, sym, refl, ap, subst, arith, inl, inr}
+use Rattle.std.proofs.lemmas.List.{get_or-set_same, get_or-set_other}
 use Rattle.std.proofs.lemmas.Bool.{cases_lt, cases_eq}
 use Rattle.xa_base.proofs.Lists.{same_begins, begins_on}
 use Rattle.xa_words.specs.declared.code.Code.{Code}
@@ -8,7 +8,6 @@ use Rattle.xa_words.specs.declared.request.Op.{Op}
 use Rattle.xa_desk.specs.declared.operation.Operation.{Operation}
 use Rattle.xa_desk.specs.LedgerView.{LedgerView, with_sent, with_collected}
 use Rattle.xa_desk.specs.DeskView.{ledger, no_ledger, put_ledger, after_sent, after_collected}
-use Rattle.xa_base.specs.Lists.{Begins}
 use Rattle.xa_desk.specs.Growth.{HasGrown, HaveGrown}
 
 as_it_was : (a : LedgerView) → HasGrown a a

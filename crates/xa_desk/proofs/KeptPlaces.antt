@@ -1,10 +1,10 @@
 -- The map that a table of kept operations is.
-use Rattle.std.proofs.Common.{◌≡◌, ◌≢◌, ℕ, zero, suc, ◌+◌, ◌-◌, ◌<◌, cond, true, false, List, [], ◌∷◌, length, Option, Some, None, IsSome, IfSome, get_or, set, sym, refl, ap, ◌∙◌, inl, inr, arith}
-use Rattle.std.specs.Ordering.{nat_cmp, eq_by_cmp}
-use Rattle.std.specs.Cmp.{nat_cmp_total, unsigned_tied}
+use Rattle.std.proofs.Common.{◌≡◌, ◌≢◌, ℕ, zero, suc, ◌+◌, ◌-◌, ◌<◌, cond, List, [], ◌∷◌, length, Option, Some, None, IsSome, IfSome, get_or, set, sym, refl, ap, ◌∙◌, inl, inr, arith}
+use Rattle.std.specs.Ordering.{nat_cmp}
+use Rattle.std.specs.Cmp.{nat_cmp_total}
 use Rattle.std.specs.FinMap as map
 use Rattle.std.proofs.lemmas.List.{get_or-set_same, get_or-set_other, get_or_past}
-use Rattle.std.proofs.lemmas.Bool.{cases_eq, cases_lt, false_from_ne_true, eqb-true, eq-eqb}
+use Rattle.std.proofs.lemmas.Bool.{cases_eq, cases_lt}
 use Rattle.slab.specs.Slab.{Slab, get, entries_from}
 use Rattle.xa_base.proofs.Truth.{tied_true, tied_false}
 use Rattle.xa_words.specs.declared.request.Completion.{Completion}

@@ -1,8 +1,8 @@
 -- What becomes of one branch, over the settled history of its manager.
-use Rattle.std.specs.Prelude.{ℤ, pos, option_map}
-use Rattle.std.proofs.Common.{◌≡◌, ◌≢◌, ℕ, suc, ◌+◌, ◌≤◌, Bool, true, false, cond, ◌==◌, zero, ◌&&◌, ◌||◌, if◌then◌else◌, List, [], ◌∷◌, ◌++◌, length, length-append, append_assoc, slice_get, get_or, sym, refl, ap, ◌∙◌, subst, arith, Option, Some, None}
+use Rattle.std.specs.Prelude.{ℤ, pos, ◌+ℤ◌, option_map}
+use Rattle.std.proofs.Common.{◌≡◌, ◌≢◌, ℕ, suc, ◌+◌, ◌<◌, ◌≤◌, inl, inr, Bool, true, false, cond, ◌==◌, zero, ◌&&◌, ◌||◌, if◌then◌else◌, List, [], ◌∷◌, ◌++◌, length, length-append, append_assoc, slice_get, get_or, sym, refl, ap, ◌∙◌, subst, arith, Option, Some, None}
 use Rattle.std.specs.List.{All, cons_option}
-use Rattle.std.proofs.lemmas.Bool.{and_right, ne_eqb}
+use Rattle.std.proofs.lemmas.Bool.{and_right, ne_eqb, cases_lt}
 use Rattle.std.proofs.lemmas.List.Folds.{list_any-append}
 use Rattle.std.proofs.lemmas.List.Elements.{filter-append}
 use Rattle.xa_words.specs.Xid.{XidName, xid_eq}
@@ -11,14 +11,15 @@ use Rattle.xa_words.specs.Orders.{Decides-xid_eq, Decides-key_eq}
 use Rattle.xa_words.specs.declared.code.Code.{Code}
 use Rattle.xa_words.specs.declared.code.Code.TheVariants.{Done, RdOnly, RbIntegrity, RmFail}
 use Rattle.xa_words.specs.declared.request.Op.{Op}
-use Rattle.xa_words.specs.declared.request.Op.TheVariants.{OpenRm, CloseRm, Start, Add, End, Prepare, Commit, Rollback, Shut}
+use Rattle.xa_words.specs.declared.request.Op.TheVariants.{Add, Prepare, Commit, Rollback}
 use Rattle.xa_words.specs.declared.request.Request.{Request}
 use Rattle.xa_tables.specs.declared.state.Association.{Association}
 use Rattle.xa_tables.specs.Tables.{Tables, association_of}
 use Rattle.xa_tables.specs.Next.{next}
-use Rattle.xa_tables.proofs.Unnamed.{tables_after-append}
+use Rattle.xa_tables.proofs.Unnamed.{tables_after-append, unnamed_fate}
 use Rattle.xa_tables.specs.History as history
 use Rattle.xa_tables.specs.History.{History, Fate, fate, fate_in, fate_of, coded, of_thread, tables_after, is_done, is_read_only, is_rolled_back, is_integrity, prepare_fate, rollback_fate, ending, ending_by, or_later, commits_later, added_by, share, share_of, EndsNowhere, IsOpening}
+use Rattle.xa_tables.specs.Worth.{moved, moved_by, held_by}
 use Rattle.xa_tables.specs.Prepared.{names, NamesNowhere, LeavesWaiting, AwaitsTheOutcome, closes, is_close, has_shut}
 use Rattle.xa_desk.specs.LedgerView.{LedgerView, is_rm_fail, learnt_shut, with_sent, with_collected}
 use Rattle.xa_desk.specs.Lanes.{numbered}
@@ -33,6 +34,8 @@ use Rattle.xa_driver.specs.Asks.{asked, IsAnswered}
 use Rattle.xa_driver.specs.Trace.{BranchTrace, voted}
 use Rattle.xa_driver.specs.Outcomes.{IsBetween, OnlyTheseName, IsAfterShut, told_fate, is_committed, is_left, is_in_doubt, is_read_only as is_read_only_ending}
 use Rattle.xa_driver.specs.Additions.{IsAddition, prepare_of}
+use Rattle.xa_driver.specs.Conservation.{taken_before}
+use Rattle.xa_driver.proofs.Moves.{is_within, inside, outside, moved_both, moved_none, moved_at, all_earlier, taken_is, none_plus}
 use Rattle.xa_base.proofs.Truth.{by_if, at_false, at_true}
 use Rattle.xa_driver.proofs.Placing.{eqb-self, request_of, Parted, part, all_others, all_later, answer_at, numbered_both, numbered_length, sides, fates, fates_both, fate_is, none_both, none_first}
 
@@ -44,6 +47,9 @@ pub record Tabled : Type 0 where
   pub adders : (t u : ℕ) (op : Op) (x : XidName) (k : List ℕ) (d : ℤ) (g : History) (T : Tables) → op ≡ Add k d → option_map (λ (a : Association). a.xid) (association_of T u) ≡ Some x → (next u op T).1 ≡ Done
       → EndsNowhere x g (next u op T).0 → (next t (Prepare x) (tables_after g (next u op T).0)).1 ≢ RdOnly
   pub breaks : (t : ℕ) (x : XidName) (T : Tables) → is_rolled_back (next t (Prepare x) T).1 ≡ true → (next t (Prepare x) T).1 ≡ RbIntegrity
+  pub keeps : (accounts : List (List ℕ × ℕ)) (t : ℕ) (x : XidName) (h g : History) (T : Tables) → IsOpening T → (next t (Prepare x) (tables_after h T)).1 ≡ Done → NamesNowhere x g
+      → held_by accounts x (tables_after g (next t (Prepare x) (tables_after h T)).0) ≡ held_by accounts x (tables_after h T)
+  pub reads : (accounts : List (List ℕ × ℕ)) (t : ℕ) (x : XidName) (T : Tables) → (next t (Prepare x) T).1 ≡ RdOnly → held_by accounts x T ≡ pos 0
 
 yes_is : (c : Code) → is_yes c ≡ true → c ≡ Done
 yes_is Done e = refl
@@ -67,21 +73,10 @@ some_is o a b e f = let z : Some a ≡ Some b = sym e ∙ f in cc
 same_code : (o : Option (ℕ × Code)) (n m : ℕ) (c d : Code) → o ≡ Some (n, c) → o ≡ Some (m, d) → c ≡ d
 same_code o n m c d e f = let z : ◌≡◌ {A = ℕ × Code} (n, c) (m, d) = some_is o (n, c) (m, d) e f in ap (λ (p : ℕ × Code). p.1) z
 
-unnamed_first : (x : XidName) (op : Op) (c : Code) → names x op ≡ false → fate_of x op c ≡ None
-unnamed_first x (Start y how) c n = at_false (xid_eq y x) _ None n
-unnamed_first x (Prepare y) c n = at_false (xid_eq y x) _ None n
-unnamed_first x (Commit y b) c n = at_false (xid_eq y x) _ None n
-unnamed_first x (Rollback y) c n = at_false (xid_eq y x) _ None n
-unnamed_first x OpenRm c n = refl
-unnamed_first x CloseRm c n = refl
-unnamed_first x (Add k d) c n = refl
-unnamed_first x (End y how) c n = refl
-unnamed_first x Shut c n = refl
-
 -- a history that doesn't name the branch makes nothing of it
 unnamed : (x : XidName) (h : History) (T : Tables) → NamesNowhere x h → fates x h T ≡ []
 unnamed x [] T n = refl
-unnamed x (r ∷ h) T n = none_first x r h T (unnamed_first x r.op _ (n 0 r (omega arith))) (unnamed x h (next r.thread r.op T).0 (λ k d lt. n (suc k) d (omega arith)))
+unnamed x (r ∷ h) T n = none_first x r h T (unnamed_fate x r.op _ (n 0 r (omega arith))) (unnamed x h (next r.thread r.op T).0 (λ k d lt. n (suc k) d (omega arith)))
 
 -- whether the first of these fates that ends the branch commits it
 abbrev pub ends_committed : List Fate → Bool
@@ -192,6 +187,16 @@ module _ (law : Tabled) (t : ℕ) (x : XidName) (T : Tables) (H : History) (open
   first : (post : List Op) (more : List (ℕ × Code)) → ops ≡ a.sent ++ P ∷ post → pairs ≡ a.collected ++ (n, vote) ∷ more → First post
   first post more sent collected = first_at post more collected (part t H (numbered t 0 a.sent) (numbered t (suc n) post) (request_of t n P) (sent_parts post sent))
 
+  -- what was taken before it, and that no request there has its number or a later one
+  below : (post : List Op) (f : First post) → (k : ℕ) (d : Request) → k < length f.parted.before → (get_or f.parted.before k d).thread ≡ t → (get_or f.parted.before k d).number < n
+  below post f k d lt own = let lower = all_earlier t f.parted.before 0 a.sent f.parted.earlier k d lt own in omega (arith, lower)
+
+  taken : (post : List Op) (f : First post) → taken_before t n H ≡ f.parted.before
+  taken post f = ap (taken_before t n) f.parted.place ∙ taken_is t n f.parted.before f.parted.after (request_of t n P) refl refl (below post f)
+
+  earlier_out : (post : List Op) (f : First post) (last : ℕ) → All (λ q. is_within t n last q ≡ false) f.parted.before
+  earlier_out post f last k d lt = outside t n last (get_or f.parted.before k d) (λ own. inl (below post f k d lt own))
+
   -- so it stands where an addition that it votes on has it
   place_at : (k : List ℕ) (d : ℤ) (add : IsAddition x k d t n T H) → H ≡ (add.before ++ add.adding ∷ add.between) ++ request_of t n P ∷ add.after
   place_at k d add = add.place ∙ sym (append_assoc add.before (add.adding ∷ add.between) (request_of t n P ∷ add.after))
@@ -248,8 +253,18 @@ module _ (law : Tabled) (t : ℕ) (x : XidName) (T : Tables) (H : History) (open
         let none : fates x f.parted.after (next t P here).0 ≡ [] = unnamed x f.parted.after (next t P here).0 (nowhere_after post f) in
         λ i. cons_option (own i) (none i)
 
+    -- and moves nothing
+    unmoved : (post : List Op) (f : First post) (accounts : List (List ℕ × ℕ)) → moved accounts (is_within t n (n + 1)) H T ≡ pos 0
+    unmoved post f accounts =
+        ap (λ (h : History). moved accounts (is_within t n (n + 1)) h T) f.parted.place
+        ∙ moved_at accounts (is_within t n (n + 1)) f.parted.before f.parted.after (request_of t n P) T (earlier_out post f (n + 1))
+        (inside t n (n + 1) (request_of t n P) refl (omega arith) (omega arith))
+        (λ k d lt. outside t n (n + 1) (get_or f.parted.after k d) (λ own. let up = all_later t f.parted.after (suc n) post f.parted.later k d lt own in inr (omega (arith, up))))
+
     record Alone : Type 0 where
       here : Tables
+      before : here ≡ tables_after (taken_before t n H) T
+      still : (accounts : List (List ℕ × ℕ)) → moved accounts (is_within t n (n + 1)) H T ≡ pos 0
       code : vote ≡ (next t P here).1
       fate_of_vote : (f : Fate) → prepare_fate vote ≡ Some f → fate x H T ≡ f
 
@@ -262,6 +277,8 @@ module _ (law : Tabled) (t : ℕ) (x : XidName) (T : Tables) (H : History) (open
         let nowhere : NamesNowhere x after = nowhere_after post f in
         record {
           here = here;
+          before = ap (λ (h : History). tables_after h T) (sym (taken post f));
+          still = unmoved post f;
           code = f.code;
           fate_of_vote = λ g e.
               law.leaves H x T ∙ ap (λ (h : History). fate_in x (coded h T)) f.parted.place
@@ -357,6 +374,25 @@ module _ (law : Tabled) (t : ℕ) (x : XidName) (T : Tables) (H : History) (open
         ap (λ (h : History). fates x h now) after_is ∙ fates_both x mid (S ∷ rest) now ∙ (λ i. nothing i ++ cons_option (last i) (end i)) in
         λ i. cons_option (own i) (later i)
 
+    -- what the two move is what the second request moves
+    moved_is : (accounts : List (List ℕ × ℕ)) → moved accounts (is_within t n (n + 1 + 1)) H T ≡ moved_by accounts op c there
+    moved_is accounts =
+        let W : Request → Bool = is_within t n (n + 1 + 1) in
+        let U : Tables = tables_after all_before T in
+        let first_part : moved accounts W all_before T ≡ pos 0 =
+        moved_at accounts W f.parted.before mid (request_of t n P) T (earlier_out (op ∷ post) f (n + 1 + 1)) (inside t n (n + 1 + 1) (request_of t n P) refl (omega arith) (omega arith))
+        (λ k d lt. outside t n (n + 1 + 1) (get_or mid k d) (λ own. absurd (all_others t mid second.earlier k d lt own))) in
+        let second_part : moved accounts W (S ∷ rest) U ≡ moved_by accounts op (next t op U).1 U =
+        moved_at accounts W [] rest S U (λ k d lt. absurd (omega arith)) (inside t n (n + 1 + 1) S refl (omega arith) (omega arith))
+        (λ k d lt. outside t n (n + 1 + 1) (get_or rest k d) (λ own. let up = all_later t rest (suc (suc n)) post second.later k d lt own in inr (omega (arith, up)))) in
+        ap (λ (h : History). moved accounts W h T) place ∙ moved_both accounts W all_before (S ∷ rest) T ∙ (λ i. first_part i +ℤ second_part i) ∙ none_plus _
+        ∙ ap (λ (V : Tables). moved_by accounts op (next t op V).1 V) there_is ∙ ap (λ d. moved_by accounts op d there) (sym code)
+
+    -- and the branch holds there what it held at its Prepare
+    held_is : vote ≡ Done → (accounts : List (List ℕ × ℕ)) → held_by accounts x there ≡ held_by accounts x (tables_after (taken_before t n H) T)
+    held_is done accounts =
+        law.keeps accounts t x f.parted.before mid T opening (sym f.code ∙ done) (λ k d lt. (others k d lt).0) ∙ ap (λ (h : History). held_by accounts x (tables_after h T)) (sym (taken (op ∷ post) f))
+
     -- after a yes vote the branch awaits the outcome
     awaits : vote ≡ Done → AwaitsTheOutcome t x there
     awaits done = law.awaits f.parted.before mid t x T opening (sym f.code ∙ done) others
@@ -387,20 +423,23 @@ none_wanted : (commit : Bool) (x : XidName) (v : Code) → is_yes v ≡ false �
 none_wanted true x v y e = at_false (is_yes v) _ None y
 none_wanted false x v y e = at_true (is_read v || (is_rolled_back v || is_out_of_reach v)) None _ e
 
--- what a branch that voted so, and whose ledger with its manager was `a`, came to by the manager's history
-pub record Outcome (t : ℕ) (x : XidName) (T : Tables) (H : History) (a : LedgerView) (vote : Code) (e : Ending) : Type 0 where
+-- what a branch that voted so came to by its manager's history, where its requests have the numbers from what the ledger
+-- `a` has to below `last`
+pub record Outcome (t : ℕ) (x : XidName) (T : Tables) (H : History) (a : LedgerView) (last : ℕ) (vote : Code) (e : Ending) : Type 0 where
   pub reached : is_yes vote ≡ true → is_left e ≡ false
   pub shut : is_yes vote ≡ true → is_in_doubt e ≡ true → IsAfterShut t (length a.sent + 1) H
   pub told : (f : Fate) → told_fate e ≡ Some f → fate x H T ≡ f
   pub counted : (k : List ℕ) (d : ℤ) (add : IsAddition x k d t (length a.sent) T H)
       → share k add.adding (add.between ++ prepare_of t (length a.sent) x ∷ add.after) (tables_after add.before T) ≡ (if is_committed e then d else pos 0)
   pub adders : (k : List ℕ) (d : ℤ) → IsAddition x k d t (length a.sent) T H → is_read_only_ending e ≡ false
+  pub moves : (accounts : List (List ℕ × ℕ)) → moved accounts (is_within t (length a.sent) last) H T ≡ (if is_committed e then held_by accounts x (tables_after (taken_before t (length a.sent) H) T) else pos 0)
+  pub reads : is_read_only_ending e ≡ true → (accounts : List (List ℕ × ℕ)) → held_by accounts x (tables_after (taken_before t (length a.sent) H) T) ≡ pos 0
 
 module _ (law : Tabled) (t : ℕ) (x : XidName) (T : Tables) (H : History) (opening : IsOpening T) (a : LedgerView) (vote : Code) (ops : List Op) (pairs : List (ℕ × Code))
     (carried : of_thread t H ≡ numbered t 0 ops) (answered : All (λ p. slice_get (answers t (coded H T)) p.0 ≡ Some p) pairs)
     (a' : LedgerView) (sent : Begins a'.sent ops) (collected : Begins a'.collected pairs) (only : OnlyTheseName x t (length a.sent) (length a'.sent) H) where
   abbrev Goal : Ending → Type 0
-  Goal e = Outcome t x T H a vote e
+  Goal e = Outcome t x T H a (length a'.sent) vote e
 
   abbrev m : ℕ
   m = length a.sent
@@ -409,16 +448,29 @@ module _ (law : Tabled) (t : ℕ) (x : XidName) (T : Tables) (H : History) (open
   abbrev X : LedgerView
   X = with_collected (with_sent a (Prepare x)) m vote
 
-  -- whether the branch commits after its Prepare, seen from any of its additions
+  -- what the branch holds at its Prepare, and what the call's requests move
+  abbrev held : List (List ℕ × ℕ) → ℤ
+  held accounts = held_by accounts x (tables_after (taken_before t m H) T)
+
+  abbrev moved_here : List (List ℕ × ℕ) → ℤ
+  moved_here accounts = moved accounts (is_within t m (length a'.sent)) H T
+
+  -- whether the branch commits after its Prepare, seen from any of its additions, and by what is moved
   abbrev CountsAs : Bool → Type 0
-  CountsAs b = Counts law t x T H opening a vote ops pairs carried answered b
+  CountsAs b = Counts law t x T H opening a vote ops pairs carried answered b × ((accounts : List (List ℕ × ℕ)) → moved_here accounts ≡ (if b then held accounts else pos 0))
 
   counted_as : (e : Ending) (b : Bool) → CountsAs b → b ≡ is_committed e → (k : List ℕ) (d : ℤ) (add : IsAddition x k d t m T H)
       → share k add.adding (add.between ++ prepare_of t m x ∷ add.after) (tables_after add.before T) ≡ (if is_committed e then d else pos 0)
-  counted_as e b counts same k d add = share_is x k d t m T H add (is_committed e) (counts k d add ∙ same)
+  counted_as e b counts same k d add = share_is x k d t m T H add (is_committed e) (counts.0 k d add ∙ same)
+
+  moved_as : (e : Ending) (b : Bool) → CountsAs b → b ≡ is_committed e → (accounts : List (List ℕ × ℕ)) → moved_here accounts ≡ (if is_committed e then held accounts else pos 0)
+  moved_as e b counts same accounts = counts.1 accounts ∙ ap (λ q. if q then held accounts else pos 0) same
+
+  one_more : a' ≡ X → length a'.sent ≡ m + 1
+  one_more is = ap (λ (z : LedgerView). length z.sent) is ∙ length-append a.sent (Prepare x ∷ [])
 
   only_one : a' ≡ X → OnlyTheseName x t m (m + 1) H
-  only_one is = subst (λ k. OnlyTheseName x t m k H) (ap (λ (z : LedgerView). length z.sent) is ∙ length-append a.sent (Prepare x ∷ [])) only
+  only_one is = subst (λ k. OnlyTheseName x t m k H) (one_more is) only
 
   -- the Prepare alone was sent
   record Single : Type 0 where
@@ -427,6 +479,7 @@ module _ (law : Tabled) (t : ℕ) (x : XidName) (T : Tables) (H : History) (open
     told : (f : Fate) → prepare_fate vote ≡ Some f → fate x H T ≡ f
     counted : CountsAs false
     adders : (k : List ℕ) (d : ℤ) → IsAddition x k d t m T H → vote ≢ RdOnly
+    reads : vote ≡ RdOnly → (accounts : List (List ℕ × ℕ)) → held accounts ≡ pos 0
 
   single : a' ≡ X → Single
   single is =
@@ -438,9 +491,13 @@ module _ (law : Tabled) (t : ℕ) (x : XidName) (T : Tables) (H : History) (open
         here = z.here;
         code = z.code;
         told = z.fate_of_vote;
-        counted = λ k d add.
-            counted_by law t x T H opening a vote ops pairs carried answered sent.0 collected.0 all_sent all_collected (cons_option (prepare_fate vote) [])
-            (one_fate law t x T H opening a vote ops pairs carried answered (only_one is) sent.0) k d add ∙ vote_then vote [] refl;
+        counted = (
+          λ k d add.
+              counted_by law t x T H opening a vote ops pairs carried answered sent.0 collected.0 all_sent all_collected (cons_option (prepare_fate vote) [])
+              (one_fate law t x T H opening a vote ops pairs carried answered (only_one is) sent.0) k d add ∙ vote_then vote [] refl,
+          λ accounts. ap (λ k. moved accounts (is_within t m k) H T) (one_more is) ∙ z.still accounts,
+        );
+        reads = λ e accounts. subst (λ (U : Tables). held_by accounts x U ≡ pos 0) z.before (law.reads accounts t x z.here (sym z.code ∙ e));
         adders = never_reads law t x T H opening a vote ops pairs carried answered sent.0 collected.0 all_sent all_collected;
       }
 
@@ -452,7 +509,9 @@ module _ (law : Tabled) (t : ℕ) (x : XidName) (T : Tables) (H : History) (open
     code : c ≡ (next t op there).1
     awaits : vote ≡ Done → AwaitsTheOutcome t x there
     after_shut : there.shut ≡ true → IsAfterShut t (m + 1) H
-    counted : CountsAs (ends_committed (cons_option (prepare_fate vote) (cons_option (fate_of x op c) [])))
+    counted : Counts law t x T H opening a vote ops pairs carried answered (ends_committed (cons_option (prepare_fate vote) (cons_option (fate_of x op c) [])))
+    moves : (accounts : List (List ℕ × ℕ)) → moved_here accounts ≡ moved_by accounts op c there
+    holds : vote ≡ Done → (accounts : List (List ℕ × ℕ)) → held_by accounts x there ≡ held accounts
 
   double : (op : Op) (c : Code) → a' ≡ with_collected (with_sent X op) (length X.sent) c → Double op c
   double op c is =
@@ -475,30 +534,36 @@ module _ (law : Tabled) (t : ℕ) (x : XidName) (T : Tables) (H : History) (open
         after_shut = after_shut law t x T H opening a vote ops pairs carried answered only_two op c sent.0 collected.0 all_sent all_collected f;
         counted = counted_by law t x T H opening a vote ops pairs carried answered (op ∷ sent.0) ((m + 1, c) ∷ collected.0) all_sent all_collected (cons_option (prepare_fate vote) (cons_option (fate_of x op c) []))
             (two_fates law t x T H opening a vote ops pairs carried answered only_two op c sent.0 collected.0 all_sent all_collected);
+        moves = λ accounts.
+            ap (λ k. moved accounts (is_within t m k) H T) limit ∙ moved_is law t x T H opening a vote ops pairs carried answered only_two op c sent.0 collected.0 all_sent all_collected f accounts;
+        holds = held_is law t x T H opening a vote ops pairs carried answered only_two op c sent.0 collected.0 all_sent all_collected f;
       }
 
   -- a no vote that leaves the branch
   left : (c : Code) → is_yes vote ≡ false → CountsAs false → Goal (Left c)
-  left c no_yes none = record { reached = λ y. cc; shut = λ y d. cc; told = λ f e. cc; counted = counted_as (Left c) false none refl; adders = λ k d add. refl }
+  left c no_yes none = record { reached = λ y. cc; shut = λ y d. cc; told = λ f e. cc; counted = counted_as (Left c) false none refl; adders = λ k d add. refl; moves = moved_as (Left c) false none refl; reads = λ r. cc }
 
   -- another vote than yes, with the fate that its ending tells
-  settled_by : (e : Ending) (f : Fate) → is_yes vote ≡ false → told_fate e ≡ Some f → is_committed e ≡ false → ((k : List ℕ) (d : ℤ) → IsAddition x k d t m T H → is_read_only_ending e ≡ false) → fate x H T ≡ f → CountsAs false → Goal e
-  settled_by e f no_yes named uncommitted adders is none = record {
+  settled_by : (e : Ending) (f : Fate) → is_yes vote ≡ false → told_fate e ≡ Some f → is_committed e ≡ false → ((k : List ℕ) (d : ℤ) → IsAddition x k d t m T H → is_read_only_ending e ≡ false)
+      → (is_read_only_ending e ≡ true → (accounts : List (List ℕ × ℕ)) → held accounts ≡ pos 0) → fate x H T ≡ f → CountsAs false → Goal e
+  settled_by e f no_yes named uncommitted adders reads is none = record {
     reached = λ y. cc;
     shut = λ y d. cc;
     told = λ g h. let same : f ≡ g = some_is _ _ _ named h in is ∙ same;
     counted = counted_as e false none (sym uncommitted);
     adders = adders;
+    moves = moved_as e false none (sym uncommitted);
+    reads = reads;
   }
 
   read_outcome : is_yes vote ≡ false → is_read vote ≡ true → a' ≡ X → Goal ReadOnly
-  read_outcome no_yes read is = settled_by ReadOnly history.ReadOnly no_yes refl refl (λ k d add. absurd ((single is).adders k d add (read_is vote read))) ((single is).told history.ReadOnly (ap prepare_fate (read_is vote read))) (single is).counted
+  read_outcome no_yes read is = settled_by ReadOnly history.ReadOnly no_yes refl refl (λ k d add. absurd ((single is).adders k d add (read_is vote read))) (λ _. (single is).reads (read_is vote read)) ((single is).told history.ReadOnly (ap prepare_fate (read_is vote read))) (single is).counted
 
   broken_outcome : is_yes vote ≡ false → is_rolled_back vote ≡ true → a' ≡ X → Goal RolledBack
   broken_outcome no_yes back is =
       let z = single is in
       let code : vote ≡ RbIntegrity = z.code ∙ law.breaks t x z.here (sym (ap is_rolled_back z.code) ∙ back) in
-      settled_by RolledBack history.RolledBack no_yes refl refl (λ k d add. refl) (z.told history.RolledBack (ap prepare_fate code)) z.counted
+      settled_by RolledBack history.RolledBack no_yes refl refl (λ k d add. refl) (λ r. cc) (z.told history.RolledBack (ap prepare_fate code)) z.counted
 
   -- the second request of another vote is a Rollback
   other_outcome : (second : Option Code) → is_yes vote ≡ false → IsAnswered X (Some (Rollback x)) second → a' ≡ asked X (Some (Rollback x)) second → Goal (no_ending vote second)
@@ -506,15 +571,19 @@ module _ (law : Tabled) (t : ℕ) (x : XidName) (T : Tables) (H : History) (open
   other_outcome (Some c) no_yes got is =
       let none : CountsAs false = elim (learnt_shut X) as (λ l. learnt_shut X ≡ l → CountsAs false) [
         | true ↦ λ shut. (single (is ∙ at_true (learnt_shut X) _ _ shut)).counted
-        | false ↦ λ shut. λ k d add.
-            (double (Rollback x) c (is ∙ at_false (learnt_shut X) _ _ shut)).counted k d add
-            ∙ ap (λ o. ends_committed (cons_option (prepare_fate vote) (cons_option o []))) (at_true (xid_eq x x) (rollback_fate c) None (self x)) ∙ rolled_then vote c
+        | false ↦ λ shut.
+            let z = double (Rollback x) c (is ∙ at_false (learnt_shut X) _ _ shut) in (
+              λ k d add.
+                  z.counted k d add
+                  ∙ ap (λ o. ends_committed (cons_option (prepare_fate vote) (cons_option o []))) (at_true (xid_eq x x) (rollback_fate c) None (self x)) ∙ rolled_then vote c,
+              z.moves,
+            )
       ] refl in
       by_if Goal (is_done c || is_rolled_back c) RolledBack (Left c) (λ back.
       elim (learnt_shut X) as (λ l. learnt_shut X ≡ l → Goal RolledBack) [
         | true ↦ λ shut. let z = got shut in let w : (is_done RmFail || is_rolled_back RmFail) ≡ true = ap (λ q. is_done q || is_rolled_back q) (sym z) ∙ back in cc
         | false ↦ λ shut.
-            settled_by RolledBack history.RolledBack no_yes refl refl (λ k d add. refl) ((double (Rollback x) c (is ∙ at_false (learnt_shut X) _ _ shut)).told history.RolledBack
+            settled_by RolledBack history.RolledBack no_yes refl refl (λ k d add. refl) (λ r. cc) ((double (Rollback x) c (is ∙ at_false (learnt_shut X) _ _ shut)).told history.RolledBack
             (at_true (xid_eq x x) _ None (self x) ∙ at_true (is_done c || is_rolled_back c) _ None back)) none
       ] refl) (λ _. left c no_yes none)
 
@@ -525,9 +594,10 @@ module _ (law : Tabled) (t : ℕ) (x : XidName) (T : Tables) (H : History) (open
   -- a prepared branch answers XA_OK, unless its manager is shut; so the ending is decided by that
   yes_outcome : (op : Op) (g : Fate) (e : Ending) (c : Code) → is_yes vote ≡ true → is_in_doubt e ≡ false → is_left e ≡ false → is_read_only_ending e ≡ false → told_fate e ≡ Some g
       → fate_of x op Done ≡ Some g → fate_of x op RmFail ≡ None → ends_committed (g ∷ []) ≡ is_committed e
+      → ((accounts : List (List ℕ × ℕ)) (U : Tables) → moved_by accounts op Done U ≡ (if is_committed e then held_by accounts x U else pos 0)) → ((accounts : List (List ℕ × ℕ)) (U : Tables) → moved_by accounts op RmFail U ≡ pos 0)
       → ((U : Tables) → AwaitsTheOutcome t x U → (next t op U).1 ≡ (if U.shut then RmFail else Done))
       → a' ≡ with_collected (with_sent X op) (length X.sent) c → Goal (if is_done c then e else (if is_rm_fail c then InDoubt else Left c))
-  yes_outcome op g e c agreed decided reached writes named by_done by_fail counts answers_so is =
+  yes_outcome op g e c agreed decided reached writes named by_done by_fail counts moving failing answers_so is =
       let z = double op c is in
       let done : vote ≡ Done = yes_is vote agreed in
       let by_second : ends_committed (cons_option (prepare_fate vote) (cons_option (fate_of x op c) [])) ≡ ends_committed (cons_option (fate_of x op c) []) =
@@ -539,8 +609,12 @@ module _ (law : Tabled) (t : ℕ) (x : XidName) (T : Tables) (H : History) (open
               reached = λ _. reached;
               shut = λ _ doubt. cc;
               told = λ f h. z.told f (ap (fate_of x op) code ∙ by_done ∙ sym named ∙ h);
-              counted = counted_as e (is_committed e) (λ k d add. z.counted k d add ∙ by_second ∙ ap (λ o. ends_committed (cons_option o [])) (ap (fate_of x op) code ∙ by_done) ∙ counts) refl;
+              counted = λ k d add.
+                  share_is x k d t m T H add (is_committed e) (z.counted k d add ∙ by_second ∙ ap (λ o. ends_committed (cons_option o [])) (ap (fate_of x op) code ∙ by_done) ∙ counts);
               adders = λ k d add. writes;
+              moves = λ accounts.
+                  z.moves accounts ∙ ap (λ d. moved_by accounts op d z.there) code ∙ moving accounts z.there ∙ ap (λ v. if is_committed e then v else pos 0) (z.holds done accounts);
+              reads = λ r. let w : true ≡ false = sym r ∙ writes in cc;
             })
         | true ↦ λ closed.
             let code : c ≡ RmFail = z.code ∙ answers_so z.there (z.awaits done) ∙ ap (λ l. if l then RmFail else Done) closed in
@@ -548,8 +622,10 @@ module _ (law : Tabled) (t : ℕ) (x : XidName) (T : Tables) (H : History) (open
               reached = λ _. refl;
               shut = λ _ _. z.after_shut closed;
               told = λ f h. z.told_first f (ap prepare_fate done ∙ h) (ap (fate_of x op) code ∙ by_fail);
-              counted = counted_as InDoubt false (λ k d add. z.counted k d add ∙ by_second ∙ ap (λ o. ends_committed (cons_option o [])) (ap (fate_of x op) code ∙ by_fail)) refl;
+              counted = λ k d add. share_is x k d t m T H add false (z.counted k d add ∙ by_second ∙ ap (λ o. ends_committed (cons_option o [])) (ap (fate_of x op) code ∙ by_fail));
               adders = λ k d add. refl;
+              moves = λ accounts. z.moves accounts ∙ ap (λ d. moved_by accounts op d z.there) code ∙ failing accounts z.there;
+              reads = λ r. cc;
             })
       ] refl
 
@@ -558,10 +634,10 @@ module _ (law : Tabled) (t : ℕ) (x : XidName) (T : Tables) (H : History) (open
   yes_part false None shut agreed got is =
       absurd (subst (λ (o : Option Op). IsAnswered X o None) (ap (λ v. if is_read v || (is_rolled_back v || is_out_of_reach v) then None else Some (Rollback x)) (yes_is vote agreed)) got)
   yes_part true (Some c) shut agreed got is =
-      yes_outcome (Commit x false) history.Committed Committed c agreed refl refl refl refl (at_true (xid_eq x x) _ None (self x)) (at_true (xid_eq x x) _ None (self x)) refl (λ U h. h.commits)
+      yes_outcome (Commit x false) history.Committed Committed c agreed refl refl refl refl (at_true (xid_eq x x) _ None (self x)) (at_true (xid_eq x x) _ None (self x)) refl (λ accounts U. refl) (λ accounts U. refl) (λ U h. h.commits)
       (is ∙ ap (λ o. asked X o (Some c)) (at_true (is_yes vote) _ None agreed) ∙ at_false (learnt_shut X) _ _ (open_still shut agreed))
   yes_part false (Some c) shut agreed got is =
-      yes_outcome (Rollback x) history.RolledBack RolledBack c agreed refl refl refl refl (at_true (xid_eq x x) _ None (self x)) (at_true (xid_eq x x) _ None (self x)) refl (λ U h. h.rolls_back)
+      yes_outcome (Rollback x) history.RolledBack RolledBack c agreed refl refl refl refl (at_true (xid_eq x x) _ None (self x)) (at_true (xid_eq x x) _ None (self x)) refl (λ accounts U. refl) (λ accounts U. refl) (λ U h. h.rolls_back)
       (is ∙ ap (λ o. asked X o (Some c)) (ap (λ v. if is_read v || (is_rolled_back v || is_out_of_reach v) then None else Some (Rollback x)) (yes_is vote agreed)) ∙ at_false (learnt_shut X) _ _ (open_still shut agreed))
 
   no_part : (commit : Bool) (second : Option Code) → is_yes vote ≡ false → is_read vote ≡ false → is_rolled_back vote ≡ false → is_out_of_reach vote ≡ false
@@ -606,20 +682,24 @@ unasked t x T H n only k d add =
 -- what a branch of a call came to
 pub branch_outcome : (law : Tabled) (t : ℕ) (b : Branch) (vote : Code) (second : Option Code) (commit : Bool) (a a' : LedgerView) (T : Tables) (H : History) (ops : List Op) (pairs : List (ℕ × Code)) → IsOpening T
     → of_thread t H ≡ numbered t 0 ops → All (λ p. slice_get (answers t (coded H T)) p.0 ≡ Some p) pairs → Begins a'.sent ops → Begins a'.collected pairs
-    → OnlyTheseName b.xid t (length a.sent) (length a'.sent) H → BranchTrace commit b vote second a a' → Outcome t b.xid T H a vote (ending_of commit vote second)
+    → OnlyTheseName b.xid t (length a.sent) (length a'.sent) H → BranchTrace commit b vote second a a' → Outcome t b.xid T H a (length a'.sent) vote (ending_of commit vote second)
 branch_outcome law t b vote second commit a a' T H ops pairs opening carried answered sent collected only tr =
-    elim (learnt_shut a) as (λ l. learnt_shut a ≡ l → Outcome t b.xid T H a vote (ending_of commit vote second)) [
+    elim (learnt_shut a) as (λ l. learnt_shut a ≡ l → Outcome t b.xid T H a (length a'.sent) vote (ending_of commit vote second)) [
       | true ↦ λ shut.
           let code : vote ≡ RmFail = tr.prepared shut in
           let same : a' ≡ a =
           tr.trace ∙ ap (λ v. asked (voted b v a) (second_op commit b.xid v) second) code ∙ ap (λ z. asked z (second_op commit b.xid RmFail) second) (at_true (learnt_shut a) _ _ shut)
           ∙ ap (λ o. asked a o second) (none_wanted commit b.xid RmFail refl refl) in
-          subst (λ (v : Code). Outcome t b.xid T H a v (ending_of commit v second)) (sym code) (record {
+          subst (λ (v : Code). Outcome t b.xid T H a (length a'.sent) v (ending_of commit v second)) (sym code) (record {
             reached = λ y. cc;
             shut = λ y d. cc;
             told = λ f e. cc;
             adders = λ k d add. refl;
             counted = unasked t b.xid T H (length a.sent) (subst (λ k. OnlyTheseName b.xid t (length a.sent) k H) (ap (λ (z : LedgerView). length z.sent) same) only);
+            moves = λ accounts.
+                ap (λ k. moved accounts (is_within t (length a.sent) k) H T) (ap (λ (z : LedgerView). length z.sent) same)
+                ∙ moved_none accounts (is_within t (length a.sent) (length a.sent)) H T (λ k d lt. outside t (length a.sent) (length a.sent) (get_or H k d) (λ own. cases_lt (get_or H k d).number (length a.sent)));
+            reads = λ r. cc;
           })
       | false ↦ λ shut.
           let e : voted b vote a ≡ with_collected (with_sent a (Prepare b.xid)) (length a.sent) vote = at_false (learnt_shut a) _ _ shut in

@@ -7,8 +7,10 @@ pub mod Calls
 pub mod EachManager
 pub mod Aborts
 pub mod Placing
+pub mod Moves
 pub mod Branches
 pub mod OneOutcome
 pub mod Settled
+pub mod Conserved
 pub mod Staying
 pub mod Kept

@@ -34,17 +34,18 @@ pub record IsAddition (x : XidName) (k : List ℕ) (d : ℤ) (t n : ℕ) (T : Ta
   pub branch : option_map (λ a. a.xid) (association_of (tables_after before T) adding.thread) ≡ Some x
   pub unended : EndsNowhere x between (next adding.thread adding.op (tables_after before T)).0
 
--- The share that the value of a key has of each addition of the branch: all of it where it counts, and else nothing.
-abbrev pub Shares : Settling → ℕ → Branch → LedgerView → Bool → Type 0
-Shares s t b old counts =
-    (T : Tables) → IsOpenedWith s b.m T → (k : List ℕ) (d : ℤ)
-    → (a : IsAddition b.xid k d t (length old.sent) T (history s b.m))
-    → share k a.adding (a.between ++ prepare_of t (length old.sent) b.xid ∷ a.after) (tables_after a.before T)
+-- The share that the value of a key has of each addition of the branch, whose Prepare by thread t has number n: all of
+-- it where it counts, and else nothing.
+abbrev pub Shares : Settling → ℕ → Branch → ℕ → Bool → Type 0
+Shares s t b n counts =
+    (T : Tables) → IsOpenedWith s b.m T → (k : List ℕ) (d : ℤ) → (a : IsAddition b.xid k d t n T (history s b.m))
+    → share k a.adding (a.between ++ prepare_of t n b.xid ∷ a.after) (tables_after a.before T)
     ≡ (if counts then d else pos 0)
 
 -- Of each branch of a call the additions count exactly where the branch was committed.
 pub record CountsTheCommitted (s : Settling) (t : ℕ) (bs : List Branch) (old : List LedgerView) (d : Done) : Type 0 where
-  pub each : EachOutcome (λ b v e. Shares s t b (ledger old b.m) (is_committed e)) bs d.votes.items d.endings.items
+  pub each : EachOutcome
+      (λ b v e. Shares s t b (length (ledger old b.m).sent) (is_committed e)) bs d.votes.items d.endings.items
 
 -- no branch of the call is in doubt, or left
 abbrev pub is_decided : Done → Bool
@@ -52,4 +53,5 @@ is_decided d = not (list_any is_in_doubt d.endings.items || list_any is_left d.e
 
 -- All additions of the transaction count, where a branch was committed, or none does.
 pub record HasAllOrNothing (s : Settling) (t : ℕ) (bs : List Branch) (old : List LedgerView) (d : Done) : Type 0 where
-  pub each : EachOutcome (λ b v e. Shares s t b (ledger old b.m) (has_committed d)) bs d.votes.items d.endings.items
+  pub each : EachOutcome
+      (λ b v e. Shares s t b (length (ledger old b.m).sent) (has_committed d)) bs d.votes.items d.endings.items

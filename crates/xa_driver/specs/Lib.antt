@@ -8,3 +8,4 @@ pub mod Trace
 pub mod Commits
 pub mod Outcomes
 pub mod Additions
+pub mod Conservation

@@ -136,12 +136,11 @@ told_fate RolledBack = Some history.RolledBack
 told_fate InDoubt = Some history.InDoubt
 told_fate (Left c) = None
 
--- A branch that voted to commit isn't left, and it is in doubt only where its manager was shut before the place of its
--- second request.
-pub record KeepsItsVote (s : Settling) (t : ℕ) (b : Branch) (old : LedgerView) (vote : Code)
-    (ending : Ending) : Type 0 where
+-- A branch that voted to commit, whose Prepare by thread t has number n, isn't left, and it is in doubt only where its
+-- manager was shut before the place of its second request.
+pub record KeepsItsVote (s : Settling) (t : ℕ) (b : Branch) (n : ℕ) (vote : Code) (ending : Ending) : Type 0 where
   pub reached : is_yes vote ≡ true → is_left ending ≡ false
-  pub shut : is_yes vote ≡ true → is_in_doubt ending ≡ true → IsAfterShut t (length old.sent + 1) (history_of s b.m)
+  pub shut : is_yes vote ≡ true → is_in_doubt ending ≡ true → IsAfterShut t (n + 1) (history_of s b.m)
 
 -- what is told of a branch became of it
 abbrev pub TellsTheFate : Settling → Branch → Ending → Type 0
@@ -155,7 +154,8 @@ EachOutcome P bs vs es = ⊥
 
 -- so for each branch of a call
 pub record KeepsTheVotes (s : Settling) (t : ℕ) (bs : List Branch) (old : List LedgerView) (d : Done) : Type 0 where
-  pub each : EachOutcome (λ b v e. KeepsItsVote s t b (ledger old b.m) v e) bs d.votes.items d.endings.items
+  pub each : EachOutcome
+      (λ b v e. KeepsItsVote s t b (length (ledger old b.m).sent) v e) bs d.votes.items d.endings.items
 
 pub record TellsTheFates (s : Settling) (bs : List Branch) (d : Done) : Type 0 where
   pub each : EachOutcome (λ b v e. TellsTheFate s b e) bs d.votes.items d.endings.items

@@ -4,19 +4,26 @@
 //! `made`. The desk's lists lead to what the settled opening has of its thread, since every call says that
 //! it goes on (`xa_desk::laws::desks_go_on` joins two such calls) and `settle` has the lists with
 //! which the desk ended. That nobody else names a branch after its Prepare is for the caller to know.
-ghost use Rattle.std.specs.Prelude.{◌≡◌, ℕ, true, false, List};
+ghost use Rattle.std.specs.List.{All, list_any};
+ghost use Rattle.std.specs.Prelude.{◌≡◌, ℕ, ◌≤◌, ℤ, pos, ◌+ℤ◌, true, false, List, length};
+ghost use Rattle.xa_base.specs.Sums.{total};
 ghost use Rattle.xa_words.specs.Tran.{TranName};
 ghost use Rattle.xa_desk.specs.LedgerView.{LedgerView};
 ghost use Rattle.xa_desk.specs.DeskView.{DeskView};
 ghost use Rattle.xa_switch.specs.Settling.{Settling, IsSettled};
 ghost use Rattle.xa_desk.specs.Growth.{HaveGrown};
 ghost use Rattle.xa_switch.specs.Fates.{ledgers_of};
+ghost use Rattle.xa_switch.specs.OfPlans.{IsOfPlan};
+ghost use Rattle.xa_switch.specs.Plans.{IsSoundManager};
+ghost use Rattle.xa_switch.specs.Worth.{threads_of, plan_worth, settled_worth};
+ghost use Rattle.xa_switch.specs.declared.plan.Plan.{Plan};
 ghost use Rattle.xa_driver.specs.declared.branch.Branch.{Branch};
 ghost use Rattle.xa_driver.specs.declared.done.Done.{Done};
 ghost use Rattle.xa_driver.specs.Log.{LogState};
 ghost use Rattle.xa_driver.specs.Trace.{IsCommit, IsTraceOfCommit, IsTranOf, wants_record};
 ghost use Rattle.xa_driver.specs.Commits.{NoCommitWasSent};
-ghost use Rattle.xa_driver.specs.Outcomes.{AreLeftAlone, IsCommittedTransaction, IsAbortedTransaction, KeepsTheVotes, TellsTheFates, has_committed, was_refused};
+ghost use Rattle.xa_driver.specs.Outcomes.{AreLeftAlone, IsCommittedTransaction, IsAbortedTransaction, KeepsTheVotes, TellsTheFates, has_committed, is_in_doubt, was_refused};
+ghost use Rattle.xa_driver.specs.Conservation.{OnlyTransfers, held_in_doubt};
 ghost use Rattle.xa_driver.specs.Additions.{CountsTheCommitted, HasAllOrNothing, is_decided};
 
 use crate::branch::Branch;
@@ -25,10 +32,13 @@ use crate::log::DecisionLog;
 use std::snapshot::Snapshot;
 use xa_desk::Desk;
 use xa_switch::Settled;
-use xa_switch::laws::settled_journals_follow_the_tables;
+use xa_switch::laws::{
+    managers_open_with_their_accounts, settled_journals_follow_the_tables, threads_move_the_worth,
+};
 use xa_tables::laws::{
-    adders_never_vote_read_only, late_requests_leave_fates, only_a_shut_shuts,
-    prepared_branches_await_the_outcome, refused_prepares_tell_integrity,
+    adders_never_vote_read_only, branches_hold_their_additions, late_requests_leave_fates,
+    only_a_shut_shuts, prepared_branches_await_the_outcome, prepared_branches_keep_what_they_hold,
+    read_only_branches_hold_nothing, refused_prepares_tell_integrity,
 };
 
 /// Of one call alone: where the append failed, no Commit was sent to any manager.
@@ -62,7 +72,29 @@ pub fn endings_are_fates()
     only_a_shut_shuts();
     late_requests_leave_fates();
     refused_prepares_tell_integrity();
+    prepared_branches_keep_what_they_hold();
+    read_only_branches_hold_nothing();
     settled_journals_follow_the_tables();
+}
+
+/// In a settled opening where threads made only transfers, all accounts are together worth what they were
+/// declared with, but for what is missing where a transaction was committed and a branch of it is in doubt: exactly what
+/// that branch holds. Where no branch is in doubt nothing is missing.
+pub fn transfers_conserve_the_worth()
+    ensures conserved { (p : Plan) (s : Settling) (doubt : ℕ → ℤ) → IsSettled s → IsOfPlan p s → All IsSoundManager p.managers.items → ((t : ℕ) → 1 ≤ t → t ≤ p.threads → OnlyTransfers p s t (ledgers_of s t) (doubt t)) → settled_worth p s +ℤ total doubt (threads_of p) ≡ plan_worth p }
+    ensures decided { (p : Plan) (s : Settling) (t : ℕ) (old : List LedgerView) (bs : List Branch) (done : Done) → list_any is_in_doubt done.endings.items ≡ false → held_in_doubt p s t old bs done ≡ pos 0 }
+{
+    prepared_branches_await_the_outcome();
+    adders_never_vote_read_only();
+    only_a_shut_shuts();
+    late_requests_leave_fates();
+    refused_prepares_tell_integrity();
+    prepared_branches_keep_what_they_hold();
+    read_only_branches_hold_nothing();
+    branches_hold_their_additions();
+    settled_journals_follow_the_tables();
+    managers_open_with_their_accounts();
+    threads_move_the_worth();
 }
 
 /// A commit of several branches only makes its desk's lists grow.

@@ -17,6 +17,3 @@ pub use done::{Done, DriverFault, Ending};
 pub use log::{CommitRecord, DecisionLog, LogFault, Yes};
 pub use may::may_commit;
 pub use memory::MemoryLog;
-
-#[cfg(test)]
-mod tests;

@@ -33,6 +33,18 @@ unfolding nothing_declared
 nothing_worth k f = ap (option_map f) (finmap.get-empty key_cmp k)
 
 module _ (sums : (h : History) (k : List ℕ) (T : Tables) → IsOpening T → IsSumOfAll k h T) where
+  pub follows_part : (s : Settling) (m : ℕ) (p : ManagerPart) → find_manager m s.managers ≡ Some p → IsSettled s → IsOpenedWith s m p.first
+  follows_part s m p e h =
+      let f : FollowsTables p = all_contains FollowsTables s.managers p h.tables (found (λ q. q.number == m) s.managers p e).0 in
+      record {
+        opened = f.opened;
+        codes = ap journal_in e ∙ coded_by p.journal p.first f.coded ∙ sym (ap (λ (o : Option ManagerPart). coded (requests (journal_in o)) p.first) e);
+        fates = λ x. ap (fate_in x) e ∙ sym (ap (λ (o : Option ManagerPart). fate x (requests (journal_in o)) p.first) e);
+        values = λ k.
+            ap (value_in k) e ∙ sums (requests p.journal) k p.first f.opened
+            ∙ sym (ap (λ (o : Option ManagerPart). option_map (λ v. v +ℤ added_in k (requests (journal_in o)) p.first) (finmap.get p.first.values k)) e);
+      }
+
   follows_in : (s : Settling) (m : ℕ) (o : Option ManagerPart) → find_manager m s.managers ≡ o → IsSettled s → (T : Tables) × IsOpenedWith s m T
   follows_in s m None e h = (
     nothing_declared,
@@ -43,18 +55,7 @@ module _ (sums : (h : History) (k : List ℕ) (T : Tables) → IsOpening T → I
       values = λ k. ap (value_in k) e ∙ sym (nothing_worth k (λ v. v +ℤ added_in k (history s m) nothing_declared));
     },
   )
-  follows_in s m (Some p) e h =
-      let f : FollowsTables p = all_contains FollowsTables s.managers p h.tables (found (λ q. q.number == m) s.managers p e).0 in (
-        p.first,
-        record {
-          opened = f.opened;
-          codes = ap journal_in e ∙ coded_by p.journal p.first f.coded ∙ sym (ap (λ (o : Option ManagerPart). coded (requests (journal_in o)) p.first) e);
-          fates = λ x. ap (fate_in x) e ∙ sym (ap (λ (o : Option ManagerPart). fate x (requests (journal_in o)) p.first) e);
-          values = λ k.
-              ap (value_in k) e ∙ sums (requests p.journal) k p.first f.opened
-              ∙ sym (ap (λ (o : Option ManagerPart). option_map (λ v. v +ℤ added_in k (requests (journal_in o)) p.first) (finmap.get p.first.values k)) e);
-        },
-      )
+  follows_in s m (Some p) e h = (p.first, follows_part s m p e h)
 
   pub follows : (s : Settling) (m : ℕ) → IsSettled s → (T : Tables) × IsOpenedWith s m T
   follows s m h = follows_in s m (find_manager m s.managers) refl h

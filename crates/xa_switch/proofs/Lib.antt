@@ -8,9 +8,9 @@ pub mod Pieces
 pub mod Agreeing
 pub mod Seated
 pub mod Mixing
-pub mod Parting
 pub mod Ledgers
 pub mod Journaled
 pub mod OfPlans
 pub mod Outstanding
 pub mod Kept
+pub mod Worth

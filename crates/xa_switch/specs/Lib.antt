@@ -10,3 +10,4 @@ pub mod Seats
 pub mod Closing
 pub mod Fates
 pub mod OfPlans
+pub mod Worth

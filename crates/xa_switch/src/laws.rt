@@ -4,10 +4,11 @@
 //! The pieces of an opening come from it. A desk keeps its seat at every call and as it ends, a worker at
 //! every step and as it runs, which each of them says itself; so the seats of what is left at the end are
 //! those of the opening.
-ghost use Rattle.std.specs.Prelude.{◌≡◌, ◌≢◌, ℕ, List, ◌++◌, map};
+ghost use Rattle.std.specs.Prelude.{◌≡◌, ◌≢◌, ℕ, ◌≤◌, List, ◌++◌, length, map};
 ghost use Rattle.std.specs.List.{All};
 ghost use Rattle.std.specs.List.Sorted.{IsPermutation};
 ghost use Rattle.xa_words.specs.declared.code.Code.{Code};
+ghost use Rattle.xa_tables.specs.Managers.{opening};
 ghost use Rattle.xa_tables.specs.Tables.{Tables};
 ghost use Rattle.xa_desk.specs.DeskView.{DeskView, outstanding};
 ghost use Rattle.xa_desk.specs.Kept.{AllKept, HoldsNone};
@@ -17,13 +18,15 @@ ghost use Rattle.xa_worker.specs.Workers.{WorkerView};
 ghost use Rattle.xa_switch.specs.declared.plan.Plan.{Plan};
 ghost use Rattle.xa_switch.specs.Closing.{settling};
 ghost use Rattle.xa_switch.specs.OfPlans.{IsOfPlan};
+ghost use Rattle.xa_switch.specs.Plans.{IsSoundManager};
 ghost use Rattle.xa_switch.specs.Openings.{AreOfOneOpening};
 ghost use Rattle.xa_switch.specs.Completing.{CollectsRedeemed};
 ghost use Rattle.xa_switch.specs.Settling.{Settling, IsSettled};
 ghost use Rattle.xa_switch.specs.Fates.{IsOpenedWith};
+ghost use Rattle.xa_switch.specs.Worth.{WorthIsOfThreads, accounts_of};
 ghost use Rattle.xa_switch.specs.Seats.{DeskSeat, WorkerSeat, ComeFromOpenings, AreSomeOf, AreOfOne, desk_seats, worker_seats, openings_of, seat_of_desk, seat_of_worker};
 
-use xa_tables::laws::late_requests_add_nothing;
+use xa_tables::laws::{commits_alone_move_the_worth, late_requests_add_nothing, value_is_sum};
 
 /// The desks and workers that an opening gives come from it.
 pub fn opened_pieces_come_from_their_opening()
@@ -57,6 +60,23 @@ pub fn settled_journals_follow_the_tables()
     ensures { (s : Settling) (m : ℕ) → IsSettled s → (T : Tables) × IsOpenedWith s m T }
 {
     late_requests_add_nothing();
+}
+
+/// In a settled opening of a plan the tables that a manager was opened with are those of the plan's accounts.
+pub fn managers_open_with_their_accounts()
+    ensures { (p : Plan) (s : Settling) (m : ℕ) → IsSettled s → IsOfPlan p s → 1 ≤ m → m ≤ length p.managers.items → IsOpenedWith s m (opening (accounts_of p m)) }
+{
+    late_requests_add_nothing();
+}
+
+/// What all accounts are worth together after the journals is what was declared and what each thread's
+/// Commits have moved.
+pub fn threads_move_the_worth()
+    ensures { (p : Plan) (s : Settling) → IsSettled s → IsOfPlan p s → All IsSoundManager p.managers.items → WorthIsOfThreads p s }
+{
+    late_requests_add_nothing();
+    value_is_sum();
+    commits_alone_move_the_worth();
 }
 
 /// At the desks of an opening nothing is outstanding that isn't kept. As an operation that is kept under a

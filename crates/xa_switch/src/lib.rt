@@ -21,8 +21,6 @@ mod plan;
 mod reserve;
 mod settled;
 mod settling;
-#[cfg(test)]
-mod tests;
 
 pub use calls::{native, xa_call};
 pub use completing::xa_complete;

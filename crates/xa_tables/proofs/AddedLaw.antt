@@ -61,7 +61,7 @@ named_ending x y o = elim (xid_eq y x) as (λ c. ending (if c then o else None) 
 
 -- a request that doesn't end the branch leaves what it has added to
 stays : (t : ℕ) (x : XidName) (k : List ℕ) (T : Tables) {op : Op} {a : Answer} → Effect t T op a → HasAdded x k T → ending (fate_of x op a.1) ≡ None → HasAdded x k a.0
-stays t x k T (Adds own d l mine alone) h n =
+stays t x k T (Adds own d l mine known alone) h n =
     ap is_some (get-insert touch_cmp_total T.sums (l.xid, own) _ (x, k)) ∙ either (eq_by_cmp touch_cmp (x, k) (l.xid, own)) _ (map.get T.sums (x, k)) h
 stays t x k T (Commits y one_phase nobody may) h n =
     left_there x y k T (not_ended x y true (Some true) refl (sym (named_ending x y (Some Committed)) ∙ n)) h
@@ -97,20 +97,26 @@ has_added t x k d T own =
     ap is_some (get-insert touch_cmp_total T.sums (branch_of T t, k) v (x, k) ∙ ap (λ b. cond b (Some v) (map.get T.sums (x, k))) here)))))))
 
 -- a Prepare that is answered XA_RDONLY is of a branch that touched no key
-reads_only : (t : ℕ) (x : XidName) (T : Tables) → has_touched T.sums x ≡ true → (next t (Prepare x) T).1 ≢ RdOnly
+untouched : (b : Bool) → not b ≡ true → b ≡ false
+untouched true e = cc
+untouched false e = refl
+
+pub reads_only : (t : ℕ) (x : XidName) (T : Tables) → (next t (Prepare x) T).1 ≡ RdOnly → has_touched T.sums x ≡ false
 unfolding next
-reads_only t x T there =
-    let P : Answer → Type 0 = λ a. a.1 ≢ RdOnly in
+reads_only t x T =
+    let P : Answer → Type 0 = λ a. a.1 ≡ RdOnly → has_touched T.sums x ≡ false in
     by_if P (T.shut) _ _ (λ _ e. cc) (λ _.
     by_if P (not (has_opened T t)) _ _ (λ _ e. cc) (λ _.
     by_if P (not (exists T x)) _ _ (λ _ e. cc) (λ _.
     by_if P (is_somebody_associated T.associations x || (is_prepared T x || is_rollback_only T x)) _ _ (λ _ e. cc) (λ _.
-    by_if P (not (has_touched T.sums x)) _ _ (λ untouched e. let z : not true ≡ true = sym (ap not there) ∙ untouched in cc) (λ _.
+    by_if P (not (has_touched T.sums x)) _ _ (λ none _. untouched _ none) (λ _.
     by_if P (is_broken T.values T.sums x) _ _ (λ _ e. cc) (λ _ e. cc))))))
 
 pub added_law : (t u : ℕ) (op : Op) (x : XidName) (k : List ℕ) (d : ℤ) (g : History) (T : Tables) → op ≡ Add k d → option_map (λ (a : Association). a.xid) (association_of T u) ≡ Some x
     → (next u op T).1 ≡ Done → EndsNowhere x g (next u op T).0 → (next t (Prepare x) (tables_after g (next u op T).0)).1 ≢ RdOnly
 added_law t u op x k d g T is own =
-    subst (λ (o : Op). (next u o T).1 ≡ Done → EndsNowhere x g (next u o T).0 → (next t (Prepare x) (tables_after g (next u o T).0)).1 ≢ RdOnly) (sym is) (λ done unended.
+    subst (λ (o : Op). (next u o T).1 ≡ Done → EndsNowhere x g (next u o T).0 → (next t (Prepare x) (tables_after g (next u o T).0)).1 ≢ RdOnly) (sym is) (λ done unended reads.
     let after : Tables = (next u (Add k d) T).0 in
-    reads_only t x (tables_after g after) (touched x k (tables_after g after) (stays_on g x k after (has_added u x k d T own done) unended)))
+    let yes : has_touched (tables_after g after).sums x ≡ true = touched x k (tables_after g after) (stays_on g x k after (has_added u x k d T own done) unended) in
+    let no : has_touched (tables_after g after).sums x ≡ false = reads_only t x (tables_after g after) reads in
+    cc)

@@ -163,7 +163,7 @@ pub data Effect (t : ℕ) (T : Tables) : Op → Answer → Type 0 where
   Idles : (y : XidName) → is_associated T t y ≡ true → is_somebody_associated (dissociated t T).associations y ≡ false → Effect t T (End y Success) (stated y Idle (dissociated t T), Done)
   -- t's branch meets a key that another has touched, and adds to one that none has
   Dooms : (k : List ℕ) (d : ℤ) (l : Association) → association_of T t ≡ Some l → Effect t T (Add k d) (stated l.xid (RollbackOnly Transient) T, RbTransient)
-  Adds : (k : List ℕ) (d : ℤ) (l : Association) → association_of T t ≡ Some l → has_other_touched T.sums l.xid k ≡ false → Effect t T (Add k d) (added l.xid k d T, Done)
+  Adds : (k : List ℕ) (d : ℤ) (l : Association) → association_of T t ≡ Some l → is_declared T k ≡ true → has_other_touched T.sums l.xid k ≡ false → Effect t T (Add k d) (added l.xid k d T, Done)
   -- a branch with which nobody is associated is prepared, is committed, or ends without a commit
   Prepares : (y : XidName) → is_somebody_associated T.associations y ≡ false → is_broken T.values T.sums y ≡ false → Effect t T (Prepare y) (stated y S3 T, Done)
   Commits : (y : XidName) (one_phase : Bool) → is_somebody_associated T.associations y ≡ false → (is_prepared T y ≡ true) ⊎ (is_broken T.values T.sums y ≡ false) → Effect t T (Commit y one_phase) (gone y (committed y T), Done)
@@ -214,9 +214,9 @@ module _ (t : ℕ) (T : Tables) where
         | None ↦ λ _. refuses (Add k d) Proto refl
         | Some l ↦ λ own.
             by_if Q (not (is_T1 (Some l))) _ _ (λ _. refuses (Add k d) Proto refl) (λ _.
-            by_if Q (not (is_declared T k)) _ _ (λ _. refuses (Add k d) Inval refl) (λ _.
+            by_if Q (not (is_declared T k)) _ _ (λ _. refuses (Add k d) Inval refl) (λ known.
             by_if Q (is_rollback_only T l.xid) _ _ (λ doomed. Stays (Add k d) (reason_of T l.xid) (undone_adds k d (reason_of T l.xid) (not_done (reason_of T l.xid) (reason_rolls_back (state_of T l.xid) doomed)))) (λ _.
-            by_if Q (has_other_touched T.sums l.xid k) _ _ (λ _. Dooms k d l own) (λ alone. Adds k d l own alone))))
+            by_if Q (has_other_touched T.sums l.xid k) _ _ (λ _. Dooms k d l own) (λ alone. Adds k d l own (not-false (is_declared T k) known) alone))))
       ] refl
 
   -- an xa_end, with what it does where t may end its work and y isn't doomed

@@ -10,6 +10,8 @@ pub mod Effects
 pub mod Law
 pub mod ValueLaw
 pub mod AddedLaw
+pub mod WorthLaw
+pub mod WorkLaw
 pub mod LateLaw
 pub mod Unnamed
 pub mod Opened

@@ -1,6 +1,7 @@
 -- The laws of prepared branches: they stay prepared, and await the outcome; and what a Prepare and a Shut leave.
-use Rattle.std.specs.Prelude.{◌≡◌, ℕ, Bool, true, false, not, ◌||◌, if◌then◌else◌, Some, is_some, [], ◌∷◌, ◌++◌, refl}
+use Rattle.std.specs.Prelude.{◌≡◌, ℕ, Bool, true, false, not, ◌||◌, if◌then◌else◌, Some, is_some, List, [], ◌∷◌, ◌++◌, refl}
 use Rattle.std.proofs.Common.{sym, ap, ◌∙◌}
+use Rattle.std.specs.FinMap as map
 use Rattle.std.proofs.lemmas.List.Elements.{All-weaker}
 use Rattle.std.proofs.lemmas.Bool.{false_from_ne_true, not-false}
 use Rattle.xa_words.specs.Xid.{XidName, xid_eq}
@@ -74,14 +75,15 @@ module _ (t : ℕ) (x : XidName) (T : Tables) (h : IsPrepared x T) (free : is_so
   awaits = record { prepared = h; commits = commit_done; rolls_back = rollback_done }
 
 -- a Prepare that is answered XA_OK leaves the branch prepared, by a thread that has the manager open
-record Holds (t : ℕ) (x : XidName) (a : Answer) : Type 0 where
+record Holds (t : ℕ) (x : XidName) (T : Tables) (a : Answer) : Type 0 where
   prepared : IsPrepared x a.0
   opened : has_opened a.0 t ≡ true
+  sums : a.0.sums ≡ T.sums
 
-prepare_holds : (t : ℕ) (x : XidName) (T : Tables) → (next t (Prepare x) T).1 ≡ Done → Holds t x (next t (Prepare x) T)
+prepare_holds : (t : ℕ) (x : XidName) (T : Tables) → (next t (Prepare x) T).1 ≡ Done → Holds t x T (next t (Prepare x) T)
 unfolding next
 prepare_holds t x T =
-    let P : Answer → Type 0 = λ a. a.1 ≡ Done → Holds t x a in
+    let P : Answer → Type 0 = λ a. a.1 ≡ Done → Holds t x T a in
     by_if P (T.shut) _ _ (λ _ e. cc) (λ _.
     by_if P (not (has_opened T t)) _ _ (λ _ e. cc) (λ opened_now.
     by_if P (not (exists T x)) _ _ (λ _ e. cc) (λ _.
@@ -90,7 +92,17 @@ prepare_holds t x T =
     by_if P (is_broken T.values T.sums x) _ _ (λ _ e. cc) (λ _ e. record {
       prepared = get_put T x x S3 ∙ ap (λ b. if b then Some S3 else state_of T x) ((Decides-xid_eq x x).1 refl);
       opened = not-false (has_opened T t) opened_now;
+      sums = refl;
     }))))))
+
+-- and from then on what it has added stays
+pub sums_kept : (h g : History) (t : ℕ) (x : XidName) (T : Tables) → IsOpening T → (next t (Prepare x) (tables_after h T)).1 ≡ Done → NamesNowhere x g
+    → (k : List ℕ) → map.get (tables_after g (next t (Prepare x) (tables_after h T)).0).sums (x, k) ≡ map.get (tables_after h T).sums (x, k)
+sums_kept h g t x T o e n k =
+    let here : Tables = tables_after h T in
+    let later : Tables = (next t (Prepare x) here).0 in
+    let p = prepare_holds t x here e in
+    (unnamed_on g x later (nobody x later (sound_after t (Prepare x) here (run_sound h T (opening_sound T o))) p.prepared) n).sums k ∙ ap (λ m. map.get m (x, k)) p.sums
 
 pub prepare_breaks : (t : ℕ) (x : XidName) (T : Tables) → is_rolled_back (next t (Prepare x) T).1 ≡ true → (next t (Prepare x) T).1 ≡ RbIntegrity
 unfolding next

@@ -8,7 +8,9 @@ use Rattle.std.specs.FinMap.{FinMap, get-insert, get-remove, nat_cmp-IsAntisymme
 use Rattle.std.proofs.lemmas.List.Elements.{All-head, All-tail}
 use Rattle.xa_words.specs.Xid.{XidName, xid_eq}
 use Rattle.xa_words.specs.Orders.{Decides-xid_eq}
+use Rattle.xa_words.specs.declared.code.Code.{Code}
 use Rattle.xa_words.specs.declared.request.Op.{Op}
+use Rattle.xa_words.specs.declared.request.Op.TheVariants.{Start, Prepare, Commit, Rollback}
 use Rattle.xa_words.specs.declared.request.Request.{Request}
 use Rattle.xa_tables.specs.declared.state.State.TheVariants.{Active, Idle, Prepared as S3, RollbackOnly}
 use Rattle.xa_tables.specs.declared.state.RollbackReason.TheVariants.{Failed, Transient}
@@ -17,7 +19,7 @@ use Rattle.xa_tables.specs.declared.state.AssociationState.{AssociationState}
 use Rattle.xa_tables.specs.declared.state.AssociationState.TheVariants.{Associated, Suspended}
 use Rattle.xa_tables.specs.Tables.{Tables, association_of, is_somebody_associated}
 use Rattle.xa_tables.specs.Next.{Answer, next, gone, association}
-use Rattle.xa_tables.specs.History.{History, tables_after}
+use Rattle.xa_tables.specs.History.{History, tables_after, fate_of}
 use Rattle.xa_tables.specs.Prepared.{names, NamesNowhere, StaysAsItWas}
 use Rattle.xa_tables.proofs.MapLemmas.{none_pass, none_passes}
 use Rattle.xa_tables.proofs.SoundLemmas.{others_put, others_removed}
@@ -51,6 +53,14 @@ nobody_leaves x associations t nobody =
       | false ↦ λ is. apart_from x associations nobody u k is
     ] (sym (get-remove nat_cmp_total associations t u) ∙ found))
 
+-- a request that doesn't name x makes nothing of it
+pub unnamed_fate : (x : XidName) (op : Op) (c : Code) → names x op ≡ false → fate_of x op c ≡ None
+unnamed_fate x (Start y how) c n = at_false (xid_eq y x) _ None n
+unnamed_fate x (Prepare y) c n = at_false (xid_eq y x) _ None n
+unnamed_fate x (Commit y b) c n = at_false (xid_eq y x) _ None n
+unnamed_fate x (Rollback y) c n = at_false (xid_eq y x) _ None n
+unnamed_fate x op c n = refl
+
 -- another branch
 differs : (x y : XidName) → xid_eq y x ≡ false → x ≢ y
 differs x y other same = let z = (Decides-xid_eq y x).1 (sym same) in cc
@@ -77,7 +87,7 @@ module _ (t : ℕ) (x : XidName) (T : Tables) (nobody : is_somebody_associated T
   by_effect (Fails y own) n = record { state = others_put T.states y (RollbackOnly Failed) x (differs x y n); sums = λ k. refl; apart = left }
   by_effect (Idles y own alone) n = record { state = others_put T.states y Idle x (differs x y n); sums = λ k. refl; apart = left }
   by_effect (Dooms k d l own) n = record { state = others_put T.states l.xid (RollbackOnly Transient) x (another l own); sums = λ q. refl; apart = nobody }
-  by_effect (Adds k d l own alone) n = record { state = refl; sums = λ q. get_added T.sums l.xid x k q _ (λ same _. another l own same); apart = nobody }
+  by_effect (Adds k d l own known alone) n = record { state = refl; sums = λ q. get_added T.sums l.xid x k q _ (λ same _. another l own same); apart = nobody }
   by_effect (Prepares y free unbroken) n = record { state = others_put T.states y S3 x (differs x y n); sums = λ k. refl; apart = nobody }
   by_effect (Commits y one_phase free may) n = record { state = others_removed T.states y x (differs x y n); sums = others_gone y n; apart = nobody }
   by_effect (Drops op y c free tells) n =

@@ -57,7 +57,7 @@ due_same (Some p) C D h = ap (λ b. if b then p.1 else pos 0) (h p.0)
 zero_plus : (d e s : ℤ) → e ≡ d → s ≡ pos 0 → pos 0 +ℤ d ≡ e +ℤ s
 zero_plus d e s h z = omega (arith, ints)
 
-quiet_named : (x y : XidName) (o : Option Fate) → ending o ≡ None → ending (if_named x y o) ≡ None
+pub quiet_named : (x y : XidName) (o : Option Fate) → ending o ≡ None → ending (if_named x y o) ≡ None
 quiet_named x y o e = elim (xid_eq y x) as (λ b. ending (if b then o else None) ≡ None) [ true ↦ e | false ↦ refl ]
 
 pub get_without : (sums : FinMap touch_cmp ℤ) (y x : XidName) (k : List ℕ) → map.get (sums_without sums y) (x, k) ≡ (if xid_eq x y then None else map.get sums (x, k))
@@ -90,7 +90,7 @@ due_left k y (Some p) sums h =
       )
     ] refl
 
-ended_named : (x y : XidName) (g : Fate) (b : Bool) → ending (Some g) ≡ Some b → ending (if_named x y (Some g)) ≡ (if xid_eq y x then Some b else None)
+pub ended_named : (x y : XidName) (g : Fate) (b : Bool) → ending (Some g) ≡ Some b → ending (if_named x y (Some g)) ≡ (if xid_eq y x then Some b else None)
 ended_named x y g b e = elim (xid_eq y x) as (λ c. ending (if c then Some g else None) ≡ (if c then Some b else None)) [ true ↦ e | false ↦ refl ]
 
 -- what is due before an entry that ends y: y's sum if it commits, and else nothing
@@ -212,7 +212,7 @@ module _ (t : ℕ) (k : List ℕ) (p : Held) (T : Tables) (h : IsPending k p T.s
   by_effect (Joins y free there unprepared) = still refl refl (λ x. quiet_named x y None refl) (λ later. refl)
   by_effect (Resumes y own) = still refl refl (λ x. quiet_named x y None refl) (λ later. refl)
   by_effect (Dooms own d l mine) = still refl refl (λ x. refl) (λ later. (undone_adds own d RbTransient refl).shares k _ later)
-  by_effect (Adds own d l mine alone) =
+  by_effect (Adds own d l mine known alone) =
       subst (λ (o : Option Association). ValueStep k p (Add own d) o T (record T { sums = map.insert T.sums (l.xid, own) (sum_of T.sums l.xid own +ℤ d) }, Done)) (sym mine) (gained k own d p l T h alone)
   by_effect (Prepares y nobody unbroken) = still refl refl (λ x. quiet_named x y (Some InDoubt) refl) (λ later. refl)
   by_effect (Commits y one_phase nobody may) = paid y one_phase

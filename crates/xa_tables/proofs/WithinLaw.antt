@@ -164,7 +164,7 @@ module _ (t : ℕ) (T : Tables) (s : Sound T) (w : Kept T) where
   by_effect (Fails y own) = let p = put y (RollbackOnly Failed) refl in record { values = p.values; alone = p.alone; prepared = p.prepared }
   by_effect (Idles y own alone) = let p = put y Idle refl in record { values = p.values; alone = p.alone; prepared = p.prepared }
   by_effect (Dooms k d l own) = put l.xid (RollbackOnly Transient) refl
-  by_effect (Adds k d l own free) = adds k d l own free
+  by_effect (Adds k d l own known free) = adds k d l own free
   by_effect (Prepares y nobody unbroken) = prepares y (unbroken_fits T y unbroken)
   by_effect (Commits y one_phase nobody may) = commits y (⊎_elim (λ (is : is_prepared T y ≡ true). w.prepared y is) (λ (unbroken : is_broken T.values T.sums y ≡ false). unbroken_fits T y unbroken) may)
   by_effect (Drops op y c nobody tells) = drops y

@@ -8,3 +8,5 @@ pub mod Managers
 pub mod History
 pub mod Worked
 pub mod Prepared
+pub mod Worth
+pub mod Work

@@ -1,5 +1,5 @@
 //! Laws of the definitions, for any history.
-ghost use Rattle.std.specs.Prelude.{◌≡◌, ◌≢◌, ◌++◌, ℕ, ℤ, List, [], Some, option_map, true, false};
+ghost use Rattle.std.specs.Prelude.{◌≡◌, ◌≢◌, ◌++◌, ℕ, ℤ, pos, List, [], Some, option_map, true, false};
 ghost use Rattle.xa_words.specs.Xid.{XidName};
 ghost use Rattle.xa_words.specs.declared.code.Code.TheVariants.{Done, RbIntegrity, RdOnly};
 ghost use Rattle.xa_words.specs.declared.request.Op.{Op};
@@ -10,6 +10,8 @@ ghost use Rattle.xa_tables.specs.Accounts.{are_accounts};
 ghost use Rattle.xa_tables.specs.Managers.{opening};
 ghost use Rattle.xa_tables.specs.Next.{next};
 ghost use Rattle.xa_tables.specs.Prepared.{NamesNowhere, LeavesWaiting, StaysAsItWas, IsPrepared, StaysPrepared, AwaitsTheOutcome, has_shut};
+ghost use Rattle.xa_tables.specs.Work.{AddsAsItWorks};
+ghost use Rattle.xa_tables.specs.Worth.{WorthIsMoved, HoldsItsAdditions, held_by};
 ghost use Rattle.xa_tables.specs.Worked.{branch, worked, voted, transferred, undone, overdrawn, unchanged, failed, begun_again};
 
 /// Whatever is requested, a branch is prepared exactly if its fate is to be in doubt.
@@ -43,6 +45,33 @@ pub fn value_is_sum()
 /// ended in between.
 pub fn adders_never_vote_read_only()
     ensures { (t u : ℕ) (op : Op) (x : XidName) (k : List ℕ) (d : ℤ) (g : History) (T : Tables) → op ≡ Add k d → option_map (λ a. a.xid) (association_of T u) ≡ Some x → (next u op T).1 ≡ Done → EndsNowhere x g (next u op T).0 → (next t (Prepare x) (tables_after g (next u op T).0)).1 ≢ RdOnly }
+{}
+
+/// What a manager's accounts are worth together is what was declared and what each Commit that was answered
+/// XA_OK has added: all that its branch held.
+pub fn commits_alone_move_the_worth()
+    ensures { (accounts : List (List ℕ × ℕ)) (h : History) → are_accounts accounts ≡ true → WorthIsMoved accounts h }
+{}
+
+/// A branch holds what it has added since it was last ended, whichever threads have added it.
+pub fn branches_hold_their_additions()
+    ensures { (accounts : List (List ℕ × ℕ)) (x : XidName) (h : History) → are_accounts accounts ≡ true → HoldsItsAdditions accounts x h }
+{}
+
+/// A branch whose work one thread did has added what the thread added to it, whatever others ask for.
+pub fn a_thread_adds_as_it_works()
+    ensures { (t n : ℕ) (x : XidName) (k : List ℕ) (d : ℤ) (h : History) (T : Tables) → IsOpening T → AddsAsItWorks t n x k d T h }
+{}
+
+/// From a Prepare that was answered XA_OK on a branch holds what it held, whatever is requested that doesn't
+/// name it.
+pub fn prepared_branches_keep_what_they_hold()
+    ensures { (accounts : List (List ℕ × ℕ)) (t : ℕ) (x : XidName) (h g : History) (T : Tables) → IsOpening T → (next t (Prepare x) (tables_after h T)).1 ≡ Done → NamesNowhere x g → held_by accounts x (tables_after g (next t (Prepare x) (tables_after h T)).0) ≡ held_by accounts x (tables_after h T) }
+{}
+
+/// A branch whose Prepare is answered XA_RDONLY held nothing.
+pub fn read_only_branches_hold_nothing()
+    ensures { (accounts : List (List ℕ × ℕ)) (t : ℕ) (x : XidName) (T : Tables) → (next t (Prepare x) T).1 ≡ RdOnly → held_by accounts x T ≡ pos 0 }
 {}
 
 /// Late requests add nothing, so a value may be read from the whole history.

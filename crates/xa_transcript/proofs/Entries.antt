@@ -22,12 +22,12 @@ requests_step : (e : Entry) (rs : List Request) (es : List Entry) (b : Bool) →
 requests_step e rs es true same = ap (λ l. e.0 ∷ l) same
 requests_step e rs es false same = same
 
-requests_kept : (t : ℕ) (es : List Entry) → of_thread t (requests es) ≡ map (λ e. e.0) (entries_of t es)
+pub requests_kept : (t : ℕ) (es : List Entry) → of_thread t (requests es) ≡ map (λ e. e.0) (entries_of t es)
 requests_kept t [] = refl
 requests_kept t (e ∷ es) = requests_step e (of_thread t (requests es)) (entries_of t es) (e.0.thread == t) (requests_kept t es)
 
 -- a number of an entry with its code
-abbrev pair_of : Entry → ℕ × Code
+abbrev pub pair_of : Entry → ℕ × Code
 pair_of e = (e.0.number, e.1)
 
 -- what agrees: the entries are what was sent, in order, and each code that was collected stands at its number
@@ -50,7 +50,7 @@ numbered_at t n [] o post = let same : n ≡ n + 0 = omega arith in ap (λ k. So
 numbered_at t n (p ∷ pre) o post = let same : suc n + length pre ≡ n + suc (length pre) = omega arith in numbered_at t (suc n) pre o post ∙ ap (λ k. Some (record { thread = t; number = k; op = o })) same
 
 -- what a mapped option has
-was_some : {A B : Type 0} (f : A → B) (o : Option A) (y : B) → option_map f o ≡ Some y → (x : A) × (o ≡ Some x) × (f x ≡ y)
+pub was_some : {A B : Type 0} (f : A → B) (o : Option A) (y : B) → option_map f o ≡ Some y → (x : A) × (o ≡ Some x) × (f x ≡ y)
 was_some f None y e = absurd (cc)
 was_some f (Some x) y e = (x, refl, same_some (f x) y e)
   where

@@ -11,3 +11,10 @@ pub mod Worth
 pub mod Left
 pub mod Told
 pub mod Shown
+pub mod Placed
+pub mod Failing
+pub mod Became
+pub mod Outcomes
+pub mod Named
+pub mod Alone
+pub mod Sums

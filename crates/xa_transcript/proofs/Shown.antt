@@ -95,13 +95,13 @@ entered : (t : ℕ) (o : Op) (c : Code) (old new : List Entry) → new ≡ old +
 entered t o c old new is = (length old, subst (λ (es : List Entry). Contains es (next_entry t old o c)) (sym is) (Contains-push old (next_entry t old o c)))
 
 -- entries are only added
-abbrev Adding : List Entry → List Entry → Type 0
+abbrev pub Adding : List Entry → List Entry → Type 0
 Adding old new = (more : List Entry) × (new ≡ old ++ more)
 
-adds_none : (old new : List Entry) → new ≡ old → Adding old new
+pub adds_none : (old new : List Entry) → new ≡ old → Adding old new
 adds_none old new e = ([], e ∙ sym (append-nil old))
 
-adds_both : (old mid new : List Entry) → Adding old mid → Adding mid new → Adding old new
+pub adds_both : (old mid new : List Entry) → Adding old mid → Adding mid new → Adding old new
 adds_both old mid new a b = (a.0 ++ b.0, b.1 ∙ ap (λ es. es ++ b.0) a.1 ∙ append_assoc old a.0 b.0)
 
 still_has : (t : ℕ) (o : Op) (c : Code) (old new : List Entry) → Adding old new → HasEntry t o c old → HasEntry t o c new
@@ -163,7 +163,7 @@ carried_out t o c old new (unwanted asks told same) other = absurd (not_none o (
 
 -- ---- a branch that ends as committed
 
-committed_yes : (yes' read back away : Bool) (commit : Bool) (v : Code) (s : Option Code) → (if yes' then yes_ending commit s else (if read then ReadOnly else (if back then RolledBack else (if away then Left v else no_ending v s)))) ≡ Committed → (yes' ≡ true) × (yes_ending commit s ≡ Committed)
+pub committed_yes : (yes' read back away : Bool) (commit : Bool) (v : Code) (s : Option Code) → (if yes' then yes_ending commit s else (if read then ReadOnly else (if back then RolledBack else (if away then Left v else no_ending v s)))) ≡ Committed → (yes' ≡ true) × (yes_ending commit s ≡ Committed)
 committed_yes true read back away commit v s e = (refl, e)
 committed_yes false true back away commit v s e = absurd (cc)
 committed_yes false false true away commit v s e = absurd (cc)
@@ -182,7 +182,7 @@ done_so : (c : Code) → is_done c ≡ true → c ≡ Done
 done_so Done e = refl
 done_so c e = absurd (cc)
 
-committed_done : (commit : Bool) (s : Option Code) → yes_ending commit s ≡ Committed → (commit ≡ true) × (s ≡ Some Done)
+pub committed_done : (commit : Bool) (s : Option Code) → yes_ending commit s ≡ Committed → (commit ≡ true) × (s ≡ Some Done)
 committed_done commit None e = absurd (cc)
 committed_done commit (Some c) e = let parts = both (is_done c) commit (is_rm_fail c) e in (parts.1, ap (λ (d : Code). Some d) (done_so c parts.0))
   where
@@ -214,7 +214,7 @@ branch_prepared : (t : ℕ) (commit : Bool) (old new : ℕ → List Entry) (b : 
 branch_prepared t commit old new b v s e is vote =
     still_has t (Prepare b.xid) v is.between (new b.m) (carry_adds t (second_op commit b.xid v) s is.between (new b.m) is.obeys) (carried_out t (Prepare b.xid) v (old b.m) is.between is.prepares (not_shut v vote))
 
-none_against : (votes : List Code) (logged : Bool) → decision_of votes logged ≡ true → list_any is_no votes ≡ false
+pub none_against : (votes : List Code) (logged : Bool) → decision_of votes logged ≡ true → list_any is_no votes ≡ false
 none_against votes logged e = flipped (list_any is_no votes) (and_parts (decides_commit votes) (not (has_yes votes) || logged) e).0
   where
     flipped : (b : Bool) → not b ≡ true → b ≡ false
@@ -258,7 +258,7 @@ commit_adds : (c : CommitAll) (a : Answer) (old new : Part) → CommitTakes c a 
 commit_adds c a old new (takes_none told e) m = adds_none (old.entries m) (new.entries m) (ap (λ (p : Part). p.entries m) e)
 commit_adds c a old new (decided done told is) m = decides_adds c done old new is m
 
-takes_adds : (settled : Settling) (p : Task) (a : Answer) (old new : Part) → Takes settled p a old new → (m : ℕ) → Adding (old.entries m) (new.entries m)
+pub takes_adds : (settled : Settling) (p : Task) (a : Answer) (old new : Part) → Takes settled p a old new → (m : ℕ) → Adding (old.entries m) (new.entries m)
 takes_adds settled (task.Call p) a old new is m = call_adds settled p a old new is m
 takes_adds settled (task.CommitAll c) a old new is m = commit_adds c a old new is m
 
@@ -282,7 +282,7 @@ in_journal : (settled : Settling) (t m u : ℕ) (o : Op) (c : Code) → HasEntry
 in_journal settled t m u o c has = (has.0, in_filter (λ (e : Entry). e.0.thread == t) (journal settled m) (entry (record { thread = u; number = has.0; op = o }) c) has.1)
 
 -- what a commit has come to
-decided_so : (settled : Settling) (l : Line) (c : CommitAll) (done : Outcome) (old new : Part) → ShowsCommit l c done → TakesPart settled l old new → Decides c done old new
+pub decided_so : (settled : Settling) (l : Line) (c : CommitAll) (done : Outcome) (old new : Part) → ShowsCommit l c done → TakesPart settled l old new → Decides c done old new
 decided_so settled l c done old new shows takes = of_answer (subst (λ (a : Answer). CommitTakes c a old new) shows.tells (subst (λ (x : Task). Takes settled x l.answer old new) shows.asks takes))
   where
     same_done : (line thread : ℕ) (d e : Outcome) → answer.Decided line thread d ≡ answer.Decided line thread e → d ≡ e

@@ -5,4 +5,5 @@ pub mod Wants
 pub mod Parts
 pub mod Commits
 pub mod Journals
+pub mod Outcomes
 pub mod Runs

@@ -1,5 +1,5 @@
 //! What a transcript tells.
-ghost use Rattle.std.specs.Prelude.{◌≡◌, ℕ, List, All, false};
+ghost use Rattle.std.specs.Prelude.{◌≡◌, ℕ, List, All, false, ◌++◌, ◌∷◌};
 ghost use Rattle.xa_desk.specs.DeskView.{DeskView};
 ghost use Rattle.xa_desk.specs.Ended.{EndedView};
 ghost use Rattle.xa_worker.specs.Workers.{WorkerView};
@@ -9,13 +9,22 @@ ghost use Rattle.xa_switch.specs.Settling.{Settling, IsSettled};
 ghost use Rattle.xa_driver.specs.declared.done.Done.{Done};
 ghost use Rattle.xa_grammar.specs.declared.script.CommitAll.{CommitAll};
 ghost use Rattle.xa_grammar.specs.declared.script.Declared.{Declared};
-ghost use Rattle.xa_grammar.specs.Content.{Content};
+ghost use Rattle.xa_grammar.specs.Content.{Content, IsScript};
 ghost use Rattle.xa_session.specs.declared.answer.Answer.{Answer};
+ghost use Rattle.xa_session.specs.Committing.{branches_of};
 ghost use Rattle.xa_transcript.specs.Parts.{Part};
 ghost use Rattle.xa_transcript.specs.Commits.{Decides};
-ghost use Rattle.xa_transcript.specs.Journals.{AreCarriedOut, IsCarriedOut, AreCommitted, ArePrepared, AddsNoCommit, TellsOf};
+ghost use Rattle.xa_transcript.specs.Journals.{Line, AreCarriedOut, IsCarriedOut, ShowsCommit, AreCommitted, ArePrepared, AddsNoCommit, TellsOf};
+ghost use Rattle.xa_transcript.specs.Outcomes.{Place, AreLeftAlone, AreNamedByNoOther, ShowsOneOutcome, IsAsShown, IsSumOfShares};
 ghost use Rattle.xa_transcript.specs.Runs.{Ran};
 ghost use Rattle.xa_transcript.specs.Values.{AreOfScript, AreValues};
+
+use xa_switch::laws::settled_journals_follow_the_tables;
+use xa_tables::laws::{
+    adders_never_vote_read_only, late_requests_add_nothing, late_requests_leave_fates,
+    only_a_shut_shuts, prepared_branches_await_the_outcome, prepared_branches_keep_what_they_hold,
+    read_only_branches_hold_nothing, refused_prepares_tell_integrity,
+};
 
 /// Each call without `TMASYNC` that answers XA_OK has its request in its manager's journal, with XA_OK.
 pub fn what_answers_ok_is_carried_out()
@@ -37,6 +46,43 @@ pub fn what_commits_was_prepared()
 pub fn what_aborts_adds_no_commit()
     ensures { (c : CommitAll) (done : Done) (old new : Part) → Decides c done old new → done.commit ≡ false → (m : ℕ) → AddsNoCommit (old.entries m) (new.entries m) }
 {}
+
+/// Where a line shows `commit` none of its branches is shown as rolled back, and where it shows `abort` none
+/// as committed.
+pub fn one_outcome_is_shown()
+    ensures { (s : Content) (answers : List Answer) (settled : Settling) (t : ℕ) (told : AreCarriedOut s answers settled t) → All ShowsOneOutcome told.lines }
+{}
+
+/// Each line has a place among those of its thread.
+pub fn lines_have_their_places()
+    ensures { (s : Content) (answers : List Answer) (settled : Settling) (t : ℕ) (told : AreCarriedOut s answers settled t) (before : List Line) (l : Line) (after : List Line) → told.lines ≡ before ++ l ∷ after → (old : Part) × (new : Part) × Place told before l after old new }
+{}
+
+/// All of a transaction or nothing, by what a transcript tells: where no line but that of its commit names a
+/// branch of it from that line on, each branch is shown as what became of it, and the values count what is shown
+/// as committed (clause `lines`). For that it is enough that in the journals nobody else names a branch after its
+/// Prepare (`journals`).
+pub fn branches_are_as_shown()
+    ensures journals { (s : Content) (answers : List Answer) (values : List Declared) (settled : Settling) (tells : TellsOf s answers values settled) (c : CommitAll) (done : Done) (before : List Line) (l : Line) (after : List Line) (old new : Part) → Place (tells.carried c.thread) before l after old new → ShowsCommit l c done → AreLeftAlone settled c.thread (branches_of c) old new → IsAsShown settled c.thread (branches_of c) old done }
+    ensures lines { (s : Content) (answers : List Answer) (values : List Declared) (settled : Settling) (tells : TellsOf s answers values settled) (c : CommitAll) (done : Done) (before : List Line) (l : Line) (after : List Line) → (tells.carried c.thread).lines ≡ before ++ l ∷ after → ShowsCommit l c done → AreNamedByNoOther s c.thread (branches_of c) after → (old : Part) × (new : Part) × Place (tells.carried c.thread) before l after old new × IsAsShown settled c.thread (branches_of c) old done }
+{
+    prepared_branches_await_the_outcome();
+    adders_never_vote_read_only();
+    only_a_shut_shuts();
+    late_requests_leave_fates();
+    refused_prepares_tell_integrity();
+    prepared_branches_keep_what_they_hold();
+    read_only_branches_hold_nothing();
+    settled_journals_follow_the_tables();
+}
+
+/// The value of each key that is shown is that at the opening and the share of each request in its manager's
+/// journal.
+pub fn values_are_sums_of_shares()
+    ensures { (s : Content) (answers : List Answer) (values : List Declared) (settled : Settling) → IsScript s → TellsOf s answers values settled → All (IsSumOfShares s settled) values }
+{
+    late_requests_add_nothing();
+}
 
 /// What a run whose threads and managers came to this tells of, once they are settled.
 pub fn runs_tell_of_their_journals()

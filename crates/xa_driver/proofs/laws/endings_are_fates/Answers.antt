@@ -11,6 +11,8 @@ returns-clause-votes c = λ s t bs desk new log later done settled made grown al
       leaves = c.late_requests_leave_fates.ensures;
       adders = c.adders_never_vote_read_only.ensures;
       breaks = c.refused_prepares_tell_integrity.ensures;
+      keeps = c.prepared_branches_keep_what_they_hold.ensures;
+      reads = c.read_only_branches_hold_nothing.ensures;
     } in
     votes_law law c.settled_journals_follow_the_tables.ensures s t bs desk new log later done settled made grown alone
 
@@ -22,6 +24,8 @@ returns-clause-fates c = λ s t bs desk new log later done settled made grown al
       leaves = c.late_requests_leave_fates.ensures;
       adders = c.adders_never_vote_read_only.ensures;
       breaks = c.refused_prepares_tell_integrity.ensures;
+      keeps = c.prepared_branches_keep_what_they_hold.ensures;
+      reads = c.read_only_branches_hold_nothing.ensures;
     } in
     fates_law law c.settled_journals_follow_the_tables.ensures s t bs desk new log later done settled made grown alone
 
@@ -33,6 +37,8 @@ returns-clause-values c = λ s t bs desk new log later done settled made grown a
       leaves = c.late_requests_leave_fates.ensures;
       adders = c.adders_never_vote_read_only.ensures;
       breaks = c.refused_prepares_tell_integrity.ensures;
+      keeps = c.prepared_branches_keep_what_they_hold.ensures;
+      reads = c.read_only_branches_hold_nothing.ensures;
     } in
     counts_law law c.settled_journals_follow_the_tables.ensures s t bs desk new log later done settled made grown alone
 
@@ -44,6 +50,8 @@ returns-clause-whole c = λ s t bs desk new log later done settled made grown al
       leaves = c.late_requests_leave_fates.ensures;
       adders = c.adders_never_vote_read_only.ensures;
       breaks = c.refused_prepares_tell_integrity.ensures;
+      keeps = c.prepared_branches_keep_what_they_hold.ensures;
+      reads = c.read_only_branches_hold_nothing.ensures;
     } in
     whole_law law c.settled_journals_follow_the_tables.ensures s t bs desk new log later done settled made grown alone
     (λ some. (committed_law made.may.tran bs desk new log later done made made.may.one some).kept) decided

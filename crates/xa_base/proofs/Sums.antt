@@ -1,0 +1,33 @@
+-- Lemmas on sums over lists.
+use Rattle.std.specs.Prelude.{◌≡◌, ℤ, pos, ◌+ℤ◌, ℕ, suc, List, [], ◌∷◌, refl}
+use Rattle.std.specs.List.{All}
+use Rattle.std.proofs.Common.{sym, ap, ◌∙◌, arith}
+use Rattle.std.proofs.lemmas.Int.{ints}
+use Rattle.xa_base.specs.Sums.{total}
+
+-- the elements count alike
+pub total_same : {A : Type 0} (f g : A → ℤ) (xs : List A) → ((x : A) → f x ≡ g x) → total f xs ≡ total g xs
+total_same f g [] h = refl
+total_same f g (x ∷ xs) h = λ i. h x i +ℤ total_same f g xs h i
+
+pub total_alike : {A : Type 0} (f g : A → ℤ) (xs : List A) → All (λ x. f x ≡ g x) xs → total f xs ≡ total g xs
+total_alike f g [] h = refl
+total_alike f g (x ∷ xs) h = λ i. h 0 x (omega arith) i +ℤ total_alike f g xs (λ k d lt. h (suc k) d (omega arith)) i
+
+-- they count for nothing
+pub total_nothing : {A : Type 0} (xs : List A) → total (λ (x : A). pos 0) xs ≡ pos 0
+total_nothing [] = refl
+total_nothing (x ∷ xs) = ap (λ s. pos 0 +ℤ s) (total_nothing xs)
+
+regroup : (a b s t u : ℤ) → u ≡ s +ℤ t → (a +ℤ b) +ℤ u ≡ (a +ℤ s) +ℤ (b +ℤ t)
+regroup a b s t u h = omega (arith, ints)
+
+-- each counts for two things
+pub total_both : {A : Type 0} (f g : A → ℤ) (xs : List A) → total (λ x. f x +ℤ g x) xs ≡ total f xs +ℤ total g xs
+total_both f g [] = refl
+total_both f g (x ∷ xs) = regroup (f x) (g x) (total f xs) (total g xs) (total (λ y. f y +ℤ g y) xs) (total_both f g xs)
+
+-- a table may be summed by rows or by columns
+pub total_across : {A B : Type 0} (f : A → B → ℤ) (xs : List A) (ys : List B) → total (λ x. total (f x) ys) xs ≡ total (λ y. total (λ x. f x y) xs) ys
+total_across f [] ys = sym (total_nothing ys)
+total_across f (x ∷ xs) ys = ap (λ s. total (f x) ys +ℤ s) (total_across f xs ys) ∙ sym (total_both (f x) (λ y. total (λ z. f z y) xs) ys)

@@ -1,0 +1,152 @@
+-- What all accounts are worth together is what was declared and what the threads have moved.
+use Rattle.std.specs.Prelude.{ℤ, pos, ◌+ℤ◌, option_map, unwrap_or, All}
+use Rattle.std.proofs.Common.{◌≡◌, ℕ, zero, suc, ◌+◌, ◌-◌, ◌<◌, ◌≤◌, ◌==◌, true, false, cond, if◌then◌else◌, List, [], ◌∷◌, length, map, get_or, sym, refl, ap, ◌∙◌, subst, arith, Some, None}
+use Rattle.std.specs.List.{Contains, range_with_len}
+use Rattle.std.specs.FinMap as finmap
+use Rattle.std.proofs.lemmas.Int.{ints}
+use Rattle.std.proofs.lemmas.Bool.{eqb-true, eqb-false}
+use Rattle.std.proofs.lemmas.List.FromFn.{length-range_with_len, get_or-range_with_len}
+use Rattle.std.proofs.lemmas.List.Sorted.{IsPermutation-sym, Contains-permutation}
+use Rattle.std.proofs.lemmas.Option.{same_Some}
+use Rattle.xa_base.specs.Sums.{total}
+use Rattle.xa_base.proofs.Sums.{total_same, total_alike, total_both, total_nothing, total_across}
+use Rattle.xa_base.proofs.Lists.{contains_at, range_all}
+use Rattle.xa_words.specs.declared.request.Request.{Request}
+use Rattle.xa_tables.specs.Tables.{Tables, value_of}
+use Rattle.xa_tables.specs.Next.{next}
+use Rattle.xa_tables.specs.Accounts.{are_accounts}
+use Rattle.xa_tables.specs.Managers.{opening}
+use Rattle.xa_tables.specs.History.{History, of_thread, tables_after, IsOpening, IsSumOfAll, ValueIsSum}
+use Rattle.xa_tables.specs.Worth.{worth_declared, moved, moved_by as moved_by_request, is_any, is_of, WorthIsMoved}
+use Rattle.xa_desk.specs.Lanes.{numbered}
+use Rattle.xa_desk.specs.DeskView.{sent_to, is_known, ledger}
+use Rattle.xa_switch.specs.declared.plan.Plan.{Plan}
+use Rattle.xa_switch.specs.Plans.{IsSoundManager}
+use Rattle.xa_switch.specs.OfPlans.{IsOfPlan}
+use Rattle.xa_switch.specs.Settling.{ThreadPart, ManagerPart, Settling, IsSettled, find_thread, find_manager, ledgers_in, value, sent}
+use Rattle.xa_switch.specs.Fates.{IsOpenedWith, history}
+use Rattle.xa_switch.specs.Worth.{threads_of, managers_of, accounts_in, accounts_of, plan_worth, moved_at, WorthIsOfThreads}
+use Rattle.xa_switch.proofs.Lists.{all_contains, found, contains_map, element_at}
+use Rattle.xa_switch.proofs.Journaled.{follows_part}
+
+none_plus : (v : ℤ) → pos 0 +ℤ v ≡ v
+none_plus v = omega (arith, ints)
+
+plus_none : (v : ℤ) → v +ℤ pos 0 ≡ v
+plus_none v = omega (arith, ints)
+
+-- ---- numbers of a range
+
+-- what counts for one number counts for none of a range above it, and once in a range that has it
+none_counted : (k : ℕ) (v : ℤ) (a n : ℕ) → k < a → total (λ t. if k == t then v else pos 0) (range_with_len a n) ≡ pos 0
+none_counted k v a zero lt = refl
+none_counted k v a (suc n) lt =
+    let other : (k == a) ≡ false = elim (k == a) as (λ b. (k == a) ≡ b → b ≡ false) [ true ↦ λ e. let same = eqb-true k a e in absurd (omega (arith, same)) | false ↦ λ e. refl ] refl in
+    (λ i. (if other i then v else pos 0) +ℤ none_counted k v (a + 1) n (omega arith) i)
+
+one_counted : (k : ℕ) (v : ℤ) (a n : ℕ) → a ≤ k → k < a + n → total (λ t. if k == t then v else pos 0) (range_with_len a n) ≡ v
+one_counted k v a zero from below = absurd (omega arith)
+one_counted k v a (suc n) from below =
+    elim (k == a) as (λ b. (k == a) ≡ b → (if b then v else pos 0) +ℤ total (λ t. if k == t then v else pos 0) (range_with_len (a + 1) n) ≡ v) [
+      | true ↦ λ e. let same = eqb-true k a e in ap (λ s. v +ℤ s) (none_counted k v (a + 1) n (omega (arith, same))) ∙ plus_none v
+      | false ↦ λ e. let apart = eqb-false k a e in none_plus _ ∙ one_counted k v (a + 1) n (omega (arith, apart)) (omega arith)
+    ] refl
+
+-- ---- a history, thread by thread
+
+-- the request is of one of the threads
+abbrev IsPlaced : List ℕ → Request → Type 0
+IsPlaced ts r = (v : ℤ) → total (λ t. if is_of t r then v else pos 0) ts ≡ v
+
+split_moved : (accounts : List (List ℕ × ℕ)) (ts : List ℕ) (h : History) (T : Tables) → All (IsPlaced ts) h → moved accounts is_any h T ≡ total (λ t. moved accounts (is_of t) h T) ts
+split_moved accounts ts [] T placed = sym (total_nothing ts)
+split_moved accounts ts (r ∷ h) T placed =
+    let v : ℤ = moved_by_request accounts r.op (next r.thread r.op T).1 T in
+    let T1 : Tables = (next r.thread r.op T).0 in
+    let first : v ≡ total (λ t. if is_of t r then v else pos 0) ts = sym (placed 0 r (omega arith) v) in
+    (λ i. first i +ℤ split_moved accounts ts h T1 (λ k d lt. placed (suc k) d (omega arith)) i)
+    ∙ sym (total_both (λ t. if is_of t r then v else pos 0) (λ t. moved accounts (is_of t) h T1) ts)
+
+-- a thread without requests in a history has none at any place
+none_there : (t : ℕ) (h : History) → of_thread t h ≡ [] → (k : ℕ) (d : Request) → k < length h → ((get_or h k d).thread == t) ≡ false
+none_there t [] e k d lt = absurd (omega arith)
+none_there t (r ∷ h) e k d lt =
+    elim (r.thread == t) as (λ b. (r.thread == t) ≡ b → cond b (r ∷ of_thread t h) (of_thread t h) ≡ [] → ((get_or (r ∷ h) k d).thread == t) ≡ false) [
+      | true ↦ λ own f. cc
+      | false ↦ λ other f. elim k as (λ j. j < suc (length h) → ((get_or (r ∷ h) j d).thread == t) ≡ false) [ zero ↦ λ l. other | suc j ↦ λ l. none_there t h f j d (omega arith) ] lt
+    ] refl e
+
+module _ (p : Plan) (s : Settling) (settled : IsSettled s) (of_plan : IsOfPlan p s) where
+  -- thread t of a request is a thread of the plan
+  unknown_sends : (t m : ℕ) → find_thread t s.threads ≡ None → 1 ≤ m → sent s t m ≡ []
+  unknown_sends t m none positive =
+      ap (λ o. sent_to (ledgers_in o) m) none
+      ∙ elim (is_known [] m) as (λ b. (if b then (ledger [] m).sent else []) ≡ []) [ true ↦ refl | false ↦ refl ]
+
+  known_thread : (t m : ℕ) → 1 ≤ m → (k : ℕ) (d : Request) → k < length (history s m) → (get_or (history s m) k d).thread ≡ t → (1 ≤ t) × (t < 1 + p.threads)
+  known_thread t m positive k d lt is =
+      elim (find_thread t s.threads) as (λ o. find_thread t s.threads ≡ o → (1 ≤ t) × (t < 1 + p.threads)) [
+        | None ↦ λ none.
+            let nothing : of_thread t (history s m) ≡ [] = (settled.agree t m).carried ∙ ap (numbered t 0) (unknown_sends t m none positive) in
+            let apart : ((get_or (history s m) k d).thread == t) ≡ false = none_there t (history s m) nothing k d lt in
+            absurd (eqb-false _ t apart is)
+        | Some part ↦ λ at.
+            let there = found (λ (q : ThreadPart). q.thread == t) s.threads part at in
+            let number : part.thread ≡ t = eqb-true part.thread t there.1 in
+            let among : Contains (range_with_len 1 p.threads) part.thread =
+            Contains-permutation (map (λ (q : ThreadPart). q.thread) s.threads) (range_with_len 1 p.threads) part.thread (IsPermutation-sym _ _ of_plan.threads) (contains_map (λ (q : ThreadPart). q.thread) s.threads part there.0) in
+            let below : among.0 < p.threads = let e = length-range_with_len 1 p.threads in let l = among.1 in omega (arith, e, l) in
+            let value_is : 1 + among.0 ≡ t = sym (get_or-range_with_len 1 p.threads among.0 part.thread below) ∙ among.2 ∙ number in
+            (omega (arith, value_is), omega (arith, value_is, below))
+      ] refl
+
+  placed : (m : ℕ) → 1 ≤ m → All (IsPlaced (threads_of p)) (history s m)
+  placed m positive k d lt v =
+      let r : Request = get_or (history s m) k d in
+      let within = known_thread r.thread m positive k d lt refl in
+      one_counted r.thread v 1 p.threads within.0 within.1
+
+  module _ (sums : (h : History) (k : List ℕ) (T : Tables) → IsOpening T → IsSumOfAll k h T) where
+    -- the part of a manager of the plan
+    part_of : (m : ℕ) → 1 ≤ m → m ≤ length p.managers.items → (part : ManagerPart) × (find_manager m s.managers ≡ Some part) × (part.first ≡ opening (accounts_of p m))
+    part_of m positive below =
+        let (plan, planned) = element_at p.managers.items (m - 1) (omega (arith, positive, below)) in
+        let number : m - 1 + 1 ≡ m = omega (arith, positive) in
+        let opened : option_map (λ (q : ManagerPart). q.first) (find_manager m s.managers) ≡ Some (opening (accounts_of p m)) =
+        ap (λ n. option_map (λ (q : ManagerPart). q.first) (find_manager n s.managers)) (sym number) ∙ of_plan.opened (m - 1) plan planned ∙ ap (λ o. Some (opening (accounts_in o))) (sym planned) in
+        elim (find_manager m s.managers) as (λ o. find_manager m s.managers ≡ o → option_map (λ (q : ManagerPart). q.first) o ≡ Some (opening (accounts_of p m))
+        → (part : ManagerPart) × (find_manager m s.managers ≡ Some part) × (part.first ≡ opening (accounts_of p m))) [
+          | None ↦ λ e f. cc
+          | Some part ↦ λ e f. (part, e, same_Some part.first (opening (accounts_of p m)) f)
+        ] refl opened
+
+    pub opened_with : (m : ℕ) → 1 ≤ m → m ≤ length p.managers.items → IsOpenedWith s m (opening (accounts_of p m))
+    opened_with m positive below =
+        let (part, there, first) = part_of m positive below in
+        subst (IsOpenedWith s m) first (follows_part sums s m part there settled)
+
+    module _ (values : (h : History) (k : List ℕ) (T : Tables) → IsOpening T → ValueIsSum k h T) (moves : (accounts : List (List ℕ × ℕ)) (h : History) → are_accounts accounts ≡ true → WorthIsMoved accounts h)
+        (sound : All IsSoundManager p.managers.items) where
+      sound_at : (m : ℕ) → 1 ≤ m → m ≤ length p.managers.items → are_accounts (accounts_of p m) ≡ true
+      sound_at m positive below =
+          let (plan, planned) = element_at p.managers.items (m - 1) (omega (arith, positive, below)) in
+          ap (λ o. are_accounts (accounts_in o)) planned ∙ all_contains IsSoundManager p.managers.items plan sound (contains_at p.managers.items (m - 1) plan planned)
+
+      at_manager : (m : ℕ) → 1 ≤ m → m < 1 + length p.managers.items
+          → total (λ d. unwrap_or (value s m d.0) (pos 0)) (accounts_of p m) ≡ worth_declared (accounts_of p m) +ℤ total (λ t. moved_at p s t m) (threads_of p)
+      at_manager m positive below =
+          let accounts : List (List ℕ × ℕ) = accounts_of p m in
+          let T : Tables = opening accounts in
+          let H : History = history s m in
+          let open_ = opened_with m positive (omega (arith, below)) in
+          let is : (k : List ℕ) → value s m k ≡ finmap.get (tables_after H T).values k = λ k. open_.values k ∙ sym (sums H k T open_.opened) ∙ sym (values H k T open_.opened) in
+          total_same (λ d. unwrap_or (value s m d.0) (pos 0)) (λ d. value_of (tables_after H T).values d.0) accounts (λ d. ap (λ o. unwrap_or o (pos 0)) (is d.0))
+          ∙ moves accounts H (sound_at m positive (omega (arith, below)))
+          ∙ ap (λ v. worth_declared accounts +ℤ v) (split_moved accounts (threads_of p) H T (placed m positive))
+
+      pub worth_law : WorthIsOfThreads p s
+      worth_law =
+          total_alike (λ m. total (λ d. unwrap_or (value s m d.0) (pos 0)) (accounts_of p m)) (λ m. worth_declared (accounts_of p m) +ℤ total (λ t. moved_at p s t m) (threads_of p)) (managers_of p)
+          (range_all (λ m. total (λ d. unwrap_or (value s m d.0) (pos 0)) (accounts_of p m) ≡ worth_declared (accounts_of p m) +ℤ total (λ t. moved_at p s t m) (threads_of p)) 1 (length p.managers.items) at_manager)
+          ∙ total_both (λ m. worth_declared (accounts_of p m)) (λ m. total (λ t. moved_at p s t m) (threads_of p)) (managers_of p)
+          ∙ ap (λ v. plan_worth p +ℤ v) (total_across (λ m t. moved_at p s t m) (managers_of p) (threads_of p))

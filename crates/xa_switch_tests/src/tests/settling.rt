@@ -1,0 +1,247 @@
+//! Openings that are run and settled, and pieces that are not settled.
+//!
+//! The contracts of the helpers show that a caller can know what settling asks: that desks and workers
+//! come from their openings.
+ghost use Rattle.std.specs.Prelude.{◌≡◌, map};
+ghost use Rattle.xa_switch.specs.Settling.{IsSettled};
+ghost use Rattle.xa_switch.specs.Seats.{ComeFromOpenings, seat_of_desk, seat_of_ended, seat_of_worker, seat_of_done, desk_seats, worker_seats};
+
+mod refusals;
+mod threads;
+mod turns;
+
+use super::key;
+use std::alloc::Global;
+use std::process::Abort;
+use std::sync::Wait;
+use xa_desk::{Desk, EndedDesk, Idle, Spin};
+use xa_switch::laws::opened_pieces_come_from_their_opening;
+use xa_switch::{
+    ManagerPlan, Plan, RmOp, Settled, Why, native, open_switch, settle, xa_call, xa_complete,
+};
+use xa_words::{Call, Code, Delta, Op, Request, TMNOFLAGS, Xid};
+use xa_worker::{DoneWorker, Free, Worker};
+
+// ---- what a thread does
+
+// What a thread asks for.
+#[derive(Clone, Copy, Debug)]
+enum Asks {
+    Xa(Call, Option<Xid>, u32),
+    Native(RmOp, u32),
+    // Waits for the operation under this handle. The answer is its code.
+    Complete(i32),
+}
+
+// A call at a manager, and what it is to answer.
+#[derive(Clone, Copy, Debug)]
+struct Act {
+    manager: u32,
+    asks: Asks,
+    answer: i32,
+}
+
+// A call of XA at the manager.
+fn calls(manager: u32, call: Call, xid: Option<Xid>, flags: u32, answer: i32) -> Act {
+    Act {
+        manager,
+        asks: Asks::Xa(call, xid, flags),
+        answer,
+    }
+}
+
+// The thread's branch adds to the key at the manager.
+fn adds(rt: &impl Abort, manager: u32, name: &[u8], delta: i64) -> Act {
+    let op = RmOp::Add(key(rt, name), Delta::new(delta).expect(rt, "a change"));
+    Act {
+        manager,
+        asks: Asks::Native(op, TMNOFLAGS),
+        answer: 0,
+    }
+}
+
+// The operation under the handle is completed with this code.
+fn completes(manager: u32, handle: i32, code: Code) -> Act {
+    Act {
+        manager,
+        asks: Asks::Complete(handle),
+        answer: code.value(),
+    }
+}
+
+fn ask<R: Wait, I: Idle>(rt: &R, desk: &mut Desk, manager: u32, asks: Asks, idle: &mut I) -> i32
+    ensures seat { seat_of_desk desk.new ≡ seat_of_desk desk.old }
+    ensures idled { I.leads idle.old idle.new }
+{
+    match asks {
+        Asks::Xa(call, xid, flags) => xa_call(rt, desk, call, xid, manager, flags, idle),
+        Asks::Native(op, flags) => native(rt, desk, op, manager, flags, idle),
+        Asks::Complete(number) => {
+            let (mut handle, mut retval) = (number, 55);
+            let answer = xa_complete(rt, desk, &mut handle, &mut retval, manager, TMNOFLAGS, idle);
+            if answer == 0 { retval } else { answer }
+        }
+    }
+}
+
+// Each call answers what it is to answer.
+fn play<R: Wait + Abort, I: Idle>(rt: &R, desk: &mut Desk, acts: &[Act], idle: &mut I)
+    ensures seat { seat_of_desk desk.new ≡ seat_of_desk desk.old }
+    ensures idled { I.leads idle.old idle.new }
+{
+    for act in acts {
+        let answer = ask(rt, desk, act.manager, act.asks, idle);
+        assert_eq!(rt; answer, act.answer, "{act:?}");
+    }
+}
+
+// ---- how an opening ends
+
+// Ends a desk with which nothing is outstanding.
+fn end<R: Wait + Abort>(rt: &R, desk: Desk) -> EndedDesk
+    ensures { seat_of_ended result ≡ seat_of_desk desk }
+{
+    match desk.finish(rt, &mut Spin::new()) {
+        Ok(ended) => ended,
+        Err(_) => panic!(rt; "something is outstanding"),
+    }
+}
+
+fn run<R: Wait>(rt: &R, worker: Worker) -> DoneWorker
+    ensures { seat_of_done result ≡ seat_of_worker worker }
+{
+    worker.run(rt, &mut Free)
+}
+
+fn end_all<R: Wait + Abort>(rt: &R, alloc: Global, desks: Vec<Desk>) -> Vec<EndedDesk>
+    ensures { desk_seats result.items ≡ map seat_of_desk desks.items }
+{
+    let mut ended = Vec::new(alloc);
+    for desk in desks {
+        let one = end(rt, desk);
+        ended.push(one).expect(rt, "memory");
+    }
+    ended
+}
+
+fn run_all<R: Wait + Abort>(rt: &R, alloc: Global, workers: Vec<Worker>) -> Vec<DoneWorker>
+    ensures { worker_seats result.items ≡ map seat_of_worker workers.items }
+{
+    let mut done = Vec::new(alloc);
+    for worker in workers {
+        let one = run(rt, worker);
+        done.push(one).expect(rt, "memory");
+    }
+    done
+}
+
+// Desks that have ended, and workers that have run.
+#[derive(Drop)]
+struct Pieces {
+    desks: Vec<EndedDesk>,
+    workers: Vec<DoneWorker>,
+}
+
+// The pieces the other way round.
+fn reversed(pieces: Pieces) -> Pieces
+    requires { ComeFromOpenings (desk_seats pieces.desks.items) (worker_seats pieces.workers.items) }
+    ensures { ComeFromOpenings (desk_seats result.desks.items) (worker_seats result.workers.items) }
+{
+    let Pieces {
+        mut desks,
+        mut workers,
+    } = pieces;
+    desks.reverse();
+    workers.reverse();
+    Pieces { desks, workers }
+}
+
+// Settles. Where a growth was refused, all has come back, and it settles with the memory that there is
+// then.
+fn settle_all<R: Wait + Abort>(
+    rt: &R,
+    alloc: Global,
+    desks: Vec<EndedDesk>,
+    workers: Vec<DoneWorker>,
+) -> Settled
+    requires { ComeFromOpenings (desk_seats desks.items) (worker_seats workers.items) }
+    ensures { IsSettled result }
+{
+    let refused = match settle(rt, alloc, desks, workers) {
+        Ok(settled) => return settled,
+        Err(refused) => refused,
+    };
+    assert_eq!(rt; refused.why, Why::NoMemory);
+    match settle(rt, alloc, refused.desks, refused.workers) {
+        Ok(settled) => settled,
+        Err(_) => panic!(rt; "it is not settled"),
+    }
+}
+
+// Opens a switch, ends its desks, runs its workers, and settles it, all in this thread.
+fn open_and_settle<R: Wait + Abort>(rt: &R, alloc: Global, plan: &Plan) -> Settled
+    ensures { IsSettled result }
+{
+    opened_pieces_come_from_their_opening();
+    let Ok((desks, workers)) = open_switch(rt, alloc, plan) else {
+        panic!(rt; "it is not opened");
+    };
+    let ended = end_all(rt, alloc, desks);
+    let done = run_all(rt, alloc, workers);
+    settle_all(rt, alloc, ended, done)
+}
+
+// ---- what is opened, and what is settled
+
+// A plan of so many threads and managers, each manager with the keys `a` of value 100 and `b` of value 7.
+fn plan_of(rt: &impl Abort, alloc: Global, opening: u64, threads: u32, managers: usize) -> Plan
+    ensures { result.opening ≡ opening }
+{
+    let mut plans = Vec::new(alloc);
+    for _place in 0..managers {
+        let mut accounts = Vec::new(alloc);
+        accounts.push((key(rt, b"a"), 100)).expect(rt, "memory");
+        accounts.push((key(rt, b"b"), 7)).expect(rt, "memory");
+        let plan = ManagerPlan {
+            use_async: true,
+            accounts,
+        };
+        plans.push(plan).expect(rt, "memory");
+    }
+    Plan {
+        opening,
+        threads,
+        handles: 3,
+        queue: 4,
+        requests: 8,
+        managers: plans,
+    }
+}
+
+fn xid(rt: &impl Abort, gtrid: &[u8]) -> Xid {
+    Xid::new(1, gtrid, b"1").expect(rt, "an xid")
+}
+
+fn entry(thread: u32, number: u32, op: Op, code: Code) -> (Request, Code) {
+    let request = Request { thread, number, op };
+    (request, code)
+}
+
+#[test]
+fn an_idle_opening_has_what_it_was_opened_with(rt: HostRuntime) {
+    let plan = plan_of(&rt, rt.alloc(), 7, 3, 2);
+    let settled = open_and_settle(&rt, rt.alloc(), &plan);
+    for manager in 0..4 {
+        let there = manager == 1 || manager == 2;
+        for thread in 0..5 {
+            assert_eq!(rt; settled.sent(thread, manager).len(), 0);
+            assert_eq!(rt; settled.collected(thread, manager).len(), 0);
+        }
+        assert_eq!(rt; settled.journal(manager).len(), 0);
+        let value = settled.value(manager, &key(&rt, b"a"));
+        assert_eq!(rt; value, if there { Some(100) } else { None });
+        let value = settled.value(manager, &key(&rt, b"b"));
+        assert_eq!(rt; value, if there { Some(7) } else { None });
+        assert_eq!(rt; settled.value(manager, &key(&rt, b"c")), None);
+    }
+}

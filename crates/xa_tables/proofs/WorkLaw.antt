@@ -1,0 +1,216 @@
+-- The law: a branch whose work one thread did has added what that thread added.
+use Rattle.std.specs.Prelude.{◌≡◌, ◌≢◌, ℕ, ◌+◌, ◌==◌, ℤ, pos, ◌+ℤ◌, true, false, cond, not, if◌then◌else◌, Option, None, Some, List, [], ◌∷◌, ◌++◌, refl}
+use Rattle.std.proofs.Common.{sym, ap, ◌∙◌, arith}
+use Rattle.std.proofs.lemmas.Int.{ints}
+use Rattle.std.proofs.lemmas.Bool.{eqb-true, eqb-false}
+use Rattle.std.specs.Ordering.{nat_cmp, eq_by_cmp, is_eq}
+use Rattle.std.specs.Cmp.{nat_cmp_total, tied_itself}
+use Rattle.std.specs.FinMap as map
+use Rattle.std.specs.FinMap.{FinMap, get-empty, get-insert, get-remove, nat_cmp-IsAntisymmetric}
+use Rattle.std.proofs.lemmas.List.Elements.{All-head, All-tail}
+use Rattle.xa_words.specs.Xid.{XidName, xid_eq}
+use Rattle.xa_words.specs.Orders.{Decides-xid_eq}
+use Rattle.xa_words.specs.declared.code.Code.{Code}
+use Rattle.xa_words.specs.declared.code.Code.TheVariants.{Done}
+use Rattle.xa_words.specs.declared.request.Op.{Op}
+use Rattle.xa_words.specs.declared.request.Op.TheVariants.{Start, Add, End}
+use Rattle.xa_words.specs.declared.request.StartHow.TheVariants.{Fresh}
+use Rattle.xa_words.specs.declared.request.EndHow.TheVariants.{Success}
+use Rattle.xa_words.specs.declared.request.Request.{Request}
+use Rattle.xa_tables.specs.declared.state.Association.{Association}
+use Rattle.xa_tables.specs.declared.state.AssociationState.TheVariants.{Associated}
+use Rattle.xa_tables.specs.Tables.{Tables, association_of, has_association, has_opened, exists, is_association_with, is_associated, is_somebody_associated}
+use Rattle.xa_tables.specs.Next.{Answer, next, association}
+use Rattle.xa_tables.specs.History.{History, Live, of_thread, tables_after, fate_of, ending, is_done, added_by, IsOpening}
+use Rattle.xa_tables.specs.Prepared.{names, NamesNowhere}
+use Rattle.xa_tables.specs.Worth.{gain, unless_ended, added_by_now}
+use Rattle.xa_tables.specs.Work.{request, LeavesAtWork, DoesWork}
+use Rattle.xa_base.proofs.Truth.{by_if}
+use Rattle.xa_tables.proofs.MapLemmas.{equal_from, none_pass}
+use Rattle.xa_tables.proofs.Effects.{Effect, Starts, Joins, Resumes, Suspends, Leaves, Fails, Idles, effect_of}
+use Rattle.xa_tables.proofs.ValueLaw.{quiet_named}
+use Rattle.xa_tables.proofs.Unnamed.{apart_from, unnamed_fate, unnamed_stays, unnamed_on}
+
+-- ---- associations
+
+abbrev Associations : Type 0
+Associations = FinMap nat_cmp Association
+
+untied : (u t : ℕ) → u ≢ t → eq_by_cmp nat_cmp u t ≡ false
+untied u t apart = elim (eq_by_cmp nat_cmp u t) as (λ b. eq_by_cmp nat_cmp u t ≡ b → b ≡ false) [ true ↦ λ e. absurd (apart (nat_cmp-IsAntisymmetric u t (equal_from _ e))) | false ↦ λ e. refl ] refl
+
+tied : (t : ℕ) → eq_by_cmp nat_cmp t t ≡ true
+tied t = ap is_eq (tied_itself nat_cmp_total t)
+
+other_inserted : (m : Associations) (t u : ℕ) (l : Association) → u ≢ t → map.get (map.insert m t l) u ≡ map.get m u
+other_inserted m t u l apart = get-insert nat_cmp_total m t l u ∙ ap (λ b. cond b (Some l) (map.get m u)) (untied u t apart)
+
+other_removed : (m : Associations) (t u : ℕ) → u ≢ t → map.get (map.remove m t) u ≡ map.get m u
+other_removed m t u apart = get-remove nat_cmp_total m t u ∙ ap (λ b. cond b None (map.get m u)) (untied u t apart)
+
+own_inserted : (m : Associations) (t : ℕ) (l : Association) → map.get (map.insert m t l) t ≡ Some l
+own_inserted m t l = get-insert nat_cmp_total m t l t ∙ ap (λ b. cond b (Some l) (map.get m t)) (tied t)
+
+own_removed : (m : Associations) (t : ℕ) → map.get (map.remove m t) t ≡ None
+own_removed m t = get-remove nat_cmp_total m t t ∙ ap (λ b. cond b None (map.get m t)) (tied t)
+
+module _ (t : ℕ) (T : Tables) where
+  -- a request leaves the associations of the other threads
+  others_by : (u : ℕ) → u ≢ t → {op : Op} {a : Answer} → Effect t T op a → association_of a.0 u ≡ association_of T u
+  others_by u apart (Starts y free) = other_inserted T.associations t u _ apart
+  others_by u apart (Joins y free there unprepared) = other_inserted T.associations t u _ apart
+  others_by u apart (Resumes y own) = other_inserted T.associations t u _ apart
+  others_by u apart (Suspends y own) = other_inserted T.associations t u _ apart
+  others_by u apart (Leaves y how c own why) = other_removed T.associations t u apart
+  others_by u apart (Fails y own) = other_removed T.associations t u apart
+  others_by u apart (Idles y own alone) = other_removed T.associations t u apart
+  others_by u apart effect = refl
+
+  -- and its thread becomes associated with no branch that it doesn't name
+  stays_apart : (x : XidName) {op : Op} {a : Answer} → Effect t T op a → names x op ≡ false → is_associated T t x ≡ false → is_associated a.0 t x ≡ false
+  stays_apart x (Starts y free) n h = ap (λ o. is_association_with o x) (own_inserted T.associations t _) ∙ n
+  stays_apart x (Joins y free there unprepared) n h = ap (λ o. is_association_with o x) (own_inserted T.associations t _) ∙ n
+  stays_apart x (Resumes y own) n h = ap (λ o. is_association_with o x) (own_inserted T.associations t _) ∙ n
+  stays_apart x (Suspends y own) n h = ap (λ o. is_association_with o x) (own_inserted T.associations t _) ∙ n
+  stays_apart x (Leaves y how c own why) n h = ap (λ o. is_association_with o x) (own_removed T.associations t)
+  stays_apart x (Fails y own) n h = ap (λ o. is_association_with o x) (own_removed T.associations t)
+  stays_apart x (Idles y own alone) n h = ap (λ o. is_association_with o x) (own_removed T.associations t)
+  stays_apart x effect n h = h
+
+-- ---- what requests add that aren't the branch's
+
+-- no thread but t is associated with x
+abbrev OnlyOne : ℕ → XidName → Tables → Type 0
+OnlyOne t x T = (u : ℕ) → u ≢ t → is_associated T u x ≡ false
+
+-- a thread that isn't associated with x adds nothing to it
+apart_gains : (x : XidName) (op : Op) (c : Code) (l : Option Association) → is_association_with l x ≡ false → gain x op c l ≡ pos 0
+apart_gains x (Add k d) c None e = elim (is_done c) as (λ b. (if b then pos 0 else pos 0) ≡ pos 0) [ true ↦ refl | false ↦ refl ]
+apart_gains x (Add k d) c (Some l) e = ap (λ b. if is_done c then (if b then d else pos 0) else pos 0) e ∙ elim (is_done c) as (λ b. (if b then pos 0 else pos 0) ≡ pos 0) [ true ↦ refl | false ↦ refl ]
+apart_gains x op c l e = refl
+
+same_after : (v w : ℤ) → w ≡ pos 0 → v +ℤ w ≡ v
+same_after v w e = omega (arith, ints)
+
+-- a request that doesn't name it, of such a thread
+unmoved : (x : XidName) (v : ℤ) (r : Request) (T : Tables) → names x r.op ≡ false → is_associated T r.thread x ≡ false
+    → unless_ended (ending (fate_of x r.op (next r.thread r.op T).1)) (v +ℤ gain x r.op (next r.thread r.op T).1 (association_of T r.thread)) ≡ v
+unmoved x v r T n apart =
+    let c : Code = (next r.thread r.op T).1 in
+    ap (λ o. unless_ended (ending o) (v +ℤ gain x r.op c (association_of T r.thread))) (unnamed_fate x r.op c n)
+    ∙ same_after v _ (apart_gains x r.op c (association_of T r.thread) apart)
+
+-- nobody is associated with x
+nobody_is : (x : XidName) (T : Tables) → is_somebody_associated T.associations x ≡ false → (u : ℕ) → is_associated T u x ≡ false
+nobody_is x T nobody u = elim (association_of T u) as (λ o. association_of T u ≡ o → is_association_with o x ≡ false) [ None ↦ λ e. refl | Some l ↦ λ e. apart_from x T.associations nobody u l e ] refl
+
+nobody_adds : (x : XidName) (v : ℤ) (h : History) (T : Tables) → is_somebody_associated T.associations x ≡ false → NamesNowhere x h → added_by_now x v h T ≡ v
+nobody_adds x v [] T nobody n = refl
+nobody_adds x v (r ∷ h) T nobody n =
+    let P : Request → Type 0 = λ q. names x q.op ≡ false in
+    let T1 : Tables = (next r.thread r.op T).0 in
+    let one = unnamed_stays r.thread r.op x T nobody (All-head P r h n) in
+    ap (λ w. added_by_now x w h T1) (unmoved x v r T (All-head P r h n) (nobody_is x T nobody r.thread)) ∙ nobody_adds x v h T1 one.apart (All-tail P r h n)
+
+-- t alone may be, and asks for nothing
+record LeftAtWork (t : ℕ) (x : XidName) (v : ℤ) (h : History) (T : Tables) : Type 0 where
+  added : added_by_now x v h T ≡ v
+  only : OnlyOne t x (tables_after h T)
+  own : association_of (tables_after h T) t ≡ association_of T t
+
+-- a thread without requests in a history
+others_first : (t : ℕ) (r : Request) (h : History) → of_thread t (r ∷ h) ≡ [] → (r.thread ≢ t) × (of_thread t h ≡ [])
+others_first t r h e =
+    elim (r.thread == t) as (λ b. (r.thread == t) ≡ b → cond b (r ∷ of_thread t h) (of_thread t h) ≡ [] → (r.thread ≢ t) × (of_thread t h ≡ [])) [
+      | true ↦ λ own e. cc
+      | false ↦ λ other e. (eqb-false r.thread t other, e)
+    ] refl e
+
+only_after : (t : ℕ) (x : XidName) (r : Request) (T : Tables) → r.thread ≢ t → names x r.op ≡ false → OnlyOne t x T → OnlyOne t x (next r.thread r.op T).0
+only_after t x r T apart n only u other =
+    elim (u == r.thread) as (λ b. (u == r.thread) ≡ b → is_associated (next r.thread r.op T).0 u x ≡ false) [
+      | true ↦ λ e.
+          let same : u ≡ r.thread = eqb-true u r.thread e in
+          ap (λ w. is_associated (next r.thread r.op T).0 w x) same ∙ stays_apart r.thread T x (effect_of r.thread r.op T) n (only r.thread apart)
+      | false ↦ λ e. ap (λ o. is_association_with o x) (others_by r.thread T u (eqb-false u r.thread e) (effect_of r.thread r.op T)) ∙ only u other
+    ] refl
+
+left_at_work : (t : ℕ) (x : XidName) (v : ℤ) (h : History) (T : Tables) → OnlyOne t x T → LeavesAtWork t x h → LeftAtWork t x v h T
+left_at_work t x v [] T only leaves = record { added = refl; only = only; own = refl }
+left_at_work t x v (r ∷ h) T only leaves =
+    let P : Request → Type 0 = λ q. names x q.op ≡ false in
+    let T1 : Tables = (next r.thread r.op T).0 in
+    let n = All-head P r h leaves.unnamed in
+    let others = others_first t r h leaves.quiet in
+    let rest = left_at_work t x v h T1 (only_after t x r T others.0 n only) (record { unnamed = All-tail P r h leaves.unnamed; quiet = others.1 }) in
+    record {
+      added = ap (λ w. added_by_now x w h T1) (unmoved x v r T n (only r.thread others.0)) ∙ rest.added;
+      only = rest.only;
+      own = rest.own ∙ others_by r.thread T t (λ e. others.0 (sym e)) (effect_of r.thread r.op T);
+    }
+
+-- ---- the work
+
+-- t began x
+begun_with : (t : ℕ) (x : XidName) (T : Tables) → (next t (Start x Fresh) T).1 ≡ Done → association_of (next t (Start x Fresh) T).0 t ≡ Some (association x Associated)
+unfolding next
+begun_with t x T =
+    let P : Answer → Type 0 = λ a. a.1 ≡ Done → association_of a.0 t ≡ Some (association x Associated) in
+    by_if P (T.shut) _ _ (λ _ e. cc) (λ _.
+    by_if P (not (has_opened T t)) _ _ (λ _ e. cc) (λ _.
+    by_if P (has_association T t) _ _ (λ _ e. cc) (λ _.
+    by_if P (exists T x) _ _ (λ _ e. cc) (λ _ e. own_inserted T.associations t (association x Associated)))))
+
+-- what a history adds that is followed by another
+added_both : (x : XidName) (v : ℤ) (h g : History) (T : Tables) → added_by_now x v (h ++ g) T ≡ added_by_now x (added_by_now x v h T) g (tables_after h T)
+added_both x v [] g T = refl
+added_both x v (r ∷ h) g T =
+    added_both x (unless_ended (ending (fate_of x r.op (next r.thread r.op T).1)) (v +ℤ gain x r.op (next r.thread r.op T).1 (association_of T r.thread))) h g (next r.thread r.op T).0
+
+-- a request of t leaves the other threads
+own_request : (t : ℕ) (x : XidName) (op : Op) (T : Tables) → OnlyOne t x T → OnlyOne t x (next t op T).0
+own_request t x op T only u other = ap (λ o. is_association_with o x) (others_by t T u other (effect_of t op T)) ∙ only u other
+
+opening_free : (x : XidName) (T : Tables) → IsOpening T → is_somebody_associated T.associations x ≡ false
+opening_free x T o =
+    ap (λ m. is_somebody_associated m x) o.associations
+    ∙ none_pass nat_cmp_total nat_cmp-IsAntisymmetric (λ u l. xid_eq l.xid x) map.empty (λ u l found. let z : None ≡ Some l = sym (get-empty nat_cmp u) ∙ found in cc)
+
+zero_sum : (v : ℤ) → pos 0 +ℤ v ≡ v
+zero_sum v = omega (arith, ints)
+
+sum_zero : (v : ℤ) → v +ℤ pos 0 ≡ v
+sum_zero v = omega (arith, ints)
+
+pub work_law : (t n : ℕ) (x : XidName) (k : List ℕ) (d : ℤ) (h : History) (T : Tables) → IsOpening T → DoesWork t n x k d T h → added_by_now x (pos 0) h T ≡ d
+work_law t n x k d h T opened w =
+    let T1 : Tables = tables_after w.before T in
+    let T2 : Tables = (next t (Start x Fresh) T1).0 in
+    let T3 : Tables = tables_after w.begun T2 in
+    let T4 : Tables = (next t (Add k d) T3).0 in
+    let T5 : Tables = tables_after w.added T4 in
+    let T6 : Tables = (next t (End x Success) T5).0 in
+    let free = opening_free x T opened in
+    let none : added_by_now x (pos 0) w.before T ≡ pos 0 = nobody_adds x (pos 0) w.before T free w.unnamed in
+    let only1 : OnlyOne t x T1 = λ u apart. nobody_is x T1 (unnamed_on w.before x T free w.unnamed).apart u in
+    let start_code = w.starts in
+    let begins : unless_ended (ending (fate_of x (Start x Fresh) (next t (Start x Fresh) T1).1)) (pos 0 +ℤ pos 0) ≡ pos 0 =
+    ap (λ c. unless_ended (ending (fate_of x (Start x Fresh) c)) (pos 0 +ℤ pos 0)) start_code ∙ ap (λ o. unless_ended o (pos 0 +ℤ pos 0)) (quiet_named x x (Some Live) refl) in
+    let at_work = left_at_work t x (pos 0) w.begun T2 (own_request t x (Start x Fresh) T1 only1) w.at_work in
+    let own : association_of T3 t ≡ Some (association x Associated) = at_work.own ∙ begun_with t x T1 w.starts in
+    let self : xid_eq x x ≡ true = (Decides-xid_eq x x).1 refl in
+    let gained : gain x (Add k d) (next t (Add k d) T3).1 (association_of T3 t) ≡ d =
+    ap (λ c. if is_done c then added_by (association_of T3 t) d (λ y. xid_eq y x) else pos 0) w.adds ∙ ap (λ o. added_by o d (λ y. xid_eq y x)) own ∙ ap (λ b. if b then d else pos 0) self in
+    let ending_work = left_at_work t x d w.added T4 (own_request t x (Add k d) T3 at_work.only) w.ending in
+    let done = left_at_work t x d w.after T6 (own_request t x (End x Success) T5 ending_work.only) w.ended in
+    ap (λ l. added_by_now x (pos 0) l T) w.place
+    ∙ added_both x (pos 0) w.before (request t n (Start x Fresh) ∷ (w.begun ++ request t (n + 1) (Add k d) ∷ (w.added ++ request t (n + 2) (End x Success) ∷ w.after))) T
+    ∙ ap (λ v. added_by_now x v (request t n (Start x Fresh) ∷ (w.begun ++ request t (n + 1) (Add k d) ∷ (w.added ++ request t (n + 2) (End x Success) ∷ w.after))) T1) none
+    ∙ ap (λ v. added_by_now x v (w.begun ++ request t (n + 1) (Add k d) ∷ (w.added ++ request t (n + 2) (End x Success) ∷ w.after)) T2) begins
+    ∙ added_both x (pos 0) w.begun (request t (n + 1) (Add k d) ∷ (w.added ++ request t (n + 2) (End x Success) ∷ w.after)) T2
+    ∙ ap (λ v. added_by_now x v (request t (n + 1) (Add k d) ∷ (w.added ++ request t (n + 2) (End x Success) ∷ w.after)) T3) at_work.added
+    ∙ ap (λ v. added_by_now x v (w.added ++ request t (n + 2) (End x Success) ∷ w.after) T4) (ap (λ v. pos 0 +ℤ v) gained ∙ zero_sum d)
+    ∙ added_both x d w.added (request t (n + 2) (End x Success) ∷ w.after) T4
+    ∙ ap (λ v. added_by_now x v (request t (n + 2) (End x Success) ∷ w.after) T5) ending_work.added
+    ∙ ap (λ v. added_by_now x v w.after T6) (sum_zero d)
+    ∙ done.added

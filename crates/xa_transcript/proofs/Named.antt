@@ -1,0 +1,233 @@
+-- Lines that don't name a branch put nothing into the journals that does.
+use Rattle.std.proofs.Common.{◌≡◌, ℕ, ◌⊎◌, ⊎_elim, inl, inr, Bool, true, false, ◌==◌, ◌&&◌, ◌||◌, List, [], ◌∷◌, ◌++◌, Option, Some, None, sym, refl, ap, ◌∙◌, subst, append_assoc, append-nil}
+use Rattle.std.specs.Prelude.{if◌then◌else◌, All, Result, Ok, Err}
+use Rattle.std.proofs.lemmas.Bool.{eq-eqb, eqb-true}
+use Rattle.std.proofs.lemmas.List.Elements.{All-cons, All-nil, All-head, All-tail, All-append}
+use Rattle.xa_base.specs.Lists.{Chain}
+use Rattle.xa_base.specs.Lists.Chain.{none as no_step, more as one_step}
+use Rattle.xa_base.proofs.Lists.{all_mid}
+use Rattle.xa_words.specs.Xid.{XidName, xid_eq}
+use Rattle.xa_words.specs.Flags.{check_flags}
+use Rattle.xa_words.specs.declared.code.Code.{Code}
+use Rattle.xa_words.specs.declared.flags.Call.{Call}
+use Rattle.xa_words.specs.declared.flags.Call.TheVariants as call
+use Rattle.xa_words.specs.declared.flags.Mode.{Mode}
+use Rattle.xa_words.specs.declared.request.Op.{Op}
+use Rattle.xa_words.specs.declared.request.Op.TheVariants as op
+use Rattle.xa_words.specs.declared.request.RmOp.{RmOp}
+use Rattle.xa_words.specs.declared.request.RmOp.TheVariants as rm
+use Rattle.xa_tables.specs.History.{is_rolled_back}
+use Rattle.xa_tables.specs.Prepared.{names}
+use Rattle.xa_worker.specs.Journal.{Entry}
+use Rattle.xa_switch.specs.Asking.{◌>>=◌, op_by, asked_of, native, rm_op}
+use Rattle.xa_words.specs.Flags.{TMASYNC}
+use Rattle.xa_base.proofs.Truth.{by_if}
+use Rattle.xa_switch.specs.Settling.{Settling}
+use Rattle.xa_driver.specs.declared.branch.Branch.{Branch}
+use Rattle.xa_driver.specs.declared.done.Ending.{Ending}
+use Rattle.xa_driver.specs.declared.done.Done.{Done as Outcome}
+use Rattle.xa_driver.specs.Decision.{is_yes, is_read}
+use Rattle.xa_driver.specs.Endings.{second_op, is_out_of_reach}
+use Rattle.xa_driver.specs.Trace.{EachBranch, has_branch_at}
+use Rattle.xa_grammar.specs.declared.script.Action.{Action}
+use Rattle.xa_grammar.specs.declared.script.Action.TheVariants as action
+use Rattle.xa_grammar.specs.declared.script.Called.{Called}
+use Rattle.xa_grammar.specs.declared.script.CommitAll.{CommitAll}
+use Rattle.xa_grammar.specs.declared.script.Task.{Task}
+use Rattle.xa_grammar.specs.declared.script.Task.TheVariants as task
+use Rattle.xa_session.specs.declared.answer.Answer.{Answer}
+use Rattle.xa_session.specs.Committing.{branches_of}
+use Rattle.xa_transcript.specs.Wants.{Wanted, wanted, wanted_by, wanted_in}
+use Rattle.xa_transcript.specs.Wants.Wanted.{code_of, handle_for, in_vain, completion}
+use Rattle.xa_transcript.specs.Parts.{Part, CallTakes, next_entry}
+use Rattle.xa_transcript.specs.Parts.CallTakes.{answered, kept, refused, completes}
+use Rattle.xa_transcript.specs.Commits.{Carries, AtBranch, Decides}
+use Rattle.xa_transcript.specs.Commits.Carries.{carried, withheld, unwanted}
+use Rattle.xa_transcript.specs.Commits.CommitTakes.{refused as takes_none, decided}
+use Rattle.xa_transcript.specs.Journals.{Line, Takes, TakesPart}
+use Rattle.xa_transcript.specs.Outcomes.{branches_by, branches_in, is_among}
+use Rattle.xa_transcript.proofs.Branches.{branch_there}
+
+-- ---- lists
+
+all_front : {A : Type 0} (P : A → Type 0) (xs : List A) (x : A) → All P (xs ++ x ∷ []) → All P xs
+all_front P [] x h = All-nil P
+all_front P (y ∷ xs) x h = All-cons P y xs (All-head P y (xs ++ x ∷ []) h) (all_front P xs x (All-tail P y (xs ++ x ∷ []) h))
+
+-- ---- what is added
+
+-- entries are added, and none of them names the branch
+abbrev pub AddsUnnamed : XidName → List Entry → List Entry → Type 0
+AddsUnnamed x old new = (more : List Entry) × (new ≡ old ++ more) × All (λ (e : Entry). names x e.0.op ≡ false) more
+
+adds_same : (x : XidName) (old new : List Entry) → new ≡ old → AddsUnnamed x old new
+adds_same x old new e = ([], e ∙ sym (append-nil old), All-nil (λ (e : Entry). names x e.0.op ≡ false))
+
+adds_both : (x : XidName) (old mid new : List Entry) → AddsUnnamed x old mid → AddsUnnamed x mid new → AddsUnnamed x old new
+adds_both x old mid new a b = (
+  a.0 ++ b.0,
+  b.1 ∙ ap (λ es. es ++ b.0) a.1 ∙ append_assoc old a.0 b.0,
+  All-append (λ (e : Entry). names x e.0.op ≡ false) a.0 b.0 a.2 b.2,
+)
+
+adds_one : (x : XidName) (old new : List Entry) (e : Entry) → names x e.0.op ≡ false → new ≡ old ++ e ∷ [] → AddsUnnamed x old new
+adds_one x old new e quiet is = (e ∷ [], is, All-cons (λ (e : Entry). names x e.0.op ≡ false) e [] quiet (All-nil (λ (e : Entry). names x e.0.op ≡ false)))
+
+-- ---- a call
+
+-- the op that is asked for, if one is
+abbrev op_in : Wanted → Option Op
+op_in (code_of o) = Some o
+op_in (handle_for o) = Some o
+op_in (in_vain why) = None
+op_in completion = None
+
+op_of_names : (c : Call) (x y : XidName) (m : Mode) (o : Op) → op_by c (Some x) m ≡ Ok o → xid_eq x y ≡ false → names y o ≡ false
+op_of_names call.OpenRm x y m o e apart = let same : op.OpenRm ≡ o = cc in ap (names y) (sym same)
+op_of_names call.CloseRm x y m o e apart = let same : op.CloseRm ≡ o = cc in ap (names y) (sym same)
+op_of_names call.Start x y m o e apart = let same : op.Start x m.start ≡ o = cc in ap (names y) (sym same) ∙ apart
+op_of_names call.End x y m o e apart = let same : op.End x m.how ≡ o = cc in ap (names y) (sym same) ∙ apart
+op_of_names call.Prepare x y m o e apart = let same : op.Prepare x ≡ o = cc in ap (names y) (sym same) ∙ apart
+op_of_names call.Commit x y m o e apart = let same : op.Commit x m.one_phase ≡ o = cc in ap (names y) (sym same) ∙ apart
+op_of_names call.Rollback x y m o e apart = let same : op.Rollback x ≡ o = cc in ap (names y) (sym same) ∙ apart
+op_of_names call.Complete x y m o e apart = absurd (cc)
+
+op_of_none : (c : Call) (y : XidName) (m : Mode) (o : Op) → op_by c None m ≡ Ok o → names y o ≡ false
+op_of_none call.OpenRm y m o e = let same : op.OpenRm ≡ o = cc in ap (names y) (sym same)
+op_of_none call.CloseRm y m o e = let same : op.CloseRm ≡ o = cc in ap (names y) (sym same)
+op_of_none call.Start y m o e = absurd (cc)
+op_of_none call.End y m o e = absurd (cc)
+op_of_none call.Prepare y m o e = absurd (cc)
+op_of_none call.Commit y m o e = absurd (cc)
+op_of_none call.Rollback y m o e = absurd (cc)
+op_of_none call.Complete y m o e = absurd (cc)
+
+op_of_rm : (o : RmOp) (y : XidName) → names y (rm_op o) ≡ false
+op_of_rm (rm.Add k d) y = refl
+op_of_rm rm.Shut y = refl
+
+-- what a wanted op was asked for by
+wanted_is : {A : Type 0} (r : Result A Code) (f : A → Op) (later : A → Bool) (o : Op) → op_in (wanted r f later) ≡ Some o → (a : A) × (r ≡ Ok a) × (f a ≡ o)
+wanted_is (Ok a) f later o e = (a, refl, one (later a) e)
+  where
+    one : (b : Bool) → op_in (if b then handle_for (f a) else code_of (f a)) ≡ Some o → f a ≡ o
+    one true e = cc
+    one false e = cc
+wanted_is (Err why) f later o e = absurd (cc)
+
+bound : {A B E : Type 0} (r : Result A E) (f : A → Result B E) (b : B) → (r >>= f) ≡ Ok b → (a : A) × (r ≡ Ok a) × (f a ≡ Ok b)
+bound (Ok a) f b e = (a, refl, e)
+bound (Err why) f b e = absurd (cc)
+
+ok_same : {A E : Type 0} (x y : A) → ◌≡◌ {A = Result A E} (Ok x) (Ok y) → x ≡ y
+ok_same x y e = cc
+
+along : {A B : Type 0} (x y : A) → x ≡ y → (f : A → B) → f x ≡ f y
+along x y e f = ap f e
+
+-- the op of a call is that of its mode
+op_asked : (c : Call) (x : Option XidName) (f : ℕ) (o : Op) → op_in (wanted (asked_of c x f) (λ asked. asked.op) (λ asked. asked.asynchronous)) ≡ Some o → (m : Mode) × (op_by c x m ≡ Ok o)
+op_asked c x f o e =
+    let a = wanted_is (asked_of c x f) (λ asked. asked.op) (λ asked. asked.asynchronous) o e in
+    let m = bound (check_flags c f) _ a.0 a.1 in
+    let p = bound (op_by c x m.0) _ a.0 m.2 in
+    (m.0, p.1 ∙ ap (λ (q : Op). Ok q) (along _ a.0 (ok_same _ a.0 p.2) (λ asked. asked.op) ∙ a.2))
+
+either_ok : {A E : Type 0} (b c : Bool) (x y : A) (w : E) (a : A) → (if b then Ok x else (if c then Ok y else Err w)) ≡ Ok a → (x ≡ a) ⊎ (y ≡ a)
+either_ok true c x y w a e = inl cc
+either_ok false true x y w a e = inr cc
+either_ok false false x y w a e = absurd (cc)
+
+op_native : (r : RmOp) (f : ℕ) (o : Op) → op_in (wanted (native r f) (λ asked. asked.op) (λ asked. asked.asynchronous)) ≡ Some o → rm_op r ≡ o
+op_native r f o e =
+    let a = wanted_is (native r f) (λ asked. asked.op) (λ asked. asked.asynchronous) o e in
+    ⊎_elim (λ h. along _ a.0 h (λ asked. asked.op) ∙ a.2) (λ h. along _ a.0 h (λ asked. asked.op) ∙ a.2) (either_ok (f == 0) (f == TMASYNC) _ _ _ a.0 a.1)
+
+-- ---- what a task puts into the journals
+
+or_none : (a b : Bool) → (a || b) ≡ false → (a ≡ false) × (b ≡ false)
+or_none true b e = absurd (cc)
+or_none false b e = (refl, e)
+
+-- one branch isn't the other, though both are at one manager
+apart : (b : Branch) (m : ℕ) (x : XidName) → m ≡ b.m → ((m == b.m) && xid_eq x b.xid) ≡ false → xid_eq x b.xid ≡ false
+apart b m x same none = sym (ap (λ q. q && xid_eq x b.xid) (eq-eqb m b.m same)) ∙ none
+
+by_action : (a : Action) (m f : ℕ) (b : Branch) (o : Op) → op_in (wanted_by a f) ≡ Some o → m ≡ b.m → is_among b (branches_by m a) ≡ false → names b.xid o ≡ false
+by_action (action.Xa c None) m f b o e same quiet = let w = op_asked c None f o e in op_of_none c b.xid w.0 o w.1
+by_action (action.Xa c (Some x)) m f b o e same quiet = let w = op_asked c (Some x) f o e in op_of_names c x b.xid w.0 o w.1 (apart b m x same (or_none ((m == b.m) && xid_eq x b.xid) false quiet).0)
+by_action (action.Native r) m f b o e same quiet = ap (names b.xid) (sym (op_native r f o e)) ∙ op_of_rm r b.xid
+by_action (action.Complete h) m f b o e same quiet = absurd (cc)
+
+module _ (settled : Settling) (b : Branch) where
+  abbrev Quiet : List Entry → List Entry → Type 0
+  Quiet = AddsUnnamed b.xid
+
+  one_entry : (p : Called) (o : Op) (c : Code) (old : List Entry) → op_in (wanted_in p) ≡ Some o → is_among b (branches_in (task.Call p)) ≡ false
+      → Quiet old (if b.m == p.manager then old ++ next_entry p.thread old o c ∷ [] else old)
+  one_entry p o c old asks quiet =
+      by_if (Quiet old) (b.m == p.manager) (old ++ next_entry p.thread old o c ∷ []) old
+      (λ e. adds_one b.xid old (old ++ next_entry p.thread old o c ∷ []) (next_entry p.thread old o c) (by_action p.action p.manager p.flags b o asks (sym (eqb-true b.m p.manager e)) quiet) refl)
+      (λ e. adds_same b.xid old old refl)
+
+  call_unnamed : (p : Called) (a : Answer) (old new : Part) → CallTakes settled p a old new → is_among b (branches_in (task.Call p)) ≡ false → Quiet (old.entries b.m) (new.entries b.m)
+  call_unnamed p a old new (answered o c asks told is) quiet = subst (λ (x : Part). Quiet (old.entries b.m) (x.entries b.m)) (sym is) (one_entry p o c (old.entries b.m) (ap op_in asks) quiet)
+  call_unnamed p a old new (kept o c k asks low told free is) quiet = subst (λ (x : Part). Quiet (old.entries b.m) (x.entries b.m)) (sym is) (one_entry p o c (old.entries b.m) (ap op_in asks) quiet)
+  call_unnamed p a old new (refused c is told same) quiet = adds_same b.xid (old.entries b.m) (new.entries b.m) (ap (λ (x : Part). x.entries b.m) same)
+  call_unnamed p a old new (completes o k c asks there code told same) quiet = adds_same b.xid (old.entries b.m) (new.entries b.m) (ap (λ (x : Part). x.entries b.m) same)
+
+  carries_unnamed : (t : ℕ) (o : Option Op) (code : Option Code) (old new : List Entry) → Carries t o code old new → ((p : Op) → o ≡ Some p → names b.xid p ≡ false) → Quiet old new
+  carries_unnamed t o code old new (carried p c asks told is) quiet = adds_one b.xid old new (next_entry t old p c) (quiet p asks) is
+  carries_unnamed t o code old new (withheld p asks told shut same) quiet = adds_same b.xid old new same
+  carries_unnamed t o code old new (unwanted asks told same) quiet = adds_same b.xid old new same
+
+  second_names : (commit : Bool) (x : XidName) (v : Code) (p : Op) → second_op commit x v ≡ Some p → xid_eq x b.xid ≡ false → names b.xid p ≡ false
+  second_names true x v p e quiet = commits (is_yes v) e
+    where
+      commits : (y : Bool) → (if y then Some (op.Commit x false) else None) ≡ Some p → names b.xid p ≡ false
+      commits true e = let same : op.Commit x false ≡ p = cc in ap (names b.xid) (sym same) ∙ quiet
+      commits false e = absurd (cc)
+  second_names false x v p e quiet = rolls (is_read v || (is_rolled_back v || is_out_of_reach v)) e
+    where
+      rolls : (y : Bool) → (if y then None else Some (op.Rollback x)) ≡ Some p → names b.xid p ≡ false
+      rolls true e = absurd (cc)
+      rolls false e = let same : op.Rollback x ≡ p = cc in ap (names b.xid) (sym same) ∙ quiet
+
+  prepare_names : (x : XidName) (p : Op) → Some (op.Prepare x) ≡ Some p → xid_eq x b.xid ≡ false → names b.xid p ≡ false
+  prepare_names x p e quiet = let same : op.Prepare x ≡ p = cc in ap (names b.xid) (sym same) ∙ quiet
+
+  -- each branch with that it isn't this one
+  others : (P : Branch → Code → Option Code → Ending → Type 0) (bs : List Branch) (vs : List Code) (zs : List (Option Code)) (es : List Ending) → is_among b bs ≡ false → EachBranch P bs vs zs es
+      → EachBranch (λ c v z e. (((c.m == b.m) && xid_eq c.xid b.xid) ≡ false) × P c v z e) bs vs zs es
+  others P [] [] [] [] quiet h = tt
+  others P (c ∷ bs) (v ∷ vs) (z ∷ zs) (e ∷ es) quiet h = let parts = or_none ((c.m == b.m) && xid_eq c.xid b.xid) (is_among b bs) quiet in ((parts.0, h.0), others P bs vs zs es parts.1 h.1)
+  others P bs vs zs es quiet h = absurd h
+
+  decides_unnamed : (c : CommitAll) (done : Outcome) (old new : Part) → Decides c done old new → is_among b (branches_of c) ≡ false → Quiet (old.entries b.m) (new.entries b.m)
+  decides_unnamed c done old new is quiet =
+      let At : Branch → Code → Option Code → Ending → Type 0 = AtBranch c.thread done.commit old.entries new.entries in
+      let Other : Branch → Code → Option Code → Ending → Type 0 = λ d v z e. (((d.m == b.m) && xid_eq d.xid b.xid) ≡ false) × At d v z e in
+      ⊎_elim
+      (λ (h : has_branch_at (branches_of c) b.m ≡ false). adds_same b.xid (old.entries b.m) (new.entries b.m) (is.elsewhere b.m h))
+      (λ (h : (d : Branch) × (v : Code) × (z : Option Code) × (e : Ending) × (d.m ≡ b.m) × Other d v z e).
+      let d : Branch = h.0 in
+      let at = h.5.1 in
+      let other : xid_eq d.xid b.xid ≡ false = apart b d.m d.xid h.4 h.5.0 in
+      subst (λ m. Quiet (old.entries m) (new.entries m)) h.4
+      (adds_both b.xid (old.entries d.m) at.between (new.entries d.m)
+      (carries_unnamed c.thread (Some (op.Prepare d.xid)) (Some h.1) (old.entries d.m) at.between at.prepares (λ p e. prepare_names d.xid p e other))
+      (carries_unnamed c.thread (second_op done.commit d.xid h.1) h.2 at.between (new.entries d.m) at.obeys (λ p e. second_names done.commit d.xid h.1 p e other))))
+      (branch_there Other b.m (branches_of c) done.votes.items is.seconds done.endings.items (others At (branches_of c) done.votes.items is.seconds done.endings.items quiet is.branches))
+
+  takes_unnamed : (p : Task) (a : Answer) (old new : Part) → Takes settled p a old new → is_among b (branches_in p) ≡ false → Quiet (old.entries b.m) (new.entries b.m)
+  takes_unnamed (task.Call p) a old new takes quiet = call_unnamed p a old new takes quiet
+  takes_unnamed (task.CommitAll c) a old new (takes_none told same) quiet = adds_same b.xid (old.entries b.m) (new.entries b.m) (ap (λ (x : Part). x.entries b.m) same)
+  takes_unnamed (task.CommitAll c) a old new (decided done told is) quiet = decides_unnamed c done old new is quiet
+
+  -- so lines that don't name it
+  pub lines_unnamed : (first : Part) (ls : List Line) (last : Part) → Chain (TakesPart settled) first ls last → All (λ l. is_among b (branches_in l.task) ≡ false) ls → Quiet (first.entries b.m) (last.entries b.m)
+  lines_unnamed first ls last (no_step xs end e f) quiet = adds_same b.xid (first.entries b.m) (end.entries b.m) (ap (λ (p : Part). p.entries b.m) f)
+  lines_unnamed first ls last (one_step xs x now end before step) quiet =
+      adds_both b.xid (first.entries b.m) (now.entries b.m) (end.entries b.m)
+      (lines_unnamed first xs now before (all_front (λ (l : Line). is_among b (branches_in l.task) ≡ false) xs x quiet))
+      (takes_unnamed x.task x.answer now end step (all_mid (λ (l : Line). is_among b (branches_in l.task) ≡ false) xs [] x quiet))

@@ -1,0 +1,261 @@
+-- All branches of a commit: what the line shows of them became of them.
+use Rattle.std.proofs.Common.{◌≡◌, ℕ, inl, inr, Bool, true, false, ◌||◌, List, [], ◌∷◌, length, Option, Some, None, sym, refl, ap, ◌∙◌, subst, slice_index_or}
+use Rattle.std.specs.Prelude.{ℤ, pos, if◌then◌else◌, All}
+use Rattle.std.specs.List.{list_any}
+use Rattle.std.proofs.lemmas.Bool.{cases_Bool}
+use Rattle.std.proofs.lemmas.List.Elements.{All-cons, All-nil, All-head, All-tail, All-append}
+use Rattle.xa_words.specs.declared.code.Code.{Code}
+use Rattle.xa_words.specs.declared.code.Code.TheVariants.{Done, RdOnly}
+use Rattle.xa_tables.specs.Tables.{Tables}
+use Rattle.xa_tables.specs.History.{is_done, is_rolled_back as rolls_back}
+use Rattle.xa_desk.specs.LedgerView.{is_rm_fail}
+use Rattle.xa_switch.specs.Settling.{Settling, IsSettled, journal, sent, collected}
+use Rattle.xa_switch.specs.Fates.{IsOpenedWith, history}
+use Rattle.xa_driver.specs.declared.branch.Branch.{Branch}
+use Rattle.xa_driver.specs.declared.done.Done.{Done as Outcome}
+use Rattle.xa_driver.specs.declared.done.Ending.{Ending}
+use Rattle.xa_driver.specs.declared.done.Ending.TheVariants.{Committed, ReadOnly, RolledBack, InDoubt, Left}
+use Rattle.xa_driver.specs.Additions.{IsAddition, Shares}
+use Rattle.xa_driver.specs.Decision.{is_yes, is_no, is_read}
+use Rattle.xa_driver.specs.Endings.{ending_of, yes_ending, is_out_of_reach}
+use Rattle.xa_driver.specs.Outcomes.{OnlyTheseName, EachOutcome, KeepsItsVote, TellsTheFate, is_committed, is_rolled_back, is_in_doubt, is_left, is_read_only}
+use Rattle.xa_driver.specs.Trace.{EachBranch}
+use Rattle.xa_driver.proofs.Branches.{Tabled}
+use Rattle.xa_session.specs.Committing.{branches_of}
+use Rattle.xa_grammar.specs.declared.script.CommitAll.{CommitAll}
+use Rattle.xa_grammar.specs.Content.{Content}
+use Rattle.xa_session.specs.declared.answer.Answer.{Answer}
+use Rattle.xa_transcript.specs.Parts.{Part, no_part}
+use Rattle.xa_base.specs.Lists.{Chain}
+use Rattle.xa_base.specs.Lists.Chain.{none, more}
+use Rattle.xa_grammar.specs.declared.script.Declared.{Declared}
+use Rattle.xa_transcript.specs.Commits.{AtBranch, Decides}
+use Rattle.xa_transcript.specs.Journals.{Line, TakesPart, AreCarriedOut, ShowsCommit, TellsOf, entries_of}
+use Rattle.xa_transcript.specs.Outcomes.{IsOneOutcome, ShowsOneOutcome, Place, AreLeftAlone, IsAsShown}
+use Rattle.xa_transcript.proofs.Entries.{agreed_fits}
+use Rattle.xa_transcript.proofs.Shown.{Adding, decided_so, committed_yes, committed_done, none_against}
+use Rattle.xa_transcript.proofs.Placed.{chain_adds}
+use Rattle.xa_transcript.proofs.Became.{Came, came}
+
+-- ---- lists of outcomes
+
+or_none : (a b : Bool) → (a || b) ≡ false → (a ≡ false) × (b ≡ false)
+or_none true b e = absurd (cc)
+or_none false b e = (refl, e)
+
+each_so : (P Q : Branch → Code → Ending → Type 0) → ((b : Branch) (v : Code) (e : Ending) → P b v e → Q b v e) → (bs : List Branch) (vs : List Code) (es : List Ending) → EachOutcome P bs vs es → EachOutcome Q bs vs es
+each_so P Q so [] [] [] h = tt
+each_so P Q so (b ∷ bs) (v ∷ vs) (e ∷ es) h = (so b v e h.0, each_so P Q so bs vs es h.1)
+each_so P Q so bs vs es h = absurd h
+
+-- each with what holds of its vote, and of its ending
+with_votes : (P : Branch → Code → Ending → Type 0) (p : Code → Bool) (bs : List Branch) (vs : List Code) (es : List Ending) → list_any p vs ≡ false → EachOutcome P bs vs es → EachOutcome (λ b v e. (p v ≡ false) × P b v e) bs vs es
+with_votes P p [] [] [] never h = tt
+with_votes P p (b ∷ bs) (v ∷ vs) (e ∷ es) never h = let parts = or_none (p v) (list_any p vs) never in ((parts.0, h.0), with_votes P p bs vs es parts.1 h.1)
+with_votes P p bs vs es never h = absurd h
+
+with_endings : (P : Branch → Code → Ending → Type 0) (p : Ending → Bool) (bs : List Branch) (vs : List Code) (es : List Ending) → list_any p es ≡ false → EachOutcome P bs vs es → EachOutcome (λ b v e. (p e ≡ false) × P b v e) bs vs es
+with_endings P p [] [] [] never h = tt
+with_endings P p (b ∷ bs) (v ∷ vs) (e ∷ es) never h = let parts = or_none (p e) (list_any p es) never in ((parts.0, h.0), with_endings P p bs vs es parts.1 h.1)
+with_endings P p bs vs es never h = absurd h
+
+all_endings : (P : Branch → Code → Ending → Type 0) (Q : Ending → Type 0) → ((b : Branch) (v : Code) (e : Ending) → P b v e → Q e) → (bs : List Branch) (vs : List Code) (es : List Ending) → EachOutcome P bs vs es → All Q es
+all_endings P Q so [] [] [] h = All-nil Q
+all_endings P Q so (b ∷ bs) (v ∷ vs) (e ∷ es) h = All-cons Q e es (so b v e h.0) (all_endings P Q so bs vs es h.1)
+all_endings P Q so bs vs es h = absurd h
+
+no_ending_is : (P : Branch → Code → Ending → Type 0) (p : Ending → Bool) → ((b : Branch) (v : Code) (e : Ending) → P b v e → p e ≡ false) → (bs : List Branch) (vs : List Code) (es : List Ending) → EachOutcome P bs vs es → list_any p es ≡ false
+no_ending_is P p so [] [] [] h = refl
+no_ending_is P p so (b ∷ bs) (v ∷ vs) (e ∷ es) h = λ i. so b v e h.0 i || no_ending_is P p so bs vs es h.1 i
+no_ending_is P p so bs vs es h = absurd h
+
+-- without the second codes
+outcomes_of : (P : Branch → Code → Option Code → Ending → Type 0) (bs : List Branch) (vs : List Code) (zs : List (Option Code)) (es : List Ending) → EachBranch P bs vs zs es → EachOutcome (λ b v e. (z : Option Code) × P b v z e) bs vs es
+outcomes_of P [] [] [] [] h = tt
+outcomes_of P (b ∷ bs) (v ∷ vs) (z ∷ zs) (e ∷ es) h = ((z, h.0), outcomes_of P bs vs zs es h.1)
+outcomes_of P bs vs zs es h = absurd h
+
+-- ---- endings
+
+-- by its vote and some second code
+abbrev Ends : Bool → Branch → Code → Ending → Type 0
+Ends commit b v e = (z : Option Code) × (e ≡ ending_of commit v z)
+
+-- a yes vote isn't rolled back where the transaction commits
+yes_stays : (z : Option Code) → is_rolled_back (yes_ending true z) ≡ false
+yes_stays None = refl
+yes_stays (Some c) = stays (is_done c) (is_rm_fail c)
+  where
+    stays : (a b : Bool) → is_rolled_back (if a then Committed else (if b then InDoubt else Left c)) ≡ false
+    stays true b = refl
+    stays false true = refl
+    stays false false = refl
+
+stays_back : (v : Code) (z : Option Code) → is_no v ≡ false → is_rolled_back (ending_of true v z) ≡ false
+stays_back Done z e = yes_stays z
+stays_back RdOnly z e = refl
+stays_back v z e = absurd (cc)
+
+committed_so : (e : Ending) → is_committed e ≡ true → e ≡ Committed
+committed_so Committed e = refl
+committed_so x e = absurd (cc)
+
+-- nothing is committed where it aborts
+stays_out : (v : Code) (z : Option Code) → is_committed (ending_of false v z) ≡ false
+stays_out v z = elim (cases_Bool (is_committed (ending_of false v z))) [
+  | inl y ↦
+      let yes' = committed_yes (is_yes v) (is_read v) (rolls_back v) (is_out_of_reach v) false v z (committed_so (ending_of false v z) y) in
+      absurd (let e : false ≡ true = (committed_done false z yes'.1).0 in cc)
+  | inr n ↦ n
+]
+
+kept_so : (commit : Bool) → commit ≡ true → (b : Branch) (v : Code) (e : Ending) → (is_no v ≡ false) × Ends commit b v e → is_rolled_back e ≡ false
+kept_so commit is b v e h = ap is_rolled_back (h.1.1 ∙ ap (λ c. ending_of c v h.1.0) is) ∙ stays_back v h.1.0 h.0
+
+out_so : (commit : Bool) → commit ≡ false → (b : Branch) (v : Code) (e : Ending) → Ends commit b v e → is_committed e ≡ false
+out_so commit is b v e h = ap is_committed (h.1 ∙ ap (λ c. ending_of c v h.0) is) ∙ stays_out v h.0
+
+-- what is neither left nor rolled back
+rest_is : (e : Ending) → is_left e ≡ false → is_rolled_back e ≡ false → (is_committed e || (is_read_only e || is_in_doubt e)) ≡ true
+rest_is Committed l r = refl
+rest_is ReadOnly l r = refl
+rest_is RolledBack l r = absurd (cc)
+rest_is InDoubt l r = refl
+rest_is (Left c) l r = absurd (cc)
+
+certain_is : (e : Ending) → is_left e ≡ false → is_rolled_back e ≡ false → is_in_doubt e ≡ false → is_read_only e ≡ false → is_committed e ≡ true
+certain_is Committed l r d o = refl
+certain_is ReadOnly l r d o = absurd (cc)
+certain_is RolledBack l r d o = absurd (cc)
+certain_is InDoubt l r d o = absurd (cc)
+certain_is (Left c) l r d o = absurd (cc)
+
+-- one that didn't vote against isn't left, where no yes vote is
+not_left : (v : Code) (z : Option Code) (commit : Bool) → is_no v ≡ false → (is_yes v ≡ true → is_left (ending_of commit v z) ≡ false) → is_left (ending_of commit v z) ≡ false
+not_left Done z commit n reached = reached refl
+not_left RdOnly z commit n reached = refl
+not_left v z commit n reached = absurd (cc)
+
+-- ---- by the line alone
+
+module _ (c : CommitAll) (done : Outcome) (old new : Part) (is : Decides c done old new) where
+  abbrev own : List Branch
+  own = branches_of c
+
+  -- each branch has its ending
+  ends_all : EachOutcome (Ends done.commit) own done.votes.items done.endings.items
+  ends_all =
+      each_so (λ b v e. (z : Option Code) × AtBranch c.thread done.commit old.entries new.entries b v z e) (Ends done.commit) (λ b v e h. (h.0, h.1.ends)) own done.votes.items done.endings.items
+      (outcomes_of (AtBranch c.thread done.commit old.entries new.entries) own done.votes.items is.seconds done.endings.items is.branches)
+
+  unopposed : done.commit ≡ true → list_any is_no done.votes.items ≡ false
+  unopposed commit = none_against done.votes.items done.logged (sym is.decision ∙ commit)
+
+  pub one_outcome : IsOneOutcome done
+  one_outcome = record {
+    kept = λ commit.
+        no_ending_is (λ b v e. (is_no v ≡ false) × Ends done.commit b v e) is_rolled_back (kept_so done.commit commit) own done.votes.items done.endings.items
+        (with_votes (Ends done.commit) is_no own done.votes.items done.endings.items (unopposed commit) ends_all);
+    uncommitted = λ aborts. no_ending_is (Ends done.commit) is_committed (out_so done.commit aborts) own done.votes.items done.endings.items ends_all;
+  }
+
+-- ---- by the journals
+
+module _ (law : Tabled) (opens : (s : Settling) (m : ℕ) → IsSettled s → (T : Tables) × IsOpenedWith s m T) (s : Settling) (settled : IsSettled s) (c : CommitAll) (done : Outcome) (old new : Part) (is : Decides c done old new)
+    (grown : (m : ℕ) → Adding (new.entries m) (entries_of c.thread (journal s m))) (alone : AreLeftAlone s c.thread (branches_of c) old new) where
+  abbrev t : ℕ
+  t = c.thread
+
+  -- what became of a branch
+  record Told (b : Branch) (v : Code) (e : Ending) : Type 0 where
+    keeps : KeepsItsVote s t b (length (old.entries b.m)) v e
+    tells : TellsTheFate s b e
+    counts : Shares s t b (length (old.entries b.m)) (is_committed e)
+    adders : (T : Tables) → IsOpenedWith s b.m T → (k : List ℕ) (d : ℤ) → IsAddition b.xid k d t (length (old.entries b.m)) T (history s b.m) → is_read_only e ≡ false
+    ends : Ends done.commit b v e
+    unless_no : is_no v ≡ false → is_left e ≡ false
+
+  abbrev Alone : Branch → Type 0
+  Alone b = OnlyTheseName b.xid t (length (old.entries b.m)) (length (new.entries b.m)) (history s b.m)
+
+  told : (b : Branch) (v : Code) (z : Option Code) (e : Ending) → Alone b → AtBranch t done.commit old.entries new.entries b v z e → Told b v e
+  told b v z e only at =
+      let agree = settled.agree t b.m in
+      let outcome : (T : Tables) → IsOpenedWith s b.m T → Came t b.xid T (history s b.m) (length (old.entries b.m)) v (ending_of done.commit v z) = λ T with_T.
+      came law t T (journal s b.m) with_T.opened with_T.codes (sent s t b.m) (collected s t b.m) (agreed_fits t (sent s t b.m) (collected s t b.m) (journal s b.m) agree) agree.carried
+      done.commit b v z (old.entries b.m) (new.entries b.m) (grown b.m) only at.between at.prepares at.obeys in
+      let open_ = opens s b.m settled in
+      let own = outcome open_.0 open_.1 in
+      subst (Told b v) (sym at.ends) (record {
+        keeps = record { reached = own.reached; shut = own.shut };
+        tells = λ f told. open_.1.fates b.xid ∙ own.told f told;
+        counts = λ T with_T k d add. (outcome T with_T).counted k d add;
+        adders = λ T with_T k d add. (outcome T with_T).adders k d add;
+        ends = (z, refl);
+        unless_no = λ n. not_left v z done.commit n own.reached;
+      })
+
+  each_told : (bs : List Branch) (vs : List Code) (zs : List (Option Code)) (es : List Ending) → All Alone bs → EachBranch (AtBranch t done.commit old.entries new.entries) bs vs zs es → EachOutcome Told bs vs es
+  each_told [] [] [] [] only h = tt
+  each_told (b ∷ bs) (v ∷ vs) (z ∷ zs) (e ∷ es) only h = (told b v z e (All-head Alone b bs only) h.0, each_told bs vs zs es (All-tail Alone b bs only) h.1)
+  each_told bs vs zs es only h = absurd h
+
+  abbrev each : (Branch → Code → Ending → Type 0) → Type 0
+  each P = EachOutcome P (branches_of c) done.votes.items done.endings.items
+
+  all_told : each Told
+  all_told = each_told (branches_of c) done.votes.items is.seconds done.endings.items alone.each is.branches
+
+  by_each : (P : Branch → Code → Ending → Type 0) → ((b : Branch) (v : Code) (e : Ending) → Told b v e → P b v e) → each P
+  by_each P so = each_so Told P so (branches_of c) done.votes.items done.endings.items all_told
+
+  -- where it commits
+  unopposed_told : done.commit ≡ true → each (λ b v e. (is_no v ≡ false) × Told b v e)
+  unopposed_told commit = with_votes Told is_no (branches_of c) done.votes.items done.endings.items (unopposed c done old new is commit) all_told
+
+  all_count : done.commit ≡ true → list_any is_in_doubt done.endings.items ≡ false → each (λ b v e. Shares s t b (length (old.entries b.m)) done.commit)
+  all_count commit certain =
+      each_so (λ b v e. (is_in_doubt e ≡ false) × ((is_no v ≡ false) × Told b v e)) (λ b v e. Shares s t b (length (old.entries b.m)) done.commit)
+      (λ b v e h T with_T k d add.
+      let own = h.1.1 in
+      let same : is_committed e ≡ done.commit =
+      certain_is e (own.unless_no h.1.0) (kept_so done.commit commit b v e (h.1.0, own.ends)) h.0 (own.adders T with_T k d add) ∙ sym commit in
+      own.counts T with_T k d add ∙ ap (λ q. if q then d else pos 0) same)
+      (branches_of c) done.votes.items done.endings.items
+      (with_endings (λ b v e. (is_no v ≡ false) × Told b v e) is_in_doubt (branches_of c) done.votes.items done.endings.items certain (unopposed_told commit))
+
+  none_counts : done.commit ≡ false → each (λ b v e. Shares s t b (length (old.entries b.m)) done.commit)
+  none_counts aborts =
+      by_each (λ b v e. Shares s t b (length (old.entries b.m)) done.commit)
+      (λ b v e own T with_T k d add. own.counts T with_T k d add ∙ ap (λ q. if q then d else pos 0) (out_so done.commit aborts b v e own.ends ∙ sym aborts))
+
+  pub as_shown : IsAsShown s t (branches_of c) old done
+  as_shown = record {
+    committed = λ commit.
+        all_endings (λ b v e. (is_no v ≡ false) × Told b v e) (λ e. (is_committed e || (is_read_only e || is_in_doubt e)) ≡ true)
+        (λ b v e h. rest_is e (h.1.unless_no h.0) (kept_so done.commit commit b v e (h.0, h.1.ends))) (branches_of c) done.votes.items done.endings.items (unopposed_told commit);
+    aborted = (one_outcome c done old new is).uncommitted;
+    votes = by_each (λ b v e. KeepsItsVote s t b (length (old.entries b.m)) v e) (λ b v e own. own.keeps);
+    fates = record { each = by_each (λ b v e. TellsTheFate s b e) (λ b v e own. own.tells) };
+    counts = by_each (λ b v e. Shares s t b (length (old.entries b.m)) (is_committed e)) (λ b v e own. own.counts);
+    whole = λ certain. elim (cases_Bool (done.commit)) [ inl commit ↦ all_count commit certain | inr aborts ↦ none_counts aborts ];
+  }
+
+-- ---- line by line
+
+chain_steps : (settled : Settling) (first : Part) (ls : List Line) (last : Part) → Chain (TakesPart settled) first ls last → All (λ l. (old : Part) × (new : Part) × TakesPart settled l old new) ls
+chain_steps settled first ls last (none xs end e f) = subst (All (λ l. (old : Part) × (new : Part) × TakesPart settled l old new)) (sym e) (All-nil (λ l. (old : Part) × (new : Part) × TakesPart settled l old new))
+chain_steps settled first ls last (more xs x now end before step) =
+    All-append (λ l. (old : Part) × (new : Part) × TakesPart settled l old new) xs (x ∷ []) (chain_steps settled first xs now before)
+    (All-cons (λ l. (old : Part) × (new : Part) × TakesPart settled l old new) x [] (now, end, step) (All-nil (λ l. (old : Part) × (new : Part) × TakesPart settled l old new)))
+
+pub all_one_outcome : (s : Content) (answers : List Answer) (settled : Settling) (t : ℕ) (told : AreCarriedOut s answers settled t) → All ShowsOneOutcome told.lines
+all_one_outcome s answers settled t told k d below c done shows =
+    let step = chain_steps settled no_part told.lines _ told.carried k d below in
+    one_outcome c done step.0 step.1 (decided_so settled (slice_index_or told.lines k d) c done step.0 step.1 shows step.2)
+
+-- where the branches of a line are left alone
+pub shown_so : Tabled → ((s : Settling) (m : ℕ) → IsSettled s → (T : Tables) × IsOpenedWith s m T) → (s : Content) (answers : List Answer) (values : List Declared) (settled : Settling) (tells : TellsOf s answers values settled) (c : CommitAll) (done : Outcome)
+    (before : List Line) (l : Line) (after : List Line) (old new : Part) → Place (tells.carried c.thread) before l after old new → ShowsCommit l c done → AreLeftAlone settled c.thread (branches_of c) old new → IsAsShown settled c.thread (branches_of c) old done
+shown_so law opens s answers values settled tells c done before l after old new place shows alone =
+    as_shown law opens settled tells.agree c done old new (decided_so settled l c done old new shows place.takes) (λ m. chain_adds settled new after _ place.later m) alone

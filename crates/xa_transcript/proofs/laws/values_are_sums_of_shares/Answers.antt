@@ -1,0 +1,5 @@
+use Rattle.xa_transcript.proofs.Sums.{sums_of_shares}
+use Rattle.xa_transcript.proofs.laws.values_are_sums_of_shares.Goals as goal
+
+pub returns : goal.returns
+returns c = sums_of_shares c.late_requests_add_nothing.ensures

@@ -1,0 +1,112 @@
+-- What became of the branches of a commit of several branches, by the line that shows it.
+use Rattle.std.specs.Prelude.{◌≡◌, ◌≢◌, ℕ, ℤ, pos, ◌+ℤ◌, Bool, true, false, ◌||◌, ◌&&◌, ◌==◌, Some, None, All, List, []}
+use Rattle.std.specs.Prelude.{◌∷◌, ◌++◌, length}
+use Rattle.std.specs.List.{list_any}
+use Rattle.std.specs.FinMap as finmap
+use Rattle.xa_base.specs.Lists.{Chain}
+use Rattle.xa_words.specs.Xid.{xid_eq}
+use Rattle.xa_tables.specs.History.{added_in}
+use Rattle.xa_switch.specs.Settling.{Settling, journal}
+use Rattle.xa_switch.specs.Fates.{IsOpenedWith, history}
+use Rattle.xa_driver.specs.declared.branch.Branch.{Branch}
+use Rattle.xa_driver.specs.declared.done.Done.{Done}
+use Rattle.xa_driver.specs.Outcomes.{is_committed, is_in_doubt, is_read_only, has_committed, has_rolled_back}
+use Rattle.xa_driver.specs.Outcomes.{OnlyTheseName, EachOutcome, KeepsItsVote, TellsTheFates}
+use Rattle.xa_driver.specs.Additions.{Shares}
+use Rattle.xa_grammar.specs.declared.script.Action.{Action}
+use Rattle.xa_grammar.specs.declared.script.Action.TheVariants as action
+use Rattle.xa_grammar.specs.declared.script.CommitAll.{CommitAll}
+use Rattle.xa_grammar.specs.declared.script.Declared.{Declared}
+use Rattle.xa_grammar.specs.declared.script.Task.{Task}
+use Rattle.xa_grammar.specs.declared.script.Task.TheVariants as task
+use Rattle.xa_grammar.specs.Content.{Content, tasks_of}
+use Rattle.xa_session.specs.declared.answer.Answer.{Answer}
+use Rattle.xa_session.specs.Committing.{branches_of}
+use Rattle.xa_transcript.specs.Parts.{Part, no_part}
+use Rattle.xa_transcript.specs.Journals.{Line, TakesPart, AreCarriedOut, ShowsCommit, entries_of}
+use Rattle.xa_transcript.specs.Values.{opened}
+
+-- ---- by the line alone
+
+-- Where a commit shows `commit` no branch is shown as rolled back, and where it shows `abort` none as committed.
+pub record IsOneOutcome (done : Done) : Type 0 where
+  pub kept : done.commit ≡ true → has_rolled_back done ≡ false
+  pub uncommitted : done.commit ≡ false → has_committed done ≡ false
+
+-- So it is where the line is a commit of several branches.
+abbrev pub ShowsOneOutcome : Line → Type 0
+ShowsOneOutcome l = (c : CommitAll) (done : Done) → ShowsCommit l c done → IsOneOutcome done
+
+-- ---- who else names its branches
+
+-- A line's place among those of its thread: the lines before it have made `old` of the thread's part, it makes `new` of
+-- that, and those after it all that is left in the end.
+pub record Place {s : Content} {answers : List Answer} {settled : Settling} {t : ℕ}
+    (told : AreCarriedOut s answers settled t) (before : List Line) (l : Line) (after : List Line)
+    (old new : Part) : Type 0 where
+  pub lines : told.lines ≡ before ++ l ∷ after
+  pub earlier : Chain (TakesPart settled) no_part before old
+  pub takes : TakesPart settled l old new
+  pub later : Chain (TakesPart settled) new after
+      (record { entries = λ m. entries_of t (journal settled m); handles = told.left; log = told.log })
+
+-- In the journals nobody but the line, which has made `new` of `old`, names these branches of thread t once the thread
+-- has asked them to prepare.
+pub record AreLeftAlone (settled : Settling) (t : ℕ) (bs : List Branch) (old new : Part) : Type 0 where
+  pub each : All
+      (λ b. OnlyTheseName b.xid t (length (old.entries b.m)) (length (new.entries b.m)) (history settled b.m)) bs
+
+-- The branches that a task names: a call with an xid that of its manager, a commit all its own.
+abbrev pub branches_by : ℕ → Action → List Branch
+branches_by m (action.Xa c (Some x)) = record { m = m; xid = x } ∷ []
+branches_by m (action.Xa c None) = []
+branches_by m (action.Native o) = []
+branches_by m (action.Complete h) = []
+
+abbrev pub branches_in : Task → List Branch
+branches_in (task.Call p) = branches_by p.manager p.action
+branches_in (task.CommitAll c) = branches_of c
+
+-- The branch is among them, by its manager and its xid.
+abbrev pub is_among : Branch → List Branch → Bool
+is_among b bs = list_any (λ c. (c.m == b.m) && xid_eq c.xid b.xid) bs
+
+-- The task names none of these branches.
+abbrev pub NamesNone : List Branch → Task → Type 0
+NamesNone bs p = All (λ b. is_among b (branches_in p) ≡ false) bs
+
+-- From a line of thread t on no other names these branches: no line of another thread does, and none of those after it.
+pub record AreNamedByNoOther (s : Content) (t : ℕ) (bs : List Branch) (after : List Line) : Type 0 where
+  pub threads : (u : ℕ) → u ≢ t → All (NamesNone bs) (tasks_of u s.steps)
+  pub later : All (λ l. NamesNone bs l.task) after
+
+-- ---- what became of them
+
+-- What a commit of thread t shows of its branches is what became of them, where its line has found `old` of the
+-- thread's part: the number of a branch's Prepare is how many entries the thread has there at the branch's manager.
+pub record IsAsShown (settled : Settling) (t : ℕ) (bs : List Branch) (old : Part) (done : Done) : Type 0 where
+  -- where it shows `commit`, each branch is shown as committed that isn't shown as read only or in doubt
+  pub committed : done.commit ≡ true
+      → All (λ e. (is_committed e || (is_read_only e || is_in_doubt e)) ≡ true) done.endings.items
+  -- where it shows `abort`, none is
+  pub aborted : done.commit ≡ false → has_committed done ≡ false
+  -- one that voted to commit is in doubt only where its manager was shut before the place of its second request
+  pub votes : EachOutcome (λ b v e. KeepsItsVote settled t b (length (old.entries b.m)) v e)
+      bs done.votes.items done.endings.items
+  -- what is shown of each became of it
+  pub fates : TellsTheFates settled bs done
+  -- of each the additions count in the values exactly where it is shown as committed
+  pub counts : EachOutcome (λ b v e. Shares settled t b (length (old.entries b.m)) (is_committed e))
+      bs done.votes.items done.endings.items
+  -- so where none is shown as in doubt, all additions of the transaction count on `commit`, and none on `abort`
+  pub whole : list_any is_in_doubt done.endings.items ≡ false
+      → EachOutcome (λ b v e. Shares settled t b (length (old.entries b.m)) done.commit)
+      bs done.votes.items done.endings.items
+
+-- A key is shown with its value at the opening and the share of each request in its manager's journal, which follows
+-- the tables from the opening on.
+pub record IsSumOfShares (s : Content) (settled : Settling) (d : Declared) : Type 0 where
+  pub from : IsOpenedWith settled d.manager (opened s d.manager)
+  pub first : ℤ
+  pub at_first : finmap.get (opened s d.manager).values d.key ≡ Some first
+  pub sum : pos d.value ≡ first +ℤ added_in d.key (history settled d.manager) (opened s d.manager)
