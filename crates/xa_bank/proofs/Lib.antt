@@ -1,0 +1,9 @@
+pub mod Results
+pub mod Sent
+pub mod Handles
+pub mod Worked
+pub mod Named
+pub mod Told
+pub mod Adds
+pub mod Only
+pub mod Days

@@ -1,14 +1,18 @@
 //! A day of the bank: its tellers at work, and what is settled in the end.
-ghost use Rattle.std.specs.Prelude.{◌≡◌, length, IfOk};
+ghost use Rattle.std.specs.Prelude.{◌≡◌, length, All, IfOk};
+ghost use Rattle.xa_switch.specs.Worth.{plan_worth, settled_worth};
 ghost use Rattle.xa_crew.specs.Run.{IsRun};
-ghost use Rattle.xa_bank.specs.Tellers.{Works};
+ghost use Rattle.xa_bank.specs.Tellers.{EndsWhole, Works};
 
 use crate::teller::Teller;
 use std::alloc::Global;
 use std::sync::Wait;
 use std::thread::Threads;
 use xa_crew::{CrewFault, Run, run_clients};
+use xa_driver::laws::transfers_conserve_the_worth;
 use xa_switch::Plan;
+use xa_switch::laws::managers_open_with_their_accounts;
+use xa_tables::laws::a_thread_adds_as_it_works;
 use xa_worker::Free;
 
 /// What a day came to: each teller with what became of its transfers, and the settled opening.
@@ -16,6 +20,9 @@ pub type Day = Run<Teller>;
 
 /// Runs a teller for each thread of the plan, each in a thread of its own, and a thread for each store, and settles
 /// what they have come to. The teller at place t has thread t + 1.
+///
+/// No money is lost or made: where no teller wanted memory and no branch of a transfer is in doubt, all
+/// accounts are together worth what the plan declares.
 ///
 /// The faults are those of the crew: `BadPlan` where the plan can't be opened, and `NoMemory`.
 pub fn run_day<R: Threads + Wait + Copy + Send + 'static>(
@@ -25,8 +32,12 @@ pub fn run_day<R: Threads + Wait + Copy + Send + 'static>(
     tellers: Vec<Teller>,
 ) -> Result<Day, CrewFault>
     requires { length tellers.items ≡ plan.now.threads }
-    ensures { IfOk result (λ day. IsRun Works plan.now tellers.items day.clients.items day.settled) }
+    ensures ran { IfOk result (λ day. IsRun Works plan.now tellers.items day.clients.items day.settled) }
+    ensures conserved { IfOk result (λ day. All EndsWhole day.clients.items → settled_worth plan.now day.settled ≡ plan_worth plan.now) }
 {
+    transfers_conserve_the_worth();
+    managers_open_with_their_accounts();
+    a_thread_adds_as_it_works();
     let paces = vec![in alloc; Free; plan.managers.len()]?;
     run_clients(rt, alloc, plan, tellers, paces)
 }

@@ -8,8 +8,6 @@
 
 mod day;
 mod teller;
-#[cfg(test)]
-mod tests;
 
 pub use day::{Day, run_day};
 pub use teller::{Outcome, Teller, Transfer};

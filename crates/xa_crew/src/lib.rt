@@ -15,8 +15,6 @@ mod hands;
 mod job;
 mod run;
 mod settling;
-#[cfg(test)]
-mod tests;
 mod word;
 mod worker_job;
 

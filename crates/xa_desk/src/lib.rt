@@ -22,8 +22,6 @@ mod refusal;
 mod refused;
 mod slot;
 mod spin;
-#[cfg(test)]
-mod tests;
 mod ticket;
 
 pub use desk::Desk;

@@ -6,6 +6,7 @@ ghost use Rattle.xa_switch.specs.Seats.{seat_of_worker};
 mod appending;
 mod endings;
 mod outcomes;
+mod shut;
 mod threads;
 
 use std::alloc::Global;
@@ -113,10 +114,14 @@ fn open_by<R: Wait + Abort>(rt: &R, desk: &mut Desk, manager: u32, idle: &mut Wo
 }
 
 impl Opened {
-    // An opening in which both threads have opened each manager.
+    // An opening of so many managers, in which both threads have opened each.
     fn new<R: Wait + Abort>(rt: &R, alloc: Global, managers: u32) -> Opened {
-        let plan = plan_of(rt, alloc, managers as usize);
-        let (mut desks, workers) = open_switch(rt, alloc, &plan).expect(rt, "an opening");
+        Opened::of(rt, alloc, &plan_of(rt, alloc, managers as usize))
+    }
+
+    // An opening of the plan, in which both threads have opened each manager.
+    fn of<R: Wait + Abort>(rt: &R, alloc: Global, plan: &Plan) -> Opened {
+        let (mut desks, workers) = open_switch(rt, alloc, plan).expect(rt, "an opening");
         let second = desks.pop().expect(rt, "a desk");
         let first = desks.pop().expect(rt, "another desk");
         let mut opened = Opened {
@@ -124,8 +129,10 @@ impl Opened {
             second,
             workers: Workers { workers },
         };
-        for place in 0..managers {
-            opened.open(rt, place.wrapping_add(1));
+        let mut manager: u32 = 0;
+        for _plan in &plan.managers {
+            manager = manager.wrapping_add(1);
+            opened.open(rt, manager);
         }
         opened
     }

@@ -20,6 +20,3 @@ mod words;
 pub use fault::{Reason, ScriptFault};
 pub use read::read_script;
 pub use script::{Action, Called, CommitAll, Declared, Script, Step, Task};
-
-#[cfg(test)]
-mod tests;

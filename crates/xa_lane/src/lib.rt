@@ -13,8 +13,6 @@ mod order;
 mod parcel;
 mod receiver;
 mod sender;
-#[cfg(test)]
-mod tests;
 
 pub use ended::Ended;
 pub use lane::{CloseFault, CloseWhy, LaneFault, close_lane, open_lane};

@@ -23,6 +23,3 @@ pub use xa_grammar::{
 };
 pub use xa_session::Answer;
 pub use xa_transcript::{RunFault, laws};
-
-#[cfg(test)]
-mod tests;

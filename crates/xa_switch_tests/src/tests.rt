@@ -2,7 +2,6 @@
 mod calls;
 mod settling;
 mod sharing;
-mod shut;
 mod threads;
 
 use std::alloc::Global;

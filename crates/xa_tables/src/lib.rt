@@ -8,8 +8,6 @@ pub mod laws;
 mod manager;
 mod places;
 mod state;
-#[cfg(test)]
-mod tests;
 mod threads;
 
 pub use manager::{Manager, TableFault};

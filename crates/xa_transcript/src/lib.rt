@@ -12,6 +12,3 @@ mod values;
 
 pub use transcript::{RunFault, write_transcript};
 pub use values::values_of;
-
-#[cfg(test)]
-mod tests;

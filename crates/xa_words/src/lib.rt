@@ -9,8 +9,6 @@ mod key;
 pub mod laws;
 mod padded;
 mod request;
-#[cfg(test)]
-mod tests;
 mod tran;
 mod xid;
 

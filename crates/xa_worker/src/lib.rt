@@ -11,8 +11,6 @@ mod outbox;
 mod pace;
 mod parts;
 mod step;
-#[cfg(test)]
-mod tests;
 mod worker;
 
 pub use done::{DoneWorker, WorkerEnds};

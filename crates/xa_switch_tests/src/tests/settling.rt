@@ -7,7 +7,6 @@ ghost use Rattle.xa_switch.specs.Settling.{IsSettled};
 ghost use Rattle.xa_switch.specs.Seats.{ComeFromOpenings, seat_of_desk, seat_of_ended, seat_of_worker, seat_of_done, desk_seats, worker_seats};
 
 mod refusals;
-mod threads;
 mod turns;
 
 use super::key;
@@ -16,10 +15,8 @@ use std::process::Abort;
 use std::sync::Wait;
 use xa_desk::{Desk, EndedDesk, Idle, Spin};
 use xa_switch::laws::opened_pieces_come_from_their_opening;
-use xa_switch::{
-    ManagerPlan, Plan, RmOp, Settled, Why, native, open_switch, settle, xa_call, xa_complete,
-};
-use xa_words::{Call, Code, Delta, Op, Request, TMNOFLAGS, Xid};
+use xa_switch::{ManagerPlan, Plan, Settled, Why, open_switch, settle, xa_call, xa_complete};
+use xa_words::{Call, Code, Op, Request, TMNOFLAGS, Xid};
 use xa_worker::{DoneWorker, Free, Worker};
 
 // ---- what a thread does
@@ -28,7 +25,6 @@ use xa_worker::{DoneWorker, Free, Worker};
 #[derive(Clone, Copy, Debug)]
 enum Asks {
     Xa(Call, Option<Xid>, u32),
-    Native(RmOp, u32),
     // Waits for the operation under this handle. The answer is its code.
     Complete(i32),
 }
@@ -50,16 +46,6 @@ fn calls(manager: u32, call: Call, xid: Option<Xid>, flags: u32, answer: i32) ->
     }
 }
 
-// The thread's branch adds to the key at the manager.
-fn adds(rt: &impl Abort, manager: u32, name: &[u8], delta: i64) -> Act {
-    let op = RmOp::Add(key(rt, name), Delta::new(delta).expect(rt, "a change"));
-    Act {
-        manager,
-        asks: Asks::Native(op, TMNOFLAGS),
-        answer: 0,
-    }
-}
-
 // The operation under the handle is completed with this code.
 fn completes(manager: u32, handle: i32, code: Code) -> Act {
     Act {
@@ -75,7 +61,6 @@ fn ask<R: Wait, I: Idle>(rt: &R, desk: &mut Desk, manager: u32, asks: Asks, idle
 {
     match asks {
         Asks::Xa(call, xid, flags) => xa_call(rt, desk, call, xid, manager, flags, idle),
-        Asks::Native(op, flags) => native(rt, desk, op, manager, flags, idle),
         Asks::Complete(number) => {
             let (mut handle, mut retval) = (number, 55);
             let answer = xa_complete(rt, desk, &mut handle, &mut retval, manager, TMNOFLAGS, idle);

@@ -1,5 +1,6 @@
 use Rattle.xa_desk.specs.GoesOn.{GoesOn}
 use Rattle.xa_desk.specs.Kept.{AllKept}
+use Rattle.xa_bank.specs.Transfers.{HaveSent, IsOpenRm}
 use Rattle.xa_bank.proofs.teller.open_all.Given as goal
 
 -- the first stores were opened
@@ -7,4 +8,5 @@ abbrev pub invariant-loop-before : goal.invariant-loop-before
 invariant-loop-before g l = record {
   goes_on : GoesOn l.fn.desk l.desk;
   kept : AllKept l.fn.desk → AllKept l.desk;
+  opens : HaveSent IsOpenRm l.fn.desk.ledgers l.desk.ledgers;
 }

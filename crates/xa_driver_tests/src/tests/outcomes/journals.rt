@@ -45,7 +45,7 @@ fn made(op: &Op, code: Code) -> Option<Fate> {
 pub(super) fn fate_of(journal: &[(Request, Code)], xid: Xid) -> Option<Fate> {
     let mut last = None;
     for entry in journal {
-        if entry.0.op == Op::Shut {
+        if matches!(entry.0.op, Op::Shut) {
             break;
         }
         if named(&entry.0.op) == Some(xid) {
@@ -72,5 +72,5 @@ pub(super) fn is_after_shut(journal: &[(Request, Code)], thread: u32, number: u3
         return false;
     };
     let before = journal.get(..place).unwrap_or(&[]);
-    before.iter().any(|entry| entry.0.op == Op::Shut)
+    before.iter().any(|entry| matches!(entry.0.op, Op::Shut))
 }

@@ -1,7 +1,7 @@
 //! Whether what a commit told agrees with the settled journals: the votes, the decision, and the four
 //! statements of atomic commitment. It is read off the journals and what was told, and nothing else.
+use super::committing::Committed;
 use super::journals::{Fate, code_of, fate_of, is_after_shut};
-use super::working::Committed;
 use xa_driver::{Done, Ending, Yes};
 use xa_switch::Settled;
 use xa_words::{Code, Op, Request, Xid};

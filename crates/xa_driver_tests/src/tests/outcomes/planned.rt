@@ -1,6 +1,7 @@
 //! What each thread's transactions do, and what is certain of how they end, whatever the schedule.
+use super::committing::{Committed, Committer, NAMES, VALUE, Work};
 use super::judging::{append_failed, wants_record};
-use super::working::{Committed, NAMES, VALUE, Work};
+use xa_crew::Attended;
 use xa_driver::Ending;
 use xa_words::Code;
 
@@ -9,16 +10,6 @@ pub(super) const COMMITS: u32 = 20;
 
 // Thread 4 shuts manager 3 after so many of its own.
 pub(super) const COMMITS_BEFORE_SHUT: u32 = 10;
-
-// What a thread told: its commits, how many appends of its log failed, and whether one of them went on
-// after the Shut.
-#[derive(Drop)]
-pub(super) struct Told {
-    pub(super) thread: u32,
-    pub(super) commits: Vec<Committed>,
-    pub(super) failures: u64,
-    pub(super) saw_shut: bool,
-}
 
 // It takes more than any key can have.
 const OVERDRAFT: i64 = -5_000;
@@ -65,7 +56,7 @@ fn ends_as_planned(work: Work, ending: Ending) -> bool {
 }
 
 // At managers 1 and 2, which are never shut, each branch ends as planned.
-pub(super) fn end_as_planned(told: &Told) -> bool {
+pub(super) fn end_as_planned(told: &Committer) -> bool {
     for commit in &told.commits {
         let [first, second, _third] = commit.works;
         let [one, two, _three] = commit.done.endings.as_slice() else {
@@ -80,7 +71,7 @@ pub(super) fn end_as_planned(told: &Told) -> bool {
 
 // At manager 3 branches end as planned until the thread learns of the Shut: then one may be in doubt,
 // and each later one is left.
-pub(super) fn end_with_the_shut(told: &Told) -> bool {
+pub(super) fn end_with_the_shut(told: &Committer) -> bool {
     let mut shut = false;
     for commit in &told.commits {
         let [_first, _second, work] = commit.works;
@@ -98,7 +89,7 @@ pub(super) fn end_with_the_shut(told: &Told) -> bool {
 }
 
 // How many of the thread's branches at the place ended so.
-pub(super) fn count(told: &Told, place: usize, ending: Ending) -> usize {
+pub(super) fn count(told: &Committer, place: usize, ending: Ending) -> usize {
     let mut ended: usize = 0;
     for commit in &told.commits {
         if commit.done.endings.get(place) == Some(&ending) {
@@ -109,7 +100,7 @@ pub(super) fn count(told: &Told, place: usize, ending: Ending) -> usize {
 }
 
 // Thread t's log fails its t-th append, and no other.
-pub(super) fn fails_one_append(told: &Told) -> bool {
+pub(super) fn fails_one_append(told: &Committer) -> bool {
     let (mut wanted, mut failed): (u64, u64) = (0, 0);
     for commit in &told.commits {
         if wants_record(&commit.done) {
@@ -119,15 +110,15 @@ pub(super) fn fails_one_append(told: &Told) -> bool {
             failed = failed.saturating_add(1);
         }
     }
-    failed == told.failures && failed == u64::from(wanted >= told.thread as u64)
+    failed == told.failures() && failed == u64::from(wanted >= told.thread as u64)
 }
 
 // The value of a key at the place's manager, by what was told: each change of a branch that was
 // committed was added, and no other.
-pub(super) fn value(told: &[Told], place: usize, name: u8) -> Option<u64> {
+pub(super) fn value(threads: &[Attended<Committer>], place: usize, name: u8) -> Option<u64> {
     let mut value = VALUE as i64;
-    for thread in told {
-        for commit in &thread.commits {
+    for thread in threads {
+        for commit in &thread.client.commits {
             let committed = commit.done.endings.get(place) == Some(&Ending::Committed);
             let work = commit.works.get(place)?;
             if committed && work.name == name {

@@ -1,0 +1,236 @@
+-- Which branches a teller's requests name: those of its own transfers, each in its own time.
+use Rattle.std.proofs.Common.{◌≡◌, ◌≢◌, ℕ, suc, ◌+◌, ◌*◌, ◌^◌, ◌<◌, ◌≤◌, ◌⊎◌, ⊎_elim, Bool, true, false, ◌||◌, ◌==◌, List, [], ◌∷◌, ◌++◌, length, sym, refl, ap, ◌∙◌, subst, inl, inr, arith, Option, Some, None}
+use Rattle.std.specs.Prelude.{ℤ, pos, neg_ℤ, ◌+ℤ◌}
+use Rattle.std.specs.Int.{w64, from_be_bytes}
+use Rattle.std.proofs.lemmas.Int.{ints}
+use Rattle.std.proofs.lemmas.Bool.{cases_eq, ne_eqb}
+use Rattle.std.proofs.lemmas.List.Elements.{All-nil, All-cons}
+use Rattle.std.proofs.lemmas.Nat.{from_be_bytes-to_be_bytes_8}
+use Rattle.xa_base.proofs.Lists.{some_same}
+use Rattle.xa_base.proofs.Truth.{by_if}
+use Rattle.xa_words.specs.Xid.{XidName}
+use Rattle.xa_words.specs.Orders.{Decides-xid_eq}
+use Rattle.xa_words.specs.declared.code.Code.{Code}
+use Rattle.xa_words.specs.declared.code.Code.TheVariants.{Done as Ok_}
+use Rattle.xa_words.specs.declared.request.Op.{Op}
+use Rattle.xa_words.specs.declared.request.Op.TheVariants.{Start, Add, End, Prepare, Commit, Rollback}
+use Rattle.xa_words.specs.declared.request.StartHow.TheVariants.{Fresh}
+use Rattle.xa_words.specs.declared.request.EndHow.TheVariants.{Success}
+use Rattle.xa_tables.specs.Prepared.{names}
+use Rattle.xa_tables.specs.History.{is_rolled_back}
+use Rattle.xa_desk.specs.LedgerView.{LedgerView, learnt_shut}
+use Rattle.xa_desk.specs.DeskView.{DeskView, ledger}
+use Rattle.xa_driver.specs.declared.branch.Branch.{Branch}
+use Rattle.xa_driver.specs.declared.done.Done.{Done}
+use Rattle.xa_driver.specs.declared.done.Ending.{Ending}
+use Rattle.xa_driver.specs.Asks.{asked}
+use Rattle.xa_driver.specs.Decision.{is_yes, is_read}
+use Rattle.xa_driver.specs.Endings.{second_op, ending_of, is_out_of_reach}
+use Rattle.xa_driver.specs.Log.{LogState}
+use Rattle.xa_driver.specs.Trace.{BranchTrace, EachBranch, IsCommit, has_branch_at, voted}
+use Rattle.xa_bank.specs.declared.teller.Leg.{Leg}
+use Rattle.xa_bank.specs.declared.teller.Transfer.{Transfer}
+use Rattle.xa_bank.specs.declared.teller.Outcome.{Outcome}
+use Rattle.xa_bank.specs.Transfers.{HasSent, HaveSent, IsFor, AreLegs, pays_first, paid_first, HasWorked, HaveWorked, decided, refused, Makes, with_legs, without_legs, MakesEach, gtrid_of}
+use Rattle.xa_bank.proofs.Sent.{none_sent, sent_on, have_none, have_on, have_as}
+
+-- ---- names of transfers
+
+-- the branch is one of thread t's transfer of number n
+pub record IsOf (t n : ℕ) (x : XidName) : Type 0 where
+  pub small : n < 2 ^ 32
+  pub gtrid : x.gtrid ≡ gtrid_of t n
+
+-- a transfer has one thread and one number
+pub one_transfer : (t n u k : ℕ) (x : XidName) → t < 2 ^ 32 → u < 2 ^ 32 → IsOf t n x → IsOf u k x → (u ≡ t) × (k ≡ n)
+one_transfer t n u k x low high one two =
+    let small = one.small in
+    let small' = two.small in
+    let first : t * 2 ^ 32 + n < 2 ^ 64 = omega (arith, low, small) in
+    let second : u * 2 ^ 32 + k < 2 ^ 64 = omega (arith, high, small') in
+    let same : t * 2 ^ 32 + n ≡ u * 2 ^ 32 + k =
+    sym (from_be_bytes-to_be_bytes_8 (t * 2 ^ 32 + n) first) ∙ ap (from_be_bytes w64) (sym one.gtrid ∙ two.gtrid) ∙ from_be_bytes-to_be_bytes_8 (u * 2 ^ 32 + k) second in
+    (omega (arith, same, small, small'), omega (arith, same, small, small'))
+
+-- the request names only branches of thread t's transfers with numbers that pass
+pub record Names (t : ℕ) (passes : ℕ → Type 0) (op : Op) : Type 0 where
+  pub each : (x : XidName) → names x op ≡ true → (n : ℕ) × (passes n × IsOf t n x)
+
+pub names_as : (t : ℕ) (P Q : ℕ → Type 0) → ((n : ℕ) → P n → Q n) → (op : Op) → Names t P op → Names t Q op
+names_as t P Q also op h = record { each = λ x e. let z = h.each x e in (z.0, (also z.0 z.1.0, z.1.1)) }
+
+-- ---- the legs of a transfer
+
+pub record LegsOf (t n : ℕ) (one two : Leg) : Type 0 where
+  pub first : IsOf t n one.branch.xid
+  pub second : IsOf t n two.branch.xid
+  pub sum : one.delta +ℤ two.delta ≡ pos 0
+
+pays_and_paid : (a b v : ℤ) → a ≡ neg_ℤ v → b ≡ v → a +ℤ b ≡ pos 0
+pays_and_paid a b v e f = omega (arith, ints, e, f)
+
+paid_and_pays : (a b v : ℤ) → a ≡ v → b ≡ neg_ℤ v → a +ℤ b ≡ pos 0
+paid_and_pays a b v e f = omega (arith, ints, e, f)
+
+pub legs_are : (t n : ℕ) (tr : Transfer) (one two : Leg) → AreLegs t n tr one two → LegsOf t n one two
+legs_are t n tr one two (pays_first small rising pays paid) = record {
+  first = record { small = small; gtrid = pays.gtrid_ };
+  second = record { small = small; gtrid = paid.gtrid_ };
+  sum = pays_and_paid one.delta two.delta (pos tr.amount) pays.adds paid.adds;
+}
+legs_are t n tr one two (paid_first small rising paid pays) = record {
+  first = record { small = small; gtrid = paid.gtrid_ };
+  second = record { small = small; gtrid = pays.gtrid_ };
+  sum = paid_and_pays one.delta two.delta (pos tr.amount) paid.adds pays.adds;
+}
+
+-- ---- the requests of one branch
+
+-- the request names this branch alone
+abbrev NamesAlone : XidName → Op → Type 0
+NamesAlone x op = (y : XidName) → names y op ≡ true → x ≡ y
+
+same_xid : (x y : XidName) → names y (Prepare x) ≡ true → x ≡ y
+same_xid x y e = (Decides-xid_eq x y).0 e
+
+asked_sent : (P : Op → Type 0) (a : LedgerView) (op : Option Op) (code : Option Code) → ((o : Op) → op ≡ Some o → P o) → HasSent P a (asked a op code)
+asked_sent P a None code so = none_sent P a
+asked_sent P a (Some op) None so = none_sent P a
+asked_sent P a (Some op) (Some code) so =
+    by_if (HasSent P a) (learnt_shut a) _ _ (λ _. none_sent P a)
+    (λ _. record { more = op ∷ []; sent = refl; each = All-cons P op [] (so op refl) (All-nil P); collected = ((length a.sent, code) ∷ [], refl) })
+
+-- where there is a second request it names the branch
+second_names : (commit : Bool) (x : XidName) (vote : Code) (o : Op) → second_op commit x vote ≡ Some o → NamesAlone x o
+second_names true x vote o =
+    by_if (λ (s : Option Op). s ≡ Some o → NamesAlone x o) (is_yes vote) (Some (Commit x false)) None
+    (λ _ is. subst (NamesAlone x) (some_same (Commit x false) o is) (λ y e. (Decides-xid_eq x y).0 e))
+    (λ _ is. cc)
+second_names false x vote o =
+    by_if (λ (s : Option Op). s ≡ Some o → NamesAlone x o) (is_read vote || (is_rolled_back vote || is_out_of_reach vote)) None (Some (Rollback x))
+    (λ _ is. cc)
+    (λ _ is. subst (NamesAlone x) (some_same (Rollback x) o is) (λ y e. (Decides-xid_eq x y).0 e))
+
+branch_sent : (commit : Bool) (b : Branch) (v : Code) (s : Option Code) (a a' : LedgerView) → BranchTrace commit b v s a a' → HasSent (NamesAlone b.xid) a a'
+branch_sent commit b v s a a' tr =
+    subst (HasSent (NamesAlone b.xid) a) (sym tr.trace)
+    (sent_on (NamesAlone b.xid) a (voted b v a) (asked (voted b v a) (second_op commit b.xid v) s)
+    (asked_sent (NamesAlone b.xid) a (Some (Prepare b.xid)) (Some v) (λ o is. subst (NamesAlone b.xid) (some_same (Prepare b.xid) o is) (same_xid b.xid)))
+    (asked_sent (NamesAlone b.xid) (voted b v a) (second_op commit b.xid v) s (second_names commit b.xid v)))
+
+-- ---- a commit of two branches
+
+abbrev EachOf : (Branch → Type 0) → List Branch → Type 0
+EachOf R [] = Unit {0}
+EachOf R (b ∷ bs) = R b × EachOf R bs
+
+each_of : (P : Branch → Code → Option Code → Ending → Type 0) (R : Branch → Type 0) → ((b : Branch) (v : Code) (s : Option Code) (e : Ending) → P b v s e → R b)
+    → (bs : List Branch) (vs : List Code) (ss : List (Option Code)) (es : List Ending) → EachBranch P bs vs ss es → EachOf R bs
+each_of P R so [] [] [] [] h = tt
+each_of P R so (b ∷ bs) (v ∷ vs) (s ∷ ss) (e ∷ es) h = (so b v s e h.0, each_of P R so bs vs ss es h.1)
+each_of P R so bs vs ss es h = absurd h
+
+-- no branch of these two is at the manager
+neither : (one two : Branch) (m : ℕ) → m ≢ one.m → m ≢ two.m → has_branch_at (one ∷ two ∷ []) m ≡ false
+neither one two m p q =
+    let first : (one.m == m) ≡ false = ne_eqb one.m m (λ e. p (sym e)) in
+    let second : (two.m == m) ≡ false = ne_eqb two.m m (λ e. q (sym e)) in
+    λ i. first i || (second i || false)
+
+pub commit_sent : (P : Op → Type 0) (one two : Branch) (desk : DeskView) (new : List LedgerView) (log later : LogState) (d : Done) → ((op : Op) → NamesAlone one.xid op → P op) → ((op : Op) → NamesAlone two.xid op → P op)
+    → IsCommit (one ∷ two ∷ []) desk new log later d → HaveSent P desk.ledgers new
+commit_sent P one two desk new log later d so also made =
+    let old : List LedgerView = desk.ledgers in
+    let z = each_of (λ b v s e. BranchTrace d.commit b v s (ledger old b.m) (ledger new b.m) × (e ≡ ending_of d.commit v s)) (λ b. HasSent (NamesAlone b.xid) (ledger old b.m) (ledger new b.m))
+    (λ b v s e h. branch_sent d.commit b v s (ledger old b.m) (ledger new b.m) h.0) (one ∷ two ∷ []) d.votes.items made.trace.seconds d.endings.items made.trace.each in
+    λ m positive. elim (cases_eq m one.m) as (λ _. HasSent P (ledger old m) (ledger new m)) [
+      | inl same ↦ subst (λ k. HasSent P (ledger old k) (ledger new k)) (sym same) (weaker one.xid so (ledger old one.m) (ledger new one.m) z.0)
+      | inr p ↦ elim (cases_eq m two.m) as (λ _. HasSent P (ledger old m) (ledger new m)) [
+        | inl same ↦ subst (λ k. HasSent P (ledger old k) (ledger new k)) (sym same) (weaker two.xid also (ledger old two.m) (ledger new two.m) z.1.0)
+        | inr q ↦ subst (HasSent P (ledger old m)) (sym (made.trace.others m positive (neither one two m p q))) (none_sent P (ledger old m))
+      ]
+    ]
+  where
+    weaker : (x : XidName) → ((op : Op) → NamesAlone x op → P op) → (a a' : LedgerView) → HasSent (NamesAlone x) a a' → HasSent P a a'
+    weaker x also a a' h = record { more = h.more; sent = h.sent; each = λ k op lt. also _ (h.each k op lt); collected = h.collected }
+
+-- ---- the work for two legs
+
+leg_work_sent : (P : Op → Type 0) (leg : Leg) (k : List ℕ) (a a' : LedgerView) → P (Start leg.branch.xid Fresh) → P (Add k leg.delta) → P (End leg.branch.xid Success) → HasWorked leg k a a' → HasSent P a a'
+leg_work_sent P leg k a a' starts adds ends w = record {
+  more = Start leg.branch.xid Fresh ∷ Add k leg.delta ∷ End leg.branch.xid Success ∷ [];
+  sent = w.sent;
+  each = All-cons P (Start leg.branch.xid Fresh) (Add k leg.delta ∷ End leg.branch.xid Success ∷ []) starts
+      (All-cons P (Add k leg.delta) (End leg.branch.xid Success ∷ []) adds (All-cons P (End leg.branch.xid Success) [] ends (All-nil P)));
+  collected = ((length a.sent, Ok_) ∷ (length a.sent + 1, Ok_) ∷ (length a.sent + 2, Ok_) ∷ [], w.collected);
+}
+
+pub work_sent : (P : Op → Type 0) (one two : Leg) (k : List ℕ) (old new : List LedgerView) → ((leg : Leg) → (leg ≡ one) ⊎ (leg ≡ two) → P (Start leg.branch.xid Fresh) × P (Add k leg.delta) × P (End leg.branch.xid Success)) → HaveWorked one two k old new → HaveSent P old new
+work_sent P one two k old new so w = λ m positive. elim (cases_eq m one.branch.m) as (λ _. HasSent P (ledger old m) (ledger new m)) [
+  | inl same ↦ subst (λ n. HasSent P (ledger old n) (ledger new n)) (sym same) (let s = so one (inl refl) in leg_work_sent P one k (ledger old one.branch.m) (ledger new one.branch.m) s.0 s.1 s.2 w.one_)
+  | inr p ↦ elim (cases_eq m two.branch.m) as (λ _. HasSent P (ledger old m) (ledger new m)) [
+    | inl same ↦ subst (λ n. HasSent P (ledger old n) (ledger new n)) (sym same) (let s = so two (inr refl) in leg_work_sent P two k (ledger old two.branch.m) (ledger new two.branch.m) s.0 s.1 s.2 w.two_)
+    | inr q ↦ subst (HasSent P (ledger old m)) (sym (w.others m positive p q)) (none_sent P (ledger old m))
+  ]
+]
+
+-- ---- a transfer
+
+-- the number is this one
+abbrev pub Is : ℕ → ℕ → Type 0
+Is n k = k ≡ n
+
+names_leg : (t n : ℕ) (leg : Leg) → IsOf t n leg.branch.xid → (op : Op) → NamesAlone leg.branch.xid op → Names t (Is n) op
+names_leg t n leg of_it op alone = record { each = λ y e. (n, (refl, subst (IsOf t n) (alone y e) of_it)) }
+
+pub legs_name : (t n : ℕ) (one two leg : Leg) (k : List ℕ) → LegsOf t n one two → (leg ≡ one) ⊎ (leg ≡ two) → Names t (Is n) (Start leg.branch.xid Fresh) × Names t (Is n) (Add k leg.delta) × Names t (Is n) (End leg.branch.xid Success)
+legs_name t n one two leg k legs which =
+    let of_it : IsOf t n leg.branch.xid =
+    ⊎_elim (λ (e : leg ≡ one). subst (λ (l : Leg). IsOf t n l.branch.xid) (sym e) legs.first) (λ (e : leg ≡ two). subst (λ (l : Leg). IsOf t n l.branch.xid) (sym e) legs.second) which in (
+      names_leg t n leg of_it (Start leg.branch.xid Fresh) (λ y e. (Decides-xid_eq leg.branch.xid y).0 e),
+      record { each = λ y e. cc },
+      names_leg t n leg of_it (End leg.branch.xid Success) (λ y e. (Decides-xid_eq leg.branch.xid y).0 e),
+    )
+
+for_names : (t n : ℕ) (one two : Leg) → LegsOf t n one two → (op : Op) → IsFor one two op → Names t (Is n) op
+for_names t n one two legs op h = record {
+  each = λ y e. (
+    n,
+    (
+      refl,
+      ⊎_elim (λ (s : y ≡ one.branch.xid). subst (IsOf t n) (sym s) legs.first) (λ (s : y ≡ two.branch.xid). subst (IsOf t n) (sym s) legs.second) (h.named y e),
+    ),
+  );
+}
+
+pub commit_names : (t n : ℕ) (one two : Leg) (worked : DeskView) (new : List LedgerView) (log later : LogState) (d : Done) → LegsOf t n one two → IsCommit (one.branch ∷ two.branch ∷ []) worked new log later d → HaveSent (Names t (Is n)) worked.ledgers new
+commit_names t n one two worked new log later d legs made = commit_sent (Names t (Is n)) one.branch two.branch worked new log later d (names_leg t n one legs.first) (names_leg t n two legs.second) made
+
+pub transfer_names : (t n : ℕ) (tr : Transfer) (o : Outcome) (old new : DeskView) → Makes t n tr o old new → HaveSent (Names t (Is n)) old.ledgers new.ledgers
+transfer_names t n tr o old new (with_legs one two legs (decided worked log later d is work made)) =
+    let of_it = legs_are t n tr one two legs in
+    have_on (Names t (Is n)) old.ledgers worked.ledgers new.ledgers
+    (work_sent (Names t (Is n)) one two tr.account old.ledgers worked.ledgers (λ leg which. legs_name t n one two leg tr.account of_it which) work)
+    (commit_names t n one two worked new.ledgers log later d of_it made)
+transfer_names t n tr o old new (with_legs one two legs (refused is sent)) = have_as (IsFor one two) (Names t (Is n)) (for_names t n one two (legs_are t n tr one two legs)) old.ledgers new.ledgers sent
+transfer_names t n tr o old new (without_legs is same) = have_none (Names t (Is n)) old.ledgers new.ledgers (ap (λ (d : DeskView). d.ledgers) same)
+
+-- from this number on
+abbrev pub IsFrom : ℕ → ℕ → Type 0
+IsFrom n k = n ≤ k
+
+pub transfers_name : (t n : ℕ) (trs : List Transfer) (os : List Outcome) (old new : DeskView) → MakesEach t n trs os old new → HaveSent (Names t (IsFrom n)) old.ledgers new.ledgers
+transfers_name t n [] [] old new same = have_none (Names t (IsFrom n)) old.ledgers new.ledgers (ap (λ (d : DeskView). d.ledgers) same)
+transfers_name t n (tr ∷ trs) (o ∷ os) old new (mid, makes, rest) =
+    have_on (Names t (IsFrom n)) old.ledgers mid.ledgers new.ledgers
+    (have_as (Names t (Is n)) (Names t (IsFrom n)) (names_as t (Is n) (IsFrom n) (λ k e. omega (arith, e))) old.ledgers mid.ledgers (transfer_names t n tr o old mid makes))
+    (have_as (Names t (IsFrom (n + 1))) (Names t (IsFrom n)) (names_as t (IsFrom (n + 1)) (IsFrom n) (λ k le. omega (arith, le))) mid.ledgers new.ledgers (transfers_name t (n + 1) trs os mid new rest))
+transfers_name t n trs os old new h = absurd h
+
+-- one transfer more at the end
+pub makes_more : (t n : ℕ) (trs : List Transfer) (os : List Outcome) (tr : Transfer) (o : Outcome) (old mid new : DeskView) → MakesEach t n trs os old mid → Makes t (n + length trs) tr o mid new → MakesEach t n (trs ++ tr ∷ []) (os ++ o ∷ []) old new
+makes_more t n [] [] tr o old mid new same makes =
+    (new, subst (λ (d : DeskView). Makes t n tr o d new) same (subst (λ k. Makes t k tr o mid new) (let e : n + 0 ≡ n = omega arith in e) makes), refl)
+makes_more t n (r ∷ trs) (p ∷ os) tr o old mid new (next, first, rest) makes =
+    (next, first, makes_more t (n + 1) trs os tr o next mid new rest (subst (λ k. Makes t k tr o mid new) (let e : n + suc (length trs) ≡ n + 1 + length trs = omega arith in e) makes))
+makes_more t n trs os tr o old mid new h makes = absurd h

@@ -1,0 +1,268 @@
+-- A teller's thread makes only transfers.
+use Rattle.std.specs.Prelude.{ℤ, pos, ◌+ℤ◌}
+use Rattle.std.proofs.Common.{◌≡◌, ℕ, zero, suc, ◌+◌, ◌-◌, ◌^◌, ◌<◌, ◌≤◌, ⊎_elim, true, false, ◌||◌, List, [], ◌∷◌, ◌++◌, length, length-append, append_assoc, get_or, slice_get, sym, refl, ap, ◌∙◌, subst, arith, Some}
+use Rattle.std.specs.List.{All, list_any}
+use Rattle.std.proofs.lemmas.Int.{ints}
+use Rattle.std.proofs.lemmas.Bool.{cases_lt}
+use Rattle.std.proofs.lemmas.List.Elements.{All-nil, All-cons, All-head, All-tail, All-append, All-weaker}
+use Rattle.xa_words.specs.Xid.{XidName}
+use Rattle.xa_words.specs.declared.code.Code.{Code}
+use Rattle.xa_words.specs.declared.code.Code.TheVariants.{Done as Ok_}
+use Rattle.xa_words.specs.declared.request.Op.{Op}
+use Rattle.xa_words.specs.declared.request.Op.TheVariants.{Start, Add, End}
+use Rattle.xa_words.specs.declared.request.StartHow.TheVariants.{Fresh}
+use Rattle.xa_words.specs.declared.request.EndHow.TheVariants.{Success}
+use Rattle.xa_tables.specs.Tables.{Tables}
+use Rattle.xa_tables.specs.Managers.{opening}
+use Rattle.xa_tables.specs.History.{History, IsOpening}
+use Rattle.xa_tables.specs.Prepared.{names}
+use Rattle.xa_tables.specs.Work.{AddsAsItWorks}
+use Rattle.xa_desk.specs.LedgerView.{LedgerView}
+use Rattle.xa_desk.specs.DeskView.{DeskView, ledger, no_ledger}
+use Rattle.xa_desk.specs.Growth.{HaveGrown}
+use Rattle.xa_switch.specs.declared.plan.Plan.{Plan}
+use Rattle.xa_switch.specs.Settling.{Settling, IsSettled, sent, journal, answers}
+use Rattle.xa_switch.specs.Fates.{IsOpenedWith, history, ledgers_of}
+use Rattle.xa_switch.specs.Worth.{accounts_of}
+use Rattle.xa_driver.specs.declared.branch.Branch.{Branch}
+use Rattle.xa_driver.specs.declared.done.Done.{Done}
+use Rattle.xa_driver.specs.Commits.{is_commit, NoCommitWasSent}
+use Rattle.xa_driver.specs.Log.{LogState}
+use Rattle.xa_driver.specs.Outcomes.{AreLeftAlone, OnlyTheseName, is_in_doubt}
+use Rattle.xa_driver.specs.Trace.{IsCommit}
+use Rattle.xa_driver.specs.Conservation.{added_before, added_by_all, held_in_doubt, NothingWasSent, OnlyTransfers, opened, worked, committed}
+use Rattle.xa_driver.proofs.Settled.{by_ledger}
+use Rattle.xa_bank.specs.declared.teller.Leg.{Leg}
+use Rattle.xa_bank.specs.declared.teller.Transfer.{Transfer}
+use Rattle.xa_bank.specs.declared.teller.Outcome.{Outcome}
+use Rattle.xa_bank.specs.Tellers.{IsUndoubted}
+use Rattle.xa_bank.specs.Transfers.{HasSent, HaveSent, IsOpenRm, IsFor, HasWorked, HaveWorked, decided, refused, Makes, with_legs, without_legs, MakesEach, MakesAll}
+use Rattle.xa_bank.proofs.Sent.{have_on, have_as}
+use Rattle.xa_bank.proofs.Named.{IsOf, Names, names_as, LegsOf, legs_are, legs_name, work_sent, commit_names, transfer_names, transfers_name, Is, IsFrom}
+use Rattle.xa_bank.proofs.Told.{IsAny, IsBelow, IsTold, NamedWithin, all_right, named_within, only_these}
+use Rattle.xa_bank.proofs.Adds.{leg_adds}
+
+-- ---- what was sent since
+
+grown_by : (P : Op → Type 0) (old new : List LedgerView) → HaveSent P old new → HaveGrown old new
+grown_by P old new h = record { each = λ m positive. let z = h m positive in record { sent = (z.more, z.sent); collected = z.collected } }
+
+-- no Commit
+abbrev IsNone : Op → Type 0
+IsNone op = is_commit op ≡ false
+
+none_among : (ops : List Op) → All IsNone ops → list_any is_commit ops ≡ false
+none_among [] all = refl
+none_among (op ∷ ops) all = λ i. All-head IsNone op ops all i || none_among ops (All-tail IsNone op ops all) i
+
+no_commit : (old new : List LedgerView) → HaveSent IsNone old new → NoCommitWasSent old new
+no_commit old new h = λ m positive. let z = h m positive in record { more = z.more; sent = z.sent; none = none_among z.more z.each }
+
+past_end : (at : List LedgerView) (k : ℕ) → length at ≤ k → get_or at k no_ledger ≡ no_ledger
+past_end [] k le = refl
+past_end (a ∷ at) zero le = absurd (omega arith)
+past_end (a ∷ at) (suc k) le = past_end at k (omega arith)
+
+-- a manager to which something was sent is known
+known_by : (at : List LedgerView) (m : ℕ) → 0 < length (ledger at m).sent → m ≤ length at
+known_by at m some =
+    ⊎_elim
+    (λ (past : length at < m).
+    let none : length (ledger at m).sent ≡ 0 = ap (λ (a : LedgerView). length a.sent) (past_end at (m - 1) (omega (arith, past))) in
+    absurd (omega (arith, some, none)))
+    (λ (below : m ≤ length at). below)
+    (cases_lt (length at) m)
+
+add_nothing : (a b : ℤ) → a +ℤ b ≡ pos 0 → a +ℤ (b +ℤ pos 0) ≡ pos 0
+add_nothing a b e = omega (arith, ints, e)
+
+-- ---- one thread
+
+module _ (adds : (t n : ℕ) (x : XidName) (k : List ℕ) (d : ℤ) (h : History) (T : Tables) → IsOpening T → AddsAsItWorks t n x k d T h)
+    (undoubted : (p : Plan) (s : Settling) (t : ℕ) (old : List LedgerView) (bs : List Branch) (d : Done) → list_any is_in_doubt d.endings.items ≡ false → held_in_doubt p s t old bs d ≡ pos 0)
+    (p : Plan) (s : Settling) (settled : IsSettled s) (opens_with : (m : ℕ) → 1 ≤ m → m ≤ length p.managers.items → IsOpenedWith s m (opening (accounts_of p m)))
+    (told : (u : ℕ) → IsTold s u) (t : ℕ) (low : t < 2 ^ 32) (managers : length (ledgers_of s t) ≡ length p.managers.items) where
+  abbrev final : List LedgerView
+  final = ledgers_of s t
+
+  -- what was sent by now names branches of transfers before this one
+  abbrev Earlier : ℕ → List LedgerView → Type 0
+  Earlier n at = (m : ℕ) → 1 ≤ m → All (Names t (IsBelow n)) (ledger at m).sent
+
+  -- and from now on those of transfers with numbers from this one on
+  abbrev Later : ℕ → List LedgerView → Type 0
+  Later n at = HaveSent (Names t (IsFrom n)) at final
+
+  earlier_on : (n : ℕ) (old new : List LedgerView) → Earlier n old → HaveSent (Names t (Is n)) old new → Earlier (n + 1) new
+  earlier_on n old new before h = λ m positive.
+      let z = h m positive in
+      subst (All (Names t (IsBelow (n + 1)))) (sym z.sent)
+      (All-append (Names t (IsBelow (n + 1))) (ledger old m).sent z.more
+      (All-weaker (Names t (IsBelow n)) (Names t (IsBelow (n + 1))) (names_as t (IsBelow n) (IsBelow (n + 1)) (λ k lt. omega (arith, lt))) (ledger old m).sent (before m positive))
+      (All-weaker (Names t (Is n)) (Names t (IsBelow (n + 1))) (names_as t (Is n) (IsBelow (n + 1)) (λ k e. omega (arith, e))) z.more z.each))
+
+  -- ---- a transfer that was decided
+
+  module _ (n : ℕ) (account : List ℕ) (one two : Leg) (legs : LegsOf t n one two) (old : List LedgerView) (desk : DeskView) (new : List LedgerView) (log later_log : LogState) (d : Done)
+      (work : HaveWorked one two account old desk.ledgers) (made : IsCommit (one.branch ∷ two.branch ∷ []) desk new log later_log d) (before : Earlier n old) (after : Later (n + 1) new) where
+    worked_names : HaveSent (Names t (Is n)) old desk.ledgers
+    worked_names = work_sent (Names t (Is n)) one two account old desk.ledgers (λ leg which. legs_name t n one two leg account legs which) work
+
+    made_names : HaveSent (Names t (Is n)) desk.ledgers new
+    made_names = commit_names t n one two desk new log later_log d legs made
+
+    from_work : HaveSent (Names t IsAny) desk.ledgers final
+    from_work =
+        have_on (Names t IsAny) desk.ledgers new final
+        (have_as (Names t (Is n)) (Names t IsAny) (names_as t (Is n) IsAny (λ k e. tt)) desk.ledgers new made_names)
+        (have_as (Names t (IsFrom (n + 1))) (Names t IsAny) (names_as t (IsFrom (n + 1)) IsAny (λ k e. tt)) new final after)
+
+    -- one of the legs
+    module _ (leg : Leg) (of_it : IsOf t n leg.branch.xid) (positive : 1 ≤ leg.branch.m) (its : HasWorked leg account (ledger old leg.branch.m) (ledger desk.ledgers leg.branch.m)) where
+      abbrev m : ℕ
+      m = leg.branch.m
+
+      abbrev pre : List Op
+      pre = (ledger old leg.branch.m).sent
+
+      abbrev leg_work : List Op
+      leg_work = Start leg.branch.xid Fresh ∷ Add account leg.delta ∷ End leg.branch.xid Success ∷ []
+
+      segment : HasSent (Names t (Is n)) (ledger old m) (ledger new m)
+      segment = have_on (Names t (Is n)) old desk.ledgers new worked_names made_names m positive
+
+      rest : HasSent (Names t (IsFrom (n + 1))) (ledger new m) (ledger final m)
+      rest = after m positive
+
+      all_sent : sent s t m ≡ (ledger final m).sent
+      all_sent = by_ledger final m (λ (a : LedgerView). a.sent) positive refl
+
+      split : sent s t m ≡ pre ++ (segment.more ++ rest.more)
+      split = all_sent ∙ rest.sent ∙ ap (λ l. l ++ rest.more) segment.sent ∙ append_assoc pre segment.more rest.more
+
+      alone : NamedWithin s m leg.branch.xid t (length pre) (length (ledger new m).sent)
+      alone =
+          named_within s settled told t n m leg.branch.xid low of_it positive pre segment.more rest.more split (before m positive) rest.each
+          (length (ledger new m).sent) (ap length segment.sent ∙ length-append pre segment.more)
+
+      left_alone : OnlyTheseName leg.branch.xid t (length (ledger desk.ledgers m).sent) (length (ledger new m).sent) (history s m)
+      left_alone = only_these s settled t m (length pre) (length (ledger desk.ledgers m).sent) (length (ledger new m).sent) leg.branch.xid alone
+
+      -- what was sent and collected after the work
+      since : HasSent (Names t IsAny) (ledger desk.ledgers m) (ledger final m)
+      since = from_work m positive
+
+      parted : sent s t m ≡ (pre ++ leg_work) ++ since.more
+      parted = all_sent ∙ since.sent ∙ ap (λ l. l ++ since.more) its.sent
+
+      answered : All (λ (q : ℕ × Code). slice_get (answers t (journal s m)) q.0 ≡ Some q) ((length pre, Ok_) ∷ (length pre + 1, Ok_) ∷ (length pre + 2, Ok_) ∷ since.collected.0)
+      answered =
+          all_right (λ (q : ℕ × Code). slice_get (answers t (journal s m)) q.0 ≡ Some q) (ledger old m).collected ((length pre, Ok_) ∷ (length pre + 1, Ok_) ∷ (length pre + 2, Ok_) ∷ since.collected.0)
+          (subst (All (λ (q : ℕ × Code). slice_get (answers t (journal s m)) q.0 ≡ Some q))
+          (by_ledger final m (λ (a : LedgerView). a.collected) positive refl ∙ since.collected.1 ∙ ap (λ l. l ++ since.collected.0) its.collected
+          ∙ append_assoc (ledger old m).collected ((length pre, Ok_) ∷ (length pre + 1, Ok_) ∷ (length pre + 2, Ok_) ∷ []) since.collected.0)
+          (settled.agree t m).coded)
+
+      many : length (ledger desk.ledgers m).sent ≡ length pre + 3
+      many = ap length its.sent ∙ length-append pre leg_work
+
+      there : m ≤ length p.managers.items
+      there =
+          let size : length (ledger final m).sent ≡ length (ledger desk.ledgers m).sent + length since.more = ap length since.sent ∙ length-append (ledger desk.ledgers m).sent since.more in
+          let known = known_by final m (let e = many in omega (arith, size, e)) in
+          omega (arith, known, managers)
+
+      added : added_before p s t desk.ledgers leg.branch ≡ leg.delta
+      added =
+          leg_adds s settled t m (length (ledger new m).sent) (opening (accounts_of p m)) (opens_with m positive there) leg.branch.xid account leg.delta pre since.more (length (ledger desk.ledgers m).sent) many parted alone
+          (All-head (λ (q : ℕ × Code). slice_get (answers t (journal s m)) q.0 ≡ Some q) (length pre, Ok_) ((length pre + 1, Ok_) ∷ (length pre + 2, Ok_) ∷ since.collected.0) answered)
+          (All-head (λ (q : ℕ × Code). slice_get (answers t (journal s m)) q.0 ≡ Some q) (length pre + 1, Ok_) ((length pre + 2, Ok_) ∷ since.collected.0)
+          (All-tail (λ (q : ℕ × Code). slice_get (answers t (journal s m)) q.0 ≡ Some q) (length pre, Ok_) ((length pre + 1, Ok_) ∷ (length pre + 2, Ok_) ∷ since.collected.0) answered))
+          adds
+
+    first_up : 1 ≤ one.branch.m
+    first_up = let up = made.may.rising.0 in omega (arith, up)
+
+    second_up : 1 ≤ two.branch.m
+    second_up = let up = made.may.rising.0 in let on = made.may.rising.1.0 in omega (arith, up, on)
+
+    abbrev IsAlone : Branch → Type 0
+    IsAlone b = OnlyTheseName b.xid t (length (ledger desk.ledgers b.m).sent) (length (ledger new b.m).sent) (history s b.m)
+
+    both_alone : AreLeftAlone s t (one.branch ∷ two.branch ∷ []) desk.ledgers new
+    both_alone = record {
+      each =
+          All-cons IsAlone one.branch (two.branch ∷ []) (left_alone one legs.first first_up work.one_)
+          (All-cons IsAlone two.branch [] (left_alone two legs.second second_up work.two_) (All-nil IsAlone));
+    }
+
+    zero_sum : added_by_all p s t desk.ledgers (one.branch ∷ two.branch ∷ []) ≡ pos 0
+    zero_sum = (λ i. added one legs.first first_up work.one_ i +ℤ (added two legs.second second_up work.two_ i +ℤ pos 0)) ∙ add_nothing one.delta two.delta legs.sum
+
+    worked_quietly : HaveSent IsNone old desk.ledgers
+    worked_quietly = work_sent IsNone one two account old desk.ledgers (λ leg which. (refl, refl, refl)) work
+
+    pub only_decided : list_any is_in_doubt d.endings.items ≡ false → OnlyTransfers p s t old (pos 0) → OnlyTransfers p s t new (pos 0)
+    only_decided none only =
+        let at_work : OnlyTransfers p s t desk.ledgers (pos 0) = worked old desk.ledgers (pos 0) only (grown_by IsNone old desk.ledgers worked_quietly) (no_commit old desk.ledgers worked_quietly) in
+        let done : OnlyTransfers p s t new (pos 0 +ℤ held_in_doubt p s t desk.ledgers (one.branch ∷ two.branch ∷ []) d) =
+        committed (one.branch ∷ two.branch ∷ []) desk new log later_log d (pos 0) at_work made both_alone zero_sum in
+        subst (λ v. OnlyTransfers p s t new (pos 0 +ℤ v)) (undoubted p s t desk.ledgers (one.branch ∷ two.branch ∷ []) d none) done
+
+  -- ---- any transfer
+
+  only_quiet : (old new : List LedgerView) → HaveSent IsNone old new → OnlyTransfers p s t old (pos 0) → OnlyTransfers p s t new (pos 0)
+  only_quiet old new h only = worked old new (pos 0) only (grown_by IsNone old new h) (no_commit old new h)
+
+  only_one : (n : ℕ) (tr : Transfer) (o : Outcome) (old new : DeskView) → Makes t n tr o old new → IsUndoubted o → Earlier n old.ledgers → Later (n + 1) new.ledgers → OnlyTransfers p s t old.ledgers (pos 0) → OnlyTransfers p s t new.ledgers (pos 0)
+  only_one n tr o old new (with_legs one two legs (decided desk log later d is work made)) fine before after only =
+      only_decided n tr.account one two (legs_are t n tr one two legs) old.ledgers desk new.ledgers log later d work made before after (subst IsUndoubted is fine) only
+  only_one n tr o old new (with_legs one two legs (refused is h)) fine before after only =
+      only_quiet old.ledgers new.ledgers (have_as (IsFor one two) IsNone (λ op f. f.uncommitting) old.ledgers new.ledgers h) only
+  only_one n tr o old new (without_legs is same) fine before after only = subst (λ (q : DeskView). OnlyTransfers p s t q.ledgers (pos 0)) (sym same) only
+
+  only_each : (n : ℕ) (trs : List Transfer) (os : List Outcome) (old new : DeskView) → MakesEach t n trs os old new → All IsUndoubted os → Earlier n old.ledgers → Later (n + length trs) new.ledgers → OnlyTransfers p s t old.ledgers (pos 0) → OnlyTransfers p s t new.ledgers (pos 0)
+  only_each n [] [] old new same fine before after only = subst (λ (q : DeskView). OnlyTransfers p s t q.ledgers (pos 0)) (sym same) only
+  only_each n (tr ∷ trs) (o ∷ os) old new (mid, makes, rest) fine before after only =
+      let later : Later (n + 1) mid.ledgers =
+      have_on (Names t (IsFrom (n + 1))) mid.ledgers new.ledgers final (transfers_name t (n + 1) trs os mid new rest)
+      (have_as (Names t (IsFrom (n + suc (length trs)))) (Names t (IsFrom (n + 1))) (names_as t (IsFrom (n + suc (length trs))) (IsFrom (n + 1)) (λ k le. omega (arith, le))) new.ledgers final after) in
+      only_each (n + 1) trs os mid new rest (All-tail IsUndoubted o os fine) (earlier_on n old.ledgers mid.ledgers before (transfer_names t n tr o old mid makes))
+      (subst (λ k. Later k new.ledgers) (let e : n + suc (length trs) ≡ n + 1 + length trs = omega arith in e) after)
+      (only_one n tr o old mid makes (All-head IsUndoubted o os fine) before later only)
+  only_each n trs os old new h fine before after only = absurd h
+
+  -- ---- all that the thread did
+
+  opens_name : (op : Op) → IsOpenRm op → Names t (IsBelow 0) op
+  opens_name op is = record { each = λ x e. let z : false ≡ true = sym (ap (λ o. names x o) is) ∙ e in cc }
+
+  pub only_transfers : (trs : List Transfer) (os : List Outcome) (begun last : DeskView) → begun.thread ≡ t → NothingWasSent begun.ledgers → MakesAll trs os begun last → All IsUndoubted os
+      → HaveSent (λ op. ⊥) last.ledgers final → OnlyTransfers p s t final (pos 0)
+  only_transfers trs os begun last thread nothing all fine end =
+      let opening_ : DeskView = all.opened in
+      let makes : MakesEach t 0 trs os opening_ last = subst (λ u. MakesEach u 0 trs os opening_ last) thread all.makes in
+      let quiet : HaveSent IsNone begun.ledgers opening_.ledgers = have_as IsOpenRm IsNone (λ op is. ap is_commit is) begun.ledgers opening_.ledgers all.opens in
+      let before : Earlier 0 opening_.ledgers = λ m positive.
+      let z = all.opens m positive in
+      subst (All (Names t (IsBelow 0))) (sym (z.sent ∙ ap (λ l. l ++ z.more) (nothing m positive))) (All-weaker IsOpenRm (Names t (IsBelow 0)) opens_name z.more z.each) in
+      only_quiet last.ledgers final (have_as (λ op. ⊥) IsNone (λ op never. absurd never) last.ledgers final end)
+      (only_each 0 trs os opening_ last makes fine before (have_as (λ op. ⊥) (Names t (IsFrom (0 + length trs))) (λ op never. absurd never) last.ledgers final end)
+      (only_quiet begun.ledgers opening_.ledgers quiet (opened begun.ledgers nothing)))
+
+-- ---- what such a thread names
+
+opens_any : (t : ℕ) (op : Op) → IsOpenRm op → Names t IsAny op
+opens_any t op is = record { each = λ x e. let z : false ≡ true = sym (ap (λ o. names x o) is) ∙ e in cc }
+
+pub all_told : (s : Settling) (t : ℕ) (trs : List Transfer) (os : List Outcome) (begun last : DeskView) → begun.thread ≡ t → NothingWasSent begun.ledgers → MakesAll trs os begun last
+    → HaveSent (λ op. ⊥) last.ledgers (ledgers_of s t) → (m : ℕ) → 1 ≤ m → All (Names t IsAny) (sent s t m)
+all_told s t trs os begun last thread nothing all end m positive =
+    let final : List LedgerView = ledgers_of s t in
+    let makes : MakesEach t 0 trs os all.opened last = subst (λ u. MakesEach u 0 trs os all.opened last) thread all.makes in
+    let z =
+    have_on (Names t IsAny) begun.ledgers last.ledgers final
+    (have_on (Names t IsAny) begun.ledgers all.opened.ledgers last.ledgers (have_as IsOpenRm (Names t IsAny) (opens_any t) begun.ledgers all.opened.ledgers all.opens)
+    (have_as (Names t (IsFrom 0)) (Names t IsAny) (names_as t (IsFrom 0) IsAny (λ k e. tt)) all.opened.ledgers last.ledgers (transfers_name t 0 trs os all.opened last makes)))
+    (have_as (λ op. ⊥) (Names t IsAny) (λ op never. absurd never) last.ledgers final end) m positive in
+    subst (All (Names t IsAny)) (sym (by_ledger final m (λ (a : LedgerView). a.sent) positive refl ∙ z.sent ∙ ap (λ l. l ++ z.more) (nothing m positive))) z.each

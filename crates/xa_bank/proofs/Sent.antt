@@ -1,0 +1,145 @@
+-- Which requests were sent since: what is done one after the other, and what a request or a collection adds.
+use Rattle.std.proofs.Common.{◌≡◌, ℕ, zero, suc, ◌-◌, ◌≤◌, ◌⊎◌, Bool, true, false, ℤ, pos, negsuc, List, [], ◌∷◌, ◌++◌, length, get_or, set, append_assoc, sym, refl, ap, ◌∙◌, subst, inl, inr, arith}
+use Rattle.std.proofs.lemmas.List.{append-nil, get_or-set_same, get_or-set_other}
+use Rattle.std.proofs.lemmas.List.Elements.{All-nil, All-cons, All-append, All-weaker}
+use Rattle.std.proofs.lemmas.Bool.{cases_lt, cases_eq}
+use Rattle.xa_base.proofs.Lists.{same_begins, begins_on}
+use Rattle.xa_words.specs.Xid.{XidName, xid_eq}
+use Rattle.xa_words.specs.Orders.{Decides-xid_eq}
+use Rattle.xa_words.specs.declared.code.Code.{Code}
+use Rattle.xa_words.specs.declared.request.Op.{Op}
+use Rattle.xa_words.specs.declared.request.Op.TheVariants.{Start, Add, End, Rollback}
+use Rattle.xa_words.specs.declared.request.StartHow.TheVariants.{Fresh}
+use Rattle.xa_words.specs.declared.request.EndHow.TheVariants.{Success}
+use Rattle.xa_tables.specs.Prepared.{names}
+use Rattle.xa_desk.specs.declared.operation.Operation.{Operation}
+use Rattle.xa_desk.specs.LedgerView.{LedgerView, with_sent, with_collected}
+use Rattle.xa_desk.specs.DeskView.{DeskView, ledger, no_ledger, put_ledger, after_sent, after_collected}
+use Rattle.xa_switch.specs.Putting.{Puts}
+use Rattle.xa_switch.specs.Putting.Puts.{refused, full, kept, answered}
+use Rattle.xa_switch.proofs.Kept.{fulls_ledgers}
+use Rattle.xa_driver.specs.Commits.{is_commit}
+use Rattle.xa_bank.specs.declared.teller.Leg.{Leg}
+use Rattle.xa_bank.specs.declared.teller.Flight.{Flight}
+use Rattle.xa_bank.specs.Requests.{StaysSo, PutsOp, IsCollected, CollectsOp, done, undone, nothing, BeginsLeg, EndsLeg}
+use Rattle.xa_bank.specs.Transfers.{HasSent, HaveSent, IsFor}
+
+-- ---- one ledger
+
+pub none_sent : (P : Op → Type 0) (a : LedgerView) → HasSent P a a
+none_sent P a = record { more = []; sent = sym (append-nil a.sent); each = All-nil P; collected = same_begins a.collected }
+
+pub sent_on : (P : Op → Type 0) (a b c : LedgerView) → HasSent P a b → HasSent P b c → HasSent P a c
+sent_on P a b c p q = record {
+  more = p.more ++ q.more;
+  sent = q.sent ∙ ap (λ l. l ++ q.more) p.sent ∙ append_assoc a.sent p.more q.more;
+  each = All-append P p.more q.more p.each q.each;
+  collected = begins_on a.collected b.collected c.collected p.collected q.collected;
+}
+
+pub sent_as : (P Q : Op → Type 0) → ((op : Op) → P op → Q op) → (a a' : LedgerView) → HasSent P a a' → HasSent Q a a'
+sent_as P Q also a a' h = record { more = h.more; sent = h.sent; each = All-weaker P Q also h.more h.each; collected = h.collected }
+
+-- ---- all ledgers
+
+pub have_none : (P : Op → Type 0) (old new : List LedgerView) → new ≡ old → HaveSent P old new
+have_none P old new same = subst (HaveSent P old) (sym same) (λ m _. none_sent P (ledger old m))
+
+pub have_on : (P : Op → Type 0) (old mid new : List LedgerView) → HaveSent P old mid → HaveSent P mid new → HaveSent P old new
+have_on P old mid new p q = λ m positive. sent_on P (ledger old m) (ledger mid m) (ledger new m) (p m positive) (q m positive)
+
+pub have_as : (P Q : Op → Type 0) → ((op : Op) → P op → Q op) → (old new : List LedgerView) → HaveSent P old new → HaveSent Q old new
+have_as P Q also old new h = λ m positive. sent_as P Q also (ledger old m) (ledger new m) (h m positive)
+
+-- a ledger is put in the place of another
+put_each : (R : LedgerView → LedgerView → Type 0) → ((a : LedgerView) → R a a) → (at : List LedgerView) (m : ℕ) (a : LedgerView) → R (ledger at m) a → (n : ℕ) → R (ledger at n) (ledger (put_ledger at m a) n)
+put_each R same at m a g n = elim (cases_eq (n - 1) (m - 1)) [
+  | inl here ↦ elim (cases_lt (m - 1) (length at)) [
+    | inl below ↦ subst (λ k. R (get_or at k no_ledger) (get_or (put_ledger at m a) k no_ledger)) (sym here)
+        (subst (R (ledger at m)) (sym (get_or-set_same at (m - 1) a no_ledger below)) g)
+    | inr past ↦ subst (λ (l : List LedgerView). R (ledger at n) (ledger l n)) (sym (unset at (m - 1) past)) (same (ledger at n))
+  ]
+  | inr other ↦ subst (R (ledger at n)) (sym (get_or-set_other at (m - 1) (n - 1) a no_ledger other)) (same (ledger at n))
+]
+  where
+    unset : (l : List LedgerView) (k : ℕ) → length l ≤ k → set l k a ≡ l
+    unset [] k h = refl
+    unset (x ∷ l) zero h = absurd (omega arith)
+    unset (x ∷ l) (suc k) h = ap (λ r. x ∷ r) (unset l k (omega arith))
+
+pub one_sent : (P : Op → Type 0) (at : List LedgerView) (m : ℕ) (op : Op) → P op → HaveSent P at (after_sent at m op)
+one_sent P at m op so = λ n _.
+    put_each (HasSent P) (none_sent P) at m (with_sent (ledger at m) op)
+    (record { more = op ∷ []; sent = refl; each = All-cons P op [] so (All-nil P); collected = same_begins (ledger at m).collected }) n
+
+pub one_collected : (P : Op → Type 0) (at : List LedgerView) (o : Operation) (c : Code) → HaveSent P at (after_collected at o c)
+one_collected P at o c = λ n _.
+    put_each (HasSent P) (none_sent P) at o.manager (with_collected (ledger at o.manager) o.number c)
+    (record { more = []; sent = sym (append-nil (ledger at o.manager).sent); each = All-nil P; collected = ((o.number, c) ∷ [], refl) }) n
+
+-- ---- calls
+
+stayed : (P : Op → Type 0) (old new : DeskView) → StaysSo old new → HaveSent P old.ledgers new.ledgers
+stayed P old new s = have_none P old.ledgers new.ledgers s.ledgers
+
+put_sent : (P : Op → Type 0) (m : ℕ) (op : Op) (z : ℤ) (old new : DeskView) → P op → PutsOp m op z old new → HaveSent P old.ledgers new.ledgers
+put_sent P m op (pos zero) old new so s = stayed P old new s
+put_sent P m op (pos (suc k)) old new so p = subst (HaveSent P old.ledgers) (sym p.ledgers) (one_sent P old.ledgers m op so)
+put_sent P m op (negsuc k) old new so s = stayed P old new s
+
+got_sent : (P : Op → Type 0) (k : ℕ) (c : Code) (old new : DeskView) → IsCollected k c old new → HaveSent P old.ledgers new.ledgers
+got_sent P k c old new i = subst (HaveSent P old.ledgers) (sym i.ledgers) (one_collected P old.ledgers i.operation c)
+
+collect_sent : (P : Op → Type 0) (handle : ℤ) (ok : Bool) (old new : DeskView) → CollectsOp handle ok old new → HaveSent P old.ledgers new.ledgers
+collect_sent P handle ok old new (done k is positive said i) = got_sent P k _ old new i
+collect_sent P handle ok old new (undone k c is unsaid i) = got_sent P k c old new i
+collect_sent P handle ok old new (nothing unsaid s) = stayed P old new s
+
+-- a synchronous call
+pub call_sent : (P : Op → Type 0) (m : ℕ) (op : Op) (answer : ℤ) (old new : DeskView) → P op → Puts old m (record { op = op; asynchronous = false }) new answer → HaveSent P old.ledgers new.ledgers
+call_sent P m op answer old new so (refused c why is same) = have_none P old.ledgers new.ledgers (ap (λ (d : DeskView). d.ledgers) same)
+call_sent P m op answer old new so (full none now is same) = cc
+call_sent P m op answer old new so (kept none now k is free same) = cc
+call_sent P m op answer old new so (answered none now n c is collects) =
+    let at : List LedgerView = old.ledgers in
+    let sending : collects.before.ledgers ≡ after_sent at m op =
+    ap (λ (d : DeskView). d.ledgers) collects.looks.rest ∙ ap (λ (l : List LedgerView). after_sent l m op) (fulls_ledgers n old m) in
+    let o : Operation = record { manager = m; number = length (ledger at m).sent } in
+    let all : new.ledgers ≡ after_collected (after_sent at m op) o c =
+    ap (λ (d : DeskView). d.ledgers) collects.collected ∙ ap (λ (l : List LedgerView). after_collected l o c) sending in
+    subst (HaveSent P at) (sym all) (have_on P at (after_sent at m op) (after_collected (after_sent at m op) o c) (one_sent P at m op so) (one_collected P (after_sent at m op) o c))
+
+-- ---- the requests for a leg
+
+begins_sent : (P : Op → Type 0) (leg : Leg) (k : List ℕ) (f : Flight) (old new : DeskView) → P (Start leg.branch.xid Fresh) → P (Add k leg.delta) → P (End leg.branch.xid Success) → BeginsLeg leg k f old new → HaveSent P old.ledgers new.ledgers
+begins_sent P leg k f old new starts adds ends b =
+    have_on P old.ledgers b.added.ledgers new.ledgers
+    (have_on P old.ledgers b.begun.ledgers b.added.ledgers (put_sent P leg.branch.m (Start leg.branch.xid Fresh) f.start old b.begun starts b.starts) (put_sent P leg.branch.m (Add k leg.delta) f.add b.begun b.added adds b.adds))
+    (put_sent P leg.branch.m (End leg.branch.xid Success) f.end b.added new ends b.ends)
+
+pub ends_sent : (P : Op → Type 0) (f : Flight) (ok : Bool) (old new : DeskView) → EndsLeg f ok old new → HaveSent P old.ledgers new.ledgers
+ends_sent P f ok old new e =
+    have_on P old.ledgers e.two.ledgers new.ledgers
+    (have_on P old.ledgers e.one.ledgers e.two.ledgers (collect_sent P f.start e.started old e.one e.starts) (collect_sent P f.add e.added e.one e.two e.adds))
+    (collect_sent P f.end e.ended e.two new e.ends)
+
+-- the leg's branch is that of one of these
+abbrev pub IsOneOf : Leg → Leg → Leg → Type 0
+IsOneOf one two leg = (leg.branch.xid ≡ one.branch.xid) ⊎ (leg.branch.xid ≡ two.branch.xid)
+
+-- a request that names this branch alone
+is_for : (one two leg : Leg) (op : Op) → IsOneOf one two leg → is_commit op ≡ false → ((y : XidName) → names y op ≡ true → xid_eq leg.branch.xid y ≡ true) → IsFor one two op
+is_for one two leg op of_one uncommitting named = record {
+  uncommitting = uncommitting;
+  named = λ y e. subst (λ (z : XidName). (z ≡ one.branch.xid) ⊎ (z ≡ two.branch.xid)) ((Decides-xid_eq leg.branch.xid y).0 (named y e)) of_one;
+}
+
+pub leg_begins : (one two leg : Leg) → IsOneOf one two leg → (k : List ℕ) (f : Flight) (old new : DeskView) → BeginsLeg leg k f old new → HaveSent (IsFor one two) old.ledgers new.ledgers
+leg_begins one two leg of_one k f old new b =
+    begins_sent (IsFor one two) leg k f old new
+    (is_for one two leg (Start leg.branch.xid Fresh) of_one refl (λ y e. e))
+    (record { uncommitting = refl; named = λ y e. cc })
+    (is_for one two leg (End leg.branch.xid Success) of_one refl (λ y e. e)) b
+
+pub rolls_back : (one two leg : Leg) → IsOneOf one two leg → IsFor one two (Rollback leg.branch.xid)
+rolls_back one two leg of_one = is_for one two leg (Rollback leg.branch.xid) of_one refl (λ y e. e)

@@ -1,0 +1,112 @@
+-- What a transfer does to its teller's desk.
+use Rattle.std.specs.Prelude.{◌≡◌, ◌≢◌, ℕ, ◌+◌, ◌*◌, ◌^◌, ◌≤◌, ◌<◌, ◌⊎◌, ℤ, pos, neg_ℤ, true, false, List, []}
+use Rattle.std.specs.Prelude.{◌∷◌, ◌++◌, length}
+use Rattle.std.specs.List.{All}
+use Rattle.std.specs.Int.{w64, to_be_bytes}
+use Rattle.xa_base.specs.Lists.{Begins}
+use Rattle.xa_words.specs.Xid.{XidName}
+use Rattle.xa_words.specs.declared.code.Code.TheVariants.{Done as Ok_}
+use Rattle.xa_words.specs.declared.request.Op.{Op}
+use Rattle.xa_words.specs.declared.request.Op.TheVariants.{OpenRm, Start, Add, End}
+use Rattle.xa_words.specs.declared.request.StartHow.TheVariants.{Fresh}
+use Rattle.xa_words.specs.declared.request.EndHow.TheVariants.{Success}
+use Rattle.xa_tables.specs.Prepared.{names}
+use Rattle.xa_desk.specs.LedgerView.{LedgerView}
+use Rattle.xa_desk.specs.DeskView.{DeskView, IsKnown, ledger}
+use Rattle.xa_driver.specs.declared.done.Done.{Done}
+use Rattle.xa_driver.specs.Commits.{is_commit}
+use Rattle.xa_driver.specs.Log.{LogState}
+use Rattle.xa_driver.specs.Trace.{IsCommit}
+use Rattle.xa_bank.specs.declared.teller.Leg.{Leg}
+use Rattle.xa_bank.specs.declared.teller.Transfer.{Transfer}
+use Rattle.xa_bank.specs.declared.teller.Outcome.{Outcome}
+use Rattle.xa_bank.specs.declared.teller.Outcome.TheVariants.{Decided, Refused}
+
+-- ---- what was sent
+
+-- since then only such requests were sent to the manager, and what was collected stays
+pub record HasSent (P : Op → Type 0) (a a' : LedgerView) : Type 0 where
+  pub more : List Op
+  pub sent : a'.sent ≡ a.sent ++ more
+  pub each : All P more
+  pub collected : Begins a.collected a'.collected
+
+-- so for every manager
+abbrev pub HaveSent : (Op → Type 0) → List LedgerView → List LedgerView → Type 0
+HaveSent P old new = (m : ℕ) → 1 ≤ m → HasSent P (ledger old m) (ledger new m)
+
+-- the request opens a manager
+abbrev pub IsOpenRm : Op → Type 0
+IsOpenRm op = op ≡ OpenRm
+
+-- the request is no Commit, and names no other branch than one of these legs
+pub record IsFor (one two : Leg) (op : Op) : Type 0 where
+  pub uncommitting : is_commit op ≡ false
+  pub named : (x : XidName) → names x op ≡ true → (x ≡ one.branch.xid) ⊎ (x ≡ two.branch.xid)
+
+-- the legs are at two stores, which are known
+pub record AreApart (one two : Leg) (at : List LedgerView) : Type 0 where
+  pub first : IsKnown at one.branch.m
+  pub second : IsKnown at two.branch.m
+  pub apart : one.branch.m ≢ two.branch.m
+
+-- ---- the legs of a transfer
+
+-- the gtrid of thread t's transfer of number n: a number for both, in 8 bytes
+abbrev pub gtrid_of : ℕ → ℕ → List ℕ
+gtrid_of t n = to_be_bytes w64 (t * 2 ^ 32 + n)
+
+-- the leg adds d at store m, by a branch of this global transaction
+pub record IsLeg (gtrid : List ℕ) (m : ℕ) (d : ℤ) (leg : Leg) : Type 0 where
+  pub store : leg.branch.m ≡ m
+  pub gtrid_ : leg.branch.xid.gtrid ≡ gtrid
+  pub adds : leg.delta ≡ d
+
+-- the legs of thread t's transfer of number n, by rising store: one store pays the amount, and the other is paid it
+pub data AreLegs (t n : ℕ) (tr : Transfer) (one two : Leg) : Type 0 where
+  pays_first : n < 2 ^ 32 → tr.from < tr.to → IsLeg (gtrid_of t n) tr.from (neg_ℤ (pos tr.amount)) one
+      → IsLeg (gtrid_of t n) tr.to (pos tr.amount) two → AreLegs t n tr one two
+  paid_first : n < 2 ^ 32 → tr.to < tr.from → IsLeg (gtrid_of t n) tr.to (pos tr.amount) one
+      → IsLeg (gtrid_of t n) tr.from (neg_ℤ (pos tr.amount)) two → AreLegs t n tr one two
+
+-- ---- what becomes of a transfer
+
+-- The leg's work was done: its start, its addition to account k and its end were sent to its store, one after the
+-- other, and each was collected with XA_OK.
+pub record HasWorked (leg : Leg) (k : List ℕ) (a a' : LedgerView) : Type 0 where
+  pub sent : a'.sent
+      ≡ a.sent ++ Start leg.branch.xid Fresh ∷ Add k leg.delta ∷ End leg.branch.xid Success ∷ []
+  pub collected : a'.collected
+      ≡ a.collected ++ (length a.sent, Ok_) ∷ (length a.sent + 1, Ok_) ∷ (length a.sent + 2, Ok_) ∷ []
+
+-- so for both legs, and nothing else was done
+pub record HaveWorked (one two : Leg) (k : List ℕ) (old new : List LedgerView) : Type 0 where
+  pub one_ : HasWorked one k (ledger old one.branch.m) (ledger new one.branch.m)
+  pub two_ : HasWorked two k (ledger old two.branch.m) (ledger new two.branch.m)
+  pub others : (m : ℕ) → 1 ≤ m → m ≢ one.branch.m → m ≢ two.branch.m → ledger new m ≡ ledger old m
+
+-- What comes of two legs: both worked, and a commit of both branches was made and decided so; or the transfer is
+-- refused, and only requests for its branches were sent, no Commit among them.
+pub data Transfers (one two : Leg) (k : List ℕ) (o : Outcome) (old new : DeskView) : Type 0 where
+  decided : (worked : DeskView) (log later : LogState) (done : Done) → o ≡ Decided done
+      → HaveWorked one two k old.ledgers worked.ledgers
+      → IsCommit (one.branch ∷ two.branch ∷ []) worked new.ledgers log later done → Transfers one two k o old new
+  refused : o ≡ Refused → HaveSent (IsFor one two) old.ledgers new.ledgers → Transfers one two k o old new
+
+-- What comes of thread t's transfer of number n: that of its legs; or it has none, and nothing is done.
+pub data Makes (t n : ℕ) (tr : Transfer) (o : Outcome) (old new : DeskView) : Type 0 where
+  with_legs : (one two : Leg) → AreLegs t n tr one two → Transfers one two tr.account o old new → Makes t n tr o old new
+  without_legs : o ≡ Refused → new ≡ old → Makes t n tr o old new
+
+-- so for one transfer after the other, with numbers from n on
+abbrev pub MakesEach : ℕ → ℕ → List Transfer → List Outcome → DeskView → DeskView → Type 0
+MakesEach t n [] [] old new = new ≡ old
+MakesEach t n (tr ∷ trs) (o ∷ os) old new =
+    (mid : DeskView) × Makes t n tr o old mid × MakesEach t (n + 1) trs os mid new
+MakesEach t n trs os old new = ⊥
+
+-- the thread opened stores, and then made these transfers
+pub record MakesAll (trs : List Transfer) (os : List Outcome) (old new : DeskView) : Type 0 where
+  pub opened : DeskView
+  pub opens : HaveSent IsOpenRm old.ledgers opened.ledgers
+  pub makes : MakesEach old.thread 0 trs os opened new

@@ -1,0 +1,5 @@
+//! Tests of crews, over the public surface of xa_crew.
+#![tactic(auto)]
+
+#[cfg(test)]
+mod tests;

@@ -1,0 +1,223 @@
+//! A manager that one thread shuts while another one puts requests to it.
+ghost use Rattle.std.specs.Prelude.{◌≡◌};
+ghost use Rattle.xa_desk.specs.GoesOn.{GoesOn};
+ghost use Rattle.xa_desk.specs.Kept.{AllKept};
+
+use super::plan_of;
+use std::sync::Wait;
+use xa_crew::{Client, run_clients};
+use xa_desk::laws::desks_go_on;
+use xa_desk::{Desk, Spin};
+use xa_switch::{Plan, RmOp, native, xa_call, xa_complete};
+use xa_words::{Call, Code, Op, Request, TMASYNC, TMMULTIPLE, TMNOFLAGS, Xid};
+use xa_worker::Free;
+
+// How many requests the asking thread sends at most, and how many handles it has.
+const MOST: usize = 100;
+
+const HANDLES: usize = 4;
+
+// Which handles are of operations that nobody has collected; place 0 is of none.
+type Open = [bool; HANDLES + 1];
+
+// Marks a handle. False where it is none, or is marked so already: then it was given or collected twice.
+fn mark(open: &mut Open, handle: i32, is_open: bool) -> bool {
+    let place = usize::try_from(handle).unwrap_or(0);
+    match open.get_mut(place) {
+        Some(mark) if *mark != is_open => {
+            *mark = is_open;
+            true
+        }
+        _ => false,
+    }
+}
+
+// Collects one operation. False where there is none, or it is one that was collected before.
+fn collects<R: Wait>(rt: &R, desk: &mut Desk, open: &mut Open) -> bool
+    ensures goes_on { GoesOn desk.old desk.new }
+    ensures kept { AllKept desk.old → AllKept desk.new }
+{
+    let (mut handle, mut retval) = (0, 55);
+    let mut spin = Spin::new();
+    let answer = xa_complete(rt, desk, &mut handle, &mut retval, 1, TMMULTIPLE, &mut spin);
+    answer == 0 && mark(open, handle, false)
+}
+
+// What came of a request.
+#[derive(Clone, Copy, PartialEq, Eq)]
+enum Put {
+    Sent,
+    // No handle was free, or the queue was full.
+    Busy,
+    Shut,
+    // The handle stands for another operation.
+    Wrong,
+}
+
+// Puts a request of the given number to the manager. An even one opens it, and an odd one asks it to
+// prepare a branch that isn't there, so that requests which aren't late have two codes.
+fn puts<R: Wait>(rt: &R, desk: &mut Desk, number: usize, open: &mut Open) -> Put
+    ensures goes_on { GoesOn desk.old desk.new }
+    ensures kept { AllKept desk.old → AllKept desk.new }
+{
+    let call = if number % 2 == 0 {
+        Call::OpenRm
+    } else {
+        Call::Prepare
+    };
+    let branch = Xid::new(1, b"g", b"1").ok();
+    let mut spin = Spin::new();
+    let answer = xa_call(rt, desk, call, branch, 1, TMASYNC, &mut spin);
+    if answer == Code::Async.value() {
+        Put::Busy
+    } else if answer == Code::RmFail.value() {
+        Put::Shut
+    } else if mark(open, answer, true) {
+        Put::Sent
+    } else {
+        Put::Wrong
+    }
+}
+
+// Sends up to 100 requests, until one is refused because the manager is shut. It collects where it may
+// not send. How many were sent, and whether each handle was collected once.
+fn ask<R: Wait>(rt: &R, desk: &mut Desk) -> (usize, bool)
+    ensures goes_on { GoesOn desk.old desk.new }
+    ensures kept { AllKept desk.old → AllKept desk.new }
+{
+    desks_go_on();
+    let mut open = [false; HANDLES + 1];
+    let (mut sent, mut is_well) = (0usize, true);
+    // Each request is sent once and collected once, and one is refused at last.
+    'asks: for _turn in 0..2 * MOST + 1 {
+        if sent == MOST {
+            break;
+        }
+        match puts(rt, desk, sent, &mut open) {
+            Put::Sent => sent = sent.saturating_add(1),
+            Put::Busy => is_well &= collects(rt, desk, &mut open),
+            Put::Shut => break,
+            Put::Wrong => is_well = false,
+        }
+    }
+    'rest: for _handle in 0..HANDLES {
+        collects(rt, desk, &mut open);
+    }
+    let is_empty = !collects(rt, desk, &mut open) && !open.contains(&true);
+    (
+        sent,
+        is_well && is_empty && (sent == MOST || desk.learnt_shut(1)),
+    )
+}
+
+fn opens<R: Wait>(rt: &R, desk: &mut Desk) -> i32
+    ensures goes_on { GoesOn desk.old desk.new }
+    ensures kept { AllKept desk.old → AllKept desk.new }
+{
+    xa_call(rt, desk, Call::OpenRm, None, 1, TMNOFLAGS, &mut Spin::new())
+}
+
+fn shuts<R: Wait>(rt: &R, desk: &mut Desk) -> i32
+    ensures goes_on { GoesOn desk.old desk.new }
+    ensures kept { AllKept desk.old → AllKept desk.new }
+{
+    native(rt, desk, RmOp::Shut, 1, TMNOFLAGS, &mut Spin::new())
+}
+
+// Shuts the manager after so many calls, each of which is answered. The second Shut is late, and the third
+// isn't sent.
+fn shut<R: Wait>(rt: &R, desk: &mut Desk, calls: u32) -> bool
+    ensures goes_on { GoesOn desk.old desk.new }
+    ensures kept { AllKept desk.old → AllKept desk.new }
+{
+    desks_go_on();
+    let mut is_well = true;
+    for _call in 0..calls {
+        is_well &= opens(rt, desk) == 0;
+    }
+    let first = shuts(rt, desk);
+    let was_learnt = desk.learnt_shut(1);
+    let second = shuts(rt, desk);
+    let is_learnt = desk.learnt_shut(1);
+    let third = shuts(rt, desk);
+    let late = Code::RmFail.value();
+    is_well & (first == 0) & !was_learnt & (second == late) & is_learnt & (third == late)
+}
+
+// A thread that shuts the manager after so many calls, or else one that asks it: how many requests it sent, and
+// whether all was answered as it has to be.
+#[derive(Drop)]
+struct Racer {
+    shuts_after: Option<u32>,
+    sent: usize,
+    is_well: bool,
+}
+
+impl Racer {
+    fn new(shuts_after: Option<u32>) -> Racer {
+        Racer {
+            shuts_after,
+            sent: 0,
+            is_well: false,
+        }
+    }
+}
+
+impl Client for Racer {
+    ghost works = { λ client desk client' desk'. Unit {0} };
+
+    fn work<R: Wait>(&mut self, rt: &R, desk: &mut Desk) {
+        match self.shuts_after {
+            Some(calls) => self.is_well = shut(rt, desk, calls),
+            None => (self.sent, self.is_well) = ask(rt, desk),
+        }
+    }
+}
+
+// After the first Shut each code is XAER_RMFAIL, and no other is.
+fn is_shut_once(journal: &[(Request, Code)]) -> bool {
+    let mut is_shut = false;
+    for (request, code) in journal {
+        if is_shut != matches!(code, Code::RmFail) {
+            return false;
+        }
+        is_shut = is_shut || matches!(request.op, Op::Shut);
+    }
+    is_shut
+}
+
+#[test]
+fn requests_race_with_a_shut(rt: HostRuntime) {
+    let alloc = rt.alloc();
+    for calls in [0, 1, 5, 20, 60] {
+        let plan = Plan {
+            handles: HANDLES as u32,
+            requests: 128,
+            ..plan_of(&rt, alloc, 2)
+        };
+        let racers = [Racer::new(None), Racer::new(Some(calls))];
+        let (Ok(clients), Ok(paces)) = (
+            Vec::from_array(alloc, racers),
+            Vec::from_array(alloc, [Free, Free]),
+        ) else {
+            panic!(rt; "memory");
+        };
+        assert_eq!(rt; (plan.threads, plan.managers.len()), (2, 2));
+        let run = run_clients(&rt, alloc, &plan, clients, paces).expect(&rt, "a run");
+        let [asker, shutter] = run.clients.as_slice() else {
+            panic!(rt; "two clients");
+        };
+        assert!(rt;
+            asker.client.is_well && shutter.client.is_well,
+            "after {calls} calls"
+        );
+        assert!(rt; asker.outstanding.is_empty() && shutter.outstanding.is_empty());
+        let journal = run.settled.journal(1);
+        assert!(rt; is_shut_once(journal), "after {calls} calls");
+        // The Shut, the late one, and the calls before them.
+        assert_eq!(rt;
+            journal.len(),
+            asker.client.sent.saturating_add(calls as usize + 2)
+        );
+    }
+}

@@ -1,0 +1,100 @@
+//! A manager that is shut before a commit, and at each moment of one.
+use super::{Opened, Workers, branch, plan_of, tells};
+use std::alloc::Global;
+use std::process::Abort;
+use std::sync::Wait;
+use xa_desk::{Desk, Idle};
+use xa_driver::{Done, Ending, MemoryLog, commit_all, may_commit};
+use xa_switch::Plan;
+use xa_words::{Code, Op};
+
+// As it idles for the `at`-th time the second thread puts a Shut to manager 2. Then, as each time, the worker that is
+// waited for does one step.
+#[derive(Drop)]
+struct Shutter {
+    second: Desk,
+    workers: Workers,
+    idled: u32,
+    at: u32,
+}
+
+impl Idle for Shutter {
+    ghost leads_by = { λ manager before after. Unit {0} };
+
+    ghost leads = { λ before after. Unit {0} };
+
+    ghost leads_each = { λ manager x y p. tt };
+
+    ghost leads_start = { λ x. tt };
+
+    ghost leads_chain = { λ x y z p q. tt };
+
+    fn idle<R: Wait>(&mut self, rt: &R, manager: u32) {
+        self.idled = self.idled.saturating_add(1);
+        if self.idled == self.at {
+            if let Ok(ticket) = self.second.submit(rt, 2, Op::Shut) {
+                self.second.keep(ticket);
+            }
+        }
+        self.workers.idle(rt, manager);
+    }
+}
+
+// Commits branches at managers 1 and 2, which both have work to commit, while the manager is shut so.
+fn commit_shut<R: Wait + Abort>(rt: &R, alloc: Global, at: u32) -> Done {
+    let plan = Plan {
+        queue: 4,
+        ..plan_of(rt, alloc, 2)
+    };
+    let mut opened = Opened::of(rt, alloc, &plan);
+    let branches = [branch(rt, 1), branch(rt, 2)];
+    opened.work(rt, &branches[0], &[1]);
+    opened.work(rt, &branches[1], &[1]);
+    let Opened {
+        mut first,
+        second,
+        workers,
+    } = opened;
+    let mut idle = Shutter {
+        second,
+        workers,
+        idled: 0,
+        at,
+    };
+    let mut log = MemoryLog::new(alloc);
+    if !may_commit(&first, &log, &branches) {
+        panic!(rt; "these branches are refused");
+    }
+    commit_all(rt, alloc, &mut first, &mut log, &branches, &mut idle).expect(rt, "memory")
+}
+
+/// The first idle waits for the first vote, and the third for the first Commit, when both are in flight.
+#[test]
+fn a_shut_between_the_phases_leaves_its_manager_in_doubt(rt: HostRuntime) {
+    let votes = [Code::Done, Code::Done];
+    for at in [1, 2] {
+        let done = commit_shut(&rt, rt.alloc(), at);
+        let endings = [Ending::Committed, Ending::InDoubt];
+        tells(&rt, &done, true, true, &votes, &endings);
+    }
+    for at in [3, 4] {
+        let done = commit_shut(&rt, rt.alloc(), at);
+        let endings = [Ending::Committed, Ending::Committed];
+        tells(&rt, &done, true, true, &votes, &endings);
+    }
+}
+
+#[test]
+fn a_shut_before_a_commit_aborts_it(rt: HostRuntime) {
+    let alloc = rt.alloc();
+    let mut opened = Opened::new(&rt, alloc, 2);
+    let branches = [branch(&rt, 1), branch(&rt, 2)];
+    opened.work(&rt, &branches[0], &[1]);
+    opened.work(&rt, &branches[1], &[1]);
+    opened.shut(&rt, 2);
+    let mut log = MemoryLog::new(alloc);
+    let done = opened.commit(&rt, alloc, &mut log, &branches);
+    let votes = [Code::Done, Code::RmFail];
+    let endings = [Ending::RolledBack, Ending::Left(Code::RmFail)];
+    tells(&rt, &done, false, false, &votes, &endings);
+}

@@ -1,0 +1,5 @@
+//! Tests of lanes, over the public surface of xa_lane.
+#![tactic(auto)]
+
+#[cfg(test)]
+mod tests;

@@ -1,0 +1,85 @@
+use std::io;
+use std::io::Write;
+use std::test::Fail;
+use xa_grammar::Declared;
+use xa_session::Answer;
+use xa_transcript::{RunFault, write_transcript};
+use xa_words::Key;
+
+// Takes so many writes, and then fails.
+#[derive(Drop)]
+struct Refusing {
+    writes: usize,
+}
+
+impl Write for Refusing {
+    fn write(&mut self, buf: &[u8]) -> io::Result<usize> {
+        if self.writes == 0 {
+            return Err(io::Error::from(io::ErrorKind::Other));
+        }
+        self.writes -= 1;
+        Ok(buf.len().min(3))
+    }
+
+    fn flush(&mut self) -> io::Result<()> {
+        Ok(())
+    }
+}
+
+#[test]
+fn a_transcript_has_the_answers_and_then_the_values(rt: HostRuntime) -> Result<(), Fail> {
+    let answers = [
+        Answer::Called {
+            line: 2,
+            thread: 1,
+            answer: 0,
+        },
+        Answer::Completed {
+            line: 3,
+            thread: 2,
+            handle: 4,
+            retval: -3,
+        },
+        Answer::Turned {
+            line: 5,
+            step: xa_worker::Step::Empty,
+        },
+        Answer::Called {
+            line: 100_000,
+            thread: 8,
+            answer: -6,
+        },
+        Answer::Ended {
+            thread: 8,
+            handle: 32,
+            retval: 103,
+        },
+    ];
+    let key = Key::new(b"a1").ok_or("key")?;
+    let values = [Declared {
+        manager: 1,
+        key,
+        value: 70,
+    }];
+    let mut out = Vec::new(rt.alloc());
+    write_transcript(rt.alloc(), &answers, &values, &mut out)?;
+    assert_eq!(rt;
+        out.as_slice(),
+        b"2 1 0\n3 2 0 handle 4 retval -3\n5 turn empty\n100000 8 -6\n\
+        end 8 handle 32 retval 103\nvalue 1 a1 70\n"
+            .as_slice()
+    );
+    for writes in 0..5 {
+        let mut writer = Refusing { writes };
+        let written = write_transcript(rt.alloc(), &answers, &values, &mut writer);
+        assert_eq!(rt; written, Err(RunFault::Write), "after {writes} writes");
+    }
+    Ok(())
+}
+
+#[test]
+fn the_faults_of_a_run_have_their_texts(rt: HostRuntime) -> Result<(), Fail> {
+    let texts = format!(in rt.alloc(); "{}, {}", RunFault::Write, RunFault::NoMemory)?;
+    assert_eq!(rt; texts.as_str(), "output failed, out of memory");
+    Ok(())
+}
