@@ -1,5 +1,4 @@
 //! Openings of a switch.
-mod calls;
 mod settling;
 mod sharing;
 mod threads;
