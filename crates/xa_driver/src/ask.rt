@@ -7,7 +7,7 @@ ghost use Rattle.xa_driver.specs.Asks.{CanAsk, AllCanAsk, AreRising, Asks, SameA
 use std::snapshot::Snapshot;
 use std::sync::Wait;
 use xa_desk::laws::desks_go_on;
-use xa_desk::{Desk, Idle, Ticket};
+use xa_desk::{Desk, Idle, Refused, Ticket};
 use xa_words::{Code, Op, Xid};
 
 /// What a manager is asked for a branch, if anything, the code that it answered, and the branch's vote.
@@ -44,10 +44,16 @@ fn submit_waiting<R: Wait, I: Idle>(
     }
     desks_go_on();
     for _ in rt.forever() {
-        if let Ok(ticket) = desk.submit(rt, manager, *op) {
-            return Some(ticket);
+        match desk.submit(rt, manager, *op) {
+            Ok(ticket) => return Some(ticket),
+            Err(why) => match why {
+                Refused::Full => idle.idle(rt, manager),
+                // The manager isn't learnt to be shut, and a commit that may be made has handles and requests left.
+                Refused::NoSuchManager | Refused::Shut | Refused::TooMany | Refused::Spent => {
+                    unreachable!()
+                }
+            },
         }
-        idle.idle(rt, manager);
     }
     unreachable!()
 }

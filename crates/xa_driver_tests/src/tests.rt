@@ -8,6 +8,7 @@ mod endings;
 mod outcomes;
 mod shut;
 mod threads;
+mod told;
 
 use std::alloc::Global;
 use std::process::Abort;

@@ -1,4 +1,4 @@
-//! A manager that is shut before a commit, and at each moment of one.
+//! A manager that is shut at each moment of a commit.
 use super::{Opened, Workers, branch, plan_of, tells};
 use std::alloc::Global;
 use std::process::Abort;
@@ -82,19 +82,4 @@ fn a_shut_between_the_phases_leaves_its_manager_in_doubt(rt: HostRuntime) {
         let endings = [Ending::Committed, Ending::Committed];
         tells(&rt, &done, true, true, &votes, &endings);
     }
-}
-
-#[test]
-fn a_shut_before_a_commit_aborts_it(rt: HostRuntime) {
-    let alloc = rt.alloc();
-    let mut opened = Opened::new(&rt, alloc, 2);
-    let branches = [branch(&rt, 1), branch(&rt, 2)];
-    opened.work(&rt, &branches[0], &[1]);
-    opened.work(&rt, &branches[1], &[1]);
-    opened.shut(&rt, 2);
-    let mut log = MemoryLog::new(alloc);
-    let done = opened.commit(&rt, alloc, &mut log, &branches);
-    let votes = [Code::Done, Code::RmFail];
-    let endings = [Ending::RolledBack, Ending::Left(Code::RmFail)];
-    tells(&rt, &done, false, false, &votes, &endings);
 }

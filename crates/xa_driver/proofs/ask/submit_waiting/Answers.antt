@@ -1,8 +1,52 @@
-use Rattle.std.proofs.Common.{◌≡◌, ◌⊎◌, ⊎_elim, inl, inr, None, Some, refl, ap, ◌∙◌, rules}
-use Rattle.xa_desk.specs.DeskView.{DeskView, submit_refusal}
+use Rattle.std.proofs.Common.{◌≡◌, ◌⊎◌, ⊎_elim, ℕ, ◌<◌, ◌-◌, ◌==◌, true, false, List, length, inl, inr, None, Some, refl, sym, ap, ◌∙◌, subst, arith, rules}
+use Rattle.std.specs.Prelude.{Bool, not, ◌&&◌, ◌||◌, nat_le, nat_lt, if◌then◌else◌}
+use Rattle.std.specs.Option.{option_or}
+use Rattle.std.proofs.lemmas.Bool.{le-leb}
+use Rattle.xa_desk.specs.LedgerView.{LedgerView, learnt_shut}
+use Rattle.xa_desk.specs.DeskView.{DeskView, IsKnown, is_known, ledger, outstanding, reach_refusal, handle_refusal, spent_refusal, submit_refusal}
 use Rattle.xa_desk.specs.Lanes.{after_full}
-use Rattle.xa_driver.specs.Asks.{KeepsDesk}
+use Rattle.xa_desk.specs.declared.refused.Refused.{Refused}
+use Rattle.xa_desk.specs.declared.refused.Refused.TheVariants.{NoSuchManager, Shut, TooMany, Spent, Full}
+use Rattle.xa_driver.specs.Asks.{CanAsk, KeepsDesk}
 use Rattle.xa_driver.proofs.ask.submit_waiting.Goals as goal
+
+known_true : (at : List LedgerView) (m : ℕ) → IsKnown at m → is_known at m ≡ true
+known_true at m known = λ i. le-leb 1 m known.positive i && le-leb m (length at) known.within i
+
+-- the second of two, of which one fails and the first holds
+second_fails : (a b : Bool) → a ≡ true → (a && b) ≡ false → b ≡ false
+second_fails true b holds fails = fails
+second_fails false b holds fails = cc
+
+-- what can be asked of a manager that isn't learnt to be shut isn't refused where a handle is free
+reached : (d : DeskView) (m : ℕ) → IsKnown d.ledgers m → learnt_shut (ledger d.ledgers m) ≡ false → reach_refusal d m ≡ None
+reached d m known open_ =
+    ap (λ b. if not b then Some NoSuchManager else (if learnt_shut (ledger d.ledgers m) then Some Shut else None)) (known_true d.ledgers m known)
+    ∙ ap (λ b. if b then Some Shut else None) open_
+
+has_handle : (d : DeskView) → outstanding d.ledgers < d.handles → handle_refusal d ≡ None
+has_handle d free = let few : nat_le d.handles (outstanding d.ledgers) ≡ false = grind (arith, free) in ap (λ b. if b then Some TooMany else None) few
+
+has_room : (d : DeskView) (m : ℕ) → CanAsk d.ledgers m → spent_refusal d m ≡ None
+has_room d m can =
+    let positive = can.known.positive in
+    let within = can.known.within in
+    let room = can.room in
+    let counted : m == 0 ≡ false = grind (arith, positive) in
+    let known : nat_lt (length d.ledgers) m ≡ false = grind (arith, within) in
+    let left : (ledger d.ledgers m).plan - length (ledger d.ledgers m).sent == 0 ≡ false = grind (arith, room) in
+    ap (λ b. if (if b || nat_lt (length d.ledgers) m then 0 else ((ledger d.ledgers m).plan - length (ledger d.ledgers m).sent)) == 0 then Some Spent else None) counted
+    ∙ ap (λ b. if (if b then 0 else ((ledger d.ledgers m).plan - length (ledger d.ledgers m).sent)) == 0 then Some Spent else None) known
+    ∙ ap (λ b. if b then Some Spent else None) left
+
+allowed : (d : DeskView) (m : ℕ) → CanAsk d.ledgers m → learnt_shut (ledger d.ledgers m) ≡ false → outstanding d.ledgers < d.handles → submit_refusal d m ≡ None
+allowed d m can open_ free = λ i. option_or (reached d m can.known open_ i) (option_or (has_handle d free i) (has_room d m can i))
+
+another : (why : Refused) → why ≡ Full → (why ≡ NoSuchManager) ⊎ ((why ≡ Shut) ⊎ ((why ≡ TooMany) ⊎ (why ≡ Spent))) → ⊥
+another why full (inl e) = cc
+another why full (inr (inl e)) = cc
+another why full (inr (inr (inl e))) = cc
+another why full (inr (inr (inr e))) = cc
 
 pub loop-preserved : goal.loop-preserved
 loop-preserved g c =
@@ -11,8 +55,8 @@ loop-preserved g c =
     let m = c.args.manager in
     let either : (new ≡ now) ⊎ (new ≡ after_full now m) =
     elim (submit_refusal now m) as (λ r. submit_refusal now m ≡ r → (new ≡ now) ⊎ (new ≡ after_full now m)) [
-      | None ↦ λ e. inr (c.in_default.ensures.full e).1
-      | Some why ↦ λ e. inl (c.in_default.ensures.refused why e).1
+      | None ↦ λ e. inr (c.in-Err.ensures.full e).1
+      | Some why ↦ λ e. inl (c.in-Err.ensures.refused why e).1
     ] refl in
     let before : KeepsDesk c.args.desk.now now = c.loop.invariant.keeps in
     record {
@@ -20,8 +64,22 @@ loop-preserved g c =
       finite = search rules;
       unsent = ⊎_elim (λ (e : new ≡ now). ap (λ (d : DeskView). d.ledgers) e) (λ (e : new ≡ after_full now m). ap (λ (d : DeskView). d.ledgers) e) either ∙ c.loop.invariant.unsent;
       keeps = record {
-        goes_on = c.desks_go_on.ensures.further _ _ _ before.goes_on c.in_default.ensures.goes_on;
+        goes_on = c.desks_go_on.ensures.further _ _ _ before.goes_on c.in-Err.ensures.goes_on;
         kept = ⊎_elim (λ (e : new ≡ now). ap (λ (d : DeskView). d.kept) e) (λ (e : new ≡ after_full now m). ap (λ (d : DeskView). d.kept) e) either ∙ before.kept;
       };
       idled = search rules;
     }
+
+pub unreachable-requires : goal.unreachable-requires
+unreachable-requires g c =
+    let now : DeskView = c.loop.desk in
+    let m = c.args.manager in
+    let unsent = c.loop.invariant.unsent in
+    let handles = c.loop.invariant.keeps.goes_on.handles in
+    let before = c.requires.free in
+    let out = ap outstanding unsent in
+    let first = c.args.desk.now.ledgers in
+    let open_ : learnt_shut (ledger first m) ≡ false = second_fails (is_known first m) (learnt_shut (ledger first m)) (known_true first m c.requires.can.known) (sym c.if-learnt_shut.ensures) in
+    let none : submit_refusal now m ≡ None =
+    allowed now m (subst (λ (l : List LedgerView). CanAsk l m) (sym unsent) c.requires.can) (ap (λ l. learnt_shut (ledger l m)) unsent ∙ open_) (omega (arith, before, handles, out)) in
+    another c.in-Err.why (c.in-Err.ensures.full none).0 c.in-NoSuchManager.is
