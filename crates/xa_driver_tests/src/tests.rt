@@ -5,7 +5,6 @@ ghost use Rattle.xa_switch.specs.Seats.{seat_of_worker};
 
 mod appending;
 mod endings;
-mod outcomes;
 mod shut;
 mod threads;
 mod told;
@@ -14,11 +13,9 @@ use std::alloc::Global;
 use std::process::Abort;
 use std::sync::Wait;
 use xa_desk::{Desk, Idle};
-use xa_driver::{
-    Branch, CommitRecord, DecisionLog, Done, Ending, MemoryLog, Yes, commit_all, may_commit,
-};
+use xa_driver::{Branch, Done, Ending, MemoryLog, may_commit};
 use xa_switch::{ManagerPlan, Plan, RmOp, native, open_switch, xa_call};
-use xa_words::{Call, Code, Delta, Key, TMNOFLAGS, TMSUCCESS, Tran, Xid};
+use xa_words::{Call, Code, Delta, Key, TMNOFLAGS, TMSUCCESS, Xid};
 use xa_worker::{Free, Worker};
 
 // The workers of an opening. Each idle lets the one that is waited for, or each, do one step.
@@ -80,11 +77,6 @@ fn branch(rt: &impl Abort, m: u32) -> Branch {
     let digit = [b"12345678"[(m as usize).wrapping_sub(1) & 7]];
     let xid = Xid::new(1, b"t", &digit).expect(rt, "an xid");
     Branch { m, xid }
-}
-
-// A transaction with a gtrid of one byte.
-fn tran(rt: &impl Abort, gtrid: u8) -> Tran {
-    Xid::new(1, &[gtrid], b"1").expect(rt, "an xid").tran()
 }
 
 // A plan of so many managers, each with the one key `a` of value 5, and queues of one place.
@@ -160,26 +152,6 @@ impl Opened {
         }
         self.call(rt, Call::End, branch, TMSUCCESS);
     }
-
-    // The second thread shuts a manager.
-    fn shut<R: Wait + Abort>(&mut self, rt: &R, manager: u32) {
-        let (desk, idle) = (&mut self.second, &mut self.workers);
-        assert_eq!(rt; native(rt, desk, RmOp::Shut, manager, TMNOFLAGS, idle), 0);
-    }
-
-    fn commit<R: Wait + Abort>(
-        &mut self,
-        rt: &R,
-        alloc: Global,
-        log: &mut MemoryLog,
-        branches: &[Branch],
-    ) -> Done {
-        if !may_commit(&self.first, log, branches) {
-            panic!(rt; "these branches are refused");
-        }
-        let idle = &mut self.workers;
-        commit_all(rt, alloc, &mut self.first, log, branches, idle).expect(rt, "memory")
-    }
 }
 
 // Compares all that a commit tells.
@@ -194,108 +166,6 @@ fn tells(
     assert_eq!(rt; (done.commit, done.logged), (commit, logged));
     assert_eq!(rt; done.votes.as_slice(), votes);
     assert_eq!(rt; done.endings.as_slice(), endings);
-}
-
-fn yes(managers: [u8; 8]) -> Yes {
-    managers.map(|manager| manager == 1)
-}
-
-#[test]
-fn a_reader_takes_no_part_in_the_second_phase(rt: HostRuntime) {
-    let alloc = rt.alloc();
-    let mut opened = Opened::new(&rt, alloc, 3);
-    let branches = [branch(&rt, 1), branch(&rt, 2), branch(&rt, 3)];
-    opened.work(&rt, &branches[0], &[-5]);
-    opened.work(&rt, &branches[1], &[]);
-    opened.work(&rt, &branches[2], &[5]);
-    let mut log = MemoryLog::new(alloc);
-    let done = opened.commit(&rt, alloc, &mut log, &branches);
-    let votes = [Code::Done, Code::RdOnly, Code::Done];
-    let endings = [Ending::Committed, Ending::ReadOnly, Ending::Committed];
-    tells(&rt, &done, true, true, &votes, &endings);
-    let record = Some(yes([1, 0, 1, 0, 0, 0, 0, 0]));
-    assert_eq!(rt; log.has(&tran(&rt, b't')), record);
-    assert_eq!(rt; log.has(&tran(&rt, b'u')), None);
-    assert!(rt; !may_commit(&opened.first, &log, &branches));
-    assert_eq!(rt;
-        (
-            opened.first.room(1),
-            opened.first.room(2),
-            opened.first.room(3)
-        ),
-        (10, 12, 10)
-    );
-}
-
-#[test]
-fn read_votes_alone_commit_without_a_record(rt: HostRuntime) {
-    let alloc = rt.alloc();
-    let mut opened = Opened::new(&rt, alloc, 2);
-    let branches = [branch(&rt, 1), branch(&rt, 2)];
-    opened.work(&rt, &branches[0], &[]);
-    opened.work(&rt, &branches[1], &[]);
-    let mut log = MemoryLog::failing_at(alloc, 1);
-    let done = opened.commit(&rt, alloc, &mut log, &branches);
-    let votes = [Code::RdOnly, Code::RdOnly];
-    let endings = [Ending::ReadOnly, Ending::ReadOnly];
-    tells(&rt, &done, true, false, &votes, &endings);
-    assert_eq!(rt; log.failures(), 0);
-    assert_eq!(rt; log.has(&tran(&rt, b't')), None);
-}
-
-#[test]
-fn one_no_vote_rolls_back_all(rt: HostRuntime) {
-    let alloc = rt.alloc();
-    let mut opened = Opened::new(&rt, alloc, 2);
-    let branches = [branch(&rt, 1), branch(&rt, 2)];
-    opened.work(&rt, &branches[0], &[1]);
-    opened.work(&rt, &branches[1], &[-6]);
-    let mut log = MemoryLog::new(alloc);
-    let done = opened.commit(&rt, alloc, &mut log, &branches);
-    let votes = [Code::Done, Code::RbIntegrity];
-    let endings = [Ending::RolledBack, Ending::RolledBack];
-    tells(&rt, &done, false, false, &votes, &endings);
-    assert_eq!(rt; log.has(&tran(&rt, b't')), None);
-    assert_eq!(rt; (opened.first.room(1), opened.first.room(2)), (10, 11));
-}
-
-#[test]
-fn a_failed_append_aborts(rt: HostRuntime) {
-    let alloc = rt.alloc();
-    let mut opened = Opened::new(&rt, alloc, 2);
-    let branches = [branch(&rt, 1), branch(&rt, 2)];
-    opened.work(&rt, &branches[0], &[1]);
-    opened.work(&rt, &branches[1], &[-5]);
-    let mut log = MemoryLog::failing_at(alloc, 1);
-    let done = opened.commit(&rt, alloc, &mut log, &branches);
-    let votes = [Code::Done, Code::Done];
-    let endings = [Ending::RolledBack, Ending::RolledBack];
-    tells(&rt, &done, false, false, &votes, &endings);
-    assert_eq!(rt; log.failures(), 1);
-    assert_eq!(rt; log.has(&tran(&rt, b't')), None);
-}
-
-#[test]
-fn a_manager_that_is_shut_votes_no(rt: HostRuntime) {
-    let alloc = rt.alloc();
-    let mut opened = Opened::new(&rt, alloc, 2);
-    let branches = [branch(&rt, 1), branch(&rt, 2)];
-    opened.work(&rt, &branches[0], &[1]);
-    opened.work(&rt, &branches[1], &[1]);
-    opened.shut(&rt, 2);
-    let mut log = MemoryLog::new(alloc);
-    let votes = [Code::Done, Code::RmFail];
-    let endings = [Ending::RolledBack, Ending::Left(Code::RmFail)];
-    let done = opened.commit(&rt, alloc, &mut log, &branches);
-    tells(&rt, &done, false, false, &votes, &endings);
-    assert!(rt; opened.first.learnt_shut(2));
-    assert_eq!(rt; opened.first.room(2), 11);
-    // Nothing more is sent to it.
-    let votes = [Code::Nota, Code::RmFail];
-    let endings = [Ending::Left(Code::Nota), Ending::Left(Code::RmFail)];
-    let done = opened.commit(&rt, alloc, &mut log, &branches);
-    tells(&rt, &done, false, false, &votes, &endings);
-    assert_eq!(rt; opened.first.room(2), 11);
 }
 
 #[test]
@@ -317,24 +187,4 @@ fn only_sound_lists_of_branches_may_be_committed(rt: HostRuntime) {
     assert!(rt; !may_commit(&opened.first, &log, &falling));
     assert!(rt; !may_commit(&opened.first, &log, &unknown));
     assert!(rt; !may_commit(&opened.first, &log, &strangers));
-}
-
-#[test]
-fn the_second_append_fails(rt: HostRuntime) {
-    let mut log = MemoryLog::failing_at(rt.alloc(), 2);
-    let (first, other) = (tran(&rt, b't'), tran(&rt, b'u'));
-    let managers = yes([1, 1, 0, 0, 0, 0, 0, 0]);
-    let mut append = |tran: Tran| {
-        if log.has(&tran).is_some() {
-            panic!(&rt; "there is a record");
-        }
-        let answer = log.append(&CommitRecord {
-            tran,
-            yes: managers,
-        });
-        (answer.is_ok(), log.failures(), log.has(&tran))
-    };
-    assert_eq!(rt; append(first), (true, 0, Some(managers)));
-    assert_eq!(rt; append(other), (false, 1, None));
-    assert_eq!(rt; append(other), (true, 1, Some(managers)));
 }

@@ -5,7 +5,7 @@ use opened::opened;
 use std::process::Abort;
 use std::sync::Wait;
 use xa_lane::{Receiver, Sender, Taken};
-use xa_words::{Code, Completion, Delta, EndHow, Key, Op, Request, StartHow, Xid};
+use xa_words::{Code, Completion, Op, Request};
 use xa_worker::{Pace, Step, Worker};
 
 // Counts what it is called before.
@@ -132,54 +132,6 @@ fn a_request_without_room_is_held(rt: HostRuntime) {
     step_by(&rt, &mut worker, &mut pace, &[Step::Blocked]);
     assert!(rt; matches!(answers.take(&rt), Taken::Empty));
     assert_eq!(rt; pace.requests, 2);
-}
-
-// Whether the journal has these requests of thread 1, numbered from 0, with the codes of these values.
-fn has_entries(journal: &[(Request, Code)], ops: &[Op], codes: &[i32]) -> bool {
-    let mut number: u32 = 0;
-    for ((entry, op), code) in journal.iter().zip(ops).zip(codes) {
-        if entry.0.thread != 1 || entry.0.number != number || entry.0.op != *op {
-            return false;
-        }
-        if entry.1.value() != *code {
-            return false;
-        }
-        number = number.saturating_add(1);
-    }
-    journal.len() == ops.len() && journal.len() == codes.len()
-}
-
-/// A transfer in two phases; a key that wasn't declared has no value.
-#[test]
-fn the_journal_has_the_codes_and_the_manager_the_values(rt: HostRuntime) {
-    let key = Key::new(b"a").expect(&rt, "a short name");
-    let other = Key::new(b"b").expect(&rt, "a short name");
-    let xid = Xid::new(1, b"g", b"1").expect(&rt, "a short name");
-    let delta = Delta::new(-30).expect(&rt, "within the limit");
-    let (worker, mut asks, _) = opened(&rt, rt.alloc(), &[(key, 100)], 1, 8, 8).expect(
-        &rt, "memory",
-    );
-    let mut sender = asks.pop().expect(&rt, "a sender");
-    let ops = [
-        Op::Prepare(xid),
-        Op::OpenRm,
-        Op::Start(xid, StartHow::Fresh),
-        Op::Add(key, delta),
-        Op::End(xid, EndHow::Success),
-        Op::Prepare(xid),
-        Op::Commit(xid, false),
-    ];
-    ask(&rt, &mut sender, 1, &ops);
-    assert!(rt; sender.finish(&rt).is_ok());
-    let mut pace = Counting { requests: 0 };
-    let done = worker.run(&rt, &mut pace);
-    assert_eq!(rt; (done.number(), done.opening(), done.peers()), (1, 7, 1));
-    assert!(rt; has_entries(done.journal(), &ops, &[-6, 0, 0, 0, 0, 0, 0]));
-    let parts = done.apart();
-    assert_eq!(rt; parts.manager.value(&key), Some(70));
-    assert_eq!(rt; parts.manager.value(&other), None);
-    assert_eq!(rt; (parts.journal.len(), parts.ends.len()), (7, 1));
-    assert_eq!(rt; parts.manager.room(), 1);
 }
 
 /// With the end mark of only one of two threads it goes on.

@@ -6,7 +6,7 @@ use std::sync::Wait;
 use xa_desk::{Desk, Idle};
 use xa_driver::{Branch, Done, Ending, MemoryLog, commit_all, may_commit};
 use xa_switch::xa_call;
-use xa_words::{Call, Code, EndHow, Op, TMFAIL, TMJOIN};
+use xa_words::{Call, Code, EndHow, Op, TMJOIN};
 use xa_worker::{Free, Step, Worker};
 
 // Has a worker do all that there is.
@@ -140,19 +140,6 @@ fn a_yes_vote_of_a_branch_that_another_thread_ends_is_left(rt: HostRuntime) {
 }
 
 #[test]
-fn a_branch_at_which_another_thread_works_votes_no_and_is_left(rt: HostRuntime) {
-    let alloc = rt.alloc();
-    let mut opened = Opened::new(&rt, alloc, 2);
-    let branches = two_branches(&rt, &mut opened, 1);
-    join_branch(&rt, &mut opened, &branches[1]);
-    let mut log = MemoryLog::new(alloc);
-    let done = opened.commit(&rt, alloc, &mut log, &branches);
-    let votes = [Code::Done, Code::Proto];
-    let endings = [Ending::RolledBack, Ending::Left(Code::Proto)];
-    tells(&rt, &done, false, false, &votes, &endings);
-}
-
-#[test]
 fn a_branch_whose_work_ends_after_its_vote_is_rolled_back(rt: HostRuntime) {
     let alloc = rt.alloc();
     let mut opened = Opened::new(&rt, alloc, 2);
@@ -160,23 +147,6 @@ fn a_branch_whose_work_ends_after_its_vote_is_rolled_back(rt: HostRuntime) {
     join_branch(&rt, &mut opened, &branches[1]);
     let end = Op::End(branches[1].xid, EndHow::Success);
     let done = commit_meddled(&rt, alloc, opened, &branches, end);
-    let votes = [Code::Done, Code::Proto];
-    let endings = [Ending::RolledBack, Ending::RolledBack];
-    tells(&rt, &done, false, false, &votes, &endings);
-}
-
-#[test]
-fn a_rollback_only_branch_votes_no_and_is_rolled_back(rt: HostRuntime) {
-    let alloc = rt.alloc();
-    let mut opened = Opened::new(&rt, alloc, 2);
-    let branches = two_branches(&rt, &mut opened, 1);
-    join_branch(&rt, &mut opened, &branches[1]);
-    let (desk, idle) = (&mut opened.second, &mut opened.workers);
-    let xid = Some(branches[1].xid);
-    let failed = xa_call(&rt, desk, Call::End, xid, 2, TMFAIL, idle);
-    assert_eq!(rt; failed, Code::RbRollback.value());
-    let mut log = MemoryLog::new(alloc);
-    let done = opened.commit(&rt, alloc, &mut log, &branches);
     let votes = [Code::Done, Code::Proto];
     let endings = [Ending::RolledBack, Ending::RolledBack];
     tells(&rt, &done, false, false, &votes, &endings);

@@ -1,4 +1,4 @@
-//! Openings that are run and settled, and pieces that are not settled.
+//! Openings that are run and settled.
 //!
 //! The contracts of the helpers show that a caller can know what settling asks: that desks and workers
 //! come from their openings.
@@ -6,7 +6,6 @@ ghost use Rattle.std.specs.Prelude.{◌≡◌, map};
 ghost use Rattle.xa_switch.specs.Settling.{IsSettled};
 ghost use Rattle.xa_switch.specs.Seats.{ComeFromOpenings, seat_of_desk, seat_of_ended, seat_of_worker, seat_of_done, desk_seats, worker_seats};
 
-mod refusals;
 mod turns;
 
 use super::key;
@@ -118,27 +117,6 @@ fn run_all<R: Wait + Abort>(rt: &R, alloc: Global, workers: Vec<Worker>) -> Vec<
         done.push(one).expect(rt, "memory");
     }
     done
-}
-
-// Desks that have ended, and workers that have run.
-#[derive(Drop)]
-struct Pieces {
-    desks: Vec<EndedDesk>,
-    workers: Vec<DoneWorker>,
-}
-
-// The pieces the other way round.
-fn reversed(pieces: Pieces) -> Pieces
-    requires { ComeFromOpenings (desk_seats pieces.desks.items) (worker_seats pieces.workers.items) }
-    ensures { ComeFromOpenings (desk_seats result.desks.items) (worker_seats result.workers.items) }
-{
-    let Pieces {
-        mut desks,
-        mut workers,
-    } = pieces;
-    desks.reverse();
-    workers.reverse();
-    Pieces { desks, workers }
 }
 
 // Settles. Where a growth was refused, all has come back, and it settles with the memory that there is

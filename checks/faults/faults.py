@@ -1,0 +1,211 @@
+#!/usr/bin/env python3
+"""Runs the program on scripts whose first fault is known, on scripts without one, and on wrong words: faults.py PROGRAM.
+
+A fault is told in both modes, alone, with status 1 and nothing on standard output. Words other than `turns` or
+`threads` give the usage and status 2, and no script is read: the one that stands there has a fault.
+"""
+import concurrent.futures
+import os
+import subprocess
+import sys
+
+
+def keys(count):
+    """Lines that declare so many keys."""
+    return "".join(f"key 1 k{n} {n}\n" for n in range(count))
+
+
+FAULTY = [
+    ("#" * 513, "line 1: line too long"),
+    ("#" * 7 + "\x7f" + "#" * 505, "line 1: line too long"),
+    ("#" * 512 + "\x7f", "line 1: line too long"),
+    ("# \x7f", "line 1: bad byte"),
+    ("\n#\x00\n", "line 2: bad byte"),
+    ("1 open 1\r \n", "line 1: bad byte"),
+    ("1 open 1\r\r\n", "line 1: bad byte"),
+    ("# \x7f\nfly\n", "line 1: bad byte"),
+    *(("\n" * 100_000 + last, "line 100001: too many lines") for last in ["\n", "\r", "#", "\x7f", "\x7f" * 600]),
+    ("\n# a\n \t\r\nfoo\n", "line 4: unknown word"),
+    ("thread 2\n", "line 1: unknown word"),
+    ("1 shuts 1\n", "line 1: unknown word"),
+    ("1 shut 1 g.1\n", "line 1: unknown word"),
+    ("1 open 1 Join\n", "line 1: unknown word"),
+    ("1 open 1 success 1\n", "line 1: unknown word"),
+    ("1x open 1\n", "line 1: unknown word"),
+    ("fly\n# \x7f\n", "line 1: unknown word"),
+    ("1 commitalls t 1\n", "line 1: unknown word"),
+    ("logfails 1 1\n", "line 1: unknown word"),
+    ("1 open 1 fast", "line 1: unknown word"),
+    ("key\n", "line 1: missing word"),
+    ("key 1 a\n", "line 1: missing word"),
+    ("threads\n", "line 1: missing word"),
+    ("1\n", "line 1: missing word"),
+    ("1 open", "line 1: missing word"),
+    ("1 start 1\n", "line 1: missing word"),
+    ("1 rollback 1\n", "line 1: missing word"),
+    ("1 shut\n", "line 1: missing word"),
+    ("1 add 1 a\n", "line 1: missing word"),
+    ("1 commitall", "line 1: missing word"),
+    ("1 commitall t\n", "line 1: missing word"),
+    ("logfail\n", "line 1: missing word"),
+    ("logfail 1", "line 1: missing word"),
+    ("key 1 a 1 2\n", "line 1: extra word"),
+    ("managers 1 2\n", "line 1: extra word"),
+    ("key 1 a 1\nkey 1 a 2 3\n", "line 2: extra word"),
+    ("logfail 1 1 1\n", "line 1: extra word"),
+    ("logfail 1 1 fly\n", "line 1: extra word"),
+    ("turn 1 1", "line 1: extra word"),
+    ("1234567890123456789 fly\n", "line 1: bad number"),
+    ("threads two\n", "line 1: bad number"),
+    ("managers -1\n", "line 1: bad number"),
+    ("1 open x\n", "line 1: bad number"),
+    ("1 add 1 a -\n", "line 1: bad number"),
+    ("1 add 1 a --1\n", "line 1: bad number"),
+    ("key -1 a 1\n", "line 1: bad number"),
+    ("1 commitall t x\n", "line 1: bad number"),
+    ("1 commitall t -1\n", "line 1: bad number"),
+    ("1 commitall t 1 t.2\n", "line 1: bad number"),
+    ("1 commitall t 1 async\n", "line 1: bad number"),
+    ("1 commitall t 1234567890123456789\n", "line 1: bad number"),
+    ("managers 2\n1 commitall t 2 1 x\n", "line 2: bad number"),
+    ("logfail x 1\n", "line 1: bad number"),
+    ("logfail 1 x\n", "line 1: bad number"),
+    ("logfail 1 1234567890123456789\n", "line 1: bad number"),
+    ("1 commitall t" + " 1" * 249 + "x", "line 1: bad number"),
+    ("1 complete 1 x", "line 1: bad number"),
+    ("threads 0\n", "line 1: out of range"),
+    ("threads 9 9\n", "line 1: out of range"),
+    ("managers 9\n", "line 1: out of range"),
+    ("requests 0\n", "line 1: out of range"),
+    ("requests 4097\n", "line 1: out of range"),
+    ("0 open 1\n", "line 1: out of range"),
+    ("2 fly\n", "line 1: out of range"),
+    ("threads 2\n3 open 1\n", "line 2: out of range"),
+    ("1 open 4294967296\n", "line 1: out of range"),
+    ("1 add 1 a 1000000000001\n", "line 1: out of range"),
+    ("1 add 1 a -1000000000001 fly\n", "line 1: out of range"),
+    ("key 2 A 1\n", "line 1: out of range"),
+    ("managers 2\nkey 3 a 1\n", "line 2: out of range"),
+    ("key 2 a 1\nmanagers 2\n", "line 1: out of range"),
+    ("key 1 a 1000000000001\n", "line 1: out of range"),
+    ("0 commitall T x\n", "line 1: out of range"),
+    ("threads 2\n\n3 commitall\n", "line 3: out of range"),
+    ("1 commitall t 4294967296\n", "line 1: out of range"),
+    ("1 commitall t 1 4294967296\n", "line 1: out of range"),
+    ("1 commitall t 9 1 4294967296\n", "line 1: out of range"),
+    ("logfail 0 1\n", "line 1: out of range"),
+    ("logfail 2 x\n", "line 1: out of range"),
+    ("logfail 2 1\nthreads 2\n", "line 1: out of range"),
+    ("threads 2\nlogfail 3 1\n", "line 2: out of range"),
+    ("threads 8\nlogfail 9 1\n", "line 2: out of range"),
+    ("logfail 1 0\n", "line 1: out of range"),
+    ("logfail 1 1000001\n", "line 1: out of range"),
+    ("logfail 1 1000001 1\n", "line 1: out of range"),
+    ("key 1 A x\n", "line 1: bad key"),
+    ("1 add 1 abcdefghijklmnopq 1\n", "line 1: bad key"),
+    ("1 start 1 g\n", "line 1: bad xid"),
+    ("1 start 1 .1\n", "line 1: bad xid"),
+    ("1 start 1 g.\n", "line 1: bad xid"),
+    ("1 commit 1 g.1.2\n", "line 1: bad xid"),
+    ("1 end 1 G.1\n", "line 1: bad xid"),
+    ("1 commitall T\n", "line 1: bad xid"),
+    ("1 commitall T x\n", "line 1: bad xid"),
+    ("1 commitall aT 1\n", "line 1: bad xid"),
+    ("1 commitall t.1 1\n", "line 1: bad xid"),
+    ("1 commitall t-1 1\n", "line 1: bad xid"),
+    (f"1 prepare 1 {'g' * 65}.1", "line 1: bad xid"),
+    (f"1 commitall {'g' * 65} 1", "line 1: bad xid"),
+    ("1 open 1\nkey 9 A\n", "line 2: setting after action"),
+    ("1 open 1\n\nkey", "line 3: setting after action"),
+    ("threads 2\n1 open 1\nthreads 9\n", "line 3: setting after action"),
+    ("1 commitall t 1\nsync 1\n", "line 2: setting after action"),
+    ("1 open 1\nlogfail\n", "line 2: setting after action"),
+    ("1 open 1\nlogfail 9 0\n", "line 2: setting after action"),
+    ("turn 1\nlogfail 1 1\n", "line 2: setting after action"),
+    ("1 commitall t 1\nlogfail 1 1\n", "line 2: setting after action"),
+    ("threads 2\nthreads 3\n", "line 2: setting twice"),
+    ("threads 2\nthreads 9 9\n", "line 2: setting twice"),
+    ("managers 1\nmanagers 1\n", "line 2: setting twice"),
+    ("requests 9\nthreads 1\nrequests\n", "line 3: setting twice"),
+    ("key 1 a 1\nkey 1 a 2\n", "line 2: key twice"),
+    ("managers 2\nkey 1 a 1\nkey 2 a 1\nkey 2 a 1\n", "line 4: key twice"),
+    (keys(257), "line 257: too many keys"),
+    ("1 commitall t 0\n", "line 1: bad branches"),
+    ("1 commitall t 0 1\n", "line 1: bad branches"),
+    ("1 commitall t 2\n", "line 1: bad branches"),
+    ("1 commitall t 1 4294967295\n", "line 1: bad branches"),
+    ("managers 8\n1 commitall t 9\n", "line 2: bad branches"),
+    ("managers 2\n1 commitall t 1 3\n", "line 2: bad branches"),
+    ("managers 2\n1 commitall t 2 1\n", "line 2: bad branches"),
+    ("managers 2\n1 commitall t 2 2\n", "line 2: bad branches"),
+    ("managers 3\n1 commitall t 2 1 3\n", "line 2: bad branches"),
+    ("managers 3\n1 commitall t 1 3 3", "line 2: bad branches"),
+    ("1 commitall t" + " 1" * 249, "line 1: bad branches"),
+]
+
+TAKEN = [
+    "",
+    "\r",
+    "\r\n\t \n  # fly",
+    "#fly\r\n1 open 1 success\r\n1 open 1 success success\r",
+    "\tkey\t 1  a 000000000000000001 \n001\topen 4294967295\n",
+    "key 1 abcdefghijklmnop 1000000000000\nkey 1 0 0\n",
+    "1 add 1 a -1000000000000\n1 add 9 z 1000000000000\n1 add 1 a -0\n",
+    "1 start 1 0g.z9\n",
+    "requests 4096\nkey 1 a 1\nmanagers 8\nthreads 8\nkey 8 a 1\n8 open 8\n",
+    "threads 1\nmanagers 1\nrequests 1\n",
+    "1 open 1 onephase fail nowait resume success suspend multiple join join\n",
+    "#" * 512 + "\r",
+    "\n" * 100_000,
+    keys(256),
+    f"1 commitall {'g' * 64} 1",
+]
+
+
+WORDS = ["", "turns turns", "turns -h", "-- turns", "threads turns", "turn", "turnss", "TURNS", "help", "-h", "--help", "--turns", "-", "--"]
+WORDS = [it.split() for it in WORDS] + [[""], ["turns "], ["turns", ""]]
+
+
+def runs(program, words, script):
+    ran = subprocess.run([program, *words], input=script.encode(), capture_output=True, timeout=60)
+    return ran.returncode, ran.stdout, ran.stderr.decode()
+
+
+def is_faulty(program, script, mode, text):
+    came = runs(program, [mode], script)
+    if came == (1, b"", text + "\n"):
+        return True
+    print(f"faults: {mode}: {came}, not {text}, at {script[:200]!r}")
+    return False
+
+
+def is_taken(program, script, mode):
+    status, _, told = runs(program, [mode], script)
+    if (status, told) == (0, ""):
+        return True
+    print(f"faults: {mode}: status {status} and {told!r}, at {script[:200]!r}")
+    return False
+
+
+def gives_usage(program, words):
+    came = runs(program, words, "fly")
+    if came == (2, b"", "usage: xaswitch turns or threads\n"):
+        return True
+    print(f"faults: {came}, at the words {words}")
+    return False
+
+
+def main(program):
+    modes = ("turns", "threads")
+    with concurrent.futures.ThreadPoolExecutor(os.cpu_count()) as pool:
+        waiting = [pool.submit(is_faulty, program, script, mode, text) for script, text in FAULTY for mode in modes if "turn " not in script or mode == "turns"]
+        waiting += [pool.submit(is_taken, program, script, mode) for script in TAKEN for mode in modes]
+        waiting.append(pool.submit(is_faulty, program, "1 open 1\nturn 1", "threads", "line 2: turn in threads mode"))
+        waiting += [pool.submit(gives_usage, program, words) for words in WORDS]
+        failed = sum(not it.result() for it in waiting)
+    print(f"faults: {len(FAULTY)} scripts with a fault and {len(TAKEN)} without, {len(WORDS)} wrong words, {failed} runs were wrong")
+    return 1 if failed else 0
+
+
+if __name__ == "__main__":
+    sys.exit(main(sys.argv[1]))
