@@ -42,6 +42,9 @@ key 1 a 100
 1 prepare 1 g.1
 1 commit 1 g.1 onephase
 1 rollback 1 g.1
+1 forget 1 g.1 async
+1 heurcom 1 g.1
+1 heurrb 1 g.1 async
 1 shut 1
 1 complete 1 1 nowait
 1 complete 0 0 multiple
@@ -52,7 +55,7 @@ turn 1
 LIMITS = [1, 2, 4, 8, 16, 32, 64, 256, 512, 4096, 100_000, 1_000_000, 10**12, 2**31 - 1, 2**32 - 1, 10**18 - 1, 2**63, 2**64]
 NUMBERS = sorted({str(limit + by) for limit in LIMITS for by in (-1, 0, 1)}) + ["-1", "-0", "00", "01", "+1", "1e3", "0x1", "--1", "1.", "-" + "9" * 18, "9" * 19, "0" * 18 + "1"]
 NAMES = ["a", "z9", "0", "k" * 16, "k" * 17, "A", "g.1", "g", ".1", "g.", "g.1.1", "g" * 64 + ".1", "g" * 65 + ".1", "g." + "b" * 64, "g." + "b" * 65, "g.A", "g-1", "é"]
-WORDS = sorted({word for line in LINES for word in line.split()}) + NUMBERS + NAMES + ["startrscan", "endrscan", "recover", "reopen", "resolve", "forget", "#", "1#", ""]
+WORDS = sorted({word for line in LINES for word in line.split()}) + NUMBERS + NAMES + ["startrscan", "endrscan", "recover", "reopen", "resolve", "#", "1#", ""]
 
 
 def replaced():
@@ -91,7 +94,7 @@ def a_call(rnd):
         f"{t} open {m}{flags}", f"{t} open {m}{flags}", f"{t} start {m} {xid}{flags}", f"{t} start {m} {xid}{flags}",
         f"{t} add {m} {rnd.choice('ab')} {rnd.randint(-3, 3)}{flags}", f"{t} end {m} {xid} {rnd.choice(['success', 'suspend', 'fail'])}{flags}",
         f"{t} end {m} {xid} success", f"{t} prepare {m} {xid}{flags}", f"{t} commit {m} {xid}{rnd.choice(['', ' onephase'])}{flags}",
-        f"{t} rollback {m} {xid}{flags}", f"{t} close {m}{flags}", f"{t} commitall {rnd.choice('gh')} 1 2", f"{t} commitall {xid[0]} {m}",
+        f"{t} rollback {m} {xid}{flags}", f"{t} {rnd.choice(['forget', 'heurcom', 'heurrb'])} {m} {xid}{flags}", f"{t} close {m}{flags}", f"{t} commitall {rnd.choice('gh')} 1 2", f"{t} commitall {xid[0]} {m}",
         f"{t} complete {m} {rnd.randint(0, 4)}{rnd.choice([' nowait', ' nowait multiple', ' multiple', ''])}",
         f"{t} complete 0 0 multiple{rnd.choice(['', ' nowait'])}", f"{t} shut {m}{flags}" if rnd.random() < 0.1 else f"{t} open {m}", f"turn {m}" if rnd.random() < 0.3 else "",
     ])

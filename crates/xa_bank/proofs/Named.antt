@@ -13,7 +13,7 @@ use Rattle.xa_words.specs.Orders.{Decides-xid_eq}
 use Rattle.xa_words.specs.declared.code.Code.{Code}
 use Rattle.xa_words.specs.declared.code.Code.TheVariants.{Done as Ok_}
 use Rattle.xa_words.specs.declared.request.Op.{Op}
-use Rattle.xa_words.specs.declared.request.Op.TheVariants.{Start, Add, End, Prepare, Commit, Rollback}
+use Rattle.xa_words.specs.declared.request.Op.TheVariants.{Start, Add, End, Prepare, Commit, Rollback, Forget}
 use Rattle.xa_words.specs.declared.request.StartHow.TheVariants.{Fresh}
 use Rattle.xa_words.specs.declared.request.EndHow.TheVariants.{Success}
 use Rattle.xa_tables.specs.Prepared.{names}
@@ -25,9 +25,9 @@ use Rattle.xa_driver.specs.declared.done.Done.{Done}
 use Rattle.xa_driver.specs.declared.done.Ending.{Ending}
 use Rattle.xa_driver.specs.Asks.{asked}
 use Rattle.xa_driver.specs.Decision.{is_yes, is_read}
-use Rattle.xa_driver.specs.Endings.{second_op, ending_of, is_out_of_reach}
+use Rattle.xa_driver.specs.Endings.{second_op, third_op, ending_of, is_out_of_reach, is_decided}
 use Rattle.xa_driver.specs.Log.{LogState}
-use Rattle.xa_driver.specs.Trace.{BranchTrace, EachBranch, IsCommit, has_branch_at, voted}
+use Rattle.xa_driver.specs.Trace.{BranchTrace, EachBranch, IsCommit, has_branch_at, voted, decided as decided_ledger}
 use Rattle.xa_bank.specs.declared.teller.Leg.{Leg}
 use Rattle.xa_bank.specs.declared.teller.Transfer.{Transfer}
 use Rattle.xa_bank.specs.declared.teller.Outcome.{Outcome}
@@ -111,12 +111,23 @@ second_names false x vote o =
     (λ _ is. cc)
     (λ _ is. subst (NamesAlone x) (some_same (Rollback x) o is) (λ y e. (Decides-xid_eq x y).0 e))
 
+-- and so does a Forget after it
+third_names : (x : XidName) (second : Option Code) (o : Op) → third_op x second ≡ Some o → NamesAlone x o
+third_names x None o is = cc
+third_names x (Some c) o is =
+    by_if (λ (s : Option Op). s ≡ Some o → NamesAlone x o) (is_decided c) (Some (Forget x)) None
+    (λ _ is. subst (NamesAlone x) (some_same (Forget x) o is) (λ y e. (Decides-xid_eq x y).0 e))
+    (λ _ is. cc)
+    is
+
 branch_sent : (commit : Bool) (b : Branch) (v : Code) (s : Option Code) (a a' : LedgerView) → BranchTrace commit b v s a a' → HasSent (NamesAlone b.xid) a a'
 branch_sent commit b v s a a' tr =
     subst (HasSent (NamesAlone b.xid) a) (sym tr.trace)
-    (sent_on (NamesAlone b.xid) a (voted b v a) (asked (voted b v a) (second_op commit b.xid v) s)
+    (sent_on (NamesAlone b.xid) a (decided_ledger commit b v s a) (asked (decided_ledger commit b v s a) (third_op b.xid s) tr.third)
+    (sent_on (NamesAlone b.xid) a (voted b v a) (decided_ledger commit b v s a)
     (asked_sent (NamesAlone b.xid) a (Some (Prepare b.xid)) (Some v) (λ o is. subst (NamesAlone b.xid) (some_same (Prepare b.xid) o is) (same_xid b.xid)))
     (asked_sent (NamesAlone b.xid) (voted b v a) (second_op commit b.xid v) s (second_names commit b.xid v)))
+    (asked_sent (NamesAlone b.xid) (decided_ledger commit b v s a) (third_op b.xid s) tr.third (third_names b.xid s)))
 
 -- ---- a commit of two branches
 

@@ -7,16 +7,16 @@ use Rattle.xa_words.specs.Xid.{XidName}
 use Rattle.xa_words.specs.Tran.{TranName}
 use Rattle.xa_words.specs.declared.code.Code.{Code}
 use Rattle.xa_words.specs.declared.request.Op.{Op}
-use Rattle.xa_words.specs.declared.request.Op.TheVariants.{Prepare, Rollback}
+use Rattle.xa_words.specs.declared.request.Op.TheVariants.{Prepare, Rollback, Forget}
 use Rattle.xa_tables.specs.History.{is_rolled_back}
 use Rattle.xa_desk.specs.LedgerView.{LedgerView, learnt_shut}
 use Rattle.xa_driver.specs.declared.branch.Branch.{Branch}
 use Rattle.xa_driver.specs.declared.done.Done.{Done}
 use Rattle.xa_driver.specs.Decision.{is_read, decides_commit, has_yes}
-use Rattle.xa_driver.specs.Endings.{second_op, is_out_of_reach}
+use Rattle.xa_driver.specs.Endings.{second_op, third_op, is_decided, is_out_of_reach}
 use Rattle.xa_driver.specs.Log.{LogState}
 use Rattle.xa_driver.specs.Asks.{asked}
-use Rattle.xa_driver.specs.Trace.{BranchTrace, IsTraceOfCommit, voted, wants_record}
+use Rattle.xa_driver.specs.Trace.{BranchTrace, IsTraceOfCommit, voted, decided, wants_record}
 use Rattle.xa_driver.specs.Commits.{HasSentNoCommit, NoCommitWasSent, is_commit}
 use Rattle.xa_driver.proofs.EachManager.{every_manager}
 
@@ -49,10 +49,17 @@ on_abort : (x : XidName) (v : Code) → is_commit_asked (second_op false x v) �
 unfolding is_commit_asked
 on_abort x v = by_if (λ o. is_commit_asked o ≡ false) (is_read v || (is_rolled_back v || is_out_of_reach v)) None (Some (Rollback x)) (λ _. refl) (λ _. refl)
 
+on_forget : (x : XidName) (s : Option Code) → is_commit_asked (third_op x s) ≡ false
+unfolding is_commit_asked
+on_forget x None = refl
+on_forget x (Some c) = by_if (λ o. is_commit_asked o ≡ false) (is_decided c) (Some (Forget x)) None (λ _. refl) (λ _. refl)
+
 no_commit : (b : Branch) (v : Code) (s : Option Code) (a a' : LedgerView) → BranchTrace false b v s a a' → HasSentNoCommit a a'
 unfolding is_commit_asked
 no_commit b v s a a' tr =
-    subst (HasSentNoCommit a) (sym tr.trace) (chained a (voted b v a) _ (asked_none a (Some (Prepare b.xid)) (Some v) refl) (asked_none (voted b v a) (second_op false b.xid v) s (on_abort b.xid v)))
+    subst (HasSentNoCommit a) (sym tr.trace) (chained a (decided false b v s a) _
+    (chained a (voted b v a) _ (asked_none a (Some (Prepare b.xid)) (Some v) refl) (asked_none (voted b v a) (second_op false b.xid v) s (on_abort b.xid v)))
+    (asked_none (decided false b v s a) (third_op b.xid s) tr.third (on_forget b.xid s)))
 
 -- on abort no Commit is sent to any manager
 pub abort_sends_no_commit : (tran : TranName) (bs : List Branch) (old new : List LedgerView) (log later : LogState) (done : Done)

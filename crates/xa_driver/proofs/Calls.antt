@@ -1,4 +1,4 @@
--- The two rounds make a call.
+-- The three rounds make a call.
 use Rattle.std.specs.Prelude.{◌≡◌, ℕ, ◌+◌, ◌<◌, ◌≤◌, Bool, ◌||◌, ◌&&◌, ◌==◌, Option, None, Some, unwrap_or, List, [], ◌∷◌, ◌++◌, length, map, refl}
 use Rattle.std.proofs.Common.{sym, ap, ◌∙◌, subst, arith, get_or, length-append}
 use Rattle.std.proofs.Common.{take}
@@ -15,11 +15,11 @@ use Rattle.xa_driver.specs.declared.ask.Ask.{Ask}
 use Rattle.xa_driver.specs.declared.done.Done.{Done}
 use Rattle.xa_driver.specs.declared.done.Ending.{Ending}
 use Rattle.xa_driver.specs.Decision.{is_yes, voted_yes, yes_of}
-use Rattle.xa_driver.specs.Endings.{second_op, ending_of}
+use Rattle.xa_driver.specs.Endings.{second_op, third_op, ending_of}
 use Rattle.xa_driver.specs.Log.{LogState, record_of}
 use Rattle.xa_driver.specs.Asks.{asked, IsAnswered, AskTrace, EachAsk, among_asks, Asks, SameAsks, IsSameAsk, AreRising, AllCanAsk}
-use Rattle.xa_driver.specs.Rounds.{first_ask, code_of, second_ask, ending_of_ask, asked_yes}
-use Rattle.xa_driver.specs.Trace.{BranchTrace, EachBranch, has_branch_at, IsTranOf, AreBranchesRising, HasRoom, HaveRoom, MayCommit, Logs, decision_of, IsTraceOfCommit}
+use Rattle.xa_driver.specs.Rounds.{first_ask, code_of, second_ask, third_ask, ending_of_ask, asked_yes}
+use Rattle.xa_driver.specs.Trace.{BranchTrace, decided, EachBranch, has_branch_at, IsTranOf, AreBranchesRising, HasRoom, HaveRoom, MayCommit, Logs, decision_of, IsTraceOfCommit}
 use Rattle.xa_base.proofs.Truth.{by_if}
 
 pub first_rising : (lo : ℕ) (bs : List Branch) → AreBranchesRising lo bs → AreRising lo (map first_ask bs)
@@ -71,6 +71,41 @@ second_can commit old mid (b ∷ bs) (k ∷ ks) l s e h =
       second_can commit old mid bs ks l s.1 e.1 h.1,
     )
 
+-- after two requests at most a third can be asked
+two_more : (a b c : LedgerView) → AtMostOne a b → AtMostOne b c → (length c.sent ≤ length a.sent + 2) × (c.plan ≡ a.plan)
+two_more a b c p q = (let x = p.sent in let y = q.sent in omega arith, q.plan ∙ p.plan)
+
+pub third_can : (commit : Bool) (old mid late : List LedgerView) (bs : List Branch) (ks js : List Ask) → length mid ≡ length old → length late ≡ length mid
+    → SameAsks (map first_ask bs) ks → SameAsks (map (second_ask commit) ks) js → EachAsk ks old mid → EachAsk js mid late → HaveRoom old bs → AllCanAsk (map third_ask js) late
+third_can commit old mid late [] [] [] l n s r e f h = tt
+third_can commit old mid late [] [] (j ∷ js) l n s r e f h = absurd r
+third_can commit old mid late [] (k ∷ ks) js l n s r e f h = absurd s
+third_can commit old mid late (b ∷ bs) [] js l n s r e f h = absurd s
+third_can commit old mid late (b ∷ bs) (k ∷ ks) [] l n s r e f h = absurd r
+third_can commit old mid late (b ∷ bs) (k ∷ ks) (j ∷ js) l n s r e f h =
+    let same : j.manager ≡ k.manager = r.0.manager in
+    let room : HasRoom old j.manager = subst (HasRoom old) (sym (same ∙ s.0.manager)) h.0 in
+    let one : AtMostOne (ledger old j.manager) (ledger mid j.manager) =
+    subst (λ (m : ℕ). AtMostOne (ledger old m) (ledger mid m)) (sym same) (subst (AtMostOne (ledger old k.manager)) (sym e.0.trace) (one_more (ledger old k.manager) k.op k.code)) in
+    let two : AtMostOne (ledger mid j.manager) (ledger late j.manager) = subst (AtMostOne (ledger mid j.manager)) (sym f.0.trace) (one_more (ledger mid j.manager) j.op j.code) in
+    let both = two_more (ledger old j.manager) (ledger mid j.manager) (ledger late j.manager) one two in (
+      record {
+        known = record { positive = room.known.positive; within = let z = room.known.within in omega arith };
+        room = let x = room.room in let y = both.0 in let z = both.1 in omega arith;
+      },
+      third_can commit old mid late bs ks js l n s.1 r.1 e.1 f.1 h.1,
+    )
+
+pub third_rising : (commit : Bool) (lo : ℕ) (bs : List Branch) (ks js : List Ask) → SameAsks (map first_ask bs) ks → SameAsks (map (second_ask commit) ks) js → AreBranchesRising lo bs → AreRising lo (map third_ask js)
+third_rising commit lo [] [] [] s r a = tt
+third_rising commit lo [] [] (j ∷ js) s r a = absurd r
+third_rising commit lo [] (k ∷ ks) js s r a = absurd s
+third_rising commit lo (b ∷ bs) [] js s r a = absurd s
+third_rising commit lo (b ∷ bs) (k ∷ ks) [] s r a = absurd r
+third_rising commit lo (b ∷ bs) (k ∷ ks) (j ∷ js) s r a =
+    let m : j.manager ≡ b.m = r.0.manager ∙ s.0.manager in
+    (subst (λ (n : ℕ). lo < n) (sym m) a.0, rising_by j.manager b.m (map third_ask js) (sym m) (third_rising commit b.m bs ks js s.1 r.1 a.1))
+
 pub seconds_long : (commit : Bool) (bs : List Branch) (ks : List Ask) → SameAsks (map first_ask bs) ks → length (map (second_ask commit) ks) ≡ length bs
 seconds_long commit [] [] s = refl
 seconds_long commit [] (k ∷ ks) s = absurd s
@@ -99,36 +134,45 @@ answered_some a op k h = elim (k.code) as (λ c. IsAnswered a (Some op) c → k.
     code_is : (k : Ask) (c : Code) → k.code ≡ Some c → code_of k ≡ c
     code_is k c e = ap (λ (o : Option Code). unwrap_or o RmFail) e
 
--- a branch's manager was asked twice
-branch_trace : (commit : Bool) (b : Branch) (k j : Ask) (old mid new : List LedgerView) → IsSameAsk (first_ask b) k → IsSameAsk (second_ask commit k) j
-    → AskTrace k.op k.code (ledger old k.manager) (ledger mid k.manager) → AskTrace j.op j.code (ledger mid j.manager) (ledger new j.manager)
+-- a branch's manager was asked in each of the three rounds
+branch_trace : (commit : Bool) (b : Branch) (k j l : Ask) (old mid late new : List LedgerView) → IsSameAsk (first_ask b) k → IsSameAsk (second_ask commit k) j → IsSameAsk (third_ask j) l
+    → AskTrace k.op k.code (ledger old k.manager) (ledger mid k.manager) → AskTrace j.op j.code (ledger mid j.manager) (ledger late j.manager) → AskTrace l.op l.code (ledger late l.manager) (ledger new l.manager)
     → BranchTrace commit b (code_of k) j.code (ledger old b.m) (ledger new b.m)
-branch_trace commit b k j old mid new s r one two =
+branch_trace commit b k j l old mid late new s r q one two three =
     let x : AskTrace (Some (Prepare b.xid)) k.code (ledger old b.m) (ledger mid b.m) =
     subst (λ (o : Option Op). AskTrace o k.code (ledger old b.m) (ledger mid b.m)) s.op (subst (λ (m : ℕ). AskTrace k.op k.code (ledger old m) (ledger mid m)) s.manager one) in
     let code : k.code ≡ Some (code_of k) = answered_some (ledger old b.m) (Prepare b.xid) k x.answered in
     let x1 : AskTrace (Some (Prepare b.xid)) (Some (code_of k)) (ledger old b.m) (ledger mid b.m) = subst (λ (c : Option Code). AskTrace (Some (Prepare b.xid)) c (ledger old b.m) (ledger mid b.m)) code x in
     let op : j.op ≡ second_op commit b.xid (code_of k) = r.op ∙ ap (λ q. second_op commit q (code_of k)) s.xid in
-    let y : AskTrace (second_op commit b.xid (code_of k)) j.code (ledger mid b.m) (ledger new b.m) =
-    subst (λ (o : Option Op). AskTrace o j.code (ledger mid b.m) (ledger new b.m)) op (subst (λ (m : ℕ). AskTrace j.op j.code (ledger mid m) (ledger new m)) (r.manager ∙ s.manager) two) in
+    let y : AskTrace (second_op commit b.xid (code_of k)) j.code (ledger mid b.m) (ledger late b.m) =
+    subst (λ (o : Option Op). AskTrace o j.code (ledger mid b.m) (ledger late b.m)) op (subst (λ (m : ℕ). AskTrace j.op j.code (ledger mid m) (ledger late m)) (r.manager ∙ s.manager) two) in
+    let last : l.op ≡ third_op b.xid j.code = q.op ∙ ap (λ x. third_op x j.code) (r.xid ∙ s.xid) in
+    let z : AskTrace (third_op b.xid j.code) l.code (ledger late b.m) (ledger new b.m) =
+    subst (λ (o : Option Op). AskTrace o l.code (ledger late b.m) (ledger new b.m)) last (subst (λ (m : ℕ). AskTrace l.op l.code (ledger late m) (ledger new m)) (q.manager ∙ r.manager ∙ s.manager) three) in
+    let until : ledger late b.m ≡ decided commit b (code_of k) j.code (ledger old b.m) = y.trace ∙ ap (λ (a : LedgerView). asked a (second_op commit b.xid (code_of k)) j.code) x1.trace in
     record {
       prepared = x1.answered;
-      decided = subst (λ (a : LedgerView). IsAnswered a (second_op commit b.xid (code_of k)) j.code) x1.trace y.answered;
-      trace = y.trace ∙ ap (λ (a : LedgerView). asked a (second_op commit b.xid (code_of k)) j.code) x1.trace;
+      seconded = subst (λ (a : LedgerView). IsAnswered a (second_op commit b.xid (code_of k)) j.code) x1.trace y.answered;
+      third = l.code;
+      forgotten = subst (λ (a : LedgerView). IsAnswered a (third_op b.xid j.code) l.code) until z.answered;
+      trace = z.trace ∙ ap (λ (a : LedgerView). asked a (third_op b.xid j.code) l.code) until;
     }
 
 abbrev second_code : Ask → Option Code
 second_code k = k.code
 
-each_branch : (commit : Bool) (bs : List Branch) (ks js : List Ask) (old mid new : List LedgerView) → SameAsks (map first_ask bs) ks → SameAsks (map (second_ask commit) ks) js → EachAsk ks old mid → EachAsk js mid new
+each_branch : (commit : Bool) (bs : List Branch) (ks js ls : List Ask) (old mid late new : List LedgerView) → SameAsks (map first_ask bs) ks → SameAsks (map (second_ask commit) ks) js → SameAsks (map third_ask js) ls
+    → EachAsk ks old mid → EachAsk js mid late → EachAsk ls late new
     → EachBranch (λ b v s e. BranchTrace commit b v s (ledger old b.m) (ledger new b.m) × (e ≡ ending_of commit v s)) bs (map code_of ks) (map second_code js) (map (ending_of_ask commit) js)
-each_branch commit [] [] [] old mid new s r e f = tt
-each_branch commit [] [] (j ∷ js) old mid new s r e f = absurd r
-each_branch commit [] (k ∷ ks) js old mid new s r e f = absurd s
-each_branch commit (b ∷ bs) [] js old mid new s r e f = absurd s
-each_branch commit (b ∷ bs) (k ∷ ks) [] old mid new s r e f = absurd r
-each_branch commit (b ∷ bs) (k ∷ ks) (j ∷ js) old mid new s r e f =
-    ((branch_trace commit b k j old mid new s.0 r.0 e.0 f.0, ap (λ v. ending_of commit v j.code) r.0.vote), each_branch commit bs ks js old mid new s.1 r.1 e.1 f.1)
+each_branch commit [] [] [] [] old mid late new s r q e f g = tt
+each_branch commit [] [] [] (l ∷ ls) old mid late new s r q e f g = absurd q
+each_branch commit [] [] (j ∷ js) ls old mid late new s r q e f g = absurd r
+each_branch commit [] (k ∷ ks) js ls old mid late new s r q e f g = absurd s
+each_branch commit (b ∷ bs) [] js ls old mid late new s r q e f g = absurd s
+each_branch commit (b ∷ bs) (k ∷ ks) [] ls old mid late new s r q e f g = absurd r
+each_branch commit (b ∷ bs) (k ∷ ks) (j ∷ js) [] old mid late new s r q e f g = absurd q
+each_branch commit (b ∷ bs) (k ∷ ks) (j ∷ js) (l ∷ ls) old mid late new s r q e f g =
+    ((branch_trace commit b k j l old mid late new s.0 r.0 q.0 e.0 f.0 g.0, ap (λ v. ending_of commit v j.code) r.0.vote), each_branch commit bs ks js ls old mid late new s.1 r.1 q.1 e.1 f.1 g.1)
 
 among_first : (bs : List Branch) (ks : List Ask) (m : ℕ) → SameAsks (map first_ask bs) ks → among_asks ks m ≡ has_branch_at bs m
 among_first [] [] m s = refl
@@ -141,6 +185,12 @@ among_second commit [] [] m s = refl
 among_second commit [] (j ∷ js) m s = absurd s
 among_second commit (k ∷ ks) [] m s = absurd s
 among_second commit (k ∷ ks) (j ∷ js) m s = λ i. (s.0.manager i == m) || among_second commit ks js m s.1 i
+
+among_third : (js ls : List Ask) (m : ℕ) → SameAsks (map third_ask js) ls → among_asks ls m ≡ among_asks js m
+among_third [] [] m s = refl
+among_third [] (l ∷ ls) m s = absurd s
+among_third (j ∷ js) [] m s = absurd s
+among_third (j ∷ js) (l ∷ ls) m s = λ i. (s.0.manager i == m) || among_third js ls m s.1 i
 
 yes_at : (m : ℕ) (bs : List Branch) (ks : List Ask) → SameAsks (map first_ask bs) ks → asked_yes m ks ≡ voted_yes m bs (map code_of ks)
 yes_at m [] [] s = refl
@@ -162,21 +212,22 @@ tran_first (c ∷ bs) b t h e all = ap (λ (d : Branch). tran_of d.xid) e ∙ al
 pub absent_first : (d : DeskView) (log : LogState) (bs : List Branch) (b : Branch) → MayCommit d log bs → b ≡ get_or bs 0 b → record_of log (tran_of b.xid) ≡ None
 absent_first d log bs b may e = ap (record_of log) (tran_first bs b may.tran may.some e may.one) ∙ may.absent
 
-pub call_is : (done : Done) (bs : List Branch) (ks js : List Ask) (old mid new : List LedgerView) (log log' : LogState) (b : Branch) (t : TranName)
+pub call_is : (done : Done) (bs : List Branch) (ks js ls : List Ask) (old mid late new : List LedgerView) (log log' : LogState) (b : Branch) (t : TranName)
     → 1 ≤ length bs → b ≡ get_or bs 0 b → IsTranOf bs t
-    → SameAsks (map first_ask bs) ks → Asks ks old mid → SameAsks (map (second_ask done.commit) ks) js → Asks js mid new
+    → SameAsks (map first_ask bs) ks → Asks ks old mid → SameAsks (map (second_ask done.commit) ks) js → Asks js mid late → SameAsks (map third_ask js) ls → Asks ls late new
     → done.votes.items ≡ map code_of ks → done.endings.items ≡ map (ending_of_ask done.commit) js
     → done.commit ≡ decision_of (map code_of ks) done.logged → Logs (tran_of b.xid) (yes_asked ks) (map code_of ks) done.logged log log'
     → IsTraceOfCommit t bs old new log log' done
-call_is done bs ks js old mid new log log' b t some is all s one r two votes endings decision logs =
+call_is done bs ks js ls old mid late new log log' b t some is all s one r two q three votes endings decision logs =
     let branch : Branch → Code → Option Code → Ending → Type 0 = λ b v s e. BranchTrace done.commit b v s (ledger old b.m) (ledger new b.m) × (e ≡ ending_of done.commit v s) in
     record {
       seconds = map second_code js;
       each = subst (λ (vs : List Code). EachBranch branch bs vs (map second_code js) done.endings.items) (sym votes)
-          (subst (λ (es : List Ending). EachBranch branch bs (map code_of ks) (map second_code js) es) (sym endings) (each_branch done.commit bs ks js old mid new s r one.each two.each));
+          (subst (λ (es : List Ending). EachBranch branch bs (map code_of ks) (map second_code js) es) (sym endings) (each_branch done.commit bs ks js ls old mid late new s r q one.each two.each three.each));
       others = λ m p n.
-          two.others m p (among_second done.commit ks js m r ∙ among_first bs ks m s ∙ n) ∙ one.others m p (among_first bs ks m s ∙ n);
-      managers = two.managers ∙ one.managers;
+          three.others m p (among_third js ls m q ∙ among_second done.commit ks js m r ∙ among_first bs ks m s ∙ n)
+          ∙ two.others m p (among_second done.commit ks js m r ∙ among_first bs ks m s ∙ n) ∙ one.others m p (among_first bs ks m s ∙ n);
+      managers = three.managers ∙ two.managers ∙ one.managers;
       decision = decision ∙ ap (λ vs. decision_of vs done.logged) (sym votes);
       logs = subst (λ (vs : List Code). Logs t (yes_of bs vs) vs done.logged log log') (sym votes)
           (subst (λ (z : TranName). Logs z (yes_of bs (map code_of ks)) (map code_of ks) done.logged log log') (tran_first bs b t some is all)

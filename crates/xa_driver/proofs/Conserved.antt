@@ -29,14 +29,14 @@ use Rattle.xa_switch.proofs.Lists.{all_contains, element_at}
 use Rattle.xa_driver.specs.declared.branch.Branch.{Branch}
 use Rattle.xa_driver.specs.declared.done.Done.{Done}
 use Rattle.xa_driver.specs.declared.done.Ending.{Ending}
-use Rattle.xa_driver.specs.declared.done.Ending.TheVariants.{Committed, ReadOnly, RolledBack, InDoubt, Left}
+use Rattle.xa_driver.specs.declared.done.Ending.TheVariants.{Committed, ReadOnly, RolledBack, InDoubt, Heuristic, Left}
 use Rattle.xa_driver.specs.Decision.{is_no}
 use Rattle.xa_driver.specs.Log.{LogState}
 use Rattle.xa_driver.specs.Trace.{IsCommit, AreBranchesRising, has_branch_at}
 use Rattle.xa_driver.specs.Commits.{HasSentNoCommit, NoCommitWasSent}
-use Rattle.xa_driver.specs.Outcomes.{EachOutcome, AreLeftAlone, has_committed, is_committed, is_rolled_back, is_in_doubt, is_left, is_read_only}
+use Rattle.xa_driver.specs.Outcomes.{EachOutcome, AreLeftAlone, has_committed, is_committed, is_rolled_back, is_in_doubt, is_heuristic, is_left, is_read_only}
 use Rattle.xa_driver.specs.Conservation.{taken_before, added_before, added_by_all, total_in_doubt, held_in_doubt, OnlyTransfers, opened, worked, committed}
-use Rattle.xa_driver.proofs.Branches.{Tabled}
+use Rattle.xa_driver.proofs.Tabled.{Tabled}
 use Rattle.xa_driver.proofs.Moves.{is_within, outside, moved_parted, moved_none, moved_without, moved_alike, moved_nothing, no_commits, all_earlier, none_plus, plus_none}
 use Rattle.xa_driver.proofs.OneOutcome.{committed_law}
 use Rattle.xa_driver.proofs.Settled.{Both, all_outcomes, growth_law, grown_on, unchanged, by_ledger}
@@ -157,6 +157,7 @@ module _ (law : Tabled) (opens : (s : Settling) (m : ℕ) → IsSettled s → (T
       moves : moved_in b.m (count old b.m) (count new b.m) ≡ (if is_committed e then added b else pos 0)
       reads : is_read_only e ≡ true → added b ≡ pos 0
       unless_no : is_no vote ≡ false → is_left e ≡ false
+      undecided : is_no vote ≡ false → is_heuristic e ≡ false
 
     -- a branch holds at its Prepare what it has added
     held_is : (b : Branch) → are_accounts (accounts_of p b.m) ≡ true → held_by (accounts_of p b.m) b.xid (tables_after (taken_before t (count old b.m) (history s b.m)) (opening (accounts_of p b.m))) ≡ added b
@@ -177,7 +178,8 @@ module _ (law : Tabled) (opens : (s : Settling) (m : ℕ) → IsSettled s → (T
         (λ (past : length p.managers.items < b.m). record {
           moves = no_moves b.m (count old b.m) (count new b.m) past ∙ either_none (is_committed e) (added b) (nothing_added b past);
           reads = λ _. nothing_added b past;
-          unless_no = both.unless_no;
+          unless_no = both.fated.unless_no;
+          undecided = both.undecided;
         })
         (λ (below : b.m ≤ length p.managers.items).
         let good = sound_at b.m positive below in
@@ -185,7 +187,8 @@ module _ (law : Tabled) (opens : (s : Settling) (m : ℕ) → IsSettled s → (T
         record {
           moves = both.moves T (opens_with b.m positive below) (accounts_of p b.m) ∙ ap (λ v. if is_committed e then v else pos 0) (held_is b good);
           reads = λ only_read. sym (held_is b good) ∙ both.reads only_read T (opens_with b.m positive below) (accounts_of p b.m);
-          unless_no = both.unless_no;
+          unless_no = both.fated.unless_no;
+          undecided = both.undecided;
         })
         (cases_lt (length p.managers.items) b.m)
 
@@ -206,12 +209,13 @@ module _ (law : Tabled) (opens : (s : Settling) (m : ℕ) → IsSettled s → (T
     none_moved bs vs es none h = absurd h
 
     -- a branch of a committed transaction moved what it added, unless it is in doubt
-    moved_or_doubted : (e : Ending) (v : ℤ) → is_rolled_back e ≡ false → is_left e ≡ false → (is_read_only e ≡ true → v ≡ pos 0) → (if is_committed e then v else pos 0) +ℤ (if is_in_doubt e then v else pos 0) ≡ v
-    moved_or_doubted Committed v back left reads = plus_none v
-    moved_or_doubted ReadOnly v back left reads = sym (reads refl)
-    moved_or_doubted RolledBack v back left reads = cc
-    moved_or_doubted InDoubt v back left reads = none_plus v
-    moved_or_doubted (Left c) v back left reads = cc
+    moved_or_doubted : (e : Ending) (v : ℤ) → is_rolled_back e ≡ false → is_left e ≡ false → is_heuristic e ≡ false → (is_read_only e ≡ true → v ≡ pos 0) → (if is_committed e then v else pos 0) +ℤ (if is_in_doubt e then v else pos 0) ≡ v
+    moved_or_doubted Committed v back left plain reads = plus_none v
+    moved_or_doubted ReadOnly v back left plain reads = sym (reads refl)
+    moved_or_doubted RolledBack v back left plain reads = cc
+    moved_or_doubted InDoubt v back left plain reads = none_plus v
+    moved_or_doubted (Heuristic c) v back left plain reads = cc
+    moved_or_doubted (Left c) v back left plain reads = cc
 
     regroup : (a b c d v w : ℤ) → a +ℤ c ≡ v → b +ℤ d ≡ w → (a +ℤ b) +ℤ (c +ℤ d) ≡ v +ℤ w
     regroup a b c d v w e f = omega (arith, ints)
@@ -222,7 +226,7 @@ module _ (law : Tabled) (opens : (s : Settling) (m : ℕ) → IsSettled s → (T
         let votes = or_parts (is_no v) (list_any is_no vs) unopposed in
         let backs = or_parts (is_rolled_back e) (list_any is_rolled_back es) kept in
         regroup (moved_in b.m (count old b.m) (count new b.m)) (moved_for bs) (if is_in_doubt e then added b else pos 0) (total_in_doubt added bs es) (added b) (total added bs)
-        (ap (λ q. q +ℤ (if is_in_doubt e then added b else pos 0)) h.0.moves ∙ moved_or_doubted e (added b) backs.0 (h.0.unless_no votes.0) h.0.reads)
+        (ap (λ q. q +ℤ (if is_in_doubt e then added b else pos 0)) h.0.moves ∙ moved_or_doubted e (added b) backs.0 (h.0.unless_no votes.0) (h.0.undecided votes.0) h.0.reads)
         (all_moved bs vs es votes.1 backs.1 h.1)
     all_moved bs vs es unopposed kept h = absurd h
 

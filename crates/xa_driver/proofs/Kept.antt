@@ -17,8 +17,8 @@ use Rattle.xa_driver.specs.declared.done.Done.{Done}
 use Rattle.xa_driver.specs.declared.done.Ending.{Ending}
 use Rattle.xa_driver.specs.Log.{LogState}
 use Rattle.xa_driver.specs.Asks.{KeepsDesk, asked}
-use Rattle.xa_driver.specs.Endings.{second_op, ending_of}
-use Rattle.xa_driver.specs.Trace.{BranchTrace, EachBranch, IsTraceOfCommit, has_branch_at, voted}
+use Rattle.xa_driver.specs.Endings.{second_op, third_op, ending_of}
+use Rattle.xa_driver.specs.Trace.{BranchTrace, EachBranch, IsTraceOfCommit, has_branch_at, voted, decided}
 
 -- what is outstanding in the later ledger was so in the earlier one
 record Leaves (a a' : LedgerView) : Type 0 where
@@ -53,10 +53,12 @@ asked_leaves a None code = leaves_same a
 asked_leaves a (Some op) None = leaves_same a
 asked_leaves a (Some op) (Some code) = either_leaves a _ (learnt_shut a) (leaves_answered a op code)
 
--- the two requests of a branch
+-- the requests of a branch
 branch_leaves : (commit : Bool) (b : Branch) (vote : Code) (second : Option Code) (a a' : LedgerView) → BranchTrace commit b vote second a a' → Leaves a a'
 branch_leaves commit b vote second a a' is =
-    subst (Leaves a) (sym is.trace) (leaves_both a (voted b vote a) (asked (voted b vote a) (second_op commit b.xid vote) second) (asked_leaves a (Some (Prepare b.xid)) (Some vote)) (asked_leaves (voted b vote a) (second_op commit b.xid vote) second))
+    subst (Leaves a) (sym is.trace) (leaves_both a (decided commit b vote second a) _
+    (leaves_both a (voted b vote a) (decided commit b vote second a) (asked_leaves a (Some (Prepare b.xid)) (Some vote)) (asked_leaves (voted b vote a) (second_op commit b.xid vote) second))
+    (asked_leaves (decided commit b vote second a) (third_op b.xid second) is.third))
 
 -- the branch at the manager is one of these
 there_leaves : (commit : Bool) (old new : List LedgerView) (m : ℕ) (bs : List Branch) (vs : List Code) (ss : List (Option Code)) (es : List Ending)

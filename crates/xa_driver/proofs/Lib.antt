@@ -8,7 +8,10 @@ pub mod EachManager
 pub mod Aborts
 pub mod Placing
 pub mod Moves
-pub mod Branches
+pub mod Tabled
+pub mod Courses
+pub mod Values
+pub mod Fated
 pub mod OneOutcome
 pub mod Settled
 pub mod Conserved

@@ -5,13 +5,13 @@ use Rattle.std.specs.List.{All, list_any}
 use Rattle.std.proofs.lemmas.Int.{ints}
 use Rattle.std.proofs.lemmas.Bool.{eqb-false, eqb-true, le-leb, lt-leb, leb-true, leb-false}
 use Rattle.xa_words.specs.declared.request.Op.{Op}
-use Rattle.xa_words.specs.declared.request.Op.TheVariants.{Commit}
+use Rattle.xa_words.specs.declared.request.Op.TheVariants.{Commit, Heur}
 use Rattle.xa_words.specs.declared.code.Code.{Code}
 use Rattle.xa_words.specs.declared.request.Request.{Request}
 use Rattle.xa_tables.specs.Tables.{Tables}
 use Rattle.xa_tables.specs.Next.{next}
 use Rattle.xa_tables.specs.History.{History, of_thread, tables_after, is_done}
-use Rattle.xa_tables.specs.Worth.{moved, moved_by}
+use Rattle.xa_tables.specs.Worth.{moved, moved_by, held_by}
 use Rattle.xa_desk.specs.Lanes.{numbered}
 use Rattle.xa_driver.specs.Commits.{is_commit}
 use Rattle.xa_driver.specs.Conservation.{taken_before}
@@ -70,9 +70,14 @@ moved_none accounts passes (r ∷ h) T none =
     let T1 : Tables = (next r.thread r.op T).0 in
     λ i. (if none 0 r (omega arith) i then moved_by accounts r.op (next r.thread r.op T).1 T else pos 0) +ℤ moved_none accounts passes h T1 (λ k d lt. none (suc k) d (omega arith)) i
 
+and_false : (b : Bool) → (b && false) ≡ false
+and_false true = refl
+and_false false = refl
+
 -- what is no Commit moves nothing
 unmoving : (accounts : Accounts) (op : Op) (c : Code) (T : Tables) → is_commit op ≡ false → moved_by accounts op c T ≡ pos 0
 unmoving accounts (Commit x one_phase) c T e = cc
+unmoving accounts (Heur x commits) c T e = ap (λ b. if b then held_by accounts x T else pos 0) (ap (λ b. is_done c && b) e ∙ and_false (is_done c))
 unmoving accounts op c T e = refl
 
 pub moved_without : (accounts : Accounts) (passes : Request → Bool) (h : History) (T : Tables) → All (λ r. passes r ≡ true → is_commit r.op ≡ false) h → moved accounts passes h T ≡ pos 0
@@ -105,6 +110,7 @@ moved_nothing passes (r ∷ h) T =
   where
     no_worth : (op : Op) (c : Code) (T : Tables) → moved_by [] op c T ≡ pos 0
     no_worth (Commit x one_phase) c T = elim (is_done c) as (λ b. (if b then pos 0 else pos 0) ≡ pos 0) [ true ↦ refl | false ↦ refl ]
+    no_worth (Heur x commits) c T = elim (is_done c && commits) as (λ b. (if b then pos 0 else pos 0) ≡ pos 0) [ true ↦ refl | false ↦ refl ]
     no_worth op c T = refl
 
 -- what is passed at one place alone

@@ -17,7 +17,7 @@ use Rattle.xa_driver.specs.declared.branch.Branch.{Branch}
 use Rattle.xa_driver.specs.declared.done.Done.{Done}
 use Rattle.xa_driver.specs.declared.done.Ending.{Ending}
 use Rattle.xa_driver.specs.Decision.{Yes, Read, No, vote_of, says_yes, says_read, says_no, is_yes, is_read, is_no, decides_commit, has_yes, yes_of}
-use Rattle.xa_driver.specs.Endings.{ending_of, yes_ending, no_ending, is_out_of_reach}
+use Rattle.xa_driver.specs.Endings.{ending_of, yes_ending, no_ending, is_out_of_reach, is_heuristic}
 use Rattle.xa_driver.specs.Log.{LogState, record_of}
 use Rattle.xa_driver.specs.Trace.{EachBranch, BranchTrace, IsCommit, IsTraceOfCommit, IsTranOf, MayCommit, Logs, appended, failed, unwanted, wants_record}
 use Rattle.xa_driver.specs.Outcomes.{is_committed, is_rolled_back, has_committed, has_rolled_back, has_vote_against, append_failed, was_refused, IsCommittedTransaction, IsAbortedTransaction}
@@ -35,11 +35,11 @@ neither v = elim (vote_of v) as (λ w. says_yes w ≡ false → says_read w ≡ 
 -- on abort nothing is committed
 not_by_abort : (v : Code) (s : Option Code) → Falls is_committed (yes_ending false s)
 not_by_abort v None = refl
-not_by_abort v (Some c) = by_if (Falls is_committed) (is_done c) _ _ (λ _. refl) (λ _. by_if (Falls is_committed) (is_rm_fail c) _ _ (λ _. refl) (λ _. refl))
+not_by_abort v (Some c) = by_if (Falls is_committed) (is_done c) _ _ (λ _. refl) (λ _. by_if (Falls is_committed) (is_rm_fail c) _ _ (λ _. refl) (λ _. by_if (Falls is_committed) (is_heuristic c) _ _ (λ _. refl) (λ _. refl)))
 
 not_by_no : (v : Code) (s : Option Code) → Falls is_committed (no_ending v s)
 not_by_no v None = refl
-not_by_no v (Some c) = by_if (Falls is_committed) (is_done c || history.is_rolled_back c) _ _ (λ _. refl) (λ _. refl)
+not_by_no v (Some c) = by_if (Falls is_committed) (is_done c || history.is_rolled_back c) _ _ (λ _. refl) (λ _. by_if (Falls is_committed) (is_heuristic c) _ _ (λ _. refl) (λ _. refl))
 
 -- what isn't voted for isn't committed
 unvoted : (commit : Bool) (v : Code) (s : Option Code) → is_yes v ≡ false → Falls is_committed (ending_of commit v s)
@@ -59,7 +59,7 @@ uncommitted v s =
 -- on commit nothing is rolled back, where no vote is against
 kept_by_commit : (s : Option Code) → Falls is_rolled_back (yes_ending true s)
 kept_by_commit None = refl
-kept_by_commit (Some c) = by_if (Falls is_rolled_back) (is_done c) _ _ (λ _. refl) (λ _. by_if (Falls is_rolled_back) (is_rm_fail c) _ _ (λ _. refl) (λ _. refl))
+kept_by_commit (Some c) = by_if (Falls is_rolled_back) (is_done c) _ _ (λ _. refl) (λ _. by_if (Falls is_rolled_back) (is_rm_fail c) _ _ (λ _. refl) (λ _. by_if (Falls is_rolled_back) (is_heuristic c) _ _ (λ _. refl) (λ _. refl)))
 
 not_rolled_back : (v : Code) (s : Option Code) → is_no v ≡ false → Falls is_rolled_back (ending_of true v s)
 not_rolled_back v s e =

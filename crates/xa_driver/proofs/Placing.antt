@@ -1,7 +1,7 @@
 -- Where the requests of one thread stand in a history, and what they were answered.
 use Rattle.std.proofs.Common.{◌≡◌, ◌≢◌, ℕ, zero, suc, ◌+◌, ◌<◌, ◌≤◌, true, false, ◌==◌, cond, List, [], ◌∷◌, ◌++◌, length, map, slice_get, get_or, sym, refl, ap, ◌∙◌, arith, Option, Some, None}
 use Rattle.std.specs.Prelude.{filter}
-use Rattle.std.specs.List.{filter_map, cons_option}
+use Rattle.std.specs.List.{cons_option}
 use Rattle.std.proofs.lemmas.Bool.{eqb-false}
 use Rattle.std.proofs.lemmas.List.Elements.{filter-append}
 use Rattle.xa_words.specs.Xid.{XidName}
@@ -10,7 +10,7 @@ use Rattle.xa_words.specs.declared.request.Op.{Op}
 use Rattle.xa_words.specs.declared.request.Request.{Request}
 use Rattle.xa_tables.specs.Tables.{Tables}
 use Rattle.xa_tables.specs.Next.{next}
-use Rattle.xa_tables.specs.History.{History, Fate, Absent, of_thread, tables_after, coded, fate_of, fate_in, last_or}
+use Rattle.xa_tables.specs.History.{History, Fate, Absent, of_thread, tables_after, coded, fate_of, fate_in, fates_in, last_or}
 use Rattle.xa_desk.specs.Lanes.{numbered}
 use Rattle.xa_worker.specs.Journal.{Entry}
 use Rattle.xa_switch.specs.Settling.{answers}
@@ -104,6 +104,24 @@ module _ (t : ℕ) where
       let on = all_later h r.0 r.1.1.0 r.1.1.1 k d (omega arith) own in
       let up = r.1.0 in
       omega (arith, on, up)
+
+  -- the first of them has its op
+  pub first_has : (h : History) (n : ℕ) (op : Op) (ops : List Op) → of_thread t h ≡ numbered t n (op ∷ ops) → (k : ℕ) (d : Request) → k < length h → (get_or h k d).thread ≡ t
+      → (get_or h k d).number < suc n → (get_or h k d).op ≡ op
+  first_has [] n op ops e k d lt own below = absurd (omega arith)
+  first_has (q ∷ h) n op ops e zero d lt own below =
+      elim (q.thread == t) as (λ b. (q.thread == t) ≡ b → cond b (q ∷ of_thread t h) (of_thread t h) ≡ numbered t n (op ∷ ops) → q.op ≡ op) [
+        | true ↦ λ mine e. let head : q ≡ request_of t n op = cc in ap (λ (r : Request). r.op) head
+        | false ↦ λ other e. absurd (eqb-false q.thread t other own)
+      ] refl e
+  first_has (q ∷ h) n op ops e (suc k) d lt own below =
+      elim (q.thread == t) as (λ b. (q.thread == t) ≡ b → cond b (q ∷ of_thread t h) (of_thread t h) ≡ numbered t n (op ∷ ops) → (get_or h k d).op ≡ op) [
+        | true ↦ λ mine e.
+            let tail : of_thread t h ≡ numbered t (suc n) ops = cc in
+            let up = all_later h (suc n) ops tail k d (omega arith) own in
+            absurd (omega (arith, up, below))
+        | false ↦ λ other e. first_has h n op ops e k d (omega arith) own below
+      ] refl e
 
   -- ---- the answers
 
@@ -199,7 +217,7 @@ sides t h before after sent op later place own =
 
 -- the fates that a history gives x, one by one
 abbrev pub fates : XidName → History → Tables → List Fate
-fates x h T = filter_map (λ e. fate_of x e.0.op e.1) (coded h T)
+fates x h T = fates_in x (coded h T)
 
 pub fates_both : (x : XidName) (h g : History) (T : Tables) → fates x (h ++ g) T ≡ fates x h T ++ fates x g (tables_after h T)
 fates_both x [] g T = refl

@@ -1,17 +1,18 @@
--- Whether a Commit is among what was sent.
+-- Whether a Commit, or a heuristic one, is among what was sent.
 use Rattle.std.specs.Prelude.{◌≡◌, ℕ, ◌≤◌, Bool, true, false, List, ◌++◌}
 use Rattle.std.specs.List.{list_any}
 use Rattle.xa_words.specs.declared.request.Op.{Op}
-use Rattle.xa_words.specs.declared.request.Op.TheVariants.{Commit}
+use Rattle.xa_words.specs.declared.request.Op.TheVariants.{Commit, Heur}
 use Rattle.xa_desk.specs.LedgerView.{LedgerView}
 use Rattle.xa_desk.specs.DeskView.{ledger}
 
--- a Commit, in one phase or two
+-- a Commit, in one phase or two, or a heuristic one
 abbrev pub is_commit : Op → Bool
 is_commit (Commit x one_phase) = true
+is_commit (Heur x commits) = commits
 is_commit op = false
 
--- what was sent to the manager since, and no Commit among it
+-- what was sent to the manager since, and none among it
 pub record HasSentNoCommit (a a' : LedgerView) : Type 0 where
   pub more : List Op
   pub sent : a'.sent ≡ a.sent ++ more

@@ -5,18 +5,22 @@ use Rattle.std.specs.List.{All, list_any}
 use Rattle.xa_words.specs.Xid.{XidName}
 use Rattle.xa_words.specs.Tran.{TranName}
 use Rattle.xa_words.specs.declared.code.Code.{Code}
+use Rattle.xa_words.specs.declared.code.Code.TheVariants.{Done as OK, HeurCom, HeurRb}
 use Rattle.xa_words.specs.declared.request.Request.{Request}
+use Rattle.xa_tables.specs.declared.state.HeuristicDecision.{HeuristicDecision}
+use Rattle.xa_tables.specs.Tables.{Tables}
+use Rattle.xa_tables.specs.Next.{next}
 use Rattle.xa_tables.specs.History as history
-use Rattle.xa_tables.specs.History.{History, Fate}
-use Rattle.xa_tables.specs.Prepared.{names, has_shut}
+use Rattle.xa_tables.specs.History.{History, Fate, tables_after, decided_fate}
+use Rattle.xa_tables.specs.Prepared.{names, is_heur, has_shut}
 use Rattle.xa_desk.specs.LedgerView.{LedgerView}
 use Rattle.xa_desk.specs.DeskView.{ledger}
 use Rattle.xa_switch.specs.Settling.{Settling}
-use Rattle.xa_switch.specs.Fates.{history as history_of, settled_fate}
+use Rattle.xa_switch.specs.Fates.{IsOpenedWith, history as history_of, settled_fate}
 use Rattle.xa_driver.specs.declared.branch.Branch.{Branch}
 use Rattle.xa_driver.specs.declared.done.Done.{Done}
 use Rattle.xa_driver.specs.declared.done.Ending.{Ending}
-use Rattle.xa_driver.specs.declared.done.Ending.TheVariants.{Committed, ReadOnly, RolledBack, InDoubt, Left}
+use Rattle.xa_driver.specs.declared.done.Ending.TheVariants.{Committed, ReadOnly, RolledBack, InDoubt, Heuristic, Left}
 use Rattle.xa_driver.specs.Decision.{is_yes, is_no, yes_of}
 use Rattle.xa_driver.specs.Log.{LogState, record_of}
 use Rattle.xa_driver.specs.Trace.{wants_record}
@@ -29,6 +33,7 @@ abbrev pub is_committed : Ending → Bool
 is_committed Committed = true
 is_committed ReadOnly = false
 is_committed RolledBack = false
+is_committed (Heuristic c) = false
 is_committed InDoubt = false
 is_committed (Left c) = false
 
@@ -37,6 +42,7 @@ abbrev pub is_rolled_back : Ending → Bool
 is_rolled_back Committed = false
 is_rolled_back ReadOnly = false
 is_rolled_back RolledBack = true
+is_rolled_back (Heuristic c) = false
 is_rolled_back InDoubt = false
 is_rolled_back (Left c) = false
 
@@ -45,14 +51,25 @@ abbrev pub is_in_doubt : Ending → Bool
 is_in_doubt Committed = false
 is_in_doubt ReadOnly = false
 is_in_doubt RolledBack = false
+is_in_doubt (Heuristic c) = false
 is_in_doubt InDoubt = true
 is_in_doubt (Left c) = false
+
+-- the ending, as a test
+abbrev pub is_heuristic : Ending → Bool
+is_heuristic Committed = false
+is_heuristic ReadOnly = false
+is_heuristic RolledBack = false
+is_heuristic (Heuristic c) = true
+is_heuristic InDoubt = false
+is_heuristic (Left c) = false
 
 -- the ending, as a test
 abbrev pub is_left : Ending → Bool
 is_left Committed = false
 is_left ReadOnly = false
 is_left RolledBack = false
+is_left (Heuristic c) = false
 is_left InDoubt = false
 is_left (Left c) = true
 
@@ -61,6 +78,7 @@ abbrev pub is_read_only : Ending → Bool
 is_read_only Committed = false
 is_read_only ReadOnly = true
 is_read_only RolledBack = false
+is_read_only (Heuristic c) = false
 is_read_only InDoubt = false
 is_read_only (Left c) = false
 
@@ -113,10 +131,22 @@ OnlyTheseName x t first last h =
     (before after : History) (r : Request) → h ≡ before ++ r ∷ after → r.thread ≡ t → r.number ≡ first
     → All (λ q. names x q.op ≡ true → IsBetween t first last q) after
 
+-- the same, but heuristic decisions may name it, whose ever they are
+abbrev pub OnlyTheseOrDecisionsName : XidName → ℕ → ℕ → ℕ → History → Type 0
+OnlyTheseOrDecisionsName x t first last h =
+    (before after : History) (r : Request) → h ≡ before ++ r ∷ after → r.thread ≡ t → r.number ≡ first
+    → All (λ q. names x q.op ≡ true → is_heur q.op ≡ false → IsBetween t first last q) after
+
 -- so for each branch and the requests that the call of thread t sent to its manager: nobody else names it
 pub record AreLeftAlone (s : Settling) (t : ℕ) (bs : List Branch) (old new : List LedgerView) : Type 0 where
   pub each : All
       (λ b. OnlyTheseName b.xid t (length (ledger old b.m).sent) (length (ledger new b.m).sent) (history_of s b.m)) bs
+
+-- nobody else names it, but for heuristic decisions
+pub record AreLeftOrDecided (s : Settling) (t : ℕ) (bs : List Branch) (old new : List LedgerView) : Type 0 where
+  pub each : All
+      (λ b. OnlyTheseOrDecisionsName b.xid t (length (ledger old b.m).sent) (length (ledger new b.m).sent)
+      (history_of s b.m)) bs
 
 -- a Shut stands before thread t's request of this number
 pub record IsAfterShut (t n : ℕ) (h : History) : Type 0 where
@@ -128,23 +158,58 @@ pub record IsAfterShut (t n : ℕ) (h : History) : Type 0 where
   pub number : request.number ≡ n
   pub shut : has_shut before ≡ true
 
--- the fate that an ending tells; what is left has any
+-- A heuristic decision of the branch was carried out after thread t's request of number n, in the history of a manager
+-- that was opened with the tables T.
+pub record IsDecidedAfter (x : XidName) (t n : ℕ) (T : Tables) (h : History) : Type 0 where
+  pub before : History
+  pub request : Request
+  pub between : History
+  pub decision : Request
+  pub after : History
+  pub place : h ≡ before ++ request ∷ (between ++ decision ∷ after)
+  pub thread : request.thread ≡ t
+  pub number : request.number ≡ n
+  pub named : names x decision.op ≡ true
+  pub decides : is_heur decision.op ≡ true
+  pub carried_out : (next decision.thread decision.op (tables_after (before ++ request ∷ between) T)).1 ≡ OK
+
+-- so in a settled opening
+abbrev pub WasDecidedAfter : Settling → Branch → ℕ → ℕ → Type 0
+WasDecidedAfter s b t n = (T : Tables) → IsOpenedWith s b.m T → IsDecidedAfter b.xid t n T (history_of s b.m)
+
+-- the fate that a heuristic decision's code tells; XA_HEURMIX and XA_HEURHAZ tell none
+abbrev pub heuristic_fate : Code → Option Fate
+heuristic_fate HeurCom = Some history.HeurCommitted
+heuristic_fate HeurRb = Some history.HeurRolledBack
+heuristic_fate c = None
+
+-- the fate that an ending tells; what is in doubt may have been decided, and what is left has any
 abbrev pub told_fate : Ending → Option Fate
 told_fate Committed = Some history.Committed
 told_fate ReadOnly = Some history.ReadOnly
 told_fate RolledBack = Some history.RolledBack
-told_fate InDoubt = Some history.InDoubt
+told_fate (Heuristic c) = heuristic_fate c
+told_fate InDoubt = None
 told_fate (Left c) = None
 
--- A branch that voted to commit, whose Prepare by thread t has number n, isn't left, and it is in doubt only where its
--- manager was shut before the place of its second request.
+-- A branch that voted to commit, whose Prepare by thread t has number n, isn't left. It is in doubt only where its
+-- manager was shut before the place of its second request, and ended heuristically only where a decision of it was
+-- carried out after its Prepare.
 pub record KeepsItsVote (s : Settling) (t : ℕ) (b : Branch) (n : ℕ) (vote : Code) (ending : Ending) : Type 0 where
   pub reached : is_yes vote ≡ true → is_left ending ≡ false
   pub shut : is_yes vote ≡ true → is_in_doubt ending ≡ true → IsAfterShut t (n + 1) (history_of s b.m)
+  pub decided : is_yes vote ≡ true → is_heuristic ending ≡ true → WasDecidedAfter s b t n
 
--- what is told of a branch became of it
-abbrev pub TellsTheFate : Settling → Branch → Ending → Type 0
-TellsTheFate s b ending = (f : Fate) → told_fate ending ≡ Some f → settled_fate s b.m b.xid ≡ f
+-- it is in doubt, or a decision of it was carried out after its Prepare, whose fate it has
+pub data IsInDoubtUnlessDecided (s : Settling) (t : ℕ) (b : Branch) (n : ℕ) : Type 0 where
+  undecided : settled_fate s b.m b.xid ≡ history.InDoubt → IsInDoubtUnlessDecided s t b n
+  decided : (d : HeuristicDecision) → settled_fate s b.m b.xid ≡ decided_fate d → WasDecidedAfter s b t n
+      → IsInDoubtUnlessDecided s t b n
+
+-- what is told of a branch, whose Prepare by thread t has number n, became of it
+pub record TellsTheFate (s : Settling) (t : ℕ) (b : Branch) (n : ℕ) (ending : Ending) : Type 0 where
+  pub told : (f : Fate) → told_fate ending ≡ Some f → settled_fate s b.m b.xid ≡ f
+  pub doubt : is_in_doubt ending ≡ true → IsInDoubtUnlessDecided s t b n
 
 -- branch by branch, with its vote and its ending
 abbrev pub EachOutcome : (Branch → Code → Ending → Type 0) → List Branch → List Code → List Ending → Type 0
@@ -157,5 +222,6 @@ pub record KeepsTheVotes (s : Settling) (t : ℕ) (bs : List Branch) (old : List
   pub each : EachOutcome
       (λ b v e. KeepsItsVote s t b (length (ledger old b.m).sent) v e) bs d.votes.items d.endings.items
 
-pub record TellsTheFates (s : Settling) (bs : List Branch) (d : Done) : Type 0 where
-  pub each : EachOutcome (λ b v e. TellsTheFate s b e) bs d.votes.items d.endings.items
+pub record TellsTheFates (s : Settling) (t : ℕ) (bs : List Branch) (old : List LedgerView) (d : Done) : Type 0 where
+  pub each : EachOutcome
+      (λ b v e. TellsTheFate s t b (length (ledger old b.m).sent) e) bs d.votes.items d.endings.items

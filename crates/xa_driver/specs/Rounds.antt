@@ -8,7 +8,7 @@ use Rattle.xa_driver.specs.declared.branch.Branch.{Branch}
 use Rattle.xa_driver.specs.declared.ask.Ask.{Ask}
 use Rattle.xa_driver.specs.declared.done.Ending.{Ending}
 use Rattle.xa_driver.specs.Decision.{is_yes}
-use Rattle.xa_driver.specs.Endings.{second_op, ending_of}
+use Rattle.xa_driver.specs.Endings.{second_op, third_op, ending_of}
 
 -- what a branch is asked first: to prepare
 abbrev pub first_ask : Branch → Ask
@@ -22,6 +22,10 @@ code_of k = unwrap_or k.code RmFail
 abbrev pub second_ask : Bool → Ask → Ask
 second_ask commit k =
     record { manager = k.manager; xid = k.xid; vote = code_of k; op = second_op commit k.xid (code_of k); code = None }
+
+-- what it is asked last, by its second code
+abbrev pub third_ask : Ask → Ask
+third_ask k = record { manager = k.manager; xid = k.xid; vote = k.vote; op = third_op k.xid k.code; code = None }
 
 -- its ending by the decision and both codes
 abbrev pub ending_of_ask : Bool → Ask → Ending

@@ -12,7 +12,7 @@ use Rattle.xa_driver.specs.declared.branch.Branch.{Branch}
 use Rattle.xa_driver.specs.declared.done.Done.{Done}
 use Rattle.xa_driver.specs.declared.done.Ending.{Ending}
 use Rattle.xa_driver.specs.Decision.{decides_commit, has_yes, yes_of}
-use Rattle.xa_driver.specs.Endings.{second_op, ending_of}
+use Rattle.xa_driver.specs.Endings.{second_op, third_op, ending_of}
 use Rattle.xa_driver.specs.Log.{LogState, record_of, with_record, with_failure}
 use Rattle.xa_driver.specs.Asks.{asked, IsAnswered}
 
@@ -20,13 +20,19 @@ use Rattle.xa_driver.specs.Asks.{asked, IsAnswered}
 abbrev pub voted : Branch → Code → LedgerView → LedgerView
 voted b vote a = asked a (Some (Prepare b.xid)) (Some vote)
 
--- a branch's manager got a Prepare and, where the decision wants one, a second request; each was collected;
--- nothing else was sent to it or collected from it
+-- the ledger after the second request, where there is one
+abbrev pub decided : Bool → Branch → Code → Option Code → LedgerView → LedgerView
+decided commit b vote second a = asked (voted b vote a) (second_op commit b.xid vote) second
+
+-- a branch's manager got a Prepare, where the decision wants one a second request, and where its code wants one a Forget;
+-- each was collected; nothing else was sent to it or collected from it
 pub record BranchTrace (commit : Bool) (b : Branch) (vote : Code) (second : Option Code)
     (a a' : LedgerView) : Type 0 where
   pub prepared : IsAnswered a (Some (Prepare b.xid)) (Some vote)
-  pub decided : IsAnswered (voted b vote a) (second_op commit b.xid vote) second
-  pub trace : a' ≡ asked (voted b vote a) (second_op commit b.xid vote) second
+  pub seconded : IsAnswered (voted b vote a) (second_op commit b.xid vote) second
+  pub third : Option Code
+  pub forgotten : IsAnswered (decided commit b vote second a) (third_op b.xid second) third
+  pub trace : a' ≡ asked (decided commit b vote second a) (third_op b.xid second) third
 
 -- branch by branch, with its vote, its second code and its ending
 abbrev pub EachBranch : (Branch → Code → Option Code → Ending → Type 0) → List Branch → List Code → List (Option Code)
@@ -49,10 +55,10 @@ abbrev pub AreBranchesRising : ℕ → List Branch → Type 0
 AreBranchesRising lo [] = Unit {0}
 AreBranchesRising lo (b ∷ bs) = (lo < b.m) × AreBranchesRising b.m bs
 
--- the manager is known, and the plan has room for two requests to it
+-- the manager is known, and the plan has room for three requests to it
 pub record HasRoom (at : List LedgerView) (m : ℕ) : Type 0 where
   pub known : IsKnown at m
-  pub room : length (ledger at m).sent + 2 ≤ (ledger at m).plan
+  pub room : length (ledger at m).sent + 3 ≤ (ledger at m).plan
 
 -- so for each branch
 abbrev pub HaveRoom : List LedgerView → List Branch → Type 0

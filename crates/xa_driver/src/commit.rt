@@ -12,7 +12,9 @@ use crate::ask::ask_all;
 use crate::branch::Branch;
 use crate::done::{Done, DriverFault};
 use crate::log::{CommitRecord, DecisionLog, Yes};
-use crate::rounds::{first_round, has_no, has_yes, read_endings, read_votes, second_round, yes_of};
+use crate::rounds::{
+    first_round, has_no, has_yes, read_endings, read_votes, second_round, third_round, yes_of,
+};
 use std::alloc::Global;
 use std::sync::Wait;
 use xa_desk::{Desk, Idle};
@@ -43,7 +45,8 @@ fn decide<L: DecisionLog>(log: &mut L, tran: Tran, yes: Yes, votes: &[Code]) -> 
 /// It sends a Prepare to every branch before it collects any, and decides commit where no vote is
 /// against. With a yes vote among them the decision is logged before the first Commit is sent; where the
 /// log doesn't take the record, the decision is abort. A branch that only read takes no part in the
-/// second phase. A full lane is idled on and tried again; a manager that is learnt to be shut is sent
+/// second phase. A branch that answers there that it was decided heuristically, with `XA_HEURCOM` or `XA_HEURRB`, is
+/// forgotten (`xa_forget()`), all of these in flight together; what that answers changes no ending. A full lane is idled on and tried again; a manager that is learnt to be shut is sent
 /// nothing, which counts as `XAER_RMFAIL`.
 pub fn commit_all<R: Wait, L: DecisionLog, I: Idle>(
     rt: &R,
@@ -73,6 +76,7 @@ pub fn commit_all<R: Wait, L: DecisionLog, I: Idle>(
 {
     let mut asks = first_round(alloc, branches)?;
     let mut seconds = Vec::with_capacity(alloc, branches.len())?;
+    let mut thirds = Vec::with_capacity(alloc, branches.len())?;
     let mut votes = Vec::with_capacity(alloc, branches.len())?;
     let mut endings = Vec::with_capacity(alloc, branches.len())?;
     let mut tickets = Vec::with_capacity(alloc, branches.len())?;
@@ -82,8 +86,10 @@ pub fn commit_all<R: Wait, L: DecisionLog, I: Idle>(
     let (commit, logged) = decide(log, tran, yes_of(&asks), &votes);
     second_round(&asks, commit, &mut seconds);
     ask_all(rt, desk, seconds.as_mut_slice(), &mut tickets, idle);
-    tickets.destroy_empty();
     read_endings(&seconds, commit, &mut endings);
+    third_round(&seconds, &mut thirds);
+    ask_all(rt, desk, thirds.as_mut_slice(), &mut tickets, idle);
+    tickets.destroy_empty();
     Ok(Done {
         commit,
         logged,

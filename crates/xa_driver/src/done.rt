@@ -15,6 +15,9 @@ pub enum Ending {
     RolledBack,
     /// It voted yes, and its manager was shut before it heard the decision.
     InDoubt,
+    /// It was decided heuristically: its second request was answered `XA_HEURCOM`, `XA_HEURRB`, `XA_HEURMIX` or
+    /// `XA_HEURHAZ`. After the first two the manager was told to forget it.
+    Heuristic(Code),
     /// The branch may still be there: the manager answered this code.
     Left(Code),
 }

@@ -22,7 +22,7 @@ ghost use Rattle.xa_driver.specs.declared.done.Done.{Done};
 ghost use Rattle.xa_driver.specs.Log.{LogState};
 ghost use Rattle.xa_driver.specs.Trace.{IsCommit, IsTraceOfCommit, IsTranOf, wants_record};
 ghost use Rattle.xa_driver.specs.Commits.{NoCommitWasSent};
-ghost use Rattle.xa_driver.specs.Outcomes.{AreLeftAlone, IsCommittedTransaction, IsAbortedTransaction, KeepsTheVotes, TellsTheFates, has_committed, is_in_doubt, was_refused};
+ghost use Rattle.xa_driver.specs.Outcomes.{AreLeftAlone, AreLeftOrDecided, IsCommittedTransaction, IsAbortedTransaction, KeepsTheVotes, TellsTheFates, has_committed, is_in_doubt, was_refused};
 ghost use Rattle.xa_driver.specs.Conservation.{OnlyTransfers, held_in_doubt};
 ghost use Rattle.xa_driver.specs.Additions.{CountsTheCommitted, HasAllOrNothing, is_decided};
 
@@ -36,9 +36,12 @@ use xa_switch::laws::{
     managers_open_with_their_accounts, settled_journals_follow_the_tables, threads_move_the_worth,
 };
 use xa_tables::laws::{
-    adders_never_vote_read_only, branches_hold_their_additions, late_requests_leave_fates,
-    only_a_shut_shuts, prepared_branches_await_the_outcome, prepared_branches_keep_what_they_hold,
-    read_only_branches_hold_nothing, refused_prepares_tell_integrity,
+    adders_never_vote_read_only, branches_hold_their_additions,
+    completed_branches_ended_as_decided, late_requests_leave_fates, only_a_shut_shuts,
+    only_completed_branches_tell_a_decision, only_prepared_branches_are_decided,
+    prepared_branches_await_the_outcome, prepared_branches_keep_what_they_hold,
+    prepared_is_in_doubt, read_only_branches_hold_nothing, refused_prepares_tell_integrity,
+    shut_managers_decide_nothing,
 };
 
 /// Of one call alone: where the append failed, no Commit was sent to any manager.
@@ -56,14 +59,15 @@ pub fn one_outcome()
     ensures aborted { (tran : TranName) (bs : List Branch) (desk : DeskView) (new : List LedgerView) (log later : LogState) (done : Done) → IsCommit bs desk new log later done → IsTranOf bs tran → was_refused done ≡ true → IsAbortedTransaction tran desk.ledgers new later done }
 {}
 
-/// In a settled opening, where nobody but the call named a branch after its Prepare: a branch that voted
-/// to commit isn't left, and is in doubt only where its manager was shut before the place of its second
-/// request; what the call tells of each branch is what became of it by its manager's journal; the values count
-/// each addition of a branch exactly where the branch was committed; and where no branch is in doubt or left,
-/// they count all additions of the transaction or none.
+/// In a settled opening, where nobody but the call named a branch after its Prepare, but for heuristic decisions: a
+/// branch that voted to commit isn't left, is in doubt only where its manager was shut before the place of its second
+/// request, and ended heuristically only where a decision of it was carried out after its Prepare; and what the call
+/// tells of each branch is what became of it by its manager's journal, where a branch in doubt may have been decided.
+/// Where no heuristic decision named a branch either, the values count each addition of it exactly where it was
+/// committed; and where no branch is in doubt or left, they count all additions of the transaction or none.
 pub fn endings_are_fates()
-    ensures votes { (s : Settling) (t : ℕ) (bs : List Branch) (desk : DeskView) (new : List LedgerView) (log later : LogState) (done : Done) → IsSettled s → IsCommit bs desk new log later done → HaveGrown new (ledgers_of s t) → AreLeftAlone s t bs desk.ledgers new → KeepsTheVotes s t bs desk.ledgers done }
-    ensures fates { (s : Settling) (t : ℕ) (bs : List Branch) (desk : DeskView) (new : List LedgerView) (log later : LogState) (done : Done) → IsSettled s → IsCommit bs desk new log later done → HaveGrown new (ledgers_of s t) → AreLeftAlone s t bs desk.ledgers new → TellsTheFates s bs done }
+    ensures votes { (s : Settling) (t : ℕ) (bs : List Branch) (desk : DeskView) (new : List LedgerView) (log later : LogState) (done : Done) → IsSettled s → IsCommit bs desk new log later done → HaveGrown new (ledgers_of s t) → AreLeftOrDecided s t bs desk.ledgers new → KeepsTheVotes s t bs desk.ledgers done }
+    ensures fates { (s : Settling) (t : ℕ) (bs : List Branch) (desk : DeskView) (new : List LedgerView) (log later : LogState) (done : Done) → IsSettled s → IsCommit bs desk new log later done → HaveGrown new (ledgers_of s t) → AreLeftOrDecided s t bs desk.ledgers new → TellsTheFates s t bs desk.ledgers done }
     ensures values { (s : Settling) (t : ℕ) (bs : List Branch) (desk : DeskView) (new : List LedgerView) (log later : LogState) (done : Done) → IsSettled s → IsCommit bs desk new log later done → HaveGrown new (ledgers_of s t) → AreLeftAlone s t bs desk.ledgers new → CountsTheCommitted s t bs desk.ledgers done }
     ensures whole { (s : Settling) (t : ℕ) (bs : List Branch) (desk : DeskView) (new : List LedgerView) (log later : LogState) (done : Done) → IsSettled s → IsCommit bs desk new log later done → HaveGrown new (ledgers_of s t) → AreLeftAlone s t bs desk.ledgers new → is_decided done ≡ true → HasAllOrNothing s t bs desk.ledgers done }
 {
@@ -74,6 +78,11 @@ pub fn endings_are_fates()
     refused_prepares_tell_integrity();
     prepared_branches_keep_what_they_hold();
     read_only_branches_hold_nothing();
+    prepared_is_in_doubt();
+    completed_branches_ended_as_decided();
+    only_prepared_branches_are_decided();
+    shut_managers_decide_nothing();
+    only_completed_branches_tell_a_decision();
     settled_journals_follow_the_tables();
 }
 
@@ -91,6 +100,11 @@ pub fn transfers_conserve_the_worth()
     refused_prepares_tell_integrity();
     prepared_branches_keep_what_they_hold();
     read_only_branches_hold_nothing();
+    prepared_is_in_doubt();
+    completed_branches_ended_as_decided();
+    only_prepared_branches_are_decided();
+    shut_managers_decide_nothing();
+    only_completed_branches_tell_a_decision();
     branches_hold_their_additions();
     settled_journals_follow_the_tables();
     managers_open_with_their_accounts();
@@ -118,8 +132,8 @@ pub fn commit_in_a_settled_opening<L: DecisionLog>(
     requires grown { HaveGrown after.now.value.ledgers (ledgers_of settled.now thread) }
     ensures committed { has_committed done.now ≡ true → (tran : TranName) → IsTranOf branches.now tran → IsCommittedTransaction tran branches.now (L.state log_after.now.value) done.now }
     ensures aborted { was_refused done.now ≡ true → (tran : TranName) → IsTranOf branches.now tran → IsAbortedTransaction tran before.now.value.ledgers after.now.value.ledgers (L.state log_after.now.value) done.now }
-    ensures votes { AreLeftAlone settled.now thread branches.now before.now.value.ledgers after.now.value.ledgers → KeepsTheVotes settled.now thread branches.now before.now.value.ledgers done.now }
-    ensures fates { AreLeftAlone settled.now thread branches.now before.now.value.ledgers after.now.value.ledgers → TellsTheFates settled.now branches.now done.now }
+    ensures votes { AreLeftOrDecided settled.now thread branches.now before.now.value.ledgers after.now.value.ledgers → KeepsTheVotes settled.now thread branches.now before.now.value.ledgers done.now }
+    ensures fates { AreLeftOrDecided settled.now thread branches.now before.now.value.ledgers after.now.value.ledgers → TellsTheFates settled.now thread branches.now before.now.value.ledgers done.now }
     ensures values { AreLeftAlone settled.now thread branches.now before.now.value.ledgers after.now.value.ledgers → CountsTheCommitted settled.now thread branches.now before.now.value.ledgers done.now }
     ensures whole { AreLeftAlone settled.now thread branches.now before.now.value.ledgers after.now.value.ledgers → is_decided done.now ≡ true → HasAllOrNothing settled.now thread branches.now before.now.value.ledgers done.now }
 {

@@ -26,7 +26,7 @@ fn have_room(desk: &Desk, branches: &[Branch]) -> bool
     ensures { IsTrue result ↔ HaveRoom desk.now.ledgers branches.now }
 {
     for branch in branches {
-        if desk.room(branch.m) < 2 {
+        if desk.room(branch.m) < 3 {
             return false;
         }
     }
@@ -51,7 +51,7 @@ fn is_tran_of(branches: &[Branch], tran: Tran) -> bool
 }
 
 /// Whether `commit_all` may be called: 1 to 8 branches of one global transaction, at known managers in
-/// rising order, a free handle for each, room for two requests to each manager, and no record yet.
+/// rising order, a free handle for each, room for three requests to each manager, and no record yet.
 pub fn may_commit<L: DecisionLog>(desk: &Desk, log: &L, branches: &[Branch]) -> bool
     ensures { IsTrue result ↔ MayCommit desk.now (L.state log.now) branches.now }
 {

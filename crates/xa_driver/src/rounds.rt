@@ -2,8 +2,8 @@
 ghost use Rattle.std.specs.Prelude.{◌≡◌, ℕ, ◌≤◌, map, IfOk, length, vec_capacity, Some, [], ◌∷◌};
 ghost use Rattle.std.specs.List.{list_any};
 ghost use Rattle.xa_driver.specs.Decision.{is_yes, is_read, is_no};
-ghost use Rattle.xa_driver.specs.Endings.{second_op, ending_of, is_out_of_reach};
-ghost use Rattle.xa_driver.specs.Rounds.{first_ask, code_of, second_ask, ending_of_ask, asked_yes};
+ghost use Rattle.xa_driver.specs.Endings.{second_op, third_op, ending_of, is_out_of_reach, is_heuristic, is_decided};
+ghost use Rattle.xa_driver.specs.Rounds.{first_ask, code_of, second_ask, third_ask, ending_of_ask, asked_yes};
 ghost use Rattle.xa_tables.specs.History.{is_rolled_back};
 
 use crate::ask::Ask;
@@ -47,6 +47,21 @@ fn is_out_of_reach(code: Code) -> bool
     matches!(code, Code::Nota | Code::RmFail)
 }
 
+fn is_heuristic(code: Code) -> bool
+    ensures { result ≡ is_heuristic code }
+{
+    matches!(
+        code,
+        Code::HeurMix | Code::HeurRb | Code::HeurCom | Code::HeurHaz
+    )
+}
+
+fn is_decided(code: Code) -> bool
+    ensures { result ≡ is_decided code }
+{
+    matches!(code, Code::HeurRb | Code::HeurCom)
+}
+
 // The second request of a branch with this vote.
 fn second_op(commit: bool, xid: &Xid, vote: Code) -> Option<Op>
     ensures { result ≡ second_op commit xid.now vote }
@@ -61,6 +76,16 @@ fn second_op(commit: bool, xid: &Xid, vote: Code) -> Option<Op>
         return None;
     }
     Some(Op::Rollback(*xid))
+}
+
+// The third request of a branch with this second code.
+fn third_op(xid: &Xid, second: Option<Code>) -> Option<Op>
+    ensures { result ≡ third_op xid.now second }
+{
+    match second {
+        Some(code) if is_decided(code) => Some(Op::Forget(*xid)),
+        _ => None,
+    }
 }
 
 // The ending of a branch by its vote and its second code.
@@ -80,6 +105,9 @@ fn ending_of(commit: bool, vote: Code, second: Option<Code>) -> Ending
         if matches!(code, Code::RmFail) {
             return Ending::InDoubt;
         }
+        if is_heuristic(code) {
+            return Ending::Heuristic(code);
+        }
         return Ending::Left(code);
     }
     if is_read(vote) {
@@ -96,6 +124,9 @@ fn ending_of(commit: bool, vote: Code, second: Option<Code>) -> Ending
     };
     if is_yes(code) || is_rolled_back(code) {
         return Ending::RolledBack;
+    }
+    if is_heuristic(code) {
+        return Ending::Heuristic(code);
     }
     Ending::Left(code)
 }
@@ -168,6 +199,23 @@ pub(crate) fn second_round(asks: &[Ask], commit: bool, seconds: &mut Vec<Ask>)
             xid: ask.xid,
             vote,
             op: second_op(commit, &ask.xid, vote),
+            code: None,
+        });
+    }
+}
+
+/// The third round, into a list with room for it.
+pub(crate) fn third_round(seconds: &[Ask], thirds: &mut Vec<Ask>)
+    requires empty { thirds.old.items ≡ [] }
+    requires room { length seconds.now ≤ vec_capacity thirds.old }
+    ensures { thirds.new.items ≡ map third_ask seconds.now }
+{
+    for ask in seconds {
+        thirds.push_reserved(Ask {
+            manager: ask.manager,
+            xid: ask.xid,
+            vote: ask.vote,
+            op: third_op(&ask.xid, ask.code),
             code: None,
         });
     }

@@ -5,7 +5,7 @@ ghost use Rattle.xa_switch.specs.Seats.{seat_of_worker};
 
 mod appending;
 mod endings;
-mod shut;
+mod meddling;
 mod threads;
 mod told;
 

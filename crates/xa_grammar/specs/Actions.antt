@@ -1,5 +1,5 @@
 -- Actions: what the threads do.
-use Rattle.std.specs.Prelude.{ℕ, pos, Bool, if◌then◌else◌, List, Option, Some, None, Result, Ok, Err, codes}
+use Rattle.std.specs.Prelude.{ℕ, pos, Bool, true, false, if◌then◌else◌, List, Option, Some, None, Result, Ok, Err, codes}
 use Rattle.std.specs.Option.{ok_or}
 use Rattle.std.specs.Str.{bytes_eq}
 use Rattle.xa_words.specs.declared.flags.Call.TheVariants as call
@@ -20,7 +20,7 @@ use Rattle.xa_grammar.specs.Fields.{flags_onto}
 use Rattle.xa_grammar.specs.Content.{Content, threads_of, managers_of}
 use Rattle.xa_grammar.specs.Commits.{commit_of}
 
--- What T calls is one of ten verbs.
+-- What T calls is one of thirteen verbs.
 abbrev pub verb_of : Word → Option Verb
 verb_of w =
     if bytes_eq w (codes "open") then Some (verb.Plain call.OpenRm)
@@ -30,6 +30,9 @@ verb_of w =
     else if bytes_eq w (codes "prepare") then Some (verb.OnBranch call.Prepare)
     else if bytes_eq w (codes "commit") then Some (verb.OnBranch call.Commit)
     else if bytes_eq w (codes "rollback") then Some (verb.OnBranch call.Rollback)
+    else if bytes_eq w (codes "forget") then Some (verb.OnBranch call.Forget)
+    else if bytes_eq w (codes "heurcom") then Some (verb.Heur true)
+    else if bytes_eq w (codes "heurrb") then Some (verb.Heur false)
     else if bytes_eq w (codes "add") then Some verb.Add
     else if bytes_eq w (codes "shut") then Some verb.Shut
     else if bytes_eq w (codes "complete") then Some verb.Complete
@@ -41,6 +44,9 @@ action_at (verb.Plain c) ws = Ok (action.Xa c None, ws)
 action_at (verb.OnBranch c) ws = do
   x ← xid_at ws
   Ok (action.Xa c (Some x.0), x.1)
+action_at (verb.Heur commits) ws = do
+  x ← xid_at ws
+  Ok (action.Native (rm.Heur x.0 commits), x.1)
 action_at verb.Add ws = do
   k ← key_at ws
   d ← delta_at k.1

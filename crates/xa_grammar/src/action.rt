@@ -20,6 +20,8 @@ pub(crate) enum Verb {
     Plain(Call),
     /// `XID`: a call of XA that names a branch.
     OnBranch(Call),
+    /// `XID`: a heuristic decision, to commit where true.
+    Heur(bool),
     /// `KEY DELTA`
     Add,
     /// Nothing.
@@ -45,6 +47,12 @@ fn verb_of(word: &[u8]) -> Option<Verb>
         Some(Verb::OnBranch(Call::Commit))
     } else if word == b"rollback".as_slice() {
         Some(Verb::OnBranch(Call::Rollback))
+    } else if word == b"forget".as_slice() {
+        Some(Verb::OnBranch(Call::Forget))
+    } else if word == b"heurcom".as_slice() {
+        Some(Verb::Heur(true))
+    } else if word == b"heurrb".as_slice() {
+        Some(Verb::Heur(false))
     } else if word == b"add".as_slice() {
         Some(Verb::Add)
     } else if word == b"shut".as_slice() {
@@ -64,6 +72,7 @@ fn action_at(verb: Verb, words: &mut Words) -> Result<Action, Reason>
     match verb {
         Verb::Plain(call) => Ok(Action::Xa(call, None)),
         Verb::OnBranch(call) => Ok(Action::Xa(call, Some(words.xid()?))),
+        Verb::Heur(commits) => Ok(Action::Native(RmOp::Heur(words.xid()?, commits))),
         Verb::Add => {
             let key = words.key()?;
             let delta = words.delta()?;

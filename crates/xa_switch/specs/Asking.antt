@@ -28,6 +28,7 @@ op_of call.End x m = Ok (op.End x m.how)
 op_of call.Prepare x m = Ok (op.Prepare x)
 op_of call.Commit x m = Ok (op.Commit x m.one_phase)
 op_of call.Rollback x m = Ok (op.Rollback x)
+op_of call.Forget x m = Ok (op.Forget x)
 op_of call.Complete x m = Err Inval
 
 -- The same where the xid may be wanting: opening and closing don't look at it.
@@ -47,6 +48,7 @@ asked_of c x f = do
 -- The op of a request outside XA.
 abbrev pub rm_op : RmOp → Op
 rm_op (rm.Add k d) = op.Add k d
+rm_op (rm.Heur x commits) = op.Heur x commits
 rm_op rm.Shut = op.Shut
 
 -- A call outside XA takes no other flag than TMASYNC.

@@ -25,6 +25,7 @@ pub(crate) fn asked_of(call: Call, xid: Option<Xid>, flags: u32) -> Result<Asked
         Call::Prepare => Op::Prepare(xid.ok_or(Code::Inval)?),
         Call::Commit => Op::Commit(xid.ok_or(Code::Inval)?, mode.one_phase),
         Call::Rollback => Op::Rollback(xid.ok_or(Code::Inval)?),
+        Call::Forget => Op::Forget(xid.ok_or(Code::Inval)?),
         Call::Complete => return Err(Code::Inval),
     };
     Ok(Asked {
@@ -38,6 +39,7 @@ fn rm_op(op: RmOp) -> Op
 {
     match op {
         RmOp::Add(key, delta) => Op::Add(key, delta),
+        RmOp::Heur(xid, commits) => Op::Heur(xid, commits),
         RmOp::Shut => Op::Shut,
     }
 }

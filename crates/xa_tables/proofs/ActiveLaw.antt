@@ -1,4 +1,4 @@
--- The law: a branch is active exactly while somebody is associated with it and it is neither prepared nor rollback-only.
+-- The law: a branch is active exactly while somebody is associated with it and it is in none of S3, S4 and S5.
 use Rattle.std.specs.Prelude.{◌≡◌, ◌≢◌, ℕ, Bool, true, false, cond, not, ◌&&◌, ◌||◌, if◌then◌else◌, Option, None, Some, is_some, [], ◌∷◌, refl}
 use Rattle.std.proofs.Common.{sym, ap, ◌∙◌, subst, ⊎_elim}
 use Rattle.std.specs.Ordering.{nat_cmp, eq_by_cmp, is_eq}
@@ -10,17 +10,18 @@ use Rattle.xa_words.specs.Xid.{XidName, xid_cmp, xid_eq}
 use Rattle.xa_words.specs.Orders.{Decides-xid_eq}
 use Rattle.xa_words.specs.declared.request.Op.{Op}
 use Rattle.xa_tables.specs.declared.state.State.{State}
-use Rattle.xa_tables.specs.declared.state.State.TheVariants.{Active, Idle, Prepared as S3, RollbackOnly}
+use Rattle.xa_tables.specs.declared.state.State.TheVariants.{Active, Idle, Prepared as S3, RollbackOnly, HeuristicallyCompleted}
+use Rattle.xa_tables.specs.declared.state.HeuristicDecision.TheVariants as decision
 use Rattle.xa_tables.specs.declared.state.RollbackReason.TheVariants.{Failed, Transient}
 use Rattle.xa_tables.specs.declared.state.Association.{Association}
 use Rattle.xa_tables.specs.declared.state.AssociationState.{AssociationState}
 use Rattle.xa_tables.specs.declared.state.AssociationState.TheVariants.{Associated, Suspended}
-use Rattle.xa_tables.specs.Tables.{Tables, association_of, has_association, is_association_with, is_associated, state_of, is_S1, is_S2, is_S3, is_S4, is_rollback_only, is_somebody_associated}
+use Rattle.xa_tables.specs.Tables.{Tables, association_of, has_association, is_association_with, is_associated, state_of, is_S1, is_S2, is_S3, is_S4, is_S5, is_rollback_only, is_somebody_associated}
 use Rattle.xa_tables.specs.Next.{Answer, next, association, with_association, associated, dissociated, stated, gone}
 use Rattle.xa_tables.specs.History.{History, tables_after, IsOpening, ActiveWhileAssociated}
 use Rattle.xa_tables.proofs.MapLemmas.{equal_from}
-use Rattle.xa_tables.proofs.Effects.{Effect, Starts, Joins, Resumes, Suspends, Leaves, Fails, Idles, Dooms, Prepares, Commits, Drops, effect_of}
-use Rattle.xa_tables.proofs.Law.{Sound, AtWork, standing, get_put, get_gone, run_sound, opening_sound}
+use Rattle.xa_tables.proofs.Effects.{Effect, Starts, Joins, Resumes, Suspends, Leaves, Fails, Idles, Dooms, Prepares, Commits, Drops, CommitsByItself, RollsBackByItself, Forgets, effect_of}
+use Rattle.xa_tables.proofs.Law.{Sound, AtWork, standing, get_put, get_gone, nobody_rests, run_sound, opening_sound}
 use Rattle.xa_tables.proofs.Unnamed.{apart_from, nobody_with, nobody_joins, nobody_leaves}
 
 -- a branch with which nobody is associated isn't active, and with an idle one nobody is
@@ -93,6 +94,7 @@ S4_alone (Some Active) e = cc
 S4_alone (Some Idle) e = refl
 S4_alone (Some S3) e = refl
 S4_alone (Some (RollbackOnly reason)) e = refl
+S4_alone (Some (HeuristicallyCompleted decision)) e = refl
 
 module _ (t : ℕ) (T : Tables) (w : AtWorkWhile T) where
   -- t, which had no association, works for y
@@ -172,6 +174,9 @@ module _ (t : ℕ) (T : Tables) (w : AtWorkWhile T) where
   by_effect (Prepares y nobody unbroken) = put_as y S3 refl refl
   by_effect (Commits y one_phase nobody may) = record { active = (without y).active; idle = (without y).idle }
   by_effect (Drops op y c nobody tells) = without y
+  by_effect (CommitsByItself y voted) = let p = put_as y (HeuristicallyCompleted decision.Commit) refl refl in record { active = p.active; idle = p.idle }
+  by_effect (RollsBackByItself y voted) = let p = put_as y (HeuristicallyCompleted decision.Rollback) refl refl in record { active = p.active; idle = p.idle }
+  by_effect (Forgets y is) = record { active = (without y).active; idle = (without y).idle }
   -- the others change no association and no state
   by_effect effect = record { active = w.active; idle = w.idle }
 
@@ -181,13 +186,7 @@ run_at_work : (h : History) (T : Tables) → AtWorkWhile T → AtWorkWhile (tabl
 run_at_work [] T w = w
 run_at_work (r ∷ h) T w = run_at_work h (next r.thread r.op T).0 (by_effect r.thread T w (effect_of r.thread r.op T))
 
--- nobody is associated with a branch that isn't at work
-nobody_idle : (T : Tables) → Sound T → (x : XidName) → standing (state_of T x) ≢ AtWork → is_somebody_associated T.associations x ≡ false
-nobody_idle T s x rests =
-    nobody_with x T.associations (λ t l found. false_from_ne_true (xid_eq l.xid x) (λ e.
-    rests (ap (λ z. standing (state_of T z)) (sym ((Decides-xid_eq l.xid x).0 e)) ∙ s.at_work t l found)))
-
-conclude : (o : Option State) (b : Bool) → (b ≡ false → is_S1 o ≡ false) → (is_S2 o ≡ true → b ≡ false) → (standing o ≢ AtWork → b ≡ false) → is_S1 o ≡ (b && not (is_S3 o || is_S4 o))
+conclude : (o : Option State) (b : Bool) → (b ≡ false → is_S1 o ≡ false) → (is_S2 o ≡ true → b ≡ false) → (standing o ≢ AtWork → b ≡ false) → is_S1 o ≡ (b && not (is_S3 o || (is_S4 o || is_S5 o)))
 conclude None true active idle rests = sym (rests (λ e. cc))
 conclude None false active idle rests = refl
 conclude (Some Active) true active idle rests = refl
@@ -198,6 +197,8 @@ conclude (Some S3) true active idle rests = refl
 conclude (Some S3) false active idle rests = refl
 conclude (Some (RollbackOnly reason)) true active idle rests = refl
 conclude (Some (RollbackOnly reason)) false active idle rests = refl
+conclude (Some (HeuristicallyCompleted decision)) true active idle rests = refl
+conclude (Some (HeuristicallyCompleted decision)) false active idle rests = refl
 
 opening_at_work : (T : Tables) → IsOpening T → AtWorkWhile T
 opening_at_work T o = record {
@@ -210,4 +211,4 @@ active_law h x T o =
     let U : Tables = tables_after h T in
     let w = run_at_work h T (opening_at_work T o) in
     let s = run_sound h T (opening_sound T o) in
-    conclude (state_of U x) (is_somebody_associated U.associations x) (w.active x) (w.idle x) (nobody_idle U s x)
+    conclude (state_of U x) (is_somebody_associated U.associations x) (w.active x) (w.idle x) (nobody_rests U s x)

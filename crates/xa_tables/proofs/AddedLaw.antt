@@ -10,11 +10,11 @@ use Rattle.xa_words.specs.declared.code.Code.TheVariants.{Done, RdOnly}
 use Rattle.xa_words.specs.declared.request.Op.{Op}
 use Rattle.xa_words.specs.declared.request.Op.TheVariants.{Add, Prepare}
 use Rattle.xa_tables.specs.declared.state.Association.{Association}
-use Rattle.xa_tables.specs.Tables.{Tables, touch_cmp, association_of, has_opened, exists, is_somebody_associated, is_prepared, is_rollback_only, reason_of, state_of, branch_in, is_broken, has_touched, is_at_work, is_declared, branch_of, has_other_touched, sum_of, sums_without}
+use Rattle.xa_tables.specs.Tables.{Tables, touch_cmp, association_of, has_opened, exists, is_somebody_associated, is_prepared, is_rollback_only, is_completed, reason_of, state_of, branch_in, is_broken, has_touched, is_at_work, is_declared, branch_of, has_other_touched, sum_of, sums_without}
 use Rattle.xa_tables.specs.Next.{Answer, next}
-use Rattle.xa_tables.specs.History.{History, Fate, Committed, ending, fate_of, if_named, tables_after, EndsNowhere, is_rolled_back}
+use Rattle.xa_tables.specs.History.{History, Fate, Committed, HeurCommitted, HeurRolledBack, ending, fate_of, if_named, tables_after, EndsNowhere, is_rolled_back}
 use Rattle.xa_base.proofs.Truth.{by_if}
-use Rattle.xa_tables.proofs.Effects.{Effect, Adds, Commits, Drops, effect_of, reason_rolls_back}
+use Rattle.xa_tables.proofs.Effects.{Effect, Adds, Commits, Drops, CommitsByItself, RollsBackByItself, effect_of, reason_rolls_back}
 use Rattle.xa_tables.proofs.Law.{swap_xid}
 use Rattle.xa_tables.proofs.MapLemmas.{none_passes}
 use Rattle.xa_tables.proofs.AccountLemmas.{touch_cmp_total, touch_cmp-IsAntisymmetric, touch_self}
@@ -67,6 +67,10 @@ stays t x k T (Commits y one_phase nobody may) h n =
     left_there x y k T (not_ended x y true (Some true) refl (sym (named_ending x y (Some Committed)) ∙ n)) h
 stays t x k T (Drops op y c nobody tells) h n =
     left_there x y k T (not_ended x y false _ tells.uncommitted (sym (ap ending (tells.fates x) ∙ named_ending x y (Some tells.fate)) ∙ n)) h
+stays t x k T (CommitsByItself y voted) h n =
+    left_there x y k T (not_ended x y true (Some true) refl (sym (named_ending x y (Some HeurCommitted)) ∙ n)) h
+stays t x k T (RollsBackByItself y voted) h n =
+    left_there x y k T (not_ended x y false (Some false) refl (sym (named_ending x y (Some HeurRolledBack)) ∙ n)) h
 stays t x k T effect h n = h
 
 stays_on : (g : History) (x : XidName) (k : List ℕ) (T : Tables) → HasAdded x k T → EndsNowhere x g T → HasAdded x k (tables_after g T)
@@ -108,7 +112,7 @@ reads_only t x T =
     by_if P (T.shut) _ _ (λ _ e. cc) (λ _.
     by_if P (not (has_opened T t)) _ _ (λ _ e. cc) (λ _.
     by_if P (not (exists T x)) _ _ (λ _ e. cc) (λ _.
-    by_if P (is_somebody_associated T.associations x || (is_prepared T x || is_rollback_only T x)) _ _ (λ _ e. cc) (λ _.
+    by_if P (is_somebody_associated T.associations x || (is_prepared T x || (is_rollback_only T x || is_completed T x))) _ _ (λ _ e. cc) (λ _.
     by_if P (not (has_touched T.sums x)) _ _ (λ none _. untouched _ none) (λ _.
     by_if P (is_broken T.values T.sums x) _ _ (λ _ e. cc) (λ _ e. cc))))))
 

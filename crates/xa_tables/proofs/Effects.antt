@@ -8,22 +8,24 @@ use Rattle.xa_base.proofs.Truth.{by_if}
 use Rattle.xa_words.specs.Xid.{XidName, xid_eq}
 use Rattle.xa_words.specs.Key.{key_eq}
 use Rattle.xa_words.specs.declared.code.Code.{Code}
-use Rattle.xa_words.specs.declared.code.Code.TheVariants.{Done, RdOnly, RbRollback, RbCommFail, RbDeadlock, RbIntegrity, RbOther, RbProto, RbTimeout, RbTransient, Async, RmErr, Nota, Inval, Proto, RmFail, DupId, Outside}
+use Rattle.xa_words.specs.declared.code.Code.TheVariants.{Done, RdOnly, RbRollback, RbCommFail, RbDeadlock, RbIntegrity, RbOther, RbProto, RbTimeout, RbTransient, HeurRb, HeurCom, Async, RmErr, Nota, Inval, Proto, RmFail, DupId, Outside}
 use Rattle.xa_words.specs.declared.request.Op.{Op}
-use Rattle.xa_words.specs.declared.request.Op.TheVariants.{OpenRm, CloseRm, Start, Add, End, Prepare, Commit, Rollback, Shut}
+use Rattle.xa_words.specs.declared.request.Op.TheVariants.{OpenRm, CloseRm, Start, Add, End, Prepare, Commit, Rollback, Forget, Heur, Shut}
 use Rattle.xa_words.specs.declared.request.StartHow.{StartHow}
 use Rattle.xa_words.specs.declared.request.StartHow.TheVariants.{Fresh, Join, Resume}
 use Rattle.xa_words.specs.declared.request.EndHow.{EndHow}
 use Rattle.xa_words.specs.declared.request.EndHow.TheVariants.{Success, Suspend, Fail}
 use Rattle.xa_tables.specs.declared.state.State.{State}
-use Rattle.xa_tables.specs.declared.state.State.TheVariants.{Active, Idle, Prepared as S3, RollbackOnly}
+use Rattle.xa_tables.specs.declared.state.State.TheVariants.{Active, Idle, Prepared as S3, RollbackOnly, HeuristicallyCompleted}
+use Rattle.xa_tables.specs.declared.state.HeuristicDecision.{HeuristicDecision}
+use Rattle.xa_tables.specs.declared.state.HeuristicDecision.TheVariants as decision
 use Rattle.xa_tables.specs.declared.state.RollbackReason.{RollbackReason}
 use Rattle.xa_tables.specs.declared.state.RollbackReason.TheVariants.{Failed, Transient}
 use Rattle.xa_tables.specs.declared.state.Association.{Association}
-use Rattle.xa_tables.specs.Tables.{Tables, has_opened, association_of, has_association, is_T1, branch_in, state_of, exists, is_S4, is_suspended, is_associated, is_idle, is_prepared, is_rollback_only, reason_in, reason_of, is_somebody_associated, is_declared, has_touched, has_other_touched, is_broken}
-use Rattle.xa_tables.specs.Reasons.{reason_code}
-use Rattle.xa_tables.specs.Next.{Answer, next, needs_opening, by_rules, open_rm, close_rm, start, add, end, prepare, commit_one, commit_two, rollback, is_suspend, associated, suspended, dissociated, stated, added, gone, committed, shut_down}
-use Rattle.xa_tables.specs.History.{Fate, Live, ReadOnly, RolledBack, fate_of, if_named, prepare_fate, commit_fate, rollback_fate, ending_by, is_done, is_rolled_back, added_by, share_of}
+use Rattle.xa_tables.specs.Tables.{Tables, has_opened, association_of, has_association, is_T1, branch_in, state_of, exists, is_S4, is_suspended, is_associated, is_idle, is_prepared, is_rollback_only, is_completed, is_S5, reason_in, reason_of, decision_in, decision_of, is_somebody_associated, is_declared, has_touched, has_other_touched, is_broken}
+use Rattle.xa_tables.specs.Reasons.{reason_code, decision_code}
+use Rattle.xa_tables.specs.Next.{Answer, next, needs_opening, by_rules, open_rm, close_rm, start, add, end, prepare, commit_one, commit_two, rollback, heur, forget, is_suspend, associated, suspended, dissociated, stated, added, gone, forgotten, completed, committed, shut_down}
+use Rattle.xa_tables.specs.History.{Fate, Live, ReadOnly, RolledBack, HeurCommitted, HeurRolledBack, fate_of, if_named, prepare_fate, commit_fate, rollback_fate, heur_fate, ending_by, is_done, is_rolled_back, added_by, share_of}
 use Rattle.xa_tables.specs.Prepared.{names}
 
 -- ---- what a code tells
@@ -94,12 +96,16 @@ error_rollback RbTimeout e = cc
 error_rollback RbTransient e = cc
 error_rollback c e = refl
 
+error_heur : (commits : Bool) (c : Code) → is_error c ≡ true → heur_fate commits c ≡ None
+error_heur commits c e = ap (λ b. if b then Some (if commits then HeurCommitted else HeurRolledBack) else None) (error_undone c e)
+
 error_fate : (x : XidName) (op : Op) (c : Code) → is_error c ≡ true → fate_of x op c ≡ None
 error_fate x (Start y Fresh) c e = ap (λ b. if_named x y (if b then Some Live else None)) (error_undone c e) ∙ named_none x y
 error_fate x (Start y how) c e = named_none x y
 error_fate x (Prepare y) c e = ap (if_named x y) (error_prepare c e) ∙ named_none x y
 error_fate x (Commit y one_phase) c e = ap (if_named x y) (error_commit c e) ∙ named_none x y
 error_fate x (Rollback y) c e = ap (if_named x y) (error_rollback c e) ∙ named_none x y
+error_fate x (Heur y commits) c e = ap (if_named x y) (error_heur commits c e) ∙ named_none x y
 error_fate x op c e = refl
 
 -- an error tells nothing, whatever was requested
@@ -118,6 +124,32 @@ reason_rolls_back (Some Active) e = cc
 reason_rolls_back (Some Idle) e = cc
 reason_rolls_back (Some S3) e = cc
 reason_rolls_back (Some (RollbackOnly reason)) e = code_rolls_back reason
+reason_rolls_back (Some (HeuristicallyCompleted decision)) e = cc
+
+-- a decision's code tells of no fate, to a Commit and to a Rollback
+decided_commit : (d : HeuristicDecision) → commit_fate (decision_code d) ≡ None
+decided_commit decision.Commit = refl
+decided_commit decision.Rollback = refl
+
+decided_rollback : (d : HeuristicDecision) → rollback_fate (decision_code d) ≡ None
+decided_rollback decision.Commit = refl
+decided_rollback decision.Rollback = refl
+
+pub decision_commits_nothing : (o : Option State) → is_S5 o ≡ true → commit_fate (decision_in o) ≡ None
+decision_commits_nothing None e = cc
+decision_commits_nothing (Some Active) e = cc
+decision_commits_nothing (Some Idle) e = cc
+decision_commits_nothing (Some S3) e = cc
+decision_commits_nothing (Some (RollbackOnly reason)) e = cc
+decision_commits_nothing (Some (HeuristicallyCompleted d)) e = decided_commit d
+
+pub decision_rolls_nothing_back : (o : Option State) → is_S5 o ≡ true → rollback_fate (decision_in o) ≡ None
+decision_rolls_nothing_back None e = cc
+decision_rolls_nothing_back (Some Active) e = cc
+decision_rolls_nothing_back (Some Idle) e = cc
+decision_rolls_nothing_back (Some S3) e = cc
+decision_rolls_nothing_back (Some (RollbackOnly reason)) e = cc
+decision_rolls_nothing_back (Some (HeuristicallyCompleted d)) e = decided_rollback d
 
 not_done : (r : Code) → is_rolled_back r ≡ true → is_done r ≡ false
 not_done Done e = cc
@@ -154,7 +186,7 @@ pub data Effect (t : ℕ) (T : Tables) : Op → Answer → Type 0 where
   Closes : Effect t T CloseRm (record T { opened = set.remove T.opened t }, Done)
   -- t begins a branch, joins one that is at work, and goes on with its own
   Starts : (y : XidName) → has_association T t ≡ false → Effect t T (Start y Fresh) (associated t y (stated y Active T), Done)
-  Joins : (y : XidName) → has_association T t ≡ false → exists T y ≡ true → is_prepared T y ≡ false → Effect t T (Start y Join) (associated t y (stated y Active T), Done)
+  Joins : (y : XidName) → has_association T t ≡ false → exists T y ≡ true → (is_prepared T y || is_completed T y) ≡ false → Effect t T (Start y Join) (associated t y (stated y Active T), Done)
   Resumes : (y : XidName) → is_associated T t y ≡ true → Effect t T (Start y Resume) (associated t y T, Done)
   -- t pauses, or leaves its branch as it is, only to be rolled back, or idle
   Suspends : (y : XidName) → is_associated T t y ≡ true → Effect t T (End y Suspend) (suspended t y T, Done)
@@ -168,6 +200,10 @@ pub data Effect (t : ℕ) (T : Tables) : Op → Answer → Type 0 where
   Prepares : (y : XidName) → is_somebody_associated T.associations y ≡ false → is_broken T.values T.sums y ≡ false → Effect t T (Prepare y) (stated y S3 T, Done)
   Commits : (y : XidName) (one_phase : Bool) → is_somebody_associated T.associations y ≡ false → (is_prepared T y ≡ true) ⊎ (is_broken T.values T.sums y ≡ false) → Effect t T (Commit y one_phase) (gone y (committed y T), Done)
   Drops : (op : Op) (y : XidName) (c : Code) → is_somebody_associated T.associations y ≡ false → TellsDropped op y c → Effect t T op (gone y T, c)
+  -- a prepared branch is committed or rolled back by a heuristic decision, and such a decision is forgotten
+  CommitsByItself : (y : XidName) → is_prepared T y ≡ true → Effect t T (Heur y true) (completed y decision.Commit (committed y T), Done)
+  RollsBackByItself : (y : XidName) → is_prepared T y ≡ true → Effect t T (Heur y false) (completed y decision.Rollback T, Done)
+  Forgets : (y : XidName) → is_completed T y ≡ true → Effect t T (Forget y) (forgotten y T, Done)
 
 -- ---- the walk
 
@@ -190,7 +226,7 @@ module _ (t : ℕ) (T : Tables) where
       let Q : Answer → Type 0 = Effect t T (Start y Join) in
       by_if Q (has_association T t) _ _ (λ _. refuses (Start y Join) Proto refl) (λ free.
       by_if Q (not (exists T y)) _ _ (λ _. refuses (Start y Join) Nota refl) (λ there.
-      by_if Q (is_prepared T y) _ _ (λ _. refuses (Start y Join) Proto refl) (λ unprepared.
+      by_if Q (is_prepared T y || is_completed T y) _ _ (λ _. refuses (Start y Join) Proto refl) (λ unprepared.
       by_if Q (is_rollback_only T y) _ _ (λ _. Stays (Start y Join) (reason_of T y) (record { fates = λ x. named_none x y; shares = λ k l later. refl })) (λ _.
       Joins y free (not-false _ there) unprepared))))
   at_start Resume y =
@@ -242,7 +278,7 @@ module _ (t : ℕ) (T : Tables) where
   at_prepare y =
       let Q : Answer → Type 0 = Effect t T (Prepare y) in
       by_if Q (not (exists T y)) _ _ (λ _. refuses (Prepare y) Nota refl) (λ _.
-      by_if Q (is_somebody_associated T.associations y || (is_prepared T y || is_rollback_only T y)) _ _ (λ _. refuses (Prepare y) Proto refl) (λ free.
+      by_if Q (is_somebody_associated T.associations y || (is_prepared T y || (is_rollback_only T y || is_completed T y))) _ _ (λ _. refuses (Prepare y) Proto refl) (λ free.
       let nobody = (or_parts (is_somebody_associated T.associations y) _ free).0 in
       by_if Q (not (has_touched T.sums y)) _ _ (λ _. Drops (Prepare y) y RdOnly nobody (read_only_drops y)) (λ _.
       by_if Q (is_broken T.values T.sums y) _ _ (λ _. Drops (Prepare y) y RbIntegrity nobody (broken_prepare_drops y)) (λ unbroken. Prepares y nobody unbroken))))
@@ -257,17 +293,35 @@ module _ (t : ℕ) (T : Tables) where
   at_commit false y =
       let Q : Answer → Type 0 = Effect t T (Commit y false) in
       by_if Q (not (exists T y)) _ _ (λ _. refuses (Commit y false) Nota refl) (λ _.
+      by_if Q (is_completed T y) _ _ (λ decided. Stays (Commit y false) (decision_of T y) (record { fates = λ x. ap (if_named x y) (decision_commits_nothing (state_of T y) decided) ∙ named_none x y; shares = λ k l later. refl })) (λ _.
       by_if Q (is_somebody_associated T.associations y || not (is_prepared T y)) _ _ (λ _. refuses (Commit y false) Proto refl) (λ free.
       let parts = or_parts (is_somebody_associated T.associations y) _ free in
-      Commits y false parts.0 (inl (not-false (is_prepared T y) parts.1))))
+      Commits y false parts.0 (inl (not-false (is_prepared T y) parts.1)))))
 
   at_rollback : (y : XidName) → Effect t T (Rollback y) (rollback y T)
   at_rollback y =
       let Q : Answer → Type 0 = Effect t T (Rollback y) in
       by_if Q (not (exists T y)) _ _ (λ _. refuses (Rollback y) Nota refl) (λ _.
+      by_if Q (is_completed T y) _ _ (λ decided. Stays (Rollback y) (decision_of T y) (record { fates = λ x. ap (if_named x y) (decision_rolls_nothing_back (state_of T y) decided) ∙ named_none x y; shares = λ k l later. refl })) (λ _.
       by_if Q (is_somebody_associated T.associations y) _ _ (λ _. refuses (Rollback y) Proto refl) (λ nobody.
       by_if Q (is_rollback_only T y) _ _ (λ doomed. Drops (Rollback y) y (reason_of T y) nobody (rollback_drops y (reason_of T y) (ap (λ b. is_done (reason_of T y) || b) (reason_rolls_back (state_of T y) doomed) ∙ or-true (is_done (reason_of T y))))) (λ _.
-      Drops (Rollback y) y Done nobody (rollback_drops y Done refl))))
+      Drops (Rollback y) y Done nobody (rollback_drops y Done refl)))))
+
+  at_heur : (commits : Bool) (y : XidName) → Effect t T (Heur y commits) (heur y commits T)
+  at_heur true y =
+      let Q : Answer → Type 0 = Effect t T (Heur y true) in
+      by_if Q (not (exists T y)) _ _ (λ _. refuses (Heur y true) Nota refl) (λ _.
+      by_if Q (not (is_prepared T y)) _ _ (λ _. refuses (Heur y true) Proto refl) (λ voted. CommitsByItself y (not-false (is_prepared T y) voted)))
+  at_heur false y =
+      let Q : Answer → Type 0 = Effect t T (Heur y false) in
+      by_if Q (not (exists T y)) _ _ (λ _. refuses (Heur y false) Nota refl) (λ _.
+      by_if Q (not (is_prepared T y)) _ _ (λ _. refuses (Heur y false) Proto refl) (λ voted. RollsBackByItself y (not-false (is_prepared T y) voted)))
+
+  at_forget : (y : XidName) → Effect t T (Forget y) (forget y T)
+  at_forget y =
+      let Q : Answer → Type 0 = Effect t T (Forget y) in
+      by_if Q (not (exists T y)) _ _ (λ _. refuses (Forget y) Nota refl) (λ _.
+      by_if Q (not (is_completed T y)) _ _ (λ _. refuses (Forget y) Proto refl) (λ decided. Forgets y (not-false (is_completed T y) decided)))
 
   at_rules : (op : Op) → Effect t T op (by_rules t op T)
   at_rules Shut = Shuts
@@ -279,6 +333,8 @@ module _ (t : ℕ) (T : Tables) where
   at_rules (Prepare y) = at_prepare y
   at_rules (Commit y one_phase) = at_commit one_phase y
   at_rules (Rollback y) = at_rollback y
+  at_rules (Forget y) = at_forget y
+  at_rules (Heur y commits) = at_heur commits y
 
 -- each request has one of them
 pub effect_of : (t : ℕ) (op : Op) (T : Tables) → Effect t T op (next t op T)

@@ -1,26 +1,31 @@
--- The law: a branch is in S3 exactly if its fate is InDoubt.
-use Rattle.std.specs.Prelude.{◌≡◌, ℕ, pos, Bool, true, false, cond, if◌then◌else◌, Option, None, Some, is_some, unwrap_or, List, [], ◌∷◌, refl}
+-- The laws: a branch is in S3 exactly if its fate is InDoubt, and exists while it hasn't ended or is S5.
+use Rattle.std.specs.Prelude.{◌≡◌, ◌≢◌, ℕ, pos, Bool, true, false, cond, ◌||◌, if◌then◌else◌, Option, None, Some, is_some, unwrap_or, List, [], ◌∷◌, refl}
 use Rattle.std.proofs.Common.{sym, ap, ◌∙◌}
 use Rattle.std.specs.FinMap as map
-use Rattle.std.specs.FinMap.{get-empty, get-insert, get-remove}
+use Rattle.std.specs.FinMap.{get-empty, get-insert, get-remove, nat_cmp-IsAntisymmetric}
+use Rattle.std.specs.Cmp.{nat_cmp_total}
 use Rattle.std.specs.Ordering.{nat_cmp}
+use Rattle.std.proofs.lemmas.Bool.{false_from_ne_true}
 use Rattle.std.proofs.lemmas.Bool.Decides.{same_from_decides}
 use Rattle.xa_words.specs.Xid.{XidName, xid_cmp, xid_eq}
 use Rattle.xa_words.specs.Orders.{xid_cmp_total, Decides-xid_eq, xid_eq-by_cmp}
 use Rattle.xa_words.specs.declared.request.Op.{Op}
-use Rattle.xa_words.specs.declared.request.Op.TheVariants.{Start}
+use Rattle.xa_words.specs.declared.request.Op.TheVariants.{Start, Forget}
 use Rattle.xa_words.specs.declared.request.StartHow.TheVariants.{Join, Resume}
 use Rattle.xa_tables.specs.declared.state.State.{State}
-use Rattle.xa_tables.specs.declared.state.State.TheVariants.{Active, Idle, Prepared as S3, RollbackOnly}
+use Rattle.xa_tables.specs.declared.state.State.TheVariants.{Active, Idle, Prepared as S3, RollbackOnly, HeuristicallyCompleted}
+use Rattle.xa_tables.specs.declared.state.HeuristicDecision.{HeuristicDecision}
+use Rattle.xa_tables.specs.declared.state.HeuristicDecision.TheVariants as decision
 use Rattle.xa_tables.specs.declared.state.RollbackReason.TheVariants.{Failed, Transient}
 use Rattle.xa_tables.specs.declared.state.AssociationState.{AssociationState}
 use Rattle.xa_tables.specs.declared.state.AssociationState.TheVariants.{Associated, Suspended}
-use Rattle.xa_tables.specs.Tables.{Tables, association_of, state_of, is_S3, is_association_with, is_associated, is_somebody_associated}
-use Rattle.xa_tables.specs.Next.{Answer, next, gone, stated, with_association, associated, dissociated, association}
-use Rattle.xa_tables.specs.History.{History, Fate, ending_by, InDoubt, Live, Committed, ReadOnly, RolledBack, Absent, is_in_doubt, is_unfinished, fate, fate_of, last_or, if_named, tables_after, coded, accepted, IsOpening, PreparedIsInDoubt, ExistsWhileUnfinished}
+use Rattle.xa_tables.specs.Tables.{Tables, association_of, state_of, is_S3, is_S5, is_prepared, is_association_with, is_associated, is_somebody_associated}
+use Rattle.xa_tables.specs.Next.{Answer, next, gone, forgotten, stated, with_association, associated, dissociated, association}
+use Rattle.xa_tables.specs.History.{History, Fate, ending_by, InDoubt, Live, Committed, ReadOnly, RolledBack, HeurCommitted, HeurRolledBack, Absent, is_in_doubt, is_unfinished, fate, fate_of, last_or, if_named, tables_after, coded, accepted, IsOpening, PreparedIsInDoubt, ExistsWhileUnfinished}
 use Rattle.std.specs.List.{filter_map, cons_option}
+use Rattle.xa_tables.proofs.MapLemmas.{none_pass}
 use Rattle.xa_tables.proofs.ShutLemmas.{after_accepted}
-use Rattle.xa_tables.proofs.Effects.{Effect, Stays, Starts, Joins, Resumes, Suspends, Leaves, Fails, Idles, Dooms, Prepares, Commits, Drops, effect_of, named_none}
+use Rattle.xa_tables.proofs.Effects.{Effect, Stays, Starts, Joins, Resumes, Suspends, Leaves, Fails, Idles, Dooms, Prepares, Commits, Drops, CommitsByItself, RollsBackByItself, Forgets, effect_of, named_none}
 use Rattle.xa_tables.proofs.SoundLemmas.{AreHeld, held_put, held_associated, held_dissociated, held_apart, held_now, associated_held, others_put, others_removed}
 
 -- how a branch stands, as its state and as its fate have it
@@ -35,6 +40,7 @@ standing (Some Active) = AtWork
 standing (Some Idle) = AtWork
 standing (Some S3) = Voted
 standing (Some (RollbackOnly reason)) = AtWork
+standing (Some (HeuristicallyCompleted decision)) = Nowhere
 
 abbrev pub standing_of : Fate → Standing
 standing_of Absent = Nowhere
@@ -43,6 +49,8 @@ standing_of InDoubt = Voted
 standing_of Committed = Nowhere
 standing_of ReadOnly = Nowhere
 standing_of RolledBack = Nowhere
+standing_of HeurCommitted = Nowhere
+standing_of HeurRolledBack = Nowhere
 
 -- a fate of a branch that stands so
 abbrev fate_at : Standing → Fate
@@ -66,6 +74,7 @@ state_voted (Some Active) = refl
 state_voted (Some Idle) = refl
 state_voted (Some S3) = refl
 state_voted (Some (RollbackOnly reason)) = refl
+state_voted (Some (HeuristicallyCompleted decision)) = refl
 
 fate_voted : (f : Fate) → is_in_doubt f ≡ is_voted (standing_of f)
 fate_voted Absent = refl
@@ -74,18 +83,21 @@ fate_voted InDoubt = refl
 fate_voted Committed = refl
 fate_voted ReadOnly = refl
 fate_voted RolledBack = refl
+fate_voted HeurCommitted = refl
+fate_voted HeurRolledBack = refl
 
 abbrev is_there : Standing → Bool
 is_there Nowhere = false
 is_there AtWork = true
 is_there Voted = true
 
-state_there : (o : Option State) → is_some o ≡ is_there (standing o)
+state_there : (o : Option State) → is_some o ≡ (is_there (standing o) || is_S5 o)
 state_there None = refl
 state_there (Some Active) = refl
 state_there (Some Idle) = refl
 state_there (Some S3) = refl
 state_there (Some (RollbackOnly reason)) = refl
+state_there (Some (HeuristicallyCompleted decision)) = refl
 
 fate_there : (f : Fate) → is_unfinished f ≡ is_there (standing_of f)
 fate_there Absent = refl
@@ -94,14 +106,34 @@ fate_there InDoubt = refl
 fate_there Committed = refl
 fate_there ReadOnly = refl
 fate_there RolledBack = refl
+fate_there HeurCommitted = refl
+fate_there HeurRolledBack = refl
 
--- a branch that exists and isn't in S3
-works : (o : Option State) → is_some o ≡ true → is_S3 o ≡ false → standing o ≡ AtWork
+-- a branch that exists and is in neither S3 nor S5
+works : (o : Option State) → is_some o ≡ true → (is_S3 o || is_S5 o) ≡ false → standing o ≡ AtWork
 works None some e = cc
 works (Some Active) some e = refl
 works (Some Idle) some e = refl
 works (Some S3) some e = cc
 works (Some (RollbackOnly reason)) some e = refl
+works (Some (HeuristicallyCompleted decision)) some e = cc
+
+-- a branch in S3 or S5
+pub voted_rests : (o : Option State) → is_S3 o ≡ true → standing o ≢ AtWork
+voted_rests None e = cc
+voted_rests (Some Active) e = cc
+voted_rests (Some Idle) e = cc
+voted_rests (Some S3) e = λ w. cc
+voted_rests (Some (RollbackOnly reason)) e = cc
+voted_rests (Some (HeuristicallyCompleted decision)) e = cc
+
+pub completed_nowhere : (o : Option State) → is_S5 o ≡ true → standing o ≡ Nowhere
+completed_nowhere None e = cc
+completed_nowhere (Some Active) e = cc
+completed_nowhere (Some Idle) e = cc
+completed_nowhere (Some S3) e = cc
+completed_nowhere (Some (RollbackOnly reason)) e = cc
+completed_nowhere (Some (HeuristicallyCompleted decision)) e = refl
 
 -- each association is with a branch at work
 pub record Sound (T : Tables) : Type 0 where
@@ -144,6 +176,21 @@ quiet_put x y s T e =
       | false ↦ λ t. refl
     ] refl
 
+-- y, which stands nowhere, is gone
+quiet_gone : (x y : XidName) (T : Tables) → standing (state_of T y) ≡ Nowhere → standing (state_of (forgotten y T) x) ≡ standing (state_of T x)
+quiet_gone x y T e =
+    ap standing (get_gone T y x)
+    ∙ elim (xid_eq y x) as (λ b. xid_eq y x ≡ b → standing (if b then None else state_of T x) ≡ standing (state_of T x)) [
+      | true ↦ λ t. sym e ∙ ap (λ z. standing (state_of T z)) ((Decides-xid_eq y x).0 t)
+      | false ↦ λ t. refl
+    ] refl
+
+-- nobody is associated with a branch that isn't at work
+pub nobody_rests : (T : Tables) → Sound T → (x : XidName) → standing (state_of T x) ≢ AtWork → is_somebody_associated T.associations x ≡ false
+nobody_rests T s x rests =
+    none_pass nat_cmp_total nat_cmp-IsAntisymmetric (λ t l. xid_eq l.xid x) T.associations (λ t l found. false_from_ne_true (xid_eq l.xid x) (λ e.
+    rests (ap (λ z. standing (state_of T z)) (sym ((Decides-xid_eq l.xid x).0 e)) ∙ s.at_work t l found)))
+
 -- t is associated with y, and y is S1
 started : (t : ℕ) (y : XidName) (T : Tables) → Sound T → Sound (associated t y (stated y Active T))
 started t y T s =
@@ -174,6 +221,8 @@ dropped_nowhere InDoubt e = cc
 dropped_nowhere Committed e = cc
 dropped_nowhere ReadOnly e = refl
 dropped_nowhere RolledBack e = refl
+dropped_nowhere HeurCommitted e = cc
+dropped_nowhere HeurRolledBack e = refl
 
 module _ (t : ℕ) (x : XidName) (f : Fate) (T : Tables) (s : Sound T) (h : standing (state_of T x) ≡ standing_of f) where
   same : (op : Op) (a : Answer) → Sound a.0 → fate_of x op a.1 ≡ None → standing (state_of a.0 x) ≡ standing_of f → Step x op f a
@@ -184,6 +233,10 @@ module _ (t : ℕ) (x : XidName) (f : Fate) (T : Tables) (s : Sound T) (h : stan
 
   removed : (y : XidName) → is_somebody_associated T.associations y ≡ false → AreHeld standing AtWork T.associations (gone y T).states
   removed y nobody = held_apart standing AtWork _ _ _ y (others_removed T.states y) nobody s.at_work
+
+  -- a prepared branch is decided heuristically
+  decided : (y : XidName) (d : HeuristicDecision) → is_prepared T y ≡ true → AreHeld standing AtWork T.associations (stated y (HeuristicallyCompleted d) T).states
+  decided y d voted = held_apart standing AtWork T.associations T.states _ y (others_put T.states y (HeuristicallyCompleted d)) (nobody_rests T s y (voted_rests (state_of T y) voted)) s.at_work
 
   by_effect : {op : Op} {a : Answer} → Effect t T op a → Step x op f a
   by_effect (Stays op c tells) = same op (T, c) s (tells.fates x) h
@@ -213,18 +266,23 @@ module _ (t : ℕ) (x : XidName) (f : Fate) (T : Tables) (s : Sound T) (h : stan
     sound = record { at_work = removed y nobody };
     owes = owes_gone x y tells.fate f T (dropped_nowhere tells.fate tells.uncommitted) h ∙ ap (λ o. standing_of (unwrap_or o f)) (sym (tells.fates x));
   }
+  by_effect (CommitsByItself y voted) = record { sound = record { at_work = decided y decision.Commit voted }; owes = owes_put x y (HeuristicallyCompleted decision.Commit) HeurCommitted f T refl h }
+  by_effect (RollsBackByItself y voted) = record { sound = record { at_work = decided y decision.Rollback voted }; owes = owes_put x y (HeuristicallyCompleted decision.Rollback) HeurRolledBack f T refl h }
+  by_effect (Forgets y is) =
+      let nowhere = completed_nowhere (state_of T y) is in
+      same (Forget y) _ (record { at_work = removed y (nobody_rests T s y (λ w. let z : Nowhere ≡ AtWork = sym nowhere ∙ w in cc)) }) refl (quiet_gone x y T nowhere ∙ h)
   -- the others change no state and no association
   by_effect effect = record { sound = record { at_work = s.at_work }; owes = h }
 
 pub step : (t : ℕ) (op : Op) (x : XidName) (f : Fate) (T : Tables) → Sound T → standing (state_of T x) ≡ standing_of f → Step x op f (next t op T)
 step t op x f T s h = by_effect t x f T s h (effect_of t op T)
 
-last_more : (f : Fate) (o : Option Fate) (gs : List Fate) → last_or (unwrap_or o f) gs ≡ last_or f (cons_option o gs)
+pub last_more : (f : Fate) (o : Option Fate) (gs : List Fate) → last_or (unwrap_or o f) gs ≡ last_or f (cons_option o gs)
 last_more f None gs = refl
 last_more f (Some g) gs = refl
 
 -- the fates that a history gives x, one by one
-abbrev fates : XidName → History → Tables → List Fate
+abbrev pub fates : XidName → History → Tables → List Fate
 fates x H T = filter_map (λ e. fate_of x e.0.op e.1) (coded H T)
 
 run : (H : History) (x : XidName) (f : Fate) (T : Tables) → Sound T → standing (state_of T x) ≡ standing_of f → standing (state_of (tables_after H T) x) ≡ standing_of (last_or f (fates x H T))
@@ -257,4 +315,4 @@ pub in_doubt_law : (H : History) (x : XidName) (T : Tables) → IsOpening T → 
 in_doubt_law H x T o = state_voted _ ∙ ap is_voted (standing_law H x T o) ∙ sym (fate_voted _)
 
 pub there_law : (H : History) (x : XidName) (T : Tables) → IsOpening T → ExistsWhileUnfinished x H T
-there_law H x T o = state_there _ ∙ ap is_there (standing_law H x T o) ∙ sym (fate_there _)
+there_law H x T o = state_there _ ∙ ap (λ b. b || is_S5 (state_of (tables_after H T) x)) (ap is_there (standing_law H x T o) ∙ sym (fate_there _))

@@ -15,7 +15,10 @@ pub mod WorkLaw
 pub mod LateLaw
 pub mod Unnamed
 pub mod Opened
+pub mod HeuristicLaw
 pub mod PreparedLaw
 pub mod ActiveLaw
 pub mod WithinLaw
 pub mod FateLaw
+pub mod TouchLaw
+pub mod DecidedLaw

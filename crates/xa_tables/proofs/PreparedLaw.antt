@@ -1,78 +1,94 @@
 -- The laws of prepared branches: they stay prepared, and await the outcome; and what a Prepare and a Shut leave.
-use Rattle.std.specs.Prelude.{◌≡◌, ℕ, Bool, true, false, not, ◌||◌, if◌then◌else◌, Some, is_some, List, [], ◌∷◌, ◌++◌, refl}
-use Rattle.std.proofs.Common.{sym, ap, ◌∙◌}
+use Rattle.std.specs.Prelude.{◌≡◌, ℕ, Bool, true, false, not, ◌||◌, if◌then◌else◌, None, Some, is_some, List, [], ◌∷◌, ◌++◌, refl}
+use Rattle.std.proofs.Common.{sym, ap, ◌∙◌, zero, suc, get_or, arith}
 use Rattle.std.specs.FinMap as map
-use Rattle.std.proofs.lemmas.List.Elements.{All-weaker}
-use Rattle.std.proofs.lemmas.Bool.{false_from_ne_true, not-false}
+use Rattle.std.specs.List.{All, cons_option}
+use Rattle.std.proofs.lemmas.List.Elements.{All-head, All-tail}
+use Rattle.std.proofs.lemmas.Bool.{not-false}
 use Rattle.xa_words.specs.Xid.{XidName, xid_eq}
 use Rattle.xa_words.specs.Orders.{Decides-xid_eq}
+use Rattle.xa_words.specs.declared.code.Code.{Code}
 use Rattle.xa_words.specs.declared.code.Code.TheVariants.{Done, RbIntegrity, RmFail}
 use Rattle.xa_words.specs.declared.request.Op.{Op}
 use Rattle.xa_words.specs.declared.request.Op.TheVariants.{Prepare, Commit, Rollback}
 use Rattle.xa_words.specs.declared.request.Request.{Request}
-use Rattle.xa_tables.specs.declared.state.State.TheVariants.{Prepared as S3}
-use Rattle.xa_tables.specs.declared.state.Association.{Association}
-use Rattle.xa_tables.specs.Tables.{Tables, has_opened, association_of, state_of, exists, is_S3, is_S4, is_prepared, is_rollback_only, is_somebody_associated, has_touched, is_broken}
+use Rattle.xa_tables.specs.declared.state.State.TheVariants.{Prepared as S3, HeuristicallyCompleted}
+use Rattle.xa_tables.specs.declared.state.HeuristicDecision.{HeuristicDecision}
+use Rattle.xa_tables.specs.Tables.{Tables, has_opened, state_of, exists, is_S3, is_S4, is_S5, is_prepared, is_rollback_only, is_completed, decision_in, is_somebody_associated, has_touched, is_broken}
+use Rattle.xa_tables.specs.Reasons.{decision_code}
 use Rattle.xa_tables.specs.Next.{Answer, next}
-use Rattle.xa_tables.specs.History.{History, is_shut, is_rolled_back, tables_after, IsOpening}
-use Rattle.xa_tables.specs.Prepared.{names, closes, NamesNowhere, LeavesWaiting, has_shut, IsPrepared, StaysPrepared, AwaitsTheOutcome}
+use Rattle.xa_tables.specs.History.{History, is_shut, is_rolled_back, coded, fate_of, fates_in, tables_after, IsOpening}
+use Rattle.xa_tables.specs.Prepared.{names, closes, is_heur, is_forget, NamesNowhere, OnlyDecides, LeavesWaiting, has_shut, IsPrepared, StaysPrepared, AwaitsTheOutcome, AwaitsAfter}
 use Rattle.xa_tables.proofs.ShutLemmas.{next-shut, next-Shut, shut_op}
-use Rattle.xa_base.proofs.Truth.{by_if, at_false}
-use Rattle.xa_tables.proofs.Law.{Sound, Voted, AtWork, standing, get_put, sound_after, run_sound, opening_sound}
-use Rattle.xa_tables.proofs.Unnamed.{nobody_with, unnamed_on, unnamed_law}
+use Rattle.xa_base.proofs.Truth.{by_if, at_false, at_true}
+use Rattle.xa_tables.proofs.Law.{Sound, Nowhere, AtWork, standing, voted_rests, nobody_rests, get_put, sound_after, run_sound, opening_sound}
+use Rattle.xa_tables.proofs.Unnamed.{unnamed_on, unnamed_stays, unnamed_fate, unnamed_law}
+use Rattle.xa_tables.proofs.HeuristicLaw.{Decides, Nothing, Completes, decides, unprepared_law}
 use Rattle.xa_tables.proofs.Opened.{opened_on}
 use Rattle.xa_tables.proofs.LateLaw.{stays_open}
 
 -- nobody is associated with a prepared branch
-prepared_apart : (x : XidName) (T : Tables) → Sound T → IsPrepared x T → (t : ℕ) (a : Association) → association_of T t ≡ Some a → xid_eq a.xid x ≡ false
-prepared_apart x T s h t a found =
-    false_from_ne_true (xid_eq a.xid x) (λ e.
-    let same : a.xid ≡ x = (Decides-xid_eq a.xid x).0 e in
-    let works : standing (state_of T a.xid) ≡ AtWork = s.at_work t a found in
-    let voted : standing (state_of T x) ≡ Voted = ap standing h in
-    let z : Voted ≡ AtWork = sym voted ∙ ap (λ y. standing (state_of T y)) (sym same) ∙ works in cc)
-
 nobody : (x : XidName) (T : Tables) → Sound T → IsPrepared x T → is_somebody_associated T.associations x ≡ false
-nobody x T s h = nobody_with x T.associations (prepared_apart x T s h)
+nobody x T s h = nobody_rests T s x (voted_rests (state_of T x) (ap is_S3 h))
 
 pub prepared_law : (h g : History) (x : XidName) (T : Tables) → IsOpening T → IsPrepared x (tables_after h T) → NamesNowhere x g → StaysPrepared x (tables_after h T) (tables_after (h ++ g) T)
 prepared_law h g x T o p n =
     let left = unnamed_law h g x T (nobody x (tables_after h T) (run_sound h T (opening_sound T o)) p) n in
     record { prepared = left.state ∙ p; sums = left.sums }
 
--- ---- what a prepared branch answers
+-- ---- what a branch answers whose outcome is awaited
 
-module _ (t : ℕ) (x : XidName) (T : Tables) (h : IsPrepared x T) (free : is_somebody_associated T.associations x ≡ false) (o : has_opened T t ≡ true) where
+both_false : (a b : Bool) → a ≡ false → b ≡ false → (a || b) ≡ false
+both_false true b e f = cc
+both_false false b e f = f
+
+module _ (t : ℕ) (x : XidName) (T : Tables) (o : has_opened T t ≡ true) where
   unopened : not (has_opened T t) ≡ false
   unopened = ap not o
 
-  unknown : not (exists T x) ≡ false
-  unknown = ap (λ st. not (is_some st)) h
+  -- whatever it is, unless the manager is shut
+  unless_shut : (a : Answer) (c : Code) → a.1 ≡ c → (if T.shut then (T, RmFail) else a).1 ≡ (if T.shut then RmFail else c)
+  unless_shut a c e = elim (T.shut) as (λ b. (if b then (T, RmFail) else a).1 ≡ (if b then RmFail else c)) [ true ↦ refl | false ↦ e ]
 
-  both_false : (a b : Bool) → a ≡ false → b ≡ false → (a || b) ≡ false
-  both_false true b e f = cc
-  both_false false b e f = f
+  module _ (h : IsPrepared x T) (free : is_somebody_associated T.associations x ≡ false) where
+    unknown : not (exists T x) ≡ false
+    unknown = ap (λ st. not (is_some st)) h
 
-  commit_done : (next t (Commit x false) T).1 ≡ (if T.shut then RmFail else Done)
-  unfolding next
-  commit_done =
-      by_if (λ (a : Answer). T.shut ≡ T.shut → a.1 ≡ (if T.shut then RmFail else Done)) (T.shut) _ _ (λ e _. ap (λ b. if b then RmFail else Done) (sym e)) (λ e _.
-      ap (λ (a : Answer). a.1)
-      (at_false (not (has_opened T t)) _ _ unopened ∙ at_false (not (exists T x)) _ _ unknown
-      ∙ at_false (is_somebody_associated T.associations x || not (is_prepared T x)) _ _ (both_false _ _ free (ap (λ st. not (is_S3 st)) h)))
-      ∙ ap (λ b. if b then RmFail else Done) (sym e)) refl
+    commit_done : (next t (Commit x false) T).1 ≡ (if T.shut then RmFail else Done)
+    unfolding next
+    commit_done =
+        unless_shut _ Done (ap (λ (a : Answer). a.1)
+        (at_false (not (has_opened T t)) _ _ unopened ∙ at_false (not (exists T x)) _ _ unknown ∙ at_false (is_completed T x) _ _ (ap is_S5 h)
+        ∙ at_false (is_somebody_associated T.associations x || not (is_prepared T x)) _ _ (both_false _ _ free (ap (λ st. not (is_S3 st)) h))))
 
-  rollback_done : (next t (Rollback x) T).1 ≡ (if T.shut then RmFail else Done)
-  unfolding next
-  rollback_done =
-      by_if (λ (a : Answer). T.shut ≡ T.shut → a.1 ≡ (if T.shut then RmFail else Done)) (T.shut) _ _ (λ e _. ap (λ b. if b then RmFail else Done) (sym e)) (λ e _.
-      ap (λ (a : Answer). a.1)
-      (at_false (not (has_opened T t)) _ _ unopened ∙ at_false (not (exists T x)) _ _ unknown
-      ∙ at_false (is_somebody_associated T.associations x) _ _ free ∙ at_false (is_rollback_only T x) _ _ (ap is_S4 h))
-      ∙ ap (λ b. if b then RmFail else Done) (sym e)) refl
+    rollback_done : (next t (Rollback x) T).1 ≡ (if T.shut then RmFail else Done)
+    unfolding next
+    rollback_done =
+        unless_shut _ Done (ap (λ (a : Answer). a.1)
+        (at_false (not (has_opened T t)) _ _ unopened ∙ at_false (not (exists T x)) _ _ unknown ∙ at_false (is_completed T x) _ _ (ap is_S5 h)
+        ∙ at_false (is_somebody_associated T.associations x) _ _ free ∙ at_false (is_rollback_only T x) _ _ (ap is_S4 h)))
 
-  awaits : AwaitsTheOutcome t x T
-  awaits = record { prepared = h; commits = commit_done; rolls_back = rollback_done }
+    awaits : AwaitsTheOutcome t x None T
+    awaits = record { state = h; commits = commit_done; rolls_back = rollback_done }
+
+  module _ (d : HeuristicDecision) (h : state_of T x ≡ Some (HeuristicallyCompleted d)) where
+    there : not (exists T x) ≡ false
+    there = ap (λ st. not (is_some st)) h
+
+    commit_told : (next t (Commit x false) T).1 ≡ (if T.shut then RmFail else decision_code d)
+    unfolding next
+    commit_told =
+        unless_shut _ (decision_code d) (ap (λ (a : Answer). a.1)
+        (at_false (not (has_opened T t)) _ _ unopened ∙ at_false (not (exists T x)) _ _ there ∙ at_true (is_completed T x) _ _ (ap is_S5 h)) ∙ ap decision_in h)
+
+    rollback_told : (next t (Rollback x) T).1 ≡ (if T.shut then RmFail else decision_code d)
+    unfolding next
+    rollback_told =
+        unless_shut _ (decision_code d) (ap (λ (a : Answer). a.1)
+        (at_false (not (has_opened T t)) _ _ unopened ∙ at_false (not (exists T x)) _ _ there ∙ at_true (is_completed T x) _ _ (ap is_S5 h)) ∙ ap decision_in h)
+
+    told : AwaitsTheOutcome t x (Some d) T
+    told = record { state = h; commits = commit_told; rolls_back = rollback_told }
 
 -- a Prepare that is answered XA_OK leaves the branch prepared, by a thread that has the manager open
 record Holds (t : ℕ) (x : XidName) (T : Tables) (a : Answer) : Type 0 where
@@ -87,7 +103,7 @@ prepare_holds t x T =
     by_if P (T.shut) _ _ (λ _ e. cc) (λ _.
     by_if P (not (has_opened T t)) _ _ (λ _ e. cc) (λ opened_now.
     by_if P (not (exists T x)) _ _ (λ _ e. cc) (λ _.
-    by_if P (is_somebody_associated T.associations x || (is_prepared T x || is_rollback_only T x)) _ _ (λ _ e. cc) (λ _.
+    by_if P (is_somebody_associated T.associations x || (is_prepared T x || (is_rollback_only T x || is_completed T x))) _ _ (λ _ e. cc) (λ _.
     by_if P (not (has_touched T.sums x)) _ _ (λ _ e. cc) (λ _.
     by_if P (is_broken T.values T.sums x) _ _ (λ _ e. cc) (λ _ e. record {
       prepared = get_put T x x S3 ∙ ap (λ b. if b then Some S3 else state_of T x) ((Decides-xid_eq x x).1 refl);
@@ -111,18 +127,72 @@ prepare_breaks t x T =
     by_if P (T.shut) _ _ (λ _ e. cc) (λ _.
     by_if P (not (has_opened T t)) _ _ (λ _ e. cc) (λ _.
     by_if P (not (exists T x)) _ _ (λ _ e. cc) (λ _.
-    by_if P (is_somebody_associated T.associations x || (is_prepared T x || is_rollback_only T x)) _ _ (λ _ e. cc) (λ _.
+    by_if P (is_somebody_associated T.associations x || (is_prepared T x || (is_rollback_only T x || is_completed T x))) _ _ (λ _ e. cc) (λ _.
     by_if P (not (has_touched T.sums x)) _ _ (λ _ e. cc) (λ _.
     by_if P (is_broken T.values T.sums x) _ _ (λ _ e. refl) (λ _ e. cc))))))
 
-waits_on : (g : History) (t : ℕ) (x : XidName) (T : Tables) → Sound T → IsPrepared x T → has_opened T t ≡ true → LeavesWaiting t x g → AwaitsTheOutcome t x (tables_after g T)
-waits_on g t x T s p o n =
-    let Both : Request → Type 0 = λ r. (names x r.op ≡ false) × (closes t r ≡ false) in
-    let left = unnamed_on g x T (nobody x T s p) (All-weaker Both (λ r. names x r.op ≡ false) (λ r both. both.0) g n) in
-    awaits t x (tables_after g T) (left.state ∙ p) left.apart (opened_on g t T o (All-weaker Both (λ r. closes t r ≡ false) (λ r both. both.1) g n))
+-- ---- what leaves a branch waiting
+
+abbrev Waiting : ℕ → XidName → Request → Type 0
+Waiting t x r = (names x r.op ≡ true → is_heur r.op ≡ true) × (closes t r ≡ false)
+
+-- a thread that has the manager open, at one request that isn't its CloseRm
+opened_one : (r : Request) (t : ℕ) (T : Tables) → has_opened T t ≡ true → closes t r ≡ false → has_opened (next r.thread r.op T).0 t ≡ true
+opened_one r t T o n = opened_on (r ∷ []) t T o (All-head-alone r n)
+  where
+    All-head-alone : (r : Request) → closes t r ≡ false → All (λ q. closes t q ≡ false) (r ∷ [])
+    All-head-alone r n zero d lt = n
+    All-head-alone r n (suc k) d lt = absurd (omega arith)
+
+only_decides : (t : ℕ) (x : XidName) (g : History) → LeavesWaiting t x g → OnlyDecides x g
+only_decides t x g n k d lt named = ap (λ b. b || is_forget (get_or g k d).op) ((n k d lt).0 named)
+
+-- a completed branch stays completed with its decision
+completed_on : (g : History) (t : ℕ) (x : XidName) (d : HeuristicDecision) (T : Tables) → Sound T → state_of T x ≡ Some (HeuristicallyCompleted d) → has_opened T t ≡ true → LeavesWaiting t x g
+    → AwaitsTheOutcome t x (Some d) (tables_after g T)
+completed_on [] t x d T s h o n = told t x T o d h
+completed_on (r ∷ g) t x d T s h o n =
+    let first = All-head (Waiting t x) r g n in
+    let rest = All-tail (Waiting t x) r g n in
+    let stays : state_of (next r.thread r.op T).0 x ≡ Some (HeuristicallyCompleted d) =
+    elim (names x r.op) as (λ b. names x r.op ≡ b → state_of (next r.thread r.op T).0 x ≡ Some (HeuristicallyCompleted d)) [
+      | true ↦ λ named. by_decision (next r.thread r.op T) (decides r.thread x r.op T named (first.0 named))
+      | false ↦ λ unnamed. (unnamed_stays r.thread r.op x T (nobody_rests T s x (λ w. let z : Nowhere ≡ AtWork = sym (ap standing h) ∙ w in cc)) unnamed).state ∙ h
+    ] refl in
+    completed_on g t x d (next r.thread r.op T).0 (sound_after r.thread r.op T s) stays (opened_one r t T o first.1) rest
+  where
+    by_decision : (a : Answer) → Decides x r.op T a → state_of a.0 x ≡ Some (HeuristicallyCompleted d)
+    by_decision a (Nothing same none) = ap (λ (U : Tables). state_of U x) same ∙ h
+    by_decision a (Completes c voted state opened fate) = let z : true ≡ false = sym voted ∙ ap is_S3 h in cc
+
+-- one request more before it: it made nothing of the branch, or decided it
+waits_past : (r : Request) (g : History) (t : ℕ) (x : XidName) (T : Tables) → Sound T → has_opened (next r.thread r.op T).0 t ≡ true → LeavesWaiting t x g → (IsPrepared x (next r.thread r.op T).0 → AwaitsAfter t x g (next r.thread r.op T).0)
+    → IsPrepared x T → Decides x r.op T (next r.thread r.op T) → AwaitsAfter t x (r ∷ g) T
+waits_past r g t x T s still n on p (Nothing same none) =
+    let later = on (ap (λ (U : Tables). state_of U x) same ∙ p) in
+    record { decision = later.decision; fates = ap (λ f. cons_option f (fates_in x (coded g (next r.thread r.op T).0))) none ∙ later.fates; awaits = later.awaits }
+waits_past r g t x T s still n on p (Completes d voted state opened fate) =
+    let T1 : Tables = (next r.thread r.op T).0 in
+    let quiet : fates_in x (coded g T1) ≡ [] = unprepared_law g x T1 (ap is_S3 state) (only_decides t x g n) in
+    record { decision = Some d; fates = λ i. cons_option (fate i) (quiet i); awaits = completed_on g t x d T1 (sound_after r.thread r.op T s) state still n }
+
+waits_on : (g : History) (t : ℕ) (x : XidName) (T : Tables) → Sound T → IsPrepared x T → has_opened T t ≡ true → LeavesWaiting t x g → AwaitsAfter t x g T
+waits_on [] t x T s p o n = record { decision = None; fates = refl; awaits = awaits t x T o p (nobody x T s p) }
+waits_on (r ∷ g) t x T s p o n =
+    let T1 : Tables = (next r.thread r.op T).0 in
+    let first : Waiting t x r = All-head (Waiting t x) r g n in
+    let rest : LeavesWaiting t x g = All-tail (Waiting t x) r g n in
+    let still : has_opened T1 t ≡ true = opened_one r t T o first.1 in
+    let on : IsPrepared x T1 → AwaitsAfter t x g T1 = λ voted. waits_on g t x T1 (sound_after r.thread r.op T s) voted still rest in
+    elim (names x r.op) as (λ b. names x r.op ≡ b → AwaitsAfter t x (r ∷ g) T) [
+      | true ↦ λ named. waits_past r g t x T s still rest on p (decides r.thread x r.op T named (first.0 named))
+      | false ↦ λ unnamed.
+          let later = on ((unnamed_stays r.thread r.op x T (nobody x T s p) unnamed).state ∙ p) in
+          record { decision = later.decision; fates = ap (λ f. cons_option f (fates_in x (coded g T1))) (unnamed_fate x r.op (next r.thread r.op T).1 unnamed) ∙ later.fates; awaits = later.awaits }
+    ] refl
 
 pub outcome_law : (h g : History) (t : ℕ) (x : XidName) (T : Tables) → IsOpening T → (next t (Prepare x) (tables_after h T)).1 ≡ Done → LeavesWaiting t x g
-    → AwaitsTheOutcome t x (tables_after g (next t (Prepare x) (tables_after h T)).0)
+    → AwaitsAfter t x g (next t (Prepare x) (tables_after h T)).0
 outcome_law h g t x T o e n =
     let s = run_sound h T (opening_sound T o) in
     let p = prepare_holds t x (tables_after h T) e in

@@ -139,6 +139,13 @@ pub sound_others : (states : States) (sums sums' : Sums) (values values' : Value
 sound_others states sums sums' values values' x not_prepared others sound y h =
     others y (λ e. let z = ap (λ w. is_S3 (map.get states w)) e in cc) ∙ sound y h
 
+-- x is put into another state than S3, and the other branches stand as they stood
+pub sound_decided : (states states' : States) (sums sums' : Sums) (values values' : Values) (x : XidName) (s : State) → states' ≡ map.insert states x s → is_S3 (Some s) ≡ false
+    → ((y : XidName) → y ≢ x → is_broken values' sums' y ≡ is_broken values sums y) → ArePreparedSound states sums values → ArePreparedSound states' sums' values'
+sound_decided states states' sums sums' values values' x s e not_prepared others sound y =
+    subst (λ (o : Option State). is_S3 o ≡ true → is_broken values' sums' y ≡ false) (sym (ap (λ m. map.get m y) e ∙ get-insert xid_cmp_total states x s y))
+    (by_xid y x (λ b. is_S3 (cond b (Some s) (map.get states y)) ≡ true → is_broken values' sums' y ≡ false) (λ _ h. cc) (λ apart h. others y apart ∙ sound y h))
+
 -- a branch that keeps the values within the limits is put into S3
 pub sound_prepared : (states states' : States) (sums : Sums) (values : Values) (x : XidName) → states' ≡ map.insert states x Prepared → is_broken values sums x ≡ false
     → ArePreparedSound states sums values → ArePreparedSound states' sums values

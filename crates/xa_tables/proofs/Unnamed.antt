@@ -10,9 +10,10 @@ use Rattle.xa_words.specs.Xid.{XidName, xid_eq}
 use Rattle.xa_words.specs.Orders.{Decides-xid_eq}
 use Rattle.xa_words.specs.declared.code.Code.{Code}
 use Rattle.xa_words.specs.declared.request.Op.{Op}
-use Rattle.xa_words.specs.declared.request.Op.TheVariants.{Start, Prepare, Commit, Rollback}
+use Rattle.xa_words.specs.declared.request.Op.TheVariants.{Start, Prepare, Commit, Rollback, Heur}
 use Rattle.xa_words.specs.declared.request.Request.{Request}
-use Rattle.xa_tables.specs.declared.state.State.TheVariants.{Active, Idle, Prepared as S3, RollbackOnly}
+use Rattle.xa_tables.specs.declared.state.State.TheVariants.{Active, Idle, Prepared as S3, RollbackOnly, HeuristicallyCompleted}
+use Rattle.xa_tables.specs.declared.state.HeuristicDecision.TheVariants as decision
 use Rattle.xa_tables.specs.declared.state.RollbackReason.TheVariants.{Failed, Transient}
 use Rattle.xa_tables.specs.declared.state.Association.{Association}
 use Rattle.xa_tables.specs.declared.state.AssociationState.{AssociationState}
@@ -24,7 +25,7 @@ use Rattle.xa_tables.specs.Prepared.{names, NamesNowhere, StaysAsItWas}
 use Rattle.xa_tables.proofs.MapLemmas.{none_pass, none_passes}
 use Rattle.xa_tables.proofs.SoundLemmas.{others_put, others_removed}
 use Rattle.xa_base.proofs.Truth.{at_false}
-use Rattle.xa_tables.proofs.Effects.{Effect, Starts, Joins, Resumes, Suspends, Leaves, Fails, Idles, Dooms, Adds, Prepares, Commits, Drops, effect_of}
+use Rattle.xa_tables.proofs.Effects.{Effect, Starts, Joins, Resumes, Suspends, Leaves, Fails, Idles, Dooms, Adds, Prepares, Commits, Drops, CommitsByItself, RollsBackByItself, Forgets, effect_of}
 use Rattle.xa_tables.proofs.Law.{swap_xid}
 use Rattle.xa_tables.proofs.ValueLaw.{get_without, get_added}
 
@@ -59,10 +60,11 @@ unnamed_fate x (Start y how) c n = at_false (xid_eq y x) _ None n
 unnamed_fate x (Prepare y) c n = at_false (xid_eq y x) _ None n
 unnamed_fate x (Commit y b) c n = at_false (xid_eq y x) _ None n
 unnamed_fate x (Rollback y) c n = at_false (xid_eq y x) _ None n
+unnamed_fate x (Heur y commits) c n = at_false (xid_eq y x) _ None n
 unnamed_fate x op c n = refl
 
 -- another branch
-differs : (x y : XidName) → xid_eq y x ≡ false → x ≢ y
+pub differs : (x y : XidName) → xid_eq y x ≡ false → x ≢ y
 differs x y other same = let z = (Decides-xid_eq y x).1 (sym same) in cc
 
 module _ (t : ℕ) (x : XidName) (T : Tables) (nobody : is_somebody_associated T.associations x ≡ false) where
@@ -93,6 +95,9 @@ module _ (t : ℕ) (x : XidName) (T : Tables) (nobody : is_somebody_associated T
   by_effect (Drops op y c free tells) n =
       let other = sym (tells.named x) ∙ n in
       record { state = others_removed T.states y x (differs x y other); sums = others_gone y other; apart = nobody }
+  by_effect (CommitsByItself y voted) n = record { state = others_put T.states y (HeuristicallyCompleted decision.Commit) x (differs x y n); sums = others_gone y n; apart = nobody }
+  by_effect (RollsBackByItself y voted) n = record { state = others_put T.states y (HeuristicallyCompleted decision.Rollback) x (differs x y n); sums = others_gone y n; apart = nobody }
+  by_effect (Forgets y is) n = record { state = others_removed T.states y x (differs x y n); sums = λ k. refl; apart = nobody }
   -- the others change no branch
   by_effect effect n = record { state = refl; sums = λ k. refl; apart = nobody }
 

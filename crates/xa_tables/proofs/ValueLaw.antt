@@ -9,13 +9,13 @@ use Rattle.xa_words.specs.Orders.{Decides-xid_eq, key_cmp_total, key_cmp-IsAntis
 use Rattle.xa_words.specs.declared.code.Code.{Code}
 use Rattle.xa_words.specs.declared.code.Code.TheVariants.{Done, RbTransient}
 use Rattle.xa_words.specs.declared.request.Op.{Op}
-use Rattle.xa_words.specs.declared.request.Op.TheVariants.{Add, Commit}
+use Rattle.xa_words.specs.declared.request.Op.TheVariants.{Add}
 use Rattle.xa_tables.specs.declared.state.Association.{Association}
 use Rattle.xa_tables.specs.Tables.{Tables, association_of, has_other_touched, Touch, touch_cmp, sum_of, sums_without}
-use Rattle.xa_tables.specs.Next.{Answer, next, gone, committed}
-use Rattle.xa_tables.specs.History.{History, coded, accepted, Fate, InDoubt, Live, Committed, fate_of, if_named, tables_after, added_in, share_of, share, commits_later, ending, or_later, ValueIsSum, IsSumOfAll, IsOpening}
+use Rattle.xa_tables.specs.Next.{Answer, next, committed}
+use Rattle.xa_tables.specs.History.{History, coded, accepted, Fate, InDoubt, Live, Committed, HeurCommitted, HeurRolledBack, fate_of, ending_by, if_named, tables_after, added_in, share_of, share, commits_later, ending, or_later, ValueIsSum, IsSumOfAll, IsOpening}
 use Rattle.xa_tables.proofs.ShutLemmas.{after_accepted}
-use Rattle.xa_tables.proofs.Effects.{Effect, Stays, Starts, Joins, Resumes, Dooms, Adds, Prepares, Commits, Drops, TellsDropped, effect_of, undone_adds}
+use Rattle.xa_tables.proofs.Effects.{Effect, Stays, Starts, Joins, Resumes, Dooms, Adds, Prepares, Commits, Drops, CommitsByItself, RollsBackByItself, effect_of, undone_adds}
 use Rattle.xa_tables.proofs.Law.{swap_xid, Sound, sound_after, opening_sound}
 use Rattle.std.proofs.lemmas.Int.{ints}
 use Rattle.xa_words.specs.Key.{key_eq}
@@ -186,24 +186,26 @@ module _ (t : ℕ) (k : List ℕ) (p : Held) (T : Tables) (h : IsPending k p T.s
     owes = λ later. zero_plus _ _ _ (due_same p later (before op a.1 later) (λ x. ap (λ o. or_later o (later x)) (quiet x))) (none later);
   }
 
-  -- y is gone without a commit
-  lost : (op : Op) (y : XidName) (c : Code) → TellsDropped op y c → ValueStep k p op (association_of T t) T (gone y T, c)
-  lost op y c tells = record {
+  -- y ends without a commit, and has no sums
+  lost : {op : Op} {a : Answer} (y : XidName) (f : Fate) → a.0.sums ≡ sums_without T.sums y → a.0.values ≡ T.values → ending_by f ≡ Some false → ((x : XidName) → fate_of x op a.1 ≡ if_named x y (Some f))
+      → ((later : XidName → Bool) → share_of k op a.1 (association_of T t) later ≡ pos 0) → ValueStep k p op (association_of T t) T a
+  lost {op = op} {a = a} y f sums values uncommitted fates none = record {
     held = left_by p y;
-    pending = due_left k y p T.sums h;
+    pending = subst (IsPending k (left_by p y)) (sym sums) (due_left k y p T.sums h);
     moved = pos 0;
-    values = plus_zero _;
-    owes = λ later. add_zero (due (left_by p y) later) _ (pos 0) _ (due_ended y false p op c later (λ x. ap ending (tells.fates x) ∙ ended_named x y tells.fate false tells.uncommitted)) (tells.shares k _ later);
+    values = ap (λ m. map.get m k) values ∙ plus_zero _;
+    owes = λ later. add_zero (due (left_by p y) later) _ (pos 0) _ (due_ended y false p op a.1 later (λ x. ap ending (fates x) ∙ ended_named x y f false uncommitted)) (none later);
   }
 
-  -- y is committed
-  paid : (y : XidName) (one_phase : Bool) → ValueStep k p (Commit y one_phase) (association_of T t) T (gone y (committed y T), Done)
-  paid y one_phase = record {
+  -- y is committed, and has no sums
+  paid : {op : Op} {a : Answer} (y : XidName) (f : Fate) → a.0.sums ≡ sums_without T.sums y → a.0.values ≡ (committed y T).values → ending_by f ≡ Some true → ((x : XidName) → fate_of x op a.1 ≡ if_named x y (Some f))
+      → ((later : XidName → Bool) → share_of k op a.1 (association_of T t) later ≡ pos 0) → ValueStep k p op (association_of T t) T a
+  paid {op = op} {a = a} y f sums values committing fates none = record {
     held = left_by p y;
-    pending = due_left k y p T.sums h;
+    pending = subst (IsPending k (left_by p y)) (sym sums) (due_left k y p T.sums h);
     moved = amount_of_held p y;
-    values = get-map_values key_cmp_total key_cmp-IsAntisymmetric (λ q v. v +ℤ sum_of T.sums y q) T.values k ∙ ap (λ m. option_map (λ v. v +ℤ m) (map.get T.values k)) (amount_is k p y T.sums h);
-    owes = λ later. add_zero (due (left_by p y) later) _ (amount_of_held p y) _ (due_ended y true p (Commit y one_phase) Done later (λ x. ended_named x y Committed true refl)) refl;
+    values = ap (λ m. map.get m k) values ∙ get-map_values key_cmp_total key_cmp-IsAntisymmetric (λ q v. v +ℤ sum_of T.sums y q) T.values k ∙ ap (λ m. option_map (λ v. v +ℤ m) (map.get T.values k)) (amount_is k p y T.sums h);
+    owes = λ later. add_zero (due (left_by p y) later) _ (amount_of_held p y) _ (due_ended y true p op a.1 later (λ x. ap ending (fates x) ∙ ended_named x y f true committing)) (none later);
   }
 
   by_effect : {op : Op} {a : Answer} → Effect t T op a → ValueStep k p op (association_of T t) T a
@@ -215,8 +217,10 @@ module _ (t : ℕ) (k : List ℕ) (p : Held) (T : Tables) (h : IsPending k p T.s
   by_effect (Adds own d l mine known alone) =
       subst (λ (o : Option Association). ValueStep k p (Add own d) o T (record T { sums = map.insert T.sums (l.xid, own) (sum_of T.sums l.xid own +ℤ d) }, Done)) (sym mine) (gained k own d p l T h alone)
   by_effect (Prepares y nobody unbroken) = still refl refl (λ x. quiet_named x y (Some InDoubt) refl) (λ later. refl)
-  by_effect (Commits y one_phase nobody may) = paid y one_phase
-  by_effect (Drops op y c nobody tells) = lost op y c tells
+  by_effect (Commits y one_phase nobody may) = paid y Committed refl refl refl (λ x. refl) (λ later. refl)
+  by_effect (Drops op y c nobody tells) = lost y tells.fate refl refl tells.uncommitted tells.fates (λ later. tells.shares k _ later)
+  by_effect (CommitsByItself y voted) = paid y HeurCommitted refl refl refl (λ x. refl) (λ later. refl)
+  by_effect (RollsBackByItself y voted) = lost y HeurRolledBack refl refl refl (λ x. refl) (λ later. refl)
   -- the others change no sum and no value
   by_effect effect = still refl refl (λ x. refl) (λ later. refl)
 

@@ -12,18 +12,20 @@ use Rattle.xa_words.specs.Key.{key_eq}
 use Rattle.xa_words.specs.Orders.{key_cmp, key_cmp_total, key_cmp-IsAntisymmetric, Decides-xid_eq, Decides-key_eq}
 use Rattle.xa_words.specs.declared.request.Op.{Op}
 use Rattle.xa_tables.specs.declared.state.State.{State}
-use Rattle.xa_tables.specs.declared.state.State.TheVariants.{Active, Idle, Prepared as S3, RollbackOnly}
+use Rattle.xa_tables.specs.declared.state.State.TheVariants.{Active, Idle, Prepared as S3, RollbackOnly, HeuristicallyCompleted}
+use Rattle.xa_tables.specs.declared.state.HeuristicDecision.{HeuristicDecision}
+use Rattle.xa_tables.specs.declared.state.HeuristicDecision.TheVariants as decision
 use Rattle.xa_tables.specs.declared.state.RollbackReason.TheVariants.{Failed, Transient}
 use Rattle.xa_tables.specs.declared.state.Association.{Association}
 use Rattle.xa_tables.specs.Tables.{Tables, Touch, touch_cmp, association_of, state_of, is_S3, is_prepared, is_within, value_of, sum_of, has_other_touched, is_broken, sums_without}
-use Rattle.xa_tables.specs.Next.{Answer, next, stated, added, gone, committed}
+use Rattle.xa_tables.specs.Next.{Answer, next, stated, added, gone, forgotten, completed, committed}
 use Rattle.xa_tables.specs.Accounts.{are_accounts}
 use Rattle.xa_tables.specs.Managers.{opening}
 use Rattle.xa_tables.specs.History.{History, tables_after, IsOpening, StaysWithin}
 use Rattle.xa_tables.proofs.MapLemmas.{none_passes, get-map_values}
 use Rattle.xa_tables.proofs.AccountLemmas.{touch_cmp_total, touch_cmp-IsAntisymmetric, touch_from, within_bounds}
-use Rattle.xa_tables.proofs.Effects.{Effect, Starts, Joins, Fails, Idles, Dooms, Adds, Prepares, Commits, Drops, effect_of}
-use Rattle.xa_tables.proofs.Law.{Sound, AtWork, standing, get_put, get_gone, sound_after, opening_sound}
+use Rattle.xa_tables.proofs.Effects.{Effect, Starts, Joins, Fails, Idles, Dooms, Adds, Prepares, Commits, Drops, CommitsByItself, RollsBackByItself, Forgets, effect_of}
+use Rattle.xa_tables.proofs.Law.{Sound, AtWork, standing, get_put, get_gone, voted_rests, sound_after, opening_sound}
 use Rattle.xa_tables.proofs.ValueLaw.{get_without, get_added}
 
 -- each sum of x and its key's value are together within the limits
@@ -45,13 +47,10 @@ unbroken_fits T x unbroken k s at =
 by_bool : (P : Bool → Type 0) (b : Bool) → (b ≡ true → P true) → (b ≡ false → P false) → P b
 by_bool P b one two = elim b as (λ c. b ≡ c → P c) [ true ↦ one | false ↦ two ] refl
 
--- a prepared branch isn't at work
-S3_rests : (o : Option State) → is_S3 o ≡ true → standing o ≢ AtWork
-S3_rests None e = cc
-S3_rests (Some Active) e = cc
-S3_rests (Some Idle) e = cc
-S3_rests (Some S3) e = λ w. cc
-S3_rests (Some (RollbackOnly reason)) e = cc
+-- the values with y's sums are within the limits, and the other prepared branches fit them
+record Posted (T : Tables) (y : XidName) : Type 0 where
+  values : (k : List ℕ) (v : ℤ) → finmap.get (committed y T).values k ≡ Some v → is_within v ≡ true
+  others : (x : XidName) → (is_S3 (state_of T x) ≡ true) × (x ≢ y) → (k : List ℕ) (r : ℤ) → finmap.get (sums_without T.sums y) (x, k) ≡ Some r → is_within (value_of (committed y T).values k +ℤ r) ≡ true
 
 some_same : {u v : ℤ} → Some u ≡ Some v → u ≡ v
 some_same e = cc
@@ -91,7 +90,7 @@ module _ (t : ℕ) (T : Tables) (s : Sound T) (w : Kept T) where
         (λ _ here f. let one = touch_from (y, q) (l.xid, k) here in only x q a (ap (λ (p : Touch). p.1) one) at_x ∙ sym (ap (λ (p : Touch). p.0) one))
         (λ _ _ f. w.alone x y q a b e f) refl (sym (get-insert touch_cmp_total T.sums (l.xid, k) (sum_of T.sums l.xid k +ℤ d) (y, q)) ∙ at_y))
         refl (sym (get-insert touch_cmp_total T.sums (l.xid, k) (sum_of T.sums l.xid k +ℤ d) (x, q)) ∙ at_x);
-    prepared = λ x is q r at. w.prepared x is q r (sym (get_added T.sums l.xid x k q (sum_of T.sums l.xid k +ℤ d) (λ same _. S3_rests (state_of T x) is (ap (λ z. standing (state_of T z)) same ∙ s.at_work t l own))) ∙ at);
+    prepared = λ x is q r at. w.prepared x is q r (sym (get_added T.sums l.xid x k q (sum_of T.sums l.xid k +ℤ d) (λ same _. voted_rests (state_of T x) is (ap (λ z. standing (state_of T z)) same ∙ s.at_work t l own))) ∙ at);
   }
     where
       -- whoever has touched that key is the branch itself
@@ -114,6 +113,16 @@ module _ (t : ℕ) (T : Tables) (s : Sound T) (w : Kept T) where
       by_bool (λ b. xid_eq y x ≡ b → is_S3 (if b then None else state_of T x) ≡ true → (is_S3 (state_of T x) ≡ true) × (x ≢ y)) (xid_eq y x)
       (λ _ _ e. cc) (λ _ other e. (e, λ same. let z : true ≡ false = sym ((Decides-xid_eq y x).1 (sym same)) ∙ other in cc)) refl (sym (ap is_S3 (get_gone T y x)) ∙ is)
 
+  -- a branch that is prepared when y is decided is another one, and was prepared
+  undecided : (y : XidName) (d : HeuristicDecision) (x : XidName) → is_S3 (state_of (completed y d T) x) ≡ true → (is_S3 (state_of T x) ≡ true) × (x ≢ y)
+  undecided y d x is =
+      by_bool (λ b. xid_eq y x ≡ b → is_S3 (if b then Some (HeuristicallyCompleted d) else state_of T x) ≡ true → (is_S3 (state_of T x) ≡ true) × (x ≢ y)) (xid_eq y x)
+      (λ _ _ e. cc) (λ _ other e. (e, λ same. let z : true ≡ false = sym ((Decides-xid_eq y x).1 (sym same)) ∙ other in cc)) refl (sym (ap is_S3 (get_put T y x (HeuristicallyCompleted d))) ∙ is)
+
+  -- y is gone, and its sums stay
+  forgets : (y : XidName) → Kept (forgotten y T)
+  forgets y = record { values = w.values; alone = w.alone; prepared = λ x is. w.prepared x (still y x is).0 }
+
   drops : (y : XidName) → Kept (gone y T)
   drops y = record {
     values = w.values;
@@ -121,13 +130,14 @@ module _ (t : ℕ) (T : Tables) (s : Sound T) (w : Kept T) where
     prepared = λ x is k r at. w.prepared x (still y x is).0 k r (left y x k r at);
   }
 
-  -- y, which fits, is committed
-  commits : (y : XidName) → Fits T y → Kept (gone y (committed y T))
-  commits y fits = record {
+  decides : (y : XidName) (d : HeuristicDecision) → Kept (completed y d T)
+  decides y d = record { values = w.values; alone = (drops y).alone; prepared = λ x is k r at. w.prepared x (undecided y d x is).0 k r (left y x k r at) }
+
+  -- y, which fits, is added to the values
+  posts : (y : XidName) → Fits T y → Posted T y
+  posts y fits = record {
     values = λ k v at. value_fits (finmap.get T.values k) (finmap.get T.sums (y, k)) k v refl refl (sym (valued k) ∙ at);
-    alone = (drops y).alone;
-    prepared = λ x is k r at.
-        let old = still y x is in
+    others = λ x old k r at.
         let own = left y x k r at in
         let untouched : finmap.get T.sums (y, k) ≡ None = nobody_else x k r own old.1 in
         subst (λ (v : ℤ). is_within (v +ℤ r) ≡ true)
@@ -158,6 +168,13 @@ module _ (t : ℕ) (T : Tables) (s : Sound T) (w : Kept T) where
             | Some q ↦ λ there. absurd (other (w.alone x y k r q own there))
           ] refl
 
+  -- y, which fits, is committed
+  commits : (y : XidName) → Fits T y → Kept (gone y (committed y T))
+  commits y fits = record { values = (posts y fits).values; alone = (drops y).alone; prepared = λ x is. (posts y fits).others x (still y x is) }
+
+  commits_by_itself : (y : XidName) → Fits T y → Kept (completed y decision.Commit (committed y T))
+  commits_by_itself y fits = record { values = (posts y fits).values; alone = (drops y).alone; prepared = λ x is. (posts y fits).others x (undecided y decision.Commit x is) }
+
   by_effect : {op : Op} {a : Answer} → Effect t T op a → Kept a.0
   by_effect (Starts y free) = let p = put y Active refl in record { values = p.values; alone = p.alone; prepared = p.prepared }
   by_effect (Joins y free there unprepared) = let p = put y Active refl in record { values = p.values; alone = p.alone; prepared = p.prepared }
@@ -168,6 +185,9 @@ module _ (t : ℕ) (T : Tables) (s : Sound T) (w : Kept T) where
   by_effect (Prepares y nobody unbroken) = prepares y (unbroken_fits T y unbroken)
   by_effect (Commits y one_phase nobody may) = commits y (⊎_elim (λ (is : is_prepared T y ≡ true). w.prepared y is) (λ (unbroken : is_broken T.values T.sums y ≡ false). unbroken_fits T y unbroken) may)
   by_effect (Drops op y c nobody tells) = drops y
+  by_effect (CommitsByItself y voted) = commits_by_itself y (w.prepared y voted)
+  by_effect (RollsBackByItself y voted) = decides y decision.Rollback
+  by_effect (Forgets y is) = forgets y
   -- the others change no state, no sum and no value
   by_effect effect = record { values = w.values; alone = w.alone; prepared = w.prepared }
 

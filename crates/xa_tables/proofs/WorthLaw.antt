@@ -1,4 +1,4 @@
--- The laws: Commits alone move what the accounts are worth together, by what their branches hold, and a branch holds what it
+-- The laws: commits alone, heuristic ones included, move what the accounts are worth together, by what their branches hold, and a branch holds what it
 -- has added.
 use Rattle.std.specs.Prelude.{◌≡◌, ℕ, zero, suc, ℤ, pos, ◌+ℤ◌, Bool, true, false, cond, not, ◌&&◌, ◌||◌, if◌then◌else◌, Option, None, Some, is_some, option_map, unwrap_or, List, [], ◌∷◌, map, refl}
 use Rattle.std.specs.List.{All, list_any}
@@ -15,19 +15,19 @@ use Rattle.xa_words.specs.Orders.{key_cmp, key_cmp_total, key_cmp-IsAntisymmetri
 use Rattle.xa_words.specs.declared.code.Code.{Code}
 use Rattle.xa_words.specs.declared.code.Code.TheVariants.{Done, RdOnly}
 use Rattle.xa_words.specs.declared.request.Op.{Op}
-use Rattle.xa_words.specs.declared.request.Op.TheVariants.{Add, Prepare, Commit}
+use Rattle.xa_words.specs.declared.request.Op.TheVariants.{Add, Prepare, Commit, Heur}
 use Rattle.xa_words.specs.declared.request.Request.{Request}
 use Rattle.xa_tables.specs.declared.state.Association.{Association}
 use Rattle.xa_tables.specs.Tables.{Tables, Touch, touch_cmp, association_of, is_declared, has_touched, value_of, sum_of, sums_without}
-use Rattle.xa_tables.specs.Next.{Answer, next, added, gone, committed}
+use Rattle.xa_tables.specs.Next.{Answer, next, added, committed}
 use Rattle.xa_tables.specs.Accounts.{are_accounts, are_apart}
 use Rattle.xa_tables.specs.Managers.{opening}
-use Rattle.xa_tables.specs.History.{History, Live, InDoubt, Committed, RolledBack, fate_of, tables_after, added_by, share_of, is_done, is_integrity, commit_fate, ending, IsOpening}
+use Rattle.xa_tables.specs.History.{History, Fate, Live, InDoubt, Committed, RolledBack, HeurCommitted, HeurRolledBack, fate_of, if_named, ending_by, heur_fate, tables_after, added_by, share_of, is_done, is_integrity, commit_fate, ending, IsOpening}
 use Rattle.xa_tables.specs.Prepared.{NamesNowhere}
 use Rattle.xa_tables.specs.Worth.{worth_declared, worth, held_by, moved_by, moved, is_any, gain, unless_ended, added_by_now, WorthIsMoved, HoldsItsAdditions}
 use Rattle.xa_tables.proofs.MapLemmas.{none_passes, get-map_values}
 use Rattle.xa_tables.proofs.AccountLemmas.{same_key, key_self, key_apart, touch_cmp_total, touch_cmp-IsAntisymmetric, touch_self}
-use Rattle.xa_tables.proofs.Effects.{Effect, TellsNothing, TellsDropped, Stays, Starts, Joins, Resumes, Adds, Prepares, Commits, Drops, effect_of}
+use Rattle.xa_tables.proofs.Effects.{Effect, TellsNothing, TellsDropped, Stays, Starts, Joins, Resumes, Adds, Prepares, Commits, Drops, CommitsByItself, RollsBackByItself, effect_of}
 use Rattle.xa_tables.proofs.Law.{swap_xid}
 use Rattle.xa_tables.proofs.ValueLaw.{quiet_named, ended_named, get_without, get_added}
 use Rattle.xa_tables.proofs.AddedLaw.{reads_only}
@@ -172,7 +172,15 @@ no_gain : (x : XidName) (op : Op) (c : Code) (l : Option Association) → ((k : 
 no_gain x (Add k d) c l shares = ap (λ b. if b && is_done c then added_by l d (λ y. xid_eq y x) else pos 0) (sym ((Decides-key_eq k k).1 refl)) ∙ shares k l (λ y. xid_eq y x)
 no_gain x op c l shares = refl
 
--- a Commit that makes nothing of its branch moves nothing
+and_true : (b : Bool) → (b && true) ≡ b
+and_true true = refl
+and_true false = refl
+
+and_false : (b : Bool) → (b && false) ≡ false
+and_false true = refl
+and_false false = refl
+
+-- a commit that makes nothing of its branch moves nothing
 unmoved : (b : Bool) (v : ℤ) → (b ≡ true → ⊥) → (if b then v else pos 0) ≡ pos 0
 unmoved true v never = absurd (never refl)
 unmoved false v never = refl
@@ -184,6 +192,14 @@ stays_unmoved accounts (Commit y one_phase) c T tells =
     let fate : commit_fate c ≡ Some Committed = ap (λ b. if b then Some Committed else if is_integrity c then Some RolledBack else None) done in
     let z : Some Committed ≡ None = sym (ap (λ b. if b then commit_fate c else None) own ∙ fate) ∙ tells.fates y in
     cc)
+stays_unmoved accounts (Heur y true) c T tells =
+    ap (λ b. if b then held_by accounts y T else pos 0) (and_true (is_done c))
+    ∙ unmoved (is_done c) (held_by accounts y T) (λ done.
+    let own : xid_eq y y ≡ true = (Decides-xid_eq y y).1 refl in
+    let fate : heur_fate true c ≡ Some HeurCommitted = ap (λ b. if b then Some HeurCommitted else None) done in
+    let z : Some HeurCommitted ≡ None = sym (ap (λ b. if b then heur_fate true c else None) own ∙ fate) ∙ tells.fates y in
+    cc)
+stays_unmoved accounts (Heur y false) c T tells = ap (λ b. if b then held_by accounts y T else pos 0) (and_false (is_done c))
 stays_unmoved accounts op c T tells = refl
 
 dropped_unmoved : (accounts : Accounts) (op : Op) (y : XidName) (c : Code) (T : Tables) → TellsDropped op y c → moved_by accounts op c T ≡ pos 0
@@ -194,6 +210,15 @@ dropped_unmoved accounts (Commit x one_phase) y c T tells =
     let committing : ending (fate_of x (Commit x one_phase) c) ≡ Some true = ap ending (ap (λ b. if b then commit_fate c else None) own ∙ fate) in
     let other : ending (fate_of x (Commit x one_phase) c) ≡ (if xid_eq y x then Some false else None) = ap ending (tells.fates x) ∙ ended_named x y tells.fate false tells.uncommitted in
     elim (xid_eq y x) as (λ b. Some true ≡ (if b then Some false else None) → ⊥) [ true ↦ λ e. cc | false ↦ λ e. cc ] (sym committing ∙ other))
+dropped_unmoved accounts (Heur x true) y c T tells =
+    ap (λ b. if b then held_by accounts x T else pos 0) (and_true (is_done c))
+    ∙ unmoved (is_done c) (held_by accounts x T) (λ done.
+    let own : xid_eq x x ≡ true = (Decides-xid_eq x x).1 refl in
+    let fate : heur_fate true c ≡ Some HeurCommitted = ap (λ b. if b then Some HeurCommitted else None) done in
+    let committing : ending (fate_of x (Heur x true) c) ≡ Some true = ap ending (ap (λ b. if b then heur_fate true c else None) own ∙ fate) in
+    let other : ending (fate_of x (Heur x true) c) ≡ (if xid_eq y x then Some false else None) = ap ending (tells.fates x) ∙ ended_named x y tells.fate false tells.uncommitted in
+    elim (xid_eq y x) as (λ b. Some true ≡ (if b then Some false else None) → ⊥) [ true ↦ λ e. cc | false ↦ λ e. cc ] (sym committing ∙ other))
+dropped_unmoved accounts (Heur x false) y c T tells = ap (λ b. if b then held_by accounts x T else pos 0) (and_false (is_done c))
 dropped_unmoved accounts op y c T tells = refl
 
 ended_either : (b : Bool) (c : Bool) (u v : ℤ) → v ≡ (if b then pos 0 else u) → v ≡ unless_ended (if b then Some c else None) (u +ℤ pos 0)
@@ -221,14 +246,15 @@ module _ (accounts : Accounts) (apart : are_apart accounts ≡ true) (t : ℕ) (
       ∙ elim (xid_eq y x) as (λ b. unwrap_or (if b then None else finmap.get T.sums (x, d.0)) (pos 0) ≡ (if b then pos 0 else sum_of T.sums x d.0)) [ true ↦ refl | false ↦ refl ])
       ∙ elim (xid_eq y x) as (λ b. total (λ d. if b then pos 0 else sum_of T.sums x d.0) accounts ≡ (if b then pos 0 else held_by accounts x T)) [ true ↦ total_nothing accounts | false ↦ refl ]
 
-  -- y is gone without a commit
-  lost : (op : Op) (y : XidName) (c : Code) → TellsDropped op y c → WorthStep accounts op (association_of T t) T (gone y T, c)
-  lost op y c tells = record {
-    keys = λ k. refl;
-    worth_after = plus_none _ ∙ ap (λ v. worth accounts T +ℤ v) (sym (dropped_unmoved accounts op y c T tells));
+  -- y ends without a commit, and has no sums
+  lost : {op : Op} {a : Answer} (y : XidName) (f : Fate) → a.0.sums ≡ sums_without T.sums y → a.0.values ≡ T.values → ending_by f ≡ Some false → ((x : XidName) → fate_of x op a.1 ≡ if_named x y (Some f))
+      → ((x : XidName) → gain x op a.1 (association_of T t) ≡ pos 0) → moved_by accounts op a.1 T ≡ pos 0 → WorthStep accounts op (association_of T t) T a
+  lost {op = op} {a = a} y f sums values uncommitted fates none unmoving = record {
+    keys = λ k. ap (λ m. is_some (finmap.get m k)) values;
+    worth_after = ap (λ m. total (λ d. value_of m d.0) accounts) values ∙ plus_none _ ∙ ap (λ v. worth accounts T +ℤ v) (sym unmoving);
     holds = λ x.
-        ended_either (xid_eq y x) false (held_by accounts x T) _ (without y x)
-        ∙ (λ i. unless_ended (sym (ap ending (tells.fates x) ∙ ended_named x y tells.fate false tells.uncommitted) i) (held_by accounts x T +ℤ sym (no_gain x op c (association_of T t) tells.shares) i));
+        ap (λ m. total (λ d. sum_of m x d.0) accounts) sums ∙ ended_either (xid_eq y x) false (held_by accounts x T) _ (without y x)
+        ∙ (λ i. unless_ended (sym (ap ending (fates x) ∙ ended_named x y f false uncommitted) i) (held_by accounts x T +ℤ sym (none x) i));
   }
 
   -- the values once y is committed
@@ -245,16 +271,18 @@ module _ (accounts : Accounts) (apart : are_apart accounts ≡ true) (t : ℕ) (
       ap is_some (get-map_values key_cmp_total key_cmp-IsAntisymmetric (λ q v. v +ℤ sum_of T.sums y q) T.values k)
       ∙ elim (finmap.get T.values k) as (λ o. is_some (option_map (λ v. v +ℤ sum_of T.sums y k) o) ≡ is_some o) [ None ↦ refl | Some v ↦ refl ]
 
-  -- y is committed
-  paid : (y : XidName) (one_phase : Bool) → WorthStep accounts (Commit y one_phase) (association_of T t) T (gone y (committed y T), Done)
-  paid y one_phase = record {
-    keys = paid_keys y;
+  -- y is committed, and has no sums
+  paid : {op : Op} {a : Answer} (y : XidName) (f : Fate) → a.0.sums ≡ sums_without T.sums y → a.0.values ≡ (committed y T).values → ending_by f ≡ Some true → ((x : XidName) → fate_of x op a.1 ≡ if_named x y (Some f))
+      → ((x : XidName) → gain x op a.1 (association_of T t) ≡ pos 0) → moved_by accounts op a.1 T ≡ held_by accounts y T → WorthStep accounts op (association_of T t) T a
+  paid {op = op} {a = a} y f sums values committing fates none moving = record {
+    keys = λ k. ap (λ m. is_some (finmap.get m k)) values ∙ paid_keys y k;
     worth_after =
-        total_alike (λ d. value_of (committed y T).values d.0) (λ d. value_of T.values d.0 +ℤ sum_of T.sums y d.0) accounts (λ k d lt. paid_value y (get_or accounts k d) (each_among accounts k d lt))
-        ∙ total_both (λ d. value_of T.values d.0) (λ d. sum_of T.sums y d.0) accounts;
+        ap (λ m. total (λ d. value_of m d.0) accounts) values
+        ∙ total_alike (λ d. value_of (committed y T).values d.0) (λ d. value_of T.values d.0 +ℤ sum_of T.sums y d.0) accounts (λ k d lt. paid_value y (get_or accounts k d) (each_among accounts k d lt))
+        ∙ total_both (λ d. value_of T.values d.0) (λ d. sum_of T.sums y d.0) accounts ∙ ap (λ v. worth accounts T +ℤ v) (sym moving);
     holds = λ x.
-        ended_either (xid_eq y x) true (held_by accounts x T) _ (without y x)
-        ∙ ap (λ o. unless_ended o (held_by accounts x T +ℤ pos 0)) (sym (ended_named x y Committed true refl));
+        ap (λ m. total (λ d. sum_of m x d.0) accounts) sums ∙ ended_either (xid_eq y x) true (held_by accounts x T) _ (without y x)
+        ∙ (λ i. unless_ended (sym (ap ending (fates x) ∙ ended_named x y f true committing) i) (held_by accounts x T +ℤ sym (none x) i));
   }
 
   -- what a branch holds once y has added d to a declared key
@@ -282,8 +310,10 @@ module _ (accounts : Accounts) (apart : are_apart accounts ≡ true) (t : ℕ) (
   by_effect (Resumes y own) = still refl refl (λ x. quiet_named x y None refl) (λ x. refl) refl
   by_effect (Adds own d l mine there alone) = subst (λ (o : Option Association). WorthStep accounts (Add own d) o T (added l.xid own d T, Done)) (sym mine) (adds own d l there)
   by_effect (Prepares y nobody unbroken) = still refl refl (λ x. quiet_named x y (Some InDoubt) refl) (λ x. refl) refl
-  by_effect (Commits y one_phase nobody may) = paid y one_phase
-  by_effect (Drops op y c nobody tells) = lost op y c tells
+  by_effect (Commits y one_phase nobody may) = paid y Committed refl refl refl (λ x. refl) (λ x. refl) refl
+  by_effect (Drops op y c nobody tells) = lost y tells.fate refl refl tells.uncommitted tells.fates (λ x. no_gain x op c (association_of T t) tells.shares) (dropped_unmoved accounts op y c T tells)
+  by_effect (CommitsByItself y voted) = paid y HeurCommitted refl refl refl (λ x. refl) (λ x. refl) refl
+  by_effect (RollsBackByItself y voted) = lost y HeurRolledBack refl refl refl (λ x. refl) (λ x. refl) refl
   -- the others change no sum and no value
   by_effect effect = still refl refl (λ x. refl) (λ x. refl) refl
 

@@ -12,13 +12,16 @@ use Rattle.xa_words.specs.declared.code.Code.TheVariants.{Done, RdOnly, RbRollba
 use Rattle.xa_words.specs.declared.code.Code.TheVariants.{RbOther, RbProto, RbTimeout, RbTransient, RmFail}
 use Rattle.xa_words.specs.declared.request.Op.{Op}
 use Rattle.xa_words.specs.declared.request.Op.TheVariants.{OpenRm, CloseRm, Start, Add, End, Prepare, Commit, Rollback}
-use Rattle.xa_words.specs.declared.request.Op.TheVariants.{Shut}
+use Rattle.xa_words.specs.declared.request.Op.TheVariants.{Forget, Heur, Shut}
 use Rattle.xa_words.specs.declared.request.StartHow.{StartHow}
 use Rattle.xa_words.specs.declared.request.StartHow.TheVariants.{Fresh, Join, Resume}
 use Rattle.xa_words.specs.declared.request.Request.{Request}
 use Rattle.xa_tables.specs.declared.state.Association.{Association}
-use Rattle.xa_tables.specs.Tables.{Tables, association_of, exists, is_active, is_prepared, is_rollback_only}
-use Rattle.xa_tables.specs.Tables.{is_somebody_associated}
+use Rattle.xa_tables.specs.declared.state.HeuristicDecision.{HeuristicDecision}
+use Rattle.xa_tables.specs.declared.state.HeuristicDecision.TheVariants as decision
+use Rattle.xa_tables.specs.declared.state.State.TheVariants.{HeuristicallyCompleted}
+use Rattle.xa_tables.specs.Tables.{Tables, association_of, state_of, exists, is_active, is_prepared, is_rollback_only}
+use Rattle.xa_tables.specs.Tables.{is_completed, is_somebody_associated}
 use Rattle.xa_tables.specs.Next.{next, shut_down}
 
 -- requests in the order in which they were taken
@@ -55,6 +58,8 @@ is_shut (End x how) = false
 is_shut (Prepare x) = false
 is_shut (Commit x one_phase) = false
 is_shut (Rollback x) = false
+is_shut (Forget x) = false
+is_shut (Heur x commits) = false
 is_shut Shut = true
 
 -- the requests before the first Shut
@@ -87,7 +92,8 @@ carried_out journal = accepted (map (λ e. e.0) journal)
 
 -- ---- the fate of a branch
 
--- what became of a branch: it was never started, it is at work, it awaits the outcome, or how it ended
+-- what became of a branch: it was never started, it is at work, it awaits the outcome, or how it ended, the last two by
+-- a heuristic decision
 pub data Fate : Type 0 where
   Absent : Fate
   Live : Fate
@@ -95,6 +101,8 @@ pub data Fate : Type 0 where
   Committed : Fate
   ReadOnly : Fate
   RolledBack : Fate
+  HeurCommitted : Fate
+  HeurRolledBack : Fate
 
 -- XA_OK
 abbrev pub is_done : Code → Bool
@@ -143,6 +151,10 @@ commit_fate c = if is_done c then Some Committed else if is_integrity c then Som
 abbrev pub rollback_fate : Code → Option Fate
 rollback_fate c = if is_done c || is_rolled_back c then Some RolledBack else None
 
+-- Heur: it is committed or rolled back, or the request is refused
+abbrev pub heur_fate : Bool → Code → Option Fate
+heur_fate commits c = if is_done c then Some (if commits then HeurCommitted else HeurRolledBack) else None
+
 -- where the request names x
 abbrev pub if_named : XidName → XidName → Option Fate → Option Fate
 if_named x y fate = if xid_eq y x then fate else None
@@ -153,6 +165,8 @@ fate_of x (Start y how) c = if_named x y (start_fate how c)
 fate_of x (Prepare y) c = if_named x y (prepare_fate c)
 fate_of x (Commit y one_phase) c = if_named x y (commit_fate c)
 fate_of x (Rollback y) c = if_named x y (rollback_fate c)
+fate_of x (Heur y commits) c = if_named x y (heur_fate commits c)
+fate_of x (Forget y) c = None
 fate_of x OpenRm c = None
 fate_of x CloseRm c = None
 fate_of x (Add k d) c = None
@@ -164,9 +178,13 @@ abbrev pub last_or : {A : Type 0} → A → List A → A
 last_or f [] = f
 last_or f (g ∷ gs) = last_or g gs
 
--- the fate of x in requests with their codes: what the last one that stands in the table makes of it
+-- what requests with their codes make of x, one after another
+abbrev pub fates_in : XidName → List (Request × Code) → List Fate
+fates_in x es = filter_map (λ e. fate_of x e.0.op e.1) es
+
+-- the fate of x in them: what the last one that stands in the table makes of it
 abbrev pub fate_in : XidName → List (Request × Code) → Fate
-fate_in x es = last_or Absent (filter_map (λ e. fate_of x e.0.op e.1) es)
+fate_in x es = last_or Absent (fates_in x es)
 
 -- the fate of x in a history: it is read from the accepted requests
 abbrev pub fate : XidName → History → Tables → Fate
@@ -180,6 +198,8 @@ is_in_doubt InDoubt = true
 is_in_doubt Committed = false
 is_in_doubt ReadOnly = false
 is_in_doubt RolledBack = false
+is_in_doubt HeurCommitted = false
+is_in_doubt HeurRolledBack = false
 
 -- the branch was started, and hasn't ended
 abbrev pub is_unfinished : Fate → Bool
@@ -189,6 +209,8 @@ is_unfinished InDoubt = true
 is_unfinished Committed = false
 is_unfinished ReadOnly = false
 is_unfinished RolledBack = false
+is_unfinished HeurCommitted = false
+is_unfinished HeurRolledBack = false
 
 -- ---- the value of a key
 
@@ -200,6 +222,8 @@ ending_by InDoubt = None
 ending_by Committed = Some true
 ending_by ReadOnly = Some false
 ending_by RolledBack = Some false
+ending_by HeurCommitted = Some true
+ending_by HeurRolledBack = Some false
 
 -- the same, where the request says nothing of the branch: it doesn't end it
 abbrev pub ending : Option Fate → Option Bool
@@ -232,6 +256,8 @@ share_of k (Start y how) c a later = pos 0
 share_of k (Prepare y) c a later = pos 0
 share_of k (Commit y one_phase) c a later = pos 0
 share_of k (Rollback y) c a later = pos 0
+share_of k (Forget y) c a later = pos 0
+share_of k (Heur y commits) c a later = pos 0
 share_of k OpenRm c a later = pos 0
 share_of k CloseRm c a later = pos 0
 share_of k (End y how) c a later = pos 0
@@ -266,17 +292,35 @@ pub record IsOpening (T : Tables) : Type 0 where
 abbrev pub PreparedIsInDoubt : XidName → History → Tables → Type 0
 PreparedIsInDoubt x h T = is_prepared (tables_after h T) x ≡ is_in_doubt (fate x h T)
 
--- a branch exists exactly while its fate is Live or InDoubt
+-- a branch exists exactly while its fate is Live or InDoubt, or it is heuristically completed
 abbrev pub ExistsWhileUnfinished : XidName → History → Tables → Type 0
-ExistsWhileUnfinished x h T = exists (tables_after h T) x ≡ is_unfinished (fate x h T)
+ExistsWhileUnfinished x h T =
+    exists (tables_after h T) x ≡ (is_unfinished (fate x h T) || is_completed (tables_after h T) x)
+
+-- what became of a branch by a heuristic decision
+abbrev pub decided_fate : HeuristicDecision → Fate
+decided_fate decision.Commit = HeurCommitted
+decided_fate decision.Rollback = HeurRolledBack
+
+-- a branch that is heuristically completed has the fate that was decided
+abbrev pub EndedAsDecided : XidName → History → Tables → Type 0
+EndedAsDecided x h T =
+    (d : HeuristicDecision) → state_of (tables_after h T) x ≡ Some (HeuristicallyCompleted d) → fate x h T ≡ decided_fate d
+
+-- only a branch that exists and isn't heuristically completed has touched a key
+abbrev pub OnlyUnfinishedTouch : XidName → History → Tables → Type 0
+OnlyUnfinishedTouch x h T =
+    (exists (tables_after h T) x && not (is_completed (tables_after h T) x)) ≡ false → (k : List ℕ)
+    → finmap.get (tables_after h T).sums (x, k) ≡ None
 
 -- a branch is active exactly while somebody is associated with it, suspended or not, and it is neither prepared nor
--- rollback-only
+-- rollback-only nor heuristically completed
 abbrev pub ActiveWhileAssociated : XidName → History → Tables → Type 0
 ActiveWhileAssociated x h T =
     is_active (tables_after h T) x
     ≡ (is_somebody_associated (tables_after h T).associations x
-    && not (is_prepared (tables_after h T) x || is_rollback_only (tables_after h T) x))
+    && not (is_prepared (tables_after h T) x
+    || (is_rollback_only (tables_after h T) x || is_completed (tables_after h T) x)))
 
 -- a declared key's value is from 0 to 10^12
 abbrev pub StaysWithin : List ℕ → History → Tables → Type 0

@@ -1,6 +1,6 @@
 -- One request at a manager: the rules of the branch tables.
 -- In each group the first line that fits decides. t is the thread that asks, x the xid, T the tables.
--- The states are those of C193, chapter 6: T0 to T2 of a thread, S0 to S4 of a branch.
+-- The states are those of C193, chapter 6: T0 to T2 of a thread, S0 to S5 of a branch.
 use Rattle.std.specs.Prelude.{ℕ, ℤ, Bool, true, false, not, ◌||◌, ◌&&◌, if◌then◌else◌, List, ◌+ℤ◌}
 use Rattle.std.specs.FinSet as set
 use Rattle.std.specs.FinMap as map
@@ -10,19 +10,22 @@ use Rattle.xa_words.specs.declared.code.Code.TheVariants.{Done, RdOnly, RbRollba
 use Rattle.xa_words.specs.declared.code.Code.TheVariants.{Inval, Proto, RmFail, DupId}
 use Rattle.xa_words.specs.declared.request.Op.{Op}
 use Rattle.xa_words.specs.declared.request.Op.TheVariants.{OpenRm, CloseRm, Start, Add, End, Prepare, Commit, Rollback}
-use Rattle.xa_words.specs.declared.request.Op.TheVariants.{Shut}
+use Rattle.xa_words.specs.declared.request.Op.TheVariants.{Forget, Heur, Shut}
 use Rattle.xa_words.specs.declared.request.StartHow.{StartHow}
 use Rattle.xa_words.specs.declared.request.StartHow.TheVariants.{Fresh, Join, Resume}
 use Rattle.xa_words.specs.declared.request.EndHow.{EndHow}
 use Rattle.xa_words.specs.declared.request.EndHow.TheVariants.{Success, Suspend, Fail}
 use Rattle.xa_tables.specs.declared.state.State.{State}
-use Rattle.xa_tables.specs.declared.state.State.TheVariants.{Active, Idle, Prepared, RollbackOnly}
+use Rattle.xa_tables.specs.declared.state.State.TheVariants.{Active, Idle, Prepared, RollbackOnly, HeuristicallyCompleted}
 use Rattle.xa_tables.specs.declared.state.RollbackReason.TheVariants.{Failed, Transient}
+use Rattle.xa_tables.specs.declared.state.HeuristicDecision.{HeuristicDecision}
+use Rattle.xa_tables.specs.declared.state.HeuristicDecision.TheVariants as decision
 use Rattle.xa_tables.specs.declared.state.Association.{Association}
 use Rattle.xa_tables.specs.declared.state.AssociationState.{AssociationState}
 use Rattle.xa_tables.specs.declared.state.AssociationState.TheVariants.{Associated, Suspended}
 use Rattle.xa_tables.specs.Tables.{Tables, has_opened, has_association, is_at_work, is_suspended, is_associated}
 use Rattle.xa_tables.specs.Tables.{branch_of, exists, is_idle, is_prepared, is_rollback_only, reason_of}
+use Rattle.xa_tables.specs.Tables.{is_completed, decision_of}
 use Rattle.xa_tables.specs.Tables.{is_somebody_associated, is_declared, sum_of, has_touched, has_other_touched}
 use Rattle.xa_tables.specs.Tables.{is_broken, posted, sums_without}
 
@@ -47,6 +50,8 @@ needs_opening (End x how) = true
 needs_opening (Prepare x) = true
 needs_opening (Commit x one_phase) = true
 needs_opening (Rollback x) = true
+needs_opening (Forget x) = true
+needs_opening (Heur x commits) = false
 
 abbrev pub if_opened : ℕ → Op → Tables → Answer → Answer
 if_opened t op T answer = if needs_opening op && not (has_opened T t) then (T, Proto) else answer
@@ -84,6 +89,14 @@ added x k d T = record T { sums = map.insert T.sums (x, k) (sum_of T.sums x k +�
 -- x is gone: it has no state, no sums and no touched keys
 abbrev pub gone : XidName → Tables → Tables
 gone x T = record T { states = map.remove T.states x; sums = sums_without T.sums x }
+
+-- x is gone; its sums went as it was completed
+abbrev pub forgotten : XidName → Tables → Tables
+forgotten x T = record T { states = map.remove T.states x }
+
+-- x is S5 with this decision, and has no sums and no touched keys
+abbrev pub completed : XidName → HeuristicDecision → Tables → Tables
+completed x d T = stated x (HeuristicallyCompleted d) (record T { sums = sums_without T.sums x })
 
 -- each sum of x is added to its key's value
 abbrev pub committed : XidName → Tables → Tables
@@ -124,7 +137,7 @@ abbrev pub start_join : ℕ → XidName → Tables → Answer
 start_join t x T =
     if has_association T t then (T, Proto)
     else if not (exists T x) then (T, Nota)
-    else if is_prepared T x then (T, Proto)
+    else if is_prepared T x || is_completed T x then (T, Proto)
     else if is_rollback_only T x then (T, reason_of T x)
     else (associated t x (stated x Active T), Done)
 
@@ -185,7 +198,8 @@ end how t x T =
 abbrev pub prepare : XidName → Tables → Answer
 prepare x T =
     if not (exists T x) then (T, Nota)
-    else if is_somebody_associated T.associations x || (is_prepared T x || is_rollback_only T x) then (T, Proto)
+    else if is_somebody_associated T.associations x || (is_prepared T x || (is_rollback_only T x || is_completed T x))
+    then (T, Proto)
     else if not (has_touched T.sums x) then (gone x T, RdOnly)
     else if is_broken T.values T.sums x then (gone x T, RbIntegrity)
     else (stated x Prepared T, Done)
@@ -196,6 +210,7 @@ prepare x T =
 abbrev pub commit_two : XidName → Tables → Answer
 commit_two x T =
     if not (exists T x) then (T, Nota)
+    else if is_completed T x then (T, decision_of T x)
     else if is_somebody_associated T.associations x || not (is_prepared T x) then (T, Proto)
     else (gone x (committed x T), Done)
 
@@ -209,13 +224,33 @@ commit_one x T =
 
 -- ---- Rollback (xa_rollback; C193, table 6-4)
 
--- S4's reason is told
+-- S4's reason is told, and S5's decision
 abbrev pub rollback : XidName → Tables → Answer
 rollback x T =
     if not (exists T x) then (T, Nota)
+    else if is_completed T x then (T, decision_of T x)
     else if is_somebody_associated T.associations x then (T, Proto)
     else if is_rollback_only T x then (gone x T, reason_of T x)
     else (gone x T, Done)
+
+-- ---- Heur (this project's own, native): the thread needn't have it open
+
+-- a prepared branch is decided by itself
+abbrev pub heur : XidName → Bool → Tables → Answer
+heur x commits T =
+    if not (exists T x) then (T, Nota)
+    else if not (is_prepared T x) then (T, Proto)
+    else if commits then (completed x decision.Commit (committed x T), Done)
+    else (completed x decision.Rollback T, Done)
+
+-- ---- Forget (xa_forget; C193, table 6-4)
+
+-- a heuristic decision that is known is forgotten
+abbrev pub forget : XidName → Tables → Answer
+forget x T =
+    if not (exists T x) then (T, Nota)
+    else if not (is_completed T x) then (T, Proto)
+    else (forgotten x T, Done)
 
 -- ---- all groups
 
@@ -229,6 +264,8 @@ by_rules t (End x how) T = end how t x T
 by_rules t (Prepare x) T = prepare x T
 by_rules t (Commit x one_phase) T = if one_phase then commit_one x T else commit_two x T
 by_rules t (Rollback x) T = rollback x T
+by_rules t (Forget x) T = forget x T
+by_rules t (Heur x commits) T = heur x commits T
 
 -- one request
 unfoldable pub next : ℕ → Op → Tables → Answer

@@ -16,11 +16,11 @@ use Rattle.xa_words.specs.Orders.{key_cmp}
 use Rattle.xa_words.specs.declared.code.Code.{Code}
 use Rattle.xa_words.specs.declared.code.Code.TheVariants.{Done}
 use Rattle.xa_tables.specs.declared.state.State.{State}
-use Rattle.xa_tables.specs.declared.state.State.TheVariants.{Active, Idle, Prepared, RollbackOnly}
+use Rattle.xa_tables.specs.declared.state.State.TheVariants.{Active, Idle, Prepared, RollbackOnly, HeuristicallyCompleted}
 use Rattle.xa_tables.specs.declared.state.Association.{Association}
 use Rattle.xa_tables.specs.declared.state.AssociationState.{AssociationState}
 use Rattle.xa_tables.specs.declared.state.AssociationState.TheVariants.{Associated, Suspended}
-use Rattle.xa_tables.specs.Reasons.{reason_code}
+use Rattle.xa_tables.specs.Reasons.{reason_code, decision_code}
 use Rattle.xa_tables.specs.contracts.state.State as state_type
 use Rattle.xa_tables.specs.contracts.state.Association as association_type
 use Rattle.xa_tables.specs.Maps.{any_entry, map_values}
@@ -142,6 +142,7 @@ is_S1 (Some Active) = true
 is_S1 (Some Idle) = false
 is_S1 (Some Prepared) = false
 is_S1 (Some (RollbackOnly reason)) = false
+is_S1 (Some (HeuristicallyCompleted decision)) = false
 
 -- S2
 abbrev pub is_S2 : Option State → Bool
@@ -150,6 +151,7 @@ is_S2 (Some Active) = false
 is_S2 (Some Idle) = true
 is_S2 (Some Prepared) = false
 is_S2 (Some (RollbackOnly reason)) = false
+is_S2 (Some (HeuristicallyCompleted decision)) = false
 
 -- S3
 abbrev pub is_S3 : Option State → Bool
@@ -158,6 +160,7 @@ is_S3 (Some Active) = false
 is_S3 (Some Idle) = false
 is_S3 (Some Prepared) = true
 is_S3 (Some (RollbackOnly reason)) = false
+is_S3 (Some (HeuristicallyCompleted decision)) = false
 
 -- S4
 abbrev pub is_S4 : Option State → Bool
@@ -166,6 +169,16 @@ is_S4 (Some Active) = false
 is_S4 (Some Idle) = false
 is_S4 (Some Prepared) = false
 is_S4 (Some (RollbackOnly reason)) = true
+is_S4 (Some (HeuristicallyCompleted decision)) = false
+
+-- S5
+abbrev pub is_S5 : Option State → Bool
+is_S5 None = false
+is_S5 (Some Active) = false
+is_S5 (Some Idle) = false
+is_S5 (Some Prepared) = false
+is_S5 (Some (RollbackOnly reason)) = false
+is_S5 (Some (HeuristicallyCompleted decision)) = true
 
 -- the code of S4's reason, XA_OK in any other state
 abbrev pub reason_in : Option State → Code
@@ -174,8 +187,18 @@ reason_in (Some Active) = Done
 reason_in (Some Idle) = Done
 reason_in (Some Prepared) = Done
 reason_in (Some (RollbackOnly reason)) = reason_code reason
+reason_in (Some (HeuristicallyCompleted decision)) = Done
 
--- x is active, idle, prepared, or can only be rolled back
+-- the code of S5's decision, XA_OK in any other state
+abbrev pub decision_in : Option State → Code
+decision_in None = Done
+decision_in (Some Active) = Done
+decision_in (Some Idle) = Done
+decision_in (Some Prepared) = Done
+decision_in (Some (RollbackOnly reason)) = Done
+decision_in (Some (HeuristicallyCompleted decision)) = decision_code decision
+
+-- x is active, idle, prepared, can only be rolled back, or is heuristically completed
 abbrev pub is_active : Tables → XidName → Bool
 is_active T x = is_S1 (state_of T x)
 
@@ -188,9 +211,16 @@ is_prepared T x = is_S3 (state_of T x)
 abbrev pub is_rollback_only : Tables → XidName → Bool
 is_rollback_only T x = is_S4 (state_of T x)
 
+abbrev pub is_completed : Tables → XidName → Bool
+is_completed T x = is_S5 (state_of T x)
+
 -- why x can only be rolled back
 abbrev pub reason_of : Tables → XidName → Code
 reason_of T x = reason_in (state_of T x)
+
+-- what was decided heuristically on x
+abbrev pub decision_of : Tables → XidName → Code
+decision_of T x = decision_in (state_of T x)
 
 -- "somebody is associated" counts both kinds
 abbrev pub is_somebody_associated : FinMap nat_cmp Association → XidName → Bool

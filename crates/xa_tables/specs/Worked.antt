@@ -1,10 +1,10 @@
 -- Worked histories of one branch, with the codes that its requests got.
-use Rattle.std.specs.Prelude.{pos, neg_ℤ, false, List, [], ◌∷◌, ◌++◌, codes}
+use Rattle.std.specs.Prelude.{pos, neg_ℤ, true, false, List, [], ◌∷◌, ◌++◌, codes}
 use Rattle.xa_words.specs.Xid.{XidName}
 use Rattle.xa_words.specs.declared.code.Code.{Code}
-use Rattle.xa_words.specs.declared.code.Code.TheVariants.{Done, RdOnly, RbRollback, RbIntegrity, Nota}
+use Rattle.xa_words.specs.declared.code.Code.TheVariants.{Done, RdOnly, RbRollback, RbIntegrity, Nota, HeurCom}
 use Rattle.xa_words.specs.declared.request.Op.{Op}
-use Rattle.xa_words.specs.declared.request.Op.TheVariants.{Start, Add, End, Prepare, Commit, Rollback}
+use Rattle.xa_words.specs.declared.request.Op.TheVariants.{Start, Add, End, Prepare, Commit, Rollback, Forget, Heur}
 use Rattle.xa_words.specs.declared.request.StartHow.TheVariants.{Fresh}
 use Rattle.xa_words.specs.declared.request.EndHow.TheVariants.{Success, Fail}
 use Rattle.xa_words.specs.declared.request.Request.{Request}
@@ -52,3 +52,11 @@ failed = entry (Start branch Fresh) Done ∷ entry (End branch Fail) RbRollback 
 -- it begins again after it committed
 abbrev pub begun_again : List (Request × Code)
 begun_again = transferred ++ entry (Start branch Fresh) Done ∷ []
+
+-- it votes yes and is committed by a heuristic decision, which its Rollback is told
+abbrev pub decided : List (Request × Code)
+decided = voted ++ entry (Heur branch true) Done ∷ entry (Rollback branch) HeurCom ∷ []
+
+-- it votes yes and is rolled back by a heuristic decision, which is forgotten
+abbrev pub forgotten : List (Request × Code)
+forgotten = voted ++ entry (Heur branch false) Done ∷ entry (Forget branch) Done ∷ []

@@ -1,11 +1,11 @@
 -- What a manager's accounts are worth together, and what moves it.
-use Rattle.std.specs.Prelude.{◌≡◌, ℕ, ℤ, pos, ◌+ℤ◌, Bool, true, ◌==◌, if◌then◌else◌, Option, None, Some, List, [], ◌∷◌}
+use Rattle.std.specs.Prelude.{◌≡◌, ℕ, ℤ, pos, ◌+ℤ◌, Bool, true, ◌==◌, ◌&&◌, if◌then◌else◌, Option, None, Some, List, [], ◌∷◌}
 use Rattle.xa_base.specs.Sums.{total}
 use Rattle.xa_words.specs.Xid.{XidName, xid_eq}
 use Rattle.xa_words.specs.declared.code.Code.{Code}
 use Rattle.xa_words.specs.declared.request.Op.{Op}
 use Rattle.xa_words.specs.declared.request.Op.TheVariants.{OpenRm, CloseRm, Start, Add, End, Prepare, Commit, Rollback}
-use Rattle.xa_words.specs.declared.request.Op.TheVariants.{Shut}
+use Rattle.xa_words.specs.declared.request.Op.TheVariants.{Forget, Heur, Shut}
 use Rattle.xa_words.specs.declared.request.Request.{Request}
 use Rattle.xa_tables.specs.declared.state.Association.{Association}
 use Rattle.xa_tables.specs.Tables.{Tables, association_of, value_of, sum_of}
@@ -27,9 +27,10 @@ held_by accounts x T = total (λ d. sum_of T.sums x d.0) accounts
 
 -- ---- what moves the worth
 
--- what a request with this code adds to the worth: a Commit with XA_OK what its branch holds
+-- what a request with this code adds to the worth: a Commit with XA_OK, or a heuristic one, what its branch holds
 abbrev pub moved_by : List (List ℕ × ℕ) → Op → Code → Tables → ℤ
 moved_by accounts (Commit y one_phase) c T = if is_done c then held_by accounts y T else pos 0
+moved_by accounts (Heur y commits) c T = if is_done c && commits then held_by accounts y T else pos 0
 moved_by accounts OpenRm c T = pos 0
 moved_by accounts CloseRm c T = pos 0
 moved_by accounts (Start y how) c T = pos 0
@@ -37,6 +38,7 @@ moved_by accounts (Add k d) c T = pos 0
 moved_by accounts (End y how) c T = pos 0
 moved_by accounts (Prepare y) c T = pos 0
 moved_by accounts (Rollback y) c T = pos 0
+moved_by accounts (Forget y) c T = pos 0
 moved_by accounts Shut c T = pos 0
 
 -- what the requests of a history add that pass a test, from the tables T on
@@ -66,6 +68,8 @@ gain x (End y how) c a = pos 0
 gain x (Prepare y) c a = pos 0
 gain x (Commit y one_phase) c a = pos 0
 gain x (Rollback y) c a = pos 0
+gain x (Forget y) c a = pos 0
+gain x (Heur y commits) c a = pos 0
 gain x Shut c a = pos 0
 
 -- what is left of it: nothing, where the request ends the branch

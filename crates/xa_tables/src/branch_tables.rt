@@ -2,14 +2,14 @@
 ghost use Rattle.std.specs.Prelude.{◌≡◌, ◌≤◌, ◌<◌, ◌^◌, IfOk, IfSome, true, option_map, pos};
 ghost use Rattle.std.specs.FinMap as finmap;
 ghost use Rattle.xa_tables.specs.declared.state.AssociationState.TheVariants.{Associated, Suspended};
-ghost use Rattle.xa_tables.specs.Next.{association, shut_down, open_rm, close_rm, start_fresh, start_join, start_resume, add, end, prepare, commit_one, commit_two, rollback, gone};
+ghost use Rattle.xa_tables.specs.Next.{association, shut_down, open_rm, close_rm, start_fresh, start_join, start_resume, add, end, prepare, commit_one, commit_two, rollback, heur, forget, gone};
 ghost use Rattle.xa_tables.specs.Tables.{has_opened};
 ghost use Rattle.xa_tables.specs.Accounts.{are_accounts};
 ghost use Rattle.xa_tables.specs.Managers.{Keeps, opening};
 
 use crate::accounts::Accounts;
 use crate::branches::Branches;
-use crate::state::{Association, AssociationState, RollbackReason, State};
+use crate::state::{Association, AssociationState, HeuristicDecision, RollbackReason, State};
 use crate::threads::Threads;
 use std::alloc::{AllocError, Global};
 use std::marker::Model;
@@ -173,7 +173,7 @@ impl BranchTables {
         }
         match self.branches.get(&xid) {
             None => Code::Nota,
-            Some(State::Prepared) => Code::Proto,
+            Some(State::Prepared | State::HeuristicallyCompleted(_)) => Code::Proto,
             Some(State::RollbackOnly(reason)) => reason.code(),
             Some(State::Active | State::Idle) => {
                 self.branches.put(xid, State::Active);
@@ -291,7 +291,7 @@ impl BranchTables {
         if self.threads.is_somebody_associated(&xid) {
             return Code::Proto;
         }
-        if let State::Prepared | State::RollbackOnly(_) = state {
+        if let State::Prepared | State::RollbackOnly(_) | State::HeuristicallyCompleted(_) = state {
             return Code::Proto;
         }
         if !self.accounts.has_touched(&xid) {
@@ -314,6 +314,9 @@ impl BranchTables {
         let Some(state) = self.branches.get(&xid) else {
             return Code::Nota;
         };
+        if let State::HeuristicallyCompleted(decision) = state {
+            return decision.code();
+        }
         if self.threads.is_somebody_associated(&xid) || state != State::Prepared {
             return Code::Proto;
         }
@@ -350,14 +353,60 @@ impl BranchTables {
         let Some(state) = self.branches.get(&xid) else {
             return Code::Nota;
         };
+        if let State::HeuristicallyCompleted(decision) = state {
+            return decision.code();
+        }
         if self.threads.is_somebody_associated(&xid) {
             return Code::Proto;
         }
         self.remove(xid);
         match state {
             State::RollbackOnly(reason) => reason.code(),
-            State::Active | State::Idle | State::Prepared => Code::Done,
+            _ => Code::Done,
         }
+    }
+
+    /// A heuristic decision on a prepared branch.
+    pub(crate) fn heur(&mut self, xid: Xid, commits: bool) -> Code
+        requires room { 0 < self.old.spare }
+        ensures step { (self.new.tables, result) ≡ heur xid commits self.old.tables }
+        ensures kept { Keeps self.old self.new }
+    {
+        let Some(state) = self.branches.get(&xid) else {
+            return Code::Nota;
+        };
+        if state != State::Prepared {
+            return Code::Proto;
+        }
+        if commits {
+            self.accounts.post(&xid);
+            self.branches.put(
+                xid,
+                State::HeuristicallyCompleted(HeuristicDecision::Commit),
+            );
+            return Code::Done;
+        }
+        self.accounts.forget(&xid);
+        self.branches.put(
+            xid,
+            State::HeuristicallyCompleted(HeuristicDecision::Rollback),
+        );
+        Code::Done
+    }
+
+    /// `xa_forget`.
+    pub(crate) fn forget(&mut self, xid: Xid) -> Code
+        ensures step { (self.new.tables, result) ≡ forget xid self.old.tables }
+        ensures kept { Keeps self.old self.new }
+    {
+        let Some(state) = self.branches.get(&xid) else {
+            return Code::Nota;
+        };
+        let State::HeuristicallyCompleted(_) = state else {
+            return Code::Proto;
+        };
+        self.branches.remove(&xid);
+        Code::Done
     }
 
     // The branch is gone, with its sums.

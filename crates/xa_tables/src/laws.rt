@@ -3,29 +3,42 @@ ghost use Rattle.std.specs.Prelude.{◌≡◌, ◌≢◌, ◌++◌, ℕ, ℤ, po
 ghost use Rattle.xa_words.specs.Xid.{XidName};
 ghost use Rattle.xa_words.specs.declared.code.Code.TheVariants.{Done, RbIntegrity, RdOnly};
 ghost use Rattle.xa_words.specs.declared.request.Op.{Op};
-ghost use Rattle.xa_words.specs.declared.request.Op.TheVariants.{Add, Prepare};
-ghost use Rattle.xa_tables.specs.Tables.{Tables, association_of, is_somebody_associated};
-ghost use Rattle.xa_tables.specs.History.{History, IsOpening, EndsNowhere, PreparedIsInDoubt, ExistsWhileUnfinished, ActiveWhileAssociated, StaysWithin, ValueIsSum, IsSumOfAll, LateAreRefused, LateChangeNothing, tables_after, coded, accepted, first_shut, late, fate, fate_in, is_rolled_back, Absent, Live, InDoubt, Committed, ReadOnly, RolledBack};
+ghost use Rattle.xa_words.specs.declared.request.Op.TheVariants.{Add, Prepare, Commit, Rollback};
+ghost use Rattle.xa_tables.specs.declared.state.HeuristicDecision.{HeuristicDecision};
+ghost use Rattle.xa_tables.specs.Tables.{Tables, association_of, is_somebody_associated, is_prepared};
+ghost use Rattle.xa_tables.specs.Reasons.{decision_code};
+ghost use Rattle.xa_tables.specs.History.{History, IsOpening, EndsNowhere, PreparedIsInDoubt, ExistsWhileUnfinished, EndedAsDecided, OnlyUnfinishedTouch, ActiveWhileAssociated, StaysWithin, ValueIsSum, IsSumOfAll, LateAreRefused, LateChangeNothing, tables_after, coded, accepted, first_shut, late, fate, fate_in, fates_in, is_rolled_back, Absent, Live, InDoubt, Committed, ReadOnly, RolledBack, HeurCommitted, HeurRolledBack};
 ghost use Rattle.xa_tables.specs.Accounts.{are_accounts};
 ghost use Rattle.xa_tables.specs.Managers.{opening};
 ghost use Rattle.xa_tables.specs.Next.{next};
-ghost use Rattle.xa_tables.specs.Prepared.{NamesNowhere, LeavesWaiting, StaysAsItWas, IsPrepared, StaysPrepared, AwaitsTheOutcome, has_shut};
+ghost use Rattle.xa_tables.specs.Prepared.{NamesNowhere, OnlyDecides, LeavesWaiting, StaysAsItWas, IsPrepared, StaysPrepared, AwaitsAfter, IsTold, has_shut};
 ghost use Rattle.xa_tables.specs.Work.{AddsAsItWorks};
 ghost use Rattle.xa_tables.specs.Worth.{WorthIsMoved, HoldsItsAdditions, held_by};
-ghost use Rattle.xa_tables.specs.Worked.{branch, worked, voted, transferred, undone, overdrawn, unchanged, failed, begun_again};
+ghost use Rattle.xa_tables.specs.Worked.{branch, worked, voted, transferred, undone, overdrawn, unchanged, failed, begun_again, decided, forgotten};
 
 /// Whatever is requested, a branch is prepared exactly if its fate is to be in doubt.
 pub fn prepared_is_in_doubt()
     ensures { (h : History) (x : XidName) (T : Tables) → IsOpening T → PreparedIsInDoubt x h T }
 {}
 
-/// Whatever is requested, a branch exists exactly while its fate is that it is at work or in doubt.
+/// Whatever is requested, a branch exists exactly while its fate is that it is at work or in doubt, or it is
+/// heuristically completed.
 pub fn branches_exist_until_they_end()
     ensures { (h : History) (x : XidName) (T : Tables) → IsOpening T → ExistsWhileUnfinished x h T }
 {}
 
+/// Whatever is requested, a branch that is heuristically completed has the fate that was decided.
+pub fn completed_branches_ended_as_decided()
+    ensures { (h : History) (x : XidName) (T : Tables) → IsOpening T → EndedAsDecided x h T }
+{}
+
+/// Whatever is requested, a branch that doesn't exist, or is heuristically completed, has touched no key.
+pub fn only_unfinished_branches_have_touched_keys()
+    ensures { (h : History) (x : XidName) (T : Tables) → IsOpening T → OnlyUnfinishedTouch x h T }
+{}
+
 /// Whatever is requested, a branch is active exactly while somebody is associated with it, suspended or
-/// not, and it is neither prepared nor rollback-only.
+/// not, and it is neither prepared nor rollback-only nor heuristically completed.
 pub fn branches_are_active_while_associated()
     ensures { (h : History) (x : XidName) (T : Tables) → IsOpening T → ActiveWhileAssociated x h T }
 {}
@@ -47,8 +60,8 @@ pub fn adders_never_vote_read_only()
     ensures { (t u : ℕ) (op : Op) (x : XidName) (k : List ℕ) (d : ℤ) (g : History) (T : Tables) → op ≡ Add k d → option_map (λ a. a.xid) (association_of T u) ≡ Some x → (next u op T).1 ≡ Done → EndsNowhere x g (next u op T).0 → (next t (Prepare x) (tables_after g (next u op T).0)).1 ≢ RdOnly }
 {}
 
-/// What a manager's accounts are worth together is what was declared and what each Commit that was answered
-/// XA_OK has added: all that its branch held.
+/// What a manager's accounts are worth together is what was declared and what each Commit, and each heuristic
+/// one, that was answered XA_OK has added: all that its branch held.
 pub fn commits_alone_move_the_worth()
     ensures { (accounts : List (List ℕ × ℕ)) (h : History) → are_accounts accounts ≡ true → WorthIsMoved accounts h }
 {}
@@ -108,10 +121,29 @@ pub fn prepared_branches_stay_prepared()
     ensures { (h g : History) (x : XidName) (T : Tables) → IsOpening T → IsPrepared x (tables_after h T) → NamesNowhere x g → StaysPrepared x (tables_after h T) (tables_after (h ++ g) T) }
 {}
 
-/// A branch whose Prepare a thread got answered XA_OK awaits the outcome from that thread, whatever
-/// is requested in between that doesn't name it, but for a CloseRm of the thread itself.
+/// A branch whose Prepare a thread got answered XA_OK awaits the outcome from that thread, whatever is requested in
+/// between that doesn't name it, but for a CloseRm of the thread itself. A heuristic decision may name it: where one
+/// was carried out, that is its one fate since, and the outcome is answered with it.
 pub fn prepared_branches_await_the_outcome()
-    ensures { (h g : History) (t : ℕ) (x : XidName) (T : Tables) → IsOpening T → (next t (Prepare x) (tables_after h T)).1 ≡ Done → LeavesWaiting t x g → AwaitsTheOutcome t x (tables_after g (next t (Prepare x) (tables_after h T)).0) }
+    ensures { (h g : History) (t : ℕ) (x : XidName) (T : Tables) → IsOpening T → (next t (Prepare x) (tables_after h T)).1 ≡ Done → LeavesWaiting t x g → AwaitsAfter t x g (next t (Prepare x) (tables_after h T)).0 }
+{}
+
+/// A branch that isn't prepared isn't decided: heuristic decisions and Forgets make nothing of it, whatever is requested
+/// that doesn't name it.
+pub fn only_prepared_branches_are_decided()
+    ensures { (g : History) (x : XidName) (T : Tables) → is_prepared T x ≡ false → OnlyDecides x g → fates_in x (coded g T) ≡ [] }
+{}
+
+/// A manager that is shut makes nothing of any branch.
+pub fn shut_managers_decide_nothing()
+    ensures { (g : History) (x : XidName) (T : Tables) → T.shut ≡ true → fates_in x (coded g T) ≡ [] }
+{}
+
+/// Commit in two phases and Rollback are answered with a heuristic decision only where the branch is completed with it,
+/// and change nothing then.
+pub fn only_completed_branches_tell_a_decision()
+    ensures commits { (t : ℕ) (x : XidName) (d : HeuristicDecision) (T : Tables) → (next t (Commit x false) T).1 ≡ decision_code d → IsTold x d T (next t (Commit x false) T) }
+    ensures rolls_back { (t : ℕ) (x : XidName) (d : HeuristicDecision) (T : Tables) → (next t (Rollback x) T).1 ≡ decision_code d → IsTold x d T (next t (Rollback x) T) }
 {}
 
 /// A Prepare that rolls its branch back answers XA_RBINTEGRITY.
@@ -120,7 +152,7 @@ pub fn refused_prepares_tell_integrity()
 {}
 
 /// The fates of worked histories: a branch that works, votes, commits, is rolled back, would take
-/// a value out of range, changes nothing, fails, and begins again.
+/// a value out of range, changes nothing, fails, begins again, and is decided heuristically either way.
 pub fn worked_fates()
     ensures absent { fate_in branch [] ≡ Absent }
     ensures worked { fate_in branch worked ≡ Live }
@@ -131,4 +163,6 @@ pub fn worked_fates()
     ensures unchanged { fate_in branch unchanged ≡ ReadOnly }
     ensures failed { fate_in branch failed ≡ RolledBack }
     ensures begun_again { fate_in branch begun_again ≡ Live }
+    ensures decided { fate_in branch decided ≡ HeurCommitted }
+    ensures forgotten { fate_in branch forgotten ≡ HeurRolledBack }
 {}

@@ -11,4 +11,4 @@ mod state;
 mod threads;
 
 pub use manager::{Manager, TableFault};
-pub use state::{Association, RollbackReason, State};
+pub use state::{Association, HeuristicDecision, RollbackReason, State};

@@ -141,13 +141,14 @@ fn needs_opening(op: &Op) -> bool
     ensures { result ≡ needs_opening op.now }
 {
     match op {
-        Op::Shut | Op::OpenRm | Op::CloseRm => false,
+        Op::Shut | Op::OpenRm | Op::CloseRm | Op::Heur(..) => false,
         Op::Start(..)
         | Op::Add(..)
         | Op::End(..)
         | Op::Prepare(_)
         | Op::Commit(..)
-        | Op::Rollback(_) => true,
+        | Op::Rollback(_)
+        | Op::Forget(_) => true,
     }
 }
 
@@ -175,6 +176,8 @@ fn step_by_rules(tables: &mut BranchTables, t: usize, op: Op) -> Code
         Op::Commit(xid, true) => tables.commit_one(*xid),
         Op::Commit(xid, false) => tables.commit_two(*xid),
         Op::Rollback(xid) => tables.rollback(*xid),
+        Op::Forget(xid) => tables.forget(*xid),
+        Op::Heur(xid, commits) => tables.heur(*xid, *commits),
     }
 }
 

@@ -1,6 +1,6 @@
 //! What the tables hold of a branch and of a thread.
 ghost use Rattle.std.specs.Prelude.{◌≡◌};
-ghost use Rattle.xa_tables.specs.Reasons.{reason_code};
+ghost use Rattle.xa_tables.specs.Reasons.{reason_code, decision_code};
 ghost use Rattle.xa_tables.specs.Tables.{is_suspended_state};
 
 use xa_words::{Code, Xid};
@@ -16,6 +16,8 @@ pub enum State {
     Prepared,
     /// S4: it can only be rolled back.
     RollbackOnly(RollbackReason),
+    /// S5: it was decided heuristically, and is to be forgotten.
+    HeuristicallyCompleted(HeuristicDecision),
 }
 
 /// Why a branch can only be rolled back.
@@ -35,6 +37,27 @@ impl RollbackReason {
         match self {
             RollbackReason::Failed => Code::RbRollback,
             RollbackReason::Transient => Code::RbTransient,
+        }
+    }
+}
+
+/// What was decided on a prepared branch, and not by its transaction manager.
+#[derive(Clone, Copy, Debug, PartialEq, Eq)]
+pub enum HeuristicDecision {
+    /// It was committed: XA_HEURCOM.
+    Commit,
+    /// It was rolled back: XA_HEURRB.
+    Rollback,
+}
+
+impl HeuristicDecision {
+    /// The code that tells it.
+    pub fn code(self) -> Code
+        ensures { result ≡ decision_code self }
+    {
+        match self {
+            HeuristicDecision::Commit => Code::HeurCom,
+            HeuristicDecision::Rollback => Code::HeurRb,
         }
     }
 }

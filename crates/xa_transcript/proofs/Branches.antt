@@ -14,9 +14,9 @@ use Rattle.xa_driver.specs.declared.branch.Branch.{Branch}
 use Rattle.xa_driver.specs.declared.done.Done.{Done}
 use Rattle.xa_driver.specs.declared.done.Ending.{Ending}
 use Rattle.xa_driver.specs.Asks.{asked, IsAnswered}
-use Rattle.xa_driver.specs.Endings.{second_op, ending_of}
+use Rattle.xa_driver.specs.Endings.{second_op, third_op, ending_of}
 use Rattle.xa_driver.specs.Log.{LogState}
-use Rattle.xa_driver.specs.Trace.{voted, BranchTrace, EachBranch, HasRoom, HaveRoom, has_branch_at, IsTraceOfCommit}
+use Rattle.xa_driver.specs.Trace.{voted, decided, BranchTrace, EachBranch, HasRoom, HaveRoom, has_branch_at, IsTraceOfCommit}
 use Rattle.xa_words.specs.Tran.{TranName}
 use Rattle.xa_transcript.specs.Commits.{Carries, AtBranch}
 use Rattle.xa_transcript.specs.Commits.Carries.{carried, withheld, unwanted}
@@ -67,10 +67,13 @@ asked_answered a None code = stays a
 asked_answered a (Some o) None = stays a
 asked_answered a (Some o) (Some c) = by_if (Answered a) (learnt_shut a) a (with_collected (with_sent a o) (length a.sent) c) (λ e. stays a) (λ e. sent_and_collected a o c)
 
--- both requests of a branch
+-- the requests of a branch
 branch_answered : (commit : Bool) (b : Branch) (v : Code) (s : Option Code) (a a' : LedgerView) → BranchTrace commit b v s a a' → Answered a a'
 branch_answered commit b v s a a' is =
-    subst (Answered a) (sym is.trace) (one_after a (voted b v a) (asked (voted b v a) (second_op commit b.xid v) s) (asked_answered a (Some (Prepare b.xid)) (Some v)) (asked_answered (voted b v a) (second_op commit b.xid v) s))
+    subst (Answered a) (sym is.trace)
+    (one_after a (decided commit b v s a) (asked (decided commit b v s a) (third_op b.xid s) is.third)
+    (one_after a (voted b v a) (decided commit b v s a) (asked_answered a (Some (Prepare b.xid)) (Some v)) (asked_answered (voted b v a) (second_op commit b.xid v) s))
+    (asked_answered (decided commit b v s a) (third_op b.xid s) is.third))
 
 -- ---- what it adds to the journal
 
@@ -121,23 +124,30 @@ module _ (t : ℕ) (ops : List Op) (pairs : List (ℕ × Code)) (es : List Entry
       (λ open_ sent_now collected_now. sent_carries a o c sent_now collected_now)
       sent collected
 
-  -- both requests of a branch, its vote and its ending
+  -- the requests of a branch, its vote and its ending
   at_branch : (commit : Bool) (old new : ℕ → List Entry) (b : Branch) (v : Code) (s : Option Code) (e : Ending) (a a' : LedgerView) → old b.m ≡ upto a → new b.m ≡ upto a' → Sound a → BranchTrace commit b v s a a' → e ≡ ending_of commit v s → Begins a'.sent ops → Begins a'.collected pairs → AtBranch t commit old new b v s e
   at_branch commit old new b v s e a a' was now sound is ends sent collected =
       let mid : LedgerView = voted b v a in
-      let last : LedgerView = asked mid (second_op commit b.xid v) s in
+      let two : LedgerView = decided commit b v s a in
+      let last : LedgerView = asked two (third_op b.xid s) is.third in
       let first = asked_answered a (Some (Prepare b.xid)) (Some v) in
-      let later = asked_answered mid (second_op commit b.xid v) s in
+      let second = asked_answered mid (second_op commit b.xid v) s in
+      let later = asked_answered two (third_op b.xid s) is.third in
       let sent_last : Begins last.sent ops = subst (λ (x : LedgerView). Begins x.sent ops) is.trace sent in
       let collected_last : Begins last.collected pairs = subst (λ (x : LedgerView). Begins x.collected pairs) is.trace collected in
+      let sent_two : Begins two.sent ops = begins_on two.sent last.sent ops later.sent sent_last in
+      let collected_two : Begins two.collected pairs = begins_on two.collected last.collected pairs later.collected collected_last in
       record {
         between = upto mid;
+        decided = upto two;
+        third = is.third;
         prepares =
             subst (λ l. Carries t (Some (Prepare b.xid)) (Some v) l (upto mid)) (sym was)
-            (carries a (Some (Prepare b.xid)) (Some v) is.prepared sound (begins_on mid.sent last.sent ops later.sent sent_last) (begins_on mid.collected last.collected pairs later.collected collected_last));
-        obeys =
-            subst (λ l. Carries t (second_op commit b.xid v) s (upto mid) l) (ap upto (sym is.trace) ∙ sym now)
-            (carries mid (second_op commit b.xid v) s is.decided (first.sound sound) sent_last collected_last);
+            (carries a (Some (Prepare b.xid)) (Some v) is.prepared sound (begins_on mid.sent two.sent ops second.sent sent_two) (begins_on mid.collected two.collected pairs second.collected collected_two));
+        obeys = carries mid (second_op commit b.xid v) s is.seconded (first.sound sound) sent_two collected_two;
+        forgets =
+            subst (λ l. Carries t (third_op b.xid s) is.third (upto two) l) (ap upto (sym is.trace) ∙ sym now)
+            (carries two (third_op b.xid s) is.third is.forgotten (second.sound (first.sound sound)) sent_last collected_last);
         ends = ends;
       }
 

@@ -8,12 +8,13 @@ use Rattle.xa_base.proofs.Truth.{by_if}
 use Rattle.xa_words.specs.declared.code.Code.{Code}
 use Rattle.xa_words.specs.declared.code.Code.TheVariants.{Proto, RmFail}
 use Rattle.xa_words.specs.declared.request.Op.{Op}
-use Rattle.xa_words.specs.declared.request.Op.TheVariants.{OpenRm, CloseRm, Start, Add, End, Prepare, Commit, Rollback, Shut}
+use Rattle.xa_words.specs.declared.request.Op.TheVariants.{OpenRm, CloseRm, Start, Add, End, Prepare, Commit, Rollback, Forget, Heur, Shut}
 use Rattle.xa_words.specs.declared.request.StartHow.TheVariants.{Fresh, Join, Resume}
 use Rattle.xa_tables.specs.declared.state.State.{State}
-use Rattle.xa_tables.specs.declared.state.State.TheVariants.{Active, Idle, Prepared, RollbackOnly}
+use Rattle.xa_tables.specs.declared.state.State.TheVariants.{Active, Idle, Prepared, RollbackOnly, HeuristicallyCompleted}
 use Rattle.xa_tables.specs.declared.state.RollbackReason.TheVariants.{Failed, Transient}
-use Rattle.xa_tables.specs.Tables.{Tables, has_opened, has_association, is_at_work, is_suspended, is_associated, branch_of, exists, is_idle, is_prepared, is_rollback_only, reason_in, state_of, is_somebody_associated, is_declared, has_touched, has_other_touched, is_broken}
+use Rattle.xa_tables.specs.declared.state.HeuristicDecision.TheVariants as decision
+use Rattle.xa_tables.specs.Tables.{Tables, has_opened, has_association, is_at_work, is_suspended, is_associated, branch_of, exists, is_idle, is_prepared, is_rollback_only, is_completed, reason_in, decision_in, state_of, is_somebody_associated, is_declared, has_touched, has_other_touched, is_broken}
 use Rattle.xa_tables.specs.Next.{Answer, next, needs_opening, by_rules, is_suspend, is_fail, dissociated}
 use Rattle.xa_tables.specs.History.{History, coded}
 use Rattle.xa_tables.proofs.ShutLemmas.{next-shut}
@@ -38,6 +39,16 @@ reason_tells (Some Idle) = refl
 reason_tells (Some Prepared) = refl
 reason_tells (Some (RollbackOnly Failed)) = refl
 reason_tells (Some (RollbackOnly Transient)) = refl
+reason_tells (Some (HeuristicallyCompleted d)) = refl
+
+decision_tells : (o : Option State) → is_rm_fail (decision_in o) ≡ false
+decision_tells None = refl
+decision_tells (Some Active) = refl
+decision_tells (Some Idle) = refl
+decision_tells (Some Prepared) = refl
+decision_tells (Some (RollbackOnly reason)) = refl
+decision_tells (Some (HeuristicallyCompleted decision.Commit)) = refl
+decision_tells (Some (HeuristicallyCompleted decision.Rollback)) = refl
 
 rules_tell : (t : ℕ) (op : Op) (T : Tables) → Tells (by_rules t op T)
 rules_tell t Shut T = says _ _ refl
@@ -45,7 +56,7 @@ rules_tell t OpenRm T = says _ _ refl
 rules_tell t CloseRm T = cases (not (has_opened T t)) _ _ (says _ _ refl) (cases (has_association T t) _ _ (says _ _ refl) (says _ _ refl))
 rules_tell t (Start x Fresh) T = cases (has_association T t) _ _ (says _ _ refl) (cases (exists T x) _ _ (says _ _ refl) (says _ _ refl))
 rules_tell t (Start x Join) T =
-    cases (has_association T t) _ _ (says _ _ refl) (cases (not (exists T x)) _ _ (says _ _ refl) (cases (is_prepared T x) _ _ (says _ _ refl)
+    cases (has_association T t) _ _ (says _ _ refl) (cases (not (exists T x)) _ _ (says _ _ refl) (cases (is_prepared T x || is_completed T x) _ _ (says _ _ refl)
     (cases (is_rollback_only T x) _ _ (says _ _ (reason_tells (state_of T x))) (says _ _ refl))))
 rules_tell t (Start x Resume) T = cases (is_associated T t x && is_suspended T t) _ _ (says _ _ refl) (cases (not (exists T x)) _ _ (says _ _ refl) (says _ _ refl))
 rules_tell t (Add k d) T =
@@ -56,14 +67,19 @@ rules_tell t (End x how) T =
     (cases (is_rollback_only T x) _ _ (says _ _ (reason_tells (state_of T x))) (cases (is_suspend how) _ _ (says _ _ refl) (cases (is_fail how) _ _ (says _ _ refl)
     (cases (is_somebody_associated (dissociated t T).associations x) _ _ (says _ _ refl) (says _ _ refl)))))))
 rules_tell t (Prepare x) T =
-    cases (not (exists T x)) _ _ (says _ _ refl) (cases (is_somebody_associated T.associations x || (is_prepared T x || is_rollback_only T x)) _ _ (says _ _ refl)
+    cases (not (exists T x)) _ _ (says _ _ refl) (cases (is_somebody_associated T.associations x || (is_prepared T x || (is_rollback_only T x || is_completed T x))) _ _ (says _ _ refl)
     (cases (not (has_touched T.sums x)) _ _ (says _ _ refl) (cases (is_broken T.values T.sums x) _ _ (says _ _ refl) (says _ _ refl))))
 rules_tell t (Commit x one_phase) T =
     cases one_phase _ _
     (cases (not (exists T x)) _ _ (says _ _ refl) (cases (is_somebody_associated T.associations x || not (is_idle T x)) _ _ (says _ _ refl) (cases (is_broken T.values T.sums x) _ _ (says _ _ refl) (says _ _ refl))))
-    (cases (not (exists T x)) _ _ (says _ _ refl) (cases (is_somebody_associated T.associations x || not (is_prepared T x)) _ _ (says _ _ refl) (says _ _ refl)))
+    (cases (not (exists T x)) _ _ (says _ _ refl) (cases (is_completed T x) _ _ (says _ _ (decision_tells (state_of T x)))
+    (cases (is_somebody_associated T.associations x || not (is_prepared T x)) _ _ (says _ _ refl) (says _ _ refl))))
 rules_tell t (Rollback x) T =
-    cases (not (exists T x)) _ _ (says _ _ refl) (cases (is_somebody_associated T.associations x) _ _ (says _ _ refl) (cases (is_rollback_only T x) _ _ (says _ _ (reason_tells (state_of T x))) (says _ _ refl)))
+    cases (not (exists T x)) _ _ (says _ _ refl) (cases (is_completed T x) _ _ (says _ _ (decision_tells (state_of T x)))
+    (cases (is_somebody_associated T.associations x) _ _ (says _ _ refl) (cases (is_rollback_only T x) _ _ (says _ _ (reason_tells (state_of T x))) (says _ _ refl))))
+rules_tell t (Forget x) T = cases (not (exists T x)) _ _ (says _ _ refl) (cases (not (is_completed T x)) _ _ (says _ _ refl) (says _ _ refl))
+rules_tell t (Heur x commits) T =
+    cases (not (exists T x)) _ _ (says _ _ refl) (cases (not (is_prepared T x)) _ _ (says _ _ refl) (cases commits _ _ (says _ _ refl) (says _ _ refl)))
 
 open_tells : (t : ℕ) (op : Op) (T : Tables) → T.shut ≡ false → Tells (next t op T)
 unfolding next

@@ -27,7 +27,7 @@ use Rattle.xa_driver.specs.declared.branch.Branch.{Branch}
 use Rattle.xa_driver.specs.declared.done.Ending.{Ending}
 use Rattle.xa_driver.specs.declared.done.Done.{Done as Outcome}
 use Rattle.xa_driver.specs.Decision.{is_yes, is_read}
-use Rattle.xa_driver.specs.Endings.{second_op, is_out_of_reach}
+use Rattle.xa_driver.specs.Endings.{second_op, is_out_of_reach, third_op, is_decided}
 use Rattle.xa_driver.specs.Trace.{EachBranch, has_branch_at}
 use Rattle.xa_grammar.specs.declared.script.Action.{Action}
 use Rattle.xa_grammar.specs.declared.script.Action.TheVariants as action
@@ -90,6 +90,7 @@ op_of_names call.End x y m o e apart = let same : op.End x m.how ≡ o = cc in a
 op_of_names call.Prepare x y m o e apart = let same : op.Prepare x ≡ o = cc in ap (names y) (sym same) ∙ apart
 op_of_names call.Commit x y m o e apart = let same : op.Commit x m.one_phase ≡ o = cc in ap (names y) (sym same) ∙ apart
 op_of_names call.Rollback x y m o e apart = let same : op.Rollback x ≡ o = cc in ap (names y) (sym same) ∙ apart
+op_of_names call.Forget x y m o e apart = let same : op.Forget x ≡ o = cc in ap (names y) (sym same) ∙ apart
 op_of_names call.Complete x y m o e apart = absurd (cc)
 
 op_of_none : (c : Call) (y : XidName) (m : Mode) (o : Op) → op_by c None m ≡ Ok o → names y o ≡ false
@@ -100,11 +101,8 @@ op_of_none call.End y m o e = absurd (cc)
 op_of_none call.Prepare y m o e = absurd (cc)
 op_of_none call.Commit y m o e = absurd (cc)
 op_of_none call.Rollback y m o e = absurd (cc)
+op_of_none call.Forget y m o e = absurd (cc)
 op_of_none call.Complete y m o e = absurd (cc)
-
-op_of_rm : (o : RmOp) (y : XidName) → names y (rm_op o) ≡ false
-op_of_rm (rm.Add k d) y = refl
-op_of_rm rm.Shut y = refl
 
 -- what a wanted op was asked for by
 wanted_is : {A : Type 0} (r : Result A Code) (f : A → Op) (later : A → Bool) (o : Op) → op_in (wanted r f later) ≡ Some o → (a : A) × (r ≡ Ok a) × (f a ≡ o)
@@ -153,10 +151,16 @@ or_none false b e = (refl, e)
 apart : (b : Branch) (m : ℕ) (x : XidName) → m ≡ b.m → ((m == b.m) && xid_eq x b.xid) ≡ false → xid_eq x b.xid ≡ false
 apart b m x same none = sym (ap (λ q. q && xid_eq x b.xid) (eq-eqb m b.m same)) ∙ none
 
+-- a request of the manager's own
+op_of_rm : (o : RmOp) (m : ℕ) (b : Branch) → m ≡ b.m → is_among b (branches_by m (action.Native o)) ≡ false → names b.xid (rm_op o) ≡ false
+op_of_rm (rm.Add k d) m b same quiet = refl
+op_of_rm (rm.Heur x commits) m b same quiet = apart b m x same (or_none ((m == b.m) && xid_eq x b.xid) false quiet).0
+op_of_rm rm.Shut m b same quiet = refl
+
 by_action : (a : Action) (m f : ℕ) (b : Branch) (o : Op) → op_in (wanted_by a f) ≡ Some o → m ≡ b.m → is_among b (branches_by m a) ≡ false → names b.xid o ≡ false
 by_action (action.Xa c None) m f b o e same quiet = let w = op_asked c None f o e in op_of_none c b.xid w.0 o w.1
 by_action (action.Xa c (Some x)) m f b o e same quiet = let w = op_asked c (Some x) f o e in op_of_names c x b.xid w.0 o w.1 (apart b m x same (or_none ((m == b.m) && xid_eq x b.xid) false quiet).0)
-by_action (action.Native r) m f b o e same quiet = ap (names b.xid) (sym (op_native r f o e)) ∙ op_of_rm r b.xid
+by_action (action.Native r) m f b o e same quiet = ap (names b.xid) (sym (op_native r f o e)) ∙ op_of_rm r m b same quiet
 by_action (action.Complete h) m f b o e same quiet = absurd (cc)
 
 module _ (settled : Settling) (b : Branch) where
@@ -193,6 +197,14 @@ module _ (settled : Settling) (b : Branch) where
       rolls true e = absurd (cc)
       rolls false e = let same : op.Rollback x ≡ p = cc in ap (names b.xid) (sym same) ∙ quiet
 
+  third_names : (x : XidName) (z : Option Code) (p : Op) → third_op x z ≡ Some p → xid_eq x b.xid ≡ false → names b.xid p ≡ false
+  third_names x None p e quiet = absurd (cc)
+  third_names x (Some c) p e quiet = forgets (is_decided c) e
+    where
+      forgets : (y : Bool) → (if y then Some (op.Forget x) else None) ≡ Some p → names b.xid p ≡ false
+      forgets true e = let same : op.Forget x ≡ p = cc in ap (names b.xid) (sym same) ∙ quiet
+      forgets false e = absurd (cc)
+
   prepare_names : (x : XidName) (p : Op) → Some (op.Prepare x) ≡ Some p → xid_eq x b.xid ≡ false → names b.xid p ≡ false
   prepare_names x p e quiet = let same : op.Prepare x ≡ p = cc in ap (names b.xid) (sym same) ∙ quiet
 
@@ -214,9 +226,11 @@ module _ (settled : Settling) (b : Branch) where
       let at = h.5.1 in
       let other : xid_eq d.xid b.xid ≡ false = apart b d.m d.xid h.4 h.5.0 in
       subst (λ m. Quiet (old.entries m) (new.entries m)) h.4
-      (adds_both b.xid (old.entries d.m) at.between (new.entries d.m)
+      (adds_both b.xid (old.entries d.m) at.decided (new.entries d.m)
+      (adds_both b.xid (old.entries d.m) at.between at.decided
       (carries_unnamed c.thread (Some (op.Prepare d.xid)) (Some h.1) (old.entries d.m) at.between at.prepares (λ p e. prepare_names d.xid p e other))
-      (carries_unnamed c.thread (second_op done.commit d.xid h.1) h.2 at.between (new.entries d.m) at.obeys (λ p e. second_names done.commit d.xid h.1 p e other))))
+      (carries_unnamed c.thread (second_op done.commit d.xid h.1) h.2 at.between at.decided at.obeys (λ p e. second_names done.commit d.xid h.1 p e other)))
+      (carries_unnamed c.thread (third_op d.xid h.2) at.third at.decided (new.entries d.m) at.forgets (λ p e. third_names d.xid h.2 p e other))))
       (branch_there Other b.m (branches_of c) done.votes.items is.seconds done.endings.items (others At (branches_of c) done.votes.items is.seconds done.endings.items quiet is.branches))
 
   takes_unnamed : (p : Task) (a : Answer) (old new : Part) → Takes settled p a old new → is_among b (branches_in p) ≡ false → Quiet (old.entries b.m) (new.entries b.m)

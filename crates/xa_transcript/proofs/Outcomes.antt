@@ -14,13 +14,16 @@ use Rattle.xa_switch.specs.Fates.{IsOpenedWith, history}
 use Rattle.xa_driver.specs.declared.branch.Branch.{Branch}
 use Rattle.xa_driver.specs.declared.done.Done.{Done as Outcome}
 use Rattle.xa_driver.specs.declared.done.Ending.{Ending}
-use Rattle.xa_driver.specs.declared.done.Ending.TheVariants.{Committed, ReadOnly, RolledBack, InDoubt, Left}
+use Rattle.xa_driver.specs.declared.done.Ending.TheVariants.{Committed, ReadOnly, RolledBack, InDoubt, Heuristic, Left}
 use Rattle.xa_driver.specs.Additions.{IsAddition, Shares}
 use Rattle.xa_driver.specs.Decision.{is_yes, is_no, is_read}
-use Rattle.xa_driver.specs.Endings.{ending_of, yes_ending, is_out_of_reach}
-use Rattle.xa_driver.specs.Outcomes.{OnlyTheseName, EachOutcome, KeepsItsVote, TellsTheFate, is_committed, is_rolled_back, is_in_doubt, is_left, is_read_only}
+use Rattle.xa_driver.specs.Endings.{ending_of, yes_ending, is_out_of_reach, is_heuristic as is_heuristic_code}
+use Rattle.xa_driver.specs.Outcomes.{OnlyTheseName, OnlyTheseOrDecisionsName, EachOutcome, KeepsItsVote, TellsTheFate, is_committed, is_rolled_back, is_in_doubt, is_heuristic, is_left, is_read_only}
 use Rattle.xa_driver.specs.Trace.{EachBranch}
-use Rattle.xa_driver.proofs.Branches.{Tabled}
+use Rattle.xa_driver.proofs.Tabled.{Tabled}
+use Rattle.xa_driver.proofs.Fated.{Told as BecameOf}
+use Rattle.xa_driver.proofs.Values.{Counted}
+use Rattle.xa_driver.proofs.Settled.{tells_of}
 use Rattle.xa_session.specs.Committing.{branches_of}
 use Rattle.xa_grammar.specs.declared.script.CommitAll.{CommitAll}
 use Rattle.xa_grammar.specs.Content.{Content}
@@ -31,11 +34,11 @@ use Rattle.xa_base.specs.Lists.Chain.{none, more}
 use Rattle.xa_grammar.specs.declared.script.Declared.{Declared}
 use Rattle.xa_transcript.specs.Commits.{AtBranch, Decides}
 use Rattle.xa_transcript.specs.Journals.{Line, TakesPart, AreCarriedOut, ShowsCommit, TellsOf, entries_of}
-use Rattle.xa_transcript.specs.Outcomes.{IsOneOutcome, ShowsOneOutcome, Place, AreLeftAlone, IsAsShown}
+use Rattle.xa_transcript.specs.Outcomes.{IsOneOutcome, ShowsOneOutcome, Place, AreLeftAlone, AreLeftOrDecided, IsAsShown, CountsAsShown}
 use Rattle.xa_transcript.proofs.Entries.{agreed_fits}
 use Rattle.xa_transcript.proofs.Shown.{Adding, decided_so, committed_yes, committed_done, none_against}
 use Rattle.xa_transcript.proofs.Placed.{chain_adds}
-use Rattle.xa_transcript.proofs.Became.{Came, came}
+use Rattle.xa_transcript.proofs.Became.{Traced, trace_of, told_by, counted_by}
 
 -- ---- lists of outcomes
 
@@ -84,12 +87,13 @@ Ends commit b v e = (z : Option Code) × (e ≡ ending_of commit v z)
 -- a yes vote isn't rolled back where the transaction commits
 yes_stays : (z : Option Code) → is_rolled_back (yes_ending true z) ≡ false
 yes_stays None = refl
-yes_stays (Some c) = stays (is_done c) (is_rm_fail c)
+yes_stays (Some c) = stays (is_done c) (is_rm_fail c) (is_heuristic_code c)
   where
-    stays : (a b : Bool) → is_rolled_back (if a then Committed else (if b then InDoubt else Left c)) ≡ false
-    stays true b = refl
-    stays false true = refl
-    stays false false = refl
+    stays : (a b h : Bool) → is_rolled_back (if a then Committed else (if b then InDoubt else (if h then Heuristic c else Left c))) ≡ false
+    stays true b h = refl
+    stays false true h = refl
+    stays false false true = refl
+    stays false false false = refl
 
 stays_back : (v : Code) (z : Option Code) → is_no v ≡ false → is_rolled_back (ending_of true v z) ≡ false
 stays_back Done z e = yes_stays z
@@ -116,19 +120,21 @@ out_so : (commit : Bool) → commit ≡ false → (b : Branch) (v : Code) (e : E
 out_so commit is b v e h = ap is_committed (h.1 ∙ ap (λ c. ending_of c v h.0) is) ∙ stays_out v h.0
 
 -- what is neither left nor rolled back
-rest_is : (e : Ending) → is_left e ≡ false → is_rolled_back e ≡ false → (is_committed e || (is_read_only e || is_in_doubt e)) ≡ true
+rest_is : (e : Ending) → is_left e ≡ false → is_rolled_back e ≡ false → (is_committed e || (is_read_only e || (is_in_doubt e || is_heuristic e))) ≡ true
 rest_is Committed l r = refl
 rest_is ReadOnly l r = refl
 rest_is RolledBack l r = absurd (cc)
 rest_is InDoubt l r = refl
+rest_is (Heuristic c) l r = refl
 rest_is (Left c) l r = absurd (cc)
 
-certain_is : (e : Ending) → is_left e ≡ false → is_rolled_back e ≡ false → is_in_doubt e ≡ false → is_read_only e ≡ false → is_committed e ≡ true
-certain_is Committed l r d o = refl
-certain_is ReadOnly l r d o = absurd (cc)
-certain_is RolledBack l r d o = absurd (cc)
-certain_is InDoubt l r d o = absurd (cc)
-certain_is (Left c) l r d o = absurd (cc)
+certain_is : (e : Ending) → is_left e ≡ false → is_rolled_back e ≡ false → is_in_doubt e ≡ false → is_heuristic e ≡ false → is_read_only e ≡ false → is_committed e ≡ true
+certain_is Committed l r d h o = refl
+certain_is ReadOnly l r d h o = absurd (cc)
+certain_is RolledBack l r d h o = absurd (cc)
+certain_is InDoubt l r d h o = absurd (cc)
+certain_is (Heuristic c) l r d h o = absurd (cc)
+certain_is (Left c) l r d h o = absurd (cc)
 
 -- one that didn't vote against isn't left, where no yes vote is
 not_left : (v : Code) (z : Option Code) (commit : Bool) → is_no v ≡ false → (is_yes v ≡ true → is_left (ending_of commit v z) ≡ false) → is_left (ending_of commit v z) ≡ false
@@ -162,84 +168,126 @@ module _ (c : CommitAll) (done : Outcome) (old new : Part) (is : Decides c done 
 -- ---- by the journals
 
 module _ (law : Tabled) (opens : (s : Settling) (m : ℕ) → IsSettled s → (T : Tables) × IsOpenedWith s m T) (s : Settling) (settled : IsSettled s) (c : CommitAll) (done : Outcome) (old new : Part) (is : Decides c done old new)
-    (grown : (m : ℕ) → Adding (new.entries m) (entries_of c.thread (journal s m))) (alone : AreLeftAlone s c.thread (branches_of c) old new) where
+    (grown : (m : ℕ) → Adding (new.entries m) (entries_of c.thread (journal s m))) where
   abbrev t : ℕ
   t = c.thread
-
-  -- what became of a branch
-  record Told (b : Branch) (v : Code) (e : Ending) : Type 0 where
-    keeps : KeepsItsVote s t b (length (old.entries b.m)) v e
-    tells : TellsTheFate s b e
-    counts : Shares s t b (length (old.entries b.m)) (is_committed e)
-    adders : (T : Tables) → IsOpenedWith s b.m T → (k : List ℕ) (d : ℤ) → IsAddition b.xid k d t (length (old.entries b.m)) T (history s b.m) → is_read_only e ≡ false
-    ends : Ends done.commit b v e
-    unless_no : is_no v ≡ false → is_left e ≡ false
-
-  abbrev Alone : Branch → Type 0
-  Alone b = OnlyTheseName b.xid t (length (old.entries b.m)) (length (new.entries b.m)) (history s b.m)
-
-  told : (b : Branch) (v : Code) (z : Option Code) (e : Ending) → Alone b → AtBranch t done.commit old.entries new.entries b v z e → Told b v e
-  told b v z e only at =
-      let agree = settled.agree t b.m in
-      let outcome : (T : Tables) → IsOpenedWith s b.m T → Came t b.xid T (history s b.m) (length (old.entries b.m)) v (ending_of done.commit v z) = λ T with_T.
-      came law t T (journal s b.m) with_T.opened with_T.codes (sent s t b.m) (collected s t b.m) (agreed_fits t (sent s t b.m) (collected s t b.m) (journal s b.m) agree) agree.carried
-      done.commit b v z (old.entries b.m) (new.entries b.m) (grown b.m) only at.between at.prepares at.obeys in
-      let open_ = opens s b.m settled in
-      let own = outcome open_.0 open_.1 in
-      subst (Told b v) (sym at.ends) (record {
-        keeps = record { reached = own.reached; shut = own.shut };
-        tells = λ f told. open_.1.fates b.xid ∙ own.told f told;
-        counts = λ T with_T k d add. (outcome T with_T).counted k d add;
-        adders = λ T with_T k d add. (outcome T with_T).adders k d add;
-        ends = (z, refl);
-        unless_no = λ n. not_left v z done.commit n own.reached;
-      })
-
-  each_told : (bs : List Branch) (vs : List Code) (zs : List (Option Code)) (es : List Ending) → All Alone bs → EachBranch (AtBranch t done.commit old.entries new.entries) bs vs zs es → EachOutcome Told bs vs es
-  each_told [] [] [] [] only h = tt
-  each_told (b ∷ bs) (v ∷ vs) (z ∷ zs) (e ∷ es) only h = (told b v z e (All-head Alone b bs only) h.0, each_told bs vs zs es (All-tail Alone b bs only) h.1)
-  each_told bs vs zs es only h = absurd h
 
   abbrev each : (Branch → Code → Ending → Type 0) → Type 0
   each P = EachOutcome P (branches_of c) done.votes.items done.endings.items
 
-  all_told : each Told
-  all_told = each_told (branches_of c) done.votes.items is.seconds done.endings.items alone.each is.branches
+  abbrev At : Branch → Code → Option Code → Ending → Type 0
+  At = AtBranch t done.commit old.entries new.entries
 
-  by_each : (P : Branch → Code → Ending → Type 0) → ((b : Branch) (v : Code) (e : Ending) → Told b v e → P b v e) → each P
-  by_each P so = each_so Told P so (branches_of c) done.votes.items done.endings.items all_told
+  trace_at : (b : Branch) (v : Code) (z : Option Code) (e : Ending) → At b v z e → (T : Tables) → (with_T : IsOpenedWith s b.m T)
+      → Traced t T (journal s b.m) with_T.codes (sent s t b.m) (collected s t b.m) (agreed_fits t (sent s t b.m) (collected s t b.m) (journal s b.m) (settled.agree t b.m)) (settled.agree t b.m).carried done.commit b v z (old.entries b.m) (new.entries b.m) (grown b.m)
+  trace_at b v z e at T with_T =
+      trace_of t T (journal s b.m) with_T.codes (sent s t b.m) (collected s t b.m) (agreed_fits t (sent s t b.m) (collected s t b.m) (journal s b.m) (settled.agree t b.m)) (settled.agree t b.m).carried
+      done.commit b v z (old.entries b.m) (new.entries b.m) (grown b.m) at.between at.decided at.third at.prepares at.obeys at.forgets
 
-  -- where it commits
-  unopposed_told : done.commit ≡ true → each (λ b v e. (is_no v ≡ false) × Told b v e)
-  unopposed_told commit = with_votes Told is_no (branches_of c) done.votes.items done.endings.items (unopposed c done old new is commit) all_told
+  -- each branch of the commit, with what is known of it by itself
+  over_all : (A : Branch → Type 0) (Q : Branch → Code → Ending → Type 0) → ((b : Branch) (v : Code) (z : Option Code) (e : Ending) → A b → At b v z e → Q b v e) → (bs : List Branch) (vs : List Code) (zs : List (Option Code)) (es : List Ending) → All A bs → EachBranch At bs vs zs es → EachOutcome Q bs vs es
+  over_all A Q so [] [] [] [] only h = tt
+  over_all A Q so (b ∷ bs) (v ∷ vs) (z ∷ zs) (e ∷ es) only h = (so b v z e (All-head A b bs only) h.0, over_all A Q so bs vs zs es (All-tail A b bs only) h.1)
+  over_all A Q so bs vs zs es only h = absurd h
 
-  all_count : done.commit ≡ true → list_any is_in_doubt done.endings.items ≡ false → each (λ b v e. Shares s t b (length (old.entries b.m)) done.commit)
-  all_count commit certain =
-      each_so (λ b v e. (is_in_doubt e ≡ false) × ((is_no v ≡ false) × Told b v e)) (λ b v e. Shares s t b (length (old.entries b.m)) done.commit)
-      (λ b v e h T with_T k d add.
-      let own = h.1.1 in
-      let same : is_committed e ≡ done.commit =
-      certain_is e (own.unless_no h.1.0) (kept_so done.commit commit b v e (h.1.0, own.ends)) h.0 (own.adders T with_T k d add) ∙ sym commit in
-      own.counts T with_T k d add ∙ ap (λ q. if q then d else pos 0) same)
-      (branches_of c) done.votes.items done.endings.items
-      (with_endings (λ b v e. (is_no v ≡ false) × Told b v e) is_in_doubt (branches_of c) done.votes.items done.endings.items certain (unopposed_told commit))
+  -- ---- what became of them
 
-  none_counts : done.commit ≡ false → each (λ b v e. Shares s t b (length (old.entries b.m)) done.commit)
-  none_counts aborts =
-      by_each (λ b v e. Shares s t b (length (old.entries b.m)) done.commit)
-      (λ b v e own T with_T k d add. own.counts T with_T k d add ∙ ap (λ q. if q then d else pos 0) (out_so done.commit aborts b v e own.ends ∙ sym aborts))
+  abbrev Fated : Branch → Code → Ending → Type 0
+  Fated b v e = ((KeepsItsVote s t b (length (old.entries b.m)) v e × TellsTheFate s t b (length (old.entries b.m)) e) × Ends done.commit b v e) × (is_no v ≡ false → is_left e ≡ false)
 
-  pub as_shown : IsAsShown s t (branches_of c) old done
-  as_shown = record {
-    committed = λ commit.
-        all_endings (λ b v e. (is_no v ≡ false) × Told b v e) (λ e. (is_committed e || (is_read_only e || is_in_doubt e)) ≡ true)
-        (λ b v e h. rest_is e (h.1.unless_no h.0) (kept_so done.commit commit b v e (h.0, h.1.ends))) (branches_of c) done.votes.items done.endings.items (unopposed_told commit);
-    aborted = (one_outcome c done old new is).uncommitted;
-    votes = by_each (λ b v e. KeepsItsVote s t b (length (old.entries b.m)) v e) (λ b v e own. own.keeps);
-    fates = record { each = by_each (λ b v e. TellsTheFate s b e) (λ b v e own. own.tells) };
-    counts = by_each (λ b v e. Shares s t b (length (old.entries b.m)) (is_committed e)) (λ b v e own. own.counts);
-    whole = λ certain. elim (cases_Bool (done.commit)) [ inl commit ↦ all_count commit certain | inr aborts ↦ none_counts aborts ];
-  }
+  abbrev MineOrDecided : Branch → Type 0
+  MineOrDecided b = OnlyTheseOrDecisionsName b.xid t (length (old.entries b.m)) (length (new.entries b.m)) (history s b.m)
+
+  fated : (b : Branch) (v : Code) (z : Option Code) (e : Ending) → MineOrDecided b → At b v z e → Fated b v e
+  fated b v z e only at =
+      let n : ℕ = length (old.entries b.m) in
+      let open_ = opens s b.m settled in
+      let outcome : (T : Tables) → IsOpenedWith s b.m T → BecameOf t b.xid T (history s b.m) n v (ending_of done.commit v z) = λ T with_T.
+      told_by t T (journal s b.m) with_T.codes (sent s t b.m) (collected s t b.m) (agreed_fits t (sent s t b.m) (collected s t b.m) (journal s b.m) (settled.agree t b.m)) (settled.agree t b.m).carried
+      done.commit b v z (old.entries b.m) (new.entries b.m) (grown b.m) law with_T.opened (trace_at b v z e at T with_T) only in
+      let own = outcome open_.0 open_.1 in
+      subst (Fated b v) (sym at.ends) (
+        (
+          (record { reached = own.reached; shut = own.shut; decided = λ y h U with_U. (outcome U with_U).decided y h }, tells_of s t b n (ending_of done.commit v z) (λ T with_T. (outcome T with_T).told) (λ T with_T. (outcome T with_T).doubt) open_.0 open_.1),
+          (z, refl),
+        ),
+        λ n. not_left v z done.commit n own.reached,
+      )
+
+  module _ (alone : AreLeftOrDecided s c.thread (branches_of c) old new) where
+    all_fated : each Fated
+    all_fated = over_all MineOrDecided Fated fated (branches_of c) done.votes.items is.seconds done.endings.items alone.each is.branches
+
+    pub as_shown : IsAsShown s t (branches_of c) old done
+    as_shown = record {
+      committed = λ commit.
+          all_endings (λ b v e. (is_no v ≡ false) × Fated b v e) (λ e. (is_committed e || (is_read_only e || (is_in_doubt e || is_heuristic e))) ≡ true)
+          (λ b v e h. rest_is e (h.1.1 h.0) (kept_so done.commit commit b v e (h.0, h.1.0.1))) (branches_of c) done.votes.items done.endings.items
+          (with_votes Fated is_no (branches_of c) done.votes.items done.endings.items (unopposed c done old new is commit) all_fated);
+      aborted = (one_outcome c done old new is).uncommitted;
+      votes = each_so Fated (λ b v e. KeepsItsVote s t b (length (old.entries b.m)) v e) (λ b v e own. own.0.0.0) (branches_of c) done.votes.items done.endings.items all_fated;
+      fates = each_so Fated (λ b v e. TellsTheFate s t b (length (old.entries b.m)) e) (λ b v e own. own.0.0.1) (branches_of c) done.votes.items done.endings.items all_fated;
+    }
+
+  -- ---- what they count for
+
+  record Both (b : Branch) (v : Code) (e : Ending) : Type 0 where
+    fate_is : Fated b v e
+    counts : Shares s t b (length (old.entries b.m)) (is_committed e)
+    adders : (T : Tables) → IsOpenedWith s b.m T → (k : List ℕ) (d : ℤ) → IsAddition b.xid k d t (length (old.entries b.m)) T (history s b.m) → is_read_only e ≡ false
+    undecided : is_no v ≡ false → is_heuristic e ≡ false
+
+  abbrev Mine : Branch → Type 0
+  Mine b = OnlyTheseName b.xid t (length (old.entries b.m)) (length (new.entries b.m)) (history s b.m)
+
+  or_decided : (b : Branch) → Mine b → MineOrDecided b
+  or_decided b only before after r place own number k d lt named other = only before after r place own number k d lt named
+
+  both : (b : Branch) (v : Code) (z : Option Code) (e : Ending) → Mine b → At b v z e → Both b v e
+  both b v z e only at =
+      let n : ℕ = length (old.entries b.m) in
+      let open_ = opens s b.m settled in
+      let outcome : (T : Tables) → IsOpenedWith s b.m T → Counted t b.xid T (history s b.m) n (length (new.entries b.m)) v (ending_of done.commit v z) = λ T with_T.
+      counted_by t T (journal s b.m) with_T.codes (sent s t b.m) (collected s t b.m) (agreed_fits t (sent s t b.m) (collected s t b.m) (journal s b.m) (settled.agree t b.m)) (settled.agree t b.m).carried
+      done.commit b v z (old.entries b.m) (new.entries b.m) (grown b.m) law with_T.opened (trace_at b v z e at T with_T) only in
+      let known : Fated b v (ending_of done.commit v z) = subst (Fated b v) at.ends (fated b v z e (or_decided b only) at) in
+      subst (Both b v) (sym at.ends) (record {
+        fate_is = known;
+        counts = λ T with_T k d add. (outcome T with_T).counted k d add;
+        adders = λ T with_T k d add. (outcome T with_T).adders k d add;
+        undecided = (outcome open_.0 open_.1).undecided;
+      })
+
+  module _ (alone : AreLeftAlone s c.thread (branches_of c) old new) where
+    all_both : each Both
+    all_both = over_all Mine Both both (branches_of c) done.votes.items is.seconds done.endings.items alone.each is.branches
+
+    pub left_or_decided : AreLeftOrDecided s c.thread (branches_of c) old new
+    left_or_decided = record { each = λ k d lt. or_decided (slice_index_or (branches_of c) k d) (alone.each k d lt) }
+
+    all_count : done.commit ≡ true → list_any is_in_doubt done.endings.items ≡ false → each (λ b v e. Shares s t b (length (old.entries b.m)) done.commit)
+    all_count commit certain =
+        each_so (λ b v e. (is_in_doubt e ≡ false) × ((is_no v ≡ false) × Both b v e)) (λ b v e. Shares s t b (length (old.entries b.m)) done.commit)
+        (λ b v e h T with_T k d add.
+        let own = h.1.1 in
+        let same : is_committed e ≡ done.commit =
+        certain_is e (own.fate_is.1 h.1.0) (kept_so done.commit commit b v e (h.1.0, own.fate_is.0.1)) h.0 (own.undecided h.1.0) (own.adders T with_T k d add) ∙ sym commit in
+        own.counts T with_T k d add ∙ ap (λ q. if q then d else pos 0) same)
+        (branches_of c) done.votes.items done.endings.items
+        (with_endings (λ b v e. (is_no v ≡ false) × Both b v e) is_in_doubt (branches_of c) done.votes.items done.endings.items certain
+        (with_votes Both is_no (branches_of c) done.votes.items done.endings.items (unopposed c done old new is commit) all_both))
+
+    none_counts : done.commit ≡ false → each (λ b v e. Shares s t b (length (old.entries b.m)) done.commit)
+    none_counts aborts =
+        each_so Both (λ b v e. Shares s t b (length (old.entries b.m)) done.commit)
+        (λ b v e own T with_T k d add. own.counts T with_T k d add ∙ ap (λ q. if q then d else pos 0) (out_so done.commit aborts b v e own.fate_is.0.1 ∙ sym aborts))
+        (branches_of c) done.votes.items done.endings.items all_both
+
+    pub counts_as_shown : CountsAsShown s t (branches_of c) old done
+    counts_as_shown = record {
+      counts = each_so Both (λ b v e. Shares s t b (length (old.entries b.m)) (is_committed e)) (λ b v e own. own.counts) (branches_of c) done.votes.items done.endings.items all_both;
+      whole = λ certain. elim (cases_Bool (done.commit)) [ inl commit ↦ all_count commit certain | inr aborts ↦ none_counts aborts ];
+    }
 
 -- ---- line by line
 
@@ -254,8 +302,17 @@ all_one_outcome s answers settled t told k d below c done shows =
     let step = chain_steps settled no_part told.lines _ told.carried k d below in
     one_outcome c done step.0 step.1 (decided_so settled (slice_index_or told.lines k d) c done step.0 step.1 shows step.2)
 
--- where the branches of a line are left alone
-pub shown_so : Tabled → ((s : Settling) (m : ℕ) → IsSettled s → (T : Tables) × IsOpenedWith s m T) → (s : Content) (answers : List Answer) (values : List Declared) (settled : Settling) (tells : TellsOf s answers values settled) (c : CommitAll) (done : Outcome)
-    (before : List Line) (l : Line) (after : List Line) (old new : Part) → Place (tells.carried c.thread) before l after old new → ShowsCommit l c done → AreLeftAlone settled c.thread (branches_of c) old new → IsAsShown settled c.thread (branches_of c) old done
-shown_so law opens s answers values settled tells c done before l after old new place shows alone =
-    as_shown law opens settled tells.agree c done old new (decided_so settled l c done old new shows place.takes) (λ m. chain_adds settled new after _ place.later m) alone
+-- a line of its thread
+module _ (law : Tabled) (opens : (s : Settling) (m : ℕ) → IsSettled s → (T : Tables) × IsOpenedWith s m T) (s : Content) (answers : List Answer) (values : List Declared) (settled : Settling) (tells : TellsOf s answers values settled) (c : CommitAll) (done : Outcome)
+    (before : List Line) (l : Line) (after : List Line) (old new : Part) (place : Place (tells.carried c.thread) before l after old new) (shows : ShowsCommit l c done) where
+  -- whose branches are left alone but for heuristic decisions
+  pub shown_so : AreLeftOrDecided settled c.thread (branches_of c) old new → IsAsShown settled c.thread (branches_of c) old done
+  shown_so alone =
+      as_shown law opens settled tells.agree c done old new (decided_so settled l c done old new shows place.takes) (λ m. chain_adds settled new after _ place.later m) alone
+
+  -- or left alone
+  pub counts_so : AreLeftAlone settled c.thread (branches_of c) old new → IsAsShown settled c.thread (branches_of c) old done × CountsAsShown settled c.thread (branches_of c) old done
+  counts_so alone =
+      let is = decided_so settled l c done old new shows place.takes in
+      let grown : (m : ℕ) → Adding (new.entries m) (entries_of c.thread (journal settled m)) = λ m. chain_adds settled new after _ place.later m in
+      (shown_so (left_or_decided law opens settled tells.agree c done old new is grown alone), counts_as_shown law opens settled tells.agree c done old new is grown alone)

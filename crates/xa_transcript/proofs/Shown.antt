@@ -10,7 +10,7 @@ use Rattle.xa_words.specs.Xid.{XidName}
 use Rattle.xa_words.specs.declared.code.Code.{Code}
 use Rattle.xa_words.specs.declared.code.Code.TheVariants.{Done, RdOnly, Retry, HeurMix, HeurRb, HeurCom, HeurHaz, RbRollback, RbCommFail, RbDeadlock, RbIntegrity, RbOther, RbProto, RbTimeout, RbTransient, Async, RmErr, Nota, Inval, Proto, RmFail, DupId, Outside}
 use Rattle.xa_words.specs.declared.request.Op.{Op}
-use Rattle.xa_words.specs.declared.request.Op.TheVariants.{Prepare, Commit, Rollback}
+use Rattle.xa_words.specs.declared.request.Op.TheVariants.{Prepare, Commit, Rollback, Forget}
 use Rattle.xa_tables.specs.History.{is_done, is_rolled_back}
 use Rattle.xa_desk.specs.LedgerView.{is_rm_fail}
 use Rattle.xa_worker.specs.Journal.{Entry, entry}
@@ -18,10 +18,10 @@ use Rattle.xa_switch.specs.Settling.{Settling, journal}
 use Rattle.xa_driver.specs.declared.branch.Branch.{Branch}
 use Rattle.xa_driver.specs.declared.done.Done.{Done as Outcome}
 use Rattle.xa_driver.specs.declared.done.Ending.{Ending}
-use Rattle.xa_driver.specs.declared.done.Ending.TheVariants.{Committed, ReadOnly, RolledBack, InDoubt, Left}
+use Rattle.xa_driver.specs.declared.done.Ending.TheVariants.{Committed, ReadOnly, RolledBack, InDoubt, Heuristic, Left}
 use Rattle.xa_driver.specs.Commits.{is_commit}
 use Rattle.xa_driver.specs.Decision.{is_yes, is_read, is_no, decides_commit, has_yes}
-use Rattle.xa_driver.specs.Endings.{second_op, yes_ending, no_ending, is_out_of_reach}
+use Rattle.xa_driver.specs.Endings.{second_op, third_op, yes_ending, no_ending, is_out_of_reach, is_heuristic, is_decided}
 use Rattle.xa_driver.specs.Trace.{EachBranch, has_branch_at, decision_of}
 use Rattle.xa_grammar.specs.declared.script.Called.{Called}
 use Rattle.xa_grammar.specs.declared.script.CommitAll.{CommitAll}
@@ -143,7 +143,10 @@ carry_adds t op code old new (withheld o asks told shut same) = adds_none old ne
 carry_adds t op code old new (unwanted asks told same) = adds_none old new same
 
 branch_adds : (t : ℕ) (commit : Bool) (old new : ℕ → List Entry) (b : Branch) (v : Code) (s : Option Code) (e : Ending) → AtBranch t commit old new b v s e → Adding (old b.m) (new b.m)
-branch_adds t commit old new b v s e is = adds_both (old b.m) is.between (new b.m) (carry_adds t (Some (Prepare b.xid)) (Some v) (old b.m) is.between is.prepares) (carry_adds t (second_op commit b.xid v) s is.between (new b.m) is.obeys)
+branch_adds t commit old new b v s e is =
+    adds_both (old b.m) is.decided (new b.m)
+    (adds_both (old b.m) is.between is.decided (carry_adds t (Some (Prepare b.xid)) (Some v) (old b.m) is.between is.prepares) (carry_adds t (second_op commit b.xid v) s is.between is.decided is.obeys))
+    (carry_adds t (third_op b.xid s) is.third is.decided (new b.m) is.forgets)
 
 same_some : {A : Type 0} (x y : A) → Some x ≡ Some y → x ≡ y
 same_some x y e = cc
@@ -170,13 +173,14 @@ committed_yes false false true away commit v s e = absurd (cc)
 committed_yes false false false true commit v s e = absurd (cc)
 committed_yes false false false false commit v s e = absurd (never s e)
   where
-    one_of : (b : Bool) (c : Code) → (if b then RolledBack else Left c) ≡ Committed → ⊥
-    one_of true c e = cc
-    one_of false c e = cc
+    one_of : (b h : Bool) (c : Code) → (if b then RolledBack else (if h then Heuristic c else Left c)) ≡ Committed → ⊥
+    one_of true h c e = cc
+    one_of false true c e = cc
+    one_of false false c e = cc
 
     never : (s : Option Code) → no_ending v s ≡ Committed → ⊥
     never None e = cc
-    never (Some c) e = one_of (is_done c || is_rolled_back c) c e
+    never (Some c) e = one_of (is_done c || is_rolled_back c) (is_heuristic c) c e
 
 done_so : (c : Code) → is_done c ≡ true → c ≡ Done
 done_so Done e = refl
@@ -184,13 +188,14 @@ done_so c e = absurd (cc)
 
 pub committed_done : (commit : Bool) (s : Option Code) → yes_ending commit s ≡ Committed → (commit ≡ true) × (s ≡ Some Done)
 committed_done commit None e = absurd (cc)
-committed_done commit (Some c) e = let parts = both (is_done c) commit (is_rm_fail c) e in (parts.1, ap (λ (d : Code). Some d) (done_so c parts.0))
+committed_done commit (Some c) e = let parts = both (is_done c) commit (is_rm_fail c) (is_heuristic c) e in (parts.1, ap (λ (d : Code). Some d) (done_so c parts.0))
   where
-    both : (done' commit' shut : Bool) → (if done' then (if commit' then Committed else RolledBack) else (if shut then InDoubt else Left c)) ≡ Committed → (done' ≡ true) × (commit' ≡ true)
-    both true true shut e = (refl, refl)
-    both true false shut e = absurd (cc)
-    both false commit' true e = absurd (cc)
-    both false commit' false e = absurd (cc)
+    both : (done' commit' shut heur : Bool) → (if done' then (if commit' then Committed else RolledBack) else (if shut then InDoubt else (if heur then Heuristic c else Left c))) ≡ Committed → (done' ≡ true) × (commit' ≡ true)
+    both true true shut heur e = (refl, refl)
+    both true false shut heur e = absurd (cc)
+    both false commit' true heur e = absurd (cc)
+    both false commit' false true e = absurd (cc)
+    both false commit' false false e = absurd (cc)
 
 chosen : (a b : Bool) (x y z : Option Op) → a ≡ true → b ≡ true → (if a then (if b then x else y) else z) ≡ x
 chosen true true x y z e f = refl
@@ -202,7 +207,8 @@ branch_commits t commit old new b v s e is told =
     let voted = committed_yes (is_yes v) (is_read v) (is_rolled_back v) (is_out_of_reach v) commit v s (sym is.ends ∙ told) in
     let heard = committed_done commit s voted.1 in
     let op : second_op commit b.xid v ≡ Some (Commit b.xid false) = chosen commit (is_yes v) (Some (Commit b.xid false)) None (if is_read v || (is_rolled_back v || is_out_of_reach v) then None else Some (Rollback b.xid)) heard.0 voted.0 in
-    carried_out t (Commit b.xid false) Done is.between (new b.m) (subst (λ (o : Option Op). Carries t o (Some Done) is.between (new b.m)) op (subst (λ (c : Option Code). Carries t (second_op commit b.xid v) c is.between (new b.m)) heard.1 is.obeys)) refl
+    still_has t (Commit b.xid false) Done is.decided (new b.m) (carry_adds t (third_op b.xid s) is.third is.decided (new b.m) is.forgets)
+    (carried_out t (Commit b.xid false) Done is.between is.decided (subst (λ (o : Option Op). Carries t o (Some Done) is.between is.decided) op (subst (λ (c : Option Code). Carries t (second_op commit b.xid v) c is.between is.decided) heard.1 is.obeys)) refl)
 
 -- ---- a branch that didn't vote against
 
@@ -212,7 +218,8 @@ not_shut v e = refl
 
 branch_prepared : (t : ℕ) (commit : Bool) (old new : ℕ → List Entry) (b : Branch) (v : Code) (s : Option Code) (e : Ending) → AtBranch t commit old new b v s e → is_no v ≡ false → HasEntry t (Prepare b.xid) v (new b.m)
 branch_prepared t commit old new b v s e is vote =
-    still_has t (Prepare b.xid) v is.between (new b.m) (carry_adds t (second_op commit b.xid v) s is.between (new b.m) is.obeys) (carried_out t (Prepare b.xid) v (old b.m) is.between is.prepares (not_shut v vote))
+    still_has t (Prepare b.xid) v is.decided (new b.m) (carry_adds t (third_op b.xid s) is.third is.decided (new b.m) is.forgets)
+    (still_has t (Prepare b.xid) v is.between is.decided (carry_adds t (second_op commit b.xid v) s is.between is.decided is.obeys) (carried_out t (Prepare b.xid) v (old b.m) is.between is.prepares (not_shut v vote)))
 
 pub none_against : (votes : List Code) (logged : Bool) → decision_of votes logged ≡ true → list_any is_no votes ≡ false
 none_against votes logged e = flipped (list_any is_no votes) (and_parts (decides_commit votes) (not (has_yes votes) || logged) e).0
@@ -346,10 +353,16 @@ rolls_back : (b : Bool) (x : XidName) → commits_op (if b then None else Some (
 rolls_back true x = refl
 rolls_back false x = refl
 
+forgets : (x : XidName) (s : Option Code) → commits_op (third_op x s) ≡ false
+forgets x None = refl
+forgets x (Some c) = elim (is_decided c) as (λ b. commits_op (if b then Some (Forget x) else None) ≡ false) [ true ↦ refl | false ↦ refl ]
+
 branch_aborts : (t : ℕ) (commit : Bool) (old new : ℕ → List Entry) (b : Branch) (v : Code) (s : Option Code) (e : Ending) → commit ≡ false → AtBranch t commit old new b v s e → AddsNoCommit (old b.m) (new b.m)
 branch_aborts t commit old new b v s e aborts is =
-    no_commit_both (old b.m) is.between (new b.m) (carries_no_commit t (Some (Prepare b.xid)) (Some v) (old b.m) is.between is.prepares refl)
-    (carries_no_commit t (second_op commit b.xid v) s is.between (new b.m) is.obeys (ap (λ c. commits_op (second_op c b.xid v)) aborts ∙ rolls_back (is_read v || (is_rolled_back v || is_out_of_reach v)) b.xid))
+    no_commit_both (old b.m) is.decided (new b.m)
+    (no_commit_both (old b.m) is.between is.decided (carries_no_commit t (Some (Prepare b.xid)) (Some v) (old b.m) is.between is.prepares refl)
+    (carries_no_commit t (second_op commit b.xid v) s is.between is.decided is.obeys (ap (λ c. commits_op (second_op c b.xid v)) aborts ∙ rolls_back (is_read v || (is_rolled_back v || is_out_of_reach v)) b.xid)))
+    (carries_no_commit t (third_op b.xid s) is.third is.decided (new b.m) is.forgets (forgets b.xid s))
 
 pub aborts_commit_none : (c : CommitAll) (done : Outcome) (old new : Part) → Decides c done old new → done.commit ≡ false → (m : ℕ) → AddsNoCommit (old.entries m) (new.entries m)
 aborts_commit_none c done old new is aborts m =

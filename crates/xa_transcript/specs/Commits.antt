@@ -10,7 +10,7 @@ use Rattle.xa_driver.specs.declared.branch.Branch.{Branch}
 use Rattle.xa_driver.specs.declared.done.Done.{Done as Outcome}
 use Rattle.xa_driver.specs.declared.done.Ending.{Ending}
 use Rattle.xa_driver.specs.Decision.{yes_of}
-use Rattle.xa_driver.specs.Endings.{second_op, ending_of}
+use Rattle.xa_driver.specs.Endings.{second_op, third_op, ending_of}
 use Rattle.xa_driver.specs.Log.{record_of}
 use Rattle.xa_driver.specs.Trace.{EachBranch, has_branch_at, Logs, decision_of}
 use Rattle.xa_grammar.specs.declared.script.CommitAll.{CommitAll}
@@ -32,12 +32,16 @@ pub data Carries (t : ℕ) (op : Option Op) (code : Option Code) (old new : List
   unwanted : op ≡ None → code ≡ None → new ≡ old → Carries t op code old new
 
 -- What thread t does at a branch: its Prepare, whose code is its vote; then its Commit or its Rollback, as was decided
--- and as it voted, or nothing. By both codes it ends.
+-- and as it voted, or nothing; then a Forget, where its second code tells a decision that the manager keeps. By the first
+-- two codes it ends.
 pub record AtBranch (t : ℕ) (commit : Bool) (old new : ℕ → List Entry) (b : Branch) (vote : Code) (second : Option Code)
     (ending : Ending) : Type 0 where
   pub between : List Entry
+  pub decided : List Entry
+  pub third : Option Code
   pub prepares : Carries t (Some (Prepare b.xid)) (Some vote) (old b.m) between
-  pub obeys : Carries t (second_op commit b.xid vote) second between (new b.m)
+  pub obeys : Carries t (second_op commit b.xid vote) second between decided
+  pub forgets : Carries t (third_op b.xid second) third decided (new b.m)
   pub ends : ending ≡ ending_of commit vote second
 
 -- What a commit does to its thread's part where this came of it: at each of its branches what that branch wants, and

@@ -5,13 +5,14 @@ use Rattle.std.specs.List.{list_any}
 use Rattle.std.specs.FinMap as finmap
 use Rattle.xa_base.specs.Lists.{Chain}
 use Rattle.xa_words.specs.Xid.{xid_eq}
+use Rattle.xa_words.specs.declared.request.RmOp.TheVariants.{Heur}
 use Rattle.xa_tables.specs.History.{added_in}
 use Rattle.xa_switch.specs.Settling.{Settling, journal}
 use Rattle.xa_switch.specs.Fates.{IsOpenedWith, history}
 use Rattle.xa_driver.specs.declared.branch.Branch.{Branch}
 use Rattle.xa_driver.specs.declared.done.Done.{Done}
-use Rattle.xa_driver.specs.Outcomes.{is_committed, is_in_doubt, is_read_only, has_committed, has_rolled_back}
-use Rattle.xa_driver.specs.Outcomes.{OnlyTheseName, EachOutcome, KeepsItsVote, TellsTheFates}
+use Rattle.xa_driver.specs.Outcomes.{is_committed, is_in_doubt, is_heuristic, is_read_only, has_committed, has_rolled_back}
+use Rattle.xa_driver.specs.Outcomes.{OnlyTheseName, OnlyTheseOrDecisionsName, EachOutcome, KeepsItsVote, TellsTheFate}
 use Rattle.xa_driver.specs.Additions.{Shares}
 use Rattle.xa_grammar.specs.declared.script.Action.{Action}
 use Rattle.xa_grammar.specs.declared.script.Action.TheVariants as action
@@ -56,10 +57,17 @@ pub record AreLeftAlone (settled : Settling) (t : ℕ) (bs : List Branch) (old n
   pub each : All
       (λ b. OnlyTheseName b.xid t (length (old.entries b.m)) (length (new.entries b.m)) (history settled b.m)) bs
 
--- The branches that a task names: a call with an xid that of its manager, a commit all its own.
+-- The same, but for heuristic decisions, whose ever they are.
+pub record AreLeftOrDecided (settled : Settling) (t : ℕ) (bs : List Branch) (old new : Part) : Type 0 where
+  pub each : All
+      (λ b. OnlyTheseOrDecisionsName b.xid t (length (old.entries b.m)) (length (new.entries b.m))
+      (history settled b.m)) bs
+
+-- The branches that a task names: a call with an xid, or a heuristic decision, that of its manager, a commit all its own.
 abbrev pub branches_by : ℕ → Action → List Branch
 branches_by m (action.Xa c (Some x)) = record { m = m; xid = x } ∷ []
 branches_by m (action.Xa c None) = []
+branches_by m (action.Native (Heur x commits)) = record { m = m; xid = x } ∷ []
 branches_by m (action.Native o) = []
 branches_by m (action.Complete h) = []
 
@@ -85,17 +93,23 @@ pub record AreNamedByNoOther (s : Content) (t : ℕ) (bs : List Branch) (after :
 -- What a commit of thread t shows of its branches is what became of them, where its line has found `old` of the
 -- thread's part: the number of a branch's Prepare is how many entries the thread has there at the branch's manager.
 pub record IsAsShown (settled : Settling) (t : ℕ) (bs : List Branch) (old : Part) (done : Done) : Type 0 where
-  -- where it shows `commit`, each branch is shown as committed that isn't shown as read only or in doubt
+  -- where it shows `commit`, each branch is shown as committed that isn't shown as read only, in doubt, or decided
+  -- heuristically
   pub committed : done.commit ≡ true
-      → All (λ e. (is_committed e || (is_read_only e || is_in_doubt e)) ≡ true) done.endings.items
+      → All (λ e. (is_committed e || (is_read_only e || (is_in_doubt e || is_heuristic e))) ≡ true) done.endings.items
   -- where it shows `abort`, none is
   pub aborted : done.commit ≡ false → has_committed done ≡ false
-  -- one that voted to commit is in doubt only where its manager was shut before the place of its second request
+  -- one that voted to commit is in doubt only where its manager was shut before the place of its second request, and
+  -- decided heuristically only where a decision of it was carried out after its Prepare
   pub votes : EachOutcome (λ b v e. KeepsItsVote settled t b (length (old.entries b.m)) v e)
       bs done.votes.items done.endings.items
   -- what is shown of each became of it
-  pub fates : TellsTheFates settled bs done
-  -- of each the additions count in the values exactly where it is shown as committed
+  pub fates : EachOutcome (λ b v e. TellsTheFate settled t b (length (old.entries b.m)) e)
+      bs done.votes.items done.endings.items
+
+-- The values count what it shows as committed.
+pub record CountsAsShown (settled : Settling) (t : ℕ) (bs : List Branch) (old : Part) (done : Done) : Type 0 where
+  -- of each branch the additions count exactly where it is shown as committed
   pub counts : EachOutcome (λ b v e. Shares settled t b (length (old.entries b.m)) (is_committed e))
       bs done.votes.items done.endings.items
   -- so where none is shown as in doubt, all additions of the transaction count on `commit`, and none on `abort`

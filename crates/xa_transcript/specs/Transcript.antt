@@ -5,7 +5,7 @@ use Rattle.std.specs.Fmt.{signed_decimal}
 use Rattle.xa_words.specs.Code.{number_of}
 use Rattle.xa_driver.specs.declared.done.Done.{Done}
 use Rattle.xa_driver.specs.declared.done.Ending.{Ending}
-use Rattle.xa_driver.specs.declared.done.Ending.TheVariants.{Committed, ReadOnly, RolledBack, InDoubt, Left}
+use Rattle.xa_driver.specs.declared.done.Ending.TheVariants.{Committed, ReadOnly, RolledBack, InDoubt, Heuristic, Left}
 use Rattle.xa_grammar.specs.declared.script.Declared.{Declared}
 use Rattle.xa_session.specs.declared.answer.Answer.{Answer}
 use Rattle.xa_session.specs.declared.answer.Answer.TheVariants.{Called, Completed, Refused, Decided, Turned, Ended}
@@ -28,12 +28,13 @@ handle_text handle retval = codes " handle " ++ handle ++ codes " retval " ++ si
 abbrev pub call_text : ℕ → ℕ → List ℕ
 call_text line thread = decimal line ++ codes " " ++ decimal thread
 
--- committed, readonly, rolledback, indoubt, left:C
+-- committed, readonly, rolledback, indoubt, heur:C, left:C
 abbrev pub ending_text : Ending → List ℕ
 ending_text Committed = codes "committed"
 ending_text ReadOnly = codes "readonly"
 ending_text RolledBack = codes "rolledback"
 ending_text InDoubt = codes "indoubt"
+ending_text (Heuristic c) = codes "heur:" ++ signed_decimal (number_of c)
 ending_text (Left c) = codes "left:" ++ signed_decimal (number_of c)
 
 -- commit, abort

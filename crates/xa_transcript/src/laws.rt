@@ -15,15 +15,17 @@ ghost use Rattle.xa_session.specs.Committing.{branches_of};
 ghost use Rattle.xa_transcript.specs.Parts.{Part};
 ghost use Rattle.xa_transcript.specs.Commits.{Decides};
 ghost use Rattle.xa_transcript.specs.Journals.{Line, AreCarriedOut, IsCarriedOut, ShowsCommit, AreCommitted, ArePrepared, AddsNoCommit, TellsOf};
-ghost use Rattle.xa_transcript.specs.Outcomes.{Place, AreLeftAlone, AreNamedByNoOther, ShowsOneOutcome, IsAsShown, IsSumOfShares};
+ghost use Rattle.xa_transcript.specs.Outcomes.{Place, AreLeftAlone, AreLeftOrDecided, AreNamedByNoOther, ShowsOneOutcome, IsAsShown, CountsAsShown, IsSumOfShares};
 ghost use Rattle.xa_transcript.specs.Runs.{Ran};
 ghost use Rattle.xa_transcript.specs.Values.{AreOfScript, AreValues};
 
 use xa_switch::laws::settled_journals_follow_the_tables;
 use xa_tables::laws::{
-    adders_never_vote_read_only, late_requests_add_nothing, late_requests_leave_fates,
-    only_a_shut_shuts, prepared_branches_await_the_outcome, prepared_branches_keep_what_they_hold,
-    read_only_branches_hold_nothing, refused_prepares_tell_integrity,
+    adders_never_vote_read_only, completed_branches_ended_as_decided, late_requests_add_nothing,
+    late_requests_leave_fates, only_a_shut_shuts, only_completed_branches_tell_a_decision,
+    only_prepared_branches_are_decided, prepared_branches_await_the_outcome,
+    prepared_branches_keep_what_they_hold, prepared_is_in_doubt, read_only_branches_hold_nothing,
+    refused_prepares_tell_integrity, shut_managers_decide_nothing,
 };
 
 /// Each call without `TMASYNC` that answers XA_OK has its request in its manager's journal, with XA_OK.
@@ -61,10 +63,11 @@ pub fn lines_have_their_places()
 /// All of a transaction or nothing, by what a transcript tells: where no line but that of its commit names a
 /// branch of it from that line on, each branch is shown as what became of it, and the values count what is shown
 /// as committed (clause `lines`). For that it is enough that in the journals nobody else names a branch after its
-/// Prepare (`journals`).
+/// Prepare; each is shown as what became of it also where heuristic decisions do (`journals`, `decisions`).
 pub fn branches_are_as_shown()
-    ensures journals { (s : Content) (answers : List Answer) (values : List Declared) (settled : Settling) (tells : TellsOf s answers values settled) (c : CommitAll) (done : Done) (before : List Line) (l : Line) (after : List Line) (old new : Part) → Place (tells.carried c.thread) before l after old new → ShowsCommit l c done → AreLeftAlone settled c.thread (branches_of c) old new → IsAsShown settled c.thread (branches_of c) old done }
-    ensures lines { (s : Content) (answers : List Answer) (values : List Declared) (settled : Settling) (tells : TellsOf s answers values settled) (c : CommitAll) (done : Done) (before : List Line) (l : Line) (after : List Line) → (tells.carried c.thread).lines ≡ before ++ l ∷ after → ShowsCommit l c done → AreNamedByNoOther s c.thread (branches_of c) after → (old : Part) × (new : Part) × Place (tells.carried c.thread) before l after old new × IsAsShown settled c.thread (branches_of c) old done }
+    ensures decisions { (s : Content) (answers : List Answer) (values : List Declared) (settled : Settling) (tells : TellsOf s answers values settled) (c : CommitAll) (done : Done) (before : List Line) (l : Line) (after : List Line) (old new : Part) → Place (tells.carried c.thread) before l after old new → ShowsCommit l c done → AreLeftOrDecided settled c.thread (branches_of c) old new → IsAsShown settled c.thread (branches_of c) old done }
+    ensures journals { (s : Content) (answers : List Answer) (values : List Declared) (settled : Settling) (tells : TellsOf s answers values settled) (c : CommitAll) (done : Done) (before : List Line) (l : Line) (after : List Line) (old new : Part) → Place (tells.carried c.thread) before l after old new → ShowsCommit l c done → AreLeftAlone settled c.thread (branches_of c) old new → IsAsShown settled c.thread (branches_of c) old done × CountsAsShown settled c.thread (branches_of c) old done }
+    ensures lines { (s : Content) (answers : List Answer) (values : List Declared) (settled : Settling) (tells : TellsOf s answers values settled) (c : CommitAll) (done : Done) (before : List Line) (l : Line) (after : List Line) → (tells.carried c.thread).lines ≡ before ++ l ∷ after → ShowsCommit l c done → AreNamedByNoOther s c.thread (branches_of c) after → (old : Part) × (new : Part) × Place (tells.carried c.thread) before l after old new × IsAsShown settled c.thread (branches_of c) old done × CountsAsShown settled c.thread (branches_of c) old done }
 {
     prepared_branches_await_the_outcome();
     adders_never_vote_read_only();
@@ -73,6 +76,11 @@ pub fn branches_are_as_shown()
     refused_prepares_tell_integrity();
     prepared_branches_keep_what_they_hold();
     read_only_branches_hold_nothing();
+    prepared_is_in_doubt();
+    completed_branches_ended_as_decided();
+    only_prepared_branches_are_decided();
+    shut_managers_decide_nothing();
+    only_completed_branches_tell_a_decision();
     settled_journals_follow_the_tables();
 }
 

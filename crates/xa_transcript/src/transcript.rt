@@ -84,7 +84,7 @@ fn record_text(logged: bool) -> &'static [u8]
     if logged { b"logged" } else { b"unlogged" }
 }
 
-// What stands for an ending: committed, readonly, rolledback, indoubt or `left:C`.
+// What stands for an ending: committed, readonly, rolledback, indoubt, `heur:C` or `left:C`.
 fn put_ending(out: &mut Vec<u8>, ending: Ending) -> Result<(), AllocError>
     ensures { OnOk result (out.new.items ≡ out.old.items ++ ending_text ending) }
 {
@@ -93,6 +93,10 @@ fn put_ending(out: &mut Vec<u8>, ending: Ending) -> Result<(), AllocError>
         Ending::ReadOnly => out.extend_from_slice(b"readonly"),
         Ending::RolledBack => out.extend_from_slice(b"rolledback"),
         Ending::InDoubt => out.extend_from_slice(b"indoubt"),
+        Ending::Heuristic(code) => {
+            out.extend_from_slice(b"heur:")?;
+            put_number(out, code.value())
+        }
         Ending::Left(code) => {
             out.extend_from_slice(b"left:")?;
             put_number(out, code.value())

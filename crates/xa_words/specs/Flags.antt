@@ -53,6 +53,7 @@ bits_of call.End = TMASYNC + TMSUCCESS + TMSUSPEND + TMFAIL
 bits_of call.Prepare = TMASYNC
 bits_of call.Commit = TMASYNC + TMONEPHASE
 bits_of call.Rollback = TMASYNC
+bits_of call.Forget = TMASYNC
 bits_of call.Complete = TMMULTIPLE + TMNOWAIT
 
 -- exactly one of three
@@ -70,6 +71,7 @@ go_together call.End f = just_one (has f TMSUCCESS) (has f TMSUSPEND) (has f TMF
 go_together call.Prepare f = true
 go_together call.Commit f = true
 go_together call.Rollback f = true
+go_together call.Forget f = true
 go_together call.Complete f = true
 
 -- no other flag stands than these

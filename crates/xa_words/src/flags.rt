@@ -49,6 +49,8 @@ pub enum Call {
     Commit,
     /// `xa_rollback()`
     Rollback,
+    /// `xa_forget()`
+    Forget,
     /// `xa_complete()`
     Complete,
 }
@@ -81,7 +83,7 @@ fn bits_of(call: Call) -> u32
     ensures { result ≡ bits_of call }
 {
     match call {
-        Call::OpenRm | Call::CloseRm | Call::Prepare | Call::Rollback => TMASYNC,
+        Call::OpenRm | Call::CloseRm | Call::Prepare | Call::Rollback | Call::Forget => TMASYNC,
         Call::Start => TMASYNC | TMJOIN | TMRESUME,
         Call::End => TMASYNC | TMSUCCESS | TMSUSPEND | TMFAIL,
         Call::Commit => TMASYNC | TMONEPHASE,
@@ -138,7 +140,7 @@ fn mode_of(flags: u32) -> Mode
 ///
 /// | call | flags that may stand |
 /// |---|---|
-/// | `OpenRm`, `CloseRm`, `Prepare`, `Rollback` | `TMASYNC` |
+/// | `OpenRm`, `CloseRm`, `Prepare`, `Rollback`, `Forget` | `TMASYNC` |
 /// | `Start` | `TMASYNC`, and at most one of `TMJOIN` and `TMRESUME` |
 /// | `End` | `TMASYNC`, and exactly one of `TMSUCCESS`, `TMSUSPEND` and `TMFAIL` |
 /// | `Commit` | `TMASYNC`, `TMONEPHASE` |

@@ -45,6 +45,10 @@ pub enum Op {
     Commit(Xid, bool),
     /// `xa_rollback()`: the branch's work is to be undone.
     Rollback(Xid),
+    /// `xa_forget()`: the heuristic decision on the branch is known, and is to be forgotten.
+    Forget(Xid),
+    /// Native, outside XA: the prepared branch is decided heuristically; it is committed where true, else rolled back.
+    Heur(Xid, bool),
     /// Native, outside XA: the manager takes nothing from then on.
     Shut,
 }
@@ -54,6 +58,8 @@ pub enum Op {
 pub enum RmOp {
     /// The thread's branch adds to the key's value.
     Add(Key, Delta),
+    /// The prepared branch is decided heuristically; it is committed where true, else rolled back.
+    Heur(Xid, bool),
     /// The manager takes nothing from then on.
     Shut,
 }

@@ -5,7 +5,7 @@ ghost use Rattle.xa_switch.specs.Fates.{ledgers_of};
 ghost use Rattle.xa_switch.specs.Seats.{ComeFromOpenings, desk_seats, worker_seats, seat_of_desk, seat_of_ended, seat_of_worker, seat_of_done};
 ghost use Rattle.xa_desk.specs.Growth.{HaveGrown};
 ghost use Rattle.xa_driver.specs.Trace.{IsCommit};
-ghost use Rattle.xa_driver.specs.Outcomes.{AreLeftAlone, KeepsTheVotes, TellsTheFates};
+ghost use Rattle.xa_driver.specs.Outcomes.{AreLeftOrDecided, KeepsTheVotes, TellsTheFates};
 
 use super::{Workers, branch, delta, key, plan_of};
 use std::alloc::Global;
@@ -176,7 +176,7 @@ struct Told {
 }
 
 // A thread commits, closes its managers and ends, and the opening is settled. That nobody else names the
-// branches is the one premise that is left.
+// branches, but for heuristic decisions, is the one premise that is left.
 fn commit_and_settle<R: Wait + Abort>(
     rt: &R,
     alloc: Global,
@@ -184,8 +184,8 @@ fn commit_and_settle<R: Wait + Abort>(
     branches: &[Branch; 2],
 ) -> Told
     requires { ComeFromOpenings (seat_of_desk opened.desk ∷ []) (map seat_of_worker opened.workers.workers.items) }
-    ensures votes { AreLeftAlone result.settled result.thread branches.now result.made.before.value.ledgers result.made.after.value.ledgers → KeepsTheVotes result.settled result.thread branches.now result.made.before.value.ledgers result.made.done }
-    ensures fates { AreLeftAlone result.settled result.thread branches.now result.made.before.value.ledgers result.made.after.value.ledgers → TellsTheFates result.settled branches.now result.made.done }
+    ensures votes { AreLeftOrDecided result.settled result.thread branches.now result.made.before.value.ledgers result.made.after.value.ledgers → KeepsTheVotes result.settled result.thread branches.now result.made.before.value.ledgers result.made.done }
+    ensures fates { AreLeftOrDecided result.settled result.thread branches.now result.made.before.value.ledgers result.made.after.value.ledgers → TellsTheFates result.settled result.thread branches.now result.made.before.value.ledgers result.made.done }
 {
     growth_goes_on();
     let Opened {

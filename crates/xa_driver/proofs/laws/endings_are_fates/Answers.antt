@@ -1,4 +1,4 @@
-use Rattle.xa_driver.proofs.Branches.{Tabled}
+use Rattle.xa_driver.proofs.Tabled.{Tabled}
 use Rattle.xa_driver.proofs.Settled.{votes_law, fates_law, counts_law, whole_law}
 use Rattle.xa_driver.proofs.OneOutcome.{committed_law}
 use Rattle.xa_driver.proofs.laws.endings_are_fates.Goals as goal
@@ -13,6 +13,12 @@ returns-clause-votes c = λ s t bs desk new log later done settled made grown al
       breaks = c.refused_prepares_tell_integrity.ensures;
       keeps = c.prepared_branches_keep_what_they_hold.ensures;
       reads = c.read_only_branches_hold_nothing.ensures;
+      stands = c.prepared_is_in_doubt.ensures;
+      completed = c.completed_branches_ended_as_decided.ensures;
+      undecided = c.only_prepared_branches_are_decided.ensures;
+      silent = c.shut_managers_decide_nothing.ensures;
+      commit_tells = c.only_completed_branches_tell_a_decision.ensures.commits;
+      rollback_tells = c.only_completed_branches_tell_a_decision.ensures.rolls_back;
     } in
     votes_law law c.settled_journals_follow_the_tables.ensures s t bs desk new log later done settled made grown alone
 
@@ -26,6 +32,12 @@ returns-clause-fates c = λ s t bs desk new log later done settled made grown al
       breaks = c.refused_prepares_tell_integrity.ensures;
       keeps = c.prepared_branches_keep_what_they_hold.ensures;
       reads = c.read_only_branches_hold_nothing.ensures;
+      stands = c.prepared_is_in_doubt.ensures;
+      completed = c.completed_branches_ended_as_decided.ensures;
+      undecided = c.only_prepared_branches_are_decided.ensures;
+      silent = c.shut_managers_decide_nothing.ensures;
+      commit_tells = c.only_completed_branches_tell_a_decision.ensures.commits;
+      rollback_tells = c.only_completed_branches_tell_a_decision.ensures.rolls_back;
     } in
     fates_law law c.settled_journals_follow_the_tables.ensures s t bs desk new log later done settled made grown alone
 
@@ -39,6 +51,12 @@ returns-clause-values c = λ s t bs desk new log later done settled made grown a
       breaks = c.refused_prepares_tell_integrity.ensures;
       keeps = c.prepared_branches_keep_what_they_hold.ensures;
       reads = c.read_only_branches_hold_nothing.ensures;
+      stands = c.prepared_is_in_doubt.ensures;
+      completed = c.completed_branches_ended_as_decided.ensures;
+      undecided = c.only_prepared_branches_are_decided.ensures;
+      silent = c.shut_managers_decide_nothing.ensures;
+      commit_tells = c.only_completed_branches_tell_a_decision.ensures.commits;
+      rollback_tells = c.only_completed_branches_tell_a_decision.ensures.rolls_back;
     } in
     counts_law law c.settled_journals_follow_the_tables.ensures s t bs desk new log later done settled made grown alone
 
@@ -52,6 +70,13 @@ returns-clause-whole c = λ s t bs desk new log later done settled made grown al
       breaks = c.refused_prepares_tell_integrity.ensures;
       keeps = c.prepared_branches_keep_what_they_hold.ensures;
       reads = c.read_only_branches_hold_nothing.ensures;
+      stands = c.prepared_is_in_doubt.ensures;
+      completed = c.completed_branches_ended_as_decided.ensures;
+      undecided = c.only_prepared_branches_are_decided.ensures;
+      silent = c.shut_managers_decide_nothing.ensures;
+      commit_tells = c.only_completed_branches_tell_a_decision.ensures.commits;
+      rollback_tells = c.only_completed_branches_tell_a_decision.ensures.rolls_back;
     } in
     whole_law law c.settled_journals_follow_the_tables.ensures s t bs desk new log later done settled made grown alone
-    (λ some. (committed_law made.may.tran bs desk new log later done made made.may.one some).kept) decided
+    (λ some. (committed_law made.may.tran bs desk new log later done made made.may.one some).kept)
+    (λ some. (committed_law made.may.tran bs desk new log later done made made.may.one some).unopposed) decided

@@ -1,4 +1,4 @@
-//! A manager that is shut at each moment of a commit.
+//! A manager that is shut, or decides heuristically, at each moment of a commit.
 use super::{Opened, Workers, branch, plan_of, tells};
 use std::alloc::Global;
 use std::process::Abort;
@@ -8,17 +8,18 @@ use xa_driver::{Done, Ending, MemoryLog, commit_all, may_commit};
 use xa_switch::Plan;
 use xa_words::{Code, Op};
 
-// As it idles for the `at`-th time the second thread puts a Shut to manager 2. Then, as each time, the worker that is
+// As it idles for the `at`-th time the second thread puts a request to manager 2. Then, as each time, the worker that is
 // waited for does one step.
 #[derive(Drop)]
-struct Shutter {
+struct Meddler {
     second: Desk,
     workers: Workers,
+    op: Op,
     idled: u32,
     at: u32,
 }
 
-impl Idle for Shutter {
+impl Idle for Meddler {
     ghost leads_by = { λ manager before after. Unit {0} };
 
     ghost leads = { λ before after. Unit {0} };
@@ -32,7 +33,7 @@ impl Idle for Shutter {
     fn idle<R: Wait>(&mut self, rt: &R, manager: u32) {
         self.idled = self.idled.saturating_add(1);
         if self.idled == self.at {
-            if let Ok(ticket) = self.second.submit(rt, 2, Op::Shut) {
+            if let Ok(ticket) = self.second.submit(rt, 2, self.op) {
                 self.second.keep(ticket);
             }
         }
@@ -40,8 +41,8 @@ impl Idle for Shutter {
     }
 }
 
-// Commits branches at managers 1 and 2, which both have work to commit, while the manager is shut so.
-fn commit_shut<R: Wait + Abort>(rt: &R, alloc: Global, at: u32) -> Done {
+// Commits branches at managers 1 and 2, which both have work to commit, while this is asked for so.
+fn commit_while<R: Wait + Abort>(rt: &R, alloc: Global, at: u32, op: Op) -> Done {
     let plan = Plan {
         queue: 4,
         ..plan_of(rt, alloc, 2)
@@ -55,9 +56,10 @@ fn commit_shut<R: Wait + Abort>(rt: &R, alloc: Global, at: u32) -> Done {
         second,
         workers,
     } = opened;
-    let mut idle = Shutter {
+    let mut idle = Meddler {
         second,
         workers,
+        op,
         idled: 0,
         at,
     };
@@ -73,13 +75,25 @@ fn commit_shut<R: Wait + Abort>(rt: &R, alloc: Global, at: u32) -> Done {
 fn a_shut_between_the_phases_leaves_its_manager_in_doubt(rt: HostRuntime) {
     let votes = [Code::Done, Code::Done];
     for at in [1, 2] {
-        let done = commit_shut(&rt, rt.alloc(), at);
+        let done = commit_while(&rt, rt.alloc(), at, Op::Shut);
         let endings = [Ending::Committed, Ending::InDoubt];
         tells(&rt, &done, true, true, &votes, &endings);
     }
     for at in [3, 4] {
-        let done = commit_shut(&rt, rt.alloc(), at);
+        let done = commit_while(&rt, rt.alloc(), at, Op::Shut);
         let endings = [Ending::Committed, Ending::Committed];
+        tells(&rt, &done, true, true, &votes, &endings);
+    }
+}
+
+/// The branch's second code is the decision.
+#[test]
+fn a_heuristic_rollback_between_the_phases_is_told(rt: HostRuntime) {
+    let votes = [Code::Done, Code::Done];
+    let endings = [Ending::Committed, Ending::Heuristic(Code::HeurRb)];
+    for at in [1, 2] {
+        let rolls_back = Op::Heur(branch(&rt, 2).xid, false);
+        let done = commit_while(&rt, rt.alloc(), at, rolls_back);
         tells(&rt, &done, true, true, &votes, &endings);
     }
 }

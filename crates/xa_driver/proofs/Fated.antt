@@ -1,0 +1,384 @@
+-- What became of a branch that nobody else named, but for heuristic decisions, over the settled history of its manager.
+use Rattle.std.specs.Prelude.{◌⊎◌}
+use Rattle.std.proofs.Common.{◌≡◌, ◌≢◌, ℕ, zero, suc, ◌+◌, ◌<◌, ◌≤◌, inl, inr, Bool, true, false, ◌==◌, ◌||◌, if◌then◌else◌, List, [], ◌∷◌, ◌++◌, length, append-nil, append_assoc, slice_get, get_or, sym, refl, ap, ◌∙◌, subst, arith, Option, Some, None}
+use Rattle.std.specs.List.{All, list_any, cons_option}
+use Rattle.std.proofs.lemmas.Bool.{and_right, ne_eqb}
+use Rattle.std.proofs.lemmas.List.Folds.{list_any-append}
+use Rattle.xa_words.specs.Xid.{XidName, xid_eq}
+use Rattle.xa_words.specs.Orders.{Decides-xid_eq}
+use Rattle.xa_words.specs.declared.code.Code.{Code}
+use Rattle.xa_words.specs.declared.code.Code.TheVariants.{Done, RdOnly, RbIntegrity, HeurMix, HeurRb, HeurCom, HeurHaz, RmFail}
+use Rattle.xa_words.specs.declared.request.Op.{Op}
+use Rattle.xa_words.specs.declared.request.Op.TheVariants.{Prepare, Commit, Rollback, Forget, Heur}
+use Rattle.xa_words.specs.declared.request.Request.{Request}
+use Rattle.xa_tables.specs.declared.state.HeuristicDecision.{HeuristicDecision}
+use Rattle.xa_tables.specs.declared.state.HeuristicDecision.TheVariants as decision
+use Rattle.xa_tables.specs.Tables.{Tables, is_S3, is_prepared}
+use Rattle.xa_tables.specs.Reasons.{decision_code}
+use Rattle.xa_tables.specs.Next.{Answer, next}
+use Rattle.xa_tables.proofs.Unnamed.{tables_after-append, unnamed_fate}
+use Rattle.xa_tables.specs.History as history
+use Rattle.xa_tables.specs.History.{History, Fate, Absent, fate, fate_in, fates_in, fate_of, coded, of_thread, tables_after, last_or, is_done, is_rolled_back, is_in_doubt as is_unknown, prepare_fate, decided_fate, heur_fate, IsOpening}
+use Rattle.xa_tables.specs.Prepared.{names, OnlyDecides, LeavesWaiting, AwaitsTheOutcome, AwaitsAfter, IsTold, closes, is_close, is_heur, is_forget, has_shut, answer_when, fates_when}
+use Rattle.xa_desk.specs.LedgerView.{LedgerView, is_rm_fail}
+use Rattle.xa_desk.specs.Lanes.{numbered}
+use Rattle.xa_switch.specs.Settling.{answers}
+use Rattle.xa_base.specs.Lists.{Begins}
+use Rattle.xa_base.proofs.Truth.{by_if, at_false, at_true}
+use Rattle.xa_driver.specs.declared.branch.Branch.{Branch}
+use Rattle.xa_driver.specs.declared.done.Ending.{Ending}
+use Rattle.xa_driver.specs.declared.done.Ending.TheVariants.{Committed, ReadOnly, RolledBack, InDoubt, Heuristic, Left}
+use Rattle.xa_driver.specs.Decision.{is_yes, is_read}
+use Rattle.xa_driver.specs.Endings.{ending_of, yes_ending, no_ending, is_heuristic as is_heuristic_code}
+use Rattle.xa_driver.specs.Trace.{BranchTrace}
+use Rattle.xa_driver.specs.Outcomes.{IsBetween, OnlyTheseOrDecisionsName, IsAfterShut, IsDecidedAfter, told_fate, is_left, is_in_doubt, is_heuristic}
+use Rattle.xa_driver.proofs.Placing.{request_of, all_later, fates, fates_both, fate_is}
+use Rattle.xa_driver.proofs.Tabled.{Tabled}
+use Rattle.xa_driver.proofs.Courses.{yes_is, read_is, First, first, Second, second_of, Sends, SendsOne, Course, Unreached, Reads, Breaks, Stays, Agrees, Refuses, course_of}
+
+self : (x : XidName) → xid_eq x x ≡ true
+self x = (Decides-xid_eq x x).1 refl
+
+closes_other : (t : ℕ) (r : Request) → r.thread ≢ t → closes t r ≡ false
+closes_other t r differs = and_right (is_close r.op) (r.thread == t) (ne_eqb r.thread t differs)
+
+all_left : {A : Type 0} (Q : A → Type 0) (xs ys : List A) → All Q (xs ++ ys) → All Q xs
+all_left Q [] ys h k d lt = absurd (omega arith)
+all_left Q (x ∷ xs) ys h zero d lt = h 0 d (omega arith)
+all_left Q (x ∷ xs) ys h (suc k) d lt = all_left Q xs ys (λ j e l. h (suc j) e (omega arith)) k d (omega arith)
+
+all_right : {A : Type 0} (Q : A → Type 0) (xs : List A) (y : A) (ys : List A) → All Q (xs ++ y ∷ ys) → All Q ys
+all_right Q [] y ys h k d lt = h (suc k) d (omega arith)
+all_right Q (x ∷ xs) y ys h k d lt = all_right Q xs y ys (λ j e l. h (suc j) e (omega arith)) k d lt
+
+-- ---- decisions that were carried out
+
+-- the request that makes the one fate of a history
+record Found (x : XidName) (f : Fate) (g : History) (T : Tables) : Type 0 where
+  before : History
+  request : Request
+  after : History
+  place : g ≡ before ++ request ∷ after
+  fate_here : fate_of x request.op (next request.thread request.op (tables_after before T)).1 ≡ Some f
+
+found : (x : XidName) (f : Fate) (g : History) (T : Tables) → fates x g T ≡ f ∷ [] → Found x f g T
+found x f [] T e = cc
+found x f (r ∷ g) T e =
+    let T1 : Tables = (next r.thread r.op T).0 in
+    elim (fate_of x r.op (next r.thread r.op T).1) as (λ o. fate_of x r.op (next r.thread r.op T).1 ≡ o → cons_option o (fates x g T1) ≡ f ∷ [] → Found x f (r ∷ g) T) [
+      | None ↦ λ none e.
+          let on = found x f g T1 e in
+          record { before = r ∷ on.before; request = on.request; after = on.after; place = ap (λ l. r ∷ l) on.place; fate_here = on.fate_here }
+      | Some h ↦ λ is e.
+          let same : h ≡ f = cc in
+          record { before = []; request = r; after = g; place = refl; fate_here = is ∙ ap Some same }
+    ] refl e
+
+-- a request that makes something of the branch names it
+named_by : (x : XidName) (op : Op) (c : Code) (f : Fate) → fate_of x op c ≡ Some f → names x op ≡ true
+named_by x op c f is =
+    elim (names x op) as (λ b. names x op ≡ b → b ≡ true) [
+      | true ↦ λ n. refl
+      | false ↦ λ n. let z : None ≡ Some f = sym (unnamed_fate x op c n) ∙ is in cc
+    ] refl
+
+-- a heuristic decision that makes something of it was carried out
+carried_out_by : (x : XidName) (op : Op) (c : Code) (f : Fate) → is_heur op ≡ true → fate_of x op c ≡ Some f → c ≡ Done
+carried_out_by x (Heur y commits) c f h is = heur_done (xid_eq y x) c is
+  where
+    heur_done : (b : Bool) (c : Code) → (if b then heur_fate commits c else None) ≡ Some f → c ≡ Done
+    heur_done true Done e = refl
+    heur_done true c e = cc
+    heur_done false c e = cc
+carried_out_by x op c f h is = cc
+
+-- ---- what became of a branch
+
+-- by its manager's history
+pub record Told (t : ℕ) (x : XidName) (T : Tables) (H : History) (n : ℕ) (vote : Code) (e : Ending) : Type 0 where
+  pub reached : is_yes vote ≡ true → is_left e ≡ false
+  pub shut : is_yes vote ≡ true → is_in_doubt e ≡ true → IsAfterShut t (n + 1) H
+  pub decided : is_yes vote ≡ true → is_heuristic e ≡ true → IsDecidedAfter x t n T H
+  pub told : (f : Fate) → told_fate e ≡ Some f → fate x H T ≡ f
+  pub doubt : is_in_doubt e ≡ true → (fate x H T ≡ history.InDoubt) ⊎ ((d : HeuristicDecision) × ((fate x H T ≡ decided_fate d) × IsDecidedAfter x t n T H))
+
+module _ (law : Tabled) (t : ℕ) (x : XidName) (T : Tables) (H : History) (opening : IsOpening T) (a : LedgerView) (vote : Code) (ops : List Op) (pairs : List (ℕ × Code))
+    (carried : of_thread t H ≡ numbered t 0 ops) (answered : All (λ p. slice_get (answers t (coded H T)) p.0 ≡ Some p) pairs) (last : ℕ) (only : OnlyTheseOrDecisionsName x t (length a.sent) last H) where
+  abbrev Goal : Ending → Type 0
+  Goal e = Told t x T H (length a.sent) vote e
+
+  abbrev n : ℕ
+  n = length a.sent
+
+  abbrev P : Op
+  P = Prepare x
+
+  -- a request that gave the branch a fate by which it isn't prepared left it so
+  ended : (before after : History) (r : Request) (f : Fate) → H ≡ before ++ r ∷ after → fate_of x r.op (next r.thread r.op (tables_after before T)).1 ≡ Some f → is_unknown f ≡ false → OnlyDecides x after → fate x H T ≡ f
+  ended before after r f place e known only_after =
+      let there : Tables = (next r.thread r.op (tables_after before T)).0 in
+      let so_far : fate x (before ++ r ∷ []) T ≡ f = law.leaves (before ++ r ∷ []) x T ∙ fate_is x before [] r T f e refl in
+      let unprepared : is_prepared there x ≡ false =
+      ap (λ (U : Tables). is_prepared U x) (sym (tables_after-append before (r ∷ []) T)) ∙ law.stands (before ++ r ∷ []) x T opening ∙ ap is_unknown so_far ∙ known in
+      law.leaves H x T ∙ ap (λ (h : History). fate_in x (coded h T)) place ∙ fate_is x before after r T f e (law.undecided after x there unprepared only_after)
+
+  -- a vote that doesn't agree, and an ending that tells nothing, or what became of it
+  no_vote : (e : Ending) → is_yes vote ≡ false → is_in_doubt e ≡ false → ((f : Fate) → told_fate e ≡ Some f → fate x H T ≡ f) → Goal e
+  no_vote e y sure told = record {
+    reached = λ agreed. let z : true ≡ false = sym agreed ∙ y in cc;
+    shut = λ agreed d. let z : true ≡ false = sym agreed ∙ y in cc;
+    decided = λ agreed d. let z : true ≡ false = sym agreed ∙ y in cc;
+    told = told;
+    doubt = λ d. let z : true ≡ false = sym d ∙ sure in cc;
+  }
+
+  -- ---- the Prepare alone was sent
+
+  module _ (z : SendsOne t x T H a vote ops pairs carried answered last) where
+    abbrev alone : First t x T H a vote ops pairs carried answered z.post
+    alone = first t x T H a vote ops pairs carried answered z.post z.more z.sent z.collected
+
+    decides_after : OnlyDecides x alone.parted.after
+    decides_after k d lt named =
+        elim (is_heur (get_or alone.parted.after k d).op) as (λ b. is_heur (get_or alone.parted.after k d).op ≡ b → (b || is_forget (get_or alone.parted.after k d).op) ≡ true) [
+          | true ↦ λ h. refl
+          | false ↦ λ h.
+              let between : IsBetween t n last (get_or alone.parted.after k d) = only alone.parted.before alone.parted.after (request_of t n P) alone.parted.place refl refl k d lt named h in
+              let up = all_later t alone.parted.after (suc n) z.post alone.parted.later k d lt between.thread in
+              let down = between.below in
+              let limit = z.limit in
+              absurd (omega (arith, up, down, limit))
+        ] refl
+
+    -- the vote tells what became of it
+    voted_so : (e : Ending) (f : Fate) → is_yes vote ≡ false → is_in_doubt e ≡ false → told_fate e ≡ Some f → prepare_fate vote ≡ Some f → is_unknown f ≡ false → Goal e
+    voted_so e f y sure named makes known =
+        let own : fate_of x P (next t P (tables_after alone.parted.before T)).1 ≡ Some f =
+        ap (fate_of x P) (sym alone.code) ∙ at_true (xid_eq x x) _ None (self x) ∙ makes in
+        no_vote e y sure (λ g is. ended alone.parted.before alone.parted.after (request_of t n P) f alone.parted.place own known decides_after ∙ (let s : Some f ≡ Some g = sym named ∙ is in cc))
+
+    broken_code : is_rolled_back vote ≡ true → vote ≡ RbIntegrity
+    broken_code back = alone.code ∙ law.breaks t x (tables_after alone.parted.before T) (sym (ap is_rolled_back alone.code) ∙ back)
+
+  -- ---- a second request was sent
+
+  module _ (op : Op) (c : Code) (z : Sends t x T H a vote ops pairs carried answered op c last) where
+    abbrev f : First t x T H a vote ops pairs carried answered (op ∷ z.post)
+    f = first t x T H a vote ops pairs carried answered (op ∷ z.post) ((n + 1, c) ∷ z.more) z.sent z.collected
+
+    abbrev s : Second t x T H a vote ops pairs carried answered op c z.post f
+    s = second_of t x T H a vote ops pairs carried answered op c z.post z.more z.collected f
+
+    abbrev S : Request
+    S = request_of t (suc n) op
+
+    abbrev now : Tables
+    now = (next t P (tables_after f.parted.before T)).0
+
+    abbrev there : Tables
+    there = tables_after s.mid now
+
+    abbrev all_before : History
+    all_before = f.parted.before ++ request_of t n P ∷ s.mid
+
+    abbrev Allowed : Request → Type 0
+    Allowed q = names x q.op ≡ true → is_heur q.op ≡ false → IsBetween t n last q
+
+    allowed : All Allowed (s.mid ++ S ∷ s.rest)
+    allowed = subst (All Allowed) s.split (only f.parted.before f.parted.after (request_of t n P) f.parted.place refl refl)
+
+    waiting : LeavesWaiting t x s.mid
+    waiting k d lt =
+        let differs = s.others k d lt in (
+          λ named.
+              elim (is_heur (get_or s.mid k d).op) as (λ b. is_heur (get_or s.mid k d).op ≡ b → b ≡ true) [
+                | true ↦ λ h. refl
+                | false ↦ λ h. absurd (differs (all_left Allowed s.mid (S ∷ s.rest) allowed k d lt named h).thread)
+              ] refl,
+          closes_other t (get_or s.mid k d) differs,
+        )
+
+    decides_rest : OnlyDecides x s.rest
+    decides_rest k d lt named =
+        elim (is_heur (get_or s.rest k d).op) as (λ b. is_heur (get_or s.rest k d).op ≡ b → (b || is_forget (get_or s.rest k d).op) ≡ true) [
+          | true ↦ λ h. refl
+          | false ↦ λ h. let between = all_right Allowed s.mid S s.rest allowed k d lt named h in z.forgets s.rest s.later k d lt between.thread between.below
+        ] refl
+
+    code_there : c ≡ (next t op (tables_after all_before T)).1
+    code_there = s.code ∙ ap (λ (U : Tables). (next t op U).1) (sym s.there_is)
+
+    -- the second request ended it
+    ended_by : (g : Fate) → fate_of x op c ≡ Some g → is_unknown g ≡ false → fate x H T ≡ g
+    ended_by g makes known = ended all_before s.rest S g s.place (ap (fate_of x op) (sym code_there) ∙ makes) known decides_rest
+
+    -- it was told a decision
+    told_by : (d : HeuristicDecision) → fate_of x op c ≡ None → IsTold x d (tables_after all_before T) (next t op (tables_after all_before T)) → fate x H T ≡ decided_fate d
+    told_by d none is =
+        let U : Tables = tables_after all_before T in
+        let unprepared : is_prepared (next t op U).0 x ≡ false = ap (λ (V : Tables). is_prepared V x) is.unchanged ∙ ap is_S3 is.state in
+        let quiet : fates x (S ∷ s.rest) U ≡ [] = λ i. cons_option ((ap (fate_of x op) (sym code_there) ∙ none) i) (law.undecided s.rest x (next t op U).0 unprepared decides_rest i) in
+        law.leaves H x T ∙ ap (λ (h : History). fate_in x (coded h T)) s.place
+        ∙ ap (last_or Absent) (fates_both x all_before (S ∷ s.rest) T ∙ ap (λ l. fates x all_before T ++ l) quiet ∙ append-nil (fates x all_before T))
+        ∙ sym (law.leaves all_before x T) ∙ law.completed all_before x T opening d is.state
+
+    -- ---- after a yes vote
+
+    module _ (agreed : vote ≡ Done) where
+      w : AwaitsAfter t x s.mid now
+      w = law.awaits f.parted.before s.mid t x T opening (sym f.code ∙ agreed) waiting
+
+      -- a decision of it was carried out between the two
+      decided_between : (d : HeuristicDecision) → fates x s.mid now ≡ decided_fate d ∷ [] → IsDecidedAfter x t n T H
+      decided_between d made =
+          let p = found x (decided_fate d) s.mid now made in
+          let named : names x p.request.op ≡ true = named_by x p.request.op _ (decided_fate d) p.fate_here in
+          let heur : is_heur p.request.op ≡ true = (mid_of p.before p.request p.after (subst (LeavesWaiting t x) p.place waiting)).0 named in
+          record {
+            before = f.parted.before;
+            request = request_of t n P;
+            between = p.before;
+            decision = p.request;
+            after = p.after ++ S ∷ s.rest;
+            place = f.parted.place ∙ ap (λ l. f.parted.before ++ request_of t n P ∷ l) (s.split ∙ ap (λ l. l ++ S ∷ s.rest) p.place ∙ append_assoc p.before (p.request ∷ p.after) (S ∷ s.rest));
+            thread = refl;
+            number = refl;
+            named = named;
+            decides = heur;
+            carried_out = ap (λ (U : Tables). (next p.request.thread p.request.op U).1) (tables_after-append f.parted.before (request_of t n P ∷ p.before) T)
+                ∙ carried_out_by x p.request.op (next p.request.thread p.request.op (tables_after p.before now)).1 (decided_fate d) heur p.fate_here;
+          }
+        where
+          mid_of : (before : History) (r : Request) (after : History) → LeavesWaiting t x (before ++ r ∷ after) → (names x r.op ≡ true → is_heur r.op ≡ true) × (closes t r ≡ false)
+          mid_of [] r after all = all 0 r (omega arith)
+          mid_of (q ∷ before) r after all = mid_of before r after (λ k d lt. all (suc k) d (omega arith))
+
+      -- the manager is shut at its second request, and what became of it since its Prepare is all
+      at_shut : there.shut ≡ true → fates x f.parted.after now ≡ fates_when w.decision
+      at_shut closed =
+          ap (λ (h : History). fates x h now) s.split ∙ fates_both x s.mid (S ∷ s.rest) now
+          ∙ (λ i. w.fates i ++ law.silent (S ∷ s.rest) x there closed i) ∙ append-nil (fates_when w.decision)
+
+      after_shut : there.shut ≡ true → IsAfterShut t (n + 1) H
+      after_shut e = record {
+        before = all_before;
+        after = s.rest;
+        request = S;
+        place = s.place;
+        thread = refl;
+        number = let q : suc n ≡ n + 1 = omega arith in q;
+        shut = sym (law.shuts all_before T opening) ∙ ap (λ (U : Tables). U.shut) s.there_is ∙ e;
+      }
+
+      first_fate : (fs : List Fate) → fates x f.parted.after now ≡ fs → fate x H T ≡ last_or history.InDoubt fs
+      first_fate fs made =
+          let own : fate_of x P (next t P (tables_after f.parted.before T)).1 ≡ Some history.InDoubt =
+          ap (fate_of x P) (sym f.code ∙ agreed) ∙ at_true (xid_eq x x) _ None (self x) in
+          law.leaves H x T ∙ ap (λ (h : History). fate_in x (coded h T)) f.parted.place
+          ∙ ap (last_or Absent) (fates_both x f.parted.before (request_of t n P ∷ f.parted.after) T ∙ (λ i. fates x f.parted.before T ++ cons_option (own i) (made i)))
+          ∙ last_from (fates x f.parted.before T) Absent
+        where
+          last_from : (gs : List Fate) (g : Fate) → last_or g (gs ++ history.InDoubt ∷ fs) ≡ last_or history.InDoubt fs
+          last_from [] g = refl
+          last_from (h ∷ gs) g = last_from gs h
+
+      in_doubt : there.shut ≡ true → (fate x H T ≡ history.InDoubt) ⊎ ((d : HeuristicDecision) × ((fate x H T ≡ decided_fate d) × IsDecidedAfter x t n T H))
+      in_doubt closed =
+          let fs = at_shut closed in
+          elim (w.decision) as (λ o. fates x s.mid now ≡ fates_when o → fates x f.parted.after now ≡ fates_when o → (fate x H T ≡ history.InDoubt) ⊎ ((d : HeuristicDecision) × ((fate x H T ≡ decided_fate d) × IsDecidedAfter x t n T H))) [
+            | None ↦ λ made all. inl (first_fate [] all)
+            | Some d ↦ λ made all. inr (d, (first_fate (decided_fate d ∷ []) all, decided_between d made))
+          ] w.fates fs
+
+      abbrev Ends : Ending → Code → Ending
+      Ends e d = if is_done d then e else (if is_rm_fail d then InDoubt else (if is_heuristic_code d then Heuristic d else Left d))
+
+      -- what a prepared branch comes to, by the decision
+      outcome : (e : Ending) (g : Fate) → is_in_doubt e ≡ false → is_left e ≡ false → is_heuristic e ≡ false → told_fate e ≡ Some g → is_unknown g ≡ false → fate_of x op Done ≡ Some g
+          → ((d : HeuristicDecision) → fate_of x op (decision_code d) ≡ None) → ((o : Option HeuristicDecision) (U : Tables) → AwaitsTheOutcome t x o U → (next t op U).1 ≡ (if U.shut then RmFail else answer_when o))
+          → ((d : HeuristicDecision) (U : Tables) → (next t op U).1 ≡ decision_code d → IsTold x d U (next t op U)) → Goal (Ends e c)
+      outcome e g sure reached plain named known by_done by_decision answers_so tells =
+          let code : c ≡ (if there.shut then RmFail else answer_when w.decision) = s.code ∙ answers_so w.decision there w.awaits in
+          elim (there.shut) as (λ l. there.shut ≡ l → c ≡ (if l then RmFail else answer_when w.decision) → Goal (Ends e c)) [
+            | true ↦ λ closed is.
+                subst (λ (d : Code). Goal (Ends e d)) (sym is)
+                (record { reached = λ _. refl; shut = λ _ _. after_shut closed; decided = λ _ h. cc; told = λ h i. cc; doubt = λ _. in_doubt closed })
+            | false ↦ λ opened is. by_answer w.decision w.fates is
+          ] refl code
+        where
+          done_goal : c ≡ Done → Goal (Ends e c)
+          done_goal is =
+              subst (λ (d : Code). Goal (Ends e d)) (sym is) (record {
+                reached = λ _. reached;
+                shut = λ _ d. let q : true ≡ false = sym d ∙ sure in cc;
+                decided = λ _ d. let q : true ≡ false = sym d ∙ plain in cc;
+                told = λ h i. ended_by g (ap (fate_of x op) is ∙ by_done) known ∙ (let q : Some g ≡ Some h = sym named ∙ i in cc);
+                doubt = λ d. let q : true ≡ false = sym d ∙ sure in cc;
+              })
+
+          names_it : (d : HeuristicDecision) (h : Fate) → told_fate (Heuristic (decision_code d)) ≡ Some h → decided_fate d ≡ h
+          names_it decision.Commit h i = cc
+          names_it decision.Rollback h i = cc
+
+          decided_goal : (d : HeuristicDecision) → fates x s.mid now ≡ decided_fate d ∷ [] → c ≡ decision_code d → Goal (Heuristic (decision_code d))
+          decided_goal d made is =
+              let fate_is_so : fate x H T ≡ decided_fate d = told_by d (ap (fate_of x op) is ∙ by_decision d) (tells d (tables_after all_before T) (sym code_there ∙ is)) in
+              record { reached = λ _. refl; shut = λ _ q. cc; decided = λ _ _. decided_between d made; told = λ h i. fate_is_so ∙ names_it d h i; doubt = λ q. cc }
+
+          by_answer : (o : Option HeuristicDecision) → fates x s.mid now ≡ fates_when o → c ≡ answer_when o → Goal (Ends e c)
+          by_answer None made is = done_goal is
+          by_answer (Some decision.Commit) made is = subst (λ (d : Code). Goal (Ends e d)) (sym is) (decided_goal decision.Commit made is)
+          by_answer (Some decision.Rollback) made is = subst (λ (d : Code). Goal (Ends e d)) (sym is) (decided_goal decision.Rollback made is)
+
+  -- ---- after a vote against
+
+  commit_quiet : (d : HeuristicDecision) → fate_of x (Commit x false) (decision_code d) ≡ None
+  commit_quiet decision.Commit = at_true (xid_eq x x) _ None (self x)
+  commit_quiet decision.Rollback = at_true (xid_eq x x) _ None (self x)
+
+  rollback_quiet : (d : HeuristicDecision) → fate_of x (Rollback x) (decision_code d) ≡ None
+  rollback_quiet decision.Commit = at_true (xid_eq x x) _ None (self x)
+  rollback_quiet decision.Rollback = at_true (xid_eq x x) _ None (self x)
+
+  refused : (c : Code) → is_yes vote ≡ false → Sends t x T H a vote ops pairs carried answered (Rollback x) c last → Goal (no_ending vote (Some c))
+  refused c y z =
+      by_if Goal (is_done c || is_rolled_back c) RolledBack _ (λ back.
+      no_vote RolledBack y refl (λ g is. ended_by (Rollback x) c z history.RolledBack (at_true (xid_eq x x) _ None (self x) ∙ at_true (is_done c || is_rolled_back c) _ None back) refl ∙ (let q : Some history.RolledBack ≡ Some g = is in cc))) (λ _.
+      by_if Goal (is_heuristic_code c) (Heuristic c) (Left c) (λ _. no_vote (Heuristic c) y refl (heuristic_told c z)) (λ _. no_vote (Left c) y refl (λ g is. cc)))
+    where
+      told_with : (d : HeuristicDecision) (c : Code) → c ≡ decision_code d → Sends t x T H a vote ops pairs carried answered (Rollback x) c last → fate x H T ≡ decided_fate d
+      told_with d c is z = told_by (Rollback x) c z d (ap (fate_of x (Rollback x)) is ∙ rollback_quiet d) (law.rollback_tells t x d _ (sym (code_there (Rollback x) c z) ∙ is))
+
+      heuristic_told : (c : Code) → Sends t x T H a vote ops pairs carried answered (Rollback x) c last → (g : Fate) → told_fate (Heuristic c) ≡ Some g → fate x H T ≡ g
+      heuristic_told HeurCom z g is = told_with decision.Commit HeurCom refl z ∙ (let q : Some history.HeurCommitted ≡ Some g = is in cc)
+      heuristic_told HeurRb z g is = told_with decision.Rollback HeurRb refl z ∙ (let q : Some history.HeurRolledBack ≡ Some g = is in cc)
+      heuristic_told c z g is = cc
+
+-- what became of a branch of a call that nobody else named, but for heuristic decisions
+pub branch_told : (law : Tabled) (t : ℕ) (b : Branch) (vote : Code) (second : Option Code) (commit : Bool) (a a' : LedgerView) (T : Tables) (H : History) (ops : List Op) (pairs : List (ℕ × Code)) → IsOpening T
+    → of_thread t H ≡ numbered t 0 ops → All (λ p. slice_get (answers t (coded H T)) p.0 ≡ Some p) pairs → Begins a'.sent ops → Begins a'.collected pairs
+    → OnlyTheseOrDecisionsName b.xid t (length a.sent) (length a'.sent) H → BranchTrace commit b vote second a a' → Told t b.xid T H (length a.sent) vote (ending_of commit vote second)
+branch_told law t b vote second commit a a' T H ops pairs opening carried answered sent collected only tr =
+    by_course (ending_of commit vote second) (course_of t b vote second commit a a' T H ops pairs carried answered sent collected tr)
+  where
+    read_not : is_read vote ≡ true → is_yes vote ≡ false
+    read_not r = ap is_yes (read_is vote r)
+
+    by_decision : (commit : Bool) (c : Code) → is_yes vote ≡ true → Sends t b.xid T H a vote ops pairs carried answered (if commit then Commit b.xid false else Rollback b.xid) c (length a'.sent) → Told t b.xid T H (length a.sent) vote (yes_ending commit (Some c))
+    by_decision true c y z =
+        outcome law t b.xid T H opening a vote ops pairs carried answered (length a'.sent) only (Commit b.xid false) c z (yes_is vote y) Committed history.Committed refl refl refl refl refl (at_true (xid_eq b.xid b.xid) _ None (self b.xid))
+        (commit_quiet law t b.xid T H opening a vote ops pairs carried answered (length a'.sent) only) (λ o U h. h.commits) (λ d U. law.commit_tells t b.xid d U)
+    by_decision false c y z =
+        outcome law t b.xid T H opening a vote ops pairs carried answered (length a'.sent) only (Rollback b.xid) c z (yes_is vote y) RolledBack history.RolledBack refl refl refl refl refl (at_true (xid_eq b.xid b.xid) _ None (self b.xid))
+        (rollback_quiet law t b.xid T H opening a vote ops pairs carried answered (length a'.sent) only) (λ o U h. h.rolls_back) (λ d U. law.rollback_tells t b.xid d U)
+
+    by_course : (e : Ending) → Course t b.xid T H a vote ops pairs carried answered a' sent collected commit e → Told t b.xid T H (length a.sent) vote e
+    by_course _ (Unreached same code) = no_vote law t b.xid T H opening a vote ops pairs carried answered (length a'.sent) only (Left RmFail) (ap is_yes code) refl (λ f e. cc)
+    by_course _ (Reads r z) =
+        voted_so law t b.xid T H opening a vote ops pairs carried answered (length a'.sent) only z ReadOnly history.ReadOnly (read_not r) refl refl (ap prepare_fate (read_is vote r)) refl
+    by_course _ (Breaks k z) =
+        let code : vote ≡ RbIntegrity = broken_code law t b.xid T H opening a vote ops pairs carried answered (length a'.sent) only z k in
+        voted_so law t b.xid T H opening a vote ops pairs carried answered (length a'.sent) only z RolledBack history.RolledBack (ap is_yes code) refl refl (ap prepare_fate code) refl
+    by_course _ (Stays c y z) = no_vote law t b.xid T H opening a vote ops pairs carried answered (length a'.sent) only (Left c) y refl (λ f e. cc)
+    by_course _ (Agrees c y z) = by_decision commit c y z
+    by_course _ (Refuses c y r z) = refused law t b.xid T H opening a vote ops pairs carried answered (length a'.sent) only c y z

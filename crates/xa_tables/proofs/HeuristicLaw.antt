@@ -1,0 +1,208 @@
+-- The laws of heuristic decisions: only a prepared branch is decided, and by a manager that isn't shut; and only a
+-- completed one tells its decision.
+use Rattle.std.specs.Prelude.{◌≡◌, ◌≢◌, ℕ, Bool, true, false, not, ◌||◌, if◌then◌else◌, Option, None, Some, [], ◌∷◌, refl}
+use Rattle.std.proofs.Common.{sym, ap, ◌∙◌, subst}
+use Rattle.std.specs.List.{cons_option}
+use Rattle.std.proofs.lemmas.Bool.{not-false}
+use Rattle.std.proofs.lemmas.List.Elements.{All-head, All-tail}
+use Rattle.xa_words.specs.Xid.{XidName, xid_eq}
+use Rattle.xa_words.specs.Orders.{Decides-xid_eq}
+use Rattle.xa_words.specs.declared.code.Code.{Code}
+use Rattle.xa_words.specs.declared.code.Code.TheVariants.{Done, HeurCom, HeurRb, Nota, Proto, RmFail}
+use Rattle.xa_words.specs.declared.request.Op.{Op}
+use Rattle.xa_words.specs.declared.request.Op.TheVariants.{Commit, Rollback, Forget, Heur}
+use Rattle.xa_words.specs.declared.request.Request.{Request}
+use Rattle.xa_tables.specs.declared.state.State.{State}
+use Rattle.xa_tables.specs.declared.state.State.TheVariants.{Active, Idle, Prepared as S3, RollbackOnly, HeuristicallyCompleted}
+use Rattle.xa_tables.specs.declared.state.RollbackReason.{RollbackReason}
+use Rattle.xa_tables.specs.declared.state.RollbackReason.TheVariants.{Failed, Transient}
+use Rattle.xa_tables.specs.declared.state.HeuristicDecision.{HeuristicDecision}
+use Rattle.xa_tables.specs.declared.state.HeuristicDecision.TheVariants as decision
+use Rattle.xa_tables.specs.Tables.{Tables, has_opened, state_of, exists, is_S3, is_S4, is_S5, is_prepared, is_rollback_only, is_completed, decision_in, decision_of, reason_in, reason_of, is_somebody_associated}
+use Rattle.xa_tables.specs.Reasons.{reason_code, decision_code}
+use Rattle.xa_tables.specs.Next.{Answer, next, completed, committed, forgotten, gone}
+use Rattle.xa_tables.specs.History.{History, Fate, HeurCommitted, HeurRolledBack, fate_of, fates_in, coded, decided_fate, heur_fate, is_rolled_back, tables_after}
+use Rattle.xa_tables.specs.Prepared.{names, is_heur, is_forget, OnlyDecides, IsTold}
+use Rattle.xa_base.proofs.Truth.{by_if, at_true}
+use Rattle.xa_tables.proofs.ShutLemmas.{next-shut}
+use Rattle.xa_tables.proofs.Effects.{Effect, Starts, Joins, Fails, Idles, Dooms, Prepares, Commits, Drops, CommitsByItself, RollsBackByItself, Forgets, effect_of, error_tells, named_none, reason_rolls_back}
+use Rattle.xa_tables.proofs.Law.{get_put, get_gone}
+use Rattle.xa_tables.proofs.SoundLemmas.{others_put, others_removed}
+use Rattle.xa_tables.proofs.Unnamed.{unnamed_fate, differs}
+
+-- ---- what a heuristic decision does
+
+-- nothing, or the branch was prepared and is completed with a decision, which is its fate
+pub data Decides (x : XidName) (op : Op) (T : Tables) (a : Answer) : Type 0 where
+  Nothing : a.0 ≡ T → fate_of x op a.1 ≡ None → Decides x op T a
+  Completes : (d : HeuristicDecision) → is_prepared T x ≡ true → state_of a.0 x ≡ Some (HeuristicallyCompleted d) → a.0.opened ≡ T.opened
+      → fate_of x op a.1 ≡ Some (decided_fate d) → Decides x op T a
+
+self : (x : XidName) → xid_eq x x ≡ true
+self x = (Decides-xid_eq x x).1 refl
+
+put_here : (T : Tables) (x : XidName) (s : State) → (if xid_eq x x then Some s else state_of T x) ≡ Some s
+put_here T x s = at_true (xid_eq x x) _ _ (self x)
+
+heur_step : (t : ℕ) (x : XidName) (commits : Bool) (T : Tables) → Decides x (Heur x commits) T (next t (Heur x commits) T)
+unfolding next
+heur_step t x commits T =
+    let P : Answer → Type 0 = Decides x (Heur x commits) T in
+    let posted : Tables = record (committed x T) { sums = (completed x decision.Commit (committed x T)).sums } in
+    let dropped : Tables = record T { sums = (completed x decision.Rollback T).sums } in
+    let by_decision : (b : Bool) → commits ≡ b → fate_of x (Heur x commits) Done ≡ Some (if b then HeurCommitted else HeurRolledBack) = λ b e.
+    at_true (xid_eq x x) _ None (self x) ∙ ap (λ c. heur_fate c Done) e in
+    by_if P (T.shut) _ _ (λ _. Nothing refl (named_none x x)) (λ _.
+    by_if P (not (exists T x)) _ _ (λ _. Nothing refl (named_none x x)) (λ _.
+    by_if P (not (is_prepared T x)) _ _ (λ _. Nothing refl (named_none x x)) (λ voted.
+    by_if P commits _ _
+    (λ e. Completes decision.Commit (not-false _ voted) (get_put posted x x (HeuristicallyCompleted decision.Commit) ∙ put_here posted x (HeuristicallyCompleted decision.Commit)) refl (by_decision true e))
+    (λ e. Completes decision.Rollback (not-false _ voted) (get_put dropped x x (HeuristicallyCompleted decision.Rollback) ∙ put_here dropped x (HeuristicallyCompleted decision.Rollback)) refl (by_decision false e)))))
+
+heur_op : (x : XidName) (op : Op) → names x op ≡ true → is_heur op ≡ true → (commits : Bool) × (op ≡ Heur x commits)
+heur_op x (Heur y commits) n h = (commits, ap (λ z. Heur z commits) ((Decides-xid_eq y x).0 n))
+heur_op x op n h = cc
+
+pub decides : (t : ℕ) (x : XidName) (op : Op) (T : Tables) → names x op ≡ true → is_heur op ≡ true → Decides x op T (next t op T)
+decides t x op T n h =
+    let z = heur_op x op n h in
+    subst (λ (o : Op). Decides x o T (next t o T)) (sym z.1) (heur_step t x z.0 T)
+
+-- ---- a branch that isn't prepared
+
+module _ (t : ℕ) (x : XidName) (T : Tables) (u : is_prepared T x ≡ false) where
+  -- other requests than those that name it leave it so
+  by_effect : {op : Op} {a : Answer} → Effect t T op a → names x op ≡ false → is_prepared a.0 x ≡ false
+  by_effect (Starts y free) n = ap is_S3 (others_put T.states y Active x (differs x y n)) ∙ u
+  by_effect (Joins y free there unprepared) n = ap is_S3 (others_put T.states y Active x (differs x y n)) ∙ u
+  by_effect (Fails y own) n = ap is_S3 (others_put T.states y (RollbackOnly Failed) x (differs x y n)) ∙ u
+  by_effect (Idles y own alone) n = ap is_S3 (others_put T.states y Idle x (differs x y n)) ∙ u
+  by_effect (Dooms k d l own) n =
+      ap is_S3 (get_put T l.xid x (RollbackOnly Transient))
+      ∙ elim (xid_eq l.xid x) as (λ b. is_S3 (if b then Some (RollbackOnly Transient) else state_of T x) ≡ false) [ true ↦ refl | false ↦ u ]
+  by_effect (Prepares y free unbroken) n = ap is_S3 (others_put T.states y S3 x (differs x y n)) ∙ u
+  by_effect (Commits y one_phase free may) n = ap is_S3 (others_removed T.states y x (differs x y n)) ∙ u
+  by_effect (Drops op y c free tells) n = ap is_S3 (others_removed T.states y x (differs x y (sym (tells.named x) ∙ n))) ∙ u
+  by_effect (CommitsByItself y voted) n = ap is_S3 (others_put T.states y (HeuristicallyCompleted decision.Commit) x (differs x y n)) ∙ u
+  by_effect (RollsBackByItself y voted) n = ap is_S3 (others_put T.states y (HeuristicallyCompleted decision.Rollback) x (differs x y n)) ∙ u
+  by_effect (Forgets y is) n = ap is_S3 (others_removed T.states y x (differs x y n)) ∙ u
+  -- the others change no branch
+  by_effect effect n = u
+
+  forget_step : is_prepared (next t (Forget x) T).0 x ≡ false
+  unfolding next
+  forget_step =
+      let P : Answer → Type 0 = λ a. is_prepared a.0 x ≡ false in
+      by_if P (T.shut) _ _ (λ _. u) (λ _.
+      by_if P (not (has_opened T t)) _ _ (λ _. u) (λ _.
+      by_if P (not (exists T x)) _ _ (λ _. u) (λ _.
+      by_if P (not (is_completed T x)) _ _ (λ _. u) (λ _.
+      ap is_S3 (get_gone T x x ∙ at_true (xid_eq x x) None _ (self x))))))
+
+  -- it stays so, and nothing becomes of it
+  record Rests (op : Op) (a : Answer) : Type 0 where
+    unprepared : is_prepared a.0 x ≡ false
+    quiet : fate_of x op a.1 ≡ None
+
+  by_decision : (op : Op) (a : Answer) → Decides x op T a → Rests op a
+  by_decision op a (Nothing same none) = record { unprepared = ap (λ (U : Tables). is_prepared U x) same ∙ u; quiet = none }
+  by_decision op a (Completes d voted state opened told) = let z : true ≡ false = sym voted ∙ u in cc
+
+  by_name : (op : Op) → names x op ≡ true → (is_heur op || is_forget op) ≡ true → Rests op (next t op T)
+  by_name (Heur y commits) n h = by_decision (Heur y commits) _ (decides t x (Heur y commits) T n refl)
+  by_name (Forget y) n h =
+      let same : y ≡ x = (Decides-xid_eq y x).0 n in
+      record { unprepared = ap (λ z. is_prepared (next t (Forget z) T).0 x) same ∙ forget_step; quiet = refl }
+  by_name op n h = cc
+
+  rests : (op : Op) → (names x op ≡ true → (is_heur op || is_forget op) ≡ true) → Rests op (next t op T)
+  rests op only =
+      elim (names x op) as (λ b. names x op ≡ b → Rests op (next t op T)) [
+        | true ↦ λ n. by_name op n (only n)
+        | false ↦ λ n. record { unprepared = by_effect (effect_of t op T) n; quiet = unnamed_fate x op _ n }
+      ] refl
+
+abbrev Only : XidName → Request → Type 0
+Only x r = names x r.op ≡ true → (is_heur r.op || is_forget r.op) ≡ true
+
+pub unprepared_law : (g : History) (x : XidName) (T : Tables) → is_prepared T x ≡ false → OnlyDecides x g → fates_in x (coded g T) ≡ []
+unprepared_law [] x T u only = refl
+unprepared_law (r ∷ g) x T u only =
+    let one = rests r.thread x T u r.op (All-head (Only x) r g only) in
+    let later = unprepared_law g x (next r.thread r.op T).0 one.unprepared (All-tail (Only x) r g only) in
+    λ i. cons_option (one.quiet i) (later i)
+
+-- ---- a manager that is shut
+
+pub quiet_shut : (g : History) (x : XidName) (T : Tables) → T.shut ≡ true → fates_in x (coded g T) ≡ []
+quiet_shut [] x T s = refl
+quiet_shut (r ∷ g) x T s =
+    ap (λ (a : Answer). cons_option (fate_of x r.op a.1) (fates_in x (coded g a.0))) (next-shut r.thread r.op T s)
+    ∙ ap (λ o. cons_option o (fates_in x (coded g T))) ((error_tells r.op RmFail refl).fates x) ∙ quiet_shut g x T s
+
+-- ---- who is told a decision
+
+abbrev is_told : Code → Bool
+is_told HeurCom = true
+is_told HeurRb = true
+is_told c = false
+
+tells_it : (d : HeuristicDecision) → is_told (decision_code d) ≡ true
+tells_it decision.Commit = refl
+tells_it decision.Rollback = refl
+
+same_decision : (c d : HeuristicDecision) → decision_code c ≡ decision_code d → Some (HeuristicallyCompleted c) ≡ Some (HeuristicallyCompleted d)
+same_decision decision.Commit decision.Commit e = refl
+same_decision decision.Commit decision.Rollback e = cc
+same_decision decision.Rollback decision.Commit e = cc
+same_decision decision.Rollback decision.Rollback e = refl
+
+completed_with : (o : Option State) (d : HeuristicDecision) → is_S5 o ≡ true → decision_in o ≡ decision_code d → o ≡ Some (HeuristicallyCompleted d)
+completed_with None d is e = cc
+completed_with (Some Active) d is e = cc
+completed_with (Some Idle) d is e = cc
+completed_with (Some S3) d is e = cc
+completed_with (Some (RollbackOnly reason)) d is e = cc
+completed_with (Some (HeuristicallyCompleted c)) d is e = same_decision c d e
+
+reason_tells_none : (r : RollbackReason) → is_told (reason_code r) ≡ false
+reason_tells_none Failed = refl
+reason_tells_none Transient = refl
+
+reason_is_none : (o : Option State) → is_S4 o ≡ true → is_told (reason_in o) ≡ false
+reason_is_none None is = cc
+reason_is_none (Some Active) is = cc
+reason_is_none (Some Idle) is = cc
+reason_is_none (Some S3) is = cc
+reason_is_none (Some (RollbackOnly reason)) is = reason_tells_none reason
+reason_is_none (Some (HeuristicallyCompleted d)) is = cc
+
+module _ (t : ℕ) (x : XidName) (d : HeuristicDecision) (T : Tables) where
+  abbrev Told : Answer → Type 0
+  Told a = a.1 ≡ decision_code d → IsTold x d T a
+
+  -- another code tells none
+  no_decision : (a : Answer) → is_told a.1 ≡ false → Told a
+  no_decision a none e = let z : false ≡ true = sym none ∙ ap is_told e ∙ tells_it d in cc
+
+  as_decided : is_completed T x ≡ true → Told (T, decision_of T x)
+  as_decided is e = record { state = completed_with (state_of T x) d is e; unchanged = refl }
+
+  pub commit_tells : Told (next t (Commit x false) T)
+  unfolding next
+  commit_tells =
+      by_if Told (T.shut) _ _ (λ _. no_decision (T, RmFail) refl) (λ _.
+      by_if Told (not (has_opened T t)) _ _ (λ _. no_decision (T, Proto) refl) (λ _.
+      by_if Told (not (exists T x)) _ _ (λ _. no_decision (T, Nota) refl) (λ _.
+      by_if Told (is_completed T x) _ _ (λ is. as_decided is) (λ _.
+      by_if Told (is_somebody_associated T.associations x || not (is_prepared T x)) _ _ (λ _. no_decision (T, Proto) refl) (λ _. no_decision (gone x (committed x T), Done) refl)))))
+
+  pub rollback_tells : Told (next t (Rollback x) T)
+  unfolding next
+  rollback_tells =
+      by_if Told (T.shut) _ _ (λ _. no_decision (T, RmFail) refl) (λ _.
+      by_if Told (not (has_opened T t)) _ _ (λ _. no_decision (T, Proto) refl) (λ _.
+      by_if Told (not (exists T x)) _ _ (λ _. no_decision (T, Nota) refl) (λ _.
+      by_if Told (is_completed T x) _ _ (λ is. as_decided is) (λ _.
+      by_if Told (is_somebody_associated T.associations x) _ _ (λ _. no_decision (T, Proto) refl) (λ _.
+      by_if Told (is_rollback_only T x) _ _ (λ doomed. no_decision (gone x T, reason_of T x) (reason_is_none (state_of T x) doomed)) (λ _. no_decision (gone x T, Done) refl))))))
