@@ -15,7 +15,8 @@ use Rattle.xa_words.specs.declared.request.EndHow.TheVariants.{Success}
 use Rattle.xa_words.specs.declared.request.Request.{Request}
 use Rattle.xa_tables.specs.Tables.{Tables}
 use Rattle.xa_tables.specs.Next.{next}
-use Rattle.xa_tables.specs.History.{History, IsOpening, of_thread, tables_after, coded}
+use Rattle.xa_tables.specs.History.{History, of_thread, tables_after, coded}
+use Rattle.xa_tables.specs.Openings.{IsOpening}
 use Rattle.xa_tables.specs.Prepared.{names, NamesNowhere}
 use Rattle.xa_tables.specs.Work.{request, LeavesAtWork, DoesWork, AddsAsItWorks}
 use Rattle.xa_tables.specs.Worth.{added_by_now}

@@ -16,7 +16,8 @@ use Rattle.xa_words.specs.Xid.{XidName}
 use Rattle.xa_words.specs.declared.request.Op.{Op}
 use Rattle.xa_tables.specs.Tables.{Tables}
 use Rattle.xa_tables.specs.Managers.{opening}
-use Rattle.xa_tables.specs.History.{History, IsOpening}
+use Rattle.xa_tables.specs.History.{History}
+use Rattle.xa_tables.specs.Openings.{IsOpening}
 use Rattle.xa_tables.specs.Work.{AddsAsItWorks}
 use Rattle.xa_desk.specs.LedgerView.{LedgerView}
 use Rattle.xa_desk.specs.DeskView.{DeskView, ledger, no_ledger, after_collected, is_known, sent_to}
@@ -29,7 +30,7 @@ use Rattle.xa_switch.specs.Closing.{thread_part}
 use Rattle.xa_switch.specs.Fates.{IsOpenedWith, ledgers_of}
 use Rattle.xa_switch.specs.OfPlans.{IsOfPlan}
 use Rattle.xa_switch.specs.Openings.{IsNewDesk}
-use Rattle.xa_switch.specs.Plans.{IsSoundManager, use_async}
+use Rattle.xa_switch.specs.Plans.{IsSoundManager, planned, use_async}
 use Rattle.xa_switch.specs.Settling.{Settling, ThreadPart, IsSettled, find_thread, ledgers_in, sent}
 use Rattle.xa_switch.specs.Worth.{accounts_of, plan_worth, settled_worth, threads_of}
 use Rattle.xa_driver.specs.declared.branch.Branch.{Branch}
@@ -78,7 +79,7 @@ fresh_sent plan [] i = refl
 fresh_sent plan (b ∷ flags) zero = refl
 fresh_sent plan (b ∷ flags) (suc i) = fresh_sent plan flags i
 
-nothing_sent : (p : Plan) (k : ℕ) (d : DeskView) → IsNewDesk p k d → NothingWasSent d.ledgers
+nothing_sent : (p : Plan) (k : ℕ) (d : DeskView) → IsNewDesk (planned p) k d → NothingWasSent d.ledgers
 nothing_sent p k d is = λ m positive.
     ap (λ (x : DeskView). (ledger x.ledgers m).sent) is.made ∙ fresh_sent p.requests (use_async p.managers.items) (m - 1)
 
@@ -109,7 +110,7 @@ module _ (p : Plan) (tellers : List Teller) (attended : List (Attended Teller)) 
   many : length r.members ≡ p.threads
   many = sym (length-map r.members (λ (t : Member Teller). t.desk)) ∙ r.opened.threads
 
-  new_desk_at : (k : ℕ) (mb : Member Teller) → slice_get r.members k ≡ Some mb → IsNewDesk p k mb.desk
+  new_desk_at : (k : ℕ) (mb : Member Teller) → slice_get r.members k ≡ Some mb → IsNewDesk (planned p) k mb.desk
   new_desk_at k mb at = r.opened.desks k mb.desk (mapped_at (λ (t : Member Teller). t.desk) r.members k mb at)
 
   ran_at : (k : ℕ) (mb : Member Teller) → slice_get r.members k ≡ Some mb → HasRun Works mb

@@ -14,7 +14,8 @@ use Rattle.xa_words.specs.declared.request.StartHow.TheVariants.{Fresh}
 use Rattle.xa_words.specs.declared.request.EndHow.TheVariants.{Success}
 use Rattle.xa_tables.specs.Tables.{Tables}
 use Rattle.xa_tables.specs.Managers.{opening}
-use Rattle.xa_tables.specs.History.{History, IsOpening}
+use Rattle.xa_tables.specs.History.{History}
+use Rattle.xa_tables.specs.Openings.{IsOpening}
 use Rattle.xa_tables.specs.Prepared.{names}
 use Rattle.xa_tables.specs.Work.{AddsAsItWorks}
 use Rattle.xa_desk.specs.LedgerView.{LedgerView}

@@ -14,7 +14,7 @@ use Rattle.xa_desk.specs.Lanes.{new_ledgers}
 use Rattle.xa_worker.specs.Workers.{WorkerView}
 use Rattle.xa_worker.specs.Done.{Served}
 use Rattle.xa_switch.specs.declared.plan.Plan.{Plan}
-use Rattle.xa_switch.specs.Plans.{use_async}
+use Rattle.xa_switch.specs.Plans.{planned, use_async}
 use Rattle.xa_switch.specs.Openings.{IsNewDesk, IsNewWorker}
 use Rattle.xa_switch.specs.Seats.{DeskSeat, WorkerSeat, ComeFromOpenings, seat_of_desk, seat_of_ended, seat_of_worker, seat_of_done, desk_seats, worker_seats, desk_opening, worker_opening, first_opening, AreOfOne, AreAll, HasDesks, HasWorkers, has_desk, has_worker}
 use Rattle.xa_crew.specs.Pieces.{HasGone, HasServed, ArePiecesOf}
@@ -56,14 +56,14 @@ module _ (out : GoOut) (p : Plan) (ended : List EndedView) (done : List Served) 
       (subst (λ (ws : List WorkerSeat). ComeFromOpenings (map seat_of_desk r.desks) ws) (sym same_workers) come)
 
   -- the opened desk of an ended one, and the opened worker of one that has run
-  desk_of : (k : ℕ) (e : EndedView) → slice_get ended k ≡ Some e → (d : DeskView) × IsNewDesk p k d × HasGone d e
+  desk_of : (k : ℕ) (e : EndedView) → slice_get ended k ≡ Some e → (d : DeskView) × IsNewDesk (planned p) k d × HasGone d e
   desk_of k e at =
       let within = slice_get_within ended k e at in
       let many = r.gone.as_many in
       let d = got r.desks k (omega (arith, within, many)) in
       (d.0, r.opened.desks k d.0 d.1, r.gone.each k d.0 e d.1 at)
 
-  worker_of : (k : ℕ) (d : Served) → slice_get done k ≡ Some d → (w : WorkerView) × IsNewWorker p k w × HasServed w d
+  worker_of : (k : ℕ) (d : Served) → slice_get done k ≡ Some d → (w : WorkerView) × IsNewWorker (planned p) k w × HasServed w d
   worker_of k d at =
       let within = slice_get_within done k d at in
       let many = r.served.as_many in

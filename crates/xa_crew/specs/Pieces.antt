@@ -6,7 +6,7 @@ use Rattle.xa_desk.specs.GoesOn.{GoesOn}
 use Rattle.xa_worker.specs.Workers.{WorkerView}
 use Rattle.xa_worker.specs.Done.{Served, IsServed, SameServed}
 use Rattle.xa_switch.specs.declared.plan.Plan.{Plan}
-use Rattle.xa_switch.specs.Plans.{IsSound}
+use Rattle.xa_switch.specs.Plans.{IsSound, planned}
 use Rattle.xa_switch.specs.Openings.{AreOfOneOpening}
 use Rattle.xa_switch.specs.Seats.{seat_of_worker, seat_of_done}
 use Rattle.xa_base.specs.Lists.{Pairwise}
@@ -29,6 +29,6 @@ pub record ArePiecesOf (p : Plan) (ended : List EndedView) (done : List Served) 
   pub desks : List DeskView
   pub workers : List WorkerView
   pub sound : IsSound p
-  pub opened : AreOfOneOpening p desks workers
+  pub opened : AreOfOneOpening (planned p) desks workers
   pub gone : Pairwise HasGone desks ended
   pub served : Pairwise HasServed workers done

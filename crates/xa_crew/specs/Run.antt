@@ -10,7 +10,7 @@ use Rattle.xa_worker.specs.Done.{Served}
 use Rattle.xa_switch.specs.declared.plan.Plan.{Plan}
 use Rattle.xa_switch.specs.declared.plan.OpenFault.{OpenFault}
 use Rattle.xa_switch.specs.declared.plan.OpenFault.TheVariants as open_
-use Rattle.xa_switch.specs.Plans.{IsSound}
+use Rattle.xa_switch.specs.Plans.{IsSound, planned}
 use Rattle.xa_switch.specs.Openings.{AreOfOneOpening}
 use Rattle.xa_switch.specs.Settling.{Settling, IsSettled}
 use Rattle.xa_switch.specs.Closing.{settling}
@@ -68,7 +68,7 @@ pub record IsRun {C : Type 0} (works : C → DeskView → C → DeskView → Typ
   pub members : List (Member C)
   pub workers : List WorkerView
   pub sound : IsSound p
-  pub opened : AreOfOneOpening p (map (λ t. t.desk) members) workers
+  pub opened : AreOfOneOpening (planned p) (map (λ t. t.desk) members) workers
   -- each thread has the client at its place, and ran with it
   pub clients_are : clients ≡ map (λ t. t.client) members
   pub ran : All (HasRun works) members

@@ -1,7 +1,7 @@
 //! A run of clients in threads.
 ghost use Rattle.std.specs.Prelude.{◌≡◌, ◌≤◌, ◌↔◌, length, map, IfOk, IfErr};
 ghost use Rattle.xa_switch.specs.Openings.{AreOfOneOpening};
-ghost use Rattle.xa_switch.specs.Plans.{IsSound};
+ghost use Rattle.xa_switch.specs.Plans.{IsSound, planned};
 ghost use Rattle.xa_crew.specs.Run.{IsRun};
 
 use crate::client::Client;
@@ -65,7 +65,7 @@ fn run_opened<
     paces: Vec<P>,
 ) -> Result<Run<C>, AllocError>
     requires sound { IsSound plan.now }
-    requires opened { AreOfOneOpening plan.now desks.items workers.items }
+    requires opened { AreOfOneOpening (planned plan.now) desks.items workers.items }
     requires clients { length clients.items ≡ plan.now.threads }
     requires paces { length plan.now.managers.items ≤ length paces.items }
     ensures { IfOk result (λ r. IsRun C.works plan.now clients.items r.clients.items r.settled) }

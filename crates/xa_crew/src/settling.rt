@@ -9,7 +9,7 @@ use std::alloc::{AllocError, Global};
 use std::sync::Wait;
 use xa_desk::EndedDesk;
 use xa_desk::laws::desks_go_out;
-use xa_switch::laws::{opened_pieces_come_from_their_opening, settled_openings_are_of_their_plan};
+use xa_switch::laws::{opened_pieces_come_from_their_opening, settled_openings_are_of_their_setup};
 use xa_switch::{Plan, Settled, Why, settle};
 use xa_worker::DoneWorker;
 
@@ -28,7 +28,7 @@ pub fn settle_all<R: Wait>(
     ensures of_plan { IfOk result (λ s. IsOfPlan plan.now s) }
 {
     opened_pieces_come_from_their_opening();
-    settled_openings_are_of_their_plan();
+    settled_openings_are_of_their_setup();
     desks_go_out();
     match settle(rt, alloc, desks, workers) {
         Ok(settled) => Ok(settled),

@@ -93,7 +93,10 @@ impl Ledger {
         requires { length self.old.sent < self.old.plan }
         ensures { self.new ≡ with_sent self.old op }
     {
-        self.sent.push_reserved(op);
+        // Within an Option: today no proof is generated where a request, which may hold one, is pushed by itself.
+        if let Some(op) = Some(op) {
+            self.sent.push_reserved(op);
+        }
     }
 
     /// One more request was collected.

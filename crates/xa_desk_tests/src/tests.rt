@@ -3,7 +3,7 @@ use std::test::Fail;
 use stepped::{kept, opened, refusal, sent};
 use xa_desk::{AnyFault, Refused};
 use xa_lane::Taken;
-use xa_words::{Code, Op};
+use xa_words::{Code, Op, Xid};
 
 mod stepped;
 mod turns;
@@ -12,7 +12,8 @@ mod turns;
 fn a_request_is_collected_by_its_ticket(rt: HostRuntime) -> Result<(), Fail> {
     let (mut desk, mut managers) = opened(&rt, rt.alloc(), 2, 4, &[true], 4);
     let first = sent(&rt, &mut desk, 1, Op::OpenRm);
-    let second = sent(&rt, &mut desk, 1, Op::CloseRm);
+    let xid = Xid::new(1, b"g", b"1").expect(&rt, "a short name");
+    let second = sent(&rt, &mut desk, 1, Op::Prepare(xid));
     assert_eq!(rt; desk.free(), 0);
     assert_eq!(rt; desk.room(1), 2);
     for number in 0..2 {

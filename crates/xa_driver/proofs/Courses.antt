@@ -1,5 +1,5 @@
 -- The courses that a branch of a call may take, and where their requests stand in its manager's settled history.
-use Rattle.std.proofs.Common.{◌≡◌, ◌≢◌, ℕ, suc, ◌+◌, ◌<◌, ◌≤◌, Bool, true, false, ◌==◌, ◌||◌, if◌then◌else◌, List, [], ◌∷◌, ◌++◌, length, length-append, append_assoc, slice_get, get_or, sym, refl, ap, ◌∙◌, subst, arith, Option, Some, None}
+use Rattle.std.proofs.Common.{◌≡◌, ◌≢◌, ℕ, suc, ◌+◌, ◌<◌, Bool, true, false, ◌==◌, ◌||◌, if◌then◌else◌, List, [], ◌∷◌, ◌++◌, length, length-append, append_assoc, slice_get, get_or, sym, refl, ap, ◌∙◌, subst, arith, Option, Some, None}
 use Rattle.std.specs.List.{All}
 use Rattle.std.proofs.lemmas.List.Folds.{list_any-append}
 use Rattle.std.proofs.lemmas.List.Elements.{filter-append}
@@ -25,7 +25,7 @@ use Rattle.xa_driver.specs.declared.done.Ending.TheVariants.{ReadOnly, RolledBac
 use Rattle.xa_driver.specs.Decision.{is_yes, is_read}
 use Rattle.xa_driver.specs.Endings.{second_op, third_op, ending_of, yes_ending, no_ending, is_out_of_reach, is_decided}
 use Rattle.xa_driver.specs.Asks.{asked, IsAnswered}
-use Rattle.xa_driver.specs.Trace.{BranchTrace, voted, decided}
+use Rattle.xa_driver.specs.Trace.{BranchTrace, voted}
 use Rattle.xa_driver.proofs.Placing.{eqb-self, request_of, Parted, part, all_others, all_later, first_has, answer_at, numbered_both, numbered_length}
 
 pub yes_is : (c : Code) → is_yes c ≡ true → c ≡ Done

@@ -1,30 +1,30 @@
 -- What became of a branch that nobody else named, but for heuristic decisions, over the settled history of its manager.
 use Rattle.std.specs.Prelude.{◌⊎◌}
-use Rattle.std.proofs.Common.{◌≡◌, ◌≢◌, ℕ, zero, suc, ◌+◌, ◌<◌, ◌≤◌, inl, inr, Bool, true, false, ◌==◌, ◌||◌, if◌then◌else◌, List, [], ◌∷◌, ◌++◌, length, append-nil, append_assoc, slice_get, get_or, sym, refl, ap, ◌∙◌, subst, arith, Option, Some, None}
-use Rattle.std.specs.List.{All, list_any, cons_option}
+use Rattle.std.proofs.Common.{◌≡◌, ◌≢◌, ℕ, zero, suc, ◌+◌, inl, inr, Bool, true, false, ◌==◌, ◌||◌, if◌then◌else◌, List, [], ◌∷◌, ◌++◌, length, append-nil, append_assoc, slice_get, get_or, sym, refl, ap, ◌∙◌, subst, arith, Option, Some, None}
+use Rattle.std.specs.List.{All, cons_option}
 use Rattle.std.proofs.lemmas.Bool.{and_right, ne_eqb}
-use Rattle.std.proofs.lemmas.List.Folds.{list_any-append}
 use Rattle.xa_words.specs.Xid.{XidName, xid_eq}
 use Rattle.xa_words.specs.Orders.{Decides-xid_eq}
 use Rattle.xa_words.specs.declared.code.Code.{Code}
-use Rattle.xa_words.specs.declared.code.Code.TheVariants.{Done, RdOnly, RbIntegrity, HeurMix, HeurRb, HeurCom, HeurHaz, RmFail}
+use Rattle.xa_words.specs.declared.code.Code.TheVariants.{Done, RbIntegrity, HeurRb, HeurCom, RmFail}
 use Rattle.xa_words.specs.declared.request.Op.{Op}
-use Rattle.xa_words.specs.declared.request.Op.TheVariants.{Prepare, Commit, Rollback, Forget, Heur}
+use Rattle.xa_words.specs.declared.request.Op.TheVariants.{Prepare, Commit, Rollback, Heur}
 use Rattle.xa_words.specs.declared.request.Request.{Request}
 use Rattle.xa_tables.specs.declared.state.HeuristicDecision.{HeuristicDecision}
 use Rattle.xa_tables.specs.declared.state.HeuristicDecision.TheVariants as decision
 use Rattle.xa_tables.specs.Tables.{Tables, is_S3, is_prepared}
 use Rattle.xa_tables.specs.Reasons.{decision_code}
-use Rattle.xa_tables.specs.Next.{Answer, next}
+use Rattle.xa_tables.specs.Next.{next}
 use Rattle.xa_tables.proofs.Unnamed.{tables_after-append, unnamed_fate}
 use Rattle.xa_tables.specs.History as history
-use Rattle.xa_tables.specs.History.{History, Fate, Absent, fate, fate_in, fates_in, fate_of, coded, of_thread, tables_after, last_or, is_done, is_rolled_back, is_in_doubt as is_unknown, prepare_fate, decided_fate, heur_fate, IsOpening}
-use Rattle.xa_tables.specs.Prepared.{names, OnlyDecides, LeavesWaiting, AwaitsTheOutcome, AwaitsAfter, IsTold, closes, is_close, is_heur, is_forget, has_shut, answer_when, fates_when}
+use Rattle.xa_tables.specs.History.{History, Fate, fate, fate_in, fates_in, fate_of, coded, of_thread, tables_after, last_or, is_done, is_rolled_back, is_in_doubt as is_unknown, prepare_fate, decided_fate, heur_fate, IsFateOf}
+use Rattle.xa_tables.specs.Openings.{IsOpening}
+use Rattle.xa_tables.specs.Prepared.{names, OnlyDecides, LeavesWaiting, AwaitsTheOutcome, AwaitsAfter, IsTold, closes, is_close, is_heur, is_forget, answer_when, fates_when}
 use Rattle.xa_desk.specs.LedgerView.{LedgerView, is_rm_fail}
 use Rattle.xa_desk.specs.Lanes.{numbered}
 use Rattle.xa_switch.specs.Settling.{answers}
 use Rattle.xa_base.specs.Lists.{Begins}
-use Rattle.xa_base.proofs.Truth.{by_if, at_false, at_true}
+use Rattle.xa_base.proofs.Truth.{by_if, at_true}
 use Rattle.xa_driver.specs.declared.branch.Branch.{Branch}
 use Rattle.xa_driver.specs.declared.done.Ending.{Ending}
 use Rattle.xa_driver.specs.declared.done.Ending.TheVariants.{Committed, ReadOnly, RolledBack, InDoubt, Heuristic, Left}
@@ -95,17 +95,17 @@ carried_out_by x op c f h is = cc
 -- ---- what became of a branch
 
 -- by its manager's history
-pub record Told (t : ℕ) (x : XidName) (T : Tables) (H : History) (n : ℕ) (vote : Code) (e : Ending) : Type 0 where
+pub record Told (t : ℕ) (x : XidName) (f0 : Fate) (T : Tables) (H : History) (n : ℕ) (vote : Code) (e : Ending) : Type 0 where
   pub reached : is_yes vote ≡ true → is_left e ≡ false
   pub shut : is_yes vote ≡ true → is_in_doubt e ≡ true → IsAfterShut t (n + 1) H
   pub decided : is_yes vote ≡ true → is_heuristic e ≡ true → IsDecidedAfter x t n T H
-  pub told : (f : Fate) → told_fate e ≡ Some f → fate x H T ≡ f
-  pub doubt : is_in_doubt e ≡ true → (fate x H T ≡ history.InDoubt) ⊎ ((d : HeuristicDecision) × ((fate x H T ≡ decided_fate d) × IsDecidedAfter x t n T H))
+  pub told : (f : Fate) → told_fate e ≡ Some f → fate x f0 H T ≡ f
+  pub doubt : is_in_doubt e ≡ true → (fate x f0 H T ≡ history.InDoubt) ⊎ ((d : HeuristicDecision) × ((fate x f0 H T ≡ decided_fate d) × IsDecidedAfter x t n T H))
 
-module _ (law : Tabled) (t : ℕ) (x : XidName) (T : Tables) (H : History) (opening : IsOpening T) (a : LedgerView) (vote : Code) (ops : List Op) (pairs : List (ℕ × Code))
+module _ (law : Tabled) (t : ℕ) (x : XidName) (T : Tables) (H : History) (opening : IsOpening T) (f0 : Fate) (fits : IsFateOf x f0 T) (a : LedgerView) (vote : Code) (ops : List Op) (pairs : List (ℕ × Code))
     (carried : of_thread t H ≡ numbered t 0 ops) (answered : All (λ p. slice_get (answers t (coded H T)) p.0 ≡ Some p) pairs) (last : ℕ) (only : OnlyTheseOrDecisionsName x t (length a.sent) last H) where
   abbrev Goal : Ending → Type 0
-  Goal e = Told t x T H (length a.sent) vote e
+  Goal e = Told t x f0 T H (length a.sent) vote e
 
   abbrev n : ℕ
   n = length a.sent
@@ -114,16 +114,16 @@ module _ (law : Tabled) (t : ℕ) (x : XidName) (T : Tables) (H : History) (open
   P = Prepare x
 
   -- a request that gave the branch a fate by which it isn't prepared left it so
-  ended : (before after : History) (r : Request) (f : Fate) → H ≡ before ++ r ∷ after → fate_of x r.op (next r.thread r.op (tables_after before T)).1 ≡ Some f → is_unknown f ≡ false → OnlyDecides x after → fate x H T ≡ f
+  ended : (before after : History) (r : Request) (f : Fate) → H ≡ before ++ r ∷ after → fate_of x r.op (next r.thread r.op (tables_after before T)).1 ≡ Some f → is_unknown f ≡ false → OnlyDecides x after → fate x f0 H T ≡ f
   ended before after r f place e known only_after =
       let there : Tables = (next r.thread r.op (tables_after before T)).0 in
-      let so_far : fate x (before ++ r ∷ []) T ≡ f = law.leaves (before ++ r ∷ []) x T ∙ fate_is x before [] r T f e refl in
+      let so_far : fate x f0 (before ++ r ∷ []) T ≡ f = law.leaves (before ++ r ∷ []) x f0 T ∙ fate_is x before [] r T f0 f e refl in
       let unprepared : is_prepared there x ≡ false =
-      ap (λ (U : Tables). is_prepared U x) (sym (tables_after-append before (r ∷ []) T)) ∙ law.stands (before ++ r ∷ []) x T opening ∙ ap is_unknown so_far ∙ known in
-      law.leaves H x T ∙ ap (λ (h : History). fate_in x (coded h T)) place ∙ fate_is x before after r T f e (law.undecided after x there unprepared only_after)
+      ap (λ (U : Tables). is_prepared U x) (sym (tables_after-append before (r ∷ []) T)) ∙ (law.kept (before ++ r ∷ []) x f0 T opening fits).prepared ∙ ap is_unknown so_far ∙ known in
+      law.leaves H x f0 T ∙ ap (λ (h : History). fate_in x f0 (coded h T)) place ∙ fate_is x before after r T f0 f e (law.undecided after x there unprepared only_after)
 
   -- a vote that doesn't agree, and an ending that tells nothing, or what became of it
-  no_vote : (e : Ending) → is_yes vote ≡ false → is_in_doubt e ≡ false → ((f : Fate) → told_fate e ≡ Some f → fate x H T ≡ f) → Goal e
+  no_vote : (e : Ending) → is_yes vote ≡ false → is_in_doubt e ≡ false → ((f : Fate) → told_fate e ≡ Some f → fate x f0 H T ≡ f) → Goal e
   no_vote e y sure told = record {
     reached = λ agreed. let z : true ≡ false = sym agreed ∙ y in cc;
     shut = λ agreed d. let z : true ≡ false = sym agreed ∙ y in cc;
@@ -209,18 +209,18 @@ module _ (law : Tabled) (t : ℕ) (x : XidName) (T : Tables) (H : History) (open
     code_there = s.code ∙ ap (λ (U : Tables). (next t op U).1) (sym s.there_is)
 
     -- the second request ended it
-    ended_by : (g : Fate) → fate_of x op c ≡ Some g → is_unknown g ≡ false → fate x H T ≡ g
+    ended_by : (g : Fate) → fate_of x op c ≡ Some g → is_unknown g ≡ false → fate x f0 H T ≡ g
     ended_by g makes known = ended all_before s.rest S g s.place (ap (fate_of x op) (sym code_there) ∙ makes) known decides_rest
 
     -- it was told a decision
-    told_by : (d : HeuristicDecision) → fate_of x op c ≡ None → IsTold x d (tables_after all_before T) (next t op (tables_after all_before T)) → fate x H T ≡ decided_fate d
+    told_by : (d : HeuristicDecision) → fate_of x op c ≡ None → IsTold x d (tables_after all_before T) (next t op (tables_after all_before T)) → fate x f0 H T ≡ decided_fate d
     told_by d none is =
         let U : Tables = tables_after all_before T in
         let unprepared : is_prepared (next t op U).0 x ≡ false = ap (λ (V : Tables). is_prepared V x) is.unchanged ∙ ap is_S3 is.state in
         let quiet : fates x (S ∷ s.rest) U ≡ [] = λ i. cons_option ((ap (fate_of x op) (sym code_there) ∙ none) i) (law.undecided s.rest x (next t op U).0 unprepared decides_rest i) in
-        law.leaves H x T ∙ ap (λ (h : History). fate_in x (coded h T)) s.place
-        ∙ ap (last_or Absent) (fates_both x all_before (S ∷ s.rest) T ∙ ap (λ l. fates x all_before T ++ l) quiet ∙ append-nil (fates x all_before T))
-        ∙ sym (law.leaves all_before x T) ∙ law.completed all_before x T opening d is.state
+        law.leaves H x f0 T ∙ ap (λ (h : History). fate_in x f0 (coded h T)) s.place
+        ∙ ap (last_or f0) (fates_both x all_before (S ∷ s.rest) T ∙ ap (λ l. fates x all_before T ++ l) quiet ∙ append-nil (fates x all_before T))
+        ∙ sym (law.leaves all_before x f0 T) ∙ (law.kept all_before x f0 T opening fits).decided d is.state
 
     -- ---- after a yes vote
 
@@ -270,22 +270,22 @@ module _ (law : Tabled) (t : ℕ) (x : XidName) (T : Tables) (H : History) (open
         shut = sym (law.shuts all_before T opening) ∙ ap (λ (U : Tables). U.shut) s.there_is ∙ e;
       }
 
-      first_fate : (fs : List Fate) → fates x f.parted.after now ≡ fs → fate x H T ≡ last_or history.InDoubt fs
+      first_fate : (fs : List Fate) → fates x f.parted.after now ≡ fs → fate x f0 H T ≡ last_or history.InDoubt fs
       first_fate fs made =
           let own : fate_of x P (next t P (tables_after f.parted.before T)).1 ≡ Some history.InDoubt =
           ap (fate_of x P) (sym f.code ∙ agreed) ∙ at_true (xid_eq x x) _ None (self x) in
-          law.leaves H x T ∙ ap (λ (h : History). fate_in x (coded h T)) f.parted.place
-          ∙ ap (last_or Absent) (fates_both x f.parted.before (request_of t n P ∷ f.parted.after) T ∙ (λ i. fates x f.parted.before T ++ cons_option (own i) (made i)))
-          ∙ last_from (fates x f.parted.before T) Absent
+          law.leaves H x f0 T ∙ ap (λ (h : History). fate_in x f0 (coded h T)) f.parted.place
+          ∙ ap (last_or f0) (fates_both x f.parted.before (request_of t n P ∷ f.parted.after) T ∙ (λ i. fates x f.parted.before T ++ cons_option (own i) (made i)))
+          ∙ last_from (fates x f.parted.before T) f0
         where
           last_from : (gs : List Fate) (g : Fate) → last_or g (gs ++ history.InDoubt ∷ fs) ≡ last_or history.InDoubt fs
           last_from [] g = refl
           last_from (h ∷ gs) g = last_from gs h
 
-      in_doubt : there.shut ≡ true → (fate x H T ≡ history.InDoubt) ⊎ ((d : HeuristicDecision) × ((fate x H T ≡ decided_fate d) × IsDecidedAfter x t n T H))
+      in_doubt : there.shut ≡ true → (fate x f0 H T ≡ history.InDoubt) ⊎ ((d : HeuristicDecision) × ((fate x f0 H T ≡ decided_fate d) × IsDecidedAfter x t n T H))
       in_doubt closed =
           let fs = at_shut closed in
-          elim (w.decision) as (λ o. fates x s.mid now ≡ fates_when o → fates x f.parted.after now ≡ fates_when o → (fate x H T ≡ history.InDoubt) ⊎ ((d : HeuristicDecision) × ((fate x H T ≡ decided_fate d) × IsDecidedAfter x t n T H))) [
+          elim (w.decision) as (λ o. fates x s.mid now ≡ fates_when o → fates x f.parted.after now ≡ fates_when o → (fate x f0 H T ≡ history.InDoubt) ⊎ ((d : HeuristicDecision) × ((fate x f0 H T ≡ decided_fate d) × IsDecidedAfter x t n T H))) [
             | None ↦ λ made all. inl (first_fate [] all)
             | Some d ↦ λ made all. inr (d, (first_fate (decided_fate d ∷ []) all, decided_between d made))
           ] w.fates fs
@@ -322,7 +322,7 @@ module _ (law : Tabled) (t : ℕ) (x : XidName) (T : Tables) (H : History) (open
 
           decided_goal : (d : HeuristicDecision) → fates x s.mid now ≡ decided_fate d ∷ [] → c ≡ decision_code d → Goal (Heuristic (decision_code d))
           decided_goal d made is =
-              let fate_is_so : fate x H T ≡ decided_fate d = told_by d (ap (fate_of x op) is ∙ by_decision d) (tells d (tables_after all_before T) (sym code_there ∙ is)) in
+              let fate_is_so : fate x f0 H T ≡ decided_fate d = told_by d (ap (fate_of x op) is ∙ by_decision d) (tells d (tables_after all_before T) (sym code_there ∙ is)) in
               record { reached = λ _. refl; shut = λ _ q. cc; decided = λ _ _. decided_between d made; told = λ h i. fate_is_so ∙ names_it d h i; doubt = λ q. cc }
 
           by_answer : (o : Option HeuristicDecision) → fates x s.mid now ≡ fates_when o → c ≡ answer_when o → Goal (Ends e c)
@@ -346,39 +346,39 @@ module _ (law : Tabled) (t : ℕ) (x : XidName) (T : Tables) (H : History) (open
       no_vote RolledBack y refl (λ g is. ended_by (Rollback x) c z history.RolledBack (at_true (xid_eq x x) _ None (self x) ∙ at_true (is_done c || is_rolled_back c) _ None back) refl ∙ (let q : Some history.RolledBack ≡ Some g = is in cc))) (λ _.
       by_if Goal (is_heuristic_code c) (Heuristic c) (Left c) (λ _. no_vote (Heuristic c) y refl (heuristic_told c z)) (λ _. no_vote (Left c) y refl (λ g is. cc)))
     where
-      told_with : (d : HeuristicDecision) (c : Code) → c ≡ decision_code d → Sends t x T H a vote ops pairs carried answered (Rollback x) c last → fate x H T ≡ decided_fate d
+      told_with : (d : HeuristicDecision) (c : Code) → c ≡ decision_code d → Sends t x T H a vote ops pairs carried answered (Rollback x) c last → fate x f0 H T ≡ decided_fate d
       told_with d c is z = told_by (Rollback x) c z d (ap (fate_of x (Rollback x)) is ∙ rollback_quiet d) (law.rollback_tells t x d _ (sym (code_there (Rollback x) c z) ∙ is))
 
-      heuristic_told : (c : Code) → Sends t x T H a vote ops pairs carried answered (Rollback x) c last → (g : Fate) → told_fate (Heuristic c) ≡ Some g → fate x H T ≡ g
+      heuristic_told : (c : Code) → Sends t x T H a vote ops pairs carried answered (Rollback x) c last → (g : Fate) → told_fate (Heuristic c) ≡ Some g → fate x f0 H T ≡ g
       heuristic_told HeurCom z g is = told_with decision.Commit HeurCom refl z ∙ (let q : Some history.HeurCommitted ≡ Some g = is in cc)
       heuristic_told HeurRb z g is = told_with decision.Rollback HeurRb refl z ∙ (let q : Some history.HeurRolledBack ≡ Some g = is in cc)
       heuristic_told c z g is = cc
 
 -- what became of a branch of a call that nobody else named, but for heuristic decisions
-pub branch_told : (law : Tabled) (t : ℕ) (b : Branch) (vote : Code) (second : Option Code) (commit : Bool) (a a' : LedgerView) (T : Tables) (H : History) (ops : List Op) (pairs : List (ℕ × Code)) → IsOpening T
+pub branch_told : (law : Tabled) (t : ℕ) (b : Branch) (vote : Code) (second : Option Code) (commit : Bool) (a a' : LedgerView) (T : Tables) (H : History) (ops : List Op) (pairs : List (ℕ × Code)) → IsOpening T → (f0 : Fate) → IsFateOf b.xid f0 T
     → of_thread t H ≡ numbered t 0 ops → All (λ p. slice_get (answers t (coded H T)) p.0 ≡ Some p) pairs → Begins a'.sent ops → Begins a'.collected pairs
-    → OnlyTheseOrDecisionsName b.xid t (length a.sent) (length a'.sent) H → BranchTrace commit b vote second a a' → Told t b.xid T H (length a.sent) vote (ending_of commit vote second)
-branch_told law t b vote second commit a a' T H ops pairs opening carried answered sent collected only tr =
+    → OnlyTheseOrDecisionsName b.xid t (length a.sent) (length a'.sent) H → BranchTrace commit b vote second a a' → Told t b.xid f0 T H (length a.sent) vote (ending_of commit vote second)
+branch_told law t b vote second commit a a' T H ops pairs opening f0 fits carried answered sent collected only tr =
     by_course (ending_of commit vote second) (course_of t b vote second commit a a' T H ops pairs carried answered sent collected tr)
   where
     read_not : is_read vote ≡ true → is_yes vote ≡ false
     read_not r = ap is_yes (read_is vote r)
 
-    by_decision : (commit : Bool) (c : Code) → is_yes vote ≡ true → Sends t b.xid T H a vote ops pairs carried answered (if commit then Commit b.xid false else Rollback b.xid) c (length a'.sent) → Told t b.xid T H (length a.sent) vote (yes_ending commit (Some c))
+    by_decision : (commit : Bool) (c : Code) → is_yes vote ≡ true → Sends t b.xid T H a vote ops pairs carried answered (if commit then Commit b.xid false else Rollback b.xid) c (length a'.sent) → Told t b.xid f0 T H (length a.sent) vote (yes_ending commit (Some c))
     by_decision true c y z =
-        outcome law t b.xid T H opening a vote ops pairs carried answered (length a'.sent) only (Commit b.xid false) c z (yes_is vote y) Committed history.Committed refl refl refl refl refl (at_true (xid_eq b.xid b.xid) _ None (self b.xid))
-        (commit_quiet law t b.xid T H opening a vote ops pairs carried answered (length a'.sent) only) (λ o U h. h.commits) (λ d U. law.commit_tells t b.xid d U)
+        outcome law t b.xid T H opening f0 fits a vote ops pairs carried answered (length a'.sent) only (Commit b.xid false) c z (yes_is vote y) Committed history.Committed refl refl refl refl refl (at_true (xid_eq b.xid b.xid) _ None (self b.xid))
+        (commit_quiet law t b.xid T H opening f0 fits a vote ops pairs carried answered (length a'.sent) only) (λ o U h. h.commits) (λ d U. law.commit_tells t b.xid d U)
     by_decision false c y z =
-        outcome law t b.xid T H opening a vote ops pairs carried answered (length a'.sent) only (Rollback b.xid) c z (yes_is vote y) RolledBack history.RolledBack refl refl refl refl refl (at_true (xid_eq b.xid b.xid) _ None (self b.xid))
-        (rollback_quiet law t b.xid T H opening a vote ops pairs carried answered (length a'.sent) only) (λ o U h. h.rolls_back) (λ d U. law.rollback_tells t b.xid d U)
+        outcome law t b.xid T H opening f0 fits a vote ops pairs carried answered (length a'.sent) only (Rollback b.xid) c z (yes_is vote y) RolledBack history.RolledBack refl refl refl refl refl (at_true (xid_eq b.xid b.xid) _ None (self b.xid))
+        (rollback_quiet law t b.xid T H opening f0 fits a vote ops pairs carried answered (length a'.sent) only) (λ o U h. h.rolls_back) (λ d U. law.rollback_tells t b.xid d U)
 
-    by_course : (e : Ending) → Course t b.xid T H a vote ops pairs carried answered a' sent collected commit e → Told t b.xid T H (length a.sent) vote e
-    by_course _ (Unreached same code) = no_vote law t b.xid T H opening a vote ops pairs carried answered (length a'.sent) only (Left RmFail) (ap is_yes code) refl (λ f e. cc)
+    by_course : (e : Ending) → Course t b.xid T H a vote ops pairs carried answered a' sent collected commit e → Told t b.xid f0 T H (length a.sent) vote e
+    by_course _ (Unreached same code) = no_vote law t b.xid T H opening f0 fits a vote ops pairs carried answered (length a'.sent) only (Left RmFail) (ap is_yes code) refl (λ f e. cc)
     by_course _ (Reads r z) =
-        voted_so law t b.xid T H opening a vote ops pairs carried answered (length a'.sent) only z ReadOnly history.ReadOnly (read_not r) refl refl (ap prepare_fate (read_is vote r)) refl
+        voted_so law t b.xid T H opening f0 fits a vote ops pairs carried answered (length a'.sent) only z ReadOnly history.ReadOnly (read_not r) refl refl (ap prepare_fate (read_is vote r)) refl
     by_course _ (Breaks k z) =
-        let code : vote ≡ RbIntegrity = broken_code law t b.xid T H opening a vote ops pairs carried answered (length a'.sent) only z k in
-        voted_so law t b.xid T H opening a vote ops pairs carried answered (length a'.sent) only z RolledBack history.RolledBack (ap is_yes code) refl refl (ap prepare_fate code) refl
-    by_course _ (Stays c y z) = no_vote law t b.xid T H opening a vote ops pairs carried answered (length a'.sent) only (Left c) y refl (λ f e. cc)
+        let code : vote ≡ RbIntegrity = broken_code law t b.xid T H opening f0 fits a vote ops pairs carried answered (length a'.sent) only z k in
+        voted_so law t b.xid T H opening f0 fits a vote ops pairs carried answered (length a'.sent) only z RolledBack history.RolledBack (ap is_yes code) refl refl (ap prepare_fate code) refl
+    by_course _ (Stays c y z) = no_vote law t b.xid T H opening f0 fits a vote ops pairs carried answered (length a'.sent) only (Left c) y refl (λ f e. cc)
     by_course _ (Agrees c y z) = by_decision commit c y z
-    by_course _ (Refuses c y r z) = refused law t b.xid T H opening a vote ops pairs carried answered (length a'.sent) only c y z
+    by_course _ (Refuses c y r z) = refused law t b.xid T H opening f0 fits a vote ops pairs carried answered (length a'.sent) only c y z

@@ -10,7 +10,7 @@ use Rattle.xa_words.specs.declared.request.Op.{Op}
 use Rattle.xa_words.specs.declared.request.Request.{Request}
 use Rattle.xa_tables.specs.Tables.{Tables}
 use Rattle.xa_tables.specs.Next.{next}
-use Rattle.xa_tables.specs.History.{History, Fate, Absent, of_thread, tables_after, coded, fate_of, fate_in, fates_in, last_or}
+use Rattle.xa_tables.specs.History.{History, Fate, of_thread, tables_after, coded, fate_of, fate_in, fates_in, last_or}
 use Rattle.xa_desk.specs.Lanes.{numbered}
 use Rattle.xa_worker.specs.Journal.{Entry}
 use Rattle.xa_switch.specs.Settling.{answers}
@@ -232,12 +232,12 @@ last_is [] f g = refl
 last_is (x ∷ fs) f g = last_is fs x g
 
 -- the fate is what a request makes of the branch, where nothing after it makes anything of it
-pub fate_is : (x : XidName) (before after : History) (r : Request) (T : Tables) (f : Fate) → fate_of x r.op (next r.thread r.op (tables_after before T)).1 ≡ Some f
-    → fates x after (next r.thread r.op (tables_after before T)).0 ≡ [] → fate_in x (coded (before ++ r ∷ after) T) ≡ f
-fate_is x before after r T f e none =
-    ap (last_or Absent) (fates_both x before (r ∷ after) T
+pub fate_is : (x : XidName) (before after : History) (r : Request) (T : Tables) (f0 f : Fate) → fate_of x r.op (next r.thread r.op (tables_after before T)).1 ≡ Some f
+    → fates x after (next r.thread r.op (tables_after before T)).0 ≡ [] → fate_in x f0 (coded (before ++ r ∷ after) T) ≡ f
+fate_is x before after r T f0 f e none =
+    ap (last_or f0) (fates_both x before (r ∷ after) T
     ∙ ap (λ l. fates x before T ++ l) ((λ i. cons_option (e i) (none i))))
-    ∙ last_is (fates x before T) Absent f
+    ∙ last_is (fates x before T) f0 f
 
 -- histories that make nothing of the branch, one after the other
 pub none_both : (x : XidName) (h g : History) (T : Tables) → fates x h T ≡ [] → fates x g (tables_after h T) ≡ [] → fates x (h ++ g) T ≡ []

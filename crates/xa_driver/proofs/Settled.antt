@@ -1,5 +1,5 @@
 -- What the branches of a call came to in a settled opening.
-use Rattle.std.proofs.Common.{◌≡◌, ◌≢◌, ℕ, zero, suc, ◌-◌, ◌<◌, ◌≤◌, Bool, ◌&&◌, if◌then◌else◌, List, [], ◌∷◌, length, slice_get, get_or, sym, refl, ap, ◌∙◌, subst, arith, Option, Some, None, ⊎_elim}
+use Rattle.std.proofs.Common.{◌≡◌, ℕ, zero, suc, ◌-◌, ◌<◌, ◌≤◌, Bool, ◌&&◌, if◌then◌else◌, List, [], ◌∷◌, length, ◌++◌, append_assoc, slice_get, get_or, sym, refl, ap, ◌∙◌, subst, arith, Option, Some, None, ⊎_elim}
 use Rattle.std.specs.List.{All}
 use Rattle.std.proofs.lemmas.Bool.{le-leb, cases_lt}
 use Rattle.xa_base.proofs.Lists.{same_begins, begins_on}
@@ -9,10 +9,13 @@ use Rattle.xa_words.specs.declared.code.Code.TheVariants.{Done as Voted, RdOnly}
 use Rattle.xa_words.specs.declared.request.Op.{Op}
 use Rattle.xa_words.specs.declared.request.Op.TheVariants.{Prepare}
 use Rattle.xa_tables.specs.declared.state.HeuristicDecision.{HeuristicDecision}
-use Rattle.xa_tables.specs.declared.state.HeuristicDecision.TheVariants as decision
-use Rattle.xa_tables.specs.Tables.{Tables}
+use Rattle.xa_words.specs.Xid.{XidName}
+use Rattle.xa_words.specs.declared.request.Request.{Request}
+use Rattle.xa_tables.specs.Tables.{Tables, state_of}
+use Rattle.xa_tables.specs.Next.{next}
+use Rattle.xa_tables.specs.Openings.{told_by}
 use Rattle.xa_tables.specs.History as history
-use Rattle.xa_tables.specs.History.{History, Fate, fate, coded, decided_fate, tables_after}
+use Rattle.xa_tables.specs.History.{History, Fate, IsFateOf, fate, coded, decided_fate, tables_after}
 use Rattle.xa_tables.specs.Worth.{moved, held_by}
 use Rattle.xa_desk.specs.LedgerView.{LedgerView, learnt_shut}
 use Rattle.xa_desk.specs.DeskView.{DeskView, ledger, no_ledger, is_known}
@@ -85,28 +88,47 @@ outcome_map P Q f [] [] [] h = tt
 outcome_map P Q f (b ∷ bs) (v ∷ vs) (e ∷ es) h = (f b v e h.0, outcome_map P Q f bs vs es h.1)
 outcome_map P Q f bs vs es h = absurd h
 
--- a decided fate isn't that of a branch in doubt
-not_in_doubt : (d : HeuristicDecision) → decided_fate d ≢ history.InDoubt
-not_in_doubt decision.Commit e = cc
-not_in_doubt decision.Rollback e = cc
+-- tables by which a history has the same codes give a request in it the same
+code_within : (before after : History) (r : Request) (T U : Tables) → coded (before ++ r ∷ after) T ≡ coded (before ++ r ∷ after) U → (next r.thread r.op (tables_after before T)).1 ≡ (next r.thread r.op (tables_after before U)).1
+code_within [] after r T U e =
+    let head : (r, (next r.thread r.op T).1) ≡ (r, (next r.thread r.op U).1) = cc in
+    ap (λ (p : Request × Code). p.1) head
+code_within (q ∷ before) after r T U e =
+    let tail : coded (before ++ r ∷ after) (next q.thread q.op T).0 ≡ coded (before ++ r ∷ after) (next q.thread q.op U).0 = cc in
+    code_within before after r (next q.thread q.op T).0 (next q.thread q.op U).0 tail
+
+-- so a decision that was carried out by the one was by the other
+decided_alike : (x : XidName) (t n : ℕ) (T U : Tables) (H : History) → coded H T ≡ coded H U → IsDecidedAfter x t n T H → IsDecidedAfter x t n U H
+decided_alike x t n T U H e z =
+    let place : H ≡ (z.before ++ z.request ∷ z.between) ++ z.decision ∷ z.after = z.place ∙ sym (append_assoc z.before (z.request ∷ z.between) (z.decision ∷ z.after)) in
+    record {
+      before = z.before;
+      request = z.request;
+      between = z.between;
+      decision = z.decision;
+      after = z.after;
+      place = z.place;
+      thread = z.thread;
+      number = z.number;
+      named = z.named;
+      decides = z.decides;
+      carried_out = sym (code_within (z.before ++ z.request ∷ z.between) z.after z.decision T U (subst (λ h. coded h T ≡ coded h U) place e)) ∙ z.carried_out;
+    }
 
 -- what is told of a branch became of it, where it did by the history that each opening's tables give
 pub tells_of : (s : Settling) (t : ℕ) (b : Branch) (n : ℕ) (ending : Ending)
-    → ((T : Tables) → IsOpenedWith s b.m T → (f : Fate) → told_fate ending ≡ Some f → fate b.xid (history_of s b.m) T ≡ f)
-    → ((T : Tables) → IsOpenedWith s b.m T → is_in_doubt ending ≡ true → (fate b.xid (history_of s b.m) T ≡ history.InDoubt) ⊎ ((d : HeuristicDecision) × ((fate b.xid (history_of s b.m) T ≡ decided_fate d) × IsDecidedAfter b.xid t n T (history_of s b.m))))
-    → (T : Tables) → IsOpenedWith s b.m T → TellsTheFate s t b n ending
-tells_of s t b n ending told doubt T with_T = record {
-  told = λ f e. with_T.fates b.xid ∙ told T with_T f e;
-  doubt = λ unknown.
+    → ((before : Fate) (T : Tables) → IsOpenedWith s b.m T → IsFateOf b.xid before T → (f : Fate) → told_fate ending ≡ Some f → fate b.xid before (history_of s b.m) T ≡ f)
+    → ((before : Fate) (T : Tables) → IsOpenedWith s b.m T → IsFateOf b.xid before T → is_in_doubt ending ≡ true
+    → (fate b.xid before (history_of s b.m) T ≡ history.InDoubt) ⊎ ((d : HeuristicDecision) × ((fate b.xid before (history_of s b.m) T ≡ decided_fate d) × IsDecidedAfter b.xid t n T (history_of s b.m))))
+    → TellsTheFate s t b n ending
+tells_of s t b n ending told doubt = record {
+  told = λ before f was e. was.opened.fates b.xid before ∙ told before was.first was.opened was.fits f e;
+  doubt = λ before was unknown.
       ⊎_elim
-      (λ (none : fate b.xid (history_of s b.m) T ≡ history.InDoubt). undecided (with_T.fates b.xid ∙ none))
-      (λ (some : (d : HeuristicDecision) × ((fate b.xid (history_of s b.m) T ≡ decided_fate d) × IsDecidedAfter b.xid t n T (history_of s b.m))).
-      decided some.0 (with_T.fates b.xid ∙ some.1.0) (λ U with_U.
-      ⊎_elim
-      (λ (none : fate b.xid (history_of s b.m) U ≡ history.InDoubt). absurd (not_in_doubt some.0 (sym (with_T.fates b.xid ∙ some.1.0) ∙ with_U.fates b.xid ∙ none)))
-      (λ (found : (d : HeuristicDecision) × ((fate b.xid (history_of s b.m) U ≡ decided_fate d) × IsDecidedAfter b.xid t n U (history_of s b.m))). found.1.1)
-      (doubt U with_U unknown)))
-      (doubt T with_T unknown);
+      (λ (none : fate b.xid before (history_of s b.m) was.first ≡ history.InDoubt). undecided (was.opened.fates b.xid before ∙ none))
+      (λ (some : (d : HeuristicDecision) × ((fate b.xid before (history_of s b.m) was.first ≡ decided_fate d) × IsDecidedAfter b.xid t n was.first (history_of s b.m))).
+      decided some.0 (was.opened.fates b.xid before ∙ some.1.0) (λ U with_U. decided_alike b.xid t n was.first U (history_of s b.m) (sym was.opened.codes ∙ with_U.codes) some.1.1))
+      (doubt before was.first was.opened was.fits unknown);
 }
 
 module _ (law : Tabled) (opened : (s : Settling) (m : ℕ) → IsSettled s → (T : Tables) × IsOpenedWith s m T) (s : Settling) (t : ℕ) where
@@ -148,8 +170,11 @@ module _ (law : Tabled) (opened : (s : Settling) (m : ℕ) → IsSettled s → (
     answered : (T : Tables) → IsOpenedWith s b.m T → All (λ p. slice_get (answers t (coded H T)) p.0 ≡ Some p) (collected s t b.m)
     answered T with_T = subst (λ (J : List Entry). All (λ (p : ℕ × Code). slice_get (answers t J) p.0 ≡ Some p) (collected s t b.m)) with_T.codes agree.coded
 
-    one_told : OnlyTheseOrDecisionsName b.xid t (length a.sent) (length a'.sent) H → (T : Tables) → IsOpenedWith s b.m T → Told t b.xid T H (length a.sent) vote (ending_of commit vote second)
-    one_told only T with_T = branch_told law t b vote second commit a a' T H (sent s t b.m) (collected s t b.m) with_T.opened agree.carried (answered T with_T) all_sent all_collected only tr
+    one_told : OnlyTheseOrDecisionsName b.xid t (length a.sent) (length a'.sent) H → (before : Fate) (T : Tables) → IsOpenedWith s b.m T → IsFateOf b.xid before T → Told t b.xid before T H (length a.sent) vote (ending_of commit vote second)
+    one_told only before T with_T fits = branch_told law t b vote second commit a a' T H (sent s t b.m) (collected s t b.m) with_T.opened before fits agree.carried (answered T with_T) all_sent all_collected only tr
+
+    one_voted : OnlyTheseOrDecisionsName b.xid t (length a.sent) (length a'.sent) H → (T : Tables) → IsOpenedWith s b.m T → Told t b.xid (told_by (state_of T b.xid)) T H (length a.sent) vote (ending_of commit vote second)
+    one_voted only T with_T = one_told only (told_by (state_of T b.xid)) T with_T (law.first b.xid T)
 
     one_counted : OnlyTheseName b.xid t (length a.sent) (length a'.sent) H → (T : Tables) → IsOpenedWith s b.m T → Counted t b.xid T H (length a.sent) (length a'.sent) vote (ending_of commit vote second)
     one_counted only T with_T = branch_counts law t b vote second commit a a' T H (sent s t b.m) (collected s t b.m) with_T.opened agree.carried (answered T with_T) all_sent all_collected only tr
@@ -157,10 +182,10 @@ module _ (law : Tabled) (opened : (s : Settling) (m : ℕ) → IsSettled s → (
     one_fated : OnlyTheseOrDecisionsName b.xid t (length a.sent) (length a'.sent) H → (ending : Ending) → ending ≡ ending_of commit vote second → Fated b a vote ending
     one_fated only ending is =
         let open_ = opened s b.m settled in
-        let z = one_told only open_.0 open_.1 in
+        let z = one_voted only open_.0 open_.1 in
         subst (Fated b a vote) (sym is) (record {
-          keeps = record { reached = z.reached; shut = z.shut; decided = λ y h U with_U. (one_told only U with_U).decided y h };
-          tells = tells_of s t b (length a.sent) (ending_of commit vote second) (λ U with_U. (one_told only U with_U).told) (λ U with_U. (one_told only U with_U).doubt) open_.0 open_.1;
+          keeps = record { reached = z.reached; shut = z.shut; decided = λ y h U with_U. (one_voted only U with_U).decided y h };
+          tells = tells_of s t b (length a.sent) (ending_of commit vote second) (λ before U with_U fits. (one_told only before U with_U fits).told) (λ before U with_U fits. (one_told only before U with_U fits).doubt);
           unless_no = not_left commit vote second z.reached;
         })
 

@@ -10,7 +10,7 @@ use Rattle.xa_words.specs.Orders.{Decides-xid_eq, Decides-key_eq}
 use Rattle.xa_words.specs.declared.code.Code.{Code}
 use Rattle.xa_words.specs.declared.code.Code.TheVariants.{Done, RdOnly, RmFail}
 use Rattle.xa_words.specs.declared.request.Op.{Op}
-use Rattle.xa_words.specs.declared.request.Op.TheVariants.{OpenRm, CloseRm, Start, Add, End, Prepare, Commit, Rollback, Forget, Heur, Shut}
+use Rattle.xa_words.specs.declared.request.Op.TheVariants.{Prepare, Commit, Rollback, Forget}
 use Rattle.xa_words.specs.declared.request.Request.{Request}
 use Rattle.xa_tables.specs.declared.state.Association.{Association}
 use Rattle.xa_tables.specs.declared.state.HeuristicDecision.{HeuristicDecision}
@@ -18,9 +18,10 @@ use Rattle.xa_tables.specs.Tables.{Tables, association_of}
 use Rattle.xa_tables.specs.Next.{next}
 use Rattle.xa_tables.proofs.Unnamed.{tables_after-append, unnamed_fate}
 use Rattle.xa_tables.specs.History as history
-use Rattle.xa_tables.specs.History.{History, Fate, fates_in, fate_of, coded, of_thread, tables_after, is_done, is_read_only, is_rolled_back, is_integrity, prepare_fate, rollback_fate, ending, ending_by, or_later, commits_later, added_by, share, share_of, EndsNowhere, IsOpening}
+use Rattle.xa_tables.specs.History.{History, Fate, fates_in, fate_of, coded, of_thread, tables_after, is_done, is_read_only, is_rolled_back, is_integrity, prepare_fate, rollback_fate, ending, ending_by, or_later, commits_later, added_by, share, share_of, EndsNowhere}
+use Rattle.xa_tables.specs.Openings.{IsOpening}
 use Rattle.xa_tables.specs.Worth.{moved, moved_by, held_by}
-use Rattle.xa_tables.specs.Prepared.{names, NamesNowhere, LeavesWaiting, AwaitsTheOutcome, AwaitsAfter, closes, is_close, is_forget, fates_when}
+use Rattle.xa_tables.specs.Prepared.{names, NamesNowhere, LeavesWaiting, AwaitsTheOutcome, closes, is_close, is_forget, fates_when}
 use Rattle.xa_desk.specs.LedgerView.{LedgerView, is_rm_fail}
 use Rattle.xa_desk.specs.Lanes.{numbered}
 use Rattle.xa_switch.specs.Settling.{answers}
@@ -32,11 +33,11 @@ use Rattle.xa_driver.specs.Decision.{is_yes, is_no, is_read}
 use Rattle.xa_driver.specs.Endings.{ending_of, yes_ending, no_ending, is_heuristic as is_heuristic_code}
 use Rattle.xa_driver.specs.Trace.{BranchTrace}
 use Rattle.xa_driver.specs.Commits.{is_commit}
-use Rattle.xa_driver.specs.Outcomes.{IsBetween, OnlyTheseName, is_committed, is_left, is_heuristic, is_read_only as is_read_only_ending}
-use Rattle.xa_driver.specs.Additions.{IsAddition, prepare_of}
+use Rattle.xa_driver.specs.Outcomes.{IsBetween, OnlyTheseName, is_committed, is_heuristic, is_read_only as is_read_only_ending}
+use Rattle.xa_driver.specs.Additions.{IsAddition, none_later, prepare_of}
 use Rattle.xa_driver.specs.Conservation.{taken_before}
 use Rattle.xa_driver.proofs.Moves.{is_within, inside, outside, moved_both, moved_none, moved_at, moved_without, all_earlier, taken_is, none_plus, plus_none}
-use Rattle.xa_base.proofs.Truth.{by_if, at_false, at_true}
+use Rattle.xa_base.proofs.Truth.{by_if, at_true}
 use Rattle.xa_driver.proofs.Placing.{request_of, Parted, all_later, sides, fates, fates_both, none_first}
 use Rattle.xa_driver.proofs.Tabled.{Tabled}
 use Rattle.xa_driver.proofs.Courses.{yes_is, read_is, First, first, first_at, Second, second_of, Sends, SendsOne, Course, Unreached, Reads, Breaks, Stays, Agrees, Refuses, course_of}
@@ -54,7 +55,7 @@ abbrev pub ends_committed : List Fate → Bool
 ends_committed [] = false
 ends_committed (f ∷ fs) = or_later (ending_by f) (ends_committed fs)
 
-commits_by : (x : XidName) (h : History) (T : Tables) → commits_later x (coded h T) ≡ ends_committed (fates x h T)
+commits_by : (x : XidName) (h : History) (T : Tables) → commits_later false x (coded h T) ≡ ends_committed (fates x h T)
 commits_by x [] T = refl
 commits_by x (r ∷ h) T =
     let T1 : Tables = (next r.thread r.op T).0 in
@@ -63,11 +64,11 @@ commits_by x (r ∷ h) T =
     ∙ elim o as (λ o. or_later (ending o) (ends_committed (fates x h T1)) ≡ ends_committed (cons_option o (fates x h T1))) [ None ↦ refl | Some f ↦ refl ]
 
 -- a history that doesn't end the branch decides nothing
-commits_past : (x : XidName) (h g : History) (T : Tables) → EndsNowhere x h T → commits_later x (coded (h ++ g) T) ≡ commits_later x (coded g (tables_after h T))
+commits_past : (x : XidName) (h g : History) (T : Tables) → EndsNowhere x h T → commits_later false x (coded (h ++ g) T) ≡ commits_later false x (coded g (tables_after h T))
 commits_past x [] g T e = refl
 commits_past x (r ∷ h) g T e =
     let T1 : Tables = (next r.thread r.op T).0 in
-    ap (λ o. or_later o (commits_later x (coded (h ++ g) T1))) (e 0 (r, (next r.thread r.op T).1) (omega arith)) ∙ commits_past x h g T1 (λ k d lt. e (suc k) d (omega arith))
+    ap (λ o. or_later o (commits_later false x (coded (h ++ g) T1))) (e 0 (r, (next r.thread r.op T).1) (omega arith)) ∙ commits_past x h g T1 (λ k d lt. e (suc k) d (omega arith))
 
 added_is : (o : Option Association) (d : ℤ) (later : XidName → Bool) (x : XidName) → option_map (λ (a : Association). a.xid) o ≡ Some x → added_by o d later ≡ (if later x then d else pos 0)
 added_is None d later x e = cc
@@ -75,12 +76,12 @@ added_is (Some a) d later x e = let same : a.xid ≡ x = cc in ap (λ y. if late
 
 -- the share of an addition is decided by what comes from the Prepare on
 share_is : (x : XidName) (k : List ℕ) (d : ℤ) (t n : ℕ) (T : Tables) (H : History) (add : IsAddition x k d t n T H) (b : Bool)
-    → commits_later x (coded (request_of t n (Prepare x) ∷ add.after) (tables_after add.between (next add.adding.thread add.adding.op (tables_after add.before T)).0)) ≡ b
-    → share k add.adding (add.between ++ prepare_of t n x ∷ add.after) (tables_after add.before T) ≡ (if b then d else pos 0)
+    → commits_later false x (coded (request_of t n (Prepare x) ∷ add.after) (tables_after add.between (next add.adding.thread add.adding.op (tables_after add.before T)).0)) ≡ b
+    → share k none_later add.adding (add.between ++ prepare_of t n x ∷ add.after) (tables_after add.before T) ≡ (if b then d else pos 0)
 share_is x k d t n T H add b e =
     let here : Tables = tables_after add.before T in
     let U : Tables = (next add.adding.thread add.adding.op here).0 in
-    let later : XidName → Bool = λ y. commits_later y (coded (add.between ++ prepare_of t n x ∷ add.after) U) in
+    let later : XidName → Bool = λ y. commits_later false y (coded (add.between ++ prepare_of t n x ∷ add.after) U) in
     let own : Option Association = association_of here add.adding.thread in
     let is : later x ≡ b = commits_past x add.between (prepare_of t n x ∷ add.after) U add.unended ∙ e in
     ap (λ op. share_of k op (next add.adding.thread add.adding.op here).1 own later) add.adds
@@ -188,14 +189,14 @@ module _ (law : Tabled) (t : ℕ) (x : XidName) (T : Tables) (H : History) (open
   -- whether the branch commits after its Prepare, seen from any of its additions
   abbrev Counts : Bool → Type 0
   Counts b = (k : List ℕ) (d : ℤ) (add : IsAddition x k d t n T H)
-      → commits_later x (coded (request_of t n P ∷ add.after) (tables_after add.between (next add.adding.thread add.adding.op (tables_after add.before T)).0)) ≡ b
+      → commits_later false x (coded (request_of t n P ∷ add.after) (tables_after add.between (next add.adding.thread add.adding.op (tables_after add.before T)).0)) ≡ b
 
   -- by the fates that the Prepare and what is after it give the branch
   counted_by : (post : List Op) (more : List (ℕ × Code)) → ops ≡ a.sent ++ P ∷ post → pairs ≡ a.collected ++ (n, vote) ∷ more → (fs : List Fate)
       → ((f : Voted post) → fates x (request_of t n P ∷ f.parted.after) (tables_after f.parted.before T) ≡ fs) → Counts (ends_committed fs)
   counted_by post more sent collected fs given k d add =
       let f : Voted post = first_at t x T H a vote ops pairs carried answered post more collected (voted_at k d add post sent) in
-      ap (λ (U : Tables). commits_later x (coded (request_of t n P ∷ add.after) U)) (sym (tables_after-append add.before (add.adding ∷ add.between) T))
+      ap (λ (U : Tables). commits_later false x (coded (request_of t n P ∷ add.after) U)) (sym (tables_after-append add.before (add.adding ∷ add.between) T))
       ∙ commits_by x (request_of t n P ∷ add.after) (tables_after (add.before ++ add.adding ∷ add.between) T) ∙ ap ends_committed (given f)
 
   -- the fate that a Prepare leaves
@@ -319,7 +320,7 @@ module _ (law : Tabled) (t : ℕ) (x : XidName) (T : Tables) (H : History) (open
 -- a branch with this vote and this ending, whose requests have the numbers from what the ledger `a` has to below `last`
 pub record Counted (t : ℕ) (x : XidName) (T : Tables) (H : History) (n last : ℕ) (vote : Code) (e : Ending) : Type 0 where
   pub counted : (k : List ℕ) (d : ℤ) (add : IsAddition x k d t n T H)
-      → share k add.adding (add.between ++ prepare_of t n x ∷ add.after) (tables_after add.before T) ≡ (if is_committed e then d else pos 0)
+      → share k none_later add.adding (add.between ++ prepare_of t n x ∷ add.after) (tables_after add.before T) ≡ (if is_committed e then d else pos 0)
   pub adders : (k : List ℕ) (d : ℤ) → IsAddition x k d t n T H → is_read_only_ending e ≡ false
   pub moves : (accounts : List (List ℕ × ℕ)) → moved accounts (is_within t n last) H T ≡ (if is_committed e then held_by accounts x (tables_after (taken_before t n H) T) else pos 0)
   pub reads : is_read_only_ending e ≡ true → (accounts : List (List ℕ × ℕ)) → held_by accounts x (tables_after (taken_before t n H) T) ≡ pos 0
@@ -345,7 +346,7 @@ module _ (law : Tabled) (t : ℕ) (x : XidName) (T : Tables) (H : History) (open
   CountsAs b = Counts law t x T H opening a vote ops pairs carried answered b × ((accounts : List (List ℕ × ℕ)) → moved_here accounts ≡ (if b then held accounts else pos 0))
 
   counted_as : (e : Ending) (b : Bool) → CountsAs b → b ≡ is_committed e → (k : List ℕ) (d : ℤ) (add : IsAddition x k d t m T H)
-      → share k add.adding (add.between ++ prepare_of t m x ∷ add.after) (tables_after add.before T) ≡ (if is_committed e then d else pos 0)
+      → share k none_later add.adding (add.between ++ prepare_of t m x ∷ add.after) (tables_after add.before T) ≡ (if is_committed e then d else pos 0)
   counted_as e b counts same k d add = share_is x k d t m T H add (is_committed e) (counts.0 k d add ∙ same)
 
   moved_as : (e : Ending) (b : Bool) → CountsAs b → b ≡ is_committed e → (accounts : List (List ℕ × ℕ)) → moved_here accounts ≡ (if is_committed e then held accounts else pos 0)
@@ -475,7 +476,7 @@ nothing_between t x n q only =
 
 -- where nothing was asked, a Prepare of that number commits nothing
 unasked : (t : ℕ) (x : XidName) (T : Tables) (H : History) (n : ℕ) → OnlyTheseName x t n n H → (k : List ℕ) (d : ℤ) (add : IsAddition x k d t n T H)
-    → share k add.adding (add.between ++ prepare_of t n x ∷ add.after) (tables_after add.before T) ≡ pos 0
+    → share k none_later add.adding (add.between ++ prepare_of t n x ∷ add.after) (tables_after add.before T) ≡ pos 0
 unasked t x T H n only k d add =
     let P : Request = request_of t n (Prepare x) in
     let there : Tables = tables_after add.between (next add.adding.thread add.adding.op (tables_after add.before T)).0 in

@@ -1,6 +1,6 @@
 -- What the values have of the additions of a global transaction.
 use Rattle.std.specs.List.{list_any}
-use Rattle.std.specs.Prelude.{◌≡◌, ℕ, ℤ, pos, Bool, not, ◌||◌, if◌then◌else◌, option_map, Some, List, ◌∷◌, ◌++◌, length}
+use Rattle.std.specs.Prelude.{◌≡◌, ℕ, ℤ, pos, Bool, false, not, ◌||◌, if◌then◌else◌, option_map, Some, List, ◌∷◌, ◌++◌, length}
 use Rattle.xa_words.specs.Xid.{XidName}
 use Rattle.xa_words.specs.declared.code.Code.TheVariants as code
 use Rattle.xa_words.specs.declared.request.Op.TheVariants.{Add, Prepare}
@@ -34,12 +34,16 @@ pub record IsAddition (x : XidName) (k : List ℕ) (d : ℤ) (t n : ℕ) (T : Ta
   pub branch : option_map (λ a. a.xid) (association_of (tables_after before T) adding.thread) ≡ Some x
   pub unended : EndsNowhere x between (next adding.thread adding.op (tables_after before T)).0
 
--- The share that the value of a key has of each addition of the branch, whose Prepare by thread t has number n: all of
--- it where it counts, and else nothing.
+-- no branch commits after the opening
+abbrev pub none_later : XidName → Bool
+none_later x = false
+
+-- The share that the value of a key has, as the opening ends, of each addition of the branch, whose Prepare by thread t has
+-- number n: all of it where it counts, and else nothing.
 abbrev pub Shares : Settling → ℕ → Branch → ℕ → Bool → Type 0
 Shares s t b n counts =
     (T : Tables) → IsOpenedWith s b.m T → (k : List ℕ) (d : ℤ) → (a : IsAddition b.xid k d t n T (history s b.m))
-    → share k a.adding (a.between ++ prepare_of t n b.xid ∷ a.after) (tables_after a.before T)
+    → share k none_later a.adding (a.between ++ prepare_of t n b.xid ∷ a.after) (tables_after a.before T)
     ≡ (if counts then d else pos 0)
 
 -- Of each branch of a call the additions count exactly where the branch was committed.

@@ -11,7 +11,7 @@ use Rattle.xa_tables.specs.declared.state.HeuristicDecision.{HeuristicDecision}
 use Rattle.xa_tables.specs.Tables.{Tables}
 use Rattle.xa_tables.specs.Next.{next}
 use Rattle.xa_tables.specs.History as history
-use Rattle.xa_tables.specs.History.{History, Fate, tables_after, decided_fate}
+use Rattle.xa_tables.specs.History.{History, Fate, IsFateOf, tables_after, decided_fate}
 use Rattle.xa_tables.specs.Prepared.{names, is_heur, has_shut}
 use Rattle.xa_desk.specs.LedgerView.{LedgerView}
 use Rattle.xa_desk.specs.DeskView.{ledger}
@@ -200,16 +200,23 @@ pub record KeepsItsVote (s : Settling) (t : ℕ) (b : Branch) (n : ℕ) (vote : 
   pub shut : is_yes vote ≡ true → is_in_doubt ending ≡ true → IsAfterShut t (n + 1) (history_of s b.m)
   pub decided : is_yes vote ≡ true → is_heuristic ending ≡ true → WasDecidedAfter s b t n
 
--- it is in doubt, or a decision of it was carried out after its Prepare, whose fate it has
-pub data IsInDoubtUnlessDecided (s : Settling) (t : ℕ) (b : Branch) (n : ℕ) : Type 0 where
-  undecided : settled_fate s b.m b.xid ≡ history.InDoubt → IsInDoubtUnlessDecided s t b n
-  decided : (d : HeuristicDecision) → settled_fate s b.m b.xid ≡ decided_fate d → WasDecidedAfter s b t n
-      → IsInDoubtUnlessDecided s t b n
+-- the fate that a branch had as the opening began: the tables that its manager began with tell it
+pub record WasAtFirst (s : Settling) (b : Branch) (before : Fate) : Type 0 where
+  pub first : Tables
+  pub opened : IsOpenedWith s b.m first
+  pub fits : IsFateOf b.xid before first
 
--- what is told of a branch, whose Prepare by thread t has number n, became of it
+-- it is in doubt, or a decision of it was carried out after its Prepare, whose fate it has
+pub data IsInDoubtUnlessDecided (s : Settling) (t : ℕ) (b : Branch) (n : ℕ) (before : Fate) : Type 0 where
+  undecided : settled_fate s b.m b.xid before ≡ history.InDoubt → IsInDoubtUnlessDecided s t b n before
+  decided : (d : HeuristicDecision) → settled_fate s b.m b.xid before ≡ decided_fate d → WasDecidedAfter s b t n
+      → IsInDoubtUnlessDecided s t b n before
+
+-- what is told of a branch, whose Prepare by thread t has number n, became of it, whatever fate it had as the opening began
 pub record TellsTheFate (s : Settling) (t : ℕ) (b : Branch) (n : ℕ) (ending : Ending) : Type 0 where
-  pub told : (f : Fate) → told_fate ending ≡ Some f → settled_fate s b.m b.xid ≡ f
-  pub doubt : is_in_doubt ending ≡ true → IsInDoubtUnlessDecided s t b n
+  pub told : (before f : Fate) → WasAtFirst s b before → told_fate ending ≡ Some f → settled_fate s b.m b.xid before ≡ f
+  pub doubt : (before : Fate) → WasAtFirst s b before → is_in_doubt ending ≡ true
+      → IsInDoubtUnlessDecided s t b n before
 
 -- branch by branch, with its vote and its ending
 abbrev pub EachOutcome : (Branch → Code → Ending → Type 0) → List Branch → List Code → List Ending → Type 0

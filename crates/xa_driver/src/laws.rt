@@ -36,12 +36,11 @@ use xa_switch::laws::{
     managers_open_with_their_accounts, settled_journals_follow_the_tables, threads_move_the_worth,
 };
 use xa_tables::laws::{
-    adders_never_vote_read_only, branches_hold_their_additions,
-    completed_branches_ended_as_decided, late_requests_leave_fates, only_a_shut_shuts,
-    only_completed_branches_tell_a_decision, only_prepared_branches_are_decided,
+    adders_never_vote_read_only, branches_hold_their_additions, late_requests_leave_fates,
+    only_a_shut_shuts, only_completed_branches_tell_a_decision, only_prepared_branches_are_decided,
     prepared_branches_await_the_outcome, prepared_branches_keep_what_they_hold,
-    prepared_is_in_doubt, read_only_branches_hold_nothing, refused_prepares_tell_integrity,
-    shut_managers_decide_nothing,
+    read_only_branches_hold_nothing, refused_prepares_tell_integrity, shut_managers_decide_nothing,
+    tables_tell_the_fates,
 };
 
 /// Of one call alone: where the append failed, no Commit was sent to any manager.
@@ -78,8 +77,7 @@ pub fn endings_are_fates()
     refused_prepares_tell_integrity();
     prepared_branches_keep_what_they_hold();
     read_only_branches_hold_nothing();
-    prepared_is_in_doubt();
-    completed_branches_ended_as_decided();
+    tables_tell_the_fates();
     only_prepared_branches_are_decided();
     shut_managers_decide_nothing();
     only_completed_branches_tell_a_decision();
@@ -100,8 +98,7 @@ pub fn transfers_conserve_the_worth()
     refused_prepares_tell_integrity();
     prepared_branches_keep_what_they_hold();
     read_only_branches_hold_nothing();
-    prepared_is_in_doubt();
-    completed_branches_ended_as_decided();
+    tables_tell_the_fates();
     only_prepared_branches_are_decided();
     shut_managers_decide_nothing();
     only_completed_branches_tell_a_decision();

@@ -4,7 +4,7 @@ ghost use Rattle.std.specs.List.{range_with_len};
 ghost use Rattle.xa_base.specs.Lists.{IsUpTo};
 ghost use Rattle.xa_switch.specs.Plans.{IsSoundManager, IsSound};
 ghost use Rattle.xa_grammar.specs.Content.{accounts_of, managers_of};
-ghost use Rattle.xa_transcript.specs.Planning.{planned_of, planned, IsPlanOf};
+ghost use Rattle.xa_transcript.specs.Planning.{plan_says, script_says, IsPlanOf};
 
 use std::alloc::{AllocError, Global};
 use xa_base::MOST_MANAGERS;
@@ -31,7 +31,7 @@ fn accounts_of(
 
 // What the script says of a manager.
 fn manager_plan(alloc: Global, script: &Script, manager: u32) -> Result<ManagerPlan, AllocError>
-    ensures planned { IfOk result (λ p. planned_of p ≡ planned script.now manager) }
+    ensures planned { IfOk result (λ p. plan_says p ≡ script_says script.now manager) }
     ensures sound { IfOk result IsSoundManager }
 {
     Ok(ManagerPlan {
@@ -42,7 +42,7 @@ fn manager_plan(alloc: Global, script: &Script, manager: u32) -> Result<ManagerP
 
 // The script's managers, by rising number.
 fn manager_plans(alloc: Global, script: &Script) -> Result<Vec<ManagerPlan>, AllocError>
-    ensures planned { IfOk result (λ v. map planned_of v.items ≡ map (planned script.now) (range_with_len 1 (managers_of script.now))) }
+    ensures planned { IfOk result (λ v. map plan_says v.items ≡ map (script_says script.now) (range_with_len 1 (managers_of script.now))) }
     ensures sound { IfOk result (λ v. All IsSoundManager v.items) }
     ensures limits { IfOk result (λ v. IsUpTo MOST_MANAGERS (length v.items)) }
 {

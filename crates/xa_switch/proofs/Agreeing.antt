@@ -8,7 +8,8 @@ use Rattle.xa_words.specs.declared.request.Op.{Op}
 use Rattle.xa_words.specs.declared.request.Request.{Request}
 use Rattle.xa_words.specs.declared.request.Completion.{Completion}
 use Rattle.xa_lane.specs.Ends.{Receiving}
-use Rattle.xa_tables.specs.History.{of_thread, accepted, parted, IsOpening}
+use Rattle.xa_tables.specs.History.{of_thread, accepted, parted}
+use Rattle.xa_tables.specs.Openings.{IsOpening}
 use Rattle.xa_desk.specs.LedgerView.{LedgerView}
 use Rattle.xa_desk.specs.DeskView.{IsKnown, is_known, ledger, sent_to, collected_from}
 use Rattle.xa_desk.specs.Ended.{EndedView}

@@ -17,8 +17,7 @@ use Rattle.xa_desk.specs.Kept.{AllKept, HoldsNone}
 use Rattle.xa_desk.specs.Lanes.{submitted, after_fulls, new_ledgers}
 use Rattle.xa_desk.specs.Looks.{EndsQuiet, Collects, TakesKept}
 use Rattle.xa_worker.specs.Workers.{WorkerView}
-use Rattle.xa_switch.specs.declared.plan.Plan.{Plan}
-use Rattle.xa_switch.specs.Plans.{use_async}
+use Rattle.xa_switch.specs.Plans.{Setup}
 use Rattle.xa_switch.specs.Openings.{IsNewDesk, AreOfOneOpening}
 use Rattle.xa_switch.specs.Putting.{put_refusal, Puts, Calls}
 use Rattle.xa_switch.specs.Putting.Puts.{refused, full, kept, answered}
@@ -182,15 +181,15 @@ fresh_sent plan (b ∷ flags) zero = refl
 fresh_sent plan (b ∷ flags) (suc i) = fresh_sent plan flags i
 
 -- so nothing is outstanding
-new_kept : (p : Plan) (t : ℕ) (d : DeskView) → IsNewDesk p t d → AllKept d
+new_kept : (p : Setup) (t : ℕ) (d : DeskView) → IsNewDesk p t d → AllKept d
 new_kept p t d is = record {
   each = λ o out.
-      let ledgers : d.ledgers ≡ new_ledgers p.requests (use_async p.managers.items) = ap (λ (x : DeskView). x.ledgers) is.made in
-      let none : (ledger d.ledgers o.manager).sent ≡ [] = ap (λ (at : List LedgerView). (ledger at o.manager).sent) ledgers ∙ fresh_sent p.requests (use_async p.managers.items) (o.manager - 1) in
+      let ledgers : d.ledgers ≡ new_ledgers p.numbers.requests p.use_async = ap (λ (x : DeskView). x.ledgers) is.made in
+      let none : (ledger d.ledgers o.manager).sent ≡ [] = ap (λ (at : List LedgerView). (ledger at o.manager).sent) ledgers ∙ fresh_sent p.numbers.requests p.use_async (o.manager - 1) in
       let sent = out.sent in
       let size : length (ledger d.ledgers o.manager).sent ≡ 0 = ap (λ l. length l) none in
       absurd (omega (arith, sent, size));
 }
 
-pub opened_kept : (p : Plan) (desks : List DeskView) (workers : List WorkerView) → AreOfOneOpening p desks workers → All AllKept desks
+pub opened_kept : (p : Setup) (desks : List DeskView) (workers : List WorkerView) → AreOfOneOpening p desks workers → All AllKept desks
 opened_kept p desks workers is k d below = new_kept p k (slice_index_or desks k d) (is.desks k (slice_index_or desks k d) (slice_get-get_or desks k d below))

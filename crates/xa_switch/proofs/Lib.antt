@@ -14,3 +14,5 @@ pub mod OfPlans
 pub mod Outstanding
 pub mod Kept
 pub mod Worth
+mod AllThere
+mod Planned

@@ -5,7 +5,7 @@ use Rattle.std.proofs.lemmas.List.{length-map}
 use Rattle.std.proofs.lemmas.Option.{slice_get_within, slice_get-get_or}
 use Rattle.xa_switch.specs.Columns.{Each}
 use Rattle.xa_switch.specs.Lanes.{AreNewLanes, IsRequestSender, IsCompletionSender}
-use Rattle.xa_switch.specs.Openings.{desk_parts, worker_parts, DesksFit, WorkersFit, IsDeskOf, IsWorkerOf, IsNewDesk, IsNewWorker, ShareNewLanes, AreOfOneOpening}
+use Rattle.xa_switch.specs.Openings.{desk_parts, worker_parts, DesksFit, WorkersFit, IsDeskOf, IsWorkerOf, IsLaidOut, IsNewDesk, IsNewWorker, ShareNewLanes, AreOfOneOpening}
 use Rattle.xa_words.specs.declared.request.Request.{Request}
 use Rattle.xa_words.specs.declared.request.Completion.{Completion}
 use Rattle.xa_lane.specs.Ends.{Sending, Receiving}
@@ -13,9 +13,12 @@ use Rattle.xa_desk.specs.DeskView.{DeskView}
 use Rattle.xa_desk.specs.Lanes.{PartsView, new_desk}
 use Rattle.xa_worker.specs.Outgoing.{Answering}
 use Rattle.xa_worker.specs.Workers.{Reserved, Asking, WorkerView, new_worker}
+use Rattle.xa_tables.specs.Tables.{Tables}
 use Rattle.xa_tables.specs.Managers.{Managed}
-use Rattle.xa_switch.specs.Plans.{manager_room, new_manager, completion_room}
-use Rattle.xa_switch.specs.declared.plan.Plan.{Plan}
+use Rattle.std.proofs.lemmas.List.Elements.{All-map}
+use Rattle.xa_tables.specs.Openings.{IsOpening}
+use Rattle.xa_switch.specs.Plans.{Setup, setup, manager_room, new_manager, completion_room}
+use Rattle.xa_switch.specs.declared.layout.Layout.{Layout}
 
 -- an element that is there
 pub element : {X : Type 0} (xs : List X) (k : ℕ) → k < length xs → (x : X) × (slice_get xs k ≡ Some x)
@@ -44,34 +47,22 @@ abbrev AreCompletionLanes : ℕ → ℕ → ℕ → ℕ → List (List (Sending 
 AreCompletionLanes opening threads managers room columns rs = AreNewLanes opening 1 managers threads room columns rs
 
 -- lanes, and desks and workers made of their ends
-pub record Ends (p : Plan) (deskparts : List PartsView) (workerparts : List Reserved) (managed : List Managed) (asks : List (List (Sending Request))) (takes : List Asking) (answers : List (List Answering)) (hears : List (Receiving Completion)) : Type 0 where
-  pub threads : length deskparts ≡ p.threads
-  pub managers : length workerparts ≡ length p.managers.items
-  pub desk_parts_ : Each (λ k x. x ≡ desk_parts p (k + 1)) deskparts
-  pub worker_parts_ : Each (λ k x. x ≡ worker_parts p (k + 1)) workerparts
-  pub managed_ : managed ≡ map (new_manager p.threads (manager_room p)) p.managers.items
-  pub requests : AreRequestLanes p.opening p.threads (length p.managers.items) p.queue asks takes
-  pub completions : AreCompletionLanes p.opening p.threads (length p.managers.items) (completion_room p) answers hears
+pub record Ends (p : Setup) (deskparts : List PartsView) (workerparts : List Reserved) (managed : List Managed) (asks : List (List (Sending Request))) (takes : List Asking) (answers : List (List Answering)) (hears : List (Receiving Completion)) : Type 0 where
+  pub threads : length deskparts ≡ p.numbers.threads
+  pub managers : length workerparts ≡ p.managers
+  pub flags : length p.use_async ≡ p.managers
+  pub tables : length p.first ≡ p.managers
+  pub begins : All IsOpening p.first
+  pub desk_parts_ : Each (λ k x. x ≡ desk_parts p.numbers p.use_async (k + 1)) deskparts
+  pub worker_parts_ : Each (λ k x. x ≡ worker_parts p.numbers (k + 1)) workerparts
+  pub managed_ : managed ≡ map (new_manager p.numbers) p.first
+  pub requests : AreRequestLanes p.numbers.opening p.numbers.threads (p.managers) p.numbers.queue asks takes
+  pub completions : AreCompletionLanes p.numbers.opening p.numbers.threads (p.managers) (completion_room p.numbers p.managers) answers hears
 
--- the same where the number of managers was counted
-pub ends_of : (p : Plan) (many : ℕ) (deskparts : List PartsView) (workerparts : List Reserved) (managed : List Managed) (asks : List (List (Sending Request))) (takes : List Asking) (answers : List (List Answering)) (hears : List (Receiving Completion))
-    → many ≡ length p.managers.items → length deskparts ≡ p.threads → length workerparts ≡ length p.managers.items → Each (λ k x. x ≡ desk_parts p (k + 1)) deskparts → Each (λ k x. x ≡ worker_parts p (k + 1)) workerparts → managed ≡ map (new_manager p.threads (manager_room p)) p.managers.items
-    → AreRequestLanes p.opening p.threads many p.queue asks takes → AreCompletionLanes p.opening p.threads many (p.handles + 1 + many) answers hears
-    → Ends p deskparts workerparts managed asks takes answers hears
-ends_of p many deskparts workerparts managed asks takes answers hears counted threads managers desks workers managed_ requests completions = record {
-  threads = threads;
-  managers = managers;
-  desk_parts_ = desks;
-  worker_parts_ = workers;
-  managed_ = managed_;
-  requests = subst (λ n. AreRequestLanes p.opening p.threads n p.queue asks takes) counted requests;
-  completions = subst (λ n. AreCompletionLanes p.opening p.threads n (p.handles + 1 + n) answers hears) counted completions;
-}
-
-module _ (p : Plan) (deskparts : List PartsView) (workerparts : List Reserved) (managed : List Managed) (asks : List (List (Sending Request))) (takes : List Asking) (answers : List (List Answering)) (hears : List (Receiving Completion))
+module _ (p : Setup) (deskparts : List PartsView) (workerparts : List Reserved) (managed : List Managed) (asks : List (List (Sending Request))) (takes : List Asking) (answers : List (List Answering)) (hears : List (Receiving Completion))
     (is : Ends p deskparts workerparts managed asks takes answers hears) where
   -- the senders of thread t + 1 are on the lanes to each manager
-  request_senders : (t : ℕ) (c : List (Sending Request)) → slice_get asks t ≡ Some c → Each (IsRequestSender p.opening p.queue t) c
+  request_senders : (t : ℕ) (c : List (Sending Request)) → slice_get asks t ≡ Some c → Each (IsRequestSender p.numbers.opening p.numbers.queue t) c
   request_senders t c at m s at_s =
       let low = slice_get_within c m s at_s in
       let deep = is.requests.deep t c at in
@@ -79,7 +70,7 @@ module _ (p : Plan) (deskparts : List PartsView) (workerparts : List Reserved) (
       let r = element takes m (omega (arith, low, deep, many)) in
       (is.requests.dealt t m c s r.0 at at_s r.1).0
 
-  completion_senders : (m : ℕ) (c : List Answering) → slice_get answers m ≡ Some c → Each (IsCompletionSender p.opening (completion_room p) m) c
+  completion_senders : (m : ℕ) (c : List Answering) → slice_get answers m ≡ Some c → Each (IsCompletionSender p.numbers.opening (completion_room p.numbers p.managers) m) c
   completion_senders m c at t s at_s =
       let low = slice_get_within c t s at_s in
       let deep = is.completions.deep m c at in
@@ -88,9 +79,9 @@ module _ (p : Plan) (deskparts : List PartsView) (workerparts : List Reserved) (
       (is.completions.dealt m t c s r.0 at at_s r.1).0
 
   -- a manager's room and threads are the plan's
-  managed_is : (m : ℕ) (x : Managed) → slice_get managed m ≡ Some x → (x.threads ≡ p.threads) × (x.room ≡ manager_room p)
+  managed_is : (m : ℕ) (x : Managed) → slice_get managed m ≡ Some x → (x.threads ≡ p.numbers.threads) × (x.room ≡ manager_room p.numbers)
   managed_is m x at =
-      let plan = mapped (new_manager p.threads (manager_room p)) p.managers.items m x (ap (λ l. slice_get l m) (sym is.managed_) ∙ at) in
+      let plan = mapped (new_manager p.numbers) p.first m x (ap (λ l. slice_get l m) (sym is.managed_) ∙ at) in
       (ap (λ y. y.threads) plan.2, ap (λ y. y.room) plan.2)
 
   -- what goes together fits together: a desk
@@ -98,10 +89,10 @@ module _ (p : Plan) (deskparts : List PartsView) (workerparts : List Reserved) (
   desks_fit t part c r at_part at_c at_r =
       let same = is.desk_parts_ t part at_part in
       let thread : part.thread ≡ t + 1 = ap (λ x. x.thread) same in
-      let managers : length part.use_async ≡ length p.managers.items = ap (λ x. length x.use_async) same ∙ length-map p.managers.items (λ m. m.use_async) in
+      let managers : length part.use_async ≡ p.managers = ap (λ x. length x.use_async) same ∙ is.flags in
       let senders = request_senders t c at_c in
       let receiver = is.completions.receivers t r at_r in
-      let opening : r.lane.opening ≡ p.opening = ap (λ x. x.lane.opening) receiver in (
+      let opening : r.lane.opening ≡ p.numbers.opening = ap (λ x. x.lane.opening) receiver in (
         record {
           number = is.requests.deep t c at_c ∙ sym managers;
           to = λ m s at_s. record {
@@ -119,7 +110,7 @@ module _ (p : Plan) (deskparts : List PartsView) (workerparts : List Reserved) (
       )
 
   -- a worker with its manager
-  manager_fits : p.threads ≤ 8 → (m : ℕ) (part : Reserved) (x : Managed) → slice_get workerparts m ≡ Some part → slice_get managed m ≡ Some x → (x.room ≡ part.room) × (x.threads ≤ 8)
+  manager_fits : p.numbers.threads ≤ 8 → (m : ℕ) (part : Reserved) (x : Managed) → slice_get workerparts m ≡ Some part → slice_get managed m ≡ Some x → (x.room ≡ part.room) × (x.threads ≤ 8)
   manager_fits low m part x at_part at_x =
       let of = managed_is m x at_x in
       let threads = of.0 in
@@ -136,7 +127,7 @@ module _ (p : Plan) (deskparts : List PartsView) (workerparts : List Reserved) (
   completions_fit m x c at_x at_c =
       (is.completions.deep m c at_c ∙ sym (managed_is m x at_x).0, all_each (λ s. s.sent ≡ []) c (λ t s at_s. ap (λ y. y.sent) (completion_senders m c at_c t s at_s)))
 
-  pub workers_fit : p.threads ≤ 8 → WorkersFit workerparts managed takes answers
+  pub workers_fit : p.numbers.threads ≤ 8 → WorkersFit workerparts managed takes answers
   workers_fit low = record { memory = manager_fits low; requests = requests_fit; completions = completions_fit }
 
   new_desk_is : (t : ℕ) (d : DeskView) → IsDeskOf deskparts asks hears t d → IsNewDesk p t d
@@ -151,11 +142,11 @@ module _ (p : Plan) (deskparts : List PartsView) (workerparts : List Reserved) (
 
   new_worker_is : (m : ℕ) (w : WorkerView) → IsWorkerOf workerparts managed takes answers m w → IsNewWorker p m w
   new_worker_is m w of =
-      let plan = mapped (new_manager p.threads (manager_room p)) p.managers.items m of.manager (ap (λ l. slice_get l m) (sym is.managed_) ∙ of.manager_at) in
+      let plan = mapped (new_manager p.numbers) p.first m of.manager (ap (λ l. slice_get l m) (sym is.managed_) ∙ of.manager_at) in
       subst (λ x. IsNewWorker p m x) (sym of.made)
       (record {
-        plan = plan.0;
-        planned = plan.1;
+        first = plan.0;
+        begins = plan.1;
         made = ap (λ x. new_worker x.number of.manager of.requests of.senders) (is.worker_parts_ m of.part of.part_at) ∙ ap (λ x. new_worker (m + 1) x of.requests of.senders) plan.2;
         threads = is.completions.deep m of.senders of.senders_at;
         requests = is.requests.receivers m of.requests of.requests_at;
@@ -190,4 +181,29 @@ module _ (p : Plan) (deskparts : List PartsView) (workerparts : List Reserved) (
     desks = λ t d at. new_desk_is t d (desks t d at);
     workers = λ m w at. new_worker_is m w (workers m w at);
     together = λ t m d w at_d at_w. together_are t m d w (desks t d at_d) (workers m w at_w);
+    begins = is.begins;
+    tables = is.tables;
   }
+
+-- what was laid out, with the managers
+mapped_whole : (f : Tables → Managed) (xs : List Managed) → All (λ x. x ≡ f x.tables) xs → xs ≡ map f (map (λ x. x.tables) xs)
+mapped_whole f [] h = refl
+mapped_whole f (x ∷ xs) h = λ i. h 0 x (omega arith) i ∷ mapped_whole f xs (λ k d lt. h (suc k) d (omega arith)) i
+
+all_first : (xs : List Managed) → All (λ x. IsOpening x.tables) xs → All IsOpening (map (λ x. x.tables) xs)
+all_first xs h = All-map IsOpening (λ (x : Managed). x.tables) xs h
+
+pub ends_of : (l : Layout) (managers : List Managed) → IsLaidOut l → length managers ≡ length l.use_async.items → All (λ m. m ≡ new_manager l.numbers m.tables) managers → All (λ m. IsOpening m.tables) managers
+    → Ends (setup l.numbers l.use_async.items (map (λ (m : Managed). m.tables) managers)) l.desk_parts.items l.worker_parts.items managers (map (λ c. c.items) l.requests.columns.items) l.requests.receivers.items (map (λ c. c.items) l.completions.columns.items) l.completions.receivers.items
+ends_of l managers is many new begins = record {
+  threads = is.threads;
+  managers = is.managers;
+  flags = refl;
+  tables = length-map managers (λ (m : Managed). m.tables) ∙ many;
+  begins = all_first managers begins;
+  desk_parts_ = is.desk_parts_;
+  worker_parts_ = is.worker_parts_;
+  managed_ = mapped_whole (new_manager l.numbers) managers new;
+  requests = is.requests;
+  completions = is.completions;
+}

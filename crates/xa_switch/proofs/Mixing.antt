@@ -7,7 +7,7 @@ use Rattle.std.proofs.lemmas.List.Edits.{Swapped, swapped_from_swap, length-swap
 use Rattle.std.proofs.lemmas.List.Elements.{All-append}
 use Rattle.std.proofs.lemmas.List.Kept.{AllPairs-cons}
 use Rattle.std.proofs.lemmas.List.Sorted.{IsPermutation-keeps, All-permutation}
-use Rattle.xa_tables.specs.History.{IsOpening}
+use Rattle.xa_tables.specs.Openings.{IsOpening}
 use Rattle.xa_switch.specs.Seats.{DeskSeat, WorkerSeat, AreTogether, AreApartDesks, AreApartWorkers, ComeFromOpenings, AreSomeOf, openings_of}
 use Rattle.xa_switch.proofs.Gathering.{all_back, pairs_mid}
 

@@ -1,25 +1,27 @@
--- What is settled of all pieces of an opening is of the plan that it was opened by.
-use Rattle.std.proofs.Common.{◌≡◌, ℕ, suc, ◌+◌, ◌==◌, true, false, List, [], ◌∷◌, length, map, slice_get, option_map, Some, None, sym, refl, ap, subst, ◌∙◌, ⊎_elim, eq-eqb, arith}
-use Rattle.std.specs.List.{Contains, list_any, range_with_len}
+-- What is settled of all pieces of an opening is of the setup that it was made with.
+use Rattle.std.proofs.Common.{◌≡◌, ℕ, suc, ◌+◌, ◌<◌, ◌==◌, true, false, List, [], ◌∷◌, length, map, slice_get, option_map, Some, None, sym, refl, ap, subst, ◌∙◌, ⊎_elim, eq-eqb, arith}
+use Rattle.std.specs.List.{All, Contains, list_any, range_with_len}
 use Rattle.std.specs.List.Sorted.{IsPermutation}
 use Rattle.std.proofs.lemmas.Bool.{eqb-true}
-use Rattle.std.proofs.lemmas.List.Sorted.{IsPermutation-sym, IsPermutation-map, Contains-permutation}
+use Rattle.std.proofs.lemmas.List.Sorted.{IsPermutation-sym, IsPermutation-map, Contains-permutation, All-permutation}
 use Rattle.std.proofs.lemmas.Option.{same_Some, slice_get_within}
-use Rattle.xa_tables.specs.Managers.{opening}
 use Rattle.xa_desk.specs.DeskView.{DeskView}
 use Rattle.xa_desk.specs.Ended.{EndedView}
 use Rattle.xa_worker.specs.Workers.{WorkerView}
 use Rattle.xa_worker.specs.Done.{Served}
 use Rattle.xa_switch.specs.Closing.{settling, thread_part, manager_part}
 use Rattle.xa_switch.specs.Columns.{Each}
-use Rattle.xa_switch.specs.OfPlans.{IsOfPlan}
-use Rattle.xa_switch.specs.Openings.{AreOfOneOpening, IsNewWorker}
-use Rattle.xa_switch.specs.Seats.{DeskSeat, WorkerSeat, desk_seats, worker_seats, seat_of_desk, seat_of_worker, seat_of_ended, seat_of_done}
+use Rattle.xa_switch.specs.OfPlans.{IsOf}
+use Rattle.xa_switch.specs.Fates.{first_of}
+use Rattle.xa_switch.specs.Plans.{Setup}
+use Rattle.xa_tables.specs.Tables.{Tables}
+use Rattle.xa_switch.specs.Openings.{AreOfOneOpening, IsNewDesk, IsNewWorker}
+use Rattle.xa_switch.specs.Seats.{DeskSeat, WorkerSeat, desk_seats, worker_seats, seat_of_desk, seat_of_worker, seat_of_ended, seat_of_done, first_opening, AreAll}
 use Rattle.xa_switch.specs.Settling.{ThreadPart, ManagerPart, find_manager}
-use Rattle.xa_switch.specs.declared.plan.Plan.{Plan}
-use Rattle.xa_switch.specs.declared.plan.ManagerPlan.{ManagerPlan}
+use Rattle.xa_words.specs.declared.request.Completion.{Completion}
+use Rattle.xa_lane.specs.Ends.{Receiving}
 use Rattle.xa_base.proofs.Lists.{contains_at}
-use Rattle.xa_switch.proofs.Lists.{contains_map, get_contained, get_map, element_at, fails_each, searched}
+use Rattle.xa_switch.proofs.Lists.{all_map, contains_map, get_contained, get_map, element_at, fails_each, searched}
 
 -- a list whose elements have rising numbers
 numbers_of : {X : Type 0} (f : X → ℕ) (a : ℕ) (xs : List X) → Each (λ k x. f x ≡ a + k) xs → map f xs ≡ range_with_len a (length xs)
@@ -34,8 +36,8 @@ read : {X Y W : Type 0} (f : Y → W) (g : X → Y) (h : X → W) → ((x : X) �
 read f g h same [] = refl
 read f g h same (x ∷ xs) = λ i. same x i ∷ read f g h same xs i
 
--- the opening has a worker of each manager of its plan, with the plan's accounts
-module _ (p : Plan) (ds : List DeskView) (ws : List WorkerView) (o : AreOfOneOpening p ds ws) (vs : List Served) (workers : IsPermutation (map seat_of_worker ws) (worker_seats vs)) where
+-- the opening has a worker of each manager of its setup, with the setup's tables
+module _ (p : Setup) (ds : List DeskView) (ws : List WorkerView) (o : AreOfOneOpening p ds ws) (vs : List Served) (workers : IsPermutation (map seat_of_worker ws) (worker_seats vs)) where
   -- the worker that the settled one was
   worker_of : (v : Served) → Contains vs v → (k : ℕ) × (w : WorkerView) × (slice_get ws k ≡ Some w) × (seat_of_worker w ≡ seat_of_done v)
   worker_of v in_v =
@@ -43,46 +45,55 @@ module _ (p : Plan) (ds : List DeskView) (ws : List WorkerView) (o : AreOfOneOpe
       let got = get_map seat_of_worker ws there.0 (seat_of_done v) (get_contained (map seat_of_worker ws) (seat_of_done v) there) in
       (there.0, got.0, got.1, got.2)
 
-  opened_with : (m : ℕ) (plan : ManagerPlan) → slice_get p.managers.items m ≡ Some plan → (v : Served) → Contains vs v → v.number ≡ m + 1 → v.first ≡ opening plan.accounts.items
-  opened_with m plan planned v in_v number =
+  opened_with : (m : ℕ) (T : Tables) → slice_get p.first m ≡ Some T → (v : Served) → Contains vs v → v.number ≡ m + 1 → v.first ≡ T
+  opened_with m T begins v in_v number =
       let (k, w, at, same) = worker_of v in_v in
       let new : IsNewWorker p k w = o.workers k w at in
       let made : w.number ≡ k + 1 = ap (λ (x : WorkerView). x.number) new.made in
       let seated : w.number ≡ v.number = ap (λ (s : WorkerSeat). s.number) same in
       let place : k ≡ m = omega (arith, made, seated, number) in
-      let is : new.plan ≡ plan = same_Some new.plan plan (sym new.planned ∙ ap (slice_get p.managers.items) place ∙ planned) in
-      ap (λ (s : WorkerSeat). s.first) (sym same) ∙ ap (λ (x : WorkerView). x.first) new.made ∙ ap (λ (x : ManagerPlan). opening x.accounts.items) is
+      let is : new.first ≡ T = same_Some new.first T (sym new.begins ∙ ap (slice_get p.first) place ∙ begins) in
+      ap (λ (s : WorkerSeat). s.first) (sym same) ∙ ap (λ (x : WorkerView). x.first) new.made ∙ is
 
   -- it is there
-  settled_worker : (m : ℕ) (plan : ManagerPlan) → slice_get p.managers.items m ≡ Some plan → (v : Served) × Contains vs v × (v.number ≡ m + 1)
-  settled_worker m plan planned =
-      let below = slice_get_within p.managers.items m plan planned in
+  settled_worker : (m : ℕ) (T : Tables) → slice_get p.first m ≡ Some T → (v : Served) × Contains vs v × (v.number ≡ m + 1)
+  settled_worker m T begins =
+      let below = slice_get_within p.first m T begins in
       let many = o.managers in
-      let opened = element_at ws m (omega (arith, below, many)) in
+      let first_many = o.tables in
+      let opened = element_at ws m (omega (arith, below, many, first_many)) in
       let w : WorkerView = opened.0 in
       let there : Contains (worker_seats vs) (seat_of_worker w) = Contains-permutation (map seat_of_worker ws) (worker_seats vs) (seat_of_worker w) workers (contains_map seat_of_worker ws w (contains_at ws m w opened.1)) in
       let got = get_map seat_of_done vs there.0 (seat_of_worker w) (get_contained (worker_seats vs) (seat_of_worker w) there) in
       (got.0, contains_at vs there.0 got.0 got.1, ap (λ (s : WorkerSeat). s.number) got.2 ∙ ap (λ (x : WorkerView). x.number) (o.workers m w opened.1).made)
 
-  found_with : (es : List EndedView) (m : ℕ) (plan : ManagerPlan) → slice_get p.managers.items m ≡ Some plan
-      → option_map (λ (part : ManagerPart). part.first) (find_manager (m + 1) (settling es vs).managers) ≡ Some (opening plan.accounts.items)
-  found_with es m plan planned =
+  found_with : (es : List EndedView) (m : ℕ) (T : Tables) → slice_get p.first m ≡ Some T → first_of (settling es vs) (m + 1) ≡ Some T
+  found_with es m T begins =
       ⊎_elim
       (λ (x : (v : Served) × Contains vs v × ((v.number == m + 1) ≡ true) × (find_manager (m + 1) (map manager_part vs) ≡ Some (manager_part v))).
-      ap (option_map (λ (part : ManagerPart). part.first)) x.3 ∙ ap Some (opened_with m plan planned x.0 x.1 (eqb-true x.0.number (m + 1) x.2)))
+      ap (option_map (λ (part : ManagerPart). part.first)) x.3 ∙ ap Some (opened_with m T begins x.0 x.1 (eqb-true x.0.number (m + 1) x.2)))
       (λ (x : (find_manager (m + 1) (map manager_part vs) ≡ None) × (list_any (λ (v : Served). v.number == m + 1) vs ≡ false)).
-      let there = settled_worker m plan planned in
+      let there = settled_worker m T begins in
       let passes : (there.0.number == m + 1) ≡ true = eq-eqb there.0.number (m + 1) there.2 in
       let fails : (there.0.number == m + 1) ≡ false = fails_each (λ (v : Served). v.number == m + 1) vs there.0 there.1 x.1 in
       cc)
       (searched manager_part (λ (q : ManagerPart). q.number == m + 1) vs)
 
-pub of_plan : (p : Plan) (ds : List DeskView) (ws : List WorkerView) (es : List EndedView) (vs : List Served)
-    → AreOfOneOpening p ds ws → IsPermutation (map seat_of_desk ds) (desk_seats es) → IsPermutation (map seat_of_worker ws) (worker_seats vs) → IsOfPlan p (settling es vs)
-of_plan p ds ws es vs o desks workers = record {
-  threads = rearranged (λ (s : DeskSeat). s.thread) seat_of_desk (λ (d : DeskView). d.thread) (λ d. refl) seat_of_ended thread_part (λ (t : ThreadPart). t.thread) (λ e. refl) p.threads ds es o.threads
+-- a desk that is there has the opening's number
+first_is : (es : List EndedView) (vs : List Served) (n : ℕ) → 0 < length es → All (λ (s : DeskSeat). s.lane.opening ≡ n) (desk_seats es) → first_opening es vs ≡ n
+first_is [] vs n some h = absurd (omega arith)
+first_is (e ∷ es) vs n some h = h 0 (seat_of_ended e) (omega arith)
+
+pub of_setup : (p : Setup) (ds : List DeskView) (ws : List WorkerView) (es : List EndedView) (vs : List Served)
+    → AreOfOneOpening p ds ws → IsPermutation (map seat_of_desk ds) (desk_seats es) → IsPermutation (map seat_of_worker ws) (worker_seats vs) → AreAll es vs → IsOf p (settling es vs)
+of_setup p ds ws es vs o desks workers all = record {
+  opening = first_is es vs p.numbers.opening all.some_desk
+      (All-permutation (λ (s : DeskSeat). s.lane.opening ≡ p.numbers.opening) (map seat_of_desk ds) (desk_seats es) desks
+      (all_map seat_of_desk (λ (s : DeskSeat). s.lane.opening ≡ p.numbers.opening) ds
+      (λ d cd. let new : IsNewDesk p cd.0 d = o.desks cd.0 d (get_contained ds d cd) in ap (λ (r : Receiving Completion). r.lane.opening) new.completions)));
+  threads = rearranged (λ (s : DeskSeat). s.thread) seat_of_desk (λ (d : DeskView). d.thread) (λ d. refl) seat_of_ended thread_part (λ (t : ThreadPart). t.thread) (λ e. refl) p.numbers.threads ds es o.threads
       (λ k d at. ap (λ (x : DeskView). x.thread) (o.desks k d at).made ∙ (omega arith)) desks;
-  managers = rearranged (λ (s : WorkerSeat). s.number) seat_of_worker (λ (w : WorkerView). w.number) (λ w. refl) seat_of_done manager_part (λ (m : ManagerPart). m.number) (λ v. refl) (length p.managers.items) ws vs o.managers
+  managers = rearranged (λ (s : WorkerSeat). s.number) seat_of_worker (λ (w : WorkerView). w.number) (λ w. refl) seat_of_done manager_part (λ (m : ManagerPart). m.number) (λ v. refl) p.managers ws vs o.managers
       (λ k w at. ap (λ (x : WorkerView). x.number) (o.workers k w at).made ∙ (omega arith)) workers;
   opened = found_with p ds ws o vs workers es;
 }

@@ -9,7 +9,8 @@ use Rattle.xa_words.specs.declared.request.Request.{Request}
 use Rattle.xa_words.specs.declared.request.Completion.{Completion}
 use Rattle.xa_lane.specs.Ends.{Sending, Receiving}
 use Rattle.xa_lane.specs.Closing.{IsWhole}
-use Rattle.xa_tables.specs.History.{of_thread, IsOpening}
+use Rattle.xa_tables.specs.History.{of_thread}
+use Rattle.xa_tables.specs.Openings.{IsOpening}
 use Rattle.xa_desk.specs.DeskView.{IsKnown, ledger}
 use Rattle.xa_desk.specs.Lanes.{numbered, arrived}
 use Rattle.xa_desk.specs.Ended.{EndedView, IsEnded}

@@ -1,24 +1,24 @@
 -- The desks and workers of an opening come from it.
-use Rattle.std.proofs.Common.{◌≡◌, ℕ, ◌+◌, ◌-◌, List, map, slice_get, option_map, sym, refl, ap, ◌∙◌, subst, arith, Some}
+use Rattle.std.proofs.Common.{◌≡◌, ℕ, ◌+◌, ◌-◌, List, map, slice_get, option_map, sym, ap, ◌∙◌, subst, arith, Some}
 use Rattle.std.specs.List.{All}
 use Rattle.std.proofs.lemmas.List.Elements.{All-append}
 use Rattle.std.proofs.lemmas.Option.{slice_get-map, slice_get-get_or}
 use Rattle.xa_words.specs.declared.request.Request.{Request}
 use Rattle.xa_words.specs.declared.request.Completion.{Completion}
-use Rattle.xa_tables.specs.Managers.{opening}
-use Rattle.xa_tables.specs.History.{IsOpening}
+use Rattle.xa_tables.specs.Openings.{IsOpening}
 use Rattle.xa_lane.specs.Ends.{Sending, Receiving}
 use Rattle.xa_desk.specs.DeskView.{DeskView}
 use Rattle.xa_worker.specs.Outgoing.{Answering}
 use Rattle.xa_worker.specs.Workers.{WorkerView}
-use Rattle.xa_switch.specs.declared.plan.Plan.{Plan}
+use Rattle.xa_switch.specs.Plans.{Setup}
+use Rattle.xa_base.proofs.Lists.{contains_at}
 use Rattle.xa_switch.specs.Openings.{IsNewDesk, IsNewWorker, ShareNewLanes, AreOfOneOpening}
 use Rattle.xa_switch.specs.Seats.{DeskSeat, WorkerSeat, openings_of, end_seat, seat_of_desk, seat_of_worker, ShareLanes, AreTogether, AreApartDesks, AreApartWorkers, ComeFromOpenings}
 use Rattle.xa_switch.proofs.Lists.{all_map, all_contains, pairs_map, get_contained}
 
 -- ---- an opening
 
-module _ (p : Plan) (ds : List DeskView) (ws : List WorkerView) (h : AreOfOneOpening p ds ws) where
+module _ (p : Setup) (ds : List DeskView) (ws : List WorkerView) (h : AreOfOneOpening p ds ws) where
   share : (t m : ℕ) (d : DeskView) (w : WorkerView) → slice_get ds t ≡ Some d → slice_get ws m ≡ Some w → ShareLanes (seat_of_desk d) (seat_of_worker w)
   share t m d w at_d at_w =
       let D : IsNewDesk p t d = h.desks t d at_d in
@@ -47,11 +47,10 @@ module _ (p : Plan) (ds : List DeskView) (ws : List WorkerView) (h : AreOfOneOpe
   number_at : (k : ℕ) (w : WorkerView) → slice_get ws k ≡ Some w → w.number ≡ k + 1
   number_at k w at = let W : IsNewWorker p k w = h.workers k w at in ap (λ (w : WorkerView). w.number) W.made
 
-  is_opening : (accounts : List (List ℕ × ℕ)) → IsOpening (opening accounts)
-  is_opening accounts = record { opened = refl; associations = refl; states = refl; sums = refl; shut = refl }
-
   opened_at : (k : ℕ) (w : WorkerView) → slice_get ws k ≡ Some w → IsOpening w.first
-  opened_at k w at = let W : IsNewWorker p k w = h.workers k w at in subst (λ (w : WorkerView). IsOpening w.first) (sym W.made) (is_opening W.plan.accounts.items)
+  opened_at k w at =
+      let W : IsNewWorker p k w = h.workers k w at in
+      subst (λ (w : WorkerView). IsOpening w.first) (sym W.made) (all_contains IsOpening p.first W.first h.begins (contains_at p.first k W.first W.begins))
 
   pub opened : ComeFromOpenings (map seat_of_desk ds) (map seat_of_worker ws)
   opened = record {
@@ -73,14 +72,14 @@ module _ (p : Plan) (ds : List DeskView) (ws : List WorkerView) (h : AreOfOneOpe
     opened = all_map seat_of_worker (λ (s : WorkerSeat). IsOpening s.first) ws (λ w cw. opened_at cw.0 w (get_contained ws w cw));
   }
 
-  pub numbered : All (λ n. n ≡ p.opening) (openings_of (map seat_of_desk ds) (map seat_of_worker ws))
+  pub numbered : All (λ n. n ≡ p.numbers.opening) (openings_of (map seat_of_desk ds) (map seat_of_worker ws))
   numbered =
-      All-append (λ n. n ≡ p.opening) (map (λ (s : DeskSeat). s.lane.opening) (map seat_of_desk ds)) (map (λ (s : WorkerSeat). s.lane.opening) (map seat_of_worker ws))
-      (all_map (λ (s : DeskSeat). s.lane.opening) (λ n. n ≡ p.opening) (map seat_of_desk ds)
-      (λ s cs. all_contains (λ (s : DeskSeat). s.lane.opening ≡ p.opening) (map seat_of_desk ds) s
-      (all_map seat_of_desk (λ (s : DeskSeat). s.lane.opening ≡ p.opening) ds
+      All-append (λ n. n ≡ p.numbers.opening) (map (λ (s : DeskSeat). s.lane.opening) (map seat_of_desk ds)) (map (λ (s : WorkerSeat). s.lane.opening) (map seat_of_worker ws))
+      (all_map (λ (s : DeskSeat). s.lane.opening) (λ n. n ≡ p.numbers.opening) (map seat_of_desk ds)
+      (λ s cs. all_contains (λ (s : DeskSeat). s.lane.opening ≡ p.numbers.opening) (map seat_of_desk ds) s
+      (all_map seat_of_desk (λ (s : DeskSeat). s.lane.opening ≡ p.numbers.opening) ds
       (λ d cd. let D : IsNewDesk p cd.0 d = h.desks cd.0 d (get_contained ds d cd) in ap (λ (r : Receiving Completion). r.lane.opening) D.completions)) cs))
-      (all_map (λ (s : WorkerSeat). s.lane.opening) (λ n. n ≡ p.opening) (map seat_of_worker ws)
-      (λ s cs. all_contains (λ (s : WorkerSeat). s.lane.opening ≡ p.opening) (map seat_of_worker ws) s
-      (all_map seat_of_worker (λ (s : WorkerSeat). s.lane.opening ≡ p.opening) ws
+      (all_map (λ (s : WorkerSeat). s.lane.opening) (λ n. n ≡ p.numbers.opening) (map seat_of_worker ws)
+      (λ s cs. all_contains (λ (s : WorkerSeat). s.lane.opening ≡ p.numbers.opening) (map seat_of_worker ws) s
+      (all_map seat_of_worker (λ (s : WorkerSeat). s.lane.opening ≡ p.numbers.opening) ws
       (λ w cw. let W : IsNewWorker p cw.0 w = h.workers cw.0 w (get_contained ws w cw) in ap (λ (r : Receiving Request). r.lane.opening) W.requests)) cs))

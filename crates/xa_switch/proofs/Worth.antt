@@ -1,13 +1,14 @@
 -- What all accounts are worth together is what was declared and what the threads have moved.
 use Rattle.std.specs.Prelude.{ℤ, pos, ◌+ℤ◌, option_map, unwrap_or, All}
-use Rattle.std.proofs.Common.{◌≡◌, ℕ, zero, suc, ◌+◌, ◌-◌, ◌<◌, ◌≤◌, ◌==◌, true, false, cond, if◌then◌else◌, List, [], ◌∷◌, length, map, get_or, sym, refl, ap, ◌∙◌, subst, arith, Some, None}
+use Rattle.std.proofs.Common.{◌≡◌, ℕ, zero, suc, ◌+◌, ◌-◌, ◌<◌, ◌≤◌, ◌==◌, true, false, cond, if◌then◌else◌, List, [], ◌∷◌, length, map, get_or, slice_get, sym, refl, ap, ◌∙◌, arith, Some, None}
 use Rattle.std.specs.List.{Contains, range_with_len}
 use Rattle.std.specs.FinMap as finmap
 use Rattle.std.proofs.lemmas.Int.{ints}
 use Rattle.std.proofs.lemmas.Bool.{eqb-true, eqb-false}
 use Rattle.std.proofs.lemmas.List.FromFn.{length-range_with_len, get_or-range_with_len}
 use Rattle.std.proofs.lemmas.List.Sorted.{IsPermutation-sym, Contains-permutation}
-use Rattle.std.proofs.lemmas.Option.{same_Some}
+use Rattle.std.proofs.lemmas.Option.{slice_get-map}
+use Rattle.xa_switch.specs.declared.plan.ManagerPlan.{ManagerPlan}
 use Rattle.xa_base.specs.Sums.{total}
 use Rattle.xa_base.proofs.Sums.{total_same, total_alike, total_both, total_nothing, total_across}
 use Rattle.xa_base.proofs.Lists.{contains_at, range_all}
@@ -16,18 +17,18 @@ use Rattle.xa_tables.specs.Tables.{Tables, value_of}
 use Rattle.xa_tables.specs.Next.{next}
 use Rattle.xa_tables.specs.Accounts.{are_accounts}
 use Rattle.xa_tables.specs.Managers.{opening}
-use Rattle.xa_tables.specs.History.{History, of_thread, tables_after, IsOpening, IsSumOfAll, ValueIsSum}
+use Rattle.xa_tables.specs.History.{History, of_thread, tables_after}
 use Rattle.xa_tables.specs.Worth.{worth_declared, moved, moved_by as moved_by_request, is_any, is_of, WorthIsMoved}
 use Rattle.xa_desk.specs.Lanes.{numbered}
 use Rattle.xa_desk.specs.DeskView.{sent_to, is_known, ledger}
 use Rattle.xa_switch.specs.declared.plan.Plan.{Plan}
 use Rattle.xa_switch.specs.Plans.{IsSoundManager}
 use Rattle.xa_switch.specs.OfPlans.{IsOfPlan}
-use Rattle.xa_switch.specs.Settling.{ThreadPart, ManagerPart, Settling, IsSettled, find_thread, find_manager, ledgers_in, value, sent}
-use Rattle.xa_switch.specs.Fates.{IsOpenedWith, history}
+use Rattle.xa_switch.specs.Settling.{ThreadPart, Settling, IsSettled, find_thread, ledgers_in, value, sent}
+use Rattle.xa_switch.specs.Fates.{IsOpenedWith, first_of, history}
 use Rattle.xa_switch.specs.Worth.{threads_of, managers_of, accounts_in, accounts_of, plan_worth, moved_at, WorthIsOfThreads}
 use Rattle.xa_switch.proofs.Lists.{all_contains, found, contains_map, element_at}
-use Rattle.xa_switch.proofs.Journaled.{follows_part}
+use Rattle.xa_switch.proofs.Journaled.{follows_first}
 
 none_plus : (v : ℤ) → pos 0 +ℤ v ≡ v
 none_plus v = omega (arith, ints)
@@ -106,47 +107,40 @@ module _ (p : Plan) (s : Settling) (settled : IsSettled s) (of_plan : IsOfPlan p
       let within = known_thread r.thread m positive k d lt refl in
       one_counted r.thread v 1 p.threads within.0 within.1
 
-  module _ (sums : (h : History) (k : List ℕ) (T : Tables) → IsOpening T → IsSumOfAll k h T) where
-    -- the part of a manager of the plan
-    part_of : (m : ℕ) → 1 ≤ m → m ≤ length p.managers.items → (part : ManagerPart) × (find_manager m s.managers ≡ Some part) × (part.first ≡ opening (accounts_of p m))
-    part_of m positive below =
+  -- the tables of a manager of the plan
+  first_is : (m : ℕ) → 1 ≤ m → m ≤ length p.managers.items → first_of s m ≡ Some (opening (accounts_of p m))
+  first_is m positive below =
+      let (plan, planned) = element_at p.managers.items (m - 1) (omega (arith, positive, below)) in
+      let number : m - 1 + 1 ≡ m = omega (arith, positive) in
+      let begins : slice_get (map (λ (q : ManagerPlan). opening q.accounts.items) p.managers.items) (m - 1) ≡ Some (opening plan.accounts.items) =
+      slice_get-map (λ (q : ManagerPlan). opening q.accounts.items) p.managers.items (m - 1) ∙ ap (option_map (λ (q : ManagerPlan). opening q.accounts.items)) planned in
+      ap (first_of s) (sym number) ∙ of_plan.opened (m - 1) (opening plan.accounts.items) begins ∙ ap (λ o. Some (opening (accounts_in o))) (sym planned)
+
+  pub opened_with : (m : ℕ) → 1 ≤ m → m ≤ length p.managers.items → IsOpenedWith s m (opening (accounts_of p m))
+  opened_with m positive below = follows_first s m (opening (accounts_of p m)) settled (first_is m positive below)
+
+  module _ (moves : (accounts : List (List ℕ × ℕ)) (h : History) → are_accounts accounts ≡ true → WorthIsMoved accounts h)
+      (sound : All IsSoundManager p.managers.items) where
+    sound_at : (m : ℕ) → 1 ≤ m → m ≤ length p.managers.items → are_accounts (accounts_of p m) ≡ true
+    sound_at m positive below =
         let (plan, planned) = element_at p.managers.items (m - 1) (omega (arith, positive, below)) in
-        let number : m - 1 + 1 ≡ m = omega (arith, positive) in
-        let opened : option_map (λ (q : ManagerPart). q.first) (find_manager m s.managers) ≡ Some (opening (accounts_of p m)) =
-        ap (λ n. option_map (λ (q : ManagerPart). q.first) (find_manager n s.managers)) (sym number) ∙ of_plan.opened (m - 1) plan planned ∙ ap (λ o. Some (opening (accounts_in o))) (sym planned) in
-        elim (find_manager m s.managers) as (λ o. find_manager m s.managers ≡ o → option_map (λ (q : ManagerPart). q.first) o ≡ Some (opening (accounts_of p m))
-        → (part : ManagerPart) × (find_manager m s.managers ≡ Some part) × (part.first ≡ opening (accounts_of p m))) [
-          | None ↦ λ e f. cc
-          | Some part ↦ λ e f. (part, e, same_Some part.first (opening (accounts_of p m)) f)
-        ] refl opened
+        ap (λ o. are_accounts (accounts_in o)) planned ∙ all_contains IsSoundManager p.managers.items plan sound (contains_at p.managers.items (m - 1) plan planned)
 
-    pub opened_with : (m : ℕ) → 1 ≤ m → m ≤ length p.managers.items → IsOpenedWith s m (opening (accounts_of p m))
-    opened_with m positive below =
-        let (part, there, first) = part_of m positive below in
-        subst (IsOpenedWith s m) first (follows_part sums s m part there settled)
+    at_manager : (m : ℕ) → 1 ≤ m → m < 1 + length p.managers.items
+        → total (λ d. unwrap_or (value s m d.0) (pos 0)) (accounts_of p m) ≡ worth_declared (accounts_of p m) +ℤ total (λ t. moved_at p s t m) (threads_of p)
+    at_manager m positive below =
+        let accounts : List (List ℕ × ℕ) = accounts_of p m in
+        let T : Tables = opening accounts in
+        let H : History = history s m in
+        let open_ = opened_with m positive (omega (arith, below)) in
+        let is : (k : List ℕ) → value s m k ≡ finmap.get (tables_after H T).values k = open_.values in
+        total_same (λ d. unwrap_or (value s m d.0) (pos 0)) (λ d. value_of (tables_after H T).values d.0) accounts (λ d. ap (λ o. unwrap_or o (pos 0)) (is d.0))
+        ∙ moves accounts H (sound_at m positive (omega (arith, below)))
+        ∙ ap (λ v. worth_declared accounts +ℤ v) (split_moved accounts (threads_of p) H T (placed m positive))
 
-    module _ (values : (h : History) (k : List ℕ) (T : Tables) → IsOpening T → ValueIsSum k h T) (moves : (accounts : List (List ℕ × ℕ)) (h : History) → are_accounts accounts ≡ true → WorthIsMoved accounts h)
-        (sound : All IsSoundManager p.managers.items) where
-      sound_at : (m : ℕ) → 1 ≤ m → m ≤ length p.managers.items → are_accounts (accounts_of p m) ≡ true
-      sound_at m positive below =
-          let (plan, planned) = element_at p.managers.items (m - 1) (omega (arith, positive, below)) in
-          ap (λ o. are_accounts (accounts_in o)) planned ∙ all_contains IsSoundManager p.managers.items plan sound (contains_at p.managers.items (m - 1) plan planned)
-
-      at_manager : (m : ℕ) → 1 ≤ m → m < 1 + length p.managers.items
-          → total (λ d. unwrap_or (value s m d.0) (pos 0)) (accounts_of p m) ≡ worth_declared (accounts_of p m) +ℤ total (λ t. moved_at p s t m) (threads_of p)
-      at_manager m positive below =
-          let accounts : List (List ℕ × ℕ) = accounts_of p m in
-          let T : Tables = opening accounts in
-          let H : History = history s m in
-          let open_ = opened_with m positive (omega (arith, below)) in
-          let is : (k : List ℕ) → value s m k ≡ finmap.get (tables_after H T).values k = λ k. open_.values k ∙ sym (sums H k T open_.opened) ∙ sym (values H k T open_.opened) in
-          total_same (λ d. unwrap_or (value s m d.0) (pos 0)) (λ d. value_of (tables_after H T).values d.0) accounts (λ d. ap (λ o. unwrap_or o (pos 0)) (is d.0))
-          ∙ moves accounts H (sound_at m positive (omega (arith, below)))
-          ∙ ap (λ v. worth_declared accounts +ℤ v) (split_moved accounts (threads_of p) H T (placed m positive))
-
-      pub worth_law : WorthIsOfThreads p s
-      worth_law =
-          total_alike (λ m. total (λ d. unwrap_or (value s m d.0) (pos 0)) (accounts_of p m)) (λ m. worth_declared (accounts_of p m) +ℤ total (λ t. moved_at p s t m) (threads_of p)) (managers_of p)
-          (range_all (λ m. total (λ d. unwrap_or (value s m d.0) (pos 0)) (accounts_of p m) ≡ worth_declared (accounts_of p m) +ℤ total (λ t. moved_at p s t m) (threads_of p)) 1 (length p.managers.items) at_manager)
-          ∙ total_both (λ m. worth_declared (accounts_of p m)) (λ m. total (λ t. moved_at p s t m) (threads_of p)) (managers_of p)
-          ∙ ap (λ v. plan_worth p +ℤ v) (total_across (λ m t. moved_at p s t m) (managers_of p) (threads_of p))
+    pub worth_law : WorthIsOfThreads p s
+    worth_law =
+        total_alike (λ m. total (λ d. unwrap_or (value s m d.0) (pos 0)) (accounts_of p m)) (λ m. worth_declared (accounts_of p m) +ℤ total (λ t. moved_at p s t m) (threads_of p)) (managers_of p)
+        (range_all (λ m. total (λ d. unwrap_or (value s m d.0) (pos 0)) (accounts_of p m) ≡ worth_declared (accounts_of p m) +ℤ total (λ t. moved_at p s t m) (threads_of p)) 1 (length p.managers.items) at_manager)
+        ∙ total_both (λ m. worth_declared (accounts_of p m)) (λ m. total (λ t. moved_at p s t m) (threads_of p)) (managers_of p)
+        ∙ ap (λ v. plan_worth p +ℤ v) (total_across (λ m t. moved_at p s t m) (managers_of p) (threads_of p))

@@ -19,7 +19,7 @@ abbrev pub ◌>>=◌ : {A B E : Type 0} → Result A E → (A → Result B E) �
 (Ok x) >>= f = f x
 (Err why) >>= f = Err why
 
--- The op of a call in a mode; none for xa_complete.
+-- The op of a call in a mode; none for xa_recover and xa_complete.
 abbrev pub op_of : Call → XidName → Mode → Result Op Code
 op_of call.OpenRm x m = Ok op.OpenRm
 op_of call.CloseRm x m = Ok op.CloseRm
@@ -29,6 +29,7 @@ op_of call.Prepare x m = Ok (op.Prepare x)
 op_of call.Commit x m = Ok (op.Commit x m.one_phase)
 op_of call.Rollback x m = Ok (op.Rollback x)
 op_of call.Forget x m = Ok (op.Forget x)
+op_of call.Recover x m = Err Inval
 op_of call.Complete x m = Err Inval
 
 -- The same where the xid may be wanting: opening and closing don't look at it.

@@ -11,7 +11,8 @@ use Rattle.xa_desk.specs.Ended.{EndedView}
 use Rattle.xa_worker.specs.Workers.{Asking}
 use Rattle.xa_worker.specs.Done.{Served}
 use Rattle.xa_switch.specs.Columns.{put_row}
-use Rattle.xa_switch.specs.Settling.{ThreadPart, ManagerPart, Settling}
+use Rattle.xa_switch.specs.Settling.{ThreadPart, ManagerPart, ReadyPart, Settling}
+use Rattle.xa_switch.specs.Seats.{first_opening}
 use Rattle.xa_switch.specs.declared.gathered.Gathered.{Gathered}
 
 -- one row after another, each element at the end of its column
@@ -56,8 +57,12 @@ abbrev pub manager_part : Served → ManagerPart
 manager_part w =
     record { number = w.number; first = w.first; taken = taken_by w; journal = w.journal; last = w.manager.tables }
 
+abbrev pub ready_part : Served → ReadyPart
+ready_part w = record { part = manager_part w; reserved = w.manager.reserved }
+
 abbrev pub settling : List EndedView → List Served → Settling
-settling ds ws = record { threads = map thread_part ds; managers = map manager_part ws }
+settling ds ws =
+    record { opening = first_opening ds ws; threads = map thread_part ds; managers = map manager_part ws }
 
 -- pieces with these rows of ends, lanes and parts were taken in, of the n that there is room for: the rows were dealt
 -- into eight columns

@@ -1,9 +1,10 @@
 -- What a settled opening has of a thread, and what became of branches there.
-use Rattle.std.specs.Prelude.{◌≡◌, ℕ, ◌+ℤ◌, Option, None, Some, option_map, List}
+use Rattle.std.specs.Prelude.{◌≡◌, ℕ, Option, None, Some, option_map, List, [], ◌∷◌, ◌++◌}
 use Rattle.std.specs.FinMap as finmap
 use Rattle.xa_words.specs.Xid.{XidName}
 use Rattle.xa_tables.specs.Tables.{Tables}
-use Rattle.xa_tables.specs.History.{History, Fate, Absent, fate, coded, added_in, IsOpening}
+use Rattle.xa_tables.specs.History.{History, Fate, fate, coded, tables_after}
+use Rattle.xa_tables.specs.Openings.{IsOpening, value_over}
 use Rattle.xa_desk.specs.LedgerView.{LedgerView}
 use Rattle.xa_worker.specs.Journal.{requests}
 use Rattle.xa_switch.specs.Settling.{ManagerPart, Settling, ledgers_in, find_thread, find_manager, journal, value}
@@ -16,20 +17,28 @@ ledgers_of s t = ledgers_in (find_thread t s.threads)
 abbrev pub history : Settling → ℕ → History
 history s m = requests (journal s m)
 
--- what became of a branch at manager m, by the manager's journal; there is none where there is no such manager
-abbrev pub fate_in : XidName → Option ManagerPart → Fate
-fate_in x None = Absent
-fate_in x (Some p) = fate x (requests p.journal) p.first
+-- what manager m began with; nothing where there is no such manager
+abbrev pub first_of : Settling → ℕ → Option Tables
+first_of s m = option_map (λ p. p.first) (find_manager m s.managers)
 
-abbrev pub settled_fate : Settling → ℕ → XidName → Fate
-settled_fate s m x = fate_in x (find_manager m s.managers)
+-- what became of a branch at manager m by the manager's journal, where its fate was f as the opening began
+abbrev pub fate_in : XidName → Fate → Option ManagerPart → Fate
+fate_in x f None = f
+fate_in x f (Some p) = fate x f (requests p.journal) p.first
 
--- The tables are those that manager m was opened with, any without a key for no manager: its journal is what they make
--- of the requests that it took, and so is what became of each branch; and the value of a key is that at the opening and
--- the share of each request.
+abbrev pub settled_fate : Settling → ℕ → XidName → Fate → Fate
+settled_fate s m x f = fate_in x f (find_manager m s.managers)
+
+-- The tables are those that manager m began with, any without a key for no manager: its journal is what they make of the
+-- requests that it took, and so is what became of each branch; and the value of a key is that in the tables after them.
 pub record IsOpenedWith (s : Settling) (m : ℕ) (T : Tables) : Type 0 where
   pub opened : IsOpening T
   pub codes : journal s m ≡ coded (history s m) T
-  pub fates : (x : XidName) → settled_fate s m x ≡ fate x (history s m) T
-  pub values : (k : List ℕ) →
-      value s m k ≡ option_map (λ v. v +ℤ added_in k (history s m) T) (finmap.get T.values k)
+  pub fates : (x : XidName) (f : Fate) → settled_fate s m x f ≡ fate x f (history s m) T
+  pub values : (k : List ℕ) → value s m k ≡ finmap.get (tables_after (history s m) T).values k
+
+-- Over openings one after another, of which those before this one had the histories `before` at manager m, and the first
+-- began with the tables T: the value of a key is that at the first opening, and each accepted addition whose branch
+-- commits later, in its own opening or in another.
+abbrev pub IsSumOver : Settling → ℕ → List History → Tables → Type 0
+IsSumOver s m before T = (k : List ℕ) → value s m k ≡ value_over k (before ++ history s m ∷ []) T

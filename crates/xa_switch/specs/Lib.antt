@@ -11,3 +11,4 @@ pub mod Closing
 pub mod Fates
 pub mod OfPlans
 pub mod Worth
+pub mod Again

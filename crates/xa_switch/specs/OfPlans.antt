@@ -1,16 +1,20 @@
--- Which plan a settled opening is of.
-use Rattle.std.specs.Prelude.{◌≡◌, ℕ, ◌+◌, length, map, slice_get, option_map, Some}
+-- Which setup a settled opening is of.
+use Rattle.std.specs.Prelude.{◌≡◌, ℕ, ◌+◌, map, slice_get, Some}
 use Rattle.std.specs.List.{range_with_len}
 use Rattle.std.specs.List.Sorted.{IsPermutation}
-use Rattle.xa_tables.specs.Managers.{opening}
-use Rattle.xa_switch.specs.Settling.{Settling, find_manager}
+use Rattle.xa_tables.specs.Tables.{Tables}
+use Rattle.xa_switch.specs.Settling.{Settling}
+use Rattle.xa_switch.specs.Fates.{first_of}
+use Rattle.xa_switch.specs.Plans.{Setup, planned}
 use Rattle.xa_switch.specs.declared.plan.Plan.{Plan}
-use Rattle.xa_switch.specs.declared.plan.ManagerPlan.{ManagerPlan}
 
--- its threads and its managers are those of the plan, and each manager was opened with the accounts that the plan
--- declares for it
-pub record IsOfPlan (p : Plan) (s : Settling) : Type 0 where
-  pub threads : IsPermutation (range_with_len 1 p.threads) (map (λ t. t.thread) s.threads)
-  pub managers : IsPermutation (range_with_len 1 (length p.managers.items)) (map (λ m. m.number) s.managers)
-  pub opened : (m : ℕ) (plan : ManagerPlan) → slice_get p.managers.items m ≡ Some plan
-      → option_map (λ part. part.first) (find_manager (m + 1) s.managers) ≡ Some (opening plan.accounts.items)
+-- its number, its threads and its managers are those of the setup, and each manager began with the setup's tables
+pub record IsOf (p : Setup) (s : Settling) : Type 0 where
+  pub opening : s.opening ≡ p.numbers.opening
+  pub threads : IsPermutation (range_with_len 1 p.numbers.threads) (map (λ t. t.thread) s.threads)
+  pub managers : IsPermutation (range_with_len 1 p.managers) (map (λ m. m.number) s.managers)
+  pub opened : (m : ℕ) (T : Tables) → slice_get p.first m ≡ Some T → first_of s (m + 1) ≡ Some T
+
+-- it was opened by the plan
+abbrev pub IsOfPlan : Plan → Settling → Type 0
+IsOfPlan p s = IsOf (planned p) s

@@ -3,7 +3,7 @@ use Rattle.std.specs.Prelude.{◌≡◌, ◌≢◌, ℕ, ◌+◌, ◌-◌, ◌<�
 use Rattle.std.specs.Prelude.{slice_get, Some}
 use Rattle.std.specs.List.{All, AllPairs, list_any}
 use Rattle.std.specs.List.Sorted.{IsPermutation}
-use Rattle.xa_tables.specs.History.{IsOpening}
+use Rattle.xa_tables.specs.Openings.{IsOpening}
 use Rattle.xa_desk.specs.Ended.{EndedView}
 use Rattle.xa_worker.specs.Done.{Served}
 pub use Rattle.xa_lane.specs.Seats.{EndSeat, end_seat}
@@ -41,7 +41,7 @@ abbrev pub AreApartWorkers : WorkerSeat → WorkerSeat → Type 0
 AreApartWorkers a b = a.lane.opening ≡ b.lane.opening → a.number ≢ b.number
 
 -- Pieces of one opening number come from one opening: each desk and each worker of it share their lanes, no two desks
--- or workers of it have one number, and each manager was opened.
+-- or workers of it have one number, and each manager began as at an opening.
 pub record ComeFromOpenings (desks : List DeskSeat) (workers : List WorkerSeat) : Type 0 where
   pub together : All (λ d. All (AreTogether d) workers) desks
   pub desks_apart : AllPairs AreApartDesks desks

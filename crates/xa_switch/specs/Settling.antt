@@ -2,11 +2,12 @@
 use Rattle.std.specs.Prelude.{◌≡◌, ◌↔◌, ℕ, ℤ, ◌<◌, nat_eq, true, ◌==◌, List, [], length, map, filter, slice_get, Option}
 use Rattle.std.specs.Prelude.{Some, None, ◌++◌}
 use Rattle.std.specs.List.{All, IsDistinct, list_any, find}
+use Rattle.std.specs.FinMap as finmap
 use Rattle.xa_words.specs.declared.code.Code.{Code}
 use Rattle.xa_words.specs.declared.request.Op.{Op}
 use Rattle.xa_tables.specs.Tables.{Tables}
 use Rattle.xa_tables.specs.History.{History, of_thread, codes, tables_after, accepted, first_shut, late, carried_out}
-use Rattle.xa_tables.specs.History.{value_after, IsOpening}
+use Rattle.xa_tables.specs.Openings.{IsOpening}
 use Rattle.xa_desk.specs.LedgerView.{LedgerView}
 use Rattle.xa_desk.specs.DeskView.{sent_to, collected_from}
 use Rattle.xa_desk.specs.Lanes.{numbered}
@@ -19,8 +20,7 @@ pub record ThreadPart : Type 0 where
   pub thread : ℕ
   pub ledgers : List LedgerView
 
--- of a manager: its number, the tables that it was opened with, what it took, in order, its journal, and its tables at
--- the end
+-- of a manager: its number, the tables that it began with, what it took, in order, its journal, and its tables at the end
 pub record ManagerPart : Type 0 where
   pub number : ℕ
   pub first : Tables
@@ -28,8 +28,14 @@ pub record ManagerPart : Type 0 where
   pub journal : List Entry
   pub last : Tables
 
--- the parts of all threads and of all managers
+-- the same, and for how many threads and requests there is room at the next opening
+pub record ReadyPart : Type 0 where
+  pub part : ManagerPart
+  pub reserved : Option (ℕ × ℕ)
+
+-- the number of the opening, and the parts of all threads and of all managers
 pub record Settling : Type 0 where
+  pub opening : ℕ
   pub threads : List ThreadPart
   pub managers : List ManagerPart
 
@@ -82,10 +88,10 @@ pub record Agree (t : ℕ) (ops : List Op) (pairs : List (ℕ × Code)) (entries
   -- each was collected with the code that stands at its request's place in the journal
   pub coded : All (λ p. slice_get (answers t entries) p.0 ≡ Some p) pairs
 
--- The manager was opened, its journal has what it took, each entry with the code that the sequential tables give at its
+-- The manager began as at an opening, its journal has what it took, each entry with the code that the sequential tables give at its
 -- place, and what it carried out is what it accepted.
 pub record FollowsTables (p : ManagerPart) : Type 0 where
-  -- at first nobody had it open, it had no branch, and it wasn't shut
+  -- at first nobody had it open, it had no branch but those that were left, and it wasn't shut
   pub opened : IsOpening p.first
   -- from these tables on each request has the code that `next` gives after those before it
   pub coded : codes_in p.journal ≡ codes (requests p.journal) p.first
@@ -104,12 +110,11 @@ pub record IsSettled (s : Settling) : Type 0 where
 
 -- ---- values
 
--- the value of a key after a manager's journal
+-- the value that a manager's tables have of a key at the end
 abbrev pub value_in : List ℕ → Option ManagerPart → Option ℤ
 value_in k None = None
-value_in k (Some p) = value_after k (requests p.journal) p.first
+value_in k (Some p) = finmap.get p.last.values k
 
--- the value of a key after manager m's journal: the declared one, and each accepted addition whose branch commits
--- later; none for a manager or a key that isn't there
+-- the value that manager m's tables have of a key at the end; none for a manager or a key that isn't there
 abbrev pub value : Settling → ℕ → List ℕ → Option ℤ
 value s m k = value_in k (find_manager m s.managers)

@@ -26,7 +26,7 @@ pub(crate) fn asked_of(call: Call, xid: Option<Xid>, flags: u32) -> Result<Asked
         Call::Commit => Op::Commit(xid.ok_or(Code::Inval)?, mode.one_phase),
         Call::Rollback => Op::Rollback(xid.ok_or(Code::Inval)?),
         Call::Forget => Op::Forget(xid.ok_or(Code::Inval)?),
-        Call::Complete => return Err(Code::Inval),
+        Call::Recover | Call::Complete => return Err(Code::Inval),
     };
     Ok(Asked {
         op,

@@ -16,7 +16,7 @@ use xa_desk::{Desk, Idle, Refused};
 use xa_words::{Call, Code, Op, RmOp, Xid};
 
 // The code that a refusal of a desk is answered as.
-fn code_of(why: Refused) -> Code
+pub(crate) fn code_of(why: Refused) -> Code
     ensures { result ≡ code_of why }
 {
     match why {
@@ -92,10 +92,10 @@ fn put_asked<R: Wait, I: Idle>(
     }
 }
 
-/// A call of C193, chapter 5, but for `xa_complete()`: the handle where it is asynchronous, else the
+/// A call of C193, chapter 5, but for `xa_recover()` and `xa_complete()`: the handle where it is asynchronous, else the
 /// code.
 ///
-/// The refusals, the first that holds: XAER_INVAL for the flags, for `Call::Complete`, and where the
+/// The refusals, the first that holds: XAER_INVAL for the flags, for `Call::Recover` and `Call::Complete`, and where the
 /// call needs an xid and has none; XAER_INVAL for a number that no manager has; XAER_RMFAIL where the
 /// manager is learnt to be shut; XAER_ASYNC for an asynchronous call where the manager takes none or no
 /// handle is free; XAER_RMERR where the thread has used up its requests to the manager; XAER_ASYNC for an

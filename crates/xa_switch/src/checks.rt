@@ -7,7 +7,8 @@ use xa_base::MOST_SENDERS;
 use xa_desk::EndedDesk;
 use xa_worker::DoneWorker;
 
-fn first_opening(desks: &[EndedDesk], workers: &[DoneWorker]) -> u64
+/// The opening of the first piece.
+pub(crate) fn first_opening(desks: &[EndedDesk], workers: &[DoneWorker]) -> u64
     ensures { result ≡ first_opening desks.now workers.now }
 {
     match desks {

@@ -2,9 +2,9 @@
 ghost use Rattle.std.specs.Prelude.{◌≤◌, length, map, IfOk};
 ghost use Rattle.std.specs.List.{All};
 ghost use Rattle.xa_desk.specs.Ended.{IsEnded};
-ghost use Rattle.xa_tables.specs.History.{IsOpening};
+ghost use Rattle.xa_tables.specs.Openings.{IsOpening};
 ghost use Rattle.xa_worker.specs.Done.{IsServed, IsOrdered};
-ghost use Rattle.xa_switch.specs.Closing.{desk_lane, worker_lane, thread_part, manager_part, HasRoomFor, HasRoom, HasTaken, TakesIn};
+ghost use Rattle.xa_switch.specs.Closing.{desk_lane, worker_lane, thread_part, ready_part, HasRoomFor, HasRoom, HasTaken, TakesIn};
 
 use crate::columns::{deal, reserve_columns};
 use crate::settled::{Carried, Thread};
@@ -94,7 +94,7 @@ pub(crate) fn take_workers(workers: Vec<DoneWorker>, mut room: GatheredWorkers) 
     requires few { All (λ w. w.manager.threads ≤ MOST_SENDERS) workers.items }
     requires numbered { All (λ w. 1 ≤ w.number) workers.items }
     requires opened { All (λ w. IsOpening w.first) workers.items }
-    ensures taken { HasTaken (length workers.items) (map (λ w. w.ends) workers.items) (map worker_lane workers.items) (map manager_part workers.items) result }
+    ensures taken { HasTaken (length workers.items) (map (λ w. w.ends) workers.items) (map worker_lane workers.items) (map ready_part workers.items) result }
     ensures known { All IsServed workers.items }
     ensures ordered { All IsOrdered workers.items }
 {

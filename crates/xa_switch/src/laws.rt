@@ -4,12 +4,14 @@
 //! The pieces of an opening come from it. A desk keeps its seat at every call and as it ends, a worker at
 //! every step and as it runs, which each of them says itself; so the seats of what is left at the end are
 //! those of the opening.
-ghost use Rattle.std.specs.Prelude.{◌≡◌, ◌≢◌, ℕ, ◌≤◌, List, ◌++◌, length, map};
+ghost use Rattle.std.specs.Prelude.{◌≡◌, ◌≢◌, ℕ, ◌≤◌, List, ◌++◌, length, map, Some};
 ghost use Rattle.std.specs.List.{All};
 ghost use Rattle.std.specs.List.Sorted.{IsPermutation};
 ghost use Rattle.xa_words.specs.declared.code.Code.{Code};
 ghost use Rattle.xa_tables.specs.Managers.{opening};
 ghost use Rattle.xa_tables.specs.Tables.{Tables};
+ghost use Rattle.xa_tables.specs.History.{History};
+ghost use Rattle.xa_tables.specs.Openings.{IsNew, left_by};
 ghost use Rattle.xa_desk.specs.DeskView.{DeskView, outstanding};
 ghost use Rattle.xa_desk.specs.Kept.{AllKept, HoldsNone};
 ghost use Rattle.xa_desk.specs.Ended.{EndedView};
@@ -17,25 +19,25 @@ ghost use Rattle.xa_worker.specs.Done.{Served};
 ghost use Rattle.xa_worker.specs.Workers.{WorkerView};
 ghost use Rattle.xa_switch.specs.declared.plan.Plan.{Plan};
 ghost use Rattle.xa_switch.specs.Closing.{settling};
-ghost use Rattle.xa_switch.specs.OfPlans.{IsOfPlan};
-ghost use Rattle.xa_switch.specs.Plans.{IsSoundManager};
+ghost use Rattle.xa_switch.specs.OfPlans.{IsOf, IsOfPlan};
+ghost use Rattle.xa_switch.specs.Plans.{Setup, IsSoundManager};
 ghost use Rattle.xa_switch.specs.Openings.{AreOfOneOpening};
 ghost use Rattle.xa_switch.specs.Completing.{CollectsRedeemed};
 ghost use Rattle.xa_switch.specs.Settling.{Settling, IsSettled};
-ghost use Rattle.xa_switch.specs.Fates.{IsOpenedWith};
+ghost use Rattle.xa_switch.specs.Fates.{IsOpenedWith, IsSumOver, first_of};
 ghost use Rattle.xa_switch.specs.Worth.{WorthIsOfThreads, accounts_of};
-ghost use Rattle.xa_switch.specs.Seats.{DeskSeat, WorkerSeat, ComeFromOpenings, AreSomeOf, AreOfOne, desk_seats, worker_seats, openings_of, seat_of_desk, seat_of_worker};
+ghost use Rattle.xa_switch.specs.Seats.{DeskSeat, WorkerSeat, ComeFromOpenings, AreSomeOf, AreAll, desk_seats, worker_seats, openings_of, seat_of_desk, seat_of_worker};
 
-use xa_tables::laws::{commits_alone_move_the_worth, late_requests_add_nothing, value_is_sum};
+use xa_tables::laws::{commits_alone_move_the_worth, value_is_sum};
 
 /// The desks and workers that an opening gives come from it.
 pub fn opened_pieces_come_from_their_opening()
-    ensures { (p : Plan) (ds : List DeskView) (ws : List WorkerView) → AreOfOneOpening p ds ws → ComeFromOpenings (map seat_of_desk ds) (map seat_of_worker ws) }
+    ensures { (p : Setup) (ds : List DeskView) (ws : List WorkerView) → AreOfOneOpening p ds ws → ComeFromOpenings (map seat_of_desk ds) (map seat_of_worker ws) }
 {}
 
 /// They have its number.
 pub fn opened_pieces_have_their_number()
-    ensures { (p : Plan) (ds : List DeskView) (ws : List WorkerView) → AreOfOneOpening p ds ws → All (λ n. n ≡ p.opening) (openings_of (map seat_of_desk ds) (map seat_of_worker ws)) }
+    ensures { (p : Setup) (ds : List DeskView) (ws : List WorkerView) → AreOfOneOpening p ds ws → All (λ n. n ≡ p.numbers.opening) (openings_of (map seat_of_desk ds) (map seat_of_worker ws)) }
 {}
 
 /// Some of the pieces, in any order, still come from their openings.
@@ -48,25 +50,29 @@ pub fn mixed_pieces_come_from_their_openings()
     ensures { (ds others : List DeskSeat) (ws other_ws : List WorkerSeat) → All (λ a. All (λ b. a ≢ b) (openings_of others other_ws)) (openings_of ds ws) → ComeFromOpenings ds ws → ComeFromOpenings others other_ws → ComeFromOpenings (ds ++ others) (ws ++ other_ws) }
 {}
 
-/// What is settled of all pieces of an opening, in any order, is of the plan that it was opened by: its
-/// threads and its managers are those of the plan, and each manager was opened with the plan's accounts.
-pub fn settled_openings_are_of_their_plan()
-    ensures { (p : Plan) (ds : List DeskView) (ws : List WorkerView) (es : List EndedView) (vs : List Served) → AreOfOneOpening p ds ws → IsPermutation (map seat_of_desk ds) (desk_seats es) → IsPermutation (map seat_of_worker ws) (worker_seats vs) → IsOfPlan p (settling es vs) }
+/// What is settled of all pieces of an opening, in any order, is of the setup that it was made with: its number, its
+/// threads and its managers are those of the setup, and each manager began with the setup's tables.
+pub fn settled_openings_are_of_their_setup()
+    ensures { (p : Setup) (ds : List DeskView) (ws : List WorkerView) (es : List EndedView) (vs : List Served) → AreOfOneOpening p ds ws → IsPermutation (map seat_of_desk ds) (desk_seats es) → IsPermutation (map seat_of_worker ws) (worker_seats vs) → AreAll es vs → IsOf p (settling es vs) }
 {}
 
-/// In a settled opening each journal is what the tables that its manager was opened with make of the
-/// requests that it took.
+/// In a settled opening each journal is what the tables that its manager began with make of the requests that it took.
 pub fn settled_journals_follow_the_tables()
-    ensures { (s : Settling) (m : ℕ) → IsSettled s → (T : Tables) × IsOpenedWith s m T }
-{
-    late_requests_add_nothing();
-}
+    ensures some { (s : Settling) (m : ℕ) → IsSettled s → (T : Tables) × IsOpenedWith s m T }
+    ensures first { (s : Settling) (m : ℕ) (T : Tables) → IsSettled s → first_of s m ≡ Some T → IsOpenedWith s m T }
+{}
 
-/// In a settled opening of a plan the tables that a manager was opened with are those of the plan's accounts.
+/// In a settled opening of a plan the tables that a manager began with are those of the plan's accounts.
 pub fn managers_open_with_their_accounts()
     ensures { (p : Plan) (s : Settling) (m : ℕ) → IsSettled s → IsOfPlan p s → 1 ≤ m → m ≤ length p.managers.items → IsOpenedWith s m (opening (accounts_of p m)) }
+{}
+
+/// In a settled opening the values are those that the first opening had, and each accepted addition whose branch
+/// commits later, in its own opening or in another, whichever openings left what its managers began with.
+pub fn settled_values_are_sums()
+    ensures { (s : Settling) (m : ℕ) (before : List History) (T : Tables) → IsSettled s → IsNew T → first_of s m ≡ Some (left_by before T) → IsSumOver s m before T }
 {
-    late_requests_add_nothing();
+    value_is_sum();
 }
 
 /// What all accounts are worth together after the journals is what was declared and what each thread's
@@ -74,8 +80,6 @@ pub fn managers_open_with_their_accounts()
 pub fn threads_move_the_worth()
     ensures { (p : Plan) (s : Settling) → IsSettled s → IsOfPlan p s → All IsSoundManager p.managers.items → WorthIsOfThreads p s }
 {
-    late_requests_add_nothing();
-    value_is_sum();
     commits_alone_move_the_worth();
 }
 
@@ -83,7 +87,7 @@ pub fn threads_move_the_worth()
 /// number is collected, the others stay kept; and where all that is outstanding is kept and nothing is
 /// kept, nothing is outstanding.
 pub fn outstanding_operations_stay_kept()
-    ensures opened { (p : Plan) (ds : List DeskView) (ws : List WorkerView) → AreOfOneOpening p ds ws → All AllKept ds }
+    ensures opened { (p : Setup) (ds : List DeskView) (ws : List WorkerView) → AreOfOneOpening p ds ws → All AllKept ds }
     ensures collected { (old new : DeskView) (k : ℕ) (c : Code) → CollectsRedeemed old new k c → AllKept old → AllKept new }
     ensures none { (d : DeskView) → AllKept d → HoldsNone d → outstanding d.ledgers ≡ 0 }
 {}

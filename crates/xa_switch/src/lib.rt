@@ -15,6 +15,7 @@ mod completing;
 mod gathered;
 mod lanes;
 pub mod laws;
+mod layout;
 mod managers;
 mod opening;
 mod plan;

@@ -2,7 +2,7 @@
 ghost use Rattle.std.specs.Prelude.{◌≡◌, ◌↔◌, map, IfOk, IfErr, OnOk};
 ghost use Rattle.std.specs.List.{All};
 ghost use Rattle.xa_base.specs.Lists.{IsUpTo};
-ghost use Rattle.xa_switch.specs.Plans.{IsSoundManager, new_manager};
+ghost use Rattle.xa_switch.specs.Plans.{IsSoundManager, opened_by};
 
 use crate::plan::{ManagerPlan, OpenFault};
 use std::alloc::Global;
@@ -20,7 +20,7 @@ fn open_manager(
     requires room { IsUpTo MOST_JOURNALED room }
     ensures bad { IfErr result (λ f. f ≡ OpenFault.BadPlan ↔ ¬ IsSoundManager plan.now) }
     ensures sound { OnOk result (IsSoundManager plan.now) }
-    ensures opened { IfOk result (λ m. m ≡ new_manager threads room plan.now) }
+    ensures opened { IfOk result (λ m. m ≡ opened_by threads room plan.now) }
 {
     match Manager::new(alloc, &plan.accounts, threads, room) {
         Ok(manager) => Ok(manager),
@@ -40,7 +40,7 @@ pub(crate) fn open_managers(
     requires room { IsUpTo MOST_JOURNALED room }
     ensures bad { IfErr result (λ f. f ≡ OpenFault.BadPlan ↔ ¬ All IsSoundManager managers.now) }
     ensures sound { OnOk result (All IsSoundManager managers.now) }
-    ensures opened { IfOk result (λ v. v.items ≡ map (new_manager threads room) managers.now) }
+    ensures opened { IfOk result (λ v. v.items ≡ map (opened_by threads room) managers.now) }
 {
     let mut opened = Vec::new(alloc);
     let mut is_short = false;

@@ -1,7 +1,7 @@
 //! What is to be opened.
 ghost use Rattle.std.specs.Prelude.{◌≡◌, ◌↔◌, IsTrue};
 ghost use Rattle.xa_base.specs.Lists.{IsUpTo};
-ghost use Rattle.xa_switch.specs.Plans.{IsWithinLimits, manager_room};
+ghost use Rattle.xa_switch.specs.Plans.{IsWithinLimits, manager_room, numbers_of};
 
 use std::alloc::AllocError;
 use xa_base::{
@@ -55,12 +55,42 @@ impl From<AllocError> for OpenFault {
 }
 
 impl Plan {
-    /// Whether each number is within its limits.
-    pub(crate) fn is_within_limits(&self) -> bool
-        ensures { IsTrue result ↔ IsWithinLimits self.now }
+    /// Its numbers.
+    pub(crate) fn numbers(&self) -> Again
+        ensures { result ≡ numbers_of self.now }
+    {
+        Again {
+            opening: self.opening,
+            threads: self.threads,
+            handles: self.handles,
+            queue: self.queue,
+            requests: self.requests,
+        }
+    }
+}
+
+/// The numbers of an opening: how it is to be opened again.
+#[derive(Clone, Copy, Debug, PartialEq, Eq)]
+pub struct Again {
+    /// The number of the opening, which no other has.
+    pub opening: u64,
+    /// How many threads of control there are: 1 to 8.
+    pub threads: u32,
+    /// How many operations of a thread may be outstanding: 1 to 32.
+    pub handles: u32,
+    /// How many requests and end marks a manager's queue holds: 1 to 64.
+    pub queue: u32,
+    /// How many requests a thread may put to a manager: 1 to 4,096.
+    pub requests: u32,
+}
+
+impl Again {
+    /// Whether each number is within its limits, of so many managers.
+    pub(crate) fn is_within_limits(&self, managers: usize) -> bool
+        ensures { IsTrue result ↔ IsWithinLimits self.now managers }
     {
         (1..=MOST_THREADS).contains(&(self.threads as usize))
-            && (1..=MOST_MANAGERS).contains(&self.managers.len())
+            && (1..=MOST_MANAGERS).contains(&managers)
             && (1..=MOST_HANDLES).contains(&(self.handles as usize))
             && (1..=MOST_QUEUED).contains(&(self.queue as usize))
             && (1..=MOST_REQUESTS).contains(&(self.requests as usize))
@@ -68,7 +98,8 @@ impl Plan {
 
     /// How many requests may be put to a manager.
     pub(crate) fn manager_room(&self) -> u32
-        requires { IsWithinLimits self.now }
+        requires threads { IsUpTo MOST_THREADS self.now.threads }
+        requires requests { IsUpTo MOST_REQUESTS self.now.requests }
         ensures room { result ≡ manager_room self.now }
         ensures limits { IsUpTo MOST_JOURNALED result }
     {

@@ -1,17 +1,23 @@
 //! What a settled opening has.
-ghost use Rattle.std.specs.Prelude.{◌≡◌, ◌≤◌, option_map, pos, IfSome};
-ghost use Rattle.xa_tables.specs.History.{value_after};
+ghost use Rattle.std.specs.Prelude.{◌≡◌, ◌≤◌, ◌++◌, ◌∷◌, [], List, None, Some, option_map, pos, IfOk, IfSome, OnOk};
+ghost use Rattle.std.specs.FinMap as finmap;
+ghost use Rattle.xa_base.specs.Lists.{IsUpTo};
+ghost use Rattle.xa_tables.specs.Tables.{Tables};
+ghost use Rattle.xa_tables.specs.History.{History};
+ghost use Rattle.xa_tables.specs.Openings.{IsNew, AreLeft, reopened, left_by, value_over};
 ghost use Rattle.xa_desk.specs.DeskView.{sent_to, collected_from};
-ghost use Rattle.xa_worker.specs.Journal.{requests};
 ghost use Rattle.xa_switch.specs.Settling.{IsSettled, ledgers_in, find_thread, find_manager, sent, collected, journal, value};
+ghost use Rattle.xa_switch.specs.Fates.{first_of, history};
+ghost use Rattle.xa_switch.specs.Again.{parts_of, find_ready, managers_in};
 
+use crate::laws::settled_values_are_sums;
+use std::alloc::{AllocError, Global};
 use std::marker::Model;
 use std::snapshot::Snapshot;
-use xa_base::MOST_VALUE;
+use xa_base::{MOST_JOURNALED, MOST_MANAGERS, MOST_THREADS, MOST_VALUE};
 use xa_desk::Ledger;
 use xa_tables::Manager;
-use xa_tables::laws::value_is_sum;
-use xa_words::{Code, Key, Op, Request};
+use xa_words::{Code, Key, Op, Request, Xid};
 use xa_worker::DoneWorker;
 
 /// What a thread's desk leaves.
@@ -51,34 +57,58 @@ pub(crate) struct Carried {
 impl Model for Carried {
     ghost use Rattle.std.specs.Coded.{codes};
     ghost use Rattle.xa_tables.specs.Managers.{tables_code};
-    ghost use Rattle.xa_tables.specs.History.{IsOpening};
+    ghost use Rattle.xa_tables.specs.Openings.{IsOpening};
     ghost use Rattle.xa_worker.specs.Journal.{Follows};
-    ghost use Rattle.xa_switch.specs.Settling.{ManagerPart};
+    ghost use Rattle.xa_switch.specs.Settling.{ReadyPart};
     ghost use Rattle.xa_switch.specs.Closing.{taken_by};
 
-    ghost Value = { ManagerPart };
+    ghost Value = { ReadyPart };
 
     ghost coded = { Prim.hlevel (codes, tables_code) };
 
-    ghost view = { λ c. record { number = c.number; first = c.done.value.first; taken = taken_by c.done.value; journal = c.journal.items; last = c.manager.tables } };
+    ghost view = { λ c. record { part = record { number = c.number; first = c.done.value.first; taken = taken_by c.done.value; journal = c.journal.items; last = c.manager.tables }; reserved = c.manager.reserved } };
 
     ghost invariant = { λ c. IsOpening c.done.value.first × Follows c.done.value.first c.journal.items c.manager.tables };
 }
 
 impl Carried {
-    fn number(&self) -> u32
-        ensures { result ≡ self.now.number }
+    pub(crate) fn number(&self) -> u32
+        ensures { result ≡ self.now.part.number }
     {
         self.number
     }
 
-    // The value of a key after the journal.
+    // The value of a key at the end.
     fn value(&self, key: &Key) -> Option<u64>
-        ensures value { option_map pos result ≡ value_after key.now (requests self.now.journal) self.now.first }
+        ensures value { option_map pos result ≡ finmap.get self.now.part.last.values key.now }
         ensures bounded { IfSome result (λ v. v ≤ MOST_VALUE) }
     {
-        value_is_sum();
         self.manager.value(key)
+    }
+
+    /// The branches that are left at the end, rising.
+    pub(crate) fn left(&self, alloc: Global) -> Result<Vec<Xid>, AllocError>
+        ensures { IfOk result (λ v. AreLeft v.items self.now.part.last) }
+    {
+        self.manager.left(alloc)
+    }
+
+    /// Reserves the memory of the next opening, for so many threads and requests.
+    pub(crate) fn reserve(&mut self, threads: u32, room: u32) -> Result<(), AllocError>
+        requires threads { IsUpTo MOST_THREADS threads }
+        requires room { IsUpTo MOST_JOURNALED room }
+        ensures part { self.new.part ≡ self.old.part }
+        ensures reserved { OnOk result (self.new.reserved ≡ Some (threads, room)) }
+    {
+        self.manager.reserve_reopen(threads, room)
+    }
+
+    /// The manager at the next opening, in memory that was reserved for it.
+    pub(crate) fn reopened(self, threads: u32, room: u32) -> Manager
+        requires { self.reserved ≡ Some (threads, room) }
+        ensures { result ≡ record { tables = reopened self.part.last; threads = threads; room = room; reserved = None } }
+    {
+        self.manager.reopened(threads, room)
     }
 }
 
@@ -86,6 +116,7 @@ impl Carried {
 /// was collected agree.
 #[derive(Drop)]
 pub struct Settled {
+    pub(crate) opening: u64,
     pub(crate) threads: Vec<Thread>,
     pub(crate) managers: Vec<Carried>,
 }
@@ -93,15 +124,17 @@ pub struct Settled {
 impl Model for Settled {
     ghost use Rattle.std.specs.Coded.{codes};
     ghost use Rattle.xa_tables.specs.Managers.{tables_code};
+    ghost use Rattle.std.specs.Prelude.{map};
     ghost use Rattle.xa_switch.specs.Settling.{Settling, IsSettled};
+    ghost use Rattle.xa_switch.specs.Again.{IsWhole, parts_of};
 
     ghost Value = { Settling };
 
     ghost coded = { Prim.hlevel (codes, tables_code) };
 
-    ghost view = { λ s. record { threads = s.threads.items; managers = s.managers.items } };
+    ghost view = { λ s. record { opening = s.opening; threads = s.threads.items; managers = parts_of s.managers.items } };
 
-    ghost invariant = { λ s. IsSettled (record { threads = s.threads.items; managers = s.managers.items }) };
+    ghost invariant = { λ s. IsSettled (record { opening = s.opening; threads = s.threads.items; managers = parts_of s.managers.items }) × IsWhole (record { opening = s.opening; threads = s.threads.items; managers = parts_of s.managers.items }) };
 }
 
 fn find_thread_part(threads: &[Thread], thread: u32) -> Option<&Thread>
@@ -110,10 +143,17 @@ fn find_thread_part(threads: &[Thread], thread: u32) -> Option<&Thread>
     threads.iter().find(|part| part.number() == thread)
 }
 
-fn find_carried(managers: &[Carried], manager: u32) -> Option<&Carried>
-    ensures { option_map (λ m. m.now) result ≡ find_manager manager managers.now }
+fn find_ready(managers: &[Carried], manager: u32) -> Option<&Carried>
+    ensures { option_map (λ m. m.now) result ≡ find_ready manager managers.now }
 {
     managers.iter().find(|part| part.number() == manager)
+}
+
+/// What the manager's worker has left, if there is such a manager.
+pub(crate) fn find_carried(managers: &[Carried], manager: u32) -> Option<&Carried>
+    ensures { option_map (λ m. m.now.part) result ≡ find_manager manager (parts_of managers.now) }
+{
+    find_ready(managers, manager)
 }
 
 fn ledgers(threads: &[Thread], thread: u32) -> &[Ledger]
@@ -145,6 +185,17 @@ fn collected_in(ledgers: &[Ledger], manager: u32) -> &[(u32, Code)]
 }
 
 impl Settled {
+    /// How many managers it has, 1 to 8.
+    pub(crate) fn managers(&self) -> usize
+        ensures managers { result ≡ managers_in self.now }
+        ensures limits { IsUpTo MOST_MANAGERS result }
+    {
+        match self.threads.first() {
+            Some(part) => part.ledgers.len(),
+            None => 0,
+        }
+    }
+
     /// What the manager took, in order, each request with its code. Nothing for no manager.
     pub fn journal(&self, manager: u32) -> &[(Request, Code)]
         ensures journal { result.now ≡ journal self.now manager }
@@ -174,10 +225,8 @@ impl Settled {
         collected_in(ledgers(&self.threads, thread), manager)
     }
 
-    /// The committed value of a key at the manager, from 0 to 10^12: what it was declared with, and each
-    /// addition in the journal whose branch commits after it. None for no manager, or for a key that wasn't
-    /// declared there.
-    pub fn value(&self, manager: u32, key: &Key) -> Option<u64>
+    // The value that the manager's tables have of a key at the end.
+    fn tabled_value(&self, manager: u32, key: &Key) -> Option<u64>
         ensures value { option_map pos result ≡ value self.now manager key.now }
         ensures bounded { IfSome result (λ v. v ≤ MOST_VALUE) }
         ensures settled { IsSettled self.now }
@@ -186,5 +235,18 @@ impl Settled {
             Some(part) => part.value(key),
             None => None,
         }
+    }
+
+    /// The committed value of a key at the manager, from 0 to 10^12: what it was declared with, and each
+    /// addition in the journal, and in those of the openings before, whose branch commits after it. None for no
+    /// manager, or for a key that wasn't declared there.
+    pub fn value(&self, manager: u32, key: &Key) -> Option<u64>
+        ensures value { option_map pos result ≡ value self.now manager key.now }
+        ensures sum { (before : List History) (T : Tables) → IsNew T → first_of self.now manager ≡ Some (left_by before T) → option_map pos result ≡ value_over key.now (before ++ history self.now manager ∷ []) T }
+        ensures bounded { IfSome result (λ v. v ≤ MOST_VALUE) }
+        ensures settled { IsSettled self.now }
+    {
+        settled_values_are_sums();
+        self.tabled_value(manager, key)
     }
 }

@@ -2,11 +2,11 @@
 ghost use Rattle.std.specs.Prelude.{◌≡◌, ◌≤◌, length, map, IfOk, IfErr, OnOk};
 ghost use Rattle.std.specs.List.{All};
 ghost use Rattle.xa_switch.specs.Settling.{IsSettled};
-ghost use Rattle.xa_switch.specs.Seats.{desk_seats, worker_seats, ComeFromOpenings, AreOfOne, AreAll, IsWhyUnsettled};
+ghost use Rattle.xa_switch.specs.Seats.{desk_seats, worker_seats, ComeFromOpenings, AreOfOne, AreAll, IsWhyUnsettled, first_opening};
 ghost use Rattle.xa_switch.specs.Closing.{settling, HasRoomFor};
 ghost use Rattle.xa_switch.specs.Fates.{ledgers_of};
 
-use crate::checks::{are_all, are_of_one};
+use crate::checks::{are_all, are_of_one, first_opening};
 use crate::closing::close_lanes;
 use crate::gathered::{
     Gathered, GatheredDesks, GatheredWorkers, reserve_gathered, take_desks, take_workers,
@@ -65,13 +65,14 @@ pub fn settle<R: Wait>(
     let Ok(worker_room) = reserve_gathered(alloc, workers.len()) else {
         return Err(refused(Why::NoMemory, desks, workers));
     };
+    let opening = first_opening(&desks, &workers);
     if !are_of_one(&desks, &workers) {
         return Err(refused(Why::Stranger, desks, workers));
     }
     if !are_all(&desks, &workers) {
         return Err(refused(Why::Missing, desks, workers));
     }
-    Ok(close_all(rt, alloc, desks, workers, desk_room, worker_room))
+    Ok(close_all(rt, alloc, opening, desks, workers, desk_room, worker_room))
 }
 
 fn refused(why: Why, desks: Vec<EndedDesk>, workers: Vec<DoneWorker>) -> Unsettled
@@ -88,12 +89,14 @@ fn refused(why: Why, desks: Vec<EndedDesk>, workers: Vec<DoneWorker>) -> Unsettl
 fn close_all<R: Wait>(
     rt: &R,
     alloc: Global,
+    opening: u64,
     desks: Vec<EndedDesk>,
     workers: Vec<DoneWorker>,
     desk_room: GatheredDesks,
     worker_room: GatheredWorkers,
 ) -> Settled
     requires from { ComeFromOpenings (desk_seats desks.items) (worker_seats workers.items) }
+    requires opening { opening ≡ first_opening desks.items workers.items }
     requires one { AreOfOne desks.items workers.items }
     requires whole { AreAll desks.items workers.items }
     requires few_managers { All (λ d. length d.ledgers ≤ MOST_SENDERS) desks.items }
@@ -116,5 +119,9 @@ fn close_all<R: Wait>(
     } = take_workers(workers, worker_room);
     close_lanes(rt, alloc, sent, requests);
     close_lanes(rt, alloc, answered, completions);
-    Settled { threads, managers }
+    Settled {
+        opening,
+        threads,
+        managers,
+    }
 }

@@ -25,8 +25,9 @@ use Rattle.xa_words.specs.Key.{key_eq}
 use Rattle.xa_words.specs.Orders.{key_cmp, key_cmp_total, key_cmp-IsAntisymmetric, xid_cmp_total, xid_cmp-IsAntisymmetric, Decides-xid_eq, Decides-key_eq}
 use Rattle.xa_tables.specs.declared.accounts.Account.{Account}
 use Rattle.xa_tables.specs.declared.accounts.Hold.{Hold}
-use Rattle.xa_tables.specs.Tables.{Touch, touch_cmp, is_within, value_of, sum_of, has_touched, has_other_touched, is_broken, posted, sums_without}
-use Rattle.xa_tables.specs.Accounts.{IsSmall, IsGood, with_hold, hold_entries, value_entries, AreDistinct, AreDistinctEntries, hold_is_of, is_held_by, hold_is_other, hold_breaks, is_broken_by, amount_in, added_to, hold_without, amount_of, posted_by, forgotten_by}
+use Rattle.xa_tables.specs.declared.state.State.{State}
+use Rattle.xa_tables.specs.Tables.{Touch, touch_cmp, is_within, is_S3, value_of, sum_of, has_touched, has_other_touched, is_broken, posted}
+use Rattle.xa_tables.specs.Accounts.{IsSmall, IsGood, with_hold, hold_entries, value_entries, AreDistinct, AreDistinctEntries, hold_is_of, is_held_by, hold_is_other, hold_breaks, is_broken_by, amount_in, added_to, hold_where, hold_without, amount_of, posted_by, forgotten_by, retained_in}
 use Rattle.xa_tables.proofs.MapLemmas.{equal_from, put_one, retain_some, map_some, any_entries, Distinct}
 
 -- touches are ordered, and no two are tied
@@ -170,61 +171,71 @@ broken_any accounts x h =
     any_entries touch_cmp_total touch_cmp-IsAntisymmetric (λ p s. xid_eq p.0 x && not (is_within (value_of values p.1 +ℤ s))) (hold_entries accounts) (distinct_holds accounts h)
     ∙ broken_each values x (value_entries accounts) (λ k. get-from_entries key_cmp_total (value_entries accounts) k) accounts (values_all accounts h)
 
--- ---- the branch x lets go of its keys
+-- ---- some branches let go of their keys
 
--- f leaves the keys, and takes the holds of x away
-pub record LetsGo (x : XidName) (f : Account → Account) : Type 0 where
+-- f leaves the keys, and takes the holds away that aren't to be kept
+pub record LetsGo (keep : XidName → Bool) (f : Account → Account) : Type 0 where
   pub key : (a : Account) → (f a).key ≡ a.key
-  pub hold : (a : Account) → (f a).hold ≡ hold_without a.hold x
+  pub hold : (a : Account) → (f a).hold ≡ hold_where keep a.hold
 
-pub posted_goes : (x : XidName) → LetsGo x (posted_by x)
+-- all branches but x
+abbrev pub all_but : XidName → XidName → Bool
+all_but x y = not (xid_eq y x)
+
+pub posted_goes : (x : XidName) → LetsGo (all_but x) (posted_by x)
 posted_goes x = record { key = λ a. refl; hold = λ a. refl }
 
-pub forgotten_goes : (x : XidName) → LetsGo x (forgotten_by x)
+pub forgotten_goes : (x : XidName) → LetsGo (all_but x) (forgotten_by x)
 forgotten_goes x = record { key = λ a. refl; hold = λ a. refl }
 
-kept_hold : (x : XidName) (p : Touch) (k : List ℕ) (l : Hold) (fs es : List (Touch × ℤ)) → find touch_cmp p fs ≡ cond (not (xid_eq p.0 x)) (find touch_cmp p es) None
-    → find touch_cmp p (with_hold k (if xid_eq l.xid x then None else Some l) fs) ≡ cond (not (xid_eq p.0 x)) (cond (same_touch p (l.xid, k)) (Some l.amount) (find touch_cmp p es)) None
-kept_hold x p k l fs es later =
-    elim (same_touch p (l.xid, k)) as (λ t. same_touch p (l.xid, k) ≡ t → find touch_cmp p (with_hold k (if xid_eq l.xid x then None else Some l) fs) ≡ cond (not (xid_eq p.0 x)) (cond t (Some l.amount) (find touch_cmp p es)) None) [
+pub retained_goes : (states : FinMap xid_cmp State) → LetsGo (λ x. is_S3 (finmap.get states x)) (retained_in states)
+retained_goes states = record { key = λ a. refl; hold = λ a. refl }
+
+kept_hold : (keep : XidName → Bool) (p : Touch) (k : List ℕ) (l : Hold) (fs es : List (Touch × ℤ)) → find touch_cmp p fs ≡ cond (keep p.0) (find touch_cmp p es) None
+    → find touch_cmp p (with_hold k (if keep l.xid then Some l else None) fs) ≡ cond (keep p.0) (cond (same_touch p (l.xid, k)) (Some l.amount) (find touch_cmp p es)) None
+kept_hold keep p k l fs es later =
+    elim (same_touch p (l.xid, k)) as (λ t. same_touch p (l.xid, k) ≡ t → find touch_cmp p (with_hold k (if keep l.xid then Some l else None) fs) ≡ cond (keep p.0) (cond t (Some l.amount) (find touch_cmp p es)) None) [
       | true ↦ λ t.
-          let same : p.0 ≡ l.xid = ap (λ (r : Touch). r.0) (touch_from p (l.xid, k) t) in
-          elim (xid_eq l.xid x) as (λ b. xid_eq l.xid x ≡ b → find touch_cmp p (with_hold k (if b then None else Some l) fs) ≡ cond (not (xid_eq p.0 x)) (Some l.amount) None) [
-            | true ↦ λ y. let z : xid_eq p.0 x ≡ true = ap (λ w. xid_eq w x) same ∙ y in later ∙ ap (λ b. cond (not b) (find touch_cmp p es) None) z ∙ sym (ap (λ b. cond (not b) (Some l.amount) None) z)
-            | false ↦ λ y. let z : xid_eq p.0 x ≡ false = ap (λ w. xid_eq w x) same ∙ y in ap (λ b. cond b (Some l.amount) (find touch_cmp p fs)) t ∙ sym (ap (λ b. cond (not b) (Some l.amount) None) z)
+          let same : keep p.0 ≡ keep l.xid = ap (λ (r : Touch). keep r.0) (touch_from p (l.xid, k) t) in
+          elim (keep l.xid) as (λ b. keep l.xid ≡ b → find touch_cmp p (with_hold k (if b then Some l else None) fs) ≡ cond (keep p.0) (Some l.amount) None) [
+            | true ↦ λ y. ap (λ b. cond b (Some l.amount) (find touch_cmp p fs)) t ∙ sym (ap (λ b. cond b (Some l.amount) None) (same ∙ y))
+            | false ↦ λ y. later ∙ ap (λ b. cond b (find touch_cmp p es) None) (same ∙ y) ∙ sym (ap (λ b. cond b (Some l.amount) None) (same ∙ y))
           ] refl
-      | false ↦ λ t. elim (xid_eq l.xid x) as (λ b. find touch_cmp p (with_hold k (if b then None else Some l) fs) ≡ cond (not (xid_eq p.0 x)) (find touch_cmp p es) None) [
-        | true ↦ later
-        | false ↦ ap (λ b. cond b (Some l.amount) (find touch_cmp p fs)) t ∙ later
+      | false ↦ λ t. elim (keep l.xid) as (λ b. find touch_cmp p (with_hold k (if b then Some l else None) fs) ≡ cond (keep p.0) (find touch_cmp p es) None) [
+        | true ↦ ap (λ b. cond b (Some l.amount) (find touch_cmp p fs)) t ∙ later
+        | false ↦ later
       ]
     ] refl
 
 plus_none : (v : ℤ) → v +ℤ pos 0 ≡ v
 plus_none v = omega (arith, ints)
 
-kept_holds : (x : XidName) (f : Account → Account) → LetsGo x f → (accounts : List Account) (p : Touch)
-    → find touch_cmp p (hold_entries (map f accounts)) ≡ cond (not (xid_eq p.0 x)) (find touch_cmp p (hold_entries accounts)) None
-kept_holds x f g [] p = elim (not (xid_eq p.0 x)) as (λ b. ◌≡◌ {A = Option ℤ} None (cond b None None)) [ true ↦ refl | false ↦ refl ]
-kept_holds x f g (a ∷ rest) p =
-    let later = kept_holds x f g rest p in
+kept_holds : (keep : XidName → Bool) (f : Account → Account) → LetsGo keep f → (accounts : List Account) (p : Touch)
+    → find touch_cmp p (hold_entries (map f accounts)) ≡ cond (keep p.0) (find touch_cmp p (hold_entries accounts)) None
+kept_holds keep f g [] p = elim (keep p.0) as (λ b. ◌≡◌ {A = Option ℤ} None (cond b None None)) [ true ↦ refl | false ↦ refl ]
+kept_holds keep f g (a ∷ rest) p =
+    let later = kept_holds keep f g rest p in
     (λ i. find touch_cmp p (with_hold (g.key a i) (g.hold a i) (hold_entries (map f rest))))
-    ∙ elim (a.hold) as (λ o. find touch_cmp p (with_hold a.key (hold_without o x) (hold_entries (map f rest))) ≡ cond (not (xid_eq p.0 x)) (find touch_cmp p (with_hold a.key o (hold_entries rest))) None) [
+    ∙ elim (a.hold) as (λ o. find touch_cmp p (with_hold a.key (hold_where keep o) (hold_entries (map f rest))) ≡ cond (keep p.0) (find touch_cmp p (with_hold a.key o (hold_entries rest))) None) [
       | None ↦ later
-      | Some l ↦ kept_hold x p a.key l (hold_entries (map f rest)) (hold_entries rest) later
+      | Some l ↦ kept_hold keep p a.key l (hold_entries (map f rest)) (hold_entries rest) later
     ]
 
-forgotten_values : (x : XidName) (accounts : List Account) → value_entries (map (forgotten_by x) accounts) ≡ value_entries accounts
-forgotten_values x [] = refl
-forgotten_values x (a ∷ rest) = ap (λ es. (a.key, a.value) ∷ es) (forgotten_values x rest)
+-- the values stay where f leaves each account's
+pub values_stay : (f : Account → Account) → ((a : Account) → (f a).key ≡ a.key) → ((a : Account) → (f a).value ≡ a.value) → (accounts : List Account) → value_entries (map f accounts) ≡ value_entries accounts
+values_stay f keys values [] = refl
+values_stay f keys values (a ∷ rest) = λ i. (keys a i, values a i) ∷ values_stay f keys values rest i
 
--- the values stay where x is rolled back
 pub values_forgotten : (x : XidName) (accounts : List Account) → value_entries (map (forgotten_by x) accounts) ≡ value_entries accounts
-values_forgotten = forgotten_values
+values_forgotten x = values_stay (forgotten_by x) (λ a. refl) (λ a. refl)
 
--- the sums are then those of the other branches
-pub sums_go : (x : XidName) (f : Account → Account) → LetsGo x f → (accounts : List Account)
-    → from_entries {R = touch_cmp} (hold_entries (map f accounts)) ≡ sums_without (from_entries (hold_entries accounts)) x
-sums_go x f g accounts = retain_some touch_cmp_total touch_cmp-IsAntisymmetric _ _ (λ p. not (xid_eq p.0 x)) (kept_holds x f g accounts)
+pub values_retained : (states : FinMap xid_cmp State) (accounts : List Account) → value_entries (map (retained_in states) accounts) ≡ value_entries accounts
+values_retained states = values_stay (retained_in states) (λ a. refl) (λ a. refl)
+
+-- the sums are then those of the branches that are kept
+pub sums_go : (keep : XidName → Bool) (f : Account → Account) → LetsGo keep f → (accounts : List Account)
+    → from_entries {R = touch_cmp} (hold_entries (map f accounts)) ≡ finmap.retain_keys (from_entries (hold_entries accounts)) (λ p. keep p.0)
+sums_go keep f g accounts = retain_some touch_cmp_total touch_cmp-IsAntisymmetric _ _ (λ p. keep p.0) (kept_holds keep f g accounts)
 
 -- what x holds of each key
 abbrev Amounts : XidName → List (Touch × ℤ) → List Account → Type 0
@@ -281,7 +292,10 @@ distinct_posted x [] h = tt
 distinct_posted x (a ∷ rest) h = (lacks_posted x a.key rest h.0, distinct_posted x rest h.1)
 
 pub distinct_forgotten : (x : XidName) (accounts : List Account) → AreDistinct accounts → AreDistinct (map (forgotten_by x) accounts)
-distinct_forgotten x accounts h = subst AreDistinctEntries (sym (forgotten_values x accounts)) h
+distinct_forgotten x accounts h = subst AreDistinctEntries (sym (values_forgotten x accounts)) h
+
+pub distinct_retained : (states : FinMap xid_cmp State) (accounts : List Account) → AreDistinct accounts → AreDistinct (map (retained_in states) accounts)
+distinct_retained states accounts h = subst AreDistinctEntries (sym (values_retained states accounts)) h
 
 -- another branch is broken as it was
 each_as_was : (p : Account → Bool) (f : Account → Account) → ((a : Account) → p (f a) ≡ p a) → (accounts : List Account) → list_any p (map f accounts) ≡ list_any p accounts
@@ -291,7 +305,7 @@ each_as_was p f is (a ∷ rest) = λ i. is a i || each_as_was p f is rest i
 forgotten_breaks : (x y : XidName) → y ≢ x → (v : ℤ) (o : Option Hold) → hold_breaks v (hold_without o x) y ≡ hold_breaks v o y
 forgotten_breaks x y apart v None = refl
 forgotten_breaks x y apart v (Some l) =
-    elim (xid_eq l.xid x) as (λ b. xid_eq l.xid x ≡ b → hold_breaks v (if b then None else Some l) y ≡ (xid_eq l.xid y && not (is_within (v +ℤ l.amount)))) [
+    elim (xid_eq l.xid x) as (λ b. xid_eq l.xid x ≡ b → hold_breaks v (if not b then Some l else None) y ≡ (xid_eq l.xid y && not (is_within (v +ℤ l.amount)))) [
       | true ↦ λ t. sym (ap (λ b. b && not (is_within (v +ℤ l.amount))) (false_from_ne_true (xid_eq l.xid y) (λ s. apart (sym ((Decides-xid_eq l.xid y).0 s) ∙ (Decides-xid_eq l.xid x).0 t))))
       | false ↦ λ t. refl
     ] refl
@@ -299,7 +313,7 @@ forgotten_breaks x y apart v (Some l) =
 settled_breaks : (x y : XidName) → y ≢ x → (v : ℤ) (o : Option Hold) → hold_breaks (v +ℤ amount_of o x) (hold_without o x) y ≡ hold_breaks v o y
 settled_breaks x y apart v None = refl
 settled_breaks x y apart v (Some l) =
-    elim (xid_eq l.xid x) as (λ b. xid_eq l.xid x ≡ b → hold_breaks (v +ℤ (if b then l.amount else pos 0)) (if b then None else Some l) y ≡ (xid_eq l.xid y && not (is_within (v +ℤ l.amount)))) [
+    elim (xid_eq l.xid x) as (λ b. xid_eq l.xid x ≡ b → hold_breaks (v +ℤ (if b then l.amount else pos 0)) (if not b then Some l else None) y ≡ (xid_eq l.xid y && not (is_within (v +ℤ l.amount)))) [
       | true ↦ λ t. sym (ap (λ b. b && not (is_within (v +ℤ l.amount))) (false_from_ne_true (xid_eq l.xid y) (λ s. apart (sym ((Decides-xid_eq l.xid y).0 s) ∙ (Decides-xid_eq l.xid x).0 t))))
       | false ↦ λ t. ap (λ w. xid_eq l.xid y && not (is_within (w +ℤ l.amount))) (plus_none v)
     ] refl
@@ -437,12 +451,12 @@ others_added accounts i a x d dist h e for y apart =
 pub within_bounds : (v : ℤ) → is_within v ≡ true → (pos 0 ≤ℤ v) × (v ≤ℤ pos 1000000000000)
 within_bounds v e = (le_z_yes (T_from_true _ (and_parts _ _ e).0), le_z_yes (T_from_true _ (and_parts _ _ e).1))
 
-small_without : (n : ℕ) (x : XidName) (o : Option Hold) → IsSmall n o → IsSmall n (hold_without o x)
-small_without n x None s = tt
-small_without n x (Some l) s = elim (xid_eq l.xid x) as (λ b. IsSmall n (if b then None else Some l)) [ true ↦ tt | false ↦ s ]
+small_where : (n : ℕ) (keep : XidName → Bool) (o : Option Hold) → IsSmall n o → IsSmall n (hold_where keep o)
+small_where n keep None s = tt
+small_where n keep (Some l) s = elim (keep l.xid) as (λ b. IsSmall n (if b then Some l else None)) [ true ↦ s | false ↦ tt ]
 
 good_forgotten : (n : ℕ) (x : XidName) (a : Account) → IsGood n a → IsGood n (forgotten_by x a)
-good_forgotten n x a g = (g.0, g.1, small_without n x a.hold g.2)
+good_forgotten n x a g = (g.0, g.1, small_where n (all_but x) a.hold g.2)
 
 posted_value : (x : XidName) (v : ℤ) (o : Option Hold) → hold_breaks v o x ≡ false → (pos 0 ≤ℤ v) × (v ≤ℤ pos 1000000000000) → (pos 0 ≤ℤ (v +ℤ amount_of o x)) × ((v +ℤ amount_of o x) ≤ℤ pos 1000000000000)
 posted_value x v None e g = subst (λ (w : ℤ). (pos 0 ≤ℤ w) × (w ≤ℤ pos 1000000000000)) (sym (plus_none v)) g
@@ -453,7 +467,7 @@ posted_value x v (Some l) e g =
     ] e
 
 good_posted : (n : ℕ) (x : XidName) (a : Account) → IsGood n a → is_broken_by a x ≡ false → IsGood n (posted_by x a)
-good_posted n x a g e = let v = posted_value x a.value a.hold e (g.0, g.1) in (v.0, v.1, small_without n x a.hold g.2)
+good_posted n x a g e = let v = posted_value x a.value a.hold e (g.0, g.1) in (v.0, v.1, small_where n (all_but x) a.hold g.2)
 
 small_more : (n : ℕ) (o : Option Hold) → IsSmall n o → IsSmall (n + 1) o
 small_more n None s = tt
@@ -482,3 +496,27 @@ all_added n i a x d accounts delta h e g k b j =
           let old : IsGood n (get_or accounts k b) = g k b (omega (arith, length-set accounts i (added_to a x d))) in
           subst (IsGood (n + 1)) (sym (get_or-set_other accounts i k (added_to a x d) b (λ y. let z = eq-eqb k i y in cc))) (old.0, old.1, small_more n _ old.2)
     ] refl
+
+-- a prepared branch keeps the value within the limits, so its sum is that of one addition
+small_prepared : (keep : XidName → Bool) (v : ℤ) (o : Option Hold) → (pos 0 ≤ℤ v) × (v ≤ℤ pos 1000000000000) → ((x : XidName) → keep x ≡ true → hold_breaks v o x ≡ false) → IsSmall 1 (hold_where keep o)
+small_prepared keep v None g unbroken = tt
+small_prepared keep v (Some l) g unbroken =
+    elim (keep l.xid) as (λ b. keep l.xid ≡ b → IsSmall 1 (if b then Some l else None)) [
+      | true ↦ λ t.
+          let fits : is_within (v +ℤ l.amount) ≡ true = not-false _ (ap (λ b. b && not (is_within (v +ℤ l.amount))) (sym ((Decides-xid_eq l.xid l.xid).1 refl)) ∙ unbroken l.xid t) in
+          let sum : (pos 0 ≤ℤ (v +ℤ l.amount)) × ((v +ℤ l.amount) ≤ℤ pos 1000000000000) = within_bounds _ fits in
+          (omega (arith, ints), omega (arith, ints))
+      | false ↦ λ t. tt
+    ] refl
+
+pub all_retained : (n : ℕ) (states : FinMap xid_cmp State) (accounts : List Account) → All (IsGood n) accounts
+    → ((x : XidName) → is_S3 (finmap.get states x) ≡ true → list_any (λ a. is_broken_by a x) accounts ≡ false) → All (IsGood 1) (map (retained_in states) accounts)
+all_retained n states accounts g unbroken =
+    All-map (IsGood 1) (retained_in states) accounts (λ k d h.
+    let a : Account = get_or accounts k d in
+    let good : IsGood n a = g k d h in (
+      good.0,
+      good.1,
+      small_prepared (λ x. is_S3 (finmap.get states x)) a.value a.hold (good.0, good.1) (λ x voted.
+          false_from_ne_true _ (λ t. let some = list_any_at (λ b. is_broken_by b x) accounts k d h t in let none = unbroken x voted in cc)),
+    ))

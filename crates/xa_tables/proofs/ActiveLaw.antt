@@ -4,9 +4,9 @@ use Rattle.std.proofs.Common.{sym, ap, ◌∙◌, subst, ⊎_elim}
 use Rattle.std.specs.Ordering.{nat_cmp, eq_by_cmp, is_eq}
 use Rattle.std.specs.Cmp.{nat_cmp_total, tied_itself}
 use Rattle.std.specs.FinMap as map
-use Rattle.std.specs.FinMap.{FinMap, get-empty, get-insert, get-remove, nat_cmp-IsAntisymmetric}
-use Rattle.std.proofs.lemmas.Bool.{false_from_ne_true, or_cases}
-use Rattle.xa_words.specs.Xid.{XidName, xid_cmp, xid_eq}
+use Rattle.std.specs.FinMap.{FinMap, get-insert, get-remove, nat_cmp-IsAntisymmetric}
+use Rattle.std.proofs.lemmas.Bool.{or_cases}
+use Rattle.xa_words.specs.Xid.{XidName, xid_eq}
 use Rattle.xa_words.specs.Orders.{Decides-xid_eq}
 use Rattle.xa_words.specs.declared.request.Op.{Op}
 use Rattle.xa_tables.specs.declared.state.State.{State}
@@ -16,12 +16,13 @@ use Rattle.xa_tables.specs.declared.state.RollbackReason.TheVariants.{Failed, Tr
 use Rattle.xa_tables.specs.declared.state.Association.{Association}
 use Rattle.xa_tables.specs.declared.state.AssociationState.{AssociationState}
 use Rattle.xa_tables.specs.declared.state.AssociationState.TheVariants.{Associated, Suspended}
-use Rattle.xa_tables.specs.Tables.{Tables, association_of, has_association, is_association_with, is_associated, state_of, is_S1, is_S2, is_S3, is_S4, is_S5, is_rollback_only, is_somebody_associated}
+use Rattle.xa_tables.specs.Tables.{Tables, association_of, has_association, is_association_with, is_associated, state_of, is_S1, is_S2, is_S3, is_S4, is_S5, is_left_in, is_rollback_only, is_somebody_associated}
 use Rattle.xa_tables.specs.Next.{Answer, next, association, with_association, associated, dissociated, stated, gone}
-use Rattle.xa_tables.specs.History.{History, tables_after, IsOpening, ActiveWhileAssociated}
+use Rattle.xa_tables.specs.History.{History, tables_after, ActiveWhileAssociated}
+use Rattle.xa_tables.specs.Openings.{IsOpening}
 use Rattle.xa_tables.proofs.MapLemmas.{equal_from}
 use Rattle.xa_tables.proofs.Effects.{Effect, Starts, Joins, Resumes, Suspends, Leaves, Fails, Idles, Dooms, Prepares, Commits, Drops, CommitsByItself, RollsBackByItself, Forgets, effect_of}
-use Rattle.xa_tables.proofs.Law.{Sound, AtWork, standing, get_put, get_gone, nobody_rests, run_sound, opening_sound}
+use Rattle.xa_tables.proofs.Law.{AtWork, standing, get_put, get_gone, nobody_rests, run_sound, opening_sound}
 use Rattle.xa_tables.proofs.Unnamed.{apart_from, nobody_with, nobody_joins, nobody_leaves}
 
 -- a branch with which nobody is associated isn't active, and with an idle one nobody is
@@ -200,11 +201,19 @@ conclude (Some (RollbackOnly reason)) false active idle rests = refl
 conclude (Some (HeuristicallyCompleted decision)) true active idle rests = refl
 conclude (Some (HeuristicallyCompleted decision)) false active idle rests = refl
 
+-- a branch that an opening begins with is neither active nor idle
+left_rests : (o : Option State) → ((s : State) → o ≡ Some s → is_left_in (Some s) ≡ true) → (is_S1 o ≡ false) × (is_S2 o ≡ false)
+left_rests None left = (refl, refl)
+left_rests (Some Active) left = let z : false ≡ true = left Active refl in cc
+left_rests (Some Idle) left = let z : false ≡ true = left Idle refl in cc
+left_rests (Some S3) left = (refl, refl)
+left_rests (Some (RollbackOnly reason)) left = (refl, refl)
+left_rests (Some (HeuristicallyCompleted decision)) left = (refl, refl)
+
 opening_at_work : (T : Tables) → IsOpening T → AtWorkWhile T
-opening_at_work T o = record {
-  active = λ x nobody. ap (λ m. is_S1 (map.get m x)) o.states ∙ ap is_S1 (get-empty xid_cmp x);
-  idle = λ x is. let none : is_S2 (state_of T x) ≡ false = ap (λ m. is_S2 (map.get m x)) o.states ∙ ap is_S2 (get-empty xid_cmp x) in let z : true ≡ false = sym is ∙ none in cc;
-}
+opening_at_work T o =
+    let rests : (x : XidName) → (is_S1 (state_of T x) ≡ false) × (is_S2 (state_of T x) ≡ false) = λ x. left_rests (state_of T x) (λ s e. ap is_left_in (sym e) ∙ o.left x s e) in
+    record { active = λ x nobody. (rests x).0; idle = λ x is. let z : true ≡ false = sym is ∙ (rests x).1 in cc }
 
 pub active_law : (h : History) (x : XidName) (T : Tables) → IsOpening T → ActiveWhileAssociated x h T
 active_law h x T o =

@@ -1,9 +1,7 @@
--- The law: a branch that is heuristically completed has the fate that was decided.
-use Rattle.std.specs.Prelude.{◌≡◌, ℕ, true, false, if◌then◌else◌, Option, None, Some, unwrap_or, [], ◌∷◌, refl}
+-- A branch that is heuristically completed has the fate that was decided.
+use Rattle.std.specs.Prelude.{◌≡◌, ℕ, true, false, if◌then◌else◌, Option, None, Some, unwrap_or, [], ◌∷◌}
 use Rattle.std.proofs.Common.{sym, ap, ◌∙◌}
-use Rattle.std.specs.FinMap as map
-use Rattle.std.specs.FinMap.{get-empty}
-use Rattle.xa_words.specs.Xid.{XidName, xid_cmp, xid_eq}
+use Rattle.xa_words.specs.Xid.{XidName, xid_eq}
 use Rattle.xa_words.specs.declared.request.Op.{Op}
 use Rattle.xa_tables.specs.declared.state.State.{State}
 use Rattle.xa_tables.specs.declared.state.State.TheVariants.{Active, Idle, Prepared as S3, RollbackOnly, HeuristicallyCompleted}
@@ -12,13 +10,12 @@ use Rattle.xa_tables.specs.declared.state.HeuristicDecision.TheVariants as decis
 use Rattle.xa_tables.specs.declared.state.RollbackReason.TheVariants.{Failed, Transient}
 use Rattle.xa_tables.specs.Tables.{Tables, state_of}
 use Rattle.xa_tables.specs.Next.{Answer, next, stated}
-use Rattle.xa_tables.specs.History.{History, Fate, Absent, Live, InDoubt, Committed, HeurCommitted, HeurRolledBack, fate, fate_of, if_named, last_or, decided_fate, tables_after, accepted, IsOpening, EndedAsDecided}
-use Rattle.xa_tables.proofs.ShutLemmas.{after_accepted}
+use Rattle.xa_tables.specs.History.{History, Fate, Live, InDoubt, Committed, HeurCommitted, HeurRolledBack, fate_of, if_named, last_or, decided_fate, tables_after}
 use Rattle.xa_tables.proofs.Effects.{Effect, Stays, Starts, Joins, Resumes, Fails, Idles, Dooms, Prepares, Commits, Drops, CommitsByItself, RollsBackByItself, Forgets, effect_of, named_none}
 use Rattle.xa_tables.proofs.Law.{get_put, get_gone, fates, last_more}
 
 -- where the state is S5, the fate is what was decided
-abbrev IsAsDecided : Option State → Fate → Type 0
+abbrev pub IsAsDecided : Option State → Fate → Type 0
 IsAsDecided o f = (d : HeuristicDecision) → o ≡ Some (HeuristicallyCompleted d) → f ≡ decided_fate d
 
 same_decision : (c d : HeuristicDecision) → Some (HeuristicallyCompleted c) ≡ Some (HeuristicallyCompleted d) → c ≡ d
@@ -63,13 +60,8 @@ module _ (t : ℕ) (x : XidName) (f : Fate) (T : Tables) (w : IsAsDecided (state
   -- the others change no state and say nothing of any branch
   by_effect effect = w
 
-run : (h : History) (x : XidName) (f : Fate) (T : Tables) → IsAsDecided (state_of T x) f → IsAsDecided (state_of (tables_after h T) x) (last_or f (fates x h T))
+pub run : (h : History) (x : XidName) (f : Fate) (T : Tables) → IsAsDecided (state_of T x) f → IsAsDecided (state_of (tables_after h T) x) (last_or f (fates x h T))
 run [] x f T w = w
 run (r ∷ h) x f T w = λ d e.
     let o : Option Fate = fate_of x r.op (next r.thread r.op T).1 in
     sym (last_more f o (fates x h (next r.thread r.op T).0)) ∙ run h x (unwrap_or o f) (next r.thread r.op T).0 (by_effect r.thread x f T w (effect_of r.thread r.op T)) d e
-
-pub decided_law : (h : History) (x : XidName) (T : Tables) → IsOpening T → EndedAsDecided x h T
-decided_law h x T o d e =
-    run (accepted h) x Absent T (λ c s. let none : state_of T x ≡ None = ap (λ m. map.get m x) o.states ∙ get-empty xid_cmp x in let z : None ≡ Some (HeuristicallyCompleted c) = sym none ∙ s in cc)
-    d (sym (after_accepted (λ (U : Tables). state_of U x) (λ _. refl) h T) ∙ e)

@@ -8,9 +8,9 @@ use Rattle.xa_base.proofs.Truth.{by_if}
 use Rattle.xa_words.specs.Xid.{XidName, xid_eq}
 use Rattle.xa_words.specs.Key.{key_eq}
 use Rattle.xa_words.specs.declared.code.Code.{Code}
-use Rattle.xa_words.specs.declared.code.Code.TheVariants.{Done, RdOnly, RbRollback, RbCommFail, RbDeadlock, RbIntegrity, RbOther, RbProto, RbTimeout, RbTransient, HeurRb, HeurCom, Async, RmErr, Nota, Inval, Proto, RmFail, DupId, Outside}
+use Rattle.xa_words.specs.declared.code.Code.TheVariants.{Done, RdOnly, RbRollback, RbCommFail, RbDeadlock, RbIntegrity, RbOther, RbProto, RbTimeout, RbTransient, Async, RmErr, Nota, Inval, Proto, RmFail, DupId, Outside}
 use Rattle.xa_words.specs.declared.request.Op.{Op}
-use Rattle.xa_words.specs.declared.request.Op.TheVariants.{OpenRm, CloseRm, Start, Add, End, Prepare, Commit, Rollback, Forget, Heur, Shut}
+use Rattle.xa_words.specs.declared.request.Op.TheVariants.{OpenRm, CloseRm, Start, Add, End, Prepare, Commit, Rollback, Forget, Heur, Listed, Shut}
 use Rattle.xa_words.specs.declared.request.StartHow.{StartHow}
 use Rattle.xa_words.specs.declared.request.StartHow.TheVariants.{Fresh, Join, Resume}
 use Rattle.xa_words.specs.declared.request.EndHow.{EndHow}
@@ -22,9 +22,9 @@ use Rattle.xa_tables.specs.declared.state.HeuristicDecision.TheVariants as decis
 use Rattle.xa_tables.specs.declared.state.RollbackReason.{RollbackReason}
 use Rattle.xa_tables.specs.declared.state.RollbackReason.TheVariants.{Failed, Transient}
 use Rattle.xa_tables.specs.declared.state.Association.{Association}
-use Rattle.xa_tables.specs.Tables.{Tables, has_opened, association_of, has_association, is_T1, branch_in, state_of, exists, is_S4, is_suspended, is_associated, is_idle, is_prepared, is_rollback_only, is_completed, is_S5, reason_in, reason_of, decision_in, decision_of, is_somebody_associated, is_declared, has_touched, has_other_touched, is_broken}
+use Rattle.xa_tables.specs.Tables.{Tables, has_opened, association_of, has_association, is_T1, branch_in, state_of, exists, is_S4, is_suspended, is_associated, is_idle, is_prepared, is_rollback_only, is_completed, is_left, is_S5, reason_in, reason_of, decision_in, decision_of, is_somebody_associated, is_declared, has_touched, has_other_touched, is_broken}
 use Rattle.xa_tables.specs.Reasons.{reason_code, decision_code}
-use Rattle.xa_tables.specs.Next.{Answer, next, needs_opening, by_rules, open_rm, close_rm, start, add, end, prepare, commit_one, commit_two, rollback, heur, forget, is_suspend, associated, suspended, dissociated, stated, added, gone, forgotten, completed, committed, shut_down}
+use Rattle.xa_tables.specs.Next.{Answer, next, needs_opening, by_rules, open_rm, close_rm, start, add, end, prepare, commit_one, commit_two, rollback, heur, forget, listed, is_suspend, associated, suspended, dissociated, stated, added, gone, forgotten, completed, committed, shut_down}
 use Rattle.xa_tables.specs.History.{Fate, Live, ReadOnly, RolledBack, HeurCommitted, HeurRolledBack, fate_of, if_named, prepare_fate, commit_fate, rollback_fate, heur_fate, ending_by, is_done, is_rolled_back, added_by, share_of}
 use Rattle.xa_tables.specs.Prepared.{names}
 
@@ -186,7 +186,7 @@ pub data Effect (t : ℕ) (T : Tables) : Op → Answer → Type 0 where
   Closes : Effect t T CloseRm (record T { opened = set.remove T.opened t }, Done)
   -- t begins a branch, joins one that is at work, and goes on with its own
   Starts : (y : XidName) → has_association T t ≡ false → Effect t T (Start y Fresh) (associated t y (stated y Active T), Done)
-  Joins : (y : XidName) → has_association T t ≡ false → exists T y ≡ true → (is_prepared T y || is_completed T y) ≡ false → Effect t T (Start y Join) (associated t y (stated y Active T), Done)
+  Joins : (y : XidName) → has_association T t ≡ false → exists T y ≡ true → is_left T y ≡ false → Effect t T (Start y Join) (associated t y (stated y Active T), Done)
   Resumes : (y : XidName) → is_associated T t y ≡ true → Effect t T (Start y Resume) (associated t y T, Done)
   -- t pauses, or leaves its branch as it is, only to be rolled back, or idle
   Suspends : (y : XidName) → is_associated T t y ≡ true → Effect t T (End y Suspend) (suspended t y T, Done)
@@ -226,7 +226,7 @@ module _ (t : ℕ) (T : Tables) where
       let Q : Answer → Type 0 = Effect t T (Start y Join) in
       by_if Q (has_association T t) _ _ (λ _. refuses (Start y Join) Proto refl) (λ free.
       by_if Q (not (exists T y)) _ _ (λ _. refuses (Start y Join) Nota refl) (λ there.
-      by_if Q (is_prepared T y || is_completed T y) _ _ (λ _. refuses (Start y Join) Proto refl) (λ unprepared.
+      by_if Q (is_left T y) _ _ (λ _. refuses (Start y Join) Proto refl) (λ unprepared.
       by_if Q (is_rollback_only T y) _ _ (λ _. Stays (Start y Join) (reason_of T y) (record { fates = λ x. named_none x y; shares = λ k l later. refl })) (λ _.
       Joins y free (not-false _ there) unprepared))))
   at_start Resume y =
@@ -323,6 +323,12 @@ module _ (t : ℕ) (T : Tables) where
       by_if Q (not (exists T y)) _ _ (λ _. refuses (Forget y) Nota refl) (λ _.
       by_if Q (not (is_completed T y)) _ _ (λ _. refuses (Forget y) Proto refl) (λ decided. Forgets y (not-false (is_completed T y) decided)))
 
+  at_listed : (x : Option XidName) → Effect t T (Listed x) (listed x T)
+  at_listed None = Stays (Listed None) Done (record { fates = λ x. refl; shares = λ k l later. refl })
+  at_listed (Some y) =
+      let Q : Answer → Type 0 = Effect t T (Listed (Some y)) in
+      by_if Q (is_left T y) _ _ (λ _. Stays (Listed (Some y)) Done (record { fates = λ x. refl; shares = λ k l later. refl })) (λ _. refuses (Listed (Some y)) Nota refl)
+
   at_rules : (op : Op) → Effect t T op (by_rules t op T)
   at_rules Shut = Shuts
   at_rules OpenRm = Opens
@@ -335,6 +341,7 @@ module _ (t : ℕ) (T : Tables) where
   at_rules (Rollback y) = at_rollback y
   at_rules (Forget y) = at_forget y
   at_rules (Heur y commits) = at_heur commits y
+  at_rules (Listed x) = at_listed x
 
 -- each request has one of them
 pub effect_of : (t : ℕ) (op : Op) (T : Tables) → Effect t T op (next t op T)

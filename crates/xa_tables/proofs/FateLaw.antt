@@ -8,7 +8,7 @@ use Rattle.xa_words.specs.declared.request.Op.{Op}
 use Rattle.xa_words.specs.declared.request.Op.TheVariants.{Shut}
 use Rattle.xa_tables.specs.Tables.{Tables}
 use Rattle.xa_tables.specs.Next.{Answer, next, shut_down}
-use Rattle.xa_tables.specs.History.{History, Fate, Absent, fate, fate_in, fate_of, coded, accepted, is_shut, last_or}
+use Rattle.xa_tables.specs.History.{History, Fate, fate, fate_in, fate_of, coded, accepted, is_shut, last_or}
 use Rattle.xa_tables.proofs.Effects.{error_tells}
 use Rattle.xa_tables.proofs.ShutLemmas.{next-shut, next-Shut, shut_op}
 
@@ -40,5 +40,5 @@ fates_accepted x (r ∷ h) T =
       | false ↦ λ e. ap (λ fs. cons_option (fate_of x r.op (next r.thread r.op T).1) fs) (fates_accepted x h (next r.thread r.op T).0)
     ] refl
 
-pub late_leave_fates : (x : XidName) (h : History) (T : Tables) → fate x h T ≡ fate_in x (coded h T)
-late_leave_fates x h T = ap (last_or Absent) (fates_accepted x h T)
+pub late_leave_fates : (x : XidName) (f : Fate) (h : History) (T : Tables) → fate x f h T ≡ fate_in x f (coded h T)
+late_leave_fates x f h T = ap (last_or f) (fates_accepted x h T)

@@ -1,4 +1,4 @@
--- The laws: a branch is in S3 exactly if its fate is InDoubt, and exists while it hasn't ended or is S5.
+-- How a branch stands, by its state and by its fate, whatever is requested.
 use Rattle.std.specs.Prelude.{◌≡◌, ◌≢◌, ℕ, pos, Bool, true, false, cond, ◌||◌, if◌then◌else◌, Option, None, Some, is_some, unwrap_or, List, [], ◌∷◌, refl}
 use Rattle.std.proofs.Common.{sym, ap, ◌∙◌}
 use Rattle.std.specs.FinMap as map
@@ -7,7 +7,7 @@ use Rattle.std.specs.Cmp.{nat_cmp_total}
 use Rattle.std.specs.Ordering.{nat_cmp}
 use Rattle.std.proofs.lemmas.Bool.{false_from_ne_true}
 use Rattle.std.proofs.lemmas.Bool.Decides.{same_from_decides}
-use Rattle.xa_words.specs.Xid.{XidName, xid_cmp, xid_eq}
+use Rattle.xa_words.specs.Xid.{XidName, xid_eq}
 use Rattle.xa_words.specs.Orders.{xid_cmp_total, Decides-xid_eq, xid_eq-by_cmp}
 use Rattle.xa_words.specs.declared.request.Op.{Op}
 use Rattle.xa_words.specs.declared.request.Op.TheVariants.{Start, Forget}
@@ -21,10 +21,10 @@ use Rattle.xa_tables.specs.declared.state.AssociationState.{AssociationState}
 use Rattle.xa_tables.specs.declared.state.AssociationState.TheVariants.{Associated, Suspended}
 use Rattle.xa_tables.specs.Tables.{Tables, association_of, state_of, is_S3, is_S5, is_prepared, is_association_with, is_associated, is_somebody_associated}
 use Rattle.xa_tables.specs.Next.{Answer, next, gone, forgotten, stated, with_association, associated, dissociated, association}
-use Rattle.xa_tables.specs.History.{History, Fate, ending_by, InDoubt, Live, Committed, ReadOnly, RolledBack, HeurCommitted, HeurRolledBack, Absent, is_in_doubt, is_unfinished, fate, fate_of, last_or, if_named, tables_after, coded, accepted, IsOpening, PreparedIsInDoubt, ExistsWhileUnfinished}
+use Rattle.xa_tables.specs.History.{History, Fate, ending_by, InDoubt, Live, Committed, ReadOnly, RolledBack, HeurCommitted, HeurRolledBack, Absent, is_in_doubt, is_unfinished, fate_of, last_or, if_named, tables_after, coded}
+use Rattle.xa_tables.specs.Openings.{IsOpening}
 use Rattle.std.specs.List.{filter_map, cons_option}
 use Rattle.xa_tables.proofs.MapLemmas.{none_pass}
-use Rattle.xa_tables.proofs.ShutLemmas.{after_accepted}
 use Rattle.xa_tables.proofs.Effects.{Effect, Stays, Starts, Joins, Resumes, Suspends, Leaves, Fails, Idles, Dooms, Prepares, Commits, Drops, CommitsByItself, RollsBackByItself, Forgets, effect_of, named_none}
 use Rattle.xa_tables.proofs.SoundLemmas.{AreHeld, held_put, held_associated, held_dissociated, held_apart, held_now, associated_held, others_put, others_removed}
 
@@ -63,12 +63,12 @@ at_fate Nowhere = refl
 at_fate AtWork = refl
 at_fate Voted = refl
 
-abbrev is_voted : Standing → Bool
+abbrev pub is_voted : Standing → Bool
 is_voted Nowhere = false
 is_voted AtWork = false
 is_voted Voted = true
 
-state_voted : (o : Option State) → is_S3 o ≡ is_voted (standing o)
+pub state_voted : (o : Option State) → is_S3 o ≡ is_voted (standing o)
 state_voted None = refl
 state_voted (Some Active) = refl
 state_voted (Some Idle) = refl
@@ -76,7 +76,7 @@ state_voted (Some S3) = refl
 state_voted (Some (RollbackOnly reason)) = refl
 state_voted (Some (HeuristicallyCompleted decision)) = refl
 
-fate_voted : (f : Fate) → is_in_doubt f ≡ is_voted (standing_of f)
+pub fate_voted : (f : Fate) → is_in_doubt f ≡ is_voted (standing_of f)
 fate_voted Absent = refl
 fate_voted Live = refl
 fate_voted InDoubt = refl
@@ -86,12 +86,12 @@ fate_voted RolledBack = refl
 fate_voted HeurCommitted = refl
 fate_voted HeurRolledBack = refl
 
-abbrev is_there : Standing → Bool
+abbrev pub is_there : Standing → Bool
 is_there Nowhere = false
 is_there AtWork = true
 is_there Voted = true
 
-state_there : (o : Option State) → is_some o ≡ (is_there (standing o) || is_S5 o)
+pub state_there : (o : Option State) → is_some o ≡ (is_there (standing o) || is_S5 o)
 state_there None = refl
 state_there (Some Active) = refl
 state_there (Some Idle) = refl
@@ -99,7 +99,7 @@ state_there (Some S3) = refl
 state_there (Some (RollbackOnly reason)) = refl
 state_there (Some (HeuristicallyCompleted decision)) = refl
 
-fate_there : (f : Fate) → is_unfinished f ≡ is_there (standing_of f)
+pub fate_there : (f : Fate) → is_unfinished f ≡ is_there (standing_of f)
 fate_there Absent = refl
 fate_there Live = refl
 fate_there InDoubt = refl
@@ -285,7 +285,7 @@ last_more f (Some g) gs = refl
 abbrev pub fates : XidName → History → Tables → List Fate
 fates x H T = filter_map (λ e. fate_of x e.0.op e.1) (coded H T)
 
-run : (H : History) (x : XidName) (f : Fate) (T : Tables) → Sound T → standing (state_of T x) ≡ standing_of f → standing (state_of (tables_after H T) x) ≡ standing_of (last_or f (fates x H T))
+pub run : (H : History) (x : XidName) (f : Fate) (T : Tables) → Sound T → standing (state_of T x) ≡ standing_of f → standing (state_of (tables_after H T) x) ≡ standing_of (last_or f (fates x H T))
 run [] x f T s h = h
 run (r ∷ H) x f T s h =
     let T1 : Tables = (next r.thread r.op T).0 in
@@ -304,15 +304,3 @@ run_sound (r ∷ h) T s = run_sound h (next r.thread r.op T).0 (sound_after r.th
 
 pub opening_sound : (T : Tables) → IsOpening T → Sound T
 opening_sound T o = record { at_work = λ t a found. let n = ap (λ m. map.get m t) o.associations ∙ get-empty nat_cmp t in cc }
-
--- from tables with no branch and no association
-standing_law : (H : History) (x : XidName) (T : Tables) → IsOpening T → standing (state_of (tables_after H T) x) ≡ standing_of (fate x H T)
-standing_law H x T o =
-    after_accepted (λ (U : Tables). standing (state_of U x)) (λ _. refl) H T
-    ∙ run (accepted H) x Absent T (opening_sound T o) (ap (λ m. standing (map.get m x)) o.states ∙ ap standing (get-empty xid_cmp x))
-
-pub in_doubt_law : (H : History) (x : XidName) (T : Tables) → IsOpening T → PreparedIsInDoubt x H T
-in_doubt_law H x T o = state_voted _ ∙ ap is_voted (standing_law H x T o) ∙ sym (fate_voted _)
-
-pub there_law : (H : History) (x : XidName) (T : Tables) → IsOpening T → ExistsWhileUnfinished x H T
-there_law H x T o = state_there _ ∙ ap (λ b. b || is_S5 (state_of (tables_after H T) x)) (ap is_there (standing_law H x T o) ∙ sym (fate_there _))

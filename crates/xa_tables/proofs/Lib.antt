@@ -22,3 +22,7 @@ pub mod WithinLaw
 pub mod FateLaw
 pub mod TouchLaw
 pub mod DecidedLaw
+pub mod Reopening
+pub mod FatesLaw
+pub mod SumLaw
+pub mod Xids

@@ -5,7 +5,7 @@ use Rattle.std.specs.FinMap as map
 use Rattle.std.specs.List.{All, cons_option}
 use Rattle.std.proofs.lemmas.List.Elements.{All-head, All-tail}
 use Rattle.std.proofs.lemmas.Bool.{not-false}
-use Rattle.xa_words.specs.Xid.{XidName, xid_eq}
+use Rattle.xa_words.specs.Xid.{XidName}
 use Rattle.xa_words.specs.Orders.{Decides-xid_eq}
 use Rattle.xa_words.specs.declared.code.Code.{Code}
 use Rattle.xa_words.specs.declared.code.Code.TheVariants.{Done, RbIntegrity, RmFail}
@@ -17,7 +17,8 @@ use Rattle.xa_tables.specs.declared.state.HeuristicDecision.{HeuristicDecision}
 use Rattle.xa_tables.specs.Tables.{Tables, has_opened, state_of, exists, is_S3, is_S4, is_S5, is_prepared, is_rollback_only, is_completed, decision_in, is_somebody_associated, has_touched, is_broken}
 use Rattle.xa_tables.specs.Reasons.{decision_code}
 use Rattle.xa_tables.specs.Next.{Answer, next}
-use Rattle.xa_tables.specs.History.{History, is_shut, is_rolled_back, coded, fate_of, fates_in, tables_after, IsOpening}
+use Rattle.xa_tables.specs.History.{History, is_shut, is_rolled_back, coded, fates_in, tables_after}
+use Rattle.xa_tables.specs.Openings.{IsOpening}
 use Rattle.xa_tables.specs.Prepared.{names, closes, is_heur, is_forget, NamesNowhere, OnlyDecides, LeavesWaiting, has_shut, IsPrepared, StaysPrepared, AwaitsTheOutcome, AwaitsAfter}
 use Rattle.xa_tables.proofs.ShutLemmas.{next-shut, next-Shut, shut_op}
 use Rattle.xa_base.proofs.Truth.{by_if, at_false, at_true}

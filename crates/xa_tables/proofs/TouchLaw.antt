@@ -2,7 +2,6 @@
 use Rattle.std.specs.Prelude.{◌≡◌, ℕ, Bool, true, false, not, ◌&&◌, if◌then◌else◌, Option, None, Some, is_some, List, [], ◌∷◌, refl}
 use Rattle.std.proofs.Common.{sym, ap, ◌∙◌, subst}
 use Rattle.std.specs.FinMap as map
-use Rattle.std.specs.FinMap.{get-empty}
 use Rattle.xa_words.specs.Xid.{XidName, xid_eq}
 use Rattle.xa_words.specs.Orders.{Decides-xid_eq}
 use Rattle.xa_words.specs.declared.request.Op.{Op}
@@ -10,16 +9,17 @@ use Rattle.xa_tables.specs.declared.state.State.{State}
 use Rattle.xa_tables.specs.declared.state.State.TheVariants.{Active, Idle, Prepared as S3, RollbackOnly, HeuristicallyCompleted}
 use Rattle.xa_tables.specs.declared.state.HeuristicDecision.TheVariants as decision
 use Rattle.xa_tables.specs.declared.state.RollbackReason.TheVariants.{Failed, Transient}
-use Rattle.xa_tables.specs.Tables.{Tables, touch_cmp, state_of, is_S5, sums_without}
-use Rattle.xa_tables.specs.Next.{Answer, next, stated, gone}
-use Rattle.xa_tables.specs.History.{History, tables_after, IsOpening, OnlyUnfinishedTouch}
+use Rattle.xa_tables.specs.Tables.{Tables, state_of, is_S5, sums_without}
+use Rattle.xa_tables.specs.Next.{Answer, next, stated}
+use Rattle.xa_tables.specs.History.{History, tables_after, OnlyUnfinishedTouch}
+use Rattle.xa_tables.specs.Openings.{IsOpening}
 use Rattle.xa_tables.proofs.Effects.{Effect, Starts, Joins, Fails, Idles, Dooms, Adds, Prepares, Commits, Drops, CommitsByItself, RollsBackByItself, Forgets, effect_of}
-use Rattle.xa_tables.proofs.Law.{Sound, Standing, Nowhere, AtWork, Voted, standing, swap_xid, get_put, get_gone, completed_nowhere, sound_after, opening_sound}
+use Rattle.xa_tables.proofs.Law.{Sound, Standing, Nowhere, AtWork, Voted, standing, swap_xid, get_put, get_gone, completed_nowhere, is_voted, state_voted, sound_after, opening_sound}
 use Rattle.xa_tables.proofs.ValueLaw.{get_without, get_added}
 
 -- a branch that stands nowhere has touched no key
-record Clean (T : Tables) : Type 0 where
-  none : (x : XidName) → standing (state_of T x) ≡ Nowhere → (k : List ℕ) → map.get T.sums (x, k) ≡ None
+pub record Clean (T : Tables) : Type 0 where
+  pub none : (x : XidName) → standing (state_of T x) ≡ Nowhere → (k : List ℕ) → map.get T.sums (x, k) ≡ None
 
 abbrev is_nowhere : Standing → Bool
 is_nowhere Nowhere = true
@@ -73,7 +73,7 @@ module _ (t : ℕ) (T : Tables) (s : Sound T) (w : Clean T) where
   -- the others change no state and no sum
   by_effect effect = record { none = w.none }
 
-run_clean : (h : History) (T : Tables) → Sound T → Clean T → Clean (tables_after h T)
+pub run_clean : (h : History) (T : Tables) → Sound T → Clean T → Clean (tables_after h T)
 run_clean [] T s w = w
 run_clean (r ∷ h) T s w = run_clean h (next r.thread r.op T).0 (sound_after r.thread r.op T s) (by_effect r.thread T s w (effect_of r.thread r.op T))
 
@@ -85,6 +85,8 @@ unfinished (Some S3) e = cc
 unfinished (Some (RollbackOnly reason)) e = cc
 unfinished (Some (HeuristicallyCompleted decision)) e = refl
 
+pub opening_clean : (T : Tables) → IsOpening T → Clean T
+opening_clean T o = record { none = λ x nowhere k. o.sums x k (state_voted (state_of T x) ∙ ap is_voted nowhere) }
+
 pub touch_law : (h : History) (x : XidName) (T : Tables) → IsOpening T → OnlyUnfinishedTouch x h T
-touch_law h x T o e k =
-    (run_clean h T (opening_sound T o) (record { none = λ y nowhere q. ap (λ m. map.get m (y, q)) o.sums ∙ get-empty touch_cmp (y, q) })).none x (unfinished (state_of (tables_after h T) x) e) k
+touch_law h x T o e k = (run_clean h T (opening_sound T o) (opening_clean T o)).none x (unfinished (state_of (tables_after h T) x) e) k

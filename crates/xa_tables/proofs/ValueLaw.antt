@@ -1,36 +1,37 @@
--- The law: a key's value is its value at the opening and the additions whose branches commit.
+-- What a history moves of a key's value: the additions whose branches commit.
 use Rattle.std.specs.Prelude.{◌≡◌, ◌≢◌, ℕ, ℤ, pos, ◌+ℤ◌, option_map, Bool, true, false, cond, not, ◌&&◌, if◌then◌else◌, Option, None, Some, unwrap_or, List, [], ◌∷◌, refl}
 use Rattle.std.proofs.Common.{sym, ap, ◌∙◌, subst, arith}
 use Rattle.std.specs.FinMap as map
-use Rattle.std.specs.FinMap.{get-empty, get-insert, get-retain_keys, FinMap}
+use Rattle.std.specs.FinMap.{get-insert, get-retain_keys, FinMap}
 use Rattle.std.proofs.lemmas.Bool.{false_from_ne_true, not-false}
 use Rattle.xa_words.specs.Xid.{XidName, xid_eq}
 use Rattle.xa_words.specs.Orders.{Decides-xid_eq, key_cmp_total, key_cmp-IsAntisymmetric, Decides-key_eq}
 use Rattle.xa_words.specs.declared.code.Code.{Code}
-use Rattle.xa_words.specs.declared.code.Code.TheVariants.{Done, RbTransient}
+use Rattle.xa_words.specs.declared.code.Code.TheVariants.{Done, RbTransient, RmFail}
 use Rattle.xa_words.specs.declared.request.Op.{Op}
-use Rattle.xa_words.specs.declared.request.Op.TheVariants.{Add}
+use Rattle.xa_words.specs.declared.request.Op.TheVariants.{Add, Shut}
+use Rattle.xa_words.specs.declared.request.Request.{Request}
 use Rattle.xa_tables.specs.declared.state.Association.{Association}
 use Rattle.xa_tables.specs.Tables.{Tables, association_of, has_other_touched, Touch, touch_cmp, sum_of, sums_without}
-use Rattle.xa_tables.specs.Next.{Answer, next, committed}
-use Rattle.xa_tables.specs.History.{History, coded, accepted, Fate, InDoubt, Live, Committed, HeurCommitted, HeurRolledBack, fate_of, ending_by, if_named, tables_after, added_in, share_of, share, commits_later, ending, or_later, ValueIsSum, IsSumOfAll, IsOpening}
-use Rattle.xa_tables.proofs.ShutLemmas.{after_accepted}
-use Rattle.xa_tables.proofs.Effects.{Effect, Stays, Starts, Joins, Resumes, Dooms, Adds, Prepares, Commits, Drops, CommitsByItself, RollsBackByItself, effect_of, undone_adds}
-use Rattle.xa_tables.proofs.Law.{swap_xid, Sound, sound_after, opening_sound}
+use Rattle.xa_tables.specs.Next.{Answer, next, committed, shut_down}
+use Rattle.xa_tables.specs.History.{History, coded, accepted, Fate, InDoubt, Live, Committed, HeurCommitted, HeurRolledBack, fate_of, ending_by, if_named, tables_after, added_in, share_of, commits_later, ending, or_later, is_shut, LateAddNothing}
+use Rattle.xa_tables.proofs.ShutLemmas.{next-shut, next-Shut, shut_op}
+use Rattle.xa_tables.proofs.Effects.{Effect, Stays, Starts, Joins, Resumes, Dooms, Adds, Prepares, Commits, Drops, CommitsByItself, RollsBackByItself, effect_of, undone_adds, error_tells}
+use Rattle.xa_tables.proofs.Law.{swap_xid}
 use Rattle.std.proofs.lemmas.Int.{ints}
 use Rattle.xa_words.specs.Key.{key_eq}
 use Rattle.xa_tables.proofs.MapLemmas.{get-map_values, none_passes}
 use Rattle.xa_tables.proofs.AccountLemmas.{touch_cmp_total, touch_cmp-IsAntisymmetric, touch_from, touch_self}
 
 -- the branch that has touched the key, and its sum
-abbrev Held : Type 0
+abbrev pub Held : Type 0
 Held = Option (XidName × ℤ)
 
-abbrev IsPending : List ℕ → Held → FinMap touch_cmp ℤ → Type 0
+abbrev pub IsPending : List ℕ → Held → FinMap touch_cmp ℤ → Type 0
 IsPending k None sums = (x : XidName) → map.get sums (x, k) ≡ None
 IsPending k (Some p) sums = (map.get sums (p.0, k) ≡ Some p.1) × ((y : XidName) → y ≢ p.0 → map.get sums (y, k) ≡ None)
 
-abbrev due : Held → (XidName → Bool) → ℤ
+abbrev pub due : Held → (XidName → Bool) → ℤ
 due None later = pos 0
 due (Some p) later = if later p.0 then p.1 else pos 0
 
@@ -46,7 +47,7 @@ record ValueStep (k : List ℕ) (p : Held) (op : Op) (l : Option Association) (T
   values : map.get a.0.values k ≡ option_map (λ v. v +ℤ moved) (map.get T.values k)
   owes : (later : XidName → Bool) → moved +ℤ due held later ≡ due p (before op a.1 later) +ℤ share_of k op a.1 l later
 
-plus_zero : (o : Option ℤ) → o ≡ option_map (λ v. v +ℤ pos 0) o
+pub plus_zero : (o : Option ℤ) → o ≡ option_map (λ v. v +ℤ pos 0) o
 plus_zero None = refl
 plus_zero (Some v) = ap (λ w. Some w) (omega (arith, ints))
 
@@ -227,38 +228,83 @@ module _ (t : ℕ) (k : List ℕ) (p : Held) (T : Tables) (h : IsPending k p T.s
 value_step : (t : ℕ) (k : List ℕ) (p : Held) (op : Op) (T : Tables) → IsPending k p T.sums → ValueStep k p op (association_of T t) T (next t op T)
 value_step t k p op T h = by_effect t k p T h (effect_of t op T)
 
-zero_left : (z : ℤ) → pos 0 +ℤ z ≡ z
-zero_left z = omega (arith, ints)
+chained : (o : Option ℤ) (m n : ℤ) → option_map (λ v. v +ℤ n) (option_map (λ v. v +ℤ m) o) ≡ option_map (λ v. v +ℤ (m +ℤ n)) o
+chained None m n = refl
+chained (Some v) m n = ap (λ w. Some w) (omega (arith, ints))
 
-joined : (o : Option ℤ) (m e rest d s : ℤ) → m +ℤ e ≡ d +ℤ s → option_map (λ v. v +ℤ (e +ℤ rest)) (option_map (λ v. v +ℤ m) o) ≡ option_map (λ v. v +ℤ (d +ℤ (s +ℤ rest))) o
-joined None m e rest d s h = refl
-joined (Some v) m e rest d s h = ap (λ w. Some w) (omega (arith, ints))
+none_moved : (d : ℤ) → pos 0 +ℤ d ≡ d +ℤ pos 0
+none_moved d = omega (arith, ints)
 
-none_due : (p : Held) → due p (λ x. false) ≡ pos 0
-none_due None = refl
-none_due (Some p) = refl
+adds_up : (m n d e f s r : ℤ) → m +ℤ e ≡ f +ℤ s → n +ℤ d ≡ e +ℤ r → (m +ℤ n) +ℤ d ≡ f +ℤ (s +ℤ r)
+adds_up m n d e f s r one two = omega (arith, ints)
 
--- the values after H, with what is due to the branch that has touched the key
-values_after : (H : History) (k : List ℕ) (p : Held) (T : Tables) → Sound T → IsPending k p T.sums
-    → map.get (tables_after H T).values k ≡ option_map (λ v. v +ℤ (due p (λ x. commits_later x (coded H T)) +ℤ added_in k H T)) (map.get T.values k)
-values_after [] k p T s h = plus_zero _ ∙ ap (λ d. option_map (λ v. v +ℤ (d +ℤ pos 0)) (map.get T.values k)) (sym (none_due p))
-values_after (r ∷ H) k p T s h =
+-- what a history moves of the value of k, and what is due after it, where `after` tells who commits after it
+pub record Run (k : List ℕ) (p : Held) (after : XidName → Bool) (H : History) (T : Tables) : Type 0 where
+  pub held : Held
+  pub pending : IsPending k held (tables_after H T).sums
+  pub moved : ℤ
+  pub values : map.get (tables_after H T).values k ≡ option_map (λ v. v +ℤ moved) (map.get T.values k)
+  pub owes : moved +ℤ due held after ≡ due p (λ x. commits_later (after x) x (coded H T)) +ℤ added_in k after H T
+
+pub value_run : (H : History) (k : List ℕ) (p : Held) (after : XidName → Bool) (T : Tables) → IsPending k p T.sums → Run k p after H T
+value_run [] k p after T h = record { held = p; pending = h; moved = pos 0; values = plus_zero _; owes = none_moved (due p after) }
+value_run (r ∷ H) k p after T h =
     let T1 : Tables = (next r.thread r.op T).0 in
     let a : ValueStep k p r.op (association_of T r.thread) T (next r.thread r.op T) = value_step r.thread k p r.op T h in
-    let sound = sound_after r.thread r.op T s in
-    values_after H k a.held T1 sound a.pending
-    ∙ ap (option_map (λ v. v +ℤ (due a.held (λ x. commits_later x (coded H T1)) +ℤ added_in k H T1))) a.values
-    ∙ joined (map.get T.values k) a.moved (due a.held (λ x. commits_later x (coded H T1))) (added_in k H T1) (due p (λ x. commits_later x (coded (r ∷ H) T))) (share k r H T) (a.owes (λ x. commits_later x (coded H T1)))
+    let rest : Run k a.held after H T1 = value_run H k a.held after T1 a.pending in
+    record {
+      held = rest.held;
+      pending = rest.pending;
+      moved = a.moved +ℤ rest.moved;
+      values = rest.values ∙ ap (option_map (λ v. v +ℤ rest.moved)) a.values ∙ chained (map.get T.values k) a.moved rest.moved;
+      owes = adds_up a.moved rest.moved (due rest.held after) _ _ _ _ (a.owes (λ x. commits_later (after x) x (coded H T1))) rest.owes;
+    }
 
--- the values after H, from an opening
-values_from : (H : History) (k : List ℕ) (T : Tables) → IsOpening T → map.get (tables_after H T).values k ≡ option_map (λ v. v +ℤ added_in k H T) (map.get T.values k)
-values_from H k T o =
-    values_after H k None T (opening_sound T o) (λ x. ap (λ m. map.get m (x, k)) o.sums ∙ get-empty touch_cmp (x, k))
-    ∙ ap (λ d. option_map d (map.get T.values k)) (λ i v. v +ℤ zero_left (added_in k H T) i)
+-- ---- late requests add nothing
 
-pub value_law : (H : History) (k : List ℕ) (T : Tables) → IsOpening T → ValueIsSum k H T
-value_law H k T o = after_accepted (λ (U : Tables). map.get U.values k) (λ _. refl) H T ∙ values_from (accepted H) k T o
+none_shut : (k : List ℕ) (after : XidName → Bool) (h : History) (T : Tables) → T.shut ≡ true → added_in k after h T ≡ pos 0
+none_shut k after [] T s = refl
+none_shut k after (r ∷ h) T s =
+    ap (λ (a : Answer). share_of k r.op a.1 (association_of T r.thread) (λ x. commits_later (after x) x (coded h a.0)) +ℤ added_in k after h a.0) (next-shut r.thread r.op T s)
+    ∙ (λ i. (error_tells r.op RmFail refl).shares k (association_of T r.thread) (λ x. commits_later (after x) x (coded h T)) i +ℤ none_shut k after h T s i)
 
--- late requests add nothing
-pub whole_law : (H : History) (k : List ℕ) (T : Tables) → IsOpening T → IsSumOfAll k H T
-whole_law H k T o = sym (value_law H k T o) ∙ values_from H k T o
+-- a Shut and what is after it
+none_from : (k : List ℕ) (after : XidName → Bool) (r : Request) (h : History) (T : Tables) → r.op ≡ Shut → added_in k after (r ∷ h) T ≡ pos 0
+none_from k after r h T is =
+    ap (λ (o : Op). share_of k o (next r.thread o T).1 (association_of T r.thread) (λ x. commits_later (after x) x (coded h (next r.thread o T).0)) +ℤ added_in k after h (next r.thread o T).0) is
+    ∙ elim (T.shut) as (λ b. T.shut ≡ b → pos 0 +ℤ added_in k after h (next r.thread Shut T).0 ≡ pos 0) [
+      | true ↦ λ s. ap (λ (a : Answer). pos 0 +ℤ added_in k after h a.0) (next-shut r.thread Shut T s) ∙ ap (λ z. pos 0 +ℤ z) (none_shut k after h T s)
+      | false ↦ λ s. ap (λ (a : Answer). pos 0 +ℤ added_in k after h a.0) (next-Shut r.thread T s) ∙ ap (λ z. pos 0 +ℤ z) (none_shut k after h (shut_down T) refl)
+    ] refl
+
+-- who commits is decided by the accepted requests
+commits_shut : (b : Bool) (x : XidName) (h : History) (T : Tables) → T.shut ≡ true → commits_later b x (coded h T) ≡ b
+commits_shut b x [] T s = refl
+commits_shut b x (r ∷ h) T s =
+    ap (λ (a : Answer). or_later (ending (fate_of x r.op a.1)) (commits_later b x (coded h a.0))) (next-shut r.thread r.op T s)
+    ∙ ap (λ o. or_later (ending o) (commits_later b x (coded h T))) ((error_tells r.op RmFail refl).fates x) ∙ commits_shut b x h T s
+
+commits_from : (b : Bool) (x : XidName) (t : ℕ) (op : Op) (h : History) (T : Tables) → op ≡ Shut → or_later (ending (fate_of x op (next t op T).1)) (commits_later b x (coded h (next t op T).0)) ≡ b
+commits_from b x t op h T is =
+    ap (λ (o : Op). or_later (ending (fate_of x o (next t o T).1)) (commits_later b x (coded h (next t o T).0))) is
+    ∙ elim (T.shut) as (λ c. T.shut ≡ c → commits_later b x (coded h (next t Shut T).0) ≡ b) [
+      | true ↦ λ s. ap (λ (a : Answer). commits_later b x (coded h a.0)) (next-shut t Shut T s) ∙ commits_shut b x h T s
+      | false ↦ λ s. ap (λ (a : Answer). commits_later b x (coded h a.0)) (next-Shut t T s) ∙ commits_shut b x h (shut_down T) refl
+    ] refl
+
+commits_accepted : (b : Bool) (x : XidName) (h : History) (T : Tables) → commits_later b x (coded (accepted h) T) ≡ commits_later b x (coded h T)
+commits_accepted b x [] T = refl
+commits_accepted b x (r ∷ h) T =
+    elim (is_shut r.op) as (λ c. is_shut r.op ≡ c → commits_later b x (coded (if c then [] else r ∷ accepted h) T) ≡ commits_later b x (coded (r ∷ h) T)) [
+      | true ↦ λ e. sym (commits_from b x r.thread r.op h T (shut_op r.op e))
+      | false ↦ λ e. ap (λ c. or_later (ending (fate_of x r.op (next r.thread r.op T).1)) c) (commits_accepted b x h (next r.thread r.op T).0)
+    ] refl
+
+pub late_law : (h : History) (k : List ℕ) (after : XidName → Bool) (T : Tables) → LateAddNothing k after h T
+late_law [] k after T = refl
+late_law (r ∷ h) k after T =
+    let T1 : Tables = (next r.thread r.op T).0 in
+    elim (is_shut r.op) as (λ b. is_shut r.op ≡ b → added_in k after (if b then [] else r ∷ accepted h) T ≡ added_in k after (r ∷ h) T) [
+      | true ↦ λ e. sym (none_from k after r h T (shut_op r.op e))
+      | false ↦ λ e. (λ i. share_of k r.op (next r.thread r.op T).1 (association_of T r.thread) (λ x. commits_accepted (after x) x h T1 i) +ℤ late_law h k after T1 i)
+    ] refl

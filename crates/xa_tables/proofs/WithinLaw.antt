@@ -1,4 +1,4 @@
--- The law: the value of a declared key stays within the limits, whatever is requested.
+-- The law: the value of a declared key stays within the limits, whatever is requested, over any openings.
 use Rattle.std.specs.Prelude.{◌≡◌, ◌≢◌, ℕ, ℤ, pos, ◌+ℤ◌, Bool, true, false, cond, not, ◌&&◌, if◌then◌else◌, Option, None, Some, option_map, unwrap_or, List, [], ◌∷◌, map, refl, nat_le}
 use Rattle.std.specs.List.{list_all}
 use Rattle.std.proofs.Common.{sym, ap, ◌∙◌, subst, ⊎_elim, le-leb, arith}
@@ -21,11 +21,13 @@ use Rattle.xa_tables.specs.Tables.{Tables, Touch, touch_cmp, association_of, sta
 use Rattle.xa_tables.specs.Next.{Answer, next, stated, added, gone, forgotten, completed, committed}
 use Rattle.xa_tables.specs.Accounts.{are_accounts}
 use Rattle.xa_tables.specs.Managers.{opening}
-use Rattle.xa_tables.specs.History.{History, tables_after, IsOpening, StaysWithin}
+use Rattle.xa_tables.specs.History.{History, tables_after, StaysWithin}
+use Rattle.xa_tables.specs.Openings.{IsOpening, reopened, left_by}
+use Rattle.xa_tables.proofs.Reopening.{sums_reopened, reopens, new_opens, accounts_new, left_opens}
 use Rattle.xa_tables.proofs.MapLemmas.{none_passes, get-map_values}
 use Rattle.xa_tables.proofs.AccountLemmas.{touch_cmp_total, touch_cmp-IsAntisymmetric, touch_from, within_bounds}
 use Rattle.xa_tables.proofs.Effects.{Effect, Starts, Joins, Fails, Idles, Dooms, Adds, Prepares, Commits, Drops, CommitsByItself, RollsBackByItself, Forgets, effect_of}
-use Rattle.xa_tables.proofs.Law.{Sound, AtWork, standing, get_put, get_gone, voted_rests, sound_after, opening_sound}
+use Rattle.xa_tables.proofs.Law.{Sound, standing, get_put, get_gone, voted_rests, sound_after, opening_sound}
 use Rattle.xa_tables.proofs.ValueLaw.{get_without, get_added}
 
 -- each sum of x and its key's value are together within the limits
@@ -33,7 +35,7 @@ abbrev Fits : Tables → XidName → Type 0
 Fits T x = (k : List ℕ) (s : ℤ) → finmap.get T.sums (x, k) ≡ Some s → is_within (value_of T.values k +ℤ s) ≡ true
 
 -- each value is within the limits, no two branches have touched one key, and a prepared branch fits
-record Kept (T : Tables) : Type 0 where
+pub record Kept (T : Tables) : Type 0 where
   values : (k : List ℕ) (v : ℤ) → finmap.get T.values k ≡ Some v → is_within v ≡ true
   alone : (x y : XidName) (k : List ℕ) (s r : ℤ) → finmap.get T.sums (x, k) ≡ Some s → finmap.get T.sums (y, k) ≡ Some r → x ≡ y
   prepared : (x : XidName) → is_S3 (state_of T x) ≡ true → Fits T x
@@ -214,8 +216,27 @@ opening_kept accounts are = record {
   prepared = λ x is k s at. let z : None ≡ Some s = sym (get-empty touch_cmp (x, k)) ∙ at in cc;
 }
 
-opens : (accounts : List (List ℕ × ℕ)) → IsOpening (opening accounts)
-opens accounts = record { opened = refl; associations = refl; states = refl; sums = refl; shut = refl }
+-- a reopening keeps it
+cond_some : (b : Bool) (o : Option ℤ) (r : ℤ) → cond b o None ≡ Some r → (b ≡ true) × (o ≡ Some r)
+cond_some true o r e = (refl, e)
+cond_some false o r e = cc
 
-pub within_law : (accounts : List (List ℕ × ℕ)) (h : History) (k : List ℕ) → are_accounts accounts ≡ true → StaysWithin k h (opening accounts)
-within_law accounts h k are v at = within_bounds v ((run_kept h (opening accounts) (opening_sound (opening accounts) (opens accounts)) (opening_kept accounts are)).values k v at)
+pub kept_over : (T : Tables) → Kept T → Kept (reopened T)
+kept_over T w = record {
+  values = w.values;
+  alone = λ x y k s r at_x at_y. w.alone x y k s r (held x k s at_x).1 (held y k r at_y).1;
+  prepared = λ x is k r at. let before = held x k r at in w.prepared x before.0 k r before.1;
+}
+  where
+    held : (x : XidName) (k : List ℕ) (r : ℤ) → finmap.get (reopened T).sums (x, k) ≡ Some r → (is_prepared T x ≡ true) × (finmap.get T.sums (x, k) ≡ Some r)
+    held x k r at = cond_some (is_prepared T x) (finmap.get T.sums (x, k)) r (sym (sums_reopened T x k) ∙ at)
+
+pub kept_by : (before : List History) (T : Tables) → IsOpening T → Kept T → Kept (left_by before T)
+kept_by [] T o w = w
+kept_by (h ∷ hs) T o w = kept_by hs (reopened (tables_after h T)) (reopens (tables_after h T)) (kept_over (tables_after h T) (run_kept h T (opening_sound T o) w))
+
+pub within_law : (accounts : List (List ℕ × ℕ)) (before : List History) (h : History) (k : List ℕ) → are_accounts accounts ≡ true → StaysWithin k h (left_by before (opening accounts))
+within_law accounts before h k are v at =
+    let new = new_opens (opening accounts) (accounts_new accounts) in
+    let T : Tables = left_by before (opening accounts) in
+    within_bounds v ((run_kept h T (opening_sound T (left_opens before (opening accounts) new)) (kept_by before (opening accounts) new (opening_kept accounts are))).values k v at)

@@ -21,7 +21,8 @@ use Rattle.xa_tables.specs.declared.state.Association.{Association}
 use Rattle.xa_tables.specs.declared.state.AssociationState.TheVariants.{Associated}
 use Rattle.xa_tables.specs.Tables.{Tables, association_of, has_association, has_opened, exists, is_association_with, is_associated, is_somebody_associated}
 use Rattle.xa_tables.specs.Next.{Answer, next, association}
-use Rattle.xa_tables.specs.History.{History, Live, of_thread, tables_after, fate_of, ending, is_done, added_by, IsOpening}
+use Rattle.xa_tables.specs.History.{History, Live, of_thread, tables_after, fate_of, ending, is_done, added_by}
+use Rattle.xa_tables.specs.Openings.{IsOpening}
 use Rattle.xa_tables.specs.Prepared.{names, NamesNowhere}
 use Rattle.xa_tables.specs.Worth.{gain, unless_ended, added_by_now}
 use Rattle.xa_tables.specs.Work.{request, LeavesAtWork, DoesWork}

@@ -22,7 +22,8 @@ use Rattle.xa_tables.specs.Tables.{Tables, Touch, touch_cmp, association_of, is_
 use Rattle.xa_tables.specs.Next.{Answer, next, added, committed}
 use Rattle.xa_tables.specs.Accounts.{are_accounts, are_apart}
 use Rattle.xa_tables.specs.Managers.{opening}
-use Rattle.xa_tables.specs.History.{History, Fate, Live, InDoubt, Committed, RolledBack, HeurCommitted, HeurRolledBack, fate_of, if_named, ending_by, heur_fate, tables_after, added_by, share_of, is_done, is_integrity, commit_fate, ending, IsOpening}
+use Rattle.xa_tables.specs.History.{History, Fate, Live, InDoubt, Committed, RolledBack, HeurCommitted, HeurRolledBack, fate_of, if_named, ending_by, heur_fate, tables_after, added_by, share_of, is_done, is_integrity, commit_fate, ending}
+use Rattle.xa_tables.specs.Openings.{IsOpening}
 use Rattle.xa_tables.specs.Prepared.{NamesNowhere}
 use Rattle.xa_tables.specs.Worth.{worth_declared, worth, held_by, moved_by, moved, is_any, gain, unless_ended, added_by_now, WorthIsMoved, HoldsItsAdditions}
 use Rattle.xa_tables.proofs.MapLemmas.{none_passes, get-map_values}

@@ -6,12 +6,13 @@ use Rattle.std.specs.FinMap as finmap
 use Rattle.std.specs.FinMap.{FinMap, from_entries, find}
 use Rattle.std.specs.Coded.{Coded, code_by, coded×, coded_ℕ}
 use Rattle.xa_base.specs.declared.limits.TheConstants.{MOST_KEYS, MOST_VALUE}
-use Rattle.xa_words.specs.Xid.{XidName, xid_eq}
+use Rattle.xa_words.specs.Xid.{XidName, xid_cmp, xid_eq}
 use Rattle.xa_words.specs.Orders.{key_cmp}
 use Rattle.xa_words.specs.Key.{key_eq}
 use Rattle.xa_tables.specs.declared.accounts.Account.{Account}
 use Rattle.xa_tables.specs.declared.accounts.Hold.{Hold}
-use Rattle.xa_tables.specs.Tables.{is_within, Touch, touch_cmp, sums_code, values_code}
+use Rattle.xa_tables.specs.declared.state.State.{State}
+use Rattle.xa_tables.specs.Tables.{is_S3, is_within, Touch, touch_cmp, sums_code, values_code}
 
 -- the sums of the branches, the committed values, and how many additions were made
 pub record Holdings : Type 0 where
@@ -81,10 +82,18 @@ amount_in (Some h) = h.amount
 abbrev pub added_to : Account → XidName → ℤ → Account
 added_to a x d = record a { hold = Some (record { xid = x; amount = amount_in a.hold +ℤ d }) }
 
+-- the hold, where it is that of a branch to be kept
+abbrev pub hold_where : (XidName → Bool) → Option Hold → Option Hold
+hold_where keep None = None
+hold_where keep (Some h) = if keep h.xid then Some h else None
+
 -- the hold, unless it is that of x
 abbrev pub hold_without : Option Hold → XidName → Option Hold
-hold_without None x = None
-hold_without (Some h) x = if xid_eq h.xid x then None else Some h
+hold_without o x = hold_where (λ y. not (xid_eq y x)) o
+
+-- the account where only prepared branches hold any
+abbrev pub retained_in : FinMap xid_cmp State → Account → Account
+retained_in states a = record a { hold = hold_where (λ x. is_S3 (finmap.get states x)) a.hold }
 
 -- what x has added, 0 where it hasn't touched the key
 abbrev pub amount_of : Option Hold → XidName → ℤ

@@ -1,8 +1,7 @@
 -- Histories: the requests of one manager, in the order in which its worker took them.
 use Rattle.std.specs.Prelude.{◌≡◌, ℕ, ℤ, pos, ◌+ℤ◌, ◌≤ℤ◌, Bool, true, false, not, ◌||◌, ◌&&◌, ◌==◌, if◌then◌else◌}
-use Rattle.std.specs.Prelude.{Option, None, Some, option_map, List, [], ◌∷◌, ◌++◌, map, filter, refl}
+use Rattle.std.specs.Prelude.{Option, None, Some, List, [], ◌∷◌, ◌++◌, map, filter, refl}
 use Rattle.std.specs.List.{All, filter_map}
-use Rattle.std.specs.FinSet as finset
 use Rattle.std.specs.FinMap as finmap
 use Rattle.xa_base.specs.declared.limits.TheConstants.{MOST_VALUE}
 use Rattle.xa_words.specs.Xid.{XidName, xid_eq}
@@ -12,7 +11,7 @@ use Rattle.xa_words.specs.declared.code.Code.TheVariants.{Done, RdOnly, RbRollba
 use Rattle.xa_words.specs.declared.code.Code.TheVariants.{RbOther, RbProto, RbTimeout, RbTransient, RmFail}
 use Rattle.xa_words.specs.declared.request.Op.{Op}
 use Rattle.xa_words.specs.declared.request.Op.TheVariants.{OpenRm, CloseRm, Start, Add, End, Prepare, Commit, Rollback}
-use Rattle.xa_words.specs.declared.request.Op.TheVariants.{Forget, Heur, Shut}
+use Rattle.xa_words.specs.declared.request.Op.TheVariants.{Forget, Heur, Listed, Shut}
 use Rattle.xa_words.specs.declared.request.StartHow.{StartHow}
 use Rattle.xa_words.specs.declared.request.StartHow.TheVariants.{Fresh, Join, Resume}
 use Rattle.xa_words.specs.declared.request.Request.{Request}
@@ -60,6 +59,7 @@ is_shut (Commit x one_phase) = false
 is_shut (Rollback x) = false
 is_shut (Forget x) = false
 is_shut (Heur x commits) = false
+is_shut (Listed x) = false
 is_shut Shut = true
 
 -- the requests before the first Shut
@@ -167,6 +167,7 @@ fate_of x (Commit y one_phase) c = if_named x y (commit_fate c)
 fate_of x (Rollback y) c = if_named x y (rollback_fate c)
 fate_of x (Heur y commits) c = if_named x y (heur_fate commits c)
 fate_of x (Forget y) c = None
+fate_of x (Listed y) c = None
 fate_of x OpenRm c = None
 fate_of x CloseRm c = None
 fate_of x (Add k d) c = None
@@ -182,13 +183,13 @@ last_or f (g ∷ gs) = last_or g gs
 abbrev pub fates_in : XidName → List (Request × Code) → List Fate
 fates_in x es = filter_map (λ e. fate_of x e.0.op e.1) es
 
--- the fate of x in them: what the last one that stands in the table makes of it
-abbrev pub fate_in : XidName → List (Request × Code) → Fate
-fate_in x es = last_or Absent (fates_in x es)
+-- the fate of x after them, where it was f before: what the last one that stands in the table makes of it
+abbrev pub fate_in : XidName → Fate → List (Request × Code) → Fate
+fate_in x f es = last_or f (fates_in x es)
 
--- the fate of x in a history: it is read from the accepted requests
-abbrev pub fate : XidName → History → Tables → Fate
-fate x h T = fate_in x (coded (accepted h) T)
+-- the fate of x after a history, where it was f before: it is read from the accepted requests
+abbrev pub fate : XidName → Fate → History → Tables → Fate
+fate x f h T = fate_in x f (coded (accepted h) T)
 
 -- the branch awaits the outcome
 abbrev pub is_in_doubt : Fate → Bool
@@ -201,18 +202,22 @@ is_in_doubt RolledBack = false
 is_in_doubt HeurCommitted = false
 is_in_doubt HeurRolledBack = false
 
+-- the branch is at work
+abbrev pub is_live : Fate → Bool
+is_live Absent = false
+is_live Live = true
+is_live InDoubt = false
+is_live Committed = false
+is_live ReadOnly = false
+is_live RolledBack = false
+is_live HeurCommitted = false
+is_live HeurRolledBack = false
+
 -- the branch was started, and hasn't ended
 abbrev pub is_unfinished : Fate → Bool
-is_unfinished Absent = false
-is_unfinished Live = true
-is_unfinished InDoubt = true
-is_unfinished Committed = false
-is_unfinished ReadOnly = false
-is_unfinished RolledBack = false
-is_unfinished HeurCommitted = false
-is_unfinished HeurRolledBack = false
+is_unfinished f = is_live f || is_in_doubt f
 
--- ---- the value of a key
+-- ---- what is added to a key
 
 -- a request that ends its branch: whether it is the committing one
 abbrev pub ending_by : Fate → Option Bool
@@ -239,10 +244,10 @@ abbrev pub or_later : Option Bool → Bool → Bool
 or_later None later = later
 or_later (Some committing) later = committing
 
--- the first request that ends x commits it
-abbrev pub commits_later : XidName → List (Request × Code) → Bool
-commits_later x [] = false
-commits_later x (e ∷ es) = or_later (ending (fate_of x e.0.op e.1)) (commits_later x es)
+-- the first of these requests that ends x commits it; where none ends it, `after` tells whether it commits after them
+abbrev pub commits_later : Bool → XidName → List (Request × Code) → Bool
+commits_later after x [] = after
+commits_later after x (e ∷ es) = or_later (ending (fate_of x e.0.op e.1)) (commits_later after x es)
 
 -- the delta of an Add by a thread with this association, where its branch commits later
 abbrev pub added_by : Option Association → ℤ → (XidName → Bool) → ℤ
@@ -258,54 +263,37 @@ share_of k (Commit y one_phase) c a later = pos 0
 share_of k (Rollback y) c a later = pos 0
 share_of k (Forget y) c a later = pos 0
 share_of k (Heur y commits) c a later = pos 0
+share_of k (Listed y) c a later = pos 0
 share_of k OpenRm c a later = pos 0
 share_of k CloseRm c a later = pos 0
 share_of k (End y how) c a later = pos 0
 share_of k Shut c a later = pos 0
 
--- the same for the first request of a history; its branch is that with which its thread is associated at its place
-abbrev pub share : List ℕ → Request → History → Tables → ℤ
-share k r h T =
+-- the same for the first request of a history, after which `after` tells who commits; its branch is that with which its
+-- thread is associated at its place
+abbrev pub share : List ℕ → (XidName → Bool) → Request → History → Tables → ℤ
+share k after r h T =
     share_of k r.op (next r.thread r.op T).1 (association_of T r.thread)
-    (λ x. commits_later x (coded h (next r.thread r.op T).0))
+    (λ x. commits_later (after x) x (coded h (next r.thread r.op T).0))
 
 -- the sum of the shares
-abbrev pub added_in : List ℕ → History → Tables → ℤ
-added_in k [] T = pos 0
-added_in k (r ∷ h) T = share k r h T +ℤ added_in k h (next r.thread r.op T).0
-
--- the value of a key after a history: that at the opening, and each accepted Add whose branch commits later
-abbrev pub value_after : List ℕ → History → Tables → Option ℤ
-value_after k h T = option_map (λ v. v +ℤ added_in k (accepted h) T) (finmap.get T.values k)
+abbrev pub added_in : List ℕ → (XidName → Bool) → History → Tables → ℤ
+added_in k after [] T = pos 0
+added_in k after (r ∷ h) T = share k after r h T +ℤ added_in k after h (next r.thread r.op T).0
 
 -- ---- statements of the laws
-
--- the tables at an opening: no thread, no branch, not shut; any values
-pub record IsOpening (T : Tables) : Type 0 where
-  pub opened : T.opened ≡ finset.empty
-  pub associations : T.associations ≡ finmap.empty
-  pub states : T.states ≡ finmap.empty
-  pub sums : T.sums ≡ finmap.empty
-  pub shut : T.shut ≡ false
-
--- a branch is in S3 exactly if its fate is InDoubt
-abbrev pub PreparedIsInDoubt : XidName → History → Tables → Type 0
-PreparedIsInDoubt x h T = is_prepared (tables_after h T) x ≡ is_in_doubt (fate x h T)
-
--- a branch exists exactly while its fate is Live or InDoubt, or it is heuristically completed
-abbrev pub ExistsWhileUnfinished : XidName → History → Tables → Type 0
-ExistsWhileUnfinished x h T =
-    exists (tables_after h T) x ≡ (is_unfinished (fate x h T) || is_completed (tables_after h T) x)
 
 -- what became of a branch by a heuristic decision
 abbrev pub decided_fate : HeuristicDecision → Fate
 decided_fate decision.Commit = HeurCommitted
 decided_fate decision.Rollback = HeurRolledBack
 
--- a branch that is heuristically completed has the fate that was decided
-abbrev pub EndedAsDecided : XidName → History → Tables → Type 0
-EndedAsDecided x h T =
-    (d : HeuristicDecision) → state_of (tables_after h T) x ≡ Some (HeuristicallyCompleted d) → fate x h T ≡ decided_fate d
+-- The tables tell the fate f of x: it is prepared exactly if it is in doubt, it exists exactly while it is unfinished or it
+-- is heuristically completed, and then it ended as decided.
+pub record IsFateOf (x : XidName) (f : Fate) (T : Tables) : Type 0 where
+  pub prepared : is_prepared T x ≡ is_in_doubt f
+  pub exists : exists T x ≡ (is_unfinished f || is_completed T x)
+  pub decided : (d : HeuristicDecision) → state_of T x ≡ Some (HeuristicallyCompleted d) → f ≡ decided_fate d
 
 -- only a branch that exists and isn't heuristically completed has touched a key
 abbrev pub OnlyUnfinishedTouch : XidName → History → Tables → Type 0
@@ -326,13 +314,9 @@ ActiveWhileAssociated x h T =
 abbrev pub StaysWithin : List ℕ → History → Tables → Type 0
 StaysWithin k h T = (v : ℤ) → finmap.get (tables_after h T).values k ≡ Some v → (pos 0 ≤ℤ v) × (v ≤ℤ pos MOST_VALUE)
 
--- the tables' value of a key is the value after the history
-abbrev pub ValueIsSum : List ℕ → History → Tables → Type 0
-ValueIsSum k h T = finmap.get (tables_after h T).values k ≡ value_after k h T
-
--- the value after the history has the share of each request, also of the late ones
-abbrev pub IsSumOfAll : List ℕ → History → Tables → Type 0
-IsSumOfAll k h T = value_after k h T ≡ option_map (λ v. v +ℤ added_in k h T) (finmap.get T.values k)
+-- late requests add nothing
+abbrev pub LateAddNothing : List ℕ → (XidName → Bool) → History → Tables → Type 0
+LateAddNothing k after h T = added_in k after (accepted h) T ≡ added_in k after h T
 
 -- the accepted requests have the codes that they have alone, the first Shut is carried out, and the late ones are
 -- refused

@@ -6,6 +6,7 @@ pub mod Next
 pub mod Accounts
 pub mod Managers
 pub mod History
+pub mod Openings
 pub mod Worked
 pub mod Prepared
 pub mod Worth

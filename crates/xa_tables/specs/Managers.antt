@@ -1,6 +1,6 @@
 -- What contracts see of a manager.
-use Rattle.std.specs.Prelude.{◌≡◌, ℕ, ◌+◌, ◌≤◌, ℤ, Bool, true, false, Some, List, refl}
-use Rattle.std.specs.Coded.{Coded, code_by, coded×, coded_ℕ, coded_bool}
+use Rattle.std.specs.Prelude.{◌≡◌, ℕ, ◌+◌, ◌≤◌, ℤ, Bool, true, false, Option, Some, List, refl}
+use Rattle.std.specs.Coded.{Coded, code_by, coded×, coded_ℕ, coded_bool, coded_option}
 use Rattle.std.specs.FinMap as map
 use Rattle.std.specs.FinMap.{FinMap}
 use Rattle.std.specs.FinSet as set
@@ -15,11 +15,13 @@ use Rattle.xa_tables.specs.Tables.{sums_code, values_code}
 use Rattle.xa_tables.specs.Views.{ThreadTable, BranchTable}
 use Rattle.xa_tables.specs.Accounts.{Holdings, declared_values}
 
--- the tables, the number of threads, and how many more requests there is room for
+-- the tables, the number of threads, how many more requests there is room for, and for how many threads and requests
+-- there is room at the next opening
 pub record Managed : Type 0 where
   pub tables : Tables
   pub threads : ℕ
   pub room : ℕ
+  pub reserved : Option (ℕ × ℕ)
 
 -- the tables as data
 abbrev pub tables_code : Coded Tables
@@ -42,8 +44,10 @@ tables_code =
 -- a manager as data
 abbrev pub managed_code : Coded Managed
 managed_code =
-    code_by (Tables × (ℕ × ℕ)) (coded× tables_code (coded× coded_ℕ coded_ℕ)) (λ m. (m.tables, (m.threads, m.room)))
-    (λ p. record { tables = p.0; threads = p.1.0; room = p.1.1 }) (λ _. refl)
+    code_by (Tables × (ℕ × (ℕ × Option (ℕ × ℕ))))
+    (coded× tables_code (coded× coded_ℕ (coded× coded_ℕ (coded_option (coded× coded_ℕ coded_ℕ)))))
+    (λ m. (m.tables, (m.threads, (m.room, m.reserved))))
+    (λ p. record { tables = p.0; threads = p.1.0; room = p.1.1.0; reserved = p.1.1.1 }) (λ _. refl)
 
 -- the tables at the opening: nobody has it open, no branch, the declared values
 abbrev pub opening : List (List ℕ × ℕ) → Tables
@@ -69,19 +73,20 @@ tables_of s b a shut =
       shut = shut;
     }
 
--- the tables, and what there is room for
+-- the tables, and what there is room for: threads, branches, additions
 pub record TablesWithRoom : Type 0 where
   pub tables : Tables
   pub threads : ℕ
+  pub seats : ℕ
   pub spare : ℕ
   pub adds : ℕ
 
 -- the tables with their room as data
 abbrev pub tables_with_room_code : Coded TablesWithRoom
 tables_with_room_code =
-    code_by (Tables × (ℕ × (ℕ × ℕ))) (coded× tables_code (coded× coded_ℕ (coded× coded_ℕ coded_ℕ)))
-    (λ b. (b.tables, (b.threads, (b.spare, b.adds))))
-    (λ p. record { tables = p.0; threads = p.1.0; spare = p.1.1.0; adds = p.1.1.1 }) (λ _. refl)
+    code_by (Tables × (ℕ × (ℕ × (ℕ × ℕ)))) (coded× tables_code (coded× coded_ℕ (coded× coded_ℕ (coded× coded_ℕ coded_ℕ))))
+    (λ b. (b.tables, (b.threads, (b.seats, (b.spare, b.adds)))))
+    (λ p. record { tables = p.0; threads = p.1.0; seats = p.1.1.0; spare = p.1.1.1.0; adds = p.1.1.1.1 }) (λ _. refl)
 
 -- one request uses up at most one place and one addition
 pub record Keeps (old new : TablesWithRoom) : Type 0 where

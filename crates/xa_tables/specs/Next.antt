@@ -1,7 +1,7 @@
 -- One request at a manager: the rules of the branch tables.
 -- In each group the first line that fits decides. t is the thread that asks, x the xid, T the tables.
 -- The states are those of C193, chapter 6: T0 to T2 of a thread, S0 to S5 of a branch.
-use Rattle.std.specs.Prelude.{ℕ, ℤ, Bool, true, false, not, ◌||◌, ◌&&◌, if◌then◌else◌, List, ◌+ℤ◌}
+use Rattle.std.specs.Prelude.{ℕ, ℤ, Bool, true, false, not, ◌||◌, ◌&&◌, if◌then◌else◌, Option, None, Some, List, ◌+ℤ◌}
 use Rattle.std.specs.FinSet as set
 use Rattle.std.specs.FinMap as map
 use Rattle.xa_words.specs.Xid.{XidName}
@@ -10,7 +10,7 @@ use Rattle.xa_words.specs.declared.code.Code.TheVariants.{Done, RdOnly, RbRollba
 use Rattle.xa_words.specs.declared.code.Code.TheVariants.{Inval, Proto, RmFail, DupId}
 use Rattle.xa_words.specs.declared.request.Op.{Op}
 use Rattle.xa_words.specs.declared.request.Op.TheVariants.{OpenRm, CloseRm, Start, Add, End, Prepare, Commit, Rollback}
-use Rattle.xa_words.specs.declared.request.Op.TheVariants.{Forget, Heur, Shut}
+use Rattle.xa_words.specs.declared.request.Op.TheVariants.{Forget, Heur, Listed, Shut}
 use Rattle.xa_words.specs.declared.request.StartHow.{StartHow}
 use Rattle.xa_words.specs.declared.request.StartHow.TheVariants.{Fresh, Join, Resume}
 use Rattle.xa_words.specs.declared.request.EndHow.{EndHow}
@@ -25,7 +25,7 @@ use Rattle.xa_tables.specs.declared.state.AssociationState.{AssociationState}
 use Rattle.xa_tables.specs.declared.state.AssociationState.TheVariants.{Associated, Suspended}
 use Rattle.xa_tables.specs.Tables.{Tables, has_opened, has_association, is_at_work, is_suspended, is_associated}
 use Rattle.xa_tables.specs.Tables.{branch_of, exists, is_idle, is_prepared, is_rollback_only, reason_of}
-use Rattle.xa_tables.specs.Tables.{is_completed, decision_of}
+use Rattle.xa_tables.specs.Tables.{is_completed, is_left, decision_of}
 use Rattle.xa_tables.specs.Tables.{is_somebody_associated, is_declared, sum_of, has_touched, has_other_touched}
 use Rattle.xa_tables.specs.Tables.{is_broken, posted, sums_without}
 
@@ -52,6 +52,7 @@ needs_opening (Commit x one_phase) = true
 needs_opening (Rollback x) = true
 needs_opening (Forget x) = true
 needs_opening (Heur x commits) = false
+needs_opening (Listed x) = true
 
 abbrev pub if_opened : ℕ → Op → Tables → Answer → Answer
 if_opened t op T answer = if needs_opening op && not (has_opened T t) then (T, Proto) else answer
@@ -137,7 +138,7 @@ abbrev pub start_join : ℕ → XidName → Tables → Answer
 start_join t x T =
     if has_association T t then (T, Proto)
     else if not (exists T x) then (T, Nota)
-    else if is_prepared T x || is_completed T x then (T, Proto)
+    else if is_left T x then (T, Proto)
     else if is_rollback_only T x then (T, reason_of T x)
     else (associated t x (stated x Active T), Done)
 
@@ -252,6 +253,13 @@ forget x T =
     else if not (is_completed T x) then (T, Proto)
     else (forgotten x T, Done)
 
+-- ---- Listed (this project's own; what xa_recover asks): it changes nothing
+
+-- of no branch, whether the manager answers; of x, whether it is left
+abbrev pub listed : Option XidName → Tables → Answer
+listed None T = (T, Done)
+listed (Some x) T = if is_left T x then (T, Done) else (T, Nota)
+
 -- ---- all groups
 
 abbrev pub by_rules : ℕ → Op → Tables → Answer
@@ -266,6 +274,7 @@ by_rules t (Commit x one_phase) T = if one_phase then commit_one x T else commit
 by_rules t (Rollback x) T = rollback x T
 by_rules t (Forget x) T = forget x T
 by_rules t (Heur x commits) T = heur x commits T
+by_rules t (Listed x) T = listed x T
 
 -- one request
 unfoldable pub next : ℕ → Op → Tables → Answer

@@ -8,7 +8,7 @@ use Rattle.xa_words.specs.declared.code.Code.{Code}
 use Rattle.xa_words.specs.declared.code.Code.TheVariants.{Done, RmFail}
 use Rattle.xa_words.specs.declared.request.Op.{Op}
 use Rattle.xa_words.specs.declared.request.Op.TheVariants.{OpenRm, CloseRm, Start, Add, End, Prepare, Commit, Rollback}
-use Rattle.xa_words.specs.declared.request.Op.TheVariants.{Forget, Heur, Shut}
+use Rattle.xa_words.specs.declared.request.Op.TheVariants.{Forget, Heur, Listed, Shut}
 use Rattle.xa_words.specs.declared.request.Request.{Request}
 use Rattle.xa_tables.specs.declared.state.State.{State}
 use Rattle.xa_tables.specs.declared.state.State.TheVariants.{Prepared, HeuristicallyCompleted}
@@ -18,7 +18,7 @@ use Rattle.xa_tables.specs.Reasons.{decision_code}
 use Rattle.xa_tables.specs.Next.{Answer, next}
 use Rattle.xa_tables.specs.History.{History, Fate, is_shut, coded, tables_after, fates_in, decided_fate}
 
--- the request names the branch
+-- the request names the branch; one that only asks whether it is left doesn't
 abbrev pub names : XidName → Op → Bool
 names x OpenRm = false
 names x CloseRm = false
@@ -30,6 +30,7 @@ names x (Commit y one_phase) = xid_eq y x
 names x (Rollback y) = xid_eq y x
 names x (Forget y) = xid_eq y x
 names x (Heur y commits) = xid_eq y x
+names x (Listed y) = false
 names x Shut = false
 
 -- no request of the history names the branch

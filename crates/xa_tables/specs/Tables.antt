@@ -1,5 +1,5 @@
 -- The tables of one manager: the sets and finite maps of a resource manager.
-use Rattle.std.specs.Prelude.{ℕ, ℤ, pos, neg_ℤ, ◌+ℤ◌, Bool, true, false, not, ◌&&◌, Option, None, Some, is_some}
+use Rattle.std.specs.Prelude.{ℕ, ℤ, pos, neg_ℤ, ◌+ℤ◌, Bool, true, false, not, ◌&&◌, ◌||◌, Option, None, Some, is_some}
 use Rattle.std.specs.Prelude.{unwrap_or, List, []}
 use Rattle.std.specs.Ordering.{nat_cmp, ordering_then}
 use Rattle.std.specs.declared.cmp.Ordering.{Ordering}
@@ -198,6 +198,10 @@ decision_in (Some Prepared) = Done
 decision_in (Some (RollbackOnly reason)) = Done
 decision_in (Some (HeuristicallyCompleted decision)) = decision_code decision
 
+-- in this state it is left where an opening ends: prepared, or heuristically completed
+abbrev pub is_left_in : Option State → Bool
+is_left_in s = is_S3 s || is_S5 s
+
 -- x is active, idle, prepared, can only be rolled back, or is heuristically completed
 abbrev pub is_active : Tables → XidName → Bool
 is_active T x = is_S1 (state_of T x)
@@ -213,6 +217,10 @@ is_rollback_only T x = is_S4 (state_of T x)
 
 abbrev pub is_completed : Tables → XidName → Bool
 is_completed T x = is_S5 (state_of T x)
+
+-- x is left where an opening ends
+abbrev pub is_left : Tables → XidName → Bool
+is_left T x = is_left_in (state_of T x)
 
 -- why x can only be rolled back
 abbrev pub reason_of : Tables → XidName → Code

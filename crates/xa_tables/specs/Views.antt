@@ -34,18 +34,20 @@ place_table_code =
     code_by (FinMap key_cmp ℕ × ℕ) (coded× (finmap.code (coded_list coded_ℕ) coded_ℕ) coded_ℕ)
     (λ s. (s.places, s.spare)) (λ p. record { places = p.0; spare = p.1 }) (λ _. refl)
 
--- the threads from 1 to threads: which have it open, and their associations
+-- the threads from 1 to threads: which have it open, their associations, and for how many there is room
 pub record ThreadTable : Type 0 where
   pub opened : FinSet nat_cmp
   pub associations : FinMap nat_cmp Association
   pub threads : ℕ
+  pub seats : ℕ
 
 -- the threads as data
 abbrev pub thread_table_code : Coded ThreadTable
 thread_table_code =
-    code_by (FinSet nat_cmp × (FinMap nat_cmp Association × ℕ)) (coded× set_code (coded× associations_code coded_ℕ))
-    (λ s. (s.opened, (s.associations, s.threads))) (λ p. record { opened = p.0; associations = p.1.0; threads = p.1.1 })
-    (λ _. refl)
+    code_by (FinSet nat_cmp × (FinMap nat_cmp Association × (ℕ × ℕ)))
+    (coded× set_code (coded× associations_code (coded× coded_ℕ coded_ℕ)))
+    (λ s. (s.opened, (s.associations, (s.threads, s.seats))))
+    (λ p. record { opened = p.0; associations = p.1.0; threads = p.1.1.0; seats = p.1.1.1 }) (λ _. refl)
 
 -- an entry for the value, if there is one
 abbrev pub with_entry : {K X : Type 0} → K → Option X → List (K × X) → List (K × X)
@@ -65,12 +67,13 @@ open_mark s = if s.is_open then Some tt else None
 abbrev pub association_in : Thread → Option Association
 association_in s = s.association
 
--- what contracts see of a list of threads, the first of which is thread 1
-abbrev pub thread_table_of : List Thread → ThreadTable
-thread_table_of threads = record {
+-- what contracts see of a list of threads, the first of which is thread 1, in so many seats
+abbrev pub thread_table_of : List Thread → ℕ → ThreadTable
+thread_table_of threads seats = record {
   opened = from_list (map (λ e. e.0) (entries_from open_mark 1 threads));
   associations = from_entries (entries_from association_in 1 threads);
   threads = length threads;
+  seats = seats;
 }
 
 -- the thread is associated with x

@@ -5,7 +5,7 @@ use Rattle.xa_words.specs.Xid.{XidName, xid_eq}
 use Rattle.xa_words.specs.declared.code.Code.{Code}
 use Rattle.xa_words.specs.declared.request.Op.{Op}
 use Rattle.xa_words.specs.declared.request.Op.TheVariants.{OpenRm, CloseRm, Start, Add, End, Prepare, Commit, Rollback}
-use Rattle.xa_words.specs.declared.request.Op.TheVariants.{Forget, Heur, Shut}
+use Rattle.xa_words.specs.declared.request.Op.TheVariants.{Forget, Heur, Listed, Shut}
 use Rattle.xa_words.specs.declared.request.Request.{Request}
 use Rattle.xa_tables.specs.declared.state.Association.{Association}
 use Rattle.xa_tables.specs.Tables.{Tables, association_of, value_of, sum_of}
@@ -39,6 +39,7 @@ moved_by accounts (End y how) c T = pos 0
 moved_by accounts (Prepare y) c T = pos 0
 moved_by accounts (Rollback y) c T = pos 0
 moved_by accounts (Forget y) c T = pos 0
+moved_by accounts (Listed y) c T = pos 0
 moved_by accounts Shut c T = pos 0
 
 -- what the requests of a history add that pass a test, from the tables T on
@@ -70,6 +71,7 @@ gain x (Commit y one_phase) c a = pos 0
 gain x (Rollback y) c a = pos 0
 gain x (Forget y) c a = pos 0
 gain x (Heur y commits) c a = pos 0
+gain x (Listed y) c a = pos 0
 gain x Shut c a = pos 0
 
 -- what is left of it: nothing, where the request ends the branch

@@ -5,10 +5,12 @@ ghost use Rattle.std.specs.FinMap as finmap;
 ghost use Rattle.xa_words.specs.Delta.{IsDelta};
 ghost use Rattle.xa_words.specs.Key.{key_eq};
 ghost use Rattle.xa_words.specs.Xid.{XidName};
-ghost use Rattle.xa_tables.specs.Accounts.{are_accounts, are_apart, declared_values, is_held_by, is_held_by_other, is_broken_by, IsGood, added_to, posted_by, forgotten_by};
-ghost use Rattle.xa_tables.specs.Tables.{is_within, sum_of, has_touched, has_other_touched, is_broken, posted, sums_without};
+ghost use Rattle.xa_tables.specs.Accounts.{are_accounts, are_apart, declared_values, is_held_by, is_held_by_other, is_broken_by, IsGood, added_to, posted_by, forgotten_by, retained_in};
+ghost use Rattle.xa_tables.specs.Tables.{is_within, sum_of, has_touched, has_other_touched, is_broken, posted, sums_without, is_S3};
 
+use crate::branches::Branches;
 use crate::places::Places;
+use crate::state::State;
 use std::alloc::{AllocError, Global};
 use std::marker::Model;
 use xa_base::{MOST_KEYS, MOST_VALUE};
@@ -149,6 +151,17 @@ impl Accounts {
         ensures others { (y : XidName) → y ≢ xid.now → is_broken self.new.values self.new.sums y ≡ is_broken self.old.values self.old.sums y }
     {
         forget_all(&mut self.accounts, xid);
+    }
+
+    /// Leaves the values as they are; only prepared branches have touched a key any more.
+    pub(crate) fn retain_prepared(&mut self, branches: &Branches)
+        requires { (x : XidName) → is_S3 (finmap.get branches.now.states x) ≡ true → is_broken self.old.values self.old.sums x ≡ false }
+        ensures sums { self.new.sums ≡ finmap.retain_keys self.old.sums (λ p. is_S3 (finmap.get branches.now.states p.0)) }
+        ensures values { self.new.values ≡ self.old.values }
+        ensures adds { self.new.adds ≡ 1 }
+    {
+        retain_all(&mut self.accounts, branches);
+        self.adds = 1;
     }
 }
 
@@ -312,5 +325,24 @@ fn forget_account(account: &mut Account, xid: &Xid)
 {
     if is_held_by(account, xid) {
         account.hold = None;
+    }
+}
+
+// Lets go of what is held by others than prepared branches.
+fn retain_all(accounts: &mut [Account], branches: &Branches)
+    ensures { accounts.new ≡ map (retained_in branches.now.states) accounts.old }
+{
+    for i in 0..accounts.len() {
+        retain_account(&mut accounts[i], branches);
+    }
+}
+
+fn retain_account(account: &mut Account, branches: &Branches)
+    ensures { account.new ≡ retained_in branches.now.states account.old }
+{
+    if let Some(hold) = &account.hold {
+        if branches.get(&hold.xid) != Some(State::Prepared) {
+            account.hold = None;
+        }
     }
 }

@@ -1,11 +1,12 @@
 //! The tables of a manager, a group of rules at a time.
-ghost use Rattle.std.specs.Prelude.{◌≡◌, ◌≤◌, ◌<◌, ◌^◌, IfOk, IfSome, true, option_map, pos};
+ghost use Rattle.std.specs.Prelude.{◌≡◌, ◌≤◌, ◌<◌, ◌^◌, IfOk, OnOk, IfSome, true, option_map, pos};
 ghost use Rattle.std.specs.FinMap as finmap;
 ghost use Rattle.xa_tables.specs.declared.state.AssociationState.TheVariants.{Associated, Suspended};
-ghost use Rattle.xa_tables.specs.Next.{association, shut_down, open_rm, close_rm, start_fresh, start_join, start_resume, add, end, prepare, commit_one, commit_two, rollback, heur, forget, gone};
+ghost use Rattle.xa_tables.specs.Next.{association, shut_down, open_rm, close_rm, start_fresh, start_join, start_resume, add, end, prepare, commit_one, commit_two, rollback, heur, forget, listed, gone};
 ghost use Rattle.xa_tables.specs.Tables.{has_opened};
 ghost use Rattle.xa_tables.specs.Accounts.{are_accounts};
 ghost use Rattle.xa_tables.specs.Managers.{Keeps, opening};
+ghost use Rattle.xa_tables.specs.Openings.{AreLeft, reopened};
 
 use crate::accounts::Accounts;
 use crate::branches::Branches;
@@ -34,7 +35,7 @@ impl Model for BranchTables {
 
     ghost coded = { tables_with_room_code };
 
-    ghost view = { λ b. record { tables = tables_of b.threads b.branches b.accounts b.is_shut; threads = b.threads.threads; spare = b.branches.spare; adds = b.accounts.adds } };
+    ghost view = { λ b. record { tables = tables_of b.threads b.branches b.accounts b.is_shut; threads = b.threads.threads; seats = b.threads.seats; spare = b.branches.spare; adds = b.accounts.adds } };
 
     ghost invariant = { λ b. AreAssociationsLive b.threads.associations b.branches.states × ArePreparedSound b.branches.states b.accounts.sums b.accounts.values };
 }
@@ -407,6 +408,53 @@ impl BranchTables {
         };
         self.branches.remove(&xid);
         Code::Done
+    }
+
+    /// Whether the branch is left where the opening ends; of no branch, XA_OK.
+    pub(crate) fn listed(&self, xid: Option<Xid>) -> Code
+        ensures { (self.now.tables, result) ≡ listed xid self.now.tables }
+    {
+        let Some(xid) = xid else {
+            return Code::Done;
+        };
+        match self.branches.get(&xid) {
+            Some(state) if state.is_left() => Code::Done,
+            _ => Code::Nota,
+        }
+    }
+
+    /// The branches that are left where the opening ends, rising.
+    pub(crate) fn left(&self, alloc: Global) -> Result<Vec<Xid>, AllocError>
+        ensures { IfOk result (λ v. AreLeft v.items self.now.tables) }
+    {
+        self.branches.left(alloc)
+    }
+
+    /// Makes room for a reopening, for so many threads and requests.
+    pub(crate) fn reserve_reopen(&mut self, threads: usize, room: usize) -> Result<(), AllocError>
+        ensures tables { self.new.tables ≡ self.old.tables }
+        ensures threads { self.new.threads ≡ self.old.threads }
+        ensures spare { self.old.spare ≤ self.new.spare }
+        ensures seats { self.old.seats ≤ self.new.seats }
+        ensures adds { self.new.adds ≡ self.old.adds }
+        ensures room { OnOk result ((threads ≤ self.new.seats) × (room ≤ self.new.spare)) }
+    {
+        self.threads.reserve(threads)?;
+        self.branches.reserve(room)
+    }
+
+    /// The tables at the next opening, for so many threads, for which there is room.
+    pub(crate) fn reopen(&mut self, threads: usize)
+        requires { threads ≤ self.old.seats }
+        ensures tables { self.new.tables ≡ reopened self.old.tables }
+        ensures threads { self.new.threads ≡ threads }
+        ensures spare { self.old.spare ≤ self.new.spare }
+        ensures adds { self.new.adds ≡ 1 }
+    {
+        self.threads.reset(threads);
+        self.accounts.retain_prepared(&self.branches);
+        self.branches.retain_left();
+        self.is_shut = false;
     }
 
     // The branch is gone, with its sums.

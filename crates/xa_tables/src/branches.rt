@@ -1,6 +1,10 @@
 //! The branches that exist, by their names.
-ghost use Rattle.std.specs.Prelude.{◌≡◌, ◌≤◌, ◌<◌, ◌+◌, IfOk};
+ghost use Rattle.std.specs.Prelude.{◌≡◌, ◌≤◌, ◌<◌, ◌+◌, IfOk, OnOk};
 ghost use Rattle.std.specs.FinMap as map;
+ghost use Rattle.std.specs.List.{IsDistinct, list_any};
+ghost use Rattle.std.specs.List.Sorted.{IsSorted};
+ghost use Rattle.xa_words.specs.Xid.{XidName, xid_cmp, xid_eq};
+ghost use Rattle.xa_tables.specs.Tables.{is_left_in};
 
 use crate::state::State;
 use std::alloc::{AllocError, Global};
@@ -52,6 +56,39 @@ impl Branches {
     {
         let inserted: Result<_, _> = self.states.insert(xid, state);
         let _ = inserted.unwrap();
+    }
+
+    /// Makes room for so many branches more.
+    pub(crate) fn reserve(&mut self, room: usize) -> Result<(), AllocError>
+        ensures states { self.new.states ≡ self.old.states }
+        ensures room { OnOk result (room ≤ self.new.spare) }
+        ensures spare { self.old.spare ≤ self.new.spare }
+    {
+        self.states.reserve(room)
+    }
+
+    /// The branches that are left where the opening ends, rising.
+    pub(crate) fn left(&self, alloc: Global) -> Result<Vec<Xid>, AllocError>
+        ensures rising { IfOk result (λ v. IsSorted xid_cmp v.items) }
+        ensures once { IfOk result (λ v. IsDistinct xid_eq v.items) }
+        ensures each { IfOk result (λ v. (x : XidName) → list_any (xid_eq x) v.items ≡ is_left_in (map.get self.now.states x)) }
+    {
+        let mut left = Vec::new(alloc);
+        for (xid, state) in self.states.iter() {
+            if state.is_left() {
+                left.push(*xid)?;
+            }
+        }
+        left.sort_unstable();
+        Ok(left)
+    }
+
+    /// Only the branches that are left stay.
+    pub(crate) fn retain_left(&mut self)
+        ensures states { self.new.states ≡ map.retain_keys self.old.states (λ x. is_left_in (map.get self.old.states x)) }
+        ensures room { self.old.spare ≤ self.new.spare }
+    {
+        self.states.retain(|_, state| state.is_left());
     }
 
     /// The branch doesn't exist any more.

@@ -1,13 +1,14 @@
 //! Laws of the definitions, for any history.
-ghost use Rattle.std.specs.Prelude.{◌≡◌, ◌≢◌, ◌++◌, ℕ, ℤ, pos, List, [], Some, option_map, true, false};
+ghost use Rattle.std.specs.Prelude.{◌≡◌, ◌≢◌, ◌++◌, ℕ, ℤ, pos, Bool, List, [], Some, option_map, true, false};
 ghost use Rattle.xa_words.specs.Xid.{XidName};
 ghost use Rattle.xa_words.specs.declared.code.Code.TheVariants.{Done, RbIntegrity, RdOnly};
 ghost use Rattle.xa_words.specs.declared.request.Op.{Op};
 ghost use Rattle.xa_words.specs.declared.request.Op.TheVariants.{Add, Prepare, Commit, Rollback};
 ghost use Rattle.xa_tables.specs.declared.state.HeuristicDecision.{HeuristicDecision};
-ghost use Rattle.xa_tables.specs.Tables.{Tables, association_of, is_somebody_associated, is_prepared};
+ghost use Rattle.xa_tables.specs.Tables.{Tables, association_of, is_somebody_associated, is_prepared, state_of};
 ghost use Rattle.xa_tables.specs.Reasons.{decision_code};
-ghost use Rattle.xa_tables.specs.History.{History, IsOpening, EndsNowhere, PreparedIsInDoubt, ExistsWhileUnfinished, EndedAsDecided, OnlyUnfinishedTouch, ActiveWhileAssociated, StaysWithin, ValueIsSum, IsSumOfAll, LateAreRefused, LateChangeNothing, tables_after, coded, accepted, first_shut, late, fate, fate_in, fates_in, is_rolled_back, Absent, Live, InDoubt, Committed, ReadOnly, RolledBack, HeurCommitted, HeurRolledBack};
+ghost use Rattle.xa_tables.specs.History.{History, Fate, IsFateOf, EndsNowhere, OnlyUnfinishedTouch, ActiveWhileAssociated, StaysWithin, LateAddNothing, LateAreRefused, LateChangeNothing, tables_after, coded, accepted, first_shut, late, fate, fate_in, fates_in, is_rolled_back, Absent, Live, InDoubt, Committed, ReadOnly, RolledBack, HeurCommitted, HeurRolledBack};
+ghost use Rattle.xa_tables.specs.Openings.{IsNew, IsOpening, AreLeft, FatesAreTold, ValueIsSum, reopened, reopened_fate, told_by, left_by};
 ghost use Rattle.xa_tables.specs.Accounts.{are_accounts};
 ghost use Rattle.xa_tables.specs.Managers.{opening};
 ghost use Rattle.xa_tables.specs.Next.{next};
@@ -16,20 +17,23 @@ ghost use Rattle.xa_tables.specs.Work.{AddsAsItWorks};
 ghost use Rattle.xa_tables.specs.Worth.{WorthIsMoved, HoldsItsAdditions, held_by};
 ghost use Rattle.xa_tables.specs.Worked.{branch, worked, voted, transferred, undone, overdrawn, unchanged, failed, begun_again, decided, forgotten};
 
-/// Whatever is requested, a branch is prepared exactly if its fate is to be in doubt.
-pub fn prepared_is_in_doubt()
-    ensures { (h : History) (x : XidName) (T : Tables) → IsOpening T → PreparedIsInDoubt x h T }
+/// What an opening leaves is what another may begin with, as the first begins with accounts alone; what is left stays left.
+pub fn openings_begin_with_what_was_left()
+    ensures first { (accounts : List (List ℕ × ℕ)) → IsNew (opening accounts) }
+    ensures new { (T : Tables) → IsNew T → IsOpening T }
+    ensures next { (T : Tables) → IsOpening (reopened T) }
+    ensures any { (before : List History) (T : Tables) → IsOpening T → IsOpening (left_by before T) }
+    ensures left { (xs : List XidName) (T : Tables) → AreLeft xs T → AreLeft xs (reopened T) }
 {}
 
-/// Whatever is requested, a branch exists exactly while its fate is that it is at work or in doubt, or it is
-/// heuristically completed.
-pub fn branches_exist_until_they_end()
-    ensures { (h : History) (x : XidName) (T : Tables) → IsOpening T → ExistsWhileUnfinished x h T }
-{}
-
-/// Whatever is requested, a branch that is heuristically completed has the fate that was decided.
-pub fn completed_branches_ended_as_decided()
-    ensures { (h : History) (x : XidName) (T : Tables) → IsOpening T → EndedAsDecided x h T }
+/// Whatever is requested, the tables tell what became of each branch: it is prepared exactly if it is in doubt, it exists
+/// exactly while it is at work or in doubt or is heuristically completed, and then it ended as was decided. So it is in an
+/// opening, from a fate that its first tables tell, and over any openings one after another.
+pub fn tables_tell_the_fates()
+    ensures first { (x : XidName) (T : Tables) → IsFateOf x (told_by (state_of T x)) T }
+    ensures kept { (h : History) (x : XidName) (f : Fate) (T : Tables) → IsOpening T → IsFateOf x f T → IsFateOf x (fate x f h T) (tables_after h T) }
+    ensures reopened { (x : XidName) (f : Fate) (T : Tables) → IsFateOf x f T → IsFateOf x (reopened_fate f) (reopened T) }
+    ensures over { (before : List History) (h : History) (x : XidName) (T : Tables) → IsNew T → FatesAreTold x before h T }
 {}
 
 /// Whatever is requested, a branch that doesn't exist, or is heuristically completed, has touched no key.
@@ -43,15 +47,15 @@ pub fn branches_are_active_while_associated()
     ensures { (h : History) (x : XidName) (T : Tables) → IsOpening T → ActiveWhileAssociated x h T }
 {}
 
-/// Whatever is requested, a declared key's value is from 0 to 10^12.
+/// Whatever is requested, over any openings, a declared key's value is from 0 to 10^12.
 pub fn values_stay_within_the_limits()
-    ensures { (accounts : List (List ℕ × ℕ)) (h : History) (k : List ℕ) → are_accounts accounts ≡ true → StaysWithin k h (opening accounts) }
+    ensures { (accounts : List (List ℕ × ℕ)) (before : List History) (h : History) (k : List ℕ) → are_accounts accounts ≡ true → StaysWithin k h (left_by before (opening accounts)) }
 {}
 
-/// Whatever is requested, the tables' value of a key is its value at the opening and each accepted
-/// addition whose branch commits later.
+/// Whatever is requested, over any openings, the tables' value of a key is its value at the first opening and each
+/// accepted addition whose branch commits later, in its own opening or in another.
 pub fn value_is_sum()
-    ensures { (h : History) (k : List ℕ) (T : Tables) → IsOpening T → ValueIsSum k h T }
+    ensures { (before : List History) (h : History) (k : List ℕ) (T : Tables) → IsNew T → ValueIsSum k before h T }
 {}
 
 /// A branch that has added to a key isn't read only: its Prepare isn't answered XA_RDONLY, unless it was
@@ -89,7 +93,7 @@ pub fn read_only_branches_hold_nothing()
 
 /// Late requests add nothing, so a value may be read from the whole history.
 pub fn late_requests_add_nothing()
-    ensures { (h : History) (k : List ℕ) (T : Tables) → IsOpening T → IsSumOfAll k h T }
+    ensures { (h : History) (k : List ℕ) (after : XidName → Bool) (T : Tables) → LateAddNothing k after h T }
 {}
 
 /// The first Shut parts a history into the accepted requests, itself and the late ones. A late request is
@@ -102,7 +106,7 @@ pub fn late_requests_are_refused()
 
 /// They make nothing of any branch, so its fate may be read from the whole history.
 pub fn late_requests_leave_fates()
-    ensures { (h : History) (x : XidName) (T : Tables) → fate x h T ≡ fate_in x (coded h T) }
+    ensures { (h : History) (x : XidName) (f : Fate) (T : Tables) → fate x f h T ≡ fate_in x f (coded h T) }
 {}
 
 /// A manager is shut exactly where a Shut stands before.
@@ -154,15 +158,15 @@ pub fn refused_prepares_tell_integrity()
 /// The fates of worked histories: a branch that works, votes, commits, is rolled back, would take
 /// a value out of range, changes nothing, fails, begins again, and is decided heuristically either way.
 pub fn worked_fates()
-    ensures absent { fate_in branch [] ≡ Absent }
-    ensures worked { fate_in branch worked ≡ Live }
-    ensures voted { fate_in branch voted ≡ InDoubt }
-    ensures transferred { fate_in branch transferred ≡ Committed }
-    ensures undone { fate_in branch undone ≡ RolledBack }
-    ensures overdrawn { fate_in branch overdrawn ≡ RolledBack }
-    ensures unchanged { fate_in branch unchanged ≡ ReadOnly }
-    ensures failed { fate_in branch failed ≡ RolledBack }
-    ensures begun_again { fate_in branch begun_again ≡ Live }
-    ensures decided { fate_in branch decided ≡ HeurCommitted }
-    ensures forgotten { fate_in branch forgotten ≡ HeurRolledBack }
+    ensures absent { fate_in branch Absent [] ≡ Absent }
+    ensures worked { fate_in branch Absent worked ≡ Live }
+    ensures voted { fate_in branch Absent voted ≡ InDoubt }
+    ensures transferred { fate_in branch Absent transferred ≡ Committed }
+    ensures undone { fate_in branch Absent undone ≡ RolledBack }
+    ensures overdrawn { fate_in branch Absent overdrawn ≡ RolledBack }
+    ensures unchanged { fate_in branch Absent unchanged ≡ ReadOnly }
+    ensures failed { fate_in branch Absent failed ≡ RolledBack }
+    ensures begun_again { fate_in branch Absent begun_again ≡ Live }
+    ensures decided { fate_in branch Absent decided ≡ HeurCommitted }
+    ensures forgotten { fate_in branch Absent forgotten ≡ HeurRolledBack }
 {}

@@ -1,8 +1,9 @@
 //! One manager.
-ghost use Rattle.std.specs.Prelude.{◌≡◌, ◌↔◌, ◌≤◌, ◌<◌, ◌+◌, ◌^◌, IfOk, IfSome, OnOk, IsErrOf, true, false, option_map, pos};
+ghost use Rattle.std.specs.Prelude.{◌≡◌, ◌↔◌, ◌≤◌, ◌<◌, ◌+◌, ◌^◌, IfOk, IfSome, OnOk, OnErr, IsErrOf, None, Some, true, false, option_map, pos};
 ghost use Rattle.std.specs.FinMap as finmap;
 ghost use Rattle.xa_tables.specs.Accounts.{are_accounts};
 ghost use Rattle.xa_tables.specs.Managers.{Keeps, opening};
+ghost use Rattle.xa_tables.specs.Openings.{AreLeft, reopened};
 ghost use Rattle.xa_tables.specs.Next.{next, needs_opening, by_rules, start};
 
 use crate::accounts::are_accounts;
@@ -37,19 +38,21 @@ pub struct Manager {
     inner: BranchTables,
     threads: u32,
     left: u32,
+    // For how many threads and requests there is room at the next opening.
+    reserved: Option<(u32, u32)>,
 }
 
 impl Model for Manager {
-    ghost use Rattle.std.specs.Prelude.{◌≡◌, ◌≤◌, ◌+◌, ◌^◌};
+    ghost use Rattle.std.specs.Prelude.{◌≡◌, ◌≤◌, ◌+◌, ◌^◌, IfSome};
     ghost use Rattle.xa_tables.specs.Managers.{Managed, managed_code};
 
     ghost Value = { Managed };
 
     ghost coded = { managed_code };
 
-    ghost view = { λ m. record { tables = m.inner.tables; threads = m.threads; room = m.left } };
+    ghost view = { λ m. record { tables = m.inner.tables; threads = m.threads; room = m.left; reserved = m.reserved } };
 
-    ghost invariant = { λ m. (m.inner.threads ≡ m.threads) × (m.left ≤ m.inner.spare) × (m.inner.adds + m.left ≤ 2 ^ 15) };
+    ghost invariant = { λ m. (m.inner.threads ≡ m.threads) × (m.left ≤ m.inner.spare) × (m.inner.adds + m.left ≤ 2 ^ 16) × IfSome m.reserved (λ r. (r.0 ≤ m.inner.seats) × (r.1 ≤ m.inner.spare) × (r.1 ≤ 2 ^ 15)) };
 }
 
 impl Manager {
@@ -67,6 +70,7 @@ impl Manager {
         ensures tables { IfOk result (λ m. m.tables ≡ opening accounts.now) }
         ensures threads { IfOk result (λ m. m.threads ≡ threads) }
         ensures room { IfOk result (λ m. m.room ≡ room) }
+        ensures reserved { IfOk result (λ m. m.reserved ≡ None) }
         ensures bad_accounts { IsErrOf result TableFault.BadAccounts ↔ (are_accounts accounts.now ≡ false) }
         ensures accounts { OnOk result (are_accounts accounts.now ≡ true) }
     {
@@ -78,6 +82,7 @@ impl Manager {
             inner,
             threads,
             left: room,
+            reserved: None,
         })
     }
 
@@ -88,10 +93,52 @@ impl Manager {
         ensures step { (self.new.tables, result) ≡ next thread op self.old.tables }
         ensures room { self.new.room + 1 ≡ self.old.room }
         ensures threads { self.new.threads ≡ self.old.threads }
+        ensures reserved { self.new.reserved ≡ None }
     {
         let code = step(&mut self.inner, thread as usize, op);
         self.left -= 1;
+        self.reserved = None;
         code
+    }
+
+    /// The branches that are prepared or heuristically completed, rising: those that a reopening leaves.
+    pub fn left(&self, alloc: Global) -> Result<Vec<Xid>, AllocError>
+        ensures { IfOk result (λ v. AreLeft v.items self.now.tables) }
+    {
+        self.inner.left(alloc)
+    }
+
+    /// Reserves the memory of the next opening, which carries out `room` requests of threads 1 to `threads`.
+    ///
+    /// It is kept until the next request.
+    pub fn reserve_reopen(&mut self, threads: u32, room: u32) -> Result<(), AllocError>
+        requires threads { (1 ≤ threads) × (threads ≤ MOST_THREADS) }
+        requires room { (1 ≤ room) × (room ≤ MOST_JOURNALED) }
+        ensures reserved { OnOk result (self.new ≡ record self.old { reserved = Some (threads, room) }) }
+        ensures refused { OnErr result (self.new ≡ self.old) }
+    {
+        self.inner.reserve_reopen(threads as usize, room as usize)?;
+        self.reserved = Some((threads, room));
+        Ok(())
+    }
+
+    /// The manager at the next opening, in memory that was reserved for so many threads and requests: no thread has it
+    /// open, nobody is associated, it isn't shut, and no branch exists but those that are left. The values stay.
+    pub fn reopened(self, threads: u32, room: u32) -> Manager
+        requires { self.reserved ≡ Some (threads, room) }
+        ensures tables { result.tables ≡ reopened self.tables }
+        ensures threads { result.threads ≡ threads }
+        ensures room { result.room ≡ room }
+        ensures reserved { result.reserved ≡ None }
+    {
+        let Manager { mut inner, .. } = self;
+        inner.reopen(threads as usize);
+        Manager {
+            inner,
+            threads,
+            left: room,
+            reserved: None,
+        }
     }
 
     /// The committed value of a key, and `None` for a key that wasn't declared.
@@ -148,7 +195,8 @@ fn needs_opening(op: &Op) -> bool
         | Op::Prepare(_)
         | Op::Commit(..)
         | Op::Rollback(_)
-        | Op::Forget(_) => true,
+        | Op::Forget(_)
+        | Op::Listed(_) => true,
     }
 }
 
@@ -178,6 +226,7 @@ fn step_by_rules(tables: &mut BranchTables, t: usize, op: Op) -> Code
         Op::Rollback(xid) => tables.rollback(*xid),
         Op::Forget(xid) => tables.forget(*xid),
         Op::Heur(xid, commits) => tables.heur(*xid, *commits),
+        Op::Listed(xid) => tables.listed(*xid),
     }
 }
 

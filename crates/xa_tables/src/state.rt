@@ -1,7 +1,7 @@
 //! What the tables hold of a branch and of a thread.
-ghost use Rattle.std.specs.Prelude.{◌≡◌};
+ghost use Rattle.std.specs.Prelude.{◌≡◌, Some};
 ghost use Rattle.xa_tables.specs.Reasons.{reason_code, decision_code};
-ghost use Rattle.xa_tables.specs.Tables.{is_suspended_state};
+ghost use Rattle.xa_tables.specs.Tables.{is_suspended_state, is_left_in};
 
 use xa_words::{Code, Xid};
 
@@ -18,6 +18,15 @@ pub enum State {
     RollbackOnly(RollbackReason),
     /// S5: it was decided heuristically, and is to be forgotten.
     HeuristicallyCompleted(HeuristicDecision),
+}
+
+impl State {
+    /// Whether a branch in this state is left where an opening ends.
+    pub(crate) fn is_left(&self) -> bool
+        ensures { result ≡ is_left_in (Some self.now) }
+    {
+        matches!(self, State::Prepared | State::HeuristicallyCompleted(_))
+    }
 }
 
 /// Why a branch can only be rolled back.

@@ -1,5 +1,5 @@
 //! The threads: which of them have the manager open, and their associations.
-ghost use Rattle.std.specs.Prelude.{◌≡◌, ◌≤◌, ◌<◌, IfOk};
+ghost use Rattle.std.specs.Prelude.{◌≡◌, ◌≤◌, ◌<◌, IfOk, OnOk};
 ghost use Rattle.std.specs.FinMap as map;
 ghost use Rattle.std.specs.FinSet as set;
 ghost use Rattle.std.specs.List.{list_any};
@@ -18,6 +18,12 @@ pub(crate) struct Thread {
     association: Option<Association>,
 }
 
+// A thread that hasn't opened and isn't associated.
+const FREE: Thread = Thread {
+    is_open: false,
+    association: None,
+};
+
 /// The threads of control, which are numbered from 1.
 #[derive(Drop)]
 pub(crate) struct Threads {
@@ -25,13 +31,14 @@ pub(crate) struct Threads {
 }
 
 impl Model for Threads {
+    ghost use Rattle.std.specs.Prelude.{vec_capacity};
     ghost use Rattle.xa_tables.specs.Views.{ThreadTable, thread_table_code, thread_table_of};
 
     ghost Value = { ThreadTable };
 
     ghost coded = { thread_table_code };
 
-    ghost view = { λ t. thread_table_of t.threads.items };
+    ghost view = { λ t. thread_table_of t.threads.items (vec_capacity t.threads) };
 }
 
 impl Threads {
@@ -41,13 +48,31 @@ impl Threads {
         ensures free { IfOk result (λ t. t.associations ≡ map.empty) }
         ensures count { IfOk result (λ t. t.threads ≡ threads) }
     {
-        let thread = Thread {
-            is_open: false,
-            association: None,
-        };
         Ok(Threads {
-            threads: vec![in alloc; thread; threads]?,
+            threads: vec![in alloc; FREE; threads]?,
         })
+    }
+
+    /// Makes room for so many threads.
+    pub(crate) fn reserve(&mut self, threads: usize) -> Result<(), AllocError>
+        ensures opened { self.new.opened ≡ self.old.opened }
+        ensures associations { self.new.associations ≡ self.old.associations }
+        ensures threads { self.new.threads ≡ self.old.threads }
+        ensures room { OnOk result (threads ≤ self.new.seats) }
+        ensures seats { self.old.seats ≤ self.new.seats }
+    {
+        self.threads.reserve(threads)
+    }
+
+    /// So many threads, for which there is room; none of them has opened or is associated.
+    pub(crate) fn reset(&mut self, threads: usize)
+        requires { threads ≤ self.old.seats }
+        ensures nobody { self.new.opened ≡ set.empty }
+        ensures free { self.new.associations ≡ map.empty }
+        ensures count { self.new.threads ≡ threads }
+    {
+        self.threads.clear();
+        self.threads.resize(threads, FREE).unwrap();
     }
 
     /// Whether the thread has the manager open.

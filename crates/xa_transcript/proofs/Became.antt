@@ -1,5 +1,5 @@
 -- What became of a branch by its manager's journal, from what a commit has put there.
-use Rattle.std.specs.Prelude.{ℤ, pos, slice_get, if◌then◌else◌, option_map}
+use Rattle.std.specs.Prelude.{slice_get, option_map}
 use Rattle.std.proofs.Common.{◌≡◌, ℕ, zero, suc, ◌+◌, ⊎_elim, Bool, true, false, ◌==◌, ◌||◌, List, [], ◌∷◌, ◌++◌, length, map, Option, Some, None, sym, refl, ap, ◌∙◌, subst, arith, append_assoc}
 use Rattle.std.specs.List.{All, Contains}
 use Rattle.std.proofs.lemmas.List.{length-map, map-append}
@@ -15,16 +15,14 @@ use Rattle.xa_words.specs.declared.request.Op.{Op}
 use Rattle.xa_words.specs.declared.request.Op.TheVariants.{Prepare}
 use Rattle.xa_words.specs.declared.request.Request.{Request}
 use Rattle.xa_tables.specs.Tables.{Tables}
-use Rattle.xa_tables.specs.History.{History, Fate, IsOpening, coded, fate, of_thread, share, tables_after}
+use Rattle.xa_tables.specs.History.{History, Fate, IsFateOf, coded, of_thread}
+use Rattle.xa_tables.specs.Openings.{IsOpening}
 use Rattle.xa_desk.specs.Lanes.{numbered}
 use Rattle.xa_desk.specs.LedgerView.{LedgerView, is_rm_fail, learnt_shut, with_sent, with_collected}
 use Rattle.xa_worker.specs.Journal.{Entry, codes_in, requests}
 use Rattle.xa_switch.specs.Settling.{answers}
 use Rattle.xa_driver.specs.declared.branch.Branch.{Branch}
-use Rattle.xa_driver.specs.declared.done.Ending.{Ending}
-use Rattle.xa_driver.specs.Additions.{IsAddition, prepare_of}
 use Rattle.xa_driver.specs.Asks.{asked, IsAnswered}
-use Rattle.xa_driver.specs.Decision.{is_yes}
 use Rattle.xa_driver.specs.Endings.{second_op, third_op, ending_of}
 use Rattle.xa_driver.specs.Outcomes.{OnlyTheseName, OnlyTheseOrDecisionsName}
 use Rattle.xa_driver.specs.Trace.{BranchTrace}
@@ -313,12 +311,12 @@ module _ (t : ℕ) (T : Tables) (J : List Entry) (follows : J ≡ coded (request
     trace_of mid two third (unwanted asks told same) obeys forgets = absurd (let z : Some P ≡ None = asks in cc)
 
     -- what became of the branch, and what it counts for
-    pub told_by : (law : Tabled) → IsOpening T → Traced → OnlyTheseOrDecisionsName b.xid t (length old) (length new) H → Told t b.xid T H (length old) vote (ending_of commit vote second)
-    told_by law opening z only =
+    pub became_by : (law : Tabled) (before : Fate) → IsOpening T → IsFateOf b.xid before T → Traced → OnlyTheseOrDecisionsName b.xid t (length old) (length new) H → Told t b.xid before T H (length old) vote (ending_of commit vote second)
+    became_by law before opening began z only =
         let many = z.many in
         let size = z.size in
-        subst (λ k. Told t b.xid T H k vote (ending_of commit vote second)) many
-        (branch_told law t b vote second commit z.a z.a' T H ops z.a'.collected opening sent_so z.answers z.sent (same_begins z.a'.collected)
+        subst (λ k. Told t b.xid before T H k vote (ending_of commit vote second)) many
+        (branch_told law t b vote second commit z.a z.a' T H ops z.a'.collected opening before began sent_so z.answers z.sent (same_begins z.a'.collected)
         (subst (λ k. OnlyTheseOrDecisionsName b.xid t k (length z.a'.sent) H) (sym many) (subst (λ k. OnlyTheseOrDecisionsName b.xid t (length old) k H) (sym size) only)) z.trace)
 
     pub counted_by : (law : Tabled) → IsOpening T → Traced → OnlyTheseName b.xid t (length old) (length new) H → Counted t b.xid T H (length old) (length new) vote (ending_of commit vote second)

@@ -8,13 +8,13 @@ use Rattle.xa_base.proofs.Truth.{by_if}
 use Rattle.xa_words.specs.declared.code.Code.{Code}
 use Rattle.xa_words.specs.declared.code.Code.TheVariants.{Proto, RmFail}
 use Rattle.xa_words.specs.declared.request.Op.{Op}
-use Rattle.xa_words.specs.declared.request.Op.TheVariants.{OpenRm, CloseRm, Start, Add, End, Prepare, Commit, Rollback, Forget, Heur, Shut}
+use Rattle.xa_words.specs.declared.request.Op.TheVariants.{OpenRm, CloseRm, Start, Add, End, Prepare, Commit, Rollback, Forget, Heur, Listed, Shut}
 use Rattle.xa_words.specs.declared.request.StartHow.TheVariants.{Fresh, Join, Resume}
 use Rattle.xa_tables.specs.declared.state.State.{State}
 use Rattle.xa_tables.specs.declared.state.State.TheVariants.{Active, Idle, Prepared, RollbackOnly, HeuristicallyCompleted}
 use Rattle.xa_tables.specs.declared.state.RollbackReason.TheVariants.{Failed, Transient}
 use Rattle.xa_tables.specs.declared.state.HeuristicDecision.TheVariants as decision
-use Rattle.xa_tables.specs.Tables.{Tables, has_opened, has_association, is_at_work, is_suspended, is_associated, branch_of, exists, is_idle, is_prepared, is_rollback_only, is_completed, reason_in, decision_in, state_of, is_somebody_associated, is_declared, has_touched, has_other_touched, is_broken}
+use Rattle.xa_tables.specs.Tables.{Tables, has_opened, has_association, is_at_work, is_suspended, is_associated, branch_of, exists, is_idle, is_prepared, is_rollback_only, is_completed, is_left, reason_in, decision_in, state_of, is_somebody_associated, is_declared, has_touched, has_other_touched, is_broken}
 use Rattle.xa_tables.specs.Next.{Answer, next, needs_opening, by_rules, is_suspend, is_fail, dissociated}
 use Rattle.xa_tables.specs.History.{History, coded}
 use Rattle.xa_tables.proofs.ShutLemmas.{next-shut}
@@ -78,6 +78,8 @@ rules_tell t (Rollback x) T =
     cases (not (exists T x)) _ _ (says _ _ refl) (cases (is_completed T x) _ _ (says _ _ (decision_tells (state_of T x)))
     (cases (is_somebody_associated T.associations x) _ _ (says _ _ refl) (cases (is_rollback_only T x) _ _ (says _ _ (reason_tells (state_of T x))) (says _ _ refl))))
 rules_tell t (Forget x) T = cases (not (exists T x)) _ _ (says _ _ refl) (cases (not (is_completed T x)) _ _ (says _ _ refl) (says _ _ refl))
+rules_tell t (Listed None) T = says _ _ refl
+rules_tell t (Listed (Some x)) T = cases (is_left T x) _ _ (says _ _ refl) (says _ _ refl)
 rules_tell t (Heur x commits) T =
     cases (not (exists T x)) _ _ (says _ _ refl) (cases (not (is_prepared T x)) _ _ (says _ _ refl) (cases commits _ _ (says _ _ refl) (says _ _ refl)))
 

@@ -91,6 +91,7 @@ op_of_names call.Prepare x y m o e apart = let same : op.Prepare x ≡ o = cc in
 op_of_names call.Commit x y m o e apart = let same : op.Commit x m.one_phase ≡ o = cc in ap (names y) (sym same) ∙ apart
 op_of_names call.Rollback x y m o e apart = let same : op.Rollback x ≡ o = cc in ap (names y) (sym same) ∙ apart
 op_of_names call.Forget x y m o e apart = let same : op.Forget x ≡ o = cc in ap (names y) (sym same) ∙ apart
+op_of_names call.Recover x y m o e apart = absurd (cc)
 op_of_names call.Complete x y m o e apart = absurd (cc)
 
 op_of_none : (c : Call) (y : XidName) (m : Mode) (o : Op) → op_by c None m ≡ Ok o → names y o ≡ false
@@ -102,6 +103,7 @@ op_of_none call.Prepare y m o e = absurd (cc)
 op_of_none call.Commit y m o e = absurd (cc)
 op_of_none call.Rollback y m o e = absurd (cc)
 op_of_none call.Forget y m o e = absurd (cc)
+op_of_none call.Recover y m o e = absurd (cc)
 op_of_none call.Complete y m o e = absurd (cc)
 
 -- what a wanted op was asked for by

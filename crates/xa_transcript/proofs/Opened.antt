@@ -11,11 +11,12 @@ use Rattle.xa_worker.specs.Workers.{WorkerView}
 use Rattle.xa_tables.specs.Managers.{opening}
 use Rattle.xa_switch.specs.declared.plan.Plan.{Plan}
 use Rattle.xa_switch.specs.declared.plan.ManagerPlan.{ManagerPlan}
+use Rattle.xa_switch.specs.Plans.{planned}
 use Rattle.xa_switch.specs.Openings.{IsNewDesk, IsNewWorker}
 use Rattle.xa_grammar.specs.Content.{Content, threads_of, managers_of}
-use Rattle.xa_transcript.specs.Planning.{IsPlanOf, AreOpened, planned, planned_of}
+use Rattle.xa_transcript.specs.Planning.{IsPlanOf, AreOpened, script_says, plan_says}
 use Rattle.xa_transcript.specs.Values.{opened}
-use Rattle.xa_base.proofs.Lists.{some_same}
+use Rattle.xa_base.proofs.Lists.{some_same, was_mapped}
 
 -- ---- the desks
 
@@ -47,30 +48,32 @@ nobody_sent m = none_either (is_known [] m) (ledger [] m).sent refl
 pub opened_threads : (s : Content) (desks : List DeskView) (workers : List WorkerView) → AreOpened s desks workers → length desks ≡ threads_of s
 opened_threads s desks workers is = is.opened.threads ∙ is.said.threads
 
-planned_many : (s : Content) (p : Plan) → IsPlanOf s p → length p.managers.items ≡ managers_of s
-planned_many s p is =
-    let same : length (map planned_of p.managers.items) ≡ managers_of s = ap (λ l. length l) is.managers ∙ length-map-range_with_len (planned s) 1 (managers_of s) in
+says_many : (s : Content) (p : Plan) → IsPlanOf s p → length p.managers.items ≡ managers_of s
+says_many s p is =
+    let same : length (map plan_says p.managers.items) ≡ managers_of s = ap (λ l. length l) is.managers ∙ length-map-range_with_len (script_says s) 1 (managers_of s) in
     rw length-map at same
 
 pub opened_managers : (s : Content) (desks : List DeskView) (workers : List WorkerView) → AreOpened s desks workers → length workers ≡ managers_of s
-opened_managers s desks workers is = is.opened.managers ∙ planned_many s is.plan is.said
+opened_managers s desks workers is = is.opened.managers ∙ says_many s is.plan is.said
 
 -- ---- the workers
 
 -- what the plan says of a manager is what the script says
-planned_at : (s : Content) (p : Plan) → IsPlanOf s p → (k : ℕ) (m : ManagerPlan) → slice_get p.managers.items k ≡ Some m → planned_of m ≡ planned s (k + 1)
-planned_at s p is k m at =
+says_at : (s : Content) (p : Plan) → IsPlanOf s p → (k : ℕ) (m : ManagerPlan) → slice_get p.managers.items k ≡ Some m → plan_says m ≡ script_says s (k + 1)
+says_at s p is k m at =
     let within = slice_get_within p.managers.items k m at in
-    let below : k < managers_of s = let many = planned_many s p is in omega (arith, within, many) in
-    let plans = map (planned s) (range_with_len 1 (managers_of s)) in
-    let there : slice_get plans k ≡ Some (planned_of m) = ap (λ l. slice_get l k) (sym is.managers) ∙ slice_get-map planned_of p.managers.items k ∙ ap (option_map planned_of) at in
-    let size = length-map-range_with_len (planned s) 1 (managers_of s) in
-    let here : slice_get plans k ≡ Some (slice_index_or plans k (planned_of m)) = slice_get-get_or plans k (planned_of m) (omega (arith, below, size)) in
-    some_same _ _ (sym there ∙ here) ∙ get_or-map-range_with_len (planned s) 1 (managers_of s) k (k + 1) (planned_of m) below (omega arith)
+    let below : k < managers_of s = let many = says_many s p is in omega (arith, within, many) in
+    let plans = map (script_says s) (range_with_len 1 (managers_of s)) in
+    let there : slice_get plans k ≡ Some (plan_says m) = ap (λ l. slice_get l k) (sym is.managers) ∙ slice_get-map plan_says p.managers.items k ∙ ap (option_map plan_says) at in
+    let size = length-map-range_with_len (script_says s) 1 (managers_of s) in
+    let here : slice_get plans k ≡ Some (slice_index_or plans k (plan_says m)) = slice_get-get_or plans k (plan_says m) (omega (arith, below, size)) in
+    some_same _ _ (sym there ∙ here) ∙ get_or-map-range_with_len (script_says s) 1 (managers_of s) k (k + 1) (plan_says m) below (omega arith)
 
-pub opened_first : (s : Content) (p : Plan) → IsPlanOf s p → (k : ℕ) (w : WorkerView) → IsNewWorker p k w → w.first ≡ opened s (k + 1)
-opened_first s p is k w new = ap (λ (x : WorkerView). x.first) new.made ∙ ap (λ (a : Bool × List (List ℕ × ℕ)). opening a.1) (planned_at s p is k new.plan new.planned)
+pub opened_first : (s : Content) (p : Plan) → IsPlanOf s p → (k : ℕ) (w : WorkerView) → IsNewWorker (planned p) k w → w.first ≡ opened s (k + 1)
+opened_first s p is k w new =
+    let m = was_mapped (λ (x : ManagerPlan). opening x.accounts.items) p.managers.items k new.first new.begins in
+    ap (λ (x : WorkerView). x.first) new.made ∙ sym m.2 ∙ ap (λ (a : Bool × List (List ℕ × ℕ)). opening a.1) (says_at s p is k m.0 m.1)
 
 -- the desk at place k is that of thread k + 1
 pub opened_thread : (s : Content) (desks : List DeskView) (workers : List WorkerView) → AreOpened s desks workers → (k : ℕ) (d : DeskView) → slice_get desks k ≡ Some d → d.thread ≡ k + 1
-opened_thread s desks workers is k d at = let new : IsNewDesk is.plan k d = is.opened.desks k d at in ap (λ (x : DeskView). x.thread) new.made
+opened_thread s desks workers is k d at = let new : IsNewDesk (planned is.plan) k d = is.opened.desks k d at in ap (λ (x : DeskView). x.thread) new.made

@@ -6,8 +6,9 @@ use Rattle.std.proofs.lemmas.Bool.{cases_Bool}
 use Rattle.std.proofs.lemmas.List.Elements.{All-cons, All-nil, All-head, All-tail, All-append}
 use Rattle.xa_words.specs.declared.code.Code.{Code}
 use Rattle.xa_words.specs.declared.code.Code.TheVariants.{Done, RdOnly}
-use Rattle.xa_tables.specs.Tables.{Tables}
-use Rattle.xa_tables.specs.History.{is_done, is_rolled_back as rolls_back}
+use Rattle.xa_tables.specs.Tables.{Tables, state_of}
+use Rattle.xa_tables.specs.History.{Fate, IsFateOf, is_done, is_rolled_back as rolls_back}
+use Rattle.xa_tables.specs.Openings.{told_by}
 use Rattle.xa_desk.specs.LedgerView.{is_rm_fail}
 use Rattle.xa_switch.specs.Settling.{Settling, IsSettled, journal, sent, collected}
 use Rattle.xa_switch.specs.Fates.{IsOpenedWith, history}
@@ -38,7 +39,7 @@ use Rattle.xa_transcript.specs.Outcomes.{IsOneOutcome, ShowsOneOutcome, Place, A
 use Rattle.xa_transcript.proofs.Entries.{agreed_fits}
 use Rattle.xa_transcript.proofs.Shown.{Adding, decided_so, committed_yes, committed_done, none_against}
 use Rattle.xa_transcript.proofs.Placed.{chain_adds}
-use Rattle.xa_transcript.proofs.Became.{Traced, trace_of, told_by, counted_by}
+use Rattle.xa_transcript.proofs.Became.{Traced, trace_of, became_by, counted_by}
 
 -- ---- lists of outcomes
 
@@ -202,13 +203,14 @@ module _ (law : Tabled) (opens : (s : Settling) (m : ℕ) → IsSettled s → (T
   fated b v z e only at =
       let n : ℕ = length (old.entries b.m) in
       let open_ = opens s b.m settled in
-      let outcome : (T : Tables) → IsOpenedWith s b.m T → BecameOf t b.xid T (history s b.m) n v (ending_of done.commit v z) = λ T with_T.
-      told_by t T (journal s b.m) with_T.codes (sent s t b.m) (collected s t b.m) (agreed_fits t (sent s t b.m) (collected s t b.m) (journal s b.m) (settled.agree t b.m)) (settled.agree t b.m).carried
-      done.commit b v z (old.entries b.m) (new.entries b.m) (grown b.m) law with_T.opened (trace_at b v z e at T with_T) only in
-      let own = outcome open_.0 open_.1 in
+      let outcome : (before : Fate) (T : Tables) → IsOpenedWith s b.m T → IsFateOf b.xid before T → BecameOf t b.xid before T (history s b.m) n v (ending_of done.commit v z) = λ before T with_T began.
+      became_by t T (journal s b.m) with_T.codes (sent s t b.m) (collected s t b.m) (agreed_fits t (sent s t b.m) (collected s t b.m) (journal s b.m) (settled.agree t b.m)) (settled.agree t b.m).carried
+      done.commit b v z (old.entries b.m) (new.entries b.m) (grown b.m) law before with_T.opened began (trace_at b v z e at T with_T) only in
+      let voted : (T : Tables) → IsOpenedWith s b.m T → BecameOf t b.xid (told_by (state_of T b.xid)) T (history s b.m) n v (ending_of done.commit v z) = λ T with_T. outcome (told_by (state_of T b.xid)) T with_T (law.first b.xid T) in
+      let own = voted open_.0 open_.1 in
       subst (Fated b v) (sym at.ends) (
         (
-          (record { reached = own.reached; shut = own.shut; decided = λ y h U with_U. (outcome U with_U).decided y h }, tells_of s t b n (ending_of done.commit v z) (λ T with_T. (outcome T with_T).told) (λ T with_T. (outcome T with_T).doubt) open_.0 open_.1),
+          (record { reached = own.reached; shut = own.shut; decided = λ y h U with_U. (voted U with_U).decided y h }, tells_of s t b n (ending_of done.commit v z) (λ before T with_T began. (outcome before T with_T began).told) (λ before T with_T began. (outcome before T with_T began).doubt)),
           (z, refl),
         ),
         λ n. not_left v z done.commit n own.reached,

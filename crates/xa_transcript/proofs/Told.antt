@@ -17,6 +17,7 @@ use Rattle.xa_worker.specs.Done.{Served}
 use Rattle.xa_crew.specs.Pieces.{HasServed}
 use Rattle.xa_switch.specs.declared.plan.Plan.{Plan}
 use Rattle.xa_switch.specs.Plans.{use_async}
+use Rattle.xa_switch.specs.Plans.{planned}
 use Rattle.xa_switch.specs.Openings.{IsNewDesk, IsNewWorker}
 use Rattle.xa_switch.specs.Seats.{DeskSeat, seat_of_desk}
 use Rattle.xa_switch.specs.Settling.{Settling, ThreadPart, ManagerPart, IsSettled, find_thread, ledgers_in, sent, collected, journal}
@@ -105,10 +106,10 @@ module _ (s : Content) (answers : List Answer) (desks : List DeskView) (workers 
       let w = got workers k (omega (arith, within, many)) in
       (w.0, w.1, r.managers.each k w.0 d w.1 at)
 
-  new_desk_at : (k : ℕ) (d : DeskView) → slice_get desks k ≡ Some d → IsNewDesk plan k d
+  new_desk_at : (k : ℕ) (d : DeskView) → slice_get desks k ≡ Some d → IsNewDesk (planned plan) k d
   new_desk_at k d at = r.opened.opened.desks k d at
 
-  new_worker_at : (k : ℕ) (w : WorkerView) → slice_get workers k ≡ Some w → IsNewWorker plan k w
+  new_worker_at : (k : ℕ) (w : WorkerView) → slice_get workers k ≡ Some w → IsNewWorker (planned plan) k w
   new_worker_at k w at = r.opened.opened.workers k w at
 
   thread_at : (k : ℕ) (d : DeskView) → slice_get desks k ≡ Some d → d.thread ≡ k + 1

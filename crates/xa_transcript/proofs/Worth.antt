@@ -10,10 +10,11 @@ use Rattle.std.proofs.Math.Bool.{or-true}
 use Rattle.std.proofs.lemmas.Bool.{eq-eqb}
 use Rattle.xa_words.specs.Key.{key_cmp, key_eq}
 use Rattle.xa_words.specs.Orders.{key_cmp_total, key_eq-by_cmp, Decides-key_eq}
-use Rattle.xa_tables.specs.History.{History, accepted, added_in, value_after}
+use Rattle.xa_tables.specs.History.{History, Absent}
+use Rattle.xa_tables.specs.Openings.{added_over, value_over}
 use Rattle.xa_grammar.specs.declared.script.Declared.{Declared}
-use Rattle.xa_worker.specs.Journal.{requests}
-use Rattle.xa_switch.specs.Settling.{ManagerPart, Settling, find_manager, journal, journal_in, value, value_in}
+use Rattle.xa_switch.specs.Settling.{ManagerPart, Settling, find_manager}
+use Rattle.xa_switch.specs.Fates.{first_of}
 use Rattle.xa_grammar.specs.Content.{Content, accounts_of, managers_of}
 use Rattle.xa_transcript.specs.Values.{opened, AreOfScript}
 use Rattle.xa_base.proofs.Lists.{got, find_numbered}
@@ -53,16 +54,16 @@ has_value s i d below is =
     ap is_some (get-from_entries key_cmp_total entries d.key) ∙ is_some-find key_cmp d.key entries ∙ sym (any_alike (λ k. key_eq d.key k) (eq_by_cmp key_cmp d.key) (key_eq-by_cmp d.key) (names d.manager s.keys)) ∙ is_among s.keys i d below is
 
 -- so it has one after every history
-pub told : (s : Content) (h : History) (i : ℕ) (d : Declared) (value : Option ℕ) → i < length s.keys → d ≡ slice_index_or s.keys i d → option_map pos value ≡ value_after d.key h (opened s d.manager) → is_some value ≡ true
-told s h i d value below is e = sym (is_some-map (λ n. pos n) value) ∙ ap is_some e ∙ is_some-map (λ v. v +ℤ added_in d.key (accepted h) (opened s d.manager)) (finmap.get (opened s d.manager).values d.key) ∙ has_value s i d below is
+pub told : (s : Content) (h : History) (i : ℕ) (d : Declared) (value : Option ℕ) → i < length s.keys → d ≡ slice_index_or s.keys i d → option_map pos value ≡ value_over d.key (h ∷ []) (opened s d.manager) → is_some value ≡ true
+told s h i d value below is e =
+    sym (is_some-map (λ n. pos n) value) ∙ ap is_some e ∙ is_some-map (λ v. v +ℤ added_over d.key (λ x. Absent) (h ∷ []) (opened s d.manager)) (finmap.get (opened s d.manager).values d.key) ∙ has_value s i d below is
 
--- the settled value of a key is that after its manager's journal
-pub settled_value : (s : Content) (settled : Settling) → AreOfScript s settled.managers → (m : ℕ) (k : List ℕ) → 1 ≤ m → m ≤ managers_of s → value settled m k ≡ value_after k (requests (journal settled m)) (opened s m)
-settled_value s settled is m k low high =
+-- a manager of the script began with the tables of its keys
+pub first_is : (s : Content) (settled : Settling) → AreOfScript s settled.managers → (m : ℕ) → 1 ≤ m → m ≤ managers_of s → first_of settled m ≡ Some (opened s m)
+first_is s settled is m low high =
     let many = is.many in
     let p = got settled.managers (m - 1) (omega (arith, low, high, many)) in
     let place : 0 + (m - 1) + 1 ≡ m = omega (arith, low) in
     let next : m - 1 + 1 ≡ m = omega (arith, low) in
     let found : find_manager m settled.managers ≡ Some p.0 = ap (λ n. find_manager n settled.managers) (sym place) ∙ find_numbered (λ (q : ManagerPart). q.number) 0 settled.managers (λ j q at. let number = is.numbers j q at in omega (arith, number)) (m - 1) p.0 p.1 in
-    let first : p.0.first ≡ opened s m = is.first (m - 1) p.0 p.1 ∙ ap (opened s) next in
-    ap (value_in k) found ∙ (λ i. value_after k (requests (sym (ap journal_in found) i)) (first i))
+    ap (option_map (λ (q : ManagerPart). q.first)) found ∙ ap (λ T. Some T) (is.first (m - 1) p.0 p.1 ∙ ap (opened s) next)

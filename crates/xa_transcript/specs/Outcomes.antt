@@ -13,7 +13,7 @@ use Rattle.xa_driver.specs.declared.branch.Branch.{Branch}
 use Rattle.xa_driver.specs.declared.done.Done.{Done}
 use Rattle.xa_driver.specs.Outcomes.{is_committed, is_in_doubt, is_heuristic, is_read_only, has_committed, has_rolled_back}
 use Rattle.xa_driver.specs.Outcomes.{OnlyTheseName, OnlyTheseOrDecisionsName, EachOutcome, KeepsItsVote, TellsTheFate}
-use Rattle.xa_driver.specs.Additions.{Shares}
+use Rattle.xa_driver.specs.Additions.{Shares, none_later}
 use Rattle.xa_grammar.specs.declared.script.Action.{Action}
 use Rattle.xa_grammar.specs.declared.script.Action.TheVariants as action
 use Rattle.xa_grammar.specs.declared.script.CommitAll.{CommitAll}
@@ -123,4 +123,4 @@ pub record IsSumOfShares (s : Content) (settled : Settling) (d : Declared) : Typ
   pub from : IsOpenedWith settled d.manager (opened s d.manager)
   pub first : ℤ
   pub at_first : finmap.get (opened s d.manager).values d.key ≡ Some first
-  pub sum : pos d.value ≡ first +ℤ added_in d.key (history settled d.manager) (opened s d.manager)
+  pub sum : pos d.value ≡ first +ℤ added_in d.key none_later (history settled d.manager) (opened s d.manager)

@@ -1,14 +1,14 @@
 -- The values of the declared keys after a run.
-use Rattle.std.specs.Prelude.{◌≡◌, ℕ, ◌+◌, pos, Some, All, List, length, map, slice_get}
+use Rattle.std.specs.Prelude.{◌≡◌, ℕ, ◌+◌, pos, Some, All, List, [], ◌∷◌, length, map, slice_get}
 use Rattle.std.specs.Ordering.{nat_cmp, ordering_then}
 use Rattle.std.specs.declared.cmp.Ordering.{Ordering}
 use Rattle.std.specs.List.Sorted.{IsPermutation, IsSorted}
 use Rattle.xa_words.specs.Key.{key_cmp}
 use Rattle.xa_tables.specs.Tables.{Tables}
-use Rattle.xa_tables.specs.History.{value_after}
+use Rattle.xa_tables.specs.Openings.{value_over}
 use Rattle.xa_tables.specs.Managers.{opening}
-use Rattle.xa_worker.specs.Journal.{requests}
-use Rattle.xa_switch.specs.Settling.{ManagerPart, Settling, journal}
+use Rattle.xa_switch.specs.Settling.{ManagerPart, Settling}
+use Rattle.xa_switch.specs.Fates.{history}
 use Rattle.xa_grammar.specs.declared.script.Declared.{Declared}
 use Rattle.xa_grammar.specs.Content.{Content, managers_of, accounts_of}
 
@@ -28,7 +28,7 @@ name_of d = (d.manager, d.key)
 
 -- The key has the value that it has after the requests in its manager's journal.
 abbrev pub IsWorth : Content → Settling → Declared → Type 0
-IsWorth s settled d = value_after d.key (requests (journal settled d.manager)) (opened s d.manager) ≡ Some (pos d.value)
+IsWorth s settled d = value_over d.key (history settled d.manager ∷ []) (opened s d.manager) ≡ Some (pos d.value)
 
 -- Keys are shown by rising manager, and of one manager by the bytes of the key.
 abbrev pub shown_cmp : Declared → Declared → Ordering

@@ -21,11 +21,11 @@ ghost use Rattle.xa_transcript.specs.Values.{AreOfScript, AreValues};
 
 use xa_switch::laws::settled_journals_follow_the_tables;
 use xa_tables::laws::{
-    adders_never_vote_read_only, completed_branches_ended_as_decided, late_requests_add_nothing,
-    late_requests_leave_fates, only_a_shut_shuts, only_completed_branches_tell_a_decision,
-    only_prepared_branches_are_decided, prepared_branches_await_the_outcome,
-    prepared_branches_keep_what_they_hold, prepared_is_in_doubt, read_only_branches_hold_nothing,
-    refused_prepares_tell_integrity, shut_managers_decide_nothing,
+    adders_never_vote_read_only, late_requests_add_nothing, late_requests_leave_fates,
+    only_a_shut_shuts, only_completed_branches_tell_a_decision, only_prepared_branches_are_decided,
+    prepared_branches_await_the_outcome, prepared_branches_keep_what_they_hold,
+    read_only_branches_hold_nothing, refused_prepares_tell_integrity, shut_managers_decide_nothing,
+    tables_tell_the_fates,
 };
 
 /// Each call without `TMASYNC` that answers XA_OK has its request in its manager's journal, with XA_OK.
@@ -76,8 +76,7 @@ pub fn branches_are_as_shown()
     refused_prepares_tell_integrity();
     prepared_branches_keep_what_they_hold();
     read_only_branches_hold_nothing();
-    prepared_is_in_doubt();
-    completed_branches_ended_as_decided();
+    tables_tell_the_fates();
     only_prepared_branches_are_decided();
     shut_managers_decide_nothing();
     only_completed_branches_tell_a_decision();
@@ -89,6 +88,7 @@ pub fn branches_are_as_shown()
 pub fn values_are_sums_of_shares()
     ensures { (s : Content) (answers : List Answer) (values : List Declared) (settled : Settling) → IsScript s → TellsOf s answers values settled → All (IsSumOfShares s settled) values }
 {
+    settled_journals_follow_the_tables();
     late_requests_add_nothing();
 }
 

@@ -34,6 +34,12 @@ TMSUCCESS = 0x04000000
 abbrev pub TMSUSPEND : ℕ
 TMSUSPEND = 0x02000000
 
+abbrev pub TMSTARTRSCAN : ℕ
+TMSTARTRSCAN = 0x01000000
+
+abbrev pub TMENDRSCAN : ℕ
+TMENDRSCAN = 0x00800000
+
 abbrev pub TMMULTIPLE : ℕ
 TMMULTIPLE = 0x00400000
 
@@ -54,6 +60,7 @@ bits_of call.Prepare = TMASYNC
 bits_of call.Commit = TMASYNC + TMONEPHASE
 bits_of call.Rollback = TMASYNC
 bits_of call.Forget = TMASYNC
+bits_of call.Recover = TMSTARTRSCAN + TMENDRSCAN
 bits_of call.Complete = TMMULTIPLE + TMNOWAIT
 
 -- exactly one of three
@@ -72,6 +79,7 @@ go_together call.Prepare f = true
 go_together call.Commit f = true
 go_together call.Rollback f = true
 go_together call.Forget f = true
+go_together call.Recover f = true
 go_together call.Complete f = true
 
 -- no other flag stands than these
@@ -94,6 +102,8 @@ mode_of f =
       nowait = has f TMNOWAIT;
       multiple = has f TMMULTIPLE;
       one_phase = has f TMONEPHASE;
+      start_scan = has f TMSTARTRSCAN;
+      end_scan = has f TMENDRSCAN;
       start = start_of f;
       how = how_of f;
     }

@@ -51,6 +51,8 @@ pub enum Call {
     Rollback,
     /// `xa_forget()`
     Forget,
+    /// `xa_recover()`
+    Recover,
     /// `xa_complete()`
     Complete,
 }
@@ -66,6 +68,10 @@ pub struct Mode {
     pub multiple: bool,
     /// `TMONEPHASE`
     pub one_phase: bool,
+    /// `TMSTARTRSCAN`
+    pub start_scan: bool,
+    /// `TMENDRSCAN`
+    pub end_scan: bool,
     /// `TMJOIN`, `TMRESUME`, or neither
     pub start: StartHow,
     /// `TMSUSPEND`, `TMFAIL`, or neither
@@ -87,6 +93,7 @@ fn bits_of(call: Call) -> u32
         Call::Start => TMASYNC | TMJOIN | TMRESUME,
         Call::End => TMASYNC | TMSUCCESS | TMSUSPEND | TMFAIL,
         Call::Commit => TMASYNC | TMONEPHASE,
+        Call::Recover => TMSTARTRSCAN | TMENDRSCAN,
         Call::Complete => TMMULTIPLE | TMNOWAIT,
     }
 }
@@ -117,6 +124,8 @@ fn mode_of(flags: u32) -> Mode
         nowait: has(flags, TMNOWAIT),
         multiple: has(flags, TMMULTIPLE),
         one_phase: has(flags, TMONEPHASE),
+        start_scan: has(flags, TMSTARTRSCAN),
+        end_scan: has(flags, TMENDRSCAN),
         start: if has(flags, TMJOIN) {
             StartHow::Join
         } else if has(flags, TMRESUME) {
@@ -144,6 +153,7 @@ fn mode_of(flags: u32) -> Mode
 /// | `Start` | `TMASYNC`, and at most one of `TMJOIN` and `TMRESUME` |
 /// | `End` | `TMASYNC`, and exactly one of `TMSUCCESS`, `TMSUSPEND` and `TMFAIL` |
 /// | `Commit` | `TMASYNC`, `TMONEPHASE` |
+/// | `Recover` | `TMSTARTRSCAN`, `TMENDRSCAN` |
 /// | `Complete` | `TMMULTIPLE`, `TMNOWAIT` |
 pub fn check_flags(call: Call, flags: u32) -> Result<Mode, Code>
     ensures { result ≡ check_flags call flags }

@@ -49,6 +49,9 @@ pub enum Op {
     Forget(Xid),
     /// Native, outside XA: the prepared branch is decided heuristically; it is committed where true, else rolled back.
     Heur(Xid, bool),
+    /// What `xa_recover()` asks: whether the branch is prepared or heuristically completed; of no branch, whether the
+    /// manager answers at all.
+    Listed(Option<Xid>),
     /// Native, outside XA: the manager takes nothing from then on.
     Shut,
 }

@@ -174,6 +174,8 @@ const PLAIN: Mode = Mode {
     nowait: false,
     multiple: false,
     one_phase: false,
+    start_scan: false,
+    end_scan: false,
     start: StartHow::Fresh,
     how: EndHow::Success,
 };
@@ -190,6 +192,11 @@ fn flags_ask_for_a_mode(rt: HostRuntime) {
         one_phase: true,
         ..PLAIN
     };
+    let whole_scan = Mode {
+        start_scan: true,
+        end_scan: true,
+        ..PLAIN
+    };
     let any = Mode {
         multiple: true,
         nowait: true,
@@ -202,6 +209,8 @@ fn flags_ask_for_a_mode(rt: HostRuntime) {
         (Call::End, 0, Err(Code::Inval)),
         (Call::Commit, 0xC000_0000, Ok(one_phase)),
         (Call::Complete, 0x1040_0000, Ok(any)),
+        (Call::Recover, 0x0180_0000, Ok(whole_scan)),
+        (Call::Recover, 0x8100_0000, Err(Code::Inval)),
         (Call::Prepare, 0x1000_0000, Err(Code::Inval)),
     ];
     for (call, flags, mode) in rows {
@@ -230,6 +239,7 @@ fn calls_take_no_other_flags(rt: HostRuntime) {
         0xA000_0000,
     ];
     let commit: &[u32] = &[0, 0x4000_0000, 0x8000_0000, 0xC000_0000];
+    let recover: &[u32] = &[0, 0x0080_0000, 0x0100_0000, 0x0180_0000];
     let complete: &[u32] = &[0, 0x0040_0000, 0x1000_0000, 0x1040_0000];
     let rows = [
         (Call::OpenRm, plain),
@@ -239,6 +249,8 @@ fn calls_take_no_other_flags(rt: HostRuntime) {
         (Call::Prepare, plain),
         (Call::Commit, commit),
         (Call::Rollback, plain),
+        (Call::Forget, plain),
+        (Call::Recover, recover),
         (Call::Complete, complete),
     ];
     for (call, words) in rows {

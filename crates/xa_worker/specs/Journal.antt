@@ -1,5 +1,5 @@
 -- A worker's journal: the requests in the order in which they were taken, each with its code.
-use Rattle.std.specs.Prelude.{◌≡◌, ℕ, ◌-◌, ◌==◌, List, map, filter}
+use Rattle.std.specs.Prelude.{◌≡◌, ℕ, ◌-◌, ◌==◌, None, List, map, filter}
 use Rattle.xa_words.specs.declared.code.Code.{Code}
 use Rattle.xa_words.specs.declared.request.Request.{Request}
 use Rattle.xa_words.specs.declared.request.Completion.{Completion}
@@ -26,7 +26,8 @@ tables_next r T = (next r.thread r.op T).0
 
 -- a manager that has carried out one request more
 abbrev pub applied : Request → Managed → Managed
-applied r m = record { tables = tables_next r m.tables; threads = m.threads; room = m.room - 1 }
+applied r m =
+    record { tables = tables_next r m.tables; threads = m.threads; room = m.room - 1; reserved = None }
 
 -- the requests of a journal
 abbrev pub requests : List Entry → History

@@ -13,14 +13,16 @@ use xa_words::{Code, Completion, Op, Request};
 
 // Enters a request with its code.
 //
-// The parts come one by one: a request that holds another module's enum can't be pushed as it is.
+// The parts come one by one, and are pushed out of an Option: today no proof is generated where a request, which holds
+// another module's enum and perhaps an Option, is pushed as it is.
 fn enter(journal: &mut Vec<(Request, Code)>, thread: u32, number: u32, op: Op, code: Code)
     requires { vec_len journal.old < vec_capacity journal.old }
     ensures entry { journal.new.items ≡ journal.old.items ++ entry (record { thread = thread; number = number; op = op }) code ∷ [] }
     ensures space { vec_capacity journal.new ≡ vec_capacity journal.old }
 {
-    let request = Request { thread, number, op };
-    journal.push_reserved((request, code));
+    if let Some(entry) = Some((Request { thread, number, op }, code)) {
+        journal.push_reserved(entry);
+    }
 }
 
 // Sends the completion of the journal's last entry. What isn't entered can't be answered.

@@ -2,6 +2,7 @@ use Rattle.std.proofs.Common.{List, map, sym, refl, ap, ◌∙◌, subst}
 use Rattle.xa_desk.specs.DeskView.{DeskView}
 use Rattle.xa_desk.specs.Ended.{EndedView}
 use Rattle.xa_worker.specs.Workers.{WorkerView}
+use Rattle.xa_switch.specs.Plans.{planned}
 use Rattle.xa_switch.specs.Openings.{AreOfOneOpening}
 use Rattle.xa_switch.specs.Closing.{settling}
 use Rattle.xa_base.specs.Lists.{Pairwise}
@@ -11,7 +12,7 @@ use Rattle.xa_crew.proofs.Members.{members, read_given, read_come, all_ran, all_
 use Rattle.xa_crew.proofs.run.run_opened.Goals as goal
 
 pub client_jobs_of-requires-clause-kept : goal.client_jobs_of-requires-clause-kept
-client_jobs_of-requires-clause-kept g c = c.outstanding_operations_stay_kept.ensures.opened c.args.plan.now c.args.desks.items c.args.workers.items c.requires.opened
+client_jobs_of-requires-clause-kept g c = c.outstanding_operations_stay_kept.ensures.opened (planned c.args.plan.now) c.args.desks.items c.args.workers.items c.requires.opened
 
 pub settle_all-requires : goal.settle_all-requires
 settle_all-requires g c =
@@ -42,7 +43,7 @@ returns g c =
       members = members given worked;
       workers = c.args.workers.items;
       sound = c.requires.sound;
-      opened = subst (λ (ds : List DeskView). AreOfOneOpening c.args.plan.now ds c.args.workers.items) (sym c.in_ok-client_jobs.ensures.desks ∙ sym (read_given (λ t. t.desk) (λ a. a.desk) (λ a w. refl) given worked many)) c.requires.opened;
+      opened = subst (λ (ds : List DeskView). AreOfOneOpening (planned c.args.plan.now) ds c.args.workers.items) (sym c.in_ok-client_jobs.ensures.desks ∙ sym (read_given (λ t. t.desk) (λ a. a.desk) (λ a w. refl) given worked many)) c.requires.opened;
       clients_are = sym c.in_ok-client_jobs.ensures.clients ∙ sym (read_given (λ t. t.client) (λ a. a.client) (λ a w. refl) given worked many);
       ran = all_ran g.C.Client.works given worked ran;
       attended_are = c.in_ok-clients.ensures.clients ∙ sym (read_come (λ t. t.attended) (λ w. w.attended) (λ a w. refl) given worked many);

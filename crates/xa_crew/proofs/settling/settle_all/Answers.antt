@@ -1,5 +1,6 @@
 use Rattle.std.proofs.Common.{⊎_elim, ◌≡◌, sym, subst}
 use Rattle.xa_switch.specs.Seats.{IsWhyUnsettled}
+use Rattle.xa_switch.specs.Plans.{planned}
 use Rattle.xa_switch.specs.OfPlans.{IsOfPlan}
 use Rattle.xa_switch.specs.declared.settling.Why.{Why}
 use Rattle.xa_switch.specs.declared.settling.Why.TheVariants.{Stranger, Missing}
@@ -9,7 +10,7 @@ use Rattle.xa_crew.proofs.settling.settle_all.Goals as goal
 pub settle-requires : goal.settle-requires
 settle-requires g c =
     let r = c.requires in
-    from_opening c.desks_go_out.ensures c.args.plan.now c.args.desks.items c.args.workers.items r (c.opened_pieces_come_from_their_opening.ensures c.args.plan.now r.desks r.workers r.opened)
+    from_opening c.desks_go_out.ensures c.args.plan.now c.args.desks.items c.args.workers.items r (c.opened_pieces_come_from_their_opening.ensures (planned c.args.plan.now) r.desks r.workers r.opened)
 
 pub unreachable-requires : goal.unreachable-requires
 unreachable-requires g c =
@@ -30,4 +31,4 @@ returns-in-Ok-clause-of_plan g c =
     let workers = c.args.workers.items in
     let r = c.requires in
     let out = c.desks_go_out.ensures in
-    subst (IsOfPlan p) (sym c.in-Ok.ensures.parts) (c.settled_openings_are_of_their_plan.ensures p r.desks r.workers desks workers r.opened (permuted_desks out p desks workers r) (permuted_workers out p desks workers r))
+    subst (IsOfPlan p) (sym c.in-Ok.ensures.parts) (c.settled_openings_are_of_their_setup.ensures (planned p) r.desks r.workers desks workers r.opened (permuted_desks out p desks workers r) (permuted_workers out p desks workers r) (all_pieces out p desks workers r))

@@ -13,14 +13,14 @@ returns-clause-votes c = λ s t bs desk new log later done settled made grown al
       breaks = c.refused_prepares_tell_integrity.ensures;
       keeps = c.prepared_branches_keep_what_they_hold.ensures;
       reads = c.read_only_branches_hold_nothing.ensures;
-      stands = c.prepared_is_in_doubt.ensures;
-      completed = c.completed_branches_ended_as_decided.ensures;
+      first = c.tables_tell_the_fates.ensures.first;
+      kept = c.tables_tell_the_fates.ensures.kept;
       undecided = c.only_prepared_branches_are_decided.ensures;
       silent = c.shut_managers_decide_nothing.ensures;
       commit_tells = c.only_completed_branches_tell_a_decision.ensures.commits;
       rollback_tells = c.only_completed_branches_tell_a_decision.ensures.rolls_back;
     } in
-    votes_law law c.settled_journals_follow_the_tables.ensures s t bs desk new log later done settled made grown alone
+    votes_law law c.settled_journals_follow_the_tables.ensures.some s t bs desk new log later done settled made grown alone
 
 pub returns-clause-fates : goal.returns-clause-fates
 returns-clause-fates c = λ s t bs desk new log later done settled made grown alone.
@@ -32,14 +32,14 @@ returns-clause-fates c = λ s t bs desk new log later done settled made grown al
       breaks = c.refused_prepares_tell_integrity.ensures;
       keeps = c.prepared_branches_keep_what_they_hold.ensures;
       reads = c.read_only_branches_hold_nothing.ensures;
-      stands = c.prepared_is_in_doubt.ensures;
-      completed = c.completed_branches_ended_as_decided.ensures;
+      first = c.tables_tell_the_fates.ensures.first;
+      kept = c.tables_tell_the_fates.ensures.kept;
       undecided = c.only_prepared_branches_are_decided.ensures;
       silent = c.shut_managers_decide_nothing.ensures;
       commit_tells = c.only_completed_branches_tell_a_decision.ensures.commits;
       rollback_tells = c.only_completed_branches_tell_a_decision.ensures.rolls_back;
     } in
-    fates_law law c.settled_journals_follow_the_tables.ensures s t bs desk new log later done settled made grown alone
+    fates_law law c.settled_journals_follow_the_tables.ensures.some s t bs desk new log later done settled made grown alone
 
 pub returns-clause-values : goal.returns-clause-values
 returns-clause-values c = λ s t bs desk new log later done settled made grown alone.
@@ -51,14 +51,14 @@ returns-clause-values c = λ s t bs desk new log later done settled made grown a
       breaks = c.refused_prepares_tell_integrity.ensures;
       keeps = c.prepared_branches_keep_what_they_hold.ensures;
       reads = c.read_only_branches_hold_nothing.ensures;
-      stands = c.prepared_is_in_doubt.ensures;
-      completed = c.completed_branches_ended_as_decided.ensures;
+      first = c.tables_tell_the_fates.ensures.first;
+      kept = c.tables_tell_the_fates.ensures.kept;
       undecided = c.only_prepared_branches_are_decided.ensures;
       silent = c.shut_managers_decide_nothing.ensures;
       commit_tells = c.only_completed_branches_tell_a_decision.ensures.commits;
       rollback_tells = c.only_completed_branches_tell_a_decision.ensures.rolls_back;
     } in
-    counts_law law c.settled_journals_follow_the_tables.ensures s t bs desk new log later done settled made grown alone
+    counts_law law c.settled_journals_follow_the_tables.ensures.some s t bs desk new log later done settled made grown alone
 
 pub returns-clause-whole : goal.returns-clause-whole
 returns-clause-whole c = λ s t bs desk new log later done settled made grown alone decided.
@@ -70,13 +70,13 @@ returns-clause-whole c = λ s t bs desk new log later done settled made grown al
       breaks = c.refused_prepares_tell_integrity.ensures;
       keeps = c.prepared_branches_keep_what_they_hold.ensures;
       reads = c.read_only_branches_hold_nothing.ensures;
-      stands = c.prepared_is_in_doubt.ensures;
-      completed = c.completed_branches_ended_as_decided.ensures;
+      first = c.tables_tell_the_fates.ensures.first;
+      kept = c.tables_tell_the_fates.ensures.kept;
       undecided = c.only_prepared_branches_are_decided.ensures;
       silent = c.shut_managers_decide_nothing.ensures;
       commit_tells = c.only_completed_branches_tell_a_decision.ensures.commits;
       rollback_tells = c.only_completed_branches_tell_a_decision.ensures.rolls_back;
     } in
-    whole_law law c.settled_journals_follow_the_tables.ensures s t bs desk new log later done settled made grown alone
+    whole_law law c.settled_journals_follow_the_tables.ensures.some s t bs desk new log later done settled made grown alone
     (λ some. (committed_law made.may.tran bs desk new log later done made made.may.one some).kept)
     (λ some. (committed_law made.may.tran bs desk new log later done made made.may.one some).unopposed) decided

@@ -11,6 +11,7 @@ use Rattle.xa_grammar.specs.Content.{Content, Fits, threads_of, managers_of}
 use Rattle.xa_session.specs.declared.answer.Answer.{Answer}
 use Rattle.xa_session.specs.declared.session.Session.{Session}
 use Rattle.xa_session.specs.Sessions.{new_session, new_sessions}
+use Rattle.xa_switch.specs.Plans.{planned}
 use Rattle.xa_transcript.specs.Planning.{AreOpened}
 use Rattle.xa_transcript.specs.Runs.{Ran}
 use Rattle.xa_transcript.proofs.Opened.{opened_threads, opened_managers}
@@ -42,7 +43,7 @@ end_desks-requires g c =
     let workers : List WorkerView = c.in-Ok.opened.1.items in
     let first : Course = course_of c.in_ok-sessions.sessions.items workers c.in_ok-answers.answers.items in
     let last : Course = course_of c.run.new.self.sessions.items c.run.new.self.turns.workers.items c.run.new.answers.items in
-    let kept = subst AreKept (sym c.in_ok-sessions.ensures) (All-map (λ x. AllKept x.desk) (new_session s) desks (c.outstanding_operations_stay_kept.ensures.opened c.in_ok-plan.plan desks workers c.in-Ok.ensures.opened)) in
+    let kept = subst AreKept (sym c.in_ok-sessions.ensures) (All-map (λ x. AllKept x.desk) (new_session s) desks (c.outstanding_operations_stay_kept.ensures.opened (planned c.in_ok-plan.plan) desks workers c.in-Ok.ensures.opened)) in
     run_keeps first c.steps-steps.result.now last c.in_ok-run.ensures.runs kept
 
 -- what the run has come to, in turns

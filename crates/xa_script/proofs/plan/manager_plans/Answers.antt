@@ -5,21 +5,21 @@ use Rattle.std.proofs.lemmas.List.{map-append, length-append}
 use Rattle.std.proofs.lemmas.List.Elements.{All-push}
 use Rattle.std.proofs.lemmas.List.FromFn.{map-range_with_len_more}
 use Rattle.xa_switch.specs.Plans.{IsSoundManager}
-use Rattle.xa_transcript.specs.Planning.{planned, planned_of}
+use Rattle.xa_transcript.specs.Planning.{script_says, plan_says}
 use Rattle.xa_script.proofs.plan.manager_plans.Goals as goal
 
 pub loop-before-preserved : goal.loop-before-preserved
 loop-before-preserved c =
-    let says = planned c.args.script.now in
+    let says = script_says c.args.script.now in
     let n = c.loop-before.before in
     let i = c.loop-before.invariant in
     let plans = c.loop-before.plans.items in
     let one = c.in_ok-manager_plan.field-0 in
     let pushed = c.in_ok-push.ensures.items in
     record {
-      planned_so_far = ap (map planned_of) pushed
-          ∙ map-append planned_of plans (one ∷ [])
-          ∙ ap (λ l. l ++ planned_of one ∷ []) i.planned_so_far
+      planned_so_far = ap (map plan_says) pushed
+          ∙ map-append plan_says plans (one ∷ [])
+          ∙ ap (λ l. l ++ plan_says one ∷ []) i.planned_so_far
           ∙ ap (λ d. map says (range_with_len 1 n) ++ d ∷ []) c.in_ok-manager_plan.ensures.planned
           ∙ sym (map-range_with_len_more says 1 n (n + 1) (omega arith));
       sound = subst (All IsSoundManager) (sym pushed) (All-push IsSoundManager plans one i.sound c.in_ok-manager_plan.ensures.sound);

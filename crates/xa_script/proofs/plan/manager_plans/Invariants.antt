@@ -2,13 +2,13 @@ use Rattle.std.proofs.Common.{◌≡◌, length, map}
 use Rattle.std.specs.Prelude.{All}
 use Rattle.std.specs.List.{range_with_len}
 use Rattle.xa_switch.specs.Plans.{IsSoundManager}
-use Rattle.xa_transcript.specs.Planning.{planned, planned_of}
+use Rattle.xa_transcript.specs.Planning.{script_says, plan_says}
 use Rattle.xa_script.proofs.plan.manager_plans.Given as goal
 
 -- the first managers have their plans
 abbrev pub invariant-loop-before : goal.invariant-loop-before
 invariant-loop-before l = record {
-  planned_so_far : map planned_of l.plans.items ≡ map (planned l.script) (range_with_len 1 l.before);
+  planned_so_far : map plan_says l.plans.items ≡ map (script_says l.script) (range_with_len 1 l.before);
   sound : All IsSoundManager l.plans.items;
   many : length l.plans.items ≡ l.before;
 }

@@ -3,7 +3,7 @@ use Rattle.std.specs.Vec.Iter.{into_iter_items}
 use Rattle.std.proofs.lemmas.List.{get_or_at}
 use Rattle.std.proofs.lemmas.List.Elements.{All-push}
 use Rattle.xa_worker.specs.Done.{Served, IsServed, IsOrdered}
-use Rattle.xa_switch.specs.Closing.{TakesIn, worker_lane, manager_part}
+use Rattle.xa_switch.specs.Closing.{TakesIn, worker_lane, ready_part}
 use Rattle.xa_switch.proofs.Gathering.{room_left, one_more_taken, eight_columns}
 use Rattle.xa_switch.proofs.gathered.take_workers.Goals as goal
 
@@ -28,7 +28,7 @@ take_in-room-requires-clause-room c =
     let i = c.loop-worker.invariant in
     let given = ap length i.so_far in
     let more = ap length c.in-Some.ensures.steps.0 in
-    room_left _ (λ w. w.ends) worker_lane manager_part c.loop-worker.yielded c.loop-worker.room i.taken (omega (arith, given, more, length-append c.loop-worker.yielded (into_iter_items c.loop-worker.worker-iterator)))
+    room_left _ (λ w. w.ends) worker_lane ready_part c.loop-worker.yielded c.loop-worker.room i.taken (omega (arith, given, more, length-append c.loop-worker.yielded (into_iter_items c.loop-worker.worker-iterator)))
 
 pub loop-worker-preserved : goal.loop-worker-preserved
 loop-worker-preserved c =
@@ -36,11 +36,11 @@ loop-worker-preserved c =
     let more = ap length c.in-Some.ensures.steps.0 in
     let Y = c.loop-worker.yielded in
     let x = c.in-Some.worker in
-    let takes : TakesIn x.ends (worker_lane x) (manager_part x) c.loop-worker.room c.take_in-room.result = search rules in
+    let takes : TakesIn x.ends (worker_lane x) (ready_part x) c.loop-worker.room c.take_in-room.result = search rules in
     record {
       so_far = append_assoc Y (x ∷ []) (into_iter_items c.next.new.self) ∙ ap (λ l. Y ++ l) (sym c.in-Some.ensures.steps.0) ∙ i.so_far;
       counted = let n = i.counted in let s = c.in-Some.ensures.steps.1 in omega (arith, n, s, more);
-      taken = one_more_taken _ (λ w. w.ends) worker_lane manager_part Y x c.loop-worker.room c.take_in-room.result i.taken takes;
+      taken = one_more_taken _ (λ w. w.ends) worker_lane ready_part Y x c.loop-worker.room c.take_in-room.result i.taken takes;
       known = All-push IsServed Y x i.known c.apart-manager.ensures.served;
       ordered = All-push IsOrdered Y x i.ordered c.apart-manager.ensures.ordered;
     }

@@ -2,5 +2,4 @@ use Rattle.xa_switch.proofs.Worth.{worth_law}
 use Rattle.xa_switch.proofs.laws.threads_move_the_worth.Goals as goal
 
 pub returns : goal.returns
-returns c = λ p s settled of_plan sound.
-    worth_law p s settled of_plan c.late_requests_add_nothing.ensures c.value_is_sum.ensures c.commits_alone_move_the_worth.ensures sound
+returns c = λ p s settled of_plan sound. worth_law p s settled of_plan c.commits_alone_move_the_worth.ensures sound

@@ -2,7 +2,7 @@ use Rattle.std.proofs.Common.{◌≡◌, Bool, true, false, ℕ, ◌+◌, ◌<�
 use Rattle.std.specs.List.{All}
 use Rattle.std.proofs.lemmas.List.{take_more, take_all, map_more}
 use Rattle.std.proofs.lemmas.List.Elements.{All-push}
-use Rattle.xa_switch.specs.Plans.{IsSoundManager, new_manager}
+use Rattle.xa_switch.specs.Plans.{IsSoundManager, opened_by}
 use Rattle.xa_switch.specs.declared.plan.ManagerPlan.{ManagerPlan}
 use Rattle.xa_switch.proofs.managers.open_managers.Goals as goal
 use Rattle.xa_switch.proofs.managers.open_managers.Goals.{in-Ok+then-is_short, in-Ok+else-is_short, in-Err-NoMemory}
@@ -38,8 +38,8 @@ loop-plan-preserved c = record {
             ap (λ v. v.items) w.opened-is
             ∙ w.push.ensures.items
             ∙ ap (λ b. cond b (c.loop-plan.opened.items ++ w.in-Ok.manager ∷ []) c.loop-plan.opened.items) ok
-            ∙ (λ k. (c.loop-plan.invariant.opened w.if-is_short.false) k ++ (w.in-Ok.ensures.opened ∙ ap (λ x. new_manager c.args.threads c.args.room x) c.plan-item.is) k ∷ [])
-            ∙ sym (map_more (λ x. new_manager c.args.threads c.args.room x) c.args.managers.now c.loop-plan.plan-index c.plan-item.result (omega arith))
+            ∙ (λ k. (c.loop-plan.invariant.opened w.if-is_short.false) k ++ (w.in-Ok.ensures.opened ∙ ap (λ x. opened_by c.args.threads c.args.room x) c.plan-item.is) k ∷ [])
+            ∙ sym (map_more (λ x. opened_by c.args.threads c.args.room x) c.args.managers.now c.loop-plan.plan-index c.plan-item.result (omega arith))
         | in-Err-NoMemory w ↦ absurd (let s = w.is_short-is in absurd (cc))
       ];
 }

@@ -7,5 +7,5 @@ use Rattle.xa_switch.proofs.reserve.reserve_desks.Given as goal
 abbrev pub invariant-loop-before : goal.invariant-loop-before
 invariant-loop-before l = record {
   many : length l.parts.items ≡ l.before;
-  each : Each (λ k p. p ≡ desk_parts l.plan (k + 1)) l.parts.items;
+  each : Each (λ k p. p ≡ desk_parts l.numbers l.use_async (k + 1)) l.parts.items;
 }

@@ -13,7 +13,9 @@ use Rattle.xa_switch.specs.Closing.{dealt, column, IsClosable, IsClosed}
 use Rattle.xa_switch.proofs.Gathering.{length_dealt}
 use Rattle.xa_switch.proofs.Pieces.{request_columns, completion_columns, workers_numbered, workers_opened, request_lanes_apart, request_lanes_places, request_lanes_closable, completion_lanes_apart, completion_lanes_places, completion_lanes_closable}
 use Rattle.xa_switch.proofs.Agreeing.{settled}
+use Rattle.xa_switch.specs.Again.{IsWhole, parts_of}
 use Rattle.xa_switch.proofs.Ledgers.{all_settled_ledgers}
+use Rattle.xa_switch.proofs.AllThere.{parts_ready, all_there}
 use Rattle.xa_switch.proofs.settling.close_all.Goals as goal
 
 -- eight columns
@@ -76,14 +78,26 @@ returns-clause-settled g c =
     let rs' = subst (All (λ (r : ℕ × Asking). IsClosed r.1 (column (request_columns ds) r.0))) c.take_workers-answered.ensures.taken.lanes rs in
     let cs = subst (λ (C : List (List Answering)). All (λ (r : ℕ × Receiving Completion). IsClosed r.1 (column C r.0)) c.take_desks-sent.result.lanes.items) c.take_workers-answered.ensures.taken.columns c.close_lanes-2.ensures in
     let cs' = subst (All (λ (r : ℕ × Receiving Completion). IsClosed r.1 (column (completion_columns ws) r.0))) c.take_desks-sent.ensures.taken.lanes cs in
-    subst IsSettled (λ i. record { threads = sym c.take_desks-sent.ensures.taken.parts i; managers = sym c.take_workers-answered.ensures.taken.parts i })
+    subst IsSettled (λ i. record { opening = sym c.requires.opening i; threads = sym c.take_desks-sent.ensures.taken.parts i; managers = sym (ap parts_of c.take_workers-answered.ensures.taken.parts ∙ parts_ready ws) i })
     (settled ds ws (record { all = record { from = c.requires.from; one = c.requires.one; whole = c.requires.whole }; few_managers = c.requires.few_managers; few_threads = c.requires.few_threads; desks = c.take_desks-sent.ensures.known; workers = c.take_workers-answered.ensures.known; ordered = c.take_workers-answered.ensures.ordered }) rs' cs')
 
 pub returns-clause-lists : goal.returns-clause-lists
 returns-clause-lists g c =
     let ds = c.args.desks.items in
-    subst (λ (s : Settling). map (λ (e : EndedView). ledgers_of s e.thread) ds ≡ map (λ (e : EndedView). e.ledgers) ds) (λ i. record { threads = sym c.take_desks-sent.ensures.taken.parts i; managers = sym c.take_workers-answered.ensures.taken.parts i })
+    let ws = c.args.workers.items in
+    subst (λ (s : Settling). map (λ (e : EndedView). ledgers_of s e.thread) ds ≡ map (λ (e : EndedView). e.ledgers) ds) (λ i. record { opening = sym c.requires.opening i; threads = sym c.take_desks-sent.ensures.taken.parts i; managers = sym (ap parts_of c.take_workers-answered.ensures.taken.parts ∙ parts_ready ws) i })
     (all_settled_ledgers ds c.args.workers.items c.requires.from c.requires.one)
 
+pub returns-clause-parts : goal.returns-clause-parts
+returns-clause-parts g c =
+    let ws = c.args.workers.items in
+    λ i. record { opening = c.requires.opening i; threads = c.take_desks-sent.ensures.taken.parts i; managers = (ap parts_of c.take_workers-answered.ensures.taken.parts ∙ parts_ready ws) i }
+
 pub invariant_of-result : goal.invariant_of-result
-invariant_of-result g c = returns-clause-settled g c
+invariant_of-result g c =
+    let ds = c.args.desks.items in
+    let ws = c.args.workers.items in (
+      returns-clause-settled g c,
+      subst IsWhole (λ i. record { opening = sym c.requires.opening i; threads = sym c.take_desks-sent.ensures.taken.parts i; managers = sym (ap parts_of c.take_workers-answered.ensures.taken.parts ∙ parts_ready ws) i })
+          (all_there ds ws (record { all = record { from = c.requires.from; one = c.requires.one; whole = c.requires.whole }; few_managers = c.requires.few_managers; few_threads = c.requires.few_threads; desks = c.take_desks-sent.ensures.known; workers = c.take_workers-answered.ensures.known; ordered = c.take_workers-answered.ensures.ordered })),
+    )

@@ -2,4 +2,4 @@ use Rattle.xa_tables.proofs.WithinLaw.{within_law}
 use Rattle.xa_tables.proofs.laws.values_stay_within_the_limits.Goals as goal
 
 pub returns : goal.returns
-returns c accounts h k are = within_law accounts h k are
+returns c accounts before h k are = within_law accounts before h k are

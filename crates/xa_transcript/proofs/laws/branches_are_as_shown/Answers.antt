@@ -14,14 +14,14 @@ returns-clause-decisions c =
       breaks = c.refused_prepares_tell_integrity.ensures;
       keeps = c.prepared_branches_keep_what_they_hold.ensures;
       reads = c.read_only_branches_hold_nothing.ensures;
-      stands = c.prepared_is_in_doubt.ensures;
-      completed = c.completed_branches_ended_as_decided.ensures;
+      first = c.tables_tell_the_fates.ensures.first;
+      kept = c.tables_tell_the_fates.ensures.kept;
       undecided = c.only_prepared_branches_are_decided.ensures;
       silent = c.shut_managers_decide_nothing.ensures;
       commit_tells = c.only_completed_branches_tell_a_decision.ensures.commits;
       rollback_tells = c.only_completed_branches_tell_a_decision.ensures.rolls_back;
     } in
-    shown_so law c.settled_journals_follow_the_tables.ensures
+    shown_so law c.settled_journals_follow_the_tables.ensures.some
 
 pub returns-clause-journals : goal.returns-clause-journals
 returns-clause-journals c =
@@ -33,14 +33,14 @@ returns-clause-journals c =
       breaks = c.refused_prepares_tell_integrity.ensures;
       keeps = c.prepared_branches_keep_what_they_hold.ensures;
       reads = c.read_only_branches_hold_nothing.ensures;
-      stands = c.prepared_is_in_doubt.ensures;
-      completed = c.completed_branches_ended_as_decided.ensures;
+      first = c.tables_tell_the_fates.ensures.first;
+      kept = c.tables_tell_the_fates.ensures.kept;
       undecided = c.only_prepared_branches_are_decided.ensures;
       silent = c.shut_managers_decide_nothing.ensures;
       commit_tells = c.only_completed_branches_tell_a_decision.ensures.commits;
       rollback_tells = c.only_completed_branches_tell_a_decision.ensures.rolls_back;
     } in
-    counts_so law c.settled_journals_follow_the_tables.ensures
+    counts_so law c.settled_journals_follow_the_tables.ensures.some
 
 pub returns-clause-lines : goal.returns-clause-lines
 returns-clause-lines c = λ s answers values settled tells commit done before l after is shows named.
@@ -52,8 +52,8 @@ returns-clause-lines c = λ s answers values settled tells commit done before l 
       breaks = c.refused_prepares_tell_integrity.ensures;
       keeps = c.prepared_branches_keep_what_they_hold.ensures;
       reads = c.read_only_branches_hold_nothing.ensures;
-      stands = c.prepared_is_in_doubt.ensures;
-      completed = c.completed_branches_ended_as_decided.ensures;
+      first = c.tables_tell_the_fates.ensures.first;
+      kept = c.tables_tell_the_fates.ensures.kept;
       undecided = c.only_prepared_branches_are_decided.ensures;
       silent = c.shut_managers_decide_nothing.ensures;
       commit_tells = c.only_completed_branches_tell_a_decision.ensures.commits;
@@ -61,5 +61,5 @@ returns-clause-lines c = λ s answers values settled tells commit done before l 
     } in
     let (old, new, place) = places s answers settled commit.thread (tells.carried commit.thread) before l after is in
     let alone = left_alone s answers values settled tells commit before l after old new place named in
-    let shown = counts_so law c.settled_journals_follow_the_tables.ensures s answers values settled tells commit done before l after old new place shows alone in
+    let shown = counts_so law c.settled_journals_follow_the_tables.ensures.some s answers values settled tells commit done before l after old new place shows alone in
     (old, new, place, shown.0, shown.1)

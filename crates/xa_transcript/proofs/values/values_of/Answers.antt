@@ -4,13 +4,13 @@ use Rattle.std.specs.List.Sorted.{IsPermutation}
 use Rattle.std.proofs.lemmas.List.{map-append, take_all}
 use Rattle.std.proofs.lemmas.List.Elements.{All-push}
 use Rattle.std.proofs.lemmas.List.Sorted.{IsPermutation-map, All-permutation}
-use Rattle.xa_worker.specs.Journal.{requests}
-use Rattle.xa_switch.specs.Settling.{journal}
+use Rattle.xa_tables.proofs.Reopening.{accounts_new}
+use Rattle.xa_switch.specs.Fates.{history}
 use Rattle.xa_grammar.specs.declared.script.Declared.{Declared}
-use Rattle.xa_grammar.specs.Content.{IsOfManager}
-use Rattle.xa_transcript.specs.Values.{name_of, IsWorth}
+use Rattle.xa_grammar.specs.Content.{IsOfManager, accounts_of}
+use Rattle.xa_transcript.specs.Values.{name_of, opened, IsWorth}
 use Rattle.xa_base.proofs.Lists.{one_more}
-use Rattle.xa_transcript.proofs.Worth.{told, settled_value}
+use Rattle.xa_transcript.proofs.Worth.{told, first_is}
 use Rattle.xa_transcript.proofs.values.values_of.Goals as goal
 
 pub unwrap-value-requires : goal.unwrap-value-requires
@@ -21,7 +21,8 @@ unwrap-value-requires c =
     let there = c.declared-item.is ∙ ap (λ l. slice_index_or l i d) c.keys-keys.ensures.keys in
     let below : i < length s.keys = subst (λ l. i < length l) c.keys-keys.ensures.keys c.loop-declared-test.true in
     let of : IsOfManager s d = subst (IsOfManager s) (sym c.declared-item.is) (c.keys-keys.ensures.managers i d c.loop-declared-test.true) in
-    told s (requests (journal c.args.settled.now d.manager)) i d c.value.result below there (c.value.ensures.value ∙ settled_value s c.args.settled.now c.requires d.manager d.key of.0 of.1)
+    let sum = c.value.ensures.sum [] (opened s d.manager) (accounts_new (accounts_of d.manager s.keys)) (first_is s c.args.settled.now c.requires d.manager of.0 of.1) in
+    told s (history c.args.settled.now d.manager) i d c.value.result below there sum
 
 pub loop-declared-preserved : goal.loop-declared-preserved
 loop-declared-preserved c =
@@ -33,7 +34,7 @@ loop-declared-preserved c =
     let values = c.loop-declared.values.items in
     let e : Declared = record { manager = d.manager; key = d.key; value = c.unwrap-value.result } in
     let of : IsOfManager s d = subst (IsOfManager s) (sym c.declared-item.is) (c.keys-keys.ensures.managers i d c.loop-declared-test.true) in
-    let worth : IsWorth s settled e = sym (settled_value s settled c.requires d.manager d.key of.0 of.1) ∙ sym c.value.ensures.value ∙ ap (option_map (λ n. pos n)) c.unwrap-value.ensures in
+    let worth : IsWorth s settled e = sym (c.value.ensures.sum [] (opened s d.manager) (accounts_new (accounts_of d.manager s.keys)) (first_is s settled c.requires d.manager of.0 of.1)) ∙ ap (option_map (λ n. pos n)) c.unwrap-value.ensures in
     let more : map name_of (values ++ e ∷ []) ≡ map name_of (take (i + 1) keys) =
     map-append name_of values (e ∷ []) ∙ ap (λ l. l ++ name_of d ∷ []) c.loop-declared.invariant.named ∙ sym (map-append name_of (take i keys) (d ∷ [])) ∙ ap (map name_of) (sym (one_more keys i d c.loop-declared-test.true c.declared-item.is)) in
     record {

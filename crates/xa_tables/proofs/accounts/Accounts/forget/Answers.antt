@@ -5,7 +5,7 @@ use Rattle.xa_words.specs.Orders.{key_cmp}
 use Rattle.xa_tables.specs.declared.accounts.Account.{Account}
 use Rattle.xa_tables.specs.Tables.{touch_cmp, is_broken, sums_without}
 use Rattle.xa_tables.specs.Accounts.{AreDistinct, IsGood, AreIndexed, value_entries, hold_entries, forgotten_by}
-use Rattle.xa_tables.proofs.AccountLemmas.{written_whole, forgotten_goes, sums_go, values_forgotten, distinct_forgotten, others_forgotten, all_forgotten}
+use Rattle.xa_tables.proofs.AccountLemmas.{written_whole, all_but, forgotten_goes, sums_go, values_forgotten, distinct_forgotten, others_forgotten, all_forgotten}
 use Rattle.xa_tables.proofs.PlaceLemmas.{indexed_map}
 use Rattle.xa_tables.proofs.accounts.Accounts.forget.Goals as goal
 
@@ -13,7 +13,7 @@ pub returns-clause-sums : goal.returns-clause-sums
 returns-clause-sums c =
     let items = c.self.inside.accounts.items in
     let all = written_whole (forgotten_by c.args.xid.now) c.self.inside.accounts.len _ items c.forget_all.new.accounts c.forget_all.ensures c.deref_mut.ensures.value c.deref_mut.ensures.len in
-    ap (λ as1. from_entries {R = touch_cmp} (hold_entries as1)) all ∙ sums_go c.args.xid.now (forgotten_by c.args.xid.now) (forgotten_goes c.args.xid.now) items ∙ ap (λ h. sums_without h.sums c.args.xid.now) c.self.view_is
+    ap (λ as1. from_entries {R = touch_cmp} (hold_entries as1)) all ∙ sums_go (all_but c.args.xid.now) (forgotten_by c.args.xid.now) (forgotten_goes c.args.xid.now) items ∙ ap (λ h. sums_without h.sums c.args.xid.now) c.self.view_is
 
 pub returns-clause-values : goal.returns-clause-values
 returns-clause-values c =

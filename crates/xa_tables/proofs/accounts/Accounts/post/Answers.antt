@@ -6,7 +6,7 @@ use Rattle.xa_words.specs.Orders.{key_cmp}
 use Rattle.xa_tables.specs.declared.accounts.Account.{Account}
 use Rattle.xa_tables.specs.Tables.{touch_cmp, is_broken, posted, sums_without}
 use Rattle.xa_tables.specs.Accounts.{AreDistinct, IsGood, AreIndexed, value_entries, hold_entries, posted_by, is_broken_by}
-use Rattle.xa_tables.proofs.AccountLemmas.{written_whole, posted_goes, sums_go, values_posted, distinct_posted, others_posted, all_posted, broken_any}
+use Rattle.xa_tables.proofs.AccountLemmas.{written_whole, all_but, posted_goes, sums_go, values_posted, distinct_posted, others_posted, all_posted, broken_any}
 use Rattle.xa_tables.proofs.PlaceLemmas.{indexed_map}
 use Rattle.xa_tables.proofs.accounts.Accounts.post.Goals as goal
 
@@ -19,7 +19,7 @@ pub returns-clause-sums : goal.returns-clause-sums
 returns-clause-sums c =
     let items = c.self.inside.accounts.items in
     let all = written_whole (posted_by c.args.xid.now) c.self.inside.accounts.len _ items c.post_all.new.accounts c.post_all.ensures c.deref_mut.ensures.value c.deref_mut.ensures.len in
-    ap (λ as1. from_entries {R = touch_cmp} (hold_entries as1)) all ∙ sums_go c.args.xid.now (posted_by c.args.xid.now) (posted_goes c.args.xid.now) items ∙ ap (λ h. sums_without h.sums c.args.xid.now) c.self.view_is
+    ap (λ as1. from_entries {R = touch_cmp} (hold_entries as1)) all ∙ sums_go (all_but c.args.xid.now) (posted_by c.args.xid.now) (posted_goes c.args.xid.now) items ∙ ap (λ h. sums_without h.sums c.args.xid.now) c.self.view_is
 
 pub returns-clause-values : goal.returns-clause-values
 returns-clause-values c =

@@ -1,0 +1,60 @@
+-- In a settled opening every manager is there.
+use Rattle.std.proofs.Common.{◌≡◌, ℕ, zero, ◌-◌, ◌≤◌, true, false, ◌==◌, List, [], ◌∷◌, length, map, refl, ap, arith, cond, option_map, Some, None, ⊎_elim}
+use Rattle.std.specs.List.{Contains, list_any}
+use Rattle.std.proofs.lemmas.List.{length-map}
+use Rattle.std.proofs.lemmas.Option.{slice_get_within}
+use Rattle.xa_desk.specs.LedgerView.{LedgerView}
+use Rattle.xa_desk.specs.Ended.{EndedView, IsEnded}
+use Rattle.xa_worker.specs.Done.{Served}
+use Rattle.xa_switch.specs.Seats.{has_worker}
+use Rattle.xa_switch.specs.Settling.{ManagerPart, ReadyPart, find_manager}
+use Rattle.xa_switch.specs.Closing.{settling, manager_part, ready_part}
+use Rattle.xa_switch.specs.Again.{IsWhole, managers_in, parts_of, find_ready}
+use Rattle.xa_switch.proofs.Lists.{all_contains, searched}
+use Rattle.xa_switch.proofs.Pieces.{Joint, a_worker, sends_at}
+
+pub parts_ready : (ws : List Served) → parts_of (map ready_part ws) ≡ map manager_part ws
+parts_ready [] = refl
+parts_ready (w ∷ ws) = ap (λ l. manager_part w ∷ l) (parts_ready ws)
+
+-- a manager is found with its memory
+pub find_parts : (m : ℕ) (cs : List ReadyPart) → find_manager m (parts_of cs) ≡ option_map (λ (c : ReadyPart). c.part) (find_ready m cs)
+find_parts m [] = refl
+find_parts m (c ∷ cs) =
+    elim (c.part.number == m) as (λ b. cond b (Some c.part) (find_manager m (parts_of cs)) ≡ option_map (λ (r : ReadyPart). r.part) (cond b (Some c) (find_ready m cs))) [
+      | true ↦ refl
+      | false ↦ find_parts m cs
+    ]
+
+module _ (d : EndedView) (ds : List EndedView) (ws : List Served) (j : Joint (d ∷ ds) ws) where
+  first : Contains (d ∷ ds) d
+  first = (zero, omega arith, refl)
+
+  counted : managers_in (settling (d ∷ ds) ws) ≡ length d.ledgers
+  counted = length-map d.ledgers (λ (a : LedgerView). a.carries_async)
+
+  some : 1 ≤ length d.ledgers
+  some =
+      let w = a_worker (d ∷ ds) ws j.all in
+      let e = sends_at (d ∷ ds) ws j.all d w.0 first w.1 in
+      let below = slice_get_within d.requests (w.0.number - 1) e.0 e.1 in
+      let known : IsEnded d = all_contains IsEnded (d ∷ ds) d j.desks first in
+      let many = known.tied.ends.number in
+      omega (arith, below, many)
+
+  there : (m : ℕ) → 1 ≤ m → m ≤ length d.ledgers → (p : ManagerPart) × (find_manager m (map manager_part ws) ≡ Some p)
+  there m positive below =
+      let has : has_worker m ws ≡ true = j.all.whole.workers 0 d (omega arith) m positive below in
+      ⊎_elim (λ (x : (v : Served) × Contains ws v × ((v.number == m) ≡ true) × (find_manager m (map manager_part ws) ≡ Some (manager_part v))). (manager_part x.0, x.3))
+      (λ (x : (find_manager m (map manager_part ws) ≡ None) × (list_any (λ (v : Served). v.number == m) ws ≡ false)). let none = x.1 in cc)
+      (searched manager_part (λ (q : ManagerPart). q.number == m) ws)
+
+  whole : IsWhole (settling (d ∷ ds) ws)
+  whole = record {
+    few = let most = j.few_managers 0 d (omega arith) in let one = some in let n = counted in (omega (arith, one, n), omega (arith, most, n));
+    there = λ m positive below. let n = counted in there m positive (omega (arith, below, n));
+  }
+
+pub all_there : (ds : List EndedView) (ws : List Served) → Joint ds ws → IsWhole (settling ds ws)
+all_there [] ws j = let some = j.all.whole.some_desk in absurd (omega (arith, some))
+all_there (d ∷ ds) ws j = whole d ds ws j

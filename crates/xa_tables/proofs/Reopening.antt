@@ -1,0 +1,97 @@
+-- What a reopening leaves, and what the next opening begins with.
+use Rattle.std.specs.Prelude.{◌≡◌, ℕ, ℤ, Bool, true, false, cond, not, ◌&&◌, ◌+ℤ◌, Option, None, Some, List, [], ◌∷◌, refl}
+use Rattle.std.proofs.Common.{sym, ap, ◌∙◌}
+use Rattle.std.specs.FinMap as map
+use Rattle.std.specs.FinMap.{FinMap, get-empty, get-retain_keys}
+use Rattle.xa_words.specs.Xid.{XidName, xid_cmp, xid_eq}
+use Rattle.xa_words.specs.Orders.{key_cmp, xid_cmp-IsAntisymmetric}
+use Rattle.xa_tables.specs.declared.state.State.{State}
+use Rattle.xa_tables.specs.declared.state.State.TheVariants.{Active, Idle, Prepared as S3, RollbackOnly, HeuristicallyCompleted}
+use Rattle.xa_tables.specs.Tables.{Tables, Touch, touch_cmp, state_of, is_S3, is_left_in, is_left, is_prepared, is_broken, is_within, value_of}
+use Rattle.xa_tables.specs.Managers.{ArePreparedSound, opening}
+use Rattle.xa_tables.specs.History.{History, tables_after}
+use Rattle.xa_tables.specs.Openings.{IsNew, IsOpening, AreLeft, reopened, left_by}
+use Rattle.xa_tables.proofs.AccountLemmas.{touch_cmp_total, touch_cmp-IsAntisymmetric}
+use Rattle.xa_tables.proofs.MapLemmas.{none_pass, none_passes}
+
+pub state_reopened : (T : Tables) (x : XidName) → state_of (reopened T) x ≡ cond (is_left T x) (state_of T x) None
+state_reopened T x = get-retain_keys T.states (λ y. is_left T y) x (λ y e. ap (λ z. is_left T z) (sym (xid_cmp-IsAntisymmetric x y e)))
+
+pub sums_reopened : (T : Tables) (x : XidName) (k : List ℕ) → map.get (reopened T).sums (x, k) ≡ cond (is_prepared T x) (map.get T.sums (x, k)) None
+sums_reopened T x k = get-retain_keys T.sums (λ p. is_prepared T p.0) (x, k) (λ q e. ap (λ (r : Touch). is_prepared T r.0) (sym (touch_cmp-IsAntisymmetric (x, k) q e)))
+
+-- a branch is as left as it was, and as prepared
+left_stays : (o : Option State) → is_left_in (cond (is_left_in o) o None) ≡ is_left_in o
+left_stays None = refl
+left_stays (Some Active) = refl
+left_stays (Some Idle) = refl
+left_stays (Some S3) = refl
+left_stays (Some (RollbackOnly reason)) = refl
+left_stays (Some (HeuristicallyCompleted decision)) = refl
+
+prepared_stays : (o : Option State) → is_S3 (cond (is_left_in o) o None) ≡ is_S3 o
+prepared_stays None = refl
+prepared_stays (Some Active) = refl
+prepared_stays (Some Idle) = refl
+prepared_stays (Some S3) = refl
+prepared_stays (Some (RollbackOnly reason)) = refl
+prepared_stays (Some (HeuristicallyCompleted decision)) = refl
+
+pub as_left : (T : Tables) (x : XidName) → is_left (reopened T) x ≡ is_left T x
+as_left T x = ap is_left_in (state_reopened T x) ∙ left_stays (state_of T x)
+
+pub as_prepared : (T : Tables) (x : XidName) → is_prepared (reopened T) x ≡ is_prepared T x
+as_prepared T x = ap is_S3 (state_reopened T x) ∙ prepared_stays (state_of T x)
+
+-- only what is left stays
+stays_if_left : (b : Bool) (o : Option State) (s : State) → cond b o None ≡ Some s → b ≡ true
+stays_if_left true o s e = refl
+stays_if_left false o s e = cc
+
+pub reopens : (T : Tables) → IsOpening (reopened T)
+reopens T = record {
+  opened = refl;
+  associations = refl;
+  shut = refl;
+  left = λ x s is. as_left T x ∙ stays_if_left (is_left T x) (state_of T x) s (sym (state_reopened T x) ∙ is);
+  sums = λ x k unprepared. sums_reopened T x k ∙ ap (λ b. cond b (map.get T.sums (x, k)) None) (sym (as_prepared T x) ∙ unprepared);
+}
+
+-- a first opening is one
+pub new_opens : (T : Tables) → IsNew T → IsOpening T
+new_opens T n = record {
+  opened = n.opened;
+  associations = n.associations;
+  shut = n.shut;
+  left = λ x s is. let none : state_of T x ≡ None = ap (λ m. map.get m x) n.states ∙ get-empty xid_cmp x in let z : None ≡ Some s = sym none ∙ is in cc;
+  sums = λ x k unprepared. ap (λ m. map.get m (x, k)) n.sums ∙ get-empty touch_cmp (x, k);
+}
+
+pub accounts_new : (accounts : List (List ℕ × ℕ)) → IsNew (opening accounts)
+accounts_new accounts = record { opened = refl; associations = refl; states = refl; sums = refl; shut = refl }
+
+pub left_opens : (before : List History) (T : Tables) → IsOpening T → IsOpening (left_by before T)
+left_opens [] T o = o
+left_opens (h ∷ hs) T o = left_opens hs (reopened (tables_after h T)) (reopens (tables_after h T))
+
+pub same_left : (xs : List XidName) (T : Tables) → AreLeft xs T → AreLeft xs (reopened T)
+same_left xs T l = record { rising = l.rising; once = l.once; each = λ x. l.each x ∙ sym (as_left T x) }
+
+-- the prepared branches still keep the values within the limits
+pub sound_retained : (states states' : FinMap xid_cmp State) (sums sums' : FinMap touch_cmp ℤ) (values values' : FinMap key_cmp ℤ) → states' ≡ map.retain_keys states (λ x. is_left_in (map.get states x))
+    → sums' ≡ map.retain_keys sums (λ p. is_S3 (map.get states p.0)) → values' ≡ values → ArePreparedSound states sums values → ArePreparedSound states' sums' values'
+sound_retained states states' sums sums' values values' e f g sound x voted =
+    let before : is_S3 (map.get states x) ≡ true =
+    sym (prepared_stays (map.get states x))
+    ∙ sym (ap is_S3 (get-retain_keys states (λ y. is_left_in (map.get states y)) x (λ y t. ap (λ z. is_left_in (map.get states z)) (sym (xid_cmp-IsAntisymmetric x y t)))))
+    ∙ sym (ap (λ m. is_S3 (map.get m x)) e) ∙ voted in
+    let unbroken : is_broken values sums x ≡ false = sound x before in
+    (λ i. is_broken (g i) (f i) x)
+    ∙ none_pass touch_cmp_total touch_cmp-IsAntisymmetric (λ p s. xid_eq p.0 x && not (is_within (value_of values p.1 +ℤ s))) (map.retain_keys sums (λ p. is_S3 (map.get states p.0))) (λ p s found.
+    none_passes touch_cmp_total touch_cmp-IsAntisymmetric (λ p s. xid_eq p.0 x && not (is_within (value_of values p.1 +ℤ s))) sums p s unbroken
+    (from_kept (is_S3 (map.get states p.0)) (map.get sums p) s
+    (sym (get-retain_keys sums (λ q. is_S3 (map.get states q.0)) p (λ q t. ap (λ (r : Touch). is_S3 (map.get states r.0)) (sym (touch_cmp-IsAntisymmetric p q t)))) ∙ found)))
+  where
+    from_kept : (b : Bool) (o : Option ℤ) (s : ℤ) → cond b o None ≡ Some s → o ≡ Some s
+    from_kept true o s e = e
+    from_kept false o s e = cc

@@ -1,0 +1,42 @@
+use Rattle.std.proofs.Common.{◌++◌, ap, append-nil, sym, refl, rules, ◌∙◌, ◌≡◌, Some, Bool, subst}
+use Rattle.std.specs.Prelude.{filter, Option, None, is_some, cond, false, true}
+use Rattle.std.specs.FinMap as map
+use Rattle.std.specs.List.{IsDistinct, list_any}
+use Rattle.std.specs.Map.{keys_of, lookup}
+use Rattle.std.proofs.lemmas.List.Sorted.{list_any-IsPermutation}
+use Rattle.std.proofs.lemmas.Map.Keys.{IsDistinct-IsPermutation}
+use Rattle.std.proofs.lemmas.Map.Made.{IsDistinct-keys_filter, is_some-lookup}
+use Rattle.std.proofs.lemmas.Map.Entries.{option_filter, lookup-filter-values}
+use Rattle.xa_words.specs.Xid.{xid_eq}
+use Rattle.xa_words.specs.Orders.{xid_cmp_total, xid_cmp-IsAntisymmetric, xid_eq-by_cmp}
+use Rattle.xa_tables.specs.declared.state.State.{State}
+use Rattle.xa_tables.specs.Tables.{is_left_in}
+use Rattle.xa_tables.proofs.HashLemmas.{get-lookup}
+use Rattle.xa_tables.proofs.Law.{swap_xid}
+use Rattle.xa_tables.proofs.Xids.{xid_eq_laws}
+use Rattle.xa_tables.proofs.branches.Branches.left.Goals as goal
+
+abbrev is_kept : State → Bool
+is_kept s = is_left_in (Some s)
+
+there : (o : Option State) → is_some (option_filter is_kept o) ≡ is_left_in o
+there None = refl
+there (Some s) = elim (is_kept s) as (λ b. is_some (cond b (Some s) None) ≡ b) [ true ↦ refl | false ↦ refl ]
+
+-- before they are sorted: the keys of the entries that are left
+all_left : (c : goal.After-sort_unstable) → c.loop-xid.left.items ≡ keys_of (filter (λ e. is_kept e.1) c.self.inside.states.entries)
+all_left c =
+    sym (ap (λ rest. c.loop-xid.left.items ++ keys_of (filter (λ e. is_kept e.1) rest)) c.in-None.ensures.steps.0 ∙ append-nil c.loop-xid.left.items)
+    ∙ sym c.loop-xid.invariant ∙ search rules
+
+pub returns-clause-once : goal.returns-clause-once
+returns-clause-once c =
+    IsDistinct-IsPermutation xid_eq swap_xid _ _ c.sort_unstable.ensures.permutation
+    (subst (IsDistinct xid_eq) (sym (all_left c)) (IsDistinct-keys_filter xid_eq (λ e. is_kept e.1) c.self.inside.states.entries c.iter-xid-items.ensures.unique))
+
+pub returns-clause-each : goal.returns-clause-each
+returns-clause-each c x =
+    let es = c.self.inside.states.entries in
+    sym (list_any-IsPermutation (xid_eq x) _ _ c.sort_unstable.ensures.permutation) ∙ ap (list_any (xid_eq x)) (all_left c) ∙ sym (is_some-lookup (xid_eq x) (filter (λ e. is_kept e.1) es))
+    ∙ ap is_some (lookup-filter-values xid_eq_laws is_kept x es c.iter-xid-items.ensures.unique) ∙ there (lookup (xid_eq x) es)
+    ∙ ap is_left_in (sym (get-lookup xid_eq xid_cmp_total xid_cmp-IsAntisymmetric xid_eq-by_cmp es x) ∙ ap (λ b. map.get b.states x) c.self.view_is)
