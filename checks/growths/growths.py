@@ -42,6 +42,7 @@ THINGS = {
     "desk": b"made",
     "worker": b"made",
     "switch": b"made",
+    "reopen": b"made",
     "settle": b"made",
     "strangers": b"stranger",
     "missing": b"missing",

@@ -44,14 +44,17 @@ pub(crate) fn ask<R: Wait>(
     xa_call(rt, desk, call, xid, branch.m, flags, idle)
 }
 
-// Whether the branch's manager was opened, and 1 was added for the branch.
-fn work<R: Wait>(
+/// Whether the branch's manager was opened, and this was added for the branch.
+pub(crate) fn work<R: Wait>(
     rt: &R,
     desk: &mut Desk,
     branch: &Branch,
     addition: RmOp,
     idle: &mut Workers,
-) -> bool {
+) -> bool
+    ensures seat { seat_of_desk desk.new ≡ seat_of_desk desk.old }
+    ensures idled { map seat_of_worker idle.new.all.items ≡ map seat_of_worker idle.old.all.items }
+{
     let opened = xa_call(rt, desk, Call::OpenRm, None, branch.m, TMNOFLAGS, idle);
     let started = ask(rt, desk, Call::Start, branch, TMNOFLAGS, idle);
     let added = native(rt, desk, addition, branch.m, TMNOFLAGS, idle);

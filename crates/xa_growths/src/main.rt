@@ -10,6 +10,7 @@
 mod commits;
 mod openings;
 mod pieces;
+mod reopening;
 mod scripts;
 mod settling;
 mod thing;

@@ -77,8 +77,8 @@ pub(crate) struct Opened {
     pub(crate) workers: Workers,
 }
 
-// The desk, where there is just one.
-fn one_desk(mut desks: Vec<Desk>) -> Option<Desk>
+/// The desk, where there is just one.
+pub(crate) fn one_desk(mut desks: Vec<Desk>) -> Option<Desk>
     ensures { IfSome result (λ d. d ∷ [] ≡ desks.items) }
 {
     let desk = desks.pop()?;

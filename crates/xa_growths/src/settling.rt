@@ -182,11 +182,11 @@ pub(crate) fn call_all<R: Wait, W: Write>(
 
 // ---- settling
 
-// Desks that have ended, and workers that have run.
+/// Desks that have ended, and workers that have run.
 #[derive(Drop)]
-struct Pieces {
-    desks: Vec<EndedDesk>,
-    workers: Vec<DoneWorker>,
+pub(crate) struct Pieces {
+    pub(crate) desks: Vec<EndedDesk>,
+    pub(crate) workers: Vec<DoneWorker>,
 }
 
 // Runs all workers. None for want of memory.
@@ -201,6 +201,20 @@ fn run_all<R: Wait>(rt: &R, alloc: Global, workers: Vec<Worker>) -> Option<Vec<D
     Some(done)
 }
 
+/// Ends the desk, and runs the workers. None where something is outstanding, and for want of memory.
+pub(crate) fn end_all<R: Wait>(rt: &R, alloc: Global, opened: Opened) -> Option<Pieces>
+    ensures desks { IfSome result (λ p. desk_seats p.desks.items ≡ seat_of_desk opened.desk ∷ []) }
+    ensures workers { IfSome result (λ p. worker_seats p.workers.items ≡ map seat_of_worker opened.workers.all.items) }
+{
+    let Opened { desk, mut workers } = opened;
+    let ended = end(rt, desk, &mut workers)?;
+    let Ok(desks) = Vec::from_array(alloc, [ended]) else {
+        return None;
+    };
+    let workers = run_all(rt, alloc, workers.all)?;
+    Some(Pieces { desks, workers })
+}
+
 // What an opening of one thread leaves; with two managers, one that has made all calls. None where it doesn't come so
 // far.
 fn pieces_of<R: Wait>(rt: &R, alloc: Global, opening: u64, managers: u32) -> Option<Pieces>
@@ -208,19 +222,11 @@ fn pieces_of<R: Wait>(rt: &R, alloc: Global, opening: u64, managers: u32) -> Opt
     ensures number { IfSome result (λ p. All (λ n. n ≡ opening) (openings_of (desk_seats p.desks.items) (worker_seats p.workers.items))) }
 {
     let plan = plan_of(alloc, opening, managers)?;
-    let Opened {
-        mut desk,
-        mut workers,
-    } = open(rt, alloc, &plan)?;
-    if managers == 2 && !play(rt, &mut desk, &mut workers) {
+    let mut opened = open(rt, alloc, &plan)?;
+    if managers == 2 && !play(rt, &mut opened.desk, &mut opened.workers) {
         return None;
     }
-    let ended = end(rt, desk, &mut workers)?;
-    let Ok(desks) = Vec::from_array(alloc, [ended]) else {
-        return None;
-    };
-    let workers = run_all(rt, alloc, workers.all)?;
-    Some(Pieces { desks, workers })
+    end_all(rt, alloc, opened)
 }
 
 // Settles the pieces. They come back where memory was refused.

@@ -2,6 +2,7 @@
 use crate::commits::{Committer, append};
 use crate::openings::plan_of;
 use crate::pieces::{desk_memory, lane, new_manager, switch, worker_memory};
+use crate::reopening::{open_again, settled};
 use crate::scripts::{in_threads, in_turns, read, script};
 use std::alloc::Global;
 use std::io::{self, Write};
@@ -9,7 +10,7 @@ use std::sync::Wait;
 use std::thread::Threads;
 use xa_driver::MemoryLog;
 use xa_script::Script;
-use xa_switch::Plan;
+use xa_switch::{Plan, Settled};
 
 /// What came of a thing.
 #[derive(Clone, Copy, Debug, PartialEq, Eq)]
@@ -47,6 +48,7 @@ pub(crate) enum Thing {
     DeskMemory,
     WorkerMemory,
     Switch(Plan),
+    Reopen(Option<Settled>),
     Append(MemoryLog),
     Commit(Committer),
     Read,
@@ -63,6 +65,7 @@ impl Thing {
             "desk" => Thing::DeskMemory,
             "worker" => Thing::WorkerMemory,
             "switch" => Thing::Switch(plan_of(alloc, 1, 2)?),
+            "reopen" => Thing::Reopen(Some(settled(rt, alloc)?)),
             "append" => Thing::Append(MemoryLog::new(alloc)),
             "commit" => Thing::Commit(Committer::new(rt, alloc)?),
             "read" => Thing::Read,
@@ -85,6 +88,7 @@ impl Thing {
             Thing::DeskMemory => desk_memory(alloc),
             Thing::WorkerMemory => worker_memory(alloc),
             Thing::Switch(plan) => switch(rt, alloc, plan),
+            Thing::Reopen(kept) => open_again(rt, alloc, kept),
             Thing::Append(log) => append(log),
             Thing::Commit(committer) => committer.commit(rt, alloc),
             Thing::Read => read(alloc),

@@ -123,7 +123,7 @@ inserted_keep old m op k known unkept all = record {
 }
 
 -- an operation that is sent and collected
-answered_keep : (old mid new : DeskView) (m : ℕ) (op : Op) (c : Code) → mid.ledgers ≡ old.ledgers → mid.kept ≡ old.kept → IsKnown old.ledgers m → Collects (submitted mid m op) new (next_operation old.ledgers m) c → AllKept old → AllKept new
+pub answered_keep : (old mid new : DeskView) (m : ℕ) (op : Op) (c : Code) → mid.ledgers ≡ old.ledgers → mid.kept ≡ old.kept → IsKnown old.ledgers m → Collects (submitted mid m op) new (next_operation old.ledgers m) c → AllKept old → AllKept new
 answered_keep old mid new m op c ledgers handles known is all =
     collects_keep (submitted mid m op) new (next_operation old.ledgers m) c is (λ p out differs.
     ⊎_elim

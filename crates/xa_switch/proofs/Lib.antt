@@ -16,3 +16,7 @@ pub mod Kept
 pub mod Worth
 mod AllThere
 mod Planned
+pub mod Scanning
+mod Retaken
+mod Recovered
+mod Refusals

@@ -182,6 +182,7 @@ module _ (p : Setup) (deskparts : List PartsView) (workerparts : List Reserved) 
     workers = λ m w at. new_worker_is m w (workers m w at);
     together = λ t m d w at_d at_w. together_are t m d w (desks t d at_d) (workers m w at_w);
     begins = is.begins;
+    flags = is.flags;
     tables = is.tables;
   }
 

@@ -12,3 +12,5 @@ pub mod Fates
 pub mod OfPlans
 pub mod Worth
 pub mod Again
+pub mod Scans
+pub mod Recovery

@@ -115,6 +115,7 @@ pub record ShareNewLanes (t m : ℕ) (d : DeskView) (w : WorkerView) : Type 0 wh
 pub record AreOfOneOpening (s : Setup) (ds : List DeskView) (ws : List WorkerView) : Type 0 where
   pub threads : length ds ≡ s.numbers.threads
   pub managers : length ws ≡ s.managers
+  pub flags : length s.use_async ≡ s.managers
   pub tables : length s.first ≡ s.managers
   pub desks : Each (IsNewDesk s) ds
   pub workers : Each (IsNewWorker s) ws

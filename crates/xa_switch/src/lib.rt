@@ -2,7 +2,9 @@
 //! how an opening is settled.
 //!
 //! `open_switch` gives a desk for each thread of control and a worker for each manager. A thread calls
-//! `xa_call`, `native` and `xa_complete` over its desk (C193, chapters 3 to 5).
+//! `xa_call`, `native` and `xa_complete` over its desk (C193, chapters 3 to 5). What is settled may be opened again:
+//! `reopen` gives desks and workers over the managers as they were left, and scans by which `xa_recover` lists what
+//! they hold in doubt.
 #![tactic(auto)]
 
 mod asked;
@@ -19,14 +21,20 @@ mod layout;
 mod managers;
 mod opening;
 mod plan;
+mod recovering;
+mod reopening;
 mod reserve;
+mod scan;
 mod settled;
 mod settling;
 
 pub use calls::{native, xa_call};
 pub use completing::xa_complete;
 pub use opening::open_switch;
-pub use plan::{ManagerPlan, OpenFault, Plan};
+pub use plan::{Again, ManagerPlan, OpenFault, Plan};
+pub use recovering::xa_recover;
+pub use reopening::{Unopened, reopen};
+pub use scan::Scan;
 pub use settled::Settled;
 pub use settling::{Unsettled, Why, settle};
 pub use xa_words::RmOp;

@@ -6,6 +6,7 @@ ghost use Rattle.std.specs.Prelude.{◌≡◌, map};
 ghost use Rattle.xa_switch.specs.Settling.{IsSettled};
 ghost use Rattle.xa_switch.specs.Seats.{ComeFromOpenings, seat_of_desk, seat_of_ended, seat_of_worker, seat_of_done, desk_seats, worker_seats};
 
+mod reopening;
 mod turns;
 
 use super::key;
@@ -14,8 +15,10 @@ use std::process::Abort;
 use std::sync::Wait;
 use xa_desk::{Desk, EndedDesk, Idle, Spin};
 use xa_switch::laws::opened_pieces_come_from_their_opening;
-use xa_switch::{ManagerPlan, Plan, Settled, Why, open_switch, settle, xa_call, xa_complete};
-use xa_words::{Call, Code, Op, Request, TMNOFLAGS, Xid};
+use xa_switch::{
+    ManagerPlan, Plan, Settled, Why, native, open_switch, settle, xa_call, xa_complete,
+};
+use xa_words::{Call, Code, Op, Request, RmOp, TMNOFLAGS, Xid};
 use xa_worker::{DoneWorker, Free, Worker};
 
 // ---- what a thread does
@@ -24,6 +27,7 @@ use xa_worker::{DoneWorker, Free, Worker};
 #[derive(Clone, Copy, Debug)]
 enum Asks {
     Xa(Call, Option<Xid>, u32),
+    Native(RmOp),
     // Waits for the operation under this handle. The answer is its code.
     Complete(i32),
 }
@@ -45,6 +49,15 @@ fn calls(manager: u32, call: Call, xid: Option<Xid>, flags: u32, answer: i32) ->
     }
 }
 
+// A call outside XA at the manager.
+fn natively(manager: u32, op: RmOp, answer: i32) -> Act {
+    Act {
+        manager,
+        asks: Asks::Native(op),
+        answer,
+    }
+}
+
 // The operation under the handle is completed with this code.
 fn completes(manager: u32, handle: i32, code: Code) -> Act {
     Act {
@@ -60,6 +73,7 @@ fn ask<R: Wait, I: Idle>(rt: &R, desk: &mut Desk, manager: u32, asks: Asks, idle
 {
     match asks {
         Asks::Xa(call, xid, flags) => xa_call(rt, desk, call, xid, manager, flags, idle),
+        Asks::Native(op) => native(rt, desk, op, manager, TMNOFLAGS, idle),
         Asks::Complete(number) => {
             let (mut handle, mut retval) = (number, 55);
             let answer = xa_complete(rt, desk, &mut handle, &mut retval, manager, TMNOFLAGS, idle);

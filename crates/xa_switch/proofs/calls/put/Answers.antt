@@ -1,14 +1,14 @@
-use Rattle.std.proofs.Common.{◌≡◌, ◌≤◌, ℕ, ℤ, true, Option, Some, None, Result, Ok, Err, IsOk, sym, ap, ◌∙◌, subst, arith, refl, to_z, of_z, w32, pos}
+use Rattle.std.proofs.Common.{◌≡◌, ◌≤◌, ℕ, ℤ, true, Option, Some, None, Ok, Err, sym, ap, ◌∙◌, subst, arith, refl, to_z, of_z, w32, pos}
 use Rattle.std.specs.Prelude.{option_map}
 use Rattle.std.proofs.lemmas.Int.{to_z-of_z, to_z_pos, ints}
 use Rattle.xa_words.specs.Code.{number_of}
 use Rattle.xa_words.specs.declared.code.Code.{Code}
 use Rattle.xa_words.specs.declared.code.Code.TheVariants.{Async}
-use Rattle.xa_desk.specs.declared.refused.Refused.{Refused}
 use Rattle.xa_desk.specs.DeskView.{DeskView, call_refusal}
 use Rattle.xa_desk.specs.Lanes.{after_full}
 use Rattle.xa_switch.specs.declared.asked.Asked.{Asked}
 use Rattle.xa_switch.specs.Putting.{code_of, put_refusal, Puts, refused, full, kept, answered}
+use Rattle.xa_switch.proofs.Refusals.{no_refusal, its_refusal}
 use Rattle.xa_switch.proofs.calls.put.Goals as goal
 
 -- an asynchronous request that wasn't put
@@ -19,15 +19,6 @@ unput old m asked new answer code later told was_refused was_full =
       | None ↦ λ e. full (at None e) later (told ∙ ap number_of (was_full e).0) (was_full e).1
       | Some c ↦ λ e. refused c (at (Some c) e) (told ∙ ap number_of (was_refused c e).0) (was_refused c e).1
     ] refl
-
--- the refusal of a synchronous request that was answered, and of one that wasn't
-no_refusal : (answer : Result Code Refused) (code : Code) (r : Option Refused) → answer ≡ Ok code → ((why : Refused) → r ≡ Some why → answer ≡ Err why) → r ≡ None
-no_refusal answer code None is same = refl
-no_refusal answer code (Some why) is same = let e = same why refl in cc
-
-its_refusal : (answer : Result Code Refused) (why : Refused) (r : Option Refused) → answer ≡ Err why → ((w : Refused) → r ≡ Some w → answer ≡ Err w) → (r ≡ None → IsOk answer) → r ≡ Some why
-its_refusal answer why None is same never = let e = subst IsOk is (never refl) in cc
-its_refusal answer why (Some w) is same never = let e = same w refl in cc
 
 pub returns-in-Err-clause-puts : goal.returns-in-Err-clause-puts
 returns-in-Err-clause-puts g c =

@@ -9,8 +9,8 @@ use xa_words::TMASYNC;
 
 // The workers of an opening. Each idle lets each of them do one thing.
 #[derive(Drop)]
-struct Workers {
-    all: Vec<Worker>,
+pub(super) struct Workers {
+    pub(super) all: Vec<Worker>,
 }
 
 impl Workers {
@@ -43,13 +43,13 @@ impl Idle for Workers {
 
 // The desks and the workers of an opening.
 #[derive(Drop)]
-struct Opened {
-    desks: Vec<Desk>,
-    workers: Workers,
+pub(super) struct Opened {
+    pub(super) desks: Vec<Desk>,
+    pub(super) workers: Workers,
 }
 
 impl Opened {
-    fn new<R: Wait + Abort>(rt: &R, alloc: Global, plan: &Plan) -> Opened
+    pub(super) fn new<R: Wait + Abort>(rt: &R, alloc: Global, plan: &Plan) -> Opened
         ensures { ComeFromOpenings (map seat_of_desk result.desks.items) (map seat_of_worker result.workers.all.items) }
     {
         opened_pieces_come_from_their_opening();
@@ -63,7 +63,7 @@ impl Opened {
     }
 
     // Thread `before + 1` does this.
-    fn play<R: Wait + Abort>(&mut self, rt: &R, before: usize, acts: &[Act])
+    pub(super) fn play<R: Wait + Abort>(&mut self, rt: &R, before: usize, acts: &[Act])
         ensures desks { map seat_of_desk self.new.desks.items ≡ map seat_of_desk self.old.desks.items }
         ensures workers { map seat_of_worker self.new.workers.all.items ≡ map seat_of_worker self.old.workers.all.items }
     {
@@ -72,7 +72,7 @@ impl Opened {
     }
 
     // Ends all and settles it.
-    fn settle<R: Wait + Abort>(self, rt: &R, alloc: Global) -> Settled
+    pub(super) fn settle<R: Wait + Abort>(self, rt: &R, alloc: Global) -> Settled
         requires { ComeFromOpenings (map seat_of_desk self.desks.items) (map seat_of_worker self.workers.all.items) }
         ensures { IsSettled result }
     {

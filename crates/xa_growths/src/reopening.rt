@@ -1,0 +1,99 @@
+//! An opening that is opened again.
+ghost use Rattle.std.specs.Prelude.{◌≡◌, map};
+ghost use Rattle.xa_switch.specs.Seats.{seat_of_desk, seat_of_worker};
+
+use crate::commits::{ask, branch, work};
+use crate::openings::{Workers, one_desk, open, plan_of};
+use crate::settling::end_all;
+use crate::thing::Came;
+use std::alloc::Global;
+use std::sync::Wait;
+use xa_desk::Desk;
+use xa_driver::Branch;
+use xa_switch::{Again, OpenFault, RmOp, Scan, Settled, reopen, settle, xa_call, xa_recover};
+use xa_words::{Call, Delta, Key, TMENDRSCAN, TMNOFLAGS, TMSTARTRSCAN, Xid};
+use xa_worker::Worker;
+
+// Adds 1 for the branch, and prepares it.
+fn prepare<R: Wait>(rt: &R, desk: &mut Desk, branch: &Branch, idle: &mut Workers) -> bool
+    ensures seat { seat_of_desk desk.new ≡ seat_of_desk desk.old }
+    ensures idled { map seat_of_worker idle.new.all.items ≡ map seat_of_worker idle.old.all.items }
+{
+    match (Key::new(b"a"), Delta::new(1)) {
+        (Some(key), Some(delta)) => {
+            let addition = RmOp::Add(key, delta);
+            work(rt, desk, branch, addition, idle)
+                && ask(rt, desk, Call::Prepare, branch, TMNOFLAGS, idle) == 0
+        }
+        _ => false,
+    }
+}
+
+/// An opening of two managers that was settled with a branch prepared at the first. None for want of memory.
+pub(crate) fn settled<R: Wait>(rt: &R, alloc: Global) -> Option<Settled> {
+    let mut opened = open(rt, alloc, &plan_of(alloc, 1, 2)?)?;
+    let branch = branch(1, b"1")?;
+    if !prepare(rt, &mut opened.desk, &branch, &mut opened.workers) {
+        return None;
+    }
+    let pieces = end_all(rt, alloc, opened)?;
+    settle(rt, alloc, pieces.desks, pieces.workers).ok()
+}
+
+// Whether the branch is left, and listed.
+fn lists<R: Wait>(rt: &R, mut desk: Desk, workers: Vec<Worker>, mut scan: Scan, xid: Xid) -> bool {
+    let mut workers = Workers { all: workers };
+    if workers.all.len() != 2 || scan.left(1) != [xid].as_slice() || !scan.left(2).is_empty() {
+        return false;
+    }
+    xa_call(
+        rt,
+        &mut desk,
+        Call::OpenRm,
+        None,
+        1,
+        TMNOFLAGS,
+        &mut workers,
+    );
+    let mut page = [xid; 4];
+    let flags = TMSTARTRSCAN | TMENDRSCAN;
+    xa_recover(rt, &mut desk, &mut scan, &mut page, 1, flags, &mut workers) == 1
+}
+
+// Whether these are one desk and two workers, over managers of which the first has the branch left.
+fn is_whole<R: Wait>(rt: &R, desks: Vec<Desk>, workers: Vec<Worker>, mut scans: Vec<Scan>) -> bool {
+    match (one_desk(desks), scans.pop(), branch(1, b"1")) {
+        (Some(desk), Some(scan), Some(branch)) => lists(rt, desk, workers, scan, branch.xid),
+        _ => false,
+    }
+}
+
+/// Opens it again. It is kept where memory was refused.
+pub(crate) fn open_again<R: Wait>(rt: &R, alloc: Global, kept: &mut Option<Settled>) -> Came {
+    let Some(settled) = kept.take() else {
+        return Came::Wrong;
+    };
+    let again = Again {
+        opening: 2,
+        threads: 1,
+        handles: 4,
+        queue: 4,
+        requests: 32,
+    };
+    match reopen(rt, alloc, settled, &again) {
+        Ok((desks, workers, scans)) => {
+            if is_whole(rt, desks, workers, scans) {
+                Came::Made
+            } else {
+                Came::Wrong
+            }
+        }
+        Err(unopened) => match unopened.why {
+            OpenFault::NoMemory => {
+                *kept = Some(unopened.settled);
+                Came::Refused
+            }
+            OpenFault::BadPlan => Came::Wrong,
+        },
+    }
+}
