@@ -46,7 +46,13 @@ FAULTY = [
     ("1 forget 1", "line 1: missing word"),
     ("1 heurcom 1\n", "line 1: missing word"),
     ("1 heurrb", "line 1: missing word"),
+    ("1 recover\n", "line 1: missing word"),
+    ("1 recover 1", "line 1: missing word"),
     ("1 heur 1 g.1", "line 1: unknown word"),
+    ("recover 1 4\n", "line 1: unknown word"),
+    ("1 reopen\n", "line 1: unknown word"),
+    ("1 recover 1 4 4", "line 1: unknown word"),
+    ("1 recover 1 4 endscan", "line 1: unknown word"),
     ("1 forget 1 g", "line 1: bad xid"),
     ("1 heurcom x g.1", "line 1: bad number"),
     ("1 shut\n", "line 1: missing word"),
@@ -61,6 +67,8 @@ FAULTY = [
     ("logfail 1 1 1\n", "line 1: extra word"),
     ("logfail 1 1 fly\n", "line 1: extra word"),
     ("turn 1 1", "line 1: extra word"),
+    ("reopen 1", "line 1: extra word"),
+    ("reopen startrscan\n", "line 1: extra word"),
     ("1234567890123456789 fly\n", "line 1: bad number"),
     ("threads two\n", "line 1: bad number"),
     ("managers -1\n", "line 1: bad number"),
@@ -79,6 +87,11 @@ FAULTY = [
     ("logfail 1 1234567890123456789\n", "line 1: bad number"),
     ("1 commitall t" + " 1" * 249 + "x", "line 1: bad number"),
     ("1 complete 1 x", "line 1: bad number"),
+    ("1 recover 1 x", "line 1: bad number"),
+    ("1 recover x\n", "line 1: bad number"),
+    ("1 recover 1 -1\n", "line 1: bad number"),
+    ("1 recover x 65\n", "line 1: bad number"),
+    ("1 recover 1 startrscan 4\n", "line 1: bad number"),
     ("threads 0\n", "line 1: out of range"),
     ("threads 9 9\n", "line 1: out of range"),
     ("managers 9\n", "line 1: out of range"),
@@ -104,6 +117,9 @@ FAULTY = [
     ("logfail 2 1\nthreads 2\n", "line 1: out of range"),
     ("threads 2\nlogfail 3 1\n", "line 2: out of range"),
     ("threads 8\nlogfail 9 1\n", "line 2: out of range"),
+    ("1 recover 4294967296 x\n", "line 1: out of range"),
+    ("1 recover 1 65", "line 1: out of range"),
+    ("1 recover 1 65 fly\n", "line 1: out of range"),
     ("logfail 1 0\n", "line 1: out of range"),
     ("logfail 1 1000001\n", "line 1: out of range"),
     ("logfail 1 1000001 1\n", "line 1: out of range"),
@@ -128,6 +144,8 @@ FAULTY = [
     ("1 open 1\nlogfail\n", "line 2: setting after action"),
     ("1 open 1\nlogfail 9 0\n", "line 2: setting after action"),
     ("turn 1\nlogfail 1 1\n", "line 2: setting after action"),
+    ("reopen\nlogfail 1 1\n", "line 2: setting after action"),
+    ("reopen\nthreads 9\n", "line 2: setting after action"),
     ("1 commitall t 1\nlogfail 1 1\n", "line 2: setting after action"),
     ("threads 2\nthreads 3\n", "line 2: setting twice"),
     ("threads 2\nthreads 9 9\n", "line 2: setting twice"),
@@ -165,7 +183,16 @@ TAKEN = [
     "\n" * 100_000,
     keys(256),
     f"1 commitall {'g' * 64} 1",
+    "1 recover 1 0\n1 recover 9 64 startrscan endrscan async join\n1 open 1 endrscan\n",
 ]
+
+# What stands in no script that is run in threads.
+TURNS_ONLY = {
+    "1 open 1\nturn 1": "line 2: turn in threads mode",
+    "turn x 1\n": "line 1: turn in threads mode",
+    "1 open 1\nreopen": "line 2: reopen in threads mode",
+    "reopen 1\n": "line 1: reopen in threads mode",
+}
 
 
 WORDS = ["", "turns turns", "turns -h", "-- turns", "threads turns", "turn", "turnss", "TURNS", "help", "-h", "--help", "--turns", "-", "--"]
@@ -204,9 +231,9 @@ def gives_usage(program, words):
 def main(program):
     modes = ("turns", "threads")
     with concurrent.futures.ThreadPoolExecutor(os.cpu_count()) as pool:
-        waiting = [pool.submit(is_faulty, program, script, mode, text) for script, text in FAULTY for mode in modes if "turn " not in script or mode == "turns"]
+        waiting = [pool.submit(is_faulty, program, script, mode, text) for script, text in FAULTY for mode in modes if mode == "turns" or not script.startswith(("turn ", "reopen"))]
         waiting += [pool.submit(is_taken, program, script, mode) for script in TAKEN for mode in modes]
-        waiting.append(pool.submit(is_faulty, program, "1 open 1\nturn 1", "threads", "line 2: turn in threads mode"))
+        waiting += [pool.submit(is_faulty, program, script, "threads", text) for script, text in TURNS_ONLY.items()]
         waiting += [pool.submit(gives_usage, program, words) for words in WORDS]
         failed = sum(not it.result() for it in waiting)
     print(f"faults: {len(FAULTY)} scripts with a fault and {len(TAKEN)} without, {len(WORDS)} wrong words, {failed} runs were wrong")

@@ -24,6 +24,7 @@ SCRIPTS = [
     ("threads", "examples/transfer"),
     ("turns", "tests/completing/any_completion_is_collected"),
     ("turns", "tests/shut/what_stands_after_a_shut_is_late"),
+    ("turns", "tests/reopening/what_was_prepared_is_listed"),
     ("turns", "tests/commitall/a_transfer_over_three_managers_commits"),
 ]
 

@@ -1,12 +1,17 @@
 -- The members of a crew, by what each was given and what it came to.
-use Rattle.std.proofs.Common.{◌≡◌, zero, suc, List, [], ◌∷◌, length, map, refl, arith}
+use Rattle.std.proofs.Common.{◌≡◌, zero, suc, List, [], ◌∷◌, length, map, refl, sym, subst, arith}
 use Rattle.std.specs.Prelude.{All}
 use Rattle.xa_desk.specs.DeskView.{DeskView}
 use Rattle.xa_desk.specs.GoesOn.{GoesOn}
+use Rattle.xa_desk.specs.Ended.{EndedView}
+use Rattle.xa_worker.specs.Workers.{WorkerView}
+use Rattle.xa_worker.specs.Done.{Served}
+use Rattle.xa_switch.specs.Plans.{Setup, IsWithinLimits}
+use Rattle.xa_switch.specs.Openings.{AreOfOneOpening}
 use Rattle.xa_crew.specs.declared.client_job.ClientJob.{ClientJob}
 use Rattle.xa_crew.specs.declared.client_job.Worked.{Worked}
 use Rattle.xa_base.specs.Lists.{Pairwise}
-use Rattle.xa_crew.specs.Pieces.{HasGone}
+use Rattle.xa_crew.specs.Pieces.{HasGone, HasServed, ArePiecesOf}
 use Rattle.xa_crew.specs.Run.{Member, member_of, HasRun}
 use Rattle.xa_base.proofs.Lists.{tail_side, side_of, side_to}
 
@@ -49,3 +54,18 @@ module _ {C : Type 0} (works : C → DeskView → C → DeskView → Type 0) whe
             let r = all.each k a w at at' in
             record { last = r.ends.emptied; goes_on = further a.desk r.left r.ends.emptied r.goes_on r.ends.goes_on; ends = r.ends.ends };
       }))
+
+  -- these are all pieces of the opening
+  pub pieces_are : ((old mid new : DeskView) → GoesOn old mid → GoesOn mid new → GoesOn old new) → (p : Setup) (desks : List DeskView) (workers : List WorkerView) → IsWithinLimits p.numbers p.managers → AreOfOneOpening p desks workers
+      → (gs : List (ClientJob C)) (ws : List (Worked C)) → Pairwise Ran gs ws → map (λ a. a.desk) gs ≡ desks → (ended : List EndedView) → ended ≡ map (λ w. w.desk) ws
+      → {J : Type 0} (worker_of : J → WorkerView) (jobs : List J) (done : List Served) → Pairwise (λ j d. HasServed (worker_of j) d) jobs done → map worker_of jobs ≡ workers → ArePiecesOf p ended done
+  pieces_are further p desks workers limits opened gs ws ran desks_are ended ended_are worker_of jobs done served workers_are = record {
+    desks = desks;
+    workers = workers;
+    limits = limits;
+    opened = opened;
+    gone =
+        subst (λ (ds : List DeskView). Pairwise HasGone ds ended) desks_are
+        (subst (λ (es : List EndedView). Pairwise HasGone (map (λ (a : ClientJob C). a.desk) gs) es) (sym ended_are) (all_gone further gs ws ran));
+    served = subst (λ (ws : List WorkerView). Pairwise HasServed ws done) workers_are (side_of HasServed worker_of jobs done served);
+  }

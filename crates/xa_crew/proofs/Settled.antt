@@ -13,8 +13,7 @@ use Rattle.xa_desk.specs.GoesOn.{GoesOut}
 use Rattle.xa_desk.specs.Lanes.{new_ledgers}
 use Rattle.xa_worker.specs.Workers.{WorkerView}
 use Rattle.xa_worker.specs.Done.{Served}
-use Rattle.xa_switch.specs.declared.plan.Plan.{Plan}
-use Rattle.xa_switch.specs.Plans.{planned, use_async}
+use Rattle.xa_switch.specs.Plans.{Setup}
 use Rattle.xa_switch.specs.Openings.{IsNewDesk, IsNewWorker}
 use Rattle.xa_switch.specs.Seats.{DeskSeat, WorkerSeat, ComeFromOpenings, seat_of_desk, seat_of_ended, seat_of_worker, seat_of_done, desk_seats, worker_seats, desk_opening, worker_opening, first_opening, AreOfOne, AreAll, HasDesks, HasWorkers, has_desk, has_worker}
 use Rattle.xa_crew.specs.Pieces.{HasGone, HasServed, ArePiecesOf}
@@ -36,7 +35,7 @@ module _ (out : GoOut) where
       let after = length-map is.last.ledgers in
       same ∙ sym (after _) ∙ plan ∙ before _
 
-module _ (out : GoOut) (p : Plan) (ended : List EndedView) (done : List Served) (r : ArePiecesOf p ended done) where
+module _ (out : GoOut) (p : Setup) (ended : List EndedView) (done : List Served) (r : ArePiecesOf p ended done) where
   -- their seats are those of the opening
   pub same_desks : desk_seats ended ≡ map seat_of_desk r.desks
   same_desks = map_alike HasGone seat_of_desk seat_of_ended (gone_seat out) r.desks ended r.gone
@@ -56,14 +55,14 @@ module _ (out : GoOut) (p : Plan) (ended : List EndedView) (done : List Served) 
       (subst (λ (ws : List WorkerSeat). ComeFromOpenings (map seat_of_desk r.desks) ws) (sym same_workers) come)
 
   -- the opened desk of an ended one, and the opened worker of one that has run
-  desk_of : (k : ℕ) (e : EndedView) → slice_get ended k ≡ Some e → (d : DeskView) × IsNewDesk (planned p) k d × HasGone d e
+  desk_of : (k : ℕ) (e : EndedView) → slice_get ended k ≡ Some e → (d : DeskView) × IsNewDesk p k d × HasGone d e
   desk_of k e at =
       let within = slice_get_within ended k e at in
       let many = r.gone.as_many in
       let d = got r.desks k (omega (arith, within, many)) in
       (d.0, r.opened.desks k d.0 d.1, r.gone.each k d.0 e d.1 at)
 
-  worker_of : (k : ℕ) (d : Served) → slice_get done k ≡ Some d → (w : WorkerView) × IsNewWorker (planned p) k w × HasServed w d
+  worker_of : (k : ℕ) (d : Served) → slice_get done k ≡ Some d → (w : WorkerView) × IsNewWorker p k w × HasServed w d
   worker_of k d at =
       let within = slice_get_within done k d at in
       let many = r.served.as_many in
@@ -76,32 +75,32 @@ module _ (out : GoOut) (p : Plan) (ended : List EndedView) (done : List Served) 
   done_number : (k : ℕ) (d : Served) → slice_get done k ≡ Some d → d.number ≡ k + 1
   done_number k d at = let w = worker_of k d at in w.2.same.number ∙ ap (λ (x : WorkerView). x.number) w.1.made
 
-  ended_opening : (k : ℕ) (e : EndedView) → slice_get ended k ≡ Some e → desk_opening e ≡ p.opening
+  ended_opening : (k : ℕ) (e : EndedView) → slice_get ended k ≡ Some e → desk_opening e ≡ p.numbers.opening
   ended_opening k e at =
       let d = desk_of k e at in
       ap (λ (x : DeskSeat). x.lane.opening) (gone_seat out d.0 e d.2) ∙ (λ i. (d.1.completions i).lane.opening)
 
-  done_opening : (k : ℕ) (d : Served) → slice_get done k ≡ Some d → worker_opening d ≡ p.opening
+  done_opening : (k : ℕ) (d : Served) → slice_get done k ≡ Some d → worker_opening d ≡ p.numbers.opening
   done_opening k d at =
       let w = worker_of k d at in
       ap (λ (x : WorkerSeat). x.lane.opening) w.2.seat ∙ (λ i. (w.1.requests i).lane.opening)
 
-  many_ended : length ended ≡ p.threads
+  many_ended : length ended ≡ p.numbers.threads
   many_ended = r.gone.as_many ∙ r.opened.threads
 
-  many_done : length done ≡ length p.managers.items
+  many_done : length done ≡ p.managers
   many_done = r.served.as_many ∙ r.opened.managers
 
   some_ended : 0 < length ended
-  some_ended = let low = r.sound.limits.threads.0 in let many = many_ended in omega (arith, low, many)
+  some_ended = let low = r.limits.threads.0 in let many = many_ended in omega (arith, low, many)
 
   some_done : 0 < length done
-  some_done = let low = r.sound.limits.managers.0 in let many = many_done in omega (arith, low, many)
+  some_done = let low = r.limits.managers.0 in let many = many_done in omega (arith, low, many)
 
   -- all of one opening
   pub of_one_opening : AreOfOne ended done
   of_one_opening =
-      let first = first_is ended done p.opening some_ended ended_opening in (
+      let first = first_is ended done p.numbers.opening some_ended ended_opening in (
         all_from (λ d. desk_opening d ≡ first_opening ended done) ended (λ k e at. ended_opening k e at ∙ sym first),
         all_from (λ w. worker_opening w ≡ first_opening ended done) done (λ k d at. done_opening k d at ∙ sym first),
       )
@@ -122,13 +121,13 @@ module _ (out : GoOut) (p : Plan) (ended : List EndedView) (done : List Served) 
       let number = done_number (m - 1) d.0 d.1 in
       any_at (λ (w : Served). w.number == m) done (m - 1) d.0 d.1 (eq-eqb d.0.number m (omega (arith, number, low)))
 
-  ended_ledgers : (k : ℕ) (e : EndedView) → slice_get ended k ≡ Some e → length e.ledgers ≡ length p.managers.items
+  ended_ledgers : (k : ℕ) (e : EndedView) → slice_get ended k ≡ Some e → length e.ledgers ≡ p.managers
   ended_ledgers k e at =
       let d = desk_of k e at in
-      let ledgers : d.0.ledgers ≡ new_ledgers p.requests (use_async p.managers.items) = ap (λ (x : DeskView). x.ledgers) d.1.made in
-      gone_ledgers out d.0 e d.2 ∙ ap (λ l. length l) ledgers ∙ length-map (use_async p.managers.items) _ ∙ length-map p.managers.items _
+      let ledgers : d.0.ledgers ≡ new_ledgers p.numbers.requests p.use_async = ap (λ (x : DeskView). x.ledgers) d.1.made in
+      gone_ledgers out d.0 e d.2 ∙ ap (λ l. length l) ledgers ∙ length-map p.use_async _ ∙ r.opened.flags
 
-  done_threads : (k : ℕ) (d : Served) → slice_get done k ≡ Some d → d.manager.threads ≡ p.threads
+  done_threads : (k : ℕ) (d : Served) → slice_get done k ≡ Some d → d.manager.threads ≡ p.numbers.threads
   done_threads k d at = let w = worker_of k d at in w.2.same.threads ∙ ap (λ (x : WorkerView). x.manager.threads) w.1.made
 
   -- all of them

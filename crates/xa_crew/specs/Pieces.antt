@@ -5,8 +5,7 @@ use Rattle.xa_desk.specs.Ended.{EndedView, Ends}
 use Rattle.xa_desk.specs.GoesOn.{GoesOn}
 use Rattle.xa_worker.specs.Workers.{WorkerView}
 use Rattle.xa_worker.specs.Done.{Served, IsServed, SameServed}
-use Rattle.xa_switch.specs.declared.plan.Plan.{Plan}
-use Rattle.xa_switch.specs.Plans.{IsSound, planned}
+use Rattle.xa_switch.specs.Plans.{Setup, IsWithinLimits}
 use Rattle.xa_switch.specs.Openings.{AreOfOneOpening}
 use Rattle.xa_switch.specs.Seats.{seat_of_worker, seat_of_done}
 use Rattle.xa_base.specs.Lists.{Pairwise}
@@ -23,12 +22,12 @@ pub record HasServed (w : WorkerView) (d : Served) : Type 0 where
   pub served : IsServed d
   pub seat : seat_of_done d ≡ seat_of_worker w
 
--- These are all desks and all workers of one opening of the plan, by rising number: the desks have ended, and the
--- workers have run.
-pub record ArePiecesOf (p : Plan) (ended : List EndedView) (done : List Served) : Type 0 where
+-- These are all desks and all workers of one opening that was made with this, by rising number: the desks have ended, and
+-- the workers have run.
+pub record ArePiecesOf (p : Setup) (ended : List EndedView) (done : List Served) : Type 0 where
   pub desks : List DeskView
   pub workers : List WorkerView
-  pub sound : IsSound p
-  pub opened : AreOfOneOpening (planned p) desks workers
+  pub limits : IsWithinLimits p.numbers p.managers
+  pub opened : AreOfOneOpening p desks workers
   pub gone : Pairwise HasGone desks ended
   pub served : Pairwise HasServed workers done

@@ -76,7 +76,7 @@ fn run_opened<
     let (worked, done) = do_all(rt, alloc, client_jobs, worker_jobs)?;
     let (clients, desks) = apart(alloc, worked)?;
     desks_go_on();
-    let settled = settle_all(rt, alloc, plan, desks, done)?;
+    let settled = settle_all(rt, alloc, desks, done)?;
     Ok(Run { clients, settled })
 }
 

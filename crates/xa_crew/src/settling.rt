@@ -1,7 +1,8 @@
 //! How an opening is settled whose desks have all ended and whose workers have all run.
 ghost use Rattle.std.specs.Prelude.{◌≡◌, IfOk};
 ghost use Rattle.xa_switch.specs.Closing.{settling};
-ghost use Rattle.xa_switch.specs.OfPlans.{IsOfPlan};
+ghost use Rattle.xa_switch.specs.OfPlans.{IsOf};
+ghost use Rattle.xa_switch.specs.Plans.{Setup};
 ghost use Rattle.xa_switch.specs.Settling.{IsSettled};
 ghost use Rattle.xa_crew.specs.Pieces.{ArePiecesOf};
 
@@ -10,22 +11,21 @@ use std::sync::Wait;
 use xa_desk::EndedDesk;
 use xa_desk::laws::desks_go_out;
 use xa_switch::laws::{opened_pieces_come_from_their_opening, settled_openings_are_of_their_setup};
-use xa_switch::{Plan, Settled, Why, settle};
+use xa_switch::{Settled, Why, settle};
 use xa_worker::DoneWorker;
 
-/// Settles the opening of the plan whose desks and workers these are, all of them by rising number. It fails
-/// only for want of memory, and what was run is lost then.
+/// Settles the opening whose desks and workers these are, all of them by rising number: one of a plan, or one that was
+/// opened again. It fails only for want of memory, and what was run is lost then.
 pub fn settle_all<R: Wait>(
     rt: &R,
     alloc: Global,
-    plan: &Plan,
     desks: Vec<EndedDesk>,
     workers: Vec<DoneWorker>,
 ) -> Result<Settled, AllocError>
-    requires { ArePiecesOf plan.now desks.items workers.items }
+    requires { (p : Setup) × ArePiecesOf p desks.items workers.items }
     ensures settled { IfOk result (λ s. IsSettled s) }
     ensures pieces { IfOk result (λ s. s ≡ settling desks.items workers.items) }
-    ensures of_plan { IfOk result (λ s. IsOfPlan plan.now s) }
+    ensures of { IfOk result (λ s. (p : Setup) → ArePiecesOf p desks.items workers.items → IsOf p s) }
 {
     opened_pieces_come_from_their_opening();
     settled_openings_are_of_their_setup();

@@ -4,3 +4,4 @@ pub mod Lines
 pub mod Bytes
 pub mod CommitLemmas
 pub mod ScriptLemmas
+pub mod OneOpening

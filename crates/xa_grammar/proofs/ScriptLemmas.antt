@@ -1,5 +1,5 @@
--- A line that the grammar reads leaves a script: each manager can be opened with its keys, and each step is of a thread or a manager that there is.
-use Rattle.std.specs.Prelude.{◌≡◌, ℕ, zero, suc, ◌-◌, ◌<◌, ◌≤◌, Bool, true, false, not, cond, ◌&&◌, ◌||◌, ◌==◌, nat_le, nat_lt, if◌then◌else◌, List, [], ◌∷◌, ◌++◌, length, map, filter, Option, None, Some, unwrap_or, get_or, slice_set, IfSome, All, Result, Ok, Err, codes, refl}
+-- A line that the grammar reads leaves a script: each manager can be opened with its keys, each step is of a thread or a manager that there is, and no task asks for more than 64 xids.
+use Rattle.std.specs.Prelude.{◌≡◌, ℕ, pos, zero, suc, ◌-◌, ◌<◌, ◌≤◌, Bool, true, false, not, cond, ◌&&◌, ◌||◌, ◌==◌, nat_le, nat_lt, if◌then◌else◌, List, [], ◌∷◌, ◌++◌, length, map, filter, Option, None, Some, unwrap_or, get_or, slice_set, IfSome, All, Result, Ok, Err, codes, refl}
 use Rattle.std.proofs.Common.{sym, ap, ◌∙◌, subst, arith}
 use Rattle.std.specs.List.{list_all, list_any, slice_index_or}
 use Rattle.std.specs.Option.{ok_or}
@@ -12,11 +12,14 @@ use Rattle.std.proofs.lemmas.List.Elements.{All-append, filter-append, All-cons,
 use Rattle.std.proofs.lemmas.List.Folds.{list_any-append, list_all-append}
 use Rattle.std.proofs.lemmas.List.Sums.{length-filter}
 use Rattle.xa_words.specs.Key.{key_eq}
+use Rattle.xa_words.specs.declared.request.RmOp.TheVariants as rm
 use Rattle.xa_words.specs.Orders.{Decides-key_eq}
 use Rattle.xa_tables.specs.Accounts.{are_accounts, are_apart}
 use Rattle.xa_grammar.specs.declared.fault.Reason.{Reason}
 use Rattle.xa_grammar.specs.declared.fault.Reason.TheVariants.{KeyTwice, TooManyKeys, OutOfRange, BadNumber, UnknownWord, TooManyLines, LineTooLong, BadByte}
 use Rattle.xa_grammar.specs.declared.script.Declared.{Declared}
+use Rattle.xa_grammar.specs.declared.script.Action.{Action}
+use Rattle.xa_grammar.specs.declared.script.Action.TheVariants as action
 use Rattle.xa_grammar.specs.declared.script.Called.{Called}
 use Rattle.xa_grammar.specs.declared.script.CommitAll.{CommitAll}
 use Rattle.xa_grammar.specs.declared.script.Task.{Task}
@@ -25,29 +28,31 @@ use Rattle.xa_grammar.specs.declared.script.Step.{Step}
 use Rattle.xa_grammar.specs.declared.script.Step.TheVariants as step
 use Rattle.xa_grammar.specs.declared.script.Count.{Count}
 use Rattle.xa_grammar.specs.declared.script.Count.TheVariants.{Threads, Managers, Handles, Queue, Requests}
+use Rattle.xa_grammar.specs.declared.action.Verb.{Verb}
+use Rattle.xa_grammar.specs.declared.action.Verb.TheVariants as verb
 use Rattle.xa_grammar.specs.declared.line.Head.{Head}
 use Rattle.xa_grammar.specs.declared.line.Head.TheVariants as head
 use Rattle.xa_grammar.specs.declared.line.Item.{Item}
 use Rattle.xa_grammar.specs.declared.line.Item.TheVariants as item
 use Rattle.xa_grammar.specs.Text.{is_script_byte, words_of}
-use Rattle.xa_grammar.specs.Fields.{◌>>=◌, Word, word_at, end_of, number_of, number_in, number_at, key_at, tran_at, flags_onto}
+use Rattle.xa_grammar.specs.Fields.{◌>>=◌, Word, word_at, end_of, number_of, number_in, number_at, key_at, xid_at, delta_at, tran_at, flags_onto}
 use Rattle.xa_base.specs.Lists.{IsUpTo}
-use Rattle.xa_grammar.specs.Content.{Content, IsScript, IsOfManager, IsOfLog, IsOfScript, threads_of, managers_of, accounts_of, failing_append, thread_of, with_count, with_key, with_sync, with_failing, with_step}
+use Rattle.xa_grammar.specs.Content.{Content, IsScript, IsOfManager, IsOfLog, IsOfScript, AsksForFew, HasFewXids, threads_of, managers_of, accounts_of, failing_append, thread_of, with_count, with_key, with_sync, with_failing, with_step}
 use Rattle.xa_grammar.specs.Settings.{before_actions, count_of, not_set, limit_of, setting_of, sync_of, logfail_of, has_key, key_count, declared_of}
 use Rattle.xa_grammar.specs.Commits.{branches_at, commit_of}
-use Rattle.xa_grammar.specs.Actions.{verb_of, action_at, called_of, call_task, commit_task, task_by, task_of_line, turn_of}
+use Rattle.xa_grammar.specs.Actions.{verb_of, action_at, called_of, call_task, commit_task, task_by, task_of_line, turn_of, reopen_of}
 use Rattle.xa_grammar.specs.Grammar.{head_of, item_by, item_of, line_of, with_item}
 
 -- ---- reading without a fault
 
-and_then : {A B : Type 0} (r : Result A Reason) (f : A → Result B Reason) (y : B) → (r >>= f) ≡ Ok y → (x : A) × ((r ≡ Ok x) × (f x ≡ Ok y))
+pub and_then : {A B : Type 0} (r : Result A Reason) (f : A → Result B Reason) (y : B) → (r >>= f) ≡ Ok y → (x : A) × ((r ≡ Ok x) × (f x ≡ Ok y))
 and_then (Ok x) f y e = (x, (refl, e))
 and_then (Err why) f y e = let never : ⊥ = cc in absurd never
 
-ok_is : {A : Type 0} (x y : A) → ◌≡◌ {A = Result A Reason} (Ok x) (Ok y) → x ≡ y
+pub ok_is : {A : Type 0} (x y : A) → ◌≡◌ {A = Result A Reason} (Ok x) (Ok y) → x ≡ y
 ok_is x y e = cc
 
-not_then : {A : Type 0} (b : Bool) (why : Reason) (r : Result A Reason) (y : A) → (if b then Err why else r) ≡ Ok y → (b ≡ false) × (r ≡ Ok y)
+pub not_then : {A : Type 0} (b : Bool) (why : Reason) (r : Result A Reason) (y : A) → (if b then Err why else r) ≡ Ok y → (b ≡ false) × (r ≡ Ok y)
 not_then true why r y e = let never : ⊥ = cc in absurd never
 not_then false why r y e = (refl, e)
 
@@ -317,9 +322,25 @@ declared_kept s ws d e =
     subst (λ (z : Declared). IsScript s → IsScript (with_key z s)) same
     (key_kept s made (number_is 1 (managers_of s) ws m.0 m.1.0) new.0 (grind (arith, few.0)) (number_is 0 1000000000000 k.0.1 v.0 v.1.0).1)
 
-thread_of_call : (line t : ℕ) (w : Word) (ws : List Word) (p : Task) → call_task line t w ws ≡ Ok p → thread_of p ≡ t
+asked : (a : Action) (rest : List Word) (x : Action × List Word) → ◌≡◌ {A = Result (Action × List Word) Reason} (Ok (a, rest)) (Ok x) → AsksForFew a → AsksForFew x.0
+asked a rest x e few = subst (λ (y : Action × List Word). AsksForFew y.0) (ok_is (a, rest) x e) few
+
+few_asked : (v : Verb) (ws : List Word) (x : Action × List Word) → action_at v ws ≡ Ok x → AsksForFew x.0
+unfolding action_at
+few_asked (verb.Plain c) ws x e = asked (action.Xa c None) ws x e tt
+few_asked (verb.OnBranch c) ws x e = let b = and_then (xid_at ws) _ x e in asked (action.Xa c (Some b.0.0)) b.0.1 x b.1.1 tt
+few_asked (verb.Heur commits) ws x e = let b = and_then (xid_at ws) _ x e in asked (action.Native (rm.Heur b.0.0 commits)) b.0.1 x b.1.1 tt
+few_asked verb.Add ws x e =
+    let k = and_then (key_at ws) _ x e in
+    let d = and_then (delta_at k.0.1) _ x k.1.1 in
+    asked (action.Native (rm.Add k.0.0 d.0.0)) d.0.1 x d.1.1 tt
+few_asked verb.Shut ws x e = asked (action.Native rm.Shut) ws x e tt
+few_asked verb.Complete ws x e = let h = and_then (number_at 0 2147483647 ws) _ x e in asked (action.Complete (pos h.0.0)) h.0.1 x h.1.1 tt
+few_asked verb.Recover ws x e = let c = and_then (number_at 0 64 ws) _ x e in asked (action.Recover c.0.0) c.0.1 x c.1.1 (number_is 0 64 ws c.0 c.1.0).1
+
+call_is : (line t : ℕ) (w : Word) (ws : List Word) (p : Task) → call_task line t w ws ≡ Ok p → (thread_of p ≡ t) × HasFewXids p
 unfolding call_task called_of
-thread_of_call line t w ws p e =
+call_is line t w ws p e =
     let v = and_then (ok_or (verb_of w) UnknownWord) _ p e in
     let c = and_then (called_of line t v.0 ws) _ p v.1.1 in
     let m = and_then (number_at 0 4294967295 ws) _ c.0 c.1.0 in
@@ -328,24 +349,26 @@ thread_of_call line t w ws p e =
     let made : Called = record { line = line; thread = t; manager = m.0.0; action = a.0.0; flags = f.0 } in
     let same : made ≡ c.0 = ok_is made c.0 f.1.1 in
     let is : task.Call c.0 ≡ p = ok_is (task.Call c.0) p c.1.1 in
-    sym (ap (λ (z : Called). z.thread) {x = made} {y = c.0} same ∙ ap thread_of is)
+    let whole : task.Call made ≡ p = ap task.Call same ∙ is in
+    subst (λ (q : Task). (thread_of q ≡ t) × HasFewXids q) whole (refl, few_asked v.0 m.0.1 a.0 a.1.0)
 
-thread_of_commit : (s : Content) (line t : ℕ) (ws : List Word) (p : Task) → commit_task s line t ws ≡ Ok p → thread_of p ≡ t
+commit_is : (s : Content) (line t : ℕ) (ws : List Word) (p : Task) → commit_task s line t ws ≡ Ok p → (thread_of p ≡ t) × HasFewXids p
 unfolding commit_task commit_of
-thread_of_commit s line t ws p e =
+commit_is s line t ws p e =
     let c = and_then (commit_of s line t ws) _ p e in
     let g = and_then (tran_at ws) _ c.0 c.1.0 in
     let at = and_then (branches_at (managers_of s) g.0.1) _ c.0 g.1.1 in
     let made : CommitAll = record { line = line; thread = t; tran = g.0.0; managers = at.0 } in
     let same : made ≡ c.0 = ok_is made c.0 at.1.1 in
     let is : task.CommitAll c.0 ≡ p = ok_is (task.CommitAll c.0) p c.1.1 in
-    sym (ap (λ (z : CommitAll). z.thread) {x = made} {y = c.0} same ∙ ap thread_of is)
+    let whole : task.CommitAll made ≡ p = ap task.CommitAll same ∙ is in
+    subst (λ (q : Task). (thread_of q ≡ t) × HasFewXids q) whole (refl, tt)
 
-of_thread : (s : Content) (line t : ℕ) (w : Word) (ws : List Word) (p : Task) → task_by s line t w ws ≡ Ok p → thread_of p ≡ t
-of_thread s line t w ws p =
-    elim (bytes_eq w (codes "commitall")) as (λ b. (if b then commit_task s line t ws else call_task line t w ws) ≡ Ok p → thread_of p ≡ t) [
-      | true ↦ thread_of_commit s line t ws p
-      | false ↦ thread_of_call line t w ws p
+task_by_is : (s : Content) (line t : ℕ) (w : Word) (ws : List Word) (p : Task) → task_by s line t w ws ≡ Ok p → (thread_of p ≡ t) × HasFewXids p
+task_by_is s line t w ws p =
+    elim (bytes_eq w (codes "commitall")) as (λ b. (if b then commit_task s line t ws else call_task line t w ws) ≡ Ok p → (thread_of p ≡ t) × HasFewXids p) [
+      | true ↦ commit_is s line t ws p
+      | false ↦ call_is line t w ws p
     ]
 
 task_is : (s : Content) (line : ℕ) (w : Word) (ws : List Word) (p : Task) → task_of_line s line w ws ≡ Ok p → IsOfScript s (step.Task p)
@@ -353,7 +376,8 @@ unfolding task_of_line
 task_is s line w ws p e =
     let t = and_then (number_in 1 (threads_of s) w) _ p e in
     let v = and_then (word_at ws) _ p t.1.1 in
-    subst (IsUpTo (threads_of s)) (sym (of_thread s line t.0 v.0.0 v.0.1 p v.1.1)) (in_range 1 (threads_of s) w t.0 t.1.0)
+    let by = task_by_is s line t.0 v.0.0 v.0.1 p v.1.1 in
+    (subst (IsUpTo (threads_of s)) (sym by.0) (in_range 1 (threads_of s) w t.0 t.1.0), by.1)
 
 turn_is : (mode : Bool) (s : Content) (line : ℕ) (ws : List Word) (m : ℕ) → turn_of mode s ws ≡ Ok m → IsOfScript s (step.Turn line m)
 unfolding turn_of
@@ -388,6 +412,10 @@ item_by_kept (Some head.Turn) mode s n w ws i e is =
     let m = and_then (turn_of mode s ws) (λ m. Ok (item.Step (step.Turn n m))) i e in
     let same : item.Step (step.Turn n m.0) ≡ i = ok_is (item.Step (step.Turn n m.0)) i m.1.1 in
     subst (λ (z : Item). IsScript (with_item z s)) same (step_kept s (step.Turn n m.0) (turn_is mode s n ws m.0 m.1.0) is)
+item_by_kept (Some head.Reopen) mode s n w ws i e is =
+    let last = and_then (reopen_of mode ws) (λ last. Ok (item.Step (step.Reopen n))) i e in
+    let same : item.Step (step.Reopen n) ≡ i = ok_is (item.Step (step.Reopen n)) i last.1.1 in
+    subst (λ (z : Item). IsScript (with_item z s)) same (step_kept s (step.Reopen n) tt is)
 item_by_kept (Some head.Thread) mode s n w ws i e is =
     let p = and_then (task_of_line s n w ws) (λ p. Ok (item.Step (step.Task p))) i e in
     let same : item.Step (step.Task p.0) ≡ i = ok_is (item.Step (step.Task p.0)) i p.1.1 in

@@ -5,7 +5,7 @@ use Rattle.std.specs.Str.{bytes_eq}
 use Rattle.xa_words.specs.declared.flags.Call.TheVariants as call
 use Rattle.xa_words.specs.declared.request.RmOp.TheVariants as rm
 use Rattle.xa_grammar.specs.declared.fault.Reason.{Reason}
-use Rattle.xa_grammar.specs.declared.fault.Reason.TheVariants.{UnknownWord, TurnInThreadsMode}
+use Rattle.xa_grammar.specs.declared.fault.Reason.TheVariants.{UnknownWord, TurnInThreadsMode, ReopenInThreadsMode}
 use Rattle.xa_grammar.specs.declared.script.Action.{Action}
 use Rattle.xa_grammar.specs.declared.script.Action.TheVariants as action
 use Rattle.xa_grammar.specs.declared.script.Called.{Called}
@@ -13,14 +13,14 @@ use Rattle.xa_grammar.specs.declared.script.Task.{Task}
 use Rattle.xa_grammar.specs.declared.script.Task.TheVariants as task
 use Rattle.xa_grammar.specs.declared.action.Verb.{Verb}
 use Rattle.xa_grammar.specs.declared.action.Verb.TheVariants as verb
-use Rattle.xa_grammar.specs.declared.action.TheConstants.{MOST_HANDLE}
+use Rattle.xa_grammar.specs.declared.action.TheConstants.{MOST_HANDLE, MOST_COUNT}
 use Rattle.xa_grammar.specs.declared.commit.TheConstants.{MOST_MANAGER}
 use Rattle.xa_grammar.specs.Fields.{◌>>=◌, Word, word_at, end_of, number_in, number_at, key_at, xid_at, delta_at}
 use Rattle.xa_grammar.specs.Fields.{flags_onto}
 use Rattle.xa_grammar.specs.Content.{Content, threads_of, managers_of}
 use Rattle.xa_grammar.specs.Commits.{commit_of}
 
--- What T calls is one of thirteen verbs.
+-- What T calls is one of fourteen verbs.
 abbrev pub verb_of : Word → Option Verb
 verb_of w =
     if bytes_eq w (codes "open") then Some (verb.Plain call.OpenRm)
@@ -36,9 +36,10 @@ verb_of w =
     else if bytes_eq w (codes "add") then Some verb.Add
     else if bytes_eq w (codes "shut") then Some verb.Shut
     else if bytes_eq w (codes "complete") then Some verb.Complete
+    else if bytes_eq w (codes "recover") then Some verb.Recover
     else None
 
--- The words between M and the flags: none, XID, KEY DELTA, or HANDLE.
+-- The words between M and the flags: none, XID, KEY DELTA, HANDLE, or COUNT, which is at most 64.
 unfoldable pub action_at : Verb → List Word → Result (Action × List Word) Reason
 action_at (verb.Plain c) ws = Ok (action.Xa c None, ws)
 action_at (verb.OnBranch c) ws = do
@@ -55,6 +56,9 @@ action_at verb.Shut ws = Ok (action.Native rm.Shut, ws)
 action_at verb.Complete ws = do
   h ← number_at 0 MOST_HANDLE ws
   Ok (action.Complete (pos h.0), h.1)
+action_at verb.Recover ws = do
+  c ← number_at 0 MOST_COUNT ws
+  Ok (action.Recover c.0, c.1)
 
 -- M .. flags, by a thread, on the line of this number; M is any number up to 4,294,967,295.
 unfoldable pub called_of : ℕ → ℕ → Verb → List Word → Result Called Reason
@@ -96,3 +100,7 @@ turn_of threads_mode s ws =
       m ← number_at 1 (managers_of s) ws
       last ← end_of m.1
       Ok m.0
+
+-- reopen, where threads take turns, with nothing after it.
+unfoldable pub reopen_of : Bool → List Word → Result (Unit {0}) Reason
+reopen_of threads_mode ws = if threads_mode then Err ReopenInThreadsMode else end_of ws

@@ -1,18 +1,21 @@
 -- A script as contracts see it: its settings, the keys that it declares and the steps of its threads, in the order of
 -- its lines.
-use Rattle.std.specs.Prelude.{◌≡◌, ℕ, ◌≤◌, ◌-◌, ◌==◌, nat_lt, Bool, not, true, if◌then◌else◌, All, IfSome, Option, Some}
+use Rattle.std.specs.Prelude.{◌≡◌, ℕ, ◌≤◌, ◌-◌, ◌==◌, nat_lt, Bool, not, true, false, if◌then◌else◌, All, IfSome, Option, Some}
 use Rattle.std.specs.Prelude.{None, unwrap_or, List, [], ◌∷◌, ◌++◌, map, filter, filter_map, get_or, slice_set}
 use Rattle.std.specs.Prelude.{replicate}
 use Rattle.std.specs.List.{list_any}
 use Rattle.xa_base.specs.declared.limits.TheConstants.{MOST_HANDLES, MOST_MANAGERS, MOST_QUEUED, MOST_REQUESTS}
 use Rattle.xa_base.specs.declared.limits.TheConstants.{MOST_THREADS}
 use Rattle.xa_grammar.specs.declared.setting.TheConstants.{MOST_APPENDS}
+use Rattle.xa_grammar.specs.declared.action.TheConstants.{MOST_COUNT}
 use Rattle.xa_base.specs.Lists.{IsUpTo}
 use Rattle.xa_tables.specs.Accounts.{are_accounts}
 use Rattle.xa_grammar.specs.declared.script.Count.{Count}
 use Rattle.xa_grammar.specs.declared.script.Count.TheVariants.{Threads, Managers, Handles, Queue, Requests}
 use Rattle.xa_grammar.specs.declared.script.Settings.{Settings}
 use Rattle.xa_grammar.specs.declared.script.Declared.{Declared}
+use Rattle.xa_grammar.specs.declared.script.Action.{Action}
+use Rattle.xa_grammar.specs.declared.script.Action.TheVariants as action
 use Rattle.xa_grammar.specs.declared.script.Task.{Task}
 use Rattle.xa_grammar.specs.declared.script.Task.TheVariants as task
 use Rattle.xa_grammar.specs.declared.script.Step.{Step}
@@ -69,10 +72,21 @@ thread_of (task.CommitAll c) = c.thread
 abbrev pub task_of : ℕ → Step → Option Task
 task_of t (step.Task p) = if thread_of p == t then Some p else None
 task_of t (step.Turn line m) = None
+task_of t (step.Reopen line) = None
 
 -- The tasks of thread t, in the order of their lines.
 abbrev pub tasks_of : ℕ → List Step → List Task
 tasks_of t steps = filter_map (task_of t) steps
+
+-- The line opens the managers again.
+abbrev pub is_reopen : Step → Bool
+is_reopen (step.Task p) = false
+is_reopen (step.Turn line m) = false
+is_reopen (step.Reopen line) = true
+
+-- These lines are of one opening.
+abbrev pub AreOfOne : List Step → Type 0
+AreOfOne steps = list_any is_reopen steps ≡ false
 
 -- ---- what a line adds to it
 
@@ -120,10 +134,24 @@ with_step p s = record s { steps = s.steps ++ p ∷ [] }
 abbrev pub IsOfManager : Content → Declared → Type 0
 IsOfManager s d = (1 ≤ d.manager) × (d.manager ≤ managers_of s)
 
--- With so many threads and managers, a task is of a thread that there is, and a turn of a manager that there is.
+-- An action asks for at most 64 xids.
+abbrev pub AsksForFew : Action → Type 0
+AsksForFew (action.Xa c x) = Unit {0}
+AsksForFew (action.Native op) = Unit {0}
+AsksForFew (action.Complete h) = Unit {0}
+AsksForFew (action.Recover n) = n ≤ MOST_COUNT
+
+-- So does a task.
+abbrev pub HasFewXids : Task → Type 0
+HasFewXids (task.Call p) = AsksForFew p.action
+HasFewXids (task.CommitAll c) = Unit {0}
+
+-- With so many threads and managers, a task is of a thread that there is and asks for at most 64 xids, and a turn is of
+-- a manager that there is.
 abbrev pub Fits : ℕ → ℕ → Step → Type 0
-Fits threads managers (step.Task p) = IsUpTo threads (thread_of p)
+Fits threads managers (step.Task p) = IsUpTo threads (thread_of p) × HasFewXids p
 Fits threads managers (step.Turn line m) = IsUpTo managers m
+Fits threads managers (step.Reopen line) = Unit {0}
 
 abbrev pub IsOfScript : Content → Step → Type 0
 IsOfScript s p = Fits (threads_of s) (managers_of s) p
@@ -133,8 +161,8 @@ abbrev pub IsOfLog : Content → ℕ → Type 0
 IsOfLog s t = IfSome (failing_append s t) (λ k. IsUpTo MOST_APPENDS k × IsUpTo (threads_of s) t)
 
 -- What holds of every script: its counts are within the limits, each key is of a manager that there is, each manager
--- can be opened with its keys, appends fail in logs that there are, and each step is of a thread or a manager that
--- there is.
+-- can be opened with its keys, appends fail in logs that there are, each task is of a thread that there is and asks for
+-- at most 64 xids, and each turn is of a manager that there is.
 pub record IsScript (s : Content) : Type 0 where
   pub threads : IsUpTo MOST_THREADS (threads_of s)
   pub managers : IsUpTo MOST_MANAGERS (managers_of s)

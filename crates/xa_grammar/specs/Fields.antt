@@ -9,8 +9,8 @@ use Rattle.xa_words.specs.Xid.{XidName}
 use Rattle.xa_words.specs.Tran.{TranName}
 use Rattle.xa_words.specs.Key.{key_of}
 use Rattle.xa_words.specs.Delta.{delta_of}
-use Rattle.xa_words.specs.Flags.{TMASYNC, TMONEPHASE, TMFAIL, TMNOWAIT, TMRESUME, TMSUCCESS, TMSUSPEND, TMMULTIPLE}
-use Rattle.xa_words.specs.Flags.{TMJOIN}
+use Rattle.xa_words.specs.Flags.{TMASYNC, TMONEPHASE, TMFAIL, TMNOWAIT, TMRESUME, TMSUCCESS, TMSUSPEND, TMSTARTRSCAN}
+use Rattle.xa_words.specs.Flags.{TMENDRSCAN, TMMULTIPLE, TMJOIN}
 use Rattle.xa_grammar.specs.Text.{dot, minus}
 use Rattle.xa_grammar.specs.declared.fault.Reason.{Reason}
 use Rattle.xa_grammar.specs.declared.fault.Reason.TheVariants.{UnknownWord, MissingWord, ExtraWord, BadNumber}
@@ -144,6 +144,8 @@ flag_of w =
     else if bytes_eq w (codes "resume") then Some TMRESUME
     else if bytes_eq w (codes "success") then Some TMSUCCESS
     else if bytes_eq w (codes "suspend") then Some TMSUSPEND
+    else if bytes_eq w (codes "startrscan") then Some TMSTARTRSCAN
+    else if bytes_eq w (codes "endrscan") then Some TMENDRSCAN
     else if bytes_eq w (codes "multiple") then Some TMMULTIPLE
     else if bytes_eq w (codes "join") then Some TMJOIN
     else None

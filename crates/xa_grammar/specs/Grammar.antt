@@ -20,7 +20,7 @@ use Rattle.xa_grammar.specs.Fields.{◌>>=◌, Word, all_digits}
 use Rattle.xa_base.specs.Lists.{IsUpTo}
 use Rattle.xa_grammar.specs.Content.{Content, nothing, with_count, with_key, with_sync, with_failing, with_step}
 use Rattle.xa_grammar.specs.Settings.{setting_of, sync_of, logfail_of, declared_of}
-use Rattle.xa_grammar.specs.Actions.{task_of_line, turn_of}
+use Rattle.xa_grammar.specs.Actions.{task_of_line, turn_of, reopen_of}
 
 -- ---- lines
 
@@ -42,6 +42,7 @@ head_of w =
     else if bytes_eq w (codes "logfail") then Some head.LogFail
     else if bytes_eq w (codes "key") then Some head.Key
     else if bytes_eq w (codes "turn") then Some head.Turn
+    else if bytes_eq w (codes "reopen") then Some head.Reopen
     else if all_digits w then Some head.Thread
     else None
 
@@ -64,6 +65,9 @@ item_by (Some head.Key) mode s n w ws = do
 item_by (Some head.Turn) mode s n w ws = do
   m ← turn_of mode s ws
   Ok (item.Step (steps.Turn n m))
+item_by (Some head.Reopen) mode s n w ws = do
+  last ← reopen_of mode ws
+  Ok (item.Step (steps.Reopen n))
 item_by (Some head.Thread) mode s n w ws = do
   p ← task_of_line s n w ws
   Ok (item.Step (steps.Task p))

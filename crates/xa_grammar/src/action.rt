@@ -1,7 +1,7 @@
 //! What a thread is told to do.
 ghost use Rattle.std.specs.Prelude.{◌≡◌};
 ghost use Rattle.xa_grammar.specs.Fields.{Takes};
-ghost use Rattle.xa_grammar.specs.Actions.{verb_of, action_at, called_of, commit_task, call_task, task_by, task_of_line, turn_of};
+ghost use Rattle.xa_grammar.specs.Actions.{verb_of, action_at, called_of, commit_task, call_task, task_by, task_of_line, turn_of, reopen_of};
 
 use crate::commit::{MOST_MANAGER, commit_of};
 use crate::fault::Reason;
@@ -12,6 +12,9 @@ use xa_words::{Call, RmOp};
 
 // A handle is a positive 32-bit number with a sign, or 0, which is none.
 const MOST_HANDLE: u64 = i32::MAX as u64;
+
+// How many xids `xa_recover()` may be asked for.
+const MOST_COUNT: u64 = 64;
 
 /// The verb of a call, by what stands between the manager and the flags.
 #[derive(Clone, Copy, Debug)]
@@ -28,6 +31,8 @@ pub(crate) enum Verb {
     Shut,
     /// `HANDLE`
     Complete,
+    /// `COUNT`
+    Recover,
 }
 
 fn verb_of(word: &[u8]) -> Option<Verb>
@@ -59,6 +64,8 @@ fn verb_of(word: &[u8]) -> Option<Verb>
         Some(Verb::Shut)
     } else if word == b"complete".as_slice() {
         Some(Verb::Complete)
+    } else if word == b"recover".as_slice() {
+        Some(Verb::Recover)
     } else {
         None
     }
@@ -80,6 +87,7 @@ fn action_at(verb: Verb, words: &mut Words) -> Result<Action, Reason>
         }
         Verb::Shut => Ok(Action::Native(RmOp::Shut)),
         Verb::Complete => Ok(Action::Complete(words.number(0, MOST_HANDLE)? as i32)),
+        Verb::Recover => Ok(Action::Recover(words.number(0, MOST_COUNT)? as u32)),
     }
 }
 
@@ -160,4 +168,15 @@ pub(crate) fn turn_of(script: &Script, threads_mode: bool, words: &mut Words) ->
     let manager = words.number(1, u64::from(script.managers()))? as u32;
     words.end()?;
     Ok(manager)
+}
+
+// The words after `reopen`: there are none.
+#[tactic(auto, unfolding(crate::specs::Actions::reopen_of))]
+pub(crate) fn reopen_of(threads_mode: bool, words: &mut Words) -> Result<(), Reason>
+    ensures { result ≡ reopen_of threads_mode words.old }
+{
+    if threads_mode {
+        return Err(Reason::ReopenInThreadsMode);
+    }
+    words.end()
 }

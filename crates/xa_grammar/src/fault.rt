@@ -40,6 +40,8 @@ pub enum Reason {
     BadBranches = 15,
     #[error("turn in threads mode")]
     TurnInThreadsMode = 16,
+    #[error("reopen in threads mode")]
+    ReopenInThreadsMode = 17,
 }
 
 /// Why there is no script.

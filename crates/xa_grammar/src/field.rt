@@ -6,8 +6,8 @@ ghost use Rattle.xa_grammar.specs.Fields.{all_digits, number_of, number_in, is_n
 
 use crate::fault::Reason;
 use xa_words::{
-    Delta, TMASYNC, TMFAIL, TMJOIN, TMMULTIPLE, TMNOWAIT, TMONEPHASE, TMRESUME, TMSUCCESS,
-    TMSUSPEND, Tran, Xid,
+    Delta, TMASYNC, TMENDRSCAN, TMFAIL, TMJOIN, TMMULTIPLE, TMNOWAIT, TMONEPHASE, TMRESUME,
+    TMSTARTRSCAN, TMSUCCESS, TMSUSPEND, Tran, Xid,
 };
 
 pub(crate) fn all_digits(word: &[u8]) -> bool
@@ -140,6 +140,10 @@ pub(crate) fn flag_of(word: &[u8]) -> Option<u32>
         Some(TMSUCCESS)
     } else if word == b"suspend".as_slice() {
         Some(TMSUSPEND)
+    } else if word == b"startrscan".as_slice() {
+        Some(TMSTARTRSCAN)
+    } else if word == b"endrscan".as_slice() {
+        Some(TMENDRSCAN)
     } else if word == b"multiple".as_slice() {
         Some(TMMULTIPLE)
     } else if word == b"join".as_slice() {

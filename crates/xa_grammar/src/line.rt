@@ -5,7 +5,7 @@ ghost use Rattle.xa_grammar.specs.Text.{words_of, is_script_byte, without_return
 ghost use Rattle.xa_grammar.specs.Content.{IsScript};
 ghost use Rattle.xa_grammar.specs.Grammar.{head_of, item_by, item_of, line_of, with_item, HasPlace, after_line, FailsAt};
 
-use crate::action::{task_of_line, turn_of};
+use crate::action::{reopen_of, task_of_line, turn_of};
 use crate::fault::{Reason, ScriptFault};
 use crate::field::all_digits;
 use crate::script::{Count, Declared, Script, Step};
@@ -28,6 +28,7 @@ pub(crate) enum Head {
     LogFail,
     Key,
     Turn,
+    Reopen,
     Thread,
 }
 
@@ -66,6 +67,8 @@ fn head_of(word: &[u8]) -> Option<Head>
         Some(Head::Key)
     } else if word == b"turn".as_slice() {
         Some(Head::Turn)
+    } else if word == b"reopen".as_slice() {
+        Some(Head::Reopen)
     } else if all_digits(word) {
         Some(Head::Thread)
     } else {
@@ -95,6 +98,10 @@ fn item_of(script: &Script, threads_mode: bool, number: u32, line: &[u8]) -> Res
             line: number,
             manager: turn_of(script, threads_mode, &mut words)?,
         })),
+        Head::Reopen => {
+            reopen_of(threads_mode, &mut words)?;
+            Ok(Item::Step(Step::Reopen { line: number }))
+        }
         Head::Thread => {
             let task = task_of_line(script, number, first, &mut words)?;
             Ok(Item::Step(Step::Task(task)))

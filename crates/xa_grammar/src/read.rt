@@ -1,6 +1,7 @@
 //! Reading a script to its end.
-ghost use Rattle.std.specs.Prelude.{◌≤◌, length, IfSome};
+ghost use Rattle.std.specs.Prelude.{◌≡◌, ◌≤◌, true, length, IfOk, IfSome};
 ghost use Rattle.xa_grammar.specs.Text.{HasNoEnd};
+ghost use Rattle.xa_grammar.specs.Content.{AreOfOne};
 ghost use Rattle.xa_grammar.specs.Grammar.{Reads, script_of};
 
 use crate::fault::{Reason, ScriptFault};
@@ -27,13 +28,15 @@ struct Reading {
 }
 
 impl Reading {
-    ghost use Rattle.std.specs.Prelude.{[], ◌∷◌, OnOk, IfOk, IfErr};
+    ghost use Rattle.std.specs.Prelude.{◌≡◌, true, [], ◌∷◌, OnOk, IfOk, IfErr};
     ghost use Rattle.xa_grammar.specs.Text.{line_feed};
     ghost use Rattle.xa_grammar.specs.Grammar.{Reads};
-    ghost use Rattle.xa_grammar.specs.Reading.{goes_on, IsFresh, HasTaken, FailsOn};
+    ghost use Rattle.xa_grammar.specs.Content.{AreOfOne};
+    ghost use Rattle.xa_grammar.specs.Reading.{goes_on, IsFresh, HasTaken, StaysOne, FailsOn};
 
     fn new(alloc: Global, threads_mode: bool) -> Result<Reading, AllocError>
-        ensures { IfOk result (IsFresh threads_mode) }
+        ensures fresh { IfOk result (IsFresh threads_mode) }
+        ensures one { IfOk result (λ r. (r.threads_mode ≡ threads_mode) × AreOfOne r.script.steps) }
     {
         Ok(Reading {
             threads_mode,
@@ -47,6 +50,7 @@ impl Reading {
     fn take_byte(&mut self, b: u8) -> Result<(), ScriptFault>
         ensures ok { OnOk result (HasTaken self.old self.new (b ∷ [])) }
         ensures err { IfErr result (FailsOn self.old (b ∷ [])) }
+        ensures one { OnOk result (StaysOne self.old self.new) }
     {
         if b == b'\n' {
             return self.end_line();
@@ -67,6 +71,7 @@ impl Reading {
     fn end_line(&mut self) -> Result<(), ScriptFault>
         ensures ok { OnOk result (HasTaken self.old self.new (line_feed ∷ [])) }
         ensures err { IfErr result (FailsOn self.old (line_feed ∷ [])) }
+        ensures one { OnOk result (StaysOne self.old self.new) }
     {
         read_line(&mut self.script, self.threads_mode, self.number, &self.line)?;
         self.line.clear();
@@ -77,6 +82,7 @@ impl Reading {
     fn take_chunk(&mut self, chunk: &[u8]) -> Result<(), ScriptFault>
         ensures ok { OnOk result (HasTaken self.old self.new chunk.now) }
         ensures err { IfErr result (FailsOn self.old chunk.now) }
+        ensures one { OnOk result (StaysOne self.old self.new) }
     {
         for b in chunk {
             self.take_byte(*b)?;
@@ -86,7 +92,8 @@ impl Reading {
 
     // Takes the last line, which may lack its line feed.
     fn finish(self) -> Result<Script, ScriptFault>
-        ensures { Reads result (goes_on self []) }
+        ensures reads { Reads result (goes_on self []) }
+        ensures one { self.threads_mode ≡ true → AreOfOne self.script.steps → IfOk result (λ s. AreOfOne s.steps) }
     {
         let Reading {
             threads_mode,
@@ -109,13 +116,14 @@ impl Reading {
 /// A read that fails is `Read`, and want of memory `NoMemory`.
 ///
 /// `threads_mode` says whether the threads of the script are to run side by side; then no line of it
-/// may be a `turn`.
+/// may be a `turn` or a `reopen`.
 pub fn read_script<R: Read>(
     alloc: Global,
     reader: &mut R,
     threads_mode: bool,
 ) -> Result<Script, ScriptFault>
-    ensures { IfSome (R.remaining reader.old) (λ bytes. Reads result (script_of threads_mode bytes)) }
+    ensures reads { IfSome (R.remaining reader.old) (λ bytes. Reads result (script_of threads_mode bytes)) }
+    ensures one { threads_mode ≡ true → IfOk result (λ s. AreOfOne s.steps) }
 {
     let mut reading = Reading::new(alloc, threads_mode)?;
     let mut chunk = [0; 4096];

@@ -43,12 +43,14 @@ pub struct Declared {
 /// What a thread calls, as the switch takes it.
 #[derive(Clone, Copy, Debug, PartialEq, Eq)]
 pub enum Action {
-    /// A call of XA but `xa_complete()`, with its xid where it takes one.
+    /// A call of XA but `xa_complete()` and `xa_recover()`, with its xid where it takes one.
     Xa(Call, Option<Xid>),
     /// A call outside XA.
     Native(RmOp),
     /// `xa_complete()` with the handle that the line gives, which isn't negative.
     Complete(i32),
+    /// `xa_recover()`, with room for so many xids, 0 to 64.
+    Recover(u32),
 }
 
 /// A call that a thread makes.
@@ -111,6 +113,11 @@ pub enum Step {
         /// The manager's number, from 1.
         manager: u32,
     },
+    /// The opening ends and is settled, and the managers are opened again.
+    Reopen {
+        /// The number of its line, from 1.
+        line: u32,
+    },
 }
 
 /// A whole script: its settings, and its keys and its steps, each in the order of the lines.
@@ -137,7 +144,8 @@ impl Model for Script {
 
 impl Script {
     ghost use Rattle.xa_tables.specs.Accounts.{are_accounts};
-    ghost use Rattle.xa_grammar.specs.Content.{accounts_of, IsOfManager, IsOfScript, IsScript, threads_of, managers_of, handles_of, queue_of, requests_of, carries_async, failing_append, nothing, with_count, with_key, with_sync, with_failing, with_step};
+    ghost use Rattle.std.specs.List.{list_any};
+    ghost use Rattle.xa_grammar.specs.Content.{is_reopen, accounts_of, IsOfManager, IsOfScript, IsScript, threads_of, managers_of, handles_of, queue_of, requests_of, carries_async, failing_append, nothing, with_count, with_key, with_sync, with_failing, with_step};
 
     pub(crate) fn new(alloc: Global) -> Script
         ensures { result ≡ nothing }
@@ -163,6 +171,15 @@ impl Script {
         ensures limits { IsUpTo MOST_THREADS result }
     {
         self.settings.threads.unwrap_or(1)
+    }
+
+    /// Whether a line opens the managers again.
+    pub fn reopens(&self) -> bool
+        ensures { result ≡ list_any is_reopen self.now.steps }
+    {
+        self.steps
+            .iter()
+            .any(|step| matches!(step, Step::Reopen { .. }))
     }
 
     /// How many managers there are, 1 to 8.
@@ -225,7 +242,7 @@ impl Script {
         }
     }
 
-    /// The tasks of all threads and the turns of managers, in the order of their lines.
+    /// The tasks of all threads, the turns of managers and the reopenings, in the order of the lines.
     pub fn steps(&self) -> &[Step]
         ensures steps { result.now ≡ self.now.steps }
         ensures of { All (IsOfScript self.now) result.now }

@@ -1,3 +1,4 @@
+mod reopening;
 mod tasks;
 
 use std::io;
@@ -27,6 +28,7 @@ fn faults_have_their_numbers_and_texts(rt: HostRuntime) -> Result<(), Fail> {
         (Reason::TooManyKeys, "too many keys"),
         (Reason::BadBranches, "bad branches"),
         (Reason::TurnInThreadsMode, "turn in threads mode"),
+        (Reason::ReopenInThreadsMode, "reopen in threads mode"),
     ];
     for (i, (why, text)) in rows.iter().enumerate() {
         let line = ScriptFault::Line { line: 7, why: *why };

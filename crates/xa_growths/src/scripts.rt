@@ -81,6 +81,9 @@ pub(crate) fn in_threads<R: Threads + Wait + Copy + Send + 'static>(
     alloc: Global,
     script: &Script,
 ) -> Came {
+    if script.reopens() {
+        return Came::Wrong;
+    }
     let Ok(paces) = Vec::from_array(alloc, [Free; 8]) else {
         return Came::Refused;
     };

@@ -1,6 +1,6 @@
 -- What each thread's lines come to, in a run of all lines.
 use Rattle.std.proofs.Common.{◌≡◌, ◌≢◌, ℕ, ℤ, ◌+◌, ◌-◌, ◌≤◌, zero, suc, Bool, true, false, cond, ◌==◌, List, [], ◌∷◌, ◌++◌, Some, None, sym, refl, ap, ◌∙◌, subst, inl, inr, arith, append-nil, append_assoc, map}
-use Rattle.std.specs.Prelude.{slice_get, slice_set, All, filter_map, pos, if◌then◌else◌}
+use Rattle.std.specs.Prelude.{slice_get, slice_set, All, filter_map, pos, negsuc, if◌then◌else◌}
 use Rattle.std.specs.List.{flat_map}
 use Rattle.std.specs.Ordering.{int_eq}
 use Rattle.std.proofs.lemmas.Bool.{cases_eq, eq-eqb}
@@ -22,7 +22,9 @@ use Rattle.xa_session.specs.declared.answer.Answer.{Answer}
 use Rattle.xa_session.specs.declared.answer.Answer.TheVariants as answer
 use Rattle.xa_base.specs.Lists.{Chain, Pairwise}
 use Rattle.xa_base.specs.Lists.Chain.{none, more}
-use Rattle.xa_session.specs.Calling.{Answers, shown}
+use Rattle.xa_session.specs.Calling.{Answers, shown, IsListed}
+use Rattle.xa_words.specs.Xid.{XidName}
+use Rattle.xa_switch.specs.Scans.{ScanView}
 use Rattle.xa_session.specs.Committing.{CommitsAll}
 use Rattle.xa_session.specs.Sessions.{Does}
 use Rattle.xa_session.specs.Committing.CommitsAll.{refused, decided}
@@ -69,17 +71,22 @@ shown_to : (t : ℕ) (p : Called) (b : Bool) (h r n : ℤ) → is_to t (if b the
 shown_to t p true h r n = refl
 shown_to t p false h r n = refl
 
-answer_is_to : (t : ℕ) (x : Action) (p : Called) (old new : DeskView) (a : Answer) → Answers x p old new a → is_to t a ≡ (p.thread == t)
-answer_is_to t (action.Xa c x) p old new a is = ap (is_to t) is.shown
-answer_is_to t (action.Native o) p old new a is = ap (is_to t) is.shown
-answer_is_to t (action.Complete h) p old new a is = ap (is_to t) is.shown ∙ shown_to t p (int_eq is.answer (pos 0)) is.handle is.retval is.answer
+listed_to : (t : ℕ) (p : Called) (n : ℤ) (xids : List XidName) (a : Answer) → IsListed p n xids a → is_to t a ≡ (p.thread == t)
+listed_to t p (pos n) xids a is = ap (is_to t) is.2
+listed_to t p (negsuc n) xids a is = ap (is_to t) is
+
+answer_is_to : (t : ℕ) (x : Action) (p : Called) (old new : DeskView) (z z' : ScanView) (a : Answer) → Answers x p old z new z' a → is_to t a ≡ (p.thread == t)
+answer_is_to t (action.Xa c x) p old new z z' a is = ap (is_to t) is.0.shown
+answer_is_to t (action.Native o) p old new z z' a is = ap (is_to t) is.0.shown
+answer_is_to t (action.Recover n) p old new z z' a is = listed_to t p is.answer is.after a is.shown
+answer_is_to t (action.Complete h) p old new z z' a is = ap (is_to t) is.0.shown ∙ shown_to t p (int_eq is.0.answer (pos 0)) is.0.handle is.0.retval is.0.answer
 
 commit_is_to : (t : ℕ) (c : CommitAll) (old new : Session) (a : Answer) → CommitsAll c old new a → is_to t a ≡ (c.thread == t)
 commit_is_to t c old new a (refused why told e) = ap (is_to t) told
-commit_is_to t c old new a (decided done may trace keeps as_many told) = ap (is_to t) told
+commit_is_to t c old new a (decided done may trace still keeps as_many told) = ap (is_to t) told
 
 task_is_to : (t : ℕ) (p : Task) (old new : Session) (a : Answer) → Does p old new a → is_to t a ≡ (thread_of p == t)
-task_is_to t (task.Call p) old new a is = answer_is_to t p.action p old.desk new.desk a is.executes.0
+task_is_to t (task.Call p) old new a is = answer_is_to t p.action p old.desk new.desk old.scan new.scan a is.executes.0
 task_is_to t (task.CommitAll c) old new a is = commit_is_to t c old new a is.executes
 
 to_pushed : (t : ℕ) (answers : List Answer) (a : Answer) → is_to t a ≡ true → answers_to t (answers ++ a ∷ []) ≡ answers_to t answers ++ a ∷ []
@@ -163,7 +170,8 @@ turned_went k d line m xs now last a is told w = record {
 }
 
 step_went : (k : ℕ) (d : Session) (threads managers : ℕ) (x : Step) (xs : List Step) (now last : Course) → HasStepped x now last → Fits threads managers x → Went k d xs now → Went k d (xs ++ x ∷ []) last
-step_went k d threads managers (step.Task p) xs now last is fits w = done_went k d p xs now last is.answer is.steps is.told fits.0 w
+step_went k d threads managers (step.Task p) xs now last is fits w = done_went k d p xs now last is.answer is.steps is.told fits.0.0 w
+step_went k d threads managers (step.Reopen line) xs now last is fits w = absurd is.steps
 step_went k d threads managers (step.Turn line m) xs now last is fits w = turned_went k d line m xs now last is.answer is.steps is.told w
 
 all_front : {A : Type 0} (P : A → Type 0) (xs : List A) (x : A) → All P (xs ++ x ∷ []) → All P xs
@@ -184,6 +192,7 @@ run_went k d threads managers first at fresh steps now (more xs x mid last befor
 
 -- a thread without tasks has no answers
 step_silent : (t : ℕ) (x : Step) (now last : Course) → HasStepped x now last → tasks_of t (x ∷ []) ≡ [] → answers_to t last.answers ≡ answers_to t now.answers
+step_silent t (step.Reopen line) now last is e = absurd is.steps
 step_silent t (step.Turn line m) now last is e = ap (answers_to t) is.told ∙ to_passed t now.answers is.answer (ap (is_to t) is.steps.answer)
 step_silent t (step.Task p) now last is e =
     elim (cases_eq (thread_of p) t) [

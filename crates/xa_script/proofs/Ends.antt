@@ -1,7 +1,7 @@
 -- The lines of what was outstanding, among all answers.
 use Rattle.std.proofs.Common.{◌≡◌, ◌≢◌, ℕ, ℤ, ◌==◌, Bool, true, false, cond, List, [], ◌∷◌, ◌++◌, refl, ap, ◌∙◌}
 use Rattle.std.proofs.Common.{append-nil}
-use Rattle.std.specs.Prelude.{pos, if◌then◌else◌}
+use Rattle.std.specs.Prelude.{pos, negsuc, if◌then◌else◌}
 use Rattle.std.specs.Ordering.{int_eq}
 use Rattle.std.proofs.lemmas.Bool.{eq-eqb, eqb-true, false_from_ne_true}
 use Rattle.std.proofs.lemmas.List.Elements.{filter-append}
@@ -20,7 +20,9 @@ use Rattle.xa_grammar.specs.declared.script.Step.TheVariants as step
 use Rattle.xa_session.specs.declared.answer.Answer.{Answer}
 use Rattle.xa_session.specs.declared.answer.Answer.TheVariants as answer
 use Rattle.xa_session.specs.declared.session.Session.{Session}
-use Rattle.xa_session.specs.Calling.{Answers, shown}
+use Rattle.xa_session.specs.Calling.{Answers, shown, IsListed}
+use Rattle.xa_words.specs.Xid.{XidName}
+use Rattle.xa_switch.specs.Scans.{ScanView}
 use Rattle.xa_session.specs.Committing.{CommitsAll}
 use Rattle.xa_session.specs.Committing.CommitsAll.{refused, decided}
 use Rattle.xa_session.specs.Ended.{ended, all_ended}
@@ -48,17 +50,22 @@ shown_no_end : (t : ℕ) (p : Called) (b : Bool) (h r n : ℤ) → is_end_of t (
 shown_no_end t p true h r n = refl
 shown_no_end t p false h r n = refl
 
-answer_no_end : (t : ℕ) (x : Action) (p : Called) (old new : DeskView) (a : Answer) → Answers x p old new a → is_end_of t a ≡ false
-answer_no_end t (action.Xa c x) p old new a is = ap (is_end_of t) is.shown
-answer_no_end t (action.Native o) p old new a is = ap (is_end_of t) is.shown
-answer_no_end t (action.Complete h) p old new a is = ap (is_end_of t) is.shown ∙ shown_no_end t p (int_eq is.answer (pos 0)) is.handle is.retval is.answer
+listed_no_end : (t : ℕ) (p : Called) (n : ℤ) (xids : List XidName) (a : Answer) → IsListed p n xids a → is_end_of t a ≡ false
+listed_no_end t p (pos n) xids a is = ap (is_end_of t) is.2
+listed_no_end t p (negsuc n) xids a is = ap (is_end_of t) is
+
+answer_no_end : (t : ℕ) (x : Action) (p : Called) (old new : DeskView) (z z' : ScanView) (a : Answer) → Answers x p old z new z' a → is_end_of t a ≡ false
+answer_no_end t (action.Xa c x) p old new z z' a is = ap (is_end_of t) is.0.shown
+answer_no_end t (action.Native o) p old new z z' a is = ap (is_end_of t) is.0.shown
+answer_no_end t (action.Recover n) p old new z z' a is = listed_no_end t p is.answer is.after a is.shown
+answer_no_end t (action.Complete h) p old new z z' a is = ap (is_end_of t) is.0.shown ∙ shown_no_end t p (int_eq is.0.answer (pos 0)) is.0.handle is.0.retval is.0.answer
 
 commit_no_end : (t : ℕ) (c : CommitAll) (old new : Session) (a : Answer) → CommitsAll c old new a → is_end_of t a ≡ false
 commit_no_end t c old new a (refused why told same) = ap (is_end_of t) told
-commit_no_end t c old new a (decided done may trace keeps as_many told) = ap (is_end_of t) told
+commit_no_end t c old new a (decided done may trace still keeps as_many told) = ap (is_end_of t) told
 
 task_no_end : (t : ℕ) (p : Task) (old new : Session) (a : Answer) → Does p old new a → is_end_of t a ≡ false
-task_no_end t (task.Call p) old new a is = answer_no_end t p.action p old.desk new.desk a is.executes.0
+task_no_end t (task.Call p) old new a is = answer_no_end t p.action p old.desk new.desk old.scan new.scan a is.executes.0
 task_no_end t (task.CommitAll c) old new a is = commit_no_end t c old new a is.executes
 
 pushed : (t : ℕ) (answers : List Answer) (a : Answer) → is_end_of t a ≡ false → ends_of t (answers ++ a ∷ []) ≡ ends_of t answers
@@ -75,6 +82,7 @@ tasks_no_end t first start tasks last (more xs x now l before is) =
 
 step_no_end : (t : ℕ) (x : Step) (now last : Course) (is : HasStepped x now last) → is_end_of t is.answer ≡ false
 step_no_end t (step.Task p) now last is = task_no_end t p is.steps.before is.steps.after is.answer is.steps.does
+step_no_end t (step.Reopen line) now last is = absurd is.steps
 step_no_end t (step.Turn line m) now last is = ap (is_end_of t) is.steps.answer
 
 -- and of all steps

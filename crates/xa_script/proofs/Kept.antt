@@ -21,6 +21,7 @@ steps_keep : (p : Step) (old new : Stage) (a : Answer) → Steps p old new a →
 steps_keep (step.Task p) old new a is all =
     let here : AllKept is.before.desk = all_at (λ c. AllKept c.desk) old.sessions (thread_of p - 1) is.before all is.at in
     subst AreKept (sym is.rest) (All-set (λ c. AllKept c.desk) old.sessions (thread_of p - 1) is.after (is.does.kept here) all)
+steps_keep (step.Reopen line) old new a is all = absurd is
 steps_keep (step.Turn line m) old new a is all = subst AreKept (sym is.rest) all
 
 pub run_keeps : (old : Course) (steps : List Step) (new : Course) → Chain HasStepped old steps new → AreKept old.stage.sessions → AreKept new.stage.sessions

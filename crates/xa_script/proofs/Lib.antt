@@ -8,3 +8,7 @@ pub mod Ends
 pub mod Members
 pub mod Runs
 pub mod Pieces
+pub mod Tellings
+pub mod Reopened
+pub mod Reached
+pub mod Closed

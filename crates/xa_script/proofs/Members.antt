@@ -1,12 +1,14 @@
 -- What the threads of a script came to as a crew.
-use Rattle.std.proofs.Common.{◌≡◌, ◌+◌, ◌<◌, ℕ, List, [], ◌∷◌, ◌++◌, Some, length, map, false, refl, ap, ◌∙◌, sym, subst, arith}
+use Rattle.std.proofs.Common.{◌≡◌, ◌+◌, ◌<◌, ℕ, zero, suc, List, [], ◌∷◌, ◌++◌, Some, length, map, false, refl, ap, ◌∙◌, sym, subst, arith}
 use Rattle.std.specs.Prelude.{All, slice_get, option_map}
 use Rattle.std.specs.List.{flat_map, range_with_len, slice_index_or}
 use Rattle.std.proofs.lemmas.List.{length-map}
 use Rattle.std.proofs.lemmas.List.FromFn.{length-map-range_with_len, get_or-map-range_with_len}
 use Rattle.std.proofs.lemmas.Option.{slice_get-map, slice_get_within, slice_get-get_or}
 use Rattle.xa_base.specs.Lists.{Chain, Pairwise}
-use Rattle.xa_base.proofs.Lists.{all_at, all_from}
+use Rattle.xa_base.proofs.Lists.{all_at, some_same}
+use Rattle.xa_switch.specs.Scans.{ScanView}
+use Rattle.xa_transcript.specs.Values.{opened}
 use Rattle.xa_worker.specs.Workers.{WorkerView}
 use Rattle.xa_grammar.specs.declared.script.Task.{Task}
 use Rattle.xa_grammar.specs.Content.{Content, tasks_of, threads_of}
@@ -52,35 +54,53 @@ members_tell ms clients are = ap (flat_map told_by) are ∙ all_tell ms
     all_tell (m ∷ ms) = ap (λ l. told_by m.attended ++ l) (all_tell ms)
 
 -- a member that was new and to which no memory was refused
-one_worked : (s : Content) (t : ℕ) (m : Member ScriptThread) → m.desk.thread ≡ t → IsNew s t m.client → HasRun Works m → m.attended.client.wants_memory ≡ false → HasWorked s m
+one_worked : (s : Content) (t : ℕ) (m : Member ScriptThread) → m.desk.thread ≡ t → IsNew s t m.client → HasRun Works m → m.attended.client.wants_memory ≡ false → (y : Session) × HasWorked s s.steps m y
 one_worked s t m number new ran done =
     let x = m.client in
     let x' = m.attended.client in
-    let last : Session × List Answer = (session_of ran.left x'.log, x'.answers.items) in
-    let runs : Chain HasDone (session_of m.desk x.log, x.answers.items) x.tasks.items last = ran.worked.runs done in
+    let y : Session = session_of ran.left x'.log x'.scan in
+    let last : Session × List Answer = (y, x'.answers.items) in
+    let runs : Chain HasDone (session_of m.desk x.log x.scan, x.answers.items) x.tasks.items last = ran.worked.runs done in
     let log : x.log ≡ log_of s m.desk.thread = new.log ∙ ap (log_of s) (sym number) in
-    let tasks : x.tasks.items ≡ tasks_of m.desk.thread s.steps = new.tasks ∙ ap (λ (n : ℕ). tasks_of n s.steps) (sym number) in
-    record {
-      own = ran.worked.own ∙ new.own ∙ sym number;
-      left = session_of ran.left x'.log;
-      runs =
-          subst (λ (l : LogView). Chain HasDone (session_of m.desk l, []) (tasks_of m.desk.thread s.steps) last) log
-          (subst (λ (l : List Answer). Chain HasDone (session_of m.desk x.log, l) (tasks_of m.desk.thread s.steps) last) new.answers
-          (subst (λ (l : List Task). Chain HasDone (session_of m.desk x.log, x.answers.items) l last) tasks runs));
-      ends = ran.ends;
-    }
+    let tasks : x.tasks.items ≡ tasks_of m.desk.thread s.steps = new.tasks ∙ ap (λ (n : ℕ). tasks_of n s.steps) (sym number) in (
+      y,
+      record {
+        own = ran.worked.own ∙ new.own ∙ sym number;
+        runs =
+            subst (λ (z : ScanView). Chain HasDone (session_of m.desk (log_of s m.desk.thread) z, []) (tasks_of m.desk.thread s.steps) last) new.scan
+            (subst (λ (l : LogView). Chain HasDone (session_of m.desk l x.scan, []) (tasks_of m.desk.thread s.steps) last) log
+            (subst (λ (l : List Answer). Chain HasDone (session_of m.desk x.log x.scan, l) (tasks_of m.desk.thread s.steps) last) new.answers
+            (subst (λ (l : List Task). Chain HasDone (session_of m.desk x.log x.scan, x.answers.items) l last) tasks runs)));
+        ends = ran.ends;
+      },
+    )
+
+-- of each of several a choice
+chosen : {A B : Type 0} (P : A → B → Type 0) (xs : List A) → ((k : ℕ) (x : A) → slice_get xs k ≡ Some x → (y : B) × P x y) → (ys : List B) × Pairwise P xs ys
+chosen P [] each = ([], record { as_many = refl; each = λ k x y at. absurd (cc) })
+chosen {A} {B} P (x ∷ xs) each =
+    let first = each 0 x refl in
+    let rest = chosen P xs (λ k y at. each (suc k) y at) in
+    (first.0 ∷ rest.0, pairs_cons P x xs first.0 rest.0 first.1 rest.1)
+  where
+    pairs_cons : (P : A → B → Type 0) (x : A) (xs : List A) (y : B) (ys : List B) → P x y → Pairwise P xs ys → Pairwise P (x ∷ xs) (y ∷ ys)
+    pairs_cons P x xs y ys one all = record { as_many = ap suc all.as_many; each = each_of }
+      where
+        each_of : (k : ℕ) (a : A) (b : B) → slice_get (x ∷ xs) k ≡ Some a → slice_get (y ∷ ys) k ≡ Some b → P a b
+        each_of zero a b at at' = subst (P a) (some_same y b at') (subst (λ (z : A). P z y) (some_same x a at) one)
+        each_of (suc k) a b at at' = all.each k a b at at'
 
 -- all members
-pub members_worked : (s : Content) (ms : List (Member ScriptThread)) (workers : List WorkerView) → AreOpened s (map (λ t. t.desk) ms) workers
+pub members_worked : (s : Content) (ms : List (Member ScriptThread)) (workers : List WorkerView) → AreOpened s 1 (opened s) (map (λ t. t.desk) ms) workers
     → (threads : List ScriptThread) → Pairwise (IsNew s) (range_with_len 1 (threads_of s)) threads → threads ≡ map (λ t. t.client) ms → All (HasRun Works) ms
-    → (clients : List (Attended ScriptThread)) → clients ≡ map (λ t. t.attended) ms → All (λ t. t.client.wants_memory ≡ false) clients → All (HasWorked s) ms
-members_worked s ms workers opened threads new are ran clients attended done =
-    all_from (HasWorked s) ms (λ k m at.
+    → (clients : List (Attended ScriptThread)) → clients ≡ map (λ t. t.attended) ms → All (λ t. t.client.wants_memory ≡ false) clients → (left : List Session) × Pairwise (HasWorked s s.steps) ms left
+members_worked s ms workers are_opened threads new are ran clients attended done =
+    chosen (HasWorked s s.steps) ms (λ k m at.
     let client_at : slice_get threads k ≡ Some m.client = ap (λ l. slice_get l k) are ∙ slice_get-map (λ (t : Member ScriptThread). t.client) ms k ∙ ap (option_map (λ (t : Member ScriptThread). t.client)) at in
     let attended_at : slice_get clients k ≡ Some m.attended = ap (λ l. slice_get l k) attended ∙ slice_get-map (λ (t : Member ScriptThread). t.attended) ms k ∙ ap (option_map (λ (t : Member ScriptThread). t.attended)) at in
     let desk_at : slice_get (map (λ (t : Member ScriptThread). t.desk) ms) k ≡ Some m.desk = slice_get-map (λ (t : Member ScriptThread). t.desk) ms k ∙ ap (option_map (λ (t : Member ScriptThread). t.desk)) at in
     let within = slice_get_within threads k m.client client_at in
     let many = as_many_new s threads new in
     let below : k < threads_of s = omega (arith, within, many) in
-    one_worked s (k + 1) m (opened_thread s (map (λ (t : Member ScriptThread). t.desk) ms) workers opened k m.desk desk_at) (new.each k (k + 1) m.client (number_there (threads_of s) k below) client_at) (all_at (HasRun Works) ms k m ran at)
+    one_worked s (k + 1) m (opened_thread s 1 (opened s) (map (λ (t : Member ScriptThread). t.desk) ms) workers are_opened k m.desk desk_at) (new.each k (k + 1) m.client (number_there (threads_of s) k below) client_at) (all_at (HasRun Works) ms k m ran at)
     (all_at (λ (t : Attended ScriptThread). t.client.wants_memory ≡ false) clients k m.attended done attended_at))

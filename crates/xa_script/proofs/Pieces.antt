@@ -1,10 +1,14 @@
 -- The desks and the workers of a run in turns are all those of its opening.
-use Rattle.std.proofs.Common.{List, [], subst, sym}
+use Rattle.std.proofs.Common.{List, [], map, ◌∙◌, subst, sym, arith}
+use Rattle.std.proofs.lemmas.List.{length-map}
+use Rattle.std.proofs.lemmas.Option.{slice_get_within}
+use Rattle.xa_base.proofs.Lists.{got, was_mapped}
 use Rattle.xa_desk.specs.DeskView.{DeskView}
 use Rattle.xa_desk.specs.Ended.{EndedView}
 use Rattle.xa_desk.specs.GoesOn.{GoesOn}
 use Rattle.xa_worker.specs.Workers.{WorkerView}
 use Rattle.xa_worker.specs.Done.{Served}
+use Rattle.xa_grammar.specs.declared.script.Step.{Step}
 use Rattle.xa_grammar.specs.declared.script.Task.{Task}
 use Rattle.xa_grammar.specs.Content.{Content, tasks_of}
 use Rattle.xa_base.specs.Lists.{Chain}
@@ -12,8 +16,8 @@ use Rattle.xa_base.specs.Lists.Chain.{none, more}
 use Rattle.xa_crew.specs.Pieces.{HasGone, ArePiecesOf}
 use Rattle.xa_session.specs.declared.answer.Answer.{Answer}
 use Rattle.xa_session.specs.declared.session.Session.{Session}
-use Rattle.xa_session.specs.Sessions.{new_session, HasDone}
-use Rattle.xa_transcript.specs.Planning.{AreOpened}
+use Rattle.xa_session.specs.Sessions.{HasDone}
+use Rattle.xa_transcript.specs.Openings.{Beginning}
 use Rattle.xa_transcript.specs.Journals.{answers_to}
 use Rattle.xa_transcript.specs.Runs.{Comes, Ran}
 
@@ -22,19 +26,28 @@ module _ (same : (d : DeskView) → GoesOn d d) (further : (old mid new : DeskVi
   tasks_go_on first tasks last (none xs l e f) = subst (λ (s : Session × List Answer). GoesOn first.0.desk s.0.desk) (sym f) (same first.0.desk)
   tasks_go_on first tasks last (more xs x now l before is) = further first.0.desk now.0.desk l.0.desk (tasks_go_on first xs now before) is.does.goes_on
 
-  has_gone : (s : Content) (answers : List Answer) (d : DeskView) (e : EndedView) → Comes s answers d e → HasGone d e
-  has_gone s answers d e c = record {
+  has_gone : (steps : List Step) (answers : List Answer) (x y : Session) (e : EndedView) → Comes steps answers x y e → HasGone x.desk e
+  has_gone steps answers x y e c = record {
     last = c.ends.emptied;
-    goes_on = further d c.left.desk c.ends.emptied (tasks_go_on (new_session s d, []) (tasks_of d.thread s.steps) (c.left, answers_to d.thread answers) c.runs) c.ends.goes_on;
+    goes_on = further x.desk y.desk c.ends.emptied (tasks_go_on (x, []) (tasks_of x.desk.thread steps) (y, answers_to x.desk.thread answers) c.runs) c.ends.goes_on;
     ends = c.ends.ends;
   }
 
-  pub pieces_of : (s : Content) (answers : List Answer) (desks : List DeskView) (workers : List WorkerView) (ended : List EndedView) (done : List Served) (opened : AreOpened s desks workers) → Ran s answers desks workers ended done → ArePiecesOf opened.plan ended done
-  pieces_of s answers desks workers ended done opened r = record {
-    desks = desks;
+  pub pieces_of : (s : Content) (b : Beginning) (steps : List Step) (answers : List Answer) (sessions left : List Session) (workers : List WorkerView) (ended : List EndedView) (done : List Served) (r : Ran s b steps answers sessions left workers ended done) → ArePiecesOf r.opened.setup ended done
+  pieces_of s b steps answers sessions left workers ended done r = record {
+    desks = map (λ (x : Session). x.desk) sessions;
     workers = workers;
-    sound = opened.sound;
-    opened = opened.opened;
-    gone = record { as_many = r.threads.as_many; each = λ k d e at at'. has_gone s answers d e (r.threads.each k d e at at') };
+    limits = r.opened.said.limits;
+    opened = r.opened.opened;
+    gone = record {
+      as_many = r.many_ended ∙ sym (length-map sessions (λ (x : Session). x.desk));
+      each = λ k d e at at_e.
+          let x = was_mapped (λ (x : Session). x.desk) sessions k d at in
+          let within = slice_get_within ended k e at_e in
+          let many = r.many_ended in
+          let as_many = r.many_left in
+          let y = got left k (omega (arith, within, many, as_many)) in
+          subst (λ (v : DeskView). HasGone v e) x.2 (has_gone steps answers x.0 y.0 e (r.threads k x.0 y.0 e x.1 y.1 at_e));
+    };
     served = r.managers;
   }

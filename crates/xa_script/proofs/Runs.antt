@@ -5,11 +5,11 @@ use Rattle.std.specs.List.{flat_map}
 use Rattle.std.proofs.lemmas.List.{length-map}
 use Rattle.std.proofs.lemmas.List.Elements.{filter-append}
 use Rattle.std.proofs.lemmas.Option.{slice_get-map, slice_get_within}
-use Rattle.xa_desk.specs.DeskView.{DeskView}
 use Rattle.xa_desk.specs.Ended.{EndedView}
 use Rattle.xa_desk.specs.Seats.{DeskSeat}
 use Rattle.xa_worker.specs.Workers.{WorkerView}
 use Rattle.xa_worker.specs.Done.{Served}
+use Rattle.xa_grammar.specs.declared.script.Step.{Step}
 use Rattle.xa_grammar.specs.declared.script.Task.{Task}
 use Rattle.xa_grammar.specs.Content.{Content, tasks_of, Fits, threads_of, managers_of}
 use Rattle.xa_base.specs.Lists.{Chain}
@@ -21,11 +21,12 @@ use Rattle.xa_crew.specs.Run.{Member}
 use Rattle.xa_session.specs.declared.answer.Answer.{Answer}
 use Rattle.xa_session.specs.declared.session.Session.{Session}
 use Rattle.xa_session.specs.declared.script_thread.ScriptThread.{ScriptThread}
-use Rattle.xa_session.specs.Sessions.{new_session, new_sessions, HasDone}
+use Rattle.xa_session.specs.Sessions.{new_session, HasDone}
 use Rattle.xa_transcript.specs.Planning.{AreOpened}
 use Rattle.xa_session.specs.Ended.{all_ended}
 use Rattle.xa_transcript.specs.Journals.{answers_to, ends_of, is_end_of, is_to}
-use Rattle.xa_transcript.specs.Runs.{Comes, Ran}
+use Rattle.xa_transcript.specs.Openings.{Beginning}
+use Rattle.xa_transcript.specs.Runs.{BeginsAs, Comes, Ran}
 use Rattle.xa_transcript.proofs.Opened.{opened_thread}
 use Rattle.xa_transcript.proofs.Tasks.{tasks_are_of}
 use Rattle.xa_script.specs.InThreads.{HasWorked, InThreads}
@@ -63,10 +64,18 @@ then_served w v d goes served =
       seat = served.seat ∙ goes.seat;
     }
 
-module _ (s : Content) (desks : List DeskView) (workers : List WorkerView) (opened : AreOpened s desks workers) (fits : All (Fits (threads_of s) (managers_of s)) s.steps) where
-  module _ (ended : List EndedView) (done : List Served) (answers : List Answer) (runs : InTurns s desks workers ended done answers) where
+module _ (s : Content) (b : Beginning) (steps : List Step) (sessions : List Session) (workers : List WorkerView)
+    (opened : AreOpened s b.opening b.tables (map (λ x. x.desk) sessions) workers) (begins : (k : ℕ) (x : Session) → slice_get sessions k ≡ Some x → BeginsAs b (k + 1) x)
+    (fits : All (Fits (threads_of s) (managers_of s)) steps) where
+  -- the thread at place k is of number k + 1
+  thread_at : (k : ℕ) (x : Session) → slice_get sessions k ≡ Some x → x.desk.thread ≡ k + 1
+  thread_at k x at =
+      opened_thread s b.opening b.tables (map (λ (x : Session). x.desk) sessions) workers opened k x.desk
+      (slice_get-map (λ (x : Session). x.desk) sessions k ∙ ap (option_map (λ (x : Session). x.desk)) at)
+
+  module _ (left : List Session) (ended : List EndedView) (done : List Served) (answers : List Answer) (runs : InTurns steps sessions left workers ended done answers) where
     abbrev first : Course
-    first = course_of (new_sessions s desks) workers []
+    first = course_of sessions workers []
 
     abbrev closing : Closing
     closing = closing_of [] runs.ran.stage.workers runs.ran.answers
@@ -74,13 +83,11 @@ module _ (s : Content) (desks : List DeskView) (workers : List WorkerView) (open
     abbrev ended_all : Closes closing runs.ran.stage.sessions runs.closed
     ended_all = closes closing refl runs.ran.stage.sessions runs.closed runs.closes
 
-    went : (k : ℕ) (d : DeskView) → slice_get desks k ≡ Some d → Went k (new_session s d) s.steps runs.ran
-    went k d at =
-        let at_first : slice_get (new_sessions s desks) k ≡ Some (new_session s d) = slice_get-map (new_session s) desks k ∙ ap (option_map (new_session s)) at in
-        run_went k (new_session s d) (threads_of s) (managers_of s) first at_first refl s.steps runs.ran runs.runs fits
+    went : (k : ℕ) (x : Session) → slice_get sessions k ≡ Some x → Went k x steps runs.ran
+    went k x at = run_went k x (threads_of s) (managers_of s) first at refl steps runs.ran runs.runs fits
 
-    many_sessions : length runs.ran.stage.sessions ≡ length desks
-    many_sessions = run_count first s.steps runs.ran runs.runs ∙ length-map desks (new_session s)
+    many_sessions : length runs.ran.stage.sessions ≡ length sessions
+    many_sessions = run_count first steps runs.ran runs.runs
 
     -- what stands at a place of the endings
     session_at : (k : ℕ) (z : Ending) → slice_get ended_all.endings k ≡ Some z → slice_get runs.ran.stage.sessions k ≡ Some z.0
@@ -95,19 +102,19 @@ module _ (s : Content) (desks : List DeskView) (workers : List WorkerView) (open
         let there = session_at k z at in
         let within = slice_get_within runs.ran.stage.sessions k z.0 there in
         let many = many_sessions in
-        let d = got desks k (omega (arith, within, many)) in
-        let w = went k d.0 d.1 in
+        let x = got sessions k (omega (arith, within, many)) in
+        let w = went k x.0 x.1 in
         let same : w.last ≡ z.0 = some_same w.last z.0 (sym w.at ∙ there) in
         ap (λ (x : Session). x.desk.thread) (sym same)
-        ∙ tasks_thread (new_session s d.0, []) (tasks_of (k + 1) s.steps) (w.last, answers_to (k + 1) runs.ran.answers) w.runs
-        ∙ opened_thread s desks workers opened k d.0 d.1
+        ∙ tasks_thread (x.0, []) (tasks_of (k + 1) steps) (w.last, answers_to (k + 1) runs.ran.answers) w.runs
+        ∙ thread_at k x.0 x.1
 
     -- the lines of what was outstanding
     ends_told : (k : ℕ) (z : Ending) → slice_get ended_all.endings k ≡ Some z → ends_of (k + 1) runs.closed.answers ≡ all_ended (k + 1) z.1
     ends_told k z at =
         ap (ends_of (k + 1)) ended_all.told
         ∙ filter-append (is_end_of (k + 1)) runs.ran.answers (flat_map ended_by ended_all.endings)
-        ∙ ap (λ l. l ++ ends_of (k + 1) (flat_map ended_by ended_all.endings)) (steps_no_end (k + 1) first refl s.steps runs.ran runs.runs)
+        ∙ ap (λ l. l ++ ends_of (k + 1) (flat_map ended_by ended_all.endings)) (steps_no_end (k + 1) first refl steps runs.ran runs.runs)
         ∙ flat_one (is_end_of (k + 1)) ended_by ended_all.endings k z at (λ j y differs at_y. ends_other (k + 1) y.0.desk.thread (λ e. let number = ending_number j y at_y in differs (omega (arith, e, number))) y.1)
         ∙ ap (λ (n : ℕ). ends_of (k + 1) (all_ended n z.1)) (ending_number k z at)
         ∙ ends_all (k + 1) z.1
@@ -120,73 +127,81 @@ module _ (s : Content) (desks : List DeskView) (workers : List WorkerView) (open
         ∙ ap (λ l. answers_to t runs.ran.answers ++ l) (flat_none (is_to t) ended_by ended_all.endings (λ k z at. ended_tell t z.0.desk.thread z.1))
         ∙ append-nil (answers_to t runs.ran.answers)
 
-    desk_comes : (k : ℕ) (d : DeskView) (e : EndedView) → slice_get desks k ≡ Some d → slice_get runs.closed.ended k ≡ Some e → Comes s runs.closed.answers d e
-    desk_comes k d e at at_e =
-        let t : d.thread ≡ k + 1 = opened_thread s desks workers opened k d at in
-        let w = went k d at in
+    thread_comes : (k : ℕ) (x y : Session) (e : EndedView) → slice_get sessions k ≡ Some x → slice_get left k ≡ Some y → slice_get runs.closed.ended k ≡ Some e → Comes steps runs.closed.answers x y e
+    thread_comes k x y e at at_y at_e =
+        let t : x.desk.thread ≡ k + 1 = thread_at k x at in
+        let w = went k x at in
+        let last : w.last ≡ y = some_same w.last y (sym w.at ∙ ap (λ l. slice_get l k) (sym runs.left_are) ∙ at_y) in
         let within = slice_get_within runs.closed.ended k e at_e in
         let many = ended_all.ended.as_many in
         let z = got ended_all.endings k (omega (arith, within, many)) in
         let same : z.0.0 ≡ w.last = some_same z.0.0 w.last (sym (session_at k z.0 z.1) ∙ w.at) in
         let end : EndsDesk z.0.0.desk [] e z.0.1 = ended_all.ended.each k z.0 e z.1 at_e in
         record {
-          left = w.last;
           runs =
-              subst (λ (n : ℕ). Chain HasDone (new_session s d, []) (tasks_of n s.steps) (w.last, answers_to n runs.closed.answers)) (sym t)
-              (subst (λ (l : List Answer). Chain HasDone (new_session s d, []) (tasks_of (k + 1) s.steps) (w.last, l)) (sym (answers_told (k + 1))) w.runs);
+              subst (λ (n : ℕ). Chain HasDone (x, []) (tasks_of n steps) (y, answers_to n runs.closed.answers)) (sym t)
+              (subst (λ (v : Session). Chain HasDone (x, []) (tasks_of (k + 1) steps) (v, answers_to (k + 1) runs.closed.answers)) last
+              (subst (λ (l : List Answer). Chain HasDone (x, []) (tasks_of (k + 1) steps) (w.last, l)) (sym (answers_told (k + 1))) w.runs));
           outstanding = z.0.1;
-          ends = subst (λ (x : Session). EndsDesk x.desk [] e z.0.1) same end;
+          ends = subst (λ (v : Session). EndsDesk v.desk [] e z.0.1) (same ∙ last) end;
           told = subst (λ (n : ℕ). ends_of n runs.closed.answers ≡ all_ended n z.0.1) (sym t) (ends_told k z.0 z.1);
         }
 
     -- a thread that there isn't
-    no_other : (t : ℕ) → ((k : ℕ) (d : DeskView) → slice_get desks k ≡ Some d → d.thread ≢ t) → tasks_of t s.steps ≡ [] → (answers_to t runs.closed.answers ≡ []) × (ends_of t runs.closed.answers ≡ [])
+    no_other : (t : ℕ) → ((k : ℕ) (x : Session) → slice_get sessions k ≡ Some x → x.desk.thread ≢ t) → tasks_of t steps ≡ [] → (answers_to t runs.closed.answers ≡ []) × (ends_of t runs.closed.answers ≡ [])
     no_other t none_there silent = (
-      answers_told t ∙ run_silent t first refl s.steps runs.ran runs.runs silent,
+      answers_told t ∙ run_silent t first refl steps runs.ran runs.runs silent,
       ap (ends_of t) ended_all.told
           ∙ filter-append (is_end_of t) runs.ran.answers (flat_map ended_by ended_all.endings)
-          ∙ ap (λ l. l ++ ends_of t (flat_map ended_by ended_all.endings)) (steps_no_end t first refl s.steps runs.ran runs.runs)
+          ∙ ap (λ l. l ++ ends_of t (flat_map ended_by ended_all.endings)) (steps_no_end t first refl steps runs.ran runs.runs)
           ∙ flat_none (is_end_of t) ended_by ended_all.endings (λ k z at.
           let within = slice_get_within runs.ran.stage.sessions k z.0 (session_at k z at) in
           let many = many_sessions in
-          let d = got desks k (omega (arith, within, many)) in
-          let number = opened_thread s desks workers opened k d.0 d.1 in
-          ends_other t z.0.desk.thread (λ e. none_there k d.0 d.1 (number ∙ sym (ending_number k z at) ∙ e)) z.1),
+          let x = got sessions k (omega (arith, within, many)) in
+          let number = thread_at k x.0 x.1 in
+          ends_other t z.0.desk.thread (λ e. none_there k x.0 x.1 (number ∙ sym (ending_number k z at) ∙ e)) z.1),
     )
 
-    all_come : Ran s runs.closed.answers desks workers runs.closed.ended done
+    all_come : Ran s b steps runs.closed.answers sessions left workers runs.closed.ended done
     all_come = record {
       opened = opened;
+      begins = begins;
       fits = fits;
-      threads = record {
-        as_many = ended_all.ended.as_many ∙ sym (length-map ended_all.endings (λ (z : Ending). z.0)) ∙ ap (λ (l : List Session). length l) ended_all.sessions_are ∙ many_sessions;
-        each = desk_comes;
-      };
+      many_left = ap (λ (l : List Session). length l) runs.left_are ∙ many_sessions;
+      many_ended = ended_all.ended.as_many ∙ sym (length-map ended_all.endings (λ (z : Ending). z.0)) ∙ ap (λ (l : List Session). length l) ended_all.sessions_are ∙ many_sessions;
+      threads = thread_comes;
       others = no_other;
-      managers = through WorkerGoesOn HasServed HasServed then_served workers runs.closed.workers done (all_go_on workers runs.ran.stage.workers runs.closed.workers (run_goes first s.steps runs.ran runs.runs) (ends_go closing runs.ran.stage.sessions runs.closed runs.closes)) runs.served;
+      managers =
+          through WorkerGoesOn HasServed HasServed then_served workers runs.closed.workers done
+          (all_go_on workers runs.ran.stage.workers runs.closed.workers (run_goes first steps runs.ran runs.runs) (ends_go closing runs.ran.stage.sessions runs.closed runs.closes)) runs.served;
     }
 
     -- what a run in turns has come to
-    pub turns_ran : Ran s answers desks workers ended done
+    pub turns_ran : Ran s b steps answers sessions left workers ended done
     turns_ran =
-        subst (λ (l : List Answer). Ran s l desks workers ended done) (sym runs.answered)
-        (subst (λ (l : List EndedView). Ran s runs.closed.answers desks workers l done) (sym runs.ended_are) all_come)
+        subst (λ (l : List Answer). Ran s b steps l sessions left workers ended done) (sym runs.answered)
+        (subst (λ (l : List EndedView). Ran s b steps runs.closed.answers sessions left workers l done) (sym runs.ended_are) all_come)
 
   -- ---- in threads
 
-  module _ (ended : List EndedView) (done : List Served) (answers : List Answer) (runs : InThreads s desks workers ended done answers) where
+  module _ (left : List Session) (ended : List EndedView) (done : List Served) (answers : List Answer) (runs : InThreads s steps sessions left workers ended done answers) where
     abbrev threads : List (Member ScriptThread)
     threads = runs.threads
 
-    desk_at : (k : ℕ) (x : Member ScriptThread) → slice_get threads k ≡ Some x → slice_get desks k ≡ Some x.desk
-    desk_at k x at = ap (λ l. slice_get l k) runs.desks_are ∙ slice_get-map (λ (t : Member ScriptThread). t.desk) threads k ∙ ap (option_map (λ (t : Member ScriptThread). t.desk)) at
+    member_at : (k : ℕ) (x : Member ScriptThread) → slice_get threads k ≡ Some x → slice_get sessions k ≡ Some (new_session s x.desk)
+    member_at k x at = ap (λ l. slice_get l k) runs.sessions_are ∙ slice_get-map (λ (t : Member ScriptThread). new_session s t.desk) threads k ∙ ap (option_map (λ (t : Member ScriptThread). new_session s t.desk)) at
 
     -- the thread at place k is of number k + 1
     number_at : (k : ℕ) (x : Member ScriptThread) → slice_get threads k ≡ Some x → x.desk.thread ≡ k + 1
-    number_at k x at = opened_thread s desks workers opened k x.desk (desk_at k x at)
+    number_at k x at = thread_at k (new_session s x.desk) (member_at k x at)
 
-    worked_at : (k : ℕ) (x : Member ScriptThread) → slice_get threads k ≡ Some x → HasWorked s x
-    worked_at k x at = all_at (HasWorked s) threads k x runs.worked at
+    -- what it came to
+    worked_at : (k : ℕ) (x : Member ScriptThread) → slice_get threads k ≡ Some x → (y : Session) × (slice_get left k ≡ Some y) × HasWorked s steps x y
+    worked_at k x at =
+        let within = slice_get_within threads k x at in
+        let many = runs.worked.as_many in
+        let y = got left k (omega (arith, within, many)) in
+        (y.0, y.1, runs.worked.each k x y.0 at y.1)
 
     -- another thread's answers
     told_elsewhere : (t k : ℕ) (x : Member ScriptThread) → t ≢ k + 1 → slice_get threads k ≡ Some x → answers_to t (told x) ≡ []
@@ -194,18 +209,18 @@ module _ (s : Content) (desks : List DeskView) (workers : List WorkerView) (open
         let has = worked_at k x at in
         let own = number_at k x at in
         ends_silent t x.attended.client.thread x.attended.client.answers.items x.attended.outstanding.items
-        ∙ told_none t x.desk.thread (λ e. differs (sym e ∙ own)) (new_session s x.desk, []) refl (tasks_of x.desk.thread s.steps) (has.left, x.attended.client.answers.items) has.runs (tasks_are_of x.desk.thread s.steps)
+        ∙ told_none t x.desk.thread (λ e. differs (sym e ∙ own)) (new_session s x.desk, []) refl (tasks_of x.desk.thread steps) (has.0, x.attended.client.answers.items) has.2.runs (tasks_are_of x.desk.thread steps)
 
     -- the lines of what was outstanding
-    ends_by : (t : ℕ) (x : Member ScriptThread) → HasWorked s x → ends_of t (told x) ≡ ends_of t (all_ended x.attended.client.thread x.attended.outstanding.items)
-    ends_by t x has =
+    ends_by : (t : ℕ) (x : Member ScriptThread) (y : Session) → HasWorked s steps x y → ends_of t (told x) ≡ ends_of t (all_ended x.attended.client.thread x.attended.outstanding.items)
+    ends_by t x y has =
         filter-append (is_end_of t) x.attended.client.answers.items (all_ended x.attended.client.thread x.attended.outstanding.items)
-        ∙ ap (λ l. l ++ ends_of t (all_ended x.attended.client.thread x.attended.outstanding.items)) (tasks_no_end t (new_session s x.desk, []) refl (tasks_of x.desk.thread s.steps) (has.left, x.attended.client.answers.items) has.runs)
+        ∙ ap (λ l. l ++ ends_of t (all_ended x.attended.client.thread x.attended.outstanding.items)) (tasks_no_end t (new_session s x.desk, []) refl (tasks_of x.desk.thread steps) (y, x.attended.client.answers.items) has.runs)
 
     ends_elsewhere : (t k : ℕ) (x : Member ScriptThread) → t ≢ k + 1 → slice_get threads k ≡ Some x → ends_of t (told x) ≡ []
     ends_elsewhere t k x differs at =
         let has = worked_at k x at in
-        ends_by t x has ∙ ends_other t x.attended.client.thread (λ e. differs (sym e ∙ has.own ∙ number_at k x at)) x.attended.outstanding.items
+        ends_by t x has.0 has.2 ∙ ends_other t x.attended.client.thread (λ e. differs (sym e ∙ has.2.own ∙ number_at k x at)) x.attended.outstanding.items
 
     ends_here : (k : ℕ) (x : Member ScriptThread) → slice_get threads k ≡ Some x → ends_of x.desk.thread (flat_map told threads) ≡ all_ended x.desk.thread x.attended.outstanding.items
     ends_here k x at =
@@ -213,49 +228,50 @@ module _ (s : Content) (desks : List DeskView) (workers : List WorkerView) (open
         let own = number_at k x at in
         let has = worked_at k x at in
         flat_one (is_end_of t) told threads k x at (λ j v differs at_v. ends_elsewhere t j v (λ same. differs (omega (arith, same, own))) at_v)
-        ∙ ends_by t x has
-        ∙ ap (λ (n : ℕ). ends_of t (all_ended n x.attended.outstanding.items)) has.own
+        ∙ ends_by t x has.0 has.2
+        ∙ ap (λ (n : ℕ). ends_of t (all_ended n x.attended.outstanding.items)) has.2.own
         ∙ ends_all t x.attended.outstanding.items
 
-    thread_comes : (k : ℕ) (d : DeskView) (e : EndedView) → slice_get (map (λ (t : Member ScriptThread). t.desk) threads) k ≡ Some d → slice_get (map (λ (t : Member ScriptThread). t.ended) threads) k ≡ Some e → Comes s (flat_map told threads) d e
-    thread_comes k d e at at_e =
-        let found = was_mapped (λ (t : Member ScriptThread). t.desk) threads k d at in
-        let x = found.0 in
-        let also = was_mapped (λ (t : Member ScriptThread). t.ended) threads k e at_e in
-        let same_end : x.ended ≡ e = some_same (x.ended) e (sym (slice_get-map (λ (t : Member ScriptThread). t.ended) threads k ∙ ap (option_map (λ (t : Member ScriptThread). t.ended)) found.1) ∙ at_e) in
-        let has = worked_at k x found.1 in
-        let own = number_at k x found.1 in
-        let t = x.desk.thread in
-        let all_told : answers_to t (flat_map told threads) ≡ x.attended.client.answers.items =
-        flat_one (is_to t) told threads k x found.1 (λ j v differs at_v. told_elsewhere t j v (λ same. differs (omega (arith, same, own))) at_v)
-        ∙ ends_silent t x.attended.client.thread x.attended.client.answers.items x.attended.outstanding.items
-        ∙ told_all t (new_session s x.desk, []) refl (tasks_of t s.steps) (has.left, x.attended.client.answers.items) has.runs (tasks_are_of t s.steps) in
-        let comes : Comes s (flat_map told threads) x.desk x.ended = record {
-          left = has.left;
-          runs = subst (λ (l : List Answer). Chain HasDone (new_session s x.desk, []) (tasks_of t s.steps) (has.left, l)) (sym all_told) has.runs;
-          outstanding = x.attended.outstanding.items;
+    member_comes : (k : ℕ) (x y : Session) (e : EndedView) → slice_get (map (λ (t : Member ScriptThread). new_session s t.desk) threads) k ≡ Some x → slice_get left k ≡ Some y → slice_get (map (λ (t : Member ScriptThread). t.ended) threads) k ≡ Some e → Comes steps (flat_map told threads) x y e
+    member_comes k x y e at at_y at_e =
+        let found = was_mapped (λ (t : Member ScriptThread). new_session s t.desk) threads k x at in
+        let m = found.0 in
+        let same_end : m.ended ≡ e = some_same (m.ended) e (sym (slice_get-map (λ (t : Member ScriptThread). t.ended) threads k ∙ ap (option_map (λ (t : Member ScriptThread). t.ended)) found.1) ∙ at_e) in
+        let has : HasWorked s steps m y = runs.worked.each k m y found.1 at_y in
+        let own = number_at k m found.1 in
+        let t = m.desk.thread in
+        let all_told : answers_to t (flat_map told threads) ≡ m.attended.client.answers.items =
+        flat_one (is_to t) told threads k m found.1 (λ j v differs at_v. told_elsewhere t j v (λ same. differs (omega (arith, same, own))) at_v)
+        ∙ ends_silent t m.attended.client.thread m.attended.client.answers.items m.attended.outstanding.items
+        ∙ told_all t (new_session s m.desk, []) refl (tasks_of t steps) (y, m.attended.client.answers.items) has.runs (tasks_are_of t steps) in
+        let comes : Comes steps (flat_map told threads) (new_session s m.desk) y m.ended = record {
+          runs = subst (λ (l : List Answer). Chain HasDone (new_session s m.desk, []) (tasks_of t steps) (y, l)) (sym all_told) has.runs;
+          outstanding = m.attended.outstanding.items;
           ends = has.ends;
-          told = ends_here k x found.1;
+          told = ends_here k m found.1;
         } in
-        subst (λ (y : EndedView). Comes s (flat_map told threads) d y) same_end (subst (λ (y : DeskView). Comes s (flat_map told threads) y x.ended) found.2 comes)
+        subst (λ (v : EndedView). Comes steps (flat_map told threads) x y v) same_end (subst (λ (v : Session). Comes steps (flat_map told threads) v y m.ended) found.2 comes)
 
-    all_there : Ran s (flat_map told threads) desks workers (map (λ (t : Member ScriptThread). t.ended) threads) done
+    all_there : Ran s b steps (flat_map told threads) sessions left workers (map (λ (t : Member ScriptThread). t.ended) threads) done
     all_there = record {
       opened = opened;
+      begins = begins;
       fits = fits;
-      threads = record {
-        as_many = length-map threads (λ (t : Member ScriptThread). t.ended) ∙ sym (length-map threads (λ (t : Member ScriptThread). t.desk)) ∙ ap (λ (l : List DeskView). length l) (sym runs.desks_are);
-        each = λ k d e at at_e. thread_comes k d e (ap (λ l. slice_get l k) (sym runs.desks_are) ∙ at) at_e;
-      };
+      many_left = runs.worked.as_many ∙ as_many;
+      many_ended = length-map threads (λ (t : Member ScriptThread). t.ended) ∙ as_many;
+      threads = λ k x y e at at_y at_e. member_comes k x y e (ap (λ l. slice_get l k) (sym runs.sessions_are) ∙ at) at_y at_e;
       others = λ t none_there silent. (
-        flat_none (is_to t) told threads (λ k x at. told_elsewhere t k x (λ same. none_there k x.desk (desk_at k x at) (number_at k x at ∙ sym same)) at),
-        flat_none (is_end_of t) told threads (λ k x at. ends_elsewhere t k x (λ same. none_there k x.desk (desk_at k x at) (number_at k x at ∙ sym same)) at),
+        flat_none (is_to t) told threads (λ k x at. told_elsewhere t k x (λ same. none_there k (new_session s x.desk) (member_at k x at) (number_at k x at ∙ sym same)) at),
+        flat_none (is_end_of t) told threads (λ k x at. ends_elsewhere t k x (λ same. none_there k (new_session s x.desk) (member_at k x at) (number_at k x at ∙ sym same)) at),
       );
       managers = runs.served;
     }
+      where
+        as_many : length threads ≡ length sessions
+        as_many = sym (length-map threads (λ (t : Member ScriptThread). new_session s t.desk)) ∙ ap (λ (l : List Session). length l) (sym runs.sessions_are)
 
     -- what a run in threads has come to
-    pub threads_ran : Ran s answers desks workers ended done
+    pub threads_ran : Ran s b steps answers sessions left workers ended done
     threads_ran =
-        subst (λ (l : List Answer). Ran s l desks workers ended done) (sym runs.answered)
-        (subst (λ (l : List EndedView). Ran s (flat_map told threads) desks workers l done) (sym runs.ended_are) all_there)
+        subst (λ (l : List Answer). Ran s b steps l sessions left workers ended done) (sym runs.answered)
+        (subst (λ (l : List EndedView). Ran s b steps (flat_map told threads) sessions left workers l done) (sym runs.ended_are) all_there)

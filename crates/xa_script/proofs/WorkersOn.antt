@@ -71,6 +71,7 @@ turn_goes m s old new is = subst (AllGoOn old) (sym is.rest) (one_goes_on old (m
 
 pub steps_go : (p : Step) (old new : Stage) (a : Answer) → Steps p old new a → AllGoOn old.workers new.workers
 steps_go (step.Task p) old new a is = is.turns
+steps_go (step.Reopen line) old new a is = absurd is
 steps_go (step.Turn line m) old new a is = turn_goes m is.did old.workers new.workers is.turn
 
 pub run_goes : (old : Course) (steps : List Step) (new : Course) → Chain HasStepped old steps new → AllGoOn old.stage.workers new.stage.workers
@@ -85,6 +86,7 @@ ends_go old sessions new (more xs x now last before is) = all_go_on old.workers 
 
 pub steps_count : (p : Step) (old new : Stage) (a : Answer) → Steps p old new a → length new.sessions ≡ length old.sessions
 steps_count (step.Task p) old new a is = ap (λ l. length l) is.rest ∙ length-set old.sessions (thread_of p - 1) is.after
+steps_count (step.Reopen line) old new a is = absurd is
 steps_count (step.Turn line m) old new a is = ap (λ l. length l) is.rest
 
 pub run_count : (old : Course) (steps : List Step) (new : Course) → Chain HasStepped old steps new → length new.stage.sessions ≡ length old.stage.sessions

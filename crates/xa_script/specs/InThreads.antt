@@ -1,10 +1,10 @@
 -- A run of a script in threads: what each thread of the script comes to.
-use Rattle.std.specs.Prelude.{◌≡◌, List, [], ◌++◌, All, map}
+use Rattle.std.specs.Prelude.{◌≡◌, List, [], ◌++◌, map}
 use Rattle.std.specs.List.{flat_map}
-use Rattle.xa_desk.specs.DeskView.{DeskView}
 use Rattle.xa_desk.specs.Ended.{EndedView}
 use Rattle.xa_worker.specs.Workers.{WorkerView}
 use Rattle.xa_worker.specs.Done.{Served}
+use Rattle.xa_grammar.specs.declared.script.Step.{Step}
 use Rattle.xa_grammar.specs.Content.{Content, tasks_of}
 use Rattle.xa_base.specs.Lists.{Chain, Pairwise}
 use Rattle.xa_crew.specs.declared.client_job.Attended.{Attended}
@@ -21,22 +21,21 @@ use Rattle.xa_session.specs.Ended.{all_ended}
 abbrev pub told_by : Attended ScriptThread → List Answer
 told_by t = t.client.answers.items ++ all_ended t.client.thread t.outstanding.items
 
--- The thread did its own tasks, one after the other, with the desk and a log without a record; then what was
--- outstanding was collected, and the desk ended.
-pub record HasWorked (s : Content) (t : Member ScriptThread) : Type 0 where
+-- The thread did its own tasks among these steps, one after the other, with the desk and a log without a record, and came
+-- to this; then what was outstanding was collected, and the desk ended.
+pub record HasWorked (s : Content) (steps : List Step) (t : Member ScriptThread) (left : Session) : Type 0 where
   pub own : t.attended.client.thread ≡ t.desk.thread
-  pub left : Session
-  pub runs : Chain HasDone (new_session s t.desk, []) (tasks_of t.desk.thread s.steps)
+  pub runs : Chain HasDone (new_session s t.desk, []) (tasks_of t.desk.thread steps)
       (left, t.attended.client.answers.items)
   pub ends : EndsDesk left.desk [] t.ended t.attended.outstanding.items
 
--- Each thread of the script worked with a desk of the opening, each worker ran to the last end mark, and the answers
--- are those of the threads by rising number.
-pub record InThreads (s : Content) (desks : List DeskView) (workers : List WorkerView) (ended : List EndedView)
-    (done : List Served) (answers : List Answer) : Type 0 where
+-- Each thread of the script worked with a desk of the first opening, each worker ran to the last end mark, and the
+-- answers are those of the threads by rising number.
+pub record InThreads (s : Content) (steps : List Step) (sessions left : List Session) (workers : List WorkerView)
+    (ended : List EndedView) (done : List Served) (answers : List Answer) : Type 0 where
   pub threads : List (Member ScriptThread)
-  pub desks_are : desks ≡ map (λ t. t.desk) threads
-  pub worked : All (HasWorked s) threads
+  pub sessions_are : sessions ≡ map (λ t. new_session s t.desk) threads
+  pub worked : Pairwise (HasWorked s steps) threads left
   pub ended_are : ended ≡ map (λ t. t.ended) threads
   pub served : Pairwise HasServed workers done
   pub answered : answers ≡ flat_map (λ t. told_by t.attended) threads

@@ -1,8 +1,6 @@
--- A run of a script in turns: what its steps do to the threads of control and the workers of one opening, and how they
--- end.
+-- An opening of a script in turns: what its steps do to its threads of control and its workers, and how they end.
 use Rattle.std.specs.Prelude.{◌≡◌, ℕ, ◌-◌, Some, List, [], ◌∷◌, ◌++◌, slice_get, slice_set}
 use Rattle.xa_words.specs.declared.code.Code.{Code}
-use Rattle.xa_desk.specs.DeskView.{DeskView}
 use Rattle.xa_desk.specs.Ended.{EndedView}
 use Rattle.xa_worker.specs.declared.step.Step.{Step as Did}
 use Rattle.xa_worker.specs.Workers.{WorkerView}
@@ -10,14 +8,14 @@ use Rattle.xa_worker.specs.Done.{Served}
 use Rattle.xa_grammar.specs.declared.script.Step.{Step}
 use Rattle.xa_grammar.specs.declared.script.Step.TheVariants as step
 use Rattle.xa_grammar.specs.declared.script.Task.{Task}
-use Rattle.xa_grammar.specs.Content.{Content, thread_of}
+use Rattle.xa_grammar.specs.Content.{thread_of}
 use Rattle.xa_base.specs.Lists.{Chain, Pairwise}
 use Rattle.xa_crew.specs.Ending.{EndsDesk}
 use Rattle.xa_crew.specs.Pieces.{HasServed}
 use Rattle.xa_session.specs.declared.answer.Answer.{Answer}
 use Rattle.xa_session.specs.declared.answer.Answer.TheVariants as answer
 use Rattle.xa_session.specs.declared.session.Session.{Session}
-use Rattle.xa_session.specs.Sessions.{new_sessions, Does}
+use Rattle.xa_session.specs.Sessions.{Does}
 use Rattle.xa_session.specs.Ended.{all_ended}
 use Rattle.xa_script.specs.Turns.{AllGoOn, TakesTurn}
 
@@ -47,10 +45,11 @@ pub record HasTurned (line m : ℕ) (old new : Stage) (a : Answer) : Type 0 wher
   pub answer : a ≡ answer.Turned line did
   pub rest : new.sessions ≡ old.sessions
 
--- What a step does to the threads and the workers, and what it answers.
+-- What a step of an opening does to the threads and the workers, and what it answers; a line that reopens is none.
 abbrev pub Steps : Step → Stage → Stage → Answer → Type 0
 Steps (step.Task p) old new a = HasCalled p old new a
 Steps (step.Turn line m) old new a = HasTurned line m old new a
+Steps (step.Reopen line) old new a = ⊥
 
 -- A run at some moment: the threads and the workers, and the answers so far.
 pub record Course : Type 0 where
@@ -94,14 +93,15 @@ HaveEnded first sessions now = Chain HasEndedDesk first sessions now
 abbrev pub closing_of : List EndedView → List WorkerView → List Answer → Closing
 closing_of ended workers answers = record { ended = ended; workers = workers; answers = answers }
 
--- ---- the whole run
+-- ---- the whole opening
 
--- The threads, with logs without a record, went through all steps; then their desks ended one after the other, and then
--- each worker ran to the last end mark.
-pub record InTurns (s : Content) (desks : List DeskView) (workers : List WorkerView) (ended : List EndedView)
+-- The threads went through all these steps; then their desks ended one after the other, and then each worker ran to the
+-- last end mark.
+pub record InTurns (steps : List Step) (sessions left : List Session) (workers : List WorkerView) (ended : List EndedView)
     (done : List Served) (answers : List Answer) : Type 0 where
   pub ran : Course
-  pub runs : HasMadeSteps (course_of (new_sessions s desks) workers []) s.steps ran
+  pub runs : HasMadeSteps (course_of sessions workers []) steps ran
+  pub left_are : left ≡ ran.stage.sessions
   pub closed : Closing
   pub closes : HaveEnded (closing_of [] ran.stage.workers ran.answers) ran.stage.sessions closed
   pub ended_are : ended ≡ closed.ended

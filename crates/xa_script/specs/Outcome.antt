@@ -1,16 +1,19 @@
 -- What a run of a script comes to, in turns and in threads, and what its transcript is.
-use Rattle.std.specs.Prelude.{◌≡◌, ℕ, Option, List}
+use Rattle.std.specs.Prelude.{◌≡◌, ℕ, Option, List, All}
 use Rattle.std.specs.Io.KnownBytes.{Appends}
-use Rattle.xa_desk.specs.DeskView.{DeskView}
+use Rattle.xa_base.specs.Lists.{Chain}
 use Rattle.xa_desk.specs.Ended.{EndedView}
 use Rattle.xa_worker.specs.Workers.{WorkerView}
 use Rattle.xa_worker.specs.Done.{Served}
 use Rattle.xa_switch.specs.Settling.{Settling, IsSettled}
 use Rattle.xa_switch.specs.Closing.{settling}
 use Rattle.xa_grammar.specs.declared.script.Declared.{Declared}
-use Rattle.xa_grammar.specs.Content.{Content}
+use Rattle.xa_grammar.specs.declared.script.Step.{Step}
+use Rattle.xa_grammar.specs.Content.{Content, AreOfOne}
 use Rattle.xa_session.specs.declared.answer.Answer.{Answer}
-use Rattle.xa_transcript.specs.Journals.{TellsOf}
+use Rattle.xa_session.specs.declared.session.Session.{Session}
+use Rattle.xa_transcript.specs.Openings.{Beginning, Opening, Former, Leaves, Tells, beginning}
+use Rattle.xa_transcript.specs.Openings.{steps_over, answers_over}
 use Rattle.xa_transcript.specs.Runs.{Ran}
 use Rattle.xa_transcript.specs.Transcript.{text}
 use Rattle.xa_script.specs.declared.mode.Mode.{Mode}
@@ -18,33 +21,55 @@ use Rattle.xa_script.specs.declared.mode.Mode.TheVariants.{Turns, Threads}
 use Rattle.xa_script.specs.InTurns.{InTurns}
 use Rattle.xa_script.specs.InThreads.{InThreads}
 
--- How the desks and the workers of an opening became desks that have ended and workers that have run, and what was
--- answered.
-abbrev pub Runs : Mode → Content → List DeskView → List WorkerView → List EndedView → List Served → List Answer → Type 0
-Runs Turns s desks workers ended done answers = InTurns s desks workers ended done answers
-Runs Threads s desks workers ended done answers = InThreads s desks workers ended done answers
+-- How the threads and the workers of an opening came by its lines to desks that have ended and workers that have run, and
+-- what was answered.
+abbrev pub Runs : Mode → Content → List Step → List Session → List Session → List WorkerView → List EndedView → List Served
+    → List Answer → Type 0
+Runs Turns s steps sessions left workers ended done answers = InTurns steps sessions left workers ended done answers
+Runs Threads s steps sessions left workers ended done answers = InThreads s steps sessions left workers ended done answers
 
--- Whichever way, the desks and the workers of one opening of the script's plan have come to what was settled.
-pub record HasCome (s : Content) (answers : List Answer) (settled : Settling) : Type 0 where
-  pub desks : List DeskView
+-- In this way the threads and the workers of an opening that begins so have come to what was settled.
+pub record HasCome (m : Mode) (s : Content) (b : Beginning) (o : Opening) (left : List Session) : Type 0 where
+  pub sessions : List Session
   pub workers : List WorkerView
   pub ended : List EndedView
   pub done : List Served
-  pub ran : Ran s answers desks workers ended done
-  pub settles : settled ≡ settling ended done
-  pub agree : IsSettled settled
+  pub runs : Runs m s o.steps sessions left workers ended done o.answers
+  pub ran : Ran s b o.steps o.answers sessions left workers ended done
+  pub settles : o.settled ≡ settling ended done
+  pub number : o.settled.opening ≡ b.opening
+  pub agree : IsSettled o.settled
 
--- They came to it in this way.
-pub record IsOutcome (m : Mode) (s : Content) (answers : List Answer) (settled : Settling) : Type 0 where
-  pub come : HasCome s answers settled
-  pub runs : Runs m s come.desks come.workers come.ended come.done answers
+-- And then it was opened again.
+pub record Follows (m : Mode) (s : Content) (f : Former) (old new : Beginning) : Type 0 where
+  pub left : List Session
+  pub comes : HasCome m s old f.opening left
+  pub leaves : Leaves s f old new
 
--- What a writer holds grew by the transcript of a script that was run in this way, and that tells of the settled
--- opening.
+-- The script was run in this way, in one opening after the other.
+pub record IsOutcome (m : Mode) (s : Content) (answers : List Answer) (before : List Former) (last : Opening) : Type 0 where
+  pub steps : s.steps ≡ steps_over before last
+  pub answers_ : answers ≡ answers_over before last
+  pub ones : All (λ f. AreOfOne f.opening.steps) before × AreOfOne last.steps
+  pub begins : Beginning
+  pub former : Chain (Follows m s) (beginning s) before begins
+  pub left : List Session
+  pub latest : HasCome m s begins last left
+
+-- It was run in some way, and this is what was settled last.
+pub record IsRun (s : Content) (answers : List Answer) (settled : Settling) : Type 0 where
+  pub mode : Mode
+  pub before : List Former
+  pub last : Opening
+  pub outcome : IsOutcome mode s answers before last
+  pub settles : last.settled ≡ settled
+
+-- What a writer holds grew by the transcript of a script that was run in this way, and that tells of its openings.
 pub record Writes (m : Mode) (s : Content) (before after : Option (List ℕ)) : Type 0 where
   pub answers : List Answer
-  pub settled : Settling
-  pub outcome : IsOutcome m s answers settled
+  pub former : List Former
+  pub latest : Opening
+  pub outcome : IsOutcome m s answers former latest
   pub values : List Declared
-  pub tells : TellsOf s answers values settled
+  pub tells : Tells s answers values former latest
   pub written : Appends before after (text answers values)

@@ -1,6 +1,7 @@
 //! The program, over any reader and writers.
 ghost use Rattle.std.specs.Prelude.{◌≡◌, ◌⊎◌, ◌<◌, OnOk, IfErr, IsErrOf, IfSome};
 ghost use Rattle.xa_script.specs.declared.mode.Mode.{Mode};
+ghost use Rattle.xa_grammar.specs.Content.{AreOfOne};
 ghost use Rattle.xa_script.specs.declared.entry.Fault.TheVariants.{NoMemory};
 ghost use Rattle.xa_script.specs.Outcome.{Writes};
 ghost use Rattle.xa_script.specs.Program.{status_of, IsMode, AreWords, IsJudged, ShowsRun, IsFaulty, FailsBy};
@@ -103,6 +104,7 @@ fn run<H: Threads + Wait + Copy + Send + 'static, W: Write>(
     script: &Script,
     out: &mut W,
 ) -> Result<(), RunFault>
+    requires one { mode ≡ Mode.Threads → AreOfOne script.now.steps }
     ensures ok { OnOk result (Writes mode script.now (W.contents out.old) (W.contents out.new)) }
     ensures memory { IsErrOf result RunFault.NoMemory → W.contents out.new ≡ W.contents out.old }
 {

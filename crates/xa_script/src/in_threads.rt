@@ -2,7 +2,8 @@
 ghost use Rattle.std.specs.Prelude.{◌≡◌, ◌++◌, [], length, All, IfOk, OnOk, IsErrOf, false};
 ghost use Rattle.std.specs.List.{flat_map, range_with_len};
 ghost use Rattle.xa_base.specs.Lists.{Pairwise};
-ghost use Rattle.xa_grammar.specs.Content.{threads_of};
+ghost use Rattle.xa_grammar.specs.Content.{threads_of, AreOfOne};
+ghost use Rattle.xa_transcript.specs.Openings.{Opening};
 ghost use Rattle.xa_session.specs.ScriptThreads.{IsNew};
 ghost use Rattle.xa_script.specs.declared.mode.Mode.TheVariants as mode;
 ghost use Rattle.xa_script.specs.InThreads.{told_by};
@@ -70,8 +71,9 @@ fn run<R: Threads + Wait + Copy + Send + 'static, P: Pace + Drop + Send + 'stati
     script: &Script,
     paces: Vec<P>,
 ) -> Result<(Vec<Answer>, Settled), AllocError>
-    requires { length paces.items ≡ 8 }
-    ensures { IfOk result (λ r. IsOutcome mode.Threads script.now r.0.items r.1) }
+    requires paces { length paces.items ≡ 8 }
+    requires one { AreOfOne script.now.steps }
+    ensures { IfOk result (λ r. (last : Opening) × IsOutcome mode.Threads script.now r.0.items [] last × (last.settled ≡ r.1)) }
 {
     let plan = plan_of(alloc, script)?;
     let threads = threads_of(alloc, script)?;
@@ -84,22 +86,23 @@ fn run<R: Threads + Wait + Copy + Send + 'static, P: Pace + Drop + Send + 'stati
     }
 }
 
-/// Runs a script in threads, one for each of its threads and one for each manager's worker, and writes
-/// its transcript: the answers to the lines of thread 1 in their order and what was outstanding after
-/// the last, then those of thread 2, and so on; then the committed value of each declared key.
+/// Runs a script in threads, one for each of its threads and one for each manager's worker, and writes its transcript:
+/// the answers to the lines of thread 1 in their order and what was outstanding after the last, then those of thread 2,
+/// and so on; then the committed value of each declared key.
 ///
-/// A script that was read for threads has no turns, and one that has is run without them. There are eight
-/// paces; the worker of manager m has that at place m - 1.
+/// A script that was read for threads has no turns, and one that has is run without them. It must not open its managers
+/// again, as none does that was read for threads; `Script::reopens` tells. There are eight paces; the worker of manager
+/// m has that at place m - 1.
 ///
-/// Nothing is written before the run is over. On `NoMemory` nothing is written at all; a thread that
-/// can't be started counts as that. After `Write` the writer may have taken a part. It returns once all
-/// that it waits for has come.
+/// Nothing is written before the run is over. On `NoMemory` nothing is written at all; a thread that can't be started
+/// counts as that. After `Write` the writer may have taken a part. It returns once all that it waits for has come.
 pub fn run_threads<
     R: Threads + Wait + Copy + Send + 'static,
     W: Write,
     P: Pace + Drop + Send + 'static,
 >(rt: &R, alloc: Global, script: &Script, writer: &mut W, paces: Vec<P>) -> Result<(), RunFault>
-    requires { length paces.items ≡ 8 }
+    requires paces { length paces.items ≡ 8 }
+    requires one { AreOfOne script.now.steps }
     ensures ok { OnOk result (Writes mode.Threads script.now (W.contents writer.old) (W.contents writer.new)) }
     ensures memory { IsErrOf result RunFault.NoMemory → W.contents writer.new ≡ W.contents writer.old }
 {

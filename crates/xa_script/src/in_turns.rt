@@ -1,15 +1,17 @@
 //! Running a script in turns, step by step in one thread.
-ghost use Rattle.std.specs.Prelude.{◌≡◌, ◌+◌, ◌≤◌, [], length, All, IfOk, OnOk, IsErrOf, vec_capacity};
+ghost use Rattle.std.specs.Prelude.{◌≡◌, ◌+◌, ◌<◌, ◌++◌, ℕ, List, [], length, map, All, IfOk, OnOk, IsErrOf};
+ghost use Rattle.xa_base.specs.Lists.{IsUpTo, Pairwise};
 ghost use Rattle.xa_desk.specs.Kept.{AllKept};
-ghost use Rattle.xa_grammar.specs.Content.{Fits};
-ghost use Rattle.xa_base.specs.Lists.{Pairwise};
 ghost use Rattle.xa_crew.specs.Pieces.{HasServed};
+ghost use Rattle.xa_grammar.specs.Content.{Content, thread_of};
+ghost use Rattle.xa_transcript.specs.Openings.{Beginning, Opening, Former, beginning};
 ghost use Rattle.xa_script.specs.declared.mode.Mode.TheVariants as mode;
-ghost use Rattle.xa_script.specs.InTurns.{stage_of, course_of, closing_of, Steps, HasMadeSteps, HaveEnded};
-ghost use Rattle.xa_script.specs.Outcome.{IsOutcome, Writes};
+ghost use Rattle.xa_script.specs.InTurns.{stage_of, closing_of, HasCalled, HasTurned, HaveEnded};
+ghost use Rattle.xa_script.specs.Openings.{IsOpen, Goes, IsClosed};
+ghost use Rattle.xa_script.specs.Outcome.{Follows, IsOutcome, Writes};
 
 use crate::outcome::show;
-use crate::plan::plan_of;
+use crate::plan::{again_of, plan_of};
 use crate::turns::Turns;
 use std::alloc::{AllocError, Global};
 use std::io::Write;
@@ -18,80 +20,155 @@ use xa_base::MOST_HANDLES;
 use xa_crew::{end_desk, settle_all};
 use xa_desk::EndedDesk;
 use xa_desk::laws::desks_go_on;
-use xa_grammar::{Script, Step};
-use xa_session::{Answer, Session, carry_out, sessions_of, tell_ended};
+use xa_driver::MemoryLog;
+use xa_grammar::{Script, Step, Task};
+use xa_session::{Answer, Session, carry_out, sessions_again, sessions_of, tell_ended};
 use xa_switch::laws::outstanding_operations_stay_kept;
-use xa_switch::{OpenFault, Settled, open_switch};
+use xa_switch::{OpenFault, Settled, open_switch, reopen};
 use xa_transcript::RunFault;
 use xa_worker::{DoneWorker, Free, Worker};
 
-// What runs a script: its threads of control, and the workers, which take turns.
+// What runs an opening of a script: its number, its threads of control, and the workers, which take turns.
 #[derive(Drop)]
 struct Runner {
+    opening: u64,
     sessions: Vec<Session>,
     turns: Turns,
 }
 
+// What an opening has come to: its number, the logs of its threads, and how it was settled.
+#[derive(Drop)]
+struct Closed {
+    opening: u64,
+    logs: Vec<MemoryLog>,
+    settled: Settled,
+}
+
 impl Runner {
-    // The answer to a step. It fails only for want of memory.
-    fn step<R: Wait>(&mut self, rt: &R, alloc: Global, step: &Step) -> Result<Answer, AllocError>
-        requires { Fits (length self.old.sessions.items) (length self.old.turns.workers.items) step.now }
-        ensures { IfOk result (Steps step.now (stage_of self.old.sessions.items self.old.turns.workers.items) (stage_of self.new.sessions.items self.new.turns.workers.items)) }
+    // The first opening of a script.
+    fn open<R: Wait>(rt: &R, alloc: Global, script: &Script) -> Result<Runner, AllocError>
+        ensures number { IfOk result (λ r. r.opening ≡ 1) }
+        ensures opened { IfOk result (λ r. IsOpen script.now (beginning script.now) r.sessions.items r.turns.workers.items) }
     {
-        match *step {
-            Step::Task(task) => {
-                let session = &mut self.sessions[task.thread() as usize - 1];
-                let Session { desk, log } = session;
-                carry_out(rt, alloc, desk, log, &task, &mut self.turns)
-            }
-            Step::Turn { line, manager } => Ok(Answer::Turned {
-                line,
-                step: self.turns.turn(rt, manager),
-            }),
+        let plan = plan_of(alloc, script)?;
+        let (desks, workers) = match open_switch(rt, alloc, &plan) {
+            Ok(opened) => opened,
+            Err(OpenFault::NoMemory) => return Err(AllocError),
+            // A script's counts are within the limits, and its managers can be opened with their keys.
+            Err(OpenFault::BadPlan) => unreachable!(),
+        };
+        let sessions = sessions_of(alloc, script, desks)?;
+        Ok(Runner {
+            opening: plan.opening,
+            sessions,
+            turns: Turns { workers },
+        })
+    }
+
+    // A thread does a task. It fails only for want of memory.
+    fn call<R: Wait>(&mut self, rt: &R, alloc: Global, task: &Task) -> Result<Answer, AllocError>
+        requires { IsUpTo (length self.old.sessions.items) (thread_of task.now) }
+        ensures calls { IfOk result (HasCalled task.now (stage_of self.old.sessions.items self.old.turns.workers.items) (stage_of self.new.sessions.items self.new.turns.workers.items)) }
+        ensures number { self.new.opening ≡ self.old.opening }
+    {
+        let Session { desk, log, scan } = &mut self.sessions[task.thread() as usize - 1];
+        carry_out(rt, alloc, desk, log, scan, task, &mut self.turns)
+    }
+
+    // A manager's worker takes a turn.
+    fn turn<R: Wait>(&mut self, rt: &R, line: u32, manager: u32) -> Answer
+        requires { IsUpTo (length self.old.turns.workers.items) manager }
+        ensures turns { HasTurned line manager (stage_of self.old.sessions.items self.old.turns.workers.items) (stage_of self.new.sessions.items self.new.turns.workers.items) result }
+        ensures number { self.new.opening ≡ self.old.opening }
+    {
+        Answer::Turned {
+            line,
+            step: self.turns.turn(rt, manager),
         }
     }
 
-    // The answers to the steps, in their order. It fails only for want of memory.
-    fn run<R: Wait>(
-        &mut self,
+    // The opening ends: what is outstanding is told, the workers run to the last end mark, and all is settled.
+    fn close<R: Wait>(
+        self,
         rt: &R,
         alloc: Global,
-        steps: &[Step],
         answers: &mut Vec<Answer>,
-    ) -> Result<(), AllocError>
-        requires fit { All (Fits (length self.old.sessions.items) (length self.old.turns.workers.items)) steps.now }
-        requires room { length answers.old.items + length steps.now ≤ vec_capacity answers.old }
-        ensures runs { OnOk result (HasMadeSteps (course_of self.old.sessions.items self.old.turns.workers.items answers.old.items) steps.now (course_of self.new.sessions.items self.new.turns.workers.items answers.new.items)) }
-        ensures few { OnOk result (length answers.new.items ≡ length answers.old.items + length steps.now) }
-        ensures room { vec_capacity answers.new ≡ vec_capacity answers.old }
+    ) -> Result<Closed, AllocError>
+        requires { (s : Content) × (b : Beginning) × (steps : List Step) × (told : List Answer) × Goes s b steps told self.sessions.items self.turns.workers.items }
+        ensures number { IfOk result (λ c. c.opening ≡ self.opening) }
+        ensures closed { IfOk result (λ c. (s : Content) (b : Beginning) (steps : List Step) (told : List Answer) → Goes s b steps told self.sessions.items self.turns.workers.items → (more : List Answer) × (answers.new.items ≡ answers.old.items ++ more) × IsClosed s b (record { steps = steps; answers = told ++ more; settled = c.settled }) c.logs.items) }
     {
-        for step in steps {
-            let answer = self.step(rt, alloc, step)?;
-            answers.push_reserved(answer);
-        }
-        Ok(())
+        outstanding_operations_stay_kept();
+        desks_go_on();
+        let Runner {
+            opening,
+            sessions,
+            mut turns,
+        } = self;
+        let (ended, logs) = end_desks(rt, alloc, sessions, &mut turns, answers)?;
+        let done = run_workers(rt, alloc, turns.workers)?;
+        let settled = settle_all(rt, alloc, ended, done)?;
+        Ok(Closed {
+            opening,
+            logs,
+            settled,
+        })
     }
 }
 
-// Ends the desks by rising thread, and tells what was outstanding.
+impl Closed {
+    // It is opened again, with the next number.
+    fn reopen<R: Wait>(self, rt: &R, alloc: Global, script: &Script) -> Result<Runner, AllocError>
+        requires closed { (b : Beginning) × (o : Opening) × IsClosed script.now b o self.logs.items × (o.settled ≡ self.settled) × (self.opening ≡ b.opening) }
+        requires few { self.opening < 18446744073709551615 }
+        ensures opened { IfOk result (λ r. (b : Beginning) (o : Opening) (line : ℕ) → IsClosed script.now b o self.logs.items → o.settled ≡ self.settled → self.opening ≡ b.opening → (next : Beginning) × Follows mode.Turns script.now (record { opening = o; line = line }) b next × (r.opening ≡ next.opening) × IsOpen script.now next r.sessions.items r.turns.workers.items) }
+        ensures number { IfOk result (λ r. r.opening ≡ self.opening + 1) }
+    {
+        let Closed {
+            opening,
+            logs,
+            settled,
+        } = self;
+        let again = again_of(script, opening + 1);
+        let (desks, workers, scans) = match reopen(rt, alloc, settled, &again) {
+            Ok(opened) => opened,
+            Err(unopened) => match unopened.why {
+                OpenFault::NoMemory => return Err(AllocError),
+                // A script's counts are within the limits, and the number is the opening's own.
+                OpenFault::BadPlan => unreachable!(),
+            },
+        };
+        let sessions = sessions_again(alloc, desks, logs, scans)?;
+        Ok(Runner {
+            opening: again.opening,
+            sessions,
+            turns: Turns { workers },
+        })
+    }
+}
+
+// Ends the desks by rising thread, tells what was outstanding, and gives the threads' logs.
 fn end_desks<R: Wait>(
     rt: &R,
     alloc: Global,
     sessions: Vec<Session>,
     turns: &mut Turns,
     answers: &mut Vec<Answer>,
-) -> Result<Vec<EndedDesk>, AllocError>
+) -> Result<(Vec<EndedDesk>, Vec<MemoryLog>), AllocError>
     requires { All (λ s. AllKept s.desk) sessions.items }
-    ensures { IfOk result (λ ended. HaveEnded (closing_of [] turns.old.workers.items answers.old.items) sessions.items (closing_of ended.items turns.new.workers.items answers.new.items)) }
+    ensures ended { IfOk result (λ r. HaveEnded (closing_of [] turns.old.workers.items answers.old.items) sessions.items (closing_of r.0.items turns.new.workers.items answers.new.items)) }
+    ensures logs { IfOk result (λ r. r.1.items ≡ map (λ x. x.log) sessions.items) }
 {
     let mut ended = Vec::with_capacity(alloc, sessions.len())?;
+    let mut logs = Vec::with_capacity(alloc, sessions.len())?;
     for session in sessions {
         let thread = session.desk.thread();
         let mut outstanding = Vec::with_capacity(alloc, MOST_HANDLES)?;
         ended.push(end_desk(rt, session.desk, turns, &mut outstanding))?;
+        logs.push(session.log)?;
         tell_ended(thread, &outstanding, answers)?;
     }
-    Ok(ended)
+    Ok((ended, logs))
 }
 
 // Runs the workers to the last end mark, by rising manager.
@@ -109,41 +186,35 @@ fn run_workers<R: Wait>(
     Ok(done)
 }
 
-// Runs a script in turns, and settles what its threads and managers have come to.
+// Runs a script in turns, and settles what the threads and the managers of each opening have come to: the last one's.
 fn run<R: Wait>(
     rt: &R,
     alloc: Global,
     script: &Script,
 ) -> Result<(Vec<Answer>, Settled), AllocError>
-    ensures { IfOk result (λ r. IsOutcome mode.Turns script.now r.0.items r.1) }
+    ensures { IfOk result (λ r. (before : List Former) × (last : Opening) × IsOutcome mode.Turns script.now r.0.items before last × (last.settled ≡ r.1)) }
 {
-    outstanding_operations_stay_kept();
-    desks_go_on();
-    let plan = plan_of(alloc, script)?;
-    let (desks, workers) = match open_switch(rt, alloc, &plan) {
-        Ok(opened) => opened,
-        Err(OpenFault::NoMemory) => return Err(AllocError),
-        // A script's counts are within the limits, and its managers can be opened with their keys.
-        Err(OpenFault::BadPlan) => unreachable!(),
-    };
-    let sessions = sessions_of(alloc, script, desks)?;
     let steps = script.steps();
-    let mut answers = Vec::with_capacity(alloc, steps.len() + sessions.len() * MOST_HANDLES)?;
-    let turns = Turns { workers };
-    let mut runner = Runner { sessions, turns };
-    runner.run(rt, alloc, steps, &mut answers)?;
-    let Runner {
-        sessions,
-        mut turns,
-    } = runner;
-    let ended = end_desks(rt, alloc, sessions, &mut turns, &mut answers)?;
-    let done = run_workers(rt, alloc, turns.workers)?;
-    let settled = settle_all(rt, alloc, &plan, ended, done)?;
-    Ok((answers, settled))
+    let mut runner = Runner::open(rt, alloc, script)?;
+    let ends = runner.sessions.len() * MOST_HANDLES;
+    let mut answers = Vec::with_capacity(alloc, steps.len() + ends)?;
+    for step in steps {
+        match *step {
+            Step::Task(task) => answers.push(runner.call(rt, alloc, &task)?)?,
+            Step::Turn { line, manager } => answers.push(runner.turn(rt, line, manager))?,
+            Step::Reopen { line } => {
+                let closed = runner.close(rt, alloc, &mut answers)?;
+                answers.push(Answer::Reopened { line })?;
+                runner = closed.reopen(rt, alloc, script)?;
+            }
+        }
+    }
+    let closed = runner.close(rt, alloc, &mut answers)?;
+    Ok((answers, closed.settled))
 }
 
-/// Runs a script in turns and writes its transcript: the answer to each step in the order of the
-/// lines, what was outstanding after the last, and the committed value of each declared key.
+/// Runs a script in turns and writes its transcript: the answer to each step in the order of the lines, what was
+/// outstanding before each line that reopens and after the last line, and the committed value of each declared key.
 ///
 /// Nothing is written before the run is over. On `NoMemory` nothing is written at all; after
 /// `Write` the writer may have taken a part. It returns once all that it waits for has come.

@@ -4,16 +4,16 @@ ghost use Rattle.std.specs.List.{range_with_len};
 ghost use Rattle.xa_base.specs.Lists.{IsUpTo};
 ghost use Rattle.xa_switch.specs.Plans.{IsSoundManager, IsSound};
 ghost use Rattle.xa_grammar.specs.Content.{accounts_of, managers_of};
-ghost use Rattle.xa_transcript.specs.Planning.{plan_says, script_says, IsPlanOf};
+ghost use Rattle.xa_transcript.specs.Planning.{plan_says, script_says, IsPlanOf, AreNumbersOf};
 
 use std::alloc::{AllocError, Global};
 use xa_base::MOST_MANAGERS;
 use xa_grammar::{Declared, Script};
-use xa_switch::{ManagerPlan, Plan};
+use xa_switch::{Again, ManagerPlan, Plan};
 use xa_words::Key;
 
-// The number of a run's one opening.
-const OPENING: u64 = 1;
+// The number of a run's first opening.
+const FIRST: u64 = 1;
 
 // What a manager is opened with.
 fn accounts_of(
@@ -60,11 +60,24 @@ pub(crate) fn plan_of(alloc: Global, script: &Script) -> Result<Plan, AllocError
     ensures sound { IfOk result IsSound }
 {
     Ok(Plan {
-        opening: OPENING,
+        opening: FIRST,
         threads: script.threads(),
         handles: script.handles(),
         queue: script.queue(),
         requests: script.requests(),
         managers: manager_plans(alloc, script)?,
     })
+}
+
+/// The numbers with which it is opened again.
+pub(crate) fn again_of(script: &Script, opening: u64) -> Again
+    ensures { AreNumbersOf script.now opening result }
+{
+    Again {
+        opening,
+        threads: script.threads(),
+        handles: script.handles(),
+        queue: script.queue(),
+        requests: script.requests(),
+    }
 }

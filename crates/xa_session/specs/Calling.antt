@@ -1,10 +1,14 @@
 -- What a script's calls do to the desk of their thread, and what they answer.
-use Rattle.std.specs.Prelude.{◌≡◌, ℕ, ℤ, pos, if◌then◌else◌}
+use Rattle.std.specs.Prelude.{◌≡◌, ℕ, ℤ, pos, negsuc, if◌then◌else◌, List, Vec, length, take}
+use Rattle.std.specs.Global.{Global}
 use Rattle.std.specs.Ordering.{int_eq}
 use Rattle.xa_desk.specs.DeskView.{DeskView}
 use Rattle.xa_switch.specs.Asking.{asked_of, native}
 use Rattle.xa_switch.specs.Putting.{Calls}
 use Rattle.xa_switch.specs.Completing.{HasCompleted}
+use Rattle.xa_switch.specs.Scans.{ScanView, HasRecovered}
+use Rattle.xa_words.specs.Xid.{XidName}
+use Rattle.xa_words.specs.declared.xid.Xid.{Xid}
 use Rattle.xa_grammar.specs.declared.script.Action.{Action}
 use Rattle.xa_grammar.specs.declared.script.Action.TheVariants as action
 use Rattle.xa_grammar.specs.declared.script.Called.{Called}
@@ -34,8 +38,24 @@ pub record HasCollected (p : Called) (old : DeskView) (h : ℤ) (new : DeskView)
   pub completes : HasCompleted old h (pos 0) p.manager p.flags new handle retval answer
   pub shown : a ≡ completed p handle retval answer
 
--- What an action does to its thread's desk, and what it answers.
-abbrev pub Answers : Action → Called → DeskView → DeskView → Answer → Type 0
-Answers (action.Xa c x) p old new a = HasAnswered (Calls (asked_of c x p.flags)) p old new a
-Answers (action.Native o) p old new a = HasAnswered (Calls (native o p.flags)) p old new a
-Answers (action.Complete h) p old new a = HasCollected p old h new a
+-- A negative answer is shown alone, and another with what was written.
+abbrev pub IsListed : Called → ℤ → List XidName → Answer → Type 0
+IsListed p (negsuc n) xids a = a ≡ shown p (negsuc n)
+IsListed p (pos n) xids a = (v : Vec Xid Global) × (v.items ≡ take n xids) × (a ≡ answer.Recovered p.line p.thread v)
+
+-- What an xa_recover with room for n xids does to its thread's desk and scan, and what it answers.
+pub record HasListed (p : Called) (n : ℕ) (old : DeskView) (z : ScanView) (new : DeskView) (z' : ScanView)
+    (a : Answer) : Type 0 where
+  pub before : List XidName
+  pub after : List XidName
+  pub answer : ℤ
+  pub room : length before ≡ n
+  pub recovers : HasRecovered p.manager p.flags old z before new z' after answer
+  pub shown : IsListed p answer after a
+
+-- What an action does to its thread's desk and scan, and what it answers. Only an xa_recover moves the scan.
+abbrev pub Answers : Action → Called → DeskView → ScanView → DeskView → ScanView → Answer → Type 0
+Answers (action.Xa c x) p old z new z' a = HasAnswered (Calls (asked_of c x p.flags)) p old new a × (z' ≡ z)
+Answers (action.Native o) p old z new z' a = HasAnswered (Calls (native o p.flags)) p old new a × (z' ≡ z)
+Answers (action.Complete h) p old z new z' a = HasCollected p old h new a × (z' ≡ z)
+Answers (action.Recover n) p old z new z' a = HasListed p n old z new z' a

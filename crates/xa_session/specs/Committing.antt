@@ -37,5 +37,5 @@ pub data CommitsAll (c : CommitAll) (old new : Session) (a : Answer) : Type 0 wh
       → CommitsAll c old new a
   decided : (done : Done) → MayCommit old.desk old.log.state (branches_of c)
       → IsTraceOfCommit (named c) (branches_of c) old.desk.ledgers new.desk.ledgers old.log.state new.log.state done
-      → KeepsDesk old.desk new.desk → outstanding new.desk.ledgers ≡ outstanding old.desk.ledgers
+      → new.scan ≡ old.scan → KeepsDesk old.desk new.desk → outstanding new.desk.ledgers ≡ outstanding old.desk.ledgers
       → a ≡ answer.Decided c.line c.thread done → CommitsAll c old new a

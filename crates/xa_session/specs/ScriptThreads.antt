@@ -1,15 +1,18 @@
 -- A thread of a script, and what it comes to with its desk.
 use Rattle.std.specs.Prelude.{◌≡◌, ℕ, false, []}
 use Rattle.xa_desk.specs.DeskView.{DeskView}
+use Rattle.xa_switch.specs.Scans.{no_scan}
 use Rattle.xa_grammar.specs.Content.{Content, tasks_of}
 use Rattle.xa_base.specs.Lists.{Chain}
 use Rattle.xa_session.specs.declared.script_thread.ScriptThread.{ScriptThread}
 use Rattle.xa_session.specs.Sessions.{log_of, session_of, HasDone}
 
--- Thread t of the script before it does anything: its own tasks, no answer, and a log without a record.
+-- Thread t of the script before it does anything: its own tasks, no answer, a log without a record, and nothing left to
+-- scan.
 pub record IsNew (s : Content) (t : ℕ) (x : ScriptThread) : Type 0 where
   pub own : x.thread ≡ t
   pub log : x.log ≡ log_of s t
+  pub scan : x.scan ≡ no_scan
   pub tasks : x.tasks.items ≡ tasks_of t s.steps
   pub answers : x.answers.items ≡ []
 
@@ -18,4 +21,5 @@ pub record IsNew (s : Content) (t : ℕ) (x : ScriptThread) : Type 0 where
 pub record Works (x : ScriptThread) (d : DeskView) (x' : ScriptThread) (d' : DeskView) : Type 0 where
   pub own : x'.thread ≡ x.thread
   pub runs : x'.wants_memory ≡ false
-      → Chain HasDone (session_of d x.log, x.answers.items) x.tasks.items (session_of d' x'.log, x'.answers.items)
+      → Chain HasDone (session_of d x.log x.scan, x.answers.items) x.tasks.items
+      (session_of d' x'.log x'.scan, x'.answers.items)

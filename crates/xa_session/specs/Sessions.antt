@@ -1,8 +1,9 @@
 -- A thread of a script, and what its tasks do.
-use Rattle.std.specs.Prelude.{◌≡◌, ℕ, unwrap_or, List, [], ◌∷◌, ◌++◌, map}
+use Rattle.std.specs.Prelude.{◌≡◌, ℕ, unwrap_or, List, [], ◌∷◌, ◌++◌, map, zip}
 use Rattle.xa_desk.specs.DeskView.{DeskView}
 use Rattle.xa_desk.specs.GoesOn.{GoesOn}
 use Rattle.xa_desk.specs.Kept.{AllKept}
+use Rattle.xa_switch.specs.Scans.{ScanView, no_scan}
 use Rattle.xa_driver.specs.Log.{LogView, no_records}
 use Rattle.xa_grammar.specs.declared.script.Task.{Task}
 use Rattle.xa_grammar.specs.declared.script.Task.TheVariants.{Call, CommitAll}
@@ -17,21 +18,25 @@ use Rattle.xa_session.specs.Committing.{CommitsAll}
 abbrev pub log_of : Content → ℕ → LogView
 log_of s t = record { state = no_records; appends = 0; failing = unwrap_or (failing_append s t) 0 }
 
--- A desk with a log.
-abbrev pub session_of : DeskView → LogView → Session
-session_of d l = record { desk = d; log = l }
+-- A desk with a log and with scans.
+abbrev pub session_of : DeskView → LogView → ScanView → Session
+session_of d l z = record { desk = d; log = l; scan = z }
 
--- The thread of this desk at first.
+-- The thread of this desk at the first opening.
 abbrev pub new_session : Content → DeskView → Session
-new_session s d = session_of d (log_of s d.thread)
+new_session s d = session_of d (log_of s d.thread) no_scan
 
 -- The threads at first, each with its desk and a log of its own.
 abbrev pub new_sessions : Content → List DeskView → List Session
 new_sessions s desks = map (new_session s) desks
 
--- What a task answers, and what it does to its thread's desk and log. A call leaves the log.
+-- The threads of these desks at a later opening, each with the log that it had and with the scans that it got.
+abbrev pub sessions_again : List DeskView → List LogView → List ScanView → List Session
+sessions_again desks logs scans = map (λ x. session_of x.0.0 x.0.1 x.1) (zip (zip desks logs) scans)
+
+-- What a task answers, and what it does to its thread. A call leaves the log, and a commit the scans.
 abbrev pub Executes : Task → Session → Session → Answer → Type 0
-Executes (Call p) old new a = Answers p.action p old.desk new.desk a × (new.log ≡ old.log)
+Executes (Call p) old new a = Answers p.action p old.desk old.scan new.desk new.scan a × (new.log ≡ old.log)
 Executes (CommitAll c) old new a = CommitsAll c old new a
 
 -- What a task does to its thread, and what it answers. The desk goes on, and what is outstanding stays kept.

@@ -1,5 +1,6 @@
 //! What the lines of a script answer.
 use xa_driver::Done;
+use xa_words::Xid;
 use xa_worker::Step;
 
 /// A line of the transcript before the values. Lines, threads and handles count from 1.
@@ -17,6 +18,12 @@ pub enum Answer {
         thread: u32,
         handle: i32,
         retval: i32,
+    },
+    /// The xa_recover on this line listed these branches: `L T N`, and their xids.
+    Recovered {
+        line: u32,
+        thread: u32,
+        xids: Vec<Xid>,
     },
     /// The branches on this line may not be committed, and nothing was done: `L T refused`.
     Refused {
@@ -40,5 +47,9 @@ pub enum Answer {
         thread: u32,
         handle: u32,
         retval: i32,
+    },
+    /// The opening before this line was settled and opened again: `L reopened`.
+    Reopened {
+        line: u32,
     },
 }

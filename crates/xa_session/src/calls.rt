@@ -1,16 +1,18 @@
 //! What a script's calls answer over the desk of their thread.
-ghost use Rattle.std.specs.Prelude.{◌≡◌};
+ghost use Rattle.std.specs.Prelude.{◌≡◌, ◌≤◌, ◌<◌, length, take, IfOk, OnErr};
 ghost use Rattle.xa_desk.specs.GoesOn.{GoesOn};
 ghost use Rattle.xa_desk.specs.Kept.{AllKept};
 ghost use Rattle.xa_switch.specs.Asking.{asked_of, native};
 ghost use Rattle.xa_switch.specs.Putting.{Calls};
-ghost use Rattle.xa_session.specs.Calling.{shown, completed, HasAnswered, HasCollected, Answers};
+ghost use Rattle.xa_words.specs.Xid.{XidName};
+ghost use Rattle.xa_session.specs.Calling.{shown, completed, HasAnswered, HasCollected, HasListed, IsListed, Answers};
 
 use crate::answer::Answer;
+use std::alloc::{AllocError, Global};
 use std::sync::Wait;
 use xa_desk::{Desk, Idle};
 use xa_grammar::{Action, Called};
-use xa_switch::{native, xa_call, xa_complete};
+use xa_switch::{Scan, native, xa_call, xa_complete, xa_recover};
 use xa_words::{Call, RmOp, Xid};
 
 // The answer of a call that is no xa_complete.
@@ -42,22 +44,84 @@ fn xa_called<R: Wait, I: Idle>(
     shown(called, answer)
 }
 
-/// What a call answers.
+/// What a call answers. It fails only for want of memory, and then nothing is done.
 pub(crate) fn answer<R: Wait, I: Idle>(
     rt: &R,
+    alloc: Global,
     desk: &mut Desk,
+    scan: &mut Scan,
     called: &Called,
     idle: &mut I,
-) -> Answer
-    ensures answers { Answers called.now.action called.now desk.old desk.new result }
+) -> Result<Answer, AllocError>
+    ensures answers { IfOk result (Answers called.now.action called.now desk.old scan.old desk.new scan.new) }
     ensures goes_on { GoesOn desk.old desk.new }
     ensures kept { AllKept desk.old → AllKept desk.new }
+    ensures unsent { OnErr result (desk.new ≡ desk.old) }
+    ensures unscanned { OnErr result (scan.new ≡ scan.old) }
     ensures idled { I.leads idle.old idle.new }
 {
     match called.action {
-        Action::Xa(call, xid) => xa_called(rt, desk, called, call, xid, idle),
-        Action::Native(op) => native_called(rt, desk, called, op, idle),
-        Action::Complete(handle) => completed(rt, desk, called, handle, idle),
+        Action::Xa(call, xid) => Ok(xa_called(rt, desk, called, call, xid, idle)),
+        Action::Native(op) => Ok(native_called(rt, desk, called, op, idle)),
+        Action::Complete(handle) => Ok(completed(rt, desk, called, handle, idle)),
+        Action::Recover(room) => recovered(rt, alloc, desk, scan, called, room, idle),
+    }
+}
+
+fn some_xid() -> Xid {
+    match Xid::new(1, b"0", b"0") {
+        Ok(xid) => xid,
+        // Each part has a byte.
+        Err(_) => unreachable!(),
+    }
+}
+
+// So many xids, whichever.
+fn blank(alloc: Global, room: u32) -> Result<Vec<Xid>, AllocError>
+    ensures { IfOk result (λ v. length v.items ≡ room) }
+{
+    let mut xids = Vec::with_capacity(alloc, room as usize)?;
+    for _ in 0..room {
+        xids.push_reserved(some_xid());
+    }
+    Ok(xids)
+}
+
+// What an xa_recover with room for so many xids answers.
+fn recovered<R: Wait, I: Idle>(
+    rt: &R,
+    alloc: Global,
+    desk: &mut Desk,
+    scan: &mut Scan,
+    called: &Called,
+    room: u32,
+    idle: &mut I,
+) -> Result<Answer, AllocError>
+    ensures answers { IfOk result (HasListed called.now room desk.old scan.old desk.new scan.new) }
+    ensures goes_on { GoesOn desk.old desk.new }
+    ensures kept { AllKept desk.old → AllKept desk.new }
+    ensures unsent { OnErr result (desk.new ≡ desk.old) }
+    ensures unscanned { OnErr result (scan.new ≡ scan.old) }
+    ensures idled { I.leads idle.old idle.new }
+{
+    let (manager, flags) = (called.manager, called.flags);
+    let mut xids = blank(alloc, room)?;
+    let answer = xa_recover(rt, desk, scan, &mut xids, manager, flags, idle);
+    Ok(listed(called, answer, xids))
+}
+
+// The answer of an xa_recover, which is shown with what it wrote.
+fn listed(called: &Called, answer: i32, mut xids: Vec<Xid>) -> Answer
+    ensures { IsListed called.now answer xids.items result }
+{
+    if answer < 0 {
+        return shown(called, answer);
+    }
+    xids.truncate(answer as usize);
+    Answer::Recovered {
+        line: called.line,
+        thread: called.thread,
+        xids,
     }
 }
 

@@ -3,6 +3,7 @@ ghost use Rattle.std.specs.Prelude.{◌≡◌, IfOk, OnErr};
 ghost use Rattle.xa_desk.specs.GoesOn.{GoesOn};
 ghost use Rattle.xa_desk.specs.Kept.{AllKept};
 ghost use Rattle.xa_session.specs.Committing.{branch_at, branches_of, CommitsAll};
+ghost use Rattle.xa_switch.specs.Scans.{ScanView};
 ghost use Rattle.xa_session.specs.Sessions.{session_of};
 
 use crate::answer::Answer;
@@ -49,7 +50,7 @@ pub(crate) fn commit<R: Wait, I: Idle>(
     asked: &CommitAll,
     idle: &mut I,
 ) -> Result<Answer, AllocError>
-    ensures commits { IfOk result (CommitsAll asked.now (session_of desk.old log.old) (session_of desk.new log.new)) }
+    ensures commits { IfOk result (λ a. (z : ScanView) → CommitsAll asked.now (session_of desk.old log.old z) (session_of desk.new log.new z) a) }
     ensures goes_on { GoesOn desk.old desk.new }
     ensures kept { AllKept desk.old → AllKept desk.new }
     ensures unsent { OnErr result (desk.new ≡ desk.old) }

@@ -16,4 +16,4 @@ mod session;
 pub use answer::Answer;
 pub use ended::tell_ended;
 pub use script_thread::ScriptThread;
-pub use session::{Session, carry_out, sessions_of};
+pub use session::{Session, carry_out, sessions_again, sessions_of};

@@ -16,6 +16,7 @@ use xa_desk::laws::desks_go_on;
 use xa_desk::{Desk, Spin};
 use xa_driver::MemoryLog;
 use xa_grammar::{Script, Step, Task};
+use xa_switch::Scan;
 
 /// A thread of a script: its own tasks, its decision log, and the answers so far.
 #[derive(Drop)]
@@ -24,6 +25,7 @@ pub struct ScriptThread {
     pub thread: u32,
     alloc: Global,
     log: MemoryLog,
+    scan: Scan,
     tasks: Vec<Task>,
     /// What its tasks answered, in their order.
     pub answers: Vec<Answer>,
@@ -57,17 +59,18 @@ fn carry_out_all<R: Wait>(
     alloc: Global,
     desk: &mut Desk,
     log: &mut MemoryLog,
+    scan: &mut Scan,
     tasks: &[Task],
     answers: &mut Vec<Answer>,
 ) -> Result<(), AllocError>
-    ensures runs { OnOk result (Chain HasDone (session_of desk.old log.old, answers.old.items) tasks.now (session_of desk.new log.new, answers.new.items)) }
+    ensures runs { OnOk result (Chain HasDone (session_of desk.old log.old scan.old, answers.old.items) tasks.now (session_of desk.new log.new scan.new, answers.new.items)) }
     ensures goes_on { GoesOn desk.old desk.new }
     ensures kept { AllKept desk.old → AllKept desk.new }
 {
     desks_go_on();
     let mut idle = Spin::new();
     for task in tasks {
-        let answer = carry_out(rt, alloc, desk, log, task, &mut idle)?;
+        let answer = carry_out(rt, alloc, desk, log, scan, task, &mut idle)?;
         answers.push(answer)?;
         idle.reset();
     }
@@ -85,6 +88,7 @@ impl ScriptThread {
             thread,
             alloc,
             log: log_of(alloc, script, thread),
+            scan: Scan::none(),
             tasks,
             answers,
             wants_memory: false,
@@ -103,6 +107,7 @@ impl Client for ScriptThread {
             self.alloc,
             desk,
             &mut self.log,
+            &mut self.scan,
             &self.tasks,
             &mut self.answers,
         );

@@ -2,7 +2,7 @@
 ghost use Rattle.std.specs.Prelude.{◌≡◌, IfOk, OnErr};
 ghost use Rattle.xa_desk.specs.GoesOn.{GoesOn};
 ghost use Rattle.xa_desk.specs.Kept.{AllKept};
-ghost use Rattle.xa_session.specs.Sessions.{log_of, session_of, new_session, new_sessions, Does};
+ghost use Rattle.xa_session.specs.Sessions.{log_of, session_of, new_session, new_sessions, sessions_again, Does};
 
 use crate::answer::Answer;
 use crate::calls::answer;
@@ -12,12 +12,14 @@ use std::sync::Wait;
 use xa_desk::{Desk, Idle};
 use xa_driver::MemoryLog;
 use xa_grammar::{Script, Task};
+use xa_switch::Scan;
 
-/// A thread of control with its decision log.
+/// A thread of control with its decision log, and its scans of what a reopening found left.
 #[derive(Drop)]
 pub struct Session {
     pub desk: Desk,
     pub log: MemoryLog,
+    pub scan: Scan,
 }
 
 /// The log of a thread that has committed nothing. The append that the script names for it, counted
@@ -37,23 +39,25 @@ pub fn carry_out<R: Wait, I: Idle>(
     alloc: Global,
     desk: &mut Desk,
     log: &mut MemoryLog,
+    scan: &mut Scan,
     task: &Task,
     idle: &mut I,
 ) -> Result<Answer, AllocError>
-    ensures does { IfOk result (Does task.now (session_of desk.old log.old) (session_of desk.new log.new)) }
+    ensures does { IfOk result (Does task.now (session_of desk.old log.old scan.old) (session_of desk.new log.new scan.new)) }
     ensures goes_on { GoesOn desk.old desk.new }
     ensures kept { AllKept desk.old → AllKept desk.new }
     ensures unsent { OnErr result (desk.new ≡ desk.old) }
     ensures unlogged { OnErr result (log.new ≡ log.old) }
+    ensures unscanned { OnErr result (scan.new ≡ scan.old) }
     ensures idled { I.leads idle.old idle.new }
 {
     match task {
-        Task::Call(called) => Ok(answer(rt, desk, called, idle)),
+        Task::Call(called) => answer(rt, alloc, desk, scan, called, idle),
         Task::CommitAll(asked) => commit(rt, alloc, desk, log, asked, idle),
     }
 }
 
-/// The threads of these desks, with logs as the script says.
+/// The threads of these desks at the first opening, with logs as the script says.
 pub fn sessions_of(
     alloc: Global,
     script: &Script,
@@ -64,7 +68,25 @@ pub fn sessions_of(
     let mut sessions = Vec::with_capacity(alloc, desks.len())?;
     for desk in desks {
         let log = log_of(alloc, script, desk.thread());
-        sessions.push(Session { desk, log })?;
+        let scan = Scan::none();
+        sessions.push(Session { desk, log, scan })?;
     }
     Ok(sessions)
+}
+
+/// The threads of these desks at a later opening, each with the log that it had and with the scans that it got.
+pub fn sessions_again(
+    alloc: Global,
+    desks: Vec<Desk>,
+    logs: Vec<MemoryLog>,
+    scans: Vec<Scan>,
+) -> Result<Vec<Session>, AllocError>
+    ensures { IfOk result (λ v. v.items ≡ sessions_again desks.items logs.items scans.items) }
+{
+    desks
+        .into_iter()
+        .zip(logs)
+        .zip(scans)
+        .map(|((desk, log), scan)| Session { desk, log, scan })
+        .collect(alloc)
 }

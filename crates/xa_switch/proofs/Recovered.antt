@@ -38,14 +38,14 @@ written_more fs xs x low =
 -- ---- one branch more
 
 -- it was found
-pub finds_more : {D : Type 0} (asking : Asking D) (xids : List XidName) (old d e : D) (k : ℕ) (xs : List XidName) (x : XidName) (code : Code) → Looks asking xids old k xs d → slice_get xids k ≡ Some x → asking d (Listed (Some x)) e code → code ≡ Done → Looks asking xids old (k + 1) (xs ++ x ∷ []) e
-finds_more asking xids old d e k xs x code looks there asked is =
-    subst (λ n. Looks asking xids old n (xs ++ x ∷ []) e) (let same : suc k ≡ k + 1 = omega arith in same) (finds k xs d e x looks there (subst (λ c. asking d (Listed (Some x)) e c) is asked))
+pub finds_more : {D : Type 0} (asking : Asking D) (room : ℕ) (xids : List XidName) (old d e : D) (k : ℕ) (xs : List XidName) (x : XidName) (code : Code) → Looks asking room xids old k xs d → length xs < room → slice_get xids k ≡ Some x → asking d (Listed (Some x)) e code → code ≡ Done → Looks asking room xids old (k + 1) (xs ++ x ∷ []) e
+finds_more asking room xids old d e k xs x code looks short there asked is =
+    subst (λ n. Looks asking room xids old n (xs ++ x ∷ []) e) (let same : suc k ≡ k + 1 = omega arith in same) (finds k xs d e x looks short there (subst (λ c. asking d (Listed (Some x)) e c) is asked))
 
 -- it isn't left
-pub passes_more : {D : Type 0} (asking : Asking D) (xids : List XidName) (old d e : D) (k : ℕ) (xs : List XidName) (x : XidName) (code : Code) → Looks asking xids old k xs d → slice_get xids k ≡ Some x → asking d (Listed (Some x)) e code → code ≡ Nota → Looks asking xids old (k + 1) xs e
-passes_more asking xids old d e k xs x code looks there asked is =
-    subst (λ n. Looks asking xids old n xs e) (let same : suc k ≡ k + 1 = omega arith in same) (passes k xs d e x looks there (subst (λ c. asking d (Listed (Some x)) e c) is asked))
+pub passes_more : {D : Type 0} (asking : Asking D) (room : ℕ) (xids : List XidName) (old d e : D) (k : ℕ) (xs : List XidName) (x : XidName) (code : Code) → Looks asking room xids old k xs d → length xs < room → slice_get xids k ≡ Some x → asking d (Listed (Some x)) e code → code ≡ Nota → Looks asking room xids old (k + 1) xs e
+passes_more asking room xids old d e k xs x code looks short there asked is =
+    subst (λ n. Looks asking room xids old n xs e) (let same : suc k ≡ k + 1 = omega arith in same) (passes k xs d e x looks short there (subst (λ c. asking d (Listed (Some x)) e c) is asked))
 
 -- ---- from a place on
 

@@ -70,22 +70,23 @@ pub data Answers (m : ℕ) (old : DeskView) (op : Op) (new : DeskView) (code : C
 abbrev pub Asking : Type 0 → Type 1
 Asking D = D → Op → D → Code → Type 0
 
--- It was asked of the first k of the xids one after another, and these were found: those that were answered XA_OK; the
--- others were answered XAER_NOTA.
-pub data Looks {D : Type 0} (asking : Asking D) (xids : List XidName) (old : D) : ℕ → List XidName → D → Type 0 where
-  begun : Looks asking xids old 0 [] old
-  finds : (k : ℕ) (xs : List XidName) (d e : D) (x : XidName) → Looks asking xids old k xs d → slice_get xids k ≡ Some x
-      → asking d (Listed (Some x)) e Done → Looks asking xids old (suc k) (xs ++ x ∷ []) e
-  passes : (k : ℕ) (xs : List XidName) (d e : D) (x : XidName) → Looks asking xids old k xs d → slice_get xids k ≡ Some x
-      → asking d (Listed (Some x)) e Nota → Looks asking xids old (suc k) xs e
+-- It was asked of the first k of the xids one after another, of each while fewer than `room` were found, and these were
+-- found: those that were answered XA_OK; the others were answered XAER_NOTA.
+pub data Looks {D : Type 0} (asking : Asking D) (room : ℕ) (xids : List XidName) (old : D)
+    : ℕ → List XidName → D → Type 0 where
+  begun : Looks asking room xids old 0 [] old
+  finds : (k : ℕ) (xs : List XidName) (d e : D) (x : XidName) → Looks asking room xids old k xs d → length xs < room
+      → slice_get xids k ≡ Some x → asking d (Listed (Some x)) e Done → Looks asking room xids old (suc k) (xs ++ x ∷ []) e
+  passes : (k : ℕ) (xs : List XidName) (d e : D) (x : XidName) → Looks asking room xids old k xs d → length xs < room
+      → slice_get xids k ≡ Some x → asking d (Listed (Some x)) e Nota → Looks asking room xids old (suc k) xs e
 
 -- Of these xids it was asked until `room` were found or there were no more, or until another code was answered.
 pub data Scans {D : Type 0} (asking : Asking D) (room : ℕ) (xids : List XidName) (old new : D) (found : List XidName)
     : Result ℕ Code → Type 0 where
-  filled : (looked : ℕ) → Looks asking xids old looked found new → length found ≡ room
+  filled : (looked : ℕ) → Looks asking room xids old looked found new → length found ≡ room
       → Scans asking room xids old new found (Ok looked)
-  ended : Looks asking xids old (length xids) found new → Scans asking room xids old new found (Ok (length xids))
-  stopped : (k : ℕ) (d : D) (x : XidName) (why : Code) → Looks asking xids old k found d → length found < room
+  ended : Looks asking room xids old (length xids) found new → Scans asking room xids old new found (Ok (length xids))
+  stopped : (k : ℕ) (d : D) (x : XidName) (why : Code) → Looks asking room xids old k found d → length found < room
       → slice_get xids k ≡ Some x → asking d (Listed (Some x)) new why → why ≢ Done → why ≢ Nota
       → Scans asking room xids old new found (Err why)
 

@@ -96,10 +96,10 @@ fn put_asked<R: Wait, I: Idle>(
 /// code.
 ///
 /// The refusals, the first that holds: XAER_INVAL for the flags, for `Call::Recover` and `Call::Complete`, and where the
-/// call needs an xid and has none; XAER_INVAL for a number that no manager has; XAER_RMFAIL where the
-/// manager is learnt to be shut; XAER_ASYNC for an asynchronous call where the manager takes none or no
-/// handle is free; XAER_RMERR where the thread has used up its requests to the manager; XAER_ASYNC for an
-/// asynchronous call where the manager's queue is full.
+/// call needs an xid and has none; XAER_INVAL for a number that no manager has; XAER_RMFAIL where the manager is learnt
+/// to be shut; XAER_ASYNC for an asynchronous call where the manager takes none or no handle is free; XAER_RMERR where
+/// the thread has used up its requests to the manager; XAER_ASYNC for an asynchronous call where the manager's queue is
+/// full.
 pub fn xa_call<R: Wait, I: Idle>(
     rt: &R,
     desk: &mut Desk,

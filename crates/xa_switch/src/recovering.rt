@@ -10,7 +10,7 @@ ghost use Rattle.xa_desk.specs.Kept.{AllKept};
 ghost use Rattle.xa_desk.specs.Tickets.{LeavesTickets};
 ghost use Rattle.xa_base.specs.Lists.{IsUpTo};
 ghost use Rattle.xa_switch.specs.Putting.{put_refusal};
-ghost use Rattle.xa_switch.specs.Scans.{Answers, Scans, looked_at, written, left_at, room_in, start_of, Recovers, RecoversAt, RecoversBy, HasRecovered, asks_at, asks};
+ghost use Rattle.xa_switch.specs.Scans.{Answers, Scans, looked_at, written, left_at, room_in, start_of, Recovers, RecoversBy, HasRecovered, asks};
 
 use crate::calls::code_of;
 use crate::scan::Scan;
@@ -131,25 +131,26 @@ fn recover_from<R: Wait, I: Idle>(
     }
 }
 
-// Scans what was left at a manager, if there is one and a scan of it is open.
-fn recover_in<R: Wait, I: Idle>(
+// Scans what was left at a manager, if the flags have a mode, there is such a manager, and a scan of it is open.
+fn recover_by<R: Wait, I: Idle>(
     rt: &R,
     desk: &mut Desk,
     scan: &mut Scan,
     xids: &mut [Xid],
     manager: u32,
-    mode: Mode,
+    flags: u32,
     idle: &mut I,
 ) -> Result<usize, Code>
-    ensures recovers { RecoversAt (Answers manager) (is_known desk.old.ledgers manager) manager mode desk.old scan.old xids.old desk.new scan.new xids.new result }
+    ensures recovers { RecoversBy (Answers manager) (is_known desk.old.ledgers manager) (check_flags call.Recover flags) manager desk.old scan.old xids.old desk.new scan.new xids.new result }
     ensures bound { IfOk result (λ n. n ≤ 2147483647) }
     ensures goes_on { GoesOn desk.old desk.new }
     ensures tickets { LeavesTickets desk.old desk.new }
     ensures idled { I.leads idle.old idle.new }
     ensures kept { AllKept desk.old → AllKept desk.new }
-    ensures prompt { asks_at desk.old scan.old manager mode ≡ false → idle.new ≡ idle.old }
+    ensures prompt { asks desk.old scan.old manager (check_flags call.Recover flags) ≡ false → idle.new ≡ idle.old }
 {
     desks_go_on();
+    let mode = check_flags(Call::Recover, flags)?;
     if manager == 0 || manager > desk.managers() {
         return Err(Code::Inval);
     }
@@ -161,31 +162,6 @@ fn recover_in<R: Wait, I: Idle>(
     match start {
         Some(place) => recover_from(rt, desk, scan, xids, manager, mode, place, idle),
         None => Err(Code::Inval),
-    }
-}
-
-// The same where the flags have a mode.
-fn recover_by<R: Wait, I: Idle>(
-    rt: &R,
-    desk: &mut Desk,
-    scan: &mut Scan,
-    xids: &mut [Xid],
-    manager: u32,
-    mode: Result<Mode, Code>,
-    idle: &mut I,
-) -> Result<usize, Code>
-    ensures recovers { RecoversBy (Answers manager) (is_known desk.old.ledgers manager) mode manager desk.old scan.old xids.old desk.new scan.new xids.new result }
-    ensures bound { IfOk result (λ n. n ≤ 2147483647) }
-    ensures goes_on { GoesOn desk.old desk.new }
-    ensures tickets { LeavesTickets desk.old desk.new }
-    ensures idled { I.leads idle.old idle.new }
-    ensures kept { AllKept desk.old → AllKept desk.new }
-    ensures prompt { asks desk.old scan.old manager mode ≡ false → idle.new ≡ idle.old }
-{
-    desks_go_on();
-    match mode {
-        Ok(mode) => recover_in(rt, desk, scan, xids, manager, mode, idle),
-        Err(why) => Err(why),
     }
 }
 
@@ -215,15 +191,7 @@ pub fn xa_recover<R: Wait, I: Idle>(
     ensures idled { I.leads idle.old idle.new }
     ensures prompt { asks desk.old scan.old manager (check_flags call.Recover flags) ≡ false → idle.new ≡ idle.old }
 {
-    match recover_by(
-        rt,
-        desk,
-        scan,
-        xids,
-        manager,
-        check_flags(Call::Recover, flags),
-        idle,
-    ) {
+    match recover_by(rt, desk, scan, xids, manager, flags, idle) {
         Ok(found) => found as i32,
         Err(code) => code.value(),
     }

@@ -91,7 +91,7 @@ fn reopen_managers(
 }
 
 // All that the next opening needs but its managers, and the scans of what is left.
-fn prepare<R: Wait>(
+fn lay_out_again<R: Wait>(
     rt: &R,
     alloc: Global,
     settled: &Settled,
@@ -110,13 +110,6 @@ fn prepare<R: Wait>(
     let managers = Vec::with_capacity(alloc, settled.managers())?;
     let scans = scans_of(alloc, settled, numbers.threads)?;
     Ok((layout, managers, scans))
-}
-
-fn refused(why: OpenFault, settled: Settled) -> Unopened
-    ensures why { result.why ≡ why }
-    ensures back { result.settled ≡ settled }
-{
-    Unopened { why, settled }
 }
 
 /// Opens a settled opening again: as `open_switch` does with a plan of these numbers, but that each manager goes on
@@ -140,10 +133,12 @@ pub fn reopen<R: Wait>(
 {
     let many = settled.managers();
     if !again.is_within_limits(many) || again.opening == settled.opening {
-        return Err(refused(OpenFault::BadPlan, settled));
+        let why = OpenFault::BadPlan;
+        return Err(Unopened { why, settled });
     }
-    let Ok((layout, managers, scans)) = prepare(rt, alloc, &settled, again) else {
-        return Err(refused(OpenFault::NoMemory, settled));
+    let Ok((layout, managers, scans)) = lay_out_again(rt, alloc, &settled, again) else {
+        let why = OpenFault::NoMemory;
+        return Err(Unopened { why, settled });
     };
     let Settled {
         opening,
@@ -152,12 +147,13 @@ pub fn reopen<R: Wait>(
     } = settled;
     let room = again.manager_room();
     if reserve_managers(&mut carried, again.threads, room).is_err() {
+        let why = OpenFault::NoMemory;
         let settled = Settled {
             opening,
             threads,
             managers: carried,
         };
-        return Err(refused(OpenFault::NoMemory, settled));
+        return Err(Unopened { why, settled });
     }
     openings_begin_with_what_was_left();
     let managers = reopen_managers(carried, managers, many as u32, again, room);

@@ -12,16 +12,15 @@ use Rattle.xa_tables.specs.History.{History, of_thread}
 use Rattle.xa_tables.specs.Prepared.{names}
 use Rattle.xa_desk.specs.Lanes.{numbered}
 use Rattle.xa_worker.specs.Journal.{Entry, requests}
-use Rattle.xa_switch.specs.Settling.{Settling, journal, sent}
+use Rattle.xa_switch.specs.Settling.{journal, sent}
 use Rattle.xa_driver.specs.declared.branch.Branch.{Branch}
 use Rattle.xa_driver.specs.Outcomes.{OnlyTheseName}
 use Rattle.xa_grammar.specs.declared.script.CommitAll.{CommitAll}
-use Rattle.xa_grammar.specs.declared.script.Declared.{Declared}
 use Rattle.xa_grammar.specs.Content.{Content}
-use Rattle.xa_session.specs.declared.answer.Answer.{Answer}
 use Rattle.xa_session.specs.Committing.{branches_of}
-use Rattle.xa_transcript.specs.Parts.{Part, no_part}
-use Rattle.xa_transcript.specs.Journals.{Line, TellsOf, entries_of}
+use Rattle.xa_transcript.specs.Parts.{Part}
+use Rattle.xa_transcript.specs.Journals.{Line, entries_of}
+use Rattle.xa_transcript.specs.Openings.{Beginning, Opening, TellsOf, part_at}
 use Rattle.xa_transcript.specs.Outcomes.{Place, AreLeftAlone, AreNamedByNoOther, NamesNone}
 use Rattle.xa_transcript.proofs.Entries.{requests_kept}
 use Rattle.xa_transcript.proofs.Named.{AddsUnnamed, lines_unnamed}
@@ -119,21 +118,21 @@ own_requests t x J ops new sent_so (more, grown, quiet) =
     subst (All P) (sym parts)
     (All-append P (map f new) (map f more) (λ k d lt named. early k d lt) (λ k d lt named. absurd (let e = late k d lt in let z : true ≡ false = sym named ∙ e in cc)))
 
-pub left_alone : (s : Content) (answers : List Answer) (values : List Declared) (settled : Settling) (tells : TellsOf s answers values settled) (c : CommitAll) (before : List Line) (l : Line) (after : List Line) (old new : Part)
-    → Place (tells.carried c.thread) before l after old new → AreNamedByNoOther s c.thread (branches_of c) after → AreLeftAlone settled c.thread (branches_of c) old new
-left_alone s answers values settled tells c before l after old new place named =
+pub left_alone : (s : Content) (beg : Beginning) (o : Opening) (tells : TellsOf s beg o) (c : CommitAll) (before : List Line) (l : Line) (after : List Line) (old new : Part)
+    → Place (tells.carried c.thread) before l after old new → AreNamedByNoOther o.steps c.thread (branches_of c) after → AreLeftAlone o.settled c.thread (branches_of c) old new
+left_alone s beg o tells c before l after old new place named =
     let t : ℕ = c.thread in
     record {
       each = λ k d lt.
           let b : Branch = get_or (branches_of c) k d in
-          let J : List Entry = journal settled b.m in
+          let J : List Entry = journal o.settled b.m in
           let sent_so = (tells.agree.agree t b.m).carried in
-          only_these t b.xid (requests J) (sent settled t b.m) sent_so (length (old.entries b.m)) (length (new.entries b.m))
-          (own_requests t b.xid J (sent settled t b.m) (new.entries b.m) sent_so (lines_unnamed settled b new after _ place.later (λ j e below. named.later j e below k d lt)))
+          only_these t b.xid (requests J) (sent o.settled t b.m) sent_so (length (old.entries b.m)) (length (new.entries b.m))
+          (own_requests t b.xid J (sent o.settled t b.m) (new.entries b.m) sent_so (lines_unnamed o.settled b new after _ place.later (λ j e below. named.later j e below k d lt)))
           (λ u differs.
           let told = tells.carried u in
           let quiet : All (λ (l : Line). NamesNone (branches_of c) l.task) told.lines =
           all_unmapped (λ (l : Line). l.task) (NamesNone (branches_of c)) told.lines (subst (All (NamesNone (branches_of c))) (sym told.tasks) (named.threads u differs)) in
-          let adds = lines_unnamed settled b no_part told.lines _ told.carried (λ j e below. quiet j e below k d lt) in
+          let adds = lines_unnamed o.settled b (part_at beg u) told.lines _ told.carried (λ j e below. quiet j e below k d lt) in
           quiet_requests u b.xid J (subst (All (λ (e : Entry). names b.xid e.0.op ≡ false)) (sym adds.1) adds.2));
     }

@@ -28,9 +28,10 @@ use Rattle.xa_session.specs.declared.answer.Answer.TheVariants as answer
 use Rattle.xa_session.specs.Calling.{shown, completed, Answers}
 use Rattle.xa_transcript.specs.Wants.{Wanted, wanted, wanted_by, wanted_in, IsRefusal}
 use Rattle.xa_transcript.proofs.Parts.{MayShow}
-use Rattle.xa_transcript.specs.Wants.Wanted.{code_of, handle_for, in_vain, completion}
+use Rattle.xa_transcript.specs.Wants.Wanted.{code_of, handle_for, in_vain, completion, listing}
 use Rattle.xa_transcript.proofs.Ledgers.{collected_here}
-use Rattle.xa_transcript.proofs.Sent.{asks, refusal_by, is_refusal, no_place}
+use Rattle.xa_switch.specs.Scans.{ScanView}
+use Rattle.xa_transcript.proofs.Sent.{is_recover, asks, refusal_by, is_refusal, no_place}
 use Rattle.xa_switch.proofs.Kept.{quiet_same, known_here, fulls_kept}
 
 abbrev Handles : Type 0
@@ -52,6 +53,7 @@ may_show (code_of o) c is = tt
 may_show (handle_for o) c is = is
 may_show (in_vain why) c is = is
 may_show completion c is = is
+may_show (listing n) c is = is
 
 puts_hold : (p : Called) (old new : DeskView) (a : Answer) (n : ℤ) (asked : _) → Puts old p.manager asked new n → asks asked.asynchronous asked.op ≡ wanted_in p → a ≡ shown p n → Holds p a old new
 puts_hold p old new a n asked (put_refused c why of same) e told = shows c (subst (λ r. MayShow r c) e (may_show (asks asked.asynchronous asked.op) c (refusal_by asked.asynchronous asked.op c (is_refusal old p.manager asked.asynchronous c why)))) (told ∙ ap (shown p) of) (ap kept_of same)
@@ -132,9 +134,10 @@ completes_hold p old new a h h' r' n collected e (left why err among now) tells 
 
 -- ---- an action of a line
 
-pub answers_hold : (x : Action) (p : Called) → wanted_by x p.flags ≡ wanted_in p → (old new : DeskView) (a : Answer) → Answers x p old new a → Holds p a old new
-answers_hold (action.Xa c x) p e old new a is = calls_hold p old new a is.answer _ is.calls e is.shown
-answers_hold (action.Native o) p e old new a is = calls_hold p old new a is.answer _ is.calls e is.shown
-answers_hold (action.Complete h) p e old new a is =
+pub answers_hold : (x : Action) (p : Called) → is_recover x ≡ false → wanted_by x p.flags ≡ wanted_in p → (old new : DeskView) (z z' : ScanView) (a : Answer) → Answers x p old z new z' a → Holds p a old new
+answers_hold (action.Xa c x) p plain e old new z z' a (is, still) = calls_hold p old new a is.answer _ is.calls e is.shown
+answers_hold (action.Native o) p plain e old new z z' a (is, still) = calls_hold p old new a is.answer _ is.calls e is.shown
+answers_hold (action.Recover n) p plain e old new z z' a is = absurd (cc)
+answers_hold (action.Complete h) p plain e old new z z' a (is, still) =
     completes_hold p old new a h is.handle is.retval is.answer is.completes.collected (sym e)
     (by_comes (has_only (bits_of call.Complete) p.flags && go_together call.Complete p.flags) (mode_of p.flags) old (number_in h) p.manager new is.completes.collected is.completes.completes) is.completes.tells is.shown

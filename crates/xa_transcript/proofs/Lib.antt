@@ -18,3 +18,5 @@ pub mod Outcomes
 pub mod Named
 pub mod Alone
 pub mod Sums
+pub mod Mapped
+pub mod Again

@@ -1,5 +1,5 @@
 -- A thread's lines put its entries into the journals, line by line.
-use Rattle.std.proofs.Common.{◌≡◌, ℕ, ◌≤◌, List, [], ◌∷◌, ◌++◌, length, map, take, None, Some, sym, refl, ap, ◌∙◌, subst, arith, append-nil}
+use Rattle.std.proofs.Common.{false, inl, inr, ◌≡◌, ℕ, ◌≤◌, List, [], ◌∷◌, ◌++◌, length, map, take, None, Some, sym, refl, ap, ◌∙◌, subst, arith, append-nil}
 use Rattle.std.specs.Prelude.{slice_get, filter}
 use Rattle.std.specs.List.{range_with_len}
 use Rattle.std.specs.FinMap as finmap
@@ -7,12 +7,21 @@ use Rattle.std.proofs.lemmas.List.{map-append, take_all}
 use Rattle.xa_words.specs.Tran.{TranName}
 use Rattle.xa_words.specs.declared.code.Code.{Code}
 use Rattle.xa_words.specs.declared.request.Op.{Op}
+use Rattle.xa_words.specs.declared.request.Op.TheVariants.{Listed}
 use Rattle.xa_desk.specs.LedgerView.{LedgerView}
-use Rattle.xa_desk.specs.DeskView.{sent_to, collected_from}
+use Rattle.xa_desk.specs.DeskView.{DeskView, is_known, sent_to, collected_from}
+use Rattle.xa_words.specs.Flags.{check_flags}
+use Rattle.xa_words.specs.declared.flags.Call.TheVariants as call
+use Rattle.std.proofs.lemmas.Bool.{cases_eq}
 use Rattle.xa_worker.specs.Journal.{Entry}
 use Rattle.xa_switch.specs.Settling.{Settling, journal}
-use Rattle.xa_driver.specs.Log.{LogView, LogState, no_records, record_of}
+use Rattle.xa_switch.specs.Scans.{ScanView, RecoversBy}
+use Rattle.xa_switch.specs.Scans.{Answers as Reaches}
+use Rattle.xa_switch.specs.Scans.Answers.{refused as unreached, answered as reached}
+use Rattle.xa_driver.specs.Log.{LogView, LogState, record_of}
 use Rattle.xa_driver.specs.Trace.{EachBranch, IsTranOf}
+use Rattle.xa_grammar.specs.declared.script.Action.{Action}
+use Rattle.xa_grammar.specs.declared.script.Action.TheVariants as action
 use Rattle.xa_grammar.specs.declared.script.Called.{Called}
 use Rattle.xa_grammar.specs.declared.script.CommitAll.{CommitAll}
 use Rattle.xa_grammar.specs.declared.script.Task.{Task}
@@ -22,14 +31,18 @@ use Rattle.xa_session.specs.declared.session.Session.{Session}
 use Rattle.xa_session.specs.declared.answer.Answer.{Answer}
 use Rattle.xa_base.specs.Lists.{Begins, Chain}
 use Rattle.xa_base.specs.Lists.Chain.{none, more}
-use Rattle.xa_session.specs.Calling.{Answers}
+use Rattle.xa_session.specs.Calling.{IsListed, HasListed, Answers}
 use Rattle.xa_session.specs.Committing.{named, branch_at, is_at, branches_of, CommitsAll}
 use Rattle.xa_session.specs.Sessions.{Does}
 use Rattle.xa_session.specs.Committing.CommitsAll.{refused, decided}
 use Rattle.xa_session.specs.Sessions.{HasDone}
-use Rattle.xa_transcript.specs.Parts.{Part, next_entry, HasCode, no_part, CallTakes}
+use Rattle.xa_transcript.specs.Parts.{Part, next_entry, with_entry, HasCode, new_part, Asked, Lists, CallTakes}
+use Rattle.xa_transcript.specs.Parts.Asked.{answered as asked_answered, refused as asked_refused}
+use Rattle.xa_transcript.specs.Parts.CallTakes.{lists as call_lists}
+use Rattle.xa_transcript.specs.Wants.{wanted_by, wanted_in}
 use Rattle.xa_transcript.specs.Commits.{AtBranch, CommitTakes}
-use Rattle.xa_transcript.proofs.Parts.{call_takes_so, Adds, Hands}
+use Rattle.xa_transcript.proofs.Parts.{call_takes_so, Adds, Hands, entry_here, entry_elsewhere}
+use Rattle.xa_transcript.proofs.Mapped.{by_mapped}
 use Rattle.xa_transcript.specs.Journals.{Line, Takes, TakesPart, entries_of}
 use Rattle.xa_transcript.proofs.Parts.Hands.{gives as hands_gives, takes as hands_takes, shows as hands_shows}
 use Rattle.xa_transcript.proofs.Parts.Adds.{answered as adds_answered, kept as adds_kept}
@@ -40,16 +53,22 @@ use Rattle.xa_transcript.proofs.Ledgers.{numbered_so, Grows, AllSent, grows_same
 use Rattle.xa_transcript.proofs.Branches.{trace_grows, branches_at, none_elsewhere}
 use Rattle.xa_transcript.proofs.Entries.{Fits, many_entries, within, enters, enters_coded, pair_there}
 use Rattle.xa_transcript.proofs.Handles.{Holds, gives, takes, shows, answers_hold}
-use Rattle.xa_transcript.proofs.Sent.{Sends, answered, kept, nothing, answers_do}
+use Rattle.xa_transcript.proofs.Sent.{Sends, answered, kept, nothing, is_recover, answers_do, is_refusal, answered_here, request_grows, request_elsewhere, request_keeps, recover_grows}
 
 -- ---- a thread's tasks only add to what it sent and collected
 
 commit_grows : (m : ℕ) (c : CommitAll) (old new : Session) (a : Answer) → CommitsAll c old new a → Grows m old.desk.ledgers new.desk.ledgers
 commit_grows m c old new a (refused why told e) = grows_same m old.desk.ledgers new.desk.ledgers (ap (λ (x : Session). x.desk.ledgers) e)
-commit_grows m c old new a (decided done may trace keeps as_many told) = trace_grows (named c) (branches_of c) old.desk.ledgers new.desk.ledgers old.log.state new.log.state done trace may.room m
+commit_grows m c old new a (decided done may trace still keeps as_many told) = trace_grows (named c) (branches_of c) old.desk.ledgers new.desk.ledgers old.log.state new.log.state done trace may.room m
+
+action_grows : (m : ℕ) (x : Action) (p : Called) → wanted_by x p.flags ≡ wanted_in p → (old new : Session) (a : Answer) → Answers x p old.desk old.scan new.desk new.scan a → Grows m old.desk.ledgers new.desk.ledgers
+action_grows m (action.Xa c y) p e old new a is = (answers_do (action.Xa c y) p refl e old.desk new.desk old.scan new.scan a is m).1
+action_grows m (action.Native o) p e old new a is = (answers_do (action.Native o) p refl e old.desk new.desk old.scan new.scan a is m).1
+action_grows m (action.Complete h) p e old new a is = (answers_do (action.Complete h) p refl e old.desk new.desk old.scan new.scan a is m).1
+action_grows m (action.Recover n) p e old new a is = recover_grows m p.manager p.flags old.desk old.scan is.before new.desk new.scan is.after is.answer is.recovers
 
 does_grow : (m : ℕ) (p : Task) (old new : Session) (a : Answer) → Does p old new a → Grows m old.desk.ledgers new.desk.ledgers
-does_grow m (task.Call p) old new a is = (answers_do p.action p refl old.desk new.desk a is.executes.0 m).1
+does_grow m (task.Call p) old new a is = action_grows m p.action p refl old new a is.executes.0
 does_grow m (task.CommitAll c) old new a is = commit_grows m c old new a is.executes
 
 -- a thread as it goes on, and its answers so far
@@ -90,9 +109,12 @@ module _ (settled : Settling) (t : ℕ) (ops : ℕ → List Op) (pairs : ℕ →
   abbrev entries_so_far : List LedgerView → ℕ → List Entry
   entries_so_far at m = take (length (sent_to at m)) (own_entries m)
 
-  -- a thread's part in the journals, and its log
+  -- a thread's part in the journals, by its desk, its log and its scans
+  abbrev part_at : LogState → ScanView → DeskView → Part
+  part_at log scan d = record { entries = entries_so_far d.ledgers; handles = d.kept; log = log; scan = scan }
+
   abbrev part_of : Session → Part
-  part_of x = record { entries = entries_so_far x.desk.ledgers; handles = x.desk.kept; log = x.log.state }
+  part_of x = part_at x.log.state x.scan x.desk
 
   -- all that these ledgers have is in the journals
   abbrev AllThere : List LedgerView → Type 0
@@ -123,18 +145,72 @@ module _ (settled : Settling) (t : ℕ) (ops : ℕ → List Op) (pairs : ℕ →
       hands_takes o k c asked at (subst (λ u. HasCode settled u o c) (sym own) there) told now
   hands p a old new own was all (shows c may told now) = hands_shows c may told now
 
-  -- what a call does to its thread's part
-  call_takes : (p : Called) (old new : Session) (a : Answer) → p.thread ≡ t → AllThere old.desk.ledgers → AllThere new.desk.ledgers → Answers p.action p old.desk new.desk a → new.log ≡ old.log → CallTakes settled p a (part_of old) (part_of new)
-  call_takes p old new a own was all is same =
+  -- what a call does to its thread's part that is no xa_recover
+  plain_takes : (x : Action) (p : Called) → is_recover x ≡ false → wanted_by x p.flags ≡ wanted_in p → (old new : Session) (a : Answer) → p.thread ≡ t → AllThere old.desk.ledgers → AllThere new.desk.ledgers → Answers x p old.desk old.scan new.desk new.scan a → new.log ≡ old.log → new.scan ≡ old.scan → CallTakes settled p a (part_of old) (part_of new)
+  plain_takes x p plain e old new a own was all is same still =
       call_takes_so settled p a (part_of old) (part_of new)
-      (λ m. adds m p a old.desk.ledgers new.desk.ledgers own all (answers_do p.action p refl old.desk new.desk a is m).0)
-      (ap (λ (l : LogView). l.state) same)
-      (hands p a old new own was all (answers_hold p.action p refl old.desk new.desk a is))
+      (λ m. adds m p a old.desk.ledgers new.desk.ledgers own all (answers_do x p plain e old.desk new.desk old.scan new.scan a is m).0)
+      (ap (λ (l : LogView). l.state) same) still
+      (hands p a old new own was all (answers_hold x p plain e old.desk new.desk old.scan new.scan a is))
+
+  -- a request that is carried out
+  one_asked : (log : LogState) (scan : ScanView) (m : ℕ) (old : DeskView) (op : Op) (new : DeskView) (c : Code) → Reaches m old op new c → entries_so_far new.ledgers m ≡ entries_so_far old.ledgers m ++ next_entry t (entries_so_far old.ledgers m) op c ∷ []
+      → (n : ℕ) → entries_so_far new.ledgers n ≡ (with_entry t m op c (part_at log scan old)).entries n
+  one_asked log scan m old op new c is here n = elim (cases_eq n m) [
+    | inl same ↦
+        subst (λ k. entries_so_far new.ledgers k ≡ (with_entry t m op c (part_at log scan old)).entries k) (sym same)
+        (here ∙ sym (entry_here t m op c (part_at log scan old)))
+    | inr differs ↦
+        ap (λ (l : List Op). take (length l) (own_entries n)) (request_elsewhere n m differs old op new c is)
+        ∙ sym (entry_elsewhere t m op c (part_at log scan old) n differs)
+  ]
+
+  asked_so : (log : LogState) (scan : ScanView) (m : ℕ) (old : DeskView) (op : Op) (new : DeskView) (c : Code) → Reaches m old op new c → AllThere new.ledgers → Asked t m (part_at log scan old) op (part_at log scan new) c
+  asked_so log scan m old op new c (unreached why same) all = asked_refused (is_refusal old m false c why) (ap (part_at log scan) same)
+  asked_so log scan m old op new c (reached none_refused times is) all =
+      let here = answered_here m times old new op false c none_refused is in
+      let collected = pair_there (pairs m) (collected_from old.ledgers m) (collected_from new.ledgers m) (length (sent_to old.ledgers m)) c here.1 (all m).1 in
+      let e = enters_coded t (ops m) (pairs m) (own_entries m) (fits m) (sent_to old.ledgers m) (sent_to new.ledgers m) op here.0 (all m).0 (length (collected_from old.ledgers m)) c collected in
+      let asked = reached none_refused times is in
+      asked_answered (λ i. record { entries = λ n. one_asked log scan m old op new c asked e n i; handles = request_keeps m old op new c asked i; log = log; scan = scan })
+
+  -- what an xa_recover does
+  lists : (p : Called) (n : ℕ) (a : Answer) (old new : Session) → p.thread ≡ t → AllThere new.desk.ledgers → HasListed p n old.desk old.scan new.desk new.scan a → new.log ≡ old.log → Lists p n a (part_of old) (part_of new)
+  lists p n a old new own all is same =
+      let m = p.manager in
+      let log = old.log.state in
+      let known = is_known old.desk.ledgers m in
+      let mode = check_flags call.Recover p.flags in
+      let mapped =
+      by_mapped (Reaches m) (Asked t m) (part_at log old.scan) (λ (d : DeskView). (k : ℕ) → Grows k d.ledgers new.desk.ledgers)
+      (λ d e x c asked grown. (
+        (λ k. grows_both k d.ledgers e.ledgers new.desk.ledgers (request_grows k m d (Listed x) e c asked) (grown k)),
+        asked_so log old.scan m d (Listed x) e c asked (there_before e.ledgers new.desk.ledgers grown all),
+      ))
+      known mode m old.desk old.scan is.before new.desk new.scan is.after is.recovers.result is.recovers.recovers (λ k. grows_same k new.desk.ledgers new.desk.ledgers refl) in
+      record {
+        there = known;
+        asked = part_at log old.scan new.desk;
+        before = is.before;
+        after = is.after;
+        result = is.recovers.result;
+        room = is.room;
+        recovers = subst (λ u. RecoversBy (Asked u m) known mode m (part_of old) old.scan is.before (part_at log old.scan new.desk) new.scan is.after is.recovers.result) (sym own) mapped.1;
+        stands = λ i. record { entries = entries_so_far new.desk.ledgers; handles = new.desk.kept; log = ap (λ (l : LogView). l.state) same i; scan = new.scan };
+        tells = subst (λ z. IsListed p z is.after a) is.recovers.answered is.shown;
+      }
+
+  -- what a call does
+  call_takes : (x : Action) (p : Called) → wanted_by x p.flags ≡ wanted_in p → (old new : Session) (a : Answer) → p.thread ≡ t → AllThere old.desk.ledgers → AllThere new.desk.ledgers → Answers x p old.desk old.scan new.desk new.scan a → new.log ≡ old.log → CallTakes settled p a (part_of old) (part_of new)
+  call_takes (action.Xa c y) p e old new a own was all is same = plain_takes (action.Xa c y) p refl e old new a own was all is same is.1
+  call_takes (action.Native o) p e old new a own was all is same = plain_takes (action.Native o) p refl e old new a own was all is same is.1
+  call_takes (action.Complete h) p e old new a own was all is same = plain_takes (action.Complete h) p refl e old new a own was all is same is.1
+  call_takes (action.Recover n) p e old new a own was all is same = call_lists n (sym e) (lists p n a old new own all is same)
 
   -- and what a commit does
   commit_takes : (c : CommitAll) (old new : Session) (a : Answer) → c.thread ≡ t → ((m : ℕ) → AllSent m old.desk.ledgers) → AllThere new.desk.ledgers → CommitsAll c old new a → CommitTakes c a (part_of old) (part_of new)
   commit_takes c old new a own sound all (refused why told e) = takes_none told (ap part_of e)
-  commit_takes c old new a own sound all (decided done may trace keeps as_many told) =
+  commit_takes c old new a own sound all (decided done may trace still keeps as_many told) =
       let at = old.desk.ledgers in
       let at' = new.desk.ledgers in
       takes_decided done told (record {
@@ -147,10 +223,11 @@ module _ (settled : Settling) (t : ℕ) (ops : ℕ → List Op) (pairs : ℕ →
         unlogged = not_logged c (filter (is_at c) (range_with_len 1 8)) old.log.state may.tran may.some may.one may.absent;
         logs = trace.logs;
         handles = keeps.kept;
+        scan = still;
       })
 
   does_takes : (p : Task) (old new : Session) (a : Answer) → thread_of p ≡ t → ((m : ℕ) → AllSent m old.desk.ledgers) → AllThere old.desk.ledgers → AllThere new.desk.ledgers → Does p old new a → Takes settled p a (part_of old) (part_of new)
-  does_takes (task.Call p) old new a own sound was all is = call_takes p old new a own was all is.executes.0 is.executes.1
+  does_takes (task.Call p) old new a own sound was all is = call_takes p.action p refl old new a own was all is.executes.0 is.executes.1
   does_takes (task.CommitAll c) old new a own sound was all is = commit_takes c old new a own sound all is.executes
 
   -- line by line
@@ -163,18 +240,18 @@ module _ (settled : Settling) (t : ℕ) (ops : ℕ → List Op) (pairs : ℕ →
       (does_takes x now.0 l.0 is.answer (last_of t xs x own) sound_now was all is.does)
 
   -- all lines, and all entries
-  pub carried_all : (first : State) → ((m : ℕ) → sent_to first.0.desk.ledgers m ≡ []) → ((m : ℕ) → collected_from first.0.desk.ledgers m ≡ []) → first.0.desk.kept ≡ finmap.empty → first.0.log.state ≡ no_records → (tasks : List Task) (last : State) (runs : Chain HasDone first tasks last) → AreOf t tasks
+  pub carried_all : (first : State) → ((m : ℕ) → sent_to first.0.desk.ledgers m ≡ []) → ((m : ℕ) → collected_from first.0.desk.ledgers m ≡ []) → first.0.desk.kept ≡ finmap.empty → (tasks : List Task) (last : State) (runs : Chain HasDone first tasks last) → AreOf t tasks
       → ((m : ℕ) → sent_to last.0.desk.ledgers m ≡ ops m) → ((m : ℕ) → Begins (collected_from last.0.desk.ledgers m) (pairs m))
-      → Chain (TakesPart settled) no_part (lines_in first tasks last runs) (record { entries = own_entries; handles = last.0.desk.kept; log = last.0.log.state })
-  carried_all first fresh uncollected unkept unlogged tasks last runs own sent collected =
+      → Chain (TakesPart settled) (new_part first.0.log.state first.0.scan) (lines_in first tasks last runs) (record { entries = own_entries; handles = last.0.desk.kept; log = last.0.log.state; scan = last.0.scan })
+  carried_all first fresh uncollected unkept tasks last runs own sent collected =
       let at = last.0.desk.ledgers in
       let sound : (m : ℕ) → AllSent m first.0.desk.ledgers = λ m k p there. absurd (nothing_there k p (ap (λ l. slice_get l k) (sym (uncollected m)) ∙ there)) in
       let all = carried_so_far first sound tasks last runs own (λ m. (([], sym (sent m) ∙ sym (append-nil (sent_to at m))), collected m)) in
-      let start : part_of first.0 ≡ no_part = λ i. record { entries = λ m. take (length (fresh m i)) (own_entries m); handles = unkept i; log = unlogged i } in
+      let start : part_of first.0 ≡ new_part first.0.log.state first.0.scan = λ i. record { entries = λ m. take (length (fresh m i)) (own_entries m); handles = unkept i; log = first.0.log.state; scan = first.0.scan } in
       let whole : (m : ℕ) → entries_so_far at m ≡ own_entries m = λ m.
       take_all (length (sent_to at m)) (own_entries m) (let sizes = ap (λ l. length l) (sent m) in omega (arith, sizes, many_entries t (ops m) (pairs m) (own_entries m) (fits m))) in
-      subst (λ (p : Part). Chain (TakesPart settled) p (lines_in first tasks last runs) (record { entries = own_entries; handles = last.0.desk.kept; log = last.0.log.state })) start
-      (subst (λ (p : Part). Chain (TakesPart settled) (part_of first.0) (lines_in first tasks last runs) p) (λ i. record { entries = λ m. whole m i; handles = last.0.desk.kept; log = last.0.log.state }) all)
+      subst (λ (p : Part). Chain (TakesPart settled) p (lines_in first tasks last runs) (record { entries = own_entries; handles = last.0.desk.kept; log = last.0.log.state; scan = last.0.scan })) start
+      (subst (λ (p : Part). Chain (TakesPart settled) (part_of first.0) (lines_in first tasks last runs) p) (λ i. record { entries = λ m. whole m i; handles = last.0.desk.kept; log = last.0.log.state; scan = last.0.scan }) all)
     where
       nothing_there : (k : ℕ) (p : ℕ × Code) → slice_get [] k ≡ Some p → ⊥
       nothing_there k p e = cc

@@ -38,9 +38,11 @@ use Rattle.xa_grammar.specs.declared.script.Task.TheVariants as task
 use Rattle.xa_session.specs.declared.answer.Answer.{Answer}
 use Rattle.xa_session.specs.Committing.{branches_of}
 use Rattle.xa_transcript.specs.Wants.{Wanted, wanted, wanted_by, wanted_in}
-use Rattle.xa_transcript.specs.Wants.Wanted.{code_of, handle_for, in_vain, completion}
-use Rattle.xa_transcript.specs.Parts.{Part, CallTakes, next_entry}
-use Rattle.xa_transcript.specs.Parts.CallTakes.{answered, kept, refused, completes}
+use Rattle.xa_transcript.specs.Wants.Wanted.{code_of, handle_for, in_vain, completion, listing}
+use Rattle.xa_transcript.specs.Parts.{Part, Asked, Lists, CallTakes, next_entry}
+use Rattle.xa_transcript.specs.Parts.Asked.{answered as asked_answered, refused as asked_refused}
+use Rattle.xa_transcript.proofs.Mapped.{by_mapped}
+use Rattle.xa_transcript.specs.Parts.CallTakes.{answered, kept, refused, completes, lists}
 use Rattle.xa_transcript.specs.Commits.{Carries, AtBranch, Decides}
 use Rattle.xa_transcript.specs.Commits.Carries.{carried, withheld, unwanted}
 use Rattle.xa_transcript.specs.Commits.CommitTakes.{refused as takes_none, decided}
@@ -81,6 +83,7 @@ op_in (code_of o) = Some o
 op_in (handle_for o) = Some o
 op_in (in_vain why) = None
 op_in completion = None
+op_in (listing n) = None
 
 op_of_names : (c : Call) (x y : XidName) (m : Mode) (o : Op) → op_by c (Some x) m ≡ Ok o → xid_eq x y ≡ false → names y o ≡ false
 op_of_names call.OpenRm x y m o e apart = let same : op.OpenRm ≡ o = cc in ap (names y) (sym same)
@@ -164,6 +167,7 @@ by_action (action.Xa c None) m f b o e same quiet = let w = op_asked c None f o 
 by_action (action.Xa c (Some x)) m f b o e same quiet = let w = op_asked c (Some x) f o e in op_of_names c x b.xid w.0 o w.1 (apart b m x same (or_none ((m == b.m) && xid_eq x b.xid) false quiet).0)
 by_action (action.Native r) m f b o e same quiet = ap (names b.xid) (sym (op_native r f o e)) ∙ op_of_rm r m b same quiet
 by_action (action.Complete h) m f b o e same quiet = absurd (cc)
+by_action (action.Recover n) m f b o e same quiet = absurd (cc)
 
 module _ (settled : Settling) (b : Branch) where
   abbrev Quiet : List Entry → List Entry → Type 0
@@ -176,10 +180,27 @@ module _ (settled : Settling) (b : Branch) where
       (λ e. adds_one b.xid old (old ++ next_entry p.thread old o c ∷ []) (next_entry p.thread old o c) (by_action p.action p.manager p.flags b o asks (sym (eqb-true b.m p.manager e)) quiet) refl)
       (λ e. adds_same b.xid old old refl)
 
+  -- a request that asks whether a branch is left names none
+  asked_unnamed : (t m : ℕ) (old : Part) (o : Op) (new : Part) (c : Code) → Asked t m old o new c → names b.xid o ≡ false → Quiet (old.entries b.m) (new.entries b.m)
+  asked_unnamed t m old o new c (asked_answered is) quiet =
+      subst (λ (x : Part). Quiet (old.entries b.m) (x.entries b.m)) (sym is)
+      (by_if (Quiet (old.entries b.m)) (b.m == m) (old.entries b.m ++ next_entry t (old.entries b.m) o c ∷ []) (old.entries b.m)
+      (λ e. adds_one b.xid (old.entries b.m) (old.entries b.m ++ next_entry t (old.entries b.m) o c ∷ []) (next_entry t (old.entries b.m) o c) quiet refl)
+      (λ e. adds_same b.xid (old.entries b.m) (old.entries b.m) refl))
+  asked_unnamed t m old o new c (asked_refused why same) quiet = adds_same b.xid (old.entries b.m) (new.entries b.m) (ap (λ (x : Part). x.entries b.m) same)
+
+  listing_unnamed : (p : Called) (n : ℕ) (a : Answer) (old new : Part) → Lists p n a old new → Quiet (old.entries b.m) (new.entries b.m)
+  listing_unnamed p n a old new is =
+      subst (λ (x : Part). Quiet (old.entries b.m) (x.entries b.m)) (sym is.stands)
+      (by_mapped (Asked p.thread p.manager) (λ d o e c. Unit {0}) (λ x. x) (λ (x : Part). Quiet (x.entries b.m) (is.asked.entries b.m))
+      (λ d e x c asked quiet. (adds_both b.xid (d.entries b.m) (e.entries b.m) (is.asked.entries b.m) (asked_unnamed p.thread p.manager d (op.Listed x) e c asked refl) quiet, tt))
+      is.there (check_flags call.Recover p.flags) p.manager old old.scan is.before is.asked new.scan is.after is.result is.recovers (adds_same b.xid (is.asked.entries b.m) (is.asked.entries b.m) refl)).0
+
   call_unnamed : (p : Called) (a : Answer) (old new : Part) → CallTakes settled p a old new → is_among b (branches_in (task.Call p)) ≡ false → Quiet (old.entries b.m) (new.entries b.m)
   call_unnamed p a old new (answered o c asks told is) quiet = subst (λ (x : Part). Quiet (old.entries b.m) (x.entries b.m)) (sym is) (one_entry p o c (old.entries b.m) (ap op_in asks) quiet)
   call_unnamed p a old new (kept o c k asks low told free is) quiet = subst (λ (x : Part). Quiet (old.entries b.m) (x.entries b.m)) (sym is) (one_entry p o c (old.entries b.m) (ap op_in asks) quiet)
   call_unnamed p a old new (refused c is told same) quiet = adds_same b.xid (old.entries b.m) (new.entries b.m) (ap (λ (x : Part). x.entries b.m) same)
+  call_unnamed p a old new (lists n asks is) quiet = listing_unnamed p n a old new is
   call_unnamed p a old new (completes o k c asks there code told same) quiet = adds_same b.xid (old.entries b.m) (new.entries b.m) (ap (λ (x : Part). x.entries b.m) same)
 
   carries_unnamed : (t : ℕ) (o : Option Op) (code : Option Code) (old new : List Entry) → Carries t o code old new → ((p : Op) → o ≡ Some p → names b.xid p ≡ false) → Quiet old new

@@ -29,12 +29,13 @@ use Rattle.xa_session.specs.Committing.{branches_of}
 use Rattle.xa_grammar.specs.declared.script.CommitAll.{CommitAll}
 use Rattle.xa_grammar.specs.Content.{Content}
 use Rattle.xa_session.specs.declared.answer.Answer.{Answer}
-use Rattle.xa_transcript.specs.Parts.{Part, no_part}
+use Rattle.xa_transcript.specs.Parts.{Part}
 use Rattle.xa_base.specs.Lists.{Chain}
 use Rattle.xa_base.specs.Lists.Chain.{none, more}
-use Rattle.xa_grammar.specs.declared.script.Declared.{Declared}
+use Rattle.xa_grammar.specs.declared.script.Step.{Step}
 use Rattle.xa_transcript.specs.Commits.{AtBranch, Decides}
-use Rattle.xa_transcript.specs.Journals.{Line, TakesPart, AreCarriedOut, ShowsCommit, TellsOf, entries_of}
+use Rattle.xa_transcript.specs.Journals.{Line, TakesPart, AreCarriedOut, ShowsCommit, entries_of}
+use Rattle.xa_transcript.specs.Openings.{Beginning, Opening, TellsOf}
 use Rattle.xa_transcript.specs.Outcomes.{IsOneOutcome, ShowsOneOutcome, Place, AreLeftAlone, AreLeftOrDecided, IsAsShown, CountsAsShown}
 use Rattle.xa_transcript.proofs.Entries.{agreed_fits}
 use Rattle.xa_transcript.proofs.Shown.{Adding, decided_so, committed_yes, committed_done, none_against}
@@ -299,22 +300,22 @@ chain_steps settled first ls last (more xs x now end before step) =
     All-append (λ l. (old : Part) × (new : Part) × TakesPart settled l old new) xs (x ∷ []) (chain_steps settled first xs now before)
     (All-cons (λ l. (old : Part) × (new : Part) × TakesPart settled l old new) x [] (now, end, step) (All-nil (λ l. (old : Part) × (new : Part) × TakesPart settled l old new)))
 
-pub all_one_outcome : (s : Content) (answers : List Answer) (settled : Settling) (t : ℕ) (told : AreCarriedOut s answers settled t) → All ShowsOneOutcome told.lines
-all_one_outcome s answers settled t told k d below c done shows =
-    let step = chain_steps settled no_part told.lines _ told.carried k d below in
+pub all_one_outcome : (steps : List Step) (answers : List Answer) (settled : Settling) (t : ℕ) (first : Part) (told : AreCarriedOut steps answers settled t first) → All ShowsOneOutcome told.lines
+all_one_outcome steps answers settled t first told k d below c done shows =
+    let step = chain_steps settled first told.lines _ told.carried k d below in
     one_outcome c done step.0 step.1 (decided_so settled (slice_index_or told.lines k d) c done step.0 step.1 shows step.2)
 
 -- a line of its thread
-module _ (law : Tabled) (opens : (s : Settling) (m : ℕ) → IsSettled s → (T : Tables) × IsOpenedWith s m T) (s : Content) (answers : List Answer) (values : List Declared) (settled : Settling) (tells : TellsOf s answers values settled) (c : CommitAll) (done : Outcome)
+module _ (law : Tabled) (opens : (s : Settling) (m : ℕ) → IsSettled s → (T : Tables) × IsOpenedWith s m T) (s : Content) (b : Beginning) (o : Opening) (tells : TellsOf s b o) (c : CommitAll) (done : Outcome)
     (before : List Line) (l : Line) (after : List Line) (old new : Part) (place : Place (tells.carried c.thread) before l after old new) (shows : ShowsCommit l c done) where
   -- whose branches are left alone but for heuristic decisions
-  pub shown_so : AreLeftOrDecided settled c.thread (branches_of c) old new → IsAsShown settled c.thread (branches_of c) old done
+  pub shown_so : AreLeftOrDecided o.settled c.thread (branches_of c) old new → IsAsShown o.settled c.thread (branches_of c) old done
   shown_so alone =
-      as_shown law opens settled tells.agree c done old new (decided_so settled l c done old new shows place.takes) (λ m. chain_adds settled new after _ place.later m) alone
+      as_shown law opens o.settled tells.agree c done old new (decided_so o.settled l c done old new shows place.takes) (λ m. chain_adds o.settled new after _ place.later m) alone
 
   -- or left alone
-  pub counts_so : AreLeftAlone settled c.thread (branches_of c) old new → IsAsShown settled c.thread (branches_of c) old done × CountsAsShown settled c.thread (branches_of c) old done
+  pub counts_so : AreLeftAlone o.settled c.thread (branches_of c) old new → IsAsShown o.settled c.thread (branches_of c) old done × CountsAsShown o.settled c.thread (branches_of c) old done
   counts_so alone =
-      let is = decided_so settled l c done old new shows place.takes in
-      let grown : (m : ℕ) → Adding (new.entries m) (entries_of c.thread (journal settled m)) = λ m. chain_adds settled new after _ place.later m in
-      (shown_so (left_or_decided law opens settled tells.agree c done old new is grown alone), counts_as_shown law opens settled tells.agree c done old new is grown alone)
+      let is = decided_so o.settled l c done old new shows place.takes in
+      let grown : (m : ℕ) → Adding (new.entries m) (entries_of c.thread (journal o.settled m)) = λ m. chain_adds o.settled new after _ place.later m in
+      (shown_so (left_or_decided law opens o.settled tells.agree c done old new is grown alone), counts_as_shown law opens o.settled tells.agree c done old new is grown alone)

@@ -92,7 +92,7 @@ entry_here t m o c old =
     at_true (m == m) (old.entries m ++ next_entry t (old.entries m) o c ∷ []) (old.entries m) (eq-eqb m m refl)
 
 -- and nowhere else
-entry_elsewhere : (t m : ℕ) (o : Op) (c : Code) (old : Part) (n : ℕ) → n ≢ m
+pub entry_elsewhere : (t m : ℕ) (o : Op) (c : Code) (old : Part) (n : ℕ) → n ≢ m
     → (with_entry t m o c old).entries n ≡ old.entries n
 entry_elsewhere t m o c old n differs =
     at_false (n == m) (old.entries n ++ next_entry t (old.entries n) o c ∷ []) (old.entries n)
@@ -106,7 +106,7 @@ other_same m p a old new differs (elsewhere apart same) = same
 other_same m p a old new differs (completes asks same) = same
 
 module _ (settled : Settling) (p : Called) (a : Answer) (old new : Part)
-    (adds : (m : ℕ) → Adds m p a (old.entries m) (new.entries m)) (log : new.log ≡ old.log) where
+    (adds : (m : ℕ) → Adds m p a (old.entries m) (new.entries m)) (log : new.log ≡ old.log) (scan : new.scan ≡ old.scan) where
   one_entered : (o : Op) (c : Code)
       → new.entries p.manager ≡ old.entries p.manager ++ next_entry p.thread (old.entries p.manager) o c ∷ []
       → (m : ℕ) → new.entries m ≡ (with_entry p.thread p.manager o c old).entries m
@@ -128,7 +128,7 @@ module _ (settled : Settling) (p : Called) (a : Answer) (old new : Part)
   takes_by : Adds p.manager p a (old.entries p.manager) (new.entries p.manager) → Hands settled p a old new.handles
       → CallTakes settled p a old new
   takes_by (answered o c here asks told is) (shows d may says now) =
-      call_answered o c asks told (λ i. record { entries = λ m. one_entered o c is m i; handles = now i; log = log i })
+      call_answered o c asks told (λ i. record { entries = λ m. one_entered o c is m i; handles = now i; log = log i; scan = scan i })
   takes_by (answered o c here asks told is) (gives r k asked says free now) =
       absurd (let e : code_of o ≡ handle_for r = sym asks ∙ asked in cc)
   takes_by (answered o c here asks told is) (takes r k d asked at has says now) =
@@ -140,22 +140,23 @@ module _ (settled : Settling) (p : Called) (a : Answer) (old new : Part)
         entries = λ m. one_entered o c is m i;
         handles = (now ∙ ap (λ n. finmap.insert old.handles n (next_request old p.manager)) same) i;
         log = log i;
+        scan = scan i;
       })
   takes_by (kept o c k here asks low told is) (shows d may says now) =
       absurd (not_handle p a o d k asks (subst (λ r. IsRefusal r d) (sym asks) (subst (λ r. MayShow r d) asks may)) says told)
   takes_by (kept o c k here asks low told is) (takes r j d asked at has says now) =
       absurd (let e : handle_for o ≡ completion = sym asks ∙ asked in cc)
   takes_by (refused c why told same) (shows d may says now) =
-      call_refused c why told (λ i. record { entries = λ m. all_same same m i; handles = now i; log = log i })
+      call_refused c why told (λ i. record { entries = λ m. all_same same m i; handles = now i; log = log i; scan = scan i })
   takes_by (refused c why told same) (gives r k asked says free now) = absurd (not_handle p a r c k asked why told says)
   takes_by (refused c why told same) (takes r k d asked at has says now) =
       absurd (not_completed p.line p.thread (number_of c) p.line p.thread (pos k) (number_of d) (sym told ∙ says))
   takes_by (elsewhere differs same) hands = absurd (differs refl)
   takes_by (completes asks same) (takes r k d asked at has says now) =
-      call_completes r k d asked at has says (λ i. record { entries = λ m. all_same same m i; handles = now i; log = log i })
+      call_completes r k d asked at has says (λ i. record { entries = λ m. all_same same m i; handles = now i; log = log i; scan = scan i })
   takes_by (completes asks same) (shows d may says now) =
       call_refused d (subst (λ r. IsRefusal r d) (sym asks) (subst (λ r. MayShow r d) asks may)) says
-      (λ i. record { entries = λ m. all_same same m i; handles = now i; log = log i })
+      (λ i. record { entries = λ m. all_same same m i; handles = now i; log = log i; scan = scan i })
   takes_by (completes asks same) (gives r k asked says free now) =
       absurd (let e : completion ≡ handle_for r = sym asks ∙ asked in cc)
 

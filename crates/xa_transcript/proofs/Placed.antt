@@ -4,9 +4,9 @@ use Rattle.xa_base.specs.Lists.{Chain}
 use Rattle.xa_base.specs.Lists.Chain.{none, more}
 use Rattle.xa_base.proofs.Lists.{snoc_parts}
 use Rattle.xa_switch.specs.Settling.{Settling}
-use Rattle.xa_grammar.specs.Content.{Content}
+use Rattle.xa_grammar.specs.declared.script.Step.{Step}
 use Rattle.xa_session.specs.declared.answer.Answer.{Answer}
-use Rattle.xa_transcript.specs.Parts.{Part, no_part}
+use Rattle.xa_transcript.specs.Parts.{Part}
 use Rattle.xa_transcript.specs.Journals.{Line, TakesPart, AreCarriedOut}
 use Rattle.xa_transcript.specs.Outcomes.{Place}
 use Rattle.xa_transcript.proofs.Shown.{Adding, adds_none, adds_both, takes_adds}
@@ -21,14 +21,14 @@ ends {X} (y ∷ ys) =
 
 module _ {X A : Type 0} (leads : X → A → A → Type 0) (first : A) where
   -- steps that are parted at one of them
-  record Parted (xs : List X) (y : X) (ys : List X) (last : A) : Type 0 where
+  pub record Parted (xs : List X) (y : X) (ys : List X) (last : A) : Type 0 where
     pub old : A
     pub new : A
     pub earlier : Chain leads first xs old
     pub step : leads y old new
     pub later : Chain leads new ys last
 
-  part : (zs : List X) (last : A) → Chain leads first zs last → (xs : List X) (y : X) (ys : List X) → zs ≡ xs ++ y ∷ ys → Parted xs y ys last
+  pub part : (zs : List X) (last : A) → Chain leads first zs last → (xs : List X) (y : X) (ys : List X) → zs ≡ xs ++ y ∷ ys → Parted xs y ys last
   part zs last (none ws end e f) xs y ys is = let size = ap (λ (l : List X). length l) (sym e ∙ is) in absurd (omega (arith, size, length-append xs (y ∷ ys)))
   part zs last (more ws w now end before step) xs y ys is =
       ⊎_elim
@@ -53,9 +53,9 @@ module _ {X A : Type 0} (leads : X → A → A → Type 0) (first : A) where
       })
       (ends ys)
 
-pub places : (s : Content) (answers : List Answer) (settled : Settling) (t : ℕ) (told : AreCarriedOut s answers settled t) (before : List Line) (l : Line) (after : List Line) → told.lines ≡ before ++ l ∷ after → (old : Part) × (new : Part) × Place told before l after old new
-places s answers settled t told before l after is =
-    let p = part (TakesPart settled) no_part told.lines _ told.carried before l after is in
+pub places : (steps : List Step) (answers : List Answer) (settled : Settling) (t : ℕ) (first : Part) (told : AreCarriedOut steps answers settled t first) (before : List Line) (l : Line) (after : List Line) → told.lines ≡ before ++ l ∷ after → (old : Part) × (new : Part) × Place told before l after old new
+places steps answers settled t first told before l after is =
+    let p = part (TakesPart settled) first told.lines _ told.carried before l after is in
     (p.old, p.new, record { lines = is; earlier = p.earlier; takes = p.step; later = p.later })
 
 -- what lines put into the journals is only added

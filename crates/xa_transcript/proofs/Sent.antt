@@ -6,11 +6,13 @@ use Rattle.std.specs.List.{Contains}
 use Rattle.std.specs.FinMap as finmap
 use Rattle.std.proofs.lemmas.Bool.{cases_eq}
 use Rattle.xa_words.specs.Code.{number_of}
+use Rattle.xa_words.specs.Xid.{XidName}
 use Rattle.xa_words.specs.declared.code.Code.{Code}
 use Rattle.xa_words.specs.declared.code.Code.TheVariants.{Async, Inval, RmErr, RmFail}
 use Rattle.xa_words.specs.declared.flags.Call.TheVariants as call
 use Rattle.xa_words.specs.declared.flags.Mode.{Mode}
 use Rattle.xa_words.specs.declared.request.Op.{Op}
+use Rattle.xa_words.specs.declared.request.Op.TheVariants.{Listed}
 use Rattle.xa_words.specs.Flags.{check_flags}
 use Rattle.xa_desk.specs.declared.operation.Operation.{Operation}
 use Rattle.xa_desk.specs.LedgerView.{LedgerView, learnt_shut}
@@ -21,6 +23,9 @@ use Rattle.xa_desk.specs.Looks.{Looks, Collects, TakesKept}
 use Rattle.xa_worker.specs.Journal.{Entry}
 use Rattle.xa_desk.specs.declared.refused.Refused.{Refused}
 use Rattle.xa_desk.specs.declared.refused.Refused.TheVariants.{NoSuchManager, Shut, TooMany, Spent}
+use Rattle.xa_switch.specs.Scans.{ScanView, HasRecovered}
+use Rattle.xa_switch.specs.Scans.{Answers as Reaches}
+use Rattle.xa_switch.specs.Scans.Answers.{refused as unreached, answered as reached}
 use Rattle.xa_switch.specs.Putting.{code_of as to_code, put_refusal, Puts, Calls}
 use Rattle.xa_switch.specs.Putting.Puts.{refused as put_refused, full, kept as put_kept, answered as put_answered}
 use Rattle.xa_switch.specs.Completing.{number_in, CompletesOne, CompletesAny, CompletesAt, CompletesBy, CollectsRedeemed, HasCompleted, may_complete}
@@ -40,7 +45,8 @@ use Rattle.xa_transcript.proofs.Parts.{Adds}
 use Rattle.xa_transcript.specs.Wants.Wanted.{code_of, handle_for}
 use Rattle.xa_transcript.proofs.Parts.Adds.{refused, elsewhere, completes}
 use Rattle.xa_transcript.proofs.Ledgers.{Grows, grows_same, grows_both, grows_sent, grows_collected, sent_here, sent_elsewhere, sending_collects_none, numbered_so, sent_known, collected_here, collecting_sends_none}
-use Rattle.xa_switch.proofs.Kept.{quiet_same, known_here, fulls_ledgers}
+use Rattle.xa_switch.proofs.Kept.{quiet_same, known_here, fulls_ledgers, fulls_kept}
+use Rattle.xa_transcript.proofs.Mapped.{by_mapped}
 
 abbrev ledgers_of : DeskView → List LedgerView
 ledgers_of d = d.ledgers
@@ -170,6 +176,22 @@ refusal_by false o c is = is
 refused_so : (p : Called) (b : Bool) (o : Op) → asks b o ≡ wanted_in p → (a : Answer) (n : ℤ) → a ≡ shown p n → (m : ℕ) (c : Code) → Contains (refusals b) c → n ≡ number_of c → (es : List Entry) → Adds m p a es es
 refused_so p b o e a n told m c is of es = refused c (subst (λ r. IsRefusal r c) e (refusal_by b o c is)) (told ∙ ap (shown p) of) refl
 
+-- what is carried out is sent and collected
+pub answered_here : (m times : ℕ) (old new : DeskView) (op : Op) (b : Bool) (c : Code) → put_refusal old m b ≡ None → Collects (submitted (after_fulls times old m) m op) new (next_operation old.ledgers m) c
+    → (sent_to new.ledgers m ≡ sent_to old.ledgers m ++ op ∷ []) × (collected_from new.ledgers m ≡ collected_from old.ledgers m ++ (length (sent_to old.ledgers m), c) ∷ [])
+answered_here m times old new op b c why is =
+    let before = after_fulls times old m in
+    let known = known_here old m b why in
+    let ledgers : before.ledgers ≡ old.ledgers = fulls_ledgers times old m in
+    let o = next_operation old.ledgers m in
+    let became : new.ledgers ≡ after_collected (after_sent old.ledgers m op) o c = collects_so (submitted before m op) new o c is ∙ ap (λ (at : List LedgerView). after_collected (after_sent at m op) o c) ledgers in
+    let sent_then = sent_known old.ledgers m op known in (
+      ap (λ (at : List LedgerView). sent_to at m) became ∙ collecting_sends_none (after_sent old.ledgers m op) o c sent_then m ∙ sent_here old.ledgers m op known,
+      ap (λ (at : List LedgerView). collected_from at m) became
+          ∙ collected_here (after_sent old.ledgers m op) o c sent_then
+          ∙ (λ i. sending_collects_none old.ledgers m op known m i ++ (numbered_so old.ledgers m op known i, c) ∷ []),
+    )
+
 -- of its own manager
 puts_here : (p : Called) (old new : DeskView) (a : Answer) (n : ℤ) (asked : _) → Puts old p.manager asked new n → asks asked.asynchronous asked.op ≡ wanted_in p → a ≡ shown p n → Sends p.manager p a old.ledgers new.ledgers
 puts_here p old new a n asked (put_refused c why of same) e told = nothing (refused_so p asked.asynchronous asked.op e a n told p.manager c (is_refusal old p.manager asked.asynchronous c why) of) (ap (λ (d : DeskView). sent_to d.ledgers p.manager) same)
@@ -178,17 +200,8 @@ puts_here p old new a n asked (put_kept why async k of is same) e told =
     kept asked.op k refl (sym e ∙ ap (λ b. asks b asked.op) async) is.positive (told ∙ ap (shown p) of)
     (ap (λ (d : DeskView). sent_to d.ledgers p.manager) same ∙ sent_here old.ledgers p.manager asked.op (known_here old p.manager asked.asynchronous why))
 puts_here p old new a n asked (put_answered why async times c of is) e told =
-    let before = after_fulls times old p.manager in
-    let known = known_here old p.manager asked.asynchronous why in
-    let ledgers : before.ledgers ≡ old.ledgers = fulls_ledgers times old p.manager in
-    let o = next_operation old.ledgers p.manager in
-    let became : new.ledgers ≡ after_collected (after_sent old.ledgers p.manager asked.op) o c = collects_so (submitted before p.manager asked.op) new o c is ∙ ap (λ (at : List LedgerView). after_collected (after_sent at p.manager asked.op) o c) ledgers in
-    let sent_then = sent_known old.ledgers p.manager asked.op known in
-    answered asked.op c refl (sym e ∙ ap (λ b. asks b asked.op) async) (told ∙ ap (shown p) of)
-    (ap (λ (at : List LedgerView). sent_to at p.manager) became ∙ collecting_sends_none (after_sent old.ledgers p.manager asked.op) o c sent_then p.manager ∙ sent_here old.ledgers p.manager asked.op known)
-    (ap (λ (at : List LedgerView). collected_from at p.manager) became
-    ∙ collected_here (after_sent old.ledgers p.manager asked.op) o c sent_then
-    ∙ (λ i. sending_collects_none old.ledgers p.manager asked.op known p.manager i ++ (numbered_so old.ledgers p.manager asked.op known i, c) ∷ []))
+    let here = answered_here p.manager times old new asked.op asked.asynchronous c why is in
+    answered asked.op c refl (sym e ∙ ap (λ b. asks b asked.op) async) (told ∙ ap (shown p) of) here.0 here.1
 
 -- of another manager
 puts_elsewhere : (m n : ℕ) → m ≢ n → (old new : DeskView) (a : ℤ) (asked : _) → Puts old n asked new a → sent_to new.ledgers m ≡ sent_to old.ledgers m
@@ -228,10 +241,42 @@ calls_do p old new a n (Err c) is e told m = (
   grows_same m old.ledgers new.ledgers (ap ledgers_of is.1),
 )
 
--- an action of a line
-pub answers_do : (x : Action) (p : Called) → wanted_by x p.flags ≡ wanted_in p → (old new : DeskView) (a : Answer) → Answers x p old new a → (m : ℕ) → Moves m p a old.ledgers new.ledgers
-answers_do (action.Xa c x) p e old new a is m = calls_do p old new a is.answer _ is.calls e is.shown m
-answers_do (action.Native o) p e old new a is m = calls_do p old new a is.answer _ is.calls e is.shown m
-answers_do (action.Complete h) p e old new a is m =
+-- it is an xa_recover
+abbrev pub is_recover : Action → Bool
+is_recover (action.Xa c x) = false
+is_recover (action.Native o) = false
+is_recover (action.Complete h) = false
+is_recover (action.Recover n) = true
+
+-- an action of a line that is no xa_recover
+pub answers_do : (x : Action) (p : Called) → is_recover x ≡ false → wanted_by x p.flags ≡ wanted_in p → (old new : DeskView) (z z' : ScanView) (a : Answer) → Answers x p old z new z' a → (m : ℕ) → Moves m p a old.ledgers new.ledgers
+answers_do (action.Xa c x) p plain e old new z z' a (is, still) m = calls_do p old new a is.answer _ is.calls e is.shown m
+answers_do (action.Native o) p plain e old new z z' a (is, still) m = calls_do p old new a is.answer _ is.calls e is.shown m
+answers_do (action.Recover n) p plain e old new z z' a is m = absurd (cc)
+answers_do (action.Complete h) p plain e old new z z' a (is, still) m =
     let collects = completing old h (pos 0) p.manager p.flags new is.handle is.retval is.answer is.completes m in
     (nothing (λ es. completes (sym e) refl) collects.1, collects.0)
+
+-- ---- an xa_recover
+
+-- a request of it is put as a call without TMASYNC puts it
+as_put : (m : ℕ) (old : DeskView) (op : Op) (new : DeskView) (c : Code) → Reaches m old op new c → Puts old m (record { op = op; asynchronous = false }) new (number_of c)
+as_put m old op new c (unreached why same) = put_refused c why refl same
+as_put m old op new c (reached admits n is) = put_answered admits refl n c refl is
+
+pub request_grows : (k m : ℕ) (old : DeskView) (op : Op) (new : DeskView) (c : Code) → Reaches m old op new c → Grows k old.ledgers new.ledgers
+request_grows k m old op new c is = puts_grow k m old new (number_of c) (record { op = op; asynchronous = false }) (as_put m old op new c is)
+
+pub request_elsewhere : (k m : ℕ) → k ≢ m → (old : DeskView) (op : Op) (new : DeskView) (c : Code) → Reaches m old op new c → sent_to new.ledgers k ≡ sent_to old.ledgers k
+request_elsewhere k m differs old op new c is = puts_elsewhere k m differs old new (number_of c) (record { op = op; asynchronous = false }) (as_put m old op new c is)
+
+pub request_keeps : (m : ℕ) (old : DeskView) (op : Op) (new : DeskView) (c : Code) → Reaches m old op new c → new.kept ≡ old.kept
+request_keeps m old op new c (unreached why same) = ap (λ (d : DeskView). d.kept) same
+request_keeps m old op new c (reached admits n is) = ap (λ (d : DeskView). d.kept) is.collected ∙ ap (λ (d : DeskView). d.kept) is.looks.rest ∙ fulls_kept n old m
+
+-- an xa_recover only adds to what was sent and collected
+pub recover_grows : (k m f : ℕ) (old : DeskView) (z : ScanView) (xids : List XidName) (new : DeskView) (z' : ScanView) (xids' : List XidName) (n : ℤ) → HasRecovered m f old z xids new z' xids' n → Grows k old.ledgers new.ledgers
+recover_grows k m f old z xids new z' xids' n is =
+    (by_mapped (Reaches m) (λ d o e c. Unit {0}) (λ d. d) (λ (d : DeskView). Grows k d.ledgers new.ledgers)
+    (λ d e x c asked grown. (grows_both k d.ledgers e.ledgers new.ledgers (request_grows k m d (Listed x) e c asked) grown, tt))
+    (is_known old.ledgers m) (check_flags call.Recover f) m old z xids new z' xids' is.result is.recovers (grows_same k new.ledgers new.ledgers refl)).0

@@ -10,7 +10,7 @@ use Rattle.xa_words.specs.Xid.{XidName}
 use Rattle.xa_words.specs.declared.code.Code.{Code}
 use Rattle.xa_words.specs.declared.code.Code.TheVariants.{Done, RdOnly, Retry, HeurMix, HeurRb, HeurCom, HeurHaz, RbRollback, RbCommFail, RbDeadlock, RbIntegrity, RbOther, RbProto, RbTimeout, RbTransient, Async, RmErr, Nota, Inval, Proto, RmFail, DupId, Outside}
 use Rattle.xa_words.specs.declared.request.Op.{Op}
-use Rattle.xa_words.specs.declared.request.Op.TheVariants.{Prepare, Commit, Rollback, Forget}
+use Rattle.xa_words.specs.declared.request.Op.TheVariants.{Prepare, Commit, Rollback, Forget, Listed}
 use Rattle.xa_tables.specs.History.{is_done, is_rolled_back}
 use Rattle.xa_desk.specs.LedgerView.{is_rm_fail}
 use Rattle.xa_worker.specs.Journal.{Entry, entry}
@@ -27,7 +27,7 @@ use Rattle.xa_grammar.specs.declared.script.Called.{Called}
 use Rattle.xa_grammar.specs.declared.script.CommitAll.{CommitAll}
 use Rattle.xa_grammar.specs.declared.script.Task.{Task}
 use Rattle.xa_grammar.specs.declared.script.Task.TheVariants as task
-use Rattle.xa_grammar.specs.Content.{Content}
+use Rattle.xa_grammar.specs.declared.script.Step.{Step}
 use Rattle.xa_session.specs.declared.answer.Answer.{Answer}
 use Rattle.xa_session.specs.declared.answer.Answer.TheVariants as answer
 use Rattle.xa_base.specs.Lists.{Chain}
@@ -35,12 +35,16 @@ use Rattle.xa_base.specs.Lists.Chain.{none, more}
 use Rattle.xa_session.specs.Calling.{shown}
 use Rattle.xa_session.specs.Committing.{branches_of}
 use Rattle.xa_transcript.specs.Wants.{wanted_in, refusals, IsRefusal}
-use Rattle.xa_transcript.specs.Parts.{Part, next_entry, no_part, CallTakes}
+use Rattle.xa_transcript.specs.Parts.{Part, next_entry, Asked, Lists, CallTakes}
+use Rattle.xa_transcript.specs.Parts.Asked.{answered as asked_answered, refused as asked_refused}
+use Rattle.xa_transcript.proofs.Mapped.{by_mapped}
+use Rattle.xa_words.specs.Flags.{check_flags}
+use Rattle.xa_words.specs.declared.flags.Call.TheVariants as call
 use Rattle.xa_transcript.specs.Commits.{Carries, AtBranch, Decides, CommitTakes}
 use Rattle.xa_transcript.proofs.Parts.{entry_here}
 use Rattle.xa_transcript.specs.Journals.{Line, Takes, TakesPart, entries_of, AreCarriedOut, IsInJournal, IsCarriedOut, ShowsCommit, AreCommitted, ArePrepared, AddsNoCommit}
-use Rattle.xa_transcript.specs.Wants.Wanted.{code_of, handle_for, completion}
-use Rattle.xa_transcript.specs.Parts.CallTakes.{answered, kept, refused, completes}
+use Rattle.xa_transcript.specs.Wants.Wanted.{code_of, handle_for, completion, listing}
+use Rattle.xa_transcript.specs.Parts.CallTakes.{answered, kept, refused, completes, lists}
 use Rattle.xa_transcript.specs.Commits.Carries.{carried, withheld, unwanted}
 use Rattle.xa_transcript.specs.Commits.CommitTakes.{refused as takes_none, decided}
 use Rattle.xa_transcript.proofs.Branches.{branch_there}
@@ -122,6 +126,7 @@ one_entered settled q a old new (answered p c asks told is) o asked ok =
     subst (λ (d : Code). HasEntry q.thread o d (new.entries m)) code (subst (λ (r : Op). HasEntry q.thread r c (new.entries m)) own (entered q.thread p c (old.entries m) (new.entries m) here))
 one_entered settled q a old new (kept p c k asks low told free is) o asked ok = absurd (let e : handle_for p ≡ code_of o = sym asks ∙ asked in cc)
 one_entered settled q a old new (refused c is told same) o asked ok = absurd (no_refusal c (subst (λ r. IsRefusal r c) asked is) (done_is c (same_number q.line q.thread (number_of c) (pos 0) (sym told ∙ ok))))
+one_entered settled q a old new (lists n none_asked is) o asked ok = absurd (let e : listing n ≡ code_of o = sym none_asked ∙ asked in cc)
 one_entered settled q a old new (completes r k c none_asked there code told same) o asked ok = absurd (let e : completion ≡ code_of o = sym none_asked ∙ asked in cc)
 
 -- the entries of a manager, with one more or none
@@ -129,10 +134,22 @@ either_adds : (b : Bool) (old : List Entry) (e : Entry) → Adding old (if b the
 either_adds true old e = (e ∷ [], refl)
 either_adds false old e = adds_none old old refl
 
+asked_adds : (t n : ℕ) (old : Part) (o : Op) (new : Part) (c : Code) → Asked t n old o new c → (m : ℕ) → Adding (old.entries m) (new.entries m)
+asked_adds t n old o new c (asked_answered is) m = subst (λ (x : Part). Adding (old.entries m) (x.entries m)) (sym is) (either_adds (m == n) (old.entries m) (next_entry t (old.entries m) o c))
+asked_adds t n old o new c (asked_refused why same) m = adds_none (old.entries m) (new.entries m) (ap (λ (x : Part). x.entries m) same)
+
+listing_adds : (q : Called) (n : ℕ) (a : Answer) (old new : Part) → Lists q n a old new → (m : ℕ) → Adding (old.entries m) (new.entries m)
+listing_adds q n a old new is m =
+    subst (λ (x : Part). Adding (old.entries m) (x.entries m)) (sym is.stands)
+    (by_mapped (Asked q.thread q.manager) (λ d o e c. Unit {0}) (λ x. x) (λ (x : Part). Adding (x.entries m) (is.asked.entries m))
+    (λ d e x c asked adding. (adds_both (d.entries m) (e.entries m) (is.asked.entries m) (asked_adds q.thread q.manager d (Listed x) e c asked m) adding, tt))
+    is.there (check_flags call.Recover q.flags) q.manager old old.scan is.before is.asked new.scan is.after is.result is.recovers (adds_none (is.asked.entries m) (is.asked.entries m) refl)).0
+
 call_adds : (settled : Settling) (q : Called) (a : Answer) (old new : Part) → CallTakes settled q a old new → (m : ℕ) → Adding (old.entries m) (new.entries m)
 call_adds settled q a old new (answered p c asks told is) m = subst (λ (x : Part). Adding (old.entries m) (x.entries m)) (sym is) (either_adds (m == q.manager) (old.entries m) (next_entry q.thread (old.entries m) p c))
 call_adds settled q a old new (kept p c k asks low told free is) m = subst (λ (x : Part). Adding (old.entries m) (x.entries m)) (sym is) (either_adds (m == q.manager) (old.entries m) (next_entry q.thread (old.entries m) p c))
 call_adds settled q a old new (refused c is told same) m = subst (λ (x : Part). Adding (old.entries m) (x.entries m)) (sym same) (adds_none (old.entries m) (old.entries m) refl)
+call_adds settled q a old new (lists n asked is) m = listing_adds q n a old new is m
 call_adds settled q a old new (completes r k c none_asked there code told same) m = subst (λ (x : Part). Adding (old.entries m) (x.entries m)) (sym same) (adds_none (old.entries m) (old.entries m) refl)
 
 -- ---- a branch
@@ -273,8 +290,8 @@ no_element : (ls : List Line) (l : Line) → ls ≡ [] → Contains ls l → ⊥
 no_element ls l e there = let size = ap (λ xs. length xs) e in let below = there.1 in omega (arith, size, below)
 
 -- what a line has put into the journals is there after the last line
-module _ (settled : Settling) (l : Line) (Has : (ℕ → List Entry) → Type 0) (stays : (old new : ℕ → List Entry) → ((m : ℕ) → Adding (old m) (new m)) → Has old → Has new) (puts : (old new : Part) → TakesPart settled l old new → Has new.entries) where
-  chain_has : (ls : List Line) (p : Part) → Chain (TakesPart settled) no_part ls p → Contains ls l → Has p.entries
+module _ (settled : Settling) (l : Line) (Has : (ℕ → List Entry) → Type 0) (stays : (old new : ℕ → List Entry) → ((m : ℕ) → Adding (old m) (new m)) → Has old → Has new) (puts : (old new : Part) → TakesPart settled l old new → Has new.entries) (first : Part) where
+  chain_has : (ls : List Line) (p : Part) → Chain (TakesPart settled) first ls p → Contains ls l → Has p.entries
   chain_has ls p (none xs last e f) there = absurd (no_element xs l e there)
   chain_has ls p (more xs x now last before is) there =
       ⊎_elim (λ (h : Contains xs l). stays now.entries last.entries (takes_adds settled x.task x.answer now last is) (chain_has xs now before h))
@@ -302,13 +319,13 @@ decided_so settled l c done old new shows takes = of_answer (subst (λ (a : Answ
     of_answer (takes_none told e) = absurd (not_refused c.line c.thread done told)
     of_answer (decided d told is) = subst (λ (x : Outcome). Decides c x old new) (sym (same_done c.line c.thread done d told)) is
 
-module _ (s : Content) (answers : List Answer) (settled : Settling) (t : ℕ) (told : AreCarriedOut s answers settled t) where
+module _ (steps : List Step) (answers : List Answer) (settled : Settling) (t : ℕ) (first : Part) (told : AreCarriedOut steps answers settled t first) where
   abbrev own : ℕ → List Entry
   own m = entries_of t (journal settled m)
 
   -- what each line puts into the journals is there
   left_there : (k : ℕ) (d : Line) → k < length told.lines → (Has : (ℕ → List Entry) → Type 0) → ((old new : ℕ → List Entry) → ((m : ℕ) → Adding (old m) (new m)) → Has old → Has new) → ((old new : Part) → TakesPart settled (slice_index_or told.lines k d) old new → Has new.entries) → Has own
-  left_there k d below Has stays puts = chain_has settled (slice_index_or told.lines k d) Has stays puts told.lines (record { entries = own; handles = told.left; log = told.log }) told.carried (Contains-get_or told.lines k d below)
+  left_there k d below Has stays puts = chain_has settled (slice_index_or told.lines k d) Has stays puts first told.lines (record { entries = own; handles = told.left; log = told.log; scan = told.scan }) told.carried (Contains-get_or told.lines k d below)
 
   pub all_carried_out : All (IsCarriedOut settled) told.lines
   all_carried_out k d below p o is asked ok =

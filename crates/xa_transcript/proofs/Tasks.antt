@@ -30,13 +30,15 @@ one_task t p tasks false e all = all
 pub tasks_are_of : (t : ℕ) (steps : List Step) → AreOf t (tasks_of t steps)
 tasks_are_of t [] = All-nil (λ (q : Task). thread_of q ≡ t)
 tasks_are_of t (step.Turn line m ∷ steps) = tasks_are_of t steps
+tasks_are_of t (step.Reopen line ∷ steps) = tasks_are_of t steps
 tasks_are_of t (step.Task p ∷ steps) = subst (AreOf t) (sym (filter_map-append (task_of t) (step.Task p ∷ []) steps)) (one_task t p (tasks_of t steps) (thread_of p == t) refl (tasks_are_of t steps))
 
 -- a thread that there isn't has none
 pub no_tasks : (t threads managers : ℕ) (steps : List Step) → All (Fits threads managers) steps → (1 ≤ t → t ≤ threads → ⊥) → tasks_of t steps ≡ []
 no_tasks t threads managers [] all apart = refl
 no_tasks t threads managers (step.Turn line m ∷ steps) all apart = no_tasks t threads managers steps (All-tail (Fits threads managers) (step.Turn line m) steps all) apart
+no_tasks t threads managers (step.Reopen line ∷ steps) all apart = no_tasks t threads managers steps (All-tail (Fits threads managers) (step.Reopen line) steps all) apart
 no_tasks t threads managers (step.Task p ∷ steps) all apart =
     let fits : Fits threads managers (step.Task p) = All-head (Fits threads managers) (step.Task p) steps all in
-    let differs : thread_of p ≢ t = λ e. apart (subst (λ n. 1 ≤ n) e fits.0) (subst (λ n. n ≤ threads) e fits.1) in
+    let differs : thread_of p ≢ t = λ e. apart (subst (λ n. 1 ≤ n) e fits.0.0) (subst (λ n. n ≤ threads) e fits.0.1) in
     filter_map-append (task_of t) (step.Task p ∷ []) steps ∙ ap (λ b. filter_map (λ (q : Task). if b then Some q else None) (p ∷ []) ++ tasks_of t steps) (not_own t p differs) ∙ no_tasks t threads managers steps (All-tail (Fits threads managers) (step.Task p) steps all) apart

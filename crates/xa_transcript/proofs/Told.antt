@@ -7,7 +7,7 @@ use Rattle.std.specs.Ordering.{nat_cmp}
 use Rattle.std.proofs.lemmas.Bool.{cases_lt}
 use Rattle.std.proofs.lemmas.List.{length-map}
 use Rattle.std.proofs.lemmas.List.Elements.{All-nil}
-use Rattle.std.proofs.lemmas.Option.{slice_get-map, slice_get_within, slice_get_cases}
+use Rattle.std.proofs.lemmas.Option.{slice_get-map, slice_get_within, slice_get_past, slice_get_cases}
 use Rattle.xa_desk.specs.LedgerView.{LedgerView}
 use Rattle.xa_desk.specs.DeskView.{DeskView, sent_to, collected_from}
 use Rattle.xa_desk.specs.Ended.{EndedView}
@@ -15,26 +15,25 @@ use Rattle.xa_desk.specs.Lanes.{new_ledgers}
 use Rattle.xa_worker.specs.Workers.{WorkerView}
 use Rattle.xa_worker.specs.Done.{Served}
 use Rattle.xa_crew.specs.Pieces.{HasServed}
-use Rattle.xa_switch.specs.declared.plan.Plan.{Plan}
-use Rattle.xa_switch.specs.Plans.{use_async}
-use Rattle.xa_switch.specs.Plans.{planned}
+use Rattle.xa_switch.specs.Plans.{Setup}
 use Rattle.xa_switch.specs.Openings.{IsNewDesk, IsNewWorker}
 use Rattle.xa_switch.specs.Seats.{DeskSeat, seat_of_desk}
 use Rattle.xa_switch.specs.Settling.{Settling, ThreadPart, ManagerPart, IsSettled, find_thread, ledgers_in, sent, collected, journal}
 use Rattle.xa_switch.specs.Closing.{thread_part, manager_part, settling}
-use Rattle.xa_driver.specs.Log.{no_records}
-use Rattle.xa_grammar.specs.declared.script.Declared.{Declared}
+use Rattle.xa_driver.specs.Log.{LogState}
+use Rattle.xa_grammar.specs.declared.script.Step.{Step}
 use Rattle.xa_grammar.specs.declared.script.Task.{Task}
 use Rattle.xa_grammar.specs.Content.{Content, tasks_of, threads_of, managers_of}
 use Rattle.xa_session.specs.declared.session.Session.{Session}
 use Rattle.xa_session.specs.declared.answer.Answer.{Answer}
 use Rattle.xa_base.specs.Lists.{Begins, Chain}
 use Rattle.xa_base.specs.Lists.Chain.{none, more}
-use Rattle.xa_session.specs.Sessions.{new_session, HasDone}
+use Rattle.xa_session.specs.Sessions.{HasDone}
 use Rattle.xa_transcript.specs.Runs.{Comes, Ran}
-use Rattle.xa_transcript.specs.Values.{AreOfScript, AreValues}
-use Rattle.xa_transcript.specs.Journals.{answers_to, entries_of, AreLeft, AreCarriedOut, TellsOf}
-use Rattle.xa_transcript.specs.Parts.{HasCode}
+use Rattle.xa_transcript.specs.Values.{AreOfScript}
+use Rattle.xa_transcript.specs.Openings.{Beginning, TellsOf, part_at}
+use Rattle.xa_transcript.specs.Journals.{answers_to, entries_of, TakesPart, AreLeft, AreCarriedOut}
+use Rattle.xa_transcript.specs.Parts.{Part, HasCode, new_part}
 use Rattle.xa_transcript.proofs.Left.{HaveEnded, numbers_ended}
 use Rattle.xa_crew.specs.Ending.{EndsDesk}
 use Rattle.xa_words.specs.declared.code.Code.{Code}
@@ -81,23 +80,43 @@ are_left settled t last e outstanding is ops pairs fits collected =
       rising = h.rising;
     }
 
-module _ (s : Content) (answers : List Answer) (desks : List DeskView) (workers : List WorkerView) (ended : List EndedView) (done : List Served) (r : Ran s answers desks workers ended done) where
-  abbrev plan : Plan
-  plan = r.opened.plan
+-- ---- logs
+
+abbrev log_in : LogState → Option Session → LogState
+log_in log None = log
+log_in log (Some x) = x.log.state
+
+-- the log of thread t after an opening that began so and left these threads
+abbrev pub log_left : Beginning → List Session → ℕ → LogState
+log_left b left zero = b.logs zero
+log_left b left (suc k) = log_in (b.logs (suc k)) (slice_get left k)
+
+pub log_there : (b : Beginning) (left : List Session) (k : ℕ) (x : Session) → slice_get left k ≡ Some x → x.log.state ≡ log_left b left (suc k)
+log_there b left k x at = sym (ap (log_in (b.logs (suc k))) at)
+
+no_log_there : (b : Beginning) (left : List Session) (k : ℕ) → length left ≤ k → b.logs (suc k) ≡ log_left b left (suc k)
+no_log_there b left k past = sym (ap (log_in (b.logs (suc k))) (slice_get_past left k past))
+
+module _ (s : Content) (b : Beginning) (steps : List Step) (answers : List Answer) (sessions left : List Session) (workers : List WorkerView) (ended : List EndedView) (done : List Served)
+    (r : Ran s b steps answers sessions left workers ended done) where
+  abbrev setup : Setup
+  setup = r.opened.setup
 
   -- what an ended desk has of its thread and its lane
-  comes_thread : (d : DeskView) (e : EndedView) → Comes s answers d e → e.thread ≡ d.thread
-  comes_thread d e c =
+  comes_thread : (x y : Session) (e : EndedView) → Comes steps answers x y e → e.thread ≡ x.desk.thread
+  comes_thread x y e c =
       c.ends.ends.thread
-      ∙ ap (λ (x : DeskSeat). x.thread) (c.ends.goes_on.seat ∙ runs_go (new_session s d, []) (tasks_of d.thread s.steps) (c.left, answers_to d.thread answers) c.runs)
+      ∙ ap (λ (x : DeskSeat). x.thread) (c.ends.goes_on.seat ∙ runs_go (x, []) (tasks_of x.desk.thread steps) (y, answers_to x.desk.thread answers) c.runs)
 
-  -- the opened desk of an ended one, and the opened worker of one that has run
-  desk_of : (k : ℕ) (e : EndedView) → slice_get ended k ≡ Some e → (d : DeskView) × (slice_get desks k ≡ Some d) × Comes s answers d e
-  desk_of k e at =
+  -- the thread of an ended desk, and the opened worker of one that has run
+  thread_of_ended : (k : ℕ) (e : EndedView) → slice_get ended k ≡ Some e → (x : Session) × (slice_get sessions k ≡ Some x) × (y : Session) × Comes steps answers x y e
+  thread_of_ended k e at =
       let within = slice_get_within ended k e at in
-      let many = r.threads.as_many in
-      let d = got desks k (omega (arith, within, many)) in
-      (d.0, d.1, r.threads.each k d.0 e d.1 at)
+      let many = r.many_ended in
+      let as_many = r.many_left in
+      let x = got sessions k (omega (arith, within, many)) in
+      let y = got left k (omega (arith, within, many, as_many)) in
+      (x.0, x.1, y.0, r.threads k x.0 y.0 e x.1 y.1 at)
 
   worker_of : (k : ℕ) (d : Served) → slice_get done k ≡ Some d → (w : WorkerView) × (slice_get workers k ≡ Some w) × HasServed w d
   worker_of k d at =
@@ -106,30 +125,33 @@ module _ (s : Content) (answers : List Answer) (desks : List DeskView) (workers 
       let w = got workers k (omega (arith, within, many)) in
       (w.0, w.1, r.managers.each k w.0 d w.1 at)
 
-  new_desk_at : (k : ℕ) (d : DeskView) → slice_get desks k ≡ Some d → IsNewDesk (planned plan) k d
-  new_desk_at k d at = r.opened.opened.desks k d at
+  desk_at : (k : ℕ) (x : Session) → slice_get sessions k ≡ Some x → slice_get (map (λ (x : Session). x.desk) sessions) k ≡ Some x.desk
+  desk_at k x at = slice_get-map (λ (x : Session). x.desk) sessions k ∙ ap (option_map (λ (x : Session). x.desk)) at
 
-  new_worker_at : (k : ℕ) (w : WorkerView) → slice_get workers k ≡ Some w → IsNewWorker (planned plan) k w
+  pub new_desk_at : (k : ℕ) (x : Session) → slice_get sessions k ≡ Some x → IsNewDesk setup k x.desk
+  new_desk_at k x at = r.opened.opened.desks k x.desk (desk_at k x at)
+
+  new_worker_at : (k : ℕ) (w : WorkerView) → slice_get workers k ≡ Some w → IsNewWorker setup k w
   new_worker_at k w at = r.opened.opened.workers k w at
 
-  thread_at : (k : ℕ) (d : DeskView) → slice_get desks k ≡ Some d → d.thread ≡ k + 1
-  thread_at k d at = opened_thread s desks workers r.opened k d at
+  thread_at : (k : ℕ) (x : Session) → slice_get sessions k ≡ Some x → x.desk.thread ≡ k + 1
+  thread_at k x at = opened_thread s b.opening b.tables (map (λ (x : Session). x.desk) sessions) workers r.opened k x.desk (desk_at k x at)
 
   ended_thread : (k : ℕ) (e : EndedView) → slice_get ended k ≡ Some e → e.thread ≡ k + 1
-  ended_thread k e at = let d = desk_of k e at in comes_thread d.0 e d.2 ∙ thread_at k d.0 d.1
+  ended_thread k e at = let x = thread_of_ended k e at in comes_thread x.0 x.2 e x.3 ∙ thread_at k x.0 x.1
 
   done_number : (k : ℕ) (d : Served) → slice_get done k ≡ Some d → d.number ≡ k + 1
   done_number k d at = let w = worker_of k d at in let new = new_worker_at k w.0 w.1 in w.2.same.number ∙ ap (λ (x : WorkerView). x.number) new.made
 
   -- the managers of the settled opening are the script's
-  pub of_script : AreOfScript s (map manager_part done)
+  pub of_script : AreOfScript s b.tables (map manager_part done)
   of_script = record {
-    many = length-map done manager_part ∙ r.managers.as_many ∙ opened_managers s desks workers r.opened;
+    many = length-map done manager_part ∙ r.managers.as_many ∙ opened_managers s b.opening b.tables (map (λ (x : Session). x.desk) sessions) workers r.opened;
     numbers = λ k p at. let d = was_mapped manager_part done k p at in ap (λ (x : ManagerPart). x.number) (sym d.2) ∙ done_number k d.0 d.1;
     first = λ k p at.
         let d = was_mapped manager_part done k p at in
         let w = worker_of k d.0 d.1 in
-        ap (λ (x : ManagerPart). x.first) (sym d.2) ∙ w.2.same.first ∙ opened_first s plan r.opened.said k w.0 (new_worker_at k w.0 w.1);
+        ap (λ (x : ManagerPart). x.first) (sym d.2) ∙ w.2.same.first ∙ opened_first s b.opening b.tables setup r.opened.said k w.0 (new_worker_at k w.0 w.1);
   }
 
   -- ---- what is carried out
@@ -141,103 +163,125 @@ module _ (s : Content) (answers : List Answer) (desks : List DeskView) (workers 
       ∙ find_numbered (λ (p : ThreadPart). p.thread) 0 (map thread_part ended) (λ j p at_p. let f = was_mapped thread_part ended j p at_p in let thread = ended_thread j f.0 f.1 in let same = ap (λ (x : ThreadPart). x.thread) f.2 in omega (arith, thread, same)) k (thread_part e)
       (slice_get-map thread_part ended k ∙ ap (option_map thread_part) at)
 
-  no_thread : (t : ℕ) → ((k : ℕ) (d : DeskView) → slice_get desks k ≡ Some d → d.thread ≢ t) → find_thread t (map thread_part ended) ≡ None
+  no_thread : (t : ℕ) → ((k : ℕ) (x : Session) → slice_get sessions k ≡ Some x → x.desk.thread ≢ t) → find_thread t (map thread_part ended) ≡ None
   no_thread t none_there =
       find_none (λ (p : ThreadPart). p.thread) t (map thread_part ended) (λ k p at same.
       let e = was_mapped thread_part ended k p at in
-      let d = desk_of k e.0 e.1 in
-      let there = thread_at k d.0 d.1 in
+      let x = thread_of_ended k e.0 e.1 in
+      let there = thread_at k x.0 x.1 in
       let thread = ended_thread k e.0 e.1 in
       let own = ap (λ (x : ThreadPart). x.thread) e.2 in
-      none_there k d.0 d.1 (omega (arith, there, thread, own, same)))
+      none_there k x.0 x.1 (omega (arith, there, thread, own, same)))
 
   module _ (is : IsSettled (settling ended done)) where
     abbrev settled : Settling
     settled = settling ended done
 
-    fresh : (k : ℕ) (d : DeskView) (m : ℕ) → slice_get desks k ≡ Some d → sent_to d.ledgers m ≡ []
-    fresh k d m at =
-        let new = new_desk_at k d at in
-        let ledgers : d.ledgers ≡ new_ledgers plan.requests (use_async plan.managers.items) = ap (λ (x : DeskView). x.ledgers) new.made in
-        ap (λ (l : List LedgerView). sent_to l m) ledgers ∙ new_sent plan.requests (use_async plan.managers.items) m
+    fresh : (k : ℕ) (x : Session) (m : ℕ) → slice_get sessions k ≡ Some x → sent_to x.desk.ledgers m ≡ []
+    fresh k x m at =
+        let new = new_desk_at k x at in
+        let ledgers : x.desk.ledgers ≡ new_ledgers setup.numbers.requests setup.use_async = ap (λ (d : DeskView). d.ledgers) new.made in
+        ap (λ (l : List LedgerView). sent_to l m) ledgers ∙ new_sent setup.numbers.requests setup.use_async m
 
-    uncollected : (k : ℕ) (d : DeskView) (m : ℕ) → slice_get desks k ≡ Some d → collected_from d.ledgers m ≡ []
-    uncollected k d m at =
-        let new = new_desk_at k d at in
-        let ledgers : d.ledgers ≡ new_ledgers plan.requests (use_async plan.managers.items) = ap (λ (x : DeskView). x.ledgers) new.made in
-        ap (λ (l : List LedgerView). collected_from l m) ledgers ∙ new_collected plan.requests (use_async plan.managers.items) m
+    uncollected : (k : ℕ) (x : Session) (m : ℕ) → slice_get sessions k ≡ Some x → collected_from x.desk.ledgers m ≡ []
+    uncollected k x m at =
+        let new = new_desk_at k x at in
+        let ledgers : x.desk.ledgers ≡ new_ledgers setup.numbers.requests setup.use_async = ap (λ (d : DeskView). d.ledgers) new.made in
+        ap (λ (l : List LedgerView). collected_from l m) ledgers ∙ new_collected setup.numbers.requests setup.use_async m
 
-    unkept : (k : ℕ) (d : DeskView) → slice_get desks k ≡ Some d → d.kept ≡ finmap.empty
-    unkept k d at = let new = new_desk_at k d at in ap (λ (x : DeskView). x.kept) new.made
+    unkept : (k : ℕ) (x : Session) → slice_get sessions k ≡ Some x → x.desk.kept ≡ finmap.empty
+    unkept k x at = let new = new_desk_at k x at in ap (λ (d : DeskView). d.kept) new.made
+
+    -- with the log that it has after them
+    abbrev Carried : ℕ → Type 0
+    Carried t = (c : AreCarriedOut steps answers settled t (part_at b t)) × (c.log ≡ log_left b left t)
 
     -- of a thread that there is
-    thread_carried : (k : ℕ) (d : DeskView) → slice_get desks k ≡ Some d → AreCarriedOut s answers settled (k + 1)
-    thread_carried k d at =
-        let within = slice_get_within desks k d at in
-        let many = r.threads.as_many in
+    thread_carried : (k : ℕ) (x : Session) → slice_get sessions k ≡ Some x → Carried (suc k)
+    thread_carried k x at =
+        let within = slice_get_within sessions k x at in
+        let many = r.many_ended in
+        let as_many = r.many_left in
         let e = got ended k (omega (arith, within, many)) in
-        let c : Comes s answers d e.0 = r.threads.each k d e.0 at e.1 in
-        let t : d.thread ≡ k + 1 = thread_at k d at in
-        let found = found_thread k e.0 e.1 in
-        let found_so = ap (λ n. find_thread n (map thread_part ended)) t ∙ found in
-        let sent_so : (m : ℕ) → sent settled d.thread m ≡ sent_to e.0.ledgers m = λ m. ap (λ o. sent_to (ledgers_in o) m) found_so in
-        let collected_so : (m : ℕ) → collected settled d.thread m ≡ collected_from e.0.ledgers m = λ m. ap (λ o. collected_from (ledgers_in o) m) found_so in
-        let fits : (m : ℕ) → Agrees d.thread (sent settled d.thread m) (collected settled d.thread m) (entries_of d.thread (journal settled m)) = λ m. agreed_fits d.thread (sent settled d.thread m) (collected settled d.thread m) (journal settled m) (is.agree d.thread m) in
-        subst (AreCarriedOut s answers settled) t (record {
-          lines = lines_in (new_session s d, []) (tasks_of d.thread s.steps) (c.left, answers_to d.thread answers) c.runs;
-          tasks = tasks_in (new_session s d, []) (tasks_of d.thread s.steps) (c.left, answers_to d.thread answers) c.runs;
-          told = answers_in (new_session s d, []) (tasks_of d.thread s.steps) (c.left, answers_to d.thread answers) c.runs refl;
-          left = c.left.desk.kept;
-          log = c.left.log.state;
-          carried =
-              let ends = ending_collects c.left.desk [] e.0 c.outstanding c.ends in
-              carried_all settled d.thread (sent settled d.thread) (collected settled d.thread) fits (new_session s d, []) (λ m. fresh k d m at) (λ m. uncollected k d m at) (unkept k d at) refl
-              (tasks_of d.thread s.steps) (c.left, answers_to d.thread answers) c.runs (tasks_are_of d.thread s.steps) (λ m. sym (ends m).1 ∙ sym (sent_so m))
-              (λ m. subst (Begins (collected_from c.left.desk.ledgers m)) (sym (collected_so m)) (ends m).0.collected);
-          outstanding = c.outstanding;
-          are_left = are_left settled d.thread c.left.desk e.0 c.outstanding c.ends (sent settled d.thread) (collected settled d.thread) fits collected_so;
-          ends = c.told;
-        })
+        let y = got left k (omega (arith, within, as_many)) in
+        let c : Comes steps answers x y.0 e.0 = r.threads k x y.0 e.0 at y.1 e.1 in
+        let own = thread_at k x at in
+        let t : x.desk.thread ≡ suc k = omega (arith, own) in
+        let begins = r.begins k x at in
+        let next : k + 1 ≡ suc k = omega arith in
+        let found : find_thread x.desk.thread (map thread_part ended) ≡ Some (thread_part e.0) = ap (λ n. find_thread n (map thread_part ended)) own ∙ found_thread k e.0 e.1 in
+        let sent_so : (m : ℕ) → sent settled x.desk.thread m ≡ sent_to e.0.ledgers m = λ m. ap (λ o. sent_to (ledgers_in o) m) found in
+        let collected_so : (m : ℕ) → collected settled x.desk.thread m ≡ collected_from e.0.ledgers m = λ m. ap (λ o. collected_from (ledgers_in o) m) found in
+        let fits : (m : ℕ) → Agrees x.desk.thread (sent settled x.desk.thread m) (collected settled x.desk.thread m) (entries_of x.desk.thread (journal settled m)) = λ m. agreed_fits x.desk.thread (sent settled x.desk.thread m) (collected settled x.desk.thread m) (journal settled m) (is.agree x.desk.thread m) in
+        let tasks = tasks_of x.desk.thread steps in
+        let last : Session × List Answer = (y.0, answers_to x.desk.thread answers) in
+        let log : x.log.state ≡ b.logs (suc k) = begins.log ∙ ap b.logs next in
+        let scan : x.scan ≡ b.scans (suc k) = begins.scan ∙ ap b.scans next in
+        let chain =
+        let ends = ending_collects y.0.desk [] e.0 c.outstanding c.ends in
+        carried_all settled x.desk.thread (sent settled x.desk.thread) (collected settled x.desk.thread) fits (x, []) (λ m. fresh k x m at) (λ m. uncollected k x m at) (unkept k x at)
+        tasks last c.runs (tasks_are_of x.desk.thread steps) (λ m. sym (ends m).1 ∙ sym (sent_so m))
+        (λ m. subst (Begins (collected_from y.0.desk.ledgers m)) (sym (collected_so m)) (ends m).0.collected) in
+        subst (λ (u : ℕ). (c : AreCarriedOut steps answers settled u (part_at b (suc k))) × (c.log ≡ log_left b left (suc k))) t (
+          record {
+            lines = lines_in (x, []) tasks last c.runs;
+            tasks = tasks_in (x, []) tasks last c.runs;
+            told = answers_in (x, []) tasks last c.runs refl;
+            left = y.0.desk.kept;
+            log = y.0.log.state;
+            scan = y.0.scan;
+            carried = subst (λ (p : Part). Chain (TakesPart settled) p (lines_in (x, []) tasks last c.runs) (record { entries = λ m. entries_of x.desk.thread (journal settled m); handles = y.0.desk.kept; log = y.0.log.state; scan = y.0.scan })) (λ i. new_part (log i) (scan i)) chain;
+            outstanding = c.outstanding;
+            are_left = are_left settled x.desk.thread y.0.desk e.0 c.outstanding c.ends (sent settled x.desk.thread) (collected settled x.desk.thread) fits collected_so;
+            ends = c.told;
+          },
+          log_there b left k y.0 y.1,
+        )
 
     -- of one that there isn't
-    other_carried : (t : ℕ) → ((k : ℕ) (d : DeskView) → slice_get desks k ≡ Some d → d.thread ≢ t) → AreCarriedOut s answers settled t
-    other_carried t none_there =
-        let silent = no_tasks t (threads_of s) (managers_of s) s.steps r.fits (λ low high.
-        let many = opened_threads s desks workers r.opened in
-        let d = got desks (t - 1) (omega (arith, low, high, many)) in
-        let thread = thread_at (t - 1) d.0 d.1 in
-        none_there (t - 1) d.0 d.1 (omega (arith, thread, low))) in
-        record {
-          lines = [];
-          tasks = sym silent;
-          told = sym (r.others t none_there silent).0;
-          left = finmap.empty;
-          log = no_records;
-          carried =
-              let nothing_there : (m : ℕ) → entries_of t (journal settled m) ≡ [] = λ m.
-              let nothing_sent : sent settled t m ≡ [] = ap (λ o. sent_to (ledgers_in o) m) (no_thread t none_there) ∙ nobody_sent m in
-              let fits = agreed_fits t (sent settled t m) (collected settled t m) (journal settled m) (is.agree t m) in
-              no_entries t (collected settled t m) (entries_of t (journal settled m)) (subst (λ ops. Agrees t ops (collected settled t m) (entries_of t (journal settled m))) nothing_sent fits) in
-              none [] (record { entries = λ m. entries_of t (journal settled m); handles = finmap.empty; log = no_records }) refl (λ i. record { entries = λ m. nothing_there m i; handles = finmap.empty; log = no_records });
-          outstanding = [];
-          are_left = record {
-            coded = All-nil (λ (x : ℕ × Code). (o : Operation) × (finmap.get finmap.empty x.0 ≡ Some o) × HasCode settled t o x.1);
-            all = λ k o at. absurd (not_none (finmap.get finmap.empty k) o (finmap.get-empty nat_cmp k) at);
-            rising = λ i j d below within. absurd (omega (arith, within));
-          };
-          ends = (r.others t none_there silent).1;
-        }
+    other_carried : (t : ℕ) → ((k : ℕ) (x : Session) → slice_get sessions k ≡ Some x → x.desk.thread ≢ t) → b.logs t ≡ log_left b left t → Carried t
+    other_carried t none_there log =
+        let silent = no_tasks t (threads_of s) (managers_of s) steps r.fits (λ low high.
+        let many = opened_threads s b.opening b.tables (map (λ (x : Session). x.desk) sessions) workers r.opened in
+        let as_many = length-map sessions (λ (x : Session). x.desk) in
+        let x = got sessions (t - 1) (omega (arith, low, high, many, as_many)) in
+        let thread = thread_at (t - 1) x.0 x.1 in
+        none_there (t - 1) x.0 x.1 (omega (arith, thread, low))) in (
+          record {
+            lines = [];
+            tasks = sym silent;
+            told = sym (r.others t none_there silent).0;
+            left = finmap.empty;
+            log = b.logs t;
+            scan = b.scans t;
+            carried =
+                let nothing_there : (m : ℕ) → entries_of t (journal settled m) ≡ [] = λ m.
+                let nothing_sent : sent settled t m ≡ [] = ap (λ o. sent_to (ledgers_in o) m) (no_thread t none_there) ∙ nobody_sent m in
+                let fits = agreed_fits t (sent settled t m) (collected settled t m) (journal settled m) (is.agree t m) in
+                no_entries t (collected settled t m) (entries_of t (journal settled m)) (subst (λ ops. Agrees t ops (collected settled t m) (entries_of t (journal settled m))) nothing_sent fits) in
+                none [] (record { entries = λ m. entries_of t (journal settled m); handles = finmap.empty; log = b.logs t; scan = b.scans t }) refl (λ i. record { entries = λ m. nothing_there m i; handles = finmap.empty; log = b.logs t; scan = b.scans t });
+            outstanding = [];
+            are_left = record {
+              coded = All-nil (λ (x : ℕ × Code). (o : Operation) × (finmap.get finmap.empty x.0 ≡ Some o) × HasCode settled t o x.1);
+              all = λ k o at. absurd (not_none (finmap.get finmap.empty k) o (finmap.get-empty nat_cmp k) at);
+              rising = λ i j d below within. absurd (omega (arith, within));
+            };
+            ends = (r.others t none_there silent).1;
+          },
+          log,
+        )
 
     -- of each
-    pub all_carried : (t : ℕ) → AreCarriedOut s answers settled t
-    all_carried zero = other_carried 0 (λ k d at same. let thread = thread_at k d at in omega (arith, thread, same))
+    pub all_carried : (t : ℕ) → Carried t
+    all_carried zero = other_carried 0 (λ k x at same. let thread = thread_at k x at in omega (arith, thread, same)) refl
     all_carried (suc k) =
         ⊎_elim
-        (λ (h : (d : DeskView) × (k < length desks) × (slice_get desks k ≡ Some d) × (slice_index_or desks k d ≡ d)). let place : k + 1 ≡ suc k = omega arith in subst (AreCarriedOut s answers settled) place (thread_carried k h.0 h.2))
-        (λ (h : (length desks ≤ k) × (slice_get desks k ≡ None)).
-        other_carried (suc k) (λ j d at same. let within = slice_get_within desks j d at in let thread = thread_at j d at in let past = h.0 in omega (arith, within, thread, past, same)))
-        (slice_get_cases desks k).1
+        (λ (h : (x : Session) × (k < length sessions) × (slice_get sessions k ≡ Some x) × (slice_index_or sessions k x ≡ x)). thread_carried k h.0 h.2)
+        (λ (h : (length sessions ≤ k) × (slice_get sessions k ≡ None)).
+        other_carried (suc k) (λ j x at same. let within = slice_get_within sessions j x at in let thread = thread_at j x at in let past = h.0 in omega (arith, within, thread, past, same))
+        (let past = h.0 in let as_many = r.many_left in no_log_there b left k (omega (arith, past, as_many))))
+        (slice_get_cases sessions k).1
 
-  -- what the answers and the values tell
-  pub tells : IsSettled (settling ended done) → (values : List Declared) → AreValues s (settling ended done) values → TellsOf s answers values (settling ended done)
-  tells is values shown = record { agree = is; opened = of_script; carried = all_carried is; shown = shown }
+  -- what the answers tell
+  pub tells : IsSettled (settling ended done) → TellsOf s b (record { steps = steps; answers = answers; settled = settling ended done })
+  tells is = record { agree = is; managers = of_script; carried = λ t. (all_carried is t).0 }

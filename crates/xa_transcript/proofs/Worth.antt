@@ -1,5 +1,5 @@
 -- Each declared key has a value, whatever its manager has carried out.
-use Rattle.std.specs.Prelude.{◌≡◌, ℕ, ℤ, ◌+ℤ◌, ◌+◌, ◌-◌, ◌≤◌, zero, suc, pos, ◌<◌, ◌==◌, Bool, true, false, cond, ◌||◌, Option, None, Some, is_some, option_map, List, [], ◌∷◌, length, map, filter, refl}
+use Rattle.std.specs.Prelude.{◌≡◌, ℕ, ℤ, ◌+ℤ◌, ◌+◌, ◌-◌, ◌≤◌, zero, suc, pos, ◌<◌, ◌==◌, Bool, true, false, cond, ◌||◌, Option, None, Some, is_some, option_map, List, [], ◌∷◌, ◌++◌, length, map, filter, slice_get, refl}
 use Rattle.std.proofs.Common.{sym, ap, ◌∙◌, arith}
 use Rattle.std.specs.List.{list_any, slice_index_or}
 use Rattle.std.specs.FinMap as finmap
@@ -10,13 +10,14 @@ use Rattle.std.proofs.Math.Bool.{or-true}
 use Rattle.std.proofs.lemmas.Bool.{eq-eqb}
 use Rattle.xa_words.specs.Key.{key_cmp, key_eq}
 use Rattle.xa_words.specs.Orders.{key_cmp_total, key_eq-by_cmp, Decides-key_eq}
+use Rattle.xa_tables.specs.Tables.{Tables}
 use Rattle.xa_tables.specs.History.{History, Absent}
 use Rattle.xa_tables.specs.Openings.{added_over, value_over}
 use Rattle.xa_grammar.specs.declared.script.Declared.{Declared}
 use Rattle.xa_switch.specs.Settling.{ManagerPart, Settling, find_manager}
 use Rattle.xa_switch.specs.Fates.{first_of}
 use Rattle.xa_grammar.specs.Content.{Content, accounts_of, managers_of}
-use Rattle.xa_transcript.specs.Values.{opened, AreOfScript}
+use Rattle.xa_transcript.specs.Values.{opened, opened_after, AreOfScript, IsWorth}
 use Rattle.xa_base.proofs.Lists.{got, find_numbered}
 
 -- the keys that a manager is opened with
@@ -53,17 +54,27 @@ has_value s i d below is =
     let entries = map (λ (e : List ℕ × ℕ). (e.0, pos e.1)) (accounts_of d.manager s.keys) in
     ap is_some (get-from_entries key_cmp_total entries d.key) ∙ is_some-find key_cmp d.key entries ∙ sym (any_alike (λ k. key_eq d.key k) (eq_by_cmp key_cmp d.key) (key_eq-by_cmp d.key) (names d.manager s.keys)) ∙ is_among s.keys i d below is
 
--- so it has one after every history
-pub told : (s : Content) (h : History) (i : ℕ) (d : Declared) (value : Option ℕ) → i < length s.keys → d ≡ slice_index_or s.keys i d → option_map pos value ≡ value_over d.key (h ∷ []) (opened s d.manager) → is_some value ≡ true
-told s h i d value below is e =
-    sym (is_some-map (λ n. pos n) value) ∙ ap is_some e ∙ is_some-map (λ v. v +ℤ added_over d.key (λ x. Absent) (h ∷ []) (opened s d.manager)) (finmap.get (opened s d.manager).values d.key) ∙ has_value s i d below is
+-- so it has one after the histories of any openings
+pub told : (s : Content) (hs : List History) (i : ℕ) (d : Declared) (value : Option ℕ) → i < length s.keys → d ≡ slice_index_or s.keys i d → option_map pos value ≡ value_over d.key hs (opened s d.manager) → is_some value ≡ true
+told s hs i d value below is e =
+    sym (is_some-map (λ n. pos n) value) ∙ ap is_some e ∙ is_some-map (λ v. v +ℤ added_over d.key (λ x. Absent) hs (opened s d.manager)) (finmap.get (opened s d.manager).values d.key) ∙ has_value s i d below is
 
--- a manager of the script began with the tables of its keys
-pub first_is : (s : Content) (settled : Settling) → AreOfScript s settled.managers → (m : ℕ) → 1 ≤ m → m ≤ managers_of s → first_of settled m ≡ Some (opened s m)
-first_is s settled is m low high =
+-- the key has its value after any openings that left the settled one its managers' tables
+abbrev pub WorthAfter : Content → Settling → Declared → Type 0
+WorthAfter s settled d = (before : List Settling) → AreOfScript s (opened_after s before) settled.managers → IsWorth s (before ++ settled ∷ []) d
+
+-- a manager of the script is there, and began with its tables
+pub found_manager : (s : Content) (tables : ℕ → Tables) (managers : List ManagerPart) → AreOfScript s tables managers → (m : ℕ) → 1 ≤ m → m ≤ managers_of s
+    → (p : ManagerPart) × (find_manager m managers ≡ Some p) × (p.first ≡ tables m) × (slice_get managers (m - 1) ≡ Some p)
+found_manager s tables managers is m low high =
     let many = is.many in
-    let p = got settled.managers (m - 1) (omega (arith, low, high, many)) in
+    let p = got managers (m - 1) (omega (arith, low, high, many)) in
     let place : 0 + (m - 1) + 1 ≡ m = omega (arith, low) in
     let next : m - 1 + 1 ≡ m = omega (arith, low) in
-    let found : find_manager m settled.managers ≡ Some p.0 = ap (λ n. find_manager n settled.managers) (sym place) ∙ find_numbered (λ (q : ManagerPart). q.number) 0 settled.managers (λ j q at. let number = is.numbers j q at in omega (arith, number)) (m - 1) p.0 p.1 in
-    ap (option_map (λ (q : ManagerPart). q.first)) found ∙ ap (λ T. Some T) (is.first (m - 1) p.0 p.1 ∙ ap (opened s) next)
+    let found : find_manager m managers ≡ Some p.0 = ap (λ n. find_manager n managers) (sym place) ∙ find_numbered (λ (q : ManagerPart). q.number) 0 managers (λ j q at. let number = is.numbers j q at in omega (arith, number)) (m - 1) p.0 p.1 in
+    (p.0, found, is.first (m - 1) p.0 p.1 ∙ ap tables next, p.1)
+
+pub first_is : (s : Content) (tables : ℕ → Tables) (settled : Settling) → AreOfScript s tables settled.managers → (m : ℕ) → 1 ≤ m → m ≤ managers_of s → first_of settled m ≡ Some (tables m)
+first_is s tables settled is m low high =
+    let p = found_manager s tables settled.managers is m low high in
+    ap (option_map (λ (q : ManagerPart). q.first)) p.1 ∙ ap (λ T. Some T) p.2

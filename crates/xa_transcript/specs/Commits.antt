@@ -56,6 +56,7 @@ pub record Decides (c : CommitAll) (done : Outcome) (old new : Part) : Type 0 wh
   pub unlogged : record_of old.log (named c) ≡ None
   pub logs : Logs (named c) (yes_of (branches_of c) done.votes.items) done.votes.items done.logged old.log new.log
   pub handles : new.handles ≡ old.handles
+  pub scan : new.scan ≡ old.scan
 
 -- What a commit does to its thread's part: nothing where it is refused.
 pub data CommitTakes (c : CommitAll) (a : Answer) (old new : Part) : Type 0 where

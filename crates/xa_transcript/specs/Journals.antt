@@ -10,7 +10,8 @@ use Rattle.xa_words.specs.declared.request.Op.{Op}
 use Rattle.xa_words.specs.declared.request.Op.TheVariants.{Prepare, Commit}
 use Rattle.xa_desk.specs.declared.operation.Operation.{Operation}
 use Rattle.xa_worker.specs.Journal.{Entry, entry}
-use Rattle.xa_switch.specs.Settling.{Settling, IsSettled, journal}
+use Rattle.xa_switch.specs.Settling.{Settling, journal}
+use Rattle.xa_switch.specs.Scans.{ScanView}
 use Rattle.xa_driver.specs.declared.branch.Branch.{Branch}
 use Rattle.xa_driver.specs.declared.done.Done.{Done as Outcome}
 use Rattle.xa_driver.specs.declared.done.Ending.TheVariants.{Committed}
@@ -19,10 +20,10 @@ use Rattle.xa_driver.specs.Decision.{is_no}
 use Rattle.xa_driver.specs.Log.{LogState}
 use Rattle.xa_grammar.specs.declared.script.Called.{Called}
 use Rattle.xa_grammar.specs.declared.script.CommitAll.{CommitAll}
-use Rattle.xa_grammar.specs.declared.script.Declared.{Declared}
 use Rattle.xa_grammar.specs.declared.script.Task.{Task}
 use Rattle.xa_grammar.specs.declared.script.Task.TheVariants as task
-use Rattle.xa_grammar.specs.Content.{Content, tasks_of}
+use Rattle.xa_grammar.specs.declared.script.Step.{Step}
+use Rattle.xa_grammar.specs.Content.{tasks_of}
 use Rattle.xa_session.specs.declared.answer.Answer.{Answer}
 use Rattle.xa_session.specs.declared.answer.Answer.TheVariants as answer
 use Rattle.xa_session.specs.Calling.{shown}
@@ -30,9 +31,8 @@ use Rattle.xa_session.specs.Committing.{branches_of}
 use Rattle.xa_transcript.specs.Wants.{wanted_in}
 use Rattle.xa_transcript.specs.Wants.Wanted.{code_of}
 use Rattle.xa_session.specs.Ended.{all_ended}
-use Rattle.xa_transcript.specs.Parts.{Part, CallTakes, HasCode, no_part}
+use Rattle.xa_transcript.specs.Parts.{Part, CallTakes, HasCode}
 use Rattle.xa_transcript.specs.Commits.{CommitTakes}
-use Rattle.xa_transcript.specs.Values.{AreOfScript, AreValues}
 
 -- ---- the lines of a thread
 
@@ -54,10 +54,12 @@ TakesPart settled l old new = Takes settled l.task l.answer old new
 abbrev pub is_to : ℕ → Answer → Bool
 is_to t (answer.Called line thread n) = thread == t
 is_to t (answer.Completed line thread handle retval) = thread == t
+is_to t (answer.Recovered line thread xids) = thread == t
 is_to t (answer.Refused line thread) = thread == t
 is_to t (answer.Decided line thread done) = thread == t
 is_to t (answer.Turned line did) = false
 is_to t (answer.Ended thread handle retval) = false
+is_to t (answer.Reopened line) = false
 
 -- The answers to the lines of thread t.
 abbrev pub answers_to : ℕ → List Answer → List Answer
@@ -67,10 +69,12 @@ answers_to t answers = filter (is_to t) answers
 abbrev pub is_end_of : ℕ → Answer → Bool
 is_end_of t (answer.Called line thread n) = false
 is_end_of t (answer.Completed line thread handle retval) = false
+is_end_of t (answer.Recovered line thread xids) = false
 is_end_of t (answer.Refused line thread) = false
 is_end_of t (answer.Decided line thread done) = false
 is_end_of t (answer.Turned line did) = false
 is_end_of t (answer.Ended thread handle retval) = thread == t
+is_end_of t (answer.Reopened line) = false
 
 -- These lines of thread t.
 abbrev pub ends_of : ℕ → List Answer → List Answer
@@ -88,17 +92,18 @@ pub record AreLeft (settled : Settling) (t : ℕ) (left : finmap.FinMap nat_cmp 
   pub all : (k : ℕ) (o : Operation) → finmap.get left k ≡ Some o → Contains (map (λ x. x.0) outstanding) k
   pub rising : AllPairs (λ x y. x.0 < y.0) outstanding
 
--- The lines of thread t, each with its answer; and line by line each manager's journal has what they put to it, in
--- their order, and nothing else of the thread. After them these handles and this log are left, and the `end` lines
--- show the handles with their codes.
-pub record AreCarriedOut (s : Content) (answers : List Answer) (settled : Settling) (t : ℕ) : Type 0 where
+-- The lines of thread t among those of an opening, each with its answer; and line by line, from the part that the thread
+-- has at first, each manager's journal has what they put to it, in their order, and nothing else of the thread. After
+-- them these handles, this log and these scans are left, and the `end` lines show the handles with their codes.
+pub record AreCarriedOut (steps : List Step) (answers : List Answer) (settled : Settling) (t : ℕ) (first : Part) : Type 0 where
   pub lines : List Line
-  pub tasks : map (λ l. l.task) lines ≡ tasks_of t s.steps
+  pub tasks : map (λ l. l.task) lines ≡ tasks_of t steps
   pub told : map (λ l. l.answer) lines ≡ answers_to t answers
   pub left : finmap.FinMap nat_cmp Operation
   pub log : LogState
-  pub carried : Chain (TakesPart settled) no_part lines
-      (record { entries = λ m. entries_of t (journal settled m); handles = left; log = log })
+  pub scan : ScanView
+  pub carried : Chain (TakesPart settled) first lines
+      (record { entries = λ m. entries_of t (journal settled m); handles = left; log = log; scan = scan })
   pub outstanding : List (ℕ × Code)
   pub are_left : AreLeft settled t left outstanding
   pub ends : ends_of t answers ≡ all_ended t outstanding
@@ -136,14 +141,3 @@ ArePrepared settled l = (c : CommitAll) (done : Outcome) → ShowsCommit l c don
 -- Something was added, and no Commit among it.
 abbrev pub AddsNoCommit : List Entry → List Entry → Type 0
 AddsNoCommit old new = (more : List Entry) × (new ≡ old ++ more) × (list_any (λ e. is_commit e.0.op) more ≡ false)
-
--- ---- the whole transcript
-
--- What a transcript of these answers and values tells of the settled opening: what was sent, carried out and collected
--- agrees; of every thread the journals have what its lines put to the managers, with the codes that they answer; and
--- the values are those after the journals.
-pub record TellsOf (s : Content) (answers : List Answer) (values : List Declared) (settled : Settling) : Type 0 where
-  pub agree : IsSettled settled
-  pub opened : AreOfScript s settled.managers
-  pub carried : (t : ℕ) → AreCarriedOut s answers settled t
-  pub shown : AreValues s settled values

@@ -5,5 +5,6 @@ pub mod Wants
 pub mod Parts
 pub mod Commits
 pub mod Journals
+pub mod Openings
 pub mod Outcomes
 pub mod Runs

@@ -1,31 +1,34 @@
 -- What became of the branches of a commit of several branches, by the line that shows it.
 use Rattle.std.specs.Prelude.{◌≡◌, ◌≢◌, ℕ, ℤ, pos, ◌+ℤ◌, Bool, true, false, ◌||◌, ◌&&◌, ◌==◌, Some, None, All, List, []}
-use Rattle.std.specs.Prelude.{◌∷◌, ◌++◌, length}
+use Rattle.std.specs.Prelude.{◌∷◌, ◌++◌, length, map}
 use Rattle.std.specs.List.{list_any}
 use Rattle.std.specs.FinMap as finmap
 use Rattle.xa_base.specs.Lists.{Chain}
 use Rattle.xa_words.specs.Xid.{xid_eq}
 use Rattle.xa_words.specs.declared.request.RmOp.TheVariants.{Heur}
-use Rattle.xa_tables.specs.History.{added_in}
+use Rattle.xa_tables.specs.History.{Absent}
+use Rattle.xa_tables.specs.Openings.{added_over}
 use Rattle.xa_switch.specs.Settling.{Settling, journal}
 use Rattle.xa_switch.specs.Fates.{IsOpenedWith, history}
 use Rattle.xa_driver.specs.declared.branch.Branch.{Branch}
 use Rattle.xa_driver.specs.declared.done.Done.{Done}
 use Rattle.xa_driver.specs.Outcomes.{is_committed, is_in_doubt, is_heuristic, is_read_only, has_committed, has_rolled_back}
 use Rattle.xa_driver.specs.Outcomes.{OnlyTheseName, OnlyTheseOrDecisionsName, EachOutcome, KeepsItsVote, TellsTheFate}
-use Rattle.xa_driver.specs.Additions.{Shares, none_later}
+use Rattle.xa_driver.specs.Additions.{Shares}
 use Rattle.xa_grammar.specs.declared.script.Action.{Action}
 use Rattle.xa_grammar.specs.declared.script.Action.TheVariants as action
 use Rattle.xa_grammar.specs.declared.script.CommitAll.{CommitAll}
 use Rattle.xa_grammar.specs.declared.script.Declared.{Declared}
 use Rattle.xa_grammar.specs.declared.script.Task.{Task}
 use Rattle.xa_grammar.specs.declared.script.Task.TheVariants as task
+use Rattle.xa_grammar.specs.declared.script.Step.{Step}
 use Rattle.xa_grammar.specs.Content.{Content, tasks_of}
 use Rattle.xa_session.specs.declared.answer.Answer.{Answer}
 use Rattle.xa_session.specs.Committing.{branches_of}
-use Rattle.xa_transcript.specs.Parts.{Part, no_part}
+use Rattle.xa_transcript.specs.Parts.{Part}
 use Rattle.xa_transcript.specs.Journals.{Line, TakesPart, AreCarriedOut, ShowsCommit, entries_of}
-use Rattle.xa_transcript.specs.Values.{opened}
+use Rattle.xa_transcript.specs.Openings.{Opening, Former, settled_over}
+use Rattle.xa_transcript.specs.Values.{opened, histories, opened_after}
 
 -- ---- by the line alone
 
@@ -42,14 +45,14 @@ ShowsOneOutcome l = (c : CommitAll) (done : Done) → ShowsCommit l c done → I
 
 -- A line's place among those of its thread: the lines before it have made `old` of the thread's part, it makes `new` of
 -- that, and those after it all that is left in the end.
-pub record Place {s : Content} {answers : List Answer} {settled : Settling} {t : ℕ}
-    (told : AreCarriedOut s answers settled t) (before : List Line) (l : Line) (after : List Line)
+pub record Place {steps : List Step} {answers : List Answer} {settled : Settling} {t : ℕ} {first : Part}
+    (told : AreCarriedOut steps answers settled t first) (before : List Line) (l : Line) (after : List Line)
     (old new : Part) : Type 0 where
   pub lines : told.lines ≡ before ++ l ∷ after
-  pub earlier : Chain (TakesPart settled) no_part before old
+  pub earlier : Chain (TakesPart settled) first before old
   pub takes : TakesPart settled l old new
   pub later : Chain (TakesPart settled) new after
-      (record { entries = λ m. entries_of t (journal settled m); handles = told.left; log = told.log })
+      (record { entries = λ m. entries_of t (journal settled m); handles = told.left; log = told.log; scan = told.scan })
 
 -- In the journals nobody but the line, which has made `new` of `old`, names these branches of thread t once the thread
 -- has asked them to prepare.
@@ -70,6 +73,7 @@ branches_by m (action.Xa c None) = []
 branches_by m (action.Native (Heur x commits)) = record { m = m; xid = x } ∷ []
 branches_by m (action.Native o) = []
 branches_by m (action.Complete h) = []
+branches_by m (action.Recover n) = []
 
 abbrev pub branches_in : Task → List Branch
 branches_in (task.Call p) = branches_by p.manager p.action
@@ -84,8 +88,8 @@ abbrev pub NamesNone : List Branch → Task → Type 0
 NamesNone bs p = All (λ b. is_among b (branches_in p) ≡ false) bs
 
 -- From a line of thread t on no other names these branches: no line of another thread does, and none of those after it.
-pub record AreNamedByNoOther (s : Content) (t : ℕ) (bs : List Branch) (after : List Line) : Type 0 where
-  pub threads : (u : ℕ) → u ≢ t → All (NamesNone bs) (tasks_of u s.steps)
+pub record AreNamedByNoOther (steps : List Step) (t : ℕ) (bs : List Branch) (after : List Line) : Type 0 where
+  pub threads : (u : ℕ) → u ≢ t → All (NamesNone bs) (tasks_of u steps)
   pub later : All (λ l. NamesNone bs l.task) after
 
 -- ---- what became of them
@@ -117,10 +121,14 @@ pub record CountsAsShown (settled : Settling) (t : ℕ) (bs : List Branch) (old 
       → EachOutcome (λ b v e. Shares settled t b (length (old.entries b.m)) done.commit)
       bs done.votes.items done.endings.items
 
--- A key is shown with its value at the opening and the share of each request in its manager's journal, which follows
--- the tables from the opening on.
-pub record IsSumOfShares (s : Content) (settled : Settling) (d : Declared) : Type 0 where
-  pub from : IsOpenedWith settled d.manager (opened s d.manager)
+-- A key is shown with its value at the first opening and what the requests in its manager's journals have added to it,
+-- each accepted addition whose branch commits later, in its opening or in another. Each journal follows the tables that
+-- the openings before it left.
+pub record IsSumOfShares (s : Content) (before : List Former) (last : Opening) (d : Declared) : Type 0 where
+  pub former : (xs : List Former) (f : Former) (ys : List Former) → before ≡ xs ++ f ∷ ys
+      → IsOpenedWith f.opening.settled d.manager (opened_after s (map (λ g. g.opening.settled) xs) d.manager)
+  pub latest : IsOpenedWith last.settled d.manager (opened_after s (map (λ g. g.opening.settled) before) d.manager)
   pub first : ℤ
   pub at_first : finmap.get (opened s d.manager).values d.key ≡ Some first
-  pub sum : pos d.value ≡ first +ℤ added_in d.key none_later (history settled d.manager) (opened s d.manager)
+  pub sum : pos d.value
+      ≡ first +ℤ added_over d.key (λ x. Absent) (histories (settled_over before last) d.manager) (opened s d.manager)

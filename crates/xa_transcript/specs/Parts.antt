@@ -1,31 +1,38 @@
 -- A thread's part in the journals, and what a call does to it.
-use Rattle.std.specs.Prelude.{◌≡◌, ℕ, ◌≤◌, pos, ◌==◌, if◌then◌else◌, Some, None, List, [], ◌∷◌, ◌++◌, length, slice_get}
+use Rattle.std.specs.Prelude.{◌≡◌, ℕ, ◌≤◌, pos, Bool, false, ◌==◌, if◌then◌else◌, Some, None, Result, List, [], ◌∷◌, ◌++◌}
+use Rattle.std.specs.Prelude.{length, slice_get}
+use Rattle.std.specs.List.{Contains}
 use Rattle.std.specs.Ordering.{nat_cmp}
 use Rattle.std.specs.FinMap as finmap
 use Rattle.xa_words.specs.Code.{number_of}
+use Rattle.xa_words.specs.Xid.{XidName}
+use Rattle.xa_words.specs.Flags.{check_flags}
 use Rattle.xa_words.specs.declared.code.Code.{Code}
+use Rattle.xa_words.specs.declared.flags.Call.TheVariants as call
 use Rattle.xa_words.specs.declared.request.Op.{Op}
 use Rattle.xa_desk.specs.declared.operation.Operation.{Operation}
 use Rattle.xa_worker.specs.Journal.{Entry, entry}
 use Rattle.xa_switch.specs.Settling.{Settling, journal, answers}
-use Rattle.xa_driver.specs.Log.{LogState, no_records}
+use Rattle.xa_switch.specs.Scans.{ScanView, RecoversBy, told_as}
+use Rattle.xa_driver.specs.Log.{LogState}
 use Rattle.xa_grammar.specs.declared.script.Called.{Called}
 use Rattle.xa_session.specs.declared.answer.Answer.{Answer}
 use Rattle.xa_session.specs.declared.answer.Answer.TheVariants.{Completed}
-use Rattle.xa_session.specs.Calling.{shown}
-use Rattle.xa_transcript.specs.Wants.{wanted_in, IsRefusal}
-use Rattle.xa_transcript.specs.Wants.Wanted.{code_of, handle_for, completion}
+use Rattle.xa_session.specs.Calling.{shown, IsListed}
+use Rattle.xa_transcript.specs.Wants.{wanted_in, refusals, IsRefusal}
+use Rattle.xa_transcript.specs.Wants.Wanted.{code_of, handle_for, completion, listing}
 
--- A thread's part in the journals, and its log: its entries in each manager's journal, the requests that its handles
--- stand for, and what it has logged.
+-- A thread's part in the journals, its log and its scans: its entries in each manager's journal, the requests that its
+-- handles stand for, what it has logged, and where it stands in what the opening found left.
 pub record Part : Type 0 where
   pub entries : ℕ → List Entry
   pub handles : finmap.FinMap nat_cmp Operation
   pub log : LogState
+  pub scan : ScanView
 
--- The part of a thread that has done nothing.
-abbrev pub no_part : Part
-no_part = record { entries = λ m. []; handles = finmap.empty; log = no_records }
+-- The part of a thread that has done nothing since the opening, at which it had this log and these scans.
+abbrev pub new_part : LogState → ScanView → Part
+new_part log scan = record { entries = λ m. []; handles = finmap.empty; log = log; scan = scan }
 
 -- The next entry of thread t: its op, with the next number.
 abbrev pub next_entry : ℕ → List Entry → Op → Code → Entry
@@ -51,6 +58,25 @@ without_handle k p = record p { handles = finmap.remove p.handles k }
 abbrev pub HasCode : Settling → ℕ → Operation → Code → Type 0
 HasCode settled t o c = slice_get (answers t (journal settled o.manager)) o.number ≡ Some (o.number, c)
 
+-- Thread t asks manager m of an op: it is carried out with this code, or nothing is put to the manager, for this reason.
+pub data Asked (t m : ℕ) (old : Part) (op : Op) (new : Part) (c : Code) : Type 0 where
+  answered : new ≡ with_entry t m op c old → Asked t m old op new c
+  refused : Contains (refusals false) c → new ≡ old → Asked t m old op new c
+
+-- What an xa_recover with room for n xids does to its thread's part, and what it answers: its manager is asked whether it
+-- answers, and then of one after the other of the branches that the opening found left, from where the scan stands.
+pub record Lists (p : Called) (n : ℕ) (a : Answer) (old new : Part) : Type 0 where
+  pub there : Bool
+  pub asked : Part
+  pub before : List XidName
+  pub after : List XidName
+  pub result : Result ℕ Code
+  pub room : length before ≡ n
+  pub recovers : RecoversBy (Asked p.thread p.manager) there (check_flags call.Recover p.flags) p.manager old old.scan
+      before asked new.scan after result
+  pub stands : new ≡ record asked { scan = new.scan }
+  pub tells : IsListed p (told_as result) after a
+
 -- What a call does to its thread's part, and what it answers.
 pub data CallTakes (settled : Settling) (p : Called) (a : Answer) (old new : Part) : Type 0 where
   -- its manager carries its op out, and the call answers the code
@@ -68,3 +94,5 @@ pub data CallTakes (settled : Settling) (p : Called) (a : Answer) (old new : Par
   completes : (o : Operation) (k : ℕ) (c : Code) → wanted_in p ≡ completion → finmap.get old.handles k ≡ Some o
       → HasCode settled p.thread o c → a ≡ Completed p.line p.thread (pos k) (number_of c) → new ≡ without_handle k old
       → CallTakes settled p a old new
+  -- branches are listed
+  lists : (n : ℕ) → wanted_in p ≡ listing n → Lists p n a old new → CallTakes settled p a old new

@@ -1,14 +1,16 @@
 -- The text of a run's answers and values.
-use Rattle.std.specs.Prelude.{ℕ, ℤ, Bool, true, false, List, ◌++◌, codes, decimal}
+use Rattle.std.specs.Prelude.{ℕ, ℤ, Bool, true, false, List, ◌++◌, length, codes, decimal}
 use Rattle.std.specs.List.{flat_map}
 use Rattle.std.specs.Fmt.{signed_decimal}
 use Rattle.xa_words.specs.Code.{number_of}
+use Rattle.xa_words.specs.Xid.{XidName}
 use Rattle.xa_driver.specs.declared.done.Done.{Done}
 use Rattle.xa_driver.specs.declared.done.Ending.{Ending}
 use Rattle.xa_driver.specs.declared.done.Ending.TheVariants.{Committed, ReadOnly, RolledBack, InDoubt, Heuristic, Left}
 use Rattle.xa_grammar.specs.declared.script.Declared.{Declared}
 use Rattle.xa_session.specs.declared.answer.Answer.{Answer}
-use Rattle.xa_session.specs.declared.answer.Answer.TheVariants.{Called, Completed, Refused, Decided, Turned, Ended}
+use Rattle.xa_session.specs.declared.answer.Answer.TheVariants.{Called, Completed, Recovered, Refused, Decided, Turned, Ended}
+use Rattle.xa_session.specs.declared.answer.Answer.TheVariants.{Reopened}
 use Rattle.xa_worker.specs.declared.step.Step.{Step}
 use Rattle.xa_worker.specs.declared.step.Step.TheVariants.{Did, Late, EndSeen, Empty, Blocked}
 
@@ -55,15 +57,26 @@ endings_text endings = flat_map (λ e. codes " " ++ ending_text e) endings
 abbrev pub done_text : Done → List ℕ
 done_text d = decision_text d.commit ++ codes " " ++ record_text d.logged ++ endings_text d.endings.items
 
--- L T C, L T 0 handle H retval R, L T refused, L T commit logged E .., L turn S, end T handle H retval R
+-- G.B
+abbrev pub xid_text : XidName → List ℕ
+xid_text x = x.gtrid ++ codes "." ++ x.bqual
+
+-- How many, and each after a space.
+abbrev pub listed_text : List XidName → List ℕ
+listed_text xids = decimal (length xids) ++ flat_map (λ x. codes " " ++ xid_text x) xids
+
+-- L T C, L T 0 handle H retval R, L T N X .., L T refused, L T commit logged E .., L turn S, end T handle H retval R,
+-- L reopened
 abbrev pub answer_text : Answer → List ℕ
 answer_text (Called line thread answer) = call_text line thread ++ codes " " ++ signed_decimal answer ++ codes "\n"
 answer_text (Completed line thread handle retval) =
     call_text line thread ++ codes " 0" ++ handle_text (signed_decimal handle) retval
+answer_text (Recovered line thread xids) = call_text line thread ++ codes " " ++ listed_text xids.items ++ codes "\n"
 answer_text (Refused line thread) = call_text line thread ++ codes " refused\n"
 answer_text (Decided line thread done) = call_text line thread ++ codes " " ++ done_text done ++ codes "\n"
 answer_text (Turned line step) = decimal line ++ codes " turn " ++ turn_text step ++ codes "\n"
 answer_text (Ended thread handle retval) = codes "end " ++ decimal thread ++ handle_text (decimal handle) retval
+answer_text (Reopened line) = decimal line ++ codes " reopened\n"
 
 -- value M KEY V
 abbrev pub value_text : Declared → List ℕ

@@ -12,13 +12,14 @@ use Rattle.xa_grammar.specs.declared.script.Action.{Action}
 use Rattle.xa_grammar.specs.declared.script.Action.TheVariants as action
 use Rattle.xa_grammar.specs.declared.script.Called.{Called}
 
--- What a call asks its manager for: the code of an op; with TMASYNC a handle for it; nothing, for this reason; or, in
--- an xa_complete, what was asked for before.
+-- What a call asks its manager for: the code of an op; with TMASYNC a handle for it; nothing, for this reason; in an
+-- xa_complete, what was asked for before; or, in an xa_recover, as many of the branches that are left there.
 pub data Wanted : Type 0 where
   code_of : Op → Wanted
   handle_for : Op → Wanted
   in_vain : Code → Wanted
   completion : Wanted
+  listing : ℕ → Wanted
 
 abbrev pub wanted : {A : Type 0} → Result A Code → (A → Op) → (A → Bool) → Wanted
 wanted (Ok asked) op asynchronous = if asynchronous asked then handle_for (op asked) else code_of (op asked)
@@ -36,6 +37,7 @@ abbrev pub wanted_by : Action → ℕ → Wanted
 wanted_by (action.Xa c x) f = in_xa c x f
 wanted_by (action.Native o) f = outside_xa o f
 wanted_by (action.Complete h) f = completion
+wanted_by (action.Recover n) f = listing n
 
 abbrev pub wanted_in : Called → Wanted
 wanted_in p = wanted_by p.action p.flags
@@ -47,9 +49,10 @@ refusals false = Inval ∷ RmFail ∷ RmErr ∷ []
 refusals true = Inval ∷ RmFail ∷ RmErr ∷ Async ∷ []
 
 -- A code with which what is asked for may be refused. An xa_complete may find no such handle, nothing outstanding, or
--- nothing ready.
+-- nothing ready. What becomes of an xa_recover is said by itself.
 abbrev pub IsRefusal : Wanted → Code → Type 0
 IsRefusal (code_of o) c = Contains (refusals false) c
 IsRefusal (handle_for o) c = Contains (refusals true) c
 IsRefusal (in_vain why) c = c ≡ why
 IsRefusal completion c = Contains (Inval ∷ Proto ∷ Retry ∷ []) c
+IsRefusal (listing n) c = ⊥

@@ -1,7 +1,7 @@
 //! The transcript of a run.
 ghost use Rattle.std.specs.Prelude.{◌≡◌, ◌++◌, OnOk, IfOk, IsErrOf};
 ghost use Rattle.std.specs.Io.KnownBytes.{Appends};
-ghost use Rattle.xa_transcript.specs.Transcript.{turn_text, handle_text, call_text, decision_text, record_text, ending_text, endings_text, done_text, answer_text, value_text, text};
+ghost use Rattle.xa_transcript.specs.Transcript.{turn_text, handle_text, call_text, decision_text, record_text, ending_text, endings_text, done_text, xid_text, listed_text, answer_text, value_text, text};
 
 use itoa::{Buffer, Integer};
 use std::alloc::{AllocError, Global};
@@ -10,6 +10,7 @@ use thiserror::Error;
 use xa_driver::{Done, Ending};
 use xa_grammar::Declared;
 use xa_session::Answer;
+use xa_words::Xid;
 use xa_worker::Step;
 
 /// Why a run shows nothing, or not all.
@@ -125,6 +126,27 @@ fn put_done(out: &mut Vec<u8>, done: &Done) -> Result<(), AllocError>
     put_endings(out, &done.endings)
 }
 
+// `G.B`
+fn put_xid(out: &mut Vec<u8>, xid: &Xid) -> Result<(), AllocError>
+    ensures { OnOk result (out.new.items ≡ out.old.items ++ xid_text xid.now) }
+{
+    out.extend_from_slice(xid.gtrid())?;
+    out.extend_from_slice(b".")?;
+    out.extend_from_slice(xid.bqual())
+}
+
+// How many, and each after a space.
+fn put_listed(out: &mut Vec<u8>, xids: &[Xid]) -> Result<(), AllocError>
+    ensures { OnOk result (out.new.items ≡ out.old.items ++ listed_text xids.now) }
+{
+    put_number(out, xids.len() as u64)?;
+    for xid in xids {
+        out.extend_from_slice(b" ")?;
+        put_xid(out, xid)?;
+    }
+    Ok(())
+}
+
 fn put_answer(out: &mut Vec<u8>, answer: &Answer) -> Result<(), AllocError>
     ensures { OnOk result (out.new.items ≡ out.old.items ++ answer_text answer.now) }
 {
@@ -148,6 +170,12 @@ fn put_answer(out: &mut Vec<u8>, answer: &Answer) -> Result<(), AllocError>
             put_call(out, *line, *thread)?;
             out.extend_from_slice(b" 0")?;
             put_handle(out, *handle, *retval)
+        }
+        Answer::Recovered { line, thread, xids } => {
+            put_call(out, *line, *thread)?;
+            out.extend_from_slice(b" ")?;
+            put_listed(out, xids)?;
+            out.extend_from_slice(b"\n")
         }
         Answer::Refused { line, thread } => {
             put_call(out, *line, *thread)?;
@@ -173,6 +201,10 @@ fn put_answer(out: &mut Vec<u8>, answer: &Answer) -> Result<(), AllocError>
             out.extend_from_slice(b"end ")?;
             put_number(out, *thread)?;
             put_handle(out, *handle, *retval)
+        }
+        Answer::Reopened { line } => {
+            put_number(out, *line)?;
+            out.extend_from_slice(b" reopened\n")
         }
     }
 }

@@ -6,9 +6,9 @@ use Rattle.xa_switch.specs.Plans.{planned}
 use Rattle.xa_switch.specs.Openings.{AreOfOneOpening}
 use Rattle.xa_switch.specs.Closing.{settling}
 use Rattle.xa_base.specs.Lists.{Pairwise}
-use Rattle.xa_crew.specs.Pieces.{HasGone, HasServed}
+use Rattle.xa_crew.specs.Pieces.{HasServed}
 use Rattle.xa_base.proofs.Lists.{side_of}
-use Rattle.xa_crew.proofs.Members.{members, read_given, read_come, all_ran, all_gone}
+use Rattle.xa_crew.proofs.Members.{members, read_given, read_come, all_ran, pieces_are}
 use Rattle.xa_crew.proofs.run.run_opened.Goals as goal
 
 pub client_jobs_of-requires-clause-kept : goal.client_jobs_of-requires-clause-kept
@@ -19,17 +19,11 @@ settle_all-requires g c =
     let given = c.in_ok-client_jobs.client_jobs.items in
     let worker_jobs = c.in_ok-worker_jobs.worker_jobs.items in
     let worked = c.in_ok-worked.worked.items in
-    let done = c.in_ok-worked.done.items in
-    record {
-      desks = c.args.desks.items;
-      workers = c.args.workers.items;
-      sound = c.requires.sound;
-      opened = c.requires.opened;
-      gone =
-          subst (λ (ds : List DeskView). Pairwise HasGone ds c.in_ok-clients.desks.items) c.in_ok-client_jobs.ensures.desks
-          (subst (λ (es : List EndedView). Pairwise HasGone (map (λ a. a.desk) given) es) (sym c.in_ok-clients.ensures.desks) (all_gone g.C.Client.works c.desks_go_on.ensures.further given worked c.in_ok-worked.ensures.jobs));
-      served = subst (λ (ws : List WorkerView). Pairwise HasServed ws done) c.in_ok-worker_jobs.ensures (side_of HasServed (λ s. s.worker) worker_jobs done c.in_ok-worked.ensures.others);
-    }
+    let done = c.in_ok-worked.done.items in (
+      planned c.args.plan.now,
+      pieces_are g.C.Client.works c.desks_go_on.ensures.further (planned c.args.plan.now) c.args.desks.items c.args.workers.items c.requires.sound.limits c.requires.opened given worked c.in_ok-worked.ensures.jobs c.in_ok-client_jobs.ensures.desks
+          c.in_ok-clients.desks.items c.in_ok-clients.ensures.desks (λ s. s.worker) worker_jobs done c.in_ok-worked.ensures.others c.in_ok-worker_jobs.ensures,
+    )
 
 pub returns : goal.returns
 returns g c =
@@ -51,5 +45,5 @@ returns g c =
       served = subst (λ (ws : List WorkerView). Pairwise HasServed ws done) c.in_ok-worker_jobs.ensures (side_of HasServed (λ s. s.worker) worker_jobs done c.in_ok-worked.ensures.others);
       settles = c.in_ok-settled.ensures.pieces ∙ ap (λ (es : List EndedView). settling es done) (c.in_ok-clients.ensures.desks ∙ sym (read_come (λ t. t.ended) (λ w. w.desk) (λ a w. refl) given worked many));
       agrees = c.in_ok-settled.ensures.settled;
-      of_plan = c.in_ok-settled.ensures.of_plan;
+      of_plan = c.in_ok-settled.ensures.of (planned c.args.plan.now) (pieces_are g.C.Client.works c.desks_go_on.ensures.further (planned c.args.plan.now) c.args.desks.items c.args.workers.items c.requires.sound.limits c.requires.opened given worked c.in_ok-worked.ensures.jobs c.in_ok-client_jobs.ensures.desks c.in_ok-clients.desks.items c.in_ok-clients.ensures.desks (λ s. s.worker) worker_jobs done c.in_ok-worked.ensures.others c.in_ok-worker_jobs.ensures);
     }

@@ -1,7 +1,6 @@
 use Rattle.std.proofs.Common.{⊎_elim, ◌≡◌, sym, subst}
 use Rattle.xa_switch.specs.Seats.{IsWhyUnsettled}
-use Rattle.xa_switch.specs.Plans.{planned}
-use Rattle.xa_switch.specs.OfPlans.{IsOfPlan}
+use Rattle.xa_switch.specs.OfPlans.{IsOf}
 use Rattle.xa_switch.specs.declared.settling.Why.{Why}
 use Rattle.xa_switch.specs.declared.settling.Why.TheVariants.{Stranger, Missing}
 use Rattle.xa_crew.proofs.Settled.{from_opening, of_one_opening, all_pieces, permuted_desks, permuted_workers}
@@ -9,26 +8,24 @@ use Rattle.xa_crew.proofs.settling.settle_all.Goals as goal
 
 pub settle-requires : goal.settle-requires
 settle-requires g c =
-    let r = c.requires in
-    from_opening c.desks_go_out.ensures c.args.plan.now c.args.desks.items c.args.workers.items r (c.opened_pieces_come_from_their_opening.ensures (planned c.args.plan.now) r.desks r.workers r.opened)
+    let (p, r) = c.requires in
+    from_opening c.desks_go_out.ensures p c.args.desks.items c.args.workers.items r (c.opened_pieces_come_from_their_opening.ensures p r.desks r.workers r.opened)
 
 pub unreachable-requires : goal.unreachable-requires
 unreachable-requires g c =
-    let p = c.args.plan.now in
+    let (p, r) = c.requires in
     let desks = c.args.desks.items in
     let workers = c.args.workers.items in
     let out = c.desks_go_out.ensures in
     let why = c.in-Err.ensures.why in
     ⊎_elim
-    (λ (e : c.in-Err.unsettled.why ≡ Stranger). subst (λ (w : Why). IsWhyUnsettled w desks workers) e why (of_one_opening out p desks workers c.requires))
-    (λ (e : c.in-Err.unsettled.why ≡ Missing). (subst (λ (w : Why). IsWhyUnsettled w desks workers) e why).1 (all_pieces out p desks workers c.requires))
+    (λ (e : c.in-Err.unsettled.why ≡ Stranger). subst (λ (w : Why). IsWhyUnsettled w desks workers) e why (of_one_opening out p desks workers r))
+    (λ (e : c.in-Err.unsettled.why ≡ Missing). (subst (λ (w : Why). IsWhyUnsettled w desks workers) e why).1 (all_pieces out p desks workers r))
     c.in-Stranger.is
 
-pub returns-in-Ok-clause-of_plan : goal.returns-in-Ok-clause-of_plan
-returns-in-Ok-clause-of_plan g c =
-    let p = c.args.plan.now in
+pub returns-in-Ok-clause-of : goal.returns-in-Ok-clause-of
+returns-in-Ok-clause-of g c = λ p r.
     let desks = c.args.desks.items in
     let workers = c.args.workers.items in
-    let r = c.requires in
     let out = c.desks_go_out.ensures in
-    subst (IsOfPlan p) (sym c.in-Ok.ensures.parts) (c.settled_openings_are_of_their_setup.ensures (planned p) r.desks r.workers desks workers r.opened (permuted_desks out p desks workers r) (permuted_workers out p desks workers r) (all_pieces out p desks workers r))
+    subst (IsOf p) (sym c.in-Ok.ensures.parts) (c.settled_openings_are_of_their_setup.ensures p r.desks r.workers desks workers r.opened (permuted_desks out p desks workers r) (permuted_workers out p desks workers r) (all_pieces out p desks workers r))

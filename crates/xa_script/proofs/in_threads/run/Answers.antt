@@ -1,50 +1,82 @@
-use Rattle.std.proofs.Common.{List, map, refl, ◌∙◌, sym, subst, arith}
-use Rattle.std.specs.Prelude.{All}
+use Rattle.std.proofs.Common.{◌≡◌, ℕ, ◌+◌, List, [], map, Some, refl, sym, ◌∙◌, ap, subst, arith}
+use Rattle.std.specs.Prelude.{All, slice_get}
+use Rattle.std.proofs.lemmas.List.Elements.{All-nil}
+use Rattle.xa_base.specs.Lists.{Chain}
+use Rattle.xa_base.specs.Lists.Chain.{none}
+use Rattle.xa_base.proofs.Lists.{was_mapped}
 use Rattle.xa_desk.specs.DeskView.{DeskView}
 use Rattle.xa_desk.specs.Ended.{EndedView}
-use Rattle.xa_grammar.specs.Content.{Content, Fits, threads_of, managers_of}
+use Rattle.xa_switch.specs.Plans.{planned}
+use Rattle.xa_grammar.specs.Content.{Content, Fits, threads_of, managers_of, AreOfOne}
 use Rattle.xa_crew.specs.Run.{Member, IsRun}
 use Rattle.xa_session.specs.declared.answer.Answer.{Answer}
+use Rattle.xa_session.specs.declared.session.Session.{Session}
 use Rattle.xa_session.specs.declared.script_thread.ScriptThread.{ScriptThread}
 use Rattle.xa_session.specs.ScriptThreads.{Works}
+use Rattle.xa_session.specs.Sessions.{new_session}
+use Rattle.xa_transcript.specs.Openings.{Former, beginning}
 use Rattle.xa_transcript.specs.Planning.{AreOpened}
+use Rattle.xa_transcript.specs.Runs.{BeginsAs}
+use Rattle.xa_transcript.specs.Values.{opened}
+use Rattle.xa_transcript.proofs.Opened.{map_map, planned_setup}
 use Rattle.xa_script.specs.InThreads.{InThreads}
 use Rattle.xa_script.proofs.Runs.{threads_ran}
 use Rattle.xa_script.proofs.Members.{members_worked, members_tell, as_many_new}
 use Rattle.xa_script.proofs.in_threads.run.Goals as goal
 
 pub run_clients-requires-clause-clients : goal.run_clients-requires-clause-clients
-run_clients-requires-clause-clients g c κs within = as_many_new c.args.script.now c.in_ok-threads.threads.items c.in_ok-threads.ensures ∙ sym c.in_ok-plan.ensures.plan.threads
+run_clients-requires-clause-clients g c κs within = as_many_new c.args.script.now c.in_ok-threads.threads.items c.in_ok-threads.ensures ∙ sym c.in_ok-plan.ensures.plan.numbers.threads
 
 pub run_clients-requires-clause-paces : goal.run_clients-requires-clause-paces
-run_clients-requires-clause-paces g c κs within = let few = c.in_ok-plan.ensures.sound.limits.managers.1 in let eight = c.requires in omega (arith, few, eight)
+run_clients-requires-clause-paces g c κs within = let few = c.in_ok-plan.ensures.sound.limits.managers.1 in let eight = c.requires.paces in omega (arith, few, eight)
+
+-- each begins with a log without a record and without scans
+begin_so : (s : Content) (ms : List (Member ScriptThread)) (k : ℕ) (x : Session) → slice_get (map (λ (t : Member ScriptThread). new_session s t.desk) ms) k ≡ Some x → BeginsAs (beginning s) (k + 1) x
+begin_so s ms k x at =
+    let m = was_mapped (λ (t : Member ScriptThread). new_session s t.desk) ms k x at in
+    subst (BeginsAs (beginning s) (k + 1)) m.2 (record { log = refl; scan = refl })
 
 pub returns-in-Ok : goal.returns-in-Ok
 returns-in-Ok g c =
     let s : Content = c.args.script.now in
     let answers : List Answer = c.in_ok-answers_of-in-Ok.field-0.items in
-    let r : IsRun Works c.in_ok-plan.plan c.in_ok-threads.threads.items c.in-Ok.run'.clients.items c.in-Ok.run'.settled = c.in-Ok.ensures.ran in
+    let settled = c.in-Ok.run'.settled in
+    let r : IsRun Works c.in_ok-plan.plan c.in_ok-threads.threads.items c.in-Ok.run'.clients.items settled = c.in-Ok.ensures.ran in
     let desks : List DeskView = map (λ (t : Member ScriptThread). t.desk) r.members in
+    let sessions : List Session = map (λ (t : Member ScriptThread). new_session s t.desk) r.members in
     let ended : List EndedView = map (λ (t : Member ScriptThread). t.ended) r.members in
-    let opened : AreOpened s desks r.workers = record { plan = c.in_ok-plan.plan; said = c.in_ok-plan.ensures.plan; sound = r.sound; opened = r.opened } in
+    let are_opened : AreOpened s 1 (opened s) desks r.workers = record { setup = planned c.in_ok-plan.plan; said = planned_setup s c.in_ok-plan.plan c.in_ok-plan.ensures.plan r.sound; opened = r.opened } in
+    let all_opened : AreOpened s 1 (opened s) (map (λ (x : Session). x.desk) sessions) r.workers =
+    subst (λ ds. AreOpened s 1 (opened s) ds r.workers) (sym (map_map (λ (x : Session). x.desk) (λ (t : Member ScriptThread). new_session s t.desk) r.members)) are_opened in
     let fits : All (Fits (threads_of s) (managers_of s)) s.steps = subst (All (Fits (threads_of s) (managers_of s))) c.steps.ensures.steps c.steps.ensures.of in
-    let runs : InThreads s desks r.workers ended r.done answers = record {
+    let worked = members_worked s r.members r.workers are_opened c.in_ok-threads.threads.items c.in_ok-threads.ensures r.clients_are r.ran c.in-Ok.run'.clients.items r.attended_are c.in_ok-answers_of-in-Ok.ensures.done in
+    let runs : InThreads s s.steps sessions worked.0 r.workers ended r.done answers = record {
       threads = r.members;
-      desks_are = refl;
-      worked = members_worked s r.members r.workers opened c.in_ok-threads.threads.items c.in_ok-threads.ensures r.clients_are r.ran c.in-Ok.run'.clients.items r.attended_are c.in_ok-answers_of-in-Ok.ensures.done;
+      sessions_are = refl;
+      worked = worked.1;
       ended_are = refl;
       served = r.served;
       answered = c.in_ok-answers_of-in-Ok.ensures.answers ∙ members_tell r.members c.in-Ok.run'.clients.items r.attended_are;
-    } in
-    record {
-      come = record {
-        desks = desks;
-        workers = r.workers;
-        ended = ended;
-        done = r.done;
-        ran = threads_ran s desks r.workers opened fits ended r.done answers runs;
-        settles = r.settles;
-        agree = r.agrees;
-      };
-      runs = runs;
-    }
+    } in (
+      record { steps = s.steps; answers = answers; settled = settled },
+      record {
+        steps = refl;
+        answers_ = refl;
+        ones = (All-nil (λ (f : Former). AreOfOne f.opening.steps), c.requires.one);
+        begins = beginning s;
+        former = none [] (beginning s) refl refl;
+        left = worked.0;
+        latest = record {
+          sessions = sessions;
+          workers = r.workers;
+          ended = ended;
+          done = r.done;
+          runs = runs;
+          ran = threads_ran s (beginning s) s.steps sessions r.workers all_opened (begin_so s r.members) fits worked.0 ended r.done answers runs;
+          settles = r.settles;
+          number = r.of_plan.opening ∙ c.in_ok-plan.ensures.plan.numbers.opening_;
+          agree = r.agrees;
+        };
+      },
+      refl,
+    )

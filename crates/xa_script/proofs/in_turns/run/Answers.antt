@@ -1,96 +1,150 @@
-use Rattle.std.proofs.Common.{◌≡◌, length, sym, ap, ◌∙◌, subst, refl, [], List}
-use Rattle.std.specs.Prelude.{All}
-use Rattle.std.proofs.lemmas.List.{length-map}
-use Rattle.std.proofs.lemmas.List.Elements.{All-map}
-use Rattle.xa_desk.specs.DeskView.{DeskView}
-use Rattle.xa_desk.specs.Ended.{EndedView}
-use Rattle.xa_desk.specs.Kept.{AllKept}
+use Rattle.std.proofs.Common.{◌≡◌, ℕ, ◌+◌, ◌≤◌, List, [], ◌∷◌, ◌++◌, length, take, refl, sym, ap, ◌∙◌, subst, arith}
+use Rattle.std.proofs.lemmas.List.{take_all}
+use Rattle.xa_base.specs.Lists.{IsUpTo}
+use Rattle.xa_base.proofs.Lists.{one_more}
 use Rattle.xa_worker.specs.Workers.{WorkerView}
-use Rattle.xa_worker.specs.Done.{Served}
-use Rattle.xa_grammar.specs.Content.{Content, Fits, threads_of, managers_of}
-use Rattle.xa_session.specs.declared.answer.Answer.{Answer}
-use Rattle.xa_session.specs.declared.session.Session.{Session}
-use Rattle.xa_session.specs.Sessions.{new_session, new_sessions}
-use Rattle.xa_switch.specs.Plans.{planned}
-use Rattle.xa_transcript.specs.Planning.{AreOpened}
-use Rattle.xa_transcript.specs.Runs.{Ran}
-use Rattle.xa_transcript.proofs.Opened.{opened_threads, opened_managers}
-use Rattle.xa_base.specs.Lists.{Pairwise}
-use Rattle.xa_crew.specs.Pieces.{HasServed}
 use Rattle.xa_grammar.specs.declared.script.Step.{Step}
-use Rattle.xa_script.specs.InTurns.{Course, HasMadeSteps, HaveEnded, InTurns, course_of, closing_of}
-use Rattle.xa_script.proofs.Kept.{AreKept, run_keeps}
-use Rattle.xa_script.proofs.Runs.{turns_ran}
-use Rattle.xa_script.proofs.Pieces.{pieces_of}
+use Rattle.xa_grammar.specs.declared.script.Step.TheVariants as step
+use Rattle.xa_grammar.specs.Content.{Content, Fits, threads_of, managers_of, thread_of}
+use Rattle.xa_session.specs.declared.answer.Answer.{Answer}
+use Rattle.xa_session.specs.declared.answer.Answer.TheVariants as answer
+use Rattle.xa_session.specs.declared.session.Session.{Session}
+use Rattle.xa_script.specs.declared.in_turns.Runner.{Runner}
+use Rattle.xa_script.specs.declared.mode.Mode.TheVariants as mode
+use Rattle.xa_script.specs.Outcome.{IsOutcome}
+use Rattle.xa_script.specs.Openings.{HasReached}
+use Rattle.xa_script.proofs.Reached.{begun, reached_threads, reached_managers, stepped, ended_so, reopened, outcome_so}
 use Rattle.xa_script.proofs.in_turns.run.Goals as goal
+use Rattle.xa_script.proofs.in_turns.run.Goals.{in-Task+in_ok-call-in-Task+in_ok-push-in-Task, in-Turn+in_ok-push-in-Turn, in-Reopen+in_ok-closed-in-Reopen+in_ok-push-in-Reopen+in_ok-runner-in-Reopen}
 
-pub run-requires-clause-fit : goal.run-requires-clause-fit
-run-requires-clause-fit g c =
+-- the same lines, number and answers
+reached_as : (s : Content) (lines lines' : List Step) (r : Runner) (opening : ℕ) (sessions : List Session) (workers : List WorkerView) (answers answers' : List Answer) → lines' ≡ lines → r.opening ≡ opening → r.sessions.items ≡ sessions → r.turns.workers.items ≡ workers → answers' ≡ answers
+    → HasReached s lines opening sessions workers answers → HasReached s lines' r.opening r.sessions.items r.turns.workers.items answers'
+reached_as s lines lines' r opening sessions workers answers answers' same_lines number same_sessions same_workers same_answers is =
+    subst (λ (l : List Step). HasReached s l r.opening r.sessions.items r.turns.workers.items answers') (sym same_lines)
+    (subst (λ (n : ℕ). HasReached s lines n r.sessions.items r.turns.workers.items answers') (sym number)
+    (subst (λ (l : List Session). HasReached s lines opening l r.turns.workers.items answers') (sym same_sessions)
+    (subst (λ (l : List WorkerView). HasReached s lines opening sessions l answers') (sym same_workers)
+    (subst (λ (l : List Answer). HasReached s lines opening sessions workers l) (sym same_answers) is))))
+
+pub loop-step-init : goal.loop-step-init
+loop-step-init g c =
     let s : Content = c.args.script.now in
-    let desks : List DeskView = c.in-Ok.opened.0.items in
-    let workers : List WorkerView = c.in-Ok.opened.1.items in
-    let opened : AreOpened s desks workers = record { plan = c.in_ok-plan.plan; said = c.in_ok-plan.ensures.plan; sound = c.in_ok-plan.ensures.sound; opened = c.in-Ok.ensures.opened } in
+    let r = c.in_ok-runner.runner in
+    let number = c.in_ok-runner.ensures.number in
+    record {
+      reached = subst (λ (l : List Answer). HasReached s [] r.opening r.sessions.items r.turns.workers.items l) (sym c.in_ok-answers.ensures.items) (begun s r.opening r.sessions.items r.turns.workers.items number c.in_ok-runner.ensures.opened);
+      few = omega (arith, number);
+    }
+
+pub call-requires : goal.call-requires
+call-requires g c =
+    let s : Content = c.args.script.now in
+    let r = c.loop-step.runner in
+    let lines = take c.loop-step.step-index c.steps-steps.result.now in
+    let p : Step = c.step-item.result in
+    let fits : Fits (threads_of s) (managers_of s) p = subst (Fits (threads_of s) (managers_of s)) (sym c.step-item.is) (c.steps-steps.ensures.of c.loop-step.step-index p c.loop-step-test.true) in
+    let own : Fits (threads_of s) (managers_of s) (step.Task c.in-Task.task) = subst (Fits (threads_of s) (managers_of s)) c.in-Task.is fits in
+    subst (λ n. IsUpTo n (thread_of c.in-Task.task)) (sym (reached_threads s lines r.opening r.sessions.items r.turns.workers.items c.loop-step.answers.items c.loop-step.invariant.reached)) own.0
+
+pub turn-requires : goal.turn-requires
+turn-requires g c =
+    let s : Content = c.args.script.now in
+    let r = c.loop-step.runner in
+    let lines = take c.loop-step.step-index c.steps-steps.result.now in
+    let p : Step = c.step-item.result in
+    let fits : Fits (threads_of s) (managers_of s) p = subst (Fits (threads_of s) (managers_of s)) (sym c.step-item.is) (c.steps-steps.ensures.of c.loop-step.step-index p c.loop-step-test.true) in
+    let own : Fits (threads_of s) (managers_of s) (step.Turn c.in-Turn.line c.in-Turn.manager) = subst (Fits (threads_of s) (managers_of s)) c.in-Turn.is fits in
+    subst (λ n. IsUpTo n c.in-Turn.manager) (sym (reached_managers s lines r.opening r.sessions.items r.turns.workers.items c.loop-step.answers.items c.loop-step.invariant.reached)) own
+
+pub reopen-requires-clause-closed : goal.reopen-requires-clause-closed
+reopen-requires-clause-closed g c =
+    let s : Content = c.args.script.now in
+    let h = c.loop-step.invariant.reached in
+    let x = c.in_ok-closed-in-Reopen.ensures.closed s h.begins h.own h.told h.goes in
+    (h.begins, record { steps = h.own; answers = h.told ++ x.0; settled = c.in_ok-closed-in-Reopen.closed.settled }, x.2, refl, c.in_ok-closed-in-Reopen.ensures.number ∙ h.number)
+
+pub reopen-requires-clause-few : goal.reopen-requires-clause-few
+reopen-requires-clause-few g c =
+    let number = c.in_ok-closed-in-Reopen.ensures.number in
+    let few = c.loop-step.invariant.few in
+    let within = c.loop-step-test.true in
+    let short = c.steps-steps.type_inv.1 in
+    omega (arith, number, few, within, short)
+
+pub loop-step-preserved : goal.loop-step-preserved
+loop-step-preserved g c =
+    let s : Content = c.args.script.now in
     let steps = c.steps-steps.result.now in
-    let of : All (Fits (threads_of s) (managers_of s)) steps = c.steps-steps.ensures.of in
-    let many : length c.in_ok-sessions.sessions.items ≡ threads_of s = ap (λ (l : List Session). length l) c.in_ok-sessions.ensures ∙ length-map desks (new_session s) ∙ opened_threads s desks workers opened in
-    subst (λ n. All (Fits n (length workers)) steps) (sym many)
-    (subst (λ n. All (Fits (threads_of s) n) steps) (sym (opened_managers s desks workers opened)) of)
-
-pub end_desks-requires : goal.end_desks-requires
-end_desks-requires g c =
-    let s : Content = c.args.script.now in
-    let desks : List DeskView = c.in-Ok.opened.0.items in
-    let workers : List WorkerView = c.in-Ok.opened.1.items in
-    let first : Course = course_of c.in_ok-sessions.sessions.items workers c.in_ok-answers.answers.items in
-    let last : Course = course_of c.run.new.self.sessions.items c.run.new.self.turns.workers.items c.run.new.answers.items in
-    let kept = subst AreKept (sym c.in_ok-sessions.ensures) (All-map (λ x. AllKept x.desk) (new_session s) desks (c.outstanding_operations_stay_kept.ensures.opened (planned c.in_ok-plan.plan) desks workers c.in-Ok.ensures.opened)) in
-    run_keeps first c.steps-steps.result.now last c.in_ok-run.ensures.runs kept
-
--- what the run has come to, in turns
-record Came (s : Content) (answers : List Answer) (desks : List DeskView) (workers : List WorkerView) (ended : List EndedView) (done : List Served) : Type 0 where
-  turns : InTurns s desks workers ended done answers
-  ran : Ran s answers desks workers ended done
-
-came : (s : Content) (desks : List DeskView) (workers : List WorkerView) (sessions : List Session) (answers : List Answer) (steps : List Step) (last : Course) (ended : List EndedView) (workers' : List WorkerView) (told : List Answer) (done : List Served)
-    → AreOpened s desks workers → sessions ≡ new_sessions s desks → answers ≡ [] → steps ≡ s.steps → All (Fits (threads_of s) (managers_of s)) steps
-    → HasMadeSteps (course_of sessions workers answers) steps last
-    → HaveEnded (closing_of [] last.stage.workers last.answers) last.stage.sessions (closing_of ended workers' told)
-    → Pairwise HasServed workers' done
-    → Came s told desks workers ended done
-came s desks workers sessions answers steps last ended workers' told done opened sessions_are none_yet steps_are of runs closes served =
-    let all_runs =
-    subst (λ l. HasMadeSteps (course_of (new_sessions s desks) workers []) l last) steps_are
-    (subst (λ (l : List Answer). HasMadeSteps (course_of (new_sessions s desks) workers l) steps last) none_yet
-    (subst (λ (l : List Session). HasMadeSteps (course_of l workers answers) steps last) sessions_are runs)) in
-    let fits = subst (All (Fits (threads_of s) (managers_of s))) steps_are of in
-    let turns : InTurns s desks workers ended done told = record { ran = last; runs = all_runs; closed = closing_of ended workers' told; closes = closes; ended_are = refl; served = served; answered = refl } in
-    record { turns = turns; ran = turns_ran s desks workers opened fits ended done told turns }
-
-pub settle_all-requires : goal.settle_all-requires
-settle_all-requires g c =
-    let s : Content = c.args.script.now in
-    let desks : List DeskView = c.in-Ok.opened.0.items in
-    let workers : List WorkerView = c.in-Ok.opened.1.items in
-    let ended : List EndedView = c.in_ok-ended.ended.items in
-    let done : List Served = c.in_ok-done.done.items in
-    let told : List Answer = c.end_desks.new.answers.items in
-    let opened : AreOpened s desks workers = record { plan = c.in_ok-plan.plan; said = c.in_ok-plan.ensures.plan; sound = c.in_ok-plan.ensures.sound; opened = c.in-Ok.ensures.opened } in
-    let last : Course = course_of c.run.new.self.sessions.items c.run.new.self.turns.workers.items c.run.new.answers.items in
-    let all = came s desks workers c.in_ok-sessions.sessions.items c.in_ok-answers.answers.items c.steps-steps.result.now last ended c.end_desks.new.turns.workers.items told done opened c.in_ok-sessions.ensures c.in_ok-answers.ensures.items c.steps-steps.ensures.steps c.steps-steps.ensures.of c.in_ok-run.ensures.runs c.in_ok-ended.ensures c.in_ok-done.ensures in
-    pieces_of c.desks_go_on.ensures.same c.desks_go_on.ensures.further s told desks workers ended done opened all.ran
+    let k = c.loop-step.step-index in
+    let r = c.loop-step.runner in
+    let answers = c.loop-step.answers.items in
+    let lines = take k steps in
+    let h = c.loop-step.invariant.reached in
+    let few = c.loop-step.invariant.few in
+    let p : Step = c.step-item.result in
+    let longer : take (k + 1) steps ≡ lines ++ p ∷ [] = one_more steps k p c.loop-step-test.true c.step-item.is in
+    let fits : Fits (threads_of s) (managers_of s) p = subst (Fits (threads_of s) (managers_of s)) (sym c.step-item.is) (c.steps-steps.ensures.of k p c.loop-step-test.true) in
+    elim c.match-step.branch [
+      | in-Task+in_ok-call-in-Task+in_ok-push-in-Task w ↦
+          let t = w.in-Task.task in
+          let a = w.in_ok-call-in-Task.field-0 in
+          let new = w.call.new.self in
+          let number : c.match-step.runner.opening ≡ r.opening = ap (λ (x : Runner). x.opening) w.runner-is ∙ w.in_ok-call-in-Task.ensures.number in
+          record {
+            reached =
+                reached_as s (lines ++ step.Task t ∷ []) (take (k + 1) steps) c.match-step.runner r.opening new.sessions.items new.turns.workers.items (answers ++ a ∷ []) c.match-step.answers.items
+                (longer ∙ ap (λ q. lines ++ q ∷ []) w.in-Task.is) number (ap (λ (x : Runner). x.sessions.items) w.runner-is) (ap (λ (x : Runner). x.turns.workers.items) w.runner-is)
+                (ap (λ v. v.items) w.answers-is ∙ w.in_ok-push-in-Task.ensures.items)
+                (stepped s lines r.opening r.sessions.items r.turns.workers.items answers h (step.Task t) a new.sessions.items new.turns.workers.items refl (subst (Fits (threads_of s) (managers_of s)) w.in-Task.is fits) w.in_ok-call-in-Task.ensures.calls);
+            few = omega (arith, number, few);
+          }
+      | in-Turn+in_ok-push-in-Turn w ↦
+          let x = step.Turn w.in-Turn.line w.in-Turn.manager in
+          let a = w.turn.result in
+          let new = w.turn.new.self in
+          let number : c.match-step.runner.opening ≡ r.opening = ap (λ (x : Runner). x.opening) w.runner-is ∙ w.turn.ensures.number in
+          record {
+            reached =
+                reached_as s (lines ++ x ∷ []) (take (k + 1) steps) c.match-step.runner r.opening new.sessions.items new.turns.workers.items (answers ++ a ∷ []) c.match-step.answers.items
+                (longer ∙ ap (λ q. lines ++ q ∷ []) w.in-Turn.is) number (ap (λ (x : Runner). x.sessions.items) w.runner-is) (ap (λ (x : Runner). x.turns.workers.items) w.runner-is)
+                (ap (λ v. v.items) w.answers-is ∙ w.in_ok-push-in-Turn.ensures.items)
+                (stepped s lines r.opening r.sessions.items r.turns.workers.items answers h x a new.sessions.items new.turns.workers.items refl (subst (Fits (threads_of s) (managers_of s)) w.in-Turn.is fits) w.turn.ensures.turns);
+            few = omega (arith, number, few);
+          }
+      | in-Reopen+in_ok-closed-in-Reopen+in_ok-push-in-Reopen+in_ok-runner-in-Reopen w ↦
+          let line = w.in-Reopen.line in
+          let closed = w.in_ok-closed-in-Reopen.closed in
+          let x = w.in_ok-closed-in-Reopen.ensures.closed s h.begins h.own h.told h.goes in
+          let own = w.in_ok-closed-in-Reopen.ensures.number in
+          let new = w.in_ok-runner-in-Reopen.runner in
+          let y = w.in_ok-runner-in-Reopen.ensures.opened h.begins (ended_so s lines r.opening r.sessions.items r.turns.workers.items answers h x.0 closed.settled) line x.2 refl (own ∙ h.number) in
+          let number = w.in_ok-runner-in-Reopen.ensures.number in
+          let same = ap (λ (x : Runner). x.opening) w.runner-is in
+          record {
+            reached =
+                reached_as s (lines ++ step.Reopen line ∷ []) (take (k + 1) steps) c.match-step.runner new.opening new.sessions.items new.turns.workers.items ((answers ++ x.0) ++ answer.Reopened line ∷ []) c.match-step.answers.items
+                (longer ∙ ap (λ q. lines ++ q ∷ []) w.in-Reopen.is) same (ap (λ (x : Runner). x.sessions.items) w.runner-is) (ap (λ (x : Runner). x.turns.workers.items) w.runner-is)
+                (ap (λ v. v.items) w.answers-is ∙ w.in_ok-push-in-Reopen.ensures.items ∙ ap (λ l. l ++ answer.Reopened line ∷ []) x.1)
+                (reopened s lines r.opening r.sessions.items r.turns.workers.items answers h x.0 closed.settled line y.0 y.1 new.opening new.sessions.items new.turns.workers.items y.2 y.3);
+            few = omega (arith, same, number, own, few);
+          }
+    ]
 
 pub returns : goal.returns
 returns g c =
     let s : Content = c.args.script.now in
-    let desks : List DeskView = c.in-Ok.opened.0.items in
-    let workers : List WorkerView = c.in-Ok.opened.1.items in
-    let ended : List EndedView = c.in_ok-ended.ended.items in
-    let done : List Served = c.in_ok-done.done.items in
-    let told : List Answer = c.end_desks.new.answers.items in
-    let opened : AreOpened s desks workers = record { plan = c.in_ok-plan.plan; said = c.in_ok-plan.ensures.plan; sound = c.in_ok-plan.ensures.sound; opened = c.in-Ok.ensures.opened } in
-    let last : Course = course_of c.run.new.self.sessions.items c.run.new.self.turns.workers.items c.run.new.answers.items in
-    let all = came s desks workers c.in_ok-sessions.sessions.items c.in_ok-answers.answers.items c.steps-steps.result.now last ended c.end_desks.new.turns.workers.items told done opened c.in_ok-sessions.ensures c.in_ok-answers.ensures.items c.steps-steps.ensures.steps c.steps-steps.ensures.of c.in_ok-run.ensures.runs c.in_ok-ended.ensures c.in_ok-done.ensures in
-    record {
-      come = record { desks = desks; workers = workers; ended = ended; done = done; ran = all.ran; settles = c.in_ok-settled.ensures.pieces; agree = c.in_ok-settled.ensures.settled };
-      runs = all.turns;
-    }
+    let steps = c.steps-steps.result.now in
+    let k = c.loop-step.step-index in
+    let r = c.loop-step.runner in
+    let answers = c.loop-step.answers.items in
+    let h = c.loop-step.invariant.reached in
+    let closed = c.in_ok-closed.closed in
+    let x = c.in_ok-closed.ensures.closed s h.begins h.own h.told h.goes in
+    let all : take k steps ≡ s.steps = take_all k steps (omega arith) ∙ c.steps-steps.ensures.steps in
+    let last = ended_so s (take k steps) r.opening r.sessions.items r.turns.workers.items answers h x.0 closed.settled in (
+      h.before,
+      last,
+      subst (λ (l : List Answer). IsOutcome mode.Turns s l h.before last) (sym x.1) (outcome_so s (take k steps) r.opening r.sessions.items r.turns.workers.items answers h all x.0 closed.settled closed.logs.items x.2),
+      refl,
+    )

@@ -1,21 +1,24 @@
-use Rattle.std.proofs.Common.{List, sym, subst}
+use Rattle.std.proofs.Common.{◌≡◌, List, [], ◌∷◌, ◌++◌, map, sym, subst}
 use Rattle.std.specs.Io.KnownBytes.{Appends}
-use Rattle.xa_switch.specs.Settling.{Settling, IsSettled}
+use Rattle.xa_switch.specs.Settling.{Settling}
 use Rattle.xa_grammar.specs.declared.script.Declared.{Declared}
 use Rattle.xa_grammar.specs.Content.{Content}
 use Rattle.xa_session.specs.declared.answer.Answer.{Answer}
-use Rattle.xa_transcript.specs.Journals.{TellsOf}
+use Rattle.xa_transcript.specs.Openings.{Opening, Former, settled_over}
 use Rattle.xa_transcript.specs.Transcript.{text}
-use Rattle.xa_transcript.specs.Values.{AreOfScript, AreValues}
+use Rattle.xa_transcript.specs.Values.{opened_after, AreOfScript, AreValues}
 use Rattle.xa_script.specs.declared.mode.Mode.{Mode}
 use Rattle.xa_script.specs.Outcome.{IsOutcome, Writes}
 use Rattle.xa_script.proofs.Results.{on_ok}
+use Rattle.xa_script.proofs.Tellings.{managers_so, run_tells}
 use Rattle.xa_script.proofs.outcome.show.Goals as goal
 
 pub values_of-requires : goal.values_of-requires
 values_of-requires g c =
+    let s : Content = c.args.script.now in
     let h = c.requires in
-    subst (λ (x : Settling). AreOfScript c.args.script.now x.managers) (sym h.settles) (c.runs_tell_of_their_journals.ensures.managers c.args.script.now c.args.answers.now h.desks h.workers h.ended h.done h.ran)
+    let before : List Settling = map (λ (f : Former). f.opening.settled) h.before in
+    (before, subst (λ (x : Settling). AreOfScript s (opened_after s before) x.managers) h.settles (managers_so h.mode s c.args.answers.now h.before h.last h.outcome))
 
 pub returns-clause-ok : goal.returns-clause-ok
 returns-clause-ok g c =
@@ -23,12 +26,21 @@ returns-clause-ok g c =
     let answers : List Answer = c.args.answers.now in
     let settled : Settling = c.args.settled.now in
     let values : List Declared = c.in_ok-values.values.items in
-    let h = c.requires in
-    let before = g.W.Write.contents c.args.writer.now in
-    let after = g.W.Write.contents c.write_transcript.new.writer in
-    let tells : TellsOf s answers values settled =
-    subst (λ (x : Settling). TellsOf s answers values x) (sym h.settles)
-    (c.runs_tell_of_their_journals.ensures.tells s answers h.desks h.workers h.ended h.done h.ran (subst IsSettled h.settles h.agree) values (subst (λ (x : Settling). AreValues s x values) h.settles c.in_ok-values.ensures)) in
-    on_ok c.write_transcript.result (Appends before after (text answers c.deref.result.now)) ((m : Mode) → IsOutcome m s answers settled → Writes m s before after)
-    (λ written m outcome. record { answers = answers; settled = settled; outcome = outcome; values = values; tells = tells; written = subst (λ (l : List Declared). Appends before after (text answers l)) c.deref.ensures.value written })
+    let contents = g.W.Write.contents in
+    let old = contents c.args.writer.now in
+    let new = contents c.write_transcript.new.writer in
+    on_ok c.write_transcript.result (Appends old new (text answers c.deref.result.now)) ((m : Mode) (before : List Former) (last : Opening) → IsOutcome m s answers before last → last.settled ≡ settled → Writes m s old new)
+    (λ written m before last outcome same.
+    let former : List Settling = map (λ (f : Former). f.opening.settled) before in
+    let managers = subst (λ (x : Settling). AreOfScript s (opened_after s former) x.managers) same (managers_so m s answers before last outcome) in
+    let shown : AreValues s (settled_over before last) values = subst (λ (x : Settling). AreValues s (former ++ x ∷ []) values) (sym same) (c.in_ok-values.ensures former managers) in
+    record {
+      answers = answers;
+      former = before;
+      latest = last;
+      outcome = outcome;
+      values = values;
+      tells = run_tells m s answers values before last outcome shown;
+      written = subst (λ (l : List Declared). Appends old new (text answers l)) c.deref.ensures.value written;
+    })
     c.write_transcript.ensures.ok

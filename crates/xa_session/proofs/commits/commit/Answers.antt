@@ -12,7 +12,7 @@ of_tran c [] = tt
 of_tran c (m ∷ ms) = (refl, of_tran c ms)
 
 pub returns-in-Ok-clause-commits : goal.returns-in-Ok-clause-commits
-returns-in-Ok-clause-commits g c =
+returns-in-Ok-clause-commits g c = λ z.
     let asked = c.args.asked.now in
     let desk = c.args.desk.now in
     let log = c.args.log.now in
@@ -21,4 +21,4 @@ returns-in-Ok-clause-commits g c =
     let own : IsTranOf c.deref-2.result.now (named asked) = subst (λ (l : List Branch). IsTranOf l (named asked)) (sym bs') (of_tran asked _) in
     let may : MayCommit desk log.state (branches_of asked) = subst (MayCommit desk log.state) bs (c.may_commit.ensures.0 c.if-not-may_commit.false) in
     let trace = subst (λ (l : List Branch). IsTraceOfCommit (named asked) l desk.ledgers c.commit_all.new.desk.ledgers log.state c.commit_all.new.log.state c.in-Ok.done) bs' (c.in-Ok.ensures.call (named asked) own) in
-    decided c.in-Ok.done may trace c.in-Ok.ensures.keeps c.in-Ok.ensures.free refl
+    decided c.in-Ok.done may trace refl c.in-Ok.ensures.keeps c.in-Ok.ensures.free refl

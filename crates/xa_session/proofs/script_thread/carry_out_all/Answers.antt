@@ -18,9 +18,9 @@ loop-task-preserved g c =
     let p = c.task-item.result in
     let a = c.in_ok-answer.answer in
     let tasks = c.args.tasks.now in
-    let first : Session × List Answer = (session_of c.args.desk.now c.args.log.now, c.args.answers.now.items) in
-    let old : Session × List Answer = (session_of c.loop-task.desk c.loop-task.log, c.loop-task.answers.items) in
-    let new : Session × List Answer = (session_of c.carry_out.new.desk c.carry_out.new.log, c.push.new.self.items) in
+    let first : Session × List Answer = (session_of c.args.desk.now c.args.log.now c.args.scan.now, c.args.answers.now.items) in
+    let old : Session × List Answer = (session_of c.loop-task.desk c.loop-task.log c.loop-task.scan, c.loop-task.answers.items) in
+    let new : Session × List Answer = (session_of c.carry_out.new.desk c.carry_out.new.log c.carry_out.new.scan, c.push.new.self.items) in
     record {
       runs = subst (λ l. Chain HasDone first l new) (sym (one_more tasks n p c.loop-task-test.true c.task-item.is)) (more (take n tasks) p old new i.runs (record { answer = a; does = c.in_ok-answer.ensures.does; told = c.in_ok-push.ensures.items }));
       goes_on = c.desks_go_on.ensures.further c.args.desk.now c.loop-task.desk c.carry_out.new.desk i.goes_on c.carry_out.ensures.goes_on;
@@ -29,8 +29,8 @@ loop-task-preserved g c =
 
 pub returns-clause-runs : goal.returns-clause-runs
 returns-clause-runs g c =
-    let first : Session × List Answer = (session_of c.args.desk.now c.args.log.now, c.args.answers.now.items) in
-    let last : Session × List Answer = (session_of c.loop-task.desk c.loop-task.log, c.loop-task.answers.items) in
+    let first : Session × List Answer = (session_of c.args.desk.now c.args.log.now c.args.scan.now, c.args.answers.now.items) in
+    let last : Session × List Answer = (session_of c.loop-task.desk c.loop-task.log c.loop-task.scan, c.loop-task.answers.items) in
     subst (λ l. Chain HasDone first l last) (take_all c.loop-task.task-index c.args.tasks.now (omega arith)) c.loop-task.invariant.runs
 
 pub returns-in_err-push-clause-kept : goal.returns-in_err-push-clause-kept

@@ -8,7 +8,7 @@ use Rattle.xa_session.proofs.script_thread.carry_out_all.Given as goal
 -- the first tasks were done
 abbrev pub invariant-loop-task : goal.invariant-loop-task
 invariant-loop-task g l = record {
-  runs : Chain HasDone (session_of l.fn.desk l.fn.log, l.fn.answers.items) (take l.task-index l.tasks) (session_of l.desk l.log, l.answers.items);
+  runs : Chain HasDone (session_of l.fn.desk l.fn.log l.fn.scan, l.fn.answers.items) (take l.task-index l.tasks) (session_of l.desk l.log l.scan, l.answers.items);
   goes_on : GoesOn l.fn.desk l.desk;
   kept : AllKept l.fn.desk → AllKept l.desk;
 }

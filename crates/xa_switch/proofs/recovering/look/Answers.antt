@@ -53,7 +53,8 @@ loop-looked-preserved g c =
     let there : slice_get left k ≡ Some x = slice_get-get_or left k x (omega arith) ∙ ap (λ y. Some y) (sym c.index-left-looked.is) in
     let within = i.within in
     let room = c.requires in
-    let short : length found < length c.args.xids.now = omega (arith, many, within, room) in
+    let less : length found < c.args.room = omega (arith, many, within) in
+    let short : length found < length c.args.xids.now = omega (arith, less, room) in
     let goes_on = c.desks_go_on.ensures.further _ _ _ i.goes_on c.ask.ensures.goes_on in
     let idled = g.met.I.Idle.leads_chain _ _ _ i.idled c.ask.ensures.idled in
     elim c.match-ask.branch [
@@ -64,7 +65,7 @@ loop-looked-preserved g c =
           record {
             looks = (
               found ++ x ∷ [],
-              finds_more (Answers c.args.manager) left _ c.loop-looked.desk _ k found x _ looks there c.ask.ensures.answers w.in-Done.is,
+              finds_more (Answers c.args.manager) c.args.room left _ c.loop-looked.desk _ k found x _ looks less there c.ask.ensures.answers w.in-Done.is,
               w.xids-is ∙ (λ j. set (xids j) (many j) (same j)) ∙ written_more found c.args.xids.now x short,
               omega (arith, number, many, length-append found (x ∷ [])),
             );
@@ -76,7 +77,7 @@ loop-looked-preserved g c =
             idled = idled;
           }
       | in-Nota w ↦ record {
-        looks = (found, passes_more (Answers c.args.manager) left _ c.loop-looked.desk _ k found x _ looks there c.ask.ensures.answers w.in-Nota.is, w.xids-is ∙ xids, w.found-is ∙ many);
+        looks = (found, passes_more (Answers c.args.manager) c.args.room left _ c.loop-looked.desk _ k found x _ looks less there c.ask.ensures.answers w.in-Nota.is, w.xids-is ∙ xids, w.found-is ∙ many);
         many = ap (λ l. length l) w.xids-is ∙ i.many;
         within = let number = w.found-is in omega (arith, number, within);
         goes_on = goes_on;
@@ -90,4 +91,4 @@ pub returns-clause-scanned : goal.returns-clause-scanned
 returns-clause-scanned g c =
     let (found, looks, xids, many) = c.loop-looked.invariant.looks in
     let all : c.loop-looked.looked ≡ length c.args.left.now = omega arith in
-    (found, ended (subst (λ n. Looks (Answers c.args.manager) c.args.left.now c.args.desk.now n found c.loop-looked.desk) all looks), xids, many)
+    (found, ended (subst (λ n. Looks (Answers c.args.manager) c.args.room c.args.left.now c.args.desk.now n found c.loop-looked.desk) all looks), xids, many)

@@ -9,7 +9,7 @@ use Rattle.xa_switch.proofs.recovering.look.Given as goal
 -- the branches so far were asked of, and those that were found are written
 abbrev pub invariant-loop-looked : goal.invariant-loop-looked
 invariant-loop-looked g l = record {
-  looks : (found : List XidName) × Looks (Answers l.manager) l.left l.initial.desk l.looked found l.desk × (l.xids ≡ written found l.initial.xids) × (l.found ≡ length found);
+  looks : (found : List XidName) × Looks (Answers l.manager) l.room l.left l.initial.desk l.looked found l.desk × (l.xids ≡ written found l.initial.xids) × (l.found ≡ length found);
   many : length l.xids ≡ length l.initial.xids;
   within : l.found ≤ l.room;
   goes_on : GoesOn l.initial.desk l.desk;

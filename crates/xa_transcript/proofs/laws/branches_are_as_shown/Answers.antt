@@ -1,6 +1,7 @@
 use Rattle.xa_driver.proofs.Tabled.{Tabled}
 use Rattle.xa_transcript.proofs.Alone.{left_alone}
 use Rattle.xa_transcript.proofs.Outcomes.{shown_so, counts_so}
+use Rattle.xa_transcript.specs.Openings.{part_at}
 use Rattle.xa_transcript.proofs.Placed.{places}
 use Rattle.xa_transcript.proofs.laws.branches_are_as_shown.Goals as goal
 
@@ -43,7 +44,7 @@ returns-clause-journals c =
     counts_so law c.settled_journals_follow_the_tables.ensures.some
 
 pub returns-clause-lines : goal.returns-clause-lines
-returns-clause-lines c = λ s answers values settled tells commit done before l after is shows named.
+returns-clause-lines c = λ s b o tells commit done before l after is shows named.
     let law : Tabled = record {
       awaits = c.prepared_branches_await_the_outcome.ensures;
       shuts = c.only_a_shut_shuts.ensures;
@@ -59,7 +60,7 @@ returns-clause-lines c = λ s answers values settled tells commit done before l 
       commit_tells = c.only_completed_branches_tell_a_decision.ensures.commits;
       rollback_tells = c.only_completed_branches_tell_a_decision.ensures.rolls_back;
     } in
-    let (old, new, place) = places s answers settled commit.thread (tells.carried commit.thread) before l after is in
-    let alone = left_alone s answers values settled tells commit before l after old new place named in
-    let shown = counts_so law c.settled_journals_follow_the_tables.ensures.some s answers values settled tells commit done before l after old new place shows alone in
+    let (old, new, place) = places o.steps o.answers o.settled commit.thread (part_at b commit.thread) (tells.carried commit.thread) before l after is in
+    let alone = left_alone s b o tells commit before l after old new place named in
+    let shown = counts_so law c.settled_journals_follow_the_tables.ensures.some s b o tells commit done before l after old new place shows alone in
     (old, new, place, shown.0, shown.1)

@@ -2,4 +2,4 @@ use Rattle.xa_transcript.proofs.Sums.{sums_of_shares}
 use Rattle.xa_transcript.proofs.laws.values_are_sums_of_shares.Goals as goal
 
 pub returns : goal.returns
-returns c = sums_of_shares c.settled_journals_follow_the_tables.ensures.first c.late_requests_add_nothing.ensures
+returns c = sums_of_shares c.settled_journals_follow_the_tables.ensures.first

@@ -2,4 +2,4 @@ use Rattle.xa_transcript.proofs.Shown.{all_prepared}
 use Rattle.xa_transcript.proofs.laws.what_commits_was_prepared.Goals as goal
 
 pub returns : goal.returns
-returns c = λ s answers settled t told. all_prepared s answers settled t told
+returns c = λ steps answers settled t first told. all_prepared steps answers settled t first told

@@ -1,11 +1,12 @@
 use Rattle.std.proofs.Common.{◌≡◌, map, take}
 use Rattle.std.specs.Prelude.{All}
-use Rattle.xa_transcript.specs.Values.{name_of, IsWorth}
+use Rattle.xa_transcript.specs.Values.{name_of}
+use Rattle.xa_transcript.proofs.Worth.{WorthAfter}
 use Rattle.xa_transcript.proofs.values.values_of.Given as goal
 
 -- the first keys stand there with their values
 abbrev pub invariant-loop-declared : goal.invariant-loop-declared
 invariant-loop-declared l = record {
   named : map name_of l.values.items ≡ map name_of (take l.declared-index l.keys);
-  worth : All (IsWorth l.script l.settled) l.values.items;
+  worth : All (WorthAfter l.script l.settled) l.values.items;
 }

@@ -1,8 +1,9 @@
-use Rattle.std.proofs.Common.{◌≡◌, ℕ, List, ◌++◌, ◌+◌, sym, ap, subst, ◌∙◌}
+use Rattle.std.proofs.Common.{◌≡◌, ℕ, List, ◌++◌, ◌+◌, refl, sym, ap, subst, ◌∙◌}
 use Rattle.std.specs.Prelude.{Ok}
 use Rattle.std.proofs.lemmas.Result.{err_from_is_err_and}
 use Rattle.xa_grammar.specs.Text.{lines_of}
 use Rattle.xa_grammar.specs.Grammar.{script_from, after_line, FailsAt}
+use Rattle.xa_grammar.proofs.OneOpening.{after_one}
 use Rattle.xa_grammar.proofs.Lines.{goes_further, stops_there}
 use Rattle.xa_grammar.proofs.read.Reading.end_line.Goals as goal
 
@@ -21,3 +22,10 @@ returns-clause-ok c = λ bytes.
     let taken : after_line r.threads_mode r.script r.number r.line.items ≡ Ok t = ap (after_line r.threads_mode r.script r.number) (sym c.deref.ensures.value) ∙ c.in_ok-read_line.ensures.ok in
     goes_further r.threads_mode r.script t r.number r.line.items bytes r.no_end taken
     ∙ ap (λ (xs : List ℕ). script_from r.threads_mode (r.number + 1) t (lines_of (xs ++ bytes))) (sym c.clear.ensures.items)
+
+pub returns-clause-one : goal.returns-clause-one
+returns-clause-one c =
+    let r = c.args.self.now in
+    let t = c.read_line.new.script in
+    let taken : after_line r.threads_mode r.script r.number r.line.items ≡ Ok t = ap (after_line r.threads_mode r.script r.number) (sym c.deref.ensures.value) ∙ c.in_ok-read_line.ensures.ok in
+    (refl, λ threads all. after_one r.threads_mode r.script t r.number r.line.items taken threads all)

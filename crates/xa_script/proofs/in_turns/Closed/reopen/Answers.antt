@@ -1,0 +1,25 @@
+use Rattle.std.proofs.Common.{◌≡◌, ℕ, suc, ◌+◌, List, sym, refl, ap, ◌∙◌, subst, arith}
+use Rattle.xa_grammar.specs.Content.{Content}
+use Rattle.xa_session.specs.declared.session.Session.{Session}
+use Rattle.xa_transcript.specs.Planning.{AreNumbersOf}
+use Rattle.xa_script.specs.Openings.{IsOpen}
+use Rattle.xa_script.proofs.Reopened.{next, follows, open_again}
+use Rattle.xa_script.proofs.in_turns.Closed.reopen.Goals as goal
+
+pub returns-clause-opened : goal.returns-clause-opened
+returns-clause-opened g c = λ b o line closed same number.
+    let s : Content = c.args.script.now in
+    let again = c.again_of-again.result in
+    let settled = c.args.self.settled in
+    let desks = c.in-Ok.opened.0.items in
+    let workers = c.in-Ok.opened.1.items in
+    let zs = c.in-Ok.opened.2.items in
+    let logs = c.args.self.logs.items in
+    let next_number : c.args.self.opening + 1 ≡ suc b.opening = omega (arith, number) in
+    let numbers : AreNumbersOf s (suc b.opening) again = subst (λ n. AreNumbersOf s n again) next_number c.again_of-again.ensures in (
+      next s b o closed.left closed.comes settled same again numbers desks workers zs logs closed.logs_are c.in-Ok.ensures.opened c.in-Ok.ensures.scans,
+      follows s b o closed.left closed.comes settled same again numbers desks workers zs logs closed.logs_are c.in-Ok.ensures.opened c.in-Ok.ensures.scans line,
+      numbers.opening_,
+      subst (λ (l : List Session). IsOpen s (next s b o closed.left closed.comes settled same again numbers desks workers zs logs closed.logs_are c.in-Ok.ensures.opened c.in-Ok.ensures.scans) l workers) (sym c.in_ok-sessions.ensures)
+          (open_again s b o closed.left closed.comes settled same again numbers desks workers zs logs closed.logs_are c.in-Ok.ensures.opened c.in-Ok.ensures.scans),
+    )

@@ -1,0 +1,38 @@
+use Rattle.std.proofs.Common.{◌≡◌, ℕ, ◌+◌, List, [], ◌∷◌, map, Some, refl, sym, ap, subst}
+use Rattle.std.specs.Prelude.{slice_get}
+use Rattle.xa_base.proofs.Lists.{was_mapped}
+use Rattle.xa_desk.specs.DeskView.{DeskView}
+use Rattle.xa_worker.specs.Workers.{WorkerView}
+use Rattle.xa_switch.specs.Plans.{planned}
+use Rattle.xa_switch.specs.Openings.{AreOfOneOpening}
+use Rattle.xa_grammar.specs.Content.{Content}
+use Rattle.xa_session.specs.declared.session.Session.{Session}
+use Rattle.xa_session.specs.Sessions.{new_session, new_sessions}
+use Rattle.xa_transcript.specs.Openings.{beginning}
+use Rattle.xa_transcript.specs.Runs.{BeginsAs}
+use Rattle.xa_transcript.proofs.Opened.{planned_setup}
+use Rattle.xa_script.specs.Openings.{IsOpen}
+use Rattle.xa_script.proofs.in_turns.Runner.open.Goals as goal
+
+desks_of_new : (s : Content) (desks : List DeskView) → map (λ (x : Session). x.desk) (new_sessions s desks) ≡ desks
+desks_of_new s [] = refl
+desks_of_new s (d ∷ desks) = ap (λ l. d ∷ l) (desks_of_new s desks)
+
+begin_so : (s : Content) (desks : List DeskView) (k : ℕ) (x : Session) → slice_get (new_sessions s desks) k ≡ Some x → BeginsAs (beginning s) (k + 1) x
+begin_so s desks k x at = let d = was_mapped (new_session s) desks k x at in subst (BeginsAs (beginning s) (k + 1)) d.2 (record { log = refl; scan = refl })
+
+pub returns-clause-opened : goal.returns-clause-opened
+returns-clause-opened g c =
+    let s : Content = c.args.script.now in
+    let desks : List DeskView = c.in-Ok.opened.0.items in
+    let workers : List WorkerView = c.in-Ok.opened.1.items in
+    let p = c.in_ok-plan.plan in
+    subst (λ (l : List Session). IsOpen s (beginning s) l workers) (sym c.in_ok-sessions.ensures)
+    (record {
+      opened = record {
+        setup = planned p;
+        said = planned_setup s p c.in_ok-plan.ensures.plan c.in_ok-plan.ensures.sound;
+        opened = subst (λ (ds : List DeskView). AreOfOneOpening (planned p) ds workers) (sym (desks_of_new s desks)) c.in-Ok.ensures.opened;
+      };
+      begins = begin_so s desks;
+    })

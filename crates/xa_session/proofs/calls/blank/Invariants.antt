@@ -1,0 +1,9 @@
+use Rattle.std.proofs.Common.{◌≡◌, ◌≤◌, length}
+use Rattle.std.specs.Prelude.{vec_capacity}
+use Rattle.xa_session.proofs.calls.blank.Given as goal
+
+abbrev pub invariant-loop : goal.invariant-loop
+invariant-loop l = record {
+  many : length l.xids.items ≡ l.counter;
+  room : l.room ≤ vec_capacity l.xids;
+}
