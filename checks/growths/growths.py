@@ -24,7 +24,7 @@ SCRIPTS = [
     ("threads", "examples/transfer"),
     ("turns", "tests/completing/any_completion_is_collected"),
     ("turns", "tests/shut/what_stands_after_a_shut_is_late"),
-    ("turns", "tests/reopening/what_was_prepared_is_listed"),
+    ("turns", "tests/resolving/what_has_no_record_is_rolled_back"),
     ("turns", "tests/commitall/a_transfer_over_three_managers_commits"),
 ]
 
@@ -44,6 +44,7 @@ THINGS = {
     "worker": b"made",
     "switch": b"made",
     "reopen": b"made",
+    "resolve": b"made",
     "settle": b"made",
     "strangers": b"stranger",
     "missing": b"missing",

@@ -51,6 +51,7 @@ key 1 a 100
 1 complete 0 0 multiple
 1 commitall g 1 2
 1 recover 1 4 startrscan endrscan
+1 resolve
 turn 1
 reopen
 # a comment""".split("\n")
@@ -58,7 +59,7 @@ reopen
 LIMITS = [1, 2, 4, 8, 16, 32, 64, 256, 512, 4096, 100_000, 1_000_000, 10**12, 2**31 - 1, 2**32 - 1, 10**18 - 1, 2**63, 2**64]
 NUMBERS = sorted({str(limit + by) for limit in LIMITS for by in (-1, 0, 1)}) + ["-1", "-0", "00", "01", "+1", "1e3", "0x1", "--1", "1.", "-" + "9" * 18, "9" * 19, "0" * 18 + "1"]
 NAMES = ["a", "z9", "0", "k" * 16, "k" * 17, "A", "g.1", "g", ".1", "g.", "g.1.1", "g" * 64 + ".1", "g" * 65 + ".1", "g." + "b" * 64, "g." + "b" * 65, "g.A", "g-1", "é"]
-WORDS = sorted({word for line in LINES for word in line.split()}) + NUMBERS + NAMES + ["resolve", "#", "1#", ""]
+WORDS = sorted({word for line in LINES for word in line.split()}) + NUMBERS + NAMES + ["#", "1#", ""]
 
 
 def replaced():
@@ -100,7 +101,7 @@ def a_call(rnd):
         f"{t} rollback {m} {xid}{flags}", f"{t} {rnd.choice(['forget', 'heurcom', 'heurrb'])} {m} {xid}{flags}", f"{t} close {m}{flags}", f"{t} commitall {rnd.choice('gh')} 1 2", f"{t} commitall {xid[0]} {m}",
         f"{t} complete {m} {rnd.randint(0, 4)}{rnd.choice([' nowait', ' nowait multiple', ' multiple', ''])}",
         f"{t} complete 0 0 multiple{rnd.choice(['', ' nowait'])}", f"{t} shut {m}{flags}" if rnd.random() < 0.1 else f"{t} open {m}", f"turn {m}" if rnd.random() < 0.3 else "",
-        f"{t} recover {m} {rnd.randint(0, 3)}{rnd.choice(['', ' startrscan', ' startrscan', ' startrscan endrscan', ' endrscan'])}", "reopen" if rnd.random() < 0.2 else f"{t} open {m}",
+        f"{t} recover {m} {rnd.randint(0, 3)}{rnd.choice(['', ' startrscan', ' startrscan', ' startrscan endrscan', ' endrscan'])}", "reopen" if rnd.random() < 0.2 else f"{t} open {m}", f"{t} resolve" if rnd.random() < 0.5 else f"{t} open {m}",
     ])
 
 

@@ -1,10 +1,12 @@
 //! Days of two tellers over three stores.
 mod crowded;
 
-ghost use Rattle.std.specs.Prelude.{◌≡◌};
+ghost use Rattle.std.specs.Prelude.{◌≡◌, length};
 
 use std::alloc::Global;
 use std::process::Abort;
+use std::sync::Wait;
+use std::thread::Threads;
 use xa_bank::{Outcome, Teller, Transfer, run_day};
 use xa_driver::Ending;
 use xa_switch::{ManagerPlan, Plan, Settled};
@@ -93,15 +95,17 @@ fn is_whole(outcome: &Outcome) -> bool {
     }
 }
 
-#[test]
-fn money_stays_in_the_bank(rt: HostRuntime) {
-    let alloc = rt.alloc();
-    let plan = plan_of(&rt, alloc, 2, STORES);
-    let both = [teller_of(&rt, alloc, 60), teller_of(&rt, alloc, 60)];
-    let Ok(tellers) = Vec::from_array(alloc, both) else {
-        panic!(rt; "memory");
-    };
-    let day = run_day(&rt, alloc, &plan, tellers).expect(&rt, "a day");
+// Whether any transfer was committed on a day of so many tellers. All accounts together have what they had.
+fn commits_on_a_day<R: Threads + Wait + Abort + Copy + Send + 'static>(
+    rt: &R,
+    alloc: Global,
+    threads: u32,
+    tellers: Vec<Teller>,
+) -> bool
+    requires { length tellers.items ≡ threads }
+{
+    let plan = plan_of(rt, alloc, threads, STORES);
+    let day = run_day(rt, alloc, &plan, tellers).expect(rt, "a day");
     let mut committed = false;
     for attended in &day.clients {
         let teller = &attended.client;
@@ -114,8 +118,28 @@ fn money_stays_in_the_bank(rt: HostRuntime) {
             }
         }
     }
-    assert!(rt; committed);
-    assert_eq!(rt; sum_of(&rt, &day.settled), 6 * START);
+    assert_eq!(rt; sum_of(rt, &day.settled), 6 * START);
+    committed
+}
+
+// Two tellers may stand in each other's way all day, so that nothing is committed.
+#[test]
+fn money_stays_in_the_bank(rt: HostRuntime) {
+    let alloc = rt.alloc();
+    let both = [teller_of(&rt, alloc, 60), teller_of(&rt, alloc, 60)];
+    let Ok(tellers) = Vec::from_array(alloc, both) else {
+        panic!(rt; "memory");
+    };
+    let _ = commits_on_a_day(&rt, alloc, 2, tellers);
+}
+
+#[test]
+fn a_teller_alone_is_in_nobody_s_way(rt: HostRuntime) {
+    let alloc = rt.alloc();
+    let Ok(tellers) = Vec::from_array(alloc, [teller_of(&rt, alloc, 60)]) else {
+        panic!(rt; "memory");
+    };
+    assert!(rt; commits_on_a_day(&rt, alloc, 1, tellers));
 }
 
 #[test]

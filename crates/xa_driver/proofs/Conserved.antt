@@ -36,7 +36,7 @@ use Rattle.xa_driver.specs.Trace.{IsCommit, AreBranchesRising, has_branch_at}
 use Rattle.xa_driver.specs.Commits.{HasSentNoCommit, NoCommitWasSent}
 use Rattle.xa_driver.specs.Outcomes.{EachOutcome, AreLeftAlone, has_committed, is_committed, is_rolled_back, is_in_doubt, is_heuristic, is_left, is_read_only}
 use Rattle.xa_driver.specs.Conservation.{taken_before, added_before, added_by_all, total_in_doubt, held_in_doubt, OnlyTransfers, opened, worked, committed}
-use Rattle.xa_driver.proofs.Tabled.{Tabled}
+use Rattle.xa_driver.specs.Tabled.{Tabled}
 use Rattle.xa_driver.proofs.Moves.{is_within, outside, moved_parted, moved_none, moved_without, moved_alike, moved_nothing, no_commits, all_earlier, none_plus, plus_none}
 use Rattle.xa_driver.proofs.OneOutcome.{committed_law}
 use Rattle.xa_driver.proofs.Settled.{Both, all_outcomes, growth_law, grown_on, unchanged, by_ledger}

@@ -1,10 +1,8 @@
 -- What became of a branch that nobody else named, but for heuristic decisions, over the settled history of its manager.
 use Rattle.std.specs.Prelude.{◌⊎◌}
-use Rattle.std.proofs.Common.{◌≡◌, ◌≢◌, ℕ, zero, suc, ◌+◌, inl, inr, Bool, true, false, ◌==◌, ◌||◌, if◌then◌else◌, List, [], ◌∷◌, ◌++◌, length, append-nil, append_assoc, slice_get, get_or, sym, refl, ap, ◌∙◌, subst, arith, Option, Some, None}
+use Rattle.std.proofs.Common.{◌≡◌, ◌≢◌, ℕ, suc, ◌+◌, ◌<◌, inl, inr, Bool, true, false, ◌||◌, if◌then◌else◌, List, [], ◌∷◌, ◌++◌, length, append-nil, append_assoc, slice_get, get_or, sym, refl, ap, ◌∙◌, subst, arith, Option, Some, None}
 use Rattle.std.specs.List.{All, cons_option}
-use Rattle.std.proofs.lemmas.Bool.{and_right, ne_eqb}
 use Rattle.xa_words.specs.Xid.{XidName, xid_eq}
-use Rattle.xa_words.specs.Orders.{Decides-xid_eq}
 use Rattle.xa_words.specs.declared.code.Code.{Code}
 use Rattle.xa_words.specs.declared.code.Code.TheVariants.{Done, RbIntegrity, HeurRb, HeurCom, RmFail}
 use Rattle.xa_words.specs.declared.request.Op.{Op}
@@ -19,7 +17,7 @@ use Rattle.xa_tables.proofs.Unnamed.{tables_after-append, unnamed_fate}
 use Rattle.xa_tables.specs.History as history
 use Rattle.xa_tables.specs.History.{History, Fate, fate, fate_in, fates_in, fate_of, coded, of_thread, tables_after, last_or, is_done, is_rolled_back, is_in_doubt as is_unknown, prepare_fate, decided_fate, heur_fate, IsFateOf}
 use Rattle.xa_tables.specs.Openings.{IsOpening}
-use Rattle.xa_tables.specs.Prepared.{names, OnlyDecides, LeavesWaiting, AwaitsTheOutcome, AwaitsAfter, IsTold, closes, is_close, is_heur, is_forget, answer_when, fates_when}
+use Rattle.xa_tables.specs.Prepared.{names, OnlyDecides, LeavesWaiting, AwaitsTheOutcome, AwaitsAfter, IsTold, closes, is_heur, is_forget, answer_when, fates_when}
 use Rattle.xa_desk.specs.LedgerView.{LedgerView, is_rm_fail}
 use Rattle.xa_desk.specs.Lanes.{numbered}
 use Rattle.xa_switch.specs.Settling.{answers}
@@ -33,23 +31,37 @@ use Rattle.xa_driver.specs.Endings.{ending_of, yes_ending, no_ending, is_heurist
 use Rattle.xa_driver.specs.Trace.{BranchTrace}
 use Rattle.xa_driver.specs.Outcomes.{IsBetween, OnlyTheseOrDecisionsName, IsAfterShut, IsDecidedAfter, told_fate, is_left, is_in_doubt, is_heuristic}
 use Rattle.xa_driver.proofs.Placing.{request_of, all_later, fates, fates_both, fate_is}
-use Rattle.xa_driver.proofs.Tabled.{Tabled}
+use Rattle.xa_driver.proofs.Requests.{self, closes_other, all_left, all_after}
+use Rattle.xa_driver.specs.Tabled.{Tabled}
 use Rattle.xa_driver.proofs.Courses.{yes_is, read_is, First, first, Second, second_of, Sends, SendsOne, Course, Unreached, Reads, Breaks, Stays, Agrees, Refuses, course_of}
 
-self : (x : XidName) → xid_eq x x ≡ true
-self x = (Decides-xid_eq x x).1 refl
+-- ---- who may name the branch
 
-closes_other : (t : ℕ) (r : Request) → r.thread ≢ t → closes t r ≡ false
-closes_other t r differs = and_right (is_close r.op) (r.thread == t) (ne_eqb r.thread t differs)
+-- A request after thread t's number n, which may be a heuristic decision; else it names the branch only as one of t's own, up
+-- to before number `last`.
+abbrev pub IsAllowed : ℕ → XidName → ℕ → ℕ → Request → Type 0
+IsAllowed t x n last q = names x q.op ≡ true → is_heur q.op ≡ false → IsBetween t n last q
 
-all_left : {A : Type 0} (Q : A → Type 0) (xs ys : List A) → All Q (xs ++ ys) → All Q xs
-all_left Q [] ys h k d lt = absurd (omega arith)
-all_left Q (x ∷ xs) ys h zero d lt = h 0 d (omega arith)
-all_left Q (x ∷ xs) ys h (suc k) d lt = all_left Q xs ys (λ j e l. h (suc j) e (omega arith)) k d (omega arith)
+-- others name it only in heuristic decisions, and close nothing for the thread
+pub leaves_waiting : (t : ℕ) (x : XidName) (n last : ℕ) (mid : History) (S : Request) (rest : History) → All (IsAllowed t x n last) (mid ++ S ∷ rest) → ((k : ℕ) (d : Request) → k < length mid → (get_or mid k d).thread ≢ t) → LeavesWaiting t x mid
+leaves_waiting t x n last mid S rest allowed others k d lt =
+    let differs = others k d lt in (
+      λ named.
+          elim (is_heur (get_or mid k d).op) as (λ b. is_heur (get_or mid k d).op ≡ b → b ≡ true) [
+            | true ↦ λ h. refl
+            | false ↦ λ h. absurd (differs (all_left (IsAllowed t x n last) mid (S ∷ rest) allowed k d lt named h).thread)
+          ] refl,
+      closes_other t (get_or mid k d) differs,
+    )
 
-all_right : {A : Type 0} (Q : A → Type 0) (xs : List A) (y : A) (ys : List A) → All Q (xs ++ y ∷ ys) → All Q ys
-all_right Q [] y ys h k d lt = h (suc k) d (omega arith)
-all_right Q (x ∷ xs) y ys h k d lt = all_right Q xs y ys (λ j e l. h (suc j) e (omega arith)) k d lt
+-- where what the thread itself still sends of it are Forgets, the rest only decides it
+pub only_decides : (t : ℕ) (x : XidName) (n last : ℕ) (mid : History) (S : Request) (rest : History) → All (IsAllowed t x n last) (mid ++ S ∷ rest)
+    → ((k : ℕ) (d : Request) → k < length rest → (get_or rest k d).thread ≡ t → (get_or rest k d).number < last → is_forget (get_or rest k d).op ≡ true) → OnlyDecides x rest
+only_decides t x n last mid S rest allowed forgets k d lt named =
+    elim (is_heur (get_or rest k d).op) as (λ b. is_heur (get_or rest k d).op ≡ b → (b || is_forget (get_or rest k d).op) ≡ true) [
+      | true ↦ λ h. refl
+      | false ↦ λ h. let between = all_after (IsAllowed t x n last) mid S rest allowed k d lt named h in forgets k d lt between.thread between.below
+    ] refl
 
 -- ---- decisions that were carried out
 
@@ -181,29 +193,14 @@ module _ (law : Tabled) (t : ℕ) (x : XidName) (T : Tables) (H : History) (open
     abbrev all_before : History
     all_before = f.parted.before ++ request_of t n P ∷ s.mid
 
-    abbrev Allowed : Request → Type 0
-    Allowed q = names x q.op ≡ true → is_heur q.op ≡ false → IsBetween t n last q
-
-    allowed : All Allowed (s.mid ++ S ∷ s.rest)
-    allowed = subst (All Allowed) s.split (only f.parted.before f.parted.after (request_of t n P) f.parted.place refl refl)
+    allowed : All (IsAllowed t x n last) (s.mid ++ S ∷ s.rest)
+    allowed = subst (All (IsAllowed t x n last)) s.split (only f.parted.before f.parted.after (request_of t n P) f.parted.place refl refl)
 
     waiting : LeavesWaiting t x s.mid
-    waiting k d lt =
-        let differs = s.others k d lt in (
-          λ named.
-              elim (is_heur (get_or s.mid k d).op) as (λ b. is_heur (get_or s.mid k d).op ≡ b → b ≡ true) [
-                | true ↦ λ h. refl
-                | false ↦ λ h. absurd (differs (all_left Allowed s.mid (S ∷ s.rest) allowed k d lt named h).thread)
-              ] refl,
-          closes_other t (get_or s.mid k d) differs,
-        )
+    waiting = leaves_waiting t x n last s.mid S s.rest allowed s.others
 
     decides_rest : OnlyDecides x s.rest
-    decides_rest k d lt named =
-        elim (is_heur (get_or s.rest k d).op) as (λ b. is_heur (get_or s.rest k d).op ≡ b → (b || is_forget (get_or s.rest k d).op) ≡ true) [
-          | true ↦ λ h. refl
-          | false ↦ λ h. let between = all_right Allowed s.mid S s.rest allowed k d lt named h in z.forgets s.rest s.later k d lt between.thread between.below
-        ] refl
+    decides_rest = only_decides t x n last s.mid S s.rest allowed (λ k d lt own below. z.forgets s.rest s.later k d lt own below)
 
     code_there : c ≡ (next t op (tables_after all_before T)).1
     code_there = s.code ∙ ap (λ (U : Tables). (next t op U).1) (sym s.there_is)

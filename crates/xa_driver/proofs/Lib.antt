@@ -8,7 +8,6 @@ pub mod EachManager
 pub mod Aborts
 pub mod Placing
 pub mod Moves
-pub mod Tabled
 pub mod Courses
 pub mod Values
 pub mod Fated
@@ -17,3 +16,17 @@ pub mod Settled
 pub mod Conserved
 pub mod Staying
 pub mod Kept
+pub mod Alone
+pub mod EachLeft
+pub mod Requests
+pub mod Leading
+pub mod Resolves
+pub mod Naming
+pub mod Records
+pub mod Voting
+pub mod Quiet
+pub mod Answered
+pub mod Later
+pub mod Ends
+pub mod Counting
+pub mod Resolution

@@ -41,7 +41,7 @@ use Rattle.xa_base.proofs.Truth.{by_if}
 use Rattle.xa_driver.specs.Conservation.{taken_before}
 use Rattle.xa_driver.proofs.Moves.{is_within}
 use Rattle.xa_driver.proofs.EachManager.{every_manager}
-use Rattle.xa_driver.proofs.Tabled.{Tabled}
+use Rattle.xa_driver.specs.Tabled.{Tabled}
 use Rattle.xa_driver.proofs.Values.{Counted, branch_counts}
 use Rattle.xa_driver.proofs.Fated.{Told, branch_told}
 

@@ -19,7 +19,7 @@ pub record IsOpen (n : ℕ) (a : LedgerView) : Type 0 where
   pub sent : n < length a.sent
   pub open_ : is_collected a n ≡ false
 
-asked_leaves_open : (a : LedgerView) (op : Option Op) (code : Option Code) (n : ℕ) → IsOpen n a → IsOpen n (asked a op code)
+pub asked_leaves_open : (a : LedgerView) (op : Option Op) (code : Option Code) (n : ℕ) → IsOpen n a → IsOpen n (asked a op code)
 asked_leaves_open a None code n h = h
 asked_leaves_open a (Some op) None n h = h
 asked_leaves_open a (Some op) (Some c) n h =

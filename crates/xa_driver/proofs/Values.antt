@@ -1,12 +1,12 @@
 -- What a branch that nobody else named counts for, over the settled history of its manager: its additions, and what the
 -- call's requests moved.
 use Rattle.std.specs.Prelude.{ℤ, pos, ◌+ℤ◌, nat_le, option_map}
-use Rattle.std.proofs.Common.{◌≡◌, ◌≢◌, ℕ, zero, suc, ◌+◌, ◌<◌, ◌≤◌, inl, inr, Bool, true, false, ◌==◌, ◌&&◌, ◌||◌, if◌then◌else◌, List, [], ◌∷◌, ◌++◌, length, append_assoc, slice_get, get_or, sym, refl, ap, ◌∙◌, subst, arith, Option, Some, None}
+use Rattle.std.proofs.Common.{◌≡◌, ◌≢◌, ℕ, suc, ◌+◌, ◌<◌, ◌≤◌, inl, inr, Bool, true, false, ◌==◌, ◌&&◌, ◌||◌, if◌then◌else◌, List, [], ◌∷◌, ◌++◌, length, append_assoc, slice_get, get_or, sym, refl, ap, ◌∙◌, subst, arith, Option, Some, None}
 use Rattle.std.specs.List.{All, cons_option}
-use Rattle.std.proofs.lemmas.Bool.{and_right, and_parts, ne_eqb, eqb-true, leb-true, cases_lt}
+use Rattle.std.proofs.lemmas.Bool.{and_parts, eqb-true, leb-true, cases_lt}
 use Rattle.xa_words.specs.Xid.{XidName, xid_eq}
 use Rattle.xa_words.specs.Key.{key_eq}
-use Rattle.xa_words.specs.Orders.{Decides-xid_eq, Decides-key_eq}
+use Rattle.xa_words.specs.Orders.{Decides-key_eq}
 use Rattle.xa_words.specs.declared.code.Code.{Code}
 use Rattle.xa_words.specs.declared.code.Code.TheVariants.{Done, RdOnly, RmFail}
 use Rattle.xa_words.specs.declared.request.Op.{Op}
@@ -21,7 +21,7 @@ use Rattle.xa_tables.specs.History as history
 use Rattle.xa_tables.specs.History.{History, Fate, fates_in, fate_of, coded, of_thread, tables_after, is_done, is_read_only, is_rolled_back, is_integrity, prepare_fate, rollback_fate, ending, ending_by, or_later, commits_later, added_by, share, share_of, EndsNowhere}
 use Rattle.xa_tables.specs.Openings.{IsOpening}
 use Rattle.xa_tables.specs.Worth.{moved, moved_by, held_by}
-use Rattle.xa_tables.specs.Prepared.{names, NamesNowhere, LeavesWaiting, AwaitsTheOutcome, closes, is_close, is_forget, fates_when}
+use Rattle.xa_tables.specs.Prepared.{names, NamesNowhere, LeavesWaiting, AwaitsTheOutcome, is_forget, fates_when}
 use Rattle.xa_desk.specs.LedgerView.{LedgerView, is_rm_fail}
 use Rattle.xa_desk.specs.Lanes.{numbered}
 use Rattle.xa_switch.specs.Settling.{answers}
@@ -39,11 +39,9 @@ use Rattle.xa_driver.specs.Conservation.{taken_before}
 use Rattle.xa_driver.proofs.Moves.{is_within, inside, outside, moved_both, moved_none, moved_at, moved_without, all_earlier, taken_is, none_plus, plus_none}
 use Rattle.xa_base.proofs.Truth.{by_if, at_true}
 use Rattle.xa_driver.proofs.Placing.{request_of, Parted, all_later, sides, fates, fates_both, none_first}
-use Rattle.xa_driver.proofs.Tabled.{Tabled}
+use Rattle.xa_driver.proofs.Requests.{self, closes_other, all_left, all_after}
+use Rattle.xa_driver.specs.Tabled.{Tabled}
 use Rattle.xa_driver.proofs.Courses.{yes_is, read_is, First, first, first_at, Second, second_of, Sends, SendsOne, Course, Unreached, Reads, Breaks, Stays, Agrees, Refuses, course_of}
-
-self : (x : XidName) → xid_eq x x ≡ true
-self x = (Decides-xid_eq x x).1 refl
 
 -- a history that doesn't name the branch makes nothing of it
 unnamed : (x : XidName) (h : History) (T : Tables) → NamesNowhere x h → fates x h T ≡ []
@@ -110,18 +108,6 @@ never_named t x first last q only later =
     ] refl
 
 -- another thread's request doesn't close the manager for the thread
-closes_other : (t : ℕ) (r : Request) → r.thread ≢ t → closes t r ≡ false
-closes_other t r differs = and_right (is_close r.op) (r.thread == t) (ne_eqb r.thread t differs)
-
-all_left : {A : Type 0} (Q : A → Type 0) (xs ys : List A) → All Q (xs ++ ys) → All Q xs
-all_left Q [] ys h k d lt = absurd (omega arith)
-all_left Q (x ∷ xs) ys h zero d lt = h 0 d (omega arith)
-all_left Q (x ∷ xs) ys h (suc k) d lt = all_left Q xs ys (λ j e l. h (suc j) e (omega arith)) k d (omega arith)
-
-all_right : {A : Type 0} (Q : A → Type 0) (xs : List A) (y : A) (ys : List A) → All Q (xs ++ y ∷ ys) → All Q ys
-all_right Q [] y ys h k d lt = h (suc k) d (omega arith)
-all_right Q (x ∷ xs) y ys h k d lt = all_right Q xs y ys (λ j e l. h (suc j) e (omega arith)) k d lt
-
 -- requests that name the branch only to forget it make nothing of it
 forgets_fate : (x : XidName) (op : Op) (c : Code) → (names x op ≡ true → is_forget op ≡ true) → fate_of x op c ≡ None
 forgets_fate x op c f =
@@ -258,7 +244,7 @@ module _ (law : Tabled) (t : ℕ) (x : XidName) (T : Tables) (H : History) (open
 
     forgets_rest : All (λ q. names x q.op ≡ true → is_forget q.op ≡ true) s.rest
     forgets_rest k d lt named =
-        let between : IsBetween t n last (get_or s.rest k d) = all_right (λ (q : Request). names x q.op ≡ true → IsBetween t n last q) s.mid S s.rest only_parts k d lt named in
+        let between : IsBetween t n last (get_or s.rest k d) = all_after (λ (q : Request). names x q.op ≡ true → IsBetween t n last q) s.mid S s.rest only_parts k d lt named in
         z.forgets s.rest s.later k d lt between.thread between.below
 
     -- the two make something of the branch, and nothing else after the Prepare does

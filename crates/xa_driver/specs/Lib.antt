@@ -5,7 +5,11 @@ pub mod Endings
 pub mod Asks
 pub mod Rounds
 pub mod Trace
+pub mod Resolving
 pub mod Commits
+pub mod Tabled
 pub mod Outcomes
 pub mod Additions
 pub mod Conservation
+pub mod Resolution
+pub mod Worth

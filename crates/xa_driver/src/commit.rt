@@ -42,12 +42,12 @@ fn decide<L: DecisionLog>(log: &mut L, tran: Tran, yes: Yes, votes: &[Code]) -> 
 /// Commits the branches of a global transaction in two phases, by presumed abort (Mohan, Lindsay and
 /// Obermarck, 1986).
 ///
-/// It sends a Prepare to every branch before it collects any, and decides commit where no vote is
-/// against. With a yes vote among them the decision is logged before the first Commit is sent; where the
-/// log doesn't take the record, the decision is abort. A branch that only read takes no part in the
-/// second phase. A branch that answers there that it was decided heuristically, with `XA_HEURCOM` or `XA_HEURRB`, is
-/// forgotten (`xa_forget()`), all of these in flight together; what that answers changes no ending. A full lane is idled on and tried again; a manager that is learnt to be shut is sent
-/// nothing, which counts as `XAER_RMFAIL`.
+/// It sends a Prepare to every branch before it collects any, and decides commit where no vote is against. With a yes
+/// vote among them the decision is logged before the first Commit is sent; where the log doesn't take the record, the
+/// decision is abort. A branch that only read takes no part in the second phase. A branch that answers there that it was
+/// decided heuristically, with `XA_HEURCOM` or `XA_HEURRB`, is forgotten (`xa_forget()`), all of these in flight
+/// together; what that answers changes no ending. A full lane is idled on and tried again; a manager that is learnt to be
+/// shut is sent nothing, which counts as `XAER_RMFAIL`.
 pub fn commit_all<R: Wait, L: DecisionLog, I: Idle>(
     rt: &R,
     alloc: Global,

@@ -5,7 +5,7 @@
 //! it goes on (`xa_desk::laws::desks_go_on` joins two such calls) and `settle` has the lists with
 //! which the desk ended. That nobody else names a branch after its Prepare is for the caller to know.
 ghost use Rattle.std.specs.List.{All, list_any};
-ghost use Rattle.std.specs.Prelude.{◌≡◌, ℕ, ◌≤◌, ℤ, pos, ◌+ℤ◌, true, false, List, length};
+ghost use Rattle.std.specs.Prelude.{◌≡◌, ℕ, ◌≤◌, ℤ, pos, ◌+ℤ◌, true, false, List, [], ◌∷◌, ◌++◌, length};
 ghost use Rattle.xa_base.specs.Sums.{total};
 ghost use Rattle.xa_words.specs.Tran.{TranName};
 ghost use Rattle.xa_desk.specs.LedgerView.{LedgerView};
@@ -22,9 +22,12 @@ ghost use Rattle.xa_driver.specs.declared.done.Done.{Done};
 ghost use Rattle.xa_driver.specs.Log.{LogState};
 ghost use Rattle.xa_driver.specs.Trace.{IsCommit, IsTraceOfCommit, IsTranOf, wants_record};
 ghost use Rattle.xa_driver.specs.Commits.{NoCommitWasSent};
+ghost use Rattle.xa_driver.specs.Tabled.{Tabled};
 ghost use Rattle.xa_driver.specs.Outcomes.{AreLeftAlone, AreLeftOrDecided, IsCommittedTransaction, IsAbortedTransaction, KeepsTheVotes, TellsTheFates, has_committed, is_in_doubt, was_refused};
 ghost use Rattle.xa_driver.specs.Conservation.{OnlyTransfers, held_in_doubt};
 ghost use Rattle.xa_driver.specs.Additions.{CountsTheCommitted, HasAllOrNothing, is_decided};
+ghost use Rattle.xa_driver.specs.Resolution.{CommitCall, ResolveCall, Opening, IsResolved, IsAllOrNone};
+ghost use Rattle.xa_driver.specs.Worth.{CountsOver, CountsAllOrNone};
 
 use crate::branch::Branch;
 use crate::done::Done;
@@ -42,6 +45,23 @@ use xa_tables::laws::{
     read_only_branches_hold_nothing, refused_prepares_tell_integrity, shut_managers_decide_nothing,
     tables_tell_the_fates,
 };
+
+/// What the laws of the tables say of one branch, together: the laws below rest on it.
+pub fn tables_keep_to_their_laws()
+    ensures { Tabled }
+{
+    prepared_branches_await_the_outcome();
+    adders_never_vote_read_only();
+    only_a_shut_shuts();
+    late_requests_leave_fates();
+    refused_prepares_tell_integrity();
+    prepared_branches_keep_what_they_hold();
+    read_only_branches_hold_nothing();
+    tables_tell_the_fates();
+    only_prepared_branches_are_decided();
+    shut_managers_decide_nothing();
+    only_completed_branches_tell_a_decision();
+}
 
 /// Of one call alone: where the append failed, no Commit was sent to any manager.
 pub fn failed_append()
@@ -70,17 +90,7 @@ pub fn endings_are_fates()
     ensures values { (s : Settling) (t : ℕ) (bs : List Branch) (desk : DeskView) (new : List LedgerView) (log later : LogState) (done : Done) → IsSettled s → IsCommit bs desk new log later done → HaveGrown new (ledgers_of s t) → AreLeftAlone s t bs desk.ledgers new → CountsTheCommitted s t bs desk.ledgers done }
     ensures whole { (s : Settling) (t : ℕ) (bs : List Branch) (desk : DeskView) (new : List LedgerView) (log later : LogState) (done : Done) → IsSettled s → IsCommit bs desk new log later done → HaveGrown new (ledgers_of s t) → AreLeftAlone s t bs desk.ledgers new → is_decided done ≡ true → HasAllOrNothing s t bs desk.ledgers done }
 {
-    prepared_branches_await_the_outcome();
-    adders_never_vote_read_only();
-    only_a_shut_shuts();
-    late_requests_leave_fates();
-    refused_prepares_tell_integrity();
-    prepared_branches_keep_what_they_hold();
-    read_only_branches_hold_nothing();
-    tables_tell_the_fates();
-    only_prepared_branches_are_decided();
-    shut_managers_decide_nothing();
-    only_completed_branches_tell_a_decision();
+    tables_keep_to_their_laws();
     settled_journals_follow_the_tables();
 }
 
@@ -91,21 +101,34 @@ pub fn transfers_conserve_the_worth()
     ensures conserved { (p : Plan) (s : Settling) (doubt : ℕ → ℤ) → IsSettled s → IsOfPlan p s → All IsSoundManager p.managers.items → ((t : ℕ) → 1 ≤ t → t ≤ p.threads → OnlyTransfers p s t (ledgers_of s t) (doubt t)) → settled_worth p s +ℤ total doubt (threads_of p) ≡ plan_worth p }
     ensures decided { (p : Plan) (s : Settling) (t : ℕ) (old : List LedgerView) (bs : List Branch) (done : Done) → list_any is_in_doubt done.endings.items ≡ false → held_in_doubt p s t old bs done ≡ pos 0 }
 {
-    prepared_branches_await_the_outcome();
-    adders_never_vote_read_only();
-    only_a_shut_shuts();
-    late_requests_leave_fates();
-    refused_prepares_tell_integrity();
-    prepared_branches_keep_what_they_hold();
-    read_only_branches_hold_nothing();
-    tables_tell_the_fates();
-    only_prepared_branches_are_decided();
-    shut_managers_decide_nothing();
-    only_completed_branches_tell_a_decision();
+    tables_keep_to_their_laws();
     branches_hold_their_additions();
     settled_journals_follow_the_tables();
     managers_open_with_their_accounts();
     threads_move_the_worth();
+}
+
+/// Over openings one after another, with a commit in the first and a resolve in the last: each branch of the commit that
+/// voted to commit ended as was decided, also where its fate was unknown as the first opening ended; or it was decided
+/// heuristically, and then its ending, or a resolve of a later opening, tells so. Where it was decided to commit, no vote
+/// was against; where it was decided to abort, no branch was committed. What `resolve` and a reopening promise gives the
+/// premises on the later openings.
+pub fn resolved_transactions_have_one_outcome()
+    ensures { (o : Opening) (between : List Opening) (last : Opening) (c : CommitCall) (q : ResolveCall) → IsResolved o between last c q → IsAllOrNone c o (between ++ last ∷ []) }
+{
+    tables_keep_to_their_laws();
+    settled_journals_follow_the_tables();
+}
+
+/// Over the same openings: of each branch of the commit that voted to commit the values have, after all of them, every
+/// addition where it was committed, be it by a resolve or heuristically, and none where it was rolled back. So but for
+/// branches that were decided heuristically they have all additions of the transaction or none.
+pub fn resolved_transactions_count_where_committed()
+    ensures counts { (o : Opening) (between : List Opening) (last : Opening) (c : CommitCall) (q : ResolveCall) → IsResolved o between last c q → CountsOver c o (between ++ last ∷ []) }
+    ensures whole { (o : Opening) (between : List Opening) (last : Opening) (c : CommitCall) (q : ResolveCall) → IsResolved o between last c q → CountsAllOrNone c o (between ++ last ∷ []) }
+{
+    tables_keep_to_their_laws();
+    settled_journals_follow_the_tables();
 }
 
 /// A commit of several branches only makes its desk's lists grow.

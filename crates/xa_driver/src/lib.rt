@@ -9,6 +9,8 @@ pub mod laws;
 mod log;
 mod may;
 mod memory;
+mod resolved;
+mod resolving;
 mod rounds;
 
 pub use branch::Branch;
@@ -17,3 +19,5 @@ pub use done::{Done, DriverFault, Ending};
 pub use log::{CommitRecord, DecisionLog, LogFault, Yes};
 pub use may::may_commit;
 pub use memory::MemoryLog;
+pub use resolved::{Outcome, ResolveFault, Resolved};
+pub use resolving::{may_resolve, resolve};

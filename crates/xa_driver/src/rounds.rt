@@ -56,7 +56,8 @@ fn is_heuristic(code: Code) -> bool
     )
 }
 
-fn is_decided(code: Code) -> bool
+/// Whether the code tells of a heuristic decision that the manager keeps.
+pub(crate) fn is_decided(code: Code) -> bool
     ensures { result ≡ is_decided code }
 {
     matches!(code, Code::HeurRb | Code::HeurCom)

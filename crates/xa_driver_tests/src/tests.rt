@@ -4,8 +4,11 @@ ghost use Rattle.std.proofs.Common.{◌∙◌};
 ghost use Rattle.xa_switch.specs.Seats.{seat_of_worker};
 
 mod appending;
+mod crash;
 mod endings;
 mod meddling;
+mod pieces;
+mod resolved;
 mod threads;
 mod told;
 

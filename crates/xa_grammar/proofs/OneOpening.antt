@@ -1,9 +1,8 @@
 -- No line that the grammar reads for threads opens the managers again.
-use Rattle.std.specs.Prelude.{◌≡◌, ℕ, Bool, true, false, not, ◌||◌, nat_lt, Option, None, Some, Result, Ok, List, [], ◌∷◌, length}
+use Rattle.std.specs.Prelude.{◌≡◌, ℕ, Bool, true, false, not, ◌||◌, nat_lt, Option, None, Some, Ok, List, [], ◌∷◌, length}
 use Rattle.std.proofs.Common.{refl, sym, ap, ◌∙◌, subst}
-use Rattle.std.specs.List.{list_all, list_any}
+use Rattle.std.specs.List.{list_all}
 use Rattle.std.proofs.lemmas.List.Folds.{list_any-append}
-use Rattle.xa_grammar.specs.declared.fault.Reason.{Reason}
 use Rattle.xa_grammar.specs.declared.fault.Reason.TheVariants.{TooManyLines, LineTooLong, BadByte}
 use Rattle.xa_grammar.specs.declared.script.Step.{Step}
 use Rattle.xa_grammar.specs.declared.script.Step.TheVariants as step
@@ -12,7 +11,7 @@ use Rattle.xa_grammar.specs.declared.line.Head.TheVariants as head
 use Rattle.xa_grammar.specs.declared.line.Item.{Item}
 use Rattle.xa_grammar.specs.declared.line.Item.TheVariants as item
 use Rattle.xa_grammar.specs.Text.{is_script_byte, words_of, without_return}
-use Rattle.xa_grammar.specs.Fields.{◌>>=◌, Word}
+use Rattle.xa_grammar.specs.Fields.{Word}
 use Rattle.xa_grammar.specs.Content.{Content, is_reopen, AreOfOne, with_step}
 use Rattle.xa_grammar.specs.Settings.{setting_of, sync_of, logfail_of, declared_of}
 use Rattle.xa_grammar.specs.Actions.{task_of_line, turn_of, reopen_of}

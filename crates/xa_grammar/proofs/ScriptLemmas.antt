@@ -22,6 +22,7 @@ use Rattle.xa_grammar.specs.declared.script.Action.{Action}
 use Rattle.xa_grammar.specs.declared.script.Action.TheVariants as action
 use Rattle.xa_grammar.specs.declared.script.Called.{Called}
 use Rattle.xa_grammar.specs.declared.script.CommitAll.{CommitAll}
+use Rattle.xa_grammar.specs.declared.script.Resolve.{Resolve}
 use Rattle.xa_grammar.specs.declared.script.Task.{Task}
 use Rattle.xa_grammar.specs.declared.script.Task.TheVariants as task
 use Rattle.xa_grammar.specs.declared.script.Step.{Step}
@@ -40,7 +41,7 @@ use Rattle.xa_base.specs.Lists.{IsUpTo}
 use Rattle.xa_grammar.specs.Content.{Content, IsScript, IsOfManager, IsOfLog, IsOfScript, AsksForFew, HasFewXids, threads_of, managers_of, accounts_of, failing_append, thread_of, with_count, with_key, with_sync, with_failing, with_step}
 use Rattle.xa_grammar.specs.Settings.{before_actions, count_of, not_set, limit_of, setting_of, sync_of, logfail_of, has_key, key_count, declared_of}
 use Rattle.xa_grammar.specs.Commits.{branches_at, commit_of}
-use Rattle.xa_grammar.specs.Actions.{verb_of, action_at, called_of, call_task, commit_task, task_by, task_of_line, turn_of, reopen_of}
+use Rattle.xa_grammar.specs.Actions.{verb_of, action_at, called_of, call_task, commit_task, resolve_task, task_by, task_of_line, turn_of, reopen_of}
 use Rattle.xa_grammar.specs.Grammar.{head_of, item_by, item_of, line_of, with_item}
 
 -- ---- reading without a fault
@@ -364,11 +365,22 @@ commit_is s line t ws p e =
     let whole : task.CommitAll made ≡ p = ap task.CommitAll same ∙ is in
     subst (λ (q : Task). (thread_of q ≡ t) × HasFewXids q) whole (refl, tt)
 
+resolve_is : (line t : ℕ) (ws : List Word) (p : Task) → resolve_task line t ws ≡ Ok p → (thread_of p ≡ t) × HasFewXids p
+unfolding resolve_task
+resolve_is line t ws p e =
+    let last = and_then (end_of ws) _ p e in
+    let made : Resolve = record { line = line; thread = t } in
+    let whole : task.Resolve made ≡ p = ok_is (task.Resolve made) p last.1.1 in
+    subst (λ (q : Task). (thread_of q ≡ t) × HasFewXids q) whole (refl, tt)
+
 task_by_is : (s : Content) (line t : ℕ) (w : Word) (ws : List Word) (p : Task) → task_by s line t w ws ≡ Ok p → (thread_of p ≡ t) × HasFewXids p
 task_by_is s line t w ws p =
-    elim (bytes_eq w (codes "commitall")) as (λ b. (if b then commit_task s line t ws else call_task line t w ws) ≡ Ok p → (thread_of p ≡ t) × HasFewXids p) [
+    elim (bytes_eq w (codes "commitall")) as (λ b. (if b then commit_task s line t ws else (if bytes_eq w (codes "resolve") then resolve_task line t ws else call_task line t w ws)) ≡ Ok p → (thread_of p ≡ t) × HasFewXids p) [
       | true ↦ commit_is s line t ws p
-      | false ↦ call_is line t w ws p
+      | false ↦ elim (bytes_eq w (codes "resolve")) as (λ b. (if b then resolve_task line t ws else call_task line t w ws) ≡ Ok p → (thread_of p ≡ t) × HasFewXids p) [
+        | true ↦ resolve_is line t ws p
+        | false ↦ call_is line t w ws p
+      ]
     ]
 
 task_is : (s : Content) (line : ℕ) (w : Word) (ws : List Word) (p : Task) → task_of_line s line w ws ≡ Ok p → IsOfScript s (step.Task p)

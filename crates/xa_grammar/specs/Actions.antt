@@ -74,6 +74,12 @@ commit_task s line t ws = do
   c ← commit_of s line t ws
   Ok (task.CommitAll c)
 
+-- The words after resolve: there are none.
+unfoldable pub resolve_task : ℕ → ℕ → List Word → Result Task Reason
+resolve_task line t ws = do
+  last ← end_of ws
+  Ok (task.Resolve (record { line = line; thread = t }))
+
 -- Any other verb, with the words after it.
 unfoldable pub call_task : ℕ → ℕ → Word → List Word → Result Task Reason
 call_task line t w ws = do
@@ -83,7 +89,9 @@ call_task line t w ws = do
 
 -- The verb and the words after it.
 abbrev pub task_by : Content → ℕ → ℕ → Word → List Word → Result Task Reason
-task_by s line t w ws = if bytes_eq w (codes "commitall") then commit_task s line t ws else call_task line t w ws
+task_by s line t w ws =
+    if bytes_eq w (codes "commitall") then commit_task s line t ws
+    else (if bytes_eq w (codes "resolve") then resolve_task line t ws else call_task line t w ws)
 
 -- T VERB .., on the line of this number; T is one of the threads.
 unfoldable pub task_of_line : Content → ℕ → Word → List Word → Result Task Reason

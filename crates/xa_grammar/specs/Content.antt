@@ -67,6 +67,7 @@ failing_append s t = if nat_lt 0 t then get_or s.failing (t - 1) None else None
 abbrev pub thread_of : Task → ℕ
 thread_of (task.Call p) = p.thread
 thread_of (task.CommitAll c) = c.thread
+thread_of (task.Resolve r) = r.thread
 
 -- The step where it is a task of thread t.
 abbrev pub task_of : ℕ → Step → Option Task
@@ -145,6 +146,7 @@ AsksForFew (action.Recover n) = n ≤ MOST_COUNT
 abbrev pub HasFewXids : Task → Type 0
 HasFewXids (task.Call p) = AsksForFew p.action
 HasFewXids (task.CommitAll c) = Unit {0}
+HasFewXids (task.Resolve r) = Unit {0}
 
 -- With so many threads and managers, a task is of a thread that there is and asks for at most 64 xids, and a turn is of
 -- a manager that there is.

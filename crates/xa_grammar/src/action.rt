@@ -1,12 +1,12 @@
 //! What a thread is told to do.
 ghost use Rattle.std.specs.Prelude.{◌≡◌};
 ghost use Rattle.xa_grammar.specs.Fields.{Takes};
-ghost use Rattle.xa_grammar.specs.Actions.{verb_of, action_at, called_of, commit_task, call_task, task_by, task_of_line, turn_of, reopen_of};
+ghost use Rattle.xa_grammar.specs.Actions.{verb_of, action_at, called_of, commit_task, resolve_task, call_task, task_by, task_of_line, turn_of, reopen_of};
 
 use crate::commit::{MOST_MANAGER, commit_of};
 use crate::fault::Reason;
 use crate::field::number_in;
-use crate::script::{Action, Called, Script, Task};
+use crate::script::{Action, Called, Resolve, Script, Task};
 use crate::words::Words;
 use xa_words::{Call, RmOp};
 
@@ -116,6 +116,15 @@ fn commit_task(script: &Script, line: u32, thread: u32, words: &mut Words) -> Re
     Ok(Task::CommitAll(commit_of(script, line, thread, words)?))
 }
 
+// The words after `resolve`: there are none.
+#[tactic(auto, unfolding(crate::specs::Actions::resolve_task))]
+fn resolve_task(line: u32, thread: u32, words: &mut Words) -> Result<Task, Reason>
+    ensures { result ≡ resolve_task line thread words.old }
+{
+    words.end()?;
+    Ok(Task::Resolve(Resolve { line, thread }))
+}
+
 // Any other verb, with the words after it.
 #[tactic(auto, unfolding(crate::specs::Actions::call_task))]
 fn call_task(line: u32, thread: u32, verb: &[u8], words: &mut Words) -> Result<Task, Reason>
@@ -137,6 +146,8 @@ fn task_by(
 {
     if verb == b"commitall".as_slice() {
         commit_task(script, line, thread, words)
+    } else if verb == b"resolve".as_slice() {
+        resolve_task(line, thread, words)
     } else {
         call_task(line, thread, verb, words)
     }

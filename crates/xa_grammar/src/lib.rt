@@ -19,4 +19,4 @@ mod words;
 
 pub use fault::{Reason, ScriptFault};
 pub use read::read_script;
-pub use script::{Action, Called, CommitAll, Declared, Script, Step, Task};
+pub use script::{Action, Called, CommitAll, Declared, Resolve, Script, Step, Task};

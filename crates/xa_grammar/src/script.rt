@@ -80,11 +80,21 @@ pub struct CommitAll {
     pub managers: [bool; 8],
 }
 
+/// A resolve, by the thread's log, of what the last reopening found left.
+#[derive(Clone, Copy, Debug, PartialEq, Eq)]
+pub struct Resolve {
+    /// The number of its line, from 1.
+    pub line: u32,
+    /// The thread's number, from 1.
+    pub thread: u32,
+}
+
 /// What a thread does on a line of its own.
 #[derive(Clone, Copy, Debug, PartialEq, Eq)]
 pub enum Task {
     Call(Called),
     CommitAll(CommitAll),
+    Resolve(Resolve),
 }
 
 impl Task {
@@ -97,6 +107,7 @@ impl Task {
         match self {
             Task::Call(called) => called.thread,
             Task::CommitAll(commit) => commit.thread,
+            Task::Resolve(resolve) => resolve.thread,
         }
     }
 }
@@ -297,7 +308,7 @@ impl Script {
         ensures { OnOk result (self.new ≡ with_step step self.old) }
     {
         // It names the types within a step: a `push` of a type that only contains them gets no proof.
-        let _named: Option<(Xid, RmOp, Action, Called, CommitAll, Task)> = None;
+        let _named: Option<(Xid, RmOp, Action, Called, CommitAll, Resolve, Task)> = None;
         self.steps.push(step)?;
         Ok(())
     }

@@ -1,4 +1,4 @@
-//! An opening that is opened again.
+//! An opening that is opened again, and the end of what was left there.
 ghost use Rattle.std.specs.Prelude.{◌≡◌, map};
 ghost use Rattle.xa_switch.specs.Seats.{seat_of_desk, seat_of_worker};
 
@@ -9,9 +9,9 @@ use crate::thing::Came;
 use std::alloc::Global;
 use std::sync::Wait;
 use xa_desk::Desk;
-use xa_driver::Branch;
+use xa_driver::{Branch, MemoryLog, Outcome, may_resolve, resolve};
 use xa_switch::{Again, OpenFault, RmOp, Scan, Settled, reopen, settle, xa_call, xa_recover};
-use xa_words::{Call, Delta, Key, TMENDRSCAN, TMNOFLAGS, TMSTARTRSCAN, Xid};
+use xa_words::{Call, Code, Delta, Key, TMENDRSCAN, TMNOFLAGS, TMSTARTRSCAN, Xid};
 use xa_worker::Worker;
 
 // Adds 1 for the branch, and prepares it.
@@ -68,19 +68,23 @@ fn is_whole<R: Wait>(rt: &R, desks: Vec<Desk>, workers: Vec<Worker>, mut scans: 
     }
 }
 
-/// Opens it again. It is kept where memory was refused.
-pub(crate) fn open_again<R: Wait>(rt: &R, alloc: Global, kept: &mut Option<Settled>) -> Came {
-    let Some(settled) = kept.take() else {
-        return Came::Wrong;
-    };
-    let again = Again {
+// What it is opened again by.
+fn again() -> Again {
+    Again {
         opening: 2,
         threads: 1,
         handles: 4,
         queue: 4,
         requests: 32,
+    }
+}
+
+/// Opens it again. It is kept where memory was refused.
+pub(crate) fn open_again<R: Wait>(rt: &R, alloc: Global, kept: &mut Option<Settled>) -> Came {
+    let Some(settled) = kept.take() else {
+        return Came::Wrong;
     };
-    match reopen(rt, alloc, settled, &again) {
+    match reopen(rt, alloc, settled, &again()) {
         Ok((desks, workers, scans)) => {
             if is_whole(rt, desks, workers, scans) {
                 Came::Made
@@ -95,5 +99,53 @@ pub(crate) fn open_again<R: Wait>(rt: &R, alloc: Global, kept: &mut Option<Settl
             }
             OpenFault::BadPlan => Came::Wrong,
         },
+    }
+}
+
+/// The desk of an opening that was opened again with a branch left at the first of its managers, and its scan.
+#[derive(Drop)]
+pub(crate) struct Resolver {
+    desk: Desk,
+    scan: Scan,
+    workers: Workers,
+}
+
+impl Resolver {
+    /// None for want of memory.
+    pub(crate) fn new<R: Wait>(rt: &R, alloc: Global) -> Option<Resolver> {
+        let kept = settled(rt, alloc)?;
+        let (desks, workers, mut scans) = reopen(rt, alloc, kept, &again()).ok()?;
+        Some(Resolver {
+            desk: one_desk(desks)?,
+            scan: scans.pop()?,
+            workers: Workers { all: workers },
+        })
+    }
+
+    // What came of a resolve that ended: nothing is logged, so the branch was rolled back.
+    fn judge(outcomes: &[Outcome]) -> Came {
+        match (outcomes, branch(1, b"1")) {
+            ([outcome], Some(branch))
+                if outcome.m == 1
+                    && outcome.xid == branch.xid
+                    && !outcome.commit
+                    && outcome.code == Code::Done => Came::Made,
+            _ => Came::Wrong,
+        }
+    }
+
+    /// Resolves what is left.
+    pub(crate) fn resolve<R: Wait>(&mut self, rt: &R, alloc: Global) -> Came {
+        if !may_resolve(&self.desk, &self.scan) {
+            return Came::Wrong;
+        }
+        let before = self.desk.room(1);
+        let log = MemoryLog::new(alloc);
+        let (desk, idle) = (&mut self.desk, &mut self.workers);
+        match resolve(rt, alloc, desk, &self.scan, &log, idle) {
+            Ok(resolved) => Resolver::judge(&resolved.outcomes),
+            Err(_) if self.desk.room(1) == before => Came::Refused,
+            Err(_) => Came::Wrong,
+        }
     }
 }

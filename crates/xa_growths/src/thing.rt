@@ -2,7 +2,7 @@
 use crate::commits::{Committer, append};
 use crate::openings::plan_of;
 use crate::pieces::{desk_memory, lane, new_manager, switch, worker_memory};
-use crate::reopening::{open_again, settled};
+use crate::reopening::{Resolver, open_again, settled};
 use crate::scripts::{in_threads, in_turns, read, script};
 use std::alloc::Global;
 use std::io::{self, Write};
@@ -49,6 +49,7 @@ pub(crate) enum Thing {
     WorkerMemory,
     Switch(Plan),
     Reopen(Option<Settled>),
+    Resolve(Resolver),
     Append(MemoryLog),
     Commit(Committer),
     Read,
@@ -66,6 +67,7 @@ impl Thing {
             "worker" => Thing::WorkerMemory,
             "switch" => Thing::Switch(plan_of(alloc, 1, 2)?),
             "reopen" => Thing::Reopen(Some(settled(rt, alloc)?)),
+            "resolve" => Thing::Resolve(Resolver::new(rt, alloc)?),
             "append" => Thing::Append(MemoryLog::new(alloc)),
             "commit" => Thing::Commit(Committer::new(rt, alloc)?),
             "read" => Thing::Read,
@@ -89,6 +91,7 @@ impl Thing {
             Thing::WorkerMemory => worker_memory(alloc),
             Thing::Switch(plan) => switch(rt, alloc, plan),
             Thing::Reopen(kept) => open_again(rt, alloc, kept),
+            Thing::Resolve(resolver) => resolver.resolve(rt, alloc),
             Thing::Append(log) => append(log),
             Thing::Commit(committer) => committer.commit(rt, alloc),
             Thing::Read => read(alloc),

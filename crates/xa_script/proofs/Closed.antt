@@ -1,5 +1,5 @@
 -- An opening in turns that ends: its answers are its own, whatever stood before them.
-use Rattle.std.proofs.Common.{◌≡◌, ℕ, List, [], ◌∷◌, ◌++◌, sym, refl, ap, ◌∙◌, append-nil, append_assoc}
+use Rattle.std.proofs.Common.{◌≡◌, List, [], ◌++◌, sym, refl, ap, ◌∙◌, append-nil, append_assoc}
 use Rattle.xa_base.specs.Lists.{Chain, Pairwise}
 use Rattle.xa_base.specs.Lists.Chain.{none, more}
 use Rattle.xa_desk.specs.DeskView.{DeskView}

@@ -12,6 +12,7 @@ use Rattle.xa_grammar.specs.declared.script.Action.{Action}
 use Rattle.xa_grammar.specs.declared.script.Action.TheVariants as action
 use Rattle.xa_grammar.specs.declared.script.Called.{Called}
 use Rattle.xa_grammar.specs.declared.script.CommitAll.{CommitAll}
+use Rattle.xa_grammar.specs.declared.script.Resolve.{Resolve}
 use Rattle.xa_grammar.specs.declared.script.Task.{Task}
 use Rattle.xa_grammar.specs.declared.script.Task.TheVariants as task
 use Rattle.xa_grammar.specs.declared.script.Step.{Step}
@@ -28,6 +29,8 @@ use Rattle.xa_switch.specs.Scans.{ScanView}
 use Rattle.xa_session.specs.Committing.{CommitsAll}
 use Rattle.xa_session.specs.Sessions.{Does}
 use Rattle.xa_session.specs.Committing.CommitsAll.{refused, decided}
+use Rattle.xa_session.specs.Resolving.{ResolvesLeft}
+use Rattle.xa_session.specs.Resolving.ResolvesLeft.{refused as left_refused, resolved as left_resolved}
 use Rattle.xa_words.specs.declared.code.Code.{Code}
 use Rattle.xa_crew.specs.Ending.{EndsDesk}
 use Rattle.xa_crew.specs.Run.{Member}
@@ -85,9 +88,14 @@ commit_is_to : (t : ℕ) (c : CommitAll) (old new : Session) (a : Answer) → Co
 commit_is_to t c old new a (refused why told e) = ap (is_to t) told
 commit_is_to t c old new a (decided done may trace still keeps as_many told) = ap (is_to t) told
 
+resolve_is_to : (t : ℕ) (r : Resolve) (old new : Session) (a : Answer) → ResolvesLeft r old new a → is_to t a ≡ (r.thread == t)
+resolve_is_to t r old new a (left_refused why told e) = ap (is_to t) told
+resolve_is_to t r old new a (left_resolved outcomes may trace log still keeps as_many told) = ap (is_to t) told
+
 task_is_to : (t : ℕ) (p : Task) (old new : Session) (a : Answer) → Does p old new a → is_to t a ≡ (thread_of p == t)
 task_is_to t (task.Call p) old new a is = answer_is_to t p.action p old.desk new.desk old.scan new.scan a is.executes.0
 task_is_to t (task.CommitAll c) old new a is = commit_is_to t c old new a is.executes
+task_is_to t (task.Resolve r) old new a is = resolve_is_to t r old new a is.executes
 
 to_pushed : (t : ℕ) (answers : List Answer) (a : Answer) → is_to t a ≡ true → answers_to t (answers ++ a ∷ []) ≡ answers_to t answers ++ a ∷ []
 to_pushed t answers a e = filter-append (is_to t) answers (a ∷ []) ∙ ap (λ b. answers_to t answers ++ cond b (a ∷ []) []) e

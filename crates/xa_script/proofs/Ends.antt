@@ -13,6 +13,7 @@ use Rattle.xa_grammar.specs.declared.script.Action.{Action}
 use Rattle.xa_grammar.specs.declared.script.Action.TheVariants as action
 use Rattle.xa_grammar.specs.declared.script.Called.{Called}
 use Rattle.xa_grammar.specs.declared.script.CommitAll.{CommitAll}
+use Rattle.xa_grammar.specs.declared.script.Resolve.{Resolve}
 use Rattle.xa_grammar.specs.declared.script.Task.{Task}
 use Rattle.xa_grammar.specs.declared.script.Task.TheVariants as task
 use Rattle.xa_grammar.specs.declared.script.Step.{Step}
@@ -25,6 +26,8 @@ use Rattle.xa_words.specs.Xid.{XidName}
 use Rattle.xa_switch.specs.Scans.{ScanView}
 use Rattle.xa_session.specs.Committing.{CommitsAll}
 use Rattle.xa_session.specs.Committing.CommitsAll.{refused, decided}
+use Rattle.xa_session.specs.Resolving.{ResolvesLeft}
+use Rattle.xa_session.specs.Resolving.ResolvesLeft.{refused as left_refused, resolved as left_resolved}
 use Rattle.xa_session.specs.Ended.{ended, all_ended}
 use Rattle.xa_session.specs.Sessions.{Does, HasDone}
 use Rattle.xa_transcript.specs.Journals.{is_end_of, ends_of}
@@ -64,9 +67,14 @@ commit_no_end : (t : ℕ) (c : CommitAll) (old new : Session) (a : Answer) → C
 commit_no_end t c old new a (refused why told same) = ap (is_end_of t) told
 commit_no_end t c old new a (decided done may trace still keeps as_many told) = ap (is_end_of t) told
 
+resolve_no_end : (t : ℕ) (r : Resolve) (old new : Session) (a : Answer) → ResolvesLeft r old new a → is_end_of t a ≡ false
+resolve_no_end t r old new a (left_refused why told same) = ap (is_end_of t) told
+resolve_no_end t r old new a (left_resolved outcomes may trace log still keeps as_many told) = ap (is_end_of t) told
+
 task_no_end : (t : ℕ) (p : Task) (old new : Session) (a : Answer) → Does p old new a → is_end_of t a ≡ false
 task_no_end t (task.Call p) old new a is = answer_no_end t p.action p old.desk new.desk old.scan new.scan a is.executes.0
 task_no_end t (task.CommitAll c) old new a is = commit_no_end t c old new a is.executes
+task_no_end t (task.Resolve r) old new a is = resolve_no_end t r old new a is.executes
 
 pushed : (t : ℕ) (answers : List Answer) (a : Answer) → is_end_of t a ≡ false → ends_of t (answers ++ a ∷ []) ≡ ends_of t answers
 pushed t answers a e =

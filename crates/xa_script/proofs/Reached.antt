@@ -1,11 +1,9 @@
 -- How far a script in turns has come, line by line.
-use Rattle.std.proofs.Common.{◌≡◌, ℕ, ◌≤◌, Bool, false, ◌||◌, List, [], ◌∷◌, ◌++◌, length, map, sym, refl, ap, ◌∙◌, append-nil, append_assoc}
-use Rattle.std.specs.Prelude.{All}
+use Rattle.std.proofs.Common.{◌≡◌, ℕ, false, ◌||◌, List, [], ◌∷◌, ◌++◌, length, map, sym, refl, ap, ◌∙◌, append-nil, append_assoc}
 use Rattle.std.specs.List.{flat_map}
 use Rattle.std.proofs.lemmas.List.{length-map}
 use Rattle.std.proofs.lemmas.List.Elements.{All-nil, All-push}
 use Rattle.std.proofs.lemmas.List.Folds.{list_any-append}
-use Rattle.xa_base.specs.Lists.{Chain}
 use Rattle.xa_base.specs.Lists.Chain.{none, more}
 use Rattle.xa_base.proofs.Lists.{flat_push}
 use Rattle.xa_worker.specs.Workers.{WorkerView}
@@ -20,7 +18,7 @@ use Rattle.xa_session.specs.declared.session.Session.{Session}
 use Rattle.xa_transcript.specs.Openings.{Beginning, Opening, Former, beginning}
 use Rattle.xa_transcript.proofs.Opened.{opened_threads, opened_managers}
 use Rattle.xa_script.specs.declared.mode.Mode.TheVariants as mode
-use Rattle.xa_script.specs.InTurns.{Stage, Steps, course_of}
+use Rattle.xa_script.specs.InTurns.{Steps, course_of}
 use Rattle.xa_script.specs.Outcome.{Follows, IsOutcome}
 use Rattle.xa_script.specs.Openings.{IsOpen, Goes, IsClosed, HasReached}
 use Rattle.xa_script.proofs.WorkersOn.{run_goes, run_count}

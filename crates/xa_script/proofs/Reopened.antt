@@ -1,10 +1,10 @@
 -- What an opening begins with that follows another.
-use Rattle.std.proofs.Common.{◌≡◌, ℕ, ◌+◌, ◌-◌, ◌<◌, ◌≤◌, zero, suc, List, [], ◌∷◌, length, map, Option, Some, None, sym, refl, ap, ◌∙◌, subst, arith}
-use Rattle.std.specs.Prelude.{slice_get, zip}
-use Rattle.std.specs.List.{All, slice_index_or}
+use Rattle.std.proofs.Common.{◌≡◌, ℕ, ◌+◌, ◌≤◌, zero, suc, List, [], ◌∷◌, length, map, Some, sym, refl, ap, ◌∙◌, subst, arith}
+use Rattle.std.specs.Prelude.{slice_get}
+use Rattle.std.specs.List.{slice_index_or}
 use Rattle.std.proofs.lemmas.List.{length-map}
 use Rattle.std.proofs.lemmas.Option.{slice_get-get_or, slice_get_within}
-use Rattle.xa_base.proofs.Lists.{was_mapped, all_at, some_same}
+use Rattle.xa_base.proofs.Lists.{was_mapped, some_same}
 use Rattle.xa_desk.specs.DeskView.{DeskView}
 use Rattle.xa_worker.specs.Workers.{WorkerView}
 use Rattle.xa_driver.specs.Log.{LogView}
@@ -19,14 +19,13 @@ use Rattle.xa_grammar.specs.Content.{Content, threads_of}
 use Rattle.xa_session.specs.declared.session.Session.{Session}
 use Rattle.xa_session.specs.Sessions.{session_of, sessions_again}
 use Rattle.xa_transcript.specs.Planning.{AreNumbersOf, IsSetupOf}
-use Rattle.xa_transcript.specs.Openings.{Beginning, Opening, Former, Leaves}
-use Rattle.xa_transcript.specs.Runs.{BeginsAs}
+use Rattle.xa_transcript.specs.Openings.{Beginning, Opening, Leaves}
 use Rattle.xa_transcript.proofs.Opened.{opened_threads}
 use Rattle.xa_transcript.proofs.Told.{log_left, log_there}
 use Rattle.xa_transcript.proofs.Again.{again_setup, may_reopen, next_beginning, leaves}
 use Rattle.xa_script.specs.declared.mode.Mode.TheVariants as mode
 use Rattle.xa_script.specs.Outcome.{HasCome, Follows}
-use Rattle.xa_script.specs.Openings.{IsOpen, IsClosed}
+use Rattle.xa_script.specs.Openings.{IsOpen}
 
 -- ---- the threads
 

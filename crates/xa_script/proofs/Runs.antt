@@ -14,7 +14,7 @@ use Rattle.xa_grammar.specs.declared.script.Task.{Task}
 use Rattle.xa_grammar.specs.Content.{Content, tasks_of, Fits, threads_of, managers_of}
 use Rattle.xa_base.specs.Lists.{Chain}
 use Rattle.xa_base.specs.Lists.Chain.{none, more}
-use Rattle.xa_base.proofs.Lists.{through, was_mapped, all_at, flat_one, flat_none, some_same, got}
+use Rattle.xa_base.proofs.Lists.{through, was_mapped, flat_one, flat_none, some_same, got}
 use Rattle.xa_crew.specs.Pieces.{HasServed}
 use Rattle.xa_crew.specs.Ending.{EndsDesk}
 use Rattle.xa_crew.specs.Run.{Member}

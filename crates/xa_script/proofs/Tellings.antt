@@ -1,15 +1,15 @@
 -- What a run tells of its openings.
-use Rattle.std.proofs.Common.{◌≡◌, List, [], ◌∷◌, ◌++◌, map, sym, refl, ap, ◌∙◌, subst}
+use Rattle.std.proofs.Common.{List, map, sym, subst}
 use Rattle.xa_base.specs.Lists.{Chain}
 use Rattle.xa_base.specs.Lists.Chain.{none, more}
-use Rattle.xa_switch.specs.Settling.{Settling, ManagerPart, IsSettled}
+use Rattle.xa_switch.specs.Settling.{Settling, IsSettled}
 use Rattle.xa_grammar.specs.declared.script.Declared.{Declared}
 use Rattle.xa_grammar.specs.Content.{Content}
 use Rattle.xa_session.specs.declared.answer.Answer.{Answer}
 use Rattle.xa_session.specs.declared.session.Session.{Session}
 use Rattle.xa_transcript.specs.Openings.{Beginning, Opening, Former, TellsOf, Leaves, Tells, beginning, settled_over}
 use Rattle.xa_transcript.specs.Values.{opened_after, AreOfScript, AreValues}
-use Rattle.xa_transcript.proofs.Told.{of_script, tells}
+use Rattle.xa_transcript.proofs.Told.{tells}
 use Rattle.xa_transcript.proofs.Again.{of_script_after}
 use Rattle.xa_script.specs.declared.mode.Mode.{Mode}
 use Rattle.xa_script.specs.Outcome.{HasCome, Follows, IsOutcome}

@@ -4,7 +4,6 @@ use Rattle.std.specs.List.{flat_map}
 use Rattle.xa_base.specs.Lists.{Chain}
 use Rattle.xa_worker.specs.Workers.{WorkerView}
 use Rattle.xa_driver.specs.Log.{LogView}
-use Rattle.xa_switch.specs.Settling.{Settling}
 use Rattle.xa_grammar.specs.declared.script.Step.{Step}
 use Rattle.xa_grammar.specs.declared.script.Step.TheVariants as step
 use Rattle.xa_grammar.specs.Content.{Content, Fits, threads_of, managers_of, AreOfOne}

@@ -1,5 +1,6 @@
 pub mod Calling
 pub mod Committing
+pub mod Resolving
 pub mod Sessions
 pub mod ScriptThreads
 pub mod Ended

@@ -6,12 +6,13 @@ use Rattle.xa_desk.specs.Kept.{AllKept}
 use Rattle.xa_switch.specs.Scans.{ScanView, no_scan}
 use Rattle.xa_driver.specs.Log.{LogView, no_records}
 use Rattle.xa_grammar.specs.declared.script.Task.{Task}
-use Rattle.xa_grammar.specs.declared.script.Task.TheVariants.{Call, CommitAll}
+use Rattle.xa_grammar.specs.declared.script.Task.TheVariants.{Call, CommitAll, Resolve}
 use Rattle.xa_grammar.specs.Content.{Content, failing_append}
 use Rattle.xa_session.specs.declared.answer.Answer.{Answer}
 use Rattle.xa_session.specs.declared.session.Session.{Session}
 use Rattle.xa_session.specs.Calling.{Answers}
 use Rattle.xa_session.specs.Committing.{CommitsAll}
+use Rattle.xa_session.specs.Resolving.{ResolvesLeft}
 
 -- The log of thread t at first: without a record, and none of its appends fails but the one that a line of the script
 -- names.
@@ -34,10 +35,12 @@ new_sessions s desks = map (new_session s) desks
 abbrev pub sessions_again : List DeskView → List LogView → List ScanView → List Session
 sessions_again desks logs scans = map (λ x. session_of x.0.0 x.0.1 x.1) (zip (zip desks logs) scans)
 
--- What a task answers, and what it does to its thread. A call leaves the log, and a commit the scans.
+-- What a task answers, and what it does to its thread. A call leaves the log, a commit the scans, and a
+-- resolve both.
 abbrev pub Executes : Task → Session → Session → Answer → Type 0
 Executes (Call p) old new a = Answers p.action p old.desk old.scan new.desk new.scan a × (new.log ≡ old.log)
 Executes (CommitAll c) old new a = CommitsAll c old new a
+Executes (Resolve r) old new a = ResolvesLeft r old new a
 
 -- What a task does to its thread, and what it answers. The desk goes on, and what is outstanding stays kept.
 pub record Does (p : Task) (old new : Session) (a : Answer) : Type 0 where

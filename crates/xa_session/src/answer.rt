@@ -1,5 +1,5 @@
 //! What the lines of a script answer.
-use xa_driver::Done;
+use xa_driver::{Done, Outcome};
 use xa_words::Xid;
 use xa_worker::Step;
 
@@ -25,7 +25,8 @@ pub enum Answer {
         thread: u32,
         xids: Vec<Xid>,
     },
-    /// The branches on this line may not be committed, and nothing was done: `L T refused`.
+    /// What this line asks for may not be done, and nothing was: the branches may not be committed, or there is no room
+    /// to resolve what is left: `L T refused`.
     Refused {
         line: u32,
         thread: u32,
@@ -36,6 +37,13 @@ pub enum Answer {
         line: u32,
         thread: u32,
         done: Done,
+    },
+    /// What became of the branches that the reopening found left: `L T resolved`, and `M:G.B:commit:C` or
+    /// `M:G.B:rollback:C` for each.
+    Resolved {
+        line: u32,
+        thread: u32,
+        outcomes: Vec<Outcome>,
     },
     /// What a manager's worker did in its turn: `L turn S`.
     Turned {

@@ -10,6 +10,7 @@ mod answer;
 mod calls;
 mod commits;
 mod ended;
+mod resolving;
 mod script_thread;
 mod session;
 

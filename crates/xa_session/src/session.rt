@@ -7,6 +7,7 @@ ghost use Rattle.xa_session.specs.Sessions.{log_of, session_of, new_session, new
 use crate::answer::Answer;
 use crate::calls::answer;
 use crate::commits::commit;
+use crate::resolving::resolve_left;
 use std::alloc::{AllocError, Global};
 use std::sync::Wait;
 use xa_desk::{Desk, Idle};
@@ -54,6 +55,7 @@ pub fn carry_out<R: Wait, I: Idle>(
     match task {
         Task::Call(called) => answer(rt, alloc, desk, scan, called, idle),
         Task::CommitAll(asked) => commit(rt, alloc, desk, log, asked, idle),
+        Task::Resolve(asked) => resolve_left(rt, alloc, desk, log, scan, asked, idle),
     }
 }
 

@@ -1,6 +1,7 @@
 -- In a settled opening every manager is there.
-use Rattle.std.proofs.Common.{◌≡◌, ℕ, zero, ◌-◌, ◌≤◌, true, false, ◌==◌, List, [], ◌∷◌, length, map, refl, ap, arith, cond, option_map, Some, None, ⊎_elim}
+use Rattle.std.proofs.Common.{◌≡◌, ℕ, zero, ◌-◌, ◌≤◌, true, false, ◌==◌, List, [], ◌∷◌, length, map, refl, sym, ap, ◌∙◌, subst, arith, cond, option_map, Some, None, ⊎_elim}
 use Rattle.std.specs.List.{Contains, list_any}
+use Rattle.std.proofs.lemmas.Bool.{eqb-true}
 use Rattle.std.proofs.lemmas.List.{length-map}
 use Rattle.std.proofs.lemmas.Option.{slice_get_within}
 use Rattle.xa_desk.specs.LedgerView.{LedgerView}
@@ -11,7 +12,8 @@ use Rattle.xa_switch.specs.Settling.{ManagerPart, ReadyPart, find_manager}
 use Rattle.xa_switch.specs.Closing.{settling, manager_part, ready_part}
 use Rattle.xa_switch.specs.Again.{IsWhole, managers_in, parts_of, find_ready}
 use Rattle.xa_switch.proofs.Lists.{all_contains, searched}
-use Rattle.xa_switch.proofs.Pieces.{Joint, a_worker, sends_at}
+use Rattle.xa_switch.proofs.Pieces.{Joint, a_worker, sends_at, worker_number}
+use Rattle.xa_base.specs.Lists.{IsUpTo}
 
 pub parts_ready : (ws : List Served) → parts_of (map ready_part ws) ≡ map manager_part ws
 parts_ready [] = refl
@@ -49,10 +51,25 @@ module _ (d : EndedView) (ds : List EndedView) (ws : List Served) (j : Joint (d 
       (λ (x : (find_manager m (map manager_part ws) ≡ None) × (list_any (λ (v : Served). v.number == m) ws ≡ false)). let none = x.1 in cc)
       (searched manager_part (λ (q : ManagerPart). q.number == m) ws)
 
+  only : (m : ℕ) (p : ManagerPart) → find_manager m (map manager_part ws) ≡ Some p → IsUpTo (length d.ledgers) m
+  only m p found =
+      ⊎_elim
+      (λ (x : (v : Served) × Contains ws v × ((v.number == m) ≡ true) × (find_manager m (map manager_part ws) ≡ Some (manager_part v))).
+      let number = eqb-true x.0.number m x.2 in
+      let e = sends_at (d ∷ ds) ws j.all d x.0 first x.1 in
+      let below = slice_get_within d.requests (x.0.number - 1) e.0 e.1 in
+      let known : IsEnded d = all_contains IsEnded (d ∷ ds) d j.desks first in
+      let many = known.tied.ends.number in
+      let positive = worker_number (d ∷ ds) ws j.all x.0 x.1 in
+      (omega (arith, number, positive), omega (arith, number, below, many, positive)))
+      (λ (x : (find_manager m (map manager_part ws) ≡ None) × (list_any (λ (v : Served). v.number == m) ws ≡ false)). absurd (let e : None ≡ Some p = sym x.0 ∙ found in cc))
+      (searched manager_part (λ (q : ManagerPart). q.number == m) ws)
+
   whole : IsWhole (settling (d ∷ ds) ws)
   whole = record {
     few = let most = j.few_managers 0 d (omega arith) in let one = some in let n = counted in (omega (arith, one, n), omega (arith, most, n));
     there = λ m positive below. let n = counted in there m positive (omega (arith, below, n));
+    only = λ m p found. subst (λ n. IsUpTo n m) (sym counted) (only m p found);
   }
 
 pub all_there : (ds : List EndedView) (ws : List Served) → Joint ds ws → IsWhole (settling ds ws)

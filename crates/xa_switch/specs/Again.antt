@@ -43,10 +43,11 @@ pub record MayReopen (s : Settling) (n : Again) : Type 0 where
   pub limits : IsWithinLimits n (managers_in s)
   pub own : n.opening ≢ s.opening
 
--- every manager is there
+-- every manager is there, and no other
 pub record IsWhole (s : Settling) : Type 0 where
   pub few : IsUpTo MOST_MANAGERS (managers_in s)
   pub there : (m : ℕ) → 1 ≤ m → m ≤ managers_in s → (p : ManagerPart) × (find_manager m s.managers ≡ Some p)
+  pub only : (m : ℕ) (p : ManagerPart) → find_manager m s.managers ≡ Some p → IsUpTo (managers_in s) m
 
 -- the manager with this number, with its memory
 abbrev pub find_ready : ℕ → List ReadyPart → Option ReadyPart

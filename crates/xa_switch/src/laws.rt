@@ -18,6 +18,8 @@ ghost use Rattle.xa_desk.specs.Ended.{EndedView};
 ghost use Rattle.xa_worker.specs.Done.{Served};
 ghost use Rattle.xa_worker.specs.Workers.{WorkerView};
 ghost use Rattle.xa_switch.specs.declared.plan.Plan.{Plan};
+ghost use Rattle.xa_switch.specs.declared.plan.Again.{Again};
+ghost use Rattle.xa_switch.specs.Again.{IsWhole, reopening, reopened_at};
 ghost use Rattle.xa_switch.specs.Closing.{settling};
 ghost use Rattle.xa_switch.specs.OfPlans.{IsOf, IsOfPlan};
 ghost use Rattle.xa_switch.specs.Plans.{Setup, IsSoundManager};
@@ -28,6 +30,7 @@ ghost use Rattle.xa_switch.specs.Fates.{IsOpenedWith, IsSumOver, first_of};
 ghost use Rattle.xa_switch.specs.Worth.{WorthIsOfThreads, accounts_of};
 ghost use Rattle.xa_switch.specs.Seats.{DeskSeat, WorkerSeat, ComeFromOpenings, AreSomeOf, AreAll, desk_seats, worker_seats, openings_of, seat_of_desk, seat_of_worker};
 
+use crate::settled::Settled;
 use xa_tables::laws::{commits_alone_move_the_worth, value_is_sum};
 
 /// The desks and workers that an opening gives come from it.
@@ -54,6 +57,18 @@ pub fn mixed_pieces_come_from_their_openings()
 /// threads and its managers are those of the setup, and each manager began with the setup's tables.
 pub fn settled_openings_are_of_their_setup()
     ensures { (p : Setup) (ds : List DeskView) (ws : List WorkerView) (es : List EndedView) (vs : List Served) → AreOfOneOpening p ds ws → IsPermutation (map seat_of_desk ds) (desk_seats es) → IsPermutation (map seat_of_worker ws) (worker_seats vs) → AreAll es vs → IsOf p (settling es vs) }
+{}
+
+/// A settled opening is whole: every manager of it is there, and no other.
+pub fn settled_openings_are_whole(settled: &Settled)
+    ensures { IsWhole settled.now }
+{
+    let _opening = settled.opening;
+}
+
+/// An opening that was opened again from another has its managers, and each begins with what was left there.
+pub fn reopened_openings_go_on_from_what_was_left()
+    ensures { (s next : Settling) (again : Again) (m : ℕ) (T : Tables) → IsWhole s → IsOf (reopening s again) next → first_of s m ≡ Some T → first_of next m ≡ Some (reopened_at s.managers m) }
 {}
 
 /// In a settled opening each journal is what the tables that its manager began with make of the requests that it took.

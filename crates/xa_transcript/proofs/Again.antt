@@ -1,5 +1,5 @@
 -- What an opening leaves to the next one.
-use Rattle.std.proofs.Common.{◌≡◌, ℕ, ◌+◌, ◌-◌, ◌<◌, ◌≤◌, zero, suc, Bool, List, [], ◌∷◌, ◌++◌, length, map, Option, Some, None, sym, refl, ap, ◌∙◌, subst, arith}
+use Rattle.std.proofs.Common.{◌≡◌, ℕ, ◌+◌, ◌-◌, ◌≤◌, suc, Bool, List, [], ◌∷◌, ◌++◌, length, map, Some, sym, refl, ap, ◌∙◌, subst, arith}
 use Rattle.std.specs.Prelude.{slice_get}
 use Rattle.std.specs.List.{range_with_len, slice_index_or}
 use Rattle.std.proofs.lemmas.List.{length-map, map-append}
@@ -11,7 +11,7 @@ use Rattle.xa_base.proofs.Lists.{got}
 use Rattle.xa_tables.specs.Tables.{Tables}
 use Rattle.xa_tables.specs.History.{History, tables_after}
 use Rattle.xa_tables.specs.Openings.{reopened, left_by}
-use Rattle.xa_desk.specs.LedgerView.{LedgerView, new_ledger}
+use Rattle.xa_desk.specs.LedgerView.{LedgerView}
 use Rattle.xa_desk.specs.DeskView.{DeskView}
 use Rattle.xa_desk.specs.Lanes.{new_ledgers}
 use Rattle.xa_desk.specs.GoesOn.{plans}
@@ -20,10 +20,9 @@ use Rattle.xa_worker.specs.Journal.{requests}
 use Rattle.xa_worker.specs.Workers.{WorkerView}
 use Rattle.xa_worker.specs.Done.{Served}
 use Rattle.xa_switch.specs.declared.plan.Again.{Again}
-use Rattle.xa_switch.specs.Plans.{Setup}
 use Rattle.xa_switch.specs.Openings.{IsNewDesk}
-use Rattle.xa_switch.specs.Settling.{Settling, ManagerPart, IsSettled, FollowsTables, journal_in, find_manager}
-use Rattle.xa_switch.specs.Closing.{thread_part, manager_part, settling}
+use Rattle.xa_switch.specs.Settling.{Settling, ManagerPart, IsSettled, FollowsTables, journal_in}
+use Rattle.xa_switch.specs.Closing.{thread_part, settling}
 use Rattle.xa_switch.specs.Fates.{history}
 use Rattle.xa_switch.specs.Scans.{ScanView}
 use Rattle.xa_switch.specs.Recovery.{IsScanOf}

@@ -23,7 +23,8 @@ use Rattle.xa_transcript.specs.Journals.{Line, entries_of}
 use Rattle.xa_transcript.specs.Openings.{Beginning, Opening, TellsOf, part_at}
 use Rattle.xa_transcript.specs.Outcomes.{Place, AreLeftAlone, AreNamedByNoOther, NamesNone}
 use Rattle.xa_transcript.proofs.Entries.{requests_kept}
-use Rattle.xa_transcript.proofs.Named.{AddsUnnamed, lines_unnamed}
+use Rattle.xa_base.specs.Lists.Chain.{more as one_step}
+use Rattle.xa_transcript.proofs.Named.{AddsUnnamed, lines_unnamed, lines_leave}
 
 -- ---- lists
 
@@ -119,7 +120,7 @@ own_requests t x J ops new sent_so (more, grown, quiet) =
     (All-append P (map f new) (map f more) (λ k d lt named. early k d lt) (λ k d lt named. absurd (let e = late k d lt in let z : true ≡ false = sym named ∙ e in cc)))
 
 pub left_alone : (s : Content) (beg : Beginning) (o : Opening) (tells : TellsOf s beg o) (c : CommitAll) (before : List Line) (l : Line) (after : List Line) (old new : Part)
-    → Place (tells.carried c.thread) before l after old new → AreNamedByNoOther o.steps c.thread (branches_of c) after → AreLeftAlone o.settled c.thread (branches_of c) old new
+    → Place (tells.carried c.thread) before l after old new → AreNamedByNoOther o.steps beg.scans c.thread (branches_of c) after → AreLeftAlone o.settled c.thread (branches_of c) old new
 left_alone s beg o tells c before l after old new place named =
     let t : ℕ = c.thread in
     record {
@@ -128,11 +129,11 @@ left_alone s beg o tells c before l after old new place named =
           let J : List Entry = journal o.settled b.m in
           let sent_so = (tells.agree.agree t b.m).carried in
           only_these t b.xid (requests J) (sent o.settled t b.m) sent_so (length (old.entries b.m)) (length (new.entries b.m))
-          (own_requests t b.xid J (sent o.settled t b.m) (new.entries b.m) sent_so (lines_unnamed o.settled b new after _ place.later (λ j e below. named.later j e below k d lt)))
+          (own_requests t b.xid J (sent o.settled t b.m) (new.entries b.m) sent_so (lines_unnamed o.settled b (beg.scans t) new after _ place.later (lines_leave o.settled (part_at beg t) (before ++ l ∷ []) new (one_step before l old new place.earlier place.takes)) (λ j e below. named.later j e below k d lt)))
           (λ u differs.
           let told = tells.carried u in
-          let quiet : All (λ (l : Line). NamesNone (branches_of c) l.task) told.lines =
-          all_unmapped (λ (l : Line). l.task) (NamesNone (branches_of c)) told.lines (subst (All (NamesNone (branches_of c))) (sym told.tasks) (named.threads u differs)) in
-          let adds = lines_unnamed o.settled b (part_at beg u) told.lines _ told.carried (λ j e below. quiet j e below k d lt) in
+          let quiet : All (λ (l : Line). NamesNone (beg.scans u) (branches_of c) l.task) told.lines =
+          all_unmapped (λ (l : Line). l.task) (NamesNone (beg.scans u) (branches_of c)) told.lines (subst (All (NamesNone (beg.scans u) (branches_of c))) (sym told.tasks) (named.threads u differs)) in
+          let adds = lines_unnamed o.settled b (beg.scans u) (part_at beg u) told.lines _ told.carried refl (λ j e below. quiet j e below k d lt) in
           quiet_requests u b.xid J (subst (All (λ (e : Entry). names b.xid e.0.op ≡ false)) (sym adds.1) adds.2));
     }

@@ -26,7 +26,7 @@ use Rattle.xa_driver.specs.Asks.{asked, IsAnswered}
 use Rattle.xa_driver.specs.Endings.{second_op, third_op, ending_of}
 use Rattle.xa_driver.specs.Outcomes.{OnlyTheseName, OnlyTheseOrDecisionsName}
 use Rattle.xa_driver.specs.Trace.{BranchTrace}
-use Rattle.xa_driver.proofs.Tabled.{Tabled}
+use Rattle.xa_driver.specs.Tabled.{Tabled}
 use Rattle.xa_driver.proofs.Fated.{Told, branch_told}
 use Rattle.xa_driver.proofs.Values.{Counted, branch_counts}
 use Rattle.xa_transcript.specs.Parts.{next_entry}

@@ -1,5 +1,5 @@
 -- What a commit of several branches sends to each manager and collects from it, and what it adds to the journals.
-use Rattle.std.proofs.Common.{◌≡◌, ℕ, ◌<◌, ◌⊎◌, ⊎_elim, zero, suc, Bool, true, false, ◌==◌, ◌||◌, List, [], ◌∷◌, ◌++◌, length, take, Option, Some, None, sym, refl, ap, ◌∙◌, subst, inl, inr, arith, length-append}
+use Rattle.std.proofs.Common.{◌≡◌, ℕ, ◌<◌, ◌≤◌, ◌⊎◌, ⊎_elim, zero, suc, Bool, true, false, ◌==◌, ◌||◌, List, [], ◌∷◌, ◌++◌, length, take, Option, Some, None, sym, refl, ap, ◌∙◌, subst, inl, inr, arith, length-append}
 use Rattle.std.specs.Prelude.{slice_get}
 use Rattle.std.specs.List.{list_any}
 use Rattle.std.proofs.lemmas.Bool.{cases_eq, cases_Bool, eqb-true, false_from_ne_true}
@@ -30,19 +30,19 @@ use Rattle.xa_base.proofs.Lists.{got_push}
 -- ---- one request
 
 -- each request that was collected was sent
-abbrev Sound : LedgerView → Type 0
+abbrev pub Sound : LedgerView → Type 0
 Sound a = (k : ℕ) (p : ℕ × Code) → slice_get a.collected k ≡ Some p → p.0 < length a.sent
 
 -- what was sent and what was collected only grows
-record Answered (a a' : LedgerView) : Type 0 where
-  sent : Begins a.sent a'.sent
-  collected : Begins a.collected a'.collected
-  sound : Sound a → Sound a'
+pub record Answered (a a' : LedgerView) : Type 0 where
+  pub sent : Begins a.sent a'.sent
+  pub collected : Begins a.collected a'.collected
+  pub sound : Sound a → Sound a'
 
-stays : (a : LedgerView) → Answered a a
+pub stays : (a : LedgerView) → Answered a a
 stays a = record { sent = begins_same a.sent a.sent refl; collected = begins_same a.collected a.collected refl; sound = λ all. all }
 
-one_after : (a b c : LedgerView) → Answered a b → Answered b c → Answered a c
+pub one_after : (a b c : LedgerView) → Answered a b → Answered b c → Answered a c
 one_after a b c x y = record {
   sent = begins_on a.sent b.sent c.sent x.sent y.sent;
   collected = begins_on a.collected b.collected c.collected x.collected y.collected;
@@ -62,7 +62,7 @@ sent_and_collected a o c =
           (got_push a.collected (length a.sent, c) k p at);
     }
 
-asked_answered : (a : LedgerView) (op : Option Op) (code : Option Code) → Answered a (asked a op code)
+pub asked_answered : (a : LedgerView) (op : Option Op) (code : Option Code) → Answered a (asked a op code)
 asked_answered a None code = stays a
 asked_answered a (Some o) None = stays a
 asked_answered a (Some o) (Some c) = by_if (Answered a) (learnt_shut a) a (with_collected (with_sent a o) (length a.sent) c) (λ e. stays a) (λ e. sent_and_collected a o c)
@@ -115,7 +115,7 @@ module _ (t : ℕ) (ops : List Op) (pairs : List (ℕ × Code)) (es : List Entry
   sent_carries : (a : LedgerView) (o : Op) (c : Code) → Begins (a.sent ++ o ∷ []) ops → Begins (a.collected ++ (length a.sent, c) ∷ []) pairs → Carries t (Some o) (Some c) (upto a) (so_far t ops pairs es fits (a.sent ++ o ∷ []))
   sent_carries a o c sent collected = carried o c refl refl (enters_coded t ops pairs es fits a.sent (a.sent ++ o ∷ []) o refl sent (length a.collected) c (pair_there pairs a.collected (a.collected ++ (length a.sent, c) ∷ []) (length a.sent) c refl collected))
 
-  carries : (a : LedgerView) (op : Option Op) (code : Option Code) → IsAnswered a op code → Sound a → Begins (asked a op code).sent ops → Begins (asked a op code).collected pairs → Carries t op code (upto a) (upto (asked a op code))
+  pub carries : (a : LedgerView) (op : Option Op) (code : Option Code) → IsAnswered a op code → Sound a → Begins (asked a op code).sent ops → Begins (asked a op code).collected pairs → Carries t op code (upto a) (upto (asked a op code))
   carries a None code is sound sent collected = unwanted refl is refl
   carries a (Some o) None is sound sent collected = absurd is
   carries a (Some o) (Some c) is sound sent collected =
@@ -151,6 +151,39 @@ module _ (t : ℕ) (ops : List Op) (pairs : List (ℕ × Code)) (es : List Entry
         ends = ends;
       }
 
+-- ---- what was sent to a manager, and collected from it, only grows
+
+pub still_known : (old new : List LedgerView) (m : ℕ) → length new ≡ length old → IsKnown old m → IsKnown new m
+still_known old new m many known = record { positive = known.positive; within = let within = known.within in omega (arith, many, within) }
+
+-- with a manager that is asked
+pub known_grows : (old new : List LedgerView) (m : ℕ) → length new ≡ length old → IsKnown old m → Answered (ledger old m) (ledger new m) → Grows m old new
+known_grows old new m many known x =
+    let sent_old = sent_of old m known in
+    let sent_new = sent_of new m (still_known old new m many known) in
+    let got_old = collected_of old m known in
+    let got_new = collected_of new m (still_known old new m many known) in
+    record {
+      many = many;
+      sent = subst (λ l. Begins l (sent_to new m)) (sym sent_old) (subst (Begins (ledger old m).sent) (sym sent_new) x.sent);
+      collected = subst (λ l. Begins l (collected_from new m)) (sym got_old) (subst (Begins (ledger old m).collected) (sym got_new) x.collected);
+      below = λ all k p at.
+          subst (λ l. p.0 < length l) (sym sent_new)
+          (x.sound (λ j q there. subst (λ l. q.0 < length l) sent_old (all j q (ap (λ l. slice_get l j) got_old ∙ there))) k p (ap (λ l. slice_get l k) (sym got_new) ∙ at));
+    }
+
+-- with any other
+pub untouched_grows : (old new : List LedgerView) (m : ℕ) → length new ≡ length old → (1 ≤ m → ledger new m ≡ ledger old m) → Grows m old new
+untouched_grows old new m many same =
+    let sent = sent_same old new m many same in
+    let got = collected_same old new m many same in
+    record {
+      many = many;
+      sent = begins_same (sent_to old m) (sent_to new m) sent;
+      collected = begins_same (collected_from old m) (collected_from new m) got;
+      below = λ all k p at. subst (λ l. p.0 < length l) (sym sent) (all k p (ap (λ l. slice_get l k) (sym got) ∙ at));
+    }
+
 -- ---- branch by branch
 
 -- the branch at a manager, if there is one
@@ -185,42 +218,11 @@ module _ (tran : TranName) (bs : List Branch) (old new : List LedgerView) (log l
   each_asks : EachBranch Asks bs d.votes.items is.seconds d.endings.items
   each_asks = each_branch Traced Asks old (λ b v s e has x. (has, x)) bs d.votes.items is.seconds d.endings.items room is.each
 
-  still_known : (m : ℕ) → IsKnown old m → IsKnown new m
-  still_known m known = record { positive = known.positive; within = let many = is.managers in let within = known.within in omega (arith, many, within) }
-
-  -- with a manager of a branch
-  known_grows : (m : ℕ) → IsKnown old m → Answered (ledger old m) (ledger new m) → Grows m old new
-  known_grows m known x =
-      let sent_old = sent_of old m known in
-      let sent_new = sent_of new m (still_known m known) in
-      let got_old = collected_of old m known in
-      let got_new = collected_of new m (still_known m known) in
-      record {
-        many = is.managers;
-        sent = subst (λ l. Begins l (sent_to new m)) (sym sent_old) (subst (Begins (ledger old m).sent) (sym sent_new) x.sent);
-        collected = subst (λ l. Begins l (collected_from new m)) (sym got_old) (subst (Begins (ledger old m).collected) (sym got_new) x.collected);
-        below = λ all k p at.
-            subst (λ l. p.0 < length l) (sym sent_new)
-            (x.sound (λ j q there. subst (λ l. q.0 < length l) sent_old (all j q (ap (λ l. slice_get l j) got_old ∙ there))) k p (ap (λ l. slice_get l k) (sym got_new) ∙ at));
-      }
-
-  -- with any other
-  other_grows : (m : ℕ) → has_branch_at bs m ≡ false → Grows m old new
-  other_grows m none_there =
-      let sent = sent_same old new m is.managers (λ low. is.others m low none_there) in
-      let got = collected_same old new m is.managers (λ low. is.others m low none_there) in
-      record {
-        many = is.managers;
-        sent = begins_same (sent_to old m) (sent_to new m) sent;
-        collected = begins_same (collected_from old m) (collected_from new m) got;
-        below = λ all k p at. subst (λ l. p.0 < length l) (sym sent) (all k p (ap (λ l. slice_get l k) (sym got) ∙ at));
-      }
-
   pub trace_grows : (m : ℕ) → Grows m old new
   trace_grows m =
-      ⊎_elim (other_grows m)
+      ⊎_elim (λ (none_there : has_branch_at bs m ≡ false). untouched_grows old new m is.managers (λ low. is.others m low none_there))
       (λ (h : (b : Branch) × (v : Code) × (s : Option Code) × (e : Ending) × (b.m ≡ m) × Asks b v s e).
-      subst (λ k. Grows k old new) h.4 (known_grows h.0.m h.5.0.known (branch_answered d.commit h.0 h.1 h.2 (ledger old h.0.m) (ledger new h.0.m) h.5.1.0)))
+      subst (λ k. Grows k old new) h.4 (known_grows old new h.0.m is.managers h.5.0.known (branch_answered d.commit h.0 h.1 h.2 (ledger old h.0.m) (ledger new h.0.m) h.5.1.0)))
       (branch_there Asks m bs d.votes.items is.seconds d.endings.items each_asks)
 
   -- what it adds to the journals, branch by branch
@@ -231,7 +233,7 @@ module _ (tran : TranName) (bs : List Branch) (old new : List LedgerView) (log l
     traced_at : (b : Branch) (v : Code) (s : Option Code) (e : Ending) → HasRoom old b.m → Traced b v s e → AtBranch t d.commit (entries old) (entries new) b v s e
     traced_at b v s e has x =
         let m = b.m in
-        let known = still_known m has.known in
+        let known = still_known old new m is.managers has.known in
         at_branch t (ops m) (pairs m) (es m) (fits m) d.commit (entries old) (entries new) b v s e (ledger old m) (ledger new m) (ap (λ l. take (length l) (es m)) (sent_of old m has.known)) (ap (λ l. take (length l) (es m)) (sent_of new m known))
         (λ j q there. subst (λ l. q.0 < length l) (sent_of old m has.known) (sound m j q (ap (λ l. slice_get l j) (collected_of old m has.known) ∙ there))) x.0 x.1
         (subst (λ l. Begins l (ops m)) (sent_of new m known) (sent m)) (subst (λ l. Begins l (pairs m)) (collected_of new m known) (collected m))

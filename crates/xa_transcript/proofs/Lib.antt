@@ -5,6 +5,7 @@ pub mod Entries
 pub mod Branches
 pub mod Parts
 pub mod Handles
+pub mod LeftEnded
 pub mod Lines
 pub mod Opened
 pub mod Worth

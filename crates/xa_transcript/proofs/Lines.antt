@@ -15,15 +15,17 @@ use Rattle.xa_words.specs.declared.flags.Call.TheVariants as call
 use Rattle.std.proofs.lemmas.Bool.{cases_eq}
 use Rattle.xa_worker.specs.Journal.{Entry}
 use Rattle.xa_switch.specs.Settling.{Settling, journal}
-use Rattle.xa_switch.specs.Scans.{ScanView, RecoversBy}
+use Rattle.xa_switch.specs.Scans.{ScanView, RecoversBy, left_at}
 use Rattle.xa_switch.specs.Scans.{Answers as Reaches}
 use Rattle.xa_switch.specs.Scans.Answers.{refused as unreached, answered as reached}
 use Rattle.xa_driver.specs.Log.{LogView, LogState, record_of}
+use Rattle.xa_driver.specs.Resolving.{ResolvesAt}
 use Rattle.xa_driver.specs.Trace.{EachBranch, IsTranOf}
 use Rattle.xa_grammar.specs.declared.script.Action.{Action}
 use Rattle.xa_grammar.specs.declared.script.Action.TheVariants as action
 use Rattle.xa_grammar.specs.declared.script.Called.{Called}
 use Rattle.xa_grammar.specs.declared.script.CommitAll.{CommitAll}
+use Rattle.xa_grammar.specs.declared.script.Resolve.{Resolve}
 use Rattle.xa_grammar.specs.declared.script.Task.{Task}
 use Rattle.xa_grammar.specs.declared.script.Task.TheVariants as task
 use Rattle.xa_grammar.specs.Content.{thread_of}
@@ -35,6 +37,8 @@ use Rattle.xa_session.specs.Calling.{IsListed, HasListed, Answers}
 use Rattle.xa_session.specs.Committing.{named, branch_at, is_at, branches_of, CommitsAll}
 use Rattle.xa_session.specs.Sessions.{Does}
 use Rattle.xa_session.specs.Committing.CommitsAll.{refused, decided}
+use Rattle.xa_session.specs.Resolving.{ResolvesLeft}
+use Rattle.xa_session.specs.Resolving.ResolvesLeft.{refused as left_refused, resolved as left_resolved}
 use Rattle.xa_session.specs.Sessions.{HasDone}
 use Rattle.xa_transcript.specs.Parts.{Part, next_entry, with_entry, HasCode, new_part, Asked, Lists, CallTakes}
 use Rattle.xa_transcript.specs.Parts.Asked.{answered as asked_answered, refused as asked_refused}
@@ -47,6 +51,9 @@ use Rattle.xa_transcript.specs.Journals.{Line, Takes, TakesPart, entries_of}
 use Rattle.xa_transcript.proofs.Parts.Hands.{gives as hands_gives, takes as hands_takes, shows as hands_shows}
 use Rattle.xa_transcript.proofs.Parts.Adds.{answered as adds_answered, kept as adds_kept}
 use Rattle.xa_transcript.specs.Commits.CommitTakes.{refused as takes_none, decided as takes_decided}
+use Rattle.xa_transcript.specs.Resolves.{CarriesOut, ResolveTakes}
+use Rattle.xa_transcript.specs.Resolves.ResolveTakes.{refused as ends_none, resolved as ends_left}
+use Rattle.xa_transcript.proofs.LeftEnded.{resolve_grows, managers_at, none_past}
 use Rattle.xa_transcript.proofs.Tasks.{AreOf, front_of, last_of}
 use Rattle.xa_base.proofs.Lists.{begins_on}
 use Rattle.xa_transcript.proofs.Ledgers.{numbered_so, Grows, AllSent, grows_same, grows_both}
@@ -61,6 +68,10 @@ commit_grows : (m : ℕ) (c : CommitAll) (old new : Session) (a : Answer) → Co
 commit_grows m c old new a (refused why told e) = grows_same m old.desk.ledgers new.desk.ledgers (ap (λ (x : Session). x.desk.ledgers) e)
 commit_grows m c old new a (decided done may trace still keeps as_many told) = trace_grows (named c) (branches_of c) old.desk.ledgers new.desk.ledgers old.log.state new.log.state done trace may.room m
 
+resolve_grows_so : (m : ℕ) (r : Resolve) (old new : Session) (a : Answer) → ResolvesLeft r old new a → Grows m old.desk.ledgers new.desk.ledgers
+resolve_grows_so m r old new a (left_refused why told e) = grows_same m old.desk.ledgers new.desk.ledgers (ap (λ (x : Session). x.desk.ledgers) e)
+resolve_grows_so m r old new a (left_resolved outcomes may trace log still keeps as_many told) = resolve_grows old.scan old.log.state old.desk.ledgers new.desk.ledgers outcomes.items trace may.room m
+
 action_grows : (m : ℕ) (x : Action) (p : Called) → wanted_by x p.flags ≡ wanted_in p → (old new : Session) (a : Answer) → Answers x p old.desk old.scan new.desk new.scan a → Grows m old.desk.ledgers new.desk.ledgers
 action_grows m (action.Xa c y) p e old new a is = (answers_do (action.Xa c y) p refl e old.desk new.desk old.scan new.scan a is m).1
 action_grows m (action.Native o) p e old new a is = (answers_do (action.Native o) p refl e old.desk new.desk old.scan new.scan a is m).1
@@ -70,6 +81,7 @@ action_grows m (action.Recover n) p e old new a is = recover_grows m p.manager p
 does_grow : (m : ℕ) (p : Task) (old new : Session) (a : Answer) → Does p old new a → Grows m old.desk.ledgers new.desk.ledgers
 does_grow m (task.Call p) old new a is = action_grows m p.action p refl old new a is.executes.0
 does_grow m (task.CommitAll c) old new a is = commit_grows m c old new a is.executes
+does_grow m (task.Resolve r) old new a is = resolve_grows_so m r old new a is.executes
 
 -- a thread as it goes on, and its answers so far
 abbrev State : Type 0
@@ -226,9 +238,28 @@ module _ (settled : Settling) (t : ℕ) (ops : ℕ → List Op) (pairs : ℕ →
         scan = still;
       })
 
+  -- and a resolve
+  resolve_takes : (r : Resolve) (old new : Session) (a : Answer) → r.thread ≡ t → ((m : ℕ) → AllSent m old.desk.ledgers) → AllThere new.desk.ledgers → ResolvesLeft r old new a → ResolveTakes r a (part_of old) (part_of new)
+  resolve_takes r old new a own sound all (left_refused why told e) = ends_none told (ap part_of e)
+  resolve_takes r old new a own sound all (left_resolved outcomes may trace log still keeps as_many told) =
+      let at = old.desk.ledgers in
+      let at' = new.desk.ledgers in
+      ends_left outcomes told (record {
+        at = trace.at;
+        outcomes_are = trace.outcomes_are;
+        managers = λ m within.
+            subst (λ u. ResolvesAt (CarriesOut u) old.log.state m (left_at old.scan m) (trace.at m) (entries_so_far at m) (entries_so_far at' m)) (sym own)
+            (managers_at old.scan old.log.state at at' outcomes.items trace may.room t ops pairs own_entries fits sound (λ m. (all m).0) (λ m. (all m).1) m within);
+        elsewhere = none_past old.scan old.log.state at at' outcomes.items trace may.room t ops pairs own_entries fits sound (λ m. (all m).0) (λ m. (all m).1);
+        handles = keeps.kept;
+        log = ap (λ (l : LogView). l.state) log;
+        scan = still;
+      })
+
   does_takes : (p : Task) (old new : Session) (a : Answer) → thread_of p ≡ t → ((m : ℕ) → AllSent m old.desk.ledgers) → AllThere old.desk.ledgers → AllThere new.desk.ledgers → Does p old new a → Takes settled p a (part_of old) (part_of new)
   does_takes (task.Call p) old new a own sound was all is = call_takes p.action p refl old new a own was all is.executes.0 is.executes.1
   does_takes (task.CommitAll c) old new a own sound was all is = commit_takes c old new a own sound all is.executes
+  does_takes (task.Resolve r) old new a own sound was all is = resolve_takes r old new a own sound all is.executes
 
   -- line by line
   carried_so_far : (first : State) → ((m : ℕ) → AllSent m first.0.desk.ledgers) → (tasks : List Task) (last : State) (runs : Chain HasDone first tasks last) → AreOf t tasks → AllThere last.0.desk.ledgers → Chain (TakesPart settled) (part_of first.0) (lines_in first tasks last runs) (part_of last.0)

@@ -1,7 +1,8 @@
 -- Lines that don't name a branch put nothing into the journals that does.
-use Rattle.std.proofs.Common.{◌≡◌, ℕ, ◌⊎◌, ⊎_elim, inl, inr, Bool, true, false, ◌==◌, ◌&&◌, ◌||◌, List, [], ◌∷◌, ◌++◌, Option, Some, None, sym, refl, ap, ◌∙◌, subst, append_assoc, append-nil}
+use Rattle.std.proofs.Common.{◌≡◌, ℕ, zero, suc, map, ◌⊎◌, ⊎_elim, inl, inr, Bool, true, false, ◌==◌, ◌&&◌, ◌||◌, List, [], ◌∷◌, ◌++◌, Option, Some, None, sym, refl, ap, ◌∙◌, subst, append_assoc, append-nil}
 use Rattle.std.specs.Prelude.{if◌then◌else◌, All, Result, Ok, Err}
-use Rattle.std.proofs.lemmas.Bool.{eq-eqb, eqb-true}
+use Rattle.std.proofs.lemmas.Bool.{eq-eqb, eqb-true, or_from}
+use Rattle.std.specs.List.{list_any, slice_index_or}
 use Rattle.std.proofs.lemmas.List.Elements.{All-cons, All-nil, All-head, All-tail, All-append}
 use Rattle.xa_base.specs.Lists.{Chain}
 use Rattle.xa_base.specs.Lists.Chain.{none as no_step, more as one_step}
@@ -23,9 +24,14 @@ use Rattle.xa_switch.specs.Asking.{◌>>=◌, op_by, asked_of, native, rm_op}
 use Rattle.xa_words.specs.Flags.{TMASYNC}
 use Rattle.xa_base.proofs.Truth.{by_if}
 use Rattle.xa_switch.specs.Settling.{Settling}
+use Rattle.xa_switch.specs.Scans.{Asking, ScanView, standing, left_at, place_at, start_of, Recovers, RecoversFrom, RecoversBy}
+use Rattle.xa_switch.specs.Scans.Recovers.{unreached, stopped, told as found_some}
 use Rattle.xa_driver.specs.declared.branch.Branch.{Branch}
 use Rattle.xa_driver.specs.declared.done.Ending.{Ending}
-use Rattle.xa_driver.specs.declared.done.Done.{Done as Outcome}
+use Rattle.xa_driver.specs.declared.done.Done.{Done as DoneSo}
+use Rattle.xa_driver.specs.declared.resolved.Outcome.{Outcome}
+use Rattle.xa_driver.specs.Log.{LogState}
+use Rattle.xa_driver.specs.Resolving.{outcome_op, AsksIf, ResolvesBranch, ResolvesAt}
 use Rattle.xa_driver.specs.Decision.{is_yes, is_read}
 use Rattle.xa_driver.specs.Endings.{second_op, is_out_of_reach, third_op, is_decided}
 use Rattle.xa_driver.specs.Trace.{EachBranch, has_branch_at}
@@ -33,6 +39,7 @@ use Rattle.xa_grammar.specs.declared.script.Action.{Action}
 use Rattle.xa_grammar.specs.declared.script.Action.TheVariants as action
 use Rattle.xa_grammar.specs.declared.script.Called.{Called}
 use Rattle.xa_grammar.specs.declared.script.CommitAll.{CommitAll}
+use Rattle.xa_grammar.specs.declared.script.Resolve.{Resolve}
 use Rattle.xa_grammar.specs.declared.script.Task.{Task}
 use Rattle.xa_grammar.specs.declared.script.Task.TheVariants as task
 use Rattle.xa_session.specs.declared.answer.Answer.{Answer}
@@ -46,9 +53,12 @@ use Rattle.xa_transcript.specs.Parts.CallTakes.{answered, kept, refused, complet
 use Rattle.xa_transcript.specs.Commits.{Carries, AtBranch, Decides}
 use Rattle.xa_transcript.specs.Commits.Carries.{carried, withheld, unwanted}
 use Rattle.xa_transcript.specs.Commits.CommitTakes.{refused as takes_none, decided}
+use Rattle.xa_transcript.specs.Resolves.{CarriesOut, EndsLeft}
+use Rattle.xa_transcript.specs.Resolves.ResolveTakes.{refused as ends_none, resolved}
 use Rattle.xa_transcript.specs.Journals.{Line, Takes, TakesPart}
-use Rattle.xa_transcript.specs.Outcomes.{branches_by, branches_in, is_among}
+use Rattle.xa_transcript.specs.Outcomes.{branches_by, is_among, names_it}
 use Rattle.xa_transcript.proofs.Branches.{branch_there}
+use Rattle.xa_transcript.proofs.LeftEnded.{up_to_or_not}
 
 -- ---- lists
 
@@ -169,11 +179,50 @@ by_action (action.Native r) m f b o e same quiet = ap (names b.xid) (sym (op_nat
 by_action (action.Complete h) m f b o e same quiet = absurd (cc)
 by_action (action.Recover n) m f b o e same quiet = absurd (cc)
 
+-- ---- what a thread's scans have as left
+
+stands_left : (z : ScanView) (m : ℕ) (place : Option ℕ) → (standing z m place).left ≡ z.left
+stands_left z zero place = refl
+stands_left z (suc k) place = refl
+
+recovers_leave : (asking : Asking Part) (m : ℕ) (mode : Mode) (place : ℕ) (old : Part) (z : ScanView) (xids : List XidName) (new : Part) (z' : ScanView) (xids' : List XidName) (r : Result ℕ Code) → Recovers asking m mode place old z xids new z' xids' r → z'.left ≡ z.left
+recovers_leave asking m mode place old z xids new z' xids' r (unreached why asked never same kept_so) = ap (λ (y : ScanView). y.left) same
+recovers_leave asking m mode place old z xids new z' xids' r (stopped mid found why asked scans same writes) = ap (λ (y : ScanView). y.left) same
+recovers_leave asking m mode place old z xids new z' xids' r (found_some mid found looked asked scans stands writes) = ap (λ (y : ScanView). y.left) stands ∙ stands_left z m _
+
+from_leave : (asking : Asking Part) (start : Option ℕ) (m : ℕ) (mode : Mode) (old : Part) (z : ScanView) (xids : List XidName) (new : Part) (z' : ScanView) (xids' : List XidName) (r : Result ℕ Code) → RecoversFrom asking start m mode old z xids new z' xids' r → z'.left ≡ z.left
+from_leave asking None m mode old z xids new z' xids' r is = ap (λ (y : ScanView). y.left) is.scan
+from_leave asking (Some place) m mode old z xids new z' xids' r is = recovers_leave asking m mode place old z xids new z' xids' r is
+
+by_leave : (asking : Asking Part) (there : Bool) (mode : Result Mode Code) (m : ℕ) (old : Part) (z : ScanView) (xids : List XidName) (new : Part) (z' : ScanView) (xids' : List XidName) (r : Result ℕ Code) → RecoversBy asking there mode m old z xids new z' xids' r → z'.left ≡ z.left
+by_leave asking there (Err why) m old z xids new z' xids' r is = ap (λ (y : ScanView). y.left) is.scan
+by_leave asking false (Ok mode) m old z xids new z' xids' r is = ap (λ (y : ScanView). y.left) is.scan
+by_leave asking true (Ok mode) m old z xids new z' xids' r is = from_leave asking (start_of mode (place_at z m)) m mode old z xids new z' xids' r is
+
+call_leaves : (settled : Settling) (p : Called) (a : Answer) (old new : Part) → CallTakes settled p a old new → new.scan.left ≡ old.scan.left
+call_leaves settled p a old new (answered o c asks told is) = ap (λ (x : Part). x.scan.left) is
+call_leaves settled p a old new (kept o c k asks low told free is) = ap (λ (x : Part). x.scan.left) is
+call_leaves settled p a old new (refused c is told same) = ap (λ (x : Part). x.scan.left) same
+call_leaves settled p a old new (completes o k c asks there code told same) = ap (λ (x : Part). x.scan.left) same
+call_leaves settled p a old new (lists n asks is) = by_leave (Asked p.thread p.manager) is.there (check_flags call.Recover p.flags) p.manager old old.scan is.before is.asked new.scan is.after is.result is.recovers
+
+takes_leaves : (settled : Settling) (p : Task) (a : Answer) (old new : Part) → Takes settled p a old new → new.scan.left ≡ old.scan.left
+takes_leaves settled (task.Call p) a old new is = call_leaves settled p a old new is
+takes_leaves settled (task.CommitAll c) a old new (takes_none told same) = ap (λ (x : Part). x.scan.left) same
+takes_leaves settled (task.CommitAll c) a old new (decided done told is) = ap (λ (y : ScanView). y.left) is.scan
+takes_leaves settled (task.Resolve r) a old new (ends_none told same) = ap (λ (x : Part). x.scan.left) same
+takes_leaves settled (task.Resolve r) a old new (resolved outcomes told is) = ap (λ (y : ScanView). y.left) is.scan
+
+-- line by line
+pub lines_leave : (settled : Settling) (first : Part) (ls : List Line) (last : Part) → Chain (TakesPart settled) first ls last → last.scan.left ≡ first.scan.left
+lines_leave settled first ls last (no_step xs end e f) = ap (λ (p : Part). p.scan.left) f
+lines_leave settled first ls last (one_step xs x now end before step) = takes_leaves settled x.task x.answer now end step ∙ lines_leave settled first xs now before
+
 module _ (settled : Settling) (b : Branch) where
   abbrev Quiet : List Entry → List Entry → Type 0
   Quiet = AddsUnnamed b.xid
 
-  one_entry : (p : Called) (o : Op) (c : Code) (old : List Entry) → op_in (wanted_in p) ≡ Some o → is_among b (branches_in (task.Call p)) ≡ false
+  one_entry : (p : Called) (o : Op) (c : Code) (old : List Entry) → op_in (wanted_in p) ≡ Some o → is_among b (branches_by p.manager p.action) ≡ false
       → Quiet old (if b.m == p.manager then old ++ next_entry p.thread old o c ∷ [] else old)
   one_entry p o c old asks quiet =
       by_if (Quiet old) (b.m == p.manager) (old ++ next_entry p.thread old o c ∷ []) old
@@ -196,7 +245,7 @@ module _ (settled : Settling) (b : Branch) where
       (λ d e x c asked quiet. (adds_both b.xid (d.entries b.m) (e.entries b.m) (is.asked.entries b.m) (asked_unnamed p.thread p.manager d (op.Listed x) e c asked refl) quiet, tt))
       is.there (check_flags call.Recover p.flags) p.manager old old.scan is.before is.asked new.scan is.after is.result is.recovers (adds_same b.xid (is.asked.entries b.m) (is.asked.entries b.m) refl)).0
 
-  call_unnamed : (p : Called) (a : Answer) (old new : Part) → CallTakes settled p a old new → is_among b (branches_in (task.Call p)) ≡ false → Quiet (old.entries b.m) (new.entries b.m)
+  call_unnamed : (p : Called) (a : Answer) (old new : Part) → CallTakes settled p a old new → is_among b (branches_by p.manager p.action) ≡ false → Quiet (old.entries b.m) (new.entries b.m)
   call_unnamed p a old new (answered o c asks told is) quiet = subst (λ (x : Part). Quiet (old.entries b.m) (x.entries b.m)) (sym is) (one_entry p o c (old.entries b.m) (ap op_in asks) quiet)
   call_unnamed p a old new (kept o c k asks low told free is) quiet = subst (λ (x : Part). Quiet (old.entries b.m) (x.entries b.m)) (sym is) (one_entry p o c (old.entries b.m) (ap op_in asks) quiet)
   call_unnamed p a old new (refused c is told same) quiet = adds_same b.xid (old.entries b.m) (new.entries b.m) (ap (λ (x : Part). x.entries b.m) same)
@@ -238,7 +287,7 @@ module _ (settled : Settling) (b : Branch) where
   others P (c ∷ bs) (v ∷ vs) (z ∷ zs) (e ∷ es) quiet h = let parts = or_none ((c.m == b.m) && xid_eq c.xid b.xid) (is_among b bs) quiet in ((parts.0, h.0), others P bs vs zs es parts.1 h.1)
   others P bs vs zs es quiet h = absurd h
 
-  decides_unnamed : (c : CommitAll) (done : Outcome) (old new : Part) → Decides c done old new → is_among b (branches_of c) ≡ false → Quiet (old.entries b.m) (new.entries b.m)
+  decides_unnamed : (c : CommitAll) (done : DoneSo) (old new : Part) → Decides c done old new → is_among b (branches_of c) ≡ false → Quiet (old.entries b.m) (new.entries b.m)
   decides_unnamed c done old new is quiet =
       let At : Branch → Code → Option Code → Ending → Type 0 = AtBranch c.thread done.commit old.entries new.entries in
       let Other : Branch → Code → Option Code → Ending → Type 0 = λ d v z e. (((d.m == b.m) && xid_eq d.xid b.xid) ≡ false) × At d v z e in
@@ -256,15 +305,79 @@ module _ (settled : Settling) (b : Branch) where
       (carries_unnamed c.thread (third_op d.xid h.2) at.third at.decided (new.entries d.m) at.forgets (λ p e. third_names d.xid h.2 p e other))))
       (branch_there Other b.m (branches_of c) done.votes.items is.seconds done.endings.items (others At (branches_of c) done.votes.items is.seconds done.endings.items quiet is.branches))
 
-  takes_unnamed : (p : Task) (a : Answer) (old new : Part) → Takes settled p a old new → is_among b (branches_in p) ≡ false → Quiet (old.entries b.m) (new.entries b.m)
-  takes_unnamed (task.Call p) a old new takes quiet = call_unnamed p a old new takes quiet
-  takes_unnamed (task.CommitAll c) a old new (takes_none told same) quiet = adds_same b.xid (old.entries b.m) (new.entries b.m) (ap (λ (x : Part). x.entries b.m) same)
-  takes_unnamed (task.CommitAll c) a old new (decided done told is) quiet = decides_unnamed c done old new is quiet
+  -- ---- what a resolve puts there
+
+  -- outcomes of other branches
+  abbrev Others : List Outcome → Type 0
+  Others os = list_any (λ o. xid_eq o.xid b.xid) os ≡ false
+
+  others_of : (os : List Outcome) (xs : List XidName) → map (λ o. o.xid) os ≡ xs → list_any (λ x. xid_eq x b.xid) xs ≡ false → Others os
+  others_of os xs same quiet = by_xids os (ap (list_any (λ x. xid_eq x b.xid)) same ∙ quiet)
+    where
+      by_xids : (os : List Outcome) → list_any (λ x. xid_eq x b.xid) (map (λ (o : Outcome). o.xid) os) ≡ false → Others os
+      by_xids [] e = refl
+      by_xids (o ∷ os) e = let parts = or_none (xid_eq o.xid b.xid) _ e in or_from _ _ parts.0 (by_xids os parts.1)
+
+  others_front : (os : List Outcome) (o : Outcome) → Others (os ++ o ∷ []) → Others os × (xid_eq o.xid b.xid ≡ false)
+  others_front [] o e = (refl, (or_none (xid_eq o.xid b.xid) false e).0)
+  others_front (p ∷ os) o e = let parts = or_none (xid_eq p.xid b.xid) _ e in let rest = others_front os o parts.1 in (or_from _ _ parts.0 rest.0, rest.1)
+
+  asked_quietly : (t : ℕ) (o : Op) (code : Code) (old new : List Entry) → CarriesOut t old o new code → names b.xid o ≡ false → Quiet old new
+  asked_quietly t o code old new is quiet = carries_unnamed t (Some o) (Some code) old new is (λ p e. let same : o ≡ p = cc in ap (names b.xid) (sym same) ∙ quiet)
+
+  asked_if : (asks : Bool) (t : ℕ) (o : Op) (old new : List Entry) → AsksIf asks (CarriesOut t) o old new → names b.xid o ≡ false → Quiet old new
+  asked_if false t o old new same quiet = adds_same b.xid old new same
+  asked_if true t o old new asked quiet = asked_quietly t o asked.0 old new asked.1 quiet
+
+  outcome_names : (commit : Bool) (x : XidName) → xid_eq x b.xid ≡ false → names b.xid (outcome_op commit x) ≡ false
+  outcome_names true x other = other
+  outcome_names false x other = other
+
+  branch_quiet : (t : ℕ) (log : LogState) (m : ℕ) (o : Outcome) (old new : List Entry) → ResolvesBranch (CarriesOut t) log m o old new → xid_eq o.xid b.xid ≡ false → Quiet old new
+  branch_quiet t log m o old new is other =
+      adds_both b.xid old is.decided new (asked_quietly t (outcome_op o.commit o.xid) o.code old is.decided is.obeys (outcome_names o.commit o.xid other))
+      (asked_if (is_decided o.code) t (op.Forget o.xid) is.decided new is.forgets other)
+
+  branches_quiet : (t : ℕ) (log : LogState) (m : ℕ) (old : List Entry) (os : List Outcome) (new : List Entry) → Chain (ResolvesBranch (CarriesOut t) log m) old os new → Others os → Quiet old new
+  branches_quiet t log m old os new (no_step xs end e f) others = adds_same b.xid old end f
+  branches_quiet t log m old os new (one_step xs o now end before is) others =
+      let parts = others_front xs o others in
+      adds_both b.xid old now end (branches_quiet t log m old xs now before parts.0) (branch_quiet t log m o now end is parts.1)
+
+  resolves_quiet : (t : ℕ) (log : LogState) (m : ℕ) (xs : List XidName) (os : List Outcome) (old new : List Entry) → ResolvesAt (CarriesOut t) log m xs os old new → list_any (λ x. xid_eq x b.xid) xs ≡ false → Quiet old new
+  resolves_quiet t log m [] os old new is quiet = adds_same b.xid old new is.1
+  resolves_quiet t log m (x ∷ xs) os old new is quiet =
+      adds_both b.xid old is.opened new (asked_quietly t op.OpenRm is.code old is.opened is.opens refl) (branches_quiet t log m is.opened os new is.each (others_of os (x ∷ xs) is.xids_are quiet))
+
+  resolve_unnamed : (r : Resolve) (outcomes : List Outcome) (old new : Part) → EndsLeft r outcomes old new → list_any (λ x. xid_eq x b.xid) (left_at old.scan b.m) ≡ false → Quiet (old.entries b.m) (new.entries b.m)
+  resolve_unnamed r outcomes old new is quiet =
+      elim (up_to_or_not b.m) [
+        | inl within ↦ resolves_quiet r.thread old.log b.m (left_at old.scan b.m) (is.at b.m) (old.entries b.m) (new.entries b.m) (is.managers b.m within) quiet
+        | inr past ↦ adds_same b.xid (old.entries b.m) (new.entries b.m) (is.elsewhere b.m past)
+      ]
+
+  -- ---- line by line
+
+  -- a thread's scans have as left what they had at first
+  abbrev Same : ScanView → Part → Type 0
+  Same z p = p.scan.left ≡ z.left
+
+  takes_unnamed : (z : ScanView) (p : Task) (a : Answer) (old new : Part) → Takes settled p a old new → Same z old → names_it z b p ≡ false → Quiet (old.entries b.m) (new.entries b.m)
+  takes_unnamed z (task.Call p) a old new takes same quiet = call_unnamed p a old new takes quiet
+  takes_unnamed z (task.CommitAll c) a old new (takes_none told e) same quiet = adds_same b.xid (old.entries b.m) (new.entries b.m) (ap (λ (x : Part). x.entries b.m) e)
+  takes_unnamed z (task.CommitAll c) a old new (decided done told is) same quiet = decides_unnamed c done old new is quiet
+  takes_unnamed z (task.Resolve r) a old new (ends_none told e) same quiet = adds_same b.xid (old.entries b.m) (new.entries b.m) (ap (λ (x : Part). x.entries b.m) e)
+  takes_unnamed z (task.Resolve r) a old new (resolved outcomes told is) same quiet =
+      resolve_unnamed r outcomes.items old new is (ap (list_any (λ x. xid_eq x b.xid)) (left_same b.m old.scan z same) ∙ quiet)
+    where
+      left_same : (m : ℕ) (y z : ScanView) → y.left ≡ z.left → left_at y m ≡ left_at z m
+      left_same zero y z e = refl
+      left_same (suc k) y z e = ap (λ l. slice_index_or l k []) e
 
   -- so lines that don't name it
-  pub lines_unnamed : (first : Part) (ls : List Line) (last : Part) → Chain (TakesPart settled) first ls last → All (λ l. is_among b (branches_in l.task) ≡ false) ls → Quiet (first.entries b.m) (last.entries b.m)
-  lines_unnamed first ls last (no_step xs end e f) quiet = adds_same b.xid (first.entries b.m) (end.entries b.m) (ap (λ (p : Part). p.entries b.m) f)
-  lines_unnamed first ls last (one_step xs x now end before step) quiet =
+  pub lines_unnamed : (z : ScanView) (first : Part) (ls : List Line) (last : Part) → Chain (TakesPart settled) first ls last → Same z first → All (λ l. names_it z b l.task ≡ false) ls → Quiet (first.entries b.m) (last.entries b.m)
+  lines_unnamed z first ls last (no_step xs end e f) same quiet = adds_same b.xid (first.entries b.m) (end.entries b.m) (ap (λ (p : Part). p.entries b.m) f)
+  lines_unnamed z first ls last (one_step xs x now end before step) same quiet =
       adds_both b.xid (first.entries b.m) (now.entries b.m) (end.entries b.m)
-      (lines_unnamed first xs now before (all_front (λ (l : Line). is_among b (branches_in l.task) ≡ false) xs x quiet))
-      (takes_unnamed x.task x.answer now end step (all_mid (λ (l : Line). is_among b (branches_in l.task) ≡ false) xs [] x quiet))
+      (lines_unnamed z first xs now before same (all_front (λ (l : Line). names_it z b l.task ≡ false) xs x quiet))
+      (takes_unnamed z x.task x.answer now end step (lines_leave settled first xs now before ∙ same) (all_mid (λ (l : Line). names_it z b l.task ≡ false) xs [] x quiet))

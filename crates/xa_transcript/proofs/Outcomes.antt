@@ -21,7 +21,7 @@ use Rattle.xa_driver.specs.Decision.{is_yes, is_no, is_read}
 use Rattle.xa_driver.specs.Endings.{ending_of, yes_ending, is_out_of_reach, is_heuristic as is_heuristic_code}
 use Rattle.xa_driver.specs.Outcomes.{OnlyTheseName, OnlyTheseOrDecisionsName, EachOutcome, KeepsItsVote, TellsTheFate, is_committed, is_rolled_back, is_in_doubt, is_heuristic, is_left, is_read_only}
 use Rattle.xa_driver.specs.Trace.{EachBranch}
-use Rattle.xa_driver.proofs.Tabled.{Tabled}
+use Rattle.xa_driver.specs.Tabled.{Tabled}
 use Rattle.xa_driver.proofs.Fated.{Told as BecameOf}
 use Rattle.xa_driver.proofs.Values.{Counted}
 use Rattle.xa_driver.proofs.Settled.{tells_of}

@@ -14,6 +14,7 @@ use Rattle.xa_words.specs.declared.request.Op.TheVariants.{Prepare, Commit, Roll
 use Rattle.xa_tables.specs.History.{is_done, is_rolled_back}
 use Rattle.xa_desk.specs.LedgerView.{is_rm_fail}
 use Rattle.xa_worker.specs.Journal.{Entry, entry}
+use Rattle.xa_switch.specs.Scans.{left_at}
 use Rattle.xa_switch.specs.Settling.{Settling, journal}
 use Rattle.xa_driver.specs.declared.branch.Branch.{Branch}
 use Rattle.xa_driver.specs.declared.done.Done.{Done as Outcome}
@@ -25,6 +26,7 @@ use Rattle.xa_driver.specs.Endings.{second_op, third_op, yes_ending, no_ending, 
 use Rattle.xa_driver.specs.Trace.{EachBranch, has_branch_at, decision_of}
 use Rattle.xa_grammar.specs.declared.script.Called.{Called}
 use Rattle.xa_grammar.specs.declared.script.CommitAll.{CommitAll}
+use Rattle.xa_grammar.specs.declared.script.Resolve.{Resolve}
 use Rattle.xa_grammar.specs.declared.script.Task.{Task}
 use Rattle.xa_grammar.specs.declared.script.Task.TheVariants as task
 use Rattle.xa_grammar.specs.declared.script.Step.{Step}
@@ -37,10 +39,13 @@ use Rattle.xa_session.specs.Committing.{branches_of}
 use Rattle.xa_transcript.specs.Wants.{wanted_in, refusals, IsRefusal}
 use Rattle.xa_transcript.specs.Parts.{Part, next_entry, Asked, Lists, CallTakes}
 use Rattle.xa_transcript.specs.Parts.Asked.{answered as asked_answered, refused as asked_refused}
-use Rattle.xa_transcript.proofs.Mapped.{by_mapped}
+use Rattle.xa_transcript.proofs.Mapped.{by_mapped, resolves_on}
 use Rattle.xa_words.specs.Flags.{check_flags}
 use Rattle.xa_words.specs.declared.flags.Call.TheVariants as call
 use Rattle.xa_transcript.specs.Commits.{Carries, AtBranch, Decides, CommitTakes}
+use Rattle.xa_transcript.specs.Resolves.{CarriesOut, ResolveTakes}
+use Rattle.xa_transcript.specs.Resolves.ResolveTakes.{refused as ends_none, resolved}
+use Rattle.xa_transcript.proofs.LeftEnded.{up_to_or_not}
 use Rattle.xa_transcript.proofs.Parts.{entry_here}
 use Rattle.xa_transcript.specs.Journals.{Line, Takes, TakesPart, entries_of, AreCarriedOut, IsInJournal, IsCarriedOut, ShowsCommit, AreCommitted, ArePrepared, AddsNoCommit}
 use Rattle.xa_transcript.specs.Wants.Wanted.{code_of, handle_for, completion, listing}
@@ -282,9 +287,20 @@ commit_adds : (c : CommitAll) (a : Answer) (old new : Part) → CommitTakes c a 
 commit_adds c a old new (takes_none told e) m = adds_none (old.entries m) (new.entries m) (ap (λ (p : Part). p.entries m) e)
 commit_adds c a old new (decided done told is) m = decides_adds c done old new is m
 
+resolve_adds : (r : Resolve) (a : Answer) (old new : Part) → ResolveTakes r a old new → (m : ℕ) → Adding (old.entries m) (new.entries m)
+resolve_adds r a old new (ends_none told e) m = adds_none (old.entries m) (new.entries m) (ap (λ (p : Part). p.entries m) e)
+resolve_adds r a old new (resolved outcomes told is) m = elim (up_to_or_not m) [
+  | inl within ↦
+      resolves_on (CarriesOut r.thread) (CarriesOut r.thread) (λ es. es) (Adding (old.entries m)) (λ es. Unit {0})
+      (λ d e op c asks so_far. adds_both (old.entries m) d e so_far (carry_adds r.thread (Some op) (Some c) d e asks)) (λ d e op c asks p. tt) (λ d e op c asks q p. asks)
+      old.log m (left_at old.scan m) (is.at m) (old.entries m) (new.entries m) (is.managers m within) (adds_none (old.entries m) (old.entries m) refl)
+  | inr past ↦ adds_none (old.entries m) (new.entries m) (is.elsewhere m past)
+]
+
 pub takes_adds : (settled : Settling) (p : Task) (a : Answer) (old new : Part) → Takes settled p a old new → (m : ℕ) → Adding (old.entries m) (new.entries m)
 takes_adds settled (task.Call p) a old new is m = call_adds settled p a old new is m
 takes_adds settled (task.CommitAll c) a old new is m = commit_adds c a old new is m
+takes_adds settled (task.Resolve r) a old new is m = resolve_adds r a old new is m
 
 no_element : (ls : List Line) (l : Line) → ls ≡ [] → Contains ls l → ⊥
 no_element ls l e there = let size = ap (λ xs. length xs) e in let below = there.1 in omega (arith, size, below)

@@ -1,5 +1,5 @@
 -- What is shown of a key is its value at the first opening and what the journals have added to it.
-use Rattle.std.proofs.Common.{◌≡◌, ℕ, ◌≤◌, ◌∷◌, ◌++◌, List, map, Some, sym, ap, ◌∙◌, get_or}
+use Rattle.std.proofs.Common.{◌≡◌, ℕ, ◌≤◌, List, map, Some, sym, ap, ◌∙◌, get_or}
 use Rattle.std.specs.Prelude.{pos, ◌+ℤ◌, All}
 use Rattle.std.specs.FinMap as finmap
 use Rattle.std.proofs.lemmas.List.Sorted.{All-permutation}

@@ -33,6 +33,7 @@ use Rattle.xa_transcript.specs.Wants.Wanted.{code_of}
 use Rattle.xa_session.specs.Ended.{all_ended}
 use Rattle.xa_transcript.specs.Parts.{Part, CallTakes, HasCode}
 use Rattle.xa_transcript.specs.Commits.{CommitTakes}
+use Rattle.xa_transcript.specs.Resolves.{ResolveTakes}
 
 -- ---- the lines of a thread
 
@@ -40,6 +41,7 @@ use Rattle.xa_transcript.specs.Commits.{CommitTakes}
 abbrev pub Takes : Settling → Task → Answer → Part → Part → Type 0
 Takes settled (task.Call p) a old new = CallTakes settled p a old new
 Takes settled (task.CommitAll c) a old new = CommitTakes c a old new
+Takes settled (task.Resolve r) a old new = ResolveTakes r a old new
 
 -- A line of a thread, with its answer in the transcript.
 pub record Line : Type 0 where
@@ -57,6 +59,7 @@ is_to t (answer.Completed line thread handle retval) = thread == t
 is_to t (answer.Recovered line thread xids) = thread == t
 is_to t (answer.Refused line thread) = thread == t
 is_to t (answer.Decided line thread done) = thread == t
+is_to t (answer.Resolved line thread outcomes) = thread == t
 is_to t (answer.Turned line did) = false
 is_to t (answer.Ended thread handle retval) = false
 is_to t (answer.Reopened line) = false
@@ -72,6 +75,7 @@ is_end_of t (answer.Completed line thread handle retval) = false
 is_end_of t (answer.Recovered line thread xids) = false
 is_end_of t (answer.Refused line thread) = false
 is_end_of t (answer.Decided line thread done) = false
+is_end_of t (answer.Resolved line thread outcomes) = false
 is_end_of t (answer.Turned line did) = false
 is_end_of t (answer.Ended thread handle retval) = thread == t
 is_end_of t (answer.Reopened line) = false

@@ -4,6 +4,7 @@ pub mod Planning
 pub mod Wants
 pub mod Parts
 pub mod Commits
+pub mod Resolves
 pub mod Journals
 pub mod Openings
 pub mod Outcomes

@@ -10,6 +10,7 @@ use Rattle.xa_tables.specs.History.{Absent}
 use Rattle.xa_tables.specs.Openings.{added_over}
 use Rattle.xa_switch.specs.Settling.{Settling, journal}
 use Rattle.xa_switch.specs.Fates.{IsOpenedWith, history}
+use Rattle.xa_switch.specs.Scans.{ScanView, left_at}
 use Rattle.xa_driver.specs.declared.branch.Branch.{Branch}
 use Rattle.xa_driver.specs.declared.done.Done.{Done}
 use Rattle.xa_driver.specs.Outcomes.{is_committed, is_in_doubt, is_heuristic, is_read_only, has_committed, has_rolled_back}
@@ -66,7 +67,7 @@ pub record AreLeftOrDecided (settled : Settling) (t : ℕ) (bs : List Branch) (o
       (λ b. OnlyTheseOrDecisionsName b.xid t (length (old.entries b.m)) (length (new.entries b.m))
       (history settled b.m)) bs
 
--- The branches that a task names: a call with an xid, or a heuristic decision, that of its manager, a commit all its own.
+-- The branches that a call names: that of its manager with its xid; and so does a heuristic decision.
 abbrev pub branches_by : ℕ → Action → List Branch
 branches_by m (action.Xa c (Some x)) = record { m = m; xid = x } ∷ []
 branches_by m (action.Xa c None) = []
@@ -75,22 +76,27 @@ branches_by m (action.Native o) = []
 branches_by m (action.Complete h) = []
 branches_by m (action.Recover n) = []
 
-abbrev pub branches_in : Task → List Branch
-branches_in (task.Call p) = branches_by p.manager p.action
-branches_in (task.CommitAll c) = branches_of c
-
 -- The branch is among them, by its manager and its xid.
 abbrev pub is_among : Branch → List Branch → Bool
 is_among b bs = list_any (λ c. (c.m == b.m) && xid_eq c.xid b.xid) bs
 
--- The task names none of these branches.
-abbrev pub NamesNone : List Branch → Task → Type 0
-NamesNone bs p = All (λ b. is_among b (branches_in p) ≡ false) bs
+-- The task names the branch, where it is of a thread with these scans: a commit names all its own, and a resolve those that
+-- its thread's scans have as left.
+abbrev pub names_it : ScanView → Branch → Task → Bool
+names_it z b (task.Call p) = is_among b (branches_by p.manager p.action)
+names_it z b (task.CommitAll c) = is_among b (branches_of c)
+names_it z b (task.Resolve r) = list_any (λ x. xid_eq x b.xid) (left_at z b.m)
 
--- From a line of thread t on no other names these branches: no line of another thread does, and none of those after it.
-pub record AreNamedByNoOther (steps : List Step) (t : ℕ) (bs : List Branch) (after : List Line) : Type 0 where
-  pub threads : (u : ℕ) → u ≢ t → All (NamesNone bs) (tasks_of u steps)
-  pub later : All (λ l. NamesNone bs l.task) after
+-- The task names none of these branches.
+abbrev pub NamesNone : ScanView → List Branch → Task → Type 0
+NamesNone z bs p = All (λ b. names_it z b p ≡ false) bs
+
+-- From a line of thread t on no other names these branches, in an opening that began with these scans: no line of another
+-- thread does, and none of those after it.
+pub record AreNamedByNoOther (steps : List Step) (scans : ℕ → ScanView) (t : ℕ) (bs : List Branch) (after : List Line)
+    : Type 0 where
+  pub threads : (u : ℕ) → u ≢ t → All (NamesNone (scans u) bs) (tasks_of u steps)
+  pub later : All (λ l. NamesNone (scans t) bs l.task) after
 
 -- ---- what became of them
 

@@ -6,11 +6,12 @@ use Rattle.xa_words.specs.Code.{number_of}
 use Rattle.xa_words.specs.Xid.{XidName}
 use Rattle.xa_driver.specs.declared.done.Done.{Done}
 use Rattle.xa_driver.specs.declared.done.Ending.{Ending}
+use Rattle.xa_driver.specs.declared.resolved.Outcome.{Outcome}
 use Rattle.xa_driver.specs.declared.done.Ending.TheVariants.{Committed, ReadOnly, RolledBack, InDoubt, Heuristic, Left}
 use Rattle.xa_grammar.specs.declared.script.Declared.{Declared}
 use Rattle.xa_session.specs.declared.answer.Answer.{Answer}
-use Rattle.xa_session.specs.declared.answer.Answer.TheVariants.{Called, Completed, Recovered, Refused, Decided, Turned, Ended}
-use Rattle.xa_session.specs.declared.answer.Answer.TheVariants.{Reopened}
+use Rattle.xa_session.specs.declared.answer.Answer.TheVariants.{Called, Completed, Recovered, Refused, Decided}
+use Rattle.xa_session.specs.declared.answer.Answer.TheVariants.{Resolved, Turned, Ended, Reopened}
 use Rattle.xa_worker.specs.declared.step.Step.{Step}
 use Rattle.xa_worker.specs.declared.step.Step.TheVariants.{Did, Late, EndSeen, Empty, Blocked}
 
@@ -65,8 +66,23 @@ xid_text x = x.gtrid ++ codes "." ++ x.bqual
 abbrev pub listed_text : List XidName → List ℕ
 listed_text xids = decimal (length xids) ++ flat_map (λ x. codes " " ++ xid_text x) xids
 
--- L T C, L T 0 handle H retval R, L T N X .., L T refused, L T commit logged E .., L turn S, end T handle H retval R,
--- L reopened
+-- commit, rollback
+abbrev pub resolution_text : Bool → List ℕ
+resolution_text true = codes "commit"
+resolution_text false = codes "rollback"
+
+-- M:G.B:commit:C, M:G.B:rollback:C
+abbrev pub outcome_text : Outcome → List ℕ
+outcome_text o =
+    decimal o.m ++ codes ":" ++ xid_text o.xid ++ codes ":" ++ resolution_text o.commit ++ codes ":"
+    ++ signed_decimal (number_of o.code)
+
+-- A word for each branch, after a space.
+abbrev pub outcomes_text : List Outcome → List ℕ
+outcomes_text outcomes = flat_map (λ o. codes " " ++ outcome_text o) outcomes
+
+-- L T C, L T 0 handle H retval R, L T N X .., L T refused, L T commit logged E .., L T resolved O .., L turn S,
+-- end T handle H retval R, L reopened
 abbrev pub answer_text : Answer → List ℕ
 answer_text (Called line thread answer) = call_text line thread ++ codes " " ++ signed_decimal answer ++ codes "\n"
 answer_text (Completed line thread handle retval) =
@@ -74,6 +90,8 @@ answer_text (Completed line thread handle retval) =
 answer_text (Recovered line thread xids) = call_text line thread ++ codes " " ++ listed_text xids.items ++ codes "\n"
 answer_text (Refused line thread) = call_text line thread ++ codes " refused\n"
 answer_text (Decided line thread done) = call_text line thread ++ codes " " ++ done_text done ++ codes "\n"
+answer_text (Resolved line thread outcomes) =
+    call_text line thread ++ codes " resolved" ++ outcomes_text outcomes.items ++ codes "\n"
 answer_text (Turned line step) = decimal line ++ codes " turn " ++ turn_text step ++ codes "\n"
 answer_text (Ended thread handle retval) = codes "end " ++ decimal thread ++ handle_text (decimal handle) retval
 answer_text (Reopened line) = decimal line ++ codes " reopened\n"

@@ -21,14 +21,8 @@ ghost use Rattle.xa_transcript.specs.Outcomes.{Place, AreLeftAlone, AreLeftOrDec
 ghost use Rattle.xa_transcript.specs.Runs.{Ran};
 ghost use Rattle.xa_transcript.specs.Values.{AreOfScript};
 
+use xa_driver::laws::tables_keep_to_their_laws;
 use xa_switch::laws::settled_journals_follow_the_tables;
-use xa_tables::laws::{
-    adders_never_vote_read_only, late_requests_leave_fates, only_a_shut_shuts,
-    only_completed_branches_tell_a_decision, only_prepared_branches_are_decided,
-    prepared_branches_await_the_outcome, prepared_branches_keep_what_they_hold,
-    read_only_branches_hold_nothing, refused_prepares_tell_integrity, shut_managers_decide_nothing,
-    tables_tell_the_fates,
-};
 
 /// Each call without `TMASYNC` that answers XA_OK has its request in its manager's journal, with XA_OK.
 pub fn what_answers_ok_is_carried_out()
@@ -69,19 +63,9 @@ pub fn lines_have_their_places()
 pub fn branches_are_as_shown()
     ensures decisions { (s : Content) (b : Beginning) (o : Opening) (tells : TellsOf s b o) (c : CommitAll) (done : Done) (before : List Line) (l : Line) (after : List Line) (old new : Part) → Place (tells.carried c.thread) before l after old new → ShowsCommit l c done → AreLeftOrDecided o.settled c.thread (branches_of c) old new → IsAsShown o.settled c.thread (branches_of c) old done }
     ensures journals { (s : Content) (b : Beginning) (o : Opening) (tells : TellsOf s b o) (c : CommitAll) (done : Done) (before : List Line) (l : Line) (after : List Line) (old new : Part) → Place (tells.carried c.thread) before l after old new → ShowsCommit l c done → AreLeftAlone o.settled c.thread (branches_of c) old new → IsAsShown o.settled c.thread (branches_of c) old done × CountsAsShown o.settled c.thread (branches_of c) old done }
-    ensures lines { (s : Content) (b : Beginning) (o : Opening) (tells : TellsOf s b o) (c : CommitAll) (done : Done) (before : List Line) (l : Line) (after : List Line) → (tells.carried c.thread).lines ≡ before ++ l ∷ after → ShowsCommit l c done → AreNamedByNoOther o.steps c.thread (branches_of c) after → (old : Part) × (new : Part) × Place (tells.carried c.thread) before l after old new × IsAsShown o.settled c.thread (branches_of c) old done × CountsAsShown o.settled c.thread (branches_of c) old done }
+    ensures lines { (s : Content) (b : Beginning) (o : Opening) (tells : TellsOf s b o) (c : CommitAll) (done : Done) (before : List Line) (l : Line) (after : List Line) → (tells.carried c.thread).lines ≡ before ++ l ∷ after → ShowsCommit l c done → AreNamedByNoOther o.steps b.scans c.thread (branches_of c) after → (old : Part) × (new : Part) × Place (tells.carried c.thread) before l after old new × IsAsShown o.settled c.thread (branches_of c) old done × CountsAsShown o.settled c.thread (branches_of c) old done }
 {
-    prepared_branches_await_the_outcome();
-    adders_never_vote_read_only();
-    only_a_shut_shuts();
-    late_requests_leave_fates();
-    refused_prepares_tell_integrity();
-    prepared_branches_keep_what_they_hold();
-    read_only_branches_hold_nothing();
-    tables_tell_the_fates();
-    only_prepared_branches_are_decided();
-    shut_managers_decide_nothing();
-    only_completed_branches_tell_a_decision();
+    tables_keep_to_their_laws();
     settled_journals_follow_the_tables();
 }
 

@@ -1,13 +1,13 @@
 //! The transcript of a run.
 ghost use Rattle.std.specs.Prelude.{◌≡◌, ◌++◌, OnOk, IfOk, IsErrOf};
 ghost use Rattle.std.specs.Io.KnownBytes.{Appends};
-ghost use Rattle.xa_transcript.specs.Transcript.{turn_text, handle_text, call_text, decision_text, record_text, ending_text, endings_text, done_text, xid_text, listed_text, answer_text, value_text, text};
+ghost use Rattle.xa_transcript.specs.Transcript.{turn_text, handle_text, call_text, decision_text, record_text, ending_text, endings_text, done_text, xid_text, listed_text, resolution_text, outcome_text, outcomes_text, answer_text, value_text, text};
 
 use itoa::{Buffer, Integer};
 use std::alloc::{AllocError, Global};
 use std::io::Write;
 use thiserror::Error;
-use xa_driver::{Done, Ending};
+use xa_driver::{Done, Ending, Outcome};
 use xa_grammar::Declared;
 use xa_session::Answer;
 use xa_words::Xid;
@@ -147,6 +147,37 @@ fn put_listed(out: &mut Vec<u8>, xids: &[Xid]) -> Result<(), AllocError>
     Ok(())
 }
 
+// What stands for what was asked for a branch: commit or rollback.
+fn resolution_text(commit: bool) -> &'static [u8]
+    ensures { result.now ≡ resolution_text commit }
+{
+    if commit { b"commit" } else { b"rollback" }
+}
+
+// `M:G.B:commit:C` or `M:G.B:rollback:C`
+fn put_outcome(out: &mut Vec<u8>, outcome: &Outcome) -> Result<(), AllocError>
+    ensures { OnOk result (out.new.items ≡ out.old.items ++ outcome_text outcome.now) }
+{
+    put_number(out, outcome.m)?;
+    out.extend_from_slice(b":")?;
+    put_xid(out, &outcome.xid)?;
+    out.extend_from_slice(b":")?;
+    out.extend_from_slice(resolution_text(outcome.commit))?;
+    out.extend_from_slice(b":")?;
+    put_number(out, outcome.code.value())
+}
+
+// A word for each branch, after a space.
+fn put_outcomes(out: &mut Vec<u8>, outcomes: &[Outcome]) -> Result<(), AllocError>
+    ensures { OnOk result (out.new.items ≡ out.old.items ++ outcomes_text outcomes.now) }
+{
+    for outcome in outcomes {
+        out.extend_from_slice(b" ")?;
+        put_outcome(out, outcome)?;
+    }
+    Ok(())
+}
+
 fn put_answer(out: &mut Vec<u8>, answer: &Answer) -> Result<(), AllocError>
     ensures { OnOk result (out.new.items ≡ out.old.items ++ answer_text answer.now) }
 {
@@ -185,6 +216,16 @@ fn put_answer(out: &mut Vec<u8>, answer: &Answer) -> Result<(), AllocError>
             put_call(out, *line, *thread)?;
             out.extend_from_slice(b" ")?;
             put_done(out, done)?;
+            out.extend_from_slice(b"\n")
+        }
+        Answer::Resolved {
+            line,
+            thread,
+            outcomes,
+        } => {
+            put_call(out, *line, *thread)?;
+            out.extend_from_slice(b" resolved")?;
+            put_outcomes(out, outcomes)?;
             out.extend_from_slice(b"\n")
         }
         Answer::Turned { line, step } => {

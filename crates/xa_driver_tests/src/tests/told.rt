@@ -7,7 +7,8 @@ ghost use Rattle.xa_desk.specs.Growth.{HaveGrown};
 ghost use Rattle.xa_driver.specs.Trace.{IsCommit};
 ghost use Rattle.xa_driver.specs.Outcomes.{AreLeftOrDecided, KeepsTheVotes, TellsTheFates};
 
-use super::{Workers, branch, delta, key, plan_of};
+use super::pieces::{Made, commit, end, one, run_all, work};
+use super::{Workers, branch, key, plan_of};
 use std::alloc::Global;
 use std::process::Abort;
 use std::snapshot::Snapshot;
@@ -28,19 +29,6 @@ struct Opened {
     workers: Workers,
 }
 
-fn one_desk(rt: &impl Abort, desks: Vec<Desk>) -> Desk
-    ensures { result ∷ [] ≡ desks.items }
-{
-    let mut desks = desks;
-    let Some(desk) = desks.pop() else {
-        panic!(rt; "the desk is missing");
-    };
-    if !desks.is_empty() {
-        panic!(rt; "there are more desks");
-    }
-    desk
-}
-
 fn open<R: Wait + Abort>(rt: &R, alloc: Global, plan: &Plan) -> Opened
     ensures { ComeFromOpenings (seat_of_desk result.desk ∷ []) (map seat_of_worker result.workers.workers.items) }
 {
@@ -49,62 +37,8 @@ fn open<R: Wait + Abort>(rt: &R, alloc: Global, plan: &Plan) -> Opened
         panic!(rt; "it is not opened");
     };
     Opened {
-        desk: one_desk(rt, desks),
+        desk: one(rt, desks),
         workers: Workers { workers },
-    }
-}
-
-// Work for a branch, at a manager that the thread opens first.
-fn work<R: Wait + Abort>(rt: &R, desk: &mut Desk, branch: &Branch, idle: &mut Workers)
-    ensures seat { seat_of_desk desk.new ≡ seat_of_desk desk.old }
-    ensures idled { map seat_of_worker idle.new.workers.items ≡ map seat_of_worker idle.old.workers.items }
-{
-    let (m, xid) = (branch.m, Some(branch.xid));
-    let add = RmOp::Add(key(rt), delta(rt, 1));
-    let opened = xa_call(rt, desk, Call::OpenRm, None, m, TMNOFLAGS, idle);
-    let started = xa_call(rt, desk, Call::Start, xid, m, TMNOFLAGS, idle);
-    let added = native(rt, desk, add, m, TMNOFLAGS, idle);
-    let ended = xa_call(rt, desk, Call::End, xid, m, TMSUCCESS, idle);
-    assert!(rt; opened == 0 && started == 0 && added == 0 && ended == 0);
-}
-
-// A commit that a desk made: the desk and its log before it and after it, and what it told.
-#[derive(Drop)]
-struct Made {
-    before: Snapshot<Desk>,
-    after: Snapshot<Desk>,
-    log_before: Snapshot<MemoryLog>,
-    log_after: Snapshot<MemoryLog>,
-    done: Done,
-}
-
-fn commit<R: Wait + Abort>(
-    rt: &R,
-    alloc: Global,
-    desk: &mut Desk,
-    log: &mut MemoryLog,
-    branches: &[Branch],
-    idle: &mut Workers,
-) -> Made
-    ensures made { IsCommit branches.now result.before.value result.after.value.ledgers result.log_before.value.state result.log_after.value.state result.done }
-    ensures grown { HaveGrown result.after.value.ledgers desk.new.ledgers }
-    ensures seat { seat_of_desk desk.new ≡ seat_of_desk desk.old }
-    ensures idled { map seat_of_worker idle.new.workers.items ≡ map seat_of_worker idle.old.workers.items }
-{
-    growth_goes_on();
-    if !may_commit(desk, log, branches) {
-        panic!(rt; "these branches are refused");
-    }
-    let (before, log_before) = (Snapshot::of(desk), Snapshot::of(log));
-    let Ok(done) = commit_all(rt, alloc, desk, log, branches, idle) else {
-        panic!(rt; "memory");
-    };
-    Made {
-        before,
-        after: Snapshot::of(desk),
-        log_before,
-        log_after: Snapshot::of(log),
-        done,
     }
 }
 
@@ -118,37 +52,6 @@ fn close<R: Wait + Abort>(rt: &R, desk: &mut Desk, idle: &mut Workers)
     let first = xa_call(rt, desk, Call::CloseRm, None, 1, TMNOFLAGS, idle);
     let second = xa_call(rt, desk, Call::CloseRm, None, 2, TMNOFLAGS, idle);
     assert_eq!(rt; (first, second), (0, 0));
-}
-
-// Ends a desk with which nothing is outstanding.
-fn end<R: Wait + Abort, I: Idle>(rt: &R, desk: Desk, idle: &mut I) -> EndedDesk
-    ensures seat { seat_of_ended result ≡ seat_of_desk desk }
-    ensures lists { result.ledgers ≡ desk.ledgers }
-    ensures idled { I.leads idle.old idle.new }
-{
-    match desk.finish(rt, idle) {
-        Ok(ended) => ended,
-        Err(_) => panic!(rt; "something is outstanding"),
-    }
-}
-
-// Runs a worker to its end.
-fn run<R: Wait>(rt: &R, worker: Worker) -> DoneWorker
-    ensures { seat_of_done result ≡ seat_of_worker worker }
-{
-    worker.run(rt, &mut Free)
-}
-
-// Runs all workers of an opening.
-fn run_all<R: Wait + Abort>(rt: &R, alloc: Global, workers: Vec<Worker>) -> Vec<DoneWorker>
-    ensures { worker_seats result.items ≡ map seat_of_worker workers.items }
-{
-    let mut done = Vec::new(alloc);
-    for worker in workers {
-        let one = run(rt, worker);
-        done.push(one).expect(rt, "memory");
-    }
-    done
 }
 
 // Settles all desks and workers of an opening.

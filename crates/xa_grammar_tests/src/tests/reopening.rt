@@ -1,6 +1,6 @@
-//! Lines that reopen and that recover, and the faults in them.
+//! Lines that reopen, that recover and that resolve, and the faults in them.
 use std::test::Fail;
-use xa_grammar::{Action, Called, Reason, ScriptFault, Step, Task, read_script};
+use xa_grammar::{Action, Called, Reason, Resolve, ScriptFault, Step, Task, read_script};
 use xa_words::{Call, TMASYNC, TMENDRSCAN, TMSTARTRSCAN};
 
 fn call(line: u32, thread: u32, manager: u32, action: Action, flags: u32) -> Step {
@@ -14,10 +14,10 @@ fn call(line: u32, thread: u32, manager: u32, action: Action, flags: u32) -> Ste
 }
 
 #[test]
-fn lines_that_reopen_and_recover_are_read(rt: HostRuntime) -> Result<(), Fail> {
+fn lines_that_reopen_recover_and_resolve_are_read(rt: HostRuntime) -> Result<(), Fail> {
     let mut text = b"threads 2\nmanagers 2\n1 recover 2 64 startrscan endrscan\nreopen\n\
         2 recover 9 000000000000000007\n\t reopen \n1 open 1 startrscan\n\
-        1 recover 4294967295 0 endrscan async endrscan"
+        1 recover 4294967295 0 endrscan async endrscan\n2\tresolve "
         .as_slice();
     let script = read_script(rt.alloc(), &mut text, false)?;
     let want = [
@@ -27,6 +27,7 @@ fn lines_that_reopen_and_recover_are_read(rt: HostRuntime) -> Result<(), Fail> {
         Step::Reopen { line: 6 },
         call(7, 1, 1, Action::Xa(Call::OpenRm, None), 0x0100_0000),
         call(8, 1, u32::MAX, Action::Recover(0), TMASYNC | 0x0080_0000),
+        Step::Task(Task::Resolve(Resolve { line: 9, thread: 2 })),
     ];
     assert_eq!(rt; script.steps(), want.as_slice());
     Ok(())
@@ -62,6 +63,10 @@ fn the_first_fault_is_told(rt: HostRuntime) {
         (b"1 recover 1 65 foo", false, 1, Reason::OutOfRange),
         (b"1 recover 1 4 foo", false, 1, Reason::UnknownWord),
         (b"1 recover 1 4 4", false, 1, Reason::UnknownWord),
+        (b"resolve", false, 1, Reason::UnknownWord),
+        (b"0 resolve", false, 1, Reason::OutOfRange),
+        (b"1 resolve 1", true, 1, Reason::ExtraWord),
+        (b"1 resolve async", false, 1, Reason::ExtraWord),
     ];
     for (i, (text, threads_mode, line, why)) in rows.into_iter().enumerate() {
         let mut text = text;

@@ -1,4 +1,4 @@
-use Rattle.std.proofs.Common.{◌≡◌, ◌≤◌, ◌+◌, take}
+use Rattle.std.proofs.Common.{◌≤◌, ◌+◌, take}
 use Rattle.xa_script.specs.Openings.{HasReached}
 use Rattle.xa_script.proofs.in_turns.run.Given as goal
 

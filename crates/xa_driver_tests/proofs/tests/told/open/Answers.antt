@@ -6,5 +6,5 @@ use Rattle.xa_driver_tests.proofs.tests.told.open.Goals as goal
 -- the one desk is all desks
 pub returns : goal.returns
 returns g c =
-    subst (λ ds. ComeFromOpenings (map seat_of_desk ds) (map seat_of_worker c.in-Ok.workers.items)) (sym c.one_desk.ensures)
+    subst (λ ds. ComeFromOpenings (map seat_of_desk ds) (map seat_of_worker c.in-Ok.workers.items)) (sym c.one.ensures)
     (c.opened_pieces_come_from_their_opening.ensures (planned c.args.plan.now) c.in-Ok.desks.items c.in-Ok.workers.items c.in-Ok.ensures.opened)

@@ -1,4 +1,4 @@
-use Rattle.std.proofs.Common.{◌≡◌, ℕ, suc, ◌+◌, List, sym, refl, ap, ◌∙◌, subst, arith}
+use Rattle.std.proofs.Common.{◌≡◌, suc, ◌+◌, List, sym, subst, arith}
 use Rattle.xa_grammar.specs.Content.{Content}
 use Rattle.xa_session.specs.declared.session.Session.{Session}
 use Rattle.xa_transcript.specs.Planning.{AreNumbersOf}

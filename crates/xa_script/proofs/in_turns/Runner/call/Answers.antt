@@ -4,7 +4,6 @@ use Rattle.std.specs.Prelude.{slice_get}
 use Rattle.std.proofs.lemmas.Option.{slice_get-get_or}
 use Rattle.xa_worker.specs.Workers.{WorkerView}
 use Rattle.xa_grammar.specs.declared.script.Task.{Task}
-use Rattle.xa_base.specs.Lists.{IsUpTo}
 use Rattle.xa_grammar.specs.Content.{thread_of}
 use Rattle.xa_session.specs.declared.session.Session.{Session}
 use Rattle.xa_session.specs.declared.answer.Answer.{Answer}

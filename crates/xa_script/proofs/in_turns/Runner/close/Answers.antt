@@ -1,4 +1,4 @@
-use Rattle.std.proofs.Common.{◌≡◌, List, [], ◌∷◌, ◌++◌, map, sym, refl, ap, ◌∙◌, subst}
+use Rattle.std.proofs.Common.{[], map}
 use Rattle.xa_desk.specs.Kept.{AllKept}
 use Rattle.xa_session.specs.declared.session.Session.{Session}
 use Rattle.xa_transcript.proofs.Alone.{all_unmapped}

@@ -1,6 +1,5 @@
 -- What the laws of the tables say of one branch.
-use Rattle.std.specs.Prelude.{ℤ, pos, option_map}
-use Rattle.std.proofs.Common.{◌≡◌, ◌≢◌, ℕ, true, false, List, [], Some}
+use Rattle.std.specs.Prelude.{◌≡◌, ◌≢◌, ℕ, ℤ, pos, true, false, List, [], Some, option_map}
 use Rattle.xa_words.specs.Xid.{XidName}
 use Rattle.xa_words.specs.declared.code.Code.TheVariants.{Done, RdOnly, RbIntegrity}
 use Rattle.xa_words.specs.declared.request.Op.{Op}

@@ -1,7 +1,7 @@
 use Rattle.std.proofs.Common.{◌≡◌, ◌++◌, map, length}
 use Rattle.std.specs.Vec.Iter.{into_iter_items, into_iter_len}
 use Rattle.xa_switch.specs.Seats.{worker_seats, seat_of_worker}
-use Rattle.xa_driver_tests.proofs.tests.told.run_all.Given as goal
+use Rattle.xa_driver_tests.proofs.tests.pieces.run_all.Given as goal
 
 abbrev pub invariant-loop-worker : goal.invariant-loop-worker
 invariant-loop-worker g l = record {

@@ -1,0 +1,101 @@
+-- How a branch ends, by its fate at the end of the first opening and through the later ones.
+use Rattle.std.specs.Prelude.{◌⊎◌}
+use Rattle.std.proofs.Common.{◌≡◌, inl, inr, ⊎_elim, Bool, true, false, if◌then◌else◌, sym, refl, ap, ◌∙◌, subst, Option, Some}
+use Rattle.xa_base.proofs.Truth.{at_false, at_true}
+use Rattle.xa_words.specs.declared.code.Code.{Code}
+use Rattle.xa_words.specs.declared.code.Code.TheVariants.{HeurCom, HeurRb}
+use Rattle.xa_tables.specs.declared.state.State.{State}
+use Rattle.xa_tables.specs.declared.state.HeuristicDecision.{HeuristicDecision}
+use Rattle.xa_tables.specs.declared.state.HeuristicDecision.TheVariants as decision
+use Rattle.xa_tables.specs.Tables.{is_left_in}
+use Rattle.xa_tables.specs.Reasons.{decision_code}
+use Rattle.xa_tables.specs.History as history
+use Rattle.xa_tables.specs.History.{Fate, decided_fate, is_in_doubt as is_unknown}
+use Rattle.xa_driver.specs.declared.done.Ending.{Ending}
+use Rattle.xa_driver.specs.declared.done.Ending.TheVariants.{Committed, ReadOnly, RolledBack, InDoubt, Heuristic, Left}
+use Rattle.xa_driver.specs.Endings.{is_decided}
+use Rattle.xa_driver.specs.Outcomes.{is_in_doubt, is_heuristic, told_fate}
+use Rattle.xa_driver.specs.Resolution.{ended_as}
+use Rattle.xa_driver.proofs.Answered.{IsAfter}
+use Rattle.xa_driver.proofs.Leading.{IsOver, Stands, waits, unforgotten, over}
+use Rattle.xa_driver.proofs.Voting.{Comes, ends, tells, leaves}
+
+-- fates that are known
+pub is_known_so : (f : Fate) (commit : Bool) → f ≡ ended_as commit → is_unknown f ≡ false
+is_known_so f true e = ap is_unknown e
+is_known_so f false e = ap is_unknown e
+
+pub is_decided_so : (f : Fate) (d : HeuristicDecision) → f ≡ decided_fate d → is_unknown f ≡ false
+is_decided_so f decision.Commit e = ap is_unknown e
+is_decided_so f decision.Rollback e = ap is_unknown e
+
+-- fates that differ, and decisions that are told apart
+pub decided_apart : (d : HeuristicDecision) (commit : Bool) → decided_fate d ≡ ended_as commit → ⊥
+decided_apart decision.Commit true e = cc
+decided_apart decision.Commit false e = cc
+decided_apart decision.Rollback true e = cc
+decided_apart decision.Rollback false e = cc
+
+pub decided_one : (d k : HeuristicDecision) → decided_fate d ≡ decided_fate k → d ≡ k
+decided_one decision.Commit decision.Commit e = refl
+decided_one decision.Rollback decision.Rollback e = refl
+decided_one decision.Commit decision.Rollback e = cc
+decided_one decision.Rollback decision.Commit e = cc
+
+-- the decision that a code tells
+pub decision_so : (c : Code) → is_decided c ≡ true → (d : HeuristicDecision) × (c ≡ decision_code d)
+decision_so HeurCom e = (decision.Commit, refl)
+decision_so HeurRb e = (decision.Rollback, refl)
+decision_so c e = cc
+
+-- an ending that isn't heuristic tells no decision
+pub untold : (e : Ending) (d : HeuristicDecision) → is_heuristic e ≡ false → told_fate e ≡ Some (decided_fate d) → ⊥
+untold Committed decision.Commit plain e = cc
+untold Committed decision.Rollback plain e = cc
+untold ReadOnly decision.Commit plain e = cc
+untold ReadOnly decision.Rollback plain e = cc
+untold RolledBack decision.Commit plain e = cc
+untold RolledBack decision.Rollback plain e = cc
+untold InDoubt d plain e = cc
+untold (Heuristic c) d plain e = cc
+untold (Left c) d plain e = cc
+
+-- how it ends, by its fate at the end of the first opening and through the later ones
+module _ (commit : Bool) (L : Type 0) (Listed : HeuristicDecision → Type 0) (f later : Fate) (e : Ending) where
+  abbrev pub End : Fate → Type 0
+  End g = (g ≡ ended_as commit) ⊎ ((d : HeuristicDecision) × ((g ≡ decided_fate d) × ((told_fate e ≡ Some (decided_fate d)) ⊎ Listed d)))
+
+  -- what is known of the later openings: it is over, which decision was told, and that it stays
+  pub record Through : Type 0 where
+    pub over_then : IsOver commit (f ≡ history.InDoubt) L later
+    pub which : (d : HeuristicDecision) → later ≡ decided_fate d → L → Listed d
+    pub after : (d : HeuristicDecision) → f ≡ decided_fate d → IsAfter commit d later
+
+  abbrev pub at_last : Fate
+  at_last = if is_unknown f then later else f
+
+  now : is_unknown f ≡ false → End f → End at_last
+  now known end = subst End (sym (at_false (is_unknown f) later f known)) end
+
+  unknown_ends : is_unknown f ≡ true → Through → End at_last
+  unknown_ends unknown w =
+      subst End (sym (at_true (is_unknown f) later f unknown))
+      (⊎_elim (λ (z : (f ≡ history.InDoubt) × (later ≡ ended_as commit)). inl z.1) (λ (z : (d : HeuristicDecision) × ((later ≡ decided_fate d) × L)). inr (z.0, (z.1.0, inr (w.which z.0 z.1.0 z.1.1)))) w.over_then)
+
+  decided_listed : (d : HeuristicDecision) → f ≡ decided_fate d → Through → Listed d
+  decided_listed d g w = by_over w.over_then (w.after d g)
+    where
+      by_over : IsOver commit (f ≡ history.InDoubt) L later → IsAfter commit d later → Listed d
+      by_over (inl z) a = let no_doubt : true ≡ false = sym (ap is_unknown z.0) ∙ is_decided_so f d g in cc
+      by_over (inr z) (inl same) = w.which d same z.1.1
+      by_over (inr z) (inr ended) = absurd (decided_apart z.0 commit (sym z.1.0 ∙ ended))
+
+  left_end : {s : Option State} → is_left_in s ≡ true → Stands commit true (f ≡ history.InDoubt) L s f → Through → End at_last
+  left_end left (waits y open_ state g) w = unknown_ends (ap is_unknown g) w
+  left_end left (unforgotten d state g l) w = now (is_decided_so f d g) (inr (d, (g, inr (decided_listed d g w))))
+  left_end left (over state g) w = let no_state : true ≡ false = sym left ∙ ap is_left_in state in cc
+
+  pub ends_so : {s : Option State} → Comes commit L s f e → (is_in_doubt e ≡ true → is_left_in s ≡ true → Stands commit true (f ≡ history.InDoubt) L s f → Through) → End at_last
+  ends_so (ends g) w = now (is_known_so f commit g) (inl g)
+  ends_so (tells d g h) w = now (is_decided_so f d g) (inr (d, (g, inl h)))
+  ends_so (leaves doubt left st) w = left_end left st (w doubt left st)

@@ -1,0 +1,145 @@
+-- What the log has of a transaction stays what its commit left.
+use Rattle.std.specs.Prelude.{cond, not, slice_index_or}
+use Rattle.std.proofs.Common.{◌≡◌, ℕ, zero, suc, ◌-◌, ◌<◌, Bool, true, false, ◌==◌, ◌&&◌, ◌||◌, List, [], ◌∷◌, sym, refl, ap, ◌∙◌, arith, Some, None}
+use Rattle.std.specs.List.{All}
+use Rattle.std.specs.FinMap as map
+use Rattle.std.specs.FinMap.{get-insert}
+use Rattle.std.specs.Ordering.{eq_by_cmp, is_eq}
+use Rattle.std.specs.Cmp.{tied_itself}
+use Rattle.std.proofs.lemmas.List.Elements.{All-nil, All-cons, All-head, All-tail}
+use Rattle.xa_base.specs.declared.limits.TheConstants.{MOST_MANAGERS}
+use Rattle.xa_base.specs.Lists.{IsUpTo}
+use Rattle.xa_words.specs.Tran.{TranName}
+use Rattle.xa_words.specs.declared.code.Code.{Code}
+use Rattle.xa_tables.proofs.MapLemmas.{equal_from}
+use Rattle.xa_driver.specs.declared.branch.Branch.{Branch}
+use Rattle.xa_driver.specs.declared.done.Done.{Done}
+use Rattle.xa_driver.specs.Decision.{is_yes, decides_commit, has_yes, voted_yes, yes_of}
+use Rattle.xa_driver.specs.Log.{LogState, Records}
+use Rattle.xa_driver.specs.Trace.{Logs, appended, failed, unwanted}
+use Rattle.xa_driver.specs.Transactions.{tran_cmp}
+use Rattle.xa_driver.specs.Resolution.{Use, commits, resolves, IsDone, AreUses}
+use Rattle.xa_driver.specs.Resolving.{names}
+use Rattle.xa_driver.proofs.Transactions.{tran_cmp_total, tran_cmp-IsAntisymmetric}
+
+-- the record of the transaction names the manager
+abbrev pub is_marked : Records → TranName → ℕ → Bool
+is_marked records t m = names (map.get records t) m
+
+-- ---- a record that is made
+
+mark_at : (k : ℕ) (bs : List Branch) (vs : List Code) → k < 8 → slice_index_or (yes_of bs vs) k false ≡ voted_yes (suc k) bs vs
+mark_at zero bs vs below = refl
+mark_at (suc zero) bs vs below = refl
+mark_at (suc (suc zero)) bs vs below = refl
+mark_at (suc (suc (suc zero))) bs vs below = refl
+mark_at (suc (suc (suc (suc zero)))) bs vs below = refl
+mark_at (suc (suc (suc (suc (suc zero))))) bs vs below = refl
+mark_at (suc (suc (suc (suc (suc (suc zero)))))) bs vs below = refl
+mark_at (suc (suc (suc (suc (suc (suc (suc zero))))))) bs vs below = refl
+mark_at (suc (suc (suc (suc (suc (suc (suc (suc k)))))))) bs vs below = absurd (omega (arith, below))
+
+-- it names the managers that voted to commit
+mark_is : (m : ℕ) (bs : List Branch) (vs : List Code) → IsUpTo MOST_MANAGERS m → names (Some (yes_of bs vs)) m ≡ voted_yes m bs vs
+mark_is m bs vs up =
+    let lo = up.0 in
+    let hi = up.1 in
+    let same : suc (m - 1) ≡ m = omega (arith, lo) in
+    mark_at (m - 1) bs vs (omega (arith, lo, hi)) ∙ ap (λ k. voted_yes k bs vs) same
+
+own_mark_is : (records : Records) (t : TranName) (m : ℕ) (bs : List Branch) (vs : List Code) → IsUpTo MOST_MANAGERS m → is_marked (map.insert records t (yes_of bs vs)) t m ≡ voted_yes m bs vs
+own_mark_is records t m bs vs up =
+    ap (λ o. names o m) (get-insert tran_cmp_total records t (yes_of bs vs) t ∙ ap (λ c. cond c (Some (yes_of bs vs)) (map.get records t)) (ap is_eq (tied_itself tran_cmp_total t)))
+    ∙ mark_is m bs vs up
+
+-- where a branch voted to commit some vote is
+some_yes : (m : ℕ) (bs : List Branch) (vs : List Code) → voted_yes m bs vs ≡ true → has_yes vs ≡ true
+some_yes m [] vs e = cc
+some_yes m (b ∷ bs) [] e = cc
+some_yes m (b ∷ bs) (v ∷ vs) e =
+    elim (is_yes v) as (λ y. ((b.m == m) && y) || voted_yes m bs vs ≡ true → (y || has_yes vs) ≡ true) [
+      | true ↦ λ _. refl
+      | false ↦ λ e. some_yes m bs vs (sym (ap (λ q. q || voted_yes m bs vs) (and_false (b.m == m))) ∙ e)
+    ] e
+  where
+    and_false : (q : Bool) → (q && false) ≡ false
+    and_false true = refl
+    and_false false = refl
+
+left_holds : (a b : Bool) → (a && b) ≡ true → a ≡ true
+left_holds true b e = refl
+left_holds false b e = cc
+
+and_false : (b : Bool) → (b && false) ≡ false
+and_false true = refl
+and_false false = refl
+
+module _ (bs : List Branch) (log later : LogState) (d : Done) (t : TranName) (m : ℕ) (up : IsUpTo MOST_MANAGERS m) (decision : d.commit ≡ (decides_commit d.votes.items && (not (has_yes d.votes.items) || d.logged)))
+    (absent : map.get log.records t ≡ None) (here : voted_yes m bs d.votes.items ≡ true) where
+  some : has_yes d.votes.items ≡ true
+  some = some_yes m bs d.votes.items here
+
+  unlogged : d.logged ≡ false → d.commit ≡ false
+  unlogged off = decision ∙ (λ i. decides_commit d.votes.items && (not (some i) || off i)) ∙ and_false (decides_commit d.votes.items)
+
+  -- what a commit leaves in the log of a manager that voted to commit is the decision
+  pub own_mark : Logs t (yes_of bs d.votes.items) d.votes.items d.logged log later → is_marked later.records t m ≡ d.commit
+  own_mark (appended wants on is) =
+      ap (λ (l : LogState). is_marked l.records t m) is ∙ own_mark_is log.records t m bs d.votes.items up ∙ here
+      ∙ sym (decision ∙ (λ i. left_holds (decides_commit d.votes.items) (has_yes d.votes.items) wants i && (not (some i) || on i)))
+  own_mark (failed wants off is) = ap (λ (l : LogState). is_marked l.records t m) is ∙ ap (λ o. names o m) absent ∙ sym (unlogged off)
+  own_mark (unwanted wants off is) = ap (λ (l : LogState). is_marked l.records t m) is ∙ ap (λ o. names o m) absent ∙ sym (unlogged off)
+
+-- where it was decided to abort it leaves none
+pub none_on_abort : (t : TranName) (managers : List Bool) (votes : List Code) (logged commit : Bool) (log later : LogState) → commit ≡ (decides_commit votes && (not (has_yes votes) || logged)) → commit ≡ false → map.get log.records t ≡ None
+    → Logs t managers votes logged log later → map.get later.records t ≡ None
+none_on_abort t managers votes logged commit log later decision off absent (appended wants on is) =
+    let commits_so : commit ≡ true = decision ∙ (λ i. left_holds (decides_commit votes) (has_yes votes) wants i && (not (has_yes votes) || on i)) ∙ or_true (not (has_yes votes)) in
+    let z : true ≡ false = sym commits_so ∙ off in cc
+  where
+    or_true : (b : Bool) → (true && (b || true)) ≡ true
+    or_true true = refl
+    or_true false = refl
+none_on_abort t managers votes logged commit log later decision off absent (failed wants off_ is) = ap (λ (l : LogState). map.get l.records t) is ∙ absent
+none_on_abort t managers votes logged commit log later decision off absent (unwanted wants off_ is) = ap (λ (l : LogState). map.get l.records t) is ∙ absent
+
+-- ---- it stays
+
+-- a commit of the transaction makes no mark of the manager, where there is none
+abbrev pub IsQuiet : Bool → TranName → ℕ → Use → Type 0
+IsQuiet mark t m (commits d) =
+    (made : IsDone (commits d)) × (made.may.tran ≡ t → mark ≡ false → voted_yes m d.branches d.done.votes.items ≡ false)
+IsQuiet mark t m (resolves q) = Unit {0}
+
+-- a resolve finds the mark so
+abbrev pub FindsMark : Bool → TranName → ℕ → Use → Type 0
+FindsMark mark t m (commits d) = Unit {0}
+FindsMark mark t m (resolves q) = is_marked q.log.records t m ≡ mark
+
+module _ (mark : Bool) (t : TranName) (m : ℕ) (up : IsUpTo MOST_MANAGERS m) where
+  inserted : (bs : List Branch) (vs : List Code) (log : LogState) (own : TranName) → map.get log.records own ≡ None → (own ≡ t → mark ≡ false → voted_yes m bs vs ≡ false) → is_marked log.records t m ≡ mark
+      → is_marked (map.insert log.records own (yes_of bs vs)) t m ≡ mark
+  inserted bs vs log own absent quiet e =
+      elim (eq_by_cmp tran_cmp t own) as (λ c. eq_by_cmp tran_cmp t own ≡ c → is_marked (map.insert log.records own (yes_of bs vs)) t m ≡ mark) [
+        | false ↦ λ other. ap (λ o. names o m) (get-insert tran_cmp_total log.records own (yes_of bs vs) t ∙ ap (λ c. cond c (Some (yes_of bs vs)) (map.get log.records t)) other) ∙ e
+        | true ↦ λ same.
+            let is : own ≡ t = sym (tran_cmp-IsAntisymmetric t own (equal_from _ same)) in
+            let unmarked : mark ≡ false = sym e ∙ ap (λ o. names o m) (ap (map.get log.records) (sym is) ∙ absent) in
+            ap (λ (k : TranName). is_marked (map.insert log.records own (yes_of bs vs)) k m) (sym is) ∙ own_mark_is log.records own m bs vs up ∙ quiet is unmarked ∙ sym unmarked
+      ] refl
+
+  logs_keep : (bs : List Branch) (vs : List Code) (logged : Bool) (log later : LogState) (own : TranName) → map.get log.records own ≡ None → (own ≡ t → mark ≡ false → voted_yes m bs vs ≡ false) → is_marked log.records t m ≡ mark
+      → Logs own (yes_of bs vs) vs logged log later → is_marked later.records t m ≡ mark
+  logs_keep bs vs logged log later own absent quiet e (appended wants on is) = ap (λ (l : LogState). is_marked l.records t m) is ∙ inserted bs vs log own absent quiet e
+  logs_keep bs vs logged log later own absent quiet e (failed wants off is) = ap (λ (l : LogState). is_marked l.records t m) is ∙ e
+  logs_keep bs vs logged log later own absent quiet e (unwanted wants off is) = ap (λ (l : LogState). is_marked l.records t m) is ∙ e
+
+  -- from use to use
+  pub marks_stay : (us : List Use) (records : Records) → AreUses records us → is_marked records t m ≡ mark → All (IsQuiet mark t m) us → All (FindsMark mark t m) us
+  marks_stay [] records h e quiet = All-nil (FindsMark mark t m)
+  marks_stay (commits d ∷ us) records h e quiet =
+      let z = All-head (IsQuiet mark t m) (commits d) us quiet in
+      All-cons (FindsMark mark t m) (commits d) us tt
+      (marks_stay us d.later.records h.1 (logs_keep d.branches d.done.votes.items d.done.logged d.log d.later z.0.may.tran z.0.may.absent z.1 (ap (λ (r : Records). is_marked r t m) h.0 ∙ e) z.0.trace.logs) (All-tail (IsQuiet mark t m) (commits d) us quiet))
+  marks_stay (resolves q ∷ us) records h e quiet =
+      All-cons (FindsMark mark t m) (resolves q) us (ap (λ (r : Records). is_marked r t m) h.0 ∙ e) (marks_stay us records h.1 e (All-tail (IsQuiet mark t m) (resolves q) us quiet))

@@ -1,0 +1,10 @@
+use Rattle.std.proofs.Common.{ℕ, ◌≤◌}
+use Rattle.xa_base.specs.Lists.{IsUpTo}
+use Rattle.xa_desk.specs.DeskView.{room_at}
+use Rattle.xa_switch.specs.Scans.{left_at}
+use Rattle.xa_driver.specs.Resolving.{requests_for}
+use Rattle.xa_driver.proofs.resolving.may_resolve.Given as goal
+
+-- there is room at the managers so far
+abbrev pub invariant-loop-before : goal.invariant-loop-before
+invariant-loop-before l = (m : ℕ) → IsUpTo l.before m → requests_for (left_at l.scan m) ≤ room_at l.desk.ledgers m

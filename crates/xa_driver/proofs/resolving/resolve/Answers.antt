@@ -1,0 +1,82 @@
+use Rattle.std.proofs.Common.{◌≡◌, ◌≤◌, ◌+◌, length, length-append, vec_capacity, refl, sym, ap, ◌∙◌, subst, arith}
+use Rattle.xa_base.specs.declared.limits.TheConstants.{MOST_MANAGERS}
+use Rattle.xa_desk.specs.DeskView.{ledger}
+use Rattle.xa_driver.specs.Resolving.{requests_for, ResolvesAt, AsksLedger}
+use Rattle.xa_driver.proofs.Asking.{keeps_start, keeps_chain}
+use Rattle.xa_driver.proofs.Staying.{outstanding_chain, tickets_stay}
+use Rattle.xa_driver.proofs.EachLeft.{SoFar, none_so_far, one_more_so_far, left_more, left_within, room_same}
+use Rattle.xa_driver.proofs.resolving.resolve.Goals as goal
+
+pub loop-before-init : goal.loop-before-init
+loop-before-init g c = record {
+  so_far = subst (SoFar c.args.scan.now _ 0 c.args.desk.now.ledgers c.args.desk.now.ledgers) (sym c.in_ok-outcomes.ensures.items) (none_so_far c.args.scan.now _ c.args.desk.now.ledgers);
+  many = ap (λ l. length l) c.in_ok-outcomes.ensures.items;
+  space = subst (λ n. n ≤ vec_capacity c.in_ok-outcomes.outcomes) c.count_left.ensures c.in_ok-outcomes.ensures.capacity;
+  managers = refl;
+  keeps = keeps_start c.args.desk.now;
+  left = λ o out. out;
+  free = refl;
+  all = λ all. all;
+  idled = g.met.I.Idle.leads_start _;
+}
+
+pub resolve_at-requires-clause-room : goal.resolve_at-requires-clause-room
+resolve_at-requires-clause-room g c =
+    let i = c.loop-before.invariant in
+    let n = c.loop-before.before in
+    let below = c.loop-before-test.true in
+    let same = room_same c.args.desk.now.ledgers c.loop-before.desk.ledgers (n + 1) i.managers (i.so_far.others (n + 1) (omega arith)) in
+    let room = c.requires.room (n + 1) (omega arith, omega (arith, below)) in
+    let there = ap requests_for c.left.ensures in
+    omega (arith, same, room, there)
+
+pub resolve_at-requires-clause-space : goal.resolve_at-requires-clause-space
+resolve_at-requires-clause-space g c =
+    let i = c.loop-before.invariant in
+    let z = c.args.scan.now in
+    let n = c.loop-before.before in
+    let below = c.loop-before-test.true in
+    let within = left_within z (n + 1) MOST_MANAGERS (omega (arith, below)) in
+    let more = left_more z n in
+    let many = i.many in
+    let space = i.space in
+    let there = ap (λ l. length l) c.left.ensures in
+    omega (arith, within, more, many, space, there)
+
+pub loop-before-preserved : goal.loop-before-preserved
+loop-before-preserved g c =
+    let i = c.loop-before.invariant in
+    let z = c.args.scan.now in
+    let n = c.loop-before.before in
+    let alone = c.resolve_at.ensures.alone in
+    let (more, items, as_many, resolves) = c.resolve_at.ensures.resolves in
+    record {
+      so_far = one_more_so_far z (g.L.DecisionLog.state c.args.log.now) n c.args.desk.now.ledgers c.loop-before.desk.ledgers c.resolve_at.new.desk.ledgers c.loop-before.outcomes.items c.resolve_at.new.outcomes.items more i.so_far items
+          (subst (λ l. ResolvesAt AsksLedger (g.L.DecisionLog.state c.args.log.now) (n + 1) l more (ledger c.loop-before.desk.ledgers (n + 1)) (ledger c.resolve_at.new.desk.ledgers (n + 1))) c.left.ensures resolves) alone.others;
+      many =
+          let all = ap (λ l. length l) items in
+          let parts = length-append c.loop-before.outcomes.items more in
+          let there = ap (λ l. length l) c.left.ensures in
+          let so_many = i.many in
+          let next_one = left_more z n in
+          omega (arith, all, parts, there, so_many, as_many, next_one);
+      space = let space = i.space in let same = c.resolve_at.ensures.space in omega (arith, space, same);
+      managers = alone.managers ∙ i.managers;
+      keeps = keeps_chain c.args.desk.now c.loop-before.desk c.resolve_at.new.desk i.keeps alone.keeps;
+      left = outstanding_chain c.args.desk.now.ledgers c.loop-before.desk.ledgers c.resolve_at.new.desk.ledgers i.left alone.left;
+      free = alone.free ∙ i.free;
+      all = λ all. alone.all (i.all all);
+      idled = g.met.I.Idle.leads_chain _ _ _ i.idled c.resolve_at.ensures.idled;
+    }
+
+pub returns-clause-trace : goal.returns-clause-trace
+returns-clause-trace g c =
+    let i = c.loop-before.invariant in
+    let done = c.loop-before-test.false in
+    let stop = c.loop-before.auto.before-end in
+    let all : c.loop-before.before ≡ MOST_MANAGERS = omega (arith, done, stop) in
+    let is = subst (λ n. SoFar c.args.scan.now (g.L.DecisionLog.state c.args.log.now) n c.args.desk.now.ledgers c.loop-before.desk.ledgers c.loop-before.outcomes.items) all i.so_far in
+    record { at = is.at; outcomes_are = is.outcomes_are; each = is.each; others = is.others; managers = i.managers }
+
+pub returns-clause-tickets : goal.returns-clause-tickets
+returns-clause-tickets g c = tickets_stay c.args.desk.now c.loop-before.desk c.loop-before.invariant.keeps c.loop-before.invariant.left

@@ -1,0 +1,22 @@
+use Rattle.std.proofs.Common.{◌≡◌, ◌≤◌, length, vec_capacity}
+use Rattle.xa_base.specs.declared.limits.TheConstants.{MOST_MANAGERS}
+use Rattle.xa_desk.specs.DeskView.{outstanding}
+use Rattle.xa_desk.specs.Kept.{AllKept}
+use Rattle.xa_driver.specs.Asks.{KeepsDesk, LeavesOutstanding}
+use Rattle.xa_driver.specs.Resolving.{left_in}
+use Rattle.xa_driver.proofs.EachLeft.{SoFar}
+use Rattle.xa_driver.proofs.resolving.resolve.Given as goal
+
+-- the managers so far are resolved
+abbrev pub invariant-loop-before : goal.invariant-loop-before
+invariant-loop-before g l = record {
+  so_far : SoFar l.scan (g.L.DecisionLog.state l.log) l.before l.initial.desk.ledgers l.desk.ledgers l.outcomes.items;
+  many : length l.outcomes.items ≡ left_in l.scan l.before;
+  space : left_in l.scan MOST_MANAGERS ≤ vec_capacity l.outcomes;
+  managers : length l.desk.ledgers ≡ length l.initial.desk.ledgers;
+  keeps : KeepsDesk l.initial.desk l.desk;
+  left : LeavesOutstanding l.initial.desk.ledgers l.desk.ledgers;
+  free : outstanding l.desk.ledgers ≡ outstanding l.initial.desk.ledgers;
+  all : AllKept l.initial.desk → AllKept l.desk;
+  idled : g.I.Idle.leads l.initial.idle l.idle;
+}

@@ -1,0 +1,70 @@
+use Rattle.std.proofs.Common.{◌≡◌, ◌≢◌, ◌++◌, List, [], ◌∷◌, length, map, append-nil, append_assoc, refl, sym, ap, ◌∙◌, arith}
+use Rattle.std.proofs.lemmas.Bool.{eqb-false}
+use Rattle.std.proofs.lemmas.List.{length-map, map_push, take_all}
+use Rattle.xa_base.specs.Lists.Chain.{none, more}
+use Rattle.xa_base.proofs.Lists.{one_more}
+use Rattle.xa_words.specs.Xid.{XidName}
+use Rattle.xa_desk.specs.DeskView.{ledger}
+use Rattle.xa_driver.specs.declared.resolved.Outcome.{Outcome}
+use Rattle.xa_driver.proofs.Alone.{alone_start, alone_chain}
+use Rattle.xa_driver.proofs.EachLeft.{requests_there, resolves_there}
+use Rattle.xa_driver.proofs.resolving.resolve_at.Goals as goal
+
+pub loop-xid-init : goal.loop-xid-init
+loop-xid-init g c =
+    let a = ledger c.ask.new.desk.ledgers c.args.manager in
+    let some : length c.args.left.now ≢ 0 = eqb-false (length c.args.left.now) 0 (sym c.is_empty.ensures ∙ c.if-is_empty.false) in
+    let room = c.requires.room in
+    let requests = requests_there c.args.left.now some in
+    let asked = c.ask.ensures.room in
+    record {
+      more = ([], sym (append-nil c.args.outcomes.now.items), refl, none [] a refl refl);
+      room = omega (arith, room, requests, asked);
+      space = refl;
+      alone = alone_start c.args.manager c.ask.new.desk;
+      idled = g.met.I.Idle.leads_start _;
+    }
+
+pub loop-xid-preserved : goal.loop-xid-preserved
+loop-xid-preserved g c =
+    let i = c.loop-xid.invariant in
+    let o : Outcome = c.resolve_branch-outcome.result in
+    let left : List XidName = c.args.left.now in
+    let (before, items, xids, chain) = i.more in
+    let room = i.room in
+    let asked = c.resolve_branch-outcome.ensures.room in
+    let below = c.loop-xid-test.true in
+    record {
+      more = (
+        before ++ o ∷ [],
+        c.push_reserved.ensures.items ∙ ap (λ l. l ++ o ∷ []) items ∙ append_assoc c.args.outcomes.now.items before (o ∷ []),
+        map_push (λ (p : Outcome). p.xid) before o ∙ (λ j. xids j ++ c.resolve_branch-outcome.ensures.xid j ∷ []) ∙ sym (one_more left c.loop-xid.xid-index c.xid-item.result below c.xid-item.is),
+        more before o (ledger c.loop-xid.desk.ledgers c.args.manager) _ chain c.resolve_branch-outcome.ensures.resolves,
+      );
+      room = omega (arith, room, asked, below);
+      space = c.push_reserved.ensures.capacity ∙ i.space;
+      alone = alone_chain c.args.manager c.ask.new.desk c.loop-xid.desk c.resolve_branch-outcome.new.desk i.alone c.resolve_branch-outcome.ensures.alone;
+      idled = g.met.I.Idle.leads_chain _ _ _ i.idled c.resolve_branch-outcome.ensures.idled;
+    }
+
+pub returns-clause-resolves : goal.returns-clause-resolves
+returns-clause-resolves g c =
+    let left : List XidName = c.args.left.now in
+    let (os, items, xids, chain) = c.loop-xid.invariant.more in
+    let done = c.loop-xid-test.false in
+    let all : map (λ (o : Outcome). o.xid) os ≡ left = xids ∙ take_all c.loop-xid.xid-index left (omega (arith, done)) in
+    let some : length left ≢ 0 = eqb-false (length left) 0 (sym c.is_empty.ensures ∙ c.if-is_empty.false) in (
+      os,
+      items,
+      sym (length-map os (λ o. o.xid)) ∙ ap (λ l. length l) all,
+      resolves_there _ c.args.manager left os _ _ some (record {
+        opened = ledger c.ask.new.desk.ledgers c.args.manager;
+        code = c.ask.result;
+        opens = c.ask.ensures.asked;
+        each = chain;
+        xids_are = all;
+      }),
+    )
+
+pub returns-clause-alone : goal.returns-clause-alone
+returns-clause-alone g c = alone_chain c.args.manager c.args.desk.now c.ask.new.desk c.loop-xid.desk c.ask.ensures.alone c.loop-xid.invariant.alone

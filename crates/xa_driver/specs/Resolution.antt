@@ -1,0 +1,228 @@
+-- One outcome for each global transaction, over openings one after another: what was left in doubt is resolved by the log.
+use Rattle.std.specs.Prelude.{◌≡◌, ◌≢◌, ◌⊎◌, ℕ, ◌≤◌, Bool, true, false, if◌then◌else◌, Some, List, [], ◌∷◌, ◌++◌, length}
+use Rattle.std.specs.List.{All, Contains, flat_map}
+use Rattle.xa_base.specs.declared.limits.TheConstants.{MOST_MANAGERS}
+use Rattle.xa_words.specs.Xid.{XidName}
+use Rattle.xa_words.specs.Tran.{TranName, tran_of}
+use Rattle.xa_words.specs.declared.code.Code.TheVariants.{RmFail}
+use Rattle.xa_words.specs.declared.request.Op.{Op}
+use Rattle.xa_words.specs.declared.request.Op.TheVariants.{OpenRm, CloseRm, Start, Add, End, Prepare, Commit, Rollback}
+use Rattle.xa_words.specs.declared.request.Op.TheVariants.{Forget, Heur, Listed, Shut}
+use Rattle.xa_words.specs.declared.request.Request.{Request}
+use Rattle.xa_tables.specs.declared.state.HeuristicDecision.{HeuristicDecision}
+use Rattle.xa_tables.specs.Tables.{Tables, is_left as is_left_in}
+use Rattle.xa_tables.specs.Reasons.{decision_code}
+use Rattle.xa_tables.specs.History as history
+use Rattle.xa_tables.specs.History.{Fate, decided_fate, is_in_doubt as is_unknown}
+use Rattle.xa_tables.specs.Openings.{AreLeft, reopened_fate}
+use Rattle.xa_desk.specs.LedgerView.{LedgerView}
+use Rattle.xa_desk.specs.DeskView.{DeskView, ledger}
+use Rattle.xa_desk.specs.Growth.{HaveGrown}
+use Rattle.xa_switch.specs.Settling.{Settling, IsSettled}
+use Rattle.xa_switch.specs.Fates.{ledgers_of, first_of, history as history_of, settled_fate}
+use Rattle.xa_switch.specs.Again.{reopened_at}
+use Rattle.xa_switch.specs.Scans.{ScanView, left_at}
+use Rattle.xa_driver.specs.declared.branch.Branch.{Branch}
+use Rattle.xa_driver.specs.declared.done.Done.{Done}
+use Rattle.xa_driver.specs.declared.done.Ending.{Ending}
+use Rattle.xa_driver.specs.declared.resolved.Outcome.{Outcome}
+use Rattle.xa_driver.specs.Decision.{is_yes}
+use Rattle.xa_driver.specs.Log.{LogState, Records}
+use Rattle.xa_driver.specs.Trace.{IsCommit, IsTranOf}
+use Rattle.xa_driver.specs.Outcomes.{AreLeftOrDecided, EachOutcome, IsBetween, WasAtFirst, has_committed, has_vote_against, told_fate}
+use Rattle.xa_driver.specs.Resolving.{IsTraceOfResolve}
+
+-- ---- who used the log
+
+-- a commit of several branches by a thread: over this desk and this log, and what it left of them and told
+pub record CommitCall : Type 0 where
+  pub thread : ℕ
+  pub branches : List Branch
+  pub desk : DeskView
+  pub new : List LedgerView
+  pub log : LogState
+  pub later : LogState
+  pub done : Done
+
+-- a resolve by a thread, of what its scan has, over these lists and this log, and what it left of the lists and told
+pub record ResolveCall : Type 0 where
+  pub thread : ℕ
+  pub scan : ScanView
+  pub old : List LedgerView
+  pub new : List LedgerView
+  pub log : LogState
+  pub outcomes : List Outcome
+
+-- a use of the log
+pub data Use : Type 0 where
+  commits : CommitCall → Use
+  resolves : ResolveCall → Use
+
+-- by which thread, and what the thread's desk had sent and collected before and after
+abbrev pub user : Use → ℕ
+user (commits c) = c.thread
+user (resolves q) = q.thread
+
+abbrev pub lists_before : Use → List LedgerView
+lists_before (commits c) = c.desk.ledgers
+lists_before (resolves q) = q.old
+
+abbrev pub lists_after : Use → List LedgerView
+lists_after (commits c) = c.new
+lists_after (resolves q) = q.new
+
+-- each is what commit_all and resolve promise
+abbrev pub IsDone : Use → Type 0
+IsDone (commits c) = IsCommit c.branches c.desk c.new c.log c.later c.done
+IsDone (resolves q) = IsTraceOfResolve q.scan q.log q.old q.new q.outcomes
+
+-- It was made by a thread of the settled opening, whose lists have grown since.
+pub record IsUseIn (s : Settling) (u : Use) : Type 0 where
+  pub made : IsDone u
+  pub grown : HaveGrown (lists_after u) (ledgers_of s (user u))
+
+-- the lists of one thread grow from one use to another
+abbrev pub GrowsTo : Use → Use → Type 0
+GrowsTo u v = user u ≡ user v → HaveGrown (lists_after u) (lists_before v)
+
+-- a commit of the same transaction is by the same thread
+abbrev pub IsByItsThread : CommitCall → Use → Type 0
+IsByItsThread c (commits d) = (t : TranName) → IsTranOf c.branches t → IsTranOf d.branches t → d.thread ≡ c.thread
+IsByItsThread c (resolves q) = Unit {0}
+
+-- The records of the log, use after use: each use finds those that the one before it left.
+abbrev pub AreUses : Records → List Use → Type 0
+AreUses records [] = Unit {0}
+AreUses records (commits c ∷ us) = (c.log.records ≡ records) × AreUses c.later.records us
+AreUses records (resolves q ∷ us) = (q.log.records ≡ records) × AreUses records us
+
+-- ---- openings
+
+-- an opening: what it was settled to, and who used the log in it, in their order
+pub record Opening : Type 0 where
+  pub settled : Settling
+  pub uses : List Use
+
+-- it is settled, and each use was made in it
+pub record IsKept (o : Opening) : Type 0 where
+  pub settled : IsSettled o.settled
+  pub uses : All (IsUseIn o.settled) o.uses
+
+-- each manager of the one begins, in the next, with what a reopening makes of its tables
+abbrev pub Continues : Settling → Settling → Type 0
+Continues s s' = (m : ℕ) (T : Tables) → first_of s m ≡ Some T → first_of s' m ≡ Some (reopened_at s.managers m)
+
+-- each of these openings continues the one before it
+abbrev pub AreInARow : Opening → List Opening → Type 0
+AreInARow o [] = Unit {0}
+AreInARow o (p ∷ ps) = Continues o.settled p.settled × AreInARow p ps
+
+-- the uses of the log in all of them
+abbrev pub uses_of : List Opening → List Use
+uses_of os = flat_map (λ o. o.uses) os
+
+-- ---- what may name a branch
+
+-- the request names a branch of the transaction; one that only asks whether it is left doesn't
+abbrev pub NamesTran : TranName → Op → Type 0
+NamesTran t OpenRm = ⊥
+NamesTran t CloseRm = ⊥
+NamesTran t (Start x how) = tran_of x ≡ t
+NamesTran t (Add k d) = ⊥
+NamesTran t (End x how) = tran_of x ≡ t
+NamesTran t (Prepare x) = tran_of x ≡ t
+NamesTran t (Commit x one_phase) = tran_of x ≡ t
+NamesTran t (Rollback x) = tran_of x ≡ t
+NamesTran t (Forget x) = tran_of x ≡ t
+NamesTran t (Heur x commit) = tran_of x ≡ t
+NamesTran t (Listed x) = ⊥
+NamesTran t Shut = ⊥
+
+-- the use is a resolve, and sent this request to manager m
+abbrev pub HasSent : ℕ → Request → Use → Type 0
+HasSent m r (commits c) = ⊥
+HasSent m r (resolves q) = IsBetween q.thread (length (ledger q.old m).sent) (length (ledger q.new m).sent) r
+
+-- no request of the opening but those of resolves with the log names the transaction
+abbrev pub OnlyResolves : TranName → Opening → Type 0
+OnlyResolves t o =
+    (m : ℕ) → All (λ r. NamesTran t r.op → (u : Use) × (Contains o.uses u × HasSent m r u)) (history_of o.settled m)
+
+-- a branch of the transaction is left to the next opening
+abbrev pub HasLeftOf : TranName → Settling → Type 0
+HasLeftOf t s = (m : ℕ) × ((x : XidName) × ((tran_of x ≡ t) × (is_left_in (reopened_at s.managers m) x ≡ true)))
+
+-- ---- what became of a branch
+
+-- its fate after these openings, where it was f before them
+abbrev pub fate_through : ℕ → XidName → Fate → List Opening → Fate
+fate_through m x f [] = f
+fate_through m x f (o ∷ os) = fate_through m x (settled_fate o.settled m x (reopened_fate f)) os
+
+-- What became of a branch of opening o, whose fate was `before` as that began: its fate at the end of o; but if it was in
+-- doubt then, its fate after the later openings.
+abbrev pub became : Branch → Fate → Opening → List Opening → Fate
+became b before o later =
+    let f : Fate = settled_fate o.settled b.m b.xid before in
+    if is_unknown f then fate_through b.m b.xid f later else f
+
+-- a resolve of these openings lists a branch with the heuristic decision
+pub record IsListed (b : Branch) (d : HeuristicDecision) (os : List Opening) : Type 0 where
+  pub resolve : ResolveCall
+  pub made : Contains (uses_of os) (resolves resolve)
+  pub outcome : Outcome
+  pub listed : Contains resolve.outcomes outcome
+  pub manager : outcome.m ≡ b.m
+  pub xid : outcome.xid ≡ b.xid
+  pub code : outcome.code ≡ decision_code d
+
+-- how a branch ends that is committed, or rolled back
+abbrev pub ended_as : Bool → Fate
+ended_as commit = if commit then history.Committed else history.RolledBack
+
+-- A branch that voted to commit ended as was decided, or heuristically, and then its ending or a resolve tells how.
+pub record Ends (c : CommitCall) (o : Opening) (later : List Opening) (b : Branch) (e : Ending) : Type 0 where
+  pub ends : (before : Fate) → WasAtFirst o.settled b before
+      → (became b before o later ≡ ended_as c.done.commit)
+      ⊎ ((d : HeuristicDecision)
+      × ((became b before o later ≡ decided_fate d) × ((told_fate e ≡ Some (decided_fate d)) ⊎ IsListed b d later)))
+
+-- so each branch of the call
+abbrev pub EachEnds : CommitCall → Opening → List Opening → Type 0
+EachEnds c o later =
+    EachOutcome (λ b v e. is_yes v ≡ true → Ends c o later b e) c.branches c.done.votes.items c.done.endings.items
+
+-- All or none: it was decided to commit, no vote was against, and all branches that voted to commit are committed; or it
+-- was decided to abort, no branch was committed, and they are all rolled back. Those that ended heuristically are listed.
+pub data IsAllOrNone (c : CommitCall) (o : Opening) (later : List Opening) : Type 0 where
+  all : c.done.commit ≡ true → has_vote_against c.done ≡ false → EachEnds c o later → IsAllOrNone c o later
+  none : c.done.commit ≡ false → has_committed c.done ≡ false → EachEnds c o later → IsAllOrNone c o later
+
+-- ---- what that asks for
+
+-- An opening o with a commit c, those between, and the last, with a resolve q.
+pub record IsResolved (o : Opening) (between : List Opening) (last : Opening) (c : CommitCall) (q : ResolveCall) : Type 0 where
+  -- each was settled, and continues the one before it
+  pub kept : All IsKept (o ∷ (between ++ last ∷ []))
+  pub in_a_row : AreInARow o (between ++ last ∷ [])
+  -- the commit is of the first of them, the resolve of the last
+  pub us : List Use
+  pub vs : List Use
+  pub commit_at : o.uses ≡ us ++ commits c ∷ vs
+  pub ps : List Use
+  pub qs : List Use
+  pub resolve_at : last.uses ≡ ps ++ resolves q ∷ qs
+  -- the call has no more managers than a record has places for
+  pub few : length c.desk.ledgers ≤ MOST_MANAGERS
+  -- from the commit on the log keeps its records
+  pub log : AreUses c.later.records (vs ++ uses_of (between ++ last ∷ []))
+  -- in the first, the lists of its thread grow after it, and no other thread commits the transaction
+  pub grown : All (GrowsTo (commits c)) vs
+  pub its_thread : All (IsByItsThread c) vs
+  -- from its Prepares on nobody but the commit names its branches, but for heuristic decisions
+  pub own : AreLeftOrDecided o.settled c.thread c.branches c.desk.ledgers c.new
+  -- if a branch of the transaction was left, nothing but resolves with the log names it later
+  pub later : (t : TranName) → IsTranOf c.branches t → HasLeftOf t o.settled → All (OnlyResolves t) (between ++ last ∷ [])
+  -- the resolve had the scan of its opening, and no manager was shut before its requests
+  pub scan : (m : ℕ) (T : Tables) → first_of last.settled m ≡ Some T → AreLeft (left_at q.scan m) T
+  pub reached : All (λ x. x.code ≢ RmFail) q.outcomes

@@ -1,0 +1,107 @@
+-- How what a reopening found left is resolved, by what the log has of it.
+use Rattle.std.specs.Prelude.{◌≡◌, ◌≢◌, ℕ, ◌+◌, ◌-◌, ◌*◌, ◌<◌, ◌≤◌, Bool, true, false, if◌then◌else◌, Option, None, Some, List, [], ◌∷◌}
+use Rattle.std.specs.Prelude.{length, map, slice_index_or}
+use Rattle.std.specs.List.{flat_map, range_with_len, sum_by}
+use Rattle.xa_base.specs.declared.limits.TheConstants.{MOST_MANAGERS}
+use Rattle.xa_base.specs.Lists.{Chain, IsUpTo}
+use Rattle.xa_words.specs.Xid.{XidName}
+use Rattle.xa_words.specs.Tran.{tran_of}
+use Rattle.xa_words.specs.declared.code.Code.{Code}
+use Rattle.xa_words.specs.declared.request.Op.{Op}
+use Rattle.xa_words.specs.declared.request.Op.TheVariants.{OpenRm, Commit, Rollback, Forget}
+use Rattle.xa_desk.specs.LedgerView.{LedgerView}
+use Rattle.xa_desk.specs.DeskView.{DeskView, room_at, ledger, outstanding}
+use Rattle.xa_desk.specs.Kept.{AllKept}
+use Rattle.xa_switch.specs.Scans.{Asking, ScanView, left_at}
+use Rattle.xa_driver.specs.declared.resolved.Outcome.{Outcome}
+use Rattle.xa_driver.specs.Log.{LogState, record_of}
+use Rattle.xa_driver.specs.Asks.{AskTrace, KeepsDesk, LeavesOutstanding}
+use Rattle.xa_driver.specs.Endings.{is_decided}
+
+-- ---- what the log has
+
+-- these managers voted yes, and this one is among them; where there is no record, it isn't
+abbrev pub names : Option (List Bool) → ℕ → Bool
+names None m = false
+names (Some marks) m = slice_index_or marks (m - 1) false
+
+-- the log's record of the branch's transaction names the manager: so the branch is to be committed
+abbrev pub is_to_commit : LogState → ℕ → XidName → Bool
+is_to_commit log m x = names (record_of log (tran_of x)) m
+
+-- ---- one branch after the other, by states of its manager
+
+-- it is committed in two phases, or rolled back
+abbrev pub outcome_op : Bool → XidName → Op
+outcome_op commit x = if commit then Commit x false else Rollback x
+
+-- nothing is asked, or this is, whatever it answers
+abbrev pub AsksIf : {D : Type 0} → Bool → Asking D → Op → D → D → Type 0
+AsksIf false asking op old new = new ≡ old
+AsksIf true asking op old new = (c : Code) × asking old op new c
+
+-- A branch left at manager m is resolved: it is committed where the log says so, and else rolled back; then it is
+-- forgotten, if its manager keeps a decision.
+pub record ResolvesBranch {D : Type 0} (asking : Asking D) (log : LogState) (m : ℕ) (o : Outcome) (old new : D)
+    : Type 0 where
+  pub manager : o.m ≡ m
+  pub decision : o.commit ≡ is_to_commit log m o.xid
+  pub decided : D
+  pub obeys : asking old (outcome_op o.commit o.xid) decided o.code
+  pub forgets : AsksIf (is_decided o.code) asking (Forget o.xid) decided new
+
+-- Manager m is asked to open, and then these branches are resolved, one after the other.
+pub record ResolvesThese {D : Type 0} (asking : Asking D) (log : LogState) (m : ℕ) (xids : List XidName)
+    (outcomes : List Outcome) (old new : D) : Type 0 where
+  pub opened : D
+  pub code : Code
+  pub opens : asking old OpenRm opened code
+  pub each : Chain (ResolvesBranch asking log m) opened outcomes new
+  pub xids_are : map (λ o. o.xid) outcomes ≡ xids
+
+-- Where none is left, nothing is asked.
+abbrev pub ResolvesAt : {D : Type 0} → Asking D → LogState → ℕ → List XidName → List Outcome → D → D → Type 0
+ResolvesAt asking log m [] outcomes old new = (outcomes ≡ []) × (new ≡ old)
+ResolvesAt asking log m (x ∷ xs) outcomes old new = ResolvesThese asking log m (x ∷ xs) outcomes old new
+
+-- ---- what it leaves alone
+
+-- A desk, as one manager is asked one thing after another: nothing is done at the others, what is kept and what was
+-- outstanding stays, and no more is outstanding.
+pub record AsksAlone (m : ℕ) (old new : DeskView) : Type 0 where
+  pub others : (n : ℕ) → 1 ≤ n → n ≢ m → ledger new.ledgers n ≡ ledger old.ledgers n
+  pub managers : length new.ledgers ≡ length old.ledgers
+  pub keeps : KeepsDesk old new
+  pub left : LeavesOutstanding old.ledgers new.ledgers
+  pub free : outstanding new.ledgers ≡ outstanding old.ledgers
+  pub all : AllKept old → AllKept new
+
+-- ---- all managers
+
+-- how many requests resolving so many branches of a manager may take: none, or one to open it and two for each
+abbrev pub requests_for : List XidName → ℕ
+requests_for [] = 0
+requests_for (x ∷ xs) = 1 + 2 * length (x ∷ xs)
+
+-- how many branches are left at the first n managers
+abbrev pub left_in : ScanView → ℕ → ℕ
+left_in z n = sum_by (λ m. length (left_at z m)) (range_with_len 1 n)
+
+-- the plan has room for them at each manager
+pub record MayResolve (d : DeskView) (z : ScanView) : Type 0 where
+  pub room : (m : ℕ) → IsUpTo MOST_MANAGERS m → requests_for (left_at z m) ≤ room_at d.ledgers m
+
+-- what is asked of a manager takes its ledger from one to another
+abbrev pub AsksLedger : Asking LedgerView
+AsksLedger a op a' code = AskTrace (Some op) (Some code) a a'
+
+-- What a resolve left is its trace: what it asked each manager, in the order of the branches left there; and its outcomes
+-- are those of the managers, by rising number.
+pub record IsTraceOfResolve (z : ScanView) (log : LogState) (old new : List LedgerView) (outcomes : List Outcome)
+    : Type 0 where
+  pub at : ℕ → List Outcome
+  pub outcomes_are : outcomes ≡ flat_map at (range_with_len 1 MOST_MANAGERS)
+  pub each : (m : ℕ) → IsUpTo MOST_MANAGERS m
+      → ResolvesAt AsksLedger log m (left_at z m) (at m) (ledger old m) (ledger new m)
+  pub others : (m : ℕ) → MOST_MANAGERS < m → ledger new m ≡ ledger old m
+  pub managers : length new ≡ length old

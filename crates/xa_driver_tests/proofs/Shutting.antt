@@ -1,0 +1,54 @@
+-- A desk that has sent nothing but Shuts, and sends one more.
+use Rattle.std.proofs.Common.{◌≡◌, ℕ, zero, suc, ◌-◌, Result, Ok, Err, IfOk, OnErr, List, [], ◌∷◌, sym, ap, subst, arith}
+use Rattle.std.specs.Prelude.{slice_index_or, slice_set}
+use Rattle.std.specs.List.{All}
+use Rattle.std.proofs.lemmas.List.Elements.{All-nil, All-push}
+use Rattle.xa_words.specs.declared.code.Code.{Code}
+use Rattle.xa_words.specs.declared.request.Op.{Op}
+use Rattle.xa_words.specs.declared.request.Op.TheVariants.{Shut}
+use Rattle.xa_desk.specs.declared.refused.Refused.{Refused}
+use Rattle.xa_desk.specs.declared.operation.Operation.{Operation}
+use Rattle.xa_desk.specs.LedgerView.{LedgerView, with_sent, with_collected}
+use Rattle.xa_desk.specs.DeskView.{DeskView, ledger, no_ledger, put_ledger, after_sent, after_collected, next_operation}
+use Rattle.xa_desk.specs.Lanes.{submitted, after_fulls}
+use Rattle.xa_desk.specs.Looks.{Collects}
+use Rattle.xa_switch.proofs.Kept.{fulls_ledgers}
+
+-- what holds of each ledger, where one is put that it holds of
+set_each : (Q : LedgerView → Type 0) (at : List LedgerView) (i : ℕ) (a : LedgerView) → ((j : ℕ) → Q (slice_index_or at j no_ledger)) → Q a → (j : ℕ) → Q (slice_index_or (slice_set at i a) j no_ledger)
+set_each Q [] i a all here j = all j
+set_each Q (x ∷ xs) zero a all here zero = here
+set_each Q (x ∷ xs) zero a all here (suc j) = all (suc j)
+set_each Q (x ∷ xs) (suc i) a all here zero = all 0
+set_each Q (x ∷ xs) (suc i) a all here (suc j) = set_each Q xs i a (λ k. all (suc k)) here j
+
+put_each : (Q : LedgerView → Type 0) (at : List LedgerView) (i : ℕ) (a : LedgerView) → ((m : ℕ) → Q (ledger at m)) → Q a → (m : ℕ) → Q (ledger (put_ledger at i a) m)
+put_each Q at i a all here m =
+    set_each Q at (i - 1) a (λ j. subst (λ k. Q (slice_index_or at k no_ledger)) (let e : suc j - 1 ≡ j = omega arith in e) (all (suc j))) here (m - 1)
+
+-- it sent only Shuts to a manager
+abbrev pub OnlyShuts : LedgerView → Type 0
+OnlyShuts a = All (λ op. op ≡ Shut) a.sent
+
+shut_more : (a : LedgerView) → OnlyShuts a → OnlyShuts (with_sent a Shut)
+shut_more a all = let is : ◌≡◌ {A = Op} Shut Shut = λ _. Shut in All-push (λ (op : Op). op ≡ Shut) a.sent Shut all is
+
+-- one that calls with a Shut, to whatever manager
+pub calls_shut : (old new : DeskView) (m n : ℕ) (o : Operation) (code : Code) → Collects (submitted (after_fulls n old m) m Shut) new o code → ((k : ℕ) → OnlyShuts (ledger old.ledgers k)) → (k : ℕ) → OnlyShuts (ledger new.ledgers k)
+calls_shut old new m n o code is all =
+    let at : List LedgerView = (after_fulls n old m).ledgers in
+    let first : (k : ℕ) → OnlyShuts (ledger at k) = subst (λ l. (k : ℕ) → OnlyShuts (ledger l k)) (sym (fulls_ledgers n old m)) all in
+    let sent : (k : ℕ) → OnlyShuts (ledger (after_sent at m Shut) k) = put_each OnlyShuts at m (with_sent (ledger at m) Shut) first (shut_more (ledger at m) (first m)) in
+    let before : (k : ℕ) → OnlyShuts (ledger is.before.ledgers k) = subst (λ l. (k : ℕ) → OnlyShuts (ledger l k)) (sym (ap (λ (d : DeskView). d.ledgers) is.looks.rest)) sent in
+    let last : (k : ℕ) → OnlyShuts (ledger (after_collected is.before.ledgers o code) k) =
+    put_each OnlyShuts is.before.ledgers o.manager (with_collected (ledger is.before.ledgers o.manager) o.number code) before (before o.manager) in
+    subst (λ l. (k : ℕ) → OnlyShuts (ledger l k)) (sym (ap (λ (d : DeskView). d.ledgers) is.collected)) last
+
+pub after_call : (old new : DeskView) (m : ℕ) (r : Result Code Refused) → IfOk r (λ code. (n : ℕ) × Collects (submitted (after_fulls n old m) m Shut) new (next_operation old.ledgers m) code) → OnErr r (new ≡ old)
+    → ((k : ℕ) → OnlyShuts (ledger old.ledgers k)) → (k : ℕ) → OnlyShuts (ledger new.ledgers k)
+after_call old new m (Ok code) sent same all = calls_shut old new m sent.0 (next_operation old.ledgers m) code sent.1 all
+after_call old new m (Err why) sent same all = subst (λ (d : DeskView). (k : ℕ) → OnlyShuts (ledger d.ledgers k)) (sym same) all
+
+-- one that has sent nothing
+pub none_shut : (at : List LedgerView) → ((k : ℕ) → (ledger at k).sent ≡ []) → (k : ℕ) → OnlyShuts (ledger at k)
+none_shut at none k = subst (All (λ op. op ≡ Shut)) (sym (none k)) (All-nil (λ op. op ≡ Shut))

@@ -1,0 +1,268 @@
+//! A crash of two of three managers, in threads: they are shut once the commit's record is made, and hold branches in doubt.
+//! All are opened again, and what was left is resolved by the log. No money is lost or made over both openings.
+ghost use Rattle.xa_desk.specs.GoesOn.{GoesOn};
+ghost use Rattle.xa_desk.specs.Kept.{AllKept};
+
+use super::resolved::recover;
+use super::threads::comes;
+use super::{branch, key, plan_of};
+use std::alloc::Global;
+use std::process::Abort;
+use std::sync::atomic::{AtomicBool, Ordering};
+use std::sync::{Arc, Wait};
+use xa_crew::{Attended, Client, Run, run_clients};
+use xa_desk::laws::desks_go_on;
+use xa_desk::{Desk, Spin};
+use xa_driver::{
+    Branch, CommitRecord, DecisionLog, Done, Ending, LogFault, MemoryLog, Outcome, Yes, commit_all,
+    may_commit,
+};
+use xa_switch::{Again, Plan, RmOp, Settled, native, xa_call};
+use xa_words::{Call, Code, Delta, Key, TMNOFLAGS, TMSUCCESS, Tran, Xid};
+use xa_worker::Free;
+
+// What the two threads tell each other.
+#[derive(Drop)]
+struct Signals {
+    // The record is made.
+    recorded: Arc<AtomicBool, Global>,
+    // Managers 2 and 3 are shut.
+    shut: Arc<AtomicBool, Global>,
+}
+
+impl Signals {
+    fn new(rt: &impl Abort, alloc: Global) -> Signals {
+        Signals {
+            recorded: Arc::new(alloc, AtomicBool::new(false)).expect(rt, "memory"),
+            shut: Arc::new(alloc, AtomicBool::new(false)).expect(rt, "memory"),
+        }
+    }
+
+    fn share(&self, rt: &impl Abort) -> Signals {
+        Signals {
+            recorded: Arc::try_clone(&self.recorded).expect(rt, "a share"),
+            shut: Arc::try_clone(&self.shut).expect(rt, "a share"),
+        }
+    }
+}
+
+// A log that, once it has taken a record, waits until the managers are shut.
+#[derive(Drop)]
+struct Waiting {
+    inner: MemoryLog,
+    signals: Signals,
+}
+
+impl DecisionLog for Waiting {
+    ghost state = { λ l. l.inner.state };
+
+    fn append(&mut self, decision: &CommitRecord) -> Result<(), LogFault> {
+        let appended = self.inner.append(decision);
+        self.signals.recorded.store(true, Ordering::SeqCst);
+        comes(&self.signals.shut);
+        appended
+    }
+
+    fn has(&self, tran: &Tran) -> Option<Yes> {
+        self.inner.has(tran)
+    }
+
+    fn failures(&self) -> u64 {
+        self.inner.failures()
+    }
+}
+
+// A branch of the transaction, and what is added for it.
+fn leg(m: u32, bqual: &[u8], change: i64) -> Option<(Branch, RmOp)> {
+    let xid = Xid::new(1, b"t", bqual).ok()?;
+    let addition = RmOp::Add(Key::new(b"a")?, Delta::new(change)?);
+    Some((Branch { m, xid }, addition))
+}
+
+// A call for the branch.
+fn ask<R: Wait>(
+    rt: &R,
+    desk: &mut Desk,
+    call: Call,
+    branch: &Branch,
+    flags: u32,
+    spin: &mut Spin,
+) -> i32
+    ensures goes_on { GoesOn desk.old desk.new }
+    ensures kept { AllKept desk.old → AllKept desk.new }
+{
+    let xid = Some(branch.xid);
+    xa_call(rt, desk, call, xid, branch.m, flags, spin)
+}
+
+// Whether this was added for the branch, at a manager that the thread opened first.
+fn work<R: Wait>(rt: &R, desk: &mut Desk, branch: &Branch, addition: RmOp, spin: &mut Spin) -> bool
+    ensures goes_on { GoesOn desk.old desk.new }
+    ensures kept { AllKept desk.old → AllKept desk.new }
+{
+    desks_go_on();
+    let opened = ask(rt, desk, Call::OpenRm, branch, TMNOFLAGS, spin);
+    let started = ask(rt, desk, Call::Start, branch, TMNOFLAGS, spin);
+    let added = native(rt, desk, addition, branch.m, TMNOFLAGS, spin);
+    let ended = ask(rt, desk, Call::End, branch, TMSUCCESS, spin);
+    opened == 0 && started == 0 && added == 0 && ended == 0
+}
+
+// Works for three branches, whose additions sum to 0, and commits them where that may be done.
+fn commit<R: Wait>(rt: &R, alloc: Global, desk: &mut Desk, log: &mut Waiting) -> Option<Done>
+    ensures goes_on { GoesOn desk.old desk.new }
+    ensures kept { AllKept desk.old → AllKept desk.new }
+{
+    desks_go_on();
+    let mut spin = Spin::new();
+    let (first, less) = leg(1, b"1", -2)?;
+    let (second, more) = leg(2, b"2", 1)?;
+    let (third, again) = leg(3, b"3", 1)?;
+    let at_first = work(rt, desk, &first, less, &mut spin);
+    let at_second = work(rt, desk, &second, more, &mut spin);
+    let at_third = work(rt, desk, &third, again, &mut spin);
+    let branches = [first, second, third];
+    if !(at_first && at_second && at_third && may_commit(desk, log, branches.as_slice())) {
+        return None;
+    }
+    match commit_all(rt, alloc, desk, log, branches.as_slice(), &mut spin) {
+        Ok(done) => Some(done),
+        Err(_) => None,
+    }
+}
+
+// Commits a transaction over three managers.
+#[derive(Drop)]
+struct Committer {
+    alloc: Global,
+    log: Waiting,
+    done: Option<Done>,
+}
+
+impl Committer {
+    fn commit<R: Wait>(&mut self, rt: &R, desk: &mut Desk)
+        ensures goes_on { GoesOn desk.old desk.new }
+        ensures kept { AllKept desk.old → AllKept desk.new }
+    {
+        let done = commit(rt, self.alloc, desk, &mut self.log);
+        self.done = done;
+    }
+}
+
+// Shuts managers 2 and 3 once the record is made.
+fn shut<R: Wait>(rt: &R, desk: &mut Desk, signals: &Signals)
+    ensures goes_on { GoesOn desk.old desk.new }
+    ensures kept { AllKept desk.old → AllKept desk.new }
+{
+    desks_go_on();
+    let mut spin = Spin::new();
+    comes(&signals.recorded);
+    native(rt, desk, RmOp::Shut, 2, TMNOFLAGS, &mut spin);
+    native(rt, desk, RmOp::Shut, 3, TMNOFLAGS, &mut spin);
+    signals.shut.store(true, Ordering::SeqCst);
+}
+
+// The threads of the opening that crashes.
+#[derive(Drop)]
+enum Part {
+    Commits(Committer),
+    Shuts(Signals),
+}
+
+impl Client for Part {
+    ghost works = { λ part desk part' desk'. Unit {0} };
+
+    fn work<R: Wait>(&mut self, rt: &R, desk: &mut Desk) {
+        match self {
+            Part::Commits(committer) => committer.commit(rt, desk),
+            Part::Shuts(signals) => shut(rt, desk, signals),
+        }
+    }
+}
+
+fn committing(alloc: Global, signals: Signals) -> Committer {
+    Committer {
+        alloc,
+        log: Waiting {
+            inner: MemoryLog::new(alloc),
+            signals,
+        },
+        done: None,
+    }
+}
+
+// The committer, which is the last of the clients.
+fn committed(rt: &impl Abort, mut clients: Vec<Attended<Part>>) -> Committer {
+    let Some(last) = clients.pop() else {
+        panic!(rt; "there is no client");
+    };
+    let Attended {
+        client,
+        outstanding: _,
+    } = last;
+    match client {
+        Part::Commits(committer) => committer,
+        Part::Shuts(_) => panic!(rt; "another client"),
+    }
+}
+
+// What the three accounts have.
+fn values(rt: &impl Abort, settled: &Settled) -> [Option<u64>; 3] {
+    let key = key(rt);
+    [
+        settled.value(1, &key),
+        settled.value(2, &key),
+        settled.value(3, &key),
+    ]
+}
+
+#[test]
+fn what_a_crash_left_in_doubt_is_committed_by_its_record(rt: HostRuntime) {
+    let alloc = rt.alloc();
+    let plan = Plan {
+        queue: 4,
+        ..plan_of(&rt, alloc, 3)
+    };
+    let signals = Signals::new(&rt, alloc);
+    let commits = Part::Commits(committing(alloc, signals.share(&rt)));
+    let (Ok(parts), Ok(paces)) = (
+        Vec::from_array(alloc, [Part::Shuts(signals), commits]),
+        Vec::from_array(alloc, [Free; 3]),
+    ) else {
+        panic!(rt; "memory");
+    };
+    assert_eq!(rt; (plan.threads, plan.managers.len()), (2, 3));
+    let Run { clients, settled } = run_clients(&rt, alloc, &plan, parts, paces).expect(
+        &rt,
+        "an opening",
+    );
+    assert_eq!(rt; values(&rt, &settled), [Some(3), Some(5), Some(5)]);
+    let Committer { log, done, .. } = committed(&rt, clients);
+    let done = done.expect(&rt, "a commit");
+    let endings = [Ending::Committed, Ending::InDoubt, Ending::InDoubt];
+    assert!(rt; done.commit && done.logged);
+    assert_eq!(rt; done.endings.as_slice(), endings.as_slice());
+    let again = Again {
+        opening: 8,
+        threads: 1,
+        handles: 4,
+        queue: 4,
+        requests: 16,
+    };
+    let recovered = recover(&rt, alloc, settled, &again, &log.inner);
+    let outcome = |m| Outcome {
+        m,
+        xid: branch(&rt, m).xid,
+        commit: true,
+        code: Code::Done,
+    };
+    let outcomes = [outcome(2), outcome(3)];
+    assert_eq!(rt;
+        recovered.ended.told.outcomes.as_slice(),
+        outcomes.as_slice()
+    );
+    assert_eq!(rt;
+        values(&rt, &recovered.settled),
+        [Some(3), Some(6), Some(6)]
+    );
+}

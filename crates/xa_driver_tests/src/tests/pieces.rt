@@ -1,0 +1,133 @@
+//! The pieces of an opening: a desk that works, commits and ends, and workers that run to their ends.
+ghost use Rattle.std.specs.Prelude.{◌≡◌, ◌≤◌, ◌∷◌, [], length, map};
+ghost use Rattle.xa_switch.specs.Seats.{worker_seats, seat_of_desk, seat_of_ended, seat_of_worker, seat_of_done};
+ghost use Rattle.xa_driver.specs.Trace.{IsCommit};
+
+use super::{Workers, delta, key};
+use std::alloc::Global;
+use std::process::Abort;
+use std::snapshot::Snapshot;
+use std::sync::Wait;
+use xa_desk::{Desk, EndedDesk, Idle};
+use xa_driver::{Branch, Done, MemoryLog, commit_all, may_commit};
+use xa_switch::{RmOp, native, xa_call};
+use xa_words::{Call, TMNOFLAGS, TMSUCCESS};
+use xa_worker::{DoneWorker, Free, Worker};
+
+// The only element.
+pub(super) fn one<T: Drop>(rt: &impl Abort, all: Vec<T>) -> T
+    ensures { result ∷ [] ≡ all.items }
+{
+    let mut all = all;
+    let Some(only) = all.pop() else {
+        panic!(rt; "there is none");
+    };
+    if !all.is_empty() {
+        panic!(rt; "there are more");
+    }
+    only
+}
+
+// The first and the second of two.
+pub(super) fn two<T: Drop>(rt: &impl Abort, all: Vec<T>) -> (T, T)
+    ensures { result.0 ∷ result.1 ∷ [] ≡ all.items }
+{
+    let mut all = all;
+    let Some(second) = all.pop() else {
+        panic!(rt; "there is none");
+    };
+    let first = one(rt, all);
+    (first, second)
+}
+
+// Work for a branch, at a manager that the thread opens first.
+pub(super) fn work<R: Wait + Abort>(rt: &R, desk: &mut Desk, branch: &Branch, idle: &mut Workers)
+    ensures seat { seat_of_desk desk.new ≡ seat_of_desk desk.old }
+    ensures idled { map seat_of_worker idle.new.workers.items ≡ map seat_of_worker idle.old.workers.items }
+{
+    let (m, xid) = (branch.m, Some(branch.xid));
+    let add = RmOp::Add(key(rt), delta(rt, 1));
+    let opened = xa_call(rt, desk, Call::OpenRm, None, m, TMNOFLAGS, idle);
+    let started = xa_call(rt, desk, Call::Start, xid, m, TMNOFLAGS, idle);
+    let added = native(rt, desk, add, m, TMNOFLAGS, idle);
+    let ended = xa_call(rt, desk, Call::End, xid, m, TMSUCCESS, idle);
+    assert!(rt; opened == 0 && started == 0 && added == 0 && ended == 0);
+}
+
+// A commit that a desk made: the desk and its log before it and after it, and what it told.
+#[derive(Drop)]
+pub(super) struct Made {
+    pub(super) before: Snapshot<Desk>,
+    pub(super) after: Snapshot<Desk>,
+    pub(super) log_before: Snapshot<MemoryLog>,
+    pub(super) log_after: Snapshot<MemoryLog>,
+    pub(super) done: Done,
+}
+
+pub(super) fn commit<R: Wait + Abort, I: Idle>(
+    rt: &R,
+    alloc: Global,
+    desk: &mut Desk,
+    log: &mut MemoryLog,
+    branches: &[Branch],
+    idle: &mut I,
+) -> Made
+    ensures made { IsCommit branches.now result.before.value result.after.value.ledgers result.log_before.value.state result.log_after.value.state result.done }
+    ensures few { length result.before.value.ledgers ≤ 8 }
+    ensures after { result.after.value ≡ desk.new }
+    ensures log { result.log_after.value ≡ log.new }
+    ensures seat { seat_of_desk desk.new ≡ seat_of_desk desk.old }
+    ensures idled { I.leads idle.old idle.new }
+{
+    if !may_commit(desk, log, branches) {
+        panic!(rt; "these branches are refused");
+    }
+    let _managers = desk.managers();
+    let (before, log_before) = (Snapshot::of(desk), Snapshot::of(log));
+    let Ok(done) = commit_all(rt, alloc, desk, log, branches, idle) else {
+        panic!(rt; "memory");
+    };
+    Made {
+        before,
+        after: Snapshot::of(desk),
+        log_before,
+        log_after: Snapshot::of(log),
+        done,
+    }
+}
+
+// Ends a desk with which nothing is outstanding.
+pub(super) fn end<R: Wait + Abort>(rt: &R, desk: Desk, idle: &mut Workers) -> EndedDesk
+    ensures thread { result.thread ≡ desk.thread }
+    ensures seat { seat_of_ended result ≡ seat_of_desk desk }
+    ensures lists { result.ledgers ≡ desk.ledgers }
+    ensures idled { map seat_of_worker idle.new.workers.items ≡ map seat_of_worker idle.old.workers.items }
+{
+    match desk.finish(rt, idle) {
+        Ok(ended) => ended,
+        Err(_) => panic!(rt; "something is outstanding"),
+    }
+}
+
+// Runs a worker to its end.
+fn run<R: Wait>(rt: &R, worker: Worker) -> DoneWorker
+    ensures { seat_of_done result ≡ seat_of_worker worker }
+{
+    worker.run(rt, &mut Free)
+}
+
+// Runs all workers of an opening.
+pub(super) fn run_all<R: Wait + Abort>(
+    rt: &R,
+    alloc: Global,
+    workers: Vec<Worker>,
+) -> Vec<DoneWorker>
+    ensures { worker_seats result.items ≡ map seat_of_worker workers.items }
+{
+    let mut done = Vec::new(alloc);
+    for worker in workers {
+        let one = run(rt, worker);
+        done.push(one).expect(rt, "memory");
+    }
+    done
+}

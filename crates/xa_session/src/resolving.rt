@@ -1,0 +1,46 @@
+//! A resolve by a line of a script.
+ghost use Rattle.std.specs.Prelude.{◌≡◌, IfOk, OnErr};
+ghost use Rattle.xa_desk.specs.GoesOn.{GoesOn};
+ghost use Rattle.xa_desk.specs.Kept.{AllKept};
+ghost use Rattle.xa_session.specs.Resolving.{ResolvesLeft};
+ghost use Rattle.xa_session.specs.Sessions.{session_of};
+
+use crate::answer::Answer;
+use std::alloc::{AllocError, Global};
+use std::sync::Wait;
+use xa_desk::laws::desks_go_on;
+use xa_desk::{Desk, Idle};
+use xa_driver::{MemoryLog, ResolveFault, may_resolve, resolve};
+use xa_grammar::Resolve;
+use xa_switch::Scan;
+
+/// Resolves what was left, where there is room for it. It fails only for want of memory, and then nothing is done.
+pub(crate) fn resolve_left<R: Wait, I: Idle>(
+    rt: &R,
+    alloc: Global,
+    desk: &mut Desk,
+    log: &MemoryLog,
+    scan: &Scan,
+    asked: &Resolve,
+    idle: &mut I,
+) -> Result<Answer, AllocError>
+    ensures resolves { IfOk result (ResolvesLeft asked.now (session_of desk.old log.now scan.now) (session_of desk.new log.now scan.now)) }
+    ensures goes_on { GoesOn desk.old desk.new }
+    ensures kept { AllKept desk.old → AllKept desk.new }
+    ensures unsent { OnErr result (desk.new ≡ desk.old) }
+    ensures idled { I.leads idle.old idle.new }
+{
+    desks_go_on();
+    let (line, thread) = (asked.line, asked.thread);
+    if !may_resolve(desk, scan) {
+        return Ok(Answer::Refused { line, thread });
+    }
+    match resolve(rt, alloc, desk, scan, log, idle) {
+        Ok(resolved) => Ok(Answer::Resolved {
+            line,
+            thread,
+            outcomes: resolved.outcomes,
+        }),
+        Err(ResolveFault::NoMemory) => Err(AllocError),
+    }
+}
