@@ -1,5 +1,5 @@
 -- Lemmas on sums over lists.
-use Rattle.std.specs.Prelude.{◌≡◌, ℤ, pos, ◌+ℤ◌, ℕ, suc, List, [], ◌∷◌, refl}
+use Rattle.std.specs.Prelude.{◌≡◌, ℤ, pos, ◌+ℤ◌, suc, List, [], ◌∷◌, refl}
 use Rattle.std.specs.List.{All}
 use Rattle.std.proofs.Common.{sym, ap, ◌∙◌, arith}
 use Rattle.std.proofs.lemmas.Int.{ints}

@@ -89,12 +89,12 @@ impl Book {
     }
 
     /// A request was sent, which is outstanding from now on.
-    pub(crate) fn note_sent(&mut self, manager: u32, op: Op) -> Operation
+    pub(crate) fn note_sent(&mut self, manager: u32, op: &Op) -> Operation
         requires known { IsKnown self.old.ledgers manager }
         requires room { length (ledger self.old.ledgers manager).sent < (ledger self.old.ledgers manager).plan }
         requires slot { outstanding self.old.ledgers ≤ self.old.handles }
         ensures named { result ≡ next_operation self.old.ledgers manager }
-        ensures sent { self.new ≡ record self.old { ledgers = after_sent self.old.ledgers manager op } }
+        ensures sent { self.new ≡ record self.old { ledgers = after_sent self.old.ledgers manager op.now } }
         ensures more { outstanding self.new.ledgers ≡ outstanding self.old.ledgers + 1 }
         ensures out { IsOut self.new.ledgers result }
         ensures loose { IsLoose self.new result }

@@ -89,12 +89,12 @@ impl Ledger {
     }
 
     /// One more request was sent.
-    pub(crate) fn push_sent(&mut self, op: Op)
+    pub(crate) fn push_sent(&mut self, op: &Op)
         requires { length self.old.sent < self.old.plan }
-        ensures { self.new ≡ with_sent self.old op }
+        ensures { self.new ≡ with_sent self.old op.now }
     {
         // Within an Option: today no proof is generated where a request, which may hold one, is pushed by itself.
-        if let Some(op) = Some(op) {
+        if let Some(op) = Some(*op) {
             self.sent.push_reserved(op);
         }
     }

@@ -45,11 +45,15 @@ pub(crate) fn try_collect<R: Wait>(rt: &R, book: &mut Book, operation: Operation
     ensures at_once { OnSome result (book.new.completions.quiet ≡ book.old.completions.quiet) }
     ensures once { IsNone result → book.new.completions.quiet ≡ counted book.old.completions.quiet }
 {
-    if look_for(rt, book, operation) {
-        book.collect(operation)
-    } else {
-        None
+    for _ in rt.forever() {
+        if let Some(code) = book.collect(operation) {
+            return Some(code);
+        }
+        if !book.draw(rt) {
+            return None;
+        }
     }
+    unreachable!()
 }
 
 /// Collects an operation that isn't kept, and waits for its completion.

@@ -1,9 +1,10 @@
 -- Lines are taken off the front of the bytes one by one.
-use Rattle.std.proofs.Common.{◌≡◌, ℕ, ◌+◌, ◌-◌, ◌<◌, ◌≤◌, Bool, true, false, cond, List, [], ◌∷◌, ◌++◌, length, take, refl, sym, ap, ◌∙◌, arith, append_assoc, length-append, length-take, append-nil}
+use Rattle.std.proofs.Common.{◌≡◌, ℕ, ◌+◌, ◌-◌, ◌<◌, ◌≤◌, Bool, true, false, cond, List, [], ◌∷◌, ◌++◌, length, take, drop, slice_index, zero, suc, add-one, refl, sym, ap, ◌∙◌, arith, append_assoc, length-append, length-take, append-nil, take-append-drop, drop-cons, take_all, le_refl, subst}
 use Rattle.std.specs.Prelude.{◌&&◌, not, ◌==◌, nat_lt, Ok, Err}
 use Rattle.std.specs.List.{list_all, onto_first}
 use Rattle.std.specs.Io.BufRead.{ends_with_byte}
-use Rattle.std.proofs.lemmas.List.Folds.{list_all-append}
+use Rattle.std.proofs.lemmas.List.Folds.{list_all-append, list_all_more}
+use Rattle.std.proofs.lemmas.Bool.{eqb-true}
 use Rattle.xa_grammar.specs.declared.fault.Reason.TheVariants.{TooManyLines, LineTooLong}
 use Rattle.xa_grammar.specs.declared.fault.ScriptFault.{ScriptFault}
 use Rattle.xa_grammar.specs.declared.fault.ScriptFault.TheVariants as faults
@@ -77,25 +78,25 @@ refuses_long mode s n line lines le lt =
     let f : nat_lt 512 (length (without_return line)) ≡ true = grind (arith, len) in
     rw (e, f) refl
 
--- One more byte that is no line feed.
-more_no_end : (line : List ℕ) (b : ℕ) → HasNoEnd line → (b == 10) ≡ false → HasNoEnd (line ++ b ∷ [])
-more_no_end line b h e = rw (list_all-append (λ b. not (b == 10)) line (b ∷ []), h, e) refl
+-- Two parts without a line feed have none together.
+both_no_end : (line part : List ℕ) → HasNoEnd line → HasNoEnd part → HasNoEnd (line ++ part)
+both_no_end line part h e = rw (list_all-append (λ b. not (b == 10)) line part, h, e) refl
 
--- One more byte of a line past the last: there are too many lines.
-pub too_many : (mode : Bool) (s : Content) (n : ℕ) (line : List ℕ) (b : ℕ) (bytes : List ℕ) → HasNoEnd line → (b == 10) ≡ false → 100000 < n
-    → script_from mode n s (lines_of (line ++ b ∷ bytes)) ≡ Err (n, TooManyLines)
-too_many mode s n line b bytes h e lt =
-    let w : List ℕ = line ++ b ∷ [] in
-    let p = first_line w bytes (more_no_end line b h e) (omega (arith, length-append line (b ∷ []))) in
-    ap (λ x. script_from mode n s (lines_of x)) (sym (append_assoc line (b ∷ []) bytes)) ∙ ap (script_from mode n s) p.2 ∙ refuses_many mode s n (w ++ p.0) p.1 lt
+-- A part too much of a line past the last: there are too many lines.
+pub too_many : (mode : Bool) (s : Content) (n : ℕ) (line part bytes : List ℕ) → HasNoEnd line → HasNoEnd part → 100000 < n → 513 < length line + length part
+    → script_from mode n s (lines_of (line ++ (part ++ bytes))) ≡ Err (n, TooManyLines)
+too_many mode s n line part bytes h e lt len =
+    let w : List ℕ = line ++ part in
+    let p = first_line w bytes (both_no_end line part h e) (omega (arith, len, length-append line part)) in
+    ap (λ x. script_from mode n s (lines_of x)) (sym (append_assoc line part bytes)) ∙ ap (script_from mode n s) p.2 ∙ refuses_many mode s n (w ++ p.0) p.1 lt
 
--- One more byte of a line that is full: it is too long.
-pub too_long : (mode : Bool) (s : Content) (n : ℕ) (line : List ℕ) (b : ℕ) (bytes : List ℕ) → HasNoEnd line → (b == 10) ≡ false → n ≤ 100000 → length line ≡ 513
-    → script_from mode n s (lines_of (line ++ b ∷ bytes)) ≡ Err (n, LineTooLong)
-too_long mode s n line b bytes h e le len =
-    let w : List ℕ = line ++ b ∷ [] in
-    let p = first_line w bytes (more_no_end line b h e) (omega (arith, length-append line (b ∷ []))) in
-    ap (λ x. script_from mode n s (lines_of x)) (sym (append_assoc line (b ∷ []) bytes)) ∙ ap (script_from mode n s) p.2 ∙ refuses_long mode s n (w ++ p.0) p.1 le (omega (arith, len, length-append line (b ∷ []), length-append w p.0))
+-- A part too much of a line: it is too long.
+pub too_long : (mode : Bool) (s : Content) (n : ℕ) (line part bytes : List ℕ) → HasNoEnd line → HasNoEnd part → n ≤ 100000 → 513 < length line + length part
+    → script_from mode n s (lines_of (line ++ (part ++ bytes))) ≡ Err (n, LineTooLong)
+too_long mode s n line part bytes h e le len =
+    let w : List ℕ = line ++ part in
+    let p = first_line w bytes (both_no_end line part h e) (omega (arith, len, length-append line part)) in
+    ap (λ x. script_from mode n s (lines_of x)) (sym (append_assoc line part bytes)) ∙ ap (script_from mode n s) p.2 ∙ refuses_long mode s n (w ++ p.0) p.1 le (omega (arith, len, length-append line part, length-append w p.0))
 
 -- A line that is taken: the next line goes on from there.
 pub goes_further : (mode : Bool) (s t : Content) (n : ℕ) (line bytes : List ℕ) → HasNoEnd line → after_line mode s n line ≡ Ok t
@@ -112,7 +113,7 @@ stops_there mode faults.Read s n line bytes h f = tt
 stops_there mode faults.NoMemory s n line bytes h f = tt
 
 -- A list of no length is empty.
-nil_of : (xs : List ℕ) → length xs ≡ 0 → xs ≡ []
+pub nil_of : (xs : List ℕ) → length xs ≡ 0 → xs ≡ []
 nil_of [] h = refl
 nil_of (x ∷ xs) h = absurd (omega (arith, h))
 
@@ -132,3 +133,26 @@ unfolding script_from
 ends_in_fault mode (faults.Line k why) s n line h lt f = ap (λ (xs : List ℕ). script_from mode n s (lines_of xs)) (append-nil line) ∙ ap (script_from mode n s) (last_line line h lt) ∙ rw (f.1, f.0) refl
 ends_in_fault mode faults.Read s n line h lt f = tt
 ends_in_fault mode faults.NoMemory s n line h lt f = tt
+
+-- Bytes up to a place before which no line feed stands have none.
+pub no_end_before : (bytes : List ℕ) (end : ℕ) → end ≤ length bytes → ((k : ℕ) → k < end → ¬ ((slice_index bytes k == 10) ≡ true)) → HasNoEnd (take end bytes)
+no_end_before bytes zero le none = refl
+no_end_before bytes (suc k) le none =
+    let before : HasNoEnd (take k bytes) = no_end_before bytes k (omega arith) (λ j lt. none j (omega arith)) in
+    let last : (slice_index bytes k == 10) ≡ false = is_false (slice_index bytes k == 10) (none k (omega arith)) in
+    rw (← add-one k) (list_all_more (λ b. not (b == 10)) bytes k 0 (omega arith) ∙ rw (before, last) refl)
+  where
+    is_false : (b : Bool) → ¬ (b ≡ true) → b ≡ false
+    is_false false h = refl
+    is_false true h = absurd (h refl)
+
+-- Bytes with a line feed at a place are the line in front of it, the line feed, and what is after it.
+pub cut_at : (bytes : List ℕ) (end : ℕ) → end < length bytes → (slice_index bytes end == 10) ≡ true → (take end bytes ++ 10 ∷ []) ++ drop (end + 1) bytes ≡ bytes
+cut_at bytes end lt is =
+    append_assoc (take end bytes) (10 ∷ []) (drop (end + 1) bytes)
+    ∙ ap (λ xs. take end bytes ++ xs) (ap (λ b. b ∷ drop (end + 1) bytes) (sym (eqb-true (slice_index bytes end) 10 is)) ∙ rw add-one (sym (drop-cons bytes end 0 lt)))
+    ∙ take-append-drop end bytes
+
+-- Bytes where no line feed stands have none.
+pub no_end : (bytes : List ℕ) → ((k : ℕ) → k < length bytes → ¬ ((slice_index bytes k == 10) ≡ true)) → HasNoEnd bytes
+no_end bytes none = subst HasNoEnd (take_all _ _ (le_refl (length bytes))) (no_end_before bytes (length bytes) (le_refl (length bytes)) none)

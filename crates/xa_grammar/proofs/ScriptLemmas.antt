@@ -41,7 +41,7 @@ use Rattle.xa_base.specs.Lists.{IsUpTo}
 use Rattle.xa_grammar.specs.Content.{Content, IsScript, IsOfManager, IsOfLog, IsOfScript, AsksForFew, HasFewXids, threads_of, managers_of, accounts_of, failing_append, thread_of, with_count, with_key, with_sync, with_failing, with_step}
 use Rattle.xa_grammar.specs.Settings.{before_actions, count_of, not_set, limit_of, setting_of, sync_of, logfail_of, has_key, key_count, declared_of}
 use Rattle.xa_grammar.specs.Commits.{branches_at, commit_of}
-use Rattle.xa_grammar.specs.Actions.{verb_of, action_at, called_of, call_task, commit_task, resolve_task, task_by, task_of_line, turn_of, reopen_of}
+use Rattle.xa_grammar.specs.Actions.{verb_of, action_at, call_step, commit_step, resolve_step, step_by, step_of_thread, turn_of, reopen_of}
 use Rattle.xa_grammar.specs.Grammar.{head_of, item_by, item_of, line_of, with_item}
 
 -- ---- reading without a fault
@@ -339,57 +339,56 @@ few_asked verb.Shut ws x e = asked (action.Native rm.Shut) ws x e tt
 few_asked verb.Complete ws x e = let h = and_then (number_at 0 2147483647 ws) _ x e in asked (action.Complete (pos h.0.0)) h.0.1 x h.1.1 tt
 few_asked verb.Recover ws x e = let c = and_then (number_at 0 64 ws) _ x e in asked (action.Recover c.0.0) c.0.1 x c.1.1 (number_is 0 64 ws c.0 c.1.0).1
 
-call_is : (line t : ℕ) (w : Word) (ws : List Word) (p : Task) → call_task line t w ws ≡ Ok p → (thread_of p ≡ t) × HasFewXids p
-unfolding call_task called_of
+-- the step is a task of the thread that asks for few xids
+abbrev pub IsTaskOf : ℕ → Step → Type 0
+IsTaskOf t p = (q : Task) × ((p ≡ step.Task q) × ((thread_of q ≡ t) × HasFewXids q))
+
+call_is : (line t : ℕ) (w : Word) (ws : List Word) (p : Step) → call_step line t w ws ≡ Ok p → IsTaskOf t p
+unfolding call_step
 call_is line t w ws p e =
     let v = and_then (ok_or (verb_of w) UnknownWord) _ p e in
-    let c = and_then (called_of line t v.0 ws) _ p v.1.1 in
-    let m = and_then (number_at 0 4294967295 ws) _ c.0 c.1.0 in
-    let a = and_then (action_at v.0 m.0.1) _ c.0 m.1.1 in
-    let f = and_then (flags_onto 0 a.0.1) _ c.0 a.1.1 in
-    let made : Called = record { line = line; thread = t; manager = m.0.0; action = a.0.0; flags = f.0 } in
-    let same : made ≡ c.0 = ok_is made c.0 f.1.1 in
-    let is : task.Call c.0 ≡ p = ok_is (task.Call c.0) p c.1.1 in
-    let whole : task.Call made ≡ p = ap task.Call same ∙ is in
-    subst (λ (q : Task). (thread_of q ≡ t) × HasFewXids q) whole (refl, few_asked v.0 m.0.1 a.0 a.1.0)
+    let m = and_then (number_at 0 4294967295 ws) _ p v.1.1 in
+    let a = and_then (action_at v.0 m.0.1) _ p m.1.1 in
+    let f = and_then (flags_onto 0 a.0.1) _ p a.1.1 in
+    let made : Task = task.Call (record { line = line; thread = t; manager = m.0.0; action = a.0.0; flags = f.0 }) in
+    (made, (sym (ok_is (step.Task made) p f.1.1), (refl, few_asked v.0 m.0.1 a.0 a.1.0)))
 
-commit_is : (s : Content) (line t : ℕ) (ws : List Word) (p : Task) → commit_task s line t ws ≡ Ok p → (thread_of p ≡ t) × HasFewXids p
-unfolding commit_task commit_of
+commit_is : (s : Content) (line t : ℕ) (ws : List Word) (p : Step) → commit_step s line t ws ≡ Ok p → IsTaskOf t p
+unfolding commit_step commit_of
 commit_is s line t ws p e =
     let c = and_then (commit_of s line t ws) _ p e in
     let g = and_then (tran_at ws) _ c.0 c.1.0 in
     let at = and_then (branches_at (managers_of s) g.0.1) _ c.0 g.1.1 in
     let made : CommitAll = record { line = line; thread = t; tran = g.0.0; managers = at.0 } in
     let same : made ≡ c.0 = ok_is made c.0 at.1.1 in
-    let is : task.CommitAll c.0 ≡ p = ok_is (task.CommitAll c.0) p c.1.1 in
-    let whole : task.CommitAll made ≡ p = ap task.CommitAll same ∙ is in
-    subst (λ (q : Task). (thread_of q ≡ t) × HasFewXids q) whole (refl, tt)
+    let whole : step.Task (task.CommitAll made) ≡ p = ap (λ (x : CommitAll). step.Task (task.CommitAll x)) same ∙ ok_is (step.Task (task.CommitAll c.0)) p c.1.1 in
+    (task.CommitAll made, (sym whole, (refl, tt)))
 
-resolve_is : (line t : ℕ) (ws : List Word) (p : Task) → resolve_task line t ws ≡ Ok p → (thread_of p ≡ t) × HasFewXids p
-unfolding resolve_task
+resolve_is : (line t : ℕ) (ws : List Word) (p : Step) → resolve_step line t ws ≡ Ok p → IsTaskOf t p
+unfolding resolve_step
 resolve_is line t ws p e =
     let last = and_then (end_of ws) _ p e in
-    let made : Resolve = record { line = line; thread = t } in
-    let whole : task.Resolve made ≡ p = ok_is (task.Resolve made) p last.1.1 in
-    subst (λ (q : Task). (thread_of q ≡ t) × HasFewXids q) whole (refl, tt)
+    let made : Task = task.Resolve (record { line = line; thread = t }) in
+    (made, (sym (ok_is (step.Task made) p last.1.1), (refl, tt)))
 
-task_by_is : (s : Content) (line t : ℕ) (w : Word) (ws : List Word) (p : Task) → task_by s line t w ws ≡ Ok p → (thread_of p ≡ t) × HasFewXids p
-task_by_is s line t w ws p =
-    elim (bytes_eq w (codes "commitall")) as (λ b. (if b then commit_task s line t ws else (if bytes_eq w (codes "resolve") then resolve_task line t ws else call_task line t w ws)) ≡ Ok p → (thread_of p ≡ t) × HasFewXids p) [
+step_by_is : (s : Content) (line t : ℕ) (w : Word) (ws : List Word) (p : Step) → step_by s line t w ws ≡ Ok p → IsTaskOf t p
+step_by_is s line t w ws p =
+    elim (bytes_eq w (codes "commitall")) as (λ b. (if b then commit_step s line t ws else (if bytes_eq w (codes "resolve") then resolve_step line t ws else call_step line t w ws)) ≡ Ok p → IsTaskOf t p) [
       | true ↦ commit_is s line t ws p
-      | false ↦ elim (bytes_eq w (codes "resolve")) as (λ b. (if b then resolve_task line t ws else call_task line t w ws) ≡ Ok p → (thread_of p ≡ t) × HasFewXids p) [
+      | false ↦ elim (bytes_eq w (codes "resolve")) as (λ b. (if b then resolve_step line t ws else call_step line t w ws) ≡ Ok p → IsTaskOf t p) [
         | true ↦ resolve_is line t ws p
         | false ↦ call_is line t w ws p
       ]
     ]
 
-task_is : (s : Content) (line : ℕ) (w : Word) (ws : List Word) (p : Task) → task_of_line s line w ws ≡ Ok p → IsOfScript s (step.Task p)
-unfolding task_of_line
-task_is s line w ws p e =
+-- a line of a thread is a task of one of the threads
+pub thread_is : (s : Content) (line : ℕ) (w : Word) (ws : List Word) (p : Step) → step_of_thread s line w ws ≡ Ok p → (q : Task) × ((p ≡ step.Task q) × IsOfScript s (step.Task q))
+unfolding step_of_thread
+thread_is s line w ws p e =
     let t = and_then (number_in 1 (threads_of s) w) _ p e in
     let v = and_then (word_at ws) _ p t.1.1 in
-    let by = task_by_is s line t.0 v.0.0 v.0.1 p v.1.1 in
-    (subst (IsUpTo (threads_of s)) (sym by.0) (in_range 1 (threads_of s) w t.0 t.1.0), by.1)
+    let by = step_by_is s line t.0 v.0.0 v.0.1 p v.1.1 in
+    (by.0, (by.1.0, (subst (IsUpTo (threads_of s)) (sym by.1.1.0) (in_range 1 (threads_of s) w t.0 t.1.0), by.1.1.1)))
 
 turn_is : (mode : Bool) (s : Content) (line : ℕ) (ws : List Word) (m : ℕ) → turn_of mode s ws ≡ Ok m → IsOfScript s (step.Turn line m)
 unfolding turn_of
@@ -429,9 +428,10 @@ item_by_kept (Some head.Reopen) mode s n w ws i e is =
     let same : item.Step (step.Reopen n) ≡ i = ok_is (item.Step (step.Reopen n)) i last.1.1 in
     subst (λ (z : Item). IsScript (with_item z s)) same (step_kept s (step.Reopen n) tt is)
 item_by_kept (Some head.Thread) mode s n w ws i e is =
-    let p = and_then (task_of_line s n w ws) (λ p. Ok (item.Step (step.Task p))) i e in
-    let same : item.Step (step.Task p.0) ≡ i = ok_is (item.Step (step.Task p.0)) i p.1.1 in
-    subst (λ (z : Item). IsScript (with_item z s)) same (step_kept s (step.Task p.0) (task_is s n w ws p.0 p.1.0) is)
+    let p = and_then (step_of_thread s n w ws) (λ p. Ok (item.Step p)) i e in
+    let same : item.Step p.0 ≡ i = ok_is (item.Step p.0) i p.1.1 in
+    let q = thread_is s n w ws p.0 p.1.0 in
+    subst (λ (z : Item). IsScript (with_item z s)) same (step_kept s p.0 (subst (IsOfScript s) (sym q.1.0) q.1.1) is)
 
 item_kept : (mode : Bool) (s : Content) (n : ℕ) (ws : List Word) (i : Item) → item_of mode s n ws ≡ Ok i → IsScript s → IsScript (with_item i s)
 item_kept mode s n [] i e is = let same : item.Nothing ≡ i = cc in subst (λ (z : Item). IsScript (with_item z s)) same is

@@ -1,8 +1,10 @@
 -- Words are cut off the front of a line one by one.
 use Rattle.std.proofs.Common.{◌≡◌, ℕ, ◌<◌, Bool, true, false, List, [], ◌∷◌, ◌++◌, length, refl, ap, sym, ◌∙◌, arith}
-use Rattle.std.specs.Prelude.{◌&&◌, not, filter}
-use Rattle.std.specs.List.{list_all, onto_first, slice_split}
+use Rattle.std.specs.Prelude.{◌&&◌, not, filter, nat_eq, ◌==◌}
+use Rattle.std.specs.List.{list_all, onto_first, slice_split, starts_with}
+use Rattle.std.proofs.lemmas.Bool.Decides.{nat_tests}
 use Rattle.xa_grammar.specs.Text.{is_space, starts_blank, has_bytes, words_of, IsWord}
+use Rattle.xa_grammar.specs.Grammar.{are_comment}
 
 -- The first byte of a word is no space.
 no_space : (b : ℕ) (w : List ℕ) → IsWord (b ∷ w) → is_space b ≡ false
@@ -41,3 +43,23 @@ first_word [] line h lt blank = absurd (omega arith)
 first_word (b ∷ w) line h lt blank =
     let p = blank_parts line blank in
     ap (filter has_bytes) (word_parts (b ∷ w) line p.0 h p.1) ∙ ap (λ ws. (b ∷ w) ∷ ws) (sym p.2)
+
+-- A byte ahead of parts stands in the first of them.
+onto_parts : (b : ℕ) (xss : List (List ℕ)) → (more : List ℕ) × (yss : List (List ℕ)) × (onto_first b xss ≡ (b ∷ more) ∷ yss)
+onto_parts b [] = ([], [], refl)
+onto_parts b (xs ∷ xss) = (xs, xss, refl)
+
+-- A line that doesn't start blank is a comment where its first byte is `#`.
+pub are_comment_words : (line : List ℕ) → (starts_blank line ≡ true → line ≡ []) → starts_with nat_eq line (35 ∷ []) ≡ are_comment (words_of line)
+are_comment_words [] h = refl
+are_comment_words (b ∷ line) h =
+    let p = onto_parts b (slice_split is_space line) in
+    let e : is_space b ≡ false = full (is_space b) h in
+    rw (e, p.2) (same_hash b)
+  where
+    full : (s : Bool) → (s ≡ true → b ∷ line ≡ []) → s ≡ false
+    full false h = refl
+    full true h = let e : b ∷ line ≡ [] = h refl in absurd cc
+
+    same_hash : (b : ℕ) → (nat_eq 35 b && true) ≡ (b == 35)
+    same_hash b = grind (arith, nat_tests)

@@ -8,8 +8,8 @@ use Rattle.xa_grammar.specs.declared.fault.Reason.{Reason}
 use Rattle.xa_grammar.specs.declared.fault.Reason.TheVariants.{UnknownWord, TurnInThreadsMode, ReopenInThreadsMode}
 use Rattle.xa_grammar.specs.declared.script.Action.{Action}
 use Rattle.xa_grammar.specs.declared.script.Action.TheVariants as action
-use Rattle.xa_grammar.specs.declared.script.Called.{Called}
-use Rattle.xa_grammar.specs.declared.script.Task.{Task}
+use Rattle.xa_grammar.specs.declared.script.Step.{Step}
+use Rattle.xa_grammar.specs.declared.script.Step.TheVariants as steps
 use Rattle.xa_grammar.specs.declared.script.Task.TheVariants as task
 use Rattle.xa_grammar.specs.declared.action.Verb.{Verb}
 use Rattle.xa_grammar.specs.declared.action.Verb.TheVariants as verb
@@ -60,45 +60,39 @@ action_at verb.Recover ws = do
   c ← number_at 0 MOST_COUNT ws
   Ok (action.Recover c.0, c.1)
 
--- M .. flags, by a thread, on the line of this number; M is any number up to 4,294,967,295.
-unfoldable pub called_of : ℕ → ℕ → Verb → List Word → Result Called Reason
-called_of line t v ws = do
+-- The words after commitall.
+unfoldable pub commit_step : Content → ℕ → ℕ → List Word → Result Step Reason
+commit_step s line t ws = do
+  c ← commit_of s line t ws
+  Ok (steps.Task (task.CommitAll c))
+
+-- The words after resolve: there are none.
+unfoldable pub resolve_step : ℕ → ℕ → List Word → Result Step Reason
+resolve_step line t ws = do
+  last ← end_of ws
+  Ok (steps.Task (task.Resolve (record { line = line; thread = t })))
+
+-- Any other verb, with the words after it: M .. flags; M is any number up to 4,294,967,295.
+unfoldable pub call_step : ℕ → ℕ → Word → List Word → Result Step Reason
+call_step line t w ws = do
+  v ← ok_or (verb_of w) UnknownWord
   m ← number_at 0 MOST_MANAGER ws
   a ← action_at v m.1
   f ← flags_onto 0 a.1
-  Ok (record { line = line; thread = t; manager = m.0; action = a.0; flags = f })
-
--- The words after commitall.
-unfoldable pub commit_task : Content → ℕ → ℕ → List Word → Result Task Reason
-commit_task s line t ws = do
-  c ← commit_of s line t ws
-  Ok (task.CommitAll c)
-
--- The words after resolve: there are none.
-unfoldable pub resolve_task : ℕ → ℕ → List Word → Result Task Reason
-resolve_task line t ws = do
-  last ← end_of ws
-  Ok (task.Resolve (record { line = line; thread = t }))
-
--- Any other verb, with the words after it.
-unfoldable pub call_task : ℕ → ℕ → Word → List Word → Result Task Reason
-call_task line t w ws = do
-  v ← ok_or (verb_of w) UnknownWord
-  p ← called_of line t v ws
-  Ok (task.Call p)
+  Ok (steps.Task (task.Call (record { line = line; thread = t; manager = m.0; action = a.0; flags = f })))
 
 -- The verb and the words after it.
-abbrev pub task_by : Content → ℕ → ℕ → Word → List Word → Result Task Reason
-task_by s line t w ws =
-    if bytes_eq w (codes "commitall") then commit_task s line t ws
-    else (if bytes_eq w (codes "resolve") then resolve_task line t ws else call_task line t w ws)
+abbrev pub step_by : Content → ℕ → ℕ → Word → List Word → Result Step Reason
+step_by s line t w ws =
+    if bytes_eq w (codes "commitall") then commit_step s line t ws
+    else (if bytes_eq w (codes "resolve") then resolve_step line t ws else call_step line t w ws)
 
 -- T VERB .., on the line of this number; T is one of the threads.
-unfoldable pub task_of_line : Content → ℕ → Word → List Word → Result Task Reason
-task_of_line s line first ws = do
+unfoldable pub step_of_thread : Content → ℕ → Word → List Word → Result Step Reason
+step_of_thread s line first ws = do
   t ← number_in 1 (threads_of s) first
   w ← word_at ws
-  task_by s line t w.0 w.1
+  step_by s line t w.0 w.1
 
 -- turn M, where threads take turns; M is one of the managers.
 unfoldable pub turn_of : Bool → Content → List Word → Result ℕ Reason

@@ -20,7 +20,7 @@ use Rattle.xa_grammar.specs.Fields.{◌>>=◌, Word, all_digits}
 use Rattle.xa_base.specs.Lists.{IsUpTo}
 use Rattle.xa_grammar.specs.Content.{Content, nothing, with_count, with_key, with_sync, with_failing, with_step}
 use Rattle.xa_grammar.specs.Settings.{setting_of, sync_of, logfail_of, declared_of}
-use Rattle.xa_grammar.specs.Actions.{task_of_line, turn_of, reopen_of}
+use Rattle.xa_grammar.specs.Actions.{step_of_thread, turn_of, reopen_of}
 
 -- ---- lines
 
@@ -28,6 +28,11 @@ use Rattle.xa_grammar.specs.Actions.{task_of_line, turn_of, reopen_of}
 abbrev pub is_comment : Word → Bool
 is_comment [] = false
 is_comment (b ∷ bs) = b == hash
+
+-- These are the words of a comment.
+abbrev pub are_comment : List Word → Bool
+are_comment [] = false
+are_comment (w ∷ ws) = is_comment w
 
 -- The first word of a line tells what the line is.
 abbrev pub head_of : Word → Option Head
@@ -69,8 +74,8 @@ item_by (Some head.Reopen) mode s n w ws = do
   last ← reopen_of mode ws
   Ok (item.Step (steps.Reopen n))
 item_by (Some head.Thread) mode s n w ws = do
-  p ← task_of_line s n w ws
-  Ok (item.Step (steps.Task p))
+  p ← step_of_thread s n w ws
+  Ok (item.Step p)
 
 -- What the words of line n say. Without words it says nothing.
 abbrev pub item_of : Bool → Content → ℕ → List Word → Result Item Reason

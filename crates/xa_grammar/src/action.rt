@@ -1,12 +1,12 @@
 //! What a thread is told to do.
 ghost use Rattle.std.specs.Prelude.{◌≡◌};
 ghost use Rattle.xa_grammar.specs.Fields.{Takes};
-ghost use Rattle.xa_grammar.specs.Actions.{verb_of, action_at, called_of, commit_task, resolve_task, call_task, task_by, task_of_line, turn_of, reopen_of};
+ghost use Rattle.xa_grammar.specs.Actions.{verb_of, action_at, commit_step, resolve_step, call_step, step_by, step_of_thread, turn_of, reopen_of};
 
 use crate::commit::{MOST_MANAGER, commit_of};
 use crate::fault::Reason;
 use crate::field::number_in;
-use crate::script::{Action, Called, Resolve, Script, Task};
+use crate::script::{Action, Called, Resolve, Script, Step, Task};
 use crate::words::Words;
 use xa_words::{Call, RmOp};
 
@@ -91,81 +91,74 @@ fn action_at(verb: Verb, words: &mut Words) -> Result<Action, Reason>
     }
 }
 
-// The words after the verb of a call.
-#[tactic(auto, unfolding(crate::specs::Actions::called_of))]
-fn called_of(line: u32, thread: u32, verb: Verb, words: &mut Words) -> Result<Called, Reason>
-    ensures { result ≡ called_of line thread verb words.old }
+// The words after `commitall`.
+#[tactic(auto, unfolding(crate::specs::Actions::commit_step))]
+fn commit_step(script: &Script, line: u32, thread: u32, words: &mut Words) -> Result<Step, Reason>
+    ensures { result ≡ commit_step script.now line thread words.old }
 {
+    Ok(Step::Task(Task::CommitAll(commit_of(script, line, thread, words)?)))
+}
+
+// The words after `resolve`: there are none.
+#[tactic(auto, unfolding(crate::specs::Actions::resolve_step))]
+fn resolve_step(line: u32, thread: u32, words: &mut Words) -> Result<Step, Reason>
+    ensures { result ≡ resolve_step line thread words.old }
+{
+    words.end()?;
+    Ok(Step::Task(Task::Resolve(Resolve { line, thread })))
+}
+
+// Any other verb, with the words after it. The step is put together here at once, since each hand that it goes through
+// copies it.
+#[tactic(auto, unfolding(crate::specs::Actions::call_step))]
+fn call_step(line: u32, thread: u32, verb: &[u8], words: &mut Words) -> Result<Step, Reason>
+    ensures { result ≡ call_step line thread verb.now words.old }
+{
+    let verb = verb_of(verb).ok_or(Reason::UnknownWord)?;
     let manager = words.number(0, MOST_MANAGER)? as u32;
     let action = action_at(verb, words)?;
     let flags = words.flags()?;
-    Ok(Called {
+    Ok(Step::Task(Task::Call(Called {
         line,
         thread,
         manager,
         action,
         flags,
-    })
-}
-
-// The words after `commitall`.
-#[tactic(auto, unfolding(crate::specs::Actions::commit_task))]
-fn commit_task(script: &Script, line: u32, thread: u32, words: &mut Words) -> Result<Task, Reason>
-    ensures { result ≡ commit_task script.now line thread words.old }
-{
-    Ok(Task::CommitAll(commit_of(script, line, thread, words)?))
-}
-
-// The words after `resolve`: there are none.
-#[tactic(auto, unfolding(crate::specs::Actions::resolve_task))]
-fn resolve_task(line: u32, thread: u32, words: &mut Words) -> Result<Task, Reason>
-    ensures { result ≡ resolve_task line thread words.old }
-{
-    words.end()?;
-    Ok(Task::Resolve(Resolve { line, thread }))
-}
-
-// Any other verb, with the words after it.
-#[tactic(auto, unfolding(crate::specs::Actions::call_task))]
-fn call_task(line: u32, thread: u32, verb: &[u8], words: &mut Words) -> Result<Task, Reason>
-    ensures { result ≡ call_task line thread verb.now words.old }
-{
-    let verb = verb_of(verb).ok_or(Reason::UnknownWord)?;
-    Ok(Task::Call(called_of(line, thread, verb, words)?))
+    })))
 }
 
 // The verb and the words after it.
-fn task_by(
+fn step_by(
     script: &Script,
     line: u32,
     thread: u32,
     verb: &[u8],
     words: &mut Words,
-) -> Result<Task, Reason>
-    ensures { result ≡ task_by script.now line thread verb.now words.old }
+) -> Result<Step, Reason>
+    ensures { result ≡ step_by script.now line thread verb.now words.old }
 {
     if verb == b"commitall".as_slice() {
-        commit_task(script, line, thread, words)
+        commit_step(script, line, thread, words)
     } else if verb == b"resolve".as_slice() {
-        resolve_task(line, thread, words)
+        resolve_step(line, thread, words)
     } else {
-        call_task(line, thread, verb, words)
+        call_step(line, thread, verb, words)
     }
 }
 
 // The words after `first`, the word that names the thread.
-#[tactic(auto, unfolding(crate::specs::Actions::task_of_line))]
-pub(crate) fn task_of_line(
+#[tactic(auto, unfolding(crate::specs::Actions::step_of_thread))]
+pub(crate) fn step_of_thread(
     script: &Script,
     line: u32,
     first: &[u8],
     words: &mut Words,
-) -> Result<Task, Reason>
-    ensures { result ≡ task_of_line script.now line first.now words.old }
+) -> Result<Step, Reason>
+    ensures { result ≡ step_of_thread script.now line first.now words.old }
 {
     let thread = number_in(1, u64::from(script.threads()), first)? as u32;
     let verb = words.word()?;
-    task_by(script, line, thread, verb, words)
+    step_by(script, line, thread, verb, words)
 }
 
 // The words after `turn`: the manager.

@@ -126,29 +126,18 @@ pub(crate) fn delta_in(word: &[u8]) -> Result<Delta, Reason>
 pub(crate) fn flag_of(word: &[u8]) -> Option<u32>
     ensures { result ≡ flag_of word.now }
 {
-    if word == b"async".as_slice() {
-        Some(TMASYNC)
-    } else if word == b"onephase".as_slice() {
-        Some(TMONEPHASE)
-    } else if word == b"fail".as_slice() {
-        Some(TMFAIL)
-    } else if word == b"nowait".as_slice() {
-        Some(TMNOWAIT)
-    } else if word == b"resume".as_slice() {
-        Some(TMRESUME)
-    } else if word == b"success".as_slice() {
-        Some(TMSUCCESS)
-    } else if word == b"suspend".as_slice() {
-        Some(TMSUSPEND)
-    } else if word == b"startrscan".as_slice() {
-        Some(TMSTARTRSCAN)
-    } else if word == b"endrscan".as_slice() {
-        Some(TMENDRSCAN)
-    } else if word == b"multiple".as_slice() {
-        Some(TMMULTIPLE)
-    } else if word == b"join".as_slice() {
-        Some(TMJOIN)
-    } else {
-        None
+    match word {
+        b"async" => Some(TMASYNC),
+        b"onephase" => Some(TMONEPHASE),
+        b"fail" => Some(TMFAIL),
+        b"nowait" => Some(TMNOWAIT),
+        b"resume" => Some(TMRESUME),
+        b"success" => Some(TMSUCCESS),
+        b"suspend" => Some(TMSUSPEND),
+        b"startrscan" => Some(TMSTARTRSCAN),
+        b"endrscan" => Some(TMENDRSCAN),
+        b"multiple" => Some(TMMULTIPLE),
+        b"join" => Some(TMJOIN),
+        _ => None,
     }
 }

@@ -5,7 +5,7 @@ ghost use Rattle.xa_grammar.specs.Text.{words_of, is_script_byte, without_return
 ghost use Rattle.xa_grammar.specs.Content.{IsScript};
 ghost use Rattle.xa_grammar.specs.Grammar.{head_of, item_by, item_of, line_of, with_item, HasPlace, after_line, FailsAt};
 
-use crate::action::{reopen_of, task_of_line, turn_of};
+use crate::action::{reopen_of, step_of_thread, turn_of};
 use crate::fault::{Reason, ScriptFault};
 use crate::field::all_digits;
 use crate::script::{Count, Declared, Script, Step};
@@ -49,6 +49,9 @@ fn head_of(word: &[u8]) -> Option<Head>
 {
     if word.starts_with(b"#") {
         Some(Head::Comment)
+    } else if all_digits(word) {
+        // Most lines begin so.
+        Some(Head::Thread)
     } else if word == b"threads".as_slice() {
         Some(Head::Count(Count::Threads))
     } else if word == b"managers".as_slice() {
@@ -69,8 +72,6 @@ fn head_of(word: &[u8]) -> Option<Head>
         Some(Head::Turn)
     } else if word == b"reopen".as_slice() {
         Some(Head::Reopen)
-    } else if all_digits(word) {
-        Some(Head::Thread)
     } else {
         None
     }
@@ -82,6 +83,9 @@ fn item_of(script: &Script, threads_mode: bool, number: u32, line: &[u8]) -> Res
     ensures place { IfOk result HasPlace }
 {
     let mut words = Words::new(line);
+    if words.are_comment() {
+        return Ok(Item::Nothing);
+    }
     let Some(first) = words.next() else {
         return Ok(Item::Nothing);
     };
@@ -102,10 +106,7 @@ fn item_of(script: &Script, threads_mode: bool, number: u32, line: &[u8]) -> Res
             reopen_of(threads_mode, &mut words)?;
             Ok(Item::Step(Step::Reopen { line: number }))
         }
-        Head::Thread => {
-            let task = task_of_line(script, number, first, &mut words)?;
-            Ok(Item::Step(Step::Task(task)))
-        }
+        Head::Thread => Ok(Item::Step(step_of_thread(script, number, first, &mut words)?)),
     }
 }
 
@@ -118,7 +119,12 @@ fn is_script_byte(b: u8) -> bool
 fn all_script_bytes(line: &[u8]) -> bool
     ensures { result ≡ list_all is_script_byte line.now }
 {
-    line.iter().all(|b| is_script_byte(*b))
+    // Without a return at the first bad byte many bytes are judged at once.
+    let mut good = true;
+    for b in line {
+        good &= is_script_byte(*b);
+    }
+    good
 }
 
 fn without_return(line: &[u8]) -> &[u8]

@@ -7,11 +7,15 @@ ghost use Rattle.xa_grammar.specs.Grammar.{Reads, script_of};
 use crate::fault::{Reason, ScriptFault};
 use crate::line::{LONGEST_LINE, MOST_LINES, read_line};
 use crate::script::Script;
+use memchr::memchr;
 use std::alloc::{AllocError, Global};
 use std::io::Read;
 
 // Room for a line and its carriage return.
 const ROOM: usize = LONGEST_LINE + 1;
+
+// How many bytes are read at once.
+const CHUNK: usize = 65_536;
 
 // What the whole lines so far say, and what has come of the next.
 #[derive(Drop)]
@@ -28,8 +32,8 @@ struct Reading {
 }
 
 impl Reading {
-    ghost use Rattle.std.specs.Prelude.{◌≡◌, true, [], ◌∷◌, OnOk, IfOk, IfErr};
-    ghost use Rattle.xa_grammar.specs.Text.{line_feed};
+    ghost use Rattle.std.specs.Prelude.{◌≡◌, true, [], ◌∷◌, ◌++◌, OnOk, IfOk, IfErr};
+    ghost use Rattle.xa_grammar.specs.Text.{line_feed, HasNoEnd};
     ghost use Rattle.xa_grammar.specs.Grammar.{Reads};
     ghost use Rattle.xa_grammar.specs.Content.{AreOfOne};
     ghost use Rattle.xa_grammar.specs.Reading.{goes_on, IsFresh, HasTaken, StaysOne, FailsOn};
@@ -46,16 +50,14 @@ impl Reading {
         })
     }
 
-    // Takes one byte, which may end a line.
-    fn take_byte(&mut self, b: u8) -> Result<(), ScriptFault>
-        ensures ok { OnOk result (HasTaken self.old self.new (b ∷ [])) }
-        ensures err { IfErr result (FailsOn self.old (b ∷ [])) }
+    // Takes a part of a line, whose line feed is still to come.
+    fn take_part(&mut self, part: &[u8]) -> Result<(), ScriptFault>
+        requires { HasNoEnd part.now }
+        ensures ok { OnOk result (HasTaken self.old self.new part.now) }
+        ensures err { IfErr result (FailsOn self.old part.now) }
         ensures one { OnOk result (StaysOne self.old self.new) }
     {
-        if b == b'\n' {
-            return self.end_line();
-        }
-        if self.line.len() == ROOM {
+        if part.len() > ROOM - self.line.len() {
             // No line end is waited for: the line may have none.
             let line = self.number;
             let why = if line > MOST_LINES {
@@ -65,9 +67,11 @@ impl Reading {
             };
             return Err(ScriptFault::Line { line, why });
         }
-        self.line.push(b).map_err(|_| ScriptFault::NoMemory)
+        self.line.extend_from_slice(part)?;
+        Ok(())
     }
 
+    // Takes the line feed after a line that came in parts.
     fn end_line(&mut self) -> Result<(), ScriptFault>
         ensures ok { OnOk result (HasTaken self.old self.new (line_feed ∷ [])) }
         ensures err { IfErr result (FailsOn self.old (line_feed ∷ [])) }
@@ -79,15 +83,34 @@ impl Reading {
         Ok(())
     }
 
+    // Takes the rest of a line, and the line feed after it.
+    fn take_line(&mut self, rest: &[u8]) -> Result<(), ScriptFault>
+        requires { HasNoEnd rest.now }
+        ensures ok { OnOk result (HasTaken self.old self.new (rest.now ++ line_feed ∷ [])) }
+        ensures err { IfErr result (FailsOn self.old (rest.now ++ line_feed ∷ [])) }
+        ensures one { OnOk result (StaysOne self.old self.new) }
+    {
+        if !self.line.is_empty() {
+            self.take_part(rest)?;
+            return self.end_line();
+        }
+        // The whole line is in the chunk: it is read where it lies.
+        read_line(&mut self.script, self.threads_mode, self.number, rest)?;
+        self.number += 1;
+        Ok(())
+    }
+
     fn take_chunk(&mut self, chunk: &[u8]) -> Result<(), ScriptFault>
         ensures ok { OnOk result (HasTaken self.old self.new chunk.now) }
         ensures err { IfErr result (FailsOn self.old chunk.now) }
         ensures one { OnOk result (StaysOne self.old self.new) }
     {
-        for b in chunk {
-            self.take_byte(*b)?;
+        let mut rest = chunk;
+        while let Some(end) = memchr(b'\n', rest) {
+            self.take_line(&rest[..end])?;
+            rest = &rest[end + 1..];
         }
-        Ok(())
+        self.take_part(rest)
     }
 
     // Takes the last line, which may lack its line feed.
@@ -126,7 +149,7 @@ pub fn read_script<R: Read>(
     ensures one { threads_mode ≡ true → IfOk result (λ s. AreOfOne s.steps) }
 {
     let mut reading = Reading::new(alloc, threads_mode)?;
-    let mut chunk = [0; 4096];
+    let mut chunk = [0; CHUNK];
     for _ in 0..u64::MAX {
         let count = reader.read(&mut chunk).map_err(|_| ScriptFault::Read)?;
         if count == 0 {

@@ -2,6 +2,7 @@
 ghost use Rattle.std.specs.Prelude.{◌≡◌, ◌<◌, ◌≤◌, ◌∷◌, [], length, take, drop, true, false, Ok, Err, IfOk, MatchOption, MatchResult};
 ghost use Rattle.xa_grammar.specs.Text.{is_space, starts_blank, words_of, IsWord};
 ghost use Rattle.xa_grammar.specs.Fields.{Takes, word_at, end_of, number_at, key_at, xid_at, tran_at, delta_at, flags_onto};
+ghost use Rattle.xa_grammar.specs.Grammar.{are_comment};
 
 use crate::fault::Reason;
 use crate::field::{delta_in, flag_of, number_in, tran_named, xid_of};
@@ -28,6 +29,13 @@ impl<'a> Words<'a> {
         ensures { result ≡ words_of line.now }
     {
         Words { rest: line }
+    }
+
+    // Whether they are those of a comment. The end of its first word isn't looked for.
+    pub(crate) fn are_comment(&self) -> bool
+        ensures { result ≡ are_comment self.now }
+    {
+        without_spaces(self.rest).starts_with(b"#")
     }
 
     pub(crate) fn next(&mut self) -> Option<&'a [u8]>

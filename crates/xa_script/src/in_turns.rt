@@ -199,12 +199,12 @@ fn run<R: Wait>(
     let ends = runner.sessions.len() * MOST_HANDLES;
     let mut answers = Vec::with_capacity(alloc, steps.len() + ends)?;
     for step in steps {
-        match *step {
-            Step::Task(task) => answers.push(runner.call(rt, alloc, &task)?)?,
-            Step::Turn { line, manager } => answers.push(runner.turn(rt, line, manager))?,
+        match step {
+            Step::Task(task) => answers.push(runner.call(rt, alloc, task)?)?,
+            Step::Turn { line, manager } => answers.push(runner.turn(rt, *line, *manager))?,
             Step::Reopen { line } => {
                 let closed = runner.close(rt, alloc, &mut answers)?;
-                answers.push(Answer::Reopened { line })?;
+                answers.push(Answer::Reopened { line: *line })?;
                 runner = closed.reopen(rt, alloc, script)?;
             }
         }

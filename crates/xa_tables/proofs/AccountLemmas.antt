@@ -207,7 +207,7 @@ kept_hold keep p k l fs es later =
       ]
     ] refl
 
-plus_none : (v : ℤ) → v +ℤ pos 0 ≡ v
+pub plus_none : (v : ℤ) → v +ℤ pos 0 ≡ v
 plus_none v = omega (arith, ints)
 
 kept_holds : (keep : XidName → Bool) (f : Account → Account) → LetsGo keep f → (accounts : List Account) (p : Touch)
@@ -413,7 +413,7 @@ for_hold : (x : XidName) (o : Option Hold) → hold_is_other o x ≡ false → I
 for_hold x None h = tt
 for_hold x (Some l) h = (Decides-xid_eq l.xid x).0 (not-false (xid_eq l.xid x) h)
 
-passes_none : (p : Account → Bool) (accounts : List Account) (i : ℕ) (a : Account) → i < length accounts → a ≡ get_or accounts i a → list_any p accounts ≡ false → p a ≡ false
+pub passes_none : (p : Account → Bool) (accounts : List Account) (i : ℕ) (a : Account) → i < length accounts → a ≡ get_or accounts i a → list_any p accounts ≡ false → p a ≡ false
 passes_none p accounts i a h e none = false_from_ne_true (p a) (λ t. let some = list_any_at p accounts i a h (ap p (sym e) ∙ t) in cc)
 
 -- the account of a key that no other branch has touched
@@ -424,7 +424,7 @@ for_place accounts i a x k dist h e same alone =
     let here : key_eq a.key k ≡ true = (Decides-key_eq a.key k).1 same in
     for_hold x a.hold (sym (ap (λ b. b && hold_is_other a.hold x) here) ∙ none)
 
-any_set : (p : Account → Bool) (accounts : List Account) (i : ℕ) (a b : Account) → i < length accounts → a ≡ get_or accounts i a → p b ≡ p a → list_any p (set accounts i b) ≡ list_any p accounts
+pub any_set : (p : Account → Bool) (accounts : List Account) (i : ℕ) (a b : Account) → i < length accounts → a ≡ get_or accounts i a → p b ≡ p a → list_any p (set accounts i b) ≡ list_any p accounts
 any_set p [] i a b h e is = refl
 any_set p (c ∷ rest) zero a b h e is = ap (λ t. t || list_any p rest) (is ∙ ap p e)
 any_set p (c ∷ rest) (suc i) a b h e is = ap (λ t. p c || t) (any_set p rest i a b (omega arith) e is)

@@ -6,6 +6,7 @@ pub mod SoundLemmas
 pub mod ShutLemmas
 pub mod AccountLemmas
 pub mod PlaceLemmas
+pub mod HeldLemmas
 pub mod Effects
 pub mod Law
 pub mod ValueLaw

@@ -4,6 +4,7 @@ pub mod Tables
 pub mod Views
 pub mod Next
 pub mod Accounts
+pub mod Held
 pub mod Managers
 pub mod History
 pub mod Openings

@@ -1,11 +1,12 @@
 //! The declared keys: their committed values, and what branches have added.
-ghost use Rattle.std.specs.Prelude.{◌≡◌, ◌≢◌, ◌+◌, ◌<◌, ◌≤◌, ◌^◌, ◌+ℤ◌, ◌≤ℤ◌, IfOk, IfSome, is_some, true, false, option_map, map, nat_le, pos};
+ghost use Rattle.std.specs.Prelude.{◌≡◌, ◌≢◌, ◌+◌, ◌<◌, ◌≤◌, ◌^◌, ◌+ℤ◌, ◌≤ℤ◌, IfOk, IfSome, is_some, true, false, option_map, map, filter, nat_le, pos, vec_len, vec_capacity};
 ghost use Rattle.std.specs.List.{list_any, list_all};
 ghost use Rattle.std.specs.FinMap as finmap;
 ghost use Rattle.xa_words.specs.Delta.{IsDelta};
 ghost use Rattle.xa_words.specs.Key.{key_eq};
 ghost use Rattle.xa_words.specs.Xid.{XidName};
 ghost use Rattle.xa_tables.specs.Accounts.{are_accounts, are_apart, declared_values, is_held_by, is_held_by_other, is_broken_by, IsGood, added_to, posted_by, forgotten_by, retained_in};
+ghost use Rattle.xa_tables.specs.Held.{AreHeld, is_held, is_held_at, noted};
 ghost use Rattle.xa_tables.specs.Tables.{is_within, sum_of, has_touched, has_other_touched, is_broken, posted, sums_without, is_S3};
 
 use crate::branches::Branches;
@@ -31,17 +32,20 @@ pub(crate) struct Account {
     hold: Option<Hold>,
 }
 
-/// The declared keys, in the order in which they were declared, and how many additions were made.
+/// The declared keys, in the order in which they were declared, the places of those that branches have touched, and how
+/// many additions were made.
 #[derive(Drop)]
 pub(crate) struct Accounts {
     accounts: Vec<Account>,
     places: Places,
+    held: Vec<usize>,
     adds: u64,
 }
 
 impl Model for Accounts {
-    ghost use Rattle.std.specs.Prelude.{All};
+    ghost use Rattle.std.specs.Prelude.{All, length, vec_capacity, ◌≤◌};
     ghost use Rattle.xa_tables.specs.Accounts.{Holdings, holdings_code, holdings_of, AreDistinct, IsGood, AreIndexed};
+    ghost use Rattle.xa_tables.specs.Held.{AreHeld};
 
     ghost Value = { Holdings };
 
@@ -49,7 +53,7 @@ impl Model for Accounts {
 
     ghost view = { λ a. holdings_of a.accounts.items a.adds };
 
-    ghost invariant = { λ a. AreDistinct a.accounts.items × All (IsGood a.adds) a.accounts.items × AreIndexed a.places.places a.accounts.items };
+    ghost invariant = { λ a. AreDistinct a.accounts.items × All (IsGood a.adds) a.accounts.items × AreIndexed a.places.places a.accounts.items × AreHeld a.held.items a.accounts.items × (length a.accounts.items ≤ vec_capacity a.held) };
 }
 
 impl Accounts {
@@ -62,6 +66,7 @@ impl Accounts {
     {
         let mut accounts = Vec::with_capacity(alloc, declared.len())?;
         let mut places = Places::new(alloc, declared.len())?;
+        let held = Vec::with_capacity(alloc, declared.len())?;
         for (place, (key, value)) in declared.iter().enumerate() {
             accounts.push(Account {
                 key: *key,
@@ -73,6 +78,7 @@ impl Accounts {
         Ok(Accounts {
             accounts,
             places,
+            held,
             adds: 0,
         })
     }
@@ -97,7 +103,7 @@ impl Accounts {
     pub(crate) fn has_touched(&self, xid: &Xid) -> bool
         ensures { result ≡ has_touched self.now.sums xid.now }
     {
-        any_held(&self.accounts, xid)
+        any_held(&self.accounts, &self.held, xid)
     }
 
     /// Whether another branch than this has touched the key.
@@ -114,7 +120,7 @@ impl Accounts {
     pub(crate) fn is_broken(&self, xid: &Xid) -> bool
         ensures { result ≡ is_broken self.now.values self.now.sums xid.now }
     {
-        any_broken(&self.accounts, xid)
+        any_broken(&self.accounts, &self.held, xid)
     }
 
     /// Adds to the branch's sum at the key.
@@ -128,7 +134,9 @@ impl Accounts {
         ensures others { (y : XidName) → y ≢ xid → is_broken self.new.values self.new.sums y ≡ is_broken self.old.values self.old.sums y }
     {
         let place = self.places.get(&key).unwrap();
-        self.accounts[place] = with_added(&self.accounts[place], self.adds, xid, delta);
+        let account = &self.accounts[place];
+        note(&mut self.held, account, place);
+        self.accounts[place] = with_added(account, self.adds, xid, delta);
         self.adds += 1;
     }
 
@@ -140,7 +148,8 @@ impl Accounts {
         ensures adds { self.new.adds ≡ self.old.adds }
         ensures others { (y : XidName) → y ≢ xid.now → is_broken self.new.values self.new.sums y ≡ is_broken self.old.values self.old.sums y }
     {
-        post_all(&mut self.accounts, xid);
+        post_all(&mut self.accounts, &self.held, xid);
+        keep_held(&mut self.held, &self.accounts);
     }
 
     /// Leaves the values as they are; the branch has touched no key any more.
@@ -150,7 +159,8 @@ impl Accounts {
         ensures adds { self.new.adds ≡ self.old.adds }
         ensures others { (y : XidName) → y ≢ xid.now → is_broken self.new.values self.new.sums y ≡ is_broken self.old.values self.old.sums y }
     {
-        forget_all(&mut self.accounts, xid);
+        forget_all(&mut self.accounts, &self.held, xid);
+        keep_held(&mut self.held, &self.accounts);
     }
 
     /// Leaves the values as they are; only prepared branches have touched a key any more.
@@ -160,7 +170,8 @@ impl Accounts {
         ensures values { self.new.values ≡ self.old.values }
         ensures adds { self.new.adds ≡ 1 }
     {
-        retain_all(&mut self.accounts, branches);
+        retain_all(&mut self.accounts, &self.held, branches);
+        keep_held(&mut self.held, &self.accounts);
         self.adds = 1;
     }
 }
@@ -215,11 +226,46 @@ fn committed(account: &Account) -> u64
     account.value as u64
 }
 
+// Notes the place of an account that nobody has touched.
+fn note(held: &mut Vec<usize>, account: &Account, place: usize)
+    requires { is_held account.now ≡ false → vec_len held.old < vec_capacity held.old }
+    ensures places { held.new.items ≡ noted held.old.items (is_held account.now) place }
+    ensures room { vec_capacity held.new ≡ vec_capacity held.old }
+{
+    if account.hold.is_none() {
+        held.push_reserved(place);
+    }
+}
+
+// Only the places of accounts that a branch has touched stay.
+fn keep_held(held: &mut Vec<usize>, accounts: &[Account])
+    ensures places { held.new.items ≡ filter (is_held_at accounts.now) held.old.items }
+    ensures room { vec_capacity held.new ≡ vec_capacity held.old }
+{
+    held.retain(|place| is_held_at(accounts, *place));
+}
+
+// Whether a branch has touched the key at this place.
+fn is_held_at(accounts: &[Account], place: usize) -> bool
+    ensures { result ≡ is_held_at accounts.now place }
+{
+    if accounts.len() <= place {
+        return false;
+    }
+    accounts[place].hold.is_some()
+}
+
 // Whether the branch has touched one of these keys.
-fn any_held(accounts: &[Account], xid: &Xid) -> bool
+fn any_held(accounts: &[Account], held: &[usize], xid: &Xid) -> bool
+    requires { AreHeld held.now accounts.now }
     ensures { result ≡ list_any (λ a. is_held_by a xid.now) accounts.now }
 {
-    accounts.iter().any(|account| is_held_by(account, xid))
+    for place in held {
+        if is_held_by(&accounts[*place], xid) {
+            return true;
+        }
+    }
+    false
 }
 
 // Whether the branch has touched this key.
@@ -243,10 +289,16 @@ fn is_held_by_other(account: &Account, xid: &Xid) -> bool
 }
 
 // Whether the branch would take one of these values out of the limits.
-fn any_broken(accounts: &[Account], xid: &Xid) -> bool
+fn any_broken(accounts: &[Account], held: &[usize], xid: &Xid) -> bool
+    requires { AreHeld held.now accounts.now }
     ensures { result ≡ list_any (λ a. is_broken_by a xid.now) accounts.now }
 {
-    accounts.iter().any(|account| is_broken_by(account, xid))
+    for place in held {
+        if is_broken_by(&accounts[*place], xid) {
+            return true;
+        }
+    }
+    false
 }
 
 // Whether the branch would take this value out of the limits.
@@ -290,12 +342,13 @@ fn with_added(account: &Account, adds: u64, xid: Xid, delta: Delta) -> Account
 }
 
 // Adds to the values what the branch holds, and lets go of it.
-fn post_all(accounts: &mut [Account], xid: &Xid)
-    requires { list_any (λ a. is_broken_by a xid.now) accounts.old ≡ false }
+fn post_all(accounts: &mut [Account], held: &[usize], xid: &Xid)
+    requires held { AreHeld held.now accounts.old }
+    requires whole { list_any (λ a. is_broken_by a xid.now) accounts.old ≡ false }
     ensures { accounts.new ≡ map (posted_by xid.now) accounts.old }
 {
-    for i in 0..accounts.len() {
-        post_account(&mut accounts[i], xid);
+    for place in held {
+        post_account(&mut accounts[*place], xid);
     }
 }
 
@@ -312,11 +365,12 @@ fn post_account(account: &mut Account, xid: &Xid)
 }
 
 // Lets go of what the branch holds.
-fn forget_all(accounts: &mut [Account], xid: &Xid)
+fn forget_all(accounts: &mut [Account], held: &[usize], xid: &Xid)
+    requires { AreHeld held.now accounts.old }
     ensures { accounts.new ≡ map (forgotten_by xid.now) accounts.old }
 {
-    for i in 0..accounts.len() {
-        forget_account(&mut accounts[i], xid);
+    for place in held {
+        forget_account(&mut accounts[*place], xid);
     }
 }
 
@@ -329,11 +383,12 @@ fn forget_account(account: &mut Account, xid: &Xid)
 }
 
 // Lets go of what is held by others than prepared branches.
-fn retain_all(accounts: &mut [Account], branches: &Branches)
+fn retain_all(accounts: &mut [Account], held: &[usize], branches: &Branches)
+    requires { AreHeld held.now accounts.old }
     ensures { accounts.new ≡ map (retained_in branches.now.states) accounts.old }
 {
-    for i in 0..accounts.len() {
-        retain_account(&mut accounts[i], branches);
+    for place in held {
+        retain_account(&mut accounts[*place], branches);
     }
 }
 

@@ -143,61 +143,61 @@ impl BranchTables {
     }
 
     /// `xa_start` with no flag: the branch is new.
-    pub(crate) fn start_fresh(&mut self, t: usize, xid: Xid) -> Code
+    pub(crate) fn start_fresh(&mut self, t: usize, xid: &Xid) -> Code
         requires first { 0 < t }
         requires last { t ≤ self.old.threads }
         requires room { 0 < self.old.spare }
-        ensures step { (self.new.tables, result) ≡ start_fresh t xid self.old.tables }
+        ensures step { (self.new.tables, result) ≡ start_fresh t xid.now self.old.tables }
         ensures kept { Keeps self.old self.new }
     {
         if self.threads.association(t).is_some() {
             return Code::Proto;
         }
-        if self.branches.get(&xid).is_some() {
+        if self.branches.get(xid).is_some() {
             return Code::DupId;
         }
-        self.branches.put(xid, State::Active);
-        self.threads.associate(t, associated(xid));
+        self.branches.put(*xid, State::Active);
+        self.threads.associate(t, associated(*xid));
         Code::Done
     }
 
     /// `xa_start` with TMJOIN.
-    pub(crate) fn start_join(&mut self, t: usize, xid: Xid) -> Code
+    pub(crate) fn start_join(&mut self, t: usize, xid: &Xid) -> Code
         requires first { 0 < t }
         requires last { t ≤ self.old.threads }
         requires room { 0 < self.old.spare }
-        ensures step { (self.new.tables, result) ≡ start_join t xid self.old.tables }
+        ensures step { (self.new.tables, result) ≡ start_join t xid.now self.old.tables }
         ensures kept { Keeps self.old self.new }
     {
         if self.threads.association(t).is_some() {
             return Code::Proto;
         }
-        match self.branches.get(&xid) {
+        match self.branches.get(xid) {
             None => Code::Nota,
             Some(State::Prepared | State::HeuristicallyCompleted(_)) => Code::Proto,
             Some(State::RollbackOnly(reason)) => reason.code(),
             Some(State::Active | State::Idle) => {
-                self.branches.put(xid, State::Active);
-                self.threads.associate(t, associated(xid));
+                self.branches.put(*xid, State::Active);
+                self.threads.associate(t, associated(*xid));
                 Code::Done
             }
         }
     }
 
     /// `xa_start` with TMRESUME.
-    pub(crate) fn start_resume(&mut self, t: usize, xid: Xid) -> Code
+    pub(crate) fn start_resume(&mut self, t: usize, xid: &Xid) -> Code
         requires first { 0 < t }
         requires last { t ≤ self.old.threads }
-        ensures step { (self.new.tables, result) ≡ start_resume t xid self.old.tables }
+        ensures step { (self.new.tables, result) ≡ start_resume t xid.now self.old.tables }
         ensures kept { Keeps self.old self.new }
     {
         if let Some(association) = self.threads.association(t) {
-            if association.xid == xid && association.state.is_suspended() {
-                self.threads.associate(t, associated(xid));
+            if association.xid == *xid && association.state.is_suspended() {
+                self.threads.associate(t, associated(*xid));
                 return Code::Done;
             }
         }
-        if self.branches.get(&xid).is_none() {
+        if self.branches.get(xid).is_none() {
             return Code::Nota;
         }
         Code::Proto
@@ -236,17 +236,17 @@ impl BranchTables {
     }
 
     /// `xa_end` with TMSUCCESS, TMSUSPEND or TMFAIL.
-    pub(crate) fn end(&mut self, t: usize, xid: Xid, how: EndHow) -> Code
+    pub(crate) fn end(&mut self, t: usize, xid: &Xid, how: EndHow) -> Code
         requires first { 0 < t }
         requires last { t ≤ self.old.threads }
         requires room { 0 < self.old.spare }
-        ensures step { (self.new.tables, result) ≡ end how t xid self.old.tables }
+        ensures step { (self.new.tables, result) ≡ end how t xid.now self.old.tables }
         ensures kept { Keeps self.old self.new }
     {
         let association = match self.threads.association(t) {
-            Some(association) if association.xid == xid => association,
+            Some(association) if association.xid == *xid => association,
             _ => {
-                return match self.branches.get(&xid) {
+                return match self.branches.get(xid) {
                     Some(_) => Code::Proto,
                     None => Code::Nota,
                 };
@@ -255,25 +255,25 @@ impl BranchTables {
         if how == EndHow::Suspend && association.state.is_suspended() {
             return Code::Proto;
         }
-        if let Some(State::RollbackOnly(reason)) = self.branches.get(&xid) {
+        if let Some(State::RollbackOnly(reason)) = self.branches.get(xid) {
             self.threads.dissociate(t);
             return reason.code();
         }
         match how {
             EndHow::Suspend => {
-                self.threads.associate(t, suspended(xid));
+                self.threads.associate(t, suspended(*xid));
                 Code::Done
             }
             EndHow::Fail => {
                 self.threads.dissociate(t);
                 self.branches
-                    .put(xid, State::RollbackOnly(RollbackReason::Failed));
+                    .put(*xid, State::RollbackOnly(RollbackReason::Failed));
                 Code::RbRollback
             }
             EndHow::Success => {
                 self.threads.dissociate(t);
-                if !self.threads.is_somebody_associated(&xid) {
-                    self.branches.put(xid, State::Idle);
+                if !self.threads.is_somebody_associated(xid) {
+                    self.branches.put(*xid, State::Idle);
                 }
                 Code::Done
             }
@@ -281,83 +281,83 @@ impl BranchTables {
     }
 
     /// `xa_prepare`.
-    pub(crate) fn prepare(&mut self, xid: Xid) -> Code
+    pub(crate) fn prepare(&mut self, xid: &Xid) -> Code
         requires room { 0 < self.old.spare }
-        ensures step { (self.new.tables, result) ≡ prepare xid self.old.tables }
+        ensures step { (self.new.tables, result) ≡ prepare xid.now self.old.tables }
         ensures kept { Keeps self.old self.new }
     {
-        let Some(state) = self.branches.get(&xid) else {
+        let Some(state) = self.branches.get(xid) else {
             return Code::Nota;
         };
-        if self.threads.is_somebody_associated(&xid) {
+        if self.threads.is_somebody_associated(xid) {
             return Code::Proto;
         }
         if let State::Prepared | State::RollbackOnly(_) | State::HeuristicallyCompleted(_) = state {
             return Code::Proto;
         }
-        if !self.accounts.has_touched(&xid) {
+        if !self.accounts.has_touched(xid) {
             self.remove(xid);
             return Code::RdOnly;
         }
-        if self.accounts.is_broken(&xid) {
+        if self.accounts.is_broken(xid) {
             self.remove(xid);
             return Code::RbIntegrity;
         }
-        self.branches.put(xid, State::Prepared);
+        self.branches.put(*xid, State::Prepared);
         Code::Done
     }
 
     /// `xa_commit` with no flag: two phases.
-    pub(crate) fn commit_two(&mut self, xid: Xid) -> Code
-        ensures step { (self.new.tables, result) ≡ commit_two xid self.old.tables }
+    pub(crate) fn commit_two(&mut self, xid: &Xid) -> Code
+        ensures step { (self.new.tables, result) ≡ commit_two xid.now self.old.tables }
         ensures kept { Keeps self.old self.new }
     {
-        let Some(state) = self.branches.get(&xid) else {
+        let Some(state) = self.branches.get(xid) else {
             return Code::Nota;
         };
         if let State::HeuristicallyCompleted(decision) = state {
             return decision.code();
         }
-        if self.threads.is_somebody_associated(&xid) || state != State::Prepared {
+        if self.threads.is_somebody_associated(xid) || state != State::Prepared {
             return Code::Proto;
         }
-        self.accounts.post(&xid);
-        self.branches.remove(&xid);
+        self.accounts.post(xid);
+        self.branches.remove(xid);
         Code::Done
     }
 
     /// `xa_commit` with TMONEPHASE.
-    pub(crate) fn commit_one(&mut self, xid: Xid) -> Code
-        ensures step { (self.new.tables, result) ≡ commit_one xid self.old.tables }
+    pub(crate) fn commit_one(&mut self, xid: &Xid) -> Code
+        ensures step { (self.new.tables, result) ≡ commit_one xid.now self.old.tables }
         ensures kept { Keeps self.old self.new }
     {
-        let Some(state) = self.branches.get(&xid) else {
+        let Some(state) = self.branches.get(xid) else {
             return Code::Nota;
         };
-        if self.threads.is_somebody_associated(&xid) || state != State::Idle {
+        if self.threads.is_somebody_associated(xid) || state != State::Idle {
             return Code::Proto;
         }
-        if self.accounts.is_broken(&xid) {
+        if self.accounts.is_broken(xid) {
             self.remove(xid);
             return Code::RbIntegrity;
         }
-        self.accounts.post(&xid);
-        self.branches.remove(&xid);
+        self.accounts.post(xid);
+        self.branches.remove(xid);
         Code::Done
     }
 
     /// `xa_rollback`.
-    pub(crate) fn rollback(&mut self, xid: Xid) -> Code
-        ensures step { (self.new.tables, result) ≡ rollback xid self.old.tables }
+    pub(crate) fn rollback(&mut self, xid: &Xid) -> Code
+        ensures step { (self.new.tables, result) ≡ rollback xid.now self.old.tables }
         ensures kept { Keeps self.old self.new }
     {
-        let Some(state) = self.branches.get(&xid) else {
+        let Some(state) = self.branches.get(xid) else {
             return Code::Nota;
         };
         if let State::HeuristicallyCompleted(decision) = state {
             return decision.code();
         }
-        if self.threads.is_somebody_associated(&xid) {
+        if self.threads.is_somebody_associated(xid) {
             return Code::Proto;
         }
         self.remove(xid);
@@ -368,45 +368,45 @@ impl BranchTables {
     }
 
     /// A heuristic decision on a prepared branch.
-    pub(crate) fn heur(&mut self, xid: Xid, commits: bool) -> Code
+    pub(crate) fn heur(&mut self, xid: &Xid, commits: bool) -> Code
         requires room { 0 < self.old.spare }
-        ensures step { (self.new.tables, result) ≡ heur xid commits self.old.tables }
+        ensures step { (self.new.tables, result) ≡ heur xid.now commits self.old.tables }
         ensures kept { Keeps self.old self.new }
     {
-        let Some(state) = self.branches.get(&xid) else {
+        let Some(state) = self.branches.get(xid) else {
             return Code::Nota;
         };
         if state != State::Prepared {
             return Code::Proto;
         }
         if commits {
-            self.accounts.post(&xid);
+            self.accounts.post(xid);
             self.branches.put(
-                xid,
+                *xid,
                 State::HeuristicallyCompleted(HeuristicDecision::Commit),
             );
             return Code::Done;
         }
-        self.accounts.forget(&xid);
+        self.accounts.forget(xid);
         self.branches.put(
-            xid,
+            *xid,
             State::HeuristicallyCompleted(HeuristicDecision::Rollback),
         );
         Code::Done
     }
 
     /// `xa_forget`.
-    pub(crate) fn forget(&mut self, xid: Xid) -> Code
-        ensures step { (self.new.tables, result) ≡ forget xid self.old.tables }
+    pub(crate) fn forget(&mut self, xid: &Xid) -> Code
+        ensures step { (self.new.tables, result) ≡ forget xid.now self.old.tables }
         ensures kept { Keeps self.old self.new }
     {
-        let Some(state) = self.branches.get(&xid) else {
+        let Some(state) = self.branches.get(xid) else {
             return Code::Nota;
         };
         let State::HeuristicallyCompleted(_) = state else {
             return Code::Proto;
         };
-        self.branches.remove(&xid);
+        self.branches.remove(xid);
         Code::Done
     }
 
@@ -458,11 +458,11 @@ impl BranchTables {
     }
 
     // The branch is gone, with its sums.
-    fn remove(&mut self, xid: Xid)
-        ensures gone { self.new.tables ≡ gone xid self.old.tables }
+    fn remove(&mut self, xid: &Xid)
+        ensures gone { self.new.tables ≡ gone xid.now self.old.tables }
         ensures kept { Keeps self.old self.new }
     {
-        self.accounts.forget(&xid);
-        self.branches.remove(&xid);
+        self.accounts.forget(xid);
+        self.branches.remove(xid);
     }
 }

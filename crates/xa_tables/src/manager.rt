@@ -95,7 +95,7 @@ impl Manager {
         ensures threads { self.new.threads ≡ self.old.threads }
         ensures reserved { self.new.reserved ≡ None }
     {
-        let code = step(&mut self.inner, thread as usize, op);
+        let code = step(&mut self.inner, thread as usize, &op);
         self.left -= 1;
         self.reserved = None;
         code
@@ -166,18 +166,18 @@ impl Manager {
 
 // Carries out one request, unless the manager is shut.
 #[tactic(auto, unfolding(crate::specs::Next::next))]
-fn step(tables: &mut BranchTables, t: usize, op: Op) -> Code
+fn step(tables: &mut BranchTables, t: usize, op: &Op) -> Code
     requires first { 0 < t }
     requires last { t ≤ tables.old.threads }
     requires room { 0 < tables.old.spare }
     requires few { tables.old.adds < 2 ^ 20 }
-    ensures step { (tables.new.tables, result) ≡ next t op tables.old.tables }
+    ensures step { (tables.new.tables, result) ≡ next t op.now tables.old.tables }
     ensures kept { Keeps tables.old tables.new }
 {
     if tables.is_shut() {
         return Code::RmFail;
     }
-    if needs_opening(&op) && !tables.has_opened(t) {
+    if needs_opening(op) && !tables.has_opened(t) {
         return Code::Proto;
     }
     step_by_rules(tables, t, op)
@@ -201,41 +201,40 @@ fn needs_opening(op: &Op) -> bool
 }
 
 // A request that may be asked, by the rules of its group.
-fn step_by_rules(tables: &mut BranchTables, t: usize, op: Op) -> Code
+fn step_by_rules(tables: &mut BranchTables, t: usize, op: &Op) -> Code
     requires first { 0 < t }
     requires last { t ≤ tables.old.threads }
     requires room { 0 < tables.old.spare }
     requires few { tables.old.adds < 2 ^ 20 }
-    ensures step { (tables.new.tables, result) ≡ by_rules t op tables.old.tables }
+    ensures step { (tables.new.tables, result) ≡ by_rules t op.now tables.old.tables }
     ensures kept { Keeps tables.old tables.new }
 {
-    // By reference: today no proof is generated where a request is taken apart by value.
-    match &op {
+    match op {
         Op::Shut => {
             tables.shut();
             Code::Done
         }
         Op::OpenRm => tables.open_rm(t),
         Op::CloseRm => tables.close_rm(t),
-        Op::Start(xid, how) => start(tables, t, *xid, *how),
+        Op::Start(xid, how) => start(tables, t, xid, *how),
         Op::Add(key, delta) => tables.add(t, *key, *delta),
-        Op::End(xid, how) => tables.end(t, *xid, *how),
-        Op::Prepare(xid) => tables.prepare(*xid),
-        Op::Commit(xid, true) => tables.commit_one(*xid),
-        Op::Commit(xid, false) => tables.commit_two(*xid),
-        Op::Rollback(xid) => tables.rollback(*xid),
-        Op::Forget(xid) => tables.forget(*xid),
-        Op::Heur(xid, commits) => tables.heur(*xid, *commits),
+        Op::End(xid, how) => tables.end(t, xid, *how),
+        Op::Prepare(xid) => tables.prepare(xid),
+        Op::Commit(xid, true) => tables.commit_one(xid),
+        Op::Commit(xid, false) => tables.commit_two(xid),
+        Op::Rollback(xid) => tables.rollback(xid),
+        Op::Forget(xid) => tables.forget(xid),
+        Op::Heur(xid, commits) => tables.heur(xid, *commits),
         Op::Listed(xid) => tables.listed(*xid),
     }
 }
 
 // A request to start work on a branch.
-fn start(tables: &mut BranchTables, t: usize, xid: Xid, how: StartHow) -> Code
+fn start(tables: &mut BranchTables, t: usize, xid: &Xid, how: StartHow) -> Code
     requires first { 0 < t }
     requires last { t ≤ tables.old.threads }
     requires room { 0 < tables.old.spare }
-    ensures step { (tables.new.tables, result) ≡ start how t xid tables.old.tables }
+    ensures step { (tables.new.tables, result) ≡ start how t xid.now tables.old.tables }
     ensures kept { Keeps tables.old tables.new }
 {
     match how {

@@ -1,2 +1,1 @@
-pub mod TranFields
 pub mod XidFields

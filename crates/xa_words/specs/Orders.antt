@@ -80,16 +80,30 @@ key_cmp_total = nat_list_cmp_total
 pub key_cmp-IsAntisymmetric : IsAntisymmetric key_cmp
 key_cmp-IsAntisymmetric = slice_cmp-IsAntisymmetric nat_cmp-IsAntisymmetric
 
+-- the parts of a name come back from their bytes
+gtrid_again : (x : XidName) → take (length x.gtrid) (x.gtrid ++ x.bqual) ≡ x.gtrid
+gtrid_again x = take-append_seam x.gtrid x.bqual
+
+bqual_again : (x : XidName) → drop (length x.gtrid) (x.gtrid ++ x.bqual) ≡ x.bqual
+bqual_again x = drop-append_seam x.gtrid x.bqual
+
+-- names of one format that part the same bytes at the same place are one
+same_parts : (x y : XidName) → x.format ≡ y.format → length x.gtrid ≡ length y.gtrid → x.gtrid ++ x.bqual ≡ y.gtrid ++ y.bqual
+    → x ≡ y
+same_parts x y f l u =
+    let g : x.gtrid ≡ y.gtrid = sym (gtrid_again x) ∙ (λ i. take (l i) (u i)) ∙ gtrid_again y in
+    let b : x.bqual ≡ y.bqual = sym (bqual_again x) ∙ (λ i. drop (l i) (u i)) ∙ bqual_again y in
+    λ i. record { format = f i; gtrid = g i; bqual = b i }
+
 -- `==` of branch names is true exactly of one name
 pub Decides-xid_eq : (x y : XidName) → Decides (xid_eq x y) (x ≡ y)
 Decides-xid_eq x y =
     let d =
     Decides-and _ _ (Decides-int_eq x.format y.format)
     (Decides-and _ _ (Decides-eqb (length x.gtrid) (length y.gtrid))
-    (Decides-and _ _ (Decides-eqb (length x.bqual) (length y.bqual))
-    (slice_eq-Decides Decides-eqb (bytes_of x) (bytes_of y) _ refl))) in (
-      λ t. let e = d.0 t in same_name x y (λ i. (e.0 i, (e.1.0 i, (e.1.1.0 i, e.1.1.1 i)))),
-      λ e. d.1 (ap (λ n. n.format) e, (ap (λ n. length n.gtrid) e, (ap (λ n. length n.bqual) e, ap bytes_of e))),
+    (slice_eq-Decides Decides-eqb (x.gtrid ++ x.bqual) (y.gtrid ++ y.bqual) _ refl)) in (
+      λ t. let e = d.0 t in same_parts x y e.0 e.1.0 e.1.1,
+      λ e. d.1 (ap (λ n. n.format) e, (ap (λ n. length n.gtrid) e, ap (λ n. n.gtrid ++ n.bqual) e)),
     )
 
 -- a total order whose tied values are one answers `Equal` exactly of one value

@@ -28,7 +28,4 @@ tran_bytes t = t.gtrid ++ replicate (64 - length t.gtrid) 0
 
 -- whether two names are one, as `==` tells
 abbrev pub tran_eq : TranName → TranName → Bool
-tran_eq s t =
-    int_eq s.format t.format
-    && (nat_eq (length s.gtrid) (length t.gtrid)
-    && pointwise nat_eq (tran_bytes s) (tran_bytes t))
+tran_eq s t = int_eq s.format t.format && pointwise nat_eq s.gtrid t.gtrid

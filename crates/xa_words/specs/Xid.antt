@@ -35,6 +35,4 @@ xid_cmp x y =
 abbrev pub xid_eq : XidName → XidName → Bool
 xid_eq x y =
     int_eq x.format y.format
-    && (nat_eq (length x.gtrid) (length y.gtrid)
-    && (nat_eq (length x.bqual) (length y.bqual)
-    && pointwise nat_eq (bytes_of x) (bytes_of y)))
+    && (nat_eq (length x.gtrid) (length y.gtrid) && pointwise nat_eq (x.gtrid ++ x.bqual) (y.gtrid ++ y.bqual))

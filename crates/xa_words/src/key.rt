@@ -5,12 +5,13 @@ ghost use Rattle.xa_words.specs.Key.{is_key, is_key_byte, key_of};
 
 use crate::padded::padded;
 use std::cmp::Ordering;
+use std::hash::{Hash, Hasher};
 use std::marker::Model;
 
 /// The name of a value in a store: 1 to 16 bytes of `a` to `z` and `0` to `9`.
 ///
 /// Keys are ordered as their bytes are, so `a` stands before `a0` and `a0` before `b`.
-#[derive(Clone, Copy, Debug, PartialEq, Eq, Hash)]
+#[derive(Clone, Copy, Debug, PartialEq, Eq)]
 pub struct Key {
     // The key's bytes, then zeros.
     bytes: [u8; 16],
@@ -55,6 +56,20 @@ impl Key {
         ensures valid { IsTrue (is_key result.now) }
     {
         &self.bytes[..self.count as usize]
+    }
+}
+
+impl Hash for Key {
+    ghost use Rattle.std.specs.Prelude.{[], ◌∷◌};
+    ghost use Rattle.std.specs.Hash.{same_Alike};
+    ghost use Rattle.xa_words.specs.Orders.{Decides-key_eq};
+
+    ghost hash_input = { λ k. k ∷ [] };
+
+    ghost respects_eq = { (same_Alike (λ k. k ∷ []) Decides-key_eq).fed };
+
+    fn hash<H: Hasher>(&self, state: &mut H) {
+        state.write(self.as_bytes());
     }
 }
 

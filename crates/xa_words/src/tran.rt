@@ -3,15 +3,16 @@ ghost use Rattle.std.specs.Prelude.{◌≡◌, IsTrue, length};
 ghost use Rattle.xa_words.specs.NewXid.{is_part};
 
 use crate::padded::padded;
+use std::hash::{Hash, Hasher};
 use std::marker::Model;
 
 /// The name of a global transaction: the format and the gtrid that its branches share.
-#[derive(Clone, Copy, Debug, PartialEq, Eq, Hash)]
+#[derive(Clone, Copy, Debug)]
 pub struct Tran {
     parts: Parts,
 }
 
-#[derive(Clone, Copy, Debug, PartialEq, Eq, Hash)]
+#[derive(Clone, Copy, Debug)]
 struct Parts {
     format: i32,
     gtrid_len: u8,
@@ -81,5 +82,41 @@ impl Tran {
         ensures valid { IsTrue (is_part result.now) }
     {
         &self.parts.bytes[..self.parts.gtrid_len as usize]
+    }
+}
+
+impl PartialEq for Tran {
+    ghost use Rattle.std.specs.Cmp.{decided, partial_equiv_from_equiv};
+    ghost use Rattle.xa_words.specs.Tran.{tran_eq};
+    ghost use Rattle.xa_words.specs.TranOrders.{Decides-tran_eq};
+
+    ghost eq = { tran_eq };
+
+    ghost laws = { partial_equiv_from_equiv (decided tran_eq Decides-tran_eq) };
+
+    fn eq(&self, other: &Tran) -> bool {
+        self.format() == other.format() && self.gtrid() == other.gtrid()
+    }
+}
+
+impl Eq for Tran {
+    ghost use Rattle.std.specs.Cmp.{decided};
+    ghost use Rattle.xa_words.specs.Tran.{tran_eq};
+    ghost use Rattle.xa_words.specs.TranOrders.{Decides-tran_eq};
+
+    ghost laws = { decided tran_eq Decides-tran_eq };
+}
+
+impl Hash for Tran {
+    ghost use Rattle.std.specs.Prelude.{[], ◌∷◌};
+    ghost use Rattle.std.specs.Hash.{same_Alike};
+    ghost use Rattle.xa_words.specs.TranOrders.{Decides-tran_eq};
+
+    ghost hash_input = { λ t. t.gtrid ∷ [] };
+
+    ghost respects_eq = { (same_Alike (λ t. t.gtrid ∷ []) Decides-tran_eq).fed };
+
+    fn hash<H: Hasher>(&self, state: &mut H) {
+        state.write(self.gtrid());
     }
 }

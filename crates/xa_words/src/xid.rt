@@ -4,6 +4,8 @@ ghost use Rattle.xa_words.specs.NewXid.{is_part, xid_of};
 ghost use Rattle.xa_words.specs.Tran.{tran_of};
 
 use crate::tran::Tran;
+use std::cmp::Ordering;
+use std::hash::{Hash, Hasher};
 use std::marker::Model;
 
 /// The name of a transaction branch, the XID of xa.h: a format, a global transaction
@@ -11,13 +13,13 @@ use std::marker::Model;
 ///
 /// Names are ordered by the format, then the length of the gtrid, then that of the bqual, then
 /// the bytes of both; so the branch `b.1` stands before `aa.1`.
-#[derive(Clone, Copy, Debug, PartialEq, Eq, PartialOrd, Ord, Hash)]
+#[derive(Clone, Copy, Debug)]
 pub struct Xid {
     parts: Parts,
 }
 
 // The order of the fields is the order in which names are compared.
-#[derive(Clone, Copy, Debug, PartialEq, Eq, PartialOrd, Ord, Hash)]
+#[derive(Clone, Copy, Debug, PartialEq, Eq, PartialOrd, Ord)]
 struct Parts {
     format: i32,
     gtrid_len: u8,
@@ -128,6 +130,85 @@ impl Xid {
         ensures { result ≡ tran_of self.now }
     {
         Tran::new(self.format(), self.gtrid())
+    }
+
+    // The bytes that are used: the gtrid, then the bqual.
+    fn used(&self) -> &[u8]
+        ensures { result.now ≡ self.now.gtrid ++ self.now.bqual }
+    {
+        &self.parts.bytes[..self.parts.gtrid_len as usize + self.parts.bqual_len as usize]
+    }
+}
+
+impl PartialEq for Xid {
+    ghost use Rattle.std.specs.Cmp.{decided, partial_equiv_from_equiv};
+    ghost use Rattle.xa_words.specs.Xid.{xid_eq};
+    ghost use Rattle.xa_words.specs.Orders.{Decides-xid_eq};
+
+    ghost eq = { xid_eq };
+
+    ghost laws = { partial_equiv_from_equiv (decided xid_eq Decides-xid_eq) };
+
+    fn eq(&self, other: &Xid) -> bool {
+        self.parts.format == other.parts.format
+            && self.parts.gtrid_len == other.parts.gtrid_len
+            && self.used() == other.used()
+    }
+}
+
+impl Eq for Xid {
+    ghost use Rattle.std.specs.Cmp.{decided};
+    ghost use Rattle.xa_words.specs.Xid.{xid_eq};
+    ghost use Rattle.xa_words.specs.Orders.{Decides-xid_eq};
+
+    ghost laws = { decided xid_eq Decides-xid_eq };
+}
+
+impl Hash for Xid {
+    ghost use Rattle.std.specs.Prelude.{[], ◌∷◌, ◌++◌};
+    ghost use Rattle.std.specs.Hash.{same_Alike};
+    ghost use Rattle.xa_words.specs.Orders.{Decides-xid_eq};
+
+    ghost hash_input = { λ x. (x.gtrid ++ x.bqual) ∷ [] };
+
+    ghost respects_eq = { (same_Alike (λ x. (x.gtrid ++ x.bqual) ∷ []) Decides-xid_eq).fed };
+
+    fn hash<H: Hasher>(&self, state: &mut H) {
+        state.write(self.used());
+    }
+}
+
+impl Ord for Xid {
+    ghost use Rattle.std.specs.Prelude.{refl};
+    ghost use Rattle.xa_words.specs.Xid.{xid_cmp};
+    ghost use Rattle.xa_words.specs.Orders.{xid_cmp_total, xid_eq-by_cmp};
+
+    ghost cmp = { xid_cmp };
+
+    ghost total = { xid_cmp_total };
+
+    ghost matches_partial_cmp = { λ _ _. refl };
+
+    ghost matches_eq = { xid_eq-by_cmp };
+
+    fn cmp(&self, other: &Xid) -> Ordering {
+        self.parts.cmp(&other.parts)
+    }
+}
+
+impl PartialOrd for Xid {
+    ghost use Rattle.std.specs.Prelude.{refl};
+    ghost use Rattle.std.specs.Ordering.{as_partial_cmp};
+    ghost use Rattle.std.specs.Cmp.{partial_order_from_agreeing_total};
+    ghost use Rattle.xa_words.specs.Xid.{xid_cmp};
+    ghost use Rattle.xa_words.specs.Orders.{xid_cmp_total, xid_eq-by_cmp};
+
+    ghost partial_cmp = { as_partial_cmp xid_cmp };
+
+    ghost laws = { partial_order_from_agreeing_total xid_cmp xid_cmp_total (λ _ _. refl) xid_eq-by_cmp };
+
+    fn partial_cmp(&self, other: &Xid) -> Option<Ordering> {
+        Some(self.cmp(other))
     }
 }
 

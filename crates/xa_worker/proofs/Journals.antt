@@ -1,7 +1,6 @@
 -- Journals that grow by an entry.
-use Rattle.std.proofs.Common.{◌≡◌, ℕ, ◌-◌, ◌<◌, ◌==◌, true, false, cond, List, [], ◌∷◌, ◌++◌, length, map, get_or, refl, sym, ap, subst, ◌∙◌, arith, Option, Some, None}
+use Rattle.std.proofs.Common.{◌≡◌, ℕ, ◌==◌, true, false, cond, List, [], ◌∷◌, ◌++◌, map, refl, sym, ap, ◌∙◌}
 use Rattle.std.specs.Prelude.{filter}
-use Rattle.std.specs.List.{last_or}
 use Rattle.std.proofs.lemmas.List.{map-append}
 use Rattle.std.proofs.lemmas.List.Elements.{filter-append}
 use Rattle.xa_words.specs.declared.request.Request.{Request}
@@ -37,22 +36,3 @@ pub owed-more : (m t : ℕ) (journal : List Entry) (e : Entry) → owed m t (jou
 owed-more m t journal e =
     ap (map (completion_of m)) (filter-append (λ (x : Entry). x.0.thread == t) journal (e ∷ [])) ∙ map-append (completion_of m) (filter (λ (x : Entry). x.0.thread == t) journal) (filter (λ (x : Entry). x.0.thread == t) (e ∷ []))
     ∙ elim (e.0.thread == t) as (λ b. owed m t journal ++ map (completion_of m) (cond b (e ∷ []) []) ≡ owed m t journal ++ cond b (completion_of m e ∷ []) []) [ true ↦ refl | false ↦ refl ]
-
--- the last entry is the one that was entered last
-pub last_or-more : (o : Option Entry) (journal : List Entry) (e : Entry) → last_or o (journal ++ e ∷ []) ≡ Some e
-last_or-more o [] e = refl
-last_or-more o (x ∷ journal) e = last_or-more (Some x) journal e
-
-pub last_entered : (journal after : List Entry) (e : Entry) → after ≡ journal ++ e ∷ [] → last_or None after ≡ Some e
-last_entered journal after e grown = ap (last_or None) grown ∙ last_or-more None journal e
-
--- the last entry stands at the last place
-last_here : (o : Option Entry) (x : Entry) (xs : List Entry) (d : Entry) → last_or o (x ∷ xs) ≡ Some (get_or (x ∷ xs) (length xs) d)
-last_here o x [] d = refl
-last_here o x (y ∷ ys) d = last_here (Some x) y ys d
-
-pub last_or-get : (xs : List Entry) (d : Entry) → 0 < length xs → last_or None xs ≡ Some (get_or xs (length xs - 1) d)
-last_or-get [] d h = absurd (omega arith)
-last_or-get (x ∷ xs) d h =
-    let e : length xs ≡ length (x ∷ xs) - 1 = omega arith in
-    subst (λ n. last_or None (x ∷ xs) ≡ Some (get_or (x ∷ xs) n d)) e (last_here None x xs d)

@@ -155,7 +155,7 @@ impl Worker {
                     &mut self.manager,
                     &mut self.journal,
                     &mut self.out,
-                    request,
+                    &request,
                 )
             }
         }

@@ -27,13 +27,13 @@ impl Book {
         ensures loose { IfSome result (λ o. IsLoose self.new o) }
         ensures full { IfNone result (self.new ≡ after_full self.old manager) }
     {
-        let request = &Request {
+        let request = Request {
             thread: self.thread,
             number: self.next_number(manager),
             op: *op,
         };
-        match self.requests[manager as usize - 1].offer(rt, *request) {
-            Ok(()) => Some(self.note_sent(manager, *op)),
+        match self.requests[manager as usize - 1].offer(rt, request) {
+            Ok(()) => Some(self.note_sent(manager, op)),
             Err(_) => None,
         }
     }

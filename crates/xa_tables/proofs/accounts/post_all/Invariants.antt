@@ -1,6 +1,8 @@
-use Rattle.std.proofs.Common.{◌≡◌, ◌++◌, map, take, drop}
-use Rattle.xa_tables.specs.Accounts.{posted_by}
+use Rattle.std.proofs.Common.{◌≡◌, false}
+use Rattle.std.specs.List.{list_any}
+use Rattle.xa_tables.specs.Accounts.{posted_by, is_broken_by}
+use Rattle.xa_tables.proofs.HeldLemmas.{IsChanging}
 use Rattle.xa_tables.proofs.accounts.post_all.Given as goal
 
-abbrev pub invariant-loop-i : goal.invariant-loop-i
-invariant-loop-i l = l.accounts ≡ map (posted_by l.xid) (take l.i l.initial.accounts) ++ drop l.i l.initial.accounts
+abbrev pub invariant-loop-place : goal.invariant-loop-place
+invariant-loop-place l = (IsChanging (posted_by l.xid) l.held l.initial.accounts l.accounts l.place-index) × (list_any (λ a. is_broken_by a l.xid) l.accounts ≡ false)

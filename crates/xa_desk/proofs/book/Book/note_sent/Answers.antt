@@ -35,8 +35,8 @@ known c = rw (← c.self.view_is) at c.requires.known
 read : (c : After-enter) → c.index_mut-ledger.result.now ≡ ledger c.self.inside.ledgers.items c.args.manager
 read c = ledger-read c.self.inside.ledgers.items c.args.manager c.index_mut-ledger.result.now (known c) c.index_mut-ledger.ensures.value
 
-written : (c : After-enter) → c.push_sent.new.self ≡ with_sent (ledger c.self.inside.ledgers.items c.args.manager) c.args.op
-written c = c.push_sent.ensures ∙ ap (λ (a : LedgerView). with_sent a c.args.op) (read c)
+written : (c : After-enter) → c.push_sent.new.self ≡ with_sent (ledger c.self.inside.ledgers.items c.args.manager) c.args.op.now
+written c = c.push_sent.ensures ∙ ap (λ (a : LedgerView). with_sent a c.args.op.now) (read c)
 
 number : (c : After-enter) → c.next_number-number.result ≡ length (ledger c.self.inside.ledgers.items c.args.manager).sent
 number c = c.next_number-number.ensures.sent ∙ ap (λ (a : LedgerView). length a.sent) (read c)
@@ -44,10 +44,10 @@ number c = c.next_number-number.ensures.sent ∙ ap (λ (a : LedgerView). length
 updates : (c : After-enter) → Updates c.self.inside.slots c.insert_reserved-key.new.self c.insert_reserved-key.result (Some (record { operation = record { manager = c.args.manager; number = length (ledger c.self.inside.ledgers.items c.args.manager).sent }; code = None; handle = 0 }))
 updates c = subst (λ k. Updates c.self.inside.slots c.insert_reserved-key.new.self c.insert_reserved-key.result (Some (record { operation = record { manager = c.args.manager; number = k }; code = None; handle = 0 }))) (number c) c.insert_reserved-key.ensures.updates
 
-books : (c : After-enter) → IsBooks (after_sent c.self.inside.ledgers.items c.args.manager c.args.op) c.insert_reserved-key.new.self c.self.inside.kept.items c.self.inside.drained.items
+books : (c : After-enter) → IsBooks (after_sent c.self.inside.ledgers.items c.args.manager c.args.op.now) c.insert_reserved-key.new.self c.self.inside.kept.items c.self.inside.drained.items
 books c =
     let room = rw (← c.self.view_is) at c.requires.room in
-    books_sent c.self.inside.ledgers.items c.args.manager c.args.op (known c) c.self.inside.slots c.insert_reserved-key.new.self c.insert_reserved-key.result c.self.inside.kept.items c.self.inside.drained.items c.self.invariant.books room c.insert_reserved-key.ensures.was_vacant (updates c) c.insert_reserved-key.ensures.len
+    books_sent c.self.inside.ledgers.items c.args.manager c.args.op.now (known c) c.self.inside.slots c.insert_reserved-key.new.self c.insert_reserved-key.result c.self.inside.kept.items c.self.inside.drained.items c.self.invariant.books room c.insert_reserved-key.ensures.was_vacant (updates c) c.insert_reserved-key.ensures.len
 
 within : (c : After-enter) → c.args.manager - 1 < length c.self.inside.rows.items
 within c =
@@ -62,16 +62,16 @@ entering c =
     let read = get_or_read c.self.inside.rows.items (c.args.manager - 1) c.index_mut-row.result.now (within c) c.index_mut-row.ensures.value [] in
     c.enter.ensures ∙ ap (λ (row : List ℕ). set row c.next_number-number.result c.insert_reserved-key.result) read ∙ ap (λ n. set (get_or c.self.inside.rows.items (c.args.manager - 1) []) n c.insert_reserved-key.result) (number c)
 
-keys : (c : After-enter) → AreKeys (after_sent c.self.inside.ledgers.items c.args.manager c.args.op) (entered c.self.inside.rows.items c.args.manager (length (ledger c.self.inside.ledgers.items c.args.manager).sent) c.insert_reserved-key.result) c.insert_reserved-key.new.self
+keys : (c : After-enter) → AreKeys (after_sent c.self.inside.ledgers.items c.args.manager c.args.op.now) (entered c.self.inside.rows.items c.args.manager (length (ledger c.self.inside.ledgers.items c.args.manager).sent) c.insert_reserved-key.result) c.insert_reserved-key.new.self
 keys c =
     let at = c.self.inside.ledgers.items in
     let m = c.args.manager in
     let room = rw (← c.self.view_is) at c.requires.room in
     let b = c.self.invariant.books in
-    keys_sent at m c.args.op (known c) c.self.inside.rows.items c.self.inside.slots c.insert_reserved-key.new.self c.insert_reserved-key.result
-    (fresh at m c.args.op (known c) c.self.inside.slots c.insert_reserved-key.new.self c.insert_reserved-key.result c.self.inside.kept.items c.self.inside.drained.items)
+    keys_sent at m c.args.op.now (known c) c.self.inside.rows.items c.self.inside.slots c.insert_reserved-key.new.self c.insert_reserved-key.result
+    (fresh at m c.args.op.now (known c) c.self.inside.slots c.insert_reserved-key.new.self c.insert_reserved-key.result c.self.inside.kept.items c.self.inside.drained.items)
     c.self.invariant.keys room refl
-    (λ k y found. let o = b.slot_out k y found in (o.known.positive, unsent at m c.args.op (known c) y.operation (record { known = o.known; sent = o.sent })))
+    (λ k y found. let o = b.slot_out k y found in (o.known.positive, unsent at m c.args.op.now (known c) y.operation (record { known = o.known; sent = o.sent })))
     (updates c)
 
 pub invariant_of-self : goal.invariant_of-self
@@ -89,8 +89,8 @@ invariant_of-self c =
       slots_used = omega arith;
       slots_room = rw c.insert_reserved-key.ensures.capacity i.slots_room;
       places = i.places;
-      drained_room = rw (planned-put at m (with_sent (ledger at m) c.args.op) (known d) refl) i.drained_room;
-      limits = rw (length-put_ledger at m (with_sent (ledger at m) c.args.op)) i.limits;
+      drained_room = rw (planned-put at m (with_sent (ledger at m) c.args.op.now) (known d) refl) i.drained_room;
+      limits = rw (length-put_ledger at m (with_sent (ledger at m) c.args.op.now)) i.limits;
       ends = i.ends;
       ends_room = i.ends_room;
     })
@@ -99,13 +99,13 @@ pub returns-clause-out : goal.returns-clause-out
 returns-clause-out c =
     let d = (goal.at.returns-clause-out c).After-enter in
     let at = c.self.inside.ledgers.items in
-    rw (written d, number d) (sent_now_out at c.args.manager c.args.op (known d) (c.self.invariant.books.orderly c.args.manager (known d)))
+    rw (written d, number d) (sent_now_out at c.args.manager c.args.op.now (known d) (c.self.invariant.books.orderly c.args.manager (known d)))
 
 pub returns-clause-loose : goal.returns-clause-loose
 returns-clause-loose c = λ k e.
     let d = (goal.at.returns-clause-loose c).After-enter in
     let at = c.self.inside.ledgers.items in
-    loose_from_handle (after_sent at c.args.manager c.args.op) c.insert_reserved-key.new.self c.insert_reserved-key.result (fresh at c.args.manager c.args.op (known d) c.self.inside.slots c.insert_reserved-key.new.self c.insert_reserved-key.result c.self.inside.kept.items c.self.inside.drained.items) c.self.inside.kept.items c.self.inside.drained.items (books d) (updates d).changed refl k
+    loose_from_handle (after_sent at c.args.manager c.args.op.now) c.insert_reserved-key.new.self c.insert_reserved-key.result (fresh at c.args.manager c.args.op.now (known d) c.self.inside.slots c.insert_reserved-key.new.self c.insert_reserved-key.result c.self.inside.kept.items c.self.inside.drained.items) c.self.inside.kept.items c.self.inside.drained.items (books d) (updates d).changed refl k
     (e ∙ ap (λ n. Some (operation_at c.args.manager n)) (number d))
 
 pub returns-clause-more : goal.returns-clause-more

@@ -1,9 +1,13 @@
-use Rattle.std.proofs.Common.{◌≡◌, ℕ, List, ◌++◌, drop}
+use Rattle.std.proofs.Common.{◌≡◌, ◌≤◌, ℕ, List, ◌++◌, length}
 use Rattle.xa_grammar.specs.Reading.{goes_on, StaysOne}
 use Rattle.xa_grammar.proofs.read.Reading.take_chunk.Given as goal
 
-abbrev pub invariant-loop-b : goal.invariant-loop-b
-invariant-loop-b l = record {
-  goes : (bytes : List ℕ) → goes_on l.fn.self (l.chunk ++ bytes) ≡ goes_on l.self (drop l.b-index l.chunk ++ bytes);
+abbrev pub invariant-loop-end : goal.invariant-loop-end
+invariant-loop-end l = record {
+  goes : (bytes : List ℕ) → goes_on l.fn.self (l.chunk ++ bytes) ≡ goes_on l.self (l.rest ++ bytes);
   one : StaysOne l.fn.self l.self;
+  in_range : length l.rest ≤ length l.chunk;
 }
+
+abbrev pub decreases-loop-end : goal.decreases-loop-end
+decreases-loop-end l = length l.rest

@@ -1,12 +1,15 @@
-use Rattle.std.proofs.Common.{refl, sym, ap, ◌∙◌, subst, arith, List, ◌+◌}
-use Rattle.std.specs.Prelude.{All, is_some, ◌+ℤ◌}
+use Rattle.std.proofs.Common.{ℕ, length, ◌≤◌, refl, sym, ap, ◌∙◌, subst, arith, List, ◌+◌}
+use Rattle.std.specs.Prelude.{vec_capacity, All, is_some, ◌+ℤ◌}
 use Rattle.std.proofs.Math.ListN.{set}
+use Rattle.std.proofs.lemmas.List.{length-set}
 use Rattle.std.specs.FinMap as finmap
 use Rattle.std.specs.FinMap.{from_entries}
 use Rattle.xa_words.specs.Orders.{key_cmp}
 use Rattle.xa_tables.specs.declared.accounts.Account.{Account}
 use Rattle.xa_tables.specs.Tables.{touch_cmp, is_broken, has_other_touched, sum_of}
 use Rattle.xa_tables.specs.Accounts.{AreDistinct, AreIndexed, IsGood, value_entries, hold_entries, added_to}
+use Rattle.xa_tables.specs.Held.{AreHeld}
+use Rattle.xa_tables.proofs.HeldLemmas.{held_noted, note_room}
 use Rattle.xa_tables.proofs.AccountLemmas.{for_place, values_set, sums_added, others_added, distinct_added, all_added}
 use Rattle.xa_tables.proofs.PlaceLemmas.{is_placed, place_within, place_key, indexed_set}
 use Rattle.xa_tables.proofs.accounts.Accounts.add.Goals as goal
@@ -17,8 +20,8 @@ unwrap-place-requires c =
     let k = c.args.key in
     is_placed k items _ (c.get.ensures ∙ c.self.invariant.2 k) (ap (λ h. is_some (finmap.get h.values k)) c.self.view_is ∙ c.requires.declared)
 
-pub index-requires : goal.index-requires
-index-requires c =
+pub index-account-requires : goal.index-account-requires
+index-account-requires c =
     let items = c.self.inside.accounts.items in
     let k = c.args.key in
     let there = sym (c.self.invariant.2 k) ∙ sym c.get.ensures ∙ c.unwrap-place.ensures in
@@ -33,13 +36,22 @@ index_mut-requires c =
     let within = place_within k items c.unwrap-place.result there in
     omega (arith, within, c.self.inside.accounts.ok.0)
 
+pub note-requires : goal.note-requires
+note-requires c none =
+    let items = c.self.inside.accounts.items in
+    let k = c.args.key in
+    let there = sym (c.self.invariant.2 k) ∙ sym c.get.ensures ∙ c.unwrap-place.ensures in
+    let within = place_within k items c.unwrap-place.result there in
+    let fewer = note_room c.self.inside.held.items items c.unwrap-place.result c.index-account.result.now c.args.xid c.args.delta c.self.invariant.3 within c.index-account.ensures none in
+    omega (arith, c.self.invariant.4, c.self.inside.held.ok.0)
+
 pub with_added-requires-clause-good : goal.with_added-requires-clause-good
 with_added-requires-clause-good c =
     let items = c.self.inside.accounts.items in
     let k = c.args.key in
     let there = sym (c.self.invariant.2 k) ∙ sym c.get.ensures ∙ c.unwrap-place.ensures in
     let within = place_within k items c.unwrap-place.result there in
-    subst (IsGood c.self.inside.adds) (sym c.index.ensures) (c.self.invariant.1 c.unwrap-place.result c.index.result.now within)
+    subst (IsGood c.self.inside.adds) (sym c.index-account.ensures) (c.self.invariant.1 c.unwrap-place.result c.index-account.result.now within)
 
 pub invariant_of-self : goal.invariant_of-self
 invariant_of-self c =
@@ -48,16 +60,18 @@ invariant_of-self c =
     let there = sym (c.self.invariant.2 k) ∙ sym c.get.ensures ∙ c.unwrap-place.ensures in
     let within = place_within k items c.unwrap-place.result there in
     let i = c.unwrap-place.result in
-    let a = c.index.result.now in
+    let a = c.index-account.result.now in
     let x = c.args.xid in
-    let same = place_key k items i a there c.index.ensures in
+    let same = place_key k items i a there c.index-account.ensures in
     let alone = ap (λ h. has_other_touched h.sums x c.args.key) c.self.view_is ∙ c.requires.alone in
-    let mine = for_place items i a x c.args.key c.self.invariant.0 within c.index.ensures same alone in
+    let mine = for_place items i a x c.args.key c.self.invariant.0 within c.index-account.ensures same alone in
     let new = ap (set items i) c.with_added.ensures.added in
-    subst (λ (as1 : List Account). AreDistinct as1 × All (IsGood (c.self.inside.adds + 1)) as1 × AreIndexed c.self.inside.places.places as1) (sym new) (
-      distinct_added items i a x c.args.delta c.self.invariant.0 within c.index.ensures,
-      all_added c.self.inside.adds i a x c.args.delta items c.with_added.ensures.valid within c.index.ensures c.self.invariant.1,
-      indexed_set c.self.inside.places.places items i a (added_to a x c.args.delta) within c.index.ensures refl c.self.invariant.2,
+    subst (λ (as1 : List Account). AreDistinct as1 × All (IsGood (c.self.inside.adds + 1)) as1 × AreIndexed c.self.inside.places.places as1 × AreHeld c.note.new.held.items as1 × (length as1 ≤ vec_capacity c.note.new.held)) (sym new) (
+      distinct_added items i a x c.args.delta c.self.invariant.0 within c.index-account.ensures,
+      all_added c.self.inside.adds i a x c.args.delta items c.with_added.ensures.valid within c.index-account.ensures c.self.invariant.1,
+      indexed_set c.self.inside.places.places items i a (added_to a x c.args.delta) within c.index-account.ensures refl c.self.invariant.2,
+      subst (λ (ps : List ℕ). AreHeld ps (set items i (added_to a x c.args.delta))) (sym c.note.ensures.places) (held_noted c.self.inside.held.items items i a (added_to a x c.args.delta) c.self.invariant.3 within c.index-account.ensures refl),
+      omega (arith, length-set items i (added_to a x c.args.delta), c.note.ensures.room, c.self.invariant.4),
     )
 
 pub returns-clause-sums : goal.returns-clause-sums
@@ -67,13 +81,13 @@ returns-clause-sums c =
     let there = sym (c.self.invariant.2 k) ∙ sym c.get.ensures ∙ c.unwrap-place.ensures in
     let within = place_within k items c.unwrap-place.result there in
     let i = c.unwrap-place.result in
-    let a = c.index.result.now in
+    let a = c.index-account.result.now in
     let x = c.args.xid in
-    let same = place_key k items i a there c.index.ensures in
+    let same = place_key k items i a there c.index-account.ensures in
     let alone = ap (λ h. has_other_touched h.sums x c.args.key) c.self.view_is ∙ c.requires.alone in
-    let mine = for_place items i a x c.args.key c.self.invariant.0 within c.index.ensures same alone in
+    let mine = for_place items i a x c.args.key c.self.invariant.0 within c.index-account.ensures same alone in
     let new = ap (set items i) c.with_added.ensures.added in
-    ap (λ as1. from_entries {R = touch_cmp} (hold_entries as1)) new ∙ sums_added items i a x c.args.delta c.self.invariant.0 within c.index.ensures mine
+    ap (λ as1. from_entries {R = touch_cmp} (hold_entries as1)) new ∙ sums_added items i a x c.args.delta c.self.invariant.0 within c.index-account.ensures mine
     ∙ ap (λ k. finmap.insert (from_entries {R = touch_cmp} (hold_entries items)) (x, k) (sum_of (from_entries (hold_entries items)) x k +ℤ c.args.delta)) same
     ∙ ap (λ h. finmap.insert h.sums (x, c.args.key) (sum_of h.sums x c.args.key +ℤ c.args.delta)) c.self.view_is
 
@@ -84,13 +98,13 @@ returns-clause-values c =
     let there = sym (c.self.invariant.2 k) ∙ sym c.get.ensures ∙ c.unwrap-place.ensures in
     let within = place_within k items c.unwrap-place.result there in
     let i = c.unwrap-place.result in
-    let a = c.index.result.now in
+    let a = c.index-account.result.now in
     let x = c.args.xid in
-    let same = place_key k items i a there c.index.ensures in
+    let same = place_key k items i a there c.index-account.ensures in
     let alone = ap (λ h. has_other_touched h.sums x c.args.key) c.self.view_is ∙ c.requires.alone in
-    let mine = for_place items i a x c.args.key c.self.invariant.0 within c.index.ensures same alone in
+    let mine = for_place items i a x c.args.key c.self.invariant.0 within c.index-account.ensures same alone in
     let new = ap (set items i) c.with_added.ensures.added in
-    ap (λ as1. from_entries {R = key_cmp} (value_entries as1)) new ∙ ap (from_entries {R = key_cmp}) (values_set items i a (added_to a x c.args.delta) within c.index.ensures refl refl) ∙ ap (λ h. h.values) c.self.view_is
+    ap (λ as1. from_entries {R = key_cmp} (value_entries as1)) new ∙ ap (from_entries {R = key_cmp}) (values_set items i a (added_to a x c.args.delta) within c.index-account.ensures refl refl) ∙ ap (λ h. h.values) c.self.view_is
 
 pub returns-clause-others : goal.returns-clause-others
 returns-clause-others c y apart =
@@ -99,10 +113,10 @@ returns-clause-others c y apart =
     let there = sym (c.self.invariant.2 k) ∙ sym c.get.ensures ∙ c.unwrap-place.ensures in
     let within = place_within k items c.unwrap-place.result there in
     let i = c.unwrap-place.result in
-    let a = c.index.result.now in
+    let a = c.index-account.result.now in
     let x = c.args.xid in
-    let same = place_key k items i a there c.index.ensures in
+    let same = place_key k items i a there c.index-account.ensures in
     let alone = ap (λ h. has_other_touched h.sums x c.args.key) c.self.view_is ∙ c.requires.alone in
-    let mine = for_place items i a x c.args.key c.self.invariant.0 within c.index.ensures same alone in
+    let mine = for_place items i a x c.args.key c.self.invariant.0 within c.index-account.ensures same alone in
     let new = ap (set items i) c.with_added.ensures.added in
-    ap (λ as1. is_broken (from_entries (value_entries as1)) (from_entries (hold_entries as1)) y) new ∙ others_added items i a x c.args.delta c.self.invariant.0 within c.index.ensures mine y apart ∙ ap (λ h. is_broken h.values h.sums y) c.self.view_is
+    ap (λ as1. is_broken (from_entries (value_entries as1)) (from_entries (hold_entries as1)) y) new ∙ others_added items i a x c.args.delta c.self.invariant.0 within c.index-account.ensures mine y apart ∙ ap (λ h. is_broken h.values h.sums y) c.self.view_is

@@ -1,9 +1,14 @@
-use Rattle.std.proofs.Common.{sym, ap, ◌∙◌}
+use Rattle.std.proofs.Common.{ℕ, List, sym, ap, ◌∙◌, subst}
 use Rattle.std.specs.List.{list_any}
 use Rattle.xa_tables.specs.Tables.{is_broken}
 use Rattle.xa_tables.specs.Accounts.{is_broken_by}
+use Rattle.xa_tables.specs.Held.{AreHeld}
 use Rattle.xa_tables.proofs.AccountLemmas.{broken_any}
 use Rattle.xa_tables.proofs.accounts.Accounts.is_broken.Goals as goal
+
+pub any_broken-requires : goal.any_broken-requires
+any_broken-requires c =
+    subst (λ (ps : List ℕ). AreHeld ps c.deref.result.now) (sym c.deref-2.ensures.value) (subst (AreHeld c.self.inside.held.items) (sym c.deref.ensures.value) c.self.invariant.3)
 
 pub returns : goal.returns
 returns c =

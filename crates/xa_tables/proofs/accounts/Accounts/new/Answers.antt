@@ -1,13 +1,15 @@
-use Rattle.std.proofs.Common.{◌≡◌, ◌++◌, ◌∷◌, [], sym, ap, ◌∙◌, subst, arith, length, map, None, w64}
+use Rattle.std.proofs.Common.{◌≡◌, ℕ, List, ◌++◌, ◌∷◌, [], sym, ap, ◌∙◌, subst, arith, length, map, None, w64}
 use Rattle.std.proofs.lemmas.Int.{to_z-of_z, ints}
 use Rattle.std.specs.Prelude.{All}
 use Rattle.std.specs.FinMap as finmap
 use Rattle.std.specs.FinMap.{get-empty, from_entries}
-use Rattle.std.proofs.lemmas.List.{take_all}
+use Rattle.std.proofs.lemmas.List.{take_all, length-map}
 use Rattle.xa_words.specs.Orders.{key_cmp}
 use Rattle.xa_tables.specs.declared.accounts.Account.{Account}
 use Rattle.xa_tables.specs.Tables.{touch_cmp}
 use Rattle.xa_tables.specs.Accounts.{hold_entries, value_entries, AreDistinct, AreIndexed, IsGood}
+use Rattle.xa_tables.specs.Held.{AreHeld}
+use Rattle.xa_tables.proofs.HeldLemmas.{held_declared}
 use Rattle.xa_tables.proofs.PlaceLemmas.{account_of, indexed_push, values_declared, holds_declared, distinct_declared, good_declared, limit_declared, declared_more, length_declared}
 use Rattle.xa_tables.proofs.accounts.Accounts.new.Goals as goal
 
@@ -39,8 +41,13 @@ loop-place-preserved c =
 pub invariant_of-result : goal.invariant_of-result
 invariant_of-result c =
     let ds = c.args.declared.now in
-    let all : c.loop-place.accounts.items ≡ map account_of ds = c.loop-place.invariant.0 ∙ ap (map account_of) (take_all c.loop-place.place ds (omega (arith, c.loop-place-test.false))) in
-    (subst AreDistinct (sym all) (distinct_declared ds c.requires), subst (All (IsGood 0)) (sym all) (good_declared ds c.requires), c.loop-place.invariant.2)
+    let all : c.loop-place.accounts.items ≡ map account_of ds = c.loop-place.invariant.0 ∙ ap (map account_of) (take_all c.loop-place.place ds (omega (arith, c.loop-place-test.false))) in (
+      subst AreDistinct (sym all) (distinct_declared ds c.requires),
+      subst (All (IsGood 0)) (sym all) (good_declared ds c.requires),
+      c.loop-place.invariant.2,
+      subst (λ (ps : List ℕ). AreHeld ps c.loop-place.accounts.items) (sym c.in_ok-held.ensures.items) (subst (AreHeld []) (sym all) (held_declared ds)),
+      omega (arith, ap length all, length-map ds account_of, c.in_ok-held.ensures.capacity),
+    )
 
 pub returns-clause-sums : goal.returns-clause-sums
 returns-clause-sums c =

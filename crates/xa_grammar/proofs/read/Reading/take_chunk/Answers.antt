@@ -1,0 +1,52 @@
+use Rattle.std.proofs.Common.{◌≡◌, ◌+◌, ◌-◌, ◌<◌, ℕ, List, [], ◌∷◌, ◌++◌, length, take, drop, slice_index, true, ap, sym, subst, ◌∙◌, arith, append_assoc, take_all, length-drop}
+use Rattle.std.specs.Prelude.{◌==◌}
+use Rattle.std.proofs.lemmas.Result.{err_from_is_err_and}
+use Rattle.xa_grammar.specs.declared.read.Reading.{Reading}
+use Rattle.xa_grammar.specs.Reading.{goes_on}
+use Rattle.xa_grammar.specs.Grammar.{Fails}
+use Rattle.xa_grammar.proofs.Lines.{no_end, no_end_before, cut_at}
+use Rattle.xa_grammar.proofs.read.Reading.take_chunk.Goals as goal
+
+-- The line in front of a line feed comes first, and then the line feed.
+cut : (r : Reading) (rest : List ℕ) (end : ℕ) (bytes : List ℕ) → end < length rest → (slice_index rest end == 10) ≡ true
+    → goes_on r (rest ++ bytes) ≡ goes_on r ((take end rest ++ 10 ∷ []) ++ (drop (end + 1) rest ++ bytes))
+cut r rest end bytes lt is =
+    ap (λ xs. goes_on r (xs ++ bytes)) (sym (cut_at rest end lt is))
+    ∙ ap (goes_on r) (append_assoc (take end rest ++ 10 ∷ []) (drop (end + 1) rest) bytes)
+
+pub take_line-requires : goal.take_line-requires
+take_line-requires c =
+    let found = c.in-Some.ensures in
+    no_end_before c.loop-end.rest.now c.in-Some.end (omega (arith, found.0.high)) (λ k lt. found.0.before k (omega arith) lt)
+
+pub overflow_add-rest : goal.overflow_add-rest
+overflow_add-rest c = omega (arith, c.in-Some.ensures.0.high)
+
+pub returns-in_err-take_line-clause-err : goal.returns-in_err-take_line-clause-err
+returns-in_err-take_line-clause-err c =
+    let p = err_from_is_err_and c.from_residual.result c.from_residual.ensures.1 in
+    let found = c.in-Some.ensures in
+    let rest = c.loop-end.rest.now in
+    let fault = c.in_err-take_line.field-0.0 in
+    rw (p.1, p.2) (λ bytes. subst (Fails fault)
+    (sym (c.loop-end.invariant.goes bytes ∙ cut c.loop-end.self rest c.in-Some.end bytes found.0.high found.1))
+    (c.in_err-take_line.ensures.err (drop (c.in-Some.end + 1) rest ++ bytes)))
+
+pub loop-end-preserved : goal.loop-end-preserved
+loop-end-preserved c =
+    let found = c.in-Some.ensures in
+    let taken = c.in_ok-take_line.ensures in
+    let rest = c.loop-end.rest.now in
+    let next = c.take_line.new.self in
+    let after : take (length rest - (c.in-Some.end + 1)) (drop (c.in-Some.end + 1) rest) ≡ drop (c.in-Some.end + 1) rest = take_all _ _ (omega (arith, length-drop (c.in-Some.end + 1) rest)) in
+    record {
+      goes = λ bytes.
+          c.loop-end.invariant.goes bytes ∙ cut c.loop-end.self rest c.in-Some.end bytes found.0.high found.1
+          ∙ taken.ok (drop (c.in-Some.end + 1) rest ++ bytes)
+          ∙ ap (λ xs. goes_on next (xs ++ bytes)) (sym after);
+      one = (taken.one.0 ∙ c.loop-end.invariant.one.0, λ threads all. taken.one.1 (c.loop-end.invariant.one.0 ∙ threads) (c.loop-end.invariant.one.1 threads all));
+      in_range = omega (arith, ap length after, length-drop (c.in-Some.end + 1) rest, c.loop-end.invariant.in_range);
+    }
+
+pub take_part-requires : goal.take_part-requires
+take_part-requires c = no_end c.loop-end.rest.now (λ k lt. c.in_default.ensures k (omega arith) lt)

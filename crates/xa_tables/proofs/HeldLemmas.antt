@@ -1,0 +1,274 @@
+-- Scans of the places that branches hold, in place of scans of all accounts.
+use Rattle.std.specs.Prelude.{◌≡◌, ℕ, ℤ, pos, ◌+ℤ◌, zero, suc, ◌+◌, ◌<◌, ◌≤◌, nat_eq, Bool, true, false, cond, not, ◌&&◌, ◌||◌, if◌then◌else◌, List, [], ◌∷◌, ◌++◌, drop, length, map, filter, Option, None, Some, is_some, refl}
+use Rattle.std.proofs.Common.{sym, ap, ◌∙◌, subst, arith, get_or}
+use Rattle.std.proofs.Math.ListN.{set}
+use Rattle.std.specs.List.{AllByRecursion, IsDistinct, list_any}
+use Rattle.std.specs.Cmp.{nat_eq_equiv}
+use Rattle.std.specs.FinMap as finmap
+use Rattle.std.specs.FinMap.{FinMap}
+use Rattle.std.proofs.Math.Bool.{or-false}
+use Rattle.std.proofs.lemmas.Bool.{eqb-true, eq-eqb, false_from_ne_true, or_left, or_right}
+use Rattle.std.proofs.lemmas.Grind.{get_or-set_at}
+use Rattle.std.proofs.lemmas.List.{drop_more, drop_all, get_or_default, get_or-map, get_or-set_other, length-set, length_push, map-set, set-get_or}
+use Rattle.std.proofs.lemmas.List.Folds.{list_any-append, list_any_at, map_fixed}
+use Rattle.std.proofs.lemmas.Map.Keys.{IsDistinct-head, IsDistinct-tail, IsDistinct-cons, IsDistinct-push}
+use Rattle.std.proofs.lemmas.Map.Steps.{length-le_from_distinct_below}
+use Rattle.std.proofs.lemmas.Map.Views.{any-filter_same}
+use Rattle.xa_words.specs.Xid.{XidName, xid_cmp, xid_eq}
+use Rattle.xa_tables.specs.declared.accounts.Account.{Account}
+use Rattle.xa_tables.specs.declared.accounts.Hold.{Hold}
+use Rattle.xa_tables.specs.declared.state.State.{State}
+use Rattle.xa_tables.specs.Tables.{is_S3, is_within}
+use Rattle.xa_tables.specs.Accounts.{hold_is_of, is_held_by, hold_breaks, is_broken_by, hold_where, hold_without, amount_of, added_to, posted_by, forgotten_by, retained_in}
+use Rattle.xa_tables.specs.Held.{passes_at, is_held, is_held_at, AreHeld, noted}
+use Rattle.xa_tables.proofs.AccountLemmas.{all_but, plus_none, passes_none, any_set}
+use Rattle.xa_tables.proofs.PlaceLemmas.{account_of}
+
+-- ---- the account at a place
+
+passes_within : (test : Account → Bool) (accounts : List Account) (i : ℕ) → passes_at test accounts i ≡ true → i < length accounts
+passes_within test [] i h = let never : ⊥ = cc in absurd never
+passes_within test (a ∷ rest) zero h = omega arith
+passes_within test (a ∷ rest) (suc i) h = let later = passes_within test rest i h in omega arith
+
+pub passes_read : (test : Account → Bool) (accounts : List Account) (i : ℕ) (a : Account) → i < length accounts → a ≡ get_or accounts i a → passes_at test accounts i ≡ test a
+passes_read test [] i a h e = absurd (omega arith)
+passes_read test (c ∷ rest) zero a h e = ap test (sym e)
+passes_read test (c ∷ rest) (suc i) a h e = passes_read test rest i a (omega arith) e
+
+passes_weaker : (test other : Account → Bool) → ((a : Account) → test a ≡ true → other a ≡ true) → (accounts : List Account) (i : ℕ) → passes_at test accounts i ≡ true → passes_at other accounts i ≡ true
+passes_weaker test other only [] i h = h
+passes_weaker test other only (a ∷ rest) zero h = only a h
+passes_weaker test other only (a ∷ rest) (suc i) h = passes_weaker test other only rest i h
+
+passes_map : (test : Account → Bool) (f : Account → Account) → ((a : Account) → test (f a) ≡ true → test a ≡ true) → (accounts : List Account) (i : ℕ) → passes_at test (map f accounts) i ≡ true → passes_at test accounts i ≡ true
+passes_map test f only [] i h = h
+passes_map test f only (a ∷ rest) zero h = only a h
+passes_map test f only (a ∷ rest) (suc i) h = passes_map test f only rest i h
+
+passes_set : (test : Account → Bool) (accounts : List Account) (i : ℕ) (b : Account) → i < length accounts → passes_at test (set accounts i b) i ≡ test b
+passes_set test [] i b h = absurd (omega arith)
+passes_set test (c ∷ rest) zero b h = refl
+passes_set test (c ∷ rest) (suc i) b h = passes_set test rest i b (omega arith)
+
+passes_set_other : (test : Account → Bool) (accounts : List Account) (i j : ℕ) (b : Account) → (j ≡ i → ⊥) → passes_at test (set accounts i b) j ≡ passes_at test accounts j
+passes_set_other test [] i j b h = refl
+passes_set_other test (c ∷ rest) zero zero b h = absurd (h refl)
+passes_set_other test (c ∷ rest) zero (suc j) b h = refl
+passes_set_other test (c ∷ rest) (suc i) zero b h = refl
+passes_set_other test (c ∷ rest) (suc i) (suc j) b h = passes_set_other test rest i j b (λ e. h (ap suc e))
+
+pub passes_past : (test : Account → Bool) (accounts : List Account) (i : ℕ) → length accounts ≤ i → passes_at test accounts i ≡ false
+passes_past test accounts i past = false_from_ne_true _ (λ t. let within = passes_within test accounts i t in omega arith)
+
+-- one that passes has a place
+any_passes : (test : Account → Bool) (accounts : List Account) → list_any test accounts ≡ true → (i : ℕ) × (passes_at test accounts i ≡ true)
+any_passes test [] h = let never : ⊥ = cc in absurd never
+any_passes test (a ∷ rest) h =
+    elim (test a) as (λ b. test a ≡ b → (b || list_any test rest) ≡ true → (i : ℕ) × (passes_at test (a ∷ rest) i ≡ true)) [
+      | true ↦ λ t f. (zero, t)
+      | false ↦ λ t f. let later = any_passes test rest f in (suc later.0, later.1)
+    ] refl h
+
+-- ---- a search among the places
+
+any_at : (test : ℕ → Bool) (held : List ℕ) (i : ℕ) → list_any (nat_eq i) held ≡ true → test i ≡ true → list_any test held ≡ true
+any_at test [] i h t = h
+any_at test (p ∷ ps) i h t =
+    elim (nat_eq i p) as (λ b. nat_eq i p ≡ b → (b || list_any (nat_eq i) ps) ≡ true → (test p || list_any test ps) ≡ true) [
+      | true ↦ λ e f. or_left _ _ (ap test (sym (eqb-true i p e)) ∙ t)
+      | false ↦ λ e f. or_right _ _ (any_at test ps i f t)
+    ] refl h
+
+-- where none of the places passes, no account does
+pub none_held : (test : Account → Bool) → ((a : Account) → test a ≡ true → is_held a ≡ true) → (held : List ℕ) (accounts : List Account) → AreHeld held accounts
+    → list_any (λ place. passes_at test accounts place) held ≡ false → list_any test accounts ≡ false
+none_held test only held accounts h none =
+    false_from_ne_true _ (λ t.
+    let there = any_passes test accounts t in
+    let noted = h.each there.0 ∙ passes_weaker test is_held only accounts there.0 there.1 in
+    let found = any_at (λ place. passes_at test accounts place) held there.0 noted there.1 in
+    cc)
+
+-- the places are within
+pub held_within : (held : List ℕ) (accounts : List Account) → AreHeld held accounts → (i : ℕ) → i < length held → get_or held i 0 < length accounts
+held_within held accounts h i within =
+    let place = get_or held i 0 in
+    passes_within is_held accounts place (sym (h.each place) ∙ list_any_at (nat_eq place) held i 0 within (eq-eqb place place refl))
+
+-- and no more than the accounts
+pub held_room : (held : List ℕ) (accounts : List Account) → AreHeld held accounts → length held ≤ length accounts
+held_room held accounts h = length-le_from_distinct_below held (length accounts) h.once (λ q t. passes_within is_held accounts q (sym (h.each q) ∙ t))
+
+pub touched_held : (x : XidName) (a : Account) → is_held_by a x ≡ true → is_held a ≡ true
+touched_held x a h = elim (a.hold) as (λ o. hold_is_of o x ≡ true → is_some o ≡ true) [ None ↦ λ t. t | Some l ↦ λ t. refl ] h
+
+pub broken_held : (x : XidName) (a : Account) → is_broken_by a x ≡ true → is_held a ≡ true
+broken_held x a h = elim (a.hold) as (λ o. hold_breaks a.value o x ≡ true → is_some o ≡ true) [ None ↦ λ t. t | Some l ↦ λ t. refl ] h
+
+-- ---- a change at each of the places
+
+-- f was applied at the first i places: each account that it would still change stands at one of the others
+pub record IsChanging (f : Account → Account) (held : List ℕ) (old now : List Account) (i : ℕ) : Type 0 where
+  pub same : map f now ≡ map f old
+  pub rest : (q : ℕ) (d : Account) → q < length now → list_any (nat_eq q) (drop i held) ≡ false → f (get_or now q d) ≡ get_or now q d
+
+pub changing_none : (f : Account → Account) → ((a : Account) → is_held a ≡ false → f a ≡ a) → (held : List ℕ) (accounts : List Account) → AreHeld held accounts → IsChanging f held accounts accounts 0
+changing_none f unheld held accounts h = record {
+  same = refl;
+  rest = λ q d within none.
+      let a = get_or accounts q d in
+      unheld a (sym (passes_read is_held accounts q a within (get_or_default accounts q d a within)) ∙ sym (h.each q) ∙ none);
+}
+
+pub changing_more : (f : Account → Account) → ((a : Account) → f (f a) ≡ f a) → (held : List ℕ) (old now : List Account) (i place : ℕ) (a : Account) → IsChanging f held old now i → i < length held → place ≡ get_or held i 0 → place < length now → a ≡ get_or now place a
+    → IsChanging f held old (set now place (f a)) (i + 1)
+changing_more f twice held old now i place a h within is there e = record {
+  same =
+      map-set f now place (f a) ∙ ap (set (map f now) place) (twice a ∙ ap f e ∙ sym (get_or-map f now place a (f a) there))
+      ∙ set-get_or (map f now) place (f a) ∙ h.same;
+  rest = λ q d inside none.
+      elim (nat_eq q place) as (λ b. nat_eq q place ≡ b → f (get_or (set now place (f a)) q d) ≡ get_or (set now place (f a)) q d) [
+        | true ↦ λ t. subst (λ (w : Account). f w ≡ w) (sym (get_or-set_at now place q (f a) d (eqb-true q place t) there)) (twice a)
+        | false ↦ λ t.
+            let long = length-set now place (f a) in
+            let left : list_any (nat_eq q) (drop i held) ≡ false = ap (list_any (nat_eq q)) (drop_more held i 0 within) ∙ ap (λ b. b || list_any (nat_eq q) (drop (i + 1) held)) (ap (nat_eq q) (sym is) ∙ t) ∙ none in
+            subst (λ (w : Account). f w ≡ w) (sym (get_or-set_other now place q (f a) d (λ y. let z = eq-eqb q place y in cc))) (h.rest q d (omega arith) left)
+      ] refl;
+}
+
+-- after all of the places f was applied to each account
+pub changing_all : (f : Account → Account) (held : List ℕ) (old now : List Account) (i : ℕ) → IsChanging f held old now i → length held ≤ i → now ≡ map f old
+changing_all f held old now i h past =
+    sym (map_fixed f now (λ q d within. h.rest q d within (ap (list_any (nat_eq q)) (drop_all i held past)))) ∙ h.same
+
+-- what is let go stays so
+where_twice : (keep : XidName → Bool) (o : Option Hold) → hold_where keep (hold_where keep o) ≡ hold_where keep o
+where_twice keep None = refl
+where_twice keep (Some l) =
+    elim (keep l.xid) as (λ b. keep l.xid ≡ b → hold_where keep (if b then Some l else None) ≡ (if b then Some l else None)) [ true ↦ λ t. ap (λ b. if b then Some l else None) t | false ↦ λ t. refl ] refl
+
+amount_gone : (x : XidName) (o : Option Hold) → amount_of (hold_without o x) x ≡ pos 0
+amount_gone x None = refl
+amount_gone x (Some l) =
+    elim (xid_eq l.xid x) as (λ b. xid_eq l.xid x ≡ b → amount_of (if not b then Some l else None) x ≡ pos 0) [ true ↦ λ t. refl | false ↦ λ t. ap (λ b. if b then l.amount else pos 0) t ] refl
+
+pub posted_twice : (x : XidName) (a : Account) → posted_by x (posted_by x a) ≡ posted_by x a
+posted_twice x a =
+    let v : ℤ = a.value +ℤ amount_of a.hold x in
+    λ i. record { key = a.key; value = (ap (λ s. v +ℤ s) (amount_gone x a.hold) ∙ plus_none v) i; hold = where_twice (all_but x) a.hold i }
+
+pub forgotten_twice : (x : XidName) (a : Account) → forgotten_by x (forgotten_by x a) ≡ forgotten_by x a
+forgotten_twice x a = λ i. record a { hold = where_twice (all_but x) a.hold i }
+
+pub retained_twice : (states : FinMap xid_cmp State) (a : Account) → retained_in states (retained_in states a) ≡ retained_in states a
+retained_twice states a = λ i. record a { hold = where_twice (λ x. is_S3 (finmap.get states x)) a.hold i }
+
+-- an account that no branch has touched stays as it is
+untouched : (a : Account) → is_held a ≡ false → a.hold ≡ None
+untouched a h = elim (a.hold) as (λ o. is_some o ≡ false → o ≡ None) [ None ↦ λ t. refl | Some l ↦ λ t. let never : ⊥ = cc in absurd never ] h
+
+pub posted_untouched : (x : XidName) (a : Account) → is_held a ≡ false → posted_by x a ≡ a
+posted_untouched x a h =
+    let none = untouched a h in
+    λ i. record { key = a.key; value = (ap (λ o. a.value +ℤ amount_of o x) none ∙ plus_none a.value) i; hold = (ap (λ o. hold_without o x) none ∙ sym none) i }
+
+pub forgotten_untouched : (x : XidName) (a : Account) → is_held a ≡ false → forgotten_by x a ≡ a
+forgotten_untouched x a h = let none = untouched a h in λ i. record a { hold = (ap (λ o. hold_without o x) none ∙ sym none) i }
+
+pub retained_untouched : (states : FinMap xid_cmp State) (a : Account) → is_held a ≡ false → retained_in states a ≡ a
+retained_untouched states a h =
+    let none = untouched a h in
+    λ i. record a { hold = (ap (hold_where (λ x. is_S3 (finmap.get states x))) none ∙ sym none) i }
+
+-- what x has posted takes no value out of the limits
+posted_whole : (x : XidName) (a : Account) → is_broken_by (posted_by x a) x ≡ false
+posted_whole x a =
+    elim (a.hold) as (λ o. (v : ℤ) → hold_breaks v (hold_without o x) x ≡ false) [
+      | None ↦ λ v. refl
+      | Some l ↦ λ v. elim (xid_eq l.xid x) as (λ b. xid_eq l.xid x ≡ b → hold_breaks v (if not b then Some l else None) x ≡ false) [ true ↦ λ t. refl | false ↦ λ t. ap (λ b. b && not (is_within (v +ℤ l.amount))) t ] refl
+    ] (a.value +ℤ amount_of a.hold x)
+
+-- and so the accounts do with one more of them posted
+pub whole_more : (x : XidName) (accounts : List Account) (i : ℕ) (a : Account) → i < length accounts → a ≡ get_or accounts i a → list_any (λ b. is_broken_by b x) accounts ≡ false
+    → list_any (λ b. is_broken_by b x) (set accounts i (posted_by x a)) ≡ false
+whole_more x accounts i a within e whole =
+    any_set (λ b. is_broken_by b x) accounts i a (posted_by x a) within e (posted_whole x a ∙ sym (passes_none (λ b. is_broken_by b x) accounts i a within e whole)) ∙ whole
+
+-- ---- the places that stay
+
+pub where_held : (keep : XidName → Bool) (o : Option Hold) → is_some (hold_where keep o) ≡ true → is_some o ≡ true
+where_held keep None h = h
+where_held keep (Some l) h = refl
+
+kept_all : (P : ℕ → Type 0) (test : ℕ → Bool) (ps : List ℕ) → AllByRecursion P ps → AllByRecursion P (filter test ps)
+kept_all P test [] h = tt
+kept_all P test (p ∷ ps) h = elim (test p) as (λ b. AllByRecursion P (cond b (p ∷ filter test ps) (filter test ps))) [ true ↦ (h.0, kept_all P test ps h.1) | false ↦ kept_all P test ps h.1 ]
+
+kept_once : (test : ℕ → Bool) (ps : List ℕ) → IsDistinct nat_eq ps → IsDistinct nat_eq (filter test ps)
+kept_once test [] h = h
+kept_once test (p ∷ ps) h =
+    let later = kept_once test ps (IsDistinct-tail nat_eq p ps h) in
+    elim (test p) as (λ b. IsDistinct nat_eq (cond b (p ∷ filter test ps) (filter test ps))) [
+      | true ↦ IsDistinct-cons nat_eq p (filter test ps) (kept_all (λ y. nat_eq p y ≡ false) test ps (IsDistinct-head nat_eq p ps h)) later
+      | false ↦ later
+    ]
+
+-- once some branches let go of their keys
+pub held_kept : (f : Account → Account) → ((a : Account) → is_held (f a) ≡ true → is_held a ≡ true) → (held : List ℕ) (accounts : List Account) → AreHeld held accounts → AreHeld (filter (is_held_at (map f accounts)) held) (map f accounts)
+held_kept f only held accounts h = record {
+  once = kept_once (is_held_at (map f accounts)) held h.once;
+  each = λ q.
+      let stays = is_held_at (map f accounts) in
+      any-filter_same (nat_eq q) stays (stays q) (λ k t. ap stays (sym (eqb-true q k t))) held ∙ ap (λ b. stays q && b) (h.each q)
+      ∙ elim (stays q) as (λ b. stays q ≡ b → (b && is_held_at accounts q) ≡ b) [ true ↦ λ t. passes_map is_held f only accounts q t | false ↦ λ t. refl ] refl;
+}
+
+-- once a branch has added at a place
+pub held_noted : (held : List ℕ) (accounts : List Account) (i : ℕ) (a b : Account) → AreHeld held accounts → i < length accounts → a ≡ get_or accounts i a → is_held b ≡ true → AreHeld (noted held (is_held a) i) (set accounts i b)
+held_noted held accounts i a b h within e touched =
+    let was : is_held_at accounts i ≡ is_held a = passes_read is_held accounts i a within e in
+    let now : is_held_at (set accounts i b) i ≡ true = passes_set is_held accounts i b within ∙ touched in
+    let other = λ (q : ℕ) (t : nat_eq q i ≡ false). passes_set_other is_held accounts i q b (λ y. let z = eq-eqb q i y in cc) in
+    let here = λ (q : ℕ) (t : nat_eq q i ≡ true). eqb-true q i t in
+    elim (is_held a) as (λ w. is_held a ≡ w → AreHeld (noted held w i) (set accounts i b)) [
+      | true ↦ λ w. record {
+        once = h.once;
+        each = λ q.
+            h.each q ∙ elim (nat_eq q i) as (λ t. nat_eq q i ≡ t → is_held_at accounts q ≡ is_held_at (set accounts i b) q) [
+              | true ↦ λ t. ap (is_held_at accounts) (here q t) ∙ was ∙ w ∙ sym now ∙ ap (is_held_at (set accounts i b)) (sym (here q t))
+              | false ↦ λ t. sym (other q t)
+            ] refl;
+      }
+      | false ↦ λ w. record {
+        once = IsDistinct-push nat_eq_equiv held i h.once (h.each i ∙ was ∙ w);
+        each = λ q.
+            list_any-append (nat_eq q) held (i ∷ []) ∙ elim (nat_eq q i) as (λ t. nat_eq q i ≡ t → (list_any (nat_eq q) held || (t || false)) ≡ is_held_at (set accounts i b) q) [
+              | true ↦ λ t. or_right _ _ refl ∙ sym now ∙ ap (is_held_at (set accounts i b)) (sym (here q t))
+              | false ↦ λ t. or-false _ ∙ h.each q ∙ sym (other q t)
+            ] refl;
+      }
+    ] refl
+
+none_once : IsDistinct nat_eq []
+unfolding IsDistinct
+none_once = tt
+
+-- where nobody has touched the account, there is room for its place
+pub note_room : (held : List ℕ) (accounts : List Account) (i : ℕ) (a : Account) (x : XidName) (d : ℤ) → AreHeld held accounts → i < length accounts → a ≡ get_or accounts i a → is_held a ≡ false → length held < length accounts
+note_room held accounts i a x d h within e none =
+    let b : Account = added_to a x d in
+    let room : length (noted held (is_held a) i) ≤ length (set accounts i b) = held_room _ _ (held_noted held accounts i a b h within e refl) in
+    let long : length (noted held (is_held a) i) ≡ length (held ++ i ∷ []) = ap (λ w. length (noted held w i)) none in
+    let one = length_push held i in
+    let same = length-set accounts i b in
+    omega arith
+
+undeclared : (ds : List (List ℕ × ℕ)) (i : ℕ) → is_held_at (map account_of ds) i ≡ false
+undeclared [] i = refl
+undeclared (d ∷ ds) zero = refl
+undeclared (d ∷ ds) (suc i) = undeclared ds i
+
+-- of what was declared no branch has touched any
+pub held_declared : (ds : List (List ℕ × ℕ)) → AreHeld [] (map account_of ds)
+held_declared ds = record { once = none_once; each = λ q. sym (undeclared ds q) }
