@@ -285,7 +285,6 @@ fn make_all<R: Wait>(
     for (place, transfer) in transfers.iter().enumerate() {
         let outcome = make(rt, alloc, desk, log, place, transfer, &mut idle)?;
         outcomes.push(outcome)?;
-        idle.reset();
     }
     Ok(())
 }

@@ -11,7 +11,7 @@ use Rattle.xa_desk.specs.LedgerView.{LedgerView}
 use Rattle.xa_desk.specs.DeskView.{DeskView}
 use Rattle.xa_desk.specs.Lanes.{PartsView, new_ledgers, new_desk}
 use Rattle.xa_desk.specs.Parts.{carried}
-use Rattle.xa_desk.specs.Slots.{IsBooks, AreKeys, kept_of, planned_total}
+use Rattle.xa_desk.specs.Slots.{IsBooks, KeysView, no_keys, AreKeys, kept_of, planned_total}
 use Rattle.xa_desk.proofs.Fresh.{books_new, planned-new, kept_of-replicate}
 use Rattle.xa_desk.proofs.KeyRows.{keys_new}
 
@@ -26,7 +26,7 @@ module _ (plan : ℕ) (at : List LedgerView) (use_async : List Bool) (new : at �
   pub books_from : (n : ℕ) (table : List (Option Operation)) (drained : List Completion) → table ≡ replicate n None → drained ≡ [] → IsBooks at s table drained
   books_from n table drained t d = rw (new, t, d) (books_new plan use_async s n empty)
 
-  pub keys_from : (rows : List (List ℕ)) → rows ≡ replicate (length use_async) (replicate plan 0) → AreKeys at rows s
+  pub keys_from : (rows : List KeysView) → rows ≡ replicate (length use_async) (no_keys plan) → AreKeys at rows s
   keys_from rows r = rw (new, r) (keys_new plan use_async s empty)
 
   pub planned_from : planned_total at ≡ plan * length use_async

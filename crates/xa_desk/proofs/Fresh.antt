@@ -15,7 +15,7 @@ use Rattle.xa_desk.specs.DeskView.{no_ledger, ledger, outstanding}
 use Rattle.xa_desk.specs.Slots.{IsOrderly, IsBooks, kept_of, planned_total, collected_total, ready_count}
 use Rattle.xa_desk.proofs.KeptPlaces.{get-kept_of, get-kept_of_zero}
 
-fresh_sent : (requests : ℕ) (use_async : List Bool) (i : ℕ) → (get_or (new_ledgers requests use_async) i no_ledger).sent ≡ []
+pub fresh_sent : (requests : ℕ) (use_async : List Bool) (i : ℕ) → (get_or (new_ledgers requests use_async) i no_ledger).sent ≡ []
 fresh_sent requests [] i = refl
 fresh_sent requests (b ∷ bs) zero = refl
 fresh_sent requests (b ∷ bs) (suc i) = fresh_sent requests bs i

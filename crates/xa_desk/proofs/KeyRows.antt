@@ -1,8 +1,7 @@
 -- The rows tell the key of each slot, as slots come and go.
-use Rattle.std.proofs.Common.{◌≡◌, ◌≢◌, ℕ, zero, suc, ◌-◌, ◌<◌, ◌≤◌, Bool, List, [], ◌∷◌, length, Some, None, get_or, set, replicate, sym, refl, ap, ◌∙◌, inl, inr, arith}
+use Rattle.std.proofs.Common.{◌≡◌, ◌≢◌, ℕ, zero, suc, ◌-◌, ◌<◌, ◌≤◌, Bool, List, [], ◌∷◌, ◌++◌, length, length-append, Some, None, get_or, set, replicate, sym, refl, ap, ◌∙◌, inl, inr, arith}
 use Rattle.std.specs.List.{slice_get}
 use Rattle.std.proofs.lemmas.List.{get_or-set_same, get_or-set_other, get_or-replicate, length-set, length-replicate, length-map}
-use Rattle.std.proofs.lemmas.Option.{slice_get-get_or}
 use Rattle.std.proofs.lemmas.Bool.{cases_eq}
 use Rattle.slab.specs.Slab.{Slab, get, Updates}
 use Rattle.xa_words.specs.declared.request.Op.{Op}
@@ -12,99 +11,117 @@ use Rattle.xa_desk.specs.declared.slot.Slot.{Slot}
 use Rattle.xa_desk.specs.LedgerView.{LedgerView, new_ledger, with_sent, with_collected}
 use Rattle.xa_desk.specs.DeskView.{IsKnown, no_ledger, ledger, after_sent, after_collected}
 use Rattle.xa_desk.specs.Lanes.{new_ledgers}
-use Rattle.xa_desk.specs.Slots.{key_at, AreTold, AreKeys}
+use Rattle.xa_desk.specs.Slots.{KeysView, no_keys, with_key, row_of, key_at, AreTold, AreKeys}
 use Rattle.xa_desk.proofs.Ledgers.{same_operation, ledger-sent_same, ledger-sent_other, ledger-collected_same, ledger-collected_other, known_before, collected_known, length-put_ledger}
 use Rattle.xa_desk.proofs.Books.{found_cases, found_before}
+use Rattle.xa_desk.proofs.Fresh.{fresh_sent}
 
-slice_get-set_other : {A : Type 0} (xs : List A) (i j : ℕ) (x : A) → j ≢ i → slice_get (set xs i x) j ≡ slice_get xs j
-slice_get-set_other [] i j x differs = refl
-slice_get-set_other (y ∷ ys) zero zero x differs = absurd (differs refl)
-slice_get-set_other (y ∷ ys) zero (suc j) x differs = refl
-slice_get-set_other (y ∷ ys) (suc i) zero x differs = refl
-slice_get-set_other (y ∷ ys) (suc i) (suc j) x differs = slice_get-set_other ys i j x (λ e. differs (ap suc e))
+slice_get-push_last : {A : Type 0} (xs : List A) (x : A) → slice_get (xs ++ x ∷ []) (length xs) ≡ Some x
+slice_get-push_last [] x = refl
+slice_get-push_last (y ∷ ys) x = slice_get-push_last ys x
 
--- a key is entered for a request of manager m
-module _ (rows : List (List ℕ)) (m n key : ℕ) where
-  abbrev pub row : List ℕ
-  row = get_or rows (m - 1) []
+slice_get-push_other : {A : Type 0} (xs : List A) (x : A) (j : ℕ) → j ≢ length xs → slice_get (xs ++ x ∷ []) j ≡ slice_get xs j
+slice_get-push_other [] x zero differs = absurd (differs refl)
+slice_get-push_other [] x (suc j) differs = refl
+slice_get-push_other (y ∷ ys) x zero differs = refl
+slice_get-push_other (y ∷ ys) x (suc j) differs = slice_get-push_other ys x j (λ e. differs (ap suc e))
 
-  abbrev pub entered : List (List ℕ)
-  entered = set rows (m - 1) (set row n key)
+-- the key of the next request is entered for manager m
+module _ (rows : List KeysView) (m key : ℕ) where
+  abbrev pub entered : List KeysView
+  entered = set rows (m - 1) (with_key (row_of rows m) key)
 
-  told_same : m - 1 < length rows → n < length row → key_at entered (record { manager = m; number = n }) ≡ Some key
-  told_same known planned =
-      ap (λ r. slice_get r n) (get_or-set_same rows (m - 1) (set row n key) [] known)
-      ∙ slice_get-get_or (set row n key) n 0 (rw (length-set row n key) planned)
-      ∙ ap (λ k. Some k) (get_or-set_same row n key 0 planned)
+  abbrev next : Operation
+  next = record { manager = m; number = length (row_of rows m).keys }
 
-  told_other : (o : Operation) → 1 ≤ m → m - 1 < length rows → 1 ≤ o.manager → o ≢ record { manager = m; number = n } → key_at entered o ≡ key_at rows o
+  told_same : m - 1 < length rows → key_at entered next ≡ Some key
+  told_same known =
+      ap (λ (r : KeysView). slice_get r.keys (length (row_of rows m).keys)) (get_or-set_same rows (m - 1) (with_key (row_of rows m) key) (no_keys 0) known)
+      ∙ slice_get-push_last (row_of rows m).keys key
+
+  told_other : (o : Operation) → 1 ≤ m → m - 1 < length rows → 1 ≤ o.manager → o ≢ next → key_at entered o ≡ key_at rows o
   told_other o positive known is_positive differs = elim (cases_eq o.manager m) [
     | inl same ↦
         let here : o.manager - 1 ≡ m - 1 = ap (λ k. k - 1) same in
-        ap (λ k. slice_get (get_or entered k []) o.number) here
-        ∙ ap (λ r. slice_get r o.number) (get_or-set_same rows (m - 1) (set row n key) [] known)
-        ∙ slice_get-set_other row n o.number key (λ e. differs (same_operation o (record { manager = m; number = n }) same e))
-        ∙ ap (λ k. slice_get (get_or rows k []) o.number) (sym here)
-    | inr apart ↦ ap (λ r. slice_get r o.number) (get_or-set_other rows (m - 1) (o.manager - 1) (set row n key) [] (λ e. apart (omega arith)))
+        ap (λ k. slice_get (get_or entered k (no_keys 0)).keys o.number) here
+        ∙ ap (λ (r : KeysView). slice_get r.keys o.number) (get_or-set_same rows (m - 1) (with_key (row_of rows m) key) (no_keys 0) known)
+        ∙ slice_get-push_other (row_of rows m).keys key o.number (λ e. differs (same_operation o next same e))
+        ∙ ap (λ k. slice_get (get_or rows k (no_keys 0)).keys o.number) (sym here)
+    | inr apart ↦ ap (λ (r : KeysView). slice_get r.keys o.number) (get_or-set_other rows (m - 1) (o.manager - 1) (with_key (row_of rows m) key) (no_keys 0) (λ e. apart (omega arith)))
   ]
 
 -- sending
 
-module _ (at : List LedgerView) (m : ℕ) (op : Op) (known : IsKnown at m) (rows : List (List ℕ)) (s t : Slab Slot) (key : ℕ) (slot : Slot) where
+module _ (at : List LedgerView) (m : ℕ) (op : Op) (known : IsKnown at m) (rows : List KeysView) (s t : Slab Slot) (key : ℕ) (slot : Slot) where
   abbrev n : ℕ
   n = length (ledger at m).sent
 
-  pub keys_sent : AreKeys at rows s → n < (ledger at m).plan → slot.operation ≡ record { manager = m; number = n } → ((k : ℕ) (y : Slot) → get s k ≡ Some y → (1 ≤ y.operation.manager) × (y.operation ≢ record { manager = m; number = n })) → Updates s t key (Some slot)
-      → AreKeys (after_sent at m op) (entered rows m n key) t
-  keys_sent r planned named apart u = record {
-    number = length-set rows (m - 1) (set (row rows m n key) n key) ∙ r.number ∙ sym (length-put_ledger at m (with_sent (ledger at m) op));
-    planned = λ q is. let was = known_before at m q (with_sent (ledger at m) op) is in elim (cases_eq q m) [
+  abbrev with_next : KeysView
+  with_next = with_key (row_of rows m) key
+
+  pub keys_sent : AreKeys at rows s → slot.operation ≡ record { manager = m; number = n } → ((k : ℕ) (y : Slot) → get s k ≡ Some y → (1 ≤ y.operation.manager) × (y.operation ≢ record { manager = m; number = n })) → Updates s t key (Some slot)
+      → AreKeys (after_sent at m op) (entered rows m key) t
+  keys_sent r named apart u = record {
+    number = length-set rows (m - 1) with_next ∙ r.number ∙ sym (length-put_ledger at m (with_sent (ledger at m) op));
+    sent = λ q is. let was = known_before at m q (with_sent (ledger at m) op) is in elim (cases_eq q m) [
       | inl same ↦
-          let here : q - 1 ≡ m - 1 = ap (λ k. k - 1) same in
-          ap (λ k. length (get_or (entered rows m n key) k [])) here
-          ∙ ap length (get_or-set_same rows (m - 1) (set (row rows m n key) n key) [] within)
-          ∙ length-set (row rows m n key) n key
-          ∙ r.planned m known
-          ∙ sym (ap (λ (a : LedgerView). a.plan) (ledger-sent_same at m op known q same) ∙ ap (λ k. (ledger at k).plan) same)
+          let more : length ((row_of rows m).keys ++ key ∷ []) ≡ length ((ledger at m).sent ++ op ∷ []) =
+          (let e = r.sent m known in omega (arith, length-append (row_of rows m).keys (key ∷ []), length-append (ledger at m).sent (op ∷ []))) in
+          ap (λ (x : KeysView). length x.keys) (row_same q same) ∙ more
+          ∙ sym (ap (λ (a : LedgerView). length a.sent) (ledger-sent_same at m op known q same) ∙ ap (λ k. length ((ledger at k).sent ++ op ∷ [])) same)
       | inr differs ↦
-          ap length (get_or-set_other rows (m - 1) (q - 1) (set (row rows m n key) n key) [] (not_here q was differs))
-          ∙ r.planned q was
-          ∙ sym (ap (λ (a : LedgerView). a.plan) (ledger-sent_other at m op known q was.positive differs))
+          ap (λ (x : KeysView). length x.keys) (row_other q was differs)
+          ∙ r.sent q was
+          ∙ sym (ap (λ (a : LedgerView). length a.sent) (ledger-sent_other at m op known q was.positive differs))
+    ];
+    planned = λ q is. let was = known_before at m q (with_sent (ledger at m) op) is in elim (cases_eq q m) [
+      | inl same ↦ rw (row_same q same, ledger-sent_same at m op known q same, same) (r.planned m known)
+      | inr differs ↦ rw (row_other q was differs, ledger-sent_other at m op known q was.positive differs) (r.planned q was)
     ];
     told = λ k y found. elim (found_cases s t key slot u k y found) [
       | inl new ↦
-          let is : y.operation ≡ record { manager = m; number = n } = sym (ap (λ (z : Slot). z.operation) new.1) ∙ named in
-          ap (key_at (entered rows m n key)) is ∙ told_same rows m n key within (rw (r.planned m known) planned) ∙ ap (λ j. Some j) (sym new.0)
+          let is : y.operation ≡ next rows m key = sym (ap (λ (z : Slot). z.operation) new.1) ∙ named ∙ sym is_next in
+          ap (key_at (entered rows m key)) is ∙ told_same rows m key within ∙ ap (λ j. Some j) (sym new.0)
       | inr old ↦
           let p = apart k y old.1 in
-          told_other rows m n key y.operation known.positive within p.0 p.1 ∙ r.told k y old.1
+          told_other rows m key y.operation known.positive within p.0 (λ e. p.1 (e ∙ is_next)) ∙ r.told k y old.1
     ];
   }
     where
       within : m - 1 < length rows
       within = let a = r.number in let p = known.positive in let w = known.within in omega arith
 
-      not_here : (q : ℕ) → IsKnown at q → q ≢ m → q - 1 ≢ m - 1
-      not_here q was differs e = let p = known.positive in let w = was.positive in differs (omega arith)
+      is_next : next rows m key ≡ record { manager = m; number = n }
+      is_next = same_operation (next rows m key) (record { manager = m; number = n }) refl (r.sent m known)
+
+      row_same : (q : ℕ) → q ≡ m → row_of (entered rows m key) q ≡ with_next
+      row_same q same = ap (row_of (entered rows m key)) same ∙ get_or-set_same rows (m - 1) with_next (no_keys 0) within
+
+      row_other : (q : ℕ) → IsKnown at q → q ≢ m → row_of (entered rows m key) q ≡ row_of rows q
+      row_other q was differs = get_or-set_other rows (m - 1) (q - 1) with_next (no_keys 0) (λ e. let p = known.positive in let w = was.positive in differs (omega arith))
 
 -- the slot at a key keeps its operation
-pub told_kept : (rows : List (List ℕ)) (s t : Slab Slot) (key : ℕ) (slot x : Slot) → AreTold rows s → get s key ≡ Some slot → slot.operation ≡ x.operation → Updates s t key (Some x) → AreTold rows t
+pub told_kept : (rows : List KeysView) (s t : Slab Slot) (key : ℕ) (slot x : Slot) → AreTold rows s → get s key ≡ Some slot → slot.operation ≡ x.operation → Updates s t key (Some x) → AreTold rows t
 told_kept rows s t key slot x r there keeps u k y found = elim (found_cases s t key x u k y found) [
   | inl new ↦ ap (key_at rows) (sym (keeps ∙ ap (λ (z : Slot). z.operation) new.1)) ∙ r key slot there ∙ ap (λ j. Some j) (sym new.0)
   | inr old ↦ r k y old.1
 ]
 
-pub keys_kept : (at : List LedgerView) (rows : List (List ℕ)) (s t : Slab Slot) (key : ℕ) (slot x : Slot) → AreKeys at rows s → get s key ≡ Some slot → slot.operation ≡ x.operation → Updates s t key (Some x) → AreKeys at rows t
-keys_kept at rows s t key slot x r there keeps u = record { number = r.number; planned = r.planned; told = told_kept rows s t key slot x r.told there keeps u }
+pub keys_kept : (at : List LedgerView) (rows : List KeysView) (s t : Slab Slot) (key : ℕ) (slot x : Slot) → AreKeys at rows s → get s key ≡ Some slot → slot.operation ≡ x.operation → Updates s t key (Some x) → AreKeys at rows t
+keys_kept at rows s t key slot x r there keeps u = record { number = r.number; sent = r.sent; planned = r.planned; told = told_kept rows s t key slot x r.told there keeps u }
 
 -- collecting
 
-pub keys_collected : (at : List LedgerView) (o : Operation) (code : Code) (known : IsKnown at o.manager) (rows : List (List ℕ)) (s t : Slab Slot) (key : ℕ) → AreKeys at rows s → Updates s t key None → AreKeys (after_collected at o code) rows t
+pub keys_collected : (at : List LedgerView) (o : Operation) (code : Code) (known : IsKnown at o.manager) (rows : List KeysView) (s t : Slab Slot) (key : ℕ) → AreKeys at rows s → Updates s t key None → AreKeys (after_collected at o code) rows t
 keys_collected at o code known rows s t key r u = record {
   number = r.number ∙ sym (length-put_ledger at o.manager (with_collected (ledger at o.manager) o.number code));
+  sent = λ q is. let was = collected_known at o code known q is in elim (cases_eq q o.manager) [
+    | inl same ↦ r.sent q was ∙ sym (ap (λ (a : LedgerView). length a.sent) (ledger-collected_same at o code known q same))
+    | inr differs ↦ r.sent q was ∙ sym (ap (λ (a : LedgerView). length a.sent) (ledger-collected_other at o code known q was.positive differs))
+  ];
   planned = λ q is. let was = collected_known at o code known q is in elim (cases_eq q o.manager) [
-    | inl same ↦ r.planned q was ∙ sym (ap (λ (a : LedgerView). a.plan) (ledger-collected_same at o code known q same))
-    | inr differs ↦ r.planned q was ∙ sym (ap (λ (a : LedgerView). a.plan) (ledger-collected_other at o code known q was.positive differs))
+    | inl same ↦ rw (ledger-collected_same at o code known q same) (r.planned q was)
+    | inr differs ↦ rw (ledger-collected_other at o code known q was.positive differs) (r.planned q was)
   ];
   told = λ k y found. r.told k y (found_before s t key u k y found).1;
 }
@@ -116,15 +133,19 @@ fresh_plan plan [] i within = absurd (omega arith)
 fresh_plan plan (b ∷ bs) zero within = refl
 fresh_plan plan (b ∷ bs) (suc i) within = fresh_plan plan bs i (omega arith)
 
-pub keys_new : (plan : ℕ) (use_async : List Bool) (s : Slab Slot) → s.slots ≡ [] → AreKeys (new_ledgers plan use_async) (replicate (length use_async) (replicate plan 0)) s
+pub keys_new : (plan : ℕ) (use_async : List Bool) (s : Slab Slot) → s.slots ≡ [] → AreKeys (new_ledgers plan use_async) (replicate (length use_async) (no_keys plan)) s
 keys_new plan use_async s empty = record {
-  number = length-replicate (length use_async) (replicate plan 0) ∙ sym (length-map use_async (λ carries. new_ledger carries plan));
-  planned = λ m known.
-      let few = rw (length-map use_async (λ carries. new_ledger carries plan)) at known.within in
-      let positive = known.positive in
-      let within : m - 1 < length use_async = omega arith in
-      ap length (get_or-replicate (length use_async) (m - 1) (replicate plan 0) [] within)
-      ∙ length-replicate plan 0
-      ∙ sym (fresh_plan plan use_async (m - 1) within);
+  number = length-replicate (length use_async) (no_keys plan) ∙ sym (length-map use_async (λ carries. new_ledger carries plan));
+  sent = λ m known. ap (λ (x : KeysView). length x.keys) (row_new m known) ∙ sym (ap length (fresh_sent plan use_async (m - 1)));
+  planned = λ m known. rw (row_new m known, fresh_plan plan use_async (m - 1) (within m known)) (omega arith);
   told = λ key slot found. absurd (let no : None ≡ Some slot = sym (ap (λ slots. get_or slots key None) empty) ∙ found in cc);
 }
+  where
+    within : (m : ℕ) → IsKnown (new_ledgers plan use_async) m → m - 1 < length use_async
+    within m known =
+        let few = rw (length-map use_async (λ carries. new_ledger carries plan)) at known.within in
+        let positive = known.positive in
+        omega arith
+
+    row_new : (m : ℕ) → IsKnown (new_ledgers plan use_async) m → row_of (replicate (length use_async) (no_keys plan)) m ≡ no_keys plan
+    row_new m known = get_or-replicate (length use_async) (m - 1) (no_keys plan) (no_keys 0) (within m known)

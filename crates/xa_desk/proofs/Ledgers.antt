@@ -1,5 +1,5 @@
 -- What a sending and a collection do to the ledgers.
-use Rattle.std.proofs.Common.{◌≡◌, ◌≢◌, ℕ, zero, suc, ◌+◌, ◌-◌, ◌<◌, ◌≤◌, ◌⊎◌, false, is_some, ◌||◌, nat_eq, List, [], ◌∷◌, ◌++◌, length, Option, Some, None, get_or, sum_by, sym, refl, ap, ◌∙◌, subst, inl, inr, arith, length-append}
+use Rattle.std.proofs.Common.{◌≡◌, ◌≢◌, ℕ, zero, suc, ◌+◌, ◌-◌, ◌<◌, ◌≤◌, ◌⊎◌, false, ◌||◌, nat_eq, List, [], ◌∷◌, ◌++◌, length, Option, Some, None, get_or, sum_by, sym, refl, ap, ◌∙◌, subst, inl, inr, arith, length-append}
 use Rattle.std.specs.Cmp.{nat_eq_equiv}
 use Rattle.std.proofs.lemmas.List.{map-append, length-set, get_or-set_same, get_or-set_other, get_or_read, length-map}
 use Rattle.std.proofs.lemmas.List.Sums.{sum_by-set, sum_by-cons}
@@ -245,7 +245,3 @@ planned-put at m a known same =
 
 pub length-put_ledger : (at : List LedgerView) (m : ℕ) (a : LedgerView) → length (put_ledger at m a) ≡ length at
 length-put_ledger at m a = length-set at (m - 1) a
-
-pub none_of : {A : Type 0} (x : Option A) → is_some x ≡ false → x ≡ None
-none_of None e = refl
-none_of (Some a) e = absurd (false≢true (sym e))

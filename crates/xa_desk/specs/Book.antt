@@ -1,9 +1,9 @@
 -- How a book keeps what contracts see of a desk.
-use Rattle.std.specs.Prelude.{◌≡◌, ℕ, ◌+◌, ◌≤◌, [], length, vec_capacity}
-use Rattle.xa_base.specs.declared.limits.TheConstants.{MOST_HANDLES, MOST_MANAGERS, MOST_THREADS}
+use Rattle.std.specs.Prelude.{◌≡◌, ℕ, ◌+◌, ◌*◌, ◌≤◌, [], length, vec_capacity}
+use Rattle.xa_base.specs.declared.limits.TheConstants.{MOST_HANDLES, MOST_MANAGERS, MOST_REQUESTS, MOST_THREADS}
 use Rattle.slab.specs.Slab.{slab_len}
 use Rattle.xa_desk.specs.DeskView.{DeskView}
-use Rattle.xa_desk.specs.Slots.{IsBooks, AreKeys, kept_of, planned_total}
+use Rattle.xa_desk.specs.Slots.{IsBooks, AreKeys, kept_of, logged, planned_total}
 use Rattle.xa_desk.specs.declared.book.Book.TheInside.{Inside}
 
 -- what contracts see
@@ -13,7 +13,7 @@ desk_of b = record {
   handles = b.handles;
   ledgers = b.ledgers.items;
   kept = kept_of b.kept.items;
-  drained = b.drained.items;
+  drained = logged b.drained.items;
   drained_then = b.drained_then;
   requests = b.requests.items;
   completions = b.completions;
@@ -26,14 +26,15 @@ pub record IsWithinLimits (t h m : ℕ) : Type 0 where
   pub managers : (1 ≤ m) × (m ≤ MOST_MANAGERS)
 
 -- the books are in order, and each slot is found; there is a slot for each handle and one more, a place for each
--- handle, and room for each planned completion and for each end of a lane
+-- handle, and room for each end of a lane; the drained completions are counted, and what is planned is within limits
 pub record IsBook (b : Inside) : Type 0 where
-  pub books : IsBooks b.ledgers.items b.slots b.kept.items b.drained.items
+  pub books : IsBooks b.ledgers.items b.slots b.kept.items (logged b.drained.items)
   pub keys : AreKeys b.ledgers.items b.rows.items b.slots
   pub slots_used : slab_len b.slots ≤ b.handles + 1
   pub slots_room : b.handles + 1 ≤ b.slots.capacity
   pub places : length b.kept.items ≡ b.handles
-  pub drained_room : planned_total b.ledgers.items ≤ vec_capacity b.drained
+  pub drained : b.drained_now ≡ length (logged b.drained.items)
+  pub planned : planned_total b.ledgers.items ≤ MOST_REQUESTS * MOST_MANAGERS
   pub limits : IsWithinLimits b.thread b.handles (length b.ledgers.items)
   pub ends : b.ends.items ≡ []
   pub ends_room : MOST_MANAGERS ≤ vec_capacity b.ends

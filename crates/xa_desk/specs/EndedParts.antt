@@ -2,6 +2,7 @@
 use Rattle.std.specs.Prelude.{◌≤◌, length}
 use Rattle.xa_base.specs.declared.limits.TheConstants.{MOST_MANAGERS, MOST_THREADS}
 use Rattle.xa_desk.specs.Ended.{EndedView, IsEnded}
+use Rattle.xa_desk.specs.Slots.{logged}
 use Rattle.xa_desk.specs.declared.ended.EndedDesk.TheInside.{Inside}
 
 -- what contracts see
@@ -9,7 +10,7 @@ abbrev pub ended_of : Inside → EndedView
 ended_of e = record {
   thread = e.thread;
   ledgers = e.ledgers.items;
-  drained = e.drained.items;
+  drained = logged e.drained.items;
   requests = e.requests.items;
   completions = e.completions;
 }

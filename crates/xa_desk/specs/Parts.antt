@@ -1,8 +1,9 @@
 -- How the parts of a desk keep what they are made with.
-use Rattle.std.specs.Prelude.{◌≡◌, ◌+◌, ◌*◌, ◌≤◌, Bool, List, [], None, length, map, replicate, vec_capacity}
-use Rattle.xa_base.specs.declared.limits.TheConstants.{MOST_MANAGERS}
+use Rattle.std.specs.Prelude.{◌≡◌, ◌+◌, ◌≤◌, Bool, List, [], None, length, map, replicate, vec_capacity}
+use Rattle.xa_base.specs.declared.limits.TheConstants.{MOST_MANAGERS, MOST_REQUESTS}
 use Rattle.xa_desk.specs.LedgerView.{LedgerView}
 use Rattle.xa_desk.specs.Lanes.{PartsView, new_ledgers}
+use Rattle.xa_desk.specs.Slots.{no_keys}
 use Rattle.xa_desk.specs.Book.{IsWithinLimits}
 use Rattle.xa_desk.specs.declared.parts.DeskParts.TheInside.{Inside}
 
@@ -19,10 +20,9 @@ pub record AreParts (p : Inside) : Type 0 where
   pub ledgers : p.ledgers.items ≡ new_ledgers p.plan (carried p.ledgers.items)
   pub slots : p.slots.slots ≡ []
   pub slots_room : p.handles + 1 ≤ p.slots.capacity
-  pub rows : p.rows.items ≡ replicate (length p.ledgers.items) (replicate p.plan 0)
+  pub rows : p.rows.items ≡ replicate (length p.ledgers.items) (no_keys p.plan)
   pub kept : p.kept.items ≡ replicate p.handles None
-  pub drained : p.drained.items ≡ []
-  pub drained_room : p.plan * length p.ledgers.items ≤ vec_capacity p.drained
+  pub planned : p.plan ≤ MOST_REQUESTS
   pub ends : p.ends.items ≡ []
   pub ends_room : MOST_MANAGERS ≤ vec_capacity p.ends
   pub limits : IsWithinLimits p.thread p.handles (length p.ledgers.items)

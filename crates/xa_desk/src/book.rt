@@ -14,7 +14,8 @@ use crate::ledger::Ledger;
 use crate::operation::Operation;
 use crate::parts::DeskParts;
 use crate::places::first_free;
-use crate::slot::{Slot, find_slot, set_slot};
+use crate::slot::{Slot, enter_code, enter_handle, find_slot};
+use http_server::Log;
 use slab::Slab;
 use std::marker::Model;
 use xa_base::{MOST_HANDLES, MOST_MANAGERS, MOST_THREADS};
@@ -22,8 +23,8 @@ use xa_lane::{Ended, Receiver, Sender};
 use xa_words::{Code, Completion, Op, Request};
 
 /// The ledgers with the managers, the slots of what is outstanding and where each is, the places of what
-/// is kept, the completions that were drained, and the ends of the lanes. All memory is reserved as it is
-/// made, that for the ended senders too.
+/// is kept, how many completions were drained by now and at the last quiet moment, and the ends of the
+/// lanes. All memory is reserved as it is made, that for the ended senders too.
 #[derive(Drop)]
 pub(crate) struct Book {
     pub(crate) thread: u32,
@@ -32,7 +33,9 @@ pub(crate) struct Book {
     pub(crate) slots: Slab<Slot>,
     pub(crate) rows: Vec<Keys>,
     pub(crate) kept: Vec<Option<Operation>>,
-    pub(crate) drained: Vec<Completion>,
+    // The completions that were drained. It has no bytes: only proofs read it.
+    pub(crate) drained: Log<Completion, ()>,
+    pub(crate) drained_now: usize,
     pub(crate) drained_then: usize,
     pub(crate) requests: Vec<Sender<Request>>,
     pub(crate) completions: Receiver<Completion>,
@@ -70,7 +73,6 @@ impl Book {
             slots,
             rows,
             kept,
-            drained,
             ends,
         } = parts;
         Book {
@@ -80,7 +82,8 @@ impl Book {
             slots,
             rows,
             kept,
-            drained,
+            drained: Log::new(),
+            drained_now: 0,
             drained_then: 0,
             requests,
             completions,
@@ -109,7 +112,7 @@ impl Book {
             handle: 0,
         });
         let row = &mut self.rows[manager as usize - 1];
-        row.enter(number, key);
+        row.enter(key);
         operation
     }
 
@@ -122,19 +125,9 @@ impl Book {
             manager: completion.manager,
             number: completion.number,
         };
-        if let Some((key, slot)) = find_slot(&self.rows, &self.slots, operation) {
-            if slot.code.is_none() {
-                set_slot(
-                    &mut self.slots,
-                    key,
-                    Slot {
-                        operation: slot.operation,
-                        code: Some(completion.code),
-                        handle: slot.handle,
-                    },
-                );
-                self.drained.push_reserved(completion);
-            }
+        if enter_code(&self.rows, &mut self.slots, operation, completion.code) {
+            self.drained = self.drained.and(&completion, &());
+            self.drained_now += 1;
         }
     }
 
@@ -168,21 +161,10 @@ impl Book {
         ensures kept { self.new ≡ record self.old { kept = map.insert self.old.kept result operation } }
         ensures handle { IsHandle result }
     {
-        let Some((key, slot)) = find_slot(&self.rows, &self.slots, operation) else {
-            unreachable!()
-        };
         let place = first_free(&self.kept);
         let handle = place as u32 + 1;
         self.kept[place] = Some(operation);
-        set_slot(
-            &mut self.slots,
-            key,
-            Slot {
-                operation: slot.operation,
-                code: slot.code,
-                handle,
-            },
-        );
+        enter_handle(&self.rows, &mut self.slots, operation, handle);
         handle
     }
 
@@ -197,19 +179,8 @@ impl Book {
         ensures absent { IfNone result (self.new ≡ self.old) }
     {
         let operation = self.kept_at(number)?;
-        let Some((key, slot)) = find_slot(&self.rows, &self.slots, operation) else {
-            unreachable!()
-        };
         self.kept[number as usize - 1] = None;
-        set_slot(
-            &mut self.slots,
-            key,
-            Slot {
-                operation: slot.operation,
-                code: slot.code,
-                handle: 0,
-            },
-        );
+        enter_handle(&self.rows, &mut self.slots, operation, 0);
         Some(operation)
     }
 

@@ -9,6 +9,7 @@ ghost use Rattle.xa_desk.specs.Waits.{MarksEnd, MarkEnds};
 use crate::book::Book;
 use crate::idle::Idle;
 use crate::ledger::Ledger;
+use http_server::Log;
 use std::marker::Model;
 use std::sync::Wait;
 use xa_base::{MOST_MANAGERS, MOST_THREADS};
@@ -21,7 +22,8 @@ use xa_words::{Code, Completion, Op, Request};
 pub struct EndedDesk {
     thread: u32,
     ledgers: Vec<Ledger>,
-    drained: Vec<Completion>,
+    // The completions that were drained. It has no bytes: only proofs read it.
+    drained: Log<Completion, ()>,
     requests: Vec<Ended<Request>>,
     completions: Receiver<Completion>,
 }
@@ -132,6 +134,7 @@ pub(crate) fn end<R: Wait, I: Idle>(rt: &R, book: Book, idle: &mut I) -> EndedDe
         rows: _,
         kept: _,
         drained,
+        drained_now: _,
         drained_then: _,
         requests,
         completions,

@@ -1,59 +1,58 @@
 //! Where the slots of outstanding operations are.
-ghost use Rattle.std.specs.Prelude.{◌≡◌, ◌<◌, length, replicate, map, slice_get, slice_set, IfOk};
-ghost use Rattle.xa_desk.specs.Slots.{key_at};
+ghost use Rattle.std.specs.Prelude.{◌≡◌, ◌<◌, length, replicate, slice_get, IfOk};
+ghost use Rattle.xa_desk.specs.Slots.{no_keys, with_key, key_at};
 
 use crate::operation::Operation;
 use std::alloc::{AllocError, Global};
 use std::marker::Model;
 
-/// The keys of the slots of one manager's operations, by their numbers; 0 for one that was never sent.
+/// The keys of the slots of one manager's operations. A request's number is the count of those sent before
+/// it, so its key stands at that place.
 #[derive(Drop)]
 pub(crate) struct Keys {
     keys: Vec<usize>,
 }
 
 impl Model for Keys {
-    ghost use Rattle.std.specs.Prelude.{ℕ, List};
+    ghost use Rattle.std.specs.Prelude.{vec_capacity};
+    ghost use Rattle.xa_desk.specs.Slots.{KeysView};
 
-    ghost Value = { List ℕ };
+    ghost Value = { KeysView };
 
-    ghost view = { λ k. k.keys.items };
+    ghost view = { λ k. record { keys = k.keys.items; capacity = vec_capacity k.keys } };
 }
 
 impl Keys {
-    /// A place for each planned request.
+    /// No key, and room for that of each planned request.
     pub(crate) fn reserve(alloc: Global, plan: u32) -> Result<Keys, AllocError>
-        ensures { IfOk result (λ k. k ≡ replicate plan 0) }
+        ensures { IfOk result (λ k. k ≡ no_keys plan) }
     {
-        let mut keys = Vec::with_capacity(alloc, plan as usize)?;
-        for _number in 0..plan {
-            keys.push(0)?;
-        }
+        let keys = Vec::with_capacity(alloc, plan as usize)?;
         Ok(Keys { keys })
     }
 
     fn key(&self, number: u32) -> Option<usize>
-        ensures { result ≡ slice_get self.now number }
+        ensures { result ≡ slice_get self.now.keys number }
     {
         self.keys.get(number as usize).copied()
     }
 
-    /// The slot of the request with this number has this key.
-    pub(crate) fn enter(&mut self, number: u32, key: usize)
-        requires { number < length self.old }
-        ensures { self.new ≡ slice_set self.old number key }
+    /// The slot of the next request has this key.
+    pub(crate) fn enter(&mut self, key: usize)
+        requires { length self.old.keys < self.old.capacity }
+        ensures { self.new ≡ with_key self.old key }
     {
-        self.keys[number as usize] = key;
+        self.keys.push_reserved(key);
     }
 }
 
-/// The places of each manager's keys.
+/// Room for the keys of each manager's operations.
 pub(crate) fn reserve_keys(
     alloc: Global,
     managers: usize,
     plan: u32,
 ) -> Result<Vec<Keys>, AllocError>
-    ensures { IfOk result (λ v. v.items ≡ replicate managers (replicate plan 0)) }
+    ensures { IfOk result (λ v. v.items ≡ replicate managers (no_keys plan)) }
 {
     let mut rows = Vec::with_capacity(alloc, managers)?;
     for _manager in 0..managers {

@@ -11,7 +11,7 @@ use std::alloc::{AllocError, Global};
 use std::marker::Model;
 use xa_base::{MOST_HANDLES, MOST_MANAGERS, MOST_REQUESTS, MOST_THREADS};
 use xa_lane::Ended;
-use xa_words::{Completion, Request};
+use xa_words::Request;
 
 /// All the memory that a desk ever takes.
 #[derive(Drop)]
@@ -23,7 +23,6 @@ pub struct DeskParts {
     pub(crate) slots: Slab<Slot>,
     pub(crate) rows: Vec<Keys>,
     pub(crate) kept: Vec<Option<Operation>>,
-    pub(crate) drained: Vec<Completion>,
     pub(crate) ends: Vec<Ended<Request>>,
 }
 
@@ -62,7 +61,6 @@ impl DeskParts {
         let slots = Slab::with_capacity(alloc, handles as usize + 1)?;
         let rows = reserve_keys(alloc, use_async.len(), requests)?;
         let kept = empty_places(alloc, handles as usize)?;
-        let drained = Vec::with_capacity(alloc, requests as usize * use_async.len())?;
         let ends = Vec::with_capacity(alloc, MOST_MANAGERS)?;
         Ok(DeskParts {
             thread,
@@ -72,7 +70,6 @@ impl DeskParts {
             slots,
             rows,
             kept,
-            drained,
             ends,
         })
     }

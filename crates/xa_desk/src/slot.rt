@@ -1,7 +1,7 @@
 //! Slots of outstanding operations.
-ghost use Rattle.std.specs.Prelude.{◌≡◌, ◌≢◌, ℕ, Some, IfSome, IfNone};
-ghost use Rattle.slab.specs.Slab.{get, slab_len, ContainsKey, Updates};
-ghost use Rattle.xa_desk.specs.Slots.{AreTold};
+ghost use Rattle.std.specs.Prelude.{◌≡◌, ◌≢◌, ℕ, false, Some, None, IfSome, IfNone, IsTrue};
+ghost use Rattle.slab.specs.Slab.{get};
+ghost use Rattle.xa_desk.specs.Slots.{HasSlot, AreTold, EntersCode, EntersHandle};
 
 use crate::keys::{Keys, key_of};
 use crate::operation::Operation;
@@ -42,14 +42,43 @@ pub(crate) fn find_slot(
     Some((key, *slot))
 }
 
-/// Writes a slot anew.
-pub(crate) fn set_slot(slots: &mut Slab<Slot>, key: usize, slot: Slot)
-    requires { ContainsKey slots.old key }
-    ensures updates { Updates slots.old slots.new key (Some slot) }
-    ensures len { slab_len slots.new ≡ slab_len slots.old }
-    ensures capacity { slots.new.capacity ≡ slots.old.capacity }
+/// Enters the code of a completion into its operation's slot, and answers whether it did: not where the
+/// operation has no slot, or one with a code.
+pub(crate) fn enter_code(
+    rows: &Vec<Keys>,
+    slots: &mut Slab<Slot>,
+    wanted: Operation,
+    code: Code,
+) -> bool
+    requires { AreTold rows.now.items slots.old }
+    ensures entered { IsTrue result → EntersCode slots.old wanted code slots.new }
+    ensures known { result ≡ false → (key : ℕ) (slot : _) → get slots.old key ≡ Some slot → slot.operation ≡ wanted → slot.code ≢ None }
+    ensures same { result ≡ false → slots.new ≡ slots.old }
 {
-    if let Some(place) = slots.get_mut(key) {
-        *place = slot;
+    let Some(key) = key_of(rows, wanted) else {
+        return false;
+    };
+    let Some(slot) = slots.get_mut(key) else {
+        return false;
+    };
+    if !slot.operation.is(wanted) || slot.code.is_some() {
+        return false;
     }
+    slot.code = Some(code);
+    true
+}
+
+/// Writes the number that an operation is kept under, or 0, into its slot.
+pub(crate) fn enter_handle(rows: &Vec<Keys>, slots: &mut Slab<Slot>, wanted: Operation, handle: u32)
+    requires told { AreTold rows.now.items slots.old }
+    requires there { HasSlot slots.old wanted }
+    ensures { EntersHandle slots.old wanted handle slots.new }
+{
+    let Some(key) = key_of(rows, wanted) else {
+        unreachable!()
+    };
+    let Some(slot) = slots.get_mut(key) else {
+        unreachable!()
+    };
+    slot.handle = handle;
 }

@@ -3,5 +3,9 @@ pub mod Numbers
 pub mod Lines
 pub mod Bytes
 pub mod CommitLemmas
+pub mod FoundLemmas
 pub mod ScriptLemmas
 pub mod OneOpening
+pub mod Names
+pub mod Taken
+pub mod OwnTasks

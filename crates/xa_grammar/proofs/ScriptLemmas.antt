@@ -1,5 +1,5 @@
 -- A line that the grammar reads leaves a script: each manager can be opened with its keys, each step is of a thread or a manager that there is, and no task asks for more than 64 xids.
-use Rattle.std.specs.Prelude.{◌≡◌, ℕ, pos, zero, suc, ◌-◌, ◌<◌, ◌≤◌, Bool, true, false, not, cond, ◌&&◌, ◌||◌, ◌==◌, nat_le, nat_lt, if◌then◌else◌, List, [], ◌∷◌, ◌++◌, length, map, filter, Option, None, Some, unwrap_or, get_or, slice_set, IfSome, All, Result, Ok, Err, codes, refl}
+use Rattle.std.specs.Prelude.{◌≡◌, ℕ, pos, zero, suc, ◌-◌, ◌<◌, ◌≤◌, Bool, true, false, not, cond, ◌&&◌, ◌||◌, ◌==◌, nat_le, nat_lt, if◌then◌else◌, List, [], ◌∷◌, ◌++◌, length, map, filter, Option, None, Some, unwrap_or, get_or, slice_set, replicate, IfSome, All, Result, Ok, Err, codes, refl}
 use Rattle.std.proofs.Common.{sym, ap, ◌∙◌, subst, arith}
 use Rattle.std.specs.List.{list_all, list_any, slice_index_or}
 use Rattle.std.specs.Option.{ok_or}
@@ -20,9 +20,7 @@ use Rattle.xa_grammar.specs.declared.fault.Reason.TheVariants.{KeyTwice, TooMany
 use Rattle.xa_grammar.specs.declared.script.Declared.{Declared}
 use Rattle.xa_grammar.specs.declared.script.Action.{Action}
 use Rattle.xa_grammar.specs.declared.script.Action.TheVariants as action
-use Rattle.xa_grammar.specs.declared.script.Called.{Called}
 use Rattle.xa_grammar.specs.declared.script.CommitAll.{CommitAll}
-use Rattle.xa_grammar.specs.declared.script.Resolve.{Resolve}
 use Rattle.xa_grammar.specs.declared.script.Task.{Task}
 use Rattle.xa_grammar.specs.declared.script.Task.TheVariants as task
 use Rattle.xa_grammar.specs.declared.script.Step.{Step}
@@ -38,7 +36,7 @@ use Rattle.xa_grammar.specs.declared.line.Item.TheVariants as item
 use Rattle.xa_grammar.specs.Text.{is_script_byte, words_of}
 use Rattle.xa_grammar.specs.Fields.{◌>>=◌, Word, word_at, end_of, number_of, number_in, number_at, key_at, xid_at, delta_at, tran_at, flags_onto}
 use Rattle.xa_base.specs.Lists.{IsUpTo}
-use Rattle.xa_grammar.specs.Content.{Content, IsScript, IsOfManager, IsOfLog, IsOfScript, AsksForFew, HasFewXids, threads_of, managers_of, accounts_of, failing_append, thread_of, with_count, with_key, with_sync, with_failing, with_step}
+use Rattle.xa_grammar.specs.Content.{Content, IsScript, IsOfManager, IsOfLog, IsOfScript, AsksForFew, HasFewXids, threads_of, managers_of, accounts_of, failing_append, thread_of, nothing, with_count, with_key, with_sync, with_failing, with_step}
 use Rattle.xa_grammar.specs.Settings.{before_actions, count_of, not_set, limit_of, setting_of, sync_of, logfail_of, has_key, key_count, declared_of}
 use Rattle.xa_grammar.specs.Commits.{branches_at, commit_of}
 use Rattle.xa_grammar.specs.Actions.{verb_of, action_at, call_step, commit_step, resolve_step, step_by, step_of_thread, turn_of, reopen_of}
@@ -155,6 +153,31 @@ sync_kept s m is =
       accounts = is.accounts;
       of_logs = is.of_logs;
       of_steps = is.of_steps;
+    }
+
+-- no append of any log fails
+none_at : (n i : ℕ) → ◌≡◌ {A = Option ℕ} (get_or (replicate n None) i None) None
+none_at zero i = refl
+none_at (suc n) zero = refl
+none_at (suc n) (suc i) = none_at n i
+
+-- a script that says nothing
+pub nothing_is : IsScript nothing
+nothing_is =
+    record {
+      threads = (omega arith, omega arith);
+      managers = (omega arith, omega arith);
+      handles = (omega arith, omega arith);
+      queue = (omega arith, omega arith);
+      requests = (omega arith, omega arith);
+      of_managers = All-nil (IsOfManager nothing);
+      accounts = λ m. refl;
+      of_logs = λ t.
+          elim (nat_lt 0 t) as (λ b. IfSome (if b then get_or (replicate 8 None) (t - 1) None else None) (λ k. IsUpTo 1000000 k × IsUpTo 1 t)) [
+            | true ↦ subst (λ o. IfSome o (λ k. IsUpTo 1000000 k × IsUpTo 1 t)) (sym (none_at 8 (t - 1))) tt
+            | false ↦ tt
+          ];
+      of_steps = All-nil (IsOfScript nothing);
     }
 
 -- one place is written, the others are as they were

@@ -2,7 +2,11 @@ pub mod Text
 pub mod Fields
 pub mod Content
 pub mod Settings
+pub mod Found
 pub mod Commits
 pub mod Actions
 pub mod Grammar
 pub mod Reading
+pub mod Shapes
+pub mod Kept
+pub mod OwnTasks

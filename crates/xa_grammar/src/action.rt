@@ -1,14 +1,17 @@
 //! What a thread is told to do.
-ghost use Rattle.std.specs.Prelude.{◌≡◌};
-ghost use Rattle.xa_grammar.specs.Fields.{Takes};
-ghost use Rattle.xa_grammar.specs.Actions.{verb_of, action_at, commit_step, resolve_step, call_step, step_by, step_of_thread, turn_of, reopen_of};
+ghost use Rattle.std.specs.Prelude.{◌≡◌, Ok, Err, MatchResult};
+ghost use Rattle.xa_grammar.specs.Shapes.{action_of};
+ghost use Rattle.xa_grammar.specs.Actions.{verb_of, action_at, resolve_step, call_step, step_by, step_of_thread, turn_of, reopen_of};
 
-use crate::commit::{MOST_MANAGER, commit_of};
+use crate::commit::{MOST_MANAGER, commit_step};
 use crate::fault::Reason;
 use crate::field::number_in;
-use crate::script::{Action, Called, Resolve, Script, Step, Task};
+use crate::heard::Heard;
+use crate::name::Name;
+use crate::script::{Resolve, Script};
+use crate::shape::{Calling, Shape};
 use crate::words::Words;
-use xa_words::{Call, RmOp};
+use xa_words::Call;
 
 // A handle is a positive 32-bit number with a sign, or 0, which is none.
 const MOST_HANDLE: u64 = i32::MAX as u64;
@@ -73,68 +76,64 @@ fn verb_of(word: &[u8]) -> Option<Verb>
 
 // The words between the manager and the flags.
 #[tactic(auto, unfolding(crate::specs::Actions::action_at))]
-fn action_at(verb: Verb, words: &mut Words) -> Result<Action, Reason>
-    ensures { Takes result words.new (action_at verb words.old) }
+fn action_at<'a>(verb: Verb, words: &mut Words<'a>) -> Result<Calling<Name<'a>>, Reason>
+    ensures { MatchResult result (λ c. action_at verb words.old ≡ Ok (action_of (λ x. x) c, words.new)) (λ why. action_at verb words.old ≡ Err why) }
 {
     match verb {
-        Verb::Plain(call) => Ok(Action::Xa(call, None)),
-        Verb::OnBranch(call) => Ok(Action::Xa(call, Some(words.xid()?))),
-        Verb::Heur(commits) => Ok(Action::Native(RmOp::Heur(words.xid()?, commits))),
+        Verb::Plain(call) => Ok(Calling::Xa(call, None)),
+        Verb::OnBranch(call) => Ok(Calling::Xa(call, Some(words.xid()?))),
+        Verb::Heur(commits) => Ok(Calling::Heur(words.xid()?, commits)),
         Verb::Add => {
             let key = words.key()?;
             let delta = words.delta()?;
-            Ok(Action::Native(RmOp::Add(key, delta)))
+            Ok(Calling::Add(key, delta))
         }
-        Verb::Shut => Ok(Action::Native(RmOp::Shut)),
-        Verb::Complete => Ok(Action::Complete(words.number(0, MOST_HANDLE)? as i32)),
-        Verb::Recover => Ok(Action::Recover(words.number(0, MOST_COUNT)? as u32)),
+        Verb::Shut => Ok(Calling::Shut),
+        Verb::Complete => Ok(Calling::Complete(words.number(0, MOST_HANDLE)? as i32)),
+        Verb::Recover => Ok(Calling::Recover(words.number(0, MOST_COUNT)? as u32)),
     }
-}
-
-// The words after `commitall`.
-#[tactic(auto, unfolding(crate::specs::Actions::commit_step))]
-fn commit_step(script: &Script, line: u32, thread: u32, words: &mut Words) -> Result<Step, Reason>
-    ensures { result ≡ commit_step script.now line thread words.old }
-{
-    Ok(Step::Task(Task::CommitAll(commit_of(script, line, thread, words)?)))
 }
 
 // The words after `resolve`: there are none.
 #[tactic(auto, unfolding(crate::specs::Actions::resolve_step))]
-fn resolve_step(line: u32, thread: u32, words: &mut Words) -> Result<Step, Reason>
+fn resolve_step<'a>(line: u32, thread: u32, words: &mut Words<'a>) -> Result<Heard<'a>, Reason>
     ensures { result ≡ resolve_step line thread words.old }
 {
     words.end()?;
-    Ok(Step::Task(Task::Resolve(Resolve { line, thread })))
+    Ok(Heard::new(Shape::Resolve(Resolve { line, thread })))
 }
 
-// Any other verb, with the words after it. The step is put together here at once, since each hand that it goes through
-// copies it.
+// Any other verb, with the words after it.
 #[tactic(auto, unfolding(crate::specs::Actions::call_step))]
-fn call_step(line: u32, thread: u32, verb: &[u8], words: &mut Words) -> Result<Step, Reason>
+fn call_step<'a>(
+    line: u32,
+    thread: u32,
+    verb: &[u8],
+    words: &mut Words<'a>,
+) -> Result<Heard<'a>, Reason>
     ensures { result ≡ call_step line thread verb.now words.old }
 {
     let verb = verb_of(verb).ok_or(Reason::UnknownWord)?;
     let manager = words.number(0, MOST_MANAGER)? as u32;
-    let action = action_at(verb, words)?;
+    let calling = action_at(verb, words)?;
     let flags = words.flags()?;
-    Ok(Step::Task(Task::Call(Called {
+    Ok(Heard::new(Shape::Call {
         line,
         thread,
         manager,
-        action,
+        calling,
         flags,
-    })))
+    }))
 }
 
 // The verb and the words after it.
-fn step_by(
+fn step_by<'a>(
     script: &Script,
     line: u32,
     thread: u32,
     verb: &[u8],
-    words: &mut Words,
-) -> Result<Step, Reason>
+    words: &mut Words<'a>,
+) -> Result<Heard<'a>, Reason>
     ensures { result ≡ step_by script.now line thread verb.now words.old }
 {
     if verb == b"commitall".as_slice() {
@@ -148,12 +147,12 @@ fn step_by(
 
 // The words after `first`, the word that names the thread.
 #[tactic(auto, unfolding(crate::specs::Actions::step_of_thread))]
-pub(crate) fn step_of_thread(
+pub(crate) fn step_of_thread<'a>(
     script: &Script,
     line: u32,
     first: &[u8],
-    words: &mut Words,
-) -> Result<Step, Reason>
+    words: &mut Words<'a>,
+) -> Result<Heard<'a>, Reason>
     ensures { result ≡ step_of_thread script.now line first.now words.old }
 {
     let thread = number_in(1, u64::from(script.threads()), first)? as u32;

@@ -1,11 +1,14 @@
 //! The line of a commit of several branches.
 ghost use Rattle.std.specs.Prelude.{◌≡◌, ◌≤◌};
-ghost use Rattle.xa_grammar.specs.Commits.{branches_at, commit_of};
+ghost use Rattle.xa_grammar.specs.Commits.{branches_at};
+ghost use Rattle.xa_grammar.specs.Actions.{commit_step};
 
 use crate::fault::Reason;
 use crate::field::number_in;
+use crate::heard::Heard;
 use crate::named::Named;
-use crate::script::{CommitAll, Script};
+use crate::script::Script;
+use crate::shape::Shape;
 use crate::words::Words;
 
 // How large a manager's number may be on a line, whether or not there is such a manager.
@@ -25,21 +28,21 @@ fn branches_at(count: u32, words: &mut Words) -> Result<[bool; 8], Reason>
 }
 
 // The words after `commitall`.
-#[tactic(auto, unfolding(crate::specs::Commits::commit_of))]
-pub(crate) fn commit_of(
+#[tactic(auto, unfolding(crate::specs::Commits::commit_of, crate::specs::Actions::commit_step))]
+pub(crate) fn commit_step<'a>(
     script: &Script,
     line: u32,
     thread: u32,
-    words: &mut Words,
-) -> Result<CommitAll, Reason>
-    ensures { result ≡ commit_of script.now line thread words.old }
+    words: &mut Words<'a>,
+) -> Result<Heard<'a>, Reason>
+    ensures { result ≡ commit_step script.now line thread words.old }
 {
-    let tran = words.tran()?;
+    let branch = words.tran()?;
     let managers = branches_at(script.managers(), words)?;
-    Ok(CommitAll {
+    Ok(Heard::new(Shape::CommitAll {
         line,
         thread,
-        tran,
+        branch,
         managers,
-    })
+    }))
 }

@@ -1,13 +1,16 @@
 //! What one word stands for.
-ghost use Rattle.std.specs.Prelude.{◌≡◌, ◌<◌, ◌≤◌, ◌==◌, IfOk, IfSome, length};
+ghost use Rattle.std.specs.Prelude.{◌≡◌, ◌<◌, ◌≤◌, ◌==◌, IfOk, IfSome, length, option_map};
 ghost use Rattle.std.specs.List.{list_all, position_or_len};
+ghost use Rattle.xa_words.specs.Tran.{tran_of};
 ghost use Rattle.xa_grammar.specs.Text.{dot};
 ghost use Rattle.xa_grammar.specs.Fields.{all_digits, number_of, number_in, is_name_byte, is_name, xid_of, tran_named, signed_number_of, delta_in, flag_of};
 
 use crate::fault::Reason;
+use crate::name::Name;
+use memchr::memchr;
 use xa_words::{
     Delta, TMASYNC, TMENDRSCAN, TMFAIL, TMJOIN, TMMULTIPLE, TMNOWAIT, TMONEPHASE, TMRESUME,
-    TMSTARTRSCAN, TMSUCCESS, TMSUSPEND, Tran, Xid,
+    TMSTARTRSCAN, TMSUCCESS, TMSUSPEND,
 };
 
 pub(crate) fn all_digits(word: &[u8]) -> bool
@@ -55,7 +58,12 @@ fn is_name_byte(b: u8) -> bool
 fn all_name_bytes(bytes: &[u8]) -> bool
     ensures { result ≡ list_all is_name_byte bytes.now }
 {
-    bytes.iter().all(|b| is_name_byte(*b))
+    // Without a return at the first bad byte many bytes are judged at once.
+    let mut good = true;
+    for b in bytes {
+        good &= is_name_byte(*b);
+    }
+    good
 }
 
 // Whether these are 1 to 64 of a to z and 0 to 9.
@@ -70,16 +78,11 @@ fn dot_at(word: &[u8]) -> usize
     ensures place { result ≡ position_or_len (λ b. b == dot) word.now }
     ensures fits { result ≤ length word.now }
 {
-    for (i, b) in word.iter().enumerate() {
-        if *b == b'.' {
-            return i;
-        }
-    }
-    word.len()
+    memchr(b'.', word).unwrap_or(word.len())
 }
 
 // The branch that `G.B` names, of format 1.
-pub(crate) fn xid_of(word: &[u8]) -> Option<Xid>
+pub(crate) fn xid_of(word: &[u8]) -> Option<Name<'_>>
     ensures { result ≡ xid_of word.now }
 {
     let dot = dot_at(word);
@@ -90,19 +93,17 @@ pub(crate) fn xid_of(word: &[u8]) -> Option<Xid>
     if !is_name(gtrid) || !is_name(bqual) {
         return None;
     }
-    Xid::new(1, gtrid, bqual).ok()
+    Some(Name::new(gtrid, bqual))
 }
 
-// The global transaction that a name stands for, of format 1.
-pub(crate) fn tran_named(word: &[u8]) -> Option<Tran>
-    ensures { result ≡ tran_named word.now }
+// A branch of the global transaction that a name stands for, of format 1.
+pub(crate) fn tran_named(word: &[u8]) -> Option<Name<'_>>
+    ensures { option_map tran_of result ≡ tran_named word.now }
 {
     if !is_name(word) {
         return None;
     }
-    // It is that of any branch with this gtrid.
-    let branch = Xid::new(1, word, b"1").ok()?;
-    Some(branch.tran())
+    Some(Name::new(word, b"1"))
 }
 
 // A number that may have a minus before it.

@@ -8,8 +8,10 @@ ghost use Rattle.xa_grammar.specs.Grammar.{head_of, item_by, item_of, line_of, w
 use crate::action::{reopen_of, step_of_thread, turn_of};
 use crate::fault::{Reason, ScriptFault};
 use crate::field::all_digits;
-use crate::script::{Count, Declared, Script, Step};
+use crate::heard::Heard;
+use crate::script::{Count, Declared, Script};
 use crate::setting::{declared_of, logfail_of, setting_of, sync_of};
+use crate::shape::Shape;
 use crate::words::Words;
 use std::alloc::AllocError;
 
@@ -33,15 +35,15 @@ pub(crate) enum Head {
 }
 
 /// What a line adds to a script.
-#[derive(Clone, Copy, Debug)]
-pub(crate) enum Item {
+#[derive(Drop)]
+pub(crate) enum Item<'a> {
     Nothing,
     Count(Count, u32),
     Sync(u32),
     /// An append of a thread's log fails.
     LogFail { thread: u32, append: u32 },
     Key(Declared),
-    Step(Step),
+    Step(Heard<'a>),
 }
 
 fn head_of(word: &[u8]) -> Option<Head>
@@ -78,7 +80,12 @@ fn head_of(word: &[u8]) -> Option<Head>
 }
 
 #[tactic(auto, unfolding(crate::specs::Grammar::item_by))]
-fn item_of(script: &Script, threads_mode: bool, number: u32, line: &[u8]) -> Result<Item, Reason>
+fn item_of<'a>(
+    script: &Script,
+    threads_mode: bool,
+    number: u32,
+    line: &'a [u8],
+) -> Result<Item<'a>, Reason>
     ensures item { result ≡ item_of threads_mode script.now number (words_of line.now) }
     ensures place { IfOk result HasPlace }
 {
@@ -98,13 +105,13 @@ fn item_of(script: &Script, threads_mode: bool, number: u32, line: &[u8]) -> Res
             Ok(Item::LogFail { thread, append })
         }
         Head::Key => Ok(Item::Key(declared_of(script, &mut words)?)),
-        Head::Turn => Ok(Item::Step(Step::Turn {
+        Head::Turn => Ok(Item::Step(Heard::new(Shape::Turn {
             line: number,
             manager: turn_of(script, threads_mode, &mut words)?,
-        })),
+        }))),
         Head::Reopen => {
             reopen_of(threads_mode, &mut words)?;
-            Ok(Item::Step(Step::Reopen { line: number }))
+            Ok(Item::Step(Heard::new(Shape::Reopen { line: number })))
         }
         Head::Thread => Ok(Item::Step(step_of_thread(script, number, first, &mut words)?)),
     }
@@ -137,7 +144,12 @@ fn without_return(line: &[u8]) -> &[u8]
 }
 
 #[tactic(auto, unfolding(crate::specs::Grammar::line_of))]
-fn line_of(script: &Script, threads_mode: bool, number: u32, line: &[u8]) -> Result<Item, Reason>
+fn line_of<'a>(
+    script: &Script,
+    threads_mode: bool,
+    number: u32,
+    line: &'a [u8],
+) -> Result<Item<'a>, Reason>
     ensures item { result ≡ line_of threads_mode script.now number line.now }
     ensures few { OnOk result (number ≤ MOST_LINES) }
     ensures place { IfOk result HasPlace }
@@ -157,7 +169,7 @@ fn line_of(script: &Script, threads_mode: bool, number: u32, line: &[u8]) -> Res
 fn put(script: &mut Script, item: Item) -> Result<(), AllocError>
     requires script { IsScript script.old → IsScript (with_item item script.old) }
     requires place { HasPlace item }
-    ensures { OnOk result (script.new ≡ with_item item script.old) }
+    ensures { OnOk result (script.new ≡ with_item item.entry script.old) }
 {
     match item {
         Item::Nothing => Ok(()),
@@ -171,7 +183,7 @@ fn put(script: &mut Script, item: Item) -> Result<(), AllocError>
             Ok(())
         }
         Item::Key(declared) => script.add_key(declared),
-        Item::Step(step) => script.add_step(step),
+        Item::Step(heard) => script.add_step(&heard),
     }
 }
 

@@ -1,9 +1,13 @@
 //! What a script says.
-ghost use Rattle.std.specs.Prelude.{◌≡◌, ◌≤◌, ℕ, true, All, IfSome, OnOk};
+ghost use Rattle.std.specs.Prelude.{◌≡◌, ◌≤◌, ◌<◌, ◌^◌, ℕ, Some, true, All, IfSome, OnOk, length, nat_eq, slice_get, IfOk};
 ghost use Rattle.xa_base.specs.declared.limits.TheConstants.{MOST_HANDLES, MOST_MANAGERS, MOST_QUEUED, MOST_REQUESTS, MOST_THREADS};
 ghost use Rattle.xa_base.specs.Lists.{IsUpTo};
 ghost use Rattle.xa_grammar.specs.declared.setting.TheConstants.{MOST_APPENDS};
 
+use crate::heard::Heard;
+use crate::keys::Keys;
+use crate::steps::Steps;
+use crate::tasks::Tasks;
 use std::alloc::{AllocError, Global};
 use std::marker::Model;
 use xa_words::{Call, Key, RmOp, Tran, Xid};
@@ -135,12 +139,12 @@ pub enum Step {
 #[derive(Debug, Drop)]
 pub struct Script {
     settings: Settings,
-    keys: Vec<Declared>,
+    keys: Keys,
     // The managers that take no asynchronous calls.
     syncs: Vec<u32>,
     // Which append of a thread's log fails: place t - 1 for thread t.
     failing: [Option<u32>; 8],
-    steps: Vec<Step>,
+    steps: Steps,
 }
 
 impl Model for Script {
@@ -148,15 +152,15 @@ impl Model for Script {
 
     ghost Value = { Content };
 
-    ghost view = { λ s. record { settings = s.settings; keys = s.keys.items; syncs = s.syncs.items; failing = s.failing; steps = s.steps.items } };
+    ghost view = { λ s. record { settings = s.settings; keys = s.keys; syncs = s.syncs.items; failing = s.failing; steps = s.steps } };
 
-    ghost invariant = { λ s. IsScript (record { settings = s.settings; keys = s.keys.items; syncs = s.syncs.items; failing = s.failing; steps = s.steps.items }) };
+    ghost invariant = { λ s. IsScript (record { settings = s.settings; keys = s.keys; syncs = s.syncs.items; failing = s.failing; steps = s.steps }) };
 }
 
 impl Script {
     ghost use Rattle.xa_tables.specs.Accounts.{are_accounts};
     ghost use Rattle.std.specs.List.{list_any};
-    ghost use Rattle.xa_grammar.specs.Content.{is_reopen, accounts_of, IsOfManager, IsOfScript, IsScript, threads_of, managers_of, handles_of, queue_of, requests_of, carries_async, failing_append, nothing, with_count, with_key, with_sync, with_failing, with_step};
+    ghost use Rattle.xa_grammar.specs.Content.{is_reopen, tasks_of, accounts_of, IsOfManager, IsOfScript, IsScript, threads_of, managers_of, handles_of, queue_of, requests_of, carries_async, failing_append, nothing, with_count, with_key, with_sync, with_failing, with_step};
 
     pub(crate) fn new(alloc: Global) -> Script
         ensures { result ≡ nothing }
@@ -169,10 +173,10 @@ impl Script {
                 queue: None,
                 requests: None,
             },
-            keys: Vec::new(alloc),
+            keys: Keys::new(alloc),
             syncs: Vec::new(alloc),
             failing: [None; 8],
-            steps: Vec::new(alloc),
+            steps: Steps::new(alloc),
         }
     }
 
@@ -188,9 +192,7 @@ impl Script {
     pub fn reopens(&self) -> bool
         ensures { result ≡ list_any is_reopen self.now.steps }
     {
-        self.steps
-            .iter()
-            .any(|step| matches!(step, Step::Reopen { .. }))
+        self.steps.any_reopens()
     }
 
     /// How many managers there are, 1 to 8.
@@ -231,6 +233,12 @@ impl Script {
         ensures managers { All (IsOfManager self.now) result.now }
         ensures accounts { (m : ℕ) → are_accounts (accounts_of m result.now) ≡ true }
     {
+        self.keys.all()
+    }
+
+    pub(crate) fn declared(&self) -> &Keys
+        ensures { result.now ≡ self.now.keys }
+    {
         &self.keys
     }
 
@@ -253,12 +261,38 @@ impl Script {
         }
     }
 
-    /// The tasks of all threads, the turns of managers and the reopenings, in the order of the lines.
-    pub fn steps(&self) -> &[Step]
-        ensures steps { result.now ≡ self.now.steps }
-        ensures of { All (IsOfScript self.now) result.now }
+    /// How many steps there are.
+    pub fn len(&self) -> usize
+        ensures steps { result ≡ length self.now.steps }
+        ensures fits { result < 2 ^ 63 }
+        ensures of { All (IsOfScript self.now) self.now.steps }
     {
-        &self.steps
+        self.steps.len()
+    }
+
+    /// Whether there is no step.
+    pub fn is_empty(&self) -> bool
+        ensures { result ≡ nat_eq (length self.now.steps) 0 }
+    {
+        self.steps.len() == 0
+    }
+
+    /// The step at a place, from 0. The steps are the tasks of all threads, the turns of managers and the reopenings,
+    /// in the order of the lines.
+    pub fn step(&self, place: usize) -> Step
+        requires { place < length self.now.steps }
+        ensures step { slice_get self.now.steps place ≡ Some result }
+        ensures of { IsOfScript self.now result }
+    {
+        self.steps.get(place)
+    }
+
+    /// The tasks of a thread alone.
+    pub fn tasks_of(&self, alloc: Global, thread: u32) -> Result<Tasks, AllocError>
+        ensures { IfOk result (λ t. t ≡ tasks_of thread self.now.steps) }
+    {
+        let own = self.steps.of_thread(alloc, thread)?;
+        Ok(Tasks::new(own))
     }
 
     pub(crate) fn settings(&self) -> &Settings
@@ -284,8 +318,7 @@ impl Script {
         requires { IsScript self.old → IsScript (with_key declared self.old) }
         ensures { OnOk result (self.new ≡ with_key declared self.old) }
     {
-        self.keys.push(declared)?;
-        Ok(())
+        self.keys.add(declared)
     }
 
     pub(crate) fn add_sync(&mut self, manager: u32) -> Result<(), AllocError>
@@ -303,13 +336,10 @@ impl Script {
         self.failing[thread as usize - 1] = Some(append);
     }
 
-    pub(crate) fn add_step(&mut self, step: Step) -> Result<(), AllocError>
-        requires { IsScript self.old → IsScript (with_step step self.old) }
-        ensures { OnOk result (self.new ≡ with_step step self.old) }
+    pub(crate) fn add_step(&mut self, heard: &Heard) -> Result<(), AllocError>
+        requires { IsScript self.old → IsScript (with_step heard.now self.old) }
+        ensures { OnOk result (self.new ≡ with_step heard.now self.old) }
     {
-        // It names the types within a step: a `push` of a type that only contains them gets no proof.
-        let _named: Option<(Xid, RmOp, Action, Called, CommitAll, Resolve, Task)> = None;
-        self.steps.push(step)?;
-        Ok(())
+        self.steps.push(heard.shape())
     }
 }

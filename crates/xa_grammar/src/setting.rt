@@ -1,25 +1,25 @@
 //! What a line sets or declares.
 ghost use Rattle.std.specs.Prelude.{◌≡◌, ◌≤◌, IfOk};
-ghost use Rattle.xa_grammar.specs.Settings.{before_actions, count_of, not_set, limit_of, setting_of, sync_of, logfail_of, has_key, key_count, new_key, declared_of};
+ghost use Rattle.xa_grammar.specs.Settings.{before_actions, count_of, not_set, limit_of, setting_of, sync_of, logfail_of, new_key, declared_of};
 
 use crate::fault::Reason;
-use crate::script::{Count, Declared, Script, Settings, Step};
+use crate::keys::Keys;
+use crate::script::{Count, Declared, Script, Settings};
 use crate::words::Words;
 use xa_base::{
     MOST_HANDLES, MOST_KEYS, MOST_MANAGERS, MOST_QUEUED, MOST_REQUESTS, MOST_THREADS, MOST_VALUE,
 };
-use xa_words::Key;
 
 // How late the append of a log may fail.
 const MOST_APPENDS: u64 = 1_000_000;
 
-fn before_actions(steps: &[Step]) -> Result<(), Reason>
-    ensures { result ≡ before_actions steps.now }
+fn before_actions(script: &Script) -> Result<(), Reason>
+    ensures { result ≡ before_actions script.now.steps }
 {
-    match steps {
-        [] => Ok(()),
-        [..] => Err(Reason::SettingAfterAction),
+    if !script.is_empty() {
+        return Err(Reason::SettingAfterAction);
     }
+    Ok(())
 }
 
 fn count_of(count: Count, settings: &Settings) -> Option<u32>
@@ -60,7 +60,7 @@ fn limit_of(count: Count) -> u64
 pub(crate) fn setting_of(script: &Script, count: Count, words: &mut Words) -> Result<u32, Reason>
     ensures { result ≡ setting_of script.now count words.old }
 {
-    before_actions(script.steps())?;
+    before_actions(script)?;
     not_set(count_of(count, script.settings()))?;
     let number = words.number(1, limit_of(count))? as u32;
     words.end()?;
@@ -72,7 +72,7 @@ pub(crate) fn setting_of(script: &Script, count: Count, words: &mut Words) -> Re
 pub(crate) fn sync_of(script: &Script, words: &mut Words) -> Result<u32, Reason>
     ensures { result ≡ sync_of script.now words.old }
 {
-    before_actions(script.steps())?;
+    before_actions(script)?;
     let manager = words.number(1, u64::from(script.managers()))? as u32;
     words.end()?;
     Ok(manager)
@@ -84,33 +84,21 @@ pub(crate) fn logfail_of(script: &Script, words: &mut Words) -> Result<(u32, u32
     ensures value { result ≡ logfail_of script.now words.old }
     ensures place { IfOk result (λ x. (1 ≤ x.0) × (x.0 ≤ 8)) }
 {
-    before_actions(script.steps())?;
+    before_actions(script)?;
     let thread = words.number(1, u64::from(script.threads()))? as u32;
     let append = words.number(1, MOST_APPENDS)? as u32;
     words.end()?;
     Ok((thread, append))
 }
 
-fn has_key(manager: u32, key: &Key, keys: &[Declared]) -> bool
-    ensures { result ≡ has_key manager key.now keys.now }
-{
-    keys.iter().any(|d| d.manager == manager && d.key == *key)
-}
-
-fn key_count(manager: u32, keys: &[Declared]) -> usize
-    ensures { result ≡ key_count manager keys.now }
-{
-    keys.iter().filter(|d| d.manager == manager).count()
-}
-
 // The declaration, where its manager has no such key and room for one more.
-fn new_key(keys: &[Declared], declared: Declared) -> Result<Declared, Reason>
+fn new_key(keys: &Keys, declared: Declared) -> Result<Declared, Reason>
     ensures { result ≡ new_key keys.now declared }
 {
-    if has_key(declared.manager, &declared.key, keys) {
+    if keys.has(declared.manager, &declared.key) {
         return Err(Reason::KeyTwice);
     }
-    if key_count(declared.manager, keys) >= MOST_KEYS {
+    if keys.count(declared.manager) >= MOST_KEYS {
         return Err(Reason::TooManyKeys);
     }
     Ok(declared)
@@ -121,7 +109,7 @@ fn new_key(keys: &[Declared], declared: Declared) -> Result<Declared, Reason>
 pub(crate) fn declared_of(script: &Script, words: &mut Words) -> Result<Declared, Reason>
     ensures { result ≡ declared_of script.now words.old }
 {
-    before_actions(script.steps())?;
+    before_actions(script)?;
     let manager = words.number(1, u64::from(script.managers()))? as u32;
     let key = words.key()?;
     let value = words.number(0, MOST_VALUE)?;
@@ -131,5 +119,5 @@ pub(crate) fn declared_of(script: &Script, words: &mut Words) -> Result<Declared
         key,
         value,
     };
-    new_key(script.keys(), declared)
+    new_key(script.declared(), declared)
 }

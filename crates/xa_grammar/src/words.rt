@@ -1,13 +1,15 @@
 //! The words of a line, taken from left to right.
 ghost use Rattle.std.specs.Prelude.{◌≡◌, ◌<◌, ◌≤◌, ◌∷◌, [], length, take, drop, true, false, Ok, Err, IfOk, MatchOption, MatchResult};
+ghost use Rattle.xa_words.specs.Tran.{tran_of};
 ghost use Rattle.xa_grammar.specs.Text.{is_space, starts_blank, words_of, IsWord};
 ghost use Rattle.xa_grammar.specs.Fields.{Takes, word_at, end_of, number_at, key_at, xid_at, tran_at, delta_at, flags_onto};
 ghost use Rattle.xa_grammar.specs.Grammar.{are_comment};
 
 use crate::fault::Reason;
 use crate::field::{delta_in, flag_of, number_in, tran_named, xid_of};
+use crate::name::Name;
 use std::marker::Model;
-use xa_words::{Delta, Key, Tran, Xid};
+use xa_words::{Delta, Key};
 
 // What is left of a line. A clause sees its words.
 #[derive(Drop)]
@@ -86,15 +88,16 @@ impl<'a> Words<'a> {
     }
 
     #[tactic(auto, unfolding(crate::specs::Fields::xid_at))]
-    pub(crate) fn xid(&mut self) -> Result<Xid, Reason>
+    pub(crate) fn xid(&mut self) -> Result<Name<'a>, Reason>
         ensures { Takes result self.new (xid_at self.old) }
     {
         xid_of(self.word()?).ok_or(Reason::BadXid)
     }
 
     #[tactic(auto, unfolding(crate::specs::Fields::tran_at))]
-    pub(crate) fn tran(&mut self) -> Result<Tran, Reason>
-        ensures { Takes result self.new (tran_at self.old) }
+    // A branch of the transaction stands for it.
+    pub(crate) fn tran(&mut self) -> Result<Name<'a>, Reason>
+        ensures { MatchResult result (λ x. tran_at self.old ≡ Ok (tran_of x, self.new)) (λ why. tran_at self.old ≡ Err why) }
     {
         tran_named(self.word()?).ok_or(Reason::BadXid)
     }

@@ -59,18 +59,18 @@ one_worked s t m number new ran done =
     let x = m.client in
     let x' = m.attended.client in
     let y : Session = session_of ran.left x'.log x'.scan in
-    let last : Session × List Answer = (y, x'.answers.items) in
-    let runs : Chain HasDone (session_of m.desk x.log x.scan, x.answers.items) x.tasks.items last = ran.worked.runs done in
+    let last : Session × List Answer = (y, x'.told) in
+    let runs : Chain HasDone (session_of m.desk x.log x.scan, x.told) x.tasks last = ran.worked.runs done in
     let log : x.log ≡ log_of s m.desk.thread = new.log ∙ ap (log_of s) (sym number) in
-    let tasks : x.tasks.items ≡ tasks_of m.desk.thread s.steps = new.tasks ∙ ap (λ (n : ℕ). tasks_of n s.steps) (sym number) in (
+    let tasks : x.tasks ≡ tasks_of m.desk.thread s.steps = new.tasks ∙ ap (λ (n : ℕ). tasks_of n s.steps) (sym number) in (
       y,
       record {
         own = ran.worked.own ∙ new.own ∙ sym number;
         runs =
             subst (λ (z : ScanView). Chain HasDone (session_of m.desk (log_of s m.desk.thread) z, []) (tasks_of m.desk.thread s.steps) last) new.scan
             (subst (λ (l : LogView). Chain HasDone (session_of m.desk l x.scan, []) (tasks_of m.desk.thread s.steps) last) log
-            (subst (λ (l : List Answer). Chain HasDone (session_of m.desk x.log x.scan, l) (tasks_of m.desk.thread s.steps) last) new.answers
-            (subst (λ (l : List Task). Chain HasDone (session_of m.desk x.log x.scan, x.answers.items) l last) tasks runs)));
+            (subst (λ (l : List Answer). Chain HasDone (session_of m.desk x.log x.scan, l) (tasks_of m.desk.thread s.steps) last) new.told
+            (subst (λ (l : List Task). Chain HasDone (session_of m.desk x.log x.scan, x.told) l last) tasks runs)));
         ends = ran.ends;
       },
     )

@@ -208,14 +208,14 @@ module _ (s : Content) (b : Beginning) (steps : List Step) (sessions : List Sess
     told_elsewhere t k x differs at =
         let has = worked_at k x at in
         let own = number_at k x at in
-        ends_silent t x.attended.client.thread x.attended.client.answers.items x.attended.outstanding.items
-        ∙ told_none t x.desk.thread (λ e. differs (sym e ∙ own)) (new_session s x.desk, []) refl (tasks_of x.desk.thread steps) (has.0, x.attended.client.answers.items) has.2.runs (tasks_are_of x.desk.thread steps)
+        ends_silent t x.attended.client.thread x.attended.client.told x.attended.outstanding.items
+        ∙ told_none t x.desk.thread (λ e. differs (sym e ∙ own)) (new_session s x.desk, []) refl (tasks_of x.desk.thread steps) (has.0, x.attended.client.told) has.2.runs (tasks_are_of x.desk.thread steps)
 
     -- the lines of what was outstanding
     ends_by : (t : ℕ) (x : Member ScriptThread) (y : Session) → HasWorked s steps x y → ends_of t (told x) ≡ ends_of t (all_ended x.attended.client.thread x.attended.outstanding.items)
     ends_by t x y has =
-        filter-append (is_end_of t) x.attended.client.answers.items (all_ended x.attended.client.thread x.attended.outstanding.items)
-        ∙ ap (λ l. l ++ ends_of t (all_ended x.attended.client.thread x.attended.outstanding.items)) (tasks_no_end t (new_session s x.desk, []) refl (tasks_of x.desk.thread steps) (y, x.attended.client.answers.items) has.runs)
+        filter-append (is_end_of t) x.attended.client.told (all_ended x.attended.client.thread x.attended.outstanding.items)
+        ∙ ap (λ l. l ++ ends_of t (all_ended x.attended.client.thread x.attended.outstanding.items)) (tasks_no_end t (new_session s x.desk, []) refl (tasks_of x.desk.thread steps) (y, x.attended.client.told) has.runs)
 
     ends_elsewhere : (t k : ℕ) (x : Member ScriptThread) → t ≢ k + 1 → slice_get threads k ≡ Some x → ends_of t (told x) ≡ []
     ends_elsewhere t k x differs at =
@@ -240,10 +240,10 @@ module _ (s : Content) (b : Beginning) (steps : List Step) (sessions : List Sess
         let has : HasWorked s steps m y = runs.worked.each k m y found.1 at_y in
         let own = number_at k m found.1 in
         let t = m.desk.thread in
-        let all_told : answers_to t (flat_map told threads) ≡ m.attended.client.answers.items =
+        let all_told : answers_to t (flat_map told threads) ≡ m.attended.client.told =
         flat_one (is_to t) told threads k m found.1 (λ j v differs at_v. told_elsewhere t j v (λ same. differs (omega (arith, same, own))) at_v)
-        ∙ ends_silent t m.attended.client.thread m.attended.client.answers.items m.attended.outstanding.items
-        ∙ told_all t (new_session s m.desk, []) refl (tasks_of t steps) (y, m.attended.client.answers.items) has.runs (tasks_are_of t steps) in
+        ∙ ends_silent t m.attended.client.thread m.attended.client.told m.attended.outstanding.items
+        ∙ told_all t (new_session s m.desk, []) refl (tasks_of t steps) (y, m.attended.client.told) has.runs (tasks_are_of t steps) in
         let comes : Comes steps (flat_map told threads) (new_session s m.desk) y m.ended = record {
           runs = subst (λ (l : List Answer). Chain HasDone (new_session s m.desk, []) (tasks_of t steps) (y, l)) (sym all_told) has.runs;
           outstanding = m.attended.outstanding.items;

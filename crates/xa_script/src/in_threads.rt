@@ -1,10 +1,12 @@
 //! Running a script in threads: one for each of its threads, and one for each manager's worker.
-ghost use Rattle.std.specs.Prelude.{◌≡◌, ◌++◌, [], length, All, IfOk, OnOk, IsErrOf, false};
+ghost use Rattle.std.specs.Prelude.{◌≡◌, ◌++◌, List, [], length, All, IfOk, OnOk, IsErrOf, false};
 ghost use Rattle.std.specs.List.{flat_map, range_with_len};
 ghost use Rattle.xa_base.specs.Lists.{Pairwise};
 ghost use Rattle.xa_grammar.specs.Content.{threads_of, AreOfOne};
 ghost use Rattle.xa_transcript.specs.Openings.{Opening};
+ghost use Rattle.xa_session.specs.declared.answer.Answer.{Answer};
 ghost use Rattle.xa_session.specs.ScriptThreads.{IsNew};
+ghost use Rattle.xa_session.specs.Text.{answers_text};
 ghost use Rattle.xa_script.specs.declared.mode.Mode.TheVariants as mode;
 ghost use Rattle.xa_script.specs.InThreads.{told_by};
 ghost use Rattle.xa_script.specs.Outcome.{IsOutcome, Writes};
@@ -17,7 +19,7 @@ use std::sync::Wait;
 use std::thread::Threads;
 use xa_crew::{Attended, CrewFault, run_clients};
 use xa_grammar::Script;
-use xa_session::{Answer, ScriptThread, tell_ended};
+use xa_session::{LINE, ScriptThread, tell_ended};
 use xa_switch::Settled;
 use xa_transcript::RunFault;
 use xa_worker::Pace;
@@ -33,10 +35,10 @@ fn threads_of(alloc: Global, script: &Script) -> Result<Vec<ScriptThread>, Alloc
     Ok(threads)
 }
 
-// Tells what a thread tells after those before it. It fails where memory was refused to the thread.
-fn tell(attended: Attended<ScriptThread>, answers: &mut Vec<Answer>) -> Result<(), AllocError>
+// Adds the lines that a thread tells. It fails where memory was refused to the thread.
+fn tell(attended: Attended<ScriptThread>, lines: &mut Vec<u8>) -> Result<(), AllocError>
     ensures done { OnOk result (attended.client.wants_memory ≡ false) }
-    ensures told { OnOk result (answers.new.items ≡ answers.old.items ++ told_by attended) }
+    ensures told { OnOk result (lines.new.items ≡ lines.old.items ++ answers_text (told_by attended)) }
 {
     let Attended {
         mut client,
@@ -45,23 +47,20 @@ fn tell(attended: Attended<ScriptThread>, answers: &mut Vec<Answer>) -> Result<(
     if client.wants_memory {
         return Err(AllocError);
     }
-    answers.append(&mut client.answers)?;
-    tell_ended(client.thread, &outstanding, answers)
+    tell_ended(client.thread, &outstanding, &mut client.told)?;
+    lines.extend_from_slice(client.told.text())
 }
 
-// What the threads tell, one after the other.
-fn answers_of(
-    threads: Vec<Attended<ScriptThread>>,
-    mut answers: Vec<Answer>,
-) -> Result<Vec<Answer>, AllocError>
-    requires { answers.items ≡ [] }
+// The lines that the threads tell, one after the other.
+fn lines_of(threads: Vec<Attended<ScriptThread>>, mut lines: Vec<u8>) -> Result<Vec<u8>, AllocError>
+    requires { lines.items ≡ [] }
     ensures done { IfOk result (λ _. All (λ t. t.client.wants_memory ≡ false) threads.items) }
-    ensures answers { IfOk result (λ v. v.items ≡ flat_map told_by threads.items) }
+    ensures lines { IfOk result (λ v. v.items ≡ answers_text (flat_map told_by threads.items)) }
 {
     for attended in threads {
-        tell(attended, &mut answers)?;
+        tell(attended, &mut lines)?;
     }
-    Ok(answers)
+    Ok(lines)
 }
 
 // Runs a script in threads, which settles what its threads and managers have come to.
@@ -70,16 +69,16 @@ fn run<R: Threads + Wait + Copy + Send + 'static, P: Pace + Drop + Send + 'stati
     alloc: Global,
     script: &Script,
     paces: Vec<P>,
-) -> Result<(Vec<Answer>, Settled), AllocError>
+) -> Result<(Vec<u8>, Settled), AllocError>
     requires paces { length paces.items ≡ 8 }
     requires one { AreOfOne script.now.steps }
-    ensures { IfOk result (λ r. (last : Opening) × IsOutcome mode.Threads script.now r.0.items [] last × (last.settled ≡ r.1)) }
+    ensures { IfOk result (λ r. (answers : List Answer) × (last : Opening) × (r.0.items ≡ answers_text answers) × IsOutcome mode.Threads script.now answers [] last × (last.settled ≡ r.1)) }
 {
     let plan = plan_of(alloc, script)?;
     let threads = threads_of(alloc, script)?;
-    let answers = Vec::with_capacity(alloc, script.steps().len())?;
+    let lines = Vec::with_capacity(alloc, script.len().saturating_mul(LINE))?;
     match run_clients(rt, alloc, &plan, threads, paces) {
-        Ok(run) => Ok((answers_of(run.clients, answers)?, run.settled)),
+        Ok(run) => Ok((lines_of(run.clients, lines)?, run.settled)),
         Err(CrewFault::NoMemory) => Err(AllocError),
         // A script's counts are within the limits, and its managers can be opened with their keys.
         Err(CrewFault::BadPlan) => unreachable!(),
@@ -106,6 +105,6 @@ pub fn run_threads<
     ensures ok { OnOk result (Writes mode.Threads script.now (W.contents writer.old) (W.contents writer.new)) }
     ensures memory { IsErrOf result RunFault.NoMemory → W.contents writer.new ≡ W.contents writer.old }
 {
-    let (answers, settled) = run(rt, alloc, script, paces)?;
-    show(alloc, script, &answers, &settled, writer)
+    let (lines, settled) = run(rt, alloc, script, paces)?;
+    show(alloc, script, &lines, &settled, writer)
 }

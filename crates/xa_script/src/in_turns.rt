@@ -22,7 +22,7 @@ use xa_desk::EndedDesk;
 use xa_desk::laws::desks_go_on;
 use xa_driver::MemoryLog;
 use xa_grammar::{Script, Step, Task};
-use xa_session::{Answer, Session, carry_out, sessions_again, sessions_of, tell_ended};
+use xa_session::{Answer, Session, Told, carry_out, sessions_again, sessions_of, tell_ended};
 use xa_switch::laws::outstanding_operations_stay_kept;
 use xa_switch::{OpenFault, Settled, open_switch, reopen};
 use xa_transcript::RunFault;
@@ -88,15 +88,10 @@ impl Runner {
     }
 
     // The opening ends: what is outstanding is told, the workers run to the last end mark, and all is settled.
-    fn close<R: Wait>(
-        self,
-        rt: &R,
-        alloc: Global,
-        answers: &mut Vec<Answer>,
-    ) -> Result<Closed, AllocError>
-        requires { (s : Content) × (b : Beginning) × (steps : List Step) × (told : List Answer) × Goes s b steps told self.sessions.items self.turns.workers.items }
+    fn close<R: Wait>(self, rt: &R, alloc: Global, told: &mut Told) -> Result<Closed, AllocError>
+        requires { (s : Content) × (b : Beginning) × (steps : List Step) × (answers : List Answer) × Goes s b steps answers self.sessions.items self.turns.workers.items }
         ensures number { IfOk result (λ c. c.opening ≡ self.opening) }
-        ensures closed { IfOk result (λ c. (s : Content) (b : Beginning) (steps : List Step) (told : List Answer) → Goes s b steps told self.sessions.items self.turns.workers.items → (more : List Answer) × (answers.new.items ≡ answers.old.items ++ more) × IsClosed s b (record { steps = steps; answers = told ++ more; settled = c.settled }) c.logs.items) }
+        ensures closed { IfOk result (λ c. (s : Content) (b : Beginning) (steps : List Step) (answers : List Answer) → Goes s b steps answers self.sessions.items self.turns.workers.items → (more : List Answer) × (told.new ≡ told.old ++ more) × IsClosed s b (record { steps = steps; answers = answers ++ more; settled = c.settled }) c.logs.items) }
     {
         outstanding_operations_stay_kept();
         desks_go_on();
@@ -105,7 +100,7 @@ impl Runner {
             sessions,
             mut turns,
         } = self;
-        let (ended, logs) = end_desks(rt, alloc, sessions, &mut turns, answers)?;
+        let (ended, logs) = end_desks(rt, alloc, sessions, &mut turns, told)?;
         let done = run_workers(rt, alloc, turns.workers)?;
         let settled = settle_all(rt, alloc, ended, done)?;
         Ok(Closed {
@@ -153,10 +148,10 @@ fn end_desks<R: Wait>(
     alloc: Global,
     sessions: Vec<Session>,
     turns: &mut Turns,
-    answers: &mut Vec<Answer>,
+    told: &mut Told,
 ) -> Result<(Vec<EndedDesk>, Vec<MemoryLog>), AllocError>
     requires { All (λ s. AllKept s.desk) sessions.items }
-    ensures ended { IfOk result (λ r. HaveEnded (closing_of [] turns.old.workers.items answers.old.items) sessions.items (closing_of r.0.items turns.new.workers.items answers.new.items)) }
+    ensures ended { IfOk result (λ r. HaveEnded (closing_of [] turns.old.workers.items told.old) sessions.items (closing_of r.0.items turns.new.workers.items told.new)) }
     ensures logs { IfOk result (λ r. r.1.items ≡ map (λ x. x.log) sessions.items) }
 {
     let mut ended = Vec::with_capacity(alloc, sessions.len())?;
@@ -166,7 +161,7 @@ fn end_desks<R: Wait>(
         let mut outstanding = Vec::with_capacity(alloc, MOST_HANDLES)?;
         ended.push(end_desk(rt, session.desk, turns, &mut outstanding))?;
         logs.push(session.log)?;
-        tell_ended(thread, &outstanding, answers)?;
+        tell_ended(thread, &outstanding, told)?;
     }
     Ok((ended, logs))
 }
@@ -187,30 +182,25 @@ fn run_workers<R: Wait>(
 }
 
 // Runs a script in turns, and settles what the threads and the managers of each opening have come to: the last one's.
-fn run<R: Wait>(
-    rt: &R,
-    alloc: Global,
-    script: &Script,
-) -> Result<(Vec<Answer>, Settled), AllocError>
-    ensures { IfOk result (λ r. (before : List Former) × (last : Opening) × IsOutcome mode.Turns script.now r.0.items before last × (last.settled ≡ r.1)) }
+fn run<R: Wait>(rt: &R, alloc: Global, script: &Script) -> Result<(Told, Settled), AllocError>
+    ensures { IfOk result (λ r. (before : List Former) × (last : Opening) × IsOutcome mode.Turns script.now r.0 before last × (last.settled ≡ r.1)) }
 {
-    let steps = script.steps();
     let mut runner = Runner::open(rt, alloc, script)?;
     let ends = runner.sessions.len() * MOST_HANDLES;
-    let mut answers = Vec::with_capacity(alloc, steps.len() + ends)?;
-    for step in steps {
-        match step {
-            Step::Task(task) => answers.push(runner.call(rt, alloc, task)?)?,
-            Step::Turn { line, manager } => answers.push(runner.turn(rt, *line, *manager))?,
+    let mut told = Told::with_capacity(alloc, script.len().saturating_add(ends))?;
+    for place in 0..script.len() {
+        match script.step(place) {
+            Step::Task(task) => told.push(runner.call(rt, alloc, &task)?)?,
+            Step::Turn { line, manager } => told.push(runner.turn(rt, line, manager))?,
             Step::Reopen { line } => {
-                let closed = runner.close(rt, alloc, &mut answers)?;
-                answers.push(Answer::Reopened { line: *line })?;
+                let closed = runner.close(rt, alloc, &mut told)?;
+                told.push(Answer::Reopened { line })?;
                 runner = closed.reopen(rt, alloc, script)?;
             }
         }
     }
-    let closed = runner.close(rt, alloc, &mut answers)?;
-    Ok((answers, closed.settled))
+    let closed = runner.close(rt, alloc, &mut told)?;
+    Ok((told, closed.settled))
 }
 
 /// Runs a script in turns and writes its transcript: the answer to each step in the order of the lines, what was
@@ -227,6 +217,6 @@ pub fn run_turns<R: Wait, W: Write>(
     ensures ok { OnOk result (Writes mode.Turns script.now (W.contents writer.old) (W.contents writer.new)) }
     ensures memory { IsErrOf result RunFault.NoMemory → W.contents writer.new ≡ W.contents writer.old }
 {
-    let (answers, settled) = run(rt, alloc, script)?;
-    show(alloc, script, &answers, &settled, writer)
+    let (told, settled) = run(rt, alloc, script)?;
+    show(alloc, script, told.text(), &settled, writer)
 }

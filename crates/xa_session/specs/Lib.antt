@@ -4,3 +4,4 @@ pub mod Resolving
 pub mod Sessions
 pub mod ScriptThreads
 pub mod Ended
+pub mod Text

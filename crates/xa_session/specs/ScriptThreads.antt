@@ -13,13 +13,13 @@ pub record IsNew (s : Content) (t : ℕ) (x : ScriptThread) : Type 0 where
   pub own : x.thread ≡ t
   pub log : x.log ≡ log_of s t
   pub scan : x.scan ≡ no_scan
-  pub tasks : x.tasks.items ≡ tasks_of t s.steps
-  pub answers : x.answers.items ≡ []
+  pub tasks : x.tasks ≡ tasks_of t s.steps
+  pub told : x.told ≡ []
 
 -- The thread keeps its number, and unless memory was refused it did its tasks with the desk, one after the other, and
--- has their answers.
+-- has told their answers.
 pub record Works (x : ScriptThread) (d : DeskView) (x' : ScriptThread) (d' : DeskView) : Type 0 where
   pub own : x'.thread ≡ x.thread
   pub runs : x'.wants_memory ≡ false
-      → Chain HasDone (session_of d x.log x.scan, x.answers.items) x.tasks.items
-      (session_of d' x'.log x'.scan, x'.answers.items)
+      → Chain HasDone (session_of d x.log x.scan, x.told) x.tasks
+      (session_of d' x'.log x'.scan, x'.told)

@@ -3,6 +3,7 @@ ghost use Rattle.std.specs.Prelude.{◌≡◌, ◌++◌, OnOk};
 ghost use Rattle.xa_session.specs.Ended.{ended, all_ended};
 
 use crate::answer::Answer;
+use crate::told::Told;
 use std::alloc::AllocError;
 use xa_words::Code;
 
@@ -22,12 +23,12 @@ fn ended(thread: u32, handle: u32, code: Code) -> Answer
 pub fn tell_ended(
     thread: u32,
     outstanding: &[(u32, Code)],
-    answers: &mut Vec<Answer>,
+    told: &mut Told,
 ) -> Result<(), AllocError>
-    ensures { OnOk result (answers.new.items ≡ answers.old.items ++ all_ended thread outstanding.now) }
+    ensures { OnOk result (told.new ≡ told.old ++ all_ended thread outstanding.now) }
 {
     for &(handle, code) in outstanding {
-        answers.push(ended(thread, handle, code))?;
+        told.push(ended(thread, handle, code))?;
     }
     Ok(())
 }

@@ -13,8 +13,11 @@ mod ended;
 mod resolving;
 mod script_thread;
 mod session;
+mod text;
+mod told;
 
 pub use answer::Answer;
 pub use ended::tell_ended;
 pub use script_thread::ScriptThread;
 pub use session::{Session, carry_out, sessions_again, sessions_of};
+pub use told::{LINE, Told};

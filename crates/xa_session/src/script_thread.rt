@@ -1,24 +1,23 @@
 //! A thread of a script as a client of a crew.
-ghost use Rattle.std.specs.Prelude.{◌≡◌, ◌+◌, ◌≤◌, [], length, false, IfOk, OnOk, vec_capacity};
+ghost use Rattle.std.specs.Prelude.{◌≡◌, ◌+◌, ◌≤◌, ◌<◌, ◌++◌, ◌∷◌, [], Some, length, false, IfOk, OnOk, slice_get, vec_capacity};
 ghost use Rattle.xa_desk.specs.GoesOn.{GoesOn};
 ghost use Rattle.xa_desk.specs.Kept.{AllKept};
-ghost use Rattle.xa_grammar.specs.Content.{task_of, tasks_of};
 ghost use Rattle.xa_base.specs.Lists.{Chain};
 ghost use Rattle.xa_session.specs.Sessions.{log_of, session_of, HasDone};
 ghost use Rattle.xa_session.specs.ScriptThreads.{IsNew};
 
-use crate::answer::Answer;
 use crate::session::{carry_out, log_of};
+use crate::told::Told;
 use std::alloc::{AllocError, Global};
 use std::sync::Wait;
 use xa_crew::Client;
 use xa_desk::laws::desks_go_on;
 use xa_desk::{Desk, Spin};
 use xa_driver::MemoryLog;
-use xa_grammar::{Script, Step, Task};
+use xa_grammar::{Script, Tasks};
 use xa_switch::Scan;
 
-/// A thread of a script: its own tasks, its decision log, and the answers so far.
+/// A thread of a script: its own tasks, its decision log, and what it told so far.
 #[derive(Drop)]
 pub struct ScriptThread {
     /// Its number, from 1.
@@ -26,31 +25,11 @@ pub struct ScriptThread {
     alloc: Global,
     log: MemoryLog,
     scan: Scan,
-    tasks: Vec<Task>,
+    tasks: Tasks,
     /// What its tasks answered, in their order.
-    pub answers: Vec<Answer>,
+    pub told: Told,
     /// Whether memory was refused, after which no task was done.
     pub wants_memory: bool,
-}
-
-// The step where it is a task of the thread.
-fn task_of(thread: u32, step: &Step) -> Option<Task>
-    ensures { result ≡ task_of thread step.now }
-{
-    match *step {
-        Step::Task(task) if task.thread() == thread => Some(task),
-        _ => None,
-    }
-}
-
-// The tasks of the thread, in the order of their lines.
-fn tasks_of(alloc: Global, thread: u32, steps: &[Step]) -> Result<Vec<Task>, AllocError>
-    ensures { IfOk result (λ v. v.items ≡ tasks_of thread steps.now) }
-{
-    steps
-        .iter()
-        .filter_map(|step| task_of(thread, step))
-        .collect(alloc)
 }
 
 // Carries out the tasks, until memory is refused.
@@ -60,37 +39,37 @@ fn carry_out_all<R: Wait>(
     desk: &mut Desk,
     log: &mut MemoryLog,
     scan: &mut Scan,
-    tasks: &[Task],
-    answers: &mut Vec<Answer>,
+    tasks: &Tasks,
+    told: &mut Told,
 ) -> Result<(), AllocError>
-    ensures runs { OnOk result (Chain HasDone (session_of desk.old log.old scan.old, answers.old.items) tasks.now (session_of desk.new log.new scan.new, answers.new.items)) }
+    ensures runs { OnOk result (Chain HasDone (session_of desk.old log.old scan.old, told.old) tasks.now (session_of desk.new log.new scan.new, told.new)) }
     ensures goes_on { GoesOn desk.old desk.new }
     ensures kept { AllKept desk.old → AllKept desk.new }
 {
     desks_go_on();
     let mut idle = Spin::new();
-    for task in tasks {
-        let answer = carry_out(rt, alloc, desk, log, scan, task, &mut idle)?;
-        answers.push(answer)?;
-        idle.reset();
+    for place in 0..tasks.len() {
+        let task = tasks.get(place);
+        let answer = carry_out(rt, alloc, desk, log, scan, &task, &mut idle)?;
+        told.push(answer)?;
     }
     Ok(())
 }
 
 impl ScriptThread {
-    /// The thread of this number before it does anything, with room for its answers.
+    /// The thread of this number before it does anything, with room for what it tells.
     pub fn new(alloc: Global, script: &Script, thread: u32) -> Result<ScriptThread, AllocError>
         ensures { IfOk result (IsNew script.now thread) }
     {
-        let tasks = tasks_of(alloc, thread, script.steps())?;
-        let answers = Vec::with_capacity(alloc, tasks.len())?;
+        let tasks = script.tasks_of(alloc, thread)?;
+        let told = Told::with_capacity(alloc, tasks.len())?;
         Ok(ScriptThread {
             thread,
             alloc,
             log: log_of(alloc, script, thread),
             scan: Scan::none(),
             tasks,
-            answers,
+            told,
             wants_memory: false,
         })
     }
@@ -109,7 +88,7 @@ impl Client for ScriptThread {
             &mut self.log,
             &mut self.scan,
             &self.tasks,
-            &mut self.answers,
+            &mut self.told,
         );
         self.wants_memory = done.is_err();
     }

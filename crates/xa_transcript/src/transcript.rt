@@ -1,17 +1,13 @@
 //! The transcript of a run.
 ghost use Rattle.std.specs.Prelude.{◌≡◌, ◌++◌, OnOk, IfOk, IsErrOf};
 ghost use Rattle.std.specs.Io.KnownBytes.{Appends};
-ghost use Rattle.xa_transcript.specs.Transcript.{turn_text, handle_text, call_text, decision_text, record_text, ending_text, endings_text, done_text, xid_text, listed_text, resolution_text, outcome_text, outcomes_text, answer_text, value_text, text};
+ghost use Rattle.xa_transcript.specs.Transcript.{value_text, values_text};
 
 use itoa::{Buffer, Integer};
 use std::alloc::{AllocError, Global};
 use std::io::Write;
 use thiserror::Error;
-use xa_driver::{Done, Ending, Outcome};
 use xa_grammar::Declared;
-use xa_session::Answer;
-use xa_words::Xid;
-use xa_worker::Step;
 
 /// Why a run shows nothing, or not all.
 #[derive(Clone, Copy, Debug, PartialEq, Eq, Error)]
@@ -38,218 +34,6 @@ fn put_number<I: Integer>(out: &mut Vec<u8>, number: I) -> Result<(), AllocError
     out.extend_from_slice(Buffer::new().format(number).as_bytes())
 }
 
-// What stands for a turn: did, late, end, empty or blocked.
-fn turn_text(step: Step) -> &'static [u8]
-    ensures { result.now ≡ turn_text step }
-{
-    match step {
-        Step::Did => b"did",
-        Step::Late => b"late",
-        Step::EndSeen => b"end",
-        Step::Empty => b"empty",
-        Step::Blocked => b"blocked",
-    }
-}
-
-// ` handle H retval R`
-fn put_handle<I: Integer>(out: &mut Vec<u8>, handle: I, retval: i32) -> Result<(), AllocError>
-    ensures { OnOk result (out.new.items ≡ out.old.items ++ handle_text (I.text handle) retval) }
-{
-    out.extend_from_slice(b" handle ")?;
-    put_number(out, handle)?;
-    out.extend_from_slice(b" retval ")?;
-    put_number(out, retval)?;
-    out.extend_from_slice(b"\n")
-}
-
-// `L T`
-fn put_call(out: &mut Vec<u8>, line: u32, thread: u32) -> Result<(), AllocError>
-    ensures { OnOk result (out.new.items ≡ out.old.items ++ call_text line thread) }
-{
-    put_number(out, line)?;
-    out.extend_from_slice(b" ")?;
-    put_number(out, thread)
-}
-
-// What stands for a decision: commit or abort.
-fn decision_text(commit: bool) -> &'static [u8]
-    ensures { result.now ≡ decision_text commit }
-{
-    if commit { b"commit" } else { b"abort" }
-}
-
-// What stands for a record: logged or unlogged.
-fn record_text(logged: bool) -> &'static [u8]
-    ensures { result.now ≡ record_text logged }
-{
-    if logged { b"logged" } else { b"unlogged" }
-}
-
-// What stands for an ending: committed, readonly, rolledback, indoubt, `heur:C` or `left:C`.
-fn put_ending(out: &mut Vec<u8>, ending: Ending) -> Result<(), AllocError>
-    ensures { OnOk result (out.new.items ≡ out.old.items ++ ending_text ending) }
-{
-    match ending {
-        Ending::Committed => out.extend_from_slice(b"committed"),
-        Ending::ReadOnly => out.extend_from_slice(b"readonly"),
-        Ending::RolledBack => out.extend_from_slice(b"rolledback"),
-        Ending::InDoubt => out.extend_from_slice(b"indoubt"),
-        Ending::Heuristic(code) => {
-            out.extend_from_slice(b"heur:")?;
-            put_number(out, code.value())
-        }
-        Ending::Left(code) => {
-            out.extend_from_slice(b"left:")?;
-            put_number(out, code.value())
-        }
-    }
-}
-
-// A word for each branch, after a space.
-fn put_endings(out: &mut Vec<u8>, endings: &[Ending]) -> Result<(), AllocError>
-    ensures { OnOk result (out.new.items ≡ out.old.items ++ endings_text endings.now) }
-{
-    for ending in endings {
-        out.extend_from_slice(b" ")?;
-        put_ending(out, *ending)?;
-    }
-    Ok(())
-}
-
-// The decision, whether it was logged, and what became of each branch.
-fn put_done(out: &mut Vec<u8>, done: &Done) -> Result<(), AllocError>
-    ensures { OnOk result (out.new.items ≡ out.old.items ++ done_text done.now) }
-{
-    out.extend_from_slice(decision_text(done.commit))?;
-    out.extend_from_slice(b" ")?;
-    out.extend_from_slice(record_text(done.logged))?;
-    put_endings(out, &done.endings)
-}
-
-// `G.B`
-fn put_xid(out: &mut Vec<u8>, xid: &Xid) -> Result<(), AllocError>
-    ensures { OnOk result (out.new.items ≡ out.old.items ++ xid_text xid.now) }
-{
-    out.extend_from_slice(xid.gtrid())?;
-    out.extend_from_slice(b".")?;
-    out.extend_from_slice(xid.bqual())
-}
-
-// How many, and each after a space.
-fn put_listed(out: &mut Vec<u8>, xids: &[Xid]) -> Result<(), AllocError>
-    ensures { OnOk result (out.new.items ≡ out.old.items ++ listed_text xids.now) }
-{
-    put_number(out, xids.len() as u64)?;
-    for xid in xids {
-        out.extend_from_slice(b" ")?;
-        put_xid(out, xid)?;
-    }
-    Ok(())
-}
-
-// What stands for what was asked for a branch: commit or rollback.
-fn resolution_text(commit: bool) -> &'static [u8]
-    ensures { result.now ≡ resolution_text commit }
-{
-    if commit { b"commit" } else { b"rollback" }
-}
-
-// `M:G.B:commit:C` or `M:G.B:rollback:C`
-fn put_outcome(out: &mut Vec<u8>, outcome: &Outcome) -> Result<(), AllocError>
-    ensures { OnOk result (out.new.items ≡ out.old.items ++ outcome_text outcome.now) }
-{
-    put_number(out, outcome.m)?;
-    out.extend_from_slice(b":")?;
-    put_xid(out, &outcome.xid)?;
-    out.extend_from_slice(b":")?;
-    out.extend_from_slice(resolution_text(outcome.commit))?;
-    out.extend_from_slice(b":")?;
-    put_number(out, outcome.code.value())
-}
-
-// A word for each branch, after a space.
-fn put_outcomes(out: &mut Vec<u8>, outcomes: &[Outcome]) -> Result<(), AllocError>
-    ensures { OnOk result (out.new.items ≡ out.old.items ++ outcomes_text outcomes.now) }
-{
-    for outcome in outcomes {
-        out.extend_from_slice(b" ")?;
-        put_outcome(out, outcome)?;
-    }
-    Ok(())
-}
-
-fn put_answer(out: &mut Vec<u8>, answer: &Answer) -> Result<(), AllocError>
-    ensures { OnOk result (out.new.items ≡ out.old.items ++ answer_text answer.now) }
-{
-    match answer {
-        Answer::Called {
-            line,
-            thread,
-            answer,
-        } => {
-            put_call(out, *line, *thread)?;
-            out.extend_from_slice(b" ")?;
-            put_number(out, *answer)?;
-            out.extend_from_slice(b"\n")
-        }
-        Answer::Completed {
-            line,
-            thread,
-            handle,
-            retval,
-        } => {
-            put_call(out, *line, *thread)?;
-            out.extend_from_slice(b" 0")?;
-            put_handle(out, *handle, *retval)
-        }
-        Answer::Recovered { line, thread, xids } => {
-            put_call(out, *line, *thread)?;
-            out.extend_from_slice(b" ")?;
-            put_listed(out, xids)?;
-            out.extend_from_slice(b"\n")
-        }
-        Answer::Refused { line, thread } => {
-            put_call(out, *line, *thread)?;
-            out.extend_from_slice(b" refused\n")
-        }
-        Answer::Decided { line, thread, done } => {
-            put_call(out, *line, *thread)?;
-            out.extend_from_slice(b" ")?;
-            put_done(out, done)?;
-            out.extend_from_slice(b"\n")
-        }
-        Answer::Resolved {
-            line,
-            thread,
-            outcomes,
-        } => {
-            put_call(out, *line, *thread)?;
-            out.extend_from_slice(b" resolved")?;
-            put_outcomes(out, outcomes)?;
-            out.extend_from_slice(b"\n")
-        }
-        Answer::Turned { line, step } => {
-            put_number(out, *line)?;
-            out.extend_from_slice(b" turn ")?;
-            out.extend_from_slice(turn_text(*step))?;
-            out.extend_from_slice(b"\n")
-        }
-        Answer::Ended {
-            thread,
-            handle,
-            retval,
-        } => {
-            out.extend_from_slice(b"end ")?;
-            put_number(out, *thread)?;
-            put_handle(out, *handle, *retval)
-        }
-        Answer::Reopened { line } => {
-            put_number(out, *line)?;
-            out.extend_from_slice(b" reopened\n")
-        }
-    }
-}
-
 fn put_value(out: &mut Vec<u8>, value: &Declared) -> Result<(), AllocError>
     ensures { OnOk result (out.new.items ≡ out.old.items ++ value_text value.now) }
 {
@@ -262,33 +46,31 @@ fn put_value(out: &mut Vec<u8>, value: &Declared) -> Result<(), AllocError>
     out.extend_from_slice(b"\n")
 }
 
-// The bytes of the transcript: the answers in their order, a line each, then the values.
-fn text(alloc: Global, answers: &[Answer], values: &[Declared]) -> Result<Vec<u8>, AllocError>
-    ensures { IfOk result (λ v. v.items ≡ text answers.now values.now) }
+// The lines of the values.
+fn values_text(alloc: Global, values: &[Declared]) -> Result<Vec<u8>, AllocError>
+    ensures { IfOk result (λ v. v.items ≡ values_text values.now) }
 {
-    let mut out = Vec::new(alloc);
-    for answer in answers {
-        put_answer(&mut out, answer)?;
-    }
+    let mut text = Vec::new(alloc);
     for value in values {
-        put_value(&mut out, value)?;
+        put_value(&mut text, value)?;
     }
-    Ok(out)
+    Ok(text)
 }
 
-/// Writes the whole transcript at once, so that nothing is written where memory runs out.
-/// After `Write` the writer may have taken a part.
+/// Writes the transcript: the lines of the answers, and then those of the values. Where memory runs out nothing is
+/// written; after `Write` the writer may have taken a part.
 pub fn write_transcript<W: Write>(
     alloc: Global,
-    answers: &[Answer],
+    lines: &[u8],
     values: &[Declared],
     writer: &mut W,
 ) -> Result<(), RunFault>
     ensures ok { OnOk result
-        (Appends (W.contents writer.old) (W.contents writer.new) (text answers.now values.now)) }
+        (Appends (W.contents writer.old) (W.contents writer.new) (lines.now ++ values_text values.now)) }
     ensures memory { IsErrOf result RunFault.NoMemory
         → W.contents writer.new ≡ W.contents writer.old }
 {
-    let bytes = text(alloc, answers, values)?;
-    writer.write_all(&bytes).map_err(|_| RunFault::Write)
+    let last = values_text(alloc, values)?;
+    writer.write_all(lines).map_err(|_| RunFault::Write)?;
+    writer.write_all(&last).map_err(|_| RunFault::Write)
 }

@@ -2,7 +2,7 @@ use std::io;
 use std::io::Write;
 use std::test::Fail;
 use xa_grammar::Declared;
-use xa_session::Answer;
+use xa_session::{Answer, Told};
 use xa_transcript::{RunFault, write_transcript};
 use xa_words::Key;
 
@@ -62,7 +62,11 @@ fn a_transcript_has_the_answers_and_then_the_values(rt: HostRuntime) -> Result<(
         value: 70,
     }];
     let mut out = Vec::new(rt.alloc());
-    write_transcript(rt.alloc(), &answers, &values, &mut out)?;
+    let mut told = Told::with_capacity(rt.alloc(), answers.len())?;
+    for answer in answers {
+        told.push(answer)?;
+    }
+    write_transcript(rt.alloc(), told.text(), &values, &mut out)?;
     assert_eq!(rt;
         out.as_slice(),
         b"2 1 0\n3 2 0 handle 4 retval -3\n5 turn empty\n100000 8 -6\n\
@@ -71,7 +75,7 @@ fn a_transcript_has_the_answers_and_then_the_values(rt: HostRuntime) -> Result<(
     );
     for writes in 0..5 {
         let mut writer = Refusing { writes };
-        let written = write_transcript(rt.alloc(), &answers, &values, &mut writer);
+        let written = write_transcript(rt.alloc(), told.text(), &values, &mut writer);
         assert_eq!(rt; written, Err(RunFault::Write), "after {writes} writes");
     }
     Ok(())

@@ -12,10 +12,10 @@ use crate::outbox::{Outbox, end_all};
 use crate::pace::Pace;
 use crate::parts::WorkerParts;
 use crate::step::Step;
-use crossbeam_utils::Backoff;
 use http_server::Log;
 use std::marker::Model;
 use std::sync::Wait;
+use std::thread;
 use xa_base::MOST_THREADS;
 use xa_lane::{Ended, Receiver, Sender, Taken};
 use xa_tables::Manager;
@@ -169,7 +169,7 @@ impl Worker {
 
     /// Steps until each thread's end mark was taken and nothing is held, and then ends its own senders.
     ///
-    /// It backs off while there is nothing to be done. With a request that can't be carried out it never
+    /// It yields its processor while there is nothing to be done. With a request that can't be carried out it never
     /// returns.
     pub fn run<R: Wait, P: Pace>(self, rt: &R, pace: &mut P) -> DoneWorker
         ensures same { SameServed self result }
@@ -177,14 +177,13 @@ impl Worker {
         ensures seat { seat_of_done result ≡ seat_of_worker self }
     {
         let mut worker = self;
-        let backoff = Backoff::new();
         for _ in rt.forever() {
             if worker.is_finished() {
                 break;
             }
             match worker.step(rt, pace) {
-                Step::Empty | Step::Blocked => backoff.snooze(),
-                Step::Did | Step::Late | Step::EndSeen => backoff.reset(),
+                Step::Empty | Step::Blocked => thread::yield_now(),
+                Step::Did | Step::Late | Step::EndSeen => {}
             }
         }
         worker.end(rt)

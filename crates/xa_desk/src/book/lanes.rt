@@ -51,7 +51,7 @@ impl Book {
             }
             Taken::EndOf(_) => true,
             Taken::Empty => {
-                self.drained_then = self.drained.len();
+                self.drained_then = self.drained_now;
                 false
             }
         }

@@ -1,4 +1,5 @@
 //! Commits of several branches, and logs that fail.
+use super::has_steps;
 use std::test::Fail;
 use xa_grammar::{Action, Called, CommitAll, Step, Task, read_script};
 use xa_words::{Call, TMASYNC, Xid};
@@ -37,7 +38,7 @@ fn tasks_are_read_in_the_order_of_the_lines(rt: HostRuntime) -> Result<(), Fail>
         Step::Task(commit(6, 3, b"0z", [n, y, n, n, n, n, n, n])?),
         Step::Task(commit(7, 1, b"t", [y, y, y, y, y, y, y, y])?),
     ];
-    assert_eq!(rt; script.steps(), want.as_slice());
+    assert!(rt; has_steps(&script, &want));
     Ok(())
 }
 

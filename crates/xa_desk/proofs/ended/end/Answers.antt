@@ -1,3 +1,4 @@
+use Rattle.xa_desk.specs.Slots.{logged}
 use Rattle.xa_desk.proofs.Ties.{tied_ended}
 use Rattle.xa_desk.proofs.ended.end.Goals as goal
 
@@ -9,7 +10,7 @@ invariant_of-result g c =
     let settled = rw (← c.book.view_is) at c.requires.settled in
     record {
       known = record {
-        tied = tied_ended b.thread b.ledgers.items b.drained.items c.end_all-requests.result.items b.requests.items b.completions c.end_all-requests.ensures.ended tied;
+        tied = tied_ended b.thread b.ledgers.items (logged b.drained.items) c.end_all-requests.result.items b.requests.items b.completions c.end_all-requests.ensures.ended tied;
         settled = settled;
       };
       thread = i.limits.thread;

@@ -1,5 +1,6 @@
 use Rattle.std.proofs.Common.{◌≡◌, replicate}
+use Rattle.xa_desk.specs.Slots.{no_keys}
 use Rattle.xa_desk.proofs.keys.reserve_keys.Given as goal
 
 abbrev pub invariant-loop-manager : goal.invariant-loop-manager
-invariant-loop-manager l = l.rows.items ≡ replicate l._manager (replicate l.plan 0)
+invariant-loop-manager l = l.rows.items ≡ replicate l._manager (no_keys l.plan)

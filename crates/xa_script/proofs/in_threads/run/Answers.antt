@@ -1,5 +1,6 @@
 use Rattle.std.proofs.Common.{◌≡◌, ℕ, ◌+◌, List, [], map, Some, refl, sym, ◌∙◌, subst, arith}
 use Rattle.std.specs.Prelude.{All, slice_get}
+use Rattle.std.specs.List.{flat_map}
 use Rattle.std.proofs.lemmas.List.Elements.{All-nil}
 use Rattle.xa_base.specs.Lists.Chain.{none}
 use Rattle.xa_base.proofs.Lists.{was_mapped}
@@ -18,7 +19,7 @@ use Rattle.xa_transcript.specs.Planning.{AreOpened}
 use Rattle.xa_transcript.specs.Runs.{BeginsAs}
 use Rattle.xa_transcript.specs.Values.{opened}
 use Rattle.xa_transcript.proofs.Opened.{map_map, planned_setup}
-use Rattle.xa_script.specs.InThreads.{InThreads}
+use Rattle.xa_script.specs.InThreads.{InThreads, told_by}
 use Rattle.xa_script.proofs.Runs.{threads_ran}
 use Rattle.xa_script.proofs.Members.{members_worked, members_tell, as_many_new}
 use Rattle.xa_script.proofs.in_threads.run.Goals as goal
@@ -38,7 +39,7 @@ begin_so s ms k x at =
 pub returns-in-Ok : goal.returns-in-Ok
 returns-in-Ok g c =
     let s : Content = c.args.script.now in
-    let answers : List Answer = c.in_ok-answers_of-in-Ok.field-0.items in
+    let answers : List Answer = flat_map told_by c.in-Ok.run'.clients.items in
     let settled = c.in-Ok.run'.settled in
     let r : IsRun Works c.in_ok-plan.plan c.in_ok-threads.threads.items c.in-Ok.run'.clients.items settled = c.in-Ok.ensures.ran in
     let desks : List DeskView = map (λ (t : Member ScriptThread). t.desk) r.members in
@@ -47,17 +48,19 @@ returns-in-Ok g c =
     let are_opened : AreOpened s 1 (opened s) desks r.workers = record { setup = planned c.in_ok-plan.plan; said = planned_setup s c.in_ok-plan.plan c.in_ok-plan.ensures.plan r.sound; opened = r.opened } in
     let all_opened : AreOpened s 1 (opened s) (map (λ (x : Session). x.desk) sessions) r.workers =
     subst (λ ds. AreOpened s 1 (opened s) ds r.workers) (sym (map_map (λ (x : Session). x.desk) (λ (t : Member ScriptThread). new_session s t.desk) r.members)) are_opened in
-    let fits : All (Fits (threads_of s) (managers_of s)) s.steps = subst (All (Fits (threads_of s) (managers_of s))) c.steps.ensures.steps c.steps.ensures.of in
-    let worked = members_worked s r.members r.workers are_opened c.in_ok-threads.threads.items c.in_ok-threads.ensures r.clients_are r.ran c.in-Ok.run'.clients.items r.attended_are c.in_ok-answers_of-in-Ok.ensures.done in
+    let fits : All (Fits (threads_of s) (managers_of s)) s.steps = c.len.ensures.of in
+    let worked = members_worked s r.members r.workers are_opened c.in_ok-threads.threads.items c.in_ok-threads.ensures r.clients_are r.ran c.in-Ok.run'.clients.items r.attended_are c.in_ok-lines_of-in-Ok.ensures.done in
     let runs : InThreads s s.steps sessions worked.0 r.workers ended r.done answers = record {
       threads = r.members;
       sessions_are = refl;
       worked = worked.1;
       ended_are = refl;
       served = r.served;
-      answered = c.in_ok-answers_of-in-Ok.ensures.answers ∙ members_tell r.members c.in-Ok.run'.clients.items r.attended_are;
+      answered = members_tell r.members c.in-Ok.run'.clients.items r.attended_are;
     } in (
+      answers,
       record { steps = s.steps; answers = answers; settled = settled },
+      c.in_ok-lines_of-in-Ok.ensures.lines,
       record {
         steps = refl;
         answers_ = refl;

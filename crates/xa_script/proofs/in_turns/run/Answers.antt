@@ -1,7 +1,7 @@
 use Rattle.std.proofs.Common.{◌≡◌, ℕ, ◌+◌, List, [], ◌∷◌, ◌++◌, take, refl, sym, ap, ◌∙◌, subst, arith}
 use Rattle.std.proofs.lemmas.List.{take_all}
 use Rattle.xa_base.specs.Lists.{IsUpTo}
-use Rattle.xa_base.proofs.Lists.{one_more}
+use Rattle.xa_grammar.proofs.Taken.{take_next}
 use Rattle.xa_worker.specs.Workers.{WorkerView}
 use Rattle.xa_grammar.specs.declared.script.Step.{Step}
 use Rattle.xa_grammar.specs.declared.script.Step.TheVariants as step
@@ -27,64 +27,64 @@ reached_as s lines lines' r opening sessions workers answers answers' same_lines
     (subst (λ (l : List WorkerView). HasReached s lines opening sessions l answers') (sym same_workers)
     (subst (λ (l : List Answer). HasReached s lines opening sessions workers l) (sym same_answers) is))))
 
-pub loop-step-init : goal.loop-step-init
-loop-step-init g c =
+pub loop-place-init : goal.loop-place-init
+loop-place-init g c =
     let s : Content = c.args.script.now in
     let r = c.in_ok-runner.runner in
     let number = c.in_ok-runner.ensures.number in
     record {
-      reached = subst (λ (l : List Answer). HasReached s [] r.opening r.sessions.items r.turns.workers.items l) (sym c.in_ok-answers.ensures.items) (begun s r.opening r.sessions.items r.turns.workers.items number c.in_ok-runner.ensures.opened);
+      reached = subst (λ (l : List Answer). HasReached s [] r.opening r.sessions.items r.turns.workers.items l) (sym c.in_ok-told.ensures) (begun s r.opening r.sessions.items r.turns.workers.items number c.in_ok-runner.ensures.opened);
       few = omega (arith, number);
     }
 
 pub call-requires : goal.call-requires
 call-requires g c =
     let s : Content = c.args.script.now in
-    let r = c.loop-step.runner in
-    let lines = take c.loop-step.step-index c.steps-steps.result.now in
-    let p : Step = c.step-item.result in
-    let fits : Fits (threads_of s) (managers_of s) p = subst (Fits (threads_of s) (managers_of s)) (sym c.step-item.is) (c.steps-steps.ensures.of c.loop-step.step-index p c.loop-step-test.true) in
+    let r = c.loop-place.runner in
+    let lines = take c.loop-place.place s.steps in
+    let p : Step = c.step.result in
+    let fits : Fits (threads_of s) (managers_of s) p = c.step.ensures.of in
     let own : Fits (threads_of s) (managers_of s) (step.Task c.in-Task.task) = subst (Fits (threads_of s) (managers_of s)) c.in-Task.is fits in
-    subst (λ n. IsUpTo n (thread_of c.in-Task.task)) (sym (reached_threads s lines r.opening r.sessions.items r.turns.workers.items c.loop-step.answers.items c.loop-step.invariant.reached)) own.0
+    subst (λ n. IsUpTo n (thread_of c.in-Task.task)) (sym (reached_threads s lines r.opening r.sessions.items r.turns.workers.items c.loop-place.told c.loop-place.invariant.reached)) own.0
 
 pub turn-requires : goal.turn-requires
 turn-requires g c =
     let s : Content = c.args.script.now in
-    let r = c.loop-step.runner in
-    let lines = take c.loop-step.step-index c.steps-steps.result.now in
-    let p : Step = c.step-item.result in
-    let fits : Fits (threads_of s) (managers_of s) p = subst (Fits (threads_of s) (managers_of s)) (sym c.step-item.is) (c.steps-steps.ensures.of c.loop-step.step-index p c.loop-step-test.true) in
+    let r = c.loop-place.runner in
+    let lines = take c.loop-place.place s.steps in
+    let p : Step = c.step.result in
+    let fits : Fits (threads_of s) (managers_of s) p = c.step.ensures.of in
     let own : Fits (threads_of s) (managers_of s) (step.Turn c.in-Turn.line c.in-Turn.manager) = subst (Fits (threads_of s) (managers_of s)) c.in-Turn.is fits in
-    subst (λ n. IsUpTo n c.in-Turn.manager) (sym (reached_managers s lines r.opening r.sessions.items r.turns.workers.items c.loop-step.answers.items c.loop-step.invariant.reached)) own
+    subst (λ n. IsUpTo n c.in-Turn.manager) (sym (reached_managers s lines r.opening r.sessions.items r.turns.workers.items c.loop-place.told c.loop-place.invariant.reached)) own
 
 pub reopen-requires-clause-closed : goal.reopen-requires-clause-closed
 reopen-requires-clause-closed g c =
     let s : Content = c.args.script.now in
-    let h = c.loop-step.invariant.reached in
+    let h = c.loop-place.invariant.reached in
     let x = c.in_ok-closed-in-Reopen.ensures.closed s h.begins h.own h.told h.goes in
     (h.begins, record { steps = h.own; answers = h.told ++ x.0; settled = c.in_ok-closed-in-Reopen.closed.settled }, x.2, refl, c.in_ok-closed-in-Reopen.ensures.number ∙ h.number)
 
 pub reopen-requires-clause-few : goal.reopen-requires-clause-few
 reopen-requires-clause-few g c =
     let number = c.in_ok-closed-in-Reopen.ensures.number in
-    let few = c.loop-step.invariant.few in
-    let within = c.loop-step-test.true in
-    let short = c.steps-steps.type_inv.1 in
+    let few = c.loop-place.invariant.few in
+    let within = c.loop-place-test.true in
+    let short = c.len-place-end.ensures.fits in
     omega (arith, number, few, within, short)
 
-pub loop-step-preserved : goal.loop-step-preserved
-loop-step-preserved g c =
+pub loop-place-preserved : goal.loop-place-preserved
+loop-place-preserved g c =
     let s : Content = c.args.script.now in
-    let steps = c.steps-steps.result.now in
-    let k = c.loop-step.step-index in
-    let r = c.loop-step.runner in
-    let answers = c.loop-step.answers.items in
+    let steps = s.steps in
+    let k = c.loop-place.place in
+    let r = c.loop-place.runner in
+    let answers = c.loop-place.told in
     let lines = take k steps in
-    let h = c.loop-step.invariant.reached in
-    let few = c.loop-step.invariant.few in
-    let p : Step = c.step-item.result in
-    let longer : take (k + 1) steps ≡ lines ++ p ∷ [] = one_more steps k p c.loop-step-test.true c.step-item.is in
-    let fits : Fits (threads_of s) (managers_of s) p = subst (Fits (threads_of s) (managers_of s)) (sym c.step-item.is) (c.steps-steps.ensures.of k p c.loop-step-test.true) in
+    let h = c.loop-place.invariant.reached in
+    let few = c.loop-place.invariant.few in
+    let p : Step = c.step.result in
+    let longer : take (k + 1) steps ≡ lines ++ p ∷ [] = take_next steps k p (let there = c.loop-place-test.true in let all = c.len-place-end.ensures.steps in omega (arith, there, all)) c.step.ensures.step in
+    let fits : Fits (threads_of s) (managers_of s) p = c.step.ensures.of in
     elim c.match-step.branch [
       | in-Task+in_ok-call-in-Task+in_ok-push-in-Task w ↦
           let t = w.in-Task.task in
@@ -93,9 +93,9 @@ loop-step-preserved g c =
           let number : c.match-step.runner.opening ≡ r.opening = ap (λ (x : Runner). x.opening) w.runner-is ∙ w.in_ok-call-in-Task.ensures.number in
           record {
             reached =
-                reached_as s (lines ++ step.Task t ∷ []) (take (k + 1) steps) c.match-step.runner r.opening new.sessions.items new.turns.workers.items (answers ++ a ∷ []) c.match-step.answers.items
+                reached_as s (lines ++ step.Task t ∷ []) (take (k + 1) steps) c.match-step.runner r.opening new.sessions.items new.turns.workers.items (answers ++ a ∷ []) c.match-step.told
                 (longer ∙ ap (λ q. lines ++ q ∷ []) w.in-Task.is) number (ap (λ (x : Runner). x.sessions.items) w.runner-is) (ap (λ (x : Runner). x.turns.workers.items) w.runner-is)
-                (ap (λ v. v.items) w.answers-is ∙ w.in_ok-push-in-Task.ensures.items)
+                (w.told-is ∙ w.in_ok-push-in-Task.ensures)
                 (stepped s lines r.opening r.sessions.items r.turns.workers.items answers h (step.Task t) a new.sessions.items new.turns.workers.items refl (subst (Fits (threads_of s) (managers_of s)) w.in-Task.is fits) w.in_ok-call-in-Task.ensures.calls);
             few = omega (arith, number, few);
           }
@@ -106,9 +106,9 @@ loop-step-preserved g c =
           let number : c.match-step.runner.opening ≡ r.opening = ap (λ (x : Runner). x.opening) w.runner-is ∙ w.turn.ensures.number in
           record {
             reached =
-                reached_as s (lines ++ x ∷ []) (take (k + 1) steps) c.match-step.runner r.opening new.sessions.items new.turns.workers.items (answers ++ a ∷ []) c.match-step.answers.items
+                reached_as s (lines ++ x ∷ []) (take (k + 1) steps) c.match-step.runner r.opening new.sessions.items new.turns.workers.items (answers ++ a ∷ []) c.match-step.told
                 (longer ∙ ap (λ q. lines ++ q ∷ []) w.in-Turn.is) number (ap (λ (x : Runner). x.sessions.items) w.runner-is) (ap (λ (x : Runner). x.turns.workers.items) w.runner-is)
-                (ap (λ v. v.items) w.answers-is ∙ w.in_ok-push-in-Turn.ensures.items)
+                (w.told-is ∙ w.in_ok-push-in-Turn.ensures)
                 (stepped s lines r.opening r.sessions.items r.turns.workers.items answers h x a new.sessions.items new.turns.workers.items refl (subst (Fits (threads_of s) (managers_of s)) w.in-Turn.is fits) w.turn.ensures.turns);
             few = omega (arith, number, few);
           }
@@ -123,9 +123,9 @@ loop-step-preserved g c =
           let same = ap (λ (x : Runner). x.opening) w.runner-is in
           record {
             reached =
-                reached_as s (lines ++ step.Reopen line ∷ []) (take (k + 1) steps) c.match-step.runner new.opening new.sessions.items new.turns.workers.items ((answers ++ x.0) ++ answer.Reopened line ∷ []) c.match-step.answers.items
+                reached_as s (lines ++ step.Reopen line ∷ []) (take (k + 1) steps) c.match-step.runner new.opening new.sessions.items new.turns.workers.items ((answers ++ x.0) ++ answer.Reopened line ∷ []) c.match-step.told
                 (longer ∙ ap (λ q. lines ++ q ∷ []) w.in-Reopen.is) same (ap (λ (x : Runner). x.sessions.items) w.runner-is) (ap (λ (x : Runner). x.turns.workers.items) w.runner-is)
-                (ap (λ v. v.items) w.answers-is ∙ w.in_ok-push-in-Reopen.ensures.items ∙ ap (λ l. l ++ answer.Reopened line ∷ []) x.1)
+                (w.told-is ∙ w.in_ok-push-in-Reopen.ensures ∙ ap (λ l. l ++ answer.Reopened line ∷ []) x.1)
                 (reopened s lines r.opening r.sessions.items r.turns.workers.items answers h x.0 closed.settled line y.0 y.1 new.opening new.sessions.items new.turns.workers.items y.2 y.3);
             few = omega (arith, same, number, own, few);
           }
@@ -134,14 +134,14 @@ loop-step-preserved g c =
 pub returns : goal.returns
 returns g c =
     let s : Content = c.args.script.now in
-    let steps = c.steps-steps.result.now in
-    let k = c.loop-step.step-index in
-    let r = c.loop-step.runner in
-    let answers = c.loop-step.answers.items in
-    let h = c.loop-step.invariant.reached in
+    let steps = s.steps in
+    let k = c.loop-place.place in
+    let r = c.loop-place.runner in
+    let answers = c.loop-place.told in
+    let h = c.loop-place.invariant.reached in
     let closed = c.in_ok-closed.closed in
     let x = c.in_ok-closed.ensures.closed s h.begins h.own h.told h.goes in
-    let all : take k steps ≡ s.steps = take_all k steps (omega arith) ∙ c.steps-steps.ensures.steps in
+    let all : take k steps ≡ s.steps = take_all k steps (omega arith) in
     let last = ended_so s (take k steps) r.opening r.sessions.items r.turns.workers.items answers h x.0 closed.settled in (
       h.before,
       last,

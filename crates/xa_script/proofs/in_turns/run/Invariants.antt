@@ -3,8 +3,8 @@ use Rattle.xa_script.specs.Openings.{HasReached}
 use Rattle.xa_script.proofs.in_turns.run.Given as goal
 
 -- so far it has come by the first lines
-abbrev pub invariant-loop-step : goal.invariant-loop-step
-invariant-loop-step g l = record {
-  reached : HasReached l.script (take l.step-index l.steps) l.runner.opening l.runner.sessions.items l.runner.turns.workers.items l.answers.items;
-  few : l.runner.opening ≤ l.step-index + 1;
+abbrev pub invariant-loop-place : goal.invariant-loop-place
+invariant-loop-place g l = record {
+  reached : HasReached l.fn.script (take l.place l.fn.script.steps) l.runner.opening l.runner.sessions.items l.runner.turns.workers.items l.told;
+  few : l.runner.opening ≤ l.place + 1;
 }

@@ -1,22 +1,13 @@
-use Rattle.std.proofs.Common.{List, sym, subst}
-use Rattle.xa_session.specs.declared.answer.Answer.{Answer}
 use Rattle.xa_script.specs.declared.mode.Mode.TheVariants as mode
-use Rattle.xa_script.specs.Outcome.{IsOutcome}
 use Rattle.xa_script.proofs.Results.{on_ok}
 use Rattle.xa_script.proofs.in_turns.run_turns.Goals as goal
 
 pub show-requires : goal.show-requires
 show-requires g c =
-    let (before, last, outcome, same) = c.in_ok-answers.ensures in
-    record {
-      mode = mode.Turns;
-      before = before;
-      last = last;
-      outcome = subst (λ (l : List Answer). IsOutcome mode.Turns c.args.script.now l before last) (sym c.deref.ensures.value) outcome;
-      settles = same;
-    }
+    let (before, last, outcome, same) = c.in_ok-told.ensures in
+    (c.in_ok-told.told, record { mode = mode.Turns; before = before; last = last; outcome = outcome; settles = same })
 
 pub returns-clause-ok : goal.returns-clause-ok
 returns-clause-ok g c =
-    let (before, last, outcome, same) = c.in_ok-answers.ensures in
-    on_ok c.show.result _ _ (λ written. written mode.Turns before last (subst (λ (l : List Answer). IsOutcome mode.Turns c.args.script.now l before last) (sym c.deref.ensures.value) outcome) same) c.show.ensures.ok
+    let (before, last, outcome, same) = c.in_ok-told.ensures in
+    on_ok c.show.result _ _ (λ written. written mode.Turns c.in_ok-told.told before last c.text.ensures outcome same) c.show.ensures.ok

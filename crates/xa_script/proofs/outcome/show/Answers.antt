@@ -1,11 +1,12 @@
-use Rattle.std.proofs.Common.{◌≡◌, List, [], ◌∷◌, ◌++◌, map, sym, subst}
+use Rattle.std.proofs.Common.{◌≡◌, ℕ, List, [], ◌∷◌, ◌++◌, map, sym, subst}
 use Rattle.std.specs.Io.KnownBytes.{Appends}
 use Rattle.xa_switch.specs.Settling.{Settling}
 use Rattle.xa_grammar.specs.declared.script.Declared.{Declared}
 use Rattle.xa_grammar.specs.Content.{Content}
 use Rattle.xa_session.specs.declared.answer.Answer.{Answer}
+use Rattle.xa_session.specs.Text.{answers_text}
 use Rattle.xa_transcript.specs.Openings.{Opening, Former, settled_over}
-use Rattle.xa_transcript.specs.Transcript.{text}
+use Rattle.xa_transcript.specs.Transcript.{text, values_text}
 use Rattle.xa_transcript.specs.Values.{opened_after, AreOfScript, AreValues}
 use Rattle.xa_script.specs.declared.mode.Mode.{Mode}
 use Rattle.xa_script.specs.Outcome.{IsOutcome, Writes}
@@ -16,21 +17,21 @@ use Rattle.xa_script.proofs.outcome.show.Goals as goal
 pub values_of-requires : goal.values_of-requires
 values_of-requires g c =
     let s : Content = c.args.script.now in
-    let h = c.requires in
+    let (answers, h) = c.requires in
     let before : List Settling = map (λ (f : Former). f.opening.settled) h.before in
-    (before, subst (λ (x : Settling). AreOfScript s (opened_after s before) x.managers) h.settles (managers_so h.mode s c.args.answers.now h.before h.last h.outcome))
+    (before, subst (λ (x : Settling). AreOfScript s (opened_after s before) x.managers) h.settles (managers_so h.mode s answers h.before h.last h.outcome))
 
 pub returns-clause-ok : goal.returns-clause-ok
 returns-clause-ok g c =
     let s : Content = c.args.script.now in
-    let answers : List Answer = c.args.answers.now in
+    let lines = c.args.lines.now in
     let settled : Settling = c.args.settled.now in
     let values : List Declared = c.in_ok-values.values.items in
     let contents = g.W.Write.contents in
     let old = contents c.args.writer.now in
     let new = contents c.write_transcript.new.writer in
-    on_ok c.write_transcript.result (Appends old new (text answers c.deref.result.now)) ((m : Mode) (before : List Former) (last : Opening) → IsOutcome m s answers before last → last.settled ≡ settled → Writes m s old new)
-    (λ written m before last outcome same.
+    on_ok c.write_transcript.result (Appends old new (lines ++ values_text c.deref.result.now)) ((m : Mode) (answers : List Answer) (before : List Former) (last : Opening) → lines ≡ answers_text answers → IsOutcome m s answers before last → last.settled ≡ settled → Writes m s old new)
+    (λ written m answers before last are outcome same.
     let former : List Settling = map (λ (f : Former). f.opening.settled) before in
     let managers = subst (λ (x : Settling). AreOfScript s (opened_after s former) x.managers) same (managers_so m s answers before last outcome) in
     let shown : AreValues s (settled_over before last) values = subst (λ (x : Settling). AreValues s (former ++ x ∷ []) values) (sym same) (c.in_ok-values.ensures former managers) in
@@ -41,6 +42,6 @@ returns-clause-ok g c =
       outcome = outcome;
       values = values;
       tells = run_tells m s answers values before last outcome shown;
-      written = subst (λ (l : List Declared). Appends old new (text answers l)) c.deref.ensures.value written;
+      written = subst (λ (l : List Declared). Appends old new (text answers l)) c.deref.ensures.value (subst (λ (l : List ℕ). Appends old new (l ++ values_text c.deref.result.now)) are written);
     })
     c.write_transcript.ensures.ok

@@ -5,5 +5,5 @@ use Rattle.xa_session.proofs.ended.tell_ended.Given as goal
 -- the first ones were told
 abbrev pub invariant-loop-handle : goal.invariant-loop-handle
 invariant-loop-handle l = record {
-  told : l.answers.items ≡ l.fn.answers.items ++ all_ended l.thread (take l.handle-index l.outstanding);
+  told : l.told ≡ l.fn.told ++ all_ended l.thread (take l.handle-index l.outstanding);
 }

@@ -1,6 +1,9 @@
-use Rattle.std.proofs.Common.{None, length, replicate, sym, ◌∙◌, ap, arith}
+use Rattle.std.proofs.Common.{None, refl, length, replicate, sym, ◌∙◌, ap, arith}
 use Rattle.std.proofs.lemmas.List.{length-replicate}
+use Rattle.std.proofs.lemmas.Nat.{mul-le}
+use Rattle.xa_base.specs.declared.limits.TheConstants.{MOST_MANAGERS, MOST_REQUESTS}
 use Rattle.xa_desk.specs.Parts.{carried}
+use Rattle.xa_desk.specs.Slots.{no_keys, logged}
 use Rattle.xa_desk.proofs.Begins.{books_from, keys_from, planned_from, length-carried, begun-new}
 use Rattle.xa_desk.proofs.book.Book.assemble.Goals as goal
 
@@ -10,12 +13,13 @@ invariant_of-result c =
     let p = c.parts.inside in
     let at = p.ledgers.items in
     record {
-      books = books_from p.plan at (carried at) i.ledgers p.slots i.slots p.handles p.kept.items p.drained.items i.kept i.drained;
-      keys = keys_from p.plan at (carried at) i.ledgers p.slots i.slots p.rows.items (i.rows ∙ ap (λ n. replicate n (replicate p.plan 0)) (sym (length-carried at)));
+      books = books_from p.plan at (carried at) i.ledgers p.slots i.slots p.handles p.kept.items (logged c.new.result.items) i.kept (ap logged c.new.ensures);
+      keys = keys_from p.plan at (carried at) i.ledgers p.slots i.slots p.rows.items (i.rows ∙ ap (λ n. replicate n (no_keys p.plan)) (sym (length-carried at)));
       slots_used = rw i.slots (omega arith);
       slots_room = i.slots_room;
       places = ap length i.kept ∙ length-replicate p.handles None;
-      drained_room = rw (planned_from p.plan at (carried at) i.ledgers p.slots i.slots, length-carried at) i.drained_room;
+      drained = rw c.new.ensures refl;
+      planned = rw (planned_from p.plan at (carried at) i.ledgers p.slots i.slots, length-carried at) (mul-le p.plan (length at) MOST_REQUESTS MOST_MANAGERS i.planned i.limits.managers.1);
       limits = i.limits;
       ends = i.ends;
       ends_room = i.ends_room;
@@ -25,4 +29,4 @@ pub returns : goal.returns
 returns c =
     let i = c.parts.invariant in
     let p = c.parts.inside in
-    rw (← c.parts.view_is) (begun-new p.thread p.handles p.plan p.ledgers.items p.kept.items p.drained.items c.args.requests.items c.args.completions i.ledgers i.kept i.drained)
+    rw (← c.parts.view_is) (begun-new p.thread p.handles p.plan p.ledgers.items p.kept.items (logged c.new.result.items) c.args.requests.items c.args.completions i.ledgers i.kept (ap logged c.new.ensures))

@@ -2,7 +2,7 @@ use Rattle.std.proofs.Common.{◌≡◌, ◌+◌, Some, ap, ◌∙◌, sym, refl
 use Rattle.xa_desk.specs.LedgerView.{LedgerView, with_collected}
 use Rattle.xa_desk.specs.declared.operation.Operation.{Operation}
 use Rattle.xa_desk.specs.DeskView.{IsOut, ledger, after_collected}
-use Rattle.xa_desk.specs.Slots.{IsBooks}
+use Rattle.xa_desk.specs.Slots.{logged, IsBooks}
 use Rattle.xa_desk.proofs.Ledgers.{ledger-read, collected-lt-sent, planned-put, length-put_ledger}
 use Rattle.xa_desk.proofs.Books.{books_collected}
 use Rattle.xa_desk.proofs.KeyRows.{keys_collected}
@@ -30,7 +30,7 @@ written c =
     let read = ledger-read c.self.inside.ledgers.items o.manager c.index_mut-ledger.result.now (out c).known c.index_mut-ledger.ensures.value in
     c.push_collected.ensures ∙ ap (λ (a : LedgerView). with_collected a o.number c.in-Some-code.code) read
 
-books : (c : After-push_collected) → IsBooks (after_collected c.self.inside.ledgers.items c.args.operation c.in-Some-code.code) c.remove.new.self c.self.inside.kept.items c.self.inside.drained.items
+books : (c : After-push_collected) → IsBooks (after_collected c.self.inside.ledgers.items c.args.operation c.in-Some-code.code) c.remove.new.self c.self.inside.kept.items (logged c.self.inside.drained.items)
 books c =
     let i = c.self.invariant in
     let at = c.self.inside.ledgers.items in
@@ -38,9 +38,9 @@ books c =
     let slot = c.in-Some.slot in
     let named = c.in-Some.ensures.named in
     let loose = rw (← c.self.view_is) at c.requires.loose in
-    let handle = loose_handle at c.self.inside.slots c.in-Some.key slot c.self.inside.kept.items c.self.inside.drained.items i.books c.in-Some.ensures.found (λ k kept. loose k (kept ∙ ap (λ (p : Operation). Some p) named)) in
-    let after = books_collected at c.self.inside.slots c.remove.new.self c.in-Some.key slot code c.self.inside.kept.items c.self.inside.drained.items i.books c.in-Some.ensures.found c.in-Some-code.is handle c.remove.ensures.updates c.remove.ensures.len in
-    subst (λ p. IsBooks (after_collected at p code) c.remove.new.self c.self.inside.kept.items c.self.inside.drained.items) named after
+    let handle = loose_handle at c.self.inside.slots c.in-Some.key slot c.self.inside.kept.items (logged c.self.inside.drained.items) i.books c.in-Some.ensures.found (λ k kept. loose k (kept ∙ ap (λ (p : Operation). Some p) named)) in
+    let after = books_collected at c.self.inside.slots c.remove.new.self c.in-Some.key slot code c.self.inside.kept.items (logged c.self.inside.drained.items) i.books c.in-Some.ensures.found c.in-Some-code.is handle c.remove.ensures.updates c.remove.ensures.len in
+    subst (λ p. IsBooks (after_collected at p code) c.remove.new.self c.self.inside.kept.items (logged c.self.inside.drained.items)) named after
 
 pub invariant_of-self : goal.invariant_of-self
 invariant_of-self c =
@@ -57,7 +57,8 @@ invariant_of-self c =
       slots_used = omega arith;
       slots_room = rw c.remove.ensures.capacity i.slots_room;
       places = i.places;
-      drained_room = rw (planned-put at o.manager (with_collected (ledger at o.manager) o.number code) (out d).known refl) i.drained_room;
+      drained = i.drained;
+      planned = rw (planned-put at o.manager (with_collected (ledger at o.manager) o.number code) (out d).known refl) i.planned;
       limits = rw (length-put_ledger at o.manager (with_collected (ledger at o.manager) o.number code)) i.limits;
       ends = i.ends;
       ends_room = i.ends_room;

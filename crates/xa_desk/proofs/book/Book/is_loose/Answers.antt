@@ -2,6 +2,7 @@ use Rattle.std.proofs.Common.{Some, sym, ◌∙◌, ap, subst}
 use Rattle.std.proofs.lemmas.Bool.{eqb-true, eq-eqb}
 use Rattle.xa_desk.specs.declared.operation.Operation.{Operation}
 use Rattle.xa_desk.specs.DeskView.{IsOut}
+use Rattle.xa_desk.specs.Slots.{logged}
 use Rattle.xa_desk.proofs.KeptPlaces.{loose_handle, loose_from_handle}
 use Rattle.xa_desk.proofs.book.Book.is_loose.Goals as goal
 
@@ -15,7 +16,7 @@ returns-in-Some c =
     rw (← c.self.view_is) (
       λ e. (
         subst (λ (o : Operation). IsOut at o) named (b.slot_out _ c.in-Some.slot there),
-        λ k kept. loose_from_handle at c.self.inside.slots _ c.in-Some.slot table c.self.inside.drained.items b there (eqb-true c.in-Some.slot.handle 0 e) k (kept ∙ ap (λ (o : Operation). Some o) (sym named)),
+        λ k kept. loose_from_handle at c.self.inside.slots _ c.in-Some.slot table (logged c.self.inside.drained.items) b there (eqb-true c.in-Some.slot.handle 0 e) k (kept ∙ ap (λ (o : Operation). Some o) (sym named)),
       ),
-      λ p. eq-eqb c.in-Some.slot.handle 0 (loose_handle at c.self.inside.slots _ c.in-Some.slot table c.self.inside.drained.items b there (λ k kept. p.1 k (kept ∙ ap (λ (o : Operation). Some o) named))),
+      λ p. eq-eqb c.in-Some.slot.handle 0 (loose_handle at c.self.inside.slots _ c.in-Some.slot table (logged c.self.inside.drained.items) b there (λ k kept. p.1 k (kept ∙ ap (λ (o : Operation). Some o) named))),
     )

@@ -1,6 +1,7 @@
 use Rattle.std.proofs.Common.{◌≡◌, arith}
 use Rattle.slab.specs.Slab.{slab_len}
 use Rattle.std.proofs.lemmas.Bool.{ltb-false}
+use Rattle.xa_desk.specs.Slots.{logged}
 use Rattle.xa_desk.proofs.Counts.{nothing_open}
 use Rattle.xa_desk.proofs.book.Book.is_outstanding.Goals as goal
 
@@ -9,4 +10,4 @@ returns-clause-settled c = λ e m known.
     let len = c.len.ensures in
     let few = ltb-false 0 c.len.result e in
     let none : slab_len c.self.inside.slots ≡ 0 = omega arith in
-    rw (← c.self.view_is) (nothing_open c.self.inside.ledgers.items c.self.inside.slots c.self.inside.kept.items c.self.inside.drained.items c.self.invariant.books none m (rw (← c.self.view_is) at known))
+    rw (← c.self.view_is) (nothing_open c.self.inside.ledgers.items c.self.inside.slots c.self.inside.kept.items (logged c.self.inside.drained.items) c.self.invariant.books none m (rw (← c.self.view_is) at known))

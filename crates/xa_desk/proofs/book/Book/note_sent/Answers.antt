@@ -1,10 +1,10 @@
-use Rattle.std.proofs.Common.{◌≡◌, ◌+◌, ◌-◌, ◌<◌, ℕ, List, [], Some, None, get_or, set, ap, ◌∙◌, sym, refl, subst, arith, length}
+use Rattle.std.proofs.Common.{◌≡◌, ◌+◌, ◌-◌, ◌<◌, ℕ, Some, None, ap, ◌∙◌, sym, refl, subst, arith, length}
 use Rattle.std.proofs.lemmas.List.{get_or_read}
 use Rattle.slab.specs.Slab.{Updates}
 use Rattle.xa_desk.specs.declared.operation.Operation.{Operation}
 use Rattle.xa_desk.specs.LedgerView.{LedgerView, with_sent}
 use Rattle.xa_desk.specs.DeskView.{IsKnown, ledger, after_sent}
-use Rattle.xa_desk.specs.Slots.{IsBooks, AreKeys}
+use Rattle.xa_desk.specs.Slots.{logged, KeysView, no_keys, with_key, row_of, IsBooks, AreKeys}
 use Rattle.xa_desk.proofs.Ledgers.{ledger-read, planned-put, length-put_ledger, sent_now_out, unsent}
 use Rattle.xa_desk.proofs.KeptPlaces.{loose_from_handle}
 use Rattle.xa_desk.proofs.Books.{books_sent, fresh}
@@ -17,17 +17,18 @@ operation_at m n = record { manager = m; number = n }
 
 pub enter-requires : goal.enter-requires
 enter-requires c =
-    let at = c.self.inside.ledgers.items in
     let m = c.args.manager in
     let is_known = rw (← c.self.view_is) at c.requires.known in
     let room = rw (← c.self.view_is) at c.requires.room in
-    let rows = c.self.invariant.keys.number in
+    let k = c.self.invariant.keys in
+    let rows = k.number in
+    let sent = k.sent m is_known in
+    let planned = k.planned m is_known in
     let positive = is_known.positive in
     let most = is_known.within in
     let below : m - 1 < length c.self.inside.rows.items = omega arith in
-    let read = get_or_read c.self.inside.rows.items (m - 1) c.index_mut-row.result.now below c.index_mut-row.ensures.value [] in
-    let sent = c.next_number-number.ensures.sent ∙ ap (λ (a : LedgerView). length a.sent) (ledger-read at m c.index_mut-ledger.result.now is_known c.index_mut-ledger.ensures.value) in
-    rw (sent, read, c.self.invariant.keys.planned m is_known) room
+    let read = get_or_read c.self.inside.rows.items (m - 1) c.index_mut-row.result.now below c.index_mut-row.ensures.value (no_keys 0) in
+    rw read (omega arith)
 
 known : (c : After-enter) → IsKnown c.self.inside.ledgers.items c.args.manager
 known c = rw (← c.self.view_is) at c.requires.known
@@ -44,10 +45,10 @@ number c = c.next_number-number.ensures.sent ∙ ap (λ (a : LedgerView). length
 updates : (c : After-enter) → Updates c.self.inside.slots c.insert_reserved-key.new.self c.insert_reserved-key.result (Some (record { operation = record { manager = c.args.manager; number = length (ledger c.self.inside.ledgers.items c.args.manager).sent }; code = None; handle = 0 }))
 updates c = subst (λ k. Updates c.self.inside.slots c.insert_reserved-key.new.self c.insert_reserved-key.result (Some (record { operation = record { manager = c.args.manager; number = k }; code = None; handle = 0 }))) (number c) c.insert_reserved-key.ensures.updates
 
-books : (c : After-enter) → IsBooks (after_sent c.self.inside.ledgers.items c.args.manager c.args.op.now) c.insert_reserved-key.new.self c.self.inside.kept.items c.self.inside.drained.items
+books : (c : After-enter) → IsBooks (after_sent c.self.inside.ledgers.items c.args.manager c.args.op.now) c.insert_reserved-key.new.self c.self.inside.kept.items (logged c.self.inside.drained.items)
 books c =
     let room = rw (← c.self.view_is) at c.requires.room in
-    books_sent c.self.inside.ledgers.items c.args.manager c.args.op.now (known c) c.self.inside.slots c.insert_reserved-key.new.self c.insert_reserved-key.result c.self.inside.kept.items c.self.inside.drained.items c.self.invariant.books room c.insert_reserved-key.ensures.was_vacant (updates c) c.insert_reserved-key.ensures.len
+    books_sent c.self.inside.ledgers.items c.args.manager c.args.op.now (known c) c.self.inside.slots c.insert_reserved-key.new.self c.insert_reserved-key.result c.self.inside.kept.items (logged c.self.inside.drained.items) c.self.invariant.books room c.insert_reserved-key.ensures.was_vacant (updates c) c.insert_reserved-key.ensures.len
 
 within : (c : After-enter) → c.args.manager - 1 < length c.self.inside.rows.items
 within c =
@@ -57,20 +58,19 @@ within c =
     let most = k.within in
     omega arith
 
-entering : (c : After-enter) → c.enter.new.self ≡ set (get_or c.self.inside.rows.items (c.args.manager - 1) []) (length (ledger c.self.inside.ledgers.items c.args.manager).sent) c.insert_reserved-key.result
+entering : (c : After-enter) → c.enter.new.self ≡ with_key (row_of c.self.inside.rows.items c.args.manager) c.insert_reserved-key.result
 entering c =
-    let read = get_or_read c.self.inside.rows.items (c.args.manager - 1) c.index_mut-row.result.now (within c) c.index_mut-row.ensures.value [] in
-    c.enter.ensures ∙ ap (λ (row : List ℕ). set row c.next_number-number.result c.insert_reserved-key.result) read ∙ ap (λ n. set (get_or c.self.inside.rows.items (c.args.manager - 1) []) n c.insert_reserved-key.result) (number c)
+    c.enter.ensures
+    ∙ ap (λ (row : KeysView). with_key row c.insert_reserved-key.result) (get_or_read c.self.inside.rows.items (c.args.manager - 1) c.index_mut-row.result.now (within c) c.index_mut-row.ensures.value (no_keys 0))
 
-keys : (c : After-enter) → AreKeys (after_sent c.self.inside.ledgers.items c.args.manager c.args.op.now) (entered c.self.inside.rows.items c.args.manager (length (ledger c.self.inside.ledgers.items c.args.manager).sent) c.insert_reserved-key.result) c.insert_reserved-key.new.self
+keys : (c : After-enter) → AreKeys (after_sent c.self.inside.ledgers.items c.args.manager c.args.op.now) (entered c.self.inside.rows.items c.args.manager c.insert_reserved-key.result) c.insert_reserved-key.new.self
 keys c =
     let at = c.self.inside.ledgers.items in
     let m = c.args.manager in
-    let room = rw (← c.self.view_is) at c.requires.room in
     let b = c.self.invariant.books in
     keys_sent at m c.args.op.now (known c) c.self.inside.rows.items c.self.inside.slots c.insert_reserved-key.new.self c.insert_reserved-key.result
-    (fresh at m c.args.op.now (known c) c.self.inside.slots c.insert_reserved-key.new.self c.insert_reserved-key.result c.self.inside.kept.items c.self.inside.drained.items)
-    c.self.invariant.keys room refl
+    (fresh at m c.args.op.now (known c) c.self.inside.slots c.insert_reserved-key.new.self c.insert_reserved-key.result c.self.inside.kept.items (logged c.self.inside.drained.items))
+    c.self.invariant.keys refl
     (λ k y found. let o = b.slot_out k y found in (o.known.positive, unsent at m c.args.op.now (known c) y.operation (record { known = o.known; sent = o.sent })))
     (updates c)
 
@@ -89,7 +89,8 @@ invariant_of-self c =
       slots_used = omega arith;
       slots_room = rw c.insert_reserved-key.ensures.capacity i.slots_room;
       places = i.places;
-      drained_room = rw (planned-put at m (with_sent (ledger at m) c.args.op.now) (known d) refl) i.drained_room;
+      drained = i.drained;
+      planned = rw (planned-put at m (with_sent (ledger at m) c.args.op.now) (known d) refl) i.planned;
       limits = rw (length-put_ledger at m (with_sent (ledger at m) c.args.op.now)) i.limits;
       ends = i.ends;
       ends_room = i.ends_room;
@@ -105,7 +106,7 @@ pub returns-clause-loose : goal.returns-clause-loose
 returns-clause-loose c = λ k e.
     let d = (goal.at.returns-clause-loose c).After-enter in
     let at = c.self.inside.ledgers.items in
-    loose_from_handle (after_sent at c.args.manager c.args.op.now) c.insert_reserved-key.new.self c.insert_reserved-key.result (fresh at c.args.manager c.args.op.now (known d) c.self.inside.slots c.insert_reserved-key.new.self c.insert_reserved-key.result c.self.inside.kept.items c.self.inside.drained.items) c.self.inside.kept.items c.self.inside.drained.items (books d) (updates d).changed refl k
+    loose_from_handle (after_sent at c.args.manager c.args.op.now) c.insert_reserved-key.new.self c.insert_reserved-key.result (fresh at c.args.manager c.args.op.now (known d) c.self.inside.slots c.insert_reserved-key.new.self c.insert_reserved-key.result c.self.inside.kept.items (logged c.self.inside.drained.items)) c.self.inside.kept.items (logged c.self.inside.drained.items) (books d) (updates d).changed refl k
     (e ∙ ap (λ n. Some (operation_at c.args.manager n)) (number d))
 
 pub returns-clause-more : goal.returns-clause-more

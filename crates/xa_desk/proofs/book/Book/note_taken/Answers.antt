@@ -1,39 +1,62 @@
-use Rattle.std.proofs.Common.{refl, arith}
-use Rattle.xa_desk.specs.DeskView.{operation_of}
-use Rattle.xa_desk.specs.Looks.{other}
-use Rattle.xa_desk.proofs.Ledgers.{none_of}
+use Rattle.std.proofs.Common.{◌≡◌, List, [], ◌∷◌, ◌++◌, None, sym, refl, ap, ◌∙◌, subst, arith, length-append}
+use Rattle.std.proofs.lemmas.List.{map-append}
+use Rattle.xa_words.specs.declared.request.Completion.{Completion}
+use Rattle.xa_desk.specs.declared.operation.Operation.{Operation}
+use Rattle.xa_desk.specs.Book.{desk_of}
+use Rattle.xa_desk.specs.DeskView.{IsOut, operation_of, drained_code}
+use Rattle.xa_desk.specs.Looks.{first, other}
+use Rattle.xa_desk.specs.Slots.{logged}
 use Rattle.xa_desk.proofs.Books.{books_drained}
 use Rattle.xa_desk.proofs.Counts.{drained-lt-planned}
 use Rattle.xa_desk.proofs.KeyRows.{keys_kept}
 use Rattle.xa_desk.proofs.book.Book.note_taken.Goals as goal
+use Rattle.xa_desk.proofs.book.Book.note_taken.Goals.{After-and-self-inside}
 
-pub push_reserved-requires : goal.push_reserved-requires
-push_reserved-requires c =
+pub overflow_add-self : goal.overflow_add-self
+overflow_add-self c =
     let i = c.self.invariant in
-    let waiting = none_of c.in-Some.slot.code c.if-is_none.ensures in
-    let below = drained-lt-planned c.self.inside.ledgers.items c.self.inside.slots c.self.inside.kept.items c.self.inside.drained.items c.in-Some.key c.in-Some.slot i.books c.in-Some.ensures.found waiting in
-    let room = i.drained_room in
-    let same = c.self.inside.drained.ok.0 in
+    let e = c.enter_code.ensures.entered c.if-enter_code.true in
+    let below = drained-lt-planned c.self.inside.ledgers.items c.self.inside.slots c.self.inside.kept.items (logged c.self.inside.drained.items) e.key e.slot i.books e.found e.waiting in
+    let counted = i.drained in
+    let planned = i.planned in
     omega arith
+
+one_more : (c : After-and-self-inside) → logged c.and-self-inside.result.items ≡ logged c.self.inside.drained.items ++ c.args.completion ∷ []
+one_more c = ap logged c.and-self-inside.ensures ∙ map-append (λ p. p.0) c.self.inside.drained.items ((c.args.completion, tt) ∷ [])
 
 pub invariant_of-self : goal.invariant_of-self
 invariant_of-self c =
     let i = c.self.invariant in
-    let waiting = none_of c.in-Some.slot.code c.if-is_none.ensures in
+    let e = c.enter_code.ensures.entered c.if-enter_code.true in
+    let counted = i.drained in
+    let more = one_more ((goal.at.invariant_of-self c).After-and-self-inside) in
     record {
-      books = rw c.push_reserved.ensures.items (books_drained c.self.inside.ledgers.items c.self.inside.slots c.set_slot.new.slots c.in-Some.key c.in-Some.slot c.self.inside.kept.items c.self.inside.drained.items c.args.completion i.books c.in-Some.ensures.found waiting c.in-Some.ensures.named c.set_slot.ensures.updates c.set_slot.ensures.len);
-      keys = keys_kept c.self.inside.ledgers.items c.self.inside.rows.items c.self.inside.slots c.set_slot.new.slots c.in-Some.key c.in-Some.slot _ i.keys c.in-Some.ensures.found refl c.set_slot.ensures.updates;
-      slots_used = rw c.set_slot.ensures.len i.slots_used;
-      slots_room = rw c.set_slot.ensures.capacity i.slots_room;
+      books = rw more (books_drained c.self.inside.ledgers.items c.self.inside.slots c.enter_code.new.slots e.key e.slot c.self.inside.kept.items (logged c.self.inside.drained.items) c.args.completion i.books e.found e.waiting e.names e.updates e.len);
+      keys = keys_kept c.self.inside.ledgers.items c.self.inside.rows.items c.self.inside.slots c.enter_code.new.slots e.key e.slot _ i.keys e.found refl e.updates;
+      slots_used = rw e.len i.slots_used;
+      slots_room = rw e.capacity i.slots_room;
       places = i.places;
-      drained_room = rw c.push_reserved.ensures.capacity i.drained_room;
+      drained = rw more (omega (arith, length-append (logged c.self.inside.drained.items) (c.args.completion ∷ [])));
+      planned = i.planned;
       limits = i.limits;
       ends = i.ends;
       ends_room = i.ends_room;
     }
 
-pub returns-in_default : goal.returns-in_default
-returns-in_default c = other (λ out none.
-    let out' = rw (← c.self.view_is) at out in
-    let h = c.self.invariant.books.out_slot (operation_of c.args.completion) out' in
-    c.in_default.ensures.absent h.key h.slot h.found h.names) refl
+pub returns-then-enter_code : goal.returns-then-enter_code
+returns-then-enter_code c =
+    let b = c.self.invariant.books in
+    let e = c.enter_code.ensures.entered c.if-enter_code.true in
+    let more = one_more ((goal.at.returns-then-enter_code c).After-and-self-inside) in
+    rw (← c.self.view_is) (first
+    (subst (λ (o : Operation). IsOut c.self.inside.ledgers.items o) e.names (b.slot_out e.key e.slot e.found))
+    (subst (λ (o : Operation). drained_code o (logged c.self.inside.drained.items) ≡ None) e.names (sym (b.coded e.key e.slot e.found) ∙ e.waiting))
+    (ap (λ (cs : List Completion). record (desk_of c.self.inside) { drained = cs }) more))
+
+pub returns-else-enter_code : goal.returns-else-enter_code
+returns-else-enter_code c =
+    let b = c.self.invariant.books in
+    rw (← c.self.view_is) (other (λ out none.
+    let h = b.out_slot (operation_of c.args.completion) out in
+    c.enter_code.ensures.known c.if-enter_code.false h.key h.slot h.found h.names
+    (b.coded h.key h.slot h.found ∙ ap (λ (o : Operation). drained_code o (logged c.self.inside.drained.items)) h.names ∙ none)) refl)

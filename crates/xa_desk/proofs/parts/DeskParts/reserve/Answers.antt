@@ -3,6 +3,7 @@ use Rattle.std.proofs.lemmas.List.{length-map}
 use Rattle.xa_desk.specs.LedgerView.{new_ledger}
 use Rattle.xa_desk.specs.Lanes.{new_ledgers}
 use Rattle.xa_desk.specs.Parts.{carried}
+use Rattle.xa_desk.specs.Slots.{no_keys}
 use Rattle.xa_desk.proofs.Begins.{carried-new}
 use Rattle.xa_desk.proofs.parts.DeskParts.reserve.Goals as goal
 use Rattle.xa_desk.proofs.parts.DeskParts.reserve.Goals.{In_ok-ends}
@@ -20,10 +21,9 @@ invariant_of-result c =
       ledgers = c.in_ok-ledgers.ensures ∙ ap (new_ledgers c.args.requests) (sym (flags d));
       slots = c.in_ok-slots.ensures.empty;
       slots_room = c.in_ok-slots.ensures.capacity;
-      rows = c.in_ok-rows.ensures ∙ ap (λ n. replicate n (replicate c.args.requests 0)) (sym (number d));
+      rows = c.in_ok-rows.ensures ∙ ap (λ n. replicate n (no_keys c.args.requests)) (sym (number d));
       kept = c.in_ok-kept.ensures;
-      drained = c.in_ok-drained.ensures.items;
-      drained_room = rw (number d) c.in_ok-drained.ensures.capacity;
+      planned = c.requires.requests.1;
       ends = c.in_ok-ends.ensures.items;
       ends_room = c.in_ok-ends.ensures.capacity;
       limits = record { thread = c.requires.thread; handles = c.requires.handles; managers = rw (number d) c.requires.managers };

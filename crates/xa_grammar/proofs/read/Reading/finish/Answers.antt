@@ -1,10 +1,14 @@
-use Rattle.std.proofs.Common.{◌≡◌, ℕ, List, sym, ap, subst, ◌∙◌, arith}
-use Rattle.std.specs.Prelude.{Ok}
+use Rattle.std.proofs.Common.{◌≡◌, ◌<◌, ℕ, List, length, false, sym, ap, subst, ◌∙◌, arith}
+use Rattle.std.specs.Prelude.{◌==◌, Ok}
 use Rattle.std.proofs.lemmas.Result.{err_from_is_err_and}
 use Rattle.xa_grammar.specs.Grammar.{after_line, FailsAt}
 use Rattle.xa_grammar.proofs.OneOpening.{after_one}
 use Rattle.xa_grammar.proofs.Lines.{ends_empty, ends, ends_in_fault}
 use Rattle.xa_grammar.proofs.read.Reading.finish.Goals as goal
+
+-- A line that isn't empty has a byte.
+some_byte : (n : ℕ) (line : List ℕ) → n ≡ length line → (n == 0) ≡ false → 0 < length line
+some_byte n line long some = grind arith
 
 pub returns-then-is_empty-clause-reads : goal.returns-then-is_empty-clause-reads
 returns-then-is_empty-clause-reads c =
@@ -17,14 +21,14 @@ returns-in_err-read_line-clause-reads c =
     let r = c.args.self in
     let fault = c.in_err-read_line.field-0.0 in
     let fails : FailsAt r.number fault (after_line r.threads_mode r.script r.number r.line.items) = subst (λ (l : List ℕ). FailsAt r.number fault (after_line r.threads_mode r.script r.number l)) c.deref.ensures.value c.in_err-read_line.ensures.err in
-    rw (p.1, p.2) (ends_in_fault r.threads_mode fault r.script r.number r.line.items r.no_end (grind arith) fails)
+    rw (p.1, p.2) (ends_in_fault r.threads_mode fault r.script r.number r.line.items r.no_end (some_byte _ _ r.line.ok.0 (sym c.if-is_empty.ensures)) fails)
 
 pub returns-clause-reads : goal.returns-clause-reads
 returns-clause-reads c =
     let r = c.args.self in
     let t = c.read_line.new.script in
     let taken : after_line r.threads_mode r.script r.number r.line.items ≡ Ok t = ap (after_line r.threads_mode r.script r.number) (sym c.deref.ensures.value) ∙ c.in_ok-read_line.ensures.ok in
-    ends r.threads_mode r.script t r.number r.line.items r.no_end (grind arith) taken
+    ends r.threads_mode r.script t r.number r.line.items r.no_end (some_byte _ _ r.line.ok.0 (sym c.if-is_empty.ensures)) taken
 
 pub returns-clause-one : goal.returns-clause-one
 returns-clause-one c = λ threads all.

@@ -20,17 +20,17 @@ settle_all-requires g c =
     let sessions = c.args.self.sessions.items in
     let ended = c.in_ok-ended.ended.items in
     let done = c.in_ok-done.done.items in
-    let r = has_run s b steps told sessions c.args.self.turns.workers.items goes c.args.answers.now.items ended c.end_desks.new.turns.workers.items c.end_desks.new.answers.items done c.in_ok-ended.ensures.ended c.in_ok-done.ensures in
+    let r = has_run s b steps told sessions c.args.self.turns.workers.items goes c.args.told.now ended c.end_desks.new.turns.workers.items c.end_desks.new.told done c.in_ok-ended.ensures.ended c.in_ok-done.ensures in
     (r.opened.setup, pieces_of c.desks_go_on.ensures.same c.desks_go_on.ensures.further s b steps _ goes.first sessions goes.first_workers ended done r)
 
 pub returns-clause-closed : goal.returns-clause-closed
 returns-clause-closed g c = λ s b steps told goes.
     let sessions = c.args.self.sessions.items in
     let workers = c.args.self.turns.workers.items in
-    let all = c.args.answers.now.items in
+    let all = c.args.told.now in
     let ended = c.in_ok-ended.ended.items in
     let workers' = c.end_desks.new.turns.workers.items in
-    let all' = c.end_desks.new.answers.items in
+    let all' = c.end_desks.new.told in
     let done = c.in_ok-done.done.items in
     let closes = c.in_ok-ended.ensures.ended in
     let served = c.in_ok-done.ensures in (

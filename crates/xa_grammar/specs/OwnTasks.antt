@@ -1,0 +1,28 @@
+-- The steps that are tasks of one thread.
+use Rattle.std.specs.Prelude.{◌≡◌, ℕ, Bool, true, List, Option, Some, None, is_some, filter, filter_map}
+use Rattle.xa_grammar.specs.declared.script.Task.{Task}
+use Rattle.xa_grammar.specs.declared.script.Step.{Step}
+use Rattle.xa_grammar.specs.declared.script.Step.TheVariants as step
+use Rattle.xa_grammar.specs.Content.{task_of}
+
+-- the task that a step is
+abbrev pub task_in : Step → Option Task
+task_in (step.Task p) = Some p
+task_in (step.Turn line m) = None
+task_in (step.Reopen line) = None
+
+-- the step is a task
+abbrev pub IsTask : Step → Type 0
+IsTask p = is_some (task_in p) ≡ true
+
+-- the step is a task of thread t
+abbrev pub is_own : ℕ → Step → Bool
+is_own t p = is_some (task_of t p)
+
+-- those of the steps
+abbrev pub own_steps : ℕ → List Step → List Step
+own_steps t steps = filter (is_own t) steps
+
+-- the tasks that steps are
+abbrev pub tasks_in : List Step → List Task
+tasks_in steps = filter_map task_in steps
