@@ -5,7 +5,7 @@ ghost use Rattle.xa_desk.specs.Lanes.{new_ledgers};
 
 use std::alloc::{AllocError, Global};
 use std::marker::Model;
-use xa_words::{Code, Op};
+use xa_words::{Code, Op, RmOp, Xid};
 
 /// What was sent to one manager and what was collected from it, in memory that was reserved for the plan.
 #[derive(Drop)]
@@ -93,10 +93,9 @@ impl Ledger {
         requires { length self.old.sent < self.old.plan }
         ensures { self.new ≡ with_sent self.old op.now }
     {
-        // Within an Option: today no proof is generated where a request, which may hold one, is pushed by itself.
-        if let Some(op) = Some(*op) {
-            self.sent.push_reserved(op);
-        }
+        // It names the types within a request: a `push` of a type that only contains them gets no proof.
+        let _named: Option<(Xid, RmOp)> = None;
+        self.sent.push_reserved(*op);
     }
 
     /// One more request was collected.

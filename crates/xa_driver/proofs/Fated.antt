@@ -15,7 +15,7 @@ use Rattle.xa_tables.specs.Reasons.{decision_code}
 use Rattle.xa_tables.specs.Next.{next}
 use Rattle.xa_tables.proofs.Unnamed.{tables_after-append, unnamed_fate}
 use Rattle.xa_tables.specs.History as history
-use Rattle.xa_tables.specs.History.{History, Fate, fate, fate_in, fates_in, fate_of, coded, of_thread, tables_after, last_or, is_done, is_rolled_back, is_in_doubt as is_unknown, prepare_fate, decided_fate, heur_fate, IsFateOf}
+use Rattle.xa_tables.specs.History.{History, Fate, fate, fate_in, fate_of, coded, of_thread, tables_after, last_or, is_done, is_rolled_back, is_in_doubt as is_unknown, prepare_fate, decided_fate, heur_fate, IsFateOf}
 use Rattle.xa_tables.specs.Openings.{IsOpening}
 use Rattle.xa_tables.specs.Prepared.{names, OnlyDecides, LeavesWaiting, AwaitsTheOutcome, AwaitsAfter, IsTold, closes, is_heur, is_forget, answer_when, fates_when}
 use Rattle.xa_desk.specs.LedgerView.{LedgerView, is_rm_fail}

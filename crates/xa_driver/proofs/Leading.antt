@@ -19,7 +19,7 @@ use Rattle.xa_tables.specs.Tables.{Tables, has_opened, state_of, exists, is_S3, 
 use Rattle.xa_tables.specs.Reasons.{decision_code}
 use Rattle.xa_tables.specs.Next.{Answer, next, needs_opening, by_rules, commit_two, rollback, forget, gone, committed}
 use Rattle.xa_tables.specs.History as history
-use Rattle.xa_tables.specs.History.{History, Fate, tables_after, fate_of, is_done, last_or, decided_fate, rollback_fate}
+use Rattle.xa_tables.specs.History.{History, Fate, tables_after, fate_of, is_done, last_or, decided_fate}
 use Rattle.xa_tables.specs.Openings.{reopened, reopened_fate}
 use Rattle.xa_tables.specs.Prepared.{names}
 use Rattle.xa_tables.proofs.Effects.{error_tells, reason_rolls_back, decision_commits_nothing, decision_rolls_nothing_back}

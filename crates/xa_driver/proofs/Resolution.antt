@@ -16,7 +16,7 @@ use Rattle.xa_tables.specs.declared.state.HeuristicDecision.{HeuristicDecision}
 use Rattle.xa_tables.specs.Tables.{Tables, state_of, is_left_in}
 use Rattle.xa_tables.specs.Reasons.{decision_code}
 use Rattle.xa_tables.specs.History as history
-use Rattle.xa_tables.specs.History.{History, Fate, fate, coded, tables_after, last_or, decided_fate, is_in_doubt as is_unknown, IsFateOf, share}
+use Rattle.xa_tables.specs.History.{History, Fate, fate, coded, tables_after, decided_fate, is_in_doubt as is_unknown, IsFateOf, share}
 use Rattle.xa_tables.specs.Openings.{commits_over, reopened, told_by}
 use Rattle.xa_tables.proofs.Reopening.{as_left}
 use Rattle.xa_desk.specs.LedgerView.{LedgerView, learnt_shut}

@@ -18,7 +18,7 @@ use Rattle.xa_tables.specs.Tables.{Tables, association_of}
 use Rattle.xa_tables.specs.Next.{next}
 use Rattle.xa_tables.proofs.Unnamed.{tables_after-append, unnamed_fate}
 use Rattle.xa_tables.specs.History as history
-use Rattle.xa_tables.specs.History.{History, Fate, fates_in, fate_of, coded, of_thread, tables_after, is_done, is_read_only, is_rolled_back, is_integrity, prepare_fate, rollback_fate, ending, ending_by, or_later, commits_later, added_by, share, share_of, EndsNowhere}
+use Rattle.xa_tables.specs.History.{History, Fate, fate_of, coded, of_thread, tables_after, is_done, is_read_only, is_rolled_back, is_integrity, prepare_fate, rollback_fate, ending, ending_by, or_later, commits_later, added_by, share, share_of, EndsNowhere}
 use Rattle.xa_tables.specs.Openings.{IsOpening}
 use Rattle.xa_tables.specs.Worth.{moved, moved_by, held_by}
 use Rattle.xa_tables.specs.Prepared.{names, NamesNowhere, LeavesWaiting, AwaitsTheOutcome, is_forget, fates_when}

@@ -140,15 +140,8 @@ fn end_all<R: Wait, I: Idle>(
         let Some(ticket) = tickets.pop() else {
             unreachable!()
         };
-        let ask = asks[place];
-        let code = end(rt, desk, &ask, ticket, idle);
-        asks[place] = Ask {
-            manager: ask.manager,
-            xid: ask.xid,
-            vote: ask.vote,
-            op: ask.op,
-            code,
-        };
+        let code = end(rt, desk, &asks[place], ticket, idle);
+        asks[place].code = code;
     }
 }
 

@@ -41,36 +41,22 @@ pub(crate) enum Verb {
 fn verb_of(word: &[u8]) -> Option<Verb>
     ensures { result ≡ verb_of word.now }
 {
-    if word == b"open".as_slice() {
-        Some(Verb::Plain(Call::OpenRm))
-    } else if word == b"close".as_slice() {
-        Some(Verb::Plain(Call::CloseRm))
-    } else if word == b"start".as_slice() {
-        Some(Verb::OnBranch(Call::Start))
-    } else if word == b"end".as_slice() {
-        Some(Verb::OnBranch(Call::End))
-    } else if word == b"prepare".as_slice() {
-        Some(Verb::OnBranch(Call::Prepare))
-    } else if word == b"commit".as_slice() {
-        Some(Verb::OnBranch(Call::Commit))
-    } else if word == b"rollback".as_slice() {
-        Some(Verb::OnBranch(Call::Rollback))
-    } else if word == b"forget".as_slice() {
-        Some(Verb::OnBranch(Call::Forget))
-    } else if word == b"heurcom".as_slice() {
-        Some(Verb::Heur(true))
-    } else if word == b"heurrb".as_slice() {
-        Some(Verb::Heur(false))
-    } else if word == b"add".as_slice() {
-        Some(Verb::Add)
-    } else if word == b"shut".as_slice() {
-        Some(Verb::Shut)
-    } else if word == b"complete".as_slice() {
-        Some(Verb::Complete)
-    } else if word == b"recover".as_slice() {
-        Some(Verb::Recover)
-    } else {
-        None
+    match word {
+        b"open" => Some(Verb::Plain(Call::OpenRm)),
+        b"close" => Some(Verb::Plain(Call::CloseRm)),
+        b"start" => Some(Verb::OnBranch(Call::Start)),
+        b"end" => Some(Verb::OnBranch(Call::End)),
+        b"prepare" => Some(Verb::OnBranch(Call::Prepare)),
+        b"commit" => Some(Verb::OnBranch(Call::Commit)),
+        b"rollback" => Some(Verb::OnBranch(Call::Rollback)),
+        b"forget" => Some(Verb::OnBranch(Call::Forget)),
+        b"heurcom" => Some(Verb::Heur(true)),
+        b"heurrb" => Some(Verb::Heur(false)),
+        b"add" => Some(Verb::Add),
+        b"shut" => Some(Verb::Shut),
+        b"complete" => Some(Verb::Complete),
+        b"recover" => Some(Verb::Recover),
+        _ => None,
     }
 }
 

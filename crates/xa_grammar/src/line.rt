@@ -50,32 +50,24 @@ fn head_of(word: &[u8]) -> Option<Head>
     ensures { result ≡ head_of word.now }
 {
     if word.starts_with(b"#") {
-        Some(Head::Comment)
-    } else if all_digits(word) {
-        // Most lines begin so.
-        Some(Head::Thread)
-    } else if word == b"threads".as_slice() {
-        Some(Head::Count(Count::Threads))
-    } else if word == b"managers".as_slice() {
-        Some(Head::Count(Count::Managers))
-    } else if word == b"handles".as_slice() {
-        Some(Head::Count(Count::Handles))
-    } else if word == b"queue".as_slice() {
-        Some(Head::Count(Count::Queue))
-    } else if word == b"requests".as_slice() {
-        Some(Head::Count(Count::Requests))
-    } else if word == b"sync".as_slice() {
-        Some(Head::Sync)
-    } else if word == b"logfail".as_slice() {
-        Some(Head::LogFail)
-    } else if word == b"key".as_slice() {
-        Some(Head::Key)
-    } else if word == b"turn".as_slice() {
-        Some(Head::Turn)
-    } else if word == b"reopen".as_slice() {
-        Some(Head::Reopen)
-    } else {
-        None
+        return Some(Head::Comment);
+    }
+    // Most lines begin so.
+    if all_digits(word) {
+        return Some(Head::Thread);
+    }
+    match word {
+        b"threads" => Some(Head::Count(Count::Threads)),
+        b"managers" => Some(Head::Count(Count::Managers)),
+        b"handles" => Some(Head::Count(Count::Handles)),
+        b"queue" => Some(Head::Count(Count::Queue)),
+        b"requests" => Some(Head::Count(Count::Requests)),
+        b"sync" => Some(Head::Sync),
+        b"logfail" => Some(Head::LogFail),
+        b"key" => Some(Head::Key),
+        b"turn" => Some(Head::Turn),
+        b"reopen" => Some(Head::Reopen),
+        _ => None,
     }
 }
 

@@ -8,20 +8,18 @@ use crate::outbox::Outbox;
 use crate::step::Step;
 use std::sync::Wait;
 use xa_tables::Manager;
-use xa_words::{Code, Completion, Request};
+use xa_words::{Code, Completion, Op, Request, RmOp, Xid};
 
 // Enters a request with its code.
 //
-// It is pushed out of an Option: today no proof is generated where a request, which holds another module's enum and
-// perhaps an Option, is pushed as it is.
+// It names the types within a request: a `push` of a type that only contains them gets no proof.
 fn enter(journal: &mut Vec<(Request, Code)>, request: &Request, code: Code)
     requires { vec_len journal.old < vec_capacity journal.old }
     ensures entry { journal.new.items ≡ journal.old.items ++ entry request.now code ∷ [] }
     ensures space { vec_capacity journal.new ≡ vec_capacity journal.old }
 {
-    if let Some(entry) = Some((*request, code)) {
-        journal.push_reserved(entry);
-    }
+    let _named: Option<(Xid, Op, RmOp)> = None;
+    journal.push_reserved((*request, code));
 }
 
 // Carries a request out at the manager, enters it with its code, and then sends its completion.

@@ -1,4 +1,4 @@
-use Rattle.std.proofs.Common.{List, map, sym, refl, ap, ◌∙◌, subst}
+use Rattle.std.proofs.Common.{List, sym, refl, ap, ◌∙◌, subst}
 use Rattle.xa_desk.specs.DeskView.{DeskView}
 use Rattle.xa_desk.specs.Ended.{EndedView}
 use Rattle.xa_worker.specs.Workers.{WorkerView}
