@@ -1,5 +1,5 @@
 -- The steps that are tasks of one thread.
-use Rattle.std.specs.Prelude.{◌≡◌, ℕ, Bool, true, List, Option, Some, None, is_some, filter, filter_map}
+use Rattle.std.specs.Prelude.{◌≡◌, ℕ, Bool, true, List, Option, Some, None, is_some, slice_get, filter, filter_map}
 use Rattle.xa_grammar.specs.declared.script.Task.{Task}
 use Rattle.xa_grammar.specs.declared.script.Step.{Step}
 use Rattle.xa_grammar.specs.declared.script.Step.TheVariants as step
@@ -26,3 +26,7 @@ own_steps t steps = filter (is_own t) steps
 -- the tasks that steps are
 abbrev pub tasks_in : List Step → List Task
 tasks_in steps = filter_map task_in steps
+
+-- the steps at these places
+abbrev pub steps_at : List Step → List ℕ → List Step
+steps_at steps places = filter_map (slice_get steps) places

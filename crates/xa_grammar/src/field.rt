@@ -96,7 +96,7 @@ pub(crate) fn xid_of(word: &[u8]) -> Option<Name<'_>>
     Some(Name::new(gtrid, bqual))
 }
 
-// A branch of the global transaction that a name stands for, of format 1.
+// The global transaction of format 1 that a name stands for, given as one of its branches.
 pub(crate) fn tran_named(word: &[u8]) -> Option<Name<'_>>
     ensures { option_map tran_of result ≡ tran_named word.now }
 {

@@ -44,7 +44,7 @@ impl Reading {
     {
         Ok(Reading {
             threads_mode,
-            script: Script::new(alloc),
+            script: Script::new(alloc)?,
             number: 1,
             line: Vec::with_capacity(alloc, ROOM)?,
         })

@@ -10,6 +10,7 @@ use crate::steps::Steps;
 use crate::tasks::Tasks;
 use std::alloc::{AllocError, Global};
 use std::marker::Model;
+use std::sync::Arc;
 use xa_words::{Call, Key, RmOp, Tran, Xid};
 
 /// A count that a line of its own sets.
@@ -144,17 +145,19 @@ pub struct Script {
     syncs: Vec<u32>,
     // Which append of a thread's log fails: place t - 1 for thread t.
     failing: [Option<u32>; 8],
-    steps: Steps,
+    // The threads that run them share them.
+    steps: Arc<Steps, Global>,
 }
 
 impl Model for Script {
+    ghost use Rattle.std.specs.Arc.{arc_value};
     ghost use Rattle.xa_grammar.specs.Content.{Content, IsScript};
 
     ghost Value = { Content };
 
-    ghost view = { λ s. record { settings = s.settings; keys = s.keys; syncs = s.syncs.items; failing = s.failing; steps = s.steps } };
+    ghost view = { λ s. record { settings = s.settings; keys = s.keys; syncs = s.syncs.items; failing = s.failing; steps = arc_value s.steps } };
 
-    ghost invariant = { λ s. IsScript (record { settings = s.settings; keys = s.keys; syncs = s.syncs.items; failing = s.failing; steps = s.steps }) };
+    ghost invariant = { λ s. IsScript (record { settings = s.settings; keys = s.keys; syncs = s.syncs.items; failing = s.failing; steps = arc_value s.steps }) };
 }
 
 impl Script {
@@ -162,10 +165,10 @@ impl Script {
     ghost use Rattle.std.specs.List.{list_any};
     ghost use Rattle.xa_grammar.specs.Content.{is_reopen, tasks_of, accounts_of, IsOfManager, IsOfScript, IsScript, threads_of, managers_of, handles_of, queue_of, requests_of, carries_async, failing_append, nothing, with_count, with_key, with_sync, with_failing, with_step};
 
-    pub(crate) fn new(alloc: Global) -> Script
-        ensures { result ≡ nothing }
+    pub(crate) fn new(alloc: Global) -> Result<Script, AllocError>
+        ensures { IfOk result (λ s. s ≡ nothing) }
     {
-        Script {
+        Ok(Script {
             settings: Settings {
                 threads: None,
                 managers: None,
@@ -176,8 +179,8 @@ impl Script {
             keys: Keys::new(alloc),
             syncs: Vec::new(alloc),
             failing: [None; 8],
-            steps: Steps::new(alloc),
-        }
+            steps: Arc::new(alloc, Steps::new(alloc))?,
+        })
     }
 
     /// How many threads of control there are, 1 to 8.
@@ -265,7 +268,6 @@ impl Script {
     pub fn len(&self) -> usize
         ensures steps { result ≡ length self.now.steps }
         ensures fits { result < 2 ^ 63 }
-        ensures of { All (IsOfScript self.now) self.now.steps }
     {
         self.steps.len()
     }
@@ -287,12 +289,20 @@ impl Script {
         self.steps.get(place)
     }
 
+    /// Does nothing. What it ensures holds of every script: its steps are of its threads and managers.
+    pub fn steps_are_of_it(&self)
+        ensures { All (IsOfScript self.now) self.now.steps }
+    {
+        // The invariant says so. It is known where a field is used.
+        let _ = &self.settings;
+    }
+
     /// The tasks of a thread alone.
     pub fn tasks_of(&self, alloc: Global, thread: u32) -> Result<Tasks, AllocError>
         ensures { IfOk result (λ t. t ≡ tasks_of thread self.now.steps) }
     {
-        let own = self.steps.of_thread(alloc, thread)?;
-        Ok(Tasks::new(own))
+        let places = self.steps.places_of(alloc, thread)?;
+        Ok(Tasks::new(Arc::try_clone(&self.steps)?, places))
     }
 
     pub(crate) fn settings(&self) -> &Settings
@@ -340,6 +350,6 @@ impl Script {
         requires { IsScript self.old → IsScript (with_step heard.now self.old) }
         ensures { OnOk result (self.new ≡ with_step heard.now self.old) }
     {
-        self.steps.push(heard.shape())
+        Arc::make_mut(&mut self.steps)?.push(heard.shape())
     }
 }

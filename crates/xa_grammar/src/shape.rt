@@ -25,7 +25,7 @@ pub(crate) enum Shape<N> {
         calling: Calling<N>,
         flags: u32,
     },
-    /// A branch of the transaction stands for it.
+    /// The global transaction is given as one of its branches.
     CommitAll {
         line: u32,
         thread: u32,

@@ -1,9 +1,8 @@
 //! Steps in a small form: the bytes of their names stand one after the other, and each step says where.
-ghost use Rattle.std.specs.Prelude.{◌≡◌, ◌<◌, ◌^◌, ◌++◌, ◌∷◌, [], ℕ, List, Some, length, slice_get, IfOk, OnOk, OnErr};
+ghost use Rattle.std.specs.Prelude.{◌≡◌, ◌<◌, ◌^◌, ◌++◌, ◌∷◌, [], ℕ, List, Some, length, slice_get, All, IfOk, OnOk, OnErr};
 ghost use Rattle.std.specs.List.{list_any};
-ghost use Rattle.xa_words.specs.Xid.{XidName};
 ghost use Rattle.xa_grammar.specs.Content.{is_reopen};
-ghost use Rattle.xa_grammar.specs.OwnTasks.{is_own, own_steps};
+ghost use Rattle.xa_grammar.specs.OwnTasks.{is_own, own_steps, steps_at};
 ghost use Rattle.xa_grammar.specs.declared.script.Step.{Step};
 ghost use Rattle.xa_grammar.specs.Shapes.{action_of, step_of};
 ghost use Rattle.xa_grammar.specs.Kept.{name_at, IsName, HasItsNames, IsNamed, is_reopening};
@@ -12,6 +11,7 @@ use crate::name::Name;
 use crate::script::{Action, Called, CommitAll, Step, Task};
 use crate::shape::{Calling, Shape};
 use std::alloc::{AllocError, Global};
+use std::clone::Clone;
 use std::marker::Model;
 use xa_words::RmOp;
 
@@ -126,68 +126,17 @@ fn keep(names: &mut Vec<u8>, shape: &Shape<Name>) -> Result<Shape<Place>, AllocE
     })
 }
 
-// What is called, with the name that stands where it says.
-fn calling_at<'a>(names: &'a [u8], calling: &Calling<Place>) -> Calling<Name<'a>>
+// What a thread is told to call, with the xid that stands where it says.
+fn action_at(names: &[u8], calling: &Calling<Place>) -> Action
     requires { HasItsNames names.now calling.now }
-    ensures { action_of (λ x. x) result ≡ action_of (name_at names.now) calling.now }
+    ensures { result ≡ action_of (name_at names.now) calling.now }
 {
     match calling {
-        Calling::Xa(call, Some(place)) => Calling::Xa(*call, Some(name_at(names, *place))),
-        Calling::Xa(call, None) => Calling::Xa(*call, None),
-        Calling::Heur(place, commits) => Calling::Heur(name_at(names, *place), *commits),
-        Calling::Add(key, delta) => Calling::Add(*key, *delta),
-        Calling::Shut => Calling::Shut,
-        Calling::Complete(handle) => Calling::Complete(*handle),
-        Calling::Recover(room) => Calling::Recover(*room),
-    }
-}
-
-// A step, with the names that stand where it says.
-fn shape_at<'a>(names: &'a [u8], shape: &Shape<Place>) -> Shape<Name<'a>>
-    requires { IsNamed names.now shape.now }
-    ensures { step_of (λ x. x) result ≡ step_of (name_at names.now) shape.now }
-{
-    match shape {
-        Shape::Call {
-            line,
-            thread,
-            manager,
-            calling,
-            flags,
-        } => Shape::Call {
-            line: *line,
-            thread: *thread,
-            manager: *manager,
-            calling: calling_at(names, calling),
-            flags: *flags,
-        },
-        Shape::CommitAll {
-            line,
-            thread,
-            branch,
-            managers,
-        } => Shape::CommitAll {
-            line: *line,
-            thread: *thread,
-            branch: name_at(names, *branch),
-            managers: *managers,
-        },
-        Shape::Resolve(resolve) => Shape::Resolve(*resolve),
-        Shape::Turn { line, manager } => Shape::Turn {
-            line: *line,
-            manager: *manager,
-        },
-        Shape::Reopen { line } => Shape::Reopen { line: *line },
-    }
-}
-
-fn action_of(calling: &Calling<Name>) -> Action
-    ensures { result ≡ action_of (λ x. x) calling.now }
-{
-    match calling {
-        Calling::Xa(call, Some(name)) => Action::Xa(*call, Some(name.xid())),
+        Calling::Xa(call, Some(place)) => Action::Xa(*call, Some(name_at(names, *place).xid())),
         Calling::Xa(call, None) => Action::Xa(*call, None),
-        Calling::Heur(name, commits) => Action::Native(RmOp::Heur(name.xid(), *commits)),
+        Calling::Heur(place, commits) => {
+            Action::Native(RmOp::Heur(name_at(names, *place).xid(), *commits))
+        }
         Calling::Add(key, delta) => Action::Native(RmOp::Add(*key, *delta)),
         Calling::Shut => Action::Native(RmOp::Shut),
         Calling::Complete(handle) => Action::Complete(*handle),
@@ -195,8 +144,10 @@ fn action_of(calling: &Calling<Name>) -> Action
     }
 }
 
-fn step_of(shape: &Shape<Name>) -> Step
-    ensures { result ≡ step_of (λ x. x) shape.now }
+// The step that is kept, with its xid.
+fn step_at(names: &[u8], shape: &Shape<Place>) -> Step
+    requires { IsNamed names.now shape.now }
+    ensures { result ≡ step_of (name_at names.now) shape.now }
 {
     match shape {
         Shape::Call {
@@ -209,7 +160,7 @@ fn step_of(shape: &Shape<Name>) -> Step
             line: *line,
             thread: *thread,
             manager: *manager,
-            action: action_of(calling),
+            action: action_at(names, calling),
             flags: *flags,
         })),
         Shape::CommitAll {
@@ -220,7 +171,7 @@ fn step_of(shape: &Shape<Name>) -> Step
         } => Step::Task(Task::CommitAll(CommitAll {
             line: *line,
             thread: *thread,
-            tran: branch.xid().tran(),
+            tran: name_at(names, *branch).xid().tran(),
             managers: *managers,
         })),
         Shape::Resolve(resolve) => Step::Task(Task::Resolve(*resolve)),
@@ -289,19 +240,31 @@ impl Steps {
         requires { place < length self.now }
         ensures { slice_get self.now place ≡ Some result }
     {
-        step_of(&shape_at(&self.names, &self.kept[place]))
+        step_at(&self.names, &self.kept[place])
     }
 
-    /// The tasks of a thread alone.
-    pub(crate) fn of_thread(&self, alloc: Global, thread: u32) -> Result<Steps, AllocError>
-        ensures { IfOk result (λ s. s ≡ own_steps thread self.now) }
+    /// Where the tasks of a thread stand.
+    pub(crate) fn places_of(&self, alloc: Global, thread: u32) -> Result<Vec<usize>, AllocError>
+        ensures own { IfOk result (λ v. steps_at self.now v.items ≡ own_steps thread self.now) }
+        ensures within { IfOk result (λ v. All (λ k. k < length self.now) v.items) }
     {
-        let mut own = Steps::new(alloc);
-        for shape in &self.kept {
-            if is_of(thread, shape) {
-                own.push(&shape_at(&self.names, shape))?;
+        let mut places = Vec::new(alloc);
+        for place in 0..self.kept.len() {
+            if is_of(thread, &self.kept[place]) {
+                places.push(place)?;
             }
         }
-        Ok(own)
+        Ok(places)
+    }
+}
+
+impl Clone for Steps {
+    ghost is_clone = { λ a b. b ≡ a };
+
+    fn clone(&self) -> Result<Steps, AllocError> {
+        Ok(Steps {
+            names: self.names.clone()?,
+            kept: self.kept.clone()?,
+        })
     }
 }

@@ -94,8 +94,8 @@ impl<'a> Words<'a> {
         xid_of(self.word()?).ok_or(Reason::BadXid)
     }
 
+    // A global transaction, given as one of its branches.
     #[tactic(auto, unfolding(crate::specs::Fields::tran_at))]
-    // A branch of the transaction stands for it.
     pub(crate) fn tran(&mut self) -> Result<Name<'a>, Reason>
         ensures { MatchResult result (λ x. tran_at self.old ≡ Ok (tran_of x, self.new)) (λ why. tran_at self.old ≡ Err why) }
     {

@@ -74,6 +74,7 @@ fn run<R: Threads + Wait + Copy + Send + 'static, P: Pace + Drop + Send + 'stati
     requires one { AreOfOne script.now.steps }
     ensures { IfOk result (λ r. (answers : List Answer) × (last : Opening) × (r.0.items ≡ answers_text answers) × IsOutcome mode.Threads script.now answers [] last × (last.settled ≡ r.1)) }
 {
+    script.steps_are_of_it();
     let plan = plan_of(alloc, script)?;
     let threads = threads_of(alloc, script)?;
     let lines = Vec::with_capacity(alloc, script.len().saturating_mul(LINE))?;

@@ -1,5 +1,5 @@
 //! What a script has answered, as the text of its transcript.
-ghost use Rattle.std.specs.Prelude.{◌≡◌, ◌++◌, ◌∷◌, [], IfOk, OnOk};
+ghost use Rattle.std.specs.Prelude.{◌≡◌, ◌++◌, ◌∷◌, [], IfOk, OnOk, OnErr};
 ghost use Rattle.xa_session.specs.Text.{answers_text};
 
 use crate::answer::Answer;
@@ -47,7 +47,8 @@ impl Told {
 
     /// Tells one more answer.
     pub fn push(&mut self, answer: Answer) -> Result<(), AllocError>
-        ensures { OnOk result (self.new ≡ self.old ++ answer ∷ []) }
+        ensures told { OnOk result (self.new ≡ self.old ++ answer ∷ []) }
+        ensures same { OnErr result (self.new ≡ self.old) }
     {
         self.line.clear();
         put_answer(&mut self.line, &answer)?;

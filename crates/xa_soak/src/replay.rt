@@ -15,7 +15,7 @@ fn replays(tables: &mut Manager, journal: &[(Request, Code)]) -> bool
         if !(1..=8).contains(&thread) || tables.room() == 0 {
             return false;
         }
-        if tables.apply(thread, entry.0.op) != entry.1 {
+        if tables.apply(thread, &entry.0.op) != entry.1 {
             return false;
         }
     }

@@ -87,15 +87,15 @@ impl Manager {
     }
 
     /// Carries out one request of a thread, and answers its code. It takes no memory.
-    pub fn apply(&mut self, thread: u32, op: Op) -> Code
+    pub fn apply(&mut self, thread: u32, op: &Op) -> Code
         requires thread { (1 ≤ thread) × (thread ≤ self.old.threads) }
         requires room { 0 < self.old.room }
-        ensures step { (self.new.tables, result) ≡ next thread op self.old.tables }
+        ensures step { (self.new.tables, result) ≡ next thread op.now self.old.tables }
         ensures room { self.new.room + 1 ≡ self.old.room }
         ensures threads { self.new.threads ≡ self.old.threads }
         ensures reserved { self.new.reserved ≡ None }
     {
-        let code = step(&mut self.inner, thread as usize, &op);
+        let code = step(&mut self.inner, thread as usize, op);
         self.left -= 1;
         self.reserved = None;
         code

@@ -21,7 +21,7 @@ fn carry_out(rt: &impl Abort, manager: &mut Manager, thread: u32, steps: &[(Op, 
 {
     for (op, code) in steps {
         assert!(rt; 0 < manager.room());
-        assert_eq!(rt; manager.apply(thread, *op).value(), *code);
+        assert_eq!(rt; manager.apply(thread, op).value(), *code);
     }
 }
 

@@ -48,7 +48,7 @@ pub(crate) fn carry_out<R: Wait>(
     } else {
         Step::Did
     };
-    let code = manager.apply(request.thread, request.op);
+    let code = manager.apply(request.thread, &request.op);
     enter(journal, request, code);
     let completion = Completion {
         manager: number,

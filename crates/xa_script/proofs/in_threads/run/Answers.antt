@@ -48,7 +48,7 @@ returns-in-Ok g c =
     let are_opened : AreOpened s 1 (opened s) desks r.workers = record { setup = planned c.in_ok-plan.plan; said = planned_setup s c.in_ok-plan.plan c.in_ok-plan.ensures.plan r.sound; opened = r.opened } in
     let all_opened : AreOpened s 1 (opened s) (map (λ (x : Session). x.desk) sessions) r.workers =
     subst (λ ds. AreOpened s 1 (opened s) ds r.workers) (sym (map_map (λ (x : Session). x.desk) (λ (t : Member ScriptThread). new_session s t.desk) r.members)) are_opened in
-    let fits : All (Fits (threads_of s) (managers_of s)) s.steps = c.len.ensures.of in
+    let fits : All (Fits (threads_of s) (managers_of s)) s.steps = c.steps_are_of_it.ensures in
     let worked = members_worked s r.members r.workers are_opened c.in_ok-threads.threads.items c.in_ok-threads.ensures r.clients_are r.ran c.in-Ok.run'.clients.items r.attended_are c.in_ok-lines_of-in-Ok.ensures.done in
     let runs : InThreads s s.steps sessions worked.0 r.workers ended r.done answers = record {
       threads = r.members;

@@ -95,7 +95,7 @@ loop-place-preserved g c =
             reached =
                 reached_as s (lines ++ step.Task t ∷ []) (take (k + 1) steps) c.match-step.runner r.opening new.sessions.items new.turns.workers.items (answers ++ a ∷ []) c.match-step.told
                 (longer ∙ ap (λ q. lines ++ q ∷ []) w.in-Task.is) number (ap (λ (x : Runner). x.sessions.items) w.runner-is) (ap (λ (x : Runner). x.turns.workers.items) w.runner-is)
-                (w.told-is ∙ w.in_ok-push-in-Task.ensures)
+                (w.told-is ∙ w.in_ok-push-in-Task.ensures.told)
                 (stepped s lines r.opening r.sessions.items r.turns.workers.items answers h (step.Task t) a new.sessions.items new.turns.workers.items refl (subst (Fits (threads_of s) (managers_of s)) w.in-Task.is fits) w.in_ok-call-in-Task.ensures.calls);
             few = omega (arith, number, few);
           }
@@ -108,7 +108,7 @@ loop-place-preserved g c =
             reached =
                 reached_as s (lines ++ x ∷ []) (take (k + 1) steps) c.match-step.runner r.opening new.sessions.items new.turns.workers.items (answers ++ a ∷ []) c.match-step.told
                 (longer ∙ ap (λ q. lines ++ q ∷ []) w.in-Turn.is) number (ap (λ (x : Runner). x.sessions.items) w.runner-is) (ap (λ (x : Runner). x.turns.workers.items) w.runner-is)
-                (w.told-is ∙ w.in_ok-push-in-Turn.ensures)
+                (w.told-is ∙ w.in_ok-push-in-Turn.ensures.told)
                 (stepped s lines r.opening r.sessions.items r.turns.workers.items answers h x a new.sessions.items new.turns.workers.items refl (subst (Fits (threads_of s) (managers_of s)) w.in-Turn.is fits) w.turn.ensures.turns);
             few = omega (arith, number, few);
           }
@@ -125,7 +125,7 @@ loop-place-preserved g c =
             reached =
                 reached_as s (lines ++ step.Reopen line ∷ []) (take (k + 1) steps) c.match-step.runner new.opening new.sessions.items new.turns.workers.items ((answers ++ x.0) ++ answer.Reopened line ∷ []) c.match-step.told
                 (longer ∙ ap (λ q. lines ++ q ∷ []) w.in-Reopen.is) same (ap (λ (x : Runner). x.sessions.items) w.runner-is) (ap (λ (x : Runner). x.turns.workers.items) w.runner-is)
-                (w.told-is ∙ w.in_ok-push-in-Reopen.ensures ∙ ap (λ l. l ++ answer.Reopened line ∷ []) x.1)
+                (w.told-is ∙ w.in_ok-push-in-Reopen.ensures.told ∙ ap (λ l. l ++ answer.Reopened line ∷ []) x.1)
                 (reopened s lines r.opening r.sessions.items r.turns.workers.items answers h x.0 closed.settled line y.0 y.1 new.opening new.sessions.items new.turns.workers.items y.2 y.3);
             few = omega (arith, same, number, own, few);
           }

@@ -23,7 +23,7 @@ loop-place-preserved g c =
     let old : Session × List Answer = (session_of c.loop-place.desk c.loop-place.log c.loop-place.scan, c.loop-place.told) in
     let new : Session × List Answer = (session_of c.carry_out.new.desk c.carry_out.new.log c.carry_out.new.scan, c.push.new.self) in
     record {
-      runs = subst (λ l. Chain HasDone first l new) (sym (take_next tasks n p within c.get-task.ensures)) (more (take n tasks) p old new i.runs (record { answer = a; does = c.in_ok-answer.ensures.does; told = c.in_ok-push.ensures }));
+      runs = subst (λ l. Chain HasDone first l new) (sym (take_next tasks n p within c.get-task.ensures)) (more (take n tasks) p old new i.runs (record { answer = a; does = c.in_ok-answer.ensures.does; told = c.in_ok-push.ensures.told }));
       goes_on = c.desks_go_on.ensures.further c.args.desk.now c.loop-place.desk c.carry_out.new.desk i.goes_on c.carry_out.ensures.goes_on;
       kept = λ all. c.carry_out.ensures.kept (i.kept all);
     }

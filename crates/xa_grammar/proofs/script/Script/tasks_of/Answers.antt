@@ -1,16 +1,23 @@
-use Rattle.std.proofs.Common.{sym, ap, ◌∙◌, subst}
+use Rattle.std.proofs.Common.{◌≡◌, ℕ, List, sym, ap, ◌∙◌, subst}
 use Rattle.std.specs.Prelude.{All}
+use Rattle.std.specs.Arc.{arc_value}
+use Rattle.xa_grammar.specs.declared.script.Step.{Step}
 use Rattle.xa_grammar.specs.Content.{Content, tasks_of}
-use Rattle.xa_grammar.specs.OwnTasks.{IsTask, tasks_in}
+use Rattle.xa_grammar.specs.OwnTasks.{IsTask, tasks_in, own_steps, steps_at}
 use Rattle.xa_grammar.proofs.OwnTasks.{own_are_tasks, own_tasks}
 use Rattle.xa_grammar.proofs.script.Script.tasks_of.Goals as goal
 
-pub new-requires : goal.new-requires
-new-requires c = subst (All IsTask) (sym c.in_ok-own.ensures) (own_are_tasks c.args.thread c.self.inside.steps)
+-- the same steps behind each pointer
+own_behind : (t : ℕ) (shared lent steps : List Step) (places : List ℕ) → shared ≡ steps → lent ≡ steps → steps_at lent places ≡ own_steps t lent → steps_at shared places ≡ own_steps t steps
+own_behind t shared lent steps places one other own = ap (λ (l : List Step). steps_at l places) (one ∙ sym other) ∙ own ∙ ap (own_steps t) other
+
+pub new-requires-clause-tasks : goal.new-requires-clause-tasks
+new-requires-clause-tasks c =
+    subst (All IsTask) (sym (own_behind c.args.thread _ _ _ c.in_ok-places.places.items c.in_ok-try_clone.ensures c.deref.ensures c.in_ok-places.ensures.own)) (own_are_tasks c.args.thread (arc_value c.self.inside.steps))
 
 pub returns : goal.returns
 returns c =
     c.new.ensures
-    ∙ ap tasks_in c.in_ok-own.ensures
-    ∙ own_tasks c.args.thread c.self.inside.steps
+    ∙ ap tasks_in (own_behind c.args.thread _ _ _ c.in_ok-places.places.items c.in_ok-try_clone.ensures c.deref.ensures c.in_ok-places.ensures.own)
+    ∙ own_tasks c.args.thread (arc_value c.self.inside.steps)
     ∙ ap (λ (s : Content). tasks_of c.args.thread s.steps) c.self.view_is

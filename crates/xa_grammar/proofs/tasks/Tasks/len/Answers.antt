@@ -1,6 +1,7 @@
 use Rattle.std.proofs.Common.{length, sym, ap, ◌∙◌}
-use Rattle.xa_grammar.proofs.OwnTasks.{as_many_tasks}
+use Rattle.std.specs.Arc.{arc_value}
+use Rattle.xa_grammar.proofs.OwnTasks.{as_many_places}
 use Rattle.xa_grammar.proofs.tasks.Tasks.len.Goals as goal
 
 pub returns : goal.returns
-returns c = c.len.ensures.steps ∙ sym (as_many_tasks c.self.inside.steps c.self.invariant) ∙ ap length c.self.view_is
+returns c = c.len.ensures ∙ c.self.inside.places.ok.0 ∙ sym (as_many_places (arc_value c.self.inside.steps) c.self.inside.places.items c.self.invariant.0 c.self.invariant.1) ∙ ap length c.self.view_is
