@@ -1,13 +1,19 @@
 #!/usr/bin/env python3
-"""Runs the program on scripts whose first fault is known, on scripts without one, and on wrong words: faults.py PROGRAM.
+"""Runs the program on scripts whose first fault is known, on others, and on wrong words: faults.py PROGRAM.
 
-A fault is told in both modes, alone, with status 1 and nothing on standard output. Words other than `turns` or
-`threads` give the usage and status 2, and no script is read: the one that stands there has a fault.
+A fault is told in both modes, alone, with status 1 and nothing on standard output. What is shown of a script without
+one is judged by ../transcript.py. Words other than `turns` or `threads` give the usage and status 2, and no script is
+read: the one that stands there has a fault.
 """
 import concurrent.futures
 import os
 import subprocess
 import sys
+
+sys.path.insert(0, os.path.dirname(os.path.dirname(os.path.abspath(__file__))))
+sys.dont_write_bytecode = True
+
+import transcript
 
 
 def keys(count):
@@ -68,11 +74,8 @@ FAULTY = [
     ("key 1 a 1\nkey 1 a 2 3\n", "line 2: extra word"),
     ("logfail 1 1 1\n", "line 1: extra word"),
     ("logfail 1 1 fly\n", "line 1: extra word"),
-    ("turn 1 1", "line 1: extra word"),
-    ("reopen 1", "line 1: extra word"),
     ("1 resolve 1\n", "line 1: extra word"),
     ("1 resolve async", "line 1: extra word"),
-    ("reopen startrscan\n", "line 1: extra word"),
     ("1234567890123456789 fly\n", "line 1: bad number"),
     ("threads two\n", "line 1: bad number"),
     ("managers -1\n", "line 1: bad number"),
@@ -147,9 +150,6 @@ FAULTY = [
     ("1 commitall t 1\nsync 1\n", "line 2: setting after action"),
     ("1 open 1\nlogfail\n", "line 2: setting after action"),
     ("1 open 1\nlogfail 9 0\n", "line 2: setting after action"),
-    ("turn 1\nlogfail 1 1\n", "line 2: setting after action"),
-    ("reopen\nlogfail 1 1\n", "line 2: setting after action"),
-    ("reopen\nthreads 9\n", "line 2: setting after action"),
     ("1 commitall t 1\nlogfail 1 1\n", "line 2: setting after action"),
     ("threads 2\nthreads 3\n", "line 2: setting twice"),
     ("threads 2\nthreads 9 9\n", "line 2: setting twice"),
@@ -169,6 +169,66 @@ FAULTY = [
     ("managers 3\n1 commitall t 2 1 3\n", "line 2: bad branches"),
     ("managers 3\n1 commitall t 1 3 3", "line 2: bad branches"),
     ("1 commitall t" + " 1" * 249, "line 1: bad branches"),
+    # One beyond each limit, of which TAKEN has the last that is taken.
+    ("threads 9\n", "line 1: out of range"),
+    ("handles 0\n", "line 1: out of range"),
+    ("handles 33\n", "line 1: out of range"),
+    ("queue 0\n", "line 1: out of range"),
+    ("queue 65\n", "line 1: out of range"),
+    ("managers 0\n", "line 1: out of range"),
+    ("threads 8\n9 open 1\n", "line 2: out of range"),
+    ("managers 8\nsync 9\n", "line 2: out of range"),
+    ("sync 0\n", "line 1: out of range"),
+    ("managers 8\nkey 9 a 1\n", "line 2: out of range"),
+    ("key 0 a 1\n", "line 1: out of range"),
+    ("1 complete 1 2147483648\n", "line 1: out of range"),
+    ("1 complete 4294967296 1\n", "line 1: out of range"),
+    ("1 start 4294967296 g.1\n", "line 1: out of range"),
+    ("1 shut 4294967296\n", "line 1: out of range"),
+    ("1 open 999999999999999999\n", "line 1: out of range"),
+    ("999999999999999999 open 1\n", "line 1: out of range"),
+    ("1 complete 1 999999999999999999\n", "line 1: out of range"),
+    ("1 recover 1 999999999999999999\n", "line 1: out of range"),
+    ("1 add 1 a -999999999999999999\n", "line 1: out of range"),
+    ("key 1 a 999999999999999999\n", "line 1: out of range"),
+    ("logfail 1 999999999999999999\n", "line 1: out of range"),
+    ("0000000000000000001 open 1\n", "line 1: bad number"),
+    ("1 open 0000000000000000001\n", "line 1: bad number"),
+    ("1 complete 1 0000000000000000001\n", "line 1: bad number"),
+    ("1 recover 1 0000000000000000001\n", "line 1: bad number"),
+    ("1 add 1 a 0000000000000000001\n", "line 1: bad number"),
+    ("1 add 1 a -0000000000000000001\n", "line 1: bad number"),
+    ("1 commitall t 0000000000000000001\n", "line 1: bad number"),
+    ("threads 0000000000000000001\n", "line 1: bad number"),
+    ("key 1 a 0000000000000000001\n", "line 1: bad number"),
+    ("logfail 1 0000000000000000001\n", "line 1: bad number"),
+    (f"key 1 {'k' * 17} 1\n", "line 1: bad key"),
+    (f"1 start 1 g.{'b' * 65}\n", "line 1: bad xid"),
+    (f"1 forget 1 {'g' * 65}.{'b' * 64}\n", "line 1: bad xid"),
+    ("1 open 1" + " " * 505, "line 1: line too long"),
+    ("1 open 1" + " " * 505 + "\r\n", "line 1: line too long"),
+]
+
+# Faults of lines that stand in no script that is run in threads.
+FAULTY_IN_TURNS = [
+    ("turn 1 1", "line 1: extra word"),
+    ("reopen 1", "line 1: extra word"),
+    ("reopen startrscan\n", "line 1: extra word"),
+    ("turn 1\nlogfail 1 1\n", "line 2: setting after action"),
+    ("reopen\nlogfail 1 1\n", "line 2: setting after action"),
+    ("reopen\nthreads 9\n", "line 2: setting after action"),
+    ("turn\n", "line 1: missing word"),
+    ("turn 0\n", "line 1: out of range"),
+    ("managers 8\nturn 9\n", "line 2: out of range"),
+    ("turn 0000000000000000001\n", "line 1: bad number"),
+    ("turn 999999999999999999 fly\n", "line 1: out of range"),
+]
+
+FAULTY_IN_THREADS = [
+    ("1 open 1\nturn 1", "line 2: turn in threads mode"),
+    ("turn x 1\n", "line 1: turn in threads mode"),
+    ("1 open 1\nreopen", "line 2: reopen in threads mode"),
+    ("reopen 1\n", "line 1: reopen in threads mode"),
 ]
 
 TAKEN = [
@@ -188,59 +248,74 @@ TAKEN = [
     keys(256),
     f"1 commitall {'g' * 64} 1",
     "1 recover 1 0\n1 recover 9 64 startrscan endrscan async join\n1 open 1 endrscan\n",
+    # The last that each limit lets through.
+    "1 complete 1 2147483647\n",
+    "1 complete 4294967295 0 multiple\n1 start 4294967295 g.1\n1 shut 4294967295\n1 recover 4294967295 64 startrscan\n",
+    "1 recover 1 64 startrscan\n1 open 1\n1 recover 1 64 startrscan\n",
+    "threads 8\nmanagers 8\nhandles 32\nqueue 64\nrequests 4096\nsync 8\nlogfail 8 1000000\n8 open 8\n8 open 7 async\n",
+    "threads 1\nmanagers 1\nhandles 1\nqueue 1\nrequests 1\nlogfail 1 1\n1 open 1 async\n1 open 1\n",
+    "000000000000000001 open 000000000000000001\n1 complete 1 000000000000000001\n1 commitall g 000000000000000001\n",
+    "threads 000000000000000001\nlogfail 1 000000000000000001\n1 add 1 a -000000000000000001\n",
+    "managers 000000000000000008\nsync 000000000000000008\n1 recover 8 000000000000000064 startrscan\n",
+    f"key 1 {'k' * 16} 0\n1 open 1\n1 start 1 g.1\n1 add 1 {'k' * 16} 1000000000000\n1 end 1 g.1 success\n"
+    "1 commitall g 1\n",
+    f"1 open 1\n1 start 1 {'g' * 64}.{'b' * 64}\n1 end 1 {'g' * 64}.{'b' * 64} success\n",
+    "managers 2\n" + keys(256) + keys(256).replace("key 1", "key 2"),
+    "1 open 1" + " " * 504 + "\n1 close 1" + " " * 503 + "\r",
+    "key 1 a 1\n1 open 1\n1 start 1 g.1\n1 add 1 a 1000000000000\n1 add 1 a -1000000000000\n1 end 1 g.1 success\n"
+    "1 commit 1 g.1 onephase",
 ]
 
-# What stands in no script that is run in threads.
-TURNS_ONLY = {
-    "1 open 1\nturn 1": "line 2: turn in threads mode",
-    "turn x 1\n": "line 1: turn in threads mode",
-    "1 open 1\nreopen": "line 2: reopen in threads mode",
-    "reopen 1\n": "line 1: reopen in threads mode",
-}
+TAKEN_IN_TURNS = [
+    "managers 8\nturn 8\nturn 000000000000000008\nreopen\n",
+    "1 open 1 async\nturn 1\nreopen\n1 resolve\n1 recover 1 64 startrscan",
+    "1 open 1\n" * 99_999 + "turn 1\n",
+]
 
-
-WORDS = ["", "turns turns", "turns -h", "-- turns", "threads turns", "turn", "turnss", "TURNS", "help", "-h", "--help", "--turns", "-", "--"]
-WORDS = [it.split() for it in WORDS] + [[""], ["turns "], ["turns", ""]]
+WORDS = ["", "turns turns", "turns -h", "-- turns", "threads turns", "turn", "turnss", "TURNS", "help", "-h", "--help"]
+WORDS = [it.split() for it in [*WORDS, "--turns", "-", "--"]] + [[""], ["turns "], ["turns", ""], [b"turns\xff"]]
 
 
 def runs(program, words, script):
     ran = subprocess.run([program, *words], input=script.encode(), capture_output=True, timeout=60)
-    return ran.returncode, ran.stdout, ran.stderr.decode()
+    return ran.returncode, ran.stdout, ran.stderr
 
 
-def is_faulty(program, script, mode, text):
+def is_right(program, script, mode, expected):
+    """Whether the program tells this fault, or where it is `taken`, shows what a judge of transcripts lets through. The
+    judge reads the script too, and has to find the same."""
     came = runs(program, [mode], script)
-    if came == (1, b"", text + "\n"):
-        return True
-    print(f"faults: {mode}: {came}, not {text}, at {script[:200]!r}")
-    return False
-
-
-def is_taken(program, script, mode):
-    status, _, told = runs(program, [mode], script)
-    if (status, told) == (0, ""):
-        return True
-    print(f"faults: {mode}: status {status} and {told!r}, at {script[:200]!r}")
+    told, why, is_judged = transcript.judge(script.encode(), mode, came)
+    if expected.endswith(told) and why is None and is_judged:
+        if told == "taken" or came == (1, b"", f"{expected}\n".encode()):
+            return True
+    print(f"faults: {mode}: {why or transcript.shortened(came)}, not {expected}, at {script[:200]!r}")
     return False
 
 
 def gives_usage(program, words):
     came = runs(program, words, "fly")
-    if came == (2, b"", "usage: xaswitch turns or threads\n"):
+    if came == (2, b"", b"usage: xaswitch turns or threads\n"):
         return True
     print(f"faults: {came}, at the words {words}")
     return False
 
 
+def rows():
+    """Each script with a mode and what is expected of it."""
+    for mode, faulty, taken in [("turns", FAULTY_IN_TURNS, TAKEN_IN_TURNS), ("threads", FAULTY_IN_THREADS, [])]:
+        yield from ((script, mode, text) for script, text in FAULTY + faulty)
+        yield from ((script, mode, "taken") for script in TAKEN + taken)
+
+
 def main(program):
-    modes = ("turns", "threads")
-    with concurrent.futures.ThreadPoolExecutor(os.cpu_count()) as pool:
-        waiting = [pool.submit(is_faulty, program, script, mode, text) for script, text in FAULTY for mode in modes if mode == "turns" or not script.startswith(("turn ", "reopen"))]
-        waiting += [pool.submit(is_taken, program, script, mode) for script in TAKEN for mode in modes]
-        waiting += [pool.submit(is_faulty, program, script, "threads", text) for script, text in TURNS_ONLY.items()]
+    with concurrent.futures.ProcessPoolExecutor(os.cpu_count()) as pool:
+        waiting = [pool.submit(is_right, program, *row) for row in rows()]
         waiting += [pool.submit(gives_usage, program, words) for words in WORDS]
         failed = sum(not it.result() for it in waiting)
-    print(f"faults: {len(FAULTY)} scripts with a fault and {len(TAKEN)} without, {len(WORDS)} wrong words, {failed} runs were wrong")
+    faulty, taken = len(FAULTY + FAULTY_IN_TURNS + FAULTY_IN_THREADS), len(TAKEN + TAKEN_IN_TURNS)
+    counts = f"{faulty} scripts with a fault and {taken} without, {len(WORDS)} wrong words"
+    print(f"faults: {counts}, {failed} runs were wrong")
     return 1 if failed else 0
 
 

@@ -1,14 +1,18 @@
 -- What comes of a call that its flags make asynchronous, and of collecting by its handle.
 use Rattle.std.specs.Prelude.{◌≡◌, ◌≢◌, ℕ, zero, suc, ◌<◌, ℤ, pos, negsuc, Bool, true, false, Option, Some, None, option_map, if◌then◌else◌, Result, Ok, Err, IfOk, refl}
-use Rattle.std.proofs.Common.{sym, ap, ◌∙◌, subst, arith, w32, of_z, ◌==◌}
+use Rattle.std.proofs.Common.{sym, ap, ◌∙◌, subst, arith, w32, of_z, ◌==◌, List}
 use Rattle.std.specs.Option.{option_or}
+use Rattle.std.specs.FinMap as map
+use Rattle.std.specs.Ordering.{nat_cmp}
 use Rattle.xa_words.specs.Code.{number_of}
 use Rattle.xa_words.specs.declared.code.Code.{Code}
 use Rattle.xa_words.specs.declared.code.Code.TheVariants.{Done, Async, Inval}
 use Rattle.xa_words.specs.declared.request.Op.{Op}
 use Rattle.xa_desk.specs.declared.refused.Refused.{Refused}
 use Rattle.xa_desk.specs.declared.refused.Refused.TheVariants.{NoSuchManager, Shut, TooMany, Spent, Full}
-use Rattle.xa_desk.specs.DeskView.{DeskView, IsHandle, ledger, after_collected, reach_refusal, submit_refusal}
+use Rattle.xa_desk.specs.LedgerView.{LedgerView}
+use Rattle.xa_desk.specs.declared.operation.Operation.{Operation}
+use Rattle.xa_desk.specs.DeskView.{DeskView, IsHandle, ledger, after_sent, after_collected, next_operation, reach_refusal, submit_refusal}
 use Rattle.xa_words.specs.Xid.{XidName}
 use Rattle.xa_words.specs.declared.flags.Call.{Call}
 use Rattle.xa_words.specs.declared.request.RmOp.{RmOp}
@@ -75,6 +79,28 @@ puts_op m op answer old new c x f calls is = put_by m op answer old new (subst (
 pub puts_native : (m : ℕ) (op : Op) (answer : ℤ) (old new : DeskView) (o : RmOp) (f : ℕ) → Calls (native o f) old m new answer → native o f ≡ Ok (record { op = op; asynchronous = true }) → PutsOp m op answer old new
 puts_native m op answer old new o f calls is = put_by m op answer old new (subst (λ a. Calls a old m new answer) is calls)
 
+-- ---- a request that is put again
+
+-- a call that answers XAER_ASYNC did nothing
+pub full_stays : (m : ℕ) (op : Op) (answer : ℤ) (old new : DeskView) → answer ≡ number_of Async → PutsOp m op answer old new → StaysSo old new
+full_stays m op answer old new is p = subst (λ z. PutsOp m op z old new) is p
+
+pub same_stays : (d : DeskView) → StaysSo d d
+same_stays d = record { ledgers = refl; kept = refl }
+
+pub stays_on : (old mid new : DeskView) → StaysSo old mid → StaysSo mid new → StaysSo old new
+stays_on old mid new p q = record { ledgers = q.ledgers ∙ p.ledgers; kept = q.kept ∙ p.kept }
+
+-- so what it did later it did at first
+pub put_later : (m : ℕ) (op : Op) (answer : ℤ) (old mid new : DeskView) → StaysSo old mid → PutsOp m op answer mid new → PutsOp m op answer old new
+put_later m op (pos zero) old mid new s p = stays_on old mid new s p
+put_later m op (pos (suc k)) old mid new s p = record {
+  free = ap (λ (h : map.FinMap nat_cmp Operation). map.get h (suc k)) (sym s.kept) ∙ p.free;
+  ledgers = p.ledgers ∙ ap (λ (l : List LedgerView). after_sent l m op) s.ledgers;
+  kept = p.kept ∙ (λ i. map.insert (s.kept i) (suc k) (next_operation (s.ledgers i) m));
+}
+put_later m op (negsuc k) old mid new s p = stays_on old mid new s p
+
 -- ---- its completion
 
 -- what was redeemed and collected
@@ -118,7 +144,7 @@ pub completed : (handle retval : ℤ) (m : ℕ) (old new : DeskView) (handle' re
 completed handle retval m old new handle' retval' answer h = by_manager (may_complete old m false) handle m old new handle' retval retval' answer h.collected h.completes h.numbered h.tells
 
 -- only XA_OK is 0
-only_done : (c : Code) → (of_z w32 (number_of c) == 0) ≡ true → c ≡ Done
+pub only_done : (c : Code) → (of_z w32 (number_of c) == 0) ≡ true → c ≡ Done
 only_done Done e = refl
 only_done c e = cc
 

@@ -2,6 +2,7 @@ pub mod Results
 pub mod Sent
 pub mod Handles
 pub mod Worked
+pub mod Called
 pub mod Named
 pub mod Told
 pub mod Adds

@@ -10,18 +10,20 @@ use Rattle.xa_words.specs.declared.code.Code.{Code}
 use Rattle.xa_words.specs.declared.request.Op.{Op}
 use Rattle.xa_words.specs.declared.request.Op.TheVariants.{Start, Add, End, Rollback}
 use Rattle.xa_words.specs.declared.request.StartHow.TheVariants.{Fresh}
-use Rattle.xa_words.specs.declared.request.EndHow.TheVariants.{Success}
+use Rattle.xa_words.specs.declared.request.EndHow.TheVariants.{Success, Fail}
 use Rattle.xa_tables.specs.Prepared.{names}
 use Rattle.xa_desk.specs.declared.operation.Operation.{Operation}
 use Rattle.xa_desk.specs.LedgerView.{LedgerView, with_sent, with_collected}
-use Rattle.xa_desk.specs.DeskView.{DeskView, ledger, no_ledger, put_ledger, after_sent, after_collected}
+use Rattle.xa_desk.specs.DeskView.{DeskView, ledger, no_ledger, put_ledger, after_sent, after_collected, next_operation}
+use Rattle.xa_desk.specs.Lanes.{submitted, after_fulls}
+use Rattle.xa_desk.specs.Looks.{Collects}
 use Rattle.xa_switch.specs.Putting.{Puts}
 use Rattle.xa_switch.specs.Putting.Puts.{refused, full, kept, answered}
 use Rattle.xa_switch.proofs.Kept.{fulls_ledgers}
 use Rattle.xa_driver.specs.Commits.{is_commit}
 use Rattle.xa_bank.specs.declared.teller.Leg.{Leg}
-use Rattle.xa_bank.specs.declared.teller.Flight.{Flight}
-use Rattle.xa_bank.specs.Requests.{StaysSo, PutsOp, IsCollected, CollectsOp, done, undone, nothing, BeginsLeg, EndsLeg}
+use Rattle.xa_bank.specs.declared.in_flight.Flight.{Flight}
+use Rattle.xa_bank.specs.Requests.{StaysSo, PutsOp, IsCollected, CollectsOp, done, undone, nothing, BeginsLeg, EndsLeg, after_called}
 use Rattle.xa_bank.specs.Transfers.{HasSent, HaveSent, IsFor}
 
 -- ---- one ledger
@@ -95,19 +97,24 @@ collect_sent P handle ok old new (done k is positive said i) = got_sent P k _ ol
 collect_sent P handle ok old new (undone k c is unsaid i) = got_sent P k c old new i
 collect_sent P handle ok old new (nothing unsaid s) = stayed P old new s
 
+-- what a synchronous call that was answered did to the ledgers
+pub answered_ledgers : (m : ℕ) (op : Op) (n : ℕ) (c : Code) (old new : DeskView) → Collects (submitted (after_fulls n old m) m op) new (next_operation old.ledgers m) c → new.ledgers ≡ after_called old.ledgers m op c
+answered_ledgers m op n c old new collects =
+    let sending : collects.before.ledgers ≡ after_sent old.ledgers m op =
+    ap (λ (d : DeskView). d.ledgers) collects.looks.rest ∙ ap (λ (l : List LedgerView). after_sent l m op) (fulls_ledgers n old m) in
+    ap (λ (d : DeskView). d.ledgers) collects.collected ∙ ap (λ (l : List LedgerView). after_collected l (next_operation old.ledgers m) c) sending
+
+pub call_adds : (P : Op → Type 0) (m : ℕ) (op : Op) (c : Code) (at : List LedgerView) → P op → HaveSent P at (after_called at m op c)
+call_adds P m op c at so =
+    have_on P at (after_sent at m op) (after_called at m op c) (one_sent P at m op so) (one_collected P (after_sent at m op) (next_operation at m) c)
+
 -- a synchronous call
 pub call_sent : (P : Op → Type 0) (m : ℕ) (op : Op) (answer : ℤ) (old new : DeskView) → P op → Puts old m (record { op = op; asynchronous = false }) new answer → HaveSent P old.ledgers new.ledgers
 call_sent P m op answer old new so (refused c why is same) = have_none P old.ledgers new.ledgers (ap (λ (d : DeskView). d.ledgers) same)
 call_sent P m op answer old new so (full none now is same) = cc
 call_sent P m op answer old new so (kept none now k is free same) = cc
 call_sent P m op answer old new so (answered none now n c is collects) =
-    let at : List LedgerView = old.ledgers in
-    let sending : collects.before.ledgers ≡ after_sent at m op =
-    ap (λ (d : DeskView). d.ledgers) collects.looks.rest ∙ ap (λ (l : List LedgerView). after_sent l m op) (fulls_ledgers n old m) in
-    let o : Operation = record { manager = m; number = length (ledger at m).sent } in
-    let all : new.ledgers ≡ after_collected (after_sent at m op) o c =
-    ap (λ (d : DeskView). d.ledgers) collects.collected ∙ ap (λ (l : List LedgerView). after_collected l o c) sending in
-    subst (HaveSent P at) (sym all) (have_on P at (after_sent at m op) (after_collected (after_sent at m op) o c) (one_sent P at m op so) (one_collected P (after_sent at m op) o c))
+    subst (HaveSent P old.ledgers) (sym (answered_ledgers m op n c old new collects)) (call_adds P m op c old.ledgers so)
 
 -- ---- the requests for a leg
 
@@ -134,12 +141,26 @@ is_for one two leg op of_one uncommitting named = record {
   named = λ y e. subst (λ (z : XidName). (z ≡ one.branch.xid) ⊎ (z ≡ two.branch.xid)) ((Decides-xid_eq leg.branch.xid y).0 (named y e)) of_one;
 }
 
+-- the three of its work
+pub record WorkIsFor (one two leg : Leg) (k : List ℕ) : Type 0 where
+  pub starts : IsFor one two (Start leg.branch.xid Fresh)
+  pub adds : IsFor one two (Add k leg.delta)
+  pub ends : IsFor one two (End leg.branch.xid Success)
+
+pub work_is_for : (one two leg : Leg) → IsOneOf one two leg → (k : List ℕ) → WorkIsFor one two leg k
+work_is_for one two leg of_one k = record {
+  starts = is_for one two leg (Start leg.branch.xid Fresh) of_one refl (λ y e. e);
+  adds = record { uncommitting = refl; named = λ y e. cc };
+  ends = is_for one two leg (End leg.branch.xid Success) of_one refl (λ y e. e);
+}
+
 pub leg_begins : (one two leg : Leg) → IsOneOf one two leg → (k : List ℕ) (f : Flight) (old new : DeskView) → BeginsLeg leg k f old new → HaveSent (IsFor one two) old.ledgers new.ledgers
 leg_begins one two leg of_one k f old new b =
-    begins_sent (IsFor one two) leg k f old new
-    (is_for one two leg (Start leg.branch.xid Fresh) of_one refl (λ y e. e))
-    (record { uncommitting = refl; named = λ y e. cc })
-    (is_for one two leg (End leg.branch.xid Success) of_one refl (λ y e. e)) b
+    let work = work_is_for one two leg of_one k in
+    begins_sent (IsFor one two) leg k f old new work.starts work.adds work.ends b
 
 pub rolls_back : (one two leg : Leg) → IsOneOf one two leg → IsFor one two (Rollback leg.branch.xid)
 rolls_back one two leg of_one = is_for one two leg (Rollback leg.branch.xid) of_one refl (λ y e. e)
+
+pub fails : (one two leg : Leg) → IsOneOf one two leg → IsFor one two (End leg.branch.xid Fail)
+fails one two leg of_one = is_for one two leg (End leg.branch.xid Fail) of_one refl (λ y e. e)

@@ -15,7 +15,7 @@ use Rattle.xa_desk.specs.DeskView.{DeskView, IsKnown, ledger, put_ledger, after_
 use Rattle.xa_desk.specs.GoesOn.{GoesOn, plan_of}
 use Rattle.xa_desk.proofs.Ledgers.{ledger-put_same, ledger-put_other}
 use Rattle.xa_bank.specs.declared.teller.Leg.{Leg}
-use Rattle.xa_bank.specs.declared.teller.Flight.{Flight}
+use Rattle.xa_bank.specs.declared.in_flight.Flight.{Flight}
 use Rattle.xa_bank.specs.Requests.{IsPut, PutsOp, IsCollected, CollectsOp, done, undone, nothing, BeginsLeg, EndsLeg}
 use Rattle.xa_bank.specs.Transfers.{AreApart, HasWorked, HaveWorked}
 
@@ -136,19 +136,19 @@ gets_leg f ok old new e yes_ =
 -- ---- one manager's ledger
 
 -- the ledger with manager m came to b, and the others stayed
-record Block (m : ℕ) (b : LedgerView) (at at' : List LedgerView) : Type 0 where
-  here : ledger at' m ≡ b
-  others : (n : ℕ) → 1 ≤ n → n ≢ m → ledger at' n ≡ ledger at n
-  many : length at' ≡ length at
+pub record Block (m : ℕ) (b : LedgerView) (at at' : List LedgerView) : Type 0 where
+  pub here : ledger at' m ≡ b
+  pub others : (n : ℕ) → 1 ≤ n → n ≢ m → ledger at' n ≡ ledger at n
+  pub many : length at' ≡ length at
 
-known_on : (m : ℕ) (at at' : List LedgerView) → length at' ≡ length at → IsKnown at m → IsKnown at' m
+pub known_on : (m : ℕ) (at at' : List LedgerView) → length at' ≡ length at → IsKnown at m → IsKnown at' m
 known_on m at at' many known = record { positive = known.positive; within = let h = known.within in omega (arith, h, many) }
 
-block_start : (m : ℕ) (at : List LedgerView) → Block m (ledger at m) at at
+pub block_start : (m : ℕ) (at : List LedgerView) → Block m (ledger at m) at at
 block_start m at = record { here = refl; others = λ n p q. refl; many = refl }
 
 -- and then to what a change makes of it
-block_on : (m : ℕ) (b : LedgerView) (change : LedgerView → LedgerView) (at at' at'' : List LedgerView) → IsKnown at m → Block m b at at' → at'' ≡ put_ledger at' m (change (ledger at' m)) → Block m (change b) at at''
+pub block_on : (m : ℕ) (b : LedgerView) (change : LedgerView → LedgerView) (at at' at'' : List LedgerView) → IsKnown at m → Block m b at at' → at'' ≡ put_ledger at' m (change (ledger at' m)) → Block m (change b) at at''
 block_on m b change at at' at'' known z is =
     let known' : IsKnown at' m = known_on m at at' z.many known in
     let positive = known.positive in
@@ -158,10 +158,10 @@ block_on m b change at at' at'' known z is =
       many = length-set at' (m - 1) (change (ledger at' m)) ∙ z.many;
     })
 
-abbrev sent3 : Leg → List ℕ → LedgerView → LedgerView
+abbrev pub sent3 : Leg → List ℕ → LedgerView → LedgerView
 sent3 leg k a = with_sent (with_sent (with_sent a (Start leg.branch.xid Fresh)) (Add k leg.delta)) (End leg.branch.xid Success)
 
-abbrev got3 : ℕ → ℕ → ℕ → LedgerView → LedgerView
+abbrev pub got3 : ℕ → ℕ → ℕ → LedgerView → LedgerView
 got3 n1 n2 n3 a = with_collected (with_collected (with_collected a n1 Done) n2 Done) n3 Done
 
 -- a leg's three requests are sent
@@ -202,7 +202,7 @@ three_more : {A : Type 0} (xs : List A) (x y z : A) → ((xs ++ x ∷ []) ++ y �
 three_more [] x y z = refl
 three_more (w ∷ xs) x y z = ap (λ l. w ∷ l) (three_more xs x y z)
 
-has_worked : (leg : Leg) (k : List ℕ) (a a' : LedgerView) (n1 n2 n3 : ℕ) → a' ≡ got3 n1 n2 n3 (sent3 leg k a) → n1 ≡ length a.sent → n2 ≡ length a.sent + 1 → n3 ≡ length a.sent + 2 → HasWorked leg k a a'
+pub has_worked : (leg : Leg) (k : List ℕ) (a a' : LedgerView) (n1 n2 n3 : ℕ) → a' ≡ got3 n1 n2 n3 (sent3 leg k a) → n1 ≡ length a.sent → n2 ≡ length a.sent + 1 → n3 ≡ length a.sent + 2 → HasWorked leg k a a'
 has_worked leg k a a' n1 n2 n3 is e1 e2 e3 = record {
   sent = ap (λ (l : LedgerView). l.sent) is ∙ three_more a.sent (Start leg.branch.xid Fresh) (Add k leg.delta) (End leg.branch.xid Success);
   collected = ap (λ (l : LedgerView). l.collected) is ∙ three_more a.collected (n1, Done) (n2, Done) (n3, Done) ∙ (λ i. a.collected ++ (e1 i, Done) ∷ (e2 i, Done) ∷ (e3 i, Done) ∷ []);

@@ -9,9 +9,10 @@ use Rattle.xa_words.specs.declared.request.Op.TheVariants.{Start, Add, End}
 use Rattle.xa_words.specs.declared.request.StartHow.TheVariants.{Fresh}
 use Rattle.xa_words.specs.declared.request.EndHow.TheVariants.{Success}
 use Rattle.xa_desk.specs.declared.operation.Operation.{Operation}
+use Rattle.xa_desk.specs.LedgerView.{LedgerView}
 use Rattle.xa_desk.specs.DeskView.{DeskView, after_sent, after_collected, next_operation}
 use Rattle.xa_bank.specs.declared.teller.Leg.{Leg}
-use Rattle.xa_bank.specs.declared.teller.Flight.{Flight}
+use Rattle.xa_bank.specs.declared.in_flight.Flight.{Flight}
 
 -- what was sent, collected and kept stays
 pub record StaysSo (old new : DeskView) : Type 0 where
@@ -64,4 +65,29 @@ pub record EndsLeg (f : Flight) (ok : Bool) (old new : DeskView) : Type 0 where
   pub starts : CollectsOp f.start started old one
   pub adds : CollectsOp f.add added one two
   pub ends : CollectsOp f.end ended two new
+  pub all : ok ≡ (started && (added && ended))
+
+-- ---- synchronous calls
+
+-- the op was put to manager m, and collected with this code
+abbrev pub after_called : List LedgerView → ℕ → Op → Code → List LedgerView
+after_called at m op c = after_collected (after_sent at m op) (next_operation at m) c
+
+-- what became of a synchronous call: the op was put to manager m, and collected with XA_OK, or with another code; or it
+-- was refused, and nothing was put
+pub data CallsOp (m : ℕ) (op : Op) (ok : Bool) (old new : DeskView) : Type 0 where
+  called : ok ≡ true → new.ledgers ≡ after_called old.ledgers m op Done → CallsOp m op ok old new
+  failed : (c : Code) → ok ≡ false → new.ledgers ≡ after_called old.ledgers m op c → CallsOp m op ok old new
+  uncalled : ok ≡ false → new.ledgers ≡ old.ledgers → CallsOp m op ok old new
+
+-- a leg's start, addition and end were called, one after the other, and whether each answered XA_OK
+pub record CallsLeg (leg : Leg) (k : List ℕ) (ok : Bool) (old new : DeskView) : Type 0 where
+  pub begun : DeskView
+  pub increased : DeskView
+  pub started : Bool
+  pub added : Bool
+  pub ended : Bool
+  pub starts : CallsOp leg.branch.m (Start leg.branch.xid Fresh) started old begun
+  pub adds : CallsOp leg.branch.m (Add k leg.delta) added begun increased
+  pub ends : CallsOp leg.branch.m (End leg.branch.xid Success) ended increased new
   pub all : ok ≡ (started && (added && ended))

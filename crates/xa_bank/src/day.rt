@@ -33,7 +33,8 @@ pub fn run_day<R: Threads + Wait + Copy + Send + 'static>(
 ) -> Result<Day, CrewFault>
     requires { length tellers.items ≡ plan.now.threads }
     ensures ran { IfOk result (λ day. IsRun Works plan.now tellers.items day.clients.items day.settled) }
-    ensures conserved { IfOk result (λ day. All EndsWhole day.clients.items → settled_worth plan.now day.settled ≡ plan_worth plan.now) }
+    ensures conserved { IfOk result (λ day. All EndsWhole day.clients.items
+        → settled_worth plan.now day.settled ≡ plan_worth plan.now) }
 {
     transfers_conserve_the_worth();
     managers_open_with_their_accounts();

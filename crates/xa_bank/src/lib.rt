@@ -2,11 +2,14 @@
 //! control, move money between stores, each transfer as one global transaction.
 //!
 //! It shows how a program uses the library. A teller is the client of a crew (teller.rt): it keeps requests to both
-//! stores in flight, and commits both branches with `commit_all`. `run_day` (day.rt) runs the tellers over a plan, and
-//! ensures that what they sent, what the stores carried out and what was collected agree, and that it is of the plan.
+//! stores in flight (in_flight.rt), or with few handles calls one after the other (in_turn.rt), and commits both
+//! branches with `commit_all`. `run_day` (day.rt) runs the tellers over a plan, and ensures that what they sent, what
+//! the stores carried out and what was collected agree, and that it is of the plan.
 #![tactic(auto)]
 
 mod day;
+mod in_flight;
+mod in_turn;
 mod teller;
 
 pub use day::{Day, run_day};

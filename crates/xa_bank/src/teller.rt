@@ -1,20 +1,21 @@
 //! What a teller does: transfers, one after the other.
-ghost use Rattle.std.specs.Prelude.{◌≡◌, ◌+◌, [], length, true, IfOk, MatchOption, OnOk, Ok, Some};
-ghost use Rattle.xa_switch.specs.Asking.{asked_of};
-ghost use Rattle.xa_bank.specs.Requests.{PutsOp, BeginsLeg, CollectsOp, EndsLeg};
+ghost use Rattle.std.specs.Prelude.{◌≡◌, ◌+◌, [], length, true, IfOk, MatchOption, OnOk};
 ghost use Rattle.xa_bank.specs.Tellers.{HasMade};
-ghost use Rattle.xa_bank.specs.Transfers.{AreApart, AreLegs, HaveSent, HaveWorked, IsFor, IsLeg, IsOpenRm, Makes, Transfers};
+ghost use Rattle.xa_bank.specs.Transfers.{AreApart, AreLegs, HaveSent, HaveWorked, IsFor, IsLeg, IsOpenRm, Makes};
+ghost use Rattle.xa_bank.specs.Transfers.{Transfers};
 ghost use Rattle.xa_desk.specs.GoesOn.{GoesOn};
 ghost use Rattle.xa_desk.specs.Kept.{AllKept};
 
+use crate::in_flight::work_in_flight;
+use crate::in_turn::work_in_turn;
 use std::alloc::{AllocError, Global};
 use std::sync::Wait;
 use xa_crew::Client;
 use xa_desk::laws::desks_go_on;
 use xa_desk::{Desk, Spin};
 use xa_driver::{Branch, Done, MemoryLog, commit_all, may_commit};
-use xa_switch::{native, xa_call, xa_complete};
-use xa_words::{Call, Code, Delta, Key, Op, RmOp, TMASYNC, TMNOFLAGS, TMSUCCESS, Xid};
+use xa_switch::xa_call;
+use xa_words::{Call, Delta, EndHow, Key, Op, TMFAIL, TMNOFLAGS, Xid};
 
 /// An amount that goes from an account at one store to the account of that name at another.
 #[derive(Clone, Copy, Debug, PartialEq, Eq)]
@@ -30,9 +31,11 @@ pub struct Transfer {
 /// What became of a transfer.
 #[derive(Debug, Drop)]
 pub enum Outcome {
-    /// Both branches were prepared, and this came of it.
+    /// The work for both branches answered XA_OK, and `commit_all` came to this. A store may have voted against it.
     Decided(Done),
-    /// A store refused it, and both branches were rolled back.
+    /// No Commit was sent for it. Either it has no two legs, or wanted handles or planned requests, and nothing was
+    /// sent; or not all of its work answered XA_OK, and it was given up: both branches were ended as failed and rolled
+    /// back.
     Refused,
 }
 
@@ -50,9 +53,9 @@ pub struct Teller {
 
 // A store's branch of the transfer, and what is added to its account there.
 #[derive(Clone, Copy)]
-struct Leg {
-    branch: Branch,
-    delta: Delta,
+pub(crate) struct Leg {
+    pub(crate) branch: Branch,
+    pub(crate) delta: Delta,
 }
 
 // The store's leg of this global transaction.
@@ -83,79 +86,15 @@ fn legs_of(thread: u32, place: usize, transfer: &Transfer) -> Option<(Leg, Leg)>
     }
 }
 
-// What was put for a leg: the handle of each request, or the code by which it was refused.
-#[derive(Clone, Copy)]
-struct Flight {
-    start: i32,
-    add: i32,
-    end: i32,
-}
-
-// A call of XA for the branch, which its flags make asynchronous: its handle, or why it was refused.
-fn put<R: Wait>(
-    rt: &R,
-    desk: &mut Desk,
-    call: Call,
-    branch: &Branch,
-    flags: u32,
-    idle: &mut Spin,
-) -> i32
+// Ends the thread's work on a leg's branch as failed. A thread that stays associated with a branch can't roll it back,
+// and can start no other at its store. Where the work has ended it is an error, which changes nothing.
+fn fail<R: Wait>(rt: &R, desk: &mut Desk, leg: &Leg, idle: &mut Spin)
     ensures goes_on { GoesOn desk.old desk.new }
     ensures kept { AllKept desk.old → AllKept desk.new }
-    ensures puts { (op : Op) → asked_of call (Some branch.now.xid) flags ≡ Ok (record { op = op; asynchronous = true }) → PutsOp branch.now.m op result desk.old desk.new }
+    ensures sent { HaveSent (λ op. op ≡ Op.End leg.now.branch.xid EndHow.Fail) desk.old.ledgers desk.new.ledgers }
 {
-    let xid = Some(branch.xid);
-    xa_call(rt, desk, call, xid, branch.m, flags, idle)
-}
-
-// The same for the leg's addition.
-fn put_addition<R: Wait>(rt: &R, desk: &mut Desk, leg: &Leg, account: Key, idle: &mut Spin) -> i32
-    ensures goes_on { GoesOn desk.old desk.new }
-    ensures kept { AllKept desk.old → AllKept desk.new }
-    ensures puts { PutsOp leg.now.branch.m (Op.Add account leg.now.delta) result desk.old desk.new }
-{
-    let addition = RmOp::Add(account, leg.delta);
-    native(rt, desk, addition, leg.branch.m, TMASYNC, idle)
-}
-
-// Puts a start, an addition and an end to the leg's store, all in flight.
-fn begin<R: Wait>(rt: &R, desk: &mut Desk, leg: &Leg, account: Key, idle: &mut Spin) -> Flight
-    ensures goes_on { GoesOn desk.old desk.new }
-    ensures kept { AllKept desk.old → AllKept desk.new }
-    ensures begins { BeginsLeg leg.now account result desk.old desk.new }
-{
-    desks_go_on();
-    let start = put(rt, desk, Call::Start, &leg.branch, TMASYNC, idle);
-    let add = put_addition(rt, desk, leg, account, idle);
-    let end = put(rt, desk, Call::End, &leg.branch, TMASYNC | TMSUCCESS, idle);
-    Flight { start, add, end }
-}
-
-// Collects what the handle stands for: whether it is one, and XA_OK was answered.
-fn collect<R: Wait>(rt: &R, desk: &mut Desk, manager: u32, handle: i32, idle: &mut Spin) -> bool
-    ensures goes_on { GoesOn desk.old desk.new }
-    ensures kept { AllKept desk.old → AllKept desk.new }
-    ensures collects { CollectsOp handle result desk.old desk.new }
-{
-    if handle <= 0 {
-        return false;
-    }
-    let (mut handle, mut retval) = (handle, Code::Retry.value());
-    let answer = xa_complete(rt, desk, &mut handle, &mut retval, manager, TMNOFLAGS, idle);
-    answer == 0 && retval == 0
-}
-
-// Whether what was put to the store under the flight's handles answered XA_OK, all three.
-fn is_done<R: Wait>(rt: &R, desk: &mut Desk, store: u32, flight: &Flight, idle: &mut Spin) -> bool
-    ensures goes_on { GoesOn desk.old desk.new }
-    ensures kept { AllKept desk.old → AllKept desk.new }
-    ensures ends { EndsLeg flight.now result desk.old desk.new }
-{
-    desks_go_on();
-    let started = collect(rt, desk, store, flight.start, idle);
-    let added = collect(rt, desk, store, flight.add, idle);
-    let ended = collect(rt, desk, store, flight.end, idle);
-    started & added & ended
+    let xid = Some(leg.branch.xid);
+    xa_call(rt, desk, Call::End, xid, leg.branch.m, TMFAIL, idle);
 }
 
 // Rolls a leg's branch back.
@@ -168,18 +107,28 @@ fn roll_back<R: Wait>(rt: &R, desk: &mut Desk, leg: &Leg, idle: &mut Spin)
     xa_call(rt, desk, Call::Rollback, xid, leg.branch.m, TMNOFLAGS, idle);
 }
 
-// Rolls both branches back.
+// Ends the work on both branches, whatever became of it, and rolls them back.
 fn give_up<R: Wait>(rt: &R, desk: &mut Desk, one: &Leg, two: &Leg, idle: &mut Spin)
     ensures goes_on { GoesOn desk.old desk.new }
     ensures kept { AllKept desk.old → AllKept desk.new }
     ensures sent { HaveSent (IsFor one.now two.now) desk.old.ledgers desk.new.ledgers }
 {
     desks_go_on();
+    fail(rt, desk, one, idle);
+    fail(rt, desk, two, idle);
     roll_back(rt, desk, one, idle);
     roll_back(rt, desk, two, idle);
 }
 
-// Makes the additions of both legs, all six requests in flight. It tells whether all of them answered XA_OK.
+// The requests of a transfer's work, which are in flight together.
+const FLIGHT: u32 = 6;
+
+// Whether there is a handle for each request of the legs' work, and both stores take asynchronous calls.
+fn can_fly(desk: &Desk, one: &Leg, two: &Leg) -> bool {
+    desk.free() >= FLIGHT && desk.carries_async(one.branch.m) && desk.carries_async(two.branch.m)
+}
+
+// Makes the additions of both legs, in flight where that can be. It tells whether all requests answered XA_OK.
 fn work_for<R: Wait>(
     rt: &R,
     desk: &mut Desk,
@@ -191,17 +140,31 @@ fn work_for<R: Wait>(
     ensures goes_on { GoesOn desk.old desk.new }
     ensures kept { AllKept desk.old → AllKept desk.new }
     ensures sent { HaveSent (IsFor one.now two.now) desk.old.ledgers desk.new.ledgers }
-    ensures worked { result ≡ true → AreApart one.now two.now desk.new.ledgers → HaveWorked one.now two.now account desk.old.ledgers desk.new.ledgers }
+    ensures worked { result ≡ true → AreApart one.now two.now desk.new.ledgers
+        → HaveWorked one.now two.now account desk.old.ledgers desk.new.ledgers }
 {
-    desks_go_on();
-    let first = begin(rt, desk, one, account, idle);
-    let second = begin(rt, desk, two, account, idle);
-    let first_done = is_done(rt, desk, one.branch.m, &first, idle);
-    let second_done = is_done(rt, desk, two.branch.m, &second, idle);
-    first_done & second_done
+    if can_fly(desk, one, two) {
+        work_in_flight(rt, desk, one, two, account, idle)
+    } else {
+        work_in_turn(rt, desk, one, two, account, idle)
+    }
 }
 
-// Makes a transfer of these legs. It fails only for want of memory, and then both branches are rolled back.
+// The handles that a transfer wants, one for each branch as it commits.
+const BRANCHES: u32 = 2;
+
+// The requests that a transfer puts to a store at most: three for its work, and three to commit, or two to give up.
+const REQUESTS: u32 = 6;
+
+// Whether there is room for a transfer of these legs, so that it needn't be given up for want of any.
+fn has_room(desk: &Desk, one: &Leg, two: &Leg) -> bool {
+    desk.free() >= BRANCHES
+        && desk.room(one.branch.m) >= REQUESTS
+        && desk.room(two.branch.m) >= REQUESTS
+}
+
+// Makes a transfer of these legs, where there is room for it. It fails only for want of memory, and then both branches
+// are given up.
 fn carry_out<R: Wait>(
     rt: &R,
     alloc: Global,
@@ -217,6 +180,9 @@ fn carry_out<R: Wait>(
     ensures carried { IfOk result (λ o. Transfers one.now two.now account o desk.old desk.new) }
 {
     desks_go_on();
+    if !has_room(desk, one, two) {
+        return Ok(Outcome::Refused);
+    }
     let worked = work_for(rt, desk, one, two, account, idle);
     let branches = [one.branch, two.branch];
     if !worked || !may_commit(desk, log, &branches) {

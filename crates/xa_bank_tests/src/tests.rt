@@ -1,5 +1,7 @@
-//! Days of two tellers over three stores.
+//! Days of tellers over stores, and what all of them have in common.
+mod alone;
 mod crowded;
+mod stuck;
 
 ghost use Rattle.std.specs.Prelude.{◌≡◌, length};
 
@@ -7,16 +9,43 @@ use std::alloc::Global;
 use std::process::Abort;
 use std::sync::Wait;
 use std::thread::Threads;
-use xa_bank::{Outcome, Teller, Transfer, run_day};
+use xa_bank::{Day, Outcome, Teller, Transfer, run_day};
 use xa_driver::Ending;
 use xa_switch::{ManagerPlan, Plan, Settled};
 use xa_words::Key;
 
 const STORES: u32 = 3;
 
+const TRANSFERS: u32 = 60;
+
+// The accounts of each store: two that all tellers use, and then a till for each teller, which no other uses.
+const NAMES: [&[u8]; 10] = [
+    b"current", b"savings", b"till1", b"till2", b"till3", b"till4", b"till5", b"till6", b"till7",
+    b"till8",
+];
+
+const SHARED: usize = 2;
+
 const START: u64 = 1_000;
 
-const NAMES: [&[u8]; 2] = [b"current", b"savings"];
+// What a till has at first: more than its teller moves in a day.
+const FULL: u64 = 100_000;
+
+// What the account at this place of the names has at first.
+fn start_of(place: usize) -> u64 {
+    if place < SHARED { START } else { FULL }
+}
+
+fn accounts_of(rt: &impl Abort, alloc: Global) -> Vec<(Key, u64)> {
+    let mut accounts = Vec::new(alloc);
+    for (place, name) in NAMES.iter().enumerate() {
+        let account = Key::new(name).expect(rt, "a name");
+        accounts
+            .push((account, start_of(place)))
+            .expect(rt, "memory");
+    }
+    accounts
+}
 
 // A plan of so many stores with the same accounts.
 fn plan_of(rt: &impl Abort, alloc: Global, threads: u32, stores: u32) -> Plan
@@ -24,16 +53,10 @@ fn plan_of(rt: &impl Abort, alloc: Global, threads: u32, stores: u32) -> Plan
 {
     let mut managers = Vec::new(alloc);
     for _ in 0..stores {
-        let mut accounts = Vec::new(alloc);
-        for name in NAMES {
-            accounts
-                .push((Key::new(name).expect(rt, "a name"), START))
-                .expect(rt, "memory");
-        }
         managers
             .push(ManagerPlan {
                 use_async: true,
-                accounts,
+                accounts: accounts_of(rt, alloc),
             })
             .expect(rt, "memory");
     }
@@ -52,19 +75,61 @@ fn amount_of(k: u32) -> u32 {
     k % 7 * 100
 }
 
-// So many transfers round the stores, by turns of one account and the other.
-fn teller_of(rt: &impl Abort, alloc: Global, transfers: u32) -> Teller {
+// Whether a teller's transfer k is between tills of its own.
+fn is_own(k: u32) -> bool {
+    k % 4 == 3
+}
+
+// The account of transfer k of the teller at this place.
+fn account_of(rt: &impl Abort, place: u32, k: u32) -> Key {
+    let name = if is_own(k) {
+        SHARED + place as usize % 8
+    } else {
+        k as usize % SHARED
+    };
+    Key::new(NAMES[name]).expect(rt, "a name")
+}
+
+// The teller at this place, with transfers round the stores.
+fn teller_of(rt: &impl Abort, alloc: Global, place: u32) -> Teller {
     let mut all = Vec::new(alloc);
-    for k in 0..transfers {
+    for k in 0..TRANSFERS {
         let transfer = Transfer {
             from: k % STORES + 1,
             to: (k + 1) % STORES + 1,
-            account: Key::new(NAMES[k as usize % 2]).expect(rt, "a name"),
+            account: account_of(rt, place, k),
             amount: amount_of(k),
         };
         all.push(transfer).expect(rt, "memory");
     }
     Teller::new(alloc, all).expect(rt, "memory")
+}
+
+// The tellers of so many threads.
+fn tellers_of(rt: &impl Abort, alloc: Global, threads: u32) -> Vec<Teller> {
+    let mut tellers = Vec::new(alloc);
+    for place in 0..threads {
+        tellers
+            .push(teller_of(rt, alloc, place))
+            .expect(rt, "memory");
+    }
+    tellers
+}
+
+// A day of tellers over the plan, one for each of its threads. None lacked memory, or left anything outstanding.
+fn day_of<R: Threads + Wait + Abort + Copy + Send + 'static>(
+    rt: &R,
+    alloc: Global,
+    plan: &Plan,
+) -> Day {
+    let tellers = tellers_of(rt, alloc, plan.threads);
+    assert_eq!(rt; tellers.len(), plan.threads as usize);
+    let day = run_day(rt, alloc, plan, tellers).expect(rt, "a day");
+    for attended in &day.clients {
+        assert!(rt; !attended.client.wants_memory && attended.outstanding.is_empty());
+        assert_eq!(rt; attended.client.outcomes.len(), TRANSFERS as usize);
+    }
+    day
 }
 
 // What all accounts are worth together.
@@ -95,51 +160,33 @@ fn is_whole(outcome: &Outcome) -> bool {
     }
 }
 
-// Whether any transfer was committed on a day of so many tellers. All accounts together have what they had.
-fn commits_on_a_day<R: Threads + Wait + Abort + Copy + Send + 'static>(
-    rt: &R,
-    alloc: Global,
-    threads: u32,
-    tellers: Vec<Teller>,
-) -> bool
-    requires { length tellers.items ≡ threads }
-{
-    let plan = plan_of(rt, alloc, threads, STORES);
-    let day = run_day(rt, alloc, &plan, tellers).expect(rt, "a day");
-    let mut committed = false;
+fn is_committed(outcome: &Outcome) -> bool {
+    matches!(outcome, Outcome::Decided(done) if done.commit)
+}
+
+// A teller's transfers between its own tills are in nobody's way, and have the funds.
+fn own_transfers_commit(rt: &impl Abort, day: &Day) {
     for attended in &day.clients {
-        let teller = &attended.client;
-        assert!(rt; !teller.wants_memory && attended.outstanding.is_empty());
-        assert_eq!(rt; teller.outcomes.len(), 60);
-        for outcome in &teller.outcomes {
-            assert!(rt; is_whole(outcome));
-            if let Outcome::Decided(done) = outcome {
-                committed |= done.commit;
+        for (k, outcome) in attended.client.outcomes.iter().enumerate() {
+            if k % 4 == 3 {
+                assert!(rt; is_committed(outcome), "transfer {k}");
             }
         }
     }
-    assert_eq!(rt; sum_of(rt, &day.settled), 6 * START);
-    committed
 }
 
-// Two tellers may stand in each other's way all day, so that nothing is committed.
+// Two tellers stand in each other's way at the accounts that both use, and nowhere else.
 #[test]
 fn money_stays_in_the_bank(rt: HostRuntime) {
     let alloc = rt.alloc();
-    let both = [teller_of(&rt, alloc, 60), teller_of(&rt, alloc, 60)];
-    let Ok(tellers) = Vec::from_array(alloc, both) else {
-        panic!(rt; "memory");
-    };
-    let _ = commits_on_a_day(&rt, alloc, 2, tellers);
-}
-
-#[test]
-fn a_teller_alone_is_in_nobody_s_way(rt: HostRuntime) {
-    let alloc = rt.alloc();
-    let Ok(tellers) = Vec::from_array(alloc, [teller_of(&rt, alloc, 60)]) else {
-        panic!(rt; "memory");
-    };
-    assert!(rt; commits_on_a_day(&rt, alloc, 1, tellers));
+    let day = day_of(&rt, alloc, &plan_of(&rt, alloc, 2, STORES));
+    for attended in &day.clients {
+        for outcome in &attended.client.outcomes {
+            assert!(rt; is_whole(outcome));
+        }
+    }
+    own_transfers_commit(&rt, &day);
+    assert_eq!(rt; sum_of(&rt, &day.settled), 3 * (2 * START + 8 * FULL));
 }
 
 #[test]
@@ -149,7 +196,7 @@ fn a_plan_without_stores_is_refused(rt: HostRuntime) {
         managers: Vec::new(alloc),
         ..plan_of(&rt, alloc, 1, STORES)
     };
-    let Ok(tellers) = Vec::from_array(alloc, [teller_of(&rt, alloc, 1)]) else {
+    let Ok(tellers) = Vec::from_array(alloc, [teller_of(&rt, alloc, 0)]) else {
         panic!(rt; "memory");
     };
     let day = run_day(&rt, alloc, &plan, tellers);

@@ -22,8 +22,8 @@ pub record HasServed (w : WorkerView) (d : Served) : Type 0 where
   pub served : IsServed d
   pub seat : seat_of_done d ≡ seat_of_worker w
 
--- These are all desks and all workers of one opening that was made with this, by rising number: the desks have ended, and
--- the workers have run.
+-- These are all desks and all workers of one opening that was made with this, by rising number: the desks have ended,
+-- and the workers have run.
 pub record ArePiecesOf (p : Setup) (ended : List EndedView) (done : List Served) : Type 0 where
   pub desks : List DeskView
   pub workers : List WorkerView

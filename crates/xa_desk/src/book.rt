@@ -1,8 +1,11 @@
 //! What a desk knows, and its ends of lanes.
-ghost use Rattle.std.specs.Prelude.{◌≡◌, ℕ, ◌+◌, ◌-◌, ◌<◌, ◌≤◌, ◌↔◌, length, IfSome, IfNone, OnSome, IsTrue, None, is_some, ◌&&◌, false};
+ghost use Rattle.std.specs.Prelude.{◌≡◌, ℕ, ◌+◌, ◌-◌, ◌<◌, ◌≤◌, ◌↔◌, length, IfSome, IfNone, OnSome, IsTrue, None};
+ghost use Rattle.std.specs.Prelude.{is_some, ◌&&◌, false};
 ghost use Rattle.std.specs.FinMap as map;
 ghost use Rattle.xa_desk.specs.LedgerView.{learnt_shut};
-ghost use Rattle.xa_desk.specs.DeskView.{IsKnown, IsOut, IsLoose, IsHandle, IsLeastFree, ledger, after_sent, after_collected, opening_of, outstanding, drained_code, room_at, is_known, next_operation};
+ghost use Rattle.xa_desk.specs.DeskView.{IsKnown, IsOut, IsLoose, IsHandle, IsLeastFree, ledger, after_sent};
+ghost use Rattle.xa_desk.specs.DeskView.{after_collected, opening_of, outstanding, drained_code, room_at, is_known};
+ghost use Rattle.xa_desk.specs.DeskView.{next_operation};
 ghost use Rattle.xa_desk.specs.Ended.{AreBalanced};
 ghost use Rattle.xa_desk.specs.Lanes.{new_desk};
 ghost use Rattle.xa_desk.specs.Looks.{Drains};
@@ -136,7 +139,10 @@ impl Book {
         requires out { IsOut self.old.ledgers operation }
         requires loose { IsLoose self.old operation }
         ensures code { result ≡ drained_code operation self.old.drained }
-        ensures ready { IfSome result (λ code. self.new ≡ record self.old { ledgers = after_collected self.old.ledgers operation code }) }
+        ensures ready { IfSome result (λ code. self.new ≡ record self.old {
+          ledgers =
+              after_collected self.old.ledgers operation code;
+        }) }
         ensures fewer { OnSome result (outstanding self.new.ledgers + 1 ≡ outstanding self.old.ledgers) }
         ensures waiting { IfNone result (self.new ≡ self.old) }
     {

@@ -1,8 +1,12 @@
 //! One thread of control's desk over its lanes.
-ghost use Rattle.std.specs.Prelude.{◌≡◌, ◌≢◌, ℕ, ◌-◌, ◌<◌, ◌≤◌, ◌↔◌, length, IfOk, IfErr, IfSome, IfNone, OnOk, OnErr, OnSome, IsTrue, IsSome, IsNone, IsOk, IsErr, Some, None, false, true, option_map, ◌&&◌};
+ghost use Rattle.std.specs.Prelude.{◌≡◌, ◌≢◌, ℕ, ◌-◌, ◌<◌, ◌≤◌, ◌↔◌, length, IfOk, IfErr, IfSome, IfNone, OnOk, OnErr};
+ghost use Rattle.std.specs.Prelude.{OnSome, IsTrue, IsSome, IsNone, IsOk, IsErr, Some, None, false, true, option_map};
+ghost use Rattle.std.specs.Prelude.{◌&&◌};
 ghost use Rattle.std.specs.FinMap as map;
 ghost use Rattle.xa_desk.specs.LedgerView.{learnt_shut};
-ghost use Rattle.xa_desk.specs.DeskView.{TicketView, IsKnown, IsHandle, Owns, ledger, outstanding, drained_code, ticket_of, next_operation, submit_refusal, call_refusal, IsLeastFree, ready_at, keeps_at, room_at, is_known};
+ghost use Rattle.xa_desk.specs.DeskView.{TicketView, IsKnown, IsHandle, Owns, ledger, outstanding, drained_code};
+ghost use Rattle.xa_desk.specs.DeskView.{ticket_of, next_operation, submit_refusal, call_refusal, IsLeastFree};
+ghost use Rattle.xa_desk.specs.DeskView.{ready_at, keeps_at, room_at, is_known};
 ghost use Rattle.xa_desk.specs.Ended.{Ends, AreBalanced};
 ghost use Rattle.xa_desk.specs.GoesOn.{GoesOn, GoesOut};
 ghost use Rattle.xa_desk.specs.Lanes.{AreEnds, AreNew, IsDesk, new_desk, submitted, after_full, after_fulls};
@@ -159,8 +163,10 @@ impl Desk {
     /// where a push of this call found the queue of the lane to the manager full, which the lane's end
     /// counts. No completion is looked at.
     pub fn submit<R: Wait>(&mut self, rt: &R, manager: u32, op: Op) -> Result<Ticket, Refused>
-        ensures refused { (why : _) → submit_refusal self.old manager ≡ Some why → (result ≡ Err why) × (self.new ≡ self.old) }
-        ensures full { submit_refusal self.old manager ≡ None → IfErr result (λ why. (why ≡ Refused.Full) × (self.new ≡ after_full self.old manager)) }
+        ensures refused { (why : _) → submit_refusal self.old manager ≡ Some why
+            → (result ≡ Err why) × (self.new ≡ self.old) }
+        ensures full { submit_refusal self.old manager ≡ None → IfErr result (λ why. (why ≡ Refused.Full)
+            × (self.new ≡ after_full self.old manager)) }
 
         // A sent request has the next number, and the desk owns its ticket.
         ensures ticket { IfOk result (λ t. t ≡ ticket_of self.old (next_operation self.old.ledgers manager)) }
@@ -199,11 +205,14 @@ impl Desk {
         ensures unchanged { OnErr result (self.new ≡ self.old) }
 
         // Once the lane was found full so many times, the request was sent.
-        ensures collected { IfOk result (λ code. (n : ℕ) × Collects (submitted (after_fulls n self.old manager) manager op) self.new (next_operation self.old.ledgers manager) code) }
+        ensures collected { IfOk result (λ code. (n : ℕ) × Collects
+            (submitted (after_fulls n self.old manager) manager op) self.new
+            (next_operation self.old.ledgers manager) code) }
         ensures tied { IsDesk self.new }
         ensures goes_on { GoesOn self.old self.new }
         ensures tickets { LeavesTickets self.old self.new }
-        ensures waited { IfOk result (SendsAndWaits (I.leads_by manager) self.old self.new idle.old idle.new manager op) }
+        ensures waited { IfOk result (SendsAndWaits (I.leads_by manager) self.old self.new idle.old idle.new manager
+            op) }
         ensures idled { I.leads idle.old idle.new }
         ensures idle_stays { OnErr result (idle.new ≡ idle.old) }
     {
@@ -222,7 +231,8 @@ impl Desk {
         ensures tied { IsDesk self.new }
         ensures goes_on { GoesOn self.old self.new }
         ensures others { LeavesOthers self.old self.new ticket.operation }
-        ensures waited { WaitsFor (I.leads_by ticket.operation.manager) self.old self.new idle.old idle.new ticket.operation result }
+        ensures waited { WaitsFor (I.leads_by ticket.operation.manager) self.old self.new idle.old idle.new
+            ticket.operation result }
         ensures idled { I.leads idle.old idle.new }
     {
         wait_for(rt, &mut self.book, ticket.spend(), idle)
@@ -280,7 +290,8 @@ impl Desk {
 
         // Each older ticket is still owned, and of another operation.
         ensures tickets { LeavesTickets self.old self.new }
-        ensures fresh { IfSome result (λ t. (older : TicketView) → Owns self.old older → older.operation ≢ t.operation) }
+        ensures fresh { IfSome result (λ t. (older : TicketView) → Owns self.old older
+            → older.operation ≢ t.operation) }
     {
         let operation = self.book.release(number)?;
         Some(Ticket::new(&self.book, operation))
@@ -333,7 +344,8 @@ impl Desk {
         ensures tied { IsDesk self.new }
         ensures goes_on { GoesOn self.old self.new }
         ensures tickets { LeavesTickets self.old self.new }
-        ensures waited { IfOk result (λ r. WaitsForAny (I.leads_by manager) self.old self.new idle.old idle.new manager r.0 r.1) }
+        ensures waited { IfOk result (λ r. WaitsForAny (I.leads_by manager) self.old self.new idle.old idle.new manager
+            r.0 r.1) }
         ensures idled { I.leads idle.old idle.new }
         ensures idle_stays { OnErr result (idle.new ≡ idle.old) }
     {

@@ -25,7 +25,8 @@ pub fn looking_leaves_tickets()
 /// full leaves them too.
 pub fn sending_leaves_tickets()
     ensures left { (old : DeskView) (m : ℕ) (op : Op) → IsKnown old.ledgers m → LeavesTickets old (submitted old m op) }
-    ensures fresh { (old : DeskView) (m : ℕ) (op : Op) → IsKnown old.ledgers m → (t : TicketView) → Owns old t → t.operation ≢ next_operation old.ledgers m }
+    ensures fresh { (old : DeskView) (m : ℕ) (op : Op) → IsKnown old.ledgers m → (t : TicketView) → Owns old t
+        → t.operation ≢ next_operation old.ledgers m }
     ensures full { (old : DeskView) (m : ℕ) → LeavesTickets old (after_full old m) }
 {}
 
@@ -36,8 +37,10 @@ pub fn collecting_leaves_others()
 
 /// Keeping an operation leaves every other ticket owned, and freeing a number leaves every ticket owned.
 pub fn keeping_leaves_others()
-    ensures kept { (old : DeskView) (o : Operation) (number : ℕ) → LeavesOthers old (record old { kept = map.insert old.kept number o }) o }
-    ensures freed { (old : DeskView) (number : ℕ) → LeavesTickets old (record old { kept = map.remove old.kept number }) }
+    ensures kept { (old : DeskView) (o : Operation) (number : ℕ)
+        → LeavesOthers old (record old { kept = map.insert old.kept number o }) o }
+    ensures freed { (old : DeskView) (number : ℕ) → LeavesTickets old
+        (record old { kept = map.remove old.kept number }) }
 {}
 
 /// A desk goes on as it is, and one that went on may go on.
@@ -59,8 +62,10 @@ pub fn operations_go_on()
     ensures looking { (old new : DeskView) → Looks old new → GoesOn old new }
     ensures quiet { (old new : DeskView) → EndsQuiet old new → GoesOn old new }
     ensures collecting { (old new : DeskView) (o : Operation) (code : Code) → Collects old new o code → GoesOn old new }
-    ensures collecting_kept { (old new : DeskView) (number : ℕ) (code : Code) → CollectsKept old new number code → GoesOn old new }
-    ensures collecting_least { (old new : DeskView) (m number : ℕ) (code : Code) → CollectsLeast old new m number code → GoesOn old new }
+    ensures collecting_kept { (old new : DeskView) (number : ℕ) (code : Code) → CollectsKept old new number code
+        → GoesOn old new }
+    ensures collecting_least { (old new : DeskView) (m number : ℕ) (code : Code) → CollectsLeast old new m number code
+        → GoesOn old new }
 {}
 
 /// A desk that ended has its seat and its lists.

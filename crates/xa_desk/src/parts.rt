@@ -54,7 +54,12 @@ impl DeskParts {
         requires handles { (1 ≤ handles) × (handles ≤ MOST_HANDLES) }
         requires requests { (1 ≤ requests) × (requests ≤ MOST_REQUESTS) }
         requires managers { (1 ≤ length use_async.now) × (length use_async.now ≤ MOST_MANAGERS) }
-        ensures { IfOk result (λ p. p ≡ record { thread = thread; handles = handles; plan = requests; use_async = use_async.now }) }
+        ensures { IfOk result (λ p. p ≡ record {
+          thread = thread;
+          handles = handles;
+          plan = requests;
+          use_async = use_async.now;
+        }) }
     {
         let ledgers = open_ledgers(alloc, requests, use_async)?;
         // One slot beyond the handles is for a synchronous call.

@@ -1,7 +1,8 @@
 //! Calls of a book that look at the lane of completions, with and without waiting.
 ghost use Rattle.std.specs.Prelude.{◌≡◌, ℕ, ◌+◌, ◌<◌, ◌≤◌, length, IfSome, OnSome, IsNone, IsTrue, IsSome, None, false};
 ghost use Rattle.xa_lane.specs.Ends.{counted};
-ghost use Rattle.xa_desk.specs.DeskView.{IsHandle, IsKnown, IsOut, IsLoose, ledger, outstanding, next_operation, drained_code, ready_at};
+ghost use Rattle.xa_desk.specs.DeskView.{IsHandle, IsKnown, IsOut, IsLoose, ledger, outstanding, next_operation};
+ghost use Rattle.xa_desk.specs.DeskView.{drained_code, ready_at};
 ghost use Rattle.xa_desk.specs.Lanes.{submitted, after_fulls};
 ghost use Rattle.xa_desk.specs.Looks.{Looks, EndsQuiet, Collects, CollectsKept, CollectsLeast};
 ghost use Rattle.xa_desk.specs.Waits.{Idles, WaitsFor, WaitsForAny};
@@ -158,7 +159,8 @@ pub(crate) fn send_waiting<R: Wait, I: Idle>(
     requires room { length (ledger book.old.ledgers manager).sent < (ledger book.old.ledgers manager).plan }
     requires slot { outstanding book.old.ledgers ≤ book.old.handles }
     ensures named { result ≡ next_operation book.old.ledgers manager }
-    ensures sent { (n : ℕ) × (book.new ≡ submitted (after_fulls n book.old manager) manager op.now) × Idles (I.leads_by manager) n idle.old idle.new }
+    ensures sent { (n : ℕ) × (book.new ≡ submitted (after_fulls n book.old manager) manager op.now)
+        × Idles (I.leads_by manager) n idle.old idle.new }
     ensures more { outstanding book.new.ledgers ≡ outstanding book.old.ledgers + 1 }
     ensures out { IsOut book.new.ledgers result }
     ensures loose { IsLoose book.new result }

@@ -52,7 +52,8 @@ pub(crate) fn enter_code(
 ) -> bool
     requires { AreTold rows.now.items slots.old }
     ensures entered { IsTrue result → EntersCode slots.old wanted code slots.new }
-    ensures known { result ≡ false → (key : ℕ) (slot : _) → get slots.old key ≡ Some slot → slot.operation ≡ wanted → slot.code ≢ None }
+    ensures known { result ≡ false → (key : ℕ) (slot : _) → get slots.old key ≡ Some slot → slot.operation ≡ wanted
+        → slot.code ≢ None }
     ensures same { result ≡ false → slots.new ≡ slots.old }
 {
     let Some(key) = key_of(rows, wanted) else {

@@ -1,4 +1,4 @@
--- A round of requests: js they are collected one after another, and when all are.
+-- A round of requests: as they are collected one after another, and when all are.
 use Rattle.std.specs.Prelude.{◌≡◌, ◌≢◌, ℕ, ◌+◌, ◌-◌, ◌<◌, ◌≤◌, true, false, ◌||◌, ◌==◌, Option, None, Some, List, [], ◌∷◌, ◌++◌, length, fold, refl}
 use Rattle.std.proofs.Common.{sym, ap, ◌∙◌, subst, arith, get_or, set, take, drop, suc, zero, length-append}
 use Rattle.std.proofs.lemmas.Bool.{eqb-true, ne_eqb}
@@ -49,7 +49,7 @@ behind lo m (k ∷ ks) h r =
     let above = r.0 in
     (λ i. ne_eqb k.manager m (λ e. absurd (omega arith)) i || behind k.manager m ks (omega arith) r.1 i)
 
--- ---- js they are sent
+-- ---- as they are sent
 
 module _ (xs : List Ask) (n : ℕ) (k : Ask) (rs : List (Option TicketView)) (old now : DeskView) (within : n < length xs) (is : k ≡ get_or xs n k) (up : AreRising 0 xs) (can : AllCanAsk xs old.ledgers) (h : HaveBegun (take n xs) rs old now) where
   parts : take n xs ++ k ∷ drop (n + 1) xs ≡ xs
@@ -75,7 +75,7 @@ module _ (xs : List Ask) (n : ℕ) (k : Ask) (rs : List (Option TicketView)) (ol
 pub all_begun : (xs : List Ask) (n : ℕ) (rs : List (Option TicketView)) (old now : DeskView) → length xs ≤ n → HaveBegun (take n xs) rs old now → HaveBegun xs rs old now
 all_begun xs n rs old now long h = subst (λ (l : List Ask). HaveBegun l rs old now) (take_all n xs long) h
 
--- ---- js they are collected
+-- ---- as they are collected
 
 -- the first n of the requests were collected, and those after them are in flight
 pub record HaveEnded (xs ys : List Ask) (n : ℕ) (rs : List (Option TicketView)) (old now : DeskView) : Type 0 where
@@ -132,7 +132,7 @@ module _ (xs ys : List Ask) (n : ℕ) (k : Ask) (r : Option TicketView) (rs : Li
         keeps = keeps_chain old now new h.keeps moved.keeps;
       }
 
--- there are js many tickets js requests
+-- there are as many tickets as requests
 pub no_ticket_missing : (xs ys : List Ask) (n : ℕ) (rs : List (Option TicketView)) (old now : DeskView) → n < length ys → HaveEnded xs ys n rs old now → 0 < length rs
 no_ticket_missing xs ys n rs old now within h = some_left (drop n ys) rs old.ledgers now (let z = length-drop n ys in omega arith) h.pending
   where
@@ -157,7 +157,7 @@ no_ticket_left xs ys n rs old now long h = none_left rs (subst (λ (l : List Ask
     none_left [] e = refl
     none_left (r ∷ rs) e = absurd e
 
--- what was sent was collected, so js many operations are outstanding js before
+-- what was sent was collected, so as many operations are outstanding as before
 open_asked : (a : LedgerView) (op : Option Op) (code : Option Code) → open_count (asked a op code) ≡ open_count a
 open_asked a None code = refl
 open_asked a (Some op) None = refl

@@ -107,7 +107,6 @@ never_named t x first last q only later =
       | false ↦ λ e. refl
     ] refl
 
--- another thread's request doesn't close the manager for the thread
 -- requests that name the branch only to forget it make nothing of it
 forgets_fate : (x : XidName) (op : Op) (c : Code) → (names x op ≡ true → is_forget op ≡ true) → fate_of x op c ≡ None
 forgets_fate x op c f =

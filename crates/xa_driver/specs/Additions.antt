@@ -1,6 +1,7 @@
 -- What the values have of the additions of a global transaction.
 use Rattle.std.specs.List.{list_any}
-use Rattle.std.specs.Prelude.{◌≡◌, ℕ, ℤ, pos, Bool, false, not, ◌||◌, if◌then◌else◌, option_map, Some, List, ◌∷◌, ◌++◌, length}
+use Rattle.std.specs.Prelude.{◌≡◌, ℕ, ℤ, pos, Bool, false, not, ◌||◌, if◌then◌else◌, option_map, Some, List, ◌∷◌, ◌++◌}
+use Rattle.std.specs.Prelude.{length}
 use Rattle.xa_words.specs.Xid.{XidName}
 use Rattle.xa_words.specs.declared.code.Code.TheVariants as code
 use Rattle.xa_words.specs.declared.request.Op.TheVariants.{Add, Prepare}
@@ -38,8 +39,8 @@ pub record IsAddition (x : XidName) (k : List ℕ) (d : ℤ) (t n : ℕ) (T : Ta
 abbrev pub none_later : XidName → Bool
 none_later x = false
 
--- The share that the value of a key has, as the opening ends, of each addition of the branch, whose Prepare by thread t has
--- number n: all of it where it counts, and else nothing.
+-- The share that the value of a key has, as the opening ends, of each addition of the branch, whose Prepare by thread t
+-- has number n: all of it where it counts, and else nothing.
 abbrev pub Shares : Settling → ℕ → Branch → ℕ → Bool → Type 0
 Shares s t b n counts =
     (T : Tables) → IsOpenedWith s b.m T → (k : List ℕ) (d : ℤ) → (a : IsAddition b.xid k d t n T (history s b.m))
@@ -47,7 +48,8 @@ Shares s t b n counts =
     ≡ (if counts then d else pos 0)
 
 -- Of each branch of a call the additions count exactly where the branch was committed.
-pub record CountsTheCommitted (s : Settling) (t : ℕ) (bs : List Branch) (old : List LedgerView) (d : Done) : Type 0 where
+pub record CountsTheCommitted (s : Settling) (t : ℕ) (bs : List Branch) (old : List LedgerView)
+    (d : Done) : Type 0 where
   pub each : EachOutcome
       (λ b v e. Shares s t b (length (ledger old b.m).sent) (is_committed e)) bs d.votes.items d.endings.items
 

@@ -212,7 +212,8 @@ pub data IsInDoubtUnlessDecided (s : Settling) (t : ℕ) (b : Branch) (n : ℕ) 
   decided : (d : HeuristicDecision) → settled_fate s b.m b.xid before ≡ decided_fate d → WasDecidedAfter s b t n
       → IsInDoubtUnlessDecided s t b n before
 
--- what is told of a branch, whose Prepare by thread t has number n, became of it, whatever fate it had as the opening began
+-- what is told of a branch, whose Prepare by thread t has number n, became of it, whatever fate it had as the opening
+-- began
 pub record TellsTheFate (s : Settling) (t : ℕ) (b : Branch) (n : ℕ) (ending : Ending) : Type 0 where
   pub told : (before f : Fate) → WasAtFirst s b before → told_fate ending ≡ Some f → settled_fate s b.m b.xid before ≡ f
   pub doubt : (before : Fate) → WasAtFirst s b before → is_in_doubt ending ≡ true

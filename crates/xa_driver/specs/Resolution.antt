@@ -1,5 +1,7 @@
--- One outcome for each global transaction, over openings one after another: what was left in doubt is resolved by the log.
-use Rattle.std.specs.Prelude.{◌≡◌, ◌≢◌, ◌⊎◌, ℕ, ◌≤◌, Bool, true, false, if◌then◌else◌, Some, List, [], ◌∷◌, ◌++◌, length}
+-- One outcome for each global transaction, over openings one after another: what was left in doubt is resolved by the
+-- log.
+use Rattle.std.specs.Prelude.{◌≡◌, ◌≢◌, ◌⊎◌, ℕ, ◌≤◌, Bool, true, false, if◌then◌else◌, Some, List, [], ◌∷◌, ◌++◌}
+use Rattle.std.specs.Prelude.{length}
 use Rattle.std.specs.List.{All, Contains, flat_map}
 use Rattle.xa_base.specs.declared.limits.TheConstants.{MOST_MANAGERS}
 use Rattle.xa_words.specs.Xid.{XidName}
@@ -29,7 +31,8 @@ use Rattle.xa_driver.specs.declared.resolved.Outcome.{Outcome}
 use Rattle.xa_driver.specs.Decision.{is_yes}
 use Rattle.xa_driver.specs.Log.{LogState, Records}
 use Rattle.xa_driver.specs.Trace.{IsCommit, IsTranOf}
-use Rattle.xa_driver.specs.Outcomes.{AreLeftOrDecided, EachOutcome, IsBetween, WasAtFirst, has_committed, has_vote_against, told_fate}
+use Rattle.xa_driver.specs.Outcomes.{AreLeftOrDecided, EachOutcome, IsBetween, WasAtFirst, has_committed}
+use Rattle.xa_driver.specs.Outcomes.{has_vote_against, told_fate}
 use Rattle.xa_driver.specs.Resolving.{IsTraceOfResolve}
 
 -- ---- who used the log
@@ -159,8 +162,8 @@ abbrev pub fate_through : ℕ → XidName → Fate → List Opening → Fate
 fate_through m x f [] = f
 fate_through m x f (o ∷ os) = fate_through m x (settled_fate o.settled m x (reopened_fate f)) os
 
--- What became of a branch of opening o, whose fate was `before` as that began: its fate at the end of o; but if it was in
--- doubt then, its fate after the later openings.
+-- What became of a branch of opening o, whose fate was `before` as that began: its fate at the end of o; but if it was
+-- in doubt then, its fate after the later openings.
 abbrev pub became : Branch → Fate → Opening → List Opening → Fate
 became b before o later =
     let f : Fate = settled_fate o.settled b.m b.xid before in
@@ -192,8 +195,9 @@ abbrev pub EachEnds : CommitCall → Opening → List Opening → Type 0
 EachEnds c o later =
     EachOutcome (λ b v e. is_yes v ≡ true → Ends c o later b e) c.branches c.done.votes.items c.done.endings.items
 
--- All or none: it was decided to commit, no vote was against, and all branches that voted to commit are committed; or it
--- was decided to abort, no branch was committed, and they are all rolled back. Those that ended heuristically are listed.
+-- All or none: it was decided to commit, no vote was against, and all branches that voted to commit are committed; or
+-- it was decided to abort, no branch was committed, and they are all rolled back. Those that ended heuristically are
+-- listed.
 pub data IsAllOrNone (c : CommitCall) (o : Opening) (later : List Opening) : Type 0 where
   all : c.done.commit ≡ true → has_vote_against c.done ≡ false → EachEnds c o later → IsAllOrNone c o later
   none : c.done.commit ≡ false → has_committed c.done ≡ false → EachEnds c o later → IsAllOrNone c o later
@@ -201,7 +205,8 @@ pub data IsAllOrNone (c : CommitCall) (o : Opening) (later : List Opening) : Typ
 -- ---- what that asks for
 
 -- An opening o with a commit c, those between, and the last, with a resolve q.
-pub record IsResolved (o : Opening) (between : List Opening) (last : Opening) (c : CommitCall) (q : ResolveCall) : Type 0 where
+pub record IsResolved (o : Opening) (between : List Opening) (last : Opening) (c : CommitCall)
+    (q : ResolveCall) : Type 0 where
   -- each was settled, and continues the one before it
   pub kept : All IsKept (o ∷ (between ++ last ∷ []))
   pub in_a_row : AreInARow o (between ++ last ∷ [])
@@ -222,7 +227,8 @@ pub record IsResolved (o : Opening) (between : List Opening) (last : Opening) (c
   -- from its Prepares on nobody but the commit names its branches, but for heuristic decisions
   pub own : AreLeftOrDecided o.settled c.thread c.branches c.desk.ledgers c.new
   -- if a branch of the transaction was left, nothing but resolves with the log names it later
-  pub later : (t : TranName) → IsTranOf c.branches t → HasLeftOf t o.settled → All (OnlyResolves t) (between ++ last ∷ [])
+  pub later : (t : TranName) → IsTranOf c.branches t → HasLeftOf t o.settled
+      → All (OnlyResolves t) (between ++ last ∷ [])
   -- the resolve had the scan of its opening, and no manager was shut before its requests
   pub scan : (m : ℕ) (T : Tables) → first_of last.settled m ≡ Some T → AreLeft (left_at q.scan m) T
   pub reached : All (λ x. x.code ≢ RmFail) q.outcomes

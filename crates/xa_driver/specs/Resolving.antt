@@ -1,5 +1,6 @@
 -- How what a reopening found left is resolved, by what the log has of it.
-use Rattle.std.specs.Prelude.{◌≡◌, ◌≢◌, ℕ, ◌+◌, ◌-◌, ◌*◌, ◌<◌, ◌≤◌, Bool, true, false, if◌then◌else◌, Option, None, Some, List, [], ◌∷◌}
+use Rattle.std.specs.Prelude.{◌≡◌, ◌≢◌, ℕ, ◌+◌, ◌-◌, ◌*◌, ◌<◌, ◌≤◌, Bool, true, false, if◌then◌else◌, Option, None}
+use Rattle.std.specs.Prelude.{Some, List, [], ◌∷◌}
 use Rattle.std.specs.Prelude.{length, map, slice_index_or}
 use Rattle.std.specs.List.{flat_map, range_with_len, sum_by}
 use Rattle.xa_base.specs.declared.limits.TheConstants.{MOST_MANAGERS}
@@ -95,8 +96,8 @@ pub record MayResolve (d : DeskView) (z : ScanView) : Type 0 where
 abbrev pub AsksLedger : Asking LedgerView
 AsksLedger a op a' code = AskTrace (Some op) (Some code) a a'
 
--- What a resolve left is its trace: what it asked each manager, in the order of the branches left there; and its outcomes
--- are those of the managers, by rising number.
+-- What a resolve left is its trace: what it asked each manager, in the order of the branches left there; and its
+-- outcomes are those of the managers, by rising number.
 pub record IsTraceOfResolve (z : ScanView) (log : LogState) (old new : List LedgerView) (outcomes : List Outcome)
     : Type 0 where
   pub at : ℕ → List Outcome

@@ -24,8 +24,8 @@ voted b vote a = asked a (Some (Prepare b.xid)) (Some vote)
 abbrev pub decided : Bool → Branch → Code → Option Code → LedgerView → LedgerView
 decided commit b vote second a = asked (voted b vote a) (second_op commit b.xid vote) second
 
--- a branch's manager got a Prepare, where the decision wants one a second request, and where its code wants one a Forget;
--- each was collected; nothing else was sent to it or collected from it
+-- a branch's manager got a Prepare, where the decision wants one a second request, and where its code wants one a
+-- Forget; each was collected; nothing else was sent to it or collected from it
 pub record BranchTrace (commit : Bool) (b : Branch) (vote : Code) (second : Option Code)
     (a a' : LedgerView) : Type 0 where
   pub prepared : IsAnswered a (Some (Prepare b.xid)) (Some vote)

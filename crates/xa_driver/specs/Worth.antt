@@ -36,13 +36,14 @@ commits_after o later m F T y =
     let h : History = history_of o.settled m in
     commits_over y (fate y (F y) h T) (histories m later) (tables_after h T)
 
--- The share that the value of a key has, after all openings, of each addition of the branch in opening o, whose Prepare by
--- thread t has number n: all of it where what became of the branch counts, and else nothing.
+-- The share that the value of a key has, after all openings, of each addition of the branch in opening o, whose Prepare
+-- by thread t has number n: all of it where what became of the branch counts, and else nothing.
 abbrev pub SharesOver : Opening → List Opening → ℕ → Branch → ℕ → (Fate → Bool) → Type 0
 SharesOver o later t b n counts =
     (T : Tables) (F : XidName → Fate) → first_of o.settled b.m ≡ Some T → IsFateOf b.xid (F b.xid) T
     → (k : List ℕ) (d : ℤ) → (a : IsAddition b.xid k d t n T (history_of o.settled b.m))
-    → share k (commits_after o later b.m F T) a.adding (a.between ++ prepare_of t n b.xid ∷ a.after) (tables_after a.before T)
+    → share k (commits_after o later b.m F T) a.adding (a.between ++ prepare_of t n b.xid ∷ a.after)
+    (tables_after a.before T)
     ≡ (if counts (became b (F b.xid) o later) then d else pos 0)
 
 -- Of each branch of the call that voted to commit the additions count over all openings exactly where it was committed.
@@ -55,8 +56,8 @@ pub record CountsOver (c : CommitCall) (o : Opening) (later : List Opening) : Ty
 abbrev pub IsUnlisted : Branch → List Opening → Type 0
 IsUnlisted b os = (d : HeuristicDecision) → IsListed b d os → ⊥
 
--- But for branches that were decided heuristically all additions of the transaction count, where it was decided to commit,
--- or none does.
+-- But for branches that were decided heuristically all additions of the transaction count, where it was decided to
+-- commit, or none does.
 pub record CountsAllOrNone (c : CommitCall) (o : Opening) (later : List Opening) : Type 0 where
   pub each : EachOutcome
       (λ b v e. is_yes v ≡ true → is_heuristic e ≡ false → IsUnlisted b later

@@ -1,8 +1,10 @@
 //! Requests to several managers at once.
-ghost use Rattle.std.specs.Prelude.{◌≡◌, ◌+◌, ◌<◌, ◌≤◌, [], length, true, false, IfSome, IfNone, OnSome, IsNone, IsSome, vec_capacity};
+ghost use Rattle.std.specs.Prelude.{◌≡◌, ◌+◌, ◌<◌, ◌≤◌, [], length, true, false, IfSome, IfNone, OnSome, IsNone};
+ghost use Rattle.std.specs.Prelude.{IsSome, vec_capacity};
 ghost use Rattle.xa_desk.specs.LedgerView.{learnt_shut};
 ghost use Rattle.xa_desk.specs.DeskView.{Owns, ledger, after_sent, next_operation, outstanding, ticket_of};
-ghost use Rattle.xa_driver.specs.Asks.{CanAsk, AllCanAsk, AreRising, Asks, SameAsks, KeepsDesk, LeavesOutstanding, BeginsAsk, Ends, HaveBegun, Owning};
+ghost use Rattle.xa_driver.specs.Asks.{CanAsk, AllCanAsk, AreRising, Asks, SameAsks, KeepsDesk, LeavesOutstanding};
+ghost use Rattle.xa_driver.specs.Asks.{BeginsAsk, Ends, HaveBegun, Owning};
 
 use std::snapshot::Snapshot;
 use std::sync::Wait;

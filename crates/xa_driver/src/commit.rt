@@ -44,10 +44,10 @@ fn decide<L: DecisionLog>(log: &mut L, tran: Tran, yes: Yes, votes: &[Code]) -> 
 ///
 /// It sends a Prepare to every branch before it collects any, and decides commit where no vote is against. With a yes
 /// vote among them the decision is logged before the first Commit is sent; where the log doesn't take the record, the
-/// decision is abort. A branch that only read takes no part in the second phase. A branch that answers there that it was
-/// decided heuristically, with `XA_HEURCOM` or `XA_HEURRB`, is forgotten (`xa_forget()`), all of these in flight
-/// together; what that answers changes no ending. A full lane is idled on and tried again; a manager that is learnt to be
-/// shut is sent nothing, which counts as `XAER_RMFAIL`.
+/// decision is abort. A branch that only read takes no part in the second phase. A branch that answers there that it
+/// was decided heuristically, with `XA_HEURCOM` or `XA_HEURRB`, is forgotten (`xa_forget()`), all of these in flight
+/// together; what that answers changes no ending. A full lane is idled on and tried again; a manager that is learnt to
+/// be shut is sent nothing, which counts as `XAER_RMFAIL`.
 pub fn commit_all<R: Wait, L: DecisionLog, I: Idle>(
     rt: &R,
     alloc: Global,
@@ -59,7 +59,9 @@ pub fn commit_all<R: Wait, L: DecisionLog, I: Idle>(
     requires { MayCommit desk.old (L.state log.old) branches.now }
 
     // The lists of the desk grow by the call's trace, and the result is what it shows.
-    ensures call { IfOk result (λ d. (t : TranName) → IsTranOf branches.now t → IsTraceOfCommit t branches.now desk.old.ledgers desk.new.ledgers (L.state log.old) (L.state log.new) d) }
+    ensures call { IfOk result (λ d. (t : TranName) → IsTranOf branches.now t
+        → IsTraceOfCommit t branches.now desk.old.ledgers desk.new.ledgers (L.state log.old)
+        (L.state log.new) d) }
     ensures made { IfOk result (IsCommit branches.now desk.old desk.new.ledgers (L.state log.old) (L.state log.new)) }
 
     // What is kept under the handles stays, and so does all that was outstanding, with its tickets.

@@ -27,7 +27,8 @@ pub trait DecisionLog {
     /// Adds a record of a transaction that has none. A failed append leaves the records, and is counted.
     fn append(&mut self, decision: &CommitRecord) -> Result<(), LogFault>
         requires { record_of (state self.old) decision.now.tran ≡ None }
-        ensures appended { OnOk result (state self.new ≡ with_record (state self.old) decision.now.tran decision.now.yes) }
+        ensures appended { OnOk result (state self.new ≡ with_record
+            (state self.old) decision.now.tran decision.now.yes) }
         ensures failed { OnErr result (state self.new ≡ with_failure (state self.old)) };
 
     /// The managers that voted yes, where there is a record of the transaction.

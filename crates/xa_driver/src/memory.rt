@@ -25,7 +25,11 @@ impl Model for MemoryLog {
 
     ghost coded = { log_code };
 
-    ghost view = { λ l. record { state = record { records = from_entries l.records.entries; failures = l.failures }; appends = l.appends; failing = l.failing } };
+    ghost view = { λ l. record {
+      state = record { records = from_entries l.records.entries; failures = l.failures };
+      appends = l.appends;
+      failing = l.failing;
+    } };
 }
 
 impl MemoryLog {
@@ -82,7 +86,8 @@ impl DecisionLog for MemoryLog {
     ghost state = { λ l. l.state };
 
     fn append(&mut self, decision: &CommitRecord) -> Result<(), LogFault>
-        ensures appended { OnOk result (self.new.state ≡ with_record self.old.state decision.now.tran decision.now.yes) }
+        ensures appended { OnOk result (self.new.state ≡ with_record self.old.state decision.now.tran
+            decision.now.yes) }
         ensures failed { OnErr result (self.new.state ≡ with_failure self.old.state) }
         ensures counted { self.new.appends ≡ counted self.old.appends }
         ensures kept { self.new.failing ≡ self.old.failing }

@@ -7,7 +7,8 @@ ghost use Rattle.xa_desk.specs.Tickets.{LeavesTickets};
 ghost use Rattle.xa_switch.specs.Scans.{left_at};
 ghost use Rattle.xa_driver.specs.declared.resolved.Outcome.{Outcome};
 ghost use Rattle.xa_driver.specs.Asks.{KeepsDesk, LeavesOutstanding};
-ghost use Rattle.xa_driver.specs.Resolving.{is_to_commit, outcome_op, AsksLedger, AsksAlone, ResolvesBranch, ResolvesAt, requests_for, left_in, MayResolve, IsTraceOfResolve};
+ghost use Rattle.xa_driver.specs.Resolving.{is_to_commit, outcome_op, AsksLedger, AsksAlone, ResolvesBranch};
+ghost use Rattle.xa_driver.specs.Resolving.{ResolvesAt, requests_for, left_in, MayResolve, IsTraceOfResolve};
 
 use crate::log::DecisionLog;
 use crate::resolved::{Outcome, ResolveFault, Resolved};
@@ -66,7 +67,8 @@ fn resolve_branch<R: Wait, L: DecisionLog, I: Idle>(
 ) -> Outcome
     requires manager { IsUpTo MOST_MANAGERS manager }
     requires room { 2 ≤ room_at desk.old.ledgers manager }
-    ensures resolves { ResolvesBranch AsksLedger (L.state log.now) manager result (ledger desk.old.ledgers manager) (ledger desk.new.ledgers manager) }
+    ensures resolves { ResolvesBranch AsksLedger (L.state log.now) manager result (ledger desk.old.ledgers manager)
+        (ledger desk.new.ledgers manager) }
     ensures xid { result.xid ≡ xid.now }
     ensures alone { AsksAlone manager desk.old desk.new }
     ensures room { room_at desk.old.ledgers manager ≤ room_at desk.new.ledgers manager + 2 }
@@ -99,7 +101,9 @@ fn resolve_at<R: Wait, L: DecisionLog, I: Idle>(
     requires manager { IsUpTo MOST_MANAGERS manager }
     requires room { requests_for left.now ≤ room_at desk.old.ledgers manager }
     requires space { length outcomes.old.items + length left.now ≤ vec_capacity outcomes.old }
-    ensures resolves { (more : List Outcome) × (outcomes.new.items ≡ outcomes.old.items ++ more) × (length more ≡ length left.now) × ResolvesAt AsksLedger (L.state log.now) manager left.now more (ledger desk.old.ledgers manager) (ledger desk.new.ledgers manager) }
+    ensures resolves { (more : List Outcome) × (outcomes.new.items ≡ outcomes.old.items ++ more)
+        × (length more ≡ length left.now) × ResolvesAt AsksLedger (L.state log.now) manager left.now more
+        (ledger desk.old.ledgers manager) (ledger desk.new.ledgers manager) }
     ensures space { vec_capacity outcomes.new ≡ vec_capacity outcomes.old }
     ensures alone { AsksAlone manager desk.old desk.new }
     ensures idled { I.leads idle.old idle.new }
@@ -138,8 +142,8 @@ fn has_room(desk: &Desk, scan: &Scan, manager: u32) -> bool
     left == 0 || (1 <= room && left <= (room - 1) / 2)
 }
 
-/// Whether `resolve` may be called: at each manager at which the scan has branches left, the desk has room for a request
-/// to open it and for two for each of them.
+/// Whether `resolve` may be called: at each manager at which the scan has branches left, the desk has room for a
+/// request to open it and for two for each of them.
 pub fn may_resolve(desk: &Desk, scan: &Scan) -> bool
     ensures { IsTrue result ↔ MayResolve desk.now scan.now }
 {
@@ -153,10 +157,11 @@ pub fn may_resolve(desk: &Desk, scan: &Scan) -> bool
 
 /// Ends each branch that the reopening found left, by presumed abort (Mohan, Lindsay and Obermarck, 1986).
 ///
-/// At each manager that has any, by rising number, it puts xa_open(); then for each xid, rising, xa_commit() in two phases
-/// where the log's record of its transaction names the manager, and else xa_rollback(); and xa_forget() after an answer
-/// of `XA_HEURCOM` or `XA_HEURRB`. Each is waited for before the next. A manager that is learnt to be shut is asked
-/// nothing, which counts as `XAER_RMFAIL`; neither that nor any other answer ends it early, so each branch has its outcome.
+/// At each manager that has any, by rising number, it puts xa_open(); then for each xid, rising, xa_commit() in two
+/// phases where the log's record of its transaction names the manager, and else xa_rollback(); and xa_forget() after an
+/// answer of `XA_HEURCOM` or `XA_HEURRB`. Each is waited for before the next. A manager that is learnt to be shut is
+/// asked nothing, which counts as `XAER_RMFAIL`; neither that nor any other answer ends it early, so each branch has
+/// its outcome.
 ///
 /// Want of memory comes before anything is sent.
 pub fn resolve<R: Wait, L: DecisionLog, I: Idle>(
@@ -168,7 +173,8 @@ pub fn resolve<R: Wait, L: DecisionLog, I: Idle>(
     idle: &mut I,
 ) -> Result<Resolved, ResolveFault>
     requires { MayResolve desk.old scan.now }
-    ensures trace { IfOk result (λ r. IsTraceOfResolve scan.now (L.state log.now) desk.old.ledgers desk.new.ledgers r.outcomes.items) }
+    ensures trace { IfOk result (λ r. IsTraceOfResolve scan.now
+        (L.state log.now) desk.old.ledgers desk.new.ledgers r.outcomes.items) }
 
     // What is kept under the handles stays, and so does all that was outstanding, with its tickets.
     ensures keeps { OnOk result (KeepsDesk desk.old desk.new) }

@@ -242,7 +242,8 @@ fn asked_yes(asks: &[Ask], manager: u32) -> bool
 
 /// The managers that voted yes.
 pub(crate) fn yes_of(asks: &[Ask]) -> Yes
-    ensures { result ≡ asked_yes 1 asks.now ∷ asked_yes 2 asks.now ∷ asked_yes 3 asks.now ∷ asked_yes 4 asks.now ∷ asked_yes 5 asks.now ∷ asked_yes 6 asks.now ∷ asked_yes 7 asks.now ∷ asked_yes 8 asks.now ∷ [] }
+    ensures { result ≡ asked_yes 1 asks.now ∷ asked_yes 2 asks.now ∷ asked_yes 3 asks.now ∷ asked_yes 4 asks.now
+        ∷ asked_yes 5 asks.now ∷ asked_yes 6 asks.now ∷ asked_yes 7 asks.now ∷ asked_yes 8 asks.now ∷ [] }
 {
     [
         asked_yes(asks, 1),

@@ -42,7 +42,8 @@ impl Workers {
 }
 
 impl Idle for Workers {
-    ghost leads_by = { λ manager before after. map seat_of_worker after.workers.items ≡ map seat_of_worker before.workers.items };
+    ghost leads_by = { λ manager before after. map seat_of_worker after.workers.items
+        ≡ map seat_of_worker before.workers.items };
 
     ghost leads = { λ before after. map seat_of_worker after.workers.items ≡ map seat_of_worker before.workers.items };
 

@@ -1,7 +1,8 @@
 //! What a thread is told to do.
 ghost use Rattle.std.specs.Prelude.{◌≡◌, Ok, Err, MatchResult};
 ghost use Rattle.xa_grammar.specs.Shapes.{action_of};
-ghost use Rattle.xa_grammar.specs.Actions.{verb_of, action_at, resolve_step, call_step, step_by, step_of_thread, turn_of, reopen_of};
+ghost use Rattle.xa_grammar.specs.Actions.{verb_of, action_at, resolve_step, call_step, step_by, step_of_thread};
+ghost use Rattle.xa_grammar.specs.Actions.{turn_of, reopen_of};
 
 use crate::commit::{MOST_MANAGER, commit_step};
 use crate::fault::Reason;
@@ -63,7 +64,8 @@ fn verb_of(word: &[u8]) -> Option<Verb>
 // The words between the manager and the flags.
 #[tactic(auto, unfolding(crate::specs::Actions::action_at))]
 fn action_at<'a>(verb: Verb, words: &mut Words<'a>) -> Result<Calling<Name<'a>>, Reason>
-    ensures { MatchResult result (λ c. action_at verb words.old ≡ Ok (action_of (λ x. x) c, words.new)) (λ why. action_at verb words.old ≡ Err why) }
+    ensures { MatchResult result (λ c. action_at verb words.old ≡ Ok (action_of (λ x. x) c, words.new))
+        (λ why. action_at verb words.old ≡ Err why) }
 {
     match verb {
         Verb::Plain(call) => Ok(Calling::Xa(call, None)),

@@ -3,7 +3,8 @@ ghost use Rattle.std.specs.Prelude.{◌≡◌, ◌<◌, ◌≤◌, ◌==◌, IfO
 ghost use Rattle.std.specs.List.{list_all, position_or_len};
 ghost use Rattle.xa_words.specs.Tran.{tran_of};
 ghost use Rattle.xa_grammar.specs.Text.{dot};
-ghost use Rattle.xa_grammar.specs.Fields.{all_digits, number_of, number_in, is_name_byte, is_name, xid_of, tran_named, signed_number_of, delta_in, flag_of};
+ghost use Rattle.xa_grammar.specs.Fields.{all_digits, number_of, number_in, is_name_byte, is_name, xid_of, tran_named};
+ghost use Rattle.xa_grammar.specs.Fields.{signed_number_of, delta_in, flag_of};
 
 use crate::fault::Reason;
 use crate::name::Name;

@@ -3,7 +3,8 @@ ghost use Rattle.std.specs.Prelude.{◌≡◌, ◌≤◌, OnOk, IfOk, IfErr, Ok}
 ghost use Rattle.std.specs.List.{list_all};
 ghost use Rattle.xa_grammar.specs.Text.{words_of, is_script_byte, without_return};
 ghost use Rattle.xa_grammar.specs.Content.{IsScript};
-ghost use Rattle.xa_grammar.specs.Grammar.{head_of, item_by, item_of, line_of, with_item, HasPlace, after_line, FailsAt};
+ghost use Rattle.xa_grammar.specs.Grammar.{head_of, item_by, item_of, line_of, with_item, HasPlace, after_line};
+ghost use Rattle.xa_grammar.specs.Grammar.{FailsAt};
 
 use crate::action::{reopen_of, step_of_thread, turn_of};
 use crate::fault::{Reason, ScriptFault};

@@ -1,6 +1,8 @@
 //! What a script says.
-ghost use Rattle.std.specs.Prelude.{◌≡◌, ◌≤◌, ◌<◌, ◌^◌, ℕ, Some, true, All, IfSome, OnOk, length, nat_eq, slice_get, IfOk};
-ghost use Rattle.xa_base.specs.declared.limits.TheConstants.{MOST_HANDLES, MOST_MANAGERS, MOST_QUEUED, MOST_REQUESTS, MOST_THREADS};
+ghost use Rattle.std.specs.Prelude.{◌≡◌, ◌≤◌, ◌<◌, ◌^◌, ℕ, Some, true, All, IfSome, OnOk, length, nat_eq, slice_get};
+ghost use Rattle.std.specs.Prelude.{IfOk};
+ghost use Rattle.xa_base.specs.declared.limits.TheConstants.{MOST_HANDLES, MOST_MANAGERS, MOST_QUEUED, MOST_REQUESTS};
+ghost use Rattle.xa_base.specs.declared.limits.TheConstants.{MOST_THREADS};
 ghost use Rattle.xa_base.specs.Lists.{IsUpTo};
 ghost use Rattle.xa_grammar.specs.declared.setting.TheConstants.{MOST_APPENDS};
 
@@ -155,15 +157,30 @@ impl Model for Script {
 
     ghost Value = { Content };
 
-    ghost view = { λ s. record { settings = s.settings; keys = s.keys; syncs = s.syncs.items; failing = s.failing; steps = arc_value s.steps } };
+    ghost view = { λ s. record {
+      settings = s.settings;
+      keys = s.keys;
+      syncs = s.syncs.items;
+      failing = s.failing;
+      steps = arc_value s.steps;
+    } };
 
-    ghost invariant = { λ s. IsScript (record { settings = s.settings; keys = s.keys; syncs = s.syncs.items; failing = s.failing; steps = arc_value s.steps }) };
+    ghost invariant = { λ s. IsScript (record {
+      settings = s.settings;
+      keys = s.keys;
+      syncs = s.syncs.items;
+      failing = s.failing;
+      steps = arc_value s.steps;
+    }) };
 }
 
 impl Script {
     ghost use Rattle.xa_tables.specs.Accounts.{are_accounts};
     ghost use Rattle.std.specs.List.{list_any};
-    ghost use Rattle.xa_grammar.specs.Content.{is_reopen, tasks_of, accounts_of, IsOfManager, IsOfScript, IsScript, threads_of, managers_of, handles_of, queue_of, requests_of, carries_async, failing_append, nothing, with_count, with_key, with_sync, with_failing, with_step};
+    ghost use Rattle.xa_grammar.specs.Content.{is_reopen, tasks_of, accounts_of, IsOfManager, IsOfScript, IsScript};
+    ghost use Rattle.xa_grammar.specs.Content.{threads_of, managers_of, handles_of, queue_of, requests_of};
+    ghost use Rattle.xa_grammar.specs.Content.{carries_async, failing_append, nothing, with_count, with_key, with_sync};
+    ghost use Rattle.xa_grammar.specs.Content.{with_failing, with_step};
 
     pub(crate) fn new(alloc: Global) -> Result<Script, AllocError>
         ensures { IfOk result (λ s. s ≡ nothing) }

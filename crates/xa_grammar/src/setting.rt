@@ -1,6 +1,7 @@
 //! What a line sets or declares.
 ghost use Rattle.std.specs.Prelude.{◌≡◌, ◌≤◌, IfOk};
-ghost use Rattle.xa_grammar.specs.Settings.{before_actions, count_of, not_set, limit_of, setting_of, sync_of, logfail_of, new_key, declared_of};
+ghost use Rattle.xa_grammar.specs.Settings.{before_actions, count_of, not_set, limit_of, setting_of, sync_of};
+ghost use Rattle.xa_grammar.specs.Settings.{logfail_of, new_key, declared_of};
 
 use crate::fault::Reason;
 use crate::keys::Keys;

@@ -1,5 +1,6 @@
 //! Steps in a small form: the bytes of their names stand one after the other, and each step says where.
-ghost use Rattle.std.specs.Prelude.{◌≡◌, ◌<◌, ◌^◌, ◌++◌, ◌∷◌, [], ℕ, List, Some, length, slice_get, All, IfOk, OnOk, OnErr};
+ghost use Rattle.std.specs.Prelude.{◌≡◌, ◌<◌, ◌^◌, ◌++◌, ◌∷◌, [], ℕ, List, Some, length, slice_get, All, IfOk, OnOk};
+ghost use Rattle.std.specs.Prelude.{OnErr};
 ghost use Rattle.std.specs.List.{list_any};
 ghost use Rattle.xa_grammar.specs.Content.{is_reopen};
 ghost use Rattle.xa_grammar.specs.OwnTasks.{is_own, own_steps, steps_at};

@@ -28,7 +28,8 @@ impl Model for Tasks {
 
     ghost view = { λ t. tasks_in (steps_at (arc_value t.steps) t.places.items) };
 
-    ghost invariant = { λ t. All IsTask (steps_at (arc_value t.steps) t.places.items) × All (λ k. k < length (arc_value t.steps)) t.places.items };
+    ghost invariant = { λ t. All IsTask (steps_at (arc_value t.steps) t.places.items)
+        × All (λ k. k < length (arc_value t.steps)) t.places.items };
 }
 
 impl Tasks {

@@ -1,8 +1,10 @@
 //! The words of a line, taken from left to right.
-ghost use Rattle.std.specs.Prelude.{◌≡◌, ◌<◌, ◌≤◌, ◌∷◌, [], length, take, drop, true, false, Ok, Err, IfOk, MatchOption, MatchResult};
+ghost use Rattle.std.specs.Prelude.{◌≡◌, ◌<◌, ◌≤◌, ◌∷◌, [], length, take, drop, true, false, Ok, Err, IfOk};
+ghost use Rattle.std.specs.Prelude.{MatchOption, MatchResult};
 ghost use Rattle.xa_words.specs.Tran.{tran_of};
 ghost use Rattle.xa_grammar.specs.Text.{is_space, starts_blank, words_of, IsWord};
-ghost use Rattle.xa_grammar.specs.Fields.{Takes, word_at, end_of, number_at, key_at, xid_at, tran_at, delta_at, flags_onto};
+ghost use Rattle.xa_grammar.specs.Fields.{Takes, word_at, end_of, number_at, key_at, xid_at, tran_at, delta_at};
+ghost use Rattle.xa_grammar.specs.Fields.{flags_onto};
 ghost use Rattle.xa_grammar.specs.Grammar.{are_comment};
 
 use crate::fault::Reason;
@@ -97,7 +99,8 @@ impl<'a> Words<'a> {
     // A global transaction, given as one of its branches.
     #[tactic(auto, unfolding(crate::specs::Fields::tran_at))]
     pub(crate) fn tran(&mut self) -> Result<Name<'a>, Reason>
-        ensures { MatchResult result (λ x. tran_at self.old ≡ Ok (tran_of x, self.new)) (λ why. tran_at self.old ≡ Err why) }
+        ensures { MatchResult result (λ x. tran_at self.old ≡ Ok (tran_of x, self.new))
+            (λ why. tran_at self.old ≡ Err why) }
     {
         tran_named(self.word()?).ok_or(Reason::BadXid)
     }

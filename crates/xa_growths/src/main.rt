@@ -37,7 +37,7 @@ fn tell<R: Threads + Wait + Copy + Send + 'static, W: Write>(
         "strangers" => settle_strangers(rt, alloc, out)?,
         "missing" => settle_without_workers(rt, alloc, out)?,
         "calls" => call_all(rt, alloc, out)?,
-        _ => do_it(rt, alloc, Thing::named(rt, alloc, name)?, out),
+        _ => do_it(rt, alloc, &mut Thing::named(rt, alloc, name)?, out),
     };
     Some(told)
 }

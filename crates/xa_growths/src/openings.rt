@@ -53,7 +53,8 @@ impl Workers {
 }
 
 impl Idle for Workers {
-    ghost leads_by = { λ manager before after. map seat_of_worker after.all.items ≡ map seat_of_worker before.all.items };
+    ghost leads_by = { λ manager before after. map seat_of_worker after.all.items
+        ≡ map seat_of_worker before.all.items };
 
     ghost leads = { λ before after. map seat_of_worker after.all.items ≡ map seat_of_worker before.all.items };
 
@@ -87,8 +88,10 @@ pub(crate) fn one_desk(mut desks: Vec<Desk>) -> Option<Desk>
 
 /// Opens a plan of one thread. None for want of memory.
 pub(crate) fn open<R: Wait>(rt: &R, alloc: Global, plan: &Plan) -> Option<Opened>
-    ensures come { IfSome result (λ o. ComeFromOpenings (seat_of_desk o.desk ∷ []) (map seat_of_worker o.workers.all.items)) }
-    ensures number { IfSome result (λ o. All (λ n. n ≡ plan.now.opening) (openings_of (seat_of_desk o.desk ∷ []) (map seat_of_worker o.workers.all.items))) }
+    ensures come { IfSome result (λ o. ComeFromOpenings (seat_of_desk o.desk ∷ [])
+        (map seat_of_worker o.workers.all.items)) }
+    ensures number { IfSome result (λ o. All (λ n. n ≡ plan.now.opening)
+        (openings_of (seat_of_desk o.desk ∷ []) (map seat_of_worker o.workers.all.items))) }
 {
     opened_pieces_come_from_their_opening();
     opened_pieces_have_their_number();

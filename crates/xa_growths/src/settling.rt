@@ -1,7 +1,8 @@
 //! What becomes of an opening: all its calls, and how it is settled.
 ghost use Rattle.std.specs.Prelude.{◌≡◌, ◌∷◌, [], IfSome, map};
 ghost use Rattle.std.specs.List.{All};
-ghost use Rattle.xa_switch.specs.Seats.{ComeFromOpenings, desk_seats, worker_seats, openings_of, seat_of_desk, seat_of_ended, seat_of_worker, seat_of_done};
+ghost use Rattle.xa_switch.specs.Seats.{ComeFromOpenings, desk_seats, worker_seats, openings_of, seat_of_desk};
+ghost use Rattle.xa_switch.specs.Seats.{seat_of_ended, seat_of_worker, seat_of_done};
 
 use crate::commits::{ask, branch};
 use crate::openings::{Opened, Workers, open, plan_of};
@@ -219,7 +220,8 @@ pub(crate) fn end_all<R: Wait>(rt: &R, alloc: Global, opened: Opened) -> Option<
 // far.
 fn pieces_of<R: Wait>(rt: &R, alloc: Global, opening: u64, managers: u32) -> Option<Pieces>
     ensures come { IfSome result (λ p. ComeFromOpenings (desk_seats p.desks.items) (worker_seats p.workers.items)) }
-    ensures number { IfSome result (λ p. All (λ n. n ≡ opening) (openings_of (desk_seats p.desks.items) (worker_seats p.workers.items))) }
+    ensures number { IfSome result (λ p. All (λ n. n ≡ opening)
+        (openings_of (desk_seats p.desks.items) (worker_seats p.workers.items))) }
 {
     let plan = plan_of(alloc, opening, managers)?;
     let mut opened = open(rt, alloc, &plan)?;
@@ -232,7 +234,8 @@ fn pieces_of<R: Wait>(rt: &R, alloc: Global, opening: u64, managers: u32) -> Opt
 // Settles the pieces. They come back where memory was refused.
 fn attempt<R: Wait>(rt: &R, alloc: Global, pieces: Pieces) -> (Came, Option<Pieces>)
     requires { ComeFromOpenings (desk_seats pieces.desks.items) (worker_seats pieces.workers.items) }
-    ensures { IfSome result.1 (λ back. ComeFromOpenings (desk_seats back.desks.items) (worker_seats back.workers.items)) }
+    ensures { IfSome result.1 (λ back. ComeFromOpenings (desk_seats back.desks.items)
+        (worker_seats back.workers.items)) }
 {
     let many = (pieces.desks.len(), pieces.workers.len());
     let back = match settle(rt, alloc, pieces.desks, pieces.workers) {

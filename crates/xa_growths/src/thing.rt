@@ -115,7 +115,7 @@ pub(crate) fn tell<W: Write>(out: &mut W, came: Came) -> io::Result<()> {
 pub(crate) fn do_it<R: Threads + Wait + Copy + Send + 'static, W: Write>(
     rt: &R,
     alloc: Global,
-    mut thing: Thing,
+    thing: &mut Thing,
     out: &mut W,
 ) -> io::Result<()> {
     begin(out)?;

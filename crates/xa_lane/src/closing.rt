@@ -69,10 +69,13 @@ pub(crate) fn drain<T: Copy, R: Wait>(
     mut pass: Pass<Parcel<T>, View<T>>,
     mut left: Vec<(usize, T)>,
 ) -> Vec<(usize, T)>
-    requires pass { IsPassOf line.now pass × (view pass ≡ Receives (made_in (view pass)) (taken_in (view pass)) (told_in (view pass))) }
+    requires pass { IsPassOf line.now pass × (view pass ≡ Receives (made_in (view pass)) (taken_in (view pass))
+        (told_in (view pass))) }
     requires whole { Covers (made_in (view pass)) (told_in (view pass)) }
     requires left { (left.items ≡ []) × (MOST_QUEUED ≤ vec_capacity left) }
-    ensures { (held : List (Parcel T)) × (result.items ≡ items_in held) × Tied (told_in (view pass)) (taken_in (view pass) ++ held) × Within (made_in (view pass)) (taken_in (view pass) ++ held) }
+    ensures { (held : List (Parcel T)) × (result.items ≡ items_in held)
+        × Tied (told_in (view pass)) (taken_in (view pass) ++ held)
+        × Within (made_in (view pass)) (taken_in (view pass) ++ held) }
 {
     line.learn_as::<Gets>(&mut pass);
     for _ in rt.forever() {

@@ -34,9 +34,17 @@ impl<T: Copy> Model for Ended<T> {
     ghost use Rattle.xa_lane.specs.Ends.{line_of};
     ghost use Rattle.xa_lane.specs.declared.order.View.TheVariants.{Sends};
 
-    ghost view = { λ s. record { lane = s.name; line = line_of (arc_value s.line); capacity = ruled_capacity (arc_value s.line); index = s.index; sent = sent_in (knows s.pass); full = s.full } };
+    ghost view = { λ s. record {
+      lane = s.name;
+      line = line_of (arc_value s.line);
+      capacity = ruled_capacity (arc_value s.line);
+      index = s.index;
+      sent = sent_in (knows s.pass);
+      full = s.full;
+    } };
 
-    ghost invariant = { λ s. IsPassOf (arc_value s.line) s.pass × (knows s.pass ≡ Sends (log s.index (sent_in (knows s.pass)) true)) };
+    ghost invariant = { λ s. IsPassOf (arc_value s.line) s.pass
+        × (knows s.pass ≡ Sends (log s.index (sent_in (knows s.pass)) true)) };
 }
 
 impl<T: Copy> Ended<T> {

@@ -7,10 +7,12 @@ ghost use Rattle.xa_lane.specs.Closing.{Conserves, EndsLast, LeavesNothing};
 /// Where the end mark of each sender is its last parcel, what was taken of a sender and then what
 /// was left of it is what it sent.
 pub fn last_ends_conserve<T>()
-    ensures { (ends : List (Sending T)) (taken : List (Parcel T)) (left : List (ℕ × T)) → EndsLast ends taken left → Conserves ends taken left }
+    ensures { (ends : List (Sending T)) (taken : List (Parcel T)) (left : List (ℕ × T)) → EndsLast ends taken left
+        → Conserves ends taken left }
 {}
 
 /// Once a sender's end mark was taken, nothing of the sender is left.
 pub fn nothing_follows_an_end<T>()
-    ensures { (ends : List (Sending T)) (taken : List (Parcel T)) (left : List (ℕ × T)) → EndsLast ends taken left → LeavesNothing ends taken left }
+    ensures { (ends : List (Sending T)) (taken : List (Parcel T)) (left : List (ℕ × T)) → EndsLast ends taken left
+        → LeavesNothing ends taken left }
 {}

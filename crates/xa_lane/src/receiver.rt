@@ -38,9 +38,20 @@ impl<T: Copy> Model for Receiver<T> {
     ghost use Rattle.xa_lane.specs.Ends.{line_of, at_most_counted};
     ghost use Rattle.xa_lane.specs.declared.order.View.TheVariants.{Receives};
 
-    ghost view = { λ s. record { lane = s.name; line = line_of (arc_value s.line); capacity = ruled_capacity (arc_value s.line); senders = s.senders; taken = taken_in (knows s.pass); quiet = s.quiet; taken_then = s.taken_then } };
+    ghost view = { λ s. record {
+      lane = s.name;
+      line = line_of (arc_value s.line);
+      capacity = ruled_capacity (arc_value s.line);
+      senders = s.senders;
+      taken = taken_in (knows s.pass);
+      quiet = s.quiet;
+      taken_then = s.taken_then;
+    } };
 
-    ghost invariant = { λ s. IsPassOf (arc_value s.line) s.pass × (knows s.pass ≡ Receives s.senders (taken_in (knows s.pass)) []) × (s.taken ≡ at_most_counted (length (taken_in (knows s.pass)))) × (s.left.items ≡ []) × (MOST_QUEUED ≤ vec_capacity s.left) };
+    ghost invariant = { λ s. IsPassOf (arc_value s.line) s.pass
+        × (knows s.pass ≡ Receives s.senders (taken_in (knows s.pass)) [])
+        × (s.taken ≡ at_most_counted (length (taken_in (knows s.pass)))) × (s.left.items ≡ [])
+        × (MOST_QUEUED ≤ vec_capacity s.left) };
 }
 
 impl<T: Copy> Receiver<T> {

@@ -34,9 +34,18 @@ impl<T: Copy> Model for Sender<T> {
     ghost use Rattle.xa_lane.specs.Ends.{line_of};
     ghost use Rattle.xa_lane.specs.declared.order.View.TheVariants.{Sends};
 
-    ghost view = { λ s. record { lane = s.name; line = line_of (arc_value s.line); capacity = ruled_capacity (arc_value s.line); index = s.index; sent = sent_in (knows s.pass); full = s.full } };
+    ghost view = { λ s. record {
+      lane = s.name;
+      line = line_of (arc_value s.line);
+      capacity = ruled_capacity (arc_value s.line);
+      index = s.index;
+      sent = sent_in (knows s.pass);
+      full = s.full;
+    } };
 
-    ghost invariant = { λ s. IsPassOf (arc_value s.line) s.pass × (knows s.pass ≡ Sends (log s.index (sent_in (knows s.pass)) false)) × (ruled_capacity (arc_value s.line) ≤ MOST_QUEUED) };
+    ghost invariant = { λ s. IsPassOf (arc_value s.line) s.pass
+        × (knows s.pass ≡ Sends (log s.index (sent_in (knows s.pass)) false))
+        × (ruled_capacity (arc_value s.line) ≤ MOST_QUEUED) };
 }
 
 impl<T: Copy> Sender<T> {
@@ -54,7 +63,10 @@ impl<T: Copy> Sender<T> {
     pub fn offer<R: Wait>(&mut self, rt: &R, item: T) -> Result<(), Full<T>>
         ensures same { SameSender self.old self.new }
         ensures sent { OnOk result (self.new ≡ record self.old { sent = self.old.sent ++ item ∷ [] }) }
-        ensures full { IfErr result (λ f. (f.item ≡ item) × (self.new ≡ record self.old { full = counted self.old.full })) }
+        ensures full { IfErr result (λ f. (f.item ≡ item) × (self.new ≡ record self.old {
+          full =
+              counted self.old.full;
+        })) }
     {
         let parcel = Parcel {
             from: self.index,

@@ -21,8 +21,8 @@ use Rattle.xa_session.specs.Ended.{all_ended}
 abbrev pub told_by : Attended ScriptThread → List Answer
 told_by t = t.client.told ++ all_ended t.client.thread t.outstanding.items
 
--- The thread did its own tasks among these steps, one after the other, with the desk and a log without a record, and came
--- to this; then what was outstanding was collected, and the desk ended.
+-- The thread did its own tasks among these steps, one after the other, with the desk and a log without a record, and
+-- came to this; then what was outstanding was collected, and the desk ended.
 pub record HasWorked (s : Content) (steps : List Step) (t : Member ScriptThread) (left : Session) : Type 0 where
   pub own : t.attended.client.thread ≡ t.desk.thread
   pub runs : Chain HasDone (new_session s t.desk, []) (tasks_of t.desk.thread steps)

@@ -97,7 +97,8 @@ closing_of ended workers answers = record { ended = ended; workers = workers; an
 
 -- The threads went through all these steps; then their desks ended one after the other, and then each worker ran to the
 -- last end mark.
-pub record InTurns (steps : List Step) (sessions left : List Session) (workers : List WorkerView) (ended : List EndedView)
+pub record InTurns (steps : List Step) (sessions left : List Session) (workers : List WorkerView)
+    (ended : List EndedView)
     (done : List Served) (answers : List Answer) : Type 0 where
   pub ran : Course
   pub runs : HasMadeSteps (course_of sessions workers []) steps ran

@@ -39,7 +39,8 @@ pub record IsClosed (s : Content) (b : Beginning) (o : Opening) (logs : List Log
 
 -- The script has come to this by these lines: the openings before, each with the line that reopened it, and then the
 -- one that is open.
-pub record HasReached (s : Content) (lines : List Step) (opening : ℕ) (sessions : List Session) (workers : List WorkerView)
+pub record HasReached (s : Content) (lines : List Step) (opening : ℕ) (sessions : List Session)
+    (workers : List WorkerView)
     (answers : List Answer) : Type 0 where
   pub before : List Former
   pub begins : Beginning

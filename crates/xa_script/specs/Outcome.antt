@@ -21,12 +21,14 @@ use Rattle.xa_script.specs.declared.mode.Mode.TheVariants.{Turns, Threads}
 use Rattle.xa_script.specs.InTurns.{InTurns}
 use Rattle.xa_script.specs.InThreads.{InThreads}
 
--- How the threads and the workers of an opening came by its lines to desks that have ended and workers that have run, and
--- what was answered.
-abbrev pub Runs : Mode → Content → List Step → List Session → List Session → List WorkerView → List EndedView → List Served
+-- How the threads and the workers of an opening came by its lines to desks that have ended and workers that have run,
+-- and what was answered.
+abbrev pub Runs : Mode → Content → List Step → List Session → List Session → List WorkerView → List EndedView
+    → List Served
     → List Answer → Type 0
 Runs Turns s steps sessions left workers ended done answers = InTurns steps sessions left workers ended done answers
-Runs Threads s steps sessions left workers ended done answers = InThreads s steps sessions left workers ended done answers
+Runs Threads s steps sessions left workers ended done answers =
+    InThreads s steps sessions left workers ended done answers
 
 -- In this way the threads and the workers of an opening that begins so have come to what was settled.
 pub record HasCome (m : Mode) (s : Content) (b : Beginning) (o : Opening) (left : List Session) : Type 0 where
@@ -47,7 +49,8 @@ pub record Follows (m : Mode) (s : Content) (f : Former) (old new : Beginning) :
   pub leaves : Leaves s f old new
 
 -- The script was run in this way, in one opening after the other.
-pub record IsOutcome (m : Mode) (s : Content) (answers : List Answer) (before : List Former) (last : Opening) : Type 0 where
+pub record IsOutcome (m : Mode) (s : Content) (answers : List Answer) (before : List Former)
+    (last : Opening) : Type 0 where
   pub steps : s.steps ≡ steps_over before last
   pub answers_ : answers ≡ answers_over before last
   pub ones : All (λ f. AreOfOne f.opening.steps) before × AreOfOne last.steps

@@ -185,7 +185,8 @@ pub fn program<H: Threads + Wait + Copy + Send + 'static, R: Read, W: Write, E: 
 
     ensures ran { result ≡ 0 → (mode : Mode) × IsMode words.now mode × IfSome (R.remaining reader.old)
         (ShowsRun mode (W.contents out.old) (W.contents out.new)) }
-    ensures faulty { result ≡ 1 → (mode : Mode) × IsMode words.now mode × IfSome (R.remaining reader.old) (IsFaulty mode) }
+    ensures faulty { result ≡ 1 → (mode : Mode) × IsMode words.now mode
+        × IfSome (R.remaining reader.old) (IsFaulty mode) }
     ensures nothing_shown { 0 < result → result < 4 → W.contents out.new ≡ W.contents out.old }
 {
     match carry_out(rt, alloc, words, reader, out) {

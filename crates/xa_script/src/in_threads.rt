@@ -72,7 +72,8 @@ fn run<R: Threads + Wait + Copy + Send + 'static, P: Pace + Drop + Send + 'stati
 ) -> Result<(Vec<u8>, Settled), AllocError>
     requires paces { length paces.items ≡ 8 }
     requires one { AreOfOne script.now.steps }
-    ensures { IfOk result (λ r. (answers : List Answer) × (last : Opening) × (r.0.items ≡ answers_text answers) × IsOutcome mode.Threads script.now answers [] last × (last.settled ≡ r.1)) }
+    ensures { IfOk result (λ r. (answers : List Answer) × (last : Opening) × (r.0.items ≡ answers_text answers)
+        × IsOutcome mode.Threads script.now answers [] last × (last.settled ≡ r.1)) }
 {
     script.steps_are_of_it();
     let plan = plan_of(alloc, script)?;

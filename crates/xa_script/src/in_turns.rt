@@ -48,7 +48,8 @@ impl Runner {
     // The first opening of a script.
     fn open<R: Wait>(rt: &R, alloc: Global, script: &Script) -> Result<Runner, AllocError>
         ensures number { IfOk result (λ r. r.opening ≡ 1) }
-        ensures opened { IfOk result (λ r. IsOpen script.now (beginning script.now) r.sessions.items r.turns.workers.items) }
+        ensures opened { IfOk result (λ r. IsOpen script.now (beginning script.now) r.sessions.items
+            r.turns.workers.items) }
     {
         let plan = plan_of(alloc, script)?;
         let (desks, workers) = match open_switch(rt, alloc, &plan) {
@@ -68,7 +69,8 @@ impl Runner {
     // A thread does a task. It fails only for want of memory.
     fn call<R: Wait>(&mut self, rt: &R, alloc: Global, task: &Task) -> Result<Answer, AllocError>
         requires { IsUpTo (length self.old.sessions.items) (thread_of task.now) }
-        ensures calls { IfOk result (HasCalled task.now (stage_of self.old.sessions.items self.old.turns.workers.items) (stage_of self.new.sessions.items self.new.turns.workers.items)) }
+        ensures calls { IfOk result (HasCalled task.now (stage_of self.old.sessions.items self.old.turns.workers.items)
+            (stage_of self.new.sessions.items self.new.turns.workers.items)) }
         ensures number { self.new.opening ≡ self.old.opening }
     {
         let Session { desk, log, scan } = &mut self.sessions[task.thread() as usize - 1];
@@ -78,7 +80,8 @@ impl Runner {
     // A manager's worker takes a turn.
     fn turn<R: Wait>(&mut self, rt: &R, line: u32, manager: u32) -> Answer
         requires { IsUpTo (length self.old.turns.workers.items) manager }
-        ensures turns { HasTurned line manager (stage_of self.old.sessions.items self.old.turns.workers.items) (stage_of self.new.sessions.items self.new.turns.workers.items) result }
+        ensures turns { HasTurned line manager (stage_of self.old.sessions.items self.old.turns.workers.items)
+            (stage_of self.new.sessions.items self.new.turns.workers.items) result }
         ensures number { self.new.opening ≡ self.old.opening }
     {
         Answer::Turned {
@@ -89,9 +92,17 @@ impl Runner {
 
     // The opening ends: what is outstanding is told, the workers run to the last end mark, and all is settled.
     fn close<R: Wait>(self, rt: &R, alloc: Global, told: &mut Told) -> Result<Closed, AllocError>
-        requires { (s : Content) × (b : Beginning) × (steps : List Step) × (answers : List Answer) × Goes s b steps answers self.sessions.items self.turns.workers.items }
+        requires { (s : Content) × (b : Beginning) × (steps : List Step) × (answers : List Answer)
+            × Goes s b steps answers self.sessions.items self.turns.workers.items }
         ensures number { IfOk result (λ c. c.opening ≡ self.opening) }
-        ensures closed { IfOk result (λ c. (s : Content) (b : Beginning) (steps : List Step) (answers : List Answer) → Goes s b steps answers self.sessions.items self.turns.workers.items → (more : List Answer) × (told.new ≡ told.old ++ more) × IsClosed s b (record { steps = steps; answers = answers ++ more; settled = c.settled }) c.logs.items) }
+        ensures closed { IfOk result (λ c. (s : Content) (b : Beginning) (steps : List Step) (answers : List Answer)
+            → Goes s b steps answers self.sessions.items self.turns.workers.items
+            → (more : List Answer) × (told.new ≡ told.old ++ more)
+            × IsClosed s b (record {
+              steps = steps;
+              answers = answers ++ more;
+              settled = c.settled;
+            }) c.logs.items) }
     {
         outstanding_operations_stay_kept();
         desks_go_on();
@@ -114,9 +125,13 @@ impl Runner {
 impl Closed {
     // It is opened again, with the next number.
     fn reopen<R: Wait>(self, rt: &R, alloc: Global, script: &Script) -> Result<Runner, AllocError>
-        requires closed { (b : Beginning) × (o : Opening) × IsClosed script.now b o self.logs.items × (o.settled ≡ self.settled) × (self.opening ≡ b.opening) }
+        requires closed { (b : Beginning) × (o : Opening) × IsClosed script.now b o self.logs.items
+            × (o.settled ≡ self.settled) × (self.opening ≡ b.opening) }
         requires few { self.opening < 18446744073709551615 }
-        ensures opened { IfOk result (λ r. (b : Beginning) (o : Opening) (line : ℕ) → IsClosed script.now b o self.logs.items → o.settled ≡ self.settled → self.opening ≡ b.opening → (next : Beginning) × Follows mode.Turns script.now (record { opening = o; line = line }) b next × (r.opening ≡ next.opening) × IsOpen script.now next r.sessions.items r.turns.workers.items) }
+        ensures opened { IfOk result (λ r. (b : Beginning) (o : Opening) (line : ℕ)
+            → IsClosed script.now b o self.logs.items → o.settled ≡ self.settled → self.opening ≡ b.opening
+            → (next : Beginning) × Follows mode.Turns script.now (record { opening = o; line = line }) b next
+            × (r.opening ≡ next.opening) × IsOpen script.now next r.sessions.items r.turns.workers.items) }
         ensures number { IfOk result (λ r. r.opening ≡ self.opening + 1) }
     {
         let Closed {
@@ -151,7 +166,8 @@ fn end_desks<R: Wait>(
     told: &mut Told,
 ) -> Result<(Vec<EndedDesk>, Vec<MemoryLog>), AllocError>
     requires { All (λ s. AllKept s.desk) sessions.items }
-    ensures ended { IfOk result (λ r. HaveEnded (closing_of [] turns.old.workers.items told.old) sessions.items (closing_of r.0.items turns.new.workers.items told.new)) }
+    ensures ended { IfOk result (λ r. HaveEnded (closing_of [] turns.old.workers.items told.old) sessions.items
+        (closing_of r.0.items turns.new.workers.items told.new)) }
     ensures logs { IfOk result (λ r. r.1.items ≡ map (λ x. x.log) sessions.items) }
 {
     let mut ended = Vec::with_capacity(alloc, sessions.len())?;
@@ -183,7 +199,8 @@ fn run_workers<R: Wait>(
 
 // Runs a script in turns, and settles what the threads and the managers of each opening have come to: the last one's.
 fn run<R: Wait>(rt: &R, alloc: Global, script: &Script) -> Result<(Told, Settled), AllocError>
-    ensures { IfOk result (λ r. (before : List Former) × (last : Opening) × IsOutcome mode.Turns script.now r.0 before last × (last.settled ≡ r.1)) }
+    ensures { IfOk result (λ r. (before : List Former) × (last : Opening)
+        × IsOutcome mode.Turns script.now r.0 before last × (last.settled ≡ r.1)) }
 {
     let mut runner = Runner::open(rt, alloc, script)?;
     let ends = runner.sessions.len() * MOST_HANDLES;

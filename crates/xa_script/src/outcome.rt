@@ -23,7 +23,9 @@ pub(crate) fn show<W: Write>(
     writer: &mut W,
 ) -> Result<(), RunFault>
     requires { (answers : List Answer) × IsRun script.now answers settled.now }
-    ensures ok { OnOk result ((mode : Mode) (answers : List Answer) (before : List Former) (last : Opening) → lines.now ≡ answers_text answers → IsOutcome mode script.now answers before last → last.settled ≡ settled.now → Writes mode script.now (W.contents writer.old) (W.contents writer.new)) }
+    ensures ok { OnOk result ((mode : Mode) (answers : List Answer) (before : List Former) (last : Opening)
+        → lines.now ≡ answers_text answers → IsOutcome mode script.now answers before last
+        → last.settled ≡ settled.now → Writes mode script.now (W.contents writer.old) (W.contents writer.new)) }
     ensures memory { IsErrOf result RunFault.NoMemory → W.contents writer.new ≡ W.contents writer.old }
 {
     let values = values_of(alloc, script, settled)?;

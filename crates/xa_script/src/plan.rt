@@ -42,7 +42,8 @@ fn manager_plan(alloc: Global, script: &Script, manager: u32) -> Result<ManagerP
 
 // The script's managers, by rising number.
 fn manager_plans(alloc: Global, script: &Script) -> Result<Vec<ManagerPlan>, AllocError>
-    ensures planned { IfOk result (λ v. map plan_says v.items ≡ map (script_says script.now) (range_with_len 1 (managers_of script.now))) }
+    ensures planned { IfOk result (λ v. map plan_says v.items ≡ map (script_says script.now)
+        (range_with_len 1 (managers_of script.now))) }
     ensures sound { IfOk result (λ v. All IsSoundManager v.items) }
     ensures limits { IfOk result (λ v. IsUpTo MOST_MANAGERS (length v.items)) }
 {

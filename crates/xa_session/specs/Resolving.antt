@@ -10,10 +10,12 @@ use Rattle.xa_session.specs.declared.session.Session.{Session}
 use Rattle.xa_session.specs.declared.answer.Answer.{Answer}
 use Rattle.xa_session.specs.declared.answer.Answer.TheVariants as answer
 
--- What a resolve does to its thread's desk, and what it answers: where there is no room for its requests nothing is done;
--- else it is the trace of the coordinator, by the thread's log and of what its scans have. The log and the scans stay.
+-- What a resolve does to its thread's desk, and what it answers: where there is no room for its requests nothing is
+-- done; else it is the trace of the coordinator, by the thread's log and of what its scans have. The log and the scans
+-- stay.
 pub data ResolvesLeft (r : Resolve) (old new : Session) (a : Answer) : Type 0 where
-  refused : (MayResolve old.desk old.scan → ⊥) → a ≡ answer.Refused r.line r.thread → new ≡ old → ResolvesLeft r old new a
+  refused : (MayResolve old.desk old.scan → ⊥) → a ≡ answer.Refused r.line r.thread → new ≡ old
+      → ResolvesLeft r old new a
   resolved : (outcomes : Vec Outcome Global) → MayResolve old.desk old.scan
       → IsTraceOfResolve old.scan old.log.state old.desk.ledgers new.desk.ledgers outcomes.items → new.log ≡ old.log
       → new.scan ≡ old.scan → KeepsDesk old.desk new.desk → outstanding new.desk.ledgers ≡ outstanding old.desk.ledgers

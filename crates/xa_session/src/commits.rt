@@ -50,7 +50,8 @@ pub(crate) fn commit<R: Wait, I: Idle>(
     asked: &CommitAll,
     idle: &mut I,
 ) -> Result<Answer, AllocError>
-    ensures commits { IfOk result (λ a. (z : ScanView) → CommitsAll asked.now (session_of desk.old log.old z) (session_of desk.new log.new z) a) }
+    ensures commits { IfOk result (λ a. (z : ScanView) → CommitsAll asked.now (session_of desk.old log.old z)
+        (session_of desk.new log.new z) a) }
     ensures goes_on { GoesOn desk.old desk.new }
     ensures kept { AllKept desk.old → AllKept desk.new }
     ensures unsent { OnErr result (desk.new ≡ desk.old) }

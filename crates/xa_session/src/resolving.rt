@@ -24,7 +24,8 @@ pub(crate) fn resolve_left<R: Wait, I: Idle>(
     asked: &Resolve,
     idle: &mut I,
 ) -> Result<Answer, AllocError>
-    ensures resolves { IfOk result (ResolvesLeft asked.now (session_of desk.old log.now scan.now) (session_of desk.new log.now scan.now)) }
+    ensures resolves { IfOk result (ResolvesLeft asked.now (session_of desk.old log.now scan.now)
+        (session_of desk.new log.now scan.now)) }
     ensures goes_on { GoesOn desk.old desk.new }
     ensures kept { AllKept desk.old → AllKept desk.new }
     ensures unsent { OnErr result (desk.new ≡ desk.old) }

@@ -1,5 +1,6 @@
 //! A thread of a script as a client of a crew.
-ghost use Rattle.std.specs.Prelude.{◌≡◌, ◌+◌, ◌≤◌, ◌<◌, ◌++◌, ◌∷◌, [], Some, length, false, IfOk, OnOk, slice_get, vec_capacity};
+ghost use Rattle.std.specs.Prelude.{◌≡◌, ◌+◌, ◌≤◌, ◌<◌, ◌++◌, ◌∷◌, [], Some, length, false, IfOk, OnOk, slice_get};
+ghost use Rattle.std.specs.Prelude.{vec_capacity};
 ghost use Rattle.xa_desk.specs.GoesOn.{GoesOn};
 ghost use Rattle.xa_desk.specs.Kept.{AllKept};
 ghost use Rattle.xa_base.specs.Lists.{Chain};
@@ -42,7 +43,8 @@ fn carry_out_all<R: Wait>(
     tasks: &Tasks,
     told: &mut Told,
 ) -> Result<(), AllocError>
-    ensures runs { OnOk result (Chain HasDone (session_of desk.old log.old scan.old, told.old) tasks.now (session_of desk.new log.new scan.new, told.new)) }
+    ensures runs { OnOk result (Chain HasDone (session_of desk.old log.old scan.old, told.old) tasks.now
+        (session_of desk.new log.new scan.new, told.new)) }
     ensures goes_on { GoesOn desk.old desk.new }
     ensures kept { AllKept desk.old → AllKept desk.new }
 {

@@ -44,7 +44,8 @@ pub fn carry_out<R: Wait, I: Idle>(
     task: &Task,
     idle: &mut I,
 ) -> Result<Answer, AllocError>
-    ensures does { IfOk result (Does task.now (session_of desk.old log.old scan.old) (session_of desk.new log.new scan.new)) }
+    ensures does { IfOk result (Does task.now (session_of desk.old log.old scan.old)
+        (session_of desk.new log.new scan.new)) }
     ensures goes_on { GoesOn desk.old desk.new }
     ensures kept { AllKept desk.old → AllKept desk.new }
     ensures unsent { OnErr result (desk.new ≡ desk.old) }

@@ -1,6 +1,8 @@
 //! The line that an answer has in a transcript.
 ghost use Rattle.std.specs.Prelude.{◌≡◌, ◌++◌, OnOk};
-ghost use Rattle.xa_session.specs.Text.{turn_text, handle_text, call_text, decision_text, record_text, ending_text, endings_text, done_text, xid_text, listed_text, resolution_text, outcome_text, outcomes_text, answer_text};
+ghost use Rattle.xa_session.specs.Text.{turn_text, handle_text, call_text, decision_text, record_text, ending_text};
+ghost use Rattle.xa_session.specs.Text.{endings_text, done_text, xid_text, listed_text, resolution_text, outcome_text};
+ghost use Rattle.xa_session.specs.Text.{outcomes_text, answer_text};
 
 use crate::answer::Answer;
 use itoa::{Buffer, Integer};

@@ -29,16 +29,17 @@ fate_in x f (Some p) = fate x f (requests p.journal) p.first
 abbrev pub settled_fate : Settling → ℕ → XidName → Fate → Fate
 settled_fate s m x f = fate_in x f (find_manager m s.managers)
 
--- The tables are those that manager m began with, any without a key for no manager: its journal is what they make of the
--- requests that it took, and so is what became of each branch; and the value of a key is that in the tables after them.
+-- The tables are those that manager m began with, any without a key for no manager: its journal is what they make of
+-- the requests that it took, and so is what became of each branch; and the value of a key is that in the tables after
+-- them.
 pub record IsOpenedWith (s : Settling) (m : ℕ) (T : Tables) : Type 0 where
   pub opened : IsOpening T
   pub codes : journal s m ≡ coded (history s m) T
   pub fates : (x : XidName) (f : Fate) → settled_fate s m x f ≡ fate x f (history s m) T
   pub values : (k : List ℕ) → value s m k ≡ finmap.get (tables_after (history s m) T).values k
 
--- Over openings one after another, of which those before this one had the histories `before` at manager m, and the first
--- began with the tables T: the value of a key is that at the first opening, and each accepted addition whose branch
--- commits later, in its own opening or in another.
+-- Over openings one after another, of which those before this one had the histories `before` at manager m, and the
+-- first began with the tables T: the value of a key is that at the first opening, and each accepted addition whose
+-- branch commits later, in its own opening or in another.
 abbrev pub IsSumOver : Settling → ℕ → List History → Tables → Type 0
 IsSumOver s m before T = (k : List ℕ) → value s m k ≡ value_over k (before ++ history s m ∷ []) T

@@ -90,8 +90,8 @@ pub record IsNewDesk (s : Setup) (t : ℕ) (d : DeskView) : Type 0 where
   pub requests : Each (IsRequestSender s.numbers.opening s.numbers.queue t) d.requests
   pub completions : IsCompletionEnd s.numbers.opening s.managers (completion_room s.numbers s.managers) t d.completions
 
--- the worker of manager m + 1 with the tables that it begins with, over new ends of its own lane and of the lanes to each
--- thread
+-- the worker of manager m + 1 with the tables that it begins with, over new ends of its own lane and of the lanes to
+-- each thread
 pub record IsNewWorker (s : Setup) (m : ℕ) (w : WorkerView) : Type 0 where
   pub first : Tables
   pub begins : slice_get s.first m ≡ Some first

@@ -13,7 +13,8 @@ use Rattle.xa_switch.specs.declared.plan.Again.{Again}
 
 -- ---- what an opening is made with
 
--- its numbers, how many managers it has, of each whether it takes asynchronous calls, and the tables that it begins with
+-- its numbers, how many managers it has, of each whether it takes asynchronous calls, and the tables that it begins
+-- with
 pub record Setup : Type 0 where
   pub numbers : Again
   pub managers : ℕ

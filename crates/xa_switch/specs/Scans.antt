@@ -1,6 +1,8 @@
 -- Scans of what was left at the managers.
-use Rattle.std.specs.Prelude.{◌≡◌, ◌≢◌, ℕ, zero, suc, ◌+◌, ◌<◌, ◌≤◌, ℤ, pos, Bool, true, false, not, ◌&&◌, if◌then◌else◌, Option, None, Some}
-use Rattle.std.specs.Prelude.{is_some, List, [], ◌∷◌, ◌++◌, length, map, Vec, drop, slice_get, slice_index_or, slice_set, replicate, min, Result, Ok, Err}
+use Rattle.std.specs.Prelude.{◌≡◌, ◌≢◌, ℕ, zero, suc, ◌+◌, ◌<◌, ◌≤◌, ℤ, pos, Bool, true, false, not, ◌&&◌}
+use Rattle.std.specs.Prelude.{if◌then◌else◌, Option, None, Some}
+use Rattle.std.specs.Prelude.{is_some, List, [], ◌∷◌, ◌++◌, length, map, Vec, drop, slice_get, slice_index_or}
+use Rattle.std.specs.Prelude.{slice_set, replicate, min, Result, Ok, Err}
 use Rattle.xa_base.specs.declared.limits.TheConstants.{MOST_MANAGERS}
 use Rattle.xa_words.specs.Xid.{XidName}
 use Rattle.xa_words.specs.Code.{number_of}
@@ -16,8 +18,8 @@ use Rattle.xa_desk.specs.Lanes.{submitted, after_fulls}
 use Rattle.xa_desk.specs.Looks.{Collects}
 use Rattle.xa_switch.specs.Putting.{put_refusal}
 
--- of each manager what the reopening found left, and where the thread's scan stands: none where none is open, else after
--- how many of these
+-- of each manager what the reopening found left, and where the thread's scan stands: none where none is open, else
+-- after how many of these
 pub record ScanView : Type 0 where
   pub left : List (List XidName)
   pub places : List (Option ℕ)
@@ -76,7 +78,8 @@ pub data Looks {D : Type 0} (asking : Asking D) (room : ℕ) (xids : List XidNam
     : ℕ → List XidName → D → Type 0 where
   begun : Looks asking room xids old 0 [] old
   finds : (k : ℕ) (xs : List XidName) (d e : D) (x : XidName) → Looks asking room xids old k xs d → length xs < room
-      → slice_get xids k ≡ Some x → asking d (Listed (Some x)) e Done → Looks asking room xids old (suc k) (xs ++ x ∷ []) e
+      → slice_get xids k ≡ Some x → asking d (Listed (Some x)) e Done
+      → Looks asking room xids old (suc k) (xs ++ x ∷ []) e
   passes : (k : ℕ) (xs : List XidName) (d e : D) (x : XidName) → Looks asking room xids old k xs d → length xs < room
       → slice_get xids k ≡ Some x → asking d (Listed (Some x)) e Nota → Looks asking room xids old (suc k) xs e
 
@@ -113,9 +116,9 @@ end_of mode place = if mode.end_scan then None else Some place
 abbrev pub room_in : List XidName → ℕ
 room_in xids = min (length xids) 2147483647
 
--- What becomes of a scan of manager m from a place on. It isn't reached, where the manager doesn't answer; it is stopped
--- by a code of the manager, which leaves the scan as it was; or it tells how many it found, and stands after the last that
--- was looked at. What was found is written.
+-- What becomes of a scan of manager m from a place on. It isn't reached, where the manager doesn't answer; it is
+-- stopped by a code of the manager, which leaves the scan as it was; or it tells how many it found, and stands after
+-- the last that was looked at. What was found is written.
 pub data Recovers {D : Type 0} (asking : Asking D) (m : ℕ) (mode : Mode) (place : ℕ) (old : D) (z : ScanView)
     (xids : List XidName) (new : D) (z' : ScanView) (xids' : List XidName) : Result ℕ Code → Type 0 where
   unreached : (why : Code) → asking old (Listed None) new why → why ≢ Done → z' ≡ z → xids' ≡ xids
@@ -140,7 +143,8 @@ pub record IsInVain {D : Type 0} (why : Code) (old : D) (z : ScanView) (xids : L
 abbrev pub RecoversFrom : {D : Type 0} → Asking D → Option ℕ → ℕ → Mode → D → ScanView → List XidName → D → ScanView
     → List XidName → Result ℕ Code → Type 0
 RecoversFrom asking None m mode old z xids new z' xids' r = IsInVain Inval old z xids new z' xids' r
-RecoversFrom asking (Some place) m mode old z xids new z' xids' r = Recovers asking m mode place old z xids new z' xids' r
+RecoversFrom asking (Some place) m mode old z xids new z' xids' r =
+    Recovers asking m mode place old z xids new z' xids' r
 
 -- of a manager that there is
 abbrev pub RecoversAt : {D : Type 0} → Asking D → Bool → ℕ → Mode → D → ScanView → List XidName → D → ScanView
@@ -150,7 +154,8 @@ RecoversAt asking true m mode old z xids new z' xids' r =
     RecoversFrom asking (start_of mode (place_at z m)) m mode old z xids new z' xids' r
 
 -- where the flags have a mode
-abbrev pub RecoversBy : {D : Type 0} → Asking D → Bool → Result Mode Code → ℕ → D → ScanView → List XidName → D → ScanView
+abbrev pub RecoversBy : {D : Type 0} → Asking D → Bool → Result Mode Code → ℕ → D → ScanView → List XidName → D
+    → ScanView
     → List XidName → Result ℕ Code → Type 0
 RecoversBy asking there (Err why) m old z xids new z' xids' r = IsInVain why old z xids new z' xids' r
 RecoversBy asking there (Ok mode) m old z xids new z' xids' r = RecoversAt asking there m mode old z xids new z' xids' r

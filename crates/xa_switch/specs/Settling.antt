@@ -20,7 +20,8 @@ pub record ThreadPart : Type 0 where
   pub thread : ℕ
   pub ledgers : List LedgerView
 
--- of a manager: its number, the tables that it began with, what it took, in order, its journal, and its tables at the end
+-- of a manager: its number, the tables that it began with, what it took, in order, its journal, and its tables at the
+-- end
 pub record ManagerPart : Type 0 where
   pub number : ℕ
   pub first : Tables
@@ -88,8 +89,8 @@ pub record Agree (t : ℕ) (ops : List Op) (pairs : List (ℕ × Code)) (entries
   -- each was collected with the code that stands at its request's place in the journal
   pub coded : All (λ p. slice_get (answers t entries) p.0 ≡ Some p) pairs
 
--- The manager began as at an opening, its journal has what it took, each entry with the code that the sequential tables give at its
--- place, and what it carried out is what it accepted.
+-- The manager began as at an opening, its journal has what it took, each entry with the code that the sequential tables
+-- give at its place, and what it carried out is what it accepted.
 pub record FollowsTables (p : ManagerPart) : Type 0 where
   -- at first nobody had it open, it had no branch but those that were left, and it wasn't shut
   pub opened : IsOpening p.first

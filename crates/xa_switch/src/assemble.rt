@@ -54,7 +54,8 @@ pub(crate) fn assemble_workers(
     requires columns { length columns.items ≡ length parts.items }
     requires fit { WorkersFit parts.items managers.items receivers.items (map (λ c. c.items) columns.items) }
     ensures many { length result.items ≡ length parts.items }
-    ensures made { Each (IsWorkerOf parts.items managers.items receivers.items (map (λ c. c.items) columns.items)) result.items }
+    ensures made { Each (IsWorkerOf parts.items managers.items receivers.items (map (λ c. c.items) columns.items))
+        result.items }
 {
     let mut managers = managers.into_iter();
     let mut receivers = receivers.into_iter();

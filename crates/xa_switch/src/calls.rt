@@ -30,9 +30,14 @@ pub(crate) fn code_of(why: Refused) -> Code
 // Puts an asynchronous request to a manager, and answers the handle that it is kept under, or why it wasn't put.
 fn put_later<R: Wait>(rt: &R, desk: &mut Desk, manager: u32, op: Op) -> Result<u32, Code>
     ensures refused { (c : _) → put_refusal desk.old manager true ≡ Some c → (result ≡ Err c) × (desk.new ≡ desk.old) }
-    ensures full { put_refusal desk.old manager true ≡ None → IfErr result (λ c. (c ≡ Code.Async) × (desk.new ≡ after_full desk.old manager)) }
+    ensures full { put_refusal desk.old manager true ≡ None → IfErr result (λ c. (c ≡ Code.Async)
+        × (desk.new ≡ after_full desk.old manager)) }
     ensures put { IfOk result (λ k. put_refusal desk.old manager true ≡ None) }
-    ensures kept { IfOk result (λ k. IsLeastFree desk.old.kept k × (desk.new ≡ record (submitted desk.old manager op) { kept = map.insert desk.old.kept k (next_operation desk.old.ledgers manager) })) }
+    ensures kept { IfOk result (λ k. IsLeastFree desk.old.kept k
+        × (desk.new ≡ record (submitted desk.old manager op) {
+          kept =
+              map.insert desk.old.kept k (next_operation desk.old.ledgers manager);
+        })) }
     ensures handle { IfOk result (λ k. IsHandle k) }
     ensures goes_on { GoesOn desk.old desk.new }
     ensures tickets { LeavesTickets desk.old desk.new }
@@ -95,11 +100,11 @@ fn put_asked<R: Wait, I: Idle>(
 /// A call of C193, chapter 5, but for `xa_recover()` and `xa_complete()`: the handle where it is asynchronous, else the
 /// code.
 ///
-/// The refusals, the first that holds: XAER_INVAL for the flags, for `Call::Recover` and `Call::Complete`, and where the
-/// call needs an xid and has none; XAER_INVAL for a number that no manager has; XAER_RMFAIL where the manager is learnt
-/// to be shut; XAER_ASYNC for an asynchronous call where the manager takes none or no handle is free; XAER_RMERR where
-/// the thread has used up its requests to the manager; XAER_ASYNC for an asynchronous call where the manager's queue is
-/// full.
+/// The refusals, the first that holds: XAER_INVAL for the flags, for `Call::Recover` and `Call::Complete`, and where
+/// the call needs an xid and has none; XAER_INVAL for a number that no manager has; XAER_RMFAIL where the manager is
+/// learnt to be shut; XAER_ASYNC for an asynchronous call where the manager takes none or no handle is free; XAER_RMERR
+/// where the thread has used up its requests to the manager; XAER_ASYNC for an asynchronous call where the manager's
+/// queue is full.
 pub fn xa_call<R: Wait, I: Idle>(
     rt: &R,
     desk: &mut Desk,

@@ -5,7 +5,8 @@ ghost use Rattle.xa_desk.specs.DeskView.{IsHandle};
 ghost use Rattle.xa_desk.specs.GoesOn.{GoesOn};
 ghost use Rattle.xa_desk.specs.Kept.{AllKept};
 ghost use Rattle.xa_desk.specs.Tickets.{LeavesTickets};
-ghost use Rattle.xa_switch.specs.Completing.{number_in, keeps_for, CompletesOne, CompletesAny, may_complete, CompletesIn, CompletesBy, Tells, HasCompleted, completion_waits};
+ghost use Rattle.xa_switch.specs.Completing.{number_in, keeps_for, CompletesOne, CompletesAny, may_complete};
+ghost use Rattle.xa_switch.specs.Completing.{CompletesIn, CompletesBy, Tells, HasCompleted, completion_waits};
 
 use std::sync::Wait;
 use xa_desk::laws::desks_go_on;
@@ -188,7 +189,8 @@ pub fn xa_complete<R: Wait, I: Idle>(
     flags: u32,
     idle: &mut I,
 ) -> i32
-    ensures completes { HasCompleted desk.old handle.old retval.old manager flags desk.new handle.new retval.new result }
+    ensures completes { HasCompleted desk.old handle.old retval.old manager flags desk.new handle.new retval.new
+        result }
     ensures goes_on { GoesOn desk.old desk.new }
     ensures kept { AllKept desk.old → AllKept desk.new }
     ensures tickets { LeavesTickets desk.old desk.new }

@@ -4,7 +4,8 @@ ghost use Rattle.std.specs.List.{All};
 ghost use Rattle.xa_desk.specs.Ended.{IsEnded};
 ghost use Rattle.xa_tables.specs.Openings.{IsOpening};
 ghost use Rattle.xa_worker.specs.Done.{IsServed, IsOrdered};
-ghost use Rattle.xa_switch.specs.Closing.{desk_lane, worker_lane, thread_part, ready_part, HasRoomFor, HasRoom, HasTaken, TakesIn};
+ghost use Rattle.xa_switch.specs.Closing.{desk_lane, worker_lane, thread_part, ready_part, HasRoomFor, HasRoom};
+ghost use Rattle.xa_switch.specs.Closing.{HasTaken, TakesIn};
 
 use crate::columns::{deal, reserve_columns};
 use crate::settled::{Carried, Thread};
@@ -72,7 +73,8 @@ impl<E: Drop, R: Drop, P: Drop> Gathered<E, R, P> {
 pub(crate) fn take_desks(desks: Vec<EndedDesk>, mut room: GatheredDesks) -> GatheredDesks
     requires room { HasRoomFor (length desks.items) room }
     requires few { All (λ d. length d.ledgers ≤ MOST_SENDERS) desks.items }
-    ensures taken { HasTaken (length desks.items) (map (λ d. d.requests) desks.items) (map desk_lane desks.items) (map thread_part desks.items) result }
+    ensures taken { HasTaken (length desks.items) (map (λ d. d.requests) desks.items) (map desk_lane desks.items)
+        (map thread_part desks.items) result }
     ensures known { All IsEnded desks.items }
 {
     for desk in desks {
@@ -94,7 +96,8 @@ pub(crate) fn take_workers(workers: Vec<DoneWorker>, mut room: GatheredWorkers) 
     requires few { All (λ w. w.manager.threads ≤ MOST_SENDERS) workers.items }
     requires numbered { All (λ w. 1 ≤ w.number) workers.items }
     requires opened { All (λ w. IsOpening w.first) workers.items }
-    ensures taken { HasTaken (length workers.items) (map (λ w. w.ends) workers.items) (map worker_lane workers.items) (map ready_part workers.items) result }
+    ensures taken { HasTaken (length workers.items) (map (λ w. w.ends) workers.items) (map worker_lane workers.items)
+        (map ready_part workers.items) result }
     ensures known { All IsServed workers.items }
     ensures ordered { All IsOrdered workers.items }
 {

@@ -35,7 +35,8 @@ pub(crate) fn open_lanes<T: Copy, R: Wait>(
     requires senders { IsUpTo MOST_SENDERS senders }
     requires lanes { IsUpTo MOST_SENDERS lanes }
     requires room { IsUpTo MOST_QUEUED room }
-    ensures { IfOk result (λ l. AreNewLanes opening kind senders lanes room (map (λ c. c.items) l.columns.items) l.receivers.items) }
+    ensures { IfOk result (λ l. AreNewLanes opening kind senders lanes room
+        (map (λ c. c.items) l.columns.items) l.receivers.items) }
 {
     let mut columns = reserve_columns(alloc, senders as usize, lanes as usize)?;
     let mut receivers = Vec::with_capacity(alloc, lanes as usize)?;

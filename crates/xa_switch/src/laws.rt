@@ -28,35 +28,43 @@ ghost use Rattle.xa_switch.specs.Completing.{CollectsRedeemed};
 ghost use Rattle.xa_switch.specs.Settling.{Settling, IsSettled};
 ghost use Rattle.xa_switch.specs.Fates.{IsOpenedWith, IsSumOver, first_of};
 ghost use Rattle.xa_switch.specs.Worth.{WorthIsOfThreads, accounts_of};
-ghost use Rattle.xa_switch.specs.Seats.{DeskSeat, WorkerSeat, ComeFromOpenings, AreSomeOf, AreAll, desk_seats, worker_seats, openings_of, seat_of_desk, seat_of_worker};
+ghost use Rattle.xa_switch.specs.Seats.{DeskSeat, WorkerSeat, ComeFromOpenings, AreSomeOf, AreAll, desk_seats};
+ghost use Rattle.xa_switch.specs.Seats.{worker_seats, openings_of, seat_of_desk, seat_of_worker};
 
 use crate::settled::Settled;
 use xa_tables::laws::{commits_alone_move_the_worth, value_is_sum};
 
 /// The desks and workers that an opening gives come from it.
 pub fn opened_pieces_come_from_their_opening()
-    ensures { (p : Setup) (ds : List DeskView) (ws : List WorkerView) → AreOfOneOpening p ds ws → ComeFromOpenings (map seat_of_desk ds) (map seat_of_worker ws) }
+    ensures { (p : Setup) (ds : List DeskView) (ws : List WorkerView) → AreOfOneOpening p ds ws
+        → ComeFromOpenings (map seat_of_desk ds) (map seat_of_worker ws) }
 {}
 
 /// They have its number.
 pub fn opened_pieces_have_their_number()
-    ensures { (p : Setup) (ds : List DeskView) (ws : List WorkerView) → AreOfOneOpening p ds ws → All (λ n. n ≡ p.numbers.opening) (openings_of (map seat_of_desk ds) (map seat_of_worker ws)) }
+    ensures { (p : Setup) (ds : List DeskView) (ws : List WorkerView) → AreOfOneOpening p ds ws
+        → All (λ n. n ≡ p.numbers.opening) (openings_of (map seat_of_desk ds) (map seat_of_worker ws)) }
 {}
 
 /// Some of the pieces, in any order, still come from their openings.
 pub fn some_pieces_come_from_their_openings()
-    ensures { (ds some_ds : List DeskSeat) (ws some_ws : List WorkerSeat) → AreSomeOf some_ds ds → AreSomeOf some_ws ws → ComeFromOpenings ds ws → ComeFromOpenings some_ds some_ws }
+    ensures { (ds some_ds : List DeskSeat) (ws some_ws : List WorkerSeat) → AreSomeOf some_ds ds → AreSomeOf some_ws ws
+        → ComeFromOpenings ds ws → ComeFromOpenings some_ds some_ws }
 {}
 
 /// Pieces of several openings may be mixed, since no two openings have one number.
 pub fn mixed_pieces_come_from_their_openings()
-    ensures { (ds others : List DeskSeat) (ws other_ws : List WorkerSeat) → All (λ a. All (λ b. a ≢ b) (openings_of others other_ws)) (openings_of ds ws) → ComeFromOpenings ds ws → ComeFromOpenings others other_ws → ComeFromOpenings (ds ++ others) (ws ++ other_ws) }
+    ensures { (ds others : List DeskSeat) (ws other_ws : List WorkerSeat)
+        → All (λ a. All (λ b. a ≢ b) (openings_of others other_ws)) (openings_of ds ws) → ComeFromOpenings ds ws
+        → ComeFromOpenings others other_ws → ComeFromOpenings (ds ++ others) (ws ++ other_ws) }
 {}
 
 /// What is settled of all pieces of an opening, in any order, is of the setup that it was made with: its number, its
 /// threads and its managers are those of the setup, and each manager began with the setup's tables.
 pub fn settled_openings_are_of_their_setup()
-    ensures { (p : Setup) (ds : List DeskView) (ws : List WorkerView) (es : List EndedView) (vs : List Served) → AreOfOneOpening p ds ws → IsPermutation (map seat_of_desk ds) (desk_seats es) → IsPermutation (map seat_of_worker ws) (worker_seats vs) → AreAll es vs → IsOf p (settling es vs) }
+    ensures { (p : Setup) (ds : List DeskView) (ws : List WorkerView) (es : List EndedView) (vs : List Served)
+        → AreOfOneOpening p ds ws → IsPermutation (map seat_of_desk ds) (desk_seats es)
+        → IsPermutation (map seat_of_worker ws) (worker_seats vs) → AreAll es vs → IsOf p (settling es vs) }
 {}
 
 /// A settled opening is whole: every manager of it is there, and no other.
@@ -68,7 +76,8 @@ pub fn settled_openings_are_whole(settled: &Settled)
 
 /// An opening that was opened again from another has its managers, and each begins with what was left there.
 pub fn reopened_openings_go_on_from_what_was_left()
-    ensures { (s next : Settling) (again : Again) (m : ℕ) (T : Tables) → IsWhole s → IsOf (reopening s again) next → first_of s m ≡ Some T → first_of next m ≡ Some (reopened_at s.managers m) }
+    ensures { (s next : Settling) (again : Again) (m : ℕ) (T : Tables) → IsWhole s → IsOf (reopening s again) next
+        → first_of s m ≡ Some T → first_of next m ≡ Some (reopened_at s.managers m) }
 {}
 
 /// In a settled opening each journal is what the tables that its manager began with make of the requests that it took.
@@ -79,13 +88,15 @@ pub fn settled_journals_follow_the_tables()
 
 /// In a settled opening of a plan the tables that a manager began with are those of the plan's accounts.
 pub fn managers_open_with_their_accounts()
-    ensures { (p : Plan) (s : Settling) (m : ℕ) → IsSettled s → IsOfPlan p s → 1 ≤ m → m ≤ length p.managers.items → IsOpenedWith s m (opening (accounts_of p m)) }
+    ensures { (p : Plan) (s : Settling) (m : ℕ) → IsSettled s → IsOfPlan p s → 1 ≤ m → m ≤ length p.managers.items
+        → IsOpenedWith s m (opening (accounts_of p m)) }
 {}
 
 /// In a settled opening the values are those that the first opening had, and each accepted addition whose branch
 /// commits later, in its own opening or in another, whichever openings left what its managers began with.
 pub fn settled_values_are_sums()
-    ensures { (s : Settling) (m : ℕ) (before : List History) (T : Tables) → IsSettled s → IsNew T → first_of s m ≡ Some (left_by before T) → IsSumOver s m before T }
+    ensures { (s : Settling) (m : ℕ) (before : List History) (T : Tables) → IsSettled s → IsNew T
+        → first_of s m ≡ Some (left_by before T) → IsSumOver s m before T }
 {
     value_is_sum();
 }
@@ -93,7 +104,8 @@ pub fn settled_values_are_sums()
 /// What all accounts are worth together after the journals is what was declared and what each thread's
 /// Commits have moved.
 pub fn threads_move_the_worth()
-    ensures { (p : Plan) (s : Settling) → IsSettled s → IsOfPlan p s → All IsSoundManager p.managers.items → WorthIsOfThreads p s }
+    ensures { (p : Plan) (s : Settling) → IsSettled s → IsOfPlan p s → All IsSoundManager p.managers.items
+        → WorthIsOfThreads p s }
 {
     commits_alone_move_the_worth();
 }
@@ -102,7 +114,9 @@ pub fn threads_move_the_worth()
 /// number is collected, the others stay kept; and where all that is outstanding is kept and nothing is
 /// kept, nothing is outstanding.
 pub fn outstanding_operations_stay_kept()
-    ensures opened { (p : Setup) (ds : List DeskView) (ws : List WorkerView) → AreOfOneOpening p ds ws → All AllKept ds }
-    ensures collected { (old new : DeskView) (k : ℕ) (c : Code) → CollectsRedeemed old new k c → AllKept old → AllKept new }
+    ensures opened { (p : Setup) (ds : List DeskView) (ws : List WorkerView) → AreOfOneOpening p ds ws
+        → All AllKept ds }
+    ensures collected { (old new : DeskView) (k : ℕ) (c : Code) → CollectsRedeemed old new k c → AllKept old
+        → AllKept new }
     ensures none { (d : DeskView) → AllKept d → HoldsNone d → outstanding d.ledgers ≡ 0 }
 {}

@@ -69,7 +69,8 @@ pub(crate) fn put_together(layout: Layout, managers: Vec<Manager>) -> (Vec<Desk>
     requires many { length managers.items ≡ length layout.use_async.items }
     requires new { All (λ m. m ≡ new_manager layout.numbers m.tables) managers.items }
     requires begins { All (λ m. IsOpening m.tables) managers.items }
-    ensures { AreOfOneOpening (setup layout.numbers layout.use_async.items (map (λ m. m.tables) managers.items)) result.0.items result.1.items }
+    ensures { AreOfOneOpening (setup layout.numbers layout.use_async.items (map (λ m. m.tables) managers.items))
+        result.0.items result.1.items }
 {
     let Layout {
         numbers: _,

@@ -10,7 +10,8 @@ ghost use Rattle.xa_desk.specs.Kept.{AllKept};
 ghost use Rattle.xa_desk.specs.Tickets.{LeavesTickets};
 ghost use Rattle.xa_base.specs.Lists.{IsUpTo};
 ghost use Rattle.xa_switch.specs.Putting.{put_refusal};
-ghost use Rattle.xa_switch.specs.Scans.{Answers, Scans, looked_at, written, left_at, room_in, start_of, Recovers, RecoversBy, HasRecovered, asks};
+ghost use Rattle.xa_switch.specs.Scans.{Answers, Scans, looked_at, written, left_at, room_in, start_of, Recovers};
+ghost use Rattle.xa_switch.specs.Scans.{RecoversBy, HasRecovered, asks};
 
 use crate::calls::code_of;
 use crate::scan::Scan;
@@ -54,7 +55,8 @@ fn look<R: Wait, I: Idle>(
     idle: &mut I,
 ) -> Result<(usize, usize), Code>
     requires { room ≤ length xids.old }
-    ensures scanned { (found : List XidName) × Scans (Answers manager) room left.now desk.old desk.new found (looked_at result) × (xids.new ≡ written found xids.old) × IfOk result (λ r. r.0 ≡ length found) }
+    ensures scanned { (found : List XidName) × Scans (Answers manager) room left.now desk.old desk.new found
+        (looked_at result) × (xids.new ≡ written found xids.old) × IfOk result (λ r. r.0 ≡ length found) }
     ensures bound { IfOk result (λ r. r.0 ≤ room) }
     ensures within { IfOk result (λ r. r.1 ≤ length left.now) }
     ensures goes_on { GoesOn desk.old desk.new }
@@ -102,7 +104,8 @@ fn recover_from<R: Wait, I: Idle>(
 ) -> Result<usize, Code>
     requires manager { IsUpTo MOST_MANAGERS manager }
     requires within { place ≤ length (left_at scan.old manager) }
-    ensures recovers { Recovers (Answers manager) manager mode place desk.old scan.old xids.old desk.new scan.new xids.new result }
+    ensures recovers { Recovers (Answers manager) manager mode place desk.old scan.old xids.old desk.new scan.new
+        xids.new result }
     ensures bound { IfOk result (λ n. n ≤ 2147483647) }
     ensures goes_on { GoesOn desk.old desk.new }
     ensures tickets { LeavesTickets desk.old desk.new }
@@ -141,7 +144,8 @@ fn recover_by<R: Wait, I: Idle>(
     flags: u32,
     idle: &mut I,
 ) -> Result<usize, Code>
-    ensures recovers { RecoversBy (Answers manager) (is_known desk.old.ledgers manager) (check_flags call.Recover flags) manager desk.old scan.old xids.old desk.new scan.new xids.new result }
+    ensures recovers { RecoversBy (Answers manager) (is_known desk.old.ledgers manager)
+        (check_flags call.Recover flags) manager desk.old scan.old xids.old desk.new scan.new xids.new result }
     ensures bound { IfOk result (λ n. n ≤ 2147483647) }
     ensures goes_on { GoesOn desk.old desk.new }
     ensures tickets { LeavesTickets desk.old desk.new }
@@ -167,14 +171,15 @@ fn recover_by<R: Wait, I: Idle>(
 
 /// `xa_recover()` of C193, chapter 5: lists branches that the manager holds prepared or heuristically completed since
 /// an opening before this one, rising. It goes on where the thread's scan of the manager stands, with `TMSTARTRSCAN` at
-/// the first, and stands after the last that it looked at; with `TMENDRSCAN` the scan is closed. Of each branch that the
-/// reopening found left it asks the manager, so that one that was ended since isn't listed. It answers how many it
+/// the first, and stands after the last that it looked at; with `TMENDRSCAN` the scan is closed. Of each branch that
+/// the reopening found left it asks the manager, so that one that was ended since isn't listed. It answers how many it
 /// wrote, at the head of the slice: it stops where the slice is full or where no more are left.
 ///
-/// The refusals, the first that holds: XAER_INVAL for the flags; XAER_INVAL for a number that no manager has; XAER_INVAL
-/// where no scan of the manager is open and none begins; XAER_RMFAIL where the manager is learnt to be shut; XAER_RMERR
-/// where the thread has used up its requests to the manager; else the manager's code, as XAER_PROTO where the thread
-/// hasn't opened it. After a negative answer the scan stands where it stood; the slice may have been written.
+/// The refusals, the first that holds: XAER_INVAL for the flags; XAER_INVAL for a number that no manager has;
+/// XAER_INVAL where no scan of the manager is open and none begins; XAER_RMFAIL where the manager is learnt to be shut;
+/// XAER_RMERR where the thread has used up its requests to the manager; else the manager's code, as XAER_PROTO where
+/// the thread hasn't opened it. After a negative answer the scan stands where it stood; the slice may have been
+/// written.
 pub fn xa_recover<R: Wait, I: Idle>(
     rt: &R,
     desk: &mut Desk,

@@ -1,5 +1,6 @@
 //! How a settled opening is opened again.
-ghost use Rattle.std.specs.Prelude.{◌≡◌, ◌≢◌, ◌↔◌, ℕ, ◌≤◌, ◌<◌, ◌+◌, [], None, Some, length, map, vec_capacity, IfOk, IfErr, OnOk};
+ghost use Rattle.std.specs.Prelude.{◌≡◌, ◌≢◌, ◌↔◌, ℕ, ◌≤◌, ◌<◌, ◌+◌, [], None, Some, length, map, vec_capacity, IfOk};
+ghost use Rattle.std.specs.Prelude.{IfErr, OnOk};
 ghost use Rattle.std.specs.List.{All, range_with_len};
 ghost use Rattle.xa_base.specs.Lists.{IsUpTo};
 ghost use Rattle.xa_switch.specs.Plans.{IsWithinLimits, manager_room, new_manager};
@@ -81,7 +82,8 @@ fn reopen_managers(
     requires room { room ≡ manager_room numbers.now }
     requires none { managers.items ≡ [] }
     requires space { many ≤ vec_capacity managers }
-    ensures { result.items ≡ map (λ m. new_manager numbers.now (reopened_at (parts_of carried.items) m)) (range_with_len 1 many) }
+    ensures { result.items ≡ map (λ m. new_manager numbers.now (reopened_at (parts_of carried.items) m))
+        (range_with_len 1 many) }
 {
     for before in 0..many {
         let manager = take_manager(&mut carried, before + 1);

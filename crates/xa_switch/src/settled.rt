@@ -6,7 +6,8 @@ ghost use Rattle.xa_tables.specs.Tables.{Tables};
 ghost use Rattle.xa_tables.specs.History.{History};
 ghost use Rattle.xa_tables.specs.Openings.{IsNew, AreLeft, reopened, left_by, value_over};
 ghost use Rattle.xa_desk.specs.DeskView.{sent_to, collected_from};
-ghost use Rattle.xa_switch.specs.Settling.{IsSettled, ledgers_in, find_thread, find_manager, sent, collected, journal, value};
+ghost use Rattle.xa_switch.specs.Settling.{IsSettled, ledgers_in, find_thread, find_manager, sent, collected, journal};
+ghost use Rattle.xa_switch.specs.Settling.{value};
 ghost use Rattle.xa_switch.specs.Fates.{first_of, history};
 ghost use Rattle.xa_switch.specs.Again.{parts_of, find_ready, managers_in};
 
@@ -66,9 +67,19 @@ impl Model for Carried {
 
     ghost coded = { Prim.hlevel (codes, tables_code) };
 
-    ghost view = { λ c. record { part = record { number = c.number; first = c.done.value.first; taken = taken_by c.done.value; journal = c.journal.items; last = c.manager.tables }; reserved = c.manager.reserved } };
+    ghost view = { λ c. record {
+      part = record {
+        number = c.number;
+        first = c.done.value.first;
+        taken = taken_by c.done.value;
+        journal = c.journal.items;
+        last = c.manager.tables;
+      };
+      reserved = c.manager.reserved;
+    } };
 
-    ghost invariant = { λ c. IsOpening c.done.value.first × Follows c.done.value.first c.journal.items c.manager.tables };
+    ghost invariant = { λ c. IsOpening c.done.value.first × Follows c.done.value.first c.journal.items
+        c.manager.tables };
 }
 
 impl Carried {
@@ -106,7 +117,12 @@ impl Carried {
     /// The manager at the next opening, in memory that was reserved for it.
     pub(crate) fn reopened(self, threads: u32, room: u32) -> Manager
         requires { self.reserved ≡ Some (threads, room) }
-        ensures { result ≡ record { tables = reopened self.part.last; threads = threads; room = room; reserved = None } }
+        ensures { result ≡ record {
+          tables = reopened self.part.last;
+          threads = threads;
+          room = room;
+          reserved = None;
+        } }
     {
         self.manager.reopened(threads, room)
     }
@@ -132,9 +148,21 @@ impl Model for Settled {
 
     ghost coded = { Prim.hlevel (codes, tables_code) };
 
-    ghost view = { λ s. record { opening = s.opening; threads = s.threads.items; managers = parts_of s.managers.items } };
+    ghost view = { λ s. record {
+      opening = s.opening;
+      threads = s.threads.items;
+      managers = parts_of s.managers.items;
+    } };
 
-    ghost invariant = { λ s. IsSettled (record { opening = s.opening; threads = s.threads.items; managers = parts_of s.managers.items }) × IsWhole (record { opening = s.opening; threads = s.threads.items; managers = parts_of s.managers.items }) };
+    ghost invariant = { λ s. IsSettled (record {
+      opening = s.opening;
+      threads = s.threads.items;
+      managers = parts_of s.managers.items;
+    }) × IsWhole (record {
+      opening = s.opening;
+      threads = s.threads.items;
+      managers = parts_of s.managers.items;
+    }) };
 }
 
 fn find_thread_part(threads: &[Thread], thread: u32) -> Option<&Thread>
@@ -242,7 +270,9 @@ impl Settled {
     /// manager, or for a key that wasn't declared there.
     pub fn value(&self, manager: u32, key: &Key) -> Option<u64>
         ensures value { option_map pos result ≡ value self.now manager key.now }
-        ensures sum { (before : List History) (T : Tables) → IsNew T → first_of self.now manager ≡ Some (left_by before T) → option_map pos result ≡ value_over key.now (before ++ history self.now manager ∷ []) T }
+        ensures sum { (before : List History) (T : Tables) → IsNew T
+            → first_of self.now manager ≡ Some (left_by before T)
+            → option_map pos result ≡ value_over key.now (before ++ history self.now manager ∷ []) T }
         ensures bounded { IfSome result (λ v. v ≤ MOST_VALUE) }
         ensures settled { IsSettled self.now }
     {

@@ -288,8 +288,8 @@ abbrev pub decided_fate : HeuristicDecision → Fate
 decided_fate decision.Commit = HeurCommitted
 decided_fate decision.Rollback = HeurRolledBack
 
--- The tables tell the fate f of x: it is prepared exactly if it is in doubt, it exists exactly while it is unfinished or it
--- is heuristically completed, and then it ended as decided.
+-- The tables tell the fate f of x: it is prepared exactly if it is in doubt, it exists exactly while it is unfinished
+-- or it is heuristically completed, and then it ended as decided.
 pub record IsFateOf (x : XidName) (f : Fate) (T : Tables) : Type 0 where
   pub prepared : is_prepared T x ≡ is_in_doubt f
   pub exists : exists T x ≡ (is_unfinished f || is_completed T x)

@@ -84,7 +84,8 @@ pub record TablesWithRoom : Type 0 where
 -- the tables with their room as data
 abbrev pub tables_with_room_code : Coded TablesWithRoom
 tables_with_room_code =
-    code_by (Tables × (ℕ × (ℕ × (ℕ × ℕ)))) (coded× tables_code (coded× coded_ℕ (coded× coded_ℕ (coded× coded_ℕ coded_ℕ))))
+    code_by (Tables × (ℕ × (ℕ × (ℕ × ℕ)))) (coded× tables_code
+    (coded× coded_ℕ (coded× coded_ℕ (coded× coded_ℕ coded_ℕ))))
     (λ b. (b.tables, (b.threads, (b.seats, (b.spare, b.adds)))))
     (λ p. record { tables = p.0; threads = p.1.0; seats = p.1.1.0; spare = p.1.1.1.0; adds = p.1.1.1.1 }) (λ _. refl)
 

@@ -16,7 +16,8 @@ use Rattle.xa_words.specs.declared.request.StartHow.TheVariants.{Fresh, Join, Re
 use Rattle.xa_words.specs.declared.request.EndHow.{EndHow}
 use Rattle.xa_words.specs.declared.request.EndHow.TheVariants.{Success, Suspend, Fail}
 use Rattle.xa_tables.specs.declared.state.State.{State}
-use Rattle.xa_tables.specs.declared.state.State.TheVariants.{Active, Idle, Prepared, RollbackOnly, HeuristicallyCompleted}
+use Rattle.xa_tables.specs.declared.state.State.TheVariants.{Active, Idle, Prepared, RollbackOnly}
+use Rattle.xa_tables.specs.declared.state.State.TheVariants.{HeuristicallyCompleted}
 use Rattle.xa_tables.specs.declared.state.RollbackReason.TheVariants.{Failed, Transient}
 use Rattle.xa_tables.specs.declared.state.HeuristicDecision.{HeuristicDecision}
 use Rattle.xa_tables.specs.declared.state.HeuristicDecision.TheVariants as decision

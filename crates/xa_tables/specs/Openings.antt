@@ -7,7 +7,8 @@ use Rattle.std.specs.FinSet as set
 use Rattle.std.specs.FinMap as map
 use Rattle.xa_words.specs.Xid.{XidName, xid_cmp, xid_eq}
 use Rattle.xa_tables.specs.declared.state.State.{State}
-use Rattle.xa_tables.specs.declared.state.State.TheVariants.{Active, Idle, Prepared, RollbackOnly, HeuristicallyCompleted}
+use Rattle.xa_tables.specs.declared.state.State.TheVariants.{Active, Idle, Prepared, RollbackOnly}
+use Rattle.xa_tables.specs.declared.state.State.TheVariants.{HeuristicallyCompleted}
 use Rattle.xa_tables.specs.Tables.{Tables, state_of, is_left, is_prepared}
 use Rattle.xa_tables.specs.History.{History, Fate, Absent, Live, InDoubt, RolledBack}
 use Rattle.xa_tables.specs.History.{fate, is_live, coded, accepted, tables_after, commits_later, added_in}
@@ -23,8 +24,8 @@ pub record IsNew (T : Tables) : Type 0 where
   pub sums : T.sums ≡ map.empty
   pub shut : T.shut ≡ false
 
--- at any opening: nobody has it open or is associated, and it isn't shut; each branch that exists was left by the openings
--- before, and only prepared branches have sums; any values
+-- at any opening: nobody has it open or is associated, and it isn't shut; each branch that exists was left by the
+-- openings before, and only prepared branches have sums; any values
 pub record IsOpening (T : Tables) : Type 0 where
   pub opened : T.opened ≡ set.empty
   pub associations : T.associations ≡ map.empty
@@ -32,8 +33,8 @@ pub record IsOpening (T : Tables) : Type 0 where
   pub left : (x : XidName) (s : State) → state_of T x ≡ Some s → is_left T x ≡ true
   pub sums : (x : XidName) (k : List ℕ) → is_prepared T x ≡ false → map.get T.sums (x, k) ≡ None
 
--- What a reopening makes of the tables: nobody has it open or is associated, and it isn't shut; the prepared branches stay
--- with their sums, and the heuristically completed ones, which have none; all others are gone; the values stay.
+-- What a reopening makes of the tables: nobody has it open or is associated, and it isn't shut; the prepared branches
+-- stay with their sums, and the heuristically completed ones, which have none; all others are gone; the values stay.
 abbrev pub reopened : Tables → Tables
 reopened T =
     record {
@@ -82,8 +83,8 @@ fate_over x before h T = fate x (fate_left x Absent before T) h (left_by before 
 
 -- ---- values
 
--- Whether x commits in the openings with these histories, where its fate was f at the end of an opening that left the tables
--- T: a reopening ends each branch at work, and commits none.
+-- Whether x commits in the openings with these histories, where its fate was f at the end of an opening that left the
+-- tables T: a reopening ends each branch at work, and commits none.
 abbrev pub commits_over : XidName → Fate → List History → Tables → Bool
 commits_over x f [] T = false
 commits_over x f (h ∷ hs) T =
@@ -91,8 +92,8 @@ commits_over x f (h ∷ hs) T =
     else commits_later
     (commits_over x (fate x f h (reopened T)) hs (tables_after h (reopened T))) x (coded (accepted h) (reopened T))
 
--- what the openings with these histories add to the key, where F has the fates as the first of them begins: each accepted
--- Add counts whose branch commits later, in its opening or in another
+-- what the openings with these histories add to the key, where F has the fates as the first of them begins: each
+-- accepted Add counts whose branch commits later, in its opening or in another
 abbrev pub added_over : List ℕ → (XidName → Fate) → List History → Tables → ℤ
 added_over k F [] T = pos 0
 added_over k F (h ∷ hs) T =

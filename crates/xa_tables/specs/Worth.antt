@@ -1,5 +1,6 @@
 -- What a manager's accounts are worth together, and what moves it.
-use Rattle.std.specs.Prelude.{◌≡◌, ℕ, ℤ, pos, ◌+ℤ◌, Bool, true, ◌==◌, ◌&&◌, if◌then◌else◌, Option, None, Some, List, [], ◌∷◌}
+use Rattle.std.specs.Prelude.{◌≡◌, ℕ, ℤ, pos, ◌+ℤ◌, Bool, true, ◌==◌, ◌&&◌, if◌then◌else◌, Option, None, Some, List, []}
+use Rattle.std.specs.Prelude.{◌∷◌}
 use Rattle.xa_base.specs.Sums.{total}
 use Rattle.xa_words.specs.Xid.{XidName, xid_eq}
 use Rattle.xa_words.specs.declared.code.Code.{Code}

@@ -1,13 +1,16 @@
 //! The declared keys: their committed values, and what branches have added.
-ghost use Rattle.std.specs.Prelude.{◌≡◌, ◌≢◌, ◌+◌, ◌<◌, ◌≤◌, ◌^◌, ◌+ℤ◌, ◌≤ℤ◌, IfOk, IfSome, is_some, true, false, option_map, map, filter, nat_le, pos, vec_len, vec_capacity};
+ghost use Rattle.std.specs.Prelude.{◌≡◌, ◌≢◌, ◌+◌, ◌<◌, ◌≤◌, ◌^◌, ◌+ℤ◌, ◌≤ℤ◌, IfOk, IfSome, is_some, true, false};
+ghost use Rattle.std.specs.Prelude.{option_map, map, filter, nat_le, pos, vec_len, vec_capacity};
 ghost use Rattle.std.specs.List.{list_any, list_all};
 ghost use Rattle.std.specs.FinMap as finmap;
 ghost use Rattle.xa_words.specs.Delta.{IsDelta};
 ghost use Rattle.xa_words.specs.Key.{key_eq};
 ghost use Rattle.xa_words.specs.Xid.{XidName};
-ghost use Rattle.xa_tables.specs.Accounts.{are_accounts, are_apart, declared_values, is_held_by, is_held_by_other, is_broken_by, IsGood, added_to, posted_by, forgotten_by, retained_in};
+ghost use Rattle.xa_tables.specs.Accounts.{are_accounts, are_apart, declared_values, is_held_by, is_held_by_other};
+ghost use Rattle.xa_tables.specs.Accounts.{is_broken_by, IsGood, added_to, posted_by, forgotten_by, retained_in};
 ghost use Rattle.xa_tables.specs.Held.{AreHeld, is_held, is_held_at, noted};
-ghost use Rattle.xa_tables.specs.Tables.{is_within, sum_of, has_touched, has_other_touched, is_broken, posted, sums_without, is_S3};
+ghost use Rattle.xa_tables.specs.Tables.{is_within, sum_of, has_touched, has_other_touched, is_broken, posted};
+ghost use Rattle.xa_tables.specs.Tables.{sums_without, is_S3};
 
 use crate::branches::Branches;
 use crate::places::Places;
@@ -53,7 +56,9 @@ impl Model for Accounts {
 
     ghost view = { λ a. holdings_of a.accounts.items a.adds };
 
-    ghost invariant = { λ a. AreDistinct a.accounts.items × All (IsGood a.adds) a.accounts.items × AreIndexed a.places.places a.accounts.items × AreHeld a.held.items a.accounts.items × (length a.accounts.items ≤ vec_capacity a.held) };
+    ghost invariant = { λ a. AreDistinct a.accounts.items × All (IsGood a.adds) a.accounts.items
+        × AreIndexed a.places.places a.accounts.items × AreHeld a.held.items a.accounts.items
+        × (length a.accounts.items ≤ vec_capacity a.held) };
 }
 
 impl Accounts {
@@ -131,7 +136,8 @@ impl Accounts {
         ensures sums { self.new.sums ≡ finmap.insert self.old.sums (xid, key) (sum_of self.old.sums xid key +ℤ delta) }
         ensures values { self.new.values ≡ self.old.values }
         ensures adds { self.new.adds ≡ self.old.adds + 1 }
-        ensures others { (y : XidName) → y ≢ xid → is_broken self.new.values self.new.sums y ≡ is_broken self.old.values self.old.sums y }
+        ensures others { (y : XidName) → y ≢ xid → is_broken self.new.values self.new.sums y
+            ≡ is_broken self.old.values self.old.sums y }
     {
         let place = self.places.get(&key).unwrap();
         let account = &self.accounts[place];
@@ -146,7 +152,8 @@ impl Accounts {
         ensures values { self.new.values ≡ posted self.old.values self.old.sums xid.now }
         ensures sums { self.new.sums ≡ sums_without self.old.sums xid.now }
         ensures adds { self.new.adds ≡ self.old.adds }
-        ensures others { (y : XidName) → y ≢ xid.now → is_broken self.new.values self.new.sums y ≡ is_broken self.old.values self.old.sums y }
+        ensures others { (y : XidName) → y ≢ xid.now → is_broken self.new.values self.new.sums y
+            ≡ is_broken self.old.values self.old.sums y }
     {
         post_all(&mut self.accounts, &self.held, xid);
         keep_held(&mut self.held, &self.accounts);
@@ -157,7 +164,8 @@ impl Accounts {
         ensures sums { self.new.sums ≡ sums_without self.old.sums xid.now }
         ensures values { self.new.values ≡ self.old.values }
         ensures adds { self.new.adds ≡ self.old.adds }
-        ensures others { (y : XidName) → y ≢ xid.now → is_broken self.new.values self.new.sums y ≡ is_broken self.old.values self.old.sums y }
+        ensures others { (y : XidName) → y ≢ xid.now → is_broken self.new.values self.new.sums y
+            ≡ is_broken self.old.values self.old.sums y }
     {
         forget_all(&mut self.accounts, &self.held, xid);
         keep_held(&mut self.held, &self.accounts);
@@ -165,8 +173,10 @@ impl Accounts {
 
     /// Leaves the values as they are; only prepared branches have touched a key any more.
     pub(crate) fn retain_prepared(&mut self, branches: &Branches)
-        requires { (x : XidName) → is_S3 (finmap.get branches.now.states x) ≡ true → is_broken self.old.values self.old.sums x ≡ false }
-        ensures sums { self.new.sums ≡ finmap.retain_keys self.old.sums (λ p. is_S3 (finmap.get branches.now.states p.0)) }
+        requires { (x : XidName) → is_S3 (finmap.get branches.now.states x) ≡ true
+            → is_broken self.old.values self.old.sums x ≡ false }
+        ensures sums { self.new.sums ≡ finmap.retain_keys self.old.sums
+            (λ p. is_S3 (finmap.get branches.now.states p.0)) }
         ensures values { self.new.values ≡ self.old.values }
         ensures adds { self.new.adds ≡ 1 }
     {

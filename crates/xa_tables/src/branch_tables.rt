@@ -2,7 +2,9 @@
 ghost use Rattle.std.specs.Prelude.{◌≡◌, ◌≤◌, ◌<◌, ◌^◌, IfOk, OnOk, IfSome, true, option_map, pos};
 ghost use Rattle.std.specs.FinMap as finmap;
 ghost use Rattle.xa_tables.specs.declared.state.AssociationState.TheVariants.{Associated, Suspended};
-ghost use Rattle.xa_tables.specs.Next.{association, shut_down, open_rm, close_rm, start_fresh, start_join, start_resume, add, end, prepare, commit_one, commit_two, rollback, heur, forget, listed, gone};
+ghost use Rattle.xa_tables.specs.Next.{association, shut_down, open_rm, close_rm, start_fresh, start_join};
+ghost use Rattle.xa_tables.specs.Next.{start_resume, add, end, prepare, commit_one, commit_two, rollback, heur, forget};
+ghost use Rattle.xa_tables.specs.Next.{listed, gone};
 ghost use Rattle.xa_tables.specs.Tables.{has_opened};
 ghost use Rattle.xa_tables.specs.Accounts.{are_accounts};
 ghost use Rattle.xa_tables.specs.Managers.{Keeps, opening};
@@ -29,15 +31,23 @@ pub(crate) struct BranchTables {
 }
 
 impl Model for BranchTables {
-    ghost use Rattle.xa_tables.specs.Managers.{TablesWithRoom, tables_with_room_code, tables_of, AreAssociationsLive, ArePreparedSound};
+    ghost use Rattle.xa_tables.specs.Managers.{TablesWithRoom, tables_with_room_code, tables_of, AreAssociationsLive};
+    ghost use Rattle.xa_tables.specs.Managers.{ArePreparedSound};
 
     ghost Value = { TablesWithRoom };
 
     ghost coded = { tables_with_room_code };
 
-    ghost view = { λ b. record { tables = tables_of b.threads b.branches b.accounts b.is_shut; threads = b.threads.threads; seats = b.threads.seats; spare = b.branches.spare; adds = b.accounts.adds } };
+    ghost view = { λ b. record {
+      tables = tables_of b.threads b.branches b.accounts b.is_shut;
+      threads = b.threads.threads;
+      seats = b.threads.seats;
+      spare = b.branches.spare;
+      adds = b.accounts.adds;
+    } };
 
-    ghost invariant = { λ b. AreAssociationsLive b.threads.associations b.branches.states × ArePreparedSound b.branches.states b.accounts.sums b.accounts.values };
+    ghost invariant = { λ b. AreAssociationsLive b.threads.associations b.branches.states
+        × ArePreparedSound b.branches.states b.accounts.sums b.accounts.values };
 }
 
 // T1 with the branch.

@@ -71,7 +71,8 @@ impl Branches {
     pub(crate) fn left(&self, alloc: Global) -> Result<Vec<Xid>, AllocError>
         ensures rising { IfOk result (λ v. IsSorted xid_cmp v.items) }
         ensures once { IfOk result (λ v. IsDistinct xid_eq v.items) }
-        ensures each { IfOk result (λ v. (x : XidName) → list_any (xid_eq x) v.items ≡ is_left_in (map.get self.now.states x)) }
+        ensures each { IfOk result (λ v. (x : XidName) → list_any (xid_eq x) v.items
+            ≡ is_left_in (map.get self.now.states x)) }
     {
         let mut left = Vec::new(alloc);
         for (xid, state) in self.states.iter() {
@@ -85,7 +86,8 @@ impl Branches {
 
     /// Only the branches that are left stay.
     pub(crate) fn retain_left(&mut self)
-        ensures states { self.new.states ≡ map.retain_keys self.old.states (λ x. is_left_in (map.get self.old.states x)) }
+        ensures states { self.new.states ≡ map.retain_keys self.old.states
+            (λ x. is_left_in (map.get self.old.states x)) }
         ensures room { self.old.spare ≤ self.new.spare }
     {
         self.states.retain(|_, state| state.is_left());

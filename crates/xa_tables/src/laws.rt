@@ -7,17 +7,25 @@ ghost use Rattle.xa_words.specs.declared.request.Op.TheVariants.{Add, Prepare, C
 ghost use Rattle.xa_tables.specs.declared.state.HeuristicDecision.{HeuristicDecision};
 ghost use Rattle.xa_tables.specs.Tables.{Tables, association_of, is_somebody_associated, is_prepared, state_of};
 ghost use Rattle.xa_tables.specs.Reasons.{decision_code};
-ghost use Rattle.xa_tables.specs.History.{History, Fate, IsFateOf, EndsNowhere, OnlyUnfinishedTouch, ActiveWhileAssociated, StaysWithin, LateAddNothing, LateAreRefused, LateChangeNothing, tables_after, coded, accepted, first_shut, late, fate, fate_in, fates_in, is_rolled_back, Absent, Live, InDoubt, Committed, ReadOnly, RolledBack, HeurCommitted, HeurRolledBack};
-ghost use Rattle.xa_tables.specs.Openings.{IsNew, IsOpening, AreLeft, FatesAreTold, ValueIsSum, reopened, reopened_fate, told_by, left_by};
+ghost use Rattle.xa_tables.specs.History.{History, Fate, IsFateOf, EndsNowhere, OnlyUnfinishedTouch};
+ghost use Rattle.xa_tables.specs.History.{ActiveWhileAssociated, StaysWithin, LateAddNothing, LateAreRefused};
+ghost use Rattle.xa_tables.specs.History.{LateChangeNothing, tables_after, coded, accepted, first_shut, late, fate};
+ghost use Rattle.xa_tables.specs.History.{fate_in, fates_in, is_rolled_back, Absent, Live, InDoubt, Committed};
+ghost use Rattle.xa_tables.specs.History.{ReadOnly, RolledBack, HeurCommitted, HeurRolledBack};
+ghost use Rattle.xa_tables.specs.Openings.{IsNew, IsOpening, AreLeft, FatesAreTold, ValueIsSum, reopened};
+ghost use Rattle.xa_tables.specs.Openings.{reopened_fate, told_by, left_by};
 ghost use Rattle.xa_tables.specs.Accounts.{are_accounts};
 ghost use Rattle.xa_tables.specs.Managers.{opening};
 ghost use Rattle.xa_tables.specs.Next.{next};
-ghost use Rattle.xa_tables.specs.Prepared.{NamesNowhere, OnlyDecides, LeavesWaiting, StaysAsItWas, IsPrepared, StaysPrepared, AwaitsAfter, IsTold, has_shut};
+ghost use Rattle.xa_tables.specs.Prepared.{NamesNowhere, OnlyDecides, LeavesWaiting, StaysAsItWas, IsPrepared};
+ghost use Rattle.xa_tables.specs.Prepared.{StaysPrepared, AwaitsAfter, IsTold, has_shut};
 ghost use Rattle.xa_tables.specs.Work.{AddsAsItWorks};
 ghost use Rattle.xa_tables.specs.Worth.{WorthIsMoved, HoldsItsAdditions, held_by};
-ghost use Rattle.xa_tables.specs.Worked.{branch, worked, voted, transferred, undone, overdrawn, unchanged, failed, begun_again, decided, forgotten};
+ghost use Rattle.xa_tables.specs.Worked.{branch, worked, voted, transferred, undone, overdrawn, unchanged, failed};
+ghost use Rattle.xa_tables.specs.Worked.{begun_again, decided, forgotten};
 
-/// What an opening leaves is what another may begin with, as the first begins with accounts alone; what is left stays left.
+/// What an opening leaves is what another may begin with, as the first begins with accounts alone; what is left stays
+/// left.
 pub fn openings_begin_with_what_was_left()
     ensures first { (accounts : List (List ℕ × ℕ)) → IsNew (opening accounts) }
     ensures new { (T : Tables) → IsNew T → IsOpening T }
@@ -26,14 +34,17 @@ pub fn openings_begin_with_what_was_left()
     ensures left { (xs : List XidName) (T : Tables) → AreLeft xs T → AreLeft xs (reopened T) }
 {}
 
-/// Whatever is requested, the tables tell what became of each branch: it is prepared exactly if it is in doubt, it exists
-/// exactly while it is at work or in doubt or is heuristically completed, and then it ended as was decided. So it is in an
-/// opening, from a fate that its first tables tell, and over any openings one after another.
+/// Whatever is requested, the tables tell what became of each branch: it is prepared exactly if it is in doubt, it
+/// exists exactly while it is at work or in doubt or is heuristically completed, and then it ended as was decided. So
+/// it is in an opening, from a fate that its first tables tell, and over any openings one after another.
 pub fn tables_tell_the_fates()
     ensures first { (x : XidName) (T : Tables) → IsFateOf x (told_by (state_of T x)) T }
-    ensures kept { (h : History) (x : XidName) (f : Fate) (T : Tables) → IsOpening T → IsFateOf x f T → IsFateOf x (fate x f h T) (tables_after h T) }
-    ensures reopened { (x : XidName) (f : Fate) (T : Tables) → IsFateOf x f T → IsFateOf x (reopened_fate f) (reopened T) }
-    ensures over { (before : List History) (h : History) (x : XidName) (T : Tables) → IsNew T → FatesAreTold x before h T }
+    ensures kept { (h : History) (x : XidName) (f : Fate) (T : Tables) → IsOpening T → IsFateOf x f T
+        → IsFateOf x (fate x f h T) (tables_after h T) }
+    ensures reopened { (x : XidName) (f : Fate) (T : Tables) → IsFateOf x f T
+        → IsFateOf x (reopened_fate f) (reopened T) }
+    ensures over { (before : List History) (h : History) (x : XidName) (T : Tables) → IsNew T
+        → FatesAreTold x before h T }
 {}
 
 /// Whatever is requested, a branch that doesn't exist, or is heuristically completed, has touched no key.
@@ -49,7 +60,8 @@ pub fn branches_are_active_while_associated()
 
 /// Whatever is requested, over any openings, a declared key's value is from 0 to 10^12.
 pub fn values_stay_within_the_limits()
-    ensures { (accounts : List (List ℕ × ℕ)) (before : List History) (h : History) (k : List ℕ) → are_accounts accounts ≡ true → StaysWithin k h (left_by before (opening accounts)) }
+    ensures { (accounts : List (List ℕ × ℕ)) (before : List History) (h : History) (k : List ℕ)
+        → are_accounts accounts ≡ true → StaysWithin k h (left_by before (opening accounts)) }
 {}
 
 /// Whatever is requested, over any openings, the tables' value of a key is its value at the first opening and each
@@ -61,7 +73,9 @@ pub fn value_is_sum()
 /// A branch that has added to a key isn't read only: its Prepare isn't answered XA_RDONLY, unless it was
 /// ended in between.
 pub fn adders_never_vote_read_only()
-    ensures { (t u : ℕ) (op : Op) (x : XidName) (k : List ℕ) (d : ℤ) (g : History) (T : Tables) → op ≡ Add k d → option_map (λ a. a.xid) (association_of T u) ≡ Some x → (next u op T).1 ≡ Done → EndsNowhere x g (next u op T).0 → (next t (Prepare x) (tables_after g (next u op T).0)).1 ≢ RdOnly }
+    ensures { (t u : ℕ) (op : Op) (x : XidName) (k : List ℕ) (d : ℤ) (g : History) (T : Tables) → op ≡ Add k d
+        → option_map (λ a. a.xid) (association_of T u) ≡ Some x → (next u op T).1 ≡ Done
+        → EndsNowhere x g (next u op T).0 → (next t (Prepare x) (tables_after g (next u op T).0)).1 ≢ RdOnly }
 {}
 
 /// What a manager's accounts are worth together is what was declared and what each Commit, and each heuristic
@@ -72,23 +86,29 @@ pub fn commits_alone_move_the_worth()
 
 /// A branch holds what it has added since it was last ended, whichever threads have added it.
 pub fn branches_hold_their_additions()
-    ensures { (accounts : List (List ℕ × ℕ)) (x : XidName) (h : History) → are_accounts accounts ≡ true → HoldsItsAdditions accounts x h }
+    ensures { (accounts : List (List ℕ × ℕ)) (x : XidName) (h : History) → are_accounts accounts ≡ true
+        → HoldsItsAdditions accounts x h }
 {}
 
 /// A branch whose work one thread did has added what the thread added to it, whatever others ask for.
 pub fn a_thread_adds_as_it_works()
-    ensures { (t n : ℕ) (x : XidName) (k : List ℕ) (d : ℤ) (h : History) (T : Tables) → IsOpening T → AddsAsItWorks t n x k d T h }
+    ensures { (t n : ℕ) (x : XidName) (k : List ℕ) (d : ℤ) (h : History) (T : Tables) → IsOpening T
+        → AddsAsItWorks t n x k d T h }
 {}
 
 /// From a Prepare that was answered XA_OK on a branch holds what it held, whatever is requested that doesn't
 /// name it.
 pub fn prepared_branches_keep_what_they_hold()
-    ensures { (accounts : List (List ℕ × ℕ)) (t : ℕ) (x : XidName) (h g : History) (T : Tables) → IsOpening T → (next t (Prepare x) (tables_after h T)).1 ≡ Done → NamesNowhere x g → held_by accounts x (tables_after g (next t (Prepare x) (tables_after h T)).0) ≡ held_by accounts x (tables_after h T) }
+    ensures { (accounts : List (List ℕ × ℕ)) (t : ℕ) (x : XidName) (h g : History) (T : Tables) → IsOpening T
+        → (next t (Prepare x) (tables_after h T)).1 ≡ Done → NamesNowhere x g
+        → held_by accounts x (tables_after g (next t (Prepare x) (tables_after h T)).0)
+        ≡ held_by accounts x (tables_after h T) }
 {}
 
 /// A branch whose Prepare is answered XA_RDONLY held nothing.
 pub fn read_only_branches_hold_nothing()
-    ensures { (accounts : List (List ℕ × ℕ)) (t : ℕ) (x : XidName) (T : Tables) → (next t (Prepare x) T).1 ≡ RdOnly → held_by accounts x T ≡ pos 0 }
+    ensures { (accounts : List (List ℕ × ℕ)) (t : ℕ) (x : XidName) (T : Tables) → (next t (Prepare x) T).1 ≡ RdOnly
+        → held_by accounts x T ≡ pos 0 }
 {}
 
 /// Late requests add nothing, so a value may be read from the whole history.
@@ -116,26 +136,31 @@ pub fn only_a_shut_shuts()
 
 /// A branch with which nobody is associated stays as it is, whatever is requested that doesn't name it.
 pub fn unnamed_branches_stay()
-    ensures { (h g : History) (x : XidName) (T : Tables) → is_somebody_associated (tables_after h T).associations x ≡ false → NamesNowhere x g → StaysAsItWas x (tables_after h T) (tables_after (h ++ g) T) }
+    ensures { (h g : History) (x : XidName) (T : Tables) → is_somebody_associated (tables_after h T).associations x
+        ≡ false → NamesNowhere x g → StaysAsItWas x (tables_after h T) (tables_after (h ++ g) T) }
 {}
 
 /// A prepared branch stays prepared, and keeps its sums, whatever is requested that doesn't name it, a
 /// Shut included.
 pub fn prepared_branches_stay_prepared()
-    ensures { (h g : History) (x : XidName) (T : Tables) → IsOpening T → IsPrepared x (tables_after h T) → NamesNowhere x g → StaysPrepared x (tables_after h T) (tables_after (h ++ g) T) }
+    ensures { (h g : History) (x : XidName) (T : Tables) → IsOpening T → IsPrepared x (tables_after h T)
+        → NamesNowhere x g → StaysPrepared x (tables_after h T) (tables_after (h ++ g) T) }
 {}
 
 /// A branch whose Prepare a thread got answered XA_OK awaits the outcome from that thread, whatever is requested in
 /// between that doesn't name it, but for a CloseRm of the thread itself. A heuristic decision may name it: where one
 /// was carried out, that is its one fate since, and the outcome is answered with it.
 pub fn prepared_branches_await_the_outcome()
-    ensures { (h g : History) (t : ℕ) (x : XidName) (T : Tables) → IsOpening T → (next t (Prepare x) (tables_after h T)).1 ≡ Done → LeavesWaiting t x g → AwaitsAfter t x g (next t (Prepare x) (tables_after h T)).0 }
+    ensures { (h g : History) (t : ℕ) (x : XidName) (T : Tables) → IsOpening T
+        → (next t (Prepare x) (tables_after h T)).1 ≡ Done → LeavesWaiting t x g
+        → AwaitsAfter t x g (next t (Prepare x) (tables_after h T)).0 }
 {}
 
-/// A branch that isn't prepared isn't decided: heuristic decisions and Forgets make nothing of it, whatever is requested
-/// that doesn't name it.
+/// A branch that isn't prepared isn't decided: heuristic decisions and Forgets make nothing of it, whatever is
+/// requested that doesn't name it.
 pub fn only_prepared_branches_are_decided()
-    ensures { (g : History) (x : XidName) (T : Tables) → is_prepared T x ≡ false → OnlyDecides x g → fates_in x (coded g T) ≡ [] }
+    ensures { (g : History) (x : XidName) (T : Tables) → is_prepared T x ≡ false → OnlyDecides x g
+        → fates_in x (coded g T) ≡ [] }
 {}
 
 /// A manager that is shut makes nothing of any branch.
@@ -146,13 +171,16 @@ pub fn shut_managers_decide_nothing()
 /// Commit in two phases and Rollback are answered with a heuristic decision only where the branch is completed with it,
 /// and change nothing then.
 pub fn only_completed_branches_tell_a_decision()
-    ensures commits { (t : ℕ) (x : XidName) (d : HeuristicDecision) (T : Tables) → (next t (Commit x false) T).1 ≡ decision_code d → IsTold x d T (next t (Commit x false) T) }
-    ensures rolls_back { (t : ℕ) (x : XidName) (d : HeuristicDecision) (T : Tables) → (next t (Rollback x) T).1 ≡ decision_code d → IsTold x d T (next t (Rollback x) T) }
+    ensures commits { (t : ℕ) (x : XidName) (d : HeuristicDecision) (T : Tables)
+        → (next t (Commit x false) T).1 ≡ decision_code d → IsTold x d T (next t (Commit x false) T) }
+    ensures rolls_back { (t : ℕ) (x : XidName) (d : HeuristicDecision) (T : Tables)
+        → (next t (Rollback x) T).1 ≡ decision_code d → IsTold x d T (next t (Rollback x) T) }
 {}
 
 /// A Prepare that rolls its branch back answers XA_RBINTEGRITY.
 pub fn refused_prepares_tell_integrity()
-    ensures { (t : ℕ) (x : XidName) (T : Tables) → is_rolled_back (next t (Prepare x) T).1 ≡ true → (next t (Prepare x) T).1 ≡ RbIntegrity }
+    ensures { (t : ℕ) (x : XidName) (T : Tables) → is_rolled_back (next t (Prepare x) T).1 ≡ true
+        → (next t (Prepare x) T).1 ≡ RbIntegrity }
 {}
 
 /// The fates of worked histories: a branch that works, votes, commits, is rolled back, would take

@@ -1,5 +1,6 @@
 //! One manager.
-ghost use Rattle.std.specs.Prelude.{◌≡◌, ◌↔◌, ◌≤◌, ◌<◌, ◌+◌, ◌^◌, IfOk, IfSome, OnOk, OnErr, IsErrOf, None, Some, true, false, option_map, pos};
+ghost use Rattle.std.specs.Prelude.{◌≡◌, ◌↔◌, ◌≤◌, ◌<◌, ◌+◌, ◌^◌, IfOk, IfSome, OnOk, OnErr, IsErrOf, None, Some, true};
+ghost use Rattle.std.specs.Prelude.{false, option_map, pos};
 ghost use Rattle.std.specs.FinMap as finmap;
 ghost use Rattle.xa_tables.specs.Accounts.{are_accounts};
 ghost use Rattle.xa_tables.specs.Managers.{Keeps, opening};
@@ -52,7 +53,8 @@ impl Model for Manager {
 
     ghost view = { λ m. record { tables = m.inner.tables; threads = m.threads; room = m.left; reserved = m.reserved } };
 
-    ghost invariant = { λ m. (m.inner.threads ≡ m.threads) × (m.left ≤ m.inner.spare) × (m.inner.adds + m.left ≤ 2 ^ 16) × IfSome m.reserved (λ r. (r.0 ≤ m.inner.seats) × (r.1 ≤ m.inner.spare) × (r.1 ≤ 2 ^ 15)) };
+    ghost invariant = { λ m. (m.inner.threads ≡ m.threads) × (m.left ≤ m.inner.spare) × (m.inner.adds + m.left ≤ 2 ^ 16)
+        × IfSome m.reserved (λ r. (r.0 ≤ m.inner.seats) × (r.1 ≤ m.inner.spare) × (r.1 ≤ 2 ^ 15)) };
 }
 
 impl Manager {

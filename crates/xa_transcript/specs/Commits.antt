@@ -32,8 +32,8 @@ pub data Carries (t : ℕ) (op : Option Op) (code : Option Code) (old new : List
   unwanted : op ≡ None → code ≡ None → new ≡ old → Carries t op code old new
 
 -- What thread t does at a branch: its Prepare, whose code is its vote; then its Commit or its Rollback, as was decided
--- and as it voted, or nothing; then a Forget, where its second code tells a decision that the manager keeps. By the first
--- two codes it ends.
+-- and as it voted, or nothing; then a Forget, where its second code tells a decision that the manager keeps. By the
+-- first two codes it ends.
 pub record AtBranch (t : ℕ) (commit : Bool) (old new : ℕ → List Entry) (b : Branch) (vote : Code) (second : Option Code)
     (ending : Ending) : Type 0 where
   pub between : List Entry

@@ -96,10 +96,11 @@ pub record AreLeft (settled : Settling) (t : ℕ) (left : finmap.FinMap nat_cmp 
   pub all : (k : ℕ) (o : Operation) → finmap.get left k ≡ Some o → Contains (map (λ x. x.0) outstanding) k
   pub rising : AllPairs (λ x y. x.0 < y.0) outstanding
 
--- The lines of thread t among those of an opening, each with its answer; and line by line, from the part that the thread
--- has at first, each manager's journal has what they put to it, in their order, and nothing else of the thread. After
--- them these handles, this log and these scans are left, and the `end` lines show the handles with their codes.
-pub record AreCarriedOut (steps : List Step) (answers : List Answer) (settled : Settling) (t : ℕ) (first : Part) : Type 0 where
+-- The lines of thread t among those of an opening, each with its answer; and line by line, from the part that the
+-- thread has at first, each manager's journal has what they put to it, in their order, and nothing else of the thread.
+-- After them these handles, this log and these scans are left, and the `end` lines show the handles with their codes.
+pub record AreCarriedOut (steps : List Step) (answers : List Answer) (settled : Settling) (t : ℕ)
+    (first : Part) : Type 0 where
   pub lines : List Line
   pub tasks : map (λ l. l.task) lines ≡ tasks_of t steps
   pub told : map (λ l. l.answer) lines ≡ answers_to t answers

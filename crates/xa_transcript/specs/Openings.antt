@@ -41,9 +41,9 @@ pub record Opening : Type 0 where
   pub answers : List Answer
   pub settled : Settling
 
--- What the answers tell of an opening that begins so: what was sent, carried out and collected agrees; each manager goes on
--- from its tables; and of every thread the journals have what its lines put to the managers, with the codes that they
--- answer.
+-- What the answers tell of an opening that begins so: what was sent, carried out and collected agrees; each manager
+-- goes on from its tables; and of every thread the journals have what its lines put to the managers, with the codes
+-- that they answer.
 pub record TellsOf (s : Content) (b : Beginning) (o : Opening) : Type 0 where
   pub agree : IsSettled o.settled
   pub managers : AreOfScript s b.tables o.settled.managers
@@ -84,8 +84,8 @@ settled_over before last = map (λ f. f.opening.settled) before ++ last.settled 
 -- ---- the whole transcript
 
 -- What a transcript of these answers and values tells of the openings of a script, of which the last follows these: its
--- lines are those of the openings, and so are its answers; it tells of one opening after the other, each of which begins
--- with what those before it left; and the values are those after all journals.
+-- lines are those of the openings, and so are its answers; it tells of one opening after the other, each of which
+-- begins with what those before it left; and the values are those after all journals.
 pub record Tells (s : Content) (answers : List Answer) (values : List Declared) (before : List Former) (last : Opening)
     : Type 0 where
   pub steps : s.steps ≡ steps_over before last

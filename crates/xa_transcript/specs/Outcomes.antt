@@ -13,7 +13,8 @@ use Rattle.xa_switch.specs.Fates.{IsOpenedWith, history}
 use Rattle.xa_switch.specs.Scans.{ScanView, left_at}
 use Rattle.xa_driver.specs.declared.branch.Branch.{Branch}
 use Rattle.xa_driver.specs.declared.done.Done.{Done}
-use Rattle.xa_driver.specs.Outcomes.{is_committed, is_in_doubt, is_heuristic, is_read_only, has_committed, has_rolled_back}
+use Rattle.xa_driver.specs.Outcomes.{is_committed, is_in_doubt, is_heuristic, is_read_only, has_committed}
+use Rattle.xa_driver.specs.Outcomes.{has_rolled_back}
 use Rattle.xa_driver.specs.Outcomes.{OnlyTheseName, OnlyTheseOrDecisionsName, EachOutcome, KeepsItsVote, TellsTheFate}
 use Rattle.xa_driver.specs.Additions.{Shares}
 use Rattle.xa_grammar.specs.declared.script.Action.{Action}
@@ -53,7 +54,12 @@ pub record Place {steps : List Step} {answers : List Answer} {settled : Settling
   pub earlier : Chain (TakesPart settled) first before old
   pub takes : TakesPart settled l old new
   pub later : Chain (TakesPart settled) new after
-      (record { entries = λ m. entries_of t (journal settled m); handles = told.left; log = told.log; scan = told.scan })
+      (record {
+        entries = λ m. entries_of t (journal settled m);
+        handles = told.left;
+        log = told.log;
+        scan = told.scan;
+      })
 
 -- In the journals nobody but the line, which has made `new` of `old`, names these branches of thread t once the thread
 -- has asked them to prepare.
@@ -80,8 +86,8 @@ branches_by m (action.Recover n) = []
 abbrev pub is_among : Branch → List Branch → Bool
 is_among b bs = list_any (λ c. (c.m == b.m) && xid_eq c.xid b.xid) bs
 
--- The task names the branch, where it is of a thread with these scans: a commit names all its own, and a resolve those that
--- its thread's scans have as left.
+-- The task names the branch, where it is of a thread with these scans: a commit names all its own, and a resolve those
+-- that its thread's scans have as left.
 abbrev pub names_it : ScanView → Branch → Task → Bool
 names_it z b (task.Call p) = is_among b (branches_by p.manager p.action)
 names_it z b (task.CommitAll c) = is_among b (branches_of c)
@@ -91,8 +97,8 @@ names_it z b (task.Resolve r) = list_any (λ x. xid_eq x b.xid) (left_at z b.m)
 abbrev pub NamesNone : ScanView → List Branch → Task → Type 0
 NamesNone z bs p = All (λ b. names_it z b p ≡ false) bs
 
--- From a line of thread t on no other names these branches, in an opening that began with these scans: no line of another
--- thread does, and none of those after it.
+-- From a line of thread t on no other names these branches, in an opening that began with these scans: no line of
+-- another thread does, and none of those after it.
 pub record AreNamedByNoOther (steps : List Step) (scans : ℕ → ScanView) (t : ℕ) (bs : List Branch) (after : List Line)
     : Type 0 where
   pub threads : (u : ℕ) → u ≢ t → All (NamesNone (scans u) bs) (tasks_of u steps)

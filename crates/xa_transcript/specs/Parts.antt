@@ -1,5 +1,6 @@
 -- A thread's part in the journals, and what a call does to it.
-use Rattle.std.specs.Prelude.{◌≡◌, ℕ, ◌≤◌, pos, Bool, false, ◌==◌, if◌then◌else◌, Some, None, Result, List, [], ◌∷◌, ◌++◌}
+use Rattle.std.specs.Prelude.{◌≡◌, ℕ, ◌≤◌, pos, Bool, false, ◌==◌, if◌then◌else◌, Some, None, Result, List, [], ◌∷◌}
+use Rattle.std.specs.Prelude.{◌++◌}
 use Rattle.std.specs.Prelude.{length, slice_get}
 use Rattle.std.specs.List.{Contains}
 use Rattle.std.specs.Ordering.{nat_cmp}
@@ -58,13 +59,14 @@ without_handle k p = record p { handles = finmap.remove p.handles k }
 abbrev pub HasCode : Settling → ℕ → Operation → Code → Type 0
 HasCode settled t o c = slice_get (answers t (journal settled o.manager)) o.number ≡ Some (o.number, c)
 
--- Thread t asks manager m of an op: it is carried out with this code, or nothing is put to the manager, for this reason.
+-- Thread t asks manager m of an op: it is carried out with this code, or nothing is put to the manager, for this
+-- reason.
 pub data Asked (t m : ℕ) (old : Part) (op : Op) (new : Part) (c : Code) : Type 0 where
   answered : new ≡ with_entry t m op c old → Asked t m old op new c
   refused : Contains (refusals false) c → new ≡ old → Asked t m old op new c
 
--- What an xa_recover with room for n xids does to its thread's part, and what it answers: its manager is asked whether it
--- answers, and then of one after the other of the branches that the opening found left, from where the scan stands.
+-- What an xa_recover with room for n xids does to its thread's part, and what it answers: its manager is asked whether
+-- it answers, and then of one after the other of the branches that the opening found left, from where the scan stands.
 pub record Lists (p : Called) (n : ℕ) (a : Answer) (old new : Part) : Type 0 where
   pub there : Bool
   pub asked : Part

@@ -18,9 +18,9 @@ use Rattle.xa_transcript.specs.Commits.{Carries}
 abbrev pub CarriesOut : ℕ → Asking (List Entry)
 CarriesOut t old op new c = Carries t (Some op) (Some c) old new
 
--- What a resolve does to its thread's part where this came of it: each manager is asked to open, and then to commit or to
--- roll back each branch that the thread's scan of it has as left, as the thread's log says; and its outcomes are those of
--- the managers, by rising number.
+-- What a resolve does to its thread's part where this came of it: each manager is asked to open, and then to commit or
+-- to roll back each branch that the thread's scan of it has as left, as the thread's log says; and its outcomes are
+-- those of the managers, by rising number.
 pub record EndsLeft (r : Resolve) (outcomes : List Outcome) (old new : Part) : Type 0 where
   pub at : ℕ → List Outcome
   pub outcomes_are : outcomes ≡ flat_map at (range_with_len 1 MOST_MANAGERS)
@@ -34,5 +34,6 @@ pub record EndsLeft (r : Resolve) (outcomes : List Outcome) (old new : Part) : T
 -- What a resolve does to its thread's part: nothing where it is refused.
 pub data ResolveTakes (r : Resolve) (a : Answer) (old new : Part) : Type 0 where
   refused : a ≡ answer.Refused r.line r.thread → new ≡ old → ResolveTakes r a old new
-  resolved : (outcomes : Vec Outcome Global) → a ≡ answer.Resolved r.line r.thread outcomes → EndsLeft r outcomes.items old new
+  resolved : (outcomes : Vec Outcome Global) → a ≡ answer.Resolved r.line r.thread outcomes
+      → EndsLeft r outcomes.items old new
       → ResolveTakes r a old new

@@ -29,8 +29,8 @@ pub record BeginsAs (b : Beginning) (t : ℕ) (x : Session) : Type 0 where
   pub log : x.log.state ≡ b.logs t
   pub scan : x.scan ≡ b.scans t
 
--- All threads and all managers of an opening that begins so have come to this: each thread did its tasks among these steps
--- and its desk ended, each worker ran to the last end mark, and no other thread was answered anything.
+-- All threads and all managers of an opening that begins so have come to this: each thread did its tasks among these
+-- steps and its desk ended, each worker ran to the last end mark, and no other thread was answered anything.
 pub record Ran (s : Content) (b : Beginning) (steps : List Step) (answers : List Answer) (sessions left : List Session)
     (workers : List WorkerView) (ended : List EndedView) (done : List Served) : Type 0 where
   pub opened : AreOpened s b.opening b.tables (map (λ x. x.desk) sessions) workers

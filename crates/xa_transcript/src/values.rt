@@ -15,7 +15,9 @@ pub fn values_of(
     settled: &Settled,
 ) -> Result<Vec<Declared>, AllocError>
     requires { (before : List Settling) × AreOfScript script.now (opened_after script.now before) settled.now.managers }
-    ensures { IfOk result (λ values. (before : List Settling) → AreOfScript script.now (opened_after script.now before) settled.now.managers → AreValues script.now (before ++ settled.now ∷ []) values.items) }
+    ensures { IfOk result (λ values. (before : List Settling)
+        → AreOfScript script.now (opened_after script.now before) settled.now.managers
+        → AreValues script.now (before ++ settled.now ∷ []) values.items) }
 {
     let keys = script.keys();
     let mut values = Vec::with_capacity(alloc, keys.len())?;

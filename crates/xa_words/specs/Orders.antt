@@ -88,7 +88,8 @@ bqual_again : (x : XidName) → drop (length x.gtrid) (x.gtrid ++ x.bqual) ≡ x
 bqual_again x = drop-append_seam x.gtrid x.bqual
 
 -- names of one format that part the same bytes at the same place are one
-same_parts : (x y : XidName) → x.format ≡ y.format → length x.gtrid ≡ length y.gtrid → x.gtrid ++ x.bqual ≡ y.gtrid ++ y.bqual
+same_parts : (x y : XidName) → x.format ≡ y.format → length x.gtrid ≡ length y.gtrid
+    → x.gtrid ++ x.bqual ≡ y.gtrid ++ y.bqual
     → x ≡ y
 same_parts x y f l u =
     let g : x.gtrid ≡ y.gtrid = sym (gtrid_again x) ∙ (λ i. take (l i) (u i)) ∙ gtrid_again y in

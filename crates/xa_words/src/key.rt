@@ -31,7 +31,10 @@ impl Model for Key {
 
     ghost inverse = { λ name. record { bytes = padded_key name; count = length name } };
 
-    ghost inverse_ok = { λ k padded i. record { bytes = padded_again k.count k.bytes padded i; count = length_key k.count k.bytes padded i } };
+    ghost inverse_ok = { λ k padded i. record {
+      bytes = padded_again k.count k.bytes padded i;
+      count = length_key k.count k.bytes padded i;
+    } };
 }
 
 impl Key {

@@ -41,7 +41,8 @@ pub(crate) fn carry_out<R: Wait>(
     ensures manager { manager.new ≡ applied request.now manager.old }
     ensures journal { journal.new.items ≡ journal.old.items ++ entry_next request.now manager.old.tables ∷ [] }
     ensures space { vec_capacity journal.new ≡ vec_capacity journal.old }
-    ensures out { Puts out.old (request.now.thread - 1) (completion_of number (entry_next request.now manager.old.tables)) out.new }
+    ensures out { Puts out.old (request.now.thread - 1) (completion_of number
+        (entry_next request.now manager.old.tables)) out.new }
 {
     let step = if manager.is_shut() {
         Step::Late

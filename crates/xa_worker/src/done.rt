@@ -59,7 +59,8 @@ impl DoneWorker {
         ends: Vec<Ended<Completion>>,
         journal: Vec<(Request, Code)>,
     ) -> DoneWorker
-        requires served { IsServed (served number (first_tables given.items) manager receiver ends.items journal.items) }
+        requires served { IsServed (served number (first_tables given.items) manager receiver ends.items
+            journal.items) }
         requires few { manager.threads ≤ MOST_THREADS }
         ensures { result ≡ served number (first_tables given.items) manager receiver ends.items journal.items }
     {
@@ -105,7 +106,8 @@ impl DoneWorker {
 
     /// Its manager, the ends of its lanes and its journal.
     pub fn apart(self) -> WorkerEnds
-        ensures parts { served self.number self.first result.manager result.receiver result.ends.items result.journal.items ≡ self }
+        ensures parts { served self.number self.first result.manager result.receiver result.ends.items
+            result.journal.items ≡ self }
         ensures served { IsServed self }
         ensures ordered { IsOrdered self }
     {

@@ -1,5 +1,6 @@
 //! Where a worker puts completions.
-ghost use Rattle.std.specs.Prelude.{◌≡◌, ◌↔◌, ◌<◌, ◌≤◌, ℕ, [], length, map, None, IsTrue, IsSome, MatchBool, vec_capacity};
+ghost use Rattle.std.specs.Prelude.{◌≡◌, ◌↔◌, ◌<◌, ◌≤◌, ℕ, [], length, map, None, IsTrue, IsSome, MatchBool};
+ghost use Rattle.std.specs.Prelude.{vec_capacity};
 ghost use Rattle.xa_lane.specs.Senders.{at_place, with_item, with_full, but_full};
 ghost use Rattle.xa_worker.specs.Outgoing.{StillFull, Puts, flushed, put_to};
 
@@ -38,7 +39,8 @@ fn offer_at<R: Wait>(
 ) -> bool
     requires { place < length senders.old.items }
     ensures len { length senders.new.items ≡ length senders.old.items }
-    ensures offered { MatchBool result (senders.new.items ≡ at_place place (with_item completion) senders.old.items) (senders.new.items ≡ at_place place with_full senders.old.items) }
+    ensures offered { MatchBool result (senders.new.items ≡ at_place place (with_item completion) senders.old.items)
+        (senders.new.items ≡ at_place place with_full senders.old.items) }
 {
     match senders[place].offer(rt, completion) {
         Ok(()) => true,

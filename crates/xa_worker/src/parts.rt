@@ -27,7 +27,8 @@ impl Model for WorkerParts {
 
     ghost view = { λ p. record { number = p.number; room = p.room } };
 
-    ghost invariant = { λ p. (p.journal.items ≡ []) × (p.room ≤ vec_capacity p.journal) × (p.ends.items ≡ []) × (MOST_THREADS ≤ vec_capacity p.ends) };
+    ghost invariant = { λ p. (p.journal.items ≡ []) × (p.room ≤ vec_capacity p.journal) × (p.ends.items ≡ [])
+        × (MOST_THREADS ≤ vec_capacity p.ends) };
 }
 
 impl WorkerParts {

@@ -1,5 +1,5 @@
 //! A crowded day: eight tellers over eight stores, of which one is shut while they are at work.
-use super::{NAMES, START, amount_of, plan_of};
+use super::{NAMES, account_of, amount_of, is_committed, is_own, plan_of, start_of};
 use std::alloc::Global;
 use std::process::Abort;
 use std::sync::Wait;
@@ -50,13 +50,13 @@ fn transfers_of(place: u32) -> u32 {
     }
 }
 
-// Transfer k of the teller at this place: all tellers use all stores, two accounts in each.
+// Transfer k of the teller at this place: all tellers use all stores.
 fn transfer_of(rt: &impl Abort, place: u32, k: u32) -> Transfer {
     let from = place.wrapping_add(k) % STORES;
     Transfer {
         from: from + 1,
         to: from.wrapping_add(k % (STORES - 1)).wrapping_add(1) % STORES + 1,
-        account: Key::new(NAMES[k as usize % 2]).expect(rt, "a name"),
+        account: account_of(rt, place, k),
         amount: amount_of(k),
     }
 }
@@ -130,6 +130,24 @@ fn told_of(rt: &impl Abort, clerks: &[xa_crew::Attended<Clerk>], store: u32, nam
     told
 }
 
+// A teller's transfers between its own tills, at stores that nobody shuts, are in nobody's way. It tells how many there
+// are.
+fn sure_transfers_commit(rt: &impl Abort, clerks: &[xa_crew::Attended<Clerk>]) -> u32 {
+    let mut sure: u32 = 0;
+    for (place, attended) in clerks.iter().enumerate() {
+        let place = u32::try_from(place).expect(rt, "a place");
+        for (k, outcome) in attended.client.teller.outcomes.iter().enumerate() {
+            let k = u32::try_from(k).expect(rt, "a number");
+            let transfer = transfer_of(rt, place, k);
+            if is_own(k) && transfer.from != SHUT && transfer.to != SHUT {
+                assert!(rt; is_committed(outcome), "teller {place}, transfer {k}");
+                sure = sure.wrapping_add(1);
+            }
+        }
+    }
+    sure
+}
+
 // Whether the store has carried out a Shut.
 fn was_shut(settled: &Settled, store: u32) -> bool {
     settled
@@ -157,16 +175,17 @@ fn the_endings_say_where_the_money_is(rt: HostRuntime) {
     let day = run_clients(&rt, alloc, &plan, clerks, paces).expect(&rt, "a day");
     let (mut moved, mut missing) = (0i64, 0i64);
     for before in 0..STORES {
-        for name in NAMES {
+        for (place, name) in NAMES.iter().enumerate() {
             let account = Key::new(name).expect(&rt, "a name");
             let told = told_of(&rt, &day.clients, before + 1, &account);
             let value = day
                 .settled
                 .value(before + 1, &account)
                 .expect(&rt, "an account");
+            let first = i64::try_from(start_of(place)).expect(&rt, "a value");
             assert_eq!(rt;
                 i64::try_from(value).ok(),
-                Some(told.moved.wrapping_add(START as i64))
+                Some(told.moved.wrapping_add(first))
             );
             moved = moved.wrapping_add(told.moved);
             missing = missing.wrapping_add(told.missing);
@@ -174,6 +193,7 @@ fn the_endings_say_where_the_money_is(rt: HostRuntime) {
     }
     assert_eq!(rt; moved.wrapping_add(missing), 0);
     assert!(rt; was_shut(&day.settled, SHUT));
+    assert_eq!(rt; sure_transfers_commit(&rt, &day.clients), 129);
     for attended in &day.clients {
         assert!(rt; !attended.client.teller.wants_memory && attended.outstanding.is_empty());
     }

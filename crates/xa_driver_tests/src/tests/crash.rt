@@ -1,5 +1,5 @@
-//! A crash of two of three managers, in threads: they are shut once the commit's record is made, and hold branches in doubt.
-//! All are opened again, and what was left is resolved by the log. No money is lost or made over both openings.
+//! A crash of two of three managers, in threads: they are shut once the commit's record is made, and hold branches in
+//! doubt. All are opened again, and what was left is resolved by the log. No money is lost or made over both openings.
 ghost use Rattle.xa_desk.specs.GoesOn.{GoesOn};
 ghost use Rattle.xa_desk.specs.Kept.{AllKept};
 

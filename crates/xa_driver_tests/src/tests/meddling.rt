@@ -8,8 +8,8 @@ use xa_driver::{Done, Ending, MemoryLog, commit_all, may_commit};
 use xa_switch::Plan;
 use xa_words::{Code, Op};
 
-// As it idles for the `at`-th time the second thread puts a request to manager 2. Then, as each time, the worker that is
-// waited for does one step.
+// As it idles for the `at`-th time the second thread puts a request to manager 2. Then, as each time, the worker that
+// is waited for does one step.
 #[derive(Drop)]
 struct Meddler {
     second: Desk,

@@ -72,7 +72,8 @@ pub(super) fn commit<R: Wait + Abort, I: Idle>(
     branches: &[Branch],
     idle: &mut I,
 ) -> Made
-    ensures made { IsCommit branches.now result.before.value result.after.value.ledgers result.log_before.value.state result.log_after.value.state result.done }
+    ensures made { IsCommit branches.now result.before.value result.after.value.ledgers result.log_before.value.state
+        result.log_after.value.state result.done }
     ensures few { length result.before.value.ledgers ≤ 8 }
     ensures after { result.after.value ≡ desk.new }
     ensures log { result.log_after.value ≡ log.new }

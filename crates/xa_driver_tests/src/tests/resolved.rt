@@ -17,10 +17,12 @@ ghost use Rattle.xa_switch.specs.Fates.{ledgers_of};
 ghost use Rattle.xa_switch.specs.OfPlans.{IsOf};
 ghost use Rattle.xa_switch.specs.Openings.{AreOfOneOpening};
 ghost use Rattle.xa_switch.specs.Recovery.{IsScanOf};
-ghost use Rattle.xa_switch.specs.Seats.{ComeFromOpenings, desk_seats, worker_seats, seat_of_desk, seat_of_ended, seat_of_worker, seat_of_done};
+ghost use Rattle.xa_switch.specs.Seats.{ComeFromOpenings, desk_seats, worker_seats, seat_of_desk, seat_of_ended};
+ghost use Rattle.xa_switch.specs.Seats.{seat_of_worker, seat_of_done};
 ghost use Rattle.xa_switch.specs.Settling.{IsSettled};
 ghost use Rattle.xa_driver.specs.Outcomes.{AreLeftOrDecided};
-ghost use Rattle.xa_driver.specs.Resolution.{CommitCall, ResolveCall, Opening, Use, commits, resolves, Continues, IsAllOrNone, IsResolved, OnlyResolves};
+ghost use Rattle.xa_driver.specs.Resolution.{CommitCall, ResolveCall, Opening, Use, commits, resolves, Continues};
+ghost use Rattle.xa_driver.specs.Resolution.{IsAllOrNone, IsResolved, OnlyResolves};
 ghost use Rattle.xa_driver.specs.Resolving.{IsTraceOfResolve};
 ghost use Rattle.xa_driver.specs.Trace.{IsCommit};
 ghost use Rattle.xa_driver.specs.Worth.{CountsOver, CountsAllOrNone};
@@ -51,7 +53,8 @@ use xa_worker::{DoneWorker, Free, Worker};
 
 // Opens a switch of two threads, the second of which has sent nothing.
 fn open<R: Wait + Abort>(rt: &R, alloc: Global, plan: &Plan) -> Opened
-    ensures opened { ComeFromOpenings (seat_of_desk result.first ∷ seat_of_desk result.second ∷ []) (map seat_of_worker result.workers.workers.items) }
+    ensures opened { ComeFromOpenings (seat_of_desk result.first ∷ seat_of_desk result.second ∷ [])
+        (map seat_of_worker result.workers.workers.items) }
     ensures fresh { (m : ℕ) → (ledger result.second.ledgers m).sent ≡ [] }
 {
     opened_pieces_come_from_their_opening();
@@ -76,7 +79,9 @@ fn settle_all<R: Wait + Abort>(
     requires { ComeFromOpenings (desk_seats desks.items) (worker_seats workers.items) }
     ensures settled { IsSettled result }
     ensures parts { result ≡ settling desks.items workers.items }
-    ensures of { (p : Setup) (ds : List DeskView) (ws : List WorkerView) → AreOfOneOpening p ds ws → map seat_of_desk ds ≡ desk_seats desks.items → map seat_of_worker ws ≡ worker_seats workers.items → IsOf p result }
+    ensures of { (p : Setup) (ds : List DeskView) (ws : List WorkerView) → AreOfOneOpening p ds ws
+        → map seat_of_desk ds ≡ desk_seats desks.items → map seat_of_worker ws ≡ worker_seats workers.items
+        → IsOf p result }
 {
     settled_openings_are_of_their_setup();
     match settle(rt, alloc, desks, workers) {
@@ -90,14 +95,15 @@ fn settle_all<R: Wait + Abort>(
 // Shuts manager 2, if the desk hasn't learnt that it is shut.
 fn shut<R: Wait>(rt: &R, desk: &mut Desk, idle: &mut Workers)
     ensures seat { seat_of_desk desk.new ≡ seat_of_desk desk.old }
-    ensures shuts { ((m : ℕ) → All (λ op. op ≡ Shut) (ledger desk.old.ledgers m).sent) → (m : ℕ) → All (λ op. op ≡ Shut) (ledger desk.new.ledgers m).sent }
+    ensures shuts { ((m : ℕ) → All (λ op. op ≡ Shut) (ledger desk.old.ledgers m).sent) → (m : ℕ)
+        → All (λ op. op ≡ Shut) (ledger desk.new.ledgers m).sent }
     ensures idled { map seat_of_worker idle.new.workers.items ≡ map seat_of_worker idle.old.workers.items }
 {
     let _ = desk.call(rt, 2, Op::Shut, idle);
 }
 
-// As it idles for the first time the second thread shuts manager 2. Then, as each time, the worker that is waited for does
-// one step.
+// As it idles for the first time the second thread shuts manager 2. Then, as each time, the worker that is waited for
+// does one step.
 #[derive(Drop)]
 struct Crash {
     second: Desk,
@@ -106,9 +112,15 @@ struct Crash {
 }
 
 impl Idle for Crash {
-    ghost leads_by = { λ manager before after. (seat_of_desk after.second ≡ seat_of_desk before.second) × (map seat_of_worker after.workers.workers.items ≡ map seat_of_worker before.workers.workers.items) × (((m : ℕ) → All (λ op. op ≡ Shut) (ledger before.second.ledgers m).sent) → (m : ℕ) → All (λ op. op ≡ Shut) (ledger after.second.ledgers m).sent) };
+    ghost leads_by = { λ manager before after. (seat_of_desk after.second ≡ seat_of_desk before.second)
+        × (map seat_of_worker after.workers.workers.items ≡ map seat_of_worker before.workers.workers.items)
+        × (((m : ℕ) → All (λ op. op ≡ Shut) (ledger before.second.ledgers m).sent) → (m : ℕ)
+        → All (λ op. op ≡ Shut) (ledger after.second.ledgers m).sent) };
 
-    ghost leads = { λ before after. (seat_of_desk after.second ≡ seat_of_desk before.second) × (map seat_of_worker after.workers.workers.items ≡ map seat_of_worker before.workers.workers.items) × (((m : ℕ) → All (λ op. op ≡ Shut) (ledger before.second.ledgers m).sent) → (m : ℕ) → All (λ op. op ≡ Shut) (ledger after.second.ledgers m).sent) };
+    ghost leads = { λ before after. (seat_of_desk after.second ≡ seat_of_desk before.second)
+        × (map seat_of_worker after.workers.workers.items ≡ map seat_of_worker before.workers.workers.items)
+        × (((m : ℕ) → All (λ op. op ≡ Shut) (ledger before.second.ledgers m).sent) → (m : ℕ)
+        → All (λ op. op ≡ Shut) (ledger after.second.ledgers m).sent) };
 
     ghost leads_each = { λ manager x y p. p };
 
@@ -142,12 +154,15 @@ fn commit_and_crash<R: Wait + Abort>(
     log: &mut MemoryLog,
     branches: &[Branch; 2],
 ) -> Crashed
-    requires opened { ComeFromOpenings (seat_of_desk opened.first ∷ seat_of_desk opened.second ∷ []) (map seat_of_worker opened.workers.workers.items) }
+    requires opened { ComeFromOpenings (seat_of_desk opened.first ∷ seat_of_desk opened.second ∷ [])
+        (map seat_of_worker opened.workers.workers.items) }
     requires fresh { (m : ℕ) → (ledger opened.second.ledgers m).sent ≡ [] }
     ensures settled { IsSettled result.settled }
-    ensures made { IsCommit branches.now result.made.before.value result.made.after.value.ledgers result.made.log_before.value.state result.made.log_after.value.state result.made.done }
+    ensures made { IsCommit branches.now result.made.before.value result.made.after.value.ledgers
+        result.made.log_before.value.state result.made.log_after.value.state result.made.done }
     ensures grown { HaveGrown result.made.after.value.ledgers (ledgers_of result.settled result.thread) }
-    ensures own { AreLeftOrDecided result.settled result.thread branches.now result.made.before.value.ledgers result.made.after.value.ledgers }
+    ensures own { AreLeftOrDecided result.settled result.thread branches.now result.made.before.value.ledgers
+        result.made.after.value.ledgers }
     ensures few { length result.made.before.value.ledgers ≤ 8 }
     ensures log { result.made.log_after.value ≡ log.new }
 {
@@ -232,7 +247,8 @@ fn resolve_left<R: Wait + Abort>(
     log: &MemoryLog,
     idle: &mut Workers,
 ) -> Ended
-    ensures trace { IsTraceOfResolve result.scan.value log.now.state result.before.value.ledgers result.after.value.ledgers result.told.outcomes.items }
+    ensures trace { IsTraceOfResolve result.scan.value log.now.state result.before.value.ledgers
+        result.after.value.ledgers result.told.outcomes.items }
     ensures reached { All (λ x. x.code ≢ RmFail) result.told.outcomes.items }
     ensures scan { result.scan.value ≡ scan.now }
     ensures before { result.before.value ≡ desk.old }
@@ -276,9 +292,18 @@ pub(super) fn recover<R: Wait + Abort>(
 ) -> Recovered
     ensures settled { IsSettled result.settled }
     ensures continues { Continues settled result.settled }
-    ensures trace { IsTraceOfResolve result.ended.scan.value log.now.state result.ended.before.value.ledgers result.ended.after.value.ledgers result.ended.told.outcomes.items }
+    ensures trace { IsTraceOfResolve result.ended.scan.value log.now.state result.ended.before.value.ledgers
+        result.ended.after.value.ledgers result.ended.told.outcomes.items }
     ensures grown { HaveGrown result.ended.after.value.ledgers (ledgers_of result.settled result.thread) }
-    ensures later { let q : ResolveCall = record { thread = result.thread; scan = result.ended.scan.value; old = result.ended.before.value.ledgers; new = result.ended.after.value.ledgers; log = log.now.state; outcomes = result.ended.told.outcomes.items } in (t : TranName) → OnlyResolves t (record { settled = result.settled; uses = resolves q ∷ [] }) }
+    ensures later { let q : ResolveCall = record {
+      thread = result.thread;
+      scan = result.ended.scan.value;
+      old = result.ended.before.value.ledgers;
+      new = result.ended.after.value.ledgers;
+      log = log.now.state;
+      outcomes = result.ended.told.outcomes.items;
+    } in (t : TranName)
+        → OnlyResolves t (record { settled = result.settled; uses = resolves q ∷ [] }) }
     ensures of { IsOf (reopening settled again.now) result.settled }
     ensures scan { IsScanOf settled result.ended.scan.value }
     ensures reached { All (λ x. x.code ≢ RmFail) result.ended.told.outcomes.items }
@@ -318,8 +343,8 @@ struct Story {
     log: Snapshot<MemoryLog>,
 }
 
-// What a crash leaves in doubt is resolved. Every premise of the laws is met; so the transaction has one outcome, and its
-// additions count where it was committed: all of them or none.
+// What a crash leaves in doubt is resolved. Every premise of the laws is met; so the transaction has one outcome, and
+// its additions count where it was committed: all of them or none.
 fn commit_and_resolve<R: Wait + Abort>(
     rt: &R,
     alloc: Global,
@@ -327,13 +352,30 @@ fn commit_and_resolve<R: Wait + Abort>(
     again: &Again,
     branches: &[Branch; 2],
 ) -> Story
-    requires opened { ComeFromOpenings (seat_of_desk opened.first ∷ seat_of_desk opened.second ∷ []) (map seat_of_worker opened.workers.workers.items) }
+    requires opened { ComeFromOpenings (seat_of_desk opened.first ∷ seat_of_desk opened.second ∷ [])
+        (map seat_of_worker opened.workers.workers.items) }
     requires fresh { (m : ℕ) → (ledger opened.second.ledgers m).sent ≡ [] }
-    ensures { let c : CommitCall = record { thread = result.thread; branches = branches.now; desk = result.made.before.value; new = result.made.after.value.ledgers; log = result.made.log_before.value.state; later = result.made.log_after.value.state; done = result.made.done } in
-        let q : ResolveCall = record { thread = result.last.thread; scan = result.last.ended.scan.value; old = result.last.ended.before.value.ledgers; new = result.last.ended.after.value.ledgers; log = result.log.value.state; outcomes = result.last.ended.told.outcomes.items } in
+    ensures { let c : CommitCall = record {
+      thread = result.thread;
+      branches = branches.now;
+      desk = result.made.before.value;
+      new = result.made.after.value.ledgers;
+      log = result.made.log_before.value.state;
+      later = result.made.log_after.value.state;
+      done = result.made.done;
+    } in
+        let q : ResolveCall = record {
+          thread = result.last.thread;
+          scan = result.last.ended.scan.value;
+          old = result.last.ended.before.value.ledgers;
+          new = result.last.ended.after.value.ledgers;
+          log = result.log.value.state;
+          outcomes = result.last.ended.told.outcomes.items;
+        } in
         let o : Opening = record { settled = result.first.value; uses = commits c ∷ [] } in
         let last : Opening = record { settled = result.last.settled; uses = resolves q ∷ [] } in
-        IsResolved o [] last c q × IsAllOrNone c o (last ∷ []) × CountsOver c o (last ∷ []) × CountsAllOrNone c o (last ∷ []) }
+        IsResolved o [] last c q × IsAllOrNone c o (last ∷ []) × CountsOver c o (last ∷ [])
+        × CountsAllOrNone c o (last ∷ []) }
 {
     resolved_transactions_have_one_outcome();
     resolved_transactions_count_where_committed();
@@ -398,14 +440,31 @@ fn commit_and_resolve_later<R: Wait + Abort>(
     again: &Again,
     branches: &[Branch; 2],
 ) -> LongStory
-    requires opened { ComeFromOpenings (seat_of_desk opened.first ∷ seat_of_desk opened.second ∷ []) (map seat_of_worker opened.workers.workers.items) }
+    requires opened { ComeFromOpenings (seat_of_desk opened.first ∷ seat_of_desk opened.second ∷ [])
+        (map seat_of_worker opened.workers.workers.items) }
     requires fresh { (m : ℕ) → (ledger opened.second.ledgers m).sent ≡ [] }
-    ensures { let c : CommitCall = record { thread = result.thread; branches = branches.now; desk = result.made.before.value; new = result.made.after.value.ledgers; log = result.made.log_before.value.state; later = result.made.log_after.value.state; done = result.made.done } in
-        let q : ResolveCall = record { thread = result.last.thread; scan = result.last.ended.scan.value; old = result.last.ended.before.value.ledgers; new = result.last.ended.after.value.ledgers; log = result.log.value.state; outcomes = result.last.ended.told.outcomes.items } in
+    ensures { let c : CommitCall = record {
+      thread = result.thread;
+      branches = branches.now;
+      desk = result.made.before.value;
+      new = result.made.after.value.ledgers;
+      log = result.made.log_before.value.state;
+      later = result.made.log_after.value.state;
+      done = result.made.done;
+    } in
+        let q : ResolveCall = record {
+          thread = result.last.thread;
+          scan = result.last.ended.scan.value;
+          old = result.last.ended.before.value.ledgers;
+          new = result.last.ended.after.value.ledgers;
+          log = result.log.value.state;
+          outcomes = result.last.ended.told.outcomes.items;
+        } in
         let o : Opening = record { settled = result.first.value; uses = commits c ∷ [] } in
         let between : Opening = record { settled = result.between.value; uses = [] } in
         let last : Opening = record { settled = result.last.settled; uses = resolves q ∷ [] } in
-        IsResolved o (between ∷ []) last c q × IsAllOrNone c o (between ∷ last ∷ []) × CountsOver c o (between ∷ last ∷ []) × CountsAllOrNone c o (between ∷ last ∷ []) }
+        IsResolved o (between ∷ []) last c q × IsAllOrNone c o (between ∷ last ∷ [])
+        × CountsOver c o (between ∷ last ∷ []) × CountsAllOrNone c o (between ∷ last ∷ []) }
 {
     resolved_transactions_have_one_outcome();
     resolved_transactions_count_where_committed();

@@ -2,7 +2,8 @@
 //! proof of this caller, what the commit told of its branches is what became of them.
 ghost use Rattle.std.specs.Prelude.{◌≡◌, ◌∷◌, [], map};
 ghost use Rattle.xa_switch.specs.Fates.{ledgers_of};
-ghost use Rattle.xa_switch.specs.Seats.{ComeFromOpenings, desk_seats, worker_seats, seat_of_desk, seat_of_ended, seat_of_worker, seat_of_done};
+ghost use Rattle.xa_switch.specs.Seats.{ComeFromOpenings, desk_seats, worker_seats, seat_of_desk, seat_of_ended};
+ghost use Rattle.xa_switch.specs.Seats.{seat_of_worker, seat_of_done};
 ghost use Rattle.xa_desk.specs.Growth.{HaveGrown};
 ghost use Rattle.xa_driver.specs.Trace.{IsCommit};
 ghost use Rattle.xa_driver.specs.Outcomes.{AreLeftOrDecided, KeepsTheVotes, TellsTheFates};
@@ -87,8 +88,12 @@ fn commit_and_settle<R: Wait + Abort>(
     branches: &[Branch; 2],
 ) -> Told
     requires { ComeFromOpenings (seat_of_desk opened.desk ∷ []) (map seat_of_worker opened.workers.workers.items) }
-    ensures votes { AreLeftOrDecided result.settled result.thread branches.now result.made.before.value.ledgers result.made.after.value.ledgers → KeepsTheVotes result.settled result.thread branches.now result.made.before.value.ledgers result.made.done }
-    ensures fates { AreLeftOrDecided result.settled result.thread branches.now result.made.before.value.ledgers result.made.after.value.ledgers → TellsTheFates result.settled result.thread branches.now result.made.before.value.ledgers result.made.done }
+    ensures votes { AreLeftOrDecided result.settled result.thread branches.now result.made.before.value.ledgers
+        result.made.after.value.ledgers → KeepsTheVotes result.settled result.thread branches.now
+        result.made.before.value.ledgers result.made.done }
+    ensures fates { AreLeftOrDecided result.settled result.thread branches.now result.made.before.value.ledgers
+        result.made.after.value.ledgers → TellsTheFates result.settled result.thread branches.now
+        result.made.before.value.ledgers result.made.done }
 {
     growth_goes_on();
     let Opened {

@@ -89,7 +89,8 @@ fn start_senders<R: Threads + Wait + Copy + Send + 'static>(
     senders: Vec<Sender<u32>>,
     count: u32,
 ) -> Option<Vec<PromisedHandle<Ended<u32>, EndOf>>>
-    ensures { IfSome result (λ handles. map (λ h. h.promise.0.value.line) handles.items ≡ map (λ s. s.line) senders.items) }
+    ensures { IfSome result (λ handles. map (λ h. h.promise.0.value.line) handles.items
+        ≡ map (λ s. s.line) senders.items) }
 {
     let mut handles = Vec::new(alloc);
     for sender in senders {

@@ -4,7 +4,8 @@
 //! come from their openings.
 ghost use Rattle.std.specs.Prelude.{◌≡◌, map};
 ghost use Rattle.xa_switch.specs.Settling.{IsSettled};
-ghost use Rattle.xa_switch.specs.Seats.{ComeFromOpenings, seat_of_desk, seat_of_ended, seat_of_worker, seat_of_done, desk_seats, worker_seats};
+ghost use Rattle.xa_switch.specs.Seats.{ComeFromOpenings, seat_of_desk, seat_of_ended, seat_of_worker, seat_of_done};
+ghost use Rattle.xa_switch.specs.Seats.{desk_seats, worker_seats};
 
 mod reopening;
 mod turns;

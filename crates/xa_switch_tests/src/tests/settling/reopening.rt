@@ -77,7 +77,8 @@ impl Opened {
         flags: u32,
     ) -> i32
         ensures desks { map seat_of_desk self.new.desks.items ≡ map seat_of_desk self.old.desks.items }
-        ensures workers { map seat_of_worker self.new.workers.all.items ≡ map seat_of_worker self.old.workers.all.items }
+        ensures workers { map seat_of_worker self.new.workers.all.items
+            ≡ map seat_of_worker self.old.workers.all.items }
     {
         assert!(rt; before < self.desks.len());
         recovers(
@@ -108,7 +109,8 @@ fn recovers<R: Wait, I: Idle>(
 // The thread must have the manager open, and a scan must be open.
 fn refused<R: Wait + Abort>(rt: &R, opened: &mut Opened, scan: &mut Scan)
     ensures desks { map seat_of_desk opened.new.desks.items ≡ map seat_of_desk opened.old.desks.items }
-    ensures workers { map seat_of_worker opened.new.workers.all.items ≡ map seat_of_worker opened.old.workers.all.items }
+    ensures workers { map seat_of_worker opened.new.workers.all.items
+        ≡ map seat_of_worker opened.old.workers.all.items }
 {
     let mut page = [xid(rt, b"none")];
     let unopened = opened.recover(rt, 0, scan, &mut page, TMSTARTRSCAN);
@@ -125,7 +127,8 @@ fn refused<R: Wait + Abort>(rt: &R, opened: &mut Opened, scan: &mut Scan)
 
 fn one_by_one<R: Wait + Abort>(rt: &R, opened: &mut Opened, scan: &mut Scan)
     ensures desks { map seat_of_desk opened.new.desks.items ≡ map seat_of_desk opened.old.desks.items }
-    ensures workers { map seat_of_worker opened.new.workers.all.items ≡ map seat_of_worker opened.old.workers.all.items }
+    ensures workers { map seat_of_worker opened.new.workers.all.items
+        ≡ map seat_of_worker opened.old.workers.all.items }
 {
     let (g, h) = (xid(rt, b"g"), xid(rt, b"hh"));
     let mut page = [xid(rt, b"none")];
@@ -142,7 +145,8 @@ fn one_by_one<R: Wait + Abort>(rt: &R, opened: &mut Opened, scan: &mut Scan)
 // With room for none, which begins a scan, then for more than there are, and then for as many.
 fn all_at_once<R: Wait + Abort>(rt: &R, opened: &mut Opened, scan: &mut Scan)
     ensures desks { map seat_of_desk opened.new.desks.items ≡ map seat_of_desk opened.old.desks.items }
-    ensures workers { map seat_of_worker opened.new.workers.all.items ≡ map seat_of_worker opened.old.workers.all.items }
+    ensures workers { map seat_of_worker opened.new.workers.all.items
+        ≡ map seat_of_worker opened.old.workers.all.items }
 {
     let (g, h) = (xid(rt, b"g"), xid(rt, b"hh"));
     let none = xid(rt, b"none");
@@ -160,7 +164,8 @@ fn all_at_once<R: Wait + Abort>(rt: &R, opened: &mut Opened, scan: &mut Scan)
 // Another thread has a scan of its own; a branch that ends between two of its pages isn't listed.
 fn while_branches_end<R: Wait + Abort>(rt: &R, opened: &mut Opened, scan: &mut Scan)
     ensures desks { map seat_of_desk opened.new.desks.items ≡ map seat_of_desk opened.old.desks.items }
-    ensures workers { map seat_of_worker opened.new.workers.all.items ≡ map seat_of_worker opened.old.workers.all.items }
+    ensures workers { map seat_of_worker opened.new.workers.all.items
+        ≡ map seat_of_worker opened.old.workers.all.items }
 {
     let (g, h) = (xid(rt, b"g"), xid(rt, b"hh"));
     let mut page = [xid(rt, b"none")];

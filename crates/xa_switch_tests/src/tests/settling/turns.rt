@@ -24,7 +24,8 @@ impl Workers {
 }
 
 impl Idle for Workers {
-    ghost leads_by = { λ manager before after. map seat_of_worker after.all.items ≡ map seat_of_worker before.all.items };
+    ghost leads_by = { λ manager before after. map seat_of_worker after.all.items
+        ≡ map seat_of_worker before.all.items };
 
     ghost leads = { λ before after. map seat_of_worker after.all.items ≡ map seat_of_worker before.all.items };
 
@@ -65,7 +66,8 @@ impl Opened {
     // Thread `before + 1` does this.
     pub(super) fn play<R: Wait + Abort>(&mut self, rt: &R, before: usize, acts: &[Act])
         ensures desks { map seat_of_desk self.new.desks.items ≡ map seat_of_desk self.old.desks.items }
-        ensures workers { map seat_of_worker self.new.workers.all.items ≡ map seat_of_worker self.old.workers.all.items }
+        ensures workers { map seat_of_worker self.new.workers.all.items
+            ≡ map seat_of_worker self.old.workers.all.items }
     {
         assert!(rt; before < self.desks.len());
         play(rt, &mut self.desks[before], acts, &mut self.workers);

@@ -1,0 +1,18 @@
+use Rattle.std.proofs.Common.{◌≡◌, true, Some}
+use Rattle.std.specs.Prelude.{Ok}
+use Rattle.xa_words.specs.declared.request.Op.{Op}
+use Rattle.xa_desk.specs.GoesOn.{GoesOn}
+use Rattle.xa_desk.specs.Kept.{AllKept}
+use Rattle.xa_switch.specs.Asking.{asked_of}
+use Rattle.xa_bank.specs.Requests.{StaysSo}
+use Rattle.xa_bank.proofs.in_flight.put.Given as goal
+
+-- so far the queue was full, and nothing was done
+abbrev pub invariant-loop : goal.invariant-loop
+invariant-loop g l = record {
+  can : (goal.iterator-loop g).can_next l.iterator';
+  finite : (goal.iterator-loop g).is_finite l.iterator';
+  goes_on : GoesOn l.fn.desk l.desk;
+  kept : AllKept l.fn.desk → AllKept l.desk;
+  stays : (op : Op) → asked_of l.fn.call (Some l.branch.xid) l.fn.flags ≡ Ok (record { op = op; asynchronous = true }) → StaysSo l.fn.desk l.desk;
+}
