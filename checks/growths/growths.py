@@ -50,9 +50,6 @@ THINGS = {
     "missing": b"missing",
     "append": b"made",
     "commit": b"made",
-    "read": b"made",
-    "turns": b"made",
-    "threads": b"made",
 }
 
 

@@ -1,7 +1,7 @@
 //! Names of operations.
 
 /// An operation's name: its manager, from 1, and its number, from 0, among the requests of one thread to it.
-#[derive(Clone, Copy, Debug, PartialEq, Eq)]
+#[derive(Clone, Copy, PartialEq, Eq)]
 pub(crate) struct Operation {
     /// The manager that it was put to, from 1.
     pub(crate) manager: u32,

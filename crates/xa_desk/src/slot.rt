@@ -9,7 +9,7 @@ use slab::Slab;
 use xa_words::Code;
 
 /// An operation that was sent and not collected.
-#[derive(Clone, Copy, Debug)]
+#[derive(Clone, Copy)]
 pub(crate) struct Slot {
     /// The operation.
     pub(crate) operation: Operation,

@@ -13,7 +13,7 @@ use xa_desk::{Desk, Idle, Refused, Ticket};
 use xa_words::{Code, Op, Xid};
 
 /// What a manager is asked for a branch, if anything, the code that it answered, and the branch's vote.
-#[derive(Clone, Copy, Debug)]
+#[derive(Clone, Copy)]
 pub(crate) struct Ask {
     pub(crate) manager: u32,
     pub(crate) xid: Xid,

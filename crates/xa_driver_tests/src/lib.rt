@@ -1,6 +1,7 @@
-//! Tests of the coordinator, over its public surface. They are a crate of their own, since a crate is proved once more
-//! with its tests.
+//! Tests of the coordinator and of a caller, the bank, over their public surfaces.
 #![tactic(auto)]
 
 #[cfg(test)]
-mod tests;
+mod bank;
+#[cfg(test)]
+mod driver;

@@ -1,7 +1,8 @@
 -- Actions: what the threads do.
-use Rattle.std.specs.Prelude.{ℕ, pos, Bool, true, false, if◌then◌else◌, List, Option, Some, None, Result, Ok, Err}
-use Rattle.std.specs.Prelude.{codes}
+use Rattle.std.specs.Prelude.{ℕ, pos, Bool, true, false, if◌then◌else◌, List, [], ◌∷◌, Option, Some, None, Result}
+use Rattle.std.specs.Prelude.{Ok, Err, codes}
 use Rattle.std.specs.Option.{ok_or}
+use Rattle.std.specs.Map.{lookup}
 use Rattle.std.specs.Str.{bytes_eq}
 use Rattle.xa_words.specs.declared.flags.Call.TheVariants as call
 use Rattle.xa_words.specs.declared.request.RmOp.TheVariants as rm
@@ -21,24 +22,28 @@ use Rattle.xa_grammar.specs.Fields.{flags_onto}
 use Rattle.xa_grammar.specs.Content.{Content, threads_of, managers_of}
 use Rattle.xa_grammar.specs.Commits.{commit_of}
 
+-- The fourteen verbs.
+abbrev pub verbs : List (Word × Verb)
+verbs =
+    (codes "open", verb.Plain call.OpenRm)
+    ∷ (codes "close", verb.Plain call.CloseRm)
+    ∷ (codes "start", verb.OnBranch call.Start)
+    ∷ (codes "end", verb.OnBranch call.End)
+    ∷ (codes "prepare", verb.OnBranch call.Prepare)
+    ∷ (codes "commit", verb.OnBranch call.Commit)
+    ∷ (codes "rollback", verb.OnBranch call.Rollback)
+    ∷ (codes "forget", verb.OnBranch call.Forget)
+    ∷ (codes "heurcom", verb.Heur true)
+    ∷ (codes "heurrb", verb.Heur false)
+    ∷ (codes "add", verb.Add)
+    ∷ (codes "shut", verb.Shut)
+    ∷ (codes "complete", verb.Complete)
+    ∷ (codes "recover", verb.Recover)
+    ∷ []
+
 -- What T calls is one of fourteen verbs.
 abbrev pub verb_of : Word → Option Verb
-verb_of w =
-    if bytes_eq w (codes "open") then Some (verb.Plain call.OpenRm)
-    else if bytes_eq w (codes "close") then Some (verb.Plain call.CloseRm)
-    else if bytes_eq w (codes "start") then Some (verb.OnBranch call.Start)
-    else if bytes_eq w (codes "end") then Some (verb.OnBranch call.End)
-    else if bytes_eq w (codes "prepare") then Some (verb.OnBranch call.Prepare)
-    else if bytes_eq w (codes "commit") then Some (verb.OnBranch call.Commit)
-    else if bytes_eq w (codes "rollback") then Some (verb.OnBranch call.Rollback)
-    else if bytes_eq w (codes "forget") then Some (verb.OnBranch call.Forget)
-    else if bytes_eq w (codes "heurcom") then Some (verb.Heur true)
-    else if bytes_eq w (codes "heurrb") then Some (verb.Heur false)
-    else if bytes_eq w (codes "add") then Some verb.Add
-    else if bytes_eq w (codes "shut") then Some verb.Shut
-    else if bytes_eq w (codes "complete") then Some verb.Complete
-    else if bytes_eq w (codes "recover") then Some verb.Recover
-    else None
+verb_of w = lookup (bytes_eq w) verbs
 
 -- The words between M and the flags: none, XID, KEY DELTA, HANDLE, or COUNT, which is at most 64.
 unfoldable pub action_at : Verb → List Word → Result (Action × List Word) Reason

@@ -4,6 +4,7 @@ use Rattle.std.specs.Prelude.{[], ◌∷◌, length, fold, Option, Some, None, R
 use Rattle.std.specs.List.{list_all, before_first, after_first}
 use Rattle.std.specs.Option.{ok_or, option_map}
 use Rattle.std.specs.Char.{is_ascii_digit, is_ascii_lowercase}
+use Rattle.std.specs.Map.{lookup}
 use Rattle.std.specs.Str.{bytes_eq}
 use Rattle.xa_words.specs.Xid.{XidName}
 use Rattle.xa_words.specs.Tran.{TranName}
@@ -134,21 +135,25 @@ delta_at ws = field delta_in ws
 
 -- ---- flags
 
+-- Each flag word, and the flag of xa.h that it stands for.
+abbrev pub flag_words : List (Word × ℕ)
+flag_words =
+    (codes "async", TMASYNC)
+    ∷ (codes "onephase", TMONEPHASE)
+    ∷ (codes "fail", TMFAIL)
+    ∷ (codes "nowait", TMNOWAIT)
+    ∷ (codes "resume", TMRESUME)
+    ∷ (codes "success", TMSUCCESS)
+    ∷ (codes "suspend", TMSUSPEND)
+    ∷ (codes "startrscan", TMSTARTRSCAN)
+    ∷ (codes "endrscan", TMENDRSCAN)
+    ∷ (codes "multiple", TMMULTIPLE)
+    ∷ (codes "join", TMJOIN)
+    ∷ []
+
 -- Each flag word stands for a flag of xa.h.
 abbrev pub flag_of : Word → Option ℕ
-flag_of w =
-    if bytes_eq w (codes "async") then Some TMASYNC
-    else if bytes_eq w (codes "onephase") then Some TMONEPHASE
-    else if bytes_eq w (codes "fail") then Some TMFAIL
-    else if bytes_eq w (codes "nowait") then Some TMNOWAIT
-    else if bytes_eq w (codes "resume") then Some TMRESUME
-    else if bytes_eq w (codes "success") then Some TMSUCCESS
-    else if bytes_eq w (codes "suspend") then Some TMSUSPEND
-    else if bytes_eq w (codes "startrscan") then Some TMSTARTRSCAN
-    else if bytes_eq w (codes "endrscan") then Some TMENDRSCAN
-    else if bytes_eq w (codes "multiple") then Some TMMULTIPLE
-    else if bytes_eq w (codes "join") then Some TMJOIN
-    else None
+flag_of w = lookup (bytes_eq w) flag_words
 
 -- Flag words up to the end of the line are joined bit by bit to the flags before them.
 unfoldable pub flags_onto : ℕ → List Word → Result ℕ Reason

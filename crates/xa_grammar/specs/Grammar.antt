@@ -2,6 +2,7 @@
 use Rattle.std.specs.Prelude.{◌≡◌, ℕ, ◌+◌, Bool, false, not, ◌==◌, nat_lt, if◌then◌else◌, List, [], ◌∷◌, length, Option}
 use Rattle.std.specs.Prelude.{Some, None, Result, Ok, Err, codes}
 use Rattle.std.specs.List.{list_all}
+use Rattle.std.specs.Map.{lookup}
 use Rattle.std.specs.Str.{bytes_eq}
 use Rattle.xa_base.specs.declared.limits.TheConstants.{MOST_THREADS}
 use Rattle.xa_grammar.specs.declared.line.TheConstants.{LONGEST_LINE, MOST_LINES}
@@ -34,22 +35,27 @@ abbrev pub are_comment : List Word → Bool
 are_comment [] = false
 are_comment (w ∷ ws) = is_comment w
 
+-- The words that say what a line is; a comment and a line of a thread begin otherwise.
+abbrev pub heads : List (Word × Head)
+heads =
+    (codes "threads", head.Count Threads)
+    ∷ (codes "managers", head.Count Managers)
+    ∷ (codes "handles", head.Count Handles)
+    ∷ (codes "queue", head.Count Queue)
+    ∷ (codes "requests", head.Count Requests)
+    ∷ (codes "sync", head.Sync)
+    ∷ (codes "logfail", head.LogFail)
+    ∷ (codes "key", head.Key)
+    ∷ (codes "turn", head.Turn)
+    ∷ (codes "reopen", head.Reopen)
+    ∷ []
+
 -- The first word of a line tells what the line is.
 abbrev pub head_of : Word → Option Head
 head_of w =
     if is_comment w then Some head.Comment
-    else if bytes_eq w (codes "threads") then Some (head.Count Threads)
-    else if bytes_eq w (codes "managers") then Some (head.Count Managers)
-    else if bytes_eq w (codes "handles") then Some (head.Count Handles)
-    else if bytes_eq w (codes "queue") then Some (head.Count Queue)
-    else if bytes_eq w (codes "requests") then Some (head.Count Requests)
-    else if bytes_eq w (codes "sync") then Some head.Sync
-    else if bytes_eq w (codes "logfail") then Some head.LogFail
-    else if bytes_eq w (codes "key") then Some head.Key
-    else if bytes_eq w (codes "turn") then Some head.Turn
-    else if bytes_eq w (codes "reopen") then Some head.Reopen
     else if all_digits w then Some head.Thread
-    else None
+    else lookup (bytes_eq w) heads
 
 -- What the words w and ws of line n say; mode is whether threads run side by side.
 unfoldable pub item_by : Option Head → Bool → Content → ℕ → Word → List Word → Result Item Reason

@@ -6,7 +6,7 @@ ghost use Rattle.xa_grammar.specs.Actions.{turn_of, reopen_of};
 
 use crate::commit::{MOST_MANAGER, commit_step};
 use crate::fault::Reason;
-use crate::field::number_in;
+use crate::field::{meaning_in, number_in};
 use crate::heard::Heard;
 use crate::name::Name;
 use crate::script::{Resolve, Script};
@@ -21,7 +21,7 @@ const MOST_HANDLE: u64 = i32::MAX as u64;
 const MOST_COUNT: u64 = 64;
 
 /// The verb of a call, by what stands between the manager and the flags.
-#[derive(Clone, Copy, Debug)]
+#[derive(Clone, Copy)]
 pub(crate) enum Verb {
     /// Nothing: a call of XA that names no branch.
     Plain(Call),
@@ -39,26 +39,28 @@ pub(crate) enum Verb {
     Recover,
 }
 
+// The fourteen verbs.
+const VERBS: [(&[u8], Verb); 14] = [
+    (b"open", Verb::Plain(Call::OpenRm)),
+    (b"close", Verb::Plain(Call::CloseRm)),
+    (b"start", Verb::OnBranch(Call::Start)),
+    (b"end", Verb::OnBranch(Call::End)),
+    (b"prepare", Verb::OnBranch(Call::Prepare)),
+    (b"commit", Verb::OnBranch(Call::Commit)),
+    (b"rollback", Verb::OnBranch(Call::Rollback)),
+    (b"forget", Verb::OnBranch(Call::Forget)),
+    (b"heurcom", Verb::Heur(true)),
+    (b"heurrb", Verb::Heur(false)),
+    (b"add", Verb::Add),
+    (b"shut", Verb::Shut),
+    (b"complete", Verb::Complete),
+    (b"recover", Verb::Recover),
+];
+
 fn verb_of(word: &[u8]) -> Option<Verb>
     ensures { result ≡ verb_of word.now }
 {
-    match word {
-        b"open" => Some(Verb::Plain(Call::OpenRm)),
-        b"close" => Some(Verb::Plain(Call::CloseRm)),
-        b"start" => Some(Verb::OnBranch(Call::Start)),
-        b"end" => Some(Verb::OnBranch(Call::End)),
-        b"prepare" => Some(Verb::OnBranch(Call::Prepare)),
-        b"commit" => Some(Verb::OnBranch(Call::Commit)),
-        b"rollback" => Some(Verb::OnBranch(Call::Rollback)),
-        b"forget" => Some(Verb::OnBranch(Call::Forget)),
-        b"heurcom" => Some(Verb::Heur(true)),
-        b"heurrb" => Some(Verb::Heur(false)),
-        b"add" => Some(Verb::Add),
-        b"shut" => Some(Verb::Shut),
-        b"complete" => Some(Verb::Complete),
-        b"recover" => Some(Verb::Recover),
-        _ => None,
-    }
+    meaning_in(&VERBS, word)
 }
 
 // The words between the manager and the flags.

@@ -1,6 +1,8 @@
 //! What one word stands for.
 ghost use Rattle.std.specs.Prelude.{◌≡◌, ◌<◌, ◌≤◌, ◌==◌, IfOk, IfSome, length, option_map};
 ghost use Rattle.std.specs.List.{list_all, position_or_len};
+ghost use Rattle.std.specs.Map.{lookup};
+ghost use Rattle.std.specs.Str.{bytes_eq};
 ghost use Rattle.xa_words.specs.Tran.{tran_of};
 ghost use Rattle.xa_grammar.specs.Text.{dot};
 ghost use Rattle.xa_grammar.specs.Fields.{all_digits, number_of, number_in, is_name_byte, is_name, xid_of, tran_named};
@@ -13,6 +15,19 @@ use xa_words::{
     Delta, TMASYNC, TMENDRSCAN, TMFAIL, TMJOIN, TMMULTIPLE, TMNOWAIT, TMONEPHASE, TMRESUME,
     TMSTARTRSCAN, TMSUCCESS, TMSUSPEND,
 };
+
+// What a word stands for, by a table of words and what each of them stands for.
+pub(crate) fn meaning_in<T: Copy>(mut table: &[(&[u8], T)], word: &[u8]) -> Option<T>
+    ensures { result ≡ lookup (λ name. bytes_eq word.now name.now) table.entry.now }
+{
+    while let [(name, meaning), rest @ ..] = table {
+        if word == *name {
+            return Some(*meaning);
+        }
+        table = rest;
+    }
+    None
+}
 
 pub(crate) fn all_digits(word: &[u8]) -> bool
     ensures { result ≡ all_digits word.now }
@@ -124,22 +139,24 @@ pub(crate) fn delta_in(word: &[u8]) -> Result<Delta, Reason>
     Delta::new(amount).ok_or(Reason::OutOfRange)
 }
 
+// Each flag word, and the flag of `xa.h` that it stands for.
+const FLAG_WORDS: [(&[u8], u32); 11] = [
+    (b"async", TMASYNC),
+    (b"onephase", TMONEPHASE),
+    (b"fail", TMFAIL),
+    (b"nowait", TMNOWAIT),
+    (b"resume", TMRESUME),
+    (b"success", TMSUCCESS),
+    (b"suspend", TMSUSPEND),
+    (b"startrscan", TMSTARTRSCAN),
+    (b"endrscan", TMENDRSCAN),
+    (b"multiple", TMMULTIPLE),
+    (b"join", TMJOIN),
+];
+
 // The flag of `xa.h` that a flag word stands for.
 pub(crate) fn flag_of(word: &[u8]) -> Option<u32>
     ensures { result ≡ flag_of word.now }
 {
-    match word {
-        b"async" => Some(TMASYNC),
-        b"onephase" => Some(TMONEPHASE),
-        b"fail" => Some(TMFAIL),
-        b"nowait" => Some(TMNOWAIT),
-        b"resume" => Some(TMRESUME),
-        b"success" => Some(TMSUCCESS),
-        b"suspend" => Some(TMSUSPEND),
-        b"startrscan" => Some(TMSTARTRSCAN),
-        b"endrscan" => Some(TMENDRSCAN),
-        b"multiple" => Some(TMMULTIPLE),
-        b"join" => Some(TMJOIN),
-        _ => None,
-    }
+    meaning_in(&FLAG_WORDS, word)
 }

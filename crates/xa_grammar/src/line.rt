@@ -8,7 +8,7 @@ ghost use Rattle.xa_grammar.specs.Grammar.{FailsAt};
 
 use crate::action::{reopen_of, step_of_thread, turn_of};
 use crate::fault::{Reason, ScriptFault};
-use crate::field::all_digits;
+use crate::field::{all_digits, meaning_in};
 use crate::heard::Heard;
 use crate::script::{Count, Declared, Script};
 use crate::setting::{declared_of, logfail_of, setting_of, sync_of};
@@ -23,7 +23,7 @@ pub(crate) const MOST_LINES: u32 = 100_000;
 pub(crate) const LONGEST_LINE: usize = 512;
 
 /// What the first word of a line says that the line is.
-#[derive(Clone, Copy, Debug)]
+#[derive(Clone, Copy)]
 pub(crate) enum Head {
     Comment,
     Count(Count),
@@ -34,6 +34,20 @@ pub(crate) enum Head {
     Reopen,
     Thread,
 }
+
+// The words that say what a line is; a comment and a line of a thread begin otherwise.
+const HEADS: [(&[u8], Head); 10] = [
+    (b"threads", Head::Count(Count::Threads)),
+    (b"managers", Head::Count(Count::Managers)),
+    (b"handles", Head::Count(Count::Handles)),
+    (b"queue", Head::Count(Count::Queue)),
+    (b"requests", Head::Count(Count::Requests)),
+    (b"sync", Head::Sync),
+    (b"logfail", Head::LogFail),
+    (b"key", Head::Key),
+    (b"turn", Head::Turn),
+    (b"reopen", Head::Reopen),
+];
 
 /// What a line adds to a script.
 #[derive(Drop)]
@@ -57,19 +71,7 @@ fn head_of(word: &[u8]) -> Option<Head>
     if all_digits(word) {
         return Some(Head::Thread);
     }
-    match word {
-        b"threads" => Some(Head::Count(Count::Threads)),
-        b"managers" => Some(Head::Count(Count::Managers)),
-        b"handles" => Some(Head::Count(Count::Handles)),
-        b"queue" => Some(Head::Count(Count::Queue)),
-        b"requests" => Some(Head::Count(Count::Requests)),
-        b"sync" => Some(Head::Sync),
-        b"logfail" => Some(Head::LogFail),
-        b"key" => Some(Head::Key),
-        b"turn" => Some(Head::Turn),
-        b"reopen" => Some(Head::Reopen),
-        _ => None,
-    }
+    meaning_in(&HEADS, word)
 }
 
 #[tactic(auto, unfolding(crate::specs::Grammar::item_by))]

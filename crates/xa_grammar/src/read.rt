@@ -32,9 +32,9 @@ struct Reading {
 }
 
 impl Reading {
-    ghost use Rattle.std.specs.Prelude.{◌≡◌, true, [], ◌∷◌, ◌++◌, OnOk, IfOk, IfErr};
+    ghost use Rattle.std.specs.Prelude.{◌≡◌, true, [], ◌∷◌, ◌++◌, OnOk, IfOk, IfErr, IfSome};
     ghost use Rattle.xa_grammar.specs.Text.{line_feed, HasNoEnd};
-    ghost use Rattle.xa_grammar.specs.Grammar.{Reads};
+    ghost use Rattle.xa_grammar.specs.Grammar.{Reads, Fails};
     ghost use Rattle.xa_grammar.specs.Content.{AreOfOne};
     ghost use Rattle.xa_grammar.specs.Reading.{goes_on, IsFresh, HasTaken, StaysOne, FailsOn};
 
@@ -113,6 +113,26 @@ impl Reading {
         self.take_part(rest)
     }
 
+    // Takes all that is left to read.
+    fn take_all<R: Read>(&mut self, reader: &mut R) -> Result<(), ScriptFault>
+        ensures ok { OnOk result (IfSome (R.remaining reader.old) (λ bytes.
+            goes_on self.old bytes ≡ goes_on self.new [])) }
+        ensures err { IfErr result (λ fault. IfSome (R.remaining reader.old) (λ bytes.
+            Fails fault (goes_on self.old bytes))) }
+        ensures one { OnOk result (StaysOne self.old self.new) }
+    {
+        let mut chunk = [0; CHUNK];
+        for _ in 0..u64::MAX {
+            let count = reader.read(&mut chunk).map_err(|_| ScriptFault::Read)?;
+            if count == 0 {
+                return Ok(());
+            }
+            self.take_chunk(&chunk[..count])?;
+        }
+        // The reader has no end.
+        Err(ScriptFault::Read)
+    }
+
     // Takes the last line, which may lack its line feed.
     fn finish(self) -> Result<Script, ScriptFault>
         ensures reads { Reads result (goes_on self []) }
@@ -149,14 +169,6 @@ pub fn read_script<R: Read>(
     ensures one { threads_mode ≡ true → IfOk result (λ s. AreOfOne s.steps) }
 {
     let mut reading = Reading::new(alloc, threads_mode)?;
-    let mut chunk = [0; CHUNK];
-    for _ in 0..u64::MAX {
-        let count = reader.read(&mut chunk).map_err(|_| ScriptFault::Read)?;
-        if count == 0 {
-            return reading.finish();
-        }
-        reading.take_chunk(&chunk[..count])?;
-    }
-    // The reader has no end.
-    Err(ScriptFault::Read)
+    reading.take_all(reader)?;
+    reading.finish()
 }

@@ -16,7 +16,7 @@ use std::sync::Arc;
 use xa_words::{Call, Key, RmOp, Tran, Xid};
 
 /// A count that a line of its own sets.
-#[derive(Clone, Copy, Debug, PartialEq, Eq)]
+#[derive(Clone, Copy)]
 pub(crate) enum Count {
     Threads,
     Managers,
@@ -26,7 +26,7 @@ pub(crate) enum Count {
 }
 
 /// The counts that are set; what isn't has its default.
-#[derive(Clone, Copy, Debug, PartialEq, Eq)]
+#[derive(Clone, Copy, Debug)]
 pub(crate) struct Settings {
     pub(crate) threads: Option<u32>,
     pub(crate) managers: Option<u32>,

@@ -11,7 +11,6 @@ mod commits;
 mod openings;
 mod pieces;
 mod reopening;
-mod scripts;
 mod settling;
 mod thing;
 
@@ -22,11 +21,10 @@ use std::io::{self, Write};
 use std::process::ExitCode;
 use std::rt::Env;
 use std::sync::Wait;
-use std::thread::Threads;
 use thing::{Thing, do_it};
 
 // Does the thing of this name, and tells what came of it. None where there is no such thing.
-fn tell<R: Threads + Wait + Copy + Send + 'static, W: Write>(
+fn tell<R: Wait, W: Write>(
     rt: &R,
     alloc: Global,
     name: &str,

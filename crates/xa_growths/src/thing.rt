@@ -3,13 +3,10 @@ use crate::commits::{Committer, append};
 use crate::openings::plan_of;
 use crate::pieces::{desk_memory, lane, new_manager, switch, worker_memory};
 use crate::reopening::{Resolver, open_again, settled};
-use crate::scripts::{in_threads, in_turns, read, script};
 use std::alloc::Global;
 use std::io::{self, Write};
 use std::sync::Wait;
-use std::thread::Threads;
 use xa_driver::MemoryLog;
-use xa_script::Script;
 use xa_switch::{Plan, Settled};
 
 /// What came of a thing.
@@ -52,9 +49,6 @@ pub(crate) enum Thing {
     Resolve(Resolver),
     Append(MemoryLog),
     Commit(Committer),
-    Read,
-    RunInTurns(Script),
-    RunInThreads(Script),
 }
 
 impl Thing {
@@ -70,20 +64,13 @@ impl Thing {
             "resolve" => Thing::Resolve(Resolver::new(rt, alloc)?),
             "append" => Thing::Append(MemoryLog::new(alloc)),
             "commit" => Thing::Commit(Committer::new(rt, alloc)?),
-            "read" => Thing::Read,
-            "turns" => Thing::RunInTurns(script(alloc, false)?),
-            "threads" => Thing::RunInThreads(script(alloc, true)?),
             _ => return None,
         };
         Some(thing)
     }
 
     // Does it, and tells what came of it.
-    fn attempt<R: Threads + Wait + Copy + Send + 'static>(
-        &mut self,
-        rt: &R,
-        alloc: Global,
-    ) -> Came {
+    fn attempt<R: Wait>(&mut self, rt: &R, alloc: Global) -> Came {
         match self {
             Thing::Manager => new_manager(alloc),
             Thing::Lane => lane(rt, alloc),
@@ -94,9 +81,6 @@ impl Thing {
             Thing::Resolve(resolver) => resolver.resolve(rt, alloc),
             Thing::Append(log) => append(log),
             Thing::Commit(committer) => committer.commit(rt, alloc),
-            Thing::Read => read(alloc),
-            Thing::RunInTurns(script) => in_turns(rt, alloc, script),
-            Thing::RunInThreads(script) => in_threads(rt, alloc, script),
         }
     }
 }
@@ -112,7 +96,7 @@ pub(crate) fn tell<W: Write>(out: &mut W, came: Came) -> io::Result<()> {
 }
 
 /// Does the thing, once more where memory was refused, and tells what came of it each time.
-pub(crate) fn do_it<R: Threads + Wait + Copy + Send + 'static, W: Write>(
+pub(crate) fn do_it<R: Wait, W: Write>(
     rt: &R,
     alloc: Global,
     thing: &mut Thing,

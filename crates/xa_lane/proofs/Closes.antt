@@ -88,3 +88,11 @@ module _ {T : Type 0} where
   marked_as made got taken held ends v left e g l tie =
       let t : Tied (map told_of ends) (taken ++ held) = subst (λ g. Tied (map told_of ends) (g ++ held)) g (subst (λ v. Tied (told_in v) (taken_in v ++ held)) e tie) in
       let m = marked ends taken held t in (m.0, l ∙ m.1, m.2)
+
+  -- what a pass knows, by its own parts
+  pub knows_itself : (made : ℕ) (got : List (Parcel T)) (told : List (Log T)) (v : View T) → v ≡ Receives made got told → v ≡ Receives (made_in v) (taken_in v) (told_in v)
+  knows_itself made got told v e = subst (λ (v : View T). v ≡ Receives (made_in v) (taken_in v) (told_in v)) (sym e) refl
+
+  -- the same of one that took no sender in
+  pub knows_no_end : (made : ℕ) (v : View T) → v ≡ Receives made (taken_in v) [] → v ≡ Receives (made_in v) (taken_in v) []
+  knows_no_end made v e = e ∙ ap (λ n. Receives n (taken_in v) []) (sym (ap made_in e))

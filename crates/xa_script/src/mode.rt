@@ -1,7 +1,7 @@
 //! The ways in which a script is run.
 
 /// How a script is run.
-#[derive(Clone, Copy, Debug, PartialEq, Eq)]
+#[derive(Clone, Copy, PartialEq, Eq)]
 pub(crate) enum Mode {
     /// In one thread, in which the workers take turns.
     Turns,

@@ -1,5 +1,9 @@
-//! Tests of runs and of the program, over the public surface of xa_script.
+//! Tests of how scripts are read, run and shown, over the public surfaces of xa_grammar, xa_transcript and xa_script.
 #![tactic(auto)]
 
 #[cfg(test)]
-mod tests;
+mod grammar;
+#[cfg(test)]
+mod script;
+#[cfg(test)]
+mod transcript;

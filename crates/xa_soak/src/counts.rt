@@ -2,7 +2,7 @@
 use std::fmt;
 
 /// How often a thread did what.
-#[derive(Clone, Copy, Debug, Default)]
+#[derive(Clone, Copy, Default)]
 pub(crate) struct Counts {
     /// Calls that were put to a manager.
     pub(crate) calls: u32,

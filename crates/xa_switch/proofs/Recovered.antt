@@ -1,15 +1,18 @@
 -- What a scan does to a desk, and what it writes.
-use Rattle.std.proofs.Common.{◌≡◌, ℕ, zero, suc, false, ◌+◌, ◌-◌, ◌<◌, Some, Result, List, [], ◌∷◌, ◌++◌, length, take, drop, set, refl, sym, ap, ◌∙◌, subst, arith, length-append, append_assoc}
-use Rattle.std.specs.Prelude.{slice_get}
+use Rattle.std.proofs.Common.{◌≡◌, ℕ, zero, suc, true, false, Option, None, ◌+◌, ◌-◌, ◌<◌, Some, Result, List, [], ◌∷◌, ◌++◌, length, take, drop, set, refl, sym, ap, ◌∙◌, subst, arith, length-append, append_assoc}
+use Rattle.std.specs.Prelude.{is_some, option_map, slice_get}
 use Rattle.std.proofs.lemmas.List.{length-drop, take_all}
 use Rattle.xa_words.specs.Xid.{XidName}
 use Rattle.xa_words.specs.declared.code.Code.{Code}
 use Rattle.xa_words.specs.declared.code.Code.TheVariants.{Done, Nota}
 use Rattle.xa_words.specs.declared.request.Op.{Op}
 use Rattle.xa_words.specs.declared.request.Op.TheVariants.{Listed}
-use Rattle.xa_desk.specs.DeskView.{DeskView}
+use Rattle.xa_desk.specs.declared.refused.Refused.{Refused}
+use Rattle.xa_desk.specs.declared.refused.Refused.TheVariants.{NoSuchManager, Shut, TooMany, Spent, Full}
+use Rattle.xa_desk.specs.DeskView.{DeskView, call_refusal}
 use Rattle.xa_desk.specs.Kept.{AllKept}
 use Rattle.xa_desk.specs.Lanes.{after_fulls}
+use Rattle.xa_switch.specs.Putting.{code_of, put_refusal}
 use Rattle.xa_switch.specs.Scans.{Asking, Answers, refused, answered, Looks, finds, passes, Scans, written}
 use Rattle.xa_switch.proofs.Kept.{answered_keep, fulls_kept, fulls_ledgers, known_here}
 
@@ -17,6 +20,20 @@ use Rattle.xa_switch.proofs.Kept.{answered_keep, fulls_kept, fulls_ledgers, know
 pub asked_keep : (old new : DeskView) (m : ℕ) (op : Op) (code : Code) → Answers m old op new code → AllKept old → AllKept new
 asked_keep old new m op code (refused why same) all = subst AllKept (sym same) all
 asked_keep old new m op code (answered none n is) all = answered_keep old (after_fulls n old m) new m op code (fulls_ledgers n old m) (fulls_kept n old m) (known_here old m false none) is all
+
+-- no refusal has the code XA_OK
+not_done : {A : Type 0} (i j : A) (why : Option Refused) (code : Code) → option_map code_of why ≡ Some code → code ≡ Done → i ≡ j
+not_done i j None code fails done = absurd (cc)
+not_done i j (Some NoSuchManager) code fails done = absurd (cc)
+not_done i j (Some Shut) code fails done = absurd (cc)
+not_done i j (Some TooMany) code fails done = absurd (cc)
+not_done i j (Some Spent) code fails done = absurd (cc)
+not_done i j (Some Full) code fails done = absurd (cc)
+
+-- a manager that answered XA_OK wasn't refused, so what is said of a refusal holds
+pub done_refuses_none : {A : Type 0} (i j : A) (old new : DeskView) (m : ℕ) (op : Op) (code : Code) → Answers m old op new code → code ≡ Done → is_some (put_refusal old m false) ≡ true → i ≡ j
+done_refuses_none i j old new m op code (refused why same) done some = not_done i j (call_refusal old m) code why done
+done_refuses_none i j old new m op code (answered none n is) done some = let e = ap is_some none in absurd (cc)
 
 -- ---- what is written
 

@@ -5,7 +5,7 @@ ghost use Rattle.xa_switch.specs.Asking.{asked_of, native, rm_op};
 use xa_words::{Call, Code, Op, RmOp, TMASYNC, TMNOFLAGS, Xid, check_flags};
 
 /// A request that a call asks for.
-#[derive(Clone, Copy, Debug, PartialEq, Eq)]
+#[derive(Clone, Copy)]
 pub(crate) struct Asked {
     pub(crate) op: Op,
     /// `TMASYNC`

@@ -1,6 +1,7 @@
-//! Tests of the switch, over its public surface. They are a crate of their own, since a crate is proved once more with
-//! its tests.
+//! Tests of the switch and of crews, over their public surfaces.
 #![tactic(auto)]
 
 #[cfg(test)]
-mod tests;
+mod crew;
+#[cfg(test)]
+mod switch;

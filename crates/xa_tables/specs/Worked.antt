@@ -1,4 +1,4 @@
--- Worked histories of one branch, with the codes that its requests got.
+-- Worked histories of one branch, in one opening and in two, with the codes that its requests got.
 use Rattle.std.specs.Prelude.{pos, neg_ℤ, true, false, List, [], ◌∷◌, ◌++◌, codes}
 use Rattle.xa_words.specs.Xid.{XidName}
 use Rattle.xa_words.specs.declared.code.Code.{Code}
@@ -8,6 +8,8 @@ use Rattle.xa_words.specs.declared.request.Op.TheVariants.{Start, Add, End, Prep
 use Rattle.xa_words.specs.declared.request.StartHow.TheVariants.{Fresh}
 use Rattle.xa_words.specs.declared.request.EndHow.TheVariants.{Success, Fail}
 use Rattle.xa_words.specs.declared.request.Request.{Request}
+use Rattle.xa_tables.specs.History.{Fate, fate_in, Absent}
+use Rattle.xa_tables.specs.Openings.{reopened_fate}
 
 -- the branch g.1
 abbrev pub branch : XidName
@@ -60,3 +62,25 @@ decided = voted ++ entry (Heur branch true) Done ∷ entry (Rollback branch) Heu
 -- it votes yes and is rolled back by a heuristic decision, which is forgotten
 abbrev pub forgotten : List (Request × Code)
 forgotten = voted ++ entry (Heur branch false) Done ∷ entry (Forget branch) Done ∷ []
+
+-- ---- in two openings, one after the other
+
+-- the fate of the branch after both
+abbrev pub fate_after : List (Request × Code) → List (Request × Code) → Fate
+fate_after first second = fate_in branch (reopened_fate (fate_in branch Absent first)) second
+
+-- what the first opening left prepared is committed
+abbrev pub committed_later : List (Request × Code)
+committed_later = entry (Commit branch false) Done ∷ []
+
+-- or rolled back
+abbrev pub rolled_back_later : List (Request × Code)
+rolled_back_later = entry (Rollback branch) Done ∷ []
+
+-- what it left at work is gone
+abbrev pub gone_later : List (Request × Code)
+gone_later = entry (Commit branch false) Nota ∷ []
+
+-- what it left heuristically completed is forgotten
+abbrev pub forgotten_later : List (Request × Code)
+forgotten_later = entry (Forget branch) Done ∷ []

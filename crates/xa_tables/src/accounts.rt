@@ -21,14 +21,14 @@ use xa_base::{MOST_KEYS, MOST_VALUE};
 use xa_words::{Delta, Key, Xid};
 
 /// What a branch has added to a key.
-#[derive(Clone, Copy, Debug)]
+#[derive(Clone, Copy)]
 pub(crate) struct Hold {
     xid: Xid,
     amount: i64,
 }
 
 /// A declared key and its committed value. At most one branch at a time has touched it.
-#[derive(Clone, Copy, Debug)]
+#[derive(Clone, Copy)]
 pub(crate) struct Account {
     key: Key,
     value: i64,

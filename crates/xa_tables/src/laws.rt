@@ -23,6 +23,8 @@ ghost use Rattle.xa_tables.specs.Work.{AddsAsItWorks};
 ghost use Rattle.xa_tables.specs.Worth.{WorthIsMoved, HoldsItsAdditions, held_by};
 ghost use Rattle.xa_tables.specs.Worked.{branch, worked, voted, transferred, undone, overdrawn, unchanged, failed};
 ghost use Rattle.xa_tables.specs.Worked.{begun_again, decided, forgotten};
+ghost use Rattle.xa_tables.specs.Worked.{fate_after, committed_later, rolled_back_later, gone_later};
+ghost use Rattle.xa_tables.specs.Worked.{forgotten_later};
 
 /// What an opening leaves is what another may begin with, as the first begins with accounts alone; what is left stays
 /// left.
@@ -197,4 +199,14 @@ pub fn worked_fates()
     ensures begun_again { fate_in branch Absent begun_again ≡ Live }
     ensures decided { fate_in branch Absent decided ≡ HeurCommitted }
     ensures forgotten { fate_in branch Absent forgotten ≡ HeurRolledBack }
+{}
+
+/// The fates of the branch in two worked openings: what the first leaves prepared waits until the second commits it or
+/// rolls it back, what it leaves at work was rolled back, and a heuristic decision stands, also where it is forgotten.
+pub fn worked_fates_over_openings()
+    ensures waits { fate_after voted [] ≡ InDoubt }
+    ensures committed { fate_after voted committed_later ≡ Committed }
+    ensures rolled_back { fate_after voted rolled_back_later ≡ RolledBack }
+    ensures at_work { fate_after worked gone_later ≡ RolledBack }
+    ensures decided { fate_after decided forgotten_later ≡ HeurCommitted }
 {}

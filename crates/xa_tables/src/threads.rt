@@ -12,7 +12,7 @@ use std::marker::Model;
 use xa_words::Xid;
 
 /// Whether a thread has the manager open, and the branch that it is associated with.
-#[derive(Clone, Copy, Debug)]
+#[derive(Clone, Copy)]
 pub(crate) struct Thread {
     is_open: bool,
     association: Option<Association>,

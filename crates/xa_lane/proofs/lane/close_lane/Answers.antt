@@ -1,20 +1,72 @@
-use Rattle.std.proofs.Common.{◌≡◌, rules}
+use Rattle.std.proofs.Common.{◌≡◌, sym, ap, ◌∙◌, subst, refl}
+use Rattle.std.specs.List.{All}
 use Rattle.crossbeam_queue.specs.Passes.{view}
 use Rattle.xa_lane.specs.Order.{made_in, taken_in}
+use Rattle.xa_lane.specs.Ends.{Sending, Receiving, line_of}
 use Rattle.xa_lane.specs.Closing.{IsWhole}
-use Rattle.xa_lane.proofs.Closes.{covers_as, marked_as, known_as, conserves_of_ends, leaves_nothing}
+use Rattle.xa_lane.proofs.Closes.{covers_as, marked_as, known_as, conserves_of_ends, leaves_nothing, knows_itself, knows_no_end}
 use Rattle.xa_lane.proofs.lane.close_lane.Goals as goal
+
+pub returns-then-not-are_of-clause-why : goal.returns-then-not-are_of-clause-why
+returns-then-not-are_of-clause-why g c = λ all.
+    let lane = ap (λ (r : Receiving g.row.T.Denot). r.lane) c.receiver.view_is in
+    let no = c.if-not-are_of.ensures.1 (subst (λ n. All (λ (e : Sending g.row.T.Denot). e.lane ≡ n) c.args.ended.items) (sym lane) all) in
+    cc
+
+pub returns-then-not-are_of-clause-back : goal.returns-then-not-are_of-clause-back
+returns-then-not-are_of-clause-back g c = (refl, refl)
+
+pub returns-then-not-are_whole-clause-why : goal.returns-then-not-are_whole-clause-why
+returns-then-not-are_whole-clause-why g c =
+    let lane = ap (λ (r : Receiving g.row.T.Denot). r.lane) c.receiver.view_is in
+    let senders = ap (λ (r : Receiving g.row.T.Denot). r.senders) c.receiver.view_is in (
+      subst (λ n. All (λ (e : Sending g.row.T.Denot). e.lane ≡ n) c.args.ended.items) lane (c.if-not-are_of.ensures.0 refl),
+      λ whole. let no = c.if-not-are_whole.ensures.1 (subst (λ n. IsWhole n c.args.ended.items) (sym senders) whole) in cc,
+    )
+
+pub returns-then-not-are_whole-clause-back : goal.returns-then-not-are_whole-clause-back
+returns-then-not-are_whole-clause-back g c = (refl, refl)
+
+pub take_in-pass-requires-clause-pass : goal.take_in-pass-requires-clause-pass
+take_in-pass-requires-clause-pass g c =
+    let of_line = c.receiver.invariant.0 in
+    ((of_line.0 ∙ sym (ap line_of c.deref.ensures), of_line.1), knows_no_end _ _ c.receiver.invariant.1)
+
+-- each end has the receiver's lane, and so its line
+pub take_in-pass-requires-clause-ended : goal.take_in-pass-requires-clause-ended
+take_in-pass-requires-clause-ended g c = λ k d below.
+    let lane = ap (λ (r : Receiving g.row.T.Denot). r.lane) c.receiver.view_is in
+    let line = ap (λ (r : Receiving g.row.T.Denot). r.line) c.receiver.view_is in
+    c.requires k d below (c.if-not-are_of.ensures.0 refl k d below ∙ lane) ∙ sym line ∙ sym (ap line_of c.deref.ensures)
+
+pub drain-requires-clause-pass : goal.drain-requires-clause-pass
+drain-requires-clause-pass g c =
+    let of_line = c.take_in-pass.ensures.pass in
+    let same = ap line_of (c.deref.ensures ∙ sym c.deref-2.ensures) in
+    ((of_line.0 ∙ same, of_line.1), knows_itself _ _ _ _ c.take_in-pass.ensures.knows)
+
+pub drain-requires-clause-left : goal.drain-requires-clause-left
+drain-requires-clause-left g c = (c.receiver.invariant.3, c.receiver.invariant.4)
 
 pub drain-requires-clause-whole : goal.drain-requires-clause-whole
 drain-requires-clause-whole g c =
-    let whole : IsWhole c.args.receiver.senders c.args.ended.items = search rules in
-    let made : made_in (view c.receiver.inside.pass) ≡ c.args.receiver.senders = search rules in
+    let senders = ap (λ (r : Receiving g.row.T.Denot). r.senders) c.receiver.view_is in
+    let whole : IsWhole c.args.receiver.senders c.args.ended.items = subst (λ n. IsWhole n c.args.ended.items) senders (c.if-not-are_whole.ensures.0 refl) in
+    let made : made_in (view c.receiver.inside.pass) ≡ c.args.receiver.senders = ap made_in c.receiver.invariant.1 ∙ senders in
     covers_as _ _ _ _ _ c.take_in-pass.ensures.knows made whole
+
+pub returns-clause-whole : goal.returns-clause-whole
+returns-clause-whole g c =
+    let lane = ap (λ (r : Receiving g.row.T.Denot). r.lane) c.receiver.view_is in
+    let senders = ap (λ (r : Receiving g.row.T.Denot). r.senders) c.receiver.view_is in (
+      subst (λ n. All (λ (e : Sending g.row.T.Denot). e.lane ≡ n) c.args.ended.items) lane (c.if-not-are_of.ensures.0 refl),
+      subst (λ n. IsWhole n c.args.ended.items) senders (c.if-not-are_whole.ensures.0 refl),
+    )
 
 pub returns-clause-last : goal.returns-clause-last
 returns-clause-last g c =
     let d = c.drain.ensures in
-    let taken : taken_in (view c.receiver.inside.pass) ≡ c.args.receiver.taken = search rules in
+    let taken : taken_in (view c.receiver.inside.pass) ≡ c.args.receiver.taken = ap (λ (r : Receiving g.row.T.Denot). r.taken) c.receiver.view_is in
     marked_as _ _ _ d.0 _ _ _ c.take_in-pass.ensures.knows taken d.1 d.2
 
 pub returns-clause-conserves : goal.returns-clause-conserves
@@ -26,6 +78,7 @@ returns-clause-nothing g c = leaves_nothing _ _ _ (returns-clause-last g c)
 pub returns-clause-known : goal.returns-clause-known
 returns-clause-known g c =
     let d = c.drain.ensures in
-    let made : made_in (view c.receiver.inside.pass) ≡ c.args.receiver.senders = search rules in
-    let taken : taken_in (view c.receiver.inside.pass) ≡ c.args.receiver.taken = search rules in
+    let senders = ap (λ (r : Receiving g.row.T.Denot). r.senders) c.receiver.view_is in
+    let made : made_in (view c.receiver.inside.pass) ≡ c.args.receiver.senders = ap made_in c.receiver.invariant.1 ∙ senders in
+    let taken : taken_in (view c.receiver.inside.pass) ≡ c.args.receiver.taken = ap (λ (r : Receiving g.row.T.Denot). r.taken) c.receiver.view_is in
     known_as _ _ _ _ d.0 _ _ _ c.take_in-pass.ensures.knows made taken d.1 d.3

@@ -44,3 +44,48 @@ returns-in-Err-call-clause-puts g c =
     let why = c.in-Err-call.why in
     let some : call_refusal c.args.desk.now c.args.manager ≡ Some why = its_refusal (Err why) why _ refl c.in-Err-call.ensures.refused c.in-Err-call.ensures.answered in
     refused (code_of why) (subst (λ b. put_refusal c.args.desk.now c.args.manager b ≡ Some (code_of why)) (sym c.if-asked.false) (ap (option_map code_of) some)) (told ∙ c.value-in-Err-call.ensures ∙ ap number_of c.code_of.ensures) c.in-Err-call.ensures.unchanged
+
+pub returns-in-Ok-clause-goes_on : goal.returns-in-Ok-clause-goes_on
+returns-in-Ok-clause-goes_on g c = c.put_later.ensures.goes_on
+
+pub returns-in-Ok-clause-tickets : goal.returns-in-Ok-clause-tickets
+returns-in-Ok-clause-tickets g c = c.put_later.ensures.tickets
+
+pub returns-in-Ok-clause-idled : goal.returns-in-Ok-clause-idled
+returns-in-Ok-clause-idled g c = g.met.I.Idle.leads_start _
+
+pub returns-in-Ok-clause-prompt : goal.returns-in-Ok-clause-prompt
+returns-in-Ok-clause-prompt g c = λ _. refl
+
+pub returns-in-Err-clause-goes_on : goal.returns-in-Err-clause-goes_on
+returns-in-Err-clause-goes_on g c = c.put_later.ensures.goes_on
+
+pub returns-in-Err-clause-tickets : goal.returns-in-Err-clause-tickets
+returns-in-Err-clause-tickets g c = c.put_later.ensures.tickets
+
+pub returns-in-Err-clause-idled : goal.returns-in-Err-clause-idled
+returns-in-Err-clause-idled g c = g.met.I.Idle.leads_start _
+
+pub returns-in-Err-clause-prompt : goal.returns-in-Err-clause-prompt
+returns-in-Err-clause-prompt g c = λ _. refl
+
+pub returns-in-Ok-call-clause-goes_on : goal.returns-in-Ok-call-clause-goes_on
+returns-in-Ok-call-clause-goes_on g c = c.call.ensures.goes_on
+
+pub returns-in-Ok-call-clause-tickets : goal.returns-in-Ok-call-clause-tickets
+returns-in-Ok-call-clause-tickets g c = c.call.ensures.tickets
+
+pub returns-in-Ok-call-clause-idled : goal.returns-in-Ok-call-clause-idled
+returns-in-Ok-call-clause-idled g c = c.call.ensures.idled
+
+pub returns-in-Err-call-clause-goes_on : goal.returns-in-Err-call-clause-goes_on
+returns-in-Err-call-clause-goes_on g c = c.call.ensures.goes_on
+
+pub returns-in-Err-call-clause-tickets : goal.returns-in-Err-call-clause-tickets
+returns-in-Err-call-clause-tickets g c = c.call.ensures.tickets
+
+pub returns-in-Err-call-clause-idled : goal.returns-in-Err-call-clause-idled
+returns-in-Err-call-clause-idled g c = c.call.ensures.idled
+
+pub returns-in-Err-call-clause-prompt : goal.returns-in-Err-call-clause-prompt
+returns-in-Err-call-clause-prompt g c = λ _. c.in-Err-call.ensures.idle_stays

@@ -1,7 +1,7 @@
-use Rattle.std.proofs.Common.{◌≡◌, ◌+◌, Ok, Err, refl, sym, ap, ◌∙◌, subst}
+use Rattle.std.proofs.Common.{◌≡◌, ◌+◌, Ok, Err, refl, sym, ap, ◌∙◌, subst, arith}
 use Rattle.xa_base.proofs.Truth.{at_true, at_false}
 use Rattle.xa_switch.specs.Scans.{Answers, Recovers, unreached, stopped, told, room_in, left_at, standing, end_of}
-use Rattle.xa_switch.proofs.Recovered.{scanned_from}
+use Rattle.xa_switch.proofs.Recovered.{scanned_from, done_refuses_none}
 use Rattle.xa_switch.proofs.recovering.recover_from.Goals as goal
 use Rattle.xa_switch.proofs.recovering.recover_from.Goals.{then-mode, else-mode}
 
@@ -38,3 +38,39 @@ returns-in-Err-clause-recovers g c =
     stopped c.ask.new.desk found c.in-Err.why c.in-Done.ensures.answers
     (scanned_from (Answers m) (room_in c.args.xids.now) place c.left.result.now (left_at c.args.scan.now m) c.ask.new.desk c.look.new.desk found (Err c.in-Err.why) c.room_in-room.result c.room_in-room.ensures.room c.left.ensures scans)
     refl written
+
+pub returns-after-mode-clause-bound : goal.returns-after-mode-clause-bound
+returns-after-mode-clause-bound g c =
+    let few = c.in-Ok.ensures.bound in
+    let room = c.room_in-room.ensures.told in
+    omega (arith, few, room)
+
+pub returns-after-mode-clause-goes_on : goal.returns-after-mode-clause-goes_on
+returns-after-mode-clause-goes_on g c = c.desks_go_on.ensures.further _ _ _ c.ask.ensures.goes_on c.look.ensures.goes_on
+
+pub returns-after-mode-clause-tickets : goal.returns-after-mode-clause-tickets
+returns-after-mode-clause-tickets g c = λ t owned. c.look.ensures.tickets t (c.ask.ensures.tickets t owned)
+
+pub returns-after-mode-clause-idled : goal.returns-after-mode-clause-idled
+returns-after-mode-clause-idled g c = g.met.I.Idle.leads_chain _ _ _ c.ask.ensures.idled c.look.ensures.idled
+
+pub returns-after-mode-clause-kept : goal.returns-after-mode-clause-kept
+returns-after-mode-clause-kept g c = λ all. c.look.ensures.kept (c.ask.ensures.kept all)
+
+pub returns-in-Err-clause-goes_on : goal.returns-in-Err-clause-goes_on
+returns-in-Err-clause-goes_on g c = c.desks_go_on.ensures.further _ _ _ c.ask.ensures.goes_on c.look.ensures.goes_on
+
+pub returns-in-Err-clause-tickets : goal.returns-in-Err-clause-tickets
+returns-in-Err-clause-tickets g c = λ t owned. c.look.ensures.tickets t (c.ask.ensures.tickets t owned)
+
+pub returns-in-Err-clause-idled : goal.returns-in-Err-clause-idled
+returns-in-Err-clause-idled g c = g.met.I.Idle.leads_chain _ _ _ c.ask.ensures.idled c.look.ensures.idled
+
+pub returns-in-Err-clause-kept : goal.returns-in-Err-clause-kept
+returns-in-Err-clause-kept g c = λ all. c.look.ensures.kept (c.ask.ensures.kept all)
+
+pub returns-in-Err-clause-prompt : goal.returns-in-Err-clause-prompt
+returns-in-Err-clause-prompt g c = done_refuses_none _ _ _ _ _ _ _ c.ask.ensures.answers c.in-Done.is
+
+pub returns-after-mode-clause-prompt : goal.returns-after-mode-clause-prompt
+returns-after-mode-clause-prompt g c = done_refuses_none _ _ _ _ _ _ _ c.ask.ensures.answers c.in-Done.is

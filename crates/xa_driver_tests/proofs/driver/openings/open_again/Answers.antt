@@ -1,0 +1,8 @@
+use Rattle.std.proofs.Common.{sym, subst, arith}
+use Rattle.std.specs.List.{All}
+use Rattle.xa_switch.specs.Recovery.{IsScanOf}
+use Rattle.xa_driver_tests.proofs.driver.openings.open_again.Goals as goal
+
+-- the one scan is all scans
+pub returns-clause-scan : goal.returns-clause-scan
+returns-clause-scan g c = subst (All (IsScanOf c.args.settled)) (sym c.one-2.ensures) c.in-Ok.ensures.scans.each 0 c.one-2.result (omega arith)

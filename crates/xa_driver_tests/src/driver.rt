@@ -1,0 +1,196 @@
+//! Commits over an opening whose workers are stepped by hand, and the log in memory.
+ghost use Rattle.std.specs.Prelude.{◌≡◌, map, refl};
+ghost use Rattle.std.proofs.Common.{◌∙◌};
+ghost use Rattle.xa_switch.specs.Seats.{seat_of_worker};
+
+mod appending;
+mod crash;
+mod endings;
+mod meddling;
+mod openings;
+mod pieces;
+mod resolved;
+mod resolving;
+mod threads;
+mod told;
+
+use std::alloc::Global;
+use std::process::Abort;
+use std::sync::Wait;
+use xa_desk::{Desk, Idle};
+use xa_driver::{Branch, Done, Ending, MemoryLog, may_commit};
+use xa_switch::{ManagerPlan, Plan, RmOp, native, open_switch, xa_call};
+use xa_words::{Call, Code, Delta, Key, TMNOFLAGS, TMSUCCESS, Xid};
+use xa_worker::{Free, Worker};
+
+// The workers of an opening. Each idle lets the one that is waited for, or each, do one step.
+#[derive(Drop)]
+struct Workers {
+    workers: Vec<Worker>,
+}
+
+impl Workers {
+    // The worker at the place does one step, where the wait is for it.
+    fn step<R: Wait>(&mut self, rt: &R, place: usize, manager: u32)
+        ensures { map seat_of_worker self.new.workers.items ≡ map seat_of_worker self.old.workers.items }
+    {
+        if place >= self.workers.len() {
+            return;
+        }
+        if manager == 0 || self.workers[place].manager() == manager {
+            self.workers[place].step(rt, &mut Free);
+        }
+    }
+}
+
+impl Idle for Workers {
+    ghost leads_by = { λ manager before after. map seat_of_worker after.workers.items
+        ≡ map seat_of_worker before.workers.items };
+
+    ghost leads = { λ before after. map seat_of_worker after.workers.items ≡ map seat_of_worker before.workers.items };
+
+    ghost leads_each = { λ manager x y p. p };
+
+    ghost leads_start = { λ x. refl };
+
+    ghost leads_chain = { λ x y z p q. q ∙ p };
+
+    fn idle<R: Wait>(&mut self, rt: &R, manager: u32) {
+        for place in 0..self.workers.len() {
+            self.step(rt, place, manager);
+        }
+    }
+}
+
+// The desks of two threads, with the workers of their opening.
+#[derive(Drop)]
+struct Opened {
+    first: Desk,
+    second: Desk,
+    workers: Workers,
+}
+
+fn key(rt: &impl Abort) -> Key {
+    Key::new(b"a").expect(rt, "a key")
+}
+
+fn delta(rt: &impl Abort, change: i64) -> Delta {
+    Delta::new(change).expect(rt, "a change")
+}
+
+// The branch of transaction `t` at a manager, which is named by its digit.
+fn branch(rt: &impl Abort, m: u32) -> Branch {
+    let digit = [b"12345678"[(m as usize).wrapping_sub(1) & 7]];
+    let xid = Xid::new(1, b"t", &digit).expect(rt, "an xid");
+    Branch { m, xid }
+}
+
+// A plan of so many managers, each with the one key `a` of value 5, and queues of one place.
+fn plan_of(rt: &impl Abort, alloc: Global, managers: usize) -> Plan {
+    let mut plans = Vec::new(alloc);
+    for _place in 0..managers {
+        let mut accounts = Vec::new(alloc);
+        accounts.push((key(rt), 5)).expect(rt, "memory");
+        let plan = ManagerPlan {
+            use_async: true,
+            accounts,
+        };
+        plans.push(plan).expect(rt, "memory");
+    }
+    Plan {
+        opening: 7,
+        threads: 2,
+        handles: 8,
+        queue: 1,
+        requests: 16,
+        managers: plans,
+    }
+}
+
+fn open_by<R: Wait + Abort>(rt: &R, desk: &mut Desk, manager: u32, idle: &mut Workers) {
+    let answer = xa_call(rt, desk, Call::OpenRm, None, manager, TMNOFLAGS, idle);
+    assert_eq!(rt; answer, 0);
+}
+
+impl Opened {
+    // An opening of so many managers, in which both threads have opened each.
+    fn new<R: Wait + Abort>(rt: &R, alloc: Global, managers: u32) -> Opened {
+        Opened::of(rt, alloc, &plan_of(rt, alloc, managers as usize))
+    }
+
+    // An opening of the plan, in which both threads have opened each manager.
+    fn of<R: Wait + Abort>(rt: &R, alloc: Global, plan: &Plan) -> Opened {
+        let (mut desks, workers) = open_switch(rt, alloc, plan).expect(rt, "an opening");
+        let second = desks.pop().expect(rt, "a desk");
+        let first = desks.pop().expect(rt, "another desk");
+        let mut opened = Opened {
+            first,
+            second,
+            workers: Workers { workers },
+        };
+        let mut manager: u32 = 0;
+        for _plan in &plan.managers {
+            manager = manager.wrapping_add(1);
+            opened.open(rt, manager);
+        }
+        opened
+    }
+
+    fn open<R: Wait + Abort>(&mut self, rt: &R, manager: u32) {
+        let idle = &mut self.workers;
+        open_by(rt, &mut self.first, manager, idle);
+        open_by(rt, &mut self.second, manager, idle);
+    }
+
+    fn call<R: Wait + Abort>(&mut self, rt: &R, call: Call, branch: &Branch, flags: u32) {
+        let (desk, idle) = (&mut self.first, &mut self.workers);
+        let answer = xa_call(rt, desk, call, Some(branch.xid), branch.m, flags, idle);
+        assert_eq!(rt; answer, 0);
+    }
+
+    // Work of the first thread on a branch: changes of the manager's key, one after another.
+    fn work<R: Wait + Abort>(&mut self, rt: &R, branch: &Branch, changes: &[i64]) {
+        self.call(rt, Call::Start, branch, TMNOFLAGS);
+        for change in changes {
+            let add = RmOp::Add(key(rt), delta(rt, *change));
+            let (desk, idle) = (&mut self.first, &mut self.workers);
+            assert_eq!(rt; native(rt, desk, add, branch.m, TMNOFLAGS, idle), 0);
+        }
+        self.call(rt, Call::End, branch, TMSUCCESS);
+    }
+}
+
+// Compares all that a commit tells.
+fn tells(
+    rt: &impl Abort,
+    done: &Done,
+    commit: bool,
+    logged: bool,
+    votes: &[Code],
+    endings: &[Ending],
+) {
+    assert_eq!(rt; (done.commit, done.logged), (commit, logged));
+    assert_eq!(rt; done.votes.as_slice(), votes);
+    assert_eq!(rt; done.endings.as_slice(), endings);
+}
+
+#[test]
+fn only_sound_lists_of_branches_may_be_committed(rt: HostRuntime) {
+    let alloc = rt.alloc();
+    let opened = Opened::new(&rt, alloc, 2);
+    let log = MemoryLog::new(alloc);
+    let other = Xid::new(1, b"u", b"2").expect(&rt, "an xid");
+    let one = [branch(&rt, 1)];
+    let both = [branch(&rt, 1), branch(&rt, 2)];
+    let twice = [branch(&rt, 1), branch(&rt, 1)];
+    let falling = [branch(&rt, 2), branch(&rt, 1)];
+    let unknown = [branch(&rt, 3)];
+    let strangers = [branch(&rt, 1), Branch { m: 2, xid: other }];
+    assert!(rt; may_commit(&opened.first, &log, &one));
+    assert!(rt; may_commit(&opened.first, &log, &both));
+    assert!(rt; !may_commit(&opened.first, &log, &[]));
+    assert!(rt; !may_commit(&opened.first, &log, &twice));
+    assert!(rt; !may_commit(&opened.first, &log, &falling));
+    assert!(rt; !may_commit(&opened.first, &log, &unknown));
+    assert!(rt; !may_commit(&opened.first, &log, &strangers));
+}

@@ -1,5 +1,0 @@
-//! Tests of how scripts are read, over the public surface of xa_grammar.
-#![tactic(auto)]
-
-#[cfg(test)]
-mod tests;

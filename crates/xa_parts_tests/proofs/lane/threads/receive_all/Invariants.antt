@@ -1,0 +1,5 @@
+use Rattle.xa_lane.specs.Ends.{SameReceiver}
+use Rattle.xa_parts_tests.proofs.lane.threads.receive_all.Given as goal
+
+abbrev pub invariant-loop : goal.invariant-loop
+invariant-loop g l = SameReceiver l.fn.receiver l.receiver
