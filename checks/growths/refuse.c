@@ -55,7 +55,8 @@ __attribute__((constructor)) static void start(void) {
     is_started = 1;
 }
 
-static void stop(void) {
+/* At the end of a program that starts no thread; one that may ends by _exit. */
+__attribute__((destructor)) static void stop(void) {
     is_started = 0;
     const char *name = getenv("COUNTS");
     FILE *file = name ? fopen(name, "w") : NULL;
@@ -65,7 +66,6 @@ static void stop(void) {
     }
 }
 
-/* How a program of Rattle ends. */
 void _exit(int status) {
     stop();
     syscall(SYS_exit_group, status);
