@@ -1,5 +1,5 @@
 -- Worked histories of one branch, in one opening and in two, with the codes that its requests got.
-use Rattle.std.specs.Prelude.{pos, neg_ℤ, true, false, List, [], ◌∷◌, ◌++◌, codes}
+use Rattle.std.specs.Prelude.{ℤ, pos, neg_ℤ, ◌+ℤ◌, Bool, true, false, if◌then◌else◌, List, [], ◌∷◌, ◌++◌, Some, codes}
 use Rattle.xa_words.specs.Xid.{XidName}
 use Rattle.xa_words.specs.declared.code.Code.{Code}
 use Rattle.xa_words.specs.declared.code.Code.TheVariants.{Done, RdOnly, RbRollback, RbIntegrity, Nota, HeurCom}
@@ -8,7 +8,9 @@ use Rattle.xa_words.specs.declared.request.Op.TheVariants.{Start, Add, End, Prep
 use Rattle.xa_words.specs.declared.request.StartHow.TheVariants.{Fresh}
 use Rattle.xa_words.specs.declared.request.EndHow.TheVariants.{Success, Fail}
 use Rattle.xa_words.specs.declared.request.Request.{Request}
-use Rattle.xa_tables.specs.History.{Fate, fate_in, Absent}
+use Rattle.xa_tables.specs.declared.state.AssociationState.TheVariants.{Associated}
+use Rattle.xa_tables.specs.History.{Fate, fate_in, is_live, commits_later, share_of, Absent, Live}
+use Rattle.xa_tables.specs.Next.{association}
 use Rattle.xa_tables.specs.Openings.{reopened_fate}
 
 -- the branch g.1
@@ -84,3 +86,26 @@ gone_later = entry (Commit branch false) Nota ∷ []
 -- what it left heuristically completed is forgotten
 abbrev pub forgotten_later : List (Request × Code)
 forgotten_later = entry (Forget branch) Done ∷ []
+
+-- after its addition its work ends
+abbrev pub ended_then : List (Request × Code)
+ended_then = entry (End branch Success) Done ∷ []
+
+-- and it votes yes
+abbrev pub voted_then : List (Request × Code)
+voted_then = ended_then ++ entry (Prepare branch) Done ∷ []
+
+-- and it is committed by a heuristic decision
+abbrev pub decided_then : List (Request × Code)
+decided_then = voted_then ++ entry (Heur branch true) Done ∷ []
+
+-- whether a branch that has just added commits in the rest of its opening or in the second
+abbrev pub commits_after : List (Request × Code) → List (Request × Code) → XidName → Bool
+commits_after rest second x =
+    commits_later (if is_live (fate_in x Live rest) then false else commits_later false x second) x rest
+
+-- what becomes of 100 that the branch takes 30 from
+abbrev pub value_after : List (Request × Code) → List (Request × Code) → ℤ
+value_after rest second =
+    pos 100 +ℤ share_of (codes "a") (Add (codes "a") (neg_ℤ (pos 30))) Done (Some (association branch Associated))
+    (commits_after rest second)

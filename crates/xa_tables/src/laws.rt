@@ -24,7 +24,7 @@ ghost use Rattle.xa_tables.specs.Worth.{WorthIsMoved, HoldsItsAdditions, held_by
 ghost use Rattle.xa_tables.specs.Worked.{branch, worked, voted, transferred, undone, overdrawn, unchanged, failed};
 ghost use Rattle.xa_tables.specs.Worked.{begun_again, decided, forgotten};
 ghost use Rattle.xa_tables.specs.Worked.{fate_after, committed_later, rolled_back_later, gone_later};
-ghost use Rattle.xa_tables.specs.Worked.{forgotten_later};
+ghost use Rattle.xa_tables.specs.Worked.{forgotten_later, value_after, ended_then, voted_then, decided_then};
 
 /// What an opening leaves is what another may begin with, as the first begins with accounts alone; what is left stays
 /// left.
@@ -209,4 +209,14 @@ pub fn worked_fates_over_openings()
     ensures rolled_back { fate_after voted rolled_back_later ≡ RolledBack }
     ensures at_work { fate_after worked gone_later ≡ RolledBack }
     ensures decided { fate_after decided forgotten_later ≡ HeurCommitted }
+{}
+
+/// The values of a key in two worked openings, from 100, of which the branch takes 30 in the first: that counts where
+/// the branch is committed, in the second or by a heuristic decision before, and nowhere else.
+pub fn worked_values_over_openings()
+    ensures waits { value_after voted_then [] ≡ pos 100 }
+    ensures committed { value_after voted_then committed_later ≡ pos 70 }
+    ensures rolled_back { value_after voted_then rolled_back_later ≡ pos 100 }
+    ensures at_work { value_after ended_then gone_later ≡ pos 100 }
+    ensures decided { value_after decided_then forgotten_later ≡ pos 70 }
 {}

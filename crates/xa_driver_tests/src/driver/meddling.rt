@@ -88,12 +88,14 @@ fn a_shut_between_the_phases_leaves_its_manager_in_doubt(rt: HostRuntime) {
 
 /// The branch's second code is the decision.
 #[test]
-fn a_heuristic_rollback_between_the_phases_is_told(rt: HostRuntime) {
+fn a_decision_between_the_phases_is_told(rt: HostRuntime) {
     let votes = [Code::Done, Code::Done];
-    let endings = [Ending::Committed, Ending::Heuristic(Code::HeurRb)];
-    for at in [1, 2] {
-        let rolls_back = Op::Heur(branch(&rt, 2).xid, false);
-        let done = commit_while(&rt, rt.alloc(), at, rolls_back);
-        tells(&rt, &done, true, true, &votes, &endings);
+    for (commits, told) in [(false, Code::HeurRb), (true, Code::HeurCom)] {
+        let endings = [Ending::Committed, Ending::Heuristic(told)];
+        for at in [1, 2] {
+            let decides = Op::Heur(branch(&rt, 2).xid, commits);
+            let done = commit_while(&rt, rt.alloc(), at, decides);
+            tells(&rt, &done, true, true, &votes, &endings);
+        }
     }
 }
