@@ -169,7 +169,7 @@ module _ (p : Plan) (tellers : List Teller) (attended : List (Attended Teller)) 
   few = let most = r.sound.limits.threads.1 in omega (arith, most)
 
   -- what a teller of the day made
-  made_by : (t : ℕ) (z : Known p s t) → HasMade z.member.client.transfers.items z.member.client.outcomes.items z.member.desk z.member.attended.client.outcomes.items z.left
+  made_by : (t : ℕ) (z : Known p s t) → HasMade z.member.client.transfers.items z.member.client.death z.member.client.outcomes.items z.member.desk z.member.client.log.state z.member.attended.client.outcomes.items z.left z.member.attended.client.log.state
   made_by t z = z.worked.made z.whole.memory
 
   fine_of : (t : ℕ) (z : Known p s t) → All IsUndoubted (made_by t z).more
@@ -196,7 +196,7 @@ module _ (p : Plan) (tellers : List Teller) (attended : List (Attended Teller)) 
       let z = known u positive below in
       let made = made_by u z in
       let bound = few in
-      inl (omega (arith, below, bound), all_told s u z.member.client.transfers.items made.more z.member.desk z.left z.desk_thread z.nothing made.makes z.end))
+      inl (omega (arith, below, bound), all_told s u z.member.client.transfers.items z.member.client.death made.more z.member.desk z.left z.member.client.log.state z.member.attended.client.log.state z.desk_thread z.nothing made.makes z.end))
       (cases_lt p.threads u))
       (cases_lt u 1)
 
@@ -212,7 +212,7 @@ module _ (p : Plan) (tellers : List Teller) (attended : List (Attended Teller)) 
       let made = made_by t z in
       let bound = few in
       only_transfers adds undoubted p s r.agrees (λ m up to. opens p s m r.agrees r.of_plan up to) told t (omega (arith, below, bound)) z.managers
-      z.member.client.transfers.items made.more z.member.desk z.left z.desk_thread z.nothing made.makes (fine_of t z) z.end) in
+      z.member.client.transfers.items z.member.client.death made.more z.member.desk z.left z.member.client.log.state z.member.attended.client.log.state z.desk_thread z.nothing made.makes (fine_of t z) z.end) in
       let nothing = total_nothing (threads_of p) in
       drop_nothing (settled_worth p s) (total (λ (t : ℕ). pos 0) (threads_of p)) (plan_worth p) all nothing
     where

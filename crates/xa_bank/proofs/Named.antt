@@ -2,6 +2,7 @@
 use Rattle.std.proofs.Common.{◌≡◌, ◌≢◌, ℕ, suc, ◌+◌, ◌*◌, ◌^◌, ◌<◌, ◌≤◌, ◌⊎◌, ⊎_elim, Bool, true, false, ◌||◌, ◌==◌, List, [], ◌∷◌, ◌++◌, length, sym, refl, ap, ◌∙◌, subst, inl, inr, arith, Option, Some, None}
 use Rattle.std.specs.Prelude.{ℤ, pos, neg_ℤ, ◌+ℤ◌}
 use Rattle.std.specs.Int.{w64, from_be_bytes}
+use Rattle.std.specs.List.{All}
 use Rattle.std.proofs.lemmas.Int.{ints}
 use Rattle.std.proofs.lemmas.Bool.{cases_eq, ne_eqb}
 use Rattle.std.proofs.lemmas.List.Elements.{All-nil, All-cons}
@@ -28,11 +29,15 @@ use Rattle.xa_driver.specs.Decision.{is_yes, is_read}
 use Rattle.xa_driver.specs.Endings.{second_op, third_op, ending_of, is_out_of_reach, is_decided}
 use Rattle.xa_driver.specs.Log.{LogState}
 use Rattle.xa_driver.specs.Trace.{BranchTrace, EachBranch, IsCommit, has_branch_at, voted, decided as decided_ledger}
+use Rattle.xa_bank.specs.declared.dying.Death.{Death}
+use Rattle.xa_bank.specs.declared.dying.Point.{Point}
+use Rattle.xa_bank.specs.Deaths.{CameTo, point_at}
 use Rattle.xa_bank.specs.declared.teller.Leg.{Leg}
 use Rattle.xa_bank.specs.declared.teller.Transfer.{Transfer}
 use Rattle.xa_bank.specs.declared.teller.Outcome.{Outcome}
-use Rattle.xa_bank.specs.Transfers.{HasSent, HaveSent, IsFor, AreLegs, pays_first, paid_first, HasWorked, HaveWorked, decided, refused, Makes, with_legs, without_legs, MakesEach, gtrid_of}
-use Rattle.xa_bank.proofs.Sent.{none_sent, sent_on, have_none, have_on, have_as}
+use Rattle.xa_bank.specs.Transfers.{HasSent, HaveSent, IsFor, AreLegs, pays_first, paid_first, HasWorked, HaveWorked, ComesOfCommit, in_full, cut_short, commits, refused, Makes, with_legs, without_legs, MakesEach, gtrid_of}
+use Rattle.xa_bank.proofs.Sent.{none_sent, sent_on, asked_sent, have_none, have_on, have_as}
+use Rattle.xa_bank.proofs.Deaths.{died_sent}
 
 -- ---- names of transfers
 
@@ -92,13 +97,6 @@ NamesAlone x op = (y : XidName) → names y op ≡ true → x ≡ y
 
 same_xid : (x y : XidName) → names y (Prepare x) ≡ true → x ≡ y
 same_xid x y e = (Decides-xid_eq x y).0 e
-
-asked_sent : (P : Op → Type 0) (a : LedgerView) (op : Option Op) (code : Option Code) → ((o : Op) → op ≡ Some o → P o) → HasSent P a (asked a op code)
-asked_sent P a None code so = none_sent P a
-asked_sent P a (Some op) None so = none_sent P a
-asked_sent P a (Some op) (Some code) so =
-    by_if (HasSent P a) (learnt_shut a) _ _ (λ _. none_sent P a)
-    (λ _. record { more = op ∷ []; sent = refl; each = All-cons P op [] (so op refl) (All-nil P); collected = ((length a.sent, code) ∷ [], refl) })
 
 -- where there is a second request it names the branch
 second_names : (commit : Bool) (x : XidName) (vote : Code) (o : Op) → second_op commit x vote ≡ Some o → NamesAlone x o
@@ -217,31 +215,54 @@ for_names t n one two legs op h = record {
 pub commit_names : (t n : ℕ) (one two : Leg) (worked : DeskView) (new : List LedgerView) (log later : LogState) (d : Done) → LegsOf t n one two → IsCommit (one.branch ∷ two.branch ∷ []) worked new log later d → HaveSent (Names t (Is n)) worked.ledgers new
 commit_names t n one two worked new log later d legs made = commit_sent (Names t (Is n)) one.branch two.branch worked new log later d (names_leg t n one legs.first) (names_leg t n two legs.second) made
 
-pub transfer_names : (t n : ℕ) (tr : Transfer) (o : Outcome) (old new : DeskView) → Makes t n tr o old new → HaveSent (Names t (Is n)) old.ledgers new.ledgers
-transfer_names t n tr o old new (with_legs one two legs (decided worked log later d is work made)) =
+pub died_names : (t n : ℕ) (one two : Leg) (at : Point) (known : Option Done) (worked : DeskView) (new : List LedgerView) (log later : LogState) → LegsOf t n one two → CameTo at (one.branch ∷ two.branch ∷ []) known worked new log later → HaveSent (Names t (Is n)) worked.ledgers new
+died_names t n one two at known worked new log later legs far =
+    let Q : Branch → Type 0 = λ b. (o : Op) → NamesAlone b.xid o → Names t (Is n) o in
+    let each : All Q (one.branch ∷ two.branch ∷ []) = All-cons Q one.branch (two.branch ∷ []) (names_leg t n one legs.first) (All-cons Q two.branch [] (names_leg t n two legs.second) (All-nil Q)) in
+    died_sent (Names t (Is n)) Q (λ b so. so (Prepare b.xid) (same_xid b.xid)) (λ b so commit v o is. so o (second_names commit b.xid v o is)) at (one.branch ∷ two.branch ∷ []) known worked new log later each far
+
+comes_names : (t n : ℕ) (one two : Leg) (point : Option Point) (o : Outcome) (worked : DeskView) (new : List LedgerView) (log later : LogState) → LegsOf t n one two → ComesOfCommit (one.branch ∷ two.branch ∷ []) point o worked new log later → HaveSent (Names t (Is n)) worked.ledgers new
+comes_names t n one two point o worked new log later legs (in_full d none is made) = commit_names t n one two worked new log later d legs made
+comes_names t n one two point o worked new log later legs (cut_short at known some is dies) = died_names t n one two at known worked new log later legs dies.far
+
+pub transfer_names : (t n : ℕ) (tr : Transfer) (point : Option Point) (o : Outcome) (old new : DeskView) (log later : LogState) → Makes t n tr point o old new log later → HaveSent (Names t (Is n)) old.ledgers new.ledgers
+transfer_names t n tr point o old new log later (with_legs one two legs (commits worked work comes)) =
     let of_it = legs_are t n tr one two legs in
     have_on (Names t (Is n)) old.ledgers worked.ledgers new.ledgers
     (work_sent (Names t (Is n)) one two tr.account old.ledgers worked.ledgers (λ leg which. legs_name t n one two leg tr.account of_it which) work)
-    (commit_names t n one two worked new.ledgers log later d of_it made)
-transfer_names t n tr o old new (with_legs one two legs (refused is sent)) = have_as (IsFor one two) (Names t (Is n)) (for_names t n one two (legs_are t n tr one two legs)) old.ledgers new.ledgers sent
-transfer_names t n tr o old new (without_legs is same) = have_none (Names t (Is n)) old.ledgers new.ledgers (ap (λ (d : DeskView). d.ledgers) same)
+    (comes_names t n one two point o worked new.ledgers log later of_it comes)
+transfer_names t n tr point o old new log later (with_legs one two legs (refused is same sent)) = have_as (IsFor one two) (Names t (Is n)) (for_names t n one two (legs_are t n tr one two legs)) old.ledgers new.ledgers sent
+transfer_names t n tr point o old new log later (without_legs is same unlogged) = have_none (Names t (Is n)) old.ledgers new.ledgers (ap (λ (d : DeskView). d.ledgers) same)
 
 -- from this number on
 abbrev pub IsFrom : ℕ → ℕ → Type 0
 IsFrom n k = n ≤ k
 
-pub transfers_name : (t n : ℕ) (trs : List Transfer) (os : List Outcome) (old new : DeskView) → MakesEach t n trs os old new → HaveSent (Names t (IsFrom n)) old.ledgers new.ledgers
-transfers_name t n [] [] old new same = have_none (Names t (IsFrom n)) old.ledgers new.ledgers (ap (λ (d : DeskView). d.ledgers) same)
-transfers_name t n (tr ∷ trs) (o ∷ os) old new (mid, makes, rest) =
+pub transfers_name : (t : ℕ) (death : Option Death) (n : ℕ) (trs : List Transfer) (os : List Outcome) (old new : DeskView) (log later : LogState) → MakesEach t death n trs os old new log later → HaveSent (Names t (IsFrom n)) old.ledgers new.ledgers
+transfers_name t death n [] [] old new log later (same, unlogged) = have_none (Names t (IsFrom n)) old.ledgers new.ledgers (ap (λ (d : DeskView). d.ledgers) same)
+transfers_name t death n (tr ∷ trs) [] old new log later (same, unlogged) = have_none (Names t (IsFrom n)) old.ledgers new.ledgers (ap (λ (d : DeskView). d.ledgers) same)
+transfers_name t death n (tr ∷ trs) (o ∷ os) old new log later (mid, now, makes, rest) =
     have_on (Names t (IsFrom n)) old.ledgers mid.ledgers new.ledgers
-    (have_as (Names t (Is n)) (Names t (IsFrom n)) (names_as t (Is n) (IsFrom n) (λ k e. omega (arith, e))) old.ledgers mid.ledgers (transfer_names t n tr o old mid makes))
-    (have_as (Names t (IsFrom (n + 1))) (Names t (IsFrom n)) (names_as t (IsFrom (n + 1)) (IsFrom n) (λ k le. omega (arith, le))) mid.ledgers new.ledgers (transfers_name t (n + 1) trs os mid new rest))
-transfers_name t n trs os old new h = absurd h
+    (have_as (Names t (Is n)) (Names t (IsFrom n)) (names_as t (Is n) (IsFrom n) (λ k e. omega (arith, e))) old.ledgers mid.ledgers (transfer_names t n tr (point_at death n) o old mid log now makes))
+    (have_as (Names t (IsFrom (n + 1))) (Names t (IsFrom n)) (names_as t (IsFrom (n + 1)) (IsFrom n) (λ k le. omega (arith, le))) mid.ledgers new.ledgers (transfers_name t death (n + 1) trs os mid new now later rest))
+transfers_name t death n [] (o ∷ os) old new log later h = absurd h
 
--- one transfer more at the end
-pub makes_more : (t n : ℕ) (trs : List Transfer) (os : List Outcome) (tr : Transfer) (o : Outcome) (old mid new : DeskView) → MakesEach t n trs os old mid → Makes t (n + length trs) tr o mid new → MakesEach t n (trs ++ tr ∷ []) (os ++ o ∷ []) old new
-makes_more t n [] [] tr o old mid new same makes =
-    (new, subst (λ (d : DeskView). Makes t n tr o d new) same (subst (λ k. Makes t k tr o mid new) (let e : n + 0 ≡ n = omega arith in e) makes), refl)
-makes_more t n (r ∷ trs) (p ∷ os) tr o old mid new (next, first, rest) makes =
-    (next, first, makes_more t (n + 1) trs os tr o next mid new rest (subst (λ k. Makes t k tr o mid new) (let e : n + suc (length trs) ≡ n + 1 + length trs = omega arith in e) makes))
-makes_more t n trs os tr o old mid new h makes = absurd h
+makes_none : (t : ℕ) (death : Option Death) (n : ℕ) (trs : List Transfer) (d : DeskView) (log : LogState) → MakesEach t death n trs [] d d log log
+makes_none t death n [] d log = (refl, refl)
+makes_none t death n (tr ∷ trs) d log = (refl, refl)
+
+-- one transfer more at the end, and more that weren't made
+pub makes_more : (t : ℕ) (death : Option Death) (n : ℕ) (trs : List Transfer) (os : List Outcome) (tr : Transfer) (unmade : List Transfer) (o : Outcome) (old mid new : DeskView) (log now later : LogState)
+    → length os ≡ length trs → MakesEach t death n trs os old mid log now → Makes t (n + length trs) tr (point_at death (n + length trs)) o mid new now later → MakesEach t death n (trs ++ tr ∷ unmade) (os ++ o ∷ []) old new log later
+makes_more t death n [] [] tr unmade o old mid new log now later many (same, unlogged) makes =
+    let here : Makes t n tr (point_at death n) o mid new now later = subst (λ k. Makes t k tr (point_at death k) o mid new now later) (let e : n + 0 ≡ n = omega arith in e) makes in
+    (new, later, subst (λ (d : DeskView). Makes t n tr (point_at death n) o d new log later) same (subst (λ (l : LogState). Makes t n tr (point_at death n) o mid new l later) unlogged here), makes_none t death (n + 1) unmade new later)
+makes_more t death n (r ∷ trs) (p ∷ os) tr unmade o old mid new log now later many (next, state, first, rest) makes = (
+  next,
+  state,
+  first,
+  makes_more t death (n + 1) trs os tr unmade o next mid new state now later (omega (arith, many)) rest
+      (subst (λ k. Makes t k tr (point_at death k) o mid new now later) (let e : n + suc (length trs) ≡ n + 1 + length trs = omega arith in e) makes),
+)
+makes_more t death n (r ∷ trs) [] tr unmade o old mid new log now later many h makes = absurd (omega (arith, many))
+makes_more t death n [] (p ∷ os) tr unmade o old mid new log now later many h makes = absurd h

@@ -1,6 +1,6 @@
 -- A teller's thread makes only transfers.
 use Rattle.std.specs.Prelude.{ℤ, pos, ◌+ℤ◌}
-use Rattle.std.proofs.Common.{◌≡◌, ℕ, zero, suc, ◌+◌, ◌-◌, ◌^◌, ◌<◌, ◌≤◌, ⊎_elim, true, false, ◌||◌, List, [], ◌∷◌, ◌++◌, length, length-append, append_assoc, get_or, slice_get, sym, refl, ap, ◌∙◌, subst, arith, Some}
+use Rattle.std.proofs.Common.{◌≡◌, ℕ, zero, suc, ◌+◌, ◌-◌, ◌^◌, ◌<◌, ◌≤◌, ⊎_elim, true, false, ◌||◌, List, [], ◌∷◌, ◌++◌, length, length-append, append_assoc, get_or, slice_get, sym, refl, ap, ◌∙◌, subst, arith, Option, Some}
 use Rattle.std.specs.List.{All, list_any}
 use Rattle.std.proofs.lemmas.Int.{ints}
 use Rattle.std.proofs.lemmas.Bool.{cases_lt}
@@ -27,6 +27,7 @@ use Rattle.xa_switch.specs.Fates.{IsOpenedWith, history, ledgers_of}
 use Rattle.xa_switch.specs.Worth.{accounts_of}
 use Rattle.xa_driver.specs.declared.branch.Branch.{Branch}
 use Rattle.xa_driver.specs.declared.done.Done.{Done}
+use Rattle.xa_driver.specs.declared.done.Ending.{Ending}
 use Rattle.xa_driver.specs.Commits.{is_commit, NoCommitWasSent}
 use Rattle.xa_driver.specs.Log.{LogState}
 use Rattle.xa_driver.specs.Outcomes.{AreLeftAlone, OnlyTheseName, is_in_doubt}
@@ -36,8 +37,13 @@ use Rattle.xa_driver.proofs.Settled.{by_ledger}
 use Rattle.xa_bank.specs.declared.teller.Leg.{Leg}
 use Rattle.xa_bank.specs.declared.teller.Transfer.{Transfer}
 use Rattle.xa_bank.specs.declared.teller.Outcome.{Outcome}
-use Rattle.xa_bank.specs.Tellers.{IsUndoubted}
-use Rattle.xa_bank.specs.Transfers.{HasSent, HaveSent, IsOpenRm, IsFor, HasWorked, HaveWorked, decided, refused, Makes, with_legs, without_legs, MakesEach, MakesAll}
+use Rattle.xa_bank.specs.declared.dying.Death.{Death}
+use Rattle.xa_bank.specs.declared.dying.Point.{Point}
+use Rattle.xa_bank.specs.declared.dying.Point.TheVariants as point
+use Rattle.xa_bank.specs.Deaths.{CameTo, Dies, endings_in, point_at}
+use Rattle.xa_bank.specs.Tellers.{IsClearAt, IsUndoubted}
+use Rattle.xa_bank.proofs.Deaths.{IsUntold, told_made, untold_sent}
+use Rattle.xa_bank.specs.Transfers.{HasSent, HaveSent, IsOpenRm, IsFor, HasWorked, HaveWorked, ComesOfCommit, in_full, cut_short, commits, refused, Makes, with_legs, without_legs, MakesEach, MakesAll}
 use Rattle.xa_bank.proofs.Sent.{have_on, have_as}
 use Rattle.xa_bank.proofs.Named.{IsOf, Names, names_as, LegsOf, legs_are, legs_name, work_sent, commit_names, transfer_names, transfers_name, Is, IsFrom}
 use Rattle.xa_bank.proofs.Told.{IsAny, IsBelow, IsTold, NamedWithin, all_right, named_within, only_these}
@@ -210,45 +216,77 @@ module _ (adds : (t n : ℕ) (x : XidName) (k : List ℕ) (d : ℤ) (h : History
         committed (one.branch ∷ two.branch ∷ []) desk new log later_log d (pos 0) at_work made both_alone zero_sum in
         subst (λ v. OnlyTransfers p s t new (pos 0 +ℤ v)) (undoubted p s t desk.ledgers (one.branch ∷ two.branch ∷ []) d none) done
 
-  -- ---- any transfer
-
   only_quiet : (old new : List LedgerView) → HaveSent IsNone old new → OnlyTransfers p s t old (pos 0) → OnlyTransfers p s t new (pos 0)
   only_quiet old new h only = worked old new (pos 0) only (grown_by IsNone old new h) (no_commit old new h)
 
-  only_one : (n : ℕ) (tr : Transfer) (o : Outcome) (old new : DeskView) → Makes t n tr o old new → IsUndoubted o → Earlier n old.ledgers → Later (n + 1) new.ledgers → OnlyTransfers p s t old.ledgers (pos 0) → OnlyTransfers p s t new.ledgers (pos 0)
-  only_one n tr o old new (with_legs one two legs (decided desk log later d is work made)) fine before after only =
-      only_decided n tr.account one two (legs_are t n tr one two legs) old.ledgers desk new.ledgers log later d work made before after (subst IsUndoubted is fine) only
-  only_one n tr o old new (with_legs one two legs (refused is h)) fine before after only =
-      only_quiet old.ledgers new.ledgers (have_as (IsFor one two) IsNone (λ op f. f.uncommitting) old.ledgers new.ledgers h) only
-  only_one n tr o old new (without_legs is same) fine before after only = subst (λ (q : DeskView). OnlyTransfers p s t q.ledgers (pos 0)) (sym same) only
+  -- ---- a transfer with which its teller died
 
-  only_each : (n : ℕ) (trs : List Transfer) (os : List Outcome) (old new : DeskView) → MakesEach t n trs os old new → All IsUndoubted os → Earlier n old.ledgers → Later (n + length trs) new.ledgers → OnlyTransfers p s t old.ledgers (pos 0) → OnlyTransfers p s t new.ledgers (pos 0)
-  only_each n [] [] old new same fine before after only = subst (λ (q : DeskView). OnlyTransfers p s t q.ledgers (pos 0)) (sym same) only
-  only_each n (tr ∷ trs) (o ∷ os) old new (mid, makes, rest) fine before after only =
-      let later : Later (n + 1) mid.ledgers =
-      have_on (Names t (IsFrom (n + 1))) mid.ledgers new.ledgers final (transfers_name t (n + 1) trs os mid new rest)
+  -- before it told any branch
+  only_untold : (n : ℕ) (account : List ℕ) (one two : Leg) (at : Point) (old : List LedgerView) (desk : DeskView) (new : List LedgerView) (log later : LogState) (known : Option Done) → HaveWorked one two account old desk.ledgers → IsUntold at
+      → CameTo at (one.branch ∷ two.branch ∷ []) known desk new log later → OnlyTransfers p s t old (pos 0) → OnlyTransfers p s t new (pos 0)
+  only_untold n account one two at old desk new log later known work untold far only =
+      let Q : Branch → Type 0 = λ b. Unit {0} in
+      let each : All Q (one.branch ∷ two.branch ∷ []) = All-cons Q one.branch (two.branch ∷ []) tt (All-cons Q two.branch [] tt (All-nil Q)) in
+      only_quiet desk.ledgers new (untold_sent IsNone Q (λ b _. refl) at (one.branch ∷ two.branch ∷ []) known desk new log later untold each far)
+      (only_quiet old desk.ledgers (work_sent IsNone one two account old desk.ledgers (λ leg which. (refl, refl, refl)) work) only)
+
+  only_died : (n : ℕ) (account : List ℕ) (one two : Leg) (legs : LegsOf t n one two) (at : Point) (old : List LedgerView) (desk : DeskView) (new : List LedgerView) (log later : LogState) (known : Option Done) → HaveWorked one two account old desk.ledgers
+      → Dies at (one.branch ∷ two.branch ∷ []) known desk new log later → IsClearAt at (endings_in known) → Earlier n old → Later (n + 1) new → OnlyTransfers p s t old (pos 0) → OnlyTransfers p s t new (pos 0)
+  only_died n account one two legs point.Asking old desk new log later known work dies clear before after only = only_untold n account one two point.Asking old desk new log later known work tt dies.far only
+  only_died n account one two legs point.Voted old desk new log later known work dies clear before after only = only_untold n account one two point.Voted old desk new log later known work tt dies.far only
+  only_died n account one two legs point.Decided old desk new log later known work dies clear before after only = only_untold n account one two point.Decided old desk new log later known work tt dies.far only
+  only_died n account one two legs point.Telling old desk new log later known work dies clear before after only = absurd clear
+  only_died n account one two legs point.Told old desk new log later known work dies clear before after only =
+      let made = told_made (one.branch ∷ two.branch ∷ []) known desk new log later dies.cut.may dies.far clear.1 in
+      only_decided n account one two legs old desk new log later made.0 work made.2 before after (subst (λ (l : List Ending). list_any is_in_doubt l ≡ false) (sym made.1) clear.0) only
+
+  -- ---- any transfer
+
+  only_quiet_one : (one two : Leg) (old new : List LedgerView) → HaveSent (IsFor one two) old new → OnlyTransfers p s t old (pos 0) → OnlyTransfers p s t new (pos 0)
+  only_quiet_one one two old new h only = only_quiet old new (have_as (IsFor one two) IsNone (λ op f. f.uncommitting) old new h) only
+
+  only_commit : (n : ℕ) (account : List ℕ) (one two : Leg) (legs : LegsOf t n one two) (point : Option Point) (o : Outcome) (old : List LedgerView) (desk : DeskView) (new : List LedgerView) (log later : LogState) → HaveWorked one two account old desk.ledgers
+      → ComesOfCommit (one.branch ∷ two.branch ∷ []) point o desk new log later → IsUndoubted o → Earlier n old → Later (n + 1) new → OnlyTransfers p s t old (pos 0) → OnlyTransfers p s t new (pos 0)
+  only_commit n account one two legs point o old desk new log later work (in_full d none is made) fine before after only =
+      only_decided n account one two legs old desk new log later d work made before after (subst IsUndoubted is fine) only
+  only_commit n account one two legs point o old desk new log later work (cut_short at known some is dies) fine before after only =
+      only_died n account one two legs at old desk new log later known work dies (subst IsUndoubted is fine) before after only
+
+  only_one : (n : ℕ) (tr : Transfer) (point : Option Point) (o : Outcome) (old new : DeskView) (log later : LogState) → Makes t n tr point o old new log later → IsUndoubted o → Earlier n old.ledgers → Later (n + 1) new.ledgers → OnlyTransfers p s t old.ledgers (pos 0) → OnlyTransfers p s t new.ledgers (pos 0)
+  only_one n tr point o old new log later (with_legs one two legs (commits desk work comes)) fine before after only =
+      only_commit n tr.account one two (legs_are t n tr one two legs) point o old.ledgers desk new.ledgers log later work comes fine before after only
+  only_one n tr point o old new log later (with_legs one two legs (refused is unlogged h)) fine before after only = only_quiet_one one two old.ledgers new.ledgers h only
+  only_one n tr point o old new log later (without_legs is same unlogged) fine before after only = subst (λ (q : DeskView). OnlyTransfers p s t q.ledgers (pos 0)) (sym same) only
+
+  only_each : (death : Option Death) (n : ℕ) (trs : List Transfer) (os : List Outcome) (old new : DeskView) (log later : LogState) → MakesEach t death n trs os old new log later → All IsUndoubted os → Earlier n old.ledgers → Later (n + length trs) new.ledgers → OnlyTransfers p s t old.ledgers (pos 0)
+      → OnlyTransfers p s t new.ledgers (pos 0)
+  only_each death n [] [] old new log later (same, unlogged) fine before after only = subst (λ (q : DeskView). OnlyTransfers p s t q.ledgers (pos 0)) (sym same) only
+  only_each death n (tr ∷ trs) [] old new log later (same, unlogged) fine before after only = subst (λ (q : DeskView). OnlyTransfers p s t q.ledgers (pos 0)) (sym same) only
+  only_each death n (tr ∷ trs) (o ∷ os) old new log later (mid, now, makes, rest) fine before after only =
+      let later_on : Later (n + 1) mid.ledgers =
+      have_on (Names t (IsFrom (n + 1))) mid.ledgers new.ledgers final (transfers_name t death (n + 1) trs os mid new now later rest)
       (have_as (Names t (IsFrom (n + suc (length trs)))) (Names t (IsFrom (n + 1))) (names_as t (IsFrom (n + suc (length trs))) (IsFrom (n + 1)) (λ k le. omega (arith, le))) new.ledgers final after) in
-      only_each (n + 1) trs os mid new rest (All-tail IsUndoubted o os fine) (earlier_on n old.ledgers mid.ledgers before (transfer_names t n tr o old mid makes))
+      only_each death (n + 1) trs os mid new now later rest (All-tail IsUndoubted o os fine) (earlier_on n old.ledgers mid.ledgers before (transfer_names t n tr (point_at death n) o old mid log now makes))
       (subst (λ k. Later k new.ledgers) (let e : n + suc (length trs) ≡ n + 1 + length trs = omega arith in e) after)
-      (only_one n tr o old mid makes (All-head IsUndoubted o os fine) before later only)
-  only_each n trs os old new h fine before after only = absurd h
+      (only_one n tr (point_at death n) o old mid log now makes (All-head IsUndoubted o os fine) before later_on only)
+  only_each death n [] (o ∷ os) old new log later h fine before after only = absurd h
 
   -- ---- all that the thread did
 
   opens_name : (op : Op) → IsOpenRm op → Names t (IsBelow 0) op
   opens_name op is = record { each = λ x e. let z : false ≡ true = sym (ap (λ o. names x o) is) ∙ e in cc }
 
-  pub only_transfers : (trs : List Transfer) (os : List Outcome) (begun last : DeskView) → begun.thread ≡ t → NothingWasSent begun.ledgers → MakesAll trs os begun last → All IsUndoubted os
+  pub only_transfers : (trs : List Transfer) (death : Option Death) (os : List Outcome) (begun last : DeskView) (log later : LogState) → begun.thread ≡ t → NothingWasSent begun.ledgers → MakesAll trs death os begun last log later → All IsUndoubted os
       → HaveSent (λ op. ⊥) last.ledgers final → OnlyTransfers p s t final (pos 0)
-  only_transfers trs os begun last thread nothing all fine end =
+  only_transfers trs death os begun last log later thread nothing all fine end =
       let opening_ : DeskView = all.opened in
-      let makes : MakesEach t 0 trs os opening_ last = subst (λ u. MakesEach u 0 trs os opening_ last) thread all.makes in
+      let makes : MakesEach t death 0 trs os opening_ last log later = subst (λ u. MakesEach u death 0 trs os opening_ last log later) thread all.makes in
       let quiet : HaveSent IsNone begun.ledgers opening_.ledgers = have_as IsOpenRm IsNone (λ op is. ap is_commit is) begun.ledgers opening_.ledgers all.opens in
       let before : Earlier 0 opening_.ledgers = λ m positive.
       let z = all.opens m positive in
       subst (All (Names t (IsBelow 0))) (sym (z.sent ∙ ap (λ l. l ++ z.more) (nothing m positive))) (All-weaker IsOpenRm (Names t (IsBelow 0)) opens_name z.more z.each) in
       only_quiet last.ledgers final (have_as (λ op. ⊥) IsNone (λ op never. absurd never) last.ledgers final end)
-      (only_each 0 trs os opening_ last makes fine before (have_as (λ op. ⊥) (Names t (IsFrom (0 + length trs))) (λ op never. absurd never) last.ledgers final end)
+      (only_each death 0 trs os opening_ last log later makes fine before (have_as (λ op. ⊥) (Names t (IsFrom (0 + length trs))) (λ op never. absurd never) last.ledgers final end)
       (only_quiet begun.ledgers opening_.ledgers quiet (opened begun.ledgers nothing)))
 
 -- ---- what such a thread names
@@ -256,14 +294,14 @@ module _ (adds : (t n : ℕ) (x : XidName) (k : List ℕ) (d : ℤ) (h : History
 opens_any : (t : ℕ) (op : Op) → IsOpenRm op → Names t IsAny op
 opens_any t op is = record { each = λ x e. let z : false ≡ true = sym (ap (λ o. names x o) is) ∙ e in cc }
 
-pub all_told : (s : Settling) (t : ℕ) (trs : List Transfer) (os : List Outcome) (begun last : DeskView) → begun.thread ≡ t → NothingWasSent begun.ledgers → MakesAll trs os begun last
+pub all_told : (s : Settling) (t : ℕ) (trs : List Transfer) (death : Option Death) (os : List Outcome) (begun last : DeskView) (log later : LogState) → begun.thread ≡ t → NothingWasSent begun.ledgers → MakesAll trs death os begun last log later
     → HaveSent (λ op. ⊥) last.ledgers (ledgers_of s t) → (m : ℕ) → 1 ≤ m → All (Names t IsAny) (sent s t m)
-all_told s t trs os begun last thread nothing all end m positive =
+all_told s t trs death os begun last log later thread nothing all end m positive =
     let final : List LedgerView = ledgers_of s t in
-    let makes : MakesEach t 0 trs os all.opened last = subst (λ u. MakesEach u 0 trs os all.opened last) thread all.makes in
+    let makes : MakesEach t death 0 trs os all.opened last log later = subst (λ u. MakesEach u death 0 trs os all.opened last log later) thread all.makes in
     let z =
     have_on (Names t IsAny) begun.ledgers last.ledgers final
     (have_on (Names t IsAny) begun.ledgers all.opened.ledgers last.ledgers (have_as IsOpenRm (Names t IsAny) (opens_any t) begun.ledgers all.opened.ledgers all.opens)
-    (have_as (Names t (IsFrom 0)) (Names t IsAny) (names_as t (IsFrom 0) IsAny (λ k e. tt)) all.opened.ledgers last.ledgers (transfers_name t 0 trs os all.opened last makes)))
+    (have_as (Names t (IsFrom 0)) (Names t IsAny) (names_as t (IsFrom 0) IsAny (λ k e. tt)) all.opened.ledgers last.ledgers (transfers_name t death 0 trs os all.opened last log later makes)))
     (have_as (λ op. ⊥) (Names t IsAny) (λ op never. absurd never) last.ledgers final end) m positive in
     subst (All (Names t IsAny)) (sym (by_ledger final m (λ (a : LedgerView). a.sent) positive refl ∙ z.sent ∙ ap (λ l. l ++ z.more) (nothing m positive))) z.each

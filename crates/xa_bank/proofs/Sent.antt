@@ -1,5 +1,5 @@
 -- Which requests were sent since: what is done one after the other, and what a request or a collection adds.
-use Rattle.std.proofs.Common.{◌≡◌, ℕ, zero, suc, ◌-◌, ◌≤◌, ◌⊎◌, Bool, true, false, ℤ, pos, negsuc, List, [], ◌∷◌, ◌++◌, length, get_or, set, append_assoc, sym, refl, ap, ◌∙◌, subst, inl, inr, arith}
+use Rattle.std.proofs.Common.{◌≡◌, ℕ, zero, suc, ◌-◌, ◌≤◌, ◌⊎◌, Bool, true, false, ℤ, pos, negsuc, List, [], ◌∷◌, ◌++◌, length, get_or, set, append_assoc, sym, refl, ap, ◌∙◌, subst, inl, inr, arith, Option, None, Some}
 use Rattle.std.proofs.lemmas.List.{append-nil, get_or-set_same, get_or-set_other}
 use Rattle.std.proofs.lemmas.List.Elements.{All-nil, All-cons, All-append, All-weaker}
 use Rattle.std.proofs.lemmas.Bool.{cases_lt, cases_eq}
@@ -13,13 +13,15 @@ use Rattle.xa_words.specs.declared.request.StartHow.TheVariants.{Fresh}
 use Rattle.xa_words.specs.declared.request.EndHow.TheVariants.{Success, Fail}
 use Rattle.xa_tables.specs.Prepared.{names}
 use Rattle.xa_desk.specs.declared.operation.Operation.{Operation}
-use Rattle.xa_desk.specs.LedgerView.{LedgerView, with_sent, with_collected}
+use Rattle.xa_desk.specs.LedgerView.{LedgerView, learnt_shut, with_sent, with_collected}
 use Rattle.xa_desk.specs.DeskView.{DeskView, ledger, no_ledger, put_ledger, after_sent, after_collected, next_operation}
 use Rattle.xa_desk.specs.Lanes.{submitted, after_fulls}
 use Rattle.xa_desk.specs.Looks.{Collects}
 use Rattle.xa_switch.specs.Putting.{Puts}
 use Rattle.xa_switch.specs.Putting.Puts.{refused, full, kept, answered}
 use Rattle.xa_switch.proofs.Kept.{fulls_ledgers}
+use Rattle.xa_base.proofs.Truth.{by_if}
+use Rattle.xa_driver.specs.Asks.{asked}
 use Rattle.xa_driver.specs.Commits.{is_commit}
 use Rattle.xa_bank.specs.declared.teller.Leg.{Leg}
 use Rattle.xa_bank.specs.declared.in_flight.Flight.{Flight}
@@ -41,6 +43,14 @@ sent_on P a b c p q = record {
 
 pub sent_as : (P Q : Op → Type 0) → ((op : Op) → P op → Q op) → (a a' : LedgerView) → HasSent P a a' → HasSent Q a a'
 sent_as P Q also a a' h = record { more = h.more; sent = h.sent; each = All-weaker P Q also h.more h.each; collected = h.collected }
+
+-- a request that was asked and answered, if there was one
+pub asked_sent : (P : Op → Type 0) (a : LedgerView) (op : Option Op) (code : Option Code) → ((o : Op) → op ≡ Some o → P o) → HasSent P a (asked a op code)
+asked_sent P a None code so = none_sent P a
+asked_sent P a (Some op) None so = none_sent P a
+asked_sent P a (Some op) (Some code) so =
+    by_if (HasSent P a) (learnt_shut a) _ _ (λ _. none_sent P a)
+    (λ _. record { more = op ∷ []; sent = refl; each = All-cons P op [] (so op refl) (All-nil P); collected = ((length a.sent, code) ∷ [], refl) })
 
 -- ---- all ledgers
 

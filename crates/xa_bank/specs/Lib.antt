@@ -1,3 +1,4 @@
 pub mod Requests
+pub mod Deaths
 pub mod Transfers
 pub mod Tellers

@@ -1,6 +1,6 @@
 -- What a transfer does to its teller's desk.
 use Rattle.std.specs.Prelude.{◌≡◌, ◌≢◌, ℕ, ◌+◌, ◌*◌, ◌^◌, ◌≤◌, ◌<◌, ◌⊎◌, ℤ, pos, neg_ℤ, true, false, List, []}
-use Rattle.std.specs.Prelude.{◌∷◌, ◌++◌, length}
+use Rattle.std.specs.Prelude.{◌∷◌, ◌++◌, length, Option, None, Some}
 use Rattle.std.specs.List.{All}
 use Rattle.std.specs.Int.{w64, to_be_bytes}
 use Rattle.xa_base.specs.Lists.{Begins}
@@ -13,14 +13,18 @@ use Rattle.xa_words.specs.declared.request.EndHow.TheVariants.{Success}
 use Rattle.xa_tables.specs.Prepared.{names}
 use Rattle.xa_desk.specs.LedgerView.{LedgerView}
 use Rattle.xa_desk.specs.DeskView.{DeskView, IsKnown, ledger}
+use Rattle.xa_driver.specs.declared.branch.Branch.{Branch}
 use Rattle.xa_driver.specs.declared.done.Done.{Done}
 use Rattle.xa_driver.specs.Commits.{is_commit}
 use Rattle.xa_driver.specs.Log.{LogState}
 use Rattle.xa_driver.specs.Trace.{IsCommit}
+use Rattle.xa_bank.specs.Deaths.{Dies, point_at}
+use Rattle.xa_bank.specs.declared.dying.Death.{Death}
+use Rattle.xa_bank.specs.declared.dying.Point.{Point}
 use Rattle.xa_bank.specs.declared.teller.Leg.{Leg}
 use Rattle.xa_bank.specs.declared.teller.Transfer.{Transfer}
 use Rattle.xa_bank.specs.declared.teller.Outcome.{Outcome}
-use Rattle.xa_bank.specs.declared.teller.Outcome.TheVariants.{Decided, Refused}
+use Rattle.xa_bank.specs.declared.teller.Outcome.TheVariants.{Decided, Died, Refused}
 
 -- ---- what was sent
 
@@ -85,28 +89,45 @@ pub record HaveWorked (one two : Leg) (k : List ℕ) (old new : List LedgerView)
   pub two_ : HasWorked two k (ledger old two.branch.m) (ledger new two.branch.m)
   pub others : (m : ℕ) → 1 ≤ m → m ≢ one.branch.m → m ≢ two.branch.m → ledger new m ≡ ledger old m
 
--- What comes of two legs: both worked, and a commit of both branches was made and decided so; or the transfer is
--- refused, and only requests for its branches were sent, no Commit among them.
-pub data Transfers (one two : Leg) (k : List ℕ) (o : Outcome) (old new : DeskView) : Type 0 where
-  decided : (worked : DeskView) (log later : LogState) (done : Done) → o ≡ Decided done
-      → HaveWorked one two k old.ledgers worked.ledgers
-      → IsCommit (one.branch ∷ two.branch ∷ []) worked new.ledgers log later done → Transfers one two k o old new
-  refused : o ≡ Refused → HaveSent (IsFor one two) old.ledgers new.ledgers → Transfers one two k o old new
+-- What comes of a commit of these branches, at a point of which the teller is to die, or at none: it was made, and
+-- decided so; or the teller died there.
+pub data ComesOfCommit (bs : List Branch) (point : Option Point) (o : Outcome) (desk : DeskView) (new : List LedgerView)
+    (log later : LogState) : Type 0 where
+  in_full : (done : Done) → point ≡ None → o ≡ Decided done → IsCommit bs desk new log later done
+      → ComesOfCommit bs point o desk new log later
+  cut_short : (at : Point) (known : Option Done) → point ≡ Some at → o ≡ Died at known
+      → Dies at bs known desk new log later → ComesOfCommit bs point o desk new log later
+
+-- What comes of two legs: both worked, and a commit of both branches came to this; or the transfer is refused, and only
+-- requests for its branches were sent, no Commit among them.
+pub data Transfers (one two : Leg) (k : List ℕ) (point : Option Point) (o : Outcome) (old new : DeskView)
+    (log later : LogState) : Type 0 where
+  commits : (worked : DeskView) → HaveWorked one two k old.ledgers worked.ledgers
+      → ComesOfCommit (one.branch ∷ two.branch ∷ []) point o worked new.ledgers log later
+      → Transfers one two k point o old new log later
+  refused : o ≡ Refused → later ≡ log → HaveSent (IsFor one two) old.ledgers new.ledgers
+      → Transfers one two k point o old new log later
 
 -- What comes of thread t's transfer of number n: that of its legs; or it has none, and nothing is done.
-pub data Makes (t n : ℕ) (tr : Transfer) (o : Outcome) (old new : DeskView) : Type 0 where
-  with_legs : (one two : Leg) → AreLegs t n tr one two → Transfers one two tr.account o old new → Makes t n tr o old new
-  without_legs : o ≡ Refused → new ≡ old → Makes t n tr o old new
+pub data Makes (t n : ℕ) (tr : Transfer) (point : Option Point) (o : Outcome) (old new : DeskView)
+    (log later : LogState) : Type 0 where
+  with_legs : (one two : Leg) → AreLegs t n tr one two → Transfers one two tr.account point o old new log later
+      → Makes t n tr point o old new log later
+  without_legs : o ≡ Refused → new ≡ old → later ≡ log → Makes t n tr point o old new log later
 
--- so for one transfer after the other, with numbers from n on
-abbrev pub MakesEach : ℕ → ℕ → List Transfer → List Outcome → DeskView → DeskView → Type 0
-MakesEach t n [] [] old new = new ≡ old
-MakesEach t n (tr ∷ trs) (o ∷ os) old new =
-    (mid : DeskView) × Makes t n tr o old mid × MakesEach t (n + 1) trs os mid new
-MakesEach t n trs os old new = ⊥
+-- so for as many of these transfers as there are outcomes, one after the other, with numbers from n on
+abbrev pub MakesEach : ℕ → Option Death → ℕ → List Transfer → List Outcome → DeskView → DeskView → LogState → LogState
+    → Type 0
+MakesEach t death n [] [] old new log later = (new ≡ old) × (later ≡ log)
+MakesEach t death n (tr ∷ trs) [] old new log later = (new ≡ old) × (later ≡ log)
+MakesEach t death n (tr ∷ trs) (o ∷ os) old new log later =
+    (mid : DeskView) × (now : LogState) × Makes t n tr (point_at death n) o old mid log now
+    × MakesEach t death (n + 1) trs os mid new now later
+MakesEach t death n [] (o ∷ os) old new log later = ⊥
 
 -- the thread opened stores, and then made these transfers
-pub record MakesAll (trs : List Transfer) (os : List Outcome) (old new : DeskView) : Type 0 where
+pub record MakesAll (trs : List Transfer) (death : Option Death) (os : List Outcome) (old new : DeskView)
+    (log later : LogState) : Type 0 where
   pub opened : DeskView
   pub opens : HaveSent IsOpenRm old.ledgers opened.ledgers
-  pub makes : MakesEach old.thread 0 trs os opened new
+  pub makes : MakesEach old.thread death 0 trs os opened new log later

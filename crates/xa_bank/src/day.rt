@@ -22,7 +22,8 @@ pub type Day = Run<Teller>;
 /// what they have come to. The teller at place t has thread t + 1.
 ///
 /// No money is lost or made: where no teller wanted memory and no branch of a transfer is in doubt, all
-/// accounts are together worth what the plan declares.
+/// accounts are together worth what the plan declares. That is so also where tellers died, but for one that had told
+/// one store and not the other. What a dead teller left is resolved by its log in the next opening.
 ///
 /// The faults are those of the crew: `BadPlan` where the plan can't be opened, and `NoMemory`.
 pub fn run_day<R: Threads + Wait + Copy + Send + 'static>(

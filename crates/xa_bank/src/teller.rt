@@ -1,11 +1,13 @@
 //! What a teller does: transfers, one after the other.
-ghost use Rattle.std.specs.Prelude.{◌≡◌, ◌+◌, [], length, true, IfOk, MatchOption, OnOk};
-ghost use Rattle.xa_bank.specs.Tellers.{HasMade};
+ghost use Rattle.std.specs.Prelude.{◌≡◌, ◌+◌, [], length, true, IfOk, MatchOption, None, OnOk, Some};
+ghost use Rattle.xa_bank.specs.Tellers.{HasMade, has_died};
 ghost use Rattle.xa_bank.specs.Transfers.{AreApart, AreLegs, HaveSent, HaveWorked, IsFor, IsLeg, IsOpenRm, Makes};
-ghost use Rattle.xa_bank.specs.Transfers.{Transfers};
+ghost use Rattle.xa_bank.specs.Transfers.{ComesOfCommit, Transfers};
 ghost use Rattle.xa_desk.specs.GoesOn.{GoesOn};
 ghost use Rattle.xa_desk.specs.Kept.{AllKept};
+ghost use Rattle.xa_driver.specs.Trace.{MayCommit};
 
+use crate::dying::{Death, Point, die, point_at};
 use crate::in_flight::work_in_flight;
 use crate::in_turn::work_in_turn;
 use std::alloc::{AllocError, Global};
@@ -13,7 +15,7 @@ use std::sync::Wait;
 use xa_crew::Client;
 use xa_desk::laws::desks_go_on;
 use xa_desk::{Desk, Spin};
-use xa_driver::{Branch, Done, MemoryLog, commit_all, may_commit};
+use xa_driver::{Branch, Done, DriverFault, MemoryLog, commit_all, may_commit};
 use xa_switch::xa_call;
 use xa_words::{Call, Delta, EndHow, Key, Op, TMFAIL, TMNOFLAGS, Xid};
 
@@ -33,10 +35,25 @@ pub struct Transfer {
 pub enum Outcome {
     /// The work for both branches answered XA_OK, and `commit_all` came to this. A store may have voted against it.
     Decided(Done),
+    /// The work for both branches answered XA_OK, and the teller died at this point of their commit. What was known of
+    /// it then, and nothing before all had voted: what is left is resolved by the teller's log.
+    Died { at: Point, known: Option<Done> },
     /// No Commit was sent for it. Either it has no two legs, or wanted handles or planned requests, and nothing was
     /// sent; or not all of its work answered XA_OK, and it was given up: both branches were ended as failed and rolled
     /// back.
     Refused,
+}
+
+impl Outcome {
+    /// Whether the teller died with it.
+    pub fn has_died(&self) -> bool
+        ensures { result ≡ has_died self.now }
+    {
+        match self {
+            Outcome::Died { at: _, known: _ } => true,
+            Outcome::Decided(_) | Outcome::Refused => false,
+        }
+    }
 }
 
 /// A teller: a decision log of its own, its transfers, and what became of each.
@@ -45,7 +62,8 @@ pub struct Teller {
     alloc: Global,
     log: MemoryLog,
     transfers: Vec<Transfer>,
-    /// One for each transfer that was made, in their order.
+    death: Option<Death>,
+    /// One for each transfer that was made, in their order. None was made after one with which the teller died.
     pub outcomes: Vec<Outcome>,
     /// Whether memory was refused, after which no transfer was made.
     pub wants_memory: bool,
@@ -163,8 +181,38 @@ fn has_room(desk: &Desk, one: &Leg, two: &Leg) -> bool {
         && desk.room(two.branch.m) >= REQUESTS
 }
 
-// Makes a transfer of these legs, where there is room for it. It fails only for want of memory, and then both branches
-// are given up.
+// Commits the branches, or dies at this point of their commit. It fails only for want of memory, and then nothing was
+// sent.
+fn commit<R: Wait>(
+    rt: &R,
+    alloc: Global,
+    desk: &mut Desk,
+    log: &mut MemoryLog,
+    branches: &[Branch],
+    point: Option<Point>,
+    idle: &mut Spin,
+) -> Result<Outcome, DriverFault>
+    requires { MayCommit desk.old log.old.state branches.now }
+    ensures goes_on { GoesOn desk.old desk.new }
+    ensures kept { AllKept desk.old → AllKept desk.new }
+    ensures comes { IfOk result (λ o. ComesOfCommit branches.now point o desk.old desk.new.ledgers log.old.state
+        log.new.state) }
+{
+    desks_go_on();
+    match point {
+        None => {
+            let done = commit_all(rt, alloc, desk, log, branches, idle)?;
+            Ok(Outcome::Decided(done))
+        }
+        Some(at) => {
+            let known = die(rt, alloc, desk, log, branches, at, idle)?;
+            Ok(Outcome::Died { at, known })
+        }
+    }
+}
+
+// Makes a transfer of these legs, where there is room for it; or dies at this point of its commit. It fails only for
+// want of memory, and then both branches are given up.
 fn carry_out<R: Wait>(
     rt: &R,
     alloc: Global,
@@ -173,11 +221,13 @@ fn carry_out<R: Wait>(
     one: &Leg,
     two: &Leg,
     account: Key,
+    point: Option<Point>,
     idle: &mut Spin,
 ) -> Result<Outcome, AllocError>
     ensures goes_on { GoesOn desk.old desk.new }
     ensures kept { AllKept desk.old → AllKept desk.new }
-    ensures carried { IfOk result (λ o. Transfers one.now two.now account o desk.old desk.new) }
+    ensures carried { IfOk result (λ o. Transfers one.now two.now account point o desk.old desk.new log.old.state
+        log.new.state) }
 {
     desks_go_on();
     if !has_room(desk, one, two) {
@@ -189,13 +239,11 @@ fn carry_out<R: Wait>(
         give_up(rt, desk, one, two, idle);
         return Ok(Outcome::Refused);
     }
-    match commit_all(rt, alloc, desk, log, &branches, idle) {
-        Ok(done) => Ok(Outcome::Decided(done)),
-        Err(_) => {
-            give_up(rt, desk, one, two, idle);
-            Err(AllocError)
-        }
-    }
+    let Ok(outcome) = commit(rt, alloc, desk, log, &branches, point, idle) else {
+        give_up(rt, desk, one, two, idle);
+        return Err(AllocError);
+    };
+    Ok(outcome)
 }
 
 // Opens each store.
@@ -210,7 +258,7 @@ fn open_all<R: Wait>(rt: &R, desk: &mut Desk, idle: &mut Spin)
     }
 }
 
-// Makes the transfer at this place. It fails only for want of memory.
+// Makes the transfer at this place, or dies at this point of its commit. It fails only for want of memory.
 fn make<R: Wait>(
     rt: &R,
     alloc: Global,
@@ -218,39 +266,50 @@ fn make<R: Wait>(
     log: &mut MemoryLog,
     place: usize,
     transfer: &Transfer,
+    point: Option<Point>,
     idle: &mut Spin,
 ) -> Result<Outcome, AllocError>
     ensures goes_on { GoesOn desk.old desk.new }
     ensures kept { AllKept desk.old → AllKept desk.new }
-    ensures makes { IfOk result (λ o. Makes desk.old.thread place transfer.now o desk.old desk.new) }
+    ensures makes { IfOk result (λ o. Makes desk.old.thread place transfer.now point o desk.old desk.new
+        log.old.state log.new.state) }
 {
     desks_go_on();
-    match legs_of(desk.thread(), place, transfer) {
-        Some((one, two)) => carry_out(rt, alloc, desk, log, &one, &two, transfer.account, idle),
-        None => Ok(Outcome::Refused),
-    }
+    let Some((one, two)) = legs_of(desk.thread(), place, transfer) else {
+        return Ok(Outcome::Refused);
+    };
+    let account = transfer.account;
+    carry_out(rt, alloc, desk, log, &one, &two, account, point, idle)
 }
 
-// Makes the transfers, until memory is refused.
+// Makes the transfers, until memory is refused or the teller dies.
 fn make_all<R: Wait>(
     rt: &R,
     alloc: Global,
     desk: &mut Desk,
     log: &mut MemoryLog,
     transfers: &[Transfer],
+    death: Option<Death>,
     outcomes: &mut Vec<Outcome>,
 ) -> Result<(), AllocError>
     ensures goes_on { GoesOn desk.old desk.new }
     ensures kept { AllKept desk.old → AllKept desk.new }
-    ensures each { OnOk result (length outcomes.new.items ≡ length outcomes.old.items + length transfers.now) }
-    ensures made { OnOk result (HasMade transfers.now outcomes.old.items desk.old outcomes.new.items desk.new) }
+    ensures each { OnOk result (death ≡ None → length outcomes.new.items
+        ≡ length outcomes.old.items + length transfers.now) }
+    ensures made { OnOk result (HasMade transfers.now death outcomes.old.items desk.old log.old.state
+        outcomes.new.items desk.new log.new.state) }
 {
     desks_go_on();
     let mut idle = Spin::new();
     open_all(rt, desk, &mut idle);
     for (place, transfer) in transfers.iter().enumerate() {
-        let outcome = make(rt, alloc, desk, log, place, transfer, &mut idle)?;
+        let point = point_at(death, place);
+        let outcome = make(rt, alloc, desk, log, place, transfer, point, &mut idle)?;
+        let died = outcome.has_died();
         outcomes.push(outcome)?;
+        if died {
+            return Ok(());
+        }
     }
     Ok(())
 }
@@ -260,14 +319,31 @@ impl Teller {
     pub fn new(alloc: Global, transfers: Vec<Transfer>) -> Result<Teller, AllocError>
         ensures none { IfOk result (λ t. t.outcomes.items ≡ []) }
         ensures transfers { IfOk result (λ t. t.transfers.items ≡ transfers.items) }
+        ensures lives { IfOk result (λ t. t.death ≡ None) }
     {
         Ok(Teller {
             alloc,
             log: MemoryLog::new(alloc),
             outcomes: Vec::with_capacity(alloc, transfers.len())?,
             transfers,
+            death: None,
             wants_memory: false,
         })
+    }
+
+    /// The same teller, to die this death.
+    pub fn dying(mut self, death: Death) -> Teller
+        ensures { result ≡ record self { death = Some death } }
+    {
+        self.death = Some(death);
+        self
+    }
+
+    /// Its decision log, by which what it left is resolved.
+    pub fn log(&self) -> &MemoryLog
+        ensures { result.now ≡ self.now.log }
+    {
+        &self.log
     }
 }
 
@@ -283,6 +359,7 @@ impl Client for Teller {
             desk,
             &mut self.log,
             &self.transfers,
+            self.death,
             &mut self.outcomes,
         );
         self.wants_memory = made.is_err();

@@ -39,7 +39,7 @@ use Rattle.xa_driver.proofs.Voting.{tells_so}
 
 -- ---- a history, parted at a request
 
-last_both : (f : Fate) (xs ys : List Fate) → last_or f (xs ++ ys) ≡ last_or (last_or f xs) ys
+pub last_both : (f : Fate) (xs ys : List Fate) → last_or f (xs ++ ys) ≡ last_or (last_or f xs) ys
 last_both f [] ys = refl
 last_both f (x ∷ xs) ys = last_both x xs ys
 

@@ -1,5 +1,5 @@
 -- The three rounds make a call.
-use Rattle.std.specs.Prelude.{◌≡◌, ℕ, ◌+◌, ◌<◌, ◌≤◌, Bool, ◌||◌, ◌&&◌, ◌==◌, Option, None, Some, unwrap_or, List, [], ◌∷◌, ◌++◌, length, map, refl}
+use Rattle.std.specs.Prelude.{◌≡◌, ℕ, ◌+◌, ◌≤◌, Bool, ◌||◌, ◌&&◌, ◌==◌, Option, None, Some, unwrap_or, List, [], ◌∷◌, ◌++◌, length, map, refl}
 use Rattle.std.proofs.Common.{sym, ap, ◌∙◌, subst, arith, get_or, length-append}
 use Rattle.std.proofs.Common.{take}
 use Rattle.std.proofs.Math.Seq.{take-append_seam}
@@ -9,17 +9,17 @@ use Rattle.xa_words.specs.declared.code.Code.TheVariants.{RmFail}
 use Rattle.xa_words.specs.declared.request.Op.{Op}
 use Rattle.xa_words.specs.declared.request.Op.TheVariants.{Prepare}
 use Rattle.xa_desk.specs.LedgerView.{LedgerView, learnt_shut}
-use Rattle.xa_desk.specs.DeskView.{DeskView, ledger}
+use Rattle.xa_desk.specs.DeskView.{ledger}
 use Rattle.xa_driver.specs.declared.branch.Branch.{Branch}
 use Rattle.xa_driver.specs.declared.ask.Ask.{Ask}
 use Rattle.xa_driver.specs.declared.done.Done.{Done}
 use Rattle.xa_driver.specs.declared.done.Ending.{Ending}
 use Rattle.xa_driver.specs.Decision.{is_yes, voted_yes, yes_of}
 use Rattle.xa_driver.specs.Endings.{second_op, third_op, ending_of}
-use Rattle.xa_driver.specs.Log.{LogState, record_of}
+use Rattle.xa_driver.specs.Log.{LogState}
 use Rattle.xa_driver.specs.Asks.{asked, IsAnswered, AskTrace, EachAsk, among_asks, Asks, SameAsks, IsSameAsk, AreRising, AllCanAsk}
-use Rattle.xa_driver.specs.Rounds.{first_ask, code_of, second_ask, third_ask, ending_of_ask, asked_yes}
-use Rattle.xa_driver.specs.Trace.{BranchTrace, decided, EachBranch, has_branch_at, IsTranOf, AreBranchesRising, HasRoom, HaveRoom, MayCommit, Logs, decision_of, IsTraceOfCommit}
+use Rattle.xa_driver.specs.Rounds.{first_ask, code_of, second_ask, third_ask, ending_of_ask, asked_yes, yes_asked}
+use Rattle.xa_driver.specs.Trace.{BranchTrace, decided, EachBranch, has_branch_at, IsTranOf, AreBranchesRising, HasRoom, HaveRoom, Logs, decision_of, IsTraceOfCommit}
 use Rattle.xa_base.proofs.Truth.{by_if}
 
 pub first_rising : (lo : ℕ) (bs : List Branch) → AreBranchesRising lo bs → AreRising lo (map first_ask bs)
@@ -34,16 +34,6 @@ pub firsts : (bs : List Branch) → length (map first_ask bs) ≡ length bs
 firsts [] = refl
 firsts (b ∷ bs) = let z = firsts bs in omega arith
 
-rising_by : (lo hi : ℕ) (ks : List Ask) → hi ≡ lo → AreRising hi ks → AreRising lo ks
-rising_by lo hi ks e r = subst (λ (n : ℕ). AreRising n ks) e r
-
-pub second_rising : (commit : Bool) (lo : ℕ) (bs : List Branch) (ks : List Ask) → SameAsks (map first_ask bs) ks → AreBranchesRising lo bs → AreRising lo (map (second_ask commit) ks)
-second_rising commit lo [] [] s r = tt
-second_rising commit lo [] (k ∷ ks) s r = absurd s
-second_rising commit lo (b ∷ bs) [] s r = absurd s
-second_rising commit lo (b ∷ bs) (k ∷ ks) s r =
-    (subst (λ (n : ℕ). lo < n) (sym s.0.manager) r.0, rising_by k.manager b.m (map (second_ask commit) ks) (sym s.0.manager) (second_rising commit b.m bs ks s.1 r.1))
-
 -- a request adds at most one
 record AtMostOne (a a' : LedgerView) : Type 0 where
   sent : length a'.sent ≤ length a.sent + 1
@@ -57,32 +47,32 @@ one_more a None code = none_more a
 one_more a (Some op) None = none_more a
 one_more a (Some op) (Some c) = by_if (AtMostOne a) (learnt_shut a) _ _ (λ _. none_more a) (λ _. record { sent = omega (arith, length-append a.sent (op ∷ [])); plan = refl })
 
-pub second_can : (commit : Bool) (old mid : List LedgerView) (bs : List Branch) (ks : List Ask) → length mid ≡ length old → SameAsks (map first_ask bs) ks → EachAsk ks old mid → HaveRoom old bs → AllCanAsk (map (second_ask commit) ks) mid
-second_can commit old mid [] [] l s e h = tt
-second_can commit old mid [] (k ∷ ks) l s e h = absurd s
-second_can commit old mid (b ∷ bs) [] l s e h = absurd s
-second_can commit old mid (b ∷ bs) (k ∷ ks) l s e h =
+pub next_can : (old mid : List LedgerView) (bs : List Branch) (ks : List Ask) → length mid ≡ length old → SameAsks (map first_ask bs) ks → EachAsk ks old mid → HaveRoom old bs → AllCanAsk ks mid
+next_can old mid [] [] l s e h = tt
+next_can old mid [] (k ∷ ks) l s e h = absurd s
+next_can old mid (b ∷ bs) [] l s e h = absurd s
+next_can old mid (b ∷ bs) (k ∷ ks) l s e h =
     let room : HasRoom old k.manager = subst (HasRoom old) (sym s.0.manager) h.0 in
     let more : AtMostOne (ledger old k.manager) (ledger mid k.manager) = subst (AtMostOne (ledger old k.manager)) (sym e.0.trace) (one_more (ledger old k.manager) k.op k.code) in (
       record {
         known = record { positive = room.known.positive; within = let z = room.known.within in omega arith };
         room = let x = room.room in let y = more.sent in let z = more.plan in omega arith;
       },
-      second_can commit old mid bs ks l s.1 e.1 h.1,
+      next_can old mid bs ks l s.1 e.1 h.1,
     )
 
 -- after two requests at most a third can be asked
 two_more : (a b c : LedgerView) → AtMostOne a b → AtMostOne b c → (length c.sent ≤ length a.sent + 2) × (c.plan ≡ a.plan)
 two_more a b c p q = (let x = p.sent in let y = q.sent in omega arith, q.plan ∙ p.plan)
 
-pub third_can : (commit : Bool) (old mid late : List LedgerView) (bs : List Branch) (ks js : List Ask) → length mid ≡ length old → length late ≡ length mid
-    → SameAsks (map first_ask bs) ks → SameAsks (map (second_ask commit) ks) js → EachAsk ks old mid → EachAsk js mid late → HaveRoom old bs → AllCanAsk (map third_ask js) late
-third_can commit old mid late [] [] [] l n s r e f h = tt
-third_can commit old mid late [] [] (j ∷ js) l n s r e f h = absurd r
-third_can commit old mid late [] (k ∷ ks) js l n s r e f h = absurd s
-third_can commit old mid late (b ∷ bs) [] js l n s r e f h = absurd s
-third_can commit old mid late (b ∷ bs) (k ∷ ks) [] l n s r e f h = absurd r
-third_can commit old mid late (b ∷ bs) (k ∷ ks) (j ∷ js) l n s r e f h =
+pub last_can : (commit : Bool) (old mid late : List LedgerView) (bs : List Branch) (ks js : List Ask) → length mid ≡ length old → length late ≡ length mid
+    → SameAsks (map first_ask bs) ks → SameAsks (map (second_ask commit) ks) js → EachAsk ks old mid → EachAsk js mid late → HaveRoom old bs → AllCanAsk js late
+last_can commit old mid late [] [] [] l n s r e f h = tt
+last_can commit old mid late [] [] (j ∷ js) l n s r e f h = absurd r
+last_can commit old mid late [] (k ∷ ks) js l n s r e f h = absurd s
+last_can commit old mid late (b ∷ bs) [] js l n s r e f h = absurd s
+last_can commit old mid late (b ∷ bs) (k ∷ ks) [] l n s r e f h = absurd r
+last_can commit old mid late (b ∷ bs) (k ∷ ks) (j ∷ js) l n s r e f h =
     let same : j.manager ≡ k.manager = r.0.manager in
     let room : HasRoom old j.manager = subst (HasRoom old) (sym (same ∙ s.0.manager)) h.0 in
     let one : AtMostOne (ledger old j.manager) (ledger mid j.manager) =
@@ -93,18 +83,8 @@ third_can commit old mid late (b ∷ bs) (k ∷ ks) (j ∷ js) l n s r e f h =
         known = record { positive = room.known.positive; within = let z = room.known.within in omega arith };
         room = let x = room.room in let y = both.0 in let z = both.1 in omega arith;
       },
-      third_can commit old mid late bs ks js l n s.1 r.1 e.1 f.1 h.1,
+      last_can commit old mid late bs ks js l n s.1 r.1 e.1 f.1 h.1,
     )
-
-pub third_rising : (commit : Bool) (lo : ℕ) (bs : List Branch) (ks js : List Ask) → SameAsks (map first_ask bs) ks → SameAsks (map (second_ask commit) ks) js → AreBranchesRising lo bs → AreRising lo (map third_ask js)
-third_rising commit lo [] [] [] s r a = tt
-third_rising commit lo [] [] (j ∷ js) s r a = absurd r
-third_rising commit lo [] (k ∷ ks) js s r a = absurd s
-third_rising commit lo (b ∷ bs) [] js s r a = absurd s
-third_rising commit lo (b ∷ bs) (k ∷ ks) [] s r a = absurd r
-third_rising commit lo (b ∷ bs) (k ∷ ks) (j ∷ js) s r a =
-    let m : j.manager ≡ b.m = r.0.manager ∙ s.0.manager in
-    (subst (λ (n : ℕ). lo < n) (sym m) a.0, rising_by j.manager b.m (map third_ask js) (sym m) (third_rising commit b.m bs ks js s.1 r.1 a.1))
 
 pub seconds_long : (commit : Bool) (bs : List Branch) (ks : List Ask) → SameAsks (map first_ask bs) ks → length (map (second_ask commit) ks) ≡ length bs
 seconds_long commit [] [] s = refl
@@ -125,7 +105,7 @@ same_long (j ∷ js) [] s = absurd s
 same_long (j ∷ js) (k ∷ ks) s = let z = same_long js ks s.1 in omega arith
 
 -- a Prepare is answered
-answered_some : (a : LedgerView) (op : Op) (k : Ask) → IsAnswered a (Some op) k.code → k.code ≡ Some (code_of k)
+pub answered_some : (a : LedgerView) (op : Op) (k : Ask) → IsAnswered a (Some op) k.code → k.code ≡ Some (code_of k)
 answered_some a op k h = elim (k.code) as (λ c. IsAnswered a (Some op) c → k.code ≡ c → k.code ≡ Some (code_of k)) [
   | None ↦ λ no_code e. absurd no_code
   | Some c ↦ λ ok e. e ∙ ap (λ (d : Code). Some d) (sym (code_is k c e))
@@ -158,7 +138,7 @@ branch_trace commit b k j l old mid late new s r q one two three =
       trace = z.trace ∙ ap (λ (a : LedgerView). asked a (third_op b.xid j.code) l.code) until;
     }
 
-abbrev second_code : Ask → Option Code
+abbrev pub second_code : Ask → Option Code
 second_code k = k.code
 
 each_branch : (commit : Bool) (bs : List Branch) (ks js ls : List Ask) (old mid late new : List LedgerView) → SameAsks (map first_ask bs) ks → SameAsks (map (second_ask commit) ks) js → SameAsks (map third_ask js) ls
@@ -174,19 +154,19 @@ each_branch commit (b ∷ bs) (k ∷ ks) (j ∷ js) [] old mid late new s r q e 
 each_branch commit (b ∷ bs) (k ∷ ks) (j ∷ js) (l ∷ ls) old mid late new s r q e f g =
     ((branch_trace commit b k j l old mid late new s.0 r.0 q.0 e.0 f.0 g.0, ap (λ v. ending_of commit v j.code) r.0.vote), each_branch commit bs ks js ls old mid late new s.1 r.1 q.1 e.1 f.1 g.1)
 
-among_first : (bs : List Branch) (ks : List Ask) (m : ℕ) → SameAsks (map first_ask bs) ks → among_asks ks m ≡ has_branch_at bs m
+pub among_first : (bs : List Branch) (ks : List Ask) (m : ℕ) → SameAsks (map first_ask bs) ks → among_asks ks m ≡ has_branch_at bs m
 among_first [] [] m s = refl
 among_first [] (k ∷ ks) m s = absurd s
 among_first (b ∷ bs) [] m s = absurd s
 among_first (b ∷ bs) (k ∷ ks) m s = λ i. (s.0.manager i == m) || among_first bs ks m s.1 i
 
-among_second : (commit : Bool) (ks js : List Ask) (m : ℕ) → SameAsks (map (second_ask commit) ks) js → among_asks js m ≡ among_asks ks m
+pub among_second : (commit : Bool) (ks js : List Ask) (m : ℕ) → SameAsks (map (second_ask commit) ks) js → among_asks js m ≡ among_asks ks m
 among_second commit [] [] m s = refl
 among_second commit [] (j ∷ js) m s = absurd s
 among_second commit (k ∷ ks) [] m s = absurd s
 among_second commit (k ∷ ks) (j ∷ js) m s = λ i. (s.0.manager i == m) || among_second commit ks js m s.1 i
 
-among_third : (js ls : List Ask) (m : ℕ) → SameAsks (map third_ask js) ls → among_asks ls m ≡ among_asks js m
+pub among_third : (js ls : List Ask) (m : ℕ) → SameAsks (map third_ask js) ls → among_asks ls m ≡ among_asks js m
 among_third [] [] m s = refl
 among_third [] (l ∷ ls) m s = absurd s
 among_third (j ∷ js) [] m s = absurd s
@@ -198,9 +178,6 @@ yes_at m [] (k ∷ ks) s = absurd s
 yes_at m (b ∷ bs) [] s = absurd s
 yes_at m (b ∷ bs) (k ∷ ks) s = λ i. ((s.0.manager i == m) && is_yes (code_of k)) || yes_at m bs ks s.1 i
 
-abbrev pub yes_asked : List Ask → List Bool
-yes_asked ks = asked_yes 1 ks ∷ asked_yes 2 ks ∷ asked_yes 3 ks ∷ asked_yes 4 ks ∷ asked_yes 5 ks ∷ asked_yes 6 ks ∷ asked_yes 7 ks ∷ asked_yes 8 ks ∷ []
-
 pub yes_is : (bs : List Branch) (ks : List Ask) → SameAsks (map first_ask bs) ks → yes_asked ks ≡ yes_of bs (map code_of ks)
 yes_is bs ks s = λ i. yes_at 1 bs ks s i ∷ yes_at 2 bs ks s i ∷ yes_at 3 bs ks s i ∷ yes_at 4 bs ks s i ∷ yes_at 5 bs ks s i ∷ yes_at 6 bs ks s i ∷ yes_at 7 bs ks s i ∷ yes_at 8 bs ks s i ∷ []
 
@@ -209,16 +186,12 @@ pub tran_first : (bs : List Branch) (b : Branch) (t : TranName) → 1 ≤ length
 tran_first [] b t h e all = absurd (omega arith)
 tran_first (c ∷ bs) b t h e all = ap (λ (d : Branch). tran_of d.xid) e ∙ all.0
 
-pub absent_first : (d : DeskView) (log : LogState) (bs : List Branch) (b : Branch) → MayCommit d log bs → b ≡ get_or bs 0 b → record_of log (tran_of b.xid) ≡ None
-absent_first d log bs b may e = ap (record_of log) (tran_first bs b may.tran may.some e may.one) ∙ may.absent
-
-pub call_is : (done : Done) (bs : List Branch) (ks js ls : List Ask) (old mid late new : List LedgerView) (log log' : LogState) (b : Branch) (t : TranName)
-    → 1 ≤ length bs → b ≡ get_or bs 0 b → IsTranOf bs t
+pub call_by : (done : Done) (bs : List Branch) (ks js ls : List Ask) (old mid late new : List LedgerView) (log log' : LogState) (t : TranName)
     → SameAsks (map first_ask bs) ks → Asks ks old mid → SameAsks (map (second_ask done.commit) ks) js → Asks js mid late → SameAsks (map third_ask js) ls → Asks ls late new
     → done.votes.items ≡ map code_of ks → done.endings.items ≡ map (ending_of_ask done.commit) js
-    → done.commit ≡ decision_of (map code_of ks) done.logged → Logs (tran_of b.xid) (yes_asked ks) (map code_of ks) done.logged log log'
+    → done.commit ≡ decision_of (map code_of ks) done.logged → Logs t (yes_asked ks) (map code_of ks) done.logged log log'
     → IsTraceOfCommit t bs old new log log' done
-call_is done bs ks js ls old mid late new log log' b t some is all s one r two q three votes endings decision logs =
+call_by done bs ks js ls old mid late new log log' t s one r two q three votes endings decision logs =
     let branch : Branch → Code → Option Code → Ending → Type 0 = λ b v s e. BranchTrace done.commit b v s (ledger old b.m) (ledger new b.m) × (e ≡ ending_of done.commit v s) in
     record {
       seconds = map second_code js;
@@ -230,8 +203,7 @@ call_is done bs ks js ls old mid late new log log' b t some is all s one r two q
       managers = three.managers ∙ two.managers ∙ one.managers;
       decision = decision ∙ ap (λ vs. decision_of vs done.logged) (sym votes);
       logs = subst (λ (vs : List Code). Logs t (yes_of bs vs) vs done.logged log log') (sym votes)
-          (subst (λ (z : TranName). Logs z (yes_of bs (map code_of ks)) (map code_of ks) done.logged log log') (tran_first bs b t some is all)
-          (subst (λ (y : List Bool). Logs (tran_of b.xid) y (map code_of ks) done.logged log log') (yes_is bs ks s) logs));
+          (subst (λ (y : List Bool). Logs t y (map code_of ks) done.logged log log') (yes_is bs ks s) logs);
     }
 
 -- a list that a vector was lent out as

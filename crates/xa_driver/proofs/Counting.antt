@@ -96,10 +96,10 @@ decides_by : (f : Fate) (d : HeuristicDecision) → f ≡ decided_fate d → end
 decides_by f decision.Commit e = ap ending_by e ∙ ap (λ g. Some (is_committed g)) (sym e)
 decides_by f decision.Rollback e = ap ending_by e ∙ ap (λ g. Some (is_committed g)) (sym e)
 
-ending_so : (commit : Bool) (L : Type 0) (s : Option State) (f : Fate) (e : Ending) → Comes commit L s f e → is_unknown f ≡ false → ending_by f ≡ Some (is_committed f)
-ending_so commit L s f e (ends g) known = ends_by f commit g
-ending_so commit L s f e (tells d g h) known = decides_by f d g
-ending_so commit L s f e (leaves doubt left st) known = by_standing st
+ending_so : (commit : Bool) (W L : Type 0) (s : Option State) (f : Fate) (e : Ending) → Comes commit W L s f e → is_unknown f ≡ false → ending_by f ≡ Some (is_committed f)
+ending_so commit W L s f e (ends g) known = ends_by f commit g
+ending_so commit W L s f e (tells d g h) known = decides_by f d g
+ending_so commit W L s f e (leaves why left st) known = by_standing st
   where
     by_standing : Stands commit true (f ≡ history.InDoubt) L s f → ending_by f ≡ Some (is_committed f)
     by_standing (waits y open_ state g) = let z : true ≡ false = sym (ap is_unknown g) ∙ known in cc
@@ -107,12 +107,12 @@ ending_so commit L s f e (leaves doubt left st) known = by_standing st
     by_standing (over state g) = let z : true ≡ false = sym left ∙ ap is_left_in state in cc
 
 -- it counts where it was committed
-pub counts_so : (commit : Bool) (L : Type 0) (s : Option State) (f through : Fate) (e : Ending) (after : Bool) → Comes commit L s f e → (is_unknown f ≡ true → after ≡ is_committed through)
+pub counts_so : (commit : Bool) (W L : Type 0) (s : Option State) (f through : Fate) (e : Ending) (after : Bool) → Comes commit W L s f e → (is_unknown f ≡ true → after ≡ is_committed through)
     → commits_or after (history.InDoubt ∷ once f) ≡ is_committed (if is_unknown f then through else f)
-counts_so commit L s f through e after comes later =
+counts_so commit W L s f through e after comes later =
     elim (is_unknown f) as (λ b. is_unknown f ≡ b → commits_or after (if b then [] else f ∷ []) ≡ is_committed (if b then through else f)) [
       | true ↦ λ unknown. later unknown
-      | false ↦ λ known. ap (λ o. or_later o after) (ending_so commit L s f e comes known)
+      | false ↦ λ known. ap (λ o. or_later o after) (ending_so commit W L s f e comes known)
     ] refl
 
 -- ---- through the later openings

@@ -13,7 +13,7 @@ use Rattle.xa_desk.specs.LedgerView.{LedgerView}
 use Rattle.xa_desk.specs.DeskView.{ledger, room_at}
 use Rattle.xa_switch.specs.Scans.{ScanView, left_at}
 use Rattle.xa_driver.specs.declared.resolved.Outcome.{Outcome}
-use Rattle.xa_driver.specs.Log.{LogState}
+use Rattle.xa_driver.specs.Log.{Records}
 use Rattle.xa_driver.specs.Resolving.{AsksLedger, ResolvesThese, ResolvesAt, requests_for, left_in}
 
 -- ---- a manager at which some are left
@@ -27,9 +27,9 @@ pub left_few : (xs : List XidName) (n : ℕ) → requests_for xs ≤ n → lengt
 left_few [] n few = omega arith
 left_few (x ∷ xs) n few = omega (arith, few)
 
-pub resolves_there : (log : LogState) (m : ℕ) (xs : List XidName) (os : List Outcome) (a a' : LedgerView) → length xs ≢ 0 → ResolvesThese AsksLedger log m xs os a a' → ResolvesAt AsksLedger log m xs os a a'
-resolves_there log m [] os a a' some is = absurd (some refl)
-resolves_there log m (x ∷ xs) os a a' some is = is
+pub resolves_there : (records : Records) (m : ℕ) (xs : List XidName) (os : List Outcome) (a a' : LedgerView) → length xs ≢ 0 → ResolvesThese AsksLedger records m xs os a a' → ResolvesAt AsksLedger records m xs os a a'
+resolves_there records m [] os a a' some is = absurd (some refl)
+resolves_there records m (x ∷ xs) os a a' some is = is
 
 -- ---- managers one after another
 
@@ -66,34 +66,34 @@ lists_same f g (suc n) same =
     ∙ sym (lists_more g n) ∙ ap (λ k. flat_map g (range_with_len 1 k)) (sym next_one)
 
 -- what the managers so far have come to, and that the others are as they were
-pub record SoFar (z : ScanView) (log : LogState) (n : ℕ) (old new : List LedgerView) (outcomes : List Outcome) : Type 0 where
+pub record SoFar (z : ScanView) (records : Records) (n : ℕ) (old new : List LedgerView) (outcomes : List Outcome) : Type 0 where
   pub at : ℕ → List Outcome
   pub outcomes_are : outcomes ≡ flat_map at (range_with_len 1 n)
-  pub each : (m : ℕ) → IsUpTo n m → ResolvesAt AsksLedger log m (left_at z m) (at m) (ledger old m) (ledger new m)
+  pub each : (m : ℕ) → IsUpTo n m → ResolvesAt AsksLedger records m (left_at z m) (at m) (ledger old m) (ledger new m)
   pub others : (m : ℕ) → n < m → ledger new m ≡ ledger old m
 
-pub none_so_far : (z : ScanView) (log : LogState) (at : List LedgerView) → SoFar z log 0 at at []
-none_so_far z log at = record { at = λ m. []; outcomes_are = refl; each = λ m within. let low = within.0 in let high = within.1 in absurd (omega (arith, low, high)); others = λ m above. refl }
+pub none_so_far : (z : ScanView) (records : Records) (at : List LedgerView) → SoFar z records 0 at at []
+none_so_far z records at = record { at = λ m. []; outcomes_are = refl; each = λ m within. let low = within.0 in let high = within.1 in absurd (omega (arith, low, high)); others = λ m above. refl }
 
 -- one more
-pub one_more_so_far : (z : ScanView) (log : LogState) (n : ℕ) (old mid new : List LedgerView) (outcomes outcomes' more : List Outcome) → SoFar z log n old mid outcomes → outcomes' ≡ outcomes ++ more
-    → ResolvesAt AsksLedger log (n + 1) (left_at z (n + 1)) more (ledger mid (n + 1)) (ledger new (n + 1)) → ((m : ℕ) → 1 ≤ m → m ≢ n + 1 → ledger new m ≡ ledger mid m) → SoFar z log (n + 1) old new outcomes'
-one_more_so_far z log n old mid new outcomes outcomes' more is grown here others = record {
+pub one_more_so_far : (z : ScanView) (records : Records) (n : ℕ) (old mid new : List LedgerView) (outcomes outcomes' more : List Outcome) → SoFar z records n old mid outcomes → outcomes' ≡ outcomes ++ more
+    → ResolvesAt AsksLedger records (n + 1) (left_at z (n + 1)) more (ledger mid (n + 1)) (ledger new (n + 1)) → ((m : ℕ) → 1 ≤ m → m ≢ n + 1 → ledger new m ≡ ledger mid m) → SoFar z records (n + 1) old new outcomes'
+one_more_so_far z records n old mid new outcomes outcomes' more is grown here others = record {
   at = at;
   outcomes_are = grown ∙ (λ i. (is.outcomes_are ∙ lists_same is.at at n (λ m low. sym (at_false (m == n + 1) more (is.at m) (ne_eqb m (n + 1) (λ e. absurd (omega (arith, low, e))))))) i ++ sym (at_true ((n + 1) == n + 1) more (is.at (n + 1)) (eq-eqb (n + 1) (n + 1) refl)) i)
       ∙ sym (lists_more at n);
   each = λ m within. elim (cases_Bool (m == n + 1)) [
     | inl same ↦
         let e : m ≡ n + 1 = eqb-true m (n + 1) same in
-        subst (λ l. ResolvesAt AsksLedger log m (left_at z m) l (ledger old m) (ledger new m)) (sym (at_true (m == n + 1) more (is.at m) same))
-        (subst (λ k. ResolvesAt AsksLedger log k (left_at z k) more (ledger old k) (ledger new k)) (sym e)
-        (subst (λ a. ResolvesAt AsksLedger log (n + 1) (left_at z (n + 1)) more a (ledger new (n + 1))) (is.others (n + 1) (omega arith)) here))
+        subst (λ l. ResolvesAt AsksLedger records m (left_at z m) l (ledger old m) (ledger new m)) (sym (at_true (m == n + 1) more (is.at m) same))
+        (subst (λ k. ResolvesAt AsksLedger records k (left_at z k) more (ledger old k) (ledger new k)) (sym e)
+        (subst (λ a. ResolvesAt AsksLedger records (n + 1) (left_at z (n + 1)) more a (ledger new (n + 1))) (is.others (n + 1) (omega arith)) here))
     | inr other ↦
         let differs = eqb-false m (n + 1) other in
         let low = within.0 in
         let high = within.1 in
-        subst (λ l. ResolvesAt AsksLedger log m (left_at z m) l (ledger old m) (ledger new m)) (sym (at_false (m == n + 1) more (is.at m) other))
-        (subst (λ a. ResolvesAt AsksLedger log m (left_at z m) (is.at m) (ledger old m) a) (sym (others m low differs)) (is.each m (low, omega (arith, high, differs))))
+        subst (λ l. ResolvesAt AsksLedger records m (left_at z m) l (ledger old m) (ledger new m)) (sym (at_false (m == n + 1) more (is.at m) other))
+        (subst (λ a. ResolvesAt AsksLedger records m (left_at z m) (is.at m) (ledger old m) a) (sym (others m low differs)) (is.each m (low, omega (arith, high, differs))))
   ];
   others = λ m above. others m (omega (arith, above)) (λ e. absurd (omega (arith, above, e))) ∙ is.others m (omega (arith, above));
 }

@@ -14,7 +14,7 @@ use Rattle.xa_tables.specs.History.{Fate, decided_fate, is_in_doubt as is_unknow
 use Rattle.xa_driver.specs.declared.done.Ending.{Ending}
 use Rattle.xa_driver.specs.declared.done.Ending.TheVariants.{Committed, ReadOnly, RolledBack, InDoubt, Heuristic, Left}
 use Rattle.xa_driver.specs.Endings.{is_decided}
-use Rattle.xa_driver.specs.Outcomes.{is_in_doubt, is_heuristic, told_fate}
+use Rattle.xa_driver.specs.Outcomes.{is_heuristic, told_fate}
 use Rattle.xa_driver.specs.Resolution.{ended_as}
 use Rattle.xa_driver.proofs.Answered.{IsAfter}
 use Rattle.xa_driver.proofs.Leading.{IsOver, Stands, waits, unforgotten, over}
@@ -95,7 +95,7 @@ module _ (commit : Bool) (L : Type 0) (Listed : HeuristicDecision → Type 0) (f
   left_end left (unforgotten d state g l) w = now (is_decided_so f d g) (inr (d, (g, inr (decided_listed d g w))))
   left_end left (over state g) w = let no_state : true ≡ false = sym left ∙ ap is_left_in state in cc
 
-  pub ends_so : {s : Option State} → Comes commit L s f e → (is_in_doubt e ≡ true → is_left_in s ≡ true → Stands commit true (f ≡ history.InDoubt) L s f → Through) → End at_last
-  ends_so (ends g) w = now (is_known_so f commit g) (inl g)
-  ends_so (tells d g h) w = now (is_decided_so f d g) (inr (d, (g, inl h)))
-  ends_so (leaves doubt left st) w = left_end left st (w doubt left st)
+  pub ends_so : (W : Type 0) → {s : Option State} → Comes commit W L s f e → (W → is_left_in s ≡ true → Stands commit true (f ≡ history.InDoubt) L s f → Through) → End at_last
+  ends_so W (ends g) w = now (is_known_so f commit g) (inl g)
+  ends_so W (tells d g h) w = now (is_decided_so f d g) (inr (d, (g, inl h)))
+  ends_so W (leaves why left st) w = left_end left st (w why left st)

@@ -9,10 +9,10 @@ use Rattle.xa_desk.specs.LedgerView.{LedgerView, learnt_shut, is_collected, with
 use Rattle.xa_desk.specs.DeskView.{DeskView, TicketView, IsKnown, Owns, ledger, outstanding}
 use Rattle.xa_switch.specs.Seats.{DeskSeat}
 use Rattle.xa_driver.specs.declared.ask.Ask.{Ask}
-use Rattle.xa_driver.specs.Asks.{AskTrace, EachAsk, among_asks, AreRising, CanAsk, AllCanAsk, KeepsDesk, IsUnsent, unsent_code, BeginsAsk, Ends, HasBegun, EachBegan, HaveBegun}
+use Rattle.xa_driver.specs.Asks.{AskTrace, EachAsk, among_asks, AreRising, CanAsk, AllCanAsk, KeepsDesk, IsUnsent, unsent_code, BeginsAsk, Ends, HasBegun, EachBegan}
 use Rattle.xa_driver.proofs.Ledgers.{open_count}
 use Rattle.xa_base.proofs.Truth.{at_false}
-use Rattle.xa_driver.proofs.Asking.{sent_by, Moved, at_true, began_moved, ended_moved, collected_of, keeps_start, keeps_chain, known_by, sent_is}
+use Rattle.xa_driver.proofs.Asking.{sent_by, Moved, at_true, began_moved, ended_moved, collected_of, known_by, sent_is}
 
 -- ---- which managers are among requests
 
@@ -109,7 +109,7 @@ asked_stays lo (k ∷ ks) at d d' m a' up none moved h = (
 
 -- ---- one more request
 
-begun_more : (ks : List Ask) (rs : List (Option TicketView)) (k : Ask) (r : Option TicketView) (at : List LedgerView) (d : DeskView) → EachBegan ks rs at d → HasBegun k r at d → EachBegan (ks ++ k ∷ []) (rs ++ r ∷ []) at d
+pub begun_more : (ks : List Ask) (rs : List (Option TicketView)) (k : Ask) (r : Option TicketView) (at : List LedgerView) (d : DeskView) → EachBegan ks rs at d → HasBegun k r at d → EachBegan (ks ++ k ∷ []) (rs ++ r ∷ []) at d
 begun_more [] [] k r at d h one = (one, tt)
 begun_more [] (q ∷ rs) k r at d h one = absurd h
 begun_more (j ∷ ks) [] k r at d h one = absurd h
@@ -120,7 +120,7 @@ asked_more [] k at at' h one = (one, tt)
 asked_more (j ∷ ks) k at at' h one = (h.0, asked_more ks k at at' h.1 one)
 
 -- the first request to a manager that nothing was sent to yet
-begins_flight : (k : Ask) (r : Option TicketView) (d0 d d' : DeskView) → ledger d.ledgers k.manager ≡ ledger d0.ledgers k.manager → IsKnown d.ledgers k.manager → BeginsAsk k d d' r → HasBegun k r d0.ledgers d'
+pub begins_flight : (k : Ask) (r : Option TicketView) (d0 d d' : DeskView) → ledger d.ledgers k.manager ≡ ledger d0.ledgers k.manager → IsKnown d.ledgers k.manager → BeginsAsk k d d' r → HasBegun k r d0.ledgers d'
 begins_flight k None d0 d d' same known b =
     (subst (λ (a : LedgerView). IsUnsent a k.op) same b.1, ap (λ (e : DeskView). ledger e.ledgers k.manager) b.0 ∙ same)
 begins_flight k (Some t) d0 d d' same known b = record {
@@ -132,23 +132,6 @@ begins_flight k (Some t) d0 d d' same known b = record {
   sent = sent_is k t d d' known b ∙ ap (λ (a : LedgerView). with_sent a b.op) same;
 }
 
--- one more was sent
-pub sent_more : (ks : List Ask) (rs : List (Option TicketView)) (k : Ask) (r : Option TicketView) (d0 d d' : DeskView)
-    → AreRising 0 (ks ++ k ∷ []) → IsKnown d0.ledgers k.manager → HaveBegun ks rs d0 d → BeginsAsk k d d' r → HaveBegun (ks ++ k ∷ []) (rs ++ r ∷ []) d0 d'
-sent_more ks rs k r d0 d d' up known h b =
-    let none : among_asks ks k.manager ≡ false = rising_apart 0 ks k [] up in
-    let same : ledger d.ledgers k.manager ≡ ledger d0.ledgers k.manager = h.others k.manager known.positive none in
-    let here : IsKnown d.ledgers k.manager = known_by d0.ledgers d.ledgers k.manager h.managers known in
-    let moved : Moved k.manager (sent_by (ledger d.ledgers k.manager) k.op) d d' = began_moved k d d' r here b in
-    record {
-      each = begun_more ks rs k r d0.ledgers d' (begun_stays 0 ks rs d0.ledgers d d' k.manager _ (rising_first_part 0 ks (k ∷ []) up) none moved h.each) (begins_flight k r d0 d d' same here b);
-      others = λ m p without.
-          let differs : m ≢ k.manager = λ e. apart k [] m (among_last_part ks (k ∷ []) m without) (sym e) in
-          moved.others m p differs ∙ h.others m p (among_first_part ks (k ∷ []) m without);
-      managers = moved.managers ∙ h.managers;
-      keeps = keeps_chain d0 d d' h.keeps moved.keeps;
-    }
-
 -- it takes one handle at most
 pub sent_takes_one : (k : Ask) (r : Option TicketView) (d d' : DeskView) → IsKnown d.ledgers k.manager → BeginsAsk k d d' r → outstanding d'.ledgers ≤ outstanding d.ledgers + 1
 sent_takes_one k None d d' known b = let z = ap (λ (e : DeskView). outstanding e.ledgers) b.0 in omega arith
@@ -158,9 +141,6 @@ sent_takes_one k (Some t) d d' known b =
     let is : with_sent a b.op ≡ sent_by a k.op = sym (at_false (learnt_shut a) _ _ b.open_) ∙ ap (sent_by a) (sym b.wanted) in
     let open_ : outstanding d'.ledgers + open_count a ≡ outstanding d.ledgers + open_count (with_sent a b.op) = subst (λ (x : LedgerView). outstanding d'.ledgers + open_count a ≡ outstanding d.ledgers + open_count x) (sym is) moved.open_ in
     omega (arith, length-append a.sent (b.op ∷ []))
-
-pub nothing_begun : (d : DeskView) → HaveBegun [] [] d d
-nothing_begun d = record { each = tt; others = λ m p none. refl; managers = refl; keeps = keeps_start d }
 
 -- ---- one is collected
 

@@ -11,9 +11,10 @@ use Rattle.xa_words.specs.Tran.{tran_of}
 use Rattle.xa_words.specs.declared.code.Code.{Code}
 use Rattle.xa_words.specs.declared.code.Code.TheVariants.{HeurCom, HeurRb, RmFail}
 use Rattle.xa_words.specs.declared.request.Op.{Op}
+use Rattle.xa_tables.specs.declared.state.State.{State}
 use Rattle.xa_tables.specs.declared.state.HeuristicDecision.{HeuristicDecision}
 use Rattle.xa_tables.specs.declared.state.HeuristicDecision.TheVariants as decision
-use Rattle.xa_tables.specs.Tables.{Tables, state_of, is_left_in}
+use Rattle.xa_tables.specs.Tables.{Tables, state_of, is_S3, is_left_in, is_prepared}
 use Rattle.xa_tables.specs.Reasons.{decision_code}
 use Rattle.xa_tables.specs.History.{History, Fate, coded, of_thread, tables_after, last_or}
 use Rattle.xa_tables.specs.Openings.{AreLeft, reopened, reopened_fate}
@@ -29,7 +30,7 @@ use Rattle.xa_switch.specs.Scans.{left_at}
 use Rattle.xa_switch.specs.Settling.{ManagerPart, Settling, IsSettled, FollowsTables, answers, collected, find_manager, journal_in}
 use Rattle.xa_driver.specs.declared.resolved.Outcome.{Outcome}
 use Rattle.xa_driver.specs.Endings.{is_decided}
-use Rattle.xa_driver.specs.Resolution.{ResolveCall, resolves, IsUseIn, IsKept, Opening, AreInARow, OnlyResolves, uses_of, fate_through}
+use Rattle.xa_driver.specs.Resolution.{ResolveCall, resolves, IsUseIn, IsKept, Opening, AreInARow, OnlyResolves, uses_of, fate_through, last_of, tables_left}
 use Rattle.xa_driver.specs.Resolving.{is_to_commit, outcome_op}
 use Rattle.xa_driver.proofs.Answered.{Placed, placed, placed_ends, placed_tells, IsAfter, after_list}
 use Rattle.xa_driver.proofs.Leading.{IsOver, Stands, waits, unforgotten, over, IsTowards, Standing, led_after, led_fates, as_decided, by_itself, ends_towards, stands_reopened, is_over}
@@ -70,7 +71,7 @@ module _ (law : Tabled) (first : (s : Settling) (m : ℕ) (T : Tables) → IsSet
       let all = named_so o.settled kept.settled m up (IsTowards commit L x) (tran_of x) o.uses (λ n. cc) kept.uses (λ q there r among. record {
         ends = λ manager is n.
             let same : r.xid ≡ x = (Decides-xid_eq r.xid x).0 (outcome_named r.commit r.xid n) in
-            let decided : r.commit ≡ commit = is ∙ ap (is_to_commit q.log m) same ∙ All-contains (FindsMark commit (tran_of x) m) o.uses (resolves q) marks there in
+            let decided : r.commit ≡ commit = is ∙ ap (is_to_commit q.records m) same ∙ All-contains (FindsMark commit (tran_of x) m) o.uses (resolves q) marks there in
             subst (λ b. IsTowards commit L x (outcome_op b r.xid)) (sym decided) (ends_towards commit L x r.xid) n;
         forgets = λ manager told n. lists q there r among manager ((Decides-xid_eq r.xid x).0 n) told;
       }) (only m) in
@@ -124,7 +125,7 @@ module _ (law : Tabled) (first : (s : Settling) (m : ℕ) (T : Tables) → IsSet
       use_ : IsUseIn o.settled (resolves q)
       use_ = All-contains (IsUseIn o.settled) o.uses (resolves q) w.kept.uses there
 
-      mark : is_to_commit q.log m x ≡ commit
+      mark : is_to_commit q.records m x ≡ commit
       mark = All-contains (FindsMark commit (tran_of x) m) o.uses (resolves q) w.marks there
 
       carried : of_thread t H ≡ numbered t 0 (ledger (ledgers_of o.settled t) m).sent
@@ -135,25 +136,39 @@ module _ (law : Tabled) (first : (s : Settling) (m : ℕ) (T : Tables) → IsSet
           subst (All (λ (p : ℕ × Code). slice_get (answers t (coded H T)) p.0 ≡ Some p)) (by_ledger (ledgers_of o.settled t) m (λ (z : LedgerView). z.collected) up.0 refl)
           (subst (λ (J : List Entry). All (λ (p : ℕ × Code). slice_get (answers t J) p.0 ≡ Some p) (collected o.settled t m)) with_T.codes (w.kept.settled.agree t m).coded)
 
+      pub mark_of : (r : Outcome) → Contains q.outcomes r → r.m ≡ m → r.xid ≡ x → r.commit ≡ commit
+      mark_of r among own same =
+          let asked = outcome_asked q.scan q.records q.old q.new q.outcomes use_.made m up (ledger (ledgers_of o.settled t) m) (use_.grown.each m up.0) r among own in
+          asked.decision ∙ ap (is_to_commit q.records m) same ∙ mark
+
       pub answered_at : (r : Outcome) → Contains q.outcomes r → r.m ≡ m → r.xid ≡ x → r.code ≢ RmFail → Placed t T H (outcome_op commit x) r.code
       answered_at r among own same reached =
-          let asked = outcome_asked q.scan q.log q.old q.new q.outcomes use_.made m up (ledger (ledgers_of o.settled t) m) (use_.grown.each m up.0) r among own in
-          let decided : r.commit ≡ commit = asked.decision ∙ ap (is_to_commit q.log m) same ∙ mark in
+          let asked = outcome_asked q.scan q.records q.old q.new q.outcomes use_.made m up (ledger (ledgers_of o.settled t) m) (use_.grown.each m up.0) r among own in
+          let decided : r.commit ≡ commit = asked.decision ∙ ap (is_to_commit q.records m) same ∙ mark in
           placed t T H (outcome_op commit x) r.code (ledger q.old m) (ledger (ledgers_of o.settled t) m).sent (ledger (ledgers_of o.settled t) m).collected carried answered
           (subst (λ (op : Op). IsAnsweredIn op r.code (ledger q.old m) (ledger (ledgers_of o.settled t) m).sent (ledger (ledgers_of o.settled t) m).collected) (λ i. outcome_op (decided i) (same i)) (asked.answered reached))
 
       -- where it was left, and the resolve reached all, it is no longer open
-      module _ (scan : AreLeft (left_at q.scan m) T) (reached : All (λ r. r.code ≢ RmFail) q.outcomes) where
+      module _ (scan : AreLeft (left_at q.scan m) T) (reached : (r : Outcome) → Contains q.outcomes r → r.m ≡ m → r.xid ≡ x → r.code ≢ RmFail) where
         left_ends : is_left_in (state_of T x) ≡ true → Standing commit false D L x (tables_after H T) (last_or f (fates x H T))
         left_ends left =
-            let r = left_has q.scan q.log q.old q.new q.outcomes use_.made m up (ledger (ledgers_of o.settled t) m) (use_.grown.each m up.0) x (scan.each x ∙ left) in
-            let in_time : r.0.code ≢ RmFail = All-contains (λ (z : Outcome). z.code ≢ RmFail) q.outcomes r.0 reached r.1.0 in
+            let r = left_has q.scan q.records q.old q.new q.outcomes use_.made m up (ledger (ledgers_of o.settled t) m) (use_.grown.each m up.0) x (scan.each x ∙ left) in
+            let in_time : r.0.code ≢ RmFail = reached r.0 r.1.0 r.1.1.0 r.1.1.1 in
             placed_ends commit D L t x T H f r.0.code w.towards stands_first in_time (λ d e. w.lists q there r.0 r.1.0 r.1.1.0 r.1.1.1 (decided_so r.0.code d e)) (answered_at r.0 r.1.0 r.1.1.0 r.1.1.1 in_time)
 
         by_standing : Stands commit true D L (state_of T x) f → Standing commit false D L x (tables_after H T) (last_or f (fates x H T))
         by_standing (waits y open_ e g) = left_ends (ap is_left_in e)
         by_standing (unforgotten d e g l) = left_ends (ap is_left_in e)
         by_standing (over e g) = led_after commit false D L x H T f w.towards (record { stands = over e g; sound = stands_first.sound })
+
+        -- so it isn't prepared any more
+        pub step_rests : is_prepared (tables_after H T) x ≡ false
+        step_rests = rests_so (by_standing w.stands).stands
+          where
+            rests_so : {s : Option State} {g : Fate} → Stands commit false D L s g → is_S3 s ≡ false
+            rests_so (waits y open_ e g) = cc
+            rests_so (unforgotten d e g l) = ap is_S3 e
+            rests_so (over e g) = ap is_S3 e
 
         pub step_ends : IsOver commit D L (settled_fate o.settled m x f)
         step_ends = subst (IsOver commit D L) (sym (fate_so o T f with_T)) (is_over commit D L (state_of (tables_after H T) x) (last_or f (fates x H T)) (by_standing w.stands).stands)
@@ -182,11 +197,19 @@ module _ (law : Tabled) (first : (s : Settling) (m : ℕ) (T : Tables) → IsSet
       )
 
   -- where a resolve of the last reached all, it is over
-  pub walk_ends : (between : List Opening) (last : Opening) (q : ResolveCall) (T : Tables) (f : Fate) → Contains last.uses (resolves q) → ((n : ℕ) (U : Tables) → first_of last.settled n ≡ Some U → AreLeft (left_at q.scan n) U) → All (λ r. r.code ≢ RmFail) q.outcomes
+  pub walk_ends : (between : List Opening) (last : Opening) (q : ResolveCall) (T : Tables) (f : Fate) → Contains last.uses (resolves q) → ((n : ℕ) (U : Tables) → first_of last.settled n ≡ Some U → AreLeft (left_at q.scan n) U) → ((r : Outcome) → Contains q.outcomes r → r.m ≡ m → r.xid ≡ x → r.code ≢ RmFail)
       → Walk (between ++ last ∷ []) T f → IsOver commit D L (fate_through m x f (between ++ last ∷ []))
   walk_ends [] last q T f there scan reached w = step_ends last (reopened T) (reopened_fate f) w.0 q there (scan m (reopened T) w.0.begins) reached
   walk_ends (p ∷ between) last q T f there scan reached w =
       walk_ends between last q (tables_after (history_of p.settled m) (reopened T)) (settled_fate p.settled m x (reopened_fate f)) there scan reached w.1
+
+  -- and it isn't prepared at the end of the last
+  pub walk_rests : (o : Opening) (between : List Opening) (last : Opening) (q : ResolveCall) (T : Tables) (f : Fate) → Contains last.uses (resolves q) → ((n : ℕ) (U : Tables) → first_of last.settled n ≡ Some U → AreLeft (left_at q.scan n) U) → ((r : Outcome) → Contains q.outcomes r → r.m ≡ m → r.xid ≡ x → r.code ≢ RmFail)
+      → Walk (between ++ last ∷ []) T f → is_prepared (tables_left (last_of o (between ++ last ∷ [])) m) x ≡ false
+  walk_rests o [] last q T f there scan reached w =
+      ap (λ (U : Tables). is_prepared U x) (ends_with last.settled m (reopened T) w.0.kept.settled w.0.begins) ∙ step_rests last (reopened T) (reopened_fate f) w.0 q there (scan m (reopened T) w.0.begins) reached
+  walk_rests o (p ∷ between) last q T f there scan reached w =
+      walk_rests p between last q (tables_after (history_of p.settled m) (reopened T)) (settled_fate p.settled m x (reopened_fate f)) there scan reached w.1
 
   -- ---- a decision that a resolve was told
 

@@ -1,11 +1,9 @@
 -- What names a transaction in an opening where only resolves do.
-use Rattle.std.proofs.Common.{◌≡◌, ◌≢◌, ℕ, suc, ◌+◌, ◌<◌, ◌≤◌, Bool, true, false, ◌==◌, ◌&&◌, ◌||◌, if◌then◌else◌, List, [], ◌∷◌, ◌++◌, length, length-append, append_assoc, get_or, sym, refl, ap, ◌∙◌, subst, Option, Some, None}
+use Rattle.std.proofs.Common.{◌≡◌, ◌≢◌, ℕ, suc, ◌+◌, ◌<◌, ◌≤◌, Bool, true, false, if◌then◌else◌, List, [], ◌∷◌, ◌++◌, length, length-append, append_assoc, get_or, sym, refl, ap, ◌∙◌, subst, Option, Some, None}
 use Rattle.std.specs.List.{All, Contains}
-use Rattle.std.proofs.lemmas.Bool.{eqb-true}
 use Rattle.std.proofs.lemmas.List.Elements.{All-contains, Contains-get_or}
 use Rattle.xa_base.specs.declared.limits.TheConstants.{MOST_MANAGERS}
 use Rattle.xa_base.specs.Lists.{IsUpTo}
-use Rattle.xa_base.proofs.Lists.{all_mid}
 use Rattle.xa_base.proofs.Truth.{at_false}
 use Rattle.xa_words.specs.Xid.{XidName}
 use Rattle.xa_words.specs.Orders.{Decides-xid_eq}
@@ -18,7 +16,7 @@ use Rattle.xa_tables.specs.History.{History, of_thread}
 use Rattle.xa_tables.specs.Prepared.{names}
 use Rattle.xa_desk.specs.LedgerView.{LedgerView, learnt_shut, with_sent, with_collected}
 use Rattle.xa_desk.specs.DeskView.{ledger}
-use Rattle.xa_desk.specs.Growth.{HasGrown, HaveGrown}
+use Rattle.xa_desk.specs.Growth.{HasGrown}
 use Rattle.xa_desk.specs.Lanes.{numbered}
 use Rattle.xa_switch.specs.Settling.{Settling, IsSettled, sent}
 use Rattle.xa_switch.specs.Fates.{ledgers_of, history as history_of}
@@ -26,12 +24,12 @@ use Rattle.xa_driver.specs.declared.branch.Branch.{Branch}
 use Rattle.xa_driver.specs.declared.done.Ending.{Ending}
 use Rattle.xa_driver.specs.declared.resolved.Outcome.{Outcome}
 use Rattle.xa_driver.specs.Asks.{asked}
-use Rattle.xa_driver.specs.Decision.{is_yes, voted_yes}
+use Rattle.xa_driver.specs.Decision.{is_yes}
 use Rattle.xa_driver.specs.Endings.{ending_of, second_op, third_op}
-use Rattle.xa_driver.specs.Log.{LogState}
-use Rattle.xa_driver.specs.Resolution.{CommitCall, ResolveCall, Use, commits, resolves, IsUseIn, IsKept, Opening, NamesTran, HasSent, OnlyResolves}
+use Rattle.xa_driver.specs.Log.{Records}
+use Rattle.xa_driver.specs.Resolution.{ResolveCall, Use, commits, cuts, resolves, IsUseIn, NamesTran, HasSent}
 use Rattle.xa_driver.specs.Resolving.{outcome_op}
-use Rattle.xa_driver.specs.Trace.{BranchTrace, EachBranch, IsTranOf, voted, decided}
+use Rattle.xa_driver.specs.Trace.{BranchTrace, voted, decided}
 use Rattle.xa_driver.proofs.Placing.{Parted, request_of, part, numbered_both}
 use Rattle.xa_driver.proofs.Requests.{own_between, IsFromTo}
 use Rattle.xa_driver.proofs.Resolves.{Any, Asks, Sends, resolve_sends, stays, on}
@@ -51,12 +49,12 @@ module _ (s : Settling) (settled : IsSettled s) (m : ℕ) (up : IsUpTo MOST_MANA
   abbrev pub Passes : (Op → Type 0) → Use → Type 0
   Passes P u = All (λ r. HasSent m r u → P r.op) H
 
-  resolve_passes : (P : Op → Type 0) (q : ResolveCall) → IsUseIn s (resolves q) → P OpenRm → ((o : Outcome) → Contains q.outcomes o → Asks P q.log m o) → Passes P (resolves q)
+  resolve_passes : (P : Op → Type 0) (q : ResolveCall) → IsUseIn s (resolves q) → P OpenRm → ((o : Outcome) → Contains q.outcomes o → Asks P q.records m o) → Passes P (resolves q)
   resolve_passes P q use_ opens asks =
       let t : ℕ = q.thread in
       let old : LedgerView = ledger q.old m in
       let new : LedgerView = ledger q.new m in
-      let z : Sends P old new = resolve_sends q.scan q.log q.old q.new q.outcomes use_.made P m up opens asks in
+      let z : Sends P old new = resolve_sends q.scan q.records q.old q.new q.outcomes use_.made P m up opens asks in
       let grown : HasGrown new (ledger (ledgers_of s t) m) = use_.grown.each m up.0 in
       let all_sent : sent s t m ≡ old.sent ++ (z.more ++ grown.sent.0) = sent_is s m up.0 t ∙ grown.sent.1 ∙ ap (λ l. l ++ grown.sent.0) z.sent ∙ append_assoc old.sent z.more grown.sent.0 in
       let size : length new.sent ≡ length old.sent + length z.more = ap (λ l. length l) z.sent ∙ length-append old.sent z.more in
@@ -64,12 +62,13 @@ module _ (s : Settling) (settled : IsSettled s) (m : ℕ) (up : IsUpTo MOST_MANA
       own_between t P H old.sent z.more grown.sent.0 ((settled.agree t m).carried ∙ ap (numbered t 0) all_sent) z.all in
       λ k d lt has. each k d lt has.thread has.from (subst (λ n. (get_or H k d).number < n) size has.below)
 
-  use_passes : (P : Op → Type 0) → P OpenRm → (u : Use) → IsUseIn s u → ((q : ResolveCall) → u ≡ resolves q → (o : Outcome) → Contains q.outcomes o → Asks P q.log m o) → Passes P u
+  use_passes : (P : Op → Type 0) → P OpenRm → (u : Use) → IsUseIn s u → ((q : ResolveCall) → u ≡ resolves q → (o : Outcome) → Contains q.outcomes o → Asks P q.records m o) → Passes P u
   use_passes P opens (commits c) use_ asks = λ k d lt has. absurd has
+  use_passes P opens (cuts c) use_ asks = λ k d lt has. absurd has
   use_passes P opens (resolves q) use_ asks = resolve_passes P q use_ opens (asks q refl)
 
   -- so is each request that names the transaction, where nothing but resolves does
-  pub named_so : (P : Op → Type 0) (t : TranName) (us : List Use) → P OpenRm → All (IsUseIn s) us → ((q : ResolveCall) → Contains us (resolves q) → (o : Outcome) → Contains q.outcomes o → Asks P q.log m o)
+  pub named_so : (P : Op → Type 0) (t : TranName) (us : List Use) → P OpenRm → All (IsUseIn s) us → ((q : ResolveCall) → Contains us (resolves q) → (o : Outcome) → Contains q.outcomes o → Asks P q.records m o)
       → All (λ r. NamesTran t r.op → (u : Use) × (Contains us u × HasSent m r u)) H → All (λ r. NamesTran t r.op → P r.op) H
   named_so P t us opens uses asks only k d lt named =
       let z = only k d lt named in
@@ -87,17 +86,7 @@ named_tran x (Forget y) n = ap tran_of ((Decides-xid_eq y x).0 n)
 named_tran x (Heur y by_commit) n = ap tran_of ((Decides-xid_eq y x).0 n)
 named_tran x op n = cc
 
--- ---- a commit gets no vote to commit
-
--- where no branch at the manager may have voted to commit, none did
-pub none_voted : (P : Branch → Code → Option Code → Ending → Type 0) (t : TranName) (m : ℕ) → ((b : Branch) (v : Code) (z : Option Code) (e : Ending) → tran_of b.xid ≡ t → b.m ≡ m → P b v z e → is_yes v ≡ false)
-    → (bs : List Branch) (vs : List Code) (zs : List (Option Code)) (es : List Ending) → IsTranOf bs t → EachBranch P bs vs zs es → voted_yes m bs vs ≡ false
-none_voted P t m against [] [] [] [] tran h = refl
-none_voted P t m against (b ∷ bs) (v ∷ vs) (z ∷ zs) (e ∷ es) tran h =
-    ap (λ q. q || voted_yes m bs vs)
-    (elim (b.m == m) as (λ c. (b.m == m) ≡ c → (c && is_yes v) ≡ false) [ true ↦ λ same. against b v z e tran.0 (eqb-true b.m m same) h.0 | false ↦ λ other. refl ] refl)
-    ∙ none_voted P t m against bs vs zs es tran.1 h.1
-none_voted P t m against bs vs zs es tran h = absurd h
+-- ---- what a commit asks
 
 abbrev pub Traced : Bool → List LedgerView → List LedgerView → Branch → Code → Option Code → Ending → Type 0
 Traced commit old new b v z e = BranchTrace commit b v z (ledger old b.m) (ledger new b.m) × (e ≡ ending_of commit v z)
@@ -105,13 +94,6 @@ Traced commit old new b v z e = BranchTrace commit b v z (ledger old b.m) (ledge
 -- a vote of a manager that is learnt to be shut isn't to commit
 shut_is_no : (commit : Bool) (b : Branch) (v : Code) (z : Option Code) (a a' : LedgerView) → BranchTrace commit b v z a a' → learnt_shut a ≡ true → is_yes v ≡ false
 shut_is_no commit b v z a a' tr shut = ap is_yes (tr.prepared shut)
-
--- where the desk has learnt that the manager is shut
-pub none_when_shut : (commit : Bool) (old new : List LedgerView) (t : TranName) (m : ℕ) → learnt_shut (ledger old m) ≡ true
-    → (bs : List Branch) (vs : List Code) (zs : List (Option Code)) (es : List Ending) → IsTranOf bs t → EachBranch (Traced commit old new) bs vs zs es → voted_yes m bs vs ≡ false
-none_when_shut commit old new t m shut =
-    none_voted (Traced commit old new) t m (λ b v z e of_tran same tr.
-    shut_is_no commit b v z (ledger old b.m) (ledger new b.m) tr.0 (ap (λ k. learnt_shut (ledger old k)) same ∙ shut))
 
 -- what a branch's requests add to the list, after its Prepare
 pub asked_on : (a : LedgerView) (op : Option Op) (code : Option Code) → Sends Any a (asked a op code)
@@ -134,47 +116,29 @@ prepared_sent commit b v z a a' tr y =
     on Any (voted b v a) (decided commit b v z a) _ (asked_on (voted b v a) (second_op commit b.xid v) z) (asked_on (decided commit b v z a) (third_op b.xid z) tr.third) in
     (rest.more, ap (λ (l : LedgerView). l.sent) tr.trace ∙ rest.sent ∙ ap (λ (l : LedgerView). l.sent ++ rest.more) first ∙ append_assoc a.sent (Prepare b.xid ∷ []) rest.more)
 
--- the Prepare of a branch that voted to commit stands in the history
+-- where a Prepare that was sent stands in the history
+pub prepare_part : (s : Settling) → IsSettled s → (m : ℕ) → 1 ≤ m → (t : ℕ) (x : XidName) (a a' : LedgerView) → HasGrown a' (ledger (ledgers_of s t) m) → (more : List Op) → a'.sent ≡ a.sent ++ Prepare x ∷ more
+    → (later : List Op) × Parted t (numbered t 0 a.sent) (numbered t (suc (0 + length a.sent)) later) (request_of t (0 + length a.sent) (Prepare x)) (history_of s m)
+prepare_part s settled m positive t x a a' grown more is =
+    let later : List Op = more ++ grown.sent.0 in
+    let ops : sent s t m ≡ a.sent ++ Prepare x ∷ later =
+    sent_is s m positive t ∙ grown.sent.1 ∙ ap (λ l. l ++ grown.sent.0) is ∙ append_assoc a.sent (Prepare x ∷ more) grown.sent.0 in
+    let own : of_thread t (history_of s m) ≡ numbered t 0 a.sent ++ request_of t (0 + length a.sent) (Prepare x) ∷ numbered t (suc (0 + length a.sent)) later =
+    (settled.agree t m).carried ∙ ap (numbered t 0) ops ∙ numbered_both t 0 a.sent (Prepare x ∷ later) in
+    (later, part t (history_of s m) (numbered t 0 a.sent) (numbered t (suc (0 + length a.sent)) later) (request_of t (0 + length a.sent) (Prepare x)) own)
+
+-- so that of a branch that voted to commit
 pub prepare_at : (s : Settling) → IsSettled s → (m : ℕ) → 1 ≤ m → (t : ℕ) (a a' : LedgerView) → HasGrown a' (ledger (ledgers_of s t) m) → (commit : Bool) (b : Branch) (v : Code) (z : Option Code) → BranchTrace commit b v z a a' → is_yes v ≡ true
     → (later : List Op) × Parted t (numbered t 0 a.sent) (numbered t (suc (0 + length a.sent)) later) (request_of t (0 + length a.sent) (Prepare b.xid)) (history_of s m)
-prepare_at s settled m positive t a a' grown commit b v z tr y =
-    let p = prepared_sent commit b v z a a' tr y in
-    let later : List Op = p.0 ++ grown.sent.0 in
-    let ops : sent s t m ≡ a.sent ++ Prepare b.xid ∷ later =
-    sent_is s m positive t ∙ grown.sent.1 ∙ ap (λ l. l ++ grown.sent.0) p.1 ∙ append_assoc a.sent (Prepare b.xid ∷ p.0) grown.sent.0 in
-    let own : of_thread t (history_of s m) ≡ numbered t 0 a.sent ++ request_of t (0 + length a.sent) (Prepare b.xid) ∷ numbered t (suc (0 + length a.sent)) later =
-    (settled.agree t m).carried ∙ ap (numbered t 0) ops ∙ numbered_both t 0 a.sent (Prepare b.xid ∷ later) in
-    (later, part t (history_of s m) (numbered t 0 a.sent) (numbered t (suc (0 + length a.sent)) later) (request_of t (0 + length a.sent) (Prepare b.xid)) own)
+prepare_at s settled m positive t a a' grown commit b v z tr y = let p = prepared_sent commit b v z a a' tr y in prepare_part s settled m positive t b.xid a a' grown p.0 p.1
 
 -- what a resolve sends is no Prepare
-abbrev IsNoPrepare : Op → Type 0
+abbrev pub IsNoPrepare : Op → Type 0
 IsNoPrepare op = (y : XidName) → op ≢ Prepare y
 
 ends_no_prepare : (commit : Bool) (x : XidName) → IsNoPrepare (outcome_op commit x)
 ends_no_prepare true x y e = cc
 ends_no_prepare false x y e = cc
 
-no_prepare : (log : LogState) (m : ℕ) (o : Outcome) → Asks IsNoPrepare log m o
-no_prepare log m o = record { ends = λ _ _. ends_no_prepare o.commit o.xid; forgets = λ _ _ y e. cc }
-
-module _ (o : Opening) (kept : IsKept o) (t : TranName) (only : OnlyResolves t o) (m : ℕ) (up : IsUpTo MOST_MANAGERS m) where
-  abbrev s : Settling
-  s = o.settled
-
-  no_prepares : All (λ r. NamesTran t r.op → IsNoPrepare r.op) (history_of s m)
-  no_prepares = named_so s kept.settled m up IsNoPrepare t o.uses (λ y e. cc) kept.uses (λ q _ p _. no_prepare q.log m p) (only m)
-
-  -- a branch of the transaction doesn't vote to commit where only resolves may name it
-  no_vote : (d : CommitCall) → HaveGrown d.new (ledgers_of s d.thread) → (b : Branch) (v : Code) (z : Option Code) (e : Ending) → tran_of b.xid ≡ t → b.m ≡ m → Traced d.done.commit d.desk.ledgers d.new b v z e → is_yes v ≡ false
-  no_vote d grown b v z e of_tran same tr =
-      elim (is_yes v) as (λ y. is_yes v ≡ y → y ≡ false) [
-        | false ↦ λ _. refl
-        | true ↦ λ y.
-            let mine : BranchTrace d.done.commit b v z (ledger d.desk.ledgers m) (ledger d.new m) = subst (λ k. BranchTrace d.done.commit b v z (ledger d.desk.ledgers k) (ledger d.new k)) same tr.0 in
-            let at = prepare_at s kept.settled m up.0 d.thread (ledger d.desk.ledgers m) (ledger d.new m) (grown.each m up.0) d.done.commit b v z mine y in
-            absurd (all_mid (λ (r : Request). NamesTran t r.op → IsNoPrepare r.op) at.1.before at.1.after (request_of d.thread (0 + length (ledger d.desk.ledgers m).sent) (Prepare b.xid)) (subst (All (λ (r : Request). NamesTran t r.op → IsNoPrepare r.op)) at.1.place no_prepares) of_tran b.xid refl)
-      ] refl
-
-  pub none_later : (d : CommitCall) → HaveGrown d.new (ledgers_of s d.thread) → (bs : List Branch) (vs : List Code) (zs : List (Option Code)) (es : List Ending) → IsTranOf bs t
-      → EachBranch (Traced d.done.commit d.desk.ledgers d.new) bs vs zs es → voted_yes m bs vs ≡ false
-  none_later d grown = none_voted (Traced d.done.commit d.desk.ledgers d.new) t m (no_vote d grown)
+pub no_prepare : (records : Records) (m : ℕ) (o : Outcome) → Asks IsNoPrepare records m o
+no_prepare records m o = record { ends = λ _ _. ends_no_prepare o.commit o.xid; forgets = λ _ _ y e. cc }

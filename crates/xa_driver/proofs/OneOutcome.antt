@@ -112,7 +112,7 @@ same_tran : (t : TranName) → eq_by_cmp tran_cmp t t ≡ true
 same_tran t = ap is_eq (tied_itself tran_cmp_total t)
 
 -- the branches belong to one transaction
-one_tran : (bs : List Branch) (s t : TranName) → 1 ≤ length bs → IsTranOf bs s → IsTranOf bs t → s ≡ t
+pub one_tran : (bs : List Branch) (s t : TranName) → 1 ≤ length bs → IsTranOf bs s → IsTranOf bs t → s ≡ t
 one_tran [] s t some e f = absurd (omega arith)
 one_tran (b ∷ bs) s t some e f = sym e.0 ∙ f.0
 

@@ -13,12 +13,11 @@ use Rattle.xa_words.specs.Tran.{TranName}
 use Rattle.xa_words.specs.declared.code.Code.{Code}
 use Rattle.xa_tables.proofs.MapLemmas.{equal_from}
 use Rattle.xa_driver.specs.declared.branch.Branch.{Branch}
-use Rattle.xa_driver.specs.declared.done.Done.{Done}
 use Rattle.xa_driver.specs.Decision.{is_yes, decides_commit, has_yes, voted_yes, yes_of}
 use Rattle.xa_driver.specs.Log.{LogState, Records}
 use Rattle.xa_driver.specs.Trace.{Logs, appended, failed, unwanted}
 use Rattle.xa_driver.specs.Transactions.{tran_cmp}
-use Rattle.xa_driver.specs.Resolution.{Use, commits, resolves, IsDone, AreUses}
+use Rattle.xa_driver.specs.Resolution.{Use, commits, cuts, resolves, AreUses}
 use Rattle.xa_driver.specs.Resolving.{names}
 use Rattle.xa_driver.proofs.Transactions.{tran_cmp_total, tran_cmp-IsAntisymmetric}
 
@@ -53,7 +52,7 @@ own_mark_is records t m bs vs up =
     ∙ mark_is m bs vs up
 
 -- where a branch voted to commit some vote is
-some_yes : (m : ℕ) (bs : List Branch) (vs : List Code) → voted_yes m bs vs ≡ true → has_yes vs ≡ true
+pub some_yes : (m : ℕ) (bs : List Branch) (vs : List Code) → voted_yes m bs vs ≡ true → has_yes vs ≡ true
 some_yes m [] vs e = cc
 some_yes m (b ∷ bs) [] e = cc
 some_yes m (b ∷ bs) (v ∷ vs) e =
@@ -74,19 +73,19 @@ and_false : (b : Bool) → (b && false) ≡ false
 and_false true = refl
 and_false false = refl
 
-module _ (bs : List Branch) (log later : LogState) (d : Done) (t : TranName) (m : ℕ) (up : IsUpTo MOST_MANAGERS m) (decision : d.commit ≡ (decides_commit d.votes.items && (not (has_yes d.votes.items) || d.logged)))
-    (absent : map.get log.records t ≡ None) (here : voted_yes m bs d.votes.items ≡ true) where
-  some : has_yes d.votes.items ≡ true
-  some = some_yes m bs d.votes.items here
+module _ (bs : List Branch) (log later : LogState) (votes : List Code) (logged commit : Bool) (t : TranName) (m : ℕ) (up : IsUpTo MOST_MANAGERS m) (decision : commit ≡ (decides_commit votes && (not (has_yes votes) || logged)))
+    (absent : map.get log.records t ≡ None) (here : voted_yes m bs votes ≡ true) where
+  some : has_yes votes ≡ true
+  some = some_yes m bs votes here
 
-  unlogged : d.logged ≡ false → d.commit ≡ false
-  unlogged off = decision ∙ (λ i. decides_commit d.votes.items && (not (some i) || off i)) ∙ and_false (decides_commit d.votes.items)
+  unlogged : logged ≡ false → commit ≡ false
+  unlogged off = decision ∙ (λ i. decides_commit votes && (not (some i) || off i)) ∙ and_false (decides_commit votes)
 
   -- what a commit leaves in the log of a manager that voted to commit is the decision
-  pub own_mark : Logs t (yes_of bs d.votes.items) d.votes.items d.logged log later → is_marked later.records t m ≡ d.commit
+  pub own_mark : Logs t (yes_of bs votes) votes logged log later → is_marked later.records t m ≡ commit
   own_mark (appended wants on is) =
-      ap (λ (l : LogState). is_marked l.records t m) is ∙ own_mark_is log.records t m bs d.votes.items up ∙ here
-      ∙ sym (decision ∙ (λ i. left_holds (decides_commit d.votes.items) (has_yes d.votes.items) wants i && (not (some i) || on i)))
+      ap (λ (l : LogState). is_marked l.records t m) is ∙ own_mark_is log.records t m bs votes up ∙ here
+      ∙ sym (decision ∙ (λ i. left_holds (decides_commit votes) (has_yes votes) wants i && (not (some i) || on i)))
   own_mark (failed wants off is) = ap (λ (l : LogState). is_marked l.records t m) is ∙ ap (λ o. names o m) absent ∙ sym (unlogged off)
   own_mark (unwanted wants off is) = ap (λ (l : LogState). is_marked l.records t m) is ∙ ap (λ o. names o m) absent ∙ sym (unlogged off)
 
@@ -105,16 +104,17 @@ none_on_abort t managers votes logged commit log later decision off absent (unwa
 
 -- ---- it stays
 
--- a commit of the transaction makes no mark of the manager, where there is none
+-- a commit leaves the mark of the manager as it is
 abbrev pub IsQuiet : Bool → TranName → ℕ → Use → Type 0
-IsQuiet mark t m (commits d) =
-    (made : IsDone (commits d)) × (made.may.tran ≡ t → mark ≡ false → voted_yes m d.branches d.done.votes.items ≡ false)
+IsQuiet mark t m (commits d) = is_marked d.log.records t m ≡ mark → is_marked d.later.records t m ≡ mark
+IsQuiet mark t m (cuts k) = is_marked k.log.records t m ≡ mark → is_marked k.later.records t m ≡ mark
 IsQuiet mark t m (resolves q) = Unit {0}
 
 -- a resolve finds the mark so
 abbrev pub FindsMark : Bool → TranName → ℕ → Use → Type 0
 FindsMark mark t m (commits d) = Unit {0}
-FindsMark mark t m (resolves q) = is_marked q.log.records t m ≡ mark
+FindsMark mark t m (cuts k) = Unit {0}
+FindsMark mark t m (resolves q) = is_marked q.records t m ≡ mark
 
 module _ (mark : Bool) (t : TranName) (m : ℕ) (up : IsUpTo MOST_MANAGERS m) where
   inserted : (bs : List Branch) (vs : List Code) (log : LogState) (own : TranName) → map.get log.records own ≡ None → (own ≡ t → mark ≡ false → voted_yes m bs vs ≡ false) → is_marked log.records t m ≡ mark
@@ -128,18 +128,20 @@ module _ (mark : Bool) (t : TranName) (m : ℕ) (up : IsUpTo MOST_MANAGERS m) wh
             ap (λ (k : TranName). is_marked (map.insert log.records own (yes_of bs vs)) k m) (sym is) ∙ own_mark_is log.records own m bs vs up ∙ quiet is unmarked ∙ sym unmarked
       ] refl
 
-  logs_keep : (bs : List Branch) (vs : List Code) (logged : Bool) (log later : LogState) (own : TranName) → map.get log.records own ≡ None → (own ≡ t → mark ≡ false → voted_yes m bs vs ≡ false) → is_marked log.records t m ≡ mark
+  pub logs_keep : (bs : List Branch) (vs : List Code) (logged : Bool) (log later : LogState) (own : TranName) → map.get log.records own ≡ None → (own ≡ t → mark ≡ false → voted_yes m bs vs ≡ false) → is_marked log.records t m ≡ mark
       → Logs own (yes_of bs vs) vs logged log later → is_marked later.records t m ≡ mark
   logs_keep bs vs logged log later own absent quiet e (appended wants on is) = ap (λ (l : LogState). is_marked l.records t m) is ∙ inserted bs vs log own absent quiet e
   logs_keep bs vs logged log later own absent quiet e (failed wants off is) = ap (λ (l : LogState). is_marked l.records t m) is ∙ e
   logs_keep bs vs logged log later own absent quiet e (unwanted wants off is) = ap (λ (l : LogState). is_marked l.records t m) is ∙ e
 
   -- from use to use
-  pub marks_stay : (us : List Use) (records : Records) → AreUses records us → is_marked records t m ≡ mark → All (IsQuiet mark t m) us → All (FindsMark mark t m) us
+  pub marks_stay : (us : List Use) (records : Records) → AreUses t records us → is_marked records t m ≡ mark → All (IsQuiet mark t m) us → All (FindsMark mark t m) us
   marks_stay [] records h e quiet = All-nil (FindsMark mark t m)
   marks_stay (commits d ∷ us) records h e quiet =
-      let z = All-head (IsQuiet mark t m) (commits d) us quiet in
       All-cons (FindsMark mark t m) (commits d) us tt
-      (marks_stay us d.later.records h.1 (logs_keep d.branches d.done.votes.items d.done.logged d.log d.later z.0.may.tran z.0.may.absent z.1 (ap (λ (r : Records). is_marked r t m) h.0 ∙ e) z.0.trace.logs) (All-tail (IsQuiet mark t m) (commits d) us quiet))
+      (marks_stay us d.later.records h.1 (All-head (IsQuiet mark t m) (commits d) us quiet (ap (λ (r : Records). is_marked r t m) h.0 ∙ e)) (All-tail (IsQuiet mark t m) (commits d) us quiet))
+  marks_stay (cuts k ∷ us) records h e quiet =
+      All-cons (FindsMark mark t m) (cuts k) us tt
+      (marks_stay us k.later.records h.1 (All-head (IsQuiet mark t m) (cuts k) us quiet (ap (λ (r : Records). is_marked r t m) h.0 ∙ e)) (All-tail (IsQuiet mark t m) (cuts k) us quiet))
   marks_stay (resolves q ∷ us) records h e quiet =
-      All-cons (FindsMark mark t m) (resolves q) us (ap (λ (r : Records). is_marked r t m) h.0 ∙ e) (marks_stay us records h.1 e (All-tail (IsQuiet mark t m) (resolves q) us quiet))
+      All-cons (FindsMark mark t m) (resolves q) us (ap (λ o. names o m) h.0 ∙ e) (marks_stay us records h.1 e (All-tail (IsQuiet mark t m) (resolves q) us quiet))

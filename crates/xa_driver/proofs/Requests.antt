@@ -88,7 +88,7 @@ own_between t P h pre mid post e all =
 
 -- ---- the code of a request
 
-same_code : (o : Option (ℕ × Code)) (n m : ℕ) (c d : Code) → o ≡ Some (n, c) → o ≡ Some (m, d) → c ≡ d
+pub same_code : (o : Option (ℕ × Code)) (n m : ℕ) (c d : Code) → o ≡ Some (n, c) → o ≡ Some (m, d) → c ≡ d
 same_code o n m c d e f = let s : ◌≡◌ {A = Option (ℕ × Code)} (Some (n, c)) (Some (m, d)) = sym e ∙ f in let z : ◌≡◌ {A = ℕ × Code} (n, c) (m, d) = cc in ap (λ (p : ℕ × Code). p.1) z
 
 -- it is the one that was collected

@@ -19,9 +19,10 @@ use Rattle.xa_desk.specs.LedgerView.{LedgerView, is_rm_fail, learnt_shut, with_s
 use Rattle.xa_desk.specs.DeskView.{ledger}
 use Rattle.xa_desk.specs.Growth.{HasGrown}
 use Rattle.xa_switch.specs.Scans.{ScanView, left_at}
+use Rattle.xa_switch.proofs.Lists.{contains_map}
 use Rattle.xa_driver.specs.declared.resolved.Outcome.{Outcome}
 use Rattle.xa_driver.specs.Endings.{is_decided}
-use Rattle.xa_driver.specs.Log.{LogState}
+use Rattle.xa_driver.specs.Log.{Records}
 use Rattle.xa_driver.specs.Asks.{AskTrace}
 use Rattle.xa_driver.specs.Resolving.{AsksIf, AsksLedger, IsTraceOfResolve, ResolvesAt, ResolvesBranch, is_to_commit, outcome_op}
 
@@ -35,8 +36,8 @@ pub record Sends (P : Op → Type 0) (a a' : LedgerView) : Type 0 where
   pub collected : Begins a.collected a'.collected
 
 -- manager m's outcome asks only for what is so
-pub record Asks (P : Op → Type 0) (log : LogState) (m : ℕ) (o : Outcome) : Type 0 where
-  pub ends : o.m ≡ m → o.commit ≡ is_to_commit log m o.xid → P (outcome_op o.commit o.xid)
+pub record Asks (P : Op → Type 0) (records : Records) (m : ℕ) (o : Outcome) : Type 0 where
+  pub ends : o.m ≡ m → o.commit ≡ is_to_commit records m o.xid → P (outcome_op o.commit o.xid)
   pub forgets : o.m ≡ m → is_decided o.code ≡ true → P (Forget o.xid)
 
 module _ (P : Op → Type 0) where
@@ -63,19 +64,19 @@ module _ (P : Op → Type 0) where
   asks_if false a a' op so h = subst (Sends P a) (sym h) (stays a)
   asks_if true a a' op so h = asks_one a a' op h.0 (so refl) h.1
 
-  module _ (log : LogState) (m : ℕ) where
-    branch_sends : (o : Outcome) (a a' : LedgerView) → Asks P log m o → ResolvesBranch AsksLedger log m o a a' → Sends P a a'
+  module _ (records : Records) (m : ℕ) where
+    branch_sends : (o : Outcome) (a a' : LedgerView) → Asks P records m o → ResolvesBranch AsksLedger records m o a a' → Sends P a a'
     branch_sends o a a' so r =
         on a r.decided a' (asks_one a r.decided (outcome_op o.commit o.xid) o.code (so.ends r.manager r.decision) r.obeys)
         (asks_if (is_decided o.code) r.decided a' (Forget o.xid) (so.forgets r.manager) r.forgets)
 
-    chain_sends : (a : LedgerView) (os : List Outcome) (a' : LedgerView) → ((o : Outcome) → Contains os o → Asks P log m o) → Chain (ResolvesBranch AsksLedger log m) a os a' → Sends P a a'
+    chain_sends : (a : LedgerView) (os : List Outcome) (a' : LedgerView) → ((o : Outcome) → Contains os o → Asks P records m o) → Chain (ResolvesBranch AsksLedger records m) a os a' → Sends P a a'
     chain_sends a _ _ so (none xs last e f) = subst (Sends P a) (sym f) (stays a)
     chain_sends a _ _ so (more xs o now last chain leads) =
         on a now last (chain_sends a xs now (λ p c. so p (Contains-append_left xs (o ∷ []) p c)) chain)
         (branch_sends o now last (so o (Contains-push xs o)) leads)
 
-    at_sends : (xs : List XidName) (os : List Outcome) (a a' : LedgerView) → P OpenRm → ((o : Outcome) → Contains os o → Asks P log m o) → ResolvesAt AsksLedger log m xs os a a' → Sends P a a'
+    at_sends : (xs : List XidName) (os : List Outcome) (a a' : LedgerView) → P OpenRm → ((o : Outcome) → Contains os o → Asks P records m o) → ResolvesAt AsksLedger records m xs os a a' → Sends P a a'
     at_sends [] os a a' opens so h = subst (Sends P a) (sym h.1) (stays a)
     at_sends (x ∷ xs) os a a' opens so h = on a h.opened a' (asks_one a h.opened OpenRm h.code opens h.opens) (chain_sends h.opened os a' so h.each)
 
@@ -94,13 +95,13 @@ contains_upto f most m up y c =
     let same : 1 + (m - 1) ≡ m = omega (arith, lo) in
     contains_flat f (range_with_len 1 most) m (m - 1) (omega (arith, lo, hi, size)) (get_or-range_with_len 1 most (m - 1) m (omega (arith, lo, hi)) ∙ same) y c
 
-module _ (z : ScanView) (log : LogState) (old new : List LedgerView) (outcomes : List Outcome) (trace : IsTraceOfResolve z log old new outcomes) where
+module _ (z : ScanView) (records : Records) (old new : List LedgerView) (outcomes : List Outcome) (trace : IsTraceOfResolve z records old new outcomes) where
   pub of_all : (m : ℕ) → IsUpTo MOST_MANAGERS m → (o : Outcome) → Contains (trace.at m) o → Contains outcomes o
   of_all m up o c = subst (λ os. Contains os o) (sym trace.outcomes_are) (contains_upto trace.at MOST_MANAGERS m up o c)
 
   -- what a resolve sends to a manager
-  pub resolve_sends : (P : Op → Type 0) (m : ℕ) → IsUpTo MOST_MANAGERS m → P OpenRm → ((o : Outcome) → Contains outcomes o → Asks P log m o) → Sends P (ledger old m) (ledger new m)
-  resolve_sends P m up opens so = at_sends P log m (left_at z m) (trace.at m) (ledger old m) (ledger new m) opens (λ o c. so o (of_all m up o c)) (trace.each m up)
+  pub resolve_sends : (P : Op → Type 0) (m : ℕ) → IsUpTo MOST_MANAGERS m → P OpenRm → ((o : Outcome) → Contains outcomes o → Asks P records m o) → Sends P (ledger old m) (ledger new m)
+  resolve_sends P m up opens so = at_sends P records m (left_at z m) (trace.at m) (ledger old m) (ledger new m) opens (λ o c. so o (of_all m up o c)) (trace.each m up)
 
 -- ---- the request of one branch
 
@@ -110,41 +111,41 @@ Any op = Unit {0}
 abbrev pub IsNoClose : Op → Type 0
 IsNoClose op = op ≢ CloseRm
 
-anything : (log : LogState) (m : ℕ) (o : Outcome) → Asks Any log m o
-anything log m o = record { ends = λ _ _. tt; forgets = λ _ _. tt }
+anything : (records : Records) (m : ℕ) (o : Outcome) → Asks Any records m o
+anything records m o = record { ends = λ _ _. tt; forgets = λ _ _. tt }
 
 ends_open : (commit : Bool) (x : XidName) → IsNoClose (outcome_op commit x)
 ends_open true x e = cc
 ends_open false x e = cc
 
-no_close : (log : LogState) (m : ℕ) (o : Outcome) → Asks IsNoClose log m o
-no_close log m o = record { ends = λ _ _. ends_open o.commit o.xid; forgets = λ _ _ e. cc }
+no_close : (records : Records) (m : ℕ) (o : Outcome) → Asks IsNoClose records m o
+no_close records m o = record { ends = λ _ _. ends_open o.commit o.xid; forgets = λ _ _ e. cc }
 
 -- the branch of the outcome was asked to end: before it and after it others were, and none of these requests closes
-pub record Asked (log : LogState) (m : ℕ) (o : Outcome) (a a' : LedgerView) : Type 0 where
+pub record Asked (records : Records) (m : ℕ) (o : Outcome) (a a' : LedgerView) : Type 0 where
   pub manager : o.m ≡ m
-  pub decision : o.commit ≡ is_to_commit log m o.xid
+  pub decision : o.commit ≡ is_to_commit records m o.xid
   pub now : LedgerView
   pub decided : LedgerView
   pub before : Sends IsNoClose a now
   pub obeys : AskTrace (Some (outcome_op o.commit o.xid)) (Some o.code) now decided
   pub after : Sends Any decided a'
 
-module _ (log : LogState) (m : ℕ) (o : Outcome) where
-  asked_last : (xs : List Outcome) (p : Outcome) (a now last : LedgerView) → Chain (ResolvesBranch AsksLedger log m) a xs now → ResolvesBranch AsksLedger log m p now last → p ≡ o → Asked log m o a last
+module _ (records : Records) (m : ℕ) (o : Outcome) where
+  asked_last : (xs : List Outcome) (p : Outcome) (a now last : LedgerView) → Chain (ResolvesBranch AsksLedger records m) a xs now → ResolvesBranch AsksLedger records m p now last → p ≡ o → Asked records m o a last
   asked_last xs p a now last chain leads same =
-      let r : ResolvesBranch AsksLedger log m o now last = subst (λ (w : Outcome). ResolvesBranch AsksLedger log m w now last) same leads in
+      let r : ResolvesBranch AsksLedger records m o now last = subst (λ (w : Outcome). ResolvesBranch AsksLedger records m w now last) same leads in
       record {
         manager = r.manager;
         decision = r.decision;
         now = now;
         decided = r.decided;
-        before = chain_sends IsNoClose log m a xs now (λ w c. no_close log m w) chain;
+        before = chain_sends IsNoClose records m a xs now (λ w c. no_close records m w) chain;
         obeys = r.obeys;
         after = asks_if Any (is_decided o.code) r.decided last (Forget o.xid) (λ _. tt) r.forgets;
       }
 
-  asked_before : (p : Outcome) (a now last : LedgerView) → ResolvesBranch AsksLedger log m p now last → Asked log m o a now → Asked log m o a last
+  asked_before : (p : Outcome) (a now last : LedgerView) → ResolvesBranch AsksLedger records m p now last → Asked records m o a now → Asked records m o a last
   asked_before p a now last r s = record {
     manager = s.manager;
     decision = s.decision;
@@ -152,13 +153,13 @@ module _ (log : LogState) (m : ℕ) (o : Outcome) where
     decided = s.decided;
     before = s.before;
     obeys = s.obeys;
-    after = on Any s.decided now last s.after (branch_sends Any log m p now last (anything log m p) r);
+    after = on Any s.decided now last s.after (branch_sends Any records m p now last (anything records m p) r);
   }
 
   none_there : Contains [] o → ⊥
   none_there (k, lt, e) = absurd (omega (arith, lt))
 
-  chain_asked : (a : LedgerView) (os : List Outcome) (a' : LedgerView) → Chain (ResolvesBranch AsksLedger log m) a os a' → Contains os o → Asked log m o a a'
+  chain_asked : (a : LedgerView) (os : List Outcome) (a' : LedgerView) → Chain (ResolvesBranch AsksLedger records m) a os a' → Contains os o → Asked records m o a a'
   chain_asked a _ _ (none xs last e f) there = absurd (none_there (subst (λ ws. Contains ws o) e there))
   chain_asked a _ _ (more xs p now last chain leads) there =
       ⊎_elim (λ (c : Contains xs o). asked_before p a now last leads (chain_asked a xs now chain c)) (λ (same : p ≡ o). asked_last xs p a now last chain leads same) (Contains-push_cases xs p o there)
@@ -242,15 +243,15 @@ module _ (a opened now decided new last : LedgerView) (op : Op) (first code : Co
 -- ---- the outcomes of one manager
 
 -- each was asked for as the log says, and if it was answered, its request stands in the lists
-pub record IsAsked (log : LogState) (m : ℕ) (o : Outcome) (a last : LedgerView) : Type 0 where
+pub record IsAsked (records : Records) (m : ℕ) (o : Outcome) (a last : LedgerView) : Type 0 where
   pub manager : o.m ≡ m
-  pub decision : o.commit ≡ is_to_commit log m o.xid
+  pub decision : o.commit ≡ is_to_commit records m o.xid
   pub answered : o.code ≢ RmFail → IsAnsweredIn (outcome_op o.commit o.xid) o.code a last.sent last.collected
 
-at_asked : (log : LogState) (m : ℕ) (xs : List XidName) (os : List Outcome) (a a' last : LedgerView) → ResolvesAt AsksLedger log m xs os a a' → HasGrown a' last → (o : Outcome) → Contains os o → IsAsked log m o a last
-at_asked log m [] os a a' last h grown o there = absurd (none_there log m o (subst (λ ws. Contains ws o) h.0 there))
-at_asked log m (x ∷ xs) os a a' last h grown o there =
-    let s : Asked log m o h.opened a' = chain_asked log m o h.opened os a' h.each there in
+at_asked : (records : Records) (m : ℕ) (xs : List XidName) (os : List Outcome) (a a' last : LedgerView) → ResolvesAt AsksLedger records m xs os a a' → HasGrown a' last → (o : Outcome) → Contains os o → IsAsked records m o a last
+at_asked records m [] os a a' last h grown o there = absurd (none_there records m o (subst (λ ws. Contains ws o) h.0 there))
+at_asked records m (x ∷ xs) os a a' last h grown o there =
+    let s : Asked records m o h.opened a' = chain_asked records m o h.opened os a' h.each there in
     record {
       manager = s.manager;
       decision = s.decision;
@@ -270,11 +271,24 @@ any_map : (x : XidName) (os : List Outcome) → list_any (xid_eq x) (map (λ o. 
 any_map x [] = refl
 any_map x (o ∷ os) = ap (λ b. xid_eq x o.xid || b) (any_map x os)
 
-has_outcome : (log : LogState) (m : ℕ) (x : XidName) (xs : List XidName) (os : List Outcome) (a a' : LedgerView) → ResolvesAt AsksLedger log m xs os a a' → list_any (xid_eq x) xs ≡ true → (o : Outcome) × (Contains os o × (o.xid ≡ x))
-has_outcome log m x [] os a a' h there = cc
-has_outcome log m x (y ∷ xs) os a a' h there =
+has_outcome : (records : Records) (m : ℕ) (x : XidName) (xs : List XidName) (os : List Outcome) (a a' : LedgerView) → ResolvesAt AsksLedger records m xs os a a' → list_any (xid_eq x) xs ≡ true → (o : Outcome) × (Contains os o × (o.xid ≡ x))
+has_outcome records m x [] os a a' h there = cc
+has_outcome records m x (y ∷ xs) os a a' h there =
     let z = any_there (λ (o : Outcome). xid_eq x o.xid) os (sym (any_map x os) ∙ ap (list_any (xid_eq x)) h.xids_are ∙ there) in
     (z.0, (z.1.0, sym ((Decides-xid_eq x z.0.xid).0 z.1.1)))
+
+list_there : (x : XidName) (xs : List XidName) → Contains xs x → list_any (xid_eq x) xs ≡ true
+list_there x [] (k, lt, e) = absurd (omega (arith, lt))
+list_there x (y ∷ xs) (zero, lt, e) = ap (λ b. b || list_any (xid_eq x) xs) ((Decides-xid_eq x y).1 (sym e))
+list_there x (y ∷ xs) (suc k, lt, e) = ap (λ b. xid_eq x y || b) (list_there x xs (k, omega (arith, lt), e)) ∙ or_true (xid_eq x y)
+  where
+    or_true : (b : Bool) → (b || true) ≡ true
+    or_true true = refl
+    or_true false = refl
+
+at_left : (records : Records) (m : ℕ) (xs : List XidName) (os : List Outcome) (a a' : LedgerView) → ResolvesAt AsksLedger records m xs os a a' → (o : Outcome) → Contains os o → list_any (xid_eq o.xid) xs ≡ true
+at_left records m [] os a a' h o there = absurd (none_there records m o (subst (λ ws. Contains ws o) h.0 there))
+at_left records m (x ∷ xs) os a a' h o there = list_there o.xid (x ∷ xs) (subst (λ ys. Contains ys o.xid) h.xids_are (contains_map (λ (w : Outcome). w.xid) os o there))
 
 -- an element of lists that are put together is in one of them
 flat_contains : {A B : Type 0} (f : A → List B) (xs : List A) (y : B) → Contains (flat_map f xs) y → (x : A) × (Contains xs x × Contains (f x) y)
@@ -289,22 +303,39 @@ upto_so most m (k, lt, e) =
     let is : 1 + k ≡ m = sym (get_or-range_with_len 1 most k m (omega (arith, size, lt))) ∙ e in
     (omega (arith, is), omega (arith, is, size, lt))
 
-module _ (z : ScanView) (log : LogState) (old new : List LedgerView) (outcomes : List Outcome) (trace : IsTraceOfResolve z log old new outcomes) (m : ℕ) (up : IsUpTo MOST_MANAGERS m) (last : LedgerView) (grown : HasGrown (ledger new m) last) where
+-- an outcome is of a manager with a number within the limits
+pub outcome_upto : (z : ScanView) (records : Records) (old new : List LedgerView) (outcomes : List Outcome) → IsTraceOfResolve z records old new outcomes → (o : Outcome) → Contains outcomes o → IsUpTo MOST_MANAGERS o.m
+outcome_upto z records old new outcomes trace o there =
+    let w = flat_contains trace.at (range_with_len 1 MOST_MANAGERS) o (subst (λ os. Contains os o) trace.outcomes_are there) in
+    let among : IsUpTo MOST_MANAGERS w.0 = upto_so MOST_MANAGERS w.0 w.1.0 in
+    let elsewhere = at_asked records w.0 (left_at z w.0) (trace.at w.0) (ledger old w.0) (ledger new w.0) (ledger new w.0) (trace.each w.0 among) (record { sent = same_begins (ledger new w.0).sent; collected = same_begins (ledger new w.0).collected }) o w.1.1 in
+    subst (IsUpTo MOST_MANAGERS) (sym elsewhere.manager) among
+
+module _ (z : ScanView) (records : Records) (old new : List LedgerView) (outcomes : List Outcome) (trace : IsTraceOfResolve z records old new outcomes) (m : ℕ) (up : IsUpTo MOST_MANAGERS m) (last : LedgerView) (grown : HasGrown (ledger new m) last) where
   -- of a branch that was left there is an outcome
   pub left_has : (x : XidName) → list_any (xid_eq x) (left_at z m) ≡ true → (o : Outcome) × (Contains outcomes o × ((o.m ≡ m) × (o.xid ≡ x)))
   left_has x there =
-      let w = has_outcome log m x (left_at z m) (trace.at m) (ledger old m) (ledger new m) (trace.each m up) there in
-      let asked = at_asked log m (left_at z m) (trace.at m) (ledger old m) (ledger new m) last (trace.each m up) grown w.0 w.1.0 in
-      (w.0, (of_all z log old new outcomes trace m up w.0 w.1.0, (asked.manager, w.1.1)))
+      let w = has_outcome records m x (left_at z m) (trace.at m) (ledger old m) (ledger new m) (trace.each m up) there in
+      let asked = at_asked records m (left_at z m) (trace.at m) (ledger old m) (ledger new m) last (trace.each m up) grown w.0 w.1.0 in
+      (w.0, (of_all z records old new outcomes trace m up w.0 w.1.0, (asked.manager, w.1.1)))
+
+  -- what an outcome is of was left
+  pub outcome_left : (o : Outcome) → Contains outcomes o → o.m ≡ m → list_any (xid_eq o.xid) (left_at z m) ≡ true
+  outcome_left o there own =
+      let w = flat_contains trace.at (range_with_len 1 MOST_MANAGERS) o (subst (λ os. Contains os o) trace.outcomes_are there) in
+      let among : IsUpTo MOST_MANAGERS w.0 = upto_so MOST_MANAGERS w.0 w.1.0 in
+      let elsewhere = at_asked records w.0 (left_at z w.0) (trace.at w.0) (ledger old w.0) (ledger new w.0) (ledger new w.0) (trace.each w.0 among) (record { sent = same_begins (ledger new w.0).sent; collected = same_begins (ledger new w.0).collected }) o w.1.1 in
+      let same : w.0 ≡ m = sym elsewhere.manager ∙ own in
+      at_left records m (left_at z m) (trace.at m) (ledger old m) (ledger new m) (trace.each m up) o (subst (λ k. Contains (trace.at k) o) same w.1.1)
 
   -- each outcome of the manager was asked for
-  pub outcome_asked : (o : Outcome) → Contains outcomes o → o.m ≡ m → IsAsked log m o (ledger old m) last
+  pub outcome_asked : (o : Outcome) → Contains outcomes o → o.m ≡ m → IsAsked records m o (ledger old m) last
   outcome_asked o there own =
       let w = flat_contains trace.at (range_with_len 1 MOST_MANAGERS) o (subst (λ os. Contains os o) trace.outcomes_are there) in
       let among : IsUpTo MOST_MANAGERS w.0 = upto_so MOST_MANAGERS w.0 w.1.0 in
-      let elsewhere = at_asked log w.0 (left_at z w.0) (trace.at w.0) (ledger old w.0) (ledger new w.0) (ledger new w.0) (trace.each w.0 among) (nothing_more (ledger new w.0)) o w.1.1 in
+      let elsewhere = at_asked records w.0 (left_at z w.0) (trace.at w.0) (ledger old w.0) (ledger new w.0) (ledger new w.0) (trace.each w.0 among) (nothing_more (ledger new w.0)) o w.1.1 in
       let same : w.0 ≡ m = sym elsewhere.manager ∙ own in
-      at_asked log m (left_at z m) (trace.at m) (ledger old m) (ledger new m) last (trace.each m up) grown o (subst (λ k. Contains (trace.at k) o) same w.1.1)
+      at_asked records m (left_at z m) (trace.at m) (ledger old m) (ledger new m) last (trace.each m up) grown o (subst (λ k. Contains (trace.at k) o) same w.1.1)
     where
       nothing_more : (a : LedgerView) → HasGrown a a
       nothing_more a = record { sent = same_begins a.sent; collected = same_begins a.collected }

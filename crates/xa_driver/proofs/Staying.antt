@@ -10,9 +10,11 @@ use Rattle.xa_desk.specs.Seats.{DeskSeat}
 use Rattle.xa_desk.specs.Tickets.{LeavesTickets}
 use Rattle.xa_desk.proofs.Ledgers.{is_collected-push}
 use Rattle.xa_driver.specs.declared.ask.Ask.{Ask}
-use Rattle.xa_driver.specs.Asks.{asked, among_asks, Asks, EachAsk, KeepsDesk, LeavesOutstanding}
+use Rattle.xa_driver.specs.Asks.{asked, among_asks, Asks, EachAsk, KeepsDesk, KeepsTheRest, LeavesOutstanding}
+use Rattle.xa_driver.proofs.Gathering.{as_many_open}
+use Rattle.xa_driver.proofs.Kept.{asks_keep}
 use Rattle.xa_base.proofs.Truth.{by_if}
-use Rattle.xa_driver.proofs.Asking.{known_by}
+use Rattle.xa_driver.proofs.Asking.{keeps_chain, known_by}
 
 -- the request of this number was sent and not collected
 pub record IsOpen (n : ℕ) (a : LedgerView) : Type 0 where
@@ -61,4 +63,19 @@ tickets_stay old new keeps out t owned = record {
   thread = owned.thread ∙ sym (ap (λ (s : DeskSeat). s.thread) keeps.goes_on.seat);
   out = out t.operation owned.out;
   loose = λ k is. owned.loose k (ap (λ m. finmap.get m k) (sym keeps.kept) ∙ is);
+}
+
+-- requests that were collected leave the rest of the desk
+pub rest_kept : (ks : List Ask) (old new : DeskView) → Asks ks old.ledgers new.ledgers → KeepsDesk old new → KeepsTheRest old new
+rest_kept ks old new asks keeps =
+    let left : LeavesOutstanding old.ledgers new.ledgers = asks_leave_outstanding ks old.ledgers new.ledgers asks in
+    record { keeps = keeps; kept = asks_keep ks old new asks keeps; left = left; tickets = tickets_stay old new keeps left; free = as_many_open ks old.ledgers new.ledgers asks }
+
+pub rest_chain : (a b c : DeskView) → KeepsTheRest a b → KeepsTheRest b c → KeepsTheRest a c
+rest_chain a b c p q = record {
+  keeps = keeps_chain a b c p.keeps q.keeps;
+  kept = λ all. q.kept (p.kept all);
+  left = outstanding_chain a.ledgers b.ledgers c.ledgers p.left q.left;
+  tickets = λ t owned. q.tickets t (p.tickets t owned);
+  free = q.free ∙ p.free;
 }

@@ -41,15 +41,15 @@ use Rattle.xa_driver.proofs.Naming.{asked_on}
 use Rattle.xa_driver.proofs.Placing.{request_of, sides, fates, fates_both, fate_is}
 use Rattle.xa_driver.specs.Tabled.{Tabled}
 
--- it ended as was decided, or its ending tells that it was decided heuristically, or it is in doubt and left
-pub data Comes (commit : Bool) (L : Type 0) (s : Option State) (f : Fate) (e : Ending) : Type 0 where
-  ends : f ≡ ended_as commit → Comes commit L s f e
-  tells : (d : HeuristicDecision) → f ≡ decided_fate d → told_fate e ≡ Some (decided_fate d) → Comes commit L s f e
-  leaves : is_in_doubt e ≡ true → is_left_in s ≡ true → Stands commit true (f ≡ history.InDoubt) L s f → Comes commit L s f e
+-- It ended as was decided, or its ending tells that it was decided heuristically, or it is left; and then W is known.
+pub data Comes (commit : Bool) (W L : Type 0) (s : Option State) (f : Fate) (e : Ending) : Type 0 where
+  ends : f ≡ ended_as commit → Comes commit W L s f e
+  tells : (d : HeuristicDecision) → f ≡ decided_fate d → told_fate e ≡ Some (decided_fate d) → Comes commit W L s f e
+  leaves : W → is_left_in s ≡ true → Stands commit true (f ≡ history.InDoubt) L s f → Comes commit W L s f e
 
 -- so by its manager's history, which tells its fate whatever it was before
-pub record AtEnd (commit : Bool) (L : Type 0) (x : XidName) (f : Fate) (H : History) (T : Tables) (e : Ending) : Type 0 where
-  pub comes : Comes commit L (state_of (tables_after H T) x) f e
+pub record AtEnd (commit : Bool) (W L : Type 0) (x : XidName) (f : Fate) (H : History) (T : Tables) (e : Ending) : Type 0 where
+  pub comes : Comes commit W L (state_of (tables_after H T) x) f e
   pub any : (g h : Fate) → last_or g (fates x H T) ≡ last_or h (fates x H T)
 
 -- the second request of a branch that voted to commit
@@ -95,7 +95,7 @@ decided_quiet true x decision.Rollback = at_true (xid_eq x x) _ None (self x)
 decided_quiet false x decision.Commit = at_true (xid_eq x x) _ None (self x)
 decided_quiet false x decision.Rollback = at_true (xid_eq x x) _ None (self x)
 
-told_decided : (commit : Bool) (d : HeuristicDecision) → told_fate (yes_ending commit (Some (decision_code d))) ≡ Some (decided_fate d)
+pub told_decided : (commit : Bool) (d : HeuristicDecision) → told_fate (yes_ending commit (Some (decision_code d))) ≡ Some (decided_fate d)
 told_decided commit decision.Commit = refl
 told_decided commit decision.Rollback = refl
 
@@ -115,7 +115,7 @@ module _ (law : Tabled) (L : Type 0) (t : ℕ) (x : XidName) (T : Tables) (H : H
   op = ends_op commit x
 
   abbrev Goal : Ending → Type 0
-  Goal e = Comes commit L (state_of (tables_after H T) x) (fate x f0 H T) e
+  Goal e = Comes commit (is_in_doubt e ≡ true) L (state_of (tables_after H T) x) (fate x f0 H T) e
 
   module _ (c : Code) (z : Sends t x T H a vote ops pairs carried answered op c last) (f : First t x T H a vote ops pairs carried answered (op ∷ z.post)) where
     abbrev s : Second t x T H a vote ops pairs carried answered op c z.post f
@@ -232,14 +232,14 @@ module _ (law : Tabled) (L : Type 0) (t : ℕ) (x : XidName) (T : Tables) (H : H
         ap (λ (h : History). fates x h T) f.parted.place ∙ fates_both x f.parted.before (request_of t n P ∷ f.parted.after) T
         ∙ ap (λ o. fates x f.parted.before T ++ cons_option o (fates x f.parted.after now)) (ap (fate_of x P) (sym f.code ∙ agreed) ∙ at_true (xid_eq x x) _ None (self x))
 
-    at_end : Told t x f0 T H n vote (yes_ending commit (Some c)) → AtEnd commit L x F H T (yes_ending commit (Some c))
+    at_end : Told t x f0 T H n vote (yes_ending commit (Some c)) → AtEnd commit (is_in_doubt (yes_ending commit (Some c)) ≡ true) L x F H T (yes_ending commit (Some c))
     at_end told = record {
       comes = agrees told;
       any = λ g h. ap (last_or g) in_doubt_once ∙ last_after (fates x f.parted.before T) (fates x f.parted.after now) history.InDoubt g h ∙ sym (ap (last_or h) in_doubt_once);
     }
 
   by_course : (a' : LedgerView) (sent : Begins a'.sent ops) (collected : Begins a'.collected pairs) → last ≡ length a'.sent → (e : Ending) → Course t x T H a vote ops pairs carried answered a' sent collected commit e → Told t x f0 T H n vote e
-      → AtEnd commit L x (fate x f0 H T) H T e
+      → AtEnd commit (is_in_doubt e ≡ true) L x (fate x f0 H T) H T e
   by_course a' sent collected long _ (Unreached same code) told = let z : Done ≡ RmFail = sym agreed ∙ code in cc
   by_course a' sent collected long _ (Reads r z) told = let q : true ≡ false = sym r ∙ ap is_read agreed in cc
   by_course a' sent collected long _ (Breaks k z) told = let q : true ≡ false = sym k ∙ ap is_rolled_back agreed in cc
@@ -266,7 +266,7 @@ module _ (law : Tabled) (L : Type 0) (t : ℕ) (x : XidName) (T : Tables) (H : H
 -- by the trace of its call
 pub voted_end : (law : Tabled) (L : Type 0) (t : ℕ) (b : Branch) (vote : Code) (second : Option Code) (commit : Bool) (a a' : LedgerView) (T : Tables) (H : History) (ops : List Op) (pairs : List (ℕ × Code)) → IsOpening T → (f0 : Fate) → IsFateOf b.xid f0 T
     → of_thread t H ≡ numbered t 0 ops → All (λ p. slice_get (answers t (coded H T)) p.0 ≡ Some p) pairs → Begins a'.sent ops → Begins a'.collected pairs
-    → OnlyTheseOrDecisionsName b.xid t (length a.sent) (length a'.sent) H → BranchTrace commit b vote second a a' → is_yes vote ≡ true → AtEnd commit L b.xid (fate b.xid f0 H T) H T (ending_of commit vote second)
+    → OnlyTheseOrDecisionsName b.xid t (length a.sent) (length a'.sent) H → BranchTrace commit b vote second a a' → is_yes vote ≡ true → AtEnd commit (is_in_doubt (ending_of commit vote second) ≡ true) L b.xid (fate b.xid f0 H T) H T (ending_of commit vote second)
 voted_end law L t b vote second commit a a' T H ops pairs opening f0 fits carried answered sent collected only tr y =
     by_course law L t b.xid T H opening f0 fits a vote ops pairs carried answered (length a'.sent) only commit (yes_is vote y) a' sent collected refl (ending_of commit vote second)
     (course_of t b vote second commit a a' T H ops pairs carried answered sent collected tr)
@@ -304,7 +304,7 @@ pub learnt_on : (a b : LedgerView) → Begins a.collected b.collected → learnt
 learnt_on a b begins e =
     ap (list_any (λ (p : ℕ × Code). is_rm_fail p.1)) begins.1 ∙ list_any-append (λ (p : ℕ × Code). is_rm_fail p.1) a.collected begins.0 ∙ ap (λ q. q || list_any (λ (p : ℕ × Code). is_rm_fail p.1) begins.0) e
 
-yes_wanted : (commit : Bool) (x : XidName) → second_op commit x Done ≡ Some (ends_op commit x)
+pub yes_wanted : (commit : Bool) (x : XidName) → second_op commit x Done ≡ Some (ends_op commit x)
 yes_wanted true x = refl
 yes_wanted false x = refl
 

@@ -1,16 +1,20 @@
 -- What requests to several managers add to a desk's lists.
-use Rattle.std.specs.Prelude.{◌≡◌, ℕ, ◌<◌, ◌≤◌, Bool, true, false, ◌==◌, if◌then◌else◌, Option, None, Some, List, []}
+use Rattle.std.specs.Prelude.{◌≡◌, ℕ, ◌<◌, ◌≤◌, Bool, true, false, ◌==◌, if◌then◌else◌, Option, None, Some, List}
+use Rattle.std.specs.Prelude.{[]}
 use Rattle.std.specs.Prelude.{◌∷◌, length}
-use Rattle.std.specs.List.{list_any}
+use Rattle.std.specs.List.{All, list_any}
+use Rattle.std.specs.FinMap as map
 use Rattle.xa_words.specs.declared.code.Code.{Code}
 use Rattle.xa_words.specs.declared.code.Code.TheVariants.{RmFail}
 use Rattle.xa_words.specs.declared.request.Op.{Op}
 use Rattle.xa_desk.specs.LedgerView.{LedgerView, learnt_shut, with_sent, with_collected}
 use Rattle.xa_desk.specs.declared.operation.Operation.{Operation}
 use Rattle.xa_desk.specs.DeskView.{DeskView, TicketView, IsKnown, IsOut, Owns, ledger, after_sent, next_operation}
-use Rattle.xa_desk.specs.DeskView.{ticket_of}
+use Rattle.xa_desk.specs.DeskView.{outstanding, ticket_of}
 use Rattle.xa_desk.specs.GoesOn.{GoesOn}
 use Rattle.xa_desk.specs.Looks.{Collects}
+use Rattle.xa_desk.specs.Kept.{AllKept}
+use Rattle.xa_desk.specs.Tickets.{LeavesOthers, LeavesTickets}
 use Rattle.xa_driver.specs.declared.ask.Ask.{Ask}
 
 -- and then collected, under the number that it was sent with
@@ -139,9 +143,39 @@ EachBegan [] (r ∷ rs) at d = ⊥
 EachBegan (k ∷ ks) [] at d = ⊥
 EachBegan (k ∷ ks) (r ∷ rs) at d = HasBegun k r at d × EachBegan ks rs at d
 
--- the requests were sent, and nothing else was done
-pub record HaveBegun (ks : List Ask) (rs : List (Option TicketView)) (old new : DeskView) : Type 0 where
-  pub each : EachBegan ks rs old.ledgers new
-  pub others : (m : ℕ) → 1 ≤ m → among_asks ks m ≡ false → ledger new.ledgers m ≡ ledger old.ledgers m
-  pub managers : length new.ledgers ≡ length old.ledgers
+-- ---- what became of requests so far
+
+-- What was done of a request: it wasn't sent, or it was and isn't collected, or it was sent, if it was to be, and
+-- collected.
+pub data IsBegun (op : Option Op) (a a' : LedgerView) : Type 0 where
+  unasked : a' ≡ a → IsBegun op a a'
+  in_flight : (o : Op) → op ≡ Some o → learnt_shut a ≡ false → a' ≡ with_sent a o → IsBegun op a a'
+  collected : (code : Option Code) → AskTrace op code a a' → IsBegun op a a'
+
+-- Of the requests some were sent, and of these some collected; nothing else was done.
+pub record HaveComeSoFar (ks : List Ask) (at now : List LedgerView) : Type 0 where
+  pub each : All (λ k. IsBegun k.op (ledger at k.manager) (ledger now k.manager)) ks
+  pub others : (m : ℕ) → 1 ≤ m → among_asks ks m ≡ false → ledger now m ≡ ledger at m
+  pub managers : length now ≡ length at
+
+-- ---- tickets
+
+-- the desk owns what it owned, but for the ticket, if there was one
+abbrev pub LeavesOwned : DeskView → DeskView → Option TicketView → Type 0
+LeavesOwned old new None = new ≡ old
+LeavesOwned old new (Some t) = LeavesOthers old new t.operation
+
+-- the operation of the ticket, if there is one, was kept under a number that was free
+abbrev pub Keeps : DeskView → DeskView → Option TicketView → Type 0
+Keeps old new None = new ≡ old
+Keeps old new (Some t) =
+    (n : ℕ) × ((map.get old.kept n ≡ None) × (new ≡ record old { kept = map.insert old.kept n t.operation }))
+
+-- What requests that were collected leave of a desk: it goes on, what is kept under its handles stays, and so does all
+-- that was outstanding, with its tickets; and as many handles are free.
+pub record KeepsTheRest (old new : DeskView) : Type 0 where
   pub keeps : KeepsDesk old new
+  pub kept : AllKept old → AllKept new
+  pub left : LeavesOutstanding old.ledgers new.ledgers
+  pub tickets : LeavesTickets old new
+  pub free : outstanding new.ledgers ≡ outstanding old.ledgers

@@ -5,6 +5,9 @@ pub mod Endings
 pub mod Asks
 pub mod Rounds
 pub mod Trace
+pub mod Cut
+pub mod UnderWay
+pub mod Stages
 pub mod Resolving
 pub mod Commits
 pub mod Tabled
@@ -13,3 +16,4 @@ pub mod Additions
 pub mod Conservation
 pub mod Resolution
 pub mod Worth
+pub mod Presumed

@@ -1,5 +1,6 @@
 -- The decision log: a finite map. A transaction that isn't there is presumed aborted.
 use Rattle.std.specs.Prelude.{ℕ, ◌+◌, ◌-◌, ◌^◌, nat_lt, if◌then◌else◌, Bool, Option, List, refl}
+use Rattle.std.specs.List.{flat_map}
 use Rattle.std.specs.FinMap.{FinMap}
 use Rattle.std.specs.FinMap as map
 use Rattle.std.specs.Coded.{Coded, code_by, coded×, coded_ℕ, coded_bool, coded_list}
@@ -9,6 +10,14 @@ use Rattle.xa_driver.specs.Transactions.{tran_cmp}
 -- which managers voted yes, of each transaction that was decided to commit
 abbrev pub Records : Type 0
 Records = FinMap tran_cmp (List Bool)
+
+-- the record of a transaction among these, if there is one
+abbrev pub record_in : Records → TranName → Option (List Bool)
+record_in records t = map.get records t
+
+-- the records of several logs together; of a transaction that more than one has, the first one's
+abbrev pub all_records : List Records → Records
+all_records logs = map.from_entries (flat_map map.entries logs)
 
 -- what contracts see of a log: its records, and how many appends failed
 pub record LogState : Type 0 where
@@ -21,7 +30,7 @@ no_records = record { records = map.empty; failures = 0 }
 
 -- the record of a transaction, if there is one
 abbrev pub record_of : LogState → TranName → Option (List Bool)
-record_of log t = map.get log.records t
+record_of log t = record_in log.records t
 
 -- one more record
 abbrev pub with_record : LogState → TranName → List Bool → LogState

@@ -1,35 +1,37 @@
 -- One outcome for each global transaction, over openings one after another: what was left in doubt is resolved by the
 -- log.
-use Rattle.std.specs.Prelude.{◌≡◌, ◌≢◌, ◌⊎◌, ℕ, ◌≤◌, Bool, true, false, if◌then◌else◌, Some, List, [], ◌∷◌, ◌++◌}
-use Rattle.std.specs.Prelude.{length}
+use Rattle.std.specs.Prelude.{◌≡◌, ◌≢◌, ◌⊎◌, ℕ, ◌≤◌, Bool, true, false, if◌then◌else◌, Option, None, Some, List, []}
+use Rattle.std.specs.Prelude.{◌∷◌, ◌++◌, length}
 use Rattle.std.specs.List.{All, Contains, flat_map}
 use Rattle.xa_base.specs.declared.limits.TheConstants.{MOST_MANAGERS}
 use Rattle.xa_words.specs.Xid.{XidName}
 use Rattle.xa_words.specs.Tran.{TranName, tran_of}
-use Rattle.xa_words.specs.declared.code.Code.TheVariants.{RmFail}
+use Rattle.xa_words.specs.declared.code.Code.{Code}
+use Rattle.xa_words.specs.declared.code.Code.TheVariants.{Done as OK, HeurCom, HeurRb, RmFail}
 use Rattle.xa_words.specs.declared.request.Op.{Op}
 use Rattle.xa_words.specs.declared.request.Op.TheVariants.{OpenRm, CloseRm, Start, Add, End, Prepare, Commit, Rollback}
 use Rattle.xa_words.specs.declared.request.Op.TheVariants.{Forget, Heur, Listed, Shut}
 use Rattle.xa_words.specs.declared.request.Request.{Request}
 use Rattle.xa_tables.specs.declared.state.HeuristicDecision.{HeuristicDecision}
-use Rattle.xa_tables.specs.Tables.{Tables, is_left as is_left_in}
+use Rattle.xa_tables.specs.Tables.{Tables, is_left as is_left_in, is_prepared}
 use Rattle.xa_tables.specs.Reasons.{decision_code}
 use Rattle.xa_tables.specs.History as history
-use Rattle.xa_tables.specs.History.{Fate, decided_fate, is_in_doubt as is_unknown}
+use Rattle.xa_tables.specs.History.{Fate, IsFateOf, decided_fate, is_in_doubt as is_unknown}
 use Rattle.xa_tables.specs.Openings.{AreLeft, reopened_fate}
 use Rattle.xa_desk.specs.LedgerView.{LedgerView}
 use Rattle.xa_desk.specs.DeskView.{DeskView, ledger}
 use Rattle.xa_desk.specs.Growth.{HaveGrown}
-use Rattle.xa_switch.specs.Settling.{Settling, IsSettled}
+use Rattle.xa_switch.specs.Settling.{Settling, IsSettled, find_manager}
 use Rattle.xa_switch.specs.Fates.{ledgers_of, first_of, history as history_of, settled_fate}
-use Rattle.xa_switch.specs.Again.{reopened_at}
+use Rattle.xa_switch.specs.Again.{last_in, reopened_at}
 use Rattle.xa_switch.specs.Scans.{ScanView, left_at}
 use Rattle.xa_driver.specs.declared.branch.Branch.{Branch}
 use Rattle.xa_driver.specs.declared.done.Done.{Done}
 use Rattle.xa_driver.specs.declared.done.Ending.{Ending}
 use Rattle.xa_driver.specs.declared.resolved.Outcome.{Outcome}
+use Rattle.xa_driver.specs.Cut.{IsCut}
 use Rattle.xa_driver.specs.Decision.{is_yes}
-use Rattle.xa_driver.specs.Log.{LogState, Records}
+use Rattle.xa_driver.specs.Log.{LogState, Records, record_in}
 use Rattle.xa_driver.specs.Trace.{IsCommit, IsTranOf}
 use Rattle.xa_driver.specs.Outcomes.{AreLeftOrDecided, EachOutcome, IsBetween, WasAtFirst, has_committed}
 use Rattle.xa_driver.specs.Outcomes.{has_vote_against, told_fate}
@@ -47,57 +49,74 @@ pub record CommitCall : Type 0 where
   pub later : LogState
   pub done : Done
 
--- a resolve by a thread, of what its scan has, over these lists and this log, and what it left of the lists and told
+-- one that was cut short, or not, and the endings that its coordinator knew
+pub record CutCall : Type 0 where
+  pub thread : ℕ
+  pub branches : List Branch
+  pub desk : DeskView
+  pub new : List LedgerView
+  pub log : LogState
+  pub later : LogState
+  pub endings : List Ending
+
+-- a resolve by a thread, of what its scan has, over these lists and by these records, and what it left of the lists and
+-- told
 pub record ResolveCall : Type 0 where
   pub thread : ℕ
   pub scan : ScanView
   pub old : List LedgerView
   pub new : List LedgerView
-  pub log : LogState
+  pub records : Records
   pub outcomes : List Outcome
 
 -- a use of the log
 pub data Use : Type 0 where
   commits : CommitCall → Use
+  cuts : CutCall → Use
   resolves : ResolveCall → Use
 
--- by which thread, and what the thread's desk had sent and collected before and after
+-- by which thread, and what the thread's desk had sent and collected after it
 abbrev pub user : Use → ℕ
 user (commits c) = c.thread
+user (cuts k) = k.thread
 user (resolves q) = q.thread
-
-abbrev pub lists_before : Use → List LedgerView
-lists_before (commits c) = c.desk.ledgers
-lists_before (resolves q) = q.old
 
 abbrev pub lists_after : Use → List LedgerView
 lists_after (commits c) = c.new
+lists_after (cuts k) = k.new
 lists_after (resolves q) = q.new
 
--- each is what commit_all and resolve promise
+-- each is what commit_all, its stages and resolve promise
 abbrev pub IsDone : Use → Type 0
 IsDone (commits c) = IsCommit c.branches c.desk c.new c.log c.later c.done
-IsDone (resolves q) = IsTraceOfResolve q.scan q.log q.old q.new q.outcomes
+IsDone (cuts k) = IsCut k.branches k.desk k.new k.log k.later k.endings
+IsDone (resolves q) = IsTraceOfResolve q.scan q.records q.old q.new q.outcomes
 
 -- It was made by a thread of the settled opening, whose lists have grown since.
 pub record IsUseIn (s : Settling) (u : Use) : Type 0 where
   pub made : IsDone u
   pub grown : HaveGrown (lists_after u) (ledgers_of s (user u))
 
--- the lists of one thread grow from one use to another
-abbrev pub GrowsTo : Use → Use → Type 0
-GrowsTo u v = user u ≡ user v → HaveGrown (lists_after u) (lists_before v)
+-- a thread, whose desk had these lists, is the commit's, and goes on after it
+pub record GoesOnAfter (c : CommitCall) (thread : ℕ) (lists : List LedgerView) : Type 0 where
+  pub same : thread ≡ c.thread
+  pub grown : HaveGrown c.new lists
 
--- a commit of the same transaction is by the same thread
+-- a commit of the same transaction is by the same thread, and after it
 abbrev pub IsByItsThread : CommitCall → Use → Type 0
-IsByItsThread c (commits d) = (t : TranName) → IsTranOf c.branches t → IsTranOf d.branches t → d.thread ≡ c.thread
+IsByItsThread c (commits d) =
+    (t : TranName) → IsTranOf c.branches t → IsTranOf d.branches t → GoesOnAfter c d.thread d.desk.ledgers
+IsByItsThread c (cuts k) =
+    (t : TranName) → IsTranOf c.branches t → IsTranOf k.branches t → GoesOnAfter c k.thread k.desk.ledgers
 IsByItsThread c (resolves q) = Unit {0}
 
--- The records of the log, use after use: each use finds those that the one before it left.
-abbrev pub AreUses : Records → List Use → Type 0
-AreUses records [] = Unit {0}
-AreUses records (commits c ∷ us) = (c.log.records ≡ records) × AreUses c.later.records us
-AreUses records (resolves q ∷ us) = (q.log.records ≡ records) × AreUses records us
+-- The records of the log, use after use: each commit finds those that the use before it left; and a resolve, which may
+-- read others beside them, finds the same of the transaction.
+abbrev pub AreUses : TranName → Records → List Use → Type 0
+AreUses t records [] = Unit {0}
+AreUses t records (commits c ∷ us) = (c.log.records ≡ records) × AreUses t c.later.records us
+AreUses t records (cuts k ∷ us) = (k.log.records ≡ records) × AreUses t k.later.records us
+AreUses t records (resolves q ∷ us) = (record_in q.records t ≡ record_in records t) × AreUses t records us
 
 -- ---- openings
 
@@ -124,6 +143,10 @@ AreInARow o (p ∷ ps) = Continues o.settled p.settled × AreInARow p ps
 abbrev pub uses_of : List Opening → List Use
 uses_of os = flat_map (λ o. o.uses) os
 
+-- an opening with one use of the log
+abbrev pub with_use : Settling → Use → Opening
+with_use s u = record { settled = s; uses = u ∷ [] }
+
 -- ---- what may name a branch
 
 -- the request names a branch of the transaction; one that only asks whether it is left doesn't
@@ -144,6 +167,7 @@ NamesTran t Shut = ⊥
 -- the use is a resolve, and sent this request to manager m
 abbrev pub HasSent : ℕ → Request → Use → Type 0
 HasSent m r (commits c) = ⊥
+HasSent m r (cuts k) = ⊥
 HasSent m r (resolves q) = IsBetween q.thread (length (ledger q.old m).sent) (length (ledger q.new m).sent) r
 
 -- no request of the opening but those of resolves with the log names the transaction
@@ -183,17 +207,31 @@ pub record IsListed (b : Branch) (d : HeuristicDecision) (os : List Opening) : T
 abbrev pub ended_as : Bool → Fate
 ended_as commit = if commit then history.Committed else history.RolledBack
 
--- A branch that voted to commit ended as was decided, or heuristically, and then its ending or a resolve tells how.
-pub record Ends (c : CommitCall) (o : Opening) (later : List Opening) (b : Branch) (e : Ending) : Type 0 where
+-- the last of these openings, and the tables that manager m has as an opening ends
+abbrev pub last_of : Opening → List Opening → Opening
+last_of o [] = o
+last_of o (p ∷ ps) = last_of p ps
+
+abbrev pub tables_left : Opening → ℕ → Tables
+tables_left o m = last_in (find_manager m o.settled.managers)
+
+-- A branch that voted to commit ended as was decided, or heuristically, and then its ending or a resolve tells how. So
+-- it is no longer in doubt; and where its manager had it prepared as o ended, it hasn't after the last of the later
+-- openings.
+pub record EndsAs (commit : Bool) (o : Opening) (later : List Opening) (b : Branch) (e : Ending) : Type 0 where
   pub ends : (before : Fate) → WasAtFirst o.settled b before
-      → (became b before o later ≡ ended_as c.done.commit)
+      → (became b before o later ≡ ended_as commit)
       ⊎ ((d : HeuristicDecision)
       × ((became b before o later ≡ decided_fate d) × ((told_fate e ≡ Some (decided_fate d)) ⊎ IsListed b d later)))
+  pub undoubted : (before : Fate) → WasAtFirst o.settled b before → is_unknown (became b before o later) ≡ false
+  pub unprepared : is_prepared (tables_left o b.m) b.xid ≡ true
+      → is_prepared (tables_left (last_of o later) b.m) b.xid ≡ false
 
 -- so each branch of the call
 abbrev pub EachEnds : CommitCall → Opening → List Opening → Type 0
 EachEnds c o later =
-    EachOutcome (λ b v e. is_yes v ≡ true → Ends c o later b e) c.branches c.done.votes.items c.done.endings.items
+    EachOutcome (λ b v e. is_yes v ≡ true → EndsAs c.done.commit o later b e)
+    c.branches c.done.votes.items c.done.endings.items
 
 -- All or none: it was decided to commit, no vote was against, and all branches that voted to commit are committed; or
 -- it was decided to abort, no branch was committed, and they are all rolled back. Those that ended heuristically are
@@ -202,7 +240,31 @@ pub data IsAllOrNone (c : CommitCall) (o : Opening) (later : List Opening) : Typ
   all : c.done.commit ≡ true → has_vote_against c.done ≡ false → EachEnds c o later → IsAllOrNone c o later
   none : c.done.commit ≡ false → has_committed c.done ≡ false → EachEnds c o later → IsAllOrNone c o later
 
+-- ---- what a resolve tells
+
+-- the fate that an outcome tells: XA_OK that the branch ended as it was to, XA_HEURCOM and XA_HEURRB a decision
+abbrev pub outcome_fate : Bool → Code → Option Fate
+outcome_fate commit OK = Some (ended_as commit)
+outcome_fate commit HeurCom = Some history.HeurCommitted
+outcome_fate commit HeurRb = Some history.HeurRolledBack
+outcome_fate commit c = None
+
+-- what each outcome tells of its branch is its fate as the opening ends, where that began with the tables T
+abbrev pub TellsTheOutcomes : Settling → List Outcome → Type 0
+TellsTheOutcomes s outcomes =
+    All
+    (λ r. (T : Tables) (before f : Fate) → first_of s r.m ≡ Some T → IsFateOf r.xid before T
+    → outcome_fate r.commit r.code ≡ Some f → settled_fate s r.m r.xid before ≡ f)
+    outcomes
+
 -- ---- what that asks for
+
+-- the outcome is of one of the branches
+pub record IsOutcomeOf (bs : List Branch) (r : Outcome) : Type 0 where
+  pub branch : Branch
+  pub among : Contains bs branch
+  pub manager : r.m ≡ branch.m
+  pub xid : r.xid ≡ branch.xid
 
 -- An opening o with a commit c, those between, and the last, with a resolve q.
 pub record IsResolved (o : Opening) (between : List Opening) (last : Opening) (c : CommitCall)
@@ -220,15 +282,14 @@ pub record IsResolved (o : Opening) (between : List Opening) (last : Opening) (c
   -- the call has no more managers than a record has places for
   pub few : length c.desk.ledgers ≤ MOST_MANAGERS
   -- from the commit on the log keeps its records
-  pub log : AreUses c.later.records (vs ++ uses_of (between ++ last ∷ []))
-  -- in the first, the lists of its thread grow after it, and no other thread commits the transaction
-  pub grown : All (GrowsTo (commits c)) vs
+  pub log : (t : TranName) → IsTranOf c.branches t → AreUses t c.later.records (vs ++ uses_of (between ++ last ∷ []))
+  -- in the first, no other thread commits the transaction after it, and its own goes on
   pub its_thread : All (IsByItsThread c) vs
   -- from its Prepares on nobody but the commit names its branches, but for heuristic decisions
   pub own : AreLeftOrDecided o.settled c.thread c.branches c.desk.ledgers c.new
   -- if a branch of the transaction was left, nothing but resolves with the log names it later
   pub later : (t : TranName) → IsTranOf c.branches t → HasLeftOf t o.settled
       → All (OnlyResolves t) (between ++ last ∷ [])
-  -- the resolve had the scan of its opening, and no manager was shut before its requests
+  -- the resolve had the scan of its opening, and reached each branch of the commit that it was to end
   pub scan : (m : ℕ) (T : Tables) → first_of last.settled m ≡ Some T → AreLeft (left_at q.scan m) T
-  pub reached : All (λ x. x.code ≢ RmFail) q.outcomes
+  pub reached : All (λ r. IsOutcomeOf c.branches r → r.code ≢ RmFail) q.outcomes

@@ -1,4 +1,4 @@
--- How what a reopening found left is resolved, by what the log has of it.
+-- How what a reopening found left is resolved, by the records of it.
 use Rattle.std.specs.Prelude.{◌≡◌, ◌≢◌, ℕ, ◌+◌, ◌-◌, ◌*◌, ◌<◌, ◌≤◌, Bool, true, false, if◌then◌else◌, Option, None}
 use Rattle.std.specs.Prelude.{Some, List, [], ◌∷◌}
 use Rattle.std.specs.Prelude.{length, map, slice_index_or}
@@ -15,20 +15,20 @@ use Rattle.xa_desk.specs.DeskView.{DeskView, room_at, ledger, outstanding}
 use Rattle.xa_desk.specs.Kept.{AllKept}
 use Rattle.xa_switch.specs.Scans.{Asking, ScanView, left_at}
 use Rattle.xa_driver.specs.declared.resolved.Outcome.{Outcome}
-use Rattle.xa_driver.specs.Log.{LogState, record_of}
+use Rattle.xa_driver.specs.Log.{Records, record_in}
 use Rattle.xa_driver.specs.Asks.{AskTrace, KeepsDesk, LeavesOutstanding}
 use Rattle.xa_driver.specs.Endings.{is_decided}
 
--- ---- what the log has
+-- ---- what is recorded
 
 -- these managers voted yes, and this one is among them; where there is no record, it isn't
 abbrev pub names : Option (List Bool) → ℕ → Bool
 names None m = false
 names (Some marks) m = slice_index_or marks (m - 1) false
 
--- the log's record of the branch's transaction names the manager: so the branch is to be committed
-abbrev pub is_to_commit : LogState → ℕ → XidName → Bool
-is_to_commit log m x = names (record_of log (tran_of x)) m
+-- the record of the branch's transaction names the manager: so the branch is to be committed
+abbrev pub is_to_commit : Records → ℕ → XidName → Bool
+is_to_commit records m x = names (record_in records (tran_of x)) m
 
 -- ---- one branch after the other, by states of its manager
 
@@ -41,29 +41,29 @@ abbrev pub AsksIf : {D : Type 0} → Bool → Asking D → Op → D → D → Ty
 AsksIf false asking op old new = new ≡ old
 AsksIf true asking op old new = (c : Code) × asking old op new c
 
--- A branch left at manager m is resolved: it is committed where the log says so, and else rolled back; then it is
+-- A branch left at manager m is resolved: it is committed where the records say so, and else rolled back; then it is
 -- forgotten, if its manager keeps a decision.
-pub record ResolvesBranch {D : Type 0} (asking : Asking D) (log : LogState) (m : ℕ) (o : Outcome) (old new : D)
+pub record ResolvesBranch {D : Type 0} (asking : Asking D) (records : Records) (m : ℕ) (o : Outcome) (old new : D)
     : Type 0 where
   pub manager : o.m ≡ m
-  pub decision : o.commit ≡ is_to_commit log m o.xid
+  pub decision : o.commit ≡ is_to_commit records m o.xid
   pub decided : D
   pub obeys : asking old (outcome_op o.commit o.xid) decided o.code
   pub forgets : AsksIf (is_decided o.code) asking (Forget o.xid) decided new
 
 -- Manager m is asked to open, and then these branches are resolved, one after the other.
-pub record ResolvesThese {D : Type 0} (asking : Asking D) (log : LogState) (m : ℕ) (xids : List XidName)
+pub record ResolvesThese {D : Type 0} (asking : Asking D) (records : Records) (m : ℕ) (xids : List XidName)
     (outcomes : List Outcome) (old new : D) : Type 0 where
   pub opened : D
   pub code : Code
   pub opens : asking old OpenRm opened code
-  pub each : Chain (ResolvesBranch asking log m) opened outcomes new
+  pub each : Chain (ResolvesBranch asking records m) opened outcomes new
   pub xids_are : map (λ o. o.xid) outcomes ≡ xids
 
 -- Where none is left, nothing is asked.
-abbrev pub ResolvesAt : {D : Type 0} → Asking D → LogState → ℕ → List XidName → List Outcome → D → D → Type 0
-ResolvesAt asking log m [] outcomes old new = (outcomes ≡ []) × (new ≡ old)
-ResolvesAt asking log m (x ∷ xs) outcomes old new = ResolvesThese asking log m (x ∷ xs) outcomes old new
+abbrev pub ResolvesAt : {D : Type 0} → Asking D → Records → ℕ → List XidName → List Outcome → D → D → Type 0
+ResolvesAt asking records m [] outcomes old new = (outcomes ≡ []) × (new ≡ old)
+ResolvesAt asking records m (x ∷ xs) outcomes old new = ResolvesThese asking records m (x ∷ xs) outcomes old new
 
 -- ---- what it leaves alone
 
@@ -98,11 +98,11 @@ AsksLedger a op a' code = AskTrace (Some op) (Some code) a a'
 
 -- What a resolve left is its trace: what it asked each manager, in the order of the branches left there; and its
 -- outcomes are those of the managers, by rising number.
-pub record IsTraceOfResolve (z : ScanView) (log : LogState) (old new : List LedgerView) (outcomes : List Outcome)
+pub record IsTraceOfResolve (z : ScanView) (records : Records) (old new : List LedgerView) (outcomes : List Outcome)
     : Type 0 where
   pub at : ℕ → List Outcome
   pub outcomes_are : outcomes ≡ flat_map at (range_with_len 1 MOST_MANAGERS)
   pub each : (m : ℕ) → IsUpTo MOST_MANAGERS m
-      → ResolvesAt AsksLedger log m (left_at z m) (at m) (ledger old m) (ledger new m)
+      → ResolvesAt AsksLedger records m (left_at z m) (at m) (ledger old m) (ledger new m)
   pub others : (m : ℕ) → MOST_MANAGERS < m → ledger new m ≡ ledger old m
   pub managers : length new ≡ length old

@@ -1,12 +1,10 @@
 //! Requests to several managers at once.
-ghost use Rattle.std.specs.Prelude.{◌≡◌, ◌+◌, ◌<◌, ◌≤◌, [], length, true, false, IfSome, IfNone, OnSome, IsNone};
-ghost use Rattle.std.specs.Prelude.{IsSome, vec_capacity};
+ghost use Rattle.std.specs.Prelude.{◌≡◌, ◌<◌, true, false, IfSome, IfNone, OnSome, IsNone, IsSome};
 ghost use Rattle.xa_desk.specs.LedgerView.{learnt_shut};
 ghost use Rattle.xa_desk.specs.DeskView.{Owns, ledger, after_sent, next_operation, outstanding, ticket_of};
-ghost use Rattle.xa_driver.specs.Asks.{CanAsk, AllCanAsk, AreRising, Asks, SameAsks, KeepsDesk, LeavesOutstanding};
-ghost use Rattle.xa_driver.specs.Asks.{BeginsAsk, Ends, HaveBegun, Owning};
+ghost use Rattle.xa_desk.specs.GoesOn.{GoesOn};
+ghost use Rattle.xa_driver.specs.Asks.{BeginsAsk, CanAsk, Ends, KeepsDesk, Keeps, LeavesOwned, Owning};
 
-use std::snapshot::Snapshot;
 use std::sync::Wait;
 use xa_desk::laws::desks_go_on;
 use xa_desk::{Desk, Idle, Refused, Ticket};
@@ -60,8 +58,13 @@ fn submit_waiting<R: Wait, I: Idle>(
     unreachable!()
 }
 
-// Sends what is asked. None where nothing is, or where the manager is learnt to be shut.
-fn begin<R: Wait, I: Idle>(rt: &R, desk: &mut Desk, ask: &Ask, idle: &mut I) -> Option<Ticket>
+/// Sends what is asked. None where nothing is, or where the manager is learnt to be shut.
+pub(crate) fn begin<R: Wait, I: Idle>(
+    rt: &R,
+    desk: &mut Desk,
+    ask: &Ask,
+    idle: &mut I,
+) -> Option<Ticket>
     requires can { CanAsk desk.old.ledgers ask.now.manager }
     requires free { outstanding desk.old.ledgers < desk.old.handles }
     ensures began { BeginsAsk ask.now desk.old desk.new result }
@@ -73,8 +76,8 @@ fn begin<R: Wait, I: Idle>(rt: &R, desk: &mut Desk, ask: &Ask, idle: &mut I) -> 
     submit_waiting(rt, desk, ask.manager, op, idle)
 }
 
-// Collects what was sent, and tells its code.
-fn end<R: Wait, I: Idle>(
+/// Collects what was sent, and tells its code.
+pub(crate) fn end<R: Wait, I: Idle>(
     rt: &R,
     desk: &mut Desk,
     ask: &Ask,
@@ -83,6 +86,7 @@ fn end<R: Wait, I: Idle>(
 ) -> Option<Code>
     requires { Owning desk.old ticket }
     ensures ended { Ends ask.now desk.old desk.new ticket result }
+    ensures others { LeavesOwned desk.old desk.new ticket }
     ensures idled { I.leads idle.old idle.new }
 {
     let Some(ticket) = ticket else {
@@ -94,84 +98,16 @@ fn end<R: Wait, I: Idle>(
     Some(desk.complete(rt, ticket, idle))
 }
 
-// Sends all that is asked, in the order of the asks.
-fn begin_all<R: Wait, I: Idle>(
-    rt: &R,
-    desk: &mut Desk,
-    asks: &[Ask],
-    tickets: &mut Vec<Option<Ticket>>,
-    idle: &mut I,
-)
-    requires rising { AreRising 0 asks.now }
-    requires can { AllCanAsk asks.now desk.old.ledgers }
-    requires free { outstanding desk.old.ledgers + length asks.now ≤ desk.old.handles }
-    requires none { tickets.old.items ≡ [] }
-    requires room { length asks.now ≤ vec_capacity tickets.old }
-    ensures begun { HaveBegun asks.now tickets.new.items desk.old desk.new }
-    ensures room { vec_capacity tickets.new ≡ vec_capacity tickets.old }
-    ensures idled { I.leads idle.old idle.new }
+/// Keeps the operation of the ticket under a handle, if there is one.
+pub(crate) fn keep(desk: &mut Desk, ticket: Option<Ticket>)
+    requires { Owning desk.old ticket }
+    ensures kept { Keeps desk.old desk.new ticket }
+    ensures goes_on { GoesOn desk.old desk.new }
+    ensures others { LeavesOwned desk.old desk.new ticket }
 {
-    for ask in asks {
-        let ticket = begin(rt, desk, ask, idle);
-        tickets.push_reserved(ticket);
-    }
-}
-
-// Collects all that was sent since the desk was as `before`, in the order of the asks.
-fn end_all<R: Wait, I: Idle>(
-    rt: &R,
-    before: &Snapshot<Desk>,
-    desk: &mut Desk,
-    asks: &mut [Ask],
-    tickets: &mut Vec<Option<Ticket>>,
-    idle: &mut I,
-)
-    requires rising { AreRising 0 asks.old }
-    requires can { AllCanAsk asks.old before.now.value.ledgers }
-    requires begun { HaveBegun asks.old tickets.old.items before.now.value desk.old }
-    ensures same { SameAsks asks.old asks.new }
-    ensures asked { Asks asks.new before.now.value.ledgers desk.new.ledgers }
-    ensures keeps { KeepsDesk before.now.value desk.new }
-    ensures none { tickets.new.items ≡ [] }
-    ensures room { vec_capacity tickets.new ≡ vec_capacity tickets.old }
-    ensures idled { I.leads idle.old idle.new }
-{
-    // The ticket of the first ask comes off first.
-    tickets.reverse();
-    for place in 0..asks.len() {
-        let Some(ticket) = tickets.pop() else {
-            unreachable!()
-        };
-        let code = end(rt, desk, &asks[place], ticket, idle);
-        asks[place].code = code;
-    }
-}
-
-/// Asks all the managers before it collects from any, and collects in the order of the asks.
-///
-/// The tickets are kept in a list without any, which has room for them.
-pub(crate) fn ask_all<R: Wait, I: Idle>(
-    rt: &R,
-    desk: &mut Desk,
-    asks: &mut [Ask],
-    tickets: &mut Vec<Option<Ticket>>,
-    idle: &mut I,
-)
-    requires rising { AreRising 0 asks.old }
-    requires can { AllCanAsk asks.old desk.old.ledgers }
-    requires free { outstanding desk.old.ledgers + length asks.old ≤ desk.old.handles }
-    requires none { tickets.old.items ≡ [] }
-    requires room { length asks.old ≤ vec_capacity tickets.old }
-    ensures same { SameAsks asks.old asks.new }
-    ensures asked { Asks asks.new desk.old.ledgers desk.new.ledgers }
-    ensures keeps { KeepsDesk desk.old desk.new }
-    ensures left { LeavesOutstanding desk.old.ledgers desk.new.ledgers }
-    ensures free { outstanding desk.new.ledgers ≡ outstanding desk.old.ledgers }
-    ensures none { tickets.new.items ≡ [] }
-    ensures room { vec_capacity tickets.new ≡ vec_capacity tickets.old }
-    ensures idled { I.leads idle.old idle.new }
-{
-    let before = Snapshot::of(desk);
-    begin_all(rt, desk, asks, tickets, idle);
-    end_all(rt, &before, desk, asks, tickets, idle);
+    desks_go_on();
+    let Some(ticket) = ticket else {
+        return;
+    };
+    desk.keep(ticket);
 }

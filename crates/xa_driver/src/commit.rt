@@ -1,43 +1,19 @@
 //! A commit of several branches, in two phases.
-ghost use Rattle.std.specs.Prelude.{◌≡◌, OnErr, IfOk, OnOk, None};
-ghost use Rattle.xa_driver.specs.Log.{record_of};
+ghost use Rattle.std.specs.Prelude.{◌≡◌, OnErr, IfOk, OnOk};
 ghost use Rattle.xa_words.specs.Tran.{TranName};
 ghost use Rattle.xa_desk.specs.DeskView.{outstanding};
 ghost use Rattle.xa_desk.specs.Kept.{AllKept};
 ghost use Rattle.xa_desk.specs.Tickets.{LeavesTickets};
 ghost use Rattle.xa_driver.specs.Asks.{KeepsDesk, LeavesOutstanding};
-ghost use Rattle.xa_driver.specs.Trace.{IsCommit, IsTraceOfCommit, IsTranOf, Logs, MayCommit, decision_of};
+ghost use Rattle.xa_driver.specs.Trace.{IsCommit, IsTraceOfCommit, IsTranOf, MayCommit};
 
-use crate::ask::ask_all;
 use crate::branch::Branch;
 use crate::done::{Done, DriverFault};
-use crate::log::{CommitRecord, DecisionLog, Yes};
-use crate::rounds::{
-    first_round, has_no, has_yes, read_endings, read_votes, second_round, third_round, yes_of,
-};
+use crate::log::DecisionLog;
+use crate::stages::prepare_all;
 use std::alloc::Global;
 use std::sync::Wait;
 use xa_desk::{Desk, Idle};
-use xa_words::{Code, Tran};
-
-// Whether to commit, and whether that was logged.
-fn decide<L: DecisionLog>(log: &mut L, tran: Tran, yes: Yes, votes: &[Code]) -> (bool, bool)
-    requires { record_of (L.state log.old) tran ≡ None }
-    ensures decision { result.0 ≡ decision_of votes.now result.1 }
-    ensures logs { Logs tran yes votes.now result.1 (L.state log.old) (L.state log.new) }
-{
-    if has_no(votes) {
-        return (false, false);
-    }
-    if !has_yes(votes) {
-        return (true, false);
-    }
-    let appended = log.append(&CommitRecord { tran, yes });
-    if appended.is_err() {
-        return (false, false);
-    }
-    (true, true)
-}
 
 /// Commits the branches of a global transaction in two phases, by presumed abort (Mohan, Lindsay and
 /// Obermarck, 1986).
@@ -76,26 +52,8 @@ pub fn commit_all<R: Wait, L: DecisionLog, I: Idle>(
     ensures unlogged { OnErr result (log.new ≡ log.old) }
     ensures idled { I.leads idle.old idle.new }
 {
-    let mut asks = first_round(alloc, branches)?;
-    let mut seconds = Vec::with_capacity(alloc, branches.len())?;
-    let mut thirds = Vec::with_capacity(alloc, branches.len())?;
-    let mut votes = Vec::with_capacity(alloc, branches.len())?;
-    let mut endings = Vec::with_capacity(alloc, branches.len())?;
-    let mut tickets = Vec::with_capacity(alloc, branches.len())?;
-    ask_all(rt, desk, asks.as_mut_slice(), &mut tickets, idle);
-    read_votes(&asks, &mut votes);
-    let tran = branches[0].xid.tran();
-    let (commit, logged) = decide(log, tran, yes_of(&asks), &votes);
-    second_round(&asks, commit, &mut seconds);
-    ask_all(rt, desk, seconds.as_mut_slice(), &mut tickets, idle);
-    read_endings(&seconds, commit, &mut endings);
-    third_round(&seconds, &mut thirds);
-    ask_all(rt, desk, thirds.as_mut_slice(), &mut tickets, idle);
-    tickets.destroy_empty();
-    Ok(Done {
-        commit,
-        logged,
-        votes,
-        endings,
-    })
+    let prepared = prepare_all(rt, alloc, desk, log, branches, idle)?;
+    let decided = prepared.decide(log);
+    let told = decided.tell(rt, desk, idle);
+    Ok(told.forget(rt, desk, idle))
 }

@@ -1,6 +1,6 @@
 //! The decision log.
 ghost use Rattle.std.specs.Prelude.{◌≡◌, OnOk, OnErr, None};
-ghost use Rattle.xa_driver.specs.Log.{LogState, record_of, with_record, with_failure};
+ghost use Rattle.xa_driver.specs.Log.{LogState, Records, record_in, record_of, with_record, with_failure};
 
 use xa_base::MOST_MANAGERS;
 use xa_words::Tran;
@@ -19,8 +19,18 @@ pub struct CommitRecord {
 #[derive(Clone, Copy, Debug, PartialEq, Eq)]
 pub struct LogFault;
 
-/// What a coordinator decides by. A transaction that the log has no record of is presumed aborted.
-pub trait DecisionLog {
+/// What is known of the transactions that were decided to commit. One without a record is presumed aborted.
+pub trait DecisionRecords {
+    /// The records.
+    ghost records: { Self → Records };
+
+    /// The managers that voted yes, where there is a record of the transaction.
+    fn has(&self, tran: &Tran) -> Option<Yes>
+        ensures { result ≡ record_in (records self.now) tran.now };
+}
+
+/// What a coordinator decides by: records, to which it adds its own.
+pub trait DecisionLog: DecisionRecords {
     /// The records, and how many appends failed.
     ghost state: { Self → LogState };
 
@@ -31,11 +41,10 @@ pub trait DecisionLog {
             (state self.old) decision.now.tran decision.now.yes) }
         ensures failed { OnErr result (state self.new ≡ with_failure (state self.old)) };
 
-    /// The managers that voted yes, where there is a record of the transaction.
-    fn has(&self, tran: &Tran) -> Option<Yes>
-        ensures { result ≡ record_of (state self.now) tran.now };
-
     /// How many appends failed; at `u64::MAX` it stays.
     fn failures(&self) -> u64
         ensures { result ≡ (state self.now).failures };
+
+    /// What a reader finds is what the log has.
+    ghost records_are: { (l : Self) → Self.records l ≡ (state l).records };
 }

@@ -1,8 +1,8 @@
 //! A decision log in memory.
-ghost use Rattle.std.specs.Prelude.{◌≡◌, OnOk, OnErr, IsErr, true, false};
+ghost use Rattle.std.specs.Prelude.{◌≡◌, OnOk, OnErr, IsErr, true, false, refl};
 ghost use Rattle.xa_driver.specs.Log.{no_records, with_record, with_failure, counted};
 
-use crate::log::{CommitRecord, DecisionLog, LogFault, Yes};
+use crate::log::{CommitRecord, DecisionLog, DecisionRecords, LogFault, Yes};
 use std::alloc::Global;
 use std::collections::HashMap;
 use std::marker::Model;
@@ -82,8 +82,18 @@ impl MemoryLog {
     }
 }
 
+impl DecisionRecords for MemoryLog {
+    ghost records = { λ l. l.state.records };
+
+    fn has(&self, tran: &Tran) -> Option<Yes> {
+        self.records.get(tran).copied()
+    }
+}
+
 impl DecisionLog for MemoryLog {
     ghost state = { λ l. l.state };
+
+    ghost records_are = { λ l. refl };
 
     fn append(&mut self, decision: &CommitRecord) -> Result<(), LogFault>
         ensures appended { OnOk result (self.new.state ≡ with_record self.old.state decision.now.tran
@@ -103,10 +113,6 @@ impl DecisionLog for MemoryLog {
             return Err(LogFault);
         }
         Ok(())
-    }
-
-    fn has(&self, tran: &Tran) -> Option<Yes> {
-        self.records.get(tran).copied()
     }
 
     fn failures(&self) -> u64 {

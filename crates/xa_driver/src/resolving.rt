@@ -10,7 +10,7 @@ ghost use Rattle.xa_driver.specs.Asks.{KeepsDesk, LeavesOutstanding};
 ghost use Rattle.xa_driver.specs.Resolving.{is_to_commit, outcome_op, AsksLedger, AsksAlone, ResolvesBranch};
 ghost use Rattle.xa_driver.specs.Resolving.{ResolvesAt, requests_for, left_in, MayResolve, IsTraceOfResolve};
 
-use crate::log::DecisionLog;
+use crate::log::DecisionRecords;
 use crate::resolved::{Outcome, ResolveFault, Resolved};
 use crate::rounds::is_decided;
 use std::alloc::Global;
@@ -36,10 +36,10 @@ fn ask<R: Wait, I: Idle>(rt: &R, desk: &mut Desk, manager: u32, op: Op, idle: &m
     }
 }
 
-// Whether the log has it that the branch is to be committed.
-fn is_to_commit<L: DecisionLog>(log: &L, manager: u32, xid: &Xid) -> bool
+// Whether it is recorded that the branch is to be committed.
+fn is_to_commit<L: DecisionRecords>(log: &L, manager: u32, xid: &Xid) -> bool
     requires { IsUpTo MOST_MANAGERS manager }
-    ensures { result ≡ is_to_commit (L.state log.now) manager xid.now }
+    ensures { result ≡ is_to_commit (L.records log.now) manager xid.now }
 {
     match log.has(&xid.tran()) {
         Some(yes) => yes[manager as usize - 1],
@@ -57,7 +57,7 @@ fn outcome_op(commit: bool, xid: &Xid) -> Op
 }
 
 // Resolves a branch left at the manager.
-fn resolve_branch<R: Wait, L: DecisionLog, I: Idle>(
+fn resolve_branch<R: Wait, L: DecisionRecords, I: Idle>(
     rt: &R,
     desk: &mut Desk,
     log: &L,
@@ -67,7 +67,7 @@ fn resolve_branch<R: Wait, L: DecisionLog, I: Idle>(
 ) -> Outcome
     requires manager { IsUpTo MOST_MANAGERS manager }
     requires room { 2 ≤ room_at desk.old.ledgers manager }
-    ensures resolves { ResolvesBranch AsksLedger (L.state log.now) manager result (ledger desk.old.ledgers manager)
+    ensures resolves { ResolvesBranch AsksLedger (L.records log.now) manager result (ledger desk.old.ledgers manager)
         (ledger desk.new.ledgers manager) }
     ensures xid { result.xid ≡ xid.now }
     ensures alone { AsksAlone manager desk.old desk.new }
@@ -89,7 +89,7 @@ fn resolve_branch<R: Wait, L: DecisionLog, I: Idle>(
 }
 
 // Resolves the branches left at the manager, one after the other, and tells their outcomes.
-fn resolve_at<R: Wait, L: DecisionLog, I: Idle>(
+fn resolve_at<R: Wait, L: DecisionRecords, I: Idle>(
     rt: &R,
     desk: &mut Desk,
     log: &L,
@@ -102,7 +102,7 @@ fn resolve_at<R: Wait, L: DecisionLog, I: Idle>(
     requires room { requests_for left.now ≤ room_at desk.old.ledgers manager }
     requires space { length outcomes.old.items + length left.now ≤ vec_capacity outcomes.old }
     ensures resolves { (more : List Outcome) × (outcomes.new.items ≡ outcomes.old.items ++ more)
-        × (length more ≡ length left.now) × ResolvesAt AsksLedger (L.state log.now) manager left.now more
+        × (length more ≡ length left.now) × ResolvesAt AsksLedger (L.records log.now) manager left.now more
         (ledger desk.old.ledgers manager) (ledger desk.new.ledgers manager) }
     ensures space { vec_capacity outcomes.new ≡ vec_capacity outcomes.old }
     ensures alone { AsksAlone manager desk.old desk.new }
@@ -158,13 +158,14 @@ pub fn may_resolve(desk: &Desk, scan: &Scan) -> bool
 /// Ends each branch that the reopening found left, by presumed abort (Mohan, Lindsay and Obermarck, 1986).
 ///
 /// At each manager that has any, by rising number, it puts xa_open(); then for each xid, rising, xa_commit() in two
-/// phases where the log's record of its transaction names the manager, and else xa_rollback(); and xa_forget() after an
+/// phases where the record of its transaction names the manager, and else xa_rollback(); and xa_forget() after an
 /// answer of `XA_HEURCOM` or `XA_HEURRB`. Each is waited for before the next. A manager that is learnt to be shut is
 /// asked nothing, which counts as `XAER_RMFAIL`; neither that nor any other answer ends it early, so each branch has
 /// its outcome.
 ///
-/// Want of memory comes before anything is sent.
-pub fn resolve<R: Wait, L: DecisionLog, I: Idle>(
+/// What several coordinators left is resolved by the records of all: a slice of their logs is read as one. Want of
+/// memory comes before anything is sent.
+pub fn resolve<R: Wait, L: DecisionRecords, I: Idle>(
     rt: &R,
     alloc: Global,
     desk: &mut Desk,
@@ -174,7 +175,7 @@ pub fn resolve<R: Wait, L: DecisionLog, I: Idle>(
 ) -> Result<Resolved, ResolveFault>
     requires { MayResolve desk.old scan.now }
     ensures trace { IfOk result (λ r. IsTraceOfResolve scan.now
-        (L.state log.now) desk.old.ledgers desk.new.ledgers r.outcomes.items) }
+        (L.records log.now) desk.old.ledgers desk.new.ledgers r.outcomes.items) }
 
     // What is kept under the handles stays, and so does all that was outstanding, with its tickets.
     ensures keeps { OnOk result (KeepsDesk desk.old desk.new) }

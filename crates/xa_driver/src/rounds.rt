@@ -187,38 +187,39 @@ pub(crate) fn read_votes(asks: &[Ask], votes: &mut Vec<Code>)
     }
 }
 
-/// The second round, into a list with room for it.
-pub(crate) fn second_round(asks: &[Ask], commit: bool, seconds: &mut Vec<Ask>)
-    requires empty { seconds.old.items ≡ [] }
-    requires room { length asks.now ≤ vec_capacity seconds.old }
-    ensures { seconds.new.items ≡ map (second_ask commit) asks.now }
+// The request of the second round, by the decision and the vote.
+fn ask_second(ask: &mut Ask, commit: bool)
+    ensures { ask.new ≡ second_ask commit ask.old }
 {
-    for ask in asks {
-        let vote = code_of(ask);
-        seconds.push_reserved(Ask {
-            manager: ask.manager,
-            xid: ask.xid,
-            vote,
-            op: second_op(commit, &ask.xid, vote),
-            code: None,
-        });
+    let vote = code_of(ask);
+    ask.vote = vote;
+    ask.op = second_op(commit, &ask.xid, vote);
+    ask.code = None;
+}
+
+// The request of the third round, by the second code.
+fn ask_third(ask: &mut Ask)
+    ensures { ask.new ≡ third_ask ask.old }
+{
+    ask.op = third_op(&ask.xid, ask.code);
+    ask.code = None;
+}
+
+/// The second round, in place of the first.
+pub(crate) fn second_round(asks: &mut [Ask], commit: bool)
+    ensures { asks.new ≡ map (second_ask commit) asks.old }
+{
+    for ask in asks.iter_mut() {
+        ask_second(ask, commit);
     }
 }
 
-/// The third round, into a list with room for it.
-pub(crate) fn third_round(seconds: &[Ask], thirds: &mut Vec<Ask>)
-    requires empty { thirds.old.items ≡ [] }
-    requires room { length seconds.now ≤ vec_capacity thirds.old }
-    ensures { thirds.new.items ≡ map third_ask seconds.now }
+/// The third round, in place of the second.
+pub(crate) fn third_round(asks: &mut [Ask])
+    ensures { asks.new ≡ map third_ask asks.old }
 {
-    for ask in seconds {
-        thirds.push_reserved(Ask {
-            manager: ask.manager,
-            xid: ask.xid,
-            vote: ask.vote,
-            op: third_op(&ask.xid, ask.code),
-            code: None,
-        });
+    for ask in asks.iter_mut() {
+        ask_third(ask);
     }
 }
 

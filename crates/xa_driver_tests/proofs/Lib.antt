@@ -1,5 +1,5 @@
 -- Lemmas that proofs of several functions cite.
 pub mod Senders
-pub mod Scanned
+pub mod Rounds
 pub mod Shutting
 pub mod Resolved

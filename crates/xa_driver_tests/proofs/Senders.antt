@@ -11,6 +11,7 @@ use Rattle.xa_words.specs.Xid.{XidName}
 use Rattle.xa_words.specs.declared.request.Op.{Op}
 use Rattle.xa_words.specs.declared.request.Op.TheVariants.{Shut}
 use Rattle.xa_words.specs.declared.request.Request.{Request}
+use Rattle.xa_tables.specs.Prepared.{is_heur, names}
 use Rattle.xa_desk.specs.LedgerView.{LedgerView, new_ledger}
 use Rattle.xa_desk.specs.DeskView.{DeskView, ledger, no_ledger, sent_to, is_known}
 use Rattle.xa_desk.specs.Ended.{EndedView}
@@ -100,30 +101,35 @@ own_after t r after (b ∷ before) n ops e own =
 
 -- ---- the premises on journals
 
--- where the other threads sent only Shuts, only the thread's own requests name a branch
-pub only_own : (s : Settling) (t m : ℕ) (x : XidName) (first last : ℕ) → IsSettled s → ((u : ℕ) → u ≢ t → All (λ op. op ≡ Shut) (sent s u m)) → length (sent s t m) ≤ last → OnlyTheseOrDecisionsName x t first last (history_of s m)
-only_own s t m x first last settled others few = λ before after r place own number k d below named heuristic.
-    let q : Request = get_or after k d in
-    elim (cases_eq q.thread t) [
-      | inl same ↦
-          let from = own_after t r after before 0 (sent s t m) (ap (λ (h : List Request). filter (λ p. p.thread == t) h) (sym place) ∙ (settled.agree t m).carried) own k d below same in
-          let P : Request → Type 0 = λ p. p.thread ≡ t → p.number < length (sent s t m) in
-          let to : q.number < length (sent s t m) = all_right P before (r ∷ after) (subst (All P) place (own_below s t m settled)) (suc k) d (omega (arith, below)) same in
-          record { thread = same; from = omega (arith, from, number); below = omega (arith, to, few) }
-      | inr differs ↦
-          let P : Request → Type 0 = λ p. p.thread ≢ t → p.op ≡ Shut in
-          let shut : q.op ≡ Shut = all_right P before (r ∷ after) (subst (All P) place (others_all s t m (λ op. op ≡ Shut) settled others)) (suc k) d (omega (arith, below)) differs in
-          absurd (false≢true (rw shut at named))
-    ]
+-- a Shut names no branch
+shut_unnamed : (x : XidName) (op : Op) → op ≡ Shut → names x op ≡ true → is_heur op ≡ false → ⊥
+shut_unnamed x op is named heuristic = absurd (false≢true (rw is at named))
 
--- so for each branch of a call after which the thread sent nothing
-pub own_left : (s : Settling) (t : ℕ) (bs : List Branch) (old new : List LedgerView) → IsSettled s → ((u m : ℕ) → u ≢ t → All (λ op. op ≡ Shut) (sent s u m)) → ledgers_of s t ≡ new → AreLeftOrDecided s t bs old new
-own_left s t bs old new settled others last = record {
-  each = λ k d below.
-      let b : Branch = get_or bs k d in
-      only_own s t b.m b.xid (length (ledger old b.m).sent) (length (ledger new b.m).sent) settled (λ u differs. others u b.m differs)
-      (let few = few_sent new b.m in let same = ap (λ at. length (sent_to at b.m)) last in omega (arith, few, same));
-}
+module _ (P : Op → Type 0) (never : (x : XidName) (op : Op) → P op → names x op ≡ true → is_heur op ≡ false → ⊥) where
+  -- where the other threads sent only requests that name no branch or decide it, only the thread's own requests name one
+  only_own : (s : Settling) (t m : ℕ) (x : XidName) (first last : ℕ) → IsSettled s → ((u : ℕ) → u ≢ t → All P (sent s u m)) → length (sent s t m) ≤ last → OnlyTheseOrDecisionsName x t first last (history_of s m)
+  only_own s t m x first last settled others few = λ before after r place own number k d below named heuristic.
+      let q : Request = get_or after k d in
+      elim (cases_eq q.thread t) [
+        | inl same ↦
+            let from = own_after t r after before 0 (sent s t m) (ap (λ (h : List Request). filter (λ p. p.thread == t) h) (sym place) ∙ (settled.agree t m).carried) own k d below same in
+            let Own : Request → Type 0 = λ p. p.thread ≡ t → p.number < length (sent s t m) in
+            let to : q.number < length (sent s t m) = all_right Own before (r ∷ after) (subst (All Own) place (own_below s t m settled)) (suc k) d (omega (arith, below)) same in
+            record { thread = same; from = omega (arith, from, number); below = omega (arith, to, few) }
+        | inr differs ↦
+            let Other : Request → Type 0 = λ p. p.thread ≢ t → P p.op in
+            let such : P q.op = all_right Other before (r ∷ after) (subst (All Other) place (others_all s t m P settled others)) (suc k) d (omega (arith, below)) differs in
+            absurd (never x q.op such named heuristic)
+      ]
+
+  -- so for each branch of a call after which the thread sent nothing
+  own_left : (s : Settling) (t : ℕ) (bs : List Branch) (old new last : List LedgerView) → IsSettled s → ((u m : ℕ) → u ≢ t → All P (sent s u m)) → ledgers_of s t ≡ last → ((m : ℕ) → (ledger last m).sent ≡ (ledger new m).sent) → AreLeftOrDecided s t bs old new
+  own_left s t bs old new last settled others is quiet = record {
+    each = λ k d below.
+        let b : Branch = get_or bs k d in
+        only_own s t b.m b.xid (length (ledger old b.m).sent) (length (ledger new b.m).sent) settled (λ u differs. others u b.m differs)
+        (let few = few_sent last b.m in let same = ap (λ at. length (sent_to at b.m)) is in let size = ap (λ (ops : List Op). length ops) (quiet b.m) in omega (arith, few, same, size));
+  }
 
 -- where no other thread sent anything, and the thread nothing but what a resolve did, only the resolve names a branch
 pub only_resolves : (s : Settling) (q : ResolveCall) (t : TranName) → IsSettled s → ((u m : ℕ) → u ≢ q.thread → sent s u m ≡ []) → ((m : ℕ) → (ledger q.old m).sent ≡ []) → ledgers_of s q.thread ≡ q.new → OnlyResolves t (record { settled = s; uses = resolves q ∷ [] })
@@ -151,13 +157,19 @@ nothing_to at m none = elim (is_known at m) as (λ b. cond b (ledger at m).sent 
 pub grown_of_first : (s : Settling) (e : EndedView) (others : List ThreadPart) (t : ℕ) (new : List LedgerView) → s.threads ≡ thread_part e ∷ others → t ≡ e.thread → e.ledgers ≡ new → ledgers_of s t ≡ new
 grown_of_first s e others t new threads own lists = ap (ledgers_of s) own ∙ first_ledgers s e others threads ∙ lists
 
--- two desks, of which the second sent only Shuts, and the first nothing after a call
+-- two desks, of which the second sent only such requests, and the first nothing after a call
+pub own_of_both : (P : Op → Type 0) → ((x : XidName) (op : Op) → P op → names x op ≡ true → is_heur op ≡ false → ⊥) → (s : Settling) (e f : EndedView) (t : ℕ) (bs : List Branch) (old new : List LedgerView) → IsSettled s → s.threads ≡ thread_part e ∷ thread_part f ∷ [] → t ≡ e.thread
+    → ((m : ℕ) → (ledger e.ledgers m).sent ≡ (ledger new m).sent) → ((m : ℕ) → All P (ledger f.ledgers m).sent) → AreLeftOrDecided s t bs old new
+own_of_both P never s e f t bs old new settled threads own quiet such =
+    own_left P never s t bs old new e.ledgers settled
+    (λ u m differs. others_two s e f threads (λ at. All P (sent_to at m)) (all_sent P f.ledgers m (such m)) (none_there P m) u (λ same. differs (same ∙ sym own)))
+    (ap (ledgers_of s) own ∙ first_ledgers s e (thread_part f ∷ []) threads) quiet
+
+-- so where it sent only Shuts
 pub own_of_two : (s : Settling) (e f : EndedView) (t : ℕ) (bs : List Branch) (old new : List LedgerView) → IsSettled s → s.threads ≡ thread_part e ∷ thread_part f ∷ [] → t ≡ e.thread → e.ledgers ≡ new
     → ((m : ℕ) → All (λ op. op ≡ Shut) (ledger f.ledgers m).sent) → AreLeftOrDecided s t bs old new
 own_of_two s e f t bs old new settled threads own lists shuts =
-    own_left s t bs old new settled
-    (λ u m differs. others_two s e f threads (λ at. All (λ op. op ≡ Shut) (sent_to at m)) (all_sent (λ op. op ≡ Shut) f.ledgers m (shuts m)) (none_there (λ op. op ≡ Shut) m) u (λ same. differs (same ∙ sym own)))
-    (grown_of_first s e (thread_part f ∷ []) t new threads own lists)
+    own_of_both (λ op. op ≡ Shut) shut_unnamed s e f t bs old new settled threads own (λ m. ap (λ (l : List LedgerView). (ledger l m).sent) lists) shuts
 
 -- one desk, which had done nothing before a resolve, and sent nothing after it
 pub only_of_one : (s : Settling) (e : EndedView) (q : ResolveCall) (t : TranName) → IsSettled s → s.threads ≡ thread_part e ∷ [] → q.thread ≡ e.thread → e.ledgers ≡ q.new → ((m : ℕ) → (ledger q.old m).sent ≡ [])

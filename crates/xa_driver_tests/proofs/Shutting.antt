@@ -1,5 +1,5 @@
--- A desk that has sent nothing but Shuts, and sends one more.
-use Rattle.std.proofs.Common.{◌≡◌, ℕ, zero, suc, ◌-◌, Result, Ok, Err, IfOk, OnErr, List, [], ◌∷◌, sym, ap, subst, arith}
+-- A desk that has sent only such requests, as Shuts, and sends one more; and what a collection leaves.
+use Rattle.std.proofs.Common.{◌≡◌, ℕ, zero, suc, ◌-◌, Result, Ok, Err, IfOk, OnErr, List, [], ◌∷◌, refl, sym, ap, ◌∙◌, subst, arith}
 use Rattle.std.specs.Prelude.{slice_index_or, slice_set}
 use Rattle.std.specs.List.{All}
 use Rattle.std.proofs.lemmas.List.Elements.{All-nil, All-push}
@@ -26,29 +26,58 @@ put_each : (Q : LedgerView → Type 0) (at : List LedgerView) (i : ℕ) (a : Led
 put_each Q at i a all here m =
     set_each Q at (i - 1) a (λ j. subst (λ k. Q (slice_index_or at k no_ledger)) (let e : suc j - 1 ≡ j = omega arith in e) (all (suc j))) here (m - 1)
 
+-- all that it sent to a manager is such
+abbrev pub Only : (Op → Type 0) → LedgerView → Type 0
+Only P a = All P a.sent
+
+module _ (P : Op → Type 0) (op : Op) (so : P op) where
+  -- one that calls with such a request, to whatever manager
+  calls_only : (old new : DeskView) (m n : ℕ) (o : Operation) (code : Code) → Collects (submitted (after_fulls n old m) m op) new o code → ((k : ℕ) → Only P (ledger old.ledgers k)) → (k : ℕ) → Only P (ledger new.ledgers k)
+  calls_only old new m n o code is all =
+      let at : List LedgerView = (after_fulls n old m).ledgers in
+      let first : (k : ℕ) → Only P (ledger at k) = subst (λ l. (k : ℕ) → Only P (ledger l k)) (sym (fulls_ledgers n old m)) all in
+      let sent : (k : ℕ) → Only P (ledger (after_sent at m op) k) = put_each (Only P) at m (with_sent (ledger at m) op) first (All-push P (ledger at m).sent op (first m) so) in
+      let before : (k : ℕ) → Only P (ledger is.before.ledgers k) = subst (λ l. (k : ℕ) → Only P (ledger l k)) (sym (ap (λ (d : DeskView). d.ledgers) is.looks.rest)) sent in
+      let last : (k : ℕ) → Only P (ledger (after_collected is.before.ledgers o code) k) =
+      put_each (Only P) is.before.ledgers o.manager (with_collected (ledger is.before.ledgers o.manager) o.number code) before (before o.manager) in
+      subst (λ l. (k : ℕ) → Only P (ledger l k)) (sym (ap (λ (d : DeskView). d.ledgers) is.collected)) last
+
+  pub after_only : (old new : DeskView) (m : ℕ) (r : Result Code Refused) → IfOk r (λ code. (n : ℕ) × Collects (submitted (after_fulls n old m) m op) new (next_operation old.ledgers m) code) → OnErr r (new ≡ old)
+      → ((k : ℕ) → Only P (ledger old.ledgers k)) → (k : ℕ) → Only P (ledger new.ledgers k)
+  after_only old new m (Ok code) sent same all = calls_only old new m sent.0 (next_operation old.ledgers m) code sent.1 all
+  after_only old new m (Err why) sent same all = subst (λ (d : DeskView). (k : ℕ) → Only P (ledger d.ledgers k)) (sym same) all
+
+-- one that has sent nothing
+pub none_only : (P : Op → Type 0) (at : List LedgerView) → ((k : ℕ) → (ledger at k).sent ≡ []) → (k : ℕ) → Only P (ledger at k)
+none_only P at none k = subst (All P) (sym (none k)) (All-nil P)
+
+-- ---- Shuts
+
 -- it sent only Shuts to a manager
 abbrev pub OnlyShuts : LedgerView → Type 0
 OnlyShuts a = All (λ op. op ≡ Shut) a.sent
 
-shut_more : (a : LedgerView) → OnlyShuts a → OnlyShuts (with_sent a Shut)
-shut_more a all = let is : ◌≡◌ {A = Op} Shut Shut = λ _. Shut in All-push (λ (op : Op). op ≡ Shut) a.sent Shut all is
-
--- one that calls with a Shut, to whatever manager
-pub calls_shut : (old new : DeskView) (m n : ℕ) (o : Operation) (code : Code) → Collects (submitted (after_fulls n old m) m Shut) new o code → ((k : ℕ) → OnlyShuts (ledger old.ledgers k)) → (k : ℕ) → OnlyShuts (ledger new.ledgers k)
-calls_shut old new m n o code is all =
-    let at : List LedgerView = (after_fulls n old m).ledgers in
-    let first : (k : ℕ) → OnlyShuts (ledger at k) = subst (λ l. (k : ℕ) → OnlyShuts (ledger l k)) (sym (fulls_ledgers n old m)) all in
-    let sent : (k : ℕ) → OnlyShuts (ledger (after_sent at m Shut) k) = put_each OnlyShuts at m (with_sent (ledger at m) Shut) first (shut_more (ledger at m) (first m)) in
-    let before : (k : ℕ) → OnlyShuts (ledger is.before.ledgers k) = subst (λ l. (k : ℕ) → OnlyShuts (ledger l k)) (sym (ap (λ (d : DeskView). d.ledgers) is.looks.rest)) sent in
-    let last : (k : ℕ) → OnlyShuts (ledger (after_collected is.before.ledgers o code) k) =
-    put_each OnlyShuts is.before.ledgers o.manager (with_collected (ledger is.before.ledgers o.manager) o.number code) before (before o.manager) in
-    subst (λ l. (k : ℕ) → OnlyShuts (ledger l k)) (sym (ap (λ (d : DeskView). d.ledgers) is.collected)) last
-
 pub after_call : (old new : DeskView) (m : ℕ) (r : Result Code Refused) → IfOk r (λ code. (n : ℕ) × Collects (submitted (after_fulls n old m) m Shut) new (next_operation old.ledgers m) code) → OnErr r (new ≡ old)
     → ((k : ℕ) → OnlyShuts (ledger old.ledgers k)) → (k : ℕ) → OnlyShuts (ledger new.ledgers k)
-after_call old new m (Ok code) sent same all = calls_shut old new m sent.0 (next_operation old.ledgers m) code sent.1 all
-after_call old new m (Err why) sent same all = subst (λ (d : DeskView). (k : ℕ) → OnlyShuts (ledger d.ledgers k)) (sym same) all
+after_call old new m r sent same all = let is : ◌≡◌ {A = Op} Shut Shut = λ _. Shut in after_only (λ op. op ≡ Shut) Shut is old new m r sent same all
 
--- one that has sent nothing
 pub none_shut : (at : List LedgerView) → ((k : ℕ) → (ledger at k).sent ≡ []) → (k : ℕ) → OnlyShuts (ledger at k)
-none_shut at none k = subst (All (λ op. op ≡ Shut)) (sym (none k)) (All-nil (λ op. op ≡ Shut))
+none_shut at none = none_only (λ op. op ≡ Shut) at none
+
+-- ---- what is collected leaves what was sent
+
+pub collected_sent : (old new : DeskView) (o : Operation) (code : Code) → Collects old new o code → (k : ℕ) → (ledger new.ledgers k).sent ≡ (ledger old.ledgers k).sent
+collected_sent old new o code is k =
+    let lists : is.before.ledgers ≡ old.ledgers = ap (λ (d : DeskView). d.ledgers) is.looks.rest in
+    let last : (ledger (after_collected is.before.ledgers o code) k).sent ≡ (ledger is.before.ledgers k).sent = put_sent is.before.ledgers o.manager o.number code k in
+    ap (λ (d : DeskView). (ledger d.ledgers k).sent) is.collected ∙ last ∙ ap (λ (l : List LedgerView). (ledger l k).sent) lists
+  where
+    set_same : (at : List LedgerView) (i n : ℕ) (c : Code) (j : ℕ) → (slice_index_or (slice_set at i (with_collected (slice_index_or at i no_ledger) n c)) j no_ledger).sent ≡ (slice_index_or at j no_ledger).sent
+    set_same [] i n c j = refl
+    set_same (x ∷ xs) zero n c zero = refl
+    set_same (x ∷ xs) zero n c (suc j) = refl
+    set_same (x ∷ xs) (suc i) n c zero = refl
+    set_same (x ∷ xs) (suc i) n c (suc j) = set_same xs i n c j
+
+    put_sent : (at : List LedgerView) (m n : ℕ) (c : Code) (j : ℕ) → (ledger (after_collected at (record { manager = m; number = n }) c) j).sent ≡ (ledger at j).sent
+    put_sent at m n c j = set_same at (m - 1) n c (j - 1)

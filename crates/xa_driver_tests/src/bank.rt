@@ -1,6 +1,7 @@
 //! Days of tellers over stores, and what all of them have in common.
 mod alone;
 mod crowded;
+mod dying;
 mod stuck;
 
 ghost use Rattle.std.specs.Prelude.{◌≡◌, length};
@@ -149,6 +150,7 @@ fn sum_of(rt: &impl Abort, settled: &Settled) -> u64 {
 fn is_whole(outcome: &Outcome) -> bool {
     match outcome {
         Outcome::Refused => true,
+        Outcome::Died { at: _, known: _ } => false,
         Outcome::Decided(done) if done.commit => done.endings.iter().all(|ending| matches!(
             ending,
             Ending::Committed | Ending::ReadOnly

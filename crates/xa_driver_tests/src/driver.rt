@@ -5,6 +5,7 @@ ghost use Rattle.xa_switch.specs.Seats.{seat_of_worker};
 
 mod appending;
 mod crash;
+pub(crate) mod dying;
 mod endings;
 mod meddling;
 mod openings;
@@ -13,6 +14,7 @@ mod resolved;
 mod resolving;
 mod threads;
 mod told;
+mod woven;
 
 use std::alloc::Global;
 use std::process::Abort;

@@ -8,7 +8,8 @@ use std::alloc::Global;
 use std::sync::Wait;
 use xa_desk::Desk;
 use xa_driver::{
-    Branch, CommitRecord, DecisionLog, Done, Ending, MemoryLog, commit_all, may_commit,
+    Branch, CommitRecord, DecisionLog, DecisionRecords, Done, Ending, MemoryLog, commit_all,
+    may_commit,
 };
 use xa_switch::{RmOp, native, xa_call};
 use xa_words::{Call, Delta, Key, TMNOFLAGS, TMSUCCESS, Xid};

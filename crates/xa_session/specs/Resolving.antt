@@ -17,6 +17,7 @@ pub data ResolvesLeft (r : Resolve) (old new : Session) (a : Answer) : Type 0 wh
   refused : (MayResolve old.desk old.scan → ⊥) → a ≡ answer.Refused r.line r.thread → new ≡ old
       → ResolvesLeft r old new a
   resolved : (outcomes : Vec Outcome Global) → MayResolve old.desk old.scan
-      → IsTraceOfResolve old.scan old.log.state old.desk.ledgers new.desk.ledgers outcomes.items → new.log ≡ old.log
-      → new.scan ≡ old.scan → KeepsDesk old.desk new.desk → outstanding new.desk.ledgers ≡ outstanding old.desk.ledgers
+      → IsTraceOfResolve old.scan old.log.state.records old.desk.ledgers new.desk.ledgers outcomes.items
+      → new.log ≡ old.log → new.scan ≡ old.scan → KeepsDesk old.desk new.desk
+      → outstanding new.desk.ledgers ≡ outstanding old.desk.ledgers
       → a ≡ answer.Resolved r.line r.thread outcomes → ResolvesLeft r old new a

@@ -14,7 +14,7 @@ use Rattle.xa_worker.specs.Journal.{Entry}
 use Rattle.xa_switch.specs.Scans.{ScanView, left_at}
 use Rattle.xa_driver.specs.declared.resolved.Outcome.{Outcome}
 use Rattle.xa_driver.specs.Asks.{asked}
-use Rattle.xa_driver.specs.Log.{LogState}
+use Rattle.xa_driver.specs.Log.{Records}
 use Rattle.xa_driver.specs.Resolving.{AsksLedger, ResolvesAt, IsTraceOfResolve, requests_for}
 use Rattle.xa_driver.proofs.Alone.{known_with_room}
 use Rattle.xa_transcript.specs.Resolves.{CarriesOut}
@@ -40,16 +40,16 @@ ask_answered a op code a' is = subst (Answered a) (sym is.trace) (asked_answered
 
 -- ---- all of them
 
-module _ (z : ScanView) (log : LogState) (old new : List LedgerView) (outcomes : List Outcome) (is : IsTraceOfResolve z log old new outcomes) (room : (m : ℕ) → IsUpTo MOST_MANAGERS m → requests_for (left_at z m) ≤ room_at old m) where
+module _ (z : ScanView) (records : Records) (old new : List LedgerView) (outcomes : List Outcome) (is : IsTraceOfResolve z records old new outcomes) (room : (m : ℕ) → IsUpTo MOST_MANAGERS m → requests_for (left_at z m) ≤ room_at old m) where
   -- a manager at which some are left is the desk's, and another is asked nothing
-  known_or_same : (m : ℕ) (xs : List XidName) → requests_for xs ≤ room_at old m → ResolvesAt AsksLedger log m xs (is.at m) (ledger old m) (ledger new m) → IsKnown old m ⊎ (ledger new m ≡ ledger old m)
+  known_or_same : (m : ℕ) (xs : List XidName) → requests_for xs ≤ room_at old m → ResolvesAt AsksLedger records m xs (is.at m) (ledger old m) (ledger new m) → IsKnown old m ⊎ (ledger new m ≡ ledger old m)
   known_or_same m [] few resolves = inr resolves.1
   known_or_same m (x ∷ xs) few resolves = inl (known_with_room old m (omega (arith, few)))
 
   answered_at : (m : ℕ) → IsUpTo MOST_MANAGERS m → Answered (ledger old m) (ledger new m)
   answered_at m within =
       resolves_on AsksLedger AsksLedger (λ a. a) (Answered (ledger old m)) (λ a. Unit {0}) (λ d e op c asks so_far. one_after (ledger old m) d e so_far (ask_answered d op c e asks)) (λ d e op c asks p. tt)
-      (λ d e op c asks q p. asks) log m (left_at z m) (is.at m) (ledger old m) (ledger new m) (is.each m within) (stays (ledger old m))
+      (λ d e op c asks q p. asks) records m (left_at z m) (is.at m) (ledger old m) (ledger new m) (is.each m within) (stays (ledger old m))
 
   -- past the managers that there may be, nothing is asked
   untouched : (m : ℕ) → (IsUpTo MOST_MANAGERS m → ⊥) → 1 ≤ m → ledger new m ≡ ledger old m
@@ -84,26 +84,26 @@ module _ (z : ScanView) (log : LogState) (old new : List LedgerView) (outcomes :
         let there_so : There m (asked a (Some op) (Some c)) = subst (There m) asks.trace there in
         subst (λ b. CarriesOut t (upto m a) op (upto m b) c) (sym asks.trace) (carries t (ops m) (pairs m) (es m) (fits m) a (Some op) (Some c) asks.answered sound there_so.0 there_so.1)
 
-    known_resolves : (m : ℕ) → IsUpTo MOST_MANAGERS m → IsKnown old m → ResolvesAt (CarriesOut t) log m (left_at z m) (is.at m) (entries old m) (entries new m)
+    known_resolves : (m : ℕ) → IsUpTo MOST_MANAGERS m → IsKnown old m → ResolvesAt (CarriesOut t) records m (left_at z m) (is.at m) (entries old m) (entries new m)
     known_resolves m within known =
         let known_now = still_known old new m is.managers known in
         let was : upto m (ledger old m) ≡ entries old m = ap (λ l. take (length l) (es m)) (sym (sent_of old m known)) in
         let now : upto m (ledger new m) ≡ entries new m = ap (λ l. take (length l) (es m)) (sym (sent_of new m known_now)) in
         let sound_here : Sound (ledger old m) = λ j q there. subst (λ l. q.0 < length l) (sent_of old m known) (sound m j q (ap (λ l. slice_get l j) (collected_of old m known) ∙ there)) in
         let there : There m (ledger new m) = (subst (λ l. Begins l (ops m)) (sent_of new m known_now) (sent m), subst (λ l. Begins l (pairs m)) (collected_of new m known_now) (collected m)) in
-        subst (λ l. ResolvesAt (CarriesOut t) log m (left_at z m) (is.at m) l (entries new m)) was
-        (subst (λ l. ResolvesAt (CarriesOut t) log m (left_at z m) (is.at m) (upto m (ledger old m)) l) now
+        subst (λ l. ResolvesAt (CarriesOut t) records m (left_at z m) (is.at m) l (entries new m)) was
+        (subst (λ l. ResolvesAt (CarriesOut t) records m (left_at z m) (is.at m) (upto m (ledger old m)) l) now
         (resolves_mapped AsksLedger (CarriesOut t) (upto m) Sound (There m) (λ d e op c asks sound. (ask_answered d op c e asks).sound sound) (λ d e op c asks there. there_before m d e (ask_answered d op c e asks) there)
-        (λ d e op c asks sound there. carries_out m d e op c asks sound there) log m (left_at z m) (is.at m) (ledger old m) (ledger new m) (is.each m within) sound_here there))
+        (λ d e op c asks sound there. carries_out m d e op c asks sound there) records m (left_at z m) (is.at m) (ledger old m) (ledger new m) (is.each m within) sound_here there))
 
     same_entries : (m : ℕ) → (1 ≤ m → ledger new m ≡ ledger old m) → entries new m ≡ entries old m
     same_entries m same = ap (λ l. take (length l) (es m)) (sent_same old new m is.managers same)
 
-    resolves_by : (m : ℕ) (xs : List XidName) → requests_for xs ≤ room_at old m → ResolvesAt AsksLedger log m xs (is.at m) (ledger old m) (ledger new m) → (IsKnown old m → ResolvesAt (CarriesOut t) log m xs (is.at m) (entries old m) (entries new m)) → ResolvesAt (CarriesOut t) log m xs (is.at m) (entries old m) (entries new m)
+    resolves_by : (m : ℕ) (xs : List XidName) → requests_for xs ≤ room_at old m → ResolvesAt AsksLedger records m xs (is.at m) (ledger old m) (ledger new m) → (IsKnown old m → ResolvesAt (CarriesOut t) records m xs (is.at m) (entries old m) (entries new m)) → ResolvesAt (CarriesOut t) records m xs (is.at m) (entries old m) (entries new m)
     resolves_by m [] few resolves by = (resolves.0, same_entries m (λ low. resolves.1))
     resolves_by m (x ∷ xs) few resolves by = by (known_with_room old m (omega (arith, few)))
 
-    pub managers_at : (m : ℕ) → IsUpTo MOST_MANAGERS m → ResolvesAt (CarriesOut t) log m (left_at z m) (is.at m) (entries old m) (entries new m)
+    pub managers_at : (m : ℕ) → IsUpTo MOST_MANAGERS m → ResolvesAt (CarriesOut t) records m (left_at z m) (is.at m) (entries old m) (entries new m)
     managers_at m within = resolves_by m (left_at z m) (room m within) (is.each m within) (known_resolves m within)
 
     pub none_past : (m : ℕ) → (IsUpTo MOST_MANAGERS m → ⊥) → entries new m ≡ entries old m

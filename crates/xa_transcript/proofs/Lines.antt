@@ -70,7 +70,7 @@ commit_grows m c old new a (decided done may trace still keeps as_many told) = t
 
 resolve_grows_so : (m : ℕ) (r : Resolve) (old new : Session) (a : Answer) → ResolvesLeft r old new a → Grows m old.desk.ledgers new.desk.ledgers
 resolve_grows_so m r old new a (left_refused why told e) = grows_same m old.desk.ledgers new.desk.ledgers (ap (λ (x : Session). x.desk.ledgers) e)
-resolve_grows_so m r old new a (left_resolved outcomes may trace log still keeps as_many told) = resolve_grows old.scan old.log.state old.desk.ledgers new.desk.ledgers outcomes.items trace may.room m
+resolve_grows_so m r old new a (left_resolved outcomes may trace log still keeps as_many told) = resolve_grows old.scan old.log.state.records old.desk.ledgers new.desk.ledgers outcomes.items trace may.room m
 
 action_grows : (m : ℕ) (x : Action) (p : Called) → wanted_by x p.flags ≡ wanted_in p → (old new : Session) (a : Answer) → Answers x p old.desk old.scan new.desk new.scan a → Grows m old.desk.ledgers new.desk.ledgers
 action_grows m (action.Xa c y) p e old new a is = (answers_do (action.Xa c y) p refl e old.desk new.desk old.scan new.scan a is m).1
@@ -248,9 +248,9 @@ module _ (settled : Settling) (t : ℕ) (ops : ℕ → List Op) (pairs : ℕ →
         at = trace.at;
         outcomes_are = trace.outcomes_are;
         managers = λ m within.
-            subst (λ u. ResolvesAt (CarriesOut u) old.log.state m (left_at old.scan m) (trace.at m) (entries_so_far at m) (entries_so_far at' m)) (sym own)
-            (managers_at old.scan old.log.state at at' outcomes.items trace may.room t ops pairs own_entries fits sound (λ m. (all m).0) (λ m. (all m).1) m within);
-        elsewhere = none_past old.scan old.log.state at at' outcomes.items trace may.room t ops pairs own_entries fits sound (λ m. (all m).0) (λ m. (all m).1);
+            subst (λ u. ResolvesAt (CarriesOut u) old.log.state.records m (left_at old.scan m) (trace.at m) (entries_so_far at m) (entries_so_far at' m)) (sym own)
+            (managers_at old.scan old.log.state.records at at' outcomes.items trace may.room t ops pairs own_entries fits sound (λ m. (all m).0) (λ m. (all m).1) m within);
+        elsewhere = none_past old.scan old.log.state.records at at' outcomes.items trace may.room t ops pairs own_entries fits sound (λ m. (all m).0) (λ m. (all m).1);
         handles = keeps.kept;
         log = ap (λ (l : LogView). l.state) log;
         scan = still;

@@ -13,7 +13,7 @@ use Rattle.xa_switch.specs.Scans.{Recovers}
 use Rattle.xa_switch.specs.Scans.Recovers.{unreached, stopped as stopped_at, told}
 use Rattle.xa_driver.specs.declared.resolved.Outcome.{Outcome}
 use Rattle.xa_driver.specs.Endings.{is_decided}
-use Rattle.xa_driver.specs.Log.{LogState}
+use Rattle.xa_driver.specs.Log.{Records}
 use Rattle.xa_driver.specs.Resolving.{AsksIf, ResolvesBranch, ResolvesAt}
 
 -- what is asked over states D is asked over E, where P holds afterwards, and P held before
@@ -70,7 +70,7 @@ module _ {D E : Type 0} (A : Asking D) (B : Asking E) (f : D → E) (P : D → T
 -- what is asked over states D is asked over E, where Q held before and P holds afterwards; Q is kept, and P held before
 module _ {D E : Type 0} (A : Asking D) (B : Asking E) (f : D → E) (Q P : D → Type 0)
     (on : (d e : D) (op : Op) (c : Code) → A d op e c → Q d → Q e) (back : (d e : D) (op : Op) (c : Code) → A d op e c → P e → P d)
-    (step : (d e : D) (op : Op) (c : Code) → A d op e c → Q d → P e → B (f d) op (f e) c) (log : LogState) (m : ℕ) where
+    (step : (d e : D) (op : Op) (c : Code) → A d op e c → Q d → P e → B (f d) op (f e) c) (records : Records) (m : ℕ) where
   if_on : (asks : Bool) (op : Op) (d e : D) → AsksIf asks A op d e → Q d → Q e
   if_on false op d e same q = subst Q (sym same) q
   if_on true op d e asked q = on d e op asked.0 asked.1 q
@@ -83,13 +83,13 @@ module _ {D E : Type 0} (A : Asking D) (B : Asking E) (f : D → E) (Q P : D →
   if_mapped false op d e same q p = ap f same
   if_mapped true op d e asked q p = (asked.0, step d e op asked.0 asked.1 q p)
 
-  branch_on : (o : Outcome) (d e : D) → ResolvesBranch A log m o d e → Q d → Q e
+  branch_on : (o : Outcome) (d e : D) → ResolvesBranch A records m o d e → Q d → Q e
   branch_on o d e is q = if_on (is_decided o.code) (Forget o.xid) is.decided e is.forgets (on d is.decided _ o.code is.obeys q)
 
-  branch_back : (o : Outcome) (d e : D) → ResolvesBranch A log m o d e → P e → P d
+  branch_back : (o : Outcome) (d e : D) → ResolvesBranch A records m o d e → P e → P d
   branch_back o d e is p = back d is.decided _ o.code is.obeys (if_back (is_decided o.code) (Forget o.xid) is.decided e is.forgets p)
 
-  branch_mapped : (o : Outcome) (d e : D) → ResolvesBranch A log m o d e → Q d → P e → ResolvesBranch B log m o (f d) (f e)
+  branch_mapped : (o : Outcome) (d e : D) → ResolvesBranch A records m o d e → Q d → P e → ResolvesBranch B records m o (f d) (f e)
   branch_mapped o d e is q p = record {
     manager = is.manager;
     decision = is.decision;
@@ -98,24 +98,24 @@ module _ {D E : Type 0} (A : Asking D) (B : Asking E) (f : D → E) (Q P : D →
     forgets = if_mapped (is_decided o.code) (Forget o.xid) is.decided e is.forgets (on d is.decided _ o.code is.obeys q) p;
   }
 
-  all_on : (d : D) (os : List Outcome) (e : D) → Chain (ResolvesBranch A log m) d os e → Q d → Q e
+  all_on : (d : D) (os : List Outcome) (e : D) → Chain (ResolvesBranch A records m) d os e → Q d → Q e
   all_on d os e (none xs l z same) q = subst Q (sym same) q
   all_on d os e (more xs o now l before is) q = branch_on o now l is (all_on d xs now before q)
 
-  all_back : (d : D) (os : List Outcome) (e : D) → Chain (ResolvesBranch A log m) d os e → P e → P d
+  all_back : (d : D) (os : List Outcome) (e : D) → Chain (ResolvesBranch A records m) d os e → P e → P d
   all_back d os e (none xs l z same) p = subst P same p
   all_back d os e (more xs o now l before is) p = all_back d xs now before (branch_back o now l is p)
 
-  all_mapped : (d : D) (os : List Outcome) (e : D) → Chain (ResolvesBranch A log m) d os e → Q d → P e → Chain (ResolvesBranch B log m) (f d) os (f e)
+  all_mapped : (d : D) (os : List Outcome) (e : D) → Chain (ResolvesBranch A records m) d os e → Q d → P e → Chain (ResolvesBranch B records m) (f d) os (f e)
   all_mapped d os e (none xs l z same) q p = none xs (f l) z (ap f same)
   all_mapped d os e (more xs o now l before is) q p =
       more xs o (f now) (f l) (all_mapped d xs now before q (branch_back o now l is p)) (branch_mapped o now l is (all_on d xs now before q) p)
 
-  pub resolves_on : (xids : List XidName) (os : List Outcome) (d e : D) → ResolvesAt A log m xids os d e → Q d → Q e
+  pub resolves_on : (xids : List XidName) (os : List Outcome) (d e : D) → ResolvesAt A records m xids os d e → Q d → Q e
   resolves_on [] os d e is q = subst Q (sym is.1) q
   resolves_on (x ∷ xs) os d e is q = all_on is.opened os e is.each (on d is.opened OpenRm is.code is.opens q)
 
-  pub resolves_mapped : (xids : List XidName) (os : List Outcome) (d e : D) → ResolvesAt A log m xids os d e → Q d → P e → ResolvesAt B log m xids os (f d) (f e)
+  pub resolves_mapped : (xids : List XidName) (os : List Outcome) (d e : D) → ResolvesAt A records m xids os d e → Q d → P e → ResolvesAt B records m xids os (f d) (f e)
   resolves_mapped [] os d e is q p = (is.0, ap f is.1)
   resolves_mapped (x ∷ xs) os d e is q p = record {
     opened = f is.opened;

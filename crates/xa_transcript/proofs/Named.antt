@@ -30,7 +30,7 @@ use Rattle.xa_driver.specs.declared.branch.Branch.{Branch}
 use Rattle.xa_driver.specs.declared.done.Ending.{Ending}
 use Rattle.xa_driver.specs.declared.done.Done.{Done as DoneSo}
 use Rattle.xa_driver.specs.declared.resolved.Outcome.{Outcome}
-use Rattle.xa_driver.specs.Log.{LogState}
+use Rattle.xa_driver.specs.Log.{Records}
 use Rattle.xa_driver.specs.Resolving.{outcome_op, AsksIf, ResolvesBranch, ResolvesAt}
 use Rattle.xa_driver.specs.Decision.{is_yes, is_read}
 use Rattle.xa_driver.specs.Endings.{second_op, is_out_of_reach, third_op, is_decided}
@@ -333,26 +333,26 @@ module _ (settled : Settling) (b : Branch) where
   outcome_names true x other = other
   outcome_names false x other = other
 
-  branch_quiet : (t : ℕ) (log : LogState) (m : ℕ) (o : Outcome) (old new : List Entry) → ResolvesBranch (CarriesOut t) log m o old new → xid_eq o.xid b.xid ≡ false → Quiet old new
-  branch_quiet t log m o old new is other =
+  branch_quiet : (t : ℕ) (records : Records) (m : ℕ) (o : Outcome) (old new : List Entry) → ResolvesBranch (CarriesOut t) records m o old new → xid_eq o.xid b.xid ≡ false → Quiet old new
+  branch_quiet t records m o old new is other =
       adds_both b.xid old is.decided new (asked_quietly t (outcome_op o.commit o.xid) o.code old is.decided is.obeys (outcome_names o.commit o.xid other))
       (asked_if (is_decided o.code) t (op.Forget o.xid) is.decided new is.forgets other)
 
-  branches_quiet : (t : ℕ) (log : LogState) (m : ℕ) (old : List Entry) (os : List Outcome) (new : List Entry) → Chain (ResolvesBranch (CarriesOut t) log m) old os new → Others os → Quiet old new
-  branches_quiet t log m old os new (no_step xs end e f) others = adds_same b.xid old end f
-  branches_quiet t log m old os new (one_step xs o now end before is) others =
+  branches_quiet : (t : ℕ) (records : Records) (m : ℕ) (old : List Entry) (os : List Outcome) (new : List Entry) → Chain (ResolvesBranch (CarriesOut t) records m) old os new → Others os → Quiet old new
+  branches_quiet t records m old os new (no_step xs end e f) others = adds_same b.xid old end f
+  branches_quiet t records m old os new (one_step xs o now end before is) others =
       let parts = others_front xs o others in
-      adds_both b.xid old now end (branches_quiet t log m old xs now before parts.0) (branch_quiet t log m o now end is parts.1)
+      adds_both b.xid old now end (branches_quiet t records m old xs now before parts.0) (branch_quiet t records m o now end is parts.1)
 
-  resolves_quiet : (t : ℕ) (log : LogState) (m : ℕ) (xs : List XidName) (os : List Outcome) (old new : List Entry) → ResolvesAt (CarriesOut t) log m xs os old new → list_any (λ x. xid_eq x b.xid) xs ≡ false → Quiet old new
-  resolves_quiet t log m [] os old new is quiet = adds_same b.xid old new is.1
-  resolves_quiet t log m (x ∷ xs) os old new is quiet =
-      adds_both b.xid old is.opened new (asked_quietly t op.OpenRm is.code old is.opened is.opens refl) (branches_quiet t log m is.opened os new is.each (others_of os (x ∷ xs) is.xids_are quiet))
+  resolves_quiet : (t : ℕ) (records : Records) (m : ℕ) (xs : List XidName) (os : List Outcome) (old new : List Entry) → ResolvesAt (CarriesOut t) records m xs os old new → list_any (λ x. xid_eq x b.xid) xs ≡ false → Quiet old new
+  resolves_quiet t records m [] os old new is quiet = adds_same b.xid old new is.1
+  resolves_quiet t records m (x ∷ xs) os old new is quiet =
+      adds_both b.xid old is.opened new (asked_quietly t op.OpenRm is.code old is.opened is.opens refl) (branches_quiet t records m is.opened os new is.each (others_of os (x ∷ xs) is.xids_are quiet))
 
   resolve_unnamed : (r : Resolve) (outcomes : List Outcome) (old new : Part) → EndsLeft r outcomes old new → list_any (λ x. xid_eq x b.xid) (left_at old.scan b.m) ≡ false → Quiet (old.entries b.m) (new.entries b.m)
   resolve_unnamed r outcomes old new is quiet =
       elim (up_to_or_not b.m) [
-        | inl within ↦ resolves_quiet r.thread old.log b.m (left_at old.scan b.m) (is.at b.m) (old.entries b.m) (new.entries b.m) (is.managers b.m within) quiet
+        | inl within ↦ resolves_quiet r.thread old.log.records b.m (left_at old.scan b.m) (is.at b.m) (old.entries b.m) (new.entries b.m) (is.managers b.m within) quiet
         | inr past ↦ adds_same b.xid (old.entries b.m) (new.entries b.m) (is.elsewhere b.m past)
       ]
 

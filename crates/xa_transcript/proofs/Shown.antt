@@ -293,7 +293,7 @@ resolve_adds r a old new (resolved outcomes told is) m = elim (up_to_or_not m) [
   | inl within ↦
       resolves_on (CarriesOut r.thread) (CarriesOut r.thread) (λ es. es) (Adding (old.entries m)) (λ es. Unit {0})
       (λ d e op c asks so_far. adds_both (old.entries m) d e so_far (carry_adds r.thread (Some op) (Some c) d e asks)) (λ d e op c asks p. tt) (λ d e op c asks q p. asks)
-      old.log m (left_at old.scan m) (is.at m) (old.entries m) (new.entries m) (is.managers m within) (adds_none (old.entries m) (old.entries m) refl)
+      old.log.records m (left_at old.scan m) (is.at m) (old.entries m) (new.entries m) (is.managers m within) (adds_none (old.entries m) (old.entries m) refl)
   | inr past ↦ adds_none (old.entries m) (new.entries m) (is.elsewhere m past)
 ]
 

@@ -25,7 +25,7 @@ pub record EndsLeft (r : Resolve) (outcomes : List Outcome) (old new : Part) : T
   pub at : ℕ → List Outcome
   pub outcomes_are : outcomes ≡ flat_map at (range_with_len 1 MOST_MANAGERS)
   pub managers : (m : ℕ) → IsUpTo MOST_MANAGERS m
-      → ResolvesAt (CarriesOut r.thread) old.log m (left_at old.scan m) (at m) (old.entries m) (new.entries m)
+      → ResolvesAt (CarriesOut r.thread) old.log.records m (left_at old.scan m) (at m) (old.entries m) (new.entries m)
   pub elsewhere : (m : ℕ) → (IsUpTo MOST_MANAGERS m → ⊥) → new.entries m ≡ old.entries m
   pub handles : new.handles ≡ old.handles
   pub log : new.log ≡ old.log

@@ -1,4 +1,6 @@
 //! What the managers were asked for when the record is appended.
+ghost use Rattle.std.specs.Prelude.{refl};
+
 use super::plan_of;
 use super::threads::commit_two;
 use std::alloc::Global;
@@ -8,7 +10,7 @@ use std::sync::atomic::{AtomicU64, Ordering};
 use std::thread;
 use std::thread::{Threads, join};
 use xa_desk::Desk;
-use xa_driver::{CommitRecord, DecisionLog, Done, LogFault, MemoryLog, Yes};
+use xa_driver::{CommitRecord, DecisionLog, DecisionRecords, Done, LogFault, MemoryLog, Yes};
 use xa_switch::open_switch;
 use xa_words::{Op, Request, Tran};
 use xa_worker::{Pace, Worker};
@@ -52,8 +54,18 @@ struct Watching<'a> {
     saw: Option<(u64, u64)>,
 }
 
+impl DecisionRecords for Watching<'_> {
+    ghost records = { λ l. l.inner.state.records };
+
+    fn has(&self, tran: &Tran) -> Option<Yes> {
+        self.inner.has(tran)
+    }
+}
+
 impl DecisionLog for Watching<'_> {
     ghost state = { λ l. l.inner.state };
+
+    ghost records_are = { λ l. refl };
 
     fn append(&mut self, decision: &CommitRecord) -> Result<(), LogFault> {
         for _turn in 0..TURNS {
@@ -63,10 +75,6 @@ impl DecisionLog for Watching<'_> {
         let seconds = self.asked.seconds.load(Ordering::SeqCst);
         self.saw = Some((prepares, seconds));
         self.inner.append(decision)
-    }
-
-    fn has(&self, tran: &Tran) -> Option<Yes> {
-        self.inner.has(tran)
     }
 
     fn failures(&self) -> u64 {

@@ -1,5 +1,6 @@
 //! A crash of two of three managers, in threads: they are shut once the commit's record is made, and hold branches in
 //! doubt. All are opened again, and what was left is resolved by the log. No money is lost or made over both openings.
+ghost use Rattle.std.specs.Prelude.{refl};
 ghost use Rattle.xa_desk.specs.GoesOn.{GoesOn};
 ghost use Rattle.xa_desk.specs.Kept.{AllKept};
 
@@ -14,8 +15,8 @@ use xa_crew::{Attended, Client, Run, run_clients};
 use xa_desk::laws::desks_go_on;
 use xa_desk::{Desk, Spin};
 use xa_driver::{
-    Branch, CommitRecord, DecisionLog, Done, Ending, LogFault, MemoryLog, Outcome, Yes, commit_all,
-    may_commit,
+    Branch, CommitRecord, DecisionLog, DecisionRecords, Done, Ending, LogFault, MemoryLog, Outcome,
+    Yes, commit_all, may_commit,
 };
 use xa_switch::{Again, Plan, RmOp, Settled, native, xa_call};
 use xa_words::{Call, Code, Delta, Key, TMNOFLAGS, TMSUCCESS, Tran, Xid};
@@ -53,18 +54,24 @@ struct Waiting {
     signals: Signals,
 }
 
+impl DecisionRecords for Waiting {
+    ghost records = { λ l. l.inner.state.records };
+
+    fn has(&self, tran: &Tran) -> Option<Yes> {
+        self.inner.has(tran)
+    }
+}
+
 impl DecisionLog for Waiting {
     ghost state = { λ l. l.inner.state };
+
+    ghost records_are = { λ l. refl };
 
     fn append(&mut self, decision: &CommitRecord) -> Result<(), LogFault> {
         let appended = self.inner.append(decision);
         self.signals.recorded.store(true, Ordering::SeqCst);
         comes(&self.signals.shut);
         appended
-    }
-
-    fn has(&self, tran: &Tran) -> Option<Yes> {
-        self.inner.has(tran)
     }
 
     fn failures(&self) -> u64 {

@@ -36,11 +36,12 @@ use std::snapshot::Snapshot;
 use std::sync::Wait;
 use xa_desk::{Desk, EndedDesk, Idle};
 use xa_driver::laws::{
-    resolved_transactions_count_where_committed, resolved_transactions_have_one_outcome,
+    next_openings_resolve, resolved_transactions_count_where_committed,
+    resolved_transactions_have_one_outcome,
 };
 use xa_driver::{
-    Branch, Done, Ending, MemoryLog, Outcome, Resolved, commit_all, may_commit, may_resolve,
-    resolve,
+    Branch, DecisionRecords, Done, Ending, MemoryLog, Outcome, Resolved, commit_all, may_commit,
+    may_resolve, resolve,
 };
 use xa_switch::laws::{
     opened_pieces_come_from_their_opening, reopened_openings_go_on_from_what_was_left,
@@ -177,15 +178,15 @@ pub(super) struct Ended {
     pub(super) told: Resolved,
 }
 
-fn resolve_left<R: Wait + Abort>(
+fn resolve_left<R: Wait + Abort, L: DecisionRecords>(
     rt: &R,
     alloc: Global,
     desk: &mut Desk,
     scan: &Scan,
-    log: &MemoryLog,
+    log: &L,
     idle: &mut Workers,
 ) -> Ended
-    ensures trace { IsTraceOfResolve result.scan.value log.now.state result.before.value.ledgers
+    ensures trace { IsTraceOfResolve result.scan.value (L.records log.now) result.before.value.ledgers
         result.after.value.ledgers result.told.outcomes.items }
     ensures reached { All (λ x. x.code ≢ RmFail) result.told.outcomes.items }
     ensures scan { result.scan.value ≡ scan.now }
@@ -221,16 +222,16 @@ pub(super) struct Recovered {
 }
 
 // Opens a settled opening again, for one thread, which resolves what was left; then that opening ends and is settled.
-pub(super) fn recover<R: Wait + Abort>(
+pub(super) fn recover<R: Wait + Abort, L: DecisionRecords>(
     rt: &R,
     alloc: Global,
     settled: Settled,
     again: &Again,
-    log: &MemoryLog,
+    log: &L,
 ) -> Recovered
     ensures settled { IsSettled result.settled }
     ensures continues { Continues settled result.settled }
-    ensures trace { IsTraceOfResolve result.ended.scan.value log.now.state result.ended.before.value.ledgers
+    ensures trace { IsTraceOfResolve result.ended.scan.value (L.records log.now) result.ended.before.value.ledgers
         result.ended.after.value.ledgers result.ended.told.outcomes.items }
     ensures grown { HaveGrown result.ended.after.value.ledgers (ledgers_of result.settled result.thread) }
     ensures later { let q : ResolveCall = record {
@@ -238,7 +239,7 @@ pub(super) fn recover<R: Wait + Abort>(
       scan = result.ended.scan.value;
       old = result.ended.before.value.ledgers;
       new = result.ended.after.value.ledgers;
-      log = log.now.state;
+      records = L.records log.now;
       outcomes = result.ended.told.outcomes.items;
     } in (t : TranName)
         → OnlyResolves t (record { settled = result.settled; uses = resolves q ∷ [] }) }
@@ -307,7 +308,7 @@ fn commit_and_resolve<R: Wait + Abort>(
           scan = result.last.ended.scan.value;
           old = result.last.ended.before.value.ledgers;
           new = result.last.ended.after.value.ledgers;
-          log = result.log.value.state;
+          records = result.log.value.state.records;
           outcomes = result.last.ended.told.outcomes.items;
         } in
         let o : Opening = record { settled = result.first.value; uses = commits c ∷ [] } in
@@ -315,6 +316,7 @@ fn commit_and_resolve<R: Wait + Abort>(
         IsResolved o [] last c q × IsAllOrNone c o (last ∷ []) × CountsOver c o (last ∷ [])
         × CountsAllOrNone c o (last ∷ []) }
 {
+    next_openings_resolve();
     resolved_transactions_have_one_outcome();
     resolved_transactions_count_where_committed();
     let mut log = MemoryLog::new(alloc);
@@ -395,7 +397,7 @@ fn commit_and_resolve_later<R: Wait + Abort>(
           scan = result.last.ended.scan.value;
           old = result.last.ended.before.value.ledgers;
           new = result.last.ended.after.value.ledgers;
-          log = result.log.value.state;
+          records = result.log.value.state.records;
           outcomes = result.last.ended.told.outcomes.items;
         } in
         let o : Opening = record { settled = result.first.value; uses = commits c ∷ [] } in

@@ -51,8 +51,8 @@ loop-before-preserved g c =
     let alone = c.resolve_at.ensures.alone in
     let (more, items, as_many, resolves) = c.resolve_at.ensures.resolves in
     record {
-      so_far = one_more_so_far z (g.L.DecisionLog.state c.args.log.now) n c.args.desk.now.ledgers c.loop-before.desk.ledgers c.resolve_at.new.desk.ledgers c.loop-before.outcomes.items c.resolve_at.new.outcomes.items more i.so_far items
-          (subst (λ l. ResolvesAt AsksLedger (g.L.DecisionLog.state c.args.log.now) (n + 1) l more (ledger c.loop-before.desk.ledgers (n + 1)) (ledger c.resolve_at.new.desk.ledgers (n + 1))) c.left.ensures resolves) alone.others;
+      so_far = one_more_so_far z (g.L.DecisionRecords.records c.args.log.now) n c.args.desk.now.ledgers c.loop-before.desk.ledgers c.resolve_at.new.desk.ledgers c.loop-before.outcomes.items c.resolve_at.new.outcomes.items more i.so_far items
+          (subst (λ l. ResolvesAt AsksLedger (g.L.DecisionRecords.records c.args.log.now) (n + 1) l more (ledger c.loop-before.desk.ledgers (n + 1)) (ledger c.resolve_at.new.desk.ledgers (n + 1))) c.left.ensures resolves) alone.others;
       many =
           let all = ap (λ l. length l) items in
           let parts = length-append c.loop-before.outcomes.items more in
@@ -75,7 +75,7 @@ returns-clause-trace g c =
     let done = c.loop-before-test.false in
     let stop = c.loop-before.auto.before-end in
     let all : c.loop-before.before ≡ MOST_MANAGERS = omega (arith, done, stop) in
-    let is = subst (λ n. SoFar c.args.scan.now (g.L.DecisionLog.state c.args.log.now) n c.args.desk.now.ledgers c.loop-before.desk.ledgers c.loop-before.outcomes.items) all i.so_far in
+    let is = subst (λ n. SoFar c.args.scan.now (g.L.DecisionRecords.records c.args.log.now) n c.args.desk.now.ledgers c.loop-before.desk.ledgers c.loop-before.outcomes.items) all i.so_far in
     record { at = is.at; outcomes_are = is.outcomes_are; each = is.each; others = is.others; managers = i.managers }
 
 pub returns-clause-tickets : goal.returns-clause-tickets

@@ -10,7 +10,7 @@ use Rattle.xa_driver.proofs.resolving.resolve.Given as goal
 -- the managers so far are resolved
 abbrev pub invariant-loop-before : goal.invariant-loop-before
 invariant-loop-before g l = record {
-  so_far : SoFar l.scan (g.L.DecisionLog.state l.log) l.before l.initial.desk.ledgers l.desk.ledgers l.outcomes.items;
+  so_far : SoFar l.scan (g.L.DecisionRecords.records l.log) l.before l.initial.desk.ledgers l.desk.ledgers l.outcomes.items;
   many : length l.outcomes.items ≡ left_in l.scan l.before;
   space : left_in l.scan MOST_MANAGERS ≤ vec_capacity l.outcomes;
   managers : length l.desk.ledgers ≡ length l.initial.desk.ledgers;

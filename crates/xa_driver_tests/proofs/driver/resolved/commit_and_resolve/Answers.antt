@@ -1,7 +1,8 @@
-use Rattle.std.proofs.Common.{[], sym, ap}
-use Rattle.xa_driver.specs.Log.{LogView}
-use Rattle.xa_driver.specs.Resolution.{CommitCall}
-use Rattle.xa_driver_tests.proofs.Resolved.{told_resolved}
+use Rattle.std.proofs.Common.{◌≡◌, [], sym, ap, subst}
+use Rattle.xa_switch.specs.Settling.{Settling}
+use Rattle.xa_driver.specs.Log.{LogView, Records, record_in}
+use Rattle.xa_driver.specs.Resolution.{CommitCall, ResolveCall, IsResolved, commits, resolves, with_use}
+use Rattle.xa_driver_tests.proofs.Resolved.{resolve_call}
 use Rattle.xa_driver_tests.proofs.driver.resolved.commit_and_resolve.Goals as goal
 
 pub returns : goal.returns
@@ -11,10 +12,14 @@ returns g c =
     let call : CommitCall = record { thread = first.thread; branches = c.args.branches.now; desk = made.before.value; new = made.after.value.ledgers; log = made.log_before.value.state; later = made.log_after.value.state; done = made.done } in
     let last = c.recover-last.result in
     let ended = last.ended in
+    let q : Records → ResolveCall = resolve_call last.thread ended.scan.value ended.before.value.ledgers ended.after.value.ledgers ended.told.outcomes.items in
+    let records : Records = c.commit_and_crash-settled.new.log.state.records in
+    let records_are : records ≡ call.later.records = ap (λ (l : LogView). l.state.records) (sym c.commit_and_crash-settled.ensures.log) in
+    let there =
+    c.next_openings_resolve.ensures.finished first.settled last.settled c.args.again.now call (q records) c.commit_and_crash-settled.ensures.settled (record { made = c.commit_and_crash-settled.ensures.made; grown = c.commit_and_crash-settled.ensures.grown })
+    c.commit_and_crash-settled.ensures.few c.commit_and_crash-settled.ensures.own c.recover-last.ensures.settled (record { made = c.recover-last.ensures.trace; grown = c.recover-last.ensures.grown }) c.recover-last.ensures.continues c.recover-last.ensures.of
+    c.recover-last.ensures.scan (λ t tran. ap (λ (r : Records). record_in r t) records_are) (λ t tran. c.recover-last.ensures.later t) (λ j d lt of. c.recover-last.ensures.reached j d lt) in
     let resolved =
-    told_resolved first.settled c.of-first.result.value last.settled c.args.again.now call last.thread ended.scan.value ended.before.value.ledgers ended.after.value.ledgers ended.told.outcomes.items
-    c.commit_and_crash-settled.new.log.state c.of.result.value.state c.of-first.ensures (ap (λ (l : LogView). l.state) c.of.ensures)
-    c.commit_and_crash-settled.ensures.settled (record { made = c.commit_and_crash-settled.ensures.made; grown = c.commit_and_crash-settled.ensures.grown }) c.commit_and_crash-settled.ensures.few c.commit_and_crash-settled.ensures.own
-    c.recover-last.ensures.settled (record { made = c.recover-last.ensures.trace; grown = c.recover-last.ensures.grown }) c.recover-last.ensures.continues c.recover-last.ensures.of c.recover-last.ensures.scan
-    (ap (λ (l : LogView). l.state.records) (sym c.commit_and_crash-settled.ensures.log)) c.recover-last.ensures.later c.recover-last.ensures.reached in
+    subst (λ (p : Settling × Records). IsResolved (with_use p.0 (commits call)) [] (with_use last.settled (resolves (q p.1))) call (q p.1))
+    (λ i. (sym c.of-first.ensures i, sym (ap (λ (l : LogView). l.state.records) c.of.ensures) i)) there in
     (resolved, c.resolved_transactions_have_one_outcome.ensures _ [] _ call _ resolved, c.resolved_transactions_count_where_committed.ensures.counts _ [] _ call _ resolved, c.resolved_transactions_count_where_committed.ensures.whole _ [] _ call _ resolved)

@@ -13,7 +13,7 @@ returns g c =
     let ended = last.ended in
     let resolved =
     told_three_resolved first.settled c.of-first.result.value c.pass-passed.result c.of-between.result.value last.settled c.args.again.now call last.thread ended.scan.value ended.before.value.ledgers ended.after.value.ledgers ended.told.outcomes.items
-    c.commit_and_crash-settled.new.log.state c.of.result.value.state c.of-first.ensures c.of-between.ensures (ap (λ (l : LogView). l.state) c.of.ensures)
+    c.commit_and_crash-settled.new.log.state.records c.of.result.value.state.records c.of-first.ensures c.of-between.ensures (ap (λ (l : LogView). l.state.records) c.of.ensures)
     c.commit_and_crash-settled.ensures.settled (record { made = c.commit_and_crash-settled.ensures.made; grown = c.commit_and_crash-settled.ensures.grown }) c.commit_and_crash-settled.ensures.few c.commit_and_crash-settled.ensures.own
     c.pass-passed.ensures.settled c.pass-passed.ensures.continues c.pass-passed.ensures.silent
     c.recover-last.ensures.settled (record { made = c.recover-last.ensures.trace; grown = c.recover-last.ensures.grown }) c.recover-last.ensures.continues c.recover-last.ensures.of c.recover-last.ensures.scan

@@ -1,0 +1,16 @@
+use Rattle.std.proofs.Common.{◌≡◌, ◌≤◌, length, List}
+use Rattle.xa_driver.specs.declared.ask.Ask.{Ask}
+use Rattle.xa_driver.specs.Asks.{SameAsks}
+use Rattle.xa_driver.specs.UnderWay.{IsSent, IsUnderWay}
+use Rattle.xa_driver.proofs.round.Round.collect_all.Given as goal
+
+abbrev pub invariant-loop-place : goal.invariant-loop-place
+invariant-loop-place g l = record {
+  under_way : IsUnderWay l.self l.desk;
+  reached : l._place ≤ l.self.collected;
+  all : IsSent l.self;
+  long : length l.self.asks.items ≡ length l.initial.self.asks.items;
+  before : l.self.before ≡ l.initial.self.before;
+  same : (js : List Ask) → SameAsks js l.initial.self.asks.items → SameAsks js l.self.asks.items;
+  idled : g.I.Idle.leads l.initial.idle l.idle;
+}

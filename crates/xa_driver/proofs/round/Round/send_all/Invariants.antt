@@ -1,0 +1,15 @@
+use Rattle.std.proofs.Common.{◌≡◌, ◌≤◌, length, List}
+use Rattle.xa_driver.specs.declared.ask.Ask.{Ask}
+use Rattle.xa_driver.specs.Asks.{SameAsks}
+use Rattle.xa_driver.specs.UnderWay.{IsUnderWay, sent_count}
+use Rattle.xa_driver.proofs.round.Round.send_all.Given as goal
+
+abbrev pub invariant-loop-place : goal.invariant-loop-place
+invariant-loop-place g l = record {
+  under_way : IsUnderWay l.self l.desk;
+  reached : l._place ≤ sent_count l.self;
+  long : length l.self.asks.items ≡ length l.initial.self.asks.items;
+  before : l.self.before ≡ l.initial.self.before;
+  same : (js : List Ask) → SameAsks js l.initial.self.asks.items → SameAsks js l.self.asks.items;
+  idled : g.I.Idle.leads l.initial.idle l.idle;
+}

@@ -1,0 +1,45 @@
+use Rattle.std.proofs.Common.{◌≡◌, length, List, [], ◌∷◌, Option, refl, ap, subst, arith}
+use Rattle.xa_desk.specs.DeskView.{TicketView}
+use Rattle.xa_driver.specs.UnderWay.{AllKeptBut, OwnsAll}
+use Rattle.xa_driver.proofs.Leaving.{IsLast, all_kept, first_owned, kept_one_more, last_more, left_more, nothing_left, rest_owned}
+use Rattle.xa_driver.proofs.round.keep_all.Goals as goal
+
+pub loop-place-init : goal.loop-place-init
+loop-place-init c = record {
+  owned = c.requires;
+  kept = λ but. but;
+  left = nothing_left c.args.tickets.now.items c.args.desk.now;
+  goes_on = c.desks_go_on.ensures.same c.args.desk.now;
+  last = λ o among. among;
+  counted = omega arith;
+}
+
+pub keep-requires : goal.keep-requires
+keep-requires c =
+    first_owned c.loop-place.desk c.in-Some.ticket c.pop_front.new.self.items (subst (λ (rs : List (Option TicketView)). OwnsAll c.loop-place.desk rs) c.in-Some.ensures.items c.loop-place.invariant.owned)
+
+pub loop-place-preserved : goal.loop-place-preserved
+loop-place-preserved c =
+    let d = c.loop-place.desk in
+    let d1 = c.keep.new.desk in
+    let t = c.in-Some.ticket in
+    let ts = c.pop_front.new.self.items in
+    let first = c.in-Some.ensures.items in
+    let last = subst (λ (rs : List (Option TicketView)). IsLast rs c.args.tickets.now.items) first c.loop-place.invariant.last in
+    record {
+      owned = rest_owned d d1 t ts (subst (λ (rs : List (Option TicketView)). OwnsAll d rs) first c.loop-place.invariant.owned) c.keep.ensures.others;
+      kept = λ but. kept_one_more d d1 t ts (subst (λ (rs : List (Option TicketView)). AllKeptBut rs d) first (c.loop-place.invariant.kept but)) c.keep.ensures.kept;
+      left = left_more c.args.tickets.now.items c.args.desk.now d d1 t ts last c.loop-place.invariant.left c.keep.ensures.kept c.keep.ensures.others;
+      goes_on = c.desks_go_on.ensures.further c.args.desk.now d d1 c.loop-place.invariant.goes_on c.keep.ensures.goes_on;
+      last = last_more t ts c.args.tickets.now.items last;
+      counted = let a = ap (λ l. length l) first in let b = c.loop-place.invariant.counted in omega (arith, a, b);
+    }
+
+pub returns-clause-kept : goal.returns-clause-kept
+returns-clause-kept c but =
+    let none = none_left c.loop-place.tickets.items (let a = c.loop-place-test.false in let b = c.loop-place.invariant.counted in let d = c.len-place-end.ensures in let e = c.args.tickets.now.ok.0 in omega (arith, a, b, d, e)) in
+    all_kept c.loop-place.desk (subst (λ (rs : List (Option TicketView)). AllKeptBut rs c.loop-place.desk) none (c.loop-place.invariant.kept but))
+  where
+    none_left : (rs : List (Option TicketView)) → length rs ≡ 0 → rs ≡ []
+    none_left [] e = refl
+    none_left (r ∷ rs) e = absurd (omega (arith, e))

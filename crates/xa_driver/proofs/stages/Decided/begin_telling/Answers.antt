@@ -1,0 +1,27 @@
+use Rattle.std.proofs.Common.{◌∙◌, refl, subst, sym, map}
+use Rattle.xa_driver.specs.Asks.{SameAsks}
+use Rattle.xa_driver.specs.Rounds.{second_ask}
+use Rattle.xa_driver.proofs.Gathering.{same_itself}
+use Rattle.xa_driver.proofs.InPlace.{lent, remade_endings, remade_may, remade_rest}
+use Rattle.xa_driver.proofs.stages.Decided.begin_telling.Goals as goal
+
+pub again-requires-clause-rest : goal.again-requires-clause-rest
+again-requires-clause-rest c =
+    let r = c.args.self.round in
+    remade_rest (second_ask c.args.self.known.commit) (λ k. refl) r _ (lent (second_ask c.args.self.known.commit) (λ k. refl) r.asks.len r.asks.items c.as_mut_slice.result.now c.second_round.new.asks _ r.asks.ok.0 c.second_round.ensures c.as_mut_slice.ensures.value) refl c.requires.rest
+
+pub again-requires-clause-may : goal.again-requires-clause-may
+again-requires-clause-may c =
+    let r = c.args.self.round in
+    remade_may (second_ask c.args.self.known.commit) (λ k. refl) r _ (lent (second_ask c.args.self.known.commit) (λ k. refl) r.asks.len r.asks.items c.as_mut_slice.result.now c.second_round.new.asks _ r.asks.ok.0 c.second_round.ensures c.as_mut_slice.ensures.value) c.args.desk.now c.requires.may
+
+pub returns-clause-telling : goal.returns-clause-telling
+returns-clause-telling c =
+    let r = c.args.self.round in
+    let is = c.again.ensures.asks_are ∙ lent (second_ask c.args.self.known.commit) (λ k. refl) r.asks.len r.asks.items c.as_mut_slice.result.now c.second_round.new.asks _ r.asks.ok.0 c.second_round.ensures c.as_mut_slice.ensures.value in
+    record {
+      before = c.again.ensures.before;
+      same = subst (SameAsks (map (second_ask c.args.self.known.commit) r.asks.items)) (sym is) (same_itself (map (second_ask c.args.self.known.commit) r.asks.items));
+      endings = remade_endings (second_ask c.args.self.known.commit) (λ k. refl) r c.again.new.self is c.args.self.known c.requires.endings;
+      known = refl;
+    }

@@ -1,0 +1,26 @@
+use Rattle.std.proofs.Common.{◌∙◌, refl, subst, sym, map}
+use Rattle.xa_driver.specs.Asks.{SameAsks}
+use Rattle.xa_driver.specs.Rounds.{third_ask}
+use Rattle.xa_driver.proofs.Gathering.{same_itself}
+use Rattle.xa_driver.proofs.InPlace.{lent, remade_may, remade_rest}
+use Rattle.xa_driver.proofs.stages.Told.begin_forgetting.Goals as goal
+
+pub again-requires-clause-rest : goal.again-requires-clause-rest
+again-requires-clause-rest c =
+    let r = c.args.self.round in
+    remade_rest third_ask (λ k. refl) r _ (lent third_ask (λ k. refl) r.asks.len r.asks.items c.as_mut_slice.result.now c.third_round.new.asks _ r.asks.ok.0 c.third_round.ensures c.as_mut_slice.ensures.value) refl c.requires.rest
+
+pub again-requires-clause-may : goal.again-requires-clause-may
+again-requires-clause-may c =
+    let r = c.args.self.round in
+    remade_may third_ask (λ k. refl) r _ (lent third_ask (λ k. refl) r.asks.len r.asks.items c.as_mut_slice.result.now c.third_round.new.asks _ r.asks.ok.0 c.third_round.ensures c.as_mut_slice.ensures.value) c.args.desk.now c.requires.may
+
+pub returns-clause-forgetting : goal.returns-clause-forgetting
+returns-clause-forgetting c =
+    let r = c.args.self.round in
+    let is = c.again.ensures.asks_are ∙ lent third_ask (λ k. refl) r.asks.len r.asks.items c.as_mut_slice.result.now c.third_round.new.asks _ r.asks.ok.0 c.third_round.ensures c.as_mut_slice.ensures.value in
+    record {
+      before = c.again.ensures.before;
+      same = subst (SameAsks (map third_ask r.asks.items)) (sym is) (same_itself (map third_ask r.asks.items));
+      known = refl;
+    }

@@ -1,0 +1,210 @@
+//! A round of requests to several managers, request by request.
+ghost use Rattle.std.specs.Prelude.{◌≡◌, ◌+◌, ◌≤◌, ◌↔◌, List, [], length, true, false, IfOk, IsTrue, MatchOption};
+ghost use Rattle.xa_desk.specs.DeskView.{outstanding};
+ghost use Rattle.xa_desk.specs.GoesOn.{GoesOn};
+ghost use Rattle.xa_desk.specs.Kept.{AllKept};
+ghost use Rattle.xa_driver.specs.declared.ask.Ask.{Ask};
+ghost use Rattle.xa_driver.specs.Asks.{AllCanAsk, AreRising, Asks, KeepsTheRest, SameAsks};
+ghost use Rattle.xa_driver.specs.UnderWay.{AllKeptBut, Begins, Collects, IsAtRest, IsCollected, IsSent, IsUnderWay};
+ghost use Rattle.xa_driver.specs.UnderWay.{LeavesInFlight, MayAsk, OwnsAll, Sends, Stays, next_ask, next_ticket};
+
+use crate::ask::{Ask, begin, end, keep};
+use std::alloc::{AllocError, Global};
+use std::collections::VecDeque;
+use std::snapshot::Snapshot;
+use std::sync::Wait;
+use xa_desk::laws::desks_go_on;
+use xa_desk::{Desk, Idle, Ticket};
+
+/// A round of a commit: what each branch's manager is asked, if anything.
+///
+/// Its requests are sent in the order of the branches, and collected in that order. To a manager that is learnt to be
+/// shut nothing is sent, which counts as `XAER_RMFAIL`.
+pub struct Round {
+    pub(crate) before: Snapshot<Desk>,
+    pub(crate) asks: Vec<Ask>,
+    pub(crate) collected: usize,
+    pub(crate) tickets: VecDeque<Option<Ticket>>,
+}
+
+// Whether each of these managers can take one more request.
+fn can_ask_all(desk: &Desk, asks: &[Ask]) -> bool
+    ensures { IsTrue result ↔ AllCanAsk asks.now desk.now.ledgers }
+{
+    for ask in asks {
+        if desk.room(ask.manager) < 1 {
+            return false;
+        }
+    }
+    true
+}
+
+// Keeps the operations of all these tickets under handles, where they stay until somebody collects them.
+fn keep_all(desk: &mut Desk, tickets: &mut VecDeque<Option<Ticket>>)
+    requires { OwnsAll desk.old tickets.old.items }
+    ensures left { LeavesInFlight tickets.old.items desk.old desk.new }
+    ensures goes_on { GoesOn desk.old desk.new }
+    ensures kept { AllKeptBut tickets.old.items desk.old → AllKept desk.new }
+    ensures none { tickets.new.items ≡ [] }
+{
+    desks_go_on();
+    for _place in 0..tickets.len() {
+        let Some(ticket) = tickets.pop_front() else {
+            unreachable!()
+        };
+        keep(desk, ticket);
+    }
+}
+
+impl Round {
+    /// A round of these requests, of which none is sent.
+    pub(crate) fn new(alloc: Global, desk: &Desk, asks: Vec<Ask>) -> Result<Round, AllocError>
+        requires rising { AreRising 0 asks.items }
+        requires can { AllCanAsk asks.items desk.now.ledgers }
+        requires free { outstanding desk.now.ledgers + length asks.items ≤ desk.now.handles }
+        ensures begins { IfOk result (Begins asks.items desk.now) }
+    {
+        let tickets = VecDeque::with_capacity(alloc, asks.len())?;
+        Ok(Round {
+            before: Snapshot::of(desk),
+            asks,
+            collected: 0,
+            tickets,
+        })
+    }
+
+    /// The next round, of what the requests have become since the last one.
+    pub(crate) fn again(&mut self, desk: &Desk)
+        requires rest { IsAtRest self.old }
+        requires may { MayAsk self.old desk.now }
+        ensures { Begins self.old.asks.items desk.now self.new }
+    {
+        self.before = Snapshot::of(desk);
+        self.collected = 0;
+    }
+
+    /// Whether the next round may be asked: each manager can take one more request, and there is a handle for each.
+    pub(crate) fn may_ask(&self, desk: &Desk) -> bool
+        ensures { IsTrue result ↔ MayAsk self.now desk.now }
+    {
+        can_ask_all(desk, &self.asks) && desk.free() as usize >= self.asks.len()
+    }
+
+    /// Sends the next request of the round, and idles while its lane is full. It tells whether there was one.
+    pub fn send_next<R: Wait, I: Idle>(&mut self, rt: &R, desk: &mut Desk, idle: &mut I) -> bool
+        requires { IsUnderWay self.old desk.old }
+        ensures under_way { IsUnderWay self.new desk.new }
+        ensures sends { MatchOption (next_ask self.old) ((result ≡ false) × Stays self.old self.new desk.old desk.new)
+            (λ k. (result ≡ true) × Sends k self.old self.new desk.old desk.new) }
+        ensures before { self.new.before ≡ self.old.before }
+        ensures same { (js : List Ask) → SameAsks js self.old.asks.items → SameAsks js self.new.asks.items }
+        ensures idled { I.leads idle.old idle.new }
+    {
+        let place = self.collected + self.tickets.len();
+        if place >= self.asks.len() {
+            return false;
+        }
+        let ticket = begin(rt, desk, &self.asks[place], idle);
+        self.tickets.push_back_reserved(ticket);
+        true
+    }
+
+    /// Waits for the answer to the request that is longest in flight, and collects it. It tells whether there was one.
+    pub fn collect_next<R: Wait, I: Idle>(&mut self, rt: &R, desk: &mut Desk, idle: &mut I) -> bool
+        requires { IsUnderWay self.old desk.old }
+        ensures under_way { IsUnderWay self.new desk.new }
+        ensures collects { MatchOption (next_ticket self.old)
+            ((result ≡ false) × Stays self.old self.new desk.old desk.new)
+            (λ t. (result ≡ true) × Collects t self.old self.new desk.old desk.new) }
+        ensures before { self.new.before ≡ self.old.before }
+        ensures same { (js : List Ask) → SameAsks js self.old.asks.items → SameAsks js self.new.asks.items }
+        ensures idled { I.leads idle.old idle.new }
+    {
+        if self.tickets.is_empty() {
+            return false;
+        }
+        let Some(ticket) = self.tickets.pop_front() else {
+            unreachable!()
+        };
+        let place = self.collected;
+        let code = end(rt, desk, &self.asks[place], ticket, idle);
+        self.asks[place].code = code;
+        self.collected = place + 1;
+        true
+    }
+
+    // Sends all that isn't sent.
+    fn send_all<R: Wait, I: Idle>(&mut self, rt: &R, desk: &mut Desk, idle: &mut I)
+        requires { IsUnderWay self.old desk.old }
+        ensures under_way { IsUnderWay self.new desk.new }
+        ensures all { IsSent self.new }
+        ensures long { length self.new.asks.items ≡ length self.old.asks.items }
+        ensures before { self.new.before ≡ self.old.before }
+        ensures same { (js : List Ask) → SameAsks js self.old.asks.items → SameAsks js self.new.asks.items }
+        ensures idled { I.leads idle.old idle.new }
+    {
+        for _place in 0..self.asks.len() {
+            self.send_next(rt, desk, idle);
+        }
+    }
+
+    // Collects all that is in flight.
+    fn collect_all<R: Wait, I: Idle>(&mut self, rt: &R, desk: &mut Desk, idle: &mut I)
+        requires under_way { IsUnderWay self.old desk.old }
+        requires all { IsSent self.old }
+        ensures under_way { IsUnderWay self.new desk.new }
+        ensures all { IsCollected self.new }
+        ensures long { length self.new.asks.items ≡ length self.old.asks.items }
+        ensures before { self.new.before ≡ self.old.before }
+        ensures same { (js : List Ask) → SameAsks js self.old.asks.items → SameAsks js self.new.asks.items }
+        ensures idled { I.leads idle.old idle.new }
+    {
+        for _place in 0..self.asks.len() {
+            self.collect_next(rt, desk, idle);
+        }
+    }
+
+    /// Sends all that isn't sent, and then collects all that is in flight.
+    pub(crate) fn finish<R: Wait, I: Idle>(&mut self, rt: &R, desk: &mut Desk, idle: &mut I)
+        requires { IsUnderWay self.old desk.old }
+        ensures rest { IsAtRest self.new }
+        ensures long { length self.new.asks.items ≡ length self.old.asks.items }
+        ensures asked { Asks self.new.asks.items self.old.before.value.ledgers desk.new.ledgers }
+        ensures same { (js : List Ask) → SameAsks js self.old.asks.items → SameAsks js self.new.asks.items }
+        ensures keeps { KeepsTheRest self.old.before.value desk.new }
+        ensures idled { I.leads idle.old idle.new }
+    {
+        self.send_all(rt, desk, idle);
+        self.collect_all(rt, desk, idle);
+    }
+
+    /// Leaves the round as it stands: what is in flight is kept under handles.
+    pub(crate) fn leave(self, desk: &mut Desk)
+        requires { IsUnderWay self desk.old }
+        ensures left { LeavesInFlight self.tickets.items desk.old desk.new }
+        ensures goes_on { GoesOn desk.old desk.new }
+        ensures kept { AllKept self.before.value → AllKept desk.new }
+    {
+        let Round {
+            before: _,
+            asks: _,
+            collected: _,
+            mut tickets,
+        } = self;
+        keep_all(desk, &mut tickets);
+        tickets.destroy_empty();
+    }
+
+    /// Ends a round of which nothing is in flight.
+    pub(crate) fn end(self)
+        requires { IsAtRest self }
+    {
+        let Round {
+            before: _,
+            asks: _,
+            collected: _,
+            tickets,
+        } = self;
+        tickets.destroy_empty();
+    }
+}
