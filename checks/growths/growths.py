@@ -46,11 +46,12 @@ THINGS = {
     "reopen": b"made",
     "resolve": b"made",
     "settle": b"made",
-    "strangers": b"stranger",
-    "missing": b"missing",
     "append": b"made",
     "commit": b"made",
 }
+
+# What takes none: all calls from an opening on, and pieces of two openings or without a worker, which aren't settled.
+MEMORYLESS = {"calls": b"made", "strangers": b"stranger", "missing": b"missing"}
 
 
 class Machine:
@@ -115,9 +116,10 @@ def main(top, xaswitch, xa_growths, refuse, scratch):
             script = f"threads {limit}\nmanagers {limit}\n".encode()
             name = f"{count} threads"
             yield machine.sweep(name, [xaswitch, "threads"], script, (0, b"", b""), [OUT_OF_MEMORY], "REFUSED_THREAD")
-        calls, growths, threads = machine.run([xa_growths, "calls"], BETWEEN_LINES=1)
-        print(f"growths: calls from the opening on: {growths}")
-        yield (calls, growths, threads) == ((0, b"now\nmade\n", b""), 0, 0)
+        for thing, line in MEMORYLESS.items():
+            ran, growths, threads = machine.run([xa_growths, thing], BETWEEN_LINES=1)
+            print(f"growths: {thing}: {growths}")
+            yield (ran, growths, threads) == ((0, b"now\n" + line + b"\n", b""), 0, 0)
 
     return 0 if all(list(sweeps())) else 1
 

@@ -22,7 +22,7 @@ use Rattle.xa_bank.specs.declared.teller.Leg.{Leg}
 use Rattle.xa_bank.specs.Requests.{after_called, CallsOp, called, failed, uncalled, CallsLeg}
 use Rattle.xa_bank.specs.Transfers.{HaveSent, IsFor, AreApart, HasWorked, HaveWorked}
 use Rattle.xa_bank.proofs.Sent.{have_none, have_on, answered_ledgers, call_adds, IsOneOf, work_is_for}
-use Rattle.xa_bank.proofs.Handles.{only_done}
+use Rattle.xa_bank.proofs.Handles.{only_done, not_done}
 use Rattle.xa_bank.proofs.Worked.{both, Block, known_on, block_start, block_on, has_worked}
 
 -- ---- one call
@@ -42,7 +42,7 @@ refusal_no (Some why) c e = let same : code_of why ≡ c = cc in subst (λ d. (o
 -- what comes of a call, by whether its answer was 0
 call_by : (m : ℕ) (op : Op) (answer : ℤ) (old new : DeskView) → Puts old m (record { op = op; asynchronous = false }) new answer → CallsOp m op (of_z w32 answer == 0) old new
 call_by m op answer old new (refused c why is same) =
-    uncalled (ap (λ z. of_z w32 z == 0) is ∙ refusal_no (call_refusal old m) c why) (ap (λ (d : DeskView). d.ledgers) same)
+    uncalled c why (ap (λ z. of_z w32 z == 0) is ∙ refusal_no (call_refusal old m) c why) (ap (λ (d : DeskView). d.ledgers) same)
 call_by m op answer old new (full none now is same) = cc
 call_by m op answer old new (kept none now k is free same) = cc
 call_by m op answer old new (answered none now n c is collects) =
@@ -50,7 +50,7 @@ call_by m op answer old new (answered none now n c is collects) =
     subst (λ z. CallsOp m op (of_z w32 z == 0) old new) (sym is)
     (elim (of_z w32 (number_of c) == 0) as (λ b. (of_z w32 (number_of c) == 0) ≡ b → CallsOp m op b old new) [
       | true ↦ λ e. called refl (subst (λ d. new.ledgers ≡ after_called old.ledgers m op d) (only_done c e) ledgers)
-      | false ↦ λ e. failed c refl ledgers
+      | false ↦ λ e. failed c (not_done c e) refl ledgers
     ] refl)
 
 -- a call of XA, and one outside it
@@ -64,8 +64,8 @@ calls_native m op answer old new o f calls is = call_by m op answer old new (sub
 
 op_sent : (P : Op → Type 0) (m : ℕ) (op : Op) (ok : Bool) (old new : DeskView) → P op → CallsOp m op ok old new → HaveSent P old.ledgers new.ledgers
 op_sent P m op ok old new so (called said is) = subst (HaveSent P old.ledgers) (sym is) (call_adds P m op Done old.ledgers so)
-op_sent P m op ok old new so (failed c unsaid is) = subst (HaveSent P old.ledgers) (sym is) (call_adds P m op c old.ledgers so)
-op_sent P m op ok old new so (uncalled unsaid is) = have_none P old.ledgers new.ledgers is
+op_sent P m op ok old new so (failed c other unsaid is) = subst (HaveSent P old.ledgers) (sym is) (call_adds P m op c old.ledgers so)
+op_sent P m op ok old new so (uncalled c why unsaid is) = have_none P old.ledgers new.ledgers is
 
 pub leg_calls : (one two leg : Leg) → IsOneOf one two leg → (k : List ℕ) (ok : Bool) (old new : DeskView) → CallsLeg leg k ok old new → HaveSent (IsFor one two) old.ledgers new.ledgers
 leg_calls one two leg of_one k ok old new b =
@@ -80,8 +80,8 @@ leg_calls one two leg of_one k ok old new b =
 
 is_called : (m : ℕ) (op : Op) (ok : Bool) (old new : DeskView) → CallsOp m op ok old new → ok ≡ true → new.ledgers ≡ after_called old.ledgers m op Done
 is_called m op ok old new (called said is) e = is
-is_called m op ok old new (failed c unsaid is) e = cc
-is_called m op ok old new (uncalled unsaid is) e = cc
+is_called m op ok old new (failed c other unsaid is) e = cc
+is_called m op ok old new (uncalled c why unsaid is) e = cc
 
 -- one more request was sent, and collected with XA_OK
 abbrev with_called : LedgerView → Op → LedgerView

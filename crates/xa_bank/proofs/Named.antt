@@ -231,8 +231,8 @@ transfer_names t n tr point o old new log later (with_legs one two legs (commits
     have_on (Names t (Is n)) old.ledgers worked.ledgers new.ledgers
     (work_sent (Names t (Is n)) one two tr.account old.ledgers worked.ledgers (λ leg which. legs_name t n one two leg tr.account of_it which) work)
     (comes_names t n one two point o worked new.ledgers log later of_it comes)
-transfer_names t n tr point o old new log later (with_legs one two legs (refused is same sent)) = have_as (IsFor one two) (Names t (Is n)) (for_names t n one two (legs_are t n tr one two legs)) old.ledgers new.ledgers sent
-transfer_names t n tr point o old new log later (without_legs is same unlogged) = have_none (Names t (Is n)) old.ledgers new.ledgers (ap (λ (d : DeskView). d.ledgers) same)
+transfer_names t n tr point o old new log later (with_legs one two legs (refused is same why sent)) = have_as (IsFor one two) (Names t (Is n)) (for_names t n one two (legs_are t n tr one two legs)) old.ledgers new.ledgers sent
+transfer_names t n tr point o old new log later (without_legs is none same unlogged) = have_none (Names t (Is n)) old.ledgers new.ledgers (ap (λ (d : DeskView). d.ledgers) same)
 
 -- from this number on
 abbrev pub IsFrom : ℕ → ℕ → Type 0

@@ -255,8 +255,8 @@ module _ (adds : (t n : ℕ) (x : XidName) (k : List ℕ) (d : ℤ) (h : History
   only_one : (n : ℕ) (tr : Transfer) (point : Option Point) (o : Outcome) (old new : DeskView) (log later : LogState) → Makes t n tr point o old new log later → IsUndoubted o → Earlier n old.ledgers → Later (n + 1) new.ledgers → OnlyTransfers p s t old.ledgers (pos 0) → OnlyTransfers p s t new.ledgers (pos 0)
   only_one n tr point o old new log later (with_legs one two legs (commits desk work comes)) fine before after only =
       only_commit n tr.account one two (legs_are t n tr one two legs) point o old.ledgers desk new.ledgers log later work comes fine before after only
-  only_one n tr point o old new log later (with_legs one two legs (refused is unlogged h)) fine before after only = only_quiet_one one two old.ledgers new.ledgers h only
-  only_one n tr point o old new log later (without_legs is same unlogged) fine before after only = subst (λ (q : DeskView). OnlyTransfers p s t q.ledgers (pos 0)) (sym same) only
+  only_one n tr point o old new log later (with_legs one two legs (refused is unlogged why h)) fine before after only = only_quiet_one one two old.ledgers new.ledgers h only
+  only_one n tr point o old new log later (without_legs is none same unlogged) fine before after only = subst (λ (q : DeskView). OnlyTransfers p s t q.ledgers (pos 0)) (sym same) only
 
   only_each : (death : Option Death) (n : ℕ) (trs : List Transfer) (os : List Outcome) (old new : DeskView) (log later : LogState) → MakesEach t death n trs os old new log later → All IsUndoubted os → Earlier n old.ledgers → Later (n + length trs) new.ledgers → OnlyTransfers p s t old.ledgers (pos 0)
       → OnlyTransfers p s t new.ledgers (pos 0)

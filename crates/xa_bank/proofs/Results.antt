@@ -1,6 +1,10 @@
--- What holds of a result's value.
-use Rattle.std.specs.Prelude.{Result, Ok, Err, IfOk}
+-- What holds of a result's value, or of an error.
+use Rattle.std.specs.Prelude.{Result, Ok, Err, IfOk, OnErr}
 
 pub ok_as : {A E : Type 0} (P Q : A → Type 0) → ((a : A) → P a → Q a) → (r : Result A E) → IfOk r P → IfOk r Q
 ok_as P Q also (Ok a) h = also a h
 ok_as P Q also (Err e) h = h
+
+pub err_as : {A E : Type 0} (P Q : Type 0) → (P → Q) → (r : Result A E) → OnErr r P → OnErr r Q
+err_as P Q also (Ok a) h = h
+err_as P Q also (Err e) h = also h

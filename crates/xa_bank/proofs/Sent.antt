@@ -95,17 +95,17 @@ stayed : (P : Op → Type 0) (old new : DeskView) → StaysSo old new → HaveSe
 stayed P old new s = have_none P old.ledgers new.ledgers s.ledgers
 
 put_sent : (P : Op → Type 0) (m : ℕ) (op : Op) (z : ℤ) (old new : DeskView) → P op → PutsOp m op z old new → HaveSent P old.ledgers new.ledgers
-put_sent P m op (pos zero) old new so s = stayed P old new s
+put_sent P m op (pos zero) old new so away = stayed P old new away.stays
 put_sent P m op (pos (suc k)) old new so p = subst (HaveSent P old.ledgers) (sym p.ledgers) (one_sent P old.ledgers m op so)
-put_sent P m op (negsuc k) old new so s = stayed P old new s
+put_sent P m op (negsuc k) old new so away = stayed P old new away.stays
 
 got_sent : (P : Op → Type 0) (k : ℕ) (c : Code) (old new : DeskView) → IsCollected k c old new → HaveSent P old.ledgers new.ledgers
 got_sent P k c old new i = subst (HaveSent P old.ledgers) (sym i.ledgers) (one_collected P old.ledgers i.operation c)
 
-collect_sent : (P : Op → Type 0) (handle : ℤ) (ok : Bool) (old new : DeskView) → CollectsOp handle ok old new → HaveSent P old.ledgers new.ledgers
-collect_sent P handle ok old new (done k is positive said i) = got_sent P k _ old new i
-collect_sent P handle ok old new (undone k c is unsaid i) = got_sent P k c old new i
-collect_sent P handle ok old new (nothing unsaid s) = stayed P old new s
+collect_sent : (P : Op → Type 0) (m : ℕ) (handle : ℤ) (ok : Bool) (old new : DeskView) → CollectsOp m handle ok old new → HaveSent P old.ledgers new.ledgers
+collect_sent P m handle ok old new (done k is positive said i) = got_sent P k _ old new i
+collect_sent P m handle ok old new (undone k c other is unsaid i) = got_sent P k c old new i
+collect_sent P m handle ok old new (nothing unsaid none s) = stayed P old new s
 
 -- what a synchronous call that was answered did to the ledgers
 pub answered_ledgers : (m : ℕ) (op : Op) (n : ℕ) (c : Code) (old new : DeskView) → Collects (submitted (after_fulls n old m) m op) new (next_operation old.ledgers m) c → new.ledgers ≡ after_called old.ledgers m op c
@@ -134,11 +134,11 @@ begins_sent P leg k f old new starts adds ends b =
     (have_on P old.ledgers b.begun.ledgers b.added.ledgers (put_sent P leg.branch.m (Start leg.branch.xid Fresh) f.start old b.begun starts b.starts) (put_sent P leg.branch.m (Add k leg.delta) f.add b.begun b.added adds b.adds))
     (put_sent P leg.branch.m (End leg.branch.xid Success) f.end b.added new ends b.ends)
 
-pub ends_sent : (P : Op → Type 0) (f : Flight) (ok : Bool) (old new : DeskView) → EndsLeg f ok old new → HaveSent P old.ledgers new.ledgers
-ends_sent P f ok old new e =
+pub ends_sent : (P : Op → Type 0) (m : ℕ) (f : Flight) (ok : Bool) (old new : DeskView) → EndsLeg m f ok old new → HaveSent P old.ledgers new.ledgers
+ends_sent P m f ok old new e =
     have_on P old.ledgers e.two.ledgers new.ledgers
-    (have_on P old.ledgers e.one.ledgers e.two.ledgers (collect_sent P f.start e.started old e.one e.starts) (collect_sent P f.add e.added e.one e.two e.adds))
-    (collect_sent P f.end e.ended e.two new e.ends)
+    (have_on P old.ledgers e.one.ledgers e.two.ledgers (collect_sent P m f.start e.started old e.one e.starts) (collect_sent P m f.add e.added e.one e.two e.adds))
+    (collect_sent P m f.end e.ended e.two new e.ends)
 
 -- the leg's branch is that of one of these
 abbrev pub IsOneOf : Leg → Leg → Leg → Type 0

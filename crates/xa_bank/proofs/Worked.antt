@@ -104,10 +104,10 @@ pub record Gets (handle : ℤ) (old new : DeskView) : Type 0 where
   pub positive : 0 < key
   pub got : IsCollected key Done old new
 
-gets : (handle : ℤ) (ok : Bool) (old new : DeskView) → CollectsOp handle ok old new → ok ≡ true → Gets handle old new
-gets handle ok old new (done k is positive said got) e = record { key = k; is = is; positive = positive; got = got }
-gets handle ok old new (undone k c is unsaid got) e = cc
-gets handle ok old new (nothing unsaid same) e = cc
+gets : (m : ℕ) (handle : ℤ) (ok : Bool) (old new : DeskView) → CollectsOp m handle ok old new → ok ≡ true → Gets handle old new
+gets m handle ok old new (done k is positive said got) e = record { key = k; is = is; positive = positive; got = got }
+gets m handle ok old new (undone k c other is unsaid got) e = cc
+gets m handle ok old new (nothing unsaid none same) e = cc
 
 pub both : (a b : Bool) → (a && b) ≡ true → (a ≡ true) × (b ≡ true)
 both true b e = (refl, e)
@@ -121,16 +121,16 @@ pub record GetsLeg (f : Flight) (old new : DeskView) : Type 0 where
   pub add : Gets f.add one two
   pub end : Gets f.end two new
 
-pub gets_leg : (f : Flight) (ok : Bool) (old new : DeskView) → EndsLeg f ok old new → ok ≡ true → GetsLeg f old new
-gets_leg f ok old new e yes_ =
+pub gets_leg : (m : ℕ) (f : Flight) (ok : Bool) (old new : DeskView) → EndsLeg m f ok old new → ok ≡ true → GetsLeg f old new
+gets_leg m f ok old new e yes_ =
     let first = both e.started (e.added && e.ended) (sym e.all ∙ yes_) in
     let rest = both e.added e.ended first.1 in
     record {
       one = e.one;
       two = e.two;
-      start = gets f.start e.started old e.one e.starts first.0;
-      add = gets f.add e.added e.one e.two e.adds rest.0;
-      end = gets f.end e.ended e.two new e.ends rest.1;
+      start = gets m f.start e.started old e.one e.starts first.0;
+      add = gets m f.add e.added e.one e.two e.adds rest.0;
+      end = gets m f.end e.ended e.two new e.ends rest.1;
     }
 
 -- ---- one manager's ledger

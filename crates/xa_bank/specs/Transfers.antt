@@ -1,5 +1,5 @@
 -- What a transfer does to its teller's desk.
-use Rattle.std.specs.Prelude.{◌≡◌, ◌≢◌, ℕ, ◌+◌, ◌*◌, ◌^◌, ◌≤◌, ◌<◌, ◌⊎◌, ℤ, pos, neg_ℤ, true, false, List, []}
+use Rattle.std.specs.Prelude.{◌≡◌, ◌≢◌, ℕ, ◌+◌, ◌-◌, ◌*◌, ◌^◌, ◌≤◌, ◌<◌, ◌⊎◌, ℤ, pos, neg_ℤ, true, false, List, []}
 use Rattle.std.specs.Prelude.{◌∷◌, ◌++◌, length, Option, None, Some}
 use Rattle.std.specs.List.{All}
 use Rattle.std.specs.Int.{w64, to_be_bytes}
@@ -12,12 +12,12 @@ use Rattle.xa_words.specs.declared.request.StartHow.TheVariants.{Fresh}
 use Rattle.xa_words.specs.declared.request.EndHow.TheVariants.{Success}
 use Rattle.xa_tables.specs.Prepared.{names}
 use Rattle.xa_desk.specs.LedgerView.{LedgerView}
-use Rattle.xa_desk.specs.DeskView.{DeskView, IsKnown, ledger}
+use Rattle.xa_desk.specs.DeskView.{DeskView, IsKnown, ledger, outstanding, room_at}
 use Rattle.xa_driver.specs.declared.branch.Branch.{Branch}
 use Rattle.xa_driver.specs.declared.done.Done.{Done}
 use Rattle.xa_driver.specs.Commits.{is_commit}
 use Rattle.xa_driver.specs.Log.{LogState}
-use Rattle.xa_driver.specs.Trace.{IsCommit}
+use Rattle.xa_driver.specs.Trace.{IsCommit, MayCommit}
 use Rattle.xa_bank.specs.Deaths.{Dies, point_at}
 use Rattle.xa_bank.specs.declared.dying.Death.{Death}
 use Rattle.xa_bank.specs.declared.dying.Point.{Point}
@@ -25,6 +25,8 @@ use Rattle.xa_bank.specs.declared.teller.Leg.{Leg}
 use Rattle.xa_bank.specs.declared.teller.Transfer.{Transfer}
 use Rattle.xa_bank.specs.declared.teller.Outcome.{Outcome}
 use Rattle.xa_bank.specs.declared.teller.Outcome.TheVariants.{Decided, Died, Refused}
+use Rattle.xa_bank.specs.declared.teller.TheConstants.{BRANCHES, REQUESTS}
+use Rattle.xa_bank.specs.Requests.{GivesUp, Tries}
 
 -- ---- what was sent
 
@@ -66,6 +68,10 @@ pub record IsLeg (gtrid : List ℕ) (m : ℕ) (d : ℤ) (leg : Leg) : Type 0 whe
   pub gtrid_ : leg.branch.xid.gtrid ≡ gtrid
   pub adds : leg.delta ≡ d
 
+-- a transfer of number n has no legs: its number is too great, or its stores are one
+abbrev pub HasNoLegs : ℕ → Transfer → Type 0
+HasNoLegs n tr = (2 ^ 32 ≤ n) ⊎ (tr.from ≡ tr.to)
+
 -- the legs of thread t's transfer of number n, by rising store: one store pays the amount, and the other is paid it
 pub data AreLegs (t n : ℕ) (tr : Transfer) (one two : Leg) : Type 0 where
   pays_first : n < 2 ^ 32 → tr.from < tr.to → IsLeg (gtrid_of t n) tr.from (neg_ℤ (pos tr.amount)) one
@@ -98,22 +104,53 @@ pub data ComesOfCommit (bs : List Branch) (point : Option Point) (o : Outcome) (
   cut_short : (at : Point) (known : Option Done) → point ≡ Some at → o ≡ Died at known
       → Dies at bs known desk new log later → ComesOfCommit bs point o desk new log later
 
--- What comes of two legs: both worked, and a commit of both branches came to this; or the transfer is refused, and only
--- requests for its branches were sent, no Commit among them.
+-- There is room for a transfer of these legs: a handle for each branch as it commits, and as many planned requests at
+-- each store as it may need there.
+pub record HasRoom (one two : Leg) (d : DeskView) : Type 0 where
+  pub handles : BRANCHES ≤ d.handles - outstanding d.ledgers
+  pub first : REQUESTS ≤ room_at d.ledgers one.branch.m
+  pub second : REQUESTS ≤ room_at d.ledgers two.branch.m
+
+-- Why a transfer of two legs is refused, and what was done: there was no room, and nothing was; or the work was tried,
+-- and not all of it answered XA_OK, or the branches might not be committed then, and it was given up.
+pub data IsRefused (one two : Leg) (k : List ℕ) (old new : DeskView) (log : LogState) : Type 0 where
+  unroomed : (HasRoom one two old → ⊥) → new ≡ old → IsRefused one two k old new log
+  undone : (tried : DeskView) → Tries one two k false old tried → GivesUp one two tried new
+      → IsRefused one two k old new log
+  barred : (tried : DeskView) → Tries one two k true old tried
+      → (MayCommit tried log (one.branch ∷ two.branch ∷ []) → ⊥) → GivesUp one two tried new
+      → IsRefused one two k old new log
+
+-- Memory was wanted for a transfer of two legs: all of its work answered XA_OK, no Commit and no Prepare was sent, and
+-- it was given up.
+pub record IsGivenUp (one two : Leg) (k : List ℕ) (old new : DeskView) : Type 0 where
+  pub tried : DeskView
+  pub worked : Tries one two k true old tried
+  pub gives_up : GivesUp one two tried new
+
+-- What comes of two legs: both worked, and a commit of both branches came to this; or the transfer is refused for a
+-- reason, and only requests for its branches were sent, no Commit among them.
 pub data Transfers (one two : Leg) (k : List ℕ) (point : Option Point) (o : Outcome) (old new : DeskView)
     (log later : LogState) : Type 0 where
   commits : (worked : DeskView) → HaveWorked one two k old.ledgers worked.ledgers
       → ComesOfCommit (one.branch ∷ two.branch ∷ []) point o worked new.ledgers log later
       → Transfers one two k point o old new log later
-  refused : o ≡ Refused → later ≡ log → HaveSent (IsFor one two) old.ledgers new.ledgers
-      → Transfers one two k point o old new log later
+  refused : o ≡ Refused → later ≡ log → IsRefused one two k old new log
+      → HaveSent (IsFor one two) old.ledgers new.ledgers → Transfers one two k point o old new log later
 
 -- What comes of thread t's transfer of number n: that of its legs; or it has none, and nothing is done.
 pub data Makes (t n : ℕ) (tr : Transfer) (point : Option Point) (o : Outcome) (old new : DeskView)
     (log later : LogState) : Type 0 where
   with_legs : (one two : Leg) → AreLegs t n tr one two → Transfers one two tr.account point o old new log later
       → Makes t n tr point o old new log later
-  without_legs : o ≡ Refused → new ≡ old → later ≡ log → Makes t n tr point o old new log later
+  without_legs : o ≡ Refused → HasNoLegs n tr → new ≡ old → later ≡ log → Makes t n tr point o old new log later
+
+-- What comes of thread t's transfer of number n where memory was wanted: it is given up.
+pub record WantsMemory (t n : ℕ) (tr : Transfer) (old new : DeskView) : Type 0 where
+  pub one : Leg
+  pub two : Leg
+  pub legs : AreLegs t n tr one two
+  pub given_up : IsGivenUp one two tr.account old new
 
 -- so for as many of these transfers as there are outcomes, one after the other, with numbers from n on
 abbrev pub MakesEach : ℕ → Option Death → ℕ → List Transfer → List Outcome → DeskView → DeskView → LogState → LogState

@@ -1,7 +1,8 @@
 //! A day of the bank: its tellers at work, and what is settled in the end.
-ghost use Rattle.std.specs.Prelude.{◌≡◌, length, All, IfOk};
+ghost use Rattle.std.specs.Prelude.{◌≡◌, length, All, IfErr, IfOk};
+ghost use Rattle.xa_switch.specs.Plans.{IsSound};
 ghost use Rattle.xa_switch.specs.Worth.{plan_worth, settled_worth};
-ghost use Rattle.xa_crew.specs.Run.{IsRun};
+ghost use Rattle.xa_crew.specs.Run.{HasRunAll, IsRun, PutsBack};
 ghost use Rattle.xa_bank.specs.Tellers.{EndsWhole, Works};
 
 use crate::teller::Teller;
@@ -25,17 +26,20 @@ pub type Day = Run<Teller>;
 /// accounts are together worth what the plan declares. That is so also where tellers died, but for one that had told
 /// one store and not the other. What a dead teller left is resolved by its log in the next opening.
 ///
-/// The faults are those of the crew: `BadPlan` where the plan can't be opened, and `NoMemory`.
+/// The faults are those of the crew: `BadPlan` where the plan can't be opened, `NoMemory`, and `Unsettled` with what
+/// the tellers and the stores have come to.
 pub fn run_day<R: Threads + Wait + Copy + Send + 'static>(
     rt: &R,
     alloc: Global,
     plan: &Plan,
     tellers: Vec<Teller>,
-) -> Result<Day, CrewFault>
+) -> Result<Day, CrewFault<Teller>>
     requires { length tellers.items ≡ plan.now.threads }
     ensures ran { IfOk result (λ day. IsRun Works plan.now tellers.items day.clients.items day.settled) }
     ensures conserved { IfOk result (λ day. All EndsWhole day.clients.items
         → settled_worth plan.now day.settled ≡ plan_worth plan.now) }
+    ensures bad { IfErr result (λ f. f ≡ CrewFault.BadPlan → ¬ IsSound plan.now) }
+    ensures unsettled { IfErr result (PutsBack (HasRunAll Works plan.now tellers.items)) }
 {
     transfers_conserve_the_worth();
     managers_open_with_their_accounts();

@@ -1,5 +1,5 @@
 //! The death of a teller as it commits a transfer: what it left is for others to resolve, by its log.
-ghost use Rattle.std.specs.Prelude.{◌≡◌, IfOk};
+ghost use Rattle.std.specs.Prelude.{◌≡◌, IfOk, OnErr};
 ghost use Rattle.xa_bank.specs.Deaths.{Dies, point_at};
 ghost use Rattle.xa_desk.specs.GoesOn.{GoesOn};
 ghost use Rattle.xa_desk.specs.Kept.{AllKept};
@@ -64,6 +64,8 @@ pub(crate) fn die<R: Wait>(
     ensures kept { AllKept desk.old → AllKept desk.new }
     ensures dies { IfOk result (λ known. Dies at branches.now known desk.old desk.new.ledgers log.old.state
         log.new.state) }
+    ensures unsent { OnErr result (desk.new ≡ desk.old) }
+    ensures unlogged { OnErr result (log.new.state ≡ log.old.state) }
 {
     desks_go_on();
     stages_follow();

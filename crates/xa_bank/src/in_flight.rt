@@ -2,7 +2,7 @@
 ghost use Rattle.std.specs.Prelude.{◌≡◌, true, IsTrue, Ok, Some};
 ghost use Rattle.xa_words.specs.Code.{number_of};
 ghost use Rattle.xa_switch.specs.Asking.{asked_of};
-ghost use Rattle.xa_bank.specs.Requests.{PutsOp, BeginsLeg, CollectsOp, EndsLeg};
+ghost use Rattle.xa_bank.specs.Requests.{PutsOp, BeginsLeg, CollectsOp, EndsLeg, TriesInFlight};
 ghost use Rattle.xa_bank.specs.Transfers.{AreApart, HaveSent, HaveWorked, IsFor};
 ghost use Rattle.xa_desk.specs.GoesOn.{GoesOn};
 ghost use Rattle.xa_desk.specs.Kept.{AllKept};
@@ -93,7 +93,7 @@ fn begin<R: Wait>(rt: &R, desk: &mut Desk, leg: &Leg, account: Key, idle: &mut S
 fn collect<R: Wait>(rt: &R, desk: &mut Desk, manager: u32, handle: i32, idle: &mut Spin) -> bool
     ensures goes_on { GoesOn desk.old desk.new }
     ensures kept { AllKept desk.old → AllKept desk.new }
-    ensures collects { CollectsOp handle result desk.old desk.new }
+    ensures collects { CollectsOp manager handle result desk.old desk.new }
 {
     if handle <= 0 {
         return false;
@@ -107,7 +107,7 @@ fn collect<R: Wait>(rt: &R, desk: &mut Desk, manager: u32, handle: i32, idle: &m
 fn is_done<R: Wait>(rt: &R, desk: &mut Desk, store: u32, flight: &Flight, idle: &mut Spin) -> bool
     ensures goes_on { GoesOn desk.old desk.new }
     ensures kept { AllKept desk.old → AllKept desk.new }
-    ensures ends { EndsLeg flight.now result desk.old desk.new }
+    ensures ends { EndsLeg store flight.now result desk.old desk.new }
 {
     desks_go_on();
     let started = collect(rt, desk, store, flight.start, idle);
@@ -130,6 +130,7 @@ pub(crate) fn work_in_flight<R: Wait>(
     ensures sent { HaveSent (IsFor one.now two.now) desk.old.ledgers desk.new.ledgers }
     ensures worked { result ≡ true → AreApart one.now two.now desk.new.ledgers
         → HaveWorked one.now two.now account desk.old.ledgers desk.new.ledgers }
+    ensures tries { TriesInFlight one.now two.now account result desk.old desk.new }
 {
     desks_go_on();
     let first = begin(rt, desk, one, account, idle);

@@ -1,7 +1,7 @@
 //! The work for a transfer by synchronous calls, one after the other: they take no handle, and any store takes them.
 ghost use Rattle.std.specs.Prelude.{◌≡◌, false, true, Ok, Some};
 ghost use Rattle.xa_switch.specs.Asking.{asked_of};
-ghost use Rattle.xa_bank.specs.Requests.{CallsLeg, CallsOp};
+ghost use Rattle.xa_bank.specs.Requests.{CallsLeg, CallsOp, TriesInTurn};
 ghost use Rattle.xa_bank.specs.Transfers.{AreApart, HaveSent, HaveWorked, IsFor};
 ghost use Rattle.xa_desk.specs.GoesOn.{GoesOn};
 ghost use Rattle.xa_desk.specs.Kept.{AllKept};
@@ -72,6 +72,7 @@ pub(crate) fn work_in_turn<R: Wait>(
     ensures sent { HaveSent (IsFor one.now two.now) desk.old.ledgers desk.new.ledgers }
     ensures worked { result ≡ true → AreApart one.now two.now desk.new.ledgers
         → HaveWorked one.now two.now account desk.old.ledgers desk.new.ledgers }
+    ensures tries { TriesInTurn one.now two.now account result desk.old desk.new }
 {
     desks_go_on();
     if !work_on(rt, desk, one, account, idle) {

@@ -1,8 +1,12 @@
 //! What a teller does: transfers, one after the other.
-ghost use Rattle.std.specs.Prelude.{◌≡◌, ◌+◌, [], length, true, IfOk, MatchOption, None, OnOk, Some};
+ghost use Rattle.std.specs.Prelude.{◌≡◌, ◌+◌, ◌≤◌, ◌↔◌, ℤ, ◌≤ℤ◌, neg_ℤ, pos, [], length, true, IfOk, IsTrue};
+ghost use Rattle.std.specs.Prelude.{MatchOption, None};
+ghost use Rattle.std.specs.Prelude.{OnErr, OnOk, Some};
+ghost use Rattle.xa_words.specs.Flags.{TMFAIL};
+ghost use Rattle.xa_bank.specs.Requests.{Asks, GivesUp, Tries};
 ghost use Rattle.xa_bank.specs.Tellers.{HasMade, has_died};
 ghost use Rattle.xa_bank.specs.Transfers.{AreApart, AreLegs, HaveSent, HaveWorked, IsFor, IsLeg, IsOpenRm, Makes};
-ghost use Rattle.xa_bank.specs.Transfers.{ComesOfCommit, Transfers};
+ghost use Rattle.xa_bank.specs.Transfers.{ComesOfCommit, HasNoLegs, HasRoom, IsGivenUp, Transfers, WantsMemory};
 ghost use Rattle.xa_desk.specs.GoesOn.{GoesOn};
 ghost use Rattle.xa_desk.specs.Kept.{AllKept};
 ghost use Rattle.xa_driver.specs.Trace.{MayCommit};
@@ -77,27 +81,39 @@ pub(crate) struct Leg {
 }
 
 // The store's leg of this global transaction.
-fn leg_of(gtrid: &[u8], bqual: &[u8], m: u32, amount: i64) -> Option<Leg>
-    ensures { MatchOption result (Unit {0}) (IsLeg gtrid.now m amount) }
+fn leg_of(gtrid: &[u8], bqual: &[u8], m: u32, amount: i64) -> Leg
+    requires gtrid { length gtrid.now ≡ 8 }
+    requires bqual { length bqual.now ≡ 4 }
+    requires low { neg_ℤ (pos u32.MAX) ≤ℤ amount }
+    requires high { amount ≤ℤ pos u32.MAX }
+    ensures { IsLeg gtrid.now m amount result }
 {
-    let xid = Xid::new(1, gtrid, bqual).ok()?;
-    let delta = Delta::new(amount)?;
+    let (Ok(xid), Some(delta)) = (Xid::new(1, gtrid, bqual), Delta::new(amount)) else {
+        unreachable!()
+    };
     let branch = Branch { m, xid };
-    Some(Leg { branch, delta })
+    Leg { branch, delta }
 }
 
 // The two legs of the transfer at a place of the thread's, by rising store. There are none where the stores are one, or
-// the place or the amount is too great.
+// the place is too great.
 fn legs_of(thread: u32, place: usize, transfer: &Transfer) -> Option<(Leg, Leg)>
-    ensures { MatchOption result (Unit {0}) (λ legs. AreLegs thread place transfer.now legs.0 legs.1) }
+    ensures { MatchOption result (HasNoLegs place transfer.now)
+        (λ legs. AreLegs thread place transfer.now legs.0 legs.1) }
 {
     let place = u32::try_from(place).ok()?;
     let gtrid = (u64::from(thread) * 0x1_0000_0000 + u64::from(place)).to_be_bytes();
-    let pays = leg_of(&gtrid, b"pays", transfer.from, -i64::from(transfer.amount))?;
-    let is_paid = leg_of(&gtrid, b"paid", transfer.to, i64::from(transfer.amount))?;
-    if transfer.from < transfer.to {
+    let Transfer {
+        from,
+        to,
+        amount,
+        ..
+    } = *transfer;
+    let pays = leg_of(&gtrid, b"pays", from, -i64::from(amount));
+    let is_paid = leg_of(&gtrid, b"paid", to, i64::from(amount));
+    if from < to {
         Some((pays, is_paid))
-    } else if transfer.to < transfer.from {
+    } else if to < from {
         Some((is_paid, pays))
     } else {
         None
@@ -110,6 +126,7 @@ fn fail<R: Wait>(rt: &R, desk: &mut Desk, leg: &Leg, idle: &mut Spin)
     ensures goes_on { GoesOn desk.old desk.new }
     ensures kept { AllKept desk.old → AllKept desk.new }
     ensures sent { HaveSent (λ op. op ≡ Op.End leg.now.branch.xid EndHow.Fail) desk.old.ledgers desk.new.ledgers }
+    ensures asks { Asks Call.End TMFAIL leg.now desk.old desk.new }
 {
     let xid = Some(leg.branch.xid);
     xa_call(rt, desk, Call::End, xid, leg.branch.m, TMFAIL, idle);
@@ -120,6 +137,7 @@ fn roll_back<R: Wait>(rt: &R, desk: &mut Desk, leg: &Leg, idle: &mut Spin)
     ensures goes_on { GoesOn desk.old desk.new }
     ensures kept { AllKept desk.old → AllKept desk.new }
     ensures sent { HaveSent (λ op. op ≡ Op.Rollback leg.now.branch.xid) desk.old.ledgers desk.new.ledgers }
+    ensures asks { Asks Call.Rollback 0 leg.now desk.old desk.new }
 {
     let xid = Some(leg.branch.xid);
     xa_call(rt, desk, Call::Rollback, xid, leg.branch.m, TMNOFLAGS, idle);
@@ -130,6 +148,7 @@ fn give_up<R: Wait>(rt: &R, desk: &mut Desk, one: &Leg, two: &Leg, idle: &mut Sp
     ensures goes_on { GoesOn desk.old desk.new }
     ensures kept { AllKept desk.old → AllKept desk.new }
     ensures sent { HaveSent (IsFor one.now two.now) desk.old.ledgers desk.new.ledgers }
+    ensures gives_up { GivesUp one.now two.now desk.old desk.new }
 {
     desks_go_on();
     fail(rt, desk, one, idle);
@@ -160,6 +179,7 @@ fn work_for<R: Wait>(
     ensures sent { HaveSent (IsFor one.now two.now) desk.old.ledgers desk.new.ledgers }
     ensures worked { result ≡ true → AreApart one.now two.now desk.new.ledgers
         → HaveWorked one.now two.now account desk.old.ledgers desk.new.ledgers }
+    ensures tries { Tries one.now two.now account result desk.old desk.new }
 {
     if can_fly(desk, one, two) {
         work_in_flight(rt, desk, one, two, account, idle)
@@ -175,7 +195,9 @@ const BRANCHES: u32 = 2;
 const REQUESTS: u32 = 6;
 
 // Whether there is room for a transfer of these legs, so that it needn't be given up for want of any.
-fn has_room(desk: &Desk, one: &Leg, two: &Leg) -> bool {
+fn has_room(desk: &Desk, one: &Leg, two: &Leg) -> bool
+    ensures { IsTrue result ↔ HasRoom one.now two.now desk.now }
+{
     desk.free() >= BRANCHES
         && desk.room(one.branch.m) >= REQUESTS
         && desk.room(two.branch.m) >= REQUESTS
@@ -197,6 +219,8 @@ fn commit<R: Wait>(
     ensures kept { AllKept desk.old → AllKept desk.new }
     ensures comes { IfOk result (λ o. ComesOfCommit branches.now point o desk.old desk.new.ledgers log.old.state
         log.new.state) }
+    ensures unsent { OnErr result (desk.new ≡ desk.old) }
+    ensures unlogged { OnErr result (log.new.state ≡ log.old.state) }
 {
     desks_go_on();
     match point {
@@ -228,6 +252,8 @@ fn carry_out<R: Wait>(
     ensures kept { AllKept desk.old → AllKept desk.new }
     ensures carried { IfOk result (λ o. Transfers one.now two.now account point o desk.old desk.new log.old.state
         log.new.state) }
+    ensures wants { OnErr result (IsGivenUp one.now two.now account desk.old desk.new) }
+    ensures unlogged { OnErr result (log.new.state ≡ log.old.state) }
 {
     desks_go_on();
     if !has_room(desk, one, two) {
@@ -273,6 +299,8 @@ fn make<R: Wait>(
     ensures kept { AllKept desk.old → AllKept desk.new }
     ensures makes { IfOk result (λ o. Makes desk.old.thread place transfer.now point o desk.old desk.new
         log.old.state log.new.state) }
+    ensures wants { OnErr result (WantsMemory desk.old.thread place transfer.now desk.old desk.new) }
+    ensures unlogged { OnErr result (log.new.state ≡ log.old.state) }
 {
     desks_go_on();
     let Some((one, two)) = legs_of(desk.thread(), place, transfer) else {

@@ -2,6 +2,7 @@
 //! side or step by step, of which the contracts of several crates speak (`specs/Lists.antt`).
 #![tactic(auto)]
 
+pub mod laws;
 mod limits;
 
 pub use limits::{

@@ -1,19 +1,18 @@
 -- The members of a crew, by what each was given and what it came to.
-use Rattle.std.proofs.Common.{◌≡◌, zero, suc, List, [], ◌∷◌, length, map, refl, sym, subst, arith}
+use Rattle.std.proofs.Common.{◌≡◌, zero, suc, List, [], ◌∷◌, length, map, refl, sym, ◌∙◌, subst, arith}
 use Rattle.std.specs.Prelude.{All}
 use Rattle.xa_desk.specs.DeskView.{DeskView}
 use Rattle.xa_desk.specs.GoesOn.{GoesOn}
 use Rattle.xa_desk.specs.Ended.{EndedView}
-use Rattle.xa_worker.specs.Workers.{WorkerView}
-use Rattle.xa_worker.specs.Done.{Served}
-use Rattle.xa_switch.specs.Plans.{Setup, IsWithinLimits}
-use Rattle.xa_switch.specs.Openings.{AreOfOneOpening}
+use Rattle.xa_switch.specs.declared.plan.Plan.{Plan}
+use Rattle.xa_switch.specs.Plans.{planned}
 use Rattle.xa_crew.specs.declared.client_job.ClientJob.{ClientJob}
 use Rattle.xa_crew.specs.declared.client_job.Worked.{Worked}
+use Rattle.xa_crew.specs.declared.run.Ran.{Ran}
 use Rattle.xa_base.specs.Lists.{Pairwise}
-use Rattle.xa_crew.specs.Pieces.{HasGone, HasServed, ArePiecesOf}
-use Rattle.xa_crew.specs.Run.{Member, member_of, HasRun}
-use Rattle.xa_base.proofs.Lists.{tail_side, side_of, side_to}
+use Rattle.xa_crew.specs.Pieces.{HasGone, ArePiecesOf}
+use Rattle.xa_crew.specs.Run.{Member, member_of, HasRun, HasRunAll}
+use Rattle.xa_base.proofs.Lists.{some_same, all_at, tail_side, side_of, side_to}
 
 abbrev pub members : {C : Type 0} → List (ClientJob C) → List (Worked C) → List (Member C)
 members [] ws = []
@@ -35,37 +34,34 @@ read_come f g same (a ∷ gs) (w ∷ ws) many = λ i. same a w i ∷ read_come f
 
 module _ {C : Type 0} (works : C → DeskView → C → DeskView → Type 0) where
   -- each thread ran with its client
-  abbrev pub Ran : ClientJob C → Worked C → Type 0
-  Ran a w = HasRun works (member_of a w)
+  abbrev pub HasWorked : ClientJob C → Worked C → Type 0
+  HasWorked a w = HasRun works (member_of a w)
 
-  pub all_ran : (gs : List (ClientJob C)) (ws : List (Worked C)) → Pairwise Ran gs ws → All (HasRun works) (members gs ws)
+  pub all_ran : (gs : List (ClientJob C)) (ws : List (Worked C)) → Pairwise HasWorked gs ws → All (HasRun works) (members gs ws)
   all_ran [] ws all k d below = absurd (omega (arith, below))
   all_ran (a ∷ gs) [] all k d below = absurd (omega (arith, below))
   all_ran (a ∷ gs) (w ∷ ws) all zero d below = all.each 0 a w refl refl
-  all_ran (a ∷ gs) (w ∷ ws) all (suc k) d below = all_ran gs ws (tail_side Ran a gs w ws all) k d (omega (arith, below))
+  all_ran (a ∷ gs) (w ∷ ws) all (suc k) d below = all_ran gs ws (tail_side HasWorked a gs w ws all) k d (omega (arith, below))
 
-  -- so each desk went on, and ended
-  pub all_gone : ((old mid new : DeskView) → GoesOn old mid → GoesOn mid new → GoesOn old new) → (gs : List (ClientJob C)) (ws : List (Worked C)) → Pairwise Ran gs ws → Pairwise HasGone (map (λ a. a.desk) gs) (map (λ w. w.desk) ws)
-  all_gone further gs ws all =
-      side_of HasGone (λ (a : ClientJob C). a.desk) gs (map (λ w. w.desk) ws)
-      (side_to (λ a e. HasGone a.desk e) (λ (w : Worked C). w.desk) gs ws (record {
-        as_many = all.as_many;
-        each = λ k a w at at'.
-            let r = all.each k a w at at' in
-            record { last = r.ends.emptied; goes_on = further a.desk r.left r.ends.emptied r.goes_on r.ends.goes_on; ends = r.ends.ends };
+  -- a member's desk went on, and ended
+  member_gone : ((old mid new : DeskView) → GoesOn old mid → GoesOn mid new → GoesOn old new) → (t : Member C) → HasRun works t → HasGone t.desk t.ended
+  member_gone further t r = record { last = r.ends.emptied; goes_on = further t.desk r.left r.ends.emptied r.goes_on r.ends.goes_on; ends = r.ends.ends }
+
+  members_gone : ((old mid new : DeskView) → GoesOn old mid → GoesOn mid new → GoesOn old new) → (ts : List (Member C)) → All (HasRun works) ts → Pairwise HasGone (map (λ t. t.desk) ts) (map (λ t. t.ended) ts)
+  members_gone further ts all =
+      side_of HasGone (λ (t : Member C). t.desk) ts (map (λ t. t.ended) ts)
+      (side_to (λ t e. HasGone t.desk e) (λ (t : Member C). t.ended) ts ts (record {
+        as_many = refl;
+        each = λ k t u at at'. subst (λ (v : Member C). HasGone t.desk v.ended) (some_same t u (sym at ∙ at')) (member_gone further t (all_at (HasRun works) ts k t all at));
       }))
 
-  -- these are all pieces of the opening
-  pub pieces_are : ((old mid new : DeskView) → GoesOn old mid → GoesOn mid new → GoesOn old new) → (p : Setup) (desks : List DeskView) (workers : List WorkerView) → IsWithinLimits p.numbers p.managers → AreOfOneOpening p desks workers
-      → (gs : List (ClientJob C)) (ws : List (Worked C)) → Pairwise Ran gs ws → map (λ a. a.desk) gs ≡ desks → (ended : List EndedView) → ended ≡ map (λ w. w.desk) ws
-      → {J : Type 0} (worker_of : J → WorkerView) (jobs : List J) (done : List Served) → Pairwise (λ j d. HasServed (worker_of j) d) jobs done → map worker_of jobs ≡ workers → ArePiecesOf p ended done
-  pieces_are further p desks workers limits opened gs ws ran desks_are ended ended_are worker_of jobs done served workers_are = record {
-    desks = desks;
-    workers = workers;
-    limits = limits;
-    opened = opened;
-    gone =
-        subst (λ (ds : List DeskView). Pairwise HasGone ds ended) desks_are
-        (subst (λ (es : List EndedView). Pairwise HasGone (map (λ (a : ClientJob C). a.desk) gs) es) (sym ended_are) (all_gone further gs ws ran));
-    served = subst (λ (ws : List WorkerView). Pairwise HasServed ws done) workers_are (side_of HasServed worker_of jobs done served);
+  -- what all threads of a run have come to are all pieces of the opening
+  pub run_pieces : ((old mid new : DeskView) → GoesOn old mid → GoesOn mid new → GoesOn old new) → (p : Plan) (cs : List C) (r : Ran C) → HasRunAll works p cs r → ArePiecesOf (planned p) r.desks.items r.workers.items
+  run_pieces further p cs r all = record {
+    desks = map (λ t. t.desk) all.members;
+    workers = all.workers;
+    limits = all.sound.limits;
+    opened = all.opened;
+    gone = subst (λ (es : List EndedView). Pairwise HasGone (map (λ (t : Member C). t.desk) all.members) es) (sym all.desks_are) (members_gone further all.members all.ran);
+    served = all.served;
   }

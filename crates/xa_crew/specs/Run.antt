@@ -20,13 +20,14 @@ use Rattle.xa_crew.specs.declared.fault.CrewFault.TheVariants as crew
 use Rattle.xa_crew.specs.declared.client_job.ClientJob.{ClientJob}
 use Rattle.xa_crew.specs.declared.client_job.Attended.{Attended}
 use Rattle.xa_crew.specs.declared.client_job.Worked.{Worked}
+use Rattle.xa_crew.specs.declared.run.Ran.{Ran}
 use Rattle.xa_base.specs.Lists.{Pairwise}
 use Rattle.xa_desk.specs.Kept.{AllKept}
 use Rattle.xa_crew.specs.Ending.{EndsDesk}
 use Rattle.xa_crew.specs.Pieces.{HasServed}
 
 -- What a run fails by where the switch can't be opened.
-abbrev pub fault_of : OpenFault → CrewFault
+abbrev pub fault_of : {C : Type 0} → OpenFault → CrewFault C
 fault_of open_.BadPlan = crew.BadPlan
 fault_of open_.NoMemory = crew.NoMemory
 
@@ -58,6 +59,29 @@ abbrev pub member_of : {C : Type 0} → ClientJob C → Worked C → Member C
 member_of a w = record { client = a.client; desk = a.desk; attended = w.attended; ended = w.desk }
 
 -- ---- the whole run
+
+-- What all threads of a run of these clients come to. The plan was opened, and each client worked with the desk at its
+-- own place; and each worker of that opening ran to the last end mark.
+pub record HasRunAll {C : Type 0} (works : C → DeskView → C → DeskView → Type 0) (p : Plan) (clients : List C)
+    (r : Ran C) : Type 0 where
+  -- the threads and the workers of one opening of the plan
+  pub members : List (Member C)
+  pub workers : List WorkerView
+  pub sound : IsSound p
+  pub opened : AreOfOneOpening (planned p) (map (λ t. t.desk) members) workers
+  -- each thread has the client at its place, and ran with it
+  pub clients_are : clients ≡ map (λ t. t.client) members
+  pub ran : All (HasRun works) members
+  -- and each worker ran
+  pub attended_are : r.clients.items ≡ map (λ t. t.attended) members
+  pub desks_are : r.desks.items ≡ map (λ t. t.ended) members
+  pub served : Pairwise HasServed workers r.workers.items
+
+-- What a fault gives back of what was run, if it does, is this.
+abbrev pub PutsBack : {C : Type 0} → (Ran C → Type 0) → CrewFault C → Type 0
+PutsBack P crew.BadPlan = Unit {0}
+PutsBack P crew.NoMemory = Unit {0}
+PutsBack P (crew.Unsettled ran) = P ran
 
 -- What a run of these clients comes to. The plan was opened, and each client worked with the desk at its own place;
 -- each worker of that opening ran to the last end mark; and the opening is settled with what all of them came to, so

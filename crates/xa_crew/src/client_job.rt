@@ -6,6 +6,7 @@ ghost use Rattle.xa_crew.specs.Run.{IsReady};
 use crate::client::Client;
 use crate::ending::end_desk;
 use crate::job::Job;
+use crate::word::Go;
 use std::alloc::{AllocError, Global};
 use std::sync::Wait;
 use xa_base::MOST_HANDLES;
@@ -44,7 +45,7 @@ impl<C: Client> Job<Worked<C>> for ClientJob<C> {
 
     ghost comes_to = { λ a w. HasRun C.works (member_of a w) };
 
-    fn run<R: Wait>(self, rt: &R) -> Worked<C> {
+    fn run<R: Wait>(self, rt: &R, _go: &Go<'_>) -> Worked<C> {
         let ClientJob {
             mut client,
             mut desk,

@@ -33,10 +33,10 @@ fn serve<R: Wait + Copy, J: Job<D>, D: Drop>(rt: R, word: Word, job: J) -> Optio
     requires { J.can_run job }
     ensures { IfSome result (J.comes_to job) }
 {
-    if !word.wait(&rt) {
+    let Some(go) = word.wait(&rt) else {
         return None;
-    }
-    Some(job.run(&rt))
+    };
+    Some(job.run(&rt, &go))
 }
 
 // Starts a thread for the job, in which it waits for the word. There is none where it can't be started.
@@ -128,7 +128,7 @@ pub(crate) fn do_all<
     let mut other_hands = Hands::reserve(alloc, others.len())?;
     let all = hands.start(rt, &word, jobs);
     let all_others = other_hands.start(rt, &word, others);
-    word.give(all && all_others);
+    word.give(rt, all && all_others);
     let done = hands.join(rt);
     let others_done = other_hands.join(rt);
     match (done, others_done) {

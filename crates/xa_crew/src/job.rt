@@ -1,4 +1,5 @@
 //! What a thread does.
+use crate::word::Go;
 use std::sync::Wait;
 
 /// What a thread does once, and comes to a `D` by.
@@ -9,8 +10,8 @@ pub(crate) trait Job<D>: Drop {
     /// What it may come to.
     ghost comes_to: { Self → D → Type 0 };
 
-    /// Does it.
-    fn run<R: Wait>(self, rt: &R) -> D
+    /// Does it, where the word is go.
+    fn run<R: Wait>(self, rt: &R, go: &Go<'_>) -> D
         requires { can_run self }
         ensures { comes_to self result };
 }

@@ -22,5 +22,5 @@ pub use client::Client;
 pub use client_job::Attended;
 pub use ending::end_desk;
 pub use fault::CrewFault;
-pub use run::{Run, run_clients};
+pub use run::{Ran, Run, run_clients, settle_run};
 pub use settling::settle_all;

@@ -1,14 +1,15 @@
 //! A run of clients in threads.
-ghost use Rattle.std.specs.Prelude.{◌≡◌, ◌≤◌, ◌↔◌, length, map, IfOk, IfErr};
+ghost use Rattle.std.specs.Prelude.{◌≡◌, ◌≢◌, ◌≤◌, ◌↔◌, [], List, length, map, vec_capacity, IfOk, IfErr};
 ghost use Rattle.xa_switch.specs.Openings.{AreOfOneOpening};
 ghost use Rattle.xa_switch.specs.Plans.{IsSound, planned};
-ghost use Rattle.xa_crew.specs.Run.{IsRun};
+ghost use Rattle.xa_switch.specs.declared.plan.Plan.{Plan};
+ghost use Rattle.xa_crew.specs.Run.{HasRunAll, IsRun, PutsBack};
 
 use crate::client::Client;
 use crate::client_job::{Attended, Worked, client_jobs_of};
 use crate::fault::CrewFault;
 use crate::hands::do_all;
-use crate::settling::settle_all;
+use crate::settling::settle_pieces;
 use crate::worker_job::worker_jobs_of;
 use std::alloc::{AllocError, Global};
 use std::sync::Wait;
@@ -17,7 +18,7 @@ use xa_desk::laws::desks_go_on;
 use xa_desk::{Desk, EndedDesk};
 use xa_switch::laws::outstanding_operations_stay_kept;
 use xa_switch::{Plan, Settled, open_switch};
-use xa_worker::{Pace, Worker};
+use xa_worker::{DoneWorker, Pace, Worker};
 
 /// What a run came to.
 #[derive(Drop)]
@@ -28,6 +29,17 @@ pub struct Run<C> {
     pub settled: Settled,
 }
 
+/// What all threads of a run have come to, before it is settled.
+#[derive(Drop)]
+pub struct Ran<C> {
+    /// The clients that have worked, by rising thread.
+    pub clients: Vec<Attended<C>>,
+    /// Their desks.
+    pub desks: Vec<EndedDesk>,
+    /// The workers, by rising manager.
+    pub workers: Vec<DoneWorker>,
+}
+
 /// Runs a client for each thread of control of the plan, each in a thread of its own with its own desk, and
 /// a worker for each of its managers, each in a thread of its own.
 ///
@@ -35,22 +47,31 @@ pub struct Run<C> {
 /// are started before any of them does something, and where one can't be started none does. After a
 /// client's work its thread collects what is outstanding and ends the desk, so that each worker ends too.
 /// It returns once all threads have ended and the opening is settled; where a client never returns it
-/// doesn't. The faults are those of `CrewFault`: `BadPlan` exactly where the plan isn't sound.
+/// doesn't. The faults are those of `CrewFault`: `BadPlan` exactly where the plan isn't sound, and `Unsettled` with
+/// what all threads have come to.
 pub fn run_clients<
     R: Threads + Wait + Copy + Send + 'static,
     C: Client + Send + 'static,
     P: Pace + Drop + Send + 'static,
->(rt: &R, alloc: Global, plan: &Plan, clients: Vec<C>, paces: Vec<P>) -> Result<Run<C>, CrewFault>
+>(
+    rt: &R,
+    alloc: Global,
+    plan: &Plan,
+    clients: Vec<C>,
+    paces: Vec<P>,
+) -> Result<Run<C>, CrewFault<C>>
     requires clients { length clients.items ≡ plan.now.threads }
     requires paces { length plan.now.managers.items ≤ length paces.items }
     ensures ran { IfOk result (λ r. IsRun C.works plan.now clients.items r.clients.items r.settled) }
     ensures bad { IfErr result (λ f. f ≡ CrewFault.BadPlan ↔ ¬ IsSound plan.now) }
+    ensures unsettled { IfErr result (PutsBack (HasRunAll C.works plan.now clients.items)) }
 {
     let (desks, workers) = open_switch(rt, alloc, plan)?;
-    Ok(run_opened(rt, alloc, plan, desks, workers, clients, paces)?)
+    run_opened(rt, alloc, plan, desks, workers, clients, paces)
 }
 
-// Runs the clients with the desks of one opening of the plan, and the workers of that opening.
+// Runs the clients with the desks of one opening of the plan, and the workers of that opening. All memory but that of
+// the settling is taken before any thread is started.
 fn run_opened<
     R: Threads + Wait + Copy + Send + 'static,
     C: Client + Send + 'static,
@@ -63,37 +84,98 @@ fn run_opened<
     workers: Vec<Worker>,
     clients: Vec<C>,
     paces: Vec<P>,
-) -> Result<Run<C>, AllocError>
+) -> Result<Run<C>, CrewFault<C>>
     requires sound { IsSound plan.now }
     requires opened { AreOfOneOpening (planned plan.now) desks.items workers.items }
     requires clients { length clients.items ≡ plan.now.threads }
     requires paces { length plan.now.managers.items ≤ length paces.items }
-    ensures { IfOk result (λ r. IsRun C.works plan.now clients.items r.clients.items r.settled) }
+    ensures ran { IfOk result (λ r. IsRun C.works plan.now clients.items r.clients.items r.settled) }
+    ensures opens { IfErr result (λ f. f ≢ CrewFault.BadPlan) }
+    ensures unsettled { IfErr result (PutsBack (HasRunAll C.works plan.now clients.items)) }
 {
-    outstanding_operations_stay_kept();
-    let client_jobs = client_jobs_of(alloc, clients, desks)?;
-    let worker_jobs = worker_jobs_of(alloc, workers, paces)?;
-    let (worked, done) = do_all(rt, alloc, client_jobs, worker_jobs)?;
-    let (clients, desks) = apart(alloc, worked)?;
-    desks_go_on();
-    let settled = settle_all(rt, alloc, desks, done)?;
-    Ok(Run { clients, settled })
+    let ran = run_all(rt, alloc, plan, desks, workers, clients, paces)?;
+    match settle_run(rt, alloc, ran) {
+        Ok(run) => Ok(run),
+        Err(ran) => Err(CrewFault::Unsettled(ran)),
+    }
 }
 
-// The clients that have worked, and their desks.
-fn apart<C: Drop>(
+// Runs them, and all have come to their ends; or none was run, for want of memory or of a thread.
+fn run_all<
+    R: Threads + Wait + Copy + Send + 'static,
+    C: Client + Send + 'static,
+    P: Pace + Drop + Send + 'static,
+>(
+    rt: &R,
     alloc: Global,
-    threads: Vec<Worked<C>>,
-) -> Result<(Vec<Attended<C>>, Vec<EndedDesk>), AllocError>
-    ensures clients { IfOk result (λ r. r.0.items ≡ map (λ w. w.attended) threads.items) }
-    ensures desks { IfOk result (λ r. r.1.items ≡ map (λ w. w.desk) threads.items) }
+    plan: &Plan,
+    desks: Vec<Desk>,
+    workers: Vec<Worker>,
+    clients: Vec<C>,
+    paces: Vec<P>,
+) -> Result<Ran<C>, AllocError>
+    requires sound { IsSound plan.now }
+    requires opened { AreOfOneOpening (planned plan.now) desks.items workers.items }
+    requires clients { length clients.items ≡ plan.now.threads }
+    requires paces { length plan.now.managers.items ≤ length paces.items }
+    ensures { IfOk result (HasRunAll C.works plan.now clients.items) }
 {
-    let mut clients = Vec::new(alloc);
-    let mut desks = Vec::new(alloc);
+    outstanding_operations_stay_kept();
+    let attended = Vec::with_capacity(alloc, clients.len())?;
+    let ended = Vec::with_capacity(alloc, clients.len())?;
+    let client_jobs = client_jobs_of(alloc, clients, desks)?;
+    let worker_jobs = worker_jobs_of(alloc, workers, paces)?;
+    let (worked, workers) = do_all(rt, alloc, client_jobs, worker_jobs)?;
+    let (clients, desks) = apart(worked, attended, ended);
+    Ok(Ran {
+        clients,
+        desks,
+        workers,
+    })
+}
+
+/// Settles what all threads of a run have come to. It fails only for want of memory, and then all of that comes back.
+pub fn settle_run<R: Wait, C: Client>(rt: &R, alloc: Global, ran: Ran<C>) -> Result<Run<C>, Ran<C>>
+    requires { (p : Plan) × (cs : List C) × HasRunAll C.works p cs ran }
+    ensures run { IfOk result (λ r. (p : Plan) → (cs : List C) → HasRunAll C.works p cs ran
+        → IsRun C.works p cs r.clients.items r.settled) }
+    ensures back { IfErr result (λ r. (p : Plan) → (cs : List C) → HasRunAll C.works p cs ran
+        → HasRunAll C.works p cs r) }
+    ensures clients { IfErr result (λ r. r.clients ≡ ran.clients) }
+{
+    desks_go_on();
+    let Ran {
+        clients,
+        desks,
+        workers,
+    } = ran;
+    match settle_pieces(rt, alloc, desks, workers) {
+        Ok(settled) => Ok(Run { clients, settled }),
+        Err((desks, workers)) => Err(Ran {
+            clients,
+            desks,
+            workers,
+        }),
+    }
+}
+
+// The clients that have worked, and their desks, where there is room for them.
+fn apart<C: Drop>(
+    threads: Vec<Worked<C>>,
+    mut clients: Vec<Attended<C>>,
+    mut desks: Vec<EndedDesk>,
+) -> (Vec<Attended<C>>, Vec<EndedDesk>)
+    requires no_clients { clients.items ≡ [] }
+    requires no_desks { desks.items ≡ [] }
+    requires room { length threads.items ≤ vec_capacity clients }
+    requires desk_room { length threads.items ≤ vec_capacity desks }
+    ensures clients { result.0.items ≡ map (λ w. w.attended) threads.items }
+    ensures desks { result.1.items ≡ map (λ w. w.desk) threads.items }
+{
     for worked in threads {
         let Worked { attended, desk } = worked;
-        clients.push(attended)?;
-        desks.push(desk)?;
+        clients.push_reserved(attended);
+        desks.push_reserved(desk);
     }
-    Ok((clients, desks))
+    (clients, desks)
 }

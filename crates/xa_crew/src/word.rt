@@ -1,26 +1,25 @@
 //! The word that all threads of a run wait for.
+ghost use Rattle.std.specs.Prelude.{IsTrue};
+
 use crossbeam_utils::Backoff;
 use std::alloc::{AllocError, Global};
-use std::sync::atomic::{AtomicU64, Ordering};
-use std::sync::{Arc, Wait};
+use std::sync::{Arc, OnceLock, OnceToken, Wait};
 
-// No word was given yet.
-const NONE: u64 = 0;
-
-// Each thread does its job.
-const GO: u64 = 1;
-
-// No thread does its job.
-const STOP: u64 = 2;
-
-/// One word for many threads: go, or stop.
+/// What shows that a word is go. A word is given once, so there is none of a word that is stop.
 #[derive(Drop)]
-pub(crate) struct Word(Arc<AtomicU64, Global>);
+pub(crate) struct Go<'a> {
+    token: OnceToken<'a, bool>,
+    ghost go: { IsTrue token.value },
+}
+
+/// One word for many threads: go, so that each does its job, or stop.
+#[derive(Drop)]
+pub(crate) struct Word(Arc<OnceLock<bool>, Global>);
 
 impl Word {
     /// One that wasn't given yet.
     pub(crate) fn new(alloc: Global) -> Result<Word, AllocError> {
-        Ok(Word(Arc::new(alloc, AtomicU64::new(NONE))?))
+        Ok(Word(Arc::new(alloc, OnceLock::new())?))
     }
 
     /// The same word, for a thread more. There is none where too many have it.
@@ -28,20 +27,21 @@ impl Word {
         Arc::try_clone(&self.0).ok().map(Word)
     }
 
-    /// Gives it: go, or else stop.
-    pub(crate) fn give(&self, go: bool) {
-        self.0.store(if go { GO } else { STOP }, Ordering::SeqCst);
+    /// Gives it: go, or else stop. What was given before stays.
+    pub(crate) fn give<R: Wait>(&self, rt: &R, go: bool) {
+        let _ = self.0.set(rt, go);
     }
 
-    /// Waits until it is given, and says whether it is go.
-    pub(crate) fn wait<R: Wait>(&self, rt: &R) -> bool {
+    /// Waits until it is given, and shows that it is go, where it is.
+    pub(crate) fn wait<R: Wait>(&self, rt: &R) -> Option<Go<'_>> {
+        let word: &OnceLock<bool> = &self.0;
         let backoff = Backoff::new();
         for _ in rt.forever() {
-            match self.0.load(Ordering::SeqCst) {
-                GO => return true,
-                STOP => return false,
-                _ => backoff.snooze(),
+            if let Some(token) = word.witness() {
+                let go = *word.value(&token);
+                return if go { Some(Go { token }) } else { None };
             }
+            backoff.snooze();
         }
         unreachable!()
     }

@@ -2,6 +2,7 @@
 ghost use Rattle.std.specs.Prelude.{◌≡◌, ◌≤◌, length, map, IfOk};
 
 use crate::job::Job;
+use crate::word::Go;
 use std::alloc::{AllocError, Global};
 use std::sync::Wait;
 use xa_worker::{DoneWorker, Pace, Worker};
@@ -20,7 +21,7 @@ impl<P: Pace + Drop> Job<DoneWorker> for WorkerJob<P> {
 
     ghost comes_to = { λ s done. HasServed s.worker done };
 
-    fn run<R: Wait>(self, rt: &R) -> DoneWorker {
+    fn run<R: Wait>(self, rt: &R, _go: &Go<'_>) -> DoneWorker {
         let WorkerJob { worker, mut pace } = self;
         worker.run(rt, &mut pace)
     }

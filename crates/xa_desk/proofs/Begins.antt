@@ -6,6 +6,7 @@ use Rattle.xa_words.specs.declared.request.Request.{Request}
 use Rattle.xa_words.specs.declared.request.Completion.{Completion}
 use Rattle.xa_lane.specs.Ends.{Sending, Receiving}
 use Rattle.xa_desk.specs.declared.operation.Operation.{Operation}
+use Rattle.xa_desk.specs.declared.event.Event.{Event}
 use Rattle.xa_desk.specs.declared.slot.Slot.{Slot}
 use Rattle.xa_desk.specs.LedgerView.{LedgerView}
 use Rattle.xa_desk.specs.DeskView.{DeskView}
@@ -33,18 +34,19 @@ module _ (plan : ℕ) (at : List LedgerView) (use_async : List Bool) (new : at �
   planned_from = ap planned_total new ∙ planned-new plan use_async
 
 -- what contracts see of such a book
-module _ (t h plan : ℕ) (at : List LedgerView) (table : List (Option Operation)) (drained : List Completion) (requests : List (Sending Request)) (r : Receiving Completion) where
+module _ (t h plan : ℕ) (at : List LedgerView) (events : List Event) (table : List (Option Operation)) (drained : List Completion) (requests : List (Sending Request)) (r : Receiving Completion) where
   abbrev pub begun : DeskView
-  begun = record { thread = t; handles = h; ledgers = at; kept = kept_of table; drained = drained; drained_then = 0; requests = requests; completions = r }
+  begun = record { thread = t; handles = h; ledgers = at; events = events; kept = kept_of table; drained = drained; drained_then = 0; requests = requests; completions = r }
 
   abbrev pub made_with : PartsView
   made_with = record { thread = t; handles = h; plan = plan; use_async = carried at }
 
-  pub begun-new : at ≡ new_ledgers plan (carried at) → table ≡ replicate h None → drained ≡ [] → begun ≡ new_desk made_with requests r
-  begun-new new empty none = λ i. record {
+  pub begun-new : at ≡ new_ledgers plan (carried at) → events ≡ [] → table ≡ replicate h None → drained ≡ [] → begun ≡ new_desk made_with requests r
+  begun-new new nothing empty none = λ i. record {
     thread = t;
     handles = h;
     ledgers = new i;
+    events = nothing i;
     kept = (ap kept_of empty ∙ kept_of-replicate h) i;
     drained = none i;
     drained_then = 0;

@@ -16,7 +16,7 @@ use Rattle.xa_lane.specs.Seats.{EndSeat, end_seat}
 use Rattle.xa_lane.proofs.Senders.{map-at_place, map-alike}
 use Rattle.xa_desk.specs.declared.operation.Operation.{Operation}
 use Rattle.xa_desk.specs.LedgerView.{LedgerView, with_sent, with_collected}
-use Rattle.xa_desk.specs.DeskView.{DeskView, ledger, no_ledger, put_ledger, after_collected}
+use Rattle.xa_desk.specs.DeskView.{DeskView, ledger, no_ledger, put_ledger, completed}
 use Rattle.xa_desk.specs.Ended.{EndedView, Ends}
 use Rattle.xa_desk.specs.Lanes.{next_request, submitted, after_full, after_fulls}
 use Rattle.xa_desk.specs.Looks.{Drains, first, other, Draws, Pops, start, drawn, Looks, EndsQuiet, Collects, CollectsKept, CollectsLeast, TakesKept}
@@ -157,7 +157,7 @@ goes_quiet old new q = goes_further old q.before new (goes_looking old q.before 
 
 -- ---- collecting and keeping
 
-goes_collected : (d : DeskView) (o : Operation) (code : Code) (kept : finmap.FinMap nat_cmp Operation) → GoesOn d (record d { ledgers = after_collected d.ledgers o code; kept = kept })
+goes_collected : (d : DeskView) (o : Operation) (code : Code) (kept : finmap.FinMap nat_cmp Operation) → GoesOn d (record (completed d o code) { kept = kept })
 goes_collected d o code kept = record {
   seat = refl;
   handles = refl;

@@ -7,7 +7,7 @@ use Rattle.xa_lane.specs.declared.parcel.Taken.{Taken}
 use Rattle.xa_lane.specs.declared.parcel.Taken.TheVariants.{Item, EndOf, Empty}
 use Rattle.xa_lane.specs.Ends.{Receiving, Took}
 use Rattle.xa_desk.specs.declared.operation.Operation.{Operation}
-use Rattle.xa_desk.specs.DeskView.{DeskView, TicketView, IsOut, IsLoose, Owns, opening_of, ready_at, ready_with, after_collected, outstanding, drained_code}
+use Rattle.xa_desk.specs.DeskView.{DeskView, TicketView, IsOut, IsLoose, Owns, opening_of, ready_at, ready_with, completed, outstanding, drained_code}
 use Rattle.xa_desk.specs.Lanes.{IsDesk}
 use Rattle.xa_desk.specs.Looks.{Drains, first, other, Draws, Pops, start, drawn, Looks, EndsQuiet, Collects, CollectsKept, CollectsLeast, TakesKept}
 use Rattle.xa_desk.proofs.Ties.{tied_looks, tied_collected}
@@ -85,7 +85,7 @@ looks_outstanding a b l = ap (λ (x : DeskView). outstanding x.ledgers) l.rest
 pub collects_chain : (a b c : DeskView) (o : Operation) (code : Code) → Looks a b → Collects b c o code → Collects a c o code
 collects_chain a b c o code l x = record { before = x.before; looks = looks_chain a b x.before l x.looks; out = x.out; drained = x.drained; collected = x.collected; fewer = x.fewer ∙ looks_outstanding a b l }
 
-pub collects_from : (old now new : DeskView) (o : Operation) (r : Option Code) → Looks old now → IsOut now.ledgers o → r ≡ drained_code o now.drained → IfSome r (λ code. new ≡ record now { ledgers = after_collected now.ledgers o code }) → OnSome r (outstanding new.ledgers + 1 ≡ outstanding now.ledgers) → IfSome r (Collects old new o)
+pub collects_from : (old now new : DeskView) (o : Operation) (r : Option Code) → Looks old now → IsOut now.ledgers o → r ≡ drained_code o now.drained → IfSome r (λ code. new ≡ completed now o code) → OnSome r (outstanding new.ledgers + 1 ≡ outstanding now.ledgers) → IfSome r (Collects old new o)
 collects_from old now new o None l out e h f = tt
 collects_from old now new o (Some code) l out e h f = record { before = now; looks = l; out = out; drained = sym e; collected = h; fewer = f ∙ looks_outstanding old now l }
 

@@ -12,6 +12,7 @@ desk_of b = record {
   thread = b.thread;
   handles = b.handles;
   ledgers = b.ledgers.items;
+  events = logged b.events.items;
   kept = kept_of b.kept.items;
   drained = logged b.drained.items;
   drained_then = b.drained_then;

@@ -1,6 +1,6 @@
 -- What contracts see of a desk, and the words for what stands in it.
 use Rattle.std.specs.Prelude.{◌≡◌, ◌≢◌, not, ℕ, ◌-◌, ◌<◌, ◌≤◌, nat_lt, nat_le, Bool, false, ◌&&◌, ◌||◌, ◌==◌, is_some}
-use Rattle.std.specs.Prelude.{if◌then◌else◌, List, [], ◌∷◌, length, Option, Some, None, IsSome, slice_index_or}
+use Rattle.std.specs.Prelude.{if◌then◌else◌, List, [], ◌∷◌, ◌++◌, length, Option, Some, None, IsSome, slice_index_or}
 use Rattle.std.specs.Prelude.{slice_set, true, refl}
 use Rattle.std.specs.List.{sum_by}
 use Rattle.std.specs.Option.{option_or}
@@ -14,18 +14,22 @@ use Rattle.xa_words.specs.declared.request.Request.{Request}
 use Rattle.xa_words.specs.declared.request.Completion.{Completion}
 use Rattle.xa_lane.specs.Ends.{Sending, Receiving}
 use Rattle.xa_desk.specs.declared.operation.Operation.{Operation}
+use Rattle.xa_desk.specs.declared.event.Event.{Event}
+use Rattle.xa_desk.specs.declared.event.Event.TheVariants.{Collected}
 use Rattle.xa_desk.specs.LedgerView.{LedgerView, new_ledger, learnt_shut, is_collected, with_sent, with_collected}
 use Rattle.xa_desk.specs.declared.refused.Refused.{Refused}
 use Rattle.xa_desk.specs.declared.refused.Refused.TheVariants.{NoSuchManager, Shut, TooMany, Spent}
 
--- the thread, how many handles it has, its ledger with each manager, which operation is kept under which number, the
--- completions that were the first for an outstanding operation as they were taken, how many of them there were at the
--- last quiet moment; its ends of the lanes to the managers, that to manager m at place m - 1; and its end of the lane
--- that completions come by, which counts the quiet moments
+-- the thread, how many handles it has, its ledger with each manager, what was sent and collected in its order over all
+-- managers, which operation is kept under which number, the completions that were the first for an outstanding
+-- operation as they were taken, how many of them there were at the last quiet moment; its ends of the lanes to the
+-- managers, that to manager m at place m - 1; and its end of the lane that completions come by, which counts the quiet
+-- moments
 pub record DeskView : Type 0 where
   pub thread : ℕ
   pub handles : ℕ
   pub ledgers : List LedgerView
+  pub events : List Event
   pub kept : finmap.FinMap nat_cmp Operation
   pub drained : List Completion
   pub drained_then : ℕ
@@ -92,6 +96,11 @@ after_sent at m op = put_ledger at m (with_sent (ledger at m) op)
 -- the operation was collected with this code
 abbrev pub after_collected : List LedgerView → Operation → Code → List LedgerView
 after_collected at o code = put_ledger at o.manager (with_collected (ledger at o.manager) o.number code)
+
+-- the operation was completed with this code
+abbrev pub completed : DeskView → Operation → Code → DeskView
+completed d o code =
+    record d { ledgers = after_collected d.ledgers o code; events = d.events ++ Collected o ∷ [] }
 
 -- the operation that the next request to the manager will be
 abbrev pub next_operation : List LedgerView → ℕ → Operation

@@ -10,7 +10,8 @@ use Rattle.xa_lane.specs.declared.parcel.Parcel.{Parcel}
 use Rattle.xa_lane.specs.Ends.{Sending, Receiving, somes}
 use Rattle.xa_lane.specs.Senders.{at_place, with_item, with_full, sent_at}
 use Rattle.xa_desk.specs.LedgerView.{LedgerView, new_ledger}
-use Rattle.xa_desk.specs.DeskView.{DeskView, IsKnown, ledger, after_sent, drained_code}
+use Rattle.xa_desk.specs.DeskView.{DeskView, IsKnown, ledger, after_sent, drained_code, next_operation}
+use Rattle.xa_desk.specs.declared.event.Event.TheVariants.{Sent}
 
 -- ---- sending
 
@@ -23,6 +24,7 @@ abbrev pub submitted : DeskView → ℕ → Op → DeskView
 submitted d m op =
     record d {
       ledgers = after_sent d.ledgers m op;
+      events = d.events ++ Sent (next_operation d.ledgers m) ∷ [];
       requests = at_place (m - 1) (with_item (next_request d m op)) d.requests;
     }
 
@@ -111,6 +113,7 @@ new_desk p requests completions = record {
   thread = p.thread;
   handles = p.handles;
   ledgers = new_ledgers p.plan p.use_async;
+  events = [];
   kept = finmap.empty;
   drained = [];
   drained_then = 0;

@@ -7,7 +7,7 @@ use Rattle.xa_lane.specs.declared.parcel.Taken.{Taken}
 use Rattle.xa_lane.specs.declared.parcel.Taken.TheVariants.{Item, EndOf, Empty}
 use Rattle.xa_lane.specs.Ends.{Took, counted}
 use Rattle.xa_desk.specs.declared.operation.Operation.{Operation}
-use Rattle.xa_desk.specs.DeskView.{DeskView, IsOut, IsLeast, operation_of, after_collected, drained_code, outstanding}
+use Rattle.xa_desk.specs.DeskView.{DeskView, IsOut, IsLeast, operation_of, completed, drained_code, outstanding}
 use Rattle.xa_desk.specs.DeskView.{ready_at}
 
 -- a completion that was taken is drained where it is the first for an outstanding operation, and else changes nothing
@@ -67,7 +67,7 @@ pub record Collects (old new : DeskView) (o : Operation) (code : Code) : Type 0 
   pub looks : Looks old before
   pub out : IsOut before.ledgers o
   pub drained : drained_code o before.drained ≡ Some code
-  pub collected : new ≡ record before { ledgers = after_collected before.ledgers o code }
+  pub collected : new ≡ completed before o code
   pub fewer : outstanding new.ledgers + 1 ≡ outstanding old.ledgers
 
 -- the drained completion of the operation that was kept under the number was collected, and the number is free
@@ -76,8 +76,7 @@ pub record TakesKept (old new : DeskView) (number : ℕ) (code : Code) : Type 0 
   pub kept : finmap.get old.kept number ≡ Some operation
   pub out : IsOut old.ledgers operation
   pub drained : drained_code operation old.drained ≡ Some code
-  pub taken : new
-      ≡ record old { ledgers = after_collected old.ledgers operation code; kept = finmap.remove old.kept number }
+  pub taken : new ≡ record (completed old operation code) { kept = finmap.remove old.kept number }
   pub fewer : outstanding new.ledgers + 1 ≡ outstanding old.ledgers
 
 -- the same after some takes

@@ -88,7 +88,7 @@ pub record AreKeys (at : List LedgerView) (rows : List KeysView) (s : Slab Slot)
   pub told : AreTold rows s
 
 -- the completions that a log has, in order
-abbrev pub logged : List (Completion × Unit {0}) → List Completion
+abbrev pub logged : {A : Type 0} → List (A × Unit {0}) → List A
 logged entries = map (λ p. p.0) entries
 
 -- 1 for a slot whose completion was drained

@@ -1,12 +1,12 @@
 -- How a waiting call waits, and where it idles.
-use Rattle.std.specs.Prelude.{◌≡◌, ℕ, zero, suc, List, [], ◌∷◌}
+use Rattle.std.specs.Prelude.{◌≡◌, ℕ, zero, suc, false, None, List, [], ◌∷◌}
 use Rattle.xa_words.specs.declared.code.Code.{Code}
 use Rattle.xa_words.specs.declared.request.Op.{Op}
 use Rattle.xa_words.specs.declared.request.Request.{Request}
 use Rattle.xa_lane.specs.Ends.{Sending, counted}
 use Rattle.xa_lane.specs.Senders.{with_full}
 use Rattle.xa_desk.specs.declared.operation.Operation.{Operation}
-use Rattle.xa_desk.specs.DeskView.{DeskView, next_operation}
+use Rattle.xa_desk.specs.DeskView.{DeskView, next_operation, drained_code, ready_at}
 use Rattle.xa_desk.specs.Lanes.{submitted, after_fulls}
 use Rattle.xa_desk.specs.Looks.{LooksOnce, Collects, CollectsLeast}
 
@@ -18,24 +18,33 @@ module _ {I : Type 0} where
 
 -- ---- waiting for a completion
 
-module _ {I : Type 0} (by : I → I → Type 0) where
-  -- looks, each up to its one quiet moment, and an idle after each
+-- the operation's completion wasn't drained
+abbrev pub IsMissing : Operation → DeskView → Type 0
+IsMissing o d = drained_code o d.drained ≡ None
+
+-- nothing of manager m is ready, nor of any manager where m is 0
+abbrev pub NothingIsReady : ℕ → DeskView → Type 0
+NothingIsReady m d = (k : ℕ) → ready_at d m k ≡ false
+
+module _ {I : Type 0} (missing : DeskView → Type 0) (by : I → I → Type 0) where
+  -- looks, each up to its one quiet moment, at which what is waited for was missing, and an idle after each
   pub data Waits (old : DeskView) (before : I) : DeskView → I → Type 0 where
     begins : (new : DeskView) (after : I) → new ≡ old → after ≡ before → Waits old before new after
-    idles : (now new : DeskView) (mid after : I) → Waits old before now mid → LooksOnce now new → by mid after
-        → Waits old before new after
+    idles : (now new : DeskView) (mid after : I) → Waits old before now mid → LooksOnce now new → missing new
+        → by mid after → Waits old before new after
 
+module _ {I : Type 0} (by : I → I → Type 0) where
   -- and a look without a quiet moment, before the drained completion of the operation was collected
   pub record WaitsFor (old new : DeskView) (before after : I) (o : Operation) (code : Code) : Type 0 where
     pub now : DeskView
-    pub waits : Waits old before now after
+    pub waits : Waits (IsMissing o) by old before now after
     pub found : new.completions.quiet ≡ now.completions.quiet
     pub collects : Collects now new o code
 
   -- and one more look, before the least ready number of m was collected
   pub record WaitsForAny (old new : DeskView) (before after : I) (m number : ℕ) (code : Code) : Type 0 where
     pub now : DeskView
-    pub waits : Waits old before now after
+    pub waits : Waits (NothingIsReady m) by old before now after
     pub once : new.completions.quiet ≡ counted now.completions.quiet
     pub collects : CollectsLeast now new m number code
 

@@ -1,10 +1,11 @@
 //! What a desk knows, and its ends of lanes.
 ghost use Rattle.std.specs.Prelude.{◌≡◌, ℕ, ◌+◌, ◌-◌, ◌<◌, ◌≤◌, ◌↔◌, length, IfSome, IfNone, OnSome, IsTrue, None};
-ghost use Rattle.std.specs.Prelude.{is_some, ◌&&◌, false};
+ghost use Rattle.std.specs.Prelude.{is_some, ◌&&◌, false, [], ◌∷◌, ◌++◌};
+ghost use Rattle.xa_desk.specs.declared.event.Event.TheVariants.{Sent};
 ghost use Rattle.std.specs.FinMap as map;
 ghost use Rattle.xa_desk.specs.LedgerView.{learnt_shut};
 ghost use Rattle.xa_desk.specs.DeskView.{IsKnown, IsOut, IsLoose, IsHandle, IsLeastFree, ledger, after_sent};
-ghost use Rattle.xa_desk.specs.DeskView.{after_collected, opening_of, outstanding, drained_code, room_at, is_known};
+ghost use Rattle.xa_desk.specs.DeskView.{completed, opening_of, outstanding, drained_code, room_at, is_known};
 ghost use Rattle.xa_desk.specs.DeskView.{next_operation};
 ghost use Rattle.xa_desk.specs.Ended.{AreBalanced};
 ghost use Rattle.xa_desk.specs.Lanes.{new_desk};
@@ -12,6 +13,7 @@ ghost use Rattle.xa_desk.specs.Looks.{Drains};
 
 mod lanes;
 
+use crate::event::Event;
 use crate::keys::Keys;
 use crate::ledger::Ledger;
 use crate::operation::Operation;
@@ -33,6 +35,8 @@ pub(crate) struct Book {
     pub(crate) thread: u32,
     pub(crate) handles: u32,
     pub(crate) ledgers: Vec<Ledger>,
+    // What was sent and collected. It has no bytes: only proofs read it.
+    pub(crate) events: Log<Event, ()>,
     pub(crate) slots: Slab<Slot>,
     pub(crate) rows: Vec<Keys>,
     pub(crate) kept: Vec<Option<Operation>>,
@@ -82,6 +86,7 @@ impl Book {
             thread,
             handles,
             ledgers,
+            events: Log::new(),
             slots,
             rows,
             kept,
@@ -100,7 +105,10 @@ impl Book {
         requires room { length (ledger self.old.ledgers manager).sent < (ledger self.old.ledgers manager).plan }
         requires slot { outstanding self.old.ledgers ≤ self.old.handles }
         ensures named { result ≡ next_operation self.old.ledgers manager }
-        ensures sent { self.new ≡ record self.old { ledgers = after_sent self.old.ledgers manager op.now } }
+        ensures sent { self.new ≡ record self.old {
+          ledgers = after_sent self.old.ledgers manager op.now;
+          events = self.old.events ++ Sent (next_operation self.old.ledgers manager) ∷ [];
+        } }
         ensures more { outstanding self.new.ledgers ≡ outstanding self.old.ledgers + 1 }
         ensures out { IsOut self.new.ledgers result }
         ensures loose { IsLoose self.new result }
@@ -116,6 +124,7 @@ impl Book {
         });
         let row = &mut self.rows[manager as usize - 1];
         row.enter(key);
+        self.events = self.events.and(&Event::Sent(operation), &());
         operation
     }
 
@@ -139,10 +148,7 @@ impl Book {
         requires out { IsOut self.old.ledgers operation }
         requires loose { IsLoose self.old operation }
         ensures code { result ≡ drained_code operation self.old.drained }
-        ensures ready { IfSome result (λ code. self.new ≡ record self.old {
-          ledgers =
-              after_collected self.old.ledgers operation code;
-        }) }
+        ensures ready { IfSome result (λ code. self.new ≡ completed self.old operation code) }
         ensures fewer { OnSome result (outstanding self.new.ledgers + 1 ≡ outstanding self.old.ledgers) }
         ensures waiting { IfNone result (self.new ≡ self.old) }
     {
@@ -155,6 +161,7 @@ impl Book {
         self.slots.remove(key);
         let ledger = &mut self.ledgers[operation.manager as usize - 1];
         ledger.push_collected(operation.number, code);
+        self.events = self.events.and(&Event::Collected(operation), &());
         Some(code)
     }
 

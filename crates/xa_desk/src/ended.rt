@@ -130,6 +130,7 @@ pub(crate) fn end<R: Wait, I: Idle>(rt: &R, book: Book, idle: &mut I) -> EndedDe
         thread,
         handles: _,
         ledgers,
+        events: _,
         slots: _,
         rows: _,
         kept: _,

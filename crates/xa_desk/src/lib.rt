@@ -9,6 +9,7 @@
 mod book;
 mod desk;
 mod ended;
+mod event;
 mod idle;
 mod kept;
 mod keys;

@@ -11,7 +11,7 @@ use Rattle.xa_base.proofs.Truth.{at_true, at_false}
 use Rattle.xa_words.specs.Xid.{XidName}
 use Rattle.xa_desk.specs.LedgerView.{LedgerView}
 use Rattle.xa_desk.specs.DeskView.{ledger, room_at}
-use Rattle.xa_switch.specs.Scans.{ScanView, left_at}
+use Rattle.xa_switch.specs.Scans.{Asking, ScanView, left_at}
 use Rattle.xa_driver.specs.declared.resolved.Outcome.{Outcome}
 use Rattle.xa_driver.specs.Log.{Records}
 use Rattle.xa_driver.specs.Resolving.{AsksLedger, ResolvesThese, ResolvesAt, requests_for, left_in}
@@ -27,9 +27,9 @@ pub left_few : (xs : List XidName) (n : ℕ) → requests_for xs ≤ n → lengt
 left_few [] n few = omega arith
 left_few (x ∷ xs) n few = omega (arith, few)
 
-pub resolves_there : (records : Records) (m : ℕ) (xs : List XidName) (os : List Outcome) (a a' : LedgerView) → length xs ≢ 0 → ResolvesThese AsksLedger records m xs os a a' → ResolvesAt AsksLedger records m xs os a a'
-resolves_there records m [] os a a' some is = absurd (some refl)
-resolves_there records m (x ∷ xs) os a a' some is = is
+pub resolves_there : {D : Type 0} (asking : Asking D) (records : Records) (m : ℕ) (xs : List XidName) (os : List Outcome) (a a' : D) → length xs ≢ 0 → ResolvesThese asking records m xs os a a' → ResolvesAt asking records m xs os a a'
+resolves_there asking records m [] os a a' some is = absurd (some refl)
+resolves_there asking records m (x ∷ xs) os a a' some is = is
 
 -- ---- managers one after another
 

@@ -20,6 +20,7 @@ pub mod Kept
 pub mod Staying
 pub mod Stepping
 pub mod Leaving
+pub mod Ordering
 pub mod Alone
 pub mod EachLeft
 pub mod Requests
@@ -45,3 +46,6 @@ pub mod Between
 pub mod Scanned
 pub mod NextOpening
 pub mod OutcomeFates
+pub mod Idling
+pub mod InTurn
+pub mod Passing

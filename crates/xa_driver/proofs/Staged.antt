@@ -27,7 +27,7 @@ use Rattle.xa_driver.specs.Endings.{second_op, third_op, ending_of}
 use Rattle.xa_driver.specs.Log.{LogState, record_of}
 use Rattle.xa_driver.specs.Rounds.{code_of, ending_of_ask, first_ask, second_ask, third_ask, yes_asked}
 use Rattle.xa_driver.specs.Stages.{HasDecided, HasForgotten, HasPrepared, HasTold, IsForgetting, IsPreparing, IsTelling, MayForget, MayTell}
-use Rattle.xa_driver.specs.Trace.{EachBranch, IsTraceOfCommit, IsTranOf, Logs, MayCommit, decision_of}
+use Rattle.xa_driver.specs.Trace.{AppendsOnce, EachBranch, IsTraceOfCommit, IsTranOf, Logs, MayCommit, decision_of}
 use Rattle.xa_driver.specs.UnderWay.{IsAtRest, MayAsk}
 use Rattle.xa_driver.proofs.Calls.{answered_some, asks_long, call_by, last_can, next_can, same_long, second_code, seconds_long, yes_is}
 use Rattle.xa_driver.proofs.CutVotes.{Ended, did_nothing}
@@ -55,6 +55,17 @@ module _ (bs : List Branch) (old mid late new : List LedgerView) (log later : Lo
       call_by done bs firsts seconds last.thirds old mid late new log later p.tran first.same first.asked (subst (λ c. SameAsks (map (second_ask c) firsts) seconds) commit_is seconds_are) third.asked last.same last.asked
       (ap (λ k. k.votes.items) last.known ∙ ap (λ v. v.items) third.votes ∙ ap (λ v. v.items) second.votes ∙ first.votes) (ap (λ k. k.endings.items) last.known ∙ third.endings ∙ ap (λ c. map (ending_of_ask c) seconds) commit_is)
       (sym commit_is ∙ second.decision ∙ (λ i. decision_of (first.votes i) (logged_is i))) (subst (λ g. Logs p.tran (yes_asked firsts) (map code_of firsts) g log later) logged_is (subst (λ vs. Logs p.tran (yes_asked firsts) vs d.known.logged log later) first.votes second.logs))
+
+  -- and ask the log for one append
+  pub asks_log : {L : Type 0} (appends : TranName → List Bool → Bool → L → L → Type 0) (x y : L) (done : Done) → HasForgotten t late new done → AppendsOnce appends p.tran (yes_asked firsts) p.known.votes.items d.known.logged x y
+      → AppendsOnce appends p.tran (yes_of bs done.votes.items) done.votes.items done.logged x y
+  asks_log appends x y done last asks =
+      let logged_is : d.known.logged ≡ done.logged = sym (ap (λ k. k.logged) last.known ∙ third.logged) in
+      let votes_are : p.known.votes.items ≡ done.votes.items = sym (ap (λ k. k.votes.items) last.known ∙ ap (λ v. v.items) third.votes ∙ ap (λ v. v.items) second.votes) in
+      let yes_are : yes_asked firsts ≡ yes_of bs done.votes.items = yes_is bs firsts first.same ∙ ap (yes_of bs) (sym first.votes ∙ votes_are) in
+      subst (λ yes. AppendsOnce appends p.tran yes done.votes.items done.logged x y) yes_are
+      (subst (λ votes. AppendsOnce appends p.tran (yes_asked firsts) votes done.logged x y) votes_are
+      (subst (λ logged. AppendsOnce appends p.tran (yes_asked firsts) p.known.votes.items logged x y) logged_is asks))
 
 -- ---- when the next may be done, with nothing in between
 

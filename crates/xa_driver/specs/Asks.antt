@@ -1,13 +1,14 @@
 -- What requests to several managers add to a desk's lists.
 use Rattle.std.specs.Prelude.{◌≡◌, ℕ, ◌<◌, ◌≤◌, Bool, true, false, ◌==◌, if◌then◌else◌, Option, None, Some, List}
 use Rattle.std.specs.Prelude.{[]}
-use Rattle.std.specs.Prelude.{◌∷◌, length}
+use Rattle.std.specs.Prelude.{◌∷◌, ◌++◌, length}
 use Rattle.std.specs.List.{All, list_any}
 use Rattle.std.specs.FinMap as map
 use Rattle.xa_words.specs.declared.code.Code.{Code}
 use Rattle.xa_words.specs.declared.code.Code.TheVariants.{RmFail}
 use Rattle.xa_words.specs.declared.request.Op.{Op}
 use Rattle.xa_desk.specs.LedgerView.{LedgerView, learnt_shut, with_sent, with_collected}
+use Rattle.xa_desk.specs.declared.event.Event.TheVariants.{Sent}
 use Rattle.xa_desk.specs.declared.operation.Operation.{Operation}
 use Rattle.xa_desk.specs.DeskView.{DeskView, TicketView, IsKnown, IsOut, Owns, ledger, after_sent, next_operation}
 use Rattle.xa_desk.specs.DeskView.{outstanding, ticket_of}
@@ -105,6 +106,7 @@ pub record IsSending (k : Ask) (old new : DeskView) (t : TicketView) : Type 0 wh
   pub ticket : t ≡ ticket_of old (next_operation old.ledgers k.manager)
   pub owned : Owns new t
   pub sent : new.ledgers ≡ after_sent old.ledgers k.manager op
+  pub event : new.events ≡ old.events ++ Sent (next_operation old.ledgers k.manager) ∷ []
   pub keeps : KeepsDesk old new
 
 -- what sending a request does: nothing, and no ticket, or it is sent

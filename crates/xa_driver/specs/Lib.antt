@@ -8,7 +8,10 @@ pub mod Trace
 pub mod Cut
 pub mod UnderWay
 pub mod Stages
+pub mod Order
 pub mod Resolving
+pub mod Idling
+pub mod Steps
 pub mod Commits
 pub mod Tabled
 pub mod Outcomes

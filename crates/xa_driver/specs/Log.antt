@@ -1,5 +1,6 @@
 -- The decision log: a finite map. A transaction that isn't there is presumed aborted.
-use Rattle.std.specs.Prelude.{ℕ, ◌+◌, ◌-◌, ◌^◌, nat_lt, if◌then◌else◌, Bool, Option, List, refl}
+use Rattle.std.specs.Prelude.{◌≡◌, ◌≢◌, ℕ, ◌+◌, ◌-◌, ◌%◌, ◌^◌, ◌<◌, ◌≤◌, nat_lt, if◌then◌else◌, Bool, true, false}
+use Rattle.std.specs.Prelude.{Option, List, [], ◌∷◌, refl}
 use Rattle.std.specs.List.{flat_map}
 use Rattle.std.specs.FinMap.{FinMap}
 use Rattle.std.specs.FinMap as map
@@ -19,7 +20,7 @@ record_in records t = map.get records t
 abbrev pub all_records : List Records → Records
 all_records logs = map.from_entries (flat_map map.entries logs)
 
--- what contracts see of a log: its records, and how many appends failed
+-- what contracts see of a log: its records, and how many appends failed, counted from 0 again after u64::MAX
 pub record LogState : Type 0 where
   pub records : Records
   pub failures : ℕ
@@ -40,21 +41,42 @@ with_record log t managers = record log { records = map.insert log.records t man
 abbrev pub counted : ℕ → ℕ
 counted n = if nat_lt n (2 ^ 64 - 1) then n + 1 else n
 
--- one more failure
+-- one more failure; there is no count at which it can't be told
 abbrev pub with_failure : LogState → LogState
-with_failure log = record log { failures = counted log.failures }
+with_failure log = record log { failures = (log.failures + 1) % 2 ^ 64 }
 
--- a log in memory: its state, how many appends there were, and which one fails
+-- a log in memory: its state, how many appends there were, which one fails, and for how many more records it has room
 pub record LogView : Type 0 where
   pub state : LogState
   pub appends : ℕ
   pub failing : ℕ
+  pub room : ℕ
+
+-- the room that a map with these entries has by its spare places; of a map without entries none is known
+abbrev pub room_in : {E : Type 0} → List E → ℕ → ℕ
+room_in [] spare = 0
+room_in (e ∷ es) spare = spare
+
+-- What an append to a log in memory does, and whether that takes the record. The append that is to fail does, and
+-- nothing else changes; another one fails only where the log has no room.
+pub record AppendsTo (tran : TranName) (yes : List Bool) (taken : Bool) (old new : LogView) : Type 0 where
+  pub state : new.state ≡ (if taken then with_record old.state tran yes else with_failure old.state)
+  pub appends : new.appends ≡ counted old.appends
+  pub failing : new.failing ≡ old.failing
+  pub injected : counted old.appends ≡ old.failing → (taken ≡ false) × (new.room ≡ old.room)
+  pub fits : 0 < old.room → counted old.appends ≢ old.failing → taken ≡ true
+  pub room : taken ≡ true → old.room ≤ new.room + 1
 
 -- a log in memory as data
 abbrev pub log_code : Coded LogView
 log_code =
-    code_by (Records × (ℕ × (ℕ × ℕ)))
-    (coded× (map.code tran_code (coded_list coded_bool)) (coded× coded_ℕ (coded× coded_ℕ coded_ℕ)))
-    (λ l. (l.state.records, (l.state.failures, (l.appends, l.failing))))
-    (λ p. record { state = record { records = p.0; failures = p.1.0 }; appends = p.1.1.0; failing = p.1.1.1 })
+    code_by (Records × (ℕ × (ℕ × (ℕ × ℕ))))
+    (coded× (map.code tran_code (coded_list coded_bool)) (coded× coded_ℕ (coded× coded_ℕ (coded× coded_ℕ coded_ℕ))))
+    (λ l. (l.state.records, (l.state.failures, (l.appends, (l.failing, l.room)))))
+    (λ p. record {
+      state = record { records = p.0; failures = p.1.0 };
+      appends = p.1.1.0;
+      failing = p.1.1.1.0;
+      room = p.1.1.1.1;
+    })
     (λ _. refl)

@@ -1,6 +1,6 @@
 -- How what a reopening found left is resolved, by the records of it.
 use Rattle.std.specs.Prelude.{◌≡◌, ◌≢◌, ℕ, ◌+◌, ◌-◌, ◌*◌, ◌<◌, ◌≤◌, Bool, true, false, if◌then◌else◌, Option, None}
-use Rattle.std.specs.Prelude.{Some, List, [], ◌∷◌}
+use Rattle.std.specs.Prelude.{Some, List, [], ◌∷◌, ◌++◌}
 use Rattle.std.specs.Prelude.{length, map, slice_index_or}
 use Rattle.std.specs.List.{flat_map, range_with_len, sum_by}
 use Rattle.xa_base.specs.declared.limits.TheConstants.{MOST_MANAGERS}
@@ -13,7 +13,9 @@ use Rattle.xa_words.specs.declared.request.Op.TheVariants.{OpenRm, Commit, Rollb
 use Rattle.xa_desk.specs.LedgerView.{LedgerView}
 use Rattle.xa_desk.specs.DeskView.{DeskView, room_at, ledger, outstanding}
 use Rattle.xa_desk.specs.Kept.{AllKept}
-use Rattle.xa_switch.specs.Scans.{Asking, ScanView, left_at}
+use Rattle.xa_desk.specs.Waits.{SendsAndWaits}
+use Rattle.xa_switch.specs.Putting.{put_refusal}
+use Rattle.xa_switch.specs.Scans.{Answers, Asking, ScanView, left_at}
 use Rattle.xa_driver.specs.declared.resolved.Outcome.{Outcome}
 use Rattle.xa_driver.specs.Log.{Records, record_in}
 use Rattle.xa_driver.specs.Asks.{AskTrace, KeepsDesk, LeavesOutstanding}
@@ -106,3 +108,22 @@ pub record IsTraceOfResolve (z : ScanView) (records : Records) (old new : List L
       → ResolvesAt AsksLedger records m (left_at z m) (at m) (ledger old m) (ledger new m)
   pub others : (m : ℕ) → MOST_MANAGERS < m → ledger new m ≡ ledger old m
   pub managers : length new ≡ length old
+
+-- ---- in which order, and what it idles for
+
+-- What it is to ask manager m over a desk and an idler: the manager answers, and each idle is one in a wait for it; or
+-- it isn't asked, and nothing idles.
+pub record AsksAndWaits {I : Type 0} (by : ℕ → I → I → Type 0) (m : ℕ) (old : DeskView × I) (op : Op)
+    (new : DeskView × I) (code : Code) : Type 0 where
+  pub answers : Answers m old.0 op new.0 code
+  pub waits : put_refusal old.0 m false ≡ None → SendsAndWaits (by m) old.0 new.0 old.1 new.1 m op code
+  pub stays : put_refusal old.0 m false ≡ Some code → new.1 ≡ old.1
+
+-- Managers 1 to n were resolved by rising number, each once the one before it had answered all that it was asked.
+pub data ResolvesInTurn {D : Type 0} (asking : ℕ → Asking D) (records : Records) (z : ScanView) (old : D)
+    : ℕ → List Outcome → D → Type 0 where
+  begun : (outcomes : List Outcome) (new : D) → outcomes ≡ [] → new ≡ old
+      → ResolvesInTurn asking records z old 0 outcomes new
+  next : (n m : ℕ) (xs more all : List Outcome) (d e : D) → ResolvesInTurn asking records z old n xs d → m ≡ n + 1
+      → ResolvesAt (asking m) records m (left_at z m) more d e → all ≡ xs ++ more
+      → ResolvesInTurn asking records z old m all e

@@ -89,6 +89,13 @@ pub data Logs (tran : TranName) (yes : List Bool) (votes : List Code) (logged : 
   failed : wants_record votes ≡ true → logged ≡ false → new ≡ with_failure old → Logs tran yes votes logged old new
   unwanted : wants_record votes ≡ false → logged ≡ false → new ≡ old → Logs tran yes votes logged old new
 
+-- What a decision does to the log itself, by what an append does to one: where the votes want a record it is appended
+-- once, and `logged` tells whether the log took it; else the log is as it was.
+pub record AppendsOnce {L : Type 0} (appends : TranName → List Bool → Bool → L → L → Type 0) (tran : TranName)
+    (yes : List Bool) (votes : List Code) (logged : Bool) (old new : L) : Type 0 where
+  pub once : wants_record votes ≡ true → appends tran yes logged old new
+  pub never : wants_record votes ≡ false → new ≡ old
+
 -- the votes decide commit, and no append failed
 abbrev pub decision_of : List Code → Bool → Bool
 decision_of votes logged = decides_commit votes && (not (has_yes votes) || logged)

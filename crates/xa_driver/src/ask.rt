@@ -1,9 +1,13 @@
 //! Requests to several managers at once.
-ghost use Rattle.std.specs.Prelude.{◌≡◌, ◌<◌, true, false, IfSome, IfNone, OnSome, IsNone, IsSome};
+ghost use Rattle.std.specs.Prelude.{◌≡◌, ◌<◌, ◌++◌, ◌∷◌, [], ℕ, true, false, IfSome, IfNone, OnSome, IsNone, IsSome};
+ghost use Rattle.xa_desk.specs.declared.event.Event.TheVariants.{Sent};
 ghost use Rattle.xa_desk.specs.LedgerView.{learnt_shut};
 ghost use Rattle.xa_desk.specs.DeskView.{Owns, ledger, after_sent, next_operation, outstanding, ticket_of};
 ghost use Rattle.xa_desk.specs.GoesOn.{GoesOn};
+ghost use Rattle.xa_desk.specs.Lanes.{submitted, after_fulls};
+ghost use Rattle.xa_desk.specs.Waits.{Idles};
 ghost use Rattle.xa_driver.specs.Asks.{BeginsAsk, CanAsk, Ends, KeepsDesk, Keeps, LeavesOwned, Owning};
+ghost use Rattle.xa_driver.specs.Idling.{IdlesToCollect, IdlesToSend};
 
 use std::sync::Wait;
 use xa_desk::laws::desks_go_on;
@@ -36,7 +40,12 @@ fn submit_waiting<R: Wait, I: Idle>(
     ensures ticket { IfSome result (λ t. t ≡ ticket_of desk.old (next_operation desk.old.ledgers manager)) }
     ensures owned { IfSome result (λ t. Owns desk.new t) }
     ensures sent { OnSome result (desk.new.ledgers ≡ after_sent desk.old.ledgers manager op.now) }
+    ensures event { OnSome result (desk.new.events
+        ≡ desk.old.events ++ Sent (next_operation desk.old.ledgers manager) ∷ []) }
     ensures keeps { OnSome result (KeepsDesk desk.old desk.new) }
+    ensures waited { OnSome result ((fulls : ℕ) × ((desk.new ≡ submitted (after_fulls fulls desk.old manager) manager
+        op.now) × Idles (I.leads_by manager) fulls idle.old idle.new)) }
+    ensures idle_stays { IfNone result (idle.new ≡ idle.old) }
     ensures idled { I.leads idle.old idle.new }
 {
     if desk.learnt_shut(manager) {
@@ -68,6 +77,7 @@ pub(crate) fn begin<R: Wait, I: Idle>(
     requires can { CanAsk desk.old.ledgers ask.now.manager }
     requires free { outstanding desk.old.ledgers < desk.old.handles }
     ensures began { BeginsAsk ask.now desk.old desk.new result }
+    ensures waited { IdlesToSend I.leads_by ask.now desk.old desk.new idle.old idle.new }
     ensures idled { I.leads idle.old idle.new }
 {
     let Some(op) = &ask.op else {
@@ -87,6 +97,7 @@ pub(crate) fn end<R: Wait, I: Idle>(
     requires { Owning desk.old ticket }
     ensures ended { Ends ask.now desk.old desk.new ticket result }
     ensures others { LeavesOwned desk.old desk.new ticket }
+    ensures waited { IdlesToCollect I.leads_by ticket desk.old desk.new idle.old idle.new }
     ensures idled { I.leads idle.old idle.new }
 {
     let Some(ticket) = ticket else {

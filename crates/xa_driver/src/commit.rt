@@ -1,11 +1,14 @@
 //! A commit of several branches, in two phases.
-ghost use Rattle.std.specs.Prelude.{◌≡◌, OnErr, IfOk, OnOk};
+ghost use Rattle.std.specs.Prelude.{◌≡◌, ◌≤◌, OnErr, IfOk, OnOk, length};
 ghost use Rattle.xa_words.specs.Tran.{TranName};
 ghost use Rattle.xa_desk.specs.DeskView.{outstanding};
 ghost use Rattle.xa_desk.specs.Kept.{AllKept};
 ghost use Rattle.xa_desk.specs.Tickets.{LeavesTickets};
 ghost use Rattle.xa_driver.specs.Asks.{KeepsDesk, LeavesOutstanding};
-ghost use Rattle.xa_driver.specs.Trace.{IsCommit, IsTraceOfCommit, IsTranOf, MayCommit};
+ghost use Rattle.xa_driver.specs.Idling.{IdlesAt};
+ghost use Rattle.xa_driver.specs.Decision.{yes_of};
+ghost use Rattle.xa_driver.specs.Order.{IsThreeRounds};
+ghost use Rattle.xa_driver.specs.Trace.{AppendsOnce, IsCommit, IsTraceOfCommit, IsTranOf, MayCommit, has_branch_at};
 
 use crate::branch::Branch;
 use crate::done::{Done, DriverFault};
@@ -13,6 +16,7 @@ use crate::log::DecisionLog;
 use crate::stages::prepare_all;
 use std::alloc::Global;
 use std::sync::Wait;
+use xa_base::MOST_MANAGERS;
 use xa_desk::{Desk, Idle};
 
 /// Commits the branches of a global transaction in two phases, by presumed abort (Mohan, Lindsay and
@@ -40,6 +44,16 @@ pub fn commit_all<R: Wait, L: DecisionLog, I: Idle>(
         (L.state log.new) d) }
     ensures made { IfOk result (IsCommit branches.now desk.old desk.new.ledgers (L.state log.old) (L.state log.new)) }
 
+    // Where the votes want a record it is appended once; else the log is as it was.
+    ensures appends { IfOk result (λ d. (t : TranName) → IsTranOf branches.now t
+        → AppendsOnce L.appends t (yes_of branches.now d.votes.items) d.votes.items d.logged log.old log.new) }
+
+    // A record has places for all managers of the desk.
+    ensures few { length desk.old.ledgers ≤ MOST_MANAGERS }
+
+    // Each round is sent before any of it is collected.
+    ensures rounds { IfOk result (λ d. IsThreeRounds branches.now d.commit desk.old desk.new) }
+
     // What is kept under the handles stays, and so does all that was outstanding, with its tickets.
     ensures keeps { OnOk result (KeepsDesk desk.old desk.new) }
     ensures kept { OnOk result (AllKept desk.old → AllKept desk.new) }
@@ -50,6 +64,10 @@ pub fn commit_all<R: Wait, L: DecisionLog, I: Idle>(
     // Want of memory comes before anything is sent.
     ensures unsent { OnErr result (desk.new ≡ desk.old) }
     ensures unlogged { OnErr result (log.new ≡ log.old) }
+    ensures idle_stays { OnErr result (idle.new ≡ idle.old) }
+
+    // Each idle is one in a wait for the manager of a branch.
+    ensures waited { IdlesAt I.leads_by (has_branch_at branches.now) idle.old idle.new }
     ensures idled { I.leads idle.old idle.new }
 {
     let prepared = prepare_all(rt, alloc, desk, log, branches, idle)?;

@@ -22,7 +22,7 @@ ghost use Rattle.xa_switch.specs.declared.plan.Plan.{Plan};
 ghost use Rattle.xa_driver.specs.declared.branch.Branch.{Branch};
 ghost use Rattle.xa_driver.specs.declared.done.Done.{Done};
 ghost use Rattle.std.specs.Option.{option_or};
-ghost use Rattle.xa_driver.specs.Log.{LogState, Records, all_records, record_in, record_of};
+ghost use Rattle.xa_driver.specs.Log.{LogState, Records, all_records, record_in, record_of, with_failure};
 ghost use Rattle.xa_driver.specs.declared.stages.Prepared.{Prepared};
 ghost use Rattle.xa_driver.specs.declared.stages.Decided.{Decided};
 ghost use Rattle.xa_driver.specs.declared.stages.Told.{Told};
@@ -97,6 +97,11 @@ pub fn tables_keep_to_their_laws()
     shut_managers_decide_nothing();
     only_completed_branches_tell_a_decision();
 }
+
+/// A failed append is always told: no count of failures is the last one.
+pub fn failed_appends_are_told()
+    ensures { (log : LogState) → with_failure log ≢ log }
+{}
 
 /// Of one call alone: where the append failed, no Commit was sent to any manager.
 pub fn failed_append()

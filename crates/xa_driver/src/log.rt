@@ -1,5 +1,6 @@
 //! The decision log.
-ghost use Rattle.std.specs.Prelude.{◌≡◌, OnOk, OnErr, None};
+ghost use Rattle.std.specs.Prelude.{◌≡◌, OnOk, OnErr, None, List, Bool, is_ok};
+ghost use Rattle.xa_words.specs.Tran.{TranName};
 ghost use Rattle.xa_driver.specs.Log.{LogState, Records, record_in, record_of, with_record, with_failure};
 
 use xa_base::MOST_MANAGERS;
@@ -34,14 +35,18 @@ pub trait DecisionLog: DecisionRecords {
     /// The records, and how many appends failed.
     ghost state: { Self → LogState };
 
+    /// What an append of the record of this transaction, with these managers, does to the log, and whether it took it.
+    ghost appends: { TranName → List Bool → Bool → Self → Self → Type 0 };
+
     /// Adds a record of a transaction that has none. A failed append leaves the records, and is counted.
     fn append(&mut self, decision: &CommitRecord) -> Result<(), LogFault>
         requires { record_of (state self.old) decision.now.tran ≡ None }
         ensures appended { OnOk result (state self.new ≡ with_record
             (state self.old) decision.now.tran decision.now.yes) }
-        ensures failed { OnErr result (state self.new ≡ with_failure (state self.old)) };
+        ensures failed { OnErr result (state self.new ≡ with_failure (state self.old)) }
+        ensures appends { appends decision.now.tran decision.now.yes (is_ok result) self.old self.new };
 
-    /// How many appends failed; at `u64::MAX` it stays.
+    /// How many appends failed; after `u64::MAX` it counts from 0 again.
     fn failures(&self) -> u64
         ensures { result ≡ (state self.now).failures };
 

@@ -1,6 +1,6 @@
 //! A decision log in memory.
-ghost use Rattle.std.specs.Prelude.{◌≡◌, OnOk, OnErr, IsErr, true, false, refl};
-ghost use Rattle.xa_driver.specs.Log.{no_records, with_record, with_failure, counted};
+ghost use Rattle.std.specs.Prelude.{◌≡◌, ◌+◌, ◌<◌, ◌≤◌, OnOk, OnErr, IsErr, is_ok, true, false, refl};
+ghost use Rattle.xa_driver.specs.Log.{no_records, with_record, with_failure, counted, AppendsTo};
 
 use crate::log::{CommitRecord, DecisionLog, DecisionRecords, LogFault, Yes};
 use std::alloc::Global;
@@ -19,7 +19,8 @@ pub struct MemoryLog {
 
 impl Model for MemoryLog {
     ghost use Rattle.std.specs.FinMap.{from_entries};
-    ghost use Rattle.xa_driver.specs.Log.{LogView, log_code};
+    ghost use Rattle.std.specs.HashMap.{spare};
+    ghost use Rattle.xa_driver.specs.Log.{LogView, log_code, room_in};
 
     ghost Value = { LogView };
 
@@ -29,13 +30,14 @@ impl Model for MemoryLog {
       state = record { records = from_entries l.records.entries; failures = l.failures };
       appends = l.appends;
       failing = l.failing;
+      room = room_in l.records.entries (spare l.records);
     } };
 }
 
 impl MemoryLog {
     /// A log with no record, which takes no memory yet.
     pub fn new(alloc: Global) -> MemoryLog
-        ensures { result ≡ record { state = no_records; appends = 0; failing = 0 } }
+        ensures { result ≡ record { state = no_records; appends = 0; failing = 0; room = 0 } }
     {
         MemoryLog {
             records: HashMap::new(alloc),
@@ -47,7 +49,7 @@ impl MemoryLog {
 
     /// A log with no record whose k-th append, from 1, fails.
     pub fn failing_at(alloc: Global, k: u32) -> MemoryLog
-        ensures { result ≡ record { state = no_records; appends = 0; failing = k } }
+        ensures { result ≡ record { state = no_records; appends = 0; failing = k; room = 0 } }
     {
         MemoryLog {
             records: HashMap::new(alloc),
@@ -60,9 +62,7 @@ impl MemoryLog {
     fn count_failure(&mut self)
         ensures { self.new ≡ record self.old { state = with_failure self.old.state } }
     {
-        if self.failures < u64::MAX {
-            self.failures += 1;
-        }
+        self.failures = self.failures.wrapping_add(1);
     }
 
     fn count_append(&mut self)
@@ -75,8 +75,14 @@ impl MemoryLog {
 
     // Whether the record was put.
     fn put(&mut self, tran: Tran, yes: Yes) -> bool
-        ensures put { result ≡ true → self.new ≡ record self.old { state = with_record self.old.state tran yes } }
-        ensures unchanged { result ≡ false → self.new ≡ self.old }
+        ensures put { result ≡ true → self.new.state ≡ with_record self.old.state tran yes }
+        ensures unchanged { result ≡ false → self.new.state ≡ self.old.state }
+        ensures appends { self.new.appends ≡ self.old.appends }
+        ensures failing { self.new.failing ≡ self.old.failing }
+
+        // With room for it there is, and it takes up no more than one place.
+        ensures fits { 0 < self.old.room → result ≡ true }
+        ensures room { result ≡ true → self.old.room ≤ self.new.room + 1 }
     {
         self.records.insert(tran, yes).is_ok()
     }
@@ -93,12 +99,15 @@ impl DecisionRecords for MemoryLog {
 impl DecisionLog for MemoryLog {
     ghost state = { λ l. l.state };
 
+    ghost appends = { AppendsTo };
+
     ghost records_are = { λ l. refl };
 
     fn append(&mut self, decision: &CommitRecord) -> Result<(), LogFault>
         ensures appended { OnOk result (self.new.state ≡ with_record self.old.state decision.now.tran
             decision.now.yes) }
         ensures failed { OnErr result (self.new.state ≡ with_failure self.old.state) }
+        ensures appends { AppendsTo decision.now.tran decision.now.yes (is_ok result) self.old self.new }
         ensures counted { self.new.appends ≡ counted self.old.appends }
         ensures kept { self.new.failing ≡ self.old.failing }
         ensures injected { counted self.old.appends ≡ self.old.failing → IsErr result }

@@ -4,11 +4,13 @@ ghost use Rattle.xa_base.specs.Lists.{IsUpTo};
 ghost use Rattle.xa_desk.specs.DeskView.{ledger, outstanding, room_at};
 ghost use Rattle.xa_desk.specs.Kept.{AllKept};
 ghost use Rattle.xa_desk.specs.Tickets.{LeavesTickets};
-ghost use Rattle.xa_switch.specs.Scans.{left_at};
+ghost use Rattle.xa_switch.specs.Scans.{Answers, left_at};
 ghost use Rattle.xa_driver.specs.declared.resolved.Outcome.{Outcome};
 ghost use Rattle.xa_driver.specs.Asks.{KeepsDesk, LeavesOutstanding};
-ghost use Rattle.xa_driver.specs.Resolving.{is_to_commit, outcome_op, AsksLedger, AsksAlone, ResolvesBranch};
-ghost use Rattle.xa_driver.specs.Resolving.{ResolvesAt, requests_for, left_in, MayResolve, IsTraceOfResolve};
+ghost use Rattle.xa_driver.specs.Resolving.{is_to_commit, outcome_op, AsksLedger, AsksAlone, AsksAndWaits};
+ghost use Rattle.xa_driver.specs.Resolving.{ResolvesBranch};
+ghost use Rattle.xa_driver.specs.Resolving.{ResolvesAt, ResolvesInTurn, requests_for, left_in, MayResolve};
+ghost use Rattle.xa_driver.specs.Resolving.{IsTraceOfResolve};
 
 use crate::log::DecisionRecords;
 use crate::resolved::{Outcome, ResolveFault, Resolved};
@@ -24,6 +26,7 @@ use xa_words::{Code, Op, Xid};
 fn ask<R: Wait, I: Idle>(rt: &R, desk: &mut Desk, manager: u32, op: Op, idle: &mut I) -> Code
     requires { 1 ≤ room_at desk.old.ledgers manager }
     ensures asked { AsksLedger (ledger desk.old.ledgers manager) op (ledger desk.new.ledgers manager) result }
+    ensures waits { AsksAndWaits I.leads_by manager (desk.old, idle.old) op (desk.new, idle.new) result }
     ensures alone { AsksAlone manager desk.old desk.new }
     ensures room { room_at desk.old.ledgers manager ≤ room_at desk.new.ledgers manager + 1 }
     ensures idled { I.leads idle.old idle.new }
@@ -69,6 +72,8 @@ fn resolve_branch<R: Wait, L: DecisionRecords, I: Idle>(
     requires room { 2 ≤ room_at desk.old.ledgers manager }
     ensures resolves { ResolvesBranch AsksLedger (L.records log.now) manager result (ledger desk.old.ledgers manager)
         (ledger desk.new.ledgers manager) }
+    ensures waits { ResolvesBranch (AsksAndWaits I.leads_by manager) (L.records log.now) manager result
+        (desk.old, idle.old) (desk.new, idle.new) }
     ensures xid { result.xid ≡ xid.now }
     ensures alone { AsksAlone manager desk.old desk.new }
     ensures room { room_at desk.old.ledgers manager ≤ room_at desk.new.ledgers manager + 2 }
@@ -103,7 +108,9 @@ fn resolve_at<R: Wait, L: DecisionRecords, I: Idle>(
     requires space { length outcomes.old.items + length left.now ≤ vec_capacity outcomes.old }
     ensures resolves { (more : List Outcome) × (outcomes.new.items ≡ outcomes.old.items ++ more)
         × (length more ≡ length left.now) × ResolvesAt AsksLedger (L.records log.now) manager left.now more
-        (ledger desk.old.ledgers manager) (ledger desk.new.ledgers manager) }
+        (ledger desk.old.ledgers manager) (ledger desk.new.ledgers manager)
+        × ResolvesAt (AsksAndWaits I.leads_by manager) (L.records log.now) manager left.now more (desk.old, idle.old)
+        (desk.new, idle.new) }
     ensures space { vec_capacity outcomes.new ≡ vec_capacity outcomes.old }
     ensures alone { AsksAlone manager desk.old desk.new }
     ensures idled { I.leads idle.old idle.new }
@@ -177,6 +184,12 @@ pub fn resolve<R: Wait, L: DecisionRecords, I: Idle>(
     ensures trace { IfOk result (λ r. IsTraceOfResolve scan.now
         (L.records log.now) desk.old.ledgers desk.new.ledgers r.outcomes.items) }
 
+    // Each request was answered before the next was sent, and each idle was in a wait for the manager that was asked.
+    ensures in_turn { IfOk result (λ r. ResolvesInTurn Answers (L.records log.now) scan.now desk.old MOST_MANAGERS
+        r.outcomes.items desk.new) }
+    ensures waited { IfOk result (λ r. ResolvesInTurn (AsksAndWaits I.leads_by) (L.records log.now) scan.now
+        (desk.old, idle.old) MOST_MANAGERS r.outcomes.items (desk.new, idle.new)) }
+
     // What is kept under the handles stays, and so does all that was outstanding, with its tickets.
     ensures keeps { OnOk result (KeepsDesk desk.old desk.new) }
     ensures kept { OnOk result (AllKept desk.old → AllKept desk.new) }
@@ -185,6 +198,7 @@ pub fn resolve<R: Wait, L: DecisionRecords, I: Idle>(
     ensures free { OnOk result (outstanding desk.new.ledgers ≡ outstanding desk.old.ledgers) }
 
     ensures unsent { OnErr result (desk.new ≡ desk.old) }
+    ensures idle_stays { OnErr result (idle.new ≡ idle.old) }
     ensures idled { I.leads idle.old idle.new }
 {
     let mut outcomes = Vec::with_capacity(alloc, count_left(desk, scan))?;

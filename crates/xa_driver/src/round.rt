@@ -1,10 +1,13 @@
 //! A round of requests to several managers, request by request.
 ghost use Rattle.std.specs.Prelude.{◌≡◌, ◌+◌, ◌≤◌, ◌↔◌, List, [], length, true, false, IfOk, IsTrue, MatchOption};
-ghost use Rattle.xa_desk.specs.DeskView.{outstanding};
+ghost use Rattle.xa_desk.specs.DeskView.{DeskView, outstanding};
 ghost use Rattle.xa_desk.specs.GoesOn.{GoesOn};
 ghost use Rattle.xa_desk.specs.Kept.{AllKept};
 ghost use Rattle.xa_driver.specs.declared.ask.Ask.{Ask};
-ghost use Rattle.xa_driver.specs.Asks.{AllCanAsk, AreRising, Asks, KeepsTheRest, SameAsks};
+ghost use Rattle.xa_driver.specs.Asks.{AllCanAsk, AreRising, Asks, KeepsTheRest, SameAsks, among_asks};
+ghost use Rattle.xa_driver.specs.Idling.{IdlesAt, IdlesToCollect, IdlesToSend};
+ghost use Rattle.xa_driver.specs.Steps.{CollectsNext, SendsNext, is_passed, next_collected};
+ghost use Rattle.xa_driver.specs.Order.{CollectsFirst, SendsMore, SendsThenCollects};
 ghost use Rattle.xa_driver.specs.UnderWay.{AllKeptBut, Begins, Collects, IsAtRest, IsCollected, IsSent, IsUnderWay};
 ghost use Rattle.xa_driver.specs.UnderWay.{LeavesInFlight, MayAsk, OwnsAll, Sends, Stays, next_ask, next_ticket};
 
@@ -90,12 +93,31 @@ impl Round {
         can_ask_all(desk, &self.asks) && desk.free() as usize >= self.asks.len()
     }
 
-    /// Sends the next request of the round, and idles while its lane is full. It tells whether there was one.
-    pub fn send_next<R: Wait, I: Idle>(&mut self, rt: &R, desk: &mut Desk, idle: &mut I) -> bool
+    // Whether nothing is asked at the next place.
+    fn is_passed(&self) -> bool
+        requires { (d : DeskView) × IsUnderWay self.now d }
+        ensures { result ≡ is_passed (next_ask self.now) }
+    {
+        let place = self.collected + self.tickets.len();
+        place < self.asks.len() && self.asks[place].op.is_none()
+    }
+
+    // Whether nothing was asked at the place that is collected next.
+    fn is_unasked(&self) -> bool
+        requires { (d : DeskView) × IsUnderWay self.now d }
+        ensures { result ≡ is_passed (next_collected self.now) }
+    {
+        !self.tickets.is_empty() && self.asks[self.collected].op.is_none()
+    }
+
+    // Comes to the next place, and sends what is asked there, if anything is. It tells whether there was one.
+    fn send_place<R: Wait, I: Idle>(&mut self, rt: &R, desk: &mut Desk, idle: &mut I) -> bool
         requires { IsUnderWay self.old desk.old }
         ensures under_way { IsUnderWay self.new desk.new }
         ensures sends { MatchOption (next_ask self.old) ((result ≡ false) × Stays self.old self.new desk.old desk.new)
             (λ k. (result ≡ true) × Sends k self.old self.new desk.old desk.new) }
+        ensures waited { MatchOption (next_ask self.old) (idle.new ≡ idle.old)
+            (λ k. IdlesToSend I.leads_by k desk.old desk.new idle.old idle.new) }
         ensures before { self.new.before ≡ self.old.before }
         ensures same { (js : List Ask) → SameAsks js self.old.asks.items → SameAsks js self.new.asks.items }
         ensures idled { I.leads idle.old idle.new }
@@ -109,13 +131,31 @@ impl Round {
         true
     }
 
-    /// Waits for the answer to the request that is longest in flight, and collects it. It tells whether there was one.
-    pub fn collect_next<R: Wait, I: Idle>(&mut self, rt: &R, desk: &mut Desk, idle: &mut I) -> bool
+    /// Sends the next request of the round, and idles while its lane is full. It tells whether there was one. A branch
+    /// that is asked nothing is passed over.
+    pub fn send_next<R: Wait, I: Idle>(&mut self, rt: &R, desk: &mut Desk, idle: &mut I) -> bool
+        requires { IsUnderWay self.old desk.old }
+        ensures under_way { IsUnderWay self.new desk.new }
+        ensures sends { SendsNext I.leads_by self.old self.new desk.old desk.new idle.old idle.new result }
+        ensures before { self.new.before ≡ self.old.before }
+        ensures same { (js : List Ask) → SameAsks js self.old.asks.items → SameAsks js self.new.asks.items }
+        ensures idled { I.leads idle.old idle.new }
+    {
+        'passed: while self.is_passed() {
+            self.send_place(rt, desk, idle);
+        }
+        self.send_place(rt, desk, idle)
+    }
+
+    // Collects what is longest in flight, if anything was sent there. It tells whether there was a place.
+    fn collect_place<R: Wait, I: Idle>(&mut self, rt: &R, desk: &mut Desk, idle: &mut I) -> bool
         requires { IsUnderWay self.old desk.old }
         ensures under_way { IsUnderWay self.new desk.new }
         ensures collects { MatchOption (next_ticket self.old)
             ((result ≡ false) × Stays self.old self.new desk.old desk.new)
             (λ t. (result ≡ true) × Collects t self.old self.new desk.old desk.new) }
+        ensures waited { MatchOption (next_ticket self.old) (idle.new ≡ idle.old)
+            (λ t. IdlesToCollect I.leads_by t desk.old desk.new idle.old idle.new) }
         ensures before { self.new.before ≡ self.old.before }
         ensures same { (js : List Ask) → SameAsks js self.old.asks.items → SameAsks js self.new.asks.items }
         ensures idled { I.leads idle.old idle.new }
@@ -133,6 +173,22 @@ impl Round {
         true
     }
 
+    /// Waits for the answer to the request that is longest in flight, and collects it. It tells whether there was one.
+    /// A branch that was asked nothing is passed over.
+    pub fn collect_next<R: Wait, I: Idle>(&mut self, rt: &R, desk: &mut Desk, idle: &mut I) -> bool
+        requires { IsUnderWay self.old desk.old }
+        ensures under_way { IsUnderWay self.new desk.new }
+        ensures collects { CollectsNext I.leads_by self.old self.new desk.old desk.new idle.old idle.new result }
+        ensures before { self.new.before ≡ self.old.before }
+        ensures same { (js : List Ask) → SameAsks js self.old.asks.items → SameAsks js self.new.asks.items }
+        ensures idled { I.leads idle.old idle.new }
+    {
+        'passed: while self.is_unasked() {
+            self.collect_place(rt, desk, idle);
+        }
+        self.collect_place(rt, desk, idle)
+    }
+
     // Sends all that isn't sent.
     fn send_all<R: Wait, I: Idle>(&mut self, rt: &R, desk: &mut Desk, idle: &mut I)
         requires { IsUnderWay self.old desk.old }
@@ -141,10 +197,13 @@ impl Round {
         ensures long { length self.new.asks.items ≡ length self.old.asks.items }
         ensures before { self.new.before ≡ self.old.before }
         ensures same { (js : List Ask) → SameAsks js self.old.asks.items → SameAsks js self.new.asks.items }
+        ensures waited { IdlesAt I.leads_by (among_asks self.old.asks.items) idle.old idle.new }
+        ensures asks { (self.new.asks ≡ self.old.asks) × (self.new.collected ≡ self.old.collected) }
+        ensures ordered { SendsMore self.old.tickets.items self.new.tickets.items desk.old desk.new }
         ensures idled { I.leads idle.old idle.new }
     {
         for _place in 0..self.asks.len() {
-            self.send_next(rt, desk, idle);
+            self.send_place(rt, desk, idle);
         }
     }
 
@@ -157,10 +216,12 @@ impl Round {
         ensures long { length self.new.asks.items ≡ length self.old.asks.items }
         ensures before { self.new.before ≡ self.old.before }
         ensures same { (js : List Ask) → SameAsks js self.old.asks.items → SameAsks js self.new.asks.items }
+        ensures waited { IdlesAt I.leads_by (among_asks self.old.asks.items) idle.old idle.new }
+        ensures ordered { CollectsFirst self.old.tickets.items self.new.tickets.items desk.old desk.new }
         ensures idled { I.leads idle.old idle.new }
     {
         for _place in 0..self.asks.len() {
-            self.collect_next(rt, desk, idle);
+            self.collect_place(rt, desk, idle);
         }
     }
 
@@ -172,6 +233,8 @@ impl Round {
         ensures asked { Asks self.new.asks.items self.old.before.value.ledgers desk.new.ledgers }
         ensures same { (js : List Ask) → SameAsks js self.old.asks.items → SameAsks js self.new.asks.items }
         ensures keeps { KeepsTheRest self.old.before.value desk.new }
+        ensures waited { IdlesAt I.leads_by (among_asks self.old.asks.items) idle.old idle.new }
+        ensures ordered { SendsThenCollects self.old desk.old desk.new }
         ensures idled { I.leads idle.old idle.new }
     {
         self.send_all(rt, desk, idle);

@@ -1,4 +1,4 @@
-//! The two rounds of requests, and what is read off them.
+//! The three rounds of requests, and what is read off them.
 ghost use Rattle.std.specs.Prelude.{◌≡◌, ℕ, ◌≤◌, map, IfOk, length, vec_capacity, Some, [], ◌∷◌};
 ghost use Rattle.std.specs.List.{list_any};
 ghost use Rattle.xa_driver.specs.Decision.{is_yes, is_read, is_no};

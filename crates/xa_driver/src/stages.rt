@@ -4,16 +4,21 @@
 //! branches were told (`Told`). Between these are the rounds (`Preparing`, `Telling`, `Forgetting`), whose requests go
 //! out one by one. A coordinator that dies lets go of the stage that it holds, or leaves the round that it is in. That
 //! takes a call: a program that just drops a stage doesn't compile, so no commit is cut short unawares.
-ghost use Rattle.std.specs.Prelude.{◌≡◌, ◌↔◌, List, IfOk, IsTrue, OnErr, OnOk, None};
+ghost use Rattle.std.specs.Prelude.{◌≡◌, ◌≤◌, ◌↔◌, List, IfOk, IsTrue, OnErr, OnOk, None, length};
+ghost use Rattle.std.specs.Prelude.{◌≡◌, ◌↔◌, List, map, IfOk, IsTrue, OnErr, OnOk, None};
 ghost use Rattle.xa_desk.specs.DeskView.{DeskView};
 ghost use Rattle.xa_desk.specs.GoesOn.{GoesOn};
 ghost use Rattle.xa_desk.specs.Kept.{AllKept};
 ghost use Rattle.xa_driver.specs.declared.branch.Branch.{Branch};
-ghost use Rattle.xa_driver.specs.Asks.{KeepsTheRest};
+ghost use Rattle.xa_driver.specs.Asks.{KeepsTheRest, among_asks};
+ghost use Rattle.xa_driver.specs.Idling.{IdlesAt};
 ghost use Rattle.xa_driver.specs.Log.{record_of};
+ghost use Rattle.xa_driver.specs.Order.{GoesAsRound, SendsThenCollects};
+ghost use Rattle.xa_driver.specs.Rounds.{first_ask, second_ask, third_ask};
 ghost use Rattle.xa_driver.specs.Stages.{HasDecided, HasForgotten, HasPrepared, HasRoomForEndings, HasRoomForVotes};
 ghost use Rattle.xa_driver.specs.Stages.{HasTold, IsForgetting, IsPreparing, IsTelling, MayForget, MayTell};
-ghost use Rattle.xa_driver.specs.Trace.{Logs, MayCommit, decision_of};
+ghost use Rattle.xa_driver.specs.Rounds.{yes_asked};
+ghost use Rattle.xa_driver.specs.Trace.{AppendsOnce, Logs, MayCommit, decision_of, has_branch_at};
 ghost use Rattle.xa_driver.specs.UnderWay.{IsAtRest, IsUnderWay, LeavesInFlight, sent_count};
 
 use crate::branch::Branch;
@@ -25,6 +30,7 @@ use crate::rounds::{
 };
 use std::alloc::Global;
 use std::sync::Wait;
+use xa_base::MOST_MANAGERS;
 use xa_desk::{Desk, Idle};
 use xa_words::{Code, Tran};
 
@@ -76,6 +82,7 @@ fn decide_by<L: DecisionLog>(log: &mut L, tran: Tran, yes: Yes, votes: &[Code]) 
     requires { record_of (L.state log.old) tran ≡ None }
     ensures decision { result.0 ≡ decision_of votes.now result.1 }
     ensures logs { Logs tran yes votes.now result.1 (L.state log.old) (L.state log.new) }
+    ensures appends { AppendsOnce L.appends tran yes votes.now result.1 log.old log.new }
 {
     if has_no(votes) {
         return (false, false);
@@ -103,7 +110,10 @@ pub fn begin_prepare<L: DecisionLog>(
     ensures preparing { IfOk result (IsPreparing branches.now desk.now) }
     ensures under_way { IfOk result (λ p. IsUnderWay p.round desk.now) }
     ensures none { IfOk result (λ p. sent_count p.round ≡ 0) }
+    ensures few { length desk.now.ledgers ≤ MOST_MANAGERS }
 {
+    // A desk has no more managers than a record has places for.
+    let _managers = desk.managers();
     let asks = first_round(alloc, branches)?;
     let votes = Vec::with_capacity(alloc, branches.len())?;
     let endings = Vec::with_capacity(alloc, branches.len())?;
@@ -128,6 +138,8 @@ impl Preparing {
         ensures prepared { (bs : List Branch) (old : DeskView) → IsPreparing bs old self
             → HasPrepared bs old.ledgers desk.new.ledgers result }
         ensures keeps { KeepsTheRest self.round.before.value desk.new }
+        ensures waited { IdlesAt I.leads_by (among_asks self.round.asks.items) idle.old idle.new }
+        ensures ordered { SendsThenCollects self.round desk.old desk.new }
         ensures idled { I.leads idle.old idle.new }
     {
         let Preparing {
@@ -170,8 +182,12 @@ pub fn prepare_all<R: Wait, L: DecisionLog, I: Idle>(
 ) -> Result<Prepared, DriverFault>
     requires { MayCommit desk.old (L.state log.now) branches.now }
     ensures prepared { IfOk result (HasPrepared branches.now desk.old.ledgers desk.new.ledgers) }
+    ensures few { length desk.old.ledgers ≤ MOST_MANAGERS }
     ensures keeps { OnOk result (KeepsTheRest desk.old desk.new) }
+    ensures ordered { OnOk result (GoesAsRound (map first_ask branches.now) desk.old desk.new) }
     ensures unsent { OnErr result (desk.new ≡ desk.old) }
+    ensures waited { IdlesAt I.leads_by (has_branch_at branches.now) idle.old idle.new }
+    ensures idle_stays { OnErr result (idle.new ≡ idle.old) }
     ensures idled { I.leads idle.old idle.new }
 {
     let preparing = begin_prepare(alloc, desk, log, branches)?;
@@ -189,7 +205,11 @@ impl Prepared {
     /// Decides by the votes, and logs a decision to commit where there is a vote for it: the commit point.
     pub fn decide<L: DecisionLog>(self, log: &mut L) -> Decided
         requires { record_of (L.state log.old) self.tran ≡ None }
-        ensures { HasDecided self (L.state log.old) (L.state log.new) result }
+        ensures decided { HasDecided self (L.state log.old) (L.state log.new) result }
+
+        // Where the votes want a record, it is appended once.
+        ensures appends { AppendsOnce L.appends self.tran (yes_asked self.round.asks.items) self.known.votes.items
+            result.known.logged log.old log.new }
     {
         let Prepared {
             round,
@@ -253,6 +273,8 @@ impl Decided {
         requires { MayTell self desk.old }
         ensures told { HasTold self desk.old.ledgers desk.new.ledgers result }
         ensures keeps { KeepsTheRest desk.old desk.new }
+        ensures waited { IdlesAt I.leads_by (among_asks self.round.asks.items) idle.old idle.new }
+        ensures ordered { GoesAsRound (map (second_ask self.known.commit) self.round.asks.items) desk.old desk.new }
         ensures idled { I.leads idle.old idle.new }
     {
         let telling = self.begin_telling(desk);
@@ -278,6 +300,8 @@ impl Telling {
         ensures told { (d : Decided) (old : DeskView) → IsTelling d old self
             → HasTold d old.ledgers desk.new.ledgers result }
         ensures keeps { KeepsTheRest self.round.before.value desk.new }
+        ensures waited { IdlesAt I.leads_by (among_asks self.round.asks.items) idle.old idle.new }
+        ensures ordered { SendsThenCollects self.round desk.old desk.new }
         ensures idled { I.leads idle.old idle.new }
     {
         let Telling {
@@ -339,6 +363,8 @@ impl Told {
         requires { MayForget self desk.old }
         ensures forgot { HasForgotten self desk.old.ledgers desk.new.ledgers result }
         ensures keeps { KeepsTheRest desk.old desk.new }
+        ensures waited { IdlesAt I.leads_by (among_asks self.round.asks.items) idle.old idle.new }
+        ensures ordered { GoesAsRound (map third_ask self.round.asks.items) desk.old desk.new }
         ensures idled { I.leads idle.old idle.new }
     {
         let forgetting = self.begin_forgetting(desk);
@@ -363,6 +389,8 @@ impl Forgetting {
         ensures forgot { (t : Told) (old : DeskView) → IsForgetting t old self
             → HasForgotten t old.ledgers desk.new.ledgers result }
         ensures keeps { KeepsTheRest self.round.before.value desk.new }
+        ensures waited { IdlesAt I.leads_by (among_asks self.round.asks.items) idle.old idle.new }
+        ensures ordered { SendsThenCollects self.round desk.old desk.new }
         ensures idled { I.leads idle.old idle.new }
     {
         let Forgetting { mut round, known } = self;

@@ -1,4 +1,5 @@
 pub mod Text
+pub mod Faults
 pub mod Fields
 pub mod Content
 pub mod Settings

@@ -3,46 +3,72 @@ ghost use Rattle.std.specs.Prelude.{◌≡◌};
 ghost use Rattle.xa_grammar.specs.declared.fault.ScriptFault.TheVariants.{NoMemory};
 
 use std::alloc::AllocError;
+use std::fmt;
 use thiserror::Error;
 
 /// Why a line is refused. The numbers are those that the script's format gives its faults.
-#[derive(Clone, Copy, Debug, PartialEq, Eq, Error)]
+#[derive(Clone, Copy, Debug, PartialEq, Eq)]
 pub enum Reason {
-    #[error("line too long")]
     LineTooLong = 1,
-    #[error("bad byte")]
     BadByte = 2,
-    #[error("too many lines")]
     TooManyLines = 3,
-    #[error("unknown word")]
     UnknownWord = 4,
-    #[error("missing word")]
     MissingWord = 5,
-    #[error("extra word")]
     ExtraWord = 6,
-    #[error("bad number")]
     BadNumber = 7,
-    #[error("out of range")]
     OutOfRange = 8,
-    #[error("bad key")]
     BadKey = 9,
-    #[error("bad xid")]
     BadXid = 10,
-    #[error("setting after action")]
     SettingAfterAction = 11,
-    #[error("setting twice")]
     SettingTwice = 12,
-    #[error("key twice")]
     KeyTwice = 13,
-    #[error("too many keys")]
     TooManyKeys = 14,
-    #[error("bad branches")]
     BadBranches = 15,
-    #[error("turn in threads mode")]
     TurnInThreadsMode = 16,
-    #[error("reopen in threads mode")]
     ReopenInThreadsMode = 17,
 }
+
+impl Reason {
+    ghost use Rattle.xa_grammar.specs.Faults.{reason_text};
+
+    /// What is wrong, in the words of the format.
+    pub fn text(self) -> &'static str
+        ensures { result.now ≡ reason_text self }
+    {
+        match self {
+            Reason::LineTooLong => "line too long",
+            Reason::BadByte => "bad byte",
+            Reason::TooManyLines => "too many lines",
+            Reason::UnknownWord => "unknown word",
+            Reason::MissingWord => "missing word",
+            Reason::ExtraWord => "extra word",
+            Reason::BadNumber => "bad number",
+            Reason::OutOfRange => "out of range",
+            Reason::BadKey => "bad key",
+            Reason::BadXid => "bad xid",
+            Reason::SettingAfterAction => "setting after action",
+            Reason::SettingTwice => "setting twice",
+            Reason::KeyTwice => "key twice",
+            Reason::TooManyKeys => "too many keys",
+            Reason::BadBranches => "bad branches",
+            Reason::TurnInThreadsMode => "turn in threads mode",
+            Reason::ReopenInThreadsMode => "reopen in threads mode",
+        }
+    }
+}
+
+impl fmt::Display for Reason {
+    ghost use Rattle.std.specs.Prelude.{Some};
+    ghost use Rattle.xa_grammar.specs.Faults.{reason_text};
+
+    ghost output = { λ why. Some (reason_text why) };
+
+    fn fmt<W: fmt::Write>(&self, f: &mut fmt::Formatter<W>) -> fmt::Result {
+        f.write_str(self.text())
+    }
+}
+
+impl std::error::Error for Reason {}
 
 /// Why there is no script.
 #[derive(Clone, Copy, Debug, PartialEq, Eq, Error)]

@@ -12,6 +12,7 @@ mod fault;
 mod field;
 mod heard;
 mod keys;
+pub mod laws;
 mod line;
 mod name;
 mod named;

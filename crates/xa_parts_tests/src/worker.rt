@@ -15,6 +15,8 @@ struct Counting {
 }
 
 impl Pace for Counting {
+    ghost told = { λ request before after. Unit {0} };
+
     fn before<R: Wait>(&mut self, _rt: &R, _request: &Request) {
         self.requests = self.requests.saturating_add(1);
     }

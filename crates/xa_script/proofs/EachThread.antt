@@ -86,11 +86,11 @@ answer_is_to t (action.Complete h) p old new z z' a is = ap (is_to t) is.0.shown
 
 commit_is_to : (t : ℕ) (c : CommitAll) (old new : Session) (a : Answer) → CommitsAll c old new a → is_to t a ≡ (c.thread == t)
 commit_is_to t c old new a (refused why told e) = ap (is_to t) told
-commit_is_to t c old new a (decided done may trace still keeps as_many told) = ap (is_to t) told
+commit_is_to t c old new a (decided done may trace still keeps as_many told rounds appends) = ap (is_to t) told
 
 resolve_is_to : (t : ℕ) (r : Resolve) (old new : Session) (a : Answer) → ResolvesLeft r old new a → is_to t a ≡ (r.thread == t)
 resolve_is_to t r old new a (left_refused why told e) = ap (is_to t) told
-resolve_is_to t r old new a (left_resolved outcomes may trace log still keeps as_many told) = ap (is_to t) told
+resolve_is_to t r old new a (left_resolved outcomes may trace log still keeps as_many told in_turn) = ap (is_to t) told
 
 task_is_to : (t : ℕ) (p : Task) (old new : Session) (a : Answer) → Does p old new a → is_to t a ≡ (thread_of p == t)
 task_is_to t (task.Call p) old new a is = answer_is_to t p.action p old.desk new.desk old.scan new.scan a is.executes.0

@@ -65,11 +65,11 @@ answer_no_end t (action.Complete h) p old new z z' a is = ap (is_end_of t) is.0.
 
 commit_no_end : (t : ℕ) (c : CommitAll) (old new : Session) (a : Answer) → CommitsAll c old new a → is_end_of t a ≡ false
 commit_no_end t c old new a (refused why told same) = ap (is_end_of t) told
-commit_no_end t c old new a (decided done may trace still keeps as_many told) = ap (is_end_of t) told
+commit_no_end t c old new a (decided done may trace still keeps as_many told rounds appends) = ap (is_end_of t) told
 
 resolve_no_end : (t : ℕ) (r : Resolve) (old new : Session) (a : Answer) → ResolvesLeft r old new a → is_end_of t a ≡ false
 resolve_no_end t r old new a (left_refused why told same) = ap (is_end_of t) told
-resolve_no_end t r old new a (left_resolved outcomes may trace log still keeps as_many told) = ap (is_end_of t) told
+resolve_no_end t r old new a (left_resolved outcomes may trace log still keeps as_many told in_turn) = ap (is_end_of t) told
 
 task_no_end : (t : ℕ) (p : Task) (old new : Session) (a : Answer) → Does p old new a → is_end_of t a ≡ false
 task_no_end t (task.Call p) old new a is = answer_no_end t p.action p old.desk new.desk old.scan new.scan a is.executes.0

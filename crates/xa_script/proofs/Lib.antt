@@ -9,6 +9,7 @@ pub mod Members
 pub mod Runs
 pub mod Pieces
 pub mod Tellings
+pub mod Parts
 pub mod Reopened
 pub mod Reached
 pub mod Closed

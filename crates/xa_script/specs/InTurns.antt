@@ -15,7 +15,7 @@ use Rattle.xa_crew.specs.Pieces.{HasServed}
 use Rattle.xa_session.specs.declared.answer.Answer.{Answer}
 use Rattle.xa_session.specs.declared.answer.Answer.TheVariants as answer
 use Rattle.xa_session.specs.declared.session.Session.{Session}
-use Rattle.xa_session.specs.Sessions.{Does}
+use Rattle.xa_session.specs.Sessions.{Does, MayWait}
 use Rattle.xa_session.specs.Ended.{all_ended}
 use Rattle.xa_script.specs.Turns.{AllGoOn, TakesTurn}
 
@@ -29,7 +29,7 @@ pub record Stage : Type 0 where
 abbrev pub stage_of : List Session → List WorkerView → Stage
 stage_of sessions workers = record { sessions = sessions; workers = workers }
 
--- A thread does its task while workers go on, and the other threads stay.
+-- A thread does its task while workers go on, and the other threads stay. Where the task can't wait, so do the workers.
 pub record HasCalled (p : Task) (old new : Stage) (a : Answer) : Type 0 where
   pub before : Session
   pub after : Session
@@ -37,6 +37,7 @@ pub record HasCalled (p : Task) (old new : Stage) (a : Answer) : Type 0 where
   pub does : Does p before after a
   pub rest : new.sessions ≡ slice_set old.sessions (thread_of p - 1) after
   pub turns : AllGoOn old.workers new.workers
+  pub prompt : ¬ MayWait p before → new.workers ≡ old.workers
 
 -- A manager's worker takes a turn, and the threads stay.
 pub record HasTurned (line m : ℕ) (old new : Stage) (a : Answer) : Type 0 where

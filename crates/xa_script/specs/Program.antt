@@ -1,9 +1,12 @@
 -- What the program answers, and what it has then shown.
-use Rattle.std.specs.Prelude.{◌≡◌, Bool, true, false, ◌⊎◌, ℕ, List, [], ◌∷◌, Option, IfSome, Ok, Err, map, codes}
+use Rattle.std.specs.Prelude.{◌≡◌, Bool, true, false, ◌⊎◌, ℕ, List, [], ◌∷◌, ◌++◌, Option, IfSome, Ok, Err, map, take}
+use Rattle.std.specs.Prelude.{codes, decimal}
 use Rattle.std.specs.Borrow.{Bor}
+use Rattle.std.specs.Io.KnownBytes.{Appends}
 use Rattle.xa_grammar.specs.declared.fault.Reason.{Reason}
 use Rattle.xa_grammar.specs.declared.fault.ScriptFault.TheVariants as script
 use Rattle.xa_grammar.specs.Content.{Content}
+use Rattle.xa_grammar.specs.Faults.{reason_text}
 use Rattle.xa_grammar.specs.Grammar.{script_of}
 use Rattle.xa_transcript.specs.declared.transcript.RunFault.TheVariants as run
 use Rattle.xa_script.specs.declared.mode.Mode.{Mode}
@@ -40,13 +43,33 @@ status_of (Script script.NoMemory) = 3
 status_of (Run run.NoMemory) = 3
 status_of (Run run.Write) = 4
 
+-- What is told of a faulty line: its number and the reason.
+abbrev pub line_text : ℕ → Reason → List ℕ
+line_text n why = codes "line " ++ (decimal n ++ (codes ": " ++ (reason_text why ++ codes "\n")))
+
+-- What is told of a fault, in one line.
+abbrev pub text_of : Fault → List ℕ
+text_of Usage = codes "usage: xaswitch turns or threads\n"
+text_of NoMemory = codes "out of memory\n"
+text_of (Script (script.Line n why)) = line_text n why
+text_of (Script script.Read) = codes "input failed\n"
+text_of (Script script.NoMemory) = codes "out of memory\n"
+text_of (Run run.NoMemory) = codes "out of memory\n"
+text_of (Run run.Write) = codes "output failed\n"
+
+-- What a writer holds grew by these bytes, as far as it took them.
+abbrev pub AppendsSome : Option (List ℕ) → Option (List ℕ) → List ℕ → Type 0
+AppendsSome before after bytes = (n : ℕ) × Appends before after (take n bytes)
+
 -- A fault that is known before anything is read.
 abbrev pub IsJudged : Fault → Type 0
 IsJudged fault = (fault ≡ Usage) ⊎ (fault ≡ NoMemory)
 
--- The bytes are a script of this mode, and what the writer holds grew by its transcript.
-abbrev pub ShowsRun : Mode → Option (List ℕ) → Option (List ℕ) → List ℕ → Type 0
-ShowsRun m before after bytes = (s : Content) × (script_of (has_threads m) bytes ≡ Ok s) × Writes m s before after
+-- There is a script of this mode, what the writer holds grew by its transcript, and where the bytes are known they are
+-- that script.
+abbrev pub ShowsRun : Mode → Option (List ℕ) → Option (List ℕ) → Option (List ℕ) → Type 0
+ShowsRun m bytes before after =
+    (s : Content) × IfSome bytes (λ b. script_of (has_threads m) b ≡ Ok s) × Writes m s before after
 
 -- The bytes are no script of this mode: a line is faulty.
 abbrev pub IsFaulty : Mode → List ℕ → Type 0

@@ -1,36 +1,37 @@
 //! The program, over any reader and writers.
-ghost use Rattle.std.specs.Prelude.{◌≡◌, ◌⊎◌, ◌<◌, OnOk, IfErr, IsErrOf, IfSome};
+ghost use Rattle.std.specs.Prelude.{◌≡◌, ◌≢◌, ◌⊎◌, ◌<◌, ◌≤◌, length, Err, OnOk, IfErr, IsErrOf, IfSome};
 ghost use Rattle.xa_script.specs.declared.mode.Mode.{Mode};
 ghost use Rattle.xa_grammar.specs.Content.{AreOfOne};
+ghost use Rattle.xa_script.specs.declared.entry.Fault.{Fault};
 ghost use Rattle.xa_script.specs.declared.entry.Fault.TheVariants.{NoMemory};
 ghost use Rattle.xa_script.specs.Outcome.{Writes};
-ghost use Rattle.xa_script.specs.Program.{status_of, IsMode, AreWords, IsJudged, ShowsRun, IsFaulty, FailsBy};
+ghost use Rattle.xa_script.specs.Program.{status_of, line_text, text_of, IsMode, AreWords, IsJudged, ShowsRun};
+ghost use Rattle.xa_script.specs.Program.{AppendsSome, IsFaulty, FailsBy, has_threads};
 
 use crate::in_threads::run_threads;
 use crate::in_turns::run_turns;
 use crate::mode::Mode;
 use clap::error::ErrorKind;
 use clap::{Arg, Command};
+use itoa::Buffer;
 use std::alloc::{AllocError, Global};
-use std::io::{Read, Write};
+use std::io::{IoSlice, Read, Write};
 use std::sync::Wait;
 use std::thread::Threads;
-use thiserror::Error;
-use xa_grammar::{Script, ScriptFault, read_script};
+use xa_grammar::{Reason, Script, ScriptFault, read_script};
 use xa_transcript::RunFault;
 use xa_worker::Free;
 
+// What is told of want of memory, which takes none.
+const OUT_OF_MEMORY: &[u8] = b"out of memory\n";
+
 // Why the program shows no transcript, or not all of it.
-#[derive(Clone, Copy, Debug, PartialEq, Eq, Error)]
+#[derive(Clone, Copy)]
 pub(crate) enum Fault {
-    #[error("usage: xaswitch turns or threads")]
     Usage,
     // Memory ran out while the words were judged.
-    #[error("out of memory")]
     NoMemory,
-    #[error(transparent)]
     Script(ScriptFault),
-    #[error(transparent)]
     Run(RunFault),
 }
 
@@ -44,7 +45,8 @@ impl From<AllocError> for Fault {
 
 // The exit status of a fault.
 fn status_of(fault: Fault) -> u8
-    ensures { result ≡ status_of fault }
+    ensures status { result ≡ status_of fault }
+    ensures few { (1 ≤ result) × (result ≤ 4) }
 {
     match fault {
         Fault::Script(ScriptFault::Line { .. }) => 1,
@@ -55,12 +57,50 @@ fn status_of(fault: Fault) -> u8
     }
 }
 
+// Writes these bytes, as far as the writer takes them at once.
+fn put<E: Write>(bytes: &[u8], err: &mut E)
+    ensures { AppendsSome (E.contents err.old) (E.contents err.new) bytes.now }
+{
+    let _ = err.write(bytes);
+}
+
+// Tells of a faulty line: its number and the reason.
+fn put_line<E: Write>(line: u32, why: Reason, err: &mut E)
+    ensures { AppendsSome (E.contents err.old) (E.contents err.new) (line_text line why) }
+{
+    let mut number = Buffer::new();
+    let parts = [
+        IoSlice::new(b"line "),
+        IoSlice::new(number.format(line).as_bytes()),
+        IoSlice::new(b": "),
+        IoSlice::new(why.text().as_bytes()),
+        IoSlice::new(b"\n"),
+    ];
+    let _ = err.write_vectored(&parts);
+}
+
+// Tells of a fault, in one line.
+fn tell<E: Write>(fault: Fault, err: &mut E)
+    ensures { AppendsSome (E.contents err.old) (E.contents err.new) (text_of fault) }
+{
+    match fault {
+        Fault::Script(ScriptFault::Line { line, why }) => put_line(line, why, err),
+        Fault::Script(ScriptFault::Read) => put(b"input failed\n", err),
+        Fault::Script(ScriptFault::NoMemory) => put(OUT_OF_MEMORY, err),
+        Fault::Run(RunFault::Write) => put(b"output failed\n", err),
+        Fault::Run(RunFault::NoMemory) => put(OUT_OF_MEMORY, err),
+        Fault::Usage => put(b"usage: xaswitch turns or threads\n", err),
+        Fault::NoMemory => put(OUT_OF_MEMORY, err),
+    }
+}
+
 // Judges whether the words are the one word of a mode. A word that could be an option is judged before
 // clap reads it.
 fn judge(alloc: Global, words: &[&str]) -> Result<(), Fault>
     ensures ok { OnOk result (AreWords words.now) }
     ensures err { IfErr result IsJudged }
     ensures usage { IsErrOf result Fault.Usage → ¬ AreWords words.now }
+    ensures several { length words.now ≢ 1 → result ≡ Err Fault.Usage }
 {
     if words.len() != 1 || words[0].starts_with('-') {
         return Err(Fault::Usage);
@@ -96,6 +136,16 @@ fn mode_of(words: &[&str]) -> Mode
     }
 }
 
+// Whether each thread of a script has a thread of its own.
+fn has_threads(mode: Mode) -> bool
+    ensures { result ≡ has_threads mode }
+{
+    match mode {
+        Mode::Turns => false,
+        Mode::Threads => true,
+    }
+}
+
 // Runs the script in this mode.
 fn run<H: Threads + Wait + Copy + Send + 'static, W: Write>(
     rt: &H,
@@ -125,15 +175,19 @@ fn show<H: Threads + Wait + Copy + Send + 'static, R: Read, W: Write>(
     reader: &mut R,
     out: &mut W,
 ) -> Result<(), Fault>
-    ensures ok { OnOk result (IfSome (R.remaining reader.old)
-        (ShowsRun mode (W.contents out.old) (W.contents out.new))) }
+    ensures ok { OnOk result (ShowsRun mode (R.remaining reader.old) (W.contents out.old) (W.contents out.new)) }
     ensures err { IfErr result (λ fault.
         FailsBy fault mode (R.remaining reader.old) (W.contents out.old) (W.contents out.new)) }
     ensures judged { IfErr result (λ fault. IsJudged fault → ⊥) }
 {
-    let threads = mode == Mode::Threads;
-    let script = read_script(alloc, reader, threads).map_err(Fault::Script)?;
-    run(rt, alloc, mode, &script, out).map_err(Fault::Run)
+    let script = match read_script(alloc, reader, has_threads(mode)) {
+        Ok(script) => script,
+        Err(fault) => return Err(Fault::Script(fault)),
+    };
+    match run(rt, alloc, mode, &script, out) {
+        Ok(()) => Ok(()),
+        Err(fault) => Err(Fault::Run(fault)),
+    }
 }
 
 // Judges the words, and only then reads the script and runs it.
@@ -147,10 +201,11 @@ fn carry_out<H: Threads + Wait + Copy + Send + 'static, R: Read, W: Write>(
     ensures err_words { IfErr result (λ fault. IsJudged fault ⊎ AreWords words.now) }
     ensures usage { IsErrOf result Fault.Usage → ¬ AreWords words.now }
     ensures unread { IsErrOf result Fault.Usage → reader.new ≡ reader.old }
+    ensures several { length words.now ≢ 1 → result ≡ Err Fault.Usage }
     ensures unshown { IfErr result (λ fault. IsJudged fault → W.contents out.new ≡ W.contents out.old) }
 
-    ensures ok { OnOk result ((mode : Mode) × IsMode words.now mode × IfSome (R.remaining reader.old)
-        (ShowsRun mode (W.contents out.old) (W.contents out.new))) }
+    ensures ok { OnOk result ((mode : Mode) × IsMode words.now mode
+        × ShowsRun mode (R.remaining reader.old) (W.contents out.old) (W.contents out.new)) }
     ensures err { IfErr result (λ fault. (mode : Mode) → IsMode words.now mode →
         FailsBy fault mode (R.remaining reader.old) (W.contents out.old) (W.contents out.new)) }
 {
@@ -169,7 +224,7 @@ fn carry_out<H: Threads + Wait + Copy + Send + 'static, R: Read, W: Write>(
 /// | 3 | want of memory | `out of memory` |
 /// | 4 | a read or a write that failed | `input failed` or `output failed` |
 ///
-/// The words are judged before anything is read. A failing write to `err` changes nothing.
+/// The words are judged before anything is read. What `err` doesn't take is left out, and changes nothing.
 pub fn program<H: Threads + Wait + Copy + Send + 'static, R: Read, W: Write, E: Write>(
     rt: &H,
     alloc: Global,
@@ -178,21 +233,31 @@ pub fn program<H: Threads + Wait + Copy + Send + 'static, R: Read, W: Write, E: 
     out: &mut W,
     err: &mut E,
 ) -> u8
+    ensures statuses { result ≤ 4 }
+
     // Other words than the two modes' come to the usage, unless memory runs out before they are judged.
     ensures words { (result ≡ 2) ⊎ (result ≡ 3) ⊎ AreWords words.now }
     ensures usage { result ≡ 2 → ¬ AreWords words.now }
+    ensures several { length words.now ≢ 1 → result ≡ 2 }
     ensures unread { result ≡ 2 → reader.new ≡ reader.old }
 
-    ensures ran { result ≡ 0 → (mode : Mode) × IsMode words.now mode × IfSome (R.remaining reader.old)
-        (ShowsRun mode (W.contents out.old) (W.contents out.new)) }
+    ensures ran { result ≡ 0 → (mode : Mode) × IsMode words.now mode
+        × ShowsRun mode (R.remaining reader.old) (W.contents out.old) (W.contents out.new) }
     ensures faulty { result ≡ 1 → (mode : Mode) × IsMode words.now mode
         × IfSome (R.remaining reader.old) (IsFaulty mode) }
     ensures nothing_shown { 0 < result → result < 4 → W.contents out.new ≡ W.contents out.old }
+
+    // Nothing is told of a run that ended; and else the fault that there was.
+    ensures silent { result ≡ 0 → err.new ≡ err.old }
+    ensures told { 0 < result → (fault : Fault) × (status_of fault ≡ result)
+        × ((mode : Mode) → IsMode words.now mode
+        → FailsBy fault mode (R.remaining reader.old) (W.contents out.old) (W.contents out.new))
+        × AppendsSome (E.contents err.old) (E.contents err.new) (text_of fault) }
 {
     match carry_out(rt, alloc, words, reader, out) {
         Ok(()) => 0,
         Err(fault) => {
-            let _ = writeln!(err, "{fault}");
+            tell(fault, err);
             status_of(fault)
         }
     }

@@ -81,7 +81,7 @@ fn run<R: Threads + Wait + Copy + Send + 'static, P: Pace + Drop + Send + 'stati
     let lines = Vec::with_capacity(alloc, script.len().saturating_mul(LINE))?;
     match run_clients(rt, alloc, &plan, threads, paces) {
         Ok(run) => Ok((lines_of(run.clients, lines)?, run.settled)),
-        Err(CrewFault::NoMemory) => Err(AllocError),
+        Err(CrewFault::NoMemory | CrewFault::Unsettled(_)) => Err(AllocError),
         // A script's counts are within the limits, and its managers can be opened with their keys.
         Err(CrewFault::BadPlan) => unreachable!(),
     }

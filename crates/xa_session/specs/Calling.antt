@@ -1,13 +1,15 @@
 -- What a script's calls do to the desk of their thread, and what they answer.
-use Rattle.std.specs.Prelude.{◌≡◌, ℕ, ℤ, pos, negsuc, if◌then◌else◌, List, Vec, length, take}
+use Rattle.std.specs.Prelude.{◌≡◌, ℕ, ℤ, pos, negsuc, Bool, if◌then◌else◌, List, Vec, length, take}
 use Rattle.std.specs.Global.{Global}
 use Rattle.std.specs.Ordering.{int_eq}
 use Rattle.xa_desk.specs.DeskView.{DeskView}
 use Rattle.xa_switch.specs.Asking.{asked_of, native}
-use Rattle.xa_switch.specs.Putting.{Calls}
-use Rattle.xa_switch.specs.Completing.{HasCompleted}
-use Rattle.xa_switch.specs.Scans.{ScanView, HasRecovered}
+use Rattle.xa_switch.specs.Putting.{Calls, call_waits}
+use Rattle.xa_switch.specs.Completing.{HasCompleted, completion_waits}
+use Rattle.xa_switch.specs.Scans.{ScanView, HasRecovered, asks}
+use Rattle.xa_words.specs.Flags.{check_flags}
 use Rattle.xa_words.specs.Xid.{XidName}
+use Rattle.xa_words.specs.declared.flags.Call.TheVariants as call
 use Rattle.xa_words.specs.declared.xid.Xid.{Xid}
 use Rattle.xa_grammar.specs.declared.script.Action.{Action}
 use Rattle.xa_grammar.specs.declared.script.Action.TheVariants as action
@@ -59,3 +61,11 @@ Answers (action.Xa c x) p old z new z' a = HasAnswered (Calls (asked_of c x p.fl
 Answers (action.Native o) p old z new z' a = HasAnswered (Calls (native o p.flags)) p old new a × (z' ≡ z)
 Answers (action.Complete h) p old z new z' a = HasCollected p old h new a × (z' ≡ z)
 Answers (action.Recover n) p old z new z' a = HasListed p n old z new z' a
+
+-- Whether an action may wait: a synchronous call that isn't refused may, an xa_complete without TMNOWAIT, and an
+-- xa_recover that asks its manager.
+abbrev pub action_waits : Action → Called → DeskView → ScanView → Bool
+action_waits (action.Xa c x) p d z = call_waits d p.manager (asked_of c x p.flags)
+action_waits (action.Native o) p d z = call_waits d p.manager (native o p.flags)
+action_waits (action.Complete h) p d z = completion_waits (check_flags call.Complete p.flags)
+action_waits (action.Recover n) p d z = asks d z p.manager (check_flags call.Recover p.flags)

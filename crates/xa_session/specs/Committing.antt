@@ -7,7 +7,10 @@ use Rattle.xa_desk.specs.DeskView.{outstanding}
 use Rattle.xa_driver.specs.declared.branch.Branch.{Branch}
 use Rattle.xa_driver.specs.declared.done.Done.{Done}
 use Rattle.xa_driver.specs.Asks.{KeepsDesk}
-use Rattle.xa_driver.specs.Trace.{MayCommit, IsTraceOfCommit}
+use Rattle.xa_driver.specs.Decision.{yes_of}
+use Rattle.xa_driver.specs.Log.{AppendsTo}
+use Rattle.xa_driver.specs.Order.{IsThreeRounds}
+use Rattle.xa_driver.specs.Trace.{MayCommit, AppendsOnce, IsTraceOfCommit}
 use Rattle.xa_grammar.specs.declared.script.CommitAll.{CommitAll}
 use Rattle.xa_session.specs.declared.session.Session.{Session}
 use Rattle.xa_session.specs.declared.answer.Answer.{Answer}
@@ -30,7 +33,8 @@ abbrev pub branches_of : CommitAll → List Branch
 branches_of c = map (branch_at c) (filter (is_at c) (range_with_len 1 MOST_MANAGERS))
 
 -- What a commit of several branches does to its thread's desk and log, and what it answers: where the branches may not
--- be committed nothing is done; else it is the trace of the coordinator.
+-- be committed nothing is done; else it is the trace of the coordinator, in three rounds, and where the votes want a
+-- record it is appended once.
 pub data CommitsAll (c : CommitAll) (old new : Session) (a : Answer) : Type 0 where
   refused :
       (MayCommit old.desk old.log.state (branches_of c) → ⊥) → a ≡ answer.Refused c.line c.thread → new ≡ old
@@ -38,4 +42,7 @@ pub data CommitsAll (c : CommitAll) (old new : Session) (a : Answer) : Type 0 wh
   decided : (done : Done) → MayCommit old.desk old.log.state (branches_of c)
       → IsTraceOfCommit (named c) (branches_of c) old.desk.ledgers new.desk.ledgers old.log.state new.log.state done
       → new.scan ≡ old.scan → KeepsDesk old.desk new.desk → outstanding new.desk.ledgers ≡ outstanding old.desk.ledgers
-      → a ≡ answer.Decided c.line c.thread done → CommitsAll c old new a
+      → a ≡ answer.Decided c.line c.thread done → IsThreeRounds (branches_of c) done.commit old.desk new.desk
+      → AppendsOnce AppendsTo (named c) (yes_of (branches_of c) done.votes.items) done.votes.items done.logged old.log
+      new.log
+      → CommitsAll c old new a

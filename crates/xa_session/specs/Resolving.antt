@@ -4,7 +4,9 @@ use Rattle.std.specs.Global.{Global}
 use Rattle.xa_desk.specs.DeskView.{outstanding}
 use Rattle.xa_driver.specs.declared.resolved.Outcome.{Outcome}
 use Rattle.xa_driver.specs.Asks.{KeepsDesk}
-use Rattle.xa_driver.specs.Resolving.{MayResolve, IsTraceOfResolve}
+use Rattle.xa_base.specs.declared.limits.TheConstants.{MOST_MANAGERS}
+use Rattle.xa_switch.specs.Scans.{Answers}
+use Rattle.xa_driver.specs.Resolving.{MayResolve, IsTraceOfResolve, ResolvesInTurn}
 use Rattle.xa_grammar.specs.declared.script.Resolve.{Resolve}
 use Rattle.xa_session.specs.declared.session.Session.{Session}
 use Rattle.xa_session.specs.declared.answer.Answer.{Answer}
@@ -20,4 +22,6 @@ pub data ResolvesLeft (r : Resolve) (old new : Session) (a : Answer) : Type 0 wh
       → IsTraceOfResolve old.scan old.log.state.records old.desk.ledgers new.desk.ledgers outcomes.items
       → new.log ≡ old.log → new.scan ≡ old.scan → KeepsDesk old.desk new.desk
       → outstanding new.desk.ledgers ≡ outstanding old.desk.ledgers
-      → a ≡ answer.Resolved r.line r.thread outcomes → ResolvesLeft r old new a
+      → a ≡ answer.Resolved r.line r.thread outcomes
+      → ResolvesInTurn Answers old.log.state.records old.scan old.desk MOST_MANAGERS outcomes.items new.desk
+      → ResolvesLeft r old new a

@@ -1,23 +1,25 @@
 -- A thread of a script, and what its tasks do.
-use Rattle.std.specs.Prelude.{◌≡◌, ℕ, unwrap_or, List, [], ◌∷◌, ◌++◌, map, zip}
+use Rattle.std.specs.Prelude.{◌≡◌, ℕ, IsTrue, unwrap_or, List, [], ◌∷◌, ◌++◌, map, zip}
 use Rattle.xa_desk.specs.DeskView.{DeskView}
 use Rattle.xa_desk.specs.GoesOn.{GoesOn}
 use Rattle.xa_desk.specs.Kept.{AllKept}
 use Rattle.xa_switch.specs.Scans.{ScanView, no_scan}
 use Rattle.xa_driver.specs.Log.{LogView, no_records}
+use Rattle.xa_driver.specs.Resolving.{MayResolve}
+use Rattle.xa_driver.specs.Trace.{MayCommit}
 use Rattle.xa_grammar.specs.declared.script.Task.{Task}
 use Rattle.xa_grammar.specs.declared.script.Task.TheVariants.{Call, CommitAll, Resolve}
 use Rattle.xa_grammar.specs.Content.{Content, failing_append}
 use Rattle.xa_session.specs.declared.answer.Answer.{Answer}
 use Rattle.xa_session.specs.declared.session.Session.{Session}
-use Rattle.xa_session.specs.Calling.{Answers}
-use Rattle.xa_session.specs.Committing.{CommitsAll}
+use Rattle.xa_session.specs.Calling.{Answers, action_waits}
+use Rattle.xa_session.specs.Committing.{branches_of, CommitsAll}
 use Rattle.xa_session.specs.Resolving.{ResolvesLeft}
 
--- The log of thread t at first: without a record, and none of its appends fails but the one that a line of the script
--- names.
+-- The log of thread t at first: without a record and without room for one, and none of its appends fails but the one
+-- that a line of the script names.
 abbrev pub log_of : Content → ℕ → LogView
-log_of s t = record { state = no_records; appends = 0; failing = unwrap_or (failing_append s t) 0 }
+log_of s t = record { state = no_records; appends = 0; failing = unwrap_or (failing_append s t) 0; room = 0 }
 
 -- A desk with a log and with scans.
 abbrev pub session_of : DeskView → LogView → ScanView → Session
@@ -41,6 +43,12 @@ abbrev pub Executes : Task → Session → Session → Answer → Type 0
 Executes (Call p) old new a = Answers p.action p old.desk old.scan new.desk new.scan a × (new.log ≡ old.log)
 Executes (CommitAll c) old new a = CommitsAll c old new a
 Executes (Resolve r) old new a = ResolvesLeft r old new a
+
+-- A task may wait: a call whose action may, a commit that may be made, and a resolve that may.
+abbrev pub MayWait : Task → Session → Type 0
+MayWait (Call p) old = IsTrue (action_waits p.action p old.desk old.scan)
+MayWait (CommitAll c) old = MayCommit old.desk old.log.state (branches_of c)
+MayWait (Resolve r) old = MayResolve old.desk old.scan
 
 -- What a task does to its thread, and what it answers. The desk goes on, and what is outstanding stays kept.
 pub record Does (p : Task) (old new : Session) (a : Answer) : Type 0 where

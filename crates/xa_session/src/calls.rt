@@ -1,11 +1,16 @@
 //! What a script's calls answer over the desk of their thread.
-ghost use Rattle.std.specs.Prelude.{◌≡◌, ◌≤◌, ◌<◌, length, take, IfOk, OnErr};
+ghost use Rattle.std.specs.Prelude.{◌≡◌, ◌≤◌, ◌<◌, false, length, take, IfOk, OnErr};
 ghost use Rattle.xa_desk.specs.GoesOn.{GoesOn};
 ghost use Rattle.xa_desk.specs.Kept.{AllKept};
 ghost use Rattle.xa_switch.specs.Asking.{asked_of, native};
-ghost use Rattle.xa_switch.specs.Putting.{Calls};
+ghost use Rattle.xa_switch.specs.Completing.{completion_waits};
+ghost use Rattle.xa_switch.specs.Putting.{Calls, call_waits};
+ghost use Rattle.xa_switch.specs.Scans.{asks};
+ghost use Rattle.xa_words.specs.Flags.{check_flags};
 ghost use Rattle.xa_words.specs.Xid.{XidName};
+ghost use Rattle.xa_words.specs.declared.flags.Call.TheVariants as call;
 ghost use Rattle.xa_session.specs.Calling.{shown, completed, HasAnswered, HasCollected, HasListed, IsListed, Answers};
+ghost use Rattle.xa_session.specs.Calling.{action_waits};
 
 use crate::answer::Answer;
 use std::alloc::{AllocError, Global};
@@ -39,6 +44,8 @@ fn xa_called<R: Wait, I: Idle>(
     ensures goes_on { GoesOn desk.old desk.new }
     ensures kept { AllKept desk.old → AllKept desk.new }
     ensures idled { I.leads idle.old idle.new }
+    ensures prompt { call_waits desk.old called.now.manager (asked_of call xid called.now.flags) ≡ false
+        → idle.new ≡ idle.old }
 {
     let answer = xa_call(rt, desk, call, xid, called.manager, called.flags, idle);
     shown(called, answer)
@@ -59,6 +66,7 @@ pub(crate) fn answer<R: Wait, I: Idle>(
     ensures unsent { OnErr result (desk.new ≡ desk.old) }
     ensures unscanned { OnErr result (scan.new ≡ scan.old) }
     ensures idled { I.leads idle.old idle.new }
+    ensures prompt { action_waits called.now.action called.now desk.old scan.old ≡ false → idle.new ≡ idle.old }
 {
     match called.action {
         Action::Xa(call, xid) => Ok(xa_called(rt, desk, called, call, xid, idle)),
@@ -103,6 +111,8 @@ fn recovered<R: Wait, I: Idle>(
     ensures unsent { OnErr result (desk.new ≡ desk.old) }
     ensures unscanned { OnErr result (scan.new ≡ scan.old) }
     ensures idled { I.leads idle.old idle.new }
+    ensures prompt { asks desk.old scan.old called.now.manager (check_flags call.Recover called.now.flags) ≡ false
+        → idle.new ≡ idle.old }
 {
     let (manager, flags) = (called.manager, called.flags);
     let mut xids = blank(alloc, room)?;
@@ -137,6 +147,8 @@ fn native_called<R: Wait, I: Idle>(
     ensures goes_on { GoesOn desk.old desk.new }
     ensures kept { AllKept desk.old → AllKept desk.new }
     ensures idled { I.leads idle.old idle.new }
+    ensures prompt { call_waits desk.old called.now.manager (native op called.now.flags) ≡ false
+        → idle.new ≡ idle.old }
 {
     let answer = native(rt, desk, op, called.manager, called.flags, idle);
     shown(called, answer)
@@ -154,6 +166,7 @@ fn completed<R: Wait, I: Idle>(
     ensures goes_on { GoesOn desk.old desk.new }
     ensures kept { AllKept desk.old → AllKept desk.new }
     ensures idled { I.leads idle.old idle.new }
+    ensures prompt { completion_waits (check_flags call.Complete called.now.flags) ≡ false → idle.new ≡ idle.old }
 {
     let (manager, flags) = (called.manager, called.flags);
     let (mut handle, mut retval) = (handle, 0);

@@ -3,6 +3,7 @@ ghost use Rattle.std.specs.Prelude.{◌≡◌, IfOk, OnErr};
 ghost use Rattle.xa_desk.specs.GoesOn.{GoesOn};
 ghost use Rattle.xa_desk.specs.Kept.{AllKept};
 ghost use Rattle.xa_session.specs.Committing.{branch_at, branches_of, CommitsAll};
+ghost use Rattle.xa_driver.specs.Trace.{MayCommit};
 ghost use Rattle.xa_switch.specs.Scans.{ScanView};
 ghost use Rattle.xa_session.specs.Sessions.{session_of};
 
@@ -57,6 +58,7 @@ pub(crate) fn commit<R: Wait, I: Idle>(
     ensures unsent { OnErr result (desk.new ≡ desk.old) }
     ensures unlogged { OnErr result (log.new ≡ log.old) }
     ensures idled { I.leads idle.old idle.new }
+    ensures prompt { ¬ MayCommit desk.old log.old.state (branches_of asked.now) → idle.new ≡ idle.old }
 {
     desks_go_on();
     let (line, thread) = (asked.line, asked.thread);

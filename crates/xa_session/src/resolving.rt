@@ -2,6 +2,7 @@
 ghost use Rattle.std.specs.Prelude.{◌≡◌, IfOk, OnErr};
 ghost use Rattle.xa_desk.specs.GoesOn.{GoesOn};
 ghost use Rattle.xa_desk.specs.Kept.{AllKept};
+ghost use Rattle.xa_driver.specs.Resolving.{MayResolve};
 ghost use Rattle.xa_session.specs.Resolving.{ResolvesLeft};
 ghost use Rattle.xa_session.specs.Sessions.{session_of};
 
@@ -30,6 +31,7 @@ pub(crate) fn resolve_left<R: Wait, I: Idle>(
     ensures kept { AllKept desk.old → AllKept desk.new }
     ensures unsent { OnErr result (desk.new ≡ desk.old) }
     ensures idled { I.leads idle.old idle.new }
+    ensures prompt { ¬ MayResolve desk.old scan.now → idle.new ≡ idle.old }
 {
     desks_go_on();
     let (line, thread) = (asked.line, asked.thread);

@@ -3,6 +3,7 @@ ghost use Rattle.std.specs.Prelude.{◌≡◌, IfOk, OnErr};
 ghost use Rattle.xa_desk.specs.GoesOn.{GoesOn};
 ghost use Rattle.xa_desk.specs.Kept.{AllKept};
 ghost use Rattle.xa_session.specs.Sessions.{log_of, session_of, new_session, new_sessions, sessions_again, Does};
+ghost use Rattle.xa_session.specs.Sessions.{MayWait};
 
 use crate::answer::Answer;
 use crate::calls::answer;
@@ -52,6 +53,7 @@ pub fn carry_out<R: Wait, I: Idle>(
     ensures unlogged { OnErr result (log.new ≡ log.old) }
     ensures unscanned { OnErr result (scan.new ≡ scan.old) }
     ensures idled { I.leads idle.old idle.new }
+    ensures prompt { ¬ MayWait task.now (session_of desk.old log.old scan.old) → idle.new ≡ idle.old }
 {
     match task {
         Task::Call(called) => answer(rt, alloc, desk, scan, called, idle),

@@ -1,17 +1,17 @@
 //! Eight threads at eight managers: `xa_soak SEED ACTIONS`. Each thread does so many things at random, and once all is
-//! settled the journals are replayed by the sequential tables. It writes `agrees` where each code and each value is the
-//! replay's, with status 0, and to standard error what the threads did.
+//! settled the journals are replayed by the sequential tables (xa_replay). It writes `agrees` where each code and each
+//! value is the replay's, with status 0, and to standard error what the threads did. Where threads did a hundred things
+//! or more, each manager was opened by one; else the status is 5.
 #![tactic(auto)]
 
-ghost use Rattle.std.specs.Prelude.{◌≡◌, IfSome};
+ghost use Rattle.std.specs.Prelude.{◌≡◌, true, IfSome, Some};
+ghost use Rattle.xa_soak.specs.Soak.{AgreesAt, AllAgree, AreValuesAt, sent_by_all};
 
 mod counts;
 mod random;
-mod replay;
 mod visitor;
 
 use counts::Counts;
-use replay::agrees;
 use std::alloc::Global;
 use std::env;
 use std::io::Write;
@@ -21,6 +21,7 @@ use std::sync::Wait;
 use std::thread::Threads;
 use visitor::{NAMES, VALUE, Visitor};
 use xa_crew::run_clients;
+use xa_replay::{agrees, was_opened};
 use xa_switch::{ManagerPlan, Plan, Settled};
 use xa_words::Key;
 use xa_worker::Free;
@@ -81,15 +82,64 @@ fn soak<R: Threads + Wait + Copy + Send + 'static>(
     Some((all, run.settled))
 }
 
-// Whether each manager's journal is what its tables give. None where there is no memory for that.
-fn all_agree(alloc: Global, settled: &Settled) -> Option<bool> {
-    let accounts = accounts(alloc)?;
+// How many requests each thread sent to the manager, by rising thread.
+fn sent_to(settled: &Settled, manager: u32) -> [usize; 8]
+    ensures { result ≡ sent_by_all settled.now manager }
+{
+    [1, 2, 3, 4, 5, 6, 7, 8].map(|thread: u32| settled.sent(thread, manager).len())
+}
+
+// The values that the manager's keys have at the end.
+fn values_at(
+    alloc: Global,
+    settled: &Settled,
+    manager: u32,
+    accounts: &[(Key, u64)],
+) -> Option<Vec<(Key, Option<u64>)>>
+    ensures { IfSome result (λ v. AreValuesAt accounts.now settled.now manager v.items) }
+{
+    let mut values = Vec::new(alloc);
+    for account in accounts {
+        values
+            .push((account.0, settled.value(manager, &account.0)))
+            .ok()?;
+    }
+    Some(values)
+}
+
+// Whether the manager's journal, its threads' requests and the values of its keys are those of a replay. None where
+// there is no memory for that.
+fn agrees_at(
+    alloc: Global,
+    settled: &Settled,
+    manager: u32,
+    accounts: &[(Key, u64)],
+) -> Option<bool>
+    ensures { result ≡ Some true → AgreesAt accounts.now settled.now manager }
+{
+    let values = values_at(alloc, settled, manager, accounts)?;
+    let sent = sent_to(settled, manager);
+    Some(agrees(alloc, accounts, settled.journal(manager), &sent, &values))
+}
+
+// The same for all managers.
+fn all_agree(alloc: Global, settled: &Settled, accounts: &[(Key, u64)]) -> Option<bool>
+    ensures { result ≡ Some true → AllAgree accounts.now settled.now }
+{
     for before in 0..MANAGERS {
-        if !agrees(alloc, settled, before + 1, &accounts) {
+        if !agrees_at(alloc, settled, before + 1, accounts)? {
             return Some(false);
         }
     }
     Some(true)
+}
+
+// The fewest things of each thread by which each manager is sure to be opened by one of them.
+const ENOUGH: u32 = 100;
+
+// Whether each manager was opened by a thread.
+fn all_were_opened(settled: &Settled) -> bool {
+    (0..MANAGERS).all(|before| was_opened(settled.journal(before + 1)))
 }
 
 // The number at this place after the program's name.
@@ -106,10 +156,16 @@ fn main(rt: HostRuntime) -> ExitCode {
         return ExitCode::from(3);
     };
     let _ = writeln!(rt.stderr(), "{counts}");
-    match all_agree(alloc, &settled) {
+    let Some(accounts) = accounts(alloc) else {
+        return ExitCode::from(3);
+    };
+    match all_agree(alloc, &settled, &accounts) {
         Some(true) => {}
         Some(false) => return ExitCode::from(1),
         None => return ExitCode::from(3),
+    }
+    if ENOUGH <= actions && !all_were_opened(&settled) {
+        return ExitCode::from(5);
     }
     match rt.stdout().write_all(b"agrees\n") {
         Ok(()) => ExitCode::from(0),

@@ -11,6 +11,7 @@ use Rattle.xa_words.specs.declared.flags.Mode.{Mode}
 use Rattle.xa_desk.specs.declared.operation.Operation.{Operation}
 use Rattle.xa_desk.specs.DeskView.{DeskView, is_known, IsHandle, keeps_at, ready_at}
 use Rattle.xa_desk.specs.Looks.{EndsQuiet, Collects, CollectsKept, CollectsLeast}
+use Rattle.xa_desk.specs.Waits.{WaitsFor, WaitsForAny}
 
 -- The number that a handle from outside stands for.
 abbrev pub number_in : ℤ → Option ℕ
@@ -99,3 +100,32 @@ pub record HasCompleted (old : DeskView) (handle retval : ℤ) (m flags : ℕ) (
 abbrev pub completion_waits : Result Mode Code → Bool
 completion_waits (Ok mode) = not mode.nowait
 completion_waits (Err c) = false
+
+-- ---- how it waits
+
+module _ {I : Type 0} (by : ℕ → I → I → Type 0) where
+  -- the operation of manager m that was kept under the number was waited for, and at m alone
+  pub record WaitsRedeemed (old new : DeskView) (before after : I) (k m : ℕ) (c : Code) : Type 0 where
+    pub operation : Operation
+    pub kept : map.get old.kept k ≡ Some operation
+    pub manager : operation.manager ≡ m
+    pub waits : WaitsFor (by m) (record old { kept = map.remove old.kept k }) new before after operation c
+
+  -- what was collected was waited for as the desk does: with TMMULTIPLE any operation of m, and else that of the handle
+  abbrev pub WaitsIn : Bool → DeskView → Option ℕ → ℕ → DeskView → I → I → ℕ × Code → Type 0
+  WaitsIn true old number m new before after r = WaitsForAny (by m) old new before after m r.0 r.1
+  WaitsIn false old number m new before after r =
+      (number ≡ Some r.0) × WaitsRedeemed old new before after r.0 m r.1
+
+  -- so where the flags came to this, if they let it wait
+  abbrev pub CompletesAndWaits : Result Mode Code → DeskView → Option ℕ → ℕ → DeskView → I → I → ℕ × Code → Type 0
+  CompletesAndWaits (Ok mode) old number m new before after r =
+      mode.nowait ≡ false → WaitsIn mode.multiple old number m new before after r
+  CompletesAndWaits (Err c) old number m new before after r = Unit {0}
+
+  -- how an xa_complete waited that has written this
+  pub record HasWaited (old : DeskView) (handle : ℤ) (m flags : ℕ) (new : DeskView) (before after : I)
+      (handle' retval' : ℤ) : Type 0 where
+    pub collected : ℕ × Code
+    pub told : (handle' ≡ pos collected.0) × (retval' ≡ number_of collected.1)
+    pub waits : CompletesAndWaits (check_flags call.Complete flags) old (number_in handle) m new before after collected

@@ -12,6 +12,7 @@ use Rattle.xa_desk.specs.DeskView.{DeskView, ledger, next_operation, IsLeastFree
 use Rattle.xa_desk.specs.DeskView.{call_refusal}
 use Rattle.xa_desk.specs.Lanes.{submitted, after_full, after_fulls}
 use Rattle.xa_desk.specs.Looks.{Collects}
+use Rattle.xa_desk.specs.Waits.{SendsAndWaits}
 use Rattle.xa_switch.specs.declared.asked.Asked.{Asked}
 
 -- the code that a refusal of a desk is answered as
@@ -60,3 +61,11 @@ Calls (Err c) old m new answer = (answer ≡ number_of c) × (new ≡ old)
 abbrev pub call_waits : DeskView → ℕ → Result Asked Code → Bool
 call_waits d m (Ok asked) = not asked.asynchronous && not (is_some (put_refusal d m asked.asynchronous))
 call_waits d m (Err c) = false
+
+-- And where it may, it waits as its desk does, at its manager, and idles nowhere else.
+abbrev pub CallsAndWaits : {I : Type 0} → (ℕ → I → I → Type 0) → Result Asked Code → DeskView → ℕ → DeskView → I → I
+    → ℤ → Type 0
+CallsAndWaits by (Ok asked) old m new before after answer =
+    call_waits old m (Ok asked) ≡ true
+    → (c : Code) × (answer ≡ number_of c) × SendsAndWaits (by m) old new before after m asked.op c
+CallsAndWaits by (Err why) old m new before after answer = Unit {0}

@@ -107,8 +107,9 @@ pub record AreAll (ds : List EndedView) (ws : List Served) : Type 0 where
   pub workers : All (λ d. HasWorkers (length d.ledgers) ws) ds
   pub desks : All (λ w. HasDesks w.manager.threads ds) ws
 
--- why pieces are not settled: a piece of another opening comes before one that isn't there
+-- why pieces are not settled: a piece of another opening comes before one that isn't there, and that before want of
+-- memory
 abbrev pub IsWhyUnsettled : Why → List EndedView → List Served → Type 0
-IsWhyUnsettled NoMemory ds ws = Unit {0}
+IsWhyUnsettled NoMemory ds ws = AreOfOne ds ws × AreAll ds ws
 IsWhyUnsettled Stranger ds ws = ¬ AreOfOne ds ws
 IsWhyUnsettled Missing ds ws = AreOfOne ds ws × (¬ AreAll ds ws)

@@ -7,7 +7,7 @@ ghost use Rattle.xa_desk.specs.Kept.{AllKept};
 ghost use Rattle.xa_desk.specs.Lanes.{submitted, after_full};
 ghost use Rattle.xa_desk.specs.Tickets.{LeavesTickets};
 ghost use Rattle.xa_switch.specs.Asking.{asked_of, native};
-ghost use Rattle.xa_switch.specs.Putting.{code_of, put_refusal, Puts, Calls, call_waits};
+ghost use Rattle.xa_switch.specs.Putting.{code_of, put_refusal, Puts, Calls, CallsAndWaits, call_waits};
 
 use crate::asked::{Asked, asked_of, native_of};
 use std::sync::Wait;
@@ -62,6 +62,7 @@ fn put<R: Wait, I: Idle>(rt: &R, desk: &mut Desk, manager: u32, asked: Asked, id
     ensures tickets { LeavesTickets desk.old desk.new }
     ensures idled { I.leads idle.old idle.new }
     ensures prompt { call_waits desk.old manager (Ok asked) ≡ false → idle.new ≡ idle.old }
+    ensures waited { CallsAndWaits I.leads_by (Ok asked) desk.old manager desk.new idle.old idle.new result }
 {
     desks_go_on();
     if asked.asynchronous {
@@ -89,6 +90,7 @@ fn put_asked<R: Wait, I: Idle>(
     ensures tickets { LeavesTickets desk.old desk.new }
     ensures idled { I.leads idle.old idle.new }
     ensures prompt { call_waits desk.old manager asked ≡ false → idle.new ≡ idle.old }
+    ensures waited { CallsAndWaits I.leads_by asked desk.old manager desk.new idle.old idle.new result }
 {
     desks_go_on();
     match asked {
@@ -105,6 +107,9 @@ fn put_asked<R: Wait, I: Idle>(
 /// learnt to be shut; XAER_ASYNC for an asynchronous call where the manager takes none or no handle is free; XAER_RMERR
 /// where the thread has used up its requests to the manager; XAER_ASYNC for an asynchronous call where the manager's
 /// queue is full.
+///
+/// A call that waits idles on its manager alone: after each offer that found the queue full, and after each look that
+/// found no answer (`waited`).
 pub fn xa_call<R: Wait, I: Idle>(
     rt: &R,
     desk: &mut Desk,
@@ -120,6 +125,8 @@ pub fn xa_call<R: Wait, I: Idle>(
     ensures tickets { LeavesTickets desk.old desk.new }
     ensures idled { I.leads idle.old idle.new }
     ensures prompt { call_waits desk.old manager (asked_of call xid flags) ≡ false → idle.new ≡ idle.old }
+    ensures waited { CallsAndWaits I.leads_by (asked_of call xid flags) desk.old manager desk.new idle.old idle.new
+        result }
 {
     put_asked(rt, desk, manager, asked_of(call, xid, flags), idle)
 }
@@ -139,6 +146,7 @@ pub fn native<R: Wait, I: Idle>(
     ensures tickets { LeavesTickets desk.old desk.new }
     ensures idled { I.leads idle.old idle.new }
     ensures prompt { call_waits desk.old manager (native op flags) ≡ false → idle.new ≡ idle.old }
+    ensures waited { CallsAndWaits I.leads_by (native op flags) desk.old manager desk.new idle.old idle.new result }
 {
     put_asked(rt, desk, manager, native_of(op, flags), idle)
 }

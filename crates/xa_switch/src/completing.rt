@@ -5,8 +5,10 @@ ghost use Rattle.xa_desk.specs.DeskView.{IsHandle};
 ghost use Rattle.xa_desk.specs.GoesOn.{GoesOn};
 ghost use Rattle.xa_desk.specs.Kept.{AllKept};
 ghost use Rattle.xa_desk.specs.Tickets.{LeavesTickets};
+ghost use Rattle.xa_desk.specs.Waits.{WaitsForAny};
 ghost use Rattle.xa_switch.specs.Completing.{number_in, keeps_for, CompletesOne, CompletesAny, may_complete};
 ghost use Rattle.xa_switch.specs.Completing.{CompletesIn, CompletesBy, Tells, HasCompleted, completion_waits};
+ghost use Rattle.xa_switch.specs.Completing.{WaitsIn, CompletesAndWaits, HasWaited};
 
 use std::sync::Wait;
 use xa_desk::laws::desks_go_on;
@@ -47,6 +49,8 @@ fn complete_one<R: Wait, I: Idle>(
     ensures idled { I.leads idle.old idle.new }
     ensures refused { IsErr result → idle.new ≡ idle.old }
     ensures prompt { IsTrue nowait → idle.new ≡ idle.old }
+    ensures waited { IfOk result (λ r. nowait ≡ false → WaitsIn I.leads_by false desk.old number manager desk.new
+        idle.old idle.new r) }
 {
     desks_go_on();
     let Some(number) = number else {
@@ -82,6 +86,8 @@ fn complete_any<R: Wait, I: Idle>(
     ensures idled { I.leads idle.old idle.new }
     ensures refused { IsErr result → idle.new ≡ idle.old }
     ensures prompt { IsTrue nowait → idle.new ≡ idle.old }
+    ensures waited { IfOk result (λ r. nowait ≡ false → WaitsForAny (I.leads_by manager) desk.old desk.new idle.old
+        idle.new manager r.0 r.1) }
 {
     desks_go_on();
     if nowait {
@@ -120,6 +126,8 @@ fn complete_in<R: Wait, I: Idle>(
     ensures idled { I.leads idle.old idle.new }
     ensures refused { IsErr result → idle.new ≡ idle.old }
     ensures prompt { IsTrue mode.nowait → idle.new ≡ idle.old }
+    ensures waited { IfOk result (λ r. mode.nowait ≡ false → WaitsIn I.leads_by mode.multiple desk.old number manager
+        desk.new idle.old idle.new r) }
 {
     desks_go_on();
     if !may_complete(desk, manager, mode.multiple) {
@@ -148,6 +156,8 @@ fn complete_by<R: Wait, I: Idle>(
     ensures idled { I.leads idle.old idle.new }
     ensures refused { IsErr result → idle.new ≡ idle.old }
     ensures prompt { completion_waits mode ≡ false → idle.new ≡ idle.old }
+    ensures waited { IfOk result (CompletesAndWaits I.leads_by mode desk.old number manager desk.new idle.old
+        idle.new) }
 {
     desks_go_on();
     match mode {
@@ -180,6 +190,9 @@ fn tell(collected: Result<(u32, Code), Code>, handle: &mut i32, retval: &mut i32
 /// has; XAER_INVAL for a handle under which no operation of the manager is kept; with `TMMULTIPLE`
 /// XAER_PROTO where nothing of the manager is kept; with `TMNOWAIT` XA_RETRY where nothing that is asked
 /// for has completed.
+///
+/// While it waits it idles on the manager that is given, on 0 for any, after each look that found nothing that is asked
+/// for (`waited`).
 pub fn xa_complete<R: Wait, I: Idle>(
     rt: &R,
     desk: &mut Desk,
@@ -197,6 +210,8 @@ pub fn xa_complete<R: Wait, I: Idle>(
     ensures idled { I.leads idle.old idle.new }
     ensures refused { result ≢ pos 0 → idle.new ≡ idle.old }
     ensures prompt { completion_waits (check_flags Call.Complete flags) ≡ false → idle.new ≡ idle.old }
+    ensures waited { result ≡ pos 0 → HasWaited I.leads_by desk.old handle.old manager flags desk.new idle.old idle.new
+        handle.new retval.new }
 {
     let (number, mode) = (number_in(*handle), check_flags(Call::Complete, flags));
     let collected = complete_by(rt, desk, number, manager, mode, idle);

@@ -11,7 +11,7 @@ ghost use Rattle.xa_desk.specs.Tickets.{LeavesTickets};
 ghost use Rattle.xa_base.specs.Lists.{IsUpTo};
 ghost use Rattle.xa_switch.specs.Putting.{put_refusal};
 ghost use Rattle.xa_switch.specs.Scans.{Answers, Scans, looked_at, written, left_at, room_in, start_of, Recovers};
-ghost use Rattle.xa_switch.specs.Scans.{RecoversBy, HasRecovered, asks};
+ghost use Rattle.xa_switch.specs.Scans.{RecoversBy, HasRecovered, asks, AsksAndWaits, RecoversAndWaits};
 
 use crate::calls::code_of;
 use crate::scan::Scan;
@@ -35,6 +35,8 @@ fn ask<R: Wait, I: Idle>(
     ensures idled { I.leads idle.old idle.new }
     ensures kept { AllKept desk.old → AllKept desk.new }
     ensures prompt { is_some (put_refusal desk.old manager false) ≡ true → idle.new ≡ idle.old }
+    ensures waited { AsksAndWaits (I.leads_by manager) manager (desk.old, idle.old) (Listed xid) (desk.new, idle.new)
+        result }
 {
     desks_go_on();
     match desk.call(rt, manager, Op::Listed(xid), idle) {
@@ -63,6 +65,9 @@ fn look<R: Wait, I: Idle>(
     ensures tickets { LeavesTickets desk.old desk.new }
     ensures idled { I.leads idle.old idle.new }
     ensures kept { AllKept desk.old → AllKept desk.new }
+    ensures waited { (found : List XidName) × Scans (AsksAndWaits (I.leads_by manager) manager) room left.now
+        (desk.old, idle.old) (desk.new, idle.new) found (looked_at result) × (xids.new ≡ written found xids.old)
+        × IfOk result (λ r. r.0 ≡ length found) }
 {
     desks_go_on();
     let mut found = 0;
@@ -112,6 +117,8 @@ fn recover_from<R: Wait, I: Idle>(
     ensures idled { I.leads idle.old idle.new }
     ensures kept { AllKept desk.old → AllKept desk.new }
     ensures prompt { is_some (put_refusal desk.old manager false) ≡ true → idle.new ≡ idle.old }
+    ensures waited { Recovers (AsksAndWaits (I.leads_by manager) manager) manager mode place (desk.old, idle.old)
+        scan.old xids.old (desk.new, idle.new) scan.new xids.new result }
 {
     desks_go_on();
     match ask(rt, desk, manager, None, idle) {
@@ -152,6 +159,9 @@ fn recover_by<R: Wait, I: Idle>(
     ensures idled { I.leads idle.old idle.new }
     ensures kept { AllKept desk.old → AllKept desk.new }
     ensures prompt { asks desk.old scan.old manager (check_flags call.Recover flags) ≡ false → idle.new ≡ idle.old }
+    ensures waited { RecoversBy (AsksAndWaits (I.leads_by manager) manager) (is_known desk.old.ledgers manager)
+        (check_flags call.Recover flags) manager (desk.old, idle.old) scan.old xids.old (desk.new, idle.new) scan.new
+        xids.new result }
 {
     desks_go_on();
     let mode = check_flags(Call::Recover, flags)?;
@@ -180,6 +190,8 @@ fn recover_by<R: Wait, I: Idle>(
 /// XAER_RMERR where the thread has used up its requests to the manager; else the manager's code, as XAER_PROTO where
 /// the thread hasn't opened it. After a negative answer the scan stands where it stood; the slice may have been
 /// written.
+///
+/// While it waits for an answer it idles on the manager alone (`waited`).
 pub fn xa_recover<R: Wait, I: Idle>(
     rt: &R,
     desk: &mut Desk,
@@ -195,6 +207,8 @@ pub fn xa_recover<R: Wait, I: Idle>(
     ensures tickets { LeavesTickets desk.old desk.new }
     ensures idled { I.leads idle.old idle.new }
     ensures prompt { asks desk.old scan.old manager (check_flags call.Recover flags) ≡ false → idle.new ≡ idle.old }
+    ensures waited { RecoversAndWaits I.leads_by manager flags (desk.old, idle.old) scan.old xids.old
+        (desk.new, idle.new) scan.new xids.new result }
 {
     match recover_by(rt, desk, scan, xids, manager, flags, idle) {
         Ok(found) => found as i32,

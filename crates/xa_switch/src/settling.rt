@@ -1,7 +1,7 @@
 //! How an opening is settled, once its desks have ended and its workers have run.
 ghost use Rattle.std.specs.Prelude.{◌≡◌, ◌≤◌, length, map, IfOk, IfErr, OnOk};
 ghost use Rattle.std.specs.List.{All};
-ghost use Rattle.xa_switch.specs.Settling.{IsSettled};
+ghost use Rattle.xa_switch.specs.Settling.{IsSettled, journal};
 ghost use Rattle.xa_switch.specs.Seats.{desk_seats, worker_seats, ComeFromOpenings, AreOfOne, AreAll, IsWhyUnsettled};
 ghost use Rattle.xa_switch.specs.Seats.{first_opening};
 ghost use Rattle.xa_switch.specs.Closing.{settling, HasRoomFor};
@@ -22,12 +22,12 @@ use xa_worker::DoneWorker;
 /// Why an opening is not settled: the first reason that holds.
 #[derive(Clone, Copy, Debug, PartialEq, Eq)]
 pub enum Why {
-    /// There is no memory to settle it.
-    NoMemory,
     /// A desk or a worker is of another opening than the first one.
     Stranger,
     /// Not every desk and worker of the opening is there.
     Missing,
+    /// There is no memory to settle it.
+    NoMemory,
 }
 
 /// An opening that is not settled. All that was given comes back.
@@ -42,7 +42,7 @@ pub struct Unsettled {
 /// once and in the thread's order, and each request was collected once, with the code that the
 /// sequential tables give it at its place.
 ///
-/// The desks and the workers may come in any order. All memory is taken and all is checked before any
+/// The desks and the workers may come in any order. All is checked and all memory is taken before any
 /// lane is closed.
 ///
 /// Condition: desks and workers of one opening number come from one opening.
@@ -56,16 +56,12 @@ pub fn settle<R: Wait>(
     ensures settled { IfOk result (λ s. IsSettled s) }
     ensures parts { IfOk result (λ s. s ≡ settling desks.items workers.items) }
     ensures lists { IfOk result (λ s. map (λ e. ledgers_of s e.thread) desks.items ≡ map (λ e. e.ledgers) desks.items) }
+    ensures journals { IfOk result (λ s. map (λ w. journal s w.number) workers.items
+        ≡ map (λ w. w.journal) workers.items) }
     ensures whole { OnOk result (AreOfOne desks.items workers.items × AreAll desks.items workers.items) }
     ensures why { IfErr result (λ u. IsWhyUnsettled u.why desks.items workers.items) }
     ensures back { IfErr result (λ u. (u.desks.items ≡ desks.items) × (u.workers.items ≡ workers.items)) }
 {
-    let Ok(desk_room) = reserve_gathered(alloc, desks.len()) else {
-        return Err(refused(Why::NoMemory, desks, workers));
-    };
-    let Ok(worker_room) = reserve_gathered(alloc, workers.len()) else {
-        return Err(refused(Why::NoMemory, desks, workers));
-    };
     let opening = first_opening(&desks, &workers);
     if !are_of_one(&desks, &workers) {
         return Err(refused(Why::Stranger, desks, workers));
@@ -73,6 +69,12 @@ pub fn settle<R: Wait>(
     if !are_all(&desks, &workers) {
         return Err(refused(Why::Missing, desks, workers));
     }
+    let Ok(desk_room) = reserve_gathered(alloc, desks.len()) else {
+        return Err(refused(Why::NoMemory, desks, workers));
+    };
+    let Ok(worker_room) = reserve_gathered(alloc, workers.len()) else {
+        return Err(refused(Why::NoMemory, desks, workers));
+    };
     Ok(close_all(rt, alloc, opening, desks, workers, desk_room, worker_room))
 }
 
@@ -106,6 +108,7 @@ fn close_all<R: Wait>(
     requires worker_room { HasRoomFor (length workers.items) worker_room }
     ensures parts { result ≡ settling desks.items workers.items }
     ensures lists { map (λ e. ledgers_of result e.thread) desks.items ≡ map (λ e. e.ledgers) desks.items }
+    ensures journals { map (λ w. journal result w.number) workers.items ≡ map (λ w. w.journal) workers.items }
     ensures settled { IsSettled result }
 {
     let Gathered {

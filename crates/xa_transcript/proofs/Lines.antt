@@ -66,11 +66,11 @@ use Rattle.xa_transcript.proofs.Sent.{Sends, answered, kept, nothing, is_recover
 
 commit_grows : (m : ℕ) (c : CommitAll) (old new : Session) (a : Answer) → CommitsAll c old new a → Grows m old.desk.ledgers new.desk.ledgers
 commit_grows m c old new a (refused why told e) = grows_same m old.desk.ledgers new.desk.ledgers (ap (λ (x : Session). x.desk.ledgers) e)
-commit_grows m c old new a (decided done may trace still keeps as_many told) = trace_grows (named c) (branches_of c) old.desk.ledgers new.desk.ledgers old.log.state new.log.state done trace may.room m
+commit_grows m c old new a (decided done may trace still keeps as_many told rounds appends) = trace_grows (named c) (branches_of c) old.desk.ledgers new.desk.ledgers old.log.state new.log.state done trace may.room m
 
 resolve_grows_so : (m : ℕ) (r : Resolve) (old new : Session) (a : Answer) → ResolvesLeft r old new a → Grows m old.desk.ledgers new.desk.ledgers
 resolve_grows_so m r old new a (left_refused why told e) = grows_same m old.desk.ledgers new.desk.ledgers (ap (λ (x : Session). x.desk.ledgers) e)
-resolve_grows_so m r old new a (left_resolved outcomes may trace log still keeps as_many told) = resolve_grows old.scan old.log.state.records old.desk.ledgers new.desk.ledgers outcomes.items trace may.room m
+resolve_grows_so m r old new a (left_resolved outcomes may trace log still keeps as_many told in_turn) = resolve_grows old.scan old.log.state.records old.desk.ledgers new.desk.ledgers outcomes.items trace may.room m
 
 action_grows : (m : ℕ) (x : Action) (p : Called) → wanted_by x p.flags ≡ wanted_in p → (old new : Session) (a : Answer) → Answers x p old.desk old.scan new.desk new.scan a → Grows m old.desk.ledgers new.desk.ledgers
 action_grows m (action.Xa c y) p e old new a is = (answers_do (action.Xa c y) p refl e old.desk new.desk old.scan new.scan a is m).1
@@ -222,7 +222,7 @@ module _ (settled : Settling) (t : ℕ) (ops : ℕ → List Op) (pairs : ℕ →
   -- and what a commit does
   commit_takes : (c : CommitAll) (old new : Session) (a : Answer) → c.thread ≡ t → ((m : ℕ) → AllSent m old.desk.ledgers) → AllThere new.desk.ledgers → CommitsAll c old new a → CommitTakes c a (part_of old) (part_of new)
   commit_takes c old new a own sound all (refused why told e) = takes_none told (ap part_of e)
-  commit_takes c old new a own sound all (decided done may trace still keeps as_many told) =
+  commit_takes c old new a own sound all (decided done may trace still keeps as_many told rounds appends) =
       let at = old.desk.ledgers in
       let at' = new.desk.ledgers in
       takes_decided done told (record {
@@ -241,7 +241,7 @@ module _ (settled : Settling) (t : ℕ) (ops : ℕ → List Op) (pairs : ℕ →
   -- and a resolve
   resolve_takes : (r : Resolve) (old new : Session) (a : Answer) → r.thread ≡ t → ((m : ℕ) → AllSent m old.desk.ledgers) → AllThere new.desk.ledgers → ResolvesLeft r old new a → ResolveTakes r a (part_of old) (part_of new)
   resolve_takes r old new a own sound all (left_refused why told e) = ends_none told (ap part_of e)
-  resolve_takes r old new a own sound all (left_resolved outcomes may trace log still keeps as_many told) =
+  resolve_takes r old new a own sound all (left_resolved outcomes may trace log still keeps as_many told in_turn) =
       let at = old.desk.ledgers in
       let at' = new.desk.ledgers in
       ends_left outcomes told (record {

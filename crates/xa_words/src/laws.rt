@@ -6,6 +6,7 @@ ghost use Rattle.xa_words.specs.Xid.{XidName, xid_cmp};
 ghost use Rattle.xa_words.specs.Tran.{TranName};
 ghost use Rattle.xa_words.specs.Key.{key_cmp};
 ghost use Rattle.xa_words.specs.Delta.{IsDelta, is_delta};
+ghost use Rattle.xa_words.specs.declared.flags.TheConstants.{TMNOFLAGS, TMUSEASYNC};
 
 use crate::key::Key;
 use crate::tran::Tran;
@@ -44,4 +45,10 @@ pub fn keys_are_ordered()
 /// The test of a change's amount holds exactly within the limit.
 pub fn changes_are_within_the_limit()
     ensures { (z : ℤ) → IsTrue (is_delta z) ↔ IsDelta z }
+{}
+
+/// What xa.h has beside the flags that a call may take: that none stands, and the flag of a switch.
+pub fn other_flags_have_their_numbers()
+    ensures none { TMNOFLAGS ≡ 0x00000000 }
+    ensures switch { TMUSEASYNC ≡ 0x00000004 }
 {}

@@ -5,3 +5,4 @@ pub mod Ties
 pub mod Orders
 pub mod Seated
 pub mod Kept
+pub mod Paced

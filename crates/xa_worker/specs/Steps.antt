@@ -1,11 +1,12 @@
 -- What the steps of a worker do.
-use Rattle.std.specs.Prelude.{◌≡◌, ◌⊎◌, ℕ, ◌+◌, ◌-◌, ◌<◌, Bool, true, false, [], ◌∷◌, ◌++◌, Some, None}
+use Rattle.std.specs.Prelude.{◌≡◌, ◌⊎◌, ℕ, ◌+◌, ◌-◌, ◌<◌, Bool, true, false, List, [], ◌∷◌, ◌++◌, Some, None}
 use Rattle.xa_words.specs.declared.request.Request.{Request}
 use Rattle.xa_lane.specs.declared.parcel.Taken.TheVariants.{Item, EndOf, Empty as Nothing}
 use Rattle.xa_lane.specs.Ends.{Took}
 use Rattle.xa_worker.specs.declared.step.Step.{Step}
 use Rattle.xa_worker.specs.declared.step.Step.TheVariants.{Did, Late, EndSeen, Empty, Blocked}
-use Rattle.xa_worker.specs.Journal.{entry_next, applied, completion_of}
+use Rattle.xa_tables.specs.History.{History}
+use Rattle.xa_worker.specs.Journal.{Entry, entry_next, applied, completion_of, requests}
 use Rattle.xa_worker.specs.Outgoing.{StillFull, Puts, flushed}
 use Rattle.xa_worker.specs.Workers.{WorkerView, IsUnfit}
 
@@ -63,3 +64,17 @@ Stepped w Late w' = EntersOne w w' × (w.manager.tables.shut ≡ true)
 Stepped w EndSeen w' = SeesEnd w w'
 Stepped w Empty w' = FindsNothing w w'
 Stepped w Blocked w' = Waits w w' ⊎ (StillHolds w w' ⊎ Holds w w')
+
+-- ---- what a pace is told
+
+module _ {P : Type 0} where
+  -- it was told of these requests, one after another, and of nothing else
+  abbrev pub IsTold : (Request → P → P → Type 0) → History → P → P → Type 0
+  IsTold by [] before after = after ≡ before
+  IsTold by (r ∷ rs) before after = (mid : P) × by r before mid × IsTold by rs mid after
+
+  -- from one journal to a later one it was told of each request that was entered, once and in the journal's order
+  pub record Paces (by : Request → P → P → Type 0) (journal journal' : List Entry) (before after : P) : Type 0 where
+    pub entered : List Entry
+    pub grown : journal' ≡ journal ++ entered
+    pub told : IsTold by (requests entered) before after

@@ -1,7 +1,7 @@
 //! One manager's worker.
 ghost use Rattle.std.specs.Prelude.{◌≡◌, ◌↔◌, ◌≤◌, [], length, All, IsTrue};
 ghost use Rattle.xa_worker.specs.Workers.{IsTied, IsFinished, SameWorker, new_worker};
-ghost use Rattle.xa_worker.specs.Steps.{Stepped};
+ghost use Rattle.xa_worker.specs.Steps.{Stepped, Paces};
 ghost use Rattle.xa_worker.specs.Done.{IsServed, SameServed};
 ghost use Rattle.xa_worker.specs.Seats.{seat_of_worker, seat_of_done};
 ghost use Rattle.xa_worker.specs.Inner.{AreSet};
@@ -129,6 +129,7 @@ impl Worker {
         ensures same { SameWorker self.old self.new }
         ensures tied { IsTied self.new }
         ensures seat { seat_of_worker self.new ≡ seat_of_worker self.old }
+        ensures paced { Paces P.told self.old.journal self.new.journal pace.old pace.new }
     {
         if !self.out.flush(rt) {
             return Step::Blocked;
@@ -175,6 +176,7 @@ impl Worker {
         ensures same { SameServed self result }
         ensures served { IsServed result }
         ensures seat { seat_of_done result ≡ seat_of_worker self }
+        ensures paced { Paces P.told self.journal result.journal pace.old pace.new }
     {
         let mut worker = self;
         for _ in rt.forever() {
@@ -193,6 +195,7 @@ impl Worker {
     fn end<R: Wait>(self, rt: &R) -> DoneWorker
         requires { IsFinished self }
         ensures same { SameServed self result }
+        ensures journal { result.journal ≡ self.journal }
         ensures served { IsServed result }
         ensures seat { seat_of_done result ≡ seat_of_worker self }
     {

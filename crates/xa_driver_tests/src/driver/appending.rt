@@ -1,5 +1,6 @@
 //! What the managers were asked for when the record is appended.
 ghost use Rattle.std.specs.Prelude.{refl};
+ghost use Rattle.xa_driver.specs.Log.{AppendsTo};
 
 use super::plan_of;
 use super::threads::commit_two;
@@ -32,6 +33,8 @@ struct Counting<'a> {
 }
 
 impl Pace for Counting<'_> {
+    ghost told = { λ request before after. Unit {0} };
+
     fn before<R: Wait>(&mut self, _rt: &R, request: &Request) {
         match request.op {
             Op::Prepare(_) => {
@@ -64,6 +67,8 @@ impl DecisionRecords for Watching<'_> {
 
 impl DecisionLog for Watching<'_> {
     ghost state = { λ l. l.inner.state };
+
+    ghost appends = { λ tran yes taken old new. AppendsTo tran yes taken old.inner new.inner };
 
     ghost records_are = { λ l. refl };
 

@@ -3,6 +3,7 @@
 ghost use Rattle.std.specs.Prelude.{refl};
 ghost use Rattle.xa_desk.specs.GoesOn.{GoesOn};
 ghost use Rattle.xa_desk.specs.Kept.{AllKept};
+ghost use Rattle.xa_driver.specs.Log.{AppendsTo};
 
 use super::resolved::recover;
 use super::threads::comes;
@@ -64,6 +65,8 @@ impl DecisionRecords for Waiting {
 
 impl DecisionLog for Waiting {
     ghost state = { λ l. l.inner.state };
+
+    ghost appends = { λ tran yes taken old new. AppendsTo tran yes taken old.inner new.inner };
 
     ghost records_are = { λ l. refl };
 

@@ -35,6 +35,8 @@ struct Meeting<'a> {
 }
 
 impl Pace for Meeting<'_> {
+    ghost told = { λ request before after. Unit {0} };
+
     fn before<R: Wait>(&mut self, _rt: &R, request: &Request) {
         if !matches!(request.op, Op::Prepare(_)) {
             return;

@@ -19,6 +19,8 @@ struct Meeting {
 }
 
 impl Pace for Meeting {
+    ghost told = { λ request before after. Unit {0} };
+
     fn before<R: Wait>(&mut self, _rt: &R, _request: &Request) {
         self.there.fetch_add(1, Ordering::SeqCst);
         for _ in 0..10_000_000 {
@@ -88,6 +90,8 @@ struct Counting {
 }
 
 impl Pace for Counting {
+    ghost told = { λ request before after. Unit {0} };
+
     fn before<R: Wait>(&mut self, _rt: &R, _request: &Request) {
         if let Some(count) = self.counts.get(self.place) {
             count.fetch_add(1, Ordering::SeqCst);

@@ -50,6 +50,8 @@ struct Held<'a> {
 }
 
 impl Pace for Held<'_> {
+    ghost told = { λ request before after. Unit {0} };
+
     fn before<R: Wait>(&mut self, _rt: &R, _request: &Request) {
         self.gate.reached.store(true, Ordering::SeqCst);
         if !comes(&self.gate.opened) {

@@ -70,7 +70,7 @@ decide-decided-requires g c =
 pub let_go-requires-then-eq-3 : goal.let_go-requires-then-eq-3
 let_go-requires-then-eq-3 g c =
     let first = c.finish-prepared.ensures.prepared c.args.branches.now c.args.desk.now c.in_ok-preparing.ensures.preparing in
-    subst (λ (r : Round). IsAtRest r) (sym c.decide-decided.ensures.round) first.rest
+    subst (λ (r : Round). IsAtRest r) (sym c.decide-decided.ensures.decided.round) first.rest
 
 pub returns-then-eq-3-clause-dies : goal.returns-then-eq-3-clause-dies
 returns-then-eq-3-clause-dies g c =
@@ -83,11 +83,11 @@ returns-then-eq-3-clause-dies g c =
     let d = c.decide-decided.result in
     let known : Done = c.let_go-then-eq-3.result in
     let first : HasPrepared bs desk.ledgers new p = c.finish-prepared.ensures.prepared bs desk c.in_ok-preparing.ensures.preparing in
-    let none : endings_in (Some known) ≡ [] = ap (λ (k : Done). k.endings.items) c.let_go-then-eq-3.ensures ∙ ap (λ v. v.items) c.decide-decided.ensures.endings ∙ first.endings.none in
-    let cut = c.stages_are_cuts.ensures.decided bs desk new new log later p d c.requires first (c.others_leave_the_branches.ensures.nothing bs new) c.decide-decided.ensures in
+    let none : endings_in (Some known) ≡ [] = ap (λ (k : Done). k.endings.items) c.let_go-then-eq-3.ensures ∙ ap (λ v. v.items) c.decide-decided.ensures.decided.endings ∙ first.endings.none in
+    let cut = c.stages_are_cuts.ensures.decided bs desk new new log later p d c.requires first (c.others_leave_the_branches.ensures.nothing bs new) c.decide-decided.ensures.decided in
     let dies : Dies point.Decided bs (Some known) desk new log later = record {
       cut = subst (λ (es : List Ending). IsCut bs desk new log later es) (sym none) cut;
-      far = (p, d, first, c.decide-decided.ensures, ap Some c.let_go-then-eq-3.ensures);
+      far = (p, d, first, c.decide-decided.ensures.decided, ap Some c.let_go-then-eq-3.ensures);
     } in
     elim c.args.at as (λ at. c.args.at ≡ at → Dies at bs (Some known) desk new log later) [
       | point.Asking ↦ λ e. let bad : true ≡ false = sym (c.eq.ensures ∙ rw e refl) ∙ c.if-eq.false in cc
@@ -104,7 +104,7 @@ begin_telling-telling-requires g c =
     let p : Preparing = c.in_ok-preparing.preparing in
     let first = c.finish-prepared.ensures.prepared bs desk c.in_ok-preparing.ensures.preparing in
     let keeps : KeepsTheRest desk c.finish-prepared.new.desk = subst (λ (d : DeskView). KeepsTheRest d c.finish-prepared.new.desk) c.in_ok-preparing.ensures.preparing.before c.finish-prepared.ensures.keeps in
-    c.stages_follow.ensures.tell bs desk c.finish-prepared.new.desk c.args.log.now.state c.args.log.now.state c.decide-decided.new.log.state c.finish-prepared.result c.decide-decided.result c.requires first c.decide-decided.ensures keeps
+    c.stages_follow.ensures.tell bs desk c.finish-prepared.new.desk c.args.log.now.state c.args.log.now.state c.decide-decided.new.log.state c.finish-prepared.result c.decide-decided.result c.requires first c.decide-decided.ensures.decided keeps
 
 pub returns-then-eq-4-clause-dies : goal.returns-then-eq-4-clause-dies
 returns-then-eq-4-clause-dies g c =
@@ -126,11 +126,11 @@ returns-then-eq-4-clause-dies g c =
     let tells : IsTelling d mid u = telling_on d mid (record { round = one; known = t.known }) r sent c.collect_next.ensures.before c.collect_next.ensures.same in
     let far : HaveComeSoFar r.asks.items mid.ledgers new = left_so_far r mid c.collect_next.new.desk new c.rounds_are_cuts.ensures.so_far tells.before c.leave-then-eq-4.ensures.left.lists c.collect_next.ensures.under_way in
     let none : endings_in (Some known) ≡ [] =
-    ap (λ (k : Done). k.endings.items) c.leave-then-eq-4.ensures.known ∙ ap (λ (k : Done). k.endings.items) tells.known ∙ ap (λ v. v.items) c.decide-decided.ensures.endings ∙ first.endings.none in
-    let cut = c.rounds_are_cuts.ensures.telling bs desk mid mid.ledgers new log later p d u c.requires first (c.others_leave_the_branches.ensures.nothing bs mid.ledgers) c.decide-decided.ensures tells far in
+    ap (λ (k : Done). k.endings.items) c.leave-then-eq-4.ensures.known ∙ ap (λ (k : Done). k.endings.items) tells.known ∙ ap (λ v. v.items) c.decide-decided.ensures.decided.endings ∙ first.endings.none in
+    let cut = c.rounds_are_cuts.ensures.telling bs desk mid mid.ledgers new log later p d u c.requires first (c.others_leave_the_branches.ensures.nothing bs mid.ledgers) c.decide-decided.ensures.decided tells far in
     let dies : Dies point.Telling bs (Some known) desk new log later = record {
       cut = subst (λ (es : List Ending). IsCut bs desk new log later es) (sym none) cut;
-      far = (p, d, u, mid, first, c.decide-decided.ensures, tells, far, ap Some c.leave-then-eq-4.ensures.known);
+      far = (p, d, u, mid, first, c.decide-decided.ensures.decided, tells, far, ap Some c.leave-then-eq-4.ensures.known);
     } in
     elim c.args.at as (λ at. c.args.at ≡ at → Dies at bs (Some known) desk new log later) [
       | point.Asking ↦ λ e. let bad : true ≡ false = sym (c.eq.ensures ∙ rw e refl) ∙ c.if-eq.false in cc
@@ -158,10 +158,10 @@ returns-clause-dies g c =
     let first : HasPrepared bs desk.ledgers mid.ledgers p = c.finish-prepared.ensures.prepared bs desk c.in_ok-preparing.ensures.preparing in
     let third = c.finish.ensures.told d mid c.begin_telling-telling.ensures.telling in
     let same : endings_in (Some known) ≡ t.known.endings.items = ap (λ (k : Done). k.endings.items) c.let_go-2.ensures in
-    let cut = c.stages_are_cuts.ensures.told bs desk mid.ledgers mid.ledgers new new log later p d t c.requires first (c.others_leave_the_branches.ensures.nothing bs mid.ledgers) c.decide-decided.ensures third (c.others_leave_the_branches.ensures.nothing bs new) in
+    let cut = c.stages_are_cuts.ensures.told bs desk mid.ledgers mid.ledgers new new log later p d t c.requires first (c.others_leave_the_branches.ensures.nothing bs mid.ledgers) c.decide-decided.ensures.decided third (c.others_leave_the_branches.ensures.nothing bs new) in
     let dies : Dies point.Told bs (Some known) desk new log later = record {
       cut = subst (λ (es : List Ending). IsCut bs desk new log later es) (sym same) cut;
-      far = (p, d, t, mid, first, c.decide-decided.ensures, third, ap Some c.let_go-2.ensures);
+      far = (p, d, t, mid, first, c.decide-decided.ensures.decided, third, ap Some c.let_go-2.ensures);
     } in
     elim c.args.at as (λ at. c.args.at ≡ at → Dies at bs (Some known) desk new log later) [
       | point.Asking ↦ λ e. let bad : true ≡ false = sym (c.eq.ensures ∙ rw e refl) ∙ c.if-eq.false in cc

@@ -23,8 +23,8 @@ returns-clause-ends g c =
       started = c.collect-started.result;
       added = c.collect-added.result;
       ended = c.collect-ended.result;
-      starts = subst (λ z. CollectsOp z c.collect-started.result c.args.desk.now one) (to_z-of_z w32 flight.start (omega (arith, ints))) c.collect-started.ensures.collects;
-      adds = subst (λ z. CollectsOp z c.collect-added.result one two) (to_z-of_z w32 flight.add (omega (arith, ints))) c.collect-added.ensures.collects;
-      ends = subst (λ z. CollectsOp z c.collect-ended.result two c.collect-ended.new.desk) (to_z-of_z w32 flight.end (omega (arith, ints))) c.collect-ended.ensures.collects;
+      starts = subst (λ z. CollectsOp c.args.store z c.collect-started.result c.args.desk.now one) (to_z-of_z w32 flight.start (omega (arith, ints))) c.collect-started.ensures.collects;
+      adds = subst (λ z. CollectsOp c.args.store z c.collect-added.result one two) (to_z-of_z w32 flight.add (omega (arith, ints))) c.collect-added.ensures.collects;
+      ends = subst (λ z. CollectsOp c.args.store z c.collect-ended.result two c.collect-ended.new.desk) (to_z-of_z w32 flight.end (omega (arith, ints))) c.collect-ended.ensures.collects;
       all = regrouped c.collect-started.result c.collect-added.result c.collect-ended.result;
     }

@@ -13,8 +13,8 @@ returns-clause-sent g c =
     (have_on (IsFor one two) _ _ _
     (leg_begins one two one (inl refl) _ _ _ _ c.begin-first.ensures.begins)
     (leg_begins one two two (inr refl) _ _ _ _ c.begin-second.ensures.begins))
-    (ends_sent (IsFor one two) _ _ _ _ c.is_done-first_done.ensures.ends))
-    (ends_sent (IsFor one two) _ _ _ _ c.is_done-second_done.ensures.ends)
+    (ends_sent (IsFor one two) one.branch.m _ _ _ _ c.is_done-first_done.ensures.ends))
+    (ends_sent (IsFor one two) two.branch.m _ _ _ _ c.is_done-second_done.ensures.ends)
 
 pub returns-clause-worked : goal.returns-clause-worked
 returns-clause-worked g c = λ all apart.
@@ -27,6 +27,22 @@ returns-clause-worked g c = λ all apart.
     let goes = further d0 d9 d12 (further d0 d6 d9 (further d0 d3 d6 c.begin-first.ensures.goes_on c.begin-second.ensures.goes_on) c.is_done-first_done.ensures.goes_on) c.is_done-second_done.ensures.goes_on in
     let parts = both c.is_done-first_done.result c.is_done-second_done.result all in
     legs_worked c.args.one.now c.args.two.now c.args.account c.begin-first.result c.begin-second.result d0 d3 d6 d9 d12 c.begin-first.ensures.begins c.begin-second.ensures.begins
-    (gets_leg c.begin-first.result c.is_done-first_done.result d6 d9 c.is_done-first_done.ensures.ends parts.0)
-    (gets_leg c.begin-second.result c.is_done-second_done.result d9 d12 c.is_done-second_done.ensures.ends parts.1)
+    (gets_leg c.args.one.now.branch.m c.begin-first.result c.is_done-first_done.result d6 d9 c.is_done-first_done.ensures.ends parts.0)
+    (gets_leg c.args.two.now.branch.m c.begin-second.result c.is_done-second_done.result d9 d12 c.is_done-second_done.ensures.ends parts.1)
     (same_many d0 d12 goes) apart
+
+pub returns-clause-tries : goal.returns-clause-tries
+returns-clause-tries g c = record {
+  first = c.begin-first.result;
+  second = c.begin-second.result;
+  half_begun = c.begin-first.new.desk;
+  begun = c.begin-second.new.desk;
+  half_ended = c.is_done-first_done.new.desk;
+  first_done = c.is_done-first_done.result;
+  second_done = c.is_done-second_done.result;
+  first_begins = c.begin-first.ensures.begins;
+  second_begins = c.begin-second.ensures.begins;
+  first_ends = c.is_done-first_done.ensures.ends;
+  second_ends = c.is_done-second_done.ensures.ends;
+  all = refl;
+}

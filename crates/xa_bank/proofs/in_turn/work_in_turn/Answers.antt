@@ -1,5 +1,5 @@
-use Rattle.std.proofs.Common.{◌≡◌, true, refl, subst, inl, inr}
-use Rattle.xa_bank.specs.Requests.{CallsLeg}
+use Rattle.std.proofs.Common.{◌≡◌, true, false, refl, subst, inl, inr}
+use Rattle.xa_bank.specs.Requests.{CallsLeg, one_leg, two_legs}
 use Rattle.xa_bank.specs.Transfers.{IsFor}
 use Rattle.xa_bank.proofs.Sent.{have_on}
 use Rattle.xa_bank.proofs.Worked.{same_many}
@@ -29,3 +29,13 @@ returns-clause-worked g c = λ all apart.
     (subst (λ ok. CallsLeg c.args.one.now c.args.account ok d0 d3) one_done c.work_on.ensures.works)
     (subst (λ ok. CallsLeg c.args.two.now c.args.account ok d3 d6) all c.work_on-2.ensures.works)
     (same_many d0 d6 goes) apart
+
+pub returns-then-not-work_on-clause-tries : goal.returns-then-not-work_on-clause-tries
+returns-then-not-work_on-clause-tries g c =
+    let unsaid : c.work_on.result ≡ false = cc in
+    one_leg refl (subst (λ ok. CallsLeg c.args.one.now c.args.account ok c.args.desk.now c.work_on.new.desk) unsaid c.work_on.ensures.works)
+
+pub returns-clause-tries : goal.returns-clause-tries
+returns-clause-tries g c =
+    let one_done : c.work_on.result ≡ true = cc in
+    two_legs c.work_on.new.desk (subst (λ ok. CallsLeg c.args.one.now c.args.account ok c.args.desk.now c.work_on.new.desk) one_done c.work_on.ensures.works) c.work_on-2.ensures.works

@@ -8,3 +8,6 @@ pub returns-clause-sent : goal.returns-clause-sent
 returns-clause-sent g c =
     let leg = c.args.leg.now in
     call_sent (λ op. op ≡ End leg.branch.xid Fail) leg.branch.m (End leg.branch.xid Fail) _ _ _ refl c.xa_call.ensures.calls
+
+pub returns-clause-asks : goal.returns-clause-asks
+returns-clause-asks g c = (_, c.xa_call.ensures.calls)

@@ -24,3 +24,14 @@ returns-clause-sent g c =
     (have_as (λ op. op ≡ End two.branch.xid Fail) (IsFor one two) (a_failure one two two (inr refl)) _ _ c.fail-2.ensures.sent))
     (have_as (λ op. op ≡ Rollback one.branch.xid) (IsFor one two) (a_rollback one two one (inl refl)) _ _ c.roll_back.ensures.sent))
     (have_as (λ op. op ≡ Rollback two.branch.xid) (IsFor one two) (a_rollback one two two (inr refl)) _ _ c.roll_back-2.ensures.sent)
+
+pub returns-clause-gives_up : goal.returns-clause-gives_up
+returns-clause-gives_up g c = record {
+  half_ended = c.fail.new.desk;
+  ended = c.fail-2.new.desk;
+  half_gone = c.roll_back.new.desk;
+  first_ends = c.fail.ensures.asks;
+  second_ends = c.fail-2.ensures.asks;
+  first_rolls_back = c.roll_back.ensures.asks;
+  second_rolls_back = c.roll_back-2.ensures.asks;
+}

@@ -1,4 +1,4 @@
-use Rattle.std.proofs.Common.{◌≡◌, ◌++◌, map}
+use Rattle.std.proofs.Common.{◌≡◌, ◌++◌, map, vec_capacity}
 use Rattle.std.specs.Vec.Iter.{into_iter_items}
 use Rattle.xa_crew.proofs.run.apart.Given as goal
 
@@ -8,4 +8,6 @@ invariant-loop-worked g l = record {
   so_far : l.yielded ++ into_iter_items l.worked-iterator ≡ l.fn.threads.items;
   clients : l.clients.items ≡ map (λ w. w.attended) l.yielded;
   desks : l.desks.items ≡ map (λ w. w.desk) l.yielded;
+  room : vec_capacity l.clients ≡ vec_capacity l.fn.clients;
+  desk_room : vec_capacity l.desks ≡ vec_capacity l.fn.desks;
 }

@@ -1,49 +1,7 @@
-use Rattle.std.proofs.Common.{List, sym, refl, ap, ◌∙◌, subst}
-use Rattle.xa_desk.specs.DeskView.{DeskView}
-use Rattle.xa_desk.specs.Ended.{EndedView}
-use Rattle.xa_worker.specs.Workers.{WorkerView}
-use Rattle.xa_switch.specs.Plans.{planned}
-use Rattle.xa_switch.specs.Openings.{AreOfOneOpening}
-use Rattle.xa_switch.specs.Closing.{settling}
-use Rattle.xa_base.specs.Lists.{Pairwise}
-use Rattle.xa_crew.specs.Pieces.{HasServed}
-use Rattle.xa_base.proofs.Lists.{side_of}
-use Rattle.xa_crew.proofs.Members.{members, read_given, read_come, all_ran, pieces_are}
 use Rattle.xa_crew.proofs.run.run_opened.Goals as goal
 
-pub client_jobs_of-requires-clause-kept : goal.client_jobs_of-requires-clause-kept
-client_jobs_of-requires-clause-kept g c = c.outstanding_operations_stay_kept.ensures.opened (planned c.args.plan.now) c.args.desks.items c.args.workers.items c.requires.opened
+pub returns-in-Ok-clause-ran : goal.returns-in-Ok-clause-ran
+returns-in-Ok-clause-ran g c = c.in-Ok.ensures.run c.args.plan.now c.args.clients.items c.in_ok-ran.ensures
 
-pub settle_all-requires : goal.settle_all-requires
-settle_all-requires g c =
-    let given = c.in_ok-client_jobs.client_jobs.items in
-    let worker_jobs = c.in_ok-worker_jobs.worker_jobs.items in
-    let worked = c.in_ok-worked.worked.items in
-    let done = c.in_ok-worked.done.items in (
-      planned c.args.plan.now,
-      pieces_are g.C.Client.works c.desks_go_on.ensures.further (planned c.args.plan.now) c.args.desks.items c.args.workers.items c.requires.sound.limits c.requires.opened given worked c.in_ok-worked.ensures.jobs c.in_ok-client_jobs.ensures.desks
-          c.in_ok-clients.desks.items c.in_ok-clients.ensures.desks (λ s. s.worker) worker_jobs done c.in_ok-worked.ensures.others c.in_ok-worker_jobs.ensures,
-    )
-
-pub returns : goal.returns
-returns g c =
-    let given = c.in_ok-client_jobs.client_jobs.items in
-    let worker_jobs = c.in_ok-worker_jobs.worker_jobs.items in
-    let worked = c.in_ok-worked.worked.items in
-    let done = c.in_ok-worked.done.items in
-    let ran = c.in_ok-worked.ensures.jobs in
-    let many = ran.as_many in
-    record {
-      members = members given worked;
-      workers = c.args.workers.items;
-      sound = c.requires.sound;
-      opened = subst (λ (ds : List DeskView). AreOfOneOpening (planned c.args.plan.now) ds c.args.workers.items) (sym c.in_ok-client_jobs.ensures.desks ∙ sym (read_given (λ t. t.desk) (λ a. a.desk) (λ a w. refl) given worked many)) c.requires.opened;
-      clients_are = sym c.in_ok-client_jobs.ensures.clients ∙ sym (read_given (λ t. t.client) (λ a. a.client) (λ a w. refl) given worked many);
-      ran = all_ran g.C.Client.works given worked ran;
-      attended_are = c.in_ok-clients.ensures.clients ∙ sym (read_come (λ t. t.attended) (λ w. w.attended) (λ a w. refl) given worked many);
-      done = done;
-      served = subst (λ (ws : List WorkerView). Pairwise HasServed ws done) c.in_ok-worker_jobs.ensures (side_of HasServed (λ s. s.worker) worker_jobs done c.in_ok-worked.ensures.others);
-      settles = c.in_ok-settled.ensures.pieces ∙ ap (λ (es : List EndedView). settling es done) (c.in_ok-clients.ensures.desks ∙ sym (read_come (λ t. t.ended) (λ w. w.desk) (λ a w. refl) given worked many));
-      agrees = c.in_ok-settled.ensures.settled;
-      of_plan = c.in_ok-settled.ensures.of (planned c.args.plan.now) (pieces_are g.C.Client.works c.desks_go_on.ensures.further (planned c.args.plan.now) c.args.desks.items c.args.workers.items c.requires.sound.limits c.requires.opened given worked c.in_ok-worked.ensures.jobs c.in_ok-client_jobs.ensures.desks c.in_ok-clients.desks.items c.in_ok-clients.ensures.desks (λ s. s.worker) worker_jobs done c.in_ok-worked.ensures.others c.in_ok-worker_jobs.ensures);
-    }
+pub returns-in-Err-clause-unsettled : goal.returns-in-Err-clause-unsettled
+returns-in-Err-clause-unsettled g c = c.in-Err.ensures.back c.args.plan.now c.args.clients.items c.in_ok-ran.ensures

@@ -18,5 +18,5 @@ loop-preserved g c = record {
   finite = tt;
   looks = looks_chain _ _ _ c.loop.invariant.looks (quiet_looks _ _ (c.in_default.ensures.quiet refl));
   idled = g.met.I.Idle.leads_chain _ _ _ c.loop.invariant.idled (g.met.I.Idle.leads_each _ _ _ c.idle.ensures);
-  waits = idles _ _ _ _ c.loop.invariant.waits (record { quiet = c.in_default.ensures.quiet refl; once = c.in_default.ensures.once }) c.idle.ensures;
+  waits = idles _ _ _ _ c.loop.invariant.waits (record { quiet = c.in_default.ensures.quiet refl; once = c.in_default.ensures.once }) (c.in_default.ensures.missing refl) c.idle.ensures;
 }

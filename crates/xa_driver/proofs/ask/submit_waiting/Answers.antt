@@ -1,10 +1,10 @@
-use Rattle.std.proofs.Common.{◌≡◌, ◌⊎◌, ⊎_elim, ℕ, ◌<◌, ◌-◌, ◌==◌, true, false, List, length, inl, inr, None, Some, refl, sym, ap, ◌∙◌, subst, arith, rules}
+use Rattle.std.proofs.Common.{◌≡◌, ◌⊎◌, ℕ, suc, ◌<◌, ◌-◌, ◌==◌, true, false, List, length, inl, inr, None, Some, sym, ap, ◌∙◌, subst, arith, rules}
 use Rattle.std.specs.Prelude.{Bool, not, ◌&&◌, ◌||◌, nat_le, nat_lt, if◌then◌else◌}
 use Rattle.std.specs.Option.{option_or}
 use Rattle.std.proofs.lemmas.Bool.{le-leb}
 use Rattle.xa_desk.specs.LedgerView.{LedgerView, learnt_shut}
 use Rattle.xa_desk.specs.DeskView.{DeskView, IsKnown, is_known, ledger, outstanding, reach_refusal, handle_refusal, spent_refusal, submit_refusal}
-use Rattle.xa_desk.specs.Lanes.{after_full}
+use Rattle.xa_desk.specs.Lanes.{after_full, submitted}
 use Rattle.xa_desk.specs.declared.refused.Refused.{Refused}
 use Rattle.xa_desk.specs.declared.refused.Refused.TheVariants.{NoSuchManager, Shut, TooMany, Spent, Full}
 use Rattle.xa_driver.specs.Asks.{CanAsk, KeepsDesk}
@@ -48,38 +48,43 @@ another why full (inr (inl e)) = cc
 another why full (inr (inr (inl e))) = cc
 another why full (inr (inr (inr e))) = cc
 
+-- so it isn't while nothing is sent
+never_refused : (first now : DeskView) (m : ℕ) → CanAsk first.ledgers m → outstanding first.ledgers < first.handles → now.ledgers ≡ first.ledgers → KeepsDesk first now → false ≡ (is_known first.ledgers m && learnt_shut (ledger first.ledgers m)) → submit_refusal now m ≡ None
+never_refused first now m can free unsent keeps open_ =
+    let handles = keeps.goes_on.handles in
+    let out = ap outstanding unsent in
+    let still : learnt_shut (ledger first.ledgers m) ≡ false = second_fails (is_known first.ledgers m) (learnt_shut (ledger first.ledgers m)) (known_true first.ledgers m can.known) (sym open_) in
+    allowed now m (subst (λ (l : List LedgerView). CanAsk l m) (sym unsent) can) (ap (λ l. learnt_shut (ledger l m)) unsent ∙ still) (omega (arith, free, handles, out))
+
 pub loop-preserved : goal.loop-preserved
 loop-preserved g c =
     let now : DeskView = c.loop.desk in
     let new : DeskView = c.submit.new.self in
     let m = c.args.manager in
-    let either : (new ≡ now) ⊎ (new ≡ after_full now m) =
-    elim (submit_refusal now m) as (λ r. submit_refusal now m ≡ r → (new ≡ now) ⊎ (new ≡ after_full now m)) [
-      | None ↦ λ e. inr (c.in-Err.ensures.full e).1
-      | Some why ↦ λ e. inl (c.in-Err.ensures.refused why e).1
-    ] refl in
     let before : KeepsDesk c.args.desk.now now = c.loop.invariant.keeps in
+    let none = never_refused c.args.desk.now now m c.requires.can c.requires.free c.loop.invariant.unsent before c.if-learnt_shut.ensures in
+    let full : new ≡ after_full now m = (c.in-Err.ensures.full none).1 in
+    let (n, is, idly) = c.loop.invariant.waits in
     record {
       can = search rules;
       finite = search rules;
-      unsent = ⊎_elim (λ (e : new ≡ now). ap (λ (d : DeskView). d.ledgers) e) (λ (e : new ≡ after_full now m). ap (λ (d : DeskView). d.ledgers) e) either ∙ c.loop.invariant.unsent;
+      unsent = ap (λ (d : DeskView). d.ledgers) full ∙ c.loop.invariant.unsent;
+      quiet = ap (λ (d : DeskView). d.events) full ∙ c.loop.invariant.quiet;
       keeps = record {
         goes_on = c.desks_go_on.ensures.further _ _ _ before.goes_on c.in-Err.ensures.goes_on;
-        kept = ⊎_elim (λ (e : new ≡ now). ap (λ (d : DeskView). d.kept) e) (λ (e : new ≡ after_full now m). ap (λ (d : DeskView). d.kept) e) either ∙ before.kept;
+        kept = ap (λ (d : DeskView). d.kept) full ∙ before.kept;
       };
+      waits = (suc n, full ∙ ap (λ (d : DeskView). after_full d m) is, (c.loop.idle, idly, c.idle.ensures));
       idled = search rules;
     }
 
 pub unreachable-requires : goal.unreachable-requires
 unreachable-requires g c =
     let now : DeskView = c.loop.desk in
-    let m = c.args.manager in
-    let unsent = c.loop.invariant.unsent in
-    let handles = c.loop.invariant.keeps.goes_on.handles in
-    let before = c.requires.free in
-    let out = ap outstanding unsent in
-    let first = c.args.desk.now.ledgers in
-    let open_ : learnt_shut (ledger first m) ≡ false = second_fails (is_known first m) (learnt_shut (ledger first m)) (known_true first m c.requires.can.known) (sym c.if-learnt_shut.ensures) in
-    let none : submit_refusal now m ≡ None =
-    allowed now m (subst (λ (l : List LedgerView). CanAsk l m) (sym unsent) c.requires.can) (ap (λ l. learnt_shut (ledger l m)) unsent ∙ open_) (omega (arith, before, handles, out)) in
+    let none = never_refused c.args.desk.now now c.args.manager c.requires.can c.requires.free c.loop.invariant.unsent c.loop.invariant.keeps c.if-learnt_shut.ensures in
     another c.in-Err.why (c.in-Err.ensures.full none).0 c.in-NoSuchManager.is
+
+pub returns-in-Ok-clause-waited : goal.returns-in-Ok-clause-waited
+returns-in-Ok-clause-waited g c =
+    let (n, is, idly) = c.loop.invariant.waits in
+    (n, (c.in-Ok.ensures.sent ∙ ap (λ (d : DeskView). submitted d c.args.manager c.args.op.now) is, idly))

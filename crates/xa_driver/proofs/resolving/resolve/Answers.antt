@@ -1,15 +1,18 @@
 use Rattle.std.proofs.Common.{◌≡◌, ◌≤◌, ◌+◌, length, length-append, vec_capacity, refl, sym, ap, ◌∙◌, subst, arith}
 use Rattle.xa_base.specs.declared.limits.TheConstants.{MOST_MANAGERS}
 use Rattle.xa_desk.specs.DeskView.{ledger}
-use Rattle.xa_driver.specs.Resolving.{requests_for, ResolvesAt, AsksLedger}
+use Rattle.xa_driver.specs.Resolving.{requests_for, ResolvesAt, ResolvesInTurn, AsksAndWaits, AsksLedger, begun, next}
 use Rattle.xa_driver.proofs.Asking.{keeps_start, keeps_chain}
 use Rattle.xa_driver.proofs.Staying.{outstanding_chain, tickets_stay}
 use Rattle.xa_driver.proofs.EachLeft.{SoFar, none_so_far, one_more_so_far, left_more, left_within, room_same}
+use Rattle.xa_switch.specs.Scans.{Answers}
+use Rattle.xa_driver.proofs.InTurn.{turns_by}
 use Rattle.xa_driver.proofs.resolving.resolve.Goals as goal
 
 pub loop-before-init : goal.loop-before-init
 loop-before-init g c = record {
   so_far = subst (SoFar c.args.scan.now _ 0 c.args.desk.now.ledgers c.args.desk.now.ledgers) (sym c.in_ok-outcomes.ensures.items) (none_so_far c.args.scan.now _ c.args.desk.now.ledgers);
+  waits = begun c.in_ok-outcomes.outcomes.items (c.args.desk.now, c.args.idle.now) c.in_ok-outcomes.ensures.items refl;
   many = ap (λ l. length l) c.in_ok-outcomes.ensures.items;
   space = subst (λ n. n ≤ vec_capacity c.in_ok-outcomes.outcomes) c.count_left.ensures c.in_ok-outcomes.ensures.capacity;
   managers = refl;
@@ -49,10 +52,12 @@ loop-before-preserved g c =
     let z = c.args.scan.now in
     let n = c.loop-before.before in
     let alone = c.resolve_at.ensures.alone in
-    let (more, items, as_many, resolves) = c.resolve_at.ensures.resolves in
+    let (more, items, as_many, resolves, waits) = c.resolve_at.ensures.resolves in
     record {
       so_far = one_more_so_far z (g.L.DecisionRecords.records c.args.log.now) n c.args.desk.now.ledgers c.loop-before.desk.ledgers c.resolve_at.new.desk.ledgers c.loop-before.outcomes.items c.resolve_at.new.outcomes.items more i.so_far items
           (subst (λ l. ResolvesAt AsksLedger (g.L.DecisionRecords.records c.args.log.now) (n + 1) l more (ledger c.loop-before.desk.ledgers (n + 1)) (ledger c.resolve_at.new.desk.ledgers (n + 1))) c.left.ensures resolves) alone.others;
+      waits = next n (n + 1) c.loop-before.outcomes.items more c.resolve_at.new.outcomes.items (c.loop-before.desk, c.loop-before.idle) (c.resolve_at.new.desk, c.resolve_at.new.idle) i.waits refl
+          (subst (λ l. ResolvesAt (AsksAndWaits g.I.Idle.leads_by (n + 1)) (g.L.DecisionRecords.records c.args.log.now) (n + 1) l more (c.loop-before.desk, c.loop-before.idle) (c.resolve_at.new.desk, c.resolve_at.new.idle)) c.left.ensures waits) items;
       many =
           let all = ap (λ l. length l) items in
           let parts = length-append c.loop-before.outcomes.items more in
@@ -80,3 +85,14 @@ returns-clause-trace g c =
 
 pub returns-clause-tickets : goal.returns-clause-tickets
 returns-clause-tickets g c = tickets_stay c.args.desk.now c.loop-before.desk c.loop-before.invariant.keeps c.loop-before.invariant.left
+
+pub returns-clause-waited : goal.returns-clause-waited
+returns-clause-waited g c =
+    let done = c.loop-before-test.false in
+    let stop = c.loop-before.auto.before-end in
+    let all : c.loop-before.before ≡ MOST_MANAGERS = omega (arith, done, stop) in
+    subst (λ n. ResolvesInTurn (AsksAndWaits g.I.Idle.leads_by) (g.L.DecisionRecords.records c.args.log.now) c.args.scan.now (c.args.desk.now, c.args.idle.now) n c.loop-before.outcomes.items (c.loop-before.desk, c.loop-before.idle)) all c.loop-before.invariant.waits
+
+pub returns-clause-in_turn : goal.returns-clause-in_turn
+returns-clause-in_turn g c =
+    turns_by (λ s. s.0) (AsksAndWaits g.I.Idle.leads_by) Answers (λ m d op e code a. a.answers) (g.L.DecisionRecords.records c.args.log.now) c.args.scan.now (c.args.desk.now, c.args.idle.now) MOST_MANAGERS c.loop-before.outcomes.items (c.loop-before.desk, c.loop-before.idle) (returns-clause-waited g c)

@@ -3,7 +3,7 @@ use Rattle.xa_base.specs.declared.limits.TheConstants.{MOST_MANAGERS}
 use Rattle.xa_desk.specs.DeskView.{outstanding}
 use Rattle.xa_desk.specs.Kept.{AllKept}
 use Rattle.xa_driver.specs.Asks.{KeepsDesk, LeavesOutstanding}
-use Rattle.xa_driver.specs.Resolving.{left_in}
+use Rattle.xa_driver.specs.Resolving.{AsksAndWaits, ResolvesInTurn, left_in}
 use Rattle.xa_driver.proofs.EachLeft.{SoFar}
 use Rattle.xa_driver.proofs.resolving.resolve.Given as goal
 
@@ -11,6 +11,7 @@ use Rattle.xa_driver.proofs.resolving.resolve.Given as goal
 abbrev pub invariant-loop-before : goal.invariant-loop-before
 invariant-loop-before g l = record {
   so_far : SoFar l.scan (g.L.DecisionRecords.records l.log) l.before l.initial.desk.ledgers l.desk.ledgers l.outcomes.items;
+  waits : ResolvesInTurn (AsksAndWaits g.I.Idle.leads_by) (g.L.DecisionRecords.records l.log) l.scan (l.initial.desk, l.initial.idle) l.before l.outcomes.items (l.desk, l.idle);
   many : length l.outcomes.items ≡ left_in l.scan l.before;
   space : left_in l.scan MOST_MANAGERS ≤ vec_capacity l.outcomes;
   managers : length l.desk.ledgers ≡ length l.initial.desk.ledgers;

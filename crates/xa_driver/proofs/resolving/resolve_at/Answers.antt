@@ -6,6 +6,7 @@ use Rattle.xa_base.proofs.Lists.{one_more}
 use Rattle.xa_words.specs.Xid.{XidName}
 use Rattle.xa_desk.specs.DeskView.{ledger}
 use Rattle.xa_driver.specs.declared.resolved.Outcome.{Outcome}
+use Rattle.xa_driver.specs.Resolving.{AsksAndWaits, AsksLedger}
 use Rattle.xa_driver.proofs.Alone.{alone_start, alone_chain}
 use Rattle.xa_driver.proofs.EachLeft.{requests_there, resolves_there}
 use Rattle.xa_driver.proofs.resolving.resolve_at.Goals as goal
@@ -18,7 +19,7 @@ loop-xid-init g c =
     let requests = requests_there c.args.left.now some in
     let asked = c.ask.ensures.room in
     record {
-      more = ([], sym (append-nil c.args.outcomes.now.items), refl, none [] a refl refl);
+      more = ([], sym (append-nil c.args.outcomes.now.items), refl, none [] a refl refl, none [] (c.ask.new.desk, c.ask.new.idle) refl refl);
       room = omega (arith, room, requests, asked);
       space = refl;
       alone = alone_start c.args.manager c.ask.new.desk;
@@ -30,7 +31,7 @@ loop-xid-preserved g c =
     let i = c.loop-xid.invariant in
     let o : Outcome = c.resolve_branch-outcome.result in
     let left : List XidName = c.args.left.now in
-    let (before, items, xids, chain) = i.more in
+    let (before, items, xids, chain, waits) = i.more in
     let room = i.room in
     let asked = c.resolve_branch-outcome.ensures.room in
     let below = c.loop-xid-test.true in
@@ -40,6 +41,7 @@ loop-xid-preserved g c =
         c.push_reserved.ensures.items ∙ ap (λ l. l ++ o ∷ []) items ∙ append_assoc c.args.outcomes.now.items before (o ∷ []),
         map_push (λ (p : Outcome). p.xid) before o ∙ (λ j. xids j ++ c.resolve_branch-outcome.ensures.xid j ∷ []) ∙ sym (one_more left c.loop-xid.xid-index c.xid-item.result below c.xid-item.is),
         more before o (ledger c.loop-xid.desk.ledgers c.args.manager) _ chain c.resolve_branch-outcome.ensures.resolves,
+        more before o (c.loop-xid.desk, c.loop-xid.idle) _ waits c.resolve_branch-outcome.ensures.waits,
       );
       room = omega (arith, room, asked, below);
       space = c.push_reserved.ensures.capacity ∙ i.space;
@@ -50,18 +52,25 @@ loop-xid-preserved g c =
 pub returns-clause-resolves : goal.returns-clause-resolves
 returns-clause-resolves g c =
     let left : List XidName = c.args.left.now in
-    let (os, items, xids, chain) = c.loop-xid.invariant.more in
+    let (os, items, xids, chain, waits) = c.loop-xid.invariant.more in
     let done = c.loop-xid-test.false in
     let all : map (λ (o : Outcome). o.xid) os ≡ left = xids ∙ take_all c.loop-xid.xid-index left (omega (arith, done)) in
     let some : length left ≢ 0 = eqb-false (length left) 0 (sym c.is_empty.ensures ∙ c.if-is_empty.false) in (
       os,
       items,
       sym (length-map os (λ o. o.xid)) ∙ ap (λ l. length l) all,
-      resolves_there _ c.args.manager left os _ _ some (record {
+      resolves_there AsksLedger _ c.args.manager left os _ _ some (record {
         opened = ledger c.ask.new.desk.ledgers c.args.manager;
         code = c.ask.result;
         opens = c.ask.ensures.asked;
         each = chain;
+        xids_are = all;
+      }),
+      resolves_there (AsksAndWaits g.I.Idle.leads_by c.args.manager) _ c.args.manager left os _ _ some (record {
+        opened = (c.ask.new.desk, c.ask.new.idle);
+        code = c.ask.result;
+        opens = c.ask.ensures.waits;
+        each = waits;
         xids_are = all;
       }),
     )

@@ -1,6 +1,9 @@
 use Rattle.std.proofs.Common.{◌≡◌, ℕ, List, [], ◌∷◌, map, refl, sym, ◌∙◌, subst}
 use Rattle.xa_driver.specs.declared.branch.Branch.{Branch}
-use Rattle.xa_driver.specs.Trace.{MayCommit, IsTraceOfCommit, IsTranOf}
+use Rattle.xa_driver.specs.Decision.{yes_of}
+use Rattle.xa_driver.specs.Log.{AppendsTo}
+use Rattle.xa_driver.specs.Order.{IsThreeRounds}
+use Rattle.xa_driver.specs.Trace.{AppendsOnce, MayCommit, IsTraceOfCommit, IsTranOf}
 use Rattle.xa_grammar.specs.declared.script.CommitAll.{CommitAll}
 use Rattle.xa_session.specs.Committing.{named, branch_at, branches_of}
 use Rattle.xa_session.specs.Committing.CommitsAll.{decided}
@@ -21,4 +24,6 @@ returns-in-Ok-clause-commits g c = λ z.
     let own : IsTranOf c.deref-2.result.now (named asked) = subst (λ (l : List Branch). IsTranOf l (named asked)) (sym bs') (of_tran asked _) in
     let may : MayCommit desk log.state (branches_of asked) = subst (MayCommit desk log.state) bs (c.may_commit.ensures.0 c.if-not-may_commit.false) in
     let trace = subst (λ (l : List Branch). IsTraceOfCommit (named asked) l desk.ledgers c.commit_all.new.desk.ledgers log.state c.commit_all.new.log.state c.in-Ok.done) bs' (c.in-Ok.ensures.call (named asked) own) in
-    decided c.in-Ok.done may trace refl c.in-Ok.ensures.keeps c.in-Ok.ensures.free refl
+    let rounds = subst (λ (l : List Branch). IsThreeRounds l c.in-Ok.done.commit desk c.commit_all.new.desk) bs' c.in-Ok.ensures.rounds in
+    let appends = subst (λ (l : List Branch). AppendsOnce AppendsTo (named asked) (yes_of l c.in-Ok.done.votes.items) c.in-Ok.done.votes.items c.in-Ok.done.logged log c.commit_all.new.log) bs' (c.in-Ok.ensures.appends (named asked) own) in
+    decided c.in-Ok.done may trace refl c.in-Ok.ensures.keeps c.in-Ok.ensures.free refl rounds appends

@@ -8,7 +8,7 @@ use Rattle.xa_desk.specs.DeskView.{DeskView, call_refusal}
 use Rattle.xa_desk.specs.Lanes.{after_full}
 use Rattle.xa_switch.specs.declared.asked.Asked.{Asked}
 use Rattle.xa_switch.specs.Putting.{code_of, put_refusal, Puts, refused, full, kept, answered}
-use Rattle.xa_switch.proofs.Refusals.{no_refusal, its_refusal}
+use Rattle.xa_switch.proofs.Refusals.{no_refusal, its_refusal, later_never_waits, refused_never_waits}
 use Rattle.xa_switch.proofs.calls.put.Goals as goal
 
 -- an asynchronous request that wasn't put
@@ -89,3 +89,20 @@ returns-in-Err-call-clause-idled g c = c.call.ensures.idled
 
 pub returns-in-Err-call-clause-prompt : goal.returns-in-Err-call-clause-prompt
 returns-in-Err-call-clause-prompt g c = λ _. c.in-Err-call.ensures.idle_stays
+
+pub returns-in-Err-clause-waited : goal.returns-in-Err-clause-waited
+returns-in-Err-clause-waited g c = λ waits. absurd (later_never_waits c.args.asked.asynchronous _ c.if-asked.true waits)
+
+pub returns-in-Ok-clause-waited : goal.returns-in-Ok-clause-waited
+returns-in-Ok-clause-waited g c = λ waits. absurd (later_never_waits c.args.asked.asynchronous _ c.if-asked.true waits)
+
+pub returns-in-Ok-call-clause-waited : goal.returns-in-Ok-call-clause-waited
+returns-in-Ok-call-clause-waited g c = λ waits.
+    let told : to_z w32 (of_z w32 c.value-in-Ok-call.result) ≡ c.value-in-Ok-call.result = to_z-of_z w32 c.value-in-Ok-call.result (omega (arith, ints)) in
+    (c.in-Ok-call.code, told ∙ c.value-in-Ok-call.ensures, c.in-Ok-call.ensures.waited)
+
+pub returns-in-Err-call-clause-waited : goal.returns-in-Err-call-clause-waited
+returns-in-Err-call-clause-waited g c = λ waits.
+    let why = c.in-Err-call.why in
+    let some : call_refusal c.args.desk.now c.args.manager ≡ Some why = its_refusal (Err why) why _ refl c.in-Err-call.ensures.refused c.in-Err-call.ensures.answered in
+    absurd (refused_never_waits c.args.asked.asynchronous _ (code_of why) (subst (λ b. put_refusal c.args.desk.now c.args.manager b ≡ Some (code_of why)) (sym c.if-asked.false) (ap (option_map code_of) some)) waits)

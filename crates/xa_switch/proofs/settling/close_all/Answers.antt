@@ -7,14 +7,15 @@ use Rattle.xa_lane.specs.Ends.{Sending, Receiving}
 use Rattle.xa_worker.specs.Outgoing.{Answering}
 use Rattle.xa_worker.specs.Workers.{Asking}
 use Rattle.xa_desk.specs.Ended.{EndedView}
-use Rattle.xa_switch.specs.Settling.{Settling, IsSettled}
+use Rattle.xa_worker.specs.Done.{Served}
+use Rattle.xa_switch.specs.Settling.{Settling, IsSettled, journal}
 use Rattle.xa_switch.specs.Fates.{ledgers_of}
 use Rattle.xa_switch.specs.Closing.{dealt, column, IsClosable, IsClosed}
 use Rattle.xa_switch.proofs.Gathering.{length_dealt}
 use Rattle.xa_switch.proofs.Pieces.{request_columns, completion_columns, workers_numbered, workers_opened, request_lanes_apart, request_lanes_places, request_lanes_closable, completion_lanes_apart, completion_lanes_places, completion_lanes_closable}
 use Rattle.xa_switch.proofs.Agreeing.{settled}
 use Rattle.xa_switch.specs.Again.{IsWhole, parts_of}
-use Rattle.xa_switch.proofs.Ledgers.{all_settled_ledgers}
+use Rattle.xa_switch.proofs.Ledgers.{all_settled_ledgers, all_settled_journals}
 use Rattle.xa_switch.proofs.AllThere.{parts_ready, all_there}
 use Rattle.xa_switch.proofs.settling.close_all.Goals as goal
 
@@ -87,6 +88,13 @@ returns-clause-lists g c =
     let ws = c.args.workers.items in
     subst (λ (s : Settling). map (λ (e : EndedView). ledgers_of s e.thread) ds ≡ map (λ (e : EndedView). e.ledgers) ds) (λ i. record { opening = sym c.requires.opening i; threads = sym c.take_desks-sent.ensures.taken.parts i; managers = sym (ap parts_of c.take_workers-answered.ensures.taken.parts ∙ parts_ready ws) i })
     (all_settled_ledgers ds c.args.workers.items c.requires.from c.requires.one)
+
+pub returns-clause-journals : goal.returns-clause-journals
+returns-clause-journals g c =
+    let ds = c.args.desks.items in
+    let ws = c.args.workers.items in
+    subst (λ (s : Settling). map (λ (w : Served). journal s w.number) ws ≡ map (λ (w : Served). w.journal) ws) (λ i. record { opening = sym c.requires.opening i; threads = sym c.take_desks-sent.ensures.taken.parts i; managers = sym (ap parts_of c.take_workers-answered.ensures.taken.parts ∙ parts_ready ws) i })
+    (all_settled_journals ds ws c.requires.from c.requires.one)
 
 pub returns-clause-parts : goal.returns-clause-parts
 returns-clause-parts g c =

@@ -13,12 +13,12 @@ invariant_of-result c =
     let p = c.parts.inside in
     let at = p.ledgers.items in
     record {
-      books = books_from p.plan at (carried at) i.ledgers p.slots i.slots p.handles p.kept.items (logged c.new.result.items) i.kept (ap logged c.new.ensures);
+      books = books_from p.plan at (carried at) i.ledgers p.slots i.slots p.handles p.kept.items (logged c.new-2.result.items) i.kept (ap logged c.new-2.ensures);
       keys = keys_from p.plan at (carried at) i.ledgers p.slots i.slots p.rows.items (i.rows ∙ ap (λ n. replicate n (no_keys p.plan)) (sym (length-carried at)));
       slots_used = rw i.slots (omega arith);
       slots_room = i.slots_room;
       places = ap length i.kept ∙ length-replicate p.handles None;
-      drained = rw c.new.ensures refl;
+      drained = rw c.new-2.ensures refl;
       planned = rw (planned_from p.plan at (carried at) i.ledgers p.slots i.slots, length-carried at) (mul-le p.plan (length at) MOST_REQUESTS MOST_MANAGERS i.planned i.limits.managers.1);
       limits = i.limits;
       ends = i.ends;
@@ -29,4 +29,4 @@ pub returns : goal.returns
 returns c =
     let i = c.parts.invariant in
     let p = c.parts.inside in
-    rw (← c.parts.view_is) (begun-new p.thread p.handles p.plan p.ledgers.items p.kept.items (logged c.new.result.items) c.args.requests.items c.args.completions i.ledgers i.kept (ap logged c.new.ensures))
+    rw (← c.parts.view_is) (begun-new p.thread p.handles p.plan p.ledgers.items (logged c.new.result.items) p.kept.items (logged c.new-2.result.items) c.args.requests.items c.args.completions i.ledgers (ap logged c.new.ensures) i.kept (ap logged c.new-2.ensures))

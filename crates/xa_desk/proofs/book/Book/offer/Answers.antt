@@ -1,10 +1,12 @@
-use Rattle.std.proofs.Common.{◌≡◌, ◌-◌, ◌<◌, ℕ, List, length, set, ◌∙◌, ap, arith}
+use Rattle.std.proofs.Common.{◌≡◌, ◌-◌, ◌<◌, ℕ, List, [], ◌∷◌, ◌++◌, length, set, ◌∙◌, ap, arith}
 use Rattle.xa_words.specs.declared.request.Op.{Op}
 use Rattle.xa_words.specs.declared.request.Request.{Request}
 use Rattle.xa_lane.specs.Ends.{Sending}
 use Rattle.xa_lane.specs.Senders.{with_item, with_full}
 use Rattle.xa_desk.specs.Book.{desk_of}
-use Rattle.xa_desk.specs.DeskView.{after_sent}
+use Rattle.xa_desk.specs.DeskView.{after_sent, next_operation}
+use Rattle.xa_desk.specs.Slots.{logged}
+use Rattle.xa_desk.specs.declared.event.Event.TheVariants.{Sent}
 use Rattle.xa_desk.specs.Lanes.{next_request}
 use Rattle.xa_lane.proofs.Senders.{at_place-set}
 use Rattle.xa_desk.proofs.book.Book.offer.Goals as goal
@@ -36,5 +38,9 @@ returns-in-Ok-clause-sent g c =
     let one : c.offer.new.self ≡ with_item request old =
     c.in-Ok.ensures.sent ∙ ap (λ (n : ℕ). with_item (request_of c.self.inside.thread n c.args.op.now) old) number in
     rw (← c.self.view_is) (c.note_sent.ensures.sent
-    ∙ ap (λ (rs : List (Sending Request)). record (desk_of c.self.inside) { ledgers = after_sent c.self.inside.ledgers.items c.args.manager c.args.op.now; requests = rs })
+    ∙ ap (λ (rs : List (Sending Request)). record (desk_of c.self.inside) {
+      ledgers = after_sent c.self.inside.ledgers.items c.args.manager c.args.op.now;
+      events = logged c.self.inside.events.items ++ Sent (next_operation c.self.inside.ledgers.items c.args.manager) ∷ [];
+      requests = rs;
+    })
     (ap (set requests (c.args.manager - 1)) one ∙ at_place-set (with_item request) (c.args.manager - 1) requests old within c.index_mut.ensures.value))

@@ -10,4 +10,4 @@ returns-clause-put c t =
     let updates = at_ok c.insert.result _ (sym c.is_ok.ensures.value ∙ t) c.insert.ensures.updates in
     let put = one_put tran_eq tran_cmp_total tran_cmp-IsAntisymmetric tran_eq-by_cmp c.self.inside.records.entries c.insert.new.self.entries c.args.tran c.args.yes updates.0
     ∙ ap (λ b. map.insert b.state.records c.args.tran c.args.yes) c.self.view_is in
-    λ i. record { state = record { records = put i; failures = (c.self.view_is i).state.failures }; appends = (c.self.view_is i).appends; failing = (c.self.view_is i).failing }
+    λ i. record { records = put i; failures = (c.self.view_is i).state.failures }

@@ -1,6 +1,8 @@
 use Rattle.std.proofs.Common.{◌≡◌, ◌≤◌, length, List}
 use Rattle.xa_driver.specs.declared.ask.Ask.{Ask}
-use Rattle.xa_driver.specs.Asks.{SameAsks}
+use Rattle.xa_driver.specs.Asks.{SameAsks, among_asks}
+use Rattle.xa_driver.specs.Idling.{IdlesAt}
+use Rattle.xa_driver.specs.Order.{CollectsFirst}
 use Rattle.xa_driver.specs.UnderWay.{IsSent, IsUnderWay}
 use Rattle.xa_driver.proofs.round.Round.collect_all.Given as goal
 
@@ -12,5 +14,7 @@ invariant-loop-place g l = record {
   long : length l.self.asks.items ≡ length l.initial.self.asks.items;
   before : l.self.before ≡ l.initial.self.before;
   same : (js : List Ask) → SameAsks js l.initial.self.asks.items → SameAsks js l.self.asks.items;
+  waited : IdlesAt g.I.Idle.leads_by (among_asks l.initial.self.asks.items) l.initial.idle l.idle;
+  ordered : CollectsFirst l.initial.self.tickets.items l.self.tickets.items l.initial.desk l.desk;
   idled : g.I.Idle.leads l.initial.idle l.idle;
 }

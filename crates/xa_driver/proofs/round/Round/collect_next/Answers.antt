@@ -1,51 +1,50 @@
-use Rattle.std.proofs.Common.{◌≡◌, refl, sym, ap, ◌∙◌, subst, Some, set}
-use Rattle.std.specs.List.{slice_get}
-use Rattle.std.proofs.lemmas.Option.{slice_get-get_or}
-use Rattle.xa_driver.specs.declared.ask.Ask.{Ask}
-use Rattle.xa_driver.specs.Asks.{Ends}
-use Rattle.xa_driver.specs.UnderWay.{coded, next_ticket}
-use Rattle.xa_driver.proofs.Gathering.{same_set}
-use Rattle.xa_driver.proofs.Stepping.{first_one, flight_owned, matched_some, one_more_collected, place_is, place_within}
+use Rattle.std.proofs.Common.{◌≡◌, ◌<◌, ◌∙◌, arith, false, length, refl, subst, sym, true}
+use Rattle.std.specs.Prelude.{MatchOption}
+use Rattle.xa_desk.specs.DeskView.{DeskView}
+use Rattle.xa_driver.specs.Idling.{IdlesToCollect}
+use Rattle.xa_driver.specs.Steps.{starts}
+use Rattle.xa_driver.specs.UnderWay.{Collects, Stays, next_ticket}
+use Rattle.xa_driver.proofs.Passing.{collect_passes}
 use Rattle.xa_driver.proofs.round.Round.collect_next.Goals as goal
 
-pub end-code-requires : goal.end-code-requires
-end-code-requires g c =
-    let one = first_one c.args.self.now c.args.desk.now c.requires c.in-Some.ticket c.pop_front.new.self.items c.in-Some.ensures.items in
-    flight_owned one.0 c.in-Some.ticket _ c.args.desk.now one.1.1.1.0
+pub passed-init : goal.passed-init
+passed-init g c = record { under_way = c.requires; passed = starts c.args.self.now refl; desk = refl; idle = refl; before = refl; same = λ js s. s }
 
-pub returns-clause-under_way : goal.returns-clause-under_way
-returns-clause-under_way g c =
-    let r = c.args.self.now in
-    let desk = c.args.desk.now in
-    let ts = c.pop_front.new.self.items in
-    let one = first_one r desk c.requires c.in-Some.ticket ts c.in-Some.ensures.items in
-    let is : c.index.result.now ≡ one.0 = c.index.ensures ∙ place_is r desk c.requires c.in-Some.ticket ts c.in-Some.ensures.items c.index.result.now in
-    let is_mut : c.index_mut.result.now ≡ one.0 = c.index_mut.ensures.value ∙ place_is r desk c.requires c.in-Some.ticket ts c.in-Some.ensures.items c.index_mut.result.now in
-    one_more_collected r desk c.requires c.in-Some.ticket ts c.in-Some.ensures.items c.end-code.result c.end-code.new.desk (subst (λ (k : Ask). Ends k desk c.end-code.new.desk c.in-Some.ticket c.end-code.result) is c.end-code.ensures.ended) _
-    refl (ap (λ (k : Ask). set r.asks.items r.collected (coded k c.end-code.result)) is_mut) refl refl c.in-Some.ensures.capacity
+pub passed-preserved : goal.passed-preserved
+passed-preserved g c =
+    let i = c.passed.invariant in
+    let e = c.collect_place.ensures in
+    let p = collect_passes g.I.Idle.leads_by c.args.desk.now c.args.self.now c.passed.self c.collect_place.new.self c.passed.desk c.collect_place.new.desk c.passed.idle c.collect_place.new.idle c.collect_place.result i.passed i.desk i.under_way (sym c.is_unasked.ensures ∙ c.passed-test.true) e.collects e.waited in
+    record {
+      under_way = e.under_way;
+      passed = p.0.passed;
+      desk = p.0.desk_is ∙ i.desk;
+      idle = p.0.idle_is ∙ i.idle;
+      before = e.before ∙ i.before;
+      same = λ js s. e.same js (i.same js s);
+    }
+
+pub passed-smaller : goal.passed-smaller
+passed-smaller g c =
+    let i = c.passed.invariant in
+    let e = c.collect_place.ensures in
+    let p = collect_passes g.I.Idle.leads_by c.args.desk.now c.args.self.now c.passed.self c.collect_place.new.self c.passed.desk c.collect_place.new.desk c.passed.idle c.collect_place.new.idle c.collect_place.result i.passed i.desk i.under_way (sym c.is_unasked.ensures ∙ c.passed-test.true) e.collects e.waited in
+    let smaller : length c.collect_place.new.self.tickets.items < length c.passed.self.tickets.items = let a = p.1 in omega (arith, a) in
+    smaller
 
 pub returns-clause-collects : goal.returns-clause-collects
 returns-clause-collects g c =
-    let r = c.args.self.now in
-    let desk = c.args.desk.now in
-    let ts = c.pop_front.new.self.items in
-    let within = place_within r desk c.requires c.in-Some.ticket ts c.in-Some.ensures.items in
-    let same : c.index_mut.result.now ≡ c.index.result.now =
-    c.index_mut.ensures.value ∙ place_is r desk c.requires c.in-Some.ticket ts c.in-Some.ensures.items c.index_mut.result.now ∙ sym (place_is r desk c.requires c.in-Some.ticket ts c.in-Some.ensures.items c.index.result.now) ∙ sym c.index.ensures in
-    matched_some _ _ (next_ticket r) c.in-Some.ticket (ap (λ l. slice_get l 0) c.in-Some.ensures.items) (
-      refl,
-      record {
-        ask = c.index.result.now;
-        place = slice_get-get_or r.asks.items r.collected c.index.result.now within ∙ ap (λ k. Some k) (sym c.index.ensures);
-        code = c.end-code.result;
-        ended = c.end-code.ensures.ended;
-        asks = ap (λ (k : Ask). set r.asks.items r.collected (coded k c.end-code.result)) same;
-        tickets = c.in-Some.ensures.items;
-        left = c.end-code.ensures.others;
-        collected = refl;
-      },
-    )
-
-pub returns-clause-same : goal.returns-clause-same
-returns-clause-same g c js s =
-    same_set js c.args.self.now.asks.items c.args.self.now.collected c.index_mut.result.now _ c.index_mut.ensures.value (record { manager = refl; xid = refl; vote = refl; op = refl }) s
+    let i = c.passed.invariant in
+    let e = c.collect_place-2.ensures in
+    let r = c.passed.self in
+    let new = c.collect_place-2.new.self in
+    let now = c.collect_place-2.new.desk in
+    let b = c.collect_place-2.result in
+    record {
+      mid = r;
+      passed = i.passed;
+      asks = sym c.is_unasked.ensures ∙ c.passed-test.false;
+      collects = subst (λ (d : DeskView). MatchOption (next_ticket r) ((b ≡ false) × Stays r new d now) (λ t. (b ≡ true) × Collects t r new d now)) i.desk e.collects;
+      waited = subst (λ (d : DeskView). MatchOption (next_ticket r) (c.collect_place-2.new.idle ≡ c.args.idle.now) (λ t. IdlesToCollect g.I.Idle.leads_by t d now c.args.idle.now c.collect_place-2.new.idle)) i.desk
+          (subst (λ x. MatchOption (next_ticket r) (c.collect_place-2.new.idle ≡ x) (λ t. IdlesToCollect g.I.Idle.leads_by t c.passed.desk now x c.collect_place-2.new.idle)) i.idle e.waited);
+    }

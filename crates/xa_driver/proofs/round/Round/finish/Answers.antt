@@ -1,7 +1,10 @@
 use Rattle.std.proofs.Common.{subst, ap, ◌∙◌}
 use Rattle.xa_desk.specs.DeskView.{DeskView}
 use Rattle.xa_driver.specs.Asks.{KeepsTheRest}
+use Rattle.xa_driver.proofs.Gathering.{same_itself}
+use Rattle.xa_driver.proofs.Idling.{round_idles}
 use Rattle.xa_driver.proofs.Staying.{rest_kept}
+use Rattle.xa_driver.proofs.Ordering.{finished_in_order}
 use Rattle.xa_driver.proofs.Stepping.{all_answered}
 use Rattle.xa_driver.proofs.round.Round.finish.Goals as goal
 
@@ -11,3 +14,13 @@ returns-clause-keeps g c =
     let u = c.collect_all.ensures.under_way in
     subst (λ (d : DeskView). KeepsTheRest d c.collect_all.new.desk) (ap (λ b. b.value) (c.collect_all.ensures.before ∙ c.send_all.ensures.before))
     (rest_kept r.asks.items r.before.value c.collect_all.new.desk (all_answered r c.collect_all.new.desk u c.collect_all.ensures.all) u.keeps)
+
+pub returns-clause-waited : goal.returns-clause-waited
+returns-clause-waited g c =
+    let asks = c.args.self.now.asks.items in
+    round_idles g.I.Idle.leads_by asks c.send_all.new.self.asks.items c.args.idle.now c.send_all.new.idle c.collect_all.new.idle (c.send_all.ensures.same asks (same_itself asks)) c.send_all.ensures.waited c.collect_all.ensures.waited
+
+pub returns-clause-ordered : goal.returns-clause-ordered
+returns-clause-ordered g c =
+    finished_in_order c.args.self.now c.send_all.new.self c.collect_all.new.self c.args.desk.now c.send_all.new.desk c.collect_all.new.desk c.send_all.ensures.ordered c.send_all.ensures.asks c.send_all.ensures.before
+    c.send_all.ensures.under_way c.send_all.ensures.all c.collect_all.ensures.ordered c.collect_all.ensures.under_way c.collect_all.ensures.all

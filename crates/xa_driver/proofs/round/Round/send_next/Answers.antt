@@ -1,46 +1,50 @@
-use Rattle.std.proofs.Common.{◌≡◌, ◌+◌, ◌<◌, length, refl, sym, ap, ◌∙◌, Some, arith}
-use Rattle.std.specs.List.{slice_get}
-use Rattle.std.proofs.lemmas.Option.{slice_get-get_or}
-use Rattle.xa_driver.specs.UnderWay.{next_ask, sent_count}
-use Rattle.xa_driver.proofs.Stepping.{can_now, free_now, matched_some, one_more_leaves, one_more_sent}
+use Rattle.std.proofs.Common.{◌≡◌, ◌-◌, ◌<◌, ◌∙◌, ap, arith, false, length, refl, subst, sym, true}
+use Rattle.std.specs.Prelude.{MatchOption}
+use Rattle.xa_desk.specs.DeskView.{DeskView}
+use Rattle.xa_driver.specs.Idling.{IdlesToSend}
+use Rattle.xa_driver.specs.Steps.{starts}
+use Rattle.xa_driver.specs.UnderWay.{Sends, Stays, next_ask, sent_count}
+use Rattle.xa_driver.proofs.Passing.{send_passes}
 use Rattle.xa_driver.proofs.round.Round.send_next.Goals as goal
 
-pub begin-ticket-requires-clause-can : goal.begin-ticket-requires-clause-can
-begin-ticket-requires-clause-can g c =
-    let r = c.args.self.now in
-    let count : r.collected + c.len.result ≡ sent_count r = let a = c.len.ensures in let b = r.tickets.ok.0 in omega (arith, a, b) in
-    let within : r.collected + c.len.result < length r.asks.items = let a = c.if-place-len.false in let b = c.len-2.ensures in let d = r.asks.ok.0 in omega (arith, a, b, d) in
-    can_now r c.args.desk.now c.requires (r.collected + c.len.result) count c.index.result.now within c.index.ensures
+pub passed-init : goal.passed-init
+passed-init g c = record { under_way = c.requires; passed = starts c.args.self.now refl; desk = refl; idle = refl; before = refl; same = λ js s. s }
 
-pub begin-ticket-requires-clause-free : goal.begin-ticket-requires-clause-free
-begin-ticket-requires-clause-free g c =
-    let r = c.args.self.now in
-    let count : r.collected + c.len.result ≡ sent_count r = let a = c.len.ensures in let b = r.tickets.ok.0 in omega (arith, a, b) in
-    let within : r.collected + c.len.result < length r.asks.items = let a = c.if-place-len.false in let b = c.len-2.ensures in let d = r.asks.ok.0 in omega (arith, a, b, d) in
-    free_now r c.args.desk.now c.requires (r.collected + c.len.result) count c.index.result.now within c.index.ensures
+pub passed-preserved : goal.passed-preserved
+passed-preserved g c =
+    let i = c.passed.invariant in
+    let e = c.send_place.ensures in
+    let p = send_passes g.I.Idle.leads_by c.args.desk.now c.args.self.now c.passed.self c.send_place.new.self c.passed.desk c.send_place.new.desk c.passed.idle c.send_place.new.idle c.send_place.result i.passed i.desk (sym c.is_passed.ensures ∙ c.passed-test.true) e.sends e.waited in
+    record {
+      under_way = e.under_way;
+      passed = p.0.passed;
+      desk = p.0.desk_is ∙ i.desk;
+      idle = p.0.idle_is ∙ i.idle;
+      before = e.before ∙ i.before;
+      same = λ js s. e.same js (i.same js s);
+    }
 
-pub returns-clause-under_way : goal.returns-clause-under_way
-returns-clause-under_way g c =
-    let r = c.args.self.now in
-    let count : r.collected + c.len.result ≡ sent_count r = let a = c.len.ensures in let b = r.tickets.ok.0 in omega (arith, a, b) in
-    let within : r.collected + c.len.result < length r.asks.items = let a = c.if-place-len.false in let b = c.len-2.ensures in let d = r.asks.ok.0 in omega (arith, a, b, d) in
-    one_more_sent r c.args.desk.now c.requires (r.collected + c.len.result) count c.index.result.now within c.index.ensures c.begin-ticket.result c.begin-ticket.new.desk c.begin-ticket.ensures.began _ refl refl refl c.push_back_reserved.ensures.items
-    c.push_back_reserved.ensures.capacity
+pub passed-smaller : goal.passed-smaller
+passed-smaller g c =
+    let i = c.passed.invariant in
+    let e = c.send_place.ensures in
+    let p = send_passes g.I.Idle.leads_by c.args.desk.now c.args.self.now c.passed.self c.send_place.new.self c.passed.desk c.send_place.new.desk c.passed.idle c.send_place.new.idle c.send_place.result i.passed i.desk (sym c.is_passed.ensures ∙ c.passed-test.true) e.sends e.waited in
+    let smaller : length c.send_place.new.self.asks.items - sent_count c.send_place.new.self < length c.passed.self.asks.items - sent_count c.passed.self = let a = p.1 in let b = p.2 in let d = ap (λ v. length v.items) p.3 in omega (arith, a, b, d) in
+    smaller
 
 pub returns-clause-sends : goal.returns-clause-sends
 returns-clause-sends g c =
-    let r = c.args.self.now in
-    let count : r.collected + c.len.result ≡ sent_count r = let a = c.len.ensures in let b = r.tickets.ok.0 in omega (arith, a, b) in
-    let within : r.collected + c.len.result < length r.asks.items = let a = c.if-place-len.false in let b = c.len-2.ensures in let d = r.asks.ok.0 in omega (arith, a, b, d) in
-    let next : next_ask r ≡ Some c.index.result.now = ap (λ n. slice_get r.asks.items n) (sym count) ∙ slice_get-get_or r.asks.items (r.collected + c.len.result) c.index.result.now within ∙ ap (λ k. Some k) (sym c.index.ensures) in
-    matched_some _ _ (next_ask r) c.index.result.now next (
-      refl,
-      record {
-        ticket = c.begin-ticket.result;
-        began = c.begin-ticket.ensures.began;
-        tickets = c.push_back_reserved.ensures.items;
-        left = one_more_leaves r c.args.desk.now c.requires (r.collected + c.len.result) count c.index.result.now within c.index.ensures c.begin-ticket.result c.begin-ticket.new.desk c.begin-ticket.ensures.began;
-        asks = refl;
-        collected = refl;
-      },
-    )
+    let i = c.passed.invariant in
+    let e = c.send_place-2.ensures in
+    let r = c.passed.self in
+    let new = c.send_place-2.new.self in
+    let now = c.send_place-2.new.desk in
+    let b = c.send_place-2.result in
+    record {
+      mid = r;
+      passed = i.passed;
+      asks = sym c.is_passed.ensures ∙ c.passed-test.false;
+      sends = subst (λ (d : DeskView). MatchOption (next_ask r) ((b ≡ false) × Stays r new d now) (λ k. (b ≡ true) × Sends k r new d now)) i.desk e.sends;
+      waited = subst (λ (d : DeskView). MatchOption (next_ask r) (c.send_place-2.new.idle ≡ c.args.idle.now) (λ k. IdlesToSend g.I.Idle.leads_by k d now c.args.idle.now c.send_place-2.new.idle)) i.desk
+          (subst (λ x. MatchOption (next_ask r) (c.send_place-2.new.idle ≡ x) (λ k. IdlesToSend g.I.Idle.leads_by k c.passed.desk now x c.send_place-2.new.idle)) i.idle e.waited);
+    }

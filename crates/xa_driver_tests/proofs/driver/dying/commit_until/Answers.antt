@@ -53,7 +53,7 @@ decide-decided-requires g c =
 pub let_go-requires-then-matches-3 : goal.let_go-requires-then-matches-3
 let_go-requires-then-matches-3 g c =
     let first = c.finish-prepared.ensures.prepared c.args.branches.now c.args.desk.now c.in_ok-preparing.ensures.preparing in
-    subst (λ (r : Round). IsAtRest r) (sym c.decide-decided.ensures.round) first.rest
+    subst (λ (r : Round). IsAtRest r) (sym c.decide-decided.ensures.decided.round) first.rest
 
 pub returns-then-matches-3-clause-cut : goal.returns-then-matches-3-clause-cut
 returns-then-matches-3-clause-cut g c =
@@ -63,15 +63,15 @@ returns-then-matches-3-clause-cut g c =
     let later = c.decide-decided.new.log.state in
     let new : List LedgerView = c.finish-prepared.new.desk.ledgers in
     let first : HasPrepared bs desk.ledgers new c.finish-prepared.result = c.finish-prepared.ensures.prepared c.args.branches.now c.args.desk.now c.in_ok-preparing.ensures.preparing in
-    let none : c.let_go-then-matches-3.result.endings.items ≡ [] = ap (λ (k : Done). k.endings.items) c.let_go-then-matches-3.ensures ∙ ap (λ v. v.items) c.decide-decided.ensures.endings ∙ first.endings.none in
-    let cut = c.stages_are_cuts.ensures.decided bs desk new new log later c.finish-prepared.result c.decide-decided.result c.requires first (c.others_leave_the_branches.ensures.nothing bs new) c.decide-decided.ensures in
+    let none : c.let_go-then-matches-3.result.endings.items ≡ [] = ap (λ (k : Done). k.endings.items) c.let_go-then-matches-3.ensures ∙ ap (λ v. v.items) c.decide-decided.ensures.decided.endings ∙ first.endings.none in
+    let cut = c.stages_are_cuts.ensures.decided bs desk new new log later c.finish-prepared.result c.decide-decided.result c.requires first (c.others_leave_the_branches.ensures.nothing bs new) c.decide-decided.ensures.decided in
     subst (λ (es : List Ending). IsCut bs desk new log later es) (sym none) cut
 
 pub begin_telling-telling-requires : goal.begin_telling-telling-requires
 begin_telling-telling-requires g c =
     let keeps : KeepsTheRest c.args.desk.now c.finish-prepared.new.desk = subst (λ (d : DeskView). KeepsTheRest d c.finish-prepared.new.desk) c.in_ok-preparing.ensures.preparing.before c.finish-prepared.ensures.keeps in
     c.stages_follow.ensures.tell c.args.branches.now c.args.desk.now c.finish-prepared.new.desk c.args.log.now.state c.args.log.now.state c.decide-decided.new.log.state c.finish-prepared.result c.decide-decided.result c.requires
-    (c.finish-prepared.ensures.prepared c.args.branches.now c.args.desk.now c.in_ok-preparing.ensures.preparing) c.decide-decided.ensures keeps
+    (c.finish-prepared.ensures.prepared c.args.branches.now c.args.desk.now c.in_ok-preparing.ensures.preparing) c.decide-decided.ensures.decided keeps
 
 pub returns-then-matches-4-clause-cut : goal.returns-then-matches-4-clause-cut
 returns-then-matches-4-clause-cut g c =
@@ -91,8 +91,8 @@ returns-then-matches-4-clause-cut g c =
     telling_on d mid t one r c.begin_telling-telling.ensures.telling c.send_next-then-matches-4.ensures.before c.collect_next.ensures.before c.send_next-then-matches-4.ensures.same c.collect_next.ensures.same in
     let far : HaveComeSoFar r.asks.items mid.ledgers new = left_so_far r mid c.collect_next.new.desk new c.rounds_are_cuts.ensures.so_far tells.before c.leave-then-matches-4.ensures.left.lists c.collect_next.ensures.under_way in
     let none : c.leave-then-matches-4.result.endings.items ≡ [] =
-    ap (λ (k : Done). k.endings.items) c.leave-then-matches-4.ensures.known ∙ ap (λ (k : Done). k.endings.items) tells.known ∙ ap (λ v. v.items) c.decide-decided.ensures.endings ∙ first.endings.none in
-    let cut = c.rounds_are_cuts.ensures.telling bs desk mid mid.ledgers new log later c.finish-prepared.result d u c.requires first (c.others_leave_the_branches.ensures.nothing bs mid.ledgers) c.decide-decided.ensures tells far in
+    ap (λ (k : Done). k.endings.items) c.leave-then-matches-4.ensures.known ∙ ap (λ (k : Done). k.endings.items) tells.known ∙ ap (λ v. v.items) c.decide-decided.ensures.decided.endings ∙ first.endings.none in
+    let cut = c.rounds_are_cuts.ensures.telling bs desk mid mid.ledgers new log later c.finish-prepared.result d u c.requires first (c.others_leave_the_branches.ensures.nothing bs mid.ledgers) c.decide-decided.ensures.decided tells far in
     subst (λ (es : List Ending). IsCut bs desk new log later es) (sym none) cut
 
 pub returns-then-matches-4-clause-goes_on : goal.returns-then-matches-4-clause-goes_on
@@ -121,7 +121,7 @@ returns-then-matches-5-clause-cut g c =
     let third = c.finish-told.ensures.told c.decide-decided.result c.finish-prepared.new.desk c.begin_telling-telling.ensures.telling in
     let same : c.let_go-then-matches-5.result.endings.items ≡ c.finish-told.result.known.endings.items = ap (λ (k : Done). k.endings.items) c.let_go-then-matches-5.ensures in
     let nothing = c.others_leave_the_branches.ensures.nothing bs in
-    let cut = c.stages_are_cuts.ensures.told bs desk mid mid new new log later c.finish-prepared.result c.decide-decided.result c.finish-told.result c.requires first (nothing mid) c.decide-decided.ensures third (nothing new) in
+    let cut = c.stages_are_cuts.ensures.told bs desk mid mid new new log later c.finish-prepared.result c.decide-decided.result c.finish-told.result c.requires first (nothing mid) c.decide-decided.ensures.decided third (nothing new) in
     subst (λ (es : List Ending). IsCut bs desk new log later es) (sym same) cut
 
 pub returns-then-matches-5-clause-idled : goal.returns-then-matches-5-clause-idled
@@ -132,7 +132,7 @@ begin_forgetting-forgetting-requires g c =
     let keeps : KeepsTheRest c.args.desk.now c.finish-prepared.new.desk = subst (λ (d : DeskView). KeepsTheRest d c.finish-prepared.new.desk) c.in_ok-preparing.ensures.preparing.before c.finish-prepared.ensures.keeps in
     let later_keeps : KeepsTheRest c.finish-prepared.new.desk c.finish-told.new.desk = subst (λ (d : DeskView). KeepsTheRest d c.finish-told.new.desk) c.begin_telling-telling.ensures.telling.before c.finish-told.ensures.keeps in
     c.stages_follow.ensures.forget c.args.branches.now c.args.desk.now c.finish-prepared.new.desk c.finish-told.new.desk c.args.log.now.state c.args.log.now.state c.decide-decided.new.log.state c.finish-prepared.result c.decide-decided.result c.finish-told.result c.requires
-    (c.finish-prepared.ensures.prepared c.args.branches.now c.args.desk.now c.in_ok-preparing.ensures.preparing) c.decide-decided.ensures (c.finish-told.ensures.told c.decide-decided.result c.finish-prepared.new.desk c.begin_telling-telling.ensures.telling) keeps later_keeps
+    (c.finish-prepared.ensures.prepared c.args.branches.now c.args.desk.now c.in_ok-preparing.ensures.preparing) c.decide-decided.ensures.decided (c.finish-told.ensures.told c.decide-decided.result c.finish-prepared.new.desk c.begin_telling-telling.ensures.telling) keeps later_keeps
 
 pub returns-clause-cut : goal.returns-clause-cut
 returns-clause-cut g c =
@@ -154,7 +154,7 @@ returns-clause-cut g c =
     let far : HaveComeSoFar r.asks.items start.ledgers new = left_so_far r start c.send_next-3.new.desk new c.rounds_are_cuts.ensures.so_far forgets.before c.leave-2.ensures.left.lists c.send_next-3.ensures.under_way in
     let same : c.leave-2.result.endings.items ≡ t.known.endings.items = ap (λ (k : Done). k.endings.items) (c.leave-2.ensures.known ∙ forgets.known) in
     let nothing = c.others_leave_the_branches.ensures.nothing bs in
-    let cut = c.rounds_are_cuts.ensures.forgetting bs desk start mid mid start.ledgers new log later c.finish-prepared.result c.decide-decided.result t h c.requires first (nothing mid) c.decide-decided.ensures third (nothing start.ledgers) forgets far in
+    let cut = c.rounds_are_cuts.ensures.forgetting bs desk start mid mid start.ledgers new log later c.finish-prepared.result c.decide-decided.result t h c.requires first (nothing mid) c.decide-decided.ensures.decided third (nothing start.ledgers) forgets far in
     subst (λ (es : List Ending). IsCut bs desk new log later es) (sym same) cut
 
 pub returns-clause-goes_on : goal.returns-clause-goes_on
@@ -169,3 +169,6 @@ returns-clause-goes_on g c =
 pub returns-clause-idled : goal.returns-clause-idled
 returns-clause-idled g c =
     g.met.I.Idle.leads_chain _ _ _ (g.met.I.Idle.leads_chain _ _ _ (g.met.I.Idle.leads_chain _ _ _ c.finish-prepared.ensures.idled c.finish-told.ensures.idled) c.send_next-2.ensures.idled) c.send_next-3.ensures.idled
+
+pub returns-then-matches-clause-idled : goal.returns-then-matches-clause-idled
+returns-then-matches-clause-idled g c = g.met.I.Idle.leads_chain _ _ _ c.send_next.ensures.idled c.send_next-then-matches.ensures.idled

@@ -27,5 +27,5 @@ returns-clause-cut g c =
     let still : MayCommit start found.state bs = c.stages_follow.ensures.log bs start c.args.log.now.state found.state c.in-Ok.prepared.tran may first.tran absent in
     let between : LeavesBranches bs mid.ledgers tell.ledgers = c.others_leave_the_branches.ensures.committed bs c.args.others.now mid tell.ledgers c.args.log.now.state found.state c.in-Ok-commit_all.field-0 may.rising (c.are_others.ensures.0 c.if-not-are_others.false) c.in-Ok-commit_all.ensures.made in
     let nothing = c.others_leave_the_branches.ensures.nothing bs c.tell-told.new.desk.ledgers in
-    let cut = c.stages_are_cuts.ensures.told bs start mid.ledgers tell.ledgers c.tell-told.new.desk.ledgers c.tell-told.new.desk.ledgers found.state c.decide-decided.new.log.state c.in-Ok.prepared c.decide-decided.result c.tell-told.result still first between c.decide-decided.ensures c.tell-told.ensures.told nothing in
+    let cut = c.stages_are_cuts.ensures.told bs start mid.ledgers tell.ledgers c.tell-told.new.desk.ledgers c.tell-told.new.desk.ledgers found.state c.decide-decided.new.log.state c.in-Ok.prepared c.decide-decided.result c.tell-told.result still first between c.decide-decided.ensures.decided c.tell-told.ensures.told nothing in
     rw (c.of-before.ensures, c.of.ensures, c.of-log_before.ensures, c.of-2.ensures, c.let_go.ensures) cut

@@ -1,4 +1,5 @@
 use Rattle.std.proofs.Common.{◌∙◌}
+use Rattle.xa_worker.proofs.Paced.{unpaced, paces_on}
 use Rattle.xa_worker.proofs.Seated.{stepped_keeps}
 use Rattle.xa_worker.proofs.Ties.{same-chain, extends-chain, stepped-extends}
 use Rattle.xa_worker.proofs.worker.Worker.run.Goals as goal
@@ -7,7 +8,18 @@ pub loop-preserved : goal.loop-preserved
 loop-preserved g c = record {
   same = same-chain c.args.self c.loop.worker c.step.new.self c.loop.invariant.same c.step.ensures.same;
   journal = extends-chain c.args.self.journal c.loop.worker.journal c.step.new.self.journal c.loop.invariant.journal (stepped-extends c.loop.worker c.step.result c.step.new.self c.step.ensures.step);
+  paced = paces_on g.P.Pace.told _ _ _ _ _ _ c.loop.invariant.paced c.step.ensures.paced;
 }
+
+pub loop-preserved-in-Empty : goal.loop-preserved-in-Empty
+loop-preserved-in-Empty g c = record {
+  same = same-chain c.args.self c.loop.worker c.step.new.self c.loop.invariant.same c.step.ensures.same;
+  journal = extends-chain c.args.self.journal c.loop.worker.journal c.step.new.self.journal c.loop.invariant.journal (stepped-extends c.loop.worker c.step.result c.step.new.self c.step.ensures.step);
+  paced = paces_on g.P.Pace.told _ _ _ _ _ _ c.loop.invariant.paced c.step.ensures.paced;
+}
+
+pub returns-clause-paced : goal.returns-clause-paced
+returns-clause-paced g c = paces_on g.P.Pace.told _ _ _ _ _ _ c.loop.invariant.paced (unpaced g.P.Pace.told _ _ _ c.end.ensures.journal)
 
 pub returns-clause-seat : goal.returns-clause-seat
 returns-clause-seat g c = c.end.ensures.seat ∙ stepped_keeps _ _ c.loop.invariant.same

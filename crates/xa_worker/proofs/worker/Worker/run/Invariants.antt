@@ -1,3 +1,4 @@
+use Rattle.xa_worker.specs.Steps.{Paces}
 use Rattle.xa_worker.specs.Workers.{SameWorker, Extends}
 use Rattle.xa_worker.proofs.worker.Worker.run.Given as goal
 
@@ -5,4 +6,5 @@ abbrev pub invariant-loop : goal.invariant-loop
 invariant-loop g l = record {
   same : SameWorker l.fn.self l.worker;
   journal : Extends l.fn.self.journal l.worker.journal;
+  paced : Paces g.P.Pace.told l.fn.self.journal l.worker.journal l.initial.pace l.pace;
 }

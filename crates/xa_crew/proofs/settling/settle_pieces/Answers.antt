@@ -4,7 +4,7 @@ use Rattle.xa_switch.specs.OfPlans.{IsOf}
 use Rattle.xa_switch.specs.declared.settling.Why.{Why}
 use Rattle.xa_switch.specs.declared.settling.Why.TheVariants.{Stranger, Missing}
 use Rattle.xa_crew.proofs.Settled.{from_opening, of_one_opening, all_pieces, permuted_desks, permuted_workers}
-use Rattle.xa_crew.proofs.settling.settle_all.Goals as goal
+use Rattle.xa_crew.proofs.settling.settle_pieces.Goals as goal
 
 pub settle-requires : goal.settle-requires
 settle-requires g c =

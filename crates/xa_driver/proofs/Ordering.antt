@@ -1,0 +1,183 @@
+-- The order of what a round sends and collects.
+use Rattle.std.proofs.Common.{◌≡◌, ◌+◌, ◌≤◌, ℕ, Bool, true, false, List, [], ◌∷◌, ◌++◌, length, map, drop, Option, None, Some, refl, sym, ap, ap₂, ◌∙◌, subst, append_assoc, append-nil, arith}
+use Rattle.std.specs.Prelude.{not, if◌then◌else◌, MatchOption}
+use Rattle.std.proofs.lemmas.List.{map-append, length-append}
+use Rattle.std.proofs.Math.Seq.{drop-append_seam}
+use Rattle.xa_words.specs.declared.request.Op.{Op}
+use Rattle.xa_words.specs.declared.code.Code.{Code}
+use Rattle.xa_desk.specs.declared.event.Event.{Event}
+use Rattle.xa_desk.specs.declared.event.Event.TheVariants.{Sent, Collected}
+use Rattle.xa_desk.specs.declared.operation.Operation.{Operation}
+use Rattle.xa_desk.specs.LedgerView.{LedgerView, learnt_shut}
+use Rattle.xa_desk.specs.DeskView.{DeskView, TicketView, ledger, next_operation}
+use Rattle.xa_desk.specs.Looks.{Collects as CollectsOne}
+use Rattle.xa_driver.specs.declared.ask.Ask.{Ask}
+use Rattle.xa_driver.specs.declared.round.Round.{Round}
+use Rattle.xa_driver.specs.Asks.{BeginsAsk, EachBegan, Ends, HasBegun, IsUnsent, SameAsks}
+use Rattle.xa_driver.specs.UnderWay.{Collects, IsSent, IsUnderWay, Sends, Stays, sent_count}
+use Rattle.xa_driver.specs.Order.{sendings, collections, round_of, goes_out, sent_of, operations_of, SendsMore, CollectsFirst, SendsThenCollects, GoesAsRound}
+use Rattle.xa_driver.proofs.Stepping.{as_many}
+
+-- ---- what has a ticket
+
+pub operations-append : (ts us : List (Option TicketView)) → operations_of (ts ++ us) ≡ operations_of ts ++ operations_of us
+operations-append [] us = refl
+operations-append (None ∷ ts) us = operations-append ts us
+operations-append (Some t ∷ ts) us = ap (λ l. t.operation ∷ l) (operations-append ts us)
+
+-- ---- one more sent
+
+sends_none : (ts : List (Option TicketView)) (d : DeskView) → SendsMore ts (ts ++ None ∷ []) d d
+sends_none ts d = record { more = []; events = sym (append-nil d.events); tickets = operations-append ts (None ∷ []) }
+
+sends_ticket : (k : Ask) (ts ts' : List (Option TicketView)) (old new : DeskView) (r : Option TicketView) → BeginsAsk k old new r → ts' ≡ ts ++ r ∷ [] → SendsMore ts ts' old new
+sends_ticket k ts ts' old new None began is = subst (λ l. SendsMore ts l old new) (sym is) (subst (λ (d : DeskView). SendsMore ts (ts ++ None ∷ []) old d) (sym began.0) (sends_none ts old))
+sends_ticket k ts ts' old new (Some t) began is = record {
+  more = t.operation ∷ [];
+  events = began.event ∙ ap (λ (u : TicketView). old.events ++ Sent u.operation ∷ []) (sym began.ticket);
+  tickets = ap operations_of is ∙ operations-append ts (Some t ∷ []);
+}
+
+sends_stay : (ts : List (Option TicketView)) (d : DeskView) → SendsMore ts ts d d
+sends_stay ts d = record { more = []; events = sym (append-nil d.events); tickets = sym (append-nil (operations_of ts)) }
+
+-- a step that sends, whether there was a request to send or not
+pub step_sends : (next : Option Ask) (result : Bool) (old new : Round) (desk now : DeskView) → MatchOption next ((result ≡ false) × Stays old new desk now) (λ k. (result ≡ true) × Sends k old new desk now) → SendsMore old.tickets.items new.tickets.items desk now
+step_sends None result old new desk now (is, stays) =
+    subst (λ (r : Round). SendsMore old.tickets.items r.tickets.items desk now) (sym stays.round)
+    (subst (λ (d : DeskView). SendsMore old.tickets.items old.tickets.items desk d) (sym stays.still) (sends_stay old.tickets.items desk))
+step_sends (Some k) result old new desk now (is, sends) = sends_ticket k old.tickets.items new.tickets.items desk now sends.ticket sends.began sends.tickets
+
+-- and it leaves what was collected, and what is asked
+pub step_sends_keeps : (next : Option Ask) (result : Bool) (old new : Round) (desk now : DeskView) → MatchOption next ((result ≡ false) × Stays old new desk now) (λ k. (result ≡ true) × Sends k old new desk now) → (new.asks ≡ old.asks) × (new.collected ≡ old.collected)
+step_sends_keeps None result old new desk now (is, stays) = (ap (λ (r : Round). r.asks) stays.round, ap (λ (r : Round). r.collected) stays.round)
+step_sends_keeps (Some k) result old new desk now (is, sends) = (sends.asks, sends.collected)
+
+pub sends_none_yet : (ts : List (Option TicketView)) (d : DeskView) → SendsMore ts ts d d
+sends_none_yet ts d = sends_stay ts d
+
+pub sends_on : (ts us vs : List (Option TicketView)) (a b c : DeskView) → SendsMore ts us a b → SendsMore us vs b c → SendsMore ts vs a c
+sends_on ts us vs a b c first later = record {
+  more = first.more ++ later.more;
+  events =
+      later.events ∙ ap (λ l. l ++ sendings later.more) first.events ∙ append_assoc a.events (sendings first.more) (sendings later.more)
+      ∙ ap (λ l. a.events ++ l) (sym (map-append (λ (o : Operation). Sent o) first.more later.more));
+  tickets = later.tickets ∙ ap (λ l. l ++ later.more) first.tickets ∙ append_assoc (operations_of ts) first.more later.more;
+}
+
+-- ---- one more collected
+
+collected_event : (old new : DeskView) (o : Operation) (c : Code) → CollectsOne old new o c → new.events ≡ old.events ++ Collected o ∷ []
+collected_event old new o c is = ap (λ (d : DeskView). d.events) is.collected ∙ ap (λ (d : DeskView). d.events ++ Collected o ∷ []) is.looks.rest
+
+collects_ticket : (k : Ask) (ts ts' : List (Option TicketView)) (old new : DeskView) (r : Option TicketView) (code : Option Code) → Ends k old new r code → ts ≡ r ∷ ts' → CollectsFirst ts ts' old new
+collects_ticket k ts ts' old new None code ended is =
+    record { first = []; events = ap (λ (d : DeskView). d.events) ended.0 ∙ sym (append-nil old.events); tickets = ap operations_of is }
+collects_ticket k ts ts' old new (Some t) code (c, (coded, one)) is = record { first = t.operation ∷ []; events = collected_event old new t.operation c one; tickets = ap operations_of is }
+
+pub step_collects : (next : Option (Option TicketView)) (result : Bool) (old new : Round) (desk now : DeskView) → MatchOption next ((result ≡ false) × Stays old new desk now) (λ t. (result ≡ true) × Collects t old new desk now) → CollectsFirst old.tickets.items new.tickets.items desk now
+step_collects None result old new desk now (is, stays) =
+    subst (λ (r : Round). CollectsFirst old.tickets.items r.tickets.items desk now) (sym stays.round)
+    (subst (λ (d : DeskView). CollectsFirst old.tickets.items old.tickets.items desk d) (sym stays.still) (collects_none_yet old.tickets.items desk))
+  where
+    collects_none_yet : (ts : List (Option TicketView)) (d : DeskView) → CollectsFirst ts ts d d
+    collects_none_yet ts d = record { first = []; events = sym (append-nil d.events); tickets = refl }
+step_collects (Some t) result old new desk now (is, collects) = collects_ticket collects.ask old.tickets.items new.tickets.items desk now t collects.code collects.ended collects.tickets
+
+pub collects_nothing : (ts : List (Option TicketView)) (d : DeskView) → CollectsFirst ts ts d d
+collects_nothing ts d = record { first = []; events = sym (append-nil d.events); tickets = refl }
+
+pub collects_on : (ts us vs : List (Option TicketView)) (a b c : DeskView) → CollectsFirst ts us a b → CollectsFirst us vs b c → CollectsFirst ts vs a c
+collects_on ts us vs a b c before later = record {
+  first = before.first ++ later.first;
+  events =
+      later.events ∙ ap (λ l. l ++ collections later.first) before.events ∙ append_assoc a.events (collections before.first) (collections later.first)
+      ∙ ap (λ l. a.events ++ l) (sym (map-append (λ (o : Operation). Collected o) before.first later.first));
+  tickets = before.tickets ∙ ap (λ l. before.first ++ l) later.tickets ∙ sym (append_assoc before.first later.first (operations_of vs));
+}
+
+-- ---- what is in flight
+
+-- what has a ticket is what went out
+pub in_flight_sent : (ks : List Ask) (rs : List (Option TicketView)) (at : List LedgerView) (d : DeskView) → EachBegan ks rs at d → operations_of rs ≡ sent_of ks at
+in_flight_sent [] [] at d each = refl
+in_flight_sent [] (r ∷ rs) at d each = absurd each
+in_flight_sent (k ∷ ks) [] at d each = absurd each
+in_flight_sent (k ∷ ks) (None ∷ rs) at d (begun, each) = in_flight_sent ks rs at d each ∙ sym (ap (λ b. if b then next_operation at k.manager ∷ sent_of ks at else sent_of ks at) (stays_in k.op (ledger at k.manager) begun.0))
+  where
+    stays_in : (op : Option Op) (a : LedgerView) → IsUnsent a op → goes_out op a ≡ false
+    stays_in None a unsent = refl
+    stays_in (Some op) a unsent = ap not unsent
+in_flight_sent (k ∷ ks) (Some t ∷ rs) at d (begun, each) =
+    ap₂ (λ o l. o ∷ l) begun.operation (in_flight_sent ks rs at d each)
+    ∙ sym (ap (λ b. if b then next_operation at k.manager ∷ sent_of ks at else sent_of ks at) (ap (λ op. goes_out op (ledger at k.manager)) begun.wanted ∙ ap not begun.open_))
+
+-- ---- the same requests
+
+-- what goes out hangs on the managers and what they are asked
+pub same_sent : (js ks : List Ask) (at : List LedgerView) → SameAsks js ks → sent_of ks at ≡ sent_of js at
+same_sent [] [] at same = refl
+same_sent [] (k ∷ ks) at same = absurd same
+same_sent (j ∷ js) [] at same = absurd same
+same_sent (j ∷ js) (k ∷ ks) at (one, same) =
+    ap₂ (λ m op. if goes_out op (ledger at m) then next_operation at m ∷ sent_of ks at else sent_of ks at) one.manager one.op
+    ∙ ap (λ l. if goes_out j.op (ledger at j.manager) then next_operation at j.manager ∷ l else l) (same_sent js ks at same)
+
+-- ---- a round that is finished
+
+no_elements : {A : Type 0} (l : List A) → length l ≤ 0 → l ≡ []
+no_elements [] few = refl
+no_elements (x ∷ l) few = absurd (omega (arith, few))
+
+drop_done : (done l : List Ask) (n : ℕ) → length done ≡ n → drop n (done ++ l) ≡ l
+drop_done done l n is = ap (λ k. drop k (done ++ l)) (sym is) ∙ drop-append_seam done l
+
+-- once all is sent, what has a ticket is what goes out of all that wasn't collected
+pub all_in_flight : (r : Round) (now : DeskView) (u : IsUnderWay r now) → IsSent r → operations_of r.tickets.items ≡ sent_of (drop r.collected r.asks.items) r.before.value.ledgers
+all_in_flight r now u sent =
+    let at = r.before.value.ledgers in
+    let many = as_many u.flying r.tickets.items at now u.in_flight in
+    let parts = ap (λ l. length l) u.parts in
+    let counted = u.counted in
+    let none : u.rest ≡ [] = no_elements u.rest (omega (arith, sent, many, parts, counted, length-append u.done (u.flying ++ u.rest), length-append u.flying u.rest)) in
+    let left : drop r.collected r.asks.items ≡ u.flying =
+    ap (drop r.collected) u.parts ∙ drop_done u.done (u.flying ++ u.rest) r.collected counted ∙ ap (λ l. u.flying ++ l) none ∙ append-nil u.flying in
+    in_flight_sent u.flying r.tickets.items at now u.in_flight ∙ ap (λ l. sent_of l at) (sym left)
+
+-- once all is collected nothing has a ticket
+pub none_in_flight : (r : Round) (now : DeskView) (u : IsUnderWay r now) → length r.asks.items ≤ r.collected → operations_of r.tickets.items ≡ []
+none_in_flight r now u all =
+    let at = r.before.value.ledgers in
+    let parts = ap (λ l. length l) u.parts in
+    let counted = u.counted in
+    let none : u.flying ≡ [] = no_elements u.flying (omega (arith, all, parts, counted, length-append u.done (u.flying ++ u.rest), length-append u.flying u.rest)) in
+    in_flight_sent u.flying r.tickets.items at now u.in_flight ∙ ap (λ l. sent_of l at) none
+
+pub finished_in_order : (first sent last : Round) (old mid new : DeskView) → SendsMore first.tickets.items sent.tickets.items old mid → (sent.asks ≡ first.asks) × (sent.collected ≡ first.collected) → sent.before ≡ first.before → IsUnderWay sent mid → IsSent sent
+    → CollectsFirst sent.tickets.items last.tickets.items mid new → IsUnderWay last new → length last.asks.items ≤ last.collected → SendsThenCollects first old new
+finished_in_order first sent last old mid new sends same before under_way all collects ended none =
+    let gone : operations_of first.tickets.items ++ sends.more ≡ collects.first =
+    sym sends.tickets ∙ collects.tickets ∙ ap (λ l. collects.first ++ l) (none_in_flight last new ended none) ∙ append-nil collects.first in
+    record {
+      more = sends.more;
+      events =
+          collects.events ∙ ap (λ l. l ++ collections collects.first) sends.events ∙ append_assoc old.events (sendings sends.more) (collections collects.first)
+          ∙ ap (λ l. old.events ++ (sendings sends.more ++ collections l)) (sym gone);
+      all = sym sends.tickets ∙ all_in_flight sent mid under_way all
+          ∙ ap₂ (λ n l. sent_of (drop n l) sent.before.value.ledgers) same.1 (ap (λ v. v.items) same.0)
+          ∙ ap (λ b. sent_of (drop first.collected first.asks.items) b.value.ledgers) before;
+    }
+
+-- of a round of which nothing was sent, that is all of it
+pub whole_in_order : (r : Round) (js : List Ask) (old new : DeskView) → SendsThenCollects r old new → sent_count r ≡ 0 → r.before.value ≡ old → SameAsks js r.asks.items → GoesAsRound js old new
+whole_in_order r js old new is none before same =
+    let no_tickets : r.tickets.items ≡ [] = no_elements r.tickets.items (omega (arith, none)) in
+    let first : r.collected ≡ 0 = omega (arith, none) in
+    let more : is.more ≡ sent_of js old.ledgers =
+    ap (λ l. operations_of l ++ is.more) (sym no_tickets) ∙ is.all ∙ ap (λ n. sent_of (drop n r.asks.items) r.before.value.ledgers) first
+    ∙ ap (λ (d : DeskView). sent_of r.asks.items d.ledgers) before ∙ same_sent js r.asks.items old.ledgers same in
+    is.events ∙ ap (λ l. old.events ++ (sendings is.more ++ collections (operations_of l ++ is.more))) no_tickets ∙ ap (λ l. old.events ++ round_of l) more
+
+-- and of the same requests, whatever they were answered
+pub same_in_order : (js ks : List Ask) (old new : DeskView) → SameAsks js ks → GoesAsRound js old new → GoesAsRound ks old new
+same_in_order js ks old new same is = is ∙ ap (λ l. old.events ++ round_of l) (sym (same_sent js ks old.ledgers same))

@@ -1,0 +1,15 @@
+use Rattle.std.proofs.Common.{subst}
+use Rattle.xa_tables.specs.Tables.{Tables}
+use Rattle.xa_worker.specs.Journal.{Follows}
+use Rattle.xa_replay.proofs.agrees.Goals as goal
+
+pub returns : goal.returns
+returns c = λ shown.
+    let last : Tables = c.replays.new.tables.tables in
+    record {
+      last = last;
+      follows = subst (λ (T : Tables). Follows T c.args.journal.now last) c.in-Ok.ensures.tables (c.replays.ensures.follows c.if-not-replays.false);
+      threads = c.replays.ensures.threads c.if-not-replays.false;
+      orders = c.are_in_order.ensures c.if-not-are_in_order.false;
+      values_ = c.have_values.ensures shown;
+    }
