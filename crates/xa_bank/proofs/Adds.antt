@@ -2,9 +2,9 @@
 use Rattle.std.specs.Prelude.{ℤ, pos, if◌then◌else◌}
 use Rattle.std.proofs.Common.{◌≡◌, ◌≢◌, ℕ, suc, ◌+◌, true, false, ◌&&◌, ◌==◌, cond, List, [], ◌∷◌, ◌++◌, length, length-append, append_assoc, get_or, slice_get, sym, refl, ap, ◌∙◌, subst, arith, Some, eq-eqb}
 use Rattle.std.specs.List.{All}
-use Rattle.std.proofs.lemmas.Bool.{ne_eqb}
+use Rattle.std.proofs.lemmas.Bool.{ne_eqb, eq-eqb}
 use Rattle.std.proofs.lemmas.List.Elements.{All-tail, filter-append}
-use Rattle.xa_base.proofs.Lists.{some_same}
+use Rattle.xa_base.proofs.Lists.{some_same, all_left, all_right}
 use Rattle.xa_words.specs.Xid.{XidName}
 use Rattle.xa_words.specs.declared.code.Code.{Code}
 use Rattle.xa_words.specs.declared.code.Code.TheVariants.{Done}
@@ -28,8 +28,8 @@ use Rattle.xa_switch.specs.Fates.{IsOpenedWith, history}
 use Rattle.xa_driver.specs.Conservation.{taken_before}
 use Rattle.xa_driver.specs.Outcomes.{IsBetween}
 use Rattle.xa_driver.proofs.Moves.{all_earlier}
-use Rattle.xa_driver.proofs.Placing.{request_of, eqb-self, Parted, part, all_others, answer_at, numbered_both, numbered_length}
-use Rattle.xa_bank.proofs.Told.{NamedWithin, all_left, all_right}
+use Rattle.xa_driver.proofs.Placing.{request_of, Parted, part, all_others, answer_at, numbered_both, numbered_length}
+use Rattle.xa_bank.proofs.Told.{NamedWithin}
 
 -- ---- what was taken before a request of the thread
 
@@ -199,7 +199,7 @@ module _ (s : Settling) (settled : IsSettled s) (t m b : ℕ) (T : Tables) (with
   count2 =
       let parts : of_thread t (first.before ++ r1 ∷ second.before) ≡ numbered t 0 pre ++ r1 ∷ [] =
       filter-append (λ (q : Request). q.thread == t) first.before (r1 ∷ second.before)
-      ∙ ap (λ c. of_thread t first.before ++ cond c (r1 ∷ of_thread t second.before) (of_thread t second.before)) (eqb-self t)
+      ∙ ap (λ c. of_thread t first.before ++ cond c (r1 ∷ of_thread t second.before) (of_thread t second.before)) (eq-eqb t t refl)
       ∙ (λ i. first.earlier i ++ r1 ∷ second.earlier i) in
       let size = length-append (numbered t 0 pre) (r1 ∷ []) in
       let number = numbered_length t 0 pre in

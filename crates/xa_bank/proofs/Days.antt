@@ -1,16 +1,15 @@
 -- A day whose transfers end whole conserves what all accounts are worth together.
 use Rattle.std.specs.Prelude.{ℤ, pos, ◌+ℤ◌, All}
-use Rattle.std.proofs.Common.{◌≡◌, ◌≢◌, ℕ, zero, suc, ◌+◌, ◌-◌, ◌^◌, ◌<◌, ◌≤◌, ⊎_elim, List, [], ◌∷◌, length, map, get_or, slice_get, sym, refl, ap, ◌∙◌, subst, inl, inr, arith, Option, Some, None, Bool, false}
+use Rattle.std.proofs.Common.{◌≡◌, ◌≢◌, ℕ, zero, suc, ◌+◌, ◌-◌, ◌^◌, ◌<◌, ◌≤◌, ⊎_elim, List, [], ◌∷◌, length, map, slice_get, sym, ap, ◌∙◌, subst, inl, inr, arith, Option, Some, None, false}
 use Rattle.std.specs.List.{list_any}
 use Rattle.std.proofs.lemmas.Int.{ints}
 use Rattle.std.proofs.lemmas.Bool.{cases_lt}
 use Rattle.std.proofs.lemmas.List.{length-map}
 use Rattle.std.proofs.lemmas.Option.{slice_get_within}
-use Rattle.xa_base.proofs.Truth.{by_if}
 use Rattle.xa_base.specs.Sums.{total}
 use Rattle.xa_base.specs.Lists.{Chain}
 use Rattle.xa_base.specs.Lists.Chain.{none, more}
-use Rattle.xa_base.proofs.Lists.{got, all_at, some_same, was_mapped, find_numbered, find_none}
+use Rattle.xa_base.proofs.Lists.{got, all_at, some_same, was_mapped, find_numbered, find_none, all_right}
 use Rattle.xa_base.proofs.Sums.{total_nothing}
 use Rattle.xa_words.specs.Xid.{XidName}
 use Rattle.xa_words.specs.declared.request.Op.{Op}
@@ -20,16 +19,17 @@ use Rattle.xa_tables.specs.History.{History}
 use Rattle.xa_tables.specs.Openings.{IsOpening}
 use Rattle.xa_tables.specs.Work.{AddsAsItWorks}
 use Rattle.xa_desk.specs.LedgerView.{LedgerView}
-use Rattle.xa_desk.specs.DeskView.{DeskView, ledger, no_ledger, after_collected, is_known, sent_to}
+use Rattle.xa_desk.specs.DeskView.{DeskView, ledger, after_collected, sent_to}
 use Rattle.xa_desk.specs.Ended.{EndedView}
 use Rattle.xa_desk.specs.GoesOn.{GoesOn}
-use Rattle.xa_desk.specs.Lanes.{new_ledgers}
 use Rattle.xa_desk.specs.Seats.{DeskSeat}
+use Rattle.xa_desk.proofs.Fresh.{fresh_sent}
+use Rattle.xa_desk.proofs.Ledgers.{nobody_sent}
 use Rattle.xa_switch.specs.declared.plan.Plan.{Plan}
 use Rattle.xa_switch.specs.Closing.{thread_part}
 use Rattle.xa_switch.specs.Fates.{IsOpenedWith, ledgers_of}
 use Rattle.xa_switch.specs.OfPlans.{IsOfPlan}
-use Rattle.xa_switch.specs.Openings.{IsNewDesk}
+use Rattle.xa_switch.specs.OpenedPieces.{IsNewDesk}
 use Rattle.xa_switch.specs.Plans.{IsSoundManager, planned, use_async}
 use Rattle.xa_switch.specs.Settling.{Settling, ThreadPart, IsSettled, find_thread, ledgers_in, sent}
 use Rattle.xa_switch.specs.Worth.{accounts_of, plan_worth, settled_worth, threads_of}
@@ -45,7 +45,7 @@ use Rattle.xa_bank.specs.declared.teller.Teller.{Teller}
 use Rattle.xa_bank.specs.Tellers.{HasMade, Works, IsUndoubted, EndsWhole}
 use Rattle.xa_bank.specs.Transfers.{HaveSent}
 use Rattle.xa_bank.proofs.Sent.{have_none, have_on, one_collected}
-use Rattle.xa_bank.proofs.Told.{IsTold, all_right}
+use Rattle.xa_bank.proofs.Told.{IsTold}
 use Rattle.xa_bank.proofs.Only.{only_transfers, all_told}
 use Rattle.xa_bank.proofs.Worked.{same_many}
 
@@ -74,21 +74,9 @@ numbers_sent old ks new (more xs x now last before is) = have_on Never old.0.led
 
 -- ---- a desk that was opened
 
-fresh_sent : (plan : ℕ) (flags : List Bool) (i : ℕ) → (get_or (new_ledgers plan flags) i no_ledger).sent ≡ []
-fresh_sent plan [] i = refl
-fresh_sent plan (b ∷ flags) zero = refl
-fresh_sent plan (b ∷ flags) (suc i) = fresh_sent plan flags i
-
 nothing_sent : (p : Plan) (k : ℕ) (d : DeskView) → IsNewDesk (planned p) k d → NothingWasSent d.ledgers
 nothing_sent p k d is = λ m positive.
     ap (λ (x : DeskView). (ledger x.ledgers m).sent) is.made ∙ fresh_sent p.requests (use_async p.managers.items) (m - 1)
-
--- where there is no manager nothing was sent
-at_nowhere : (m : ℕ) → sent_to [] m ≡ []
-at_nowhere m = by_if (λ l. l ≡ []) (is_known [] m) _ _ (λ _. past (m - 1)) (λ _. refl)
-  where
-    past : (k : ℕ) → (get_or [] k no_ledger).sent ≡ []
-    past k = refl
 
 -- ---- a member of the crew
 
@@ -178,7 +166,7 @@ module _ (p : Plan) (tellers : List Teller) (attended : List (Attended Teller)) 
   nobody : (t : ℕ) → ((k : ℕ) (q : ThreadPart) → slice_get parts k ≡ Some q → q.thread ≢ t) → (m : ℕ) → sent s t m ≡ []
   nobody t never m =
       let none : find_thread t s.threads ≡ None = ap (find_thread t) threads_are ∙ find_none (λ (q : ThreadPart). q.thread) t parts never in
-      ap (λ (o : Option ThreadPart). sent_to (ledgers_in o) m) none ∙ at_nowhere m
+      ap (λ (o : Option ThreadPart). sent_to (ledgers_in o) m) none ∙ nobody_sent m
 
   told : (u : ℕ) → IsTold s u
   told u =

@@ -1,5 +1,5 @@
 -- What a commit sent whose teller died, and what it was once all branches were told.
-use Rattle.std.proofs.Common.{◌≡◌, ℕ, ◌≤◌, Bool, true, false, ◌||◌, ◌==◌, Option, Some, None, List, [], ◌∷◌, length, map, refl, sym, ap, ◌∙◌, subst}
+use Rattle.std.proofs.Common.{◌≡◌, ℕ, Bool, true, false, ◌||◌, ◌==◌, Option, Some, None, List, [], ◌∷◌, map, refl, sym, ap, ◌∙◌, subst}
 use Rattle.std.specs.List.{All, list_any}
 use Rattle.std.proofs.lemmas.Bool.{eqb-true, or_parts}
 use Rattle.std.proofs.lemmas.List.Elements.{All-nil, All-cons, All-head, All-tail}
@@ -31,13 +31,13 @@ use Rattle.xa_driver.specs.Rounds.{code_of, ending_of_ask, first_ask, second_ask
 use Rattle.xa_driver.specs.Stages.{HasDecided, HasForgotten, HasPrepared, HasTold}
 use Rattle.xa_driver.specs.Trace.{IsCommit, IsTraceOfCommit, MayCommit}
 use Rattle.xa_driver.proofs.OneOutcome.{one_tran}
-use Rattle.xa_driver.proofs.Staged.{stages_call}
+use Rattle.xa_driver.proofs.Staged.{stages_call, Begun, asks_begun}
+use Rattle.xa_driver.proofs.Gathering.{same_itself}
 use Rattle.xa_bank.specs.Transfers.{HasSent, HaveSent}
 use Rattle.xa_bank.specs.declared.dying.Point.{Point}
 use Rattle.xa_bank.specs.declared.dying.Point.TheVariants as point
 use Rattle.xa_bank.specs.Deaths.{CameTo, endings_in}
 use Rattle.xa_bank.proofs.Sent.{none_sent, asked_sent, have_on}
-use Rattle.xa_bank.proofs.Stepped.{same_asks}
 
 -- ---- what requests sent, as far as they came
 
@@ -50,9 +50,6 @@ begun_sent P op a a' so (was_collected code tr) = subst (HasSent P a) (sym tr.tr
 -- the request, if there is one, is such a one
 abbrev Asks_ : (Op → Type 0) → Ask → Type 0
 Asks_ P k = (o : Op) → k.op ≡ Some o → P o
-
-abbrev Begun : List LedgerView → List LedgerView → Ask → Type 0
-Begun at now k = IsBegun k.op (ledger at k.manager) (ledger now k.manager)
 
 there_sent : (P : Op → Type 0) (ks : List Ask) (at now : List LedgerView) (m : ℕ) → All (Asks_ P) ks → All (Begun at now) ks → among_asks ks m ≡ true → HasSent P (ledger at m) (ledger now m)
 there_sent P [] at now m so each there = cc
@@ -69,13 +66,8 @@ so_far_sent P ks at now so far = λ m positive. elim (among_asks ks m) as (λ b.
   | false ↦ λ elsewhere. subst (HasSent P (ledger at m)) (sym (far.others m positive elsewhere)) (none_sent P (ledger at m))
 ] refl
 
--- all were collected
-each_begun : (ks : List Ask) (at now : List LedgerView) → EachAsk ks at now → All (Begun at now) ks
-each_begun [] at now each = All-nil (Begun at now)
-each_begun (k ∷ ks) at now each = All-cons (Begun at now) k ks (was_collected k.code each.0) (each_begun ks at now each.1)
-
 asks_sent : (P : Op → Type 0) (ks : List Ask) (at now : List LedgerView) → All (Asks_ P) ks → Asks ks at now → HaveSent P at now
-asks_sent P ks at now so asks = so_far_sent P ks at now so (record { each = each_begun ks at now asks.each; others = asks.others; managers = asks.managers })
+asks_sent P ks at now so asks = so_far_sent P ks at now so (record { each = asks_begun ks at now asks.each; others = asks.others; managers = asks.managers })
 
 -- ---- which requests these are
 
@@ -210,7 +202,7 @@ stages_made bs desk mid new log later p d t may first second third cool =
     let last : HasForgotten t new new t.known = record {
       known = refl;
       thirds = map third_ask t.round.asks.items;
-      same = same_asks (map third_ask t.round.asks.items);
+      same = same_itself (map third_ask t.round.asks.items);
       asked = record { each = each; others = λ m positive none. refl; managers = refl };
     } in record {
       may = may;

@@ -19,22 +19,25 @@ use Rattle.xa_words.specs.declared.request.StartHow.TheVariants.{Fresh}
 use Rattle.xa_words.specs.declared.request.EndHow.TheVariants.{Success}
 use Rattle.xa_tables.specs.Prepared.{names}
 use Rattle.xa_tables.specs.History.{is_rolled_back}
-use Rattle.xa_desk.specs.LedgerView.{LedgerView, learnt_shut}
+use Rattle.xa_desk.specs.LedgerView.{LedgerView}
 use Rattle.xa_desk.specs.DeskView.{DeskView, ledger}
 use Rattle.xa_driver.specs.declared.branch.Branch.{Branch}
 use Rattle.xa_driver.specs.declared.done.Done.{Done}
 use Rattle.xa_driver.specs.declared.done.Ending.{Ending}
 use Rattle.xa_driver.specs.Asks.{asked}
 use Rattle.xa_driver.specs.Decision.{is_yes, is_read}
-use Rattle.xa_driver.specs.Endings.{second_op, third_op, ending_of, is_out_of_reach, is_decided}
+use Rattle.xa_driver.specs.Endings.{second_op, third_op, is_out_of_reach, is_decided}
 use Rattle.xa_driver.specs.Log.{LogState}
-use Rattle.xa_driver.specs.Trace.{BranchTrace, EachBranch, IsCommit, has_branch_at, voted, decided as decided_ledger}
+use Rattle.xa_driver.specs.Course.{AtBranch}
+use Rattle.xa_driver.specs.Resolving.{AsksLedger}
+use Rattle.xa_driver.specs.Trace.{EachBranch, IsCommit, has_branch_at}
+use Rattle.xa_driver.proofs.Mapped.{IsAskedFor, branch_by}
 use Rattle.xa_bank.specs.declared.dying.Death.{Death}
 use Rattle.xa_bank.specs.declared.dying.Point.{Point}
 use Rattle.xa_bank.specs.Deaths.{CameTo, point_at}
 use Rattle.xa_bank.specs.declared.teller.Leg.{Leg}
 use Rattle.xa_bank.specs.declared.teller.Transfer.{Transfer}
-use Rattle.xa_bank.specs.declared.teller.Outcome.{Outcome}
+use Rattle.xa_bank.specs.declared.teller.TransferOutcome.{TransferOutcome}
 use Rattle.xa_bank.specs.Transfers.{HasSent, HaveSent, IsFor, AreLegs, pays_first, paid_first, HasWorked, HaveWorked, ComesOfCommit, in_full, cut_short, commits, refused, Makes, with_legs, without_legs, MakesEach, gtrid_of}
 use Rattle.xa_bank.proofs.Sent.{none_sent, sent_on, asked_sent, have_none, have_on, have_as}
 use Rattle.xa_bank.proofs.Deaths.{died_sent}
@@ -118,14 +121,15 @@ third_names x (Some c) o is =
     (λ _ is. cc)
     is
 
-branch_sent : (commit : Bool) (b : Branch) (v : Code) (s : Option Code) (a a' : LedgerView) → BranchTrace commit b v s a a' → HasSent (NamesAlone b.xid) a a'
-branch_sent commit b v s a a' tr =
-    subst (HasSent (NamesAlone b.xid) a) (sym tr.trace)
-    (sent_on (NamesAlone b.xid) a (decided_ledger commit b v s a) (asked (decided_ledger commit b v s a) (third_op b.xid s) tr.third)
-    (sent_on (NamesAlone b.xid) a (voted b v a) (decided_ledger commit b v s a)
-    (asked_sent (NamesAlone b.xid) a (Some (Prepare b.xid)) (Some v) (λ o is. subst (NamesAlone b.xid) (some_same (Prepare b.xid) o is) (same_xid b.xid)))
-    (asked_sent (NamesAlone b.xid) (voted b v a) (second_op commit b.xid v) s (second_names commit b.xid v)))
-    (asked_sent (NamesAlone b.xid) (decided_ledger commit b v s a) (third_op b.xid s) tr.third (third_names b.xid s)))
+branch_sent : (commit : Bool) (b : Branch) (v : Code) (s : Option Code) (e : Ending) (a a' : LedgerView) → AtBranch AsksLedger commit b v s e a a' → HasSent (NamesAlone b.xid) a a'
+branch_sent commit b v s e a a' is =
+    branch_by AsksLedger (NamesAlone b.xid) (HasSent (NamesAlone b.xid) a) (λ d w op c so asked q. sent_on (NamesAlone b.xid) a d w q (subst (HasSent (NamesAlone b.xid) d) (sym asked.trace)
+    (asked_sent (NamesAlone b.xid) d (Some op) (Some c) (λ o is. subst (NamesAlone b.xid) (some_same op o is) so)))) commit b v s e a a' is
+    (asked_for (second_op commit b.xid v) (second_names commit b.xid v)) (asked_for (third_op b.xid s) (third_names b.xid s)) (same_xid b.xid) (none_sent (NamesAlone b.xid) a)
+  where
+    asked_for : (o : Option Op) → ((p : Op) → o ≡ Some p → NamesAlone b.xid p) → IsAskedFor (NamesAlone b.xid) o
+    asked_for None so = tt
+    asked_for (Some p) so = so p refl
 
 -- ---- a commit of two branches
 
@@ -150,13 +154,13 @@ pub commit_sent : (P : Op → Type 0) (one two : Branch) (desk : DeskView) (new 
     → IsCommit (one ∷ two ∷ []) desk new log later d → HaveSent P desk.ledgers new
 commit_sent P one two desk new log later d so also made =
     let old : List LedgerView = desk.ledgers in
-    let z = each_of (λ b v s e. BranchTrace d.commit b v s (ledger old b.m) (ledger new b.m) × (e ≡ ending_of d.commit v s)) (λ b. HasSent (NamesAlone b.xid) (ledger old b.m) (ledger new b.m))
-    (λ b v s e h. branch_sent d.commit b v s (ledger old b.m) (ledger new b.m) h.0) (one ∷ two ∷ []) d.votes.items made.trace.seconds d.endings.items made.trace.each in
+    let z = each_of (λ b v s e. AtBranch AsksLedger d.commit b v s e (ledger old b.m) (ledger new b.m)) (λ b. HasSent (NamesAlone b.xid) (ledger old b.m) (ledger new b.m))
+    (λ b v s e h. branch_sent d.commit b v s e (ledger old b.m) (ledger new b.m) h) (one ∷ two ∷ []) d.votes.items made.trace.course.seconds d.endings.items made.trace.course.each in
     λ m positive. elim (cases_eq m one.m) as (λ _. HasSent P (ledger old m) (ledger new m)) [
       | inl same ↦ subst (λ k. HasSent P (ledger old k) (ledger new k)) (sym same) (weaker one.xid so (ledger old one.m) (ledger new one.m) z.0)
       | inr p ↦ elim (cases_eq m two.m) as (λ _. HasSent P (ledger old m) (ledger new m)) [
         | inl same ↦ subst (λ k. HasSent P (ledger old k) (ledger new k)) (sym same) (weaker two.xid also (ledger old two.m) (ledger new two.m) z.1.0)
-        | inr q ↦ subst (HasSent P (ledger old m)) (sym (made.trace.others m positive (neither one two m p q))) (none_sent P (ledger old m))
+        | inr q ↦ subst (HasSent P (ledger old m)) (sym (made.trace.course.others m positive (neither one two m p q))) (none_sent P (ledger old m))
       ]
     ]
   where
@@ -221,11 +225,11 @@ died_names t n one two at known worked new log later legs far =
     let each : All Q (one.branch ∷ two.branch ∷ []) = All-cons Q one.branch (two.branch ∷ []) (names_leg t n one legs.first) (All-cons Q two.branch [] (names_leg t n two legs.second) (All-nil Q)) in
     died_sent (Names t (Is n)) Q (λ b so. so (Prepare b.xid) (same_xid b.xid)) (λ b so commit v o is. so o (second_names commit b.xid v o is)) at (one.branch ∷ two.branch ∷ []) known worked new log later each far
 
-comes_names : (t n : ℕ) (one two : Leg) (point : Option Point) (o : Outcome) (worked : DeskView) (new : List LedgerView) (log later : LogState) → LegsOf t n one two → ComesOfCommit (one.branch ∷ two.branch ∷ []) point o worked new log later → HaveSent (Names t (Is n)) worked.ledgers new
+comes_names : (t n : ℕ) (one two : Leg) (point : Option Point) (o : TransferOutcome) (worked : DeskView) (new : List LedgerView) (log later : LogState) → LegsOf t n one two → ComesOfCommit (one.branch ∷ two.branch ∷ []) point o worked new log later → HaveSent (Names t (Is n)) worked.ledgers new
 comes_names t n one two point o worked new log later legs (in_full d none is made) = commit_names t n one two worked new log later d legs made
 comes_names t n one two point o worked new log later legs (cut_short at known some is dies) = died_names t n one two at known worked new log later legs dies.far
 
-pub transfer_names : (t n : ℕ) (tr : Transfer) (point : Option Point) (o : Outcome) (old new : DeskView) (log later : LogState) → Makes t n tr point o old new log later → HaveSent (Names t (Is n)) old.ledgers new.ledgers
+pub transfer_names : (t n : ℕ) (tr : Transfer) (point : Option Point) (o : TransferOutcome) (old new : DeskView) (log later : LogState) → Makes t n tr point o old new log later → HaveSent (Names t (Is n)) old.ledgers new.ledgers
 transfer_names t n tr point o old new log later (with_legs one two legs (commits worked work comes)) =
     let of_it = legs_are t n tr one two legs in
     have_on (Names t (Is n)) old.ledgers worked.ledgers new.ledgers
@@ -238,7 +242,7 @@ transfer_names t n tr point o old new log later (without_legs is none same unlog
 abbrev pub IsFrom : ℕ → ℕ → Type 0
 IsFrom n k = n ≤ k
 
-pub transfers_name : (t : ℕ) (death : Option Death) (n : ℕ) (trs : List Transfer) (os : List Outcome) (old new : DeskView) (log later : LogState) → MakesEach t death n trs os old new log later → HaveSent (Names t (IsFrom n)) old.ledgers new.ledgers
+pub transfers_name : (t : ℕ) (death : Option Death) (n : ℕ) (trs : List Transfer) (os : List TransferOutcome) (old new : DeskView) (log later : LogState) → MakesEach t death n trs os old new log later → HaveSent (Names t (IsFrom n)) old.ledgers new.ledgers
 transfers_name t death n [] [] old new log later (same, unlogged) = have_none (Names t (IsFrom n)) old.ledgers new.ledgers (ap (λ (d : DeskView). d.ledgers) same)
 transfers_name t death n (tr ∷ trs) [] old new log later (same, unlogged) = have_none (Names t (IsFrom n)) old.ledgers new.ledgers (ap (λ (d : DeskView). d.ledgers) same)
 transfers_name t death n (tr ∷ trs) (o ∷ os) old new log later (mid, now, makes, rest) =
@@ -252,7 +256,7 @@ makes_none t death n [] d log = (refl, refl)
 makes_none t death n (tr ∷ trs) d log = (refl, refl)
 
 -- one transfer more at the end, and more that weren't made
-pub makes_more : (t : ℕ) (death : Option Death) (n : ℕ) (trs : List Transfer) (os : List Outcome) (tr : Transfer) (unmade : List Transfer) (o : Outcome) (old mid new : DeskView) (log now later : LogState)
+pub makes_more : (t : ℕ) (death : Option Death) (n : ℕ) (trs : List Transfer) (os : List TransferOutcome) (tr : Transfer) (unmade : List Transfer) (o : TransferOutcome) (old mid new : DeskView) (log now later : LogState)
     → length os ≡ length trs → MakesEach t death n trs os old mid log now → Makes t (n + length trs) tr (point_at death (n + length trs)) o mid new now later → MakesEach t death n (trs ++ tr ∷ unmade) (os ++ o ∷ []) old new log later
 makes_more t death n [] [] tr unmade o old mid new log now later many (same, unlogged) makes =
     let here : Makes t n tr (point_at death n) o mid new now later = subst (λ k. Makes t k tr (point_at death k) o mid new now later) (let e : n + 0 ≡ n = omega arith in e) makes in

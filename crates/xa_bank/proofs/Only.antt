@@ -1,10 +1,11 @@
 -- A teller's thread makes only transfers.
 use Rattle.std.specs.Prelude.{ℤ, pos, ◌+ℤ◌}
-use Rattle.std.proofs.Common.{◌≡◌, ℕ, zero, suc, ◌+◌, ◌-◌, ◌^◌, ◌<◌, ◌≤◌, ⊎_elim, true, false, ◌||◌, List, [], ◌∷◌, ◌++◌, length, length-append, append_assoc, get_or, slice_get, sym, refl, ap, ◌∙◌, subst, arith, Option, Some}
+use Rattle.std.proofs.Common.{◌≡◌, ℕ, suc, ◌+◌, ◌-◌, ◌^◌, ◌<◌, ◌≤◌, ⊎_elim, true, false, ◌||◌, List, [], ◌∷◌, ◌++◌, length, length-append, append_assoc, slice_get, sym, refl, ap, ◌∙◌, subst, arith, Option, Some}
 use Rattle.std.specs.List.{All, list_any}
 use Rattle.std.proofs.lemmas.Int.{ints}
 use Rattle.std.proofs.lemmas.Bool.{cases_lt}
 use Rattle.std.proofs.lemmas.List.Elements.{All-nil, All-cons, All-head, All-tail, All-append, All-weaker}
+use Rattle.xa_base.proofs.Lists.{all_right}
 use Rattle.xa_words.specs.Xid.{XidName}
 use Rattle.xa_words.specs.declared.code.Code.{Code}
 use Rattle.xa_words.specs.declared.code.Code.TheVariants.{Done as Ok_}
@@ -19,8 +20,9 @@ use Rattle.xa_tables.specs.Openings.{IsOpening}
 use Rattle.xa_tables.specs.Prepared.{names}
 use Rattle.xa_tables.specs.Work.{AddsAsItWorks}
 use Rattle.xa_desk.specs.LedgerView.{LedgerView}
-use Rattle.xa_desk.specs.DeskView.{DeskView, ledger, no_ledger}
+use Rattle.xa_desk.specs.DeskView.{DeskView, ledger}
 use Rattle.xa_desk.specs.Growth.{HaveGrown}
+use Rattle.xa_desk.proofs.Ledgers.{past_end}
 use Rattle.xa_switch.specs.declared.plan.Plan.{Plan}
 use Rattle.xa_switch.specs.Settling.{Settling, IsSettled, sent, journal, answers}
 use Rattle.xa_switch.specs.Fates.{IsOpenedWith, history, ledgers_of}
@@ -30,13 +32,13 @@ use Rattle.xa_driver.specs.declared.done.Done.{Done}
 use Rattle.xa_driver.specs.declared.done.Ending.{Ending}
 use Rattle.xa_driver.specs.Commits.{is_commit, NoCommitWasSent}
 use Rattle.xa_driver.specs.Log.{LogState}
-use Rattle.xa_driver.specs.Outcomes.{AreLeftAlone, OnlyTheseName, is_in_doubt}
+use Rattle.xa_driver.specs.Outcomes.{AreLeftAlone, OnlyTheseName, is_in_doubt, sent_so_far}
 use Rattle.xa_driver.specs.Trace.{IsCommit}
 use Rattle.xa_driver.specs.Conservation.{added_before, added_by_all, held_in_doubt, NothingWasSent, OnlyTransfers, opened, worked, committed}
 use Rattle.xa_driver.proofs.Settled.{by_ledger}
 use Rattle.xa_bank.specs.declared.teller.Leg.{Leg}
 use Rattle.xa_bank.specs.declared.teller.Transfer.{Transfer}
-use Rattle.xa_bank.specs.declared.teller.Outcome.{Outcome}
+use Rattle.xa_bank.specs.declared.teller.TransferOutcome.{TransferOutcome}
 use Rattle.xa_bank.specs.declared.dying.Death.{Death}
 use Rattle.xa_bank.specs.declared.dying.Point.{Point}
 use Rattle.xa_bank.specs.declared.dying.Point.TheVariants as point
@@ -46,7 +48,7 @@ use Rattle.xa_bank.proofs.Deaths.{IsUntold, told_made, untold_sent}
 use Rattle.xa_bank.specs.Transfers.{HasSent, HaveSent, IsOpenRm, IsFor, HasWorked, HaveWorked, ComesOfCommit, in_full, cut_short, commits, refused, Makes, with_legs, without_legs, MakesEach, MakesAll}
 use Rattle.xa_bank.proofs.Sent.{have_on, have_as}
 use Rattle.xa_bank.proofs.Named.{IsOf, Names, names_as, LegsOf, legs_are, legs_name, work_sent, commit_names, transfer_names, transfers_name, Is, IsFrom}
-use Rattle.xa_bank.proofs.Told.{IsAny, IsBelow, IsTold, NamedWithin, all_right, named_within, only_these}
+use Rattle.xa_bank.proofs.Told.{IsAny, IsBelow, IsTold, NamedWithin, named_within, only_these}
 use Rattle.xa_bank.proofs.Adds.{leg_adds}
 
 -- ---- what was sent since
@@ -64,11 +66,6 @@ none_among (op ∷ ops) all = λ i. All-head IsNone op ops all i || none_among o
 
 no_commit : (old new : List LedgerView) → HaveSent IsNone old new → NoCommitWasSent old new
 no_commit old new h = λ m positive. let z = h m positive in record { more = z.more; sent = z.sent; none = none_among z.more z.each }
-
-past_end : (at : List LedgerView) (k : ℕ) → length at ≤ k → get_or at k no_ledger ≡ no_ledger
-past_end [] k le = refl
-past_end (a ∷ at) zero le = absurd (omega arith)
-past_end (a ∷ at) (suc k) le = past_end at k (omega arith)
 
 -- a manager to which something was sent is known
 known_by : (at : List LedgerView) (m : ℕ) → 0 < length (ledger at m).sent → m ≤ length at
@@ -196,7 +193,7 @@ module _ (adds : (t n : ℕ) (x : XidName) (k : List ℕ) (d : ℤ) (h : History
     abbrev IsAlone : Branch → Type 0
     IsAlone b = OnlyTheseName b.xid t (length (ledger desk.ledgers b.m).sent) (length (ledger new b.m).sent) (history s b.m)
 
-    both_alone : AreLeftAlone s t (one.branch ∷ two.branch ∷ []) desk.ledgers new
+    both_alone : AreLeftAlone s t (one.branch ∷ two.branch ∷ []) (sent_so_far desk.ledgers) (sent_so_far new)
     both_alone = record {
       each =
           All-cons IsAlone one.branch (two.branch ∷ []) (left_alone one legs.first first_up work.one_)
@@ -245,20 +242,20 @@ module _ (adds : (t n : ℕ) (x : XidName) (k : List ℕ) (d : ℤ) (h : History
   only_quiet_one : (one two : Leg) (old new : List LedgerView) → HaveSent (IsFor one two) old new → OnlyTransfers p s t old (pos 0) → OnlyTransfers p s t new (pos 0)
   only_quiet_one one two old new h only = only_quiet old new (have_as (IsFor one two) IsNone (λ op f. f.uncommitting) old new h) only
 
-  only_commit : (n : ℕ) (account : List ℕ) (one two : Leg) (legs : LegsOf t n one two) (point : Option Point) (o : Outcome) (old : List LedgerView) (desk : DeskView) (new : List LedgerView) (log later : LogState) → HaveWorked one two account old desk.ledgers
+  only_commit : (n : ℕ) (account : List ℕ) (one two : Leg) (legs : LegsOf t n one two) (point : Option Point) (o : TransferOutcome) (old : List LedgerView) (desk : DeskView) (new : List LedgerView) (log later : LogState) → HaveWorked one two account old desk.ledgers
       → ComesOfCommit (one.branch ∷ two.branch ∷ []) point o desk new log later → IsUndoubted o → Earlier n old → Later (n + 1) new → OnlyTransfers p s t old (pos 0) → OnlyTransfers p s t new (pos 0)
   only_commit n account one two legs point o old desk new log later work (in_full d none is made) fine before after only =
       only_decided n account one two legs old desk new log later d work made before after (subst IsUndoubted is fine) only
   only_commit n account one two legs point o old desk new log later work (cut_short at known some is dies) fine before after only =
       only_died n account one two legs at old desk new log later known work dies (subst IsUndoubted is fine) before after only
 
-  only_one : (n : ℕ) (tr : Transfer) (point : Option Point) (o : Outcome) (old new : DeskView) (log later : LogState) → Makes t n tr point o old new log later → IsUndoubted o → Earlier n old.ledgers → Later (n + 1) new.ledgers → OnlyTransfers p s t old.ledgers (pos 0) → OnlyTransfers p s t new.ledgers (pos 0)
+  only_one : (n : ℕ) (tr : Transfer) (point : Option Point) (o : TransferOutcome) (old new : DeskView) (log later : LogState) → Makes t n tr point o old new log later → IsUndoubted o → Earlier n old.ledgers → Later (n + 1) new.ledgers → OnlyTransfers p s t old.ledgers (pos 0) → OnlyTransfers p s t new.ledgers (pos 0)
   only_one n tr point o old new log later (with_legs one two legs (commits desk work comes)) fine before after only =
       only_commit n tr.account one two (legs_are t n tr one two legs) point o old.ledgers desk new.ledgers log later work comes fine before after only
   only_one n tr point o old new log later (with_legs one two legs (refused is unlogged why h)) fine before after only = only_quiet_one one two old.ledgers new.ledgers h only
   only_one n tr point o old new log later (without_legs is none same unlogged) fine before after only = subst (λ (q : DeskView). OnlyTransfers p s t q.ledgers (pos 0)) (sym same) only
 
-  only_each : (death : Option Death) (n : ℕ) (trs : List Transfer) (os : List Outcome) (old new : DeskView) (log later : LogState) → MakesEach t death n trs os old new log later → All IsUndoubted os → Earlier n old.ledgers → Later (n + length trs) new.ledgers → OnlyTransfers p s t old.ledgers (pos 0)
+  only_each : (death : Option Death) (n : ℕ) (trs : List Transfer) (os : List TransferOutcome) (old new : DeskView) (log later : LogState) → MakesEach t death n trs os old new log later → All IsUndoubted os → Earlier n old.ledgers → Later (n + length trs) new.ledgers → OnlyTransfers p s t old.ledgers (pos 0)
       → OnlyTransfers p s t new.ledgers (pos 0)
   only_each death n [] [] old new log later (same, unlogged) fine before after only = subst (λ (q : DeskView). OnlyTransfers p s t q.ledgers (pos 0)) (sym same) only
   only_each death n (tr ∷ trs) [] old new log later (same, unlogged) fine before after only = subst (λ (q : DeskView). OnlyTransfers p s t q.ledgers (pos 0)) (sym same) only
@@ -276,7 +273,7 @@ module _ (adds : (t n : ℕ) (x : XidName) (k : List ℕ) (d : ℤ) (h : History
   opens_name : (op : Op) → IsOpenRm op → Names t (IsBelow 0) op
   opens_name op is = record { each = λ x e. let z : false ≡ true = sym (ap (λ o. names x o) is) ∙ e in cc }
 
-  pub only_transfers : (trs : List Transfer) (death : Option Death) (os : List Outcome) (begun last : DeskView) (log later : LogState) → begun.thread ≡ t → NothingWasSent begun.ledgers → MakesAll trs death os begun last log later → All IsUndoubted os
+  pub only_transfers : (trs : List Transfer) (death : Option Death) (os : List TransferOutcome) (begun last : DeskView) (log later : LogState) → begun.thread ≡ t → NothingWasSent begun.ledgers → MakesAll trs death os begun last log later → All IsUndoubted os
       → HaveSent (λ op. ⊥) last.ledgers final → OnlyTransfers p s t final (pos 0)
   only_transfers trs death os begun last log later thread nothing all fine end =
       let opening_ : DeskView = all.opened in
@@ -294,7 +291,7 @@ module _ (adds : (t n : ℕ) (x : XidName) (k : List ℕ) (d : ℤ) (h : History
 opens_any : (t : ℕ) (op : Op) → IsOpenRm op → Names t IsAny op
 opens_any t op is = record { each = λ x e. let z : false ≡ true = sym (ap (λ o. names x o) is) ∙ e in cc }
 
-pub all_told : (s : Settling) (t : ℕ) (trs : List Transfer) (death : Option Death) (os : List Outcome) (begun last : DeskView) (log later : LogState) → begun.thread ≡ t → NothingWasSent begun.ledgers → MakesAll trs death os begun last log later
+pub all_told : (s : Settling) (t : ℕ) (trs : List Transfer) (death : Option Death) (os : List TransferOutcome) (begun last : DeskView) (log later : LogState) → begun.thread ≡ t → NothingWasSent begun.ledgers → MakesAll trs death os begun last log later
     → HaveSent (λ op. ⊥) last.ledgers (ledgers_of s t) → (m : ℕ) → 1 ≤ m → All (Names t IsAny) (sent s t m)
 all_told s t trs death os begun last log later thread nothing all end m positive =
     let final : List LedgerView = ledgers_of s t in

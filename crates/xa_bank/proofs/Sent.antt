@@ -1,8 +1,7 @@
 -- Which requests were sent since: what is done one after the other, and what a request or a collection adds.
-use Rattle.std.proofs.Common.{◌≡◌, ℕ, zero, suc, ◌-◌, ◌≤◌, ◌⊎◌, Bool, true, false, ℤ, pos, negsuc, List, [], ◌∷◌, ◌++◌, length, get_or, set, append_assoc, sym, refl, ap, ◌∙◌, subst, inl, inr, arith, Option, None, Some}
-use Rattle.std.proofs.lemmas.List.{append-nil, get_or-set_same, get_or-set_other}
+use Rattle.std.proofs.Common.{◌≡◌, ℕ, zero, suc, ◌-◌, ◌⊎◌, Bool, true, false, ℤ, pos, negsuc, List, [], ◌∷◌, ◌++◌, length, append_assoc, sym, refl, ap, ◌∙◌, subst, Option, None, Some}
+use Rattle.std.proofs.lemmas.List.{append-nil}
 use Rattle.std.proofs.lemmas.List.Elements.{All-nil, All-cons, All-append, All-weaker}
-use Rattle.std.proofs.lemmas.Bool.{cases_lt, cases_eq}
 use Rattle.xa_base.proofs.Lists.{same_begins, begins_on}
 use Rattle.xa_words.specs.Xid.{XidName, xid_eq}
 use Rattle.xa_words.specs.Orders.{Decides-xid_eq}
@@ -14,9 +13,10 @@ use Rattle.xa_words.specs.declared.request.EndHow.TheVariants.{Success, Fail}
 use Rattle.xa_tables.specs.Prepared.{names}
 use Rattle.xa_desk.specs.declared.operation.Operation.{Operation}
 use Rattle.xa_desk.specs.LedgerView.{LedgerView, learnt_shut, with_sent, with_collected}
-use Rattle.xa_desk.specs.DeskView.{DeskView, ledger, no_ledger, put_ledger, after_sent, after_collected, next_operation}
+use Rattle.xa_desk.specs.DeskView.{DeskView, ledger, after_sent, after_collected, next_operation}
 use Rattle.xa_desk.specs.Lanes.{submitted, after_fulls}
 use Rattle.xa_desk.specs.Looks.{Collects}
+use Rattle.xa_desk.proofs.Ledgers.{put_each}
 use Rattle.xa_switch.specs.Putting.{Puts}
 use Rattle.xa_switch.specs.Putting.Puts.{refused, full, kept, answered}
 use Rattle.xa_switch.proofs.Kept.{fulls_ledgers}
@@ -62,22 +62,6 @@ have_on P old mid new p q = λ m positive. sent_on P (ledger old m) (ledger mid 
 
 pub have_as : (P Q : Op → Type 0) → ((op : Op) → P op → Q op) → (old new : List LedgerView) → HaveSent P old new → HaveSent Q old new
 have_as P Q also old new h = λ m positive. sent_as P Q also (ledger old m) (ledger new m) (h m positive)
-
--- a ledger is put in the place of another
-put_each : (R : LedgerView → LedgerView → Type 0) → ((a : LedgerView) → R a a) → (at : List LedgerView) (m : ℕ) (a : LedgerView) → R (ledger at m) a → (n : ℕ) → R (ledger at n) (ledger (put_ledger at m a) n)
-put_each R same at m a g n = elim (cases_eq (n - 1) (m - 1)) [
-  | inl here ↦ elim (cases_lt (m - 1) (length at)) [
-    | inl below ↦ subst (λ k. R (get_or at k no_ledger) (get_or (put_ledger at m a) k no_ledger)) (sym here)
-        (subst (R (ledger at m)) (sym (get_or-set_same at (m - 1) a no_ledger below)) g)
-    | inr past ↦ subst (λ (l : List LedgerView). R (ledger at n) (ledger l n)) (sym (unset at (m - 1) past)) (same (ledger at n))
-  ]
-  | inr other ↦ subst (R (ledger at n)) (sym (get_or-set_other at (m - 1) (n - 1) a no_ledger other)) (same (ledger at n))
-]
-  where
-    unset : (l : List LedgerView) (k : ℕ) → length l ≤ k → set l k a ≡ l
-    unset [] k h = refl
-    unset (x ∷ l) zero h = absurd (omega arith)
-    unset (x ∷ l) (suc k) h = ap (λ r. x ∷ r) (unset l k (omega arith))
 
 pub one_sent : (P : Op → Type 0) (at : List LedgerView) (m : ℕ) (op : Op) → P op → HaveSent P at (after_sent at m op)
 one_sent P at m op so = λ n _.

@@ -1,5 +1,5 @@
 -- A round that goes on is still the round of its stage.
-use Rattle.std.proofs.Common.{◌≡◌, ◌≤◌, List, [], ◌∷◌, length, map, vec_capacity, refl, sym, ap, ◌∙◌, subst}
+use Rattle.std.proofs.Common.{◌≡◌, ◌≤◌, List, map, vec_capacity, sym, ap, ◌∙◌, subst}
 use Rattle.xa_desk.specs.LedgerView.{LedgerView}
 use Rattle.xa_desk.specs.DeskView.{DeskView}
 use Rattle.xa_driver.specs.declared.ask.Ask.{Ask}
@@ -14,20 +14,17 @@ use Rattle.xa_driver.specs.Rounds.{first_ask, second_ask}
 use Rattle.xa_driver.specs.Stages.{HasRoomForEndings, HasRoomForVotes, IsPreparing, IsTelling}
 use Rattle.xa_driver.specs.UnderWay.{IsUnderWay}
 use Rattle.xa_driver.proofs.Calls.{same_long}
-
-pub same_asks : (ks : List Ask) → SameAsks ks ks
-same_asks [] = tt
-same_asks (k ∷ ks) = (record { manager = refl; xid = refl; vote = refl; op = refl }, same_asks ks)
+use Rattle.xa_driver.proofs.Gathering.{same_itself}
 
 -- what a step of a round keeps
 abbrev Steps : Round → Round → Type 0
 Steps r next = (js : List Ask) → SameAsks js r.asks.items → SameAsks js next.asks.items
 
 votes_on : (r next : Round) (known : Done) → Steps r next → HasRoomForVotes r known → HasRoomForVotes next known
-votes_on r next known steps h = record { none = h.none; room = subst (λ n. n ≤ vec_capacity known.votes) (sym (same_long r.asks.items next.asks.items (steps r.asks.items (same_asks r.asks.items)))) h.room }
+votes_on r next known steps h = record { none = h.none; room = subst (λ n. n ≤ vec_capacity known.votes) (sym (same_long r.asks.items next.asks.items (steps r.asks.items (same_itself r.asks.items)))) h.room }
 
 endings_on : (r next : Round) (known : Done) → Steps r next → HasRoomForEndings r known → HasRoomForEndings next known
-endings_on r next known steps h = record { none = h.none; room = subst (λ n. n ≤ vec_capacity known.endings) (sym (same_long r.asks.items next.asks.items (steps r.asks.items (same_asks r.asks.items)))) h.room }
+endings_on r next known steps h = record { none = h.none; room = subst (λ n. n ≤ vec_capacity known.endings) (sym (same_long r.asks.items next.asks.items (steps r.asks.items (same_itself r.asks.items)))) h.room }
 
 pub preparing_on : (bs : List Branch) (desk : DeskView) (p : Preparing) (next : Round) → IsPreparing bs desk p → next.before ≡ p.round.before → Steps p.round next → IsPreparing bs desk (record { round = next; tran = p.tran; known = p.known })
 preparing_on bs desk p next h before steps = record {

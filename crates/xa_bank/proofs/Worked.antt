@@ -1,9 +1,10 @@
 -- The work for two legs: six requests are put, each kept under a number, and collected by these numbers.
-use Rattle.std.proofs.Common.{◌≡◌, ◌≢◌, ℕ, zero, suc, ◌+◌, ◌-◌, ◌<◌, ◌≤◌, Bool, true, false, ◌&&◌, ℤ, pos, List, [], ◌∷◌, ◌++◌, length, length-append, sym, refl, ap, ◌∙◌, subst, arith, Option, Some, None}
+use Rattle.std.proofs.Common.{◌≡◌, ◌≢◌, ℕ, zero, suc, ◌+◌, ◌-◌, ◌<◌, ◌≤◌, Bool, true, false, ◌&&◌, ℤ, pos, List, [], ◌∷◌, ◌++◌, length, length-append, sym, refl, ap, ◌∙◌, subst, arith, Some, None}
 use Rattle.std.specs.FinMap as map
 use Rattle.std.specs.Ordering.{nat_cmp}
 use Rattle.std.proofs.lemmas.List.{length-set, length-map}
 use Rattle.xa_base.proofs.Maps.{inserted_there, inserted_other, removed_other}
+use Rattle.xa_base.proofs.Options.{not_both}
 use Rattle.xa_words.specs.declared.code.Code.TheVariants.{Done}
 use Rattle.xa_words.specs.declared.request.Op.{Op}
 use Rattle.xa_words.specs.declared.request.Op.TheVariants.{Start, Add, End}
@@ -46,9 +47,6 @@ IsNone k (f ∷ fs) = (f.0 ≢ k) × IsNone k fs
 abbrev AreDistinct : Flights → Type 0
 AreDistinct [] = Unit {0}
 AreDistinct (f ∷ fs) = IsNone f.0 fs × AreDistinct fs
-
-not_both : {A : Type 0} (o : Option A) (a : A) → o ≡ None → o ≡ Some a → ⊥
-not_both o a e f = cc
 
 -- what is kept stays, and its number isn't used again
 kept_on : (fs : Flights) (old new : DeskView) → AreKept fs old new → (k : ℕ) (o : Operation) → map.get old.kept k ≡ Some o → (map.get new.kept k ≡ Some o) × IsNone k fs

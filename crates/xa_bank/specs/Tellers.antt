@@ -9,29 +9,28 @@ use Rattle.xa_driver.specs.Outcomes.{is_heuristic, is_in_doubt}
 use Rattle.xa_bank.specs.declared.dying.Death.{Death}
 use Rattle.xa_bank.specs.declared.dying.Point.{Point}
 use Rattle.xa_bank.specs.declared.dying.Point.TheVariants as point
-use Rattle.xa_bank.specs.declared.teller.Outcome.{Outcome}
-use Rattle.xa_bank.specs.declared.teller.Outcome.TheVariants.{Decided, Died, Refused}
+use Rattle.xa_bank.specs.declared.teller.TransferOutcome.{TransferOutcome}
+use Rattle.xa_bank.specs.declared.teller.TransferOutcome.TheVariants.{Decided, Died, Refused}
 use Rattle.xa_bank.specs.declared.teller.Teller.{Teller}
 use Rattle.xa_bank.specs.declared.teller.Transfer.{Transfer}
 use Rattle.xa_bank.specs.Deaths.{endings_in}
 use Rattle.xa_bank.specs.Transfers.{MakesAll}
 
 -- the teller died with the transfer
-abbrev pub has_died : Outcome → Bool
-has_died (Decided done) = false
+abbrev pub has_died : TransferOutcome → Bool
 has_died (Died at known) = true
-has_died Refused = false
+has_died o = false
 
 -- How far a teller came with these transfers: it lived, and made all of them; or it died with the last that it made.
-pub data Comes (trs : List Transfer) (os : List Outcome) : Type 0 where
+pub data Comes (trs : List Transfer) (os : List TransferOutcome) : Type 0 where
   lived : list_any has_died os ≡ false → length os ≡ length trs → Comes trs os
-  died : (before : List Outcome) (o : Outcome) → os ≡ before ++ o ∷ [] → list_any has_died before ≡ false
-      → has_died o ≡ true → Comes trs os
+  died : (before : List TransferOutcome) (o : TransferOutcome) → os ≡ before ++ o ∷ []
+      → list_any has_died before ≡ false → has_died o ≡ true → Comes trs os
 
 -- these transfers were made, up to the teller's death, and what became of each was told after the outcomes before it
-pub record HasMade (trs : List Transfer) (death : Option Death) (before : List Outcome) (old : DeskView)
-    (log : LogState) (after : List Outcome) (new : DeskView) (later : LogState) : Type 0 where
-  pub more : List Outcome
+pub record HasMade (trs : List Transfer) (death : Option Death) (before : List TransferOutcome) (old : DeskView)
+    (log : LogState) (after : List TransferOutcome) (new : DeskView) (later : LogState) : Type 0 where
+  pub more : List TransferOutcome
   pub told : after ≡ before ++ more
   pub makes : MakesAll trs death more old new log later
   pub comes : Comes trs more
@@ -56,7 +55,7 @@ IsClearAt point.Telling endings = ⊥
 IsClearAt point.Told endings = (list_any is_in_doubt endings ≡ false) × (list_any is_heuristic endings ≡ false)
 
 -- no branch of the transfer is in doubt
-abbrev pub IsUndoubted : Outcome → Type 0
+abbrev pub IsUndoubted : TransferOutcome → Type 0
 IsUndoubted (Decided done) = list_any is_in_doubt done.endings.items ≡ false
 IsUndoubted (Died at known) = IsClearAt at (endings_in known)
 IsUndoubted Refused = Unit {0}

@@ -23,8 +23,8 @@ use Rattle.xa_bank.specs.declared.dying.Death.{Death}
 use Rattle.xa_bank.specs.declared.dying.Point.{Point}
 use Rattle.xa_bank.specs.declared.teller.Leg.{Leg}
 use Rattle.xa_bank.specs.declared.teller.Transfer.{Transfer}
-use Rattle.xa_bank.specs.declared.teller.Outcome.{Outcome}
-use Rattle.xa_bank.specs.declared.teller.Outcome.TheVariants.{Decided, Died, Refused}
+use Rattle.xa_bank.specs.declared.teller.TransferOutcome.{TransferOutcome}
+use Rattle.xa_bank.specs.declared.teller.TransferOutcome.TheVariants.{Decided, Died, Refused}
 use Rattle.xa_bank.specs.declared.teller.TheConstants.{BRANCHES, REQUESTS}
 use Rattle.xa_bank.specs.Requests.{GivesUp, Tries}
 
@@ -97,8 +97,8 @@ pub record HaveWorked (one two : Leg) (k : List ℕ) (old new : List LedgerView)
 
 -- What comes of a commit of these branches, at a point of which the teller is to die, or at none: it was made, and
 -- decided so; or the teller died there.
-pub data ComesOfCommit (bs : List Branch) (point : Option Point) (o : Outcome) (desk : DeskView) (new : List LedgerView)
-    (log later : LogState) : Type 0 where
+pub data ComesOfCommit (bs : List Branch) (point : Option Point) (o : TransferOutcome) (desk : DeskView)
+    (new : List LedgerView) (log later : LogState) : Type 0 where
   in_full : (done : Done) → point ≡ None → o ≡ Decided done → IsCommit bs desk new log later done
       → ComesOfCommit bs point o desk new log later
   cut_short : (at : Point) (known : Option Done) → point ≡ Some at → o ≡ Died at known
@@ -130,7 +130,7 @@ pub record IsGivenUp (one two : Leg) (k : List ℕ) (old new : DeskView) : Type 
 
 -- What comes of two legs: both worked, and a commit of both branches came to this; or the transfer is refused for a
 -- reason, and only requests for its branches were sent, no Commit among them.
-pub data Transfers (one two : Leg) (k : List ℕ) (point : Option Point) (o : Outcome) (old new : DeskView)
+pub data Transfers (one two : Leg) (k : List ℕ) (point : Option Point) (o : TransferOutcome) (old new : DeskView)
     (log later : LogState) : Type 0 where
   commits : (worked : DeskView) → HaveWorked one two k old.ledgers worked.ledgers
       → ComesOfCommit (one.branch ∷ two.branch ∷ []) point o worked new.ledgers log later
@@ -139,7 +139,7 @@ pub data Transfers (one two : Leg) (k : List ℕ) (point : Option Point) (o : Ou
       → HaveSent (IsFor one two) old.ledgers new.ledgers → Transfers one two k point o old new log later
 
 -- What comes of thread t's transfer of number n: that of its legs; or it has none, and nothing is done.
-pub data Makes (t n : ℕ) (tr : Transfer) (point : Option Point) (o : Outcome) (old new : DeskView)
+pub data Makes (t n : ℕ) (tr : Transfer) (point : Option Point) (o : TransferOutcome) (old new : DeskView)
     (log later : LogState) : Type 0 where
   with_legs : (one two : Leg) → AreLegs t n tr one two → Transfers one two tr.account point o old new log later
       → Makes t n tr point o old new log later
@@ -153,8 +153,8 @@ pub record WantsMemory (t n : ℕ) (tr : Transfer) (old new : DeskView) : Type 0
   pub given_up : IsGivenUp one two tr.account old new
 
 -- so for as many of these transfers as there are outcomes, one after the other, with numbers from n on
-abbrev pub MakesEach : ℕ → Option Death → ℕ → List Transfer → List Outcome → DeskView → DeskView → LogState → LogState
-    → Type 0
+abbrev pub MakesEach : ℕ → Option Death → ℕ → List Transfer → List TransferOutcome → DeskView → DeskView → LogState
+    → LogState → Type 0
 MakesEach t death n [] [] old new log later = (new ≡ old) × (later ≡ log)
 MakesEach t death n (tr ∷ trs) [] old new log later = (new ≡ old) × (later ≡ log)
 MakesEach t death n (tr ∷ trs) (o ∷ os) old new log later =
@@ -163,7 +163,7 @@ MakesEach t death n (tr ∷ trs) (o ∷ os) old new log later =
 MakesEach t death n [] (o ∷ os) old new log later = ⊥
 
 -- the thread opened stores, and then made these transfers
-pub record MakesAll (trs : List Transfer) (death : Option Death) (os : List Outcome) (old new : DeskView)
+pub record MakesAll (trs : List Transfer) (death : Option Death) (os : List TransferOutcome) (old new : DeskView)
     (log later : LogState) : Type 0 where
   pub opened : DeskView
   pub opens : HaveSent IsOpenRm old.ledgers opened.ledgers

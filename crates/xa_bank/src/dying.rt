@@ -7,8 +7,9 @@ ghost use Rattle.xa_driver.specs.Trace.{MayCommit};
 
 use std::alloc::Global;
 use std::sync::Wait;
+use xa_crew::laws::idles_go_on;
 use xa_desk::laws::desks_go_on;
-use xa_desk::{Desk, Spin};
+use xa_desk::{Desk, Idle};
 use xa_driver::laws::{others_leave_the_branches, rounds_are_cuts, stages_are_cuts, stages_follow};
 use xa_driver::{Branch, Done, DriverFault, MemoryLog, begin_prepare};
 
@@ -50,24 +51,26 @@ pub(crate) fn point_at(death: Option<Death>, place: usize) -> Option<Point>
 /// nothing before all have voted. Requests that are in flight are kept under handles.
 ///
 /// It fails only for want of memory, and then nothing was sent.
-pub(crate) fn die<R: Wait>(
+pub(crate) fn die<R: Wait, I: Idle>(
     rt: &R,
     alloc: Global,
     desk: &mut Desk,
     log: &mut MemoryLog,
     branches: &[Branch],
     at: Point,
-    idle: &mut Spin,
+    idle: &mut I,
 ) -> Result<Option<Done>, DriverFault>
     requires { MayCommit desk.old log.old.state branches.now }
     ensures goes_on { GoesOn desk.old desk.new }
     ensures kept { AllKept desk.old → AllKept desk.new }
+    ensures idled { I.leads idle.old idle.new }
     ensures dies { IfOk result (λ known. Dies at branches.now known desk.old desk.new.ledgers log.old.state
         log.new.state) }
     ensures unsent { OnErr result (desk.new ≡ desk.old) }
     ensures unlogged { OnErr result (log.new.state ≡ log.old.state) }
 {
     desks_go_on();
+    idles_go_on::<I>();
     stages_follow();
     stages_are_cuts();
     rounds_are_cuts();

@@ -16,4 +16,4 @@ mod teller;
 
 pub use day::{Day, run_day};
 pub use dying::{Death, Point};
-pub use teller::{Outcome, Teller, Transfer};
+pub use teller::{Teller, Transfer, TransferOutcome};

@@ -17,8 +17,9 @@ use crate::in_turn::work_in_turn;
 use std::alloc::{AllocError, Global};
 use std::sync::Wait;
 use xa_crew::Client;
+use xa_crew::laws::idles_go_on;
 use xa_desk::laws::desks_go_on;
-use xa_desk::{Desk, Spin};
+use xa_desk::{Desk, Idle};
 use xa_driver::{Branch, Done, DriverFault, MemoryLog, commit_all, may_commit};
 use xa_switch::xa_call;
 use xa_words::{Call, Delta, EndHow, Key, Op, TMFAIL, TMNOFLAGS, Xid};
@@ -36,7 +37,7 @@ pub struct Transfer {
 
 /// What became of a transfer.
 #[derive(Debug, Drop)]
-pub enum Outcome {
+pub enum TransferOutcome {
     /// The work for both branches answered XA_OK, and `commit_all` came to this. A store may have voted against it.
     Decided(Done),
     /// The work for both branches answered XA_OK, and the teller died at this point of their commit. What was known of
@@ -48,14 +49,14 @@ pub enum Outcome {
     Refused,
 }
 
-impl Outcome {
+impl TransferOutcome {
     /// Whether the teller died with it.
     pub fn has_died(&self) -> bool
         ensures { result ≡ has_died self.now }
     {
         match self {
-            Outcome::Died { at: _, known: _ } => true,
-            Outcome::Decided(_) | Outcome::Refused => false,
+            TransferOutcome::Died { at: _, known: _ } => true,
+            TransferOutcome::Decided(_) | TransferOutcome::Refused => false,
         }
     }
 }
@@ -68,7 +69,7 @@ pub struct Teller {
     transfers: Vec<Transfer>,
     death: Option<Death>,
     /// One for each transfer that was made, in their order. None was made after one with which the teller died.
-    pub outcomes: Vec<Outcome>,
+    pub outcomes: Vec<TransferOutcome>,
     /// Whether memory was refused, after which no transfer was made.
     pub wants_memory: bool,
 }
@@ -122,9 +123,10 @@ fn legs_of(thread: u32, place: usize, transfer: &Transfer) -> Option<(Leg, Leg)>
 
 // Ends the thread's work on a leg's branch as failed. A thread that stays associated with a branch can't roll it back,
 // and can start no other at its store. Where the work has ended it is an error, which changes nothing.
-fn fail<R: Wait>(rt: &R, desk: &mut Desk, leg: &Leg, idle: &mut Spin)
+fn fail<R: Wait, I: Idle>(rt: &R, desk: &mut Desk, leg: &Leg, idle: &mut I)
     ensures goes_on { GoesOn desk.old desk.new }
     ensures kept { AllKept desk.old → AllKept desk.new }
+    ensures idled { I.leads idle.old idle.new }
     ensures sent { HaveSent (λ op. op ≡ Op.End leg.now.branch.xid EndHow.Fail) desk.old.ledgers desk.new.ledgers }
     ensures asks { Asks Call.End TMFAIL leg.now desk.old desk.new }
 {
@@ -133,9 +135,10 @@ fn fail<R: Wait>(rt: &R, desk: &mut Desk, leg: &Leg, idle: &mut Spin)
 }
 
 // Rolls a leg's branch back.
-fn roll_back<R: Wait>(rt: &R, desk: &mut Desk, leg: &Leg, idle: &mut Spin)
+fn roll_back<R: Wait, I: Idle>(rt: &R, desk: &mut Desk, leg: &Leg, idle: &mut I)
     ensures goes_on { GoesOn desk.old desk.new }
     ensures kept { AllKept desk.old → AllKept desk.new }
+    ensures idled { I.leads idle.old idle.new }
     ensures sent { HaveSent (λ op. op ≡ Op.Rollback leg.now.branch.xid) desk.old.ledgers desk.new.ledgers }
     ensures asks { Asks Call.Rollback 0 leg.now desk.old desk.new }
 {
@@ -144,13 +147,15 @@ fn roll_back<R: Wait>(rt: &R, desk: &mut Desk, leg: &Leg, idle: &mut Spin)
 }
 
 // Ends the work on both branches, whatever became of it, and rolls them back.
-fn give_up<R: Wait>(rt: &R, desk: &mut Desk, one: &Leg, two: &Leg, idle: &mut Spin)
+fn give_up<R: Wait, I: Idle>(rt: &R, desk: &mut Desk, one: &Leg, two: &Leg, idle: &mut I)
     ensures goes_on { GoesOn desk.old desk.new }
     ensures kept { AllKept desk.old → AllKept desk.new }
+    ensures idled { I.leads idle.old idle.new }
     ensures sent { HaveSent (IsFor one.now two.now) desk.old.ledgers desk.new.ledgers }
     ensures gives_up { GivesUp one.now two.now desk.old desk.new }
 {
     desks_go_on();
+    idles_go_on::<I>();
     fail(rt, desk, one, idle);
     fail(rt, desk, two, idle);
     roll_back(rt, desk, one, idle);
@@ -166,16 +171,17 @@ fn can_fly(desk: &Desk, one: &Leg, two: &Leg) -> bool {
 }
 
 // Makes the additions of both legs, in flight where that can be. It tells whether all requests answered XA_OK.
-fn work_for<R: Wait>(
+fn work_for<R: Wait, I: Idle>(
     rt: &R,
     desk: &mut Desk,
     one: &Leg,
     two: &Leg,
     account: Key,
-    idle: &mut Spin,
+    idle: &mut I,
 ) -> bool
     ensures goes_on { GoesOn desk.old desk.new }
     ensures kept { AllKept desk.old → AllKept desk.new }
+    ensures idled { I.leads idle.old idle.new }
     ensures sent { HaveSent (IsFor one.now two.now) desk.old.ledgers desk.new.ledgers }
     ensures worked { result ≡ true → AreApart one.now two.now desk.new.ledgers
         → HaveWorked one.now two.now account desk.old.ledgers desk.new.ledgers }
@@ -205,39 +211,41 @@ fn has_room(desk: &Desk, one: &Leg, two: &Leg) -> bool
 
 // Commits the branches, or dies at this point of their commit. It fails only for want of memory, and then nothing was
 // sent.
-fn commit<R: Wait>(
+fn commit<R: Wait, I: Idle>(
     rt: &R,
     alloc: Global,
     desk: &mut Desk,
     log: &mut MemoryLog,
     branches: &[Branch],
     point: Option<Point>,
-    idle: &mut Spin,
-) -> Result<Outcome, DriverFault>
+    idle: &mut I,
+) -> Result<TransferOutcome, DriverFault>
     requires { MayCommit desk.old log.old.state branches.now }
     ensures goes_on { GoesOn desk.old desk.new }
     ensures kept { AllKept desk.old → AllKept desk.new }
+    ensures idled { I.leads idle.old idle.new }
     ensures comes { IfOk result (λ o. ComesOfCommit branches.now point o desk.old desk.new.ledgers log.old.state
         log.new.state) }
     ensures unsent { OnErr result (desk.new ≡ desk.old) }
     ensures unlogged { OnErr result (log.new.state ≡ log.old.state) }
 {
     desks_go_on();
+    idles_go_on::<I>();
     match point {
         None => {
             let done = commit_all(rt, alloc, desk, log, branches, idle)?;
-            Ok(Outcome::Decided(done))
+            Ok(TransferOutcome::Decided(done))
         }
         Some(at) => {
             let known = die(rt, alloc, desk, log, branches, at, idle)?;
-            Ok(Outcome::Died { at, known })
+            Ok(TransferOutcome::Died { at, known })
         }
     }
 }
 
 // Makes a transfer of these legs, where there is room for it; or dies at this point of its commit. It fails only for
 // want of memory, and then both branches are given up.
-fn carry_out<R: Wait>(
+fn carry_out<R: Wait, I: Idle>(
     rt: &R,
     alloc: Global,
     desk: &mut Desk,
@@ -246,24 +254,26 @@ fn carry_out<R: Wait>(
     two: &Leg,
     account: Key,
     point: Option<Point>,
-    idle: &mut Spin,
-) -> Result<Outcome, AllocError>
+    idle: &mut I,
+) -> Result<TransferOutcome, AllocError>
     ensures goes_on { GoesOn desk.old desk.new }
     ensures kept { AllKept desk.old → AllKept desk.new }
+    ensures idled { I.leads idle.old idle.new }
     ensures carried { IfOk result (λ o. Transfers one.now two.now account point o desk.old desk.new log.old.state
         log.new.state) }
     ensures wants { OnErr result (IsGivenUp one.now two.now account desk.old desk.new) }
     ensures unlogged { OnErr result (log.new.state ≡ log.old.state) }
 {
     desks_go_on();
+    idles_go_on::<I>();
     if !has_room(desk, one, two) {
-        return Ok(Outcome::Refused);
+        return Ok(TransferOutcome::Refused);
     }
     let worked = work_for(rt, desk, one, two, account, idle);
     let branches = [one.branch, two.branch];
     if !worked || !may_commit(desk, log, &branches) {
         give_up(rt, desk, one, two, idle);
-        return Ok(Outcome::Refused);
+        return Ok(TransferOutcome::Refused);
     }
     let Ok(outcome) = commit(rt, alloc, desk, log, &branches, point, idle) else {
         give_up(rt, desk, one, two, idle);
@@ -273,19 +283,21 @@ fn carry_out<R: Wait>(
 }
 
 // Opens each store.
-fn open_all<R: Wait>(rt: &R, desk: &mut Desk, idle: &mut Spin)
+fn open_all<R: Wait, I: Idle>(rt: &R, desk: &mut Desk, idle: &mut I)
     ensures goes_on { GoesOn desk.old desk.new }
     ensures kept { AllKept desk.old → AllKept desk.new }
+    ensures idled { I.leads idle.old idle.new }
     ensures opens { HaveSent IsOpenRm desk.old.ledgers desk.new.ledgers }
 {
     desks_go_on();
+    idles_go_on::<I>();
     for before in 0..desk.managers() {
         xa_call(rt, desk, Call::OpenRm, None, before + 1, TMNOFLAGS, idle);
     }
 }
 
 // Makes the transfer at this place, or dies at this point of its commit. It fails only for want of memory.
-fn make<R: Wait>(
+fn make<R: Wait, I: Idle>(
     rt: &R,
     alloc: Global,
     desk: &mut Desk,
@@ -293,46 +305,50 @@ fn make<R: Wait>(
     place: usize,
     transfer: &Transfer,
     point: Option<Point>,
-    idle: &mut Spin,
-) -> Result<Outcome, AllocError>
+    idle: &mut I,
+) -> Result<TransferOutcome, AllocError>
     ensures goes_on { GoesOn desk.old desk.new }
     ensures kept { AllKept desk.old → AllKept desk.new }
+    ensures idled { I.leads idle.old idle.new }
     ensures makes { IfOk result (λ o. Makes desk.old.thread place transfer.now point o desk.old desk.new
         log.old.state log.new.state) }
     ensures wants { OnErr result (WantsMemory desk.old.thread place transfer.now desk.old desk.new) }
     ensures unlogged { OnErr result (log.new.state ≡ log.old.state) }
 {
     desks_go_on();
+    idles_go_on::<I>();
     let Some((one, two)) = legs_of(desk.thread(), place, transfer) else {
-        return Ok(Outcome::Refused);
+        return Ok(TransferOutcome::Refused);
     };
     let account = transfer.account;
     carry_out(rt, alloc, desk, log, &one, &two, account, point, idle)
 }
 
 // Makes the transfers, until memory is refused or the teller dies.
-fn make_all<R: Wait>(
+fn make_all<R: Wait, I: Idle>(
     rt: &R,
     alloc: Global,
     desk: &mut Desk,
     log: &mut MemoryLog,
     transfers: &[Transfer],
     death: Option<Death>,
-    outcomes: &mut Vec<Outcome>,
+    outcomes: &mut Vec<TransferOutcome>,
+    idle: &mut I,
 ) -> Result<(), AllocError>
     ensures goes_on { GoesOn desk.old desk.new }
     ensures kept { AllKept desk.old → AllKept desk.new }
+    ensures idled { I.leads idle.old idle.new }
     ensures each { OnOk result (death ≡ None → length outcomes.new.items
         ≡ length outcomes.old.items + length transfers.now) }
     ensures made { OnOk result (HasMade transfers.now death outcomes.old.items desk.old log.old.state
         outcomes.new.items desk.new log.new.state) }
 {
     desks_go_on();
-    let mut idle = Spin::new();
-    open_all(rt, desk, &mut idle);
+    idles_go_on::<I>();
+    open_all(rt, desk, idle);
     for (place, transfer) in transfers.iter().enumerate() {
         let point = point_at(death, place);
-        let outcome = make(rt, alloc, desk, log, place, transfer, point, &mut idle)?;
+        let outcome = make(rt, alloc, desk, log, place, transfer, point, idle)?;
         let died = outcome.has_died();
         outcomes.push(outcome)?;
         if died {
@@ -380,7 +396,7 @@ impl Client for Teller {
 
     ghost works = { Works };
 
-    fn work<R: Wait>(&mut self, rt: &R, desk: &mut Desk) {
+    fn work<R: Wait, I: Idle>(&mut self, rt: &R, desk: &mut Desk, idle: &mut I) {
         let made = make_all(
             rt,
             self.alloc,
@@ -389,6 +405,7 @@ impl Client for Teller {
             &self.transfers,
             self.death,
             &mut self.outcomes,
+            idle,
         );
         self.wants_memory = made.is_err();
     }

@@ -1,4 +1,5 @@
 pub mod Lists
 pub mod Truth
 pub mod Maps
+pub mod Options
 pub mod Sums

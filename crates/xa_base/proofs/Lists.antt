@@ -1,18 +1,17 @@
 -- Lemmas of lists: what is in their places, lists side by side, and numbers that follow each other.
 use Rattle.std.proofs.Common.{append_assoc, append-nil, ◌≡◌, ◌≢◌, ℕ, ◌+◌, ◌<◌, ◌≤◌, ◌⊎◌, ⊎_elim, zero, suc, Bool, true, false, cond, ◌==◌, ◌||◌, List, [], ◌∷◌, ◌++◌, length, map, Some, None, sym, refl, ap, ◌∙◌, subst, inl, inr, arith, length-append, take}
 use Rattle.std.specs.Prelude.{slice_get, slice_set, All}
-use Rattle.std.specs.List.{AllPairs, Contains, filter, flat_map, slice_index_or, range_with_len, list_any, find}
+use Rattle.std.specs.List.{AllPairs, Contains, IsDistinct, filter, flat_map, slice_index_or, range_with_len, list_any, find}
 use Rattle.std.proofs.lemmas.Bool.{cases_eq, eq-eqb, eqb-true, false_from_ne_true}
-use Rattle.std.proofs.lemmas.List.{length-map, length-set, get_or-set_other, get_or-set_same}
+use Rattle.std.proofs.lemmas.List.{length-map, length-set, get_or-set_other, get_or-set_same, get_or_at}
+pub use Rattle.std.proofs.lemmas.Option.{same_Some as some_same}
+pub use Rattle.std.proofs.lemmas.List.Quantifiers.{all_pairs_push as pairs_push}
 use Rattle.std.proofs.lemmas.Option.{slice_get_within, slice_get-get_or, slice_get_cases, get_or_from_slice_get}
 use Rattle.std.proofs.Math.Seq.{take-suc}
-use Rattle.std.proofs.lemmas.List.Elements.{All-push, filter-append}
+use Rattle.std.proofs.lemmas.List.Elements.{All-nil, All-cons, All-head, All-tail, All-push, filter-append}
 use Rattle.std.proofs.lemmas.List.FromFn.{length-range_with_len, get_or-range_with_len}
 use Rattle.std.proofs.lemmas.List.Kept.{AllPairs-cons}
 use Rattle.xa_base.specs.Lists.{Begins, Pairwise}
-
-pub some_same : {A : Type 0} (x y : A) → Some x ≡ Some y → x ≡ y
-some_same x y e = cc
 
 -- what is in a place
 pub got : {A : Type 0} (xs : List A) (k : ℕ) → k < length xs → (x : A) × (slice_get xs k ≡ Some x)
@@ -91,6 +90,16 @@ next_there {A} xs ys rest x e = ap (λ (l : List A). slice_get l (length ys)) (s
     behind [] = refl
     behind (y ∷ ys) = behind ys
 
+-- of a list that is taken from its front: the elements so far and one more, and where that one stands
+pub taken_next : {A : Type 0} (ys left rest xs : List A) (x : A) → left ≡ x ∷ rest → ys ++ left ≡ xs → (ys ++ x ∷ []) ++ rest ≡ xs
+taken_next ys left rest xs x step so_far = append_assoc ys (x ∷ []) rest ∙ ap (λ l. ys ++ l) (sym step) ∙ so_far
+
+pub next_place : {A : Type 0} (ys left rest xs : List A) (x : A) → left ≡ x ∷ rest → ys ++ left ≡ xs → (length ys < length xs) × (slice_index_or xs (length ys) x ≡ x)
+next_place ys left rest xs x step so_far =
+    let whole : ys ++ x ∷ rest ≡ xs = ap (λ l. ys ++ l) (sym step) ∙ so_far in
+    let many = ap length whole in
+    (omega (arith, many, length-append ys (x ∷ rest)), ap (λ l. slice_index_or l (length ys) x) (sym whole) ∙ get_or_at ys x rest x (length ys) refl)
+
 -- what goes from the first list to the second, and on to the third
 pub through : {A B C : Type 0} (P : A → B → Type 0) (Q : B → C → Type 0) (R : A → C → Type 0) → ((a : A) (b : B) (c : C) → P a b → Q b c → R a c) → (xs : List A) (ys : List B) (zs : List C) → Pairwise P xs ys → Pairwise Q ys zs → Pairwise R xs zs
 through P Q R goes xs ys zs p q = record {
@@ -102,9 +111,14 @@ through P Q R goes xs ys zs p q = record {
       goes x y.0 z (p.each k x y.0 at_x y.1) (q.each k y.0 z y.1 at_z);
 }
 
+-- a list without elements, in which none stands twice
 pub none_of : {A : Type 0} (xs : List A) → length xs ≡ 0 → xs ≡ []
 none_of [] e = refl
 none_of (x ∷ xs) e = absurd (omega (arith, e))
+
+pub none_twice : {A : Type 0} (same : A → A → Bool) → IsDistinct same []
+unfolding IsDistinct
+none_twice same = tt
 
 -- ---- elements and what they are numbered
 
@@ -153,10 +167,26 @@ was_mapped f (x ∷ xs) (suc k) y e = was_mapped f xs k y e
 pub contains_at : {A : Type 0} (xs : List A) (k : ℕ) (x : A) → slice_get xs k ≡ Some x → Contains xs x
 contains_at xs k x at = (k, slice_get_within xs k x at, get_or_from_slice_get xs k x x at)
 
--- what holds of all holds of the one in the middle, and of the first ones
+-- what holds of all holds of the first ones and of the rest, of the one in the middle, and of those after it
+pub all_left : {A : Type 0} (P : A → Type 0) (xs ys : List A) → All P (xs ++ ys) → All P xs
+all_left P [] ys h = All-nil P
+all_left P (x ∷ xs) ys h = All-cons P x xs (All-head P x (xs ++ ys) h) (all_left P xs ys (All-tail P x (xs ++ ys) h))
+
+pub all_right : {A : Type 0} (P : A → Type 0) (xs ys : List A) → All P (xs ++ ys) → All P ys
+all_right P [] ys h = h
+all_right P (x ∷ xs) ys h = all_right P xs ys (All-tail P x (xs ++ ys) h)
+
 pub all_mid : {A : Type 0} (P : A → Type 0) (xs ys : List A) (x : A) → All P (xs ++ x ∷ ys) → P x
-all_mid P [] ys x h = h 0 x (omega arith)
-all_mid P (y ∷ xs) ys x h = all_mid P xs ys x (λ k d below. h (suc k) d (omega arith))
+all_mid P xs ys x h = All-head P x ys (all_right P xs (x ∷ ys) h)
+
+pub all_after : {A : Type 0} (P : A → Type 0) (xs : List A) (x : A) (ys : List A) → All P (xs ++ x ∷ ys) → All P ys
+all_after P xs x ys h = All-tail P x ys (all_right P xs (x ∷ ys) h)
+
+-- what holds of all that is made of a list
+pub all_unmapped : {A B : Type 0} (f : A → B) (P : B → Type 0) (xs : List A) → All P (map f xs) → All (λ x. P (f x)) xs
+all_unmapped f P [] h = All-nil (λ x. P (f x))
+all_unmapped f P (x ∷ xs) h =
+    All-cons (λ x. P (f x)) x xs (All-head P (f x) (map f xs) h) (all_unmapped f P xs (All-tail P (f x) (map f xs) h))
 
 pub all_at : {A : Type 0} (P : A → Type 0) (xs : List A) (k : ℕ) (x : A) → All P xs → slice_get xs k ≡ Some x → P x
 all_at P xs k x all at =
@@ -202,13 +232,6 @@ snoc_parts (a ∷ xs) (b ∷ ys) x y e =
     let tail : xs ++ x ∷ [] ≡ ys ++ y ∷ [] = cc in
     let rest = snoc_parts xs ys x y tail in
     (λ i. head i ∷ rest.0 i, rest.1)
-
-pub pairs_push : {A : Type 0} (R : A → A → Type 0) (xs : List A) (y : A) → AllPairs R xs → All (λ x. R x y) xs → AllPairs R (xs ++ y ∷ [])
-pairs_push R [] y pairs all = λ i j d below within. absurd (omega (arith, below, within))
-pairs_push R (x ∷ xs) y pairs all =
-    AllPairs-cons R x (xs ++ y ∷ [])
-    (All-push (R x) xs y (λ k d below. pairs 0 (suc k) d (omega arith) (omega (arith, below))) (all 0 x (omega arith)))
-    (pairs_push R xs y (λ i j d below within. pairs (suc i) (suc j) d (omega (arith, below)) (omega (arith, within))) (λ k d below. all (suc k) d (omega (arith, below))))
 
 -- ---- what passes a filter, of lists one after the other
 

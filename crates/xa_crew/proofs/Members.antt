@@ -5,13 +5,15 @@ use Rattle.xa_desk.specs.DeskView.{DeskView}
 use Rattle.xa_desk.specs.GoesOn.{GoesOn}
 use Rattle.xa_desk.specs.Ended.{EndedView}
 use Rattle.xa_switch.specs.declared.plan.Plan.{Plan}
-use Rattle.xa_switch.specs.Plans.{planned}
+use Rattle.xa_switch.specs.Plans.{IsSound, planned}
+use Rattle.xa_switch.specs.OpenedPieces.{AreOfOneOpening}
+use Rattle.xa_worker.specs.Workers.{WorkerView}
 use Rattle.xa_crew.specs.declared.client_job.ClientJob.{ClientJob}
 use Rattle.xa_crew.specs.declared.client_job.Worked.{Worked}
 use Rattle.xa_crew.specs.declared.run.Ran.{Ran}
 use Rattle.xa_base.specs.Lists.{Pairwise}
-use Rattle.xa_crew.specs.Pieces.{HasGone, ArePiecesOf}
-use Rattle.xa_crew.specs.Run.{Member, member_of, HasRun, HasRunAll}
+use Rattle.xa_crew.specs.Pieces.{HasGone, HasServed, ArePiecesOf}
+use Rattle.xa_crew.specs.Run.{Member, member_of, HasRun, HasRunAll, HasWorked}
 use Rattle.xa_base.proofs.Lists.{some_same, all_at, tail_side, side_of, side_to}
 
 abbrev pub members : {C : Type 0} → List (ClientJob C) → List (Worked C) → List (Member C)
@@ -33,15 +35,11 @@ read_come f g same (a ∷ gs) [] many = absurd (omega (arith, many))
 read_come f g same (a ∷ gs) (w ∷ ws) many = λ i. same a w i ∷ read_come f g same gs ws (omega (arith, many)) i
 
 module _ {C : Type 0} (works : C → DeskView → C → DeskView → Type 0) where
-  -- each thread ran with its client
-  abbrev pub HasWorked : ClientJob C → Worked C → Type 0
-  HasWorked a w = HasRun works (member_of a w)
-
-  pub all_ran : (gs : List (ClientJob C)) (ws : List (Worked C)) → Pairwise HasWorked gs ws → All (HasRun works) (members gs ws)
+  pub all_ran : (gs : List (ClientJob C)) (ws : List (Worked C)) → Pairwise (HasWorked works) gs ws → All (HasRun works) (members gs ws)
   all_ran [] ws all k d below = absurd (omega (arith, below))
   all_ran (a ∷ gs) [] all k d below = absurd (omega (arith, below))
   all_ran (a ∷ gs) (w ∷ ws) all zero d below = all.each 0 a w refl refl
-  all_ran (a ∷ gs) (w ∷ ws) all (suc k) d below = all_ran gs ws (tail_side HasWorked a gs w ws all) k d (omega (arith, below))
+  all_ran (a ∷ gs) (w ∷ ws) all (suc k) d below = all_ran gs ws (tail_side (HasWorked works) a gs w ws all) k d (omega (arith, below))
 
   -- a member's desk went on, and ended
   member_gone : ((old mid new : DeskView) → GoesOn old mid → GoesOn mid new → GoesOn old new) → (t : Member C) → HasRun works t → HasGone t.desk t.ended
@@ -64,4 +62,24 @@ module _ {C : Type 0} (works : C → DeskView → C → DeskView → Type 0) whe
     opened = all.opened;
     gone = subst (λ (es : List EndedView). Pairwise HasGone (map (λ (t : Member C). t.desk) all.members) es) (sym all.desks_are) (members_gone further all.members all.ran);
     served = all.served;
+  }
+
+  -- where each client has worked, and each worker has run, all have
+  pub all_have_run : (p : Plan) (desks : List DeskView) (workers : List WorkerView) (clients : List C)
+      (given : List (ClientJob C)) (worked : List (Worked C)) (r : Ran C)
+      → IsSound p → AreOfOneOpening (planned p) desks workers → map (λ a. a.client) given ≡ clients → map (λ a. a.desk) given ≡ desks
+      → Pairwise (HasWorked works) given worked → r.clients.items ≡ map (λ w. w.attended) worked → r.desks.items ≡ map (λ w. w.desk) worked
+      → Pairwise HasServed workers r.workers.items → HasRunAll works p clients r
+  all_have_run p desks workers clients given worked r sound opened own own_desks ran attended ended served = record {
+    members = members given worked;
+    workers = workers;
+    sound = sound;
+    opened =
+        subst (λ (ds : List DeskView). AreOfOneOpening (planned p) ds workers)
+        (sym own_desks ∙ sym (read_given (λ t. t.desk) (λ a. a.desk) (λ a w. refl) given worked ran.as_many)) opened;
+    clients_are = sym own ∙ sym (read_given (λ t. t.client) (λ a. a.client) (λ a w. refl) given worked ran.as_many);
+    ran = all_ran given worked ran;
+    attended_are = attended ∙ sym (read_come (λ t. t.attended) (λ w. w.attended) (λ a w. refl) given worked ran.as_many);
+    desks_are = ended ∙ sym (read_come (λ t. t.ended) (λ w. w.desk) (λ a w. refl) given worked ran.as_many);
+    served = served;
   }

@@ -14,8 +14,8 @@ use Rattle.xa_desk.specs.Lanes.{new_ledgers}
 use Rattle.xa_worker.specs.Workers.{WorkerView}
 use Rattle.xa_worker.specs.Done.{Served}
 use Rattle.xa_switch.specs.Plans.{Setup}
-use Rattle.xa_switch.specs.Openings.{IsNewDesk, IsNewWorker}
-use Rattle.xa_switch.specs.Seats.{DeskSeat, WorkerSeat, ComeFromOpenings, seat_of_desk, seat_of_ended, seat_of_worker, seat_of_done, desk_seats, worker_seats, desk_opening, worker_opening, first_opening, AreOfOne, AreAll, HasDesks, HasWorkers, has_desk, has_worker}
+use Rattle.xa_switch.specs.OpenedPieces.{IsNewDesk, IsNewWorker}
+use Rattle.xa_switch.specs.Belonging.{DeskSeat, WorkerSeat, ComeFromOpenings, seat_of_desk, seat_of_ended, seat_of_worker, seat_of_done, desk_seats, worker_seats, desk_opening, worker_opening, first_opening, AreOfOne, AreAll, HasDesks, HasWorkers, has_desk, has_worker}
 use Rattle.xa_crew.specs.Pieces.{HasGone, HasServed, ArePiecesOf}
 use Rattle.xa_base.proofs.Lists.{got, all_from, any_at, map_alike}
 

@@ -2,3 +2,5 @@ pub mod Ending
 pub mod Pieces
 pub mod Hands
 pub mod Run
+pub mod Turns
+pub mod Turning

@@ -6,8 +6,8 @@ use Rattle.xa_desk.specs.GoesOn.{GoesOn}
 use Rattle.xa_worker.specs.Workers.{WorkerView}
 use Rattle.xa_worker.specs.Done.{Served, IsServed, SameServed}
 use Rattle.xa_switch.specs.Plans.{Setup, IsWithinLimits}
-use Rattle.xa_switch.specs.Openings.{AreOfOneOpening}
-use Rattle.xa_switch.specs.Seats.{seat_of_worker, seat_of_done}
+use Rattle.xa_switch.specs.OpenedPieces.{AreOfOneOpening}
+use Rattle.xa_switch.specs.Belonging.{seat_of_worker, seat_of_done}
 use Rattle.xa_base.specs.Lists.{Pairwise}
 
 -- The desk went on by calls, and then it ended.

@@ -1,4 +1,4 @@
--- A run of clients in threads: what each client and its desk come to, and what is settled.
+-- A run of clients, in threads or in turns: what each client and its desk come to, and what is settled.
 use Rattle.std.specs.Prelude.{◌≡◌, ◌≤◌, List, [], map, vec_capacity}
 use Rattle.std.specs.List.{All}
 use Rattle.xa_base.specs.declared.limits.TheConstants.{MOST_HANDLES}
@@ -11,7 +11,7 @@ use Rattle.xa_switch.specs.declared.plan.Plan.{Plan}
 use Rattle.xa_switch.specs.declared.plan.OpenFault.{OpenFault}
 use Rattle.xa_switch.specs.declared.plan.OpenFault.TheVariants as open_
 use Rattle.xa_switch.specs.Plans.{IsSound, planned}
-use Rattle.xa_switch.specs.Openings.{AreOfOneOpening}
+use Rattle.xa_switch.specs.OpenedPieces.{AreOfOneOpening}
 use Rattle.xa_switch.specs.Settling.{Settling, IsSettled}
 use Rattle.xa_switch.specs.Closing.{settling}
 use Rattle.xa_switch.specs.OfPlans.{IsOfPlan}
@@ -57,6 +57,10 @@ pub record IsReady {C : Type 0} (a : ClientJob C) : Type 0 where
 -- A client's thread as a member, by what it was given and what it came to.
 abbrev pub member_of : {C : Type 0} → ClientJob C → Worked C → Member C
 member_of a w = record { client = a.client; desk = a.desk; attended = w.attended; ended = w.desk }
+
+-- The client of this job has worked and come to this.
+abbrev pub HasWorked : {C : Type 0} → (C → DeskView → C → DeskView → Type 0) → ClientJob C → Worked C → Type 0
+HasWorked works a w = HasRun works (member_of a w)
 
 -- ---- the whole run
 

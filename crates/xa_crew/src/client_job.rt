@@ -1,16 +1,18 @@
-//! A client's thread.
-ghost use Rattle.std.specs.Prelude.{◌≡◌, length, map, All, IfOk};
+//! A client at work, in a thread of its own or in one for all.
+ghost use Rattle.std.specs.Prelude.{◌≡◌, ◌≤◌, [], length, map, vec_capacity, All, IfOk};
+ghost use Rattle.xa_base.specs.Lists.{Pairwise};
 ghost use Rattle.xa_desk.specs.Kept.{AllKept};
-ghost use Rattle.xa_crew.specs.Run.{IsReady};
+ghost use Rattle.xa_crew.specs.Run.{HasWorked, IsReady};
 
 use crate::client::Client;
 use crate::ending::end_desk;
 use crate::job::Job;
+use crate::laws::idles_go_on;
 use crate::word::Go;
 use std::alloc::{AllocError, Global};
 use std::sync::Wait;
 use xa_base::MOST_HANDLES;
-use xa_desk::{Desk, EndedDesk, Spin};
+use xa_desk::{Desk, EndedDesk, Idle, Spin};
 use xa_words::Code;
 
 /// A client that has worked.
@@ -39,28 +41,58 @@ pub(crate) struct Worked<C> {
 }
 
 impl<C: Client> Job<Worked<C>> for ClientJob<C> {
-    ghost use Rattle.xa_crew.specs.Run.{IsReady, HasRun, member_of};
+    ghost use Rattle.xa_crew.specs.Run.{IsReady, HasWorked};
 
     ghost can_run = { λ a. IsReady a };
 
-    ghost comes_to = { λ a w. HasRun C.works (member_of a w) };
+    ghost comes_to = { λ a w. HasWorked C.works a w };
 
     fn run<R: Wait>(self, rt: &R, _go: &Go<'_>) -> Worked<C> {
-        let ClientJob {
-            mut client,
-            mut desk,
-            mut outstanding,
-        } = self;
-        client.work(rt, &mut desk);
-        let desk = end_desk(rt, desk, &mut Spin::new(), &mut outstanding);
-        Worked {
-            attended: Attended {
-                client,
-                outstanding,
-            },
-            desk,
-        }
+        attend(rt, self, &mut Spin::new())
     }
+}
+
+// The client works with its desk; then what is outstanding is collected and told, and the desk ends.
+fn attend<R: Wait, C: Client, I: Idle>(rt: &R, job: ClientJob<C>, idle: &mut I) -> Worked<C>
+    requires { IsReady job }
+    ensures worked { HasWorked C.works job result }
+    ensures idled { I.leads idle.old idle.new }
+{
+    idles_go_on::<I>();
+    let ClientJob {
+        mut client,
+        mut desk,
+        mut outstanding,
+    } = job;
+    client.work(rt, &mut desk, idle);
+    let desk = end_desk(rt, desk, idle, &mut outstanding);
+    Worked {
+        attended: Attended {
+            client,
+            outstanding,
+        },
+        desk,
+    }
+}
+
+/// All clients work so, one after the other, where there is room for what they come to.
+pub(crate) fn attend_all<R: Wait, C: Client, I: Idle>(
+    rt: &R,
+    jobs: Vec<ClientJob<C>>,
+    idle: &mut I,
+    mut done: Vec<Worked<C>>,
+) -> Vec<Worked<C>>
+    requires ready { All IsReady jobs.items }
+    requires none { done.items ≡ [] }
+    requires room { length jobs.items ≤ vec_capacity done }
+    ensures worked { Pairwise (HasWorked C.works) jobs.items result.items }
+    ensures idled { I.leads idle.old idle.new }
+{
+    idles_go_on::<I>();
+    for job in jobs {
+        done.push_reserved(attend(rt, job, idle));
+    }
+    done
 }
 
 // The client with the desk. It has all memory that the end of the desk takes.

@@ -1,10 +1,12 @@
-//! A crew of threads over one opening of the switch: a thread for each client, and one for each manager's
-//! worker.
+//! A crew over one opening of the switch: a client for each thread of control, and a worker for each manager.
 //!
-//! Write what a thread of control does as a `Client`, and give `run_clients` a plan and a client for each
-//! of its threads. All threads run or none does; what a client leaves outstanding is collected and told;
-//! and what comes back is settled: what was sent, carried out and collected agree. `specs/Run.antt` says it
-//! whole. A caller with one thread ends its desks by `end_desk` and settles them by `settle_all`.
+//! Write what a thread of control does as a `Client`, and give a plan and a client for each of its threads to
+//! `run_clients`, which has a thread for each client and each worker, or to `run_clients_in_turns`, which runs all in
+//! the thread that calls it. Both promise the same: what a client leaves outstanding is collected and told, and what
+//! comes back is settled, so that what was sent, carried out and collected agree. `specs/Run.antt` says it whole.
+//!
+//! A caller in one thread that has no clients lends its workers as `Turns` to each call, ends its desks by `end_desk`
+//! and settles them by `settle_all`.
 #![tactic(auto)]
 
 mod client;
@@ -12,9 +14,12 @@ mod client_job;
 mod ending;
 mod fault;
 mod hands;
+mod in_turns;
 mod job;
+pub mod laws;
 mod run;
 mod settling;
+mod turns;
 mod word;
 mod worker_job;
 
@@ -22,5 +27,7 @@ pub use client::Client;
 pub use client_job::Attended;
 pub use ending::end_desk;
 pub use fault::CrewFault;
+pub use in_turns::run_clients_in_turns;
 pub use run::{Ran, Run, run_clients, settle_run};
 pub use settling::settle_all;
+pub use turns::Turns;

@@ -1,6 +1,6 @@
 //! A run of clients in threads.
 ghost use Rattle.std.specs.Prelude.{◌≡◌, ◌≢◌, ◌≤◌, ◌↔◌, [], List, length, map, vec_capacity, IfOk, IfErr};
-ghost use Rattle.xa_switch.specs.Openings.{AreOfOneOpening};
+ghost use Rattle.xa_switch.specs.OpenedPieces.{AreOfOneOpening};
 ghost use Rattle.xa_switch.specs.Plans.{IsSound, planned};
 ghost use Rattle.xa_switch.specs.declared.plan.Plan.{Plan};
 ghost use Rattle.xa_crew.specs.Run.{HasRunAll, IsRun, PutsBack};
@@ -94,10 +94,7 @@ fn run_opened<
     ensures unsettled { IfErr result (PutsBack (HasRunAll C.works plan.now clients.items)) }
 {
     let ran = run_all(rt, alloc, plan, desks, workers, clients, paces)?;
-    match settle_run(rt, alloc, ran) {
-        Ok(run) => Ok(run),
-        Err(ran) => Err(CrewFault::Unsettled(ran)),
-    }
+    settle_or_keep(rt, alloc, ran)
 }
 
 // Runs them, and all have come to their ends; or none was run, for want of memory or of a thread.
@@ -159,8 +156,27 @@ pub fn settle_run<R: Wait, C: Client>(rt: &R, alloc: Global, ran: Ran<C>) -> Res
     }
 }
 
-// The clients that have worked, and their desks, where there is room for them.
-fn apart<C: Drop>(
+/// Settles it, or else keeps it in the fault.
+pub(crate) fn settle_or_keep<R: Wait, C: Client>(
+    rt: &R,
+    alloc: Global,
+    ran: Ran<C>,
+) -> Result<Run<C>, CrewFault<C>>
+    requires { (p : Plan) × (cs : List C) × HasRunAll C.works p cs ran }
+    ensures run { (p : Plan) → (cs : List C) → HasRunAll C.works p cs ran
+        → IfOk result (λ r. IsRun C.works p cs r.clients.items r.settled) }
+    ensures opens { IfErr result (λ f. f ≢ CrewFault.BadPlan) }
+    ensures unsettled { (p : Plan) → (cs : List C) → HasRunAll C.works p cs ran
+        → IfErr result (PutsBack (HasRunAll C.works p cs)) }
+{
+    match settle_run(rt, alloc, ran) {
+        Ok(run) => Ok(run),
+        Err(ran) => Err(CrewFault::Unsettled(ran)),
+    }
+}
+
+/// The clients that have worked, and their desks, where there is room for them.
+pub(crate) fn apart<C: Drop>(
     threads: Vec<Worked<C>>,
     mut clients: Vec<Attended<C>>,
     mut desks: Vec<EndedDesk>,

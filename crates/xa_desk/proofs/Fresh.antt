@@ -15,12 +15,13 @@ use Rattle.xa_desk.specs.DeskView.{no_ledger, ledger, outstanding}
 use Rattle.xa_desk.specs.Slots.{IsOrderly, IsBooks, kept_of, planned_total, collected_total, ready_count}
 use Rattle.xa_desk.proofs.KeptPlaces.{get-kept_of, get-kept_of_zero}
 
+-- of nothing was anything sent or collected
 pub fresh_sent : (requests : ℕ) (use_async : List Bool) (i : ℕ) → (get_or (new_ledgers requests use_async) i no_ledger).sent ≡ []
 fresh_sent requests [] i = refl
 fresh_sent requests (b ∷ bs) zero = refl
 fresh_sent requests (b ∷ bs) (suc i) = fresh_sent requests bs i
 
-fresh_collected : (requests : ℕ) (use_async : List Bool) (i : ℕ) → (get_or (new_ledgers requests use_async) i no_ledger).collected ≡ []
+pub fresh_collected : (requests : ℕ) (use_async : List Bool) (i : ℕ) → (get_or (new_ledgers requests use_async) i no_ledger).collected ≡ []
 fresh_collected requests [] i = refl
 fresh_collected requests (b ∷ bs) zero = refl
 fresh_collected requests (b ∷ bs) (suc i) = fresh_collected requests bs i

@@ -1,19 +1,19 @@
 -- The lists of a desk only grow.
-use Rattle.std.proofs.Common.{◌≡◌, ℕ, zero, suc, ◌-◌, ◌≤◌, List, [], ◌∷◌, length, get_or, set, sym, refl, ap, subst, arith, inl, inr}
-use Rattle.std.proofs.lemmas.List.{get_or-set_same, get_or-set_other}
-use Rattle.std.proofs.lemmas.Bool.{cases_lt, cases_eq}
+use Rattle.std.proofs.Common.{◌≡◌, ℕ, List, [], ◌∷◌, sym, refl, subst}
 use Rattle.xa_base.proofs.Lists.{same_begins, begins_on}
 use Rattle.xa_words.specs.declared.code.Code.{Code}
 use Rattle.xa_words.specs.declared.request.Op.{Op}
 use Rattle.xa_desk.specs.declared.operation.Operation.{Operation}
 use Rattle.xa_desk.specs.LedgerView.{LedgerView, with_sent, with_collected}
-use Rattle.xa_desk.specs.DeskView.{ledger, no_ledger, put_ledger, after_sent, after_collected}
+use Rattle.xa_desk.specs.DeskView.{ledger, put_ledger, after_sent, after_collected}
 use Rattle.xa_desk.specs.Growth.{HasGrown, HaveGrown}
+use Rattle.xa_desk.proofs.Ledgers.{put_each}
 
-as_it_was : (a : LedgerView) → HasGrown a a
+-- a ledger has grown from itself, and growth goes on
+pub as_it_was : (a : LedgerView) → HasGrown a a
 as_it_was a = record { sent = same_begins a.sent; collected = same_begins a.collected }
 
-grown_on : (a b c : LedgerView) → HasGrown a b → HasGrown b c → HasGrown a c
+pub grown_on : (a b c : LedgerView) → HasGrown a b → HasGrown b c → HasGrown a c
 grown_on a b c p q = record { sent = begins_on a.sent b.sent c.sent p.sent q.sent; collected = begins_on a.collected b.collected c.collected p.collected q.collected }
 
 pub same_lists : (at at' : List LedgerView) → at' ≡ at → HaveGrown at at'
@@ -23,23 +23,8 @@ pub growing_on : (a b c : List LedgerView) → HaveGrown a b → HaveGrown b c �
 growing_on a b c p q = record { each = λ m h. grown_on (ledger a m) (ledger b m) (ledger c m) (p.each m h) (q.each m h) }
 
 -- a ledger is put in the place of one that it has grown from
-put_grows_each : (at : List LedgerView) (m : ℕ) (a : LedgerView) → HasGrown (ledger at m) a → (n : ℕ) → HasGrown (ledger at n) (ledger (put_ledger at m a) n)
-put_grows_each at m a g n = elim (cases_eq (n - 1) (m - 1)) [
-  | inl same ↦ elim (cases_lt (m - 1) (length at)) [
-    | inl below ↦ subst (λ k. HasGrown (get_or at k no_ledger) (get_or (put_ledger at m a) k no_ledger)) (sym same)
-        (subst (HasGrown (ledger at m)) (sym (get_or-set_same at (m - 1) a no_ledger below)) g)
-    | inr past ↦ subst (λ (l : List LedgerView). HasGrown (ledger at n) (ledger l n)) (sym (unset at (m - 1) past)) (as_it_was (ledger at n))
-  ]
-  | inr other ↦ subst (HasGrown (ledger at n)) (sym (get_or-set_other at (m - 1) (n - 1) a no_ledger other)) (as_it_was (ledger at n))
-]
-  where
-    unset : (l : List LedgerView) (k : ℕ) → length l ≤ k → set l k a ≡ l
-    unset [] k h = refl
-    unset (x ∷ l) zero h = absurd (omega arith)
-    unset (x ∷ l) (suc k) h = ap (λ r. x ∷ r) (unset l k (omega arith))
-
 put_grows : (at : List LedgerView) (m : ℕ) (a : LedgerView) → HasGrown (ledger at m) a → HaveGrown at (put_ledger at m a)
-put_grows at m a g = record { each = λ n _. put_grows_each at m a g n }
+put_grows at m a grown = record { each = λ n _. put_each HasGrown as_it_was at m a grown n }
 
 pub sending_grows : (at : List LedgerView) (m : ℕ) (op : Op) → HaveGrown at (after_sent at m op)
 sending_grows at m op = put_grows at m (with_sent (ledger at m) op) (record { sent = (op ∷ [], refl); collected = same_begins (ledger at m).collected })

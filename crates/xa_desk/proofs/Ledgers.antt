@@ -1,19 +1,21 @@
 -- What a sending and a collection do to the ledgers.
-use Rattle.std.proofs.Common.{◌≡◌, ◌≢◌, ℕ, zero, suc, ◌+◌, ◌-◌, ◌<◌, ◌≤◌, ◌⊎◌, false, ◌||◌, nat_eq, List, [], ◌∷◌, ◌++◌, length, Option, Some, None, get_or, sum_by, sym, refl, ap, ◌∙◌, subst, inl, inr, arith, length-append}
+use Rattle.std.proofs.Common.{◌≡◌, ◌≢◌, ℕ, zero, suc, ◌+◌, ◌-◌, ◌<◌, ◌≤◌, ◌⊎◌, false, ◌||◌, nat_eq, List, [], ◌∷◌, ◌++◌, length, Option, Some, None, get_or, sum_by, sym, refl, ap, ◌∙◌, subst, inl, inr, arith, length-append, true, ◌&&◌, nat_le, if◌then◌else◌}
 use Rattle.std.specs.Cmp.{nat_eq_equiv}
-use Rattle.std.proofs.lemmas.List.{map-append, length-set, get_or-set_same, get_or-set_other, get_or_read, length-map}
+use Rattle.std.proofs.lemmas.List.{map-append, length-set, get_or-set_same, get_or-set_other, get_or_read, length-map, set_past}
 use Rattle.std.proofs.lemmas.List.Sums.{sum_by-set, sum_by-cons}
 use Rattle.std.proofs.lemmas.List.Folds.{list_any-append}
 use Rattle.std.proofs.lemmas.Map.Keys.{IsDistinct-push}
 use Rattle.std.proofs.lemmas.Map.Steps.{length-le_from_distinct_below}
-use Rattle.std.proofs.lemmas.Bool.{cases_eq, false_from_ne_true, eqb-true, or_cases, or_parts, or_from, false≢true, ne_eqb, eqb-false}
+use Rattle.std.proofs.lemmas.Bool.{cases_eq, false_from_ne_true, eqb-true, or_cases, or_parts, or_from, false≢true, ne_eqb, eqb-false, and_parts, le-leb, leb-true, cases_lt}
+use Rattle.xa_base.proofs.Truth.{by_bool}
 use Rattle.xa_words.specs.declared.request.Op.{Op}
 use Rattle.xa_words.specs.declared.code.Code.{Code}
 use Rattle.xa_desk.specs.declared.operation.Operation.{Operation}
 use Rattle.xa_desk.specs.LedgerView.{LedgerView, numbers, is_collected, with_sent, with_collected}
-use Rattle.xa_desk.specs.DeskView.{IsKnown, IsSent, IsOut, ledger, put_ledger, no_ledger, after_sent, after_collected}
+use Rattle.xa_desk.specs.DeskView.{IsKnown, IsSent, IsOut, ledger, put_ledger, no_ledger, after_sent, after_collected, is_known, sent_to}
 use Rattle.xa_desk.specs.Slots.{IsOrderly, planned_total}
 
+-- an operation is its manager and its number
 pub same_operation : (a b : Operation) → a.manager ≡ b.manager → a.number ≡ b.number → a ≡ b
 same_operation a b e f = λ i. record { manager = e i; number = f i }
 
@@ -62,6 +64,33 @@ module _ {A : Type 0} (f : Option A → ℕ) (zeros : f None ≡ 0) where
       let head : f y ≡ f x = ap f (others 0 (λ e. absurd (omega arith))) in
       omega (arith, sum_by-cons f x xs, sum_by-cons f y ys)
 
+-- ---- managers that are known
+
+pub known_true : (at : List LedgerView) (m : ℕ) → IsKnown at m → is_known at m ≡ true
+known_true at m known = λ i. le-leb 1 m known.positive i && le-leb m (length at) known.within i
+
+pub known_is : (at : List LedgerView) (m : ℕ) → is_known at m ≡ true → IsKnown at m
+known_is at m e =
+    let parts = and_parts (nat_le 1 m) (nat_le m (length at)) e in
+    record { positive = leb-true 1 m parts.0; within = leb-true m (length at) parts.1 }
+
+-- as many ledgers are with as many managers
+pub known_by : (l l' : List LedgerView) (m : ℕ) → length l' ≡ length l → IsKnown l m → IsKnown l' m
+known_by l l' m e k = record { positive = k.positive; within = let within = k.within in omega (arith, e, within) }
+
+-- there is no ledger past the last, and nothing was sent where there is none
+pub past_end : (at : List LedgerView) (k : ℕ) → length at ≤ k → get_or at k no_ledger ≡ no_ledger
+past_end [] k past = refl
+past_end (a ∷ at) zero past = absurd (omega arith)
+past_end (a ∷ at) (suc k) past = past_end at k (omega arith)
+
+pub nobody_sent : (m : ℕ) → sent_to [] m ≡ []
+nobody_sent m =
+    by_bool (λ b. (if b then (ledger [] m).sent else []) ≡ []) (is_known [] m)
+    (λ _. ap (λ (a : LedgerView). a.sent) (past_end [] (m - 1) (omega arith))) (λ _. refl)
+
+-- ---- a ledger is put in the place of another
+
 module _ (at : List LedgerView) where
   pub ledger-put_same : (m : ℕ) (a : LedgerView) → IsKnown at m → ledger (put_ledger at m a) m ≡ a
   ledger-put_same m a known = get_or-set_same at (m - 1) a no_ledger (omega arith)
@@ -74,6 +103,18 @@ module _ (at : List LedgerView) where
 
   pub known_after : (m n : ℕ) (a : LedgerView) → IsKnown at n → IsKnown (put_ledger at m a) n
   known_after m n a known = record { positive = known.positive; within = rw (length-set at (m - 1) a) known.within }
+
+-- what holds of a ledger and itself, and of the one that is put in its place, holds of each ledger before and after
+pub put_each : (R : LedgerView → LedgerView → Type 0) → ((a : LedgerView) → R a a) → (at : List LedgerView) (m : ℕ) (a : LedgerView) → R (ledger at m) a
+    → (n : ℕ) → R (ledger at n) (ledger (put_ledger at m a) n)
+put_each R same at m a new n = elim (cases_eq (n - 1) (m - 1)) [
+  | inl here ↦ elim (cases_lt (m - 1) (length at)) [
+    | inl below ↦ subst (λ k. R (get_or at k no_ledger) (get_or (put_ledger at m a) k no_ledger)) (sym here)
+        (subst (R (ledger at m)) (sym (get_or-set_same at (m - 1) a no_ledger below)) new)
+    | inr past ↦ subst (λ (l : List LedgerView). R (ledger at n) (ledger l n)) (sym (set_past at (m - 1) a past)) (same (ledger at n))
+  ]
+  | inr other ↦ subst (R (ledger at n)) (sym (get_or-set_other at (m - 1) (n - 1) a no_ledger other)) (same (ledger at n))
+]
 
 -- fewer were collected than sent, where one is outstanding; and never more
 pub collected-le-sent : (a : LedgerView) → IsOrderly a → length a.collected ≤ length a.sent

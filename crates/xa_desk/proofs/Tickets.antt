@@ -74,9 +74,6 @@ full_leaves old m t owned = record { opening = owned.opening; thread = owned.thr
 
 -- ---- calls
 
-pub nothing_leaves : (old new : DeskView) → new ≡ old → LeavesTickets old new
-nothing_leaves old new e t owned = subst (λ (d : DeskView). Owns d t) (sym e) owned
-
 pub looking_leaves : (old new : DeskView) → Looks old new → LeavesTickets old new
 looking_leaves old new l t owned = looks_owned old new t l owned
 

@@ -1,5 +1,5 @@
 -- A desk's ledgers go on saying what its ends of lanes do.
-use Rattle.std.proofs.Common.{◌≡◌, ◌≢◌, ℕ, zero, suc, ◌+◌, ◌-◌, ◌<◌, Bool, List, [], ◌∷◌, ◌++◌, length, map, Option, Some, None, get_or, sym, refl, ap, ◌∙◌, subst, inl, inr, arith, append-nil}
+use Rattle.std.proofs.Common.{◌≡◌, ◌≢◌, ℕ, zero, suc, ◌+◌, ◌-◌, ◌<◌, List, [], ◌∷◌, ◌++◌, length, map, Option, Some, None, get_or, sym, refl, ap, ◌∙◌, subst, inl, inr, arith, append-nil}
 use Rattle.std.specs.List.{All, slice_get}
 use Rattle.std.proofs.lemmas.List.{map-append, length-map}
 use Rattle.std.proofs.lemmas.List.Elements.{All-append, All-cons, All-nil}
@@ -15,19 +15,16 @@ use Rattle.xa_lane.specs.Ends.{Sending, Receiving, somes, parcel}
 use Rattle.xa_lane.specs.Senders.{at_place, with_item, with_full, but_full, sent_at}
 use Rattle.xa_desk.specs.declared.operation.Operation.{Operation}
 use Rattle.xa_desk.specs.LedgerView.{LedgerView, new_ledger, with_sent, with_collected}
-use Rattle.xa_desk.specs.DeskView.{DeskView, IsKnown, ledger, no_ledger, after_collected, drained_code}
-use Rattle.xa_desk.specs.Lanes.{next_request, submitted, after_full, after_fulls, numbered, arrived, IsPartOf, nothing, with_last, without_last, IsEndTo, AreEnds, WasDrained, IsTied, IsDesk, PartsView, AreNew, new_ledgers, new_desk}
+use Rattle.xa_desk.specs.DeskView.{DeskView, IsKnown, ledger, after_collected, drained_code}
+use Rattle.xa_desk.specs.Lanes.{next_request, submitted, after_full, after_fulls, numbered, arrived, IsPartOf, nothing, with_last, without_last, IsEndTo, AreEnds, WasDrained, IsTied, IsDesk, PartsView, AreNew, new_desk}
 use Rattle.xa_desk.specs.Looks.{Drains, first, other, Draws, Pops, start, drawn, Looks}
 use Rattle.xa_desk.proofs.Ledgers.{same_operation, ledger-sent_same, ledger-sent_other, ledger-collected_same, ledger-collected_other, known_before, collected_known, length-put_ledger}
 use Rattle.xa_lane.proofs.Senders.{length-at_place, at_place_cases, sent_at-full, sent_at-item, sent_at-other, sent_at-but_full, nothing_sent}
+use Rattle.xa_lane.proofs.Parcels.{somes-append}
 use Rattle.xa_desk.proofs.Books.{drained_code-push_again}
+use Rattle.xa_desk.proofs.Fresh.{fresh_sent, fresh_collected}
 
 -- ---- what was taken
-
-somes-append : {T : Type 0} (xs ys : List (Option T)) → somes (xs ++ ys) ≡ somes xs ++ somes ys
-somes-append [] ys = refl
-somes-append (Some y ∷ xs) ys = ap (λ l. y ∷ l) (somes-append xs ys)
-somes-append (None ∷ xs) ys = somes-append xs ys
 
 arrived-item : (taken : List (Parcel Completion)) (s : ℕ) (c : Completion) → arrived (taken ++ parcel s (Some c) ∷ []) ≡ arrived taken ++ c ∷ []
 arrived-item taken s c = ap somes (map-append (λ (x : Parcel Completion). x.item) taken (parcel s (Some c) ∷ [])) ∙ somes-append (map (λ (x : Parcel Completion). x.item) taken) (Some c ∷ [])
@@ -236,20 +233,10 @@ tied_ended t at drained es ds r same b = record {
           lane = ap (λ (s : Sending Request). s.lane.index) one ∙ was.lane;
         }
 
-new_sent : (plan : ℕ) (use_async : List Bool) (i : ℕ) → (get_or (new_ledgers plan use_async) i no_ledger).sent ≡ []
-new_sent plan [] i = refl
-new_sent plan (b ∷ bs) zero = refl
-new_sent plan (b ∷ bs) (suc i) = new_sent plan bs i
-
-new_collected : (plan : ℕ) (use_async : List Bool) (i : ℕ) → (get_or (new_ledgers plan use_async) i no_ledger).collected ≡ []
-new_collected plan [] i = refl
-new_collected plan (b ∷ bs) zero = refl
-new_collected plan (b ∷ bs) (suc i) = new_collected plan bs i
-
 pub tied_new : (p : PartsView) (requests : List (Sending Request)) (r : Receiving Completion) → AreEnds p.thread (length p.use_async) requests r → AreNew requests r → IsDesk (new_desk p requests r)
 tied_new p requests r ends new = record {
   ends = subst (λ n. AreEnds p.thread n requests r) (sym (length-map p.use_async (λ carries. new_ledger carries p.plan))) ends;
-  sent = λ m known. nothing_sent (m - 1) requests new.sent ∙ ap (numbered p.thread 0) (sym (new_sent p.plan p.use_async (m - 1)));
+  sent = λ m known. nothing_sent (m - 1) requests new.sent ∙ ap (numbered p.thread 0) (sym (fresh_sent p.plan p.use_async (m - 1)));
   drained_ = subst (IsPartOf []) (sym (ap arrived new.taken)) nothing;
-  collected = λ m known. subst (All (WasDrained [] m)) (sym (new_collected p.plan p.use_async (m - 1))) (All-nil (WasDrained [] m));
+  collected = λ m known. subst (All (WasDrained [] m)) (sym (fresh_collected p.plan p.use_async (m - 1))) (All-nil (WasDrained [] m));
 }

@@ -1,5 +1,5 @@
 -- What one request to a manager does to a desk, which is put and waited for before anything else is done.
-use Rattle.std.proofs.Common.{◌≡◌, ℕ, ◌+◌, ◌-◌, ◌≤◌, ◌==◌, ◌||◌, true, false, if◌then◌else◌, Option, Some, None, Result, Ok, Err, List, not, length, refl, sym, ap, ◌∙◌, subst, arith, inl, inr, length-append, [], ◌∷◌}
+use Rattle.std.proofs.Common.{◌≡◌, ℕ, ◌+◌, ◌-◌, ◌≤◌, ◌==◌, ◌||◌, true, false, if◌then◌else◌, Option, Some, None, List, not, length, refl, sym, ap, ◌∙◌, subst, arith, inl, inr, length-append, [], ◌∷◌}
 use Rattle.std.specs.Prelude.{nat_lt}
 use Rattle.std.specs.Option.{option_or}
 use Rattle.std.proofs.lemmas.Bool.{cases_Bool, eqb-true, eqb-false, ltb-false, le-ltb, ne_eqb, or_parts, or_from}
@@ -14,19 +14,15 @@ use Rattle.xa_desk.specs.GoesOn.{GoesOn}
 use Rattle.xa_desk.specs.Kept.{AllKept}
 use Rattle.xa_desk.specs.Lanes.{submitted, after_fulls}
 use Rattle.xa_desk.specs.Looks.{Collects}
+use Rattle.xa_desk.proofs.Ledgers.{known_by, ledger-put_same, ledger-put_other}
 use Rattle.xa_switch.proofs.Kept.{answered_keep, fulls_kept, fulls_ledgers}
 use Rattle.xa_driver.specs.Asks.{asked}
 use Rattle.xa_driver.specs.Resolving.{AsksLedger, AsksAlone}
-use Rattle.xa_driver.proofs.Asking.{Moved, keeps_start, keeps_chain, known_by}
-use Rattle.xa_driver.proofs.Ledgers.{open_count, put_same, put_other, put_length, put_open}
+use Rattle.xa_driver.proofs.Asking.{Moved, keeps_start, keeps_chain}
+use Rattle.xa_driver.proofs.Ledgers.{open_count, put_length, put_open}
 use Rattle.xa_driver.proofs.Staying.{IsOpen, asked_leaves_open, outstanding_chain}
 
 -- ---- what isn't refused
-
--- a call that was answered was refused for no reason
-pub no_refusal : (answer : Result Code Refused) (code : Code) (r : Option Refused) → answer ≡ Ok code → ((why : Refused) → r ≡ Some why → answer ≡ Err why) → r ≡ None
-no_refusal answer code None is same = refl
-no_refusal answer code (Some why) is same = let e = same why refl in cc
 
 -- a manager with room for a request is one of the desk's
 pub known_with_room : (at : List LedgerView) (m : ℕ) → 1 ≤ room_at at m → IsKnown at m
@@ -73,14 +69,14 @@ module _ (m : ℕ) (op : Op) (code : Code) (old new : DeskView) (known : IsKnown
       let whole : LedgerView = with_collected sent (length a.sent) code in
       let before : x.before.ledgers ≡ mid =
       ap (λ (d : DeskView). d.ledgers) x.looks.rest ∙ ap (λ (l : List LedgerView). put_ledger l m (with_sent (ledger l m) op)) (fulls_ledgers n old m) in
-      let here : ledger mid m ≡ sent = put_same old.ledgers m sent known in
+      let here : ledger mid m ≡ sent = ledger-put_same old.ledgers m sent known in
       let known_then : IsKnown mid m = known_by old.ledgers mid m (put_length old.ledgers m sent known) known in
       let written : new.ledgers ≡ put_ledger mid m whole =
       ap (λ (d : DeskView). d.ledgers) x.collected ∙ ap (λ (l : List LedgerView). put_ledger l m (with_collected (ledger l m) (length a.sent) code)) before ∙ ap (λ (b : LedgerView). put_ledger mid m (with_collected b (length a.sent) code)) here in
       let is : asked a (Some op) (Some code) ≡ whole = at_false (learnt_shut a) a whole open_ in
       record {
-        here = ap (λ l. ledger l m) written ∙ put_same mid m whole known_then ∙ sym is;
-        others = λ k p q. ap (λ l. ledger l k) written ∙ put_other mid m whole known_then k p q ∙ put_other old.ledgers m sent known k p q;
+        here = ap (λ l. ledger l m) written ∙ ledger-put_same mid m whole known_then ∙ sym is;
+        others = λ k p q. ap (λ l. ledger l k) written ∙ ledger-put_other mid m k whole known_then.positive p q ∙ ledger-put_other old.ledgers m k sent known.positive p q;
         managers = ap (λ l. length l) written ∙ put_length mid m whole known_then ∙ put_length old.ledgers m sent known;
         open_ =
             let first = put_open old.ledgers m sent known in

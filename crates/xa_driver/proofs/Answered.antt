@@ -7,6 +7,7 @@ use Rattle.std.specs.FinSet.{contains-insert}
 use Rattle.std.proofs.lemmas.Bool.{and_right, eqb-true}
 use Rattle.std.proofs.lemmas.List.Elements.{All-head, All-tail}
 use Rattle.xa_base.proofs.Truth.{tied_true}
+use Rattle.xa_base.proofs.Lists.{all_left, all_right}
 use Rattle.xa_words.specs.Xid.{XidName}
 use Rattle.xa_words.specs.declared.code.Code.{Code}
 use Rattle.xa_words.specs.declared.code.Code.TheVariants.{RmFail}
@@ -23,16 +24,16 @@ use Rattle.xa_tables.specs.History.{History, Fate, decided_fate, coded, of_threa
 use Rattle.xa_tables.specs.Prepared.{IsTold, closes, is_close}
 use Rattle.xa_tables.proofs.Law.{Sound, sound_after, last_more}
 use Rattle.xa_tables.proofs.Opened.{opened_on}
-use Rattle.xa_tables.proofs.ShutLemmas.{next-shut}
+use Rattle.xa_tables.proofs.ShutLemmas.{next-shut, shut_stays}
 use Rattle.xa_tables.proofs.Unnamed.{tables_after-append}
 use Rattle.xa_desk.specs.LedgerView.{LedgerView}
 use Rattle.xa_desk.specs.Lanes.{numbered}
 use Rattle.xa_switch.specs.Settling.{answers}
 use Rattle.xa_driver.specs.Resolution.{ended_as}
 use Rattle.xa_driver.specs.Resolving.{outcome_op}
-use Rattle.xa_driver.proofs.Leading.{Stands, waits, unforgotten, over, IsTowards, Led, Standing, led_after, led_fates, shut_stays, ends_it}
+use Rattle.xa_driver.proofs.Leading.{Stands, waits, unforgotten, over, IsTowards, Led, Standing, led_after, led_fates, ends_it}
 use Rattle.xa_driver.proofs.Placing.{request_of, part, numbered_both, fates, fates_both}
-use Rattle.xa_driver.proofs.Requests.{all_left, all_right, own_all, code_there, count_two}
+use Rattle.xa_driver.proofs.Requests.{own_all, code_there, count_two}
 use Rattle.xa_driver.proofs.Resolves.{IsAnsweredIn, IsNoClose}
 use Rattle.xa_driver.specs.Tabled.{Tabled}
 use Rattle.xa_driver.proofs.Voting.{tells_so}

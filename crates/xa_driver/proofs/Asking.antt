@@ -1,7 +1,7 @@
 -- What a request to one manager does to a desk.
-use Rattle.std.specs.Prelude.{◌≡◌, ◌≢◌, ℕ, ◌+◌, ◌<◌, ◌≤◌, Bool, true, false, if◌then◌else◌, Option, None, Some, List, [], ◌∷◌, length, refl}
-use Rattle.std.proofs.Common.{sym, ap, ◌∙◌, subst, arith, get_or, drop, drop-cons, suc}
-use Rattle.xa_base.proofs.Truth.{at_false}
+use Rattle.std.specs.Prelude.{◌≡◌, ◌≢◌, ℕ, ◌+◌, ◌≤◌, if◌then◌else◌, Option, None, Some, length, refl}
+use Rattle.std.proofs.Common.{sym, ap, ◌∙◌, subst}
+use Rattle.xa_base.proofs.Truth.{at_false, at_true}
 use Rattle.xa_words.specs.declared.code.Code.{Code}
 use Rattle.xa_words.specs.declared.request.Op.{Op}
 use Rattle.xa_desk.specs.declared.operation.Operation.{Operation}
@@ -10,23 +10,9 @@ use Rattle.xa_desk.specs.DeskView.{DeskView, TicketView, IsKnown, ledger, put_le
 use Rattle.xa_desk.specs.Looks.{Collects}
 use Rattle.xa_driver.specs.declared.ask.Ask.{Ask}
 use Rattle.xa_desk.proofs.GoesOn.{goes_same, goes_further, goes_collecting}
-use Rattle.xa_driver.specs.Asks.{SameAsks, AreRising, KeepsDesk, IsUnsent, IsSending, BeginsAsk, Ends}
-use Rattle.xa_driver.proofs.Ledgers.{open_count, put_same, put_other, put_length, put_open}
-
-pub at_true : {A : Type 0} (b : Bool) (p q : A) → b ≡ true → (if b then p else q) ≡ p
-at_true true p q e = refl
-at_true false p q e = cc
-
-rising_from : (lo hi : ℕ) (ks : List Ask) → lo ≤ hi → AreRising hi ks → AreRising lo ks
-rising_from lo hi [] h r = tt
-rising_from lo hi (k ∷ ks) h r = (let z = r.0 in omega arith, r.1)
-
-pub rising_same : (lo : ℕ) (js ks : List Ask) → SameAsks js ks → AreRising lo js → AreRising lo ks
-rising_same lo [] [] s r = tt
-rising_same lo [] (k ∷ ks) s r = absurd s
-rising_same lo (j ∷ js) [] s r = absurd s
-rising_same lo (j ∷ js) (k ∷ ks) s r =
-    (let z = r.0 in let e = s.0.manager in omega arith, rising_from k.manager j.manager ks (let e = s.0.manager in omega arith) (rising_same j.manager js ks s.1 r.1))
+use Rattle.xa_desk.proofs.Ledgers.{ledger-put_same, ledger-put_other}
+use Rattle.xa_driver.specs.Asks.{KeepsDesk, IsUnsent, IsSending, BeginsAsk, Ends}
+use Rattle.xa_driver.proofs.Ledgers.{open_count, put_length, put_open}
 
 -- what one request does to a desk
 pub record Moved (m : ℕ) (a' : LedgerView) (old new : DeskView) : Type 0 where
@@ -55,8 +41,8 @@ unmoved m a' old new e h =
 -- one ledger was written, and nothing else that counts
 put_moved : (m : ℕ) (a' : LedgerView) (old new : DeskView) → IsKnown old.ledgers m → new.ledgers ≡ put_ledger old.ledgers m a' → KeepsDesk old new → Moved m a' old new
 put_moved m a' old new known e keeps = record {
-  here = ap (λ l. ledger l m) e ∙ put_same old.ledgers m a' known;
-  others = λ n p q. ap (λ l. ledger l n) e ∙ put_other old.ledgers m a' known n p q;
+  here = ap (λ l. ledger l m) e ∙ ledger-put_same old.ledgers m a' known;
+  others = λ n p q. ap (λ l. ledger l n) e ∙ ledger-put_other old.ledgers m n a' known.positive p q;
   managers = ap length e ∙ put_length old.ledgers m a' known;
   open_ = ap (λ l. outstanding l + open_count (ledger old.ledgers m)) e ∙ put_open old.ledgers m a' known;
   keeps = keeps;
@@ -80,7 +66,7 @@ began_moved k old new (Some t) known b =
 
 -- a request that was sent stands in its manager's ledger
 pub sent_is : (k : Ask) (t : TicketView) (d d' : DeskView) → IsKnown d.ledgers k.manager → (b : IsSending k d d' t) → ledger d'.ledgers k.manager ≡ with_sent (ledger d.ledgers k.manager) b.op
-sent_is k t d d' known b = ap (λ l. ledger l k.manager) b.sent ∙ put_same d.ledgers k.manager (with_sent (ledger d.ledgers k.manager) b.op) known
+sent_is k t d d' known b = ap (λ l. ledger l k.manager) b.sent ∙ ledger-put_same d.ledgers k.manager (with_sent (ledger d.ledgers k.manager) b.op) known
 
 unfoldable pub collected_of : (a : LedgerView) (r : Option TicketView) (code : Option Code) → LedgerView
 collected_of a None code = a
@@ -106,9 +92,3 @@ ended_moved k old new (Some t) code at known e =
         } in
         put_moved k.manager (with_collected (ledger old.ledgers k.manager) o.number c) old new known
         (written ∙ ap (λ (m : ℕ). put_ledger old.ledgers m (with_collected (ledger old.ledgers m) o.number c)) names) keeps
-
-pub known_by : (l l' : List LedgerView) (m : ℕ) → length l' ≡ length l → IsKnown l m → IsKnown l' m
-known_by l l' m e k = record { positive = k.positive; within = let z = k.within in omega arith }
-
-pub split_at : (xs : List Ask) (i : ℕ) (k : Ask) → i < length xs → k ≡ get_or xs i k → drop i xs ≡ k ∷ drop (i + 1) xs
-split_at xs i k lt is = let one : suc i ≡ i + 1 = omega arith in drop-cons xs i k lt ∙ (λ j. (sym is j) ∷ drop (one j) xs)

@@ -36,16 +36,19 @@ use Rattle.xa_driver.specs.Resolution.{IsDone, IsOutcomeOf, ResolveCall, resolve
 use Rattle.xa_driver.specs.Resolving.{outcome_op}
 use Rattle.xa_driver.specs.Rounds.{code_of, first_ask, second_ask, third_ask}
 use Rattle.xa_driver.specs.Stages.{HasDecided, HasForgotten, HasPrepared, HasTold, IsForgetting, IsPreparing, IsTelling}
-use Rattle.xa_driver.specs.Trace.{AreBranchesRising, BranchTrace, EachBranch, IsCommit, decided, has_branch_at, voted}
+use Rattle.xa_driver.specs.Course.{AtBranch}
+use Rattle.xa_driver.specs.Resolving.{AsksLedger}
+use Rattle.xa_driver.specs.Trace.{AreBranchesRising, EachBranch, IsCommit, has_branch_at}
 use Rattle.xa_driver.proofs.CutSends.{sends_so_far}
-use Rattle.xa_driver.proofs.CutVotes.{IsAskedFor, did_nothing, asked_sends, other_sends}
+use Rattle.xa_driver.proofs.CutVotes.{did_nothing, asked_sends, other_sends}
+use Rattle.xa_driver.proofs.Mapped.{IsAskedFor, branch_by}
 use Rattle.xa_driver.proofs.Naming.{Traced}
-use Rattle.xa_driver.proofs.Resolves.{Sends, on, resolve_sends}
+use Rattle.xa_driver.proofs.Resolves.{Sends, on, resolve_sends, stays}
 use Rattle.xa_driver.proofs.Staged.{asks_so_far, second_is}
 
 -- ---- what doesn't name the branch
 
-abbrev Unnamed : XidName → Op → Type 0
+abbrev pub Unnamed : XidName → Op → Type 0
 Unnamed x op = names x op ≡ false
 
 did_by : (x : XidName) (a a' : LedgerView) → Sends (Unnamed x) a a' → DidOther x a a'
@@ -56,30 +59,26 @@ did_on x a b c p q = did_by x a c (on (Unnamed x) a b c (other_sends (Unnamed x)
 
 -- what a commit asks of another branch
 module _ (x y : XidName) (differs : y ≢ x) where
-  apart : xid_eq y x ≡ false
+  pub apart : xid_eq y x ≡ false
   apart = false_from_ne_true (xid_eq y x) (λ e. differs ((Decides-xid_eq y x).0 e))
 
-  second_unnamed : (commit : Bool) (v : Code) → IsAskedFor (Unnamed x) (second_op commit y v)
+  pub second_unnamed : (commit : Bool) (v : Code) → IsAskedFor (Unnamed x) (second_op commit y v)
   second_unnamed true v = by_if (IsAskedFor (Unnamed x)) (is_yes v) (Some (Commit y false)) None (λ _. apart) (λ _. tt)
   second_unnamed false v = by_if (IsAskedFor (Unnamed x)) (is_read v || (is_rolled_back v || is_out_of_reach v)) None (Some (Rollback y)) (λ _. tt) (λ _. apart)
 
-  outcome_unnamed : (commit : Bool) → Unnamed x (outcome_op commit y)
+  pub outcome_unnamed : (commit : Bool) → Unnamed x (outcome_op commit y)
   outcome_unnamed true = apart
   outcome_unnamed false = apart
 
-  third_unnamed : (s : Option Code) → IsAskedFor (Unnamed x) (third_op y s)
+  pub third_unnamed : (s : Option Code) → IsAskedFor (Unnamed x) (third_op y s)
   third_unnamed None = tt
   third_unnamed (Some c) = by_if (IsAskedFor (Unnamed x)) (is_decided c) (Some (Forget y)) None (λ _. apart) (λ _. tt)
 
-  trace_sends : (commit : Bool) (c : Branch) (v : Code) (s : Option Code) (a a' : LedgerView) → c.xid ≡ y → BranchTrace commit c v s a a' → Sends (Unnamed x) a a'
-  trace_sends commit c v s a a' same tr =
-      let one : LedgerView = voted c v a in
-      let two : LedgerView = decided commit c v s a in
-      subst (Sends (Unnamed x) a) (sym tr.trace)
-      (on (Unnamed x) a two (asked two (third_op c.xid s) tr.third)
-      (on (Unnamed x) a one two (asked_sends (Unnamed x) a (Some (Prepare c.xid)) (Some v) (subst (λ z. Unnamed x (Prepare z)) (sym same) apart))
-      (asked_sends (Unnamed x) one (second_op commit c.xid v) s (subst (λ z. IsAskedFor (Unnamed x) (second_op commit z v)) (sym same) (second_unnamed commit v))))
-      (asked_sends (Unnamed x) two (third_op c.xid s) tr.third (subst (λ z. IsAskedFor (Unnamed x) (third_op z s)) (sym same) (third_unnamed s))))
+  trace_sends : (commit : Bool) (c : Branch) (v : Code) (s : Option Code) (e : Ending) (a a' : LedgerView) → c.xid ≡ y → AtBranch AsksLedger commit c v s e a a' → Sends (Unnamed x) a a'
+  trace_sends commit c v s e a a' same is =
+      branch_by AsksLedger (Unnamed x) (Sends (Unnamed x) a) (λ d z op code so asked q. on (Unnamed x) a d z q (subst (Sends (Unnamed x) d) (sym asked.trace) (asked_sends (Unnamed x) d (Some op) (Some code) so))) commit c v s e a a' is
+      (subst (λ z. IsAskedFor (Unnamed x) (second_op commit z v)) (sym same) (second_unnamed commit v)) (subst (λ z. IsAskedFor (Unnamed x) (third_op z s)) (sym same) (third_unnamed s))
+      (subst (λ z. Unnamed x (Prepare z)) (sym same) apart) (stays (Unnamed x) a)
 
 abbrev Others : XidName → List Branch → Type 0
 Others x cs = All (λ c. c.xid ≢ x) cs
@@ -171,8 +170,8 @@ module _ (bs cs : List Branch) (rising : AreBranchesRising 0 bs) (others : AreOt
   commit_leaves desk new log later done made = record {
     each = each_so desk.ledgers new (λ b positive o.
         elim (has_branch_at cs b.m) as (λ q. has_branch_at cs b.m ≡ q → DidOther b.xid (ledger desk.ledgers b.m) (ledger new b.m)) [
-          | true ↦ λ here. did_by b.xid (ledger desk.ledgers b.m) (ledger new b.m) (sent_at b.xid cs done.votes.items made.trace.seconds done.endings.items o made.trace.each b.m here)
-          | false ↦ λ none. subst (DidOther b.xid (ledger desk.ledgers b.m)) (sym (made.trace.others b.m positive none)) (did_nothing b.xid (ledger desk.ledgers b.m))
+          | true ↦ λ here. did_by b.xid (ledger desk.ledgers b.m) (ledger new b.m) (sent_at b.xid cs done.votes.items made.trace.course.seconds done.endings.items o made.trace.course.each b.m here)
+          | false ↦ λ none. subst (DidOther b.xid (ledger desk.ledgers b.m)) (sym (made.trace.course.others b.m positive none)) (did_nothing b.xid (ledger desk.ledgers b.m))
         ] refl);
     managers = made.trace.managers;
   }
@@ -183,7 +182,7 @@ module _ (bs cs : List Branch) (rising : AreBranchesRising 0 bs) (others : AreOt
           elim (c.m == m) as (λ q. (c.m == m) ≡ q → (q || has_branch_at es m) ≡ true → Sends (Unnamed x) (ledger desk.ledgers m) (ledger new m)) [
             | true ↦ λ here _.
                 subst (λ (n : ℕ). Sends (Unnamed x) (ledger desk.ledgers n) (ledger new n)) (eqb-true c.m m here)
-                (trace_sends x c.xid (All-head (λ (b : Branch). b.xid ≢ x) c es o) done.commit c v s (ledger desk.ledgers c.m) (ledger new c.m) refl h.0.0)
+                (trace_sends x c.xid (All-head (λ (b : Branch). b.xid ≢ x) c es o) done.commit c v s z (ledger desk.ledgers c.m) (ledger new c.m) refl h.0)
             | false ↦ λ _ e. sent_at x es vs ss ends (All-tail (λ (b : Branch). b.xid ≢ x) c es o) h.1 m e
           ] refl e
       sent_at x es vs ss ends o h m e = absurd h
@@ -209,7 +208,7 @@ resolve_leaves bs q rising made others = record { each = λ k d lt. one (get_or 
   where
     one : (b : Branch) → 0 < b.m → Contains bs b → DidOther b.xid (ledger q.old b.m) (ledger q.new b.m)
     one b positive among =
-        ⊎_elim (λ (past : MOST_MANAGERS < b.m). subst (DidOther b.xid (ledger q.old b.m)) (sym (made.others b.m past)) (did_nothing b.xid (ledger q.old b.m)))
+        ⊎_elim (λ (past : MOST_MANAGERS < b.m). subst (DidOther b.xid (ledger q.old b.m)) (sym (made.course.others b.m past)) (did_nothing b.xid (ledger q.old b.m)))
         (λ (within : b.m ≤ MOST_MANAGERS).
         did_by b.xid (ledger q.old b.m) (ledger q.new b.m)
         (resolve_sends q.scan q.records q.old q.new q.outcomes made (Unnamed b.xid) b.m (omega (arith, positive), within) refl (λ o there.

@@ -29,7 +29,7 @@ use Rattle.xa_driver.specs.Resolution.{AreInARow, EndsAs, IsKept, IsListed, Only
 use Rattle.xa_driver.specs.Tabled.{Tabled}
 use Rattle.xa_driver.specs.Worth.{IsUnlisted, SharesOver, commits_after, histories, is_committed}
 use Rattle.xa_driver.proofs.Counting.{add_place, commits_or, committed_so, counts_so, share_is, walk_counts}
-use Rattle.xa_driver.proofs.Ends.{Through, End, decided_apart, decided_one, decision_so, ends_so, is_decided_so, is_known_so, untold}
+use Rattle.xa_driver.proofs.EndsByFate.{Through, End, decided_apart, decided_one, decision_so, ends_so, is_decided_so, is_known_so, untold}
 use Rattle.xa_driver.proofs.Later.{Walk, ends_with, walk, walk_after, walk_ends, walk_rests, walk_tells}
 use Rattle.xa_driver.proofs.Leading.{Stands}
 use Rattle.xa_driver.proofs.Placing.{request_of, fates}

@@ -19,7 +19,10 @@ use Rattle.xa_driver.specs.Endings.{second_op, third_op, ending_of}
 use Rattle.xa_driver.specs.Log.{LogState}
 use Rattle.xa_driver.specs.Asks.{asked, IsAnswered, AskTrace, EachAsk, among_asks, Asks, SameAsks, IsSameAsk, AreRising, AllCanAsk}
 use Rattle.xa_driver.specs.Rounds.{first_ask, code_of, second_ask, third_ask, ending_of_ask, asked_yes, yes_asked}
-use Rattle.xa_driver.specs.Trace.{BranchTrace, decided, EachBranch, has_branch_at, IsTranOf, AreBranchesRising, HasRoom, HaveRoom, Logs, decision_of, IsTraceOfCommit}
+use Rattle.xa_driver.specs.Course.{AtBranch}
+use Rattle.xa_driver.specs.Resolving.{AsksLedger}
+use Rattle.xa_driver.proofs.Traces.{for_trace}
+use Rattle.xa_driver.specs.Trace.{EachBranch, has_branch_at, IsTranOf, AreBranchesRising, HasRoom, HaveRoom, Logs, decision_of, IsTraceOfCommit}
 use Rattle.xa_base.proofs.Truth.{by_if}
 
 pub first_rising : (lo : ℕ) (bs : List Branch) → AreBranchesRising lo bs → AreRising lo (map first_ask bs)
@@ -117,25 +120,25 @@ answered_some a op k h = elim (k.code) as (λ c. IsAnswered a (Some op) c → k.
 -- a branch's manager was asked in each of the three rounds
 branch_trace : (commit : Bool) (b : Branch) (k j l : Ask) (old mid late new : List LedgerView) → IsSameAsk (first_ask b) k → IsSameAsk (second_ask commit k) j → IsSameAsk (third_ask j) l
     → AskTrace k.op k.code (ledger old k.manager) (ledger mid k.manager) → AskTrace j.op j.code (ledger mid j.manager) (ledger late j.manager) → AskTrace l.op l.code (ledger late l.manager) (ledger new l.manager)
-    → BranchTrace commit b (code_of k) j.code (ledger old b.m) (ledger new b.m)
+    → AtBranch AsksLedger commit b (code_of k) j.code (ending_of_ask commit j) (ledger old b.m) (ledger new b.m)
 branch_trace commit b k j l old mid late new s r q one two three =
     let x : AskTrace (Some (Prepare b.xid)) k.code (ledger old b.m) (ledger mid b.m) =
     subst (λ (o : Option Op). AskTrace o k.code (ledger old b.m) (ledger mid b.m)) s.op (subst (λ (m : ℕ). AskTrace k.op k.code (ledger old m) (ledger mid m)) s.manager one) in
     let code : k.code ≡ Some (code_of k) = answered_some (ledger old b.m) (Prepare b.xid) k x.answered in
-    let x1 : AskTrace (Some (Prepare b.xid)) (Some (code_of k)) (ledger old b.m) (ledger mid b.m) = subst (λ (c : Option Code). AskTrace (Some (Prepare b.xid)) c (ledger old b.m) (ledger mid b.m)) code x in
     let op : j.op ≡ second_op commit b.xid (code_of k) = r.op ∙ ap (λ q. second_op commit q (code_of k)) s.xid in
     let y : AskTrace (second_op commit b.xid (code_of k)) j.code (ledger mid b.m) (ledger late b.m) =
     subst (λ (o : Option Op). AskTrace o j.code (ledger mid b.m) (ledger late b.m)) op (subst (λ (m : ℕ). AskTrace j.op j.code (ledger mid m) (ledger late m)) (r.manager ∙ s.manager) two) in
     let last : l.op ≡ third_op b.xid j.code = q.op ∙ ap (λ x. third_op x j.code) (r.xid ∙ s.xid) in
     let z : AskTrace (third_op b.xid j.code) l.code (ledger late b.m) (ledger new b.m) =
     subst (λ (o : Option Op). AskTrace o l.code (ledger late b.m) (ledger new b.m)) last (subst (λ (m : ℕ). AskTrace l.op l.code (ledger late m) (ledger new m)) (q.manager ∙ r.manager ∙ s.manager) three) in
-    let until : ledger late b.m ≡ decided commit b (code_of k) j.code (ledger old b.m) = y.trace ∙ ap (λ (a : LedgerView). asked a (second_op commit b.xid (code_of k)) j.code) x1.trace in
     record {
-      prepared = x1.answered;
-      seconded = subst (λ (a : LedgerView). IsAnswered a (second_op commit b.xid (code_of k)) j.code) x1.trace y.answered;
+      prepared = ledger mid b.m;
+      decided = ledger late b.m;
       third = l.code;
-      forgotten = subst (λ (a : LedgerView). IsAnswered a (third_op b.xid j.code) l.code) until z.answered;
-      trace = z.trace ∙ ap (λ (a : LedgerView). asked a (third_op b.xid j.code) l.code) until;
+      prepares = subst (λ (c : Option Code). AskTrace (Some (Prepare b.xid)) c (ledger old b.m) (ledger mid b.m)) code x;
+      obeys = for_trace (second_op commit b.xid (code_of k)) j.code (ledger mid b.m) (ledger late b.m) y;
+      forgets = for_trace (third_op b.xid j.code) l.code (ledger late b.m) (ledger new b.m) z;
+      ends = ap (λ v. ending_of commit v j.code) r.vote;
     }
 
 abbrev pub second_code : Ask → Option Code
@@ -143,7 +146,7 @@ second_code k = k.code
 
 each_branch : (commit : Bool) (bs : List Branch) (ks js ls : List Ask) (old mid late new : List LedgerView) → SameAsks (map first_ask bs) ks → SameAsks (map (second_ask commit) ks) js → SameAsks (map third_ask js) ls
     → EachAsk ks old mid → EachAsk js mid late → EachAsk ls late new
-    → EachBranch (λ b v s e. BranchTrace commit b v s (ledger old b.m) (ledger new b.m) × (e ≡ ending_of commit v s)) bs (map code_of ks) (map second_code js) (map (ending_of_ask commit) js)
+    → EachBranch (λ b v s e. AtBranch AsksLedger commit b v s e (ledger old b.m) (ledger new b.m)) bs (map code_of ks) (map second_code js) (map (ending_of_ask commit) js)
 each_branch commit [] [] [] [] old mid late new s r q e f g = tt
 each_branch commit [] [] [] (l ∷ ls) old mid late new s r q e f g = absurd q
 each_branch commit [] [] (j ∷ js) ls old mid late new s r q e f g = absurd r
@@ -152,7 +155,7 @@ each_branch commit (b ∷ bs) [] js ls old mid late new s r q e f g = absurd s
 each_branch commit (b ∷ bs) (k ∷ ks) [] ls old mid late new s r q e f g = absurd r
 each_branch commit (b ∷ bs) (k ∷ ks) (j ∷ js) [] old mid late new s r q e f g = absurd q
 each_branch commit (b ∷ bs) (k ∷ ks) (j ∷ js) (l ∷ ls) old mid late new s r q e f g =
-    ((branch_trace commit b k j l old mid late new s.0 r.0 q.0 e.0 f.0 g.0, ap (λ v. ending_of commit v j.code) r.0.vote), each_branch commit bs ks js ls old mid late new s.1 r.1 q.1 e.1 f.1 g.1)
+    (branch_trace commit b k j l old mid late new s.0 r.0 q.0 e.0 f.0 g.0, each_branch commit bs ks js ls old mid late new s.1 r.1 q.1 e.1 f.1 g.1)
 
 pub among_first : (bs : List Branch) (ks : List Ask) (m : ℕ) → SameAsks (map first_ask bs) ks → among_asks ks m ≡ has_branch_at bs m
 among_first [] [] m s = refl
@@ -192,18 +195,20 @@ pub call_by : (done : Done) (bs : List Branch) (ks js ls : List Ask) (old mid la
     → done.commit ≡ decision_of (map code_of ks) done.logged → Logs t (yes_asked ks) (map code_of ks) done.logged log log'
     → IsTraceOfCommit t bs old new log log' done
 call_by done bs ks js ls old mid late new log log' t s one r two q three votes endings decision logs =
-    let branch : Branch → Code → Option Code → Ending → Type 0 = λ b v s e. BranchTrace done.commit b v s (ledger old b.m) (ledger new b.m) × (e ≡ ending_of done.commit v s) in
+    let branch : Branch → Code → Option Code → Ending → Type 0 = λ b v s e. AtBranch AsksLedger done.commit b v s e (ledger old b.m) (ledger new b.m) in
     record {
-      seconds = map second_code js;
-      each = subst (λ (vs : List Code). EachBranch branch bs vs (map second_code js) done.endings.items) (sym votes)
-          (subst (λ (es : List Ending). EachBranch branch bs (map code_of ks) (map second_code js) es) (sym endings) (each_branch done.commit bs ks js ls old mid late new s r q one.each two.each three.each));
-      others = λ m p n.
-          three.others m p (among_third js ls m q ∙ among_second done.commit ks js m r ∙ among_first bs ks m s ∙ n)
-          ∙ two.others m p (among_second done.commit ks js m r ∙ among_first bs ks m s ∙ n) ∙ one.others m p (among_first bs ks m s ∙ n);
+      course = record {
+        seconds = map second_code js;
+        each = subst (λ (vs : List Code). EachBranch branch bs vs (map second_code js) done.endings.items) (sym votes)
+            (subst (λ (es : List Ending). EachBranch branch bs (map code_of ks) (map second_code js) es) (sym endings) (each_branch done.commit bs ks js ls old mid late new s r q one.each two.each three.each));
+        others = λ m p n.
+            three.others m p (among_third js ls m q ∙ among_second done.commit ks js m r ∙ among_first bs ks m s ∙ n)
+            ∙ two.others m p (among_second done.commit ks js m r ∙ among_first bs ks m s ∙ n) ∙ one.others m p (among_first bs ks m s ∙ n);
+        decision = decision ∙ ap (λ vs. decision_of vs done.logged) (sym votes);
+        logs = subst (λ (vs : List Code). Logs t (yes_of bs vs) vs done.logged log log') (sym votes)
+            (subst (λ (y : List Bool). Logs t y (map code_of ks) done.logged log log') (yes_is bs ks s) logs);
+      };
       managers = three.managers ∙ two.managers ∙ one.managers;
-      decision = decision ∙ ap (λ vs. decision_of vs done.logged) (sym votes);
-      logs = subst (λ (vs : List Code). Logs t (yes_of bs vs) vs done.logged log log') (sym votes)
-          (subst (λ (y : List Bool). Logs t y (map code_of ks) done.logged log log') (yes_is bs ks s) logs);
     }
 
 -- a list that a vector was lent out as

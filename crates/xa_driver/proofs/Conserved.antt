@@ -3,10 +3,11 @@ use Rattle.std.specs.Prelude.{ℤ, pos, ◌+ℤ◌, All, nat_le, ◌&&◌}
 use Rattle.std.proofs.Common.{◌≡◌, ℕ, zero, suc, ◌+◌, ◌-◌, ◌<◌, ◌≤◌, ◌==◌, Bool, true, false, ◌||◌, if◌then◌else◌, ⊎_elim, List, [], ◌∷◌, ◌++◌, length, length-append, append_assoc, get_or, slice_get, sym, refl, ap, ◌∙◌, subst, arith, None}
 use Rattle.std.specs.List.{list_any, range_with_len}
 use Rattle.std.proofs.lemmas.Int.{ints}
-use Rattle.std.proofs.lemmas.Bool.{cases_lt, eqb-true, eqb-false, le-leb}
+use Rattle.std.proofs.lemmas.Bool.{cases_lt, eqb-true, eqb-false, le-leb, or_parts}
+use Rattle.std.proofs.Math.IntN.{+ℤ_idl as none_plus, +ℤ_idr as plus_none}
 use Rattle.xa_base.specs.Lists.{Begins}
 use Rattle.xa_base.specs.Sums.{total}
-use Rattle.xa_base.proofs.Lists.{contains_at, range_all}
+use Rattle.xa_base.proofs.Lists.{contains_at, range_all, got}
 use Rattle.xa_base.proofs.Sums.{total_alike, total_both, total_nothing}
 use Rattle.xa_words.specs.Xid.{XidName}
 use Rattle.xa_words.specs.declared.code.Code.{Code}
@@ -20,12 +21,13 @@ use Rattle.xa_desk.specs.LedgerView.{LedgerView}
 use Rattle.xa_desk.specs.DeskView.{DeskView, ledger}
 use Rattle.xa_desk.specs.Lanes.{numbered}
 use Rattle.xa_desk.specs.Growth.{HaveGrown}
+use Rattle.xa_desk.proofs.Growth.{as_it_was, grown_on}
 use Rattle.xa_switch.specs.declared.plan.Plan.{Plan}
 use Rattle.xa_switch.specs.Plans.{IsSoundManager}
 use Rattle.xa_switch.specs.Settling.{Settling, IsSettled, sent}
 use Rattle.xa_switch.specs.Fates.{IsOpenedWith, ledgers_of, history}
 use Rattle.xa_switch.specs.Worth.{threads_of, managers_of, accounts_in, accounts_of, plan_worth, settled_worth, moved_by, WorthIsOfThreads}
-use Rattle.xa_switch.proofs.Lists.{all_contains, element_at}
+use Rattle.xa_switch.proofs.Lists.{all_contains}
 use Rattle.xa_driver.specs.declared.branch.Branch.{Branch}
 use Rattle.xa_driver.specs.declared.done.Done.{Done}
 use Rattle.xa_driver.specs.declared.done.Ending.{Ending}
@@ -34,16 +36,12 @@ use Rattle.xa_driver.specs.Decision.{is_no}
 use Rattle.xa_driver.specs.Log.{LogState}
 use Rattle.xa_driver.specs.Trace.{IsCommit, AreBranchesRising, has_branch_at}
 use Rattle.xa_driver.specs.Commits.{HasSentNoCommit, NoCommitWasSent}
-use Rattle.xa_driver.specs.Outcomes.{EachOutcome, AreLeftAlone, has_committed, is_committed, is_rolled_back, is_in_doubt, is_heuristic, is_left, is_read_only}
+use Rattle.xa_driver.specs.Outcomes.{EachOutcome, AreLeftAlone, has_committed, is_committed, is_rolled_back, is_in_doubt, is_heuristic, is_left, is_read_only, sent_so_far}
 use Rattle.xa_driver.specs.Conservation.{taken_before, added_before, added_by_all, total_in_doubt, held_in_doubt, OnlyTransfers, opened, worked, committed}
 use Rattle.xa_driver.specs.Tabled.{Tabled}
-use Rattle.xa_driver.proofs.Moves.{is_within, outside, moved_parted, moved_none, moved_without, moved_alike, moved_nothing, no_commits, all_earlier, none_plus, plus_none}
+use Rattle.xa_driver.proofs.Moves.{is_within, outside, moved_parted, moved_none, moved_without, moved_alike, moved_nothing, no_commits, all_earlier}
 use Rattle.xa_driver.proofs.OneOutcome.{committed_law}
-use Rattle.xa_driver.proofs.Settled.{Both, all_outcomes, growth_law, grown_on, unchanged, by_ledger}
-
-or_parts : (b c : Bool) → (b || c) ≡ false → (b ≡ false) × (c ≡ false)
-or_parts true c e = cc
-or_parts false c e = (refl, e)
+use Rattle.xa_driver.proofs.Settled.{Both, all_outcomes, growth_law, by_ledger}
 
 nothing_there : {X : Type 0} (xs : List X) (k : ℕ) → length xs ≤ k → slice_get xs k ≡ None
 nothing_there [] k le = refl
@@ -98,7 +96,7 @@ module _ (law : Tabled) (opens : (s : Settling) (m : ℕ) → IsSettled s → (T
     (p : Plan) (s : Settling) (settled : IsSettled s) (opens_with : (m : ℕ) → 1 ≤ m → m ≤ length p.managers.items → IsOpenedWith s m (opening (accounts_of p m))) (sound : All IsSoundManager p.managers.items) (t : ℕ) where
   sound_at : (m : ℕ) → 1 ≤ m → m ≤ length p.managers.items → are_accounts (accounts_of p m) ≡ true
   sound_at m positive below =
-      let (plan, planned) = element_at p.managers.items (m - 1) (omega (arith, positive, below)) in
+      let (plan, planned) = got p.managers.items (m - 1) (omega (arith, positive, below)) in
       ap (λ o. are_accounts (accounts_in o)) planned ∙ all_contains IsSoundManager p.managers.items plan sound (contains_at p.managers.items (m - 1) plan planned)
 
   -- what the thread's requests with numbers from a to below b moved at manager m
@@ -172,7 +170,7 @@ module _ (law : Tabled) (opens : (s : Settling) (m : ℕ) → IsSettled s → (T
     either_none true v e = sym e
     either_none false v e = refl
 
-    branch_moves : (b : Branch) (vote : Code) (e : Ending) → 1 ≤ b.m → Both law opens s t b (ledger old b.m) (ledger new b.m) vote e → BranchMoves b vote e
+    branch_moves : (b : Branch) (vote : Code) (e : Ending) → 1 ≤ b.m → Both law opens s t b (count old b.m) (count new b.m) vote e → BranchMoves b vote e
     branch_moves b vote e positive both =
         ⊎_elim
         (λ (past : length p.managers.items < b.m). record {
@@ -192,7 +190,7 @@ module _ (law : Tabled) (opens : (s : Settling) (m : ℕ) → IsSettled s → (T
         })
         (cases_lt (length p.managers.items) b.m)
 
-    all_moves : (lo : ℕ) (bs : List Branch) (vs : List Code) (es : List Ending) → AreBranchesRising lo bs → EachOutcome (λ b v e. Both law opens s t b (ledger old b.m) (ledger new b.m) v e) bs vs es → EachOutcome BranchMoves bs vs es
+    all_moves : (lo : ℕ) (bs : List Branch) (vs : List Code) (es : List Ending) → AreBranchesRising lo bs → EachOutcome (λ b v e. Both law opens s t b (count old b.m) (count new b.m) v e) bs vs es → EachOutcome BranchMoves bs vs es
     all_moves lo [] [] [] r h = tt
     all_moves lo (b ∷ bs) (v ∷ vs) (e ∷ es) r h = let up = r.0 in (branch_moves b v e (omega (arith, up)) h.0, all_moves b.m bs vs es r.1 h.1)
     all_moves lo bs vs es r h = absurd h
@@ -230,7 +228,7 @@ module _ (law : Tabled) (opens : (s : Settling) (m : ℕ) → IsSettled s → (T
         (all_moved bs vs es votes.1 backs.1 h.1)
     all_moved bs vs es unopposed kept h = absurd h
 
-  module _ (bs : List Branch) (desk : DeskView) (new : List LedgerView) (log later : LogState) (d : Done) (made : IsCommit bs desk new log later d) (grown : HaveGrown new (ledgers_of s t)) (alone : AreLeftAlone s t bs desk.ledgers new)
+  module _ (bs : List Branch) (desk : DeskView) (new : List LedgerView) (log later : LogState) (d : Done) (made : IsCommit bs desk new log later d) (grown : HaveGrown new (ledgers_of s t)) (alone : AreLeftAlone s t bs (sent_so_far desk.ledgers) (sent_so_far new))
       (zero_sum : added_by_all p s t desk.ledgers bs ≡ pos 0) where
     abbrev old : List LedgerView
     old = desk.ledgers
@@ -250,7 +248,7 @@ module _ (law : Tabled) (opens : (s : Settling) (m : ℕ) → IsSettled s → (T
     at_managers : total (λ m. moved_in m (count old m) (count new m)) (managers_of p) ≡ moved_for old new bs
     at_managers =
         over_branches (λ m. moved_in m (count old m) (count new m)) bs 0 (length p.managers.items) made.may.rising
-        (λ m positive none. ap (λ (l : LedgerView). moved_in m (count old m) (length l.sent)) (made.trace.others m (omega (arith, positive)) none) ∙ none_within m (count old m))
+        (λ m positive none. ap (λ (l : LedgerView). moved_in m (count old m) (length l.sent)) (made.trace.course.others m (omega (arith, positive)) none) ∙ none_within m (count old m))
         (λ m past. no_moves m (count old m) (count new m) (omega (arith, past)))
 
   add_up : (u v w d e : ℤ) → v ≡ u +ℤ w → w +ℤ e ≡ pos 0 → u +ℤ d ≡ pos 0 → v +ℤ (d +ℤ e) ≡ pos 0
@@ -296,7 +294,7 @@ module _ (law : Tabled) (opens : (s : Settling) (m : ℕ) → IsSettled s → (T
       ] refl)))
 
   grown_self : (at : List LedgerView) → HaveGrown at at
-  grown_self at = record { each = λ m positive. unchanged (ledger at m) }
+  grown_self at = record { each = λ m positive. as_it_was (ledger at m) }
 
   pub conserved_by : (doubt : ℤ) → OnlyTransfers p s t (ledgers_of s t) doubt → moved_by p s t +ℤ doubt ≡ pos 0
   conserved_by doubt only = ap (λ v. v +ℤ doubt) whole_thread ∙ thread_law (ledgers_of s t) doubt only (grown_self (ledgers_of s t))

@@ -1,10 +1,11 @@
 -- What the additions of a branch that voted to commit count for, over openings one after another.
-use Rattle.std.specs.Prelude.{ℤ, pos, option_map}
+use Rattle.std.specs.Prelude.{ℤ, pos}
 use Rattle.std.proofs.Common.{◌≡◌, ℕ, suc, Bool, true, false, ◌&&◌, if◌then◌else◌, List, [], ◌∷◌, ◌++◌, append_assoc, sym, refl, ap, ◌∙◌, subst, arith, Option, Some, None}
 use Rattle.std.specs.List.{All, cons_option}
 use Rattle.std.proofs.lemmas.List.Elements.{All-head, All-tail}
 use Rattle.xa_base.specs.declared.limits.TheConstants.{MOST_MANAGERS}
 use Rattle.xa_base.specs.Lists.{IsUpTo}
+use Rattle.xa_base.proofs.Lists.{all_left}
 use Rattle.xa_words.specs.Xid.{XidName}
 use Rattle.xa_words.specs.Key.{key_eq}
 use Rattle.xa_words.specs.Orders.{Decides-key_eq}
@@ -30,9 +31,9 @@ use Rattle.xa_driver.proofs.Answered.{last_ended}
 use Rattle.xa_driver.proofs.Later.{Walk, stands_first}
 use Rattle.xa_driver.proofs.Leading.{IsTowards, Stands, waits, unforgotten, over, as_decided, led_fates}
 use Rattle.xa_driver.proofs.Placing.{request_of, fates}
-use Rattle.xa_driver.proofs.Requests.{all_left}
 use Rattle.xa_driver.specs.Tabled.{Tabled}
 use Rattle.xa_driver.proofs.Voting.{Comes, ends, tells, leaves, once}
+use Rattle.xa_driver.proofs.Values.{added_is}
 
 -- ---- by the fates that a history makes
 
@@ -57,10 +58,6 @@ commits_past later x (r ∷ h) g T e =
     ap (λ o. or_later o (commits_later later x (coded (h ++ g) T1))) (e 0 (r, (next r.thread r.op T).1) (omega arith)) ∙ commits_past later x h g T1 (λ k d lt. e (suc k) d (omega arith))
 
 -- ---- one addition
-
-added_is : (o : Option Association) (d : ℤ) (later : XidName → Bool) (x : XidName) → option_map (λ (a : Association). a.xid) o ≡ Some x → added_by o d later ≡ (if later x then d else pos 0)
-added_is None d later x e = cc
-added_is (Some a) d later x e = let same : a.xid ≡ x = cc in ap (λ y. if later y then d else pos 0) same
 
 -- its share is decided by what comes from the Prepare on
 pub share_is : (x : XidName) (k : List ℕ) (d : ℤ) (t n : ℕ) (T : Tables) (H : History) (after : XidName → Bool) (add : IsAddition x k d t n T H) (fs : List Fate)

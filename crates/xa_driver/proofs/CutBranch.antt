@@ -3,7 +3,7 @@ use Rattle.std.proofs.Common.{◌≡◌, ℕ, suc, ◌+◌, ◌≤◌, inl, inr,
 use Rattle.std.specs.List.{All, Contains}
 use Rattle.std.proofs.lemmas.List.Elements.{All-append, All-cons, All-contains, All-head}
 use Rattle.xa_base.specs.Lists.{Begins}
-use Rattle.xa_base.proofs.Lists.{begins_on, some_same, all_mid}
+use Rattle.xa_base.proofs.Lists.{begins_on, some_same, all_mid, all_right, all_after}
 use Rattle.xa_base.proofs.Truth.{at_false, at_true, by_if}
 use Rattle.xa_words.specs.Xid.{XidName}
 use Rattle.xa_words.specs.declared.code.Code.{Code}
@@ -11,6 +11,7 @@ use Rattle.xa_words.specs.declared.code.Code.TheVariants.{Done, RmFail}
 use Rattle.xa_words.specs.declared.request.Op.{Op}
 use Rattle.xa_words.specs.declared.request.Op.TheVariants.{Prepare, Commit, Rollback, Forget}
 use Rattle.xa_words.specs.declared.request.Request.{Request}
+use Rattle.xa_words.proofs.Xids.{xid_self}
 use Rattle.xa_tables.specs.declared.state.HeuristicDecision.{HeuristicDecision}
 use Rattle.xa_tables.specs.declared.state.State.{State}
 use Rattle.xa_tables.specs.Tables.{Tables, is_left_in}
@@ -36,13 +37,14 @@ use Rattle.xa_driver.specs.Endings.{is_decided, is_out_of_reach, second_op, thir
 use Rattle.xa_driver.specs.Outcomes.{IsBetween, OnlyTheseOrDecisionsName, told_fate}
 use Rattle.xa_driver.specs.Resolving.{outcome_op}
 use Rattle.xa_driver.specs.Tabled.{Tabled}
-use Rattle.xa_driver.proofs.CutVotes.{HasVoted, IsAskedFor, ended_voted, first_is, forget_sends, other_sends, prepare_sent, told_voted}
-use Rattle.xa_driver.proofs.Ends.{decision_so, is_decided_so}
+use Rattle.xa_driver.proofs.CutVotes.{HasVoted, ended_voted, first_is, forget_sends, other_sends, prepare_sent, told_voted}
+use Rattle.xa_driver.proofs.Mapped.{IsAskedFor}
+use Rattle.xa_driver.proofs.EndsByFate.{decision_so, is_decided_so}
 use Rattle.xa_driver.proofs.Guided.{IsGuided, at_last, fate_any, fates_from, fates_once}
 use Rattle.xa_driver.proofs.Leading.{IsTowards, Stands, ends_towards, waits, unforgotten, over}
 use Rattle.xa_driver.proofs.Naming.{sent_is}
-use Rattle.xa_driver.proofs.Placing.{Parted, all_later, answer_at, fates, fates_both, numbered_both, numbered_length, part, request_of, sides}
-use Rattle.xa_driver.proofs.Requests.{IsFromTo, all_after, all_right, code_there, count_two, own_between, same_code, self}
+use Rattle.xa_driver.proofs.Placing.{Parted, all_later, answer_at, fates, fates_both, numbered_both, numbered_length, part, request_of, sides, same_code}
+use Rattle.xa_driver.proofs.Requests.{IsFromTo, code_there, count_two, own_between}
 use Rattle.xa_driver.proofs.Resolves.{Sends}
 use Rattle.xa_driver.proofs.Voting.{AtEnd, Comes, ends, leaves, once, tells, tells_so, told_decided, yes_wanted}
 
@@ -65,7 +67,7 @@ module _ (commit : Bool) (L : Type 0) (x : XidName) where
   -- what leads it is no Prepare of it
   not_first : (more : List Op) → All (IsTowards commit L x) more → slice_get more 0 ≡ Some (Prepare x) → ⊥
   not_first [] all e = cc
-  not_first (op ∷ more) all e = subst (IsTowards commit L x) (some_same op (Prepare x) e) (All-head (IsTowards commit L x) op more all) (self x)
+  not_first (op ∷ more) all e = subst (IsTowards commit L x) (some_same op (Prepare x) e) (All-head (IsTowards commit L x) op more all) (xid_self x)
 
   unprepared : (a a' : LedgerView) → Sends (IsTowards commit L x) a a' → slice_get a'.sent (length a.sent) ≡ Some (Prepare x) → ⊥
   unprepared a a' z first = not_first z.more z.all (sym (first_after a.sent z.more) ∙ ap (λ l. slice_get l (length a.sent)) (sym z.sent) ∙ first)

@@ -2,9 +2,10 @@
 use Rattle.std.specs.Prelude.{◌&&◌, is_some, ◌⊎◌}
 use Rattle.std.proofs.Common.{◌≡◌, ℕ, ◌≤◌, Bool, true, false, ◌==◌, ◌||◌, List, [], ◌∷◌, map, get_or, inl, inr, ⊎_elim, sym, refl, ap, ◌∙◌, subst, Option, Some, None}
 use Rattle.std.specs.List.{All, list_any}
-use Rattle.std.proofs.lemmas.Bool.{eqb-true}
+use Rattle.std.proofs.lemmas.Bool.{eqb-true, and_parts, or_parts}
 use Rattle.std.proofs.lemmas.List.Elements.{All-nil, All-cons, All-head, All-tail}
 use Rattle.std.proofs.lemmas.List.Folds.{list_any_none}
+use Rattle.std.proofs.Math.Bool.{and-false}
 use Rattle.xa_base.proofs.Truth.{by_if}
 use Rattle.xa_words.specs.Xid.{XidName}
 use Rattle.xa_words.specs.Tran.{TranName}
@@ -30,9 +31,10 @@ use Rattle.xa_driver.specs.Log.{LogState, record_of, with_failure}
 use Rattle.xa_driver.specs.Rounds.{code_of, second_ask, yes_asked}
 use Rattle.xa_driver.specs.Stages.{HasDecided, HasPrepared}
 use Rattle.xa_driver.specs.Trace.{EachBranch, IsTranOf, Logs, appended, decision_of, failed, unwanted, voted}
-use Rattle.xa_driver.proofs.CutVotes.{Ended, HasVoted, IsAskedFor, asked_sends, begun_sends, ended_voted, other_sends, told_voted}
+use Rattle.xa_driver.proofs.CutVotes.{Ended, HasVoted, asked_sends, begun_sends, ended_voted, other_sends, told_voted}
+use Rattle.xa_driver.proofs.Mapped.{IsAskedFor}
 use Rattle.xa_driver.proofs.OneOutcome.{one_tran}
-use Rattle.xa_driver.proofs.Presumed.{and_false, recorded_is, right_holds}
+use Rattle.xa_driver.proofs.Presumed.{recorded_is}
 use Rattle.xa_driver.proofs.Resolves.{Sends, on, stays}
 
 -- ---- what isn't among what was sent
@@ -46,7 +48,7 @@ module _ (bad : Op → Bool) (x : XidName) where
   other_good op other = ap (λ q. q && bad op) other
 
   good_so : (op : Op) → bad op ≡ false → IsGood op
-  good_so op good = ap (λ q. names x op && q) good ∙ and_false (names x op)
+  good_so op good = ap (λ q. names x op && q) good ∙ and-false (names x op)
 
   forget_good : ((y : XidName) → bad (Forget y) ≡ false) → (s : Option Code) → IsAskedFor IsGood (third_op x s)
   forget_good good None = tt
@@ -111,15 +113,7 @@ no_rollback_so false x v h = cc
 
 none_yes : (commit : Bool) (vs : List Code) → list_any is_yes vs ≡ false → All (λ v. (commit ≡ false) ⊎ (is_yes v ≡ false)) vs
 none_yes commit [] e = All-nil (λ (v : Code). (commit ≡ false) ⊎ (is_yes v ≡ false))
-none_yes commit (v ∷ vs) e = All-cons (λ (w : Code). (commit ≡ false) ⊎ (is_yes w ≡ false)) v vs (inr (left_falls (is_yes v) (list_any is_yes vs) e)) (none_yes commit vs (right_falls (is_yes v) (list_any is_yes vs) e))
-  where
-    left_falls : (a b : Bool) → (a || b) ≡ false → a ≡ false
-    left_falls true b e = e
-    left_falls false b e = refl
-
-    right_falls : (a b : Bool) → (a || b) ≡ false → b ≡ false
-    right_falls true b e = cc
-    right_falls false b e = e
+none_yes commit (v ∷ vs) e = All-cons (λ (w : Code). (commit ≡ false) ⊎ (is_yes w ≡ false)) v vs (inr (or_parts (is_yes v) (list_any is_yes vs) e).0) (none_yes commit vs (or_parts (is_yes v) (list_any is_yes vs) e).1)
 
 module _ (tran : TranName) (log later : LogState) (absent : record_of log tran ≡ None) (votes : List Code) (logged : Bool) (managers : List Bool) (logs : Logs tran managers votes logged log later) where
   -- where there is no record, it was decided to abort, or no branch voted to commit
@@ -140,7 +134,7 @@ module _ (tran : TranName) (log later : LogState) (absent : record_of log tran �
   decided_so on = by_logs logs
     where
       by_logs : Logs tran managers votes logged log later → decision_of votes logged ≡ true
-      by_logs (appended wants is_on is) = recorded_is tran managers votes logged log later absent (right_holds (decides_commit votes) (has_yes votes) wants) logs ∙ on
+      by_logs (appended wants is_on is) = recorded_is tran managers votes logged log later absent (and_parts (decides_commit votes) (has_yes votes) wants).1 logs ∙ on
       by_logs (failed wants off is) = absurd (unrecorded (inr is) on)
       by_logs (unwanted wants off is) = absurd (unrecorded (inl is) on)
 

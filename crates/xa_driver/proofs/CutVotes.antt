@@ -28,18 +28,17 @@ use Rattle.xa_driver.specs.Decision.{is_yes, voted_yes}
 use Rattle.xa_driver.specs.Endings.{second_op, third_op, ending_of}
 use Rattle.xa_driver.specs.Log.{LogState}
 use Rattle.xa_driver.specs.Resolution.{IsKept, NamesTran, OnlyResolves, Opening}
-use Rattle.xa_driver.specs.Trace.{BranchTrace, EachBranch, IsCommit, IsTranOf, decided, decision_of, voted}
+use Rattle.xa_driver.specs.Course.{AtBranch}
+use Rattle.xa_driver.specs.Resolving.{AsksLedger}
+use Rattle.xa_driver.specs.Trace.{EachBranch, IsCommit, IsTranOf, decision_of, voted}
+use Rattle.xa_driver.proofs.Mapped.{Any, IsAskedFor, any_asked}
+use Rattle.xa_driver.proofs.Traces.{trace_of}
 use Rattle.xa_driver.proofs.Naming.{named_so, no_prepare, prepare_part, IsNoPrepare}
 use Rattle.xa_driver.proofs.Placing.{request_of}
 use Rattle.xa_driver.proofs.Records.{is_marked, logs_keep}
-use Rattle.xa_driver.proofs.Resolves.{Any, Sends, stays, on}
+use Rattle.xa_driver.proofs.Resolves.{Sends, stays, on}
 
 -- ---- what was sent
-
--- what a request asks for, if there is one, is so
-abbrev pub IsAskedFor : (Op → Type 0) → Option Op → Type 0
-IsAskedFor P None = Unit {0}
-IsAskedFor P (Some op) = P op
 
 -- A vote was collected as the code of its Prepare, and what was sent after that is so.
 pub record HasVoted (P : Op → Type 0) (b : Branch) (v : Code) (a a' : LedgerView) : Type 0 where
@@ -115,10 +114,6 @@ branch_votes P Q f (b ∷ bs) (v ∷ vs) (s ∷ ss) (e ∷ es) h = (f b v s e h.
 branch_votes P Q f bs vs ss es h = absurd h
 
 -- whatever was sent
-any_asked : (op : Option Op) → IsAskedFor Any op
-any_asked None = tt
-any_asked (Some op) = tt
-
 abbrev pub Votes : List LedgerView → List LedgerView → Branch → Code → Type 0
 Votes old new b v = HasVoted Any b v (ledger old b.m) (ledger new b.m)
 
@@ -142,24 +137,27 @@ did_nothing x a = record { more = []; sent = sym (append-nil a.sent); others = A
 pub finished_law : (bs : List Branch) (desk : DeskView) (new : List LedgerView) (log later : LogState) (d : Done) → IsCommit bs desk new log later d → IsCut bs desk new log later d.endings.items
 finished_law bs desk new log later d made = record {
   may = made.may;
-  far = forgetting d.votes.items d.logged made.trace.seconds made.trace.logs (subst (λ c. EachBranch (Ended c desk.ledgers new) bs d.votes.items made.trace.seconds d.endings.items) made.trace.decision (each bs d.votes.items made.trace.seconds d.endings.items made.trace.each));
+  far = forgetting d.votes.items d.logged made.trace.course.seconds made.trace.course.logs (subst (λ c. EachBranch (Ended c desk.ledgers new) bs d.votes.items made.trace.course.seconds d.endings.items) made.trace.course.decision (each bs d.votes.items made.trace.course.seconds d.endings.items made.trace.course.each));
   managers = made.trace.managers;
 }
   where
-    ended : (b : Branch) (v : Code) (s : Option Code) (a a' : LedgerView) → BranchTrace d.commit b v s a a' → IsEnded d.commit b v s a a'
-    ended b v s a a' tr = record {
-      prepared = tr.prepared;
-      start = voted b v a;
-      between = did_nothing b.xid (voted b v a);
-      seconded = tr.seconded;
-      told = decided d.commit b v s a;
-      after = did_nothing b.xid (decided d.commit b v s a);
-      forgets = collected tr.third (record { answered = tr.forgotten; trace = tr.trace });
-    }
+    ended : (b : Branch) (v : Code) (s : Option Code) (e : Ending) (a a' : LedgerView) → AtBranch AsksLedger d.commit b v s e a a' → IsEnded d.commit b v s a a'
+    ended b v s e a a' is =
+        let tr = trace_of d.commit b v s e a a' is in
+        let late : LedgerView = asked (voted b v a) (second_op d.commit b.xid v) s in
+        record {
+          prepared = tr.prepared;
+          start = voted b v a;
+          between = did_nothing b.xid (voted b v a);
+          seconded = tr.seconded;
+          told = late;
+          after = did_nothing b.xid late;
+          forgets = collected tr.third tr.forgotten;
+        }
 
-    each : (cs : List Branch) (vs : List Code) (ss : List (Option Code)) (es : List Ending) → EachBranch (λ b v s e. BranchTrace d.commit b v s (ledger desk.ledgers b.m) (ledger new b.m) × (e ≡ ending_of d.commit v s)) cs vs ss es → EachBranch (Ended d.commit desk.ledgers new) cs vs ss es
+    each : (cs : List Branch) (vs : List Code) (ss : List (Option Code)) (es : List Ending) → EachBranch (λ b v s e. AtBranch AsksLedger d.commit b v s e (ledger desk.ledgers b.m) (ledger new b.m)) cs vs ss es → EachBranch (Ended d.commit desk.ledgers new) cs vs ss es
     each [] [] [] [] h = tt
-    each (b ∷ cs) (v ∷ vs) (s ∷ ss) (e ∷ es) h = ((ended b v s (ledger desk.ledgers b.m) (ledger new b.m) h.0.0, h.0.1), each cs vs ss es h.1)
+    each (b ∷ cs) (v ∷ vs) (s ∷ ss) (e ∷ es) h = ((ended b v s e (ledger desk.ledgers b.m) (ledger new b.m) h.0, h.0.ends), each cs vs ss es h.1)
     each cs vs ss es h = absurd h
 
 -- ---- where none may be to commit

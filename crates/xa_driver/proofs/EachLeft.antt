@@ -1,11 +1,10 @@
 -- Branches that are resolved one after another, and managers one after another.
-use Rattle.std.proofs.Common.{◌≡◌, ◌≢◌, ℕ, zero, suc, ◌+◌, ◌-◌, ◌*◌, ◌≤◌, ◌<◌, ◌==◌, ◌||◌, if◌then◌else◌, List, [], ◌∷◌, ◌++◌, length, append-nil, sym, refl, ap, ◌∙◌, subst, arith, inl, inr}
+use Rattle.std.proofs.Common.{◌≡◌, ◌≢◌, ℕ, zero, suc, ◌+◌, ◌-◌, ◌*◌, ◌≤◌, ◌==◌, ◌||◌, if◌then◌else◌, List, [], ◌∷◌, ◌++◌, length, append-nil, sym, refl, ap, ◌∙◌, subst, arith, inl, inr}
 use Rattle.std.specs.Prelude.{nat_lt}
 use Rattle.std.specs.List.{flat_map, range_with_len, sum_by}
 use Rattle.std.proofs.lemmas.Bool.{cases_Bool, eqb-true, eqb-false, eq-eqb, ne_eqb}
 use Rattle.std.proofs.lemmas.Grind.{flat_map-append}
 use Rattle.std.proofs.lemmas.List.Sums.{sum_by_push}
-use Rattle.xa_base.specs.Lists.{IsUpTo}
 use Rattle.xa_base.proofs.Lists.{range_more}
 use Rattle.xa_base.proofs.Truth.{at_true, at_false}
 use Rattle.xa_words.specs.Xid.{XidName}
@@ -14,7 +13,7 @@ use Rattle.xa_desk.specs.DeskView.{ledger, room_at}
 use Rattle.xa_switch.specs.Scans.{Asking, ScanView, left_at}
 use Rattle.xa_driver.specs.declared.resolved.Outcome.{Outcome}
 use Rattle.xa_driver.specs.Log.{Records}
-use Rattle.xa_driver.specs.Resolving.{AsksLedger, ResolvesThese, ResolvesAt, requests_for, left_in}
+use Rattle.xa_driver.specs.Resolving.{AsksLedger, Resolves, ResolvesAt, ResolvesThese, left_in, requests_for}
 
 -- ---- a manager at which some are left
 
@@ -66,11 +65,8 @@ lists_same f g (suc n) same =
     ∙ sym (lists_more g n) ∙ ap (λ k. flat_map g (range_with_len 1 k)) (sym next_one)
 
 -- what the managers so far have come to, and that the others are as they were
-pub record SoFar (z : ScanView) (records : Records) (n : ℕ) (old new : List LedgerView) (outcomes : List Outcome) : Type 0 where
-  pub at : ℕ → List Outcome
-  pub outcomes_are : outcomes ≡ flat_map at (range_with_len 1 n)
-  pub each : (m : ℕ) → IsUpTo n m → ResolvesAt AsksLedger records m (left_at z m) (at m) (ledger old m) (ledger new m)
-  pub others : (m : ℕ) → n < m → ledger new m ≡ ledger old m
+abbrev pub SoFar : ScanView → Records → ℕ → List LedgerView → List LedgerView → List Outcome → Type 0
+SoFar z records n old new outcomes = Resolves AsksLedger records z n (ledger old) (ledger new) outcomes
 
 pub none_so_far : (z : ScanView) (records : Records) (at : List LedgerView) → SoFar z records 0 at at []
 none_so_far z records at = record { at = λ m. []; outcomes_are = refl; each = λ m within. let low = within.0 in let high = within.1 in absurd (omega (arith, low, high)); others = λ m above. refl }

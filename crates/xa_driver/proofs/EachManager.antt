@@ -8,30 +8,31 @@ use Rattle.xa_desk.specs.DeskView.{ledger}
 use Rattle.xa_driver.specs.declared.branch.Branch.{Branch}
 use Rattle.xa_driver.specs.declared.done.Done.{Done}
 use Rattle.xa_driver.specs.declared.done.Ending.{Ending}
-use Rattle.xa_driver.specs.Endings.{ending_of}
+use Rattle.xa_driver.specs.Course.{AtBranch}
 use Rattle.xa_driver.specs.Log.{LogState}
-use Rattle.xa_driver.specs.Trace.{BranchTrace, EachBranch, IsTraceOfCommit, has_branch_at}
+use Rattle.xa_driver.specs.Resolving.{AsksLedger}
+use Rattle.xa_driver.specs.Trace.{EachBranch, IsTraceOfCommit, has_branch_at}
 
 -- P holds of each ledger before and after, if it holds where nothing was done and where a branch's trace was
 module _ (P : LedgerView → LedgerView → Type 0) (stays : (a : LedgerView) → P a a) (commit : Bool) (old new : List LedgerView)
-    (traced : (b : Branch) (v : Code) (s : Option Code) (a a' : LedgerView) → BranchTrace commit b v s a a' → P a a') where
+    (traced : (b : Branch) (v : Code) (s : Option Code) (e : Ending) (a a' : LedgerView) → AtBranch AsksLedger commit b v s e a a' → P a a') where
   abbrev Traces : List Branch → List Code → List (Option Code) → List Ending → Type 0
-  Traces = EachBranch (λ b v s e. BranchTrace commit b v s (ledger old b.m) (ledger new b.m) × (e ≡ ending_of commit v s))
+  Traces = EachBranch (λ b v s e. AtBranch AsksLedger commit b v s e (ledger old b.m) (ledger new b.m))
 
   at_branch : (m : ℕ) (bs : List Branch) (vs : List Code) (ss : List (Option Code)) (es : List Ending) → Traces bs vs ss es → has_branch_at bs m ≡ true → P (ledger old m) (ledger new m)
   at_branch m [] [] [] [] h e = cc
   at_branch m (b ∷ bs) (v ∷ vs) (s ∷ ss) (x ∷ es) h e =
       elim (b.m == m) as (λ c. (b.m == m) ≡ c → (c || has_branch_at bs m) ≡ true → P (ledger old m) (ledger new m)) [
-        | true ↦ λ here _. subst (λ (k : ℕ). P (ledger old k) (ledger new k)) (eqb-true b.m m here) (traced b v s (ledger old b.m) (ledger new b.m) h.0.0)
+        | true ↦ λ here _. subst (λ (k : ℕ). P (ledger old k) (ledger new k)) (eqb-true b.m m here) (traced b v s x (ledger old b.m) (ledger new b.m) h.0)
         | false ↦ λ other e. at_branch m bs vs ss es h.1 e
       ] refl e
   at_branch m bs vs ss es h e = absurd h
 
 pub every_manager : (P : LedgerView → LedgerView → Type 0) → ((a : LedgerView) → P a a) → (tran : TranName) (bs : List Branch) (old new : List LedgerView) (log later : LogState) (d : Done)
-    → ((b : Branch) (v : Code) (s : Option Code) (a a' : LedgerView) → BranchTrace d.commit b v s a a' → P a a') → IsTraceOfCommit tran bs old new log later d
+    → ((b : Branch) (v : Code) (s : Option Code) (e : Ending) (a a' : LedgerView) → AtBranch AsksLedger d.commit b v s e a a' → P a a') → IsTraceOfCommit tran bs old new log later d
     → (m : ℕ) → 1 ≤ m → P (ledger old m) (ledger new m)
 every_manager P stays tran bs old new log later d traced call m positive =
     elim (has_branch_at bs m) as (λ b. has_branch_at bs m ≡ b → P (ledger old m) (ledger new m)) [
-      | true ↦ λ e. at_branch P stays d.commit old new traced m bs d.votes.items call.seconds d.endings.items call.each e
-      | false ↦ λ e. subst (P (ledger old m)) (sym (call.others m positive e)) (stays (ledger old m))
+      | true ↦ λ e. at_branch P stays d.commit old new traced m bs d.votes.items call.course.seconds d.endings.items call.course.each e
+      | false ↦ λ e. subst (P (ledger old m)) (sym (call.course.others m positive e)) (stays (ledger old m))
     ] refl

@@ -1,6 +1,6 @@
 -- What became of a branch that nobody else named, but for heuristic decisions, over the settled history of its manager.
 use Rattle.std.specs.Prelude.{◌⊎◌}
-use Rattle.std.proofs.Common.{◌≡◌, ◌≢◌, ℕ, suc, ◌+◌, ◌<◌, inl, inr, Bool, true, false, ◌||◌, if◌then◌else◌, List, [], ◌∷◌, ◌++◌, length, append-nil, append_assoc, slice_get, get_or, sym, refl, ap, ◌∙◌, subst, arith, Option, Some, None}
+use Rattle.std.proofs.Common.{◌≡◌, ◌≢◌, ℕ, suc, ◌+◌, ◌<◌, inl, inr, Bool, true, false, ◌||◌, if◌then◌else◌, List, [], ◌∷◌, ◌++◌, length, append-nil, append_assoc, get_or, sym, refl, ap, ◌∙◌, subst, arith, Option, Some, None}
 use Rattle.std.specs.List.{All, cons_option}
 use Rattle.xa_words.specs.Xid.{XidName, xid_eq}
 use Rattle.xa_words.specs.declared.code.Code.{Code}
@@ -8,6 +8,7 @@ use Rattle.xa_words.specs.declared.code.Code.TheVariants.{Done, RbIntegrity, Heu
 use Rattle.xa_words.specs.declared.request.Op.{Op}
 use Rattle.xa_words.specs.declared.request.Op.TheVariants.{Prepare, Commit, Rollback, Heur}
 use Rattle.xa_words.specs.declared.request.Request.{Request}
+use Rattle.xa_words.proofs.Xids.{xid_self}
 use Rattle.xa_tables.specs.declared.state.HeuristicDecision.{HeuristicDecision}
 use Rattle.xa_tables.specs.declared.state.HeuristicDecision.TheVariants as decision
 use Rattle.xa_tables.specs.Tables.{Tables, is_S3, is_prepared}
@@ -15,25 +16,22 @@ use Rattle.xa_tables.specs.Reasons.{decision_code}
 use Rattle.xa_tables.specs.Next.{next}
 use Rattle.xa_tables.proofs.Unnamed.{tables_after-append, unnamed_fate}
 use Rattle.xa_tables.specs.History as history
-use Rattle.xa_tables.specs.History.{History, Fate, fate, fate_in, fate_of, coded, of_thread, tables_after, last_or, is_done, is_rolled_back, is_in_doubt as is_unknown, prepare_fate, decided_fate, heur_fate, IsFateOf}
-use Rattle.xa_tables.specs.Openings.{IsOpening}
+use Rattle.xa_tables.specs.History.{History, Fate, fate, fate_in, fate_of, coded, tables_after, last_or, is_done, is_rolled_back, is_in_doubt as is_unknown, prepare_fate, decided_fate, heur_fate, IsFateOf}
 use Rattle.xa_tables.specs.Prepared.{names, OnlyDecides, LeavesWaiting, AwaitsTheOutcome, AwaitsAfter, IsTold, closes, is_heur, is_forget, answer_when, fates_when}
-use Rattle.xa_desk.specs.LedgerView.{LedgerView, is_rm_fail}
-use Rattle.xa_desk.specs.Lanes.{numbered}
-use Rattle.xa_switch.specs.Settling.{answers}
-use Rattle.xa_base.specs.Lists.{Begins}
+use Rattle.xa_desk.specs.LedgerView.{is_rm_fail}
 use Rattle.xa_base.proofs.Truth.{by_if, at_true}
+use Rattle.xa_base.proofs.Lists.{all_left, all_after}
 use Rattle.xa_driver.specs.declared.branch.Branch.{Branch}
 use Rattle.xa_driver.specs.declared.done.Ending.{Ending}
 use Rattle.xa_driver.specs.declared.done.Ending.TheVariants.{Committed, ReadOnly, RolledBack, InDoubt, Heuristic, Left}
 use Rattle.xa_driver.specs.Decision.{is_yes, is_read}
-use Rattle.xa_driver.specs.Endings.{ending_of, yes_ending, no_ending, is_heuristic as is_heuristic_code}
-use Rattle.xa_driver.specs.Trace.{BranchTrace}
+use Rattle.xa_driver.specs.Endings.{yes_ending, no_ending, is_heuristic as is_heuristic_code}
+use Rattle.xa_driver.specs.Course.{AtBranch}
 use Rattle.xa_driver.specs.Outcomes.{IsBetween, OnlyTheseOrDecisionsName, IsAfterShut, IsDecidedAfter, told_fate, is_left, is_in_doubt, is_heuristic}
-use Rattle.xa_driver.proofs.Placing.{request_of, all_later, fates, fates_both, fate_is}
-use Rattle.xa_driver.proofs.Requests.{self, closes_other, all_left, all_after}
-use Rattle.xa_driver.specs.Tabled.{Tabled}
-use Rattle.xa_driver.proofs.Courses.{yes_is, read_is, First, first, Second, second_of, Sends, SendsOne, Course, Unreached, Reads, Breaks, Stays, Agrees, Refuses, course_of}
+use Rattle.xa_driver.proofs.Placing.{request_of, fates, fates_both, fate_is}
+use Rattle.xa_driver.proofs.Requests.{closes_other}
+use Rattle.xa_driver.proofs.Courses.{yes_is, read_is, Sends, SendsOne, Course, Unreached, Reads, Breaks, Stays, Agrees, Refuses, course_of, rest_forgets}
+use Rattle.xa_driver.proofs.Sites.{Site, Sent, AsksIn, At, above, Second, second_of}
 
 -- ---- who may name the branch
 
@@ -114,13 +112,9 @@ pub record Told (t : ℕ) (x : XidName) (f0 : Fate) (T : Tables) (H : History) (
   pub told : (f : Fate) → told_fate e ≡ Some f → fate x f0 H T ≡ f
   pub doubt : is_in_doubt e ≡ true → (fate x f0 H T ≡ history.InDoubt) ⊎ ((d : HeuristicDecision) × ((fate x f0 H T ≡ decided_fate d) × IsDecidedAfter x t n T H))
 
-module _ (law : Tabled) (t : ℕ) (x : XidName) (T : Tables) (H : History) (opening : IsOpening T) (f0 : Fate) (fits : IsFateOf x f0 T) (a : LedgerView) (vote : Code) (ops : List Op) (pairs : List (ℕ × Code))
-    (carried : of_thread t H ≡ numbered t 0 ops) (answered : All (λ p. slice_get (answers t (coded H T)) p.0 ≡ Some p) pairs) (last : ℕ) (only : OnlyTheseOrDecisionsName x t (length a.sent) last H) where
+module _ {t : ℕ} {T : Tables} {H : History} (site : Site t T H) (x : XidName) (f0 : Fate) (fits : IsFateOf x f0 T) (n last : ℕ) (vote : Code) (only : OnlyTheseOrDecisionsName x t n last H) where
   abbrev Goal : Ending → Type 0
-  Goal e = Told t x f0 T H (length a.sent) vote e
-
-  abbrev n : ℕ
-  n = length a.sent
+  Goal e = Told t x f0 T H n vote e
 
   abbrev P : Op
   P = Prepare x
@@ -129,10 +123,10 @@ module _ (law : Tabled) (t : ℕ) (x : XidName) (T : Tables) (H : History) (open
   ended : (before after : History) (r : Request) (f : Fate) → H ≡ before ++ r ∷ after → fate_of x r.op (next r.thread r.op (tables_after before T)).1 ≡ Some f → is_unknown f ≡ false → OnlyDecides x after → fate x f0 H T ≡ f
   ended before after r f place e known only_after =
       let there : Tables = (next r.thread r.op (tables_after before T)).0 in
-      let so_far : fate x f0 (before ++ r ∷ []) T ≡ f = law.leaves (before ++ r ∷ []) x f0 T ∙ fate_is x before [] r T f0 f e refl in
+      let so_far : fate x f0 (before ++ r ∷ []) T ≡ f = site.law.leaves (before ++ r ∷ []) x f0 T ∙ fate_is x before [] r T f0 f e refl in
       let unprepared : is_prepared there x ≡ false =
-      ap (λ (U : Tables). is_prepared U x) (sym (tables_after-append before (r ∷ []) T)) ∙ (law.kept (before ++ r ∷ []) x f0 T opening fits).prepared ∙ ap is_unknown so_far ∙ known in
-      law.leaves H x f0 T ∙ ap (λ (h : History). fate_in x f0 (coded h T)) place ∙ fate_is x before after r T f0 f e (law.undecided after x there unprepared only_after)
+      ap (λ (U : Tables). is_prepared U x) (sym (tables_after-append before (r ∷ []) T)) ∙ (site.law.kept (before ++ r ∷ []) x f0 T site.opening fits).prepared ∙ ap is_unknown so_far ∙ known in
+      site.law.leaves H x f0 T ∙ ap (λ (h : History). fate_in x f0 (coded h T)) place ∙ fate_is x before after r T f0 f e (site.law.undecided after x there unprepared only_after)
 
   -- a vote that doesn't agree, and an ending that tells nothing, or what became of it
   no_vote : (e : Ending) → is_yes vote ≡ false → is_in_doubt e ≡ false → ((f : Fate) → told_fate e ≡ Some f → fate x f0 H T ≡ f) → Goal e
@@ -146,17 +140,17 @@ module _ (law : Tabled) (t : ℕ) (x : XidName) (T : Tables) (H : History) (open
 
   -- ---- the Prepare alone was sent
 
-  module _ (z : SendsOne t x T H a vote ops pairs carried answered last) where
-    abbrev alone : First t x T H a vote ops pairs carried answered z.post
-    alone = first t x T H a vote ops pairs carried answered z.post z.more z.sent z.collected
+  module _ (z : SendsOne site x n last vote) where
+    abbrev alone : At site n P vote
+    alone = z.first
 
-    decides_after : OnlyDecides x alone.parted.after
+    decides_after : OnlyDecides x alone.after
     decides_after k d lt named =
-        elim (is_heur (get_or alone.parted.after k d).op) as (λ b. is_heur (get_or alone.parted.after k d).op ≡ b → (b || is_forget (get_or alone.parted.after k d).op) ≡ true) [
+        elim (is_heur (get_or alone.after k d).op) as (λ b. is_heur (get_or alone.after k d).op ≡ b → (b || is_forget (get_or alone.after k d).op) ≡ true) [
           | true ↦ λ h. refl
           | false ↦ λ h.
-              let between : IsBetween t n last (get_or alone.parted.after k d) = only alone.parted.before alone.parted.after (request_of t n P) alone.parted.place refl refl k d lt named h in
-              let up = all_later t alone.parted.after (suc n) z.post alone.parted.later k d lt between.thread in
+              let between : IsBetween t n last (get_or alone.after k d) = only alone.before alone.after (request_of t n P) alone.place refl refl k d lt named h in
+              let up = above site n P alone.before alone.after alone.sides k d lt between.thread in
               let down = between.below in
               let limit = z.limit in
               absurd (omega (arith, up, down, limit))
@@ -165,42 +159,42 @@ module _ (law : Tabled) (t : ℕ) (x : XidName) (T : Tables) (H : History) (open
     -- the vote tells what became of it
     voted_so : (e : Ending) (f : Fate) → is_yes vote ≡ false → is_in_doubt e ≡ false → told_fate e ≡ Some f → prepare_fate vote ≡ Some f → is_unknown f ≡ false → Goal e
     voted_so e f y sure named makes known =
-        let own : fate_of x P (next t P (tables_after alone.parted.before T)).1 ≡ Some f =
-        ap (fate_of x P) (sym alone.code) ∙ at_true (xid_eq x x) _ None (self x) ∙ makes in
-        no_vote e y sure (λ g is. ended alone.parted.before alone.parted.after (request_of t n P) f alone.parted.place own known decides_after ∙ (let s : Some f ≡ Some g = sym named ∙ is in cc))
+        let own : fate_of x P (next t P (tables_after alone.before T)).1 ≡ Some f =
+        ap (fate_of x P) (sym alone.code) ∙ at_true (xid_eq x x) _ None (xid_self x) ∙ makes in
+        no_vote e y sure (λ g is. ended alone.before alone.after (request_of t n P) f alone.place own known decides_after ∙ (let s : Some f ≡ Some g = sym named ∙ is in cc))
 
     broken_code : is_rolled_back vote ≡ true → vote ≡ RbIntegrity
-    broken_code back = alone.code ∙ law.breaks t x (tables_after alone.parted.before T) (sym (ap is_rolled_back alone.code) ∙ back)
+    broken_code back = alone.code ∙ site.law.breaks t x (tables_after alone.before T) (sym (ap is_rolled_back alone.code) ∙ back)
 
   -- ---- a second request was sent
 
-  module _ (op : Op) (c : Code) (z : Sends t x T H a vote ops pairs carried answered op c last) where
-    abbrev f : First t x T H a vote ops pairs carried answered (op ∷ z.post)
-    f = first t x T H a vote ops pairs carried answered (op ∷ z.post) ((n + 1, c) ∷ z.more) z.sent z.collected
+  module _ (op : Op) (c : Code) (z : Sends site x n last vote op c) where
+    abbrev f : At site n P vote
+    f = z.first
 
-    abbrev s : Second t x T H a vote ops pairs carried answered op c z.post f
-    s = second_of t x T H a vote ops pairs carried answered op c z.post z.more z.collected f
+    abbrev s : Second site n P vote f op c
+    s = second_of site n P vote f op c z.second
 
     abbrev S : Request
     S = request_of t (suc n) op
 
     abbrev now : Tables
-    now = (next t P (tables_after f.parted.before T)).0
+    now = (next t P (tables_after f.before T)).0
 
     abbrev there : Tables
     there = tables_after s.mid now
 
     abbrev all_before : History
-    all_before = f.parted.before ++ request_of t n P ∷ s.mid
+    all_before = f.before ++ request_of t n P ∷ s.mid
 
     allowed : All (IsAllowed t x n last) (s.mid ++ S ∷ s.rest)
-    allowed = subst (All (IsAllowed t x n last)) s.split (only f.parted.before f.parted.after (request_of t n P) f.parted.place refl refl)
+    allowed = subst (All (IsAllowed t x n last)) s.split (only f.before f.after (request_of t n P) f.place refl refl)
 
     waiting : LeavesWaiting t x s.mid
     waiting = leaves_waiting t x n last s.mid S s.rest allowed s.others
 
     decides_rest : OnlyDecides x s.rest
-    decides_rest = only_decides t x n last s.mid S s.rest allowed (λ k d lt own below. z.forgets s.rest s.later k d lt own below)
+    decides_rest = only_decides t x n last s.mid S s.rest allowed (rest_forgets site x n last vote op c z f s)
 
     code_there : c ≡ (next t op (tables_after all_before T)).1
     code_there = s.code ∙ ap (λ (U : Tables). (next t op U).1) (sym s.there_is)
@@ -214,16 +208,16 @@ module _ (law : Tabled) (t : ℕ) (x : XidName) (T : Tables) (H : History) (open
     told_by d none is =
         let U : Tables = tables_after all_before T in
         let unprepared : is_prepared (next t op U).0 x ≡ false = ap (λ (V : Tables). is_prepared V x) is.unchanged ∙ ap is_S3 is.state in
-        let quiet : fates x (S ∷ s.rest) U ≡ [] = λ i. cons_option ((ap (fate_of x op) (sym code_there) ∙ none) i) (law.undecided s.rest x (next t op U).0 unprepared decides_rest i) in
-        law.leaves H x f0 T ∙ ap (λ (h : History). fate_in x f0 (coded h T)) s.place
+        let quiet : fates x (S ∷ s.rest) U ≡ [] = λ i. cons_option ((ap (fate_of x op) (sym code_there) ∙ none) i) (site.law.undecided s.rest x (next t op U).0 unprepared decides_rest i) in
+        site.law.leaves H x f0 T ∙ ap (λ (h : History). fate_in x f0 (coded h T)) s.place
         ∙ ap (last_or f0) (fates_both x all_before (S ∷ s.rest) T ∙ ap (λ l. fates x all_before T ++ l) quiet ∙ append-nil (fates x all_before T))
-        ∙ sym (law.leaves all_before x f0 T) ∙ (law.kept all_before x f0 T opening fits).decided d is.state
+        ∙ sym (site.law.leaves all_before x f0 T) ∙ (site.law.kept all_before x f0 T site.opening fits).decided d is.state
 
     -- ---- after a yes vote
 
     module _ (agreed : vote ≡ Done) where
       w : AwaitsAfter t x s.mid now
-      w = law.awaits f.parted.before s.mid t x T opening (sym f.code ∙ agreed) waiting
+      w = site.law.awaits f.before s.mid t x T site.opening (sym f.code ∙ agreed) waiting
 
       -- a decision of it was carried out between the two
       decided_between : (d : HeuristicDecision) → fates x s.mid now ≡ decided_fate d ∷ [] → IsDecidedAfter x t n T H
@@ -232,17 +226,17 @@ module _ (law : Tabled) (t : ℕ) (x : XidName) (T : Tables) (H : History) (open
           let named : names x p.request.op ≡ true = named_by x p.request.op _ (decided_fate d) p.fate_here in
           let heur : is_heur p.request.op ≡ true = (mid_of p.before p.request p.after (subst (LeavesWaiting t x) p.place waiting)).0 named in
           record {
-            before = f.parted.before;
+            before = f.before;
             request = request_of t n P;
             between = p.before;
             decision = p.request;
             after = p.after ++ S ∷ s.rest;
-            place = f.parted.place ∙ ap (λ l. f.parted.before ++ request_of t n P ∷ l) (s.split ∙ ap (λ l. l ++ S ∷ s.rest) p.place ∙ append_assoc p.before (p.request ∷ p.after) (S ∷ s.rest));
+            place = f.place ∙ ap (λ l. f.before ++ request_of t n P ∷ l) (s.split ∙ ap (λ l. l ++ S ∷ s.rest) p.place ∙ append_assoc p.before (p.request ∷ p.after) (S ∷ s.rest));
             thread = refl;
             number = refl;
             named = named;
             decides = heur;
-            carried_out = ap (λ (U : Tables). (next p.request.thread p.request.op U).1) (tables_after-append f.parted.before (request_of t n P ∷ p.before) T)
+            carried_out = ap (λ (U : Tables). (next p.request.thread p.request.op U).1) (tables_after-append f.before (request_of t n P ∷ p.before) T)
                 ∙ carried_out_by x p.request.op (next p.request.thread p.request.op (tables_after p.before now)).1 (decided_fate d) heur p.fate_here;
           }
         where
@@ -251,10 +245,10 @@ module _ (law : Tabled) (t : ℕ) (x : XidName) (T : Tables) (H : History) (open
           mid_of (q ∷ before) r after all = mid_of before r after (λ k d lt. all (suc k) d (omega arith))
 
       -- the manager is shut at its second request, and what became of it since its Prepare is all
-      at_shut : there.shut ≡ true → fates x f.parted.after now ≡ fates_when w.decision
+      at_shut : there.shut ≡ true → fates x f.after now ≡ fates_when w.decision
       at_shut closed =
           ap (λ (h : History). fates x h now) s.split ∙ fates_both x s.mid (S ∷ s.rest) now
-          ∙ (λ i. w.fates i ++ law.silent (S ∷ s.rest) x there closed i) ∙ append-nil (fates_when w.decision)
+          ∙ (λ i. w.fates i ++ site.law.silent (S ∷ s.rest) x there closed i) ∙ append-nil (fates_when w.decision)
 
       after_shut : there.shut ≡ true → IsAfterShut t (n + 1) H
       after_shut e = record {
@@ -264,16 +258,16 @@ module _ (law : Tabled) (t : ℕ) (x : XidName) (T : Tables) (H : History) (open
         place = s.place;
         thread = refl;
         number = let q : suc n ≡ n + 1 = omega arith in q;
-        shut = sym (law.shuts all_before T opening) ∙ ap (λ (U : Tables). U.shut) s.there_is ∙ e;
+        shut = sym (site.law.shuts all_before T site.opening) ∙ ap (λ (U : Tables). U.shut) s.there_is ∙ e;
       }
 
-      first_fate : (fs : List Fate) → fates x f.parted.after now ≡ fs → fate x f0 H T ≡ last_or history.InDoubt fs
+      first_fate : (fs : List Fate) → fates x f.after now ≡ fs → fate x f0 H T ≡ last_or history.InDoubt fs
       first_fate fs made =
-          let own : fate_of x P (next t P (tables_after f.parted.before T)).1 ≡ Some history.InDoubt =
-          ap (fate_of x P) (sym f.code ∙ agreed) ∙ at_true (xid_eq x x) _ None (self x) in
-          law.leaves H x f0 T ∙ ap (λ (h : History). fate_in x f0 (coded h T)) f.parted.place
-          ∙ ap (last_or f0) (fates_both x f.parted.before (request_of t n P ∷ f.parted.after) T ∙ (λ i. fates x f.parted.before T ++ cons_option (own i) (made i)))
-          ∙ last_from (fates x f.parted.before T) f0
+          let own : fate_of x P (next t P (tables_after f.before T)).1 ≡ Some history.InDoubt =
+          ap (fate_of x P) (sym f.code ∙ agreed) ∙ at_true (xid_eq x x) _ None (xid_self x) in
+          site.law.leaves H x f0 T ∙ ap (λ (h : History). fate_in x f0 (coded h T)) f.place
+          ∙ ap (last_or f0) (fates_both x f.before (request_of t n P ∷ f.after) T ∙ (λ i. fates x f.before T ++ cons_option (own i) (made i)))
+          ∙ last_from (fates x f.before T) f0
         where
           last_from : (gs : List Fate) (g : Fate) → last_or g (gs ++ history.InDoubt ∷ fs) ≡ last_or history.InDoubt fs
           last_from [] g = refl
@@ -282,7 +276,7 @@ module _ (law : Tabled) (t : ℕ) (x : XidName) (T : Tables) (H : History) (open
       in_doubt : there.shut ≡ true → (fate x f0 H T ≡ history.InDoubt) ⊎ ((d : HeuristicDecision) × ((fate x f0 H T ≡ decided_fate d) × IsDecidedAfter x t n T H))
       in_doubt closed =
           let fs = at_shut closed in
-          elim (w.decision) as (λ o. fates x s.mid now ≡ fates_when o → fates x f.parted.after now ≡ fates_when o → (fate x f0 H T ≡ history.InDoubt) ⊎ ((d : HeuristicDecision) × ((fate x f0 H T ≡ decided_fate d) × IsDecidedAfter x t n T H))) [
+          elim (w.decision) as (λ o. fates x s.mid now ≡ fates_when o → fates x f.after now ≡ fates_when o → (fate x f0 H T ≡ history.InDoubt) ⊎ ((d : HeuristicDecision) × ((fate x f0 H T ≡ decided_fate d) × IsDecidedAfter x t n T H))) [
             | None ↦ λ made all. inl (first_fate [] all)
             | Some d ↦ λ made all. inr (d, (first_fate (decided_fate d ∷ []) all, decided_between d made))
           ] w.fates fs
@@ -330,52 +324,49 @@ module _ (law : Tabled) (t : ℕ) (x : XidName) (T : Tables) (H : History) (open
   -- ---- after a vote against
 
   commit_quiet : (d : HeuristicDecision) → fate_of x (Commit x false) (decision_code d) ≡ None
-  commit_quiet decision.Commit = at_true (xid_eq x x) _ None (self x)
-  commit_quiet decision.Rollback = at_true (xid_eq x x) _ None (self x)
+  commit_quiet decision.Commit = at_true (xid_eq x x) _ None (xid_self x)
+  commit_quiet decision.Rollback = at_true (xid_eq x x) _ None (xid_self x)
 
   rollback_quiet : (d : HeuristicDecision) → fate_of x (Rollback x) (decision_code d) ≡ None
-  rollback_quiet decision.Commit = at_true (xid_eq x x) _ None (self x)
-  rollback_quiet decision.Rollback = at_true (xid_eq x x) _ None (self x)
+  rollback_quiet decision.Commit = at_true (xid_eq x x) _ None (xid_self x)
+  rollback_quiet decision.Rollback = at_true (xid_eq x x) _ None (xid_self x)
 
-  refused : (c : Code) → is_yes vote ≡ false → Sends t x T H a vote ops pairs carried answered (Rollback x) c last → Goal (no_ending vote (Some c))
+  refused : (c : Code) → is_yes vote ≡ false → Sends site x n last vote (Rollback x) c → Goal (no_ending vote (Some c))
   refused c y z =
       by_if Goal (is_done c || is_rolled_back c) RolledBack _ (λ back.
-      no_vote RolledBack y refl (λ g is. ended_by (Rollback x) c z history.RolledBack (at_true (xid_eq x x) _ None (self x) ∙ at_true (is_done c || is_rolled_back c) _ None back) refl ∙ (let q : Some history.RolledBack ≡ Some g = is in cc))) (λ _.
+      no_vote RolledBack y refl (λ g is. ended_by (Rollback x) c z history.RolledBack (at_true (xid_eq x x) _ None (xid_self x) ∙ at_true (is_done c || is_rolled_back c) _ None back) refl ∙ (let q : Some history.RolledBack ≡ Some g = is in cc))) (λ _.
       by_if Goal (is_heuristic_code c) (Heuristic c) (Left c) (λ _. no_vote (Heuristic c) y refl (heuristic_told c z)) (λ _. no_vote (Left c) y refl (λ g is. cc)))
     where
-      told_with : (d : HeuristicDecision) (c : Code) → c ≡ decision_code d → Sends t x T H a vote ops pairs carried answered (Rollback x) c last → fate x f0 H T ≡ decided_fate d
-      told_with d c is z = told_by (Rollback x) c z d (ap (fate_of x (Rollback x)) is ∙ rollback_quiet d) (law.rollback_tells t x d _ (sym (code_there (Rollback x) c z) ∙ is))
+      told_with : (d : HeuristicDecision) (c : Code) → c ≡ decision_code d → Sends site x n last vote (Rollback x) c → fate x f0 H T ≡ decided_fate d
+      told_with d c is z = told_by (Rollback x) c z d (ap (fate_of x (Rollback x)) is ∙ rollback_quiet d) (site.law.rollback_tells t x d _ (sym (code_there (Rollback x) c z) ∙ is))
 
-      heuristic_told : (c : Code) → Sends t x T H a vote ops pairs carried answered (Rollback x) c last → (g : Fate) → told_fate (Heuristic c) ≡ Some g → fate x f0 H T ≡ g
+      heuristic_told : (c : Code) → Sends site x n last vote (Rollback x) c → (g : Fate) → told_fate (Heuristic c) ≡ Some g → fate x f0 H T ≡ g
       heuristic_told HeurCom z g is = told_with decision.Commit HeurCom refl z ∙ (let q : Some history.HeurCommitted ≡ Some g = is in cc)
       heuristic_told HeurRb z g is = told_with decision.Rollback HeurRb refl z ∙ (let q : Some history.HeurRolledBack ≡ Some g = is in cc)
       heuristic_told c z g is = cc
 
--- what became of a branch of a call that nobody else named, but for heuristic decisions
-pub branch_told : (law : Tabled) (t : ℕ) (b : Branch) (vote : Code) (second : Option Code) (commit : Bool) (a a' : LedgerView) (T : Tables) (H : History) (ops : List Op) (pairs : List (ℕ × Code)) → IsOpening T → (f0 : Fate) → IsFateOf b.xid f0 T
-    → of_thread t H ≡ numbered t 0 ops → All (λ p. slice_get (answers t (coded H T)) p.0 ≡ Some p) pairs → Begins a'.sent ops → Begins a'.collected pairs
-    → OnlyTheseOrDecisionsName b.xid t (length a.sent) (length a'.sent) H → BranchTrace commit b vote second a a' → Told t b.xid f0 T H (length a.sent) vote (ending_of commit vote second)
-branch_told law t b vote second commit a a' T H ops pairs opening f0 fits carried answered sent collected only tr =
-    by_course (ending_of commit vote second) (course_of t b vote second commit a a' T H ops pairs carried answered sent collected tr)
+-- what became of a branch of a commit that nobody else named, but for heuristic decisions
+pub branch_told : {t : ℕ} {T : Tables} {H : History} (site : Site t T H) (b : Branch) (commit : Bool) (vote : Code) (second : Option Code) (ending : Ending) (old new : Sent) → AtBranch (AsksIn t T H) commit b vote second ending old new
+    → (f0 : Fate) → IsFateOf b.xid f0 T → OnlyTheseOrDecisionsName b.xid t old.number new.number H → Told t b.xid f0 T H old.number vote ending
+branch_told {t} {T} {H} site b commit vote second ending old new is f0 fits only = by_course ending (course_of site b commit vote second ending old new is)
   where
     read_not : is_read vote ≡ true → is_yes vote ≡ false
     read_not r = ap is_yes (read_is vote r)
 
-    by_decision : (commit : Bool) (c : Code) → is_yes vote ≡ true → Sends t b.xid T H a vote ops pairs carried answered (if commit then Commit b.xid false else Rollback b.xid) c (length a'.sent) → Told t b.xid f0 T H (length a.sent) vote (yes_ending commit (Some c))
+    by_decision : (commit : Bool) (c : Code) → is_yes vote ≡ true → Sends site b.xid old.number new.number vote (if commit then Commit b.xid false else Rollback b.xid) c → Told t b.xid f0 T H old.number vote (yes_ending commit (Some c))
     by_decision true c y z =
-        outcome law t b.xid T H opening f0 fits a vote ops pairs carried answered (length a'.sent) only (Commit b.xid false) c z (yes_is vote y) Committed history.Committed refl refl refl refl refl (at_true (xid_eq b.xid b.xid) _ None (self b.xid))
-        (commit_quiet law t b.xid T H opening f0 fits a vote ops pairs carried answered (length a'.sent) only) (λ o U h. h.commits) (λ d U. law.commit_tells t b.xid d U)
+        outcome site b.xid f0 fits old.number new.number vote only (Commit b.xid false) c z (yes_is vote y) Committed history.Committed refl refl refl refl refl (at_true (xid_eq b.xid b.xid) _ None (xid_self b.xid))
+        (commit_quiet site b.xid f0 fits old.number new.number vote only) (λ o U h. h.commits) (λ d U. site.law.commit_tells t b.xid d U)
     by_decision false c y z =
-        outcome law t b.xid T H opening f0 fits a vote ops pairs carried answered (length a'.sent) only (Rollback b.xid) c z (yes_is vote y) RolledBack history.RolledBack refl refl refl refl refl (at_true (xid_eq b.xid b.xid) _ None (self b.xid))
-        (rollback_quiet law t b.xid T H opening f0 fits a vote ops pairs carried answered (length a'.sent) only) (λ o U h. h.rolls_back) (λ d U. law.rollback_tells t b.xid d U)
+        outcome site b.xid f0 fits old.number new.number vote only (Rollback b.xid) c z (yes_is vote y) RolledBack history.RolledBack refl refl refl refl refl (at_true (xid_eq b.xid b.xid) _ None (xid_self b.xid))
+        (rollback_quiet site b.xid f0 fits old.number new.number vote only) (λ o U h. h.rolls_back) (λ d U. site.law.rollback_tells t b.xid d U)
 
-    by_course : (e : Ending) → Course t b.xid T H a vote ops pairs carried answered a' sent collected commit e → Told t b.xid f0 T H (length a.sent) vote e
-    by_course _ (Unreached same code) = no_vote law t b.xid T H opening f0 fits a vote ops pairs carried answered (length a'.sent) only (Left RmFail) (ap is_yes code) refl (λ f e. cc)
-    by_course _ (Reads r z) =
-        voted_so law t b.xid T H opening f0 fits a vote ops pairs carried answered (length a'.sent) only z ReadOnly history.ReadOnly (read_not r) refl refl (ap prepare_fate (read_is vote r)) refl
+    by_course : (e : Ending) → Course site b.xid old.number new.number vote commit e → Told t b.xid f0 T H old.number vote e
+    by_course _ (Unreached same code) = no_vote site b.xid f0 fits old.number new.number vote only (Left RmFail) (ap is_yes code) refl (λ f e. cc)
+    by_course _ (Reads r z) = voted_so site b.xid f0 fits old.number new.number vote only z ReadOnly history.ReadOnly (read_not r) refl refl (ap prepare_fate (read_is vote r)) refl
     by_course _ (Breaks k z) =
-        let code : vote ≡ RbIntegrity = broken_code law t b.xid T H opening f0 fits a vote ops pairs carried answered (length a'.sent) only z k in
-        voted_so law t b.xid T H opening f0 fits a vote ops pairs carried answered (length a'.sent) only z RolledBack history.RolledBack (ap is_yes code) refl refl (ap prepare_fate code) refl
-    by_course _ (Stays c y z) = no_vote law t b.xid T H opening f0 fits a vote ops pairs carried answered (length a'.sent) only (Left c) y refl (λ f e. cc)
+        let code : vote ≡ RbIntegrity = broken_code site b.xid f0 fits old.number new.number vote only z k in
+        voted_so site b.xid f0 fits old.number new.number vote only z RolledBack history.RolledBack (ap is_yes code) refl refl (ap prepare_fate code) refl
+    by_course _ (Stays c y z) = no_vote site b.xid f0 fits old.number new.number vote only (Left c) y refl (λ f e. cc)
     by_course _ (Agrees c y z) = by_decision commit c y z
-    by_course _ (Refuses c y r z) = refused law t b.xid T H opening f0 fits a vote ops pairs carried answered (length a'.sent) only c y z
+    by_course _ (Refuses c y r z) = refused site b.xid f0 fits old.number new.number vote only c y z

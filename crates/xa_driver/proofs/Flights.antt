@@ -1,39 +1,32 @@
 -- Requests in flight: what sending and collecting one leaves of the others.
-use Rattle.std.specs.Prelude.{◌≡◌, ◌≢◌, ℕ, ◌+◌, ◌<◌, ◌≤◌, Bool, true, false, ◌||◌, ◌==◌, Option, None, Some, List, [], ◌∷◌, ◌++◌, length, refl}
+use Rattle.std.specs.Prelude.{◌≡◌, ◌≢◌, ℕ, ◌+◌, ◌<◌, ◌≤◌, false, ◌||◌, ◌==◌, Option, None, Some, List, [], ◌∷◌, ◌++◌, length, refl}
 use Rattle.std.proofs.Common.{sym, ap, ◌∙◌, subst, arith, length-append}
 use Rattle.std.specs.FinMap as finmap
-use Rattle.std.proofs.lemmas.Bool.{eqb-false, ne_eqb}
+use Rattle.std.proofs.lemmas.Bool.{eqb-false, ne_eqb, or_parts}
 use Rattle.xa_words.specs.declared.code.Code.{Code}
 use Rattle.xa_words.specs.declared.request.Op.{Op}
 use Rattle.xa_desk.specs.LedgerView.{LedgerView, learnt_shut, is_collected, with_sent, with_collected}
 use Rattle.xa_desk.specs.DeskView.{DeskView, TicketView, IsKnown, Owns, ledger, outstanding}
-use Rattle.xa_switch.specs.Seats.{DeskSeat}
+use Rattle.xa_desk.proofs.Ledgers.{known_by}
+use Rattle.xa_switch.specs.Belonging.{DeskSeat}
 use Rattle.xa_driver.specs.declared.ask.Ask.{Ask}
 use Rattle.xa_driver.specs.Asks.{AskTrace, EachAsk, among_asks, AreRising, CanAsk, AllCanAsk, KeepsDesk, IsUnsent, unsent_code, BeginsAsk, Ends, HasBegun, EachBegan}
 use Rattle.xa_driver.proofs.Ledgers.{open_count}
-use Rattle.xa_base.proofs.Truth.{at_false}
-use Rattle.xa_driver.proofs.Asking.{sent_by, Moved, at_true, began_moved, ended_moved, collected_of, known_by, sent_is}
+use Rattle.xa_base.proofs.Truth.{at_false, at_true}
+use Rattle.xa_driver.proofs.Asking.{sent_by, Moved, began_moved, ended_moved, collected_of, sent_is}
 
 -- ---- which managers are among requests
 
-pub left_falls : (x y : Bool) → (x || y) ≡ false → x ≡ false
-left_falls true y e = e
-left_falls false y e = refl
-
-pub right_falls : (x y : Bool) → (x || y) ≡ false → y ≡ false
-right_falls true y e = cc
-right_falls false y e = e
-
 pub apart : (k : Ask) (ks : List Ask) (m : ℕ) → among_asks (k ∷ ks) m ≡ false → k.manager ≢ m
-apart k ks m none e = eqb-false k.manager m (left_falls _ _ none) e
+apart k ks m none e = eqb-false k.manager m (or_parts _ _ none).0 e
 
 pub among_first_part : (js bs : List Ask) (m : ℕ) → among_asks (js ++ bs) m ≡ false → among_asks js m ≡ false
 among_first_part [] bs m none = refl
-among_first_part (a ∷ js) bs m none = (λ i. left_falls (a.manager == m) _ none i || among_first_part js bs m (right_falls (a.manager == m) _ none) i)
+among_first_part (a ∷ js) bs m none = (λ i. (or_parts (a.manager == m) _ none).0 i || among_first_part js bs m (or_parts (a.manager == m) _ none).1 i)
 
 pub among_last_part : (js bs : List Ask) (m : ℕ) → among_asks (js ++ bs) m ≡ false → among_asks bs m ≡ false
 among_last_part [] bs m none = none
-among_last_part (a ∷ js) bs m none = among_last_part js bs m (right_falls (a.manager == m) _ none)
+among_last_part (a ∷ js) bs m none = among_last_part js bs m (or_parts (a.manager == m) _ none).1
 
 -- ---- rising requests
 
@@ -55,10 +48,6 @@ rising_last_part lo (a ∷ js) k bs r = rising_last_part a.manager js k bs r.1
 pub rising_first_part : (lo : ℕ) (js bs : List Ask) → AreRising lo (js ++ bs) → AreRising lo js
 rising_first_part lo [] bs r = tt
 rising_first_part lo (a ∷ js) bs r = (r.0, rising_first_part a.manager js bs r.1)
-
-pub rising_to : (lo : ℕ) (js : List Ask) (k : Ask) (bs : List Ask) → AreRising lo (js ++ k ∷ bs) → AreRising lo (js ++ k ∷ [])
-rising_to lo [] k bs r = (r.0, tt)
-rising_to lo (a ∷ js) k bs r = (r.0, rising_to a.manager js k bs r.1)
 
 pub can_at : (js : List Ask) (k : Ask) (bs : List Ask) (at : List LedgerView) → AllCanAsk (js ++ k ∷ bs) at → CanAsk at k.manager
 can_at [] k bs at c = c.0
@@ -98,13 +87,13 @@ begun_stays lo [] [] at d d' m a' up none moved h = tt
 begun_stays lo [] (r ∷ rs) at d d' m a' up none moved h = absurd h
 begun_stays lo (k ∷ ks) [] at d d' m a' up none moved h = absurd h
 begun_stays lo (k ∷ ks) (r ∷ rs) at d d' m a' up none moved h =
-    (one_stays k r at d d' m a' (let z = up.0 in omega arith) (apart k ks m none) moved h.0, begun_stays k.manager ks rs at d d' m a' up.1 (right_falls (k.manager == m) _ none) moved h.1)
+    (one_stays k r at d d' m a' (let z = up.0 in omega arith) (apart k ks m none) moved h.0, begun_stays k.manager ks rs at d d' m a' up.1 (or_parts (k.manager == m) _ none).1 moved h.1)
 
 pub asked_stays : (lo : ℕ) (ks : List Ask) (at : List LedgerView) (d d' : DeskView) (m : ℕ) (a' : LedgerView) → AreRising lo ks → among_asks ks m ≡ false → Moved m a' d d' → EachAsk ks at d.ledgers → EachAsk ks at d'.ledgers
 asked_stays lo [] at d d' m a' up none moved h = tt
 asked_stays lo (k ∷ ks) at d d' m a' up none moved h = (
   subst (λ (a : LedgerView). AskTrace k.op k.code (ledger at k.manager) a) (sym (moved.others k.manager (let z = up.0 in omega arith) (apart k ks m none))) h.0,
-  asked_stays k.manager ks at d d' m a' up.1 (right_falls (k.manager == m) _ none) moved h.1,
+  asked_stays k.manager ks at d d' m a' up.1 (or_parts (k.manager == m) _ none).1 moved h.1,
 )
 
 -- ---- one more request

@@ -1,13 +1,13 @@
 -- A round of requests: as they are collected one after another, and when all are.
 use Rattle.std.specs.Prelude.{◌≡◌, ℕ, ◌+◌, ◌-◌, ◌<◌, ◌≤◌, true, false, ◌||◌, ◌==◌, Option, None, Some, List, [], ◌∷◌, length, fold, refl}
-use Rattle.std.proofs.Common.{sym, ap, ◌∙◌, subst, arith, get_or, set, suc, zero, length-append}
+use Rattle.std.proofs.Common.{ap, ◌∙◌, subst, arith, get_or, set, suc, zero, length-append}
 use Rattle.std.proofs.lemmas.Bool.{eqb-true, ne_eqb}
 use Rattle.xa_words.specs.declared.code.Code.{Code}
 use Rattle.xa_words.specs.declared.request.Op.{Op}
 use Rattle.xa_desk.specs.LedgerView.{LedgerView, learnt_shut}
 use Rattle.xa_desk.specs.DeskView.{ledger, no_ledger, outstanding}
 use Rattle.xa_driver.specs.declared.ask.Ask.{Ask}
-use Rattle.xa_driver.specs.Asks.{asked, EachAsk, among_asks, Asks, SameAsks, IsSameAsk, AreRising, CanAsk, AllCanAsk}
+use Rattle.xa_driver.specs.Asks.{asked, EachAsk, among_asks, Asks, SameAsks, IsSameAsk, AreRising}
 use Rattle.xa_driver.proofs.Ledgers.{open_count}
 use Rattle.xa_base.proofs.Truth.{by_if}
 
@@ -32,12 +32,6 @@ same_among [] [] m s = refl
 same_among [] (k ∷ ks) m s = absurd s
 same_among (j ∷ js) [] m s = absurd s
 same_among (j ∷ js) (k ∷ ks) m s = λ i. (s.0.manager i == m) || same_among js ks m s.1 i
-
-same_can : (js ks : List Ask) (at : List LedgerView) → SameAsks js ks → AllCanAsk js at → AllCanAsk ks at
-same_can [] [] at s c = tt
-same_can [] (k ∷ ks) at s c = absurd s
-same_can (j ∷ js) [] at s c = absurd s
-same_can (j ∷ js) (k ∷ ks) at s c = (subst (CanAsk at) (sym s.0.manager) c.0, same_can js ks at s.1 c.1)
 
 -- what rises after a manager doesn't reach it
 pub behind : (lo m : ℕ) (ks : List Ask) → m ≤ lo → AreRising lo ks → among_asks ks m ≡ false

@@ -10,6 +10,7 @@ use Rattle.xa_words.specs.declared.code.Code.TheVariants.{Done, Proto, RmFail}
 use Rattle.xa_words.specs.declared.request.Op.{Op}
 use Rattle.xa_words.specs.declared.request.Op.TheVariants.{Prepare, Commit, Rollback, Forget}
 use Rattle.xa_words.specs.declared.request.Request.{Request}
+use Rattle.xa_words.proofs.Xids.{xid_self}
 use Rattle.xa_tables.specs.declared.state.State.{State}
 use Rattle.xa_tables.specs.declared.state.State.TheVariants.{Prepared, HeuristicallyCompleted}
 use Rattle.xa_tables.specs.declared.state.HeuristicDecision.{HeuristicDecision}
@@ -17,7 +18,7 @@ use Rattle.xa_tables.specs.declared.state.HeuristicDecision.TheVariants as decis
 use Rattle.xa_tables.specs.Tables.{Tables, state_of, is_S3, is_S5, is_prepared, exists, is_completed}
 use Rattle.xa_tables.specs.Next.{Answer, next, commit_two, rollback, by_rules}
 use Rattle.xa_tables.specs.History as history
-use Rattle.xa_tables.specs.History.{History, Fate, coded, fate, fate_in, fate_of, tables_after, last_or, decided_fate, is_in_doubt as is_unknown}
+use Rattle.xa_tables.specs.History.{History, Fate, fate, fate_of, tables_after, last_or, decided_fate, is_in_doubt as is_unknown}
 use Rattle.xa_tables.specs.Openings.{IsOpening}
 use Rattle.xa_tables.specs.Prepared.{names, is_heur, AwaitsAfter, fates_when, state_when}
 use Rattle.xa_tables.proofs.HeuristicLaw.{Decides, Nothing, Completes, decides}
@@ -28,8 +29,7 @@ use Rattle.xa_driver.specs.Resolution.{ended_as}
 use Rattle.xa_driver.specs.Tabled.{Tabled}
 use Rattle.xa_driver.proofs.Leading.{Stands, waits, unforgotten, over, Leads, Led, Standing, step_led}
 use Rattle.xa_driver.proofs.Placing.{request_of, fates, fates_both}
-use Rattle.xa_driver.proofs.Requests.{self}
-use Rattle.xa_driver.proofs.Voting.{once}
+use Rattle.xa_driver.proofs.Voting.{once, ended_known}
 
 -- what the branch may be named in: a heuristic decision, or what leads it
 abbrev pub IsGuided : Bool → Type 0 → XidName → Op → Type 0
@@ -39,10 +39,6 @@ IsGuided commit L x op = names x op ≡ true → is_heur op ≡ false → Leads 
 pub record IsGuidedTo (commit : Bool) (D L : Type 0) (x : XidName) (f : Fate) (op : Op) (a : Answer) : Type 0 where
   pub stands : Stands commit true D L (state_of a.0 x) (unwrap_or (fate_of x op a.1) f)
   pub makes : (fate_of x op a.1 ≡ None) ⊎ ((g : Fate) × ((fate_of x op a.1 ≡ Some g) × (is_unknown g ≡ false)))
-
-ended_known : (commit : Bool) → is_unknown (ended_as commit) ≡ false
-ended_known true = refl
-ended_known false = refl
 
 decided_known : (d : HeuristicDecision) → is_unknown (decided_fate d) ≡ false
 decided_known decision.Commit = refl
@@ -115,12 +111,12 @@ module _ (x : XidName) (T : Tables) (past : IsPast (state_of T x)) where
   committing : Quiet (Commit x false) (commit_two x T)
   committing =
       by_if (Quiet (Commit x false)) (not (exists T x)) _ _ (λ _. named_none x x) (λ some.
-      by_if (Quiet (Commit x false)) (is_completed T x) _ _ (λ e. at_true (xid_eq x x) _ None (self x) ∙ decision_commits_nothing (state_of T x) e) (λ open_now. absurd (there some open_now)))
+      by_if (Quiet (Commit x false)) (is_completed T x) _ _ (λ e. at_true (xid_eq x x) _ None (xid_self x) ∙ decision_commits_nothing (state_of T x) e) (λ open_now. absurd (there some open_now)))
 
   rolling_back : Quiet (Rollback x) (rollback x T)
   rolling_back =
       by_if (Quiet (Rollback x)) (not (exists T x)) _ _ (λ _. named_none x x) (λ some.
-      by_if (Quiet (Rollback x)) (is_completed T x) _ _ (λ e. at_true (xid_eq x x) _ None (self x) ∙ decision_rolls_nothing_back (state_of T x) e) (λ open_now. absurd (there some open_now)))
+      by_if (Quiet (Rollback x)) (is_completed T x) _ _ (λ e. at_true (xid_eq x x) _ None (xid_self x) ∙ decision_rolls_nothing_back (state_of T x) e) (λ open_now. absurd (there some open_now)))
 
   named_quiet : (commit : Bool) (L : Type 0) (t : ℕ) (op : Op) → names x op ≡ true → Leads commit L op → Quiet op (next t op T)
   named_quiet commit L t (Commit y one_phase) n l =
@@ -202,7 +198,7 @@ module _ (law : Tabled) (commit : Bool) (D L : Type 0) (t n : ℕ) (x : XidName)
       undecided_yet w.decision (state_of now x) w.fates w.awaits.state
 
   pub voted_now : fate_of x P (next t P U).1 ≡ Some history.InDoubt
-  voted_now = ap (fate_of x P) agreed ∙ at_true (xid_eq x x) _ None (self x)
+  voted_now = ap (fate_of x P) agreed ∙ at_true (xid_eq x x) _ None (xid_self x)
 
   -- the Prepare made it be in doubt
   pub fates_are : fates x H T ≡ fates x before T ++ history.InDoubt ∷ fates x after now

@@ -3,6 +3,7 @@ use Rattle.std.proofs.Common.{◌≡◌, ℕ, zero, suc, ◌+◌, ◌≤◌, ◌
 use Rattle.std.specs.Prelude.{Bool, IfNone, MatchOption, OnSome, map}
 use Rattle.std.specs.List.{slice_get}
 use Rattle.std.proofs.lemmas.Bool.{eq-eqb}
+use Rattle.std.proofs.Math.Bool.{or-true}
 use Rattle.xa_words.specs.declared.code.Code.{Code}
 use Rattle.xa_words.specs.declared.request.Op.{Op}
 use Rattle.xa_desk.specs.declared.operation.Operation.{Operation}
@@ -28,19 +29,15 @@ use Rattle.xa_driver.proofs.Staged.{seconds_are}
 use Rattle.xa_driver.proofs.Gathering.{same_among}
 use Rattle.xa_driver.proofs.Stepping.{first_one}
 
-or_true : (b : Bool) → (b || true) ≡ true
-or_true true = refl
-or_true false = refl
-
 -- one that stands among the requests is to one of their managers
 among_seam : (js : List Ask) (k : Ask) (ks : List Ask) → among_asks (js ++ k ∷ ks) k.manager ≡ true
 among_seam [] k ks = ap (λ b. b || among_asks ks k.manager) (eq-eqb k.manager k.manager refl)
-among_seam (j ∷ js) k ks = ap (λ b. (j.manager == k.manager) || b) (among_seam js k ks) ∙ or_true (j.manager == k.manager)
+among_seam (j ∷ js) k ks = ap (λ b. (j.manager == k.manager) || b) (among_seam js k ks) ∙ or-true (j.manager == k.manager)
 
 among_at : (ks : List Ask) (n : ℕ) (k : Ask) → slice_get ks n ≡ Some k → among_asks ks k.manager ≡ true
 among_at [] n k e = cc
 among_at (j ∷ ks) zero k e = let same : j ≡ k = cc in ap (λ b. b || among_asks ks k.manager) (eq-eqb j.manager k.manager (ap (λ (l : Ask). l.manager) same))
-among_at (j ∷ ks) (suc n) k e = ap (λ b. (j.manager == k.manager) || b) (among_at ks n k e) ∙ or_true (j.manager == k.manager)
+among_at (j ∷ ks) (suc n) k e = ap (λ b. (j.manager == k.manager) || b) (among_at ks n k e) ∙ or-true (j.manager == k.manager)
 
 module _ {I : Type 0} (by : ℕ → I → I → Type 0) where
   pub idles_start : (these : ℕ → Bool) (x : I) → IdlesAt by these x x

@@ -9,7 +9,7 @@ use Rattle.xa_desk.specs.declared.operation.Operation.{Operation}
 use Rattle.xa_desk.specs.LedgerView.{LedgerView, is_collected, learnt_shut, with_sent, with_collected}
 use Rattle.xa_desk.specs.DeskView.{DeskView, IsOut, ledger}
 use Rattle.xa_desk.specs.Kept.{AllKept}
-use Rattle.xa_switch.proofs.Outstanding.{collected_push}
+use Rattle.xa_desk.proofs.Ledgers.{is_collected-push}
 use Rattle.xa_driver.specs.declared.ask.Ask.{Ask}
 use Rattle.xa_driver.specs.Asks.{Asks, EachAsk, KeepsDesk, among_asks, asked}
 
@@ -21,20 +21,14 @@ pub record Leaves (a a' : LedgerView) : Type 0 where
 leaves_same : (a : LedgerView) → Leaves a a
 leaves_same a = record { sent = λ n within fresh. within; open_ = λ n fresh. fresh }
 
-leaves_both : (a b c : LedgerView) → Leaves a b → Leaves b c → Leaves a c
-leaves_both a b c first later = record {
-  sent = λ n within fresh. first.sent n (later.sent n within fresh) (later.open_ n fresh);
-  open_ = λ n fresh. first.open_ n (later.open_ n fresh);
-}
-
 -- a request that is sent and collected leaves what is outstanding
 leaves_answered : (a : LedgerView) (op : Op) (code : Code) → Leaves a (with_collected (with_sent a op) (length a.sent) code)
 leaves_answered a op code = record {
   sent = λ n within fresh.
-      let parts = or_parts (is_collected a n) (nat_eq n (length a.sent) || false) (sym (collected_push (with_sent a op) (length a.sent) code n) ∙ fresh) in
+      let parts = or_parts (is_collected a n) (nat_eq n (length a.sent) || false) (sym (is_collected-push (with_sent a op) (length a.sent) code n) ∙ fresh) in
       let differs = eqb-false n (length a.sent) (or_parts (nat_eq n (length a.sent)) false parts.1).0 in
       omega (arith, within, differs, length-append a.sent (op ∷ []));
-  open_ = λ n fresh. (or_parts (is_collected a n) (nat_eq n (length a.sent) || false) (sym (collected_push (with_sent a op) (length a.sent) code n) ∙ fresh)).0;
+  open_ = λ n fresh. (or_parts (is_collected a n) (nat_eq n (length a.sent) || false) (sym (is_collected-push (with_sent a op) (length a.sent) code n) ∙ fresh)).0;
 }
 
 either_leaves : (a b : LedgerView) (shut : Bool) → Leaves a b → Leaves a (if shut then a else b)

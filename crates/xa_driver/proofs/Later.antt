@@ -5,6 +5,7 @@ use Rattle.std.specs.List.{All, Contains}
 use Rattle.std.proofs.lemmas.List.Elements.{All-head, All-tail, All-contains, Contains-append_left, Contains-append_right, Contains-append_cases}
 use Rattle.xa_base.specs.declared.limits.TheConstants.{MOST_MANAGERS}
 use Rattle.xa_base.specs.Lists.{IsUpTo}
+use Rattle.xa_base.proofs.Lists.{all_left, all_right}
 use Rattle.xa_words.specs.Xid.{XidName, xid_eq}
 use Rattle.xa_words.specs.Orders.{Decides-xid_eq}
 use Rattle.xa_words.specs.Tran.{tran_of}
@@ -37,7 +38,6 @@ use Rattle.xa_driver.proofs.Leading.{IsOver, Stands, waits, unforgotten, over, I
 use Rattle.xa_driver.proofs.Naming.{named_so, named_tran, sent_is}
 use Rattle.xa_driver.proofs.Placing.{fates}
 use Rattle.xa_driver.proofs.Records.{FindsMark}
-use Rattle.xa_driver.proofs.Requests.{all_left, all_right}
 use Rattle.xa_driver.proofs.Resolves.{IsAnsweredIn, left_has, outcome_asked}
 use Rattle.xa_driver.proofs.Settled.{by_ledger}
 use Rattle.xa_driver.specs.Tabled.{Tabled}
@@ -135,11 +135,6 @@ module _ (law : Tabled) (first : (s : Settling) (m : ℕ) (T : Tables) → IsSet
       answered =
           subst (All (λ (p : ℕ × Code). slice_get (answers t (coded H T)) p.0 ≡ Some p)) (by_ledger (ledgers_of o.settled t) m (λ (z : LedgerView). z.collected) up.0 refl)
           (subst (λ (J : List Entry). All (λ (p : ℕ × Code). slice_get (answers t J) p.0 ≡ Some p) (collected o.settled t m)) with_T.codes (w.kept.settled.agree t m).coded)
-
-      pub mark_of : (r : Outcome) → Contains q.outcomes r → r.m ≡ m → r.xid ≡ x → r.commit ≡ commit
-      mark_of r among own same =
-          let asked = outcome_asked q.scan q.records q.old q.new q.outcomes use_.made m up (ledger (ledgers_of o.settled t) m) (use_.grown.each m up.0) r among own in
-          asked.decision ∙ ap (is_to_commit q.records m) same ∙ mark
 
       pub answered_at : (r : Outcome) → Contains q.outcomes r → r.m ≡ m → r.xid ≡ x → r.code ≢ RmFail → Placed t T H (outcome_op commit x) r.code
       answered_at r among own same reached =

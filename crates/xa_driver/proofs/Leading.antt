@@ -2,8 +2,9 @@
 use Rattle.std.specs.Prelude.{◌⊎◌, ◌&&◌, not, cond, is_some, unwrap_or}
 use Rattle.std.proofs.Common.{◌≡◌, ◌≢◌, ℕ, inl, inr, ⊎_elim, Bool, true, false, ◌||◌, if◌then◌else◌, [], ◌∷◌, sym, refl, ap, ◌∙◌, subst, Option, Some, None}
 use Rattle.std.specs.List.{All, cons_option}
-use Rattle.std.proofs.lemmas.Bool.{not-false}
+use Rattle.std.proofs.lemmas.Bool.{not-false, or_from}
 use Rattle.std.proofs.lemmas.List.Elements.{All-nil, All-cons, All-head, All-tail}
+use Rattle.std.proofs.Math.Bool.{and-false}
 use Rattle.xa_words.specs.Xid.{XidName, xid_eq}
 use Rattle.xa_words.specs.Orders.{Decides-xid_eq}
 use Rattle.xa_words.specs.declared.code.Code.{Code}
@@ -11,6 +12,7 @@ use Rattle.xa_words.specs.declared.code.Code.TheVariants.{Done, Nota, Proto, RmF
 use Rattle.xa_words.specs.declared.request.Op.{Op}
 use Rattle.xa_words.specs.declared.request.Op.TheVariants.{Commit, Rollback, Forget}
 use Rattle.xa_words.specs.declared.request.Request.{Request}
+use Rattle.xa_words.proofs.Xids.{xid_self}
 use Rattle.xa_tables.specs.declared.state.State.{State}
 use Rattle.xa_tables.specs.declared.state.State.TheVariants.{Prepared, HeuristicallyCompleted}
 use Rattle.xa_tables.specs.declared.state.HeuristicDecision.{HeuristicDecision}
@@ -25,12 +27,10 @@ use Rattle.xa_tables.specs.Prepared.{names}
 use Rattle.xa_tables.proofs.Effects.{error_tells, reason_rolls_back, decision_commits_nothing, decision_rolls_nothing_back}
 use Rattle.xa_tables.proofs.Law.{Sound, Nowhere, AtWork, standing, nobody_rests, get_gone, sound_after, last_more}
 use Rattle.xa_tables.proofs.Reopening.{state_reopened}
-use Rattle.xa_tables.proofs.ShutLemmas.{next-shut}
 use Rattle.xa_tables.proofs.Unnamed.{unnamed_fate, unnamed_stays}
 use Rattle.xa_base.proofs.Truth.{by_if, at_false, at_true}
 use Rattle.xa_driver.specs.Resolution.{ended_as}
 use Rattle.xa_driver.specs.Resolving.{outcome_op}
-use Rattle.xa_driver.proofs.Requests.{self}
 use Rattle.xa_driver.proofs.Placing.{fates}
 
 -- it ended as was decided, where it was undecided at first: D; or heuristically, and then it is listed: L
@@ -65,10 +65,10 @@ pub record Standing (commit open_ : Bool) (D L : Type 0) (x : XidName) (T : Tabl
   pub sound : Sound T
 
 named_self : (x : XidName) (o : Option Fate) → (if xid_eq x x then o else None) ≡ o
-named_self x o = at_true (xid_eq x x) o None (self x)
+named_self x o = at_true (xid_eq x x) o None (xid_self x)
 
 gone_state : (T : Tables) (x : XidName) → state_of (gone x T) x ≡ None
-gone_state T x = get_gone T x x ∙ at_true (xid_eq x x) None _ (self x)
+gone_state T x = get_gone T x x ∙ at_true (xid_eq x x) None _ (xid_self x)
 
 -- a branch that stands so isn't at work, so nobody is associated with it
 rests : (commit open_ : Bool) (D L : Type 0) (s : Option State) (f : Fate) → Stands commit open_ D L s f → standing s ≢ AtWork
@@ -187,23 +187,10 @@ led_fates commit open_ D L x (r ∷ h) T f towards s =
 
 -- ---- the request that ends it
 
--- a manager that is shut leaves its tables
-pub shut_stays : (h : History) (T : Tables) → T.shut ≡ true → tables_after h T ≡ T
-shut_stays [] T shut = refl
-shut_stays (r ∷ h) T shut = ap (λ (a : Answer). tables_after h a.0) (next-shut r.thread r.op T shut) ∙ shut_stays h T shut
-
 -- a thread that has it open is answered by the rules, unless it is shut
 asked_now : (t : ℕ) (op : Op) (T : Tables) → T.shut ≡ false → has_opened T t ≡ true → next t op T ≡ by_rules t op T
 unfolding next
-asked_now t op T open_ has = at_false (T.shut) _ _ open_ ∙ at_false (needs_opening op && not (has_opened T t)) _ _ (ap (λ b. needs_opening op && not b) has ∙ and_false (needs_opening op))
-  where
-    and_false : (b : Bool) → (b && false) ≡ false
-    and_false true = refl
-    and_false false = refl
-
-both_false : (a b : Bool) → a ≡ false → b ≡ false → (a || b) ≡ false
-both_false true b e f = cc
-both_false false b e f = f
+asked_now t op T open_ has = at_false (T.shut) _ _ open_ ∙ at_false (needs_opening op && not (has_opened T t)) _ _ (ap (λ b. needs_opening op && not b) has ∙ and-false (needs_opening op))
 
 pub ends_towards : (commit : Bool) (L : Type 0) (x y : XidName) → IsTowards commit L x (outcome_op commit y)
 ends_towards true L x y n = (refl, refl)
@@ -219,7 +206,7 @@ module _ (commit : Bool) (D L : Type 0) (x : XidName) (f : Fate) (T : Tables) (s
       let free : is_somebody_associated T.associations x ≡ false = nobody_rests T sound x (λ w. let z : standing (state_of T x) ≡ standing (Some Prepared) = ap standing e in cc) in
       let answer : next t (Commit x false) T ≡ (gone x (committed x T), Done) =
       asked_now t (Commit x false) T open_ has ∙ at_false (not (exists T x)) _ _ (ap (λ s. not (is_some s)) e) ∙ at_false (is_completed T x) _ _ (ap is_S5 e)
-      ∙ at_false (is_somebody_associated T.associations x || not (is_prepared T x)) _ _ (both_false _ _ free (ap (λ s. not (is_S3 s)) e)) in
+      ∙ at_false (is_somebody_associated T.associations x || not (is_prepared T x)) _ _ (or_from _ _ free (ap (λ s. not (is_S3 s)) e)) in
       subst (Led commit false D L x (Commit x false) f) (sym answer) (gone_so commit false D L x f (Commit x false) Done (committed x T) y (named_self x (Some history.Committed) ∙ ap (λ c. Some (ended_as c)) is))
   prepared_ends y e false is =
       let free : is_somebody_associated T.associations x ≡ false = nobody_rests T sound x (λ w. let z : standing (state_of T x) ≡ standing (Some Prepared) = ap standing e in cc) in

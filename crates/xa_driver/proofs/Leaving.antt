@@ -10,14 +10,15 @@ use Rattle.xa_desk.specs.Kept.{AllKept}
 use Rattle.xa_desk.specs.LedgerView.{LedgerView, with_sent}
 use Rattle.xa_desk.specs.DeskView.{DeskView, TicketView, IsOut, Owns, ledger}
 use Rattle.xa_desk.specs.Tickets.{LeavesOthers}
+use Rattle.xa_desk.proofs.Ledgers.{known_by}
 use Rattle.xa_driver.specs.declared.ask.Ask.{Ask}
 use Rattle.xa_driver.specs.declared.round.Round.{Round}
 use Rattle.xa_driver.specs.Asks.{AreRising, EachAsk, EachBegan, HasBegun, Keeps, LeavesOwned, Owning, among_asks}
 use Rattle.xa_driver.specs.UnderWay.{AllKeptBut, AreApart, IsAmong, IsUnderWay, LeavesInFlight, LeavesKept, LeavesOtherTickets, OwnsAll}
-use Rattle.xa_driver.proofs.Asking.{known_by}
 use Rattle.xa_driver.proofs.Kept.{asked_leaves}
 use Rattle.xa_driver.proofs.Staying.{IsOpen}
 use Rattle.xa_driver.proofs.Stepping.{rising_rest}
+use Rattle.xa_driver.proofs.Flights.{rising_first_part}
 
 -- ---- the tickets that are left
 
@@ -56,15 +57,10 @@ begun_owned lo (k ∷ ks) (None ∷ rs) at d rising began = begun_owned k.manage
 begun_owned lo (k ∷ ks) (Some t ∷ rs) at d rising began =
     (began.0.owned, (apart_above k.manager k.manager t.operation ks rs at d (ap (λ (p : Operation). p.manager) began.0.operation) (omega arith) rising.1 began.1, begun_owned k.manager ks rs at d rising.1 began.1))
 
--- those that rise and are followed by others rise
-rising_part : (lo : ℕ) (js ks : List Ask) → AreRising lo (js ++ ks) → AreRising lo js
-rising_part lo [] ks up = tt
-rising_part lo (j ∷ js) ks up = (up.0, rising_part j.manager js ks up.1)
-
 pub flights_owned : (r : Round) (now : DeskView) → IsUnderWay r now → OwnsAll now r.tickets.items
 flights_owned r now u =
     let up = rising_rest 0 u.done (u.flying ++ u.rest) (subst (AreRising 0) u.parts u.rising) in
-    begun_owned up.0 u.flying r.tickets.items r.before.value.ledgers now (rising_part up.0 u.flying u.rest up.1) u.in_flight
+    begun_owned up.0 u.flying r.tickets.items r.before.value.ledgers now (rising_first_part up.0 u.flying u.rest up.1) u.in_flight
 
 -- ---- one more is kept
 

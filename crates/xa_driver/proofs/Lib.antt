@@ -10,6 +10,10 @@ pub mod EachManager
 pub mod Aborts
 pub mod Placing
 pub mod Moves
+pub mod Mapped
+pub mod Traces
+pub mod Sites
+pub mod InLedgers
 pub mod Courses
 pub mod Values
 pub mod Fated
@@ -33,7 +37,7 @@ pub mod Voting
 pub mod Quiet
 pub mod Answered
 pub mod Later
-pub mod Ends
+pub mod EndsByFate
 pub mod Guided
 pub mod CutBranch
 pub mod Counting

@@ -1,9 +1,11 @@
 -- What the requests of one thread with numbers in a range move, in a history.
 use Rattle.std.specs.Prelude.{ℤ, pos, ◌+ℤ◌, nat_le, if◌then◌else◌}
-use Rattle.std.proofs.Common.{◌≡◌, ℕ, zero, suc, ◌+◌, ◌<◌, ◌≤◌, Bool, true, false, cond, ◌==◌, ◌&&◌, ◌||◌, ◌⊎◌, ⊎_elim, inl, inr, List, [], ◌∷◌, ◌++◌, length, get_or, sym, refl, ap, ◌∙◌, arith, eq-eqb}
+use Rattle.std.proofs.Common.{◌≡◌, ℕ, zero, suc, ◌+◌, ◌<◌, ◌≤◌, Bool, true, false, cond, ◌==◌, ◌&&◌, ◌⊎◌, ⊎_elim, inl, inr, List, [], ◌∷◌, ◌++◌, length, get_or, sym, refl, ap, ◌∙◌, arith, eq-eqb}
 use Rattle.std.specs.List.{All, list_any}
 use Rattle.std.proofs.lemmas.Int.{ints}
-use Rattle.std.proofs.lemmas.Bool.{eqb-false, eqb-true, le-leb, lt-leb, leb-true, leb-false}
+use Rattle.std.proofs.lemmas.Bool.{eqb-false, eqb-true, le-leb, lt-leb, leb-true, leb-false, or_parts}
+use Rattle.std.proofs.Math.Bool.{and-false}
+use Rattle.std.proofs.Math.IntN.{+ℤ_idl as none_plus, +ℤ_idr as plus_none}
 use Rattle.xa_words.specs.declared.request.Op.{Op}
 use Rattle.xa_words.specs.declared.request.Op.TheVariants.{Commit, Heur}
 use Rattle.xa_words.specs.declared.code.Code.{Code}
@@ -24,12 +26,6 @@ is_within t first last r = (r.thread == t) && (nat_le first r.number && nat_le (
 abbrev Accounts : Type 0
 Accounts = List (List ℕ × ℕ)
 
-pub none_plus : (v : ℤ) → pos 0 +ℤ v ≡ v
-none_plus v = omega (arith, ints)
-
-pub plus_none : (v : ℤ) → v +ℤ pos 0 ≡ v
-plus_none v = omega (arith, ints)
-
 -- ---- numbers
 
 and_none : (a b c : Bool) → (a ≡ true → (b ≡ false) ⊎ (c ≡ false)) → (a && (b && c)) ≡ false
@@ -41,9 +37,6 @@ pub outside : (t first last : ℕ) (r : Request) → (r.thread ≡ t → (r.numb
 outside t first last r h =
     and_none (r.thread == t) (nat_le first r.number) (nat_le (suc r.number) last) (λ e.
     ⊎_elim (λ (lt : r.number < first). inl (lt-leb first r.number lt)) (λ (le : last ≤ r.number). inr (lt-leb (suc r.number) last (omega (arith, le)))) (h (eqb-true r.thread t e)))
-
-self_eq : (n : ℕ) → (n == n) ≡ true
-self_eq n = eq-eqb n n refl
 
 -- and one whose number is inside
 pub inside : (t first last : ℕ) (r : Request) → r.thread ≡ t → first ≤ r.number → r.number < last → is_within t first last r ≡ true
@@ -70,14 +63,10 @@ moved_none accounts passes (r ∷ h) T none =
     let T1 : Tables = (next r.thread r.op T).0 in
     λ i. (if none 0 r (omega arith) i then moved_by accounts r.op (next r.thread r.op T).1 T else pos 0) +ℤ moved_none accounts passes h T1 (λ k d lt. none (suc k) d (omega arith)) i
 
-and_false : (b : Bool) → (b && false) ≡ false
-and_false true = refl
-and_false false = refl
-
 -- what is no Commit moves nothing
 unmoving : (accounts : Accounts) (op : Op) (c : Code) (T : Tables) → is_commit op ≡ false → moved_by accounts op c T ≡ pos 0
 unmoving accounts (Commit x one_phase) c T e = cc
-unmoving accounts (Heur x commits) c T e = ap (λ b. if b then held_by accounts x T else pos 0) (ap (λ b. is_done c && b) e ∙ and_false (is_done c))
+unmoving accounts (Heur x commits) c T e = ap (λ b. if b then held_by accounts x T else pos 0) (ap (λ b. is_done c && b) e ∙ and-false (is_done c))
 unmoving accounts op c T e = refl
 
 pub moved_without : (accounts : Accounts) (passes : Request → Bool) (h : History) (T : Tables) → All (λ r. passes r ≡ true → is_commit r.op ≡ false) h → moved accounts passes h T ≡ pos 0
@@ -219,10 +208,6 @@ module _ (t : ℕ) where
   quiet_first : (q : Request) (h : History) (a b : ℕ) → IsQuiet a b q → All (IsQuiet a b) h → All (IsQuiet a b) (q ∷ h)
   quiet_first q h a b first rest zero d lt = first
   quiet_first q h a b first rest (suc k) d lt = rest k d (omega arith)
-
-  or_parts : (b c : Bool) → (b || c) ≡ false → (b ≡ false) × (c ≡ false)
-  or_parts true c e = cc
-  or_parts false c e = (refl, e)
 
   -- what it sent from now on is `more`, and then `post`
   quiet_in : (h : History) (n : ℕ) (more post : List Op) → of_thread t h ≡ numbered t n (more ++ post) → list_any is_commit more ≡ false → (a b : ℕ) → b ≤ n + length more → All (IsQuiet a b) h

@@ -25,14 +25,15 @@ use Rattle.xa_driver.specs.declared.done.Ending.{Ending}
 use Rattle.xa_driver.specs.declared.resolved.Outcome.{Outcome}
 use Rattle.xa_driver.specs.Asks.{asked}
 use Rattle.xa_driver.specs.Decision.{is_yes}
-use Rattle.xa_driver.specs.Endings.{ending_of, second_op, third_op}
+use Rattle.xa_driver.specs.Endings.{second_op, third_op}
 use Rattle.xa_driver.specs.Log.{Records}
 use Rattle.xa_driver.specs.Resolution.{ResolveCall, Use, commits, cuts, resolves, IsUseIn, NamesTran, HasSent}
-use Rattle.xa_driver.specs.Resolving.{outcome_op}
-use Rattle.xa_driver.specs.Trace.{BranchTrace, voted, decided}
+use Rattle.xa_driver.specs.Resolving.{AsksLedger, outcome_op}
+use Rattle.xa_driver.specs.Course.{AtBranch}
+use Rattle.xa_driver.proofs.Mapped.{Any, Asks, any_asked, rest_by}
 use Rattle.xa_driver.proofs.Placing.{Parted, request_of, part, numbered_both}
 use Rattle.xa_driver.proofs.Requests.{own_between, IsFromTo}
-use Rattle.xa_driver.proofs.Resolves.{Any, Asks, Sends, resolve_sends, stays, on}
+use Rattle.xa_driver.proofs.Resolves.{Sends, resolve_sends, stays, on}
 use Rattle.xa_driver.proofs.Settled.{by_ledger}
 
 -- what a thread sent to a manager
@@ -89,11 +90,7 @@ named_tran x op n = cc
 -- ---- what a commit asks
 
 abbrev pub Traced : Bool → List LedgerView → List LedgerView → Branch → Code → Option Code → Ending → Type 0
-Traced commit old new b v z e = BranchTrace commit b v z (ledger old b.m) (ledger new b.m) × (e ≡ ending_of commit v z)
-
--- a vote of a manager that is learnt to be shut isn't to commit
-shut_is_no : (commit : Bool) (b : Branch) (v : Code) (z : Option Code) (a a' : LedgerView) → BranchTrace commit b v z a a' → learnt_shut a ≡ true → is_yes v ≡ false
-shut_is_no commit b v z a a' tr shut = ap is_yes (tr.prepared shut)
+Traced commit old new b v z e = AtBranch AsksLedger commit b v z e (ledger old b.m) (ledger new b.m)
 
 -- what a branch's requests add to the list, after its Prepare
 pub asked_on : (a : LedgerView) (op : Option Op) (code : Option Code) → Sends Any a (asked a op code)
@@ -105,16 +102,17 @@ asked_on a (Some op) (Some code) =
       | false ↦ record { more = op ∷ []; sent = refl; all = λ k d lt. tt; collected = ((length a.sent, code) ∷ [], refl) }
     ]
 
-prepared_sent : (commit : Bool) (b : Branch) (v : Code) (z : Option Code) (a a' : LedgerView) → BranchTrace commit b v z a a' → is_yes v ≡ true → (more : List Op) × (a'.sent ≡ a.sent ++ Prepare b.xid ∷ more)
-prepared_sent commit b v z a a' tr y =
+prepared_sent : (commit : Bool) (b : Branch) (v : Code) (z : Option Code) (e : Ending) (a a' : LedgerView) → AtBranch AsksLedger commit b v z e a a' → is_yes v ≡ true → (more : List Op) × (a'.sent ≡ a.sent ++ Prepare b.xid ∷ more)
+prepared_sent commit b v z e a a' is y =
     let open_ : learnt_shut a ≡ false = elim (learnt_shut a) as (λ c. learnt_shut a ≡ c → c ≡ false) [
-      | true ↦ λ shut. let no : true ≡ false = sym y ∙ shut_is_no commit b v z a a' tr shut in cc
+      | true ↦ λ shut. let no : true ≡ false = sym y ∙ ap is_yes (is.prepares.answered shut) in cc
       | false ↦ λ _. refl
     ] refl in
-    let first : voted b v a ≡ with_collected (with_sent a (Prepare b.xid)) (length a.sent) v = at_false (learnt_shut a) _ _ open_ in
-    let rest : Sends Any (voted b v a) (asked (decided commit b v z a) (third_op b.xid z) tr.third) =
-    on Any (voted b v a) (decided commit b v z a) _ (asked_on (voted b v a) (second_op commit b.xid v) z) (asked_on (decided commit b v z a) (third_op b.xid z) tr.third) in
-    (rest.more, ap (λ (l : LedgerView). l.sent) tr.trace ∙ rest.sent ∙ ap (λ (l : LedgerView). l.sent ++ rest.more) first ∙ append_assoc a.sent (Prepare b.xid ∷ []) rest.more)
+    let first : is.prepared ≡ with_collected (with_sent a (Prepare b.xid)) (length a.sent) v = is.prepares.trace ∙ at_false (learnt_shut a) _ _ open_ in
+    let rest : Sends Any is.prepared a' =
+    rest_by AsksLedger Any (Sends Any is.prepared) (λ d w op c so asked q. on Any is.prepared d w q (subst (Sends Any d) (sym asked.trace) (asked_on d (Some op) (Some c)))) commit b v z e a a' is
+    (any_asked (second_op commit b.xid v)) (any_asked (third_op b.xid z)) (stays Any is.prepared) in
+    (rest.more, rest.sent ∙ ap (λ (l : LedgerView). l.sent ++ rest.more) first ∙ append_assoc a.sent (Prepare b.xid ∷ []) rest.more)
 
 -- where a Prepare that was sent stands in the history
 pub prepare_part : (s : Settling) → IsSettled s → (m : ℕ) → 1 ≤ m → (t : ℕ) (x : XidName) (a a' : LedgerView) → HasGrown a' (ledger (ledgers_of s t) m) → (more : List Op) → a'.sent ≡ a.sent ++ Prepare x ∷ more
@@ -128,9 +126,9 @@ prepare_part s settled m positive t x a a' grown more is =
     (later, part t (history_of s m) (numbered t 0 a.sent) (numbered t (suc (0 + length a.sent)) later) (request_of t (0 + length a.sent) (Prepare x)) own)
 
 -- so that of a branch that voted to commit
-pub prepare_at : (s : Settling) → IsSettled s → (m : ℕ) → 1 ≤ m → (t : ℕ) (a a' : LedgerView) → HasGrown a' (ledger (ledgers_of s t) m) → (commit : Bool) (b : Branch) (v : Code) (z : Option Code) → BranchTrace commit b v z a a' → is_yes v ≡ true
+pub prepare_at : (s : Settling) → IsSettled s → (m : ℕ) → 1 ≤ m → (t : ℕ) (a a' : LedgerView) → HasGrown a' (ledger (ledgers_of s t) m) → (commit : Bool) (b : Branch) (v : Code) (z : Option Code) (e : Ending) → AtBranch AsksLedger commit b v z e a a' → is_yes v ≡ true
     → (later : List Op) × Parted t (numbered t 0 a.sent) (numbered t (suc (0 + length a.sent)) later) (request_of t (0 + length a.sent) (Prepare b.xid)) (history_of s m)
-prepare_at s settled m positive t a a' grown commit b v z tr y = let p = prepared_sent commit b v z a a' tr y in prepare_part s settled m positive t b.xid a a' grown p.0 p.1
+prepare_at s settled m positive t a a' grown commit b v z e is y = let p = prepared_sent commit b v z e a a' is y in prepare_part s settled m positive t b.xid a a' grown p.0 p.1
 
 -- what a resolve sends is no Prepare
 abbrev pub IsNoPrepare : Op → Type 0

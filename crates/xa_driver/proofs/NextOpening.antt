@@ -15,7 +15,7 @@ use Rattle.xa_switch.specs.Scans.{ScanView, left_at}
 use Rattle.xa_switch.specs.Settling.{Settling, IsSettled}
 use Rattle.xa_switch.specs.declared.plan.Again.{Again}
 use Rattle.xa_driver.specs.Log.{record_in, record_of}
-use Rattle.xa_driver.specs.Outcomes.{AreLeftOrDecided}
+use Rattle.xa_driver.specs.Outcomes.{AreLeftOrDecided, sent_so_far}
 use Rattle.xa_driver.specs.Presumed.{AskedAreLeft, IsOfAnother, IsResolvedAfter}
 use Rattle.xa_driver.specs.Resolution.{CommitCall, CutCall, ResolveCall, Use, commits, cuts, resolves, Continues, IsByItsThread, IsKept, IsOutcomeOf, IsResolved, IsUseIn, OnlyResolves, with_use}
 use Rattle.xa_driver.specs.Trace.{IsTranOf}
@@ -38,7 +38,7 @@ scan_of s next again z of scanned m T first =
     rw (begins_with s next again m T of first) (left_each _ z scanned.left.each m low (omega (arith, high, many)))
 
 pub next_resolved : (s next : Settling) (again : Again) (c : CommitCall) (q : ResolveCall)
-    → IsSettled s → IsUseIn s (commits c) → length c.desk.ledgers ≤ MOST_MANAGERS → AreLeftOrDecided s c.thread c.branches c.desk.ledgers c.new
+    → IsSettled s → IsUseIn s (commits c) → length c.desk.ledgers ≤ MOST_MANAGERS → AreLeftOrDecided s c.thread c.branches (sent_so_far c.desk.ledgers) (sent_so_far c.new)
     → IsSettled next → IsUseIn next (resolves q) → Continues s next → IsOf (reopening s again) next → IsScanOf s q.scan
     → ((t : TranName) → IsTranOf c.branches t → record_in q.records t ≡ record_of c.later t) → ((t : TranName) → IsTranOf c.branches t → OnlyResolves t (with_use next (resolves q))) → All (λ r. IsOutcomeOf c.branches r → r.code ≢ RmFail) q.outcomes
     → IsResolved (with_use s (commits c)) [] (with_use next (resolves q)) c q

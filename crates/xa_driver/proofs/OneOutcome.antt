@@ -6,6 +6,8 @@ use Rattle.std.specs.FinMap as map
 use Rattle.std.specs.FinMap.{get-insert}
 use Rattle.std.specs.Ordering.{is_eq, eq_by_cmp}
 use Rattle.std.specs.Cmp.{tied_itself}
+use Rattle.std.proofs.Math.Bool.{or-true}
+use Rattle.std.proofs.lemmas.Bool.{and_parts, or_parts, or_from, not-true}
 use Rattle.xa_words.specs.Tran.{TranName}
 use Rattle.xa_words.specs.declared.code.Code.{Code}
 use Rattle.xa_tables.specs.History.{is_done}
@@ -19,7 +21,9 @@ use Rattle.xa_driver.specs.declared.done.Ending.{Ending}
 use Rattle.xa_driver.specs.Decision.{Yes, Read, No, vote_of, says_yes, says_read, says_no, is_yes, is_read, is_no, decides_commit, has_yes, yes_of}
 use Rattle.xa_driver.specs.Endings.{ending_of, yes_ending, no_ending, is_out_of_reach, is_heuristic}
 use Rattle.xa_driver.specs.Log.{LogState, record_of}
-use Rattle.xa_driver.specs.Trace.{EachBranch, BranchTrace, IsCommit, IsTraceOfCommit, IsTranOf, MayCommit, Logs, appended, failed, unwanted, wants_record}
+use Rattle.xa_driver.specs.Course.{AtBranch}
+use Rattle.xa_driver.specs.Resolving.{AsksLedger}
+use Rattle.xa_driver.specs.Trace.{EachBranch, IsCommit, IsTraceOfCommit, IsTranOf, MayCommit, Logs, appended, failed, unwanted, wants_record}
 use Rattle.xa_driver.specs.Outcomes.{is_committed, is_rolled_back, has_committed, has_rolled_back, has_vote_against, append_failed, was_refused, IsCommittedTransaction, IsAbortedTransaction}
 use Rattle.xa_base.proofs.Truth.{by_if}
 use Rattle.xa_driver.proofs.Aborts.{abort_sends_no_commit, failed_append_aborts}
@@ -29,7 +33,7 @@ abbrev Falls : (Ending → Bool) → Ending → Type 0
 Falls test e = test e ≡ false
 
 -- a vote is to commit, that the branch only read, or against
-neither : (v : Code) → is_yes v ≡ false → is_read v ≡ false → is_no v ≡ true
+pub neither : (v : Code) → is_yes v ≡ false → is_read v ≡ false → is_no v ≡ true
 neither v = elim (vote_of v) as (λ w. says_yes w ≡ false → says_read w ≡ false → says_no w ≡ true) [ Yes ↦ λ e f. cc | Read ↦ λ e f. cc | No ↦ λ e f. refl ]
 
 -- on abort nothing is committed
@@ -66,38 +70,11 @@ not_rolled_back v s e =
     by_if (Falls is_rolled_back) (is_yes v) _ _ (λ _. kept_by_commit s) (λ one.
     by_if (Falls is_rolled_back) (is_read v) _ _ (λ _. refl) (λ two. let z = neither v one two in cc))
 
-or_falls : (a b : Bool) → a ≡ false → b ≡ false → (a || b) ≡ false
-or_falls a b e f = λ i. e i || f i
-
-left_falls : (a b : Bool) → (a || b) ≡ false → a ≡ false
-left_falls true b e = e
-left_falls false b e = refl
-
-right_falls : (a b : Bool) → (a || b) ≡ false → b ≡ false
-right_falls true b e = cc
-right_falls false b e = e
-
-left_holds : (a b : Bool) → (a && b) ≡ true → a ≡ true
-left_holds true b e = refl
-left_holds false b e = cc
-
-right_holds : (a b : Bool) → (a && b) ≡ true → b ≡ true
-right_holds true b e = e
-right_holds false b e = cc
-
-not_holds : (b : Bool) → not b ≡ true → b ≡ false
-not_holds true e = cc
-not_holds false e = refl
-
-or_true : (b : Bool) → (b || true) ≡ true
-or_true true = refl
-or_true false = refl
-
 -- a test that no ending of a call passes
-module _ (Q : Branch → Code → Option Code → Ending → Type 0) (commit : Bool) (test : Ending → Bool) (bad : Code → Bool) (falls : (v : Code) (s : Option Code) → bad v ≡ false → Falls test (ending_of commit v s)) where
-  none_end : (bs : List Branch) (vs : List Code) (ss : List (Option Code)) (es : List Ending) → EachBranch (λ b v s e. Q b v s e × (e ≡ ending_of commit v s)) bs vs ss es → list_any bad vs ≡ false → list_any test es ≡ false
+module _ (Q : Branch → Code → Option Code → Ending → Type 0) (commit : Bool) (test : Ending → Bool) (bad : Code → Bool) (ends : (b : Branch) (v : Code) (s : Option Code) (e : Ending) → Q b v s e → e ≡ ending_of commit v s) (falls : (v : Code) (s : Option Code) → bad v ≡ false → Falls test (ending_of commit v s)) where
+  none_end : (bs : List Branch) (vs : List Code) (ss : List (Option Code)) (es : List Ending) → EachBranch Q bs vs ss es → list_any bad vs ≡ false → list_any test es ≡ false
   none_end [] [] [] [] h n = refl
-  none_end (b ∷ bs) (v ∷ vs) (s ∷ ss) (e ∷ es) h n = or_falls _ _ (ap test h.0.1 ∙ falls v s (left_falls _ _ n)) (none_end bs vs ss es h.1 (right_falls _ _ n))
+  none_end (b ∷ bs) (v ∷ vs) (s ∷ ss) (e ∷ es) h n = or_from _ _ (ap test (ends b v s e h.0) ∙ falls v s (or_parts _ _ n).0) (none_end bs vs ss es h.1 (or_parts _ _ n).1)
   none_end bs vs ss es h n = absurd h
 
 never : Code → Bool
@@ -131,7 +108,10 @@ module _ (tran : TranName) (bs : List Branch) (desk : DeskView) (new : List Ledg
   votes = d.votes.items
 
   abbrev Traces : Branch → Code → Option Code → Ending → Type 0
-  Traces b v s e = BranchTrace d.commit b v s (ledger desk.ledgers b.m) (ledger new b.m)
+  Traces b v s e = AtBranch AsksLedger d.commit b v s e (ledger desk.ledgers b.m) (ledger new b.m)
+
+  ends : (b : Branch) (v : Code) (s : Option Code) (e : Ending) → Traces b v s e → e ≡ ending_of d.commit v s
+  ends b v s e is = is.ends
 
   absent : record_of log tran ≡ None
   absent = ap (record_of log) (sym same_tran_here) ∙ may.absent
@@ -139,7 +119,7 @@ module _ (tran : TranName) (bs : List Branch) (desk : DeskView) (new : List Ledg
   -- what was logged is a decision to commit
   logged_commits : d.logged ≡ true → wants_record votes ≡ true → d.commit ≡ true
   logged_commits on wants =
-      call.decision ∙ (λ i. left_holds (decides_commit votes) (has_yes votes) wants i && (not (has_yes votes) || on i)) ∙ ap (λ b. true && b) (or_true (not (has_yes votes)))
+      call.course.decision ∙ (λ i. (and_parts (decides_commit votes) (has_yes votes) wants).0 i && (not (has_yes votes) || on i)) ∙ ap (λ b. true && b) (or-true (not (has_yes votes)))
 
   recorded : Logs tran (yes_of bs votes) votes d.logged log later → d.logged ≡ true → record_of later tran ≡ Some (yes_of bs votes)
   recorded (appended wants on is) e =
@@ -155,32 +135,32 @@ module _ (tran : TranName) (bs : List Branch) (desk : DeskView) (new : List Ledg
   -- on abort
   aborted : d.commit ≡ false → IsAbortedTransaction tran desk.ledgers new later d
   aborted off = record {
-    uncommitted = none_end Traces d.commit is_committed never (λ v s _. ap (λ c. is_committed (ending_of c v s)) off ∙ uncommitted v s) bs votes call.seconds d.endings.items call.each (any_never votes);
-    unrecorded = unrecorded call.logs off;
+    uncommitted = none_end Traces d.commit is_committed never ends (λ v s _. ap (λ c. is_committed (ending_of c v s)) off ∙ uncommitted v s) bs votes call.course.seconds d.endings.items call.course.each (any_never votes);
+    unrecorded = unrecorded call.course.logs off;
     unsent = abort_sends_no_commit tran bs desk.ledgers new log later d call off;
   }
 
   -- on commit no vote is against, and nothing is rolled back
   unopposed : d.commit ≡ true → has_vote_against d ≡ false
-  unopposed on = not_holds _ (left_holds _ _ (sym call.decision ∙ on))
+  unopposed on = not-true _ (and_parts _ _ (sym call.course.decision ∙ on)).0
 
   kept : d.commit ≡ true → has_rolled_back d ≡ false
-  kept on = none_end Traces d.commit is_rolled_back is_no (λ v s e. ap (λ c. is_rolled_back (ending_of c v s)) on ∙ not_rolled_back v s e) bs votes call.seconds d.endings.items call.each (unopposed on)
+  kept on = none_end Traces d.commit is_rolled_back is_no ends (λ v s e. ap (λ c. is_rolled_back (ending_of c v s)) on ∙ not_rolled_back v s e) bs votes call.course.seconds d.endings.items call.course.each (unopposed on)
 
   pub committed_law : has_committed d ≡ true → IsCommittedTransaction tran bs later d
   committed_law some =
       let on : d.commit ≡ true = elim (d.commit) as (λ c. d.commit ≡ c → c ≡ true) [ true ↦ λ e. refl | false ↦ λ e. let z = (aborted e).uncommitted in cc ] refl in
       let some_yes : has_yes votes ≡ true = elim (has_yes votes) as (λ y. has_yes votes ≡ y → y ≡ true) [
         | true ↦ λ e. refl
-        | false ↦ λ e. let z = none_end Traces d.commit is_committed is_yes (λ v s n. unvoted d.commit v s n) bs votes call.seconds d.endings.items call.each e in cc
+        | false ↦ λ e. let z = none_end Traces d.commit is_committed is_yes ends (λ v s n. unvoted d.commit v s n) bs votes call.course.seconds d.endings.items call.course.each e in cc
       ] refl in
-      let in_log : d.logged ≡ true = sym (ap (λ y. not y || d.logged) some_yes) ∙ right_holds _ _ (sym call.decision ∙ on) in
-      record { unopposed = unopposed on; recorded = recorded call.logs in_log; kept = kept on }
+      let in_log : d.logged ≡ true = sym (ap (λ y. not y || d.logged) some_yes) ∙ (and_parts _ _ (sym call.course.decision ∙ on)).1 in
+      record { unopposed = unopposed on; recorded = recorded call.course.logs in_log; kept = kept on }
 
   -- where the log didn't take the record
   unlogged : append_failed d ≡ true → d.commit ≡ false
   unlogged e =
-      failed_append_aborts tran bs desk.ledgers new log later d call (left_holds _ _ e) (not_holds _ (right_holds (wants_record votes) (not d.logged) e))
+      failed_append_aborts tran bs desk.ledgers new log later d call (and_parts _ _ e).0 (not-true _ (and_parts (wants_record votes) (not d.logged) e).1)
 
   pub aborted_law : was_refused d ≡ true → IsAbortedTransaction tran desk.ledgers new later d
   aborted_law refused =
@@ -188,5 +168,5 @@ module _ (tran : TranName) (bs : List Branch) (desk : DeskView) (new : List Ledg
         | false ↦ λ e. refl
         | true ↦ λ on.
             let logged_so : append_failed d ≡ false = elim (append_failed d) as (λ b. append_failed d ≡ b → b ≡ false) [ true ↦ λ e. let z = unlogged e in cc | false ↦ λ e. refl ] refl in
-            let z : was_refused d ≡ false = or_falls _ _ (unopposed on) (or_falls _ _ (kept on) logged_so) in cc
+            let z : was_refused d ≡ false = or_from _ _ (unopposed on) (or_from _ _ (kept on) logged_so) in cc
       ] refl)

@@ -1,19 +1,18 @@
 -- The order of what a round sends and collects.
-use Rattle.std.proofs.Common.{◌≡◌, ◌+◌, ◌≤◌, ℕ, Bool, true, false, List, [], ◌∷◌, ◌++◌, length, map, drop, Option, None, Some, refl, sym, ap, ap₂, ◌∙◌, subst, append_assoc, append-nil, arith}
+use Rattle.std.proofs.Common.{◌≡◌, ◌+◌, ◌≤◌, ℕ, Bool, true, false, List, [], ◌∷◌, ◌++◌, length, drop, Option, None, Some, refl, sym, ap, ap₂, ◌∙◌, subst, append_assoc, append-nil, arith}
 use Rattle.std.specs.Prelude.{not, if◌then◌else◌, MatchOption}
 use Rattle.std.proofs.lemmas.List.{map-append, length-append}
 use Rattle.std.proofs.Math.Seq.{drop-append_seam}
 use Rattle.xa_words.specs.declared.request.Op.{Op}
 use Rattle.xa_words.specs.declared.code.Code.{Code}
-use Rattle.xa_desk.specs.declared.event.Event.{Event}
 use Rattle.xa_desk.specs.declared.event.Event.TheVariants.{Sent, Collected}
 use Rattle.xa_desk.specs.declared.operation.Operation.{Operation}
-use Rattle.xa_desk.specs.LedgerView.{LedgerView, learnt_shut}
+use Rattle.xa_desk.specs.LedgerView.{LedgerView}
 use Rattle.xa_desk.specs.DeskView.{DeskView, TicketView, ledger, next_operation}
 use Rattle.xa_desk.specs.Looks.{Collects as CollectsOne}
 use Rattle.xa_driver.specs.declared.ask.Ask.{Ask}
 use Rattle.xa_driver.specs.declared.round.Round.{Round}
-use Rattle.xa_driver.specs.Asks.{BeginsAsk, EachBegan, Ends, HasBegun, IsUnsent, SameAsks}
+use Rattle.xa_driver.specs.Asks.{BeginsAsk, EachBegan, Ends, IsUnsent, SameAsks}
 use Rattle.xa_driver.specs.UnderWay.{Collects, IsSent, IsUnderWay, Sends, Stays, sent_count}
 use Rattle.xa_driver.specs.Order.{sendings, collections, round_of, goes_out, sent_of, operations_of, SendsMore, CollectsFirst, SendsThenCollects, GoesAsRound}
 use Rattle.xa_driver.proofs.Stepping.{as_many}
@@ -38,7 +37,8 @@ sends_ticket k ts ts' old new (Some t) began is = record {
   tickets = ap operations_of is ∙ operations-append ts (Some t ∷ []);
 }
 
-sends_stay : (ts : List (Option TicketView)) (d : DeskView) → SendsMore ts ts d d
+-- nothing is sent
+pub sends_stay : (ts : List (Option TicketView)) (d : DeskView) → SendsMore ts ts d d
 sends_stay ts d = record { more = []; events = sym (append-nil d.events); tickets = sym (append-nil (operations_of ts)) }
 
 -- a step that sends, whether there was a request to send or not
@@ -52,9 +52,6 @@ step_sends (Some k) result old new desk now (is, sends) = sends_ticket k old.tic
 pub step_sends_keeps : (next : Option Ask) (result : Bool) (old new : Round) (desk now : DeskView) → MatchOption next ((result ≡ false) × Stays old new desk now) (λ k. (result ≡ true) × Sends k old new desk now) → (new.asks ≡ old.asks) × (new.collected ≡ old.collected)
 step_sends_keeps None result old new desk now (is, stays) = (ap (λ (r : Round). r.asks) stays.round, ap (λ (r : Round). r.collected) stays.round)
 step_sends_keeps (Some k) result old new desk now (is, sends) = (sends.asks, sends.collected)
-
-pub sends_none_yet : (ts : List (Option TicketView)) (d : DeskView) → SendsMore ts ts d d
-sends_none_yet ts d = sends_stay ts d
 
 pub sends_on : (ts us vs : List (Option TicketView)) (a b c : DeskView) → SendsMore ts us a b → SendsMore us vs b c → SendsMore ts vs a c
 sends_on ts us vs a b c first later = record {

@@ -5,22 +5,23 @@ use Rattle.std.specs.List.{All, Contains, cons_option}
 use Rattle.std.proofs.lemmas.List.Elements.{All-nil, All-cons, All-tail, Contains-get_or}
 use Rattle.xa_base.specs.declared.limits.TheConstants.{MOST_MANAGERS}
 use Rattle.xa_base.specs.Lists.{IsUpTo}
-use Rattle.xa_base.proofs.Lists.{some_same}
+use Rattle.xa_base.proofs.Lists.{some_same, all_left, all_right}
 use Rattle.xa_base.proofs.Truth.{at_true}
 use Rattle.xa_words.specs.Xid.{XidName, xid_eq}
 use Rattle.xa_words.specs.Tran.{tran_of}
 use Rattle.xa_words.specs.declared.code.Code.{Code}
 use Rattle.xa_words.specs.declared.code.Code.TheVariants.{Done, HeurCom, HeurRb, RmFail}
 use Rattle.xa_words.specs.declared.request.Request.{Request}
+use Rattle.xa_words.proofs.Xids.{xid_self}
 use Rattle.xa_tables.specs.declared.state.State.{State}
-use Rattle.xa_tables.specs.declared.state.State.TheVariants.{Active, Idle, Prepared, RollbackOnly, HeuristicallyCompleted}
+use Rattle.xa_tables.specs.declared.state.State.TheVariants.{Prepared, HeuristicallyCompleted}
 use Rattle.xa_tables.specs.declared.state.HeuristicDecision.{HeuristicDecision}
 use Rattle.xa_tables.specs.declared.state.HeuristicDecision.TheVariants as decision
 use Rattle.xa_tables.specs.Tables.{Tables, state_of, is_left_in, is_S3}
 use Rattle.xa_tables.specs.Reasons.{decision_code}
 use Rattle.xa_tables.specs.Next.{next}
 use Rattle.xa_tables.specs.History as history
-use Rattle.xa_tables.specs.History.{History, Fate, IsFateOf, fate, fate_of, tables_after, last_or, decided_fate, is_in_doubt as is_unknown}
+use Rattle.xa_tables.specs.History.{History, Fate, IsFateOf, fate_of, tables_after, last_or, decided_fate}
 use Rattle.xa_tables.specs.Openings.{AreLeft}
 use Rattle.xa_tables.specs.Prepared.{IsTold}
 use Rattle.xa_tables.proofs.Law.{opening_sound, sound_after}
@@ -33,29 +34,25 @@ use Rattle.xa_driver.specs.Resolution.{IsKept, IsUseIn, OnlyResolves, Opening, R
 use Rattle.xa_driver.specs.Resolving.{is_to_commit, outcome_op}
 use Rattle.xa_driver.specs.Tabled.{Tabled}
 use Rattle.xa_driver.proofs.Answered.{Placed, last_both}
-use Rattle.xa_driver.proofs.Ends.{is_known_so, is_decided_so}
+use Rattle.xa_driver.proofs.EndsByFate.{is_known_so, is_decided_so}
 use Rattle.xa_driver.proofs.Guided.{IsGuided, fates_once}
 use Rattle.xa_driver.proofs.Later.{IsStep, answered_at, opening_towards}
 use Rattle.xa_driver.proofs.Leading.{IsTowards, Stands, waits, unforgotten, over, Standing, led_after, step_led}
 use Rattle.xa_driver.proofs.Placing.{fates, fates_both}
 use Rattle.xa_driver.proofs.Records.{FindsMark}
-use Rattle.xa_driver.proofs.Requests.{self, all_left, all_right}
 use Rattle.xa_driver.proofs.Resolves.{outcome_asked, outcome_left, outcome_upto}
 use Rattle.xa_driver.proofs.Voting.{tells_so, unknown_so}
 
 -- what a branch that was left stands at
 left_stands : (commit : Bool) (x : XidName) (T : Tables) (f : Fate) → IsFateOf x f T → (s : Option State) → state_of T x ≡ s → is_left_in s ≡ true → Stands commit true (Unit {0}) (Unit {0}) (state_of T x) f
-left_stands commit x T f fits None is left = cc
-left_stands commit x T f fits (Some Active) is left = cc
-left_stands commit x T f fits (Some Idle) is left = cc
-left_stands commit x T f fits (Some (RollbackOnly reason)) is left = cc
 left_stands commit x T f fits (Some Prepared) is left = waits tt refl is (unknown_so f (sym fits.prepared ∙ ap is_S3 is))
 left_stands commit x T f fits (Some (HeuristicallyCompleted d)) is left = unforgotten d is (fits.decided d is) (inl refl)
+left_stands commit x T f fits o is left = cc
 
 -- what it is told ends it
 ends_fate : (commit : Bool) (x : XidName) → fate_of x (outcome_op commit x) Done ≡ Some (ended_as commit)
-ends_fate true x = at_true (xid_eq x x) _ None (self x)
-ends_fate false x = at_true (xid_eq x x) _ None (self x)
+ends_fate true x = at_true (xid_eq x x) _ None (xid_self x)
+ends_fate false x = at_true (xid_eq x x) _ None (xid_self x)
 
 guided_all : (commit : Bool) (L : Type 0) (x : XidName) (h : History) → All (λ r. IsTowards commit L x r.op) h → All (λ r. IsGuided commit L x r.op) h
 guided_all commit L x h all k d lt named plain = all k d lt named

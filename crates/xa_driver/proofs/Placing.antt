@@ -2,8 +2,9 @@
 use Rattle.std.proofs.Common.{◌≡◌, ◌≢◌, ℕ, zero, suc, ◌+◌, ◌<◌, ◌≤◌, true, false, ◌==◌, cond, List, [], ◌∷◌, ◌++◌, length, map, slice_get, get_or, sym, refl, ap, ◌∙◌, arith, Option, Some, None}
 use Rattle.std.specs.Prelude.{filter}
 use Rattle.std.specs.List.{cons_option}
-use Rattle.std.proofs.lemmas.Bool.{eqb-false}
+use Rattle.std.proofs.lemmas.Bool.{eqb-false, eq-eqb}
 use Rattle.std.proofs.lemmas.List.Elements.{filter-append}
+use Rattle.std.proofs.lemmas.Option.{some_pair_parts}
 use Rattle.xa_words.specs.Xid.{XidName}
 use Rattle.xa_words.specs.declared.code.Code.{Code}
 use Rattle.xa_words.specs.declared.request.Op.{Op}
@@ -11,6 +12,7 @@ use Rattle.xa_words.specs.declared.request.Request.{Request}
 use Rattle.xa_tables.specs.Tables.{Tables}
 use Rattle.xa_tables.specs.Next.{next}
 use Rattle.xa_tables.specs.History.{History, Fate, of_thread, tables_after, coded, fate_of, fate_in, fates_in, last_or}
+use Rattle.xa_tables.proofs.WorkLaw.{others_first}
 use Rattle.xa_desk.specs.Lanes.{numbered}
 use Rattle.xa_worker.specs.Journal.{Entry}
 use Rattle.xa_switch.specs.Settling.{answers}
@@ -18,9 +20,6 @@ use Rattle.xa_switch.specs.Settling.{answers}
 -- thread t's request of number n
 abbrev pub request_of : ℕ → ℕ → Op → Request
 request_of t n op = record { thread = t; number = n; op = op }
-
-pub eqb-self : (n : ℕ) → (n == n) ≡ true
-eqb-self n = elim (n == n) as (λ b. (n == n) ≡ b → b ≡ true) [ true ↦ λ e. refl | false ↦ λ e. absurd (eqb-false n n e refl) ] refl
 
 -- ---- a history, parted at a request of the thread
 
@@ -68,17 +67,10 @@ module _ (t : ℕ) where
       ] refl e
 
   -- nothing of the thread
-  others_first : (q : Request) (h : History) → of_thread t (q ∷ h) ≡ [] → (q.thread ≢ t) × (of_thread t h ≡ [])
-  others_first q h e =
-      elim (q.thread == t) as (λ b. (q.thread == t) ≡ b → cond b (q ∷ of_thread t h) (of_thread t h) ≡ [] → (q.thread ≢ t) × (of_thread t h ≡ [])) [
-        | true ↦ λ own e. cc
-        | false ↦ λ other e. (eqb-false q.thread t other, e)
-      ] refl e
-
   pub all_others : (h : History) → of_thread t h ≡ [] → (k : ℕ) (d : Request) → k < length h → (get_or h k d).thread ≢ t
   all_others [] e k d lt = absurd (omega arith)
-  all_others (q ∷ h) e zero d lt = (others_first q h e).0
-  all_others (q ∷ h) e (suc k) d lt = all_others h (others_first q h e).1 k d (omega arith)
+  all_others (q ∷ h) e zero d lt = (others_first t q h e).0
+  all_others (q ∷ h) e (suc k) d lt = all_others h (others_first t q h e).1 k d (omega arith)
 
   -- the numbers of the thread's requests rise
   numbers_first : (q : Request) (h : History) (n : ℕ) (ops : List Op) → of_thread t (q ∷ h) ≡ numbered t n ops
@@ -104,24 +96,6 @@ module _ (t : ℕ) where
       let on = all_later h r.0 r.1.1.0 r.1.1.1 k d (omega arith) own in
       let up = r.1.0 in
       omega (arith, on, up)
-
-  -- the first of them has its op
-  pub first_has : (h : History) (n : ℕ) (op : Op) (ops : List Op) → of_thread t h ≡ numbered t n (op ∷ ops) → (k : ℕ) (d : Request) → k < length h → (get_or h k d).thread ≡ t
-      → (get_or h k d).number < suc n → (get_or h k d).op ≡ op
-  first_has [] n op ops e k d lt own below = absurd (omega arith)
-  first_has (q ∷ h) n op ops e zero d lt own below =
-      elim (q.thread == t) as (λ b. (q.thread == t) ≡ b → cond b (q ∷ of_thread t h) (of_thread t h) ≡ numbered t n (op ∷ ops) → q.op ≡ op) [
-        | true ↦ λ mine e. let head : q ≡ request_of t n op = cc in ap (λ (r : Request). r.op) head
-        | false ↦ λ other e. absurd (eqb-false q.thread t other own)
-      ] refl e
-  first_has (q ∷ h) n op ops e (suc k) d lt own below =
-      elim (q.thread == t) as (λ b. (q.thread == t) ≡ b → cond b (q ∷ of_thread t h) (of_thread t h) ≡ numbered t n (op ∷ ops) → (get_or h k d).op ≡ op) [
-        | true ↦ λ mine e.
-            let tail : of_thread t h ≡ numbered t (suc n) ops = cc in
-            let up = all_later h (suc n) ops tail k d (omega arith) own in
-            absurd (omega (arith, up, below))
-        | false ↦ λ other e. first_has h n op ops e k d (omega arith) own below
-      ] refl e
 
   -- ---- the answers
 
@@ -162,7 +136,7 @@ module _ (t : ℕ) where
       let there : List Entry = coded after (next r.thread r.op here).0 in
       let code : Code = (next r.thread r.op here).1 in
       let mine : answers t ((r, code) ∷ there) ≡ (r.number, code) ∷ answers t there =
-      ap (λ b. map (λ (e : Entry). (e.0.number, e.1)) (cond b ((r, code) ∷ filter (λ (e : Entry). e.0.thread == t) there) (filter (λ (e : Entry). e.0.thread == t) there))) (ap (λ u. u == t) own ∙ eqb-self t) in
+      ap (λ b. map (λ (e : Entry). (e.0.number, e.1)) (cond b ((r, code) ∷ filter (λ (e : Entry). e.0.thread == t) there) (filter (λ (e : Entry). e.0.thread == t) there))) (ap (λ u. u == t) own ∙ eq-eqb t t refl) in
       ap (λ l. slice_get l n) (ap (answers t) (coded_both before (r ∷ after) T) ∙ answers_both (coded before T) ((r, code) ∷ there) ∙ ap (λ l. answers t (coded before T) ++ l) mine)
       ∙ ap (λ k. slice_get (answers t (coded before T) ++ (r.number, code) ∷ answers t there) k) (sym (answers_length before T ∙ count))
       ∙ at_seam (answers t (coded before T)) (r.number, code) (answers t there)
@@ -207,11 +181,15 @@ sides t h before after sent op later place own =
     let r : Request = request_of t (length sent) op in
     let both : of_thread t before ++ r ∷ of_thread t after ≡ numbered t 0 (sent ++ op ∷ later) =
     sym (ap (of_thread t) place ∙ filter-append (λ (q : Request). q.thread == t) before (r ∷ after)
-    ∙ ap (λ b. of_thread t before ++ cond b (r ∷ of_thread t after) (of_thread t after)) (eqb-self t)) ∙ own in
+    ∙ ap (λ b. of_thread t before ++ cond b (r ∷ of_thread t after) (of_thread t after)) (eq-eqb t t refl)) ∙ own in
     let number : length sent ≡ length (of_thread t before) = let z = number_at t 0 (of_thread t before) r (of_thread t after) (sent ++ op ∷ later) both in omega (arith, z) in
     let count : length (of_thread t before) ≡ length (numbered t 0 sent) = sym number ∙ sym (numbered_length t 0 sent) in
     let z = same_seam (of_thread t before) (numbered t 0 sent) r r (of_thread t after) (numbered t (suc (length sent)) later) (both ∙ numbered_both t 0 sent (op ∷ later) ∙ ap (λ k. numbered t 0 sent ++ numbered t k (op ∷ later)) (let e : 0 + length sent ≡ length sent = omega arith in e)) count in
     (z.0, z.1.1)
+
+-- the code of an answer
+pub same_code : (o : Option (ℕ × Code)) (n m : ℕ) (c d : Code) → o ≡ Some (n, c) → o ≡ Some (m, d) → c ≡ d
+same_code o n m c d e f = (some_pair_parts n m c d (sym e ∙ f)).1
 
 -- ---- fates
 
@@ -238,10 +216,6 @@ fate_is x before after r T f0 f e none =
     ap (last_or f0) (fates_both x before (r ∷ after) T
     ∙ ap (λ l. fates x before T ++ l) ((λ i. cons_option (e i) (none i))))
     ∙ last_is (fates x before T) f0 f
-
--- histories that make nothing of the branch, one after the other
-pub none_both : (x : XidName) (h g : History) (T : Tables) → fates x h T ≡ [] → fates x g (tables_after h T) ≡ [] → fates x (h ++ g) T ≡ []
-none_both x h g T e f = fates_both x h g T ∙ (λ i. e i ++ f i)
 
 pub none_first : (x : XidName) (r : Request) (h : History) (T : Tables) → fate_of x r.op (next r.thread r.op T).1 ≡ None → fates x h (next r.thread r.op T).0 ≡ [] → fates x (r ∷ h) T ≡ []
 none_first x r h T e f = λ i. cons_option (e i) (f i)

@@ -6,11 +6,11 @@ use Rattle.std.specs.FinMap as map
 use Rattle.std.specs.FinMap.{get-insert}
 use Rattle.std.specs.Ordering.{is_eq}
 use Rattle.std.specs.Cmp.{tied_itself}
-use Rattle.std.proofs.lemmas.Bool.{eq-eqb, ne_eqb}
-use Rattle.std.proofs.lemmas.List.Elements.{All-nil, All-cons, All-append, All-contains, All-head, All-tail, Contains-append_right}
+use Rattle.std.proofs.lemmas.Bool.{eq-eqb, ne_eqb, and_parts}
+use Rattle.std.proofs.lemmas.List.Elements.{All-nil, All-cons, All-contains, All-head, All-tail, Contains-append_right}
+use Rattle.std.proofs.Math.Bool.{or-true, and-false}
 use Rattle.xa_base.specs.declared.limits.TheConstants.{MOST_MANAGERS}
 use Rattle.xa_base.specs.Lists.{Begins, IsUpTo}
-use Rattle.xa_base.proofs.Lists.{all_mid}
 use Rattle.xa_base.proofs.Truth.{at_true}
 use Rattle.xa_words.specs.Tran.{TranName, tran_of}
 use Rattle.xa_words.specs.declared.code.Code.{Code}
@@ -20,13 +20,11 @@ use Rattle.xa_words.specs.declared.request.Op.TheVariants.{Prepare}
 use Rattle.xa_tables.specs.Tables.{Tables, state_of, is_left_in}
 use Rattle.xa_tables.specs.History as history
 use Rattle.xa_tables.specs.History.{History, Fate, IsFateOf, coded, fate, tables_after}
-use Rattle.xa_tables.specs.Openings.{reopened, told_by}
-use Rattle.xa_tables.proofs.Reopening.{as_left}
+use Rattle.xa_tables.specs.Openings.{told_by}
 use Rattle.xa_desk.specs.LedgerView.{LedgerView, learnt_shut}
 use Rattle.xa_desk.specs.DeskView.{DeskView, ledger}
 use Rattle.xa_desk.specs.Growth.{HasGrown}
 use Rattle.xa_worker.specs.Journal.{Entry}
-use Rattle.xa_switch.specs.Again.{reopened_at}
 use Rattle.xa_switch.specs.Fates.{IsOpenedWith, first_of, history as history_of, ledgers_of}
 use Rattle.xa_switch.specs.Settling.{ManagerPart, Settling, IsSettled, answers, collected, find_manager, journal}
 use Rattle.xa_driver.specs.declared.branch.Branch.{Branch}
@@ -40,54 +38,35 @@ use Rattle.xa_driver.specs.Log.{LogState, record_of}
 use Rattle.xa_driver.specs.Outcomes.{OnlyTheseOrDecisionsName, is_heuristic}
 use Rattle.xa_driver.specs.Presumed.{CountsByTheLog, EndsByTheLog, IsOfAnother, IsResolvedAfter, VotedToCommit, WasAsked, known_of}
 use Rattle.xa_driver.specs.Resolving.{names, outcome_op}
-use Rattle.xa_driver.specs.Resolution.{CutCall, EndsAs, HasLeftOf, IsKept, IsOutcomeOf, IsUseIn, OnlyResolves, Opening, ResolveCall, Use, commits, cuts, resolves, uses_of}
+use Rattle.xa_driver.specs.Resolution.{CutCall, EndsAs, IsKept, IsOutcomeOf, IsUseIn, Opening, ResolveCall, Use, commits, cuts, resolves}
 use Rattle.xa_driver.specs.Tabled.{Tabled}
 use Rattle.xa_driver.specs.Trace.{AreBranchesRising, EachBranch, HaveRoom, IsTranOf, Logs, appended, decision_of, failed, unwanted}
 use Rattle.xa_driver.specs.Worth.{IsUnlisted, SharesOver}
 use Rattle.xa_driver.proofs.BranchEnds.{IsMarked, branch_ends, branch_whole}
 use Rattle.xa_driver.proofs.CutBranch.{HasSentOnly, WasTold, asked_only, ended_voted_so, open_so, sent_end, sent_fates, told_end, told_only, told_voted_so, vote_is, voted_only, was_told}
 use Rattle.xa_driver.proofs.CutVotes.{Ended, HasVoted, cut_keeps, finished_law}
-use Rattle.xa_driver.proofs.Later.{ends_with}
 use Rattle.xa_driver.proofs.Leading.{IsTowards}
 use Rattle.xa_driver.proofs.Naming.{prepare_part}
 use Rattle.xa_driver.proofs.OneOutcome.{one_tran}
 use Rattle.xa_driver.proofs.Placing.{request_of, fates}
-use Rattle.xa_driver.proofs.Quiet.{quiet_openings}
-use Rattle.xa_driver.proofs.Records.{FindsMark, IsQuiet, is_marked, marks_stay, own_mark, some_yes}
-use Rattle.xa_driver.proofs.Requests.{all_right}
-use Rattle.xa_driver.proofs.Resolution.{part_there}
+use Rattle.xa_driver.proofs.Records.{IsQuiet, is_marked, own_mark, some_yes}
+use Rattle.xa_driver.proofs.Resolution.{part_there, use_there, uses_after, is_used, left_is_marked}
 use Rattle.xa_driver.proofs.Settled.{by_ledger}
 use Rattle.xa_driver.proofs.Transactions.{tran_cmp_total}
 use Rattle.xa_driver.proofs.Voting.{AtEnd, once}
 
 -- ---- the record is the decision, where a branch voted to commit
 
-pub right_holds : (a b : Bool) → (a && b) ≡ true → b ≡ true
-right_holds true b e = e
-right_holds false b e = cc
-
-left_holds : (a b : Bool) → (a && b) ≡ true → a ≡ true
-left_holds true b e = refl
-left_holds false b e = cc
-
-pub and_false : (b : Bool) → (b && false) ≡ false
-and_false true = refl
-and_false false = refl
-
 none_left : (a b : Bool) → (a && b) ≡ false → b ≡ true → a ≡ false
 none_left true b e f = let z : true ≡ false = sym f ∙ e in cc
 none_left false b e f = refl
 
-or_true : (b : Bool) → (b || true) ≡ true
-or_true true = refl
-or_true false = refl
-
 pub recorded_is : (t : TranName) (managers : List Bool) (votes : List Code) (logged : Bool) (log later : LogState) → record_of log t ≡ None → has_yes votes ≡ true → Logs t managers votes logged log later → decision_of votes logged ≡ is_recorded later t
 recorded_is t managers votes logged log later absent some (appended wants on is) =
-    (λ i. left_holds (decides_commit votes) (has_yes votes) wants i && (not (has_yes votes) || on i)) ∙ ap (λ b. true && b) (or_true (not (has_yes votes)))
+    (λ i. (and_parts (decides_commit votes) (has_yes votes) wants).0 i && (not (has_yes votes) || on i)) ∙ ap (λ b. true && b) (or-true (not (has_yes votes)))
     ∙ sym (ap (λ (l : LogState). is_some (record_of l t)) is ∙ ap is_some (get-insert tran_cmp_total log.records t managers t ∙ ap (λ c. cond c (Some managers) (map.get log.records t)) (ap is_eq (tied_itself tran_cmp_total t))))
 recorded_is t managers votes logged log later absent some (failed wants off is) =
-    (λ i. decides_commit votes && (not (some i) || off i)) ∙ and_false (decides_commit votes) ∙ sym (ap (λ (l : LogState). is_some (record_of l t)) is ∙ ap is_some absent)
+    (λ i. decides_commit votes && (not (some i) || off i)) ∙ and-false (decides_commit votes) ∙ sym (ap (λ (l : LogState). is_some (record_of l t)) is ∙ ap is_some absent)
 recorded_is t managers votes logged log later absent some (unwanted wants off is) =
     (λ i. none_left (decides_commit votes) (has_yes votes) wants some i && (not (has_yes votes) || logged)) ∙ sym (ap (λ (l : LogState). is_some (record_of l t)) is ∙ ap is_some absent)
 
@@ -108,11 +87,8 @@ module _ (law : Tabled) (first : (s : Settling) (m : ℕ) (T : Tables) → IsSet
   kept_later : All IsKept later
   kept_later = All-tail IsKept o later r.kept
 
-  all_uses : All (IsUseIn s) (r.us ++ cuts k ∷ r.vs)
-  all_uses = subst (All (IsUseIn s)) r.commit_at kept_o.uses
-
   use_ : IsUseIn s (cuts k)
-  use_ = all_mid (IsUseIn s) r.us r.vs (cuts k) all_uses
+  use_ = use_there s o.uses r.us r.vs (cuts k) r.commit_at kept_o.uses
 
   abbrev made : IsCut k.branches k.desk k.new k.log k.later k.endings
   made = use_.made
@@ -121,10 +97,10 @@ module _ (law : Tabled) (first : (s : Settling) (m : ℕ) (T : Tables) → IsSet
   tran = made.may.tran
 
   vs_uses : All (IsUseIn s) r.vs
-  vs_uses = All-tail (IsUseIn s) (cuts k) r.vs (all_right (IsUseIn s) r.us (cuts k ∷ r.vs) all_uses)
+  vs_uses = uses_after s o.uses r.us r.vs (cuts k) r.commit_at kept_o.uses
 
   resolve_there : Contains last.uses (resolves q)
-  resolve_there = subst (λ (us : List Use). Contains us (resolves q)) (sym r.resolve_at) (Contains-append_right r.ps (resolves q ∷ r.qs) (resolves q) (zero, omega arith, refl))
+  resolve_there = is_used last.uses r.ps r.qs (resolves q) r.resolve_at
 
   -- ---- the log
 
@@ -207,17 +183,8 @@ module _ (law : Tabled) (first : (s : Settling) (m : ℕ) (T : Tables) → IsSet
     -- where it is left, nothing but resolves names it later, and they find the record
     marked : is_marked k.later.records tran m ≡ commit → is_left_in (state_of (tables_after H T) b.xid) ≡ true → IsMarked later commit b
     marked mark left =
-        let tables_are : reopened_at s.managers m ≡ reopened (tables_after H T) = ap reopened (ends_with s m T kept_o.settled begins) in
-        let left_of : HasLeftOf tran s = (m, (b.xid, (of_tran, ap (λ (U : Tables). is_left_in (state_of U b.xid)) tables_are ∙ as_left (tables_after H T) b.xid ∙ left))) in
-        let only_later : All (OnlyResolves tran) later = r.later tran made.may.one left_of in
-        let quiet : All (IsQuiet commit tran m) (r.vs ++ uses_of later) =
-        All-append (IsQuiet commit tran m) r.vs (uses_of later) (quiet_now commit m up) (quiet_openings commit tran m up later kept_later only_later) in
-        let marks : All (FindsMark commit tran m) (uses_of later) =
-        all_right (FindsMark commit tran m) r.vs (uses_of later) (marks_stay commit tran m up (r.vs ++ uses_of later) k.later.records (r.log tran made.may.one) mark quiet) in
-        record {
-          only = subst (λ (u : TranName). All (OnlyResolves u) later) (sym of_tran) only_later;
-          marks = subst (λ (u : TranName). All (FindsMark commit u m) (uses_of later)) (sym of_tran) marks;
-        }
+        left_is_marked s b tran up T commit k.later.records r.vs later of_tran kept_o.settled begins kept_later (r.later tran made.may.one)
+        (quiet_now commit m up) (r.log tran made.may.one) mark left
 
     -- where its Prepare stands in the history
     stands_at : (before : History) × ((after : History) × (H ≡ before ++ request_of t n (Prepare b.xid) ∷ after))
@@ -314,7 +281,7 @@ module _ (law : Tabled) (first : (s : Settling) (m : ℕ) (T : Tables) → IsSet
     first_yes b bs v vs y = λ i. (eq-eqb b.m b.m refl i && y i) || voted_yes b.m bs vs
 
     later_yes : (n : ℕ) (b : Branch) (bs : List Branch) (v : Code) (vs : List Code) → voted_yes n bs vs ≡ true → voted_yes n (b ∷ bs) (v ∷ vs) ≡ true
-    later_yes n b bs v vs e = ap (λ z. ((b.m == n) && is_yes v) || z) e ∙ or_true ((b.m == n) && is_yes v)
+    later_yes n b bs v vs e = ap (λ z. ((b.m == n) && is_yes v) || z) e ∙ or-true ((b.m == n) && is_yes v)
 
     -- what its manager was sent, by the vote that was collected
     module _ (b : Branch) (up : IsUpTo MOST_MANAGERS b.m) (of_tran : tran_of b.xid ≡ tran) (among : Contains k.branches b) (only : Owned b) (voted : VotedToCommit k s b) (v : Code) (yes_so : is_yes v ≡ true → voted_yes b.m k.branches votes ≡ true) where

@@ -7,11 +7,13 @@ use Rattle.std.specs.FinMap.{get-insert}
 use Rattle.std.specs.Ordering.{eq_by_cmp, is_eq}
 use Rattle.std.specs.Cmp.{tied_itself}
 use Rattle.std.proofs.lemmas.List.Elements.{All-nil, All-cons, All-head, All-tail}
+use Rattle.std.proofs.Math.Bool.{or-true, and-false}
+use Rattle.std.proofs.lemmas.Bool.{and_parts}
 use Rattle.xa_base.specs.declared.limits.TheConstants.{MOST_MANAGERS}
 use Rattle.xa_base.specs.Lists.{IsUpTo}
+use Rattle.xa_base.proofs.Truth.{is_equal}
 use Rattle.xa_words.specs.Tran.{TranName}
 use Rattle.xa_words.specs.declared.code.Code.{Code}
-use Rattle.xa_tables.proofs.MapLemmas.{equal_from}
 use Rattle.xa_driver.specs.declared.branch.Branch.{Branch}
 use Rattle.xa_driver.specs.Decision.{is_yes, decides_commit, has_yes, voted_yes, yes_of}
 use Rattle.xa_driver.specs.Log.{LogState, Records}
@@ -58,20 +60,8 @@ some_yes m (b ∷ bs) [] e = cc
 some_yes m (b ∷ bs) (v ∷ vs) e =
     elim (is_yes v) as (λ y. ((b.m == m) && y) || voted_yes m bs vs ≡ true → (y || has_yes vs) ≡ true) [
       | true ↦ λ _. refl
-      | false ↦ λ e. some_yes m bs vs (sym (ap (λ q. q || voted_yes m bs vs) (and_false (b.m == m))) ∙ e)
+      | false ↦ λ e. some_yes m bs vs (sym (ap (λ q. q || voted_yes m bs vs) (and-false (b.m == m))) ∙ e)
     ] e
-  where
-    and_false : (q : Bool) → (q && false) ≡ false
-    and_false true = refl
-    and_false false = refl
-
-left_holds : (a b : Bool) → (a && b) ≡ true → a ≡ true
-left_holds true b e = refl
-left_holds false b e = cc
-
-and_false : (b : Bool) → (b && false) ≡ false
-and_false true = refl
-and_false false = refl
 
 module _ (bs : List Branch) (log later : LogState) (votes : List Code) (logged commit : Bool) (t : TranName) (m : ℕ) (up : IsUpTo MOST_MANAGERS m) (decision : commit ≡ (decides_commit votes && (not (has_yes votes) || logged)))
     (absent : map.get log.records t ≡ None) (here : voted_yes m bs votes ≡ true) where
@@ -79,13 +69,13 @@ module _ (bs : List Branch) (log later : LogState) (votes : List Code) (logged c
   some = some_yes m bs votes here
 
   unlogged : logged ≡ false → commit ≡ false
-  unlogged off = decision ∙ (λ i. decides_commit votes && (not (some i) || off i)) ∙ and_false (decides_commit votes)
+  unlogged off = decision ∙ (λ i. decides_commit votes && (not (some i) || off i)) ∙ and-false (decides_commit votes)
 
   -- what a commit leaves in the log of a manager that voted to commit is the decision
   pub own_mark : Logs t (yes_of bs votes) votes logged log later → is_marked later.records t m ≡ commit
   own_mark (appended wants on is) =
       ap (λ (l : LogState). is_marked l.records t m) is ∙ own_mark_is log.records t m bs votes up ∙ here
-      ∙ sym (decision ∙ (λ i. left_holds (decides_commit votes) (has_yes votes) wants i && (not (some i) || on i)))
+      ∙ sym (decision ∙ (λ i. (and_parts (decides_commit votes) (has_yes votes) wants).0 i && (not (some i) || on i)))
   own_mark (failed wants off is) = ap (λ (l : LogState). is_marked l.records t m) is ∙ ap (λ o. names o m) absent ∙ sym (unlogged off)
   own_mark (unwanted wants off is) = ap (λ (l : LogState). is_marked l.records t m) is ∙ ap (λ o. names o m) absent ∙ sym (unlogged off)
 
@@ -93,12 +83,8 @@ module _ (bs : List Branch) (log later : LogState) (votes : List Code) (logged c
 pub none_on_abort : (t : TranName) (managers : List Bool) (votes : List Code) (logged commit : Bool) (log later : LogState) → commit ≡ (decides_commit votes && (not (has_yes votes) || logged)) → commit ≡ false → map.get log.records t ≡ None
     → Logs t managers votes logged log later → map.get later.records t ≡ None
 none_on_abort t managers votes logged commit log later decision off absent (appended wants on is) =
-    let commits_so : commit ≡ true = decision ∙ (λ i. left_holds (decides_commit votes) (has_yes votes) wants i && (not (has_yes votes) || on i)) ∙ or_true (not (has_yes votes)) in
+    let commits_so : commit ≡ true = decision ∙ (λ i. (and_parts (decides_commit votes) (has_yes votes) wants).0 i && (not (has_yes votes) || on i)) ∙ or-true (not (has_yes votes)) in
     let z : true ≡ false = sym commits_so ∙ off in cc
-  where
-    or_true : (b : Bool) → (true && (b || true)) ≡ true
-    or_true true = refl
-    or_true false = refl
 none_on_abort t managers votes logged commit log later decision off absent (failed wants off_ is) = ap (λ (l : LogState). map.get l.records t) is ∙ absent
 none_on_abort t managers votes logged commit log later decision off absent (unwanted wants off_ is) = ap (λ (l : LogState). map.get l.records t) is ∙ absent
 
@@ -123,7 +109,7 @@ module _ (mark : Bool) (t : TranName) (m : ℕ) (up : IsUpTo MOST_MANAGERS m) wh
       elim (eq_by_cmp tran_cmp t own) as (λ c. eq_by_cmp tran_cmp t own ≡ c → is_marked (map.insert log.records own (yes_of bs vs)) t m ≡ mark) [
         | false ↦ λ other. ap (λ o. names o m) (get-insert tran_cmp_total log.records own (yes_of bs vs) t ∙ ap (λ c. cond c (Some (yes_of bs vs)) (map.get log.records t)) other) ∙ e
         | true ↦ λ same.
-            let is : own ≡ t = sym (tran_cmp-IsAntisymmetric t own (equal_from _ same)) in
+            let is : own ≡ t = sym (tran_cmp-IsAntisymmetric t own (is_equal _ same)) in
             let unmarked : mark ≡ false = sym e ∙ ap (λ o. names o m) (ap (map.get log.records) (sym is) ∙ absent) in
             ap (λ (k : TranName). is_marked (map.insert log.records own (yes_of bs vs)) k m) (sym is) ∙ own_mark_is log.records own m bs vs up ∙ quiet is unmarked ∙ sym unmarked
       ] refl

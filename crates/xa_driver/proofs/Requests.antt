@@ -1,11 +1,9 @@
 -- What is known of the requests of one thread in a history, by what it sent.
 use Rattle.std.specs.Prelude.{cond}
-use Rattle.std.proofs.Common.{◌≡◌, ◌≢◌, ℕ, zero, suc, ◌+◌, ◌<◌, ◌≤◌, true, false, ◌==◌, List, [], ◌∷◌, ◌++◌, length, length-append, slice_get, sym, refl, ap, ◌∙◌, subst, arith, Option, Some}
+use Rattle.std.proofs.Common.{◌≡◌, ◌≢◌, ℕ, zero, suc, ◌+◌, ◌<◌, ◌≤◌, true, false, ◌==◌, List, [], ◌∷◌, ◌++◌, length, length-append, slice_get, sym, refl, ap, ◌∙◌, subst, arith, Some}
 use Rattle.std.specs.List.{All}
-use Rattle.std.proofs.lemmas.Bool.{eqb-false, and_right, ne_eqb}
+use Rattle.std.proofs.lemmas.Bool.{eqb-false, and_right, ne_eqb, eq-eqb}
 use Rattle.std.proofs.lemmas.List.Elements.{All-nil, All-cons, All-head, All-tail, filter-append}
-use Rattle.xa_words.specs.Xid.{XidName, xid_eq}
-use Rattle.xa_words.specs.Orders.{Decides-xid_eq}
 use Rattle.xa_words.specs.declared.code.Code.{Code}
 use Rattle.xa_words.specs.declared.request.Op.{Op}
 use Rattle.xa_words.specs.declared.request.Request.{Request}
@@ -16,28 +14,11 @@ use Rattle.xa_tables.specs.Prepared.{closes, is_close}
 use Rattle.xa_desk.specs.Lanes.{numbered}
 use Rattle.xa_switch.specs.Settling.{answers}
 use Rattle.xa_base.proofs.Lists.{all_mid, some_same}
-use Rattle.xa_driver.proofs.Placing.{eqb-self, request_of, answer_at, numbered_length}
-
--- an xid is itself
-pub self : (x : XidName) → xid_eq x x ≡ true
-self x = (Decides-xid_eq x x).1 refl
+use Rattle.xa_driver.proofs.Placing.{request_of, answer_at, numbered_length, same_code}
 
 -- a request of another thread doesn't close for this one
 pub closes_other : (t : ℕ) (r : Request) → r.thread ≢ t → closes t r ≡ false
 closes_other t r differs = and_right (is_close r.op) (r.thread == t) (ne_eqb r.thread t differs)
-
--- what is known of all is known of the first ones, of the rest, and of those after one
-pub all_left : {A : Type 0} (P : A → Type 0) (xs ys : List A) → All P (xs ++ ys) → All P xs
-all_left P [] ys h k d lt = absurd (omega arith)
-all_left P (x ∷ xs) ys h zero d lt = h 0 d (omega arith)
-all_left P (x ∷ xs) ys h (suc k) d lt = all_left P xs ys (λ j e l. h (suc j) e (omega arith)) k d (omega arith)
-
-pub all_right : {A : Type 0} (P : A → Type 0) (xs ys : List A) → All P (xs ++ ys) → All P ys
-all_right P [] ys h = h
-all_right P (x ∷ xs) ys h = all_right P xs ys (All-tail P x (xs ++ ys) h)
-
-pub all_after : {A : Type 0} (P : A → Type 0) (xs : List A) (y : A) (ys : List A) → All P (xs ++ y ∷ ys) → All P ys
-all_after P xs y ys h = All-tail P y ys (all_right P xs (y ∷ ys) h)
 
 -- what is known of each that was sent, and its number, is known of each of the thread's requests
 pub of_ops : (t : ℕ) (Q : ℕ → Op → Type 0) (h : History) (n : ℕ) (ops : List Op) → of_thread t h ≡ numbered t n ops → ((k : ℕ) (op : Op) → slice_get ops k ≡ Some op → Q (n + k) op) → All (λ r. r.thread ≡ t → Q r.number r.op) h
@@ -88,9 +69,6 @@ own_between t P h pre mid post e all =
 
 -- ---- the code of a request
 
-pub same_code : (o : Option (ℕ × Code)) (n m : ℕ) (c d : Code) → o ≡ Some (n, c) → o ≡ Some (m, d) → c ≡ d
-same_code o n m c d e f = let s : ◌≡◌ {A = Option (ℕ × Code)} (Some (n, c)) (Some (m, d)) = sym e ∙ f in let z : ◌≡◌ {A = ℕ × Code} (n, c) (m, d) = cc in ap (λ (p : ℕ × Code). p.1) z
-
 -- it is the one that was collected
 pub code_there : (t : ℕ) (H : History) (T : Tables) (pairs earlier others : List (ℕ × Code)) (n : ℕ) (code : Code) → All (λ p. slice_get (answers t (coded H T)) p.0 ≡ Some p) pairs → pairs ≡ earlier ++ (n, code) ∷ others
     → (before after : History) (op : Op) → H ≡ before ++ request_of t n op ∷ after → length (of_thread t before) ≡ n → code ≡ (next t op (tables_after before T)).1
@@ -106,7 +84,7 @@ pub count_two : (t n : ℕ) (op : Op) (before mid : History) (xs ys : List Op) �
     → length (of_thread t (before ++ request_of t n op ∷ mid)) ≡ suc (length xs) + length ys
 count_two t n op before mid xs ys first second =
     let r : Request = request_of t n op in
-    let own : length (of_thread t (r ∷ mid)) ≡ suc (length (of_thread t mid)) = ap (λ b. length (cond b (r ∷ of_thread t mid) (of_thread t mid))) (eqb-self t) in
+    let own : length (of_thread t (r ∷ mid)) ≡ suc (length (of_thread t mid)) = ap (λ b. length (cond b (r ∷ of_thread t mid) (of_thread t mid))) (eq-eqb t t refl) in
     let one : length (of_thread t before) ≡ length xs = ap (λ (h : History). length h) first ∙ numbered_length t 0 xs in
     let two : length (of_thread t mid) ≡ length ys = ap (λ (h : History). length h) second ∙ numbered_length t (suc n) ys in
     ap (λ (h : History). length h) (filter-append (λ (q : Request). q.thread == t) before (r ∷ mid))

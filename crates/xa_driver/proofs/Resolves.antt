@@ -2,9 +2,10 @@
 use Rattle.std.specs.Prelude.{map}
 use Rattle.std.proofs.Common.{◌≡◌, ◌≢◌, ℕ, zero, suc, ⊎_elim, ◌+◌, ◌-◌, ◌<◌, Bool, true, false, ◌||◌, if◌then◌else◌, List, [], ◌∷◌, ◌++◌, length, append-nil, append_assoc, get_or, sym, refl, ap, ◌∙◌, subst, arith, Some}
 use Rattle.std.specs.List.{All, Contains, flat_map, list_any, range_with_len}
-use Rattle.std.proofs.lemmas.List.Elements.{All-nil, All-cons, All-append, Contains-append_left, Contains-append_right, Contains-append_cases, Contains-push, Contains-push_cases}
+use Rattle.std.proofs.lemmas.List.Elements.{All-nil, All-cons, All-append, Contains-append_left, Contains-append_right, Contains-append_cases, Contains-push_cases}
 use Rattle.std.proofs.lemmas.List.FromFn.{length-range_with_len, get_or-range_with_len}
 use Rattle.std.proofs.lemmas.List.Folds.{list_any-append}
+use Rattle.std.proofs.Math.Bool.{or-true}
 use Rattle.xa_base.specs.declared.limits.TheConstants.{MOST_MANAGERS}
 use Rattle.xa_base.specs.Lists.{Begins, Chain, IsUpTo, none, more}
 use Rattle.xa_base.proofs.Lists.{same_begins, begins_on}
@@ -25,6 +26,7 @@ use Rattle.xa_driver.specs.Endings.{is_decided}
 use Rattle.xa_driver.specs.Log.{Records}
 use Rattle.xa_driver.specs.Asks.{AskTrace}
 use Rattle.xa_driver.specs.Resolving.{AsksIf, AsksLedger, IsTraceOfResolve, ResolvesAt, ResolvesBranch, is_to_commit, outcome_op}
+use Rattle.xa_driver.proofs.Mapped.{Any, Asks, anything, if_by, outcome_by, outcomes_by, resolves_by}
 
 -- ---- what is sent
 
@@ -34,11 +36,6 @@ pub record Sends (P : Op → Type 0) (a a' : LedgerView) : Type 0 where
   pub sent : a'.sent ≡ a.sent ++ more
   pub all : All P more
   pub collected : Begins a.collected a'.collected
-
--- manager m's outcome asks only for what is so
-pub record Asks (P : Op → Type 0) (records : Records) (m : ℕ) (o : Outcome) : Type 0 where
-  pub ends : o.m ≡ m → o.commit ≡ is_to_commit records m o.xid → P (outcome_op o.commit o.xid)
-  pub forgets : o.m ≡ m → is_decided o.code ≡ true → P (Forget o.xid)
 
 module _ (P : Op → Type 0) where
   pub stays : (a : LedgerView) → Sends P a a
@@ -60,25 +57,21 @@ module _ (P : Op → Type 0) where
         | false ↦ record { more = op ∷ []; sent = refl; all = All-cons P op [] so (All-nil P); collected = ((length a.sent, code) ∷ [], refl) }
       ])
 
+  pub asks_on : (old a a' : LedgerView) (op : Op) (code : Code) → P op → AsksLedger a op a' code → Sends P old a → Sends P old a'
+  asks_on old a a' op code so asked so_far = on old a a' so_far (asks_one a a' op code so asked)
+
   asks_if : (b : Bool) (a a' : LedgerView) (op : Op) → (b ≡ true → P op) → AsksIf b AsksLedger op a a' → Sends P a a'
-  asks_if false a a' op so h = subst (Sends P a) (sym h) (stays a)
-  asks_if true a a' op so h = asks_one a a' op h.0 (so refl) h.1
+  asks_if b a a' op so is = if_by AsksLedger P (Sends P a) (asks_on a) b op a a' so is (stays a)
 
   module _ (records : Records) (m : ℕ) where
     branch_sends : (o : Outcome) (a a' : LedgerView) → Asks P records m o → ResolvesBranch AsksLedger records m o a a' → Sends P a a'
-    branch_sends o a a' so r =
-        on a r.decided a' (asks_one a r.decided (outcome_op o.commit o.xid) o.code (so.ends r.manager r.decision) r.obeys)
-        (asks_if (is_decided o.code) r.decided a' (Forget o.xid) (so.forgets r.manager) r.forgets)
+    branch_sends o a a' so is = outcome_by AsksLedger P (Sends P a) (asks_on a) records m o a a' so is (stays a)
 
     chain_sends : (a : LedgerView) (os : List Outcome) (a' : LedgerView) → ((o : Outcome) → Contains os o → Asks P records m o) → Chain (ResolvesBranch AsksLedger records m) a os a' → Sends P a a'
-    chain_sends a _ _ so (none xs last e f) = subst (Sends P a) (sym f) (stays a)
-    chain_sends a _ _ so (more xs o now last chain leads) =
-        on a now last (chain_sends a xs now (λ p c. so p (Contains-append_left xs (o ∷ []) p c)) chain)
-        (branch_sends o now last (so o (Contains-push xs o)) leads)
+    chain_sends a os a' so chain = outcomes_by AsksLedger P (Sends P a) (asks_on a) records m a os a' so chain (stays a)
 
     at_sends : (xs : List XidName) (os : List Outcome) (a a' : LedgerView) → P OpenRm → ((o : Outcome) → Contains os o → Asks P records m o) → ResolvesAt AsksLedger records m xs os a a' → Sends P a a'
-    at_sends [] os a a' opens so h = subst (Sends P a) (sym h.1) (stays a)
-    at_sends (x ∷ xs) os a a' opens so h = on a h.opened a' (asks_one a h.opened OpenRm h.code opens h.opens) (chain_sends h.opened os a' so h.each)
+    at_sends xs os a a' opens so is = resolves_by AsksLedger P (Sends P a) (asks_on a) records m xs os a a' opens so is (stays a)
 
 -- ---- the outcomes of one manager are among all
 
@@ -96,23 +89,17 @@ contains_upto f most m up y c =
     contains_flat f (range_with_len 1 most) m (m - 1) (omega (arith, lo, hi, size)) (get_or-range_with_len 1 most (m - 1) m (omega (arith, lo, hi)) ∙ same) y c
 
 module _ (z : ScanView) (records : Records) (old new : List LedgerView) (outcomes : List Outcome) (trace : IsTraceOfResolve z records old new outcomes) where
-  pub of_all : (m : ℕ) → IsUpTo MOST_MANAGERS m → (o : Outcome) → Contains (trace.at m) o → Contains outcomes o
-  of_all m up o c = subst (λ os. Contains os o) (sym trace.outcomes_are) (contains_upto trace.at MOST_MANAGERS m up o c)
+  pub of_all : (m : ℕ) → IsUpTo MOST_MANAGERS m → (o : Outcome) → Contains (trace.course.at m) o → Contains outcomes o
+  of_all m up o c = subst (λ os. Contains os o) (sym trace.course.outcomes_are) (contains_upto trace.course.at MOST_MANAGERS m up o c)
 
   -- what a resolve sends to a manager
   pub resolve_sends : (P : Op → Type 0) (m : ℕ) → IsUpTo MOST_MANAGERS m → P OpenRm → ((o : Outcome) → Contains outcomes o → Asks P records m o) → Sends P (ledger old m) (ledger new m)
-  resolve_sends P m up opens so = at_sends P records m (left_at z m) (trace.at m) (ledger old m) (ledger new m) opens (λ o c. so o (of_all m up o c)) (trace.each m up)
+  resolve_sends P m up opens so = at_sends P records m (left_at z m) (trace.course.at m) (ledger old m) (ledger new m) opens (λ o c. so o (of_all m up o c)) (trace.course.each m up)
 
 -- ---- the request of one branch
 
-abbrev pub Any : Op → Type 0
-Any op = Unit {0}
-
 abbrev pub IsNoClose : Op → Type 0
 IsNoClose op = op ≢ CloseRm
-
-anything : (records : Records) (m : ℕ) (o : Outcome) → Asks Any records m o
-anything records m o = record { ends = λ _ _. tt; forgets = λ _ _. tt }
 
 ends_open : (commit : Bool) (x : XidName) → IsNoClose (outcome_op commit x)
 ends_open true x e = cc
@@ -280,11 +267,7 @@ has_outcome records m x (y ∷ xs) os a a' h there =
 list_there : (x : XidName) (xs : List XidName) → Contains xs x → list_any (xid_eq x) xs ≡ true
 list_there x [] (k, lt, e) = absurd (omega (arith, lt))
 list_there x (y ∷ xs) (zero, lt, e) = ap (λ b. b || list_any (xid_eq x) xs) ((Decides-xid_eq x y).1 (sym e))
-list_there x (y ∷ xs) (suc k, lt, e) = ap (λ b. xid_eq x y || b) (list_there x xs (k, omega (arith, lt), e)) ∙ or_true (xid_eq x y)
-  where
-    or_true : (b : Bool) → (b || true) ≡ true
-    or_true true = refl
-    or_true false = refl
+list_there x (y ∷ xs) (suc k, lt, e) = ap (λ b. xid_eq x y || b) (list_there x xs (k, omega (arith, lt), e)) ∙ or-true (xid_eq x y)
 
 at_left : (records : Records) (m : ℕ) (xs : List XidName) (os : List Outcome) (a a' : LedgerView) → ResolvesAt AsksLedger records m xs os a a' → (o : Outcome) → Contains os o → list_any (xid_eq o.xid) xs ≡ true
 at_left records m [] os a a' h o there = absurd (none_there records m o (subst (λ ws. Contains ws o) h.0 there))
@@ -306,36 +289,36 @@ upto_so most m (k, lt, e) =
 -- an outcome is of a manager with a number within the limits
 pub outcome_upto : (z : ScanView) (records : Records) (old new : List LedgerView) (outcomes : List Outcome) → IsTraceOfResolve z records old new outcomes → (o : Outcome) → Contains outcomes o → IsUpTo MOST_MANAGERS o.m
 outcome_upto z records old new outcomes trace o there =
-    let w = flat_contains trace.at (range_with_len 1 MOST_MANAGERS) o (subst (λ os. Contains os o) trace.outcomes_are there) in
+    let w = flat_contains trace.course.at (range_with_len 1 MOST_MANAGERS) o (subst (λ os. Contains os o) trace.course.outcomes_are there) in
     let among : IsUpTo MOST_MANAGERS w.0 = upto_so MOST_MANAGERS w.0 w.1.0 in
-    let elsewhere = at_asked records w.0 (left_at z w.0) (trace.at w.0) (ledger old w.0) (ledger new w.0) (ledger new w.0) (trace.each w.0 among) (record { sent = same_begins (ledger new w.0).sent; collected = same_begins (ledger new w.0).collected }) o w.1.1 in
+    let elsewhere = at_asked records w.0 (left_at z w.0) (trace.course.at w.0) (ledger old w.0) (ledger new w.0) (ledger new w.0) (trace.course.each w.0 among) (record { sent = same_begins (ledger new w.0).sent; collected = same_begins (ledger new w.0).collected }) o w.1.1 in
     subst (IsUpTo MOST_MANAGERS) (sym elsewhere.manager) among
 
 module _ (z : ScanView) (records : Records) (old new : List LedgerView) (outcomes : List Outcome) (trace : IsTraceOfResolve z records old new outcomes) (m : ℕ) (up : IsUpTo MOST_MANAGERS m) (last : LedgerView) (grown : HasGrown (ledger new m) last) where
   -- of a branch that was left there is an outcome
   pub left_has : (x : XidName) → list_any (xid_eq x) (left_at z m) ≡ true → (o : Outcome) × (Contains outcomes o × ((o.m ≡ m) × (o.xid ≡ x)))
   left_has x there =
-      let w = has_outcome records m x (left_at z m) (trace.at m) (ledger old m) (ledger new m) (trace.each m up) there in
-      let asked = at_asked records m (left_at z m) (trace.at m) (ledger old m) (ledger new m) last (trace.each m up) grown w.0 w.1.0 in
+      let w = has_outcome records m x (left_at z m) (trace.course.at m) (ledger old m) (ledger new m) (trace.course.each m up) there in
+      let asked = at_asked records m (left_at z m) (trace.course.at m) (ledger old m) (ledger new m) last (trace.course.each m up) grown w.0 w.1.0 in
       (w.0, (of_all z records old new outcomes trace m up w.0 w.1.0, (asked.manager, w.1.1)))
 
   -- what an outcome is of was left
   pub outcome_left : (o : Outcome) → Contains outcomes o → o.m ≡ m → list_any (xid_eq o.xid) (left_at z m) ≡ true
   outcome_left o there own =
-      let w = flat_contains trace.at (range_with_len 1 MOST_MANAGERS) o (subst (λ os. Contains os o) trace.outcomes_are there) in
+      let w = flat_contains trace.course.at (range_with_len 1 MOST_MANAGERS) o (subst (λ os. Contains os o) trace.course.outcomes_are there) in
       let among : IsUpTo MOST_MANAGERS w.0 = upto_so MOST_MANAGERS w.0 w.1.0 in
-      let elsewhere = at_asked records w.0 (left_at z w.0) (trace.at w.0) (ledger old w.0) (ledger new w.0) (ledger new w.0) (trace.each w.0 among) (record { sent = same_begins (ledger new w.0).sent; collected = same_begins (ledger new w.0).collected }) o w.1.1 in
+      let elsewhere = at_asked records w.0 (left_at z w.0) (trace.course.at w.0) (ledger old w.0) (ledger new w.0) (ledger new w.0) (trace.course.each w.0 among) (record { sent = same_begins (ledger new w.0).sent; collected = same_begins (ledger new w.0).collected }) o w.1.1 in
       let same : w.0 ≡ m = sym elsewhere.manager ∙ own in
-      at_left records m (left_at z m) (trace.at m) (ledger old m) (ledger new m) (trace.each m up) o (subst (λ k. Contains (trace.at k) o) same w.1.1)
+      at_left records m (left_at z m) (trace.course.at m) (ledger old m) (ledger new m) (trace.course.each m up) o (subst (λ k. Contains (trace.course.at k) o) same w.1.1)
 
   -- each outcome of the manager was asked for
   pub outcome_asked : (o : Outcome) → Contains outcomes o → o.m ≡ m → IsAsked records m o (ledger old m) last
   outcome_asked o there own =
-      let w = flat_contains trace.at (range_with_len 1 MOST_MANAGERS) o (subst (λ os. Contains os o) trace.outcomes_are there) in
+      let w = flat_contains trace.course.at (range_with_len 1 MOST_MANAGERS) o (subst (λ os. Contains os o) trace.course.outcomes_are there) in
       let among : IsUpTo MOST_MANAGERS w.0 = upto_so MOST_MANAGERS w.0 w.1.0 in
-      let elsewhere = at_asked records w.0 (left_at z w.0) (trace.at w.0) (ledger old w.0) (ledger new w.0) (ledger new w.0) (trace.each w.0 among) (nothing_more (ledger new w.0)) o w.1.1 in
+      let elsewhere = at_asked records w.0 (left_at z w.0) (trace.course.at w.0) (ledger old w.0) (ledger new w.0) (ledger new w.0) (trace.course.each w.0 among) (nothing_more (ledger new w.0)) o w.1.1 in
       let same : w.0 ≡ m = sym elsewhere.manager ∙ own in
-      at_asked records m (left_at z m) (trace.at m) (ledger old m) (ledger new m) last (trace.each m up) grown o (subst (λ k. Contains (trace.at k) o) same w.1.1)
+      at_asked records m (left_at z m) (trace.course.at m) (ledger old m) (ledger new m) last (trace.course.each m up) grown o (subst (λ k. Contains (trace.course.at k) o) same w.1.1)
     where
       nothing_more : (a : LedgerView) → HasGrown a a
       nothing_more a = record { sent = same_begins a.sent; collected = same_begins a.collected }

@@ -1,13 +1,10 @@
 -- What the branches of a call came to in a settled opening.
-use Rattle.std.proofs.Common.{◌≡◌, ℕ, zero, suc, ◌-◌, ◌<◌, ◌≤◌, Bool, ◌&&◌, if◌then◌else◌, List, [], ◌∷◌, length, ◌++◌, append_assoc, slice_get, get_or, sym, refl, ap, ◌∙◌, subst, arith, Option, Some, None, ⊎_elim}
+use Rattle.std.proofs.Common.{◌≡◌, ℕ, suc, ◌-◌, ◌<◌, ◌≤◌, Bool, ◌&&◌, if◌then◌else◌, List, [], ◌∷◌, length, ◌++◌, append_assoc, slice_get, sym, refl, ap, ◌∙◌, subst, arith, Option, Some, ⊎_elim}
 use Rattle.std.specs.List.{All}
-use Rattle.std.proofs.lemmas.Bool.{le-leb, cases_lt}
-use Rattle.xa_base.proofs.Lists.{same_begins, begins_on}
+use Rattle.std.proofs.lemmas.Bool.{le-leb, cases_lt, or_parts, not-true}
 use Rattle.xa_words.specs.Tran.{TranName}
 use Rattle.xa_words.specs.declared.code.Code.{Code}
 use Rattle.xa_words.specs.declared.code.Code.TheVariants.{Done as Voted, RdOnly}
-use Rattle.xa_words.specs.declared.request.Op.{Op}
-use Rattle.xa_words.specs.declared.request.Op.TheVariants.{Prepare}
 use Rattle.xa_tables.specs.declared.state.HeuristicDecision.{HeuristicDecision}
 use Rattle.xa_words.specs.Xid.{XidName}
 use Rattle.xa_words.specs.declared.request.Request.{Request}
@@ -17,12 +14,14 @@ use Rattle.xa_tables.specs.Openings.{told_by}
 use Rattle.xa_tables.specs.History as history
 use Rattle.xa_tables.specs.History.{History, Fate, IsFateOf, fate, coded, decided_fate, tables_after}
 use Rattle.xa_tables.specs.Worth.{moved, held_by}
-use Rattle.xa_desk.specs.LedgerView.{LedgerView, learnt_shut}
+use Rattle.xa_desk.specs.LedgerView.{LedgerView}
 use Rattle.xa_desk.specs.DeskView.{DeskView, ledger, no_ledger, is_known}
 use Rattle.xa_worker.specs.Journal.{Entry}
-use Rattle.xa_switch.specs.Settling.{Settling, IsSettled, Agree, sent, collected, journal, answers}
+use Rattle.xa_switch.specs.Settling.{Settling, IsSettled, sent, collected, answers}
 use Rattle.xa_base.specs.Lists.{Begins}
 use Rattle.xa_desk.specs.Growth.{HasGrown, HaveGrown}
+use Rattle.xa_desk.proofs.Ledgers.{past_end}
+use Rattle.xa_desk.proofs.Growth.{as_it_was, grown_on}
 use Rattle.xa_switch.specs.Fates.{IsOpenedWith, ledgers_of, history as history_of}
 use Rattle.xa_driver.specs.declared.branch.Branch.{Branch}
 use Rattle.xa_driver.specs.declared.done.Done.{Done}
@@ -30,12 +29,15 @@ use Rattle.xa_driver.specs.declared.done.Ending.{Ending}
 use Rattle.xa_driver.specs.Decision.{is_yes, is_no}
 use Rattle.xa_driver.specs.Endings.{ending_of, second_op, third_op}
 use Rattle.xa_driver.specs.Log.{LogState}
-use Rattle.xa_driver.specs.Asks.{asked}
-use Rattle.xa_driver.specs.Trace.{BranchTrace, EachBranch, IsCommit, IsTraceOfCommit, AreBranchesRising, voted, decided as decided_ledger}
-use Rattle.xa_driver.specs.Outcomes.{AreLeftAlone, AreLeftOrDecided, OnlyTheseName, OnlyTheseOrDecisionsName, IsDecidedAfter, KeepsItsVote, TellsTheFate, undecided, decided, told_fate, EachOutcome, KeepsTheVotes, TellsTheFates, has_committed, has_rolled_back, has_vote_against, is_committed, is_rolled_back, is_in_doubt, is_heuristic, is_left, is_read_only}
+use Rattle.xa_driver.specs.Resolving.{AsksLedger}
+use Rattle.xa_driver.specs.Trace.{EachBranch, IsCommit, IsTraceOfCommit, AreBranchesRising}
+use Rattle.xa_driver.proofs.Mapped.{any_asked, branch_by}
+use Rattle.xa_driver.proofs.Traces.{asked_grows}
+use Rattle.xa_driver.specs.Outcomes.{AreLeftAlone, AreLeftOrDecided, OnlyTheseName, OnlyTheseOrDecisionsName, IsDecidedAfter, KeepsItsVote, TellsTheFate, undecided, decided, told_fate, EachOutcome, KeepsTheVotes, TellsTheFates, has_committed, has_rolled_back, has_vote_against, is_committed, is_rolled_back, is_in_doubt, is_heuristic, is_left, is_read_only, sent_so_far}
 use Rattle.xa_driver.specs.declared.done.Ending.TheVariants.{Committed, ReadOnly, RolledBack, InDoubt, Heuristic, Left}
 use Rattle.std.specs.List.{list_any}
-use Rattle.std.specs.Prelude.{ℤ, pos, true, false, not, ◌||◌, ◌⊎◌}
+use Rattle.std.specs.Prelude.{ℤ, pos, true, false, ◌||◌, ◌⊎◌}
+use Rattle.std.proofs.Math.Bool.{or-true}
 use Rattle.xa_driver.specs.Additions.{IsAddition, Shares, CountsTheCommitted, HasAllOrNothing, is_decided}
 use Rattle.xa_base.proofs.Truth.{by_if}
 use Rattle.xa_driver.specs.Conservation.{taken_before}
@@ -44,29 +46,15 @@ use Rattle.xa_driver.proofs.EachManager.{every_manager}
 use Rattle.xa_driver.specs.Tabled.{Tabled}
 use Rattle.xa_driver.proofs.Values.{Counted, branch_counts}
 use Rattle.xa_driver.proofs.Fated.{Told, branch_told}
-
-or_none : (a b : Bool) → (a || b) ≡ false → (a ≡ false) × (b ≡ false)
-or_none true b e = cc
-or_none false b e = (refl, e)
-
-or_true : (b : Bool) → (b || true) ≡ true
-or_true true = refl
-or_true false = refl
-
-not_true : (b : Bool) → not b ≡ true → b ≡ false
-not_true true e = cc
-not_true false e = refl
+use Rattle.xa_driver.specs.Course.{AtBranch}
+use Rattle.xa_driver.proofs.Sites.{Site, Sent, AsksIn}
+use Rattle.xa_driver.proofs.InLedgers.{heard, branch_in}
 
 all_first : {A : Type 0} (P : A → Type 0) (y : A) (ys : List A) → All P (y ∷ ys) → P y
 all_first P y ys h = h 0 y (omega arith)
 
 all_rest : {A : Type 0} (P : A → Type 0) (y : A) (ys : List A) → All P (y ∷ ys) → All P ys
 all_rest P y ys h k d lt = h (suc k) d (omega arith)
-
-past_end : (l : List LedgerView) (k : ℕ) → length l ≤ k → get_or l k no_ledger ≡ no_ledger
-past_end [] k h = refl
-past_end (x ∷ l) zero h = absurd (omega arith)
-past_end (x ∷ l) (suc k) h = past_end l k (omega arith)
 
 -- what was sent to a manager, and collected from it, stands in the ledger with it
 pub by_ledger : {X : Type 0} (at : List LedgerView) (m : ℕ) (f : LedgerView → List X) → 1 ≤ m → f no_ledger ≡ [] → (if is_known at m then f (ledger at m) else []) ≡ f (ledger at m)
@@ -83,7 +71,7 @@ not_left commit RdOnly second reached n = refl
 not_left commit vote second reached n = cc
 
 -- what is shown of each branch follows for each
-outcome_map : (P Q : Branch → Code → Ending → Type 0) → ((b : Branch) (v : Code) (e : Ending) → P b v e → Q b v e) → (bs : List Branch) (vs : List Code) (es : List Ending) → EachOutcome P bs vs es → EachOutcome Q bs vs es
+pub outcome_map : (P Q : Branch → Code → Ending → Type 0) → ((b : Branch) (v : Code) (e : Ending) → P b v e → Q b v e) → (bs : List Branch) (vs : List Code) (es : List Ending) → EachOutcome P bs vs es → EachOutcome Q bs vs es
 outcome_map P Q f [] [] [] h = tt
 outcome_map P Q f (b ∷ bs) (v ∷ vs) (e ∷ es) h = (f b v e h.0, outcome_map P Q f bs vs es h.1)
 outcome_map P Q f bs vs es h = absurd h
@@ -131,105 +119,113 @@ tells_of s t b n ending told doubt = record {
       (doubt before was.first was.opened was.fits unknown);
 }
 
+-- branch by branch, without the second codes
+pub each_outcome : (C : Branch → Type 0) (P : Branch → Code → Option Code → Ending → Type 0) (Q : Branch → Code → Ending → Type 0) → ((b : Branch) (v : Code) (z : Option Code) (e : Ending) → C b → P b v z e → Q b v e)
+    → (bs : List Branch) (vs : List Code) (zs : List (Option Code)) (es : List Ending) → All C bs → EachBranch P bs vs zs es → EachOutcome Q bs vs es
+each_outcome C P Q so [] [] [] [] all h = tt
+each_outcome C P Q so (b ∷ bs) (v ∷ vs) (z ∷ zs) (e ∷ es) all h = (so b v z e (all_first C b bs all) h.0, each_outcome C P Q so bs vs zs es (all_rest C b bs all) h.1)
+each_outcome C P Q so bs vs zs es all h = absurd h
+
+-- in a settled opening, by the histories of its managers
 module _ (law : Tabled) (opened : (s : Settling) (m : ℕ) → IsSettled s → (T : Tables) × IsOpenedWith s m T) (s : Settling) (t : ℕ) where
-  -- a branch with an addition didn't only read
-  abbrev Adders : Settling → ℕ → Branch → LedgerView → Ending → Type 0
-  Adders s t b old ending = (T : Tables) → IsOpenedWith s b.m T → (k : List ℕ) (d : ℤ) → IsAddition b.xid k d t (length old.sent) T (history_of s b.m) → is_read_only ending ≡ false
+  -- a branch with an addition, whose Prepare has number n, didn't only read
+  abbrev Adders : Branch → ℕ → Ending → Type 0
+  Adders b n ending = (T : Tables) → IsOpenedWith s b.m T → (k : List ℕ) (d : ℤ) → IsAddition b.xid k d t n T (history_of s b.m) → is_read_only ending ≡ false
 
   -- what became of one branch
-  pub record Fated (b : Branch) (old : LedgerView) (vote : Code) (ending : Ending) : Type 0 where
-    pub keeps : KeepsItsVote s t b (length old.sent) vote ending
-    pub tells : TellsTheFate s t b (length old.sent) ending
+  pub record Fated (b : Branch) (n : ℕ) (vote : Code) (ending : Ending) : Type 0 where
+    pub keeps : KeepsItsVote s t b n vote ending
+    pub tells : TellsTheFate s t b n ending
     pub unless_no : is_no vote ≡ false → is_left ending ≡ false
 
-  -- and what it counts for
-  pub record Both (b : Branch) (old new : LedgerView) (vote : Code) (ending : Ending) : Type 0 where
-    pub fated : Fated b old vote ending
-    pub counts : Shares s t b (length old.sent) (is_committed ending)
-    pub adders : Adders s t b old ending
+  -- and what it counts for, whose requests have the numbers from n to below `last`
+  pub record Both (b : Branch) (n last : ℕ) (vote : Code) (ending : Ending) : Type 0 where
+    pub fated : Fated b n vote ending
+    pub counts : Shares s t b n (is_committed ending)
+    pub adders : Adders b n ending
     pub moves : (T : Tables) → IsOpenedWith s b.m T → (accounts : List (List ℕ × ℕ))
-        → moved accounts (is_within t (length old.sent) (length new.sent)) (history_of s b.m) T ≡ (if is_committed ending then held_by accounts b.xid (tables_after (taken_before t (length old.sent) (history_of s b.m)) T) else pos 0)
+        → moved accounts (is_within t n last) (history_of s b.m) T ≡ (if is_committed ending then held_by accounts b.xid (tables_after (taken_before t n (history_of s b.m)) T) else pos 0)
     pub undecided : is_no vote ≡ false → is_heuristic ending ≡ false
-    pub reads : is_read_only ending ≡ true → (T : Tables) → IsOpenedWith s b.m T → (accounts : List (List ℕ × ℕ)) → held_by accounts b.xid (tables_after (taken_before t (length old.sent) (history_of s b.m)) T) ≡ pos 0
+    pub reads : is_read_only ending ≡ true → (T : Tables) → IsOpenedWith s b.m T → (accounts : List (List ℕ × ℕ)) → held_by accounts b.xid (tables_after (taken_before t n (history_of s b.m)) T) ≡ pos 0
+
+  -- what a branch was asked, in its manager's history
+  abbrev pub InHistory : Bool → (ℕ → Sent) → (ℕ → Sent) → Branch → Code → Option Code → Ending → Type 0
+  InHistory commit old new b v z e = (T : Tables) → IsOpenedWith s b.m T → AtBranch (AsksIn t T (history_of s b.m)) commit b v z e (old b.m) (new b.m)
 
   -- ---- one branch
 
-  module _ (settled : IsSettled s) (commit : Bool) (b : Branch) (vote : Code) (second : Option Code) (a a' : LedgerView) (positive : 1 ≤ b.m) (grown : HasGrown a' (ledger (ledgers_of s t) b.m)) (tr : BranchTrace commit b vote second a a') where
+  module _ (settled : IsSettled s) (commit : Bool) (old new : ℕ → Sent) (b : Branch) (vote : Code) (second : Option Code) (ending : Ending) (is : InHistory commit old new b vote second ending) where
     abbrev H : History
     H = history_of s b.m
 
-    agree : Agree t (sent s t b.m) (collected s t b.m) (journal s b.m)
-    agree = settled.agree t b.m
+    abbrev n : ℕ
+    n = (old b.m).number
 
-    all_sent : Begins a'.sent (sent s t b.m)
-    all_sent = subst (Begins a'.sent) (sym (by_ledger (ledgers_of s t) b.m (λ (z : LedgerView). z.sent) positive refl)) grown.sent
+    abbrev last : ℕ
+    last = (new b.m).number
 
-    all_collected : Begins a'.collected (collected s t b.m)
-    all_collected = subst (Begins a'.collected) (sym (by_ledger (ledgers_of s t) b.m (λ (z : LedgerView). z.collected) positive refl)) grown.collected
+    abbrev site : (T : Tables) → IsOpenedWith s b.m T → Site t T H
+    site T with_T = record { law = law; opening = with_T.opened; ops = sent s t b.m; carried = (settled.agree t b.m).carried }
 
-    answered : (T : Tables) → IsOpenedWith s b.m T → All (λ p. slice_get (answers t (coded H T)) p.0 ≡ Some p) (collected s t b.m)
-    answered T with_T = subst (λ (J : List Entry). All (λ (p : ℕ × Code). slice_get (answers t J) p.0 ≡ Some p) (collected s t b.m)) with_T.codes agree.coded
+    one_told : OnlyTheseOrDecisionsName b.xid t n last H → (before : Fate) (T : Tables) → IsOpenedWith s b.m T → IsFateOf b.xid before T → Told t b.xid before T H n vote ending
+    one_told only before T with_T fits = branch_told (site T with_T) b commit vote second ending (old b.m) (new b.m) (is T with_T) before fits only
 
-    one_told : OnlyTheseOrDecisionsName b.xid t (length a.sent) (length a'.sent) H → (before : Fate) (T : Tables) → IsOpenedWith s b.m T → IsFateOf b.xid before T → Told t b.xid before T H (length a.sent) vote (ending_of commit vote second)
-    one_told only before T with_T fits = branch_told law t b vote second commit a a' T H (sent s t b.m) (collected s t b.m) with_T.opened before fits agree.carried (answered T with_T) all_sent all_collected only tr
-
-    one_voted : OnlyTheseOrDecisionsName b.xid t (length a.sent) (length a'.sent) H → (T : Tables) → IsOpenedWith s b.m T → Told t b.xid (told_by (state_of T b.xid)) T H (length a.sent) vote (ending_of commit vote second)
+    one_voted : OnlyTheseOrDecisionsName b.xid t n last H → (T : Tables) → IsOpenedWith s b.m T → Told t b.xid (told_by (state_of T b.xid)) T H n vote ending
     one_voted only T with_T = one_told only (told_by (state_of T b.xid)) T with_T (law.first b.xid T)
 
-    one_counted : OnlyTheseName b.xid t (length a.sent) (length a'.sent) H → (T : Tables) → IsOpenedWith s b.m T → Counted t b.xid T H (length a.sent) (length a'.sent) vote (ending_of commit vote second)
-    one_counted only T with_T = branch_counts law t b vote second commit a a' T H (sent s t b.m) (collected s t b.m) with_T.opened agree.carried (answered T with_T) all_sent all_collected only tr
+    one_counted : OnlyTheseName b.xid t n last H → (T : Tables) → IsOpenedWith s b.m T → Counted t b.xid T H n last vote ending
+    one_counted only T with_T = branch_counts (site T with_T) b commit vote second ending (old b.m) (new b.m) (is T with_T) only
 
-    one_fated : OnlyTheseOrDecisionsName b.xid t (length a.sent) (length a'.sent) H → (ending : Ending) → ending ≡ ending_of commit vote second → Fated b a vote ending
-    one_fated only ending is =
+    one_fated : OnlyTheseOrDecisionsName b.xid t n last H → Fated b n vote ending
+    one_fated only =
         let open_ = opened s b.m settled in
         let z = one_voted only open_.0 open_.1 in
-        subst (Fated b a vote) (sym is) (record {
+        let ends = (is open_.0 open_.1).ends in
+        record {
           keeps = record { reached = z.reached; shut = z.shut; decided = λ y h U with_U. (one_voted only U with_U).decided y h };
-          tells = tells_of s t b (length a.sent) (ending_of commit vote second) (λ before U with_U fits. (one_told only before U with_U fits).told) (λ before U with_U fits. (one_told only before U with_U fits).doubt);
-          unless_no = not_left commit vote second z.reached;
-        })
+          tells = tells_of s t b n ending (λ before U with_U fits. (one_told only before U with_U fits).told) (λ before U with_U fits. (one_told only before U with_U fits).doubt);
+          unless_no = λ no. ap is_left ends ∙ not_left commit vote second (λ y. sym (ap is_left ends) ∙ z.reached y) no;
+        }
 
-    one_both : OnlyTheseName b.xid t (length a.sent) (length a'.sent) H → (ending : Ending) → ending ≡ ending_of commit vote second → Both b a a' vote ending
-    one_both only ending is =
-        let fated = one_fated (λ before after r place own number k d lt named other. only before after r place own number k d lt named) (ending_of commit vote second) refl in
+    one_both : OnlyTheseName b.xid t n last H → Both b n last vote ending
+    one_both only =
         let open_ = opened s b.m settled in
-        let z : (U : Tables) → IsOpenedWith s b.m U → Counted t b.xid U H (length a.sent) (length a'.sent) vote (ending_of commit vote second) = one_counted only in
-        subst (Both b a a' vote) (sym is) (record {
-          fated = fated;
+        let z : (U : Tables) → IsOpenedWith s b.m U → Counted t b.xid U H n last vote ending = one_counted only in
+        record {
+          fated = one_fated (λ before after r place own number k d lt named other. only before after r place own number k d lt named);
           counts = λ U with_U k d add. (z U with_U).counted k d add;
           adders = λ U with_U k d add. (z U with_U).adders k d add;
           moves = λ U with_U accounts. (z U with_U).moves accounts;
           undecided = (z open_.0 open_.1).undecided;
           reads = λ only_read U with_U accounts. (z U with_U).reads only_read accounts;
-        })
+        }
 
-  -- ---- each branch of a call
+  -- ---- each branch of a commit
 
-  module _ (settled : IsSettled s) (commit : Bool) (old new : List LedgerView) (grown : HaveGrown new (ledgers_of s t)) where
-    abbrev Traced : Branch → Code → Option Code → Ending → Type 0
-    Traced b v z e = BranchTrace commit b v z (ledger old b.m) (ledger new b.m) × (e ≡ ending_of commit v z)
+  abbrev numbers : (ℕ → Sent) → ℕ → ℕ
+  numbers at m = (at m).number
 
-    each : (A : Branch → Type 0) (Q : Branch → Code → Ending → Type 0) → ((b : Branch) (v : Code) (z : Option Code) (e : Ending) → 1 ≤ b.m → A b → Traced b v z e → Q b v e)
-        → (lo : ℕ) (bs : List Branch) (vs : List Code) (zs : List (Option Code)) (es : List Ending) → AreBranchesRising lo bs → All A bs → EachBranch Traced bs vs zs es → EachOutcome Q bs vs es
-    each A Q one lo [] [] [] [] r only h = tt
-    each A Q one lo (b ∷ bs) (v ∷ vs) (z ∷ zs) (e ∷ es) r only h =
-        let up = r.0 in
-        (one b v z e (omega (arith, up)) (all_first A b bs only) h.0, each A Q one b.m bs vs zs es r.1 (all_rest A b bs only) h.1)
-    each A Q one lo bs vs zs es r only h = absurd h
+  module _ (settled : IsSettled s) (d : Done) (bs : List Branch) (zs : List (Option Code)) (old new : ℕ → Sent) (each : EachBranch (InHistory d.commit old new) bs d.votes.items zs d.endings.items) where
+    module _ (alone : AreLeftOrDecided s t bs (numbers old) (numbers new)) where
+      pub each_fated : EachOutcome (λ b v e. Fated b (old b.m).number v e) bs d.votes.items d.endings.items
+      each_fated =
+          each_outcome (λ b. OnlyTheseOrDecisionsName b.xid t (old b.m).number (new b.m).number (history_of s b.m)) (InHistory d.commit old new) (λ b v e. Fated b (old b.m).number v e)
+          (λ b v z e only is. one_fated settled d.commit old new b v z e is only) bs d.votes.items zs d.endings.items alone.each each
 
-    abbrev Mine : Branch → Type 0
-    Mine b = OnlyTheseName b.xid t (length (ledger old b.m).sent) (length (ledger new b.m).sent) (history_of s b.m)
+      pub keeps_votes : KeepsTheVotes s t bs (numbers old) d
+      keeps_votes = record { each = outcome_map (λ b v e. Fated b (old b.m).number v e) (λ b v e. KeepsItsVote s t b (old b.m).number v e) (λ b v e f. f.keeps) bs d.votes.items d.endings.items each_fated }
 
-    abbrev MineOrDecided : Branch → Type 0
-    MineOrDecided b = OnlyTheseOrDecisionsName b.xid t (length (ledger old b.m).sent) (length (ledger new b.m).sent) (history_of s b.m)
+      pub tells_fates : TellsTheFates s t bs (numbers old) d
+      tells_fates = record { each = outcome_map (λ b v e. Fated b (old b.m).number v e) (λ b v e. TellsTheFate s t b (old b.m).number e) (λ b v e f. f.tells) bs d.votes.items d.endings.items each_fated }
 
-    each_fated : (lo : ℕ) (bs : List Branch) (vs : List Code) (zs : List (Option Code)) (es : List Ending) → AreBranchesRising lo bs → All MineOrDecided bs → EachBranch Traced bs vs zs es → EachOutcome (λ b v e. Fated b (ledger old b.m) v e) bs vs es
-    each_fated = each MineOrDecided (λ b v e. Fated b (ledger old b.m) v e) (λ b v z e positive only traced.
-        one_fated settled commit b v z (ledger old b.m) (ledger new b.m) positive (grown.each b.m positive) traced.0 only e traced.1)
+    module _ (alone : AreLeftAlone s t bs (numbers old) (numbers new)) where
+      pub each_both : EachOutcome (λ b v e. Both b (old b.m).number (new b.m).number v e) bs d.votes.items d.endings.items
+      each_both =
+          each_outcome (λ b. OnlyTheseName b.xid t (old b.m).number (new b.m).number (history_of s b.m)) (InHistory d.commit old new) (λ b v e. Both b (old b.m).number (new b.m).number v e)
+          (λ b v z e only is. one_both settled d.commit old new b v z e is only) bs d.votes.items zs d.endings.items alone.each each
 
-    each_both : (lo : ℕ) (bs : List Branch) (vs : List Code) (zs : List (Option Code)) (es : List Ending) → AreBranchesRising lo bs → All Mine bs → EachBranch Traced bs vs zs es → EachOutcome (λ b v e. Both b (ledger old b.m) (ledger new b.m) v e) bs vs es
-    each_both = each Mine (λ b v e. Both b (ledger old b.m) (ledger new b.m) v e) (λ b v z e positive only traced.
-        one_both settled commit b v z (ledger old b.m) (ledger new b.m) positive (grown.each b.m positive) traced.0 only e traced.1)
+      pub counts_committed : CountsTheCommitted s t bs (numbers old) d
+      counts_committed = record { each = outcome_map (λ b v e. Both b (old b.m).number (new b.m).number v e) (λ b v e. Shares s t b (old b.m).number (is_committed e)) (λ b v e z. z.counts) bs d.votes.items d.endings.items each_both }
 
   -- ---- all of a transaction or nothing
 
@@ -245,71 +241,77 @@ module _ (law : Tabled) (opened : (s : Settling) (m : ℕ) → IsSettled s → (
   ending_is whole InDoubt agree plain some doubt left reads = cc
   ending_is whole (Left c) agree plain some doubt left reads = cc
 
-  each_whole : (whole : Bool) (old new : List LedgerView) (bs : List Branch) (vs : List Code) (es : List Ending) → (whole ≡ true → list_any is_rolled_back es ≡ false) → (whole ≡ true → list_any is_no vs ≡ false) → (list_any is_committed es ≡ true → whole ≡ true)
-      → list_any is_in_doubt es ≡ false → list_any is_left es ≡ false → EachOutcome (λ b v e. Both b (ledger old b.m) (ledger new b.m) v e) bs vs es → EachOutcome (λ b v e. Shares s t b (length (ledger old b.m).sent) whole) bs vs es
-  each_whole whole old new [] [] [] agree unopposed some doubt left h = tt
-  each_whole whole old new (b ∷ bs) (v ∷ vs) (e ∷ es) agree unopposed some doubt left h =
-      let here = or_none (is_in_doubt e) (list_any is_in_doubt es) doubt in
-      let there = or_none (is_left e) (list_any is_left es) left in (
+  each_whole : (whole : Bool) (from upto : ℕ → ℕ) (bs : List Branch) (vs : List Code) (es : List Ending) → (whole ≡ true → list_any is_rolled_back es ≡ false) → (whole ≡ true → list_any is_no vs ≡ false) → (list_any is_committed es ≡ true → whole ≡ true)
+      → list_any is_in_doubt es ≡ false → list_any is_left es ≡ false → EachOutcome (λ b v e. Both b (from b.m) (upto b.m) v e) bs vs es → EachOutcome (λ b v e. Shares s t b (from b.m) whole) bs vs es
+  each_whole whole from upto [] [] [] agree unopposed some doubt left h = tt
+  each_whole whole from upto (b ∷ bs) (v ∷ vs) (e ∷ es) agree unopposed some doubt left h =
+      let here = or_parts (is_in_doubt e) (list_any is_in_doubt es) doubt in
+      let there = or_parts (is_left e) (list_any is_left es) left in (
         λ T with_T k d add.
             let same : is_committed e ≡ whole =
-            ending_is whole e (λ w. (or_none (is_rolled_back e) (list_any is_rolled_back es) (agree w)).0) (λ w. h.0.undecided (or_none (is_no v) (list_any is_no vs) (unopposed w)).0) (λ c. some (ap (λ q. q || list_any is_committed es) c)) here.0 there.0
+            ending_is whole e (λ w. (or_parts (is_rolled_back e) (list_any is_rolled_back es) (agree w)).0) (λ w. h.0.undecided (or_parts (is_no v) (list_any is_no vs) (unopposed w)).0) (λ c. some (ap (λ q. q || list_any is_committed es) c)) here.0 there.0
             (h.0.adders T with_T k d add) in
             h.0.counts T with_T k d add ∙ ap (λ q. if q then d else pos 0) same,
-        each_whole whole old new bs vs es (λ w. (or_none (is_rolled_back e) (list_any is_rolled_back es) (agree w)).1) (λ w. (or_none (is_no v) (list_any is_no vs) (unopposed w)).1) (λ c. some (ap (λ q. is_committed e || q) c ∙ or_true (is_committed e))) here.1 there.1 h.1,
+        each_whole whole from upto bs vs es (λ w. (or_parts (is_rolled_back e) (list_any is_rolled_back es) (agree w)).1) (λ w. (or_parts (is_no v) (list_any is_no vs) (unopposed w)).1) (λ c. some (ap (λ q. is_committed e || q) c ∙ or-true (is_committed e))) here.1 there.1 h.1,
       )
-  each_whole whole old new bs vs es agree unopposed some doubt left h = absurd h
+  each_whole whole from upto bs vs es agree unopposed some doubt left h = absurd h
 
-  -- ---- the laws
+  -- ---- by a desk's lists
 
   module _ (bs : List Branch) (desk : DeskView) (new : List LedgerView) (log later : LogState) (d : Done)
       (settled : IsSettled s) (made : IsCommit bs desk new log later d) (grown : HaveGrown new (ledgers_of s t)) where
     abbrev at : List LedgerView
     at = desk.ledgers
 
-    module _ (alone : AreLeftOrDecided s t bs desk.ledgers new) where
-      all_fated : EachOutcome (λ b v e. Fated b (ledger at b.m) v e) bs d.votes.items d.endings.items
-      all_fated = each_fated settled d.commit at new grown 0 bs d.votes.items made.trace.seconds d.endings.items made.may.rising alone.each made.trace.each
+    abbrev old_sent : ℕ → Sent
+    old_sent m = heard (ledger at m)
 
-      pub votes_law : KeepsTheVotes s t bs desk.ledgers d
-      votes_law = record { each = outcome_map (λ b v e. Fated b (ledger at b.m) v e) (λ b v e. KeepsItsVote s t b (length (ledger at b.m).sent) v e) (λ b v e f. f.keeps) bs d.votes.items d.endings.items all_fated }
+    abbrev new_sent : ℕ → Sent
+    new_sent m = heard (ledger new m)
 
-      pub fates_law : TellsTheFates s t bs desk.ledgers d
-      fates_law = record { each = outcome_map (λ b v e. Fated b (ledger at b.m) v e) (λ b v e. TellsTheFate s t b (length (ledger at b.m).sent) e) (λ b v e f. f.tells) bs d.votes.items d.endings.items all_fated }
+    in_history : (b : Branch) (v : Code) (z : Option Code) (e : Ending) → 1 ≤ b.m → AtBranch AsksLedger d.commit b v z e (ledger at b.m) (ledger new b.m) → InHistory d.commit old_sent new_sent b v z e
+    in_history b v z e positive is T with_T =
+        let agree = settled.agree t b.m in
+        let site : Site t T (history_of s b.m) = record { law = law; opening = with_T.opened; ops = sent s t b.m; carried = agree.carried } in
+        let last = grown.each b.m positive in
+        branch_in site (collected s t b.m) (subst (λ (J : List Entry). All (λ (p : ℕ × Code). slice_get (answers t J) p.0 ≡ Some p) (collected s t b.m)) with_T.codes agree.coded) b d.commit v z e (ledger at b.m) (ledger new b.m) is
+        (subst (Begins (ledger new b.m).sent) (sym (by_ledger (ledgers_of s t) b.m (λ (l : LedgerView). l.sent) positive refl)) last.sent)
+        (subst (Begins (ledger new b.m).collected) (sym (by_ledger (ledgers_of s t) b.m (λ (l : LedgerView). l.collected) positive refl)) last.collected)
 
-    module _ (alone : AreLeftAlone s t bs desk.ledgers new) where
-      pub all_outcomes : EachOutcome (λ b v e. Both b (ledger at b.m) (ledger new b.m) v e) bs d.votes.items d.endings.items
-      all_outcomes = each_both settled d.commit at new grown 0 bs d.votes.items made.trace.seconds d.endings.items made.may.rising alone.each made.trace.each
+    in_histories : (lo : ℕ) (cs : List Branch) (vs : List Code) (zs : List (Option Code)) (es : List Ending) → AreBranchesRising lo cs → EachBranch (λ b v z e. AtBranch AsksLedger d.commit b v z e (ledger at b.m) (ledger new b.m)) cs vs zs es → EachBranch (InHistory d.commit old_sent new_sent) cs vs zs es
+    in_histories lo [] [] [] [] rising h = tt
+    in_histories lo (b ∷ cs) (v ∷ vs) (z ∷ zs) (e ∷ es) rising h = let up = rising.0 in (in_history b v z e (omega (arith, up)) h.0, in_histories b.m cs vs zs es rising.1 h.1)
+    in_histories lo cs vs zs es rising h = absurd h
 
-      pub counts_law : CountsTheCommitted s t bs desk.ledgers d
-      counts_law = record { each = outcome_map (λ b v e. Both b (ledger at b.m) (ledger new b.m) v e) (λ b v e. Shares s t b (length (ledger at b.m).sent) (is_committed e)) (λ b v e z. z.counts) bs d.votes.items d.endings.items all_outcomes }
+    each : EachBranch (InHistory d.commit old_sent new_sent) bs d.votes.items made.trace.course.seconds d.endings.items
+    each = in_histories 0 bs d.votes.items made.trace.course.seconds d.endings.items made.may.rising made.trace.course.each
+
+    module _ (alone : AreLeftOrDecided s t bs (sent_so_far at) (sent_so_far new)) where
+      pub votes_law : KeepsTheVotes s t bs (sent_so_far at) d
+      votes_law = keeps_votes settled d bs made.trace.course.seconds old_sent new_sent each alone
+
+      pub fates_law : TellsTheFates s t bs (sent_so_far at) d
+      fates_law = tells_fates settled d bs made.trace.course.seconds old_sent new_sent each alone
+
+    module _ (alone : AreLeftAlone s t bs (sent_so_far at) (sent_so_far new)) where
+      pub all_outcomes : EachOutcome (λ b v e. Both b (sent_so_far at b.m) (sent_so_far new b.m) v e) bs d.votes.items d.endings.items
+      all_outcomes = each_both settled d bs made.trace.course.seconds old_sent new_sent each alone
+
+      pub counts_law : CountsTheCommitted s t bs (sent_so_far at) d
+      counts_law = counts_committed settled d bs made.trace.course.seconds old_sent new_sent each alone
 
       -- no branch was rolled back, and none voted against, where one was committed
-      pub whole_law : (has_committed d ≡ true → has_rolled_back d ≡ false) → (has_committed d ≡ true → has_vote_against d ≡ false) → is_decided d ≡ true → HasAllOrNothing s t bs desk.ledgers d
+      pub whole_law : (has_committed d ≡ true → has_rolled_back d ≡ false) → (has_committed d ≡ true → has_vote_against d ≡ false) → is_decided d ≡ true → HasAllOrNothing s t bs (sent_so_far at) d
       whole_law agree unopposed sure =
-          let none = or_none _ _ (not_true _ sure) in
-          record { each = each_whole (has_committed d) at new bs d.votes.items d.endings.items agree unopposed (λ e. e) none.0 none.1 all_outcomes }
+          let none = or_parts _ _ (not-true _ sure) in
+          record { each = each_whole (has_committed d) (sent_so_far at) (sent_so_far new) bs d.votes.items d.endings.items agree unopposed (λ e. e) none.0 none.1 all_outcomes }
 
 -- ---- a commit only makes the lists grow
 
-pub unchanged : (a : LedgerView) → HasGrown a a
-unchanged a = record { sent = same_begins a.sent; collected = same_begins a.collected }
-
-asked_grows : (a : LedgerView) (op : Option Op) (code : Option Code) → HasGrown a (asked a op code)
-asked_grows a None code = unchanged a
-asked_grows a (Some op) None = unchanged a
-asked_grows a (Some op) (Some code) =
-    by_if (HasGrown a) (learnt_shut a) _ _ (λ _. unchanged a) (λ _. record { sent = (op ∷ [], refl); collected = ((length a.sent, code) ∷ [], refl) })
-
-pub grown_on : (a b c : LedgerView) → HasGrown a b → HasGrown b c → HasGrown a c
-grown_on a b c p q = record { sent = begins_on a.sent b.sent c.sent p.sent q.sent; collected = begins_on a.collected b.collected c.collected p.collected q.collected }
-
-traced_grows : (commit : Bool) (b : Branch) (v : Code) (z : Option Code) (a a' : LedgerView) → BranchTrace commit b v z a a' → HasGrown a a'
-traced_grows commit b v z a a' tr =
-    subst (HasGrown a) (sym tr.trace)
-    (grown_on a (decided_ledger commit b v z a) _
-    (grown_on a (voted b v a) (decided_ledger commit b v z a) (asked_grows a (Some (Prepare b.xid)) (Some v)) (asked_grows (voted b v a) (second_op commit b.xid v) z))
-    (asked_grows (decided_ledger commit b v z a) (third_op b.xid z) tr.third))
+traced_grows : (commit : Bool) (b : Branch) (v : Code) (z : Option Code) (e : Ending) (a a' : LedgerView) → AtBranch AsksLedger commit b v z e a a' → HasGrown a a'
+traced_grows commit b v z e a a' is =
+    branch_by AsksLedger (λ op. Unit {0}) (HasGrown a) (λ d w op c so asked q. grown_on a d w q (subst (HasGrown d) (sym asked.trace) (asked_grows d (Some op) (Some c)))) commit b v z e a a' is
+    (any_asked (second_op commit b.xid v)) (any_asked (third_op b.xid z)) tt (as_it_was a)
 
 pub growth_law : (tran : TranName) (bs : List Branch) (old new : List LedgerView) (log later : LogState) (d : Done) → IsTraceOfCommit tran bs old new log later d → HaveGrown old new
-growth_law tran bs old new log later d call = record { each = every_manager HasGrown unchanged tran bs old new log later d (traced_grows d.commit) call }
+growth_law tran bs old new log later d call = record { each = every_manager HasGrown as_it_was tran bs old new log later d (traced_grows d.commit) call }

@@ -32,6 +32,7 @@ use Rattle.xa_driver.specs.UnderWay.{IsAtRest, MayAsk}
 use Rattle.xa_driver.proofs.Calls.{answered_some, asks_long, call_by, last_can, next_can, same_long, second_code, seconds_long, yes_is}
 use Rattle.xa_driver.proofs.CutVotes.{Ended, did_nothing}
 use Rattle.xa_driver.proofs.OneOutcome.{one_tran}
+use Rattle.xa_driver.proofs.Gathering.{same_itself}
 
 -- ---- all stages make a call
 
@@ -153,10 +154,6 @@ asks_begun (k ∷ ks) at now e = All-cons (Begun at now) k ks (collected k.code 
 
 none_begun : (ks : List Ask) (at : List LedgerView) → All (Begun at at) ks
 none_begun ks at k d lt = unasked refl
-
-same_asks : (ks : List Ask) → SameAsks ks ks
-same_asks [] = tt
-same_asks (k ∷ ks) = (record { manager = refl; xid = refl; vote = refl; op = refl }, same_asks ks)
 
 -- ---- all branches
 
@@ -284,12 +281,12 @@ prepared_is_cut bs desk mid new log p may first between = asking_cut bs desk mid
 
 pub decided_is_cut : (bs : List Branch) (desk : DeskView) (mid new : List LedgerView) (log later : LogState) (p : Prepared) (d : Decided) → MayCommit desk log bs → HasPrepared bs desk.ledgers mid p → LeavesBranches bs mid new → HasDecided p log later d → IsCut bs desk new log later []
 decided_is_cut bs desk mid new log later p d may first between second =
-    telling_cut bs desk mid new log later p d may first between second new (map (second_ask d.known.commit) p.round.asks.items) (same_asks (map (second_ask d.known.commit) p.round.asks.items)) (none_so_far (map (second_ask d.known.commit) p.round.asks.items) new)
+    telling_cut bs desk mid new log later p d may first between second new (map (second_ask d.known.commit) p.round.asks.items) (same_itself (map (second_ask d.known.commit) p.round.asks.items)) (none_so_far (map (second_ask d.known.commit) p.round.asks.items) new)
 
 pub told_is_cut : (bs : List Branch) (desk : DeskView) (mid tell late new : List LedgerView) (log later : LogState) (p : Prepared) (d : Decided) (t : Told) → MayCommit desk log bs → HasPrepared bs desk.ledgers mid p → LeavesBranches bs mid tell → HasDecided p log later d → HasTold d tell late t → LeavesBranches bs late new
     → IsCut bs desk new log later t.known.endings.items
 told_is_cut bs desk mid tell late new log later p d t may first between second third after =
-    forgetting_cut bs desk mid tell log later p d may first between second late new t third after new (map third_ask t.round.asks.items) (same_asks (map third_ask t.round.asks.items)) (none_so_far (map third_ask t.round.asks.items) new)
+    forgetting_cut bs desk mid tell log later p d may first between second late new t third after new (map third_ask t.round.asks.items) (same_itself (map third_ask t.round.asks.items)) (none_so_far (map third_ask t.round.asks.items) new)
 
 -- ---- a round that is left
 

@@ -8,13 +8,13 @@ use Rattle.xa_desk.specs.LedgerView.{LedgerView, learnt_shut, is_collected, with
 use Rattle.xa_desk.specs.DeskView.{DeskView, ledger}
 use Rattle.xa_desk.specs.Seats.{DeskSeat}
 use Rattle.xa_desk.specs.Tickets.{LeavesTickets}
-use Rattle.xa_desk.proofs.Ledgers.{is_collected-push}
+use Rattle.xa_desk.proofs.Ledgers.{is_collected-push, known_by}
 use Rattle.xa_driver.specs.declared.ask.Ask.{Ask}
 use Rattle.xa_driver.specs.Asks.{asked, among_asks, Asks, EachAsk, KeepsDesk, KeepsTheRest, LeavesOutstanding}
 use Rattle.xa_driver.proofs.Gathering.{as_many_open}
 use Rattle.xa_driver.proofs.Kept.{asks_keep}
 use Rattle.xa_base.proofs.Truth.{by_if}
-use Rattle.xa_driver.proofs.Asking.{keeps_chain, known_by}
+use Rattle.xa_driver.proofs.Asking.{keeps_chain}
 
 -- the request of this number was sent and not collected
 pub record IsOpen (n : ℕ) (a : LedgerView) : Type 0 where

@@ -12,13 +12,14 @@ use Rattle.xa_base.proofs.Truth.{by_if}
 use Rattle.xa_desk.specs.LedgerView.{LedgerView, learnt_shut}
 use Rattle.xa_desk.specs.Tickets.{LeavesTickets}
 use Rattle.xa_desk.specs.DeskView.{DeskView, TicketView, IsKnown, ledger, outstanding}
+use Rattle.xa_desk.proofs.Ledgers.{known_by}
 use Rattle.xa_driver.specs.declared.ask.Ask.{Ask}
 use Rattle.xa_driver.specs.declared.round.Round.{Round}
 use Rattle.xa_driver.specs.Asks.{AllCanAsk, AreRising, AskTrace, Asks, BeginsAsk, CanAsk, EachAsk, EachBegan, Ends, HasBegun, HaveComeSoFar, IsBegun, KeepsDesk, Owning, among_asks, collected, in_flight, unasked}
 use Rattle.xa_driver.specs.UnderWay.{Begins, IsUnderWay, coded, sent_count}
 use Rattle.std.proofs.lemmas.Bool.{eqb-false, eqb-true}
 use Rattle.xa_driver.proofs.Staying.{IsOpen, tickets_stay}
-use Rattle.xa_driver.proofs.Asking.{Moved, sent_by, collected_of, keeps_chain, keeps_start, known_by, began_moved}
+use Rattle.xa_driver.proofs.Asking.{Moved, sent_by, collected_of, keeps_chain, keeps_start, began_moved}
 use Rattle.xa_driver.proofs.Gathering.{behind}
 use Rattle.xa_driver.proofs.Flights.{among_first_part, among_last_part, apart, asked_more, asked_stays, begins_flight, begun_more, begun_stays, can_at, end_answers, end_moves, rising_apart, rising_first_part, rising_last_part, sent_takes_one}
 
@@ -131,9 +132,6 @@ module _ (r : Round) (now : DeskView) (u : IsUnderWay r now) where
 
   pub count_is : sent_count r ≡ length gone
   count_is = let a = u.counted in let b = tickets_are in omega (arith, a, b, length-append u.done u.flying)
-
-  pub sent_within : sent_count r ≤ length r.asks.items
-  sent_within = let a = count_is in let b = ap (λ l. length l) split in omega (arith, a, b, length-append gone u.rest)
 
   -- ---- one more is sent
 

@@ -1,9 +1,7 @@
 -- The order of global transactions is total, and tells all apart as `==` does.
-use Rattle.std.specs.Prelude.{◌≡◌, ℤ, ℕ, List, true, refl}
+use Rattle.std.specs.Prelude.{◌≡◌, ℤ, ℕ, List, true}
 use Rattle.std.proofs.Common.{ap, subst}
 use Rattle.std.specs.Ordering.{nat_cmp, int_cmp, eq_by_cmp, is_eq}
-use Rattle.std.specs.declared.cmp.Ordering.{Ordering}
-use Rattle.std.specs.declared.cmp.Ordering.TheVariants.{Less, Equal, Greater}
 use Rattle.std.specs.Bool.{Decides}
 use Rattle.std.specs.Cmp.{IsTotalOrder, tied_itself, int_cmp_total}
 use Rattle.std.specs.Cmp.Lexicographic.{slice_cmp, nat_list_cmp_total}
@@ -11,6 +9,7 @@ use Rattle.std.specs.FinMap.{IsAntisymmetric}
 use Rattle.std.proofs.lemmas.Cmp.{then_total, on_total}
 use Rattle.std.proofs.lemmas.Map.Lookups.{exact_pairs, exact_signed, exact_bytes}
 use Rattle.std.proofs.lemmas.Bool.Decides.{same_from_decides}
+use Rattle.xa_base.proofs.Truth.{is_equal}
 use Rattle.xa_words.specs.Tran.{TranName, tran_eq}
 use Rattle.xa_words.specs.TranOrders.{Decides-tran_eq}
 use Rattle.xa_driver.specs.Transactions.{tran_cmp}
@@ -23,11 +22,6 @@ pub tran_cmp-IsAntisymmetric : IsAntisymmetric tran_cmp
 tran_cmp-IsAntisymmetric x y e =
     let p : ◌≡◌ {A = ℤ × List ℕ} (x.format, x.gtrid) (y.format, y.gtrid) = exact_pairs int_cmp (slice_cmp nat_cmp) exact_signed exact_bytes (x.format, x.gtrid) (y.format, y.gtrid) e in
     λ i. record { format = (p i).0; gtrid = (p i).1 }
-
-is_equal : (r : Ordering) → is_eq r ≡ true → r ≡ Equal
-is_equal Less t = cc
-is_equal Equal t = refl
-is_equal Greater t = cc
 
 decides_by_cmp : (x y : TranName) → Decides (eq_by_cmp tran_cmp x y) (x ≡ y)
 decides_by_cmp x y =

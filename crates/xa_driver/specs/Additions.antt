@@ -9,8 +9,6 @@ use Rattle.xa_words.specs.declared.request.Request.{Request}
 use Rattle.xa_tables.specs.Tables.{Tables, association_of}
 use Rattle.xa_tables.specs.Next.{next}
 use Rattle.xa_tables.specs.History.{History, EndsNowhere, share, tables_after}
-use Rattle.xa_desk.specs.LedgerView.{LedgerView}
-use Rattle.xa_desk.specs.DeskView.{ledger}
 use Rattle.xa_switch.specs.Settling.{Settling}
 use Rattle.xa_switch.specs.Fates.{IsOpenedWith, history}
 use Rattle.xa_driver.specs.declared.branch.Branch.{Branch}
@@ -47,17 +45,15 @@ Shares s t b n counts =
     → share k none_later a.adding (a.between ++ prepare_of t n b.xid ∷ a.after) (tables_after a.before T)
     ≡ (if counts then d else pos 0)
 
--- Of each branch of a call the additions count exactly where the branch was committed.
-pub record CountsTheCommitted (s : Settling) (t : ℕ) (bs : List Branch) (old : List LedgerView)
-    (d : Done) : Type 0 where
-  pub each : EachOutcome
-      (λ b v e. Shares s t b (length (ledger old b.m).sent) (is_committed e)) bs d.votes.items d.endings.items
+-- Of each branch of a commit, before which thread t had sent each manager so many requests, the additions count exactly
+-- where the branch was committed.
+pub record CountsTheCommitted (s : Settling) (t : ℕ) (bs : List Branch) (from : ℕ → ℕ) (d : Done) : Type 0 where
+  pub each : EachOutcome (λ b v e. Shares s t b (from b.m) (is_committed e)) bs d.votes.items d.endings.items
 
 -- no branch of the call is in doubt, or left
 abbrev pub is_decided : Done → Bool
 is_decided d = not (list_any is_in_doubt d.endings.items || list_any is_left d.endings.items)
 
 -- All additions of the transaction count, where a branch was committed, or none does.
-pub record HasAllOrNothing (s : Settling) (t : ℕ) (bs : List Branch) (old : List LedgerView) (d : Done) : Type 0 where
-  pub each : EachOutcome
-      (λ b v e. Shares s t b (length (ledger old b.m).sent) (has_committed d)) bs d.votes.items d.endings.items
+pub record HasAllOrNothing (s : Settling) (t : ℕ) (bs : List Branch) (from : ℕ → ℕ) (d : Done) : Type 0 where
+  pub each : EachOutcome (λ b v e. Shares s t b (from b.m) (has_committed d)) bs d.votes.items d.endings.items

@@ -17,7 +17,7 @@ use Rattle.xa_driver.specs.declared.done.Ending.{Ending}
 use Rattle.xa_driver.specs.Log.{LogState}
 use Rattle.xa_driver.specs.Trace.{IsCommit}
 use Rattle.xa_driver.specs.Commits.{NoCommitWasSent}
-use Rattle.xa_driver.specs.Outcomes.{AreLeftAlone, has_committed, is_in_doubt}
+use Rattle.xa_driver.specs.Outcomes.{AreLeftAlone, has_committed, is_in_doubt, sent_so_far}
 
 -- the requests of a history before thread t's of number n
 abbrev pub taken_before : ℕ → ℕ → History → History
@@ -59,5 +59,5 @@ pub data OnlyTransfers (p : Plan) (s : Settling) (t : ℕ) : List LedgerView →
       → NoCommitWasSent at later → OnlyTransfers p s t later doubt
   committed : (bs : List Branch) (desk : DeskView) (new : List LedgerView) (log later : LogState) (d : Done) (doubt : ℤ)
       → OnlyTransfers p s t desk.ledgers doubt → IsCommit bs desk new log later d
-      → AreLeftAlone s t bs desk.ledgers new → added_by_all p s t desk.ledgers bs ≡ pos 0
+      → AreLeftAlone s t bs (sent_so_far desk.ledgers) (sent_so_far new) → added_by_all p s t desk.ledgers bs ≡ pos 0
       → OnlyTransfers p s t new (doubt +ℤ held_in_doubt p s t desk.ledgers bs d)

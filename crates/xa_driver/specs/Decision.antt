@@ -20,20 +20,17 @@ vote_of c = No
 -- a vote, as a test
 abbrev pub says_yes : Vote → Bool
 says_yes Yes = true
-says_yes Read = false
-says_yes No = false
+says_yes v = false
 
 -- a vote, as a test
 abbrev pub says_read : Vote → Bool
-says_read Yes = false
 says_read Read = true
-says_read No = false
+says_read v = false
 
 -- a vote, as a test
 abbrev pub says_no : Vote → Bool
-says_no Yes = false
-says_no Read = false
 says_no No = true
+says_no v = false
 
 -- the code is a vote to commit
 abbrev pub is_yes : Code → Bool

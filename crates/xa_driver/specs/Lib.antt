@@ -2,6 +2,7 @@ pub mod Transactions
 pub mod Decision
 pub mod Log
 pub mod Endings
+pub mod Course
 pub mod Asks
 pub mod Rounds
 pub mod Trace

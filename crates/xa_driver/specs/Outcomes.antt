@@ -31,56 +31,32 @@ use Rattle.xa_driver.specs.Commits.{NoCommitWasSent}
 -- the ending, as a test
 abbrev pub is_committed : Ending → Bool
 is_committed Committed = true
-is_committed ReadOnly = false
-is_committed RolledBack = false
-is_committed (Heuristic c) = false
-is_committed InDoubt = false
-is_committed (Left c) = false
+is_committed e = false
 
 -- the ending, as a test
 abbrev pub is_rolled_back : Ending → Bool
-is_rolled_back Committed = false
-is_rolled_back ReadOnly = false
 is_rolled_back RolledBack = true
-is_rolled_back (Heuristic c) = false
-is_rolled_back InDoubt = false
-is_rolled_back (Left c) = false
+is_rolled_back e = false
 
 -- the ending, as a test
 abbrev pub is_in_doubt : Ending → Bool
-is_in_doubt Committed = false
-is_in_doubt ReadOnly = false
-is_in_doubt RolledBack = false
-is_in_doubt (Heuristic c) = false
 is_in_doubt InDoubt = true
-is_in_doubt (Left c) = false
+is_in_doubt e = false
 
 -- the ending, as a test
 abbrev pub is_heuristic : Ending → Bool
-is_heuristic Committed = false
-is_heuristic ReadOnly = false
-is_heuristic RolledBack = false
 is_heuristic (Heuristic c) = true
-is_heuristic InDoubt = false
-is_heuristic (Left c) = false
+is_heuristic e = false
 
 -- the ending, as a test
 abbrev pub is_left : Ending → Bool
-is_left Committed = false
-is_left ReadOnly = false
-is_left RolledBack = false
-is_left (Heuristic c) = false
-is_left InDoubt = false
 is_left (Left c) = true
+is_left e = false
 
 -- the ending, as a test
 abbrev pub is_read_only : Ending → Bool
-is_read_only Committed = false
 is_read_only ReadOnly = true
-is_read_only RolledBack = false
-is_read_only (Heuristic c) = false
-is_read_only InDoubt = false
-is_read_only (Left c) = false
+is_read_only e = false
 
 -- some branch was committed
 abbrev pub has_committed : Done → Bool
@@ -137,16 +113,18 @@ OnlyTheseOrDecisionsName x t first last h =
     (before after : History) (r : Request) → h ≡ before ++ r ∷ after → r.thread ≡ t → r.number ≡ first
     → All (λ q. names x q.op ≡ true → is_heur q.op ≡ false → IsBetween t first last q) after
 
--- so for each branch and the requests that the call of thread t sent to its manager: nobody else names it
-pub record AreLeftAlone (s : Settling) (t : ℕ) (bs : List Branch) (old new : List LedgerView) : Type 0 where
-  pub each : All
-      (λ b. OnlyTheseName b.xid t (length (ledger old b.m).sent) (length (ledger new b.m).sent) (history_of s b.m)) bs
+-- how many requests these lists have, manager by manager
+abbrev pub sent_so_far : List LedgerView → ℕ → ℕ
+sent_so_far at m = length (ledger at m).sent
 
--- nobody else names it, but for heuristic decisions
-pub record AreLeftOrDecided (s : Settling) (t : ℕ) (bs : List Branch) (old new : List LedgerView) : Type 0 where
-  pub each : All
-      (λ b. OnlyTheseOrDecisionsName b.xid t (length (ledger old b.m).sent) (length (ledger new b.m).sent)
-      (history_of s b.m)) bs
+-- Thread t had sent each manager `from` requests before a commit, and `upto` after it: in each branch's history nobody
+-- but the commit names the branch from its Prepare on.
+pub record AreLeftAlone (s : Settling) (t : ℕ) (bs : List Branch) (from upto : ℕ → ℕ) : Type 0 where
+  pub each : All (λ b. OnlyTheseName b.xid t (from b.m) (upto b.m) (history_of s b.m)) bs
+
+-- the same, but for heuristic decisions, whose ever they are
+pub record AreLeftOrDecided (s : Settling) (t : ℕ) (bs : List Branch) (from upto : ℕ → ℕ) : Type 0 where
+  pub each : All (λ b. OnlyTheseOrDecisionsName b.xid t (from b.m) (upto b.m) (history_of s b.m)) bs
 
 -- a Shut stands before thread t's request of this number
 pub record IsAfterShut (t n : ℕ) (h : History) : Type 0 where
@@ -225,11 +203,9 @@ EachOutcome P [] [] [] = Unit {0}
 EachOutcome P (b ∷ bs) (v ∷ vs) (e ∷ es) = P b v e × EachOutcome P bs vs es
 EachOutcome P bs vs es = ⊥
 
--- so for each branch of a call
-pub record KeepsTheVotes (s : Settling) (t : ℕ) (bs : List Branch) (old : List LedgerView) (d : Done) : Type 0 where
-  pub each : EachOutcome
-      (λ b v e. KeepsItsVote s t b (length (ledger old b.m).sent) v e) bs d.votes.items d.endings.items
+-- so for each branch of a commit, before which thread t had sent each manager so many requests
+pub record KeepsTheVotes (s : Settling) (t : ℕ) (bs : List Branch) (from : ℕ → ℕ) (d : Done) : Type 0 where
+  pub each : EachOutcome (λ b v e. KeepsItsVote s t b (from b.m) v e) bs d.votes.items d.endings.items
 
-pub record TellsTheFates (s : Settling) (t : ℕ) (bs : List Branch) (old : List LedgerView) (d : Done) : Type 0 where
-  pub each : EachOutcome
-      (λ b v e. TellsTheFate s t b (length (ledger old b.m).sent) e) bs d.votes.items d.endings.items
+pub record TellsTheFates (s : Settling) (t : ℕ) (bs : List Branch) (from : ℕ → ℕ) (d : Done) : Type 0 where
+  pub each : EachOutcome (λ b v e. TellsTheFate s t b (from b.m) e) bs d.votes.items d.endings.items

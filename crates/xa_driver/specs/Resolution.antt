@@ -33,7 +33,7 @@ use Rattle.xa_driver.specs.Cut.{IsCut}
 use Rattle.xa_driver.specs.Decision.{is_yes}
 use Rattle.xa_driver.specs.Log.{LogState, Records, record_in}
 use Rattle.xa_driver.specs.Trace.{IsCommit, IsTranOf}
-use Rattle.xa_driver.specs.Outcomes.{AreLeftOrDecided, EachOutcome, IsBetween, WasAtFirst, has_committed}
+use Rattle.xa_driver.specs.Outcomes.{AreLeftOrDecided, EachOutcome, IsBetween, WasAtFirst, has_committed, sent_so_far}
 use Rattle.xa_driver.specs.Outcomes.{has_vote_against, told_fate}
 use Rattle.xa_driver.specs.Resolving.{IsTraceOfResolve}
 
@@ -151,18 +151,14 @@ with_use s u = record { settled = s; uses = u ∷ [] }
 
 -- the request names a branch of the transaction; one that only asks whether it is left doesn't
 abbrev pub NamesTran : TranName → Op → Type 0
-NamesTran t OpenRm = ⊥
-NamesTran t CloseRm = ⊥
 NamesTran t (Start x how) = tran_of x ≡ t
-NamesTran t (Add k d) = ⊥
 NamesTran t (End x how) = tran_of x ≡ t
 NamesTran t (Prepare x) = tran_of x ≡ t
 NamesTran t (Commit x one_phase) = tran_of x ≡ t
 NamesTran t (Rollback x) = tran_of x ≡ t
 NamesTran t (Forget x) = tran_of x ≡ t
 NamesTran t (Heur x commit) = tran_of x ≡ t
-NamesTran t (Listed x) = ⊥
-NamesTran t Shut = ⊥
+NamesTran t op = ⊥
 
 -- the use is a resolve, and sent this request to manager m
 abbrev pub HasSent : ℕ → Request → Use → Type 0
@@ -286,7 +282,7 @@ pub record IsResolved (o : Opening) (between : List Opening) (last : Opening) (c
   -- in the first, no other thread commits the transaction after it, and its own goes on
   pub its_thread : All (IsByItsThread c) vs
   -- from its Prepares on nobody but the commit names its branches, but for heuristic decisions
-  pub own : AreLeftOrDecided o.settled c.thread c.branches c.desk.ledgers c.new
+  pub own : AreLeftOrDecided o.settled c.thread c.branches (sent_so_far c.desk.ledgers) (sent_so_far c.new)
   -- if a branch of the transaction was left, nothing but resolves with the log names it later
   pub later : (t : TranName) → IsTranOf c.branches t → HasLeftOf t o.settled
       → All (OnlyResolves t) (between ++ last ∷ [])

@@ -98,15 +98,19 @@ pub record MayResolve (d : DeskView) (z : ScanView) : Type 0 where
 abbrev pub AsksLedger : Asking LedgerView
 AsksLedger a op a' code = AskTrace (Some op) (Some code) a a'
 
--- What a resolve left is its trace: what it asked each manager, in the order of the branches left there; and its
--- outcomes are those of the managers, by rising number.
+-- What a resolve of managers 1 to n did, over states of each: it asked each of them, in the order of the branches left
+-- there; and its outcomes are theirs, by rising number. Nothing else was asked.
+pub record Resolves {D : Type 0} (asking : Asking D) (records : Records) (z : ScanView) (n : ℕ) (old new : ℕ → D)
+    (outcomes : List Outcome) : Type 0 where
+  pub at : ℕ → List Outcome
+  pub outcomes_are : outcomes ≡ flat_map at (range_with_len 1 n)
+  pub each : (m : ℕ) → IsUpTo n m → ResolvesAt asking records m (left_at z m) (at m) (old m) (new m)
+  pub others : (m : ℕ) → n < m → new m ≡ old m
+
+-- What a resolve left is its trace: its course over the desk's ledgers, one for each manager.
 pub record IsTraceOfResolve (z : ScanView) (records : Records) (old new : List LedgerView) (outcomes : List Outcome)
     : Type 0 where
-  pub at : ℕ → List Outcome
-  pub outcomes_are : outcomes ≡ flat_map at (range_with_len 1 MOST_MANAGERS)
-  pub each : (m : ℕ) → IsUpTo MOST_MANAGERS m
-      → ResolvesAt AsksLedger records m (left_at z m) (at m) (ledger old m) (ledger new m)
-  pub others : (m : ℕ) → MOST_MANAGERS < m → ledger new m ≡ ledger old m
+  pub course : Resolves AsksLedger records z MOST_MANAGERS (ledger old) (ledger new) outcomes
   pub managers : length new ≡ length old
 
 -- ---- in which order, and what it idles for

@@ -12,27 +12,15 @@ use Rattle.xa_driver.specs.declared.branch.Branch.{Branch}
 use Rattle.xa_driver.specs.declared.done.Done.{Done}
 use Rattle.xa_driver.specs.declared.done.Ending.{Ending}
 use Rattle.xa_driver.specs.Decision.{decides_commit, has_yes, yes_of}
-use Rattle.xa_driver.specs.Endings.{second_op, third_op, ending_of}
+use Rattle.xa_driver.specs.Course.{AtBranch}
 use Rattle.xa_driver.specs.Log.{LogState, record_of, with_record, with_failure}
-use Rattle.xa_driver.specs.Asks.{asked, IsAnswered}
+use Rattle.xa_driver.specs.Asks.{asked}
+use Rattle.xa_driver.specs.Resolving.{AsksLedger}
+use Rattle.xa_switch.specs.Scans.{Asking}
 
 -- the ledger after the Prepare
 abbrev pub voted : Branch → Code → LedgerView → LedgerView
 voted b vote a = asked a (Some (Prepare b.xid)) (Some vote)
-
--- the ledger after the second request, where there is one
-abbrev pub decided : Bool → Branch → Code → Option Code → LedgerView → LedgerView
-decided commit b vote second a = asked (voted b vote a) (second_op commit b.xid vote) second
-
--- a branch's manager got a Prepare, where the decision wants one a second request, and where its code wants one a
--- Forget; each was collected; nothing else was sent to it or collected from it
-pub record BranchTrace (commit : Bool) (b : Branch) (vote : Code) (second : Option Code)
-    (a a' : LedgerView) : Type 0 where
-  pub prepared : IsAnswered a (Some (Prepare b.xid)) (Some vote)
-  pub seconded : IsAnswered (voted b vote a) (second_op commit b.xid vote) second
-  pub third : Option Code
-  pub forgotten : IsAnswered (decided commit b vote second a) (third_op b.xid second) third
-  pub trace : a' ≡ asked (decided commit b vote second a) (third_op b.xid second) third
 
 -- branch by branch, with its vote, its second code and its ending
 abbrev pub EachBranch : (Branch → Code → Option Code → Ending → Type 0) → List Branch → List Code → List (Option Code)
@@ -100,18 +88,23 @@ pub record AppendsOnce {L : Type 0} (appends : TranName → List Bool → Bool �
 abbrev pub decision_of : List Code → Bool → Bool
 decision_of votes logged = decides_commit votes && (not (has_yes votes) || logged)
 
--- what a commit_all of the branches left is its trace: each branch's requests, its vote and its ending; nothing for
--- any other manager; the decision by the votes and the log; and the record, where there is one to make
-pub record IsTraceOfCommit (tran : TranName) (bs : List Branch) (old new : List LedgerView) (log log' : LogState)
-    (d : Done) : Type 0 where
+-- What a commit of the branches did, over states of each manager: at each branch what that branch wants, and at no
+-- other manager anything. It was decided by the votes and the log, and a record was logged where the votes want one and
+-- the log took it.
+pub record Commits {D : Type 0} (asking : Asking D) (tran : TranName) (bs : List Branch) (old new : ℕ → D)
+    (log log' : LogState) (d : Done) : Type 0 where
   pub seconds : List (Option Code)
-  pub each : EachBranch
-      (λ b v s e. BranchTrace d.commit b v s (ledger old b.m) (ledger new b.m) × (e ≡ ending_of d.commit v s))
-      bs d.votes.items seconds d.endings.items
-  pub others : (m : ℕ) → 1 ≤ m → has_branch_at bs m ≡ false → ledger new m ≡ ledger old m
-  pub managers : length new ≡ length old
+  pub each : EachBranch (λ b v s e. AtBranch asking d.commit b v s e (old b.m) (new b.m)) bs d.votes.items seconds
+      d.endings.items
+  pub others : (m : ℕ) → 1 ≤ m → has_branch_at bs m ≡ false → new m ≡ old m
   pub decision : d.commit ≡ decision_of d.votes.items d.logged
   pub logs : Logs tran (yes_of bs d.votes.items) d.votes.items d.logged log log'
+
+-- What a commit_all of the branches left is its trace: its course over the desk's ledgers, one for each manager.
+pub record IsTraceOfCommit (tran : TranName) (bs : List Branch) (old new : List LedgerView) (log log' : LogState)
+    (d : Done) : Type 0 where
+  pub course : Commits AsksLedger tran bs (ledger old) (ledger new) log log' d
+  pub managers : length new ≡ length old
 
 -- A commit of the branches was made: it might be, and the desk's lists, the log and what it told grew by its trace.
 pub record IsCommit (bs : List Branch) (desk : DeskView) (new : List LedgerView) (log later : LogState)

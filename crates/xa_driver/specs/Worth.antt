@@ -16,14 +16,9 @@ use Rattle.xa_driver.specs.Resolution.{CommitCall, Opening, IsListed, became}
 
 -- it is committed, as was decided or heuristically
 abbrev pub is_committed : Fate → Bool
-is_committed history.Absent = false
-is_committed history.Live = false
-is_committed history.InDoubt = false
 is_committed history.Committed = true
-is_committed history.ReadOnly = false
-is_committed history.RolledBack = false
 is_committed history.HeurCommitted = true
-is_committed history.HeurRolledBack = false
+is_committed f = false
 
 -- the histories of manager m in these openings
 abbrev pub histories : ℕ → List Opening → List History

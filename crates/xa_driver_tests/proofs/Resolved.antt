@@ -13,7 +13,7 @@ use Rattle.xa_switch.specs.Settling.{Settling, IsSettled}
 use Rattle.xa_switch.specs.declared.plan.Again.{Again}
 use Rattle.xa_driver.specs.declared.resolved.Outcome.{Outcome}
 use Rattle.xa_driver.specs.Log.{Records, record_in}
-use Rattle.xa_driver.specs.Outcomes.{AreLeftOrDecided}
+use Rattle.xa_driver.specs.Outcomes.{AreLeftOrDecided, sent_so_far}
 use Rattle.xa_driver.specs.Resolution.{CommitCall, ResolveCall, Opening, commits, resolves, with_use, Continues, IsByItsThread, IsKept, IsResolved, IsUseIn, OnlyResolves}
 use Rattle.xa_driver.proofs.NextOpening.{kept_with, scan_of}
 
@@ -27,7 +27,7 @@ abbrev pub without_use : Settling → Opening
 without_use s = record { settled = s; uses = [] }
 
 pub three_resolved : (s between next : Settling) (again : Again) (c : CommitCall) (q : ResolveCall)
-    → IsSettled s → IsUseIn s (commits c) → length c.desk.ledgers ≤ 8 → AreLeftOrDecided s c.thread c.branches c.desk.ledgers c.new
+    → IsSettled s → IsUseIn s (commits c) → length c.desk.ledgers ≤ 8 → AreLeftOrDecided s c.thread c.branches (sent_so_far c.desk.ledgers) (sent_so_far c.new)
     → IsSettled between → Continues s between → ((t : TranName) → OnlyResolves t (without_use between))
     → IsSettled next → IsUseIn next (resolves q) → Continues between next → IsOf (reopening between again) next → IsScanOf between q.scan
     → q.records ≡ c.later.records → ((t : TranName) → OnlyResolves t (with_use next (resolves q))) → All (λ x. x.code ≢ RmFail) q.outcomes
@@ -59,7 +59,7 @@ three_resolved s between next again c q settled made few own mid_settled goes_on
 -- the same, where the openings and the records are told by others
 pub told_three_resolved : (s told between told_between next : Settling) (again : Again) (c : CommitCall) (thread : ℕ) (scan : ScanView) (old new : List LedgerView) (outcomes : List Outcome) (records told_records : Records)
     → told ≡ s → told_between ≡ between → told_records ≡ records
-    → IsSettled s → IsUseIn s (commits c) → length c.desk.ledgers ≤ 8 → AreLeftOrDecided s c.thread c.branches c.desk.ledgers c.new
+    → IsSettled s → IsUseIn s (commits c) → length c.desk.ledgers ≤ 8 → AreLeftOrDecided s c.thread c.branches (sent_so_far c.desk.ledgers) (sent_so_far c.new)
     → IsSettled between → Continues s between → ((t : TranName) → OnlyResolves t (without_use between))
     → IsSettled next → IsUseIn next (resolves (resolve_call thread scan old new outcomes records)) → Continues between next → IsOf (reopening between again) next → IsScanOf between scan
     → records ≡ c.later.records → ((t : TranName) → OnlyResolves t (with_use next (resolves (resolve_call thread scan old new outcomes records)))) → All (λ x. x.code ≢ RmFail) outcomes

@@ -1,22 +1,20 @@
 -- A round that goes on is still the round of its stage.
-use Rattle.std.proofs.Common.{◌≡◌, ◌≤◌, List, [], ◌∷◌, length, map, vec_capacity, refl, sym, ap, ◌∙◌, subst}
-use Rattle.xa_desk.specs.LedgerView.{LedgerView}
+use Rattle.std.proofs.Common.{◌≡◌, List, map, ap, ◌∙◌, subst}
 use Rattle.xa_desk.specs.DeskView.{DeskView}
 use Rattle.xa_driver.specs.declared.ask.Ask.{Ask}
 use Rattle.xa_driver.specs.declared.branch.Branch.{Branch}
-use Rattle.xa_driver.specs.declared.done.Done.{Done}
 use Rattle.xa_driver.specs.declared.round.Round.{Round}
 use Rattle.xa_driver.specs.declared.stages.Preparing.{Preparing}
 use Rattle.xa_driver.specs.declared.stages.Decided.{Decided}
 use Rattle.xa_driver.specs.declared.stages.Telling.{Telling}
 use Rattle.xa_driver.specs.declared.stages.Told.{Told}
 use Rattle.xa_driver.specs.declared.stages.Forgetting.{Forgetting}
-use Rattle.xa_driver.specs.Asks.{HaveComeSoFar, SameAsks}
-use Rattle.xa_driver.specs.Rounds.{first_ask, second_ask, third_ask}
-use Rattle.xa_driver.specs.Stages.{HasRoomForEndings, HasRoomForVotes, IsForgetting, IsPreparing, IsTelling}
+use Rattle.xa_driver.specs.Asks.{SameAsks}
+use Rattle.xa_driver.specs.Rounds.{third_ask}
+use Rattle.xa_driver.specs.Stages.{IsForgetting, IsPreparing, IsTelling}
 use Rattle.xa_driver.specs.UnderWay.{IsUnderWay}
 use Rattle.xa_desk.specs.GoesOn.{GoesOn}
-use Rattle.xa_bank.proofs.Stepped.{preparing_on as preparing, telling_on as telling, left_so_far as so_far}
+use Rattle.xa_bank.proofs.Stepped.{preparing_on as preparing, telling_on as telling}
 
 -- what a step of a round keeps
 abbrev Steps : Round → Round → Type 0
@@ -34,10 +32,6 @@ forgetting t desk f next h before steps = record { before = ap (λ b. b.value) b
 
 pub forgetting_on : (t : Told) (desk : DeskView) (f : Forgetting) (one next : Round) → IsForgetting t desk f → one.before ≡ f.round.before → next.before ≡ one.before → Steps f.round one → Steps one next → IsForgetting t desk (record { round = next; known = f.known })
 forgetting_on t desk f one next h before again steps more = forgetting t desk (record { round = one; known = f.known }) next (forgetting t desk f one h before steps) again more
-
--- what was done of it when it was left
-pub left_so_far : (r : Round) (desk now : DeskView) (left : List LedgerView) → ((r : Round) (now : DeskView) → IsUnderWay r now → HaveComeSoFar r.asks.items r.before.value.ledgers now.ledgers) → r.before.value ≡ desk → left ≡ now.ledgers → IsUnderWay r now → HaveComeSoFar r.asks.items desk.ledgers left
-left_so_far r desk now left law before lists under_way = so_far r desk now left law before lists under_way
 
 -- and so its desk went on
 pub went_on : (r : Round) (desk start now left : DeskView) → ((old mid new : DeskView) → GoesOn old mid → GoesOn mid new → GoesOn old new) → r.before.value ≡ start → GoesOn desk start → IsUnderWay r now → GoesOn now left → GoesOn desk left

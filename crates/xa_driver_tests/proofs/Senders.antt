@@ -6,6 +6,7 @@ use Rattle.std.specs.List.{All}
 use Rattle.std.proofs.lemmas.Bool.{cases_eq, eqb-true, false_from_ne_true, false≢true}
 use Rattle.std.proofs.lemmas.List.Elements.{All-nil}
 use Rattle.std.proofs.lemmas.Option.{slice_get_within}
+use Rattle.xa_base.proofs.Lists.{all_right}
 use Rattle.xa_words.specs.Tran.{TranName}
 use Rattle.xa_words.specs.Xid.{XidName}
 use Rattle.xa_words.specs.declared.request.Op.{Op}
@@ -19,14 +20,14 @@ use Rattle.xa_desk.specs.Lanes.{numbered}
 use Rattle.xa_worker.specs.Workers.{WorkerView}
 use Rattle.xa_switch.specs.Closing.{thread_part}
 use Rattle.xa_switch.specs.Fates.{history as history_of, ledgers_of}
-use Rattle.xa_switch.specs.Openings.{AreOfOneOpening}
+use Rattle.xa_switch.specs.OpenedPieces.{AreOfOneOpening}
 use Rattle.xa_switch.specs.Plans.{Setup}
 use Rattle.xa_switch.specs.Settling.{ThreadPart, Settling, IsSettled, sent, find_thread, ledgers_in}
 use Rattle.xa_driver.specs.declared.branch.Branch.{Branch}
-use Rattle.xa_driver.specs.Outcomes.{AreLeftOrDecided, OnlyTheseOrDecisionsName}
+use Rattle.xa_driver.specs.Outcomes.{AreLeftOrDecided, OnlyTheseOrDecisionsName, sent_so_far}
 use Rattle.xa_driver.specs.Resolution.{ResolveCall, resolves, OnlyResolves}
 use Rattle.xa_driver.proofs.Placing.{request_of}
-use Rattle.xa_driver.proofs.Requests.{all_right, of_ops, own_all}
+use Rattle.xa_driver.proofs.Requests.{of_ops, own_all}
 
 -- ---- what threads sent
 
@@ -123,7 +124,7 @@ module _ (P : Op → Type 0) (never : (x : XidName) (op : Op) → P op → names
       ]
 
   -- so for each branch of a call after which the thread sent nothing
-  own_left : (s : Settling) (t : ℕ) (bs : List Branch) (old new last : List LedgerView) → IsSettled s → ((u m : ℕ) → u ≢ t → All P (sent s u m)) → ledgers_of s t ≡ last → ((m : ℕ) → (ledger last m).sent ≡ (ledger new m).sent) → AreLeftOrDecided s t bs old new
+  own_left : (s : Settling) (t : ℕ) (bs : List Branch) (old new last : List LedgerView) → IsSettled s → ((u m : ℕ) → u ≢ t → All P (sent s u m)) → ledgers_of s t ≡ last → ((m : ℕ) → (ledger last m).sent ≡ (ledger new m).sent) → AreLeftOrDecided s t bs (sent_so_far old) (sent_so_far new)
   own_left s t bs old new last settled others is quiet = record {
     each = λ k d below.
         let b : Branch = get_or bs k d in
@@ -159,7 +160,7 @@ grown_of_first s e others t new threads own lists = ap (ledgers_of s) own ∙ fi
 
 -- two desks, of which the second sent only such requests, and the first nothing after a call
 pub own_of_both : (P : Op → Type 0) → ((x : XidName) (op : Op) → P op → names x op ≡ true → is_heur op ≡ false → ⊥) → (s : Settling) (e f : EndedView) (t : ℕ) (bs : List Branch) (old new : List LedgerView) → IsSettled s → s.threads ≡ thread_part e ∷ thread_part f ∷ [] → t ≡ e.thread
-    → ((m : ℕ) → (ledger e.ledgers m).sent ≡ (ledger new m).sent) → ((m : ℕ) → All P (ledger f.ledgers m).sent) → AreLeftOrDecided s t bs old new
+    → ((m : ℕ) → (ledger e.ledgers m).sent ≡ (ledger new m).sent) → ((m : ℕ) → All P (ledger f.ledgers m).sent) → AreLeftOrDecided s t bs (sent_so_far old) (sent_so_far new)
 own_of_both P never s e f t bs old new settled threads own quiet such =
     own_left P never s t bs old new e.ledgers settled
     (λ u m differs. others_two s e f threads (λ at. All P (sent_to at m)) (all_sent P f.ledgers m (such m)) (none_there P m) u (λ same. differs (same ∙ sym own)))
@@ -167,7 +168,7 @@ own_of_both P never s e f t bs old new settled threads own quiet such =
 
 -- so where it sent only Shuts
 pub own_of_two : (s : Settling) (e f : EndedView) (t : ℕ) (bs : List Branch) (old new : List LedgerView) → IsSettled s → s.threads ≡ thread_part e ∷ thread_part f ∷ [] → t ≡ e.thread → e.ledgers ≡ new
-    → ((m : ℕ) → All (λ op. op ≡ Shut) (ledger f.ledgers m).sent) → AreLeftOrDecided s t bs old new
+    → ((m : ℕ) → All (λ op. op ≡ Shut) (ledger f.ledgers m).sent) → AreLeftOrDecided s t bs (sent_so_far old) (sent_so_far new)
 own_of_two s e f t bs old new settled threads own lists shuts =
     own_of_both (λ op. op ≡ Shut) shut_unnamed s e f t bs old new settled threads own (λ m. ap (λ (l : List LedgerView). (ledger l m).sent) lists) shuts
 

@@ -1,5 +1,5 @@
--- A desk that has sent only such requests, as Shuts, and sends one more; and what a collection leaves.
-use Rattle.std.proofs.Common.{◌≡◌, ℕ, zero, suc, ◌-◌, Result, Ok, Err, IfOk, OnErr, List, [], ◌∷◌, refl, sym, ap, ◌∙◌, subst, arith}
+-- A desk that has sent only such requests, as Shuts, and sends one more.
+use Rattle.std.proofs.Common.{◌≡◌, ℕ, zero, suc, ◌-◌, Result, Ok, Err, IfOk, OnErr, List, [], ◌∷◌, sym, ap, subst, arith}
 use Rattle.std.specs.Prelude.{slice_index_or, slice_set}
 use Rattle.std.specs.List.{All}
 use Rattle.std.proofs.lemmas.List.Elements.{All-nil, All-push}
@@ -63,21 +63,3 @@ after_call old new m r sent same all = let is : ◌≡◌ {A = Op} Shut Shut = �
 
 pub none_shut : (at : List LedgerView) → ((k : ℕ) → (ledger at k).sent ≡ []) → (k : ℕ) → OnlyShuts (ledger at k)
 none_shut at none = none_only (λ op. op ≡ Shut) at none
-
--- ---- what is collected leaves what was sent
-
-pub collected_sent : (old new : DeskView) (o : Operation) (code : Code) → Collects old new o code → (k : ℕ) → (ledger new.ledgers k).sent ≡ (ledger old.ledgers k).sent
-collected_sent old new o code is k =
-    let lists : is.before.ledgers ≡ old.ledgers = ap (λ (d : DeskView). d.ledgers) is.looks.rest in
-    let last : (ledger (after_collected is.before.ledgers o code) k).sent ≡ (ledger is.before.ledgers k).sent = put_sent is.before.ledgers o.manager o.number code k in
-    ap (λ (d : DeskView). (ledger d.ledgers k).sent) is.collected ∙ last ∙ ap (λ (l : List LedgerView). (ledger l k).sent) lists
-  where
-    set_same : (at : List LedgerView) (i n : ℕ) (c : Code) (j : ℕ) → (slice_index_or (slice_set at i (with_collected (slice_index_or at i no_ledger) n c)) j no_ledger).sent ≡ (slice_index_or at j no_ledger).sent
-    set_same [] i n c j = refl
-    set_same (x ∷ xs) zero n c zero = refl
-    set_same (x ∷ xs) zero n c (suc j) = refl
-    set_same (x ∷ xs) (suc i) n c zero = refl
-    set_same (x ∷ xs) (suc i) n c (suc j) = set_same xs i n c j
-
-    put_sent : (at : List LedgerView) (m n : ℕ) (c : Code) (j : ℕ) → (ledger (after_collected at (record { manager = m; number = n }) c) j).sent ≡ (ledger at j).sent
-    put_sent at m n c j = set_same at (m - 1) n c (j - 1)

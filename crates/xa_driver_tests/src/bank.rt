@@ -10,9 +10,10 @@ use std::alloc::Global;
 use std::process::Abort;
 use std::sync::Wait;
 use std::thread::Threads;
-use xa_bank::{Day, Outcome, Teller, Transfer, run_day};
+use xa_bank::{Day, Teller, Transfer, TransferOutcome, run_day};
+use xa_crew::{CrewFault, run_clients_in_turns};
 use xa_driver::Ending;
-use xa_switch::{ManagerPlan, Plan, Settled};
+use xa_switch::{Plan, Settled};
 use xa_words::Key;
 
 const STORES: u32 = 3;
@@ -52,22 +53,12 @@ fn accounts_of(rt: &impl Abort, alloc: Global) -> Vec<(Key, u64)> {
 fn plan_of(rt: &impl Abort, alloc: Global, threads: u32, stores: u32) -> Plan
     ensures { result.threads ≡ threads }
 {
-    let mut managers = Vec::new(alloc);
-    for _ in 0..stores {
-        managers
-            .push(ManagerPlan {
-                use_async: true,
-                accounts: accounts_of(rt, alloc),
-            })
-            .expect(rt, "memory");
-    }
+    let accounts = accounts_of(rt, alloc);
     Plan {
-        opening: 1,
         threads,
         handles: 6,
-        queue: 4,
         requests: 2_000,
-        managers,
+        ..xa_testing::plan_of(alloc, stores, &accounts).expect(rt, "memory")
     }
 }
 
@@ -117,7 +108,7 @@ fn tellers_of(rt: &impl Abort, alloc: Global, threads: u32) -> Vec<Teller> {
     tellers
 }
 
-// A day of tellers over the plan, one for each of its threads. None lacked memory, or left anything outstanding.
+// A day of tellers over the plan, one for each of its threads.
 fn day_of<R: Threads + Wait + Abort + Copy + Send + 'static>(
     rt: &R,
     alloc: Global,
@@ -126,11 +117,16 @@ fn day_of<R: Threads + Wait + Abort + Copy + Send + 'static>(
     let tellers = tellers_of(rt, alloc, plan.threads);
     assert_eq!(rt; tellers.len(), plan.threads as usize);
     let day = run_day(rt, alloc, plan, tellers).expect(rt, "a day");
+    all_are_done(rt, &day);
+    day
+}
+
+// Each teller has made all its transfers, and left nothing outstanding.
+fn all_are_done(rt: &impl Abort, day: &Day) {
     for attended in &day.clients {
         assert!(rt; !attended.client.wants_memory && attended.outstanding.is_empty());
         assert_eq!(rt; attended.client.outcomes.len(), TRANSFERS as usize);
     }
-    day
 }
 
 // What all accounts are worth together.
@@ -147,23 +143,23 @@ fn sum_of(rt: &impl Abort, settled: &Settled) -> u64 {
 }
 
 // Whether each branch of it has one outcome, and none is in doubt.
-fn is_whole(outcome: &Outcome) -> bool {
+fn is_whole(outcome: &TransferOutcome) -> bool {
     match outcome {
-        Outcome::Refused => true,
-        Outcome::Died { at: _, known: _ } => false,
-        Outcome::Decided(done) if done.commit => done.endings.iter().all(|ending| matches!(
+        TransferOutcome::Refused => true,
+        TransferOutcome::Died { at: _, known: _ } => false,
+        TransferOutcome::Decided(done) if done.commit => done.endings.iter().all(|ending| matches!(
             ending,
             Ending::Committed | Ending::ReadOnly
         )),
-        Outcome::Decided(done) => done
+        TransferOutcome::Decided(done) => done
             .endings
             .iter()
             .all(|ending| *ending != Ending::Committed),
     }
 }
 
-fn is_committed(outcome: &Outcome) -> bool {
-    matches!(outcome, Outcome::Decided(done) if done.commit)
+fn is_committed(outcome: &TransferOutcome) -> bool {
+    matches!(outcome, TransferOutcome::Decided(done) if done.commit)
 }
 
 // A teller's transfers between its own tills are in nobody's way, and have the funds.
@@ -177,18 +173,35 @@ fn own_transfers_commit(rt: &impl Abort, day: &Day) {
     }
 }
 
-// Two tellers stand in each other's way at the accounts that both use, and nowhere else.
-#[test]
-fn money_stays_in_the_bank(rt: HostRuntime) {
-    let alloc = rt.alloc();
-    let day = day_of(&rt, alloc, &plan_of(&rt, alloc, 2, STORES));
+// Each transfer has one outcome, and all accounts of the three stores are worth what they were.
+fn is_sound(rt: &impl Abort, day: &Day) {
     for attended in &day.clients {
         for outcome in &attended.client.outcomes {
             assert!(rt; is_whole(outcome));
         }
     }
-    own_transfers_commit(&rt, &day);
-    assert_eq!(rt; sum_of(&rt, &day.settled), 3 * (2 * START + 8 * FULL));
+    own_transfers_commit(rt, day);
+    assert_eq!(rt; sum_of(rt, &day.settled), 3 * (2 * START + 8 * FULL));
+}
+
+// Two tellers stand in each other's way at the accounts that both use, and nowhere else.
+#[test]
+fn money_stays_in_the_bank(rt: HostRuntime) {
+    let alloc = rt.alloc();
+    let day = day_of(&rt, alloc, &plan_of(&rt, alloc, 2, STORES));
+    is_sound(&rt, &day);
+}
+
+// The same tellers one after the other in one thread, whose workers take turns.
+#[test]
+fn money_stays_in_the_bank_in_turns(rt: HostRuntime) {
+    let alloc = rt.alloc();
+    let plan = plan_of(&rt, alloc, 2, STORES);
+    let tellers = tellers_of(&rt, alloc, plan.threads);
+    assert_eq!(rt; tellers.len(), plan.threads as usize);
+    let day = run_clients_in_turns(&rt, alloc, &plan, tellers).expect(&rt, "a day");
+    all_are_done(&rt, &day);
+    is_sound(&rt, &day);
 }
 
 #[test]
@@ -202,5 +215,5 @@ fn a_plan_without_stores_is_refused(rt: HostRuntime) {
         panic!(rt; "memory");
     };
     let day = run_day(&rt, alloc, &plan, tellers);
-    assert!(rt; matches!(day, Err(xa_crew::CrewFault::BadPlan)));
+    assert!(rt; matches!(day, Err(CrewFault::BadPlan)));
 }

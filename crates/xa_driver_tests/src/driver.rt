@@ -1,8 +1,4 @@
-//! Commits over an opening whose workers are stepped by hand, and the log in memory.
-ghost use Rattle.std.specs.Prelude.{◌≡◌, map, refl};
-ghost use Rattle.std.proofs.Common.{◌∙◌};
-ghost use Rattle.xa_switch.specs.Seats.{seat_of_worker};
-
+//! Commits over an opening whose workers take turns, and the log in memory.
 mod appending;
 mod crash;
 pub(crate) mod dying;
@@ -19,57 +15,19 @@ mod woven;
 use std::alloc::Global;
 use std::process::Abort;
 use std::sync::Wait;
-use xa_desk::{Desk, Idle};
+use xa_crew::Turns;
+use xa_desk::Desk;
 use xa_driver::{Branch, Done, Ending, MemoryLog, may_commit};
-use xa_switch::{ManagerPlan, Plan, RmOp, native, open_switch, xa_call};
+use xa_switch::{Plan, RmOp, native, xa_call};
+use xa_testing::two;
 use xa_words::{Call, Code, Delta, Key, TMNOFLAGS, TMSUCCESS, Xid};
-use xa_worker::{Free, Worker};
-
-// The workers of an opening. Each idle lets the one that is waited for, or each, do one step.
-#[derive(Drop)]
-struct Workers {
-    workers: Vec<Worker>,
-}
-
-impl Workers {
-    // The worker at the place does one step, where the wait is for it.
-    fn step<R: Wait>(&mut self, rt: &R, place: usize, manager: u32)
-        ensures { map seat_of_worker self.new.workers.items ≡ map seat_of_worker self.old.workers.items }
-    {
-        if place >= self.workers.len() {
-            return;
-        }
-        if manager == 0 || self.workers[place].manager() == manager {
-            self.workers[place].step(rt, &mut Free);
-        }
-    }
-}
-
-impl Idle for Workers {
-    ghost leads_by = { λ manager before after. map seat_of_worker after.workers.items
-        ≡ map seat_of_worker before.workers.items };
-
-    ghost leads = { λ before after. map seat_of_worker after.workers.items ≡ map seat_of_worker before.workers.items };
-
-    ghost leads_each = { λ manager x y p. p };
-
-    ghost leads_start = { λ x. refl };
-
-    ghost leads_chain = { λ x y z p q. q ∙ p };
-
-    fn idle<R: Wait>(&mut self, rt: &R, manager: u32) {
-        for place in 0..self.workers.len() {
-            self.step(rt, place, manager);
-        }
-    }
-}
 
 // The desks of two threads, with the workers of their opening.
 #[derive(Drop)]
 struct Opened {
     first: Desk,
     second: Desk,
-    workers: Workers,
+    workers: Turns,
 }
 
 fn key(rt: &impl Abort) -> Key {
@@ -88,28 +46,18 @@ fn branch(rt: &impl Abort, m: u32) -> Branch {
 }
 
 // A plan of so many managers, each with the one key `a` of value 5, and queues of one place.
-fn plan_of(rt: &impl Abort, alloc: Global, managers: usize) -> Plan {
-    let mut plans = Vec::new(alloc);
-    for _place in 0..managers {
-        let mut accounts = Vec::new(alloc);
-        accounts.push((key(rt), 5)).expect(rt, "memory");
-        let plan = ManagerPlan {
-            use_async: true,
-            accounts,
-        };
-        plans.push(plan).expect(rt, "memory");
-    }
+fn plan_of(rt: &impl Abort, alloc: Global, managers: u32) -> Plan {
+    let accounts = [(key(rt), 5)];
     Plan {
         opening: 7,
         threads: 2,
-        handles: 8,
         queue: 1,
         requests: 16,
-        managers: plans,
+        ..xa_testing::plan_of(alloc, managers, &accounts).expect(rt, "memory")
     }
 }
 
-fn open_by<R: Wait + Abort>(rt: &R, desk: &mut Desk, manager: u32, idle: &mut Workers) {
+fn open_by<R: Wait + Abort>(rt: &R, desk: &mut Desk, manager: u32, idle: &mut Turns) {
     let answer = xa_call(rt, desk, Call::OpenRm, None, manager, TMNOFLAGS, idle);
     assert_eq!(rt; answer, 0);
 }
@@ -117,18 +65,17 @@ fn open_by<R: Wait + Abort>(rt: &R, desk: &mut Desk, manager: u32, idle: &mut Wo
 impl Opened {
     // An opening of so many managers, in which both threads have opened each.
     fn new<R: Wait + Abort>(rt: &R, alloc: Global, managers: u32) -> Opened {
-        Opened::of(rt, alloc, &plan_of(rt, alloc, managers as usize))
+        Opened::of(rt, alloc, &plan_of(rt, alloc, managers))
     }
 
     // An opening of the plan, in which both threads have opened each manager.
     fn of<R: Wait + Abort>(rt: &R, alloc: Global, plan: &Plan) -> Opened {
-        let (mut desks, workers) = open_switch(rt, alloc, plan).expect(rt, "an opening");
-        let second = desks.pop().expect(rt, "a desk");
-        let first = desks.pop().expect(rt, "another desk");
+        let (desks, workers) = xa_testing::open(rt, alloc, plan).expect(rt, "an opening");
+        let (first, second) = two(desks).expect(rt, "two desks");
         let mut opened = Opened {
             first,
             second,
-            workers: Workers { workers },
+            workers,
         };
         let mut manager: u32 = 0;
         for _plan in &plan.managers {

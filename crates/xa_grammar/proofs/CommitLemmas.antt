@@ -1,9 +1,14 @@
 -- The managers of a commit are numbers, one word after another.
-use Rattle.std.specs.Prelude.{◌≡◌, ℕ, Bool, List, [], ◌∷◌, Result, Ok, Err, refl}
-use Rattle.std.proofs.Common.{sym, ◌∙◌}
+use Rattle.std.specs.Prelude.{◌≡◌, ◌==◌, ℕ, Bool, true, ◌&&◌, ◌||◌, nat_lt, nat_le, if◌then◌else◌, List, [], ◌∷◌, Result, Ok, Err, refl}
+use Rattle.std.proofs.Common.{sym, ap, ◌∙◌}
+use Rattle.std.proofs.Math.Bool.{or_assoc}
+use Rattle.std.proofs.lemmas.Bool.{and_parts}
+use Rattle.xa_words.specs.ManagerSet.{is_in, set_of, with_manager}
 use Rattle.xa_grammar.specs.declared.fault.Reason.{Reason}
+use Rattle.xa_grammar.specs.declared.fault.Reason.TheVariants.{BadBranches}
+use Rattle.xa_grammar.specs.declared.named.Named.{Named}
 use Rattle.xa_grammar.specs.Fields.{◌>>=◌, Word, number_in, number_at, numbers_to_end}
-use Rattle.xa_grammar.specs.Commits.{numbers_at, rising_branches, branches_at}
+use Rattle.xa_grammar.specs.Commits.{are_rising, is_named, numbers_at, rising_branches, branches_at, goes_on}
 
 -- A number ahead of others.
 on_top : (r : Result (List ℕ) Reason) (m : ℕ) (f : List ℕ → Result (List Bool) Reason) → ((r >>= λ ms. Ok (m ∷ ms)) >>= f) ≡ (r >>= λ ms. f (m ∷ ms))
@@ -39,3 +44,24 @@ no_next_number w rest why f e = rw e refl
 pub no_more_numbers : (f : List ℕ → Result (List Bool) Reason) → (numbers_to_end 0 4294967295 [] >>= f) ≡ f []
 unfolding numbers_to_end
 no_more_numbers f = refl
+
+-- ---- one more manager
+
+-- A set with one more manager, and others after it.
+set_more : (set : List Bool) (m : ℕ) (ms : List ℕ) → set_of (λ k. is_in (with_manager m set) k || is_named ms k) ≡ set_of (λ k. is_in set k || is_named (m ∷ ms) k)
+set_more set m ms = λ i. at 1 i ∷ at 2 i ∷ at 3 i ∷ at 4 i ∷ at 5 i ∷ at 6 i ∷ at 7 i ∷ at 8 i ∷ []
+  where
+    at : (k : ℕ) → ((is_in set k || (m == k)) || is_named ms k) ≡ (is_in set k || ((m == k) || is_named ms k))
+    at k = or_assoc (is_in set k) (m == k) (is_named ms k)
+
+-- The set, where all are rising.
+abbrev pub if_rising : Bool → List Bool → Result (List Bool) Reason
+if_rising rising set = if rising then Ok set else Err BadBranches
+
+-- A manager that may come next is one of the set.
+pub taken : (so_far : Named) (m : ℕ) (ms : List ℕ) → (so_far.rising && (nat_lt so_far.last m && nat_le m so_far.count)) ≡ true → if_rising (are_rising so_far.count m ms) (set_of (λ k. is_in (with_manager m so_far.managers) k || is_named ms k)) ≡ goes_on so_far (m ∷ ms)
+taken so_far m ms may =
+    let parts = and_parts so_far.rising (nat_lt so_far.last m && nat_le m so_far.count) may in
+    let within = and_parts (nat_lt so_far.last m) (nat_le m so_far.count) parts.1 in
+    ap (if_rising (are_rising so_far.count m ms)) (set_more so_far.managers m ms)
+    ∙ sym (λ i. if_rising (parts.0 i && (within.0 i && (within.1 i && are_rising so_far.count m ms))) (set_of (λ k. is_in so_far.managers k || is_named (m ∷ ms) k)))

@@ -11,11 +11,6 @@ use Rattle.xa_grammar.specs.declared.script.Declared.{Declared}
 use Rattle.xa_grammar.specs.Settings.{key_count}
 use Rattle.xa_grammar.specs.Found.{is_same, Finds}
 
--- What holds where there is a value, where there is one.
-pub at_ok : {T E : Type 0} (r : Result T E) (P : Type 0) → IsOk r → OnOk r P → P
-at_ok (Ok x) P is p = p
-at_ok (Err e) P is p = cc
-
 -- The set may be laid out anew.
 pub still_found : (keys : List Declared) (found again : List (ℕ × List ℕ)) (counts : List ℕ) → Finds keys found counts → ((q : ℕ × List ℕ) → list_any (is_same q) again ≡ list_any (is_same q) found) → Finds keys again counts
 still_found keys found again counts old same = record { has = λ m k. same (m, k) ∙ old.has m k; count = old.count }

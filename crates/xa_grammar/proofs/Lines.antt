@@ -5,6 +5,7 @@ use Rattle.std.specs.List.{list_all, onto_first}
 use Rattle.std.specs.Io.BufRead.{ends_with_byte}
 use Rattle.std.proofs.lemmas.List.Folds.{list_all-append, list_all_more}
 use Rattle.std.proofs.lemmas.Bool.{eqb-true}
+use Rattle.xa_grammar.proofs.Splits.{onto_parts}
 use Rattle.xa_grammar.specs.declared.fault.Reason.TheVariants.{TooManyLines, LineTooLong}
 use Rattle.xa_grammar.specs.declared.fault.ScriptFault.{ScriptFault}
 use Rattle.xa_grammar.specs.declared.fault.ScriptFault.TheVariants as faults
@@ -38,11 +39,6 @@ pub last_line : (line : List ℕ) → HasNoEnd line → 0 < length line → line
 last_line [] h lt = absurd (omega arith)
 last_line (b ∷ []) h lt = let e : (b == 10) ≡ false = is_no_end b [] h in rw e refl
 last_line (b ∷ c ∷ line) h lt = let e : (b == 10) ≡ false = is_no_end b (c ∷ line) h in rw e (ap (onto_first b) (last_line (c ∷ line) (rest_no_end b (c ∷ line) h) (omega arith)))
-
--- A byte ahead of lines stands in the first of them.
-onto_parts : (b : ℕ) (xss : List (List ℕ)) → (more : List ℕ) × (yss : List (List ℕ)) × (onto_first b xss ≡ (b ∷ more) ∷ yss)
-onto_parts b [] = ([], [], refl)
-onto_parts b (xs ∷ xss) = (xs, xss, refl)
 
 -- Bytes without a line feed begin the first line, whatever comes after them.
 first_line : (line bytes : List ℕ) → HasNoEnd line → 0 < length line → (more : List ℕ) × (lines : List (List ℕ)) × (lines_of (line ++ bytes) ≡ (line ++ more) ∷ lines)

@@ -4,25 +4,25 @@ use Rattle.std.proofs.Common.{refl, sym, ap, ◌∙◌, subst}
 use Rattle.std.specs.List.{list_all}
 use Rattle.std.proofs.lemmas.List.Folds.{list_any-append}
 use Rattle.xa_grammar.specs.declared.fault.Reason.TheVariants.{TooManyLines, LineTooLong, BadByte}
-use Rattle.xa_grammar.specs.declared.script.Step.{Step}
-use Rattle.xa_grammar.specs.declared.script.Step.TheVariants as step
+use Rattle.xa_grammar.specs.declared.step.Step.TheVariants as step
 use Rattle.xa_grammar.specs.declared.line.Head.{Head}
 use Rattle.xa_grammar.specs.declared.line.Head.TheVariants as head
 use Rattle.xa_grammar.specs.declared.line.Item.{Item}
 use Rattle.xa_grammar.specs.declared.line.Item.TheVariants as item
 use Rattle.xa_grammar.specs.Text.{is_script_byte, words_of, without_return}
 use Rattle.xa_grammar.specs.Fields.{Word}
+use Rattle.xa_grammar.specs.Steps.{ScriptStep}
 use Rattle.xa_grammar.specs.Content.{Content, is_reopen, AreOfOne, with_step}
 use Rattle.xa_grammar.specs.Settings.{setting_of, sync_of, logfail_of, declared_of}
-use Rattle.xa_grammar.specs.Actions.{step_of_thread, turn_of, reopen_of}
+use Rattle.xa_grammar.specs.Actions.{task_on, turn_of, reopen_of}
 use Rattle.xa_grammar.specs.Grammar.{head_of, item_by, item_of, line_of, with_item, after_line}
-use Rattle.xa_grammar.proofs.ScriptLemmas.{and_then, ok_is, not_then, thread_is}
+use Rattle.xa_grammar.proofs.ScriptLemmas.{and_then, ok_is, not_then}
 
 -- what a line adds
 abbrev Keeps : Content → Item → Type 0
 Keeps s i = AreOfOne (with_item i s).steps
 
-one_more : (s : Content) (p : Step) → is_reopen p ≡ false → AreOfOne s.steps → AreOfOne (with_step p s).steps
+one_more : (s : Content) (p : ScriptStep) → is_reopen p ≡ false → AreOfOne s.steps → AreOfOne (with_step p s).steps
 one_more s p other all = list_any-append is_reopen s.steps (p ∷ []) ∙ (λ i. all i || (other i || false))
 
 no_reopen : (ws : List Word) (u : Unit {0}) → reopen_of true ws ≡ Ok u → ⊥
@@ -52,9 +52,8 @@ item_one (Some head.Reopen) s n w ws i e all =
     let last = and_then (reopen_of true ws) (λ last. Ok (item.Step (step.Reopen n))) i e in
     absurd (no_reopen ws last.0 last.1.0)
 item_one (Some head.Thread) s n w ws i e all =
-    let p = and_then (step_of_thread s n w ws) (λ p. Ok (item.Step p)) i e in
-    let q = thread_is s n w ws p.0 p.1.0 in
-    subst (Keeps s) (ap item.Step (sym q.1.0) ∙ ok_is (item.Step p.0) i p.1.1) (one_more s (step.Task q.0) refl all)
+    let p = and_then (task_on s n w ws) (λ p. Ok (item.Step (step.Task p))) i e in
+    subst (Keeps s) (ok_is (item.Step (step.Task p.0)) i p.1.1) (one_more s (step.Task p.0) refl all)
 
 words_one : (s : Content) (n : ℕ) (ws : List Word) (i : Item) → item_of true s n ws ≡ Ok i → AreOfOne s.steps → Keeps s i
 words_one s n [] i e all = let same : item.Nothing ≡ i = cc in subst (Keeps s) same all

@@ -12,19 +12,17 @@ use Rattle.std.proofs.lemmas.List.Elements.{All-append, filter-append, All-cons,
 use Rattle.std.proofs.lemmas.List.Folds.{list_any-append, list_all-append}
 use Rattle.std.proofs.lemmas.List.Sums.{length-filter}
 use Rattle.xa_words.specs.Key.{key_eq}
-use Rattle.xa_words.specs.declared.request.RmOp.TheVariants as rm
+use Rattle.xa_words.specs.Xid.{XidName}
 use Rattle.xa_words.specs.Orders.{Decides-key_eq}
 use Rattle.xa_tables.specs.Accounts.{are_accounts, are_apart}
 use Rattle.xa_grammar.specs.declared.fault.Reason.{Reason}
 use Rattle.xa_grammar.specs.declared.fault.Reason.TheVariants.{KeyTwice, TooManyKeys, OutOfRange, BadNumber, UnknownWord, TooManyLines, LineTooLong, BadByte}
 use Rattle.xa_grammar.specs.declared.script.Declared.{Declared}
-use Rattle.xa_grammar.specs.declared.script.Action.{Action}
-use Rattle.xa_grammar.specs.declared.script.Action.TheVariants as action
-use Rattle.xa_grammar.specs.declared.script.CommitAll.{CommitAll}
-use Rattle.xa_grammar.specs.declared.script.Task.{Task}
-use Rattle.xa_grammar.specs.declared.script.Task.TheVariants as task
-use Rattle.xa_grammar.specs.declared.script.Step.{Step}
-use Rattle.xa_grammar.specs.declared.script.Step.TheVariants as step
+use Rattle.xa_grammar.specs.declared.step.Calling.{Calling}
+use Rattle.xa_grammar.specs.declared.step.Calling.TheVariants as calling
+use Rattle.xa_grammar.specs.declared.step.Called.{Called}
+use Rattle.xa_grammar.specs.declared.step.Action.TheVariants as action
+use Rattle.xa_grammar.specs.declared.step.Step.TheVariants as step
 use Rattle.xa_grammar.specs.declared.script.Count.{Count}
 use Rattle.xa_grammar.specs.declared.script.Count.TheVariants.{Threads, Managers, Handles, Queue, Requests}
 use Rattle.xa_grammar.specs.declared.action.Verb.{Verb}
@@ -34,12 +32,13 @@ use Rattle.xa_grammar.specs.declared.line.Head.TheVariants as head
 use Rattle.xa_grammar.specs.declared.line.Item.{Item}
 use Rattle.xa_grammar.specs.declared.line.Item.TheVariants as item
 use Rattle.xa_grammar.specs.Text.{is_script_byte, words_of}
-use Rattle.xa_grammar.specs.Fields.{◌>>=◌, Word, word_at, end_of, number_of, number_in, number_at, key_at, xid_at, delta_at, tran_at, flags_onto}
+use Rattle.xa_grammar.specs.Fields.{◌>>=◌, Word, word_at, end_of, number_of, number_in, number_at, key_at, xid_at, delta_at, flags_onto}
 use Rattle.xa_base.specs.Lists.{IsUpTo}
-use Rattle.xa_grammar.specs.Content.{Content, IsScript, IsOfManager, IsOfLog, IsOfScript, AsksForFew, HasFewXids, threads_of, managers_of, accounts_of, failing_append, thread_of, nothing, with_count, with_key, with_sync, with_failing, with_step}
+use Rattle.xa_grammar.specs.Steps.{ScriptAction, ScriptTask, ScriptStep}
+use Rattle.xa_grammar.specs.Content.{Content, IsScript, IsOfManager, IsOfLog, IsOfScript, AsksForFew, HasFewXids, threads_of, managers_of, accounts_of, failing_append, nothing, with_count, with_key, with_sync, with_failing, with_step}
 use Rattle.xa_grammar.specs.Settings.{before_actions, count_of, not_set, limit_of, setting_of, sync_of, logfail_of, has_key, key_count, declared_of}
-use Rattle.xa_grammar.specs.Commits.{branches_at, commit_of}
-use Rattle.xa_grammar.specs.Actions.{verb_of, action_at, call_step, commit_step, resolve_step, step_by, step_of_thread, turn_of, reopen_of}
+use Rattle.xa_grammar.specs.Commits.{commit_of}
+use Rattle.xa_grammar.specs.Actions.{verb_of, calling_at, call_of, action_of, task_on, turn_of, reopen_of}
 use Rattle.xa_grammar.specs.Grammar.{head_of, item_by, item_of, line_of, with_item}
 
 -- ---- reading without a fault
@@ -127,7 +126,7 @@ key_kept s d of new few small is =
       of_steps = is.of_steps;
     }
 
-step_kept : (s : Content) (p : Step) → IsOfScript s p → IsScript s → IsScript (with_step p s)
+step_kept : (s : Content) (p : ScriptStep) → IsOfScript s p → IsScript s → IsScript (with_step p s)
 step_kept s p of is =
     record {
       threads = is.threads;
@@ -153,31 +152,6 @@ sync_kept s m is =
       accounts = is.accounts;
       of_logs = is.of_logs;
       of_steps = is.of_steps;
-    }
-
--- no append of any log fails
-none_at : (n i : ℕ) → ◌≡◌ {A = Option ℕ} (get_or (replicate n None) i None) None
-none_at zero i = refl
-none_at (suc n) zero = refl
-none_at (suc n) (suc i) = none_at n i
-
--- a script that says nothing
-pub nothing_is : IsScript nothing
-nothing_is =
-    record {
-      threads = (omega arith, omega arith);
-      managers = (omega arith, omega arith);
-      handles = (omega arith, omega arith);
-      queue = (omega arith, omega arith);
-      requests = (omega arith, omega arith);
-      of_managers = All-nil (IsOfManager nothing);
-      accounts = λ m. refl;
-      of_logs = λ t.
-          elim (nat_lt 0 t) as (λ b. IfSome (if b then get_or (replicate 8 None) (t - 1) None else None) (λ k. IsUpTo 1000000 k × IsUpTo 1 t)) [
-            | true ↦ subst (λ o. IfSome o (λ k. IsUpTo 1000000 k × IsUpTo 1 t)) (sym (none_at 8 (t - 1))) tt
-            | false ↦ tt
-          ];
-      of_steps = All-nil (IsOfScript nothing);
     }
 
 -- one place is written, the others are as they were
@@ -283,7 +257,7 @@ count_kept s Requests n none unset low high is =
       of_steps = is.of_steps;
     }
 
-no_steps : (steps : List Step) (u : Unit {0}) → before_actions steps ≡ Ok u → steps ≡ []
+no_steps : (steps : List ScriptStep) (u : Unit {0}) → before_actions steps ≡ Ok u → steps ≡ []
 no_steps [] u e = refl
 no_steps (p ∷ steps) u e = let never : ⊥ = cc in absurd never
 
@@ -346,72 +320,50 @@ declared_kept s ws d e =
     subst (λ (z : Declared). IsScript s → IsScript (with_key z s)) same
     (key_kept s made (number_is 1 (managers_of s) ws m.0 m.1.0) new.0 (grind (arith, few.0)) (number_is 0 1000000000000 k.0.1 v.0 v.1.0).1)
 
-asked : (a : Action) (rest : List Word) (x : Action × List Word) → ◌≡◌ {A = Result (Action × List Word) Reason} (Ok (a, rest)) (Ok x) → AsksForFew a → AsksForFew x.0
-asked a rest x e few = subst (λ (y : Action × List Word). AsksForFew y.0) (ok_is (a, rest) x e) few
+asked : (a : Calling XidName) (rest : List Word) (x : Calling XidName × List Word) → ◌≡◌ {A = Result (Calling XidName × List Word) Reason} (Ok (a, rest)) (Ok x) → AsksForFew a → AsksForFew x.0
+asked a rest x e few = subst (λ (y : Calling XidName × List Word). AsksForFew y.0) (ok_is (a, rest) x e) few
 
-few_asked : (v : Verb) (ws : List Word) (x : Action × List Word) → action_at v ws ≡ Ok x → AsksForFew x.0
-unfolding action_at
-few_asked (verb.Plain c) ws x e = asked (action.Xa c None) ws x e tt
-few_asked (verb.OnBranch c) ws x e = let b = and_then (xid_at ws) _ x e in asked (action.Xa c (Some b.0.0)) b.0.1 x b.1.1 tt
-few_asked (verb.Heur commits) ws x e = let b = and_then (xid_at ws) _ x e in asked (action.Native (rm.Heur b.0.0 commits)) b.0.1 x b.1.1 tt
+few_asked : (v : Verb) (ws : List Word) (x : Calling XidName × List Word) → calling_at v ws ≡ Ok x → AsksForFew x.0
+unfolding calling_at
+few_asked (verb.Plain c) ws x e = asked (calling.Xa c None) ws x e tt
+few_asked (verb.OnBranch c) ws x e = let b = and_then (xid_at ws) _ x e in asked (calling.Xa c (Some b.0.0)) b.0.1 x b.1.1 tt
+few_asked (verb.Heur commits) ws x e = let b = and_then (xid_at ws) _ x e in asked (calling.Heur b.0.0 commits) b.0.1 x b.1.1 tt
 few_asked verb.Add ws x e =
     let k = and_then (key_at ws) _ x e in
     let d = and_then (delta_at k.0.1) _ x k.1.1 in
-    asked (action.Native (rm.Add k.0.0 d.0.0)) d.0.1 x d.1.1 tt
-few_asked verb.Shut ws x e = asked (action.Native rm.Shut) ws x e tt
-few_asked verb.Complete ws x e = let h = and_then (number_at 0 2147483647 ws) _ x e in asked (action.Complete (pos h.0.0)) h.0.1 x h.1.1 tt
-few_asked verb.Recover ws x e = let c = and_then (number_at 0 64 ws) _ x e in asked (action.Recover c.0.0) c.0.1 x c.1.1 (number_is 0 64 ws c.0 c.1.0).1
+    asked (calling.Add k.0.0 d.0.0) d.0.1 x d.1.1 tt
+few_asked verb.Shut ws x e = asked calling.Shut ws x e tt
+few_asked verb.Complete ws x e = let h = and_then (number_at 0 2147483647 ws) _ x e in asked (calling.Complete (pos h.0.0)) h.0.1 x h.1.1 tt
+few_asked verb.Recover ws x e = let c = and_then (number_at 0 64 ws) _ x e in asked (calling.Recover c.0.0) c.0.1 x c.1.1 (number_is 0 64 ws c.0 c.1.0).1
 
--- the step is a task of the thread that asks for few xids
-abbrev pub IsTaskOf : ℕ → Step → Type 0
-IsTaskOf t p = (q : Task) × ((p ≡ step.Task q) × ((thread_of q ≡ t) × HasFewXids q))
+call_is : (w : Word) (ws : List Word) (q : Called XidName) → call_of w ws ≡ Ok q → AsksForFew q.call
+unfolding call_of
+call_is w ws q e =
+    let v = and_then (ok_or (verb_of w) UnknownWord) _ q e in
+    let m = and_then (number_at 0 4294967295 ws) _ q v.1.1 in
+    let c = and_then (calling_at v.0 m.0.1) _ q m.1.1 in
+    let f = and_then (flags_onto 0 c.0.1) _ q c.1.1 in
+    subst (λ (x : Called XidName). AsksForFew x.call) (ok_is (record { manager = m.0.0; call = c.0.0; flags = f.0 }) q f.1.1) (few_asked v.0 m.0.1 c.0 c.1.0)
 
-call_is : (line t : ℕ) (w : Word) (ws : List Word) (p : Step) → call_step line t w ws ≡ Ok p → IsTaskOf t p
-unfolding call_step
-call_is line t w ws p e =
-    let v = and_then (ok_or (verb_of w) UnknownWord) _ p e in
-    let m = and_then (number_at 0 4294967295 ws) _ p v.1.1 in
-    let a = and_then (action_at v.0 m.0.1) _ p m.1.1 in
-    let f = and_then (flags_onto 0 a.0.1) _ p a.1.1 in
-    let made : Task = task.Call (record { line = line; thread = t; manager = m.0.0; action = a.0.0; flags = f.0 }) in
-    (made, (sym (ok_is (step.Task made) p f.1.1), (refl, few_asked v.0 m.0.1 a.0 a.1.0)))
-
-commit_is : (s : Content) (line t : ℕ) (ws : List Word) (p : Step) → commit_step s line t ws ≡ Ok p → IsTaskOf t p
-unfolding commit_step commit_of
-commit_is s line t ws p e =
-    let c = and_then (commit_of s line t ws) _ p e in
-    let g = and_then (tran_at ws) _ c.0 c.1.0 in
-    let at = and_then (branches_at (managers_of s) g.0.1) _ c.0 g.1.1 in
-    let made : CommitAll = record { line = line; thread = t; tran = g.0.0; managers = at.0 } in
-    let same : made ≡ c.0 = ok_is made c.0 at.1.1 in
-    let whole : step.Task (task.CommitAll made) ≡ p = ap (λ (x : CommitAll). step.Task (task.CommitAll x)) same ∙ ok_is (step.Task (task.CommitAll c.0)) p c.1.1 in
-    (task.CommitAll made, (sym whole, (refl, tt)))
-
-resolve_is : (line t : ℕ) (ws : List Word) (p : Step) → resolve_step line t ws ≡ Ok p → IsTaskOf t p
-unfolding resolve_step
-resolve_is line t ws p e =
-    let last = and_then (end_of ws) _ p e in
-    let made : Task = task.Resolve (record { line = line; thread = t }) in
-    (made, (sym (ok_is (step.Task made) p last.1.1), (refl, tt)))
-
-step_by_is : (s : Content) (line t : ℕ) (w : Word) (ws : List Word) (p : Step) → step_by s line t w ws ≡ Ok p → IsTaskOf t p
-step_by_is s line t w ws p =
-    elim (bytes_eq w (codes "commitall")) as (λ b. (if b then commit_step s line t ws else (if bytes_eq w (codes "resolve") then resolve_step line t ws else call_step line t w ws)) ≡ Ok p → IsTaskOf t p) [
-      | true ↦ commit_is s line t ws p
-      | false ↦ elim (bytes_eq w (codes "resolve")) as (λ b. (if b then resolve_step line t ws else call_step line t w ws) ≡ Ok p → IsTaskOf t p) [
-        | true ↦ resolve_is line t ws p
-        | false ↦ call_is line t w ws p
+action_is : (s : Content) (w : Word) (ws : List Word) (a : ScriptAction) → action_of s w ws ≡ Ok a → HasFewXids a
+action_is s w ws a =
+    elim (bytes_eq w (codes "commitall")) as (λ b. (if b then (commit_of s ws >>= λ c. Ok (action.CommitAll c)) else (if bytes_eq w (codes "resolve") then (end_of ws >>= λ last. Ok action.Resolve) else (call_of w ws >>= λ c. Ok (action.Call c)))) ≡ Ok a → HasFewXids a) [
+      | true ↦ λ e. let c = and_then (commit_of s ws) _ a e in subst (λ (x : ScriptAction). HasFewXids x) (ok_is (action.CommitAll c.0) a c.1.1) tt
+      | false ↦ elim (bytes_eq w (codes "resolve")) as (λ b. (if b then (end_of ws >>= λ last. Ok action.Resolve) else (call_of w ws >>= λ c. Ok (action.Call c))) ≡ Ok a → HasFewXids a) [
+        | true ↦ λ e. let last = and_then (end_of ws) _ a e in subst (λ (x : ScriptAction). HasFewXids x) (ok_is action.Resolve a last.1.1) tt
+        | false ↦ λ e. let c = and_then (call_of w ws) _ a e in subst (λ (x : ScriptAction). HasFewXids x) (ok_is (action.Call c.0) a c.1.1) (call_is w ws c.0 c.1.0)
       ]
     ]
 
 -- a line of a thread is a task of one of the threads
-pub thread_is : (s : Content) (line : ℕ) (w : Word) (ws : List Word) (p : Step) → step_of_thread s line w ws ≡ Ok p → (q : Task) × ((p ≡ step.Task q) × IsOfScript s (step.Task q))
-unfolding step_of_thread
+thread_is : (s : Content) (line : ℕ) (w : Word) (ws : List Word) (p : ScriptTask) → task_on s line w ws ≡ Ok p → IsOfScript s (step.Task p)
+unfolding task_on
 thread_is s line w ws p e =
     let t = and_then (number_in 1 (threads_of s) w) _ p e in
     let v = and_then (word_at ws) _ p t.1.1 in
-    let by = step_by_is s line t.0 v.0.0 v.0.1 p v.1.1 in
-    (by.0, (by.1.0, (subst (IsUpTo (threads_of s)) (sym by.1.1.0) (in_range 1 (threads_of s) w t.0 t.1.0), by.1.1.1)))
+    let a = and_then (action_of s v.0.0 v.0.1) _ p v.1.1 in
+    subst (λ (q : ScriptTask). IsOfScript s (step.Task q)) (ok_is (record { line = line; thread = t.0; action = a.0 }) p a.1.1)
+    (in_range 1 (threads_of s) w t.0 t.1.0, action_is s v.0.0 v.0.1 a.0 a.1.0)
 
 turn_is : (mode : Bool) (s : Content) (line : ℕ) (ws : List Word) (m : ℕ) → turn_of mode s ws ≡ Ok m → IsOfScript s (step.Turn line m)
 unfolding turn_of
@@ -451,10 +403,9 @@ item_by_kept (Some head.Reopen) mode s n w ws i e is =
     let same : item.Step (step.Reopen n) ≡ i = ok_is (item.Step (step.Reopen n)) i last.1.1 in
     subst (λ (z : Item). IsScript (with_item z s)) same (step_kept s (step.Reopen n) tt is)
 item_by_kept (Some head.Thread) mode s n w ws i e is =
-    let p = and_then (step_of_thread s n w ws) (λ p. Ok (item.Step p)) i e in
-    let same : item.Step p.0 ≡ i = ok_is (item.Step p.0) i p.1.1 in
-    let q = thread_is s n w ws p.0 p.1.0 in
-    subst (λ (z : Item). IsScript (with_item z s)) same (step_kept s p.0 (subst (IsOfScript s) (sym q.1.0) q.1.1) is)
+    let p = and_then (task_on s n w ws) (λ p. Ok (item.Step (step.Task p))) i e in
+    let same : item.Step (step.Task p.0) ≡ i = ok_is (item.Step (step.Task p.0)) i p.1.1 in
+    subst (λ (z : Item). IsScript (with_item z s)) same (step_kept s (step.Task p.0) (thread_is s n w ws p.0 p.1.0) is)
 
 item_kept : (mode : Bool) (s : Content) (n : ℕ) (ws : List Word) (i : Item) → item_of mode s n ws ≡ Ok i → IsScript s → IsScript (with_item i s)
 item_kept mode s n [] i e is = let same : item.Nothing ≡ i = cc in subst (λ (z : Item). IsScript (with_item z s)) same is

@@ -45,7 +45,7 @@ first_word (b ∷ w) line h lt blank =
     ap (filter has_bytes) (word_parts (b ∷ w) line p.0 h p.1) ∙ ap (λ ws. (b ∷ w) ∷ ws) (sym p.2)
 
 -- A byte ahead of parts stands in the first of them.
-onto_parts : (b : ℕ) (xss : List (List ℕ)) → (more : List ℕ) × (yss : List (List ℕ)) × (onto_first b xss ≡ (b ∷ more) ∷ yss)
+pub onto_parts : (b : ℕ) (xss : List (List ℕ)) → (more : List ℕ) × (yss : List (List ℕ)) × (onto_first b xss ≡ (b ∷ more) ∷ yss)
 onto_parts b [] = ([], [], refl)
 onto_parts b (xs ∷ xss) = (xs, xss, refl)
 

@@ -5,14 +5,13 @@ use Rattle.std.specs.Option.{ok_or}
 use Rattle.std.specs.Map.{lookup}
 use Rattle.std.specs.Str.{bytes_eq}
 use Rattle.xa_words.specs.declared.flags.Call.TheVariants as call
-use Rattle.xa_words.specs.declared.request.RmOp.TheVariants as rm
+use Rattle.xa_words.specs.Xid.{XidName}
 use Rattle.xa_grammar.specs.declared.fault.Reason.{Reason}
 use Rattle.xa_grammar.specs.declared.fault.Reason.TheVariants.{UnknownWord, TurnInThreadsMode, ReopenInThreadsMode}
-use Rattle.xa_grammar.specs.declared.script.Action.{Action}
-use Rattle.xa_grammar.specs.declared.script.Action.TheVariants as action
-use Rattle.xa_grammar.specs.declared.script.Step.{Step}
-use Rattle.xa_grammar.specs.declared.script.Step.TheVariants as steps
-use Rattle.xa_grammar.specs.declared.script.Task.TheVariants as task
+use Rattle.xa_grammar.specs.declared.step.Calling.{Calling}
+use Rattle.xa_grammar.specs.declared.step.Calling.TheVariants as calling
+use Rattle.xa_grammar.specs.declared.step.Called.{Called}
+use Rattle.xa_grammar.specs.declared.step.Action.TheVariants as action
 use Rattle.xa_grammar.specs.declared.action.Verb.{Verb}
 use Rattle.xa_grammar.specs.declared.action.Verb.TheVariants as verb
 use Rattle.xa_grammar.specs.declared.action.TheConstants.{MOST_HANDLE, MOST_COUNT}
@@ -20,6 +19,7 @@ use Rattle.xa_grammar.specs.declared.commit.TheConstants.{MOST_MANAGER}
 use Rattle.xa_grammar.specs.Fields.{◌>>=◌, Word, word_at, end_of, number_in, number_at, key_at, xid_at, delta_at}
 use Rattle.xa_grammar.specs.Fields.{flags_onto}
 use Rattle.xa_grammar.specs.Content.{Content, threads_of, managers_of}
+use Rattle.xa_grammar.specs.Steps.{ScriptAction, ScriptTask}
 use Rattle.xa_grammar.specs.Commits.{commit_of}
 
 -- The fourteen verbs.
@@ -46,59 +46,49 @@ abbrev pub verb_of : Word → Option Verb
 verb_of w = lookup (bytes_eq w) verbs
 
 -- The words between M and the flags: none, XID, KEY DELTA, HANDLE, or COUNT, which is at most 64.
-unfoldable pub action_at : Verb → List Word → Result (Action × List Word) Reason
-action_at (verb.Plain c) ws = Ok (action.Xa c None, ws)
-action_at (verb.OnBranch c) ws = do
+unfoldable pub calling_at : Verb → List Word → Result (Calling XidName × List Word) Reason
+calling_at (verb.Plain c) ws = Ok (calling.Xa c None, ws)
+calling_at (verb.OnBranch c) ws = do
   x ← xid_at ws
-  Ok (action.Xa c (Some x.0), x.1)
-action_at (verb.Heur commits) ws = do
+  Ok (calling.Xa c (Some x.0), x.1)
+calling_at (verb.Heur commits) ws = do
   x ← xid_at ws
-  Ok (action.Native (rm.Heur x.0 commits), x.1)
-action_at verb.Add ws = do
+  Ok (calling.Heur x.0 commits, x.1)
+calling_at verb.Add ws = do
   k ← key_at ws
   d ← delta_at k.1
-  Ok (action.Native (rm.Add k.0 d.0), d.1)
-action_at verb.Shut ws = Ok (action.Native rm.Shut, ws)
-action_at verb.Complete ws = do
+  Ok (calling.Add k.0 d.0, d.1)
+calling_at verb.Shut ws = Ok (calling.Shut, ws)
+calling_at verb.Complete ws = do
   h ← number_at 0 MOST_HANDLE ws
-  Ok (action.Complete (pos h.0), h.1)
-action_at verb.Recover ws = do
+  Ok (calling.Complete (pos h.0), h.1)
+calling_at verb.Recover ws = do
   c ← number_at 0 MOST_COUNT ws
-  Ok (action.Recover c.0, c.1)
+  Ok (calling.Recover c.0, c.1)
 
--- The words after commitall.
-unfoldable pub commit_step : Content → ℕ → ℕ → List Word → Result Step Reason
-commit_step s line t ws = do
-  c ← commit_of s line t ws
-  Ok (steps.Task (task.CommitAll c))
-
--- The words after resolve: there are none.
-unfoldable pub resolve_step : ℕ → ℕ → List Word → Result Step Reason
-resolve_step line t ws = do
-  last ← end_of ws
-  Ok (steps.Task (task.Resolve (record { line = line; thread = t })))
-
--- Any other verb, with the words after it: M .. flags; M is any number up to 4,294,967,295.
-unfoldable pub call_step : ℕ → ℕ → Word → List Word → Result Step Reason
-call_step line t w ws = do
+-- The words after any other verb: M .. flags; M is any number up to 4,294,967,295.
+unfoldable pub call_of : Word → List Word → Result (Called XidName) Reason
+call_of w ws = do
   v ← ok_or (verb_of w) UnknownWord
   m ← number_at 0 MOST_MANAGER ws
-  a ← action_at v m.1
-  f ← flags_onto 0 a.1
-  Ok (steps.Task (task.Call (record { line = line; thread = t; manager = m.0; action = a.0; flags = f })))
+  c ← calling_at v m.1
+  f ← flags_onto 0 c.1
+  Ok (record { manager = m.0; call = c.0; flags = f })
 
--- The verb and the words after it.
-abbrev pub step_by : Content → ℕ → ℕ → Word → List Word → Result Step Reason
-step_by s line t w ws =
-    if bytes_eq w (codes "commitall") then commit_step s line t ws
-    else (if bytes_eq w (codes "resolve") then resolve_step line t ws else call_step line t w ws)
+-- The verb and the words after it: commitall G M M .., resolve, or a call.
+abbrev pub action_of : Content → Word → List Word → Result ScriptAction Reason
+action_of s w ws =
+    if bytes_eq w (codes "commitall") then (commit_of s ws >>= λ c. Ok (action.CommitAll c))
+    else if bytes_eq w (codes "resolve") then (end_of ws >>= λ last. Ok action.Resolve)
+    else (call_of w ws >>= λ c. Ok (action.Call c))
 
 -- T VERB .., on the line of this number; T is one of the threads.
-unfoldable pub step_of_thread : Content → ℕ → Word → List Word → Result Step Reason
-step_of_thread s line first ws = do
+unfoldable pub task_on : Content → ℕ → Word → List Word → Result ScriptTask Reason
+task_on s line first ws = do
   t ← number_in 1 (threads_of s) first
   w ← word_at ws
-  step_by s line t w.0 w.1
+  a ← action_of s w.0 w.1
+  Ok (record { line = line; thread = t; action = a })
 
 -- turn M, where threads take turns; M is one of the managers.
 unfoldable pub turn_of : Bool → Content → List Word → Result ℕ Reason

@@ -1,10 +1,12 @@
 -- The line of a commit of several branches.
-use Rattle.std.specs.Prelude.{ℕ, Bool, true, false, ◌&&◌, ◌||◌, ◌==◌, nat_lt, nat_le, if◌then◌else◌, List, [], ◌∷◌, map}
-use Rattle.std.specs.Prelude.{get_or, Result, Ok, Err}
+use Rattle.std.specs.Prelude.{ℕ, Bool, true, ◌&&◌, ◌||◌, ◌==◌, nat_lt, nat_le, if◌then◌else◌, List, [], ◌∷◌, Result, Ok}
+use Rattle.std.specs.Prelude.{Err}
 use Rattle.std.specs.List.{list_any}
 use Rattle.xa_grammar.specs.declared.fault.Reason.{Reason}
 use Rattle.xa_grammar.specs.declared.fault.Reason.TheVariants.{BadBranches}
-use Rattle.xa_grammar.specs.declared.script.CommitAll.{CommitAll}
+use Rattle.xa_words.specs.Tran.{TranName}
+use Rattle.xa_words.specs.ManagerSet.{is_in, set_of}
+use Rattle.xa_grammar.specs.declared.step.CommitAll.{CommitAll}
 use Rattle.xa_grammar.specs.declared.named.Named.{Named}
 use Rattle.xa_grammar.specs.declared.commit.TheConstants.{MOST_MANAGER}
 use Rattle.xa_grammar.specs.Fields.{◌>>=◌, Word, number_at, numbers_to_end, tran_at}
@@ -26,13 +28,9 @@ are_rising count last (m ∷ ms) = nat_lt last m && (nat_le m count && are_risin
 abbrev pub is_named : List ℕ → ℕ → Bool
 is_named ms m = list_any (λ n. n == m) ms
 
--- Place m - 1 tells of manager m.
-abbrev pub places : (ℕ → Bool) → List Bool
-places is_in = map is_in (1 ∷ 2 ∷ 3 ∷ 4 ∷ 5 ∷ 6 ∷ 7 ∷ 8 ∷ [])
-
 -- Where the branches are: at managers that there are, which are named in rising order.
 abbrev pub rising_branches : ℕ → List ℕ → Result (List Bool) Reason
-rising_branches count ms = if are_rising count 0 ms then Ok (places (is_named ms)) else Err BadBranches
+rising_branches count ms = if are_rising count 0 ms then Ok (set_of (is_named ms)) else Err BadBranches
 
 -- M M .., judged after the last of them.
 unfoldable pub branches_at : ℕ → List Word → Result (List Bool) Reason
@@ -40,12 +38,12 @@ branches_at count ws = do
   ms ← numbers_at ws
   rising_branches count ms
 
--- G M M .., by a thread, on the line of this number.
-unfoldable pub commit_of : Content → ℕ → ℕ → List Word → Result CommitAll Reason
-commit_of s line t ws = do
+-- G M M ..
+unfoldable pub commit_of : Content → List Word → Result (CommitAll TranName) Reason
+commit_of s ws = do
   g ← tran_at ws
   managers ← branches_at (managers_of s) g.1
-  Ok (record { line = line; thread = t; tran = g.0; managers = managers })
+  Ok (record { tran = g.0; managers = managers })
 
 -- ---- while they are read
 
@@ -53,5 +51,5 @@ commit_of s line t ws = do
 abbrev pub goes_on : Named → List ℕ → Result (List Bool) Reason
 goes_on so_far ms =
     if so_far.rising && are_rising so_far.count so_far.last ms
-    then Ok (places (λ m. get_or (false ∷ so_far.places) m false || is_named ms m))
+    then Ok (set_of (λ m. is_in so_far.managers m || is_named ms m))
     else Err BadBranches

@@ -15,12 +15,14 @@ use Rattle.xa_grammar.specs.declared.script.Count.{Count}
 use Rattle.xa_grammar.specs.declared.script.Count.TheVariants.{Threads, Managers, Handles, Queue, Requests}
 use Rattle.xa_grammar.specs.declared.script.Settings.{Settings}
 use Rattle.xa_grammar.specs.declared.script.Declared.{Declared}
-use Rattle.xa_grammar.specs.declared.script.Action.{Action}
-use Rattle.xa_grammar.specs.declared.script.Action.TheVariants as action
-use Rattle.xa_grammar.specs.declared.script.Task.{Task}
-use Rattle.xa_grammar.specs.declared.script.Task.TheVariants as task
-use Rattle.xa_grammar.specs.declared.script.Step.{Step}
-use Rattle.xa_grammar.specs.declared.script.Step.TheVariants as step
+use Rattle.xa_grammar.specs.declared.step.Calling.{Calling}
+use Rattle.xa_grammar.specs.declared.step.Calling.TheVariants as calling
+use Rattle.xa_grammar.specs.declared.step.Action.{Action}
+use Rattle.xa_grammar.specs.declared.step.Action.TheVariants as action
+use Rattle.xa_grammar.specs.declared.step.Task.{Task}
+use Rattle.xa_grammar.specs.declared.step.Step.{Step}
+use Rattle.xa_grammar.specs.declared.step.Step.TheVariants as step
+use Rattle.xa_grammar.specs.Steps.{ScriptTask, ScriptStep}
 
 -- ---- what a script says
 
@@ -30,7 +32,7 @@ pub record Content : Type 0 where
   pub syncs : List ℕ
   -- Which append of a thread's log fails, at place t - 1 of thread t.
   pub failing : List (Option ℕ)
-  pub steps : List Step
+  pub steps : List ScriptStep
 
 -- How many threads there are, 1 where no line sets it.
 abbrev pub threads_of : Content → ℕ
@@ -64,30 +66,24 @@ carries_async s m = not (list_any (λ n. n == m) s.syncs)
 abbrev pub failing_append : Content → ℕ → Option ℕ
 failing_append s t = if nat_lt 0 t then get_or s.failing (t - 1) None else None
 
--- The thread that does a task.
-abbrev pub thread_of : Task → ℕ
-thread_of (task.Call p) = p.thread
-thread_of (task.CommitAll c) = c.thread
-thread_of (task.Resolve r) = r.thread
-
 -- The step where it is a task of thread t.
-abbrev pub task_of : ℕ → Step → Option Task
-task_of t (step.Task p) = if thread_of p == t then Some p else None
+abbrev pub task_of : {X G : Type 0} → ℕ → Step X G → Option (Task X G)
+task_of t (step.Task p) = if p.thread == t then Some p else None
 task_of t (step.Turn line m) = None
 task_of t (step.Reopen line) = None
 
 -- The tasks of thread t, in the order of their lines.
-abbrev pub tasks_of : ℕ → List Step → List Task
+abbrev pub tasks_of : ℕ → List ScriptStep → List ScriptTask
 tasks_of t steps = filter_map (task_of t) steps
 
 -- The line opens the managers again.
-abbrev pub is_reopen : Step → Bool
+abbrev pub is_reopen : {X G : Type 0} → Step X G → Bool
 is_reopen (step.Task p) = false
 is_reopen (step.Turn line m) = false
 is_reopen (step.Reopen line) = true
 
 -- These lines are of one opening.
-abbrev pub AreOfOne : List Step → Type 0
+abbrev pub AreOfOne : List ScriptStep → Type 0
 AreOfOne steps = list_any is_reopen steps ≡ false
 
 -- ---- what a line adds to it
@@ -127,7 +123,7 @@ abbrev pub with_failing : ℕ → ℕ → Content → Content
 with_failing t k s = record s { failing = slice_set s.failing (t - 1) (Some k) }
 
 -- One more step is to be done.
-abbrev pub with_step : Step → Content → Content
+abbrev pub with_step : ScriptStep → Content → Content
 with_step p s = record s { steps = s.steps ++ p ∷ [] }
 
 -- ---- what holds of it
@@ -136,27 +132,29 @@ with_step p s = record s { steps = s.steps ++ p ∷ [] }
 abbrev pub IsOfManager : Content → Declared → Type 0
 IsOfManager s d = (1 ≤ d.manager) × (d.manager ≤ managers_of s)
 
--- An action asks for at most 64 xids.
-abbrev pub AsksForFew : Action → Type 0
-AsksForFew (action.Xa c x) = Unit {0}
-AsksForFew (action.Native op) = Unit {0}
-AsksForFew (action.Complete h) = Unit {0}
-AsksForFew (action.Recover n) = n ≤ MOST_COUNT
+-- A call asks for at most 64 xids.
+abbrev pub AsksForFew : {X : Type 0} → Calling X → Type 0
+AsksForFew (calling.Xa c x) = Unit {0}
+AsksForFew (calling.Heur x commits) = Unit {0}
+AsksForFew (calling.Add k d) = Unit {0}
+AsksForFew calling.Shut = Unit {0}
+AsksForFew (calling.Complete h) = Unit {0}
+AsksForFew (calling.Recover n) = n ≤ MOST_COUNT
 
--- So does a task.
-abbrev pub HasFewXids : Task → Type 0
-HasFewXids (task.Call p) = AsksForFew p.action
-HasFewXids (task.CommitAll c) = Unit {0}
-HasFewXids (task.Resolve r) = Unit {0}
+-- So does whatever a thread does.
+abbrev pub HasFewXids : {X G : Type 0} → Action X G → Type 0
+HasFewXids (action.Call c) = AsksForFew c.call
+HasFewXids (action.CommitAll c) = Unit {0}
+HasFewXids action.Resolve = Unit {0}
 
 -- With so many threads and managers, a task is of a thread that there is and asks for at most 64 xids, and a turn is of
 -- a manager that there is.
-abbrev pub Fits : ℕ → ℕ → Step → Type 0
-Fits threads managers (step.Task p) = IsUpTo threads (thread_of p) × HasFewXids p
+abbrev pub Fits : {X G : Type 0} → ℕ → ℕ → Step X G → Type 0
+Fits threads managers (step.Task p) = IsUpTo threads p.thread × HasFewXids p.action
 Fits threads managers (step.Turn line m) = IsUpTo managers m
 Fits threads managers (step.Reopen line) = Unit {0}
 
-abbrev pub IsOfScript : Content → Step → Type 0
+abbrev pub IsOfScript : Content → ScriptStep → Type 0
 IsOfScript s p = Fits (threads_of s) (managers_of s) p
 
 -- An append that fails is one of the first 1,000,000 of a log, and the log is of a thread that there is.

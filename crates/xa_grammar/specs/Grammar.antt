@@ -11,7 +11,7 @@ use Rattle.xa_grammar.specs.declared.fault.Reason.TheVariants.{LineTooLong, BadB
 use Rattle.xa_grammar.specs.declared.fault.ScriptFault.{ScriptFault}
 use Rattle.xa_grammar.specs.declared.fault.ScriptFault.TheVariants as faults
 use Rattle.xa_grammar.specs.declared.script.Count.TheVariants.{Threads, Managers, Handles, Queue, Requests}
-use Rattle.xa_grammar.specs.declared.script.Step.TheVariants as steps
+use Rattle.xa_grammar.specs.declared.step.Step.TheVariants as steps
 use Rattle.xa_grammar.specs.declared.line.Head.{Head}
 use Rattle.xa_grammar.specs.declared.line.Head.TheVariants as head
 use Rattle.xa_grammar.specs.declared.line.Item.{Item}
@@ -21,7 +21,7 @@ use Rattle.xa_grammar.specs.Fields.{◌>>=◌, Word, all_digits}
 use Rattle.xa_base.specs.Lists.{IsUpTo}
 use Rattle.xa_grammar.specs.Content.{Content, nothing, with_count, with_key, with_sync, with_failing, with_step}
 use Rattle.xa_grammar.specs.Settings.{setting_of, sync_of, logfail_of, declared_of}
-use Rattle.xa_grammar.specs.Actions.{step_of_thread, turn_of, reopen_of}
+use Rattle.xa_grammar.specs.Actions.{task_on, turn_of, reopen_of}
 
 -- ---- lines
 
@@ -80,8 +80,8 @@ item_by (Some head.Reopen) mode s n w ws = do
   last ← reopen_of mode ws
   Ok (item.Step (steps.Reopen n))
 item_by (Some head.Thread) mode s n w ws = do
-  p ← step_of_thread s n w ws
-  Ok (item.Step p)
+  p ← task_on s n w ws
+  Ok (item.Step (steps.Task p))
 
 -- What the words of line n say. Without words it says nothing.
 abbrev pub item_of : Bool → Content → ℕ → List Word → Result Item Reason

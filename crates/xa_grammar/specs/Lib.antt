@@ -1,6 +1,7 @@
 pub mod Text
 pub mod Faults
 pub mod Fields
+pub mod Steps
 pub mod Content
 pub mod Settings
 pub mod Found
@@ -8,6 +9,5 @@ pub mod Commits
 pub mod Actions
 pub mod Grammar
 pub mod Reading
-pub mod Shapes
-pub mod Kept
+pub mod KeptSteps
 pub mod OwnTasks

@@ -1,32 +1,33 @@
 -- The steps that are tasks of one thread.
 use Rattle.std.specs.Prelude.{◌≡◌, ℕ, Bool, true, List, Option, Some, None, is_some, slice_get, filter, filter_map}
-use Rattle.xa_grammar.specs.declared.script.Task.{Task}
-use Rattle.xa_grammar.specs.declared.script.Step.{Step}
-use Rattle.xa_grammar.specs.declared.script.Step.TheVariants as step
+use Rattle.xa_grammar.specs.declared.step.Task.{Task}
+use Rattle.xa_grammar.specs.declared.step.Step.{Step}
+use Rattle.xa_grammar.specs.declared.step.Step.TheVariants as step
+use Rattle.xa_grammar.specs.Steps.{ScriptTask, ScriptStep}
 use Rattle.xa_grammar.specs.Content.{task_of}
 
 -- the task that a step is
-abbrev pub task_in : Step → Option Task
+abbrev pub task_in : {X G : Type 0} → Step X G → Option (Task X G)
 task_in (step.Task p) = Some p
 task_in (step.Turn line m) = None
 task_in (step.Reopen line) = None
 
 -- the step is a task
-abbrev pub IsTask : Step → Type 0
+abbrev pub IsTask : ScriptStep → Type 0
 IsTask p = is_some (task_in p) ≡ true
 
 -- the step is a task of thread t
-abbrev pub is_own : ℕ → Step → Bool
+abbrev pub is_own : {X G : Type 0} → ℕ → Step X G → Bool
 is_own t p = is_some (task_of t p)
 
 -- those of the steps
-abbrev pub own_steps : ℕ → List Step → List Step
+abbrev pub own_steps : ℕ → List ScriptStep → List ScriptStep
 own_steps t steps = filter (is_own t) steps
 
 -- the tasks that steps are
-abbrev pub tasks_in : List Step → List Task
+abbrev pub tasks_in : List ScriptStep → List ScriptTask
 tasks_in steps = filter_map task_in steps
 
 -- the steps at these places
-abbrev pub steps_at : List Step → List ℕ → List Step
+abbrev pub steps_at : List ScriptStep → List ℕ → List ScriptStep
 steps_at steps places = filter_map (slice_get steps) places

@@ -12,12 +12,12 @@ use Rattle.xa_grammar.specs.declared.script.Count.{Count}
 use Rattle.xa_grammar.specs.declared.script.Count.TheVariants.{Threads, Managers, Handles, Queue, Requests}
 use Rattle.xa_grammar.specs.declared.script.Settings.{Settings}
 use Rattle.xa_grammar.specs.declared.script.Declared.{Declared}
-use Rattle.xa_grammar.specs.declared.script.Step.{Step}
+use Rattle.xa_grammar.specs.Steps.{ScriptStep}
 use Rattle.xa_grammar.specs.Fields.{◌>>=◌, Word, end_of, number_at, key_at}
 use Rattle.xa_grammar.specs.Content.{Content, threads_of, managers_of}
 
 -- Settings stand before the first action.
-abbrev pub before_actions : List Step → Result (Unit {0}) Reason
+abbrev pub before_actions : List ScriptStep → Result (Unit {0}) Reason
 before_actions [] = Ok tt
 before_actions (step ∷ steps) = Err SettingAfterAction
 

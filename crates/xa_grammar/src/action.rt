@@ -1,16 +1,14 @@
 //! What a thread is told to do.
-ghost use Rattle.std.specs.Prelude.{◌≡◌, Ok, Err, MatchResult};
-ghost use Rattle.xa_grammar.specs.Shapes.{action_of};
-ghost use Rattle.xa_grammar.specs.Actions.{verb_of, action_at, resolve_step, call_step, step_by, step_of_thread};
-ghost use Rattle.xa_grammar.specs.Actions.{turn_of, reopen_of};
+ghost use Rattle.std.specs.Prelude.{◌≡◌};
+ghost use Rattle.xa_grammar.specs.Fields.{Takes};
+ghost use Rattle.xa_grammar.specs.Actions.{verb_of, calling_at, call_of, action_of, task_on, turn_of, reopen_of};
 
-use crate::commit::{MOST_MANAGER, commit_step};
+use crate::commit::{MOST_MANAGER, commit_of};
 use crate::fault::Reason;
 use crate::field::{meaning_in, number_in};
-use crate::heard::Heard;
-use crate::name::Name;
-use crate::script::{Resolve, Script};
-use crate::shape::{Calling, Shape};
+use crate::name::{Gtrid, Name};
+use crate::script::Script;
+use crate::step::{Action, Called, Calling, Task};
 use crate::words::Words;
 use xa_words::Call;
 
@@ -64,10 +62,9 @@ fn verb_of(word: &[u8]) -> Option<Verb>
 }
 
 // The words between the manager and the flags.
-#[tactic(auto, unfolding(crate::specs::Actions::action_at))]
-fn action_at<'a>(verb: Verb, words: &mut Words<'a>) -> Result<Calling<Name<'a>>, Reason>
-    ensures { MatchResult result (λ c. action_at verb words.old ≡ Ok (action_of (λ x. x) c, words.new))
-        (λ why. action_at verb words.old ≡ Err why) }
+#[tactic(auto, unfolding(crate::specs::Actions::calling_at))]
+fn calling_at<'a>(verb: Verb, words: &mut Words<'a>) -> Result<Calling<Name<'a>>, Reason>
+    ensures { Takes result words.new (calling_at verb words.old) }
 {
     match verb {
         Verb::Plain(call) => Ok(Calling::Xa(call, None)),
@@ -84,70 +81,58 @@ fn action_at<'a>(verb: Verb, words: &mut Words<'a>) -> Result<Calling<Name<'a>>,
     }
 }
 
-// The words after `resolve`: there are none.
-#[tactic(auto, unfolding(crate::specs::Actions::resolve_step))]
-fn resolve_step<'a>(line: u32, thread: u32, words: &mut Words<'a>) -> Result<Heard<'a>, Reason>
-    ensures { result ≡ resolve_step line thread words.old }
-{
-    words.end()?;
-    Ok(Heard::new(Shape::Resolve(Resolve { line, thread })))
-}
-
-// Any other verb, with the words after it.
-#[tactic(auto, unfolding(crate::specs::Actions::call_step))]
-fn call_step<'a>(
-    line: u32,
-    thread: u32,
-    verb: &[u8],
-    words: &mut Words<'a>,
-) -> Result<Heard<'a>, Reason>
-    ensures { result ≡ call_step line thread verb.now words.old }
+// The words after the verb of a call.
+#[tactic(auto, unfolding(crate::specs::Actions::call_of))]
+fn call_of<'a>(verb: &[u8], words: &mut Words<'a>) -> Result<Called<Name<'a>>, Reason>
+    ensures { result ≡ call_of verb.now words.old }
 {
     let verb = verb_of(verb).ok_or(Reason::UnknownWord)?;
     let manager = words.number(0, MOST_MANAGER)? as u32;
-    let calling = action_at(verb, words)?;
+    let call = calling_at(verb, words)?;
     let flags = words.flags()?;
-    Ok(Heard::new(Shape::Call {
-        line,
-        thread,
+    Ok(Called {
         manager,
-        calling,
+        call,
         flags,
-    }))
+    })
 }
 
 // The verb and the words after it.
-fn step_by<'a>(
+fn action_of<'a>(
     script: &Script,
-    line: u32,
-    thread: u32,
     verb: &[u8],
     words: &mut Words<'a>,
-) -> Result<Heard<'a>, Reason>
-    ensures { result ≡ step_by script.now line thread verb.now words.old }
+) -> Result<Action<Name<'a>, Gtrid<'a>>, Reason>
+    ensures { result ≡ action_of script.now verb.now words.old }
 {
     if verb == b"commitall".as_slice() {
-        commit_step(script, line, thread, words)
+        Ok(Action::CommitAll(commit_of(script, words)?))
     } else if verb == b"resolve".as_slice() {
-        resolve_step(line, thread, words)
+        words.end()?;
+        Ok(Action::Resolve)
     } else {
-        call_step(line, thread, verb, words)
+        Ok(Action::Call(call_of(verb, words)?))
     }
 }
 
 // The words after `first`, the word that names the thread.
-#[tactic(auto, unfolding(crate::specs::Actions::step_of_thread))]
-pub(crate) fn step_of_thread<'a>(
+#[tactic(auto, unfolding(crate::specs::Actions::task_on))]
+pub(crate) fn task_on<'a>(
     script: &Script,
     line: u32,
     first: &[u8],
     words: &mut Words<'a>,
-) -> Result<Heard<'a>, Reason>
-    ensures { result ≡ step_of_thread script.now line first.now words.old }
+) -> Result<Task<Name<'a>, Gtrid<'a>>, Reason>
+    ensures { result ≡ task_on script.now line first.now words.old }
 {
     let thread = number_in(1, u64::from(script.threads()), first)? as u32;
     let verb = words.word()?;
-    step_by(script, line, thread, verb, words)
+    let action = action_of(script, verb, words)?;
+    Ok(Task {
+        line,
+        thread,
+        action,
+    })
 }
 
 // The words after `turn`: the manager.

@@ -1,15 +1,14 @@
 //! What one word stands for.
-ghost use Rattle.std.specs.Prelude.{◌≡◌, ◌<◌, ◌≤◌, ◌==◌, IfOk, IfSome, length, option_map};
+ghost use Rattle.std.specs.Prelude.{◌≡◌, ◌<◌, ◌≤◌, ◌==◌, IfOk, IfSome, length};
 ghost use Rattle.std.specs.List.{list_all, position_or_len};
 ghost use Rattle.std.specs.Map.{lookup};
 ghost use Rattle.std.specs.Str.{bytes_eq};
-ghost use Rattle.xa_words.specs.Tran.{tran_of};
 ghost use Rattle.xa_grammar.specs.Text.{dot};
 ghost use Rattle.xa_grammar.specs.Fields.{all_digits, number_of, number_in, is_name_byte, is_name, xid_of, tran_named};
 ghost use Rattle.xa_grammar.specs.Fields.{signed_number_of, delta_in, flag_of};
 
 use crate::fault::Reason;
-use crate::name::Name;
+use crate::name::{Gtrid, Name};
 use memchr::memchr;
 use xa_words::{
     Delta, TMASYNC, TMENDRSCAN, TMFAIL, TMJOIN, TMMULTIPLE, TMNOWAIT, TMONEPHASE, TMRESUME,
@@ -112,14 +111,14 @@ pub(crate) fn xid_of(word: &[u8]) -> Option<Name<'_>>
     Some(Name::new(gtrid, bqual))
 }
 
-// The global transaction of format 1 that a name stands for, given as one of its branches.
-pub(crate) fn tran_named(word: &[u8]) -> Option<Name<'_>>
-    ensures { option_map tran_of result ≡ tran_named word.now }
+// The global transaction of format 1 that a name stands for.
+pub(crate) fn tran_named(word: &[u8]) -> Option<Gtrid<'_>>
+    ensures { result ≡ tran_named word.now }
 {
     if !is_name(word) {
         return None;
     }
-    Some(Name::new(word, b"1"))
+    Some(Gtrid::new(word))
 }
 
 // A number that may have a minus before it.

@@ -13,7 +13,7 @@ use xa_words::Key;
 
 /// The declared keys, in the order of their lines.
 #[derive(Drop)]
-pub(crate) struct Keys {
+pub(crate) struct DeclaredKeys {
     list: Vec<Declared>,
     // The manager and the key of each.
     found: HashSet<(u32, Key)>,
@@ -21,7 +21,7 @@ pub(crate) struct Keys {
     counts: [usize; 9],
 }
 
-impl Model for Keys {
+impl Model for DeclaredKeys {
     ghost use Rattle.std.specs.Prelude.{List};
     ghost use Rattle.xa_grammar.specs.declared.script.Declared.{Declared};
     ghost use Rattle.xa_grammar.specs.Found.{Finds};
@@ -33,11 +33,11 @@ impl Model for Keys {
     ghost invariant = { λ k. Finds k.list.items k.found.keys k.counts };
 }
 
-impl Keys {
-    pub(crate) fn new(alloc: Global) -> Keys
+impl DeclaredKeys {
+    pub(crate) fn new(alloc: Global) -> DeclaredKeys
         ensures { result ≡ [] }
     {
-        Keys {
+        DeclaredKeys {
             list: Vec::new(alloc),
             found: HashSet::new(alloc),
             counts: [0; 9],
@@ -80,7 +80,7 @@ impl Keys {
     }
 }
 
-impl Debug for Keys {
+impl Debug for DeclaredKeys {
     fn fmt<W: Write>(&self, f: &mut Formatter<W>) -> Written {
         self.list.fmt(f)
     }

@@ -6,13 +6,13 @@ ghost use Rattle.xa_grammar.specs.Content.{IsScript};
 ghost use Rattle.xa_grammar.specs.Grammar.{head_of, item_by, item_of, line_of, with_item, HasPlace, after_line};
 ghost use Rattle.xa_grammar.specs.Grammar.{FailsAt};
 
-use crate::action::{reopen_of, step_of_thread, turn_of};
+use crate::action::{reopen_of, task_on, turn_of};
 use crate::fault::{Reason, ScriptFault};
 use crate::field::{all_digits, meaning_in};
-use crate::heard::Heard;
+use crate::name::{Gtrid, Name};
 use crate::script::{Count, Declared, Script};
 use crate::setting::{declared_of, logfail_of, setting_of, sync_of};
-use crate::shape::Shape;
+use crate::step::Step;
 use crate::words::Words;
 use std::alloc::AllocError;
 
@@ -58,7 +58,7 @@ pub(crate) enum Item<'a> {
     /// An append of a thread's log fails.
     LogFail { thread: u32, append: u32 },
     Key(Declared),
-    Step(Heard<'a>),
+    Step(Step<Name<'a>, Gtrid<'a>>),
 }
 
 fn head_of(word: &[u8]) -> Option<Head>
@@ -100,15 +100,15 @@ fn item_of<'a>(
             Ok(Item::LogFail { thread, append })
         }
         Head::Key => Ok(Item::Key(declared_of(script, &mut words)?)),
-        Head::Turn => Ok(Item::Step(Heard::new(Shape::Turn {
+        Head::Turn => Ok(Item::Step(Step::Turn {
             line: number,
             manager: turn_of(script, threads_mode, &mut words)?,
-        }))),
+        })),
         Head::Reopen => {
             reopen_of(threads_mode, &mut words)?;
-            Ok(Item::Step(Heard::new(Shape::Reopen { line: number })))
+            Ok(Item::Step(Step::Reopen { line: number }))
         }
-        Head::Thread => Ok(Item::Step(step_of_thread(script, number, first, &mut words)?)),
+        Head::Thread => Ok(Item::Step(Step::Task(task_on(script, number, first, &mut words)?))),
     }
 }
 
@@ -178,7 +178,7 @@ fn put(script: &mut Script, item: Item) -> Result<(), AllocError>
             Ok(())
         }
         Item::Key(declared) => script.add_key(declared),
-        Item::Step(heard) => script.add_step(&heard),
+        Item::Step(step) => script.add_step(&step),
     }
 }
 

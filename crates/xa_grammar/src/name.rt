@@ -1,11 +1,11 @@
-//! Names of branches as they stand in a line.
+//! Names of branches and of global transactions as they stand in a line.
 ghost use Rattle.std.specs.Prelude.{◌≡◌, IsTrue, pos};
 ghost use Rattle.xa_words.specs.NewXid.{is_part};
 
 use std::marker::Model;
-use xa_words::Xid;
+use xa_words::{Tran, Xid};
 
-// The format of every xid of a script.
+// The format of every name of a script.
 const FORMAT: i32 = 1;
 
 /// The xid of a branch, whose bytes stand in a line.
@@ -60,5 +60,51 @@ impl<'a> Name<'a> {
         ensures valid { IsTrue (is_part result.now) }
     {
         self.bqual
+    }
+}
+
+/// The name of a global transaction, whose bytes stand in a line.
+#[derive(Drop)]
+pub(crate) struct Gtrid<'a> {
+    bytes: &'a [u8],
+}
+
+impl<'a> Model for Gtrid<'a> {
+    ghost use Rattle.std.specs.Prelude.{IsTrue, pos};
+    ghost use Rattle.xa_words.specs.NewXid.{is_part};
+    ghost use Rattle.xa_words.specs.Tran.{TranName};
+
+    ghost Value = { TranName };
+
+    ghost view = { λ g. record { format = pos 1; gtrid = g.bytes.now } };
+
+    ghost invariant = { λ g. IsTrue (is_part g.bytes.now) };
+}
+
+impl<'a> Gtrid<'a> {
+    /// The global transaction of this gtrid, of 1 to 64 bytes.
+    pub(crate) fn new(bytes: &'a [u8]) -> Gtrid<'a>
+        requires { IsTrue (is_part bytes.now) }
+        ensures { result ≡ record { format = pos 1; gtrid = bytes.now } }
+    {
+        Gtrid { bytes }
+    }
+
+    pub(crate) fn tran(&self) -> Tran
+        ensures { result ≡ self.now }
+    {
+        match Tran::new(FORMAT, self.bytes) {
+            Ok(tran) => tran,
+            // It has 1 to 64 bytes.
+            Err(_) => unreachable!(),
+        }
+    }
+
+    pub(crate) fn bytes(&self) -> &'a [u8]
+        ensures gtrid { result.now ≡ self.now.gtrid }
+        ensures format { self.now.format ≡ pos 1 }
+        ensures valid { IsTrue (is_part result.now) }
+    {
+        self.bytes
     }
 }

@@ -2,6 +2,7 @@
 ghost use Rattle.std.specs.Prelude.{◌≡◌, ◌≤◌, ◌&&◌, nat_lt, nat_le, ℕ, List, ◌∷◌, []};
 
 use crate::fault::Reason;
+use xa_words::ManagerSet;
 
 // The managers that a line names so far.
 #[derive(Clone, Copy)]
@@ -12,8 +13,7 @@ pub(crate) struct Named {
     last: u32,
     // Whether each so far is a manager that there is, above the one before it.
     rising: bool,
-    // Place m - 1 for manager m.
-    places: [bool; 8],
+    managers: ManagerSet,
     ghost few: { count ≤ 8 },
 }
 
@@ -28,7 +28,7 @@ impl Named {
             count,
             last: 0,
             rising: true,
-            places: [false; 8],
+            managers: ManagerSet::new(),
         }
     }
 
@@ -45,17 +45,17 @@ impl Named {
         self.rising = self.may_add(manager);
         self.last = manager;
         if self.rising {
-            self.places[manager as usize - 1] = true;
+            self.managers.add(manager);
         }
     }
 
     // Where the branches are, if no more managers are named.
-    pub(crate) fn places(self) -> Result<[bool; 8], Reason>
+    pub(crate) fn managers(self) -> Result<ManagerSet, Reason>
         ensures { result ≡ goes_on self [] }
     {
         if !self.rising {
             return Err(Reason::BadBranches);
         }
-        Ok(self.places)
+        Ok(self.managers)
     }
 }

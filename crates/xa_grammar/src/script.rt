@@ -6,14 +6,15 @@ ghost use Rattle.xa_base.specs.declared.limits.TheConstants.{MOST_THREADS};
 ghost use Rattle.xa_base.specs.Lists.{IsUpTo};
 ghost use Rattle.xa_grammar.specs.declared.setting.TheConstants.{MOST_APPENDS};
 
-use crate::heard::Heard;
-use crate::keys::Keys;
+use crate::keys::DeclaredKeys;
+use crate::name::{Gtrid, Name};
+use crate::step::Step;
 use crate::steps::Steps;
 use crate::tasks::Tasks;
 use std::alloc::{AllocError, Global};
 use std::marker::Model;
 use std::sync::Arc;
-use xa_words::{Call, Key, RmOp, Tran, Xid};
+use xa_words::Key;
 
 /// A count that a line of its own sets.
 #[derive(Clone, Copy)]
@@ -47,102 +48,11 @@ pub struct Declared {
     pub value: u64,
 }
 
-/// What a thread calls, as the switch takes it.
-#[derive(Clone, Copy, Debug, PartialEq, Eq)]
-pub enum Action {
-    /// A call of XA but `xa_complete()` and `xa_recover()`, with its xid where it takes one.
-    Xa(Call, Option<Xid>),
-    /// A call outside XA.
-    Native(RmOp),
-    /// `xa_complete()` with the handle that the line gives, which isn't negative.
-    Complete(i32),
-    /// `xa_recover()`, with room for so many xids, 0 to 64.
-    Recover(u32),
-}
-
-/// A call that a thread makes.
-#[derive(Clone, Copy, Debug, PartialEq, Eq)]
-pub struct Called {
-    /// The number of its line, from 1.
-    pub line: u32,
-    /// The thread's number, from 1.
-    pub thread: u32,
-    /// The number that the line gives, which need not be that of a manager.
-    pub manager: u32,
-    pub action: Action,
-    /// The flags of `xa.h`, joined bit by bit. Nothing says that they suit the call.
-    pub flags: u32,
-}
-
-/// A commit of a global transaction in two phases. Its branch at manager M is `G.M`.
-#[derive(Clone, Copy, Debug, PartialEq, Eq)]
-pub struct CommitAll {
-    /// The number of its line, from 1.
-    pub line: u32,
-    /// The thread's number, from 1.
-    pub thread: u32,
-    /// The global transaction, of format 1.
-    pub tran: Tran,
-    /// Where its branches are: place m - 1 for manager m.
-    pub managers: [bool; 8],
-}
-
-/// A resolve, by the thread's log, of what the last reopening found left.
-#[derive(Clone, Copy, Debug, PartialEq, Eq)]
-pub struct Resolve {
-    /// The number of its line, from 1.
-    pub line: u32,
-    /// The thread's number, from 1.
-    pub thread: u32,
-}
-
-/// What a thread does on a line of its own.
-#[derive(Clone, Copy, Debug, PartialEq, Eq)]
-pub enum Task {
-    Call(Called),
-    CommitAll(CommitAll),
-    Resolve(Resolve),
-}
-
-impl Task {
-    ghost use Rattle.xa_grammar.specs.Content.{thread_of};
-
-    /// The thread's number, from 1.
-    pub fn thread(&self) -> u32
-        ensures { result ≡ thread_of self.now }
-    {
-        match self {
-            Task::Call(called) => called.thread,
-            Task::CommitAll(commit) => commit.thread,
-            Task::Resolve(resolve) => resolve.thread,
-        }
-    }
-}
-
-/// What is to be done next.
-#[derive(Clone, Copy, Debug, PartialEq, Eq)]
-pub enum Step {
-    /// A thread does something.
-    Task(Task),
-    /// A manager takes one request, if there is one.
-    Turn {
-        /// The number of its line, from 1.
-        line: u32,
-        /// The manager's number, from 1.
-        manager: u32,
-    },
-    /// The opening ends and is settled, and the managers are opened again.
-    Reopen {
-        /// The number of its line, from 1.
-        line: u32,
-    },
-}
-
 /// A whole script: its settings, and its keys and its steps, each in the order of the lines.
 #[derive(Debug, Drop)]
 pub struct Script {
     settings: Settings,
-    keys: Keys,
+    keys: DeclaredKeys,
     // The managers that take no asynchronous calls.
     syncs: Vec<u32>,
     // Which append of a thread's log fails: place t - 1 for thread t.
@@ -193,7 +103,7 @@ impl Script {
                 queue: None,
                 requests: None,
             },
-            keys: Keys::new(alloc),
+            keys: DeclaredKeys::new(alloc),
             syncs: Vec::new(alloc),
             failing: [None; 8],
             steps: Arc::new(alloc, Steps::new(alloc))?,
@@ -256,7 +166,7 @@ impl Script {
         self.keys.all()
     }
 
-    pub(crate) fn declared(&self) -> &Keys
+    pub(crate) fn declared(&self) -> &DeclaredKeys
         ensures { result.now ≡ self.now.keys }
     {
         &self.keys
@@ -363,10 +273,10 @@ impl Script {
         self.failing[thread as usize - 1] = Some(append);
     }
 
-    pub(crate) fn add_step(&mut self, heard: &Heard) -> Result<(), AllocError>
-        requires { IsScript self.old → IsScript (with_step heard.now self.old) }
-        ensures { OnOk result (self.new ≡ with_step heard.now self.old) }
+    pub(crate) fn add_step(&mut self, step: &Step<Name, Gtrid>) -> Result<(), AllocError>
+        requires { IsScript self.old → IsScript (with_step step.now self.old) }
+        ensures { OnOk result (self.new ≡ with_step step.now self.old) }
     {
-        Arc::make_mut(&mut self.steps)?.push(heard.shape())
+        Arc::make_mut(&mut self.steps)?.push(step)
     }
 }

@@ -4,7 +4,7 @@ ghost use Rattle.xa_grammar.specs.Settings.{before_actions, count_of, not_set, l
 ghost use Rattle.xa_grammar.specs.Settings.{logfail_of, new_key, declared_of};
 
 use crate::fault::Reason;
-use crate::keys::Keys;
+use crate::keys::DeclaredKeys;
 use crate::script::{Count, Declared, Script, Settings};
 use crate::words::Words;
 use xa_base::{
@@ -93,7 +93,7 @@ pub(crate) fn logfail_of(script: &Script, words: &mut Words) -> Result<(u32, u32
 }
 
 // The declaration, where its manager has no such key and room for one more.
-fn new_key(keys: &Keys, declared: Declared) -> Result<Declared, Reason>
+fn new_key(keys: &DeclaredKeys, declared: Declared) -> Result<Declared, Reason>
     ensures { result ≡ new_key keys.now declared }
 {
     if keys.has(declared.manager, &declared.key) {

@@ -3,20 +3,18 @@ ghost use Rattle.std.specs.Prelude.{◌≡◌, ◌<◌, ◌^◌, ◌++◌, ◌�
 ghost use Rattle.std.specs.Prelude.{OnErr};
 ghost use Rattle.std.specs.List.{list_any};
 ghost use Rattle.xa_grammar.specs.Content.{is_reopen};
-ghost use Rattle.xa_grammar.specs.OwnTasks.{is_own, own_steps, steps_at};
-ghost use Rattle.xa_grammar.specs.declared.script.Step.{Step};
-ghost use Rattle.xa_grammar.specs.Shapes.{action_of, step_of};
-ghost use Rattle.xa_grammar.specs.Kept.{name_at, IsName, HasItsNames, IsNamed, is_reopening};
+ghost use Rattle.xa_grammar.specs.OwnTasks.{own_steps, steps_at};
+ghost use Rattle.xa_grammar.specs.Steps.{step_with};
+ghost use Rattle.xa_grammar.specs.KeptSteps.{bytes_in, IsShort, place_from, gtrid_place_from, name_at, gtrid_at};
+ghost use Rattle.xa_grammar.specs.KeptSteps.{IsName, IsGtrid, IsNamed, step_at};
 
-use crate::name::Name;
-use crate::script::{Action, Called, CommitAll, Step, Task};
-use crate::shape::{Calling, Shape};
+use crate::name::{Gtrid, Name};
+use crate::step::{Action, Calling, Step};
 use std::alloc::{AllocError, Global};
 use std::clone::Clone;
 use std::marker::Model;
-use xa_words::RmOp;
 
-// Where the bytes of a name stand: those of the gtrid, and then those of the bqual.
+// Where the bytes of a branch's name stand: those of the gtrid, and then those of the bqual.
 #[derive(Clone, Copy, Debug)]
 pub(crate) struct Place {
     at: usize,
@@ -24,43 +22,68 @@ pub(crate) struct Place {
     bqual: u8,
 }
 
+// Where the bytes of a global transaction's gtrid stand.
+#[derive(Clone, Copy, Debug)]
+pub(crate) struct GtridPlace {
+    at: usize,
+    len: u8,
+}
+
 /// Steps in their order. Contracts see the list of them.
 #[derive(Debug, Drop)]
 pub(crate) struct Steps {
     names: Vec<u8>,
-    kept: Vec<Shape<Place>>,
+    kept: Vec<Step<Place, GtridPlace>>,
 }
 
 impl Model for Steps {
     ghost use Rattle.std.specs.Prelude.{List, All};
-    ghost use Rattle.xa_grammar.specs.declared.script.Step.{Step};
-    ghost use Rattle.xa_grammar.specs.Kept.{IsNamed, steps_of};
+    ghost use Rattle.xa_grammar.specs.Steps.{ScriptStep};
+    ghost use Rattle.xa_grammar.specs.KeptSteps.{IsNamed, steps_of};
 
-    ghost Value = { List Step };
+    ghost Value = { List ScriptStep };
 
     ghost view = { λ s. steps_of s.names.items s.kept.items };
 
     ghost invariant = { λ s. All (IsNamed s.names.items) s.kept.items };
 }
 
-// Appends the bytes of a name, and answers where they stand.
-fn put_name(names: &mut Vec<u8>, name: &Name) -> Result<Place, AllocError>
-    ensures grown { (more : List ℕ) × (names.new.items ≡ names.old.items ++ more) }
-    ensures stands { IfOk result (IsName names.new.items) }
-    ensures name { IfOk result (λ p. name_at names.new.items p ≡ name.now) }
+// The bytes of the name in a step: those of a gtrid, and those of a bqual where it is a branch's.
+fn name_in<'a>(step: &Step<Name<'a>, Gtrid<'a>>) -> (&'a [u8], &'a [u8])
+    ensures bytes { (result.0.now, result.1.now) ≡ bytes_in step.now }
+    ensures short { IsShort step.now }
 {
-    let (gtrid, bqual) = (name.gtrid(), name.bqual());
-    let at = names.len();
-    names.extend_from_slice(gtrid)?;
-    names.extend_from_slice(bqual)?;
-    Ok(Place {
-        at,
-        gtrid: gtrid.len() as u8,
-        bqual: bqual.len() as u8,
-    })
+    let Step::Task(task) = step else {
+        return (b"".as_slice(), b"".as_slice());
+    };
+    match &task.action {
+        Action::Call(called) => match &called.call {
+            Calling::Xa(_, Some(name)) | Calling::Heur(name, _) => (name.gtrid(), name.bqual()),
+            _ => (b"".as_slice(), b"".as_slice()),
+        },
+        Action::CommitAll(commit) => (commit.tran.bytes(), b"".as_slice()),
+        Action::Resolve => (b"".as_slice(), b"".as_slice()),
+    }
 }
 
-// The name that stands at a place.
+// The step with where its name stands, the bytes of which are kept from a place on.
+fn place_names(step: &Step<Name, Gtrid>, at: usize) -> Step<Place, GtridPlace>
+    ensures { result ≡ step_with (place_from at) (gtrid_place_from at) step.now }
+{
+    step.map(
+        |name| Place {
+            at,
+            gtrid: name.gtrid().len() as u8,
+            bqual: name.bqual().len() as u8,
+        },
+        |gtrid| GtridPlace {
+            at,
+            len: gtrid.bytes().len() as u8,
+        },
+    )
+}
+
+// The branch's name that stands at a place.
 fn name_at<'a>(names: &'a [u8], place: Place) -> Name<'a>
     requires { IsName names.now place }
     ensures { result ≡ name_at names.now place }
@@ -70,135 +93,29 @@ fn name_at<'a>(names: &'a [u8], place: Place) -> Name<'a>
     Name::new(&names[place.at..gtrid_end], &names[gtrid_end..bqual_end])
 }
 
-// Appends the name in what is called, where it has one.
-fn keep_calling(names: &mut Vec<u8>, calling: &Calling<Name>) -> Result<Calling<Place>, AllocError>
-    ensures grown { (more : List ℕ) × (names.new.items ≡ names.old.items ++ more) }
-    ensures stands { IfOk result (HasItsNames names.new.items) }
-    ensures action { IfOk result (λ c. action_of (name_at names.new.items) c ≡ action_of (λ x. x) calling.now) }
+// The global transaction whose gtrid stands at a place.
+fn gtrid_at<'a>(names: &'a [u8], place: GtridPlace) -> Gtrid<'a>
+    requires { IsGtrid names.now place }
+    ensures { result ≡ gtrid_at names.now place }
 {
-    Ok(match calling {
-        Calling::Xa(call, Some(name)) => Calling::Xa(*call, Some(put_name(names, name)?)),
-        Calling::Xa(call, None) => Calling::Xa(*call, None),
-        Calling::Heur(name, commits) => Calling::Heur(put_name(names, name)?, *commits),
-        Calling::Add(key, delta) => Calling::Add(*key, *delta),
-        Calling::Shut => Calling::Shut,
-        Calling::Complete(handle) => Calling::Complete(*handle),
-        Calling::Recover(room) => Calling::Recover(*room),
-    })
+    Gtrid::new(&names[place.at..place.at + place.len as usize])
 }
 
-// Appends the names in a step.
-fn keep(names: &mut Vec<u8>, shape: &Shape<Name>) -> Result<Shape<Place>, AllocError>
-    ensures grown { (more : List ℕ) × (names.new.items ≡ names.old.items ++ more) }
-    ensures stands { IfOk result (IsNamed names.new.items) }
-    ensures step { IfOk result (λ p. step_of (name_at names.new.items) p ≡ step_of (λ x. x) shape.now) }
+// The step that is kept, with its name.
+fn step_at(names: &[u8], step: &Step<Place, GtridPlace>) -> Step
+    requires { IsNamed names.now step.now }
+    ensures { result ≡ step_at names.now step.now }
 {
-    Ok(match shape {
-        Shape::Call {
-            line,
-            thread,
-            manager,
-            calling,
-            flags,
-        } => Shape::Call {
-            line: *line,
-            thread: *thread,
-            manager: *manager,
-            calling: keep_calling(names, calling)?,
-            flags: *flags,
-        },
-        Shape::CommitAll {
-            line,
-            thread,
-            branch,
-            managers,
-        } => Shape::CommitAll {
-            line: *line,
-            thread: *thread,
-            branch: put_name(names, branch)?,
-            managers: *managers,
-        },
-        Shape::Resolve(resolve) => Shape::Resolve(*resolve),
-        Shape::Turn { line, manager } => Shape::Turn {
-            line: *line,
-            manager: *manager,
-        },
-        Shape::Reopen { line } => Shape::Reopen { line: *line },
-    })
+    step.map(
+        |place| name_at(names, *place).xid(),
+        |place| gtrid_at(names, *place).tran(),
+    )
 }
 
-// What a thread is told to call, with the xid that stands where it says.
-fn action_at(names: &[u8], calling: &Calling<Place>) -> Action
-    requires { HasItsNames names.now calling.now }
-    ensures { result ≡ action_of (name_at names.now) calling.now }
+fn any_reopens(kept: &[Step<Place, GtridPlace>]) -> bool
+    ensures { result ≡ list_any is_reopen kept.now }
 {
-    match calling {
-        Calling::Xa(call, Some(place)) => Action::Xa(*call, Some(name_at(names, *place).xid())),
-        Calling::Xa(call, None) => Action::Xa(*call, None),
-        Calling::Heur(place, commits) => {
-            Action::Native(RmOp::Heur(name_at(names, *place).xid(), *commits))
-        }
-        Calling::Add(key, delta) => Action::Native(RmOp::Add(*key, *delta)),
-        Calling::Shut => Action::Native(RmOp::Shut),
-        Calling::Complete(handle) => Action::Complete(*handle),
-        Calling::Recover(room) => Action::Recover(*room),
-    }
-}
-
-// The step that is kept, with its xid.
-fn step_at(names: &[u8], shape: &Shape<Place>) -> Step
-    requires { IsNamed names.now shape.now }
-    ensures { result ≡ step_of (name_at names.now) shape.now }
-{
-    match shape {
-        Shape::Call {
-            line,
-            thread,
-            manager,
-            calling,
-            flags,
-        } => Step::Task(Task::Call(Called {
-            line: *line,
-            thread: *thread,
-            manager: *manager,
-            action: action_at(names, calling),
-            flags: *flags,
-        })),
-        Shape::CommitAll {
-            line,
-            thread,
-            branch,
-            managers,
-        } => Step::Task(Task::CommitAll(CommitAll {
-            line: *line,
-            thread: *thread,
-            tran: name_at(names, *branch).xid().tran(),
-            managers: *managers,
-        })),
-        Shape::Resolve(resolve) => Step::Task(Task::Resolve(*resolve)),
-        Shape::Turn { line, manager } => Step::Turn {
-            line: *line,
-            manager: *manager,
-        },
-        Shape::Reopen { line } => Step::Reopen { line: *line },
-    }
-}
-
-fn is_of(thread: u32, shape: &Shape<Place>) -> bool
-    ensures { (bytes : List ℕ) → result ≡ is_own thread (step_of (name_at bytes) shape.now) }
-{
-    match shape {
-        Shape::Call { thread: own, .. } | Shape::CommitAll { thread: own, .. } => *own == thread,
-        Shape::Resolve(resolve) => resolve.thread == thread,
-        Shape::Turn { .. } | Shape::Reopen { .. } => false,
-    }
-}
-
-fn any_reopens(kept: &[Shape<Place>]) -> bool
-    ensures { result ≡ list_any is_reopening kept.now }
-{
-    kept.iter()
-        .any(|shape| matches!(shape, Shape::Reopen { .. }))
+    kept.iter().any(|step| step.is_reopen())
 }
 
 impl Steps {
@@ -226,13 +143,15 @@ impl Steps {
         any_reopens(&self.kept)
     }
 
-    pub(crate) fn push(&mut self, shape: &Shape<Name>) -> Result<(), AllocError>
-        ensures pushed { OnOk result (self.new ≡ self.old ++ step_of (λ x. x) shape.now ∷ []) }
+    pub(crate) fn push(&mut self, step: &Step<Name, Gtrid>) -> Result<(), AllocError>
+        ensures pushed { OnOk result (self.new ≡ self.old ++ step.now ∷ []) }
         ensures same { OnErr result (self.new ≡ self.old) }
     {
-        // It names the types within a step: a `push` of a type that only contains them gets no proof.
-        let _named: Option<(Place, Calling<Place>, Shape<Place>)> = None;
-        let kept = keep(&mut self.names, shape)?;
+        let (gtrid, bqual) = name_in(step);
+        let at = self.names.len();
+        self.names.extend_from_slice(gtrid)?;
+        self.names.extend_from_slice(bqual)?;
+        let kept = place_names(step, at);
         self.kept.push(kept)?;
         Ok(())
     }
@@ -251,7 +170,7 @@ impl Steps {
     {
         let mut places = Vec::new(alloc);
         for place in 0..self.kept.len() {
-            if is_of(thread, &self.kept[place]) {
+            if self.kept[place].is_of(thread) {
                 places.push(place)?;
             }
         }

@@ -3,7 +3,7 @@ ghost use Rattle.std.specs.Prelude.{◌≡◌, ◌<◌, Some, length, nat_eq, sl
 ghost use Rattle.std.specs.Arc.{arc_value};
 ghost use Rattle.xa_grammar.specs.OwnTasks.{tasks_in, steps_at, IsTask};
 
-use crate::script::{Step, Task};
+use crate::step::{Step, Task};
 use crate::steps::Steps;
 use std::alloc::Global;
 use std::marker::Model;
@@ -21,10 +21,10 @@ pub struct Tasks {
 impl Model for Tasks {
     ghost use Rattle.std.specs.Prelude.{◌<◌, List, length, All};
     ghost use Rattle.std.specs.Arc.{arc_value};
-    ghost use Rattle.xa_grammar.specs.declared.script.Task.{Task};
+    ghost use Rattle.xa_grammar.specs.Steps.{ScriptTask};
     ghost use Rattle.xa_grammar.specs.OwnTasks.{tasks_in, steps_at, IsTask};
 
-    ghost Value = { List Task };
+    ghost Value = { List ScriptTask };
 
     ghost view = { λ t. tasks_in (steps_at (arc_value t.steps) t.places.items) };
 

@@ -1,7 +1,6 @@
 //! The words of a line, taken from left to right.
 ghost use Rattle.std.specs.Prelude.{◌≡◌, ◌<◌, ◌≤◌, ◌∷◌, [], length, take, drop, true, false, Ok, Err, IfOk};
 ghost use Rattle.std.specs.Prelude.{MatchOption, MatchResult};
-ghost use Rattle.xa_words.specs.Tran.{tran_of};
 ghost use Rattle.xa_grammar.specs.Text.{is_space, starts_blank, words_of, IsWord};
 ghost use Rattle.xa_grammar.specs.Fields.{Takes, word_at, end_of, number_at, key_at, xid_at, tran_at, delta_at};
 ghost use Rattle.xa_grammar.specs.Fields.{flags_onto};
@@ -9,7 +8,7 @@ ghost use Rattle.xa_grammar.specs.Grammar.{are_comment};
 
 use crate::fault::Reason;
 use crate::field::{delta_in, flag_of, number_in, tran_named, xid_of};
-use crate::name::Name;
+use crate::name::{Gtrid, Name};
 use std::marker::Model;
 use xa_words::{Delta, Key};
 
@@ -96,11 +95,9 @@ impl<'a> Words<'a> {
         xid_of(self.word()?).ok_or(Reason::BadXid)
     }
 
-    // A global transaction, given as one of its branches.
     #[tactic(auto, unfolding(crate::specs::Fields::tran_at))]
-    pub(crate) fn tran(&mut self) -> Result<Name<'a>, Reason>
-        ensures { MatchResult result (λ x. tran_at self.old ≡ Ok (tran_of x, self.new))
-            (λ why. tran_at self.old ≡ Err why) }
+    pub(crate) fn tran(&mut self) -> Result<Gtrid<'a>, Reason>
+        ensures { Takes result self.new (tran_at self.old) }
     {
         tran_named(self.word()?).ok_or(Reason::BadXid)
     }

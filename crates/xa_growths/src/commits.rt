@@ -1,11 +1,12 @@
 //! A record of a decision, and a commit of two branches.
 ghost use Rattle.std.specs.Prelude.{◌≡◌, map};
-ghost use Rattle.xa_switch.specs.Seats.{seat_of_desk, seat_of_worker};
+ghost use Rattle.xa_switch.specs.Belonging.{seat_of_desk, seat_of_worker};
 
-use crate::openings::{Workers, open, plan_of};
+use crate::openings::{open, plan_of};
 use crate::thing::Came;
 use std::alloc::Global;
 use std::sync::Wait;
+use xa_crew::Turns;
 use xa_desk::Desk;
 use xa_driver::{
     Branch, CommitRecord, DecisionLog, DecisionRecords, Done, Ending, MemoryLog, commit_all,
@@ -18,7 +19,7 @@ use xa_words::{Call, Delta, Key, TMNOFLAGS, TMSUCCESS, Xid};
 #[derive(Drop)]
 pub(crate) struct Committer {
     desk: Desk,
-    workers: Workers,
+    workers: Turns,
     log: MemoryLog,
     branches: [Branch; 2],
 }
@@ -36,10 +37,10 @@ pub(crate) fn ask<R: Wait>(
     call: Call,
     branch: &Branch,
     flags: u32,
-    idle: &mut Workers,
+    idle: &mut Turns,
 ) -> i32
     ensures seat { seat_of_desk desk.new ≡ seat_of_desk desk.old }
-    ensures idled { map seat_of_worker idle.new.all.items ≡ map seat_of_worker idle.old.all.items }
+    ensures idled { map seat_of_worker idle.new ≡ map seat_of_worker idle.old }
 {
     let xid = Some(branch.xid);
     xa_call(rt, desk, call, xid, branch.m, flags, idle)
@@ -51,10 +52,10 @@ pub(crate) fn work<R: Wait>(
     desk: &mut Desk,
     branch: &Branch,
     addition: RmOp,
-    idle: &mut Workers,
+    idle: &mut Turns,
 ) -> bool
     ensures seat { seat_of_desk desk.new ≡ seat_of_desk desk.old }
-    ensures idled { map seat_of_worker idle.new.all.items ≡ map seat_of_worker idle.old.all.items }
+    ensures idled { map seat_of_worker idle.new ≡ map seat_of_worker idle.old }
 {
     let opened = xa_call(rt, desk, Call::OpenRm, None, branch.m, TMNOFLAGS, idle);
     let started = ask(rt, desk, Call::Start, branch, TMNOFLAGS, idle);

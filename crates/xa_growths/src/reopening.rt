@@ -1,23 +1,24 @@
 //! An opening that is opened again, and the end of what was left there.
 ghost use Rattle.std.specs.Prelude.{◌≡◌, map};
-ghost use Rattle.xa_switch.specs.Seats.{seat_of_desk, seat_of_worker};
+ghost use Rattle.xa_switch.specs.Belonging.{seat_of_desk, seat_of_worker};
 
 use crate::commits::{ask, branch, work};
-use crate::openings::{Workers, one_desk, open, plan_of};
+use crate::openings::{open, plan_of};
 use crate::settling::end_all;
 use crate::thing::Came;
 use std::alloc::Global;
 use std::sync::Wait;
+use xa_crew::Turns;
 use xa_desk::Desk;
 use xa_driver::{Branch, MemoryLog, Outcome, may_resolve, resolve};
 use xa_switch::{Again, OpenFault, RmOp, Scan, Settled, reopen, settle, xa_call, xa_recover};
+use xa_testing::one;
 use xa_words::{Call, Code, Delta, Key, TMENDRSCAN, TMNOFLAGS, TMSTARTRSCAN, Xid};
-use xa_worker::Worker;
 
 // Adds 1 for the branch, and prepares it.
-fn prepare<R: Wait>(rt: &R, desk: &mut Desk, branch: &Branch, idle: &mut Workers) -> bool
+fn prepare<R: Wait>(rt: &R, desk: &mut Desk, branch: &Branch, idle: &mut Turns) -> bool
     ensures seat { seat_of_desk desk.new ≡ seat_of_desk desk.old }
-    ensures idled { map seat_of_worker idle.new.all.items ≡ map seat_of_worker idle.old.all.items }
+    ensures idled { map seat_of_worker idle.new ≡ map seat_of_worker idle.old }
 {
     match (Key::new(b"a"), Delta::new(1)) {
         (Some(key), Some(delta)) => {
@@ -41,9 +42,8 @@ pub(crate) fn settled<R: Wait>(rt: &R, alloc: Global) -> Option<Settled> {
 }
 
 // Whether the branch is left, and listed.
-fn lists<R: Wait>(rt: &R, mut desk: Desk, workers: Vec<Worker>, mut scan: Scan, xid: Xid) -> bool {
-    let mut workers = Workers { all: workers };
-    if workers.all.len() != 2 || scan.left(1) != [xid].as_slice() || !scan.left(2).is_empty() {
+fn lists<R: Wait>(rt: &R, mut desk: Desk, mut workers: Turns, mut scan: Scan, xid: Xid) -> bool {
+    if workers.managers() != 2 || scan.left(1) != [xid].as_slice() || !scan.left(2).is_empty() {
         return false;
     }
     xa_call(
@@ -61,8 +61,8 @@ fn lists<R: Wait>(rt: &R, mut desk: Desk, workers: Vec<Worker>, mut scan: Scan, 
 }
 
 // Whether these are one desk and two workers, over managers of which the first has the branch left.
-fn is_whole<R: Wait>(rt: &R, desks: Vec<Desk>, workers: Vec<Worker>, mut scans: Vec<Scan>) -> bool {
-    match (one_desk(desks), scans.pop(), branch(1, b"1")) {
+fn is_whole<R: Wait>(rt: &R, desks: Vec<Desk>, workers: Turns, scans: Vec<Scan>) -> bool {
+    match (one(desks), one(scans), branch(1, b"1")) {
         (Some(desk), Some(scan), Some(branch)) => lists(rt, desk, workers, scan, branch.xid),
         _ => false,
     }
@@ -86,7 +86,7 @@ pub(crate) fn open_again<R: Wait>(rt: &R, alloc: Global, kept: &mut Option<Settl
     };
     match reopen(rt, alloc, settled, &again()) {
         Ok((desks, workers, scans)) => {
-            if is_whole(rt, desks, workers, scans) {
+            if is_whole(rt, desks, Turns::new(workers), scans) {
                 Came::Made
             } else {
                 Came::Wrong
@@ -107,18 +107,18 @@ pub(crate) fn open_again<R: Wait>(rt: &R, alloc: Global, kept: &mut Option<Settl
 pub(crate) struct Resolver {
     desk: Desk,
     scan: Scan,
-    workers: Workers,
+    workers: Turns,
 }
 
 impl Resolver {
     /// None for want of memory.
     pub(crate) fn new<R: Wait>(rt: &R, alloc: Global) -> Option<Resolver> {
         let kept = settled(rt, alloc)?;
-        let (desks, workers, mut scans) = reopen(rt, alloc, kept, &again()).ok()?;
+        let (desks, workers, scans) = xa_testing::open_again(rt, alloc, kept, &again())?;
         Some(Resolver {
-            desk: one_desk(desks)?,
-            scan: scans.pop()?,
-            workers: Workers { all: workers },
+            desk: one(desks)?,
+            scan: one(scans)?,
+            workers,
         })
     }
 

@@ -1,23 +1,25 @@
 //! What becomes of an opening: all its calls, and how it is settled.
-ghost use Rattle.std.specs.Prelude.{◌≡◌, ◌∷◌, [], IfSome, map};
+ghost use Rattle.std.specs.Prelude.{◌≡◌, ◌≤◌, ◌∷◌, [], IfSome, length, map, vec_capacity};
 ghost use Rattle.std.specs.List.{All};
-ghost use Rattle.xa_switch.specs.Seats.{ComeFromOpenings, desk_seats, worker_seats, openings_of, seat_of_desk};
-ghost use Rattle.xa_switch.specs.Seats.{seat_of_ended, seat_of_worker, seat_of_done};
+ghost use Rattle.xa_switch.specs.Belonging.{ComeFromOpenings, desk_seats, worker_seats, openings_of, seat_of_desk};
+ghost use Rattle.xa_switch.specs.Belonging.{seat_of_worker};
 
 use crate::commits::{ask, branch};
-use crate::openings::{Opened, Workers, open, plan_of};
+use crate::openings::{Opened, open, plan_of};
 use crate::thing::{Came, begin, tell};
 use std::alloc::Global;
 use std::io::{self, Write};
 use std::sync::Wait;
+use xa_crew::Turns;
 use xa_desk::{Desk, EndedDesk};
 use xa_driver::Branch;
 use xa_switch::laws::mixed_pieces_come_from_their_openings;
 use xa_switch::{RmOp, Why, native, settle, xa_call, xa_complete};
+use xa_testing::{end, run_all};
 use xa_words::{
     Call, Code, Delta, Key, TMASYNC, TMMULTIPLE, TMNOFLAGS, TMNOWAIT, TMONEPHASE, TMSUCCESS,
 };
-use xa_worker::{DoneWorker, Free, Worker};
+use xa_worker::DoneWorker;
 
 // ---- calls
 
@@ -28,10 +30,10 @@ fn send<R: Wait>(
     branch: &Branch,
     key: Key,
     delta: Delta,
-    idle: &mut Workers,
+    idle: &mut Turns,
 ) -> bool
     ensures seat { seat_of_desk desk.new ≡ seat_of_desk desk.old }
-    ensures idled { map seat_of_worker idle.new.all.items ≡ map seat_of_worker idle.old.all.items }
+    ensures idled { map seat_of_worker idle.new ≡ map seat_of_worker idle.old }
 {
     let addition = RmOp::Add(key, delta);
     let opened = xa_call(rt, desk, Call::OpenRm, None, branch.m, TMASYNC, idle);
@@ -48,10 +50,10 @@ fn collect<R: Wait>(
     m: u32,
     number: i32,
     flags: u32,
-    idle: &mut Workers,
+    idle: &mut Turns,
 ) -> bool
     ensures seat { seat_of_desk desk.new ≡ seat_of_desk desk.old }
-    ensures idled { map seat_of_worker idle.new.all.items ≡ map seat_of_worker idle.old.all.items }
+    ensures idled { map seat_of_worker idle.new ≡ map seat_of_worker idle.old }
 {
     let (mut handle, mut retval) = (number, 55);
     let answer = xa_complete(rt, desk, &mut handle, &mut retval, m, flags, idle);
@@ -59,9 +61,9 @@ fn collect<R: Wait>(
 }
 
 // Collects what `send` sent, in each way.
-fn collect_all<R: Wait>(rt: &R, desk: &mut Desk, m: u32, idle: &mut Workers) -> bool
+fn collect_all<R: Wait>(rt: &R, desk: &mut Desk, m: u32, idle: &mut Turns) -> bool
     ensures seat { seat_of_desk desk.new ≡ seat_of_desk desk.old }
-    ensures idled { map seat_of_worker idle.new.all.items ≡ map seat_of_worker idle.old.all.items }
+    ensures idled { map seat_of_worker idle.new ≡ map seat_of_worker idle.old }
 {
     let fourth = collect(rt, desk, m, 4, TMNOFLAGS, idle);
     let first = collect(rt, desk, 0, 0, TMMULTIPLE, idle);
@@ -79,10 +81,10 @@ fn work<R: Wait>(
     delta: Delta,
     call: Call,
     flags: u32,
-    idle: &mut Workers,
+    idle: &mut Turns,
 ) -> bool
     ensures seat { seat_of_desk desk.new ≡ seat_of_desk desk.old }
-    ensures idled { map seat_of_worker idle.new.all.items ≡ map seat_of_worker idle.old.all.items }
+    ensures idled { map seat_of_worker idle.new ≡ map seat_of_worker idle.old }
 {
     let sent = send(rt, desk, branch, key, delta, idle);
     let refused = ask(rt, desk, call, branch, flags | TMASYNC, idle);
@@ -99,10 +101,10 @@ fn play_with<R: Wait>(
     second: &Branch,
     key: Key,
     delta: Delta,
-    idle: &mut Workers,
+    idle: &mut Turns,
 ) -> bool
     ensures seat { seat_of_desk desk.new ≡ seat_of_desk desk.old }
-    ensures idled { map seat_of_worker idle.new.all.items ≡ map seat_of_worker idle.old.all.items }
+    ensures idled { map seat_of_worker idle.new ≡ map seat_of_worker idle.old }
 {
     let committed = work(rt, desk, first, key, delta, Call::Commit, TMONEPHASE, idle);
     let rolled_back = work(
@@ -121,9 +123,9 @@ fn play_with<R: Wait>(
 }
 
 // All calls, if they answer what they are to.
-fn play<R: Wait>(rt: &R, desk: &mut Desk, idle: &mut Workers) -> bool
+fn play<R: Wait>(rt: &R, desk: &mut Desk, idle: &mut Turns) -> bool
     ensures seat { seat_of_desk desk.new ≡ seat_of_desk desk.old }
-    ensures idled { map seat_of_worker idle.new.all.items ≡ map seat_of_worker idle.old.all.items }
+    ensures idled { map seat_of_worker idle.new ≡ map seat_of_worker idle.old }
 {
     match (
         branch(1, b"1"),
@@ -138,21 +140,12 @@ fn play<R: Wait>(rt: &R, desk: &mut Desk, idle: &mut Workers) -> bool
     }
 }
 
-// Ends a desk with which nothing is outstanding.
-fn end<R: Wait>(rt: &R, desk: Desk, idle: &mut Workers) -> Option<EndedDesk>
-    ensures seat { IfSome result (λ e. seat_of_ended e ≡ seat_of_desk desk) }
-    ensures idled { map seat_of_worker idle.new.all.items ≡ map seat_of_worker idle.old.all.items }
+// Room for the workers once they have run. None for want of memory.
+fn room_for(alloc: Global, workers: &Turns) -> Option<Vec<DoneWorker>>
+    ensures none { IfSome result (λ v. v.items ≡ []) }
+    ensures room { IfSome result (λ v. length workers.now ≤ vec_capacity v) }
 {
-    match desk.finish(rt, idle) {
-        Ok(ended) => Some(ended),
-        Err(_) => None,
-    }
-}
-
-fn run<R: Wait>(rt: &R, worker: Worker) -> DoneWorker
-    ensures { seat_of_done result ≡ seat_of_worker worker }
-{
-    worker.run(rt, &mut Free)
+    Vec::with_capacity(alloc, workers.managers()).ok()
 }
 
 /// All calls of an opening from its opening on, to the end of its desk and its workers. They take no memory.
@@ -165,14 +158,13 @@ pub(crate) fn call_all<R: Wait, W: Write>(
         mut desk,
         mut workers,
     } = open(rt, alloc, &plan_of(alloc, 1, 2)?)?;
+    let done = room_for(alloc, &workers)?;
     if let Err(error) = begin(out) {
         return Some(Err(error));
     }
     let played = play(rt, &mut desk, &mut workers);
     let ended = end(rt, desk, &mut workers).is_some();
-    for worker in workers.all {
-        run(rt, worker);
-    }
+    workers.run(rt, done);
     let came = if played && ended {
         Came::Made
     } else {
@@ -190,29 +182,17 @@ pub(crate) struct Pieces {
     pub(crate) workers: Vec<DoneWorker>,
 }
 
-// Runs all workers. None for want of memory.
-fn run_all<R: Wait>(rt: &R, alloc: Global, workers: Vec<Worker>) -> Option<Vec<DoneWorker>>
-    ensures { IfSome result (λ v. worker_seats v.items ≡ map seat_of_worker workers.items) }
-{
-    let mut done = Vec::new(alloc);
-    for worker in workers {
-        let one = run(rt, worker);
-        done.push(one).ok()?;
-    }
-    Some(done)
-}
-
 /// Ends the desk, and runs the workers. None where something is outstanding, and for want of memory.
 pub(crate) fn end_all<R: Wait>(rt: &R, alloc: Global, opened: Opened) -> Option<Pieces>
     ensures desks { IfSome result (λ p. desk_seats p.desks.items ≡ seat_of_desk opened.desk ∷ []) }
-    ensures workers { IfSome result (λ p. worker_seats p.workers.items ≡ map seat_of_worker opened.workers.all.items) }
+    ensures workers { IfSome result (λ p. worker_seats p.workers.items ≡ map seat_of_worker opened.workers) }
 {
     let Opened { desk, mut workers } = opened;
     let ended = end(rt, desk, &mut workers)?;
     let Ok(desks) = Vec::from_array(alloc, [ended]) else {
         return None;
     };
-    let workers = run_all(rt, alloc, workers.all)?;
+    let workers = run_all(rt, alloc, workers)?;
     Some(Pieces { desks, workers })
 }
 

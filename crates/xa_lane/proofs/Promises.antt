@@ -42,10 +42,3 @@ module _ {T : Type 0} where
       → All (λ e. e.line ≡ line) ends
   are_of_lane lane line capacity n senders ends is same =
       all_of_lines line ends (subst (All (λ l. l ≡ line)) (sym (same ∙ ap (map (λ (e : Sending T). e.line)) is)) (new_lines [] lane line capacity n))
-
--- what holds of what one list shows holds of what another shows, if they show the same
-pub all_shown : {X Y Z : Type 0} (f : X → Z) (h : Y → Z) (P : Z → Type 0) (xs : List X) (ys : List Y) → map f xs ≡ map h ys → All (λ y. P (h y)) ys → All (λ x. P (f x)) xs
-all_shown f h P [] ys e all k d b = absurd (omega arith)
-all_shown f h P (x ∷ xs) [] e all k d b = absurd (cc)
-all_shown f h P (x ∷ xs) (y ∷ ys) e all zero d b = let s : f x ≡ h y = cc in subst P (sym s) (all 0 y (omega arith))
-all_shown f h P (x ∷ xs) (y ∷ ys) e all (suc k) d b = all_shown f h P xs ys (cc) (λ j q c. all (suc j) q (omega arith)) k d (omega arith)

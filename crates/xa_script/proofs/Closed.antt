@@ -12,23 +12,23 @@ use Rattle.xa_switch.specs.Settling.{Settling, IsSettled}
 use Rattle.xa_switch.specs.Closing.{settling}
 use Rattle.xa_switch.specs.OfPlans.{IsOf}
 use Rattle.xa_crew.specs.Pieces.{HasServed, ArePiecesOf}
-use Rattle.xa_grammar.specs.declared.script.Step.{Step}
+use Rattle.xa_grammar.specs.Steps.{ScriptStep}
 use Rattle.xa_grammar.specs.Content.{Content}
-use Rattle.xa_session.specs.declared.answer.Answer.{Answer}
+use Rattle.xa_transcript.specs.declared.answer.Told.{Told}
 use Rattle.xa_session.specs.declared.session.Session.{Session}
-use Rattle.xa_session.specs.Ended.{all_ended}
-use Rattle.xa_transcript.specs.Openings.{Beginning}
-use Rattle.xa_transcript.specs.Runs.{Ran}
+use Rattle.xa_transcript.specs.Ended.{all_ended}
+use Rattle.xa_telling.specs.ToldOpenings.{Beginning}
+use Rattle.xa_telling.specs.Runs.{Ran}
 use Rattle.xa_script.specs.declared.mode.Mode.TheVariants as mode
-use Rattle.xa_script.specs.InTurns.{Closing, HasEndedDesk, HaveEnded, InTurns, closing_of, course_of}
+use Rattle.xa_script.specs.InTurns.{Closing, HasEndedDesk, HaveEnded, InTurns, closing_of, turns_at}
 use Rattle.xa_script.specs.Outcome.{HasCome}
-use Rattle.xa_script.specs.Openings.{Goes}
+use Rattle.xa_script.specs.TurnsSoFar.{Goes}
 use Rattle.xa_script.proofs.Runs.{turns_ran}
 use Rattle.xa_script.proofs.Pieces.{pieces_of}
 
 -- what desks tell as they end comes after any answers
-pub ends_own : (workers : List WorkerView) (all told : List Answer) (sessions : List Session) (now : Closing) → Chain HasEndedDesk (closing_of [] workers all) sessions now
-    → (later : List Answer) × (now.answers ≡ all ++ later) × Chain HasEndedDesk (closing_of [] workers told) sessions (closing_of now.ended now.workers (told ++ later))
+pub ends_own : (workers : List WorkerView) (all told : List Told) (sessions : List Session) (now : Closing) → Chain HasEndedDesk (closing_of [] workers all) sessions now
+    → (later : List Told) × (now.answers ≡ all ++ later) × Chain HasEndedDesk (closing_of [] workers told) sessions (closing_of now.ended now.workers (told ++ later))
 ends_own workers all told sessions now (none xs last e f) = (
   [],
   ap (λ (c : Closing). c.answers) f ∙ sym (append-nil all),
@@ -43,10 +43,10 @@ ends_own workers all told sessions now (more xs x mid last before is) =
           (record { view = is.view; outstanding = is.outstanding; ends = is.ends; ended = is.ended; told = sym (append_assoc told h.0 line); turns = is.turns }),
     )
 
-module _ (s : Content) (b : Beginning) (steps : List Step) (told : List Answer) (sessions : List Session) (workers : List WorkerView) (g : Goes s b steps told sessions workers)
-    (all : List Answer) (ended : List EndedView) (workers' : List WorkerView) (all' : List Answer) (done : List Served) (closes : HaveEnded (closing_of [] workers all) sessions (closing_of ended workers' all')) (served : Pairwise HasServed workers' done) where
+module _ (s : Content) (b : Beginning) (steps : List ScriptStep) (told : List Told) (sessions : List Session) (workers : List WorkerView) (g : Goes s b steps told sessions workers)
+    (all : List Told) (ended : List EndedView) (workers' : List WorkerView) (all' : List Told) (done : List Served) (closes : HaveEnded (closing_of [] workers all) sessions (closing_of ended workers' all')) (served : Pairwise HasServed workers' done) where
   -- what is told as the desks end
-  abbrev pub later : List Answer
+  abbrev pub later : List Told
   later = (ends_own workers all told sessions (closing_of ended workers' all') closes).0
 
   pub all_told : all' ≡ all ++ later
@@ -54,7 +54,7 @@ module _ (s : Content) (b : Beginning) (steps : List Step) (told : List Answer) 
 
   pub in_turns : InTurns steps g.first sessions g.first_workers ended done (told ++ later)
   in_turns = record {
-    ran = course_of sessions workers told;
+    ran = turns_at sessions workers told;
     runs = g.made;
     left_are = refl;
     closed = closing_of ended workers' (told ++ later);

@@ -1,47 +1,30 @@
 -- What each thread's lines come to, in a run of all lines.
-use Rattle.std.proofs.Common.{◌≡◌, ◌≢◌, ℕ, ℤ, ◌+◌, ◌-◌, ◌≤◌, zero, suc, Bool, true, false, cond, ◌==◌, List, [], ◌∷◌, ◌++◌, Some, None, sym, refl, ap, ◌∙◌, subst, inl, inr, arith, append-nil, append_assoc, map}
-use Rattle.std.specs.Prelude.{slice_get, slice_set, All, filter_map, pos, negsuc, if◌then◌else◌}
+use Rattle.std.proofs.Common.{◌≡◌, ◌≢◌, ℕ, ◌+◌, ◌-◌, ◌≤◌, zero, suc, true, false, cond, List, [], ◌∷◌, ◌++◌, Some, None, sym, refl, ap, ◌∙◌, subst, inl, inr, arith, append-nil, append_assoc, map}
+use Rattle.std.specs.Prelude.{slice_get, slice_set, All, filter_map, if◌then◌else◌}
 use Rattle.std.specs.List.{flat_map}
-use Rattle.std.specs.Ordering.{int_eq}
 use Rattle.std.proofs.lemmas.Bool.{cases_eq, eq-eqb}
 use Rattle.std.proofs.lemmas.List.{map-append}
-use Rattle.std.proofs.lemmas.List.Elements.{filter-append, filter_map-append, All-head, All-tail, All-cons, All-nil}
-use Rattle.xa_desk.specs.DeskView.{DeskView}
+use Rattle.std.proofs.lemmas.List.Elements.{filter-append, filter_map-append, All-head, All-tail}
 use Rattle.xa_desk.specs.Ended.{EndedView}
-use Rattle.xa_grammar.specs.declared.script.Action.{Action}
-use Rattle.xa_grammar.specs.declared.script.Action.TheVariants as action
-use Rattle.xa_grammar.specs.declared.script.Called.{Called}
-use Rattle.xa_grammar.specs.declared.script.CommitAll.{CommitAll}
-use Rattle.xa_grammar.specs.declared.script.Resolve.{Resolve}
-use Rattle.xa_grammar.specs.declared.script.Task.{Task}
-use Rattle.xa_grammar.specs.declared.script.Task.TheVariants as task
-use Rattle.xa_grammar.specs.declared.script.Step.{Step}
-use Rattle.xa_grammar.specs.declared.script.Step.TheVariants as step
-use Rattle.xa_grammar.specs.Content.{thread_of, task_of, tasks_of, Fits}
+use Rattle.xa_grammar.specs.declared.step.Step.TheVariants as step
+use Rattle.xa_grammar.specs.Steps.{ScriptTask, ScriptStep}
+use Rattle.xa_grammar.specs.Content.{task_of, tasks_of, Fits}
 use Rattle.xa_session.specs.declared.session.Session.{Session}
-use Rattle.xa_session.specs.declared.answer.Answer.{Answer}
-use Rattle.xa_session.specs.declared.answer.Answer.TheVariants as answer
+use Rattle.xa_transcript.specs.declared.answer.Told.{Told}
 use Rattle.xa_base.specs.Lists.{Chain, Pairwise}
 use Rattle.xa_base.specs.Lists.Chain.{none, more}
-use Rattle.xa_session.specs.Calling.{Answers, shown, IsListed}
-use Rattle.xa_words.specs.Xid.{XidName}
-use Rattle.xa_switch.specs.Scans.{ScanView}
-use Rattle.xa_session.specs.Committing.{CommitsAll}
 use Rattle.xa_session.specs.Sessions.{Does}
-use Rattle.xa_session.specs.Committing.CommitsAll.{refused, decided}
-use Rattle.xa_session.specs.Resolving.{ResolvesLeft}
-use Rattle.xa_session.specs.Resolving.ResolvesLeft.{refused as left_refused, resolved as left_resolved}
 use Rattle.xa_words.specs.declared.code.Code.{Code}
 use Rattle.xa_crew.specs.Ending.{EndsDesk}
 use Rattle.xa_crew.specs.Run.{Member}
 use Rattle.xa_session.specs.declared.script_thread.ScriptThread.{ScriptThread}
-use Rattle.xa_session.specs.Ended.{all_ended}
+use Rattle.xa_transcript.specs.Ended.{all_ended}
 use Rattle.xa_script.specs.InThreads.{told_by}
-use Rattle.xa_script.specs.InTurns.{Course, Closing, HasCalled, HasTurned, HasStepped, HasEndedDesk}
-use Rattle.xa_session.specs.Sessions.{HasDone}
-use Rattle.xa_transcript.specs.Journals.{is_to, answers_to}
-use Rattle.xa_transcript.proofs.Tasks.{AreOf, not_own, front_of, last_of}
-use Rattle.xa_base.proofs.Lists.{flat_push, none_side, push_side}
+use Rattle.xa_script.specs.InTurns.{TurnsAt, Closing, HasCalled, HasTurned, HasStepped, HasEndedDesk}
+use Rattle.xa_session.specs.Sessions.{HasDone, told_of}
+use Rattle.xa_telling.specs.Journals.{is_to, answers_to}
+use Rattle.xa_telling.proofs.Tasks.{AreOf, not_own, front_of, last_of}
+use Rattle.xa_base.proofs.Lists.{flat_push, none_side, push_side, some_same, all_left}
 
 -- ---- lists
 
@@ -70,37 +53,10 @@ right_nil (x ∷ xs) ys e = absurd (not_nil x (xs ++ ys) e)
 
 -- ---- the answers to a thread
 
-shown_to : (t : ℕ) (p : Called) (b : Bool) (h r n : ℤ) → is_to t (if b then answer.Completed p.line p.thread h r else shown p n) ≡ (p.thread == t)
-shown_to t p true h r n = refl
-shown_to t p false h r n = refl
-
-listed_to : (t : ℕ) (p : Called) (n : ℤ) (xids : List XidName) (a : Answer) → IsListed p n xids a → is_to t a ≡ (p.thread == t)
-listed_to t p (pos n) xids a is = ap (is_to t) is.2
-listed_to t p (negsuc n) xids a is = ap (is_to t) is
-
-answer_is_to : (t : ℕ) (x : Action) (p : Called) (old new : DeskView) (z z' : ScanView) (a : Answer) → Answers x p old z new z' a → is_to t a ≡ (p.thread == t)
-answer_is_to t (action.Xa c x) p old new z z' a is = ap (is_to t) is.0.shown
-answer_is_to t (action.Native o) p old new z z' a is = ap (is_to t) is.0.shown
-answer_is_to t (action.Recover n) p old new z z' a is = listed_to t p is.answer is.after a is.shown
-answer_is_to t (action.Complete h) p old new z z' a is = ap (is_to t) is.0.shown ∙ shown_to t p (int_eq is.0.answer (pos 0)) is.0.handle is.0.retval is.0.answer
-
-commit_is_to : (t : ℕ) (c : CommitAll) (old new : Session) (a : Answer) → CommitsAll c old new a → is_to t a ≡ (c.thread == t)
-commit_is_to t c old new a (refused why told e) = ap (is_to t) told
-commit_is_to t c old new a (decided done may trace still keeps as_many told rounds appends) = ap (is_to t) told
-
-resolve_is_to : (t : ℕ) (r : Resolve) (old new : Session) (a : Answer) → ResolvesLeft r old new a → is_to t a ≡ (r.thread == t)
-resolve_is_to t r old new a (left_refused why told e) = ap (is_to t) told
-resolve_is_to t r old new a (left_resolved outcomes may trace log still keeps as_many told in_turn) = ap (is_to t) told
-
-task_is_to : (t : ℕ) (p : Task) (old new : Session) (a : Answer) → Does p old new a → is_to t a ≡ (thread_of p == t)
-task_is_to t (task.Call p) old new a is = answer_is_to t p.action p old.desk new.desk old.scan new.scan a is.executes.0
-task_is_to t (task.CommitAll c) old new a is = commit_is_to t c old new a is.executes
-task_is_to t (task.Resolve r) old new a is = resolve_is_to t r old new a is.executes
-
-to_pushed : (t : ℕ) (answers : List Answer) (a : Answer) → is_to t a ≡ true → answers_to t (answers ++ a ∷ []) ≡ answers_to t answers ++ a ∷ []
+to_pushed : (t : ℕ) (answers : List Told) (a : Told) → is_to t a ≡ true → answers_to t (answers ++ a ∷ []) ≡ answers_to t answers ++ a ∷ []
 to_pushed t answers a e = filter-append (is_to t) answers (a ∷ []) ∙ ap (λ b. answers_to t answers ++ cond b (a ∷ []) []) e
 
-to_passed : (t : ℕ) (answers : List Answer) (a : Answer) → is_to t a ≡ false → answers_to t (answers ++ a ∷ []) ≡ answers_to t answers
+to_passed : (t : ℕ) (answers : List Told) (a : Told) → is_to t a ≡ false → answers_to t (answers ++ a ∷ []) ≡ answers_to t answers
 to_passed t answers a e = filter-append (is_to t) answers (a ∷ []) ∙ ap (λ b. answers_to t answers ++ cond b (a ∷ []) []) e ∙ append-nil (answers_to t answers)
 
 -- what is told as a desk ends is no answer to a line
@@ -108,108 +64,101 @@ pub ended_tell : (t u : ℕ) (outstanding : List (ℕ × Code)) → answers_to t
 ended_tell t u [] = refl
 ended_tell t u (one ∷ rest) = ended_tell t u rest
 
-pub ends_silent : (t u : ℕ) (answers : List Answer) (outstanding : List (ℕ × Code)) → answers_to t (answers ++ all_ended u outstanding) ≡ answers_to t answers
+pub ends_silent : (t u : ℕ) (answers : List Told) (outstanding : List (ℕ × Code)) → answers_to t (answers ++ all_ended u outstanding) ≡ answers_to t answers
 ends_silent t u answers outstanding = filter-append (is_to t) answers (all_ended u outstanding) ∙ ap (λ l. answers_to t answers ++ l) (ended_tell t u outstanding) ∙ append-nil (answers_to t answers)
 
 -- ---- the tasks of a thread
 
-tasks_pushed : (t : ℕ) (steps : List Step) (p : Task) → thread_of p ≡ t → tasks_of t (steps ++ step.Task p ∷ []) ≡ tasks_of t steps ++ p ∷ []
-tasks_pushed t steps p e = filter_map-append (task_of t) steps (step.Task p ∷ []) ∙ ap (λ b. tasks_of t steps ++ filter_map (λ (q : Task). if b then Some q else None) (p ∷ [])) (eq-eqb (thread_of p) t e)
+tasks_pushed : (t : ℕ) (steps : List ScriptStep) (p : ScriptTask) → p.thread ≡ t → tasks_of t (steps ++ step.Task p ∷ []) ≡ tasks_of t steps ++ p ∷ []
+tasks_pushed t steps p e = filter_map-append (task_of t) steps (step.Task p ∷ []) ∙ ap (λ b. tasks_of t steps ++ filter_map (λ (q : ScriptTask). if b then Some q else None) (p ∷ [])) (eq-eqb (p.thread) t e)
 
-tasks_passed : (t : ℕ) (steps : List Step) (p : Task) → thread_of p ≢ t → tasks_of t (steps ++ step.Task p ∷ []) ≡ tasks_of t steps
-tasks_passed t steps p differs = filter_map-append (task_of t) steps (step.Task p ∷ []) ∙ ap (λ b. tasks_of t steps ++ filter_map (λ (q : Task). if b then Some q else None) (p ∷ [])) (not_own t p differs) ∙ append-nil (tasks_of t steps)
+tasks_passed : (t : ℕ) (steps : List ScriptStep) (p : ScriptTask) → p.thread ≢ t → tasks_of t (steps ++ step.Task p ∷ []) ≡ tasks_of t steps
+tasks_passed t steps p differs = filter_map-append (task_of t) steps (step.Task p ∷ []) ∙ ap (λ b. tasks_of t steps ++ filter_map (λ (q : ScriptTask). if b then Some q else None) (p ∷ [])) (not_own t p differs) ∙ append-nil (tasks_of t steps)
 
-tasks_turned : (t : ℕ) (steps : List Step) (line m : ℕ) → tasks_of t (steps ++ step.Turn line m ∷ []) ≡ tasks_of t steps
+tasks_turned : (t : ℕ) (steps : List ScriptStep) (line m : ℕ) → tasks_of t (steps ++ step.Turn line m ∷ []) ≡ tasks_of t steps
 tasks_turned t steps line m = filter_map-append (task_of t) steps (step.Turn line m ∷ []) ∙ append-nil (tasks_of t steps)
 
 -- ---- a run in turns
 
 -- a thread as it goes on, and its answers so far
 abbrev State : Type 0
-State = Session × List Answer
+State = Session × List Told
 
 -- thread k + 1 has done its tasks
-pub record Went (k : ℕ) (first : Session) (steps : List Step) (now : Course) : Type 0 where
+pub record Went (k : ℕ) (first : Session) (steps : List ScriptStep) (now : TurnsAt) : Type 0 where
   pub last : Session
   pub at : slice_get now.stage.sessions k ≡ Some last
   pub runs : Chain HasDone (first, []) (tasks_of (k + 1) steps) (last, answers_to (k + 1) now.answers)
 
-some_same : {A : Type 0} (x y : A) → Some x ≡ Some y → x ≡ y
-some_same x y e = cc
-
-abbrev state : Session → List Answer → State
+abbrev state : Session → List Told → State
 state x l = (x, l)
 
-done_went : (k : ℕ) (d : Session) (p : Task) (xs : List Step) (now last : Course) (a : Answer) → HasCalled p now.stage last.stage a → last.answers ≡ now.answers ++ a ∷ [] → 1 ≤ thread_of p → Went k d xs now → Went k d (xs ++ step.Task p ∷ []) last
+done_went : (k : ℕ) (d : Session) (p : ScriptTask) (xs : List ScriptStep) (now last : TurnsAt) (a : Told) → HasCalled p now.stage last.stage a → last.answers ≡ now.answers ++ a ∷ [] → 1 ≤ p.thread → Went k d xs now → Went k d (xs ++ step.Task p ∷ []) last
 done_went k d p xs now last a is told low w =
-    elim (cases_eq (thread_of p) (k + 1)) [
+    elim (cases_eq (p.thread) (k + 1)) [
       | inl own ↦
-          let place : thread_of p - 1 ≡ k = omega (arith, own) in
+          let place : p.thread - 1 ≡ k = omega (arith, own) in
           let was : is.before ≡ w.last = some_same is.before w.last (sym is.at ∙ ap (slice_get now.stage.sessions) place ∙ w.at) in
-          let to : is_to (k + 1) a ≡ true = task_is_to (k + 1) p is.before is.after a is.does ∙ eq-eqb (thread_of p) (k + 1) own in
+          let to : is_to (k + 1) a ≡ true = ap (is_to (k + 1)) is.told ∙ eq-eqb (p.thread) (k + 1) own in
           let answers : answers_to (k + 1) last.answers ≡ answers_to (k + 1) now.answers ++ a ∷ [] = ap (answers_to (k + 1)) told ∙ to_pushed (k + 1) now.answers a to in
           record {
             last = is.after;
             at = ap (λ l. slice_get l k) is.rest ∙ ap (λ i. slice_get (slice_set now.stage.sessions i is.after) k) place ∙ set_there now.stage.sessions k w.last is.after w.at;
             runs =
-                subst (λ (tasks : List Task). Chain HasDone (d, []) tasks (is.after, answers_to (k + 1) last.answers)) (sym (tasks_pushed (k + 1) xs p own))
+                subst (λ (tasks : List ScriptTask). Chain HasDone (d, []) tasks (is.after, answers_to (k + 1) last.answers)) (sym (tasks_pushed (k + 1) xs p own))
                 (more (tasks_of (k + 1) xs) p (state w.last (answers_to (k + 1) now.answers)) (state is.after (answers_to (k + 1) last.answers)) w.runs
-                (record { answer = a; does = subst (λ (b : Session). Does p b is.after a) was is.does; told = answers }));
+                (record { answer = is.answer; does = subst (λ (b : Session). Does p.action b is.after is.answer) was is.does; told = answers ∙ ap (λ q. answers_to (k + 1) now.answers ++ q ∷ []) is.told }));
           }
       | inr differs ↦
-          let other : k ≢ thread_of p - 1 = λ e. differs (omega (arith, e, low)) in
-          let to : is_to (k + 1) a ≡ false = task_is_to (k + 1) p is.before is.after a is.does ∙ not_own (k + 1) p differs in
+          let other : k ≢ p.thread - 1 = λ e. differs (omega (arith, e, low)) in
+          let to : is_to (k + 1) a ≡ false = ap (is_to (k + 1)) is.told ∙ not_own (k + 1) p differs in
           record {
             last = w.last;
-            at = ap (λ l. slice_get l k) is.rest ∙ set_elsewhere now.stage.sessions (thread_of p - 1) k is.after other ∙ w.at;
+            at = ap (λ l. slice_get l k) is.rest ∙ set_elsewhere now.stage.sessions (p.thread - 1) k is.after other ∙ w.at;
             runs =
-                subst (λ (tasks : List Task). Chain HasDone (d, []) tasks (w.last, answers_to (k + 1) last.answers)) (sym (tasks_passed (k + 1) xs p differs))
-                (subst (λ (l : List Answer). Chain HasDone (d, []) (tasks_of (k + 1) xs) (w.last, l)) (sym (ap (answers_to (k + 1)) told ∙ to_passed (k + 1) now.answers a to)) w.runs);
+                subst (λ (tasks : List ScriptTask). Chain HasDone (d, []) tasks (w.last, answers_to (k + 1) last.answers)) (sym (tasks_passed (k + 1) xs p differs))
+                (subst (λ (l : List Told). Chain HasDone (d, []) (tasks_of (k + 1) xs) (w.last, l)) (sym (ap (answers_to (k + 1)) told ∙ to_passed (k + 1) now.answers a to)) w.runs);
           }
     ]
 
-turned_went : (k : ℕ) (d : Session) (line m : ℕ) (xs : List Step) (now last : Course) (a : Answer) → HasTurned line m now.stage last.stage a → last.answers ≡ now.answers ++ a ∷ [] → Went k d xs now → Went k d (xs ++ step.Turn line m ∷ []) last
+turned_went : (k : ℕ) (d : Session) (line m : ℕ) (xs : List ScriptStep) (now last : TurnsAt) (a : Told) → HasTurned line m now.stage last.stage a → last.answers ≡ now.answers ++ a ∷ [] → Went k d xs now → Went k d (xs ++ step.Turn line m ∷ []) last
 turned_went k d line m xs now last a is told w = record {
   last = w.last;
   at = ap (λ l. slice_get l k) is.rest ∙ w.at;
   runs =
-      subst (λ (tasks : List Task). Chain HasDone (d, []) tasks (w.last, answers_to (k + 1) last.answers)) (sym (tasks_turned (k + 1) xs line m))
-      (subst (λ (l : List Answer). Chain HasDone (d, []) (tasks_of (k + 1) xs) (w.last, l)) (sym (ap (answers_to (k + 1)) told ∙ to_passed (k + 1) now.answers a (ap (is_to (k + 1)) is.answer))) w.runs);
+      subst (λ (tasks : List ScriptTask). Chain HasDone (d, []) tasks (w.last, answers_to (k + 1) last.answers)) (sym (tasks_turned (k + 1) xs line m))
+      (subst (λ (l : List Told). Chain HasDone (d, []) (tasks_of (k + 1) xs) (w.last, l)) (sym (ap (answers_to (k + 1)) told ∙ to_passed (k + 1) now.answers a (ap (is_to (k + 1)) is.told))) w.runs);
 }
 
-step_went : (k : ℕ) (d : Session) (threads managers : ℕ) (x : Step) (xs : List Step) (now last : Course) → HasStepped x now last → Fits threads managers x → Went k d xs now → Went k d (xs ++ x ∷ []) last
-step_went k d threads managers (step.Task p) xs now last is fits w = done_went k d p xs now last is.answer is.steps is.told fits.0.0 w
+step_went : (k : ℕ) (d : Session) (threads managers : ℕ) (x : ScriptStep) (xs : List ScriptStep) (now last : TurnsAt) → HasStepped x now last → Fits threads managers x → Went k d xs now → Went k d (xs ++ x ∷ []) last
+step_went k d threads managers (step.Task p) xs now last is fits w = done_went k d p xs now last is.line is.steps is.told fits.0.0 w
 step_went k d threads managers (step.Reopen line) xs now last is fits w = absurd is.steps
-step_went k d threads managers (step.Turn line m) xs now last is fits w = turned_went k d line m xs now last is.answer is.steps is.told w
-
-all_front : {A : Type 0} (P : A → Type 0) (xs : List A) (x : A) → All P (xs ++ x ∷ []) → All P xs
-all_front P [] x all = All-nil P
-all_front P (y ∷ xs) x all = All-cons P y xs (All-head P y (xs ++ x ∷ []) all) (all_front P xs x (All-tail P y (xs ++ x ∷ []) all))
+step_went k d threads managers (step.Turn line m) xs now last is fits w = turned_went k d line m xs now last is.line is.steps is.told w
 
 all_last : {A : Type 0} (P : A → Type 0) (xs : List A) (x : A) → All P (xs ++ x ∷ []) → P x
 all_last P [] x all = All-head P x [] all
 all_last P (y ∷ xs) x all = all_last P xs x (All-tail P y (xs ++ x ∷ []) all)
 
-pub run_went : (k : ℕ) (d : Session) (threads managers : ℕ) (first : Course) → slice_get first.stage.sessions k ≡ Some d → first.answers ≡ [] → (steps : List Step) (now : Course) → Chain HasStepped first steps now → All (Fits threads managers) steps → Went k d steps now
+pub run_went : (k : ℕ) (d : Session) (threads managers : ℕ) (first : TurnsAt) → slice_get first.stage.sessions k ≡ Some d → first.answers ≡ [] → (steps : List ScriptStep) (now : TurnsAt) → Chain HasStepped first steps now → All (Fits threads managers) steps → Went k d steps now
 run_went k d threads managers first at fresh steps now (none xs last e f) all = record {
   last = d;
-  at = ap (λ (c : Course). slice_get c.stage.sessions k) f ∙ at;
-  runs = none (tasks_of (k + 1) xs) (d, answers_to (k + 1) last.answers) (ap (tasks_of (k + 1)) e) (ap (λ (l : List Answer). state d (answers_to (k + 1) l)) (ap (λ (c : Course). c.answers) f ∙ fresh));
+  at = ap (λ (c : TurnsAt). slice_get c.stage.sessions k) f ∙ at;
+  runs = none (tasks_of (k + 1) xs) (d, answers_to (k + 1) last.answers) (ap (tasks_of (k + 1)) e) (ap (λ (l : List Told). state d (answers_to (k + 1) l)) (ap (λ (c : TurnsAt). c.answers) f ∙ fresh));
 }
-run_went k d threads managers first at fresh steps now (more xs x mid last before is) all = step_went k d threads managers x xs mid last is (all_last (Fits threads managers) xs x all) (run_went k d threads managers first at fresh xs mid before (all_front (Fits threads managers) xs x all))
+run_went k d threads managers first at fresh steps now (more xs x mid last before is) all = step_went k d threads managers x xs mid last is (all_last (Fits threads managers) xs x all) (run_went k d threads managers first at fresh xs mid before (all_left (Fits threads managers) xs (x ∷ []) all))
 
 -- a thread without tasks has no answers
-step_silent : (t : ℕ) (x : Step) (now last : Course) → HasStepped x now last → tasks_of t (x ∷ []) ≡ [] → answers_to t last.answers ≡ answers_to t now.answers
+step_silent : (t : ℕ) (x : ScriptStep) (now last : TurnsAt) → HasStepped x now last → tasks_of t (x ∷ []) ≡ [] → answers_to t last.answers ≡ answers_to t now.answers
 step_silent t (step.Reopen line) now last is e = absurd is.steps
-step_silent t (step.Turn line m) now last is e = ap (answers_to t) is.told ∙ to_passed t now.answers is.answer (ap (is_to t) is.steps.answer)
+step_silent t (step.Turn line m) now last is e = ap (answers_to t) is.told ∙ to_passed t now.answers is.line (ap (is_to t) is.steps.told)
 step_silent t (step.Task p) now last is e =
-    elim (cases_eq (thread_of p) t) [
+    elim (cases_eq (p.thread) t) [
       | inl own ↦ absurd (not_nil p [] (sym (tasks_pushed t [] p own) ∙ e))
-      | inr differs ↦ ap (answers_to t) is.told ∙ to_passed t now.answers is.answer (task_is_to t p is.steps.before is.steps.after is.answer is.steps.does ∙ not_own t p differs)
+      | inr differs ↦ ap (answers_to t) is.told ∙ to_passed t now.answers is.line (ap (is_to t) is.steps.told ∙ not_own t p differs)
     ]
 
-pub run_silent : (t : ℕ) (first : Course) → first.answers ≡ [] → (steps : List Step) (now : Course) → Chain HasStepped first steps now → tasks_of t steps ≡ [] → answers_to t now.answers ≡ []
-run_silent t first fresh steps now (none xs last e f) silent = ap (answers_to t) (ap (λ (c : Course). c.answers) f ∙ fresh)
+pub run_silent : (t : ℕ) (first : TurnsAt) → first.answers ≡ [] → (steps : List ScriptStep) (now : TurnsAt) → Chain HasStepped first steps now → tasks_of t steps ≡ [] → answers_to t now.answers ≡ []
+run_silent t first fresh steps now (none xs last e f) silent = ap (answers_to t) (ap (λ (c : TurnsAt). c.answers) f ∙ fresh)
 run_silent t first fresh steps now (more xs x mid last before is) silent =
     let parts = sym (filter_map-append (task_of t) xs (x ∷ [])) ∙ silent in
     step_silent t x mid last is (right_nil (tasks_of t xs) (tasks_of t (x ∷ [])) parts) ∙ run_silent t first fresh xs mid before (left_nil (tasks_of t xs) (tasks_of t (x ∷ [])) parts)
@@ -225,7 +174,7 @@ abbrev pub EndedAs : Ending → EndedView → Type 0
 EndedAs z e = EndsDesk z.0.desk [] e z.1
 
 -- what is told of it
-abbrev pub ended_by : Ending → List Answer
+abbrev pub ended_by : Ending → List Told
 ended_by z = all_ended z.0.desk.thread z.1
 
 -- these threads have ended, one after the other
@@ -259,21 +208,21 @@ closes first start sessions now (more xs x mid last before is) =
 -- ---- a run in threads
 
 -- all that a thread was told
-pub told_all : (t : ℕ) (first : State) → first.1 ≡ [] → (tasks : List Task) (last : State) → Chain HasDone first tasks last → AreOf t tasks → answers_to t last.1 ≡ last.1
+pub told_all : (t : ℕ) (first : State) → first.1 ≡ [] → (tasks : List ScriptTask) (last : State) → Chain HasDone first tasks last → AreOf t tasks → answers_to t last.1 ≡ last.1
 told_all t first start tasks last (none xs l e f) own = let empty = ap (λ (s : State). s.1) f ∙ start in ap (answers_to t) empty ∙ sym empty
 told_all t first start tasks last (more xs x now l before is) own =
     ap (answers_to t) is.told
-    ∙ to_pushed t now.1 is.answer (task_is_to t x now.0 l.0 is.answer is.does ∙ eq-eqb (thread_of x) t (last_of t xs x own))
-    ∙ ap (λ (k : List Answer). k ++ is.answer ∷ []) (told_all t first start xs now before (front_of t xs x own))
+    ∙ to_pushed t now.1 (told_of x is.answer) (eq-eqb (x.thread) t (last_of t xs x own))
+    ∙ ap (λ (k : List Told). k ++ told_of x is.answer ∷ []) (told_all t first start xs now before (front_of t xs x own))
     ∙ sym is.told
 
 -- another thread is told nothing of it
-pub told_none : (t u : ℕ) → u ≢ t → (first : State) → first.1 ≡ [] → (tasks : List Task) (last : State) → Chain HasDone first tasks last → AreOf u tasks → answers_to t last.1 ≡ []
+pub told_none : (t u : ℕ) → u ≢ t → (first : State) → first.1 ≡ [] → (tasks : List ScriptTask) (last : State) → Chain HasDone first tasks last → AreOf u tasks → answers_to t last.1 ≡ []
 told_none t u differs first start tasks last (none xs l e f) own = ap (answers_to t) (ap (λ (s : State). s.1) f ∙ start)
 told_none t u differs first start tasks last (more xs x now l before is) own =
     ap (answers_to t) is.told
-    ∙ to_passed t now.1 is.answer (task_is_to t x now.0 l.0 is.answer is.does ∙ not_own t x (λ e. differs (sym (last_of u xs x own) ∙ e)))
+    ∙ to_passed t now.1 (told_of x is.answer) (not_own t x (λ e. differs (sym (last_of u xs x own) ∙ e)))
     ∙ told_none t u differs first start xs now before (front_of u xs x own)
 
-abbrev pub told : Member ScriptThread → List Answer
+abbrev pub told : Member ScriptThread → List Told
 told w = told_by w.attended

@@ -5,7 +5,7 @@ use Rattle.std.specs.Borrow.{Bor}
 use Rattle.xa_grammar.specs.declared.fault.Reason.{Reason}
 use Rattle.xa_grammar.specs.declared.fault.ScriptFault.TheVariants as script
 use Rattle.xa_grammar.specs.Grammar.{script_of}
-use Rattle.xa_transcript.specs.declared.transcript.RunFault.TheVariants as run
+use Rattle.xa_transcript.specs.declared.writing.RunFault.TheVariants as run
 use Rattle.xa_script.specs.declared.mode.Mode.{Mode}
 use Rattle.xa_script.specs.declared.entry.Fault.{Fault}
 use Rattle.xa_script.specs.declared.entry.Fault.TheVariants.{Usage, NoMemory, Script, Run}

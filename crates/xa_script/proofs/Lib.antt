@@ -4,7 +4,7 @@ pub mod WorkersOn
 pub mod Kept
 pub mod Faults
 pub mod EachThread
-pub mod Ends
+pub mod EndLines
 pub mod Members
 pub mod Runs
 pub mod Pieces

@@ -10,18 +10,18 @@ use Rattle.xa_base.proofs.Lists.{all_at, some_same}
 use Rattle.xa_switch.specs.Scans.{ScanView}
 use Rattle.xa_transcript.specs.Values.{opened}
 use Rattle.xa_worker.specs.Workers.{WorkerView}
-use Rattle.xa_grammar.specs.declared.script.Task.{Task}
+use Rattle.xa_grammar.specs.Steps.{ScriptTask}
 use Rattle.xa_grammar.specs.Content.{Content, tasks_of, threads_of}
 use Rattle.xa_driver.specs.Log.{LogView}
 use Rattle.xa_crew.specs.declared.client_job.Attended.{Attended}
 use Rattle.xa_crew.specs.Run.{Member, HasRun}
-use Rattle.xa_session.specs.declared.answer.Answer.{Answer}
+use Rattle.xa_transcript.specs.declared.answer.Told.{Told}
 use Rattle.xa_session.specs.declared.script_thread.ScriptThread.{ScriptThread}
 use Rattle.xa_session.specs.declared.session.Session.{Session}
 use Rattle.xa_session.specs.Sessions.{session_of, log_of, HasDone}
 use Rattle.xa_session.specs.ScriptThreads.{IsNew, Works}
-use Rattle.xa_transcript.specs.Planning.{AreOpened}
-use Rattle.xa_transcript.proofs.Opened.{opened_thread}
+use Rattle.xa_telling.specs.Planning.{AreOpened}
+use Rattle.xa_telling.proofs.Opened.{opened_thread}
 use Rattle.xa_script.specs.InThreads.{told_by, HasWorked}
 
 -- the numbers from 1 on
@@ -59,7 +59,7 @@ one_worked s t m number new ran done =
     let x = m.client in
     let x' = m.attended.client in
     let y : Session = session_of ran.left x'.log x'.scan in
-    let last : Session × List Answer = (y, x'.told) in
+    let last : Session × List Told = (y, x'.told) in
     let runs : Chain HasDone (session_of m.desk x.log x.scan, x.told) x.tasks last = ran.worked.runs done in
     let log : x.log ≡ log_of s m.desk.thread = new.log ∙ ap (log_of s) (sym number) in
     let tasks : x.tasks ≡ tasks_of m.desk.thread s.steps = new.tasks ∙ ap (λ (n : ℕ). tasks_of n s.steps) (sym number) in (
@@ -69,8 +69,8 @@ one_worked s t m number new ran done =
         runs =
             subst (λ (z : ScanView). Chain HasDone (session_of m.desk (log_of s m.desk.thread) z, []) (tasks_of m.desk.thread s.steps) last) new.scan
             (subst (λ (l : LogView). Chain HasDone (session_of m.desk l x.scan, []) (tasks_of m.desk.thread s.steps) last) log
-            (subst (λ (l : List Answer). Chain HasDone (session_of m.desk x.log x.scan, l) (tasks_of m.desk.thread s.steps) last) new.told
-            (subst (λ (l : List Task). Chain HasDone (session_of m.desk x.log x.scan, x.told) l last) tasks runs)));
+            (subst (λ (l : List Told). Chain HasDone (session_of m.desk x.log x.scan, l) (tasks_of m.desk.thread s.steps) last) new.told
+            (subst (λ (l : List ScriptTask). Chain HasDone (session_of m.desk x.log x.scan, x.told) l last) tasks runs)));
         ends = ran.ends;
       },
     )

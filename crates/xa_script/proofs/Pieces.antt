@@ -8,32 +8,31 @@ use Rattle.xa_desk.specs.Ended.{EndedView}
 use Rattle.xa_desk.specs.GoesOn.{GoesOn}
 use Rattle.xa_worker.specs.Workers.{WorkerView}
 use Rattle.xa_worker.specs.Done.{Served}
-use Rattle.xa_grammar.specs.declared.script.Step.{Step}
-use Rattle.xa_grammar.specs.declared.script.Task.{Task}
+use Rattle.xa_grammar.specs.Steps.{ScriptTask, ScriptStep}
 use Rattle.xa_grammar.specs.Content.{Content, tasks_of}
 use Rattle.xa_base.specs.Lists.{Chain}
 use Rattle.xa_base.specs.Lists.Chain.{none, more}
 use Rattle.xa_crew.specs.Pieces.{HasGone, ArePiecesOf}
-use Rattle.xa_session.specs.declared.answer.Answer.{Answer}
+use Rattle.xa_transcript.specs.declared.answer.Told.{Told}
 use Rattle.xa_session.specs.declared.session.Session.{Session}
 use Rattle.xa_session.specs.Sessions.{HasDone}
-use Rattle.xa_transcript.specs.Openings.{Beginning}
-use Rattle.xa_transcript.specs.Journals.{answers_to}
-use Rattle.xa_transcript.specs.Runs.{Comes, Ran}
+use Rattle.xa_telling.specs.ToldOpenings.{Beginning}
+use Rattle.xa_telling.specs.Journals.{answers_to}
+use Rattle.xa_telling.specs.Runs.{Comes, Ran}
 
 module _ (same : (d : DeskView) → GoesOn d d) (further : (old mid new : DeskView) → GoesOn old mid → GoesOn mid new → GoesOn old new) where
-  tasks_go_on : (first : Session × List Answer) (tasks : List Task) (last : Session × List Answer) → Chain HasDone first tasks last → GoesOn first.0.desk last.0.desk
-  tasks_go_on first tasks last (none xs l e f) = subst (λ (s : Session × List Answer). GoesOn first.0.desk s.0.desk) (sym f) (same first.0.desk)
+  tasks_go_on : (first : Session × List Told) (tasks : List ScriptTask) (last : Session × List Told) → Chain HasDone first tasks last → GoesOn first.0.desk last.0.desk
+  tasks_go_on first tasks last (none xs l e f) = subst (λ (s : Session × List Told). GoesOn first.0.desk s.0.desk) (sym f) (same first.0.desk)
   tasks_go_on first tasks last (more xs x now l before is) = further first.0.desk now.0.desk l.0.desk (tasks_go_on first xs now before) is.does.goes_on
 
-  has_gone : (steps : List Step) (answers : List Answer) (x y : Session) (e : EndedView) → Comes steps answers x y e → HasGone x.desk e
+  has_gone : (steps : List ScriptStep) (answers : List Told) (x y : Session) (e : EndedView) → Comes steps answers x y e → HasGone x.desk e
   has_gone steps answers x y e c = record {
     last = c.ends.emptied;
     goes_on = further x.desk y.desk c.ends.emptied (tasks_go_on (x, []) (tasks_of x.desk.thread steps) (y, answers_to x.desk.thread answers) c.runs) c.ends.goes_on;
     ends = c.ends.ends;
   }
 
-  pub pieces_of : (s : Content) (b : Beginning) (steps : List Step) (answers : List Answer) (sessions left : List Session) (workers : List WorkerView) (ended : List EndedView) (done : List Served) (r : Ran s b steps answers sessions left workers ended done) → ArePiecesOf r.opened.setup ended done
+  pub pieces_of : (s : Content) (b : Beginning) (steps : List ScriptStep) (answers : List Told) (sessions left : List Session) (workers : List WorkerView) (ended : List EndedView) (done : List Served) (r : Ran s b steps answers sessions left workers ended done) → ArePiecesOf r.opened.setup ended done
   pieces_of s b steps answers sessions left workers ended done r = record {
     desks = map (λ (x : Session). x.desk) sessions;
     workers = workers;

@@ -9,25 +9,25 @@ use Rattle.xa_base.proofs.Lists.{flat_push}
 use Rattle.xa_worker.specs.Workers.{WorkerView}
 use Rattle.xa_driver.specs.Log.{LogView}
 use Rattle.xa_switch.specs.Settling.{Settling}
-use Rattle.xa_grammar.specs.declared.script.Step.{Step}
-use Rattle.xa_grammar.specs.declared.script.Step.TheVariants as step
+use Rattle.xa_grammar.specs.declared.step.Step.TheVariants as step
+use Rattle.xa_grammar.specs.Steps.{ScriptStep}
 use Rattle.xa_grammar.specs.Content.{Content, Fits, threads_of, managers_of, is_reopen, AreOfOne}
-use Rattle.xa_session.specs.declared.answer.Answer.{Answer}
-use Rattle.xa_session.specs.declared.answer.Answer.TheVariants as answer
+use Rattle.xa_transcript.specs.declared.answer.Told.{Told}
+use Rattle.xa_transcript.specs.declared.answer.Told.TheVariants.{Reopened}
 use Rattle.xa_session.specs.declared.session.Session.{Session}
-use Rattle.xa_transcript.specs.Openings.{Beginning, Opening, Former, beginning}
-use Rattle.xa_transcript.proofs.Opened.{opened_threads, opened_managers}
+use Rattle.xa_telling.specs.ToldOpenings.{Beginning, Opening, Former, beginning}
+use Rattle.xa_telling.proofs.Opened.{opened_threads, opened_managers}
 use Rattle.xa_script.specs.declared.mode.Mode.TheVariants as mode
-use Rattle.xa_script.specs.InTurns.{Steps, course_of}
+use Rattle.xa_script.specs.InTurns.{Steps, turns_at}
 use Rattle.xa_script.specs.Outcome.{Follows, IsOutcome}
-use Rattle.xa_script.specs.Openings.{IsOpen, Goes, IsClosed, HasReached}
+use Rattle.xa_script.specs.TurnsSoFar.{IsOpen, Goes, IsClosed, HasReached}
 use Rattle.xa_script.proofs.WorkersOn.{run_goes, run_count}
 
-abbrev lines_of_former : Former → List Step
+abbrev lines_of_former : Former → List ScriptStep
 lines_of_former f = f.opening.steps ++ step.Reopen f.line ∷ []
 
-abbrev answers_of_former : Former → List Answer
-answers_of_former f = f.opening.answers ++ answer.Reopened f.line ∷ []
+abbrev answers_of_former : Former → List Told
+answers_of_former f = f.opening.answers ++ Reopened f.line ∷ []
 
 module _ (s : Content) where
   just_opened : (b : Beginning) (sessions : List Session) (workers : List WorkerView) → IsOpen s b sessions workers → Goes s b [] [] sessions workers
@@ -35,7 +35,7 @@ module _ (s : Content) where
     first = sessions;
     first_workers = workers;
     is_open = is;
-    made = none [] (course_of sessions workers []) refl refl;
+    made = none [] (turns_at sessions workers []) refl refl;
     fits = All-nil (Fits (threads_of s) (managers_of s));
   }
 
@@ -53,22 +53,22 @@ module _ (s : Content) where
     ones = (All-nil (λ (f : Former). AreOfOne f.opening.steps), refl);
   }
 
-  module _ (lines : List Step) (opening : ℕ) (sessions : List Session) (workers : List WorkerView) (answers : List Answer) (h : HasReached s lines opening sessions workers answers) where
+  module _ (lines : List ScriptStep) (opening : ℕ) (sessions : List Session) (workers : List WorkerView) (answers : List Told) (h : HasReached s lines opening sessions workers answers) where
     -- it has the script's threads and managers
     pub reached_threads : length sessions ≡ threads_of s
     reached_threads =
         let g = h.goes in
-        run_count (course_of g.first g.first_workers []) h.own (course_of sessions workers h.told) g.made
+        run_count (turns_at g.first g.first_workers []) h.own (turns_at sessions workers h.told) g.made
         ∙ sym (length-map g.first (λ (x : Session). x.desk)) ∙ opened_threads s h.begins.opening h.begins.tables (map (λ (x : Session). x.desk) g.first) g.first_workers g.is_open.opened
 
     pub reached_managers : length workers ≡ managers_of s
     reached_managers =
         let g = h.goes in
-        (run_goes (course_of g.first g.first_workers []) h.own (course_of sessions workers h.told) g.made).as_many
+        (run_goes (turns_at g.first g.first_workers []) h.own (turns_at sessions workers h.told) g.made).each.as_many
         ∙ opened_managers s h.begins.opening h.begins.tables (map (λ (x : Session). x.desk) g.first) g.first_workers g.is_open.opened
 
     -- one more step of the opening
-    pub stepped : (x : Step) (a : Answer) (sessions' : List Session) (workers' : List WorkerView) → is_reopen x ≡ false → Fits (threads_of s) (managers_of s) x
+    pub stepped : (x : ScriptStep) (a : Told) (sessions' : List Session) (workers' : List WorkerView) → is_reopen x ≡ false → Fits (threads_of s) (managers_of s) x
         → Steps x (record { sessions = sessions; workers = workers }) (record { sessions = sessions'; workers = workers' }) a → HasReached s (lines ++ x ∷ []) opening sessions' workers' (answers ++ a ∷ [])
     stepped x a sessions' workers' plain fits is = record {
       before = h.before;
@@ -81,7 +81,7 @@ module _ (s : Content) where
         first = h.goes.first;
         first_workers = h.goes.first_workers;
         is_open = h.goes.is_open;
-        made = more h.own x (course_of sessions workers h.told) (course_of sessions' workers' (h.told ++ a ∷ [])) h.goes.made (record { answer = a; steps = is; told = refl });
+        made = more h.own x (turns_at sessions workers h.told) (turns_at sessions' workers' (h.told ++ a ∷ [])) h.goes.made (record { line = a; steps = is; told = refl });
         fits = All-push (Fits (threads_of s) (managers_of s)) h.own x h.goes.fits fits;
       };
       lines_are = ap (λ l. l ++ x ∷ []) h.lines_are ∙ append_assoc (flat_map lines_of_former h.before) h.own (x ∷ []);
@@ -90,16 +90,16 @@ module _ (s : Content) where
     }
 
     -- what it has come to, where the opening ends
-    abbrev pub ended_so : List Answer → Settling → Opening
+    abbrev pub ended_so : List Told → Settling → Opening
     ended_so later settled = record { steps = h.own; answers = h.told ++ later; settled = settled }
 
     -- it was opened again
-    pub reopened : (later : List Answer) (settled : Settling) (line : ℕ) (next : Beginning) → Follows mode.Turns s (record { opening = ended_so later settled; line = line }) h.begins next
+    pub reopened : (later : List Told) (settled : Settling) (line : ℕ) (next : Beginning) → Follows mode.Turns s (record { opening = ended_so later settled; line = line }) h.begins next
         → (opening' : ℕ) (sessions' : List Session) (workers' : List WorkerView) → opening' ≡ next.opening → IsOpen s next sessions' workers'
-        → HasReached s (lines ++ step.Reopen line ∷ []) opening' sessions' workers' ((answers ++ later) ++ answer.Reopened line ∷ [])
+        → HasReached s (lines ++ step.Reopen line ∷ []) opening' sessions' workers' ((answers ++ later) ++ Reopened line ∷ [])
     reopened later settled line next follows opening' sessions' workers' number is =
         let f : Former = record { opening = ended_so later settled; line = line } in
-        let told : List Answer = (h.told ++ later) ++ answer.Reopened line ∷ [] in
+        let told : List Told = (h.told ++ later) ++ Reopened line ∷ [] in
         record {
           before = h.before ++ f ∷ [];
           begins = next;
@@ -112,15 +112,15 @@ module _ (s : Content) where
               ap (λ l. l ++ step.Reopen line ∷ []) h.lines_are ∙ append_assoc (flat_map lines_of_former h.before) h.own (step.Reopen line ∷ [])
               ∙ sym (flat_push lines_of_former h.before f) ∙ sym (append-nil (flat_map lines_of_former (h.before ++ f ∷ [])));
           answers_are =
-              ap (λ l. (l ++ later) ++ answer.Reopened line ∷ []) h.answers_are
-              ∙ ap (λ l. l ++ answer.Reopened line ∷ []) (append_assoc (flat_map answers_of_former h.before) h.told later)
-              ∙ append_assoc (flat_map answers_of_former h.before) (h.told ++ later) (answer.Reopened line ∷ [])
+              ap (λ l. (l ++ later) ++ Reopened line ∷ []) h.answers_are
+              ∙ ap (λ l. l ++ Reopened line ∷ []) (append_assoc (flat_map answers_of_former h.before) h.told later)
+              ∙ append_assoc (flat_map answers_of_former h.before) (h.told ++ later) (Reopened line ∷ [])
               ∙ sym (flat_push answers_of_former h.before f) ∙ sym (append-nil (flat_map answers_of_former (h.before ++ f ∷ [])));
           ones = (All-push (λ (f : Former). AreOfOne f.opening.steps) h.before f h.ones.0 h.ones.1, refl);
         }
 
     -- these were all lines
-    pub outcome_so : lines ≡ s.steps → (later : List Answer) (settled : Settling) (logs : List LogView) → IsClosed s h.begins (ended_so later settled) logs → IsOutcome mode.Turns s (answers ++ later) h.before (ended_so later settled)
+    pub outcome_so : lines ≡ s.steps → (later : List Told) (settled : Settling) (logs : List LogView) → IsClosed s h.begins (ended_so later settled) logs → IsOutcome mode.Turns s (answers ++ later) h.before (ended_so later settled)
     outcome_so all later settled logs is = record {
       steps = sym all ∙ h.lines_are;
       answers_ = ap (λ l. l ++ later) h.answers_are ∙ append_assoc (flat_map answers_of_former h.before) h.told later;

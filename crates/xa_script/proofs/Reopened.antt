@@ -9,7 +9,7 @@ use Rattle.xa_desk.specs.DeskView.{DeskView}
 use Rattle.xa_worker.specs.Workers.{WorkerView}
 use Rattle.xa_driver.specs.Log.{LogView}
 use Rattle.xa_switch.specs.declared.plan.Again.{Again}
-use Rattle.xa_switch.specs.Openings.{AreOfOneOpening}
+use Rattle.xa_switch.specs.OpenedPieces.{AreOfOneOpening}
 use Rattle.xa_switch.specs.Settling.{Settling, IsSettled}
 use Rattle.xa_switch.specs.Closing.{settling}
 use Rattle.xa_switch.specs.Scans.{ScanView, no_scan}
@@ -18,14 +18,14 @@ use Rattle.xa_switch.specs.Again.{MayReopen, reopened_at, reopening}
 use Rattle.xa_grammar.specs.Content.{Content, threads_of}
 use Rattle.xa_session.specs.declared.session.Session.{Session}
 use Rattle.xa_session.specs.Sessions.{session_of, sessions_again}
-use Rattle.xa_transcript.specs.Planning.{AreNumbersOf, IsSetupOf}
-use Rattle.xa_transcript.specs.Openings.{Beginning, Opening, Leaves}
-use Rattle.xa_transcript.proofs.Opened.{opened_threads}
-use Rattle.xa_transcript.proofs.Told.{log_left, log_there}
-use Rattle.xa_transcript.proofs.Again.{again_setup, may_reopen, next_beginning, leaves}
+use Rattle.xa_telling.specs.Planning.{AreNumbersOf, IsSetupOf}
+use Rattle.xa_telling.specs.ToldOpenings.{Beginning, Opening, Leaves}
+use Rattle.xa_telling.proofs.Opened.{opened_threads}
+use Rattle.xa_telling.proofs.Told.{log_left, log_there}
+use Rattle.xa_telling.proofs.Again.{again_setup, may_reopen, next_beginning, leaves}
 use Rattle.xa_script.specs.declared.mode.Mode.TheVariants as mode
 use Rattle.xa_script.specs.Outcome.{HasCome, Follows}
-use Rattle.xa_script.specs.Openings.{IsOpen}
+use Rattle.xa_script.specs.TurnsSoFar.{IsOpen}
 
 -- ---- the threads
 

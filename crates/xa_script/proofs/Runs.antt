@@ -9,62 +9,42 @@ use Rattle.xa_desk.specs.Ended.{EndedView}
 use Rattle.xa_desk.specs.Seats.{DeskSeat}
 use Rattle.xa_worker.specs.Workers.{WorkerView}
 use Rattle.xa_worker.specs.Done.{Served}
-use Rattle.xa_grammar.specs.declared.script.Step.{Step}
-use Rattle.xa_grammar.specs.declared.script.Task.{Task}
+use Rattle.xa_grammar.specs.Steps.{ScriptTask, ScriptStep}
 use Rattle.xa_grammar.specs.Content.{Content, tasks_of, Fits, threads_of, managers_of}
 use Rattle.xa_base.specs.Lists.{Chain}
 use Rattle.xa_base.specs.Lists.Chain.{none, more}
-use Rattle.xa_base.proofs.Lists.{through, was_mapped, flat_one, flat_none, some_same, got}
-use Rattle.xa_crew.specs.Pieces.{HasServed}
+use Rattle.xa_base.proofs.Lists.{was_mapped, flat_one, flat_none, some_same, got}
 use Rattle.xa_crew.specs.Ending.{EndsDesk}
 use Rattle.xa_crew.specs.Run.{Member}
-use Rattle.xa_session.specs.declared.answer.Answer.{Answer}
+use Rattle.xa_transcript.specs.declared.answer.Told.{Told}
 use Rattle.xa_session.specs.declared.session.Session.{Session}
 use Rattle.xa_session.specs.declared.script_thread.ScriptThread.{ScriptThread}
 use Rattle.xa_session.specs.Sessions.{new_session, HasDone}
-use Rattle.xa_transcript.specs.Planning.{AreOpened}
-use Rattle.xa_session.specs.Ended.{all_ended}
-use Rattle.xa_transcript.specs.Journals.{answers_to, ends_of, is_end_of, is_to}
-use Rattle.xa_transcript.specs.Openings.{Beginning}
-use Rattle.xa_transcript.specs.Runs.{BeginsAs, Comes, Ran}
-use Rattle.xa_transcript.proofs.Opened.{opened_thread}
-use Rattle.xa_transcript.proofs.Tasks.{tasks_are_of}
+use Rattle.xa_telling.specs.Planning.{AreOpened}
+use Rattle.xa_transcript.specs.Ended.{all_ended}
+use Rattle.xa_telling.specs.Journals.{answers_to, ends_of, is_end_of, is_to}
+use Rattle.xa_telling.specs.ToldOpenings.{Beginning}
+use Rattle.xa_telling.specs.Runs.{BeginsAs, Comes, Ran}
+use Rattle.xa_telling.proofs.Opened.{opened_thread}
+use Rattle.xa_telling.proofs.Tasks.{tasks_are_of}
 use Rattle.xa_script.specs.InThreads.{HasWorked, InThreads}
-use Rattle.xa_script.specs.InTurns.{Course, Closing, InTurns, course_of, closing_of}
-use Rattle.xa_script.specs.Turns.{WorkerGoesOn}
-use Rattle.xa_script.specs.Turning.{extends_both, all_go_on}
+use Rattle.xa_script.specs.InTurns.{TurnsAt, Closing, InTurns, turns_at, closing_of}
+use Rattle.xa_crew.specs.Turning.{all_go_on}
+use Rattle.xa_crew.proofs.WorkersOn.{all_served}
 use Rattle.xa_script.proofs.WorkersOn.{run_goes, ends_go, run_count}
 use Rattle.xa_script.proofs.EachThread.{Went, run_went, run_silent, Ending, ended_by, Closes, closes, ended_tell}
 use Rattle.xa_script.proofs.EachThread.{ends_silent, told_all, told_none, told}
-use Rattle.xa_script.proofs.Ends.{ends_all, ends_other, tasks_no_end, steps_no_end}
+use Rattle.xa_script.proofs.EndLines.{ends_all, ends_other, tasks_no_end, steps_no_end}
 
 -- ---- a thread's number
 
-tasks_thread : (first : Session × List Answer) (tasks : List Task) (last : Session × List Answer) → Chain HasDone first tasks last → last.0.desk.thread ≡ first.0.desk.thread
-tasks_thread first tasks last (none xs l e f) = ap (λ (x : Session × List Answer). x.0.desk.thread) f
+tasks_thread : (first : Session × List Told) (tasks : List ScriptTask) (last : Session × List Told) → Chain HasDone first tasks last → last.0.desk.thread ≡ first.0.desk.thread
+tasks_thread first tasks last (none xs l e f) = ap (λ (x : Session × List Told). x.0.desk.thread) f
 tasks_thread first tasks last (more xs x now l before is) = ap (λ (p : DeskSeat). p.thread) is.does.goes_on.seat ∙ tasks_thread first xs now before
 
 -- ---- in turns
 
--- a worker that went on and then ran
-then_served : (w v : WorkerView) (d : Served) → WorkerGoesOn w v → HasServed v d → HasServed w d
-then_served w v d goes served =
-    let first = goes.same in
-    let later = served.same in
-    record {
-      same = record {
-        number = later.number ∙ first.number;
-        first = later.first ∙ first.first;
-        threads = later.threads ∙ first.threads;
-        receiver = (later.receiver.0 ∙ first.receiver.0, later.receiver.1 ∙ first.receiver.1, later.receiver.2 ∙ first.receiver.2, later.receiver.3 ∙ first.receiver.3);
-        lanes = later.lanes ∙ first.lanes;
-        journal = extends_both w.journal v.journal d.journal goes.journal later.journal;
-      };
-      served = served.served;
-      seat = served.seat ∙ goes.seat;
-    }
-
-module _ (s : Content) (b : Beginning) (steps : List Step) (sessions : List Session) (workers : List WorkerView)
+module _ (s : Content) (b : Beginning) (steps : List ScriptStep) (sessions : List Session) (workers : List WorkerView)
     (opened : AreOpened s b.opening b.tables (map (λ x. x.desk) sessions) workers) (begins : (k : ℕ) (x : Session) → slice_get sessions k ≡ Some x → BeginsAs b (k + 1) x)
     (fits : All (Fits (threads_of s) (managers_of s)) steps) where
   -- the thread at place k is of number k + 1
@@ -73,9 +53,9 @@ module _ (s : Content) (b : Beginning) (steps : List Step) (sessions : List Sess
       opened_thread s b.opening b.tables (map (λ (x : Session). x.desk) sessions) workers opened k x.desk
       (slice_get-map (λ (x : Session). x.desk) sessions k ∙ ap (option_map (λ (x : Session). x.desk)) at)
 
-  module _ (left : List Session) (ended : List EndedView) (done : List Served) (answers : List Answer) (runs : InTurns steps sessions left workers ended done answers) where
-    abbrev first : Course
-    first = course_of sessions workers []
+  module _ (left : List Session) (ended : List EndedView) (done : List Served) (answers : List Told) (runs : InTurns steps sessions left workers ended done answers) where
+    abbrev first : TurnsAt
+    first = turns_at sessions workers []
 
     abbrev closing : Closing
     closing = closing_of [] runs.ran.stage.workers runs.ran.answers
@@ -141,7 +121,7 @@ module _ (s : Content) (b : Beginning) (steps : List Step) (sessions : List Sess
           runs =
               subst (λ (n : ℕ). Chain HasDone (x, []) (tasks_of n steps) (y, answers_to n runs.closed.answers)) (sym t)
               (subst (λ (v : Session). Chain HasDone (x, []) (tasks_of (k + 1) steps) (v, answers_to (k + 1) runs.closed.answers)) last
-              (subst (λ (l : List Answer). Chain HasDone (x, []) (tasks_of (k + 1) steps) (w.last, l)) (sym (answers_told (k + 1))) w.runs));
+              (subst (λ (l : List Told). Chain HasDone (x, []) (tasks_of (k + 1) steps) (w.last, l)) (sym (answers_told (k + 1))) w.runs));
           outstanding = z.0.1;
           ends = subst (λ (v : Session). EndsDesk v.desk [] e z.0.1) (same ∙ last) end;
           told = subst (λ (n : ℕ). ends_of n runs.closed.answers ≡ all_ended n z.0.1) (sym t) (ends_told k z.0 z.1);
@@ -172,19 +152,19 @@ module _ (s : Content) (b : Beginning) (steps : List Step) (sessions : List Sess
       threads = thread_comes;
       others = no_other;
       managers =
-          through WorkerGoesOn HasServed HasServed then_served workers runs.closed.workers done
+          all_served workers runs.closed.workers done
           (all_go_on workers runs.ran.stage.workers runs.closed.workers (run_goes first steps runs.ran runs.runs) (ends_go closing runs.ran.stage.sessions runs.closed runs.closes)) runs.served;
     }
 
     -- what a run in turns has come to
     pub turns_ran : Ran s b steps answers sessions left workers ended done
     turns_ran =
-        subst (λ (l : List Answer). Ran s b steps l sessions left workers ended done) (sym runs.answered)
+        subst (λ (l : List Told). Ran s b steps l sessions left workers ended done) (sym runs.answered)
         (subst (λ (l : List EndedView). Ran s b steps runs.closed.answers sessions left workers l done) (sym runs.ended_are) all_come)
 
   -- ---- in threads
 
-  module _ (left : List Session) (ended : List EndedView) (done : List Served) (answers : List Answer) (runs : InThreads s steps sessions left workers ended done answers) where
+  module _ (left : List Session) (ended : List EndedView) (done : List Served) (answers : List Told) (runs : InThreads s steps sessions left workers ended done answers) where
     abbrev threads : List (Member ScriptThread)
     threads = runs.threads
 
@@ -245,7 +225,7 @@ module _ (s : Content) (b : Beginning) (steps : List Step) (sessions : List Sess
         ∙ ends_silent t m.attended.client.thread m.attended.client.told m.attended.outstanding.items
         ∙ told_all t (new_session s m.desk, []) refl (tasks_of t steps) (y, m.attended.client.told) has.runs (tasks_are_of t steps) in
         let comes : Comes steps (flat_map told threads) (new_session s m.desk) y m.ended = record {
-          runs = subst (λ (l : List Answer). Chain HasDone (new_session s m.desk, []) (tasks_of t steps) (y, l)) (sym all_told) has.runs;
+          runs = subst (λ (l : List Told). Chain HasDone (new_session s m.desk, []) (tasks_of t steps) (y, l)) (sym all_told) has.runs;
           outstanding = m.attended.outstanding.items;
           ends = has.ends;
           told = ends_here k m found.1;
@@ -273,5 +253,5 @@ module _ (s : Content) (b : Beginning) (steps : List Step) (sessions : List Sess
     -- what a run in threads has come to
     pub threads_ran : Ran s b steps answers sessions left workers ended done
     threads_ran =
-        subst (λ (l : List Answer). Ran s b steps l sessions left workers ended done) (sym runs.answered)
+        subst (λ (l : List Told). Ran s b steps l sessions left workers ended done) (sym runs.answered)
         (subst (λ (l : List EndedView). Ran s b steps (flat_map told threads) sessions left workers l done) (sym runs.ended_are) all_there)

@@ -4,26 +4,26 @@ use Rattle.std.specs.List.{flat_map}
 use Rattle.xa_desk.specs.Ended.{EndedView}
 use Rattle.xa_worker.specs.Workers.{WorkerView}
 use Rattle.xa_worker.specs.Done.{Served}
-use Rattle.xa_grammar.specs.declared.script.Step.{Step}
+use Rattle.xa_grammar.specs.Steps.{ScriptStep}
 use Rattle.xa_grammar.specs.Content.{Content, tasks_of}
 use Rattle.xa_base.specs.Lists.{Chain, Pairwise}
 use Rattle.xa_crew.specs.declared.client_job.Attended.{Attended}
 use Rattle.xa_crew.specs.Ending.{EndsDesk}
 use Rattle.xa_crew.specs.Pieces.{HasServed}
 use Rattle.xa_crew.specs.Run.{Member}
-use Rattle.xa_session.specs.declared.answer.Answer.{Answer}
+use Rattle.xa_transcript.specs.declared.answer.Told.{Told}
 use Rattle.xa_session.specs.declared.script_thread.ScriptThread.{ScriptThread}
 use Rattle.xa_session.specs.declared.session.Session.{Session}
 use Rattle.xa_session.specs.Sessions.{new_session, HasDone}
-use Rattle.xa_session.specs.Ended.{all_ended}
+use Rattle.xa_transcript.specs.Ended.{all_ended}
 
 -- What a thread tells: what its tasks answered, and what was outstanding after them.
-abbrev pub told_by : Attended ScriptThread → List Answer
+abbrev pub told_by : Attended ScriptThread → List Told
 told_by t = t.client.told ++ all_ended t.client.thread t.outstanding.items
 
 -- The thread did its own tasks among these steps, one after the other, with the desk and a log without a record, and
 -- came to this; then what was outstanding was collected, and the desk ended.
-pub record HasWorked (s : Content) (steps : List Step) (t : Member ScriptThread) (left : Session) : Type 0 where
+pub record HasWorked (s : Content) (steps : List ScriptStep) (t : Member ScriptThread) (left : Session) : Type 0 where
   pub own : t.attended.client.thread ≡ t.desk.thread
   pub runs : Chain HasDone (new_session s t.desk, []) (tasks_of t.desk.thread steps)
       (left, t.attended.client.told)
@@ -31,8 +31,8 @@ pub record HasWorked (s : Content) (steps : List Step) (t : Member ScriptThread)
 
 -- Each thread of the script worked with a desk of the first opening, each worker ran to the last end mark, and the
 -- answers are those of the threads by rising number.
-pub record InThreads (s : Content) (steps : List Step) (sessions left : List Session) (workers : List WorkerView)
-    (ended : List EndedView) (done : List Served) (answers : List Answer) : Type 0 where
+pub record InThreads (s : Content) (steps : List ScriptStep) (sessions left : List Session) (workers : List WorkerView)
+    (ended : List EndedView) (done : List Served) (answers : List Told) : Type 0 where
   pub threads : List (Member ScriptThread)
   pub sessions_are : sessions ≡ map (λ t. new_session s t.desk) threads
   pub worked : Pairwise (HasWorked s steps) threads left

@@ -5,19 +5,18 @@ use Rattle.xa_desk.specs.Ended.{EndedView}
 use Rattle.xa_worker.specs.declared.step.Step.{Step as Did}
 use Rattle.xa_worker.specs.Workers.{WorkerView}
 use Rattle.xa_worker.specs.Done.{Served}
-use Rattle.xa_grammar.specs.declared.script.Step.{Step}
-use Rattle.xa_grammar.specs.declared.script.Step.TheVariants as step
-use Rattle.xa_grammar.specs.declared.script.Task.{Task}
-use Rattle.xa_grammar.specs.Content.{thread_of}
+use Rattle.xa_grammar.specs.declared.step.Step.TheVariants as step
+use Rattle.xa_grammar.specs.Steps.{ScriptTask, ScriptStep}
 use Rattle.xa_base.specs.Lists.{Chain, Pairwise}
 use Rattle.xa_crew.specs.Ending.{EndsDesk}
 use Rattle.xa_crew.specs.Pieces.{HasServed}
-use Rattle.xa_session.specs.declared.answer.Answer.{Answer}
-use Rattle.xa_session.specs.declared.answer.Answer.TheVariants as answer
+use Rattle.xa_transcript.specs.declared.answer.Answer.{Answer}
+use Rattle.xa_transcript.specs.declared.answer.Told.{Told}
+use Rattle.xa_transcript.specs.declared.answer.Told.TheVariants as told
 use Rattle.xa_session.specs.declared.session.Session.{Session}
-use Rattle.xa_session.specs.Sessions.{Does, MayWait}
-use Rattle.xa_session.specs.Ended.{all_ended}
-use Rattle.xa_script.specs.Turns.{AllGoOn, TakesTurn}
+use Rattle.xa_session.specs.Sessions.{Does, MayWait, told_of}
+use Rattle.xa_transcript.specs.Ended.{all_ended}
+use Rattle.xa_crew.specs.Turns.{AllGoOn, TakesTurn}
 
 -- ---- the steps of a script
 
@@ -30,44 +29,47 @@ abbrev pub stage_of : List Session → List WorkerView → Stage
 stage_of sessions workers = record { sessions = sessions; workers = workers }
 
 -- A thread does its task while workers go on, and the other threads stay. Where the task can't wait, so do the workers.
-pub record HasCalled (p : Task) (old new : Stage) (a : Answer) : Type 0 where
+pub record HasCalled (p : ScriptTask) (old new : Stage) (line : Told) : Type 0 where
   pub before : Session
   pub after : Session
-  pub at : slice_get old.sessions (thread_of p - 1) ≡ Some before
-  pub does : Does p before after a
-  pub rest : new.sessions ≡ slice_set old.sessions (thread_of p - 1) after
+  pub at : slice_get old.sessions (p.thread - 1) ≡ Some before
+  pub answer : Answer
+  pub does : Does p.action before after answer
+  pub told : line ≡ told_of p answer
+  pub rest : new.sessions ≡ slice_set old.sessions (p.thread - 1) after
   pub turns : AllGoOn old.workers new.workers
-  pub prompt : ¬ MayWait p before → new.workers ≡ old.workers
+  pub prompt : ¬ MayWait p.action before → new.workers ≡ old.workers
 
 -- A manager's worker takes a turn, and the threads stay.
-pub record HasTurned (line m : ℕ) (old new : Stage) (a : Answer) : Type 0 where
+pub record HasTurned (number m : ℕ) (old new : Stage) (line : Told) : Type 0 where
   pub did : Did
   pub turn : TakesTurn m did old.workers new.workers
-  pub answer : a ≡ answer.Turned line did
+  pub told : line ≡ told.Turned number did
   pub rest : new.sessions ≡ old.sessions
 
--- What a step of an opening does to the threads and the workers, and what it answers; a line that reopens is none.
-abbrev pub Steps : Step → Stage → Stage → Answer → Type 0
-Steps (step.Task p) old new a = HasCalled p old new a
-Steps (step.Turn line m) old new a = HasTurned line m old new a
-Steps (step.Reopen line) old new a = ⊥
+-- What a step of an opening does to the threads and the workers, and the line that tells of it; a line that reopens is
+-- none.
+abbrev pub Steps : ScriptStep → Stage → Stage → Told → Type 0
+Steps (step.Task p) old new line = HasCalled p old new line
+Steps (step.Turn number m) old new line = HasTurned number m old new line
+Steps (step.Reopen number) old new line = ⊥
 
 -- A run at some moment: the threads and the workers, and the answers so far.
-pub record Course : Type 0 where
+pub record TurnsAt : Type 0 where
   pub stage : Stage
-  pub answers : List Answer
+  pub answers : List Told
 
-abbrev pub course_of : List Session → List WorkerView → List Answer → Course
-course_of sessions workers answers = record { stage = stage_of sessions workers; answers = answers }
+abbrev pub turns_at : List Session → List WorkerView → List Told → TurnsAt
+turns_at sessions workers answers = record { stage = stage_of sessions workers; answers = answers }
 
 -- A step goes on with a run.
-pub record HasStepped (p : Step) (old new : Course) : Type 0 where
-  pub answer : Answer
-  pub steps : Steps p old.stage new.stage answer
-  pub told : new.answers ≡ old.answers ++ answer ∷ []
+pub record HasStepped (p : ScriptStep) (old new : TurnsAt) : Type 0 where
+  pub line : Told
+  pub steps : Steps p old.stage new.stage line
+  pub told : new.answers ≡ old.answers ++ line ∷ []
 
 -- These steps went so, one after the other.
-abbrev pub HasMadeSteps : Course → List Step → Course → Type 0
+abbrev pub HasMadeSteps : TurnsAt → List ScriptStep → TurnsAt → Type 0
 HasMadeSteps first steps now = Chain HasStepped first steps now
 
 -- ---- what is outstanding after the last step
@@ -76,7 +78,7 @@ HasMadeSteps first steps now = Chain HasStepped first steps now
 pub record Closing : Type 0 where
   pub ended : List EndedView
   pub workers : List WorkerView
-  pub answers : List Answer
+  pub answers : List Told
 
 -- The desk of one more thread ends, while workers go on, and what was outstanding is told.
 pub record HasEndedDesk (session : Session) (old new : Closing) : Type 0 where
@@ -91,18 +93,18 @@ pub record HasEndedDesk (session : Session) (old new : Closing) : Type 0 where
 abbrev pub HaveEnded : Closing → List Session → Closing → Type 0
 HaveEnded first sessions now = Chain HasEndedDesk first sessions now
 
-abbrev pub closing_of : List EndedView → List WorkerView → List Answer → Closing
+abbrev pub closing_of : List EndedView → List WorkerView → List Told → Closing
 closing_of ended workers answers = record { ended = ended; workers = workers; answers = answers }
 
 -- ---- the whole opening
 
 -- The threads went through all these steps; then their desks ended one after the other, and then each worker ran to the
 -- last end mark.
-pub record InTurns (steps : List Step) (sessions left : List Session) (workers : List WorkerView)
+pub record InTurns (steps : List ScriptStep) (sessions left : List Session) (workers : List WorkerView)
     (ended : List EndedView)
-    (done : List Served) (answers : List Answer) : Type 0 where
-  pub ran : Course
-  pub runs : HasMadeSteps (course_of sessions workers []) steps ran
+    (done : List Served) (answers : List Told) : Type 0 where
+  pub ran : TurnsAt
+  pub runs : HasMadeSteps (turns_at sessions workers []) steps ran
   pub left_are : left ≡ ran.stage.sessions
   pub closed : Closing
   pub closes : HaveEnded (closing_of [] ran.stage.workers ran.answers) ran.stage.sessions closed

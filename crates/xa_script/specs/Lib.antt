@@ -1,7 +1,5 @@
-pub mod Turns
-pub mod Turning
 pub mod InTurns
 pub mod InThreads
 pub mod Outcome
-pub mod Openings
+pub mod TurnsSoFar
 pub mod Program

@@ -8,13 +8,13 @@ use Rattle.xa_worker.specs.Done.{Served}
 use Rattle.xa_switch.specs.Settling.{Settling, IsSettled}
 use Rattle.xa_switch.specs.Closing.{settling}
 use Rattle.xa_grammar.specs.declared.script.Declared.{Declared}
-use Rattle.xa_grammar.specs.declared.script.Step.{Step}
+use Rattle.xa_grammar.specs.Steps.{ScriptStep}
 use Rattle.xa_grammar.specs.Content.{Content, AreOfOne}
-use Rattle.xa_session.specs.declared.answer.Answer.{Answer}
+use Rattle.xa_transcript.specs.declared.answer.Told.{Told}
 use Rattle.xa_session.specs.declared.session.Session.{Session}
-use Rattle.xa_transcript.specs.Openings.{Beginning, Opening, Former, Leaves, Tells, beginning}
-use Rattle.xa_transcript.specs.Openings.{steps_over, answers_over}
-use Rattle.xa_transcript.specs.Runs.{Ran}
+use Rattle.xa_telling.specs.ToldOpenings.{Beginning, Opening, Former, Leaves, Tells, beginning}
+use Rattle.xa_telling.specs.ToldOpenings.{steps_over, answers_over}
+use Rattle.xa_telling.specs.Runs.{Ran}
 use Rattle.xa_transcript.specs.Transcript.{text}
 use Rattle.xa_script.specs.declared.mode.Mode.{Mode}
 use Rattle.xa_script.specs.declared.mode.Mode.TheVariants.{Turns, Threads}
@@ -23,9 +23,9 @@ use Rattle.xa_script.specs.InThreads.{InThreads}
 
 -- How the threads and the workers of an opening came by its lines to desks that have ended and workers that have run,
 -- and what was answered.
-abbrev pub Runs : Mode → Content → List Step → List Session → List Session → List WorkerView → List EndedView
+abbrev pub Runs : Mode → Content → List ScriptStep → List Session → List Session → List WorkerView → List EndedView
     → List Served
-    → List Answer → Type 0
+    → List Told → Type 0
 Runs Turns s steps sessions left workers ended done answers = InTurns steps sessions left workers ended done answers
 Runs Threads s steps sessions left workers ended done answers =
     InThreads s steps sessions left workers ended done answers
@@ -49,7 +49,7 @@ pub record Follows (m : Mode) (s : Content) (f : Former) (old new : Beginning) :
   pub leaves : Leaves s f old new
 
 -- The script was run in this way, in one opening after the other.
-pub record IsOutcome (m : Mode) (s : Content) (answers : List Answer) (before : List Former)
+pub record IsOutcome (m : Mode) (s : Content) (answers : List Told) (before : List Former)
     (last : Opening) : Type 0 where
   pub steps : s.steps ≡ steps_over before last
   pub answers_ : answers ≡ answers_over before last
@@ -60,7 +60,7 @@ pub record IsOutcome (m : Mode) (s : Content) (answers : List Answer) (before : 
   pub latest : HasCome m s begins last left
 
 -- It was run in some way, and this is what was settled last.
-pub record IsRun (s : Content) (answers : List Answer) (settled : Settling) : Type 0 where
+pub record IsRun (s : Content) (answers : List Told) (settled : Settling) : Type 0 where
   pub mode : Mode
   pub before : List Former
   pub last : Opening
@@ -69,7 +69,7 @@ pub record IsRun (s : Content) (answers : List Answer) (settled : Settling) : Ty
 
 -- What a writer holds grew by the transcript of a script that was run in this way, and that tells of its openings.
 pub record Writes (m : Mode) (s : Content) (before after : Option (List ℕ)) : Type 0 where
-  pub answers : List Answer
+  pub answers : List Told
   pub former : List Former
   pub latest : Opening
   pub outcome : IsOutcome m s answers former latest

@@ -8,7 +8,7 @@ use Rattle.xa_grammar.specs.declared.fault.ScriptFault.TheVariants as script
 use Rattle.xa_grammar.specs.Content.{Content}
 use Rattle.xa_grammar.specs.Faults.{reason_text}
 use Rattle.xa_grammar.specs.Grammar.{script_of}
-use Rattle.xa_transcript.specs.declared.transcript.RunFault.TheVariants as run
+use Rattle.xa_transcript.specs.declared.writing.RunFault.TheVariants as run
 use Rattle.xa_script.specs.declared.mode.Mode.{Mode}
 use Rattle.xa_script.specs.declared.mode.Mode.TheVariants as mode
 use Rattle.xa_script.specs.declared.entry.Fault.{Fault}

@@ -3,10 +3,10 @@ ghost use Rattle.std.specs.Prelude.{◌≡◌, ◌++◌, List, [], length, All, 
 ghost use Rattle.std.specs.List.{flat_map, range_with_len};
 ghost use Rattle.xa_base.specs.Lists.{Pairwise};
 ghost use Rattle.xa_grammar.specs.Content.{threads_of, AreOfOne};
-ghost use Rattle.xa_transcript.specs.Openings.{Opening};
-ghost use Rattle.xa_session.specs.declared.answer.Answer.{Answer};
+ghost use Rattle.xa_telling.specs.ToldOpenings.{Opening};
+ghost use Rattle.xa_transcript.specs.declared.answer.Told.{Told};
 ghost use Rattle.xa_session.specs.ScriptThreads.{IsNew};
-ghost use Rattle.xa_session.specs.Text.{answers_text};
+ghost use Rattle.xa_transcript.specs.Text.{lines_text};
 ghost use Rattle.xa_script.specs.declared.mode.Mode.TheVariants as mode;
 ghost use Rattle.xa_script.specs.InThreads.{told_by};
 ghost use Rattle.xa_script.specs.Outcome.{IsOutcome, Writes};
@@ -19,9 +19,9 @@ use std::sync::Wait;
 use std::thread::Threads;
 use xa_crew::{Attended, CrewFault, run_clients};
 use xa_grammar::Script;
-use xa_session::{LINE, ScriptThread, tell_ended};
+use xa_session::ScriptThread;
 use xa_switch::Settled;
-use xa_transcript::RunFault;
+use xa_transcript::{LINE, RunFault, tell_ended};
 use xa_worker::Pace;
 
 // The threads of the script by rising number, before they do anything.
@@ -38,7 +38,7 @@ fn threads_of(alloc: Global, script: &Script) -> Result<Vec<ScriptThread>, Alloc
 // Adds the lines that a thread tells. It fails where memory was refused to the thread.
 fn tell(attended: Attended<ScriptThread>, lines: &mut Vec<u8>) -> Result<(), AllocError>
     ensures done { OnOk result (attended.client.wants_memory ≡ false) }
-    ensures told { OnOk result (lines.new.items ≡ lines.old.items ++ answers_text (told_by attended)) }
+    ensures told { OnOk result (lines.new.items ≡ lines.old.items ++ lines_text (told_by attended)) }
 {
     let Attended {
         mut client,
@@ -55,7 +55,7 @@ fn tell(attended: Attended<ScriptThread>, lines: &mut Vec<u8>) -> Result<(), All
 fn lines_of(threads: Vec<Attended<ScriptThread>>, mut lines: Vec<u8>) -> Result<Vec<u8>, AllocError>
     requires { lines.items ≡ [] }
     ensures done { IfOk result (λ _. All (λ t. t.client.wants_memory ≡ false) threads.items) }
-    ensures lines { IfOk result (λ v. v.items ≡ answers_text (flat_map told_by threads.items)) }
+    ensures lines { IfOk result (λ v. v.items ≡ lines_text (flat_map told_by threads.items)) }
 {
     for attended in threads {
         tell(attended, &mut lines)?;
@@ -72,7 +72,7 @@ fn run<R: Threads + Wait + Copy + Send + 'static, P: Pace + Drop + Send + 'stati
 ) -> Result<(Vec<u8>, Settled), AllocError>
     requires paces { length paces.items ≡ 8 }
     requires one { AreOfOne script.now.steps }
-    ensures { IfOk result (λ r. (answers : List Answer) × (last : Opening) × (r.0.items ≡ answers_text answers)
+    ensures { IfOk result (λ r. (answers : List Told) × (last : Opening) × (r.0.items ≡ lines_text answers)
         × IsOutcome mode.Threads script.now answers [] last × (last.settled ≡ r.1)) }
 {
     script.steps_are_of_it();

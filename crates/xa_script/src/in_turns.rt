@@ -1,32 +1,30 @@
 //! Running a script in turns, step by step in one thread.
 ghost use Rattle.std.specs.Prelude.{◌≡◌, ◌+◌, ◌<◌, ◌++◌, ℕ, List, [], length, map, All, IfOk, OnOk, IsErrOf};
-ghost use Rattle.xa_base.specs.Lists.{IsUpTo, Pairwise};
+ghost use Rattle.xa_base.specs.Lists.{IsUpTo};
 ghost use Rattle.xa_desk.specs.Kept.{AllKept};
-ghost use Rattle.xa_crew.specs.Pieces.{HasServed};
-ghost use Rattle.xa_grammar.specs.Content.{Content, thread_of};
-ghost use Rattle.xa_transcript.specs.Openings.{Beginning, Opening, Former, beginning};
+ghost use Rattle.xa_grammar.specs.Steps.{ScriptStep};
+ghost use Rattle.xa_grammar.specs.Content.{Content};
+ghost use Rattle.xa_telling.specs.ToldOpenings.{Beginning, Opening, Former, beginning};
 ghost use Rattle.xa_script.specs.declared.mode.Mode.TheVariants as mode;
 ghost use Rattle.xa_script.specs.InTurns.{stage_of, closing_of, HasCalled, HasTurned, HaveEnded};
-ghost use Rattle.xa_script.specs.Openings.{IsOpen, Goes, IsClosed};
+ghost use Rattle.xa_script.specs.TurnsSoFar.{IsOpen, Goes, IsClosed};
 ghost use Rattle.xa_script.specs.Outcome.{Follows, IsOutcome, Writes};
 
 use crate::outcome::show;
 use crate::plan::{again_of, plan_of};
-use crate::turns::Turns;
 use std::alloc::{AllocError, Global};
 use std::io::Write;
 use std::sync::Wait;
 use xa_base::MOST_HANDLES;
-use xa_crew::{end_desk, settle_all};
+use xa_crew::{Turns, end_desk, settle_all};
 use xa_desk::EndedDesk;
 use xa_desk::laws::desks_go_on;
 use xa_driver::MemoryLog;
 use xa_grammar::{Script, Step, Task};
-use xa_session::{Answer, Session, Told, carry_out, sessions_again, sessions_of, tell_ended};
+use xa_session::{Session, carry_out, sessions_again, sessions_of};
 use xa_switch::laws::outstanding_operations_stay_kept;
 use xa_switch::{OpenFault, Settled, open_switch, reopen};
-use xa_transcript::RunFault;
-use xa_worker::{DoneWorker, Free, Worker};
+use xa_transcript::{RunFault, Told, Transcript, tell_ended};
 
 // What runs an opening of a script: its number, its threads of control, and the workers, which take turns.
 #[derive(Drop)]
@@ -48,8 +46,7 @@ impl Runner {
     // The first opening of a script.
     fn open<R: Wait>(rt: &R, alloc: Global, script: &Script) -> Result<Runner, AllocError>
         ensures number { IfOk result (λ r. r.opening ≡ 1) }
-        ensures opened { IfOk result (λ r. IsOpen script.now (beginning script.now) r.sessions.items
-            r.turns.workers.items) }
+        ensures opened { IfOk result (λ r. IsOpen script.now (beginning script.now) r.sessions.items r.turns) }
     {
         let plan = plan_of(alloc, script)?;
         let (desks, workers) = match open_switch(rt, alloc, &plan) {
@@ -62,42 +59,52 @@ impl Runner {
         Ok(Runner {
             opening: plan.opening,
             sessions,
-            turns: Turns { workers },
+            turns: Turns::new(workers),
         })
     }
 
-    // A thread does a task. It fails only for want of memory.
-    fn call<R: Wait>(&mut self, rt: &R, alloc: Global, task: &Task) -> Result<Answer, AllocError>
-        requires { IsUpTo (length self.old.sessions.items) (thread_of task.now) }
-        ensures calls { IfOk result (HasCalled task.now (stage_of self.old.sessions.items self.old.turns.workers.items)
-            (stage_of self.new.sessions.items self.new.turns.workers.items)) }
+    // A thread does a task, which is told. It fails only for want of memory.
+    fn call<R: Wait>(&mut self, rt: &R, alloc: Global, task: &Task) -> Result<Told, AllocError>
+        requires { IsUpTo (length self.old.sessions.items) task.now.thread }
+        ensures calls { IfOk result (HasCalled task.now (stage_of self.old.sessions.items self.old.turns)
+            (stage_of self.new.sessions.items self.new.turns)) }
         ensures number { self.new.opening ≡ self.old.opening }
     {
-        let Session { desk, log, scan } = &mut self.sessions[task.thread() as usize - 1];
-        carry_out(rt, alloc, desk, log, scan, task, &mut self.turns)
+        let Session { desk, log, scan } = &mut self.sessions[task.thread as usize - 1];
+        let answer = carry_out(rt, alloc, desk, log, scan, &task.action, &mut self.turns)?;
+        Ok(Told::Answered {
+            line: task.line,
+            thread: task.thread,
+            answer,
+        })
     }
 
-    // A manager's worker takes a turn.
-    fn turn<R: Wait>(&mut self, rt: &R, line: u32, manager: u32) -> Answer
-        requires { IsUpTo (length self.old.turns.workers.items) manager }
-        ensures turns { HasTurned line manager (stage_of self.old.sessions.items self.old.turns.workers.items)
-            (stage_of self.new.sessions.items self.new.turns.workers.items) result }
+    // A manager's worker takes a turn, which is told.
+    fn turn<R: Wait>(&mut self, rt: &R, line: u32, manager: u32) -> Told
+        requires { IsUpTo (length self.old.turns) manager }
+        ensures turns { HasTurned line manager (stage_of self.old.sessions.items self.old.turns)
+            (stage_of self.new.sessions.items self.new.turns) result }
         ensures number { self.new.opening ≡ self.old.opening }
     {
-        Answer::Turned {
+        Told::Turned {
             line,
             step: self.turns.turn(rt, manager),
         }
     }
 
     // The opening ends: what is outstanding is told, the workers run to the last end mark, and all is settled.
-    fn close<R: Wait>(self, rt: &R, alloc: Global, told: &mut Told) -> Result<Closed, AllocError>
-        requires { (s : Content) × (b : Beginning) × (steps : List Step) × (answers : List Answer)
-            × Goes s b steps answers self.sessions.items self.turns.workers.items }
+    fn close<R: Wait>(
+        self,
+        rt: &R,
+        alloc: Global,
+        transcript: &mut Transcript,
+    ) -> Result<Closed, AllocError>
+        requires { (s : Content) × (b : Beginning) × (steps : List ScriptStep) × (answers : List Told)
+            × Goes s b steps answers self.sessions.items self.turns }
         ensures number { IfOk result (λ c. c.opening ≡ self.opening) }
-        ensures closed { IfOk result (λ c. (s : Content) (b : Beginning) (steps : List Step) (answers : List Answer)
-            → Goes s b steps answers self.sessions.items self.turns.workers.items
-            → (more : List Answer) × (told.new ≡ told.old ++ more)
+        ensures closed { IfOk result (λ c. (s : Content) (b : Beginning) (steps : List ScriptStep)
+            (answers : List Told) → Goes s b steps answers self.sessions.items self.turns
+            → (more : List Told) × (transcript.new ≡ transcript.old ++ more)
             × IsClosed s b (record {
               steps = steps;
               answers = answers ++ more;
@@ -111,8 +118,9 @@ impl Runner {
             sessions,
             mut turns,
         } = self;
-        let (ended, logs) = end_desks(rt, alloc, sessions, &mut turns, told)?;
-        let done = run_workers(rt, alloc, turns.workers)?;
+        let (ended, logs) = end_desks(rt, alloc, sessions, &mut turns, transcript)?;
+        let done = Vec::with_capacity(alloc, turns.managers())?;
+        let done = turns.run(rt, done);
         let settled = settle_all(rt, alloc, ended, done)?;
         Ok(Closed {
             opening,
@@ -131,7 +139,7 @@ impl Closed {
         ensures opened { IfOk result (λ r. (b : Beginning) (o : Opening) (line : ℕ)
             → IsClosed script.now b o self.logs.items → o.settled ≡ self.settled → self.opening ≡ b.opening
             → (next : Beginning) × Follows mode.Turns script.now (record { opening = o; line = line }) b next
-            × (r.opening ≡ next.opening) × IsOpen script.now next r.sessions.items r.turns.workers.items) }
+            × (r.opening ≡ next.opening) × IsOpen script.now next r.sessions.items r.turns) }
         ensures number { IfOk result (λ r. r.opening ≡ self.opening + 1) }
     {
         let Closed {
@@ -152,7 +160,7 @@ impl Closed {
         Ok(Runner {
             opening: again.opening,
             sessions,
-            turns: Turns { workers },
+            turns: Turns::new(workers),
         })
     }
 }
@@ -163,11 +171,11 @@ fn end_desks<R: Wait>(
     alloc: Global,
     sessions: Vec<Session>,
     turns: &mut Turns,
-    told: &mut Told,
+    transcript: &mut Transcript,
 ) -> Result<(Vec<EndedDesk>, Vec<MemoryLog>), AllocError>
     requires { All (λ s. AllKept s.desk) sessions.items }
-    ensures ended { IfOk result (λ r. HaveEnded (closing_of [] turns.old.workers.items told.old) sessions.items
-        (closing_of r.0.items turns.new.workers.items told.new)) }
+    ensures ended { IfOk result (λ r. HaveEnded (closing_of [] turns.old transcript.old) sessions.items
+        (closing_of r.0.items turns.new transcript.new)) }
     ensures logs { IfOk result (λ r. r.1.items ≡ map (λ x. x.log) sessions.items) }
 {
     let mut ended = Vec::with_capacity(alloc, sessions.len())?;
@@ -177,47 +185,32 @@ fn end_desks<R: Wait>(
         let mut outstanding = Vec::with_capacity(alloc, MOST_HANDLES)?;
         ended.push(end_desk(rt, session.desk, turns, &mut outstanding))?;
         logs.push(session.log)?;
-        tell_ended(thread, &outstanding, told)?;
+        tell_ended(thread, &outstanding, transcript)?;
     }
     Ok((ended, logs))
 }
 
-// Runs the workers to the last end mark, by rising manager.
-fn run_workers<R: Wait>(
-    rt: &R,
-    alloc: Global,
-    workers: Vec<Worker>,
-) -> Result<Vec<DoneWorker>, AllocError>
-    ensures { IfOk result (λ done. Pairwise HasServed workers.items done.items) }
-{
-    let mut done = Vec::with_capacity(alloc, workers.len())?;
-    for worker in workers {
-        done.push(worker.run(rt, &mut Free))?;
-    }
-    Ok(done)
-}
-
 // Runs a script in turns, and settles what the threads and the managers of each opening have come to: the last one's.
-fn run<R: Wait>(rt: &R, alloc: Global, script: &Script) -> Result<(Told, Settled), AllocError>
+fn run<R: Wait>(rt: &R, alloc: Global, script: &Script) -> Result<(Transcript, Settled), AllocError>
     ensures { IfOk result (λ r. (before : List Former) × (last : Opening)
         × IsOutcome mode.Turns script.now r.0 before last × (last.settled ≡ r.1)) }
 {
     let mut runner = Runner::open(rt, alloc, script)?;
     let ends = runner.sessions.len() * MOST_HANDLES;
-    let mut told = Told::with_capacity(alloc, script.len().saturating_add(ends))?;
+    let mut transcript = Transcript::with_capacity(alloc, script.len().saturating_add(ends))?;
     for place in 0..script.len() {
         match script.step(place) {
-            Step::Task(task) => told.push(runner.call(rt, alloc, &task)?)?,
-            Step::Turn { line, manager } => told.push(runner.turn(rt, line, manager))?,
+            Step::Task(task) => transcript.tell(runner.call(rt, alloc, &task)?)?,
+            Step::Turn { line, manager } => transcript.tell(runner.turn(rt, line, manager))?,
             Step::Reopen { line } => {
-                let closed = runner.close(rt, alloc, &mut told)?;
-                told.push(Answer::Reopened { line })?;
+                let closed = runner.close(rt, alloc, &mut transcript)?;
+                transcript.tell(Told::Reopened { line })?;
                 runner = closed.reopen(rt, alloc, script)?;
             }
         }
     }
-    let closed = runner.close(rt, alloc, &mut told)?;
-    Ok((told, closed.settled))
+    let closed = runner.close(rt, alloc, &mut transcript)?;
+    Ok((transcript, closed.settled))
 }
 
 /// Runs a script in turns and writes its transcript: the answer to each step in the order of the lines, what was
@@ -234,6 +227,6 @@ pub fn run_turns<R: Wait, W: Write>(
     ensures ok { OnOk result (Writes mode.Turns script.now (W.contents writer.old) (W.contents writer.new)) }
     ensures memory { IsErrOf result RunFault.NoMemory → W.contents writer.new ≡ W.contents writer.old }
 {
-    let (told, settled) = run(rt, alloc, script)?;
-    show(alloc, script, told.text(), &settled, writer)
+    let (transcript, settled) = run(rt, alloc, script)?;
+    show(alloc, script, transcript.text(), &settled, writer)
 }

@@ -4,7 +4,8 @@
 //! thread of its own. `specs/Outcome.antt` says what a run comes to, `specs/InTurns.antt` and
 //! `specs/InThreads.antt` how its threads and managers came to it in either way, and `program` is the whole
 //! program over any reader and writers. What a script says, and how it is read, is xa_grammar's; what a
-//! thread does is xa_session's, and what a transcript tells is xa_transcript's.
+//! thread does is xa_session's, which bytes a transcript has is xa_transcript's, and what it tells is
+//! xa_telling's.
 #![tactic(auto)]
 
 mod entry;
@@ -13,13 +14,13 @@ mod in_turns;
 mod mode;
 mod outcome;
 mod plan;
-mod turns;
 
 pub use entry::program;
 pub use in_threads::run_threads;
 pub use in_turns::run_turns;
 pub use xa_grammar::{
-    Action, Called, CommitAll, Declared, Reason, Script, ScriptFault, Step, Task, read_script,
+    Action, Called, Calling, CommitAll, Declared, Reason, Script, ScriptFault, Step, Task,
+    read_script,
 };
-pub use xa_session::Answer;
-pub use xa_transcript::{RunFault, laws};
+pub use xa_telling::laws;
+pub use xa_transcript::{Answer, RunFault, Told};

@@ -1,8 +1,8 @@
 //! What a run shows once it is settled.
 ghost use Rattle.std.specs.Prelude.{◌≡◌, List, OnOk, IsErrOf};
-ghost use Rattle.xa_session.specs.declared.answer.Answer.{Answer};
-ghost use Rattle.xa_session.specs.Text.{answers_text};
-ghost use Rattle.xa_transcript.specs.Openings.{Former, Opening};
+ghost use Rattle.xa_transcript.specs.declared.answer.Told.{Told};
+ghost use Rattle.xa_transcript.specs.Text.{lines_text};
+ghost use Rattle.xa_telling.specs.ToldOpenings.{Former, Opening};
 ghost use Rattle.xa_script.specs.declared.mode.Mode.{Mode};
 ghost use Rattle.xa_script.specs.Outcome.{IsRun, IsOutcome, Writes};
 
@@ -22,9 +22,9 @@ pub(crate) fn show<W: Write>(
     settled: &Settled,
     writer: &mut W,
 ) -> Result<(), RunFault>
-    requires { (answers : List Answer) × IsRun script.now answers settled.now }
-    ensures ok { OnOk result ((mode : Mode) (answers : List Answer) (before : List Former) (last : Opening)
-        → lines.now ≡ answers_text answers → IsOutcome mode script.now answers before last
+    requires { (answers : List Told) × IsRun script.now answers settled.now }
+    ensures ok { OnOk result ((mode : Mode) (answers : List Told) (before : List Former) (last : Opening)
+        → lines.now ≡ lines_text answers → IsOutcome mode script.now answers before last
         → last.settled ≡ settled.now → Writes mode script.now (W.contents writer.old) (W.contents writer.new)) }
     ensures memory { IsErrOf result RunFault.NoMemory → W.contents writer.new ≡ W.contents writer.old }
 {

@@ -4,7 +4,7 @@ ghost use Rattle.std.specs.List.{range_with_len};
 ghost use Rattle.xa_base.specs.Lists.{IsUpTo};
 ghost use Rattle.xa_switch.specs.Plans.{IsSoundManager, IsSound};
 ghost use Rattle.xa_grammar.specs.Content.{accounts_of, managers_of};
-ghost use Rattle.xa_transcript.specs.Planning.{plan_says, script_says, IsPlanOf, AreNumbersOf};
+ghost use Rattle.xa_telling.specs.Planning.{plan_says, script_says, IsPlanOf, AreNumbersOf};
 
 use std::alloc::{AllocError, Global};
 use xa_base::MOST_MANAGERS;

@@ -4,18 +4,20 @@ mod tasks;
 
 use std::test::Fail;
 use xa_grammar::{
-    Action, Called, CommitAll, Declared, Reason, Script, ScriptFault, Step, Task, read_script,
+    Action, Called, Calling, Declared, Reason, Script, ScriptFault, Step, Task, read_script,
 };
-use xa_words::{Call, Delta, Key, RmOp, Xid};
+use xa_words::{Call, Delta, Key, Xid};
 
-fn call(line: u32, thread: u32, manager: u32, action: Action, flags: u32) -> Step {
-    Step::Task(Task::Call(Called {
+fn call(line: u32, thread: u32, manager: u32, call: Calling, flags: u32) -> Step {
+    Step::Task(Task {
         line,
         thread,
-        manager,
-        action,
-        flags,
-    }))
+        action: Action::Call(Called {
+            manager,
+            call,
+            flags,
+        }),
+    })
 }
 
 // Whether these are the steps of the script, in their order.
@@ -86,15 +88,21 @@ fn a_script_is_read_into_settings_keys_and_steps(rt: HostRuntime) -> Result<(), 
         .as_slice()
     );
     let want = [
-        call(5, 1, 1, Action::Xa(Call::OpenRm, None), 0),
-        call(6, 1, 1, Action::Xa(Call::Start, Some(xid)), 0),
-        call(7, 2, 1, Action::Native(RmOp::Add(key, delta)), 0),
-        call(8, 1, 1, Action::Xa(Call::End, Some(xid)), 0x2200_0000),
-        call(9, 1, 1, Action::Xa(Call::Prepare, Some(xid)), 0),
-        call(10, 3, 1, Action::Xa(Call::Commit, Some(xid)), 0x4000_0000),
-        call(12, 1, 4, Action::Xa(Call::Rollback, Some(xid)), 0x0020_0000),
-        call(13, 1, 2, Action::Xa(Call::CloseRm, None), 0),
-        call(14, 2, 1, Action::Native(RmOp::Shut), 0x8000_0000),
+        call(5, 1, 1, Calling::Xa(Call::OpenRm, None), 0),
+        call(6, 1, 1, Calling::Xa(Call::Start, Some(xid)), 0),
+        call(7, 2, 1, Calling::Add(key, delta), 0),
+        call(8, 1, 1, Calling::Xa(Call::End, Some(xid)), 0x2200_0000),
+        call(9, 1, 1, Calling::Xa(Call::Prepare, Some(xid)), 0),
+        call(10, 3, 1, Calling::Xa(Call::Commit, Some(xid)), 0x4000_0000),
+        call(
+            12,
+            1,
+            4,
+            Calling::Xa(Call::Rollback, Some(xid)),
+            0x0020_0000,
+        ),
+        call(13, 1, 2, Calling::Xa(Call::CloseRm, None), 0),
+        call(14, 2, 1, Calling::Shut, 0x8000_0000),
     ];
     assert!(rt; has_steps(&script, &want));
     Ok(())

@@ -1,5 +1,4 @@
 //! Runs and the program, over readers and writers that fail, and workers with paces of their own.
 mod running;
 mod statuses;
-mod streams;
 mod threads;

@@ -1,34 +1,35 @@
 //! The bytes of a transcript, and the texts of a run's faults.
 use std::test::Fail;
 use xa_grammar::Declared;
-use xa_session::{Answer, Told};
-use xa_transcript::{RunFault, write_transcript};
+use xa_transcript::{Answer, RunFault, Told, Transcript, write_transcript};
 use xa_words::Key;
 
 #[test]
 fn a_transcript_has_the_answers_and_then_the_values(rt: HostRuntime) -> Result<(), Fail> {
-    let answers = [
-        Answer::Called {
+    let lines = [
+        Told::Answered {
             line: 2,
             thread: 1,
-            answer: 0,
+            answer: Answer::Called(0),
         },
-        Answer::Completed {
+        Told::Answered {
             line: 3,
             thread: 2,
-            handle: 4,
-            retval: -3,
+            answer: Answer::Completed {
+                handle: 4,
+                retval: -3,
+            },
         },
-        Answer::Turned {
+        Told::Turned {
             line: 5,
             step: xa_worker::Step::Empty,
         },
-        Answer::Called {
+        Told::Answered {
             line: 100_000,
             thread: 8,
-            answer: -6,
+            answer: Answer::Called(-6),
         },
-        Answer::Ended {
+        Told::Ended {
             thread: 8,
             handle: 32,
             retval: 103,
@@ -41,11 +42,11 @@ fn a_transcript_has_the_answers_and_then_the_values(rt: HostRuntime) -> Result<(
         value: 70,
     }];
     let mut out = Vec::new(rt.alloc());
-    let mut told = Told::with_capacity(rt.alloc(), answers.len())?;
-    for answer in answers {
-        told.push(answer)?;
+    let mut transcript = Transcript::with_capacity(rt.alloc(), lines.len())?;
+    for line in lines {
+        transcript.tell(line)?;
     }
-    write_transcript(rt.alloc(), told.text(), &values, &mut out)?;
+    write_transcript(rt.alloc(), transcript.text(), &values, &mut out)?;
     assert_eq!(rt;
         out.as_slice(),
         b"2 1 0\n3 2 0 handle 4 retval -3\n5 turn empty\n100000 8 -6\n\

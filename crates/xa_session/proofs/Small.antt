@@ -6,8 +6,7 @@ use Rattle.xa_words.specs.Code.{number_of}
 use Rattle.xa_words.specs.declared.code.Code.{Code}
 use Rattle.xa_words.specs.declared.code.Code.TheVariants.{Done, RdOnly, Retry, HeurMix, HeurRb, HeurCom, HeurHaz, RbRollback, RbCommFail, RbDeadlock, RbIntegrity, RbOther, RbProto, RbTimeout, RbTransient, Async, RmErr, Nota, Inval, Proto, RmFail, DupId, Outside}
 use Rattle.xa_desk.specs.DeskView.{IsHandle}
-use Rattle.xa_grammar.specs.declared.script.Called.{Called}
-use Rattle.xa_session.specs.declared.answer.Answer.{Answer}
+use Rattle.xa_transcript.specs.declared.answer.Answer.{Answer}
 use Rattle.xa_switch.specs.Completing.{Tells}
 use Rattle.xa_session.specs.Calling.{completed}
 
@@ -44,5 +43,5 @@ told_fit (Ok r) h v h' v' a is t fits fits' = (subst (SFits w32) (sym t.0) (hand
 told_fit (Err c) h v h' v' a is t fits fits' = (subst (SFits w32) (sym t.0) fits, subst (SFits w32) (sym t.1.0) fits')
 
 -- the same answer from numbers that were cast
-pub told_same : (p : Called) (a : Answer) (h v n h' v' n' : ℤ) → h' ≡ h → v' ≡ v → n' ≡ n → a ≡ completed p h' v' n' → a ≡ completed p h v n
-told_same p a h v n h' v' n' of_h of_v of_n e = e ∙ ap (λ z. completed p z v' n') of_h ∙ ap (λ z. completed p h z n') of_v ∙ ap (λ z. completed p h v z) of_n
+pub told_same : (a : Answer) (h v n h' v' n' : ℤ) → h' ≡ h → v' ≡ v → n' ≡ n → a ≡ completed h' v' n' → a ≡ completed h v n
+told_same a h v n h' v' n' of_h of_v of_n e = e ∙ ap (λ z. completed z v' n') of_h ∙ ap (λ z. completed h z n') of_v ∙ ap (λ z. completed h v z) of_n

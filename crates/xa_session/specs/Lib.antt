@@ -3,5 +3,3 @@ pub mod Committing
 pub mod Resolving
 pub mod Sessions
 pub mod ScriptThreads
-pub mod Ended
-pub mod Text

@@ -7,12 +7,14 @@ use Rattle.xa_switch.specs.Scans.{ScanView, no_scan}
 use Rattle.xa_driver.specs.Log.{LogView, no_records}
 use Rattle.xa_driver.specs.Resolving.{MayResolve}
 use Rattle.xa_driver.specs.Trace.{MayCommit}
-use Rattle.xa_grammar.specs.declared.script.Task.{Task}
-use Rattle.xa_grammar.specs.declared.script.Task.TheVariants.{Call, CommitAll, Resolve}
+use Rattle.xa_grammar.specs.declared.step.Action.TheVariants.{Call, CommitAll, Resolve}
+use Rattle.xa_grammar.specs.Steps.{ScriptAction, ScriptTask}
 use Rattle.xa_grammar.specs.Content.{Content, failing_append}
-use Rattle.xa_session.specs.declared.answer.Answer.{Answer}
+use Rattle.xa_transcript.specs.declared.answer.Answer.{Answer}
+use Rattle.xa_transcript.specs.declared.answer.Told.{Told}
+use Rattle.xa_transcript.specs.declared.answer.Told.TheVariants.{Answered}
 use Rattle.xa_session.specs.declared.session.Session.{Session}
-use Rattle.xa_session.specs.Calling.{Answers, action_waits}
+use Rattle.xa_session.specs.Calling.{Answers, calling_waits}
 use Rattle.xa_session.specs.Committing.{branches_of, CommitsAll}
 use Rattle.xa_session.specs.Resolving.{ResolvesLeft}
 
@@ -37,27 +39,31 @@ new_sessions s desks = map (new_session s) desks
 abbrev pub sessions_again : List DeskView → List LogView → List ScanView → List Session
 sessions_again desks logs scans = map (λ x. session_of x.0.0 x.0.1 x.1) (zip (zip desks logs) scans)
 
--- What a task answers, and what it does to its thread. A call leaves the log, a commit the scans, and a
--- resolve both.
-abbrev pub Executes : Task → Session → Session → Answer → Type 0
-Executes (Call p) old new a = Answers p.action p old.desk old.scan new.desk new.scan a × (new.log ≡ old.log)
+-- What a task that asks for this does to its thread, and what it answers. A call leaves the log, a commit the scans,
+-- and a resolve both.
+abbrev pub Executes : ScriptAction → Session → Session → Answer → Type 0
+Executes (Call c) old new a = Answers c.call c old.desk old.scan new.desk new.scan a × (new.log ≡ old.log)
 Executes (CommitAll c) old new a = CommitsAll c old new a
-Executes (Resolve r) old new a = ResolvesLeft r old new a
+Executes Resolve old new a = ResolvesLeft old new a
 
--- A task may wait: a call whose action may, a commit that may be made, and a resolve that may.
-abbrev pub MayWait : Task → Session → Type 0
-MayWait (Call p) old = IsTrue (action_waits p.action p old.desk old.scan)
+-- A task that asks for this may wait: a call that may, a commit that may be made, and a resolve that may.
+abbrev pub MayWait : ScriptAction → Session → Type 0
+MayWait (Call c) old = IsTrue (calling_waits c.call c old.desk old.scan)
 MayWait (CommitAll c) old = MayCommit old.desk old.log.state (branches_of c)
-MayWait (Resolve r) old = MayResolve old.desk old.scan
+MayWait Resolve old = MayResolve old.desk old.scan
 
 -- What a task does to its thread, and what it answers. The desk goes on, and what is outstanding stays kept.
-pub record Does (p : Task) (old new : Session) (a : Answer) : Type 0 where
-  pub executes : Executes p old new a
+pub record Does (x : ScriptAction) (old new : Session) (a : Answer) : Type 0 where
+  pub executes : Executes x old new a
   pub goes_on : GoesOn old.desk new.desk
   pub kept : AllKept old.desk → AllKept new.desk
 
--- The thread does a task, and the answer comes after those of before.
-pub record HasDone (p : Task) (old new : Session × List Answer) : Type 0 where
+-- What is told of a task that answered this.
+abbrev pub told_of : ScriptTask → Answer → Told
+told_of p a = Answered p.line p.thread a
+
+-- The thread does a task, and what it answered is told after what was told before.
+pub record HasDone (p : ScriptTask) (old new : Session × List Told) : Type 0 where
   pub answer : Answer
-  pub does : Does p old.0 new.0 answer
-  pub told : new.1 ≡ old.1 ++ answer ∷ []
+  pub does : Does p.action old.0 new.0 answer
+  pub told : new.1 ≡ old.1 ++ told_of p answer ∷ []

@@ -9,27 +9,16 @@ ghost use Rattle.xa_switch.specs.Scans.{asks};
 ghost use Rattle.xa_words.specs.Flags.{check_flags};
 ghost use Rattle.xa_words.specs.Xid.{XidName};
 ghost use Rattle.xa_words.specs.declared.flags.Call.TheVariants as call;
-ghost use Rattle.xa_session.specs.Calling.{shown, completed, HasAnswered, HasCollected, HasListed, IsListed, Answers};
-ghost use Rattle.xa_session.specs.Calling.{action_waits};
+ghost use Rattle.xa_session.specs.Calling.{completed, HasAnswered, HasCollected, HasListed, IsListed, Answers};
+ghost use Rattle.xa_session.specs.Calling.{calling_waits};
 
-use crate::answer::Answer;
 use std::alloc::{AllocError, Global};
 use std::sync::Wait;
 use xa_desk::{Desk, Idle};
-use xa_grammar::{Action, Called};
+use xa_grammar::{Called, Calling};
 use xa_switch::{Scan, native, xa_call, xa_complete, xa_recover};
+use xa_transcript::Answer;
 use xa_words::{Call, RmOp, Xid};
-
-// The answer of a call that is no xa_complete.
-fn shown(called: &Called, answer: i32) -> Answer
-    ensures { result ≡ shown called.now answer }
-{
-    Answer::Called {
-        line: called.line,
-        thread: called.thread,
-        answer,
-    }
-}
 
 // What an XA call answers.
 fn xa_called<R: Wait, I: Idle>(
@@ -48,7 +37,7 @@ fn xa_called<R: Wait, I: Idle>(
         → idle.new ≡ idle.old }
 {
     let answer = xa_call(rt, desk, call, xid, called.manager, called.flags, idle);
-    shown(called, answer)
+    Answer::Called(answer)
 }
 
 /// What a call answers. It fails only for want of memory, and then nothing is done.
@@ -60,19 +49,27 @@ pub(crate) fn answer<R: Wait, I: Idle>(
     called: &Called,
     idle: &mut I,
 ) -> Result<Answer, AllocError>
-    ensures answers { IfOk result (Answers called.now.action called.now desk.old scan.old desk.new scan.new) }
+    ensures answers { IfOk result (Answers called.now.call called.now desk.old scan.old desk.new scan.new) }
     ensures goes_on { GoesOn desk.old desk.new }
     ensures kept { AllKept desk.old → AllKept desk.new }
     ensures unsent { OnErr result (desk.new ≡ desk.old) }
     ensures unscanned { OnErr result (scan.new ≡ scan.old) }
     ensures idled { I.leads idle.old idle.new }
-    ensures prompt { action_waits called.now.action called.now desk.old scan.old ≡ false → idle.new ≡ idle.old }
+    ensures prompt { calling_waits called.now.call called.now desk.old scan.old ≡ false → idle.new ≡ idle.old }
 {
-    match called.action {
-        Action::Xa(call, xid) => Ok(xa_called(rt, desk, called, call, xid, idle)),
-        Action::Native(op) => Ok(native_called(rt, desk, called, op, idle)),
-        Action::Complete(handle) => Ok(completed(rt, desk, called, handle, idle)),
-        Action::Recover(room) => recovered(rt, alloc, desk, scan, called, room, idle),
+    match called.call {
+        Calling::Xa(call, xid) => Ok(xa_called(rt, desk, called, call, xid, idle)),
+        Calling::Heur(xid, commits) => {
+            let op = RmOp::Heur(xid, commits);
+            Ok(native_called(rt, desk, called, op, idle))
+        }
+        Calling::Add(key, delta) => {
+            let op = RmOp::Add(key, delta);
+            Ok(native_called(rt, desk, called, op, idle))
+        }
+        Calling::Shut => Ok(native_called(rt, desk, called, RmOp::Shut, idle)),
+        Calling::Complete(handle) => Ok(completed(rt, desk, called, handle, idle)),
+        Calling::Recover(room) => recovered(rt, alloc, desk, scan, called, room, idle),
     }
 }
 
@@ -117,22 +114,18 @@ fn recovered<R: Wait, I: Idle>(
     let (manager, flags) = (called.manager, called.flags);
     let mut xids = blank(alloc, room)?;
     let answer = xa_recover(rt, desk, scan, &mut xids, manager, flags, idle);
-    Ok(listed(called, answer, xids))
+    Ok(listed(answer, xids))
 }
 
 // The answer of an xa_recover, which is shown with what it wrote.
-fn listed(called: &Called, answer: i32, mut xids: Vec<Xid>) -> Answer
-    ensures { IsListed called.now answer xids.items result }
+fn listed(answer: i32, mut xids: Vec<Xid>) -> Answer
+    ensures { IsListed answer xids.items result }
 {
     if answer < 0 {
-        return shown(called, answer);
+        return Answer::Called(answer);
     }
     xids.truncate(answer as usize);
-    Answer::Recovered {
-        line: called.line,
-        thread: called.thread,
-        xids,
-    }
+    Answer::Recovered(xids)
 }
 
 // What a call outside XA answers.
@@ -151,7 +144,7 @@ fn native_called<R: Wait, I: Idle>(
         → idle.new ≡ idle.old }
 {
     let answer = native(rt, desk, op, called.manager, called.flags, idle);
-    shown(called, answer)
+    Answer::Called(answer)
 }
 
 // What an xa_complete of the handle answers.
@@ -171,20 +164,15 @@ fn completed<R: Wait, I: Idle>(
     let (manager, flags) = (called.manager, called.flags);
     let (mut handle, mut retval) = (handle, 0);
     let answer = xa_complete(rt, desk, &mut handle, &mut retval, manager, flags, idle);
-    told(called, answer, handle, retval)
+    told(answer, handle, retval)
 }
 
 // The answer of an xa_complete, which on XA_OK is shown with what it wrote.
-fn told(called: &Called, answer: i32, handle: i32, retval: i32) -> Answer
-    ensures { result ≡ completed called.now handle retval answer }
+fn told(answer: i32, handle: i32, retval: i32) -> Answer
+    ensures { result ≡ completed handle retval answer }
 {
     if answer != 0 {
-        return shown(called, answer);
+        return Answer::Called(answer);
     }
-    Answer::Completed {
-        line: called.line,
-        thread: called.thread,
-        handle,
-        retval,
-    }
+    Answer::Completed { handle, retval }
 }

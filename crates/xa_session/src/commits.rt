@@ -7,14 +7,15 @@ ghost use Rattle.xa_driver.specs.Trace.{MayCommit};
 ghost use Rattle.xa_switch.specs.Scans.{ScanView};
 ghost use Rattle.xa_session.specs.Sessions.{session_of};
 
-use crate::answer::Answer;
 use itoa::Buffer;
 use std::alloc::{AllocError, Global};
 use std::sync::Wait;
+use xa_base::MOST_MANAGERS;
 use xa_desk::laws::desks_go_on;
 use xa_desk::{Desk, Idle};
 use xa_driver::{Branch, DriverFault, MemoryLog, commit_all, may_commit};
 use xa_grammar::CommitAll;
+use xa_transcript::Answer;
 use xa_words::Xid;
 
 // The branch `G.M` at a manager.
@@ -32,9 +33,9 @@ fn branch_at(asked: &CommitAll, m: u32) -> Branch
 fn branches_of(alloc: Global, asked: &CommitAll) -> Result<Vec<Branch>, AllocError>
     ensures { IfOk result (λ v. v.items ≡ branches_of asked.now) }
 {
-    let mut branches = Vec::with_capacity(alloc, asked.managers.len())?;
+    let mut branches = Vec::with_capacity(alloc, MOST_MANAGERS)?;
     for before in 0..8 {
-        if asked.managers[before as usize] {
+        if asked.managers.contains(before + 1) {
             branches.push_reserved(branch_at(asked, before + 1));
         }
     }
@@ -61,13 +62,12 @@ pub(crate) fn commit<R: Wait, I: Idle>(
     ensures prompt { ¬ MayCommit desk.old log.old.state (branches_of asked.now) → idle.new ≡ idle.old }
 {
     desks_go_on();
-    let (line, thread) = (asked.line, asked.thread);
     let branches = branches_of(alloc, asked)?;
     if !may_commit(desk, log, &branches) {
-        return Ok(Answer::Refused { line, thread });
+        return Ok(Answer::Refused);
     }
     match commit_all(rt, alloc, desk, log, &branches, idle) {
-        Ok(done) => Ok(Answer::Decided { line, thread, done }),
+        Ok(done) => Ok(Answer::Decided(done)),
         Err(DriverFault::NoMemory) => Err(AllocError),
     }
 }

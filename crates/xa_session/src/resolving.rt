@@ -6,14 +6,13 @@ ghost use Rattle.xa_driver.specs.Resolving.{MayResolve};
 ghost use Rattle.xa_session.specs.Resolving.{ResolvesLeft};
 ghost use Rattle.xa_session.specs.Sessions.{session_of};
 
-use crate::answer::Answer;
 use std::alloc::{AllocError, Global};
 use std::sync::Wait;
 use xa_desk::laws::desks_go_on;
 use xa_desk::{Desk, Idle};
 use xa_driver::{MemoryLog, ResolveFault, may_resolve, resolve};
-use xa_grammar::Resolve;
 use xa_switch::Scan;
+use xa_transcript::Answer;
 
 /// Resolves what was left, where there is room for it. It fails only for want of memory, and then nothing is done.
 pub(crate) fn resolve_left<R: Wait, I: Idle>(
@@ -22,10 +21,9 @@ pub(crate) fn resolve_left<R: Wait, I: Idle>(
     desk: &mut Desk,
     log: &MemoryLog,
     scan: &Scan,
-    asked: &Resolve,
     idle: &mut I,
 ) -> Result<Answer, AllocError>
-    ensures resolves { IfOk result (ResolvesLeft asked.now (session_of desk.old log.now scan.now)
+    ensures resolves { IfOk result (ResolvesLeft (session_of desk.old log.now scan.now)
         (session_of desk.new log.now scan.now)) }
     ensures goes_on { GoesOn desk.old desk.new }
     ensures kept { AllKept desk.old → AllKept desk.new }
@@ -34,16 +32,11 @@ pub(crate) fn resolve_left<R: Wait, I: Idle>(
     ensures prompt { ¬ MayResolve desk.old scan.now → idle.new ≡ idle.old }
 {
     desks_go_on();
-    let (line, thread) = (asked.line, asked.thread);
     if !may_resolve(desk, scan) {
-        return Ok(Answer::Refused { line, thread });
+        return Ok(Answer::Refused);
     }
     match resolve(rt, alloc, desk, scan, log, idle) {
-        Ok(resolved) => Ok(Answer::Resolved {
-            line,
-            thread,
-            outcomes: resolved.outcomes,
-        }),
+        Ok(resolved) => Ok(Answer::Resolved(resolved.outcomes)),
         Err(ResolveFault::NoMemory) => Err(AllocError),
     }
 }

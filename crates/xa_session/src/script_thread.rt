@@ -8,15 +8,16 @@ ghost use Rattle.xa_session.specs.Sessions.{log_of, session_of, HasDone};
 ghost use Rattle.xa_session.specs.ScriptThreads.{IsNew};
 
 use crate::session::{carry_out, log_of};
-use crate::told::Told;
 use std::alloc::{AllocError, Global};
 use std::sync::Wait;
 use xa_crew::Client;
+use xa_crew::laws::idles_go_on;
 use xa_desk::laws::desks_go_on;
-use xa_desk::{Desk, Spin};
+use xa_desk::{Desk, Idle};
 use xa_driver::MemoryLog;
 use xa_grammar::{Script, Tasks};
 use xa_switch::Scan;
+use xa_transcript::{Told, Transcript};
 
 /// A thread of a script: its own tasks, its decision log, and what it told so far.
 #[derive(Drop)]
@@ -28,32 +29,38 @@ pub struct ScriptThread {
     scan: Scan,
     tasks: Tasks,
     /// What its tasks answered, in their order.
-    pub told: Told,
+    pub told: Transcript,
     /// Whether memory was refused, after which no task was done.
     pub wants_memory: bool,
 }
 
 // Carries out the tasks, until memory is refused.
-fn carry_out_all<R: Wait>(
+fn carry_out_all<R: Wait, I: Idle>(
     rt: &R,
     alloc: Global,
     desk: &mut Desk,
     log: &mut MemoryLog,
     scan: &mut Scan,
     tasks: &Tasks,
-    told: &mut Told,
+    told: &mut Transcript,
+    idle: &mut I,
 ) -> Result<(), AllocError>
     ensures runs { OnOk result (Chain HasDone (session_of desk.old log.old scan.old, told.old) tasks.now
         (session_of desk.new log.new scan.new, told.new)) }
     ensures goes_on { GoesOn desk.old desk.new }
     ensures kept { AllKept desk.old → AllKept desk.new }
+    ensures idled { I.leads idle.old idle.new }
 {
     desks_go_on();
-    let mut idle = Spin::new();
+    idles_go_on::<I>();
     for place in 0..tasks.len() {
         let task = tasks.get(place);
-        let answer = carry_out(rt, alloc, desk, log, scan, &task, &mut idle)?;
-        told.push(answer)?;
+        let answer = carry_out(rt, alloc, desk, log, scan, &task.action, idle)?;
+        told.tell(Told::Answered {
+            line: task.line,
+            thread: task.thread,
+            answer,
+        })?;
     }
     Ok(())
 }
@@ -64,7 +71,7 @@ impl ScriptThread {
         ensures { IfOk result (IsNew script.now thread) }
     {
         let tasks = script.tasks_of(alloc, thread)?;
-        let told = Told::with_capacity(alloc, tasks.len())?;
+        let told = Transcript::with_capacity(alloc, tasks.len())?;
         Ok(ScriptThread {
             thread,
             alloc,
@@ -82,7 +89,7 @@ impl Client for ScriptThread {
 
     ghost works = { Works };
 
-    fn work<R: Wait>(&mut self, rt: &R, desk: &mut Desk) {
+    fn work<R: Wait, I: Idle>(&mut self, rt: &R, desk: &mut Desk, idle: &mut I) {
         let done = carry_out_all(
             rt,
             self.alloc,
@@ -91,6 +98,7 @@ impl Client for ScriptThread {
             &mut self.scan,
             &self.tasks,
             &mut self.told,
+            idle,
         );
         self.wants_memory = done.is_err();
     }

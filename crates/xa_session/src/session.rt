@@ -5,7 +5,6 @@ ghost use Rattle.xa_desk.specs.Kept.{AllKept};
 ghost use Rattle.xa_session.specs.Sessions.{log_of, session_of, new_session, new_sessions, sessions_again, Does};
 ghost use Rattle.xa_session.specs.Sessions.{MayWait};
 
-use crate::answer::Answer;
 use crate::calls::answer;
 use crate::commits::commit;
 use crate::resolving::resolve_left;
@@ -13,8 +12,9 @@ use std::alloc::{AllocError, Global};
 use std::sync::Wait;
 use xa_desk::{Desk, Idle};
 use xa_driver::MemoryLog;
-use xa_grammar::{Script, Task};
+use xa_grammar::{Action, Script};
 use xa_switch::Scan;
+use xa_transcript::Answer;
 
 /// A thread of control with its decision log, and its scans of what a reopening found left.
 #[derive(Drop)]
@@ -35,17 +35,17 @@ pub(crate) fn log_of(alloc: Global, script: &Script, thread: u32) -> MemoryLog
     }
 }
 
-/// Does a task and tells its answer. It fails only for want of memory, and then nothing is done.
+/// Does what a task asks for, and gives its answer. It fails only for want of memory, and then nothing is done.
 pub fn carry_out<R: Wait, I: Idle>(
     rt: &R,
     alloc: Global,
     desk: &mut Desk,
     log: &mut MemoryLog,
     scan: &mut Scan,
-    task: &Task,
+    action: &Action,
     idle: &mut I,
 ) -> Result<Answer, AllocError>
-    ensures does { IfOk result (Does task.now (session_of desk.old log.old scan.old)
+    ensures does { IfOk result (Does action.now (session_of desk.old log.old scan.old)
         (session_of desk.new log.new scan.new)) }
     ensures goes_on { GoesOn desk.old desk.new }
     ensures kept { AllKept desk.old → AllKept desk.new }
@@ -53,12 +53,12 @@ pub fn carry_out<R: Wait, I: Idle>(
     ensures unlogged { OnErr result (log.new ≡ log.old) }
     ensures unscanned { OnErr result (scan.new ≡ scan.old) }
     ensures idled { I.leads idle.old idle.new }
-    ensures prompt { ¬ MayWait task.now (session_of desk.old log.old scan.old) → idle.new ≡ idle.old }
+    ensures prompt { ¬ MayWait action.now (session_of desk.old log.old scan.old) → idle.new ≡ idle.old }
 {
-    match task {
-        Task::Call(called) => answer(rt, alloc, desk, scan, called, idle),
-        Task::CommitAll(asked) => commit(rt, alloc, desk, log, asked, idle),
-        Task::Resolve(asked) => resolve_left(rt, alloc, desk, log, scan, asked, idle),
+    match action {
+        Action::Call(called) => answer(rt, alloc, desk, scan, called, idle),
+        Action::CommitAll(asked) => commit(rt, alloc, desk, log, asked, idle),
+        Action::Resolve => resolve_left(rt, alloc, desk, log, scan, idle),
     }
 }
 

@@ -22,7 +22,7 @@ use std::thread::Threads;
 use visitor::{NAMES, VALUE, Visitor};
 use xa_crew::run_clients;
 use xa_replay::{agrees, was_opened};
-use xa_switch::{ManagerPlan, Plan, Settled};
+use xa_switch::{Plan, Settled};
 use xa_words::Key;
 use xa_worker::Free;
 
@@ -43,21 +43,13 @@ fn accounts(alloc: Global) -> Option<Vec<(Key, u64)>> {
 fn plan_of(alloc: Global) -> Option<Plan>
     ensures threads { IfSome result (λ p. p.threads ≡ 8) }
 {
-    let mut managers = Vec::new(alloc);
-    for _ in 0..MANAGERS {
-        let manager = ManagerPlan {
-            use_async: true,
-            accounts: accounts(alloc)?,
-        };
-        managers.push(manager).ok()?;
-    }
+    let accounts = accounts(alloc)?;
     Some(Plan {
-        opening: 1,
         threads: THREADS,
         handles: 6,
         queue: 2,
         requests: 4_096,
-        managers,
+        ..xa_testing::plan_of(alloc, MANAGERS, &accounts)?
     })
 }
 

@@ -8,8 +8,9 @@ use crate::random::Random;
 use std::alloc::Global;
 use std::sync::Wait;
 use xa_crew::Client;
+use xa_crew::laws::idles_go_on;
 use xa_desk::laws::desks_go_on;
-use xa_desk::{Desk, Spin};
+use xa_desk::{Desk, Idle};
 use xa_driver::{Branch, MemoryLog, commit_all, may_commit};
 use xa_switch::{RmOp, native, xa_call, xa_complete};
 use xa_words::{
@@ -91,16 +92,18 @@ fn call_of(random: &mut Random, may_associate: bool) -> (Call, u32) {
 }
 
 // A call of XA, or a request of the manager's own, synchronous or not.
-fn call<R: Wait>(
+fn call<R: Wait, I: Idle>(
     rt: &R,
     desk: &mut Desk,
     random: &mut Random,
     may_associate: bool,
-    spin: &mut Spin,
+    idle: &mut I,
 ) -> i32
     ensures goes_on { GoesOn desk.old desk.new }
     ensures kept { AllKept desk.old → AllKept desk.new }
+    ensures idled { I.leads idle.old idle.new }
 {
+    idles_go_on::<I>();
     let m = random.below(8) + 1;
     let wait = if random.is_one_in(4) {
         TMNOFLAGS
@@ -111,20 +114,21 @@ fn call<R: Wait>(
         let Some(addition) = addition(random, 0) else {
             return 0;
         };
-        return native(rt, desk, addition, m, wait, spin);
+        return native(rt, desk, addition, m, wait, idle);
     }
     let (call, flags) = call_of(random, may_associate);
     let xid = match call {
         Call::OpenRm | Call::CloseRm => None,
         _ => shared_branch(random, m),
     };
-    xa_call(rt, desk, call, xid, m, flags | wait, spin)
+    xa_call(rt, desk, call, xid, m, flags | wait, idle)
 }
 
 // Collects an operation: any that has completed, or any at a manager, or any at all, which it waits for.
-fn collect<R: Wait>(rt: &R, desk: &mut Desk, random: &mut Random, spin: &mut Spin) -> bool
+fn collect<R: Wait, I: Idle>(rt: &R, desk: &mut Desk, random: &mut Random, idle: &mut I) -> bool
     ensures goes_on { GoesOn desk.old desk.new }
     ensures kept { AllKept desk.old → AllKept desk.new }
+    ensures idled { I.leads idle.old idle.new }
 {
     let (mut handle, mut retval) = (0, 0);
     let (m, flags) = match random.below(3) {
@@ -132,16 +136,17 @@ fn collect<R: Wait>(rt: &R, desk: &mut Desk, random: &mut Random, spin: &mut Spi
         1 => (random.below(8) + 1, TMMULTIPLE),
         _ => (0, TMMULTIPLE),
     };
-    xa_complete(rt, desk, &mut handle, &mut retval, m, flags, spin) == 0
+    xa_complete(rt, desk, &mut handle, &mut retval, m, flags, idle) == 0
 }
 
 // Shuts a manager.
-fn shut<R: Wait>(rt: &R, desk: &mut Desk, random: &mut Random, spin: &mut Spin) -> i32
+fn shut<R: Wait, I: Idle>(rt: &R, desk: &mut Desk, random: &mut Random, idle: &mut I) -> i32
     ensures goes_on { GoesOn desk.old desk.new }
     ensures kept { AllKept desk.old → AllKept desk.new }
+    ensures idled { I.leads idle.old idle.new }
 {
     let m = random.below(8) + 1;
-    native(rt, desk, RmOp::Shut, m, TMNOFLAGS, spin)
+    native(rt, desk, RmOp::Shut, m, TMNOFLAGS, idle)
 }
 
 // The branch at a manager of the thread's transaction of this number.
@@ -152,64 +157,101 @@ fn branch_of(thread: u32, number: u32, m: u32) -> Option<Branch> {
 }
 
 // A call of XA for the branch.
-fn ask<R: Wait>(rt: &R, desk: &mut Desk, call: Call, branch: &Branch, flags: u32, spin: &mut Spin)
+fn ask<R: Wait, I: Idle>(
+    rt: &R,
+    desk: &mut Desk,
+    call: Call,
+    branch: &Branch,
+    flags: u32,
+    idle: &mut I,
+)
     ensures goes_on { GoesOn desk.old desk.new }
     ensures kept { AllKept desk.old → AllKept desk.new }
+    ensures idled { I.leads idle.old idle.new }
 {
     let xid = Some(branch.xid);
-    xa_call(rt, desk, call, xid, branch.m, flags, spin);
+    xa_call(rt, desk, call, xid, branch.m, flags, idle);
+}
+
+// Adds to one of the keys of the branch's manager.
+fn add<R: Wait, I: Idle>(
+    rt: &R,
+    desk: &mut Desk,
+    random: &mut Random,
+    branch: &Branch,
+    idle: &mut I,
+)
+    ensures goes_on { GoesOn desk.old desk.new }
+    ensures kept { AllKept desk.old → AllKept desk.new }
+    ensures idled { I.leads idle.old idle.new }
+{
+    desks_go_on();
+    idles_go_on::<I>();
+    if let Some(addition) = addition(random, 1) {
+        native(rt, desk, addition, branch.m, TMNOFLAGS, idle);
+    }
 }
 
 // Opens the branch's manager, and adds to one of its keys.
-fn work_on<R: Wait>(rt: &R, desk: &mut Desk, random: &mut Random, branch: &Branch, spin: &mut Spin)
+fn work_on<R: Wait, I: Idle>(
+    rt: &R,
+    desk: &mut Desk,
+    random: &mut Random,
+    branch: &Branch,
+    idle: &mut I,
+)
     ensures goes_on { GoesOn desk.old desk.new }
     ensures kept { AllKept desk.old → AllKept desk.new }
+    ensures idled { I.leads idle.old idle.new }
 {
     desks_go_on();
-    xa_call(rt, desk, Call::OpenRm, None, branch.m, TMNOFLAGS, spin);
-    ask(rt, desk, Call::Start, branch, TMNOFLAGS, spin);
-    if let Some(addition) = addition(random, 1) {
-        native(rt, desk, addition, branch.m, TMNOFLAGS, spin);
-    }
-    ask(rt, desk, Call::End, branch, TMSUCCESS, spin);
+    idles_go_on::<I>();
+    xa_call(rt, desk, Call::OpenRm, None, branch.m, TMNOFLAGS, idle);
+    ask(rt, desk, Call::Start, branch, TMNOFLAGS, idle);
+    add(rt, desk, random, branch, idle);
+    ask(rt, desk, Call::End, branch, TMSUCCESS, idle);
 }
 
 // Whether the branches were committed. None where they may not be.
-fn commit<R: Wait>(
+fn commit<R: Wait, I: Idle>(
     rt: &R,
     alloc: Global,
     desk: &mut Desk,
     log: &mut MemoryLog,
     branches: &[Branch],
-    spin: &mut Spin,
+    idle: &mut I,
 ) -> Option<bool>
     ensures goes_on { GoesOn desk.old desk.new }
     ensures kept { AllKept desk.old → AllKept desk.new }
+    ensures idled { I.leads idle.old idle.new }
 {
     desks_go_on();
+    idles_go_on::<I>();
     if !may_commit(desk, log, branches) {
         return None;
     }
-    match commit_all(rt, alloc, desk, log, branches, spin) {
+    match commit_all(rt, alloc, desk, log, branches, idle) {
         Ok(done) => Some(done.commit),
         Err(_) => None,
     }
 }
 
 // A transaction over three managers: whether it was committed. None where it may not be.
-fn transact<R: Wait>(
+fn transact<R: Wait, I: Idle>(
     rt: &R,
     alloc: Global,
     desk: &mut Desk,
     random: &mut Random,
     log: &mut MemoryLog,
     number: u32,
-    spin: &mut Spin,
+    idle: &mut I,
 ) -> Option<bool>
     ensures goes_on { GoesOn desk.old desk.new }
     ensures kept { AllKept desk.old → AllKept desk.new }
+    ensures idled { I.leads idle.old idle.new }
 {
     desks_go_on();
+    idles_go_on::<I>();
     let thread = desk.thread();
     let first = random.below(6) + 1;
     let branches = [
@@ -217,34 +259,36 @@ fn transact<R: Wait>(
         branch_of(thread, number, first + 1)?,
         branch_of(thread, number, first + 2)?,
     ];
-    work_on(rt, desk, random, &branches[0], spin);
-    work_on(rt, desk, random, &branches[1], spin);
-    work_on(rt, desk, random, &branches[2], spin);
-    commit(rt, alloc, desk, log, branches.as_slice(), spin)
+    work_on(rt, desk, random, &branches[0], idle);
+    work_on(rt, desk, random, &branches[1], idle);
+    work_on(rt, desk, random, &branches[2], idle);
+    commit(rt, alloc, desk, log, branches.as_slice(), idle)
 }
 
 // A transaction, with what it came to. Before it some of the handles are given back.
-fn count_transaction<R: Wait>(
+fn count_transaction<R: Wait, I: Idle>(
     rt: &R,
     desk: &mut Desk,
     visitor: &mut Visitor,
     number: u32,
-    spin: &mut Spin,
+    idle: &mut I,
 )
     ensures goes_on { GoesOn desk.old desk.new }
     ensures kept { AllKept desk.old → AllKept desk.new }
+    ensures idled { I.leads idle.old idle.new }
 {
     desks_go_on();
+    idles_go_on::<I>();
     let Visitor {
         random,
         log,
         counts,
         ..
     } = visitor;
-    collect(rt, desk, random, spin);
-    collect(rt, desk, random, spin);
-    collect(rt, desk, random, spin);
-    match transact(rt, visitor.alloc, desk, random, log, number, spin) {
+    collect(rt, desk, random, idle);
+    collect(rt, desk, random, idle);
+    collect(rt, desk, random, idle);
+    match transact(rt, visitor.alloc, desk, random, log, number, idle) {
         Some(true) => counts.commits = counts.commits.saturating_add(1),
         Some(false) => counts.aborts = counts.aborts.saturating_add(1),
         None => counts.not_begun = counts.not_begun.saturating_add(1),
@@ -253,22 +297,23 @@ fn count_transaction<R: Wait>(
 
 // One thing at random. The first four threads make transactions and associate themselves with nothing else; the others
 // make calls.
-fn act<R: Wait>(rt: &R, desk: &mut Desk, visitor: &mut Visitor, number: u32, spin: &mut Spin)
+fn act<R: Wait, I: Idle>(rt: &R, desk: &mut Desk, visitor: &mut Visitor, number: u32, idle: &mut I)
     ensures goes_on { GoesOn desk.old desk.new }
     ensures kept { AllKept desk.old → AllKept desk.new }
+    ensures idled { I.leads idle.old idle.new }
 {
     let transacts = desk.thread() <= 4;
     if transacts && visitor.random.is_one_in(2) {
-        count_transaction(rt, desk, visitor, number, spin);
+        count_transaction(rt, desk, visitor, number, idle);
     } else if visitor.random.is_one_in(3) {
-        if collect(rt, desk, &mut visitor.random, spin) {
+        if collect(rt, desk, &mut visitor.random, idle) {
             visitor.counts.collected = visitor.counts.collected.saturating_add(1);
         }
     } else if visitor.random.is_one_in(4_000) {
-        let answer = shut(rt, desk, &mut visitor.random, spin);
+        let answer = shut(rt, desk, &mut visitor.random, idle);
         count(&mut visitor.counts, answer);
     } else {
-        let answer = call(rt, desk, &mut visitor.random, !transacts, spin);
+        let answer = call(rt, desk, &mut visitor.random, !transacts, idle);
         count(&mut visitor.counts, answer);
     }
 }
@@ -276,11 +321,11 @@ fn act<R: Wait>(rt: &R, desk: &mut Desk, visitor: &mut Visitor, number: u32, spi
 impl Client for Visitor {
     ghost works = { λ visitor desk visitor' desk'. Unit {0} };
 
-    fn work<R: Wait>(&mut self, rt: &R, desk: &mut Desk) {
+    fn work<R: Wait, I: Idle>(&mut self, rt: &R, desk: &mut Desk, idle: &mut I) {
         desks_go_on();
-        let mut spin = Spin::new();
+        idles_go_on::<I>();
         for number in 0..self.actions {
-            act(rt, desk, self, number, &mut spin);
+            act(rt, desk, self, number, idle);
         }
     }
 }

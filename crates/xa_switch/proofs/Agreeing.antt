@@ -1,8 +1,8 @@
 -- All threads and managers of a settled opening agree.
-use Rattle.std.proofs.Common.{◌≡◌, ℕ, zero, suc, ◌+◌, ◌-◌, ◌<◌, ◌≤◌, Bool, true, false, ◌&&◌, ◌==◌, nat_eq, cond, List, [], ◌∷◌, length, map, sym, refl, ap, ◌∙◌, subst, ⊎_elim, arith, ne_eqb, Some, None}
-use Rattle.std.specs.List.{All, Contains, IsDistinct}
-use Rattle.std.proofs.lemmas.Bool.{eqb-true, leb-true, le-leb, cases_lt}
-use Rattle.std.proofs.Math.Dec.{leb}
+use Rattle.std.proofs.Common.{◌≡◌, ℕ, zero, suc, ◌+◌, ◌-◌, ◌<◌, ◌≤◌, Bool, true, false, ◌==◌, nat_eq, cond, List, [], ◌∷◌, length, map, sym, refl, ap, ◌∙◌, subst, ⊎_elim, arith, ne_eqb, Some, None}
+use Rattle.std.specs.List.{All, Contains}
+use Rattle.std.proofs.lemmas.Bool.{eqb-true, cases_lt}
+use Rattle.xa_base.proofs.Lists.{none_twice}
 use Rattle.xa_words.specs.declared.code.Code.{Code}
 use Rattle.xa_words.specs.declared.request.Op.{Op}
 use Rattle.xa_words.specs.declared.request.Request.{Request}
@@ -11,42 +11,28 @@ use Rattle.xa_lane.specs.Ends.{Receiving}
 use Rattle.xa_tables.specs.History.{of_thread, accepted, parted}
 use Rattle.xa_tables.specs.Openings.{IsOpening}
 use Rattle.xa_desk.specs.LedgerView.{LedgerView}
-use Rattle.xa_desk.specs.DeskView.{IsKnown, is_known, ledger, sent_to, collected_from}
+use Rattle.xa_desk.specs.DeskView.{is_known, ledger, sent_to, collected_from}
 use Rattle.xa_desk.specs.Ended.{EndedView}
+use Rattle.xa_desk.proofs.Ledgers.{known_is, known_true}
 use Rattle.xa_worker.specs.Journal.{Entry, requests}
 use Rattle.xa_worker.specs.Workers.{Asking, asked, of_sender_thread, of_own_thread}
 use Rattle.xa_worker.specs.Done.{Served, IsServed, IsOrdered}
 use Rattle.xa_lane.specs.Closing.{items_in}
-use Rattle.xa_switch.specs.Seats.{HasDesks, HasWorkers, has_desk, has_worker}
+use Rattle.xa_switch.specs.Belonging.{HasDesks, HasWorkers, has_desk, has_worker}
 use Rattle.xa_switch.specs.Settling.{FollowsTables, Agree, IsSettled, ledgers_in, journal_in, find_thread, find_manager}
 use Rattle.xa_switch.specs.Closing.{column, IsClosed, desk_lane, worker_lane, thread_part, manager_part, taken_by, settling}
 use Rattle.xa_switch.proofs.Lists.{all_contains, all_map, contains_map, searched}
 use Rattle.xa_switch.proofs.OneLane.{none_of}
 use Rattle.xa_switch.proofs.Pieces.{Joint, workers_opened, request_columns, completion_columns, pair_agrees, known_at}
 
-no_numbers : IsDistinct nat_eq []
-unfolding IsDistinct
-no_numbers = tt
-
 -- nothing was sent and collected
 nothing_agrees : (t : ℕ) (J : List Entry) → of_thread t (requests J) ≡ [] → Agree t [] [] J
-nothing_agrees t J e = record { carried = e; each = λ n. ((λ h. absurd (omega arith)), (λ h. absurd (cc h))); once = no_numbers; coded = λ k q h. absurd (omega arith) }
+nothing_agrees t J e = record { carried = e; each = λ n. ((λ h. absurd (omega arith)), (λ h. absurd (cc h))); once = none_twice nat_eq; coded = λ k q h. absurd (omega arith) }
 
 agree_along : {t u : ℕ} {a b : List Op} {p q : List (ℕ × Code)} {J K : List Entry} → t ≡ u → a ≡ b → p ≡ q → J ≡ K → Agree t a p J → Agree u b q K
 agree_along {t} {u} {a} {b} {p} {q} {J} {K} e f g h x = subst (λ (v : ℕ × List Op × List (ℕ × Code) × List Entry). Agree v.0 v.1 v.2 v.3) (λ i. (e i, f i, g i, h i)) x
 
 -- ---- ledgers with a manager that is known, and with one that isn't
-
-both : (a b : Bool) → a && b ≡ true → (a ≡ true) × (b ≡ true)
-both true true e = (refl, refl)
-both true false e = cc
-both false b e = cc
-
-known_is : (at : List LedgerView) (m : ℕ) → is_known at m ≡ true → IsKnown at m
-known_is at m e = let x = both (leb 1 m) (leb m (length at)) e in record { positive = leb-true 1 m x.0; within = leb-true m (length at) x.1 }
-
-known_true : (at : List LedgerView) (m : ℕ) → IsKnown at m → is_known at m ≡ true
-known_true at m k = λ i. le-leb 1 m k.positive i && le-leb m (length at) k.within i
 
 -- ---- what no desk sent
 

@@ -7,7 +7,7 @@ use Rattle.std.proofs.lemmas.Option.{slice_get_within}
 use Rattle.xa_desk.specs.LedgerView.{LedgerView}
 use Rattle.xa_desk.specs.Ended.{EndedView, IsEnded}
 use Rattle.xa_worker.specs.Done.{Served}
-use Rattle.xa_switch.specs.Seats.{has_worker}
+use Rattle.xa_switch.specs.Belonging.{has_worker}
 use Rattle.xa_switch.specs.Settling.{ManagerPart, ReadyPart, find_manager}
 use Rattle.xa_switch.specs.Closing.{settling, manager_part, ready_part}
 use Rattle.xa_switch.specs.Again.{IsWhole, managers_in, parts_of, find_ready}

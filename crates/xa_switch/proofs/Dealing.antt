@@ -1,10 +1,9 @@
 -- Rows that are dealt into columns.
-use Rattle.std.proofs.Common.{◌≡◌, ℕ, zero, suc, ◌+◌, ◌<◌, ◌≤◌, List, [], ◌∷◌, ◌++◌, length, map, set, get_or, slice_get, replicate, drop, refl, sym, ap, ◌∙◌, subst, arith, length-append, ◌⊎◌, ⊎_elim, inl, inr, Some}
+use Rattle.std.proofs.Common.{◌≡◌, ℕ, zero, suc, ◌+◌, ◌<◌, ◌≤◌, List, [], ◌∷◌, ◌++◌, length, map, set, get_or, slice_get, drop, refl, sym, ap, ◌∙◌, subst, arith, length-append, ◌⊎◌, ⊎_elim, inl, inr, Some}
 use Rattle.std.specs.List.{All}
 use Rattle.std.proofs.lemmas.List.{get_or-map as get_or-map', map-set, length-map}
 use Rattle.std.proofs.Math.ListN.{get_or-map}
 use Rattle.std.proofs.Math.Seq.{map-set_same}
-use Rattle.std.proofs.lemmas.List.{length-replicate}
 use Rattle.std.specs.Option.{option_map}
 use Rattle.std.proofs.lemmas.Option.{slice_get_within, slice_get-map, slice_get-get_or}
 use Rattle.xa_switch.specs.Columns.{put_row, Each, AreLanes}
@@ -14,10 +13,6 @@ no_element k x e = cc
 
 nothing_left : {X : Type 0} (x : X) (ys : List X) → [] ≡ x ∷ ys → ⊥
 nothing_left x ys e = cc
-
-behind : {X : Type 0} (ys rest : List X) (x : X) → slice_get (ys ++ (x ∷ rest)) (length ys) ≡ Some x
-behind [] rest x = refl
-behind (y ∷ ys) rest x = behind ys rest x
 
 module _ {X : Type 0} where
   pub put_none : (C : List (List X)) → put_row C [] ≡ C
@@ -86,11 +81,6 @@ put_cases (c ∷ cs) [] k c' e at = absurd (omega (arith, e))
 put_cases (c ∷ cs) (x ∷ row) zero c' e at = let f : (c ++ x ∷ []) ≡ c' = cc in (c, x, refl, refl, sym f)
 put_cases (c ∷ cs) (x ∷ row) (suc k) c' e at = put_cases cs row k c' (omega (arith, e)) at
 
-pub none_deep : {X : Type 0} (n k : ℕ) (c : List X) → slice_get (replicate n []) k ≡ Some c → c ≡ []
-none_deep zero k c e = absurd (no_element k c e)
-none_deep (suc n) zero c e = let f : [] ≡ c = cc in sym f
-none_deep (suc n) (suc k) c e = none_deep n k c e
-
 module _ {S R : Type 0} (IsReceiver : ℕ → R → Type 0) (IsSender : ℕ → ℕ → S → R → Type 0) (senders : ℕ) where
   -- lanes with one more
   pub more_lanes : (lanes : ℕ) (C : List (List S)) (rs : List R) (row : List S) (r : R) → AreLanes IsReceiver IsSender senders lanes C rs → length row ≡ senders → IsReceiver lanes r → ((k : ℕ) (s : S) → slice_get row k ≡ Some s → IsSender k lanes s r)
@@ -125,16 +115,6 @@ module _ {S R : Type 0} (IsReceiver : ℕ → R → Type 0) (IsSender : ℕ → 
             (snoc_cases p.0 p.1 j s (ap (λ l. slice_get l j) (sym p.4) ∙ at_s));
       }
 
-  -- no lanes yet
-  pub no_lanes : AreLanes IsReceiver IsSender senders 0 (replicate senders []) []
-  no_lanes = record {
-    many = refl;
-    receivers = λ k r e. absurd (no_element k r e);
-    wide = length-replicate senders [];
-    deep = λ k c e. ap length (none_deep senders k c e);
-    dealt = λ k j c s r e f g. absurd (no_element j r g);
-  }
-
 -- ---- columns with room
 
 module _ {X V : Type 0} (items : V → List X) (cap : V → ℕ) where
@@ -167,7 +147,3 @@ next_left (z ∷ zs) ys (suc k) x e =
     let rest = next_left zs ys k x e in
     let more : suc k + 1 ≡ suc (k + 1) = omega arith in
     (rest.0, ap (λ n. drop n (z ∷ zs)) more ∙ rest.1)
-
--- the element after those that were taken
-pub next_taken : {X : Type 0} (xs ys rest : List X) (x : X) → ys ++ (x ∷ rest) ≡ xs → slice_get xs (length ys) ≡ Some x
-next_taken xs ys rest x e = ap (λ l. slice_get l (length ys)) (sym e) ∙ behind ys rest x

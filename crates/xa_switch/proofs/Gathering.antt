@@ -6,17 +6,13 @@ use Rattle.std.proofs.Math.ListN.{get_or-map}
 use Rattle.std.proofs.lemmas.List.Elements.{All-push}
 use Rattle.xa_switch.specs.Columns.{put_row}
 use Rattle.xa_switch.specs.Closing.{dealt, column, HasTaken, HasRoom, TakesIn}
-use Rattle.xa_switch.specs.declared.gathered.Gathered.{Gathered}
-use Rattle.xa_switch.proofs.Dealing.{length_put}
+use Rattle.xa_switch.specs.declared.settling.gathered.Gathered.{Gathered}
+use Rattle.xa_switch.proofs.Dealing.{length_put, room_stays}
 use Rattle.xa_switch.proofs.Lists.{In, in_front, in_back}
 
 pub pairs_mid : {X : Type 0} (R : X → X → Type 0) (xs : List X) (x : X) (ys : List X) → AllPairs R (xs ++ x ∷ ys) → All (R x) ys
 pairs_mid R [] x ys h = λ k d below. h 0 (suc k) d (omega arith) (omega arith)
 pairs_mid R (y ∷ xs) x ys h = pairs_mid R xs x ys (λ i j d lt below. h (suc i) (suc j) d (omega arith) (omega arith))
-
-pub all_back : {X : Type 0} (P : X → Type 0) (xs ys : List X) → All P (xs ++ ys) → All P ys
-all_back P [] ys h = h
-all_back P (x ∷ xs) ys h = all_back P xs ys (λ k d below. h (suc k) d (omega arith))
 
 module _ {X : Type 0} where
   pub length_dealt : (C rows : List (List X)) → length (dealt C rows) ≡ length C
@@ -99,13 +95,6 @@ module _ {V X : Type 0} (items : V → List X) where
 
 -- ---- pieces that are taken in
 
-deep_still : {V : Type 0} (cap : V → ℕ) (C C' : List V) (n : ℕ) → map cap C' ≡ map cap C → All (λ c. n ≤ cap c) C → All (λ c. n ≤ cap c) C'
-deep_still cap C C' n same deep k d below =
-    let many : length C' ≡ length C = sym (length-map C' cap) ∙ ap length same ∙ length-map C cap in
-    let cap_is : cap (get_or C' k d) ≡ cap (get_or C k d) = sym (get_or-map cap C' k d) ∙ ap (λ l. get_or l k (cap d)) same ∙ get_or-map cap C k d in
-    let here = deep k d (omega (arith, many)) in
-    omega (arith, cap_is, here)
-
 module _ {E R P : Type 0} where
   -- where fewer were taken in than there is room for, there is room for one more
   pub room_left : {X : Type 0} (n : ℕ) (f : X → List E) (g : X → ℕ × R) (h : X → P) (Y : List X) (r : Gathered E R P) → HasTaken n (map f Y) (map g Y) (map h Y) r → length Y < n → HasRoom r
@@ -120,7 +109,7 @@ module _ {E R P : Type 0} where
       → HasTaken n (map f Y) (map g Y) (map h Y) r → TakesIn (f x) (g x) (h x) r r' → HasTaken n (map f (Y ++ x ∷ [])) (map g (Y ++ x ∷ [])) (map h (Y ++ x ∷ [])) r'
   one_more_taken n f g h Y x r r' taken takes = record {
     columns = takes.columns ∙ ap (λ C. put_row C (f x)) taken.columns ∙ sym (dealt_snoc (replicate 8 []) (map f Y) (f x)) ∙ ap (dealt (replicate 8 [])) (sym (map-append f Y (x ∷ [])));
-    deep = deep_still (λ c. vec_capacity c) r.columns.items r'.columns.items n takes.depth taken.deep;
+    deep = room_stays (λ c. vec_capacity c) r.columns.items r'.columns.items n takes.depth taken.deep;
     lanes = takes.lanes ∙ ap (λ l. l ++ g x ∷ []) taken.lanes ∙ sym (map-append g Y (x ∷ []));
     lanes_room = let e = takes.lanes_room in let c = taken.lanes_room in omega (arith, e, c);
     parts = takes.parts ∙ ap (λ l. l ++ h x ∷ []) taken.parts ∙ sym (map-append h Y (x ∷ []));

@@ -1,9 +1,9 @@
 -- What is outstanding stays kept under a number, as a desk calls and collects.
-use Rattle.std.proofs.Common.{◌≡◌, ◌≢◌, ℕ, ℤ, ◌-◌, ⊎_elim, zero, suc, Bool, true, false, List, [], ◌∷◌, length, arith, Option, Some, None, Result, Ok, Err, sym, refl, ap, ◌∙◌, subst, inl, inr}
-use Rattle.std.specs.Prelude.{nat_le, All}
+use Rattle.std.proofs.Common.{◌≡◌, ◌≢◌, ℕ, ℤ, ◌-◌, ⊎_elim, zero, suc, Bool, true, false, List, [], length, arith, Option, Some, None, Result, Ok, Err, sym, refl, ap, ◌∙◌, subst, inl, inr}
+use Rattle.std.specs.Prelude.{All}
 use Rattle.std.specs.List.{slice_index_or}
 use Rattle.std.proofs.lemmas.Option.{slice_get-get_or}
-use Rattle.std.proofs.lemmas.Bool.{cases_eq, cases_Bool, and_parts, leb-true}
+use Rattle.std.proofs.lemmas.Bool.{cases_eq, cases_Bool}
 use Rattle.std.specs.Ordering.{nat_cmp}
 use Rattle.std.specs.FinMap as finmap
 use Rattle.xa_words.specs.declared.code.Code.{Code}
@@ -12,28 +12,28 @@ use Rattle.xa_words.specs.declared.flags.Mode.{Mode}
 use Rattle.xa_words.specs.declared.request.Op.{Op}
 use Rattle.xa_desk.specs.declared.operation.Operation.{Operation}
 use Rattle.xa_desk.specs.LedgerView.{LedgerView}
-use Rattle.xa_desk.specs.DeskView.{DeskView, IsKnown, IsOut, is_known, ledger, next_operation, no_ledger, outstanding}
+use Rattle.xa_desk.specs.DeskView.{DeskView, IsKnown, IsOut, is_known, ledger, next_operation, outstanding}
 use Rattle.xa_desk.specs.Kept.{AllKept, HoldsNone}
 use Rattle.xa_desk.specs.Lanes.{submitted, after_fulls, new_ledgers}
 use Rattle.xa_desk.specs.Looks.{EndsQuiet, Collects, TakesKept}
+use Rattle.xa_desk.proofs.Ledgers.{known_is}
+use Rattle.xa_desk.proofs.Fresh.{fresh_sent}
 use Rattle.xa_worker.specs.Workers.{WorkerView}
 use Rattle.xa_switch.specs.Plans.{Setup}
-use Rattle.xa_switch.specs.Openings.{IsNewDesk, AreOfOneOpening}
+use Rattle.xa_switch.specs.OpenedPieces.{IsNewDesk, AreOfOneOpening}
 use Rattle.xa_switch.specs.Putting.{put_refusal, Puts, Calls}
 use Rattle.xa_switch.specs.Putting.Puts.{refused, full, kept, answered}
 use Rattle.xa_switch.specs.Completing.{CompletesOne, CompletesAny, CompletesAt, CompletesBy, CollectsRedeemed, may_complete}
 use Rattle.xa_switch.specs.Completing.CompletesOne.{unknown, retry as retry_one, ready, waited}
 use Rattle.xa_switch.specs.Completing.CompletesAny.{nothing, retry as retry_any, least}
 use Rattle.xa_base.proofs.Maps.{inserted_there, inserted_other, removed_other}
+use Rattle.xa_base.proofs.Options.{not_both}
 use Rattle.xa_switch.proofs.Outstanding.{out_sent, out_collected, none_outstanding}
 
 -- ---- what is kept under which number
 
 abbrev Handles : Type 0
 Handles = finmap.FinMap nat_cmp Operation
-
-not_none : (o : Option Operation) (p : Operation) → o ≡ None → o ≡ Some p → ⊥
-not_none o p e f = cc
 
 other_operation : (o : Option Operation) (p q : Operation) → o ≡ Some p → o ≡ Some q → q ≡ p
 other_operation o p q e f = cc
@@ -85,18 +85,13 @@ takes_keep old new k c is all = record {
 
 -- ---- putting
 
-is_known_of : (at : List LedgerView) (m : ℕ) → is_known at m ≡ true → IsKnown at m
-is_known_of at m e =
-    let parts = and_parts (nat_le 1 m) (nat_le m (length at)) e in
-    record { positive = leb-true 1 m parts.0; within = leb-true m (length at) parts.1 }
-
 some_refusal : (d : DeskView) (m : ℕ) (b : Bool) → is_known d.ledgers m ≡ false → put_refusal d m b ≡ None → ⊥
 some_refusal d m false missing e = let f : put_refusal d m false ≡ Some Inval = rw missing refl in cc
 some_refusal d m true missing e = let f : put_refusal d m true ≡ Some Inval = rw missing refl in cc
 
 pub known_here : (d : DeskView) (m : ℕ) (b : Bool) → put_refusal d m b ≡ None → IsKnown d.ledgers m
 known_here d m b e = elim (cases_Bool (is_known d.ledgers m)) [
-  | inl there ↦ is_known_of d.ledgers m there
+  | inl there ↦ known_is d.ledgers m there
   | inr missing ↦ absurd (some_refusal d m b missing e)
 ]
 
@@ -117,7 +112,7 @@ inserted_keep old m op k known unkept all = record {
       (λ (e : p ≡ next). (k, inserted_there old.kept k next ∙ ap (λ (o : Operation). Some o) (sym e)))
       (λ (before : IsOut old.ledgers p).
       let j = all.each p before in
-      let differs : j.0 ≢ k = λ same. not_none (finmap.get old.kept k) p unkept (subst (λ n. finmap.get old.kept n ≡ Some p) same j.1) in
+      let differs : j.0 ≢ k = λ same. not_both (finmap.get old.kept k) p unkept (subst (λ n. finmap.get old.kept n ≡ Some p) same j.1) in
       (j.0, inserted_other old.kept k next j.0 differs ∙ j.1))
       (out_sent old.ledgers m op known p out);
 }
@@ -167,18 +162,12 @@ by_keep (Err c) old k m new r is all = subst AllKept (sym is.1) all
 
 -- where nothing is kept, nothing is outstanding
 nothing_out : (d : DeskView) → AllKept d → HoldsNone d → (o : Operation) → IsOut d.ledgers o → ⊥
-nothing_out d all empty o out = let k = all.each o out in not_none (finmap.get d.kept k.0) o (empty k.0) k.1
+nothing_out d all empty o out = let k = all.each o out in not_both (finmap.get d.kept k.0) o (empty k.0) k.1
 
 pub none_left : (d : DeskView) → AllKept d → HoldsNone d → outstanding d.ledgers ≡ 0
 none_left d all empty = none_outstanding d.ledgers (nothing_out d all empty)
 
 -- ---- a desk that was opened
-
--- nothing was sent to any manager
-fresh_sent : (plan : ℕ) (flags : List Bool) (i : ℕ) → (slice_index_or (new_ledgers plan flags) i no_ledger).sent ≡ []
-fresh_sent plan [] i = refl
-fresh_sent plan (b ∷ flags) zero = refl
-fresh_sent plan (b ∷ flags) (suc i) = fresh_sent plan flags i
 
 -- so nothing is outstanding
 new_kept : (p : Setup) (t : ℕ) (d : DeskView) → IsNewDesk p t d → AllKept d

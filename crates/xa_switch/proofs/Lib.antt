@@ -19,4 +19,4 @@ mod Planned
 pub mod Scanning
 mod Retaken
 mod Recovered
-mod Refusals
+pub mod Refusals

@@ -3,6 +3,7 @@ use Rattle.std.proofs.Common.{◌≡◌, ℕ, zero, suc, ◌<◌, Bool, true, fa
 use Rattle.std.specs.List.{list_any, find, Contains, All, AllPairs}
 use Rattle.std.proofs.lemmas.Option.{slice_get-get_or, slice_get-map}
 use Rattle.std.proofs.lemmas.List.{get_or-map, length-map, get_or_default}
+use Rattle.std.proofs.lemmas.Bool.{or_parts}
 use Rattle.xa_base.proofs.Lists.{contains_at}
 
 -- y is an element
@@ -33,11 +34,6 @@ in_map f y (x ∷ xs) h = ⊎_elim (λ (e : f x ≡ y). (x, inl refl, e)) (λ (i
 pub all_contains : {X : Type 0} (P : X → Type 0) (xs : List X) (x : X) → All P xs → Contains xs x → P x
 all_contains P xs x h c = subst P c.2 (h c.0 x c.1)
 
-pub element_at : {X : Type 0} (xs : List X) (k : ℕ) → k < length xs → (x : X) × (slice_get xs k ≡ Some x)
-element_at [] k h = absurd (omega arith)
-element_at (x ∷ xs) zero h = (x, refl)
-element_at (x ∷ xs) (suc k) h = element_at xs k (omega (arith, h))
-
 pub in_back : {X : Type 0} (y : X) (xs : List X) → In y (xs ++ y ∷ [])
 in_back y [] = inl refl
 in_back y (x ∷ xs) = inr (in_back y xs)
@@ -51,15 +47,6 @@ get_contained xs x c = slice_get-get_or xs c.0 x c.1 ∙ ap Some c.2
 
 pub contains_map : {X Y : Type 0} (f : X → Y) (xs : List X) (x : X) → Contains xs x → Contains (map f xs) (f x)
 contains_map f xs x c = contains_at (map f xs) c.0 (f x) (slice_get-map f xs c.0 ∙ ap (option_map f) (get_contained xs x c))
-
--- what stands in a mapped list is what f gives of an element
-pub get_map : {X Y : Type 0} (f : X → Y) (xs : List X) (k : ℕ) (y : Y) → slice_get (map f xs) k ≡ Some y → (x : X) × (slice_get xs k ≡ Some x) × (f x ≡ y)
-get_map f [] k y e = cc
-get_map f (x ∷ xs) zero y e = let g : f x ≡ y = cc in (x, refl, g)
-get_map f (x ∷ xs) (suc k) y e = get_map f xs k y e
-
-pub get_below : {X : Type 0} (xs : List X) (k : ℕ) (d : X) → k < length xs → slice_get xs k ≡ Some (get_or xs k d)
-get_below xs k d h = slice_get-get_or xs k d h
 
 pub contains_place : {X : Type 0} (xs : List X) (k : ℕ) (d : X) → k < length xs → Contains xs (get_or xs k d)
 contains_place xs k d h = (k, h, get_or_default xs k (get_or xs k d) d h)
@@ -115,14 +102,10 @@ pub searched : {X Y : Type 0} (f : X → Y) (p : Y → Bool) (xs : List X) → S
 searched f p [] = inr (refl, refl)
 searched f p (x ∷ xs) = searched_step f p x xs (p (f x)) refl (searched f p xs)
 
-neither : (a b : Bool) → (a || b) ≡ false → (a ≡ false) × (b ≡ false)
-neither true b e = cc
-neither false b e = (refl, e)
-
 fails_in : {X : Type 0} (p : X → Bool) (xs : List X) (x : X) → In x xs → list_any p xs ≡ false → p x ≡ false
 fails_in p [] x h none = absurd h
 fails_in p (y ∷ ys) x h none =
-    let both = neither (p y) (list_any p ys) none in
+    let both = or_parts (p y) (list_any p ys) none in
     ⊎_elim (λ (same : y ≡ x). ap p (sym same) ∙ both.0) (λ (i : In x ys). fails_in p ys x i both.1) h
 
 -- a test that none passes is failed by each

@@ -1,11 +1,11 @@
 -- Desks and workers of one opening.
-use Rattle.std.proofs.Common.{◌≡◌, ℕ, zero, suc, ◌+◌, ◌<◌, ◌≤◌, List, [], ◌∷◌, length, slice_get, get_or, refl, sym, ap, ◌∙◌, subst, arith, map, Some}
+use Rattle.std.proofs.Common.{◌≡◌, ℕ, suc, ◌+◌, ◌≤◌, List, [], ◌∷◌, length, slice_get, refl, sym, ap, ◌∙◌, subst, arith, map, Some}
 use Rattle.std.specs.List.{All}
 use Rattle.std.proofs.lemmas.List.{length-map}
-use Rattle.std.proofs.lemmas.Option.{slice_get_within, slice_get-get_or}
+use Rattle.std.proofs.lemmas.Option.{slice_get_within}
 use Rattle.xa_switch.specs.Columns.{Each}
 use Rattle.xa_switch.specs.Lanes.{AreNewLanes, IsRequestSender, IsCompletionSender}
-use Rattle.xa_switch.specs.Openings.{desk_parts, worker_parts, DesksFit, WorkersFit, IsDeskOf, IsWorkerOf, IsLaidOut, IsNewDesk, IsNewWorker, ShareNewLanes, AreOfOneOpening}
+use Rattle.xa_switch.specs.OpenedPieces.{desk_parts, worker_parts, DesksFit, WorkersFit, IsDeskOf, IsWorkerOf, IsLaidOut, IsNewDesk, IsNewWorker, ShareNewLanes, AreOfOneOpening}
 use Rattle.xa_words.specs.declared.request.Request.{Request}
 use Rattle.xa_words.specs.declared.request.Completion.{Completion}
 use Rattle.xa_lane.specs.Ends.{Sending, Receiving}
@@ -16,28 +16,14 @@ use Rattle.xa_worker.specs.Workers.{Reserved, Asking, WorkerView, new_worker}
 use Rattle.xa_tables.specs.Tables.{Tables}
 use Rattle.xa_tables.specs.Managers.{Managed}
 use Rattle.std.proofs.lemmas.List.Elements.{All-map}
+use Rattle.xa_base.proofs.Lists.{got, all_from, was_mapped}
 use Rattle.xa_tables.specs.Openings.{IsOpening}
 use Rattle.xa_switch.specs.Plans.{Setup, setup, manager_room, new_manager, completion_room}
-use Rattle.xa_switch.specs.declared.layout.Layout.{Layout}
-
--- an element that is there
-pub element : {X : Type 0} (xs : List X) (k : ℕ) → k < length xs → (x : X) × (slice_get xs k ≡ Some x)
-element [] k h = absurd (omega arith)
-element (x ∷ xs) zero h = (x, refl)
-element (x ∷ xs) (suc k) h = element xs k (omega arith)
-
-pub same_element : {X : Type 0} (xs : List X) (k : ℕ) (x y : X) → slice_get xs k ≡ Some x → slice_get xs k ≡ Some y → x ≡ y
-same_element xs k x y e f = cc
+use Rattle.xa_switch.specs.declared.opening.layout.Layout.{Layout}
 
 -- an element of the list that a function makes
 pub mapped : {X Y : Type 0} (f : X → Y) (xs : List X) (k : ℕ) (y : Y) → slice_get (map f xs) k ≡ Some y → (x : X) × (slice_get xs k ≡ Some x) × (y ≡ f x)
-mapped f [] k y e = cc
-mapped f (x ∷ xs) zero y e = let h : f x ≡ y = cc in (x, refl, sym h)
-mapped f (x ∷ xs) (suc k) y e = mapped f xs k y e
-
--- what holds of each element with its place holds of each element
-all_each : {X : Type 0} (P : X → Type 0) (xs : List X) → Each (λ k x. P x) xs → All P xs
-all_each P xs each k d low = each k (get_or xs k d) (slice_get-get_or xs k d low)
+mapped f xs k y e = let was = was_mapped f xs k y e in (was.0, was.1, sym was.2)
 
 -- the lanes of requests, by rising manager, and the lanes of completions, by rising thread
 abbrev AreRequestLanes : ℕ → ℕ → ℕ → ℕ → List (List (Sending Request)) → List (Receiving Request) → Type 0
@@ -67,7 +53,7 @@ module _ (p : Setup) (deskparts : List PartsView) (workerparts : List Reserved) 
       let low = slice_get_within c m s at_s in
       let deep = is.requests.deep t c at in
       let many = is.requests.many in
-      let r = element takes m (omega (arith, low, deep, many)) in
+      let r = got takes m (omega (arith, low, deep, many)) in
       (is.requests.dealt t m c s r.0 at at_s r.1).0
 
   completion_senders : (m : ℕ) (c : List Answering) → slice_get answers m ≡ Some c → Each (IsCompletionSender p.numbers.opening (completion_room p.numbers p.managers) m) c
@@ -75,7 +61,7 @@ module _ (p : Setup) (deskparts : List PartsView) (workerparts : List Reserved) 
       let low = slice_get_within c t s at_s in
       let deep = is.completions.deep m c at in
       let many = is.completions.many in
-      let r = element hears t (omega (arith, low, deep, many)) in
+      let r = got hears t (omega (arith, low, deep, many)) in
       (is.completions.dealt m t c s r.0 at at_s r.1).0
 
   -- a manager's room and threads are the plan's
@@ -104,7 +90,7 @@ module _ (p : Setup) (deskparts : List PartsView) (workerparts : List Reserved) 
           senders = ap (λ x. x.senders) receiver ∙ sym managers;
         },
         record {
-          sent = all_each (λ s. s.sent ≡ []) c (λ m s at_s. ap (λ x. x.sent) (senders m s at_s));
+          sent = all_from (λ s. s.sent ≡ []) c (λ m s at_s. ap (λ x. x.sent) (senders m s at_s));
           taken = ap (λ x. x.taken) receiver;
         },
       )
@@ -125,7 +111,7 @@ module _ (p : Setup) (deskparts : List PartsView) (workerparts : List Reserved) 
   -- a manager with its senders of completions
   completions_fit : (m : ℕ) (x : Managed) (c : List Answering) → slice_get managed m ≡ Some x → slice_get answers m ≡ Some c → (length c ≡ x.threads) × All (λ s. s.sent ≡ []) c
   completions_fit m x c at_x at_c =
-      (is.completions.deep m c at_c ∙ sym (managed_is m x at_x).0, all_each (λ s. s.sent ≡ []) c (λ t s at_s. ap (λ y. y.sent) (completion_senders m c at_c t s at_s)))
+      (is.completions.deep m c at_c ∙ sym (managed_is m x at_x).0, all_from (λ s. s.sent ≡ []) c (λ t s at_s. ap (λ y. y.sent) (completion_senders m c at_c t s at_s)))
 
   pub workers_fit : p.numbers.threads ≤ 8 → WorkersFit workerparts managed takes answers
   workers_fit low = record { memory = manager_fits low; requests = requests_fit; completions = completions_fit }
@@ -161,8 +147,8 @@ module _ (p : Setup) (deskparts : List PartsView) (workerparts : List Reserved) 
       let m_many = is.managers in
       let asks_deep = is.requests.deep t of_d.requests of_d.requests_at in
       let answers_deep = is.completions.deep m of_w.senders of_w.senders_at in
-      let s = element of_d.requests m (omega (arith, m_low, m_many, asks_deep)) in
-      let a = element of_w.senders t (omega (arith, t_low, t_many, answers_deep)) in
+      let s = got of_d.requests m (omega (arith, m_low, m_many, asks_deep)) in
+      let a = got of_w.senders t (omega (arith, t_low, t_many, answers_deep)) in
       subst (λ x. ShareNewLanes t m x w) (sym of_d.made)
       (subst (λ x. ShareNewLanes t m (new_desk of_d.part of_d.requests of_d.completions) x) (sym of_w.made)
       (record {

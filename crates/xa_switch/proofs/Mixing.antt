@@ -2,19 +2,17 @@
 use Rattle.std.proofs.Common.{◌≡◌, ◌≢◌, ℕ, suc, ◌<◌, ◌≤◌, List, [], ◌∷◌, ◌++◌, length, length-append, map, get_or, sym, refl, ap, ◌∙◌, subst, ⊎_elim, arith}
 use Rattle.std.specs.List.{All, AllPairs, swap}
 use Rattle.std.proofs.lemmas.Bool.{cases_lt, cases_eq}
-use Rattle.std.proofs.lemmas.List.{get_or_append_left, get_or-map, length-map}
+use Rattle.std.proofs.lemmas.List.{get_or_append_left}
 use Rattle.std.proofs.lemmas.List.Edits.{Swapped, swapped_from_swap, length-swap}
 use Rattle.std.proofs.lemmas.List.Elements.{All-append}
 use Rattle.std.proofs.lemmas.List.Kept.{AllPairs-cons}
 use Rattle.std.proofs.lemmas.List.Sorted.{IsPermutation-keeps, All-permutation}
+use Rattle.xa_base.proofs.Lists.{all_left, all_unmapped, all_right}
 use Rattle.xa_tables.specs.Openings.{IsOpening}
-use Rattle.xa_switch.specs.Seats.{DeskSeat, WorkerSeat, AreTogether, AreApartDesks, AreApartWorkers, ComeFromOpenings, AreSomeOf, openings_of}
-use Rattle.xa_switch.proofs.Gathering.{all_back, pairs_mid}
+use Rattle.xa_switch.specs.Belonging.{DeskSeat, WorkerSeat, AreTogether, AreApartDesks, AreApartWorkers, ComeFromOpenings, AreSomeOf, openings_of}
+use Rattle.xa_switch.proofs.Gathering.{pairs_mid}
 
 -- ---- some of them, in any order
-
-all_front : {X : Type 0} (P : X → Type 0) (xs ys : List X) → All P (xs ++ ys) → All P xs
-all_front P xs ys h k d below = subst P (get_or_append_left xs ys d k below) (h k d (omega (arith, below, length-append xs ys)))
 
 pairs_front : {X : Type 0} (R : X → X → Type 0) (xs ys : List X) → AllPairs R (xs ++ ys) → AllPairs R xs
 pairs_front {X} R xs ys h i k d lt below =
@@ -53,7 +51,7 @@ module _ {X : Type 0} (R : X → X → Type 0) (flips : (x y : X) → R x y → 
   pairs_some xs ys s h = pairs_front R xs s.0 (IsPermutation-keeps ys (AllPairs R) h (λ l a b la lb. pairs_swapped l a b la lb) (xs ++ s.0) s.1)
 
 all_some : {X : Type 0} (P : X → Type 0) (xs ys : List X) → AreSomeOf xs ys → All P ys → All P xs
-all_some P xs ys s h = all_front P xs s.0 (All-permutation P ys (xs ++ s.0) s.1 h)
+all_some P xs ys s h = all_left P xs s.0 (All-permutation P ys (xs ++ s.0) s.1 h)
 
 desks_flip : (a b : DeskSeat) → AreApartDesks a b → AreApartDesks b a
 desks_flip a b h e same = h (sym e) (sym same)
@@ -77,9 +75,6 @@ pairs_append R (x ∷ xs) ys a b c =
     AllPairs-cons R x (xs ++ ys) (All-append (R x) xs ys (pairs_mid R [] x xs a) (c 0 x (omega arith)))
     (pairs_append R xs ys (λ i k d lt below. a (suc i) (suc k) d (omega (arith, lt)) (omega (arith, below))) b (λ k d below. c (suc k) d (omega (arith, below))))
 
-all_unmapped : {X Y : Type 0} (f : X → Y) (P : Y → Type 0) (xs : List X) → All P (map f xs) → All (λ x. P (f x)) xs
-all_unmapped f P xs h k d below = subst P (get_or-map f xs k d (f d) below) (h k (f d) (omega (arith, below, length-map xs f)))
-
 abbrev desk_number : DeskSeat → ℕ
 desk_number d = d.lane.opening
 
@@ -91,16 +86,16 @@ module _ (ds ds' : List DeskSeat) (ws ws' : List WorkerSeat) (own : All (λ a. A
   Differs a = All (λ b. a ≢ b) (openings_of ds' ws')
 
   from_desks : (a : ℕ) → Differs a → All (λ d. a ≢ desk_number d) ds'
-  from_desks a h = all_unmapped desk_number (λ b. a ≢ b) ds' (all_front (λ b. a ≢ b) (map desk_number ds') (map worker_number ws') h)
+  from_desks a h = all_unmapped desk_number (λ b. a ≢ b) ds' (all_left (λ b. a ≢ b) (map desk_number ds') (map worker_number ws') h)
 
   from_workers : (a : ℕ) → Differs a → All (λ w. a ≢ worker_number w) ws'
-  from_workers a h = all_unmapped worker_number (λ b. a ≢ b) ws' (all_back (λ b. a ≢ b) (map desk_number ds') (map worker_number ws') h)
+  from_workers a h = all_unmapped worker_number (λ b. a ≢ b) ws' (all_right (λ b. a ≢ b) (map desk_number ds') (map worker_number ws') h)
 
   desks_differ : All (λ d. Differs (desk_number d)) ds
-  desks_differ = all_unmapped desk_number Differs ds (all_front Differs (map desk_number ds) (map worker_number ws) own)
+  desks_differ = all_unmapped desk_number Differs ds (all_left Differs (map desk_number ds) (map worker_number ws) own)
 
   workers_differ : All (λ w. Differs (worker_number w)) ws
-  workers_differ = all_unmapped worker_number Differs ws (all_back Differs (map desk_number ds) (map worker_number ws) own)
+  workers_differ = all_unmapped worker_number Differs ws (all_right Differs (map desk_number ds) (map worker_number ws) own)
 
   pub mixed_come : ComeFromOpenings ds ws → ComeFromOpenings ds' ws' → ComeFromOpenings (ds ++ ds') (ws ++ ws')
   mixed_come h h' = record {

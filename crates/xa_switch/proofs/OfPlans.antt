@@ -15,13 +15,13 @@ use Rattle.xa_switch.specs.OfPlans.{IsOf}
 use Rattle.xa_switch.specs.Fates.{first_of}
 use Rattle.xa_switch.specs.Plans.{Setup}
 use Rattle.xa_tables.specs.Tables.{Tables}
-use Rattle.xa_switch.specs.Openings.{AreOfOneOpening, IsNewDesk, IsNewWorker}
-use Rattle.xa_switch.specs.Seats.{DeskSeat, WorkerSeat, desk_seats, worker_seats, seat_of_desk, seat_of_worker, seat_of_ended, seat_of_done, first_opening, AreAll}
+use Rattle.xa_switch.specs.OpenedPieces.{AreOfOneOpening, IsNewDesk, IsNewWorker}
+use Rattle.xa_switch.specs.Belonging.{DeskSeat, WorkerSeat, desk_seats, worker_seats, seat_of_desk, seat_of_worker, seat_of_ended, seat_of_done, first_opening, AreAll}
 use Rattle.xa_switch.specs.Settling.{ThreadPart, ManagerPart, find_manager}
 use Rattle.xa_words.specs.declared.request.Completion.{Completion}
 use Rattle.xa_lane.specs.Ends.{Receiving}
-use Rattle.xa_base.proofs.Lists.{contains_at}
-use Rattle.xa_switch.proofs.Lists.{all_map, contains_map, get_contained, get_map, element_at, fails_each, searched}
+use Rattle.xa_base.proofs.Lists.{contains_at, got, was_mapped}
+use Rattle.xa_switch.proofs.Lists.{all_map, contains_map, get_contained, fails_each, searched}
 
 -- a list whose elements have rising numbers
 numbers_of : {X : Type 0} (f : X → ℕ) (a : ℕ) (xs : List X) → Each (λ k x. f x ≡ a + k) xs → map f xs ≡ range_with_len a (length xs)
@@ -42,8 +42,8 @@ module _ (p : Setup) (ds : List DeskView) (ws : List WorkerView) (o : AreOfOneOp
   worker_of : (v : Served) → Contains vs v → (k : ℕ) × (w : WorkerView) × (slice_get ws k ≡ Some w) × (seat_of_worker w ≡ seat_of_done v)
   worker_of v in_v =
       let there : Contains (map seat_of_worker ws) (seat_of_done v) = Contains-permutation (worker_seats vs) (map seat_of_worker ws) (seat_of_done v) (IsPermutation-sym _ _ workers) (contains_map seat_of_done vs v in_v) in
-      let got = get_map seat_of_worker ws there.0 (seat_of_done v) (get_contained (map seat_of_worker ws) (seat_of_done v) there) in
-      (there.0, got.0, got.1, got.2)
+      let found = was_mapped seat_of_worker ws there.0 (seat_of_done v) (get_contained (map seat_of_worker ws) (seat_of_done v) there) in
+      (there.0, found.0, found.1, found.2)
 
   opened_with : (m : ℕ) (T : Tables) → slice_get p.first m ≡ Some T → (v : Served) → Contains vs v → v.number ≡ m + 1 → v.first ≡ T
   opened_with m T begins v in_v number =
@@ -61,11 +61,11 @@ module _ (p : Setup) (ds : List DeskView) (ws : List WorkerView) (o : AreOfOneOp
       let below = slice_get_within p.first m T begins in
       let many = o.managers in
       let first_many = o.tables in
-      let opened = element_at ws m (omega (arith, below, many, first_many)) in
+      let opened = got ws m (omega (arith, below, many, first_many)) in
       let w : WorkerView = opened.0 in
       let there : Contains (worker_seats vs) (seat_of_worker w) = Contains-permutation (map seat_of_worker ws) (worker_seats vs) (seat_of_worker w) workers (contains_map seat_of_worker ws w (contains_at ws m w opened.1)) in
-      let got = get_map seat_of_done vs there.0 (seat_of_worker w) (get_contained (worker_seats vs) (seat_of_worker w) there) in
-      (got.0, contains_at vs there.0 got.0 got.1, ap (λ (s : WorkerSeat). s.number) got.2 ∙ ap (λ (x : WorkerView). x.number) (o.workers m w opened.1).made)
+      let found = was_mapped seat_of_done vs there.0 (seat_of_worker w) (get_contained (worker_seats vs) (seat_of_worker w) there) in
+      (found.0, contains_at vs there.0 found.0 found.1, ap (λ (s : WorkerSeat). s.number) found.2 ∙ ap (λ (x : WorkerView). x.number) (o.workers m w opened.1).made)
 
   found_with : (es : List EndedView) (m : ℕ) (T : Tables) → slice_get p.first m ≡ Some T → first_of (settling es vs) (m + 1) ≡ Some T
   found_with es m T begins =

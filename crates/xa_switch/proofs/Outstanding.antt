@@ -1,8 +1,7 @@
 -- What is outstanding as operations are sent and collected.
 use Rattle.std.proofs.Common.{◌≡◌, ◌≢◌, ℕ, ◌+◌, ◌-◌, ◌<◌, ◌≤◌, ◌⊎◌, suc, false, true, ◌||◌, nat_eq, List, [], ◌∷◌, length, sum_by, sym, refl, ap, ◌∙◌, subst, inl, inr, arith, length-append, slice_index_or}
-use Rattle.std.proofs.lemmas.List.{map-append, length-set, length-map, get_or-set_same, get_or-set_other}
+use Rattle.std.proofs.lemmas.List.{length-map}
 use Rattle.std.proofs.lemmas.List.Sums.{sum_by-cons}
-use Rattle.std.proofs.lemmas.List.Folds.{list_any-append}
 use Rattle.std.proofs.lemmas.Map.Steps.{le-length_from_below}
 use Rattle.std.proofs.lemmas.Bool.{cases_eq, cases_Bool, eqb-false, or_parts}
 use Rattle.xa_words.specs.declared.request.Op.{Op}
@@ -10,30 +9,16 @@ use Rattle.xa_words.specs.declared.code.Code.{Code}
 use Rattle.xa_desk.specs.declared.operation.Operation.{Operation}
 use Rattle.xa_desk.specs.LedgerView.{LedgerView, numbers, is_collected, with_sent, with_collected}
 use Rattle.xa_desk.specs.DeskView.{IsKnown, IsOut, ledger, no_ledger, put_ledger, after_sent, after_collected, next_operation, outstanding}
-
-same_operation : (a b : Operation) → a.manager ≡ b.manager → a.number ≡ b.number → a ≡ b
-same_operation a b e f = λ i. record { manager = e i; number = f i }
-
--- ---- the ledgers
-
-module _ (at : List LedgerView) (m : ℕ) (a : LedgerView) (known : IsKnown at m) where
-  put_same : (n : ℕ) → n ≡ m → ledger (put_ledger at m a) n ≡ a
-  put_same n e = rw e (get_or-set_same at (m - 1) a no_ledger (omega (arith, known.positive, known.within)))
-
-  put_other : (n : ℕ) → 1 ≤ n → n ≢ m → ledger (put_ledger at m a) n ≡ ledger at n
-  put_other n low differs = get_or-set_other at (m - 1) (n - 1) a no_ledger (λ e. differs (omega (arith, low, known.positive)))
-
-  known_before : (n : ℕ) → IsKnown (put_ledger at m a) n → IsKnown at n
-  known_before n k = record { positive = k.positive; within = subst (λ l. n ≤ l) (length-set at (m - 1) a) k.within }
+use Rattle.xa_desk.proofs.Ledgers.{same_operation, is_collected-push, ledger-put_same, ledger-put_other, known_before}
 
 -- what is outstanding after a sending is what was sent, or was outstanding before
 pub out_sent : (at : List LedgerView) (m : ℕ) (op : Op) → IsKnown at m → (o : Operation) → IsOut (after_sent at m op) o → (o ≡ next_operation at m) ⊎ IsOut at o
 out_sent at m op known o is =
     let a = with_sent (ledger at m) op in
-    let k = known_before at m a known o.manager is.known in
+    let k = known_before at m o.manager a is.known in
     elim (cases_eq o.manager m) [
       | inl same ↦
-          let e = put_same at m a known o.manager same in
+          let e = ap (ledger (put_ledger at m a)) same ∙ ledger-put_same at m a known in
           let within : o.number < length a.sent = subst (λ (x : LedgerView). o.number < length x.sent) e is.sent in
           let fresh : is_collected (ledger at m) o.number ≡ false = subst (λ (x : LedgerView). is_collected x o.number ≡ false) e is.open_ in
           elim (cases_eq o.number (length (ledger at m).sent)) [
@@ -45,7 +30,7 @@ out_sent at m op known o is =
             })
           ]
       | inr differs ↦
-          let e = put_other at m a known o.manager k.positive differs in
+          let e = ledger-put_other at m o.manager a known.positive k.positive differs in
           inr (record {
             known = k;
             sent = subst (λ (x : LedgerView). o.number < length x.sent) e is.sent;
@@ -53,20 +38,17 @@ out_sent at m op known o is =
           })
     ]
 
-pub collected_push : (a : LedgerView) (n : ℕ) (code : Code) (q : ℕ) → is_collected (with_collected a n code) q ≡ (is_collected a q || (nat_eq q n || false))
-collected_push a n code q = rw (map-append (λ (p : ℕ × Code). p.0) a.collected ((n, code) ∷ [])) (list_any-append (nat_eq q) (numbers a) (n ∷ []))
-
 -- what is outstanding after a collection was outstanding, and wasn't collected
 pub out_collected : (at : List LedgerView) (o : Operation) (code : Code) → IsKnown at o.manager → (p : Operation) → IsOut (after_collected at o code) p → IsOut at p × (p ≢ o)
 out_collected at o code known p is =
     let a = with_collected (ledger at o.manager) o.number code in
-    let k = known_before at o.manager a known p.manager is.known in
+    let k = known_before at o.manager p.manager a is.known in
     elim (cases_eq p.manager o.manager) [
       | inl same ↦
-          let e = put_same at o.manager a known p.manager same in
+          let e = ap (ledger (put_ledger at o.manager a)) same ∙ ledger-put_same at o.manager a known in
           let within : p.number < length (ledger at o.manager).sent = subst (λ (x : LedgerView). p.number < length x.sent) e is.sent in
           let open_now : is_collected a p.number ≡ false = subst (λ (x : LedgerView). is_collected x p.number ≡ false) e is.open_ in
-          let parts = or_parts (is_collected (ledger at o.manager) p.number) (nat_eq p.number o.number || false) (sym (collected_push (ledger at o.manager) o.number code p.number) ∙ open_now) in (
+          let parts = or_parts (is_collected (ledger at o.manager) p.number) (nat_eq p.number o.number || false) (sym (is_collected-push (ledger at o.manager) o.number code p.number) ∙ open_now) in (
             record {
               known = k;
               sent = subst (λ n. p.number < length (ledger at n).sent) (sym same) within;
@@ -75,7 +57,7 @@ out_collected at o code known p is =
             λ is_o. eqb-false p.number o.number (or_parts (nat_eq p.number o.number) false parts.1).0 (ap (λ (q : Operation). q.number) is_o),
           )
       | inr differs ↦
-          let e = put_other at o.manager a known p.manager k.positive differs in (
+          let e = ledger-put_other at o.manager p.manager a known.positive k.positive differs in (
             record {
               known = k;
               sent = subst (λ (x : LedgerView). p.number < length x.sent) e is.sent;

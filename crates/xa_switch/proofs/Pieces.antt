@@ -19,10 +19,10 @@ use Rattle.xa_worker.specs.Outgoing.{Answering}
 use Rattle.xa_worker.specs.Workers.{Asking}
 use Rattle.xa_worker.specs.Done.{Served, IsServed, IsOrdered}
 use Rattle.xa_switch.specs.Settling.{Agree, answers}
-use Rattle.xa_switch.specs.Seats.{EndSeat, WorkerSeat, end_seat, seat_of_ended, seat_of_done, ShareLanes, AreTogether, AreApartDesks, AreApartWorkers, ComeFromOpenings, desk_seats, worker_seats, desk_opening, worker_opening, first_opening, AreOfOne, HasDesks, HasWorkers, has_desk, has_worker, AreAll}
+use Rattle.xa_switch.specs.Belonging.{EndSeat, WorkerSeat, end_seat, seat_of_ended, seat_of_done, ShareLanes, AreTogether, AreApartDesks, AreApartWorkers, ComeFromOpenings, desk_seats, worker_seats, desk_opening, worker_opening, first_opening, AreOfOne, HasDesks, HasWorkers, has_desk, has_worker, AreAll}
 use Rattle.xa_switch.specs.Closing.{dealt, column, IsClosable, IsClosed, desk_lane, worker_lane}
-use Rattle.xa_base.proofs.Lists.{contains_at}
-use Rattle.xa_switch.proofs.Lists.{In, all_map, pairs_map, pairs_at, all_contains, contains_in, get_contained, contains_map, contains_place, get_map}
+use Rattle.xa_base.proofs.Lists.{contains_at, was_mapped}
+use Rattle.xa_switch.proofs.Lists.{In, all_map, pairs_map, pairs_at, all_contains, contains_in, get_contained, contains_map, contains_place}
 use Rattle.xa_switch.proofs.Gathering.{dealt_adds, dealt_all, column_none}
 use Rattle.xa_switch.proofs.OneLane.{Answers, asked_there, answered_there, taken_whole, in_drained, in_part, placed, drawn_law}
 
@@ -70,14 +70,14 @@ module _ (ds : List EndedView) (ws : List Served) (h : Whole ds ws) where
   pub sends_at : (d : EndedView) (w : Served) → Contains ds d → Contains ws w → (e : Sending Request) × (slice_get d.requests (w.number - 1) ≡ Some e) × ((e.lane ≡ w.receiver.lane) × (e.line ≡ w.receiver.line)) × (e.index + 1 ≡ d.thread)
   sends_at d w cd cw =
       let s = pair_at d w cd cw in
-      let x = get_map (λ (e : Sending Request). end_seat e) d.requests (w.number - 1) s.asking s.asks in
+      let x = was_mapped (λ (e : Sending Request). end_seat e) d.requests (w.number - 1) s.asking s.asks in
       (x.0, x.1, (ap (λ (v : EndSeat). v.lane) x.2 ∙ s.asked.0, ap (λ (v : EndSeat). v.line) x.2 ∙ s.asked.1), ap (λ (v : EndSeat). v.index + 1) x.2 ∙ s.asker)
 
   -- the worker's end on the desk's lane
   pub answers_at : (d : EndedView) (w : Served) → Contains ds d → Contains ws w → (e : Answering) × (slice_get w.ends (d.thread - 1) ≡ Some e) × ((e.lane ≡ d.completions.lane) × (e.line ≡ d.completions.line)) × (e.index + 1 ≡ w.number)
   answers_at d w cd cw =
       let s = pair_at d w cd cw in
-      let x = get_map (λ (e : Answering). end_seat e) w.ends (d.thread - 1) s.answering s.answers in
+      let x = was_mapped (λ (e : Answering). end_seat e) w.ends (d.thread - 1) s.answering s.answers in
       (x.0, x.1, (ap (λ (v : EndSeat). v.lane) x.2 ∙ s.answered.0, ap (λ (v : EndSeat). v.line) x.2 ∙ s.answered.1), ap (λ (v : EndSeat). v.index + 1) x.2 ∙ s.answerer)
 
   pub a_desk : (d : EndedView) × Contains ds d
@@ -129,7 +129,7 @@ module _ (ds : List EndedView) (ws : List Served) (j : Joint ds ws) where
 
   request_fits : (w : Served) → Contains ws w → (i : ℕ) (row : List (Sending Request)) (e : Sending Request) → slice_get (map (λ (d : EndedView). d.requests) ds) i ≡ Some row → slice_get row (w.number - 1) ≡ Some e → RequestFits w e
   request_fits w cw i row e at_row at_e =
-      let x = get_map (λ (d : EndedView). d.requests) ds i row at_row in
+      let x = was_mapped (λ (d : EndedView). d.requests) ds i row at_row in
       let own = sends_at ds ws j.all x.0 w (contains_at ds i x.0 x.1) cw in
       let both : Some e ≡ Some own.0 = sym (ap (λ l. slice_get l (w.number - 1)) x.2 ∙ at_e) ∙ own.1 in
       let same : e ≡ own.0 = cc both in
@@ -183,7 +183,7 @@ module _ (ds : List EndedView) (ws : List Served) (j : Joint ds ws) where
 
   completion_fits : (d : EndedView) → Contains ds d → (i : ℕ) (row : List Answering) (e : Answering) → slice_get (map (λ (w : Served). w.ends) ws) i ≡ Some row → slice_get row (d.thread - 1) ≡ Some e → CompletionFits d e
   completion_fits d cd i row e at_row at_e =
-      let x = get_map (λ (w : Served). w.ends) ws i row at_row in
+      let x = was_mapped (λ (w : Served). w.ends) ws i row at_row in
       let cw = contains_at ws i x.0 x.1 in
       let own = answers_at ds ws j.all d x.0 cd cw in
       let at : slice_get x.0.ends (d.thread - 1) ≡ Some e = ap (λ l. slice_get l (d.thread - 1)) x.2 ∙ at_e in

@@ -47,11 +47,6 @@ pub some_of : {A B : Type 0} (f : A → B) (o : Option A) (y : B) → option_map
 some_of f None y e = cc
 some_of f (Some x) y e = (x, refl)
 
--- one function after the other
-pub map_both : {A B C : Type 0} (g : B → C) (f : A → B) (xs : List A) → map g (map f xs) ≡ map (λ x. g (f x)) xs
-map_both g f [] = refl
-map_both g f (x ∷ xs) = ap (λ l. g (f x) ∷ l) (map_both g f xs)
-
 -- what holds of each that a function gives
 pub all_given : {A B : Type 0} (P : B → Type 0) (f : A → B) → ((x : A) → P (f x)) → (xs : List A) → All P (map f xs)
 all_given P f each [] = All-nil P

@@ -3,6 +3,8 @@ use Rattle.std.proofs.Common.{◌≡◌, ℕ, zero, suc, ◌-◌, ◌≤◌, inl
 use Rattle.std.specs.Prelude.{◌⊎◌, Vec, slice_get}
 use Rattle.std.proofs.lemmas.Bool.{cases_Bool, eqb-true, eqb-false}
 use Rattle.std.proofs.lemmas.List.{get_or-map, get_or-set_other, length-map, map-append}
+use Rattle.std.specs.Arc.{arc_value}
+use Rattle.std.specs.declared.sync.Arc.{Arc}
 use Rattle.xa_base.proofs.Lists.{got_push}
 use Rattle.xa_words.specs.Xid.{XidName}
 use Rattle.xa_switch.specs.Columns.{Each}
@@ -14,10 +16,11 @@ left_there z zero low = absurd (omega (arith, low))
 left_there z (suc k) low = ap (λ i. slice_index_or z.left i []) (let e : k ≡ suc k - 1 = omega arith in e)
 
 -- so it is the vector there
-pub left_is : {Z : Type 0} (lists : Option (Vec (Vec XidName Z) Z)) (places : List (Option ℕ)) (v : Vec (Vec XidName Z) Z) (xs : Vec XidName Z) (m : ℕ) → lists ≡ Some v → 1 ≤ m → m ≤ length v.items → xs ≡ slice_index_or v.items (m - 1) xs
+pub left_is : {Z : Type 0} (lists : Option (Arc (Vec (Vec XidName Z) Z) Z)) (places : List (Option ℕ)) (v : Arc (Vec (Vec XidName Z) Z) Z) (xs : Vec XidName Z) (m : ℕ) → lists ≡ Some v → 1 ≤ m
+    → m ≤ length (arc_value v).items → xs ≡ slice_index_or (arc_value v).items (m - 1) xs
     → left_at (scan_of lists places) m ≡ xs.items
 left_is lists places v xs m is low high there =
-    left_there (scan_of lists places) m low ∙ ap (λ o. slice_index_or (lists_in o) (m - 1) []) is ∙ get_or-map (λ x. x.items) v.items (m - 1) xs [] (omega (arith, low, high)) ∙ ap (λ x. x.items) (sym there)
+    left_there (scan_of lists places) m low ∙ ap (λ o. slice_index_or (lists_in o) (m - 1) []) is ∙ get_or-map (λ x. x.items) (arc_value v).items (m - 1) xs [] (omega (arith, low, high)) ∙ ap (λ x. x.items) (sym there)
 
 -- a scan stands within what was left
 pub stands_within : (z : ScanView) → IsScan z → (m : ℕ) → 1 ≤ m → IfSome (slice_index_or z.places (m - 1) None) (λ k. k ≤ length (left_at z m))

@@ -12,8 +12,8 @@ use Rattle.xa_worker.specs.Outgoing.{Answering}
 use Rattle.xa_worker.specs.Workers.{WorkerView}
 use Rattle.xa_switch.specs.Plans.{Setup}
 use Rattle.xa_base.proofs.Lists.{contains_at}
-use Rattle.xa_switch.specs.Openings.{IsNewDesk, IsNewWorker, ShareNewLanes, AreOfOneOpening}
-use Rattle.xa_switch.specs.Seats.{DeskSeat, WorkerSeat, openings_of, end_seat, seat_of_desk, seat_of_worker, ShareLanes, AreTogether, AreApartDesks, AreApartWorkers, ComeFromOpenings}
+use Rattle.xa_switch.specs.OpenedPieces.{IsNewDesk, IsNewWorker, ShareNewLanes, AreOfOneOpening}
+use Rattle.xa_switch.specs.Belonging.{DeskSeat, WorkerSeat, openings_of, end_seat, seat_of_desk, seat_of_worker, ShareLanes, AreTogether, AreApartDesks, AreApartWorkers, ComeFromOpenings}
 use Rattle.xa_switch.proofs.Lists.{all_map, all_contains, pairs_map, get_contained}
 
 -- ---- an opening

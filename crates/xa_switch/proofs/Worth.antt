@@ -3,15 +3,15 @@ use Rattle.std.specs.Prelude.{ℤ, pos, ◌+ℤ◌, option_map, unwrap_or, All}
 use Rattle.std.proofs.Common.{◌≡◌, ℕ, zero, suc, ◌+◌, ◌-◌, ◌<◌, ◌≤◌, ◌==◌, true, false, cond, if◌then◌else◌, List, [], ◌∷◌, length, map, get_or, slice_get, sym, refl, ap, ◌∙◌, arith, Some, None}
 use Rattle.std.specs.List.{Contains, range_with_len}
 use Rattle.std.specs.FinMap as finmap
-use Rattle.std.proofs.lemmas.Int.{ints}
 use Rattle.std.proofs.lemmas.Bool.{eqb-true, eqb-false}
 use Rattle.std.proofs.lemmas.List.FromFn.{length-range_with_len, get_or-range_with_len}
 use Rattle.std.proofs.lemmas.List.Sorted.{IsPermutation-sym, Contains-permutation}
 use Rattle.std.proofs.lemmas.Option.{slice_get-map}
+use Rattle.std.proofs.Math.IntN.{+ℤ_idl as none_plus, +ℤ_idr as plus_none}
 use Rattle.xa_switch.specs.declared.plan.ManagerPlan.{ManagerPlan}
 use Rattle.xa_base.specs.Sums.{total}
 use Rattle.xa_base.proofs.Sums.{total_same, total_alike, total_both, total_nothing, total_across}
-use Rattle.xa_base.proofs.Lists.{contains_at, range_all}
+use Rattle.xa_base.proofs.Lists.{contains_at, range_all, got}
 use Rattle.xa_words.specs.declared.request.Request.{Request}
 use Rattle.xa_tables.specs.Tables.{Tables, value_of}
 use Rattle.xa_tables.specs.Next.{next}
@@ -27,14 +27,8 @@ use Rattle.xa_switch.specs.OfPlans.{IsOfPlan}
 use Rattle.xa_switch.specs.Settling.{ThreadPart, Settling, IsSettled, find_thread, ledgers_in, value, sent}
 use Rattle.xa_switch.specs.Fates.{IsOpenedWith, first_of, history}
 use Rattle.xa_switch.specs.Worth.{threads_of, managers_of, accounts_in, accounts_of, plan_worth, moved_at, WorthIsOfThreads}
-use Rattle.xa_switch.proofs.Lists.{all_contains, found, contains_map, element_at}
+use Rattle.xa_switch.proofs.Lists.{all_contains, found, contains_map}
 use Rattle.xa_switch.proofs.Journaled.{follows_first}
-
-none_plus : (v : ℤ) → pos 0 +ℤ v ≡ v
-none_plus v = omega (arith, ints)
-
-plus_none : (v : ℤ) → v +ℤ pos 0 ≡ v
-plus_none v = omega (arith, ints)
 
 -- ---- numbers of a range
 
@@ -110,7 +104,7 @@ module _ (p : Plan) (s : Settling) (settled : IsSettled s) (of_plan : IsOfPlan p
   -- the tables of a manager of the plan
   first_is : (m : ℕ) → 1 ≤ m → m ≤ length p.managers.items → first_of s m ≡ Some (opening (accounts_of p m))
   first_is m positive below =
-      let (plan, planned) = element_at p.managers.items (m - 1) (omega (arith, positive, below)) in
+      let (plan, planned) = got p.managers.items (m - 1) (omega (arith, positive, below)) in
       let number : m - 1 + 1 ≡ m = omega (arith, positive) in
       let begins : slice_get (map (λ (q : ManagerPlan). opening q.accounts.items) p.managers.items) (m - 1) ≡ Some (opening plan.accounts.items) =
       slice_get-map (λ (q : ManagerPlan). opening q.accounts.items) p.managers.items (m - 1) ∙ ap (option_map (λ (q : ManagerPlan). opening q.accounts.items)) planned in
@@ -123,7 +117,7 @@ module _ (p : Plan) (s : Settling) (settled : IsSettled s) (of_plan : IsOfPlan p
       (sound : All IsSoundManager p.managers.items) where
     sound_at : (m : ℕ) → 1 ≤ m → m ≤ length p.managers.items → are_accounts (accounts_of p m) ≡ true
     sound_at m positive below =
-        let (plan, planned) = element_at p.managers.items (m - 1) (omega (arith, positive, below)) in
+        let (plan, planned) = got p.managers.items (m - 1) (omega (arith, positive, below)) in
         ap (λ o. are_accounts (accounts_in o)) planned ∙ all_contains IsSoundManager p.managers.items plan sound (contains_at p.managers.items (m - 1) plan planned)
 
     at_manager : (m : ℕ) → 1 ≤ m → m < 1 + length p.managers.items

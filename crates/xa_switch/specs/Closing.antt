@@ -12,8 +12,8 @@ use Rattle.xa_worker.specs.Workers.{Asking}
 use Rattle.xa_worker.specs.Done.{Served}
 use Rattle.xa_switch.specs.Columns.{put_row}
 use Rattle.xa_switch.specs.Settling.{ThreadPart, ManagerPart, ReadyPart, Settling}
-use Rattle.xa_switch.specs.Seats.{first_opening}
-use Rattle.xa_switch.specs.declared.gathered.Gathered.{Gathered}
+use Rattle.xa_switch.specs.Belonging.{first_opening}
+use Rattle.xa_switch.specs.declared.settling.gathered.Gathered.{Gathered}
 
 -- one row after another, each element at the end of its column
 abbrev pub dealt : {X : Type 0} → List (List X) → List (List X) → List (List X)

@@ -4,9 +4,9 @@ pub mod Completing
 pub mod Plans
 pub mod Columns
 pub mod Lanes
-pub mod Openings
+pub mod OpenedPieces
 pub mod Settling
-pub mod Seats
+pub mod Belonging
 pub mod Closing
 pub mod Fates
 pub mod OfPlans

@@ -13,7 +13,7 @@ use Rattle.xa_desk.specs.DeskView.{call_refusal}
 use Rattle.xa_desk.specs.Lanes.{submitted, after_full, after_fulls}
 use Rattle.xa_desk.specs.Looks.{Collects}
 use Rattle.xa_desk.specs.Waits.{SendsAndWaits}
-use Rattle.xa_switch.specs.declared.asked.Asked.{Asked}
+use Rattle.xa_switch.specs.declared.calls.asked.Asked.{Asked}
 
 -- the code that a refusal of a desk is answered as
 abbrev pub code_of : Refused → Code

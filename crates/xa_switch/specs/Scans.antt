@@ -3,6 +3,8 @@ use Rattle.std.specs.Prelude.{◌≡◌, ◌≢◌, ℕ, zero, suc, ◌+◌, ◌
 use Rattle.std.specs.Prelude.{if◌then◌else◌, Option, None, Some}
 use Rattle.std.specs.Prelude.{is_some, List, [], ◌∷◌, ◌++◌, length, map, Vec, drop, slice_get, slice_index_or}
 use Rattle.std.specs.Prelude.{slice_set, replicate, min, Result, Ok, Err}
+use Rattle.std.specs.Arc.{arc_value}
+use Rattle.std.specs.declared.sync.Arc.{Arc}
 use Rattle.xa_base.specs.declared.limits.TheConstants.{MOST_MANAGERS}
 use Rattle.xa_words.specs.Xid.{XidName}
 use Rattle.xa_words.specs.Code.{number_of}
@@ -41,11 +43,11 @@ standing z zero place = z
 standing z (suc k) place = record z { places = slice_set z.places k place }
 
 -- what contracts see of a scan
-abbrev pub lists_in : {Z : Type 0} → Option (Vec (Vec XidName Z) Z) → List (List XidName)
+abbrev pub lists_in : {Z : Type 0} → Option (Arc (Vec (Vec XidName Z) Z) Z) → List (List XidName)
 lists_in None = []
-lists_in (Some v) = map (λ xs. xs.items) v.items
+lists_in (Some shared) = map (λ xs. xs.items) (arc_value shared).items
 
-abbrev pub scan_of : {Z : Type 0} → Option (Vec (Vec XidName Z) Z) → List (Option ℕ) → ScanView
+abbrev pub scan_of : {Z : Type 0} → Option (Arc (Vec (Vec XidName Z) Z) Z) → List (Option ℕ) → ScanView
 scan_of left places = record { left = lists_in left; places = places }
 
 -- each stands within what was left

@@ -9,7 +9,12 @@ ghost use Rattle.xa_desk.specs.Tickets.{LeavesTickets};
 ghost use Rattle.xa_switch.specs.Asking.{asked_of, native};
 ghost use Rattle.xa_switch.specs.Putting.{code_of, put_refusal, Puts, Calls, CallsAndWaits, call_waits};
 
-use crate::asked::{Asked, asked_of, native_of};
+mod asked;
+pub(crate) mod completing;
+pub(crate) mod recovering;
+pub(crate) mod scan;
+
+use crate::calls::asked::{Asked, asked_of, native_of};
 use std::sync::Wait;
 use xa_desk::laws::desks_go_on;
 use xa_desk::{Desk, Idle, Refused};

@@ -23,15 +23,15 @@ ghost use Rattle.xa_switch.specs.Again.{IsWhole, reopening, reopened_at};
 ghost use Rattle.xa_switch.specs.Closing.{settling};
 ghost use Rattle.xa_switch.specs.OfPlans.{IsOf, IsOfPlan};
 ghost use Rattle.xa_switch.specs.Plans.{Setup, IsSoundManager};
-ghost use Rattle.xa_switch.specs.Openings.{AreOfOneOpening};
+ghost use Rattle.xa_switch.specs.OpenedPieces.{AreOfOneOpening};
 ghost use Rattle.xa_switch.specs.Completing.{CollectsRedeemed};
 ghost use Rattle.xa_switch.specs.Settling.{Settling, IsSettled};
 ghost use Rattle.xa_switch.specs.Fates.{IsOpenedWith, IsSumOver, first_of};
 ghost use Rattle.xa_switch.specs.Worth.{WorthIsOfThreads, accounts_of};
-ghost use Rattle.xa_switch.specs.Seats.{DeskSeat, WorkerSeat, ComeFromOpenings, AreSomeOf, AreAll, desk_seats};
-ghost use Rattle.xa_switch.specs.Seats.{worker_seats, openings_of, seat_of_desk, seat_of_worker};
+ghost use Rattle.xa_switch.specs.Belonging.{DeskSeat, WorkerSeat, ComeFromOpenings, AreSomeOf, AreAll, desk_seats};
+ghost use Rattle.xa_switch.specs.Belonging.{worker_seats, openings_of, seat_of_desk, seat_of_worker};
 
-use crate::settled::Settled;
+use crate::settling::settled::Settled;
 use xa_tables::laws::{commits_alone_move_the_worth, value_is_sum};
 
 /// The desks and workers that an opening gives come from it.

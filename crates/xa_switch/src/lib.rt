@@ -7,34 +7,20 @@
 //! they hold in doubt.
 #![tactic(auto)]
 
-mod asked;
-mod assemble;
 mod calls;
-mod checks;
-mod closing;
 mod columns;
-mod completing;
-mod gathered;
-mod lanes;
 pub mod laws;
-mod layout;
-mod managers;
 mod opening;
 mod plan;
-mod recovering;
-mod reopening;
-mod reserve;
-mod scan;
-mod settled;
 mod settling;
 
+pub use calls::completing::xa_complete;
+pub use calls::recovering::xa_recover;
+pub use calls::scan::Scan;
 pub use calls::{native, xa_call};
-pub use completing::xa_complete;
 pub use opening::open_switch;
+pub use opening::reopening::{Unopened, reopen};
 pub use plan::{Again, ManagerPlan, OpenFault, Plan};
-pub use recovering::xa_recover;
-pub use reopening::{Unopened, reopen};
-pub use scan::Scan;
-pub use settled::Settled;
+pub use settling::settled::Settled;
 pub use settling::{Unsettled, Why, settle};
 pub use xa_words::RmOp;

@@ -1,10 +1,17 @@
 //! How an opening is made.
 ghost use Rattle.std.specs.Prelude.{◌≡◌, ◌↔◌, IfOk, IfErr, OnOk};
 ghost use Rattle.xa_switch.specs.Plans.{IsSound, planned, use_async};
-ghost use Rattle.xa_switch.specs.Openings.{AreOfOneOpening};
+ghost use Rattle.xa_switch.specs.OpenedPieces.{AreOfOneOpening};
 
-use crate::layout::{lay_out, put_together};
-use crate::managers::open_managers;
+mod assemble;
+mod lanes;
+mod layout;
+mod managers;
+pub(crate) mod reopening;
+mod reserve;
+
+use crate::opening::layout::{lay_out, put_together};
+use crate::opening::managers::open_managers;
 use crate::plan::{ManagerPlan, OpenFault, Plan};
 use std::alloc::{AllocError, Global};
 use std::sync::Wait;

@@ -2,17 +2,22 @@
 ghost use Rattle.std.specs.Prelude.{◌≡◌, ◌≤◌, length, map, IfOk, IfErr, OnOk};
 ghost use Rattle.std.specs.List.{All};
 ghost use Rattle.xa_switch.specs.Settling.{IsSettled, journal};
-ghost use Rattle.xa_switch.specs.Seats.{desk_seats, worker_seats, ComeFromOpenings, AreOfOne, AreAll, IsWhyUnsettled};
-ghost use Rattle.xa_switch.specs.Seats.{first_opening};
+ghost use Rattle.xa_switch.specs.Belonging.{desk_seats, worker_seats, ComeFromOpenings, AreOfOne, AreAll};
+ghost use Rattle.xa_switch.specs.Belonging.{IsWhyUnsettled, first_opening};
 ghost use Rattle.xa_switch.specs.Closing.{settling, HasRoomFor};
 ghost use Rattle.xa_switch.specs.Fates.{ledgers_of};
 
-use crate::checks::{are_all, are_of_one, first_opening};
-use crate::closing::close_lanes;
-use crate::gathered::{
+mod checks;
+mod closing;
+mod gathered;
+pub(crate) mod settled;
+
+use crate::settling::checks::{are_all, are_of_one, first_opening};
+use crate::settling::closing::close_lanes;
+use crate::settling::gathered::{
     Gathered, GatheredDesks, GatheredWorkers, reserve_gathered, take_desks, take_workers,
 };
-use crate::settled::Settled;
+use crate::settling::settled::Settled;
 use std::alloc::Global;
 use std::sync::Wait;
 use xa_base::MOST_SENDERS;

@@ -7,28 +7,19 @@ mod threads;
 use std::alloc::Global;
 use std::process::Abort;
 use std::sync::Wait;
-use xa_switch::{ManagerPlan, OpenFault, Plan, open_switch};
+use xa_switch::{OpenFault, Plan, open_switch};
 use xa_words::Key;
 
 // A plan of so many managers, each with the one key `a` of value 100.
-fn plan_of(rt: &impl Abort, alloc: Global, threads: u32, managers: usize) -> Plan {
-    let mut plans = Vec::new(alloc);
-    for _place in 0..managers {
-        let mut accounts = Vec::new(alloc);
-        accounts.push((key(rt, b"a"), 100)).expect(rt, "memory");
-        let plan = ManagerPlan {
-            use_async: true,
-            accounts,
-        };
-        plans.push(plan).expect(rt, "memory");
-    }
+fn plan_of(rt: &impl Abort, alloc: Global, threads: u32, managers: u32) -> Plan {
+    let accounts = [(key(rt, b"a"), 100)];
     Plan {
         opening: 7,
         threads,
         handles: 2,
         queue: 2,
         requests: 8,
-        managers: plans,
+        ..xa_testing::plan_of(alloc, managers, &accounts).expect(rt, "memory")
     }
 }
 

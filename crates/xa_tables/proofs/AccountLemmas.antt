@@ -21,6 +21,8 @@ use Rattle.std.proofs.lemmas.Float.{T_from_true}
 use Rattle.std.specs.Int.Signed.{le_z_yes}
 use Rattle.xa_words.specs.Delta.{IsDelta}
 use Rattle.std.proofs.lemmas.List.Folds.{list_any_at}
+use Rattle.std.proofs.Math.IntN.{+ℤ_idr as plus_none}
+use Rattle.xa_base.proofs.Truth.{is_equal}
 use Rattle.xa_words.specs.Key.{key_eq}
 use Rattle.xa_words.specs.Orders.{key_cmp, key_cmp_total, key_cmp-IsAntisymmetric, xid_cmp_total, xid_cmp-IsAntisymmetric, Decides-xid_eq, Decides-key_eq}
 use Rattle.xa_tables.specs.declared.accounts.Account.{Account}
@@ -28,7 +30,7 @@ use Rattle.xa_tables.specs.declared.accounts.Hold.{Hold}
 use Rattle.xa_tables.specs.declared.state.State.{State}
 use Rattle.xa_tables.specs.Tables.{Touch, touch_cmp, is_within, is_S3, value_of, sum_of, has_touched, has_other_touched, is_broken, posted}
 use Rattle.xa_tables.specs.Accounts.{IsSmall, IsGood, with_hold, hold_entries, value_entries, AreDistinct, AreDistinctEntries, hold_is_of, is_held_by, hold_is_other, hold_breaks, is_broken_by, amount_in, added_to, hold_where, hold_without, amount_of, posted_by, forgotten_by, retained_in}
-use Rattle.xa_tables.proofs.MapLemmas.{equal_from, put_one, retain_some, map_some, any_entries, Distinct}
+use Rattle.xa_tables.proofs.MapLemmas.{put_one, retain_some, map_some, any_entries, Distinct}
 
 -- touches are ordered, and no two are tied
 pub touch_cmp_total : IsTotalOrder touch_cmp
@@ -53,13 +55,13 @@ abbrev same_touch : Touch → Touch → Bool
 same_touch = eq_by_cmp touch_cmp
 
 key_from : (k l : List ℕ) → same_key k l ≡ true → k ≡ l
-key_from k l t = key_cmp-IsAntisymmetric k l (equal_from _ t)
+key_from k l t = key_cmp-IsAntisymmetric k l (is_equal _ t)
 
 pub key_self : (k : List ℕ) → same_key k k ≡ true
 key_self k = ap is_eq (tied_itself key_cmp_total k)
 
 pub touch_from : (p q : Touch) → same_touch p q ≡ true → p ≡ q
-touch_from p q t = touch_cmp-IsAntisymmetric p q (equal_from _ t)
+touch_from p q t = touch_cmp-IsAntisymmetric p q (is_equal _ t)
 
 pub touch_self : (p : Touch) → same_touch p p ≡ true
 touch_self p = ap is_eq (tied_itself touch_cmp_total p)
@@ -93,10 +95,6 @@ lacks_hold x k (a ∷ rest) h =
     ]
 
 -- accounts with keys of their own make entries with keys of their own
-pub distinct_values : (accounts : List Account) → AreDistinct accounts → Distinct key_cmp_total key_cmp-IsAntisymmetric (value_entries accounts)
-distinct_values [] h = tt
-distinct_values (a ∷ rest) h = (h.0, distinct_values rest h.1)
-
 pub distinct_holds : (accounts : List Account) → AreDistinct accounts → Distinct touch_cmp_total touch_cmp-IsAntisymmetric (hold_entries accounts)
 distinct_holds [] h = tt
 distinct_holds (a ∷ rest) h =
@@ -206,9 +204,6 @@ kept_hold keep p k l fs es later =
         | false ↦ later
       ]
     ] refl
-
-pub plus_none : (v : ℤ) → v +ℤ pos 0 ≡ v
-plus_none v = omega (arith, ints)
 
 kept_holds : (keep : XidName → Bool) (f : Account → Account) → LetsGo keep f → (accounts : List Account) (p : Touch)
     → find touch_cmp p (hold_entries (map f accounts)) ≡ cond (keep p.0) (find touch_cmp p (hold_entries accounts)) None

@@ -6,6 +6,7 @@ use Rattle.std.specs.Cmp.{nat_cmp_total, tied_itself}
 use Rattle.std.specs.FinMap as map
 use Rattle.std.specs.FinMap.{FinMap, get-insert, get-remove, nat_cmp-IsAntisymmetric}
 use Rattle.std.proofs.lemmas.Bool.{or_cases}
+use Rattle.xa_base.proofs.Truth.{by_bool, is_equal}
 use Rattle.xa_words.specs.Xid.{XidName, xid_eq}
 use Rattle.xa_words.specs.Orders.{Decides-xid_eq}
 use Rattle.xa_words.specs.declared.request.Op.{Op}
@@ -20,7 +21,6 @@ use Rattle.xa_tables.specs.Tables.{Tables, association_of, has_association, is_a
 use Rattle.xa_tables.specs.Next.{Answer, next, association, with_association, associated, dissociated, stated, gone}
 use Rattle.xa_tables.specs.History.{History, tables_after, ActiveWhileAssociated}
 use Rattle.xa_tables.specs.Openings.{IsOpening}
-use Rattle.xa_tables.proofs.MapLemmas.{equal_from}
 use Rattle.xa_tables.proofs.Effects.{Effect, Starts, Joins, Resumes, Suspends, Leaves, Fails, Idles, Dooms, Prepares, Commits, Drops, CommitsByItself, RollsBackByItself, Forgets, effect_of}
 use Rattle.xa_tables.proofs.Law.{AtWork, standing, get_put, get_gone, nobody_rests, run_sound, opening_sound}
 use Rattle.xa_tables.proofs.Unnamed.{apart_from, nobody_with, nobody_joins, nobody_leaves}
@@ -47,7 +47,7 @@ module _ (T : Tables) (t : ℕ) (x : XidName) where
       nobody_with x T.associations (λ u k found.
       elim (eq_by_cmp nat_cmp u t) as (λ b. eq_by_cmp nat_cmp u t ≡ b → xid_eq k.xid x ≡ false) [
         | true ↦ λ e.
-            let here : association_of T t ≡ Some k = ap (map.get T.associations) (sym (nat_cmp-IsAntisymmetric u t (equal_from _ e))) ∙ found in
+            let here : association_of T t ≡ Some k = ap (map.get T.associations) (sym (nat_cmp-IsAntisymmetric u t (is_equal _ e))) ∙ found in
             let some : true ≡ false = sym (ap is_some here) ∙ free in
             cc
         | false ↦ λ e. apart_from x (map.insert T.associations t l) nobody u k (get-insert nat_cmp_total T.associations t l u ∙ ap (λ b. cond b (Some l) (map.get T.associations u)) e ∙ found)
@@ -59,7 +59,7 @@ module _ (T : Tables) (t : ℕ) (x : XidName) where
       nobody_with x T.associations (λ u k found.
       elim (eq_by_cmp nat_cmp u t) as (λ b. eq_by_cmp nat_cmp u t ≡ b → xid_eq k.xid x ≡ false) [
         | true ↦ λ e.
-            let here : association_of T t ≡ Some k = ap (map.get T.associations) (sym (nat_cmp-IsAntisymmetric u t (equal_from _ e))) ∙ found in
+            let here : association_of T t ≡ Some k = ap (map.get T.associations) (sym (nat_cmp-IsAntisymmetric u t (is_equal _ e))) ∙ found in
             ap (λ z. xid_eq z x) (with_y T t y k own here) ∙ other
         | false ↦ λ e. apart_from x (map.insert T.associations t l) nobody u k (get-insert nat_cmp_total T.associations t l u ∙ ap (λ b. cond b (Some l) (map.get T.associations u)) e ∙ found)
       ] refl)
@@ -70,7 +70,7 @@ module _ (T : Tables) (t : ℕ) (x : XidName) where
       nobody_with x T.associations (λ u k found.
       elim (eq_by_cmp nat_cmp u t) as (λ b. eq_by_cmp nat_cmp u t ≡ b → xid_eq k.xid x ≡ false) [
         | true ↦ λ e.
-            let here : association_of T t ≡ Some k = ap (map.get T.associations) (sym (nat_cmp-IsAntisymmetric u t (equal_from _ e))) ∙ found in
+            let here : association_of T t ≡ Some k = ap (map.get T.associations) (sym (nat_cmp-IsAntisymmetric u t (is_equal _ e))) ∙ found in
             ap (λ z. xid_eq z x) (with_y T t y k own here) ∙ other
         | false ↦ λ e. apart_from x (map.remove T.associations t) nobody u k (get-remove nat_cmp_total T.associations t u ∙ ap (λ b. cond b None (map.get T.associations u)) e ∙ found)
       ] refl)
@@ -84,10 +84,6 @@ module _ (T : Tables) (t : ℕ) (x : XidName) where
       ] refl own
 
 -- ---- what each effect leaves
-
--- by whether x is y
-by_branch : (P : Bool → Type 0) (b : Bool) → (b ≡ true → P true) → (b ≡ false → P false) → P b
-by_branch P b one two = elim b as (λ c. b ≡ c → P c) [ true ↦ one | false ↦ two ] refl
 
 S4_alone : (o : Option State) → is_S4 o ≡ true → is_S1 o ≡ false
 S4_alone None e = refl
@@ -105,7 +101,7 @@ module _ (t : ℕ) (T : Tables) (w : AtWorkWhile T) where
         let other : xid_eq y x ≡ false = apart_from x (map.insert T.associations t (association y Associated)) nobody t (association y Associated) (own_now T.associations t (association y Associated)) in
         ap is_S1 (get_put T y x Active ∙ ap (λ b. if b then Some Active else state_of T x) other) ∙ w.active x (before_join T t x (association y Associated) free nobody);
     idle = λ x is.
-        by_branch (λ b. is_S2 (if b then Some Active else state_of T x) ≡ true → is_somebody_associated (map.insert T.associations t (association y Associated)) x ≡ false) (xid_eq y x)
+        by_bool (λ b. is_S2 (if b then Some Active else state_of T x) ≡ true → is_somebody_associated (map.insert T.associations t (association y Associated)) x ≡ false) (xid_eq y x)
         (λ _ e. cc) (λ other e. nobody_joins x T.associations t (association y Associated) other (w.idle x e)) (sym (ap is_S2 (get_put T y x Active)) ∙ is);
   }
 
@@ -122,7 +118,7 @@ module _ (t : ℕ) (T : Tables) (w : AtWorkWhile T) where
   leaves : (y : XidName) → is_associated T t y ≡ true → (is_rollback_only T y || is_somebody_associated (dissociated t T).associations y) ≡ true → AtWorkWhile (dissociated t T)
   leaves y own why = record {
     active = λ x nobody.
-        by_branch (λ b. xid_eq y x ≡ b → is_S1 (state_of T x) ≡ false) (xid_eq y x)
+        by_bool (λ b. xid_eq y x ≡ b → is_S1 (state_of T x) ≡ false) (xid_eq y x)
         (λ _ e.
         let same : y ≡ x = (Decides-xid_eq y x).0 e in
         subst (λ z. is_S1 (state_of T z) ≡ false) same
@@ -138,9 +134,9 @@ module _ (t : ℕ) (T : Tables) (w : AtWorkWhile T) where
   left_as y s inactive alone own = record {
     active = λ x nobody.
         ap is_S1 (get_put (dissociated t T) y x s)
-        ∙ by_branch (λ b. is_S1 (if b then Some s else state_of T x) ≡ false) (xid_eq y x) (λ _. inactive) (λ other. w.active x (before_leave T t x y own other nobody));
+        ∙ by_bool (λ b. is_S1 (if b then Some s else state_of T x) ≡ false) (xid_eq y x) (λ _. inactive) (λ other. w.active x (before_leave T t x y own other nobody));
     idle = λ x is.
-        by_branch (λ b. xid_eq y x ≡ b → is_S2 (if b then Some s else state_of T x) ≡ true → is_somebody_associated (map.remove T.associations t) x ≡ false) (xid_eq y x)
+        by_bool (λ b. xid_eq y x ≡ b → is_S2 (if b then Some s else state_of T x) ≡ true → is_somebody_associated (map.remove T.associations t) x ≡ false) (xid_eq y x)
         (λ _ here e. subst (λ z. is_somebody_associated (map.remove T.associations t) z ≡ false) ((Decides-xid_eq y x).0 here) (alone e))
         (λ _ other e. nobody_leaves x T.associations t (w.idle x e)) refl (sym (ap is_S2 (get_put (dissociated t T) y x s)) ∙ is);
   }
@@ -148,18 +144,18 @@ module _ (t : ℕ) (T : Tables) (w : AtWorkWhile T) where
   -- y is put into a state that is neither active nor idle
   put_as : (y : XidName) (s : State) → is_S1 (Some s) ≡ false → is_S2 (Some s) ≡ false → AtWorkWhile (stated y s T)
   put_as y s inactive busy = record {
-    active = λ x nobody. ap is_S1 (get_put T y x s) ∙ by_branch (λ b. is_S1 (if b then Some s else state_of T x) ≡ false) (xid_eq y x) (λ _. inactive) (λ _. w.active x nobody);
+    active = λ x nobody. ap is_S1 (get_put T y x s) ∙ by_bool (λ b. is_S1 (if b then Some s else state_of T x) ≡ false) (xid_eq y x) (λ _. inactive) (λ _. w.active x nobody);
     idle = λ x is.
-        by_branch (λ b. is_S2 (if b then Some s else state_of T x) ≡ true → is_somebody_associated T.associations x ≡ false) (xid_eq y x)
+        by_bool (λ b. is_S2 (if b then Some s else state_of T x) ≡ true → is_somebody_associated T.associations x ≡ false) (xid_eq y x)
         (λ _ e. let z : true ≡ false = sym e ∙ busy in cc) (λ _ e. w.idle x e) (sym (ap is_S2 (get_put T y x s)) ∙ is);
   }
 
   -- y is gone
   without : (y : XidName) → AtWorkWhile (gone y T)
   without y = record {
-    active = λ x nobody. ap is_S1 (get_gone T y x) ∙ by_branch (λ b. is_S1 (if b then None else state_of T x) ≡ false) (xid_eq y x) (λ _. refl) (λ _. w.active x nobody);
+    active = λ x nobody. ap is_S1 (get_gone T y x) ∙ by_bool (λ b. is_S1 (if b then None else state_of T x) ≡ false) (xid_eq y x) (λ _. refl) (λ _. w.active x nobody);
     idle = λ x is.
-        by_branch (λ b. is_S2 (if b then None else state_of T x) ≡ true → is_somebody_associated T.associations x ≡ false) (xid_eq y x)
+        by_bool (λ b. is_S2 (if b then None else state_of T x) ≡ true → is_somebody_associated T.associations x ≡ false) (xid_eq y x)
         (λ _ e. cc) (λ _ e. w.idle x e) (sym (ap is_S2 (get_gone T y x)) ∙ is);
   }
 

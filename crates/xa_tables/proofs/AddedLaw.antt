@@ -4,6 +4,7 @@ use Rattle.std.proofs.Common.{sym, ap, ◌∙◌, subst, arith}
 use Rattle.std.specs.FinMap as map
 use Rattle.std.specs.FinMap.{get-insert}
 use Rattle.std.specs.Ordering.{eq_by_cmp}
+use Rattle.std.proofs.lemmas.Bool.{not-true}
 use Rattle.xa_words.specs.Xid.{XidName, xid_eq}
 use Rattle.xa_words.specs.Orders.{Decides-xid_eq}
 use Rattle.xa_words.specs.declared.code.Code.TheVariants.{Done, RdOnly}
@@ -14,6 +15,7 @@ use Rattle.xa_tables.specs.Tables.{Tables, touch_cmp, association_of, has_opened
 use Rattle.xa_tables.specs.Next.{Answer, next}
 use Rattle.xa_tables.specs.History.{History, Fate, Committed, HeurCommitted, HeurRolledBack, ending, fate_of, if_named, tables_after, EndsNowhere, is_rolled_back}
 use Rattle.xa_base.proofs.Truth.{by_if}
+use Rattle.xa_base.proofs.Options.{is_there}
 use Rattle.xa_tables.proofs.Effects.{Effect, Adds, Commits, Drops, CommitsByItself, RollsBackByItself, effect_of, reason_rolls_back}
 use Rattle.xa_tables.proofs.Law.{swap_xid}
 use Rattle.xa_tables.proofs.MapLemmas.{none_passes}
@@ -24,10 +26,6 @@ use Rattle.xa_tables.proofs.ValueLaw.{get_without}
 abbrev HasAdded : XidName → List ℕ → Tables → Type 0
 HasAdded x k T = is_some (map.get T.sums (x, k)) ≡ true
 
-some_there : {A : Type 0} (o : Option A) → is_some o ≡ true → (v : A) × (o ≡ Some v)
-some_there None e = cc
-some_there (Some v) e = (v, refl)
-
 either : {A : Type 0} (b : Bool) (v : A) (o : Option A) → is_some o ≡ true → is_some (cond b (Some v) o) ≡ true
 either true v o e = refl
 either false v o e = e
@@ -35,7 +33,7 @@ either false v o e = e
 -- so it has touched a key
 touched : (x : XidName) (k : List ℕ) (T : Tables) → HasAdded x k T → has_touched T.sums x ≡ true
 touched x k T h =
-    let at = some_there (map.get T.sums (x, k)) h in
+    let at = is_there (map.get T.sums (x, k)) h in
     elim (has_touched T.sums x) as (λ b. has_touched T.sums x ≡ b → b ≡ true) [
       | true ↦ λ e. refl
       | false ↦ λ none.
@@ -101,10 +99,6 @@ has_added t x k d T own =
     ap is_some (get-insert touch_cmp_total T.sums (branch_of T t, k) v (x, k) ∙ ap (λ b. cond b (Some v) (map.get T.sums (x, k))) here)))))))
 
 -- a Prepare that is answered XA_RDONLY is of a branch that touched no key
-untouched : (b : Bool) → not b ≡ true → b ≡ false
-untouched true e = cc
-untouched false e = refl
-
 pub reads_only : (t : ℕ) (x : XidName) (T : Tables) → (next t (Prepare x) T).1 ≡ RdOnly → has_touched T.sums x ≡ false
 unfolding next
 reads_only t x T =
@@ -113,7 +107,7 @@ reads_only t x T =
     by_if P (not (has_opened T t)) _ _ (λ _ e. cc) (λ _.
     by_if P (not (exists T x)) _ _ (λ _ e. cc) (λ _.
     by_if P (is_somebody_associated T.associations x || (is_prepared T x || (is_rollback_only T x || is_completed T x))) _ _ (λ _ e. cc) (λ _.
-    by_if P (not (has_touched T.sums x)) _ _ (λ none _. untouched _ none) (λ _.
+    by_if P (not (has_touched T.sums x)) _ _ (λ none _. not-true _ none) (λ _.
     by_if P (is_broken T.values T.sums x) _ _ (λ _ e. cc) (λ _ e. cc))))))
 
 pub added_law : (t u : ℕ) (op : Op) (x : XidName) (k : List ℕ) (d : ℤ) (g : History) (T : Tables) → op ≡ Add k d → option_map (λ (a : Association). a.xid) (association_of T u) ≡ Some x

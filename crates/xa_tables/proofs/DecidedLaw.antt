@@ -18,7 +18,7 @@ use Rattle.xa_tables.proofs.Law.{get_put, get_gone, fates, last_more}
 abbrev pub IsAsDecided : Option State → Fate → Type 0
 IsAsDecided o f = (d : HeuristicDecision) → o ≡ Some (HeuristicallyCompleted d) → f ≡ decided_fate d
 
-same_decision : (c d : HeuristicDecision) → Some (HeuristicallyCompleted c) ≡ Some (HeuristicallyCompleted d) → c ≡ d
+pub same_decision : (c d : HeuristicDecision) → Some (HeuristicallyCompleted c) ≡ Some (HeuristicallyCompleted d) → c ≡ d
 same_decision c d e = cc
 
 module _ (t : ℕ) (x : XidName) (f : Fate) (T : Tables) (w : IsAsDecided (state_of T x) f) where

@@ -119,12 +119,8 @@ code_rolls_back Transient = refl
 
 -- the reason of a branch that can only be rolled back is an XA_RB* code
 pub reason_rolls_back : (o : Option State) → is_S4 o ≡ true → is_rolled_back (reason_in o) ≡ true
-reason_rolls_back None e = cc
-reason_rolls_back (Some Active) e = cc
-reason_rolls_back (Some Idle) e = cc
-reason_rolls_back (Some S3) e = cc
 reason_rolls_back (Some (RollbackOnly reason)) e = code_rolls_back reason
-reason_rolls_back (Some (HeuristicallyCompleted decision)) e = cc
+reason_rolls_back o e = cc
 
 -- a decision's code tells of no fate, to a Commit and to a Rollback
 decided_commit : (d : HeuristicDecision) → commit_fate (decision_code d) ≡ None
@@ -136,20 +132,12 @@ decided_rollback decision.Commit = refl
 decided_rollback decision.Rollback = refl
 
 pub decision_commits_nothing : (o : Option State) → is_S5 o ≡ true → commit_fate (decision_in o) ≡ None
-decision_commits_nothing None e = cc
-decision_commits_nothing (Some Active) e = cc
-decision_commits_nothing (Some Idle) e = cc
-decision_commits_nothing (Some S3) e = cc
-decision_commits_nothing (Some (RollbackOnly reason)) e = cc
 decision_commits_nothing (Some (HeuristicallyCompleted d)) e = decided_commit d
+decision_commits_nothing o e = cc
 
 pub decision_rolls_nothing_back : (o : Option State) → is_S5 o ≡ true → rollback_fate (decision_in o) ≡ None
-decision_rolls_nothing_back None e = cc
-decision_rolls_nothing_back (Some Active) e = cc
-decision_rolls_nothing_back (Some Idle) e = cc
-decision_rolls_nothing_back (Some S3) e = cc
-decision_rolls_nothing_back (Some (RollbackOnly reason)) e = cc
 decision_rolls_nothing_back (Some (HeuristicallyCompleted d)) e = decided_rollback d
+decision_rolls_nothing_back o e = cc
 
 not_done : (r : Code) → is_rolled_back r ≡ true → is_done r ≡ false
 not_done Done e = cc

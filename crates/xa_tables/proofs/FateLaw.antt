@@ -1,6 +1,6 @@
 -- The law: late requests make nothing of any branch.
-use Rattle.std.specs.Prelude.{◌≡◌, ℕ, true, false, if◌then◌else◌, List, [], ◌∷◌, refl}
-use Rattle.std.specs.List.{filter_map, cons_option}
+use Rattle.std.specs.Prelude.{◌≡◌, ℕ, true, false, if◌then◌else◌, [], ◌∷◌, refl}
+use Rattle.std.specs.List.{cons_option}
 use Rattle.std.proofs.Common.{sym, ap, ◌∙◌}
 use Rattle.xa_words.specs.Xid.{XidName}
 use Rattle.xa_words.specs.declared.code.Code.TheVariants.{RmFail}
@@ -11,10 +11,7 @@ use Rattle.xa_tables.specs.Next.{Answer, next, shut_down}
 use Rattle.xa_tables.specs.History.{History, Fate, fate, fate_in, fate_of, coded, accepted, is_shut, last_or}
 use Rattle.xa_tables.proofs.Effects.{error_tells}
 use Rattle.xa_tables.proofs.ShutLemmas.{next-shut, next-Shut, shut_op}
-
--- the fates that a history gives x, one by one
-abbrev pub fates : XidName → History → Tables → List Fate
-fates x h T = filter_map (λ e. fate_of x e.0.op e.1) (coded h T)
+use Rattle.xa_tables.proofs.Law.{fates}
 
 -- a manager that is shut
 none_shut : (x : XidName) (h : History) (T : Tables) → T.shut ≡ true → fates x h T ≡ []

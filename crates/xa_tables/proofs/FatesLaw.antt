@@ -13,7 +13,7 @@ use Rattle.xa_tables.specs.History.{History, Fate, Absent, Live, InDoubt, Rolled
 use Rattle.xa_tables.specs.Openings.{IsNew, IsOpening, reopened, reopened_fate, left_by, fate_left, told_by, FatesAreTold}
 use Rattle.xa_tables.proofs.ShutLemmas.{after_accepted}
 use Rattle.xa_tables.proofs.Law.{Nowhere, AtWork, Voted, standing, standing_of, is_voted, is_there, state_voted, fate_voted, state_there, fate_there, run, opening_sound}
-use Rattle.xa_tables.proofs.DecidedLaw.{IsAsDecided, run as decided_run}
+use Rattle.xa_tables.proofs.DecidedLaw.{IsAsDecided, run as decided_run, same_decision}
 use Rattle.xa_tables.proofs.Reopening.{state_reopened, reopens, new_opens, left_opens}
 
 -- ---- a state and a fate
@@ -64,17 +64,14 @@ tells_told x f T t = record { prepared = t.0; exists = t.1.0; decided = t.1.1 }
 pub begin_law : (x : XidName) (T : Tables) → IsFateOf x (told_by (state_of T x)) T
 begin_law x T = tells_told x (told_by (state_of T x)) T (begins (state_of T x))
   where
-    same : (c d : HeuristicDecision) → Some (HeuristicallyCompleted c) ≡ Some (HeuristicallyCompleted d) → c ≡ d
-    same c d e = cc
-
     begins : (o : Option State) → Tells o (told_by o)
     begins None = (refl, (refl, λ d e. cc))
     begins (Some Active) = (refl, (refl, λ d e. cc))
     begins (Some Idle) = (refl, (refl, λ d e. cc))
     begins (Some S3) = (refl, (refl, λ d e. cc))
     begins (Some (RollbackOnly reason)) = (refl, (refl, λ d e. cc))
-    begins (Some (HeuristicallyCompleted decision.Commit)) = (refl, (refl, λ d e. ap decided_fate (same decision.Commit d e)))
-    begins (Some (HeuristicallyCompleted decision.Rollback)) = (refl, (refl, λ d e. ap decided_fate (same decision.Rollback d e)))
+    begins (Some (HeuristicallyCompleted decision.Commit)) = (refl, (refl, λ d e. ap decided_fate (same_decision decision.Commit d e)))
+    begins (Some (HeuristicallyCompleted decision.Rollback)) = (refl, (refl, λ d e. ap decided_fate (same_decision decision.Rollback d e)))
 
 pub kept_law : (h : History) (x : XidName) (f : Fate) (T : Tables) → IsOpening T → IsFateOf x f T → IsFateOf x (fate x f h T) (tables_after h T)
 kept_law h x f T o w =

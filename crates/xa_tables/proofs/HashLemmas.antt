@@ -1,5 +1,5 @@
 -- The finite map that the entries of a hash map make.
-use Rattle.std.specs.Prelude.{◌≡◌, Bool, false, cond, List, [], ◌∷◌, Option, None, Some, Result, Ok, Err, IsOk, OnOk, refl}
+use Rattle.std.specs.Prelude.{◌≡◌, Bool, false, cond, List, [], ◌∷◌, Option, None, Some, refl}
 use Rattle.std.proofs.Common.{sym, ap, ◌∙◌}
 use Rattle.std.specs.Ordering.{eq_by_cmp}
 use Rattle.std.specs.declared.cmp.Ordering.{Ordering}
@@ -11,11 +11,6 @@ use Rattle.std.specs.Map.Calls.{RetainsPairs}
 use Rattle.std.specs.List.{IsDistinct, filter}
 use Rattle.std.proofs.lemmas.Map.Entries.{option_filter, lookup-filter-values}
 use Rattle.xa_tables.proofs.MapLemmas.{put_one, remove_one, same_finds, retain_some}
-
--- what holds where there is a value, where there is one
-pub at_ok : {T E : Type 0} (r : Result T E) (P : Type 0) → IsOk r → OnOk r P → P
-at_ok (Ok x) P h p = p
-at_ok (Err e) P h p = cc
 
 -- a value that passes a test, where there is one
 by_holds : {X : Type 0} (p : X → Bool) (holds : Option X → Bool) → holds None ≡ false → ((v : X) → holds (Some v) ≡ p v) → (o : Option X) → option_filter p o ≡ cond (holds o) o None

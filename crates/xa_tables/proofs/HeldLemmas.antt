@@ -1,19 +1,21 @@
 -- Scans of the places that branches hold, in place of scans of all accounts.
 use Rattle.std.specs.Prelude.{◌≡◌, ℕ, ℤ, pos, ◌+ℤ◌, zero, suc, ◌+◌, ◌<◌, ◌≤◌, nat_eq, Bool, true, false, cond, not, ◌&&◌, ◌||◌, if◌then◌else◌, List, [], ◌∷◌, ◌++◌, drop, length, map, filter, Option, None, Some, is_some, refl}
-use Rattle.std.proofs.Common.{sym, ap, ◌∙◌, subst, arith, get_or}
+use Rattle.std.proofs.Common.{sym, ap, ◌∙◌, subst, arith, get_or, take}
 use Rattle.std.proofs.Math.ListN.{set}
 use Rattle.std.specs.List.{AllByRecursion, IsDistinct, list_any}
 use Rattle.std.specs.Cmp.{nat_eq_equiv}
 use Rattle.std.specs.FinMap as finmap
 use Rattle.std.specs.FinMap.{FinMap}
 use Rattle.std.proofs.Math.Bool.{or-false}
-use Rattle.std.proofs.lemmas.Bool.{eqb-true, eq-eqb, false_from_ne_true, or_left, or_right}
+use Rattle.std.proofs.lemmas.Bool.{eqb-true, eq-eqb, false_from_ne_true, or_left, or_right, or_from}
 use Rattle.std.proofs.lemmas.Grind.{get_or-set_at}
-use Rattle.std.proofs.lemmas.List.{drop_more, drop_all, get_or_default, get_or-map, get_or-set_other, length-set, length_push, map-set, set-get_or}
-use Rattle.std.proofs.lemmas.List.Folds.{list_any-append, list_any_at, map_fixed}
+use Rattle.std.proofs.lemmas.List.{drop_more, drop_all, get_or_default, get_or-map, get_or-set_other, length-set, length_push, map-set, set-get_or, take_all}
+use Rattle.std.proofs.lemmas.List.Folds.{list_any-append, list_any_at, map_fixed, list_any_more}
 use Rattle.std.proofs.lemmas.Map.Keys.{IsDistinct-head, IsDistinct-tail, IsDistinct-cons, IsDistinct-push}
 use Rattle.std.proofs.lemmas.Map.Steps.{length-le_from_distinct_below}
 use Rattle.std.proofs.lemmas.Map.Views.{any-filter_same}
+use Rattle.std.proofs.Math.IntN.{+ℤ_idr as plus_none}
+use Rattle.xa_base.proofs.Lists.{none_twice}
 use Rattle.xa_words.specs.Xid.{XidName, xid_cmp, xid_eq}
 use Rattle.xa_tables.specs.declared.accounts.Account.{Account}
 use Rattle.xa_tables.specs.declared.accounts.Hold.{Hold}
@@ -21,7 +23,7 @@ use Rattle.xa_tables.specs.declared.state.State.{State}
 use Rattle.xa_tables.specs.Tables.{is_S3, is_within}
 use Rattle.xa_tables.specs.Accounts.{hold_is_of, is_held_by, hold_breaks, is_broken_by, hold_where, hold_without, amount_of, added_to, posted_by, forgotten_by, retained_in}
 use Rattle.xa_tables.specs.Held.{passes_at, is_held, is_held_at, AreHeld, noted}
-use Rattle.xa_tables.proofs.AccountLemmas.{all_but, plus_none, passes_none, any_set}
+use Rattle.xa_tables.proofs.AccountLemmas.{all_but, passes_none, any_set}
 use Rattle.xa_tables.proofs.PlaceLemmas.{account_of}
 
 -- ---- the account at a place
@@ -106,6 +108,26 @@ touched_held x a h = elim (a.hold) as (λ o. hold_is_of o x ≡ true → is_some
 pub broken_held : (x : XidName) (a : Account) → is_broken_by a x ≡ true → is_held a ≡ true
 broken_held x a h = elim (a.hold) as (λ o. hold_breaks a.value o x ≡ true → is_some o ≡ true) [ None ↦ λ t. t | Some l ↦ λ t. refl ] h
 
+-- ---- a look at each of the places
+
+module _ (test : Account → Bool) (held : List ℕ) (accounts : List Account) (h : AreHeld held accounts) (i : ℕ) where
+  -- one passes
+  pub one_passes : (a : Account) → i < length held → a ≡ get_or accounts (get_or held i 0) a → test a ≡ true → list_any test accounts ≡ true
+  one_passes a within is passes = list_any_at test accounts (get_or held i 0) a (held_within held accounts h i within) (ap test (sym is) ∙ passes)
+
+  -- none at one place more
+  pub none_more : (a : Account) → i < length held → a ≡ get_or accounts (get_or held i 0) a → test a ≡ false
+      → list_any (λ p. passes_at test accounts p) (take i held) ≡ false → list_any (λ p. passes_at test accounts p) (take (i + 1) held) ≡ false
+  none_more a within is fails none =
+      list_any_more (λ p. passes_at test accounts p) held i 0 within
+      ∙ or_from _ _ none (passes_read test accounts (get_or held i 0) a (held_within held accounts h i within) is ∙ fails)
+
+  -- none at all
+  pub none_at_all : ((a : Account) → test a ≡ true → is_held a ≡ true) → length held ≤ i → list_any (λ p. passes_at test accounts p) (take i held) ≡ false
+      → list_any test accounts ≡ false
+  none_at_all only past none =
+      none_held test only held accounts h (ap (list_any (λ p. passes_at test accounts p)) (sym (take_all i held past)) ∙ none)
+
 -- ---- a change at each of the places
 
 -- f was applied at the first i places: each account that it would still change stands at one of the others
@@ -138,6 +160,15 @@ changing_more f twice held old now i place a h within is there e = record {
 }
 
 -- after all of the places f was applied to each account
+-- the account at the next place is written
+pub changing_at : (f : Account → Account) → ((a : Account) → f (f a) ≡ f a) → (held : List ℕ) (old now : List Account) (i : ℕ) (a b : Account)
+    → AreHeld held old → length now ≡ length old → IsChanging f held old now i → i < length held → a ≡ get_or now (get_or held i 0) a → b ≡ f a
+    → IsChanging f held old (set now (get_or held i 0) b) (i + 1)
+changing_at f twice held old now i a b h long changing within is new =
+    let inside = held_within held old h i within in
+    subst (λ (c : Account). IsChanging f held old (set now (get_or held i 0) c) (i + 1)) (sym new)
+    (changing_more f twice held old now i (get_or held i 0) a changing within refl (omega (arith, inside, long)) is)
+
 pub changing_all : (f : Account → Account) (held : List ℕ) (old now : List Account) (i : ℕ) → IsChanging f held old now i → length held ≤ i → now ≡ map f old
 changing_all f held old now i h past =
     sym (map_fixed f now (λ q d within. h.rest q d within (ap (list_any (nat_eq q)) (drop_all i held past)))) ∙ h.same
@@ -250,10 +281,6 @@ held_noted held accounts i a b h within e touched =
       }
     ] refl
 
-none_once : IsDistinct nat_eq []
-unfolding IsDistinct
-none_once = tt
-
 -- where nobody has touched the account, there is room for its place
 pub note_room : (held : List ℕ) (accounts : List Account) (i : ℕ) (a : Account) (x : XidName) (d : ℤ) → AreHeld held accounts → i < length accounts → a ≡ get_or accounts i a → is_held a ≡ false → length held < length accounts
 note_room held accounts i a x d h within e none =
@@ -271,4 +298,4 @@ undeclared (d ∷ ds) (suc i) = undeclared ds i
 
 -- of what was declared no branch has touched any
 pub held_declared : (ds : List (List ℕ × ℕ)) → AreHeld [] (map account_of ds)
-held_declared ds = record { once = none_once; each = λ q. sym (undeclared ds q) }
+held_declared ds = record { once = none_twice nat_eq; each = λ q. sym (undeclared ds q) }

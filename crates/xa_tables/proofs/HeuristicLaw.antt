@@ -12,6 +12,7 @@ use Rattle.xa_words.specs.declared.code.Code.TheVariants.{Done, HeurCom, HeurRb,
 use Rattle.xa_words.specs.declared.request.Op.{Op}
 use Rattle.xa_words.specs.declared.request.Op.TheVariants.{Commit, Rollback, Forget, Heur}
 use Rattle.xa_words.specs.declared.request.Request.{Request}
+use Rattle.xa_words.proofs.Xids.{xid_self}
 use Rattle.xa_tables.specs.declared.state.State.{State}
 use Rattle.xa_tables.specs.declared.state.State.TheVariants.{Active, Idle, Prepared as S3, RollbackOnly, HeuristicallyCompleted}
 use Rattle.xa_tables.specs.declared.state.RollbackReason.{RollbackReason}
@@ -38,11 +39,8 @@ pub data Decides (x : XidName) (op : Op) (T : Tables) (a : Answer) : Type 0 wher
   Completes : (d : HeuristicDecision) → is_prepared T x ≡ true → state_of a.0 x ≡ Some (HeuristicallyCompleted d) → a.0.opened ≡ T.opened
       → fate_of x op a.1 ≡ Some (decided_fate d) → Decides x op T a
 
-self : (x : XidName) → xid_eq x x ≡ true
-self x = (Decides-xid_eq x x).1 refl
-
 put_here : (T : Tables) (x : XidName) (s : State) → (if xid_eq x x then Some s else state_of T x) ≡ Some s
-put_here T x s = at_true (xid_eq x x) _ _ (self x)
+put_here T x s = at_true (xid_eq x x) _ _ (xid_self x)
 
 heur_step : (t : ℕ) (x : XidName) (commits : Bool) (T : Tables) → Decides x (Heur x commits) T (next t (Heur x commits) T)
 unfolding next
@@ -51,7 +49,7 @@ heur_step t x commits T =
     let posted : Tables = record (committed x T) { sums = (completed x decision.Commit (committed x T)).sums } in
     let dropped : Tables = record T { sums = (completed x decision.Rollback T).sums } in
     let by_decision : (b : Bool) → commits ≡ b → fate_of x (Heur x commits) Done ≡ Some (if b then HeurCommitted else HeurRolledBack) = λ b e.
-    at_true (xid_eq x x) _ None (self x) ∙ ap (λ c. heur_fate c Done) e in
+    at_true (xid_eq x x) _ None (xid_self x) ∙ ap (λ c. heur_fate c Done) e in
     by_if P (T.shut) _ _ (λ _. Nothing refl (named_none x x)) (λ _.
     by_if P (not (exists T x)) _ _ (λ _. Nothing refl (named_none x x)) (λ _.
     by_if P (not (is_prepared T x)) _ _ (λ _. Nothing refl (named_none x x)) (λ voted.
@@ -97,7 +95,7 @@ module _ (t : ℕ) (x : XidName) (T : Tables) (u : is_prepared T x ≡ false) wh
       by_if P (not (has_opened T t)) _ _ (λ _. u) (λ _.
       by_if P (not (exists T x)) _ _ (λ _. u) (λ _.
       by_if P (not (is_completed T x)) _ _ (λ _. u) (λ _.
-      ap is_S3 (get_gone T x x ∙ at_true (xid_eq x x) None _ (self x))))))
+      ap is_S3 (get_gone T x x ∙ at_true (xid_eq x x) None _ (xid_self x))))))
 
   -- it stays so, and nothing becomes of it
   record Rests (op : Op) (a : Answer) : Type 0 where
@@ -158,24 +156,16 @@ same_decision decision.Rollback decision.Commit e = cc
 same_decision decision.Rollback decision.Rollback e = refl
 
 completed_with : (o : Option State) (d : HeuristicDecision) → is_S5 o ≡ true → decision_in o ≡ decision_code d → o ≡ Some (HeuristicallyCompleted d)
-completed_with None d is e = cc
-completed_with (Some Active) d is e = cc
-completed_with (Some Idle) d is e = cc
-completed_with (Some S3) d is e = cc
-completed_with (Some (RollbackOnly reason)) d is e = cc
 completed_with (Some (HeuristicallyCompleted c)) d is e = same_decision c d e
+completed_with o d is e = cc
 
 reason_tells_none : (r : RollbackReason) → is_told (reason_code r) ≡ false
 reason_tells_none Failed = refl
 reason_tells_none Transient = refl
 
 reason_is_none : (o : Option State) → is_S4 o ≡ true → is_told (reason_in o) ≡ false
-reason_is_none None is = cc
-reason_is_none (Some Active) is = cc
-reason_is_none (Some Idle) is = cc
-reason_is_none (Some S3) is = cc
 reason_is_none (Some (RollbackOnly reason)) is = reason_tells_none reason
-reason_is_none (Some (HeuristicallyCompleted d)) is = cc
+reason_is_none o is = cc
 
 module _ (t : ℕ) (x : XidName) (d : HeuristicDecision) (T : Tables) where
   abbrev Told : Answer → Type 0

@@ -43,14 +43,9 @@ standing (Some (RollbackOnly reason)) = AtWork
 standing (Some (HeuristicallyCompleted decision)) = Nowhere
 
 abbrev pub standing_of : Fate → Standing
-standing_of Absent = Nowhere
 standing_of Live = AtWork
 standing_of InDoubt = Voted
-standing_of Committed = Nowhere
-standing_of ReadOnly = Nowhere
-standing_of RolledBack = Nowhere
-standing_of HeurCommitted = Nowhere
-standing_of HeurRolledBack = Nowhere
+standing_of f = Nowhere
 
 -- a fate of a branch that stands so
 abbrev fate_at : Standing → Fate
@@ -64,9 +59,8 @@ at_fate AtWork = refl
 at_fate Voted = refl
 
 abbrev pub is_voted : Standing → Bool
-is_voted Nowhere = false
-is_voted AtWork = false
 is_voted Voted = true
+is_voted s = false
 
 pub state_voted : (o : Option State) → is_S3 o ≡ is_voted (standing o)
 state_voted None = refl
@@ -88,8 +82,7 @@ fate_voted HeurRolledBack = refl
 
 abbrev pub is_there : Standing → Bool
 is_there Nowhere = false
-is_there AtWork = true
-is_there Voted = true
+is_there s = true
 
 pub state_there : (o : Option State) → is_some o ≡ (is_there (standing o) || is_S5 o)
 state_there None = refl
@@ -111,29 +104,19 @@ fate_there HeurRolledBack = refl
 
 -- a branch that exists and is in neither S3 nor S5
 works : (o : Option State) → is_some o ≡ true → (is_S3 o || is_S5 o) ≡ false → standing o ≡ AtWork
-works None some e = cc
 works (Some Active) some e = refl
 works (Some Idle) some e = refl
-works (Some S3) some e = cc
 works (Some (RollbackOnly reason)) some e = refl
-works (Some (HeuristicallyCompleted decision)) some e = cc
+works o some e = cc
 
 -- a branch in S3 or S5
 pub voted_rests : (o : Option State) → is_S3 o ≡ true → standing o ≢ AtWork
-voted_rests None e = cc
-voted_rests (Some Active) e = cc
-voted_rests (Some Idle) e = cc
 voted_rests (Some S3) e = λ w. cc
-voted_rests (Some (RollbackOnly reason)) e = cc
-voted_rests (Some (HeuristicallyCompleted decision)) e = cc
+voted_rests o e = cc
 
 pub completed_nowhere : (o : Option State) → is_S5 o ≡ true → standing o ≡ Nowhere
-completed_nowhere None e = cc
-completed_nowhere (Some Active) e = cc
-completed_nowhere (Some Idle) e = cc
-completed_nowhere (Some S3) e = cc
-completed_nowhere (Some (RollbackOnly reason)) e = cc
 completed_nowhere (Some (HeuristicallyCompleted decision)) e = refl
+completed_nowhere o e = cc
 
 -- each association is with a branch at work
 pub record Sound (T : Tables) : Type 0 where
@@ -215,14 +198,10 @@ reassociated t y state T s h = record { at_work = held_associated standing AtWor
 
 -- a fate that ends a branch without a commit leaves it nowhere
 dropped_nowhere : (g : Fate) → ending_by g ≡ Some false → Nowhere ≡ standing_of g
-dropped_nowhere Absent e = cc
-dropped_nowhere Live e = cc
-dropped_nowhere InDoubt e = cc
-dropped_nowhere Committed e = cc
 dropped_nowhere ReadOnly e = refl
 dropped_nowhere RolledBack e = refl
-dropped_nowhere HeurCommitted e = cc
 dropped_nowhere HeurRolledBack e = refl
+dropped_nowhere g e = cc
 
 module _ (t : ℕ) (x : XidName) (f : Fate) (T : Tables) (s : Sound T) (h : standing (state_of T x) ≡ standing_of f) where
   same : (op : Op) (a : Answer) → Sound a.0 → fate_of x op a.1 ≡ None → standing (state_of a.0 x) ≡ standing_of f → Step x op f a

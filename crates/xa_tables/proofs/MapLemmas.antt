@@ -10,13 +10,8 @@ use Rattle.std.specs.Cmp.{IsTotalOrder, tied_itself}
 use Rattle.std.specs.FinMap.{FinMap, IsAntisymmetric, find, is_sorted, entries, entries_sorted, get, get-entries, insert, remove, retain_keys, from_entries, same_map, get-insert, get-remove, get-retain_keys, get-from_entries}
 use Rattle.std.specs.FinMap.Entries.{below_all}
 use Rattle.std.proofs.lemmas.Bool.Decides.{same_from_decides}
+use Rattle.xa_base.proofs.Truth.{is_equal}
 use Rattle.xa_tables.specs.Maps.{any_entry, map_values}
-
--- the test of a tie
-pub equal_from : (r : Ordering) → is_eq r ≡ true → r ≡ Equal
-equal_from Less t = cc
-equal_from Equal t = refl
-equal_from Greater t = cc
 
 first_of_both : (a b : Bool) → T (a && b) → T a
 first_of_both true b p = tt
@@ -70,7 +65,7 @@ module _ {K X : Type 0} {R : K → K → Ordering} (o : IsTotalOrder R) (same : 
       h.1.0,
       (
         elim (eq_by_cmp R h.0 e.0) as (λ b. eq_by_cmp R h.0 e.0 ≡ b → cond b (Some e.1) (find R h.0 es) ≡ Some h.1.0) [
-          | true ↦ λ t. let k = same _ _ (equal_from _ t) in let n = ap (λ (z : K). find R z es) k ∙ none in let f = h.1.1.0 in cc
+          | true ↦ λ t. let k = same _ _ (is_equal _ t) in let n = ap (λ (z : K). find R z es) k ∙ none in let f = h.1.1.0 in cc
           | false ↦ λ t. h.1.1.0
         ] refl,
         h.1.1.1,
@@ -81,7 +76,7 @@ module _ {K X : Type 0} {R : K → K → Ordering} (o : IsTotalOrder R) (same : 
   has_split : (p : K → X → Bool) (e : K × X) (es : List (K × X)) → Has p (e ∷ es) → (p e.0 e.1 ≡ false) → Has p es
   has_split p e es h fails =
       elim (eq_by_cmp R h.0 e.0) as (λ b. eq_by_cmp R h.0 e.0 ≡ b → cond b (Some e.1) (find R h.0 es) ≡ Some h.1.0 → Has p es) [
-        | true ↦ λ t f. let k = same _ _ (equal_from _ t) in let y = h.1.1.1 in let z : p h.0 h.1.0 ≡ p e.0 e.1 = cc in cc
+        | true ↦ λ t f. let k = same _ _ (is_equal _ t) in let y = h.1.1.1 in let z : p h.0 h.1.0 ≡ p e.0 e.1 = cc in cc
         | false ↦ λ t f. (h.0, (h.1.0, (f, h.1.1.1)))
       ] refl h.1.1.0
 
@@ -111,7 +106,7 @@ module _ {K X : Type 0} {R : K → K → Ordering} (o : IsTotalOrder R) (same : 
   find-map_values f [] q = refl
   find-map_values f (e ∷ es) q =
       elim (eq_by_cmp R q e.0) as (λ b. eq_by_cmp R q e.0 ≡ b → cond b (Some (f e.0 e.1)) (find R q (map {B = K × X} (λ (e : K × X). (e.0, f e.0 e.1)) es)) ≡ option_map (f q) (cond b (Some e.1) (find R q es))) [
-        | true ↦ λ t. ap (λ k. Some (f k e.1)) (sym (same _ _ (equal_from _ t)))
+        | true ↦ λ t. ap (λ k. Some (f k e.1)) (sym (same _ _ (is_equal _ t)))
         | false ↦ λ t. find-map_values f es q
       ] refl
 

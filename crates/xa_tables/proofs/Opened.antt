@@ -9,17 +9,17 @@ use Rattle.std.specs.Cmp.{nat_cmp_total}
 use Rattle.std.specs.List.{All}
 use Rattle.std.specs.FinSet.{contains-insert, contains-remove}
 use Rattle.std.specs.FinMap.{nat_cmp-IsAntisymmetric}
+use Rattle.xa_base.proofs.Truth.{is_equal}
 use Rattle.xa_words.specs.declared.request.Op.{Op}
 use Rattle.xa_words.specs.declared.request.Request.{Request}
 use Rattle.xa_tables.specs.Tables.{Tables, has_opened}
 use Rattle.xa_tables.specs.Next.{Answer, next}
 use Rattle.xa_tables.specs.History.{History, tables_after}
 use Rattle.xa_tables.specs.Prepared.{is_close, closes}
-use Rattle.xa_tables.proofs.MapLemmas.{equal_from}
 use Rattle.xa_tables.proofs.Effects.{Effect, Opens, Closes, effect_of}
 
 another : (t u : ℕ) → (t == u) ≡ false → eq_by_cmp nat_cmp u t ≡ false
-another t u apart = false_from_ne_true _ (λ e. let same = eq-eqb t u (sym (nat_cmp-IsAntisymmetric u t (equal_from _ e))) in cc)
+another t u apart = false_from_ne_true _ (λ e. let same = eq-eqb t u (sym (nat_cmp-IsAntisymmetric u t (is_equal _ e))) in cc)
 
 -- thread u has the manager open, and t's request isn't u's CloseRm
 leaves_open : (t u : ℕ) (T : Tables) {op : Op} {a : Answer} → Effect t T op a → has_opened T u ≡ true → (is_close op && (t == u)) ≡ false → has_opened a.0 u ≡ true

@@ -1,10 +1,10 @@
 -- The laws of prepared branches: they stay prepared, and await the outcome; and what a Prepare and a Shut leave.
-use Rattle.std.specs.Prelude.{◌≡◌, ℕ, Bool, true, false, not, ◌||◌, if◌then◌else◌, None, Some, is_some, List, [], ◌∷◌, ◌++◌, refl}
+use Rattle.std.specs.Prelude.{◌≡◌, ℕ, true, false, not, ◌||◌, if◌then◌else◌, None, Some, is_some, List, [], ◌∷◌, ◌++◌, refl}
 use Rattle.std.proofs.Common.{sym, ap, ◌∙◌, zero, suc, get_or, arith}
 use Rattle.std.specs.FinMap as map
 use Rattle.std.specs.List.{All, cons_option}
 use Rattle.std.proofs.lemmas.List.Elements.{All-head, All-tail}
-use Rattle.std.proofs.lemmas.Bool.{not-false}
+use Rattle.std.proofs.lemmas.Bool.{not-false, or_from}
 use Rattle.xa_words.specs.Xid.{XidName}
 use Rattle.xa_words.specs.Orders.{Decides-xid_eq}
 use Rattle.xa_words.specs.declared.code.Code.{Code}
@@ -39,10 +39,6 @@ prepared_law h g x T o p n =
 
 -- ---- what a branch answers whose outcome is awaited
 
-both_false : (a b : Bool) → a ≡ false → b ≡ false → (a || b) ≡ false
-both_false true b e f = cc
-both_false false b e f = f
-
 module _ (t : ℕ) (x : XidName) (T : Tables) (o : has_opened T t ≡ true) where
   unopened : not (has_opened T t) ≡ false
   unopened = ap not o
@@ -60,7 +56,7 @@ module _ (t : ℕ) (x : XidName) (T : Tables) (o : has_opened T t ≡ true) wher
     commit_done =
         unless_shut _ Done (ap (λ (a : Answer). a.1)
         (at_false (not (has_opened T t)) _ _ unopened ∙ at_false (not (exists T x)) _ _ unknown ∙ at_false (is_completed T x) _ _ (ap is_S5 h)
-        ∙ at_false (is_somebody_associated T.associations x || not (is_prepared T x)) _ _ (both_false _ _ free (ap (λ st. not (is_S3 st)) h))))
+        ∙ at_false (is_somebody_associated T.associations x || not (is_prepared T x)) _ _ (or_from _ _ free (ap (λ st. not (is_S3 st)) h))))
 
     rollback_done : (next t (Rollback x) T).1 ≡ (if T.shut then RmFail else Done)
     unfolding next

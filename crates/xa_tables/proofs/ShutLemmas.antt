@@ -13,7 +13,8 @@ pub next-shut : (t : ℕ) (op : Op) (T : Tables) → T.shut ≡ true → next t 
 unfolding next
 next-shut t op T s = ap (λ b. if b then (T, RmFail) else if_opened t op T (by_rules t op T)) s
 
-shut_stays : (h : History) (T : Tables) → T.shut ≡ true → tables_after h T ≡ T
+-- a manager that is shut leaves its tables
+pub shut_stays : (h : History) (T : Tables) → T.shut ≡ true → tables_after h T ≡ T
 shut_stays [] T s = refl
 shut_stays (r ∷ h) T s = ap (λ (a : Answer). tables_after h a.0) (next-shut r.thread r.op T s) ∙ shut_stays h T s
 

@@ -5,6 +5,7 @@ use Rattle.std.specs.Ordering.{nat_cmp, eq_by_cmp, is_eq}
 use Rattle.std.specs.Cmp.{nat_cmp_total, tied_itself}
 use Rattle.std.specs.FinMap as map
 use Rattle.std.specs.FinMap.{FinMap, get-insert, get-remove, nat_cmp-IsAntisymmetric}
+use Rattle.xa_base.proofs.Truth.{is_equal}
 use Rattle.xa_words.specs.Xid.{XidName, xid_cmp, xid_eq}
 use Rattle.xa_words.specs.Orders.{key_cmp, xid_cmp_total, xid_cmp-IsAntisymmetric, Decides-xid_eq}
 use Rattle.xa_tables.specs.declared.state.State.{State}
@@ -13,7 +14,7 @@ use Rattle.xa_tables.specs.declared.state.Association.{Association}
 use Rattle.xa_tables.specs.Tables.{touch_cmp, is_broken, is_somebody_associated}
 use Rattle.xa_tables.specs.Tables.{is_S3}
 use Rattle.xa_tables.specs.Managers.{AreAssociationsLive, ArePreparedSound}
-use Rattle.xa_tables.proofs.MapLemmas.{equal_from, none_passes}
+use Rattle.xa_tables.proofs.MapLemmas.{none_passes}
 
 abbrev Associations : Type 0
 Associations = FinMap nat_cmp Association
@@ -34,7 +35,7 @@ xid_tied x y e = subst (λ (z : XidName). eq_by_cmp xid_cmp x z ≡ true) e (ap 
 pub by_xid : (x y : XidName) (P : Bool → Type 0) → (x ≡ y → P true) → (x ≢ y → P false) → P (eq_by_cmp xid_cmp x y)
 by_xid x y P one two =
     elim (eq_by_cmp xid_cmp x y) as (λ b. eq_by_cmp xid_cmp x y ≡ b → P b) [
-      | true ↦ λ t. one (xid_cmp-IsAntisymmetric x y (equal_from _ t))
+      | true ↦ λ t. one (xid_cmp-IsAntisymmetric x y (is_equal _ t))
       | false ↦ λ t. two (λ e. let same = xid_tied x y e in cc)
     ] refl
 

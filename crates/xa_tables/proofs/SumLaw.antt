@@ -4,6 +4,7 @@ use Rattle.std.proofs.Common.{sym, ap, ◌∙◌, subst, arith}
 use Rattle.std.proofs.lemmas.Int.{ints}
 use Rattle.std.specs.FinMap as map
 use Rattle.std.specs.FinMap.{get-empty}
+use Rattle.std.proofs.Math.IntN.{+ℤ_idl as none_plus}
 use Rattle.xa_words.specs.Xid.{XidName, xid_cmp}
 use Rattle.xa_tables.specs.declared.state.State.{State}
 use Rattle.xa_tables.specs.declared.state.State.TheVariants.{Active, Idle, Prepared as S3, RollbackOnly, HeuristicallyCompleted}
@@ -13,7 +14,7 @@ use Rattle.xa_tables.specs.Openings.{IsNew, IsOpening, reopened, reopened_fate, 
 use Rattle.xa_tables.proofs.ShutLemmas.{after_accepted}
 use Rattle.xa_tables.proofs.SoundLemmas.{by_xid}
 use Rattle.xa_tables.proofs.Law.{Sound, Nowhere, standing, standing_of, run, opening_sound}
-use Rattle.xa_tables.proofs.ValueLaw.{Held, IsPending, due, plus_zero, Run, value_run}
+use Rattle.xa_tables.proofs.ValueLaw.{Held, IsPending, due, plus_zero, Run, value_run, chained}
 use Rattle.xa_tables.proofs.TouchLaw.{Clean, run_clean, opening_clean}
 use Rattle.xa_tables.proofs.Reopening.{state_reopened, sums_reopened, reopens, new_opens}
 
@@ -118,13 +119,6 @@ sum_last m d e s h z = omega (arith, ints)
 sum_more : (m d d1 e s r : ℤ) → m +ℤ d ≡ e +ℤ s → d ≡ d1 → m +ℤ (d1 +ℤ r) ≡ e +ℤ (s +ℤ r)
 sum_more m d d1 e s r h z = omega (arith, ints)
 
-twice : (o : Option ℤ) (m n : ℤ) → option_map (λ v. v +ℤ n) (option_map (λ v. v +ℤ m) o) ≡ option_map (λ v. v +ℤ (m +ℤ n)) o
-twice None m n = refl
-twice (Some v) m n = ap (λ w. Some w) (omega (arith, ints))
-
-zero_left : (z : ℤ) → pos 0 +ℤ z ≡ z
-zero_left z = omega (arith, ints)
-
 -- the values after openings, with what is due to the branch that has touched the key as the first of them begins
 values_over : (h : History) (hs : List History) (k : List ℕ) (p : Held) (F : XidName → Fate) (T : Tables) → Sound T → Clean T → Stand F T → IsPending k p T.sums
     → map.get (left_by (h ∷ hs) T).values k ≡ option_map (λ v. v +ℤ (due p (from_start F h hs T) +ℤ added_over k F (h ∷ hs) T)) (map.get T.values k)
@@ -146,11 +140,12 @@ values_over h (g ∷ gs) k p F T s n stand pending =
     let rest = values_over g gs k (left_held U r.held) (begun G) (reopened U) (opening_sound (reopened U) o) (opening_clean (reopened U) o) (stand_reopened G U stand_now) (pending_left k r.held U here) in
     rest
     ∙ ap (option_map (λ v. v +ℤ (due (left_held U r.held) (from_start (begun G) g gs (reopened U)) +ℤ more))) (after_accepted (λ (W : Tables). map.get W.values k) (λ _. refl) h T ∙ r.values)
-    ∙ twice (map.get T.values k) r.moved (due (left_held U r.held) (from_start (begun G) g gs (reopened U)) +ℤ more)
+    ∙ chained (map.get T.values k) r.moved (due (left_held U r.held) (from_start (begun G) g gs (reopened U)) +ℤ more)
     ∙ ap (λ m. option_map (λ v. v +ℤ m) (map.get T.values k))
     (sum_more r.moved (due r.held B) (due (left_held U r.held) (from_start (begun G) g gs (reopened U))) (due p (from_start F h (g ∷ gs) T)) (added_in k B (accepted h) T) more r.owes (due_over k G g gs U r.held clean stand_now here))
 
-left_on : (before : List History) (h : History) (T : Tables) → left_by (before ++ h ∷ []) T ≡ reopened (tables_after h (left_by before T))
+-- what an opening leaves after the ones before it
+pub left_on : (before : List History) (h : History) (T : Tables) → left_by (before ++ h ∷ []) T ≡ reopened (tables_after h (left_by before T))
 left_on [] h T = refl
 left_on (g ∷ gs) h T = left_on gs h (reopened (tables_after g T))
 
@@ -160,7 +155,7 @@ from_first (h ∷ hs) k T n =
     let o = new_opens T n in
     let first : Stand (λ x. Absent) T = λ x. ap (λ m. standing (map.get m x)) n.states ∙ ap standing (get-empty xid_cmp x) in
     values_over h hs k None (λ x. Absent) T (opening_sound T o) (opening_clean T o) first (λ x. ap (λ m. map.get m (x, k)) n.sums ∙ get-empty touch_cmp (x, k))
-    ∙ ap (λ d. option_map d (map.get T.values k)) (λ i v. v +ℤ zero_left (added_over k (λ x. Absent) (h ∷ hs) T) i)
+    ∙ ap (λ d. option_map d (map.get T.values k)) (λ i v. v +ℤ none_plus (added_over k (λ x. Absent) (h ∷ hs) T) i)
 
 pub sum_law : (before : List History) (h : History) (k : List ℕ) (T : Tables) → IsNew T → ValueIsSum k before h T
 sum_law before h k T n = sym (ap (λ (U : Tables). map.get U.values k) (left_on before h T)) ∙ from_first (before ++ h ∷ []) k T n

@@ -8,16 +8,17 @@ use Rattle.std.specs.Cmp.{nat_cmp_total, tied_itself, eq_by_cmp_equiv}
 use Rattle.std.specs.FinMap as map
 use Rattle.std.specs.FinSet as finset
 use Rattle.std.specs.FinMap.{find, from_entries, get-from_entries, nat_cmp-IsAntisymmetric}
+use Rattle.xa_base.proofs.Truth.{is_equal}
 use Rattle.xa_tables.specs.Maps.{any_entry}
 use Rattle.xa_tables.specs.Views.{with_entry, entries_from}
 use Rattle.xa_tables.proofs.SetLemmas.{marked, contains-marked, mark_put, mark_removed, mark_same}
-use Rattle.xa_tables.proofs.MapLemmas.{put_one, remove_one, same_finds, Distinct, any_entries, equal_from}
+use Rattle.xa_tables.proofs.MapLemmas.{put_one, remove_one, same_finds, Distinct, any_entries}
 
 abbrev same_nat : ℕ → ℕ → Bool
 same_nat = eq_by_cmp nat_cmp
 
 same_nat-yes : (q k : ℕ) → same_nat q k ≡ true → q ≡ k
-same_nat-yes q k t = nat_cmp-IsAntisymmetric q k (equal_from _ t)
+same_nat-yes q k t = nat_cmp-IsAntisymmetric q k (is_equal _ t)
 
 same_nat-self : (q : ℕ) → same_nat q q ≡ true
 same_nat-self q = ap is_eq (tied_itself nat_cmp_total q)

@@ -14,7 +14,7 @@ use Rattle.xa_tables.specs.Next.{Answer, next, stated}
 use Rattle.xa_tables.specs.History.{History, tables_after, OnlyUnfinishedTouch}
 use Rattle.xa_tables.specs.Openings.{IsOpening}
 use Rattle.xa_tables.proofs.Effects.{Effect, Starts, Joins, Fails, Idles, Dooms, Adds, Prepares, Commits, Drops, CommitsByItself, RollsBackByItself, Forgets, effect_of}
-use Rattle.xa_tables.proofs.Law.{Sound, Standing, Nowhere, AtWork, Voted, standing, swap_xid, get_put, get_gone, completed_nowhere, is_voted, state_voted, sound_after, opening_sound}
+use Rattle.xa_tables.proofs.Law.{Sound, Standing, Nowhere, AtWork, standing, swap_xid, get_put, get_gone, completed_nowhere, is_voted, state_voted, sound_after, opening_sound}
 use Rattle.xa_tables.proofs.ValueLaw.{get_without, get_added}
 
 -- a branch that stands nowhere has touched no key
@@ -23,8 +23,7 @@ pub record Clean (T : Tables) : Type 0 where
 
 abbrev is_nowhere : Standing → Bool
 is_nowhere Nowhere = true
-is_nowhere AtWork = false
-is_nowhere Voted = false
+is_nowhere s = false
 
 module _ (t : ℕ) (T : Tables) (s : Sound T) (w : Clean T) where
   -- y is put into a state in which it stands somewhere
@@ -79,11 +78,8 @@ run_clean (r ∷ h) T s w = run_clean h (next r.thread r.op T).0 (sound_after r.
 
 unfinished : (o : Option State) → (is_some o && not (is_S5 o)) ≡ false → standing o ≡ Nowhere
 unfinished None e = refl
-unfinished (Some Active) e = cc
-unfinished (Some Idle) e = cc
-unfinished (Some S3) e = cc
-unfinished (Some (RollbackOnly reason)) e = cc
 unfinished (Some (HeuristicallyCompleted decision)) e = refl
+unfinished o e = cc
 
 pub opening_clean : (T : Tables) → IsOpening T → Clean T
 opening_clean T o = record { none = λ x nowhere k. o.sums x k (state_voted (state_of T x) ∙ ap is_voted nowhere) }

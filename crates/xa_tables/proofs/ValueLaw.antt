@@ -228,7 +228,8 @@ module _ (t : ℕ) (k : List ℕ) (p : Held) (T : Tables) (h : IsPending k p T.s
 value_step : (t : ℕ) (k : List ℕ) (p : Held) (op : Op) (T : Tables) → IsPending k p T.sums → ValueStep k p op (association_of T t) T (next t op T)
 value_step t k p op T h = by_effect t k p T h (effect_of t op T)
 
-chained : (o : Option ℤ) (m n : ℤ) → option_map (λ v. v +ℤ n) (option_map (λ v. v +ℤ m) o) ≡ option_map (λ v. v +ℤ (m +ℤ n)) o
+-- a value moved twice
+pub chained : (o : Option ℤ) (m n : ℤ) → option_map (λ v. v +ℤ n) (option_map (λ v. v +ℤ m) o) ≡ option_map (λ v. v +ℤ (m +ℤ n)) o
 chained None m n = refl
 chained (Some v) m n = ap (λ w. Some w) (omega (arith, ints))
 

@@ -2,11 +2,12 @@
 use Rattle.std.specs.Prelude.{◌≡◌, ◌≢◌, ℕ, ℤ, pos, ◌+ℤ◌, Bool, true, false, cond, not, ◌&&◌, if◌then◌else◌, Option, None, Some, option_map, unwrap_or, List, [], ◌∷◌, map, refl, nat_le}
 use Rattle.std.specs.List.{list_all}
 use Rattle.std.proofs.Common.{sym, ap, ◌∙◌, subst, ⊎_elim, le-leb, arith}
-use Rattle.std.proofs.lemmas.Int.{ints}
 use Rattle.std.specs.FinMap as finmap
 use Rattle.std.specs.FinMap.{find, get-empty, get-insert, get-from_entries}
 use Rattle.std.specs.Ordering.{eq_by_cmp}
 use Rattle.std.proofs.lemmas.Bool.{and_parts, not-false}
+use Rattle.std.proofs.Math.IntN.{+ℤ_idr as plus_none}
+use Rattle.xa_base.proofs.Truth.{by_bool}
 use Rattle.xa_words.specs.Xid.{XidName, xid_eq}
 use Rattle.xa_words.specs.Key.{key_eq}
 use Rattle.xa_words.specs.Orders.{key_cmp, key_cmp_total, key_cmp-IsAntisymmetric, Decides-xid_eq, Decides-key_eq}
@@ -46,9 +47,6 @@ unbroken_fits T x unbroken k s at =
     let none = none_passes touch_cmp_total touch_cmp-IsAntisymmetric (λ p r. xid_eq p.0 x && not (is_within (value_of T.values p.1 +ℤ r))) T.sums (x, k) s unbroken at in
     not-false (is_within (value_of T.values k +ℤ s)) (ap (λ b. b && not (is_within (value_of T.values k +ℤ s))) (sym ((Decides-xid_eq x x).1 refl)) ∙ none)
 
-by_bool : (P : Bool → Type 0) (b : Bool) → (b ≡ true → P true) → (b ≡ false → P false) → P b
-by_bool P b one two = elim b as (λ c. b ≡ c → P c) [ true ↦ one | false ↦ two ] refl
-
 -- the values with y's sums are within the limits, and the other prepared branches fit them
 record Posted (T : Tables) (y : XidName) : Type 0 where
   values : (k : List ℕ) (v : ℤ) → finmap.get (committed y T).values k ≡ Some v → is_within v ≡ true
@@ -56,9 +54,6 @@ record Posted (T : Tables) (y : XidName) : Type 0 where
 
 some_same : {u v : ℤ} → Some u ≡ Some v → u ≡ v
 some_same e = cc
-
-plus_none : (v : ℤ) → v +ℤ pos 0 ≡ v
-plus_none v = omega (arith, ints)
 
 module _ (t : ℕ) (T : Tables) (s : Sound T) (w : Kept T) where
   -- y is put into another state than S3

@@ -8,6 +8,7 @@ use Rattle.std.specs.Cmp.{nat_cmp_total, tied_itself}
 use Rattle.std.specs.FinMap as map
 use Rattle.std.specs.FinMap.{FinMap, get-empty, get-insert, get-remove, nat_cmp-IsAntisymmetric}
 use Rattle.std.proofs.lemmas.List.Elements.{All-head, All-tail}
+use Rattle.std.proofs.Math.IntN.{+ℤ_idl as none_plus, +ℤ_idr as plus_none}
 use Rattle.xa_words.specs.Xid.{XidName, xid_eq}
 use Rattle.xa_words.specs.Orders.{Decides-xid_eq}
 use Rattle.xa_words.specs.declared.code.Code.{Code}
@@ -26,8 +27,8 @@ use Rattle.xa_tables.specs.Openings.{IsOpening}
 use Rattle.xa_tables.specs.Prepared.{names, NamesNowhere}
 use Rattle.xa_tables.specs.Worth.{gain, unless_ended, added_by_now}
 use Rattle.xa_tables.specs.Work.{request, LeavesAtWork, DoesWork}
-use Rattle.xa_base.proofs.Truth.{by_if}
-use Rattle.xa_tables.proofs.MapLemmas.{equal_from, none_pass}
+use Rattle.xa_base.proofs.Truth.{by_if, tied_false}
+use Rattle.xa_tables.proofs.MapLemmas.{none_pass}
 use Rattle.xa_tables.proofs.Effects.{Effect, Starts, Joins, Resumes, Suspends, Leaves, Fails, Idles, effect_of}
 use Rattle.xa_tables.proofs.ValueLaw.{quiet_named}
 use Rattle.xa_tables.proofs.Unnamed.{apart_from, unnamed_fate, unnamed_stays, unnamed_on}
@@ -37,17 +38,14 @@ use Rattle.xa_tables.proofs.Unnamed.{apart_from, unnamed_fate, unnamed_stays, un
 abbrev Associations : Type 0
 Associations = FinMap nat_cmp Association
 
-untied : (u t : ℕ) → u ≢ t → eq_by_cmp nat_cmp u t ≡ false
-untied u t apart = elim (eq_by_cmp nat_cmp u t) as (λ b. eq_by_cmp nat_cmp u t ≡ b → b ≡ false) [ true ↦ λ e. absurd (apart (nat_cmp-IsAntisymmetric u t (equal_from _ e))) | false ↦ λ e. refl ] refl
-
 tied : (t : ℕ) → eq_by_cmp nat_cmp t t ≡ true
 tied t = ap is_eq (tied_itself nat_cmp_total t)
 
 other_inserted : (m : Associations) (t u : ℕ) (l : Association) → u ≢ t → map.get (map.insert m t l) u ≡ map.get m u
-other_inserted m t u l apart = get-insert nat_cmp_total m t l u ∙ ap (λ b. cond b (Some l) (map.get m u)) (untied u t apart)
+other_inserted m t u l apart = get-insert nat_cmp_total m t l u ∙ ap (λ b. cond b (Some l) (map.get m u)) (tied_false u t apart)
 
 other_removed : (m : Associations) (t u : ℕ) → u ≢ t → map.get (map.remove m t) u ≡ map.get m u
-other_removed m t u apart = get-remove nat_cmp_total m t u ∙ ap (λ b. cond b None (map.get m u)) (untied u t apart)
+other_removed m t u apart = get-remove nat_cmp_total m t u ∙ ap (λ b. cond b None (map.get m u)) (tied_false u t apart)
 
 own_inserted : (m : Associations) (t : ℕ) (l : Association) → map.get (map.insert m t l) t ≡ Some l
 own_inserted m t l = get-insert nat_cmp_total m t l t ∙ ap (λ b. cond b (Some l) (map.get m t)) (tied t)
@@ -120,7 +118,7 @@ record LeftAtWork (t : ℕ) (x : XidName) (v : ℤ) (h : History) (T : Tables) :
   own : association_of (tables_after h T) t ≡ association_of T t
 
 -- a thread without requests in a history
-others_first : (t : ℕ) (r : Request) (h : History) → of_thread t (r ∷ h) ≡ [] → (r.thread ≢ t) × (of_thread t h ≡ [])
+pub others_first : (t : ℕ) (r : Request) (h : History) → of_thread t (r ∷ h) ≡ [] → (r.thread ≢ t) × (of_thread t h ≡ [])
 others_first t r h e =
     elim (r.thread == t) as (λ b. (r.thread == t) ≡ b → cond b (r ∷ of_thread t h) (of_thread t h) ≡ [] → (r.thread ≢ t) × (of_thread t h ≡ [])) [
       | true ↦ λ own e. cc
@@ -177,12 +175,6 @@ opening_free x T o =
     ap (λ m. is_somebody_associated m x) o.associations
     ∙ none_pass nat_cmp_total nat_cmp-IsAntisymmetric (λ u l. xid_eq l.xid x) map.empty (λ u l found. let z : None ≡ Some l = sym (get-empty nat_cmp u) ∙ found in cc)
 
-zero_sum : (v : ℤ) → pos 0 +ℤ v ≡ v
-zero_sum v = omega (arith, ints)
-
-sum_zero : (v : ℤ) → v +ℤ pos 0 ≡ v
-sum_zero v = omega (arith, ints)
-
 pub work_law : (t n : ℕ) (x : XidName) (k : List ℕ) (d : ℤ) (h : History) (T : Tables) → IsOpening T → DoesWork t n x k d T h → added_by_now x (pos 0) h T ≡ d
 work_law t n x k d h T opened w =
     let T1 : Tables = tables_after w.before T in
@@ -210,8 +202,8 @@ work_law t n x k d h T opened w =
     ∙ ap (λ v. added_by_now x v (w.begun ++ request t (n + 1) (Add k d) ∷ (w.added ++ request t (n + 2) (End x Success) ∷ w.after)) T2) begins
     ∙ added_both x (pos 0) w.begun (request t (n + 1) (Add k d) ∷ (w.added ++ request t (n + 2) (End x Success) ∷ w.after)) T2
     ∙ ap (λ v. added_by_now x v (request t (n + 1) (Add k d) ∷ (w.added ++ request t (n + 2) (End x Success) ∷ w.after)) T3) at_work.added
-    ∙ ap (λ v. added_by_now x v (w.added ++ request t (n + 2) (End x Success) ∷ w.after) T4) (ap (λ v. pos 0 +ℤ v) gained ∙ zero_sum d)
+    ∙ ap (λ v. added_by_now x v (w.added ++ request t (n + 2) (End x Success) ∷ w.after) T4) (ap (λ v. pos 0 +ℤ v) gained ∙ none_plus d)
     ∙ added_both x d w.added (request t (n + 2) (End x Success) ∷ w.after) T4
     ∙ ap (λ v. added_by_now x v (request t (n + 2) (End x Success) ∷ w.after) T5) ending_work.added
-    ∙ ap (λ v. added_by_now x v w.after T6) (sum_zero d)
+    ∙ ap (λ v. added_by_now x v w.after T6) (plus_none d)
     ∙ done.added

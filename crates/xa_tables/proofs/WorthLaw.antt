@@ -6,7 +6,9 @@ use Rattle.std.specs.FinMap as finmap
 use Rattle.std.specs.FinMap.{FinMap, find, get-empty, get-insert, get-from_entries}
 use Rattle.std.proofs.Common.{sym, ap, ◌∙◌, subst, arith, get_or}
 use Rattle.std.proofs.lemmas.Int.{ints}
-use Rattle.std.proofs.lemmas.Bool.{and_parts}
+use Rattle.std.proofs.lemmas.Bool.{and_parts, not-true}
+use Rattle.std.proofs.Math.Bool.{or-true, and-false}
+use Rattle.std.proofs.Math.IntN.{+ℤ_idl as none_plus}
 use Rattle.xa_base.specs.Sums.{total}
 use Rattle.xa_base.proofs.Sums.{total_same, total_alike, total_both, total_nothing}
 use Rattle.xa_words.specs.Xid.{XidName, xid_eq}
@@ -39,9 +41,6 @@ Accounts = List (List ℕ × ℕ)
 
 plus_none : (v : ℤ) → v ≡ v +ℤ pos 0
 plus_none v = omega (arith, ints)
-
-none_plus : (v : ℤ) → pos 0 +ℤ v ≡ v
-none_plus v = omega (arith, ints)
 
 -- ---- which accounts there are
 
@@ -79,23 +78,15 @@ opening_declares accounts k = ap is_some (get-from_entries key_cmp_total (map en
 among_first : (d : List ℕ × ℕ) (ds : Accounts) → among (d ∷ ds) d.0 ≡ true
 among_first d ds = ap (λ b. b || among ds d.0) ((Decides-key_eq d.0 d.0).1 refl)
 
-or_true : (b : Bool) → (b || true) ≡ true
-or_true true = refl
-or_true false = refl
-
 -- each of the accounts is among them
 each_among : (accounts : Accounts) → All (λ d. among accounts d.0 ≡ true) accounts
 each_among [] k d lt = absurd (omega arith)
 each_among (d ∷ ds) zero e lt = among_first d ds
 each_among (d ∷ ds) (suc k) e lt =
     let q : List ℕ = (get_or ds k e).0 in
-    ap (λ b. key_eq d.0 q || b) (each_among ds k e (omega arith)) ∙ or_true (key_eq d.0 q)
+    ap (λ b. key_eq d.0 q || b) (each_among ds k e (omega arith)) ∙ or-true (key_eq d.0 q)
 
 -- ---- sums over accounts with keys of their own
-
-not_true : (b : Bool) → not b ≡ true → b ≡ false
-not_true true e = cc
-not_true false e = refl
 
 -- what counts for one key counts once
 once : (accounts : Accounts) (k : List ℕ) (v : ℤ) → are_apart accounts ≡ true → total (λ d. if key_eq d.0 k then v else pos 0) accounts ≡ (if among accounts k then v else pos 0)
@@ -104,7 +95,7 @@ once (d ∷ ds) k v apart =
     let parts = and_parts (not (list_any (λ e. key_eq e.0 d.0) ds)) (are_apart ds) apart in
     elim (key_eq d.0 k) as (λ b. key_eq d.0 k ≡ b → (if b then v else pos 0) +ℤ total (λ e. if key_eq e.0 k then v else pos 0) ds ≡ (if b || among ds k then v else pos 0)) [
       | true ↦ λ t.
-          let gone : among ds k ≡ false = ap (λ q. among ds q) (sym ((Decides-key_eq d.0 k).0 t)) ∙ not_true _ parts.0 in
+          let gone : among ds k ≡ false = ap (λ q. among ds q) (sym ((Decides-key_eq d.0 k).0 t)) ∙ not-true _ parts.0 in
           ap (λ s. v +ℤ s) (once ds k v parts.1 ∙ ap (λ b. if b then v else pos 0) gone) ∙ sym (plus_none v)
       | false ↦ λ t. none_plus _ ∙ once ds k v parts.1
     ] refl
@@ -131,7 +122,7 @@ declared_worth [] apart = refl
 declared_worth (d ∷ ds) apart =
     let parts = and_parts (not (list_any (λ e. key_eq e.0 d.0) ds)) (are_apart ds) apart in
     let here : value_in (map entry_of (d ∷ ds)) d.0 ≡ pos d.1 = ap (λ b. unwrap_or (cond b (Some (pos d.1)) (find key_cmp d.0 (map entry_of ds))) (pos 0)) (key_self d.0) in
-    let there : total (λ e. value_in (map entry_of (d ∷ ds)) e.0) ds ≡ worth_declared ds = passed (entry_of d) (map entry_of ds) ds (not_true _ parts.0) ∙ declared_worth ds parts.1 in
+    let there : total (λ e. value_in (map entry_of (d ∷ ds)) e.0) ds ≡ worth_declared ds = passed (entry_of d) (map entry_of ds) ds (not-true _ parts.0) ∙ declared_worth ds parts.1 in
     λ i. here i +ℤ there i
 
 opening_worth : (accounts : Accounts) → are_apart accounts ≡ true → worth accounts (opening accounts) ≡ worth_declared accounts
@@ -177,10 +168,6 @@ and_true : (b : Bool) → (b && true) ≡ b
 and_true true = refl
 and_true false = refl
 
-and_false : (b : Bool) → (b && false) ≡ false
-and_false true = refl
-and_false false = refl
-
 -- a commit that makes nothing of its branch moves nothing
 unmoved : (b : Bool) (v : ℤ) → (b ≡ true → ⊥) → (if b then v else pos 0) ≡ pos 0
 unmoved true v never = absurd (never refl)
@@ -200,7 +187,7 @@ stays_unmoved accounts (Heur y true) c T tells =
     let fate : heur_fate true c ≡ Some HeurCommitted = ap (λ b. if b then Some HeurCommitted else None) done in
     let z : Some HeurCommitted ≡ None = sym (ap (λ b. if b then heur_fate true c else None) own ∙ fate) ∙ tells.fates y in
     cc)
-stays_unmoved accounts (Heur y false) c T tells = ap (λ b. if b then held_by accounts y T else pos 0) (and_false (is_done c))
+stays_unmoved accounts (Heur y false) c T tells = ap (λ b. if b then held_by accounts y T else pos 0) (and-false (is_done c))
 stays_unmoved accounts op c T tells = refl
 
 dropped_unmoved : (accounts : Accounts) (op : Op) (y : XidName) (c : Code) (T : Tables) → TellsDropped op y c → moved_by accounts op c T ≡ pos 0
@@ -219,7 +206,7 @@ dropped_unmoved accounts (Heur x true) y c T tells =
     let committing : ending (fate_of x (Heur x true) c) ≡ Some true = ap ending (ap (λ b. if b then heur_fate true c else None) own ∙ fate) in
     let other : ending (fate_of x (Heur x true) c) ≡ (if xid_eq y x then Some false else None) = ap ending (tells.fates x) ∙ ended_named x y tells.fate false tells.uncommitted in
     elim (xid_eq y x) as (λ b. Some true ≡ (if b then Some false else None) → ⊥) [ true ↦ λ e. cc | false ↦ λ e. cc ] (sym committing ∙ other))
-dropped_unmoved accounts (Heur x false) y c T tells = ap (λ b. if b then held_by accounts x T else pos 0) (and_false (is_done c))
+dropped_unmoved accounts (Heur x false) y c T tells = ap (λ b. if b then held_by accounts x T else pos 0) (and-false (is_done c))
 dropped_unmoved accounts op y c T tells = refl
 
 ended_either : (b : Bool) (c : Bool) (u v : ℤ) → v ≡ (if b then pos 0 else u) → v ≡ unless_ended (if b then Some c else None) (u +ℤ pos 0)

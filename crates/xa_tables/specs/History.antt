@@ -10,8 +10,8 @@ use Rattle.xa_words.specs.declared.code.Code.{Code}
 use Rattle.xa_words.specs.declared.code.Code.TheVariants.{Done, RdOnly, RbRollback, RbCommFail, RbDeadlock, RbIntegrity}
 use Rattle.xa_words.specs.declared.code.Code.TheVariants.{RbOther, RbProto, RbTimeout, RbTransient, RmFail}
 use Rattle.xa_words.specs.declared.request.Op.{Op}
-use Rattle.xa_words.specs.declared.request.Op.TheVariants.{OpenRm, CloseRm, Start, Add, End, Prepare, Commit, Rollback}
-use Rattle.xa_words.specs.declared.request.Op.TheVariants.{Forget, Heur, Listed, Shut}
+use Rattle.xa_words.specs.declared.request.Op.TheVariants.{Start, Add, Prepare, Commit, Rollback}
+use Rattle.xa_words.specs.declared.request.Op.TheVariants.{Heur, Shut}
 use Rattle.xa_words.specs.declared.request.StartHow.{StartHow}
 use Rattle.xa_words.specs.declared.request.StartHow.TheVariants.{Fresh, Join, Resume}
 use Rattle.xa_words.specs.declared.request.Request.{Request}
@@ -49,18 +49,8 @@ codes h T = map (λ e. e.1) (coded h T)
 
 -- the request is a Shut
 abbrev pub is_shut : Op → Bool
-is_shut OpenRm = false
-is_shut CloseRm = false
-is_shut (Start x how) = false
-is_shut (Add k d) = false
-is_shut (End x how) = false
-is_shut (Prepare x) = false
-is_shut (Commit x one_phase) = false
-is_shut (Rollback x) = false
-is_shut (Forget x) = false
-is_shut (Heur x commits) = false
-is_shut (Listed x) = false
 is_shut Shut = true
+is_shut op = false
 
 -- the requests before the first Shut
 abbrev pub accepted : History → History
@@ -166,13 +156,7 @@ fate_of x (Prepare y) c = if_named x y (prepare_fate c)
 fate_of x (Commit y one_phase) c = if_named x y (commit_fate c)
 fate_of x (Rollback y) c = if_named x y (rollback_fate c)
 fate_of x (Heur y commits) c = if_named x y (heur_fate commits c)
-fate_of x (Forget y) c = None
-fate_of x (Listed y) c = None
-fate_of x OpenRm c = None
-fate_of x CloseRm c = None
-fate_of x (Add k d) c = None
-fate_of x (End y how) c = None
-fate_of x Shut c = None
+fate_of x op c = None
 
 -- the last of a list, f for the empty one
 abbrev pub last_or : {A : Type 0} → A → List A → A
@@ -193,25 +177,13 @@ fate x f h T = fate_in x f (coded (accepted h) T)
 
 -- the branch awaits the outcome
 abbrev pub is_in_doubt : Fate → Bool
-is_in_doubt Absent = false
-is_in_doubt Live = false
 is_in_doubt InDoubt = true
-is_in_doubt Committed = false
-is_in_doubt ReadOnly = false
-is_in_doubt RolledBack = false
-is_in_doubt HeurCommitted = false
-is_in_doubt HeurRolledBack = false
+is_in_doubt f = false
 
 -- the branch is at work
 abbrev pub is_live : Fate → Bool
-is_live Absent = false
 is_live Live = true
-is_live InDoubt = false
-is_live Committed = false
-is_live ReadOnly = false
-is_live RolledBack = false
-is_live HeurCommitted = false
-is_live HeurRolledBack = false
+is_live f = false
 
 -- the branch was started, and hasn't ended
 abbrev pub is_unfinished : Fate → Bool
@@ -221,14 +193,12 @@ is_unfinished f = is_live f || is_in_doubt f
 
 -- a request that ends its branch: whether it is the committing one
 abbrev pub ending_by : Fate → Option Bool
-ending_by Absent = None
-ending_by Live = None
-ending_by InDoubt = None
 ending_by Committed = Some true
 ending_by ReadOnly = Some false
 ending_by RolledBack = Some false
 ending_by HeurCommitted = Some true
 ending_by HeurRolledBack = Some false
+ending_by f = None
 
 -- the same, where the request says nothing of the branch: it doesn't end it
 abbrev pub ending : Option Fate → Option Bool
@@ -257,17 +227,7 @@ added_by (Some a) d later = if later a.xid then d else pos 0
 -- what a request with this code adds to the key: nothing, unless it is an Add of the key with XA_OK
 abbrev pub share_of : List ℕ → Op → Code → Option Association → (XidName → Bool) → ℤ
 share_of k (Add own d) c a later = if key_eq own k && is_done c then added_by a d later else pos 0
-share_of k (Start y how) c a later = pos 0
-share_of k (Prepare y) c a later = pos 0
-share_of k (Commit y one_phase) c a later = pos 0
-share_of k (Rollback y) c a later = pos 0
-share_of k (Forget y) c a later = pos 0
-share_of k (Heur y commits) c a later = pos 0
-share_of k (Listed y) c a later = pos 0
-share_of k OpenRm c a later = pos 0
-share_of k CloseRm c a later = pos 0
-share_of k (End y how) c a later = pos 0
-share_of k Shut c a later = pos 0
+share_of k op c a later = pos 0
 
 -- the same for the first request of a history, after which `after` tells who commits; its branch is that with which its
 -- thread is associated at its place

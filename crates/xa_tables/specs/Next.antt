@@ -14,7 +14,7 @@ use Rattle.xa_words.specs.declared.request.Op.TheVariants.{Forget, Heur, Listed,
 use Rattle.xa_words.specs.declared.request.StartHow.{StartHow}
 use Rattle.xa_words.specs.declared.request.StartHow.TheVariants.{Fresh, Join, Resume}
 use Rattle.xa_words.specs.declared.request.EndHow.{EndHow}
-use Rattle.xa_words.specs.declared.request.EndHow.TheVariants.{Success, Suspend, Fail}
+use Rattle.xa_words.specs.declared.request.EndHow.TheVariants.{Suspend, Fail}
 use Rattle.xa_tables.specs.declared.state.State.{State}
 use Rattle.xa_tables.specs.declared.state.State.TheVariants.{Active, Idle, Prepared, RollbackOnly}
 use Rattle.xa_tables.specs.declared.state.State.TheVariants.{HeuristicallyCompleted}
@@ -45,15 +45,8 @@ abbrev pub needs_opening : Op → Bool
 needs_opening Shut = false
 needs_opening OpenRm = false
 needs_opening CloseRm = false
-needs_opening (Start x how) = true
-needs_opening (Add k d) = true
-needs_opening (End x how) = true
-needs_opening (Prepare x) = true
-needs_opening (Commit x one_phase) = true
-needs_opening (Rollback x) = true
-needs_opening (Forget x) = true
 needs_opening (Heur x commits) = false
-needs_opening (Listed x) = true
+needs_opening op = true
 
 abbrev pub if_opened : ℕ → Op → Tables → Answer → Answer
 if_opened t op T answer = if needs_opening op && not (has_opened T t) then (T, Proto) else answer
@@ -172,15 +165,13 @@ add t k d T =
 
 -- TMSUSPEND
 abbrev pub is_suspend : EndHow → Bool
-is_suspend Success = false
 is_suspend Suspend = true
-is_suspend Fail = false
+is_suspend how = false
 
 -- TMFAIL
 abbrev pub is_fail : EndHow → Bool
-is_fail Success = false
-is_fail Suspend = false
 is_fail Fail = true
+is_fail how = false
 
 -- with TMSUCCESS x becomes S2 where nobody else is associated with it
 abbrev pub end : EndHow → ℕ → XidName → Tables → Answer

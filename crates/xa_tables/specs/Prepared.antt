@@ -7,8 +7,8 @@ use Rattle.xa_words.specs.Xid.{XidName, xid_eq}
 use Rattle.xa_words.specs.declared.code.Code.{Code}
 use Rattle.xa_words.specs.declared.code.Code.TheVariants.{Done, RmFail}
 use Rattle.xa_words.specs.declared.request.Op.{Op}
-use Rattle.xa_words.specs.declared.request.Op.TheVariants.{OpenRm, CloseRm, Start, Add, End, Prepare, Commit, Rollback}
-use Rattle.xa_words.specs.declared.request.Op.TheVariants.{Forget, Heur, Listed, Shut}
+use Rattle.xa_words.specs.declared.request.Op.TheVariants.{CloseRm, Start, End, Prepare, Commit, Rollback}
+use Rattle.xa_words.specs.declared.request.Op.TheVariants.{Forget, Heur}
 use Rattle.xa_words.specs.declared.request.Request.{Request}
 use Rattle.xa_tables.specs.declared.state.State.{State}
 use Rattle.xa_tables.specs.declared.state.State.TheVariants.{Prepared, HeuristicallyCompleted}
@@ -20,18 +20,14 @@ use Rattle.xa_tables.specs.History.{History, Fate, is_shut, coded, tables_after,
 
 -- the request names the branch; one that only asks whether it is left doesn't
 abbrev pub names : XidName → Op → Bool
-names x OpenRm = false
-names x CloseRm = false
 names x (Start y how) = xid_eq y x
-names x (Add k d) = false
 names x (End y how) = xid_eq y x
 names x (Prepare y) = xid_eq y x
 names x (Commit y one_phase) = xid_eq y x
 names x (Rollback y) = xid_eq y x
 names x (Forget y) = xid_eq y x
 names x (Heur y commits) = xid_eq y x
-names x (Listed y) = false
-names x Shut = false
+names x op = false
 
 -- no request of the history names the branch
 abbrev pub NamesNowhere : XidName → History → Type 0

@@ -138,66 +138,38 @@ exists T x = is_some (state_of T x)
 
 -- S1
 abbrev pub is_S1 : Option State → Bool
-is_S1 None = false
 is_S1 (Some Active) = true
-is_S1 (Some Idle) = false
-is_S1 (Some Prepared) = false
-is_S1 (Some (RollbackOnly reason)) = false
-is_S1 (Some (HeuristicallyCompleted decision)) = false
+is_S1 s = false
 
 -- S2
 abbrev pub is_S2 : Option State → Bool
-is_S2 None = false
-is_S2 (Some Active) = false
 is_S2 (Some Idle) = true
-is_S2 (Some Prepared) = false
-is_S2 (Some (RollbackOnly reason)) = false
-is_S2 (Some (HeuristicallyCompleted decision)) = false
+is_S2 s = false
 
 -- S3
 abbrev pub is_S3 : Option State → Bool
-is_S3 None = false
-is_S3 (Some Active) = false
-is_S3 (Some Idle) = false
 is_S3 (Some Prepared) = true
-is_S3 (Some (RollbackOnly reason)) = false
-is_S3 (Some (HeuristicallyCompleted decision)) = false
+is_S3 s = false
 
 -- S4
 abbrev pub is_S4 : Option State → Bool
-is_S4 None = false
-is_S4 (Some Active) = false
-is_S4 (Some Idle) = false
-is_S4 (Some Prepared) = false
 is_S4 (Some (RollbackOnly reason)) = true
-is_S4 (Some (HeuristicallyCompleted decision)) = false
+is_S4 s = false
 
 -- S5
 abbrev pub is_S5 : Option State → Bool
-is_S5 None = false
-is_S5 (Some Active) = false
-is_S5 (Some Idle) = false
-is_S5 (Some Prepared) = false
-is_S5 (Some (RollbackOnly reason)) = false
 is_S5 (Some (HeuristicallyCompleted decision)) = true
+is_S5 s = false
 
 -- the code of S4's reason, XA_OK in any other state
 abbrev pub reason_in : Option State → Code
-reason_in None = Done
-reason_in (Some Active) = Done
-reason_in (Some Idle) = Done
-reason_in (Some Prepared) = Done
 reason_in (Some (RollbackOnly reason)) = reason_code reason
-reason_in (Some (HeuristicallyCompleted decision)) = Done
+reason_in s = Done
 
 -- the code of S5's decision, XA_OK in any other state
 abbrev pub decision_in : Option State → Code
-decision_in None = Done
-decision_in (Some Active) = Done
-decision_in (Some Idle) = Done
-decision_in (Some Prepared) = Done
-decision_in (Some (RollbackOnly reason)) = Done
 decision_in (Some (HeuristicallyCompleted decision)) = decision_code decision
+decision_in s = Done
 
 -- in this state it is left where an opening ends: prepared, or heuristically completed
 abbrev pub is_left_in : Option State → Bool

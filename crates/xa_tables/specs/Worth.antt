@@ -5,8 +5,8 @@ use Rattle.xa_base.specs.Sums.{total}
 use Rattle.xa_words.specs.Xid.{XidName, xid_eq}
 use Rattle.xa_words.specs.declared.code.Code.{Code}
 use Rattle.xa_words.specs.declared.request.Op.{Op}
-use Rattle.xa_words.specs.declared.request.Op.TheVariants.{OpenRm, CloseRm, Start, Add, End, Prepare, Commit, Rollback}
-use Rattle.xa_words.specs.declared.request.Op.TheVariants.{Forget, Heur, Listed, Shut}
+use Rattle.xa_words.specs.declared.request.Op.TheVariants.{Add, Commit}
+use Rattle.xa_words.specs.declared.request.Op.TheVariants.{Heur}
 use Rattle.xa_words.specs.declared.request.Request.{Request}
 use Rattle.xa_tables.specs.declared.state.Association.{Association}
 use Rattle.xa_tables.specs.Tables.{Tables, association_of, value_of, sum_of}
@@ -32,16 +32,7 @@ held_by accounts x T = total (λ d. sum_of T.sums x d.0) accounts
 abbrev pub moved_by : List (List ℕ × ℕ) → Op → Code → Tables → ℤ
 moved_by accounts (Commit y one_phase) c T = if is_done c then held_by accounts y T else pos 0
 moved_by accounts (Heur y commits) c T = if is_done c && commits then held_by accounts y T else pos 0
-moved_by accounts OpenRm c T = pos 0
-moved_by accounts CloseRm c T = pos 0
-moved_by accounts (Start y how) c T = pos 0
-moved_by accounts (Add k d) c T = pos 0
-moved_by accounts (End y how) c T = pos 0
-moved_by accounts (Prepare y) c T = pos 0
-moved_by accounts (Rollback y) c T = pos 0
-moved_by accounts (Forget y) c T = pos 0
-moved_by accounts (Listed y) c T = pos 0
-moved_by accounts Shut c T = pos 0
+moved_by accounts op c T = pos 0
 
 -- what the requests of a history add that pass a test, from the tables T on
 abbrev pub moved : List (List ℕ × ℕ) → (Request → Bool) → History → Tables → ℤ
@@ -63,17 +54,7 @@ is_of t r = r.thread == t
 -- what a request with this code, of a thread with this association, adds to the sums of x
 abbrev pub gain : XidName → Op → Code → Option Association → ℤ
 gain x (Add k d) c a = if is_done c then added_by a d (λ y. xid_eq y x) else pos 0
-gain x OpenRm c a = pos 0
-gain x CloseRm c a = pos 0
-gain x (Start y how) c a = pos 0
-gain x (End y how) c a = pos 0
-gain x (Prepare y) c a = pos 0
-gain x (Commit y one_phase) c a = pos 0
-gain x (Rollback y) c a = pos 0
-gain x (Forget y) c a = pos 0
-gain x (Heur y commits) c a = pos 0
-gain x (Listed y) c a = pos 0
-gain x Shut c a = pos 0
+gain x op c a = pos 0
 
 -- what is left of it: nothing, where the request ends the branch
 abbrev pub unless_ended : Option Bool → ℤ → ℤ

@@ -38,7 +38,8 @@ impl From<AllocError> for TableFault {
 pub struct Manager {
     inner: BranchTables,
     threads: u32,
-    left: u32,
+    // How many more requests it can carry out.
+    spare: u32,
     // For how many threads and requests there is room at the next opening.
     reserved: Option<(u32, u32)>,
 }
@@ -51,9 +52,15 @@ impl Model for Manager {
 
     ghost coded = { managed_code };
 
-    ghost view = { λ m. record { tables = m.inner.tables; threads = m.threads; room = m.left; reserved = m.reserved } };
+    ghost view = { λ m. record {
+      tables = m.inner.tables;
+      threads = m.threads;
+      room = m.spare;
+      reserved = m.reserved;
+    } };
 
-    ghost invariant = { λ m. (m.inner.threads ≡ m.threads) × (m.left ≤ m.inner.spare) × (m.inner.adds + m.left ≤ 2 ^ 16)
+    ghost invariant = { λ m. (m.inner.threads ≡ m.threads) × (m.spare ≤ m.inner.spare)
+        × (m.inner.adds + m.spare ≤ 2 ^ 16)
         × IfSome m.reserved (λ r. (r.0 ≤ m.inner.seats) × (r.1 ≤ m.inner.spare) × (r.1 ≤ 2 ^ 15)) };
 }
 
@@ -83,7 +90,7 @@ impl Manager {
         Ok(Manager {
             inner,
             threads,
-            left: room,
+            spare: room,
             reserved: None,
         })
     }
@@ -98,7 +105,7 @@ impl Manager {
         ensures reserved { self.new.reserved ≡ None }
     {
         let code = step(&mut self.inner, thread as usize, op);
-        self.left -= 1;
+        self.spare -= 1;
         self.reserved = None;
         code
     }
@@ -138,7 +145,7 @@ impl Manager {
         Manager {
             inner,
             threads,
-            left: room,
+            spare: room,
             reserved: None,
         }
     }
@@ -162,7 +169,7 @@ impl Manager {
     pub fn room(&self) -> u32
         ensures { result ≡ self.now.room }
     {
-        self.left
+        self.spare
     }
 }
 

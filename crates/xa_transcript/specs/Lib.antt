@@ -1,11 +1,4 @@
+pub mod Ended
+pub mod Text
 pub mod Transcript
 pub mod Values
-pub mod Planning
-pub mod Wants
-pub mod Parts
-pub mod Commits
-pub mod Resolves
-pub mod Journals
-pub mod Openings
-pub mod Outcomes
-pub mod Runs

@@ -1,9 +1,9 @@
--- The text of a run's answers and values.
+-- The text of a run's lines and values.
 use Rattle.std.specs.Prelude.{ℕ, List, ◌++◌, codes, decimal}
 use Rattle.std.specs.List.{flat_map}
 use Rattle.xa_grammar.specs.declared.script.Declared.{Declared}
-use Rattle.xa_session.specs.declared.answer.Answer.{Answer}
-use Rattle.xa_session.specs.Text.{answers_text}
+use Rattle.xa_transcript.specs.declared.answer.Told.{Told}
+use Rattle.xa_transcript.specs.Text.{lines_text}
 
 -- value M KEY V
 abbrev pub value_text : Declared → List ℕ
@@ -13,6 +13,6 @@ value_text d = codes "value " ++ decimal d.manager ++ codes " " ++ d.key ++ code
 abbrev pub values_text : List Declared → List ℕ
 values_text values = flat_map value_text values
 
--- The answers stand first, then the values.
-abbrev pub text : List Answer → List Declared → List ℕ
-text answers values = answers_text answers ++ values_text values
+-- The lines that were told stand first, then the values.
+abbrev pub text : List Told → List Declared → List ℕ
+text told values = lines_text told ++ values_text values

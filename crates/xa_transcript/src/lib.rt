@@ -1,14 +1,20 @@
-//! What a run of a script shows, and what that tells of the managers' journals.
+//! A transcript: what the lines of a script answered, and the values that it ends with, as bytes.
 //!
-//! `write_transcript` writes the answers and the values of a run; `specs/Transcript.antt` says which bytes
-//! these are. `specs/Runs.antt` says what the threads and the managers of a run have come to, in turns or
-//! in threads, `specs/Journals.antt` what the answers then tell of the settled opening, and `laws` has what
-//! follows from it. Who runs the threads is xa_script.
+//! An `Answer` is what a thread's task answered, and a `Told` one line of the transcript. A `Transcript` takes such
+//! lines one after the other; `specs/Text.antt` says which bytes they are. `values_of` gives the values after a run
+//! (`specs/Values.antt`), and `write_transcript` writes both. What the lines tell of the managers' journals is
+//! xa_telling's.
 #![tactic(auto)]
 
-pub mod laws;
+mod answer;
+mod ended;
+mod text;
 mod transcript;
 mod values;
+mod writing;
 
-pub use transcript::{RunFault, write_transcript};
+pub use answer::{Answer, Told};
+pub use ended::tell_ended;
+pub use transcript::{LINE, Transcript};
 pub use values::values_of;
+pub use writing::{RunFault, write_transcript};

@@ -1,76 +1,66 @@
-//! The transcript of a run.
-ghost use Rattle.std.specs.Prelude.{◌≡◌, ◌++◌, OnOk, IfOk, IsErrOf};
-ghost use Rattle.std.specs.Io.KnownBytes.{Appends};
-ghost use Rattle.xa_transcript.specs.Transcript.{value_text, values_text};
+//! The lines that a script has told so far, as text.
+ghost use Rattle.std.specs.Prelude.{◌≡◌, ◌++◌, ◌∷◌, [], IfOk, OnOk, OnErr};
+ghost use Rattle.xa_transcript.specs.Text.{lines_text};
 
-use itoa::{Buffer, Integer};
+use crate::answer::Told;
+use crate::text::put_line;
+use http_server::Log;
 use std::alloc::{AllocError, Global};
-use std::io::Write;
-use thiserror::Error;
-use xa_grammar::Declared;
+use std::marker::Model;
 
-/// Why a run shows nothing, or not all.
-#[derive(Clone, Copy, Debug, PartialEq, Eq, Error)]
-pub enum RunFault {
-    #[error("out of memory")]
-    NoMemory,
-    #[error("output failed")]
-    Write,
+/// How many bytes most lines of a transcript have at most, as `100000 8 -106` and its line feed have.
+pub const LINE: usize = 16;
+
+/// What was told so far. Only its text is kept; contracts see the lines.
+#[derive(Drop)]
+pub struct Transcript {
+    text: Vec<u8>,
+    // Where a line is put together, so that the text has whole lines.
+    line: Vec<u8>,
+    // What the lines tell. They have no bytes: only proofs read them.
+    told: Log<Told, ()>,
 }
 
-impl From<AllocError> for RunFault {
-    ghost use Rattle.xa_transcript.specs.declared.transcript.RunFault.TheVariants.{NoMemory};
+impl Model for Transcript {
+    ghost use Rattle.std.specs.Prelude.{◌≡◌, List, map};
+    ghost use Rattle.xa_transcript.specs.declared.answer.Told.{Told};
+    ghost use Rattle.xa_transcript.specs.Text.{lines_text};
 
-    ghost from_gives = { λ _ fault. fault ≡ NoMemory };
+    ghost Value = { List Told };
 
-    fn from(_error: AllocError) -> RunFault {
-        RunFault::NoMemory
+    ghost view = { λ t. map (λ x. x.0) t.told.items };
+
+    ghost invariant = { λ t. t.text.items ≡ lines_text (map (λ x. x.0) t.told.items) };
+}
+
+impl Transcript {
+    /// Nothing, with room for the text of so many lines, unless some are long.
+    pub fn with_capacity(alloc: Global, lines: usize) -> Result<Transcript, AllocError>
+        ensures { IfOk result (λ t. t ≡ []) }
+    {
+        Ok(Transcript {
+            text: Vec::with_capacity(alloc, lines.saturating_mul(LINE))?,
+            line: Vec::new(alloc),
+            told: Log::new(),
+        })
     }
-}
 
-fn put_number<I: Integer>(out: &mut Vec<u8>, number: I) -> Result<(), AllocError>
-    ensures { OnOk result (out.new.items ≡ out.old.items ++ I.text number) }
-{
-    out.extend_from_slice(Buffer::new().format(number).as_bytes())
-}
-
-fn put_value(out: &mut Vec<u8>, value: &Declared) -> Result<(), AllocError>
-    ensures { OnOk result (out.new.items ≡ out.old.items ++ value_text value.now) }
-{
-    out.extend_from_slice(b"value ")?;
-    put_number(out, value.manager)?;
-    out.extend_from_slice(b" ")?;
-    out.extend_from_slice(value.key.as_bytes())?;
-    out.extend_from_slice(b" ")?;
-    put_number(out, value.value)?;
-    out.extend_from_slice(b"\n")
-}
-
-// The lines of the values.
-fn values_text(alloc: Global, values: &[Declared]) -> Result<Vec<u8>, AllocError>
-    ensures { IfOk result (λ v. v.items ≡ values_text values.now) }
-{
-    let mut text = Vec::new(alloc);
-    for value in values {
-        put_value(&mut text, value)?;
+    /// Tells one more line.
+    pub fn tell(&mut self, told: Told) -> Result<(), AllocError>
+        ensures told { OnOk result (self.new ≡ self.old ++ told ∷ []) }
+        ensures same { OnErr result (self.new ≡ self.old) }
+    {
+        self.line.clear();
+        put_line(&mut self.line, &told)?;
+        self.text.extend_from_slice(&self.line)?;
+        self.told = self.told.and(&told, &());
+        Ok(())
     }
-    Ok(text)
-}
 
-/// Writes the transcript: the lines of the answers, and then those of the values. Where memory runs out nothing is
-/// written; after `Write` the writer may have taken a part.
-pub fn write_transcript<W: Write>(
-    alloc: Global,
-    lines: &[u8],
-    values: &[Declared],
-    writer: &mut W,
-) -> Result<(), RunFault>
-    ensures ok { OnOk result
-        (Appends (W.contents writer.old) (W.contents writer.new) (lines.now ++ values_text values.now)) }
-    ensures memory { IsErrOf result RunFault.NoMemory
-        → W.contents writer.new ≡ W.contents writer.old }
-{
-    let last = values_text(alloc, values)?;
-    writer.write_all(lines).map_err(|_| RunFault::Write)?;
-    writer.write_all(&last).map_err(|_| RunFault::Write)
+    /// The lines' bytes.
+    pub fn text(&self) -> &[u8]
+        ensures { result.now ≡ lines_text self.now }
+    {
+        &self.text
+    }
 }

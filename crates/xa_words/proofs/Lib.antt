@@ -1,1 +1,3 @@
 pub mod XidFields
+pub mod ManagerSets
+pub mod Xids

@@ -10,3 +10,4 @@ pub mod Delta
 pub mod Flags
 pub mod Orders
 pub mod TranOrders
+pub mod ManagerSet

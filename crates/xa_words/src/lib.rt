@@ -7,6 +7,7 @@ mod delta;
 mod flags;
 mod key;
 pub mod laws;
+mod manager_set;
 mod padded;
 mod request;
 mod tran;
@@ -19,6 +20,7 @@ pub use flags::{
     TMRESUME, TMSTARTRSCAN, TMSUCCESS, TMSUSPEND, TMUSEASYNC, check_flags,
 };
 pub use key::Key;
+pub use manager_set::ManagerSet;
 pub use request::{Completion, EndHow, Op, Request, RmOp, StartHow};
 pub use tran::Tran;
 pub use xid::{Xid, XidFault};

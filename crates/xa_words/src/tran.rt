@@ -1,8 +1,9 @@
 //! Names of global transactions.
 ghost use Rattle.std.specs.Prelude.{◌≡◌, IsTrue, length};
-ghost use Rattle.xa_words.specs.NewXid.{is_part};
+ghost use Rattle.xa_words.specs.NewXid.{is_part, new_tran};
 
 use crate::padded::padded;
+use crate::xid::{XidFault, is_part};
 use std::hash::{Hash, Hasher};
 use std::marker::Model;
 
@@ -54,8 +55,20 @@ impl Model for Tran {
 }
 
 impl Tran {
-    // `Xid::tran` makes these: a gtrid has 1 to 64 bytes.
-    pub(crate) fn new(format: i32, gtrid: &[u8]) -> Tran
+    /// A name, where the format isn't -1 and the gtrid has 1 to 64 bytes.
+    pub fn new(format: i32, gtrid: &[u8]) -> Result<Tran, XidFault>
+        ensures { result ≡ new_tran format gtrid.now }
+    {
+        if format == -1 {
+            return Err(XidFault::NullFormat);
+        }
+        if !is_part(gtrid) {
+            return Err(XidFault::GtridLength);
+        }
+        Ok(Tran::of_parts(format, gtrid))
+    }
+
+    pub(crate) fn of_parts(format: i32, gtrid: &[u8]) -> Tran
         requires { IsTrue (is_part gtrid.now) }
         ensures format { result.format ≡ format }
         ensures gtrid { result.gtrid ≡ gtrid.now }

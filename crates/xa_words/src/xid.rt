@@ -129,7 +129,7 @@ impl Xid {
     pub fn tran(&self) -> Tran
         ensures { result ≡ tran_of self.now }
     {
-        Tran::new(self.format(), self.gtrid())
+        Tran::of_parts(self.format(), self.gtrid())
     }
 
     // The bytes that are used: the gtrid, then the bqual.
@@ -212,7 +212,7 @@ impl PartialOrd for Xid {
     }
 }
 
-fn is_part(bytes: &[u8]) -> bool
+pub(crate) fn is_part(bytes: &[u8]) -> bool
     ensures { result ≡ is_part bytes.now }
 {
     (1..=Xid::MAX_PART_LEN).contains(&bytes.len())

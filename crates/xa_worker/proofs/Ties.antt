@@ -1,6 +1,5 @@
 -- What each kind of step keeps of a worker.
-use Rattle.std.proofs.Common.{◌≡◌, ◌⊎◌, ⊎_elim, append_assoc, ℕ, ◌+◌, ◌-◌, ◌<◌, ◌==◌, Bool, true, false, cond, List, [], ◌∷◌, ◌++◌, length, map, get_or, Option, Some, None, refl, sym, ap, ◌∙◌, subst, arith}
-use Rattle.std.specs.Prelude.{is_some}
+use Rattle.std.proofs.Common.{◌≡◌, ◌⊎◌, ⊎_elim, append_assoc, ℕ, ◌+◌, ◌-◌, ◌<◌, ◌==◌, Bool, true, false, cond, List, [], ◌∷◌, ◌++◌, length, map, get_or, Some, None, sym, ap, ◌∙◌, subst, arith}
 use Rattle.std.proofs.lemmas.List.{append-nil, map-append, length-map}
 use Rattle.xa_words.specs.declared.request.Request.{Request}
 use Rattle.xa_words.specs.declared.request.Completion.{Completion}
@@ -110,14 +109,6 @@ tied_carried w o r' s r m p journal t sent put none took thread carried entered 
     let idle : o.waiting ≡ None = ap (λ (x : Outgoing). x.waiting) sent ∙ none-flushed w.out in
     let place : r.thread - 1 < length o.senders = omega (arith, count, t.lanes, t.senders, took.0, thread) in
     tied_enter w o lanes put t r' s r none took m p journal thread carried entered (lanes-puts o _ _ p puts) (put-puts o _ _ p place idle puts)
-
-pub none_of : {X : Type 0} (h : Option X) → is_some h ≡ false → h ≡ None
-none_of None e = refl
-none_of (Some x) e = absurd (cc)
-
-pub some_of : {X : Type 0} (h : Option X) → is_some h ≡ true → (x : X) × (h ≡ Some x)
-some_of None e = absurd (cc)
-some_of (Some x) e = (x, refl)
 
 -- a worker that has finished, and has put its end marks
 pub served_by : (w : WorkerView) (ends : List Answering) → IsTied w → IsFinished w → map but_full ends ≡ map but_full w.out.senders → IsServed (served w.number w.first w.manager w.receiver ends w.journal)

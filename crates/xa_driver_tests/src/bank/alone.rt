@@ -4,7 +4,7 @@ use std::alloc::Global;
 use std::process::Abort;
 use std::sync::Wait;
 use std::thread::Threads;
-use xa_bank::Outcome;
+use xa_bank::TransferOutcome;
 use xa_switch::{ManagerPlan, Plan};
 
 // The one transfer that hasn't: it takes 400 from the account current of store 1, which has 200 by then.
@@ -63,7 +63,7 @@ fn without_room_nothing_is_put(rt: HostRuntime) {
     let day = day_of(&rt, alloc, &plan);
     for attended in &day.clients {
         for outcome in &attended.client.outcomes {
-            assert!(rt; matches!(outcome, Outcome::Refused));
+            assert!(rt; matches!(outcome, TransferOutcome::Refused));
         }
     }
     for before in 0..STORES {

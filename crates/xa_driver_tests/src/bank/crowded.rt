@@ -3,10 +3,11 @@ use super::{NAMES, account_of, amount_of, is_committed, is_own, plan_of, start_o
 use std::alloc::Global;
 use std::process::Abort;
 use std::sync::Wait;
-use xa_bank::{Outcome, Teller, Transfer};
+use xa_bank::{Teller, Transfer, TransferOutcome};
+use xa_crew::laws::idles_go_on;
 use xa_crew::{Client, run_clients};
 use xa_desk::laws::desks_go_on;
-use xa_desk::{Desk, Spin};
+use xa_desk::{Desk, Idle};
 use xa_driver::Ending;
 use xa_switch::{Settled, native};
 use xa_words::{Key, Op, RmOp, TMNOFLAGS};
@@ -31,12 +32,12 @@ struct Clerk {
 impl Client for Clerk {
     ghost works = { λ clerk desk clerk' desk'. Unit {0} };
 
-    fn work<R: Wait>(&mut self, rt: &R, desk: &mut Desk) {
+    fn work<R: Wait, I: Idle>(&mut self, rt: &R, desk: &mut Desk, idle: &mut I) {
         desks_go_on();
-        self.teller.work(rt, desk);
+        idles_go_on::<I>();
+        self.teller.work(rt, desk, idle);
         if let Some(store) = self.shuts {
-            let mut idle = Spin::new();
-            native(rt, desk, RmOp::Shut, store, TMNOFLAGS, &mut idle);
+            native(rt, desk, RmOp::Shut, store, TMNOFLAGS, idle);
         }
     }
 }
@@ -92,8 +93,8 @@ fn delta_at(transfer: &Transfer, store: u32) -> i64 {
 }
 
 // Adds what an outcome says of the store's account.
-fn tell(told: &mut Told, store: u32, transfer: &Transfer, outcome: &Outcome) {
-    let Outcome::Decided(done) = outcome else {
+fn tell(told: &mut Told, store: u32, transfer: &Transfer, outcome: &TransferOutcome) {
+    let TransferOutcome::Decided(done) = outcome else {
         return;
     };
     let place = if store == transfer.from.min(transfer.to) {

@@ -8,7 +8,7 @@ use std::alloc::Global;
 use std::process::Abort;
 use std::sync::Wait;
 use std::thread::Threads;
-use xa_bank::{Day, Death, Outcome, Point, Teller, run_day};
+use xa_bank::{Day, Death, Point, Teller, TransferOutcome, run_day};
 use xa_crew::{Attended, Run};
 use xa_driver::DecisionRecords;
 use xa_switch::Settled;
@@ -66,13 +66,19 @@ fn tran_of(rt: &impl Abort, thread: u32, place: u32) -> Tran {
 }
 
 // Whether the transfer was made: as was decided, or where its teller died with it, as the log has it.
-fn was_made(rt: &impl Abort, teller: &Teller, outcome: &Outcome, thread: u32, place: u32) -> bool {
+fn was_made(
+    rt: &impl Abort,
+    teller: &Teller,
+    outcome: &TransferOutcome,
+    thread: u32,
+    place: u32,
+) -> bool {
     match outcome {
-        Outcome::Decided(done) => done.commit,
-        Outcome::Died { at: _, known: _ } => {
+        TransferOutcome::Decided(done) => done.commit,
+        TransferOutcome::Died { at: _, known: _ } => {
             teller.log().has(&tran_of(rt, thread, place)).is_some()
         }
-        Outcome::Refused => false,
+        TransferOutcome::Refused => false,
     }
 }
 
@@ -127,7 +133,7 @@ fn died_there(rt: &impl Abort, clients: &[Attended<Teller>], points: [Point; 2])
         if before < 2 {
             assert_eq!(rt; outcomes.len(), PLACES[before].saturating_add(1));
             assert!(rt;
-                matches!(last, Some(Outcome::Died { at, known: _ }) if *at == points[before])
+                matches!(last, Some(TransferOutcome::Died { at, known: _ }) if *at == points[before])
             );
         } else {
             assert!(rt; last.is_some_and(|outcome| !outcome.has_died()));

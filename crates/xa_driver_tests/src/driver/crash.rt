@@ -6,20 +6,21 @@ ghost use Rattle.xa_desk.specs.Kept.{AllKept};
 ghost use Rattle.xa_driver.specs.Log.{AppendsTo};
 
 use super::resolved::recover;
-use super::threads::comes;
 use super::{branch, key, plan_of};
 use std::alloc::Global;
 use std::process::Abort;
 use std::sync::atomic::{AtomicBool, Ordering};
 use std::sync::{Arc, Wait};
+use xa_crew::laws::idles_go_on;
 use xa_crew::{Attended, Client, Run, run_clients};
 use xa_desk::laws::desks_go_on;
-use xa_desk::{Desk, Spin};
+use xa_desk::{Desk, Idle};
 use xa_driver::{
     Branch, CommitRecord, DecisionLog, DecisionRecords, Done, Ending, LogFault, MemoryLog, Outcome,
     Yes, commit_all, may_commit,
 };
 use xa_switch::{Again, Plan, RmOp, Settled, native, xa_call};
+use xa_testing::comes;
 use xa_words::{Call, Code, Delta, Key, TMNOFLAGS, TMSUCCESS, Tran, Xid};
 use xa_worker::Free;
 
@@ -90,52 +91,68 @@ fn leg(m: u32, bqual: &[u8], change: i64) -> Option<(Branch, RmOp)> {
 }
 
 // A call for the branch.
-fn ask<R: Wait>(
+fn ask<R: Wait, I: Idle>(
     rt: &R,
     desk: &mut Desk,
     call: Call,
     branch: &Branch,
     flags: u32,
-    spin: &mut Spin,
+    idle: &mut I,
 ) -> i32
     ensures goes_on { GoesOn desk.old desk.new }
     ensures kept { AllKept desk.old → AllKept desk.new }
+    ensures idled { I.leads idle.old idle.new }
 {
     let xid = Some(branch.xid);
-    xa_call(rt, desk, call, xid, branch.m, flags, spin)
+    xa_call(rt, desk, call, xid, branch.m, flags, idle)
 }
 
 // Whether this was added for the branch, at a manager that the thread opened first.
-fn work<R: Wait>(rt: &R, desk: &mut Desk, branch: &Branch, addition: RmOp, spin: &mut Spin) -> bool
+fn work<R: Wait, I: Idle>(
+    rt: &R,
+    desk: &mut Desk,
+    branch: &Branch,
+    addition: RmOp,
+    idle: &mut I,
+) -> bool
     ensures goes_on { GoesOn desk.old desk.new }
     ensures kept { AllKept desk.old → AllKept desk.new }
+    ensures idled { I.leads idle.old idle.new }
 {
     desks_go_on();
-    let opened = ask(rt, desk, Call::OpenRm, branch, TMNOFLAGS, spin);
-    let started = ask(rt, desk, Call::Start, branch, TMNOFLAGS, spin);
-    let added = native(rt, desk, addition, branch.m, TMNOFLAGS, spin);
-    let ended = ask(rt, desk, Call::End, branch, TMSUCCESS, spin);
+    idles_go_on::<I>();
+    let opened = ask(rt, desk, Call::OpenRm, branch, TMNOFLAGS, idle);
+    let started = ask(rt, desk, Call::Start, branch, TMNOFLAGS, idle);
+    let added = native(rt, desk, addition, branch.m, TMNOFLAGS, idle);
+    let ended = ask(rt, desk, Call::End, branch, TMSUCCESS, idle);
     opened == 0 && started == 0 && added == 0 && ended == 0
 }
 
 // Works for three branches, whose additions sum to 0, and commits them where that may be done.
-fn commit<R: Wait>(rt: &R, alloc: Global, desk: &mut Desk, log: &mut Waiting) -> Option<Done>
+fn commit<R: Wait, I: Idle>(
+    rt: &R,
+    alloc: Global,
+    desk: &mut Desk,
+    log: &mut Waiting,
+    idle: &mut I,
+) -> Option<Done>
     ensures goes_on { GoesOn desk.old desk.new }
     ensures kept { AllKept desk.old → AllKept desk.new }
+    ensures idled { I.leads idle.old idle.new }
 {
     desks_go_on();
-    let mut spin = Spin::new();
+    idles_go_on::<I>();
     let (first, less) = leg(1, b"1", -2)?;
     let (second, more) = leg(2, b"2", 1)?;
     let (third, again) = leg(3, b"3", 1)?;
-    let at_first = work(rt, desk, &first, less, &mut spin);
-    let at_second = work(rt, desk, &second, more, &mut spin);
-    let at_third = work(rt, desk, &third, again, &mut spin);
+    let at_first = work(rt, desk, &first, less, idle);
+    let at_second = work(rt, desk, &second, more, idle);
+    let at_third = work(rt, desk, &third, again, idle);
     let branches = [first, second, third];
     if !(at_first && at_second && at_third && may_commit(desk, log, branches.as_slice())) {
         return None;
     }
-    match commit_all(rt, alloc, desk, log, branches.as_slice(), &mut spin) {
+    match commit_all(rt, alloc, desk, log, branches.as_slice(), idle) {
         Ok(done) => Some(done),
         Err(_) => None,
     }
@@ -150,25 +167,27 @@ struct Committer {
 }
 
 impl Committer {
-    fn commit<R: Wait>(&mut self, rt: &R, desk: &mut Desk)
+    fn commit<R: Wait, I: Idle>(&mut self, rt: &R, desk: &mut Desk, idle: &mut I)
         ensures goes_on { GoesOn desk.old desk.new }
         ensures kept { AllKept desk.old → AllKept desk.new }
+        ensures idled { I.leads idle.old idle.new }
     {
-        let done = commit(rt, self.alloc, desk, &mut self.log);
+        let done = commit(rt, self.alloc, desk, &mut self.log, idle);
         self.done = done;
     }
 }
 
 // Shuts managers 2 and 3 once the record is made.
-fn shut<R: Wait>(rt: &R, desk: &mut Desk, signals: &Signals)
+fn shut<R: Wait, I: Idle>(rt: &R, desk: &mut Desk, signals: &Signals, idle: &mut I)
     ensures goes_on { GoesOn desk.old desk.new }
     ensures kept { AllKept desk.old → AllKept desk.new }
+    ensures idled { I.leads idle.old idle.new }
 {
     desks_go_on();
-    let mut spin = Spin::new();
+    idles_go_on::<I>();
     comes(&signals.recorded);
-    native(rt, desk, RmOp::Shut, 2, TMNOFLAGS, &mut spin);
-    native(rt, desk, RmOp::Shut, 3, TMNOFLAGS, &mut spin);
+    native(rt, desk, RmOp::Shut, 2, TMNOFLAGS, idle);
+    native(rt, desk, RmOp::Shut, 3, TMNOFLAGS, idle);
     signals.shut.store(true, Ordering::SeqCst);
 }
 
@@ -182,10 +201,10 @@ enum Part {
 impl Client for Part {
     ghost works = { λ part desk part' desk'. Unit {0} };
 
-    fn work<R: Wait>(&mut self, rt: &R, desk: &mut Desk) {
+    fn work<R: Wait, I: Idle>(&mut self, rt: &R, desk: &mut Desk, idle: &mut I) {
         match self {
-            Part::Commits(committer) => committer.commit(rt, desk),
-            Part::Shuts(signals) => shut(rt, desk, signals),
+            Part::Commits(committer) => committer.commit(rt, desk, idle),
+            Part::Shuts(signals) => shut(rt, desk, signals, idle),
         }
     }
 }

@@ -8,10 +8,10 @@ ghost use Rattle.xa_desk.specs.DeskView.{ledger};
 ghost use Rattle.xa_desk.specs.GoesOn.{GoesOn};
 ghost use Rattle.xa_desk.specs.Growth.{HaveGrown};
 ghost use Rattle.xa_switch.specs.Fates.{ledgers_of};
-ghost use Rattle.xa_switch.specs.Seats.{ComeFromOpenings, seat_of_desk, seat_of_worker};
+ghost use Rattle.xa_switch.specs.Belonging.{ComeFromOpenings, seat_of_desk, seat_of_worker};
 ghost use Rattle.xa_switch.specs.Settling.{IsSettled};
 ghost use Rattle.xa_driver.specs.Cut.{IsCut};
-ghost use Rattle.xa_driver.specs.Outcomes.{AreLeftOrDecided};
+ghost use Rattle.xa_driver.specs.Outcomes.{AreLeftOrDecided, sent_so_far};
 ghost use Rattle.xa_driver.specs.Presumed.{CountsByTheLog, EndsByTheLog};
 ghost use Rattle.xa_driver.specs.Resolution.{CutCall, ResolveCall, cuts, resolves, with_use};
 ghost use Rattle.xa_driver.specs.Trace.{MayCommit};
@@ -19,11 +19,12 @@ ghost use Rattle.xa_driver.specs.Trace.{MayCommit};
 use super::openings::{again, open, settle_all};
 use super::pieces::{end, run_all, work};
 use super::resolved::{Recovered, recover};
-use super::{Opened, Workers, branch, key, plan_of};
+use super::{Opened, branch, key, plan_of};
 use std::alloc::Global;
 use std::process::Abort;
 use std::snapshot::Snapshot;
 use std::sync::Wait;
+use xa_crew::Turns;
 use xa_desk::laws::desks_go_on;
 use xa_desk::{Desk, Idle};
 use xa_driver::laws::{
@@ -153,10 +154,10 @@ pub(super) fn die<R: Wait + Abort, I: Idle>(
 }
 
 // Collects what the dead coordinator left in flight under this number.
-fn collect_number<R: Wait>(rt: &R, desk: &mut Desk, number: u32, idle: &mut Workers)
+fn collect_number<R: Wait>(rt: &R, desk: &mut Desk, number: u32, idle: &mut Turns)
     ensures goes_on { GoesOn desk.old desk.new }
     ensures sent { (m : ℕ) → (ledger desk.new.ledgers m).sent ≡ (ledger desk.old.ledgers m).sent }
-    ensures idled { map seat_of_worker idle.new.workers.items ≡ map seat_of_worker idle.old.workers.items }
+    ensures idled { map seat_of_worker idle.new ≡ map seat_of_worker idle.old }
 {
     desks_go_on();
     let Some(ticket) = desk.redeem(number) else {
@@ -166,10 +167,10 @@ fn collect_number<R: Wait>(rt: &R, desk: &mut Desk, number: u32, idle: &mut Work
 }
 
 // Collects all that is in flight, as the end of its thread does.
-fn collect_all<R: Wait>(rt: &R, desk: &mut Desk, idle: &mut Workers)
+fn collect_all<R: Wait>(rt: &R, desk: &mut Desk, idle: &mut Turns)
     ensures goes_on { GoesOn desk.old desk.new }
     ensures sent { (m : ℕ) → (ledger desk.new.ledgers m).sent ≡ (ledger desk.old.ledgers m).sent }
-    ensures idled { map seat_of_worker idle.new.workers.items ≡ map seat_of_worker idle.old.workers.items }
+    ensures idled { map seat_of_worker idle.new ≡ map seat_of_worker idle.old }
 {
     desks_go_on();
     for before in 0..desk.handles() {
@@ -180,11 +181,11 @@ fn collect_all<R: Wait>(rt: &R, desk: &mut Desk, idle: &mut Workers)
 // ---- a manager that decides heuristically
 
 // Has manager 2 decide the branch.
-fn decide<R: Wait>(rt: &R, desk: &mut Desk, xid: Xid, commits: bool, idle: &mut Workers)
+fn decide<R: Wait>(rt: &R, desk: &mut Desk, xid: Xid, commits: bool, idle: &mut Turns)
     ensures seat { seat_of_desk desk.new ≡ seat_of_desk desk.old }
     ensures decides { ((m : ℕ) → All (λ op. is_heur op ≡ true) (ledger desk.old.ledgers m).sent) → (m : ℕ)
         → All (λ op. is_heur op ≡ true) (ledger desk.new.ledgers m).sent }
-    ensures idled { map seat_of_worker idle.new.workers.items ≡ map seat_of_worker idle.old.workers.items }
+    ensures idled { map seat_of_worker idle.new ≡ map seat_of_worker idle.old }
 {
     let _ = desk.call(rt, 2, Op::Heur(xid, commits), idle);
 }
@@ -194,18 +195,18 @@ fn decide<R: Wait>(rt: &R, desk: &mut Desk, xid: Xid, commits: bool, idle: &mut 
 #[derive(Drop)]
 struct Deciding {
     second: Desk,
-    workers: Workers,
+    workers: Turns,
     decision: Option<(Xid, bool)>,
 }
 
 impl Idle for Deciding {
     ghost leads_by = { λ manager before after. (seat_of_desk after.second ≡ seat_of_desk before.second)
-        × (map seat_of_worker after.workers.workers.items ≡ map seat_of_worker before.workers.workers.items)
+        × (map seat_of_worker after.workers ≡ map seat_of_worker before.workers)
         × (((m : ℕ) → All (λ op. is_heur op ≡ true) (ledger before.second.ledgers m).sent) → (m : ℕ)
         → All (λ op. is_heur op ≡ true) (ledger after.second.ledgers m).sent) };
 
     ghost leads = { λ before after. (seat_of_desk after.second ≡ seat_of_desk before.second)
-        × (map seat_of_worker after.workers.workers.items ≡ map seat_of_worker before.workers.workers.items)
+        × (map seat_of_worker after.workers ≡ map seat_of_worker before.workers)
         × (((m : ℕ) → All (λ op. is_heur op ≡ true) (ledger before.second.ledgers m).sent) → (m : ℕ)
         → All (λ op. is_heur op ≡ true) (ledger after.second.ledgers m).sent) };
 
@@ -247,14 +248,14 @@ fn die_and_settle<R: Wait + Abort>(
     decision: Option<bool>,
 ) -> Ended
     requires opened { ComeFromOpenings (seat_of_desk opened.first ∷ seat_of_desk opened.second ∷ [])
-        (map seat_of_worker opened.workers.workers.items) }
+        (map seat_of_worker opened.workers) }
     requires fresh { (m : ℕ) → (ledger opened.second.ledgers m).sent ≡ [] }
     ensures settled { IsSettled result.settled }
     ensures cut { IsCut branches.now result.died.before.value result.died.after.value.ledgers
         result.died.log_before.value.state result.died.log_after.value.state result.died.endings.items }
     ensures grown { HaveGrown result.died.after.value.ledgers (ledgers_of result.settled result.thread) }
-    ensures own { AreLeftOrDecided result.settled result.thread branches.now result.died.before.value.ledgers
-        result.died.after.value.ledgers }
+    ensures own { AreLeftOrDecided result.settled result.thread branches.now
+        (sent_so_far result.died.before.value.ledgers) (sent_so_far result.died.after.value.ledgers) }
     ensures few { length result.died.before.value.ledgers ≤ 8 }
     ensures log { result.died.log_after.value ≡ log.new }
 {
@@ -284,7 +285,7 @@ fn die_and_settle<R: Wait + Abort>(
     let Ok(desks) = Vec::from_array(alloc, [first_ended, second_ended]) else {
         panic!(rt; "memory");
     };
-    let done = run_all(rt, alloc, workers.workers);
+    let done = run_all(rt, alloc, workers);
     let settled = settle_all(rt, alloc, desks, done);
     Ended {
         settled,
@@ -316,7 +317,7 @@ fn die_and_resolve<R: Wait + Abort>(
     decision: Option<bool>,
 ) -> Story
     requires opened { ComeFromOpenings (seat_of_desk opened.first ∷ seat_of_desk opened.second ∷ [])
-        (map seat_of_worker opened.workers.workers.items) }
+        (map seat_of_worker opened.workers) }
     requires fresh { (m : ℕ) → (ledger opened.second.ledgers m).sent ≡ [] }
     ensures { let k : CutCall = record {
       thread = result.thread;

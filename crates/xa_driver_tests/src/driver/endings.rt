@@ -1,39 +1,31 @@
 //! Endings that take a second thread: it goes on with a branch before the vote, or between the phases.
-use super::{Opened, Workers, branch, tells};
+use super::{Opened, branch, tells};
 use std::alloc::Global;
 use std::process::Abort;
 use std::sync::Wait;
+use xa_crew::Turns;
 use xa_desk::{Desk, Idle};
 use xa_driver::{Branch, Done, Ending, MemoryLog, commit_all, may_commit};
 use xa_switch::xa_call;
 use xa_words::{Call, Code, EndHow, Op, TMJOIN};
-use xa_worker::{Free, Step, Worker};
 
-// Has a worker do all that there is.
-fn drain<R: Wait>(rt: &R, worker: &mut Worker) {
-    for _request in 0..16 {
-        if worker.step(rt, &mut Free) == Step::Empty {
-            return;
-        }
-    }
-}
+// More turns than manager 2 has requests at any time.
+const TURNS: usize = 16;
 
 // As it first idles the branches have been asked to prepare. Manager 2 answers that, and then a request
 // of the second thread.
 #[derive(Drop)]
 struct Meddler {
     second: Desk,
-    workers: Workers,
+    workers: Turns,
     op: Op,
     has_meddled: bool,
 }
 
 impl Meddler {
     fn meddle<R: Wait>(&mut self, rt: &R) {
-        for worker in &mut self.workers.workers {
-            if worker.manager() == 2 {
-                drain(rt, worker);
-            }
+        for _turn in 0..TURNS {
+            self.workers.idle(rt, 2);
         }
         let _answer = self.second.call(rt, 2, self.op, &mut self.workers);
     }

@@ -1,8 +1,9 @@
 //! A manager that is shut, or decides heuristically, at each moment of a commit.
-use super::{Opened, Workers, branch, plan_of, tells};
+use super::{Opened, branch, plan_of, tells};
 use std::alloc::Global;
 use std::process::Abort;
 use std::sync::Wait;
+use xa_crew::Turns;
 use xa_desk::{Desk, Idle};
 use xa_driver::{Done, Ending, MemoryLog, commit_all, may_commit};
 use xa_switch::Plan;
@@ -13,7 +14,7 @@ use xa_words::{Code, Op};
 #[derive(Drop)]
 struct Meddler {
     second: Desk,
-    workers: Workers,
+    workers: Turns,
     op: Op,
     idled: u32,
     at: u32,

@@ -6,36 +6,39 @@ ghost use Rattle.xa_switch.specs.Plans.{Setup};
 ghost use Rattle.xa_switch.specs.Again.{reopening};
 ghost use Rattle.xa_switch.specs.Closing.{settling};
 ghost use Rattle.xa_switch.specs.OfPlans.{IsOf};
-ghost use Rattle.xa_switch.specs.Openings.{AreOfOneOpening};
+ghost use Rattle.xa_switch.specs.OpenedPieces.{AreOfOneOpening};
 ghost use Rattle.xa_switch.specs.Recovery.{IsScanOf};
-ghost use Rattle.xa_switch.specs.Seats.{ComeFromOpenings, desk_seats, worker_seats, seat_of_desk, seat_of_worker};
+ghost use Rattle.xa_switch.specs.Belonging.{ComeFromOpenings, desk_seats, worker_seats, seat_of_desk, seat_of_worker};
 ghost use Rattle.xa_switch.specs.Settling.{IsSettled};
 
-use super::pieces::{one, two};
-use super::{Opened, Workers};
+use super::Opened;
 use std::alloc::Global;
 use std::process::Abort;
 use std::sync::Wait;
+use xa_crew::Turns;
 use xa_desk::{Desk, EndedDesk};
 use xa_switch::laws::{opened_pieces_come_from_their_opening, settled_openings_are_of_their_setup};
-use xa_switch::{Again, Plan, Scan, Settled, open_switch, reopen, settle};
-use xa_worker::{DoneWorker, Worker};
+use xa_switch::{Again, Plan, Scan, Settled, settle};
+use xa_testing::{one, two};
+use xa_worker::DoneWorker;
 
 // Opens a switch of two threads, the second of which has sent nothing.
 pub(super) fn open<R: Wait + Abort>(rt: &R, alloc: Global, plan: &Plan) -> Opened
     ensures opened { ComeFromOpenings (seat_of_desk result.first ∷ seat_of_desk result.second ∷ [])
-        (map seat_of_worker result.workers.workers.items) }
+        (map seat_of_worker result.workers) }
     ensures fresh { (m : ℕ) → (ledger result.second.ledgers m).sent ≡ [] }
 {
     opened_pieces_come_from_their_opening();
-    let Ok((desks, workers)) = open_switch(rt, alloc, plan) else {
+    let Some((desks, workers)) = xa_testing::open(rt, alloc, plan) else {
         panic!(rt; "it is not opened");
     };
-    let (first, second) = two(rt, desks);
+    let Some((first, second)) = two(desks) else {
+        panic!(rt; "there are no two desks");
+    };
     Opened {
         first,
         second,
-        workers: Workers { workers },
+        workers,
     }
 }
 
@@ -64,7 +67,7 @@ pub(super) fn settle_all<R: Wait + Abort>(
 #[derive(Drop)]
 pub(super) struct Reopened {
     pub(super) desk: Desk,
-    pub(super) workers: Workers,
+    pub(super) workers: Turns,
     pub(super) scan: Scan,
 }
 
@@ -74,16 +77,22 @@ pub(super) fn open_again<R: Wait + Abort>(
     settled: Settled,
     again: &Again,
 ) -> Reopened
-    ensures opened { AreOfOneOpening (reopening settled again.now) (result.desk ∷ []) result.workers.workers.items }
+    ensures opened { AreOfOneOpening (reopening settled again.now) (result.desk ∷ []) result.workers }
     ensures scan { IsScanOf settled result.scan }
 {
-    let Ok((desks, workers, scans)) = reopen(rt, alloc, settled, again) else {
+    let Some((desks, workers, scans)) = xa_testing::open_again(rt, alloc, settled, again) else {
         panic!(rt; "it is not opened again");
     };
+    let Some(desk) = one(desks) else {
+        panic!(rt; "there is no one desk");
+    };
+    let Some(scan) = one(scans) else {
+        panic!(rt; "there is no one scan");
+    };
     Reopened {
-        desk: one(rt, desks),
-        workers: Workers { workers },
-        scan: one(rt, scans),
+        desk,
+        workers,
+        scan,
     }
 }
 

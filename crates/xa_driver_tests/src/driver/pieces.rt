@@ -1,49 +1,24 @@
 //! The pieces of an opening: a desk that works, commits and ends, and workers that run to their ends.
-ghost use Rattle.std.specs.Prelude.{◌≡◌, ◌≤◌, ◌∷◌, [], length, map};
-ghost use Rattle.xa_switch.specs.Seats.{worker_seats, seat_of_desk, seat_of_ended, seat_of_worker, seat_of_done};
+ghost use Rattle.std.specs.Prelude.{◌≡◌, ◌≤◌, length, map};
+ghost use Rattle.xa_switch.specs.Belonging.{worker_seats, seat_of_desk, seat_of_ended, seat_of_worker};
 ghost use Rattle.xa_driver.specs.Trace.{IsCommit};
 
-use super::{Workers, delta, key};
+use super::{delta, key};
 use std::alloc::Global;
 use std::process::Abort;
 use std::snapshot::Snapshot;
 use std::sync::Wait;
+use xa_crew::Turns;
 use xa_desk::{Desk, EndedDesk, Idle};
 use xa_driver::{Branch, Done, MemoryLog, commit_all, may_commit};
 use xa_switch::{RmOp, native, xa_call};
 use xa_words::{Call, TMNOFLAGS, TMSUCCESS};
-use xa_worker::{DoneWorker, Free, Worker};
-
-// The only element.
-pub(super) fn one<T: Drop>(rt: &impl Abort, all: Vec<T>) -> T
-    ensures { result ∷ [] ≡ all.items }
-{
-    let mut all = all;
-    let Some(only) = all.pop() else {
-        panic!(rt; "there is none");
-    };
-    if !all.is_empty() {
-        panic!(rt; "there are more");
-    }
-    only
-}
-
-// The first and the second of two.
-pub(super) fn two<T: Drop>(rt: &impl Abort, all: Vec<T>) -> (T, T)
-    ensures { result.0 ∷ result.1 ∷ [] ≡ all.items }
-{
-    let mut all = all;
-    let Some(second) = all.pop() else {
-        panic!(rt; "there is none");
-    };
-    let first = one(rt, all);
-    (first, second)
-}
+use xa_worker::DoneWorker;
 
 // Work for a branch, at a manager that the thread opens first.
-pub(super) fn work<R: Wait + Abort>(rt: &R, desk: &mut Desk, branch: &Branch, idle: &mut Workers)
+pub(super) fn work<R: Wait + Abort>(rt: &R, desk: &mut Desk, branch: &Branch, idle: &mut Turns)
     ensures seat { seat_of_desk desk.new ≡ seat_of_desk desk.old }
-    ensures idled { map seat_of_worker idle.new.workers.items ≡ map seat_of_worker idle.old.workers.items }
+    ensures idled { map seat_of_worker idle.new ≡ map seat_of_worker idle.old }
 {
     let (m, xid) = (branch.m, Some(branch.xid));
     let add = RmOp::Add(key(rt), delta(rt, 1));
@@ -98,37 +73,24 @@ pub(super) fn commit<R: Wait + Abort, I: Idle>(
 }
 
 // Ends a desk with which nothing is outstanding.
-pub(super) fn end<R: Wait + Abort>(rt: &R, desk: Desk, idle: &mut Workers) -> EndedDesk
+pub(super) fn end<R: Wait + Abort>(rt: &R, desk: Desk, idle: &mut Turns) -> EndedDesk
     ensures thread { result.thread ≡ desk.thread }
     ensures seat { seat_of_ended result ≡ seat_of_desk desk }
     ensures lists { result.ledgers ≡ desk.ledgers }
-    ensures idled { map seat_of_worker idle.new.workers.items ≡ map seat_of_worker idle.old.workers.items }
+    ensures idled { map seat_of_worker idle.new ≡ map seat_of_worker idle.old }
 {
-    match desk.finish(rt, idle) {
-        Ok(ended) => ended,
-        Err(_) => panic!(rt; "something is outstanding"),
-    }
+    let Some(ended) = xa_testing::end(rt, desk, idle) else {
+        panic!(rt; "something is outstanding");
+    };
+    ended
 }
 
-// Runs a worker to its end.
-fn run<R: Wait>(rt: &R, worker: Worker) -> DoneWorker
-    ensures { seat_of_done result ≡ seat_of_worker worker }
+// Runs all workers of an opening to their ends.
+pub(super) fn run_all<R: Wait + Abort>(rt: &R, alloc: Global, workers: Turns) -> Vec<DoneWorker>
+    ensures { worker_seats result.items ≡ map seat_of_worker workers }
 {
-    worker.run(rt, &mut Free)
-}
-
-// Runs all workers of an opening.
-pub(super) fn run_all<R: Wait + Abort>(
-    rt: &R,
-    alloc: Global,
-    workers: Vec<Worker>,
-) -> Vec<DoneWorker>
-    ensures { worker_seats result.items ≡ map seat_of_worker workers.items }
-{
-    let mut done = Vec::new(alloc);
-    for worker in workers {
-        let one = run(rt, worker);
-        done.push(one).expect(rt, "memory");
-    }
+    let Some(done) = xa_testing::run_all(rt, alloc, workers) else {
+        panic!(rt; "memory");
+    };
     done
 }

@@ -15,12 +15,12 @@ ghost use Rattle.xa_switch.specs.Again.{reopening};
 ghost use Rattle.xa_switch.specs.Closing.{settling};
 ghost use Rattle.xa_switch.specs.Fates.{ledgers_of};
 ghost use Rattle.xa_switch.specs.OfPlans.{IsOf};
-ghost use Rattle.xa_switch.specs.Openings.{AreOfOneOpening};
+ghost use Rattle.xa_switch.specs.OpenedPieces.{AreOfOneOpening};
 ghost use Rattle.xa_switch.specs.Recovery.{IsScanOf};
-ghost use Rattle.xa_switch.specs.Seats.{ComeFromOpenings, desk_seats, worker_seats, seat_of_desk, seat_of_ended};
-ghost use Rattle.xa_switch.specs.Seats.{seat_of_worker, seat_of_done};
+ghost use Rattle.xa_switch.specs.Belonging.{ComeFromOpenings, desk_seats, worker_seats, seat_of_desk, seat_of_ended};
+ghost use Rattle.xa_switch.specs.Belonging.{seat_of_worker, seat_of_done};
 ghost use Rattle.xa_switch.specs.Settling.{IsSettled};
-ghost use Rattle.xa_driver.specs.Outcomes.{AreLeftOrDecided};
+ghost use Rattle.xa_driver.specs.Outcomes.{AreLeftOrDecided, sent_so_far};
 ghost use Rattle.xa_driver.specs.Resolution.{CommitCall, ResolveCall, Opening, Use, commits, resolves, Continues};
 ghost use Rattle.xa_driver.specs.Resolution.{IsAllOrNone, IsResolved, OnlyResolves};
 ghost use Rattle.xa_driver.specs.Resolving.{IsTraceOfResolve};
@@ -29,36 +29,35 @@ ghost use Rattle.xa_driver.specs.Worth.{CountsOver, CountsAllOrNone};
 
 use super::openings::{Reopened, again, open, open_again, settle_all};
 use super::pieces::{Made, commit, end, run_all, work};
-use super::{Opened, Workers, branch, key, plan_of};
+use super::{Opened, branch, key, plan_of};
 use std::alloc::Global;
 use std::process::Abort;
 use std::snapshot::Snapshot;
 use std::sync::Wait;
-use xa_desk::{Desk, EndedDesk, Idle};
+use xa_crew::Turns;
+use xa_desk::{Desk, Idle};
 use xa_driver::laws::{
     next_openings_resolve, resolved_transactions_count_where_committed,
     resolved_transactions_have_one_outcome,
 };
 use xa_driver::{
-    Branch, DecisionRecords, Done, Ending, MemoryLog, Outcome, Resolved, commit_all, may_commit,
-    may_resolve, resolve,
+    Branch, DecisionRecords, Ending, MemoryLog, Outcome, Resolved, may_resolve, resolve,
 };
 use xa_switch::laws::{
     opened_pieces_come_from_their_opening, reopened_openings_go_on_from_what_was_left,
-    settled_openings_are_of_their_setup, settled_openings_are_whole,
+    settled_openings_are_whole,
 };
-use xa_switch::{Again, Plan, RmOp, Scan, Settled, native, open_switch, reopen, settle, xa_call};
-use xa_words::{Call, Code, Op, TMNOFLAGS, TMSUCCESS};
-use xa_worker::{DoneWorker, Free, Worker};
+use xa_switch::{Again, Plan, Scan, Settled};
+use xa_words::{Code, Op};
 
 // ---- the opening that crashes
 
 // Shuts manager 2, if the desk hasn't learnt that it is shut.
-fn shut<R: Wait>(rt: &R, desk: &mut Desk, idle: &mut Workers)
+fn shut<R: Wait>(rt: &R, desk: &mut Desk, idle: &mut Turns)
     ensures seat { seat_of_desk desk.new ≡ seat_of_desk desk.old }
     ensures shuts { ((m : ℕ) → All (λ op. op ≡ Shut) (ledger desk.old.ledgers m).sent) → (m : ℕ)
         → All (λ op. op ≡ Shut) (ledger desk.new.ledgers m).sent }
-    ensures idled { map seat_of_worker idle.new.workers.items ≡ map seat_of_worker idle.old.workers.items }
+    ensures idled { map seat_of_worker idle.new ≡ map seat_of_worker idle.old }
 {
     let _ = desk.call(rt, 2, Op::Shut, idle);
 }
@@ -68,18 +67,18 @@ fn shut<R: Wait>(rt: &R, desk: &mut Desk, idle: &mut Workers)
 #[derive(Drop)]
 struct Crash {
     second: Desk,
-    workers: Workers,
+    workers: Turns,
     idled: bool,
 }
 
 impl Idle for Crash {
     ghost leads_by = { λ manager before after. (seat_of_desk after.second ≡ seat_of_desk before.second)
-        × (map seat_of_worker after.workers.workers.items ≡ map seat_of_worker before.workers.workers.items)
+        × (map seat_of_worker after.workers ≡ map seat_of_worker before.workers)
         × (((m : ℕ) → All (λ op. op ≡ Shut) (ledger before.second.ledgers m).sent) → (m : ℕ)
         → All (λ op. op ≡ Shut) (ledger after.second.ledgers m).sent) };
 
     ghost leads = { λ before after. (seat_of_desk after.second ≡ seat_of_desk before.second)
-        × (map seat_of_worker after.workers.workers.items ≡ map seat_of_worker before.workers.workers.items)
+        × (map seat_of_worker after.workers ≡ map seat_of_worker before.workers)
         × (((m : ℕ) → All (λ op. op ≡ Shut) (ledger before.second.ledgers m).sent) → (m : ℕ)
         → All (λ op. op ≡ Shut) (ledger after.second.ledgers m).sent) };
 
@@ -116,14 +115,14 @@ fn commit_and_crash<R: Wait + Abort>(
     branches: &[Branch; 2],
 ) -> Crashed
     requires opened { ComeFromOpenings (seat_of_desk opened.first ∷ seat_of_desk opened.second ∷ [])
-        (map seat_of_worker opened.workers.workers.items) }
+        (map seat_of_worker opened.workers) }
     requires fresh { (m : ℕ) → (ledger opened.second.ledgers m).sent ≡ [] }
     ensures settled { IsSettled result.settled }
     ensures made { IsCommit branches.now result.made.before.value result.made.after.value.ledgers
         result.made.log_before.value.state result.made.log_after.value.state result.made.done }
     ensures grown { HaveGrown result.made.after.value.ledgers (ledgers_of result.settled result.thread) }
-    ensures own { AreLeftOrDecided result.settled result.thread branches.now result.made.before.value.ledgers
-        result.made.after.value.ledgers }
+    ensures own { AreLeftOrDecided result.settled result.thread branches.now
+        (sent_so_far result.made.before.value.ledgers) (sent_so_far result.made.after.value.ledgers) }
     ensures few { length result.made.before.value.ledgers ≤ 8 }
     ensures log { result.made.log_after.value ≡ log.new }
 {
@@ -151,7 +150,7 @@ fn commit_and_crash<R: Wait + Abort>(
     let Ok(desks) = Vec::from_array(alloc, [first_ended, second_ended]) else {
         panic!(rt; "memory");
     };
-    let done = run_all(rt, alloc, workers.workers);
+    let done = run_all(rt, alloc, workers);
     let settled = settle_all(rt, alloc, desks, done);
     Crashed {
         settled,
@@ -184,7 +183,7 @@ fn resolve_left<R: Wait + Abort, L: DecisionRecords>(
     desk: &mut Desk,
     scan: &Scan,
     log: &L,
-    idle: &mut Workers,
+    idle: &mut Turns,
 ) -> Ended
     ensures trace { IsTraceOfResolve result.scan.value (L.records log.now) result.before.value.ledgers
         result.after.value.ledgers result.told.outcomes.items }
@@ -193,7 +192,7 @@ fn resolve_left<R: Wait + Abort, L: DecisionRecords>(
     ensures before { result.before.value ≡ desk.old }
     ensures after { result.after.value ≡ desk.new }
     ensures seat { seat_of_desk desk.new ≡ seat_of_desk desk.old }
-    ensures idled { map seat_of_worker idle.new.workers.items ≡ map seat_of_worker idle.old.workers.items }
+    ensures idled { map seat_of_worker idle.new ≡ map seat_of_worker idle.old }
 {
     if !may_resolve(desk, scan) {
         panic!(rt; "there is no room to resolve what is left");
@@ -261,7 +260,7 @@ pub(super) fn recover<R: Wait + Abort, L: DecisionRecords>(
     let Ok(desks) = Vec::from_array(alloc, [last]) else {
         panic!(rt; "memory");
     };
-    let done = run_all(rt, alloc, workers.workers);
+    let done = run_all(rt, alloc, workers);
     let settled = settle_all(rt, alloc, desks, done);
     Recovered {
         settled,
@@ -292,7 +291,7 @@ fn commit_and_resolve<R: Wait + Abort>(
     branches: &[Branch; 2],
 ) -> Story
     requires opened { ComeFromOpenings (seat_of_desk opened.first ∷ seat_of_desk opened.second ∷ [])
-        (map seat_of_worker opened.workers.workers.items) }
+        (map seat_of_worker opened.workers) }
     requires fresh { (m : ℕ) → (ledger opened.second.ledgers m).sent ≡ [] }
     ensures { let c : CommitCall = record {
       thread = result.thread;
@@ -356,7 +355,7 @@ fn pass<R: Wait + Abort>(rt: &R, alloc: Global, settled: Settled, again: &Again)
     let Ok(desks) = Vec::from_array(alloc, [last]) else {
         panic!(rt; "memory");
     };
-    let done = run_all(rt, alloc, workers.workers);
+    let done = run_all(rt, alloc, workers);
     settle_all(rt, alloc, desks, done)
 }
 
@@ -381,7 +380,7 @@ fn commit_and_resolve_later<R: Wait + Abort>(
     branches: &[Branch; 2],
 ) -> LongStory
     requires opened { ComeFromOpenings (seat_of_desk opened.first ∷ seat_of_desk opened.second ∷ [])
-        (map seat_of_worker opened.workers.workers.items) }
+        (map seat_of_worker opened.workers) }
     requires fresh { (m : ℕ) → (ledger opened.second.ledgers m).sent ≡ [] }
     ensures { let c : CommitCall = record {
       thread = result.thread;

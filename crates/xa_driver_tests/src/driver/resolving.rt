@@ -1,16 +1,17 @@
 //! The order in which a resolve asks: by rising manager, and each answer is waited for before the next request. And
 //! that it goes by the logs of several coordinators, read as one.
 ghost use Rattle.std.specs.Prelude.{◌≡◌, ◌∷◌, [], map};
-ghost use Rattle.xa_switch.specs.Seats.{ComeFromOpenings, seat_of_desk, seat_of_worker};
+ghost use Rattle.xa_switch.specs.Belonging.{ComeFromOpenings, seat_of_desk, seat_of_worker};
 
 use super::dying::{Death, die};
 use super::openings::{Reopened, again, open, open_again, settle_all};
 use super::pieces::{end, run_all, work};
 use super::resolved::recover;
-use super::{Opened, Workers, branch, key, plan_of};
+use super::{Opened, branch, key, plan_of};
 use std::alloc::Global;
 use std::process::Abort;
 use std::sync::Wait;
+use xa_crew::Turns;
 use xa_desk::{Desk, Idle};
 use xa_driver::{Branch, MemoryLog, Outcome, may_resolve, resolve};
 use xa_switch::{Plan, Settled, xa_call};
@@ -19,7 +20,7 @@ use xa_words::{Call, Code, TMNOFLAGS, Xid};
 // It notes whom each idle waits for. Then the worker that is waited for does one step, which carries out a request.
 #[derive(Drop)]
 struct Noting {
-    workers: Workers,
+    workers: Turns,
     waited: Vec<u32>,
 }
 
@@ -41,9 +42,9 @@ impl Idle for Noting {
 }
 
 // The branch's work is done, and it is prepared.
-fn prepare<R: Wait + Abort>(rt: &R, desk: &mut Desk, branch: &Branch, idle: &mut Workers)
+fn prepare<R: Wait + Abort>(rt: &R, desk: &mut Desk, branch: &Branch, idle: &mut Turns)
     ensures seat { seat_of_desk desk.new ≡ seat_of_desk desk.old }
-    ensures idled { map seat_of_worker idle.new.workers.items ≡ map seat_of_worker idle.old.workers.items }
+    ensures idled { map seat_of_worker idle.new ≡ map seat_of_worker idle.old }
 {
     work(rt, desk, branch, idle);
     let xid = Some(branch.xid);
@@ -57,10 +58,10 @@ fn end_both<R: Wait + Abort>(
     alloc: Global,
     first: Desk,
     second: Desk,
-    workers: Workers,
+    workers: Turns,
 ) -> Settled
     requires { ComeFromOpenings (seat_of_desk first ∷ seat_of_desk second ∷ [])
-        (map seat_of_worker workers.workers.items) }
+        (map seat_of_worker workers) }
 {
     let mut workers = workers;
     let first_ended = end(rt, first, &mut workers);
@@ -68,14 +69,14 @@ fn end_both<R: Wait + Abort>(
     let Ok(desks) = Vec::from_array(alloc, [first_ended, second_ended]) else {
         panic!(rt; "memory");
     };
-    let done = run_all(rt, alloc, workers.workers);
+    let done = run_all(rt, alloc, workers);
     settle_all(rt, alloc, desks, done)
 }
 
 // An opening that ends with both branches prepared.
 fn leave<R: Wait + Abort>(rt: &R, alloc: Global, opened: Opened, branches: &[Branch; 2]) -> Settled
     requires { ComeFromOpenings (seat_of_desk opened.first ∷ seat_of_desk opened.second ∷ [])
-        (map seat_of_worker opened.workers.workers.items) }
+        (map seat_of_worker opened.workers) }
 {
     let Opened {
         mut first,
@@ -133,7 +134,7 @@ fn die_both<R: Wait + Abort>(
     deaths: [Death; 2],
 ) -> Settled
     requires { ComeFromOpenings (seat_of_desk opened.first ∷ seat_of_desk opened.second ∷ [])
-        (map seat_of_worker opened.workers.workers.items) }
+        (map seat_of_worker opened.workers) }
 {
     let Opened {
         mut first,

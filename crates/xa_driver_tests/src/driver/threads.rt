@@ -4,27 +4,13 @@ use std::alloc::Global;
 use std::process::Abort;
 use std::sync::Wait;
 use std::sync::atomic::{AtomicBool, Ordering};
-use std::thread;
 use std::thread::join;
 use xa_desk::{Desk, EndedDesk, Spin};
 use xa_driver::{Branch, DecisionLog, Done, Ending, MemoryLog, commit_all, may_commit};
 use xa_switch::{RmOp, native, open_switch, xa_call};
+use xa_testing::comes;
 use xa_words::{Call, Op, Request, TMNOFLAGS, TMSUCCESS};
 use xa_worker::Pace;
-
-// How often a worker looks whether the other one came.
-const TURNS: u32 = 10_000_000;
-
-// Waits until it is so, and gives up in the end.
-pub(super) fn comes(flag: &AtomicBool) -> bool {
-    for _turn in 0..TURNS {
-        if flag.load(Ordering::SeqCst) {
-            return true;
-        }
-        thread::yield_now();
-    }
-    false
-}
 
 // Tells that a worker came to its Prepare, and holds it until the other one came to its own.
 #[derive(Drop)]

@@ -2,52 +2,54 @@
 //! proof of this caller, what the commit told of its branches is what became of them.
 ghost use Rattle.std.specs.Prelude.{◌≡◌, ◌∷◌, [], map};
 ghost use Rattle.xa_switch.specs.Fates.{ledgers_of};
-ghost use Rattle.xa_switch.specs.Seats.{ComeFromOpenings, desk_seats, worker_seats, seat_of_desk, seat_of_ended};
-ghost use Rattle.xa_switch.specs.Seats.{seat_of_worker, seat_of_done};
+ghost use Rattle.xa_switch.specs.Belonging.{ComeFromOpenings, desk_seats, worker_seats, seat_of_desk, seat_of_ended};
+ghost use Rattle.xa_switch.specs.Belonging.{seat_of_worker, seat_of_done};
 ghost use Rattle.xa_desk.specs.Growth.{HaveGrown};
 ghost use Rattle.xa_driver.specs.Trace.{IsCommit};
-ghost use Rattle.xa_driver.specs.Outcomes.{AreLeftOrDecided, KeepsTheVotes, TellsTheFates};
+ghost use Rattle.xa_driver.specs.Outcomes.{AreLeftOrDecided, KeepsTheVotes, TellsTheFates, sent_so_far};
 
-use super::pieces::{Made, commit, end, one, run_all, work};
-use super::{Workers, branch, key, plan_of};
+use super::pieces::{Made, commit, end, run_all, work};
+use super::{branch, key, plan_of};
 use std::alloc::Global;
 use std::process::Abort;
 use std::snapshot::Snapshot;
 use std::sync::Wait;
+use xa_crew::Turns;
 use xa_desk::laws::{desks_go_on, growth_goes_on};
-use xa_desk::{Desk, EndedDesk, Idle};
+use xa_desk::{Desk, EndedDesk};
 use xa_driver::laws::commit_in_a_settled_opening;
-use xa_driver::{Branch, Done, Ending, MemoryLog, commit_all, may_commit};
+use xa_driver::{Branch, Ending, MemoryLog};
 use xa_switch::laws::opened_pieces_come_from_their_opening;
-use xa_switch::{Plan, RmOp, Settled, native, open_switch, settle, xa_call};
-use xa_words::{Call, TMNOFLAGS, TMSUCCESS};
-use xa_worker::{DoneWorker, Free, Worker};
+use xa_switch::{Plan, Settled, settle, xa_call};
+use xa_testing::one;
+use xa_words::{Call, TMNOFLAGS};
+use xa_worker::DoneWorker;
 
 // The one desk of an opening, and its workers.
 #[derive(Drop)]
 struct Opened {
     desk: Desk,
-    workers: Workers,
+    workers: Turns,
 }
 
 fn open<R: Wait + Abort>(rt: &R, alloc: Global, plan: &Plan) -> Opened
-    ensures { ComeFromOpenings (seat_of_desk result.desk ∷ []) (map seat_of_worker result.workers.workers.items) }
+    ensures { ComeFromOpenings (seat_of_desk result.desk ∷ []) (map seat_of_worker result.workers) }
 {
     opened_pieces_come_from_their_opening();
-    let Ok((desks, workers)) = open_switch(rt, alloc, plan) else {
+    let Some((desks, workers)) = xa_testing::open(rt, alloc, plan) else {
         panic!(rt; "it is not opened");
     };
-    Opened {
-        desk: one(rt, desks),
-        workers: Workers { workers },
-    }
+    let Some(desk) = one(desks) else {
+        panic!(rt; "there is no one desk");
+    };
+    Opened { desk, workers }
 }
 
 // After the commit the thread closes the managers.
-fn close<R: Wait + Abort>(rt: &R, desk: &mut Desk, idle: &mut Workers)
+fn close<R: Wait + Abort>(rt: &R, desk: &mut Desk, idle: &mut Turns)
     ensures seat { seat_of_desk desk.new ≡ seat_of_desk desk.old }
     ensures grown { HaveGrown desk.old.ledgers desk.new.ledgers }
-    ensures idled { map seat_of_worker idle.new.workers.items ≡ map seat_of_worker idle.old.workers.items }
+    ensures idled { map seat_of_worker idle.new ≡ map seat_of_worker idle.old }
 {
     desks_go_on();
     let first = xa_call(rt, desk, Call::CloseRm, None, 1, TMNOFLAGS, idle);
@@ -87,13 +89,15 @@ fn commit_and_settle<R: Wait + Abort>(
     opened: Opened,
     branches: &[Branch; 2],
 ) -> Told
-    requires { ComeFromOpenings (seat_of_desk opened.desk ∷ []) (map seat_of_worker opened.workers.workers.items) }
-    ensures votes { AreLeftOrDecided result.settled result.thread branches.now result.made.before.value.ledgers
-        result.made.after.value.ledgers → KeepsTheVotes result.settled result.thread branches.now
-        result.made.before.value.ledgers result.made.done }
-    ensures fates { AreLeftOrDecided result.settled result.thread branches.now result.made.before.value.ledgers
-        result.made.after.value.ledgers → TellsTheFates result.settled result.thread branches.now
-        result.made.before.value.ledgers result.made.done }
+    requires { ComeFromOpenings (seat_of_desk opened.desk ∷ []) (map seat_of_worker opened.workers) }
+    ensures votes { AreLeftOrDecided result.settled result.thread branches.now
+        (sent_so_far result.made.before.value.ledgers) (sent_so_far result.made.after.value.ledgers)
+        → KeepsTheVotes result.settled result.thread branches.now (sent_so_far result.made.before.value.ledgers)
+        result.made.done }
+    ensures fates { AreLeftOrDecided result.settled result.thread branches.now
+        (sent_so_far result.made.before.value.ledgers) (sent_so_far result.made.after.value.ledgers)
+        → TellsTheFates result.settled result.thread branches.now (sent_so_far result.made.before.value.ledgers)
+        result.made.done }
 {
     growth_goes_on();
     let Opened {
@@ -110,7 +114,7 @@ fn commit_and_settle<R: Wait + Abort>(
     let Ok(desks) = Vec::from_array(alloc, [ended]) else {
         panic!(rt; "memory");
     };
-    let done = run_all(rt, alloc, workers.workers);
+    let done = run_all(rt, alloc, workers);
     let settled = settle_all(rt, alloc, desks, done);
     commit_in_a_settled_opening(
         &settled,

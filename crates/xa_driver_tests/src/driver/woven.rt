@@ -2,16 +2,17 @@
 //! promise and the laws it is one that was cut short once all its branches were told; and the values have both.
 ghost use Rattle.std.specs.Prelude.{◌≡◌, ◌≢◌, ◌↔◌, IsTrue, ◌∷◌, [], map};
 ghost use Rattle.std.specs.List.{All};
-ghost use Rattle.xa_switch.specs.Seats.{ComeFromOpenings, seat_of_desk, seat_of_worker};
+ghost use Rattle.xa_switch.specs.Belonging.{ComeFromOpenings, seat_of_desk, seat_of_worker};
 ghost use Rattle.xa_driver.specs.Cut.{AreOthers, IsCut};
 
 use super::openings::{open, settle_all};
 use super::pieces::{end, run_all};
-use super::{Opened, Workers, branch, delta, key, plan_of};
+use super::{Opened, branch, delta, key, plan_of};
 use std::alloc::Global;
 use std::process::Abort;
 use std::snapshot::Snapshot;
 use std::sync::Wait;
+use xa_crew::Turns;
 use xa_desk::Desk;
 use xa_driver::laws::{others_leave_the_branches, stages_are_cuts, stages_follow};
 use xa_driver::{
@@ -59,12 +60,12 @@ fn weave<R: Wait + Abort>(
     log: &mut MemoryLog,
     branches: &[Branch],
     others: &[Branch],
-    idle: &mut Workers,
+    idle: &mut Turns,
 ) -> Woven
     ensures cut { IsCut branches.now result.before.value result.after.value.ledgers result.log_before.value.state
         result.log_after.value.state result.known.endings.items }
     ensures seat { seat_of_desk desk.new ≡ seat_of_desk desk.old }
-    ensures idled { map seat_of_worker idle.new.workers.items ≡ map seat_of_worker idle.old.workers.items }
+    ensures idled { map seat_of_worker idle.new ≡ map seat_of_worker idle.old }
 {
     stages_are_cuts();
     stages_follow();
@@ -108,9 +109,9 @@ fn other_key(rt: &impl Abort) -> Key {
 }
 
 // Work for a branch, which adds 1 to the key.
-fn work<R: Wait + Abort>(rt: &R, desk: &mut Desk, branch: &Branch, key: Key, idle: &mut Workers)
+fn work<R: Wait + Abort>(rt: &R, desk: &mut Desk, branch: &Branch, key: Key, idle: &mut Turns)
     ensures seat { seat_of_desk desk.new ≡ seat_of_desk desk.old }
-    ensures idled { map seat_of_worker idle.new.workers.items ≡ map seat_of_worker idle.old.workers.items }
+    ensures idled { map seat_of_worker idle.new ≡ map seat_of_worker idle.old }
 {
     let (m, xid) = (branch.m, Some(branch.xid));
     let add = RmOp::Add(key, delta(rt, 1));
@@ -150,7 +151,7 @@ fn weave_and_settle<R: Wait + Abort>(
     others: &[Branch; 2],
 ) -> Story
     requires { ComeFromOpenings (seat_of_desk opened.first ∷ seat_of_desk opened.second ∷ [])
-        (map seat_of_worker opened.workers.workers.items) }
+        (map seat_of_worker opened.workers) }
     ensures { IsCut branches.now result.woven.before.value result.woven.after.value.ledgers
         result.woven.log_before.value.state result.woven.log_after.value.state result.woven.known.endings.items }
 {
@@ -169,7 +170,7 @@ fn weave_and_settle<R: Wait + Abort>(
     let Ok(desks) = Vec::from_array(alloc, [first_ended, second_ended]) else {
         panic!(rt; "memory");
     };
-    let done = run_all(rt, alloc, workers.workers);
+    let done = run_all(rt, alloc, workers);
     let settled = settle_all(rt, alloc, desks, done);
     Story { woven, settled }
 }

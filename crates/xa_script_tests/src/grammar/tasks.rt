@@ -1,16 +1,24 @@
 //! Commits of several branches, and logs that fail.
-use super::has_steps;
+use super::{call, has_steps};
 use std::test::Fail;
-use xa_grammar::{Action, Called, CommitAll, Step, Task, read_script};
-use xa_words::{Call, TMASYNC, Xid};
+use xa_grammar::{Action, Calling, CommitAll, Step, Task, read_script};
+use xa_words::{Call, ManagerSet, TMASYNC, Tran};
 
-fn commit(line: u32, thread: u32, gtrid: &[u8], managers: [bool; 8]) -> Result<Task, Fail> {
-    let branch = Xid::new(1, gtrid, b"branch").ok().ok_or("xid")?;
-    Ok(Task::CommitAll(CommitAll {
+fn commit(line: u32, thread: u32, gtrid: &[u8], managers: &[u32]) -> Result<Step, Fail> {
+    let tran = Tran::new(1, gtrid).ok().ok_or("tran")?;
+    let mut all = ManagerSet::new();
+    for manager in 1..=8 {
+        if managers.contains(&manager) {
+            all.add(manager);
+        }
+    }
+    Ok(Step::Task(Task {
         line,
         thread,
-        tran: branch.tran(),
-        managers,
+        action: Action::CommitAll(CommitAll {
+            tran,
+            managers: all,
+        }),
     }))
 }
 
@@ -20,23 +28,15 @@ fn tasks_are_read_in_the_order_of_the_lines(rt: HostRuntime) -> Result<(), Fail>
         3\tcommitall 0z 000000000000000002\n1 commitall t 1 2 3 4 5 6 7 8"
         .as_slice();
     let script = read_script(rt.alloc(), &mut text, false)?;
-    let open = Called {
-        line: 4,
-        thread: 1,
-        manager: 9,
-        action: Action::Xa(Call::OpenRm, None),
-        flags: TMASYNC,
-    };
-    let (y, n) = (true, false);
     let want = [
-        Step::Task(commit(3, 2, b"t", [y, n, y, n, n, n, n, y])?),
-        Step::Task(Task::Call(open)),
+        commit(3, 2, b"t", &[1, 3, 8])?,
+        call(4, 1, 9, Calling::Xa(Call::OpenRm, None), TMASYNC),
         Step::Turn {
             line: 5,
             manager: 5,
         },
-        Step::Task(commit(6, 3, b"0z", [n, y, n, n, n, n, n, n])?),
-        Step::Task(commit(7, 1, b"t", [y, y, y, y, y, y, y, y])?),
+        commit(6, 3, b"0z", &[2])?,
+        commit(7, 1, b"t", &[1, 2, 3, 4, 5, 6, 7, 8])?,
     ];
     assert!(rt; has_steps(&script, &want));
     Ok(())

@@ -1,9 +1,9 @@
 //! What the program shows where it runs a script to its end.
-use super::streams::Refusing;
 use std::sync::Wait;
 use std::test::Fail;
 use std::thread::Threads;
 use xa_script::{RunFault, program, read_script, run_turns};
+use xa_testing::Refusing;
 
 // Whether the program ends with status 0 on this script, writes this transcript and tells nothing.
 fn shows<R: Threads + Wait + AllocGlobal + Copy + Send + 'static>(

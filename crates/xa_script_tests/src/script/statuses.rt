@@ -1,9 +1,9 @@
 //! The program's exit statuses, and what it tells of its faults.
-use super::streams::{Failing, Refusing};
 use std::io::Read;
 use std::sync::Wait;
 use std::thread::Threads;
 use xa_script::program;
+use xa_testing::{Failing, Refusing};
 
 // Whether the program shows nothing on these words and this reader, but ends with this status and
 // tells this of its fault, and whether it ends so too where it can't tell it.

@@ -5,9 +5,10 @@ ghost use Rattle.xa_desk.specs.Kept.{AllKept};
 
 use super::plan_of;
 use std::sync::Wait;
+use xa_crew::laws::idles_go_on;
 use xa_crew::{Client, run_clients};
 use xa_desk::laws::desks_go_on;
-use xa_desk::{Desk, Spin};
+use xa_desk::{Desk, Idle};
 use xa_switch::{Plan, RmOp, native, xa_call, xa_complete};
 use xa_words::{Call, Code, Op, Request, TMASYNC, TMMULTIPLE, TMNOFLAGS, Xid};
 use xa_worker::Free;
@@ -33,13 +34,13 @@ fn mark(open: &mut Open, handle: i32, is_open: bool) -> bool {
 }
 
 // Collects one operation. False where there is none, or it is one that was collected before.
-fn collects<R: Wait>(rt: &R, desk: &mut Desk, open: &mut Open) -> bool
+fn collects<R: Wait, I: Idle>(rt: &R, desk: &mut Desk, open: &mut Open, idle: &mut I) -> bool
     ensures goes_on { GoesOn desk.old desk.new }
     ensures kept { AllKept desk.old → AllKept desk.new }
+    ensures idled { I.leads idle.old idle.new }
 {
     let (mut handle, mut retval) = (0, 55);
-    let mut spin = Spin::new();
-    let answer = xa_complete(rt, desk, &mut handle, &mut retval, 1, TMMULTIPLE, &mut spin);
+    let answer = xa_complete(rt, desk, &mut handle, &mut retval, 1, TMMULTIPLE, idle);
     answer == 0 && mark(open, handle, false)
 }
 
@@ -56,9 +57,16 @@ enum Put {
 
 // Puts a request of the given number to the manager. An even one opens it, and an odd one asks it to
 // prepare a branch that isn't there, so that requests which aren't late have two codes.
-fn puts<R: Wait>(rt: &R, desk: &mut Desk, number: usize, open: &mut Open) -> Put
+fn puts<R: Wait, I: Idle>(
+    rt: &R,
+    desk: &mut Desk,
+    number: usize,
+    open: &mut Open,
+    idle: &mut I,
+) -> Put
     ensures goes_on { GoesOn desk.old desk.new }
     ensures kept { AllKept desk.old → AllKept desk.new }
+    ensures idled { I.leads idle.old idle.new }
 {
     let call = if number % 2 == 0 {
         Call::OpenRm
@@ -66,8 +74,7 @@ fn puts<R: Wait>(rt: &R, desk: &mut Desk, number: usize, open: &mut Open) -> Put
         Call::Prepare
     };
     let branch = Xid::new(1, b"g", b"1").ok();
-    let mut spin = Spin::new();
-    let answer = xa_call(rt, desk, call, branch, 1, TMASYNC, &mut spin);
+    let answer = xa_call(rt, desk, call, branch, 1, TMASYNC, idle);
     if answer == Code::Async.value() {
         Put::Busy
     } else if answer == Code::RmFail.value() {
@@ -81,11 +88,13 @@ fn puts<R: Wait>(rt: &R, desk: &mut Desk, number: usize, open: &mut Open) -> Put
 
 // Sends up to 100 requests, until one is refused because the manager is shut. It collects where it may
 // not send. How many were sent, and whether each handle was collected once.
-fn ask<R: Wait>(rt: &R, desk: &mut Desk) -> (usize, bool)
+fn ask<R: Wait, I: Idle>(rt: &R, desk: &mut Desk, idle: &mut I) -> (usize, bool)
     ensures goes_on { GoesOn desk.old desk.new }
     ensures kept { AllKept desk.old → AllKept desk.new }
+    ensures idled { I.leads idle.old idle.new }
 {
     desks_go_on();
+    idles_go_on::<I>();
     let mut open = [false; HANDLES + 1];
     let (mut sent, mut is_well) = (0usize, true);
     // Each request is sent once and collected once, and one is refused at last.
@@ -93,53 +102,57 @@ fn ask<R: Wait>(rt: &R, desk: &mut Desk) -> (usize, bool)
         if sent == MOST {
             break;
         }
-        match puts(rt, desk, sent, &mut open) {
+        match puts(rt, desk, sent, &mut open, idle) {
             Put::Sent => sent = sent.saturating_add(1),
-            Put::Busy => is_well &= collects(rt, desk, &mut open),
+            Put::Busy => is_well &= collects(rt, desk, &mut open, idle),
             Put::Shut => break,
             Put::Wrong => is_well = false,
         }
     }
     'rest: for _handle in 0..HANDLES {
-        collects(rt, desk, &mut open);
+        collects(rt, desk, &mut open, idle);
     }
-    let is_empty = !collects(rt, desk, &mut open) && !open.contains(&true);
+    let is_empty = !collects(rt, desk, &mut open, idle) && !open.contains(&true);
     (
         sent,
         is_well && is_empty && (sent == MOST || desk.learnt_shut(1)),
     )
 }
 
-fn opens<R: Wait>(rt: &R, desk: &mut Desk) -> i32
+fn opens<R: Wait, I: Idle>(rt: &R, desk: &mut Desk, idle: &mut I) -> i32
     ensures goes_on { GoesOn desk.old desk.new }
     ensures kept { AllKept desk.old → AllKept desk.new }
+    ensures idled { I.leads idle.old idle.new }
 {
-    xa_call(rt, desk, Call::OpenRm, None, 1, TMNOFLAGS, &mut Spin::new())
+    xa_call(rt, desk, Call::OpenRm, None, 1, TMNOFLAGS, idle)
 }
 
-fn shuts<R: Wait>(rt: &R, desk: &mut Desk) -> i32
+fn shuts<R: Wait, I: Idle>(rt: &R, desk: &mut Desk, idle: &mut I) -> i32
     ensures goes_on { GoesOn desk.old desk.new }
     ensures kept { AllKept desk.old → AllKept desk.new }
+    ensures idled { I.leads idle.old idle.new }
 {
-    native(rt, desk, RmOp::Shut, 1, TMNOFLAGS, &mut Spin::new())
+    native(rt, desk, RmOp::Shut, 1, TMNOFLAGS, idle)
 }
 
 // Shuts the manager after so many calls, each of which is answered. The second Shut is late, and the third
 // isn't sent.
-fn shut<R: Wait>(rt: &R, desk: &mut Desk, calls: u32) -> bool
+fn shut<R: Wait, I: Idle>(rt: &R, desk: &mut Desk, calls: u32, idle: &mut I) -> bool
     ensures goes_on { GoesOn desk.old desk.new }
     ensures kept { AllKept desk.old → AllKept desk.new }
+    ensures idled { I.leads idle.old idle.new }
 {
     desks_go_on();
+    idles_go_on::<I>();
     let mut is_well = true;
     for _call in 0..calls {
-        is_well &= opens(rt, desk) == 0;
+        is_well &= opens(rt, desk, idle) == 0;
     }
-    let first = shuts(rt, desk);
+    let first = shuts(rt, desk, idle);
     let was_learnt = desk.learnt_shut(1);
-    let second = shuts(rt, desk);
+    let second = shuts(rt, desk, idle);
     let is_learnt = desk.learnt_shut(1);
-    let third = shuts(rt, desk);
+    let third = shuts(rt, desk, idle);
     let late = Code::RmFail.value();
     is_well & (first == 0) & !was_learnt & (second == late) & is_learnt & (third == late)
 }
@@ -166,10 +179,10 @@ impl Racer {
 impl Client for Racer {
     ghost works = { λ client desk client' desk'. Unit {0} };
 
-    fn work<R: Wait>(&mut self, rt: &R, desk: &mut Desk) {
+    fn work<R: Wait, I: Idle>(&mut self, rt: &R, desk: &mut Desk, idle: &mut I) {
         match self.shuts_after {
-            Some(calls) => self.is_well = shut(rt, desk, calls),
-            None => (self.sent, self.is_well) = ask(rt, desk),
+            Some(calls) => self.is_well = shut(rt, desk, calls, idle),
+            None => (self.sent, self.is_well) = ask(rt, desk, idle),
         }
     }
 }

@@ -4,8 +4,7 @@
 //! come from their openings.
 ghost use Rattle.std.specs.Prelude.{◌≡◌, map};
 ghost use Rattle.xa_switch.specs.Settling.{IsSettled};
-ghost use Rattle.xa_switch.specs.Seats.{ComeFromOpenings, seat_of_desk, seat_of_ended, seat_of_worker, seat_of_done};
-ghost use Rattle.xa_switch.specs.Seats.{desk_seats, worker_seats};
+ghost use Rattle.xa_switch.specs.Belonging.{ComeFromOpenings, seat_of_desk, desk_seats, worker_seats};
 
 mod reopening;
 mod turns;
@@ -16,11 +15,10 @@ use std::process::Abort;
 use std::sync::Wait;
 use xa_desk::{Desk, EndedDesk, Idle, Spin};
 use xa_switch::laws::opened_pieces_come_from_their_opening;
-use xa_switch::{
-    ManagerPlan, Plan, Settled, Why, native, open_switch, settle, xa_call, xa_complete,
-};
+use xa_switch::{Plan, Settled, Why, native, settle, xa_call, xa_complete};
+use xa_testing::{end, open, run_all};
 use xa_words::{Call, Code, Op, Request, RmOp, TMNOFLAGS, Xid};
-use xa_worker::{DoneWorker, Free, Worker};
+use xa_worker::DoneWorker;
 
 // ---- what a thread does
 
@@ -96,42 +94,16 @@ fn play<R: Wait + Abort, I: Idle>(rt: &R, desk: &mut Desk, acts: &[Act], idle: &
 
 // ---- how an opening ends
 
-// Ends a desk with which nothing is outstanding.
-fn end<R: Wait + Abort>(rt: &R, desk: Desk) -> EndedDesk
-    ensures { seat_of_ended result ≡ seat_of_desk desk }
-{
-    match desk.finish(rt, &mut Spin::new()) {
-        Ok(ended) => ended,
-        Err(_) => panic!(rt; "something is outstanding"),
-    }
-}
-
-fn run<R: Wait>(rt: &R, worker: Worker) -> DoneWorker
-    ensures { seat_of_done result ≡ seat_of_worker worker }
-{
-    worker.run(rt, &mut Free)
-}
-
+// Ends desks with which nothing is outstanding.
 fn end_all<R: Wait + Abort>(rt: &R, alloc: Global, desks: Vec<Desk>) -> Vec<EndedDesk>
     ensures { desk_seats result.items ≡ map seat_of_desk desks.items }
 {
     let mut ended = Vec::new(alloc);
     for desk in desks {
-        let one = end(rt, desk);
+        let one = end(rt, desk, &mut Spin::new()).expect(rt, "nothing outstanding");
         ended.push(one).expect(rt, "memory");
     }
     ended
-}
-
-fn run_all<R: Wait + Abort>(rt: &R, alloc: Global, workers: Vec<Worker>) -> Vec<DoneWorker>
-    ensures { worker_seats result.items ≡ map seat_of_worker workers.items }
-{
-    let mut done = Vec::new(alloc);
-    for worker in workers {
-        let one = run(rt, worker);
-        done.push(one).expect(rt, "memory");
-    }
-    done
 }
 
 // Settles. Where a growth was refused, all has come back, and it settles with the memory that there is
@@ -161,38 +133,29 @@ fn open_and_settle<R: Wait + Abort>(rt: &R, alloc: Global, plan: &Plan) -> Settl
     ensures { IsSettled result }
 {
     opened_pieces_come_from_their_opening();
-    let Ok((desks, workers)) = open_switch(rt, alloc, plan) else {
+    let Some((desks, turns)) = open(rt, alloc, plan) else {
         panic!(rt; "it is not opened");
     };
     let ended = end_all(rt, alloc, desks);
-    let done = run_all(rt, alloc, workers);
+    let Some(done) = run_all(rt, alloc, turns) else {
+        panic!(rt; "memory");
+    };
     settle_all(rt, alloc, ended, done)
 }
 
 // ---- what is opened, and what is settled
 
 // A plan of so many threads and managers, each manager with the keys `a` of value 100 and `b` of value 7.
-fn plan_of(rt: &impl Abort, alloc: Global, opening: u64, threads: u32, managers: usize) -> Plan
+fn plan_of(rt: &impl Abort, alloc: Global, opening: u64, threads: u32, managers: u32) -> Plan
     ensures { result.opening ≡ opening }
 {
-    let mut plans = Vec::new(alloc);
-    for _place in 0..managers {
-        let mut accounts = Vec::new(alloc);
-        accounts.push((key(rt, b"a"), 100)).expect(rt, "memory");
-        accounts.push((key(rt, b"b"), 7)).expect(rt, "memory");
-        let plan = ManagerPlan {
-            use_async: true,
-            accounts,
-        };
-        plans.push(plan).expect(rt, "memory");
-    }
+    let accounts = [(key(rt, b"a"), 100), (key(rt, b"b"), 7)];
     Plan {
         opening,
         threads,
         handles: 3,
-        queue: 4,
         requests: 8,
-        managers: plans,
+        ..xa_testing::plan_of(alloc, managers, &accounts).expect(rt, "memory")
     }
 }
 

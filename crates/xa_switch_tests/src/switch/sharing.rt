@@ -6,6 +6,7 @@ use std::thread;
 use std::thread::join;
 use xa_desk::{Desk, EndedDesk, Spin};
 use xa_switch::{Plan, open_switch, xa_call, xa_complete};
+use xa_testing::end;
 use xa_words::{Call, Code, Request, TMASYNC, TMMULTIPLE, TMNOWAIT};
 use xa_worker::Free;
 
@@ -65,10 +66,7 @@ fn ask<R: Wait + Abort>(rt: &R, desk: Desk) -> EndedDesk {
         }
         thread::yield_now();
     }
-    match desk.finish(rt, &mut Spin::new()) {
-        Ok(ended) => ended,
-        Err(_) => panic!(rt; "something is outstanding"),
-    }
+    end(rt, desk, &mut Spin::new()).expect(rt, "nothing outstanding")
 }
 
 // How many of these are of the thread, where they are numbered in their order.

@@ -3,15 +3,12 @@ use super::plan_of;
 use std::process::Abort;
 use std::sync::Wait;
 use std::sync::atomic::{AtomicBool, Ordering};
-use std::thread;
 use std::thread::join;
 use xa_desk::{Desk, EndedDesk, Spin};
 use xa_switch::{open_switch, xa_call, xa_complete};
+use xa_testing::{comes, end};
 use xa_words::{Call, Code, Op, Request, TMASYNC, TMNOFLAGS, TMNOWAIT};
 use xa_worker::{Free, Pace};
-
-// How often a thread looks whether it may go on.
-const TURNS: u32 = 10_000_000;
 
 // What a worker is held at.
 #[derive(Drop)]
@@ -32,17 +29,6 @@ impl Gate {
     }
 }
 
-// Waits until it is so, and gives up in the end.
-fn comes(flag: &AtomicBool) -> bool {
-    for _turn in 0..TURNS {
-        if flag.load(Ordering::SeqCst) {
-            return true;
-        }
-        thread::yield_now();
-    }
-    false
-}
-
 // Holds the worker before each request until the gate is opened.
 #[derive(Drop)]
 struct Held<'a> {
@@ -57,14 +43,6 @@ impl Pace for Held<'_> {
         if !comes(&self.gate.opened) {
             self.gate.was_left.store(true, Ordering::SeqCst);
         }
-    }
-}
-
-// Ends a desk that has collected all.
-fn end<R: Wait + Abort>(rt: &R, desk: Desk) -> EndedDesk {
-    match desk.finish(rt, &mut Spin::new()) {
-        Ok(ended) => ended,
-        Err(_) => panic!(rt; "something is outstanding"),
     }
 }
 
@@ -83,7 +61,7 @@ fn pass_by<R: Wait + Abort>(rt: &R, mut desk: Desk, gate: &Gate) -> EndedDesk {
     gate.opened.store(true, Ordering::SeqCst);
     let held = desk.complete(rt, first, &mut spin);
     assert_eq!(rt; held, Code::Done);
-    end(rt, desk)
+    end(rt, desk, &mut spin).expect(rt, "nothing outstanding")
 }
 
 #[test]
@@ -138,7 +116,7 @@ fn complete_both<R: Wait + Abort>(rt: &R, mut desk: Desk, gate: &Gate) -> EndedD
     for handle in [1, 2] {
         assert_eq!(rt; complete(handle, TMNOFLAGS), (0, handle, 0));
     }
-    end(rt, desk)
+    end(rt, desk, &mut spin).expect(rt, "nothing outstanding")
 }
 
 #[test]

@@ -15,6 +15,9 @@ loop-preserved g c =
       finite = search rules;
       goes_on = c.desks_go_on.ensures.further _ _ _ c.loop.invariant.goes_on c.xa_call-answer.ensures.goes_on;
       kept = λ h. c.xa_call-answer.ensures.kept (c.loop.invariant.kept h);
+      idled =
+          c.idles_go_on.ensures.further _ _ _ (c.idles_go_on.ensures.further _ _ _ c.loop.invariant.idled c.xa_call-answer.ensures.idled)
+          (c.idles_go_on.ensures.once _ _ _ c.idle.ensures);
       stays = λ op is.
           stays_on _ _ _ (c.loop.invariant.stays op is)
           (full_stays c.args.branch.now.m op answer _ _ is_full (puts_op _ op _ _ _ c.args.call (Some c.args.branch.now.xid) c.args.flags c.xa_call-answer.ensures.calls is));

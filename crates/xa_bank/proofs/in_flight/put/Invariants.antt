@@ -14,5 +14,6 @@ invariant-loop g l = record {
   finite : (goal.iterator-loop g).is_finite l.iterator';
   goes_on : GoesOn l.fn.desk l.desk;
   kept : AllKept l.fn.desk → AllKept l.desk;
+  idled : g.I.Idle.leads l.fn.idle l.idle;
   stays : (op : Op) → asked_of l.fn.call (Some l.branch.xid) l.fn.flags ≡ Ok (record { op = op; asynchronous = true }) → StaysSo l.fn.desk l.desk;
 }

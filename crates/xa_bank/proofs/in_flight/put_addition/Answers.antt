@@ -19,6 +19,9 @@ loop-preserved g c =
       finite = search rules;
       goes_on = c.desks_go_on.ensures.further _ _ _ c.loop.invariant.goes_on c.native-answer.ensures.goes_on;
       kept = λ h. c.native-answer.ensures.kept (c.loop.invariant.kept h);
+      idled =
+          c.idles_go_on.ensures.further _ _ _ (c.idles_go_on.ensures.further _ _ _ c.loop.invariant.idled c.native-answer.ensures.idled)
+          (c.idles_go_on.ensures.once _ _ _ c.idle.ensures);
       stays =
           stays_on _ _ _ c.loop.invariant.stays
           (full_stays leg.branch.m (Add c.args.account leg.delta) answer _ _ is_full

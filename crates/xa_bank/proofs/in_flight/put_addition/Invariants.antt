@@ -10,5 +10,6 @@ invariant-loop g l = record {
   finite : (goal.iterator-loop g).is_finite l.iterator';
   goes_on : GoesOn l.fn.desk l.desk;
   kept : AllKept l.fn.desk → AllKept l.desk;
+  idled : g.I.Idle.leads l.fn.idle l.idle;
   stays : StaysSo l.fn.desk l.desk;
 }

@@ -1,4 +1,5 @@
-use Rattle.std.proofs.Common.{Bool, true, false, ◌&&◌, ◌≡◌, refl}
+use Rattle.std.proofs.Common.{refl}
+use Rattle.std.proofs.Math.Bool.{and_assoc}
 use Rattle.xa_words.specs.declared.request.Op.TheVariants.{Start, End}
 use Rattle.xa_words.specs.declared.request.StartHow.TheVariants.{Fresh}
 use Rattle.xa_words.specs.declared.request.EndHow.TheVariants.{Success}
@@ -8,10 +9,6 @@ pub returns-clause-goes_on : goal.returns-clause-goes_on
 returns-clause-goes_on g c =
     let further = c.desks_go_on.ensures.further in
     further _ _ _ (further _ _ _ c.ask-started.ensures.goes_on c.ask_addition-added.ensures.goes_on) c.ask-ended.ensures.goes_on
-
-regrouped : (a b c : Bool) → ((a && b) && c) ≡ (a && (b && c))
-regrouped true b c = refl
-regrouped false b c = refl
 
 pub returns-clause-works : goal.returns-clause-works
 returns-clause-works g c =
@@ -25,5 +22,5 @@ returns-clause-works g c =
       starts = c.ask-started.ensures.calls (Start leg.branch.xid Fresh) refl;
       adds = c.ask_addition-added.ensures.calls;
       ends = c.ask-ended.ensures.calls (End leg.branch.xid Success) refl;
-      all = regrouped c.ask-started.result c.ask_addition-added.result c.ask-ended.result;
+      all = and_assoc c.ask-started.result c.ask_addition-added.result c.ask-ended.result;
     }

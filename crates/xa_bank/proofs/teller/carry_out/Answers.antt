@@ -5,7 +5,7 @@ use Rattle.xa_driver.specs.declared.branch.Branch.{Branch}
 use Rattle.xa_driver.specs.Log.{LogState}
 use Rattle.xa_driver.specs.Trace.{MayCommit}
 use Rattle.xa_bank.specs.declared.dying.Point.{Point}
-use Rattle.xa_bank.specs.declared.teller.Outcome.{Outcome}
+use Rattle.xa_bank.specs.declared.teller.TransferOutcome.{TransferOutcome}
 use Rattle.xa_bank.specs.Requests.{GivesUp, Tries}
 use Rattle.xa_bank.specs.Transfers.{ComesOfCommit, IsFor, IsRefused, commits, barred, cut_short, in_full, refused, undone, unroomed}
 use Rattle.xa_bank.proofs.Sent.{have_none, have_on}
@@ -13,7 +13,7 @@ use Rattle.xa_bank.proofs.teller.carry_out.Goals as goal
 use Rattle.xa_bank.proofs.teller.carry_out.Goals.{then-not-worked-via-then-not-worked, then-not-worked-via-else-not-worked+then-not-may_commit}
 
 -- the branches could be committed
-might_be : (bs : List Branch) (point : Option Point) (o : Outcome) (desk : DeskView) (new : List LedgerView) (log later : LogState) → ComesOfCommit bs point o desk new log later → MayCommit desk log bs
+might_be : (bs : List Branch) (point : Option Point) (o : TransferOutcome) (desk : DeskView) (new : List LedgerView) (log later : LogState) → ComesOfCommit bs point o desk new log later → MayCommit desk log bs
 might_be bs point o desk new log later (in_full done none is made) = made.may
 might_be bs point o desk new log later (cut_short at known some is dies) = dies.cut.may
 
@@ -56,3 +56,6 @@ returns-in_default-clause-wants g c =
       worked = subst (λ ok. Tries one two c.args.account ok c.args.desk.now tried) c.if-not-worked.false c.work_for-worked.ensures.tries;
       gives_up = subst (λ (d : DeskView). GivesUp one two d c.give_up-in_default.new.desk) c.in_default.ensures.unsent c.give_up-in_default.ensures.gives_up;
     }
+
+pub returns-then-not-worked-clause-idled : goal.returns-then-not-worked-clause-idled
+returns-then-not-worked-clause-idled g c = c.idles_go_on.ensures.further _ _ _ c.work_for-worked.ensures.idled c.give_up.ensures.idled

@@ -8,7 +8,7 @@ use Rattle.xa_desk.specs.Seats.{DeskSeat}
 use Rattle.xa_driver.specs.Log.{LogState}
 use Rattle.xa_bank.specs.declared.dying.Death.{Death}
 use Rattle.xa_bank.specs.declared.dying.Point.{Point}
-use Rattle.xa_bank.specs.declared.teller.Outcome.{Outcome}
+use Rattle.xa_bank.specs.declared.teller.TransferOutcome.{TransferOutcome}
 use Rattle.xa_bank.specs.declared.teller.Transfer.{Transfer}
 use Rattle.xa_bank.specs.Deaths.{point_at}
 use Rattle.xa_bank.specs.Tellers.{died, has_died, lived}
@@ -17,7 +17,7 @@ use Rattle.xa_bank.proofs.Named.{makes_more}
 use Rattle.xa_bank.proofs.teller.make_all.Goals as goal
 
 -- a transfer more, where others may follow that aren't made
-one_made : (t place : ℕ) (death : Option Death) (trs : List Transfer) (tr : Transfer) (unmade : List Transfer) (more : List Outcome) (o : Outcome) (point : Option Point) (u : ℕ) (old mid new : DeskView) (log now later : LogState) → place < length trs → length more ≡ place → u ≡ t → point ≡ point_at death place
+one_made : (t place : ℕ) (death : Option Death) (trs : List Transfer) (tr : Transfer) (unmade : List Transfer) (more : List TransferOutcome) (o : TransferOutcome) (point : Option Point) (u : ℕ) (old mid new : DeskView) (log now later : LogState) → place < length trs → length more ≡ place → u ≡ t → point ≡ point_at death place
     → MakesEach t death 0 (take place trs) more old mid log now → Makes u place tr point o mid new now later → MakesEach t death 0 (take place trs ++ tr ∷ unmade) (more ++ o ∷ []) old new log later
 one_made t place death trs tr unmade more o point u old mid new log now later below many same at makes made =
     let size = length-take place trs in
@@ -25,10 +25,10 @@ one_made t place death trs tr unmade more o point u old mid new log now later be
     let its : Makes t place tr (point_at death place) o mid new now later = subst (λ q. Makes t place tr q o mid new now later) at (subst (λ k. Makes k place tr point o mid new now later) same made) in
     makes_more t death 0 (take place trs) more tr unmade o old mid new log now later (omega (arith, many, number)) makes (subst (λ n. Makes t n tr (point_at death n) o mid new now later) number its)
 
-still_none : (more : List Outcome) (o : Outcome) → list_any has_died more ≡ false → has_died o ≡ false → list_any has_died (more ++ o ∷ []) ≡ false
+still_none : (more : List TransferOutcome) (o : TransferOutcome) → list_any has_died more ≡ false → has_died o ≡ false → list_any has_died (more ++ o ∷ []) ≡ false
 still_none more o none lives = list_any-append has_died more (o ∷ []) ∙ (λ i. none i || (lives i || false))
 
-grown : (xs more : List Outcome) (o : Outcome) (ys zs : List Outcome) → ys ≡ zs ++ o ∷ [] → zs ≡ xs ++ more → ys ≡ xs ++ (more ++ o ∷ [])
+grown : (xs more : List TransferOutcome) (o : TransferOutcome) (ys zs : List TransferOutcome) → ys ≡ zs ++ o ∷ [] → zs ≡ xs ++ more → ys ≡ xs ++ (more ++ o ∷ [])
 grown xs more o ys zs is told = is ∙ ap (λ l. l ++ o ∷ []) told ∙ append_assoc xs more (o ∷ [])
 
 pub loop-place-preserved : goal.loop-place-preserved
@@ -38,7 +38,7 @@ loop-place-preserved g c =
     let place : ℕ = c.loop-place.place in
     let tr : Transfer = c.index-transfers-place.result in
     let below : place < length trs = c.loop-place-test.true in
-    let o : Outcome = c.in_ok-outcome.outcome in
+    let o : TransferOutcome = c.in_ok-outcome.outcome in
     let first : DeskView = c.open_all.new.desk in
     let t : ℕ = c.args.desk.now.thread in
     let death : Option Death = c.args.death in
@@ -51,6 +51,7 @@ loop-place-preserved g c =
     record {
       goes_on = search rules;
       kept = search rules;
+      idled = c.idles_go_on.ensures.further _ _ _ c.loop-place.invariant.idled c.make.ensures.idled;
       each = search rules;
       made = (
         more ++ o ∷ [],
@@ -68,7 +69,7 @@ returns-then-died-clause-made g c =
     let place : ℕ = c.loop-place.place in
     let tr : Transfer = c.index-transfers-place.result in
     let below : place < length trs = c.loop-place-test.true in
-    let o : Outcome = c.in_ok-outcome.outcome in
+    let o : TransferOutcome = c.in_ok-outcome.outcome in
     let first : DeskView = c.open_all.new.desk in
     let t : ℕ = c.args.desk.now.thread in
     let death : Option Death = c.args.death in

@@ -8,5 +8,6 @@ pub loop-before-preserved : goal.loop-before-preserved
 loop-before-preserved g c = record {
   goes_on = c.desks_go_on.ensures.further _ _ _ c.loop-before.invariant.goes_on c.xa_call.ensures.goes_on;
   kept = λ h. c.xa_call.ensures.kept (c.loop-before.invariant.kept h);
+  idled = c.idles_go_on.ensures.further _ _ _ c.loop-before.invariant.idled c.xa_call.ensures.idled;
   opens = have_on IsOpenRm _ _ _ c.loop-before.invariant.opens (call_sent IsOpenRm (c.loop-before.before + 1) OpenRm _ _ _ refl c.xa_call.ensures.calls);
 }

@@ -5,7 +5,7 @@ use Rattle.std.proofs.lemmas.List.{map-append}
 use Rattle.std.proofs.lemmas.List.Elements.{All-push}
 use Rattle.xa_desk.specs.Kept.{AllKept}
 use Rattle.xa_crew.specs.Run.{IsReady}
-use Rattle.xa_base.proofs.Lists.{all_at, next_there}
+use Rattle.xa_base.proofs.Lists.{all_at, next_there, taken_next}
 use Rattle.xa_crew.proofs.client_job.client_jobs_of.Goals as goal
 
 pub client_job_of-requires : goal.client_job_of-requires
@@ -26,7 +26,7 @@ loop-client-preserved g c =
     let rest = into_iter_items c.next-in-loop-client.new.self in
     let pushed = c.in_ok-push.ensures.items in
     record {
-      so_far = append_assoc first (c.in-Some.client ∷ []) (into_iter_items c.next.new.self) ∙ ap (λ l. first ++ l) (sym c.in-Some.ensures.steps.0) ∙ i.so_far;
+      so_far = taken_next first _ (into_iter_items c.next.new.self) _ c.in-Some.client c.in-Some.ensures.steps.0 i.so_far;
       clients = ap (λ l. map (λ a. a.client) l) pushed ∙ map-append (λ a. a.client) before (one ∷ []) ∙ (λ j. i.clients j ++ is.client j ∷ []);
       desks =
           ap (λ l. map (λ a. a.desk) l ++ rest) pushed

@@ -1,5 +1,5 @@
 use Rattle.std.proofs.Common.{⊎_elim, ◌≡◌, sym, subst}
-use Rattle.xa_switch.specs.Seats.{IsWhyUnsettled}
+use Rattle.xa_switch.specs.Belonging.{IsWhyUnsettled}
 use Rattle.xa_switch.specs.OfPlans.{IsOf}
 use Rattle.xa_switch.specs.declared.settling.Why.{Why}
 use Rattle.xa_switch.specs.declared.settling.Why.TheVariants.{Stranger, Missing}

@@ -1,17 +1,14 @@
 use Rattle.std.proofs.Common.{◌≡◌, ◌⊎◌, ℕ, suc, ◌<◌, ◌-◌, ◌==◌, true, false, List, length, inl, inr, None, Some, sym, ap, ◌∙◌, subst, arith, rules}
 use Rattle.std.specs.Prelude.{Bool, not, ◌&&◌, ◌||◌, nat_le, nat_lt, if◌then◌else◌}
 use Rattle.std.specs.Option.{option_or}
-use Rattle.std.proofs.lemmas.Bool.{le-leb}
 use Rattle.xa_desk.specs.LedgerView.{LedgerView, learnt_shut}
 use Rattle.xa_desk.specs.DeskView.{DeskView, IsKnown, is_known, ledger, outstanding, reach_refusal, handle_refusal, spent_refusal, submit_refusal}
 use Rattle.xa_desk.specs.Lanes.{after_full, submitted}
 use Rattle.xa_desk.specs.declared.refused.Refused.{Refused}
 use Rattle.xa_desk.specs.declared.refused.Refused.TheVariants.{NoSuchManager, Shut, TooMany, Spent, Full}
+use Rattle.xa_desk.proofs.Ledgers.{known_true}
 use Rattle.xa_driver.specs.Asks.{CanAsk, KeepsDesk}
 use Rattle.xa_driver.proofs.ask.submit_waiting.Goals as goal
-
-known_true : (at : List LedgerView) (m : ℕ) → IsKnown at m → is_known at m ≡ true
-known_true at m known = λ i. le-leb 1 m known.positive i && le-leb m (length at) known.within i
 
 -- the second of two, of which one fails and the first holds
 second_fails : (a b : Bool) → a ≡ true → (a && b) ≡ false → b ≡ false

@@ -3,7 +3,8 @@ use Rattle.std.specs.Prelude.{option_map}
 use Rattle.xa_desk.specs.DeskView.{call_refusal}
 use Rattle.xa_switch.specs.Putting.{code_of, put_refusal}
 use Rattle.xa_switch.specs.Scans.{answered}
-use Rattle.xa_driver.proofs.Alone.{no_refusal, call_answered}
+use Rattle.xa_switch.proofs.Refusals.{no_refusal}
+use Rattle.xa_driver.proofs.Alone.{call_answered}
 use Rattle.xa_driver.proofs.resolving.ask.Goals as goal
 
 pub returns-in-Ok-clause-asked : goal.returns-in-Ok-clause-asked

@@ -81,7 +81,7 @@ returns-clause-trace g c =
     let stop = c.loop-before.auto.before-end in
     let all : c.loop-before.before ≡ MOST_MANAGERS = omega (arith, done, stop) in
     let is = subst (λ n. SoFar c.args.scan.now (g.L.DecisionRecords.records c.args.log.now) n c.args.desk.now.ledgers c.loop-before.desk.ledgers c.loop-before.outcomes.items) all i.so_far in
-    record { at = is.at; outcomes_are = is.outcomes_are; each = is.each; others = is.others; managers = i.managers }
+    record { course = is; managers = i.managers }
 
 pub returns-clause-tickets : goal.returns-clause-tickets
 returns-clause-tickets g c = tickets_stay c.args.desk.now c.loop-before.desk c.loop-before.invariant.keeps c.loop-before.invariant.left

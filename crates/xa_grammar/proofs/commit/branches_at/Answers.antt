@@ -30,7 +30,7 @@ loop-word-preserved c =
 
 pub returns : goal.returns
 returns c =
-    c.places.ensures
+    c.managers.ensures
     ∙ sym (no_more_numbers (goes_on c.loop-word.named))
     ∙ ap (λ ws. numbers_to_end 0 4294967295 ws >>= goes_on c.loop-word.named) (sym c.in_default.ensures.0)
     ∙ c.loop-word.invariant

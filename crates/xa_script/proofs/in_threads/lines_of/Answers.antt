@@ -5,7 +5,7 @@ use Rattle.std.proofs.lemmas.List.Concat.{flat_map-append}
 use Rattle.std.proofs.lemmas.List.Elements.{All-push}
 use Rattle.xa_crew.specs.declared.client_job.Attended.{Attended}
 use Rattle.xa_session.specs.declared.script_thread.ScriptThread.{ScriptThread}
-use Rattle.xa_session.specs.Text.{answer_text, answers_text}
+use Rattle.xa_transcript.specs.Text.{line_text, lines_text}
 use Rattle.xa_script.specs.InThreads.{told_by}
 use Rattle.xa_script.proofs.in_threads.lines_of.Goals as goal
 
@@ -27,7 +27,7 @@ loop-attended-preserved c =
       done = All-push IsDone before t i.done c.in_ok-tell.ensures.done;
       told =
           c.in_ok-tell.ensures.told
-          ∙ ap (λ l. l ++ answers_text (told_by t)) i.told
-          ∙ sym (flat_map-append answer_text (flat_map told_by before) (told_by t))
-          ∙ ap answers_text (sym (told_more before t));
+          ∙ ap (λ l. l ++ lines_text (told_by t)) i.told
+          ∙ sym (flat_map-append line_text (flat_map told_by before) (told_by t))
+          ∙ ap lines_text (sym (told_more before t));
     }

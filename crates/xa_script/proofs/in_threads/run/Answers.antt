@@ -9,16 +9,16 @@ use Rattle.xa_desk.specs.Ended.{EndedView}
 use Rattle.xa_switch.specs.Plans.{planned}
 use Rattle.xa_grammar.specs.Content.{Content, Fits, threads_of, managers_of, AreOfOne}
 use Rattle.xa_crew.specs.Run.{Member, IsRun}
-use Rattle.xa_session.specs.declared.answer.Answer.{Answer}
+use Rattle.xa_transcript.specs.declared.answer.Told.{Told}
 use Rattle.xa_session.specs.declared.session.Session.{Session}
 use Rattle.xa_session.specs.declared.script_thread.ScriptThread.{ScriptThread}
 use Rattle.xa_session.specs.ScriptThreads.{Works}
 use Rattle.xa_session.specs.Sessions.{new_session}
-use Rattle.xa_transcript.specs.Openings.{Former, beginning}
-use Rattle.xa_transcript.specs.Planning.{AreOpened}
-use Rattle.xa_transcript.specs.Runs.{BeginsAs}
+use Rattle.xa_telling.specs.ToldOpenings.{Former, beginning}
+use Rattle.xa_telling.specs.Planning.{AreOpened}
+use Rattle.xa_telling.specs.Runs.{BeginsAs}
 use Rattle.xa_transcript.specs.Values.{opened}
-use Rattle.xa_transcript.proofs.Opened.{map_map, planned_setup}
+use Rattle.xa_telling.proofs.Opened.{map_map, planned_setup}
 use Rattle.xa_script.specs.InThreads.{InThreads, told_by}
 use Rattle.xa_script.proofs.Runs.{threads_ran}
 use Rattle.xa_script.proofs.Members.{members_worked, members_tell, as_many_new}
@@ -39,7 +39,7 @@ begin_so s ms k x at =
 pub returns-in-Ok : goal.returns-in-Ok
 returns-in-Ok g c =
     let s : Content = c.args.script.now in
-    let answers : List Answer = flat_map told_by c.in-Ok.run'.clients.items in
+    let answers : List Told = flat_map told_by c.in-Ok.run'.clients.items in
     let settled = c.in-Ok.run'.settled in
     let r : IsRun Works c.in_ok-plan.plan c.in_ok-threads.threads.items c.in-Ok.run'.clients.items settled = c.in-Ok.ensures.ran in
     let desks : List DeskView = map (λ (t : Member ScriptThread). t.desk) r.members in

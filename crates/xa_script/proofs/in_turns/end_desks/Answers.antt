@@ -8,7 +8,7 @@ use Rattle.xa_desk.specs.Kept.{AllKept}
 use Rattle.xa_base.specs.Lists.Chain.{none, more}
 use Rattle.xa_base.proofs.Lists.{next_there, all_at}
 use Rattle.xa_crew.specs.Ending.{EndsDesk}
-use Rattle.xa_session.specs.Ended.{all_ended}
+use Rattle.xa_transcript.specs.Ended.{all_ended}
 use Rattle.xa_script.specs.InTurns.{Closing, closing_of}
 use Rattle.xa_script.proofs.in_turns.end_desks.Goals as goal
 
@@ -17,7 +17,7 @@ loop-session-init g c =
     record {
       so_far = search rules;
       logs = c.in_ok-logs.ensures.items;
-      ends = none [] (closing_of c.in_ok-ended.ended.items c.args.turns.now.workers.items c.args.told.now) refl (ap (λ (l : List EndedView). closing_of l c.args.turns.now.workers.items c.args.told.now) c.in_ok-ended.ensures.items);
+      ends = none [] (closing_of c.in_ok-ended.ended.items c.args.turns.now c.args.transcript.now) refl (ap (λ (l : List EndedView). closing_of l c.args.turns.now c.args.transcript.now) c.in_ok-ended.ensures.items);
     }
 
 pub end_desk-requires-clause-kept : goal.end_desk-requires-clause-kept
@@ -30,8 +30,8 @@ loop-session-preserved-in_ok-tell_ended g c =
     let i = c.loop-session.invariant in
     let d = c.in-Some.session in
     let outstanding = c.end_desk.new.told.items in
-    let old : Closing = closing_of c.loop-session.ended.items c.loop-session.turns.workers.items c.loop-session.told in
-    let new : Closing = closing_of c.push.new.self.items c.end_desk.new.idle.workers.items c.tell_ended.new.told in
+    let old : Closing = closing_of c.loop-session.ended.items c.loop-session.turns c.loop-session.transcript in
+    let new : Closing = closing_of c.push.new.self.items c.end_desk.new.idle c.tell_ended.new.transcript in
     record {
       so_far = append_assoc c.loop-session.yielded (d ∷ []) (into_iter_items c.next.new.self) ∙ ap (λ l. c.loop-session.yielded ++ l) (sym c.in-Some.ensures.steps.0) ∙ i.so_far;
       logs = c.in_ok-push-2.ensures.items ∙ ap (λ l. l ++ d.log ∷ []) i.logs ∙ sym (map-append (λ (x : Session). x.log) c.loop-session.yielded (d ∷ []));
@@ -40,7 +40,7 @@ loop-session-preserved-in_ok-tell_ended g c =
         outstanding = outstanding;
         ends = subst (λ (l : List (ℕ × Code)). EndsDesk d.desk l c.end_desk.result outstanding) c.in_ok-outstanding.ensures.items c.end_desk.ensures.ends;
         ended = c.in_ok-push.ensures.items;
-        told = c.in_ok-tell_ended.ensures ∙ ap (λ l. c.loop-session.told ++ all_ended c.thread-thread.result l) c.deref.ensures.value ∙ ap (λ (t : ℕ). c.loop-session.told ++ all_ended t outstanding) c.thread-thread.ensures.thread;
+        told = c.in_ok-tell_ended.ensures ∙ ap (λ l. c.loop-session.transcript ++ all_ended c.thread-thread.result l) c.deref.ensures.value ∙ ap (λ (t : ℕ). c.loop-session.transcript ++ all_ended t outstanding) c.thread-thread.ensures.thread;
         turns = c.end_desk.ensures.idled;
       });
     }
@@ -50,8 +50,8 @@ loop-session-preserved g c =
     let i = c.loop-session.invariant in
     let d = c.in-Some.session in
     let outstanding = c.end_desk.new.told.items in
-    let old : Closing = closing_of c.loop-session.ended.items c.loop-session.turns.workers.items c.loop-session.told in
-    let new : Closing = closing_of c.push.new.self.items c.end_desk.new.idle.workers.items c.tell_ended.new.told in
+    let old : Closing = closing_of c.loop-session.ended.items c.loop-session.turns c.loop-session.transcript in
+    let new : Closing = closing_of c.push.new.self.items c.end_desk.new.idle c.tell_ended.new.transcript in
     record {
       so_far = append_assoc c.loop-session.yielded (d ∷ []) (into_iter_items c.next.new.self) ∙ ap (λ l. c.loop-session.yielded ++ l) (sym c.in-Some.ensures.steps.0) ∙ i.so_far;
       logs = c.in_ok-push-2.ensures.items ∙ ap (λ l. l ++ d.log ∷ []) i.logs ∙ sym (map-append (λ (x : Session). x.log) c.loop-session.yielded (d ∷ []));
@@ -60,7 +60,7 @@ loop-session-preserved g c =
         outstanding = outstanding;
         ends = subst (λ (l : List (ℕ × Code)). EndsDesk d.desk l c.end_desk.result outstanding) c.in_ok-outstanding.ensures.items c.end_desk.ensures.ends;
         ended = c.in_ok-push.ensures.items;
-        told = c.in_ok-tell_ended.ensures ∙ ap (λ l. c.loop-session.told ++ all_ended c.thread-thread.result l) c.deref.ensures.value ∙ ap (λ (t : ℕ). c.loop-session.told ++ all_ended t outstanding) c.thread-thread.ensures.thread;
+        told = c.in_ok-tell_ended.ensures ∙ ap (λ l. c.loop-session.transcript ++ all_ended c.thread-thread.result l) c.deref.ensures.value ∙ ap (λ (t : ℕ). c.loop-session.transcript ++ all_ended t outstanding) c.thread-thread.ensures.thread;
         turns = c.end_desk.ensures.idled;
       });
     }

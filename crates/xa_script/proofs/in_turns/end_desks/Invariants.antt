@@ -8,5 +8,5 @@ abbrev pub invariant-loop-session : goal.invariant-loop-session
 invariant-loop-session g l = record {
   so_far : l.yielded ++ into_iter_items l.session-iterator ≡ l.fn.sessions.items;
   logs : l.logs.items ≡ map (λ x. x.log) l.yielded;
-  ends : HaveEnded (closing_of [] l.fn.turns.workers.items l.fn.told) l.yielded (closing_of l.ended.items l.turns.workers.items l.told);
+  ends : HaveEnded (closing_of [] l.fn.turns l.fn.transcript) l.yielded (closing_of l.ended.items l.turns l.transcript);
 }

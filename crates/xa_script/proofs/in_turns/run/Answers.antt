@@ -3,29 +3,29 @@ use Rattle.std.proofs.lemmas.List.{take_all}
 use Rattle.xa_base.specs.Lists.{IsUpTo}
 use Rattle.xa_grammar.proofs.Taken.{take_next}
 use Rattle.xa_worker.specs.Workers.{WorkerView}
-use Rattle.xa_grammar.specs.declared.script.Step.{Step}
-use Rattle.xa_grammar.specs.declared.script.Step.TheVariants as step
-use Rattle.xa_grammar.specs.Content.{Content, Fits, threads_of, managers_of, thread_of}
-use Rattle.xa_session.specs.declared.answer.Answer.{Answer}
-use Rattle.xa_session.specs.declared.answer.Answer.TheVariants as answer
+use Rattle.xa_grammar.specs.declared.step.Step.TheVariants as step
+use Rattle.xa_grammar.specs.Steps.{ScriptStep}
+use Rattle.xa_grammar.specs.Content.{Content, Fits, IsOfScript, threads_of, managers_of}
+use Rattle.xa_transcript.specs.declared.answer.Told.{Told}
+use Rattle.xa_transcript.specs.declared.answer.Told.TheVariants as told
 use Rattle.xa_session.specs.declared.session.Session.{Session}
 use Rattle.xa_script.specs.declared.in_turns.Runner.{Runner}
 use Rattle.xa_script.specs.declared.mode.Mode.TheVariants as mode
 use Rattle.xa_script.specs.Outcome.{IsOutcome}
-use Rattle.xa_script.specs.Openings.{HasReached}
+use Rattle.xa_script.specs.TurnsSoFar.{HasReached}
 use Rattle.xa_script.proofs.Reached.{begun, reached_threads, reached_managers, stepped, ended_so, reopened, outcome_so}
 use Rattle.xa_script.proofs.in_turns.run.Goals as goal
-use Rattle.xa_script.proofs.in_turns.run.Goals.{in-Task+in_ok-call-in-Task+in_ok-push-in-Task, in-Turn+in_ok-push-in-Turn, in-Reopen+in_ok-closed-in-Reopen+in_ok-push-in-Reopen+in_ok-runner-in-Reopen}
+use Rattle.xa_script.proofs.in_turns.run.Goals.{in-Task+in_ok-call-in-Task+in_ok-tell-in-Task, in-Turn+in_ok-tell-in-Turn, in-Reopen+in_ok-closed-in-Reopen+in_ok-tell-in-Reopen+in_ok-runner-in-Reopen}
 
 -- the same lines, number and answers
-reached_as : (s : Content) (lines lines' : List Step) (r : Runner) (opening : ℕ) (sessions : List Session) (workers : List WorkerView) (answers answers' : List Answer) → lines' ≡ lines → r.opening ≡ opening → r.sessions.items ≡ sessions → r.turns.workers.items ≡ workers → answers' ≡ answers
-    → HasReached s lines opening sessions workers answers → HasReached s lines' r.opening r.sessions.items r.turns.workers.items answers'
+reached_as : (s : Content) (lines lines' : List ScriptStep) (r : Runner) (opening : ℕ) (sessions : List Session) (workers : List WorkerView) (answers answers' : List Told) → lines' ≡ lines → r.opening ≡ opening → r.sessions.items ≡ sessions → r.turns ≡ workers → answers' ≡ answers
+    → HasReached s lines opening sessions workers answers → HasReached s lines' r.opening r.sessions.items r.turns answers'
 reached_as s lines lines' r opening sessions workers answers answers' same_lines number same_sessions same_workers same_answers is =
-    subst (λ (l : List Step). HasReached s l r.opening r.sessions.items r.turns.workers.items answers') (sym same_lines)
-    (subst (λ (n : ℕ). HasReached s lines n r.sessions.items r.turns.workers.items answers') (sym number)
-    (subst (λ (l : List Session). HasReached s lines opening l r.turns.workers.items answers') (sym same_sessions)
+    subst (λ (l : List ScriptStep). HasReached s l r.opening r.sessions.items r.turns answers') (sym same_lines)
+    (subst (λ (n : ℕ). HasReached s lines n r.sessions.items r.turns answers') (sym number)
+    (subst (λ (l : List Session). HasReached s lines opening l r.turns answers') (sym same_sessions)
     (subst (λ (l : List WorkerView). HasReached s lines opening sessions l answers') (sym same_workers)
-    (subst (λ (l : List Answer). HasReached s lines opening sessions workers l) (sym same_answers) is))))
+    (subst (λ (l : List Told). HasReached s lines opening sessions workers l) (sym same_answers) is))))
 
 pub loop-place-init : goal.loop-place-init
 loop-place-init g c =
@@ -33,7 +33,7 @@ loop-place-init g c =
     let r = c.in_ok-runner.runner in
     let number = c.in_ok-runner.ensures.number in
     record {
-      reached = subst (λ (l : List Answer). HasReached s [] r.opening r.sessions.items r.turns.workers.items l) (sym c.in_ok-told.ensures) (begun s r.opening r.sessions.items r.turns.workers.items number c.in_ok-runner.ensures.opened);
+      reached = subst (λ (l : List Told). HasReached s [] r.opening r.sessions.items r.turns l) (sym c.in_ok-transcript.ensures) (begun s r.opening r.sessions.items r.turns number c.in_ok-runner.ensures.opened);
       few = omega (arith, number);
     }
 
@@ -42,20 +42,20 @@ call-requires g c =
     let s : Content = c.args.script.now in
     let r = c.loop-place.runner in
     let lines = take c.loop-place.place s.steps in
-    let p : Step = c.step.result in
+    let p : ScriptStep = c.step.result in
     let fits : Fits (threads_of s) (managers_of s) p = c.step.ensures.of in
-    let own : Fits (threads_of s) (managers_of s) (step.Task c.in-Task.task) = subst (Fits (threads_of s) (managers_of s)) c.in-Task.is fits in
-    subst (λ n. IsUpTo n (thread_of c.in-Task.task)) (sym (reached_threads s lines r.opening r.sessions.items r.turns.workers.items c.loop-place.told c.loop-place.invariant.reached)) own.0
+    let own : IsOfScript s (step.Task c.in-Task.task) = subst (Fits (threads_of s) (managers_of s)) c.in-Task.is fits in
+    subst (λ n. IsUpTo n c.in-Task.task.thread) (sym (reached_threads s lines r.opening r.sessions.items r.turns c.loop-place.transcript c.loop-place.invariant.reached)) own.0
 
 pub turn-requires : goal.turn-requires
 turn-requires g c =
     let s : Content = c.args.script.now in
     let r = c.loop-place.runner in
     let lines = take c.loop-place.place s.steps in
-    let p : Step = c.step.result in
+    let p : ScriptStep = c.step.result in
     let fits : Fits (threads_of s) (managers_of s) p = c.step.ensures.of in
-    let own : Fits (threads_of s) (managers_of s) (step.Turn c.in-Turn.line c.in-Turn.manager) = subst (Fits (threads_of s) (managers_of s)) c.in-Turn.is fits in
-    subst (λ n. IsUpTo n c.in-Turn.manager) (sym (reached_managers s lines r.opening r.sessions.items r.turns.workers.items c.loop-place.told c.loop-place.invariant.reached)) own
+    let own : IsOfScript s (step.Turn c.in-Turn.line c.in-Turn.manager) = subst (Fits (threads_of s) (managers_of s)) c.in-Turn.is fits in
+    subst (λ n. IsUpTo n c.in-Turn.manager) (sym (reached_managers s lines r.opening r.sessions.items r.turns c.loop-place.transcript c.loop-place.invariant.reached)) own
 
 pub reopen-requires-clause-closed : goal.reopen-requires-clause-closed
 reopen-requires-clause-closed g c =
@@ -78,55 +78,55 @@ loop-place-preserved g c =
     let steps = s.steps in
     let k = c.loop-place.place in
     let r = c.loop-place.runner in
-    let answers = c.loop-place.told in
+    let answers = c.loop-place.transcript in
     let lines = take k steps in
     let h = c.loop-place.invariant.reached in
     let few = c.loop-place.invariant.few in
-    let p : Step = c.step.result in
+    let p : ScriptStep = c.step.result in
     let longer : take (k + 1) steps ≡ lines ++ p ∷ [] = take_next steps k p (let there = c.loop-place-test.true in let all = c.len-place-end.ensures.steps in omega (arith, there, all)) c.step.ensures.step in
     let fits : Fits (threads_of s) (managers_of s) p = c.step.ensures.of in
     elim c.match-step.branch [
-      | in-Task+in_ok-call-in-Task+in_ok-push-in-Task w ↦
+      | in-Task+in_ok-call-in-Task+in_ok-tell-in-Task w ↦
           let t = w.in-Task.task in
           let a = w.in_ok-call-in-Task.field-0 in
           let new = w.call.new.self in
           let number : c.match-step.runner.opening ≡ r.opening = ap (λ (x : Runner). x.opening) w.runner-is ∙ w.in_ok-call-in-Task.ensures.number in
           record {
             reached =
-                reached_as s (lines ++ step.Task t ∷ []) (take (k + 1) steps) c.match-step.runner r.opening new.sessions.items new.turns.workers.items (answers ++ a ∷ []) c.match-step.told
-                (longer ∙ ap (λ q. lines ++ q ∷ []) w.in-Task.is) number (ap (λ (x : Runner). x.sessions.items) w.runner-is) (ap (λ (x : Runner). x.turns.workers.items) w.runner-is)
-                (w.told-is ∙ w.in_ok-push-in-Task.ensures.told)
-                (stepped s lines r.opening r.sessions.items r.turns.workers.items answers h (step.Task t) a new.sessions.items new.turns.workers.items refl (subst (Fits (threads_of s) (managers_of s)) w.in-Task.is fits) w.in_ok-call-in-Task.ensures.calls);
+                reached_as s (lines ++ step.Task t ∷ []) (take (k + 1) steps) c.match-step.runner r.opening new.sessions.items new.turns (answers ++ a ∷ []) c.match-step.transcript
+                (longer ∙ ap (λ q. lines ++ q ∷ []) w.in-Task.is) number (ap (λ (x : Runner). x.sessions.items) w.runner-is) (ap (λ (x : Runner). x.turns) w.runner-is)
+                (w.transcript-is ∙ w.in_ok-tell-in-Task.ensures.told)
+                (stepped s lines r.opening r.sessions.items r.turns answers h (step.Task t) a new.sessions.items new.turns refl (subst (Fits (threads_of s) (managers_of s)) w.in-Task.is fits) w.in_ok-call-in-Task.ensures.calls);
             few = omega (arith, number, few);
           }
-      | in-Turn+in_ok-push-in-Turn w ↦
+      | in-Turn+in_ok-tell-in-Turn w ↦
           let x = step.Turn w.in-Turn.line w.in-Turn.manager in
           let a = w.turn.result in
           let new = w.turn.new.self in
           let number : c.match-step.runner.opening ≡ r.opening = ap (λ (x : Runner). x.opening) w.runner-is ∙ w.turn.ensures.number in
           record {
             reached =
-                reached_as s (lines ++ x ∷ []) (take (k + 1) steps) c.match-step.runner r.opening new.sessions.items new.turns.workers.items (answers ++ a ∷ []) c.match-step.told
-                (longer ∙ ap (λ q. lines ++ q ∷ []) w.in-Turn.is) number (ap (λ (x : Runner). x.sessions.items) w.runner-is) (ap (λ (x : Runner). x.turns.workers.items) w.runner-is)
-                (w.told-is ∙ w.in_ok-push-in-Turn.ensures.told)
-                (stepped s lines r.opening r.sessions.items r.turns.workers.items answers h x a new.sessions.items new.turns.workers.items refl (subst (Fits (threads_of s) (managers_of s)) w.in-Turn.is fits) w.turn.ensures.turns);
+                reached_as s (lines ++ x ∷ []) (take (k + 1) steps) c.match-step.runner r.opening new.sessions.items new.turns (answers ++ a ∷ []) c.match-step.transcript
+                (longer ∙ ap (λ q. lines ++ q ∷ []) w.in-Turn.is) number (ap (λ (x : Runner). x.sessions.items) w.runner-is) (ap (λ (x : Runner). x.turns) w.runner-is)
+                (w.transcript-is ∙ w.in_ok-tell-in-Turn.ensures.told)
+                (stepped s lines r.opening r.sessions.items r.turns answers h x a new.sessions.items new.turns refl (subst (Fits (threads_of s) (managers_of s)) w.in-Turn.is fits) w.turn.ensures.turns);
             few = omega (arith, number, few);
           }
-      | in-Reopen+in_ok-closed-in-Reopen+in_ok-push-in-Reopen+in_ok-runner-in-Reopen w ↦
+      | in-Reopen+in_ok-closed-in-Reopen+in_ok-tell-in-Reopen+in_ok-runner-in-Reopen w ↦
           let line = w.in-Reopen.line in
           let closed = w.in_ok-closed-in-Reopen.closed in
           let x = w.in_ok-closed-in-Reopen.ensures.closed s h.begins h.own h.told h.goes in
           let own = w.in_ok-closed-in-Reopen.ensures.number in
           let new = w.in_ok-runner-in-Reopen.runner in
-          let y = w.in_ok-runner-in-Reopen.ensures.opened h.begins (ended_so s lines r.opening r.sessions.items r.turns.workers.items answers h x.0 closed.settled) line x.2 refl (own ∙ h.number) in
+          let y = w.in_ok-runner-in-Reopen.ensures.opened h.begins (ended_so s lines r.opening r.sessions.items r.turns answers h x.0 closed.settled) line x.2 refl (own ∙ h.number) in
           let number = w.in_ok-runner-in-Reopen.ensures.number in
           let same = ap (λ (x : Runner). x.opening) w.runner-is in
           record {
             reached =
-                reached_as s (lines ++ step.Reopen line ∷ []) (take (k + 1) steps) c.match-step.runner new.opening new.sessions.items new.turns.workers.items ((answers ++ x.0) ++ answer.Reopened line ∷ []) c.match-step.told
-                (longer ∙ ap (λ q. lines ++ q ∷ []) w.in-Reopen.is) same (ap (λ (x : Runner). x.sessions.items) w.runner-is) (ap (λ (x : Runner). x.turns.workers.items) w.runner-is)
-                (w.told-is ∙ w.in_ok-push-in-Reopen.ensures.told ∙ ap (λ l. l ++ answer.Reopened line ∷ []) x.1)
-                (reopened s lines r.opening r.sessions.items r.turns.workers.items answers h x.0 closed.settled line y.0 y.1 new.opening new.sessions.items new.turns.workers.items y.2 y.3);
+                reached_as s (lines ++ step.Reopen line ∷ []) (take (k + 1) steps) c.match-step.runner new.opening new.sessions.items new.turns ((answers ++ x.0) ++ told.Reopened line ∷ []) c.match-step.transcript
+                (longer ∙ ap (λ q. lines ++ q ∷ []) w.in-Reopen.is) same (ap (λ (x : Runner). x.sessions.items) w.runner-is) (ap (λ (x : Runner). x.turns) w.runner-is)
+                (w.transcript-is ∙ w.in_ok-tell-in-Reopen.ensures.told ∙ ap (λ l. l ++ told.Reopened line ∷ []) x.1)
+                (reopened s lines r.opening r.sessions.items r.turns answers h x.0 closed.settled line y.0 y.1 new.opening new.sessions.items new.turns y.2 y.3);
             few = omega (arith, same, number, own, few);
           }
     ]
@@ -137,14 +137,14 @@ returns g c =
     let steps = s.steps in
     let k = c.loop-place.place in
     let r = c.loop-place.runner in
-    let answers = c.loop-place.told in
+    let answers = c.loop-place.transcript in
     let h = c.loop-place.invariant.reached in
     let closed = c.in_ok-closed.closed in
     let x = c.in_ok-closed.ensures.closed s h.begins h.own h.told h.goes in
     let all : take k steps ≡ s.steps = take_all k steps (omega arith) in
-    let last = ended_so s (take k steps) r.opening r.sessions.items r.turns.workers.items answers h x.0 closed.settled in (
+    let last = ended_so s (take k steps) r.opening r.sessions.items r.turns answers h x.0 closed.settled in (
       h.before,
       last,
-      subst (λ (l : List Answer). IsOutcome mode.Turns s l h.before last) (sym x.1) (outcome_so s (take k steps) r.opening r.sessions.items r.turns.workers.items answers h all x.0 closed.settled closed.logs.items x.2),
+      subst (λ (l : List Told). IsOutcome mode.Turns s l h.before last) (sym x.1) (outcome_so s (take k steps) r.opening r.sessions.items r.turns answers h all x.0 closed.settled closed.logs.items x.2),
       refl,
     )

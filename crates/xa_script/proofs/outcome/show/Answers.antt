@@ -3,9 +3,9 @@ use Rattle.std.specs.Io.KnownBytes.{Appends}
 use Rattle.xa_switch.specs.Settling.{Settling}
 use Rattle.xa_grammar.specs.declared.script.Declared.{Declared}
 use Rattle.xa_grammar.specs.Content.{Content}
-use Rattle.xa_session.specs.declared.answer.Answer.{Answer}
-use Rattle.xa_session.specs.Text.{answers_text}
-use Rattle.xa_transcript.specs.Openings.{Opening, Former, settled_over}
+use Rattle.xa_transcript.specs.declared.answer.Told.{Told}
+use Rattle.xa_transcript.specs.Text.{lines_text}
+use Rattle.xa_telling.specs.ToldOpenings.{Opening, Former, settled_over}
 use Rattle.xa_transcript.specs.Transcript.{text, values_text}
 use Rattle.xa_transcript.specs.Values.{opened_after, AreOfScript, AreValues}
 use Rattle.xa_script.specs.declared.mode.Mode.{Mode}
@@ -30,7 +30,7 @@ returns-clause-ok g c =
     let contents = g.W.Write.contents in
     let old = contents c.args.writer.now in
     let new = contents c.write_transcript.new.writer in
-    on_ok c.write_transcript.result (Appends old new (lines ++ values_text c.deref.result.now)) ((m : Mode) (answers : List Answer) (before : List Former) (last : Opening) → lines ≡ answers_text answers → IsOutcome m s answers before last → last.settled ≡ settled → Writes m s old new)
+    on_ok c.write_transcript.result (Appends old new (lines ++ values_text c.deref.result.now)) ((m : Mode) (answers : List Told) (before : List Former) (last : Opening) → lines ≡ lines_text answers → IsOutcome m s answers before last → last.settled ≡ settled → Writes m s old new)
     (λ written m answers before last are outcome same.
     let former : List Settling = map (λ (f : Former). f.opening.settled) before in
     let managers = subst (λ (x : Settling). AreOfScript s (opened_after s former) x.managers) same (managers_so m s answers before last outcome) in

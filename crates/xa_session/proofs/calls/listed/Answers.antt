@@ -3,18 +3,16 @@ use Rattle.std.specs.Prelude.{Vec, nat_abs, int_lt}
 use Rattle.std.specs.Global.{Global}
 use Rattle.std.proofs.lemmas.Int.{to_z-of_z, ints}
 use Rattle.xa_words.specs.Xid.{XidName}
-use Rattle.xa_grammar.specs.declared.script.Called.{Called}
-use Rattle.xa_session.specs.declared.answer.Answer.TheVariants.{Recovered}
+use Rattle.xa_transcript.specs.declared.answer.Answer.TheVariants.{Recovered}
 use Rattle.xa_session.specs.Calling.{IsListed}
 use Rattle.xa_session.proofs.calls.listed.Goals as goal
 
 -- an answer that isn't negative tells how many were written
-listed_so : (p : Called) (n z : ℤ) (xids : List XidName) (v : Vec XidName Global) → z ≡ n → int_lt z (pos 0) ≡ false → v.items ≡ take (nat_abs z) xids
-    → IsListed p n xids (Recovered p.line p.thread v)
-listed_so p (pos n) z xids v same low is = (v, is ∙ ap (λ y. take (nat_abs y) xids) same, refl)
-listed_so p (negsuc n) z xids v same low is = absurd (let f : true ≡ false = ap (λ y. int_lt y (pos 0)) (sym same) ∙ low in cc)
+listed_so : (n z : ℤ) (xids : List XidName) (v : Vec XidName Global) → z ≡ n → int_lt z (pos 0) ≡ false → v.items ≡ take (nat_abs z) xids → IsListed n xids (Recovered v)
+listed_so (pos n) z xids v same low is = (v, is ∙ ap (λ y. take (nat_abs y) xids) same, refl)
+listed_so (negsuc n) z xids v same low is = absurd (let f : true ≡ false = ap (λ y. int_lt y (pos 0)) (sym same) ∙ low in cc)
 
 pub returns : goal.returns
 returns c =
     let n = c.args.answer in
-    listed_so c.args.called.now n _ c.args.xids.items c.truncate.new.self (to_z-of_z w32 n (omega (arith, ints))) c.if-answer-lt0.false c.truncate.ensures.items
+    listed_so n _ c.args.xids.items c.truncate.new.self (to_z-of_z w32 n (omega (arith, ints))) c.if-answer-lt0.false c.truncate.ensures.items

@@ -13,7 +13,7 @@ written_back n new old size was =
 
 pub returns-clause-answers : goal.returns-clause-answers
 returns-clause-answers g c =
-    let p = c.args.called.now in
+    let q = c.args.called.now in
     let xids = c.in_ok-xids.xids in
     let n = c.xa_recover-answer.result in
     let new = c.xa_recover-answer.new.xids in
@@ -24,8 +24,8 @@ returns-clause-answers g c =
       answer = n;
       room = c.in_ok-xids.ensures;
       recovers =
-          subst (λ (l : List XidName). HasRecovered p.manager p.flags c.args.desk.now c.args.scan.now l c.xa_recover-answer.new.desk c.xa_recover-answer.new.scan new n) c.deref_mut.ensures.value c.xa_recover-answer.ensures.recovered;
+          subst (λ (l : List XidName). HasRecovered q.manager q.flags c.args.desk.now c.args.scan.now l c.xa_recover-answer.new.desk c.xa_recover-answer.new.scan new n) c.deref_mut.ensures.value c.xa_recover-answer.ensures.recovered;
       shown =
-          subst (λ l. IsListed p n l c.listed.result) (written_back xids.len new xids.items size (sym xids.ok.0))
-          (subst (λ z. IsListed p z (take xids.len (new ++ drop (length new) xids.items)) c.listed.result) (to_z-of_z w32 n (omega (arith, ints))) c.listed.ensures);
+          subst (λ l. IsListed n l c.listed.result) (written_back xids.len new xids.items size (sym xids.ok.0))
+          (subst (λ z. IsListed z (take xids.len (new ++ drop (length new) xids.items)) c.listed.result) (to_z-of_z w32 n (omega (arith, ints))) c.listed.ensures);
     }

@@ -1,12 +1,13 @@
 use Rattle.std.proofs.Common.{◌≡◌, ◌≤◌, length, map, filter, vec_capacity}
 use Rattle.std.specs.List.{range_with_len}
-use Rattle.xa_session.specs.Committing.{branch_at, is_at}
+use Rattle.xa_words.specs.ManagerSet.{is_in}
+use Rattle.xa_session.specs.Committing.{branch_at}
 use Rattle.xa_session.proofs.commits.branches_of.Given as goal
 
 -- the branches at the first managers
 abbrev pub invariant-loop-before : goal.invariant-loop-before
 invariant-loop-before l = record {
-  so_far : l.branches.items ≡ map (branch_at l.asked) (filter (is_at l.asked) (range_with_len 1 l.before));
+  so_far : l.branches.items ≡ map (branch_at l.asked) (filter (is_in l.asked.managers) (range_with_len 1 l.before));
   few : length l.branches.items ≤ l.before;
   room : 8 ≤ vec_capacity l.branches;
 }

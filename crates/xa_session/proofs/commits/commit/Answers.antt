@@ -4,13 +4,14 @@ use Rattle.xa_driver.specs.Decision.{yes_of}
 use Rattle.xa_driver.specs.Log.{AppendsTo}
 use Rattle.xa_driver.specs.Order.{IsThreeRounds}
 use Rattle.xa_driver.specs.Trace.{AppendsOnce, MayCommit, IsTraceOfCommit, IsTranOf}
-use Rattle.xa_grammar.specs.declared.script.CommitAll.{CommitAll}
+use Rattle.xa_words.specs.Tran.{TranName}
+use Rattle.xa_grammar.specs.declared.step.CommitAll.{CommitAll}
 use Rattle.xa_session.specs.Committing.{named, branch_at, branches_of}
 use Rattle.xa_session.specs.Committing.CommitsAll.{decided}
 use Rattle.xa_session.proofs.commits.commit.Goals as goal
 
 -- all branches of a commit are of its transaction
-of_tran : (c : CommitAll) (ms : List ℕ) → IsTranOf (map (branch_at c) ms) (named c)
+of_tran : (c : CommitAll TranName) (ms : List ℕ) → IsTranOf (map (branch_at c) ms) (named c)
 of_tran c [] = tt
 of_tran c (m ∷ ms) = (refl, of_tran c ms)
 

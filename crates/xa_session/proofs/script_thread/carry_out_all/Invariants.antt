@@ -11,4 +11,5 @@ invariant-loop-place g l = record {
   runs : Chain HasDone (session_of l.fn.desk l.fn.log l.fn.scan, l.fn.told) (take l.place l.tasks) (session_of l.desk l.log l.scan, l.told);
   goes_on : GoesOn l.fn.desk l.desk;
   kept : AllKept l.fn.desk → AllKept l.desk;
+  idled : g.I.Idle.leads l.fn.idle l.idle;
 }

@@ -6,7 +6,7 @@ use Rattle.xa_words.specs.declared.code.Code.{Code}
 use Rattle.xa_words.specs.declared.code.Code.TheVariants.{Async}
 use Rattle.xa_desk.specs.DeskView.{DeskView, call_refusal}
 use Rattle.xa_desk.specs.Lanes.{after_full}
-use Rattle.xa_switch.specs.declared.asked.Asked.{Asked}
+use Rattle.xa_switch.specs.declared.calls.asked.Asked.{Asked}
 use Rattle.xa_switch.specs.Putting.{code_of, put_refusal, Puts, refused, full, kept, answered}
 use Rattle.xa_switch.proofs.Refusals.{no_refusal, its_refusal, later_never_waits, refused_never_waits}
 use Rattle.xa_switch.proofs.calls.put.Goals as goal

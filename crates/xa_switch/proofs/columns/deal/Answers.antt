@@ -1,5 +1,6 @@
-use Rattle.std.proofs.Common.{◌<◌, get_or, set, map, ◌∷◌, [], ◌++◌, length, length-append, append_assoc, vec_capacity, rules, arith, refl, sym, subst, ap, ◌∙◌}
+use Rattle.std.proofs.Common.{◌<◌, get_or, set, map, ◌∷◌, [], ◌++◌, length, length-append, vec_capacity, rules, arith, refl, sym, subst, ap, ◌∙◌}
 use Rattle.std.specs.Vec.Iter.{into_iter_items}
+use Rattle.xa_base.proofs.Lists.{taken_next}
 use Rattle.xa_switch.proofs.Dealing.{put_none, room_there, dealt_more, cap_more}
 use Rattle.xa_switch.proofs.columns.deal.Goals as goal
 
@@ -31,7 +32,7 @@ loop-x-preserved g c =
     let at = i.place in
     let is = c.index_mut-column.ensures.value in
     record {
-      so_far = append_assoc c.loop-x.yielded (c.in-Some.x ∷ []) (into_iter_items c.next.new.self) ∙ ap (λ l. c.loop-x.yielded ++ l) (sym c.in-Some.ensures.steps.0) ∙ i.so_far;
+      so_far = taken_next c.loop-x.yielded _ (into_iter_items c.next.new.self) _ c.in-Some.x c.in-Some.ensures.steps.0 i.so_far;
       counted = let n = i.counted in let s = c.in-Some.ensures.steps.1 in omega (arith, n, s, more);
       place = omega (arith, at, length-append c.loop-x.yielded (c.in-Some.x ∷ []));
       dealt = ap (λ k. map (λ v. v.items) (set c.loop-x.columns.items k c.push_reserved.new.self)) at

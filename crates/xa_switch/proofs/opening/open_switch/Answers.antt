@@ -2,7 +2,7 @@ use Rattle.std.proofs.Common.{rules, length, map, sym, ap, ◌∙◌, subst}
 use Rattle.std.specs.List.{All}
 use Rattle.std.proofs.lemmas.Result.{err_from_is_err_and}
 use Rattle.xa_switch.specs.Plans.{Setup, IsWithinLimits, IsSoundManager, numbers_of, manager_room, opened_by, use_async}
-use Rattle.xa_switch.specs.Openings.{AreOfOneOpening}
+use Rattle.xa_switch.specs.OpenedPieces.{AreOfOneOpening}
 use Rattle.xa_switch.proofs.Planned.{all_new, all_begin, setup_is}
 use Rattle.xa_switch.proofs.opening.open_switch.Goals as goal
 

@@ -1,11 +1,12 @@
 //! Openings that are opened again, and what xa_recover lists there.
 ghost use Rattle.std.specs.Prelude.{◌≡◌, map};
 ghost use Rattle.xa_switch.specs.Settling.{IsSettled};
-ghost use Rattle.xa_switch.specs.Seats.{ComeFromOpenings, seat_of_desk, seat_of_worker};
+ghost use Rattle.xa_switch.specs.Belonging.{ComeFromOpenings, seat_of_desk, seat_of_worker};
 
-use super::turns::{Opened, Workers};
+use super::turns::Opened;
 use super::*;
 use xa_switch::{Again, OpenFault, Scan, reopen, xa_recover};
+use xa_testing::open_again;
 use xa_words::{Delta, TMASYNC, TMENDRSCAN, TMSTARTRSCAN, TMSUCCESS};
 
 // The plan of two threads and two managers, with room for more requests.
@@ -56,13 +57,12 @@ fn crash<R: Wait + Abort>(rt: &R, alloc: Global) -> Settled
 
 // Opens it again.
 fn reopened<R: Wait + Abort>(rt: &R, alloc: Global, settled: Settled) -> (Opened, Vec<Scan>)
-    ensures { ComeFromOpenings (map seat_of_desk result.0.desks.items) (map seat_of_worker result.0.workers.all.items) }
+    ensures { ComeFromOpenings (map seat_of_desk result.0.desks.items) (map seat_of_worker result.0.workers) }
 {
     opened_pieces_come_from_their_opening();
-    let Ok((desks, all, scans)) = reopen(rt, alloc, settled, &again(2)) else {
+    let Some((desks, workers, scans)) = open_again(rt, alloc, settled, &again(2)) else {
         panic!(rt; "it is not opened again");
     };
-    let workers = Workers { all };
     (Opened { desks, workers }, scans)
 }
 
@@ -77,8 +77,8 @@ impl Opened {
         flags: u32,
     ) -> i32
         ensures desks { map seat_of_desk self.new.desks.items ≡ map seat_of_desk self.old.desks.items }
-        ensures workers { map seat_of_worker self.new.workers.all.items
-            ≡ map seat_of_worker self.old.workers.all.items }
+        ensures workers { map seat_of_worker self.new.workers
+            ≡ map seat_of_worker self.old.workers }
     {
         assert!(rt; before < self.desks.len());
         recovers(
@@ -109,8 +109,8 @@ fn recovers<R: Wait, I: Idle>(
 // The thread must have the manager open, and a scan must be open.
 fn refused<R: Wait + Abort>(rt: &R, opened: &mut Opened, scan: &mut Scan)
     ensures desks { map seat_of_desk opened.new.desks.items ≡ map seat_of_desk opened.old.desks.items }
-    ensures workers { map seat_of_worker opened.new.workers.all.items
-        ≡ map seat_of_worker opened.old.workers.all.items }
+    ensures workers { map seat_of_worker opened.new.workers
+        ≡ map seat_of_worker opened.old.workers }
 {
     let mut page = [xid(rt, b"none")];
     let unopened = opened.recover(rt, 0, scan, &mut page, TMSTARTRSCAN);
@@ -127,8 +127,8 @@ fn refused<R: Wait + Abort>(rt: &R, opened: &mut Opened, scan: &mut Scan)
 
 fn one_by_one<R: Wait + Abort>(rt: &R, opened: &mut Opened, scan: &mut Scan)
     ensures desks { map seat_of_desk opened.new.desks.items ≡ map seat_of_desk opened.old.desks.items }
-    ensures workers { map seat_of_worker opened.new.workers.all.items
-        ≡ map seat_of_worker opened.old.workers.all.items }
+    ensures workers { map seat_of_worker opened.new.workers
+        ≡ map seat_of_worker opened.old.workers }
 {
     let (g, h) = (xid(rt, b"g"), xid(rt, b"hh"));
     let mut page = [xid(rt, b"none")];
@@ -145,8 +145,8 @@ fn one_by_one<R: Wait + Abort>(rt: &R, opened: &mut Opened, scan: &mut Scan)
 // With room for none, which begins a scan, then for more than there are, and then for as many.
 fn all_at_once<R: Wait + Abort>(rt: &R, opened: &mut Opened, scan: &mut Scan)
     ensures desks { map seat_of_desk opened.new.desks.items ≡ map seat_of_desk opened.old.desks.items }
-    ensures workers { map seat_of_worker opened.new.workers.all.items
-        ≡ map seat_of_worker opened.old.workers.all.items }
+    ensures workers { map seat_of_worker opened.new.workers
+        ≡ map seat_of_worker opened.old.workers }
 {
     let (g, h) = (xid(rt, b"g"), xid(rt, b"hh"));
     let none = xid(rt, b"none");
@@ -164,8 +164,8 @@ fn all_at_once<R: Wait + Abort>(rt: &R, opened: &mut Opened, scan: &mut Scan)
 // Another thread has a scan of its own; a branch that ends between two of its pages isn't listed.
 fn while_branches_end<R: Wait + Abort>(rt: &R, opened: &mut Opened, scan: &mut Scan)
     ensures desks { map seat_of_desk opened.new.desks.items ≡ map seat_of_desk opened.old.desks.items }
-    ensures workers { map seat_of_worker opened.new.workers.all.items
-        ≡ map seat_of_worker opened.old.workers.all.items }
+    ensures workers { map seat_of_worker opened.new.workers
+        ≡ map seat_of_worker opened.old.workers }
 {
     let (g, h) = (xid(rt, b"g"), xid(rt, b"hh"));
     let mut page = [xid(rt, b"none")];

@@ -1,73 +1,35 @@
-//! Runs in one thread: the workers do one thing each while a desk waits.
-ghost use Rattle.std.specs.Prelude.{◌≡◌, map, refl};
-ghost use Rattle.std.proofs.Common.{◌∙◌};
+//! Runs in one thread: the workers take turns while a desk waits.
+ghost use Rattle.std.specs.Prelude.{◌≡◌, map};
 ghost use Rattle.xa_switch.specs.Settling.{IsSettled};
-ghost use Rattle.xa_switch.specs.Seats.{ComeFromOpenings, seat_of_desk, seat_of_worker};
+ghost use Rattle.xa_switch.specs.Belonging.{ComeFromOpenings, seat_of_desk, seat_of_worker};
 
 use super::*;
+use xa_crew::Turns;
 use xa_words::TMASYNC;
-
-// The workers of an opening. Each idle lets each of them do one thing.
-#[derive(Drop)]
-pub(super) struct Workers {
-    pub(super) all: Vec<Worker>,
-}
-
-impl Workers {
-    fn step<R: Wait>(&mut self, rt: &R, place: usize)
-        ensures { map seat_of_worker self.new.all.items ≡ map seat_of_worker self.old.all.items }
-    {
-        if place < self.all.len() {
-            self.all[place].step(rt, &mut Free);
-        }
-    }
-}
-
-impl Idle for Workers {
-    ghost leads_by = { λ manager before after. map seat_of_worker after.all.items
-        ≡ map seat_of_worker before.all.items };
-
-    ghost leads = { λ before after. map seat_of_worker after.all.items ≡ map seat_of_worker before.all.items };
-
-    ghost leads_each = { λ manager x y p. p };
-
-    ghost leads_start = { λ x. refl };
-
-    ghost leads_chain = { λ x y z p q. q ∙ p };
-
-    fn idle<R: Wait>(&mut self, rt: &R, _manager: u32) {
-        for place in 0..self.all.len() {
-            self.step(rt, place);
-        }
-    }
-}
 
 // The desks and the workers of an opening.
 #[derive(Drop)]
 pub(super) struct Opened {
     pub(super) desks: Vec<Desk>,
-    pub(super) workers: Workers,
+    pub(super) workers: Turns,
 }
 
 impl Opened {
     pub(super) fn new<R: Wait + Abort>(rt: &R, alloc: Global, plan: &Plan) -> Opened
-        ensures { ComeFromOpenings (map seat_of_desk result.desks.items) (map seat_of_worker result.workers.all.items) }
+        ensures { ComeFromOpenings (map seat_of_desk result.desks.items) (map seat_of_worker result.workers) }
     {
         opened_pieces_come_from_their_opening();
-        let Ok((desks, all)) = open_switch(rt, alloc, plan) else {
+        let Some((desks, workers)) = open(rt, alloc, plan) else {
             panic!(rt; "it is not opened");
         };
-        Opened {
-            desks,
-            workers: Workers { all },
-        }
+        Opened { desks, workers }
     }
 
     // Thread `before + 1` does this.
     pub(super) fn play<R: Wait + Abort>(&mut self, rt: &R, before: usize, acts: &[Act])
         ensures desks { map seat_of_desk self.new.desks.items ≡ map seat_of_desk self.old.desks.items }
-        ensures workers { map seat_of_worker self.new.workers.all.items
-            ≡ map seat_of_worker self.old.workers.all.items }
+        ensures workers { map seat_of_worker self.new.workers
+            ≡ map seat_of_worker self.old.workers }
     {
         assert!(rt; before < self.desks.len());
         play(rt, &mut self.desks[before], acts, &mut self.workers);
@@ -75,12 +37,14 @@ impl Opened {
 
     // Ends all and settles it.
     pub(super) fn settle<R: Wait + Abort>(self, rt: &R, alloc: Global) -> Settled
-        requires { ComeFromOpenings (map seat_of_desk self.desks.items) (map seat_of_worker self.workers.all.items) }
+        requires { ComeFromOpenings (map seat_of_desk self.desks.items) (map seat_of_worker self.workers) }
         ensures { IsSettled result }
     {
         let Opened { desks, workers } = self;
         let desks = end_all(rt, alloc, desks);
-        let workers = run_all(rt, alloc, workers.all);
+        let Some(workers) = run_all(rt, alloc, workers) else {
+            panic!(rt; "memory");
+        };
         settle_all(rt, alloc, desks, workers)
     }
 }

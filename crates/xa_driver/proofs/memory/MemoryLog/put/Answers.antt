@@ -1,7 +1,8 @@
 use Rattle.std.proofs.Common.{ap, sym, ◌∙◌}
 use Rattle.std.specs.FinMap as map
+use Rattle.xa_base.proofs.Options.{at_ok}
 use Rattle.xa_words.specs.Tran.{tran_eq}
-use Rattle.xa_tables.proofs.HashLemmas.{at_ok, one_put}
+use Rattle.xa_tables.proofs.HashLemmas.{one_put}
 use Rattle.xa_driver.proofs.Transactions.{tran_cmp_total, tran_cmp-IsAntisymmetric, tran_eq-by_cmp}
 use Rattle.xa_driver.proofs.memory.MemoryLog.put.Goals as goal
 

@@ -1,7 +1,7 @@
 use Rattle.std.proofs.Common.{◌<◌, length, refl, ◌∙◌, arith, rules}
 use Rattle.xa_driver.proofs.Gathering.{same_itself}
 use Rattle.xa_driver.proofs.Idling.{idles_start, send_on, send_reaches}
-use Rattle.xa_driver.proofs.Ordering.{sends_none_yet, sends_on, step_sends, step_sends_keeps}
+use Rattle.xa_driver.proofs.Ordering.{sends_on, step_sends, step_sends_keeps, sends_stay}
 use Rattle.xa_driver.proofs.round.Round.send_all.Goals as goal
 
 pub loop-place-init : goal.loop-place-init
@@ -13,7 +13,7 @@ loop-place-init g c = record {
   same = λ js s. s;
   waited = idles_start g.I.Idle.leads_by _ _;
   asks = (refl, refl);
-  ordered = sends_none_yet c.args.self.now.tickets.items c.args.desk.now;
+  ordered = sends_stay c.args.self.now.tickets.items c.args.desk.now;
   idled = g.met.I.Idle.leads_start _;
 }
 

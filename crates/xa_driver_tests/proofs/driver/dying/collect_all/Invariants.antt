@@ -1,7 +1,7 @@
 use Rattle.std.proofs.Common.{◌≡◌, ℕ, map}
 use Rattle.xa_desk.specs.DeskView.{ledger}
 use Rattle.xa_desk.specs.GoesOn.{GoesOn}
-use Rattle.xa_switch.specs.Seats.{seat_of_worker}
+use Rattle.xa_switch.specs.Belonging.{seat_of_worker}
 use Rattle.xa_driver_tests.proofs.driver.dying.collect_all.Given as goal
 
 -- what was collected so far leaves what was sent
@@ -9,5 +9,5 @@ abbrev pub invariant-loop-before : goal.invariant-loop-before
 invariant-loop-before g l = record {
   goes_on : GoesOn l.fn.desk l.desk;
   sent : (m : ℕ) → (ledger l.desk.ledgers m).sent ≡ (ledger l.fn.desk.ledgers m).sent;
-  idled : map seat_of_worker l.idle.workers.items ≡ map seat_of_worker l.fn.idle.workers.items;
+  idled : map seat_of_worker l.idle ≡ map seat_of_worker l.fn.idle;
 }

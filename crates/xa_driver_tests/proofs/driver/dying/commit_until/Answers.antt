@@ -1,7 +1,7 @@
-use Rattle.std.proofs.Common.{◌≡◌, Some, List, [], sym, refl, ap, ◌∙◌, subst}
+use Rattle.std.proofs.Common.{◌≡◌, List, [], sym, ap, ◌∙◌, subst}
+use Rattle.xa_bank.proofs.Stepped.{left_so_far}
 use Rattle.xa_desk.specs.LedgerView.{LedgerView}
 use Rattle.xa_desk.specs.DeskView.{DeskView}
-use Rattle.xa_desk.specs.GoesOn.{GoesOn}
 use Rattle.xa_driver.specs.declared.branch.Branch.{Branch}
 use Rattle.xa_driver.specs.declared.done.Done.{Done}
 use Rattle.xa_driver.specs.declared.done.Ending.{Ending}
@@ -11,9 +11,9 @@ use Rattle.xa_driver.specs.declared.stages.Telling.{Telling}
 use Rattle.xa_driver.specs.declared.stages.Forgetting.{Forgetting}
 use Rattle.xa_driver.specs.Asks.{HaveComeSoFar, KeepsTheRest}
 use Rattle.xa_driver.specs.Cut.{IsCut}
-use Rattle.xa_driver.specs.Stages.{HasPrepared, HasTold, IsForgetting, IsPreparing, IsTelling}
+use Rattle.xa_driver.specs.Stages.{HasPrepared, IsForgetting, IsPreparing, IsTelling}
 use Rattle.xa_driver.specs.UnderWay.{IsAtRest}
-use Rattle.xa_driver_tests.proofs.Rounds.{forgetting_on, left_so_far, preparing_on, telling_on, went_on}
+use Rattle.xa_driver_tests.proofs.Rounds.{forgetting_on, preparing_on, telling_on, went_on}
 use Rattle.xa_driver_tests.proofs.driver.dying.commit_until.Goals as goal
 
 pub returns-then-matches-clause-cut : goal.returns-then-matches-clause-cut

@@ -1,4 +1,4 @@
-use Rattle.std.proofs.Common.{◌≡◌, [], ◌∷◌, sym, ap, subst, ◌∙◌}
+use Rattle.std.proofs.Common.{◌≡◌, [], ◌∷◌, sym, ap, subst}
 use Rattle.xa_switch.specs.Settling.{Settling}
 use Rattle.xa_driver.specs.Log.{LogView, Records, record_in}
 use Rattle.xa_driver.specs.Presumed.{CountsByTheLog, EndsByTheLog}

@@ -9,7 +9,7 @@ use Rattle.xa_desk.specs.DeskView.{DeskView, ledger}
 use Rattle.xa_desk.specs.Growth.{HaveGrown}
 use Rattle.xa_switch.specs.Closing.{thread_part}
 use Rattle.xa_switch.specs.Fates.{ledgers_of}
-use Rattle.xa_switch.specs.Seats.{DeskSeat}
+use Rattle.xa_switch.specs.Belonging.{DeskSeat}
 use Rattle.xa_switch.specs.Settling.{Settling}
 use Rattle.xa_driver_tests.proofs.Senders.{first_ledgers, own_of_both}
 use Rattle.xa_driver_tests.proofs.Shutting.{none_only}

@@ -1,16 +1,16 @@
 use Rattle.std.proofs.Common.{map, slice_get, sym, subst, ap}
 use Rattle.xa_switch.specs.Plans.{planned}
-use Rattle.xa_switch.specs.Seats.{ComeFromOpenings, seat_of_desk, seat_of_worker}
+use Rattle.xa_switch.specs.Belonging.{ComeFromOpenings, seat_of_desk, seat_of_worker}
 use Rattle.xa_driver_tests.proofs.Senders.{nothing_sent}
 use Rattle.xa_driver_tests.proofs.driver.openings.open.Goals as goal
 
 -- the two desks are all desks
 pub returns-clause-opened : goal.returns-clause-opened
 returns-clause-opened g c =
-    subst (λ ds. ComeFromOpenings (map seat_of_desk ds) (map seat_of_worker c.in-Ok.workers.items)) (sym c.two-first.ensures)
-    (c.opened_pieces_come_from_their_opening.ensures (planned c.args.plan.now) c.in-Ok.desks.items c.in-Ok.workers.items c.in-Ok.ensures.opened)
+    subst (λ ds. ComeFromOpenings (map seat_of_desk ds) (map seat_of_worker c.in-Some.workers)) (sym c.in-Some-two.ensures)
+    (c.opened_pieces_come_from_their_opening.ensures (planned c.args.plan.now) c.in-Some.desks.items c.in-Some.workers c.in-Some.ensures)
 
 pub returns-clause-fresh : goal.returns-clause-fresh
 returns-clause-fresh g c =
-    nothing_sent (planned c.args.plan.now) c.in-Ok.desks.items c.in-Ok.workers.items c.in-Ok.ensures.opened 1 c.two-first.result.1
-    (ap (λ ds. slice_get ds 1) (sym c.two-first.ensures))
+    nothing_sent (planned c.args.plan.now) c.in-Some.desks.items c.in-Some.workers c.in-Some.ensures 1 c.in-Some-two.second
+    (ap (λ ds. slice_get ds 1) (sym c.in-Some-two.ensures))

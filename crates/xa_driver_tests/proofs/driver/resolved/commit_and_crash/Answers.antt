@@ -5,7 +5,7 @@ use Rattle.xa_desk.specs.LedgerView.{LedgerView}
 use Rattle.xa_desk.specs.DeskView.{DeskView, ledger}
 use Rattle.xa_desk.proofs.Growth.{same_lists}
 use Rattle.xa_switch.specs.Closing.{thread_part}
-use Rattle.xa_switch.specs.Seats.{DeskSeat}
+use Rattle.xa_switch.specs.Belonging.{DeskSeat}
 use Rattle.xa_switch.specs.Settling.{Settling}
 use Rattle.xa_driver_tests.proofs.Senders.{grown_of_first, own_of_two}
 use Rattle.xa_driver_tests.proofs.Shutting.{none_shut}

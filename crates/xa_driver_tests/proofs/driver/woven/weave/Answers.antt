@@ -1,5 +1,6 @@
-use Rattle.std.specs.Prelude.{Option, Some, None, false, is_some}
-use Rattle.std.proofs.Common.{◌≡◌, refl, sym, ap, ◌∙◌}
+use Rattle.std.specs.Prelude.{None, false, is_some}
+use Rattle.std.proofs.Common.{◌≡◌, sym, ap, ◌∙◌}
+use Rattle.xa_base.proofs.Options.{is_missing}
 use Rattle.xa_words.specs.Tran.{tran_of}
 use Rattle.xa_driver.specs.declared.branch.Branch.{Branch}
 use Rattle.xa_driver.specs.Cut.{LeavesBranches}
@@ -7,10 +8,6 @@ use Rattle.xa_driver.specs.Log.{record_of}
 use Rattle.xa_driver.specs.Trace.{MayCommit}
 use Rattle.xa_driver.proofs.Calls.{tran_first}
 use Rattle.xa_driver_tests.proofs.driver.woven.weave.Goals as goal
-
-none_so : {A : Type 0} (o : Option A) → is_some o ≡ false → o ≡ None
-none_so None e = refl
-none_so (Some a) e = cc
 
 pub returns-clause-cut : goal.returns-clause-cut
 returns-clause-cut g c =
@@ -23,7 +20,7 @@ returns-clause-cut g c =
     let may = c.may_commit.ensures.0 c.if-not-may_commit.false in
     let tran : c.tran.result ≡ c.in-Ok.prepared.tran =
     c.tran.ensures ∙ ap (λ (b : Branch). tran_of b.xid) (sym c.index-branches-0.is) ∙ tran_first bs c.index-branches-0.result c.in-Ok.prepared.tran may.some c.index-branches-0.is first.tran in
-    let absent : record_of found.state c.in-Ok.prepared.tran ≡ None = ap (record_of found.state) (sym tran) ∙ sym c.has.ensures ∙ none_so c.has.result (sym c.is_some.ensures ∙ c.if-is_some.false) in
+    let absent : record_of found.state c.in-Ok.prepared.tran ≡ None = ap (record_of found.state) (sym tran) ∙ sym c.has.ensures ∙ is_missing c.has.result (sym c.is_some.ensures ∙ c.if-is_some.false) in
     let still : MayCommit start found.state bs = c.stages_follow.ensures.log bs start c.args.log.now.state found.state c.in-Ok.prepared.tran may first.tran absent in
     let between : LeavesBranches bs mid.ledgers tell.ledgers = c.others_leave_the_branches.ensures.committed bs c.args.others.now mid tell.ledgers c.args.log.now.state found.state c.in-Ok-commit_all.field-0 may.rising (c.are_others.ensures.0 c.if-not-are_others.false) c.in-Ok-commit_all.ensures.made in
     let nothing = c.others_leave_the_branches.ensures.nothing bs c.tell-told.new.desk.ledgers in

@@ -1,15 +1,15 @@
 use Rattle.std.proofs.Common.{◌≡◌, ℕ, List, sym, ap, ◌∙◌, subst}
 use Rattle.std.specs.Prelude.{All}
 use Rattle.std.specs.Arc.{arc_value}
-use Rattle.xa_grammar.specs.declared.script.Step.{Step}
+use Rattle.xa_grammar.specs.Steps.{ScriptStep}
 use Rattle.xa_grammar.specs.Content.{Content, tasks_of}
 use Rattle.xa_grammar.specs.OwnTasks.{IsTask, tasks_in, own_steps, steps_at}
 use Rattle.xa_grammar.proofs.OwnTasks.{own_are_tasks, own_tasks}
 use Rattle.xa_grammar.proofs.script.Script.tasks_of.Goals as goal
 
 -- the same steps behind each pointer
-own_behind : (t : ℕ) (shared lent steps : List Step) (places : List ℕ) → shared ≡ steps → lent ≡ steps → steps_at lent places ≡ own_steps t lent → steps_at shared places ≡ own_steps t steps
-own_behind t shared lent steps places one other own = ap (λ (l : List Step). steps_at l places) (one ∙ sym other) ∙ own ∙ ap (own_steps t) other
+own_behind : (t : ℕ) (shared lent steps : List ScriptStep) (places : List ℕ) → shared ≡ steps → lent ≡ steps → steps_at lent places ≡ own_steps t lent → steps_at shared places ≡ own_steps t steps
+own_behind t shared lent steps places one other own = ap (λ (l : List ScriptStep). steps_at l places) (one ∙ sym other) ∙ own ∙ ap (own_steps t) other
 
 pub new-requires-clause-tasks : goal.new-requires-clause-tasks
 new-requires-clause-tasks c =

@@ -3,9 +3,9 @@ use Rattle.std.specs.Prelude.{All, option_map}
 use Rattle.std.proofs.lemmas.List.{take_all, length-map}
 use Rattle.std.proofs.lemmas.Option.{slice_get-map, slice_get_read}
 use Rattle.std.proofs.lemmas.List.Elements.{All-nil, All-push}
-use Rattle.xa_grammar.specs.declared.script.Step.{Step}
-use Rattle.xa_grammar.specs.Shapes.{step_of}
-use Rattle.xa_grammar.specs.Kept.{name_at, steps_of}
+use Rattle.xa_grammar.specs.Steps.{ScriptStep}
+use Rattle.xa_grammar.specs.KeptSteps.{step_at, steps_of}
+use Rattle.xa_grammar.proofs.Names.{own_same}
 use Rattle.xa_grammar.specs.OwnTasks.{is_own, own_steps, steps_at}
 use Rattle.xa_grammar.proofs.OwnTasks.{one_place_more, one_step_more}
 use Rattle.xa_grammar.proofs.steps.Steps.places_of.Goals as goal
@@ -24,23 +24,23 @@ loop-place-preserved c =
     let t = c.args.thread in
     let k = c.loop-place.place in
     let places = c.loop-place.places.items in
-    let x : Step = step_of (name_at bytes) c.index.result.now in
-    let many : length steps ≡ length kept = length-map kept (step_of (name_at bytes)) in
+    let x : ScriptStep = step_at bytes c.index.result.now in
+    let many : length steps ≡ length kept = length-map kept (step_at bytes) in
     let test = c.loop-place-test.true in
     let len = c.len-place-end.ensures in
     let within : k < length steps = omega (arith, many, test, len) in
     let there : slice_get kept k ≡ Some c.index.result.now = slice_get_read kept (length kept) k c.index.result.now refl (omega (arith, test, len)) c.index.ensures in
-    let at : slice_get steps k ≡ Some x = slice_get-map (step_of (name_at bytes)) kept k ∙ ap (option_map (step_of (name_at bytes))) there in
+    let at : slice_get steps k ≡ Some x = slice_get-map (step_at bytes) kept k ∙ ap (option_map (step_at bytes)) there in
     let more : own_steps t (take (k + 1) steps) ≡ own_steps t (take k steps) ++ cond (is_own t x) (x ∷ []) [] = one_step_more t steps k x within at in
     let so_far = c.loop-place.invariant in
     elim c.if-is_of.branch [
       | then-is_of+in_ok-push w ↦
           let items : c.if-is_of.places.items ≡ places ++ k ∷ [] = ap (λ v. v.items) w.places-is ∙ w.in_ok-push.ensures.items in
-          let grown : own_steps t (take (k + 1) steps) ≡ own_steps t (take k steps) ++ x ∷ [] = more ∙ ap (λ b. own_steps t (take k steps) ++ cond b (x ∷ []) []) (sym (w.if-is_of.ensures bytes)) in
+          let grown : own_steps t (take (k + 1) steps) ≡ own_steps t (take k steps) ++ x ∷ [] = more ∙ ap (λ b. own_steps t (take k steps) ++ cond b (x ∷ []) []) (sym (own_same t bytes c.index.result.now) ∙ sym w.if-is_of.ensures) in
           (ap (steps_at steps) items ∙ one_place_more steps places k x at ∙ ap (λ l. l ++ x ∷ []) so_far.0 ∙ sym grown, subst (All (λ q. q < length steps)) (sym items) (All-push (λ q. q < length steps) places k so_far.1 within))
       | else-is_of w ↦
           let items : c.if-is_of.places.items ≡ places = ap (λ v. v.items) w.places-is in
-          let same : own_steps t (take (k + 1) steps) ≡ own_steps t (take k steps) = more ∙ ap (λ b. own_steps t (take k steps) ++ cond b (x ∷ []) []) (sym (w.if-is_of.ensures bytes)) ∙ append-nil (own_steps t (take k steps)) in
+          let same : own_steps t (take (k + 1) steps) ≡ own_steps t (take k steps) = more ∙ ap (λ b. own_steps t (take k steps) ++ cond b (x ∷ []) []) (sym (own_same t bytes c.index.result.now) ∙ sym w.if-is_of.ensures) ∙ append-nil (own_steps t (take k steps)) in
           (ap (steps_at steps) items ∙ so_far.0 ∙ sym same, subst (All (λ q. q < length steps)) (sym items) so_far.1)
     ]
 
@@ -49,11 +49,11 @@ returns-clause-own c =
     let bytes = c.self.inside.names.items in
     let kept = c.self.inside.kept.items in
     let steps = steps_of bytes kept in
-    let many : length steps ≡ length kept = length-map kept (step_of (name_at bytes)) in
+    let many : length steps ≡ length kept = length-map kept (step_at bytes) in
     let test = c.loop-place-test.false in
     let len = c.len-place-end.ensures in
     let all : take c.loop-place.place steps ≡ steps = take_all c.loop-place.place steps (omega (arith, many, test, len)) in
-    subst (λ (l : List Step). steps_at l c.loop-place.places.items ≡ own_steps c.args.thread l) c.self.view_is (c.loop-place.invariant.0 ∙ ap (own_steps c.args.thread) all)
+    subst (λ (l : List ScriptStep). steps_at l c.loop-place.places.items ≡ own_steps c.args.thread l) c.self.view_is (c.loop-place.invariant.0 ∙ ap (own_steps c.args.thread) all)
 
 pub returns-clause-within : goal.returns-clause-within
-returns-clause-within c = subst (λ (l : List Step). All (λ k. k < length l) c.loop-place.places.items) c.self.view_is c.loop-place.invariant.1
+returns-clause-within c = subst (λ (l : List ScriptStep). All (λ k. k < length l) c.loop-place.places.items) c.self.view_is c.loop-place.invariant.1

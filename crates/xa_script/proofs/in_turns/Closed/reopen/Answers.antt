@@ -1,8 +1,9 @@
 use Rattle.std.proofs.Common.{◌≡◌, suc, ◌+◌, List, sym, subst, arith}
+use Rattle.xa_worker.specs.Workers.{WorkerView}
 use Rattle.xa_grammar.specs.Content.{Content}
 use Rattle.xa_session.specs.declared.session.Session.{Session}
-use Rattle.xa_transcript.specs.Planning.{AreNumbersOf}
-use Rattle.xa_script.specs.Openings.{IsOpen}
+use Rattle.xa_telling.specs.Planning.{AreNumbersOf}
+use Rattle.xa_script.specs.TurnsSoFar.{IsOpen}
 use Rattle.xa_script.proofs.Reopened.{next, follows, open_again}
 use Rattle.xa_script.proofs.in_turns.Closed.reopen.Goals as goal
 
@@ -20,6 +21,8 @@ returns-clause-opened g c = λ b o line closed same number.
       next s b o closed.left closed.comes settled same again numbers desks workers zs logs closed.logs_are c.in-Ok.ensures.opened c.in-Ok.ensures.scans,
       follows s b o closed.left closed.comes settled same again numbers desks workers zs logs closed.logs_are c.in-Ok.ensures.opened c.in-Ok.ensures.scans line,
       numbers.opening_,
-      subst (λ (l : List Session). IsOpen s (next s b o closed.left closed.comes settled same again numbers desks workers zs logs closed.logs_are c.in-Ok.ensures.opened c.in-Ok.ensures.scans) l workers) (sym c.in_ok-sessions.ensures)
+      subst
+          (λ (p : List Session × List WorkerView). IsOpen s (next s b o closed.left closed.comes settled same again numbers desks workers zs logs closed.logs_are c.in-Ok.ensures.opened c.in-Ok.ensures.scans) p.0 p.1)
+          (λ i. (sym c.in_ok-sessions.ensures i, sym c.new.ensures i))
           (open_again s b o closed.left closed.comes settled same again numbers desks workers zs logs closed.logs_are c.in-Ok.ensures.opened c.in-Ok.ensures.scans),
     )

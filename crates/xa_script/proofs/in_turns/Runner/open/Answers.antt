@@ -4,14 +4,14 @@ use Rattle.xa_base.proofs.Lists.{was_mapped}
 use Rattle.xa_desk.specs.DeskView.{DeskView}
 use Rattle.xa_worker.specs.Workers.{WorkerView}
 use Rattle.xa_switch.specs.Plans.{planned}
-use Rattle.xa_switch.specs.Openings.{AreOfOneOpening}
+use Rattle.xa_switch.specs.OpenedPieces.{AreOfOneOpening}
 use Rattle.xa_grammar.specs.Content.{Content}
 use Rattle.xa_session.specs.declared.session.Session.{Session}
 use Rattle.xa_session.specs.Sessions.{new_session, new_sessions}
-use Rattle.xa_transcript.specs.Openings.{beginning}
-use Rattle.xa_transcript.specs.Runs.{BeginsAs}
-use Rattle.xa_transcript.proofs.Opened.{planned_setup}
-use Rattle.xa_script.specs.Openings.{IsOpen}
+use Rattle.xa_telling.specs.ToldOpenings.{beginning}
+use Rattle.xa_telling.specs.Runs.{BeginsAs}
+use Rattle.xa_telling.proofs.Opened.{planned_setup}
+use Rattle.xa_script.specs.TurnsSoFar.{IsOpen}
 use Rattle.xa_script.proofs.in_turns.Runner.open.Goals as goal
 
 desks_of_new : (s : Content) (desks : List DeskView) → map (λ (x : Session). x.desk) (new_sessions s desks) ≡ desks
@@ -27,7 +27,7 @@ returns-clause-opened g c =
     let desks : List DeskView = c.in-Ok.opened.0.items in
     let workers : List WorkerView = c.in-Ok.opened.1.items in
     let p = c.in_ok-plan.plan in
-    subst (λ (l : List Session). IsOpen s (beginning s) l workers) (sym c.in_ok-sessions.ensures)
+    subst (λ (p : List Session × List WorkerView). IsOpen s (beginning s) p.0 p.1) (λ i. (sym c.in_ok-sessions.ensures i, sym c.new.ensures i))
     (record {
       opened = record {
         setup = planned p;

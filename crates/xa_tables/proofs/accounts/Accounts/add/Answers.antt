@@ -62,9 +62,6 @@ invariant_of-self c =
     let i = c.unwrap-place.result in
     let a = c.index-account.result.now in
     let x = c.args.xid in
-    let same = place_key k items i a there c.index-account.ensures in
-    let alone = ap (λ h. has_other_touched h.sums x c.args.key) c.self.view_is ∙ c.requires.alone in
-    let mine = for_place items i a x c.args.key c.self.invariant.0 within c.index-account.ensures same alone in
     let new = ap (set items i) c.with_added.ensures.added in
     subst (λ (as1 : List Account). AreDistinct as1 × All (IsGood (c.self.inside.adds + 1)) as1 × AreIndexed c.self.inside.places.places as1 × AreHeld c.note.new.held.items as1 × (length as1 ≤ vec_capacity c.note.new.held)) (sym new) (
       distinct_added items i a x c.args.delta c.self.invariant.0 within c.index-account.ensures,
@@ -100,9 +97,6 @@ returns-clause-values c =
     let i = c.unwrap-place.result in
     let a = c.index-account.result.now in
     let x = c.args.xid in
-    let same = place_key k items i a there c.index-account.ensures in
-    let alone = ap (λ h. has_other_touched h.sums x c.args.key) c.self.view_is ∙ c.requires.alone in
-    let mine = for_place items i a x c.args.key c.self.invariant.0 within c.index-account.ensures same alone in
     let new = ap (set items i) c.with_added.ensures.added in
     ap (λ as1. from_entries {R = key_cmp} (value_entries as1)) new ∙ ap (from_entries {R = key_cmp}) (values_set items i a (added_to a x c.args.delta) within c.index-account.ensures refl refl) ∙ ap (λ h. h.values) c.self.view_is
 

@@ -1,9 +1,10 @@
 use Rattle.std.proofs.Common.{ap, ◌∙◌, ◌<◌, arith}
 use Rattle.std.specs.HashMap.{spare}
 use Rattle.std.specs.FinMap as map
+use Rattle.xa_base.proofs.Options.{at_ok}
 use Rattle.xa_words.specs.Key.{key_eq}
 use Rattle.xa_words.specs.Orders.{key_cmp_total, key_cmp-IsAntisymmetric, key_eq-by_cmp}
-use Rattle.xa_tables.proofs.HashLemmas.{at_ok, one_put}
+use Rattle.xa_tables.proofs.HashLemmas.{one_put}
 use Rattle.xa_tables.proofs.places.Places.put.Goals as goal
 
 pub returns-clause-places : goal.returns-clause-places

@@ -1,4 +1,5 @@
 use Rattle.std.proofs.Common.{◌≡◌, inl, inr, ◌<◌, ◌-◌, ◌∙◌, sym, ap, refl, subst, arith, length, length-append, length-set}
+use Rattle.xa_base.proofs.Options.{is_missing, is_there}
 use Rattle.xa_lane.specs.Ends.{has_ended}
 use Rattle.xa_tables.specs.Managers.{Managed}
 use Rattle.xa_worker.specs.Journal.{completion_of, entry_next}
@@ -9,7 +10,7 @@ use Rattle.xa_worker.proofs.Kept.{unentered}
 use Rattle.xa_worker.proofs.Lanes.{lanes_flush, lanes-puts, lanes-chain, length-lanes}
 use Rattle.xa_worker.proofs.Parcels.{marked_end, ended_item}
 use Rattle.xa_worker.proofs.Seated.{stepped_keeps}
-use Rattle.xa_worker.proofs.Ties.{tied_out, tied_nothing, tied_end, tied_hold, tied_carried, none_of, some_of, stepped}
+use Rattle.xa_worker.proofs.Ties.{tied_out, tied_nothing, tied_end, tied_hold, tied_carried, stepped}
 use Rattle.xa_worker.proofs.worker.Worker.step.Goals as goal
 use Rattle.xa_worker.proofs.worker.Worker.step.Goals.{then-request-from-via-then-request-from, then-request-from-via-else-request-from+then-room-eq0}
 
@@ -40,7 +41,7 @@ invariant_of-self-then-is_some g c =
 
 pub returns-then-is_some-clause-step : goal.returns-then-is_some-clause-step
 returns-then-is_some-clause-step g c =
-    let some = some_of c.self.inside.held (sym c.is_some.ensures ∙ c.if-is_some.true) in
+    let some = is_there c.self.inside.held (sym c.is_some.ensures ∙ c.if-is_some.true) in
     rw (← c.self.view_is) (inr (inl (some.0.0, some.0.1, some.1, ap (λ (o : Outgoing). record (working_of c.self.inside) { out = o }) c.if-not-flush.ensures.flushed)))
 
 pub returns-then-is_some-clause-same : goal.returns-then-is_some-clause-same
@@ -104,7 +105,7 @@ invariant_of-self-then-request-from g c =
     let e = c.flush.ensures in
     let i = c.self.invariant in
     let took = c.in-Item.ensures.took in
-    let none = none_of c.self.inside.held (sym c.is_some.ensures ∙ c.if-is_some.false) in
+    let none = is_missing c.self.inside.held (sym c.is_some.ensures ∙ c.if-is_some.false) in
     let unfit : IsUnfit c.in-Item.from c.in-Item.request c.self.inside.manager.room = elim c.then-request-from.branch [ then-request-from-via-then-request-from w ↦ inl w.if-request-from.true | then-request-from-via-else-request-from+then-room-eq0 w ↦ inr (sym w.room.ensures ∙ w.if-room-eq0.true) ] in
     unentered _ _ i refl refl refl refl (λ s. ap (λ (r : Asking). has_ended s r.taken) took.1 ∙ ended_item s c.in-Item.from c.self.inside.receiver.taken c.in-Item.request) (tied_hold (working_of c.self.inside) c.flush.new.self (lanes_flush c.flush.result c.self.inside.out c.flush.new.self e.flushed) e.put i.tied c.take.new.self c.in-Item.from c.in-Item.request none took unfit)
 
@@ -116,7 +117,7 @@ returns-then-request-from-clause-seat g c = stepped_keeps _ _ (returns-then-requ
 
 pub returns-then-request-from-clause-tied : goal.returns-then-request-from-clause-tied
 returns-then-request-from-clause-tied g c =
-    let none = none_of c.self.inside.held (sym c.is_some.ensures ∙ c.if-is_some.false) in
+    let none = is_missing c.self.inside.held (sym c.is_some.ensures ∙ c.if-is_some.false) in
     let unfit : IsUnfit c.in-Item.from c.in-Item.request c.self.inside.manager.room = elim c.then-request-from.branch [ then-request-from-via-then-request-from w ↦ inl w.if-request-from.true | then-request-from-via-else-request-from+then-room-eq0 w ↦ inr (sym w.room.ensures ∙ w.if-room-eq0.true) ] in
     tied_hold (working_of c.self.inside) c.flush.new.self (lanes_flush c.flush.result c.self.inside.out c.flush.new.self c.flush.ensures.flushed) c.flush.ensures.put c.self.invariant.tied c.take.new.self c.in-Item.from c.in-Item.request none c.in-Item.ensures.took unfit
 
@@ -133,7 +134,7 @@ pub invariant_of-self-in-Item : goal.invariant_of-self-in-Item
 invariant_of-self-in-Item g c =
     let i = c.self.invariant in
     let d = c.carry_out.ensures in
-    let none = none_of c.self.inside.held (sym c.is_some.ensures ∙ c.if-is_some.false) in
+    let none = is_missing c.self.inside.held (sym c.is_some.ensures ∙ c.if-is_some.false) in
     let more = simp length-append at (ap length d.journal) in
     let room = ap (λ (x : Managed). x.room) d.manager in
     let threads = ap (λ (x : Managed). x.threads) d.manager in
@@ -158,13 +159,13 @@ returns-else-room-eq0-clause-seat g c = stepped_keeps _ _ (returns-else-room-eq0
 pub returns-else-room-eq0-clause-tied : goal.returns-else-room-eq0-clause-tied
 returns-else-room-eq0-clause-tied g c =
     let d = c.carry_out.ensures in
-    let none = none_of c.self.inside.held (sym c.is_some.ensures ∙ c.if-is_some.false) in
+    let none = is_missing c.self.inside.held (sym c.is_some.ensures ∙ c.if-is_some.false) in
     tied_carried (working_of c.self.inside) c.flush.new.self c.take.new.self c.in-Item.from c.in-Item.request c.carry_out.new.manager c.carry_out.new.out c.carry_out.new.journal.items c.self.invariant.tied c.if-not-flush.ensures.flushed c.flush.ensures.put none c.in-Item.ensures.took c.if-request-from.false d.manager d.journal d.out
 
 pub returns-else-room-eq0-clause-step : goal.returns-else-room-eq0-clause-step
 returns-else-room-eq0-clause-step g c =
     let d = c.carry_out.ensures in
-    let none = none_of c.self.inside.held (sym c.is_some.ensures ∙ c.if-is_some.false) in
+    let none = is_missing c.self.inside.held (sym c.is_some.ensures ∙ c.if-is_some.false) in
     let room : 0 < c.self.inside.manager.room = omega (arith, c.room.ensures, c.if-room-eq0.false) in
     let out = subst (λ (o : Outgoing). Puts o (c.in-Item.request.thread - 1) (completion_of c.self.inside.number (entry_next c.in-Item.request c.self.inside.manager.tables)) c.carry_out.new.out) c.if-not-flush.ensures.flushed d.out in
     rw (← c.self.view_is, d.late) (stepped (working_of c.self.inside) _ c.self.inside.manager.tables.shut refl (c.in-Item.from, c.in-Item.request, record { free = none; took = c.in-Item.ensures.took; thread = c.if-request-from.false; room = room; manager = d.manager; journal = d.journal; out = out; rest = refl }))

@@ -1,0 +1,110 @@
+-- How workers go on as they take turns, and then run.
+use Rattle.std.proofs.Common.{◌≡◌, ℕ, ◌+◌, ◌-◌, ◌<◌, ◌≤◌, ⊎_elim, List, length, Some, sym, refl, ap, ◌∙◌, subst, arith}
+use Rattle.std.specs.Prelude.{slice_get, slice_set}
+use Rattle.std.proofs.lemmas.Bool.{cases_eq}
+use Rattle.std.proofs.lemmas.List.{length-set}
+use Rattle.std.proofs.lemmas.Option.{slice_get_within}
+use Rattle.xa_worker.specs.declared.step.Step.{Step}
+use Rattle.xa_worker.specs.Seats.{seat_of_worker}
+use Rattle.xa_worker.specs.Workers.{WorkerView, SameWorker, IsTied}
+use Rattle.xa_worker.specs.Done.{Served}
+use Rattle.xa_worker.specs.Steps.{Stepped}
+use Rattle.xa_worker.proofs.Ties.{extends-chain, stepped-extends}
+use Rattle.xa_base.specs.Lists.{Pairwise}
+use Rattle.xa_base.proofs.Lists.{some_same, got_set, set_there, map_alike, through}
+use Rattle.xa_crew.specs.Pieces.{HasServed}
+use Rattle.xa_crew.specs.Turns.{WorkerGoesOn, AllGoOn, HadTurn, HadSomeTurn, TakesTurn}
+use Rattle.xa_crew.specs.Turning.{goes_nowhere}
+
+-- ---- one step
+
+pub had_turn : (w : WorkerView) (s : Step) (w' : WorkerView)
+    → Stepped w s w' → SameWorker w w' → seat_of_worker w' ≡ seat_of_worker w → IsTied w' → HadTurn s w w'
+had_turn w s w' is same seat tied =
+    record { stepped = is; goes = record { same = same; seat = seat; journal = stepped-extends w s w' is; tied = λ before. tied } }
+
+-- ---- one worker of all
+
+-- where each goes on, they stay in their seats
+pub all_of : (old new : List WorkerView) → Pairwise WorkerGoesOn old new → AllGoOn old new
+all_of old new each = record { each = each; seats = map_alike WorkerGoesOn seat_of_worker seat_of_worker (λ w w' goes. goes.seat) old new each }
+
+pub one_goes_on : (ws : List WorkerView) (i : ℕ) (x y : WorkerView) → slice_get ws i ≡ Some x → WorkerGoesOn x y → AllGoOn ws (slice_set ws i y)
+one_goes_on ws i x y at goes = all_of ws (slice_set ws i y) (record {
+  as_many = length-set ws i y;
+  each = λ k w w' at_w at_w'.
+      ⊎_elim
+      (λ (h : (k ≡ i) × (w' ≡ y)).
+      let same : w ≡ x = some_same w x (sym at_w ∙ ap (λ n. slice_get ws n) h.0 ∙ at) in
+      subst (λ (v : WorkerView). WorkerGoesOn v w') (sym same) (subst (λ (v : WorkerView). WorkerGoesOn x v) (sym h.1) goes))
+      (λ (h : slice_get ws k ≡ Some w'). subst (λ (v : WorkerView). WorkerGoesOn w v) (some_same w w' (sym at_w ∙ h)) (goes_nowhere w))
+      (got_set ws i y k w' (slice_get_within ws i x at) at_w');
+})
+
+pub turn_goes : (m : ℕ) (s : Step) (old new : List WorkerView) → TakesTurn m s old new → AllGoOn old new
+turn_goes m s old new is = subst (AllGoOn old) (sym is.rest) (one_goes_on old (m - 1) is.before is.after is.at is.turn.goes)
+
+-- ---- all of them, one after the other
+
+-- the first n workers had a turn, and the others are as they were
+pub record HaveTurned (n : ℕ) (old new : List WorkerView) : Type 0 where
+  pub as_many : length new ≡ length old
+  pub turned : (k : ℕ) (w w' : WorkerView) → k < n → slice_get old k ≡ Some w → slice_get new k ≡ Some w' → HadSomeTurn w w'
+  pub left : (k : ℕ) (w : WorkerView) → n ≤ k → slice_get new k ≡ Some w → slice_get old k ≡ Some w
+
+pub none_turned : (ws : List WorkerView) → HaveTurned 0 ws ws
+none_turned ws = record { as_many = refl; turned = λ k w w' below at at'. absurd (omega (arith, below)); left = λ k w le at. at }
+
+pub one_more_turned : (n : ℕ) (old ws : List WorkerView) (x y : WorkerView)
+    → HaveTurned n old ws → slice_get ws n ≡ Some x → HadSomeTurn x y → HaveTurned (n + 1) old (slice_set ws n y)
+one_more_turned n old ws x y h at had = record {
+  as_many = length-set ws n y ∙ h.as_many;
+  turned = λ k w w' below at_w at_w'.
+      ⊎_elim
+      (λ (same : k ≡ n).
+      let was : w ≡ x = some_same w x (sym at_w ∙ h.left k x (omega (arith, same)) (ap (slice_get ws) same ∙ at)) in
+      let is : w' ≡ y = some_same w' y (sym at_w' ∙ ap (slice_get (slice_set ws n y)) same ∙ set_there ws n y (slice_get_within ws n x at)) in
+      subst (λ (p : WorkerView × WorkerView). HadSomeTurn p.0 p.1) (λ j. (sym was j, sym is j)) had)
+      (λ (other : k ≡ n → ⊥). h.turned k w w' (omega (arith, below, other)) at_w (stays k w' other at_w'))
+      (cases_eq k n);
+  left = λ k w le at_w. h.left k w (omega (arith, le)) (stays k w (λ same. omega (arith, le, same)) at_w);
+}
+  where
+    stays : (k : ℕ) (w : WorkerView) → (k ≡ n → ⊥) → slice_get (slice_set ws n y) k ≡ Some w → slice_get ws k ≡ Some w
+    stays k w other at_w =
+        ⊎_elim (λ (here : (k ≡ n) × (w ≡ y)). absurd (other here.0)) (λ (e : slice_get ws k ≡ Some w). e) (got_set ws n y k w (slice_get_within ws n x at) at_w)
+
+pub all_turned : (n : ℕ) (old new : List WorkerView) → length old ≤ n → HaveTurned n old new → Pairwise HadSomeTurn old new
+all_turned n old new many h = record {
+  as_many = h.as_many;
+  each = λ k w w' at at'. h.turned k w w' (let within = slice_get_within old k w at in omega (arith, within, many)) at at';
+}
+
+-- ---- and then they run
+
+-- a worker that went on and then ran
+then_served : (w v : WorkerView) (d : Served) → WorkerGoesOn w v → HasServed v d → HasServed w d
+then_served w v d goes served =
+    let first = goes.same in
+    let later = served.same in
+    record {
+      same = record {
+        number = later.number ∙ first.number;
+        first = later.first ∙ first.first;
+        threads = later.threads ∙ first.threads;
+        receiver = (
+          later.receiver.0 ∙ first.receiver.0,
+          later.receiver.1 ∙ first.receiver.1,
+          later.receiver.2 ∙ first.receiver.2,
+          later.receiver.3 ∙ first.receiver.3,
+        );
+        lanes = later.lanes ∙ first.lanes;
+        journal = extends-chain w.journal v.journal d.journal goes.journal later.journal;
+      };
+      served = served.served;
+      seat = served.seat ∙ goes.seat;
+    }
+
+-- and so all of them
+pub all_served : (ws vs : List WorkerView) (done : List Served) → AllGoOn ws vs → Pairwise HasServed vs done → Pairwise HasServed ws done
+all_served ws vs done goes served = through WorkerGoesOn HasServed HasServed then_served ws vs done goes.each served

@@ -1,0 +1,37 @@
+use Rattle.std.proofs.Common.{◌≡◌, ◌++◌, ◌∷◌, [], List, length, map, sym, ap, ◌∙◌, subst, arith, append_assoc, append-nil}
+use Rattle.std.specs.Vec.Iter.{into_iter_items}
+use Rattle.xa_base.specs.Lists.{Pairwise}
+use Rattle.xa_base.proofs.Lists.{map_alike, none_of, push_side}
+use Rattle.xa_worker.specs.Seats.{seat_of_worker, seat_of_done}
+use Rattle.xa_worker.specs.Workers.{WorkerView}
+use Rattle.xa_crew.specs.Pieces.{HasServed}
+use Rattle.xa_crew.proofs.turns.Turns.run.Goals as goal
+
+pub loop-worker-preserved : goal.loop-worker-preserved
+loop-worker-preserved g c =
+    let i = c.loop-worker.invariant in
+    let first = c.loop-worker.yielded in
+    let w = c.in-Some.worker in
+    record {
+      so_far = append_assoc first (w ∷ []) (into_iter_items c.next.new.self) ∙ ap (λ l. first ++ l) (sym c.in-Some.ensures.steps.0) ∙ i.so_far;
+      served =
+          subst (λ l. Pairwise HasServed (first ++ w ∷ []) l) (sym c.push_reserved.ensures.items)
+          (push_side HasServed first c.loop-worker.done.items w c.run.result i.served
+          (record { same = c.run.ensures.same; served = c.run.ensures.served; seat = c.run.ensures.seat }));
+      counted =
+          let before = i.counted in
+          let size = ap length c.in-Some.ensures.steps.0 in
+          let len = c.in-Some.ensures.steps.1 in
+          omega (arith, before, size, len);
+      room = c.push_reserved.ensures.capacity ∙ i.room;
+    }
+
+pub returns-clause-seats : goal.returns-clause-seats
+returns-clause-seats g c =
+    let i = c.loop-worker.invariant in
+    let first = c.loop-worker.yielded in
+    let rest = into_iter_items c.loop-worker.worker-iterator in
+    let none = none_of rest (let counted = i.counted in let left = c.in-None.ensures.steps.0 in omega (arith, counted, left)) in
+    let all : first ≡ c.args.self = sym (append-nil first) ∙ ap (λ l. first ++ l) (sym none) ∙ i.so_far in
+    map_alike HasServed seat_of_worker seat_of_done (λ w d is. is.seat) first c.loop-worker.done.items i.served
+    ∙ ap (λ (l : List WorkerView). map seat_of_worker l) all

@@ -1,0 +1,36 @@
+use Rattle.std.proofs.Common.{◌≡◌, ◌<◌, length, List, slice_set, slice_get, Some, sym, ap, ◌∙◌, subst, arith}
+use Rattle.std.proofs.lemmas.Option.{slice_get-get_or}
+use Rattle.xa_worker.specs.Workers.{WorkerView}
+use Rattle.xa_base.specs.Lists.{Pairwise}
+use Rattle.xa_crew.specs.Turns.{AllGoOn, HadSomeTurn}
+use Rattle.xa_crew.specs.Turning.{all_stay, all_go_on}
+use Rattle.xa_crew.proofs.WorkersOn.{had_turn, one_goes_on, none_turned, one_more_turned, all_turned}
+use Rattle.xa_crew.proofs.turns.Turns.turn_all.Goals as goal
+
+pub loop-place-init : goal.loop-place-init
+loop-place-init g c = record { turned = none_turned c.self.inside.workers.items; on = all_stay c.self.inside.workers.items }
+
+pub loop-place-preserved : goal.loop-place-preserved
+loop-place-preserved g c =
+    let old = c.self.inside.workers.items in
+    let ws = c.loop-place.self-inside.workers.items in
+    let i = c.loop-place.place in
+    let before = c.index_mut.result.now in
+    let after = c.step.new.self in
+    let many = c.loop-place.invariant.turned.as_many in
+    let inside : i < length ws = omega (arith, many) in
+    let at : slice_get ws i ≡ Some before = slice_get-get_or ws i before inside ∙ ap (λ (w : WorkerView). Some w) (sym c.index_mut.ensures.value) in
+    let had = had_turn before c.step.result after c.step.ensures.step c.step.ensures.same c.step.ensures.seat c.step.ensures.tied in
+    record {
+      turned = one_more_turned i old ws before after c.loop-place.invariant.turned at (c.step.result, had);
+      on = all_go_on old ws (slice_set ws i after) c.loop-place.invariant.on (one_goes_on ws i before after at had.goes);
+    }
+
+pub returns-clause-turns : goal.returns-clause-turns
+returns-clause-turns g c =
+    subst (λ (l : List WorkerView). Pairwise HadSomeTurn l c.loop-place.self-inside.workers.items) c.self.view_is
+    (all_turned c.loop-place.place c.self.inside.workers.items c.loop-place.self-inside.workers.items
+    (let z = c.loop-place-test.false in omega arith) c.loop-place.invariant.turned)
+
+pub returns-clause-on : goal.returns-clause-on
+returns-clause-on g c = subst (λ (l : List WorkerView). AllGoOn l c.loop-place.self-inside.workers.items) c.self.view_is c.loop-place.invariant.on

@@ -1,0 +1,157 @@
+-- What a commit and a resolve keep of the states that they ask over, and what they ask over one kind of states they ask
+-- over another, where each of their requests does.
+use Rattle.std.proofs.Common.{◌≡◌, ℕ, Bool, true, false, List, [], ◌∷◌, Option, Some, None, refl, sym, ap, subst}
+use Rattle.std.specs.List.{Contains}
+use Rattle.std.proofs.lemmas.List.Elements.{Contains-append_left, Contains-push}
+use Rattle.xa_base.specs.Lists.{Chain}
+use Rattle.xa_base.specs.Lists.Chain.{none, more}
+use Rattle.xa_words.specs.Xid.{XidName}
+use Rattle.xa_words.specs.declared.code.Code.{Code}
+use Rattle.xa_words.specs.declared.request.Op.{Op}
+use Rattle.xa_words.specs.declared.request.Op.TheVariants.{OpenRm, Prepare, Forget}
+use Rattle.xa_switch.specs.Scans.{Asking}
+use Rattle.xa_driver.specs.declared.branch.Branch.{Branch}
+use Rattle.xa_driver.specs.declared.done.Ending.{Ending}
+use Rattle.xa_driver.specs.declared.resolved.Outcome.{Outcome}
+use Rattle.xa_driver.specs.Course.{AsksFor, AtBranch}
+use Rattle.xa_driver.specs.Endings.{second_op, third_op, is_decided}
+use Rattle.xa_driver.specs.Log.{Records}
+use Rattle.xa_driver.specs.Resolving.{AsksIf, ResolvesBranch, ResolvesAt, is_to_commit, outcome_op}
+
+-- ---- what is asked
+
+-- what is wanted, if anything is, is so
+abbrev pub IsAskedFor : (Op → Type 0) → Option Op → Type 0
+IsAskedFor P None = Unit {0}
+IsAskedFor P (Some op) = P op
+
+-- anything is
+abbrev pub Any : Op → Type 0
+Any op = Unit {0}
+
+pub any_asked : (op : Option Op) → IsAskedFor Any op
+any_asked None = tt
+any_asked (Some op) = tt
+
+-- manager m's outcome asks only for what is so
+pub record Asks (P : Op → Type 0) (records : Records) (m : ℕ) (o : Outcome) : Type 0 where
+  pub ends : o.m ≡ m → o.commit ≡ is_to_commit records m o.xid → P (outcome_op o.commit o.xid)
+  pub forgets : o.m ≡ m → is_decided o.code ≡ true → P (Forget o.xid)
+
+pub anything : (records : Records) (m : ℕ) (o : Outcome) → Asks Any records m o
+anything records m o = record { ends = λ _ _. tt; forgets = λ _ _. tt }
+
+-- ---- what each request keeps that is so, all of them keep
+
+module _ {D : Type 0} (A : Asking D) (P : Op → Type 0) (Q : D → Type 0) (on : (d e : D) (op : Op) (c : Code) → P op → A d op e c → Q d → Q e) where
+  pub for_by : (op : Option Op) (code : Option Code) (d e : D) → IsAskedFor P op → AsksFor A op code d e → Q d → Q e
+  for_by None code d e so nothing q = subst Q (sym nothing.1) q
+  for_by (Some op) None d e so nothing q = absurd nothing
+  for_by (Some op) (Some c) d e so asked q = on d e op c so asked q
+
+  -- a commit at a branch
+  module _ (commit : Bool) (b : Branch) (vote : Code) (second : Option Code) (ending : Ending) (old new : D) (is : AtBranch A commit b vote second ending old new)
+      (told : IsAskedFor P (second_op commit b.xid vote)) (forgot : IsAskedFor P (third_op b.xid second)) where
+    -- from its vote on
+    pub rest_by : Q is.prepared → Q new
+    rest_by q = for_by (third_op b.xid second) is.third is.decided new forgot is.forgets (for_by (second_op commit b.xid vote) second is.prepared is.decided told is.obeys q)
+
+    pub branch_by : P (Prepare b.xid) → Q old → Q new
+    branch_by asks q = rest_by (on old is.prepared (Prepare b.xid) vote asks is.prepares q)
+
+  -- a resolve
+  pub if_by : (asks : Bool) (op : Op) (d e : D) → (asks ≡ true → P op) → AsksIf asks A op d e → Q d → Q e
+  if_by false op d e so same q = subst Q (sym same) q
+  if_by true op d e so asked q = on d e op asked.0 (so refl) asked.1 q
+
+  pub outcome_by : (records : Records) (m : ℕ) (o : Outcome) (d e : D) → Asks P records m o → ResolvesBranch A records m o d e → Q d → Q e
+  outcome_by records m o d e so is q =
+      if_by (is_decided o.code) (Forget o.xid) is.decided e (so.forgets is.manager) is.forgets (on d is.decided (outcome_op o.commit o.xid) o.code (so.ends is.manager is.decision) is.obeys q)
+
+  pub outcomes_by : (records : Records) (m : ℕ) (d : D) (os : List Outcome) (e : D) → ((o : Outcome) → Contains os o → Asks P records m o) → Chain (ResolvesBranch A records m) d os e → Q d → Q e
+  outcomes_by records m d os e so (none xs last z same) q = subst Q (sym same) q
+  outcomes_by records m d os e so (more xs o now last before is) q =
+      outcome_by records m o now last (so o (Contains-push xs o)) is (outcomes_by records m d xs now (λ p there. so p (Contains-append_left xs (o ∷ []) p there)) before q)
+
+  pub resolves_by : (records : Records) (m : ℕ) (xs : List XidName) (os : List Outcome) (d e : D) → P OpenRm → ((o : Outcome) → Contains os o → Asks P records m o) → ResolvesAt A records m xs os d e → Q d → Q e
+  resolves_by records m [] os d e opens so is q = subst Q (sym is.1) q
+  resolves_by records m (x ∷ xs) os d e opens so is q = outcomes_by records m is.opened os e so is.each (on d is.opened OpenRm is.code opens is.opens q)
+
+-- ---- from one kind of states to another
+
+-- What is asked over states D is asked over E, where Q held before and P holds afterwards; Q is kept, and P held before.
+module _ {D E : Type 0} (A : Asking D) (B : Asking E) (f : D → E) (Q P : D → Type 0)
+    (on : (d e : D) (op : Op) (c : Code) → A d op e c → Q d → Q e) (back : (d e : D) (op : Op) (c : Code) → A d op e c → P e → P d)
+    (step : (d e : D) (op : Op) (c : Code) → A d op e c → Q d → P e → B (f d) op (f e) c) where
+  for_on : (op : Option Op) (code : Option Code) (d e : D) → AsksFor A op code d e → Q d → Q e
+  for_on op code d e is q = for_by A Any Q (λ d e op c so asked q. on d e op c asked q) op code d e (any_asked op) is q
+
+  for_back : (op : Option Op) (code : Option Code) (d e : D) → AsksFor A op code d e → P e → P d
+  for_back None code d e nothing p = subst P nothing.1 p
+  for_back (Some op) None d e nothing p = absurd nothing
+  for_back (Some op) (Some c) d e asked p = back d e op c asked p
+
+  for_mapped : (op : Option Op) (code : Option Code) (d e : D) → AsksFor A op code d e → Q d → P e → AsksFor B op code (f d) (f e)
+  for_mapped None code d e nothing q p = (nothing.0, ap f nothing.1)
+  for_mapped (Some op) None d e nothing q p = absurd nothing
+  for_mapped (Some op) (Some c) d e asked q p = step d e op c asked q p
+
+  -- a commit at a branch
+  module _ (commit : Bool) (b : Branch) (vote : Code) (second : Option Code) (ending : Ending) (old new : D) (is : AtBranch A commit b vote second ending old new) where
+    pub branch_mapped : Q old → P new → AtBranch B commit b vote second ending (f old) (f new)
+    branch_mapped q p =
+        let q1 : Q is.prepared = on old is.prepared (Prepare b.xid) vote is.prepares q in
+        let p2 : P is.decided = for_back (third_op b.xid second) is.third is.decided new is.forgets p in
+        record {
+          prepared = f is.prepared;
+          decided = f is.decided;
+          third = is.third;
+          prepares = step old is.prepared (Prepare b.xid) vote is.prepares q (for_back (second_op commit b.xid vote) second is.prepared is.decided is.obeys p2);
+          obeys = for_mapped (second_op commit b.xid vote) second is.prepared is.decided is.obeys q1 p2;
+          forgets = for_mapped (third_op b.xid second) is.third is.decided new is.forgets (for_on (second_op commit b.xid vote) second is.prepared is.decided is.obeys q1) p;
+          ends = is.ends;
+        }
+
+  -- a resolve
+  module _ (records : Records) (m : ℕ) where
+    if_back : (asks : Bool) (op : Op) (d e : D) → AsksIf asks A op d e → P e → P d
+    if_back false op d e same p = subst P same p
+    if_back true op d e asked p = back d e op asked.0 asked.1 p
+
+    if_mapped : (asks : Bool) (op : Op) (d e : D) → AsksIf asks A op d e → Q d → P e → AsksIf asks B op (f d) (f e)
+    if_mapped false op d e same q p = ap f same
+    if_mapped true op d e asked q p = (asked.0, step d e op asked.0 asked.1 q p)
+
+    outcome_back : (o : Outcome) (d e : D) → ResolvesBranch A records m o d e → P e → P d
+    outcome_back o d e is p = back d is.decided _ o.code is.obeys (if_back (is_decided o.code) (Forget o.xid) is.decided e is.forgets p)
+
+    outcome_mapped : (o : Outcome) (d e : D) → ResolvesBranch A records m o d e → Q d → P e → ResolvesBranch B records m o (f d) (f e)
+    outcome_mapped o d e is q p = record {
+      manager = is.manager;
+      decision = is.decision;
+      decided = f is.decided;
+      obeys = step d is.decided _ o.code is.obeys q (if_back (is_decided o.code) (Forget o.xid) is.decided e is.forgets p);
+      forgets = if_mapped (is_decided o.code) (Forget o.xid) is.decided e is.forgets (on d is.decided _ o.code is.obeys q) p;
+    }
+
+    all_on : (d : D) (os : List Outcome) (e : D) → Chain (ResolvesBranch A records m) d os e → Q d → Q e
+    all_on d os e chain q = outcomes_by A Any Q (λ d e op c so asked q. on d e op c asked q) records m d os e (λ o there. anything records m o) chain q
+
+    all_back : (d : D) (os : List Outcome) (e : D) → Chain (ResolvesBranch A records m) d os e → P e → P d
+    all_back d os e (none xs last z same) p = subst P same p
+    all_back d os e (more xs o now last before is) p = all_back d xs now before (outcome_back o now last is p)
+
+    all_mapped : (d : D) (os : List Outcome) (e : D) → Chain (ResolvesBranch A records m) d os e → Q d → P e → Chain (ResolvesBranch B records m) (f d) os (f e)
+    all_mapped d os e (none xs last z same) q p = none xs (f last) z (ap f same)
+    all_mapped d os e (more xs o now last before is) q p =
+        more xs o (f now) (f last) (all_mapped d xs now before q (outcome_back o now last is p)) (outcome_mapped o now last is (all_on d xs now before q) p)
+
+    pub resolves_mapped : (xids : List XidName) (os : List Outcome) (d e : D) → ResolvesAt A records m xids os d e → Q d → P e → ResolvesAt B records m xids os (f d) (f e)
+    resolves_mapped [] os d e is q p = (is.0, ap f is.1)
+    resolves_mapped (x ∷ xs) os d e is q p = record {
+      opened = f is.opened;
+      code = is.code;
+      opens = step d is.opened OpenRm is.code is.opens q (all_back is.opened os e is.each p);
+      each = all_mapped is.opened os e is.each (on d is.opened OpenRm is.code is.opens q) p;
+      xids_are = is.xids_are;
+    }

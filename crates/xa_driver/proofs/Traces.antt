@@ -1,0 +1,56 @@
+-- What was asked of a manager, by a desk's ledger with it.
+use Rattle.std.proofs.Common.{◌≡◌, Bool, [], ◌∷◌, length, refl, ap, ◌∙◌, subst, Option, Some, None}
+use Rattle.xa_desk.proofs.Growth.{as_it_was}
+use Rattle.xa_base.proofs.Truth.{by_if}
+use Rattle.xa_words.specs.declared.code.Code.{Code}
+use Rattle.xa_words.specs.declared.request.Op.{Op}
+use Rattle.xa_words.specs.declared.request.Op.TheVariants.{Prepare}
+use Rattle.xa_desk.specs.Growth.{HasGrown}
+use Rattle.xa_desk.specs.LedgerView.{LedgerView, learnt_shut}
+use Rattle.xa_driver.specs.declared.branch.Branch.{Branch}
+use Rattle.xa_driver.specs.declared.done.Ending.{Ending}
+use Rattle.xa_driver.specs.Asks.{asked, IsAnswered, AskTrace}
+use Rattle.xa_driver.specs.Course.{AsksFor, AtBranch}
+use Rattle.xa_driver.specs.Endings.{second_op, third_op}
+use Rattle.xa_driver.specs.Resolving.{AsksLedger}
+use Rattle.xa_driver.specs.Trace.{voted}
+
+-- ---- one request, if it is wanted
+
+pub for_trace : (op : Option Op) (code : Option Code) (a a' : LedgerView) → AskTrace op code a a' → AsksFor AsksLedger op code a a'
+for_trace None code a a' is = (is.answered, is.trace)
+for_trace (Some op) None a a' is = absurd is.answered
+for_trace (Some op) (Some c) a a' is = is
+
+pub trace_for : (op : Option Op) (code : Option Code) (a a' : LedgerView) → AsksFor AsksLedger op code a a' → AskTrace op code a a'
+trace_for None code a a' is = record { answered = is.0; trace = is.1 }
+trace_for (Some op) None a a' is = absurd is
+trace_for (Some op) (Some c) a a' is = is
+
+-- ---- it only makes the ledger grow
+
+pub asked_grows : (a : LedgerView) (op : Option Op) (code : Option Code) → HasGrown a (asked a op code)
+asked_grows a None code = as_it_was a
+asked_grows a (Some op) None = as_it_was a
+asked_grows a (Some op) (Some code) =
+    by_if (HasGrown a) (learnt_shut a) _ _ (λ _. as_it_was a) (λ _. record { sent = (op ∷ [], refl); collected = ((length a.sent, code) ∷ [], refl) })
+
+-- ---- the requests of a branch, one after another
+
+pub record Trace (commit : Bool) (b : Branch) (vote : Code) (second : Option Code) (a a' : LedgerView) : Type 0 where
+  pub prepared : IsAnswered a (Some (Prepare b.xid)) (Some vote)
+  pub seconded : IsAnswered (voted b vote a) (second_op commit b.xid vote) second
+  pub third : Option Code
+  pub forgotten : AskTrace (third_op b.xid second) third (asked (voted b vote a) (second_op commit b.xid vote) second) a'
+
+pub trace_of : (commit : Bool) (b : Branch) (vote : Code) (second : Option Code) (ending : Ending) (a a' : LedgerView) → AtBranch AsksLedger commit b vote second ending a a' → Trace commit b vote second a a'
+trace_of commit b vote second ending a a' is =
+    let two = trace_for (second_op commit b.xid vote) second is.prepared is.decided is.obeys in
+    let three = trace_for (third_op b.xid second) is.third is.decided a' is.forgets in
+    let decided_is : is.decided ≡ asked (voted b vote a) (second_op commit b.xid vote) second = two.trace ∙ ap (λ (z : LedgerView). asked z (second_op commit b.xid vote) second) is.prepares.trace in
+    record {
+      prepared = is.prepares.answered;
+      seconded = subst (λ (z : LedgerView). IsAnswered z (second_op commit b.xid vote) second) is.prepares.trace two.answered;
+      third = is.third;
+      forgotten = subst (λ (z : LedgerView). AskTrace (third_op b.xid second) is.third z a') decided_is three;
+    }

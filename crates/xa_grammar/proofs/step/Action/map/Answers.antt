@@ -1,0 +1,9 @@
+use Rattle.std.proofs.Common.{refl, sym, ap, ◌∙◌}
+use Rattle.xa_grammar.specs.declared.step.Action.TheVariants as action
+use Rattle.xa_grammar.specs.Steps.{action_with}
+use Rattle.xa_grammar.proofs.step.Action.map.Goals as goal
+
+pub returns-in-CommitAll : goal.returns-in-CommitAll
+returns-in-CommitAll g c = λ f h same same_tran.
+    ap (λ t. action.CommitAll (record { tran = t; managers = c.in-CommitAll.commit.managers })) (same_tran c.in-CommitAll.commit.tran c.tran.result (_, c.tran.ensures, refl))
+    ∙ ap (action_with f h) (sym c.in-CommitAll.is)

@@ -1,0 +1,20 @@
+use Rattle.std.proofs.Common.{◌≡◌, Option, None, Some, Bor, refl, sym, ap, ◌∙◌}
+use Rattle.std.specs.Prelude.{MatchOption, IsSomeAnd, option_map, option_copied}
+use Rattle.xa_grammar.specs.declared.step.Calling.TheVariants as calling
+use Rattle.xa_grammar.specs.Steps.{call_with}
+use Rattle.xa_grammar.proofs.step.Calling.map.Goals as goal
+
+-- what a call at what is there may answer is what the function gives
+mapped : {X Y : Type 0} (answers : Bor X → Y → Type 0) (f : X → Y) (lent : Option (Bor X)) (told : Option Y) → ((p : Bor X) (y : Y) → answers p y → y ≡ f p.now) → MatchOption lent (told ≡ None) (λ p. IsSomeAnd told (answers p)) → told ≡ option_map f (option_copied lent)
+mapped answers f None told same is = is
+mapped answers f (Some p) (Some y) same is = ap Some (same p y is)
+mapped answers f (Some p) None same is = absurd is
+
+pub returns-in-Xa : goal.returns-in-Xa
+returns-in-Xa g c = λ f same.
+    ap (λ y. calling.Xa c.in-Xa.call y) (mapped (λ p y. g.N.FnOnce.post c.args.name (p, tt) y) f c.as_ref.result c.map.result (λ p y answers. same p.now y (p, answers, refl)) c.map.ensures.cases ∙ ap (option_map f) c.as_ref.ensures.value)
+    ∙ ap (call_with f) (sym c.in-Xa.is)
+
+pub returns-in-Heur : goal.returns-in-Heur
+returns-in-Heur g c = λ f same.
+    ap (λ y. calling.Heur y c.in-Heur.commits) (same c.in-Heur.branch c.name.result (_, c.name.ensures, refl)) ∙ ap (call_with f) (sym c.in-Heur.is)

@@ -1,0 +1,95 @@
+-- Steps as a script keeps them: the bytes of their names stand one after the other.
+use Rattle.std.specs.Prelude.{◌≡◌, ℕ, ◌+◌, ◌≤◌, pos, List, [], length, map, take, drop, Some}
+use Rattle.xa_base.specs.Lists.{IsUpTo}
+use Rattle.xa_words.specs.Xid.{XidName}
+use Rattle.xa_words.specs.Tran.{TranName}
+use Rattle.xa_grammar.specs.declared.step.Calling.{Calling}
+use Rattle.xa_grammar.specs.declared.step.Calling.TheVariants as calling
+use Rattle.xa_grammar.specs.declared.step.Action.TheVariants as action
+use Rattle.xa_grammar.specs.declared.step.Step.{Step}
+use Rattle.xa_grammar.specs.declared.step.Step.TheVariants as step
+use Rattle.xa_grammar.specs.declared.steps.Place.{Place}
+use Rattle.xa_grammar.specs.declared.steps.GtridPlace.{GtridPlace}
+use Rattle.xa_grammar.specs.Steps.{ScriptAction, ScriptStep, StepHas, step_with}
+
+-- a step as it is kept
+abbrev pub KeptStep : Type 0
+KeptStep = Step Place GtridPlace
+
+-- so many bytes from a place on
+abbrev pub bytes_at : List ℕ → ℕ → ℕ → List ℕ
+bytes_at bytes at n = take n (drop at bytes)
+
+-- the name of a branch whose gtrid stands at a place, and after it its bqual
+abbrev pub name_at : List ℕ → Place → XidName
+name_at bytes p = record {
+  format = pos 1;
+  gtrid = bytes_at bytes p.at p.gtrid;
+  bqual = bytes_at bytes (p.at + p.gtrid) p.bqual;
+}
+
+-- the name of a global transaction whose gtrid stands at a place
+abbrev pub gtrid_at : List ℕ → GtridPlace → TranName
+gtrid_at bytes p = record { format = pos 1; gtrid = bytes_at bytes p.at p.len }
+
+-- a branch's name stands there: both parts have 1 to 64 bytes
+pub record IsName (bytes : List ℕ) (p : Place) : Type 0 where
+  pub within : p.at + p.gtrid + p.bqual ≤ length bytes
+  pub gtrid : IsUpTo 64 p.gtrid
+  pub bqual : IsUpTo 64 p.bqual
+
+-- a gtrid stands there, of 1 to 64 bytes
+pub record IsGtrid (bytes : List ℕ) (p : GtridPlace) : Type 0 where
+  pub within : p.at + p.len ≤ length bytes
+  pub long : IsUpTo 64 p.len
+
+-- names stand where the step says
+abbrev pub IsNamed : List ℕ → KeptStep → Type 0
+IsNamed bytes p = StepHas (IsName bytes) (IsGtrid bytes) p
+
+-- the step with the names that stand there
+abbrev pub step_at : List ℕ → KeptStep → ScriptStep
+step_at bytes p = step_with (name_at bytes) (gtrid_at bytes) p
+
+-- ---- a step that comes
+
+-- the bytes of the branch's name that a call has: its gtrid and its bqual
+abbrev pub bytes_called : Calling XidName → List ℕ × List ℕ
+bytes_called (calling.Xa c (Some x)) = (x.gtrid, x.bqual)
+bytes_called (calling.Heur x commits) = (x.gtrid, x.bqual)
+bytes_called other = ([], [])
+
+-- the bytes of the name that a thread gives: a global transaction has no bqual
+abbrev pub bytes_given : ScriptAction → List ℕ × List ℕ
+bytes_given (action.Call c) = bytes_called c.call
+bytes_given (action.CommitAll c) = (c.tran.gtrid, [])
+bytes_given action.Resolve = ([], [])
+
+-- the bytes of the name in a step
+abbrev pub bytes_in : ScriptStep → List ℕ × List ℕ
+bytes_in (step.Task p) = bytes_given p.action
+bytes_in other = ([], [])
+
+-- a name of a script: of format 1, with parts of 1 to 64 bytes
+abbrev pub IsShortName : XidName → Type 0
+IsShortName x = (x.format ≡ pos 1) × IsUpTo 64 (length x.gtrid) × IsUpTo 64 (length x.bqual)
+
+abbrev pub IsShortGtrid : TranName → Type 0
+IsShortGtrid t = (t.format ≡ pos 1) × IsUpTo 64 (length t.gtrid)
+
+-- so are those of the step
+abbrev pub IsShort : ScriptStep → Type 0
+IsShort p = StepHas IsShortName IsShortGtrid p
+
+-- where a name stands whose bytes come from a place on
+abbrev pub place_from : ℕ → XidName → Place
+place_from at x = record { at = at; gtrid = length x.gtrid; bqual = length x.bqual }
+
+abbrev pub gtrid_place_from : ℕ → TranName → GtridPlace
+gtrid_place_from at t = record { at = at; len = length t.gtrid }
+
+-- ---- all steps
+
+-- the steps that are kept
+abbrev pub steps_of : List ℕ → List KeptStep → List ScriptStep
+steps_of bytes kept = map (step_at bytes) kept

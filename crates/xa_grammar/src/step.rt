@@ -1,0 +1,164 @@
+//! What one line tells to do.
+//!
+//! `X` names a branch and `G` a global transaction: what was read has names whose bytes stand in the line (name.rt),
+//! what a script keeps has places among such bytes (steps.rt), and what is run has an `Xid` and a `Tran`.
+ghost use Rattle.std.specs.Prelude.{◌≡◌};
+ghost use Rattle.std.specs.Fn.{FnOnceReturnsAt, FnOnceTakesAt};
+ghost use Rattle.xa_grammar.specs.Content.{is_reopen};
+ghost use Rattle.xa_grammar.specs.OwnTasks.{is_own};
+ghost use Rattle.xa_grammar.specs.Steps.{CallHas, ActionHas, StepHas, Computes, call_with, action_with, step_with};
+
+use xa_words::{Call, Delta, Key, ManagerSet, Tran, Xid};
+
+/// What a thread calls.
+#[derive(Clone, Copy, Debug, PartialEq, Eq)]
+pub enum Calling<X = Xid> {
+    /// A call of XA but `xa_complete()` and `xa_recover()`, with its branch where it takes one.
+    Xa(Call, Option<X>),
+    /// A heuristic decision of a branch, to commit where true.
+    Heur(X, bool),
+    /// A change of a key.
+    Add(Key, Delta),
+    /// The end of a manager's work.
+    Shut,
+    /// `xa_complete()` with the handle that the line gives, which isn't negative.
+    Complete(i32),
+    /// `xa_recover()`, with room for so many xids, 0 to 64.
+    Recover(u32),
+}
+
+/// A call of a manager.
+#[derive(Clone, Copy, Debug, PartialEq, Eq)]
+pub struct Called<X = Xid> {
+    /// The number that the line gives, which need not be that of a manager.
+    pub manager: u32,
+    pub call: Calling<X>,
+    /// The flags of `xa.h`, joined bit by bit. Nothing says that they suit the call.
+    pub flags: u32,
+}
+
+/// A commit of a global transaction in two phases. Its branch at manager M is `G.M`.
+#[derive(Clone, Copy, Debug, PartialEq, Eq)]
+pub struct CommitAll<G = Tran> {
+    /// The global transaction, of format 1.
+    pub tran: G,
+    /// Where its branches are.
+    pub managers: ManagerSet,
+}
+
+/// What a thread does.
+#[derive(Clone, Copy, Debug, PartialEq, Eq)]
+pub enum Action<X = Xid, G = Tran> {
+    Call(Called<X>),
+    CommitAll(CommitAll<G>),
+    /// A resolve, by the thread's log, of what the last reopening found left.
+    Resolve,
+}
+
+/// What a thread does on a line of its own.
+#[derive(Clone, Copy, Debug, PartialEq, Eq)]
+pub struct Task<X = Xid, G = Tran> {
+    /// The number of its line, from 1.
+    pub line: u32,
+    /// The thread's number, from 1.
+    pub thread: u32,
+    pub action: Action<X, G>,
+}
+
+/// What is to be done next.
+#[derive(Clone, Copy, Debug, PartialEq, Eq)]
+pub enum Step<X = Xid, G = Tran> {
+    /// A thread does something.
+    Task(Task<X, G>),
+    /// A manager takes one request, if there is one.
+    Turn {
+        /// The number of its line, from 1.
+        line: u32,
+        /// The manager's number, from 1.
+        manager: u32,
+    },
+    /// The opening ends and is settled, and the managers are opened again.
+    Reopen {
+        /// The number of its line, from 1.
+        line: u32,
+    },
+}
+
+impl<X> Calling<X> {
+    // With its branch named otherwise.
+    fn map<Y, N: FnOnce(&X) -> Y>(&self, name: N) -> Calling<Y>
+        requires { CallHas (FnOnceTakesAt N.FnOnce name) self.now }
+        ensures { (f : X → Y) → Computes (FnOnceReturnsAt N.FnOnce name) f → result ≡ call_with f self.now }
+    {
+        match self {
+            Calling::Xa(call, branch) => Calling::Xa(*call, branch.as_ref().map(name)),
+            Calling::Heur(branch, commits) => Calling::Heur(name(branch), *commits),
+            Calling::Add(key, delta) => Calling::Add(*key, *delta),
+            Calling::Shut => Calling::Shut,
+            Calling::Complete(handle) => Calling::Complete(*handle),
+            Calling::Recover(room) => Calling::Recover(*room),
+        }
+    }
+}
+
+impl<X, G> Action<X, G> {
+    // With its branch and its global transaction named otherwise.
+    fn map<Y, H, N: FnOnce(&X) -> Y, T: FnOnce(&G) -> H>(&self, name: N, tran: T) -> Action<Y, H>
+        requires { ActionHas (FnOnceTakesAt N.FnOnce name) (FnOnceTakesAt T.FnOnce tran) self.now }
+        ensures { (f : X → Y) (g : G → H) → Computes (FnOnceReturnsAt N.FnOnce name) f
+            → Computes (FnOnceReturnsAt T.FnOnce tran) g → result ≡ action_with f g self.now }
+    {
+        match self {
+            Action::Call(called) => Action::Call(Called {
+                manager: called.manager,
+                call: called.call.map(name),
+                flags: called.flags,
+            }),
+            Action::CommitAll(commit) => Action::CommitAll(CommitAll {
+                tran: tran(&commit.tran),
+                managers: commit.managers,
+            }),
+            Action::Resolve => Action::Resolve,
+        }
+    }
+}
+
+impl<X, G> Step<X, G> {
+    /// The step with its branch and its global transaction named otherwise.
+    pub(crate) fn map<Y, H, N: FnOnce(&X) -> Y, T: FnOnce(&G) -> H>(
+        &self,
+        name: N,
+        tran: T,
+    ) -> Step<Y, H>
+        requires { StepHas (FnOnceTakesAt N.FnOnce name) (FnOnceTakesAt T.FnOnce tran) self.now }
+        ensures { (f : X → Y) (g : G → H) → Computes (FnOnceReturnsAt N.FnOnce name) f
+            → Computes (FnOnceReturnsAt T.FnOnce tran) g → result ≡ step_with f g self.now }
+    {
+        match self {
+            Step::Task(task) => Step::Task(Task {
+                line: task.line,
+                thread: task.thread,
+                action: task.action.map(name, tran),
+            }),
+            Step::Turn { line, manager } => Step::Turn {
+                line: *line,
+                manager: *manager,
+            },
+            Step::Reopen { line } => Step::Reopen { line: *line },
+        }
+    }
+
+    /// Whether it opens the managers again.
+    pub fn is_reopen(&self) -> bool
+        ensures { result ≡ is_reopen self.now }
+    {
+        matches!(self, Step::Reopen { .. })
+    }
+
+    /// Whether it is a task of the thread.
+    pub fn is_of(&self, thread: u32) -> bool
+        ensures { result ≡ is_own thread self.now }
+    {
+        matches!(self, Step::Task(task) if task.thread == thread)
+    }
+}

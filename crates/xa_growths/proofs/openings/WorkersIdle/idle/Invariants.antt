@@ -1,6 +1,0 @@
-use Rattle.std.proofs.Common.{◌≡◌, map}
-use Rattle.xa_switch.specs.Seats.{seat_of_worker}
-use Rattle.xa_growths.proofs.openings.WorkersIdle.idle.Given as goal
-
-abbrev pub invariant-loop-place : goal.invariant-loop-place
-invariant-loop-place g l = map seat_of_worker l.self.all.items ≡ map seat_of_worker l.initial.self.all.items

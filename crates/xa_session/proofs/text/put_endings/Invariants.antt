@@ -1,7 +1,0 @@
-use Rattle.std.proofs.Common.{◌≡◌, ◌++◌, take}
-use Rattle.xa_session.specs.Text.{endings_text}
-use Rattle.xa_session.proofs.text.put_endings.Given as goal
-
--- the first endings are told
-abbrev pub invariant-loop-ending : goal.invariant-loop-ending
-invariant-loop-ending l = l.out.items ≡ l.fn.out.items ++ endings_text (take l.ending-index l.endings)

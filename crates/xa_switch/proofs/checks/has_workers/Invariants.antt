@@ -1,5 +1,0 @@
-use Rattle.xa_switch.specs.Seats.{HasWorkers}
-use Rattle.xa_switch.proofs.checks.has_workers.Given as goal
-
-abbrev pub invariant-loop-before : goal.invariant-loop-before
-invariant-loop-before l = HasWorkers l.before l.workers

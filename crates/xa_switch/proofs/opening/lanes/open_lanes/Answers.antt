@@ -1,0 +1,32 @@
+use Rattle.std.proofs.Common.{◌+◌, length, map, vec_capacity, sym, ap, subst, arith}
+use Rattle.std.proofs.lemmas.List.{length-map}
+use Rattle.xa_switch.specs.Columns.{put_row}
+use Rattle.xa_switch.specs.Lanes.{lane_to, AreNewLanes}
+use Rattle.xa_switch.proofs.Dealing.{room_more, room_stays}
+use Rattle.xa_switch.proofs.NewEnds.{length_senders, one_more_lane}
+use Rattle.xa_switch.proofs.opening.lanes.open_lanes.Goals as goal
+
+pub deal-columns-requires-clause-row : goal.deal-columns-requires-clause-row
+deal-columns-requires-clause-row g c =
+    let wide = c.loop-before.invariant.lanes.wide in
+    let many = length-map c.loop-before.columns.items (λ v. v.items) in
+    let row = ap length c.in-Ok.ensures.senders in
+    let all = length_senders g.row.T.Denot (lane_to c.args.opening c.args.kind (c.loop-before.before + 1)) c.in-Ok.receiver.line c.args.room c.args.senders in
+    omega (arith, wide, many, row, all)
+
+pub deal-columns-requires-clause-room : goal.deal-columns-requires-clause-room
+deal-columns-requires-clause-room g c =
+    room_more (λ v. v.items) (λ v. vec_capacity v) c.loop-before.columns.items c.loop-before.before c.args.lanes c.loop-before.invariant.lanes.deep c.loop-before.invariant.deep (omega arith)
+
+pub loop-before-preserved : goal.loop-before-preserved
+loop-before-preserved g c =
+    let i = c.loop-before.invariant in
+    let opened = c.in-Ok.ensures in
+    record {
+      lanes =
+          subst (λ C. AreNewLanes c.args.opening c.args.kind c.args.senders (c.loop-before.before + 1) c.args.room C c.push_reserved.new.self.items) (sym c.deal-columns.ensures.dealt)
+          (subst (λ rs. AreNewLanes c.args.opening c.args.kind c.args.senders (c.loop-before.before + 1) c.args.room (put_row (map (λ v. v.items) c.loop-before.columns.items) c.in-Ok.ends.items) rs) (sym c.push_reserved.ensures.items)
+          (one_more_lane c.args.opening c.args.kind c.args.senders c.loop-before.before c.args.room (map (λ v. v.items) c.loop-before.columns.items) c.loop-before.receivers.items c.in-Ok.ends.items c.in-Ok.receiver i.lanes opened.senders opened.receiver));
+      deep = room_stays (λ v. vec_capacity v) c.loop-before.columns.items c.deal-columns.result.items c.args.lanes c.deal-columns.ensures.capacity i.deep;
+      room = let stays = c.push_reserved.ensures.capacity in let room = i.room in omega (arith, stays, room);
+    }

@@ -1,0 +1,50 @@
+use Rattle.std.proofs.Common.{◌≡◌, Bool, true, false, ℕ, ◌+◌, ◌<◌, List, [], ◌∷◌, ◌++◌, length, cond, Result, Ok, Err, is_ok, is_err, get_or, take, refl, sym, ap, ◌∙◌, subst, arith}
+use Rattle.std.specs.List.{All}
+use Rattle.std.proofs.lemmas.List.{take_more, take_all, map_more}
+use Rattle.std.proofs.lemmas.List.Elements.{All-push}
+use Rattle.xa_switch.specs.Plans.{IsSoundManager, opened_by}
+use Rattle.xa_switch.specs.declared.plan.ManagerPlan.{ManagerPlan}
+use Rattle.xa_switch.proofs.opening.managers.open_managers.Goals as goal
+use Rattle.xa_switch.proofs.opening.managers.open_managers.Goals.{in-Ok+then-is_short, in-Ok+else-is_short, in-Err-NoMemory}
+
+fits : {T E : Type 0} (r : Result T E) → is_err r ≡ false → is_ok r ≡ true
+fits (Ok x) e = refl
+fits (Err x) e = absurd (cc)
+
+-- one manager more
+sound_more : (xs : List ManagerPlan) (i : ℕ) (x : ManagerPlan) → i < length xs → x ≡ get_or xs i x → All IsSoundManager (take i xs) → IsSoundManager x → All IsSoundManager (take (i + 1) xs)
+sound_more xs i x low is before here =
+    subst (λ l. All IsSoundManager l) (sym (take_more xs i x low)) (All-push IsSoundManager (take i xs) (get_or xs i x) before (subst IsSoundManager is here))
+
+-- what can't fail to be true is true
+holds : (b : Bool) → ((b ≡ true → ⊥) → ⊥) → b ≡ true
+holds true never = refl
+holds false never = absurd (never (λ e. absurd (cc)))
+
+pub loop-plan-preserved : goal.loop-plan-preserved
+loop-plan-preserved c = record {
+  sound =
+      let more = sound_more c.args.managers.now c.loop-plan.plan-index c.plan-item.result (omega arith) c.plan-item.is c.loop-plan.invariant.sound in
+      elim c.match-open_manager.branch [
+        | in-Ok+then-is_short w ↦ more w.in-Ok.ensures.sound
+        | in-Ok+else-is_short w ↦ more w.in-Ok.ensures.sound
+        | in-Err-NoMemory w ↦ more (holds _ (λ no. let e = w.in-Err-NoMemory.ensures.bad.1 no in absurd (cc)))
+      ];
+  opened = λ e.
+      elim c.match-open_manager.branch [
+        | in-Ok+then-is_short w ↦ absurd (let s = w.is_short-is in let i = w.if-is_short.true in absurd (cc))
+        | in-Ok+else-is_short w ↦
+            let ok = fits w.push.result (sym w.is_err-is_short.ensures.value ∙ sym w.is_short-is ∙ e) in
+            ap (λ v. v.items) w.opened-is
+            ∙ w.push.ensures.items
+            ∙ ap (λ b. cond b (c.loop-plan.opened.items ++ w.in-Ok.manager ∷ []) c.loop-plan.opened.items) ok
+            ∙ (λ k. (c.loop-plan.invariant.opened w.if-is_short.false) k ++ (w.in-Ok.ensures.opened ∙ ap (λ x. opened_by c.args.threads c.args.room x) c.plan-item.is) k ∷ [])
+            ∙ sym (map_more (λ x. opened_by c.args.threads c.args.room x) c.args.managers.now c.loop-plan.plan-index c.plan-item.result (omega arith))
+        | in-Err-NoMemory w ↦ absurd (let s = w.is_short-is in absurd (cc))
+      ];
+}
+
+pub returns-then-is_short-2-clause-bad : goal.returns-then-is_short-2-clause-bad
+returns-then-is_short-2-clause-bad c =
+    let all : take c.loop-plan.plan-index c.args.managers.now ≡ c.args.managers.now = take_all c.loop-plan.plan-index c.args.managers.now (omega arith) in
+    (λ e. absurd (cc), λ no. absurd (no (subst (λ l. All IsSoundManager l) all c.loop-plan.invariant.sound)))

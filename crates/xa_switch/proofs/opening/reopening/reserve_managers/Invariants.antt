@@ -1,0 +1,12 @@
+use Rattle.std.proofs.Common.{◌≡◌, Some, length, take}
+use Rattle.std.specs.List.{All}
+use Rattle.xa_switch.specs.Again.{parts_of}
+use Rattle.xa_switch.proofs.opening.reopening.reserve_managers.Given as goal
+
+-- the managers so far have their memory
+abbrev pub invariant-loop-place : goal.invariant-loop-place
+invariant-loop-place l = record {
+  parts : parts_of l.managers.items ≡ parts_of l.initial.managers.items;
+  many : length l.managers.items ≡ length l.initial.managers.items;
+  reserved : All (λ c. c.reserved ≡ Some (l.threads, l.room)) (take l.place l.managers.items);
+}

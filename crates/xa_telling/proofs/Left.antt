@@ -1,0 +1,111 @@
+-- What is left outstanding at a desk, by the numbers under which it is kept.
+use Rattle.std.proofs.Common.{◌≡◌, ℕ, ◌+◌, ◌<◌, ◌≤◌, zero, suc, List, [], ◌∷◌, ◌++◌, length, map, Some, None}
+use Rattle.std.proofs.Common.{sym, refl, ap, ◌∙◌, subst, inl, inr, arith, length-append}
+use Rattle.std.specs.Prelude.{All}
+use Rattle.std.specs.List.{AllPairs, Contains, range_with_len}
+use Rattle.std.specs.Ordering.{nat_cmp}
+use Rattle.std.specs.FinMap as finmap
+use Rattle.std.proofs.lemmas.Bool.{cases_eq}
+use Rattle.std.proofs.lemmas.List.{map-append}
+use Rattle.std.proofs.lemmas.List.Elements.{All-nil, All-push, Contains-append_left, Contains-push}
+use Rattle.xa_base.proofs.Options.{not_both}
+use Rattle.xa_base.specs.Lists.{Begins, Chain}
+use Rattle.xa_base.specs.Lists.Chain.{none, more}
+use Rattle.xa_base.proofs.Lists.{begins_on, begins_same, pairs_push, range_suc, snoc_parts}
+use Rattle.xa_base.proofs.Maps.{removed_other}
+use Rattle.xa_words.specs.declared.code.Code.{Code}
+use Rattle.xa_desk.specs.declared.operation.Operation.{Operation}
+use Rattle.xa_desk.specs.DeskView.{DeskView, collected_from}
+use Rattle.xa_switch.specs.Completing.{CollectsRedeemed}
+use Rattle.xa_crew.specs.Ending.{Telling, EndsNumber}
+use Rattle.xa_crew.specs.Ending.EndsNumber.{kept, free}
+use Rattle.xa_telling.proofs.Ledgers.{collected_here}
+use Rattle.xa_telling.proofs.Sent.{Collecting, redeeming}
+
+-- one of what was told: what was kept under the number at first was collected with this code
+abbrev pub IsTold : DeskView → DeskView → ℕ × Code → Type 0
+IsTold first now x =
+    (o : Operation) × (finmap.get first.kept x.0 ≡ Some o)
+    × (before : List (ℕ × Code)) × Begins (before ++ (o.number, x.1) ∷ []) (collected_from now.ledgers o.manager)
+
+told_on : (first now next : DeskView) → Collecting now.ledgers next.ledgers → (x : ℕ × Code) → IsTold first now x → IsTold first next x
+told_on first now next grows x h =
+    (h.0, h.1, h.2, begins_on (h.2 ++ (h.0.number, x.1) ∷ []) (collected_from now.ledgers h.0.manager) (collected_from next.ledgers h.0.manager) h.3 (grows h.0.manager).0.collected)
+
+-- the numbers from 1 to n were ended
+pub record HaveEnded (n : ℕ) (first now : DeskView) (told : List (ℕ × Code)) : Type 0 where
+  pub others : (k : ℕ) → ((1 ≤ k) × (k ≤ n) → ⊥) → finmap.get now.kept k ≡ finmap.get first.kept k
+  pub coded : All (IsTold first now) told
+  pub within : All (λ x. (1 ≤ x.0) × (x.0 ≤ n)) told
+  pub all : (k : ℕ) (o : Operation) → 1 ≤ k → k ≤ n → finmap.get first.kept k ≡ Some o → Contains (map (λ x. x.0) told) k
+  pub rising : AllPairs (λ x y. x.0 < y.0) told
+
+none_ended : (first : DeskView) → HaveEnded 0 first first []
+none_ended first = record {
+  others = λ k out. refl;
+  coded = All-nil (IsTold first first);
+  within = All-nil (λ x. (1 ≤ x.0) × (x.0 ≤ 0));
+  all = λ k o low high at. absurd (omega (arith, low, high));
+  rising = λ i j d below within. absurd (omega (arith, within));
+}
+
+-- one more number that kept something
+module _ (n : ℕ) (first now next : DeskView) (told : List (ℕ × Code)) (h : HaveEnded n first now told) where
+  fresh : (1 ≤ n + 1) × (n + 1 ≤ n) → ⊥
+  fresh within = let high = within.1 in omega (arith, high)
+
+  numbers_push : (c : Code) → map (λ (x : ℕ × Code). x.0) (told ++ (n + 1, c) ∷ []) ≡ map (λ (x : ℕ × Code). x.0) told ++ (n + 1) ∷ []
+  numbers_push c = map-append (λ (x : ℕ × Code). x.0) told ((n + 1, c) ∷ [])
+
+  ended_kept : (c : Code) → CollectsRedeemed now next (n + 1) c → HaveEnded (n + 1) first next (told ++ (n + 1, c) ∷ [])
+  ended_kept c takes =
+      let o = takes.operation in
+      let at_first : finmap.get first.kept (n + 1) ≡ Some o = sym (h.others (n + 1) fresh) ∙ takes.kept in
+      let handles : next.kept ≡ finmap.remove now.kept (n + 1) = ap (λ (d : DeskView). d.kept) takes.collects.collected ∙ ap (λ (d : DeskView). d.kept) takes.collects.looks.rest in
+      let collected : collected_from next.ledgers o.manager ≡ collected_from now.ledgers o.manager ++ (o.number, c) ∷ [] =
+      ap (λ (d : DeskView). collected_from d.ledgers o.manager) takes.collects.collected
+      ∙ collected_here takes.collects.before.ledgers o c takes.collects.out.known
+      ∙ ap (λ (d : DeskView). collected_from d.ledgers o.manager ++ (o.number, c) ∷ []) takes.collects.looks.rest in
+      let this : IsTold first next (n + 1, c) = (o, at_first, collected_from now.ledgers o.manager, begins_same (collected_from now.ledgers o.manager ++ (o.number, c) ∷ []) (collected_from next.ledgers o.manager) collected) in
+      record {
+        others = λ k out.
+            ap (λ (m : finmap.FinMap nat_cmp Operation). finmap.get m k) handles
+            ∙ removed_other now.kept (n + 1) k (λ same. out (omega (arith, same), omega (arith, same)))
+            ∙ h.others k (λ within. out (within.0, let high = within.1 in omega (arith, high)));
+        coded = All-push (IsTold first next) told (n + 1, c) (λ k d below. told_on first now next (redeeming now next (n + 1) c takes) _ (h.coded k d below)) this;
+        within = All-push (λ x. (1 ≤ x.0) × (x.0 ≤ n + 1)) told (n + 1, c) (λ k d below. let w = h.within k d below in (w.0, let high = w.1 in omega (arith, high))) (omega arith, omega arith);
+        all = λ k p low high at. subst (λ (l : List ℕ). Contains l k) (sym (numbers_push c)) (elim (cases_eq k (n + 1)) [
+          | inl same ↦ subst (λ j. Contains (map (λ (x : ℕ × Code). x.0) told ++ (n + 1) ∷ []) j) (sym same) (Contains-push (map (λ (x : ℕ × Code). x.0) told) (n + 1))
+          | inr differs ↦ Contains-append_left (map (λ (x : ℕ × Code). x.0) told) ((n + 1) ∷ []) k (h.all k p low (omega (arith, high, differs)) at)
+        ]);
+        rising = pairs_push (λ x y. x.0 < y.0) told (n + 1, c) h.rising (λ k d below. let w = h.within k d below in let high = w.1 in omega (arith, high));
+      }
+
+  -- and one that kept nothing
+  ended_free : finmap.get now.kept (n + 1) ≡ None → HaveEnded (n + 1) first now told
+  ended_free empty = record {
+    others = λ k out. h.others k (λ within. out (within.0, let high = within.1 in omega (arith, high)));
+    coded = h.coded;
+    within = λ k d below. let w = h.within k d below in (w.0, let high = w.1 in omega (arith, high));
+    all = λ k o low high at. elim (cases_eq k (n + 1)) [
+      | inl same ↦ absurd (not_both (finmap.get now.kept (n + 1)) o empty (h.others (n + 1) fresh ∙ ap (finmap.get first.kept) (sym same) ∙ at))
+      | inr differs ↦ h.all k o low (omega (arith, high, differs)) at
+    ];
+    rising = h.rising;
+  }
+
+one_ended : (n : ℕ) (first : DeskView) (now next : Telling) → HaveEnded n first now.0 now.1 → EndsNumber (n + 1) now next → HaveEnded (n + 1) first next.0 next.1
+one_ended n first now next h (kept c takes pushed) = subst (λ (l : List (ℕ × Code)). HaveEnded (n + 1) first next.0 l) (sym pushed) (ended_kept n first now.0 next.0 now.1 h c takes)
+one_ended n first now next h (free empty same) = subst (λ (x : Telling). HaveEnded (n + 1) first x.0 x.1) (sym same) (ended_free n first now.0 now.0 now.1 h empty)
+
+-- the numbers of a chain
+pub numbers_ended : (first : DeskView) (ks : List ℕ) (last : Telling) → Chain EndsNumber (first, []) ks last → (n : ℕ) → ks ≡ range_with_len 1 n → HaveEnded n first last.0 last.1
+numbers_ended first ks last (none xs l e f) zero same = subst (λ (x : Telling). HaveEnded 0 first x.0 x.1) (sym f) (none_ended first)
+numbers_ended first ks last (none xs l e f) (suc n) same = absurd (let size = ap (λ (l : List ℕ). length l) (sym e ∙ same) in omega (arith, size))
+numbers_ended first ks last (more xs x now l before is) zero same = absurd (let size = ap (λ (l : List ℕ). length l) same in omega (arith, size, length-append xs (x ∷ [])))
+numbers_ended first ks last (more xs x now l before is) (suc n) same =
+    let parts = snoc_parts xs (range_with_len 1 n) x (1 + n) (same ∙ range_suc 1 n) in
+    let number : x ≡ n + 1 = let last_one = parts.1 in omega (arith, last_one) in
+    let next_one : n + 1 ≡ suc n = omega arith in
+    subst (λ k. HaveEnded k first l.0 l.1) next_one
+    (one_ended n first now l (numbers_ended first xs now before n parts.0) (subst (λ k. EndsNumber k now l) number is))

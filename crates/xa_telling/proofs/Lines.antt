@@ -1,0 +1,297 @@
+-- A thread's lines put its entries into the journals, line by line.
+use Rattle.std.proofs.Common.{false, inl, inr, ◌≡◌, ℕ, ◌≤◌, List, [], ◌∷◌, ◌++◌, length, map, take, None, Some, sym, refl, ap, ◌∙◌, subst, arith, append-nil}
+use Rattle.std.specs.Prelude.{slice_get}
+use Rattle.std.specs.FinMap as finmap
+use Rattle.std.proofs.lemmas.List.{map-append, take_all}
+use Rattle.xa_words.specs.Tran.{TranName}
+use Rattle.xa_words.specs.declared.code.Code.{Code}
+use Rattle.xa_words.specs.declared.request.Op.{Op}
+use Rattle.xa_words.specs.declared.request.Op.TheVariants.{Listed}
+use Rattle.xa_desk.specs.LedgerView.{LedgerView}
+use Rattle.xa_desk.specs.DeskView.{DeskView, is_known, sent_to, collected_from}
+use Rattle.xa_words.specs.Flags.{check_flags}
+use Rattle.xa_words.specs.declared.flags.Call.TheVariants as call
+use Rattle.std.proofs.lemmas.Bool.{cases_eq}
+use Rattle.xa_worker.specs.Journal.{Entry}
+use Rattle.xa_switch.specs.Settling.{Settling, journal}
+use Rattle.xa_switch.specs.Scans.{ScanView, left_at}
+use Rattle.xa_switch.specs.Scans.{Answers as Reaches}
+use Rattle.xa_switch.specs.Scans.Answers.{refused as unreached, answered as reached}
+use Rattle.xa_driver.specs.Log.{LogView, LogState, record_of}
+use Rattle.xa_driver.specs.Trace.{IsTranOf}
+use Rattle.xa_words.specs.Xid.{XidName}
+use Rattle.xa_words.specs.ManagerSet.{managers_in}
+use Rattle.xa_grammar.specs.declared.step.Calling.{Calling}
+use Rattle.xa_grammar.specs.declared.step.Calling.TheVariants as calling
+use Rattle.xa_grammar.specs.declared.step.Called.{Called}
+use Rattle.xa_grammar.specs.declared.step.CommitAll.{CommitAll}
+use Rattle.xa_grammar.specs.declared.step.Action.TheVariants as action
+use Rattle.xa_grammar.specs.Steps.{ScriptAction, ScriptTask}
+use Rattle.xa_session.specs.declared.session.Session.{Session}
+use Rattle.xa_transcript.specs.declared.answer.Answer.{Answer}
+use Rattle.xa_transcript.specs.declared.answer.Told.{Told}
+use Rattle.xa_base.specs.Lists.{Begins, Chain}
+use Rattle.xa_base.specs.Lists.Chain.{none, more}
+use Rattle.xa_session.specs.Calling.{IsListed, HasListed, Answers}
+use Rattle.xa_session.specs.Committing.{named, branch_at, branches_of, CommitsAll}
+use Rattle.xa_session.specs.Sessions.{Executes, Does, told_of}
+use Rattle.xa_session.specs.Committing.CommitsAll.{refused, decided}
+use Rattle.xa_session.specs.Resolving.{ResolvesLeft}
+use Rattle.xa_session.specs.Resolving.ResolvesLeft.{refused as left_refused, resolved as left_resolved}
+use Rattle.xa_session.specs.Sessions.{HasDone, told_of}
+use Rattle.xa_telling.specs.Parts.{Part, next_entry, with_entry, new_part, Asked, Lists, CallTakes}
+use Rattle.xa_telling.specs.Parts.Asked.{answered as asked_answered, refused as asked_refused}
+use Rattle.xa_telling.specs.Parts.CallTakes.{lists as call_lists}
+use Rattle.xa_telling.specs.Wants.{wanted_by, wanted_in}
+use Rattle.xa_telling.specs.Commits.{CommitTakes}
+use Rattle.xa_telling.proofs.Parts.{call_takes_so, Adds, Hands, entry_here, entry_elsewhere}
+use Rattle.xa_telling.proofs.Mapped.{by_mapped}
+use Rattle.xa_telling.specs.Journals.{Line, Takes, TakesPart, entries_of}
+use Rattle.xa_telling.proofs.Parts.Hands.{gives as hands_gives, takes as hands_takes, shows as hands_shows}
+use Rattle.xa_telling.proofs.Parts.Adds.{answered as adds_answered, kept as adds_kept}
+use Rattle.xa_telling.specs.Commits.CommitTakes.{refused as takes_none, decided as takes_decided}
+use Rattle.xa_telling.specs.Resolves.{ResolveTakes}
+use Rattle.xa_telling.specs.Resolves.ResolveTakes.{refused as ends_none, resolved as ends_left}
+use Rattle.xa_telling.proofs.Tasks.{AreOf, front_of, last_of}
+use Rattle.xa_base.proofs.Lists.{begins_on}
+use Rattle.xa_telling.proofs.Ledgers.{numbered_so, Grows, AllSent, grows_same, grows_both}
+use Rattle.xa_telling.proofs.Branches.{trace_grows, resolve_grows, branches_at, left_at_entries, same_entries}
+use Rattle.xa_telling.proofs.Entries.{Fits, many_entries, within, enters, enters_coded, pair_there}
+use Rattle.xa_telling.proofs.Handles.{Holds, gives, takes, shows, answers_hold}
+use Rattle.xa_telling.proofs.Sent.{Sends, answered, kept, nothing, is_recover, answers_do, is_refusal, answered_here, request_grows, request_elsewhere, request_keeps, recover_grows}
+
+-- ---- a thread's tasks only add to what it sent and collected
+
+commit_grows : (m : ℕ) (c : CommitAll TranName) (old new : Session) (a : Answer) → CommitsAll c old new a → Grows m old.desk.ledgers new.desk.ledgers
+commit_grows m c old new a (refused why told e) = grows_same m old.desk.ledgers new.desk.ledgers (ap (λ (x : Session). x.desk.ledgers) e)
+commit_grows m c old new a (decided done may trace still keeps as_many told rounds appends) = trace_grows (named c) (branches_of c) old.desk.ledgers new.desk.ledgers old.log.state new.log.state done trace may.room m
+
+resolve_grows_so : (m : ℕ) (old new : Session) (a : Answer) → ResolvesLeft old new a → Grows m old.desk.ledgers new.desk.ledgers
+resolve_grows_so m old new a (left_refused why told e) = grows_same m old.desk.ledgers new.desk.ledgers (ap (λ (x : Session). x.desk.ledgers) e)
+resolve_grows_so m old new a (left_resolved outcomes may trace log still keeps as_many told in_turn) = resolve_grows old.scan old.log.state.records old.desk.ledgers new.desk.ledgers outcomes.items trace may.room m
+
+call_grows : (m : ℕ) (x : Calling XidName) (q : Called XidName) → wanted_by x q.flags ≡ wanted_in q → (old new : Session) (a : Answer) → Answers x q old.desk old.scan new.desk new.scan a → Grows m old.desk.ledgers new.desk.ledgers
+call_grows m (calling.Xa c y) q e old new a is = (answers_do (calling.Xa c y) 0 q refl e old.desk new.desk old.scan new.scan a is m).1
+call_grows m (calling.Heur x commits) q e old new a is = (answers_do (calling.Heur x commits) 0 q refl e old.desk new.desk old.scan new.scan a is m).1
+call_grows m (calling.Add k d) q e old new a is = (answers_do (calling.Add k d) 0 q refl e old.desk new.desk old.scan new.scan a is m).1
+call_grows m calling.Shut q e old new a is = (answers_do calling.Shut 0 q refl e old.desk new.desk old.scan new.scan a is m).1
+call_grows m (calling.Complete h) q e old new a is = (answers_do (calling.Complete h) 0 q refl e old.desk new.desk old.scan new.scan a is m).1
+call_grows m (calling.Recover n) q e old new a is = recover_grows m q.manager q.flags old.desk old.scan is.before new.desk new.scan is.after is.answer is.recovers
+
+executes_grow : (m : ℕ) (x : ScriptAction) (old new : Session) (a : Answer) → Executes x old new a → Grows m old.desk.ledgers new.desk.ledgers
+executes_grow m (action.Call q) old new a is = call_grows m q.call q refl old new a is.0
+executes_grow m (action.CommitAll c) old new a is = commit_grows m c old new a is
+executes_grow m action.Resolve old new a is = resolve_grows_so m old new a is
+
+does_grow : (m : ℕ) (x : ScriptAction) (old new : Session) (a : Answer) → Does x old new a → Grows m old.desk.ledgers new.desk.ledgers
+does_grow m x old new a is = executes_grow m x old new a is.executes
+
+-- a thread as it goes on, and its answers so far
+abbrev State : Type 0
+State = Session × List Told
+
+pub runs_grow : (m : ℕ) (first : State) (tasks : List ScriptTask) (last : State) → Chain HasDone first tasks last → Grows m first.0.desk.ledgers last.0.desk.ledgers
+runs_grow m first tasks last (none xs l e f) = grows_same m first.0.desk.ledgers l.0.desk.ledgers (ap (λ (s : State). s.0.desk.ledgers) f)
+runs_grow m first tasks last (more xs x now l before is) = grows_both m first.0.desk.ledgers now.0.desk.ledgers l.0.desk.ledgers (runs_grow m first xs now before) (does_grow m x.action now.0 l.0 is.answer is.does)
+
+-- ---- the lines of a thread
+
+-- each task with its answer
+abbrev line : ScriptTask → Answer → Line
+line p a = record { task = p; answer = a }
+
+abbrev pub lines_in : (first : State) (tasks : List ScriptTask) (last : State) → Chain HasDone first tasks last → List Line
+lines_in first tasks last (none xs l e f) = []
+lines_in first tasks last (more xs x now l before is) = lines_in first xs now before ++ line x is.answer ∷ []
+
+pub tasks_in : (first : State) (tasks : List ScriptTask) (last : State) (runs : Chain HasDone first tasks last) → map (λ l. l.task) (lines_in first tasks last runs) ≡ tasks
+tasks_in first tasks last (none xs l e f) = sym e
+tasks_in first tasks last (more xs x now l before is) = map-append (λ (l : Line). l.task) (lines_in first xs now before) (line x is.answer ∷ []) ∙ ap (λ l. l ++ x ∷ []) (tasks_in first xs now before)
+
+pub answers_in : (first : State) (tasks : List ScriptTask) (last : State) (runs : Chain HasDone first tasks last) → first.1 ≡ [] → map (λ l. told_of l.task l.answer) (lines_in first tasks last runs) ≡ last.1
+answers_in first tasks last (none xs l e f) start = sym (ap (λ (s : State). s.1) f ∙ start)
+answers_in first tasks last (more xs x now l before is) start = map-append (λ (l : Line). told_of l.task l.answer) (lines_in first xs now before) (line x is.answer ∷ []) ∙ ap (λ l. l ++ told_of x is.answer ∷ []) (answers_in first xs now before start) ∙ sym is.told
+
+-- the transaction that may be committed isn't logged yet
+not_logged : (c : CommitAll TranName) (ms : List ℕ) (log : LogState) (t : TranName) → 1 ≤ length (map (branch_at c) ms) → IsTranOf (map (branch_at c) ms) t → record_of log t ≡ None → record_of log (named c) ≡ None
+not_logged c [] log t some of absent = absurd (omega (arith, some))
+not_logged c (m ∷ ms) log t some of absent = ap (record_of log) of.0 ∙ absent
+
+module _ (settled : Settling) (t : ℕ) (ops : ℕ → List Op) (pairs : ℕ → List (ℕ × Code)) (fits : (m : ℕ) → Fits t (ops m) (pairs m) (entries_of t (journal settled m))) where
+  abbrev own_entries : ℕ → List Entry
+  own_entries m = entries_of t (journal settled m)
+
+  abbrev entries_so_far : List LedgerView → ℕ → List Entry
+  entries_so_far at m = take (length (sent_to at m)) (own_entries m)
+
+  -- a thread's part in the journals, by its desk, its log and its scans
+  abbrev part_at : LogState → ScanView → DeskView → Part
+  part_at log scan d = record { entries = entries_so_far d.ledgers; handles = d.kept; log = log; scan = scan }
+
+  abbrev part_of : Session → Part
+  part_of x = part_at x.log.state x.scan x.desk
+
+  -- all that these ledgers have is in the journals
+  abbrev AllThere : List LedgerView → Type 0
+  AllThere at = (m : ℕ) → Begins (sent_to at m) (ops m) × Begins (collected_from at m) (pairs m)
+
+  there_before : (old new : List LedgerView) → ((m : ℕ) → Grows m old new) → AllThere new → AllThere old
+  there_before old new grows all m = (begins_on (sent_to old m) (sent_to new m) (ops m) (grows m).sent (all m).0, begins_on (collected_from old m) (collected_from new m) (pairs m) (grows m).collected (all m).1)
+
+  adds : (m : ℕ) (q : Called XidName) (a : Answer) (old new : List LedgerView) → AllThere new → Sends m t q a old new → Adds m t q a (entries_so_far old m) (entries_so_far new m)
+  adds m q a old new all (nothing adds_none same) = subst (λ (l : List Op). Adds m t q a (entries_so_far old m) (take (length l) (own_entries m))) (sym same) (adds_none (entries_so_far old m))
+  adds m q a old new all (kept o k here asks low told sent) =
+      let e = enters t (ops m) (pairs m) (own_entries m) (fits m) (sent_to old m) (sent_to new m) o sent (all m).0 in
+      adds_kept o e.0 k here asks low told e.1
+  adds m q a old new all (answered o c here asks told sent got) =
+      let collected = pair_there (pairs m) (collected_from old m) (collected_from new m) (length (sent_to old m)) c got (all m).1 in
+      let e = enters_coded t (ops m) (pairs m) (own_entries m) (fits m) (sent_to old m) (sent_to new m) o sent (all m).0 (length (collected_from old m)) c collected in
+      adds_answered o c here asks told e
+
+  hands : (q : Called XidName) (a : Answer) (old new : Session) → AllThere old.desk.ledgers → AllThere new.desk.ledgers → Holds q a old.desk new.desk → Hands settled t q a (part_of old) new.desk.kept
+  hands q a old new was all (gives o k asked told free now known) =
+      let m = q.manager in
+      let size = within t (ops m) (pairs m) (own_entries m) (fits m) (sent_to old.desk.ledgers m) (was m).0 in
+      let number = numbered_so old.desk.ledgers m o known ∙ sym size in
+      hands_gives o k asked told free (now ∙ (λ i. finmap.insert old.desk.kept k (record { manager = m; number = number i })))
+  hands q a old new was all (takes o k c asked at told now got) =
+      let m = o.manager in
+      let there = (fits m).coded (length (collected_from old.desk.ledgers m)) (o.number, c) (pair_there (pairs m) (collected_from old.desk.ledgers m) (collected_from new.desk.ledgers m) o.number c got (all m).1) in
+      hands_takes o k c asked at there told now
+  hands q a old new was all (shows c may told now) = hands_shows c may told now
+
+  -- what a call does to its thread's part that is no xa_recover
+  plain_takes : (x : Calling XidName) (q : Called XidName) → is_recover x ≡ false → wanted_by x q.flags ≡ wanted_in q → (old new : Session) (a : Answer) → AllThere old.desk.ledgers → AllThere new.desk.ledgers → Answers x q old.desk old.scan new.desk new.scan a → new.log ≡ old.log → new.scan ≡ old.scan → CallTakes settled t q a (part_of old) (part_of new)
+  plain_takes x q plain e old new a was all is same still =
+      call_takes_so settled t q a (part_of old) (part_of new)
+      (λ m. adds m q a old.desk.ledgers new.desk.ledgers all (answers_do x t q plain e old.desk new.desk old.scan new.scan a is m).0)
+      (ap (λ (l : LogView). l.state) same) still
+      (hands q a old new was all (answers_hold x q plain e old.desk new.desk old.scan new.scan a is))
+
+  -- a request that is carried out
+  one_asked : (log : LogState) (scan : ScanView) (m : ℕ) (old : DeskView) (op : Op) (new : DeskView) (c : Code) → Reaches m old op new c → entries_so_far new.ledgers m ≡ entries_so_far old.ledgers m ++ next_entry t (entries_so_far old.ledgers m) op c ∷ []
+      → (n : ℕ) → entries_so_far new.ledgers n ≡ (with_entry t m op c (part_at log scan old)).entries n
+  one_asked log scan m old op new c is here n = elim (cases_eq n m) [
+    | inl same ↦
+        subst (λ k. entries_so_far new.ledgers k ≡ (with_entry t m op c (part_at log scan old)).entries k) (sym same)
+        (here ∙ sym (entry_here t m op c (part_at log scan old)))
+    | inr differs ↦
+        ap (λ (l : List Op). take (length l) (own_entries n)) (request_elsewhere n m differs old op new c is)
+        ∙ sym (entry_elsewhere t m op c (part_at log scan old) n differs)
+  ]
+
+  asked_so : (log : LogState) (scan : ScanView) (m : ℕ) (old : DeskView) (op : Op) (new : DeskView) (c : Code) → Reaches m old op new c → AllThere new.ledgers → Asked t m (part_at log scan old) op (part_at log scan new) c
+  asked_so log scan m old op new c (unreached why same) all = asked_refused (is_refusal old m false c why) (ap (part_at log scan) same)
+  asked_so log scan m old op new c (reached none_refused times is) all =
+      let here = answered_here m times old new op false c none_refused is in
+      let collected = pair_there (pairs m) (collected_from old.ledgers m) (collected_from new.ledgers m) (length (sent_to old.ledgers m)) c here.1 (all m).1 in
+      let e = enters_coded t (ops m) (pairs m) (own_entries m) (fits m) (sent_to old.ledgers m) (sent_to new.ledgers m) op here.0 (all m).0 (length (collected_from old.ledgers m)) c collected in
+      let asked = reached none_refused times is in
+      asked_answered (λ i. record { entries = λ n. one_asked log scan m old op new c asked e n i; handles = request_keeps m old op new c asked i; log = log; scan = scan })
+
+  -- what an xa_recover does
+  lists : (q : Called XidName) (n : ℕ) (a : Answer) (old new : Session) → AllThere new.desk.ledgers → HasListed q n old.desk old.scan new.desk new.scan a → new.log ≡ old.log → Lists t q n a (part_of old) (part_of new)
+  lists q n a old new all is same =
+      let m = q.manager in
+      let log = old.log.state in
+      let known = is_known old.desk.ledgers m in
+      let mode = check_flags call.Recover q.flags in
+      let mapped =
+      by_mapped (Reaches m) (Asked t m) (part_at log old.scan) (λ (d : DeskView). (k : ℕ) → Grows k d.ledgers new.desk.ledgers)
+      (λ d e x c asked grown. (
+        (λ k. grows_both k d.ledgers e.ledgers new.desk.ledgers (request_grows k m d (Listed x) e c asked) (grown k)),
+        asked_so log old.scan m d (Listed x) e c asked (there_before e.ledgers new.desk.ledgers grown all),
+      ))
+      known mode m old.desk old.scan is.before new.desk new.scan is.after is.recovers.result is.recovers.recovers (λ k. grows_same k new.desk.ledgers new.desk.ledgers refl) in
+      record {
+        there = known;
+        asked = part_at log old.scan new.desk;
+        before = is.before;
+        after = is.after;
+        result = is.recovers.result;
+        room = is.room;
+        recovers = mapped.1;
+        stands = λ i. record { entries = entries_so_far new.desk.ledgers; handles = new.desk.kept; log = ap (λ (l : LogView). l.state) same i; scan = new.scan };
+        tells = subst (λ z. IsListed z is.after a) is.recovers.answered is.shown;
+      }
+
+  -- what a call does
+  call_takes : (x : Calling XidName) (q : Called XidName) → wanted_by x q.flags ≡ wanted_in q → (old new : Session) (a : Answer) → AllThere old.desk.ledgers → AllThere new.desk.ledgers → Answers x q old.desk old.scan new.desk new.scan a → new.log ≡ old.log → CallTakes settled t q a (part_of old) (part_of new)
+  call_takes (calling.Xa c y) q e old new a was all is same = plain_takes (calling.Xa c y) q refl e old new a was all is same is.1
+  call_takes (calling.Heur x commits) q e old new a was all is same = plain_takes (calling.Heur x commits) q refl e old new a was all is same is.1
+  call_takes (calling.Add k d) q e old new a was all is same = plain_takes (calling.Add k d) q refl e old new a was all is same is.1
+  call_takes calling.Shut q e old new a was all is same = plain_takes calling.Shut q refl e old new a was all is same is.1
+  call_takes (calling.Complete h) q e old new a was all is same = plain_takes (calling.Complete h) q refl e old new a was all is same is.1
+  call_takes (calling.Recover n) q e old new a was all is same = call_lists n (sym e) (lists q n a old new all is same)
+
+  -- and what a commit does
+  commit_takes : (c : CommitAll TranName) (old new : Session) (a : Answer) → ((m : ℕ) → AllSent m old.desk.ledgers) → AllThere new.desk.ledgers → CommitsAll c old new a → CommitTakes t c a (part_of old) (part_of new)
+  commit_takes c old new a sound all (refused why told e) = takes_none told (ap part_of e)
+  commit_takes c old new a sound all (decided done may trace still keeps as_many told rounds appends) =
+      let at = old.desk.ledgers in
+      let at' = new.desk.ledgers in
+      takes_decided done told (record {
+        course = record {
+          seconds = trace.course.seconds;
+          each =
+              branches_at t ops pairs own_entries fits at at' trace.managers sound (λ m. (all m).0) (λ m. (all m).1) done.commit (branches_of c) done.votes.items trace.course.seconds done.endings.items may.room trace.course.each;
+          others = λ m low none_there. same_entries t ops pairs own_entries fits at at' trace.managers sound (λ m. (all m).0) (λ m. (all m).1) m (λ _. trace.course.others m low none_there);
+          decision = trace.course.decision;
+          logs = trace.course.logs;
+        };
+        nowhere = same_entries t ops pairs own_entries fits at at' trace.managers sound (λ m. (all m).0) (λ m. (all m).1) 0 (λ low. absurd (omega (arith, low)));
+        unlogged = not_logged c (managers_in c.managers) old.log.state may.tran may.some may.one may.absent;
+        handles = keeps.kept;
+        scan = still;
+      })
+
+  -- and a resolve
+  resolve_takes : (old new : Session) (a : Answer) → ((m : ℕ) → AllSent m old.desk.ledgers) → AllThere new.desk.ledgers → ResolvesLeft old new a → ResolveTakes t a (part_of old) (part_of new)
+  resolve_takes old new a sound all (left_refused why told e) = ends_none told (ap part_of e)
+  resolve_takes old new a sound all (left_resolved outcomes may trace log still keeps as_many told in_turn) =
+      let at = old.desk.ledgers in
+      let at' = new.desk.ledgers in
+      ends_left outcomes told (record {
+        course = record {
+          at = trace.course.at;
+          outcomes_are = trace.course.outcomes_are;
+          each = λ m within.
+              left_at_entries t ops pairs own_entries fits at at' trace.managers sound (λ m. (all m).0) (λ m. (all m).1) old.log.state.records m (left_at old.scan m) (trace.course.at m) (may.room m within) (trace.course.each m within);
+          others = λ m past. same_entries t ops pairs own_entries fits at at' trace.managers sound (λ m. (all m).0) (λ m. (all m).1) m (λ _. trace.course.others m past);
+        };
+        nowhere = same_entries t ops pairs own_entries fits at at' trace.managers sound (λ m. (all m).0) (λ m. (all m).1) 0 (λ low. absurd (omega (arith, low)));
+        handles = keeps.kept;
+        log = ap (λ (l : LogView). l.state) log;
+        scan = still;
+      })
+
+  executes_takes : (x : ScriptAction) (old new : Session) (a : Answer) → ((m : ℕ) → AllSent m old.desk.ledgers) → AllThere old.desk.ledgers → AllThere new.desk.ledgers → Executes x old new a → Takes settled x t a (part_of old) (part_of new)
+  executes_takes (action.Call q) old new a sound was all is = call_takes q.call q refl old new a was all is.0 is.1
+  executes_takes (action.CommitAll c) old new a sound was all is = commit_takes c old new a sound all is
+  executes_takes action.Resolve old new a sound was all is = resolve_takes old new a sound all is
+
+  -- line by line
+  carried_so_far : (first : State) → ((m : ℕ) → AllSent m first.0.desk.ledgers) → (tasks : List ScriptTask) (last : State) (runs : Chain HasDone first tasks last) → AreOf t tasks → AllThere last.0.desk.ledgers → Chain (TakesPart settled) (part_of first.0) (lines_in first tasks last runs) (part_of last.0)
+  carried_so_far first sound tasks last (none xs l e f) own all = none [] (part_of l.0) refl (ap (λ (s : State). part_of s.0) f)
+  carried_so_far first sound tasks last (more xs x now l before is) own all =
+      let was = there_before now.0.desk.ledgers l.0.desk.ledgers (λ m. does_grow m x.action now.0 l.0 is.answer is.does) all in
+      let sound_now : (m : ℕ) → AllSent m now.0.desk.ledgers = λ m. (runs_grow m first xs now before).below (sound m) in
+      more (lines_in first xs now before) (line x is.answer) (part_of now.0) (part_of l.0) (carried_so_far first sound xs now before (front_of t xs x own) was)
+      (subst (λ u. Takes settled x.action u is.answer (part_of now.0) (part_of l.0)) (sym (last_of t xs x own)) (executes_takes x.action now.0 l.0 is.answer sound_now was all is.does.executes))
+
+  -- all lines, and all entries
+  pub carried_all : (first : State) → ((m : ℕ) → sent_to first.0.desk.ledgers m ≡ []) → ((m : ℕ) → collected_from first.0.desk.ledgers m ≡ []) → first.0.desk.kept ≡ finmap.empty → (tasks : List ScriptTask) (last : State) (runs : Chain HasDone first tasks last) → AreOf t tasks
+      → ((m : ℕ) → sent_to last.0.desk.ledgers m ≡ ops m) → ((m : ℕ) → Begins (collected_from last.0.desk.ledgers m) (pairs m))
+      → Chain (TakesPart settled) (new_part first.0.log.state first.0.scan) (lines_in first tasks last runs) (record { entries = own_entries; handles = last.0.desk.kept; log = last.0.log.state; scan = last.0.scan })
+  carried_all first fresh uncollected unkept tasks last runs own sent collected =
+      let at = last.0.desk.ledgers in
+      let sound : (m : ℕ) → AllSent m first.0.desk.ledgers = λ m k p there. absurd (nothing_there k p (ap (λ l. slice_get l k) (sym (uncollected m)) ∙ there)) in
+      let all = carried_so_far first sound tasks last runs own (λ m. (([], sym (sent m) ∙ sym (append-nil (sent_to at m))), collected m)) in
+      let start : part_of first.0 ≡ new_part first.0.log.state first.0.scan = λ i. record { entries = λ m. take (length (fresh m i)) (own_entries m); handles = unkept i; log = first.0.log.state; scan = first.0.scan } in
+      let whole : (m : ℕ) → entries_so_far at m ≡ own_entries m = λ m.
+      take_all (length (sent_to at m)) (own_entries m) (let sizes = ap (λ l. length l) (sent m) in omega (arith, sizes, many_entries t (ops m) (pairs m) (own_entries m) (fits m))) in
+      subst (λ (p : Part). Chain (TakesPart settled) p (lines_in first tasks last runs) (record { entries = own_entries; handles = last.0.desk.kept; log = last.0.log.state; scan = last.0.scan })) start
+      (subst (λ (p : Part). Chain (TakesPart settled) (part_of first.0) (lines_in first tasks last runs) p) (λ i. record { entries = λ m. whole m i; handles = last.0.desk.kept; log = last.0.log.state; scan = last.0.scan }) all)
+    where
+      nothing_there : (k : ℕ) (p : ℕ × Code) → slice_get [] k ≡ Some p → ⊥
+      nothing_there k p e = cc

@@ -1,0 +1,96 @@
+-- What holds of the desks and the workers that a script has opened.
+use Rattle.std.proofs.Common.{◌≡◌, ℕ, ◌+◌, ◌-◌, zero, suc, Bool, true, false, cond, List, [], ◌∷◌, length, map, Some, sym, refl, ap, ◌∙◌, arith}
+use Rattle.std.specs.Prelude.{slice_get}
+use Rattle.std.specs.List.{range_with_len, slice_index_or}
+use Rattle.std.proofs.lemmas.List.{length-map}
+use Rattle.std.proofs.lemmas.List.FromFn.{length-map-range_with_len, get_or-map-range_with_len}
+use Rattle.std.proofs.lemmas.Option.{slice_get_within, slice_get-get_or}
+use Rattle.xa_desk.specs.DeskView.{DeskView, no_ledger, ledger, is_known, sent_to, collected_from}
+use Rattle.xa_desk.specs.Lanes.{new_ledgers}
+use Rattle.xa_worker.specs.Workers.{WorkerView}
+use Rattle.xa_tables.specs.Tables.{Tables}
+use Rattle.xa_tables.specs.Managers.{opening}
+use Rattle.xa_switch.specs.declared.plan.Plan.{Plan}
+use Rattle.xa_switch.specs.Plans.{Setup, IsSound, planned}
+use Rattle.xa_switch.specs.OpenedPieces.{IsNewDesk, IsNewWorker}
+use Rattle.xa_grammar.specs.Content.{Content, threads_of, managers_of}
+use Rattle.xa_telling.specs.Planning.{IsPlanOf, IsSetupOf, AreOpened, script_says, plan_says}
+use Rattle.xa_transcript.specs.Values.{opened}
+use Rattle.xa_base.proofs.Lists.{some_same}
+
+-- ---- the desks
+
+fresh_sent : (plan : ℕ) (flags : List Bool) (i : ℕ) → (slice_index_or (new_ledgers plan flags) i no_ledger).sent ≡ []
+fresh_sent plan [] i = refl
+fresh_sent plan (b ∷ flags) zero = refl
+fresh_sent plan (b ∷ flags) (suc i) = fresh_sent plan flags i
+
+none_either : {X : Type 0} (b : Bool) (l : List X) → l ≡ [] → cond b l [] ≡ []
+none_either true l e = e
+none_either false l e = refl
+
+-- nothing was sent to any manager
+pub new_sent : (plan : ℕ) (flags : List Bool) (m : ℕ) → sent_to (new_ledgers plan flags) m ≡ []
+new_sent plan flags m = none_either (is_known (new_ledgers plan flags) m) (ledger (new_ledgers plan flags) m).sent (fresh_sent plan flags (m - 1))
+
+fresh_collected : (plan : ℕ) (flags : List Bool) (i : ℕ) → (slice_index_or (new_ledgers plan flags) i no_ledger).collected ≡ []
+fresh_collected plan [] i = refl
+fresh_collected plan (b ∷ flags) zero = refl
+fresh_collected plan (b ∷ flags) (suc i) = fresh_collected plan flags i
+
+-- nor collected from it
+pub new_collected : (plan : ℕ) (flags : List Bool) (m : ℕ) → collected_from (new_ledgers plan flags) m ≡ []
+new_collected plan flags m = none_either (is_known (new_ledgers plan flags) m) (ledger (new_ledgers plan flags) m).collected (fresh_collected plan flags (m - 1))
+
+pub opened_threads : (s : Content) (n : ℕ) (tables : ℕ → Tables) (desks : List DeskView) (workers : List WorkerView) → AreOpened s n tables desks workers → length desks ≡ threads_of s
+opened_threads s n tables desks workers is = is.opened.threads ∙ is.said.numbers.threads
+
+pub opened_managers : (s : Content) (n : ℕ) (tables : ℕ → Tables) (desks : List DeskView) (workers : List WorkerView) → AreOpened s n tables desks workers → length workers ≡ managers_of s
+opened_managers s n tables desks workers is = is.opened.managers ∙ is.said.managers
+
+-- the desk at place k is that of thread k + 1
+pub opened_thread : (s : Content) (n : ℕ) (tables : ℕ → Tables) (desks : List DeskView) (workers : List WorkerView) → AreOpened s n tables desks workers → (k : ℕ) (d : DeskView) → slice_get desks k ≡ Some d → d.thread ≡ k + 1
+opened_thread s n tables desks workers is k d at = let new : IsNewDesk is.setup k d = is.opened.desks k d at in ap (λ (x : DeskView). x.thread) new.made
+
+-- ---- the workers
+
+-- what stands at a place of a list over the managers
+pub over_managers : {A : Type 0} (f : ℕ → A) (many k : ℕ) (x : A) → slice_get (map f (range_with_len 1 many)) k ≡ Some x → x ≡ f (k + 1)
+over_managers f many k x at =
+    let list = map f (range_with_len 1 many) in
+    let within = slice_get_within list k x at in
+    let size = length-map-range_with_len f 1 many in
+    some_same x (slice_index_or list k x) (sym at ∙ slice_get-get_or list k x within) ∙ get_or-map-range_with_len f 1 many k (k + 1) x (omega (arith, within, size)) (omega arith)
+
+pub opened_first : (s : Content) (n : ℕ) (tables : ℕ → Tables) (p : Setup) → IsSetupOf s n tables p → (k : ℕ) (w : WorkerView) → IsNewWorker p k w → w.first ≡ tables (k + 1)
+opened_first s n tables p is k w new =
+    ap (λ (x : WorkerView). x.first) new.made ∙ over_managers tables (managers_of s) k new.first (ap (λ l. slice_get l k) (sym is.first) ∙ new.begins)
+
+-- ---- the first opening
+
+pub map_map : {A B C : Type 0} (f : B → C) (g : A → B) (xs : List A) → map f (map g xs) ≡ map (λ x. f (g x)) xs
+map_map f g [] = refl
+map_map f g (x ∷ xs) = ap (λ l. f (g x) ∷ l) (map_map f g xs)
+
+says_many : (s : Content) (p : Plan) → IsPlanOf s p → length p.managers.items ≡ managers_of s
+says_many s p is =
+    let same : length (map plan_says p.managers.items) ≡ managers_of s = ap (λ l. length l) is.managers ∙ length-map-range_with_len (script_says s) 1 (managers_of s) in
+    rw length-map at same
+
+-- what is made by the script's plan is what the script says
+pub planned_setup : (s : Content) (p : Plan) → IsPlanOf s p → IsSound p → IsSetupOf s 1 (opened s) (planned p)
+planned_setup s p is sound =
+    let range = range_with_len 1 (managers_of s) in
+    record {
+      numbers = is.numbers;
+      managers = says_many s p is;
+      use_async =
+          sym (map_map (λ (a : Bool × List (List ℕ × ℕ)). a.0) plan_says p.managers.items)
+          ∙ ap (map (λ (a : Bool × List (List ℕ × ℕ)). a.0)) is.managers
+          ∙ map_map (λ (a : Bool × List (List ℕ × ℕ)). a.0) (script_says s) range;
+      first =
+          sym (map_map (λ (a : Bool × List (List ℕ × ℕ)). opening a.1) plan_says p.managers.items)
+          ∙ ap (map (λ (a : Bool × List (List ℕ × ℕ)). opening a.1)) is.managers
+          ∙ map_map (λ (a : Bool × List (List ℕ × ℕ)). opening a.1) (script_says s) range;
+      limits = sound.limits;
+    }

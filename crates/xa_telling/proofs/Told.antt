@@ -1,0 +1,285 @@
+-- What the threads and the managers of a run tell once they are settled.
+use Rattle.std.proofs.Common.{◌≡◌, ◌≢◌, ℕ, ◌+◌, ◌-◌, ◌<◌, ◌≤◌, ⊎_elim, zero, suc, List, [], ◌∷◌, length, map, Some, None, option_map, sym, refl, ap, ◌∙◌, subst, arith, ◌++◌, Option, inl, inr}
+use Rattle.std.specs.Prelude.{slice_get}
+use Rattle.std.specs.List.{range_with_len, slice_index_or}
+use Rattle.std.specs.FinMap as finmap
+use Rattle.std.specs.Ordering.{nat_cmp}
+use Rattle.std.proofs.lemmas.Bool.{cases_lt}
+use Rattle.std.proofs.lemmas.List.{length-map}
+use Rattle.std.proofs.lemmas.List.Elements.{All-nil}
+use Rattle.std.proofs.lemmas.Option.{slice_get-map, slice_get_within, slice_get_past, slice_get_cases}
+use Rattle.xa_base.proofs.Options.{not_both}
+use Rattle.xa_desk.proofs.Ledgers.{nobody_sent}
+use Rattle.xa_desk.specs.LedgerView.{LedgerView}
+use Rattle.xa_desk.specs.DeskView.{DeskView, sent_to, collected_from}
+use Rattle.xa_desk.specs.Ended.{EndedView}
+use Rattle.xa_desk.specs.Lanes.{new_ledgers}
+use Rattle.xa_worker.specs.Workers.{WorkerView}
+use Rattle.xa_worker.specs.Done.{Served}
+use Rattle.xa_crew.specs.Pieces.{HasServed}
+use Rattle.xa_switch.specs.Plans.{Setup}
+use Rattle.xa_switch.specs.OpenedPieces.{IsNewDesk, IsNewWorker}
+use Rattle.xa_switch.specs.Belonging.{DeskSeat, seat_of_desk}
+use Rattle.xa_switch.specs.Settling.{Settling, ThreadPart, ManagerPart, IsSettled, find_thread, ledgers_in, sent, collected, journal}
+use Rattle.xa_switch.specs.Closing.{thread_part, manager_part, settling}
+use Rattle.xa_driver.specs.Log.{LogState}
+use Rattle.xa_grammar.specs.Steps.{ScriptTask, ScriptStep}
+use Rattle.xa_grammar.specs.Content.{Content, tasks_of, threads_of, managers_of}
+use Rattle.xa_session.specs.declared.session.Session.{Session}
+use Rattle.xa_transcript.specs.declared.answer.Told.{Told}
+use Rattle.xa_base.specs.Lists.{Begins, Chain}
+use Rattle.xa_base.specs.Lists.Chain.{none, more}
+use Rattle.xa_session.specs.Sessions.{HasDone}
+use Rattle.xa_telling.specs.Runs.{Comes, Ran}
+use Rattle.xa_transcript.specs.Values.{AreOfScript}
+use Rattle.xa_telling.specs.ToldOpenings.{Beginning, TellsOf, part_at}
+use Rattle.xa_telling.specs.Journals.{answers_to, entries_of, TakesPart, AreLeft, AreCarriedOut}
+use Rattle.xa_telling.specs.Parts.{Part, HasCode, new_part}
+use Rattle.xa_telling.proofs.Left.{HaveEnded, numbers_ended}
+use Rattle.xa_crew.specs.Ending.{EndsDesk}
+use Rattle.xa_words.specs.declared.code.Code.{Code}
+use Rattle.xa_words.specs.declared.request.Op.{Op}
+use Rattle.xa_desk.specs.declared.operation.Operation.{Operation}
+use Rattle.xa_base.proofs.Lists.{got, find_numbered, find_none, was_mapped}
+use Rattle.xa_telling.proofs.Opened.{opened_threads, opened_managers, opened_first, opened_thread, new_sent, new_collected}
+use Rattle.xa_telling.proofs.Sent.{ending_collects}
+use Rattle.xa_telling.proofs.Entries.{Fits as Agrees, agreed_fits, no_entries, pair_there}
+use Rattle.xa_telling.proofs.Lines.{lines_in, tasks_in, answers_in, carried_all}
+use Rattle.xa_telling.proofs.Tasks.{tasks_are_of, no_tasks}
+
+-- ---- as a thread goes on
+
+runs_go : (first : Session × List Told) (tasks : List ScriptTask) (last : Session × List Told) → Chain HasDone first tasks last → seat_of_desk last.0.desk ≡ seat_of_desk first.0.desk
+runs_go first tasks last (none xs l e f) = ap (λ (s : Session × List Told). seat_of_desk s.0.desk) f
+runs_go first tasks last (more xs x now l before is) = is.does.goes_on.seat ∙ runs_go first xs now before
+
+-- ---- what is left at the end
+
+-- what was kept after the last task was collected with the codes that the journals have
+are_left : (settled : Settling) (t : ℕ) (last : DeskView) (e : EndedView) (outstanding : List (ℕ × Code)) → EndsDesk last [] e outstanding
+    → (ops : ℕ → List Op) (pairs : ℕ → List (ℕ × Code)) → ((m : ℕ) → Agrees t (ops m) (pairs m) (entries_of t (journal settled m)))
+    → ((m : ℕ) → pairs m ≡ collected_from e.ledgers m) → AreLeft settled t last.kept outstanding
+are_left settled t last e outstanding is ops pairs fits collected =
+    let h : HaveEnded last.handles last is.emptied outstanding = numbers_ended last (range_with_len 1 last.handles) (is.emptied, outstanding) is.collects last.handles refl in
+    record {
+      coded = λ k d below.
+          let one = h.coded k d below in
+          let m = one.0.manager in
+          let all : Begins (one.2 ++ (one.0.number, (slice_index_or outstanding k d).1) ∷ []) (pairs m) =
+          subst (Begins (one.2 ++ (one.0.number, (slice_index_or outstanding k d).1) ∷ [])) (ap (λ (at : List LedgerView). collected_from at m) (sym is.ends.ledgers) ∙ sym (collected m)) one.3 in
+          (one.0, one.1, (fits m).coded (length one.2) (one.0.number, (slice_index_or outstanding k d).1) (pair_there (pairs m) one.2 (one.2 ++ (one.0.number, (slice_index_or outstanding k d).1) ∷ []) one.0.number (slice_index_or outstanding k d).1 refl all));
+      all = λ k o at. elim (cases_lt 0 k) [
+        | inr none_low ↦ absurd (not_both (finmap.get is.emptied.kept k) o (is.none k) (h.others k (λ within. let low = within.0 in omega (arith, low, none_low)) ∙ at))
+        | inl low ↦ elim (cases_lt last.handles k) [
+          | inl past ↦ absurd (not_both (finmap.get is.emptied.kept k) o (is.none k) (h.others k (λ within. let high = within.1 in omega (arith, high, past)) ∙ at))
+          | inr high ↦ h.all k o (omega (arith, low)) high at
+        ]
+      ];
+      rising = h.rising;
+    }
+
+-- ---- logs
+
+abbrev log_in : LogState → Option Session → LogState
+log_in log None = log
+log_in log (Some x) = x.log.state
+
+-- the log of thread t after an opening that began so and left these threads
+abbrev pub log_left : Beginning → List Session → ℕ → LogState
+log_left b left zero = b.logs zero
+log_left b left (suc k) = log_in (b.logs (suc k)) (slice_get left k)
+
+pub log_there : (b : Beginning) (left : List Session) (k : ℕ) (x : Session) → slice_get left k ≡ Some x → x.log.state ≡ log_left b left (suc k)
+log_there b left k x at = sym (ap (log_in (b.logs (suc k))) at)
+
+no_log_there : (b : Beginning) (left : List Session) (k : ℕ) → length left ≤ k → b.logs (suc k) ≡ log_left b left (suc k)
+no_log_there b left k past = sym (ap (log_in (b.logs (suc k))) (slice_get_past left k past))
+
+module _ (s : Content) (b : Beginning) (steps : List ScriptStep) (answers : List Told) (sessions left : List Session) (workers : List WorkerView) (ended : List EndedView) (done : List Served)
+    (r : Ran s b steps answers sessions left workers ended done) where
+  abbrev setup : Setup
+  setup = r.opened.setup
+
+  -- what an ended desk has of its thread and its lane
+  comes_thread : (x y : Session) (e : EndedView) → Comes steps answers x y e → e.thread ≡ x.desk.thread
+  comes_thread x y e c =
+      c.ends.ends.thread
+      ∙ ap (λ (x : DeskSeat). x.thread) (c.ends.goes_on.seat ∙ runs_go (x, []) (tasks_of x.desk.thread steps) (y, answers_to x.desk.thread answers) c.runs)
+
+  -- the thread of an ended desk, and the opened worker of one that has run
+  thread_of_ended : (k : ℕ) (e : EndedView) → slice_get ended k ≡ Some e → (x : Session) × (slice_get sessions k ≡ Some x) × (y : Session) × Comes steps answers x y e
+  thread_of_ended k e at =
+      let within = slice_get_within ended k e at in
+      let many = r.many_ended in
+      let as_many = r.many_left in
+      let x = got sessions k (omega (arith, within, many)) in
+      let y = got left k (omega (arith, within, many, as_many)) in
+      (x.0, x.1, y.0, r.threads k x.0 y.0 e x.1 y.1 at)
+
+  worker_of : (k : ℕ) (d : Served) → slice_get done k ≡ Some d → (w : WorkerView) × (slice_get workers k ≡ Some w) × HasServed w d
+  worker_of k d at =
+      let within = slice_get_within done k d at in
+      let many = r.managers.as_many in
+      let w = got workers k (omega (arith, within, many)) in
+      (w.0, w.1, r.managers.each k w.0 d w.1 at)
+
+  desk_at : (k : ℕ) (x : Session) → slice_get sessions k ≡ Some x → slice_get (map (λ (x : Session). x.desk) sessions) k ≡ Some x.desk
+  desk_at k x at = slice_get-map (λ (x : Session). x.desk) sessions k ∙ ap (option_map (λ (x : Session). x.desk)) at
+
+  pub new_desk_at : (k : ℕ) (x : Session) → slice_get sessions k ≡ Some x → IsNewDesk setup k x.desk
+  new_desk_at k x at = r.opened.opened.desks k x.desk (desk_at k x at)
+
+  new_worker_at : (k : ℕ) (w : WorkerView) → slice_get workers k ≡ Some w → IsNewWorker setup k w
+  new_worker_at k w at = r.opened.opened.workers k w at
+
+  thread_at : (k : ℕ) (x : Session) → slice_get sessions k ≡ Some x → x.desk.thread ≡ k + 1
+  thread_at k x at = opened_thread s b.opening b.tables (map (λ (x : Session). x.desk) sessions) workers r.opened k x.desk (desk_at k x at)
+
+  ended_thread : (k : ℕ) (e : EndedView) → slice_get ended k ≡ Some e → e.thread ≡ k + 1
+  ended_thread k e at = let x = thread_of_ended k e at in comes_thread x.0 x.2 e x.3 ∙ thread_at k x.0 x.1
+
+  done_number : (k : ℕ) (d : Served) → slice_get done k ≡ Some d → d.number ≡ k + 1
+  done_number k d at = let w = worker_of k d at in let new = new_worker_at k w.0 w.1 in w.2.same.number ∙ ap (λ (x : WorkerView). x.number) new.made
+
+  -- the managers of the settled opening are the script's
+  pub of_script : AreOfScript s b.tables (map manager_part done)
+  of_script = record {
+    many = length-map done manager_part ∙ r.managers.as_many ∙ opened_managers s b.opening b.tables (map (λ (x : Session). x.desk) sessions) workers r.opened;
+    numbers = λ k p at. let d = was_mapped manager_part done k p at in ap (λ (x : ManagerPart). x.number) (sym d.2) ∙ done_number k d.0 d.1;
+    first = λ k p at.
+        let d = was_mapped manager_part done k p at in
+        let w = worker_of k d.0 d.1 in
+        ap (λ (x : ManagerPart). x.first) (sym d.2) ∙ w.2.same.first ∙ opened_first s b.opening b.tables setup r.opened.said k w.0 (new_worker_at k w.0 w.1);
+  }
+
+  -- ---- what is carried out
+
+  found_thread : (k : ℕ) (e : EndedView) → slice_get ended k ≡ Some e → find_thread (k + 1) (map thread_part ended) ≡ Some (thread_part e)
+  found_thread k e at =
+      let place : 0 + k + 1 ≡ k + 1 = omega arith in
+      ap (λ n. find_thread n (map thread_part ended)) (sym place)
+      ∙ find_numbered (λ (p : ThreadPart). p.thread) 0 (map thread_part ended) (λ j p at_p. let f = was_mapped thread_part ended j p at_p in let thread = ended_thread j f.0 f.1 in let same = ap (λ (x : ThreadPart). x.thread) f.2 in omega (arith, thread, same)) k (thread_part e)
+      (slice_get-map thread_part ended k ∙ ap (option_map thread_part) at)
+
+  no_thread : (t : ℕ) → ((k : ℕ) (x : Session) → slice_get sessions k ≡ Some x → x.desk.thread ≢ t) → find_thread t (map thread_part ended) ≡ None
+  no_thread t none_there =
+      find_none (λ (p : ThreadPart). p.thread) t (map thread_part ended) (λ k p at same.
+      let e = was_mapped thread_part ended k p at in
+      let x = thread_of_ended k e.0 e.1 in
+      let there = thread_at k x.0 x.1 in
+      let thread = ended_thread k e.0 e.1 in
+      let own = ap (λ (x : ThreadPart). x.thread) e.2 in
+      none_there k x.0 x.1 (omega (arith, there, thread, own, same)))
+
+  module _ (is : IsSettled (settling ended done)) where
+    abbrev settled : Settling
+    settled = settling ended done
+
+    fresh : (k : ℕ) (x : Session) (m : ℕ) → slice_get sessions k ≡ Some x → sent_to x.desk.ledgers m ≡ []
+    fresh k x m at =
+        let new = new_desk_at k x at in
+        let ledgers : x.desk.ledgers ≡ new_ledgers setup.numbers.requests setup.use_async = ap (λ (d : DeskView). d.ledgers) new.made in
+        ap (λ (l : List LedgerView). sent_to l m) ledgers ∙ new_sent setup.numbers.requests setup.use_async m
+
+    uncollected : (k : ℕ) (x : Session) (m : ℕ) → slice_get sessions k ≡ Some x → collected_from x.desk.ledgers m ≡ []
+    uncollected k x m at =
+        let new = new_desk_at k x at in
+        let ledgers : x.desk.ledgers ≡ new_ledgers setup.numbers.requests setup.use_async = ap (λ (d : DeskView). d.ledgers) new.made in
+        ap (λ (l : List LedgerView). collected_from l m) ledgers ∙ new_collected setup.numbers.requests setup.use_async m
+
+    unkept : (k : ℕ) (x : Session) → slice_get sessions k ≡ Some x → x.desk.kept ≡ finmap.empty
+    unkept k x at = let new = new_desk_at k x at in ap (λ (d : DeskView). d.kept) new.made
+
+    -- with the log that it has after them
+    abbrev Carried : ℕ → Type 0
+    Carried t = (c : AreCarriedOut steps answers settled t (part_at b t)) × (c.log ≡ log_left b left t)
+
+    -- of a thread that there is
+    thread_carried : (k : ℕ) (x : Session) → slice_get sessions k ≡ Some x → Carried (suc k)
+    thread_carried k x at =
+        let within = slice_get_within sessions k x at in
+        let many = r.many_ended in
+        let as_many = r.many_left in
+        let e = got ended k (omega (arith, within, many)) in
+        let y = got left k (omega (arith, within, as_many)) in
+        let c : Comes steps answers x y.0 e.0 = r.threads k x y.0 e.0 at y.1 e.1 in
+        let own = thread_at k x at in
+        let t : x.desk.thread ≡ suc k = omega (arith, own) in
+        let begins = r.begins k x at in
+        let next : k + 1 ≡ suc k = omega arith in
+        let found : find_thread x.desk.thread (map thread_part ended) ≡ Some (thread_part e.0) = ap (λ n. find_thread n (map thread_part ended)) own ∙ found_thread k e.0 e.1 in
+        let sent_so : (m : ℕ) → sent settled x.desk.thread m ≡ sent_to e.0.ledgers m = λ m. ap (λ o. sent_to (ledgers_in o) m) found in
+        let collected_so : (m : ℕ) → collected settled x.desk.thread m ≡ collected_from e.0.ledgers m = λ m. ap (λ o. collected_from (ledgers_in o) m) found in
+        let fits : (m : ℕ) → Agrees x.desk.thread (sent settled x.desk.thread m) (collected settled x.desk.thread m) (entries_of x.desk.thread (journal settled m)) = λ m. agreed_fits x.desk.thread (sent settled x.desk.thread m) (collected settled x.desk.thread m) (journal settled m) (is.agree x.desk.thread m) in
+        let tasks = tasks_of x.desk.thread steps in
+        let last : Session × List Told = (y.0, answers_to x.desk.thread answers) in
+        let log : x.log.state ≡ b.logs (suc k) = begins.log ∙ ap b.logs next in
+        let scan : x.scan ≡ b.scans (suc k) = begins.scan ∙ ap b.scans next in
+        let chain =
+        let ends = ending_collects y.0.desk [] e.0 c.outstanding c.ends in
+        carried_all settled x.desk.thread (sent settled x.desk.thread) (collected settled x.desk.thread) fits (x, []) (λ m. fresh k x m at) (λ m. uncollected k x m at) (unkept k x at)
+        tasks last c.runs (tasks_are_of x.desk.thread steps) (λ m. sym (ends m).1 ∙ sym (sent_so m))
+        (λ m. subst (Begins (collected_from y.0.desk.ledgers m)) (sym (collected_so m)) (ends m).0.collected) in
+        subst (λ (u : ℕ). (c : AreCarriedOut steps answers settled u (part_at b (suc k))) × (c.log ≡ log_left b left (suc k))) t (
+          record {
+            lines = lines_in (x, []) tasks last c.runs;
+            tasks = tasks_in (x, []) tasks last c.runs;
+            told = answers_in (x, []) tasks last c.runs refl;
+            left = y.0.desk.kept;
+            log = y.0.log.state;
+            scan = y.0.scan;
+            carried = subst (λ (p : Part). Chain (TakesPart settled) p (lines_in (x, []) tasks last c.runs) (record { entries = λ m. entries_of x.desk.thread (journal settled m); handles = y.0.desk.kept; log = y.0.log.state; scan = y.0.scan })) (λ i. new_part (log i) (scan i)) chain;
+            outstanding = c.outstanding;
+            are_left = are_left settled x.desk.thread y.0.desk e.0 c.outstanding c.ends (sent settled x.desk.thread) (collected settled x.desk.thread) fits collected_so;
+            ends = c.told;
+          },
+          log_there b left k y.0 y.1,
+        )
+
+    -- of one that there isn't
+    other_carried : (t : ℕ) → ((k : ℕ) (x : Session) → slice_get sessions k ≡ Some x → x.desk.thread ≢ t) → b.logs t ≡ log_left b left t → Carried t
+    other_carried t none_there log =
+        let silent = no_tasks t (threads_of s) (managers_of s) steps r.fits (λ low high.
+        let many = opened_threads s b.opening b.tables (map (λ (x : Session). x.desk) sessions) workers r.opened in
+        let as_many = length-map sessions (λ (x : Session). x.desk) in
+        let x = got sessions (t - 1) (omega (arith, low, high, many, as_many)) in
+        let thread = thread_at (t - 1) x.0 x.1 in
+        none_there (t - 1) x.0 x.1 (omega (arith, thread, low))) in (
+          record {
+            lines = [];
+            tasks = sym silent;
+            told = sym (r.others t none_there silent).0;
+            left = finmap.empty;
+            log = b.logs t;
+            scan = b.scans t;
+            carried =
+                let nothing_there : (m : ℕ) → entries_of t (journal settled m) ≡ [] = λ m.
+                let nothing_sent : sent settled t m ≡ [] = ap (λ o. sent_to (ledgers_in o) m) (no_thread t none_there) ∙ nobody_sent m in
+                let fits = agreed_fits t (sent settled t m) (collected settled t m) (journal settled m) (is.agree t m) in
+                no_entries t (collected settled t m) (entries_of t (journal settled m)) (subst (λ ops. Agrees t ops (collected settled t m) (entries_of t (journal settled m))) nothing_sent fits) in
+                none [] (record { entries = λ m. entries_of t (journal settled m); handles = finmap.empty; log = b.logs t; scan = b.scans t }) refl (λ i. record { entries = λ m. nothing_there m i; handles = finmap.empty; log = b.logs t; scan = b.scans t });
+            outstanding = [];
+            are_left = record {
+              coded = All-nil (λ (x : ℕ × Code). (o : Operation) × (finmap.get finmap.empty x.0 ≡ Some o) × HasCode settled t o x.1);
+              all = λ k o at. absurd (not_both (finmap.get finmap.empty k) o (finmap.get-empty nat_cmp k) at);
+              rising = λ i j d below within. absurd (omega (arith, within));
+            };
+            ends = (r.others t none_there silent).1;
+          },
+          log,
+        )
+
+    -- of each
+    pub all_carried : (t : ℕ) → Carried t
+    all_carried zero = other_carried 0 (λ k x at same. let thread = thread_at k x at in omega (arith, thread, same)) refl
+    all_carried (suc k) =
+        ⊎_elim
+        (λ (h : (x : Session) × (k < length sessions) × (slice_get sessions k ≡ Some x) × (slice_index_or sessions k x ≡ x)). thread_carried k h.0 h.2)
+        (λ (h : (length sessions ≤ k) × (slice_get sessions k ≡ None)).
+        other_carried (suc k) (λ j x at same. let within = slice_get_within sessions j x at in let thread = thread_at j x at in let past = h.0 in omega (arith, within, thread, past, same))
+        (let past = h.0 in let as_many = r.many_left in no_log_there b left k (omega (arith, past, as_many))))
+        (slice_get_cases sessions k).1
+
+  -- what the answers tell
+  pub tells : IsSettled (settling ended done) → TellsOf s b (record { steps = steps; answers = answers; settled = settling ended done })
+  tells is = record { agree = is; managers = of_script; carried = λ t. (all_carried is t).0 }

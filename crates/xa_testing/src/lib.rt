@@ -1,0 +1,17 @@
+//! What tests and checks share: a plan, an opening that runs in one thread, the pieces that it leaves, streams that
+//! fail, and a flag between two threads.
+//!
+//! Nothing here ends the process: what doesn't come is `None`, and a test says what it then has to say.
+#![tactic(auto)]
+
+mod flag;
+mod opened;
+mod pieces;
+mod plan;
+mod streams;
+
+pub use flag::comes;
+pub use opened::{open, open_again};
+pub use pieces::{end, one, run_all, two};
+pub use plan::plan_of;
+pub use streams::{Failing, Refusing};

@@ -1,0 +1,10 @@
+use Rattle.std.proofs.Common.{◌≡◌, ◌++◌, length, take}
+use Rattle.std.specs.Prelude.{codes, decimal}
+use Rattle.std.specs.List.{flat_map}
+use Rattle.xa_transcript.specs.Text.{xid_text}
+use Rattle.xa_transcript.proofs.text.put_listed.Given as goal
+
+-- how many, and the first of them
+abbrev pub invariant-loop-xid : goal.invariant-loop-xid
+invariant-loop-xid l =
+    l.out.items ≡ (l.fn.out.items ++ decimal (length l.xids)) ++ flat_map (λ x. codes " " ++ xid_text x) (take l.xid-index l.xids)
