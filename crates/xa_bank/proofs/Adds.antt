@@ -1,6 +1,7 @@
 -- A leg that worked has added its delta by the place of its branch's Prepare.
 use Rattle.std.specs.Prelude.{ℤ, pos, if◌then◌else◌}
-use Rattle.std.proofs.Common.{◌≡◌, ◌≢◌, ℕ, suc, ◌+◌, true, false, ◌&&◌, ◌==◌, cond, List, [], ◌∷◌, ◌++◌, length, length-append, append_assoc, get_or, slice_get, sym, refl, ap, ◌∙◌, subst, arith, Some, eq-eqb}
+use Rattle.std.proofs.Common.{◌≡◌, ◌≢◌, ℕ, suc, ◌+◌, true, false, ◌&&◌, ◌==◌, cond, List, [], ◌∷◌, ◌++◌, length, length-append, append_assoc, get_or, slice_get}
+use Rattle.std.proofs.Common.{sym, refl, ap, ◌∙◌, subst, arith, Some, eq-eqb}
 use Rattle.std.specs.List.{All}
 use Rattle.std.proofs.lemmas.Bool.{ne_eqb, eq-eqb}
 use Rattle.std.proofs.lemmas.List.Elements.{All-tail, filter-append}
@@ -25,10 +26,11 @@ use Rattle.xa_desk.specs.Lanes.{numbered}
 use Rattle.xa_worker.specs.Journal.{Entry}
 use Rattle.xa_switch.specs.Settling.{Settling, IsSettled, sent, journal, answers}
 use Rattle.xa_switch.specs.Fates.{IsOpenedWith, history}
-use Rattle.xa_driver.specs.Conservation.{taken_before}
-use Rattle.xa_driver.specs.Outcomes.{IsBetween}
-use Rattle.xa_driver.proofs.Moves.{all_earlier}
-use Rattle.xa_driver.proofs.Placing.{request_of, Parted, part, all_others, answer_at, numbered_both, numbered_length}
+use Rattle.xa_atomicity.specs.Conservation.{taken_before}
+use Rattle.xa_atomicity.specs.Outcomes.{IsBetween}
+use Rattle.xa_atomicity.proofs.Requests.{all_earlier}
+use Rattle.xa_atomicity.proofs.Placing.{request_of, Parted, part, all_others, answer_at, numbered_both}
+use Rattle.xa_driver.proofs.Ledgers.{numbered_length}
 use Rattle.xa_bank.proofs.Told.{NamedWithin}
 
 -- ---- what was taken before a request of the thread
@@ -45,7 +47,8 @@ taken_here t n last q h own number =
     record { rest = q ∷ h; place = sym (ap (λ l. l ++ q ∷ h) none); own = ap (of_thread t) none }
 
 -- it is another one of the thread
-taken_own : (t n last : ℕ) (op : Op) (ops : List Op) (q : Request) (h : History) → (q.thread == t) ≡ true → (q.number == last) ≡ false → q ≡ request_of t n op → Taken t (suc n) ops last h → Taken t n (op ∷ ops) last (q ∷ h)
+taken_own : (t n last : ℕ) (op : Op) (ops : List Op) (q : Request) (h : History) → (q.thread == t) ≡ true → (q.number == last) ≡ false → q ≡ request_of t n op
+    → Taken t (suc n) ops last h → Taken t n (op ∷ ops) last (q ∷ h)
 taken_own t n last op ops q h own number head z =
     let more : taken_before t last (q ∷ h) ≡ q ∷ taken_before t last h = λ i. if own i && number i then [] else q ∷ taken_before t last h in
     let X : History = taken_before t last h in
@@ -66,7 +69,8 @@ taken_other t n last ops q h other z =
       own = ap (of_thread t) more ∙ ap (λ b. cond b (q ∷ of_thread t X) (of_thread t X)) other ∙ z.own;
     }
 
-taken : (t : ℕ) (h : History) (n : ℕ) (ops more : List Op) (last : ℕ) → last ≡ n + length ops → of_thread t h ≡ numbered t n (ops ++ more) → Taken t n ops last h
+taken : (t : ℕ) (h : History) (n : ℕ) (ops more : List Op) (last : ℕ) → last ≡ n + length ops → of_thread t h ≡ numbered t n (ops ++ more)
+    → Taken t n ops last h
 taken t [] n [] more last is e = record { rest = []; place = refl; own = refl }
 taken t [] n (op ∷ ops) more last is e = cc
 taken t (q ∷ h) n ops more last is e =
@@ -91,7 +95,8 @@ taken t (q ∷ h) n ops more last is e =
 
 -- ---- what a request was answered
 
-code_is : (t : ℕ) (before after : History) (r : Request) (T : Tables) (entries : List Entry) (a : ℕ) (c : Code) → entries ≡ coded (before ++ r ∷ after) T → r.thread ≡ t → length (of_thread t before) ≡ a
+code_is : (t : ℕ) (before after : History) (r : Request) (T : Tables) (entries : List Entry) (a : ℕ) (c : Code) → entries ≡ coded (before ++ r ∷ after) T
+    → r.thread ≡ t → length (of_thread t before) ≡ a
     → slice_get (answers t entries) a ≡ Some (a, c) → (next r.thread r.op (tables_after before T)).1 ≡ c
 code_is t before after r T entries a c is own count got =
     let e : Some (r.number, (next r.thread r.op (tables_after before T)).1) ≡ Some (a, c) =
@@ -100,7 +105,8 @@ code_is t before after r T entries a c is own count got =
 
 -- ---- a leg's work
 
-module _ (s : Settling) (settled : IsSettled s) (t m b : ℕ) (T : Tables) (with_T : IsOpenedWith s m T) (x : XidName) (k : List ℕ) (d : ℤ) (pre rest : List Op) (last : ℕ) (many : last ≡ length pre + 3)
+module _ (s : Settling) (settled : IsSettled s) (t m b : ℕ) (T : Tables) (with_T : IsOpenedWith s m T) (x : XidName) (k : List ℕ) (d : ℤ) (pre rest : List Op)
+    (last : ℕ) (many : last ≡ length pre + 3)
     (split : sent s t m ≡ (pre ++ Start x Fresh ∷ Add k d ∷ End x Success ∷ []) ++ rest) (named : NamedWithin s m x t (length pre) b)
     (started : slice_get (answers t (journal s m)) (length pre) ≡ Some (length pre, Done)) (added : slice_get (answers t (journal s m)) (length pre + 1) ≡ Some (length pre + 1, Done)) where
   abbrev H : History
@@ -125,7 +131,8 @@ module _ (s : Settling) (settled : IsSettled s) (t m b : ℕ) (T : Tables) (with
   R q = names x q.op ≡ true → IsBetween t (length pre) b q
 
   all_taken : Taken t 0 (pre ++ work) last H
-  all_taken = taken t H 0 (pre ++ work) rest last (let e = length-append pre work in omega (arith, e, many)) ((settled.agree t m).carried ∙ ap (numbered t 0) split)
+  all_taken =
+      taken t H 0 (pre ++ work) rest last (let e = length-append pre work in omega (arith, e, many)) ((settled.agree t m).carried ∙ ap (numbered t 0) split)
 
   abbrev P : History
   P = taken_before t last H
@@ -227,5 +234,6 @@ module _ (s : Settling) (settled : IsSettled s) (t m b : ℕ) (T : Tables) (with
   }
 
   -- so it has added d by then
-  pub leg_adds : ((t n : ℕ) (x : XidName) (k : List ℕ) (d : ℤ) (h : History) (T : Tables) → IsOpening T → AddsAsItWorks t n x k d T h) → added_by_now x (pos 0) (taken_before t last H) T ≡ d
+  pub leg_adds : ((t n : ℕ) (x : XidName) (k : List ℕ) (d : ℤ) (h : History) (T : Tables) → IsOpening T → AddsAsItWorks t n x k d T h)
+      → added_by_now x (pos 0) (taken_before t last H) T ≡ d
   leg_adds law = law t (length pre) x k d P T with_T.opened work_done

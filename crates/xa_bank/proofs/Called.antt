@@ -1,5 +1,6 @@
 -- The work for two legs by synchronous calls, one after the other.
-use Rattle.std.proofs.Common.{◌≡◌, ◌≢◌, ℕ, ◌+◌, Bool, true, false, ◌&&◌, ℤ, List, [], ◌∷◌, ◌++◌, length, length-append, sym, refl, ap, ◌∙◌, subst, arith, Option, Some, None, w32, of_z, ◌==◌}
+use Rattle.std.proofs.Common.{◌≡◌, ◌≢◌, ℕ, ◌+◌, Bool, true, false, ◌&&◌, ℤ, List, [], ◌∷◌, ◌++◌, length, length-append, sym, refl, ap, ◌∙◌, subst, arith}
+use Rattle.std.proofs.Common.{Option, Some, None, w32, of_z, ◌==◌}
 use Rattle.std.specs.Prelude.{option_map, Ok}
 use Rattle.xa_words.specs.Code.{number_of}
 use Rattle.xa_words.specs.Xid.{XidName}
@@ -40,7 +41,8 @@ refusal_no None c e = cc
 refusal_no (Some why) c e = let same : code_of why ≡ c = cc in subst (λ d. (of_z w32 (number_of d) == 0) ≡ false) same (reason_no why)
 
 -- what comes of a call, by whether its answer was 0
-call_by : (m : ℕ) (op : Op) (answer : ℤ) (old new : DeskView) → Puts old m (record { op = op; asynchronous = false }) new answer → CallsOp m op (of_z w32 answer == 0) old new
+call_by : (m : ℕ) (op : Op) (answer : ℤ) (old new : DeskView) → Puts old m (record { op = op; asynchronous = false }) new answer
+    → CallsOp m op (of_z w32 answer == 0) old new
 call_by m op answer old new (refused c why is same) =
     uncalled c why (ap (λ z. of_z w32 z == 0) is ∙ refusal_no (call_refusal old m) c why) (ap (λ (d : DeskView). d.ledgers) same)
 call_by m op answer old new (full none now is same) = cc
@@ -54,10 +56,12 @@ call_by m op answer old new (answered none now n c is collects) =
     ] refl)
 
 -- a call of XA, and one outside it
-pub calls_op : (m : ℕ) (op : Op) (answer : ℤ) (old new : DeskView) (c : Call) (x : Option XidName) (f : ℕ) → Calls (asked_of c x f) old m new answer → asked_of c x f ≡ Ok (record { op = op; asynchronous = false }) → CallsOp m op (of_z w32 answer == 0) old new
+pub calls_op : (m : ℕ) (op : Op) (answer : ℤ) (old new : DeskView) (c : Call) (x : Option XidName) (f : ℕ) → Calls (asked_of c x f) old m new answer
+    → asked_of c x f ≡ Ok (record { op = op; asynchronous = false }) → CallsOp m op (of_z w32 answer == 0) old new
 calls_op m op answer old new c x f calls is = call_by m op answer old new (subst (λ a. Calls a old m new answer) is calls)
 
-pub calls_native : (m : ℕ) (op : Op) (answer : ℤ) (old new : DeskView) (o : RmOp) (f : ℕ) → Calls (native o f) old m new answer → native o f ≡ Ok (record { op = op; asynchronous = false }) → CallsOp m op (of_z w32 answer == 0) old new
+pub calls_native : (m : ℕ) (op : Op) (answer : ℤ) (old new : DeskView) (o : RmOp) (f : ℕ) → Calls (native o f) old m new answer
+    → native o f ≡ Ok (record { op = op; asynchronous = false }) → CallsOp m op (of_z w32 answer == 0) old new
 calls_native m op answer old new o f calls is = call_by m op answer old new (subst (λ a. Calls a old m new answer) is calls)
 
 -- ---- what was sent
@@ -67,7 +71,8 @@ op_sent P m op ok old new so (called said is) = subst (HaveSent P old.ledgers) (
 op_sent P m op ok old new so (failed c other unsaid is) = subst (HaveSent P old.ledgers) (sym is) (call_adds P m op c old.ledgers so)
 op_sent P m op ok old new so (uncalled c why unsaid is) = have_none P old.ledgers new.ledgers is
 
-pub leg_calls : (one two leg : Leg) → IsOneOf one two leg → (k : List ℕ) (ok : Bool) (old new : DeskView) → CallsLeg leg k ok old new → HaveSent (IsFor one two) old.ledgers new.ledgers
+pub leg_calls : (one two leg : Leg) → IsOneOf one two leg → (k : List ℕ) (ok : Bool) (old new : DeskView) → CallsLeg leg k ok old new
+    → HaveSent (IsFor one two) old.ledgers new.ledgers
 leg_calls one two leg of_one k ok old new b =
     let work = work_is_for one two leg of_one k in
     have_on (IsFor one two) old.ledgers b.increased.ledgers new.ledgers
@@ -87,17 +92,20 @@ is_called m op ok old new (uncalled c why unsaid is) e = cc
 abbrev with_called : LedgerView → Op → LedgerView
 with_called a op = with_collected (with_sent a op) (length a.sent) Done
 
-block_called : (m : ℕ) (b : LedgerView) (op : Op) (at at' at'' : List LedgerView) → IsKnown at m → Block m b at at' → at'' ≡ after_called at' m op Done → Block m (with_called b op) at at''
+block_called : (m : ℕ) (b : LedgerView) (op : Op) (at at' at'' : List LedgerView) → IsKnown at m → Block m b at at' → at'' ≡ after_called at' m op Done
+    → Block m (with_called b op) at at''
 block_called m b op at at' at'' known z is =
     let n : ℕ = length (ledger at' m).sent in
     let sent : Block m (with_sent b op) at (after_sent at' m op) = block_on m b (λ l. with_sent l op) at at' (after_sent at' m op) known z refl in
-    let got : Block m (with_collected (with_sent b op) n Done) at at'' = block_on m (with_sent b op) (λ l. with_collected l n Done) at (after_sent at' m op) at'' known sent is in
+    let got : Block m (with_collected (with_sent b op) n Done) at at'' =
+    block_on m (with_sent b op) (λ l. with_collected l n Done) at (after_sent at' m op) at'' known sent is in
     subst (λ j. Block m (with_collected (with_sent b op) j Done) at at'') (ap (λ (l : LedgerView). length l.sent) z.here) got
 
 abbrev called3 : Leg → List ℕ → LedgerView → LedgerView
 called3 leg k a = with_called (with_called (with_called a (Start leg.branch.xid Fresh)) (Add k leg.delta)) (End leg.branch.xid Success)
 
-leg_called : (leg : Leg) (k : List ℕ) (old new : DeskView) → IsKnown old.ledgers leg.branch.m → CallsLeg leg k true old new → Block leg.branch.m (called3 leg k (ledger old.ledgers leg.branch.m)) old.ledgers new.ledgers
+leg_called : (leg : Leg) (k : List ℕ) (old new : DeskView) → IsKnown old.ledgers leg.branch.m → CallsLeg leg k true old new
+    → Block leg.branch.m (called3 leg k (ledger old.ledgers leg.branch.m)) old.ledgers new.ledgers
 leg_called leg k old new known b =
     let m : ℕ = leg.branch.m in
     let a : LedgerView = ledger old.ledgers m in
@@ -123,7 +131,8 @@ leg_worked leg k a a' is =
 
 -- ---- both legs
 
-pub legs_called : (one two : Leg) (k : List ℕ) (d0 d3 d6 : DeskView) → CallsLeg one k true d0 d3 → CallsLeg two k true d3 d6 → length d6.ledgers ≡ length d0.ledgers → AreApart one two d6.ledgers → HaveWorked one two k d0.ledgers d6.ledgers
+pub legs_called : (one two : Leg) (k : List ℕ) (d0 d3 d6 : DeskView) → CallsLeg one k true d0 d3 → CallsLeg two k true d3 d6
+    → length d6.ledgers ≡ length d0.ledgers → AreApart one two d6.ledgers → HaveWorked one two k d0.ledgers d6.ledgers
 legs_called one two k d0 d3 d6 first second many apart =
     let back : length d0.ledgers ≡ length d6.ledgers = sym many in
     let known1 : IsKnown d0.ledgers one.branch.m = known_on one.branch.m d6.ledgers d0.ledgers back apart.first in

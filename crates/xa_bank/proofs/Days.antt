@@ -1,6 +1,7 @@
 -- A day whose transfers end whole conserves what all accounts are worth together.
 use Rattle.std.specs.Prelude.{ℤ, pos, ◌+ℤ◌, All}
-use Rattle.std.proofs.Common.{◌≡◌, ◌≢◌, ℕ, zero, suc, ◌+◌, ◌-◌, ◌^◌, ◌<◌, ◌≤◌, ⊎_elim, List, [], ◌∷◌, length, map, slice_get, sym, ap, ◌∙◌, subst, inl, inr, arith, Option, Some, None, false}
+use Rattle.std.proofs.Common.{◌≡◌, ◌≢◌, ℕ, ◌+◌, ◌-◌, ◌^◌, ◌<◌, ◌≤◌, ⊎_elim, List, [], ◌∷◌, length, map, slice_get, sym, ap, ◌∙◌, subst, inl, inr, arith, Option}
+use Rattle.std.proofs.Common.{Some, None, false}
 use Rattle.std.specs.List.{list_any}
 use Rattle.std.proofs.lemmas.Int.{ints}
 use Rattle.std.proofs.lemmas.Bool.{cases_lt}
@@ -9,7 +10,7 @@ use Rattle.std.proofs.lemmas.Option.{slice_get_within}
 use Rattle.xa_base.specs.Sums.{total}
 use Rattle.xa_base.specs.Lists.{Chain}
 use Rattle.xa_base.specs.Lists.Chain.{none, more}
-use Rattle.xa_base.proofs.Lists.{got, all_at, some_same, was_mapped, find_numbered, find_none, all_right}
+use Rattle.xa_base.proofs.Lists.{got_map, got, all_at, was_mapped, find_numbered, find_none, all_right}
 use Rattle.xa_base.proofs.Sums.{total_nothing}
 use Rattle.xa_words.specs.Xid.{XidName}
 use Rattle.xa_words.specs.declared.request.Op.{Op}
@@ -35,8 +36,8 @@ use Rattle.xa_switch.specs.Settling.{Settling, ThreadPart, IsSettled, find_threa
 use Rattle.xa_switch.specs.Worth.{accounts_of, plan_worth, settled_worth, threads_of}
 use Rattle.xa_driver.specs.declared.branch.Branch.{Branch}
 use Rattle.xa_driver.specs.declared.done.Done.{Done}
-use Rattle.xa_driver.specs.Conservation.{OnlyTransfers, NothingWasSent, held_in_doubt}
-use Rattle.xa_driver.specs.Outcomes.{is_in_doubt}
+use Rattle.xa_atomicity.specs.Conservation.{OnlyTransfers, NothingWasSent, held_in_doubt}
+use Rattle.xa_atomicity.specs.Outcomes.{is_in_doubt}
 use Rattle.xa_crew.specs.declared.client_job.Attended.{Attended}
 use Rattle.xa_crew.specs.Ending.{Telling, EndsNumber}
 use Rattle.xa_crew.specs.Ending.EndsNumber.{kept as kept_there, free}
@@ -48,11 +49,6 @@ use Rattle.xa_bank.proofs.Sent.{have_none, have_on, one_collected}
 use Rattle.xa_bank.proofs.Told.{IsTold}
 use Rattle.xa_bank.proofs.Only.{only_transfers, all_told}
 use Rattle.xa_bank.proofs.Worked.{same_many}
-
-mapped_at : {A B : Type 0} (f : A → B) (xs : List A) (k : ℕ) (x : A) → slice_get xs k ≡ Some x → slice_get (map f xs) k ≡ Some (f x)
-mapped_at f [] k x e = cc
-mapped_at f (y ∷ ys) zero x e = ap (λ z. Some (f z)) (some_same y x e)
-mapped_at f (y ∷ ys) (suc k) x e = mapped_at f ys k x e
 
 -- ---- the end of a desk sends nothing
 
@@ -70,7 +66,8 @@ number_sent k old new (free empty e) = have_none Never old.0.ledgers new.0.ledge
 
 numbers_sent : (old : Telling) (ks : List ℕ) (new : Telling) → Chain EndsNumber old ks new → HaveSent Never old.0.ledgers new.0.ledgers
 numbers_sent old ks new (none xs last e f) = have_none Never old.0.ledgers new.0.ledgers (ap (λ (q : Telling). q.0.ledgers) f)
-numbers_sent old ks new (more xs x now last before is) = have_on Never old.0.ledgers now.0.ledgers new.0.ledgers (numbers_sent old xs now before) (number_sent x now new is)
+numbers_sent old ks new (more xs x now last before is) =
+    have_on Never old.0.ledgers now.0.ledgers new.0.ledgers (numbers_sent old xs now before) (number_sent x now new is)
 
 -- ---- a desk that was opened
 
@@ -94,12 +91,13 @@ record Known (p : Plan) (s : Settling) (t : ℕ) : Type 0 where
 goes_thread : (old new : DeskView) → GoesOn old new → new.thread ≡ old.thread
 goes_thread old new goes = ap (λ (q : DeskSeat). q.thread) goes.seat
 
-module _ (p : Plan) (tellers : List Teller) (attended : List (Attended Teller)) (s : Settling) (r : IsRun Works p tellers attended s) (whole : All EndsWhole attended) where
+module _ (p : Plan) (tellers : List Teller) (attended : List (Attended Teller)) (s : Settling) (r : IsRun Works p tellers attended s)
+    (whole : All EndsWhole attended) where
   many : length r.members ≡ p.threads
   many = sym (length-map r.members (λ (t : Member Teller). t.desk)) ∙ r.opened.threads
 
   new_desk_at : (k : ℕ) (mb : Member Teller) → slice_get r.members k ≡ Some mb → IsNewDesk (planned p) k mb.desk
-  new_desk_at k mb at = r.opened.desks k mb.desk (mapped_at (λ (t : Member Teller). t.desk) r.members k mb at)
+  new_desk_at k mb at = r.opened.desks k mb.desk (got_map (λ (t : Member Teller). t.desk) r.members k mb at)
 
   ran_at : (k : ℕ) (mb : Member Teller) → slice_get r.members k ≡ Some mb → HasRun Works mb
   ran_at k mb at = all_at (HasRun Works) r.members k mb r.ran at
@@ -107,7 +105,8 @@ module _ (p : Plan) (tellers : List Teller) (attended : List (Attended Teller)) 
   ended_thread : (k : ℕ) (mb : Member Teller) → slice_get r.members k ≡ Some mb → mb.ended.thread ≡ k + 1
   ended_thread k mb at =
       let run = ran_at k mb at in
-      run.ends.ends.thread ∙ goes_thread run.left run.ends.emptied run.ends.goes_on ∙ goes_thread mb.desk run.left run.goes_on ∙ ap (λ (d : DeskView). d.thread) (new_desk_at k mb at).made
+      run.ends.ends.thread ∙ goes_thread run.left run.ends.emptied run.ends.goes_on ∙ goes_thread mb.desk run.left run.goes_on
+      ∙ ap (λ (d : DeskView). d.thread) (new_desk_at k mb at).made
 
   abbrev parts : List ThreadPart
   parts = map thread_part (map (λ (t : Member Teller). t.ended) r.members)
@@ -128,7 +127,7 @@ module _ (p : Plan) (tellers : List Teller) (attended : List (Attended Teller)) 
   ledgers_are k mb at =
       ap (λ (l : List ThreadPart). ledgers_in (find_thread (0 + k + 1) l)) threads_are
       ∙ ap ledgers_in (find_numbered (λ (q : ThreadPart). q.thread) 0 parts numbered_ k (thread_part mb.ended)
-      (mapped_at thread_part (map (λ (t : Member Teller). t.ended) r.members) k mb.ended (mapped_at (λ (t : Member Teller). t.ended) r.members k mb at)))
+      (got_map thread_part (map (λ (t : Member Teller). t.ended) r.members) k mb.ended (got_map (λ (t : Member Teller). t.ended) r.members k mb at)))
 
   known : (t : ℕ) → 1 ≤ t → t ≤ p.threads → Known p s t
   known t positive below =
@@ -146,7 +145,7 @@ module _ (p : Plan) (tellers : List Teller) (attended : List (Attended Teller)) 
         desk_thread = omega (arith, thread, number);
         nothing = nothing_sent p (t - 1) mb.desk fresh;
         worked = run.worked;
-        whole = all_at EndsWhole attended (t - 1) mb.attended whole (ap (λ (l : List (Attended Teller)). slice_get l (t - 1)) r.attended_are ∙ mapped_at (λ (t : Member Teller). t.attended) r.members (t - 1) mb at);
+        whole = all_at EndsWhole attended (t - 1) mb.attended whole (ap (λ (l : List (Attended Teller)). slice_get l (t - 1)) r.attended_are ∙ got_map (λ (t : Member Teller). t.attended) r.members (t - 1) mb at);
         end = subst (HaveSent Never run.left.ledgers) (sym last) (numbers_sent (run.left, []) _ (run.ends.emptied, mb.attended.outstanding.items) run.ends.collects);
         managers =
             ap (λ (l : List LedgerView). length l) last ∙ same_many run.left run.ends.emptied run.ends.goes_on ∙ same_many mb.desk run.left run.goes_on
@@ -157,7 +156,8 @@ module _ (p : Plan) (tellers : List Teller) (attended : List (Attended Teller)) 
   few = let most = r.sound.limits.threads.1 in omega (arith, most)
 
   -- what a teller of the day made
-  made_by : (t : ℕ) (z : Known p s t) → HasMade z.member.client.transfers.items z.member.client.death z.member.client.outcomes.items z.member.desk z.member.client.log.state z.member.attended.client.outcomes.items z.left z.member.attended.client.log.state
+  made_by : (t : ℕ) (z : Known p s t)
+      → HasMade z.member.client.transfers.items z.member.client.death z.member.client.outcomes.items z.member.desk z.member.client.log.state z.member.attended.client.outcomes.items z.left z.member.attended.client.log.state
   made_by t z = z.worked.made z.whole.memory
 
   fine_of : (t : ℕ) (z : Known p s t) → All IsUndoubted (made_by t z).more

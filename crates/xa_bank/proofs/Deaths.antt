@@ -22,16 +22,18 @@ use Rattle.xa_driver.specs.declared.done.Ending.TheVariants.{Heuristic}
 use Rattle.xa_driver.specs.declared.stages.Prepared.{Prepared}
 use Rattle.xa_driver.specs.declared.stages.Decided.{Decided}
 use Rattle.xa_driver.specs.declared.stages.Told.{Told}
-use Rattle.xa_driver.specs.Asks.{Asks, AskTrace, EachAsk, HaveComeSoFar, IsAnswered, IsBegun, IsSameAsk, SameAsks, among_asks, collected as was_collected, in_flight, unasked}
+use Rattle.xa_driver.specs.Asks.{Asks, AskTrace, EachAsk, HaveComeSoFar, IsAnswered, IsBegun, IsSameAsk, SameAsks, among_asks, collected as was_collected}
+use Rattle.xa_driver.specs.Asks.{in_flight, unasked}
 use Rattle.xa_driver.specs.Decision.{is_read, is_yes}
 use Rattle.xa_driver.specs.Endings.{second_op, third_op, ending_of, yes_ending, no_ending, is_decided, is_out_of_reach}
-use Rattle.xa_driver.specs.Log.{LogState}
-use Rattle.xa_driver.specs.Outcomes.{is_heuristic}
+use Rattle.xa_log.specs.Log.{LogState}
+use Rattle.xa_atomicity.specs.Outcomes.{is_heuristic}
 use Rattle.xa_driver.specs.Rounds.{code_of, ending_of_ask, first_ask, second_ask, third_ask}
 use Rattle.xa_driver.specs.Stages.{HasDecided, HasForgotten, HasPrepared, HasTold}
 use Rattle.xa_driver.specs.Trace.{IsCommit, IsTraceOfCommit, MayCommit}
-use Rattle.xa_driver.proofs.OneOutcome.{one_tran}
-use Rattle.xa_driver.proofs.Staged.{stages_call, Begun, asks_begun}
+use Rattle.xa_driver.proofs.Calls.{one_tran}
+use Rattle.xa_driver.proofs.OneCall.{stages_call}
+use Rattle.xa_atomicity.proofs.Staged.{Begun, asks_begun}
 use Rattle.xa_driver.proofs.Gathering.{same_itself}
 use Rattle.xa_bank.specs.Transfers.{HasSent, HaveSent}
 use Rattle.xa_bank.specs.declared.dying.Point.{Point}
@@ -51,7 +53,8 @@ begun_sent P op a a' so (was_collected code tr) = subst (HasSent P a) (sym tr.tr
 abbrev Asks_ : (Op → Type 0) → Ask → Type 0
 Asks_ P k = (o : Op) → k.op ≡ Some o → P o
 
-there_sent : (P : Op → Type 0) (ks : List Ask) (at now : List LedgerView) (m : ℕ) → All (Asks_ P) ks → All (Begun at now) ks → among_asks ks m ≡ true → HasSent P (ledger at m) (ledger now m)
+there_sent : (P : Op → Type 0) (ks : List Ask) (at now : List LedgerView) (m : ℕ) → All (Asks_ P) ks → All (Begun at now) ks → among_asks ks m ≡ true
+    → HasSent P (ledger at m) (ledger now m)
 there_sent P [] at now m so each there = cc
 there_sent P (k ∷ ks) at now m so each there =
     elim (k.manager == m) as (λ b. (k.manager == m) ≡ b → (b || among_asks ks m) ≡ true → HasSent P (ledger at m) (ledger now m)) [
@@ -91,7 +94,8 @@ module _ (P : Op → Type 0) (Q : Branch → Type 0) (firsts : (b : Branch) → 
     second_so : (commit : Bool) (b : Branch) (k j : Ask) → Q b → IsSameAsk (first_ask b) k → IsSameAsk (second_ask commit k) j → Asks_ P j
     second_so commit b k j so same again o is = seconds b so commit (code_of k) o (ap (λ x. second_op commit x (code_of k)) (sym same.xid) ∙ sym again.op ∙ is)
 
-    seconds_so : (commit : Bool) (bs : List Branch) (ks js : List Ask) → All Q bs → SameAsks (map first_ask bs) ks → SameAsks (map (second_ask commit) ks) js → All (Asks_ P) js
+    seconds_so : (commit : Bool) (bs : List Branch) (ks js : List Ask) → All Q bs → SameAsks (map first_ask bs) ks → SameAsks (map (second_ask commit) ks) js
+        → All (Asks_ P) js
     seconds_so commit [] [] [] so same again = All-nil (Asks_ P)
     seconds_so commit [] [] (j ∷ js) so same again = absurd again
     seconds_so commit [] (k ∷ ks) js so same again = absurd same
@@ -100,15 +104,22 @@ module _ (P : Op → Type 0) (Q : Branch → Type 0) (firsts : (b : Branch) → 
     seconds_so commit (b ∷ bs) (k ∷ ks) (j ∷ js) so same again =
         All-cons (Asks_ P) j js (second_so commit b k j (All-head Q b bs so) same.0 again.0) (seconds_so commit bs ks js (All-tail Q b bs so) same.1 again.1)
 
-    seconds_of : (commit : Bool) (bs : List Branch) (ks ls js : List Ask) → All Q bs → SameAsks (map first_ask bs) ks → ls ≡ ks → SameAsks (map (second_ask commit) ls) js → All (Asks_ P) js
-    seconds_of commit bs ks ls js so same is again = seconds_so commit bs ks js so same (subst (λ (l : List Ask). SameAsks (map (second_ask commit) l) js) is again)
+    seconds_of : (commit : Bool) (bs : List Branch) (ks ls js : List Ask) → All Q bs → SameAsks (map first_ask bs) ks → ls ≡ ks
+        → SameAsks (map (second_ask commit) ls) js → All (Asks_ P) js
+    seconds_of commit bs ks ls js so same is again =
+        seconds_so commit bs ks js so same (subst (λ (l : List Ask). SameAsks (map (second_ask commit) l) js) is again)
 
 -- what a commit sent whose teller died
-pub died_sent : (P : Op → Type 0) (Q : Branch → Type 0) → ((b : Branch) → Q b → P (Prepare b.xid)) → ((b : Branch) → Q b → (commit : Bool) (v : Code) (o : Op) → second_op commit b.xid v ≡ Some o → P o)
-    → (at : Point) (bs : List Branch) (known : Option Done) (desk : DeskView) (new : List LedgerView) (log later : LogState) → All Q bs → CameTo at bs known desk new log later → HaveSent P desk.ledgers new
-died_sent P Q firsts seconds point.Asking bs known desk new log later each (p, begun, far, unlogged, none) = so_far_sent P p.round.asks.items desk.ledgers new (firsts_so P Q firsts bs p.round.asks.items each begun.same) far
-died_sent P Q firsts seconds point.Voted bs known desk new log later each (p, first, unlogged, is) = prepared_sent P Q firsts bs p.round.asks.items desk.ledgers new each first.same first.asked
-died_sent P Q firsts seconds point.Decided bs known desk new log later each (p, d, first, second, is) = prepared_sent P Q firsts bs p.round.asks.items desk.ledgers new each first.same first.asked
+pub died_sent : (P : Op → Type 0) (Q : Branch → Type 0) → ((b : Branch) → Q b → P (Prepare b.xid))
+    → ((b : Branch) → Q b → (commit : Bool) (v : Code) (o : Op) → second_op commit b.xid v ≡ Some o → P o)
+    → (at : Point) (bs : List Branch) (known : Option Done) (desk : DeskView) (new : List LedgerView) (log later : LogState) → All Q bs
+    → CameTo at bs known desk new log later → HaveSent P desk.ledgers new
+died_sent P Q firsts seconds point.Asking bs known desk new log later each (p, begun, far, unlogged, none) =
+    so_far_sent P p.round.asks.items desk.ledgers new (firsts_so P Q firsts bs p.round.asks.items each begun.same) far
+died_sent P Q firsts seconds point.Voted bs known desk new log later each (p, first, unlogged, is) =
+    prepared_sent P Q firsts bs p.round.asks.items desk.ledgers new each first.same first.asked
+died_sent P Q firsts seconds point.Decided bs known desk new log later each (p, d, first, second, is) =
+    prepared_sent P Q firsts bs p.round.asks.items desk.ledgers new each first.same first.asked
 died_sent P Q firsts seconds point.Telling bs known desk new log later each (p, d, t, mid, first, second, begun, far, is) =
     have_on P desk.ledgers mid.ledgers new (prepared_sent P Q firsts bs p.round.asks.items desk.ledgers mid.ledgers each first.same first.asked)
     (so_far_sent P t.round.asks.items mid.ledgers new (seconds_of P Q firsts seconds d.known.commit bs p.round.asks.items d.round.asks.items t.round.asks.items each first.same (ap (λ r. r.asks.items) second.round) begun.same) far)
@@ -123,11 +134,16 @@ IsUntold point.Voted = Unit {0}
 IsUntold point.Decided = Unit {0}
 IsUntold at = ⊥
 
-pub untold_sent : (P : Op → Type 0) (Q : Branch → Type 0) → ((b : Branch) → Q b → P (Prepare b.xid)) → (at : Point) (bs : List Branch) (known : Option Done) (desk : DeskView) (new : List LedgerView) (log later : LogState) → IsUntold at → All Q bs → CameTo at bs known desk new log later
+pub untold_sent : (P : Op → Type 0) (Q : Branch → Type 0) → ((b : Branch) → Q b → P (Prepare b.xid))
+    → (at : Point) (bs : List Branch) (known : Option Done) (desk : DeskView) (new : List LedgerView) (log later : LogState) → IsUntold at → All Q bs
+    → CameTo at bs known desk new log later
     → HaveSent P desk.ledgers new
-untold_sent P Q firsts point.Asking bs known desk new log later untold each (p, begun, far, unlogged, none) = so_far_sent P p.round.asks.items desk.ledgers new (firsts_so P Q firsts bs p.round.asks.items each begun.same) far
-untold_sent P Q firsts point.Voted bs known desk new log later untold each (p, first, unlogged, is) = prepared_sent P Q firsts bs p.round.asks.items desk.ledgers new each first.same first.asked
-untold_sent P Q firsts point.Decided bs known desk new log later untold each (p, d, first, second, is) = prepared_sent P Q firsts bs p.round.asks.items desk.ledgers new each first.same first.asked
+untold_sent P Q firsts point.Asking bs known desk new log later untold each (p, begun, far, unlogged, none) =
+    so_far_sent P p.round.asks.items desk.ledgers new (firsts_so P Q firsts bs p.round.asks.items each begun.same) far
+untold_sent P Q firsts point.Voted bs known desk new log later untold each (p, first, unlogged, is) =
+    prepared_sent P Q firsts bs p.round.asks.items desk.ledgers new each first.same first.asked
+untold_sent P Q firsts point.Decided bs known desk new log later untold each (p, d, first, second, is) =
+    prepared_sent P Q firsts bs p.round.asks.items desk.ledgers new each first.same first.asked
 untold_sent P Q firsts point.Telling bs known desk new log later untold each far = absurd untold
 untold_sent P Q firsts point.Told bs known desk new log later untold each far = absurd untold
 
@@ -155,7 +171,8 @@ quiet_unasked false x vote yes_ quiet = at_true (is_quiet vote) _ _ quiet
 unanswered : (a : LedgerView) (c : Code) → IsAnswered a None (Some c) → ⊥
 unanswered a c e = cc
 
-told_heuristic : (commit : Bool) (x : XidName) (vote c : Code) (a : LedgerView) → is_decided c ≡ true → IsAnswered a (second_op commit x vote) (Some c) → is_heuristic (ending_of commit vote (Some c)) ≡ true
+told_heuristic : (commit : Bool) (x : XidName) (vote c : Code) (a : LedgerView) → is_decided c ≡ true → IsAnswered a (second_op commit x vote) (Some c)
+    → is_heuristic (ending_of commit vote (Some c)) ≡ true
 told_heuristic commit x vote c a kept answered =
     elim (is_yes vote) as (λ b. is_yes vote ≡ b → is_heuristic (ending_of commit vote (Some c)) ≡ true) [
       | true ↦ λ yes_. ap is_heuristic (at_true (is_yes vote) _ _ yes_ ∙ yes_heuristic commit c kept)
@@ -169,7 +186,8 @@ told_heuristic commit x vote c a kept answered =
     ] refl
 
 -- so where no ending tells one, nobody is to forget
-none_forgets : (commit : Bool) (x : XidName) (vote : Code) (second : Option Code) (a : LedgerView) → IsAnswered a (second_op commit x vote) second → is_heuristic (ending_of commit vote second) ≡ false → third_op x second ≡ None
+none_forgets : (commit : Bool) (x : XidName) (vote : Code) (second : Option Code) (a : LedgerView) → IsAnswered a (second_op commit x vote) second
+    → is_heuristic (ending_of commit vote second) ≡ false → third_op x second ≡ None
 none_forgets commit x vote None a answered cool = refl
 none_forgets commit x vote (Some c) a answered cool =
     by_if (λ (o : Option Op). o ≡ None) (is_decided c) (Some (Forget x)) None (λ kept. let z : true ≡ false = sym (told_heuristic commit x vote c a kept answered) ∙ cool in cc) (λ _. refl)
@@ -177,14 +195,16 @@ none_forgets commit x vote (Some c) a answered cool =
 nothing_asked : (a : LedgerView) (op : Option Op) → op ≡ None → AskTrace op None a a
 nothing_asked a op none = subst (λ (o : Option Op). AskTrace o None a a) (sym none) (record { answered = refl; trace = refl })
 
-third_nothing : (commit : Bool) (mid new : List LedgerView) (k j : Ask) → IsSameAsk (second_ask commit k) j → AskTrace j.op j.code (ledger mid j.manager) (ledger new j.manager) → is_heuristic (ending_of_ask commit j) ≡ false
+third_nothing : (commit : Bool) (mid new : List LedgerView) (k j : Ask) → IsSameAsk (second_ask commit k) j
+    → AskTrace j.op j.code (ledger mid j.manager) (ledger new j.manager) → is_heuristic (ending_of_ask commit j) ≡ false
     → AskTrace (third_op j.xid j.code) None (ledger new j.manager) (ledger new j.manager)
 third_nothing commit mid new k j same tr cool =
     let op : j.op ≡ second_op commit j.xid j.vote = same.op ∙ (λ i. second_op commit (sym same.xid i) (sym same.vote i)) in
     nothing_asked (ledger new j.manager) (third_op j.xid j.code)
     (none_forgets commit j.xid j.vote j.code (ledger mid j.manager) (subst (λ (o : Option Op). IsAnswered (ledger mid j.manager) o j.code) op tr.answered) cool)
 
-thirds_nothing : (commit : Bool) (mid new : List LedgerView) (ks js : List Ask) → SameAsks (map (second_ask commit) ks) js → EachAsk js mid new → list_any is_heuristic (map (ending_of_ask commit) js) ≡ false → EachAsk (map third_ask js) new new
+thirds_nothing : (commit : Bool) (mid new : List LedgerView) (ks js : List Ask) → SameAsks (map (second_ask commit) ks) js → EachAsk js mid new
+    → list_any is_heuristic (map (ending_of_ask commit) js) ≡ false → EachAsk (map third_ask js) new new
 thirds_nothing commit mid new [] [] same each cool = tt
 thirds_nothing commit mid new [] (j ∷ js) same each cool = absurd same
 thirds_nothing commit mid new (k ∷ ks) [] same each cool = absurd same
@@ -193,10 +213,12 @@ thirds_nothing commit mid new (k ∷ ks) (j ∷ js) same each cool =
     (third_nothing commit mid new k j same.0 each.0 parts.0, thirds_nothing commit mid new ks js same.1 each.1 parts.1)
 
 -- the commit was made
-stages_made : (bs : List Branch) (desk : DeskView) (mid new : List LedgerView) (log later : LogState) (p : Prepared) (d : Decided) (t : Told) → MayCommit desk log bs → HasPrepared bs desk.ledgers mid p → HasDecided p log later d → HasTold d mid new t
+stages_made : (bs : List Branch) (desk : DeskView) (mid new : List LedgerView) (log later : LogState) (p : Prepared) (d : Decided) (t : Told)
+    → MayCommit desk log bs → HasPrepared bs desk.ledgers mid p → HasDecided p log later d → HasTold d mid new t
     → list_any is_heuristic t.known.endings.items ≡ false → IsCommit bs desk new log later t.known
 stages_made bs desk mid new log later p d t may first second third cool =
-    let same : SameAsks (map (second_ask d.known.commit) p.round.asks.items) t.round.asks.items = subst (λ (l : List Ask). SameAsks (map (second_ask d.known.commit) l) t.round.asks.items) (ap (λ r. r.asks.items) second.round) third.same in
+    let same : SameAsks (map (second_ask d.known.commit) p.round.asks.items) t.round.asks.items =
+    subst (λ (l : List Ask). SameAsks (map (second_ask d.known.commit) l) t.round.asks.items) (ap (λ r. r.asks.items) second.round) third.same in
     let each : EachAsk (map third_ask t.round.asks.items) new new =
     thirds_nothing d.known.commit mid new p.round.asks.items t.round.asks.items same third.asked.each (subst (λ (es : List Ending). list_any is_heuristic es ≡ false) third.endings cool) in
     let last : HasForgotten t new new t.known = record {
@@ -210,7 +232,8 @@ stages_made bs desk mid new log later p d t may first second third cool =
           (stages_call bs desk.ledgers mid new new log later p d t first second third t.known last);
     }
 
-pub told_made : (bs : List Branch) (known : Option Done) (desk : DeskView) (new : List LedgerView) (log later : LogState) → MayCommit desk log bs → CameTo point.Told bs known desk new log later → list_any is_heuristic (endings_in known) ≡ false
+pub told_made : (bs : List Branch) (known : Option Done) (desk : DeskView) (new : List LedgerView) (log later : LogState) → MayCommit desk log bs
+    → CameTo point.Told bs known desk new log later → list_any is_heuristic (endings_in known) ≡ false
     → (done : Done) × (done.endings.items ≡ endings_in known) × IsCommit bs desk new log later done
 told_made bs known desk new log later may (p, d, t, mid, first, second, third, is) cool =
     (t.known, ap endings_in (sym is), stages_made bs desk mid.ledgers new log later p d t may first second third (subst (λ (k : Option Done). list_any is_heuristic (endings_in k) ≡ false) is cool))

@@ -1,5 +1,6 @@
 -- What comes of a call that its flags make asynchronous, and of collecting by its handle.
-use Rattle.std.specs.Prelude.{◌≡◌, ◌≢◌, ℕ, zero, suc, ◌<◌, ℤ, pos, negsuc, Bool, true, false, Option, Some, None, option_map, if◌then◌else◌, Result, Ok, Err, IfOk, refl}
+use Rattle.std.specs.Prelude.{◌≡◌, ◌≢◌, ℕ, zero, suc, ◌<◌, ℤ, pos, negsuc, Bool, true, false, Option, Some, None, option_map, if◌then◌else◌, Result, Ok, Err}
+use Rattle.std.specs.Prelude.{IfOk, refl}
 use Rattle.std.proofs.Common.{sym, ap, ◌∙◌, subst, inl, inr, arith, w32, of_z, ◌==◌, List}
 use Rattle.std.specs.Option.{option_or}
 use Rattle.std.specs.FinMap as map
@@ -47,7 +48,8 @@ reason_of : (o : Option Refused) (c : Code) → option_map code_of o ≡ Some c 
 reason_of None c e = cc
 reason_of (Some why) c e = let same : code_of why ≡ c = cc in subst (λ d. IsCode (number_of d)) same (reason_is why)
 
-either : (a b : Option Code) (c : Code) → (a ≡ Some c → IsCode (number_of c)) → (b ≡ Some c → IsCode (number_of c)) → option_or a b ≡ Some c → IsCode (number_of c)
+either : (a b : Option Code) (c : Code) → (a ≡ Some c → IsCode (number_of c)) → (b ≡ Some c → IsCode (number_of c)) → option_or a b ≡ Some c
+    → IsCode (number_of c)
 either None b c one two e = two e
 either (Some d) b c one two e = one e
 
@@ -60,7 +62,8 @@ refusal_is d m c =
     takes_none true e = cc
     takes_none false e = let same : Async ≡ c = cc in subst (λ q. IsCode (number_of q)) same (λ m op old new stay. stay)
 
-no_handle : (m : ℕ) (op : Op) (answer : ℤ) (c : Code) (old new : DeskView) → answer ≡ number_of c → IsCode (number_of c) → StaysSo old new → Puts old m (record { op = op; asynchronous = true }) new answer → PutsOp m op answer old new
+no_handle : (m : ℕ) (op : Op) (answer : ℤ) (c : Code) (old new : DeskView) → answer ≡ number_of c → IsCode (number_of c) → StaysSo old new
+    → Puts old m (record { op = op; asynchronous = true }) new answer → PutsOp m op answer old new
 no_handle m op answer c old new is none same answered_ =
     let away : IsTurnedAway m op answer old new = record { last = old; waited = same_stays old; answered = answered_; stays = same } in
     subst (λ z. PutsOp m op z old new) (sym is) (none m op old new (subst (λ z. IsTurnedAway m op z old new) is away))
@@ -79,10 +82,12 @@ put_by m op answer old new (kept none now k is free same) =
 put_by m op answer old new (answered none now n c is collects) = cc
 
 -- a call of XA, and one outside it
-pub puts_op : (m : ℕ) (op : Op) (answer : ℤ) (old new : DeskView) (c : Call) (x : Option XidName) (f : ℕ) → Calls (asked_of c x f) old m new answer → asked_of c x f ≡ Ok (record { op = op; asynchronous = true }) → PutsOp m op answer old new
+pub puts_op : (m : ℕ) (op : Op) (answer : ℤ) (old new : DeskView) (c : Call) (x : Option XidName) (f : ℕ) → Calls (asked_of c x f) old m new answer
+    → asked_of c x f ≡ Ok (record { op = op; asynchronous = true }) → PutsOp m op answer old new
 puts_op m op answer old new c x f calls is = put_by m op answer old new (subst (λ a. Calls a old m new answer) is calls)
 
-pub puts_native : (m : ℕ) (op : Op) (answer : ℤ) (old new : DeskView) (o : RmOp) (f : ℕ) → Calls (native o f) old m new answer → native o f ≡ Ok (record { op = op; asynchronous = true }) → PutsOp m op answer old new
+pub puts_native : (m : ℕ) (op : Op) (answer : ℤ) (old new : DeskView) (o : RmOp) (f : ℕ) → Calls (native o f) old m new answer
+    → native o f ≡ Ok (record { op = op; asynchronous = true }) → PutsOp m op answer old new
 puts_native m op answer old new o f calls is = put_by m op answer old new (subst (λ a. Calls a old m new answer) is calls)
 
 -- ---- a request that is put again
@@ -97,7 +102,8 @@ pub stays_on : (old mid new : DeskView) → StaysSo old mid → StaysSo mid new 
 stays_on old mid new p q = record { ledgers = q.ledgers ∙ p.ledgers; kept = q.kept ∙ p.kept }
 
 turned_later : (m : ℕ) (op : Op) (answer : ℤ) (old mid new : DeskView) → StaysSo old mid → IsTurnedAway m op answer mid new → IsTurnedAway m op answer old new
-turned_later m op answer old mid new s p = record { last = p.last; waited = stays_on old mid p.last s p.waited; answered = p.answered; stays = stays_on old mid new s p.stays }
+turned_later m op answer old mid new s p =
+    record { last = p.last; waited = stays_on old mid p.last s p.waited; answered = p.answered; stays = stays_on old mid new s p.stays }
 
 -- so what it did later it did at first
 pub put_later : (m : ℕ) (op : Op) (answer : ℤ) (old mid new : DeskView) → StaysSo old mid → PutsOp m op answer mid new → PutsOp m op answer old new
@@ -130,13 +136,17 @@ number_is : (z : ℤ) (k : ℕ) → number_in z ≡ Some k → z ≡ pos k
 number_is (pos n) k e = let same : n ≡ k = cc in ap pos same
 number_is (negsuc n) k e = cc
 
-refuses : (m : ℕ) (handle : ℤ) (old new : DeskView) (handle' retval retval' answer : ℤ) (result : Result (ℕ × Code) Code) → IsNoHandle m handle old → result ≡ Err Inval → new ≡ old → Tells result handle retval handle' retval' answer → Completed m handle old new retval' answer
+refuses : (m : ℕ) (handle : ℤ) (old new : DeskView) (handle' retval retval' answer : ℤ) (result : Result (ℕ × Code) Code) → IsNoHandle m handle old
+    → result ≡ Err Inval → new ≡ old → Tells result handle retval handle' retval' answer → Completed m handle old new retval' answer
 refuses m handle old new handle' retval retval' answer result none is same tells =
     let told = subst (λ r. Tells r handle retval handle' retval' answer) is tells in
     record { yes = λ e. let z : number_of Inval ≡ pos 0 = sym told.1.1 ∙ e in cc; never = λ _. (none, stays old new same) }
 
-by_one : (handle : ℤ) (m : ℕ) (old new : DeskView) (handle' retval retval' answer : ℤ) (result : Result (ℕ × Code) Code) → CompletesOne old (number_in handle) m false new result → IfOk result (λ r. IsHandle r.0) → Tells result handle retval handle' retval' answer → Completed m handle old new retval' answer
-by_one handle m old new handle' retval retval' answer result (unknown none is same) numbered tells = refuses m handle old new handle' retval retval' answer result (inr (inr none)) is same tells
+by_one : (handle : ℤ) (m : ℕ) (old new : DeskView) (handle' retval retval' answer : ℤ) (result : Result (ℕ × Code) Code)
+    → CompletesOne old (number_in handle) m false new result → IfOk result (λ r. IsHandle r.0) → Tells result handle retval handle' retval' answer
+    → Completed m handle old new retval' answer
+by_one handle m old new handle' retval retval' answer result (unknown none is same) numbered tells =
+    refuses m handle old new handle' retval retval' answer result (inr (inr none)) is same tells
 by_one handle m old new handle' retval retval' answer result (retry k number keeps nowait is quiet unready) numbered tells = cc
 by_one handle m old new handle' retval retval' answer result (ready k c number keeps nowait is collects) numbered tells = cc
 by_one handle m old new handle' retval retval' answer result (waited k c number keeps wait is collects) numbered tells =
@@ -144,12 +154,18 @@ by_one handle m old new handle' retval retval' answer result (waited k c number 
     let told = subst (λ r. Tells r handle retval handle' retval' answer) is tells in
     record { yes = λ _. (k, c, number_is handle k number, handle_is.positive, told.1.0, redeemed old new k c collects); never = λ n. absurd (n told.1.1) }
 
-by_manager : (there : Bool) (handle : ℤ) (m : ℕ) (old new : DeskView) (handle' retval retval' answer : ℤ) (result : Result (ℕ × Code) Code) → may_complete old m false ≡ there → CompletesAt there false false old (number_in handle) m new result → IfOk result (λ r. IsHandle r.0) → Tells result handle retval handle' retval' answer → Completed m handle old new retval' answer
-by_manager false handle m old new handle' retval retval' answer result none (is, same) numbered tells = refuses m handle old new handle' retval retval' answer result (inr (inl none)) is same tells
-by_manager true handle m old new handle' retval retval' answer result known one numbered tells = by_one handle m old new handle' retval retval' answer result one numbered tells
+by_manager : (there : Bool) (handle : ℤ) (m : ℕ) (old new : DeskView) (handle' retval retval' answer : ℤ) (result : Result (ℕ × Code) Code)
+    → may_complete old m false ≡ there → CompletesAt there false false old (number_in handle) m new result → IfOk result (λ r. IsHandle r.0)
+    → Tells result handle retval handle' retval' answer → Completed m handle old new retval' answer
+by_manager false handle m old new handle' retval retval' answer result none (is, same) numbered tells =
+    refuses m handle old new handle' retval retval' answer result (inr (inl none)) is same tells
+by_manager true handle m old new handle' retval retval' answer result known one numbered tells =
+    by_one handle m old new handle' retval retval' answer result one numbered tells
 
-pub completed : (handle retval : ℤ) (m : ℕ) (old new : DeskView) (handle' retval' answer : ℤ) → HasCompleted old handle retval m 0 new handle' retval' answer → Completed m handle old new retval' answer
-completed handle retval m old new handle' retval' answer h = by_manager (may_complete old m false) handle m old new handle' retval retval' answer h.collected refl h.completes h.numbered h.tells
+pub completed : (handle retval : ℤ) (m : ℕ) (old new : DeskView) (handle' retval' answer : ℤ) → HasCompleted old handle retval m 0 new handle' retval' answer
+    → Completed m handle old new retval' answer
+completed handle retval m old new handle' retval' answer h =
+    by_manager (may_complete old m false) handle m old new handle' retval retval' answer h.collected refl h.completes h.numbered h.tells
 
 -- only XA_OK is 0
 pub only_done : (c : Code) → (of_z w32 (number_of c) == 0) ≡ true → c ≡ Done
@@ -160,7 +176,8 @@ pub not_done : (c : Code) → (of_z w32 (number_of c) == 0) ≡ false → c ≢ 
 not_done c e = λ same. let z : true ≡ false = subst (λ d. (of_z w32 (number_of d) == 0) ≡ false) same e in cc
 
 -- what was collected, by whether its code was 0
-pub by_code : (m : ℕ) (handle retval : ℤ) (k : ℕ) (c : Code) (old new : DeskView) → handle ≡ pos k → 0 < k → retval ≡ number_of c → IsCollected k c old new → CollectsOp m handle (of_z w32 retval == 0) old new
+pub by_code : (m : ℕ) (handle retval : ℤ) (k : ℕ) (c : Code) (old new : DeskView) → handle ≡ pos k → 0 < k → retval ≡ number_of c → IsCollected k c old new
+    → CollectsOp m handle (of_z w32 retval == 0) old new
 by_code m handle retval k c old new is positive told got =
     subst (λ z. CollectsOp m handle (of_z w32 z == 0) old new) (sym told)
     (elim (of_z w32 (number_of c) == 0) as (λ b. (of_z w32 (number_of c) == 0) ≡ b → CollectsOp m handle b old new) [

@@ -1,5 +1,6 @@
 -- Which branches a teller's requests name: those of its own transfers, each in its own time.
-use Rattle.std.proofs.Common.{◌≡◌, ◌≢◌, ℕ, suc, ◌+◌, ◌*◌, ◌^◌, ◌<◌, ◌≤◌, ◌⊎◌, ⊎_elim, Bool, true, false, ◌||◌, ◌==◌, List, [], ◌∷◌, ◌++◌, length, sym, refl, ap, ◌∙◌, subst, inl, inr, arith, Option, Some, None}
+use Rattle.std.proofs.Common.{◌≡◌, ◌≢◌, ℕ, suc, ◌+◌, ◌*◌, ◌^◌, ◌<◌, ◌≤◌, ◌⊎◌, ⊎_elim, Bool, true, false, ◌||◌, ◌==◌, List, [], ◌∷◌, ◌++◌, length, sym, refl, ap}
+use Rattle.std.proofs.Common.{◌∙◌, subst, inl, inr, arith, Option, Some, None}
 use Rattle.std.specs.Prelude.{ℤ, pos, neg_ℤ, ◌+ℤ◌}
 use Rattle.std.specs.Int.{w64, from_be_bytes}
 use Rattle.std.specs.List.{All}
@@ -27,7 +28,7 @@ use Rattle.xa_driver.specs.declared.done.Ending.{Ending}
 use Rattle.xa_driver.specs.Asks.{asked}
 use Rattle.xa_driver.specs.Decision.{is_yes, is_read}
 use Rattle.xa_driver.specs.Endings.{second_op, third_op, is_out_of_reach, is_decided}
-use Rattle.xa_driver.specs.Log.{LogState}
+use Rattle.xa_log.specs.Log.{LogState}
 use Rattle.xa_driver.specs.Course.{AtBranch}
 use Rattle.xa_driver.specs.Resolving.{AsksLedger}
 use Rattle.xa_driver.specs.Trace.{EachBranch, IsCommit, has_branch_at}
@@ -38,7 +39,8 @@ use Rattle.xa_bank.specs.Deaths.{CameTo, point_at}
 use Rattle.xa_bank.specs.declared.teller.Leg.{Leg}
 use Rattle.xa_bank.specs.declared.teller.Transfer.{Transfer}
 use Rattle.xa_bank.specs.declared.teller.TransferOutcome.{TransferOutcome}
-use Rattle.xa_bank.specs.Transfers.{HasSent, HaveSent, IsFor, AreLegs, pays_first, paid_first, HasWorked, HaveWorked, ComesOfCommit, in_full, cut_short, commits, refused, Makes, with_legs, without_legs, MakesEach, gtrid_of}
+use Rattle.xa_bank.specs.Transfers.{HasSent, HaveSent, IsFor, AreLegs, pays_first, paid_first, HasWorked, HaveWorked, ComesOfCommit, in_full, cut_short}
+use Rattle.xa_bank.specs.Transfers.{commits, refused, Makes, with_legs, without_legs, MakesEach, gtrid_of}
 use Rattle.xa_bank.proofs.Sent.{none_sent, sent_on, asked_sent, have_none, have_on, have_as}
 use Rattle.xa_bank.proofs.Deaths.{died_sent}
 
@@ -57,7 +59,8 @@ one_transfer t n u k x low high one two =
     let first : t * 2 ^ 32 + n < 2 ^ 64 = omega (arith, low, small) in
     let second : u * 2 ^ 32 + k < 2 ^ 64 = omega (arith, high, small') in
     let same : t * 2 ^ 32 + n ≡ u * 2 ^ 32 + k =
-    sym (from_be_bytes-to_be_bytes_8 (t * 2 ^ 32 + n) first) ∙ ap (from_be_bytes w64) (sym one.gtrid ∙ two.gtrid) ∙ from_be_bytes-to_be_bytes_8 (u * 2 ^ 32 + k) second in
+    sym (from_be_bytes-to_be_bytes_8 (t * 2 ^ 32 + n) first) ∙ ap (from_be_bytes w64) (sym one.gtrid ∙ two.gtrid)
+    ∙ from_be_bytes-to_be_bytes_8 (u * 2 ^ 32 + k) second in
     (omega (arith, same, small, small'), omega (arith, same, small, small'))
 
 -- the request names only branches of thread t's transfers with numbers that pass
@@ -121,7 +124,8 @@ third_names x (Some c) o is =
     (λ _ is. cc)
     is
 
-branch_sent : (commit : Bool) (b : Branch) (v : Code) (s : Option Code) (e : Ending) (a a' : LedgerView) → AtBranch AsksLedger commit b v s e a a' → HasSent (NamesAlone b.xid) a a'
+branch_sent : (commit : Bool) (b : Branch) (v : Code) (s : Option Code) (e : Ending) (a a' : LedgerView) → AtBranch AsksLedger commit b v s e a a'
+    → HasSent (NamesAlone b.xid) a a'
 branch_sent commit b v s e a a' is =
     branch_by AsksLedger (NamesAlone b.xid) (HasSent (NamesAlone b.xid) a) (λ d w op c so asked q. sent_on (NamesAlone b.xid) a d w q (subst (HasSent (NamesAlone b.xid) d) (sym asked.trace)
     (asked_sent (NamesAlone b.xid) d (Some op) (Some c) (λ o is. subst (NamesAlone b.xid) (some_same op o is) so)))) commit b v s e a a' is
@@ -150,7 +154,8 @@ neither one two m p q =
     let second : (two.m == m) ≡ false = ne_eqb two.m m (λ e. q (sym e)) in
     λ i. first i || (second i || false)
 
-pub commit_sent : (P : Op → Type 0) (one two : Branch) (desk : DeskView) (new : List LedgerView) (log later : LogState) (d : Done) → ((op : Op) → NamesAlone one.xid op → P op) → ((op : Op) → NamesAlone two.xid op → P op)
+pub commit_sent : (P : Op → Type 0) (one two : Branch) (desk : DeskView) (new : List LedgerView) (log later : LogState) (d : Done)
+    → ((op : Op) → NamesAlone one.xid op → P op) → ((op : Op) → NamesAlone two.xid op → P op)
     → IsCommit (one ∷ two ∷ []) desk new log later d → HaveSent P desk.ledgers new
 commit_sent P one two desk new log later d so also made =
     let old : List LedgerView = desk.ledgers in
@@ -169,7 +174,8 @@ commit_sent P one two desk new log later d so also made =
 
 -- ---- the work for two legs
 
-leg_work_sent : (P : Op → Type 0) (leg : Leg) (k : List ℕ) (a a' : LedgerView) → P (Start leg.branch.xid Fresh) → P (Add k leg.delta) → P (End leg.branch.xid Success) → HasWorked leg k a a' → HasSent P a a'
+leg_work_sent : (P : Op → Type 0) (leg : Leg) (k : List ℕ) (a a' : LedgerView) → P (Start leg.branch.xid Fresh) → P (Add k leg.delta)
+    → P (End leg.branch.xid Success) → HasWorked leg k a a' → HasSent P a a'
 leg_work_sent P leg k a a' starts adds ends w = record {
   more = Start leg.branch.xid Fresh ∷ Add k leg.delta ∷ End leg.branch.xid Success ∷ [];
   sent = w.sent;
@@ -178,7 +184,9 @@ leg_work_sent P leg k a a' starts adds ends w = record {
   collected = ((length a.sent, Ok_) ∷ (length a.sent + 1, Ok_) ∷ (length a.sent + 2, Ok_) ∷ [], w.collected);
 }
 
-pub work_sent : (P : Op → Type 0) (one two : Leg) (k : List ℕ) (old new : List LedgerView) → ((leg : Leg) → (leg ≡ one) ⊎ (leg ≡ two) → P (Start leg.branch.xid Fresh) × P (Add k leg.delta) × P (End leg.branch.xid Success)) → HaveWorked one two k old new → HaveSent P old new
+pub work_sent : (P : Op → Type 0) (one two : Leg) (k : List ℕ) (old new : List LedgerView)
+    → ((leg : Leg) → (leg ≡ one) ⊎ (leg ≡ two) → P (Start leg.branch.xid Fresh) × P (Add k leg.delta) × P (End leg.branch.xid Success))
+    → HaveWorked one two k old new → HaveSent P old new
 work_sent P one two k old new so w = λ m positive. elim (cases_eq m one.branch.m) as (λ _. HasSent P (ledger old m) (ledger new m)) [
   | inl same ↦ subst (λ n. HasSent P (ledger old n) (ledger new n)) (sym same) (let s = so one (inl refl) in leg_work_sent P one k (ledger old one.branch.m) (ledger new one.branch.m) s.0 s.1 s.2 w.one_)
   | inr p ↦ elim (cases_eq m two.branch.m) as (λ _. HasSent P (ledger old m) (ledger new m)) [
@@ -196,7 +204,8 @@ Is n k = k ≡ n
 names_leg : (t n : ℕ) (leg : Leg) → IsOf t n leg.branch.xid → (op : Op) → NamesAlone leg.branch.xid op → Names t (Is n) op
 names_leg t n leg of_it op alone = record { each = λ y e. (n, (refl, subst (IsOf t n) (alone y e) of_it)) }
 
-pub legs_name : (t n : ℕ) (one two leg : Leg) (k : List ℕ) → LegsOf t n one two → (leg ≡ one) ⊎ (leg ≡ two) → Names t (Is n) (Start leg.branch.xid Fresh) × Names t (Is n) (Add k leg.delta) × Names t (Is n) (End leg.branch.xid Success)
+pub legs_name : (t n : ℕ) (one two leg : Leg) (k : List ℕ) → LegsOf t n one two → (leg ≡ one) ⊎ (leg ≡ two)
+    → Names t (Is n) (Start leg.branch.xid Fresh) × Names t (Is n) (Add k leg.delta) × Names t (Is n) (End leg.branch.xid Success)
 legs_name t n one two leg k legs which =
     let of_it : IsOf t n leg.branch.xid =
     ⊎_elim (λ (e : leg ≡ one). subst (λ (l : Leg). IsOf t n l.branch.xid) (sym e) legs.first) (λ (e : leg ≡ two). subst (λ (l : Leg). IsOf t n l.branch.xid) (sym e) legs.second) which in (
@@ -216,35 +225,46 @@ for_names t n one two legs op h = record {
   );
 }
 
-pub commit_names : (t n : ℕ) (one two : Leg) (worked : DeskView) (new : List LedgerView) (log later : LogState) (d : Done) → LegsOf t n one two → IsCommit (one.branch ∷ two.branch ∷ []) worked new log later d → HaveSent (Names t (Is n)) worked.ledgers new
-commit_names t n one two worked new log later d legs made = commit_sent (Names t (Is n)) one.branch two.branch worked new log later d (names_leg t n one legs.first) (names_leg t n two legs.second) made
+pub commit_names : (t n : ℕ) (one two : Leg) (worked : DeskView) (new : List LedgerView) (log later : LogState) (d : Done) → LegsOf t n one two
+    → IsCommit (one.branch ∷ two.branch ∷ []) worked new log later d → HaveSent (Names t (Is n)) worked.ledgers new
+commit_names t n one two worked new log later d legs made =
+    commit_sent (Names t (Is n)) one.branch two.branch worked new log later d (names_leg t n one legs.first) (names_leg t n two legs.second) made
 
-pub died_names : (t n : ℕ) (one two : Leg) (at : Point) (known : Option Done) (worked : DeskView) (new : List LedgerView) (log later : LogState) → LegsOf t n one two → CameTo at (one.branch ∷ two.branch ∷ []) known worked new log later → HaveSent (Names t (Is n)) worked.ledgers new
+pub died_names : (t n : ℕ) (one two : Leg) (at : Point) (known : Option Done) (worked : DeskView) (new : List LedgerView) (log later : LogState)
+    → LegsOf t n one two → CameTo at (one.branch ∷ two.branch ∷ []) known worked new log later → HaveSent (Names t (Is n)) worked.ledgers new
 died_names t n one two at known worked new log later legs far =
     let Q : Branch → Type 0 = λ b. (o : Op) → NamesAlone b.xid o → Names t (Is n) o in
-    let each : All Q (one.branch ∷ two.branch ∷ []) = All-cons Q one.branch (two.branch ∷ []) (names_leg t n one legs.first) (All-cons Q two.branch [] (names_leg t n two legs.second) (All-nil Q)) in
+    let each : All Q (one.branch ∷ two.branch ∷ []) =
+    All-cons Q one.branch (two.branch ∷ []) (names_leg t n one legs.first) (All-cons Q two.branch [] (names_leg t n two legs.second) (All-nil Q)) in
     died_sent (Names t (Is n)) Q (λ b so. so (Prepare b.xid) (same_xid b.xid)) (λ b so commit v o is. so o (second_names commit b.xid v o is)) at (one.branch ∷ two.branch ∷ []) known worked new log later each far
 
-comes_names : (t n : ℕ) (one two : Leg) (point : Option Point) (o : TransferOutcome) (worked : DeskView) (new : List LedgerView) (log later : LogState) → LegsOf t n one two → ComesOfCommit (one.branch ∷ two.branch ∷ []) point o worked new log later → HaveSent (Names t (Is n)) worked.ledgers new
+comes_names : (t n : ℕ) (one two : Leg) (point : Option Point) (o : TransferOutcome) (worked : DeskView) (new : List LedgerView) (log later : LogState)
+    → LegsOf t n one two → ComesOfCommit (one.branch ∷ two.branch ∷ []) point o worked new log later → HaveSent (Names t (Is n)) worked.ledgers new
 comes_names t n one two point o worked new log later legs (in_full d none is made) = commit_names t n one two worked new log later d legs made
 comes_names t n one two point o worked new log later legs (cut_short at known some is dies) = died_names t n one two at known worked new log later legs dies.far
 
-pub transfer_names : (t n : ℕ) (tr : Transfer) (point : Option Point) (o : TransferOutcome) (old new : DeskView) (log later : LogState) → Makes t n tr point o old new log later → HaveSent (Names t (Is n)) old.ledgers new.ledgers
+pub transfer_names : (t n : ℕ) (tr : Transfer) (point : Option Point) (o : TransferOutcome) (old new : DeskView) (log later : LogState)
+    → Makes t n tr point o old new log later → HaveSent (Names t (Is n)) old.ledgers new.ledgers
 transfer_names t n tr point o old new log later (with_legs one two legs (commits worked work comes)) =
     let of_it = legs_are t n tr one two legs in
     have_on (Names t (Is n)) old.ledgers worked.ledgers new.ledgers
     (work_sent (Names t (Is n)) one two tr.account old.ledgers worked.ledgers (λ leg which. legs_name t n one two leg tr.account of_it which) work)
     (comes_names t n one two point o worked new.ledgers log later of_it comes)
-transfer_names t n tr point o old new log later (with_legs one two legs (refused is same why sent)) = have_as (IsFor one two) (Names t (Is n)) (for_names t n one two (legs_are t n tr one two legs)) old.ledgers new.ledgers sent
-transfer_names t n tr point o old new log later (without_legs is none same unlogged) = have_none (Names t (Is n)) old.ledgers new.ledgers (ap (λ (d : DeskView). d.ledgers) same)
+transfer_names t n tr point o old new log later (with_legs one two legs (refused is same why sent)) =
+    have_as (IsFor one two) (Names t (Is n)) (for_names t n one two (legs_are t n tr one two legs)) old.ledgers new.ledgers sent
+transfer_names t n tr point o old new log later (without_legs is none same unlogged) =
+    have_none (Names t (Is n)) old.ledgers new.ledgers (ap (λ (d : DeskView). d.ledgers) same)
 
 -- from this number on
 abbrev pub IsFrom : ℕ → ℕ → Type 0
 IsFrom n k = n ≤ k
 
-pub transfers_name : (t : ℕ) (death : Option Death) (n : ℕ) (trs : List Transfer) (os : List TransferOutcome) (old new : DeskView) (log later : LogState) → MakesEach t death n trs os old new log later → HaveSent (Names t (IsFrom n)) old.ledgers new.ledgers
-transfers_name t death n [] [] old new log later (same, unlogged) = have_none (Names t (IsFrom n)) old.ledgers new.ledgers (ap (λ (d : DeskView). d.ledgers) same)
-transfers_name t death n (tr ∷ trs) [] old new log later (same, unlogged) = have_none (Names t (IsFrom n)) old.ledgers new.ledgers (ap (λ (d : DeskView). d.ledgers) same)
+pub transfers_name : (t : ℕ) (death : Option Death) (n : ℕ) (trs : List Transfer) (os : List TransferOutcome) (old new : DeskView) (log later : LogState)
+    → MakesEach t death n trs os old new log later → HaveSent (Names t (IsFrom n)) old.ledgers new.ledgers
+transfers_name t death n [] [] old new log later (same, unlogged) =
+    have_none (Names t (IsFrom n)) old.ledgers new.ledgers (ap (λ (d : DeskView). d.ledgers) same)
+transfers_name t death n (tr ∷ trs) [] old new log later (same, unlogged) =
+    have_none (Names t (IsFrom n)) old.ledgers new.ledgers (ap (λ (d : DeskView). d.ledgers) same)
 transfers_name t death n (tr ∷ trs) (o ∷ os) old new log later (mid, now, makes, rest) =
     have_on (Names t (IsFrom n)) old.ledgers mid.ledgers new.ledgers
     (have_as (Names t (Is n)) (Names t (IsFrom n)) (names_as t (Is n) (IsFrom n) (λ k e. omega (arith, e))) old.ledgers mid.ledgers (transfer_names t n tr (point_at death n) o old mid log now makes))
@@ -257,9 +277,11 @@ makes_none t death n (tr ∷ trs) d log = (refl, refl)
 
 -- one transfer more at the end, and more that weren't made
 pub makes_more : (t : ℕ) (death : Option Death) (n : ℕ) (trs : List Transfer) (os : List TransferOutcome) (tr : Transfer) (unmade : List Transfer) (o : TransferOutcome) (old mid new : DeskView) (log now later : LogState)
-    → length os ≡ length trs → MakesEach t death n trs os old mid log now → Makes t (n + length trs) tr (point_at death (n + length trs)) o mid new now later → MakesEach t death n (trs ++ tr ∷ unmade) (os ++ o ∷ []) old new log later
+    → length os ≡ length trs → MakesEach t death n trs os old mid log now → Makes t (n + length trs) tr (point_at death (n + length trs)) o mid new now later
+    → MakesEach t death n (trs ++ tr ∷ unmade) (os ++ o ∷ []) old new log later
 makes_more t death n [] [] tr unmade o old mid new log now later many (same, unlogged) makes =
-    let here : Makes t n tr (point_at death n) o mid new now later = subst (λ k. Makes t k tr (point_at death k) o mid new now later) (let e : n + 0 ≡ n = omega arith in e) makes in
+    let here : Makes t n tr (point_at death n) o mid new now later =
+    subst (λ k. Makes t k tr (point_at death k) o mid new now later) (let e : n + 0 ≡ n = omega arith in e) makes in
     (new, later, subst (λ (d : DeskView). Makes t n tr (point_at death n) o d new log later) same (subst (λ (l : LogState). Makes t n tr (point_at death n) o mid new l later) unlogged here), makes_none t death (n + 1) unmade new later)
 makes_more t death n (r ∷ trs) (p ∷ os) tr unmade o old mid new log now later many (next, state, first, rest) makes = (
   next,

@@ -1,6 +1,7 @@
 -- A teller's thread makes only transfers.
 use Rattle.std.specs.Prelude.{ℤ, pos, ◌+ℤ◌}
-use Rattle.std.proofs.Common.{◌≡◌, ℕ, suc, ◌+◌, ◌-◌, ◌^◌, ◌<◌, ◌≤◌, ⊎_elim, true, false, ◌||◌, List, [], ◌∷◌, ◌++◌, length, length-append, append_assoc, slice_get, sym, refl, ap, ◌∙◌, subst, arith, Option, Some}
+use Rattle.std.proofs.Common.{◌≡◌, ℕ, suc, ◌+◌, ◌-◌, ◌^◌, ◌<◌, ◌≤◌, ⊎_elim, true, false, ◌||◌, List, [], ◌∷◌, ◌++◌, length, length-append, append_assoc}
+use Rattle.std.proofs.Common.{slice_get, sym, refl, ap, ◌∙◌, subst, arith, Option, Some}
 use Rattle.std.specs.List.{All, list_any}
 use Rattle.std.proofs.lemmas.Int.{ints}
 use Rattle.std.proofs.lemmas.Bool.{cases_lt}
@@ -31,11 +32,11 @@ use Rattle.xa_driver.specs.declared.branch.Branch.{Branch}
 use Rattle.xa_driver.specs.declared.done.Done.{Done}
 use Rattle.xa_driver.specs.declared.done.Ending.{Ending}
 use Rattle.xa_driver.specs.Commits.{is_commit, NoCommitWasSent}
-use Rattle.xa_driver.specs.Log.{LogState}
-use Rattle.xa_driver.specs.Outcomes.{AreLeftAlone, OnlyTheseName, is_in_doubt, sent_so_far}
+use Rattle.xa_log.specs.Log.{LogState}
+use Rattle.xa_atomicity.specs.Outcomes.{AreLeftAlone, OnlyTheseName, is_in_doubt, sent_so_far}
 use Rattle.xa_driver.specs.Trace.{IsCommit}
-use Rattle.xa_driver.specs.Conservation.{added_before, added_by_all, held_in_doubt, NothingWasSent, OnlyTransfers, opened, worked, committed}
-use Rattle.xa_driver.proofs.Settled.{by_ledger}
+use Rattle.xa_atomicity.specs.Conservation.{added_before, added_by_all, held_in_doubt, NothingWasSent, OnlyTransfers, opened, worked, committed}
+use Rattle.xa_atomicity.proofs.Settled.{by_ledger}
 use Rattle.xa_bank.specs.declared.teller.Leg.{Leg}
 use Rattle.xa_bank.specs.declared.teller.Transfer.{Transfer}
 use Rattle.xa_bank.specs.declared.teller.TransferOutcome.{TransferOutcome}
@@ -45,7 +46,8 @@ use Rattle.xa_bank.specs.declared.dying.Point.TheVariants as point
 use Rattle.xa_bank.specs.Deaths.{CameTo, Dies, endings_in, point_at}
 use Rattle.xa_bank.specs.Tellers.{IsClearAt, IsUndoubted}
 use Rattle.xa_bank.proofs.Deaths.{IsUntold, told_made, untold_sent}
-use Rattle.xa_bank.specs.Transfers.{HasSent, HaveSent, IsOpenRm, IsFor, HasWorked, HaveWorked, ComesOfCommit, in_full, cut_short, commits, refused, Makes, with_legs, without_legs, MakesEach, MakesAll}
+use Rattle.xa_bank.specs.Transfers.{HasSent, HaveSent, IsOpenRm, IsFor, HasWorked, HaveWorked, ComesOfCommit, in_full, cut_short, commits, refused, Makes}
+use Rattle.xa_bank.specs.Transfers.{with_legs, without_legs, MakesEach, MakesAll}
 use Rattle.xa_bank.proofs.Sent.{have_on, have_as}
 use Rattle.xa_bank.proofs.Named.{IsOf, Names, names_as, LegsOf, legs_are, legs_name, work_sent, commit_names, transfer_names, transfers_name, Is, IsFrom}
 use Rattle.xa_bank.proofs.Told.{IsAny, IsBelow, IsTold, NamedWithin, named_within, only_these}
@@ -107,7 +109,8 @@ module _ (adds : (t n : ℕ) (x : XidName) (k : List ℕ) (d : ℤ) (h : History
 
   -- ---- a transfer that was decided
 
-  module _ (n : ℕ) (account : List ℕ) (one two : Leg) (legs : LegsOf t n one two) (old : List LedgerView) (desk : DeskView) (new : List LedgerView) (log later_log : LogState) (d : Done)
+  module _ (n : ℕ) (account : List ℕ) (one two : Leg) (legs : LegsOf t n one two) (old : List LedgerView) (desk : DeskView) (new : List LedgerView)
+      (log later_log : LogState) (d : Done)
       (work : HaveWorked one two account old desk.ledgers) (made : IsCommit (one.branch ∷ two.branch ∷ []) desk new log later_log d) (before : Earlier n old) (after : Later (n + 1) new) where
     worked_names : HaveSent (Names t (Is n)) old desk.ledgers
     worked_names = work_sent (Names t (Is n)) one two account old desk.ledgers (λ leg which. legs_name t n one two leg account legs which) work
@@ -122,7 +125,8 @@ module _ (adds : (t n : ℕ) (x : XidName) (k : List ℕ) (d : ℤ) (h : History
         (have_as (Names t (IsFrom (n + 1))) (Names t IsAny) (names_as t (IsFrom (n + 1)) IsAny (λ k e. tt)) new final after)
 
     -- one of the legs
-    module _ (leg : Leg) (of_it : IsOf t n leg.branch.xid) (positive : 1 ≤ leg.branch.m) (its : HasWorked leg account (ledger old leg.branch.m) (ledger desk.ledgers leg.branch.m)) where
+    module _ (leg : Leg) (of_it : IsOf t n leg.branch.xid) (positive : 1 ≤ leg.branch.m)
+        (its : HasWorked leg account (ledger old leg.branch.m) (ledger desk.ledgers leg.branch.m)) where
       abbrev m : ℕ
       m = leg.branch.m
 
@@ -172,7 +176,8 @@ module _ (adds : (t n : ℕ) (x : XidName) (k : List ℕ) (d : ℤ) (h : History
 
       there : m ≤ length p.managers.items
       there =
-          let size : length (ledger final m).sent ≡ length (ledger desk.ledgers m).sent + length since.more = ap length since.sent ∙ length-append (ledger desk.ledgers m).sent since.more in
+          let size : length (ledger final m).sent ≡ length (ledger desk.ledgers m).sent + length since.more =
+          ap length since.sent ∙ length-append (ledger desk.ledgers m).sent since.more in
           let known = known_by final m (let e = many in omega (arith, size, e)) in
           omega (arith, known, managers)
 
@@ -201,14 +206,16 @@ module _ (adds : (t n : ℕ) (x : XidName) (k : List ℕ) (d : ℤ) (h : History
     }
 
     zero_sum : added_by_all p s t desk.ledgers (one.branch ∷ two.branch ∷ []) ≡ pos 0
-    zero_sum = (λ i. added one legs.first first_up work.one_ i +ℤ (added two legs.second second_up work.two_ i +ℤ pos 0)) ∙ add_nothing one.delta two.delta legs.sum
+    zero_sum =
+        (λ i. added one legs.first first_up work.one_ i +ℤ (added two legs.second second_up work.two_ i +ℤ pos 0)) ∙ add_nothing one.delta two.delta legs.sum
 
     worked_quietly : HaveSent IsNone old desk.ledgers
     worked_quietly = work_sent IsNone one two account old desk.ledgers (λ leg which. (refl, refl, refl)) work
 
     pub only_decided : list_any is_in_doubt d.endings.items ≡ false → OnlyTransfers p s t old (pos 0) → OnlyTransfers p s t new (pos 0)
     only_decided none only =
-        let at_work : OnlyTransfers p s t desk.ledgers (pos 0) = worked old desk.ledgers (pos 0) only (grown_by IsNone old desk.ledgers worked_quietly) (no_commit old desk.ledgers worked_quietly) in
+        let at_work : OnlyTransfers p s t desk.ledgers (pos 0) =
+        worked old desk.ledgers (pos 0) only (grown_by IsNone old desk.ledgers worked_quietly) (no_commit old desk.ledgers worked_quietly) in
         let done : OnlyTransfers p s t new (pos 0 +ℤ held_in_doubt p s t desk.ledgers (one.branch ∷ two.branch ∷ []) d) =
         committed (one.branch ∷ two.branch ∷ []) desk new log later_log d (pos 0) at_work made both_alone zero_sum in
         subst (λ v. OnlyTransfers p s t new (pos 0 +ℤ v)) (undoubted p s t desk.ledgers (one.branch ∷ two.branch ∷ []) d none) done
@@ -219,7 +226,8 @@ module _ (adds : (t n : ℕ) (x : XidName) (k : List ℕ) (d : ℤ) (h : History
   -- ---- a transfer with which its teller died
 
   -- before it told any branch
-  only_untold : (n : ℕ) (account : List ℕ) (one two : Leg) (at : Point) (old : List LedgerView) (desk : DeskView) (new : List LedgerView) (log later : LogState) (known : Option Done) → HaveWorked one two account old desk.ledgers → IsUntold at
+  only_untold : (n : ℕ) (account : List ℕ) (one two : Leg) (at : Point) (old : List LedgerView) (desk : DeskView) (new : List LedgerView) (log later : LogState) (known : Option Done)
+      → HaveWorked one two account old desk.ledgers → IsUntold at
       → CameTo at (one.branch ∷ two.branch ∷ []) known desk new log later → OnlyTransfers p s t old (pos 0) → OnlyTransfers p s t new (pos 0)
   only_untold n account one two at old desk new log later known work untold far only =
       let Q : Branch → Type 0 = λ b. Unit {0} in
@@ -227,11 +235,16 @@ module _ (adds : (t n : ℕ) (x : XidName) (k : List ℕ) (d : ℤ) (h : History
       only_quiet desk.ledgers new (untold_sent IsNone Q (λ b _. refl) at (one.branch ∷ two.branch ∷ []) known desk new log later untold each far)
       (only_quiet old desk.ledgers (work_sent IsNone one two account old desk.ledgers (λ leg which. (refl, refl, refl)) work) only)
 
-  only_died : (n : ℕ) (account : List ℕ) (one two : Leg) (legs : LegsOf t n one two) (at : Point) (old : List LedgerView) (desk : DeskView) (new : List LedgerView) (log later : LogState) (known : Option Done) → HaveWorked one two account old desk.ledgers
-      → Dies at (one.branch ∷ two.branch ∷ []) known desk new log later → IsClearAt at (endings_in known) → Earlier n old → Later (n + 1) new → OnlyTransfers p s t old (pos 0) → OnlyTransfers p s t new (pos 0)
-  only_died n account one two legs point.Asking old desk new log later known work dies clear before after only = only_untold n account one two point.Asking old desk new log later known work tt dies.far only
-  only_died n account one two legs point.Voted old desk new log later known work dies clear before after only = only_untold n account one two point.Voted old desk new log later known work tt dies.far only
-  only_died n account one two legs point.Decided old desk new log later known work dies clear before after only = only_untold n account one two point.Decided old desk new log later known work tt dies.far only
+  only_died : (n : ℕ) (account : List ℕ) (one two : Leg) (legs : LegsOf t n one two) (at : Point) (old : List LedgerView) (desk : DeskView) (new : List LedgerView) (log later : LogState) (known : Option Done)
+      → HaveWorked one two account old desk.ledgers
+      → Dies at (one.branch ∷ two.branch ∷ []) known desk new log later → IsClearAt at (endings_in known) → Earlier n old → Later (n + 1) new
+      → OnlyTransfers p s t old (pos 0) → OnlyTransfers p s t new (pos 0)
+  only_died n account one two legs point.Asking old desk new log later known work dies clear before after only =
+      only_untold n account one two point.Asking old desk new log later known work tt dies.far only
+  only_died n account one two legs point.Voted old desk new log later known work dies clear before after only =
+      only_untold n account one two point.Voted old desk new log later known work tt dies.far only
+  only_died n account one two legs point.Decided old desk new log later known work dies clear before after only =
+      only_untold n account one two point.Decided old desk new log later known work tt dies.far only
   only_died n account one two legs point.Telling old desk new log later known work dies clear before after only = absurd clear
   only_died n account one two legs point.Told old desk new log later known work dies clear before after only =
       let made = told_made (one.branch ∷ two.branch ∷ []) known desk new log later dies.cut.may dies.far clear.1 in
@@ -239,26 +252,37 @@ module _ (adds : (t n : ℕ) (x : XidName) (k : List ℕ) (d : ℤ) (h : History
 
   -- ---- any transfer
 
-  only_quiet_one : (one two : Leg) (old new : List LedgerView) → HaveSent (IsFor one two) old new → OnlyTransfers p s t old (pos 0) → OnlyTransfers p s t new (pos 0)
+  only_quiet_one : (one two : Leg) (old new : List LedgerView) → HaveSent (IsFor one two) old new → OnlyTransfers p s t old (pos 0)
+      → OnlyTransfers p s t new (pos 0)
   only_quiet_one one two old new h only = only_quiet old new (have_as (IsFor one two) IsNone (λ op f. f.uncommitting) old new h) only
 
-  only_commit : (n : ℕ) (account : List ℕ) (one two : Leg) (legs : LegsOf t n one two) (point : Option Point) (o : TransferOutcome) (old : List LedgerView) (desk : DeskView) (new : List LedgerView) (log later : LogState) → HaveWorked one two account old desk.ledgers
-      → ComesOfCommit (one.branch ∷ two.branch ∷ []) point o desk new log later → IsUndoubted o → Earlier n old → Later (n + 1) new → OnlyTransfers p s t old (pos 0) → OnlyTransfers p s t new (pos 0)
+  only_commit : (n : ℕ) (account : List ℕ) (one two : Leg) (legs : LegsOf t n one two) (point : Option Point) (o : TransferOutcome) (old : List LedgerView) (desk : DeskView) (new : List LedgerView) (log later : LogState)
+      → HaveWorked one two account old desk.ledgers
+      → ComesOfCommit (one.branch ∷ two.branch ∷ []) point o desk new log later → IsUndoubted o → Earlier n old → Later (n + 1) new
+      → OnlyTransfers p s t old (pos 0) → OnlyTransfers p s t new (pos 0)
   only_commit n account one two legs point o old desk new log later work (in_full d none is made) fine before after only =
       only_decided n account one two legs old desk new log later d work made before after (subst IsUndoubted is fine) only
   only_commit n account one two legs point o old desk new log later work (cut_short at known some is dies) fine before after only =
       only_died n account one two legs at old desk new log later known work dies (subst IsUndoubted is fine) before after only
 
-  only_one : (n : ℕ) (tr : Transfer) (point : Option Point) (o : TransferOutcome) (old new : DeskView) (log later : LogState) → Makes t n tr point o old new log later → IsUndoubted o → Earlier n old.ledgers → Later (n + 1) new.ledgers → OnlyTransfers p s t old.ledgers (pos 0) → OnlyTransfers p s t new.ledgers (pos 0)
+  only_one : (n : ℕ) (tr : Transfer) (point : Option Point) (o : TransferOutcome) (old new : DeskView) (log later : LogState)
+      → Makes t n tr point o old new log later → IsUndoubted o → Earlier n old.ledgers → Later (n + 1) new.ledgers → OnlyTransfers p s t old.ledgers (pos 0)
+      → OnlyTransfers p s t new.ledgers (pos 0)
   only_one n tr point o old new log later (with_legs one two legs (commits desk work comes)) fine before after only =
       only_commit n tr.account one two (legs_are t n tr one two legs) point o old.ledgers desk new.ledgers log later work comes fine before after only
-  only_one n tr point o old new log later (with_legs one two legs (refused is unlogged why h)) fine before after only = only_quiet_one one two old.ledgers new.ledgers h only
-  only_one n tr point o old new log later (without_legs is none same unlogged) fine before after only = subst (λ (q : DeskView). OnlyTransfers p s t q.ledgers (pos 0)) (sym same) only
+  only_one n tr point o old new log later (with_legs one two legs (refused is unlogged why h)) fine before after only =
+      only_quiet_one one two old.ledgers new.ledgers h only
+  only_one n tr point o old new log later (without_legs is none same unlogged) fine before after only =
+      subst (λ (q : DeskView). OnlyTransfers p s t q.ledgers (pos 0)) (sym same) only
 
-  only_each : (death : Option Death) (n : ℕ) (trs : List Transfer) (os : List TransferOutcome) (old new : DeskView) (log later : LogState) → MakesEach t death n trs os old new log later → All IsUndoubted os → Earlier n old.ledgers → Later (n + length trs) new.ledgers → OnlyTransfers p s t old.ledgers (pos 0)
+  only_each : (death : Option Death) (n : ℕ) (trs : List Transfer) (os : List TransferOutcome) (old new : DeskView) (log later : LogState)
+      → MakesEach t death n trs os old new log later → All IsUndoubted os → Earlier n old.ledgers → Later (n + length trs) new.ledgers
+      → OnlyTransfers p s t old.ledgers (pos 0)
       → OnlyTransfers p s t new.ledgers (pos 0)
-  only_each death n [] [] old new log later (same, unlogged) fine before after only = subst (λ (q : DeskView). OnlyTransfers p s t q.ledgers (pos 0)) (sym same) only
-  only_each death n (tr ∷ trs) [] old new log later (same, unlogged) fine before after only = subst (λ (q : DeskView). OnlyTransfers p s t q.ledgers (pos 0)) (sym same) only
+  only_each death n [] [] old new log later (same, unlogged) fine before after only =
+      subst (λ (q : DeskView). OnlyTransfers p s t q.ledgers (pos 0)) (sym same) only
+  only_each death n (tr ∷ trs) [] old new log later (same, unlogged) fine before after only =
+      subst (λ (q : DeskView). OnlyTransfers p s t q.ledgers (pos 0)) (sym same) only
   only_each death n (tr ∷ trs) (o ∷ os) old new log later (mid, now, makes, rest) fine before after only =
       let later_on : Later (n + 1) mid.ledgers =
       have_on (Names t (IsFrom (n + 1))) mid.ledgers new.ledgers final (transfers_name t death (n + 1) trs os mid new now later rest)
@@ -273,12 +297,14 @@ module _ (adds : (t n : ℕ) (x : XidName) (k : List ℕ) (d : ℤ) (h : History
   opens_name : (op : Op) → IsOpenRm op → Names t (IsBelow 0) op
   opens_name op is = record { each = λ x e. let z : false ≡ true = sym (ap (λ o. names x o) is) ∙ e in cc }
 
-  pub only_transfers : (trs : List Transfer) (death : Option Death) (os : List TransferOutcome) (begun last : DeskView) (log later : LogState) → begun.thread ≡ t → NothingWasSent begun.ledgers → MakesAll trs death os begun last log later → All IsUndoubted os
+  pub only_transfers : (trs : List Transfer) (death : Option Death) (os : List TransferOutcome) (begun last : DeskView) (log later : LogState)
+      → begun.thread ≡ t → NothingWasSent begun.ledgers → MakesAll trs death os begun last log later → All IsUndoubted os
       → HaveSent (λ op. ⊥) last.ledgers final → OnlyTransfers p s t final (pos 0)
   only_transfers trs death os begun last log later thread nothing all fine end =
       let opening_ : DeskView = all.opened in
       let makes : MakesEach t death 0 trs os opening_ last log later = subst (λ u. MakesEach u death 0 trs os opening_ last log later) thread all.makes in
-      let quiet : HaveSent IsNone begun.ledgers opening_.ledgers = have_as IsOpenRm IsNone (λ op is. ap is_commit is) begun.ledgers opening_.ledgers all.opens in
+      let quiet : HaveSent IsNone begun.ledgers opening_.ledgers =
+      have_as IsOpenRm IsNone (λ op is. ap is_commit is) begun.ledgers opening_.ledgers all.opens in
       let before : Earlier 0 opening_.ledgers = λ m positive.
       let z = all.opens m positive in
       subst (All (Names t (IsBelow 0))) (sym (z.sent ∙ ap (λ l. l ++ z.more) (nothing m positive))) (All-weaker IsOpenRm (Names t (IsBelow 0)) opens_name z.more z.each) in
@@ -291,7 +317,8 @@ module _ (adds : (t n : ℕ) (x : XidName) (k : List ℕ) (d : ℤ) (h : History
 opens_any : (t : ℕ) (op : Op) → IsOpenRm op → Names t IsAny op
 opens_any t op is = record { each = λ x e. let z : false ≡ true = sym (ap (λ o. names x o) is) ∙ e in cc }
 
-pub all_told : (s : Settling) (t : ℕ) (trs : List Transfer) (death : Option Death) (os : List TransferOutcome) (begun last : DeskView) (log later : LogState) → begun.thread ≡ t → NothingWasSent begun.ledgers → MakesAll trs death os begun last log later
+pub all_told : (s : Settling) (t : ℕ) (trs : List Transfer) (death : Option Death) (os : List TransferOutcome) (begun last : DeskView) (log later : LogState)
+    → begun.thread ≡ t → NothingWasSent begun.ledgers → MakesAll trs death os begun last log later
     → HaveSent (λ op. ⊥) last.ledgers (ledgers_of s t) → (m : ℕ) → 1 ≤ m → All (Names t IsAny) (sent s t m)
 all_told s t trs death os begun last log later thread nothing all end m positive =
     let final : List LedgerView = ledgers_of s t in

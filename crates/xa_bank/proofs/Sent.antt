@@ -1,5 +1,6 @@
 -- Which requests were sent since: what is done one after the other, and what a request or a collection adds.
-use Rattle.std.proofs.Common.{◌≡◌, ℕ, zero, suc, ◌-◌, ◌⊎◌, Bool, true, false, ℤ, pos, negsuc, List, [], ◌∷◌, ◌++◌, length, append_assoc, sym, refl, ap, ◌∙◌, subst, Option, None, Some}
+use Rattle.std.proofs.Common.{◌≡◌, ℕ, zero, suc, ◌-◌, ◌⊎◌, Bool, true, false, ℤ, pos, negsuc, List, [], ◌∷◌, ◌++◌, length, append_assoc, sym, refl, ap, ◌∙◌}
+use Rattle.std.proofs.Common.{subst, Option, None, Some}
 use Rattle.std.proofs.lemmas.List.{append-nil}
 use Rattle.std.proofs.lemmas.List.Elements.{All-nil, All-cons, All-append, All-weaker}
 use Rattle.xa_base.proofs.Lists.{same_begins, begins_on}
@@ -92,7 +93,8 @@ collect_sent P m handle ok old new (undone k c other is unsaid i) = got_sent P k
 collect_sent P m handle ok old new (nothing unsaid none s) = stayed P old new s
 
 -- what a synchronous call that was answered did to the ledgers
-pub answered_ledgers : (m : ℕ) (op : Op) (n : ℕ) (c : Code) (old new : DeskView) → Collects (submitted (after_fulls n old m) m op) new (next_operation old.ledgers m) c → new.ledgers ≡ after_called old.ledgers m op c
+pub answered_ledgers : (m : ℕ) (op : Op) (n : ℕ) (c : Code) (old new : DeskView)
+    → Collects (submitted (after_fulls n old m) m op) new (next_operation old.ledgers m) c → new.ledgers ≡ after_called old.ledgers m op c
 answered_ledgers m op n c old new collects =
     let sending : collects.before.ledgers ≡ after_sent old.ledgers m op =
     ap (λ (d : DeskView). d.ledgers) collects.looks.rest ∙ ap (λ (l : List LedgerView). after_sent l m op) (fulls_ledgers n old m) in
@@ -103,7 +105,8 @@ call_adds P m op c at so =
     have_on P at (after_sent at m op) (after_called at m op c) (one_sent P at m op so) (one_collected P (after_sent at m op) (next_operation at m) c)
 
 -- a synchronous call
-pub call_sent : (P : Op → Type 0) (m : ℕ) (op : Op) (answer : ℤ) (old new : DeskView) → P op → Puts old m (record { op = op; asynchronous = false }) new answer → HaveSent P old.ledgers new.ledgers
+pub call_sent : (P : Op → Type 0) (m : ℕ) (op : Op) (answer : ℤ) (old new : DeskView) → P op → Puts old m (record { op = op; asynchronous = false }) new answer
+    → HaveSent P old.ledgers new.ledgers
 call_sent P m op answer old new so (refused c why is same) = have_none P old.ledgers new.ledgers (ap (λ (d : DeskView). d.ledgers) same)
 call_sent P m op answer old new so (full none now is same) = cc
 call_sent P m op answer old new so (kept none now k is free same) = cc
@@ -112,7 +115,8 @@ call_sent P m op answer old new so (answered none now n c is collects) =
 
 -- ---- the requests for a leg
 
-begins_sent : (P : Op → Type 0) (leg : Leg) (k : List ℕ) (f : Flight) (old new : DeskView) → P (Start leg.branch.xid Fresh) → P (Add k leg.delta) → P (End leg.branch.xid Success) → BeginsLeg leg k f old new → HaveSent P old.ledgers new.ledgers
+begins_sent : (P : Op → Type 0) (leg : Leg) (k : List ℕ) (f : Flight) (old new : DeskView) → P (Start leg.branch.xid Fresh) → P (Add k leg.delta)
+    → P (End leg.branch.xid Success) → BeginsLeg leg k f old new → HaveSent P old.ledgers new.ledgers
 begins_sent P leg k f old new starts adds ends b =
     have_on P old.ledgers b.added.ledgers new.ledgers
     (have_on P old.ledgers b.begun.ledgers b.added.ledgers (put_sent P leg.branch.m (Start leg.branch.xid Fresh) f.start old b.begun starts b.starts) (put_sent P leg.branch.m (Add k leg.delta) f.add b.begun b.added adds b.adds))
@@ -129,7 +133,8 @@ abbrev pub IsOneOf : Leg → Leg → Leg → Type 0
 IsOneOf one two leg = (leg.branch.xid ≡ one.branch.xid) ⊎ (leg.branch.xid ≡ two.branch.xid)
 
 -- a request that names this branch alone
-is_for : (one two leg : Leg) (op : Op) → IsOneOf one two leg → is_commit op ≡ false → ((y : XidName) → names y op ≡ true → xid_eq leg.branch.xid y ≡ true) → IsFor one two op
+is_for : (one two leg : Leg) (op : Op) → IsOneOf one two leg → is_commit op ≡ false → ((y : XidName) → names y op ≡ true → xid_eq leg.branch.xid y ≡ true)
+    → IsFor one two op
 is_for one two leg op of_one uncommitting named = record {
   uncommitting = uncommitting;
   named = λ y e. subst (λ (z : XidName). (z ≡ one.branch.xid) ⊎ (z ≡ two.branch.xid)) ((Decides-xid_eq leg.branch.xid y).0 (named y e)) of_one;
@@ -148,7 +153,8 @@ work_is_for one two leg of_one k = record {
   ends = is_for one two leg (End leg.branch.xid Success) of_one refl (λ y e. e);
 }
 
-pub leg_begins : (one two leg : Leg) → IsOneOf one two leg → (k : List ℕ) (f : Flight) (old new : DeskView) → BeginsLeg leg k f old new → HaveSent (IsFor one two) old.ledgers new.ledgers
+pub leg_begins : (one two leg : Leg) → IsOneOf one two leg → (k : List ℕ) (f : Flight) (old new : DeskView) → BeginsLeg leg k f old new
+    → HaveSent (IsFor one two) old.ledgers new.ledgers
 leg_begins one two leg of_one k f old new b =
     let work = work_is_for one two leg of_one k in
     begins_sent (IsFor one two) leg k f old new work.starts work.adds work.ends b

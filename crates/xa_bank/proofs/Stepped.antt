@@ -21,12 +21,15 @@ abbrev Steps : Round → Round → Type 0
 Steps r next = (js : List Ask) → SameAsks js r.asks.items → SameAsks js next.asks.items
 
 votes_on : (r next : Round) (known : Done) → Steps r next → HasRoomForVotes r known → HasRoomForVotes next known
-votes_on r next known steps h = record { none = h.none; room = subst (λ n. n ≤ vec_capacity known.votes) (sym (same_long r.asks.items next.asks.items (steps r.asks.items (same_itself r.asks.items)))) h.room }
+votes_on r next known steps h =
+    record { none = h.none; room = subst (λ n. n ≤ vec_capacity known.votes) (sym (same_long r.asks.items next.asks.items (steps r.asks.items (same_itself r.asks.items)))) h.room }
 
 endings_on : (r next : Round) (known : Done) → Steps r next → HasRoomForEndings r known → HasRoomForEndings next known
-endings_on r next known steps h = record { none = h.none; room = subst (λ n. n ≤ vec_capacity known.endings) (sym (same_long r.asks.items next.asks.items (steps r.asks.items (same_itself r.asks.items)))) h.room }
+endings_on r next known steps h =
+    record { none = h.none; room = subst (λ n. n ≤ vec_capacity known.endings) (sym (same_long r.asks.items next.asks.items (steps r.asks.items (same_itself r.asks.items)))) h.room }
 
-pub preparing_on : (bs : List Branch) (desk : DeskView) (p : Preparing) (next : Round) → IsPreparing bs desk p → next.before ≡ p.round.before → Steps p.round next → IsPreparing bs desk (record { round = next; tran = p.tran; known = p.known })
+pub preparing_on : (bs : List Branch) (desk : DeskView) (p : Preparing) (next : Round) → IsPreparing bs desk p → next.before ≡ p.round.before
+    → Steps p.round next → IsPreparing bs desk (record { round = next; tran = p.tran; known = p.known })
 preparing_on bs desk p next h before steps = record {
   before = ap (λ b. b.value) before ∙ h.before;
   tran = h.tran;
@@ -36,7 +39,8 @@ preparing_on bs desk p next h before steps = record {
   undecided = h.undecided;
 }
 
-pub telling_on : (d : Decided) (desk : DeskView) (t : Telling) (next : Round) → IsTelling d desk t → next.before ≡ t.round.before → Steps t.round next → IsTelling d desk (record { round = next; known = t.known })
+pub telling_on : (d : Decided) (desk : DeskView) (t : Telling) (next : Round) → IsTelling d desk t → next.before ≡ t.round.before → Steps t.round next
+    → IsTelling d desk (record { round = next; known = t.known })
 telling_on d desk t next h before steps = record {
   before = ap (λ b. b.value) before ∙ h.before;
   same = steps (map (second_ask d.known.commit) d.round.asks.items) h.same;
@@ -45,6 +49,8 @@ telling_on d desk t next h before steps = record {
 }
 
 -- what was done of it when it was left
-pub left_so_far : (r : Round) (desk now : DeskView) (left : List LedgerView) → ((r : Round) (now : DeskView) → IsUnderWay r now → HaveComeSoFar r.asks.items r.before.value.ledgers now.ledgers) → r.before.value ≡ desk → left ≡ now.ledgers → IsUnderWay r now → HaveComeSoFar r.asks.items desk.ledgers left
+pub left_so_far : (r : Round) (desk now : DeskView) (left : List LedgerView)
+    → ((r : Round) (now : DeskView) → IsUnderWay r now → HaveComeSoFar r.asks.items r.before.value.ledgers now.ledgers) → r.before.value ≡ desk
+    → left ≡ now.ledgers → IsUnderWay r now → HaveComeSoFar r.asks.items desk.ledgers left
 left_so_far r desk now left law before lists under_way =
     subst (λ (d : DeskView). HaveComeSoFar r.asks.items d.ledgers left) before (subst (λ (l : List LedgerView). HaveComeSoFar r.asks.items r.before.value.ledgers l) (sym lists) (law r now under_way))

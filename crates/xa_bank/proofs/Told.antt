@@ -1,6 +1,7 @@
 -- Which requests of a settled journal name a branch: those of its own transfer, where each thread's requests name only the
 -- branches of its own transfers.
-use Rattle.std.proofs.Common.{◌≡◌, ◌≢◌, ℕ, suc, ◌+◌, ◌^◌, ◌<◌, ◌≤◌, ◌⊎◌, ⊎_elim, true, false, ◌==◌, cond, List, [], ◌∷◌, ◌++◌, length, get_or, sym, refl, ap, ◌∙◌, subst, arith, eq-eqb}
+use Rattle.std.proofs.Common.{◌≡◌, ◌≢◌, ℕ, suc, ◌+◌, ◌^◌, ◌<◌, ◌≤◌, ◌⊎◌, ⊎_elim, true, false, ◌==◌, cond, List, [], ◌∷◌, ◌++◌, length, get_or, sym, refl, ap}
+use Rattle.std.proofs.Common.{◌∙◌, subst, arith, eq-eqb}
 use Rattle.std.specs.List.{All}
 use Rattle.std.proofs.lemmas.Bool.{cases_eq, eqb-false}
 use Rattle.std.proofs.lemmas.List.Elements.{All-nil, All-cons, All-head, All-tail}
@@ -13,8 +14,9 @@ use Rattle.xa_tables.specs.Prepared.{names}
 use Rattle.xa_desk.specs.Lanes.{numbered}
 use Rattle.xa_switch.specs.Settling.{Settling, IsSettled, sent}
 use Rattle.xa_switch.specs.Fates.{history}
-use Rattle.xa_driver.specs.Outcomes.{IsBetween, OnlyTheseName}
-use Rattle.xa_driver.proofs.Placing.{request_of, all_later}
+use Rattle.xa_atomicity.specs.Outcomes.{IsBetween, OnlyTheseName}
+use Rattle.xa_atomicity.proofs.Placing.{request_of}
+use Rattle.xa_atomicity.proofs.Requests.{all_later}
 use Rattle.xa_bank.proofs.Named.{IsOf, Names, one_transfer, IsFrom}
 
 -- ---- requests by their numbers
@@ -24,17 +26,20 @@ abbrev AllAt : (ℕ → Op → Type 0) → ℕ → List Op → Type 0
 AllAt P n [] = Unit {0}
 AllAt P n (op ∷ ops) = P n op × AllAt P (suc n) ops
 
-all_at_from : (P : ℕ → Op → Type 0) (Q : Op → Type 0) (n : ℕ) (ops : List Op) → All Q ops → ((k : ℕ) (op : Op) → n ≤ k → k < n + length ops → Q op → P k op) → AllAt P n ops
+all_at_from : (P : ℕ → Op → Type 0) (Q : Op → Type 0) (n : ℕ) (ops : List Op) → All Q ops → ((k : ℕ) (op : Op) → n ≤ k → k < n + length ops → Q op → P k op)
+    → AllAt P n ops
 all_at_from P Q n [] all so = tt
 all_at_from P Q n (op ∷ ops) all so =
     (so n op (omega arith) (omega arith) (All-head Q op ops all), all_at_from P Q (suc n) ops (All-tail Q op ops all) (λ k q from below. so k q (omega (arith, from)) (omega (arith, below))))
 
 all_at_both : (P : ℕ → Op → Type 0) (n : ℕ) (xs ys : List Op) → AllAt P n xs → AllAt P (n + length xs) ys → AllAt P n (xs ++ ys)
 all_at_both P n [] ys h k = subst (λ j. AllAt P j ys) (let e : n + 0 ≡ n = omega arith in e) k
-all_at_both P n (x ∷ xs) ys h k = (h.0, all_at_both P (suc n) xs ys h.1 (subst (λ j. AllAt P j ys) (let e : n + suc (length xs) ≡ suc n + length xs = omega arith in e) k))
+all_at_both P n (x ∷ xs) ys h k =
+    (h.0, all_at_both P (suc n) xs ys h.1 (subst (λ j. AllAt P j ys) (let e : n + suc (length xs) ≡ suc n + length xs = omega arith in e) k))
 
 -- so it holds of each request of the thread in a history that has them
-numbered_all : (t : ℕ) (P : ℕ → Op → Type 0) (h : History) (n : ℕ) (ops : List Op) → of_thread t h ≡ numbered t n ops → AllAt P n ops → All (λ q. q.thread ≡ t → P q.number q.op) h
+numbered_all : (t : ℕ) (P : ℕ → Op → Type 0) (h : History) (n : ℕ) (ops : List Op) → of_thread t h ≡ numbered t n ops → AllAt P n ops
+    → All (λ q. q.thread ≡ t → P q.number q.op) h
 numbered_all t P [] n ops e all = All-nil (λ q. q.thread ≡ t → P q.number q.op)
 numbered_all t P (q ∷ h) n ops e all =
     elim (q.thread == t) as (λ b. (q.thread == t) ≡ b → cond b (q ∷ of_thread t h) (of_thread t h) ≡ numbered t n ops → AllAt P n ops → All (λ r. r.thread ≡ t → P r.number r.op) (q ∷ h)) [
@@ -49,7 +54,8 @@ numbered_all t P (q ∷ h) n ops e all =
     ] refl e all
 
 -- after a request of the thread its numbers are greater
-later_numbers : (t : ℕ) (before after : History) (r : Request) (n : ℕ) (ops : List Op) → of_thread t (before ++ r ∷ after) ≡ numbered t n ops → r.thread ≡ t → All (λ q. q.thread ≡ t → r.number < q.number) after
+later_numbers : (t : ℕ) (before after : History) (r : Request) (n : ℕ) (ops : List Op) → of_thread t (before ++ r ∷ after) ≡ numbered t n ops → r.thread ≡ t
+    → All (λ q. q.thread ≡ t → r.number < q.number) after
 later_numbers t [] after r n ops e own =
     let here : (r.thread == t) ≡ true = eq-eqb r.thread t own in
     elim ops as (λ o. r ∷ of_thread t after ≡ numbered t n o → All (λ q. q.thread ≡ t → r.number < q.number) after) [
@@ -86,7 +92,8 @@ IsTold s u = ((u < 2 ^ 32) × ((m : ℕ) → 1 ≤ m → All (Names u IsAny) (se
 abbrev pub NamedWithin : Settling → ℕ → XidName → ℕ → ℕ → ℕ → Type 0
 NamedWithin s m x t a b = All (λ q. names x q.op ≡ true → IsBetween t a b q) (history s m)
 
-module _ (s : Settling) (settled : IsSettled s) (told : (u : ℕ) → IsTold s u) (t n m : ℕ) (x : XidName) (low : t < 2 ^ 32) (of_it : IsOf t n x) (positive : 1 ≤ m) where
+module _ (s : Settling) (settled : IsSettled s) (told : (u : ℕ) → IsTold s u) (t n m : ℕ) (x : XidName) (low : t < 2 ^ 32) (of_it : IsOf t n x)
+    (positive : 1 ≤ m) where
   -- another thread doesn't name it
   by_others : (u : ℕ) → u ≢ t → AllAt (λ k op. names x op ≡ true → ⊥) 0 (sent s u m)
   by_others u other =
@@ -97,7 +104,8 @@ module _ (s : Settling) (settled : IsSettled s) (told : (u : ℕ) → IsTold s u
       (λ (none : (m : ℕ) → sent s u m ≡ []). subst (AllAt (λ k op. names x op ≡ true → ⊥) 0) (sym (none m)) tt)
       (told u)
 
-  module _ (pre mid post : List Op) (split : sent s t m ≡ pre ++ (mid ++ post)) (earlier : All (Names t (IsBelow n)) pre) (later : All (Names t (IsFrom (n + 1))) post) where
+  module _ (pre mid post : List Op) (split : sent s t m ≡ pre ++ (mid ++ post)) (earlier : All (Names t (IsBelow n)) pre)
+      (later : All (Names t (IsFrom (n + 1))) post) where
     abbrev Within : ℕ → Op → Type 0
     Within k op = names x op ≡ true → (length pre ≤ k) × (k < length pre + length mid)
 
@@ -130,10 +138,13 @@ module _ (s : Settling) (settled : IsSettled s) (told : (u : ℕ) → IsTold s u
         (cases_eq q.thread t)
 
 -- so after a request of its thread nobody but the thread itself names it
-pub only_these : (s : Settling) (settled : IsSettled s) (t m a first last : ℕ) (x : XidName) → NamedWithin s m x t a last → OnlyTheseName x t first last (history s m)
+pub only_these : (s : Settling) (settled : IsSettled s) (t m a first last : ℕ) (x : XidName) → NamedWithin s m x t a last
+    → OnlyTheseName x t first last (history s m)
 only_these s settled t m a first last x named before after r place own number =
-    let all : All (λ q. names x q.op ≡ true → IsBetween t a last q) (before ++ r ∷ after) = subst (All (λ q. names x q.op ≡ true → IsBetween t a last q)) place named in
-    let rest = All-tail (λ q. names x q.op ≡ true → IsBetween t a last q) r after (all_right (λ q. names x q.op ≡ true → IsBetween t a last q) before (r ∷ after) all) in
+    let all : All (λ q. names x q.op ≡ true → IsBetween t a last q) (before ++ r ∷ after) =
+    subst (All (λ q. names x q.op ≡ true → IsBetween t a last q)) place named in
+    let rest =
+    All-tail (λ q. names x q.op ≡ true → IsBetween t a last q) r after (all_right (λ q. names x q.op ≡ true → IsBetween t a last q) before (r ∷ after) all) in
     λ k d lt is.
     let z = rest k d lt is in
     let up = later_numbers t before after r 0 (sent s t m) (sym (ap (of_thread t) place) ∙ (settled.agree t m).carried) own k d lt z.thread in

@@ -1,5 +1,6 @@
 -- The work for two legs: six requests are put, each kept under a number, and collected by these numbers.
-use Rattle.std.proofs.Common.{◌≡◌, ◌≢◌, ℕ, zero, suc, ◌+◌, ◌-◌, ◌<◌, ◌≤◌, Bool, true, false, ◌&&◌, ℤ, pos, List, [], ◌∷◌, ◌++◌, length, length-append, sym, refl, ap, ◌∙◌, subst, arith, Some, None}
+use Rattle.std.proofs.Common.{◌≡◌, ◌≢◌, ℕ, zero, suc, ◌+◌, ◌-◌, ◌<◌, ◌≤◌, Bool, true, false, ◌&&◌, ℤ, pos, List, [], ◌∷◌, ◌++◌, length, length-append, sym}
+use Rattle.std.proofs.Common.{refl, ap, ◌∙◌, subst, arith, Some, None}
 use Rattle.std.specs.FinMap as map
 use Rattle.std.specs.Ordering.{nat_cmp}
 use Rattle.std.proofs.lemmas.List.{length-set, length-map}
@@ -49,7 +50,8 @@ AreDistinct [] = Unit {0}
 AreDistinct (f ∷ fs) = IsNone f.0 fs × AreDistinct fs
 
 -- what is kept stays, and its number isn't used again
-kept_on : (fs : Flights) (old new : DeskView) → AreKept fs old new → (k : ℕ) (o : Operation) → map.get old.kept k ≡ Some o → (map.get new.kept k ≡ Some o) × IsNone k fs
+kept_on : (fs : Flights) (old new : DeskView) → AreKept fs old new → (k : ℕ) (o : Operation) → map.get old.kept k ≡ Some o
+    → (map.get new.kept k ≡ Some o) × IsNone k fs
 kept_on [] old new same k o has = (ap (λ (m : Handles). map.get m k) same ∙ has, tt)
 kept_on (f ∷ fs) old new (mid, free, keeps, rest) k o has =
     let apart : k ≢ f.0 = λ same. not_both (map.get old.kept f.0) o free (subst (λ n. map.get old.kept n ≡ Some o) same has) in
@@ -146,7 +148,8 @@ pub block_start : (m : ℕ) (at : List LedgerView) → Block m (ledger at m) at 
 block_start m at = record { here = refl; others = λ n p q. refl; many = refl }
 
 -- and then to what a change makes of it
-pub block_on : (m : ℕ) (b : LedgerView) (change : LedgerView → LedgerView) (at at' at'' : List LedgerView) → IsKnown at m → Block m b at at' → at'' ≡ put_ledger at' m (change (ledger at' m)) → Block m (change b) at at''
+pub block_on : (m : ℕ) (b : LedgerView) (change : LedgerView → LedgerView) (at at' at'' : List LedgerView) → IsKnown at m → Block m b at at'
+    → at'' ≡ put_ledger at' m (change (ledger at' m)) → Block m (change b) at at''
 block_on m b change at at' at'' known z is =
     let known' : IsKnown at' m = known_on m at at' z.many known in
     let positive = known.positive in
@@ -168,7 +171,8 @@ record SendsLeg (leg : Leg) (k : List ℕ) (at a1 a2 a3 : List LedgerView) : Typ
   second : length (ledger a1 leg.branch.m).sent ≡ length (ledger at leg.branch.m).sent + 1
   third : length (ledger a2 leg.branch.m).sent ≡ length (ledger at leg.branch.m).sent + 2
 
-sends_leg : (leg : Leg) (k : List ℕ) (at a1 a2 a3 : List LedgerView) → IsKnown at leg.branch.m → a1 ≡ after_sent at leg.branch.m (Start leg.branch.xid Fresh) → a2 ≡ after_sent a1 leg.branch.m (Add k leg.delta)
+sends_leg : (leg : Leg) (k : List ℕ) (at a1 a2 a3 : List LedgerView) → IsKnown at leg.branch.m → a1 ≡ after_sent at leg.branch.m (Start leg.branch.xid Fresh)
+    → a2 ≡ after_sent a1 leg.branch.m (Add k leg.delta)
     → a3 ≡ after_sent a2 leg.branch.m (End leg.branch.xid Success) → SendsLeg leg k at a1 a2 a3
 sends_leg leg k at a1 a2 a3 known e1 e2 e3 =
     let m : ℕ = leg.branch.m in
@@ -184,26 +188,31 @@ sends_leg leg k at a1 a2 a3 known e1 e2 e3 =
     record {
       block = b3;
       second = ap (λ (l : LedgerView). length l.sent) b1.here ∙ one;
-      third = ap (λ (l : LedgerView). length l.sent) b2.here ∙ (let e : length ((a.sent ++ op1 ∷ []) ++ op2 ∷ []) ≡ length a.sent + 2 = omega (arith, one, two) in e);
+      third = ap (λ (l : LedgerView). length l.sent) b2.here
+          ∙ (let e : length ((a.sent ++ op1 ∷ []) ++ op2 ∷ []) ≡ length a.sent + 2 = omega (arith, one, two) in e);
     }
 
 -- and its three operations are collected
-collects_leg : (m n1 n2 n3 : ℕ) (at a1 a2 a3 : List LedgerView) → IsKnown at m → a1 ≡ after_collected at (record { manager = m; number = n1 }) Done → a2 ≡ after_collected a1 (record { manager = m; number = n2 }) Done
+collects_leg : (m n1 n2 n3 : ℕ) (at a1 a2 a3 : List LedgerView) → IsKnown at m → a1 ≡ after_collected at (record { manager = m; number = n1 }) Done
+    → a2 ≡ after_collected a1 (record { manager = m; number = n2 }) Done
     → a3 ≡ after_collected a2 (record { manager = m; number = n3 }) Done → Block m (got3 n1 n2 n3 (ledger at m)) at a3
 collects_leg m n1 n2 n3 at a1 a2 a3 known e1 e2 e3 =
     let a : LedgerView = ledger at m in
     let b1 : Block m (with_collected a n1 Done) at a1 = block_on m a (λ l. with_collected l n1 Done) at at a1 known (block_start m at) e1 in
-    let b2 : Block m (with_collected (with_collected a n1 Done) n2 Done) at a2 = block_on m (with_collected a n1 Done) (λ l. with_collected l n2 Done) at a1 a2 known b1 e2 in
+    let b2 : Block m (with_collected (with_collected a n1 Done) n2 Done) at a2 =
+    block_on m (with_collected a n1 Done) (λ l. with_collected l n2 Done) at a1 a2 known b1 e2 in
     block_on m (with_collected (with_collected a n1 Done) n2 Done) (λ l. with_collected l n3 Done) at a2 a3 known b2 e3
 
 three_more : {A : Type 0} (xs : List A) (x y z : A) → ((xs ++ x ∷ []) ++ y ∷ []) ++ z ∷ [] ≡ xs ++ x ∷ y ∷ z ∷ []
 three_more [] x y z = refl
 three_more (w ∷ xs) x y z = ap (λ l. w ∷ l) (three_more xs x y z)
 
-pub has_worked : (leg : Leg) (k : List ℕ) (a a' : LedgerView) (n1 n2 n3 : ℕ) → a' ≡ got3 n1 n2 n3 (sent3 leg k a) → n1 ≡ length a.sent → n2 ≡ length a.sent + 1 → n3 ≡ length a.sent + 2 → HasWorked leg k a a'
+pub has_worked : (leg : Leg) (k : List ℕ) (a a' : LedgerView) (n1 n2 n3 : ℕ) → a' ≡ got3 n1 n2 n3 (sent3 leg k a) → n1 ≡ length a.sent → n2 ≡ length a.sent + 1
+    → n3 ≡ length a.sent + 2 → HasWorked leg k a a'
 has_worked leg k a a' n1 n2 n3 is e1 e2 e3 = record {
   sent = ap (λ (l : LedgerView). l.sent) is ∙ three_more a.sent (Start leg.branch.xid Fresh) (Add k leg.delta) (End leg.branch.xid Success);
-  collected = ap (λ (l : LedgerView). l.collected) is ∙ three_more a.collected (n1, Done) (n2, Done) (n3, Done) ∙ (λ i. a.collected ++ (e1 i, Done) ∷ (e2 i, Done) ∷ (e3 i, Done) ∷ []);
+  collected = ap (λ (l : LedgerView). l.collected) is ∙ three_more a.collected (n1, Done) (n2, Done) (n3, Done)
+      ∙ (λ i. a.collected ++ (e1 i, Done) ∷ (e2 i, Done) ∷ (e3 i, Done) ∷ []);
 }
 
 -- a desk that goes on has its managers
@@ -212,7 +221,8 @@ same_many old new goes = sym (length-map new.ledgers plan_of) ∙ ap (λ (l : Li
 
 -- ---- both legs
 
-module _ (one two : Leg) (k : List ℕ) (f g : Flight) (d0 d3 d6 d9 d12 : DeskView) (first : BeginsLeg one k f d0 d3) (second : BeginsLeg two k g d3 d6) (first_ends : GetsLeg f d6 d9) (second_ends : GetsLeg g d9 d12) where
+module _ (one two : Leg) (k : List ℕ) (f g : Flight) (d0 d3 d6 d9 d12 : DeskView) (first : BeginsLeg one k f d0 d3) (second : BeginsLeg two k g d3 d6)
+    (first_ends : GetsLeg f d6 d9) (second_ends : GetsLeg g d9 d12) where
   abbrev flights : Flights
   flights =
       (first_ends.start.key, next_operation d0.ledgers one.branch.m)
@@ -233,7 +243,8 @@ module _ (one two : Leg) (k : List ℕ) (f g : Flight) (d0 d3 d6 d9 d12 : DeskVi
   p3 = is_put one.branch.m (End one.branch.xid Success) f.end first_ends.end.key first.added d3 first_ends.end.is first_ends.end.positive first.ends
 
   p4 : IsPut two.branch.m (Start two.branch.xid Fresh) second_ends.start.key d3 second.begun
-  p4 = is_put two.branch.m (Start two.branch.xid Fresh) g.start second_ends.start.key d3 second.begun second_ends.start.is second_ends.start.positive second.starts
+  p4 =
+      is_put two.branch.m (Start two.branch.xid Fresh) g.start second_ends.start.key d3 second.begun second_ends.start.is second_ends.start.positive second.starts
 
   p5 : IsPut two.branch.m (Add k two.delta) second_ends.add.key second.begun second.added
   p5 = is_put two.branch.m (Add k two.delta) g.add second_ends.add.key second.begun second.added second_ends.add.is second_ends.add.positive second.adds
@@ -242,7 +253,8 @@ module _ (one two : Leg) (k : List ℕ) (f g : Flight) (d0 d3 d6 d9 d12 : DeskVi
   p6 = is_put two.branch.m (End two.branch.xid Success) g.end second_ends.end.key second.added d6 second_ends.end.is second_ends.end.positive second.ends
 
   are_kept : AreKept flights d0 d6
-  are_kept = (first.begun, p1.free, p1.kept, (first.added, p2.free, p2.kept, (d3, p3.free, p3.kept, (second.begun, p4.free, p4.kept, (second.added, p5.free, p5.kept, (d6, p6.free, p6.kept, refl))))))
+  are_kept =
+      (first.begun, p1.free, p1.kept, (first.added, p2.free, p2.kept, (d3, p3.free, p3.kept, (second.begun, p4.free, p4.kept, (second.added, p5.free, p5.kept, (d6, p6.free, p6.kept, refl))))))
 
   are_got : AreGot flights d6 d12
   are_got = (
@@ -269,7 +281,8 @@ module _ (one two : Leg) (k : List ℕ) (f g : Flight) (d0 d3 d6 d9 d12 : DeskVi
       let known2 : IsKnown d0.ledgers two.branch.m = known_on two.branch.m d12.ledgers d0.ledgers back apart.second in
       let other : two.branch.m ≢ one.branch.m = λ e. apart.apart (sym e) in
       let s1 = sends_leg one k d0.ledgers first.begun.ledgers first.added.ledgers d3.ledgers known1 p1.ledgers p2.ledgers p3.ledgers in
-      let s2 = sends_leg two k d3.ledgers second.begun.ledgers second.added.ledgers d6.ledgers (known_on two.branch.m d0.ledgers d3.ledgers s1.block.many known2) p4.ledgers p5.ledgers p6.ledgers in
+      let s2 =
+      sends_leg two k d3.ledgers second.begun.ledgers second.added.ledgers d6.ledgers (known_on two.branch.m d0.ledgers d3.ledgers s1.block.many known2) p4.ledgers p5.ledgers p6.ledgers in
       let until6 : length d6.ledgers ≡ length d0.ledgers = s2.block.many ∙ s1.block.many in
       let z = are_collected in
       let w = z.2.2.2 in
@@ -279,7 +292,8 @@ module _ (one two : Leg) (k : List ℕ) (f g : Flight) (d0 d3 d6 d9 d12 : DeskVi
       let n4 : ℕ = length (ledger d3.ledgers two.branch.m).sent in
       let n5 : ℕ = length (ledger second.begun.ledgers two.branch.m).sent in
       let n6 : ℕ = length (ledger second.added.ledgers two.branch.m).sent in
-      let g1 : Block one.branch.m (got3 n1 n2 n3 (ledger d6.ledgers one.branch.m)) d6.ledgers z.2.2.0 = collects_leg one.branch.m n1 n2 n3 d6.ledgers z.0 z.2.0 z.2.2.0 (known_on one.branch.m d0.ledgers d6.ledgers until6 known1) z.1 z.2.1 z.2.2.1 in
+      let g1 : Block one.branch.m (got3 n1 n2 n3 (ledger d6.ledgers one.branch.m)) d6.ledgers z.2.2.0 =
+      collects_leg one.branch.m n1 n2 n3 d6.ledgers z.0 z.2.0 z.2.2.0 (known_on one.branch.m d0.ledgers d6.ledgers until6 known1) z.1 z.2.1 z.2.2.1 in
       let g2 : Block two.branch.m (got3 n4 n5 n6 (ledger z.2.2.0 two.branch.m)) z.2.2.0 w.2.2.0 =
       collects_leg two.branch.m n4 n5 n6 z.2.2.0 w.0 w.2.0 w.2.2.0 (known_on two.branch.m d0.ledgers z.2.2.0 (g1.many ∙ until6) known2) w.1 w.2.1 w.2.2.1 in
       let end : d12.ledgers ≡ w.2.2.0 = w.2.2.2 in
@@ -294,5 +308,6 @@ module _ (one two : Leg) (k : List ℕ) (f g : Flight) (d0 d3 d6 d9 d12 : DeskVi
             subst (λ (a : LedgerView). HasWorked two k a (ledger d12.ledgers two.branch.m)) (s1.block.others two.branch.m known2.positive other)
             (has_worked two k (ledger d3.ledgers two.branch.m) (ledger d12.ledgers two.branch.m) n4 n5 n6 two_is refl s2.second s2.third);
         others = λ m positive not_one not_two.
-            ap (λ (l : List LedgerView). ledger l m) end ∙ g2.others m positive not_two ∙ g1.others m positive not_one ∙ s2.block.others m positive not_two ∙ s1.block.others m positive not_one;
+            ap (λ (l : List LedgerView). ledger l m) end ∙ g2.others m positive not_two ∙ g1.others m positive not_one ∙ s2.block.others m positive not_two
+            ∙ s1.block.others m positive not_one;
       }

@@ -11,8 +11,8 @@ use Rattle.xa_driver.specs.declared.stages.Decided.{Decided}
 use Rattle.xa_driver.specs.declared.stages.Telling.{Telling}
 use Rattle.xa_driver.specs.declared.stages.Told.{Told}
 use Rattle.xa_driver.specs.Asks.{HaveComeSoFar}
-use Rattle.xa_driver.specs.Cut.{IsCut}
-use Rattle.xa_driver.specs.Log.{LogState}
+use Rattle.xa_atomicity.specs.Cut.{IsCut}
+use Rattle.xa_log.specs.Log.{LogState}
 use Rattle.xa_driver.specs.Stages.{HasDecided, HasPrepared, HasTold, IsPreparing, IsTelling}
 use Rattle.xa_bank.specs.declared.dying.Death.{Death}
 use Rattle.xa_bank.specs.declared.dying.Point.{Point}

@@ -4,8 +4,8 @@ use Rattle.std.specs.List.{All, list_any}
 use Rattle.xa_desk.specs.DeskView.{DeskView}
 use Rattle.xa_crew.specs.declared.client_job.Attended.{Attended}
 use Rattle.xa_driver.specs.declared.done.Ending.{Ending}
-use Rattle.xa_driver.specs.Log.{LogState}
-use Rattle.xa_driver.specs.Outcomes.{is_heuristic, is_in_doubt}
+use Rattle.xa_log.specs.Log.{LogState}
+use Rattle.xa_atomicity.specs.Outcomes.{is_heuristic, is_in_doubt}
 use Rattle.xa_bank.specs.declared.dying.Death.{Death}
 use Rattle.xa_bank.specs.declared.dying.Point.{Point}
 use Rattle.xa_bank.specs.declared.dying.Point.TheVariants as point

@@ -16,7 +16,7 @@ use Rattle.xa_desk.specs.DeskView.{DeskView, IsKnown, ledger, outstanding, room_
 use Rattle.xa_driver.specs.declared.branch.Branch.{Branch}
 use Rattle.xa_driver.specs.declared.done.Done.{Done}
 use Rattle.xa_driver.specs.Commits.{is_commit}
-use Rattle.xa_driver.specs.Log.{LogState}
+use Rattle.xa_log.specs.Log.{LogState}
 use Rattle.xa_driver.specs.Trace.{IsCommit, MayCommit}
 use Rattle.xa_bank.specs.Deaths.{Dies, point_at}
 use Rattle.xa_bank.specs.declared.dying.Death.{Death}

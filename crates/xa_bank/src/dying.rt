@@ -7,11 +7,12 @@ ghost use Rattle.xa_driver.specs.Trace.{MayCommit};
 
 use std::alloc::Global;
 use std::sync::Wait;
+use xa_atomicity::{others_leave_the_branches, rounds_are_cuts, stages_are_cuts, stages_follow};
 use xa_crew::laws::idles_go_on;
 use xa_desk::laws::desks_go_on;
 use xa_desk::{Desk, Idle};
-use xa_driver::laws::{others_leave_the_branches, rounds_are_cuts, stages_are_cuts, stages_follow};
-use xa_driver::{Branch, Done, DriverFault, MemoryLog, begin_prepare};
+use xa_driver::{Branch, Done, DriverFault, begin_prepare};
+use xa_log::MemoryLog;
 
 /// A point of a commit at which its teller dies.
 #[derive(Clone, Copy, Debug, PartialEq, Eq)]

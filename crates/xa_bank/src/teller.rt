@@ -20,7 +20,8 @@ use xa_crew::Client;
 use xa_crew::laws::idles_go_on;
 use xa_desk::laws::desks_go_on;
 use xa_desk::{Desk, Idle};
-use xa_driver::{Branch, Done, DriverFault, MemoryLog, commit_all, may_commit};
+use xa_driver::{Branch, Done, DriverFault, commit_all, may_commit};
+use xa_log::MemoryLog;
 use xa_switch::xa_call;
 use xa_words::{Call, Delta, EndHow, Key, Op, TMFAIL, TMNOFLAGS, Xid};
 

@@ -1,12 +1,13 @@
 -- Lemmas of lists: what is in their places, lists side by side, and numbers that follow each other.
-use Rattle.std.proofs.Common.{append_assoc, append-nil, ◌≡◌, ◌≢◌, ℕ, ◌+◌, ◌<◌, ◌≤◌, ◌⊎◌, ⊎_elim, zero, suc, Bool, true, false, cond, ◌==◌, ◌||◌, List, [], ◌∷◌, ◌++◌, length, map, Some, None, sym, refl, ap, ◌∙◌, subst, inl, inr, arith, length-append, take}
-use Rattle.std.specs.Prelude.{slice_get, slice_set, All}
+use Rattle.std.proofs.Common.{append_assoc, append-nil, ◌≡◌, ◌≢◌, ℕ, ◌+◌, ◌<◌, ◌≤◌, ◌⊎◌, ⊎_elim, zero, suc, Bool, true, false, cond, ◌==◌, ◌||◌, List, [], ◌∷◌}
+use Rattle.std.proofs.Common.{◌++◌, length, map, Some, None, sym, refl, ap, ◌∙◌, subst, inl, inr, arith, length-append, take}
+use Rattle.std.specs.Prelude.{slice_get, slice_set, option_map, All}
 use Rattle.std.specs.List.{AllPairs, Contains, IsDistinct, filter, flat_map, slice_index_or, range_with_len, list_any, find}
 use Rattle.std.proofs.lemmas.Bool.{cases_eq, eq-eqb, eqb-true, false_from_ne_true}
 use Rattle.std.proofs.lemmas.List.{length-map, length-set, get_or-set_other, get_or-set_same, get_or_at}
 pub use Rattle.std.proofs.lemmas.Option.{same_Some as some_same}
 pub use Rattle.std.proofs.lemmas.List.Quantifiers.{all_pairs_push as pairs_push}
-use Rattle.std.proofs.lemmas.Option.{slice_get_within, slice_get-get_or, slice_get_cases, get_or_from_slice_get}
+use Rattle.std.proofs.lemmas.Option.{slice_get_within, slice_get-map, slice_get-get_or, slice_get_cases, get_or_from_slice_get}
 use Rattle.std.proofs.Math.Seq.{take-suc}
 use Rattle.std.proofs.lemmas.List.Elements.{All-nil, All-cons, All-head, All-tail, All-push, filter-append}
 use Rattle.std.proofs.lemmas.List.FromFn.{length-range_with_len, get_or-range_with_len}
@@ -20,8 +21,13 @@ got {A} xs k below =
     (λ (h : (length xs ≤ k) × (slice_get xs k ≡ None)). absurd (let past = h.0 in omega (arith, past, below)))
     (slice_get_cases xs k).1
 
+-- and once each element was changed
+pub got_map : {A B : Type 0} (f : A → B) (xs : List A) (k : ℕ) (x : A) → slice_get xs k ≡ Some x → slice_get (map f xs) k ≡ Some (f x)
+got_map f xs k x there = slice_get-map f xs k ∙ ap (option_map f) there
+
 -- an element that was written is there, and the others stay
-pub got_set : {A : Type 0} (xs : List A) (i : ℕ) (y : A) (k : ℕ) (z : A) → i < length xs → slice_get (slice_set xs i y) k ≡ Some z → ((k ≡ i) × (z ≡ y)) ⊎ (slice_get xs k ≡ Some z)
+pub got_set : {A : Type 0} (xs : List A) (i : ℕ) (y : A) (k : ℕ) (z : A) → i < length xs → slice_get (slice_set xs i y) k ≡ Some z
+    → ((k ≡ i) × (z ≡ y)) ⊎ (slice_get xs k ≡ Some z)
 got_set {A} xs i y k z inside at =
     let within : k < length (slice_set xs i y) = slice_get_within (slice_set xs i y) k z at in
     let size = length-set xs i y in
@@ -38,7 +44,8 @@ pub set_there : {A : Type 0} (xs : List A) (i : ℕ) (y : A) → i < length xs �
 set_there xs i y inside = slice_get-get_or (slice_set xs i y) i y (omega (arith, inside, length-set xs i y)) ∙ ap Some (get_or-set_same xs i y y inside)
 
 -- the last of a list, or one before it
-pub got_push : {A : Type 0} (xs : List A) (x : A) (k : ℕ) (y : A) → slice_get (xs ++ x ∷ []) k ≡ Some y → (slice_get xs k ≡ Some y) ⊎ ((k ≡ length xs) × (y ≡ x))
+pub got_push : {A : Type 0} (xs : List A) (x : A) (k : ℕ) (y : A) → slice_get (xs ++ x ∷ []) k ≡ Some y
+    → (slice_get xs k ≡ Some y) ⊎ ((k ≡ length xs) × (y ≡ x))
 got_push [] x zero y e = inr (refl, some_same y x (sym e))
 got_push [] x (suc k) y e = absurd (cc)
 got_push (z ∷ xs) x zero y e = inl e
@@ -69,12 +76,14 @@ module _ {A B : Type 0} (P : A → B → Type 0) where
   }
 
 pub one_more : {A : Type 0} (xs : List A) (i : ℕ) (x : A) → i < length xs → x ≡ slice_index_or xs i x → take (i + 1) xs ≡ take i xs ++ x ∷ []
-one_more xs i x below is = let next_one : i + 1 ≡ suc i = omega arith in ap (λ n. take n xs) next_one ∙ take-suc xs i x below ∙ ap (λ y. take i xs ++ y ∷ []) (sym is)
+one_more xs i x below is =
+    let next_one : i + 1 ≡ suc i = omega arith in ap (λ n. take n xs) next_one ∙ take-suc xs i x below ∙ ap (λ y. take i xs ++ y ∷ []) (sym is)
 
 -- one more number
 pub range_suc : (a n : ℕ) → range_with_len a (suc n) ≡ range_with_len a n ++ (a + n) ∷ []
 range_suc a zero = let same : a ≡ a + 0 = omega arith in ap (λ x. x ∷ []) same
-range_suc a (suc n) = let same : a + 1 + n ≡ a + suc n = omega arith in ap (λ l. a ∷ l) (range_suc (a + 1) n ∙ ap (λ x. range_with_len (a + 1) n ++ x ∷ []) same)
+range_suc a (suc n) =
+    let same : a + 1 + n ≡ a + suc n = omega arith in ap (λ l. a ∷ l) (range_suc (a + 1) n ∙ ap (λ x. range_with_len (a + 1) n ++ x ∷ []) same)
 
 pub range_more : (n : ℕ) → range_with_len 1 (n + 1) ≡ range_with_len 1 n ++ (n + 1) ∷ []
 range_more n =
@@ -94,14 +103,16 @@ next_there {A} xs ys rest x e = ap (λ (l : List A). slice_get l (length ys)) (s
 pub taken_next : {A : Type 0} (ys left rest xs : List A) (x : A) → left ≡ x ∷ rest → ys ++ left ≡ xs → (ys ++ x ∷ []) ++ rest ≡ xs
 taken_next ys left rest xs x step so_far = append_assoc ys (x ∷ []) rest ∙ ap (λ l. ys ++ l) (sym step) ∙ so_far
 
-pub next_place : {A : Type 0} (ys left rest xs : List A) (x : A) → left ≡ x ∷ rest → ys ++ left ≡ xs → (length ys < length xs) × (slice_index_or xs (length ys) x ≡ x)
+pub next_place : {A : Type 0} (ys left rest xs : List A) (x : A) → left ≡ x ∷ rest → ys ++ left ≡ xs
+    → (length ys < length xs) × (slice_index_or xs (length ys) x ≡ x)
 next_place ys left rest xs x step so_far =
     let whole : ys ++ x ∷ rest ≡ xs = ap (λ l. ys ++ l) (sym step) ∙ so_far in
     let many = ap length whole in
     (omega (arith, many, length-append ys (x ∷ rest)), ap (λ l. slice_index_or l (length ys) x) (sym whole) ∙ get_or_at ys x rest x (length ys) refl)
 
 -- what goes from the first list to the second, and on to the third
-pub through : {A B C : Type 0} (P : A → B → Type 0) (Q : B → C → Type 0) (R : A → C → Type 0) → ((a : A) (b : B) (c : C) → P a b → Q b c → R a c) → (xs : List A) (ys : List B) (zs : List C) → Pairwise P xs ys → Pairwise Q ys zs → Pairwise R xs zs
+pub through : {A B C : Type 0} (P : A → B → Type 0) (Q : B → C → Type 0) (R : A → C → Type 0) → ((a : A) (b : B) (c : C) → P a b → Q b c → R a c)
+    → (xs : List A) (ys : List B) (zs : List C) → Pairwise P xs ys → Pairwise Q ys zs → Pairwise R xs zs
 through P Q R goes xs ys zs p q = record {
   as_many = q.as_many ∙ p.as_many;
   each = λ k x z at_x at_z.
@@ -137,19 +148,23 @@ any_at p (y ∷ xs) (suc k) x at e = or_there (p y) (any_at p xs k x at e)
 pub tail_side : {A B : Type 0} (P : A → B → Type 0) (x : A) (xs : List A) (y : B) (ys : List B) → Pairwise P (x ∷ xs) (y ∷ ys) → Pairwise P xs ys
 tail_side P x xs y ys all = record { as_many = let many = all.as_many in omega (arith, many); each = λ k. all.each (suc k) }
 
-pub map_alike : {A B C : Type 0} (P : A → B → Type 0) (f : A → C) (g : B → C) → ((x : A) (y : B) → P x y → g y ≡ f x) → (xs : List A) (ys : List B) → Pairwise P xs ys → map g ys ≡ map f xs
+pub map_alike : {A B C : Type 0} (P : A → B → Type 0) (f : A → C) (g : B → C) → ((x : A) (y : B) → P x y → g y ≡ f x) → (xs : List A) (ys : List B)
+    → Pairwise P xs ys → map g ys ≡ map f xs
 map_alike P f g alike [] [] all = refl
 map_alike P f g alike [] (y ∷ ys) all = absurd (let many = all.as_many in omega (arith, many))
 map_alike P f g alike (x ∷ xs) [] all = absurd (let many = all.as_many in omega (arith, many))
 map_alike P f g alike (x ∷ xs) (y ∷ ys) all = λ i. alike x y (all.each 0 x y refl refl) i ∷ map_alike P f g alike xs ys (tail_side P x xs y ys all) i
 
 -- the element with its number, where they are numbered by rising place
-pub find_numbered : {A : Type 0} (n : A → ℕ) (base : ℕ) (xs : List A) → ((k : ℕ) (x : A) → slice_get xs k ≡ Some x → n x ≡ base + k + 1) → (k : ℕ) (x : A) → slice_get xs k ≡ Some x → find (λ y. n y == base + k + 1) xs ≡ Some x
+pub find_numbered : {A : Type 0} (n : A → ℕ) (base : ℕ) (xs : List A) → ((k : ℕ) (x : A) → slice_get xs k ≡ Some x → n x ≡ base + k + 1) → (k : ℕ) (x : A)
+    → slice_get xs k ≡ Some x → find (λ y. n y == base + k + 1) xs ≡ Some x
 find_numbered n base [] numbers k x at = absurd (cc)
-find_numbered {A} n base (y ∷ xs) numbers zero x at = ap (λ b. cond b (Some y) (find (λ z. n z == base + 0 + 1) xs)) (eq-eqb (n y) (base + 0 + 1) (numbers 0 y refl)) ∙ at
+find_numbered {A} n base (y ∷ xs) numbers zero x at =
+    ap (λ b. cond b (Some y) (find (λ z. n z == base + 0 + 1) xs)) (eq-eqb (n y) (base + 0 + 1) (numbers 0 y refl)) ∙ at
 find_numbered n base (y ∷ xs) numbers (suc k) x at =
     let first : n y ≡ base + 0 + 1 = numbers 0 y refl in
-    let other : (n y == base + suc k + 1) ≡ false = false_from_ne_true (n y == base + suc k + 1) (λ e. let same = eqb-true (n y) (base + suc k + 1) e in omega (arith, first, same)) in
+    let other : (n y == base + suc k + 1) ≡ false =
+    false_from_ne_true (n y == base + suc k + 1) (λ e. let same = eqb-true (n y) (base + suc k + 1) e in omega (arith, first, same)) in
     let there : suc base + k + 1 ≡ base + suc k + 1 = omega arith in
     ap (λ b. cond b (Some y) (find (λ z. n z == base + suc k + 1) xs)) other
     ∙ ap (λ j. find (λ z. n z == j) xs) (sym there)
@@ -157,7 +172,9 @@ find_numbered n base (y ∷ xs) numbers (suc k) x at =
 
 pub find_none : {A : Type 0} (n : A → ℕ) (t : ℕ) (xs : List A) → ((k : ℕ) (x : A) → slice_get xs k ≡ Some x → n x ≢ t) → find (λ y. n y == t) xs ≡ None
 find_none n t [] differs = refl
-find_none n t (y ∷ xs) differs = ap (λ b. cond b (Some y) (find (λ z. n z == t) xs)) (false_from_ne_true (n y == t) (λ e. differs 0 y refl (eqb-true (n y) t e))) ∙ find_none n t xs (λ k. differs (suc k))
+find_none n t (y ∷ xs) differs =
+    ap (λ b. cond b (Some y) (find (λ z. n z == t) xs)) (false_from_ne_true (n y == t) (λ e. differs 0 y refl (eqb-true (n y) t e)))
+    ∙ find_none n t xs (λ k. differs (suc k))
 
 pub was_mapped : {A B : Type 0} (f : A → B) (xs : List A) (k : ℕ) (y : B) → slice_get (map f xs) k ≡ Some y → (x : A) × (slice_get xs k ≡ Some x) × (f x ≡ y)
 was_mapped f [] k y e = absurd (cc)
@@ -235,12 +252,14 @@ snoc_parts (a ∷ xs) (b ∷ ys) x y e =
 
 -- ---- what passes a filter, of lists one after the other
 
-pub flat_none : {X A : Type 0} (p : A → Bool) (f : X → List A) (xs : List X) → ((k : ℕ) (x : X) → slice_get xs k ≡ Some x → filter p (f x) ≡ []) → filter p (flat_map f xs) ≡ []
+pub flat_none : {X A : Type 0} (p : A → Bool) (f : X → List A) (xs : List X) → ((k : ℕ) (x : X) → slice_get xs k ≡ Some x → filter p (f x) ≡ [])
+    → filter p (flat_map f xs) ≡ []
 flat_none p f [] all = refl
 flat_none p f (x ∷ xs) all = filter-append p (f x) (flat_map f xs) ∙ (λ i. all 0 x refl i ++ flat_none p f xs (λ k. all (suc k)) i)
 
 -- where that of one alone passes
-pub flat_one : {X A : Type 0} (p : A → Bool) (f : X → List A) (xs : List X) (k : ℕ) (x : X) → slice_get xs k ≡ Some x → ((j : ℕ) (y : X) → j ≢ k → slice_get xs j ≡ Some y → filter p (f y) ≡ []) → filter p (flat_map f xs) ≡ filter p (f x)
+pub flat_one : {X A : Type 0} (p : A → Bool) (f : X → List A) (xs : List X) (k : ℕ) (x : X) → slice_get xs k ≡ Some x
+    → ((j : ℕ) (y : X) → j ≢ k → slice_get xs j ≡ Some y → filter p (f y) ≡ []) → filter p (flat_map f xs) ≡ filter p (f x)
 flat_one p f [] k x at others = absurd (cc)
 flat_one {X} p f (y ∷ xs) zero x at others =
     let same : y ≡ x = some_same y x at in

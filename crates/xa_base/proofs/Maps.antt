@@ -20,4 +20,5 @@ removed_other m k j differs = finmap.get-remove nat_cmp_total m k j ∙ ap (λ b
 
 -- a number that keeps nothing keeps nothing once a number is freed
 pub removed_none : {V : Type 0} (m : finmap.FinMap nat_cmp V) (k j : ℕ) → finmap.get m j ≡ None → finmap.get (finmap.remove m k) j ≡ None
-removed_none m k j e = elim (cases_eq j k) [ inl same ↦ subst (λ n. finmap.get (finmap.remove m k) n ≡ None) (sym same) (removed_there m k) | inr differs ↦ removed_other m k j differs ∙ e ]
+removed_none m k j e =
+    elim (cases_eq j k) [ inl same ↦ subst (λ n. finmap.get (finmap.remove m k) n ≡ None) (sym same) (removed_there m k) | inr differs ↦ removed_other m k j differs ∙ e ]

@@ -24,7 +24,8 @@ number_freed k old new (kept_there c takes told) = ap (λ (m : Handles). finmap.
 number_freed k old new (free empty e) = ap (λ (s : Telling). finmap.get s.0.kept k) e ∙ empty
 
 pub number_leaves : (k : ℕ) (old new : Telling) → EndsNumber k old new → (j : ℕ) → finmap.get old.0.kept j ≡ None → finmap.get new.0.kept j ≡ None
-number_leaves k old new (kept_there c takes told) j e = ap (λ (m : Handles). finmap.get m j) (redeemed_handles old.0 new.0 k c takes) ∙ removed_none old.0.kept k j e
+number_leaves k old new (kept_there c takes told) j e =
+    ap (λ (m : Handles). finmap.get m j) (redeemed_handles old.0 new.0 k c takes) ∙ removed_none old.0.kept k j e
 number_leaves k old new (free empty f) j e = ap (λ (s : Telling). finmap.get s.0.kept j) f ∙ e
 
 -- where collecting what is kept leaves the rest kept

@@ -8,12 +8,14 @@ use Rattle.xa_switch.specs.declared.plan.Plan.{Plan}
 use Rattle.xa_switch.specs.Plans.{IsSound, planned}
 use Rattle.xa_switch.specs.OpenedPieces.{AreOfOneOpening}
 use Rattle.xa_worker.specs.Workers.{WorkerView}
+use Rattle.xa_worker.specs.Done.{Served}
 use Rattle.xa_crew.specs.declared.client_job.ClientJob.{ClientJob}
+use Rattle.xa_crew.specs.declared.client_job.Attended.{Attended}
 use Rattle.xa_crew.specs.declared.client_job.Worked.{Worked}
 use Rattle.xa_crew.specs.declared.run.Ran.{Ran}
 use Rattle.xa_base.specs.Lists.{Pairwise}
 use Rattle.xa_crew.specs.Pieces.{HasGone, HasServed, ArePiecesOf}
-use Rattle.xa_crew.specs.Run.{Member, member_of, HasRun, HasRunAll, HasWorked}
+use Rattle.xa_crew.specs.Run.{Member, member_of, HasRun, HaveRun, HasRunAll, HasWorked}
 use Rattle.xa_base.proofs.Lists.{some_same, all_at, tail_side, side_of, side_to}
 
 abbrev pub members : {C : Type 0} → List (ClientJob C) → List (Worked C) → List (Member C)
@@ -22,13 +24,15 @@ members (a ∷ gs) [] = []
 members (a ∷ gs) (w ∷ ws) = member_of a w ∷ members gs ws
 
 -- what is read of each member and of what its thread was given
-pub read_given : {C X : Type 0} (f : Member C → X) (g : ClientJob C → X) → ((a : ClientJob C) (w : Worked C) → f (member_of a w) ≡ g a) → (gs : List (ClientJob C)) (ws : List (Worked C)) → length ws ≡ length gs → map f (members gs ws) ≡ map g gs
+pub read_given : {C X : Type 0} (f : Member C → X) (g : ClientJob C → X) → ((a : ClientJob C) (w : Worked C) → f (member_of a w) ≡ g a)
+    → (gs : List (ClientJob C)) (ws : List (Worked C)) → length ws ≡ length gs → map f (members gs ws) ≡ map g gs
 read_given f g same [] ws many = refl
 read_given f g same (a ∷ gs) [] many = absurd (omega (arith, many))
 read_given f g same (a ∷ gs) (w ∷ ws) many = λ i. same a w i ∷ read_given f g same gs ws (omega (arith, many)) i
 
 -- and of what it came to
-pub read_come : {C X : Type 0} (f : Member C → X) (g : Worked C → X) → ((a : ClientJob C) (w : Worked C) → f (member_of a w) ≡ g w) → (gs : List (ClientJob C)) (ws : List (Worked C)) → length ws ≡ length gs → map f (members gs ws) ≡ map g ws
+pub read_come : {C X : Type 0} (f : Member C → X) (g : Worked C → X) → ((a : ClientJob C) (w : Worked C) → f (member_of a w) ≡ g w)
+    → (gs : List (ClientJob C)) (ws : List (Worked C)) → length ws ≡ length gs → map f (members gs ws) ≡ map g ws
 read_come f g same [] [] many = refl
 read_come f g same [] (w ∷ ws) many = absurd (omega (arith, many))
 read_come f g same (a ∷ gs) [] many = absurd (omega (arith, many))
@@ -45,7 +49,8 @@ module _ {C : Type 0} (works : C → DeskView → C → DeskView → Type 0) whe
   member_gone : ((old mid new : DeskView) → GoesOn old mid → GoesOn mid new → GoesOn old new) → (t : Member C) → HasRun works t → HasGone t.desk t.ended
   member_gone further t r = record { last = r.ends.emptied; goes_on = further t.desk r.left r.ends.emptied r.goes_on r.ends.goes_on; ends = r.ends.ends }
 
-  members_gone : ((old mid new : DeskView) → GoesOn old mid → GoesOn mid new → GoesOn old new) → (ts : List (Member C)) → All (HasRun works) ts → Pairwise HasGone (map (λ t. t.desk) ts) (map (λ t. t.ended) ts)
+  members_gone : ((old mid new : DeskView) → GoesOn old mid → GoesOn mid new → GoesOn old new) → (ts : List (Member C)) → All (HasRun works) ts
+      → Pairwise HasGone (map (λ t. t.desk) ts) (map (λ t. t.ended) ts)
   members_gone further ts all =
       side_of HasGone (λ (t : Member C). t.desk) ts (map (λ t. t.ended) ts)
       (side_to (λ t e. HasGone t.desk e) (λ (t : Member C). t.ended) ts ts (record {
@@ -54,7 +59,8 @@ module _ {C : Type 0} (works : C → DeskView → C → DeskView → Type 0) whe
       }))
 
   -- what all threads of a run have come to are all pieces of the opening
-  pub run_pieces : ((old mid new : DeskView) → GoesOn old mid → GoesOn mid new → GoesOn old new) → (p : Plan) (cs : List C) (r : Ran C) → HasRunAll works p cs r → ArePiecesOf (planned p) r.desks.items r.workers.items
+  pub run_pieces : ((old mid new : DeskView) → GoesOn old mid → GoesOn mid new → GoesOn old new) → (p : Plan) (cs : List C) (r : Ran C) → HasRunAll works p cs r
+      → ArePiecesOf (planned p) r.desks.items r.workers.items
   run_pieces further p cs r all = record {
     desks = map (λ t. t.desk) all.members;
     workers = all.workers;
@@ -65,12 +71,12 @@ module _ {C : Type 0} (works : C → DeskView → C → DeskView → Type 0) whe
   }
 
   -- where each client has worked, and each worker has run, all have
-  pub all_have_run : (p : Plan) (desks : List DeskView) (workers : List WorkerView) (clients : List C)
-      (given : List (ClientJob C)) (worked : List (Worked C)) (r : Ran C)
+  pub all_have_run : {p : Plan} {desks : List DeskView} {workers : List WorkerView} {clients : List C} {given : List (ClientJob C)} {worked : List (Worked C)}
+      {attended : List (Attended C)} {ended : List EndedView} {done : List Served}
       → IsSound p → AreOfOneOpening (planned p) desks workers → map (λ a. a.client) given ≡ clients → map (λ a. a.desk) given ≡ desks
-      → Pairwise (HasWorked works) given worked → r.clients.items ≡ map (λ w. w.attended) worked → r.desks.items ≡ map (λ w. w.desk) worked
-      → Pairwise HasServed workers r.workers.items → HasRunAll works p clients r
-  all_have_run p desks workers clients given worked r sound opened own own_desks ran attended ended served = record {
+      → Pairwise (HasWorked works) given worked → attended ≡ map (λ w. w.attended) worked → ended ≡ map (λ w. w.desk) worked
+      → Pairwise HasServed workers done → HaveRun works p clients attended ended done
+  all_have_run {p = p} {workers = workers} {given = given} {worked = worked} sound opened own own_desks ran attended ended served = record {
     members = members given worked;
     workers = workers;
     sound = sound;

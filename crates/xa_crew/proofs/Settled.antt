@@ -15,7 +15,8 @@ use Rattle.xa_worker.specs.Workers.{WorkerView}
 use Rattle.xa_worker.specs.Done.{Served}
 use Rattle.xa_switch.specs.Plans.{Setup}
 use Rattle.xa_switch.specs.OpenedPieces.{IsNewDesk, IsNewWorker}
-use Rattle.xa_switch.specs.Belonging.{DeskSeat, WorkerSeat, ComeFromOpenings, seat_of_desk, seat_of_ended, seat_of_worker, seat_of_done, desk_seats, worker_seats, desk_opening, worker_opening, first_opening, AreOfOne, AreAll, HasDesks, HasWorkers, has_desk, has_worker}
+use Rattle.xa_switch.specs.Belonging.{DeskSeat, WorkerSeat, ComeFromOpenings, seat_of_desk, seat_of_ended, seat_of_worker, seat_of_done, desk_seats}
+use Rattle.xa_switch.specs.Belonging.{worker_seats, desk_opening, worker_opening, first_opening, AreOfOne, AreAll, HasDesks, HasWorkers, has_desk, has_worker}
 use Rattle.xa_crew.specs.Pieces.{HasGone, HasServed, ArePiecesOf}
 use Rattle.xa_base.proofs.Lists.{got, all_from, any_at, map_alike}
 
@@ -105,7 +106,8 @@ module _ (out : GoOut) (p : Setup) (ended : List EndedView) (done : List Served)
         all_from (λ w. worker_opening w ≡ first_opening ended done) done (λ k d at. done_opening k d at ∙ sym first),
       )
     where
-      first_is : (es : List EndedView) (ds : List Served) (n : ℕ) → 0 < length es → ((k : ℕ) (e : EndedView) → slice_get es k ≡ Some e → desk_opening e ≡ n) → first_opening es ds ≡ n
+      first_is : (es : List EndedView) (ds : List Served) (n : ℕ) → 0 < length es → ((k : ℕ) (e : EndedView) → slice_get es k ≡ Some e → desk_opening e ≡ n)
+          → first_opening es ds ≡ n
       first_is [] ds n some is = absurd (omega (arith, some))
       first_is (e ∷ es) ds n some is = is 0 e refl
 

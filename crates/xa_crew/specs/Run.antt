@@ -64,34 +64,10 @@ HasWorked works a w = HasRun works (member_of a w)
 
 -- ---- the whole run
 
--- What all threads of a run of these clients come to. The plan was opened, and each client worked with the desk at its
--- own place; and each worker of that opening ran to the last end mark.
-pub record HasRunAll {C : Type 0} (works : C → DeskView → C → DeskView → Type 0) (p : Plan) (clients : List C)
-    (r : Ran C) : Type 0 where
-  -- the threads and the workers of one opening of the plan
-  pub members : List (Member C)
-  pub workers : List WorkerView
-  pub sound : IsSound p
-  pub opened : AreOfOneOpening (planned p) (map (λ t. t.desk) members) workers
-  -- each thread has the client at its place, and ran with it
-  pub clients_are : clients ≡ map (λ t. t.client) members
-  pub ran : All (HasRun works) members
-  -- and each worker ran
-  pub attended_are : r.clients.items ≡ map (λ t. t.attended) members
-  pub desks_are : r.desks.items ≡ map (λ t. t.ended) members
-  pub served : Pairwise HasServed workers r.workers.items
-
--- What a fault gives back of what was run, if it does, is this.
-abbrev pub PutsBack : {C : Type 0} → (Ran C → Type 0) → CrewFault C → Type 0
-PutsBack P crew.BadPlan = Unit {0}
-PutsBack P crew.NoMemory = Unit {0}
-PutsBack P (crew.Unsettled ran) = P ran
-
--- What a run of these clients comes to. The plan was opened, and each client worked with the desk at its own place;
--- each worker of that opening ran to the last end mark; and the opening is settled with what all of them came to, so
--- that what was sent, carried out and collected agree.
-pub record IsRun {C : Type 0} (works : C → DeskView → C → DeskView → Type 0) (p : Plan) (clients : List C)
-    (attended : List (Attended C)) (settled : Settling) : Type 0 where
+-- What the threads of a run of these clients come to: these clients, desks and workers. The plan was opened, and each
+-- client worked with the desk at its own place; and each worker of that opening ran to the last end mark.
+pub record HaveRun {C : Type 0} (works : C → DeskView → C → DeskView → Type 0) (p : Plan) (clients : List C)
+    (attended : List (Attended C)) (desks : List EndedView) (done : List Served) : Type 0 where
   -- the threads and the workers of one opening of the plan
   pub members : List (Member C)
   pub workers : List WorkerView
@@ -101,10 +77,29 @@ pub record IsRun {C : Type 0} (works : C → DeskView → C → DeskView → Typ
   pub clients_are : clients ≡ map (λ t. t.client) members
   pub ran : All (HasRun works) members
   pub attended_are : attended ≡ map (λ t. t.attended) members
-  -- each worker ran
-  pub done : List Served
+  pub desks_are : desks ≡ map (λ t. t.ended) members
+  -- and each worker ran
   pub served : Pairwise HasServed workers done
-  -- and just these are settled
+
+-- All threads of a run of these clients have come to this, which isn't settled yet.
+abbrev pub HasRunAll : {C : Type 0} → (C → DeskView → C → DeskView → Type 0) → Plan → List C → Ran C → Type 0
+HasRunAll works p clients r = HaveRun works p clients r.clients.items r.desks.items r.workers.items
+
+-- What a fault gives back of what was run, if it does, is this.
+abbrev pub PutsBack : {C : Type 0} → (Ran C → Type 0) → CrewFault C → Type 0
+PutsBack P crew.BadPlan = Unit {0}
+PutsBack P crew.NoMemory = Unit {0}
+PutsBack P (crew.Unsettled ran) = P ran
+
+-- What a run of these clients comes to: its threads have run, and the opening is settled with what all of them came to,
+-- so that what was sent, carried out and collected agree.
+pub record IsRun {C : Type 0} (works : C → DeskView → C → DeskView → Type 0) (p : Plan) (clients : List C)
+    (attended : List (Attended C)) (settled : Settling) : Type 0 where
+  pub desks : List EndedView
+  pub done : List Served
+  pub threads : HaveRun works p clients attended desks done
+  pub open threads use *
+  -- just these are settled
   pub settles : settled ≡ settling (map (λ t. t.ended) members) done
   pub agrees : IsSettled settled
   pub of_plan : IsOfPlan p settled

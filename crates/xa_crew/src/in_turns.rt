@@ -1,5 +1,5 @@
 //! A run of clients in one thread.
-ghost use Rattle.std.specs.Prelude.{◌≡◌, ◌≢◌, ◌↔◌, length, IfOk, IfErr};
+ghost use Rattle.std.specs.Prelude.{◌≡◌, ◌↔◌, length, IfOk, IfErr};
 ghost use Rattle.xa_switch.specs.OpenedPieces.{AreOfOneOpening};
 ghost use Rattle.xa_switch.specs.Plans.{IsSound, planned};
 ghost use Rattle.xa_crew.specs.Run.{HasRunAll, IsRun, PutsBack};
@@ -35,31 +35,13 @@ pub fn run_clients_in_turns<R: Wait, C: Client>(
     ensures unsettled { IfErr result (PutsBack (HasRunAll C.works plan.now clients.items)) }
 {
     let (desks, workers) = open_switch(rt, alloc, plan)?;
-    run_opened(rt, alloc, plan, desks, workers, clients)
-}
-
-// Runs the clients with the desks of one opening of the plan, and the workers of that opening.
-fn run_opened<R: Wait, C: Client>(
-    rt: &R,
-    alloc: Global,
-    plan: &Plan,
-    desks: Vec<Desk>,
-    workers: Vec<Worker>,
-    clients: Vec<C>,
-) -> Result<Run<C>, CrewFault<C>>
-    requires sound { IsSound plan.now }
-    requires opened { AreOfOneOpening (planned plan.now) desks.items workers.items }
-    requires clients { length clients.items ≡ plan.now.threads }
-    ensures ran { IfOk result (λ r. IsRun C.works plan.now clients.items r.clients.items r.settled) }
-    ensures opens { IfErr result (λ f. f ≢ CrewFault.BadPlan) }
-    ensures unsettled { IfErr result (PutsBack (HasRunAll C.works plan.now clients.items)) }
-{
     let ran = run_all(rt, alloc, plan, desks, workers, clients)?;
     settle_or_keep(rt, alloc, ran)
 }
 
-// Runs them, and all have come to their ends; or none was run, for want of memory. All memory but that of the settling
-// is taken before the first client begins.
+// Runs the clients with the desks of one opening of the plan, and the workers of that opening, and all have come to
+// their ends; or none was run, for want of memory. All memory but that of the settling is taken before the first client
+// begins.
 fn run_all<R: Wait, C: Client>(
     rt: &R,
     alloc: Global,

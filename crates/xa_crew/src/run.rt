@@ -67,37 +67,13 @@ pub fn run_clients<
     ensures unsettled { IfErr result (PutsBack (HasRunAll C.works plan.now clients.items)) }
 {
     let (desks, workers) = open_switch(rt, alloc, plan)?;
-    run_opened(rt, alloc, plan, desks, workers, clients, paces)
-}
-
-// Runs the clients with the desks of one opening of the plan, and the workers of that opening. All memory but that of
-// the settling is taken before any thread is started.
-fn run_opened<
-    R: Threads + Wait + Copy + Send + 'static,
-    C: Client + Send + 'static,
-    P: Pace + Drop + Send + 'static,
->(
-    rt: &R,
-    alloc: Global,
-    plan: &Plan,
-    desks: Vec<Desk>,
-    workers: Vec<Worker>,
-    clients: Vec<C>,
-    paces: Vec<P>,
-) -> Result<Run<C>, CrewFault<C>>
-    requires sound { IsSound plan.now }
-    requires opened { AreOfOneOpening (planned plan.now) desks.items workers.items }
-    requires clients { length clients.items ≡ plan.now.threads }
-    requires paces { length plan.now.managers.items ≤ length paces.items }
-    ensures ran { IfOk result (λ r. IsRun C.works plan.now clients.items r.clients.items r.settled) }
-    ensures opens { IfErr result (λ f. f ≢ CrewFault.BadPlan) }
-    ensures unsettled { IfErr result (PutsBack (HasRunAll C.works plan.now clients.items)) }
-{
     let ran = run_all(rt, alloc, plan, desks, workers, clients, paces)?;
     settle_or_keep(rt, alloc, ran)
 }
 
-// Runs them, and all have come to their ends; or none was run, for want of memory or of a thread.
+// Runs the clients with the desks of one opening of the plan, and the workers of that opening, and all have come to
+// their ends; or none was run, for want of memory or of a thread. All memory but that of the settling is taken before
+// any thread is started.
 fn run_all<
     R: Threads + Wait + Copy + Send + 'static,
     C: Client + Send + 'static,

@@ -34,9 +34,11 @@ module _ (plan : ℕ) (at : List LedgerView) (use_async : List Bool) (new : at �
   planned_from = ap planned_total new ∙ planned-new plan use_async
 
 -- what contracts see of such a book
-module _ (t h plan : ℕ) (at : List LedgerView) (events : List Event) (table : List (Option Operation)) (drained : List Completion) (requests : List (Sending Request)) (r : Receiving Completion) where
+module _ (t h plan : ℕ) (at : List LedgerView) (events : List Event) (table : List (Option Operation)) (drained : List Completion)
+    (requests : List (Sending Request)) (r : Receiving Completion) where
   abbrev pub begun : DeskView
-  begun = record { thread = t; handles = h; ledgers = at; events = events; kept = kept_of table; drained = drained; drained_then = 0; requests = requests; completions = r }
+  begun =
+      record { thread = t; handles = h; ledgers = at; events = events; kept = kept_of table; drained = drained; drained_then = 0; requests = requests; completions = r }
 
   abbrev pub made_with : PartsView
   made_with = record { thread = t; handles = h; plan = plan; use_async = carried at }

@@ -1,5 +1,6 @@
 -- Each step of a desk keeps its books.
-use Rattle.std.proofs.Common.{◌≡◌, ◌≢◌, ℕ, suc, ◌+◌, ◌-◌, ◌<◌, ◌⊎◌, Bool, true, false, cond, nat_eq, is_some, List, [], ◌∷◌, ◌++◌, length, Option, Some, None, get_or, sym, refl, ap, ◌∙◌, subst, inl, inr, arith, length-append}
+use Rattle.std.proofs.Common.{◌≡◌, ◌≢◌, ℕ, suc, ◌+◌, ◌-◌, ◌<◌, ◌⊎◌, Bool, true, false, cond, nat_eq, is_some, List, [], ◌∷◌, ◌++◌, length, Option, Some, None}
+use Rattle.std.proofs.Common.{get_or, sym, refl, ap, ◌∙◌, subst, inl, inr, arith, length-append}
 use Rattle.std.proofs.lemmas.List.Sums.{sum_by-set}
 use Rattle.std.proofs.lemmas.Bool.{cases_eq, cases_Bool, false≢true, false_from_ne_true, and_parts, and_from, eqb-true, eq-eqb}
 use Rattle.slab.specs.Slab.{Slab, get, slab_len, Updates}
@@ -11,7 +12,9 @@ use Rattle.xa_desk.specs.declared.slot.Slot.{Slot}
 use Rattle.xa_desk.specs.LedgerView.{LedgerView, with_sent, with_collected}
 use Rattle.xa_desk.specs.DeskView.{IsKnown, IsSent, IsOut, ledger, no_ledger, after_sent, after_collected, outstanding, names, drained_code, operation_of}
 use Rattle.xa_desk.specs.Slots.{HasSlot, IsBooks, ready_weight, ready_count, collected_total}
-use Rattle.xa_desk.proofs.Ledgers.{same_operation, none_from, sum_by-changed, collected-le-sent, collected-lt-sent, orderly_sent, orderly_collected, sent_now, ledger-sent_same, ledger-sent_other, sent_keeps_sent, sent_keeps_out, sent_now_out, sent_out_cases, unsent, known_before, collected_known, collected_out, collected_keeps_out, collected_keeps_sent, ledger-collected_same, ledger-collected_other}
+use Rattle.xa_desk.proofs.Ledgers.{same_operation, none_from, sum_by-changed, collected-le-sent, collected-lt-sent, orderly_sent, orderly_collected, sent_now}
+use Rattle.xa_desk.proofs.Ledgers.{ledger-sent_same, ledger-sent_other, sent_keeps_sent, sent_keeps_out, sent_now_out, sent_out_cases, unsent, known_before}
+use Rattle.xa_desk.proofs.Ledgers.{collected_known, collected_out, collected_keeps_out, collected_keeps_sent, ledger-collected_same, ledger-collected_other}
 
 module _ (s t : Slab Slot) (key : ℕ) where
   -- a value found after a change is the new one, or was there
@@ -34,7 +37,8 @@ module _ (s t : Slab Slot) (key : ℕ) where
 
   pub ready_count-changed : (o : Option Slot) → Updates s t key o → ready_count t + ready_weight (get s key) ≡ ready_count s + ready_weight o
   ready_count-changed o u =
-      let e : ready_count t + ready_weight (get s key) ≡ ready_count s + ready_weight (get t key) = sum_by-changed ready_weight refl s.slots t.slots key u.others in
+      let e : ready_count t + ready_weight (get s key) ≡ ready_count s + ready_weight (get t key) =
+      sum_by-changed ready_weight refl s.slots t.slots key u.others in
       e ∙ ap (λ x. ready_count s + ready_weight x) u.changed
 
 pub key_apart : (s : Slab Slot) (key k : ℕ) (y : Slot) → get s key ≡ None → get s k ≡ Some y → k ≢ key
@@ -42,11 +46,13 @@ key_apart s key k y none found e = let no : None ≡ Some y = sym none ∙ ap (g
 
 -- sending
 
-module _ (at : List LedgerView) (m : ℕ) (op : Op) (known : IsKnown at m) (s t : Slab Slot) (key : ℕ) (table : List (Option Operation)) (drained : List Completion) where
+module _ (at : List LedgerView) (m : ℕ) (op : Op) (known : IsKnown at m) (s t : Slab Slot) (key : ℕ) (table : List (Option Operation))
+    (drained : List Completion) where
   abbrev pub fresh : Slot
   fresh = record { operation = sent_now at m op known; code = None; handle = 0 }
 
-  pub books_sent : IsBooks at s table drained → length (ledger at m).sent < (ledger at m).plan → get s key ≡ None → Updates s t key (Some fresh) → slab_len t ≡ slab_len s + 1 → IsBooks (after_sent at m op) t table drained
+  pub books_sent : IsBooks at s table drained → length (ledger at m).sent < (ledger at m).plan → get s key ≡ None → Updates s t key (Some fresh)
+      → slab_len t ≡ slab_len s + 1 → IsBooks (after_sent at m op) t table drained
   books_sent b room none u len = record {
     orderly = λ n k. let k' = known_before at m n (with_sent (ledger at m) op) k in elim (cases_eq n m) [
       | inl same ↦ rw (ledger-sent_same at m op known n same) (orderly_sent (ledger at n) op (b.orderly n k') (rw same room))
@@ -116,7 +122,8 @@ module _ (o : Operation) where
   drained_code-append : (cs : List Completion) (c : Completion) → drained_code o (cs ++ c ∷ []) ≡ code_or (drained_code o cs) (drained_code o (c ∷ []))
   unfolding code_or
   drained_code-append [] c = refl
-  drained_code-append (d ∷ cs) c = ap (λ r. cond (names o d) (Some d.code) r) (drained_code-append cs c) ∙ push_past (names o d) d.code (drained_code o cs) (drained_code o (c ∷ []))
+  drained_code-append (d ∷ cs) c =
+      ap (λ r. cond (names o d) (Some d.code) r) (drained_code-append cs c) ∙ push_past (names o d) d.code (drained_code o cs) (drained_code o (c ∷ []))
 
   or_nothing : (x : Option Code) → code_or x None ≡ x
   unfolding code_or
@@ -125,28 +132,33 @@ module _ (o : Operation) where
 
   names-true : (c : Completion) → names o c ≡ true → o ≡ operation_of c
   names-true c e =
-      let parts : (nat_eq o.manager c.manager ≡ true) × (nat_eq o.number c.number ≡ true) = and_parts (nat_eq o.manager c.manager) (nat_eq o.number c.number) e in
+      let parts : (nat_eq o.manager c.manager ≡ true) × (nat_eq o.number c.number ≡ true) =
+      and_parts (nat_eq o.manager c.manager) (nat_eq o.number c.number) e in
       same_operation o (operation_of c) (eqb-true o.manager c.manager parts.0) (eqb-true o.number c.number parts.1)
 
   names-same : (c : Completion) → o ≡ operation_of c → names o c ≡ true
-  names-same c e = and_from (nat_eq o.manager c.manager) (nat_eq o.number c.number) (eq-eqb o.manager c.manager (ap (λ (q : Operation). q.manager) e)) (eq-eqb o.number c.number (ap (λ (q : Operation). q.number) e))
+  names-same c e =
+      and_from (nat_eq o.manager c.manager) (nat_eq o.number c.number) (eq-eqb o.manager c.manager (ap (λ (q : Operation). q.manager) e)) (eq-eqb o.number c.number (ap (λ (q : Operation). q.number) e))
 
   pub drained_code-push_other : (cs : List Completion) (c : Completion) → o ≢ operation_of c → drained_code o (cs ++ c ∷ []) ≡ drained_code o cs
   drained_code-push_other cs c differs =
       let no : names o c ≡ false = false_from_ne_true (names o c) (λ e. differs (names-true c e)) in
       drained_code-append cs c ∙ ap (λ b. code_or (drained_code o cs) (cond b (Some c.code) None)) no ∙ or_nothing (drained_code o cs)
 
-  pub drained_code-push_first : (cs : List Completion) (c : Completion) → o ≡ operation_of c → drained_code o cs ≡ None → drained_code o (cs ++ c ∷ []) ≡ Some c.code
+  pub drained_code-push_first : (cs : List Completion) (c : Completion) → o ≡ operation_of c → drained_code o cs ≡ None
+      → drained_code o (cs ++ c ∷ []) ≡ Some c.code
   unfolding code_or
   drained_code-push_first cs c same none =
       drained_code-append cs c ∙ ap (λ x. code_or x (drained_code o (c ∷ []))) none ∙ ap (λ b. cond b (Some c.code) None) (names-same c same)
 
-  pub drained_code-push_again : (cs : List Completion) (c : Completion) (code : Code) → drained_code o cs ≡ Some code → drained_code o (cs ++ c ∷ []) ≡ Some code
+  pub drained_code-push_again : (cs : List Completion) (c : Completion) (code : Code) → drained_code o cs ≡ Some code
+      → drained_code o (cs ++ c ∷ []) ≡ Some code
   unfolding code_or
   drained_code-push_again cs c code some = drained_code-append cs c ∙ ap (λ x. code_or x (drained_code o (c ∷ []))) some
 
 -- the slot at a key changes its code or its handle, and keeps its operation
-module _ (at : List LedgerView) (s t : Slab Slot) (key : ℕ) (slot x : Slot) (table : List (Option Operation)) (drained : List Completion) (b : IsBooks at s table drained) (there : get s key ≡ Some slot) (u : Updates s t key (Some x)) (keeps : slot.operation ≡ x.operation) where
+module _ (at : List LedgerView) (s t : Slab Slot) (key : ℕ) (slot x : Slot) (table : List (Option Operation)) (drained : List Completion)
+    (b : IsBooks at s table drained) (there : get s key ≡ Some slot) (u : Updates s t key (Some x)) (keeps : slot.operation ≡ x.operation) where
   pub changed_out : (k : ℕ) (y : Slot) → get t k ≡ Some y → IsOut at y.operation
   changed_out k y found = elim (found_cases s t key x u k y found) [
     | inl new ↦ subst (λ o. IsOut at o) (keeps ∙ ap (λ (z : Slot). z.operation) new.1) (b.slot_out key slot there)
@@ -181,7 +193,8 @@ module _ (at : List LedgerView) (s t : Slab Slot) (key : ℕ) (slot : Slot) (tab
   abbrev pub answered : Slot
   answered = record slot { code = Some c.code }
 
-  pub books_drained : IsBooks at s table drained → get s key ≡ Some slot → slot.code ≡ None → slot.operation ≡ operation_of c → Updates s t key (Some answered) → slab_len t ≡ slab_len s → IsBooks at t table (drained ++ c ∷ [])
+  pub books_drained : IsBooks at s table drained → get s key ≡ Some slot → slot.code ≡ None → slot.operation ≡ operation_of c → Updates s t key (Some answered)
+      → slab_len t ≡ slab_len s → IsBooks at t table (drained ++ c ∷ [])
   books_drained b there waiting named u len = record {
     orderly = b.orderly;
     slot_out = changed_out at s t key slot answered table drained b there u refl;
@@ -199,7 +212,8 @@ module _ (at : List LedgerView) (s t : Slab Slot) (key : ℕ) (slot : Slot) (tab
     ];
     coded = λ k y found. elim (found_cases s t key answered u k y found) [
       | inl new ↦ subst (λ (z : Slot). z.code ≡ drained_code z.operation (drained ++ c ∷ [])) new.1 (sym (drained_code-push_first slot.operation drained c named (sym (b.coded key slot there) ∙ waiting)))
-      | inr old ↦ b.coded k y old.1 ∙ sym (drained_code-push_other y.operation drained c (λ e. changed_apart at s t key slot answered table drained b there u refl k y old.0 old.1 (e ∙ sym named)))
+      | inr old ↦ b.coded k y old.1
+          ∙ sym (drained_code-push_other y.operation drained c (λ e. changed_apart at s t key slot answered table drained b there u refl k y old.0 old.1 (e ∙ sym named)))
     ];
     drained_sent = λ o code e. elim (cases_Bool (names o c)) [
       | inl hit ↦ let out = b.slot_out key slot there in subst (λ p. IsSent at p) (named ∙ sym (names-true o c hit)) (record { known = out.known; sent = out.sent })
@@ -223,7 +237,8 @@ module _ (at : List LedgerView) (s t : Slab Slot) (key : ℕ) (slot : Slot) (han
   abbrev pub rehandled : Slot
   rehandled = record slot { handle = handle }
 
-  pub books_rehandled : IsBooks at s old drained → get s key ≡ Some slot → Rehandles old new slot.handle handle slot.operation → Updates s t key (Some rehandled) → slab_len t ≡ slab_len s → IsBooks at t new drained
+  pub books_rehandled : IsBooks at s old drained → get s key ≡ Some slot → Rehandles old new slot.handle handle slot.operation
+      → Updates s t key (Some rehandled) → slab_len t ≡ slab_len s → IsBooks at t new drained
   books_rehandled b there r u len = record {
     orderly = b.orderly;
     slot_out = changed_out at s t key slot rehandled old drained b there u refl;
@@ -265,13 +280,15 @@ module _ (at : List LedgerView) (s t : Slab Slot) (key : ℕ) (slot : Slot) (han
 -- collecting
 
 module _ (at : List LedgerView) (s t : Slab Slot) (key : ℕ) (slot : Slot) (code : Code) (table : List (Option Operation)) (drained : List Completion) where
-  pub books_collected : IsBooks at s table drained → get s key ≡ Some slot → slot.code ≡ Some code → slot.handle ≡ 0 → Updates s t key None → slab_len t + 1 ≡ slab_len s → IsBooks (after_collected at slot.operation code) t table drained
+  pub books_collected : IsBooks at s table drained → get s key ≡ Some slot → slot.code ≡ Some code → slot.handle ≡ 0 → Updates s t key None
+      → slab_len t + 1 ≡ slab_len s → IsBooks (after_collected at slot.operation code) t table drained
   books_collected b there ready_code loose u len =
       let out = b.slot_out key slot there in
       let o = slot.operation in
       let fresh_code = out.open_ in
       let within : o.manager - 1 < length at = (let w = out.known.within in let p = out.known.positive in omega arith) in
-      let fewer : length (ledger at o.manager).collected < length (ledger at o.manager).sent = collected-lt-sent (ledger at o.manager) o.number code (b.orderly o.manager out.known) out.sent out.open_ in
+      let fewer : length (ledger at o.manager).collected < length (ledger at o.manager).sent =
+      collected-lt-sent (ledger at o.manager) o.number code (b.orderly o.manager out.known) out.sent out.open_ in
       let differs : (k : ℕ) (y : Slot) → k ≢ key → get s k ≡ Some y → y.operation ≢ o = λ k y apart found e. apart (b.one_slot k key y slot found there e) in
       record {
         orderly = λ n k. let k' = collected_known at o code out.known n k in elim (cases_eq n o.manager) [
@@ -293,7 +310,9 @@ module _ (at : List LedgerView) (s t : Slab Slot) (key : ℕ) (slot : Slot) (cod
         handled = λ k y n found e. b.handled k y n (found_before s t key u k y found).1 e;
         tabled = λ n q e.
             let h = b.tabled n q e in
-            let apart : h.key ≢ key = λ same. let zero_is : 0 ≡ suc n = sym loose ∙ sym (ap (λ (z : Slot). z.handle) (same_slot s key h.key slot h.slot there h.found same)) ∙ h.handle in absurd (omega arith) in
+            let apart : h.key ≢ key =
+            λ same. let zero_is : 0 ≡ suc n = sym loose ∙ sym (ap (λ (z : Slot). z.handle) (same_slot s key h.key slot h.slot there h.found same)) ∙ h.handle in
+            absurd (omega arith) in
             record { key = h.key; slot = h.slot; found = found_still s t key None u h.key h.slot apart h.found; names = h.names; handle = h.handle };
         coded = λ k y found. b.coded k y (found_before s t key u k y found).1;
         drained_sent = λ q c e. collected_keeps_sent at o code out.known q (b.drained_sent q c e);

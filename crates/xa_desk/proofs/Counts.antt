@@ -1,5 +1,6 @@
 -- How many slots, numbers and drained completions there can be.
-use Rattle.std.proofs.Common.{◌≡◌, ℕ, zero, suc, ◌+◌, ◌-◌, ◌<◌, ◌≤◌, Bool, true, false, cond, leb, eqb, is_some, List, [], ◌∷◌, length, Option, Some, None, IsSome, get_or, set, sum_by, refl, ap, ◌∙◌, inl, inr, arith}
+use Rattle.std.proofs.Common.{◌≡◌, ℕ, zero, suc, ◌+◌, ◌-◌, ◌<◌, ◌≤◌, Bool, true, false, cond, leb, eqb, is_some, List, [], ◌∷◌, length, Option, Some, None}
+use Rattle.std.proofs.Common.{IsSome, get_or, set, sum_by, refl, ap, ◌∙◌, inl, inr, arith}
 use Rattle.std.proofs.lemmas.List.Sums.{sum_by-set, sum_by-cons, sum_by-le-sum_by, get_or-le-sum_by}
 use Rattle.std.proofs.lemmas.Bool.{cases_order, le-leb, lt-leb, eq-eqb, ne_eqb, false≢true, cases_Bool}
 use Rattle.slab.specs.Slab.{Slab, get, slab_len}
@@ -13,7 +14,8 @@ use Rattle.xa_desk.specs.DeskView.{IsKnown, no_ledger, outstanding, ledger}
 use Rattle.xa_desk.specs.Slots.{IsOrderly, IsBooks, HasKept, ready_weight, ready_count, collected_total, planned_total}
 use Rattle.xa_desk.proofs.Ledgers.{collected-le-sent}
 
-sum_by-within : {A : Type 0} (f g h : A → ℕ) (d : A) (xs : List A) → ((i : ℕ) → i < length xs → f (get_or xs i d) + g (get_or xs i d) ≤ h (get_or xs i d)) → sum_by f xs + sum_by g xs ≤ sum_by h xs
+sum_by-within : {A : Type 0} (f g h : A → ℕ) (d : A) (xs : List A) → ((i : ℕ) → i < length xs → f (get_or xs i d) + g (get_or xs i d) ≤ h (get_or xs i d))
+    → sum_by f xs + sum_by g xs ≤ sum_by h xs
 sum_by-within f g h d [] each = omega arith
 sum_by-within f g h d (x ∷ xs) each =
     let first : f x + g x ≤ h x = each 0 (omega arith) in
@@ -42,14 +44,18 @@ ready-le-there (Some slot) = at_most slot.code
     at_most (Some a) = omega arith
 
 -- a slot that waits leaves room in the list of drained completions
-pub drained-lt-planned : (at : List LedgerView) (s : Slab Slot) (table : List (Option Operation)) (drained : List Completion) (key : ℕ) (slot : Slot) → IsBooks at s table drained → get s key ≡ Some slot → slot.code ≡ None → length drained < planned_total at
+pub drained-lt-planned : (at : List LedgerView) (s : Slab Slot) (table : List (Option Operation)) (drained : List Completion) (key : ℕ) (slot : Slot)
+    → IsBooks at s table drained → get s key ≡ Some slot → slot.code ≡ None → length drained < planned_total at
 drained-lt-planned at s table drained key slot b there waiting =
     let within : key < length s.slots = ContainsKey-within s key (rw there refl) in
-    let fewer_ready : ready_count (record s { slots = set s.slots key None }) + ready_weight (get s key) ≡ ready_count s + 0 = sum_by-set ready_weight s.slots key None None within in
+    let fewer_ready : ready_count (record s { slots = set s.slots key None }) + ready_weight (get s key) ≡ ready_count s + 0 =
+    sum_by-set ready_weight s.slots key None None within in
     let not_ready : ready_weight (get s key) ≡ 0 = ap ready_weight there ∙ ap (λ (o : Option Code). code_weight o) waiting in
-    let fewer : slab_len (record s { slots = set s.slots key None }) + there_weight (get s key) ≡ slab_len s + 0 = sum_by-set there_weight s.slots key None None within in
+    let fewer : slab_len (record s { slots = set s.slots key None }) + there_weight (get s key) ≡ slab_len s + 0 =
+    sum_by-set there_weight s.slots key None None within in
     let one : there_weight (get s key) ≡ 1 = ap there_weight there in
-    let below : ready_count (record s { slots = set s.slots key None }) ≤ slab_len (record s { slots = set s.slots key None }) = sum_by-le-sum_by ready_weight there_weight (set s.slots key None) ready-le-there in
+    let below : ready_count (record s { slots = set s.slots key None }) ≤ slab_len (record s { slots = set s.slots key None }) =
+    sum_by-le-sum_by ready_weight there_weight (set s.slots key None) ready-le-there in
     let sums : collected_total at + outstanding at ≤ planned_total at = sum_by-within (λ (a : LedgerView). length a.collected) (λ (a : LedgerView). length a.sent - length a.collected) (λ (a : LedgerView). a.plan) no_ledger at (λ i below.
     let known : IsKnown at (i + 1) = record { positive = omega arith; within = omega arith } in
     let back : i + 1 - 1 ≡ i = omega arith in
@@ -95,26 +101,33 @@ module _ where
       let is : f (get s key) ≡ 1 = ap f there ∙ one in
       omega arith
 
-  more_than : (s : Slab Slot) (key : ℕ) (slot : Slot) → get s key ≡ Some slot → slot.handle ≡ 0 → (n : ℕ) → ((k : ℕ) → k < n → (o : Operation) × HasKept s o (suc k)) → suc n ≤ sum_by (up_to n) s.slots
+  more_than : (s : Slab Slot) (key : ℕ) (slot : Slot) → get s key ≡ Some slot → slot.handle ≡ 0 → (n : ℕ)
+      → ((k : ℕ) → k < n → (o : Operation) × HasKept s o (suc k)) → suc n ≤ sum_by (up_to n) s.slots
   unfolding up_to just
   more_than s key slot there loose zero each = found_one (up_to 0) s key slot there (ap (λ b. cond b 1 0) (le-leb slot.handle 0 (omega arith)))
   more_than s key slot there loose (suc n) each =
       let before : suc n ≤ sum_by (up_to n) s.slots = more_than s key slot there loose n (λ k below. each k (omega arith)) in
       let h = (each n (omega arith)).1 in
-      let one : 1 ≤ sum_by (just (suc n)) s.slots = found_one (just (suc n)) s h.key h.slot h.found (ap (λ b. cond b 1 0) (eq-eqb h.slot.handle (suc n) h.handle)) in
-      let step : sum_by (up_to n) s.slots + sum_by (just (suc n)) s.slots ≤ sum_by (up_to (suc n)) s.slots = sum_by-parts (up_to n) (just (suc n)) (up_to (suc n)) s.slots (one_more n) in
+      let one : 1 ≤ sum_by (just (suc n)) s.slots =
+      found_one (just (suc n)) s h.key h.slot h.found (ap (λ b. cond b 1 0) (eq-eqb h.slot.handle (suc n) h.handle)) in
+      let step : sum_by (up_to n) s.slots + sum_by (just (suc n)) s.slots ≤ sum_by (up_to (suc n)) s.slots =
+      sum_by-parts (up_to n) (just (suc n)) (up_to (suc n)) s.slots (one_more n) in
       omega arith
 
-pub numbers-lt-slots : (s : Slab Slot) (key : ℕ) (slot : Slot) → get s key ≡ Some slot → slot.handle ≡ 0 → (n : ℕ) → ((k : ℕ) → k < n → (o : Operation) × HasKept s o (suc k)) → n < slab_len s
+pub numbers-lt-slots : (s : Slab Slot) (key : ℕ) (slot : Slot) → get s key ≡ Some slot → slot.handle ≡ 0 → (n : ℕ)
+    → ((k : ℕ) → k < n → (o : Operation) × HasKept s o (suc k)) → n < slab_len s
 numbers-lt-slots s key slot there loose n each =
     let most : suc n ≤ sum_by (up_to n) s.slots = more_than s key slot there loose n each in
     let le : sum_by (up_to n) s.slots ≤ slab_len s = sum_by-le-sum_by (up_to n) (λ (x : Option Slot). cond (is_some x) 1 0) s.slots (all_there n) in
     omega arith
 
 -- among as many numbers as there may be slots one is free, where an operation isn't kept
-pub free_place : (at : List LedgerView) (s : Slab Slot) (table : List (Option Operation)) (drained : List Completion) (key : ℕ) (slot : Slot) → IsBooks at s table drained → get s key ≡ Some slot → slot.handle ≡ 0 → slab_len s ≤ length table → (n : ℕ) → n ≤ length table → ((k : ℕ) → k < n → IsSome (get_or table k None)) → n < length table
+pub free_place : (at : List LedgerView) (s : Slab Slot) (table : List (Option Operation)) (drained : List Completion) (key : ℕ) (slot : Slot)
+    → IsBooks at s table drained → get s key ≡ Some slot → slot.handle ≡ 0 → slab_len s ≤ length table → (n : ℕ) → n ≤ length table
+    → ((k : ℕ) → k < n → IsSome (get_or table k None)) → n < length table
 free_place at s table drained key slot b there loose fits n within taken =
-    let below : n < slab_len s = numbers-lt-slots s key slot there loose n (λ k under. let o = some_is (get_or table k None) (taken k under) in (o.0, b.tabled k o.0 o.1)) in
+    let below : n < slab_len s =
+    numbers-lt-slots s key slot there loose n (λ k under. let o = some_is (get_or table k None) (taken k under) in (o.0, b.tabled k o.0 o.1)) in
     omega arith
   where
     some_is : (x : Option Operation) → IsSome x → (o : Operation) × (x ≡ Some o)
@@ -122,7 +135,8 @@ free_place at s table drained key slot b there loose fits n within taken =
     some_is (Some o) h = (o, refl)
 
 -- where nothing is outstanding, every request was collected
-pub nothing_open : (at : List LedgerView) (s : Slab Slot) (table : List (Option Operation)) (drained : List Completion) → IsBooks at s table drained → slab_len s ≡ 0 → (m : ℕ) → IsKnown at m → IsBalanced (ledger at m)
+pub nothing_open : (at : List LedgerView) (s : Slab Slot) (table : List (Option Operation)) (drained : List Completion) → IsBooks at s table drained
+    → slab_len s ≡ 0 → (m : ℕ) → IsKnown at m → IsBalanced (ledger at m)
 nothing_open at s table drained b none m known =
     let o = b.orderly m known in
     record {

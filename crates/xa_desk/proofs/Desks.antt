@@ -4,7 +4,7 @@ use Rattle.std.specs.Option.{option_or}
 use Rattle.std.proofs.lemmas.Bool.{not-false, and_parts, leb-true, leb-false}
 use Rattle.xa_words.specs.declared.request.Op.{Op}
 use Rattle.xa_desk.specs.LedgerView.{LedgerView, learnt_shut}
-use Rattle.xa_desk.specs.DeskView.{DeskView, IsKnown, is_known, ledger, outstanding, reach_refusal, handle_refusal, spent_refusal, submit_refusal, call_refusal}
+use Rattle.xa_desk.specs.DeskView.{DeskView, IsKnown, is_known, ledger, outstanding, reach_refusal, handle_refusal, spent_refusal, room_refusal, call_refusal}
 use Rattle.xa_desk.specs.Lanes.{IsDesk, submitted, after_full, after_fulls}
 use Rattle.xa_desk.specs.declared.refused.Refused.TheVariants.{NoSuchManager, Shut, TooMany}
 use Rattle.xa_desk.proofs.Ties.{tied_full, tied_fulls, tied_submitted, fulls_alike}
@@ -25,14 +25,10 @@ known_from at m e =
 reaches : (d : DeskView) (m : ℕ) → None ≡ reach_refusal d m → IsKnown d.ledgers m
 reaches d m e = known_from d.ledgers m (unless (not (is_known d.ledgers m)) NoSuchManager (cond (learnt_shut (ledger d.ledgers m)) (Some Shut) None) e).0
 
--- a request that isn't refused is of a manager that there is, and has a handle
-pub submit_known : (d : DeskView) (m : ℕ) → None ≡ submit_refusal d m → IsKnown d.ledgers m
-submit_known d m e = reaches d m (neither (reach_refusal d m) (option_or (handle_refusal d) (spent_refusal d m)) e).0
-
-pub submit_free : (d : DeskView) (m : ℕ) → None ≡ submit_refusal d m → outstanding d.ledgers < d.handles
-submit_free d m e =
-    let reached = neither (reach_refusal d m) (option_or (handle_refusal d) (spent_refusal d m)) e in
-    let has_handle = neither (handle_refusal d) (spent_refusal d m) reached.1 in
+-- where the manager is reached, a request that isn't refused has a handle
+room_free : (d : DeskView) (m : ℕ) → None ≡ room_refusal d m → outstanding d.ledgers < d.handles
+room_free d m e =
+    let has_handle = neither (handle_refusal d) (spent_refusal d m) e in
     leb-false d.handles (outstanding d.ledgers) (unless (leb d.handles (outstanding d.ledgers)) TooMany None has_handle.0).0
 
 pub call_known : (d : DeskView) (m : ℕ) → None ≡ call_refusal d m → IsKnown d.ledgers m
@@ -45,14 +41,16 @@ Fits d = (outstanding d.ledgers ≤ d.handles) × IsDesk d
 pub full_desk : (d d' : DeskView) (m : ℕ) → d' ≡ after_full d m → Fits d → Fits d'
 full_desk d d' m e fits = subst Fits (sym e) (fits.0, tied_full d m fits.1)
 
-pub submitted_desk : (d d' : DeskView) (m : ℕ) (op : Op) → None ≡ submit_refusal d m → outstanding d'.ledgers ≡ outstanding d.ledgers + 1 → d' ≡ submitted d m op → Fits d → Fits d'
-submitted_desk d d' m op allowed more e fits =
-    let free = submit_free d m allowed in
+pub submitted_desk : (d d' : DeskView) (m : ℕ) (op : Op) → reach_refusal d m ≡ None → None ≡ room_refusal d m
+    → outstanding d'.ledgers ≡ outstanding d.ledgers + 1 → d' ≡ submitted d m op → Fits d → Fits d'
+submitted_desk d d' m op reached allowed more e fits =
+    let free = room_free d m allowed in
     let handles : d'.handles ≡ d.handles = ap (λ (x : DeskView). x.handles) e in
-    (omega arith, subst IsDesk (sym e) (tied_submitted d m op (submit_known d m allowed) fits.1))
+    (omega arith, subst IsDesk (sym e) (tied_submitted d m op (reaches d m (sym reached)) fits.1))
 
 -- the desk between a call's request and its completion
-pub called_desk : (d d' : DeskView) (n m : ℕ) (op : Op) → None ≡ call_refusal d m → d' ≡ submitted (after_fulls n d m) m op → IsDesk d → IsDesk d' × (d'.handles ≡ d.handles)
+pub called_desk : (d d' : DeskView) (n m : ℕ) (op : Op) → None ≡ call_refusal d m → d' ≡ submitted (after_fulls n d m) m op → IsDesk d
+    → IsDesk d' × (d'.handles ≡ d.handles)
 called_desk d d' n m op allowed e tied =
     let alike = fulls_alike n d (after_fulls n d m) m refl in (
       subst IsDesk (sym e) (tied_submitted (after_fulls n d m) m op (subst (λ at. IsKnown at m) (sym alike.ledgers) (call_known d m allowed)) (tied_fulls n d m tied)),

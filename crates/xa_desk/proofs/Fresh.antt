@@ -1,5 +1,6 @@
 -- A desk that has done nothing keeps its books.
-use Rattle.std.proofs.Common.{◌≡◌, ◌<◌, ◌-◌, ◌*◌, ℕ, zero, suc, Bool, nat_eq, List, [], ◌∷◌, length, Option, Some, None, get_or, replicate, sym, ◌∙◌, refl, ap, arith}
+use Rattle.std.proofs.Common.{◌≡◌, ◌<◌, ◌-◌, ◌*◌, ℕ, zero, suc, Bool, nat_eq, List, [], ◌∷◌, length, Option, Some, None, get_or, replicate, sym, ◌∙◌, refl, ap}
+use Rattle.std.proofs.Common.{arith}
 use Rattle.std.specs.Ordering.{nat_cmp}
 use Rattle.std.specs.List.{IsDistinct}
 use Rattle.std.specs.Cmp.{nat_cmp_total}

@@ -1,5 +1,6 @@
 -- A desk goes on by its calls.
-use Rattle.std.proofs.Common.{◌≡◌, ℕ, zero, suc, ◌-◌, ◌^◌, ◌≤◌, List, [], ◌∷◌, ◌++◌, length, map, Option, Some, None, IfSome, IsNone, sym, refl, ◌∙◌, subst, arith}
+use Rattle.std.proofs.Common.{◌≡◌, ℕ, zero, suc, ◌-◌, ◌^◌, ◌≤◌, List, [], ◌∷◌, ◌++◌, length, map, Option, Some, None, IfSome, IsNone, sym, refl, ◌∙◌, subst}
+use Rattle.std.proofs.Common.{arith}
 use Rattle.std.proofs.Math.Nat.{min-le_left, min-le_right, le-min}
 use Rattle.std.proofs.Math.Seq.{map-set_same}
 use Rattle.std.specs.Ordering.{nat_cmp}
@@ -17,12 +18,13 @@ use Rattle.xa_lane.proofs.Senders.{map-at_place, map-alike}
 use Rattle.xa_desk.specs.declared.operation.Operation.{Operation}
 use Rattle.xa_desk.specs.LedgerView.{LedgerView, with_sent, with_collected}
 use Rattle.xa_desk.specs.DeskView.{DeskView, ledger, no_ledger, put_ledger, completed}
+use Rattle.xa_desk.specs.declared.event.Event.{Event}
 use Rattle.xa_desk.specs.Ended.{EndedView, Ends}
 use Rattle.xa_desk.specs.Lanes.{next_request, submitted, after_full, after_fulls}
 use Rattle.xa_desk.specs.Looks.{Drains, first, other, Draws, Pops, start, drawn, Looks, EndsQuiet, Collects, CollectsKept, CollectsLeast, TakesKept}
-use Rattle.xa_desk.specs.Seats.{desk_seat, seat_of_desk}
 use Rattle.xa_base.specs.Lists.{Begins}
 use Rattle.xa_desk.specs.GoesOn.{GoesOn, GoesOut, plan_of, plans}
+use Rattle.xa_desk.specs.Growth.{HaveGrown}
 use Rattle.xa_base.proofs.Lists.{same_begins, begins_on}
 use Rattle.xa_desk.proofs.Growth.{same_lists, growing_on, sending_grows, collecting_grows}
 
@@ -39,17 +41,23 @@ counts_on a b c p q = let l : at_most_counted a ≤ at_most_counted b = le-min p
 
 -- ---- any steps
 
--- nothing but what is kept may differ
-pub goes_keeping : (d : DeskView) (kept : finmap.FinMap nat_cmp Operation) → GoesOn d (record d { kept = kept })
-goes_keeping d kept = record {
-  seat = refl;
+-- the lane of completions and what was drained stay, and so do the seats and the plans
+goes_with : (d : DeskView) (requests : List (Sending Request)) (at : List LedgerView) (events : List Event) (kept : finmap.FinMap nat_cmp Operation)
+    → map end_seat requests ≡ map end_seat d.requests → plans at ≡ plans d.ledgers → HaveGrown d.ledgers at
+    → GoesOn d (record d { requests = requests; ledgers = at; events = events; kept = kept })
+goes_with d requests at events kept ends plan lists = record {
+  seat = λ i. record { thread = d.thread; ends = ends i; lane = d.completions.lane; line = d.completions.line };
   handles = refl;
-  plan = refl;
-  lists = same_lists d.ledgers d.ledgers refl;
+  plan = plan;
+  lists = lists;
   taken = same_begins d.completions.taken;
   drained = same_begins d.drained;
   quiet = same_count d.completions.quiet;
 }
+
+-- nothing but what is kept may differ
+pub goes_keeping : (d : DeskView) (kept : finmap.FinMap nat_cmp Operation) → GoesOn d (record d { kept = kept })
+goes_keeping d kept = goes_with d d.requests d.ledgers d.events kept refl refl (same_lists d.ledgers d.ledgers refl)
 
 pub goes_same : (d : DeskView) → GoesOn d d
 goes_same d = goes_keeping d d.kept
@@ -73,34 +81,20 @@ goes_further a b c p q = record {
 abbrev seat_of : Sending Request → EndSeat
 seat_of s = end_seat s
 
-with_ends : (d : DeskView) (ss : List (Sending Request)) → map end_seat ss ≡ map end_seat d.requests → desk_seat d.thread ss d.completions ≡ seat_of_desk d
-with_ends d ss e = λ i. record { thread = d.thread; ends = e i; lane = d.completions.lane; line = d.completions.line }
-
 -- the ledger that is put has the plan of the one that stood there
 put_plans : (at : List LedgerView) (m : ℕ) (a : LedgerView) → plan_of a ≡ plan_of (ledger at m) → plans (put_ledger at m a) ≡ plans at
 put_plans at m a same = map-set_same plan_of at (m - 1) a no_ledger same
 
 pub goes_sent : (d : DeskView) (m : ℕ) (op : Op) → GoesOn d (submitted d m op)
-goes_sent d m op = record {
-  seat = with_ends d (submitted d m op).requests (map-at_place (with_item (next_request d m op)) seat_of (λ _. refl) (m - 1) d.requests);
-  handles = refl;
-  plan = put_plans d.ledgers m (with_sent (ledger d.ledgers m) op) refl;
-  lists = sending_grows d.ledgers m op;
-  taken = same_begins d.completions.taken;
-  drained = same_begins d.drained;
-  quiet = same_count d.completions.quiet;
-}
+goes_sent d m op =
+    goes_with d (submitted d m op).requests (submitted d m op).ledgers (submitted d m op).events d.kept
+    (map-at_place (with_item (next_request d m op)) seat_of (λ _. refl) (m - 1) d.requests)
+    (put_plans d.ledgers m (with_sent (ledger d.ledgers m) op) refl) (sending_grows d.ledgers m op)
 
 pub goes_full : (d : DeskView) (m : ℕ) → GoesOn d (after_full d m)
-goes_full d m = record {
-  seat = with_ends d (after_full d m).requests (map-at_place with_full seat_of (λ _. refl) (m - 1) d.requests);
-  handles = refl;
-  plan = refl;
-  lists = same_lists d.ledgers d.ledgers refl;
-  taken = same_begins d.completions.taken;
-  drained = same_begins d.drained;
-  quiet = same_count d.completions.quiet;
-}
+goes_full d m =
+    goes_with d (after_full d m).requests d.ledgers d.events d.kept (map-at_place with_full seat_of (λ _. refl) (m - 1) d.requests) refl
+    (same_lists d.ledgers d.ledgers refl)
 
 pub goes_submitted : (d d' : DeskView) (m : ℕ) (op : Op) → d' ≡ submitted d m op → GoesOn d d'
 goes_submitted d d' m op e = subst (GoesOn d) (sym e) (goes_sent d m op)
@@ -118,7 +112,8 @@ goes_fulls (suc n) d m = goes_further d (after_fulls n d m) (after_fulls (suc n)
 abbrev moved : DeskView → List Completion → ℕ → Receiving Completion → DeskView
 moved d drained then r = record d { drained = drained; drained_then = then; completions = r }
 
-goes_moved : (d : DeskView) (drained : List Completion) (then : ℕ) (r : Receiving Completion) → r.lane ≡ d.completions.lane → r.line ≡ d.completions.line → Begins d.completions.taken r.taken → Begins d.drained drained
+goes_moved : (d : DeskView) (drained : List Completion) (then : ℕ) (r : Receiving Completion) → r.lane ≡ d.completions.lane → r.line ≡ d.completions.line
+    → Begins d.completions.taken r.taken → Begins d.drained drained
     → at_most_counted d.completions.quiet ≤ r.quiet → GoesOn d (moved d drained then r)
 goes_moved d drained then r lane line taken more quiet = record {
   seat = λ i. record { thread = d.thread; ends = map end_seat d.requests; lane = lane i; line = line i };
@@ -131,11 +126,13 @@ goes_moved d drained then r lane line taken more quiet = record {
 }
 
 -- a parcel was taken
-goes_taken : (d : DeskView) (drained : List Completion) (x : _) (r : Receiving Completion) → r ≡ record d.completions { taken = d.completions.taken ++ x ∷ [] } → Begins d.drained drained → GoesOn d (moved d drained d.drained_then r)
+goes_taken : (d : DeskView) (drained : List Completion) (x : _) (r : Receiving Completion) → r ≡ record d.completions { taken = d.completions.taken ++ x ∷ [] }
+    → Begins d.drained drained → GoesOn d (moved d drained d.drained_then r)
 goes_taken d drained x r e more = subst (λ r. GoesOn d (moved d drained d.drained_then r)) (sym e)
     (goes_moved d drained d.drained_then (record d.completions { taken = d.completions.taken ++ x ∷ [] }) refl refl (x ∷ [], refl) more (same_count d.completions.quiet))
 
-goes_drained : (old new : DeskView) (s : ℕ) (c : Completion) (r : Receiving Completion) → r ≡ record old.completions { taken = old.completions.taken ++ parcel s (Some c) ∷ [] } → Drains (record old { completions = r }) c new → GoesOn old new
+goes_drained : (old new : DeskView) (s : ℕ) (c : Completion) (r : Receiving Completion)
+    → r ≡ record old.completions { taken = old.completions.taken ++ parcel s (Some c) ∷ [] } → Drains (record old { completions = r }) c new → GoesOn old new
 goes_drained old new s c r e (first out none is) = subst (GoesOn old) (sym is) (goes_taken old (old.drained ++ c ∷ []) (parcel s (Some c)) r e (c ∷ [], refl))
 goes_drained old new s c r e (other never is) = subst (GoesOn old) (sym is) (goes_taken old old.drained (parcel s (Some c)) r e (same_begins old.drained))
 
@@ -158,18 +155,14 @@ goes_quiet old new q = goes_further old q.before new (goes_looking old q.before 
 -- ---- collecting and keeping
 
 goes_collected : (d : DeskView) (o : Operation) (code : Code) (kept : finmap.FinMap nat_cmp Operation) → GoesOn d (record (completed d o code) { kept = kept })
-goes_collected d o code kept = record {
-  seat = refl;
-  handles = refl;
-  plan = put_plans d.ledgers o.manager (with_collected (ledger d.ledgers o.manager) o.number code) refl;
-  lists = collecting_grows d.ledgers o code;
-  taken = same_begins d.completions.taken;
-  drained = same_begins d.drained;
-  quiet = same_count d.completions.quiet;
-}
+goes_collected d o code kept =
+    goes_with d d.requests (completed d o code).ledgers (completed d o code).events kept refl
+    (put_plans d.ledgers o.manager (with_collected (ledger d.ledgers o.manager) o.number code) refl)
+    (collecting_grows d.ledgers o code)
 
 pub goes_collecting : (old new : DeskView) (o : Operation) (code : Code) → Collects old new o code → GoesOn old new
-goes_collecting old new o code x = goes_further old x.before new (goes_looking old x.before x.looks) (subst (GoesOn x.before) (sym x.collected) (goes_collected x.before o code x.before.kept))
+goes_collecting old new o code x =
+    goes_further old x.before new (goes_looking old x.before x.looks) (subst (GoesOn x.before) (sym x.collected) (goes_collected x.before o code x.before.kept))
 
 goes_taking : (old new : DeskView) (k : ℕ) (code : Code) → TakesKept old new k code → GoesOn old new
 goes_taking old new k code t = subst (GoesOn old) (sym t.taken) (goes_collected old t.operation code (finmap.remove old.kept k))
@@ -181,7 +174,8 @@ pub goes_collecting_least : (old new : DeskView) (m k : ℕ) (code : Code) → C
 goes_collecting_least old new m k code x = goes_further old x.before new (goes_quiet old x.before x.quiet) (goes_taking x.before new k code x.takes)
 
 -- what a call sent, where lanes may have been full before, was collected
-pub goes_called : (n : ℕ) (old sent new : DeskView) (m : ℕ) (op : Op) (o : Operation) (code : Code) → sent ≡ submitted (after_fulls n old m) m op → Collects sent new o code → GoesOn old new
+pub goes_called : (n : ℕ) (old sent new : DeskView) (m : ℕ) (op : Op) (o : Operation) (code : Code) → sent ≡ submitted (after_fulls n old m) m op
+    → Collects sent new o code → GoesOn old new
 goes_called n old sent new m op o code e x =
     let full : DeskView = after_fulls n old m in
     goes_further old full new (goes_fulls n old m) (goes_further full sent new (goes_submitted full sent m op e) (goes_collecting sent new o code x))
@@ -196,7 +190,8 @@ pub goes_trying_kept : (old new : DeskView) (k : ℕ) (r : Option Code) → IfSo
 goes_trying_kept old new k None some none = goes_quiet old new (none refl)
 goes_trying_kept old new k (Some code) some none = goes_collecting_kept old new k code some
 
-pub goes_trying_any : (old new : DeskView) (m : ℕ) (r : Option (ℕ × Code)) → IfSome r (λ p. CollectsLeast old new m p.0 p.1) → (IsNone r → EndsQuiet old new) → GoesOn old new
+pub goes_trying_any : (old new : DeskView) (m : ℕ) (r : Option (ℕ × Code)) → IfSome r (λ p. CollectsLeast old new m p.0 p.1) → (IsNone r → EndsQuiet old new)
+    → GoesOn old new
 goes_trying_any old new m None some none = goes_quiet old new (none refl)
 goes_trying_any old new m (Some p) some none = goes_collecting_least old new m p.0 p.1 some
 

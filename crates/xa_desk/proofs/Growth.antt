@@ -14,7 +14,8 @@ pub as_it_was : (a : LedgerView) → HasGrown a a
 as_it_was a = record { sent = same_begins a.sent; collected = same_begins a.collected }
 
 pub grown_on : (a b c : LedgerView) → HasGrown a b → HasGrown b c → HasGrown a c
-grown_on a b c p q = record { sent = begins_on a.sent b.sent c.sent p.sent q.sent; collected = begins_on a.collected b.collected c.collected p.collected q.collected }
+grown_on a b c p q =
+    record { sent = begins_on a.sent b.sent c.sent p.sent q.sent; collected = begins_on a.collected b.collected c.collected p.collected q.collected }
 
 pub same_lists : (at at' : List LedgerView) → at' ≡ at → HaveGrown at at'
 same_lists at at' e = subst (HaveGrown at) (sym e) (record { each = λ m p. as_it_was (ledger at m) })
@@ -30,4 +31,5 @@ pub sending_grows : (at : List LedgerView) (m : ℕ) (op : Op) → HaveGrown at 
 sending_grows at m op = put_grows at m (with_sent (ledger at m) op) (record { sent = (op ∷ [], refl); collected = same_begins (ledger at m).collected })
 
 pub collecting_grows : (at : List LedgerView) (o : Operation) (code : Code) → HaveGrown at (after_collected at o code)
-collecting_grows at o code = put_grows at o.manager (with_collected (ledger at o.manager) o.number code) (record { sent = same_begins (ledger at o.manager).sent; collected = ((o.number, code) ∷ [], refl) })
+collecting_grows at o code =
+    put_grows at o.manager (with_collected (ledger at o.manager) o.number code) (record { sent = same_begins (ledger at o.manager).sent; collected = ((o.number, code) ∷ [], refl) })

@@ -1,5 +1,6 @@
 -- The map that a table of kept operations is.
-use Rattle.std.proofs.Common.{◌≡◌, ◌≢◌, ℕ, zero, suc, ◌+◌, ◌-◌, ◌<◌, cond, List, [], ◌∷◌, length, Option, Some, None, IsSome, IfSome, get_or, set, sym, refl, ap, ◌∙◌, inl, inr, arith}
+use Rattle.std.proofs.Common.{◌≡◌, ◌≢◌, ℕ, zero, suc, ◌+◌, ◌-◌, ◌<◌, cond, List, [], ◌∷◌, length, Option, Some, None, IsSome, IfSome, get_or, set, sym, refl}
+use Rattle.std.proofs.Common.{ap, ◌∙◌, inl, inr, arith}
 use Rattle.std.specs.Ordering.{nat_cmp}
 use Rattle.std.specs.Cmp.{nat_cmp_total}
 use Rattle.std.specs.FinMap as map
@@ -18,7 +19,9 @@ use Rattle.xa_desk.proofs.Books.{Rehandles}
 find_below : (k q : ℕ) (table : List (Option Operation)) → q < k → map.find nat_cmp q (entries_from k table) ≡ None
 find_below k q [] below = refl
 find_below k q (None ∷ rest) below = find_below (k + 1) q rest (omega arith)
-find_below k q (Some o ∷ rest) below = ap (λ b. cond b (Some o) (map.find nat_cmp q (entries_from (k + 1) rest))) (tied_false q k (λ e. absurd (omega arith))) ∙ find_below (k + 1) q rest (omega arith)
+find_below k q (Some o ∷ rest) below =
+    ap (λ b. cond b (Some o) (map.find nat_cmp q (entries_from (k + 1) rest))) (tied_false q k (λ e. absurd (omega arith)))
+    ∙ find_below (k + 1) q rest (omega arith)
 
 find_at : (k j : ℕ) (table : List (Option Operation)) → map.find nat_cmp (k + j) (entries_from k table) ≡ get_or table j None
 find_at k j [] = refl
@@ -50,8 +53,10 @@ module _ (table : List (Option Operation)) (j number : ℕ) (is : number ≡ suc
           ∙ get-kept_of_zero table)
       at_each (suc q) =
           get-kept_of (set table j (Some o)) q (suc q) refl ∙ sym (map.get-insert nat_cmp_total (kept_of table) number o (suc q) ∙ elim (cases_eq q j) [
-            | inl same ↦ ap (λ b. cond b (Some o) (map.get (kept_of table) (suc q))) (tied_true (suc q) number (omega arith)) ∙ sym (rw same (get_or-set_same table j (Some o) None within))
-            | inr differs ↦ ap (λ b. cond b (Some o) (map.get (kept_of table) (suc q))) (tied_false (suc q) number (λ e. differs (omega arith))) ∙ get-kept_of table q (suc q) refl ∙ sym (get_or-set_other table j q (Some o) None differs)
+            | inl same ↦ ap (λ b. cond b (Some o) (map.get (kept_of table) (suc q))) (tied_true (suc q) number (omega arith))
+                ∙ sym (rw same (get_or-set_same table j (Some o) None within))
+            | inr differs ↦ ap (λ b. cond b (Some o) (map.get (kept_of table) (suc q))) (tied_false (suc q) number (λ e. differs (omega arith)))
+                ∙ get-kept_of table q (suc q) refl ∙ sym (get_or-set_other table j q (Some o) None differs)
           ])
 
   pub kept_of-remove : kept_of (set table j None) ≡ map.remove (kept_of table) number
@@ -65,12 +70,15 @@ module _ (table : List (Option Operation)) (j number : ℕ) (is : number ≡ suc
           ∙ get-kept_of_zero table)
       at_each (suc q) =
           get-kept_of (set table j None) q (suc q) refl ∙ sym (map.get-remove nat_cmp_total (kept_of table) number (suc q) ∙ elim (cases_eq q j) [
-            | inl same ↦ ap (λ b. cond b None (map.get (kept_of table) (suc q))) (tied_true (suc q) number (omega arith)) ∙ sym (rw same (get_or-set_same table j None None within))
-            | inr differs ↦ ap (λ b. cond b None (map.get (kept_of table) (suc q))) (tied_false (suc q) number (λ e. differs (omega arith))) ∙ get-kept_of table q (suc q) refl ∙ sym (get_or-set_other table j q None None differs)
+            | inl same ↦ ap (λ b. cond b None (map.get (kept_of table) (suc q))) (tied_true (suc q) number (omega arith))
+                ∙ sym (rw same (get_or-set_same table j None None within))
+            | inr differs ↦ ap (λ b. cond b None (map.get (kept_of table) (suc q))) (tied_false (suc q) number (λ e. differs (omega arith)))
+                ∙ get-kept_of table q (suc q) refl ∙ sym (get_or-set_other table j q None None differs)
           ])
 
 -- a slot whose operation no number has isn't kept
-pub loose_handle : (at : List LedgerView) (s : Slab Slot) (key : ℕ) (slot : Slot) (table : List (Option Operation)) (drained : List Completion) → IsBooks at s table drained → get s key ≡ Some slot → ((k : ℕ) → map.get (kept_of table) k ≢ Some slot.operation) → slot.handle ≡ 0
+pub loose_handle : (at : List LedgerView) (s : Slab Slot) (key : ℕ) (slot : Slot) (table : List (Option Operation)) (drained : List Completion)
+    → IsBooks at s table drained → get s key ≡ Some slot → ((k : ℕ) → map.get (kept_of table) k ≢ Some slot.operation) → slot.handle ≡ 0
 loose_handle at s key slot table drained b there loose = from slot.handle refl
   where
     from : (h : ℕ) → slot.handle ≡ h → slot.handle ≡ 0
@@ -103,7 +111,8 @@ kept_place table number o e = elim (cases_lt 0 number) [
 ]
 
 -- what a slot's handle is, where its operation is kept
-pub kept_handle : (at : List LedgerView) (s : Slab Slot) (key : ℕ) (slot : Slot) (table : List (Option Operation)) (drained : List Completion) → IsBooks at s table drained → get s key ≡ Some slot → (number : ℕ) → KeptPlace table number slot.operation → slot.handle ≡ number
+pub kept_handle : (at : List LedgerView) (s : Slab Slot) (key : ℕ) (slot : Slot) (table : List (Option Operation)) (drained : List Completion)
+    → IsBooks at s table drained → get s key ≡ Some slot → (number : ℕ) → KeptPlace table number slot.operation → slot.handle ≡ number
 kept_handle at s key slot table drained b there number p =
     let h = b.tabled (number - 1) slot.operation p.there in
     let same : h.key ≡ key = b.one_slot h.key key h.slot slot h.found there h.names in
@@ -111,7 +120,8 @@ kept_handle at s key slot table drained b there number p =
     let is : h.slot ≡ slot = cc in
     sym (ap (λ (z : Slot). z.handle) is) ∙ h.handle ∙ sym p.is
 
-pub rehandles_release : (table : List (Option Operation)) (number : ℕ) (o : Operation) → KeptPlace table number o → Rehandles table (set table (number - 1) None) number 0 o
+pub rehandles_release : (table : List (Option Operation)) (number : ℕ) (o : Operation) → KeptPlace table number o
+    → Rehandles table (set table (number - 1) None) number 0 o
 rehandles_release table number o p = record {
   vacant = λ n e. absurd (omega arith);
   filled = λ n e. absurd (omega arith);
@@ -119,7 +129,8 @@ rehandles_release table number o p = record {
   rest = λ n differs _. get_or-set_other table (number - 1) n None None (λ e. differs (p.is ∙ ap suc (sym e)));
 }
 
-pub rehandles_keep : (table : List (Option Operation)) (j : ℕ) (o : Operation) → j < length table → get_or table j None ≡ None → Rehandles table (set table j (Some o)) 0 (suc j) o
+pub rehandles_keep : (table : List (Option Operation)) (j : ℕ) (o : Operation) → j < length table → get_or table j None ≡ None
+    → Rehandles table (set table j (Some o)) 0 (suc j) o
 rehandles_keep table j o within free = record {
   vacant = λ n e. let here : n ≡ j = omega arith in rw here free;
   filled = λ n e. let here : n ≡ j = omega arith in rw here (get_or-set_same table j (Some o) None within);
@@ -127,7 +138,8 @@ rehandles_keep table j o within free = record {
   rest = λ n _ differs. get_or-set_other table j n (Some o) None (λ e. differs (ap suc (sym e)));
 }
 
-pub least_free : (table : List (Option Operation)) (j : ℕ) → get_or table j None ≡ None → ((k : ℕ) → k < j → IsSome (get_or table k None)) → IsLeastFree (kept_of table) (j + 1)
+pub least_free : (table : List (Option Operation)) (j : ℕ) → get_or table j None ≡ None → ((k : ℕ) → k < j → IsSome (get_or table k None))
+    → IsLeastFree (kept_of table) (j + 1)
 least_free table j free taken = record {
   positive = omega arith;
   free = get-kept_of table j (j + 1) (omega arith) ∙ free;
@@ -135,7 +147,8 @@ least_free table j free taken = record {
 }
 
 -- an operation that isn't kept has no number
-pub loose_from_handle : (at : List LedgerView) (s : Slab Slot) (key : ℕ) (slot : Slot) (table : List (Option Operation)) (drained : List Completion) → IsBooks at s table drained → get s key ≡ Some slot → slot.handle ≡ 0 → (k : ℕ) → map.get (kept_of table) k ≢ Some slot.operation
+pub loose_from_handle : (at : List LedgerView) (s : Slab Slot) (key : ℕ) (slot : Slot) (table : List (Option Operation)) (drained : List Completion)
+    → IsBooks at s table drained → get s key ≡ Some slot → slot.handle ≡ 0 → (k : ℕ) → map.get (kept_of table) k ≢ Some slot.operation
 loose_from_handle at s key slot table drained b there zero_handle k e =
     let p = kept_place table k slot.operation e in
     let h = b.tabled (k - 1) slot.operation p.there in

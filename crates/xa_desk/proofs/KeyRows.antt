@@ -1,5 +1,6 @@
 -- The rows tell the key of each slot, as slots come and go.
-use Rattle.std.proofs.Common.{◌≡◌, ◌≢◌, ℕ, zero, suc, ◌-◌, ◌<◌, ◌≤◌, Bool, List, [], ◌∷◌, ◌++◌, length, length-append, Some, None, get_or, set, replicate, sym, refl, ap, ◌∙◌, inl, inr, arith}
+use Rattle.std.proofs.Common.{◌≡◌, ◌≢◌, ℕ, zero, suc, ◌-◌, ◌<◌, ◌≤◌, Bool, List, [], ◌∷◌, ◌++◌, length, length-append, Some, None, get_or, set, replicate, sym}
+use Rattle.std.proofs.Common.{refl, ap, ◌∙◌, inl, inr, arith}
 use Rattle.std.specs.List.{slice_get}
 use Rattle.std.proofs.lemmas.List.{get_or-set_same, get_or-set_other, get_or-replicate, length-set, length-replicate, length-map}
 use Rattle.std.proofs.lemmas.Bool.{cases_eq}
@@ -12,7 +13,8 @@ use Rattle.xa_desk.specs.LedgerView.{LedgerView, new_ledger, with_sent, with_col
 use Rattle.xa_desk.specs.DeskView.{IsKnown, no_ledger, ledger, after_sent, after_collected}
 use Rattle.xa_desk.specs.Lanes.{new_ledgers}
 use Rattle.xa_desk.specs.Slots.{KeysView, no_keys, with_key, row_of, key_at, AreTold, AreKeys}
-use Rattle.xa_desk.proofs.Ledgers.{same_operation, ledger-sent_same, ledger-sent_other, ledger-collected_same, ledger-collected_other, known_before, collected_known, length-put_ledger}
+use Rattle.xa_desk.proofs.Ledgers.{same_operation, ledger-sent_same, ledger-sent_other, ledger-collected_same, ledger-collected_other, known_before}
+use Rattle.xa_desk.proofs.Ledgers.{collected_known, length-put_ledger}
 use Rattle.xa_desk.proofs.Books.{found_cases, found_before}
 use Rattle.xa_desk.proofs.Fresh.{fresh_sent}
 
@@ -59,7 +61,8 @@ module _ (at : List LedgerView) (m : ℕ) (op : Op) (known : IsKnown at m) (rows
   abbrev with_next : KeysView
   with_next = with_key (row_of rows m) key
 
-  pub keys_sent : AreKeys at rows s → slot.operation ≡ record { manager = m; number = n } → ((k : ℕ) (y : Slot) → get s k ≡ Some y → (1 ≤ y.operation.manager) × (y.operation ≢ record { manager = m; number = n })) → Updates s t key (Some slot)
+  pub keys_sent : AreKeys at rows s → slot.operation ≡ record { manager = m; number = n }
+      → ((k : ℕ) (y : Slot) → get s k ≡ Some y → (1 ≤ y.operation.manager) × (y.operation ≢ record { manager = m; number = n })) → Updates s t key (Some slot)
       → AreKeys (after_sent at m op) (entered rows m key) t
   keys_sent r named apart u = record {
     number = length-set rows (m - 1) with_next ∙ r.number ∙ sym (length-put_ledger at m (with_sent (ledger at m) op));
@@ -98,21 +101,26 @@ module _ (at : List LedgerView) (m : ℕ) (op : Op) (known : IsKnown at m) (rows
       row_same q same = ap (row_of (entered rows m key)) same ∙ get_or-set_same rows (m - 1) with_next (no_keys 0) within
 
       row_other : (q : ℕ) → IsKnown at q → q ≢ m → row_of (entered rows m key) q ≡ row_of rows q
-      row_other q was differs = get_or-set_other rows (m - 1) (q - 1) with_next (no_keys 0) (λ e. let p = known.positive in let w = was.positive in differs (omega arith))
+      row_other q was differs =
+          get_or-set_other rows (m - 1) (q - 1) with_next (no_keys 0) (λ e. let p = known.positive in let w = was.positive in differs (omega arith))
 
 -- the slot at a key keeps its operation
-pub told_kept : (rows : List KeysView) (s t : Slab Slot) (key : ℕ) (slot x : Slot) → AreTold rows s → get s key ≡ Some slot → slot.operation ≡ x.operation → Updates s t key (Some x) → AreTold rows t
+pub told_kept : (rows : List KeysView) (s t : Slab Slot) (key : ℕ) (slot x : Slot) → AreTold rows s → get s key ≡ Some slot → slot.operation ≡ x.operation
+    → Updates s t key (Some x) → AreTold rows t
 told_kept rows s t key slot x r there keeps u k y found = elim (found_cases s t key x u k y found) [
   | inl new ↦ ap (key_at rows) (sym (keeps ∙ ap (λ (z : Slot). z.operation) new.1)) ∙ r key slot there ∙ ap (λ j. Some j) (sym new.0)
   | inr old ↦ r k y old.1
 ]
 
-pub keys_kept : (at : List LedgerView) (rows : List KeysView) (s t : Slab Slot) (key : ℕ) (slot x : Slot) → AreKeys at rows s → get s key ≡ Some slot → slot.operation ≡ x.operation → Updates s t key (Some x) → AreKeys at rows t
-keys_kept at rows s t key slot x r there keeps u = record { number = r.number; sent = r.sent; planned = r.planned; told = told_kept rows s t key slot x r.told there keeps u }
+pub keys_kept : (at : List LedgerView) (rows : List KeysView) (s t : Slab Slot) (key : ℕ) (slot x : Slot) → AreKeys at rows s → get s key ≡ Some slot
+    → slot.operation ≡ x.operation → Updates s t key (Some x) → AreKeys at rows t
+keys_kept at rows s t key slot x r there keeps u =
+    record { number = r.number; sent = r.sent; planned = r.planned; told = told_kept rows s t key slot x r.told there keeps u }
 
 -- collecting
 
-pub keys_collected : (at : List LedgerView) (o : Operation) (code : Code) (known : IsKnown at o.manager) (rows : List KeysView) (s t : Slab Slot) (key : ℕ) → AreKeys at rows s → Updates s t key None → AreKeys (after_collected at o code) rows t
+pub keys_collected : (at : List LedgerView) (o : Operation) (code : Code) (known : IsKnown at o.manager) (rows : List KeysView) (s t : Slab Slot) (key : ℕ)
+    → AreKeys at rows s → Updates s t key None → AreKeys (after_collected at o code) rows t
 keys_collected at o code known rows s t key r u = record {
   number = r.number ∙ sym (length-put_ledger at o.manager (with_collected (ledger at o.manager) o.number code));
   sent = λ q is. let was = collected_known at o code known q is in elim (cases_eq q o.manager) [
@@ -133,7 +141,8 @@ fresh_plan plan [] i within = absurd (omega arith)
 fresh_plan plan (b ∷ bs) zero within = refl
 fresh_plan plan (b ∷ bs) (suc i) within = fresh_plan plan bs i (omega arith)
 
-pub keys_new : (plan : ℕ) (use_async : List Bool) (s : Slab Slot) → s.slots ≡ [] → AreKeys (new_ledgers plan use_async) (replicate (length use_async) (no_keys plan)) s
+pub keys_new : (plan : ℕ) (use_async : List Bool) (s : Slab Slot) → s.slots ≡ []
+    → AreKeys (new_ledgers plan use_async) (replicate (length use_async) (no_keys plan)) s
 keys_new plan use_async s empty = record {
   number = length-replicate (length use_async) (no_keys plan) ∙ sym (length-map use_async (λ carries. new_ledger carries plan));
   sent = λ m known. ap (λ (x : KeysView). length x.keys) (row_new m known) ∙ sym (ap length (fresh_sent plan use_async (m - 1)));

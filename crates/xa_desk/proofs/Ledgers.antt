@@ -1,12 +1,14 @@
 -- What a sending and a collection do to the ledgers.
-use Rattle.std.proofs.Common.{◌≡◌, ◌≢◌, ℕ, zero, suc, ◌+◌, ◌-◌, ◌<◌, ◌≤◌, ◌⊎◌, false, ◌||◌, nat_eq, List, [], ◌∷◌, ◌++◌, length, Option, Some, None, get_or, sum_by, sym, refl, ap, ◌∙◌, subst, inl, inr, arith, length-append, true, ◌&&◌, nat_le, if◌then◌else◌}
+use Rattle.std.proofs.Common.{◌≡◌, ◌≢◌, ℕ, zero, suc, ◌+◌, ◌-◌, ◌<◌, ◌≤◌, ◌⊎◌, false, ◌||◌, nat_eq, List, [], ◌∷◌, ◌++◌, length, Option, Some, None, get_or}
+use Rattle.std.proofs.Common.{sum_by, sym, refl, ap, ◌∙◌, subst, inl, inr, arith, length-append, true, ◌&&◌, nat_le, if◌then◌else◌}
 use Rattle.std.specs.Cmp.{nat_eq_equiv}
 use Rattle.std.proofs.lemmas.List.{map-append, length-set, get_or-set_same, get_or-set_other, get_or_read, length-map, set_past}
 use Rattle.std.proofs.lemmas.List.Sums.{sum_by-set, sum_by-cons}
 use Rattle.std.proofs.lemmas.List.Folds.{list_any-append}
 use Rattle.std.proofs.lemmas.Map.Keys.{IsDistinct-push}
 use Rattle.std.proofs.lemmas.Map.Steps.{length-le_from_distinct_below}
-use Rattle.std.proofs.lemmas.Bool.{cases_eq, false_from_ne_true, eqb-true, or_cases, or_parts, or_from, false≢true, ne_eqb, eqb-false, and_parts, le-leb, leb-true, cases_lt}
+use Rattle.std.proofs.lemmas.Bool.{cases_eq, false_from_ne_true, eqb-true, or_cases, or_parts, or_from, false≢true, ne_eqb, eqb-false, and_parts, le-leb}
+use Rattle.std.proofs.lemmas.Bool.{leb-true, cases_lt}
 use Rattle.xa_base.proofs.Truth.{by_bool}
 use Rattle.xa_words.specs.declared.request.Op.{Op}
 use Rattle.xa_words.specs.declared.code.Code.{Code}
@@ -40,27 +42,31 @@ module _ {A : Type 0} (f : Option A → ℕ) (zeros : f None ≡ 0) where
       omega (arith, sum_by-cons f x xs, sum_by-cons f y ys)
 
   -- a sum over slots changes by the slot that changes
-  pub sum_by-changed : (xs ys : List (Option A)) (key : ℕ) → ((k : ℕ) → k ≢ key → get_or ys k None ≡ get_or xs k None) → sum_by f ys + f (get_or xs key None) ≡ sum_by f xs + f (get_or ys key None)
+  pub sum_by-changed : (xs ys : List (Option A)) (key : ℕ) → ((k : ℕ) → k ≢ key → get_or ys k None ≡ get_or xs k None)
+      → sum_by f ys + f (get_or xs key None) ≡ sum_by f xs + f (get_or ys key None)
   sum_by-changed [] [] key others = refl
   sum_by-changed [] (y ∷ ys) zero others =
       let rest : sum_by f ys ≡ sum_by f [] = sum_by-same [] ys (λ k. others (suc k) (λ e. absurd (omega arith))) in
       omega (arith, sum_by-cons f y ys)
   sum_by-changed [] (y ∷ ys) (suc key) others =
-      let rest : sum_by f ys + f None ≡ sum_by f [] + f (get_or ys key None) = sum_by-changed [] ys key (λ k differs. others (suc k) (λ e. differs (omega arith))) in
+      let rest : sum_by f ys + f None ≡ sum_by f [] + f (get_or ys key None) =
+      sum_by-changed [] ys key (λ k differs. others (suc k) (λ e. differs (omega arith))) in
       let head : f y ≡ f None = ap f (others 0 (λ e. absurd (omega arith))) in
       omega (arith, sum_by-cons f y ys)
   sum_by-changed (x ∷ xs) [] zero others =
       let rest : sum_by f [] ≡ sum_by f xs = sum_by-same xs [] (λ k. others (suc k) (λ e. absurd (omega arith))) in
       omega (arith, sum_by-cons f x xs)
   sum_by-changed (x ∷ xs) [] (suc key) others =
-      let rest : sum_by f [] + f (get_or xs key None) ≡ sum_by f xs + f None = sum_by-changed xs [] key (λ k differs. others (suc k) (λ e. differs (omega arith))) in
+      let rest : sum_by f [] + f (get_or xs key None) ≡ sum_by f xs + f None =
+      sum_by-changed xs [] key (λ k differs. others (suc k) (λ e. differs (omega arith))) in
       let head : f None ≡ f x = ap f (others 0 (λ e. absurd (omega arith))) in
       omega (arith, sum_by-cons f x xs)
   sum_by-changed (x ∷ xs) (y ∷ ys) zero others =
       let rest : sum_by f ys ≡ sum_by f xs = sum_by-same xs ys (λ k. others (suc k) (λ e. absurd (omega arith))) in
       omega (arith, sum_by-cons f x xs, sum_by-cons f y ys)
   sum_by-changed (x ∷ xs) (y ∷ ys) (suc key) others =
-      let rest : sum_by f ys + f (get_or xs key None) ≡ sum_by f xs + f (get_or ys key None) = sum_by-changed xs ys key (λ k differs. others (suc k) (λ e. differs (omega arith))) in
+      let rest : sum_by f ys + f (get_or xs key None) ≡ sum_by f xs + f (get_or ys key None) =
+      sum_by-changed xs ys key (λ k differs. others (suc k) (λ e. differs (omega arith))) in
       let head : f y ≡ f x = ap f (others 0 (λ e. absurd (omega arith))) in
       omega (arith, sum_by-cons f x xs, sum_by-cons f y ys)
 
@@ -132,7 +138,8 @@ orderly_sent a op o room = record {
 pub is_collected-push : (a : LedgerView) (n : ℕ) (code : Code) (q : ℕ) → is_collected (with_collected a n code) q ≡ (is_collected a q || (nat_eq q n || false))
 is_collected-push a n code q = rw (map-append (λ (p : ℕ × Code). p.0) a.collected ((n, code) ∷ [])) (list_any-append (nat_eq q) (numbers a) (n ∷ []))
 
-pub orderly_collected : (a : LedgerView) (n : ℕ) (code : Code) → IsOrderly a → n < length a.sent → is_collected a n ≡ false → IsOrderly (with_collected a n code)
+pub orderly_collected : (a : LedgerView) (n : ℕ) (code : Code) → IsOrderly a → n < length a.sent → is_collected a n ≡ false
+    → IsOrderly (with_collected a n code)
 orderly_collected a n code o sent fresh = record {
   planned = o.planned;
   distinct = rw (map-append (λ (p : ℕ × Code). p.0) a.collected ((n, code) ∷ [])) (IsDistinct-push nat_eq_equiv (numbers a) n o.distinct fresh);
@@ -279,9 +286,11 @@ module _ (at : List LedgerView) (o : Operation) (code : Code) (known : IsKnown a
 pub ledger-read : (at : List LedgerView) (m : ℕ) (a : LedgerView) → IsKnown at m → a ≡ get_or at (m - 1) a → a ≡ ledger at m
 ledger-read at m a known read = get_or_read at (m - 1) a (omega arith) read no_ledger
 
-pub planned-put : (at : List LedgerView) (m : ℕ) (a : LedgerView) → IsKnown at m → a.plan ≡ (ledger at m).plan → planned_total (put_ledger at m a) ≡ planned_total at
+pub planned-put : (at : List LedgerView) (m : ℕ) (a : LedgerView) → IsKnown at m → a.plan ≡ (ledger at m).plan
+    → planned_total (put_ledger at m a) ≡ planned_total at
 planned-put at m a known same =
-    let sums : planned_total (put_ledger at m a) + (ledger at m).plan ≡ planned_total at + a.plan = sum_by-set (λ (x : LedgerView). x.plan) at (m - 1) a no_ledger (omega arith) in
+    let sums : planned_total (put_ledger at m a) + (ledger at m).plan ≡ planned_total at + a.plan =
+    sum_by-set (λ (x : LedgerView). x.plan) at (m - 1) a no_ledger (omega arith) in
     omega arith
 
 pub length-put_ledger : (at : List LedgerView) (m : ℕ) (a : LedgerView) → length (put_ledger at m a) ≡ length at

@@ -1,5 +1,6 @@
 -- What takes of the lane of completions leave as it was.
-use Rattle.std.proofs.Common.{◌≡◌, ◌≤◌, ℕ, List, length, Option, Some, None, IfSome, OnSome, IsNone, IsSome, is_some, true, false, ◌+◌, sym, ◌∙◌, refl, ap, subst, arith}
+use Rattle.std.proofs.Common.{◌≡◌, ◌≤◌, ℕ, List, length, Option, Some, None, IfSome, OnSome, IsNone, IsSome, is_some, true, false, ◌+◌, sym, ◌∙◌, refl, ap}
+use Rattle.std.proofs.Common.{subst, arith}
 use Rattle.std.specs.FinMap as finmap
 use Rattle.xa_words.specs.declared.code.Code.{Code}
 use Rattle.xa_words.specs.declared.request.Completion.{Completion}
@@ -14,7 +15,8 @@ use Rattle.xa_desk.proofs.Ties.{tied_looks, tied_collected}
 
 -- only what was drained and taken, and the quiet moments, may differ
 abbrev IsSameBut : DeskView → DeskView → Type 0
-IsSameBut old new = new ≡ record old { drained = new.drained; drained_then = new.drained_then; completions = record old.completions { taken = new.completions.taken; quiet = new.completions.quiet; taken_then = new.completions.taken_then } }
+IsSameBut old new =
+    new ≡ record old { drained = new.drained; drained_then = new.drained_then; completions = record old.completions { taken = new.completions.taken; quiet = new.completions.quiet; taken_then = new.completions.taken_then } }
 
 -- a step changes the receiver first, and then what was drained
 abbrev IsSameFrom : DeskView → DeskView → Type 0
@@ -38,22 +40,40 @@ same_drains : (old new : DeskView) (r : Receiving Completion) (c : Completion) �
 same_drains old new r c (first out none e) = subst (IsSameFrom old) (sym e) refl
 same_drains old new r c (other never e) = subst (IsSameFrom old) (sym e) refl
 
-same_then : (old new : DeskView) (drained : List Completion) (then : ℕ) → new ≡ record old { drained = drained; drained_then = then; completions = new.completions } → IsSameFrom old new
-same_then old new drained then e = e ∙ ap (λ (x : DeskView). record old { drained = x.drained; drained_then = x.drained_then; completions = new.completions }) (sym e)
+same_then : (old new : DeskView) (drained : List Completion) (then : ℕ)
+    → new ≡ record old { drained = drained; drained_then = then; completions = new.completions } → IsSameFrom old new
+same_then old new drained then e =
+    e ∙ ap (λ (x : DeskView). record old { drained = x.drained; drained_then = x.drained_then; completions = new.completions }) (sym e)
 
 same_draws : (old new : DeskView) (a : Taken Completion) → Draws old a new → IsSameBut old new
 same_draws old new (Item s c) d = same_from old new (same_took (Item s c) old.completions new.completions d.0) (same_drains old new new.completions c d.1)
-same_draws old new (EndOf s) d = same_from old new (same_took (EndOf s) old.completions new.completions d.0) (same_then old new old.drained old.drained_then d.1)
+same_draws old new (EndOf s) d =
+    same_from old new (same_took (EndOf s) old.completions new.completions d.0) (same_then old new old.drained old.drained_then d.1)
 same_draws old new Empty d = same_from old new (same_took Empty old.completions new.completions d.0) (same_then old new old.drained (length old.drained) d.1)
 
 same_chain : (a b c : DeskView) → IsSameBut a b → IsSameBut b c → IsSameBut a c
-same_chain a b c p q = q ∙ ap (λ (x : DeskView). record x { drained = c.drained; drained_then = c.drained_then; completions = record x.completions { taken = c.completions.taken; quiet = c.completions.quiet; taken_then = c.completions.taken_then } }) p
+same_chain a b c p q =
+    q
+    ∙ ap (λ (x : DeskView). record x { drained = c.drained; drained_then = c.drained_then; completions = record x.completions { taken = c.completions.taken; quiet = c.completions.quiet; taken_then = c.completions.taken_then } }) p
 
 pub looks_start : (old new : DeskView) → new ≡ old → Looks old new
 looks_start old new e = record { pops = start new e; rest = same_start old new e }
 
 pub looks_drawn : (old now new : DeskView) (a : Taken Completion) → Looks old now → Draws now a new → Looks old new
 looks_drawn old now new a l d = record { pops = drawn now new l.pops a d; rest = same_chain old now new l.rest (same_draws now new a d) }
+
+-- it has changed by looks alone, and met no quiet moment
+pub record LooksOn (old new : DeskView) : Type 0 where
+  pub looks : Looks old new
+  pub quiet : new.completions.quiet ≡ old.completions.quiet
+
+pub looks_on : (d : DeskView) → LooksOn d d
+looks_on d = record { looks = looks_start d d refl; quiet = refl }
+
+-- and another take found something
+pub looks_further : (old now new : DeskView) (a : Taken Completion) → LooksOn old now → Draws now a new → new.completions.quiet ≡ now.completions.quiet
+    → LooksOn old new
+looks_further old now new a l d came = record { looks = looks_drawn old now new a l.looks d; quiet = came ∙ l.quiet }
 
 pops_chain : (a b c : DeskView) → Pops a b → Pops b c → Pops a c
 pops_chain a b c l (start _ e) = subst (λ (x : DeskView). Pops a x) (sym e) l
@@ -83,11 +103,14 @@ pub looks_outstanding : (a b : DeskView) → Looks a b → outstanding b.ledgers
 looks_outstanding a b l = ap (λ (x : DeskView). outstanding x.ledgers) l.rest
 
 pub collects_chain : (a b c : DeskView) (o : Operation) (code : Code) → Looks a b → Collects b c o code → Collects a c o code
-collects_chain a b c o code l x = record { before = x.before; looks = looks_chain a b x.before l x.looks; out = x.out; drained = x.drained; collected = x.collected; fewer = x.fewer ∙ looks_outstanding a b l }
+collects_chain a b c o code l x =
+    record { before = x.before; looks = looks_chain a b x.before l x.looks; out = x.out; drained = x.drained; collected = x.collected; fewer = x.fewer ∙ looks_outstanding a b l }
 
-pub collects_from : (old now new : DeskView) (o : Operation) (r : Option Code) → Looks old now → IsOut now.ledgers o → r ≡ drained_code o now.drained → IfSome r (λ code. new ≡ completed now o code) → OnSome r (outstanding new.ledgers + 1 ≡ outstanding now.ledgers) → IfSome r (Collects old new o)
+pub collects_from : (old now new : DeskView) (o : Operation) (r : Option Code) → Looks old now → IsOut now.ledgers o → r ≡ drained_code o now.drained
+    → IfSome r (λ code. new ≡ completed now o code) → OnSome r (outstanding new.ledgers + 1 ≡ outstanding now.ledgers) → IfSome r (Collects old new o)
 collects_from old now new o None l out e h f = tt
-collects_from old now new o (Some code) l out e h f = record { before = now; looks = l; out = out; drained = sym e; collected = h; fewer = f ∙ looks_outstanding old now l }
+collects_from old now new o (Some code) l out e h f =
+    record { before = now; looks = l; out = out; drained = sym e; collected = h; fewer = f ∙ looks_outstanding old now l }
 
 pub ends_quiet_chain : (a b c : DeskView) → Looks a b → EndsQuiet b c → EndsQuiet a c
 ends_quiet_chain a b c l q = record { before = q.before; looks = looks_chain a b q.before l q.looks; quiet = q.quiet }
@@ -99,10 +122,12 @@ least_chain a b c m number code l x = record { before = x.before; quiet = ends_q
 pub looks_kept : (a b : DeskView) (number : ℕ) (o : Operation) → Looks a b → Some o ≡ finmap.get a.kept number → finmap.get b.kept number ≡ Some o
 looks_kept a b number o l e = ap (λ (x : DeskView). finmap.get x.kept number) l.rest ∙ sym e
 
-pub ready_from : (d : DeskView) (number : ℕ) (o : Operation) → finmap.get d.kept number ≡ Some o → IsSome (drained_code o d.drained) → ready_at d 0 number ≡ true
+pub ready_from : (d : DeskView) (number : ℕ) (o : Operation) → finmap.get d.kept number ≡ Some o → IsSome (drained_code o d.drained)
+    → ready_at d 0 number ≡ true
 ready_from d number o kept drained = ap (ready_with d.drained 0) kept ∙ drained
 
-pub not_ready_from : (d : DeskView) (number : ℕ) (o : Operation) → finmap.get d.kept number ≡ Some o → drained_code o d.drained ≡ None → ready_at d 0 number ≡ false
+pub not_ready_from : (d : DeskView) (number : ℕ) (o : Operation) → finmap.get d.kept number ≡ Some o → drained_code o d.drained ≡ None
+    → ready_at d 0 number ≡ false
 not_ready_from d number o kept none = ap (ready_with d.drained 0) kept ∙ ap is_some none
 
 -- no more is outstanding than was, and the ledgers go on saying what the lanes do
@@ -147,15 +172,19 @@ takes_stays old new number code t = record {
 
 pub kept_stays : (old new : DeskView) (number : ℕ) (r : Option Code) → IfSome r (CollectsKept old new number) → (IsNone r → EndsQuiet old new) → Stays old new
 kept_stays old new number None some none = looks_stays old new (quiet_looks old new (none refl))
-kept_stays old new number (Some code) some none = stays_chain old some.before new (looks_stays old some.before some.looks) (takes_stays some.before new number code some.takes)
+kept_stays old new number (Some code) some none =
+    stays_chain old some.before new (looks_stays old some.before some.looks) (takes_stays some.before new number code some.takes)
 
 pub least_stays : (old new : DeskView) (m number : ℕ) (code : Code) → CollectsLeast old new m number code → Stays old new
-least_stays old new m number code x = stays_chain old x.before new (looks_stays old x.before (quiet_looks old x.before x.quiet)) (takes_stays x.before new number code x.takes)
+least_stays old new m number code x =
+    stays_chain old x.before new (looks_stays old x.before (quiet_looks old x.before x.quiet)) (takes_stays x.before new number code x.takes)
 
-pub any_stays : (old new : DeskView) (m : ℕ) (r : Option (ℕ × Code)) → IfSome r (λ p. CollectsLeast old new m p.0 p.1) → (IsNone r → EndsQuiet old new) → Stays old new
+pub any_stays : (old new : DeskView) (m : ℕ) (r : Option (ℕ × Code)) → IfSome r (λ p. CollectsLeast old new m p.0 p.1) → (IsNone r → EndsQuiet old new)
+    → Stays old new
 any_stays old new m None some none = looks_stays old new (quiet_looks old new (none refl))
 any_stays old new m (Some p) some none = least_stays old new m p.0 p.1 some
 
 -- so a desk stays one
-pub desk_stays : (old new : DeskView) → Stays old new → (outstanding old.ledgers ≤ old.handles) × IsDesk old → (outstanding new.ledgers ≤ new.handles) × IsDesk new
+pub desk_stays : (old new : DeskView) → Stays old new → (outstanding old.ledgers ≤ old.handles) × IsDesk old
+    → (outstanding new.ledgers ≤ new.handles) × IsDesk new
 desk_stays old new s was = (let h = s.handles in let f = s.fewer in let w = was.0 in omega arith, s.tied was.1)

@@ -92,7 +92,8 @@ pub kept_collected_leaves : (old new : DeskView) (number : ℕ) (code : Code) �
 kept_collected_leaves old new number code x t owned = taken_leaves x.before new number code x.takes t (looks_owned old x.before t x.looks owned)
 
 pub least_collected_leaves : (old new : DeskView) (m number : ℕ) (code : Code) → CollectsLeast old new m number code → LeavesTickets old new
-least_collected_leaves old new m number code x t owned = taken_leaves x.before new number code x.takes t (looks_owned old x.before t (quiet_looks old x.before x.quiet) owned)
+least_collected_leaves old new m number code x t owned =
+    taken_leaves x.before new number code x.takes t (looks_owned old x.before t (quiet_looks old x.before x.quiet) owned)
 
 -- a call collects what it sent itself, which had no ticket before
 pub called_leaves : (n : ℕ) (old sent new : DeskView) (m : ℕ) (op : Op) (o : Operation) (code : Code) → IsKnown old.ledgers m
@@ -110,22 +111,26 @@ called_leaves n old sent new m op o code known e named x t owned =
     fulls_leave zero old m t owned = owned
     fulls_leave (suc n) old m t owned = full_leaves (after_fulls n old m) m t (fulls_leave n old m t owned)
 
-pub trying_leaves : (old new : DeskView) (o : Operation) (r : Option Code) → IfSome r (Collects old new o) → (IsNone r → EndsQuiet old new) → LeavesOthers old new o
+pub trying_leaves : (old new : DeskView) (o : Operation) (r : Option Code) → IfSome r (Collects old new o) → (IsNone r → EndsQuiet old new)
+    → LeavesOthers old new o
 trying_leaves old new o None some none t owned differs = looking_leaves old new (quiet_looks old new (none refl)) t owned
 trying_leaves old new o (Some code) some none t owned differs = collected_leaves old new o code some t owned differs
 
-pub trying_kept_leaves : (old new : DeskView) (number : ℕ) (r : Option Code) → IfSome r (CollectsKept old new number) → (IsNone r → EndsQuiet old new) → LeavesTickets old new
+pub trying_kept_leaves : (old new : DeskView) (number : ℕ) (r : Option Code) → IfSome r (CollectsKept old new number) → (IsNone r → EndsQuiet old new)
+    → LeavesTickets old new
 trying_kept_leaves old new number None some none = looking_leaves old new (quiet_looks old new (none refl))
 trying_kept_leaves old new number (Some code) some none = kept_collected_leaves old new number code some
 
-pub trying_any_leaves : (old new : DeskView) (m : ℕ) (r : Option (ℕ × Code)) → IfSome r (λ p. CollectsLeast old new m p.0 p.1) → (IsNone r → EndsQuiet old new) → LeavesTickets old new
+pub trying_any_leaves : (old new : DeskView) (m : ℕ) (r : Option (ℕ × Code)) → IfSome r (λ p. CollectsLeast old new m p.0 p.1) → (IsNone r → EndsQuiet old new)
+    → LeavesTickets old new
 trying_any_leaves old new m None some none = looking_leaves old new (quiet_looks old new (none refl))
 trying_any_leaves old new m (Some p) some none = least_collected_leaves old new m p.0 p.1 some
 
 pub kept_leaves_by : (old new : DeskView) (o : Operation) (number : ℕ) → new ≡ record old { kept = map.insert old.kept number o } → LeavesOthers old new o
 kept_leaves_by old new o number e t owned differs = subst (λ (d : DeskView). Owns d t) (sym e) (kept_leaves old o number t owned differs)
 
-pub released_leaves : (old new : DeskView) (number : ℕ) (r : Option Operation) (o : Operation) → r ≡ Some o → IfSome r (λ _. new ≡ record old { kept = map.remove old.kept number }) → LeavesTickets old new
+pub released_leaves : (old new : DeskView) (number : ℕ) (r : Option Operation) (o : Operation) → r ≡ Some o
+    → IfSome r (λ _. new ≡ record old { kept = map.remove old.kept number }) → LeavesTickets old new
 released_leaves old new number None o is e t owned = absurd (let no : None ≡ Some o = is in cc)
 released_leaves old new number (Some p) o is e t owned = subst (λ (d : DeskView). Owns d t) (sym e) (freed_leaves old number t owned)
 

@@ -1,5 +1,6 @@
 -- A desk's ledgers go on saying what its ends of lanes do.
-use Rattle.std.proofs.Common.{◌≡◌, ◌≢◌, ℕ, zero, suc, ◌+◌, ◌-◌, ◌<◌, List, [], ◌∷◌, ◌++◌, length, map, Option, Some, None, get_or, sym, refl, ap, ◌∙◌, subst, inl, inr, arith, append-nil}
+use Rattle.std.proofs.Common.{◌≡◌, ◌≢◌, ℕ, zero, suc, ◌+◌, ◌-◌, ◌<◌, List, [], ◌∷◌, ◌++◌, length, map, Option, Some, None, get_or, sym, refl, ap, ◌∙◌, subst}
+use Rattle.std.proofs.Common.{inl, inr, arith, append-nil}
 use Rattle.std.specs.List.{All, slice_get}
 use Rattle.std.proofs.lemmas.List.{map-append, length-map}
 use Rattle.std.proofs.lemmas.List.Elements.{All-append, All-cons, All-nil}
@@ -16,9 +17,11 @@ use Rattle.xa_lane.specs.Senders.{at_place, with_item, with_full, but_full, sent
 use Rattle.xa_desk.specs.declared.operation.Operation.{Operation}
 use Rattle.xa_desk.specs.LedgerView.{LedgerView, new_ledger, with_sent, with_collected}
 use Rattle.xa_desk.specs.DeskView.{DeskView, IsKnown, ledger, after_collected, drained_code}
-use Rattle.xa_desk.specs.Lanes.{next_request, submitted, after_full, after_fulls, numbered, arrived, IsPartOf, nothing, with_last, without_last, IsEndTo, AreEnds, WasDrained, IsTied, IsDesk, PartsView, AreNew, new_desk}
+use Rattle.xa_desk.specs.Lanes.{next_request, submitted, after_full, after_fulls, numbered, arrived, IsPartOf, nothing, with_last, without_last, IsEndTo}
+use Rattle.xa_desk.specs.Lanes.{AreEnds, WasDrained, IsTied, IsDesk, PartsView, AreNew, new_desk}
 use Rattle.xa_desk.specs.Looks.{Drains, first, other, Draws, Pops, start, drawn, Looks}
-use Rattle.xa_desk.proofs.Ledgers.{same_operation, ledger-sent_same, ledger-sent_other, ledger-collected_same, ledger-collected_other, known_before, collected_known, length-put_ledger}
+use Rattle.xa_desk.proofs.Ledgers.{same_operation, ledger-sent_same, ledger-sent_other, ledger-collected_same, ledger-collected_other, known_before}
+use Rattle.xa_desk.proofs.Ledgers.{collected_known, length-put_ledger}
 use Rattle.xa_lane.proofs.Senders.{length-at_place, at_place_cases, sent_at-full, sent_at-item, sent_at-other, sent_at-but_full, nothing_sent}
 use Rattle.xa_lane.proofs.Parcels.{somes-append}
 use Rattle.xa_desk.proofs.Books.{drained_code-push_again}
@@ -27,7 +30,9 @@ use Rattle.xa_desk.proofs.Fresh.{fresh_sent, fresh_collected}
 -- ---- what was taken
 
 arrived-item : (taken : List (Parcel Completion)) (s : ℕ) (c : Completion) → arrived (taken ++ parcel s (Some c) ∷ []) ≡ arrived taken ++ c ∷ []
-arrived-item taken s c = ap somes (map-append (λ (x : Parcel Completion). x.item) taken (parcel s (Some c) ∷ [])) ∙ somes-append (map (λ (x : Parcel Completion). x.item) taken) (Some c ∷ [])
+arrived-item taken s c =
+    ap somes (map-append (λ (x : Parcel Completion). x.item) taken (parcel s (Some c) ∷ []))
+    ∙ somes-append (map (λ (x : Parcel Completion). x.item) taken) (Some c ∷ [])
 
 arrived-mark : (taken : List (Parcel Completion)) (s : ℕ) → arrived (taken ++ parcel s None ∷ []) ≡ arrived taken
 arrived-mark taken s =
@@ -35,7 +40,8 @@ arrived-mark taken s =
     ∙ somes-append (map (λ (x : Parcel Completion). x.item) taken) (None ∷ [])
     ∙ append-nil (arrived taken)
 
-module _ (t : ℕ) (at : List LedgerView) (drained : List Completion) (requests : List (Sending Request)) (r : Receiving Completion) (b : IsTied t at drained requests r) where
+module _ (t : ℕ) (at : List LedgerView) (drained : List Completion) (requests : List (Sending Request)) (r : Receiving Completion)
+    (b : IsTied t at drained requests r) where
   tied_first : (s : ℕ) (c : Completion) → IsTied t at (drained ++ c ∷ []) requests (record r { taken = r.taken ++ parcel s (Some c) ∷ [] })
   tied_first s c = record {
     ends = record { number = b.ends.number; to = b.ends.to; lane = b.ends.lane; senders = b.ends.senders };
@@ -68,14 +74,19 @@ module _ (t : ℕ) (at : List LedgerView) (drained : List Completion) (requests 
     collected = b.collected;
   }
 
-tied_drains : (old new : DeskView) (s : ℕ) (c : Completion) (r : Receiving Completion) → IsDesk old → r ≡ record old.completions { taken = old.completions.taken ++ parcel s (Some c) ∷ [] } → Drains (record old { completions = r }) c new → IsDesk new
-tied_drains old new s c r b e (first out none is) = subst IsDesk (sym is) (subst (IsTied old.thread old.ledgers (old.drained ++ c ∷ []) old.requests) (sym e) (tied_first old.thread old.ledgers old.drained old.requests old.completions b s c))
-tied_drains old new s c r b e (other never is) = subst IsDesk (sym is) (subst (IsTied old.thread old.ledgers old.drained old.requests) (sym e) (tied_other old.thread old.ledgers old.drained old.requests old.completions b s c))
+tied_drains : (old new : DeskView) (s : ℕ) (c : Completion) (r : Receiving Completion) → IsDesk old
+    → r ≡ record old.completions { taken = old.completions.taken ++ parcel s (Some c) ∷ [] } → Drains (record old { completions = r }) c new → IsDesk new
+tied_drains old new s c r b e (first out none is) =
+    subst IsDesk (sym is) (subst (IsTied old.thread old.ledgers (old.drained ++ c ∷ []) old.requests) (sym e) (tied_first old.thread old.ledgers old.drained old.requests old.completions b s c))
+tied_drains old new s c r b e (other never is) =
+    subst IsDesk (sym is) (subst (IsTied old.thread old.ledgers old.drained old.requests) (sym e) (tied_other old.thread old.ledgers old.drained old.requests old.completions b s c))
 
 pub tied_draws : (old new : DeskView) (a : Taken Completion) → Draws old a new → IsDesk old → IsDesk new
 tied_draws old new (Item s c) d b = tied_drains old new s c new.completions b d.0.1 d.1
-tied_draws old new (EndOf s) d b = subst IsDesk (sym d.1) (subst (IsTied old.thread old.ledgers old.drained old.requests) (sym d.0.1) (tied_mark old.thread old.ledgers old.drained old.requests old.completions b s))
-tied_draws old new Empty d b = subst IsDesk (sym d.1) (subst (IsTied old.thread old.ledgers old.drained old.requests) (sym d.0) (tied_quiet old.thread old.ledgers old.drained old.requests old.completions b _ _))
+tied_draws old new (EndOf s) d b =
+    subst IsDesk (sym d.1) (subst (IsTied old.thread old.ledgers old.drained old.requests) (sym d.0.1) (tied_mark old.thread old.ledgers old.drained old.requests old.completions b s))
+tied_draws old new Empty d b =
+    subst IsDesk (sym d.1) (subst (IsTied old.thread old.ledgers old.drained old.requests) (sym d.0) (tied_quiet old.thread old.ledgers old.drained old.requests old.completions b _ _))
 
 tied_pops : (old new : DeskView) → Pops old new → IsDesk old → IsDesk new
 tied_pops old new (start _ e) b = subst IsDesk (sym e) b
@@ -86,12 +97,14 @@ tied_looks old new l b = tied_pops old new l.pops b
 
 -- ---- what was collected
 
-pub tied_collected : (d : DeskView) (o : Operation) (code : Code) → IsKnown d.ledgers o.manager → drained_code o d.drained ≡ Some code → IsDesk d → IsTied d.thread (after_collected d.ledgers o code) d.drained d.requests d.completions
+pub tied_collected : (d : DeskView) (o : Operation) (code : Code) → IsKnown d.ledgers o.manager → drained_code o d.drained ≡ Some code → IsDesk d
+    → IsTied d.thread (after_collected d.ledgers o code) d.drained d.requests d.completions
 tied_collected d o code known was b = let at = d.ledgers in record {
   ends = record { number = b.ends.number ∙ sym same; to = b.ends.to; lane = b.ends.lane; senders = b.ends.senders ∙ sym same };
   sent = λ m is. let before = collected_known at o code known m is in elim (cases_eq m o.manager) [
     | inl here ↦ b.sent m before ∙ ap (numbered d.thread 0) (sym (ap (λ (a : LedgerView). a.sent) (ledger-collected_same at o code known m here)))
-    | inr apart ↦ b.sent m before ∙ ap (numbered d.thread 0) (sym (ap (λ (a : LedgerView). a.sent) (ledger-collected_other at o code known m before.positive apart)))
+    | inr apart ↦ b.sent m before
+        ∙ ap (numbered d.thread 0) (sym (ap (λ (a : LedgerView). a.sent) (ledger-collected_other at o code known m before.positive apart)))
   ];
   drained_ = b.drained_;
   collected = λ m is. let before = collected_known at o code known m is in elim (cases_eq m o.manager) [
@@ -114,10 +127,12 @@ request_at t k op = record { thread = t; number = k; op = op }
 
 numbered-append : (t n : ℕ) (ops : List Op) (op : Op) → numbered t n (ops ++ op ∷ []) ≡ numbered t n ops ++ request_at t (n + length ops) op ∷ []
 numbered-append t n [] op = ap (λ k. request_at t k op ∷ []) (let from : n ≡ n + 0 = omega arith in from)
-numbered-append t n (o ∷ ops) op = ap (λ l. request_at t n o ∷ l) (numbered-append t (suc n) ops op ∙ ap (λ k. numbered t (suc n) ops ++ request_at t k op ∷ []) (let from : suc n + length ops ≡ n + suc (length ops) = omega arith in from))
+numbered-append t n (o ∷ ops) op =
+    ap (λ l. request_at t n o ∷ l) (numbered-append t (suc n) ops op ∙ ap (λ k. numbered t (suc n) ops ++ request_at t k op ∷ []) (let from : suc n + length ops ≡ n + suc (length ops) = omega arith in from))
 
 pub ends_changed : (t n k : ℕ) (f : Sending Request → Sending Request) (requests : List (Sending Request)) (r : Receiving Completion)
-    → ((opening m : ℕ) (s : Sending Request) → IsEndTo t opening m s → IsEndTo t opening m (f s)) → AreEnds t n requests r → AreEnds t n (at_place k f requests) r
+    → ((opening m : ℕ) (s : Sending Request) → IsEndTo t opening m s → IsEndTo t opening m (f s)) → AreEnds t n requests r
+    → AreEnds t n (at_place k f requests) r
 ends_changed t n k f requests r keeps b = record {
   number = length-at_place f k requests ∙ b.number;
   to = λ j y found.
@@ -200,7 +215,8 @@ bared None = None
 bared (Some s) = Some (but_full s)
 
 -- ends that differ in their full moments alone are tied alike
-pub tied_ended : (t : ℕ) (at : List LedgerView) (drained : List Completion) (es ds : List (Sending Request)) (r : Receiving Completion) → map but_full es ≡ map but_full ds → IsTied t at drained ds r → IsTied t at drained es r
+pub tied_ended : (t : ℕ) (at : List LedgerView) (drained : List Completion) (es ds : List (Sending Request)) (r : Receiving Completion)
+    → map but_full es ≡ map but_full ds → IsTied t at drained ds r → IsTied t at drained es r
 tied_ended t at drained es ds r same b = record {
   ends = record {
     number = sym (length-map es but_full) ∙ ap length same ∙ length-map ds but_full ∙ b.ends.number;
@@ -233,7 +249,8 @@ tied_ended t at drained es ds r same b = record {
           lane = ap (λ (s : Sending Request). s.lane.index) one ∙ was.lane;
         }
 
-pub tied_new : (p : PartsView) (requests : List (Sending Request)) (r : Receiving Completion) → AreEnds p.thread (length p.use_async) requests r → AreNew requests r → IsDesk (new_desk p requests r)
+pub tied_new : (p : PartsView) (requests : List (Sending Request)) (r : Receiving Completion) → AreEnds p.thread (length p.use_async) requests r
+    → AreNew requests r → IsDesk (new_desk p requests r)
 tied_new p requests r ends new = record {
   ends = subst (λ n. AreEnds p.thread n requests r) (sym (length-map p.use_async (λ carries. new_ledger carries p.plan))) ends;
   sent = λ m known. nothing_sent (m - 1) requests new.sent ∙ ap (numbered p.thread 0) (sym (fresh_sent p.plan p.use_async (m - 1)));

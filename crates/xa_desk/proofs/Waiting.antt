@@ -7,7 +7,8 @@ use Rattle.xa_desk.specs.Waits.{MarksEnd, MarkEnds, found_full}
 
 module _ {I : Type 0} (by : ℕ → I → I → Type 0) where
   -- one more end mark was put
-  pub marks_push : (m : ℕ) (ss es : List (Sending Request)) (s e : Sending Request) (a b c : I) (k : ℕ) → k ≡ m + length ss + 1 → MarkEnds by m ss es a b → MarksEnd (by k) s e b c → MarkEnds by m (ss ++ s ∷ []) (es ++ e ∷ []) a c
+  pub marks_push : (m : ℕ) (ss es : List (Sending Request)) (s e : Sending Request) (a b c : I) (k : ℕ) → k ≡ m + length ss + 1 → MarkEnds by m ss es a b
+      → MarksEnd (by k) s e b c → MarkEnds by m (ss ++ s ∷ []) (es ++ e ∷ []) a c
   marks_push m [] [] s e a b c k is h mark =
       let here : k ≡ suc m = omega (arith, is) in
       (c, subst (λ j. MarksEnd (by j) s e a c) here (subst (λ x. MarksEnd (by k) s e x c) h mark), refl)

@@ -210,9 +210,13 @@ handle_refusal d = if nat_le d.handles (outstanding d.ledgers) then Some TooMany
 abbrev pub spent_refusal : DeskView → ℕ → Option Refused
 spent_refusal d m = if room_at d.ledgers m == 0 then Some Spent else None
 
+-- why a request may not be sent to a manager that is reached: the first of the two
+abbrev pub room_refusal : DeskView → ℕ → Option Refused
+room_refusal d m = option_or (handle_refusal d) (spent_refusal d m)
+
 -- why a request may not be sent, a full lane aside: the first of these
 abbrev pub submit_refusal : DeskView → ℕ → Option Refused
-submit_refusal d m = option_or (reach_refusal d m) (option_or (handle_refusal d) (spent_refusal d m))
+submit_refusal d m = option_or (reach_refusal d m) (room_refusal d m)
 
 -- the same for a synchronous call, which has a slot beyond the handles
 abbrev pub call_refusal : DeskView → ℕ → Option Refused

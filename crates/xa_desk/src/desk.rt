@@ -5,8 +5,8 @@ ghost use Rattle.std.specs.Prelude.{◌&&◌};
 ghost use Rattle.std.specs.FinMap as map;
 ghost use Rattle.xa_desk.specs.LedgerView.{learnt_shut};
 ghost use Rattle.xa_desk.specs.DeskView.{TicketView, IsKnown, IsHandle, Owns, ledger, outstanding, drained_code};
-ghost use Rattle.xa_desk.specs.DeskView.{ticket_of, next_operation, submit_refusal, call_refusal, IsLeastFree};
-ghost use Rattle.xa_desk.specs.DeskView.{ready_at, keeps_at, room_at, is_known};
+ghost use Rattle.xa_desk.specs.DeskView.{ticket_of, next_operation, reach_refusal, submit_refusal, call_refusal};
+ghost use Rattle.xa_desk.specs.DeskView.{IsLeastFree, ready_at, keeps_at, room_at, is_known};
 ghost use Rattle.xa_desk.specs.Ended.{Ends, AreBalanced};
 ghost use Rattle.xa_desk.specs.GoesOn.{GoesOn, GoesOut};
 ghost use Rattle.xa_desk.specs.Lanes.{AreEnds, AreNew, IsDesk, new_desk, submitted, after_full, after_fulls};
@@ -179,7 +179,35 @@ impl Desk {
         ensures tickets { LeavesTickets self.old self.new }
         ensures fresh { IfOk result (λ t. (older : TicketView) → Owns self.old older → older.operation ≢ t.operation) }
     {
-        if let Some(why) = self.submit_refusal(manager) {
+        let _ = &self.book;
+        if let Some(why) = self.reach_refusal(manager) {
+            return Err(why);
+        }
+        self.submit_reached(rt, manager, op)
+    }
+
+    /// `submit` to a manager that `reach_refusal` was asked about, and doesn't refuse: only the handles and the
+    /// planned requests are still judged.
+    pub fn submit_reached<R: Wait>(
+        &mut self,
+        rt: &R,
+        manager: u32,
+        op: Op,
+    ) -> Result<Ticket, Refused>
+        requires reached { reach_refusal self.old manager ≡ None }
+        ensures refused { (why : _) → submit_refusal self.old manager ≡ Some why
+            → (result ≡ Err why) × (self.new ≡ self.old) }
+        ensures full { submit_refusal self.old manager ≡ None → IfErr result (λ why. (why ≡ Refused.Full)
+            × (self.new ≡ after_full self.old manager)) }
+        ensures ticket { IfOk result (λ t. t ≡ ticket_of self.old (next_operation self.old.ledgers manager)) }
+        ensures owned { IfOk result (λ t. Owns self.new t) }
+        ensures sent { OnOk result (self.new ≡ submitted self.old manager op) }
+        ensures tied { IsDesk self.new }
+        ensures goes_on { GoesOn self.old self.new }
+        ensures tickets { LeavesTickets self.old self.new }
+        ensures fresh { IfOk result (λ t. (older : TicketView) → Owns self.old older → older.operation ≢ t.operation) }
+    {
+        if let Some(why) = self.room_refusal(manager) {
             return Err(why);
         }
         let Some(operation) = self.book.offer(rt, manager, &op) else {

@@ -11,11 +11,7 @@ pub(crate) fn empty_places(
 ) -> Result<Vec<Option<Operation>>, AllocError>
     ensures { IfOk result (λ v. v.items ≡ replicate places None) }
 {
-    let mut table = Vec::with_capacity(alloc, places)?;
-    for _place in 0..places {
-        table.push(None)?;
-    }
-    Ok(table)
+    vec![in alloc; None; places]
 }
 
 /// The first place that has no operation, or the length. There are at most 32 places.

@@ -1,6 +1,6 @@
 //! Why a request may not be sent, a full lane aside.
 ghost use Rattle.std.specs.Prelude.{◌≡◌};
-ghost use Rattle.xa_desk.specs.DeskView.{reach_refusal, handle_refusal, spent_refusal, submit_refusal, call_refusal};
+ghost use Rattle.xa_desk.specs.DeskView.{reach_refusal, handle_refusal, spent_refusal, room_refusal, call_refusal};
 
 use crate::desk::Desk;
 use crate::refused::Refused;
@@ -34,16 +34,14 @@ impl Desk {
         (self.room(manager) == 0).then_some(Refused::Spent)
     }
 
-    /// Why no asynchronous request may be sent to the manager: the first reason that holds.
-    pub(crate) fn submit_refusal(&self, manager: u32) -> Option<Refused>
-        ensures { result ≡ submit_refusal self.now manager }
+    // Why no asynchronous request may be sent to a manager that is reached: the first reason that holds.
+    pub(crate) fn room_refusal(&self, manager: u32) -> Option<Refused>
+        ensures { result ≡ room_refusal self.now manager }
     {
-        self.reach_refusal(manager)
-            .or(self.handle_refusal())
-            .or(self.spent_refusal(manager))
+        self.handle_refusal().or(self.spent_refusal(manager))
     }
 
-    /// Why no synchronous request may be sent to the manager: the first reason that holds.
+    // Why no synchronous request may be sent to the manager: the first reason that holds.
     pub(crate) fn call_refusal(&self, manager: u32) -> Option<Refused>
         ensures { result ≡ call_refusal self.now manager }
     {

@@ -1,5 +1,6 @@
 -- What one request to a manager does to a desk, which is put and waited for before anything else is done.
-use Rattle.std.proofs.Common.{◌≡◌, ℕ, ◌+◌, ◌-◌, ◌≤◌, ◌==◌, ◌||◌, true, false, if◌then◌else◌, Option, Some, None, List, not, length, refl, sym, ap, ◌∙◌, subst, arith, inl, inr, length-append, [], ◌∷◌}
+use Rattle.std.proofs.Common.{◌≡◌, ℕ, ◌+◌, ◌-◌, ◌≤◌, ◌==◌, ◌||◌, true, false, if◌then◌else◌, Option, Some, None, List, not, length, refl, sym, ap, ◌∙◌, subst}
+use Rattle.std.proofs.Common.{arith, inl, inr, length-append, [], ◌∷◌}
 use Rattle.std.specs.Prelude.{nat_lt}
 use Rattle.std.specs.Option.{option_or}
 use Rattle.std.proofs.lemmas.Bool.{cases_Bool, eqb-true, eqb-false, ltb-false, le-ltb, ne_eqb, or_parts, or_from}
@@ -19,6 +20,7 @@ use Rattle.xa_switch.proofs.Kept.{answered_keep, fulls_kept, fulls_ledgers}
 use Rattle.xa_driver.specs.Asks.{asked}
 use Rattle.xa_driver.specs.Resolving.{AsksLedger, AsksAlone}
 use Rattle.xa_driver.proofs.Asking.{Moved, keeps_start, keeps_chain}
+use Rattle.xa_driver.proofs.Gathering.{open_asked}
 use Rattle.xa_driver.proofs.Ledgers.{open_count, put_length, put_open}
 use Rattle.xa_driver.proofs.Staying.{IsOpen, asked_leaves_open, outstanding_chain}
 
@@ -47,13 +49,9 @@ open_where_answered d m none =
 
 -- ---- what a request leaves
 
--- a request that was collected, or withheld, leaves as much outstanding as there was
-asked_open : (a : LedgerView) (op : Op) (code : Code) → open_count (asked a (Some op) (Some code)) ≡ open_count a
-asked_open a op code =
-    by_if (λ b. open_count b ≡ open_count a) (learnt_shut a) a _ (λ _. refl) (λ _. omega (arith, length-append a.sent (op ∷ []), length-append a.collected ((length a.sent, code) ∷ [])))
-
--- and takes no more than one of those planned
-asked_room : (a : LedgerView) (op : Op) (code : Code) → a.plan - length a.sent ≤ ((asked a (Some op) (Some code)).plan - length (asked a (Some op) (Some code)).sent) + 1
+-- a request takes no more than one of those planned
+asked_room : (a : LedgerView) (op : Op) (code : Code)
+    → a.plan - length a.sent ≤ ((asked a (Some op) (Some code)).plan - length (asked a (Some op) (Some code)).sent) + 1
 asked_room a op code =
     by_if (λ b. a.plan - length a.sent ≤ (b.plan - length b.sent) + 1) (learnt_shut a) a _ (λ _. omega arith) (λ _. omega (arith, length-append a.sent (op ∷ [])))
 
@@ -62,7 +60,8 @@ module _ (m : ℕ) (op : Op) (code : Code) (old new : DeskView) (known : IsKnown
   a = ledger old.ledgers m
 
   -- it was put, and its completion was collected
-  pub called_moved : (n : ℕ) → learnt_shut a ≡ false → Collects (submitted (after_fulls n old m) m op) new (next_operation old.ledgers m) code → GoesOn old new → Moved m (asked a (Some op) (Some code)) old new
+  pub called_moved : (n : ℕ) → learnt_shut a ≡ false → Collects (submitted (after_fulls n old m) m op) new (next_operation old.ledgers m) code → GoesOn old new
+      → Moved m (asked a (Some op) (Some code)) old new
   called_moved n open_ x goes =
       let sent : LedgerView = with_sent a op in
       let mid : List LedgerView = put_ledger old.ledgers m sent in
@@ -72,11 +71,13 @@ module _ (m : ℕ) (op : Op) (code : Code) (old new : DeskView) (known : IsKnown
       let here : ledger mid m ≡ sent = ledger-put_same old.ledgers m sent known in
       let known_then : IsKnown mid m = known_by old.ledgers mid m (put_length old.ledgers m sent known) known in
       let written : new.ledgers ≡ put_ledger mid m whole =
-      ap (λ (d : DeskView). d.ledgers) x.collected ∙ ap (λ (l : List LedgerView). put_ledger l m (with_collected (ledger l m) (length a.sent) code)) before ∙ ap (λ (b : LedgerView). put_ledger mid m (with_collected b (length a.sent) code)) here in
+      ap (λ (d : DeskView). d.ledgers) x.collected ∙ ap (λ (l : List LedgerView). put_ledger l m (with_collected (ledger l m) (length a.sent) code)) before
+      ∙ ap (λ (b : LedgerView). put_ledger mid m (with_collected b (length a.sent) code)) here in
       let is : asked a (Some op) (Some code) ≡ whole = at_false (learnt_shut a) a whole open_ in
       record {
         here = ap (λ l. ledger l m) written ∙ ledger-put_same mid m whole known_then ∙ sym is;
-        others = λ k p q. ap (λ l. ledger l k) written ∙ ledger-put_other mid m k whole known_then.positive p q ∙ ledger-put_other old.ledgers m k sent known.positive p q;
+        others = λ k p q. ap (λ l. ledger l k) written ∙ ledger-put_other mid m k whole known_then.positive p q
+            ∙ ledger-put_other old.ledgers m k sent known.positive p q;
         managers = ap (λ l. length l) written ∙ put_length mid m whole known_then ∙ put_length old.ledgers m sent known;
         open_ =
             let first = put_open old.ledgers m sent known in
@@ -108,7 +109,7 @@ module _ (m : ℕ) (op : Op) (code : Code) (old new : DeskView) (known : IsKnown
               subst (IsOpen o.number) (sym (is.others o.manager out.known.positive (eqb-false o.manager m other))) (record { sent = out.sent; open_ = out.open_ })
         ] in
         record { known = known_by old.ledgers new.ledgers o.manager is.managers out.known; sent = stays.sent; open_ = stays.open_ };
-    free = let moved = is.open_ in let same = asked_open a op code in omega (arith, moved, same);
+    free = let moved = is.open_ in let same = open_asked a (Some op) (Some code) in omega (arith, moved, same);
     all = all;
   }
 
@@ -127,7 +128,8 @@ pub record Called (m : ℕ) (op : Op) (code : Code) (old new : DeskView) : Type 
   pub alone : AsksAlone m old new
   pub room : room_at old.ledgers m ≤ room_at new.ledgers m + 1
 
-pub call_answered : (m n : ℕ) (op : Op) (code : Code) (old new : DeskView) → 1 ≤ room_at old.ledgers m → call_refusal old m ≡ None → Collects (submitted (after_fulls n old m) m op) new (next_operation old.ledgers m) code → GoesOn old new → Called m op code old new
+pub call_answered : (m n : ℕ) (op : Op) (code : Code) (old new : DeskView) → 1 ≤ room_at old.ledgers m → call_refusal old m ≡ None
+    → Collects (submitted (after_fulls n old m) m op) new (next_operation old.ledgers m) code → GoesOn old new → Called m op code old new
 call_answered m n op code old new room none x goes =
     let known = known_with_room old.ledgers m room in
     let open_ = open_where_answered old m none in

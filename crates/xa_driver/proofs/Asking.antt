@@ -39,7 +39,8 @@ unmoved m a' old new e h =
     })
 
 -- one ledger was written, and nothing else that counts
-put_moved : (m : ℕ) (a' : LedgerView) (old new : DeskView) → IsKnown old.ledgers m → new.ledgers ≡ put_ledger old.ledgers m a' → KeepsDesk old new → Moved m a' old new
+put_moved : (m : ℕ) (a' : LedgerView) (old new : DeskView) → IsKnown old.ledgers m → new.ledgers ≡ put_ledger old.ledgers m a' → KeepsDesk old new
+    → Moved m a' old new
 put_moved m a' old new known e keeps = record {
   here = ap (λ l. ledger l m) e ∙ ledger-put_same old.ledgers m a' known;
   others = λ n p q. ap (λ l. ledger l n) e ∙ ledger-put_other old.ledgers m n a' known.positive p q;
@@ -57,7 +58,8 @@ sent_none : (a : LedgerView) (op : Option Op) → IsUnsent a op → a ≡ sent_b
 sent_none a None h = refl
 sent_none a (Some op) h = sym (at_true (learnt_shut a) _ _ h)
 
-pub began_moved : (k : Ask) (old new : DeskView) (r : Option TicketView) → IsKnown old.ledgers k.manager → BeginsAsk k old new r → Moved k.manager (sent_by (ledger old.ledgers k.manager) k.op) old new
+pub began_moved : (k : Ask) (old new : DeskView) (r : Option TicketView) → IsKnown old.ledgers k.manager → BeginsAsk k old new r
+    → Moved k.manager (sent_by (ledger old.ledgers k.manager) k.op) old new
 began_moved k old new None known b = unmoved k.manager _ old new b.0 (sent_none (ledger old.ledgers k.manager) k.op b.1)
 began_moved k old new (Some t) known b =
     let a : LedgerView = ledger old.ledgers k.manager in
@@ -65,7 +67,8 @@ began_moved k old new (Some t) known b =
     subst (λ (x : LedgerView). Moved k.manager x old new) is (put_moved k.manager (with_sent a b.op) old new known b.sent b.keeps)
 
 -- a request that was sent stands in its manager's ledger
-pub sent_is : (k : Ask) (t : TicketView) (d d' : DeskView) → IsKnown d.ledgers k.manager → (b : IsSending k d d' t) → ledger d'.ledgers k.manager ≡ with_sent (ledger d.ledgers k.manager) b.op
+pub sent_is : (k : Ask) (t : TicketView) (d d' : DeskView) → IsKnown d.ledgers k.manager → (b : IsSending k d d' t)
+    → ledger d'.ledgers k.manager ≡ with_sent (ledger d.ledgers k.manager) b.op
 sent_is k t d d' known b = ap (λ l. ledger l k.manager) b.sent ∙ ledger-put_same d.ledgers k.manager (with_sent (ledger d.ledgers k.manager) b.op) known
 
 unfoldable pub collected_of : (a : LedgerView) (r : Option TicketView) (code : Option Code) → LedgerView
@@ -73,7 +76,9 @@ collected_of a None code = a
 collected_of a (Some t) None = a
 collected_of a (Some t) (Some c) = with_collected a t.operation.number c
 
-pub ended_moved : (k : Ask) (old new : DeskView) (r : Option TicketView) (code : Option Code) → ((t : TicketView) → r ≡ Some t → t.operation.manager ≡ k.manager) → IsKnown old.ledgers k.manager → Ends k old new r code → Moved k.manager (collected_of (ledger old.ledgers k.manager) r code) old new
+pub ended_moved : (k : Ask) (old new : DeskView) (r : Option TicketView) (code : Option Code)
+    → ((t : TicketView) → r ≡ Some t → t.operation.manager ≡ k.manager) → IsKnown old.ledgers k.manager → Ends k old new r code
+    → Moved k.manager (collected_of (ledger old.ledgers k.manager) r code) old new
 unfolding collected_of
 ended_moved k old new None code at known e = unmoved k.manager (ledger old.ledgers k.manager) old new e.0 refl
 ended_moved k old new (Some t) code at known e =

@@ -1,5 +1,6 @@
 -- Branches that are resolved one after another, and managers one after another.
-use Rattle.std.proofs.Common.{◌≡◌, ◌≢◌, ℕ, zero, suc, ◌+◌, ◌-◌, ◌*◌, ◌≤◌, ◌==◌, ◌||◌, if◌then◌else◌, List, [], ◌∷◌, ◌++◌, length, append-nil, sym, refl, ap, ◌∙◌, subst, arith, inl, inr}
+use Rattle.std.proofs.Common.{◌≡◌, ◌≢◌, ℕ, zero, suc, ◌+◌, ◌-◌, ◌*◌, ◌≤◌, ◌==◌, ◌||◌, if◌then◌else◌, List, [], ◌∷◌, ◌++◌, length, append-nil, sym, refl, ap}
+use Rattle.std.proofs.Common.{◌∙◌, subst, arith, inl, inr}
 use Rattle.std.specs.Prelude.{nat_lt}
 use Rattle.std.specs.List.{flat_map, range_with_len, sum_by}
 use Rattle.std.proofs.lemmas.Bool.{cases_Bool, eqb-true, eqb-false, eq-eqb, ne_eqb}
@@ -12,7 +13,7 @@ use Rattle.xa_desk.specs.LedgerView.{LedgerView}
 use Rattle.xa_desk.specs.DeskView.{ledger, room_at}
 use Rattle.xa_switch.specs.Scans.{Asking, ScanView, left_at}
 use Rattle.xa_driver.specs.declared.resolved.Outcome.{Outcome}
-use Rattle.xa_driver.specs.Log.{Records}
+use Rattle.xa_log.specs.Log.{Records}
 use Rattle.xa_driver.specs.Resolving.{AsksLedger, Resolves, ResolvesAt, ResolvesThese, left_in, requests_for}
 
 -- ---- a manager at which some are left
@@ -26,7 +27,8 @@ pub left_few : (xs : List XidName) (n : ℕ) → requests_for xs ≤ n → lengt
 left_few [] n few = omega arith
 left_few (x ∷ xs) n few = omega (arith, few)
 
-pub resolves_there : {D : Type 0} (asking : Asking D) (records : Records) (m : ℕ) (xs : List XidName) (os : List Outcome) (a a' : D) → length xs ≢ 0 → ResolvesThese asking records m xs os a a' → ResolvesAt asking records m xs os a a'
+pub resolves_there : {D : Type 0} (asking : Asking D) (records : Records) (m : ℕ) (xs : List XidName) (os : List Outcome) (a a' : D) → length xs ≢ 0
+    → ResolvesThese asking records m xs os a a' → ResolvesAt asking records m xs os a a'
 resolves_there asking records m [] os a a' some is = absurd (some refl)
 resolves_there asking records m (x ∷ xs) os a a' some is = is
 
@@ -54,7 +56,9 @@ pub room_same : (at at' : List LedgerView) (m : ℕ) → length at' ≡ length a
 room_same at at' m many same = λ i. if (m == 0) || nat_lt (many i) m then 0 else ((same i).plan - length (same i).sent)
 
 lists_more : (f : ℕ → List Outcome) (n : ℕ) → flat_map f (range_with_len 1 (n + 1)) ≡ flat_map f (range_with_len 1 n) ++ f (n + 1)
-lists_more f n = ap (flat_map f) (range_more n) ∙ flat_map-append f (range_with_len 1 n) ((n + 1) ∷ []) ∙ ap (λ l. flat_map f (range_with_len 1 n) ++ l) (append-nil (f (n + 1)))
+lists_more f n =
+    ap (flat_map f) (range_more n) ∙ flat_map-append f (range_with_len 1 n) ((n + 1) ∷ [])
+    ∙ ap (λ l. flat_map f (range_with_len 1 n) ++ l) (append-nil (f (n + 1)))
 
 lists_same : (f g : ℕ → List Outcome) (n : ℕ) → ((m : ℕ) → m ≤ n → f m ≡ g m) → flat_map f (range_with_len 1 n) ≡ flat_map g (range_with_len 1 n)
 lists_same f g zero same = refl
@@ -69,14 +73,19 @@ abbrev pub SoFar : ScanView → Records → ℕ → List LedgerView → List Led
 SoFar z records n old new outcomes = Resolves AsksLedger records z n (ledger old) (ledger new) outcomes
 
 pub none_so_far : (z : ScanView) (records : Records) (at : List LedgerView) → SoFar z records 0 at at []
-none_so_far z records at = record { at = λ m. []; outcomes_are = refl; each = λ m within. let low = within.0 in let high = within.1 in absurd (omega (arith, low, high)); others = λ m above. refl }
+none_so_far z records at =
+    record { at = λ m. []; outcomes_are = refl; each = λ m within. let low = within.0 in let high = within.1 in absurd (omega (arith, low, high)); others = λ m above. refl }
 
 -- one more
-pub one_more_so_far : (z : ScanView) (records : Records) (n : ℕ) (old mid new : List LedgerView) (outcomes outcomes' more : List Outcome) → SoFar z records n old mid outcomes → outcomes' ≡ outcomes ++ more
-    → ResolvesAt AsksLedger records (n + 1) (left_at z (n + 1)) more (ledger mid (n + 1)) (ledger new (n + 1)) → ((m : ℕ) → 1 ≤ m → m ≢ n + 1 → ledger new m ≡ ledger mid m) → SoFar z records (n + 1) old new outcomes'
+pub one_more_so_far : (z : ScanView) (records : Records) (n : ℕ) (old mid new : List LedgerView) (outcomes outcomes' more : List Outcome)
+    → SoFar z records n old mid outcomes → outcomes' ≡ outcomes ++ more
+    → ResolvesAt AsksLedger records (n + 1) (left_at z (n + 1)) more (ledger mid (n + 1)) (ledger new (n + 1))
+    → ((m : ℕ) → 1 ≤ m → m ≢ n + 1 → ledger new m ≡ ledger mid m) → SoFar z records (n + 1) old new outcomes'
 one_more_so_far z records n old mid new outcomes outcomes' more is grown here others = record {
   at = at;
-  outcomes_are = grown ∙ (λ i. (is.outcomes_are ∙ lists_same is.at at n (λ m low. sym (at_false (m == n + 1) more (is.at m) (ne_eqb m (n + 1) (λ e. absurd (omega (arith, low, e))))))) i ++ sym (at_true ((n + 1) == n + 1) more (is.at (n + 1)) (eq-eqb (n + 1) (n + 1) refl)) i)
+  outcomes_are =
+      grown
+      ∙ (λ i. (is.outcomes_are ∙ lists_same is.at at n (λ m low. sym (at_false (m == n + 1) more (is.at m) (ne_eqb m (n + 1) (λ e. absurd (omega (arith, low, e))))))) i ++ sym (at_true ((n + 1) == n + 1) more (is.at (n + 1)) (eq-eqb (n + 1) (n + 1) refl)) i)
       ∙ sym (lists_more at n);
   each = λ m within. elim (cases_Bool (m == n + 1)) [
     | inl same ↦

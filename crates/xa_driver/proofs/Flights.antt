@@ -10,7 +10,8 @@ use Rattle.xa_desk.specs.DeskView.{DeskView, TicketView, IsKnown, Owns, ledger, 
 use Rattle.xa_desk.proofs.Ledgers.{known_by}
 use Rattle.xa_switch.specs.Belonging.{DeskSeat}
 use Rattle.xa_driver.specs.declared.ask.Ask.{Ask}
-use Rattle.xa_driver.specs.Asks.{AskTrace, EachAsk, among_asks, AreRising, CanAsk, AllCanAsk, KeepsDesk, IsUnsent, unsent_code, BeginsAsk, Ends, HasBegun, EachBegan}
+use Rattle.xa_driver.specs.Asks.{AskTrace, EachAsk, among_asks, AreRising, CanAsk, AllCanAsk, KeepsDesk, IsUnsent, unsent_code, BeginsAsk, Ends, HasBegun}
+use Rattle.xa_driver.specs.Asks.{EachBegan}
 use Rattle.xa_driver.proofs.Ledgers.{open_count}
 use Rattle.xa_base.proofs.Truth.{at_false, at_true}
 use Rattle.xa_driver.proofs.Asking.{sent_by, Moved, began_moved, ended_moved, collected_of, sent_is}
@@ -55,7 +56,8 @@ can_at (a ∷ js) k bs at c = can_at js k bs at c.1
 
 -- ---- what moves one ledger leaves the requests to the others
 
-owns_stays : (t : TicketView) (d d' : DeskView) → ledger d'.ledgers t.operation.manager ≡ ledger d.ledgers t.operation.manager → length d'.ledgers ≡ length d.ledgers → KeepsDesk d d' → Owns d t → Owns d' t
+owns_stays : (t : TicketView) (d d' : DeskView) → ledger d'.ledgers t.operation.manager ≡ ledger d.ledgers t.operation.manager
+    → length d'.ledgers ≡ length d.ledgers → KeepsDesk d d' → Owns d t → Owns d' t
 owns_stays t d d' same managers keeps o = record {
   opening = o.opening ∙ sym (ap (λ (s : DeskSeat). s.lane.opening) keeps.goes_on.seat);
   thread = o.thread ∙ sym (ap (λ (s : DeskSeat). s.thread) keeps.goes_on.seat);
@@ -67,12 +69,14 @@ owns_stays t d d' same managers keeps o = record {
   loose = λ q e. o.loose q (ap (λ m. finmap.get m q) (sym keeps.kept) ∙ e);
 }
 
-one_stays : (k : Ask) (r : Option TicketView) (at : List LedgerView) (d d' : DeskView) (m : ℕ) (a' : LedgerView) → 1 ≤ k.manager → k.manager ≢ m → Moved m a' d d' → HasBegun k r at d → HasBegun k r at d'
+one_stays : (k : Ask) (r : Option TicketView) (at : List LedgerView) (d d' : DeskView) (m : ℕ) (a' : LedgerView) → 1 ≤ k.manager → k.manager ≢ m
+    → Moved m a' d d' → HasBegun k r at d → HasBegun k r at d'
 one_stays k None at d d' m a' p differs moved h = (h.0, moved.others k.manager p differs ∙ h.1)
 one_stays k (Some t) at d d' m a' p differs moved h =
     let names : t.operation.manager ≡ k.manager = ap (λ o. o.manager) h.operation in
     let stays : ledger d'.ledgers k.manager ≡ ledger d.ledgers k.manager = moved.others k.manager p differs in
-    let same : ledger d'.ledgers t.operation.manager ≡ ledger d.ledgers t.operation.manager = ap (ledger d'.ledgers) names ∙ stays ∙ ap (ledger d.ledgers) (sym names) in
+    let same : ledger d'.ledgers t.operation.manager ≡ ledger d.ledgers t.operation.manager =
+    ap (ledger d'.ledgers) names ∙ stays ∙ ap (ledger d.ledgers) (sym names) in
     record {
       op = h.op;
       wanted = h.wanted;
@@ -82,14 +86,16 @@ one_stays k (Some t) at d d' m a' p differs moved h =
       sent = stays ∙ h.sent;
     }
 
-pub begun_stays : (lo : ℕ) (ks : List Ask) (rs : List (Option TicketView)) (at : List LedgerView) (d d' : DeskView) (m : ℕ) (a' : LedgerView) → AreRising lo ks → among_asks ks m ≡ false → Moved m a' d d' → EachBegan ks rs at d → EachBegan ks rs at d'
+pub begun_stays : (lo : ℕ) (ks : List Ask) (rs : List (Option TicketView)) (at : List LedgerView) (d d' : DeskView) (m : ℕ) (a' : LedgerView) → AreRising lo ks
+    → among_asks ks m ≡ false → Moved m a' d d' → EachBegan ks rs at d → EachBegan ks rs at d'
 begun_stays lo [] [] at d d' m a' up none moved h = tt
 begun_stays lo [] (r ∷ rs) at d d' m a' up none moved h = absurd h
 begun_stays lo (k ∷ ks) [] at d d' m a' up none moved h = absurd h
 begun_stays lo (k ∷ ks) (r ∷ rs) at d d' m a' up none moved h =
     (one_stays k r at d d' m a' (let z = up.0 in omega arith) (apart k ks m none) moved h.0, begun_stays k.manager ks rs at d d' m a' up.1 (or_parts (k.manager == m) _ none).1 moved h.1)
 
-pub asked_stays : (lo : ℕ) (ks : List Ask) (at : List LedgerView) (d d' : DeskView) (m : ℕ) (a' : LedgerView) → AreRising lo ks → among_asks ks m ≡ false → Moved m a' d d' → EachAsk ks at d.ledgers → EachAsk ks at d'.ledgers
+pub asked_stays : (lo : ℕ) (ks : List Ask) (at : List LedgerView) (d d' : DeskView) (m : ℕ) (a' : LedgerView) → AreRising lo ks → among_asks ks m ≡ false
+    → Moved m a' d d' → EachAsk ks at d.ledgers → EachAsk ks at d'.ledgers
 asked_stays lo [] at d d' m a' up none moved h = tt
 asked_stays lo (k ∷ ks) at d d' m a' up none moved h = (
   subst (λ (a : LedgerView). AskTrace k.op k.code (ledger at k.manager) a) (sym (moved.others k.manager (let z = up.0 in omega arith) (apart k ks m none))) h.0,
@@ -98,18 +104,21 @@ asked_stays lo (k ∷ ks) at d d' m a' up none moved h = (
 
 -- ---- one more request
 
-pub begun_more : (ks : List Ask) (rs : List (Option TicketView)) (k : Ask) (r : Option TicketView) (at : List LedgerView) (d : DeskView) → EachBegan ks rs at d → HasBegun k r at d → EachBegan (ks ++ k ∷ []) (rs ++ r ∷ []) at d
+pub begun_more : (ks : List Ask) (rs : List (Option TicketView)) (k : Ask) (r : Option TicketView) (at : List LedgerView) (d : DeskView) → EachBegan ks rs at d
+    → HasBegun k r at d → EachBegan (ks ++ k ∷ []) (rs ++ r ∷ []) at d
 begun_more [] [] k r at d h one = (one, tt)
 begun_more [] (q ∷ rs) k r at d h one = absurd h
 begun_more (j ∷ ks) [] k r at d h one = absurd h
 begun_more (j ∷ ks) (q ∷ rs) k r at d h one = (h.0, begun_more ks rs k r at d h.1 one)
 
-pub asked_more : (ks : List Ask) (k : Ask) (at at' : List LedgerView) → EachAsk ks at at' → AskTrace k.op k.code (ledger at k.manager) (ledger at' k.manager) → EachAsk (ks ++ k ∷ []) at at'
+pub asked_more : (ks : List Ask) (k : Ask) (at at' : List LedgerView) → EachAsk ks at at' → AskTrace k.op k.code (ledger at k.manager) (ledger at' k.manager)
+    → EachAsk (ks ++ k ∷ []) at at'
 asked_more [] k at at' h one = (one, tt)
 asked_more (j ∷ ks) k at at' h one = (h.0, asked_more ks k at at' h.1 one)
 
 -- the first request to a manager that nothing was sent to yet
-pub begins_flight : (k : Ask) (r : Option TicketView) (d0 d d' : DeskView) → ledger d.ledgers k.manager ≡ ledger d0.ledgers k.manager → IsKnown d.ledgers k.manager → BeginsAsk k d d' r → HasBegun k r d0.ledgers d'
+pub begins_flight : (k : Ask) (r : Option TicketView) (d0 d d' : DeskView) → ledger d.ledgers k.manager ≡ ledger d0.ledgers k.manager
+    → IsKnown d.ledgers k.manager → BeginsAsk k d d' r → HasBegun k r d0.ledgers d'
 begins_flight k None d0 d d' same known b =
     (subst (λ (a : LedgerView). IsUnsent a k.op) same b.1, ap (λ (e : DeskView). ledger e.ledgers k.manager) b.0 ∙ same)
 begins_flight k (Some t) d0 d d' same known b = record {
@@ -122,18 +131,21 @@ begins_flight k (Some t) d0 d d' same known b = record {
 }
 
 -- it takes one handle at most
-pub sent_takes_one : (k : Ask) (r : Option TicketView) (d d' : DeskView) → IsKnown d.ledgers k.manager → BeginsAsk k d d' r → outstanding d'.ledgers ≤ outstanding d.ledgers + 1
+pub sent_takes_one : (k : Ask) (r : Option TicketView) (d d' : DeskView) → IsKnown d.ledgers k.manager → BeginsAsk k d d' r
+    → outstanding d'.ledgers ≤ outstanding d.ledgers + 1
 sent_takes_one k None d d' known b = let z = ap (λ (e : DeskView). outstanding e.ledgers) b.0 in omega arith
 sent_takes_one k (Some t) d d' known b =
     let moved = began_moved k d d' (Some t) known b in
     let a : LedgerView = ledger d.ledgers k.manager in
     let is : with_sent a b.op ≡ sent_by a k.op = sym (at_false (learnt_shut a) _ _ b.open_) ∙ ap (sent_by a) (sym b.wanted) in
-    let open_ : outstanding d'.ledgers + open_count a ≡ outstanding d.ledgers + open_count (with_sent a b.op) = subst (λ (x : LedgerView). outstanding d'.ledgers + open_count a ≡ outstanding d.ledgers + open_count x) (sym is) moved.open_ in
+    let open_ : outstanding d'.ledgers + open_count a ≡ outstanding d.ledgers + open_count (with_sent a b.op) =
+    subst (λ (x : LedgerView). outstanding d'.ledgers + open_count a ≡ outstanding d.ledgers + open_count x) (sym is) moved.open_ in
     omega (arith, length-append a.sent (b.op ∷ []))
 
 -- ---- one is collected
 
-flight_manager : (k : Ask) (r : Option TicketView) (at : List LedgerView) (d : DeskView) → HasBegun k r at d → (t : TicketView) → r ≡ Some t → t.operation.manager ≡ k.manager
+flight_manager : (k : Ask) (r : Option TicketView) (at : List LedgerView) (d : DeskView) → HasBegun k r at d → (t : TicketView) → r ≡ Some t
+    → t.operation.manager ≡ k.manager
 flight_manager k None at d h t e = absurd (none_is t e)
   where
     none_is : (t : TicketView) → None ≡ Some t → ⊥
@@ -141,7 +153,8 @@ flight_manager k None at d h t e = absurd (none_is t e)
 flight_manager k (Some q) at d h t e = let same : q ≡ t = cc in ap (λ (z : TicketView). z.operation.manager) (sym same) ∙ ap (λ o. o.manager) h.operation
 
 -- the ledger moves by what was collected
-pub end_moves : (k : Ask) (r : Option TicketView) (code : Option Code) (at : List LedgerView) (d d' : DeskView) → IsKnown d.ledgers k.manager → HasBegun k r at d → Ends k d d' r code → Moved k.manager (collected_of (ledger d.ledgers k.manager) r code) d d'
+pub end_moves : (k : Ask) (r : Option TicketView) (code : Option Code) (at : List LedgerView) (d d' : DeskView) → IsKnown d.ledgers k.manager
+    → HasBegun k r at d → Ends k d d' r code → Moved k.manager (collected_of (ledger d.ledgers k.manager) r code) d d'
 end_moves k r code at d d' known h e = ended_moved k d d' r code (flight_manager k r at d h) known e
 
 unsent_trace : (k : Ask) (op : Option Op) (a a' : LedgerView) → IsUnsent a op → a' ≡ a → AskTrace op (unsent_code op) a a'
@@ -149,7 +162,8 @@ unsent_trace k None a a' h e = record { answered = refl; trace = e }
 unsent_trace k (Some op) a a' h e = record { answered = λ shut. refl; trace = e ∙ sym (at_true (learnt_shut a) _ _ h) }
 
 -- the manager was asked, and answered
-pub end_answers : (k : Ask) (r : Option TicketView) (code : Option Code) (at : List LedgerView) (d d' : DeskView) → HasBegun k r at d → Ends k d d' r code → ledger d'.ledgers k.manager ≡ collected_of (ledger d.ledgers k.manager) r code
+pub end_answers : (k : Ask) (r : Option TicketView) (code : Option Code) (at : List LedgerView) (d d' : DeskView) → HasBegun k r at d → Ends k d d' r code
+    → ledger d'.ledgers k.manager ≡ collected_of (ledger d.ledgers k.manager) r code
     → AskTrace k.op code (ledger at k.manager) (ledger d'.ledgers k.manager)
 unfolding collected_of
 end_answers k None code at d d' h e is =

@@ -1,6 +1,8 @@
 -- A round of requests: as they are collected one after another, and when all are.
-use Rattle.std.specs.Prelude.{◌≡◌, ℕ, ◌+◌, ◌-◌, ◌<◌, ◌≤◌, true, false, ◌||◌, ◌==◌, Option, None, Some, List, [], ◌∷◌, length, fold, refl}
+use Rattle.std.specs.Prelude.{◌≡◌, ℕ, ◌+◌, ◌-◌, ◌<◌, ◌≤◌, true, false, ◌||◌, ◌==◌, Option, None, Some, List, [], ◌∷◌, length, fold, map, refl}
 use Rattle.std.proofs.Common.{ap, ◌∙◌, subst, arith, get_or, set, suc, zero, length-append}
+use Rattle.std.specs.List.{All, list_any}
+use Rattle.std.proofs.lemmas.List.Elements.{All-nil, All-cons, All-head, All-tail}
 use Rattle.std.proofs.lemmas.Bool.{eqb-true, ne_eqb}
 use Rattle.xa_words.specs.declared.code.Code.{Code}
 use Rattle.xa_words.specs.declared.request.Op.{Op}
@@ -33,6 +35,18 @@ same_among [] (k ∷ ks) m s = absurd s
 same_among (j ∷ js) [] m s = absurd s
 same_among (j ∷ js) (k ∷ ks) m s = λ i. (s.0.manager i == m) || same_among js ks m s.1 i
 
+-- what holds of each that it is asked for holds of what is asked
+pub carried : {A : Type 0} (f : A → Ask) (P : A → Type 0) (Q : Ask → Type 0) → ((a : A) (k : Ask) → IsSameAsk (f a) k → P a → Q k)
+    → (xs : List A) (ks : List Ask) → SameAsks (map f xs) ks → All P xs → All Q ks
+carried f P Q so [] [] s all = All-nil Q
+carried f P Q so [] (k ∷ ks) s all = absurd s
+carried f P Q so (x ∷ xs) [] s all = absurd s
+carried f P Q so (x ∷ xs) (k ∷ ks) s all = All-cons Q k ks (so x k s.0 (All-head P x xs all)) (carried f P Q so xs ks s.1 (All-tail P x xs all))
+
+pub among_mapped : {A : Type 0} (f : A → Ask) (xs : List A) (m : ℕ) → among_asks (map f xs) m ≡ list_any (λ a. (f a).manager == m) xs
+among_mapped f [] m = refl
+among_mapped f (x ∷ xs) m = ap (λ b. ((f x).manager == m) || b) (among_mapped f xs m)
+
 -- what rises after a manager doesn't reach it
 pub behind : (lo m : ℕ) (ks : List Ask) → m ≤ lo → AreRising lo ks → among_asks ks m ≡ false
 behind lo m [] h r = refl
@@ -41,13 +55,14 @@ behind lo m (k ∷ ks) h r =
     (λ i. ne_eqb k.manager m (λ e. absurd (omega arith)) i || behind k.manager m ks (omega arith) r.1 i)
 
 -- what was sent was collected, so as many operations are outstanding as before
-open_asked : (a : LedgerView) (op : Option Op) (code : Option Code) → open_count (asked a op code) ≡ open_count a
+pub open_asked : (a : LedgerView) (op : Option Op) (code : Option Code) → open_count (asked a op code) ≡ open_count a
 open_asked a None code = refl
 open_asked a (Some op) None = refl
 open_asked a (Some op) (Some c) =
     by_if (λ (b : LedgerView). open_count b ≡ open_count a) (learnt_shut a) _ _ (λ _. refl) (λ _. omega (arith, length-append a.sent (op ∷ []), length-append a.collected ((length a.sent, c) ∷ [])))
 
-open_there : (ks : List Ask) (at at' : List LedgerView) (m : ℕ) → EachAsk ks at at' → among_asks ks m ≡ true → open_count (ledger at' m) ≡ open_count (ledger at m)
+open_there : (ks : List Ask) (at at' : List LedgerView) (m : ℕ) → EachAsk ks at at' → among_asks ks m ≡ true
+    → open_count (ledger at' m) ≡ open_count (ledger at m)
 open_there [] at at' m e there = cc
 open_there (k ∷ ks) at at' m e there =
     elim (k.manager == m) as (λ b. (k.manager == m) ≡ b → (b || among_asks ks m) ≡ true → open_count (ledger at' m) ≡ open_count (ledger at m)) [
@@ -61,7 +76,8 @@ open_at ks at at' m p h = elim (among_asks ks m) as (λ b. among_asks ks m ≡ b
   | false ↦ λ none. ap open_count (h.others m p none)
 ] refl
 
-same_sum : (f : LedgerView → ℕ) (d : LedgerView) (a b : ℕ) (xs ys : List LedgerView) → a ≡ b → length ys ≡ length xs → ((i : ℕ) → i < length xs → f (get_or ys i d) ≡ f (get_or xs i d))
+same_sum : (f : LedgerView → ℕ) (d : LedgerView) (a b : ℕ) (xs ys : List LedgerView) → a ≡ b → length ys ≡ length xs
+    → ((i : ℕ) → i < length xs → f (get_or ys i d) ≡ f (get_or xs i d))
     → fold (λ n x. n + f x) a ys ≡ fold (λ n x. n + f x) b xs
 same_sum f d a b [] [] e l h = e
 same_sum f d a b [] (y ∷ ys) e l h = absurd (omega arith)

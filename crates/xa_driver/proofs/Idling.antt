@@ -1,5 +1,6 @@
 -- For which managers a commit idles, one round after the other.
-use Rattle.std.proofs.Common.{◌≡◌, ℕ, zero, suc, ◌+◌, ◌≤◌, ◌<◌, length, length-append, length-set, arith, ◌==◌, ◌||◌, true, false, Option, None, Some, List, [], ◌∷◌, ◌++◌, refl, sym, ap, ◌∙◌, subst}
+use Rattle.std.proofs.Common.{◌≡◌, ℕ, zero, suc, ◌+◌, ◌≤◌, ◌<◌, length, length-append, length-set, arith, ◌==◌, ◌||◌, true, false, Option, None, Some, List, []}
+use Rattle.std.proofs.Common.{◌∷◌, ◌++◌, refl, sym, ap, ◌∙◌, subst}
 use Rattle.std.specs.Prelude.{Bool, IfNone, MatchOption, OnSome, map}
 use Rattle.std.specs.List.{slice_get}
 use Rattle.std.proofs.lemmas.Bool.{eq-eqb}
@@ -16,7 +17,7 @@ use Rattle.xa_driver.specs.declared.round.Round.{Round}
 use Rattle.xa_driver.specs.Asks.{HasBegun, SameAsks, among_asks}
 use Rattle.xa_driver.specs.Idling.{IdlesAt, IdlesToCollect, IdlesToSend, again, never, sent, unsent}
 use Rattle.xa_driver.specs.UnderWay.{Collects, IsSent, IsUnderWay, Sends, Stays, coded, next_ask, next_ticket, sent_count}
-use Rattle.xa_driver.specs.Log.{LogState}
+use Rattle.xa_log.specs.Log.{LogState}
 use Rattle.xa_driver.specs.Rounds.{first_ask}
 use Rattle.xa_driver.specs.Stages.{HasDecided, HasPrepared, HasTold}
 use Rattle.xa_driver.specs.Trace.{has_branch_at}
@@ -25,7 +26,7 @@ use Rattle.xa_driver.specs.declared.stages.Prepared.{Prepared}
 use Rattle.xa_driver.specs.declared.stages.Decided.{Decided}
 use Rattle.xa_driver.specs.declared.stages.Told.{Told}
 use Rattle.xa_driver.proofs.Calls.{among_first, among_second}
-use Rattle.xa_driver.proofs.Staged.{seconds_are}
+use Rattle.xa_driver.proofs.OneCall.{seconds_are}
 use Rattle.xa_driver.proofs.Gathering.{same_among}
 use Rattle.xa_driver.proofs.Stepping.{first_one}
 
@@ -58,17 +59,21 @@ module _ {I : Type 0} (by : ℕ → I → I → Type 0) where
   idles_here these m zero x y there e = never y e
   idles_here these m (suc n) x y there (mid, q, one) = again m mid y (idles_here these m n x mid there q) there one
 
-  waits_here : (missing : DeskView → Type 0) (these : ℕ → Bool) (m : ℕ) (old : DeskView) (x : I) (new : DeskView) (y : I) → these m ≡ true → Waits missing (by m) old x new y → IdlesAt by these x y
+  waits_here : (missing : DeskView → Type 0) (these : ℕ → Bool) (m : ℕ) (old : DeskView) (x : I) (new : DeskView) (y : I) → these m ≡ true
+      → Waits missing (by m) old x new y → IdlesAt by these x y
   waits_here missing these m old x new y there (begins d w e f) = never w f
   waits_here missing these m old x new y there (idles now d mid w q look none one) = again m mid w (waits_here missing these m old x now mid there q) there one
 
-  pub waited_here : (these : ℕ → Bool) (m : ℕ) (old new : DeskView) (x y : I) (o : Operation) (code : Code) → these m ≡ true → WaitsFor (by m) old new x y o code → IdlesAt by these x y
+  pub waited_here : (these : ℕ → Bool) (m : ℕ) (old new : DeskView) (x y : I) (o : Operation) (code : Code) → these m ≡ true
+      → WaitsFor (by m) old new x y o code → IdlesAt by these x y
   waited_here these m old new x y o code there w = waits_here (IsMissing o) these m old x w.now y there w.waits
 
   -- ---- a step of a round
 
   -- the request was sent, or it wasn't
-  pub sends_so : (k : Ask) (op : Op) (r : Option TicketView) (old new : DeskView) (x y : I) → k.op ≡ Some op → IfNone r (new ≡ old) → OnSome r ((fulls : ℕ) × ((new ≡ submitted (after_fulls fulls old k.manager) k.manager op) × Idles (by k.manager) fulls x y)) → IfNone r (y ≡ x) → IdlesToSend by k old new x y
+  pub sends_so : (k : Ask) (op : Op) (r : Option TicketView) (old new : DeskView) (x y : I) → k.op ≡ Some op → IfNone r (new ≡ old)
+      → OnSome r ((fulls : ℕ) × ((new ≡ submitted (after_fulls fulls old k.manager) k.manager op) × Idles (by k.manager) fulls x y)) → IfNone r (y ≡ x)
+      → IdlesToSend by k old new x y
   sends_so k op None old new x y is same waited still = unsent same still
   sends_so k op (Some t) old new x y is same (n, (put, idly)) still = sent op n is put idly
 
@@ -76,13 +81,15 @@ module _ {I : Type 0} (by : ℕ → I → I → Type 0) where
   sends_here these k old new x y there (unsent same e) = never y e
   sends_here these k old new x y there (sent op fulls is put idly) = idles_here these k.manager fulls x y there idly
 
-  collects_here : (these : ℕ → Bool) (t : Option TicketView) (k : Ask) (from : List LedgerView) (now old new : DeskView) (x y : I) → these k.manager ≡ true → HasBegun k t from now → IdlesToCollect by t old new x y → IdlesAt by these x y
+  collects_here : (these : ℕ → Bool) (t : Option TicketView) (k : Ask) (from : List LedgerView) (now old new : DeskView) (x y : I) → these k.manager ≡ true
+      → HasBegun k t from now → IdlesToCollect by t old new x y → IdlesAt by these x y
   collects_here these None k from now old new x y there begun e = never y e
   collects_here these (Some t) k from now old new x y there begun (code, w) =
       waited_here these t.operation.manager old new x y t.operation code (ap (λ (o : Operation). these o.manager) begun.operation ∙ there) w
 
   -- one more is sent of the requests of a round
-  pub send_on : (first : List Ask) (r : Round) (old new : DeskView) (x y z : I) → SameAsks first r.asks.items → IdlesAt by (among_asks first) x y → MatchOption (next_ask r) (z ≡ y) (λ k. IdlesToSend by k old new y z) → IdlesAt by (among_asks first) x z
+  pub send_on : (first : List Ask) (r : Round) (old new : DeskView) (x y z : I) → SameAsks first r.asks.items → IdlesAt by (among_asks first) x y
+      → MatchOption (next_ask r) (z ≡ y) (λ k. IdlesToSend by k old new y z) → IdlesAt by (among_asks first) x z
   send_on first r old new x y z same before step =
       elim (next_ask r) as (λ o. next_ask r ≡ o → MatchOption o (z ≡ y) (λ k. IdlesToSend by k old new y z) → IdlesAt by (among_asks first) x z) [
         | None ↦ λ e still. subst (IdlesAt by (among_asks first) x) (sym still) before
@@ -91,7 +98,8 @@ module _ {I : Type 0} (by : ℕ → I → I → Type 0) where
       ] refl step
 
   -- and one more collected
-  pub collect_on : (first : List Ask) (r : Round) (old new : DeskView) (x y z : I) → IsUnderWay r old → SameAsks first r.asks.items → IdlesAt by (among_asks first) x y → MatchOption (next_ticket r) (z ≡ y) (λ t. IdlesToCollect by t old new y z) → IdlesAt by (among_asks first) x z
+  pub collect_on : (first : List Ask) (r : Round) (old new : DeskView) (x y z : I) → IsUnderWay r old → SameAsks first r.asks.items
+      → IdlesAt by (among_asks first) x y → MatchOption (next_ticket r) (z ≡ y) (λ t. IdlesToCollect by t old new y z) → IdlesAt by (among_asks first) x z
   collect_on first r old new x y z u same before step =
       elim (r.tickets.items) as (λ l. r.tickets.items ≡ l → MatchOption (slice_get l 0) (z ≡ y) (λ t. IdlesToCollect by t old new y z) → IdlesAt by (among_asks first) x z) [
         | [] ↦ λ e still. subst (IdlesAt by (among_asks first) x) (sym still) before
@@ -107,20 +115,25 @@ module _ {I : Type 0} (by : ℕ → I → I → Type 0) where
 
 module _ {I : Type 0} (by : ℕ → I → I → Type 0) where
   -- the same managers are asked
-  pub idles_same : (ks js : List Ask) (x y : I) → ((m : ℕ) → among_asks js m ≡ among_asks ks m) → IdlesAt by (among_asks js) x y → IdlesAt by (among_asks ks) x y
+  pub idles_same : (ks js : List Ask) (x y : I) → ((m : ℕ) → among_asks js m ≡ among_asks ks m) → IdlesAt by (among_asks js) x y
+      → IdlesAt by (among_asks ks) x y
   idles_same ks js x y same idly = idles_more by (among_asks js) (among_asks ks) x y (λ m there. sym (same m) ∙ there) idly
 
   -- what is sent and then collected
-  pub round_idles : (first : List Ask) (now : List Ask) (x y z : I) → SameAsks first now → IdlesAt by (among_asks first) x y → IdlesAt by (among_asks now) y z → IdlesAt by (among_asks first) x z
+  pub round_idles : (first : List Ask) (now : List Ask) (x y z : I) → SameAsks first now → IdlesAt by (among_asks first) x y → IdlesAt by (among_asks now) y z
+      → IdlesAt by (among_asks first) x z
   round_idles first now x y z same a b = idles_chain by (among_asks first) x y z a (idles_same first now y z (λ m. same_among first now m same) b)
 
   -- those of a round are at the managers of the branches
-  pub first_idles : (bs : List Branch) (ks : List Ask) (x y : I) → SameAsks (map first_ask bs) ks → IdlesAt by (among_asks ks) x y → IdlesAt by (has_branch_at bs) x y
+  pub first_idles : (bs : List Branch) (ks : List Ask) (x y : I) → SameAsks (map first_ask bs) ks → IdlesAt by (among_asks ks) x y
+      → IdlesAt by (has_branch_at bs) x y
   first_idles bs ks x y same idly = idles_more by (among_asks ks) (has_branch_at bs) x y (λ m there. sym (among_first bs ks m same) ∙ there) idly
 
   -- and so are those of all rounds
-  pub all_idle : (bs : List Branch) (old mid late new : List LedgerView) (log later : LogState) (p : Prepared) (d : Decided) (t : Told) (w x y z : I) → HasPrepared bs old mid p → HasDecided p log later d → HasTold d mid late t
-      → IdlesAt by (has_branch_at bs) w x → IdlesAt by (among_asks d.round.asks.items) x y → IdlesAt by (among_asks t.round.asks.items) y z → IdlesAt by (has_branch_at bs) w z
+  pub all_idle : (bs : List Branch) (old mid late new : List LedgerView) (log later : LogState) (p : Prepared) (d : Decided) (t : Told) (w x y z : I)
+      → HasPrepared bs old mid p → HasDecided p log later d → HasTold d mid late t
+      → IdlesAt by (has_branch_at bs) w x → IdlesAt by (among_asks d.round.asks.items) x y → IdlesAt by (among_asks t.round.asks.items) y z
+      → IdlesAt by (has_branch_at bs) w z
   all_idle bs old mid late new log later p d t w x y z first second third a b c =
       let ks : List Ask = p.round.asks.items in
       let js : List Ask = t.round.asks.items in
@@ -137,7 +150,9 @@ none_beyond (k ∷ ks) zero e = cc
 none_beyond (k ∷ ks) (suc n) e = let z = none_beyond ks n e in omega (arith, z)
 
 -- where fewer than all were sent one more is
-pub send_reaches : (r new : Round) (desk now : DeskView) (b : Bool) (n : ℕ) → MatchOption (next_ask r) ((b ≡ false) × Stays r new desk now) (λ k. (b ≡ true) × Sends k r new desk now) → n ≤ sent_count r → n < length r.asks.items → n + 1 ≤ sent_count new
+pub send_reaches : (r new : Round) (desk now : DeskView) (b : Bool) (n : ℕ)
+    → MatchOption (next_ask r) ((b ≡ false) × Stays r new desk now) (λ k. (b ≡ true) × Sends k r new desk now) → n ≤ sent_count r → n < length r.asks.items
+    → n + 1 ≤ sent_count new
 send_reaches r new desk now b n step so_far below =
     elim (next_ask r) as (λ o. next_ask r ≡ o → MatchOption o ((b ≡ false) × Stays r new desk now) (λ k. (b ≡ true) × Sends k r new desk now) → n + 1 ≤ sent_count new) [
       | None ↦ λ e still.
@@ -152,7 +167,9 @@ send_reaches r new desk now b n step so_far below =
     ] refl step
 
 -- where all were sent, and fewer than all were collected, one more is
-pub collect_reaches : (r new : Round) (desk now : DeskView) (b : Bool) (n : ℕ) → MatchOption (next_ticket r) ((b ≡ false) × Stays r new desk now) (λ t. (b ≡ true) × Collects t r new desk now) → IsSent r → n ≤ r.collected → n < length r.asks.items
+pub collect_reaches : (r new : Round) (desk now : DeskView) (b : Bool) (n : ℕ)
+    → MatchOption (next_ticket r) ((b ≡ false) × Stays r new desk now) (λ t. (b ≡ true) × Collects t r new desk now) → IsSent r → n ≤ r.collected
+    → n < length r.asks.items
     → (n + 1 ≤ new.collected) × IsSent new × (length new.asks.items ≡ length r.asks.items)
 collect_reaches r new desk now b n step all so_far below =
     elim (r.tickets.items) as (λ l. r.tickets.items ≡ l → MatchOption (slice_get l 0) ((b ≡ false) × Stays r new desk now) (λ t. (b ≡ true) × Collects t r new desk now) → (n + 1 ≤ new.collected) × IsSent new × (length new.asks.items ≡ length r.asks.items)) [
@@ -163,6 +180,7 @@ collect_reaches r new desk now b n step all so_far below =
       | t ∷ ts ↦ λ e one.
           let x = ap (λ l. length l) one.1.tickets in
           let y = one.1.collected in
-          let long : length new.asks.items ≡ length r.asks.items = ap (λ l. length l) one.1.asks ∙ length-set r.asks.items r.collected (coded one.1.ask one.1.code) in
+          let long : length new.asks.items ≡ length r.asks.items =
+          ap (λ l. length l) one.1.asks ∙ length-set r.asks.items r.collected (coded one.1.ask one.1.code) in
           (omega (arith, y, so_far), omega (arith, x, y, long, all), long)
     ] refl step

@@ -29,10 +29,12 @@ one_remade f zero (k ∷ ks) d within = refl
 one_remade f (suc n) (k ∷ ks) d within = ap (λ l. f k ∷ l) (one_remade f n ks d (omega (arith, within)))
 
 -- one more is remade
-pub one_more_remade : (f : Ask → Ask) (n : ℕ) (ks now : List Ask) (k d : Ask) → n < length ks → now ≡ partly f n ks → k ≡ f (get_or now n d) → set now n k ≡ partly f (n + 1) ks
+pub one_more_remade : (f : Ask → Ask) (n : ℕ) (ks now : List Ask) (k d : Ask) → n < length ks → now ≡ partly f n ks → k ≡ f (get_or now n d)
+    → set now n k ≡ partly f (n + 1) ks
 one_more_remade f n ks now k d within is made =
     let one : suc n ≡ n + 1 = omega arith in
-    (λ i. set (is i) n (made i)) ∙ (λ i. set (partly f n ks) n (f (get_or (is i) n d))) ∙ ap (λ q. set (partly f n ks) n (f q)) (partly_rest f n ks d) ∙ one_remade f n ks d within ∙ ap (λ m. partly f m ks) one
+    (λ i. set (is i) n (made i)) ∙ (λ i. set (partly f n ks) n (f (get_or (is i) n d))) ∙ ap (λ q. set (partly f n ks) n (f q)) (partly_rest f n ks d)
+    ∙ one_remade f n ks d within ∙ ap (λ m. partly f m ks) one
 
 pub all_remade : (f : Ask → Ask) (n : ℕ) (ks : List Ask) → length ks ≤ n → partly f n ks ≡ map f ks
 all_remade f zero [] all = refl
@@ -76,7 +78,8 @@ module _ (f : Ask → Ask) (same : (k : Ask) → (f k).manager ≡ k.manager) wh
     remade_endings known endings = record { none = endings.none; room = let b = as_long in let room = endings.room in omega (arith, b, room) }
 
 -- a vector that was lent out and remade: it is cut to its length
-pub lent : (f : Ask → Ask) → ((k : Ask) → (f k).manager ≡ k.manager) → (n : ℕ) (asks before after rest : List Ask) → n ≡ length asks → after ≡ map f before → before ≡ asks → take n (after ++ rest) ≡ map f asks
+pub lent : (f : Ask → Ask) → ((k : Ask) → (f k).manager ≡ k.manager) → (n : ℕ) (asks before after rest : List Ask) → n ≡ length asks → after ≡ map f before
+    → before ≡ asks → take n (after ++ rest) ≡ map f asks
 lent f same n asks before after rest long made value =
     let is : after ≡ map f asks = made ∙ ap (map f) value in
     seam n after rest (long ∙ sym (ap (λ l. length l) is ∙ remade_long f same asks)) ∙ is

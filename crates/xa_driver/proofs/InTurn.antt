@@ -7,7 +7,7 @@ use Rattle.xa_words.specs.declared.code.Code.{Code}
 use Rattle.xa_words.specs.declared.request.Op.{Op}
 use Rattle.xa_switch.specs.Scans.{Asking, ScanView, left_at}
 use Rattle.xa_driver.specs.declared.resolved.Outcome.{Outcome}
-use Rattle.xa_driver.specs.Log.{Records}
+use Rattle.xa_log.specs.Log.{Records}
 use Rattle.xa_driver.specs.Resolving.{AsksIf, ResolvesAt, ResolvesBranch, ResolvesInTurn, begun, next}
 
 module _ {D E : Type 0} (f : D → E) where
@@ -25,11 +25,14 @@ module _ {D E : Type 0} (f : D → E) where
       forgets = asks_by _ _ r.decided e r.forgets;
     }
 
-    each_by : (records : Records) (m : ℕ) (d : D) (os : List Outcome) (e : D) → Chain (ResolvesBranch asking records m) d os e → Chain (ResolvesBranch other records m) (f d) os (f e)
+    each_by : (records : Records) (m : ℕ) (d : D) (os : List Outcome) (e : D) → Chain (ResolvesBranch asking records m) d os e
+        → Chain (ResolvesBranch other records m) (f d) os (f e)
     each_by records m d os e (none xs last nil same) = none xs (f last) nil (ap f same)
-    each_by records m d os e (more xs x now last before one) = more xs x (f now) (f last) (each_by records m d xs now before) (branch_by records m x now last one)
+    each_by records m d os e (more xs x now last before one) =
+        more xs x (f now) (f last) (each_by records m d xs now before) (branch_by records m x now last one)
 
-    at_by : (records : Records) (m : ℕ) (xs : List XidName) (os : List Outcome) (d e : D) → ResolvesAt asking records m xs os d e → ResolvesAt other records m xs os (f d) (f e)
+    at_by : (records : Records) (m : ℕ) (xs : List XidName) (os : List Outcome) (d e : D) → ResolvesAt asking records m xs os d e
+        → ResolvesAt other records m xs os (f d) (f e)
     at_by records m [] os d e (nil, same) = (nil, ap f same)
     at_by records m (x ∷ xs) os d e r = record {
       opened = f r.opened;
@@ -39,7 +42,9 @@ module _ {D E : Type 0} (f : D → E) where
       xids_are = r.xids_are;
     }
 
-  pub turns_by : (asking : ℕ → Asking D) (other : ℕ → Asking E) → ((m : ℕ) (d : D) (op : Op) (e : D) (code : Code) → asking m d op e code → other m (f d) op (f e) code) → (records : Records) (z : ScanView) (old : D) (n : ℕ) (os : List Outcome) (new : D)
+  pub turns_by : (asking : ℕ → Asking D) (other : ℕ → Asking E)
+      → ((m : ℕ) (d : D) (op : Op) (e : D) (code : Code) → asking m d op e code → other m (f d) op (f e) code)
+      → (records : Records) (z : ScanView) (old : D) (n : ℕ) (os : List Outcome) (new : D)
       → ResolvesInTurn asking records z old n os new → ResolvesInTurn other records z (f old) n os (f new)
   turns_by asking other is records z old n os new (begun outcomes last nil same) = begun outcomes (f last) nil (ap f same)
   turns_by asking other is records z old n os new (next k m xs ys all d e before here r grown) =

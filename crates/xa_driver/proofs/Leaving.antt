@@ -1,6 +1,7 @@
 -- A round that is left in the middle: what is in flight is kept under handles, and so is all that is outstanding.
 use Rattle.std.specs.Prelude.{◌⊎◌}
-use Rattle.std.proofs.Common.{◌≡◌, ℕ, ◌==◌, ◌||◌, ◌≤◌, inl, inr, ⊎_elim, false, true, Option, Some, None, List, [], ◌∷◌, ◌++◌, length, refl, sym, ap, ◌∙◌, subst, arith, length-append}
+use Rattle.std.proofs.Common.{◌≡◌, ℕ, ◌==◌, ◌||◌, ◌≤◌, inl, inr, ⊎_elim, false, true, Option, Some, None, List, [], ◌∷◌, ◌++◌, length, refl, sym, ap, ◌∙◌}
+use Rattle.std.proofs.Common.{subst, arith, length-append}
 use Rattle.std.specs.FinMap as map
 use Rattle.std.proofs.lemmas.Bool.{eqb-false, eqb-true}
 use Rattle.xa_base.proofs.Maps.{inserted_other, inserted_there}
@@ -38,18 +39,21 @@ rest_owned d d' None rs owned same = subst (λ (e : DeskView). OwnsAll e rs) (sy
 rest_owned d d' (Some t) rs owned leaves = others_owned d d' t.operation rs owned.1.0 leaves owned.1.1
 
 -- the tickets of a round are of different managers
-apart_above : (m lo : ℕ) (o : Operation) (ks : List Ask) (rs : List (Option TicketView)) (at : List LedgerView) (d : DeskView) → o.manager ≡ m → m ≤ lo → AreRising lo ks → EachBegan ks rs at d → AreApart o rs
+apart_above : (m lo : ℕ) (o : Operation) (ks : List Ask) (rs : List (Option TicketView)) (at : List LedgerView) (d : DeskView) → o.manager ≡ m → m ≤ lo
+    → AreRising lo ks → EachBegan ks rs at d → AreApart o rs
 apart_above m lo o [] [] at d is up rising began = tt
 apart_above m lo o [] (r ∷ rs) at d is up rising began = absurd began
 apart_above m lo o (k ∷ ks) [] at d is up rising began = absurd began
-apart_above m lo o (k ∷ ks) (None ∷ rs) at d is up rising began = let above = rising.0 in apart_above m k.manager o ks rs at d is (omega (arith, up, above)) rising.1 began.1
+apart_above m lo o (k ∷ ks) (None ∷ rs) at d is up rising began =
+    let above = rising.0 in apart_above m k.manager o ks rs at d is (omega (arith, up, above)) rising.1 began.1
 apart_above m lo o (k ∷ ks) (Some t ∷ rs) at d is up rising began =
     let above = rising.0 in (
       λ same. let number : k.manager ≡ m = ap (λ (p : Operation). p.manager) (sym began.0.operation ∙ same) ∙ is in omega (arith, up, above, number),
       apart_above m k.manager o ks rs at d is (omega (arith, up, above)) rising.1 began.1,
     )
 
-begun_owned : (lo : ℕ) (ks : List Ask) (rs : List (Option TicketView)) (at : List LedgerView) (d : DeskView) → AreRising lo ks → EachBegan ks rs at d → OwnsAll d rs
+begun_owned : (lo : ℕ) (ks : List Ask) (rs : List (Option TicketView)) (at : List LedgerView) (d : DeskView) → AreRising lo ks → EachBegan ks rs at d
+    → OwnsAll d rs
 begun_owned lo [] [] at d rising began = tt
 begun_owned lo [] (r ∷ rs) at d rising began = absurd began
 begun_owned lo (k ∷ ks) [] at d rising began = absurd began
@@ -98,13 +102,16 @@ nothing_left rs d = record { lists = refl; stays = λ k o is. is; others = λ t 
 kept_stays : (d d' : DeskView) (r : Option TicketView) → Keeps d d' r → LeavesKept d d'
 kept_stays d d' None same k o is = ap (λ (e : DeskView). map.get e.kept k) same ∙ is
 kept_stays d d' (Some t) (n, (free, made)) k o is =
-    ap (λ (e : DeskView). map.get e.kept k) made ∙ inserted_other d.kept n t.operation k (λ same. let no : None ≡ Some o = sym free ∙ ap (map.get d.kept) (sym same) ∙ is in cc) ∙ is
+    ap (λ (e : DeskView). map.get e.kept k) made
+    ∙ inserted_other d.kept n t.operation k (λ same. let no : None ≡ Some o = sym free ∙ ap (map.get d.kept) (sym same) ∙ is in cc) ∙ is
 
-other_owned : (d d' : DeskView) (r : Option TicketView) (rs all : List (Option TicketView)) → IsLast (r ∷ rs) all → LeavesOwned d d' r → LeavesOtherTickets all d d'
+other_owned : (d d' : DeskView) (r : Option TicketView) (rs all : List (Option TicketView)) → IsLast (r ∷ rs) all → LeavesOwned d d' r
+    → LeavesOtherTickets all d d'
 other_owned d d' None rs all last same t owned other = subst (λ (e : DeskView). Owns e t) (sym same) owned
 other_owned d d' (Some q) rs all last leaves t owned other = leaves t owned (λ same. other (last t.operation (inl (sym same))))
 
-pub left_more : (all : List (Option TicketView)) (d0 d d' : DeskView) (r : Option TicketView) (rs : List (Option TicketView)) → IsLast (r ∷ rs) all → LeavesInFlight all d0 d → Keeps d d' r → LeavesOwned d d' r → LeavesInFlight all d0 d'
+pub left_more : (all : List (Option TicketView)) (d0 d d' : DeskView) (r : Option TicketView) (rs : List (Option TicketView)) → IsLast (r ∷ rs) all
+    → LeavesInFlight all d0 d → Keeps d d' r → LeavesOwned d d' r → LeavesInFlight all d0 d'
 left_more all d0 d d' r rs last left kept owned = record {
   lists = lists_kept d d' r kept ∙ left.lists;
   stays = λ k o is. kept_stays d d' r kept k o (left.stays k o is);
@@ -124,7 +131,8 @@ open_or_it a op n h =
       | false ↦ λ e. let differs = eqb-false n (length a.sent) e in let sent = h.sent in inl (record { sent = omega (arith, differs, sent, length-append a.sent (op ∷ [])); open_ = h.open_ })
     ] refl
 
-flying_open : (o : Operation) (ks : List Ask) (ts : List (Option TicketView)) (at : List LedgerView) (d : DeskView) → EachBegan ks ts at d → among_asks ks o.manager ≡ true → IsOpen o.number (ledger d.ledgers o.manager)
+flying_open : (o : Operation) (ks : List Ask) (ts : List (Option TicketView)) (at : List LedgerView) (d : DeskView) → EachBegan ks ts at d
+    → among_asks ks o.manager ≡ true → IsOpen o.number (ledger d.ledgers o.manager)
     → IsOpen o.number (ledger at o.manager) ⊎ IsAmong o ts
 flying_open o [] ts at d h there open_ = cc
 flying_open o (k ∷ ks) [] at d h there open_ = absurd h
@@ -137,7 +145,8 @@ flying_open o (k ∷ ks) (t ∷ ts) at d h there open_ =
     here : (t : Option TicketView) → HasBegun k t at d → k.manager ≡ o.manager → IsOpen o.number (ledger at o.manager) ⊎ IsAmong o (t ∷ ts)
     here None began same = inl (subst (IsOpen o.number) (ap (ledger d.ledgers) (sym same) ∙ began.1 ∙ ap (ledger at) same) open_)
     here (Some q) began same =
-        let sent_is : ledger d.ledgers o.manager ≡ with_sent (ledger at o.manager) began.op = ap (ledger d.ledgers) (sym same) ∙ began.sent ∙ ap (λ m. with_sent (ledger at m) began.op) same in
+        let sent_is : ledger d.ledgers o.manager ≡ with_sent (ledger at o.manager) began.op =
+        ap (ledger d.ledgers) (sym same) ∙ began.sent ∙ ap (λ m. with_sent (ledger at m) began.op) same in
         ⊎_elim (λ (p : IsOpen o.number (ledger at o.manager)). inl p)
         (λ (p : o.number ≡ length (ledger at o.manager).sent).
         inr (inl (began.operation ∙ (λ i. record { manager = same i; number = (ap (λ m. length (ledger at m).sent) same ∙ sym p) i }))))
@@ -158,7 +167,8 @@ done_open n m (k ∷ ks) at now h there open_ =
 
 not_among_both : (js ks : List Ask) (m : ℕ) → among_asks js m ≡ false → among_asks ks m ≡ false → among_asks (js ++ ks) m ≡ false
 not_among_both [] ks m a b = b
-not_among_both (j ∷ js) ks m a b = elim (j.manager == m) as (λ c. (c || among_asks js m) ≡ false → (c || among_asks (js ++ ks) m) ≡ false) [ true ↦ λ e. cc | false ↦ λ e. not_among_both js ks m e b ] a
+not_among_both (j ∷ js) ks m a b =
+    elim (j.manager == m) as (λ c. (c || among_asks js m) ≡ false → (c || among_asks (js ++ ks) m) ≡ false) [ true ↦ λ e. cc | false ↦ λ e. not_among_both js ks m e b ] a
 
 -- was kept as the round began, or is in flight
 pub all_but_flights : (r : Round) (now : DeskView) → IsUnderWay r now → AllKept r.before.value → AllKeptBut r.tickets.items now

@@ -15,7 +15,7 @@ use Rattle.xa_driver.specs.declared.done.Ending.{Ending}
 use Rattle.xa_driver.specs.declared.resolved.Outcome.{Outcome}
 use Rattle.xa_driver.specs.Course.{AsksFor, AtBranch}
 use Rattle.xa_driver.specs.Endings.{second_op, third_op, is_decided}
-use Rattle.xa_driver.specs.Log.{Records}
+use Rattle.xa_log.specs.Log.{Records}
 use Rattle.xa_driver.specs.Resolving.{AsksIf, ResolvesBranch, ResolvesAt, is_to_commit, outcome_op}
 
 -- ---- what is asked
@@ -50,11 +50,13 @@ module _ {D : Type 0} (A : Asking D) (P : Op → Type 0) (Q : D → Type 0) (on 
   for_by (Some op) (Some c) d e so asked q = on d e op c so asked q
 
   -- a commit at a branch
-  module _ (commit : Bool) (b : Branch) (vote : Code) (second : Option Code) (ending : Ending) (old new : D) (is : AtBranch A commit b vote second ending old new)
+  module _ (commit : Bool) (b : Branch) (vote : Code) (second : Option Code) (ending : Ending) (old new : D)
+      (is : AtBranch A commit b vote second ending old new)
       (told : IsAskedFor P (second_op commit b.xid vote)) (forgot : IsAskedFor P (third_op b.xid second)) where
     -- from its vote on
     pub rest_by : Q is.prepared → Q new
-    rest_by q = for_by (third_op b.xid second) is.third is.decided new forgot is.forgets (for_by (second_op commit b.xid vote) second is.prepared is.decided told is.obeys q)
+    rest_by q =
+        for_by (third_op b.xid second) is.third is.decided new forgot is.forgets (for_by (second_op commit b.xid vote) second is.prepared is.decided told is.obeys q)
 
     pub branch_by : P (Prepare b.xid) → Q old → Q new
     branch_by asks q = rest_by (on old is.prepared (Prepare b.xid) vote asks is.prepares q)
@@ -68,12 +70,14 @@ module _ {D : Type 0} (A : Asking D) (P : Op → Type 0) (Q : D → Type 0) (on 
   outcome_by records m o d e so is q =
       if_by (is_decided o.code) (Forget o.xid) is.decided e (so.forgets is.manager) is.forgets (on d is.decided (outcome_op o.commit o.xid) o.code (so.ends is.manager is.decision) is.obeys q)
 
-  pub outcomes_by : (records : Records) (m : ℕ) (d : D) (os : List Outcome) (e : D) → ((o : Outcome) → Contains os o → Asks P records m o) → Chain (ResolvesBranch A records m) d os e → Q d → Q e
+  pub outcomes_by : (records : Records) (m : ℕ) (d : D) (os : List Outcome) (e : D) → ((o : Outcome) → Contains os o → Asks P records m o)
+      → Chain (ResolvesBranch A records m) d os e → Q d → Q e
   outcomes_by records m d os e so (none xs last z same) q = subst Q (sym same) q
   outcomes_by records m d os e so (more xs o now last before is) q =
       outcome_by records m o now last (so o (Contains-push xs o)) is (outcomes_by records m d xs now (λ p there. so p (Contains-append_left xs (o ∷ []) p there)) before q)
 
-  pub resolves_by : (records : Records) (m : ℕ) (xs : List XidName) (os : List Outcome) (d e : D) → P OpenRm → ((o : Outcome) → Contains os o → Asks P records m o) → ResolvesAt A records m xs os d e → Q d → Q e
+  pub resolves_by : (records : Records) (m : ℕ) (xs : List XidName) (os : List Outcome) (d e : D) → P OpenRm
+      → ((o : Outcome) → Contains os o → Asks P records m o) → ResolvesAt A records m xs os d e → Q d → Q e
   resolves_by records m [] os d e opens so is q = subst Q (sym is.1) q
   resolves_by records m (x ∷ xs) os d e opens so is q = outcomes_by records m is.opened os e so is.each (on d is.opened OpenRm is.code opens is.opens q)
 
@@ -97,7 +101,8 @@ module _ {D E : Type 0} (A : Asking D) (B : Asking E) (f : D → E) (Q P : D →
   for_mapped (Some op) (Some c) d e asked q p = step d e op c asked q p
 
   -- a commit at a branch
-  module _ (commit : Bool) (b : Branch) (vote : Code) (second : Option Code) (ending : Ending) (old new : D) (is : AtBranch A commit b vote second ending old new) where
+  module _ (commit : Bool) (b : Branch) (vote : Code) (second : Option Code) (ending : Ending) (old new : D)
+      (is : AtBranch A commit b vote second ending old new) where
     pub branch_mapped : Q old → P new → AtBranch B commit b vote second ending (f old) (f new)
     branch_mapped q p =
         let q1 : Q is.prepared = on old is.prepared (Prepare b.xid) vote is.prepares q in
@@ -146,7 +151,8 @@ module _ {D E : Type 0} (A : Asking D) (B : Asking E) (f : D → E) (Q P : D →
     all_mapped d os e (more xs o now last before is) q p =
         more xs o (f now) (f last) (all_mapped d xs now before q (outcome_back o now last is p)) (outcome_mapped o now last is (all_on d xs now before q) p)
 
-    pub resolves_mapped : (xids : List XidName) (os : List Outcome) (d e : D) → ResolvesAt A records m xids os d e → Q d → P e → ResolvesAt B records m xids os (f d) (f e)
+    pub resolves_mapped : (xids : List XidName) (os : List Outcome) (d e : D) → ResolvesAt A records m xids os d e → Q d → P e
+        → ResolvesAt B records m xids os (f d) (f e)
     resolves_mapped [] os d e is q p = (is.0, ap f is.1)
     resolves_mapped (x ∷ xs) os d e is q p = record {
       opened = f is.opened;

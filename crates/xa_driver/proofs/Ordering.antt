@@ -1,5 +1,6 @@
 -- The order of what a round sends and collects.
-use Rattle.std.proofs.Common.{◌≡◌, ◌+◌, ◌≤◌, ℕ, Bool, true, false, List, [], ◌∷◌, ◌++◌, length, drop, Option, None, Some, refl, sym, ap, ap₂, ◌∙◌, subst, append_assoc, append-nil, arith}
+use Rattle.std.proofs.Common.{◌≡◌, ◌+◌, ◌≤◌, ℕ, Bool, true, false, List, [], ◌∷◌, ◌++◌, length, drop, Option, None, Some, refl, sym, ap, ap₂, ◌∙◌, subst}
+use Rattle.std.proofs.Common.{append_assoc, append-nil, arith}
 use Rattle.std.specs.Prelude.{not, if◌then◌else◌, MatchOption}
 use Rattle.std.proofs.lemmas.List.{map-append, length-append}
 use Rattle.std.proofs.Math.Seq.{drop-append_seam}
@@ -29,8 +30,10 @@ operations-append (Some t ∷ ts) us = ap (λ l. t.operation ∷ l) (operations-
 sends_none : (ts : List (Option TicketView)) (d : DeskView) → SendsMore ts (ts ++ None ∷ []) d d
 sends_none ts d = record { more = []; events = sym (append-nil d.events); tickets = operations-append ts (None ∷ []) }
 
-sends_ticket : (k : Ask) (ts ts' : List (Option TicketView)) (old new : DeskView) (r : Option TicketView) → BeginsAsk k old new r → ts' ≡ ts ++ r ∷ [] → SendsMore ts ts' old new
-sends_ticket k ts ts' old new None began is = subst (λ l. SendsMore ts l old new) (sym is) (subst (λ (d : DeskView). SendsMore ts (ts ++ None ∷ []) old d) (sym began.0) (sends_none ts old))
+sends_ticket : (k : Ask) (ts ts' : List (Option TicketView)) (old new : DeskView) (r : Option TicketView) → BeginsAsk k old new r → ts' ≡ ts ++ r ∷ []
+    → SendsMore ts ts' old new
+sends_ticket k ts ts' old new None began is =
+    subst (λ l. SendsMore ts l old new) (sym is) (subst (λ (d : DeskView). SendsMore ts (ts ++ None ∷ []) old d) (sym began.0) (sends_none ts old))
 sends_ticket k ts ts' old new (Some t) began is = record {
   more = t.operation ∷ [];
   events = began.event ∙ ap (λ (u : TicketView). old.events ++ Sent u.operation ∷ []) (sym began.ticket);
@@ -42,14 +45,18 @@ pub sends_stay : (ts : List (Option TicketView)) (d : DeskView) → SendsMore ts
 sends_stay ts d = record { more = []; events = sym (append-nil d.events); tickets = sym (append-nil (operations_of ts)) }
 
 -- a step that sends, whether there was a request to send or not
-pub step_sends : (next : Option Ask) (result : Bool) (old new : Round) (desk now : DeskView) → MatchOption next ((result ≡ false) × Stays old new desk now) (λ k. (result ≡ true) × Sends k old new desk now) → SendsMore old.tickets.items new.tickets.items desk now
+pub step_sends : (next : Option Ask) (result : Bool) (old new : Round) (desk now : DeskView)
+    → MatchOption next ((result ≡ false) × Stays old new desk now) (λ k. (result ≡ true) × Sends k old new desk now)
+    → SendsMore old.tickets.items new.tickets.items desk now
 step_sends None result old new desk now (is, stays) =
     subst (λ (r : Round). SendsMore old.tickets.items r.tickets.items desk now) (sym stays.round)
     (subst (λ (d : DeskView). SendsMore old.tickets.items old.tickets.items desk d) (sym stays.still) (sends_stay old.tickets.items desk))
 step_sends (Some k) result old new desk now (is, sends) = sends_ticket k old.tickets.items new.tickets.items desk now sends.ticket sends.began sends.tickets
 
 -- and it leaves what was collected, and what is asked
-pub step_sends_keeps : (next : Option Ask) (result : Bool) (old new : Round) (desk now : DeskView) → MatchOption next ((result ≡ false) × Stays old new desk now) (λ k. (result ≡ true) × Sends k old new desk now) → (new.asks ≡ old.asks) × (new.collected ≡ old.collected)
+pub step_sends_keeps : (next : Option Ask) (result : Bool) (old new : Round) (desk now : DeskView)
+    → MatchOption next ((result ≡ false) × Stays old new desk now) (λ k. (result ≡ true) × Sends k old new desk now)
+    → (new.asks ≡ old.asks) × (new.collected ≡ old.collected)
 step_sends_keeps None result old new desk now (is, stays) = (ap (λ (r : Round). r.asks) stays.round, ap (λ (r : Round). r.collected) stays.round)
 step_sends_keeps (Some k) result old new desk now (is, sends) = (sends.asks, sends.collected)
 
@@ -67,19 +74,24 @@ sends_on ts us vs a b c first later = record {
 collected_event : (old new : DeskView) (o : Operation) (c : Code) → CollectsOne old new o c → new.events ≡ old.events ++ Collected o ∷ []
 collected_event old new o c is = ap (λ (d : DeskView). d.events) is.collected ∙ ap (λ (d : DeskView). d.events ++ Collected o ∷ []) is.looks.rest
 
-collects_ticket : (k : Ask) (ts ts' : List (Option TicketView)) (old new : DeskView) (r : Option TicketView) (code : Option Code) → Ends k old new r code → ts ≡ r ∷ ts' → CollectsFirst ts ts' old new
+collects_ticket : (k : Ask) (ts ts' : List (Option TicketView)) (old new : DeskView) (r : Option TicketView) (code : Option Code) → Ends k old new r code
+    → ts ≡ r ∷ ts' → CollectsFirst ts ts' old new
 collects_ticket k ts ts' old new None code ended is =
     record { first = []; events = ap (λ (d : DeskView). d.events) ended.0 ∙ sym (append-nil old.events); tickets = ap operations_of is }
-collects_ticket k ts ts' old new (Some t) code (c, (coded, one)) is = record { first = t.operation ∷ []; events = collected_event old new t.operation c one; tickets = ap operations_of is }
+collects_ticket k ts ts' old new (Some t) code (c, (coded, one)) is =
+    record { first = t.operation ∷ []; events = collected_event old new t.operation c one; tickets = ap operations_of is }
 
-pub step_collects : (next : Option (Option TicketView)) (result : Bool) (old new : Round) (desk now : DeskView) → MatchOption next ((result ≡ false) × Stays old new desk now) (λ t. (result ≡ true) × Collects t old new desk now) → CollectsFirst old.tickets.items new.tickets.items desk now
+pub step_collects : (next : Option (Option TicketView)) (result : Bool) (old new : Round) (desk now : DeskView)
+    → MatchOption next ((result ≡ false) × Stays old new desk now) (λ t. (result ≡ true) × Collects t old new desk now)
+    → CollectsFirst old.tickets.items new.tickets.items desk now
 step_collects None result old new desk now (is, stays) =
     subst (λ (r : Round). CollectsFirst old.tickets.items r.tickets.items desk now) (sym stays.round)
     (subst (λ (d : DeskView). CollectsFirst old.tickets.items old.tickets.items desk d) (sym stays.still) (collects_none_yet old.tickets.items desk))
   where
     collects_none_yet : (ts : List (Option TicketView)) (d : DeskView) → CollectsFirst ts ts d d
     collects_none_yet ts d = record { first = []; events = sym (append-nil d.events); tickets = refl }
-step_collects (Some t) result old new desk now (is, collects) = collects_ticket collects.ask old.tickets.items new.tickets.items desk now t collects.code collects.ended collects.tickets
+step_collects (Some t) result old new desk now (is, collects) =
+    collects_ticket collects.ask old.tickets.items new.tickets.items desk now t collects.code collects.ended collects.tickets
 
 pub collects_nothing : (ts : List (Option TicketView)) (d : DeskView) → CollectsFirst ts ts d d
 collects_nothing ts d = record { first = []; events = sym (append-nil d.events); tickets = refl }
@@ -96,11 +108,14 @@ collects_on ts us vs a b c before later = record {
 -- ---- what is in flight
 
 -- what has a ticket is what went out
-pub in_flight_sent : (ks : List Ask) (rs : List (Option TicketView)) (at : List LedgerView) (d : DeskView) → EachBegan ks rs at d → operations_of rs ≡ sent_of ks at
+pub in_flight_sent : (ks : List Ask) (rs : List (Option TicketView)) (at : List LedgerView) (d : DeskView) → EachBegan ks rs at d
+    → operations_of rs ≡ sent_of ks at
 in_flight_sent [] [] at d each = refl
 in_flight_sent [] (r ∷ rs) at d each = absurd each
 in_flight_sent (k ∷ ks) [] at d each = absurd each
-in_flight_sent (k ∷ ks) (None ∷ rs) at d (begun, each) = in_flight_sent ks rs at d each ∙ sym (ap (λ b. if b then next_operation at k.manager ∷ sent_of ks at else sent_of ks at) (stays_in k.op (ledger at k.manager) begun.0))
+in_flight_sent (k ∷ ks) (None ∷ rs) at d (begun, each) =
+    in_flight_sent ks rs at d each
+    ∙ sym (ap (λ b. if b then next_operation at k.manager ∷ sent_of ks at else sent_of ks at) (stays_in k.op (ledger at k.manager) begun.0))
   where
     stays_in : (op : Option Op) (a : LedgerView) → IsUnsent a op → goes_out op a ≡ false
     stays_in None a unsent = refl
@@ -130,13 +145,15 @@ drop_done : (done l : List Ask) (n : ℕ) → length done ≡ n → drop n (done
 drop_done done l n is = ap (λ k. drop k (done ++ l)) (sym is) ∙ drop-append_seam done l
 
 -- once all is sent, what has a ticket is what goes out of all that wasn't collected
-pub all_in_flight : (r : Round) (now : DeskView) (u : IsUnderWay r now) → IsSent r → operations_of r.tickets.items ≡ sent_of (drop r.collected r.asks.items) r.before.value.ledgers
+pub all_in_flight : (r : Round) (now : DeskView) (u : IsUnderWay r now) → IsSent r
+    → operations_of r.tickets.items ≡ sent_of (drop r.collected r.asks.items) r.before.value.ledgers
 all_in_flight r now u sent =
     let at = r.before.value.ledgers in
     let many = as_many u.flying r.tickets.items at now u.in_flight in
     let parts = ap (λ l. length l) u.parts in
     let counted = u.counted in
-    let none : u.rest ≡ [] = no_elements u.rest (omega (arith, sent, many, parts, counted, length-append u.done (u.flying ++ u.rest), length-append u.flying u.rest)) in
+    let none : u.rest ≡ [] =
+    no_elements u.rest (omega (arith, sent, many, parts, counted, length-append u.done (u.flying ++ u.rest), length-append u.flying u.rest)) in
     let left : drop r.collected r.asks.items ≡ u.flying =
     ap (drop r.collected) u.parts ∙ drop_done u.done (u.flying ++ u.rest) r.collected counted ∙ ap (λ l. u.flying ++ l) none ∙ append-nil u.flying in
     in_flight_sent u.flying r.tickets.items at now u.in_flight ∙ ap (λ l. sent_of l at) (sym left)
@@ -147,11 +164,14 @@ none_in_flight r now u all =
     let at = r.before.value.ledgers in
     let parts = ap (λ l. length l) u.parts in
     let counted = u.counted in
-    let none : u.flying ≡ [] = no_elements u.flying (omega (arith, all, parts, counted, length-append u.done (u.flying ++ u.rest), length-append u.flying u.rest)) in
+    let none : u.flying ≡ [] =
+    no_elements u.flying (omega (arith, all, parts, counted, length-append u.done (u.flying ++ u.rest), length-append u.flying u.rest)) in
     in_flight_sent u.flying r.tickets.items at now u.in_flight ∙ ap (λ l. sent_of l at) none
 
-pub finished_in_order : (first sent last : Round) (old mid new : DeskView) → SendsMore first.tickets.items sent.tickets.items old mid → (sent.asks ≡ first.asks) × (sent.collected ≡ first.collected) → sent.before ≡ first.before → IsUnderWay sent mid → IsSent sent
-    → CollectsFirst sent.tickets.items last.tickets.items mid new → IsUnderWay last new → length last.asks.items ≤ last.collected → SendsThenCollects first old new
+pub finished_in_order : (first sent last : Round) (old mid new : DeskView) → SendsMore first.tickets.items sent.tickets.items old mid
+    → (sent.asks ≡ first.asks) × (sent.collected ≡ first.collected) → sent.before ≡ first.before → IsUnderWay sent mid → IsSent sent
+    → CollectsFirst sent.tickets.items last.tickets.items mid new → IsUnderWay last new → length last.asks.items ≤ last.collected
+    → SendsThenCollects first old new
 finished_in_order first sent last old mid new sends same before under_way all collects ended none =
     let gone : operations_of first.tickets.items ++ sends.more ≡ collects.first =
     sym sends.tickets ∙ collects.tickets ∙ ap (λ l. collects.first ++ l) (none_in_flight last new ended none) ∙ append-nil collects.first in
@@ -166,7 +186,8 @@ finished_in_order first sent last old mid new sends same before under_way all co
     }
 
 -- of a round of which nothing was sent, that is all of it
-pub whole_in_order : (r : Round) (js : List Ask) (old new : DeskView) → SendsThenCollects r old new → sent_count r ≡ 0 → r.before.value ≡ old → SameAsks js r.asks.items → GoesAsRound js old new
+pub whole_in_order : (r : Round) (js : List Ask) (old new : DeskView) → SendsThenCollects r old new → sent_count r ≡ 0 → r.before.value ≡ old
+    → SameAsks js r.asks.items → GoesAsRound js old new
 whole_in_order r js old new is none before same =
     let no_tickets : r.tickets.items ≡ [] = no_elements r.tickets.items (omega (arith, none)) in
     let first : r.collected ≡ 0 = omega (arith, none) in

@@ -1,5 +1,6 @@
 -- Branches of a round that are asked nothing.
-use Rattle.std.proofs.Common.{◌≡◌, ◌≢◌, ℕ, ◌+◌, ◌<◌, get_or, true, false, Option, None, Some, List, [], ◌∷◌, length, length-append, refl, sym, ap, ◌∙◌, subst, arith}
+use Rattle.std.proofs.Common.{◌≡◌, ◌≢◌, ℕ, ◌+◌, ◌<◌, get_or, true, false, Option, None, Some, List, [], ◌∷◌, length, length-append, refl, sym, ap, ◌∙◌, subst}
+use Rattle.std.proofs.Common.{arith}
 use Rattle.std.specs.Prelude.{Bool, MatchOption, is_none, is_some, not}
 use Rattle.std.specs.List.{slice_get}
 use Rattle.std.proofs.lemmas.Option.{slice_get-get_or, slice_get_within}
@@ -8,9 +9,9 @@ use Rattle.xa_desk.specs.LedgerView.{LedgerView}
 use Rattle.xa_desk.specs.DeskView.{DeskView, TicketView}
 use Rattle.xa_driver.specs.declared.ask.Ask.{Ask}
 use Rattle.xa_driver.specs.declared.round.Round.{Round}
-use Rattle.xa_driver.specs.Asks.{BeginsAsk, HasBegun}
+use Rattle.xa_driver.specs.Asks.{BeginsAsk, HasBegun, SameAsks}
 use Rattle.xa_driver.specs.Idling.{IdlesToCollect, IdlesToSend, sent, unsent}
-use Rattle.xa_driver.specs.Steps.{CollectsNothing, Passes, asked_first, SendsNothing, is_passed, next_collected, passes}
+use Rattle.xa_driver.specs.Steps.{CollectsNothing, Passes, asked_first, SendsNothing, is_passed, next_collected, passes, starts}
 use Rattle.xa_driver.specs.UnderWay.{Collects, IsUnderWay, Sends, Stays, next_ask, next_ticket, sent_count}
 use Rattle.xa_driver.proofs.Stepping.{first_one, place_is, place_within}
 
@@ -27,27 +28,54 @@ idles_nothing : {I : Type 0} (by : ℕ → I → I → Type 0) (k : Ask) (desk n
 idles_nothing by k desk now x y none (unsent same e) = e
 idles_nothing by k desk now x y none (sent op fulls is put idly) = let e : None ≡ Some op = sym none ∙ is in cc
 
--- what a step does that passes one over
+-- Those that came next were passed over, each by this step, since the round, its desk and the idler were as at first.
 pub record Passed {I : Type 0} (step : Ask → Round → Round → Type 0) (old new : Round) (desk now : DeskView) (x y : I) : Type 0 where
+  pub under_way : IsUnderWay new now
   pub passed : Passes step old new
   pub desk_is : now ≡ desk
   pub idle_is : y ≡ x
+  pub before : new.before ≡ old.before
+  pub same : (js : List Ask) → SameAsks js old.asks.items → SameAsks js new.asks.items
 
-pub send_passes : {I : Type 0} (by : ℕ → I → I → Type 0) (first : DeskView) (old r new : Round) (desk now : DeskView) (x y : I) (b : Bool) → Passes (SendsNothing first) old r → desk ≡ first → is_passed (next_ask r) ≡ true
-    → MatchOption (next_ask r) ((b ≡ false) × Stays r new desk now) (λ k. (b ≡ true) × Sends k r new desk now) → MatchOption (next_ask r) (y ≡ x) (λ k. IdlesToSend by k desk now x y)
-    → Passed (SendsNothing first) old new desk now x y × (sent_count new ≡ sent_count r + 1) × (sent_count r < length r.asks.items) × (new.asks ≡ r.asks)
-send_passes by first old r new desk now x y b before at unasked step idly =
+pub none_passed : {I : Type 0} (step : Ask → Round → Round → Type 0) (r : Round) (desk : DeskView) (x : I) → IsUnderWay r desk → Passed step r r desk desk x x
+none_passed step r desk x u = record { under_way = u; passed = starts r refl; desk_is = refl; idle_is = refl; before = refl; same = λ js s. s }
+
+-- one more
+passed_on : {I : Type 0} {step : Ask → Round → Round → Type 0} {old r new : Round} {first desk now : DeskView} {x y z : I} → Passed step old r first desk x y
+    → IsUnderWay new now → Passes step old new → now ≡ desk → z ≡ y → new.before ≡ r.before
+    → ((js : List Ask) → SameAsks js r.asks.items → SameAsks js new.asks.items) → Passed step old new first now x z
+passed_on i u more desk_is idle_is before same =
+    record { under_way = u; passed = more; desk_is = desk_is ∙ i.desk_is; idle_is = idle_is ∙ i.idle_is; before = before ∙ i.before; same = λ js s. same js (i.same js s) }
+
+-- a step after them, as seen from the first
+pub step_is : {X I : Type 0} {step : Ask → Round → Round → Type 0} {old r : Round} {first desk : DeskView} {x y : I} → Passed step old r first desk x y
+    → (o : Option X) (P : DeskView → Type 0) (Q : X → DeskView → Type 0) → MatchOption o (P desk) (λ k. Q k desk) → MatchOption o (P first) (λ k. Q k first)
+step_is i o P Q h = subst (λ (d : DeskView). MatchOption o (P d) (λ k. Q k d)) i.desk_is h
+
+pub idles_is : {X I : Type 0} {step : Ask → Round → Round → Type 0} {old r : Round} {first desk : DeskView} {x y : I} → Passed step old r first desk x y
+    → (o : Option X) (z : I) (Q : X → DeskView → I → Type 0) → MatchOption o (z ≡ y) (λ k. Q k desk y) → MatchOption o (z ≡ x) (λ k. Q k first x)
+idles_is {I = I} {desk = desk} {x = x} i o z Q h =
+    subst (λ (d : DeskView). MatchOption o (z ≡ x) (λ k. Q k d x)) i.desk_is (subst (λ (w : I). MatchOption o (z ≡ w) (λ k. Q k desk w)) i.idle_is h)
+
+pub send_passes : {I : Type 0} (by : ℕ → I → I → Type 0) (first : DeskView) (old r new : Round) (desk now : DeskView) (w x y : I) (b : Bool)
+    → Passed (SendsNothing first) old r first desk w x → is_passed (next_ask r) ≡ true
+    → MatchOption (next_ask r) ((b ≡ false) × Stays r new desk now) (λ k. (b ≡ true) × Sends k r new desk now)
+    → MatchOption (next_ask r) (y ≡ x) (λ k. IdlesToSend by k desk now x y)
+    → IsUnderWay new now → new.before ≡ r.before → ((js : List Ask) → SameAsks js r.asks.items → SameAsks js new.asks.items)
+    → Passed (SendsNothing first) old new first now w y × (sent_count new ≡ sent_count r + 1) × (sent_count r < length r.asks.items) × (new.asks ≡ r.asks)
+send_passes by first old r new desk now w x y b i unasked step idly u before same =
     elim (next_ask r) as (λ o. next_ask r ≡ o → is_passed o ≡ true → MatchOption o ((b ≡ false) × Stays r new desk now) (λ k. (b ≡ true) × Sends k r new desk now) → MatchOption o (y ≡ x) (λ k. IdlesToSend by k desk now x y)
-    → Passed (SendsNothing first) old new desk now x y × (sent_count new ≡ sent_count r + 1) × (sent_count r < length r.asks.items) × (new.asks ≡ r.asks)) [
-      | None ↦ λ e p s i. cc
-      | Some k ↦ λ e p s i.
+    → Passed (SendsNothing first) old new first now w y × (sent_count new ≡ sent_count r + 1) × (sent_count r < length r.asks.items) × (new.asks ≡ r.asks)) [
+      | None ↦ λ e p s idly. cc
+      | Some k ↦ λ e p s idly.
           let none = none_asked k.op p in
           let still : now ≡ desk = begins_nothing k s.1.ticket desk now none s.1.began in
-          let here : Sends k r new first first = subst (λ (d : DeskView). Sends k r new d d) at (subst (λ (d : DeskView). Sends k r new desk d) still s.1) in
+          let here : Sends k r new first first =
+          subst (λ (d : DeskView). Sends k r new d d) i.desk_is (subst (λ (d : DeskView). Sends k r new desk d) still s.1) in
           let long = ap (λ l. length l) s.1.tickets in
           let more = length-append r.tickets.items (s.1.ticket ∷ []) in
           let count = s.1.collected in (
-            record { passed = passes k r new before none (e, here); desk_is = still; idle_is = idles_nothing by k desk now x y none i },
+            passed_on i u (passes k r new i.passed none (e, here)) still (idles_nothing by k desk now x y none idly) before same,
             omega (arith, long, more, count),
             slice_get_within r.asks.items (sent_count r) k e,
             s.1.asks,
@@ -59,33 +87,40 @@ ends_nothing : (k : Ask) (t : Option TicketView) (from : List LedgerView) (now :
 ends_nothing k None from now none h = refl
 ends_nothing k (Some t) from now none h = let e : None ≡ Some h.op = sym none ∙ h.wanted in cc
 
-pub collect_passes : {I : Type 0} (by : ℕ → I → I → Type 0) (first : DeskView) (old r new : Round) (desk now : DeskView) (x y : I) (b : Bool) → Passes (CollectsNothing first) old r → desk ≡ first → IsUnderWay r desk → is_passed (next_collected r) ≡ true
-    → MatchOption (next_ticket r) ((b ≡ false) × Stays r new desk now) (λ t. (b ≡ true) × Collects t r new desk now) → MatchOption (next_ticket r) (y ≡ x) (λ t. IdlesToCollect by t desk now x y)
-    → Passed (CollectsNothing first) old new desk now x y × (length r.tickets.items ≡ length new.tickets.items + 1)
-collect_passes by first old r new desk now x y b before at u unasked step idly =
+pub collect_passes : {I : Type 0} (by : ℕ → I → I → Type 0) (first : DeskView) (old r new : Round) (desk now : DeskView) (w x y : I) (b : Bool)
+    → Passed (CollectsNothing first) old r first desk w x → is_passed (next_collected r) ≡ true
+    → MatchOption (next_ticket r) ((b ≡ false) × Stays r new desk now) (λ t. (b ≡ true) × Collects t r new desk now)
+    → MatchOption (next_ticket r) (y ≡ x) (λ t. IdlesToCollect by t desk now x y)
+    → IsUnderWay new now → new.before ≡ r.before → ((js : List Ask) → SameAsks js r.asks.items → SameAsks js new.asks.items)
+    → Passed (CollectsNothing first) old new first now w y × (length r.tickets.items ≡ length new.tickets.items + 1)
+collect_passes by first old r new desk now w x y b i unasked step idly u before same =
     elim (r.tickets.items) as (λ l. r.tickets.items ≡ l → is_passed (asked_first l r) ≡ true → MatchOption (slice_get l 0) ((b ≡ false) × Stays r new desk now) (λ t. (b ≡ true) × Collects t r new desk now) → MatchOption (slice_get l 0) (y ≡ x) (λ t. IdlesToCollect by t desk now x y)
-    → Passed (CollectsNothing first) old new desk now x y × (length r.tickets.items ≡ length new.tickets.items + 1)) [
-      | [] ↦ λ e p s i. cc
-      | t ∷ ts ↦ λ e p s i.
-          let (k, (js, (flies, (begun, others)))) = first_one r desk u t ts e in
-          let there : slice_get r.asks.items r.collected ≡ Some k = slice_get-get_or r.asks.items r.collected k (place_within r desk u t ts e) ∙ ap Some (place_is r desk u t ts e k) in
+    → Passed (CollectsNothing first) old new first now w y × (length r.tickets.items ≡ length new.tickets.items + 1)) [
+      | [] ↦ λ e p s idly. cc
+      | t ∷ ts ↦ λ e p s idly.
+          let (k, (js, (flies, (begun, others)))) = first_one r desk i.under_way t ts e in
+          let there : slice_get r.asks.items r.collected ≡ Some k =
+          slice_get-get_or r.asks.items r.collected k (place_within r desk i.under_way t ts e) ∙ ap Some (place_is r desk i.under_way t ts e k) in
           let none = none_asked k.op (sym (ap is_passed there) ∙ p) in
           let nothing : t ≡ None = ends_nothing k t r.before.value.ledgers desk none begun in
           let one : Collects None r new desk now = subst (λ (o : Option TicketView). Collects o r new desk now) nothing s.1 in
-          let idle_is : y ≡ x = subst (λ (o : Option TicketView). IdlesToCollect by o desk now x y) nothing i in
+          let idle_is : y ≡ x = subst (λ (o : Option TicketView). IdlesToCollect by o desk now x y) nothing idly in
           let still : now ≡ desk = one.ended.0 in
-          let here : Collects None r new first first = subst (λ (d : DeskView). Collects None r new d d) at (subst (λ (d : DeskView). Collects None r new desk d) still one) in
+          let here : Collects None r new first first =
+          subst (λ (d : DeskView). Collects None r new d d) i.desk_is (subst (λ (d : DeskView). Collects None r new desk d) still one) in
           let next : next_collected r ≡ Some k = ap (λ l. asked_first l r) e ∙ there in
-          (record { passed = passes k r new before none (next, here); desk_is = still; idle_is = idle_is }, let long = ap (λ l. length l) one.tickets in omega (arith, long))
+          (passed_on i u (passes k r new i.passed none (next, here)) still idle_is before same, let long = ap (λ l. length l) one.tickets in omega (arith, long))
     ] refl unasked step idly
 
 -- whether what is collected next was asked nothing
-pub unasked_is : (r : Round) (d : DeskView) (b : Bool) (k : Ask) → IsUnderWay r d → length r.tickets.items ≢ 0 → k ≡ get_or r.asks.items r.collected k → b ≡ is_none k.op → b ≡ is_passed (next_collected r)
+pub unasked_is : (r : Round) (d : DeskView) (b : Bool) (k : Ask) → IsUnderWay r d → length r.tickets.items ≢ 0 → k ≡ get_or r.asks.items r.collected k
+    → b ≡ is_none k.op → b ≡ is_passed (next_collected r)
 unasked_is r d b k u some at is =
     elim (r.tickets.items) as (λ l. r.tickets.items ≡ l → length l ≢ 0 → b ≡ is_passed (asked_first l r)) [
       | [] ↦ λ e n. absurd (n refl)
       | t ∷ ts ↦ λ e n.
-          let there : slice_get r.asks.items r.collected ≡ Some k = slice_get-get_or r.asks.items r.collected k (place_within r d u t ts e) ∙ ap Some (sym at) in
+          let there : slice_get r.asks.items r.collected ≡ Some k =
+          slice_get-get_or r.asks.items r.collected k (place_within r d u t ts e) ∙ ap Some (sym at) in
           is ∙ sym (ap is_passed there)
     ] refl some
 

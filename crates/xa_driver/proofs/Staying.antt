@@ -1,5 +1,6 @@
 -- What requests to managers leave of the operations that were outstanding before.
-use Rattle.std.proofs.Common.{◌≡◌, ℕ, ◌<◌, ◌≤◌, true, false, ◌==◌, ◌||◌, Option, None, Some, List, [], ◌∷◌, length, refl, sym, ap, ◌∙◌, subst, arith, length-append}
+use Rattle.std.proofs.Common.{◌≡◌, ℕ, ◌<◌, ◌≤◌, true, false, ◌==◌, ◌||◌, Option, None, Some, List, [], ◌∷◌, length, refl, sym, ap, ◌∙◌, subst, arith}
+use Rattle.std.proofs.Common.{length-append}
 use Rattle.std.specs.FinMap as finmap
 use Rattle.std.proofs.lemmas.Bool.{eqb-true, ne_eqb, or_from}
 use Rattle.xa_words.specs.declared.code.Code.{Code}
@@ -27,10 +28,12 @@ asked_leaves_open a (Some op) None n h = h
 asked_leaves_open a (Some op) (Some c) n h =
     by_if (IsOpen n) (learnt_shut a) _ _ (λ _. h) (λ _. record {
       sent = let z = h.sent in omega (arith, length-append a.sent (op ∷ []));
-      open_ = is_collected-push (with_sent a op) (length a.sent) c n ∙ or_from _ _ h.open_ (or_from _ _ (ne_eqb n (length a.sent) (λ e. let z = h.sent in absurd (omega (arith, e)))) refl);
+      open_ = is_collected-push (with_sent a op) (length a.sent) c n
+          ∙ or_from _ _ h.open_ (or_from _ _ (ne_eqb n (length a.sent) (λ e. let z = h.sent in absurd (omega (arith, e)))) refl);
     })
 
-open_there : (ks : List Ask) (at at' : List LedgerView) (m n : ℕ) → EachAsk ks at at' → among_asks ks m ≡ true → IsOpen n (ledger at m) → IsOpen n (ledger at' m)
+open_there : (ks : List Ask) (at at' : List LedgerView) (m n : ℕ) → EachAsk ks at at' → among_asks ks m ≡ true → IsOpen n (ledger at m)
+    → IsOpen n (ledger at' m)
 open_there [] at at' m n e there h = cc
 open_there (k ∷ ks) at at' m n e there h =
     elim (k.manager == m) as (λ b. (k.manager == m) ≡ b → (b || among_asks ks m) ≡ true → IsOpen n (ledger at' m)) [

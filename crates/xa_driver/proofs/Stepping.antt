@@ -1,6 +1,7 @@
 -- One step of a round: a request is sent, or collected; and the end, once all are.
 use Rattle.std.specs.Prelude.{MatchOption}
-use Rattle.std.proofs.Common.{◌≡◌, ◌≢◌, ℕ, suc, ◌+◌, ◌==◌, ◌||◌, ◌<◌, ◌≤◌, Option, None, Some, false, true, List, [], ◌∷◌, ◌++◌, length, refl, sym, ap, ◌∙◌, subst, arith, get_or, set, append_assoc, append-nil, length-append}
+use Rattle.std.proofs.Common.{◌≡◌, ◌≢◌, ℕ, suc, ◌+◌, ◌==◌, ◌||◌, ◌<◌, ◌≤◌, Option, None, Some, false, true, List, [], ◌∷◌, ◌++◌, length, refl, sym, ap, ◌∙◌}
+use Rattle.std.proofs.Common.{subst, arith, get_or, set, append_assoc, append-nil, length-append}
 use Rattle.std.proofs.Math.Seq.{get_or-append_seam, set-append_seam}
 use Rattle.std.proofs.lemmas.Option.{get_or_from_slice_get, slice_get-get_or, slice_get_within}
 use Rattle.std.specs.List.{All, slice_get}
@@ -15,13 +16,15 @@ use Rattle.xa_desk.specs.DeskView.{DeskView, TicketView, IsKnown, ledger, outsta
 use Rattle.xa_desk.proofs.Ledgers.{known_by}
 use Rattle.xa_driver.specs.declared.ask.Ask.{Ask}
 use Rattle.xa_driver.specs.declared.round.Round.{Round}
-use Rattle.xa_driver.specs.Asks.{AllCanAsk, AreRising, AskTrace, Asks, BeginsAsk, CanAsk, EachAsk, EachBegan, Ends, HasBegun, HaveComeSoFar, IsBegun, KeepsDesk, Owning, among_asks, collected, in_flight, unasked}
+use Rattle.xa_driver.specs.Asks.{AllCanAsk, AreRising, AskTrace, Asks, BeginsAsk, CanAsk, EachAsk, EachBegan, Ends, HasBegun, HaveComeSoFar, IsBegun, KeepsDesk}
+use Rattle.xa_driver.specs.Asks.{Owning, among_asks, collected, in_flight, unasked}
 use Rattle.xa_driver.specs.UnderWay.{Begins, IsUnderWay, coded, sent_count}
 use Rattle.std.proofs.lemmas.Bool.{eqb-false, eqb-true}
 use Rattle.xa_driver.proofs.Staying.{IsOpen, tickets_stay}
 use Rattle.xa_driver.proofs.Asking.{Moved, sent_by, collected_of, keeps_chain, keeps_start, began_moved}
 use Rattle.xa_driver.proofs.Gathering.{behind}
-use Rattle.xa_driver.proofs.Flights.{among_first_part, among_last_part, apart, asked_more, asked_stays, begins_flight, begun_more, begun_stays, can_at, end_answers, end_moves, rising_apart, rising_first_part, rising_last_part, sent_takes_one}
+use Rattle.xa_driver.proofs.Flights.{among_first_part, among_last_part, apart, asked_more, asked_stays, begins_flight, begun_more, begun_stays, can_at}
+use Rattle.xa_driver.proofs.Flights.{end_answers, end_moves, rising_apart, rising_first_part, rising_last_part, sent_takes_one}
 
 -- ---- places in lists
 
@@ -47,7 +50,8 @@ as_many (k ∷ ks) [] at d h = absurd h
 as_many (k ∷ ks) (r ∷ rs) at d h = let z = as_many ks rs at d h.1 in omega arith
 
 -- the first in flight has the first ticket
-pub first_flies : (ks : List Ask) (r : Option TicketView) (rs : List (Option TicketView)) (at : List LedgerView) (d : DeskView) → EachBegan ks (r ∷ rs) at d → (k : Ask) × ((js : List Ask) × ((ks ≡ k ∷ js) × (HasBegun k r at d × EachBegan js rs at d)))
+pub first_flies : (ks : List Ask) (r : Option TicketView) (rs : List (Option TicketView)) (at : List LedgerView) (d : DeskView) → EachBegan ks (r ∷ rs) at d
+    → (k : Ask) × ((js : List Ask) × ((ks ≡ k ∷ js) × (HasBegun k r at d × EachBegan js rs at d)))
 first_flies [] r rs at d h = absurd h
 first_flies (k ∷ ks) r rs at d h = (k, (ks, (refl, h)))
 
@@ -74,7 +78,8 @@ record Far (done flying rest : List Ask) (tickets : List (Option TicketView)) (a
   free : outstanding at.ledgers + length (done ++ (flying ++ rest)) ≤ at.handles
   fewer : outstanding now.ledgers ≤ outstanding at.ledgers + (length done + length flying)
 
-under_way : (r : Round) (done flying rest : List Ask) (at now : DeskView) → r.asks.items ≡ done ++ (flying ++ rest) → length done ≡ r.collected → AreRising 0 (done ++ (flying ++ rest)) → length r.asks.items ≤ deque_capacity r.tickets → r.before.value ≡ at
+under_way : (r : Round) (done flying rest : List Ask) (at now : DeskView) → r.asks.items ≡ done ++ (flying ++ rest) → length done ≡ r.collected
+    → AreRising 0 (done ++ (flying ++ rest)) → length r.asks.items ≤ deque_capacity r.tickets → r.before.value ≡ at
     → Far done flying rest r.tickets.items at now → IsUnderWay r now
 under_way r done flying rest at now parts counted rising room before far =
     let f : Far done flying rest r.tickets.items r.before.value now = subst (λ (b : DeskView). Far done flying rest r.tickets.items b now) (sym before) far in
@@ -97,7 +102,9 @@ under_way r done flying rest at now parts counted rising room before far =
     }
 
 -- a round that has sent nothing
-pub begins : (asks : List Ask) (desk : DeskView) (r : Round) → AreRising 0 asks → AllCanAsk asks desk.ledgers → outstanding desk.ledgers + length asks ≤ desk.handles → r.before.value ≡ desk → r.asks.items ≡ asks → r.collected ≡ 0 → r.tickets.items ≡ [] → length r.asks.items ≤ deque_capacity r.tickets → Begins asks desk r
+pub begins : (asks : List Ask) (desk : DeskView) (r : Round) → AreRising 0 asks → AllCanAsk asks desk.ledgers
+    → outstanding desk.ledgers + length asks ≤ desk.handles → r.before.value ≡ desk → r.asks.items ≡ asks → r.collected ≡ 0 → r.tickets.items ≡ []
+    → length r.asks.items ≤ deque_capacity r.tickets → Begins asks desk r
 begins asks desk r rising can free before is count tickets room = record {
   under_way = under_way r [] [] asks desk desk is (sym count) rising room before (record {
     answered = tt;
@@ -137,7 +144,8 @@ module _ (r : Round) (now : DeskView) (u : IsUnderWay r now) where
 
   module _ (n : ℕ) (count : n ≡ sent_count r) (k : Ask) (within : n < length r.asks.items) (next : k ≡ get_or r.asks.items n k) where
     tail_is : (zs : List Ask) × (u.rest ≡ k ∷ zs)
-    tail_is = head_is gone u.rest n k (count ∙ count_is) (ap (λ l. slice_get l n) (sym split) ∙ slice_get-get_or r.asks.items n k within ∙ ap (λ q. Some q) (sym next))
+    tail_is =
+        head_is gone u.rest n k (count ∙ count_is) (ap (λ l. slice_get l n) (sym split) ∙ slice_get-get_or r.asks.items n k within ∙ ap (λ q. Some q) (sym next))
 
     abbrev zs : List Ask
     zs = tail_is.0
@@ -198,7 +206,8 @@ module _ (r : Round) (now : DeskView) (u : IsUnderWay r now) where
           fewer = omega (arith, one, long, fewer);
         }
 
-    pub one_more_sent : (t : Option TicketView) (new : DeskView) → BeginsAsk k now new t → (r' : Round) → r'.before ≡ r.before → r'.asks ≡ r.asks → r'.collected ≡ r.collected → r'.tickets.items ≡ r.tickets.items ++ t ∷ [] → deque_capacity r'.tickets ≡ deque_capacity r.tickets → IsUnderWay r' new
+    pub one_more_sent : (t : Option TicketView) (new : DeskView) → BeginsAsk k now new t → (r' : Round) → r'.before ≡ r.before → r'.asks ≡ r.asks
+        → r'.collected ≡ r.collected → r'.tickets.items ≡ r.tickets.items ++ t ∷ [] → deque_capacity r'.tickets ≡ deque_capacity r.tickets → IsUnderWay r' new
     one_more_sent t new began r' before asks count tickets capacity =
         under_way r' u.done (u.flying ++ k ∷ []) zs at new (ap (λ v. v.items) asks ∙ all_is ∙ parts_on) (u.counted ∙ sym count) (subst (AreRising 0) parts_on up)
         (let room = u.room in let e = ap (λ v. length v.items) asks in omega (arith, room, e, capacity))
@@ -241,7 +250,8 @@ module _ (r : Round) (now : DeskView) (u : IsUnderWay r now) where
     place_is d = (λ i. get_or (all_of i) (sym u.counted i) d) ∙ get_or-append_seam u.done k (js ++ u.rest) d
 
     known_now : IsKnown now.ledgers k.manager
-    known_now = known_by at.ledgers now.ledgers k.manager u.managers (can_at u.done k (js ++ u.rest) at.ledgers (subst (λ (l : List Ask). AllCanAsk l at.ledgers) all_of u.can)).known
+    known_now =
+        known_by at.ledgers now.ledgers k.manager u.managers (can_at u.done k (js ++ u.rest) at.ledgers (subst (λ (l : List Ask). AllCanAsk l at.ledgers) all_of u.can)).known
 
     up_all : AreRising 0 (u.done ++ k ∷ (js ++ u.rest))
     up_all = subst (AreRising 0) all_of u.rising
@@ -255,8 +265,10 @@ module _ (r : Round) (now : DeskView) (u : IsUnderWay r now) where
     code_now : (code : Option Code) (new : DeskView) → Ends k now new t code → Far (u.done ++ coded k code ∷ []) js u.rest ts at new
     code_now code new e =
         let moved : Moved k.manager (collected_of (ledger now.ledgers k.manager) t code) now new = end_moves k t code at.ledgers now new known_now begun e in
-        let trace : AskTrace k.op code (ledger at.ledgers k.manager) (ledger new.ledgers k.manager) = end_answers k t code at.ledgers now new begun e moved.here in
-        let whole : (u.done ++ coded k code ∷ []) ++ (js ++ u.rest) ≡ u.done ++ coded k code ∷ (js ++ u.rest) = append_assoc u.done (coded k code ∷ []) (js ++ u.rest) in
+        let trace : AskTrace k.op code (ledger at.ledgers k.manager) (ledger new.ledgers k.manager) =
+        end_answers k t code at.ledgers now new begun e moved.here in
+        let whole : (u.done ++ coded k code ∷ []) ++ (js ++ u.rest) ≡ u.done ++ coded k code ∷ (js ++ u.rest) =
+        append_assoc u.done (coded k code ∷ []) (js ++ u.rest) in
         let some : (u.done ++ coded k code ∷ []) ++ js ≡ u.done ++ coded k code ∷ js = append_assoc u.done (coded k code ∷ []) js in
         let long : length (u.done ++ coded k code ∷ []) ≡ length u.done + 1 = length-append u.done (coded k code ∷ []) in
         let flew : length u.flying ≡ suc (length js) = ap (λ l. length l) first_one.1.1.0 in
@@ -288,7 +300,8 @@ module _ (r : Round) (now : DeskView) (u : IsUnderWay r now) where
         same_managers code m [] js = refl
         same_managers code m (x ∷ xs) js = ap (λ b. (x.manager == m) || b) (same_managers code m xs js)
 
-        can_coded : (code : Option Code) (xs : List Ask) → AllCanAsk (xs ++ k ∷ (js ++ u.rest)) at.ledgers → AllCanAsk (xs ++ coded k code ∷ (js ++ u.rest)) at.ledgers
+        can_coded : (code : Option Code) (xs : List Ask) → AllCanAsk (xs ++ k ∷ (js ++ u.rest)) at.ledgers
+            → AllCanAsk (xs ++ coded k code ∷ (js ++ u.rest)) at.ledgers
         can_coded code [] h = h
         can_coded code (x ∷ xs) h = (h.0, can_coded code xs h.1)
 
@@ -296,9 +309,12 @@ module _ (r : Round) (now : DeskView) (u : IsUnderWay r now) where
     rising_coded code lo [] h = h
     rising_coded code lo (x ∷ xs) h = (h.0, rising_coded code x.manager xs h.1)
 
-    pub one_more_collected : (code : Option Code) (new : DeskView) → Ends k now new t code → (r' : Round) → r'.before ≡ r.before → r'.asks.items ≡ set r.asks.items r.collected (coded k code) → r'.collected ≡ r.collected + 1 → r'.tickets.items ≡ ts → deque_capacity r'.tickets ≡ deque_capacity r.tickets → IsUnderWay r' new
+    pub one_more_collected : (code : Option Code) (new : DeskView) → Ends k now new t code → (r' : Round) → r'.before ≡ r.before
+        → r'.asks.items ≡ set r.asks.items r.collected (coded k code) → r'.collected ≡ r.collected + 1 → r'.tickets.items ≡ ts
+        → deque_capacity r'.tickets ≡ deque_capacity r.tickets → IsUnderWay r' new
     one_more_collected code new e r' before asks count tickets capacity =
-        let whole : (u.done ++ coded k code ∷ []) ++ (js ++ u.rest) ≡ u.done ++ coded k code ∷ (js ++ u.rest) = append_assoc u.done (coded k code ∷ []) (js ++ u.rest) in
+        let whole : (u.done ++ coded k code ∷ []) ++ (js ++ u.rest) ≡ u.done ++ coded k code ∷ (js ++ u.rest) =
+        append_assoc u.done (coded k code ∷ []) (js ++ u.rest) in
         let now_are : r'.asks.items ≡ u.done ++ coded k code ∷ (js ++ u.rest) =
         asks ∙ (λ i. set (all_of i) (sym u.counted i) (coded k code)) ∙ set-append_seam u.done k (js ++ u.rest) (coded k code) in
         under_way r' (u.done ++ coded k code ∷ []) js u.rest at new (now_are ∙ sym whole)
@@ -309,9 +325,11 @@ module _ (r : Round) (now : DeskView) (u : IsUnderWay r now) where
 
 -- ---- once all are collected
 
-pub all_answered : (r : Round) (now : DeskView) (u : IsUnderWay r now) → length r.asks.items ≤ r.collected → Asks r.asks.items r.before.value.ledgers now.ledgers
+pub all_answered : (r : Round) (now : DeskView) (u : IsUnderWay r now) → length r.asks.items ≤ r.collected
+    → Asks r.asks.items r.before.value.ledgers now.ledgers
 all_answered r now u all =
-    let nothing : u.flying ++ u.rest ≡ [] = empty (u.flying ++ u.rest) (let a = u.counted in let b = ap (λ l. length l) u.parts in omega (arith, all, a, b, length-append u.done (u.flying ++ u.rest))) in
+    let nothing : u.flying ++ u.rest ≡ [] =
+    empty (u.flying ++ u.rest) (let a = u.counted in let b = ap (λ l. length l) u.parts in omega (arith, all, a, b, length-append u.done (u.flying ++ u.rest))) in
     let flying : u.flying ≡ [] = first_empty u.flying u.rest nothing in
     let is : r.asks.items ≡ u.done = u.parts ∙ ap (λ l. u.done ++ l) nothing ∙ append-nil u.done in
     record {
@@ -330,7 +348,8 @@ all_answered r now u all =
 
 -- ---- as far as it came
 
-begun_so : (k : Ask) (t : Option TicketView) (at : List LedgerView) (d : DeskView) → HasBegun k t at d → IsBegun k.op (ledger at k.manager) (ledger d.ledgers k.manager)
+begun_so : (k : Ask) (t : Option TicketView) (at : List LedgerView) (d : DeskView) → HasBegun k t at d
+    → IsBegun k.op (ledger at k.manager) (ledger d.ledgers k.manager)
 begun_so k None from d h = unasked h.1
 begun_so k (Some t) from d h = in_flight h.op h.wanted h.open_ h.sent
 
@@ -348,7 +367,8 @@ module _ (at : List LedgerView) (d : DeskView) where
   so_flying (k ∷ ks) ls [] e h = absurd e
   so_flying (k ∷ ks) ls (t ∷ ts) e h = All-cons Begun k (ks ++ ls) (begun_so k t at d e.0) (so_flying ks ls ts e.1 h)
 
-  so_unasked : (gone ks : List Ask) (lo : ℕ) → AreRising lo (gone ++ ks) → ((m : ℕ) → 1 ≤ m → among_asks gone m ≡ false → ledger d.ledgers m ≡ ledger at m) → All Begun ks
+  so_unasked : (gone ks : List Ask) (lo : ℕ) → AreRising lo (gone ++ ks) → ((m : ℕ) → 1 ≤ m → among_asks gone m ≡ false → ledger d.ledgers m ≡ ledger at m)
+      → All Begun ks
   so_unasked gone [] lo up others = All-nil Begun
   so_unasked gone (k ∷ ks) lo up others =
       All-cons Begun k ks (unasked (others k.manager (positive gone lo up) (rising_apart lo gone k ks up)))

@@ -43,11 +43,13 @@ pub record Trace (commit : Bool) (b : Branch) (vote : Code) (second : Option Cod
   pub third : Option Code
   pub forgotten : AskTrace (third_op b.xid second) third (asked (voted b vote a) (second_op commit b.xid vote) second) a'
 
-pub trace_of : (commit : Bool) (b : Branch) (vote : Code) (second : Option Code) (ending : Ending) (a a' : LedgerView) → AtBranch AsksLedger commit b vote second ending a a' → Trace commit b vote second a a'
+pub trace_of : (commit : Bool) (b : Branch) (vote : Code) (second : Option Code) (ending : Ending) (a a' : LedgerView)
+    → AtBranch AsksLedger commit b vote second ending a a' → Trace commit b vote second a a'
 trace_of commit b vote second ending a a' is =
     let two = trace_for (second_op commit b.xid vote) second is.prepared is.decided is.obeys in
     let three = trace_for (third_op b.xid second) is.third is.decided a' is.forgets in
-    let decided_is : is.decided ≡ asked (voted b vote a) (second_op commit b.xid vote) second = two.trace ∙ ap (λ (z : LedgerView). asked z (second_op commit b.xid vote) second) is.prepares.trace in
+    let decided_is : is.decided ≡ asked (voted b vote a) (second_op commit b.xid vote) second =
+    two.trace ∙ ap (λ (z : LedgerView). asked z (second_op commit b.xid vote) second) is.prepares.trace in
     record {
       prepared = is.prepares.answered;
       seconded = subst (λ (z : LedgerView). IsAnswered z (second_op commit b.xid vote) second) is.prepares.trace two.answered;

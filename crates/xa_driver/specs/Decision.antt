@@ -1,48 +1,22 @@
 -- Votes, and the decision by them (Mohan, Lindsay, Obermarck: presumed abort).
-use Rattle.std.specs.Prelude.{Bool, true, false, not, ◌||◌, ◌&&◌, ◌==◌, ℕ, List, [], ◌∷◌}
+use Rattle.std.specs.Prelude.{Bool, false, not, ◌||◌, ◌&&◌, ◌==◌, ℕ, List, [], ◌∷◌}
 use Rattle.std.specs.List.{list_any}
+use Rattle.xa_words.specs.ManagerSet.{set_of}
 use Rattle.xa_words.specs.declared.code.Code.{Code}
-use Rattle.xa_words.specs.declared.code.Code.TheVariants.{Done, RdOnly}
+use Rattle.xa_tables.specs.History.{is_done, is_read_only}
 use Rattle.xa_driver.specs.declared.branch.Branch.{Branch}
 
--- what a branch votes: to commit, that it only read, or against
-pub data Vote : Type 0 where
-  Yes : Vote
-  Read : Vote
-  No : Vote
-
--- the code of its Prepare says: XA_OK, XA_RDONLY, or any other
-abbrev pub vote_of : Code → Vote
-vote_of Done = Yes
-vote_of RdOnly = Read
-vote_of c = No
-
--- a vote, as a test
-abbrev pub says_yes : Vote → Bool
-says_yes Yes = true
-says_yes v = false
-
--- a vote, as a test
-abbrev pub says_read : Vote → Bool
-says_read Read = true
-says_read v = false
-
--- a vote, as a test
-abbrev pub says_no : Vote → Bool
-says_no No = true
-says_no v = false
-
--- the code is a vote to commit
+-- the code of a Prepare is a vote to commit: XA_OK
 abbrev pub is_yes : Code → Bool
-is_yes c = says_yes (vote_of c)
+is_yes c = is_done c
 
--- the code says that the branch only read
+-- it says that the branch only read: XA_RDONLY
 abbrev pub is_read : Code → Bool
-is_read c = says_read (vote_of c)
+is_read c = is_read_only c
 
--- the code is a vote against
+-- any other is a vote against
 abbrev pub is_no : Code → Bool
-is_no c = says_no (vote_of c)
+is_no c = not (is_yes c || is_read c)
 
 -- the votes decide commit exactly if none is no
 abbrev pub decides_commit : List Code → Bool
@@ -58,8 +32,6 @@ voted_yes m [] vs = false
 voted_yes m (b ∷ bs) [] = false
 voted_yes m (b ∷ bs) (v ∷ vs) = ((b.m == m) && is_yes v) || voted_yes m bs vs
 
--- the managers that voted yes, place m - 1 for manager m
+-- the managers that voted yes
 abbrev pub yes_of : List Branch → List Code → List Bool
-yes_of bs vs =
-    voted_yes 1 bs vs ∷ voted_yes 2 bs vs ∷ voted_yes 3 bs vs ∷ voted_yes 4 bs vs
-    ∷ voted_yes 5 bs vs ∷ voted_yes 6 bs vs ∷ voted_yes 7 bs vs ∷ voted_yes 8 bs vs ∷ []
+yes_of bs vs = set_of (λ m. voted_yes m bs vs)

@@ -1,12 +1,9 @@
-pub mod Transactions
 pub mod Decision
-pub mod Log
 pub mod Endings
 pub mod Course
 pub mod Asks
 pub mod Rounds
 pub mod Trace
-pub mod Cut
 pub mod UnderWay
 pub mod Stages
 pub mod Order
@@ -14,10 +11,3 @@ pub mod Resolving
 pub mod Idling
 pub mod Steps
 pub mod Commits
-pub mod Tabled
-pub mod Outcomes
-pub mod Additions
-pub mod Conservation
-pub mod Resolution
-pub mod Worth
-pub mod Presumed

@@ -1,11 +1,12 @@
 -- How what a reopening found left is resolved, by the records of it.
-use Rattle.std.specs.Prelude.{◌≡◌, ◌≢◌, ℕ, ◌+◌, ◌-◌, ◌*◌, ◌<◌, ◌≤◌, Bool, true, false, if◌then◌else◌, Option, None}
+use Rattle.std.specs.Prelude.{◌≡◌, ◌≢◌, ℕ, ◌+◌, ◌*◌, ◌<◌, ◌≤◌, Bool, true, false, if◌then◌else◌, Option, None}
 use Rattle.std.specs.Prelude.{Some, List, [], ◌∷◌, ◌++◌}
-use Rattle.std.specs.Prelude.{length, map, slice_index_or}
+use Rattle.std.specs.Prelude.{length, map}
 use Rattle.std.specs.List.{flat_map, range_with_len, sum_by}
 use Rattle.xa_base.specs.declared.limits.TheConstants.{MOST_MANAGERS}
 use Rattle.xa_base.specs.Lists.{Chain, IsUpTo}
 use Rattle.xa_words.specs.Xid.{XidName}
+use Rattle.xa_words.specs.ManagerSet.{is_in}
 use Rattle.xa_words.specs.Tran.{tran_of}
 use Rattle.xa_words.specs.declared.code.Code.{Code}
 use Rattle.xa_words.specs.declared.request.Op.{Op}
@@ -13,11 +14,9 @@ use Rattle.xa_words.specs.declared.request.Op.TheVariants.{OpenRm, Commit, Rollb
 use Rattle.xa_desk.specs.LedgerView.{LedgerView}
 use Rattle.xa_desk.specs.DeskView.{DeskView, room_at, ledger, outstanding}
 use Rattle.xa_desk.specs.Kept.{AllKept}
-use Rattle.xa_desk.specs.Waits.{SendsAndWaits}
-use Rattle.xa_switch.specs.Putting.{put_refusal}
-use Rattle.xa_switch.specs.Scans.{Answers, Asking, ScanView, left_at}
+use Rattle.xa_switch.specs.Scans.{Asking, ScanView, left_at}
 use Rattle.xa_driver.specs.declared.resolved.Outcome.{Outcome}
-use Rattle.xa_driver.specs.Log.{Records, record_in}
+use Rattle.xa_log.specs.Log.{Records, record_in}
 use Rattle.xa_driver.specs.Asks.{AskTrace, KeepsDesk, LeavesOutstanding}
 use Rattle.xa_driver.specs.Endings.{is_decided}
 
@@ -26,7 +25,7 @@ use Rattle.xa_driver.specs.Endings.{is_decided}
 -- these managers voted yes, and this one is among them; where there is no record, it isn't
 abbrev pub names : Option (List Bool) → ℕ → Bool
 names None m = false
-names (Some marks) m = slice_index_or marks (m - 1) false
+names (Some set) m = is_in set m
 
 -- the record of the branch's transaction names the manager: so the branch is to be committed
 abbrev pub is_to_commit : Records → ℕ → XidName → Bool
@@ -114,14 +113,6 @@ pub record IsTraceOfResolve (z : ScanView) (records : Records) (old new : List L
   pub managers : length new ≡ length old
 
 -- ---- in which order, and what it idles for
-
--- What it is to ask manager m over a desk and an idler: the manager answers, and each idle is one in a wait for it; or
--- it isn't asked, and nothing idles.
-pub record AsksAndWaits {I : Type 0} (by : ℕ → I → I → Type 0) (m : ℕ) (old : DeskView × I) (op : Op)
-    (new : DeskView × I) (code : Code) : Type 0 where
-  pub answers : Answers m old.0 op new.0 code
-  pub waits : put_refusal old.0 m false ≡ None → SendsAndWaits (by m) old.0 new.0 old.1 new.1 m op code
-  pub stays : put_refusal old.0 m false ≡ Some code → new.1 ≡ old.1
 
 -- Managers 1 to n were resolved by rising number, each once the one before it had answered all that it was asked.
 pub data ResolvesInTurn {D : Type 0} (asking : ℕ → Asking D) (records : Records) (z : ScanView) (old : D)

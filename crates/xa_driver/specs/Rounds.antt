@@ -1,6 +1,7 @@
 -- The three rounds of requests of a call, as its working lists.
 use Rattle.std.specs.Prelude.{ℕ, Bool, ◌&&◌, ◌==◌, None, Some, unwrap_or, List, [], ◌∷◌}
 use Rattle.std.specs.List.{list_any}
+use Rattle.xa_words.specs.ManagerSet.{set_of}
 use Rattle.xa_words.specs.declared.code.Code.{Code}
 use Rattle.xa_words.specs.declared.code.Code.TheVariants.{RmFail}
 use Rattle.xa_words.specs.declared.request.Op.TheVariants.{Prepare}
@@ -35,8 +36,6 @@ ending_of_ask commit k = ending_of commit k.vote k.code
 abbrev pub asked_yes : ℕ → List Ask → Bool
 asked_yes m ks = list_any (λ k. (k.manager == m) && is_yes (code_of k)) ks
 
--- the managers that voted yes, place m - 1 for manager m
+-- the managers that voted yes
 abbrev pub yes_asked : List Ask → List Bool
-yes_asked ks =
-    asked_yes 1 ks ∷ asked_yes 2 ks ∷ asked_yes 3 ks ∷ asked_yes 4 ks
-    ∷ asked_yes 5 ks ∷ asked_yes 6 ks ∷ asked_yes 7 ks ∷ asked_yes 8 ks ∷ []
+yes_asked ks = set_of (λ m. asked_yes m ks)

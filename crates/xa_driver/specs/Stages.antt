@@ -13,7 +13,7 @@ use Rattle.xa_driver.specs.declared.stages.Telling.{Telling}
 use Rattle.xa_driver.specs.declared.stages.Told.{Told}
 use Rattle.xa_driver.specs.declared.stages.Forgetting.{Forgetting}
 use Rattle.xa_driver.specs.Asks.{Asks, SameAsks}
-use Rattle.xa_driver.specs.Log.{LogState}
+use Rattle.xa_log.specs.Log.{LogState}
 use Rattle.xa_driver.specs.Rounds.{code_of, ending_of_ask, first_ask, second_ask, third_ask, yes_asked}
 use Rattle.xa_driver.specs.Trace.{IsTranOf, Logs, decision_of}
 use Rattle.xa_driver.specs.UnderWay.{IsAtRest, MayAsk}

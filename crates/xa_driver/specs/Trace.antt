@@ -13,7 +13,7 @@ use Rattle.xa_driver.specs.declared.done.Done.{Done}
 use Rattle.xa_driver.specs.declared.done.Ending.{Ending}
 use Rattle.xa_driver.specs.Decision.{decides_commit, has_yes, yes_of}
 use Rattle.xa_driver.specs.Course.{AtBranch}
-use Rattle.xa_driver.specs.Log.{LogState, record_of, with_record, with_failure}
+use Rattle.xa_log.specs.Log.{LogState, record_of, with_record, with_failure}
 use Rattle.xa_driver.specs.Asks.{asked}
 use Rattle.xa_driver.specs.Resolving.{AsksLedger}
 use Rattle.xa_switch.specs.Scans.{Asking}

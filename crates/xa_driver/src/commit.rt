@@ -12,12 +12,12 @@ ghost use Rattle.xa_driver.specs.Trace.{AppendsOnce, IsCommit, IsTraceOfCommit, 
 
 use crate::branch::Branch;
 use crate::done::{Done, DriverFault};
-use crate::log::DecisionLog;
 use crate::stages::prepare_all;
 use std::alloc::Global;
 use std::sync::Wait;
 use xa_base::MOST_MANAGERS;
 use xa_desk::{Desk, Idle};
+use xa_log::DecisionLog;
 
 /// Commits the branches of a global transaction in two phases, by presumed abort (Mohan, Lindsay and
 /// Obermarck, 1986).

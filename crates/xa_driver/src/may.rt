@@ -4,9 +4,9 @@ ghost use Rattle.xa_words.specs.Tran.{TranName, tran_of};
 ghost use Rattle.xa_driver.specs.Trace.{AreBranchesRising, HaveRoom, IsTranOf, MayCommit};
 
 use crate::branch::Branch;
-use crate::log::DecisionLog;
 use xa_base::MOST_MANAGERS;
 use xa_desk::Desk;
+use xa_log::DecisionLog;
 use xa_words::Tran;
 
 fn are_rising(branches: &[Branch]) -> bool

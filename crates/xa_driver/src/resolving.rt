@@ -7,18 +7,19 @@ ghost use Rattle.xa_desk.specs.Tickets.{LeavesTickets};
 ghost use Rattle.xa_switch.specs.Scans.{Answers, left_at};
 ghost use Rattle.xa_driver.specs.declared.resolved.Outcome.{Outcome};
 ghost use Rattle.xa_driver.specs.Asks.{KeepsDesk, LeavesOutstanding};
-ghost use Rattle.xa_driver.specs.Resolving.{is_to_commit, outcome_op, AsksLedger, AsksAlone, AsksAndWaits};
+ghost use Rattle.xa_driver.specs.Resolving.{is_to_commit, outcome_op, AsksLedger, AsksAlone};
+ghost use Rattle.xa_switch.specs.Scans.{AsksAndWaits};
 ghost use Rattle.xa_driver.specs.Resolving.{ResolvesBranch};
 ghost use Rattle.xa_driver.specs.Resolving.{ResolvesAt, ResolvesInTurn, requests_for, left_in, MayResolve};
 ghost use Rattle.xa_driver.specs.Resolving.{IsTraceOfResolve};
 
-use crate::log::DecisionRecords;
 use crate::resolved::{Outcome, ResolveFault, Resolved};
 use crate::rounds::is_decided;
 use std::alloc::Global;
 use std::sync::Wait;
 use xa_base::MOST_MANAGERS;
 use xa_desk::{Desk, Idle, Refused};
+use xa_log::DecisionRecords;
 use xa_switch::Scan;
 use xa_words::{Code, Op, Xid};
 
@@ -45,7 +46,7 @@ fn is_to_commit<L: DecisionRecords>(log: &L, manager: u32, xid: &Xid) -> bool
     ensures { result ≡ is_to_commit (L.records log.now) manager xid.now }
 {
     match log.has(&xid.tran()) {
-        Some(yes) => yes[manager as usize - 1],
+        Some(yes) => yes.contains(manager),
         None => false,
     }
 }

@@ -4,14 +4,14 @@ ghost use Rattle.std.specs.List.{list_any};
 ghost use Rattle.xa_driver.specs.Decision.{is_yes, is_read, is_no};
 ghost use Rattle.xa_driver.specs.Endings.{second_op, third_op, ending_of, is_out_of_reach, is_heuristic, is_decided};
 ghost use Rattle.xa_driver.specs.Rounds.{first_ask, code_of, second_ask, third_ask, ending_of_ask, asked_yes};
+ghost use Rattle.xa_driver.specs.Rounds.{yes_asked};
 ghost use Rattle.xa_tables.specs.History.{is_rolled_back};
 
 use crate::ask::Ask;
 use crate::branch::Branch;
 use crate::done::Ending;
-use crate::log::Yes;
 use std::alloc::{AllocError, Global};
-use xa_words::{Code, Op, Xid};
+use xa_words::{Code, ManagerSet, Op, Xid};
 
 fn is_yes(code: Code) -> bool
     ensures { result ≡ is_yes code }
@@ -242,11 +242,10 @@ fn asked_yes(asks: &[Ask], manager: u32) -> bool
 }
 
 /// The managers that voted yes.
-pub(crate) fn yes_of(asks: &[Ask]) -> Yes
-    ensures { result ≡ asked_yes 1 asks.now ∷ asked_yes 2 asks.now ∷ asked_yes 3 asks.now ∷ asked_yes 4 asks.now
-        ∷ asked_yes 5 asks.now ∷ asked_yes 6 asks.now ∷ asked_yes 7 asks.now ∷ asked_yes 8 asks.now ∷ [] }
+pub(crate) fn yes_of(asks: &[Ask]) -> ManagerSet
+    ensures { result ≡ yes_asked asks.now }
 {
-    [
+    ManagerSet::of([
         asked_yes(asks, 1),
         asked_yes(asks, 2),
         asked_yes(asks, 3),
@@ -255,5 +254,5 @@ pub(crate) fn yes_of(asks: &[Ask]) -> Yes
         asked_yes(asks, 6),
         asked_yes(asks, 7),
         asked_yes(asks, 8),
-    ]
+    ])
 }

@@ -12,7 +12,7 @@ ghost use Rattle.xa_desk.specs.Kept.{AllKept};
 ghost use Rattle.xa_driver.specs.declared.branch.Branch.{Branch};
 ghost use Rattle.xa_driver.specs.Asks.{KeepsTheRest, among_asks};
 ghost use Rattle.xa_driver.specs.Idling.{IdlesAt};
-ghost use Rattle.xa_driver.specs.Log.{record_of};
+ghost use Rattle.xa_log.specs.Log.{record_of};
 ghost use Rattle.xa_driver.specs.Order.{GoesAsRound, SendsThenCollects};
 ghost use Rattle.xa_driver.specs.Rounds.{first_ask, second_ask, third_ask};
 ghost use Rattle.xa_driver.specs.Stages.{HasDecided, HasForgotten, HasPrepared, HasRoomForEndings, HasRoomForVotes};
@@ -23,7 +23,6 @@ ghost use Rattle.xa_driver.specs.UnderWay.{IsAtRest, IsUnderWay, LeavesInFlight,
 
 use crate::branch::Branch;
 use crate::done::{Done, DriverFault};
-use crate::log::{CommitRecord, DecisionLog, Yes};
 use crate::round::Round;
 use crate::rounds::{
     first_round, has_no, has_yes, read_endings, read_votes, second_round, third_round, yes_of,
@@ -32,7 +31,8 @@ use std::alloc::Global;
 use std::sync::Wait;
 use xa_base::MOST_MANAGERS;
 use xa_desk::{Desk, Idle};
-use xa_words::{Code, Tran};
+use xa_log::{CommitRecord, DecisionLog};
+use xa_words::{Code, ManagerSet, Tran};
 
 /// A commit that is asking its branches to prepare.
 pub struct Preparing {
@@ -78,7 +78,12 @@ pub struct Forgetting {
 }
 
 // Whether to commit, and whether that was logged.
-fn decide_by<L: DecisionLog>(log: &mut L, tran: Tran, yes: Yes, votes: &[Code]) -> (bool, bool)
+fn decide_by<L: DecisionLog>(
+    log: &mut L,
+    tran: Tran,
+    yes: ManagerSet,
+    votes: &[Code],
+) -> (bool, bool)
     requires { record_of (L.state log.old) tran ≡ None }
     ensures decision { result.0 ≡ decision_of votes.now result.1 }
     ensures logs { Logs tran yes votes.now result.1 (L.state log.old) (L.state log.new) }

@@ -12,15 +12,11 @@ use Rattle.xa_switch.specs.Scans.{ScanView}
 use Rattle.xa_switch.specs.Settling.{Settling, IsSettled}
 use Rattle.xa_switch.specs.declared.plan.Again.{Again}
 use Rattle.xa_driver.specs.declared.resolved.Outcome.{Outcome}
-use Rattle.xa_driver.specs.Log.{Records, record_in}
-use Rattle.xa_driver.specs.Outcomes.{AreLeftOrDecided, sent_so_far}
-use Rattle.xa_driver.specs.Resolution.{CommitCall, ResolveCall, Opening, commits, resolves, with_use, Continues, IsByItsThread, IsKept, IsResolved, IsUseIn, OnlyResolves}
-use Rattle.xa_driver.proofs.NextOpening.{kept_with, scan_of}
-
--- a resolve by these records
-abbrev pub resolve_call : ℕ → ScanView → List LedgerView → List LedgerView → List Outcome → Records → ResolveCall
-resolve_call thread scan old new outcomes records =
-    record { thread = thread; scan = scan; old = old; new = new; records = records; outcomes = outcomes }
+use Rattle.xa_log.specs.Log.{Records, record_in}
+use Rattle.xa_atomicity.specs.Outcomes.{AreLeftOrDecided, sent_so_far}
+use Rattle.xa_atomicity.specs.Resolution.{CommitCall, ResolveCall, Opening, commits, resolve_call, resolves, with_use, Continues, IsByItsThread, IsKept}
+use Rattle.xa_atomicity.specs.Resolution.{IsResolved, IsUseIn, OnlyResolves}
+use Rattle.xa_atomicity.proofs.NextOpening.{kept_with, scan_of}
 
 -- an opening in which nobody uses the log
 abbrev pub without_use : Settling → Opening
@@ -38,22 +34,24 @@ three_resolved s between next again c q settled made few own mid_settled goes_on
     let last : Opening = with_use next (resolves q) in
     let mid_kept : IsKept mid = record { settled = mid_settled; uses = All-nil (IsUseIn between) } in
     record {
-      kept = All-cons IsKept o (mid ∷ last ∷ []) (kept_with s (commits c) settled made)
-          (All-cons IsKept mid (last ∷ []) mid_kept (All-cons IsKept last [] (kept_with next (resolves q) last_settled resolved) (All-nil IsKept)));
-      in_a_row = (goes_on, (continues, tt));
-      us = [];
-      vs = [];
-      commit_at = refl;
-      ps = [];
-      qs = [];
-      resolve_at = refl;
-      few = few;
-      log = λ t tran. (ap (λ (r : Records). record_in r t) log, tt);
+      followed = record {
+        kept = All-cons IsKept o (mid ∷ last ∷ []) (kept_with s (commits c) settled made)
+            (All-cons IsKept mid (last ∷ []) mid_kept (All-cons IsKept last [] (kept_with next (resolves q) last_settled resolved) (All-nil IsKept)));
+        in_a_row = (goes_on, (continues, tt));
+        us = [];
+        vs = [];
+        use_at = refl;
+        ps = [];
+        qs = [];
+        resolve_at = refl;
+        few = few;
+        log = λ t tran. (ap (λ (r : Records). record_in r t) log, tt);
+        later = λ t tran left. All-cons (OnlyResolves t) mid (last ∷ []) (silent t) (All-cons (OnlyResolves t) last [] (later t) (All-nil (OnlyResolves t)));
+        scan = scan_of between next again q.scan of scanned;
+        reached = λ k d lt of. reached k d lt;
+      };
       its_thread = All-nil (IsByItsThread c);
       own = own;
-      later = λ t tran left. All-cons (OnlyResolves t) mid (last ∷ []) (silent t) (All-cons (OnlyResolves t) last [] (later t) (All-nil (OnlyResolves t)));
-      scan = scan_of between next again q.scan of scanned;
-      reached = λ k d lt of. reached k d lt;
     }
 
 -- the same, where the openings and the records are told by others
@@ -61,8 +59,10 @@ pub told_three_resolved : (s told between told_between next : Settling) (again :
     → told ≡ s → told_between ≡ between → told_records ≡ records
     → IsSettled s → IsUseIn s (commits c) → length c.desk.ledgers ≤ 8 → AreLeftOrDecided s c.thread c.branches (sent_so_far c.desk.ledgers) (sent_so_far c.new)
     → IsSettled between → Continues s between → ((t : TranName) → OnlyResolves t (without_use between))
-    → IsSettled next → IsUseIn next (resolves (resolve_call thread scan old new outcomes records)) → Continues between next → IsOf (reopening between again) next → IsScanOf between scan
-    → records ≡ c.later.records → ((t : TranName) → OnlyResolves t (with_use next (resolves (resolve_call thread scan old new outcomes records)))) → All (λ x. x.code ≢ RmFail) outcomes
+    → IsSettled next → IsUseIn next (resolves (resolve_call thread scan old new outcomes records)) → Continues between next
+    → IsOf (reopening between again) next → IsScanOf between scan
+    → records ≡ c.later.records → ((t : TranName) → OnlyResolves t (with_use next (resolves (resolve_call thread scan old new outcomes records))))
+    → All (λ x. x.code ≢ RmFail) outcomes
     → IsResolved (with_use told (commits c)) (without_use told_between ∷ []) (with_use next (resolves (resolve_call thread scan old new outcomes told_records))) c (resolve_call thread scan old new outcomes told_records)
 told_three_resolved s told between told_between next again c thread scan old new outcomes records told_records is mid_is records_are settled made few own mid_settled goes_on silent last_settled resolved continues of scanned kept later reached =
     let q : Records → ResolveCall = resolve_call thread scan old new outcomes in

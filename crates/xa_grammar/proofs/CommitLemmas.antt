@@ -21,9 +21,11 @@ alike (Ok ms) f g same = same ms
 alike (Err why) f g same = refl
 
 -- The first word is a number, and the others go on.
-pub first_number : (count : ℕ) (ws rest : List Word) (m : ℕ) (g : List ℕ → Result (List Bool) Reason) → number_at 0 4294967295 ws ≡ Ok (m, rest) → ((ms : List ℕ) → g ms ≡ rising_branches count (m ∷ ms)) → (numbers_to_end 0 4294967295 rest >>= g) ≡ branches_at count ws
+pub first_number : (count : ℕ) (ws rest : List Word) (m : ℕ) (g : List ℕ → Result (List Bool) Reason) → number_at 0 4294967295 ws ≡ Ok (m, rest)
+    → ((ms : List ℕ) → g ms ≡ rising_branches count (m ∷ ms)) → (numbers_to_end 0 4294967295 rest >>= g) ≡ branches_at count ws
 unfolding branches_at numbers_at
-first_number count ws rest m g e same = rw e (alike (numbers_to_end 0 4294967295 rest) g (λ ms. rising_branches count (m ∷ ms)) same ∙ sym (on_top (numbers_to_end 0 4294967295 rest) m (rising_branches count)))
+first_number count ws rest m g e same =
+    rw e (alike (numbers_to_end 0 4294967295 rest) g (λ ms. rising_branches count (m ∷ ms)) same ∙ sym (on_top (numbers_to_end 0 4294967295 rest) m (rising_branches count)))
 
 -- Or it is a fault.
 pub no_first_number : (count : ℕ) (ws : List Word) (why : Reason) → number_at 0 4294967295 ws ≡ Err why → branches_at count ws ≡ Err why
@@ -31,12 +33,15 @@ unfolding branches_at numbers_at
 no_first_number count ws why e = rw e refl
 
 -- The next word is a number, and the others go on.
-pub next_number : (w : Word) (rest : List Word) (m : ℕ) (f g : List ℕ → Result (List Bool) Reason) → number_in 0 4294967295 w ≡ Ok m → ((ms : List ℕ) → g ms ≡ f (m ∷ ms)) → (numbers_to_end 0 4294967295 rest >>= g) ≡ (numbers_to_end 0 4294967295 (w ∷ rest) >>= f)
+pub next_number : (w : Word) (rest : List Word) (m : ℕ) (f g : List ℕ → Result (List Bool) Reason) → number_in 0 4294967295 w ≡ Ok m
+    → ((ms : List ℕ) → g ms ≡ f (m ∷ ms)) → (numbers_to_end 0 4294967295 rest >>= g) ≡ (numbers_to_end 0 4294967295 (w ∷ rest) >>= f)
 unfolding numbers_to_end
-next_number w rest m f g e same = rw e (alike (numbers_to_end 0 4294967295 rest) g (λ ms. f (m ∷ ms)) same ∙ sym (on_top (numbers_to_end 0 4294967295 rest) m f))
+next_number w rest m f g e same =
+    rw e (alike (numbers_to_end 0 4294967295 rest) g (λ ms. f (m ∷ ms)) same ∙ sym (on_top (numbers_to_end 0 4294967295 rest) m f))
 
 -- Or it is a fault.
-pub no_next_number : (w : Word) (rest : List Word) (why : Reason) (f : List ℕ → Result (List Bool) Reason) → number_in 0 4294967295 w ≡ Err why → (numbers_to_end 0 4294967295 (w ∷ rest) >>= f) ≡ Err why
+pub no_next_number : (w : Word) (rest : List Word) (why : Reason) (f : List ℕ → Result (List Bool) Reason) → number_in 0 4294967295 w ≡ Err why
+    → (numbers_to_end 0 4294967295 (w ∷ rest) >>= f) ≡ Err why
 unfolding numbers_to_end
 no_next_number w rest why f e = rw e refl
 
@@ -48,7 +53,8 @@ no_more_numbers f = refl
 -- ---- one more manager
 
 -- A set with one more manager, and others after it.
-set_more : (set : List Bool) (m : ℕ) (ms : List ℕ) → set_of (λ k. is_in (with_manager m set) k || is_named ms k) ≡ set_of (λ k. is_in set k || is_named (m ∷ ms) k)
+set_more : (set : List Bool) (m : ℕ) (ms : List ℕ)
+    → set_of (λ k. is_in (with_manager m set) k || is_named ms k) ≡ set_of (λ k. is_in set k || is_named (m ∷ ms) k)
 set_more set m ms = λ i. at 1 i ∷ at 2 i ∷ at 3 i ∷ at 4 i ∷ at 5 i ∷ at 6 i ∷ at 7 i ∷ at 8 i ∷ []
   where
     at : (k : ℕ) → ((is_in set k || (m == k)) || is_named ms k) ≡ (is_in set k || ((m == k) || is_named ms k))
@@ -59,7 +65,8 @@ abbrev pub if_rising : Bool → List Bool → Result (List Bool) Reason
 if_rising rising set = if rising then Ok set else Err BadBranches
 
 -- A manager that may come next is one of the set.
-pub taken : (so_far : Named) (m : ℕ) (ms : List ℕ) → (so_far.rising && (nat_lt so_far.last m && nat_le m so_far.count)) ≡ true → if_rising (are_rising so_far.count m ms) (set_of (λ k. is_in (with_manager m so_far.managers) k || is_named ms k)) ≡ goes_on so_far (m ∷ ms)
+pub taken : (so_far : Named) (m : ℕ) (ms : List ℕ) → (so_far.rising && (nat_lt so_far.last m && nat_le m so_far.count)) ≡ true
+    → if_rising (are_rising so_far.count m ms) (set_of (λ k. is_in (with_manager m so_far.managers) k || is_named ms k)) ≡ goes_on so_far (m ∷ ms)
 taken so_far m ms may =
     let parts = and_parts so_far.rising (nat_lt so_far.last m && nat_le m so_far.count) may in
     let within = and_parts (nat_lt so_far.last m) (nat_le m so_far.count) parts.1 in

@@ -1,5 +1,5 @@
 -- What finds the declared keys finds one more.
-use Rattle.std.specs.Prelude.{◌≡◌, ℕ, ◌+◌, ◌<◌, ◌==◌, ◌&&◌, ◌||◌, Bool, true, false, cond, List, [], ◌∷◌, ◌++◌, length, get_or, slice_set, Result, Ok, Err, IsOk, OnOk, refl}
+use Rattle.std.specs.Prelude.{◌≡◌, ℕ, ◌+◌, ◌<◌, ◌==◌, ◌&&◌, ◌||◌, Bool, true, false, cond, List, [], ◌∷◌, ◌++◌, length, get_or, slice_set, refl}
 use Rattle.std.proofs.Common.{sym, ap, ◌∙◌, subst, arith}
 use Rattle.std.specs.List.{list_any}
 use Rattle.std.proofs.lemmas.Bool.{eqb-true}
@@ -12,7 +12,8 @@ use Rattle.xa_grammar.specs.Settings.{key_count}
 use Rattle.xa_grammar.specs.Found.{is_same, Finds}
 
 -- The set may be laid out anew.
-pub still_found : (keys : List Declared) (found again : List (ℕ × List ℕ)) (counts : List ℕ) → Finds keys found counts → ((q : ℕ × List ℕ) → list_any (is_same q) again ≡ list_any (is_same q) found) → Finds keys again counts
+pub still_found : (keys : List Declared) (found again : List (ℕ × List ℕ)) (counts : List ℕ) → Finds keys found counts
+    → ((q : ℕ × List ℕ) → list_any (is_same q) again ≡ list_any (is_same q) found) → Finds keys again counts
 still_found keys found again counts old same = record { has = λ m k. same (m, k) ∙ old.has m k; count = old.count }
 
 or_last : (b c : Bool) → cond b true c ≡ (c || (b || false))
@@ -35,7 +36,8 @@ one_counted m keys d counts lt old =
       | true ↦ λ t. let same : d.manager ≡ m = eqb-true d.manager m t in
           subst (λ n. get_or (slice_set counts d.manager (get_or counts d.manager 0 + 1)) n 0 ≡ key_count m keys + 1) same
           (get_or-set_same counts d.manager (get_or counts d.manager 0 + 1) 0 lt ∙ ap (λ n. get_or counts n 0 + 1) same ∙ ap (λ n. n + 1) old)
-      | false ↦ λ f. get_or-set_other counts d.manager m (get_or counts d.manager 0 + 1) 0 (λ same. let t : (d.manager == m) ≡ true = grind (arith, same) in cc) ∙ old ∙ omega arith
+      | false ↦ λ f. get_or-set_other counts d.manager m (get_or counts d.manager 0 + 1) 0 (λ same. let t : (d.manager == m) ≡ true = grind (arith, same) in cc)
+          ∙ old ∙ omega arith
     ] refl
 
 -- A key that is put into the set and counted is found.

@@ -1,5 +1,6 @@
 -- The tasks of one thread among the steps.
-use Rattle.std.specs.Prelude.{◌≡◌, ◌<◌, ◌+◌, ◌++◌, take, ℕ, zero, suc, true, false, cond, if◌then◌else◌, ◌==◌, List, [], ◌∷◌, length, Option, Some, None, is_some, slice_get, All}
+use Rattle.std.specs.Prelude.{◌≡◌, ◌<◌, ◌+◌, ◌++◌, take, ℕ, zero, suc, true, false, cond, if◌then◌else◌, ◌==◌, List, [], ◌∷◌, length, Option, Some, None}
+use Rattle.std.specs.Prelude.{is_some, slice_get, All}
 use Rattle.std.specs.List.{cons_option}
 use Rattle.std.proofs.Common.{refl, ap, sym, ◌∙◌, subst, arith, inl, inr, get_or}
 use Rattle.std.proofs.lemmas.Option.{slice_get_cases, slice_get_read}
@@ -15,15 +16,14 @@ use Rattle.xa_grammar.proofs.Taken.{take_next}
 pub as_many_tasks : (steps : List ScriptStep) → All IsTask steps → length (tasks_in steps) ≡ length steps
 as_many_tasks [] all = refl
 as_many_tasks (step.Task p ∷ steps) all = ap suc (as_many_tasks steps (All-tail IsTask (step.Task p) steps all))
-as_many_tasks (step.Turn line m ∷ steps) all = let never : false ≡ true = All-head IsTask (step.Turn line m) steps all in absurd (let no : ⊥ = cc in no)
-as_many_tasks (step.Reopen line ∷ steps) all = let never : false ≡ true = All-head IsTask (step.Reopen line) steps all in absurd (let no : ⊥ = cc in no)
+as_many_tasks (q ∷ steps) all = let never : false ≡ true = All-head IsTask q steps all in absurd (let no : ⊥ = cc in no)
 
-pub task_there : (steps : List ScriptStep) (k : ℕ) (p : ScriptTask) → All IsTask steps → slice_get steps k ≡ Some (step.Task p) → slice_get (tasks_in steps) k ≡ Some p
+pub task_there : (steps : List ScriptStep) (k : ℕ) (p : ScriptTask) → All IsTask steps → slice_get steps k ≡ Some (step.Task p)
+    → slice_get (tasks_in steps) k ≡ Some p
 task_there [] k p all at = absurd (let no : ⊥ = cc in no)
 task_there (step.Task q ∷ steps) zero p all at = ap (λ (t : ScriptTask). Some t) (let same : q ≡ p = cc in same)
 task_there (step.Task q ∷ steps) (suc k) p all at = task_there steps k p (All-tail IsTask (step.Task q) steps all) at
-task_there (step.Turn line m ∷ steps) k p all at = let never : false ≡ true = All-head IsTask (step.Turn line m) steps all in absurd (let no : ⊥ = cc in no)
-task_there (step.Reopen line ∷ steps) k p all at = let never : false ≡ true = All-head IsTask (step.Reopen line) steps all in absurd (let no : ⊥ = cc in no)
+task_there (q ∷ steps) k p all at = let never : false ≡ true = All-head IsTask q steps all in absurd (let no : ⊥ = cc in no)
 
 pub none_there : (steps : List ScriptStep) (k : ℕ) (p : ScriptStep) → All IsTask steps → slice_get steps k ≡ Some p → IsTask p
 none_there [] k p all at = absurd (let no : ⊥ = cc in no)
@@ -34,23 +34,21 @@ none_there (q ∷ steps) (suc k) p all at = none_there steps k p (All-tail IsTas
 
 pub own_are_tasks : (t : ℕ) (steps : List ScriptStep) → All IsTask (own_steps t steps)
 own_are_tasks t [] = All-nil IsTask
-own_are_tasks t (step.Turn line m ∷ steps) = own_are_tasks t steps
-own_are_tasks t (step.Reopen line ∷ steps) = own_are_tasks t steps
 own_are_tasks t (step.Task p ∷ steps) =
     elim (is_own t (step.Task p)) as (λ b. All IsTask (cond b (step.Task p ∷ own_steps t steps) (own_steps t steps))) [
       | true ↦ All-cons IsTask (step.Task p) (own_steps t steps) refl (own_are_tasks t steps)
       | false ↦ own_are_tasks t steps
     ]
+own_are_tasks t (p ∷ steps) = own_are_tasks t steps
 
 pub own_tasks : (t : ℕ) (steps : List ScriptStep) → tasks_in (own_steps t steps) ≡ tasks_of t steps
 own_tasks t [] = refl
-own_tasks t (step.Turn line m ∷ steps) = own_tasks t steps
-own_tasks t (step.Reopen line ∷ steps) = own_tasks t steps
 own_tasks t (step.Task p ∷ steps) =
     elim (p.thread == t) as (λ b. tasks_in (cond (is_some (if b then Some p else None)) (step.Task p ∷ own_steps t steps) (own_steps t steps)) ≡ cons_option (if b then Some p else None) (tasks_of t steps)) [
       | true ↦ ap (λ (l : List ScriptTask). p ∷ l) (own_tasks t steps)
       | false ↦ own_tasks t steps
     ]
+own_tasks t (p ∷ steps) = own_tasks t steps
 
 -- ---- of steps at places
 
@@ -66,7 +64,8 @@ as_many_at steps (k ∷ ks) within =
     let there = there_is steps k (All-head (λ k. k < length steps) k ks within) in
     subst (λ (o : Option ScriptStep). length (cons_option o (steps_at steps ks)) ≡ suc (length ks)) (sym there.1) (ap suc (as_many_at steps ks (All-tail (λ k. k < length steps) k ks within)))
 
-at_place : (steps : List ScriptStep) (places : List ℕ) (i k : ℕ) → All (λ k. k < length steps) places → slice_get places i ≡ Some k → slice_get (steps_at steps places) i ≡ slice_get steps k
+at_place : (steps : List ScriptStep) (places : List ℕ) (i k : ℕ) → All (λ k. k < length steps) places → slice_get places i ≡ Some k
+    → slice_get (steps_at steps places) i ≡ slice_get steps k
 at_place steps [] i k within at = absurd (let no : ⊥ = cc in no)
 at_place steps (q ∷ ks) zero k within at =
     let there = there_is steps q (All-head (λ k. k < length steps) q ks within) in
@@ -77,23 +76,28 @@ at_place steps (q ∷ ks) (suc i) k within at =
     subst (λ (o : Option ScriptStep). slice_get (cons_option o (steps_at steps ks)) (suc i) ≡ slice_get steps k) (sym there.1) (at_place steps ks i k (All-tail (λ k. k < length steps) q ks within) at)
 
 -- the step at the place that stands at i
-pub step_at_place : (steps : List ScriptStep) (places : List ℕ) (i k : ℕ) (x : ScriptStep) → All (λ k. k < length steps) places → i < length places → k ≡ get_or places i k → slice_get steps k ≡ Some x → slice_get (steps_at steps places) i ≡ Some x
+pub step_at_place : (steps : List ScriptStep) (places : List ℕ) (i k : ℕ) (x : ScriptStep) → All (λ k. k < length steps) places → i < length places
+    → k ≡ get_or places i k → slice_get steps k ≡ Some x → slice_get (steps_at steps places) i ≡ Some x
 step_at_place steps places i k x within there is at = at_place steps places i k within (slice_get_read places (length places) i k refl there is) ∙ at
 
 -- as many tasks as places
-pub as_many_places : (steps : List ScriptStep) (places : List ℕ) → All IsTask (steps_at steps places) → All (λ k. k < length steps) places → length (tasks_in (steps_at steps places)) ≡ length places
+pub as_many_places : (steps : List ScriptStep) (places : List ℕ) → All IsTask (steps_at steps places) → All (λ k. k < length steps) places
+    → length (tasks_in (steps_at steps places)) ≡ length places
 as_many_places steps places tasks within = as_many_tasks (steps_at steps places) tasks ∙ as_many_at steps places within
 
-pub place_within : (steps : List ScriptStep) (places : List ℕ) (k : ℕ) (tasks : List ScriptTask) → All IsTask (steps_at steps places) → All (λ n. n < length steps) places → tasks_in (steps_at steps places) ≡ tasks → k < length tasks → k < length places
+pub place_within : (steps : List ScriptStep) (places : List ℕ) (k : ℕ) (tasks : List ScriptTask) → All IsTask (steps_at steps places)
+    → All (λ n. n < length steps) places → tasks_in (steps_at steps places) ≡ tasks → k < length tasks → k < length places
 place_within steps places k tasks are within seen less =
     let many = as_many_places steps places are within in
     let same = ap length seen in
     omega (arith, many, same, less)
 
 -- one place more
-pub one_place_more : (steps : List ScriptStep) (ks : List ℕ) (k : ℕ) (x : ScriptStep) → slice_get steps k ≡ Some x → steps_at steps (ks ++ k ∷ []) ≡ steps_at steps ks ++ x ∷ []
+pub one_place_more : (steps : List ScriptStep) (ks : List ℕ) (k : ℕ) (x : ScriptStep) → slice_get steps k ≡ Some x
+    → steps_at steps (ks ++ k ∷ []) ≡ steps_at steps ks ++ x ∷ []
 one_place_more steps ks k x at = filter_map-append (slice_get steps) ks (k ∷ []) ∙ ap (λ (o : Option ScriptStep). steps_at steps ks ++ cons_option o []) at
 
 -- one step more
-pub one_step_more : (t : ℕ) (steps : List ScriptStep) (k : ℕ) (x : ScriptStep) → k < length steps → slice_get steps k ≡ Some x → own_steps t (take (k + 1) steps) ≡ own_steps t (take k steps) ++ cond (is_own t x) (x ∷ []) []
+pub one_step_more : (t : ℕ) (steps : List ScriptStep) (k : ℕ) (x : ScriptStep) → k < length steps → slice_get steps k ≡ Some x
+    → own_steps t (take (k + 1) steps) ≡ own_steps t (take k steps) ++ cond (is_own t x) (x ∷ []) []
 one_step_more t steps k x within at = ap (own_steps t) (take_next steps k x within at) ∙ filter-append (is_own t) (take k steps) (x ∷ [])

@@ -1,5 +1,6 @@
 -- A line that the grammar reads leaves a script: each manager can be opened with its keys, each step is of a thread or a manager that there is, and no task asks for more than 64 xids.
-use Rattle.std.specs.Prelude.{◌≡◌, ℕ, pos, zero, suc, ◌-◌, ◌<◌, ◌≤◌, Bool, true, false, not, cond, ◌&&◌, ◌||◌, ◌==◌, nat_le, nat_lt, if◌then◌else◌, List, [], ◌∷◌, ◌++◌, length, map, filter, Option, None, Some, unwrap_or, get_or, slice_set, replicate, IfSome, All, Result, Ok, Err, codes, refl}
+use Rattle.std.specs.Prelude.{◌≡◌, ℕ, pos, zero, suc, ◌-◌, ◌<◌, ◌≤◌, Bool, true, false, not, cond, ◌&&◌, ◌||◌, ◌==◌, nat_le, nat_lt, if◌then◌else◌, List, []}
+use Rattle.std.specs.Prelude.{◌∷◌, ◌++◌, length, map, filter, Option, None, Some, unwrap_or, get_or, slice_set, IfSome, All, Result, Ok, Err, codes, refl}
 use Rattle.std.proofs.Common.{sym, ap, ◌∙◌, subst, arith}
 use Rattle.std.specs.List.{list_all, list_any, slice_index_or}
 use Rattle.std.specs.Option.{ok_or}
@@ -24,7 +25,7 @@ use Rattle.xa_grammar.specs.declared.step.Called.{Called}
 use Rattle.xa_grammar.specs.declared.step.Action.TheVariants as action
 use Rattle.xa_grammar.specs.declared.step.Step.TheVariants as step
 use Rattle.xa_grammar.specs.declared.script.Count.{Count}
-use Rattle.xa_grammar.specs.declared.script.Count.TheVariants.{Threads, Managers, Handles, Queue, Requests}
+use Rattle.xa_grammar.specs.declared.script.Count.TheVariants.{Threads, Managers}
 use Rattle.xa_grammar.specs.declared.action.Verb.{Verb}
 use Rattle.xa_grammar.specs.declared.action.Verb.TheVariants as verb
 use Rattle.xa_grammar.specs.declared.line.Head.{Head}
@@ -35,7 +36,8 @@ use Rattle.xa_grammar.specs.Text.{is_script_byte, words_of}
 use Rattle.xa_grammar.specs.Fields.{◌>>=◌, Word, word_at, end_of, number_of, number_in, number_at, key_at, xid_at, delta_at, flags_onto}
 use Rattle.xa_base.specs.Lists.{IsUpTo}
 use Rattle.xa_grammar.specs.Steps.{ScriptAction, ScriptTask, ScriptStep}
-use Rattle.xa_grammar.specs.Content.{Content, IsScript, IsOfManager, IsOfLog, IsOfScript, AsksForFew, HasFewXids, threads_of, managers_of, accounts_of, failing_append, nothing, with_count, with_key, with_sync, with_failing, with_step}
+use Rattle.xa_grammar.specs.Content.{Content, IsScript, IsOfManager, IsOfLog, IsOfScript, AsksForFew, HasFewXids, threads_of, managers_of, accounts_of}
+use Rattle.xa_grammar.specs.Content.{failing_append, with_count, with_key, with_sync, with_failing, with_step}
 use Rattle.xa_grammar.specs.Settings.{before_actions, count_of, not_set, limit_of, setting_of, sync_of, logfail_of, has_key, key_count, declared_of}
 use Rattle.xa_grammar.specs.Commits.{commit_of}
 use Rattle.xa_grammar.specs.Actions.{verb_of, calling_at, call_of, action_of, task_on, turn_of, reopen_of}
@@ -67,18 +69,22 @@ other_way k l e =
       | false ↦ λ t. refl
     ] refl
 
-no_later : (d : List ℕ × ℕ) (ds : List (List ℕ × ℕ)) (y : List ℕ × ℕ) → list_any (λ e. key_eq e.0 y.0) (d ∷ ds) ≡ false → (key_eq d.0 y.0 ≡ false) × (list_any (λ e. key_eq e.0 y.0) ds ≡ false)
-no_later d ds y e = elim (key_eq d.0 y.0) as (λ b. (b || list_any (λ e. key_eq e.0 y.0) ds) ≡ false → (b ≡ false) × (list_any (λ e. key_eq e.0 y.0) ds ≡ false)) [ true ↦ λ f. (f, absurd (let never : ⊥ = cc in never)) | false ↦ λ f. (refl, f) ] e
+no_later : (d : List ℕ × ℕ) (ds : List (List ℕ × ℕ)) (y : List ℕ × ℕ) → list_any (λ e. key_eq e.0 y.0) (d ∷ ds) ≡ false
+    → (key_eq d.0 y.0 ≡ false) × (list_any (λ e. key_eq e.0 y.0) ds ≡ false)
+no_later d ds y e =
+    elim (key_eq d.0 y.0) as (λ b. (b || list_any (λ e. key_eq e.0 y.0) ds) ≡ false → (b ≡ false) × (list_any (λ e. key_eq e.0 y.0) ds ≡ false)) [ true ↦ λ f. (f, absurd (let never : ⊥ = cc in never)) | false ↦ λ f. (refl, f) ] e
 
 are_apart-push : (ds : List (List ℕ × ℕ)) (y : List ℕ × ℕ) → are_apart ds ≡ true → list_any (λ e. key_eq e.0 y.0) ds ≡ false → are_apart (ds ++ y ∷ []) ≡ true
 are_apart-push [] y apart new = refl
 are_apart-push (d ∷ ds) y apart new =
     let split = no_later d ds y new in
     let none : list_any (λ e. key_eq e.0 d.0) (ds ++ y ∷ []) ≡ list_any (λ e. key_eq e.0 d.0) ds =
-    list_any-append (λ (e : List ℕ × ℕ). key_eq e.0 d.0) ds (y ∷ []) ∙ ap (λ b. list_any (λ e. key_eq e.0 d.0) ds || (b || false)) (other_way d.0 y.0 split.0) ∙ or-false _ in
+    list_any-append (λ (e : List ℕ × ℕ). key_eq e.0 d.0) ds (y ∷ []) ∙ ap (λ b. list_any (λ e. key_eq e.0 d.0) ds || (b || false)) (other_way d.0 y.0 split.0)
+    ∙ or-false _ in
     both_true (ap not none ∙ (and_parts _ _ apart).0) (are_apart-push ds y (and_parts _ _ apart).1 split.1)
 
-are_accounts-push : (ds : List (List ℕ × ℕ)) (y : List ℕ × ℕ) → are_accounts ds ≡ true → length ds < 256 → y.1 ≤ 1000000000000 → list_any (λ e. key_eq e.0 y.0) ds ≡ false → are_accounts (ds ++ y ∷ []) ≡ true
+are_accounts-push : (ds : List (List ℕ × ℕ)) (y : List ℕ × ℕ) → are_accounts ds ≡ true → length ds < 256 → y.1 ≤ 1000000000000
+    → list_any (λ e. key_eq e.0 y.0) ds ≡ false → are_accounts (ds ++ y ∷ []) ≡ true
 are_accounts-push ds y old few small new =
     let rest : (list_all (λ (d : List ℕ × ℕ). nat_le d.1 1000000000000) ds && are_apart ds) ≡ true = (and_parts _ _ old).1 in
     both_true (le-leb _ 256 (omega (arith, length-append ds (y ∷ []))))
@@ -97,65 +103,43 @@ new_account m k (d ∷ keys) e =
 just : {A : Type 0} (P : A → Type 0) (x : A) → P x → All P (x ∷ [])
 just P x p = All-cons P x [] p (All-nil P)
 
-accounts-push : (m : ℕ) (keys : List Declared) (d : Declared) → accounts_of m (keys ++ d ∷ []) ≡ accounts_of m keys ++ (if d.manager == m then (d.key, d.value) ∷ [] else [])
+accounts-push : (m : ℕ) (keys : List Declared) (d : Declared)
+    → accounts_of m (keys ++ d ∷ []) ≡ accounts_of m keys ++ (if d.manager == m then (d.key, d.value) ∷ [] else [])
 accounts-push m keys d =
     ap (map {B = List ℕ × ℕ} (λ (e : Declared). (e.key, e.value))) (filter-append (λ (e : Declared). e.manager == m) keys (d ∷ []))
     ∙ map-append {B = List ℕ × ℕ} (λ (e : Declared). (e.key, e.value)) (filter (λ e. e.manager == m) keys) (filter (λ e. e.manager == m) (d ∷ []))
     ∙ ap (λ l. accounts_of m keys ++ l) (elim (d.manager == m) as (λ b. map {B = List ℕ × ℕ} (λ (e : Declared). (e.key, e.value)) (cond b (d ∷ []) []) ≡ (if b then (d.key, d.value) ∷ [] else [])) [ true ↦ refl | false ↦ refl ])
 
-key_kept : (s : Content) (d : Declared) → IsOfManager s d → has_key d.manager d.key s.keys ≡ false → key_count d.manager s.keys < 256 → d.value ≤ 1000000000000 → IsScript s → IsScript (with_key d s)
+key_kept : (s : Content) (d : Declared) → IsOfManager s d → has_key d.manager d.key s.keys ≡ false → key_count d.manager s.keys < 256 → d.value ≤ 1000000000000
+    → IsScript s → IsScript (with_key d s)
 key_kept s d of new few small is =
-    record {
-      threads = is.threads;
-      managers = is.managers;
-      handles = is.handles;
-      queue = is.queue;
-      requests = is.requests;
-      of_managers = All-append (IsOfManager s) s.keys (d ∷ []) is.of_managers (just (IsOfManager s) d of);
-      accounts = λ m. ap are_accounts (accounts-push m s.keys d)
-          ∙ elim (d.manager == m) as (λ b. (d.manager == m) ≡ b → are_accounts (accounts_of m s.keys ++ (if b then (d.key, d.value) ∷ [] else [])) ≡ true) [
-            | true ↦ λ t.
-                let same : d.manager ≡ m = eqb-true d.manager m t in
-                let size : length (accounts_of m s.keys) ≡ key_count m s.keys = length-map {B = List ℕ × ℕ} (filter (λ e. e.manager == m) s.keys) (λ (e : Declared). (e.key, e.value)) ∙ length-filter (λ (e : Declared). e.manager == m) s.keys in
-                let room : key_count m s.keys < 256 = subst (λ n. key_count n s.keys < 256) same few in
-                are_accounts-push (accounts_of m s.keys) (d.key, d.value) (is.accounts m) (omega arith) small
-                (new_account m d.key s.keys (ap (λ n. has_key n d.key s.keys) (sym same) ∙ new))
-            | false ↦ λ t. ap are_accounts (append-nil (accounts_of m s.keys)) ∙ is.accounts m
-          ] refl;
-      of_logs = is.of_logs;
-      of_steps = is.of_steps;
-    }
+    let of_managers : All (IsOfManager s) (s.keys ++ d ∷ []) = All-append (IsOfManager s) s.keys (d ∷ []) is.of_managers (just (IsOfManager s) d of) in
+    let accounts : (m : ℕ) → are_accounts (accounts_of m (s.keys ++ d ∷ [])) ≡ true =
+    λ m. ap are_accounts (accounts-push m s.keys d)
+    ∙ elim (d.manager == m) as (λ b. (d.manager == m) ≡ b → are_accounts (accounts_of m s.keys ++ (if b then (d.key, d.value) ∷ [] else [])) ≡ true) [
+      | true ↦ λ t.
+          let same : d.manager ≡ m = eqb-true d.manager m t in
+          let size : length (accounts_of m s.keys) ≡ key_count m s.keys
+          = length-map {B = List ℕ × ℕ} (filter (λ e. e.manager == m) s.keys) (λ (e : Declared). (e.key, e.value))
+          ∙ length-filter (λ (e : Declared). e.manager == m) s.keys in
+          let room : key_count m s.keys < 256 = subst (λ n. key_count n s.keys < 256) same few in
+          are_accounts-push (accounts_of m s.keys) (d.key, d.value) (is.accounts m) (omega arith) small
+          (new_account m d.key s.keys (ap (λ n. has_key n d.key s.keys) (sym same) ∙ new))
+      | false ↦ λ t. ap are_accounts (append-nil (accounts_of m s.keys)) ∙ is.accounts m
+    ] refl in
+    assumption
 
 step_kept : (s : Content) (p : ScriptStep) → IsOfScript s p → IsScript s → IsScript (with_step p s)
 step_kept s p of is =
-    record {
-      threads = is.threads;
-      managers = is.managers;
-      handles = is.handles;
-      queue = is.queue;
-      requests = is.requests;
-      of_managers = is.of_managers;
-      accounts = is.accounts;
-      of_logs = is.of_logs;
-      of_steps = All-append (IsOfScript s) s.steps (p ∷ []) is.of_steps (just (IsOfScript s) p of);
-    }
+    let of_steps : All (IsOfScript s) (s.steps ++ p ∷ []) = All-append (IsOfScript s) s.steps (p ∷ []) is.of_steps (just (IsOfScript s) p of) in
+    assumption
 
 sync_kept : (s : Content) (m : ℕ) → IsScript s → IsScript (with_sync m s)
-sync_kept s m is =
-    record {
-      threads = is.threads;
-      managers = is.managers;
-      handles = is.handles;
-      queue = is.queue;
-      requests = is.requests;
-      of_managers = is.of_managers;
-      accounts = is.accounts;
-      of_logs = is.of_logs;
-      of_steps = is.of_steps;
-    }
+sync_kept s m is = assumption
 
 -- one place is written, the others are as they were
-after_set : (P : Option ℕ → Type 0) (xs : List (Option ℕ)) (i j : ℕ) (x : Option ℕ) → P (get_or xs j None) → (i ≡ j → P x) → P (get_or (slice_set xs i x) j None)
+after_set : (P : Option ℕ → Type 0) (xs : List (Option ℕ)) (i j : ℕ) (x : Option ℕ) → P (get_or xs j None) → (i ≡ j → P x)
+    → P (get_or (slice_set xs i x) j None)
 after_set P [] i j x old new = old
 after_set P (y ∷ xs) zero zero x old new = new refl
 after_set P (y ∷ xs) zero (suc j) x old new = old
@@ -171,21 +155,13 @@ log_kept s t k u of small old =
 
 failing_kept : (s : Content) (t k : ℕ) → IsUpTo (threads_of s) t → IsUpTo 1000000 k → IsScript s → IsScript (with_failing t k s)
 failing_kept s t k of small is =
-    record {
-      threads = is.threads;
-      managers = is.managers;
-      handles = is.handles;
-      queue = is.queue;
-      requests = is.requests;
-      of_managers = is.of_managers;
-      accounts = is.accounts;
-      of_logs = λ u. log_kept s t k u of small (is.of_logs u);
-      of_steps = is.of_steps;
-    }
+    let of_logs : (u : ℕ) → IsOfLog (with_failing t k s) u = λ u. log_kept s t k u of small (is.of_logs u) in
+    assumption
 
 -- the first count of managers has the keys that were declared before it, of the one manager that there was
 more_managers : (s : Content) (n : ℕ) → s.settings.managers ≡ None → 1 ≤ n → (d : Declared) → IsOfManager s d → IsOfManager (with_count Managers n s) d
-more_managers s n unset low d of = (of.0, let one : managers_of s ≡ 1 = ap (λ (c : Option ℕ). unwrap_or c 1) unset in let most : d.manager ≤ managers_of s = of.1 in omega arith)
+more_managers s n unset low d of =
+    (of.0, let one : managers_of s ≡ 1 = ap (λ (c : Option ℕ). unwrap_or c 1) unset in let most : d.manager ≤ managers_of s = of.1 in omega arith)
 
 -- the first count of threads has the log of the one thread that there was
 more_threads : (s : Content) (n : ℕ) → s.settings.threads ≡ None → 1 ≤ n → (u : ℕ) → IsOfLog s u → IsOfLog (with_count Threads n s) u
@@ -197,65 +173,15 @@ more_threads s n unset low u of =
 
 count_kept : (s : Content) (c : Count) (n : ℕ) → s.steps ≡ [] → count_of c s.settings ≡ None → 1 ≤ n → n ≤ limit_of c → IsScript s → IsScript (with_count c n s)
 count_kept s Threads n none unset low high is =
-    record {
-      threads = (low, high);
-      managers = is.managers;
-      handles = is.handles;
-      queue = is.queue;
-      requests = is.requests;
-      of_managers = is.of_managers;
-      accounts = is.accounts;
-      of_logs = λ u. more_threads s n unset low u (is.of_logs u);
-      of_steps = subst (λ ps. All (IsOfScript (with_count Threads n s)) ps) (sym none) (All-nil (IsOfScript (with_count Threads n s)));
-    }
+    let of_logs : (u : ℕ) → IsOfLog (with_count Threads n s) u = λ u. more_threads s n unset low u (is.of_logs u) in
+    let of_steps : All (IsOfScript (with_count Threads n s)) s.steps = rw none (All-nil (IsOfScript (with_count Threads n s))) in
+    assumption
 count_kept s Managers n none unset low high is =
-    record {
-      threads = is.threads;
-      managers = (low, high);
-      handles = is.handles;
-      queue = is.queue;
-      requests = is.requests;
-      of_managers = λ i d l. more_managers s n unset low (slice_index_or s.keys i d) (is.of_managers i d l);
-      accounts = is.accounts;
-      of_logs = is.of_logs;
-      of_steps = subst (λ ps. All (IsOfScript (with_count Managers n s)) ps) (sym none) (All-nil (IsOfScript (with_count Managers n s)));
-    }
-count_kept s Handles n none unset low high is =
-    record {
-      threads = is.threads;
-      managers = is.managers;
-      handles = (low, high);
-      queue = is.queue;
-      requests = is.requests;
-      of_managers = is.of_managers;
-      accounts = is.accounts;
-      of_logs = is.of_logs;
-      of_steps = is.of_steps;
-    }
-count_kept s Queue n none unset low high is =
-    record {
-      threads = is.threads;
-      managers = is.managers;
-      handles = is.handles;
-      queue = (low, high);
-      requests = is.requests;
-      of_managers = is.of_managers;
-      accounts = is.accounts;
-      of_logs = is.of_logs;
-      of_steps = is.of_steps;
-    }
-count_kept s Requests n none unset low high is =
-    record {
-      threads = is.threads;
-      managers = is.managers;
-      handles = is.handles;
-      queue = is.queue;
-      requests = (low, high);
-      of_managers = is.of_managers;
-      accounts = is.accounts;
-      of_logs = is.of_logs;
-      of_steps = is.of_steps;
-    }
+    let of_managers : All (IsOfManager (with_count Managers n s)) s.keys = λ i d l. more_managers s n unset low (slice_index_or s.keys i d)
+    (is.of_managers i d l) in
+    let of_steps : All (IsOfScript (with_count Managers n s)) s.steps = rw none (All-nil (IsOfScript (with_count Managers n s))) in
+    assumption
+count_kept s c n none unset low high is = assumption
 
 no_steps : (steps : List ScriptStep) (u : Unit {0}) → before_actions steps ≡ Ok u → steps ≡ []
 no_steps [] u e = refl
@@ -320,7 +246,8 @@ declared_kept s ws d e =
     subst (λ (z : Declared). IsScript s → IsScript (with_key z s)) same
     (key_kept s made (number_is 1 (managers_of s) ws m.0 m.1.0) new.0 (grind (arith, few.0)) (number_is 0 1000000000000 k.0.1 v.0 v.1.0).1)
 
-asked : (a : Calling XidName) (rest : List Word) (x : Calling XidName × List Word) → ◌≡◌ {A = Result (Calling XidName × List Word) Reason} (Ok (a, rest)) (Ok x) → AsksForFew a → AsksForFew x.0
+asked : (a : Calling XidName) (rest : List Word) (x : Calling XidName × List Word) → ◌≡◌ {A = Result (Calling XidName × List Word) Reason} (Ok (a, rest)) (Ok x)
+    → AsksForFew a → AsksForFew x.0
 asked a rest x e few = subst (λ (y : Calling XidName × List Word). AsksForFew y.0) (ok_is (a, rest) x e) few
 
 few_asked : (v : Verb) (ws : List Word) (x : Calling XidName × List Word) → calling_at v ws ≡ Ok x → AsksForFew x.0
@@ -374,47 +301,45 @@ turn_is false s line ws m e =
     let same : n.0.0 ≡ m = ok_is n.0.0 m last.1.1 in
     subst (λ (z : ℕ). IsOfScript s (step.Turn line z)) same (number_is 1 (managers_of s) ws n.0 n.1.0)
 
-item_by_kept : (h : Option Head) (mode : Bool) (s : Content) (n : ℕ) (w : Word) (ws : List Word) (i : Item) → item_by h mode s n w ws ≡ Ok i → IsScript s → IsScript (with_item i s)
+-- what holds of all that a reading can make holds of what it makes
+pub item_made : {A : Type 0} (P : Item → Type 0) (r : Result A Reason) (f : A → Item) (i : Item) → (r >>= λ x. Ok (f x)) ≡ Ok i
+    → ((x : A) → r ≡ Ok x → P (f x)) → P i
+item_made P r f i e holds =
+    let x = and_then r (λ x. Ok (f x)) i e in
+    subst P (ok_is (f x.0) i x.1.1) (holds x.0 x.1.0)
+
+-- with what the line adds it is a script
+abbrev Keeps : Content → Item → Type 0
+Keeps s i = IsScript (with_item i s)
+
+item_by_kept : (h : Option Head) (mode : Bool) (s : Content) (n : ℕ) (w : Word) (ws : List Word) (i : Item) → item_by h mode s n w ws ≡ Ok i → IsScript s
+    → Keeps s i
 unfolding item_by
 item_by_kept None mode s n w ws i e is = let never : ⊥ = cc in absurd never
-item_by_kept (Some head.Comment) mode s n w ws i e is = let same : item.Nothing ≡ i = cc in subst (λ (z : Item). IsScript (with_item z s)) same is
-item_by_kept (Some (head.Count count)) mode s n w ws i e is =
-    let c = and_then (setting_of s count ws) (λ number. Ok (item.Count count number)) i e in
-    let same : item.Count count c.0 ≡ i = ok_is (item.Count count c.0) i c.1.1 in
-    subst (λ (z : Item). IsScript (with_item z s)) same (setting_kept s count ws c.0 c.1.0 is)
-item_by_kept (Some head.Sync) mode s n w ws i e is =
-    let m = and_then (sync_of s ws) (λ m. Ok (item.Sync m)) i e in
-    let same : item.Sync m.0 ≡ i = ok_is (item.Sync m.0) i m.1.1 in
-    subst (λ (z : Item). IsScript (with_item z s)) same (sync_kept s m.0 is)
-item_by_kept (Some head.LogFail) mode s n w ws i e is =
-    let x = and_then (logfail_of s ws) (λ x. Ok (item.LogFail x.0 x.1)) i e in
-    let same : item.LogFail x.0.0 x.0.1 ≡ i = ok_is (item.LogFail x.0.0 x.0.1) i x.1.1 in
-    subst (λ (z : Item). IsScript (with_item z s)) same (logfail_kept s ws x.0 x.1.0 is)
-item_by_kept (Some head.Key) mode s n w ws i e is =
-    let d = and_then (declared_of s ws) (λ d. Ok (item.Key d)) i e in
-    let same : item.Key d.0 ≡ i = ok_is (item.Key d.0) i d.1.1 in
-    subst (λ (z : Item). IsScript (with_item z s)) same (declared_kept s ws d.0 d.1.0 is)
-item_by_kept (Some head.Turn) mode s n w ws i e is =
-    let m = and_then (turn_of mode s ws) (λ m. Ok (item.Step (step.Turn n m))) i e in
-    let same : item.Step (step.Turn n m.0) ≡ i = ok_is (item.Step (step.Turn n m.0)) i m.1.1 in
-    subst (λ (z : Item). IsScript (with_item z s)) same (step_kept s (step.Turn n m.0) (turn_is mode s n ws m.0 m.1.0) is)
-item_by_kept (Some head.Reopen) mode s n w ws i e is =
-    let last = and_then (reopen_of mode ws) (λ last. Ok (item.Step (step.Reopen n))) i e in
-    let same : item.Step (step.Reopen n) ≡ i = ok_is (item.Step (step.Reopen n)) i last.1.1 in
-    subst (λ (z : Item). IsScript (with_item z s)) same (step_kept s (step.Reopen n) tt is)
-item_by_kept (Some head.Thread) mode s n w ws i e is =
-    let p = and_then (task_on s n w ws) (λ p. Ok (item.Step (step.Task p))) i e in
-    let same : item.Step (step.Task p.0) ≡ i = ok_is (item.Step (step.Task p.0)) i p.1.1 in
-    subst (λ (z : Item). IsScript (with_item z s)) same (step_kept s (step.Task p.0) (thread_is s n w ws p.0 p.1.0) is)
+item_by_kept (Some head.Comment) mode s n w ws i e is = item_made {A = Unit {0}} (Keeps s) (Ok tt) (λ u. item.Nothing) i e (λ u t. is)
+item_by_kept (Some (head.Count count)) mode s n w ws i e is = item_made (Keeps s) (setting_of s count ws) (item.Count count) i e
+    (λ c t. setting_kept s count ws c t is)
+item_by_kept (Some head.Sync) mode s n w ws i e is = item_made (Keeps s) (sync_of s ws) item.Sync i e (λ m t. sync_kept s m is)
+item_by_kept (Some head.LogFail) mode s n w ws i e is = item_made (Keeps s) (logfail_of s ws) (λ x. item.LogFail x.0 x.1) i e (λ x t. logfail_kept s ws x t is)
+item_by_kept (Some head.Key) mode s n w ws i e is = item_made (Keeps s) (declared_of s ws) item.Key i e (λ d t. declared_kept s ws d t is)
+item_by_kept (Some head.Turn) mode s n w ws i e is = item_made (Keeps s) (turn_of mode s ws) (λ m. item.Step (step.Turn n m)) i e
+    (λ m t. step_kept s (step.Turn n m) (turn_is mode s n ws m t) is)
+item_by_kept (Some head.Reopen) mode s n w ws i e is = item_made (Keeps s) (reopen_of mode ws) (λ u. item.Step (step.Reopen n)) i e
+    (λ u t. step_kept s (step.Reopen n) tt is)
+item_by_kept (Some head.Thread) mode s n w ws i e is = item_made (Keeps s) (task_on s n w ws) (λ p. item.Step (step.Task p)) i e
+    (λ p t. step_kept s (step.Task p) (thread_is s n w ws p t) is)
 
-item_kept : (mode : Bool) (s : Content) (n : ℕ) (ws : List Word) (i : Item) → item_of mode s n ws ≡ Ok i → IsScript s → IsScript (with_item i s)
-item_kept mode s n [] i e is = let same : item.Nothing ≡ i = cc in subst (λ (z : Item). IsScript (with_item z s)) same is
+item_kept : (mode : Bool) (s : Content) (n : ℕ) (ws : List Word) (i : Item) → item_of mode s n ws ≡ Ok i → IsScript s → Keeps s i
+item_kept mode s n [] i e is = item_made {A = Unit {0}} (Keeps s) (Ok tt) (λ u. item.Nothing) i e (λ u t. is)
 item_kept mode s n (w ∷ ws) i e is = item_by_kept (head_of w) mode s n w ws i e is
 
-pub line_kept : (mode : Bool) (s : Content) (n : ℕ) (line : List ℕ) (i : Item) → line_of mode s n line ≡ Ok i → IsScript s → IsScript (with_item i s)
+-- a line without a fault in its bytes is what its words say
+pub line_words : (mode : Bool) (s : Content) (n : ℕ) (line : List ℕ) (i : Item) → line_of mode s n line ≡ Ok i → item_of mode s n (words_of line) ≡ Ok i
 unfolding line_of
-line_kept mode s n line i e =
+line_words mode s n line i e =
     let few = not_then (nat_lt 100000 n) TooManyLines _ i e in
     let short = not_then (nat_lt 512 (length line)) LineTooLong _ i few.1 in
-    let bytes = not_then (not (list_all is_script_byte line)) BadByte _ i short.1 in
-    item_kept mode s n (words_of line) i bytes.1
+    (not_then (not (list_all is_script_byte line)) BadByte _ i short.1).1
+
+pub line_kept : (mode : Bool) (s : Content) (n : ℕ) (line : List ℕ) (i : Item) → line_of mode s n line ≡ Ok i → IsScript s → Keeps s i
+line_kept mode s n line i e is = item_kept mode s n (words_of line) i (line_words mode s n line i e) is

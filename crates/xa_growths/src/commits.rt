@@ -8,12 +8,10 @@ use std::alloc::Global;
 use std::sync::Wait;
 use xa_crew::Turns;
 use xa_desk::Desk;
-use xa_driver::{
-    Branch, CommitRecord, DecisionLog, DecisionRecords, Done, Ending, MemoryLog, commit_all,
-    may_commit,
-};
+use xa_driver::{Branch, Done, Ending, commit_all, may_commit};
+use xa_log::{CommitRecord, DecisionLog, DecisionRecords, MemoryLog};
 use xa_switch::{RmOp, native, xa_call};
-use xa_words::{Call, Delta, Key, TMNOFLAGS, TMSUCCESS, Xid};
+use xa_words::{Call, Delta, Key, ManagerSet, TMNOFLAGS, TMSUCCESS, Xid};
 
 /// A desk that has worked for two branches of one transaction, and its log.
 #[derive(Drop)]
@@ -129,7 +127,7 @@ pub(crate) fn append(log: &mut MemoryLog) -> Came {
     let Ok(xid) = Xid::new(1, b"t", b"1") else {
         return Came::Wrong;
     };
-    let (tran, yes) = (xid.tran(), [true; 8]);
+    let (tran, yes) = (xid.tran(), ManagerSet::of([true; 8]));
     if log.has(&tran).is_some() {
         return Came::Wrong;
     }

@@ -6,7 +6,7 @@ use crate::reopening::{Resolver, open_again, settled};
 use std::alloc::Global;
 use std::io::{self, Write};
 use std::sync::Wait;
-use xa_driver::MemoryLog;
+use xa_log::MemoryLog;
 use xa_switch::{Plan, Settled};
 
 /// What came of a thing.

@@ -1,5 +1,6 @@
 -- What the lists that close a lane say together.
-use Rattle.std.proofs.Common.{◌≡◌, ℕ, zero, suc, ◌<◌, ◌==◌, List, [], ◌∷◌, ◌++◌, length, map, get_or, sym, refl, ap, ◌∙◌, subst, append-nil, arith, Option, Some, None}
+use Rattle.std.proofs.Common.{◌≡◌, ℕ, zero, suc, ◌<◌, ◌==◌, List, [], ◌∷◌, ◌++◌, length, map, get_or, sym, refl, ap, ◌∙◌, subst, append-nil, arith, Option}
+use Rattle.std.proofs.Common.{Some, None}
 use Rattle.std.specs.List.{All}
 use Rattle.std.proofs.lemmas.List.Folds.{Any-from_list_any}
 use Rattle.std.proofs.lemmas.Bool.{eqb-true}
@@ -37,7 +38,8 @@ module _ {T : Type 0} where
   )
 
   -- the queue was found empty, so all was taken
-  pub closed : (made : ℕ) (got held items : List (Parcel T)) (told : List (Log T)) (v : View T) → v ≡ Receives made (got ++ held) told → length items ≡ 0 → receiver_learns v items
+  pub closed : (made : ℕ) (got held items : List (Parcel T)) (told : List (Log T)) (v : View T) → v ≡ Receives made (got ++ held) told → length items ≡ 0
+      → receiver_learns v items
       → Tied told (got ++ held) × Within made (got ++ held)
   closed made got held [] told v e none look =
       let r = subst (λ v. receiver_learns v []) e look in
@@ -45,7 +47,8 @@ module _ {T : Type 0} where
       ((λ k l at. ap (of_sender l.from) (sym all) ∙ r.0 k l at), (λ p b. ap (of_sender p) (sym all) ∙ r.1 p b))
   closed made got held (x ∷ xs) told v e none look = absurd (omega arith)
 
-  pub known_as : (n made : ℕ) (got taken held : List (Parcel T)) (told : List (Log T)) (v : View T) (left : List (ℕ × T)) → v ≡ Receives made got told → made ≡ n → got ≡ taken
+  pub known_as : (n made : ℕ) (got taken held : List (Parcel T)) (told : List (Log T)) (v : View T) (left : List (ℕ × T)) → v ≡ Receives made got told
+      → made ≡ n → got ≡ taken
       → left ≡ items_in held → Within (made_in v) (taken_in v ++ held) → AreKnown n taken left
   known_as n made got taken held told v left e m g l w =
       are_known n taken held left l
@@ -57,7 +60,8 @@ module _ {T : Type 0} where
   conserves_of_ends ends taken left h k d below =
       let e : Sending T = get_or ends k d in
       ap (λ l. somes (of_sender e.index taken) ++ left_of e.index l) h.1 ∙ ap (λ l. somes (of_sender e.index taken) ++ l) (left_is e.index h.0)
-      ∙ sym (somes-append (of_sender e.index taken) (of_sender e.index h.0)) ∙ ap somes (sym (of_sender-append e.index taken h.0)) ∙ ap somes (h.2 k d below) ∙ somes_marks e.sent
+      ∙ sym (somes-append (of_sender e.index taken) (of_sender e.index h.0)) ∙ ap somes (sym (of_sender-append e.index taken h.0)) ∙ ap somes (h.2 k d below)
+      ∙ somes_marks e.sent
 
   told_at : (ends : List (Sending T)) (k : ℕ) (d : Sending T) → k < length ends → get_elem? (map told_of ends) k ≡ some (told_of (get_or ends k d))
   told_at [] k d h = absurd (omega arith)
@@ -79,18 +83,22 @@ module _ {T : Type 0} where
       (c.0, told_of (get_or ends c.0 c.1), told_at ends c.0 c.1 c.2, ap (λ (e : Sending T). e.index) c.3 ∙ eqb-true c.1.index p c.4)
 
   -- the same of the pass that took the senders in
-  pub covers_as : (n made : ℕ) (got : List (Parcel T)) (ends : List (Sending T)) (v : View T) → v ≡ Receives made got (map told_of ends) → made ≡ n → IsWhole n ends → Covers (made_in v) (told_in v)
+  pub covers_as : (n made : ℕ) (got : List (Parcel T)) (ends : List (Sending T)) (v : View T) → v ≡ Receives made got (map told_of ends) → made ≡ n
+      → IsWhole n ends → Covers (made_in v) (told_in v)
   covers_as n made got ends v e m whole =
       subst (λ v. Covers (made_in v) (told_in v)) (sym e) (subst (λ m. Covers m (map told_of ends)) (sym m) (covers n ends whole))
 
-  pub marked_as : (made : ℕ) (got taken held : List (Parcel T)) (ends : List (Sending T)) (v : View T) (left : List (ℕ × T)) → v ≡ Receives made got (map told_of ends) → got ≡ taken
+  pub marked_as : (made : ℕ) (got taken held : List (Parcel T)) (ends : List (Sending T)) (v : View T) (left : List (ℕ × T))
+      → v ≡ Receives made got (map told_of ends) → got ≡ taken
       → left ≡ items_in held → Tied (told_in v) (taken_in v ++ held) → EndsLast ends taken left
   marked_as made got taken held ends v left e g l tie =
-      let t : Tied (map told_of ends) (taken ++ held) = subst (λ g. Tied (map told_of ends) (g ++ held)) g (subst (λ v. Tied (told_in v) (taken_in v ++ held)) e tie) in
+      let t : Tied (map told_of ends) (taken ++ held) =
+      subst (λ g. Tied (map told_of ends) (g ++ held)) g (subst (λ v. Tied (told_in v) (taken_in v ++ held)) e tie) in
       let m = marked ends taken held t in (m.0, l ∙ m.1, m.2)
 
   -- what a pass knows, by its own parts
-  pub knows_itself : (made : ℕ) (got : List (Parcel T)) (told : List (Log T)) (v : View T) → v ≡ Receives made got told → v ≡ Receives (made_in v) (taken_in v) (told_in v)
+  pub knows_itself : (made : ℕ) (got : List (Parcel T)) (told : List (Log T)) (v : View T) → v ≡ Receives made got told
+      → v ≡ Receives (made_in v) (taken_in v) (told_in v)
   knows_itself made got told v e = subst (λ (v : View T). v ≡ Receives (made_in v) (taken_in v) (told_in v)) (sym e) refl
 
   -- the same of one that took no sender in

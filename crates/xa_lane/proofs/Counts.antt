@@ -1,5 +1,6 @@
 -- How many parcels a lane has: as many at any two moments once all senders were taken in.
-use Rattle.std.proofs.Common.{◌≡◌, ℕ, zero, suc, ◌+◌, ◌<◌, ◌≤◌, cond, List, [], ◌∷◌, ◌++◌, length, sym, refl, ap, ◌∙◌, subst, ⊎_elim, append_assoc, eq-eqb, ne_eqb, lt_of_not-le, arith, length-append}
+use Rattle.std.proofs.Common.{◌≡◌, ℕ, zero, suc, ◌+◌, ◌<◌, ◌≤◌, cond, List, [], ◌∷◌, ◌++◌, length, sym, refl, ap, ◌∙◌, subst, ⊎_elim, append_assoc, eq-eqb}
+use Rattle.std.proofs.Common.{ne_eqb, lt_of_not-le, arith, length-append}
 use Rattle.std.proofs.Math.Nat.{eq-or-lt_of_le}
 use Rattle.xa_lane.specs.declared.parcel.Parcel.{Parcel}
 use Rattle.xa_lane.specs.declared.order.Log.{Log}
@@ -48,7 +49,8 @@ module _ {T : Type 0} where
       omega (arith, r, s)
 
   pub within_head : (n : ℕ) (x : Parcel T) (xs : List (Parcel T)) → Within n (x ∷ xs) → x.from < n
-  within_head n x xs h = lt_of_not-le (λ e. let r = ap (λ b. cond b (x.item ∷ of_sender x.from xs) (of_sender x.from xs)) (eq-eqb x.from x.from refl) in not_cons (of_sender x.from xs) x.item (sym r ∙ h x.from e))
+  within_head n x xs h =
+      lt_of_not-le (λ e. let r = ap (λ b. cond b (x.item ∷ of_sender x.from xs) (of_sender x.from xs)) (eq-eqb x.from x.from refl) in not_cons (of_sender x.from xs) x.item (sym r ∙ h x.from e))
 
   pub within_tail : (n : ℕ) (x : Parcel T) (xs : List (Parcel T)) → Within n (x ∷ xs) → Within n xs
   within_tail n x xs h p e =
@@ -71,14 +73,16 @@ module _ {T : Type 0} where
       omega (arith, r, s)
 
   -- at any two moments after that there are as many parcels, taken and held
-  pub as_many : (n : ℕ) (told : List (Log T)) (xs ys : List (Parcel T)) → Covers n told → Tied told xs → Tied told ys → Within n xs → Within n ys → length xs ≡ length ys
+  pub as_many : (n : ℕ) (told : List (Log T)) (xs ys : List (Parcel T)) → Covers n told → Tied told xs → Tied told ys → Within n xs → Within n ys
+      → length xs ≡ length ys
   as_many n told xs ys covers tx ty wx wy =
       sym (total_all n xs wx)
       ∙ total_same n xs ys (λ p e. let c = covers p e in subst (λ p. of_sender p xs ≡ of_sender p ys) c.3 (tx c.0 c.1 c.2 ∙ sym (ty c.0 c.1 c.2)))
       ∙ total_all n ys wy
 
   -- the receiver's view after one more pop
-  pub drained : (made : ℕ) (got held : List (Parcel T)) (told : List (Log T)) (v w : View T) (x : Parcel T) → v ≡ Receives made (got ++ held) told → Popped v x w
+  pub drained : (made : ℕ) (got held : List (Parcel T)) (told : List (Log T)) (v w : View T) (x : Parcel T) → v ≡ Receives made (got ++ held) told
+      → Popped v x w
       → w ≡ Receives made (got ++ (held ++ x ∷ [])) told
   drained made got held told v w x e p = p.0 ∙ ap (λ v. after_get v x) e ∙ ap (λ g. Receives made g told) (append_assoc got held (x ∷ []))
 
@@ -89,7 +93,8 @@ module _ {T : Type 0} where
       let a = subst (λ v. receiver_learns v items) e₀ look in
       let rest : List (Parcel T) = p.2.0 in
       let b = subst (λ v. receiver_learns v (x ∷ rest)) e p.2.1 in
-      let same : length (got ++ items) ≡ length ((got ++ held) ++ x ∷ rest) = as_many made told (got ++ items) ((got ++ held) ++ x ∷ rest) covers a.0 b.0 a.1 b.1 in
+      let same : length (got ++ items) ≡ length ((got ++ held) ++ x ∷ rest) =
+      as_many made told (got ++ items) ((got ++ held) ++ x ∷ rest) covers a.0 b.0 a.1 b.1 in
       let few = few_items held in
       let most_is = a.2 in
       omega (arith, same, few, most_is, length-append got items, length-append (got ++ held) (x ∷ rest), length-append got held)

@@ -1,5 +1,6 @@
 -- Each step of a lane's queue keeps its rule.
-use Rattle.std.proofs.Common.{◌≡◌, ◌≢◌, ℕ, zero, suc, ◌+◌, ◌<◌, ◌≤◌, true, false, cond, ◌==◌, List, [], ◌∷◌, ◌++◌, length, map, set, sym, refl, ap, ◌∙◌, subst, ◌⊎◌, ⊎_elim, inl, inr, append_assoc, append-nil, eq-eqb, ne_eqb, lt_of_not-le, arith, length-append, Option, Some, None}
+use Rattle.std.proofs.Common.{◌≡◌, ◌≢◌, ℕ, zero, suc, ◌+◌, ◌<◌, ◌≤◌, true, false, cond, ◌==◌, List, [], ◌∷◌, ◌++◌, length, map, set, sym, refl, ap, ◌∙◌, subst}
+use Rattle.std.proofs.Common.{◌⊎◌, ⊎_elim, inl, inr, append_assoc, append-nil, eq-eqb, ne_eqb, lt_of_not-le, arith, length-append, Option, Some, None}
 use Rattle.std.proofs.lemmas.List.{map-append}
 use mathlib.Core.Option.{some, none, some-ne-none, some-injective}
 use mathlib.Core.Option as maybe
@@ -31,16 +32,20 @@ still_none seat p q e = elim (q == p) as (λ b. cond b none (seat q) ≡ none) [
 
 module _ {T : Type 0} where
   -- a parcel at the back, of this sender or of another
-  pub of_more : (p : ℕ) (got items : List (Parcel T)) (x : Parcel T) → x.from ≡ p → of_sender p (got ++ (items ++ x ∷ [])) ≡ of_sender p (got ++ items) ++ x.item ∷ []
+  pub of_more : (p : ℕ) (got items : List (Parcel T)) (x : Parcel T) → x.from ≡ p
+      → of_sender p (got ++ (items ++ x ∷ [])) ≡ of_sender p (got ++ items) ++ x.item ∷ []
   of_more p got items x e =
-      ap (of_sender p) (sym (append_assoc got items (x ∷ []))) ∙ of_sender-append p (got ++ items) (x ∷ []) ∙ ap (λ b. of_sender p (got ++ items) ++ cond b (x.item ∷ []) []) (eq-eqb x.from p e)
+      ap (of_sender p) (sym (append_assoc got items (x ∷ []))) ∙ of_sender-append p (got ++ items) (x ∷ [])
+      ∙ ap (λ b. of_sender p (got ++ items) ++ cond b (x.item ∷ []) []) (eq-eqb x.from p e)
 
   pub of_same : (p : ℕ) (got items : List (Parcel T)) (x : Parcel T) → x.from ≢ p → of_sender p (got ++ (items ++ x ∷ [])) ≡ of_sender p (got ++ items)
   of_same p got items x n =
-      ap (of_sender p) (sym (append_assoc got items (x ∷ []))) ∙ of_sender-append p (got ++ items) (x ∷ []) ∙ ap (λ b. of_sender p (got ++ items) ++ cond b (x.item ∷ []) []) (ne_eqb x.from p n) ∙ append-nil (of_sender p (got ++ items))
+      ap (of_sender p) (sym (append_assoc got items (x ∷ []))) ∙ of_sender-append p (got ++ items) (x ∷ [])
+      ∙ ap (λ b. of_sender p (got ++ items) ++ cond b (x.item ∷ []) []) (ne_eqb x.from p n) ∙ append-nil (of_sender p (got ++ items))
 
   pub put_of_wrote : (l : Log T) (i : Option T) → l.ended ≡ false → put_of (wrote l i) ≡ put_of l ++ i ∷ []
-  put_of_wrote l (Some y) e = subst (λ b. map Some (l.items ++ y ∷ []) ++ cond b (None ∷ []) [] ≡ (map Some l.items ++ cond b (None ∷ []) []) ++ Some y ∷ []) (sym e)
+  put_of_wrote l (Some y) e =
+      subst (λ b. map Some (l.items ++ y ∷ []) ++ cond b (None ∷ []) [] ≡ (map Some l.items ++ cond b (None ∷ []) []) ++ Some y ∷ []) (sym e)
       (append-nil (map Some (l.items ++ y ∷ [])) ∙ map-append Some l.items (y ∷ []) ∙ ap (λ k. k ++ Some y ∷ []) (sym (append-nil (map Some l.items))))
   put_of_wrote l None e = subst (λ b. map Some l.items ++ None ∷ [] ≡ (map Some l.items ++ cond b (None ∷ []) []) ++ None ∷ []) (sym e)
       (ap (λ k. k ++ None ∷ []) (sym (append-nil (map Some l.items))))
@@ -52,7 +57,8 @@ module _ {T : Type 0} where
   abbrev All : (ℕ → View T → Type 0) → List (View T) → Type 0
   All F views = (port : ℕ) (v : View T) → get_elem? views port ≡ some v → F port v
 
-  all_set : (F : ℕ → View T → Type 0) (views : List (View T)) (port : ℕ) (w : View T) → F port w → ((j : ℕ) (u : View T) → j ≢ port → get_elem? views j ≡ some u → F j u) → All F (set views port w)
+  all_set : (F : ℕ → View T → Type 0) (views : List (View T)) (port : ℕ) (w : View T) → F port w
+      → ((j : ℕ) (u : View T) → j ≢ port → get_elem? views j ≡ some u → F j u) → All F (set views port w)
   all_set F views port w mine others j u e = ⊎_elim (λ (x : (j ≡ port) × (w ≡ u)). subst (λ (y : ℕ × View T). F y.0 y.1) (λ i. (sym x.0 i, x.1 i)) mine)
       (λ (x : (j ≢ port) × (get_elem? views j ≡ some u)). others j u x.0 x.1) (at_set views port j w u e)
 
@@ -71,7 +77,8 @@ module _ {T : Type 0} where
       (f.0, f.1, f.2, λ k l e. let r = f.3 k l e in (r.0, r.1, of_same l.from got items x (λ e'. some-ne-none writer (sym s ∙ ap seat e' ∙ r.1)) ∙ r.2))
   fits_more receiver made seat got items x writer j s n Spent f = tt
 
-  pub puts_at : (n port : ℕ) (l : Log T) (x : Parcel T) → l.ended ≡ false → x.from ≡ l.from → n ≤ MOST_QUEUED → Pushes Delivers n port (Sends l) x (λ w. w ≡ Sends (wrote l x.item))
+  pub puts_at : (n port : ℕ) (l : Log T) (x : Parcel T) → l.ended ≡ false → x.from ≡ l.from → n ≤ MOST_QUEUED
+      → Pushes Delivers n port (Sends l) x (λ w. w ≡ Sends (wrote l x.item))
   puts_at n port l x live mine fit items views room h at =
       let f = h.fits port (Sends l) at in
       let s : h.seat x.from ≡ some port = ap h.seat mine ∙ f.0 in
@@ -86,14 +93,16 @@ module _ {T : Type 0} where
           unmade = λ p e. let r = h.unmade p e in (r.0, of_same p h.got items x (λ e'. some-ne-none port (sym s ∙ ap h.seat e' ∙ r.0)) ∙ r.1);
           fits = all_set (Fits h.receiver h.made h.seat h.got (h.got ++ (items ++ x ∷ []))) views port w (
             ap h.seat (wrote_from l x.item) ∙ f.0,
-            ap (λ p. of_sender p (h.got ++ (items ++ x ∷ []))) (wrote_from l x.item) ∙ of_more l.from h.got items x mine ∙ ap (λ k. k ++ x.item ∷ []) f.1 ∙ sym (put_of_wrote l x.item live),
+            ap (λ p. of_sender p (h.got ++ (items ++ x ∷ []))) (wrote_from l x.item) ∙ of_more l.from h.got items x mine ∙ ap (λ k. k ++ x.item ∷ []) f.1
+                ∙ sym (put_of_wrote l x.item live),
           )
               (λ j u other e. fits_more h.receiver h.made h.seat h.got items x port j s other u (h.fits j u e));
         },
         refl,
       )
 
-  pub puts : (n port : ℕ) (v : View T) (l : Log T) (x : Parcel T) → v ≡ Sends l → l.ended ≡ false → x.from ≡ l.from → n ≤ MOST_QUEUED → Pushes Delivers n port v x (λ w. w ≡ after_put v x)
+  pub puts : (n port : ℕ) (v : View T) (l : Log T) (x : Parcel T) → v ≡ Sends l → l.ended ≡ false → x.from ≡ l.from → n ≤ MOST_QUEUED
+      → Pushes Delivers n port v x (λ w. w ≡ after_put v x)
   puts n port v l x is live mine fit = subst (λ v. Pushes Delivers n port v x (λ w. w ≡ after_put v x)) (sym is) (puts_at n port l x live mine fit)
 
   fits_taken : (receiver made : ℕ) (seat : Seats) (got items : List (Parcel T)) (x : Parcel T) (j : ℕ) → j ≢ receiver
@@ -120,13 +129,15 @@ module _ {T : Type 0} where
   not_nil (x ∷ xs) ys y e = cc
 
   of_here : (p : ℕ) (got items : List (Parcel T)) (x : Parcel T) → x.from ≡ p → of_sender p (got ++ x ∷ items) ≡ of_sender p got ++ x.item ∷ of_sender p items
-  of_here p got items x e = of_sender-append p got (x ∷ items) ∙ ap (λ b. of_sender p got ++ cond b (x.item ∷ of_sender p items) (of_sender p items)) (eq-eqb x.from p e)
+  of_here p got items x e =
+      of_sender-append p got (x ∷ items) ∙ ap (λ b. of_sender p got ++ cond b (x.item ∷ of_sender p items) (of_sender p items)) (eq-eqb x.from p e)
 
   pub gets_at : (port made : ℕ) (got : List (Parcel T)) (told : List (Log T)) → Pops Delivers port (Receives made got told) (Popped (Receives made got told))
   gets_at port made got told x items views h at =
       let f = h.fits port (Receives made got told) at in
       let w : View T = Receives made (got ++ x ∷ []) told in
-      let here : (p : ℕ) → of_sender p ((h.got ++ x ∷ []) ++ items) ≡ of_sender p (h.got ++ x ∷ items) = λ p. ap (of_sender p) (append_assoc h.got (x ∷ []) items) in (
+      let here : (p : ℕ) → of_sender p ((h.got ++ x ∷ []) ++ items) ≡ of_sender p (h.got ++ x ∷ items) =
+      λ p. ap (of_sender p) (append_assoc h.got (x ∷ []) items) in (
         w,
         record {
           receiver = h.receiver;
@@ -158,7 +169,8 @@ module _ {T : Type 0} where
   }
 
   -- the number of the new sender was nobody's
-  fits_dealt : (receiver made : ℕ) (seat : Seats) (got all : List (Parcel T)) (j to : ℕ) → ((p : ℕ) → made ≤ p → (seat p ≡ none) × (of_sender p all ≡ [])) → j ≢ receiver
+  fits_dealt : (receiver made : ℕ) (seat : Seats) (got all : List (Parcel T)) (j to : ℕ) → ((p : ℕ) → made ≤ p → (seat p ≡ none) × (of_sender p all ≡ []))
+      → j ≢ receiver
       → (u : View T) → Fits receiver made seat got all j u → Fits receiver (made + 1) (moved seat made (some to)) got all j u
   fits_dealt receiver made seat got all j to unmade n (Sends l) f =
       (moved_else seat made l.from (some to) (λ e. some-ne-none j (sym f.0 ∙ (unmade l.from (omega arith)).0)) ∙ f.0, f.1)
@@ -171,7 +183,8 @@ module _ {T : Type 0} where
   at_push (x ∷ xs) a b zero e = inl e
   at_push (x ∷ xs) a b (suc j) e = ⊎_elim (λ t. inl t) (λ t. inr (ap suc t.0, t.1)) (at_push xs a b j e)
 
-  forks_at : (port made : ℕ) (got : List (Parcel T)) (told : List (Log T)) → Forks Delivers port (Receives made got told) (Receives (made + 1) got told) (Sends (log made [] false))
+  forks_at : (port made : ℕ) (got : List (Parcel T)) (told : List (Log T))
+      → Forks Delivers port (Receives made got told) (Receives (made + 1) got told) (Sends (log made [] false))
   forks_at port made got told items views h at =
       let f = h.fits port (Receives made got told) at in
       let left : View T = Receives (made + 1) got told in
@@ -196,12 +209,14 @@ module _ {T : Type 0} where
             (at_push vs right u j e);
       }
 
-  pub forks : (port : ℕ) (v : View T) (made : ℕ) (got : List (Parcel T)) (told : List (Log T)) → v ≡ Receives made got told → Forks Delivers port v (after_deal v) (dealt v)
+  pub forks : (port : ℕ) (v : View T) (made : ℕ) (got : List (Parcel T)) (told : List (Log T)) → v ≡ Receives made got told
+      → Forks Delivers port v (after_deal v) (dealt v)
   forks port v made got told is = subst (λ v. Forks Delivers port v (after_deal v) (dealt v)) (sym is) (forks_at port made got told)
 
   fits_joined : (receiver made : ℕ) (seat : Seats) (got all : List (Parcel T)) (j p other : ℕ) → seat p ≡ some other → j ≢ other → j ≢ receiver
       → (u : View T) → Fits receiver made seat got all j u → Fits receiver made (moved seat p none) got all j u
-  fits_joined receiver made seat got all j p other s n n' (Sends l) f = (moved_else seat p l.from none (λ e. n (some-injective j other (sym f.0 ∙ ap seat e ∙ s))) ∙ f.0, f.1)
+  fits_joined receiver made seat got all j p other s n n' (Sends l) f =
+      (moved_else seat p l.from none (λ e. n (some-injective j other (sym f.0 ∙ ap seat e ∙ s))) ∙ f.0, f.1)
   fits_joined receiver made seat got all j p other s n n' (Receives m g told) f = absurd (n' f.0)
   fits_joined receiver made seat got all j p other s n n' Spent f = tt
 
@@ -238,6 +253,8 @@ module _ {T : Type 0} where
         fits = all_set F vs other Spent tt (λ j y apart e. now j y e apart);
       }
 
-  pub merges : (port : ℕ) (v : View T) (other : ℕ) (u : View T) (made : ℕ) (got : List (Parcel T)) (told : List (Log T)) (l : Log T) → v ≡ Receives made got told → u ≡ Sends l
+  pub merges : (port : ℕ) (v : View T) (other : ℕ) (u : View T) (made : ℕ) (got : List (Parcel T)) (told : List (Log T)) (l : Log T)
+      → v ≡ Receives made got told → u ≡ Sends l
       → Merges Delivers port v other u (after_join v u) Spent
-  merges port v other u made got told l is is' = subst (λ (y : View T × View T). Merges Delivers port y.0 other y.1 (after_join y.0 y.1) Spent) (λ i. (sym is i, sym is' i)) (merges_at port made got told other l)
+  merges port v other u made got told l is is' =
+      subst (λ (y : View T × View T). Merges Delivers port y.0 other y.1 (after_join y.0 y.1) Spent) (λ i. (sym is i, sym is' i)) (merges_at port made got told other l)

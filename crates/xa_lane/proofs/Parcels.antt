@@ -24,8 +24,10 @@ module _ {T : Type 0} where
   pub somes_marks : (xs : List T) → somes (marks xs true) ≡ xs
   somes_marks xs = somes-append (map Some xs) (None ∷ []) ∙ append-nil (somes (map Some xs)) ∙ somes_map xs
 
-  left_kept : (p q : ℕ) (i : Option T) (r : List (ℕ × T)) (ys : List (Option T)) → left_of p r ≡ somes ys → left_of p (kept q i r) ≡ somes (cond (q == p) (i ∷ ys) ys)
-  left_kept p q (Some y) r ys e = elim (q == p) as (λ b. cond b (y ∷ left_of p r) (left_of p r) ≡ somes (cond b (Some y ∷ ys) ys)) [ true ↦ ap (λ l. y ∷ l) e | false ↦ e ]
+  left_kept : (p q : ℕ) (i : Option T) (r : List (ℕ × T)) (ys : List (Option T)) → left_of p r ≡ somes ys
+      → left_of p (kept q i r) ≡ somes (cond (q == p) (i ∷ ys) ys)
+  left_kept p q (Some y) r ys e =
+      elim (q == p) as (λ b. cond b (y ∷ left_of p r) (left_of p r) ≡ somes (cond b (Some y ∷ ys) ys)) [ true ↦ ap (λ l. y ∷ l) e | false ↦ e ]
   left_kept p q None r ys e = elim (q == p) as (λ b. left_of p r ≡ somes (cond b (None ∷ ys) ys)) [ true ↦ e | false ↦ e ]
 
   pub left_is : (p : ℕ) (held : List (Parcel T)) → left_of p (items_in held) ≡ somes (of_sender p held)

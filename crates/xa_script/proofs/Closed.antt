@@ -27,7 +27,8 @@ use Rattle.xa_script.proofs.Runs.{turns_ran}
 use Rattle.xa_script.proofs.Pieces.{pieces_of}
 
 -- what desks tell as they end comes after any answers
-pub ends_own : (workers : List WorkerView) (all told : List Told) (sessions : List Session) (now : Closing) → Chain HasEndedDesk (closing_of [] workers all) sessions now
+pub ends_own : (workers : List WorkerView) (all told : List Told) (sessions : List Session) (now : Closing)
+    → Chain HasEndedDesk (closing_of [] workers all) sessions now
     → (later : List Told) × (now.answers ≡ all ++ later) × Chain HasEndedDesk (closing_of [] workers told) sessions (closing_of now.ended now.workers (told ++ later))
 ends_own workers all told sessions now (none xs last e f) = (
   [],
@@ -43,7 +44,8 @@ ends_own workers all told sessions now (more xs x mid last before is) =
           (record { view = is.view; outstanding = is.outstanding; ends = is.ends; ended = is.ended; told = sym (append_assoc told h.0 line); turns = is.turns }),
     )
 
-module _ (s : Content) (b : Beginning) (steps : List ScriptStep) (told : List Told) (sessions : List Session) (workers : List WorkerView) (g : Goes s b steps told sessions workers)
+module _ (s : Content) (b : Beginning) (steps : List ScriptStep) (told : List Told) (sessions : List Session) (workers : List WorkerView)
+    (g : Goes s b steps told sessions workers)
     (all : List Told) (ended : List EndedView) (workers' : List WorkerView) (all' : List Told) (done : List Served) (closes : HaveEnded (closing_of [] workers all) sessions (closing_of ended workers' all')) (served : Pairwise HasServed workers' done) where
   -- what is told as the desks end
   abbrev pub later : List Told
@@ -68,7 +70,8 @@ module _ (s : Content) (b : Beginning) (steps : List ScriptStep) (told : List To
   has_run = turns_ran s b steps g.first g.first_workers g.is_open.opened g.is_open.begins g.fits sessions ended done (told ++ later) in_turns
 
   -- once it is settled
-  pub comes : ((d : DeskView) → GoesOn d d) → ((old mid new : DeskView) → GoesOn old mid → GoesOn mid new → GoesOn old new) → (settled : Settling) → settled ≡ settling ended done → IsSettled settled → ((p : Setup) → ArePiecesOf p ended done → IsOf p settled)
+  pub comes : ((d : DeskView) → GoesOn d d) → ((old mid new : DeskView) → GoesOn old mid → GoesOn mid new → GoesOn old new) → (settled : Settling)
+      → settled ≡ settling ended done → IsSettled settled → ((p : Setup) → ArePiecesOf p ended done → IsOf p settled)
       → HasCome mode.Turns s b (record { steps = steps; answers = told ++ later; settled = settled }) sessions
   comes same further settled settles agree of =
       let r = has_run in
@@ -80,6 +83,7 @@ module _ (s : Content) (b : Beginning) (steps : List ScriptStep) (told : List To
         runs = in_turns;
         ran = r;
         settles = settles;
-        number = (of r.opened.setup (pieces_of same further s b steps (told ++ later) g.first sessions g.first_workers ended done r)).opening ∙ r.opened.said.numbers.opening_;
+        number = (of r.opened.setup (pieces_of same further s b steps (told ++ later) g.first sessions g.first_workers ended done r)).opening
+            ∙ r.opened.said.numbers.opening_;
         agree = agree;
       }

@@ -41,7 +41,8 @@ pub fault_empty : (p : ValueParser) → accepts false p [] ≡ false → fault_o
 unfolding clap_on_literals
 fault_empty p a = rw a refl
 
-pub fault_word : (p : ValueParser) (b : ℕ) (bs : List ℕ) → (b == 45) ≡ false → accepts false p (b ∷ bs) ≡ false → fault_of (command p) ((b ∷ bs) ∷ []) ≡ refused_kind p ∷ []
+pub fault_word : (p : ValueParser) (b : ℕ) (bs : List ℕ) → (b == 45) ≡ false → accepts false p (b ∷ bs) ≡ false
+    → fault_of (command p) ((b ∷ bs) ∷ []) ≡ refused_kind p ∷ []
 unfolding clap_on_literals
 fault_word p b bs e a = rw (e, e, a) refl
 
@@ -73,7 +74,8 @@ mode_by w e = elim (or_cases (bytes_eq (codes "turns") w) (bytes_eq (codes "thre
 ]
 
 -- a parser of which these are the two words takes no other
-pub only_either : (p : ValueParser) (w : List ℕ) → ((v : List ℕ) → accepts false p v ≡ is_either v) → (slice_index w 0 == 45) ≡ false → fault_of (command p) (w ∷ []) ≡ [] → (m : Mode) × (w ≡ word_of m)
+pub only_either : (p : ValueParser) (w : List ℕ) → ((v : List ℕ) → accepts false p v ≡ is_either v) → (slice_index w 0 == 45) ≡ false
+    → fault_of (command p) (w ∷ []) ≡ [] → (m : Mode) × (w ≡ word_of m)
 only_either p [] only minus none = let bad : refused_kind p ∷ [] ≡ [] = sym (fault_empty p (only [])) ∙ none in let never : ⊥ = cc in absurd never
 only_either p (b ∷ bs) only minus none =
     elim (cases_Bool (is_either (b ∷ bs))) [
@@ -83,18 +85,21 @@ only_either p (b ∷ bs) only minus none =
           let never : ⊥ = cc in absurd never
     ]
 
-pub mode_is : (n r v : Arg) (p : ValueParser) → rule_of n ≡ new_rule (codes "mode") → r ≡ record n { required = true } → v ≡ record r { value_parser = v.value_parser } → v.value_parser ≡ Some p → rule_of v ≡ mode p
+pub mode_is : (n r v : Arg) (p : ValueParser) → rule_of n ≡ new_rule (codes "mode") → r ≡ record n { required = true }
+    → v ≡ record r { value_parser = v.value_parser } → v.value_parser ≡ Some p → rule_of v ≡ mode p
 mode_is n r v p new required with_parser parser =
     ap rule_of with_parser
     ∙ ap₂ (λ (m : Rule) q. record m { parser = q }) (ap rule_of required ∙ ap (λ (m : Rule). record m { required = true }) new) parser
 
-pub top_is : (n b h : Command) → app_of n ≡ new_app (codes "xaswitch") → out-Command b ≡ record (out-Command n) { no_binary_name = true } → out-Command h ≡ record (out-Command b) { disable_help_flag = true } → app_of h ≡ top
+pub top_is : (n b h : Command) → app_of n ≡ new_app (codes "xaswitch") → out-Command b ≡ record (out-Command n) { no_binary_name = true }
+    → out-Command h ≡ record (out-Command b) { disable_help_flag = true } → app_of h ≡ top
 top_is n b h new no_name no_help =
     ap app_of_fields no_help
     ∙ ap (on_top (λ s. record s { disable_help_flag = true })) (ap app_of_fields no_name ∙ ap (on_top (λ s. record s { no_binary_name = true })) new)
 
 -- a parser by these names accepts what is one of them
-pub accepts_two : (names : Bor (List (Bor (List ℕ)))) (one two : Bor (List ℕ)) (v : List ℕ) → names.now ≡ one ∷ two ∷ [] → accepts false (vp.Names names) v ≡ (bytes_eq one.now v || bytes_eq two.now v)
+pub accepts_two : (names : Bor (List (Bor (List ℕ)))) (one two : Bor (List ℕ)) (v : List ℕ) → names.now ≡ one ∷ two ∷ []
+    → accepts false (vp.Names names) v ≡ (bytes_eq one.now v || bytes_eq two.now v)
 accepts_two names one two v is = ap (list_any (λ (n : Bor (List ℕ)). bytes_eq n.now v)) is ∙ ap (λ b. bytes_eq one.now v || b) (or-false _)
 
 pub one_word : (words : List (Bor (List ℕ))) (d : Bor (List ℕ)) → length words ≡ 1 → map (λ w. w.now) words ≡ (slice_index_or words 0 d).now ∷ []

@@ -1,5 +1,6 @@
 -- What each thread's lines come to, in a run of all lines.
-use Rattle.std.proofs.Common.{◌≡◌, ◌≢◌, ℕ, ◌+◌, ◌-◌, ◌≤◌, zero, suc, true, false, cond, List, [], ◌∷◌, ◌++◌, Some, None, sym, refl, ap, ◌∙◌, subst, inl, inr, arith, append-nil, append_assoc, map}
+use Rattle.std.proofs.Common.{◌≡◌, ◌≢◌, ℕ, ◌+◌, ◌-◌, ◌≤◌, zero, suc, true, false, cond, List, [], ◌∷◌, ◌++◌, Some, None, sym, refl, ap, ◌∙◌, subst, inl, inr}
+use Rattle.std.proofs.Common.{arith, append-nil, append_assoc, map}
 use Rattle.std.specs.Prelude.{slice_get, slice_set, All, filter_map, if◌then◌else◌}
 use Rattle.std.specs.List.{flat_map}
 use Rattle.std.proofs.lemmas.Bool.{cases_eq, eq-eqb}
@@ -65,15 +66,21 @@ ended_tell t u [] = refl
 ended_tell t u (one ∷ rest) = ended_tell t u rest
 
 pub ends_silent : (t u : ℕ) (answers : List Told) (outstanding : List (ℕ × Code)) → answers_to t (answers ++ all_ended u outstanding) ≡ answers_to t answers
-ends_silent t u answers outstanding = filter-append (is_to t) answers (all_ended u outstanding) ∙ ap (λ l. answers_to t answers ++ l) (ended_tell t u outstanding) ∙ append-nil (answers_to t answers)
+ends_silent t u answers outstanding =
+    filter-append (is_to t) answers (all_ended u outstanding) ∙ ap (λ l. answers_to t answers ++ l) (ended_tell t u outstanding)
+    ∙ append-nil (answers_to t answers)
 
 -- ---- the tasks of a thread
 
 tasks_pushed : (t : ℕ) (steps : List ScriptStep) (p : ScriptTask) → p.thread ≡ t → tasks_of t (steps ++ step.Task p ∷ []) ≡ tasks_of t steps ++ p ∷ []
-tasks_pushed t steps p e = filter_map-append (task_of t) steps (step.Task p ∷ []) ∙ ap (λ b. tasks_of t steps ++ filter_map (λ (q : ScriptTask). if b then Some q else None) (p ∷ [])) (eq-eqb (p.thread) t e)
+tasks_pushed t steps p e =
+    filter_map-append (task_of t) steps (step.Task p ∷ [])
+    ∙ ap (λ b. tasks_of t steps ++ filter_map (λ (q : ScriptTask). if b then Some q else None) (p ∷ [])) (eq-eqb (p.thread) t e)
 
 tasks_passed : (t : ℕ) (steps : List ScriptStep) (p : ScriptTask) → p.thread ≢ t → tasks_of t (steps ++ step.Task p ∷ []) ≡ tasks_of t steps
-tasks_passed t steps p differs = filter_map-append (task_of t) steps (step.Task p ∷ []) ∙ ap (λ b. tasks_of t steps ++ filter_map (λ (q : ScriptTask). if b then Some q else None) (p ∷ [])) (not_own t p differs) ∙ append-nil (tasks_of t steps)
+tasks_passed t steps p differs =
+    filter_map-append (task_of t) steps (step.Task p ∷ [])
+    ∙ ap (λ b. tasks_of t steps ++ filter_map (λ (q : ScriptTask). if b then Some q else None) (p ∷ [])) (not_own t p differs) ∙ append-nil (tasks_of t steps)
 
 tasks_turned : (t : ℕ) (steps : List ScriptStep) (line m : ℕ) → tasks_of t (steps ++ step.Turn line m ∷ []) ≡ tasks_of t steps
 tasks_turned t steps line m = filter_map-append (task_of t) steps (step.Turn line m ∷ []) ∙ append-nil (tasks_of t steps)
@@ -93,17 +100,20 @@ pub record Went (k : ℕ) (first : Session) (steps : List ScriptStep) (now : Tur
 abbrev state : Session → List Told → State
 state x l = (x, l)
 
-done_went : (k : ℕ) (d : Session) (p : ScriptTask) (xs : List ScriptStep) (now last : TurnsAt) (a : Told) → HasCalled p now.stage last.stage a → last.answers ≡ now.answers ++ a ∷ [] → 1 ≤ p.thread → Went k d xs now → Went k d (xs ++ step.Task p ∷ []) last
+done_went : (k : ℕ) (d : Session) (p : ScriptTask) (xs : List ScriptStep) (now last : TurnsAt) (a : Told) → HasCalled p now.stage last.stage a
+    → last.answers ≡ now.answers ++ a ∷ [] → 1 ≤ p.thread → Went k d xs now → Went k d (xs ++ step.Task p ∷ []) last
 done_went k d p xs now last a is told low w =
     elim (cases_eq (p.thread) (k + 1)) [
       | inl own ↦
           let place : p.thread - 1 ≡ k = omega (arith, own) in
           let was : is.before ≡ w.last = some_same is.before w.last (sym is.at ∙ ap (slice_get now.stage.sessions) place ∙ w.at) in
           let to : is_to (k + 1) a ≡ true = ap (is_to (k + 1)) is.told ∙ eq-eqb (p.thread) (k + 1) own in
-          let answers : answers_to (k + 1) last.answers ≡ answers_to (k + 1) now.answers ++ a ∷ [] = ap (answers_to (k + 1)) told ∙ to_pushed (k + 1) now.answers a to in
+          let answers : answers_to (k + 1) last.answers ≡ answers_to (k + 1) now.answers ++ a ∷ [] =
+          ap (answers_to (k + 1)) told ∙ to_pushed (k + 1) now.answers a to in
           record {
             last = is.after;
-            at = ap (λ l. slice_get l k) is.rest ∙ ap (λ i. slice_get (slice_set now.stage.sessions i is.after) k) place ∙ set_there now.stage.sessions k w.last is.after w.at;
+            at = ap (λ l. slice_get l k) is.rest ∙ ap (λ i. slice_get (slice_set now.stage.sessions i is.after) k) place
+                ∙ set_there now.stage.sessions k w.last is.after w.at;
             runs =
                 subst (λ (tasks : List ScriptTask). Chain HasDone (d, []) tasks (is.after, answers_to (k + 1) last.answers)) (sym (tasks_pushed (k + 1) xs p own))
                 (more (tasks_of (k + 1) xs) p (state w.last (answers_to (k + 1) now.answers)) (state is.after (answers_to (k + 1) last.answers)) w.runs
@@ -121,7 +131,8 @@ done_went k d p xs now last a is told low w =
           }
     ]
 
-turned_went : (k : ℕ) (d : Session) (line m : ℕ) (xs : List ScriptStep) (now last : TurnsAt) (a : Told) → HasTurned line m now.stage last.stage a → last.answers ≡ now.answers ++ a ∷ [] → Went k d xs now → Went k d (xs ++ step.Turn line m ∷ []) last
+turned_went : (k : ℕ) (d : Session) (line m : ℕ) (xs : List ScriptStep) (now last : TurnsAt) (a : Told) → HasTurned line m now.stage last.stage a
+    → last.answers ≡ now.answers ++ a ∷ [] → Went k d xs now → Went k d (xs ++ step.Turn line m ∷ []) last
 turned_went k d line m xs now last a is told w = record {
   last = w.last;
   at = ap (λ l. slice_get l k) is.rest ∙ w.at;
@@ -130,7 +141,8 @@ turned_went k d line m xs now last a is told w = record {
       (subst (λ (l : List Told). Chain HasDone (d, []) (tasks_of (k + 1) xs) (w.last, l)) (sym (ap (answers_to (k + 1)) told ∙ to_passed (k + 1) now.answers a (ap (is_to (k + 1)) is.told))) w.runs);
 }
 
-step_went : (k : ℕ) (d : Session) (threads managers : ℕ) (x : ScriptStep) (xs : List ScriptStep) (now last : TurnsAt) → HasStepped x now last → Fits threads managers x → Went k d xs now → Went k d (xs ++ x ∷ []) last
+step_went : (k : ℕ) (d : Session) (threads managers : ℕ) (x : ScriptStep) (xs : List ScriptStep) (now last : TurnsAt) → HasStepped x now last
+    → Fits threads managers x → Went k d xs now → Went k d (xs ++ x ∷ []) last
 step_went k d threads managers (step.Task p) xs now last is fits w = done_went k d p xs now last is.line is.steps is.told fits.0.0 w
 step_went k d threads managers (step.Reopen line) xs now last is fits w = absurd is.steps
 step_went k d threads managers (step.Turn line m) xs now last is fits w = turned_went k d line m xs now last is.line is.steps is.told w
@@ -139,16 +151,19 @@ all_last : {A : Type 0} (P : A → Type 0) (xs : List A) (x : A) → All P (xs +
 all_last P [] x all = All-head P x [] all
 all_last P (y ∷ xs) x all = all_last P xs x (All-tail P y (xs ++ x ∷ []) all)
 
-pub run_went : (k : ℕ) (d : Session) (threads managers : ℕ) (first : TurnsAt) → slice_get first.stage.sessions k ≡ Some d → first.answers ≡ [] → (steps : List ScriptStep) (now : TurnsAt) → Chain HasStepped first steps now → All (Fits threads managers) steps → Went k d steps now
+pub run_went : (k : ℕ) (d : Session) (threads managers : ℕ) (first : TurnsAt) → slice_get first.stage.sessions k ≡ Some d → first.answers ≡ []
+    → (steps : List ScriptStep) (now : TurnsAt) → Chain HasStepped first steps now → All (Fits threads managers) steps → Went k d steps now
 run_went k d threads managers first at fresh steps now (none xs last e f) all = record {
   last = d;
   at = ap (λ (c : TurnsAt). slice_get c.stage.sessions k) f ∙ at;
   runs = none (tasks_of (k + 1) xs) (d, answers_to (k + 1) last.answers) (ap (tasks_of (k + 1)) e) (ap (λ (l : List Told). state d (answers_to (k + 1) l)) (ap (λ (c : TurnsAt). c.answers) f ∙ fresh));
 }
-run_went k d threads managers first at fresh steps now (more xs x mid last before is) all = step_went k d threads managers x xs mid last is (all_last (Fits threads managers) xs x all) (run_went k d threads managers first at fresh xs mid before (all_left (Fits threads managers) xs (x ∷ []) all))
+run_went k d threads managers first at fresh steps now (more xs x mid last before is) all =
+    step_went k d threads managers x xs mid last is (all_last (Fits threads managers) xs x all) (run_went k d threads managers first at fresh xs mid before (all_left (Fits threads managers) xs (x ∷ []) all))
 
 -- a thread without tasks has no answers
-step_silent : (t : ℕ) (x : ScriptStep) (now last : TurnsAt) → HasStepped x now last → tasks_of t (x ∷ []) ≡ [] → answers_to t last.answers ≡ answers_to t now.answers
+step_silent : (t : ℕ) (x : ScriptStep) (now last : TurnsAt) → HasStepped x now last → tasks_of t (x ∷ []) ≡ []
+    → answers_to t last.answers ≡ answers_to t now.answers
 step_silent t (step.Reopen line) now last is e = absurd is.steps
 step_silent t (step.Turn line m) now last is e = ap (answers_to t) is.told ∙ to_passed t now.answers is.line (ap (is_to t) is.steps.told)
 step_silent t (step.Task p) now last is e =
@@ -157,11 +172,13 @@ step_silent t (step.Task p) now last is e =
       | inr differs ↦ ap (answers_to t) is.told ∙ to_passed t now.answers is.line (ap (is_to t) is.steps.told ∙ not_own t p differs)
     ]
 
-pub run_silent : (t : ℕ) (first : TurnsAt) → first.answers ≡ [] → (steps : List ScriptStep) (now : TurnsAt) → Chain HasStepped first steps now → tasks_of t steps ≡ [] → answers_to t now.answers ≡ []
+pub run_silent : (t : ℕ) (first : TurnsAt) → first.answers ≡ [] → (steps : List ScriptStep) (now : TurnsAt) → Chain HasStepped first steps now
+    → tasks_of t steps ≡ [] → answers_to t now.answers ≡ []
 run_silent t first fresh steps now (none xs last e f) silent = ap (answers_to t) (ap (λ (c : TurnsAt). c.answers) f ∙ fresh)
 run_silent t first fresh steps now (more xs x mid last before is) silent =
     let parts = sym (filter_map-append (task_of t) xs (x ∷ [])) ∙ silent in
-    step_silent t x mid last is (right_nil (tasks_of t xs) (tasks_of t (x ∷ [])) parts) ∙ run_silent t first fresh xs mid before (left_nil (tasks_of t xs) (tasks_of t (x ∷ [])) parts)
+    step_silent t x mid last is (right_nil (tasks_of t xs) (tasks_of t (x ∷ [])) parts)
+    ∙ run_silent t first fresh xs mid before (left_nil (tasks_of t xs) (tasks_of t (x ∷ [])) parts)
 
 -- ---- desks that end one after the other
 
@@ -184,7 +201,8 @@ pub record Closes (first : Closing) (sessions : List Session) (now : Closing) : 
   pub ended : Pairwise EndedAs endings now.ended
   pub told : now.answers ≡ first.answers ++ flat_map ended_by endings
 
-pub closes : (first : Closing) → first.ended ≡ [] → (sessions : List Session) (now : Closing) → Chain HasEndedDesk first sessions now → Closes first sessions now
+pub closes : (first : Closing) → first.ended ≡ [] → (sessions : List Session) (now : Closing) → Chain HasEndedDesk first sessions now
+    → Closes first sessions now
 closes first start sessions now (none xs last e f) = record {
   endings = [];
   sessions_are = sym e;
@@ -208,7 +226,8 @@ closes first start sessions now (more xs x mid last before is) =
 -- ---- a run in threads
 
 -- all that a thread was told
-pub told_all : (t : ℕ) (first : State) → first.1 ≡ [] → (tasks : List ScriptTask) (last : State) → Chain HasDone first tasks last → AreOf t tasks → answers_to t last.1 ≡ last.1
+pub told_all : (t : ℕ) (first : State) → first.1 ≡ [] → (tasks : List ScriptTask) (last : State) → Chain HasDone first tasks last → AreOf t tasks
+    → answers_to t last.1 ≡ last.1
 told_all t first start tasks last (none xs l e f) own = let empty = ap (λ (s : State). s.1) f ∙ start in ap (answers_to t) empty ∙ sym empty
 told_all t first start tasks last (more xs x now l before is) own =
     ap (answers_to t) is.told
@@ -217,7 +236,8 @@ told_all t first start tasks last (more xs x now l before is) own =
     ∙ sym is.told
 
 -- another thread is told nothing of it
-pub told_none : (t u : ℕ) → u ≢ t → (first : State) → first.1 ≡ [] → (tasks : List ScriptTask) (last : State) → Chain HasDone first tasks last → AreOf u tasks → answers_to t last.1 ≡ []
+pub told_none : (t u : ℕ) → u ≢ t → (first : State) → first.1 ≡ [] → (tasks : List ScriptTask) (last : State) → Chain HasDone first tasks last → AreOf u tasks
+    → answers_to t last.1 ≡ []
 told_none t u differs first start tasks last (none xs l e f) own = ap (answers_to t) (ap (λ (s : State). s.1) f ∙ start)
 told_none t u differs first start tasks last (more xs x now l before is) own =
     ap (answers_to t) is.told

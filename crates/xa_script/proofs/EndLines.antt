@@ -38,7 +38,8 @@ pushed t answers a e =
     ∙ append-nil (ends_of t answers)
 
 -- of the tasks of a thread
-pub tasks_no_end : (t : ℕ) (first : Session × List Told) → first.1 ≡ [] → (tasks : List ScriptTask) (last : Session × List Told) → Chain HasDone first tasks last → ends_of t last.1 ≡ []
+pub tasks_no_end : (t : ℕ) (first : Session × List Told) → first.1 ≡ [] → (tasks : List ScriptTask) (last : Session × List Told)
+    → Chain HasDone first tasks last → ends_of t last.1 ≡ []
 tasks_no_end t first start tasks last (none xs l e f) = ap (ends_of t) (ap (λ (s : Session × List Told). s.1) f ∙ start)
 tasks_no_end t first start tasks last (more xs x now l before is) =
     ap (ends_of t) is.told ∙ pushed t now.1 (told_of x is.answer) refl ∙ tasks_no_end t first start xs now before
@@ -49,7 +50,8 @@ step_no_end t (step.Reopen line) now last is = absurd is.steps
 step_no_end t (step.Turn line m) now last is = ap (is_end_of t) is.steps.told
 
 -- and of all steps
-pub steps_no_end : (t : ℕ) (first : TurnsAt) → first.answers ≡ [] → (steps : List ScriptStep) (now : TurnsAt) → Chain HasStepped first steps now → ends_of t now.answers ≡ []
+pub steps_no_end : (t : ℕ) (first : TurnsAt) → first.answers ≡ [] → (steps : List ScriptStep) (now : TurnsAt) → Chain HasStepped first steps now
+    → ends_of t now.answers ≡ []
 steps_no_end t first start steps now (none xs last e f) = ap (ends_of t) (ap (λ (c : TurnsAt). c.answers) f ∙ start)
 steps_no_end t first start steps now (more xs x mid last before is) =
     ap (ends_of t) is.told ∙ pushed t mid.answers is.line (step_no_end t x mid last is) ∙ steps_no_end t first start xs mid before

@@ -23,6 +23,7 @@ steps_keep (step.Task p) old new line is all =
 steps_keep (step.Reopen number) old new line is all = absurd is
 steps_keep (step.Turn number m) old new line is all = subst AreKept (sym is.rest) all
 
-pub run_keeps : (old : TurnsAt) (steps : List ScriptStep) (new : TurnsAt) → Chain HasStepped old steps new → AreKept old.stage.sessions → AreKept new.stage.sessions
+pub run_keeps : (old : TurnsAt) (steps : List ScriptStep) (new : TurnsAt) → Chain HasStepped old steps new → AreKept old.stage.sessions
+    → AreKept new.stage.sessions
 run_keeps old steps new (none xs last e f) all = subst (λ (c : TurnsAt). AreKept c.stage.sessions) (sym f) all
 run_keeps old steps new (more xs x now last before is) all = steps_keep x now.stage last.stage is.line is.steps (run_keeps old xs now before all)

@@ -13,3 +13,4 @@ pub mod Parts
 pub mod Reopened
 pub mod Reached
 pub mod Closed
+pub mod DesksEnd

@@ -12,7 +12,7 @@ use Rattle.xa_transcript.specs.Values.{opened}
 use Rattle.xa_worker.specs.Workers.{WorkerView}
 use Rattle.xa_grammar.specs.Steps.{ScriptTask}
 use Rattle.xa_grammar.specs.Content.{Content, tasks_of, threads_of}
-use Rattle.xa_driver.specs.Log.{LogView}
+use Rattle.xa_log.specs.Log.{LogView}
 use Rattle.xa_crew.specs.declared.client_job.Attended.{Attended}
 use Rattle.xa_crew.specs.Run.{Member, HasRun}
 use Rattle.xa_transcript.specs.declared.answer.Told.{Told}
@@ -39,14 +39,17 @@ number_there n k below =
     map_same (x ∷ xs) = ap (λ l. x ∷ l) (map_same xs)
 
     same : (n k : ℕ) → k < n → slice_index_or (range_with_len 1 n) k (k + 1) ≡ k + 1
-    same n k below = ap (λ l. slice_index_or l k (k + 1)) (sym (map_same (range_with_len 1 n))) ∙ get_or-map-range_with_len (λ (k : ℕ). k) 1 n k (k + 1) (k + 1) below (omega arith)
+    same n k below =
+        ap (λ l. slice_index_or l k (k + 1)) (sym (map_same (range_with_len 1 n)))
+        ∙ get_or-map-range_with_len (λ (k : ℕ). k) 1 n k (k + 1) (k + 1) below (omega arith)
 
 -- as many threads as the script has
 pub as_many_new : (s : Content) (threads : List ScriptThread) → Pairwise (IsNew s) (range_with_len 1 (threads_of s)) threads → length threads ≡ threads_of s
 as_many_new s threads new = new.as_many ∙ length_range (threads_of s)
 
 -- the answers of all members
-pub members_tell : (ms : List (Member ScriptThread)) (clients : List (Attended ScriptThread)) → clients ≡ map (λ t. t.attended) ms → flat_map told_by clients ≡ flat_map (λ t. told_by t.attended) ms
+pub members_tell : (ms : List (Member ScriptThread)) (clients : List (Attended ScriptThread)) → clients ≡ map (λ t. t.attended) ms
+    → flat_map told_by clients ≡ flat_map (λ t. told_by t.attended) ms
 members_tell ms clients are = ap (flat_map told_by) are ∙ all_tell ms
   where
     all_tell : (ms : List (Member ScriptThread)) → flat_map told_by (map (λ t. t.attended) ms) ≡ flat_map (λ t. told_by t.attended) ms
@@ -54,7 +57,8 @@ members_tell ms clients are = ap (flat_map told_by) are ∙ all_tell ms
     all_tell (m ∷ ms) = ap (λ l. told_by m.attended ++ l) (all_tell ms)
 
 -- a member that was new and to which no memory was refused
-one_worked : (s : Content) (t : ℕ) (m : Member ScriptThread) → m.desk.thread ≡ t → IsNew s t m.client → HasRun Works m → m.attended.client.wants_memory ≡ false → (y : Session) × HasWorked s s.steps m y
+one_worked : (s : Content) (t : ℕ) (m : Member ScriptThread) → m.desk.thread ≡ t → IsNew s t m.client → HasRun Works m → m.attended.client.wants_memory ≡ false
+    → (y : Session) × HasWorked s s.steps m y
 one_worked s t m number new ran done =
     let x = m.client in
     let x' = m.attended.client in
@@ -93,12 +97,17 @@ chosen {A} {B} P (x ∷ xs) each =
 -- all members
 pub members_worked : (s : Content) (ms : List (Member ScriptThread)) (workers : List WorkerView) → AreOpened s 1 (opened s) (map (λ t. t.desk) ms) workers
     → (threads : List ScriptThread) → Pairwise (IsNew s) (range_with_len 1 (threads_of s)) threads → threads ≡ map (λ t. t.client) ms → All (HasRun Works) ms
-    → (clients : List (Attended ScriptThread)) → clients ≡ map (λ t. t.attended) ms → All (λ t. t.client.wants_memory ≡ false) clients → (left : List Session) × Pairwise (HasWorked s s.steps) ms left
+    → (clients : List (Attended ScriptThread)) → clients ≡ map (λ t. t.attended) ms → All (λ t. t.client.wants_memory ≡ false) clients
+    → (left : List Session) × Pairwise (HasWorked s s.steps) ms left
 members_worked s ms workers are_opened threads new are ran clients attended done =
     chosen (HasWorked s s.steps) ms (λ k m at.
-    let client_at : slice_get threads k ≡ Some m.client = ap (λ l. slice_get l k) are ∙ slice_get-map (λ (t : Member ScriptThread). t.client) ms k ∙ ap (option_map (λ (t : Member ScriptThread). t.client)) at in
-    let attended_at : slice_get clients k ≡ Some m.attended = ap (λ l. slice_get l k) attended ∙ slice_get-map (λ (t : Member ScriptThread). t.attended) ms k ∙ ap (option_map (λ (t : Member ScriptThread). t.attended)) at in
-    let desk_at : slice_get (map (λ (t : Member ScriptThread). t.desk) ms) k ≡ Some m.desk = slice_get-map (λ (t : Member ScriptThread). t.desk) ms k ∙ ap (option_map (λ (t : Member ScriptThread). t.desk)) at in
+    let client_at : slice_get threads k ≡ Some m.client =
+    ap (λ l. slice_get l k) are ∙ slice_get-map (λ (t : Member ScriptThread). t.client) ms k ∙ ap (option_map (λ (t : Member ScriptThread). t.client)) at in
+    let attended_at : slice_get clients k ≡ Some m.attended =
+    ap (λ l. slice_get l k) attended ∙ slice_get-map (λ (t : Member ScriptThread). t.attended) ms k
+    ∙ ap (option_map (λ (t : Member ScriptThread). t.attended)) at in
+    let desk_at : slice_get (map (λ (t : Member ScriptThread). t.desk) ms) k ≡ Some m.desk =
+    slice_get-map (λ (t : Member ScriptThread). t.desk) ms k ∙ ap (option_map (λ (t : Member ScriptThread). t.desk)) at in
     let within = slice_get_within threads k m.client client_at in
     let many = as_many_new s threads new in
     let below : k < threads_of s = omega (arith, within, many) in

@@ -21,7 +21,8 @@ use Rattle.xa_telling.specs.Journals.{answers_to}
 use Rattle.xa_telling.specs.Runs.{Comes, Ran}
 
 module _ (same : (d : DeskView) → GoesOn d d) (further : (old mid new : DeskView) → GoesOn old mid → GoesOn mid new → GoesOn old new) where
-  tasks_go_on : (first : Session × List Told) (tasks : List ScriptTask) (last : Session × List Told) → Chain HasDone first tasks last → GoesOn first.0.desk last.0.desk
+  tasks_go_on : (first : Session × List Told) (tasks : List ScriptTask) (last : Session × List Told) → Chain HasDone first tasks last
+      → GoesOn first.0.desk last.0.desk
   tasks_go_on first tasks last (none xs l e f) = subst (λ (s : Session × List Told). GoesOn first.0.desk s.0.desk) (sym f) (same first.0.desk)
   tasks_go_on first tasks last (more xs x now l before is) = further first.0.desk now.0.desk l.0.desk (tasks_go_on first xs now before) is.does.goes_on
 
@@ -32,7 +33,8 @@ module _ (same : (d : DeskView) → GoesOn d d) (further : (old mid new : DeskVi
     ends = c.ends.ends;
   }
 
-  pub pieces_of : (s : Content) (b : Beginning) (steps : List ScriptStep) (answers : List Told) (sessions left : List Session) (workers : List WorkerView) (ended : List EndedView) (done : List Served) (r : Ran s b steps answers sessions left workers ended done) → ArePiecesOf r.opened.setup ended done
+  pub pieces_of : (s : Content) (b : Beginning) (steps : List ScriptStep) (answers : List Told) (sessions left : List Session) (workers : List WorkerView) (ended : List EndedView) (done : List Served) (r : Ran s b steps answers sessions left workers ended done)
+      → ArePiecesOf r.opened.setup ended done
   pieces_of s b steps answers sessions left workers ended done r = record {
     desks = map (λ (x : Session). x.desk) sessions;
     workers = workers;

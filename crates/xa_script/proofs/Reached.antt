@@ -7,7 +7,7 @@ use Rattle.std.proofs.lemmas.List.Folds.{list_any-append}
 use Rattle.xa_base.specs.Lists.Chain.{none, more}
 use Rattle.xa_base.proofs.Lists.{flat_push}
 use Rattle.xa_worker.specs.Workers.{WorkerView}
-use Rattle.xa_driver.specs.Log.{LogView}
+use Rattle.xa_log.specs.Log.{LogView}
 use Rattle.xa_switch.specs.Settling.{Settling}
 use Rattle.xa_grammar.specs.declared.step.Step.TheVariants as step
 use Rattle.xa_grammar.specs.Steps.{ScriptStep}
@@ -39,7 +39,8 @@ module _ (s : Content) where
     fits = All-nil (Fits (threads_of s) (managers_of s));
   }
 
-  pub begun : (opening : ℕ) (sessions : List Session) (workers : List WorkerView) → opening ≡ 1 → IsOpen s (beginning s) sessions workers → HasReached s [] opening sessions workers []
+  pub begun : (opening : ℕ) (sessions : List Session) (workers : List WorkerView) → opening ≡ 1 → IsOpen s (beginning s) sessions workers
+      → HasReached s [] opening sessions workers []
   begun opening sessions workers number is = record {
     before = [];
     begins = beginning s;
@@ -53,13 +54,15 @@ module _ (s : Content) where
     ones = (All-nil (λ (f : Former). AreOfOne f.opening.steps), refl);
   }
 
-  module _ (lines : List ScriptStep) (opening : ℕ) (sessions : List Session) (workers : List WorkerView) (answers : List Told) (h : HasReached s lines opening sessions workers answers) where
+  module _ (lines : List ScriptStep) (opening : ℕ) (sessions : List Session) (workers : List WorkerView) (answers : List Told)
+      (h : HasReached s lines opening sessions workers answers) where
     -- it has the script's threads and managers
     pub reached_threads : length sessions ≡ threads_of s
     reached_threads =
         let g = h.goes in
         run_count (turns_at g.first g.first_workers []) h.own (turns_at sessions workers h.told) g.made
-        ∙ sym (length-map g.first (λ (x : Session). x.desk)) ∙ opened_threads s h.begins.opening h.begins.tables (map (λ (x : Session). x.desk) g.first) g.first_workers g.is_open.opened
+        ∙ sym (length-map g.first (λ (x : Session). x.desk))
+        ∙ opened_threads s h.begins.opening h.begins.tables (map (λ (x : Session). x.desk) g.first) g.first_workers g.is_open.opened
 
     pub reached_managers : length workers ≡ managers_of s
     reached_managers =
@@ -68,8 +71,10 @@ module _ (s : Content) where
         ∙ opened_managers s h.begins.opening h.begins.tables (map (λ (x : Session). x.desk) g.first) g.first_workers g.is_open.opened
 
     -- one more step of the opening
-    pub stepped : (x : ScriptStep) (a : Told) (sessions' : List Session) (workers' : List WorkerView) → is_reopen x ≡ false → Fits (threads_of s) (managers_of s) x
-        → Steps x (record { sessions = sessions; workers = workers }) (record { sessions = sessions'; workers = workers' }) a → HasReached s (lines ++ x ∷ []) opening sessions' workers' (answers ++ a ∷ [])
+    pub stepped : (x : ScriptStep) (a : Told) (sessions' : List Session) (workers' : List WorkerView) → is_reopen x ≡ false
+        → Fits (threads_of s) (managers_of s) x
+        → Steps x (record { sessions = sessions; workers = workers }) (record { sessions = sessions'; workers = workers' }) a
+        → HasReached s (lines ++ x ∷ []) opening sessions' workers' (answers ++ a ∷ [])
     stepped x a sessions' workers' plain fits is = record {
       before = h.before;
       begins = h.begins;
@@ -94,7 +99,8 @@ module _ (s : Content) where
     ended_so later settled = record { steps = h.own; answers = h.told ++ later; settled = settled }
 
     -- it was opened again
-    pub reopened : (later : List Told) (settled : Settling) (line : ℕ) (next : Beginning) → Follows mode.Turns s (record { opening = ended_so later settled; line = line }) h.begins next
+    pub reopened : (later : List Told) (settled : Settling) (line : ℕ) (next : Beginning)
+        → Follows mode.Turns s (record { opening = ended_so later settled; line = line }) h.begins next
         → (opening' : ℕ) (sessions' : List Session) (workers' : List WorkerView) → opening' ≡ next.opening → IsOpen s next sessions' workers'
         → HasReached s (lines ++ step.Reopen line ∷ []) opening' sessions' workers' ((answers ++ later) ++ Reopened line ∷ [])
     reopened later settled line next follows opening' sessions' workers' number is =
@@ -120,7 +126,8 @@ module _ (s : Content) where
         }
 
     -- these were all lines
-    pub outcome_so : lines ≡ s.steps → (later : List Told) (settled : Settling) (logs : List LogView) → IsClosed s h.begins (ended_so later settled) logs → IsOutcome mode.Turns s (answers ++ later) h.before (ended_so later settled)
+    pub outcome_so : lines ≡ s.steps → (later : List Told) (settled : Settling) (logs : List LogView) → IsClosed s h.begins (ended_so later settled) logs
+        → IsOutcome mode.Turns s (answers ++ later) h.before (ended_so later settled)
     outcome_so all later settled logs is = record {
       steps = sym all ∙ h.lines_are;
       answers_ = ap (λ l. l ++ later) h.answers_are ∙ append_assoc (flat_map answers_of_former h.before) h.told later;

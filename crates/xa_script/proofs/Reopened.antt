@@ -7,7 +7,7 @@ use Rattle.std.proofs.lemmas.Option.{slice_get-get_or, slice_get_within}
 use Rattle.xa_base.proofs.Lists.{was_mapped, some_same}
 use Rattle.xa_desk.specs.DeskView.{DeskView}
 use Rattle.xa_worker.specs.Workers.{WorkerView}
-use Rattle.xa_driver.specs.Log.{LogView}
+use Rattle.xa_log.specs.Log.{LogView}
 use Rattle.xa_switch.specs.declared.plan.Again.{Again}
 use Rattle.xa_switch.specs.OpenedPieces.{AreOfOneOpening}
 use Rattle.xa_switch.specs.Settling.{Settling, IsSettled}
@@ -29,17 +29,20 @@ use Rattle.xa_script.specs.TurnsSoFar.{IsOpen}
 
 -- ---- the threads
 
-desks_again : (ds : List DeskView) (ls : List LogView) (zs : List ScanView) → length ls ≡ length ds → length zs ≡ length ds → map (λ (x : Session). x.desk) (sessions_again ds ls zs) ≡ ds
+desks_again : (ds : List DeskView) (ls : List LogView) (zs : List ScanView) → length ls ≡ length ds → length zs ≡ length ds
+    → map (λ (x : Session). x.desk) (sessions_again ds ls zs) ≡ ds
 desks_again [] ls zs logs scans = refl
 desks_again (d ∷ ds) [] zs logs scans = absurd (omega (arith, logs))
 desks_again (d ∷ ds) (l ∷ ls) [] logs scans = absurd (omega (arith, scans))
 desks_again (d ∷ ds) (l ∷ ls) (z ∷ zs) logs scans = ap (λ ds. d ∷ ds) (desks_again ds ls zs (omega (arith, logs)) (omega (arith, scans)))
 
-again_at : (ds : List DeskView) (ls : List LogView) (zs : List ScanView) (k : ℕ) (x : Session) → slice_get (sessions_again ds ls zs) k ≡ Some x → (slice_get ls k ≡ Some x.log) × (slice_get zs k ≡ Some x.scan)
+again_at : (ds : List DeskView) (ls : List LogView) (zs : List ScanView) (k : ℕ) (x : Session) → slice_get (sessions_again ds ls zs) k ≡ Some x
+    → (slice_get ls k ≡ Some x.log) × (slice_get zs k ≡ Some x.scan)
 again_at [] ls zs k x at = absurd (cc)
 again_at (d ∷ ds) [] zs k x at = absurd (cc)
 again_at (d ∷ ds) (l ∷ ls) [] k x at = absurd (cc)
-again_at (d ∷ ds) (l ∷ ls) (z ∷ zs) zero x at = let same : session_of d l z ≡ x = some_same _ x at in (ap (λ (y : Session). Some y.log) same, ap (λ (y : Session). Some y.scan) same)
+again_at (d ∷ ds) (l ∷ ls) (z ∷ zs) zero x at =
+    let same : session_of d l z ≡ x = some_same _ x at in (ap (λ (y : Session). Some y.log) same, ap (λ (y : Session). Some y.scan) same)
 again_at (d ∷ ds) (l ∷ ls) (z ∷ zs) (suc k) x at = again_at ds ls zs k x at
 
 -- ---- the scans of thread t
@@ -57,7 +60,8 @@ scans_are s threads zs are (suc k) low high = let many = are.threads_ in are.eac
 
 -- ---- the opening
 
-module _ (s : Content) (b : Beginning) (o : Opening) (left : List Session) (h : HasCome mode.Turns s b o left) (settled : Settling) (same : o.settled ≡ settled) (again : Again) (numbers : AreNumbersOf s (suc b.opening) again) where
+module _ (s : Content) (b : Beginning) (o : Opening) (left : List Session) (h : HasCome mode.Turns s b o left) (settled : Settling) (same : o.settled ≡ settled)
+    (again : Again) (numbers : AreNumbersOf s (suc b.opening) again) where
   abbrev closed : Settling
   closed = settling h.ended h.done
 
@@ -91,7 +95,8 @@ module _ (s : Content) (b : Beginning) (o : Opening) (left : List Session) (h : 
     many_logs : length logs ≡ length desks
     many_logs =
         ap (λ (l : List LogView). length l) logs_are ∙ length-map left (λ (x : Session). x.log) ∙ h.ran.many_left
-        ∙ sym (length-map h.sessions (λ (x : Session). x.desk)) ∙ opened_threads s b.opening b.tables (map (λ (x : Session). x.desk) h.sessions) h.workers h.ran.opened ∙ sym many_desks
+        ∙ sym (length-map h.sessions (λ (x : Session). x.desk))
+        ∙ opened_threads s b.opening b.tables (map (λ (x : Session). x.desk) h.sessions) h.workers h.ran.opened ∙ sym many_desks
 
     many_scans : length zs ≡ length desks
     many_scans = scans.threads_ ∙ numbers.threads ∙ sym many_desks

@@ -38,7 +38,8 @@ use Rattle.xa_script.proofs.EndLines.{ends_all, ends_other, tasks_no_end, steps_
 
 -- ---- a thread's number
 
-tasks_thread : (first : Session × List Told) (tasks : List ScriptTask) (last : Session × List Told) → Chain HasDone first tasks last → last.0.desk.thread ≡ first.0.desk.thread
+tasks_thread : (first : Session × List Told) (tasks : List ScriptTask) (last : Session × List Told) → Chain HasDone first tasks last
+    → last.0.desk.thread ≡ first.0.desk.thread
 tasks_thread first tasks last (none xs l e f) = ap (λ (x : Session × List Told). x.0.desk.thread) f
 tasks_thread first tasks last (more xs x now l before is) = ap (λ (p : DeskSeat). p.thread) is.does.goes_on.seat ∙ tasks_thread first xs now before
 
@@ -53,7 +54,8 @@ module _ (s : Content) (b : Beginning) (steps : List ScriptStep) (sessions : Lis
       opened_thread s b.opening b.tables (map (λ (x : Session). x.desk) sessions) workers opened k x.desk
       (slice_get-map (λ (x : Session). x.desk) sessions k ∙ ap (option_map (λ (x : Session). x.desk)) at)
 
-  module _ (left : List Session) (ended : List EndedView) (done : List Served) (answers : List Told) (runs : InTurns steps sessions left workers ended done answers) where
+  module _ (left : List Session) (ended : List EndedView) (done : List Served) (answers : List Told)
+      (runs : InTurns steps sessions left workers ended done answers) where
     abbrev first : TurnsAt
     first = turns_at sessions workers []
 
@@ -107,7 +109,8 @@ module _ (s : Content) (b : Beginning) (steps : List ScriptStep) (sessions : Lis
         ∙ ap (λ l. answers_to t runs.ran.answers ++ l) (flat_none (is_to t) ended_by ended_all.endings (λ k z at. ended_tell t z.0.desk.thread z.1))
         ∙ append-nil (answers_to t runs.ran.answers)
 
-    thread_comes : (k : ℕ) (x y : Session) (e : EndedView) → slice_get sessions k ≡ Some x → slice_get left k ≡ Some y → slice_get runs.closed.ended k ≡ Some e → Comes steps runs.closed.answers x y e
+    thread_comes : (k : ℕ) (x y : Session) (e : EndedView) → slice_get sessions k ≡ Some x → slice_get left k ≡ Some y → slice_get runs.closed.ended k ≡ Some e
+        → Comes steps runs.closed.answers x y e
     thread_comes k x y e at at_y at_e =
         let t : x.desk.thread ≡ k + 1 = thread_at k x at in
         let w = went k x at in
@@ -128,7 +131,8 @@ module _ (s : Content) (b : Beginning) (steps : List ScriptStep) (sessions : Lis
         }
 
     -- a thread that there isn't
-    no_other : (t : ℕ) → ((k : ℕ) (x : Session) → slice_get sessions k ≡ Some x → x.desk.thread ≢ t) → tasks_of t steps ≡ [] → (answers_to t runs.closed.answers ≡ []) × (ends_of t runs.closed.answers ≡ [])
+    no_other : (t : ℕ) → ((k : ℕ) (x : Session) → slice_get sessions k ≡ Some x → x.desk.thread ≢ t) → tasks_of t steps ≡ []
+        → (answers_to t runs.closed.answers ≡ []) × (ends_of t runs.closed.answers ≡ [])
     no_other t none_there silent = (
       answers_told t ∙ run_silent t first refl steps runs.ran runs.runs silent,
       ap (ends_of t) ended_all.told
@@ -148,7 +152,8 @@ module _ (s : Content) (b : Beginning) (steps : List ScriptStep) (sessions : Lis
       begins = begins;
       fits = fits;
       many_left = ap (λ (l : List Session). length l) runs.left_are ∙ many_sessions;
-      many_ended = ended_all.ended.as_many ∙ sym (length-map ended_all.endings (λ (z : Ending). z.0)) ∙ ap (λ (l : List Session). length l) ended_all.sessions_are ∙ many_sessions;
+      many_ended = ended_all.ended.as_many ∙ sym (length-map ended_all.endings (λ (z : Ending). z.0))
+          ∙ ap (λ (l : List Session). length l) ended_all.sessions_are ∙ many_sessions;
       threads = thread_comes;
       others = no_other;
       managers =
@@ -164,12 +169,15 @@ module _ (s : Content) (b : Beginning) (steps : List ScriptStep) (sessions : Lis
 
   -- ---- in threads
 
-  module _ (left : List Session) (ended : List EndedView) (done : List Served) (answers : List Told) (runs : InThreads s steps sessions left workers ended done answers) where
+  module _ (left : List Session) (ended : List EndedView) (done : List Served) (answers : List Told)
+      (runs : InThreads s steps sessions left workers ended done answers) where
     abbrev threads : List (Member ScriptThread)
     threads = runs.threads
 
     member_at : (k : ℕ) (x : Member ScriptThread) → slice_get threads k ≡ Some x → slice_get sessions k ≡ Some (new_session s x.desk)
-    member_at k x at = ap (λ l. slice_get l k) runs.sessions_are ∙ slice_get-map (λ (t : Member ScriptThread). new_session s t.desk) threads k ∙ ap (option_map (λ (t : Member ScriptThread). new_session s t.desk)) at
+    member_at k x at =
+        ap (λ l. slice_get l k) runs.sessions_are ∙ slice_get-map (λ (t : Member ScriptThread). new_session s t.desk) threads k
+        ∙ ap (option_map (λ (t : Member ScriptThread). new_session s t.desk)) at
 
     -- the thread at place k is of number k + 1
     number_at : (k : ℕ) (x : Member ScriptThread) → slice_get threads k ≡ Some x → x.desk.thread ≡ k + 1
@@ -192,7 +200,8 @@ module _ (s : Content) (b : Beginning) (steps : List ScriptStep) (sessions : Lis
         ∙ told_none t x.desk.thread (λ e. differs (sym e ∙ own)) (new_session s x.desk, []) refl (tasks_of x.desk.thread steps) (has.0, x.attended.client.told) has.2.runs (tasks_are_of x.desk.thread steps)
 
     -- the lines of what was outstanding
-    ends_by : (t : ℕ) (x : Member ScriptThread) (y : Session) → HasWorked s steps x y → ends_of t (told x) ≡ ends_of t (all_ended x.attended.client.thread x.attended.outstanding.items)
+    ends_by : (t : ℕ) (x : Member ScriptThread) (y : Session) → HasWorked s steps x y
+        → ends_of t (told x) ≡ ends_of t (all_ended x.attended.client.thread x.attended.outstanding.items)
     ends_by t x y has =
         filter-append (is_end_of t) x.attended.client.told (all_ended x.attended.client.thread x.attended.outstanding.items)
         ∙ ap (λ l. l ++ ends_of t (all_ended x.attended.client.thread x.attended.outstanding.items)) (tasks_no_end t (new_session s x.desk, []) refl (tasks_of x.desk.thread steps) (y, x.attended.client.told) has.runs)
@@ -202,7 +211,8 @@ module _ (s : Content) (b : Beginning) (steps : List ScriptStep) (sessions : Lis
         let has = worked_at k x at in
         ends_by t x has.0 has.2 ∙ ends_other t x.attended.client.thread (λ e. differs (sym e ∙ has.2.own ∙ number_at k x at)) x.attended.outstanding.items
 
-    ends_here : (k : ℕ) (x : Member ScriptThread) → slice_get threads k ≡ Some x → ends_of x.desk.thread (flat_map told threads) ≡ all_ended x.desk.thread x.attended.outstanding.items
+    ends_here : (k : ℕ) (x : Member ScriptThread) → slice_get threads k ≡ Some x
+        → ends_of x.desk.thread (flat_map told threads) ≡ all_ended x.desk.thread x.attended.outstanding.items
     ends_here k x at =
         let t = x.desk.thread in
         let own = number_at k x at in
@@ -212,11 +222,13 @@ module _ (s : Content) (b : Beginning) (steps : List ScriptStep) (sessions : Lis
         ∙ ap (λ (n : ℕ). ends_of t (all_ended n x.attended.outstanding.items)) has.2.own
         ∙ ends_all t x.attended.outstanding.items
 
-    member_comes : (k : ℕ) (x y : Session) (e : EndedView) → slice_get (map (λ (t : Member ScriptThread). new_session s t.desk) threads) k ≡ Some x → slice_get left k ≡ Some y → slice_get (map (λ (t : Member ScriptThread). t.ended) threads) k ≡ Some e → Comes steps (flat_map told threads) x y e
+    member_comes : (k : ℕ) (x y : Session) (e : EndedView) → slice_get (map (λ (t : Member ScriptThread). new_session s t.desk) threads) k ≡ Some x
+        → slice_get left k ≡ Some y → slice_get (map (λ (t : Member ScriptThread). t.ended) threads) k ≡ Some e → Comes steps (flat_map told threads) x y e
     member_comes k x y e at at_y at_e =
         let found = was_mapped (λ (t : Member ScriptThread). new_session s t.desk) threads k x at in
         let m = found.0 in
-        let same_end : m.ended ≡ e = some_same (m.ended) e (sym (slice_get-map (λ (t : Member ScriptThread). t.ended) threads k ∙ ap (option_map (λ (t : Member ScriptThread). t.ended)) found.1) ∙ at_e) in
+        let same_end : m.ended ≡ e =
+        some_same (m.ended) e (sym (slice_get-map (λ (t : Member ScriptThread). t.ended) threads k ∙ ap (option_map (λ (t : Member ScriptThread). t.ended)) found.1) ∙ at_e) in
         let has : HasWorked s steps m y = runs.worked.each k m y found.1 at_y in
         let own = number_at k m found.1 in
         let t = m.desk.thread in

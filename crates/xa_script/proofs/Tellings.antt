@@ -27,12 +27,14 @@ module _ (m : Mode) (s : Content) where
   all_leave first before last (more fs f now b earlier is) = more fs f now b (all_leave first fs now earlier) is.leaves
 
   -- the managers that were settled last
-  pub managers_so : (answers : List Told) (before : List Former) (last : Opening) → IsOutcome m s answers before last → AreOfScript s (opened_after s (map (λ f. f.opening.settled) before)) last.settled.managers
+  pub managers_so : (answers : List Told) (before : List Former) (last : Opening) → IsOutcome m s answers before last
+      → AreOfScript s (opened_after s (map (λ f. f.opening.settled) before)) last.settled.managers
   managers_so answers before last is =
       of_script_after s before is.begins (all_leave (beginning s) before is.begins is.former) last.settled.managers
       (come_tells is.begins last is.left is.latest).managers
 
-  pub run_tells : (answers : List Told) (values : List Declared) (before : List Former) (last : Opening) → IsOutcome m s answers before last → AreValues s (settled_over before last) values → Tells s answers values before last
+  pub run_tells : (answers : List Told) (values : List Declared) (before : List Former) (last : Opening) → IsOutcome m s answers before last
+      → AreValues s (settled_over before last) values → Tells s answers values before last
   run_tells answers values before last is shown = record {
     steps = is.steps;
     answers_ = is.answers_;

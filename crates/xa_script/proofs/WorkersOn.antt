@@ -21,7 +21,8 @@ steps_go (step.Turn number m) old new line is = turn_goes m is.did old.workers n
 
 pub run_goes : (old : TurnsAt) (steps : List ScriptStep) (new : TurnsAt) → Chain HasStepped old steps new → AllGoOn old.stage.workers new.stage.workers
 run_goes old steps new (none xs last e f) = subst (λ (c : TurnsAt). AllGoOn old.stage.workers c.stage.workers) (sym f) (all_stay old.stage.workers)
-run_goes old steps new (more xs x now last before is) = all_go_on old.stage.workers now.stage.workers last.stage.workers (run_goes old xs now before) (steps_go x now.stage last.stage is.line is.steps)
+run_goes old steps new (more xs x now last before is) =
+    all_go_on old.stage.workers now.stage.workers last.stage.workers (run_goes old xs now before) (steps_go x now.stage last.stage is.line is.steps)
 
 pub ends_go : (old : Closing) (sessions : List Session) (new : Closing) → Chain HasEndedDesk old sessions new → AllGoOn old.workers new.workers
 ends_go old sessions new (none xs last e f) = subst (λ (c : Closing). AllGoOn old.workers c.workers) (sym f) (all_stay old.workers)
@@ -34,6 +35,7 @@ steps_count (step.Task p) old new line is = ap (λ l. length l) is.rest ∙ leng
 steps_count (step.Reopen number) old new line is = absurd is
 steps_count (step.Turn number m) old new line is = ap (λ l. length l) is.rest
 
-pub run_count : (old : TurnsAt) (steps : List ScriptStep) (new : TurnsAt) → Chain HasStepped old steps new → length new.stage.sessions ≡ length old.stage.sessions
+pub run_count : (old : TurnsAt) (steps : List ScriptStep) (new : TurnsAt) → Chain HasStepped old steps new
+    → length new.stage.sessions ≡ length old.stage.sessions
 run_count old steps new (none xs last e f) = ap (λ (c : TurnsAt). length c.stage.sessions) f
 run_count old steps new (more xs x now last before is) = steps_count x now.stage last.stage is.line is.steps ∙ run_count old xs now before

@@ -3,7 +3,7 @@ use Rattle.std.specs.Prelude.{◌≡◌, ℕ, ◌+◌, Some, All, List, [], ◌�
 use Rattle.std.specs.List.{flat_map}
 use Rattle.xa_base.specs.Lists.{Chain}
 use Rattle.xa_worker.specs.Workers.{WorkerView}
-use Rattle.xa_driver.specs.Log.{LogView}
+use Rattle.xa_log.specs.Log.{LogView}
 use Rattle.xa_grammar.specs.declared.step.Step.TheVariants as step
 use Rattle.xa_grammar.specs.Steps.{ScriptStep}
 use Rattle.xa_grammar.specs.Content.{Content, Fits, threads_of, managers_of, AreOfOne}

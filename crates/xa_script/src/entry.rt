@@ -86,11 +86,11 @@ fn tell<E: Write>(fault: Fault, err: &mut E)
     match fault {
         Fault::Script(ScriptFault::Line { line, why }) => put_line(line, why, err),
         Fault::Script(ScriptFault::Read) => put(b"input failed\n", err),
-        Fault::Script(ScriptFault::NoMemory) => put(OUT_OF_MEMORY, err),
         Fault::Run(RunFault::Write) => put(b"output failed\n", err),
-        Fault::Run(RunFault::NoMemory) => put(OUT_OF_MEMORY, err),
         Fault::Usage => put(b"usage: xaswitch turns or threads\n", err),
-        Fault::NoMemory => put(OUT_OF_MEMORY, err),
+        Fault::NoMemory | Fault::Script(ScriptFault::NoMemory) | Fault::Run(RunFault::NoMemory) => {
+            put(OUT_OF_MEMORY, err)
+        }
     }
 }
 

@@ -22,5 +22,4 @@ pub use xa_grammar::{
     Action, Called, Calling, CommitAll, Declared, Reason, Script, ScriptFault, Step, Task,
     read_script,
 };
-pub use xa_telling::laws;
 pub use xa_transcript::{Answer, RunFault, Told};

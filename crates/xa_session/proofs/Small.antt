@@ -4,7 +4,9 @@ use Rattle.std.proofs.Common.{sym, ap, ◌∙◌, subst, arith, w32, SFits}
 use Rattle.std.proofs.lemmas.Int.{ints}
 use Rattle.xa_words.specs.Code.{number_of}
 use Rattle.xa_words.specs.declared.code.Code.{Code}
-use Rattle.xa_words.specs.declared.code.Code.TheVariants.{Done, RdOnly, Retry, HeurMix, HeurRb, HeurCom, HeurHaz, RbRollback, RbCommFail, RbDeadlock, RbIntegrity, RbOther, RbProto, RbTimeout, RbTransient, Async, RmErr, Nota, Inval, Proto, RmFail, DupId, Outside}
+use Rattle.xa_words.specs.declared.code.Code.TheVariants.{Done, RdOnly, Retry, HeurMix, HeurRb, HeurCom, HeurHaz, RbRollback, RbCommFail, RbDeadlock}
+use Rattle.xa_words.specs.declared.code.Code.TheVariants.{RbIntegrity, RbOther, RbProto, RbTimeout, RbTransient, Async, RmErr, Nota, Inval, Proto, RmFail}
+use Rattle.xa_words.specs.declared.code.Code.TheVariants.{DupId, Outside}
 use Rattle.xa_desk.specs.DeskView.{IsHandle}
 use Rattle.xa_transcript.specs.declared.answer.Answer.{Answer}
 use Rattle.xa_switch.specs.Completing.{Tells}
@@ -38,7 +40,8 @@ code_fits Outside = omega (arith, ints)
 handle_fits : (k : ℕ) → IsHandle k → SFits w32 (pos k)
 handle_fits k is = let limit = is.limit in omega (arith, ints, limit)
 
-pub told_fit : (collected : Result (ℕ × Code) Code) (h v h' v' a : ℤ) → IfOk collected (λ r. IsHandle r.0) → Tells collected h v h' v' a → SFits w32 h → SFits w32 v → SFits w32 h' × SFits w32 v'
+pub told_fit : (collected : Result (ℕ × Code) Code) (h v h' v' a : ℤ) → IfOk collected (λ r. IsHandle r.0) → Tells collected h v h' v' a → SFits w32 h
+    → SFits w32 v → SFits w32 h' × SFits w32 v'
 told_fit (Ok r) h v h' v' a is t fits fits' = (subst (SFits w32) (sym t.0) (handle_fits r.0 is), subst (SFits w32) (sym t.1.0) (code_fits r.1))
 told_fit (Err c) h v h' v' a is t fits fits' = (subst (SFits w32) (sym t.0) fits, subst (SFits w32) (sym t.1.0) fits')
 

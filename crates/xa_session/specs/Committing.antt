@@ -7,7 +7,7 @@ use Rattle.xa_driver.specs.declared.branch.Branch.{Branch}
 use Rattle.xa_driver.specs.declared.done.Done.{Done}
 use Rattle.xa_driver.specs.Asks.{KeepsDesk}
 use Rattle.xa_driver.specs.Decision.{yes_of}
-use Rattle.xa_driver.specs.Log.{AppendsTo}
+use Rattle.xa_log.specs.Log.{AppendsTo}
 use Rattle.xa_driver.specs.Order.{IsThreeRounds}
 use Rattle.xa_driver.specs.Trace.{MayCommit, AppendsOnce, IsTraceOfCommit}
 use Rattle.xa_grammar.specs.declared.step.CommitAll.{CommitAll}

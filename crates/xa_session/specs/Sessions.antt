@@ -4,7 +4,7 @@ use Rattle.xa_desk.specs.DeskView.{DeskView}
 use Rattle.xa_desk.specs.GoesOn.{GoesOn}
 use Rattle.xa_desk.specs.Kept.{AllKept}
 use Rattle.xa_switch.specs.Scans.{ScanView, no_scan}
-use Rattle.xa_driver.specs.Log.{LogView, no_records}
+use Rattle.xa_log.specs.Log.{LogView, no_records}
 use Rattle.xa_driver.specs.Resolving.{MayResolve}
 use Rattle.xa_driver.specs.Trace.{MayCommit}
 use Rattle.xa_grammar.specs.declared.step.Action.TheVariants.{Call, CommitAll, Resolve}

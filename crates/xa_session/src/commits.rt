@@ -13,8 +13,9 @@ use std::sync::Wait;
 use xa_base::MOST_MANAGERS;
 use xa_desk::laws::desks_go_on;
 use xa_desk::{Desk, Idle};
-use xa_driver::{Branch, DriverFault, MemoryLog, commit_all, may_commit};
+use xa_driver::{Branch, DriverFault, commit_all, may_commit};
 use xa_grammar::CommitAll;
+use xa_log::MemoryLog;
 use xa_transcript::Answer;
 use xa_words::Xid;
 

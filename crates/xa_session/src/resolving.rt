@@ -10,7 +10,8 @@ use std::alloc::{AllocError, Global};
 use std::sync::Wait;
 use xa_desk::laws::desks_go_on;
 use xa_desk::{Desk, Idle};
-use xa_driver::{MemoryLog, ResolveFault, may_resolve, resolve};
+use xa_driver::{ResolveFault, may_resolve, resolve};
+use xa_log::MemoryLog;
 use xa_switch::Scan;
 use xa_transcript::Answer;
 

@@ -14,8 +14,8 @@ use xa_crew::Client;
 use xa_crew::laws::idles_go_on;
 use xa_desk::laws::desks_go_on;
 use xa_desk::{Desk, Idle};
-use xa_driver::MemoryLog;
 use xa_grammar::{Script, Tasks};
+use xa_log::MemoryLog;
 use xa_switch::Scan;
 use xa_transcript::{Told, Transcript};
 

@@ -11,8 +11,8 @@ use crate::resolving::resolve_left;
 use std::alloc::{AllocError, Global};
 use std::sync::Wait;
 use xa_desk::{Desk, Idle};
-use xa_driver::MemoryLog;
 use xa_grammar::{Action, Script};
+use xa_log::MemoryLog;
 use xa_switch::Scan;
 use xa_transcript::Answer;
 

@@ -1,5 +1,6 @@
 -- All threads and managers of a settled opening agree.
-use Rattle.std.proofs.Common.{◌≡◌, ℕ, zero, suc, ◌+◌, ◌-◌, ◌<◌, ◌≤◌, Bool, true, false, ◌==◌, nat_eq, cond, List, [], ◌∷◌, length, map, sym, refl, ap, ◌∙◌, subst, ⊎_elim, arith, ne_eqb, Some, None}
+use Rattle.std.proofs.Common.{◌≡◌, ℕ, zero, suc, ◌+◌, ◌-◌, ◌<◌, ◌≤◌, Bool, true, false, ◌==◌, nat_eq, cond, List, [], ◌∷◌, length, map, sym, refl, ap, ◌∙◌}
+use Rattle.std.proofs.Common.{subst, ⊎_elim, arith, ne_eqb, Some, None}
 use Rattle.std.specs.List.{All, Contains}
 use Rattle.std.proofs.lemmas.Bool.{eqb-true, cases_lt}
 use Rattle.xa_base.proofs.Lists.{none_twice}
@@ -27,10 +28,12 @@ use Rattle.xa_switch.proofs.Pieces.{Joint, workers_opened, request_columns, comp
 
 -- nothing was sent and collected
 nothing_agrees : (t : ℕ) (J : List Entry) → of_thread t (requests J) ≡ [] → Agree t [] [] J
-nothing_agrees t J e = record { carried = e; each = λ n. ((λ h. absurd (omega arith)), (λ h. absurd (cc h))); once = none_twice nat_eq; coded = λ k q h. absurd (omega arith) }
+nothing_agrees t J e =
+    record { carried = e; each = λ n. ((λ h. absurd (omega arith)), (λ h. absurd (cc h))); once = none_twice nat_eq; coded = λ k q h. absurd (omega arith) }
 
 agree_along : {t u : ℕ} {a b : List Op} {p q : List (ℕ × Code)} {J K : List Entry} → t ≡ u → a ≡ b → p ≡ q → J ≡ K → Agree t a p J → Agree u b q K
-agree_along {t} {u} {a} {b} {p} {q} {J} {K} e f g h x = subst (λ (v : ℕ × List Op × List (ℕ × Code) × List Entry). Agree v.0 v.1 v.2 v.3) (λ i. (e i, f i, g i, h i)) x
+agree_along {t} {u} {a} {b} {p} {q} {J} {K} e f g h x =
+    subst (λ (v : ℕ × List Op × List (ℕ × Code) × List Entry). Agree v.0 v.1 v.2 v.3) (λ i. (e i, f i, g i, h i)) x
 
 -- ---- ledgers with a manager that is known, and with one that isn't
 
@@ -61,12 +64,15 @@ requests_taken (x ∷ xs) (e ∷ J) h =
 all_taken : (w : Served) → asked w.receiver.taken ≡ map of_own_thread w.journal → requests w.journal ≡ taken_by w
 all_taken w h = requests_taken (items_in w.receiver.taken) w.journal h
 
-module _ (ds : List EndedView) (ws : List Served) (j : Joint ds ws) (rs : All (λ r. IsClosed r.1 (column (request_columns ds) r.0)) (map worker_lane ws)) (cs : All (λ r. IsClosed r.1 (column (completion_columns ws) r.0)) (map desk_lane ds)) where
+module _ (ds : List EndedView) (ws : List Served) (j : Joint ds ws) (rs : All (λ r. IsClosed r.1 (column (request_columns ds) r.0)) (map worker_lane ws))
+    (cs : All (λ r. IsClosed r.1 (column (completion_columns ws) r.0)) (map desk_lane ds)) where
   requests_closed : (w : Served) → Contains ws w → IsClosed w.receiver (column (request_columns ds) (w.number - 1))
-  requests_closed w cw = all_contains (λ (r : ℕ × Asking). IsClosed r.1 (column (request_columns ds) r.0)) (map worker_lane ws) (worker_lane w) rs (contains_map worker_lane ws w cw)
+  requests_closed w cw =
+      all_contains (λ (r : ℕ × Asking). IsClosed r.1 (column (request_columns ds) r.0)) (map worker_lane ws) (worker_lane w) rs (contains_map worker_lane ws w cw)
 
   completions_closed : (d : EndedView) → Contains ds d → IsClosed d.completions (column (completion_columns ws) (d.thread - 1))
-  completions_closed d cd = all_contains (λ (r : ℕ × Receiving Completion). IsClosed r.1 (column (completion_columns ws) r.0)) (map desk_lane ds) (desk_lane d) cs (contains_map desk_lane ds d cd)
+  completions_closed d cd =
+      all_contains (λ (r : ℕ × Receiving Completion). IsClosed r.1 (column (completion_columns ws) r.0)) (map desk_lane ds) (desk_lane d) cs (contains_map desk_lane ds d cd)
 
   -- a journal has nothing of a thread that isn't there
   no_desk : (t : ℕ) (w : Served) → Contains ws w → has_desk t ds ≡ false → of_thread t (requests w.journal) ≡ []
@@ -81,7 +87,8 @@ module _ (ds : List EndedView) (ws : List Served) (j : Joint ds ws) (rs : All (�
       ∙
       ⊎_elim
       (λ (lt : s < w.manager.threads).
-      let there : has_desk (suc s) ds ≡ true = all_contains (λ (w : Served). HasDesks w.manager.threads ds) ws w j.all.whole.desks cw (suc s) (omega arith) (omega (arith, lt)) in
+      let there : has_desk (suc s) ds ≡ true =
+      all_contains (λ (w : Served). HasDesks w.manager.threads ds) ws w j.all.whole.desks cw (suc s) (omega arith) (omega (arith, lt)) in
       absurd (cc (none, there)))
       (λ (le : w.manager.threads ≤ s). none_of w.receiver.senders s w.receiver.taken (requests_closed w cw).known.0 (omega (arith, le, senders)))
       (cases_lt s w.manager.threads)
@@ -93,7 +100,8 @@ module _ (ds : List EndedView) (ws : List Served) (j : Joint ds ws) (rs : All (�
     no_worker_by false e = refl
     no_worker_by true e =
         let k = known_is d.ledgers m e in
-        let there : has_worker m ws ≡ true = all_contains (λ (d : EndedView). HasWorkers (length d.ledgers) ws) ds d j.all.whole.workers cd m k.positive k.within in
+        let there : has_worker m ws ≡ true =
+        all_contains (λ (d : EndedView). HasWorkers (length d.ledgers) ws) ds d j.all.whole.workers cd m k.positive k.within in
         absurd (cc (none, there))
 
   sent_by : (at : List LedgerView) (m : ℕ) (b : Bool) → is_known at m ≡ b → sent_to at m ≡ cond b (ledger at m).sent []
@@ -111,7 +119,8 @@ module _ (ds : List EndedView) (ws : List Served) (j : Joint ds ws) (rs : All (�
   collected_nobody m true = refl
   collected_nobody m false = refl
 
-  agrees : (t m : ℕ) → Agree t (sent_to (ledgers_in (find_thread t (map thread_part ds))) m) (collected_from (ledgers_in (find_thread t (map thread_part ds))) m) (journal_in (find_manager m (map manager_part ws)))
+  agrees : (t m : ℕ)
+      → Agree t (sent_to (ledgers_in (find_thread t (map thread_part ds))) m) (collected_from (ledgers_in (find_thread t (map thread_part ds))) m) (journal_in (find_manager m (map manager_part ws)))
   agrees t m =
       let D = find_thread t (map thread_part ds) in
       let W = find_manager m (map manager_part ws) in

@@ -1,10 +1,13 @@
 -- Rows that are dealt into columns.
-use Rattle.std.proofs.Common.{◌≡◌, ℕ, zero, suc, ◌+◌, ◌<◌, ◌≤◌, List, [], ◌∷◌, ◌++◌, length, map, set, get_or, slice_get, drop, refl, sym, ap, ◌∙◌, subst, arith, length-append, ◌⊎◌, ⊎_elim, inl, inr, Some}
+use Rattle.std.proofs.Common.{◌≡◌, ℕ, zero, suc, ◌+◌, ◌<◌, ◌≤◌, List, [], ◌∷◌, ◌++◌, length, map, set, get_or, slice_get, drop, refl, sym, ap, ◌∙◌, subst}
+use Rattle.std.proofs.Common.{arith, length-append, ◌⊎◌, ⊎_elim, inl, inr, Some}
 use Rattle.std.specs.List.{All}
 use Rattle.std.proofs.lemmas.List.{get_or-map as get_or-map', map-set, length-map}
 use Rattle.std.proofs.Math.ListN.{get_or-map}
 use Rattle.std.proofs.Math.Seq.{map-set_same}
 use Rattle.std.specs.Option.{option_map}
+use Rattle.std.specs.Vec.Iter.{into_iter_items, into_iter_len}
+use Rattle.std.specs.declared.vec.IntoIter.{IntoIter}
 use Rattle.std.proofs.lemmas.Option.{slice_get_within, slice_get-map, slice_get-get_or}
 use Rattle.xa_switch.specs.Columns.{put_row, Each, AreLanes}
 
@@ -19,7 +22,8 @@ module _ {X : Type 0} where
   put_none [] = refl
   put_none (c ∷ cs) = refl
 
-  pub put_row_more : (C : List (List X)) (Y : List X) (x : X) → length Y < length C → put_row C (Y ++ x ∷ []) ≡ set (put_row C Y) (length Y) (get_or C (length Y) [] ++ x ∷ [])
+  pub put_row_more : (C : List (List X)) (Y : List X) (x : X) → length Y < length C
+      → put_row C (Y ++ x ∷ []) ≡ set (put_row C Y) (length Y) (get_or C (length Y) [] ++ x ∷ [])
   put_row_more [] Y x h = absurd (omega arith)
   put_row_more (c ∷ cs) [] x h = ap (λ l. (c ++ x ∷ []) ∷ l) (put_none cs)
   put_row_more (c ∷ cs) (y ∷ Y) x h = ap (λ l. (c ++ y ∷ []) ∷ l) (put_row_more cs Y x (omega arith))
@@ -29,10 +33,12 @@ module _ {X : Type 0} where
   put_row_at (c ∷ cs) [] d = refl
   put_row_at (c ∷ cs) (y ∷ Y) d = put_row_at cs Y d
 
-  module _ {V : Type 0} (items : V → List X) (cap : V → ℕ) (C₀ C : List V) (Y : List X) (d : V) (dealt : map items C ≡ put_row (map items C₀) Y) (caps : map cap C ≡ map cap C₀) where
+  module _ {V : Type 0} (items : V → List X) (cap : V → ℕ) (C₀ C : List V) (Y : List X) (d : V) (dealt : map items C ≡ put_row (map items C₀) Y)
+      (caps : map cap C ≡ map cap C₀) where
     same_items : items (get_or C (length Y) d) ≡ items (get_or C₀ (length Y) d)
     same_items =
-        sym (get_or-map items C (length Y) d) ∙ ap (λ l. get_or l (length Y) (items d)) dealt ∙ put_row_at (map items C₀) Y (items d) ∙ get_or-map items C₀ (length Y) d
+        sym (get_or-map items C (length Y) d) ∙ ap (λ l. get_or l (length Y) (items d)) dealt ∙ put_row_at (map items C₀) Y (items d)
+        ∙ get_or-map items C₀ (length Y) d
 
     same_cap : cap (get_or C (length Y) d) ≡ cap (get_or C₀ (length Y) d)
     same_cap = sym (get_or-map cap C (length Y) d) ∙ ap (λ l. get_or l (length Y) (cap d)) caps ∙ get_or-map cap C₀ (length Y) d
@@ -45,7 +51,8 @@ module _ {X : Type 0} where
         let h = room (length Y) d below in
         omega (arith, a, b, h)
 
-    pub dealt_more : (x : X) (c : V) → length Y < length C₀ → items c ≡ items (get_or C (length Y) d) ++ x ∷ [] → map items (set C (length Y) c) ≡ put_row (map items C₀) (Y ++ x ∷ [])
+    pub dealt_more : (x : X) (c : V) → length Y < length C₀ → items c ≡ items (get_or C (length Y) d) ++ x ∷ []
+        → map items (set C (length Y) c) ≡ put_row (map items C₀) (Y ++ x ∷ [])
     dealt_more x c below e =
         let m = length-map C₀ items in
         map-set items C (length Y) c
@@ -62,11 +69,13 @@ length_put (c ∷ cs) (y ∷ row) = ap suc (length_put cs row)
 
 -- ---- elements by their places
 
-pub snoc_cases : {X : Type 0} (xs : List X) (x : X) (k : ℕ) (y : X) → slice_get (xs ++ x ∷ []) k ≡ Some y → (slice_get xs k ≡ Some y) ⊎ ((k ≡ length xs) × (x ≡ y))
+pub snoc_cases : {X : Type 0} (xs : List X) (x : X) (k : ℕ) (y : X) → slice_get (xs ++ x ∷ []) k ≡ Some y
+    → (slice_get xs k ≡ Some y) ⊎ ((k ≡ length xs) × (x ≡ y))
 snoc_cases [] x zero y e = let f : x ≡ y = cc in inr (refl, f)
 snoc_cases [] x (suc k) y e = cc
 snoc_cases (z ∷ xs) x zero y e = inl e
-snoc_cases (z ∷ xs) x (suc k) y e = ⊎_elim (λ (h : slice_get xs k ≡ Some y). inl h) (λ (h : (k ≡ length xs) × (x ≡ y)). inr (ap suc h.0, h.1)) (snoc_cases xs x k y e)
+snoc_cases (z ∷ xs) x (suc k) y e =
+    ⊎_elim (λ (h : slice_get xs k ≡ Some y). inl h) (λ (h : (k ≡ length xs) × (x ≡ y)). inr (ap suc h.0, h.1)) (snoc_cases xs x k y e)
 
 pub each_push : {X : Type 0} (P : ℕ → X → Type 0) (xs : List X) (x : X) → Each P xs → P (length xs) x → Each P (xs ++ x ∷ [])
 each_push P xs x each last k y e =
@@ -75,7 +84,8 @@ each_push P xs x each last k y e =
     (snoc_cases xs x k y e)
 
 -- what a column is after a row
-pub put_cases : {X : Type 0} (C : List (List X)) (row : List X) (k : ℕ) (c' : List X) → length row ≡ length C → slice_get (put_row C row) k ≡ Some c' → (c : List X) × (x : X) × (slice_get C k ≡ Some c) × (slice_get row k ≡ Some x) × (c' ≡ c ++ x ∷ [])
+pub put_cases : {X : Type 0} (C : List (List X)) (row : List X) (k : ℕ) (c' : List X) → length row ≡ length C → slice_get (put_row C row) k ≡ Some c'
+    → (c : List X) × (x : X) × (slice_get C k ≡ Some c) × (slice_get row k ≡ Some x) × (c' ≡ c ++ x ∷ [])
 put_cases [] row k c' e at = absurd (no_element k c' at)
 put_cases (c ∷ cs) [] k c' e at = absurd (omega (arith, e))
 put_cases (c ∷ cs) (x ∷ row) zero c' e at = let f : (c ++ x ∷ []) ≡ c' = cc in (c, x, refl, refl, sym f)
@@ -83,7 +93,8 @@ put_cases (c ∷ cs) (x ∷ row) (suc k) c' e at = put_cases cs row k c' (omega 
 
 module _ {S R : Type 0} (IsReceiver : ℕ → R → Type 0) (IsSender : ℕ → ℕ → S → R → Type 0) (senders : ℕ) where
   -- lanes with one more
-  pub more_lanes : (lanes : ℕ) (C : List (List S)) (rs : List R) (row : List S) (r : R) → AreLanes IsReceiver IsSender senders lanes C rs → length row ≡ senders → IsReceiver lanes r → ((k : ℕ) (s : S) → slice_get row k ≡ Some s → IsSender k lanes s r)
+  pub more_lanes : (lanes : ℕ) (C : List (List S)) (rs : List R) (row : List S) (r : R) → AreLanes IsReceiver IsSender senders lanes C rs → length row ≡ senders
+      → IsReceiver lanes r → ((k : ℕ) (s : S) → slice_get row k ≡ Some s → IsSender k lanes s r)
       → AreLanes IsReceiver IsSender senders (lanes + 1) (put_row C row) (rs ++ r ∷ [])
   more_lanes lanes C rs row r is many fits each =
       let wide = is.wide in
@@ -119,9 +130,11 @@ module _ {S R : Type 0} (IsReceiver : ℕ → R → Type 0) (IsSender : ℕ → 
 
 module _ {X V : Type 0} (items : V → List X) (cap : V → ℕ) where
   -- columns of n elements, each with room for more than n, have room for one more
-  pub room_more : (C : List V) (n most : ℕ) → Each (λ k c. length c ≡ n) (map items C) → All (λ c. most ≤ cap c) C → n < most → All (λ c. length (items c) < cap c) C
+  pub room_more : (C : List V) (n most : ℕ) → Each (λ k c. length c ≡ n) (map items C) → All (λ c. most ≤ cap c) C → n < most
+      → All (λ c. length (items c) < cap c) C
   room_more C n most deep caps low k d within =
-      let at : slice_get (map items C) k ≡ Some (items (get_or C k d)) = slice_get-map items C k ∙ ap (λ o. option_map items o) (slice_get-get_or C k d within) in
+      let at : slice_get (map items C) k ≡ Some (items (get_or C k d)) =
+      slice_get-map items C k ∙ ap (λ o. option_map items o) (slice_get-get_or C k d within) in
       let len = deep k (items (get_or C k d)) at in
       let most_ = caps k d within in
       omega (arith, len, most_, low)
@@ -147,3 +160,27 @@ next_left (z ∷ zs) ys (suc k) x e =
     let rest = next_left zs ys k x e in
     let more : suc k + 1 ≡ suc (k + 1) = omega arith in
     (rest.0, ap (λ n. drop n (z ∷ zs)) more ∙ rest.1)
+
+-- what is still to come of xs is what is left behind as many as were yielded of another list
+pub record IsLeft {X Y Z : Type 0} (xs : List X) (yielded : List Y) (it : IntoIter X Z) : Type 0 where
+  pub items : into_iter_items it ≡ drop (length yielded) xs
+  pub counted : into_iter_len it ≡ length (into_iter_items it)
+
+-- the next of both, and what is left then
+pub next_of : {X Y Z : Type 0} {xs : List X} {x : X} {ys : List Y} {it : IntoIter X Z} → IsLeft xs ys it → (y : Y) (it' : IntoIter X Z)
+    → (into_iter_items it ≡ x ∷ into_iter_items it') × (into_iter_len it' + 1 ≡ into_iter_len it)
+    → (slice_get xs (length ys) ≡ Some x) × IsLeft xs (ys ++ y ∷ []) it'
+next_of {xs = xs} {x = x} {ys = ys} left y it' (next, fewer) =
+    let (here, rest) = next_left xs (into_iter_items it') (length ys) x (sym left.items ∙ next) in
+    let before = left.counted in
+    let more = ap length next in
+    (here, record { items = sym rest ∙ ap (λ n. drop n xs) (sym (length-append ys (y ∷ []))); counted = omega (arith, before, more, fewer) })
+
+-- one piece more was made of what stands at its place
+pub one_more_made : {X Y : Type 0} (P : ℕ → X → Type 0) (made new : List X) (x : X) (ys : List Y) (y : Y) → length made ≡ length ys → new ≡ made ++ x ∷ []
+    → Each P made → P (length ys) x → (length new ≡ length (ys ++ y ∷ [])) × Each P new
+one_more_made P made new x ys y many are each last =
+    let both = length-append ys (y ∷ []) in
+    let longer = length-append made (x ∷ []) in
+    let size = ap length are in
+    (omega (arith, many, both, longer, size), subst (Each P) (sym are) (each_push P made x each (subst (λ n. P n x) (sym many) last)))

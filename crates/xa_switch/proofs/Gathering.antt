@@ -1,9 +1,13 @@
 -- Ends of lanes that are dealt by row into the column of their lane.
-use Rattle.std.proofs.Common.{◌≡◌, ℕ, zero, suc, ◌+◌, ◌<◌, ◌≤◌, List, [], ◌∷◌, ◌++◌, length, map, set, get_or, slice_get, replicate, refl, sym, ap, ◌∙◌, subst, arith, length-append, vec_capacity, Some}
+use Rattle.std.proofs.Common.{◌≡◌, ℕ, zero, suc, ◌+◌, ◌<◌, ◌≤◌, List, [], ◌∷◌, ◌++◌, length, map, set, get_or, slice_get, replicate, refl, sym, ap, ◌∙◌, subst}
+use Rattle.std.proofs.Common.{arith, length-append, vec_capacity, Some}
 use Rattle.std.specs.List.{All, AllPairs}
+use Rattle.std.specs.Vec.Iter.{into_iter_items, into_iter_len}
+use Rattle.std.specs.declared.vec.IntoIter.{IntoIter}
 use Rattle.std.proofs.lemmas.List.{get_or-map as get_or-map', get_or-set_other, map-set, length-map, map-append}
 use Rattle.std.proofs.Math.ListN.{get_or-map}
 use Rattle.std.proofs.lemmas.List.Elements.{All-push}
+use Rattle.xa_base.proofs.Lists.{next_place, taken_next}
 use Rattle.xa_switch.specs.Columns.{put_row}
 use Rattle.xa_switch.specs.Closing.{dealt, column, HasTaken, HasRoom, TakesIn}
 use Rattle.xa_switch.specs.declared.settling.gathered.Gathered.{Gathered}
@@ -40,7 +44,8 @@ module _ {X : Type 0} where
   dealt_keeps C (row ∷ rows) k x h = dealt_keeps (put_row C row) rows k x (put_keeps C row k x h)
 
   -- each element of a row is in its column
-  pub dealt_adds : (C rows : List (List X)) (k i : ℕ) (row : List X) (x : X) → slice_get rows i ≡ Some row → slice_get row k ≡ Some x → k < length C → In x (column (dealt C rows) k)
+  pub dealt_adds : (C rows : List (List X)) (k i : ℕ) (row : List X) (x : X) → slice_get rows i ≡ Some row → slice_get row k ≡ Some x → k < length C
+      → In x (column (dealt C rows) k)
   dealt_adds C [] k i row x e f h = cc
   dealt_adds C (r ∷ rows) k zero row x e f h =
       let g : r ≡ row = cc in
@@ -55,7 +60,8 @@ module _ {X : Type 0} where
     put_all (c ∷ cs) (y ∷ row) (suc k) h each = put_all cs row k h each
 
     -- what holds of each row's element holds in the column
-    pub dealt_all : (C rows : List (List X)) (k : ℕ) → All P (column C k) → ((i : ℕ) (row : List X) (x : X) → slice_get rows i ≡ Some row → slice_get row k ≡ Some x → P x) → All P (column (dealt C rows) k)
+    pub dealt_all : (C rows : List (List X)) (k : ℕ) → All P (column C k)
+        → ((i : ℕ) (row : List X) (x : X) → slice_get rows i ≡ Some row → slice_get row k ≡ Some x → P x) → All P (column (dealt C rows) k)
     dealt_all C [] k h each = h
     dealt_all C (row ∷ rows) k h each = dealt_all (put_row C row) rows k (put_all C row k h (λ x e. each 0 row x refl e)) (λ i r x e f. each (suc i) r x e f)
 
@@ -75,12 +81,14 @@ module _ {X : Type 0} where
   dealt_short C (row ∷ rows) n k h = let r = dealt_short (put_row C row) rows (n + 1) k (put_short C row n k h) in omega (arith, r)
 
   -- columns with room for as many as there are rows have room for one row more
-  pub room_for_row : {V : Type 0} (items : V → List X) (cap : V → ℕ) (C₀ C : List V) (rows : List (List X)) (m n : ℕ) → map items C ≡ dealt (replicate m []) rows → map cap C ≡ map cap C₀ → All (λ c. n ≤ cap c) C₀ → length rows < n
+  pub room_for_row : {V : Type 0} (items : V → List X) (cap : V → ℕ) (C₀ C : List V) (rows : List (List X)) (m n : ℕ)
+      → map items C ≡ dealt (replicate m []) rows → map cap C ≡ map cap C₀ → All (λ c. n ≤ cap c) C₀ → length rows < n
       → All (λ c. length (items c) < cap c) C
   room_for_row items cap C₀ C rows m n dealt_is caps room few k d below =
       let many : length C ≡ length C₀ = sym (length-map C cap) ∙ ap length caps ∙ length-map C₀ cap in
       let short = dealt_short (replicate m []) rows 0 k (subst (λ l. length l ≤ 0) (sym (column_none m k)) (omega arith)) in
-      let here : length (items (get_or C k d)) ≡ length (column (dealt (replicate m []) rows) k) = ap length (sym (get_or-map' items C k d [] below) ∙ ap (λ l. get_or l k []) dealt_is) in
+      let here : length (items (get_or C k d)) ≡ length (column (dealt (replicate m []) rows) k) =
+      ap length (sym (get_or-map' items C k d [] below) ∙ ap (λ l. get_or l k []) dealt_is) in
       let cap_is : cap (get_or C k d) ≡ cap (get_or C₀ k d) = sym (get_or-map cap C k d) ∙ ap (λ l. get_or l k (cap d)) caps ∙ get_or-map cap C₀ k d in
       let deep = room k d (omega (arith, many)) in
       omega (arith, short, here, cap_is, deep, few)
@@ -95,27 +103,52 @@ module _ {V X : Type 0} (items : V → List X) where
 
 -- ---- pieces that are taken in
 
-module _ {E R P : Type 0} where
-  -- where fewer were taken in than there is room for, there is room for one more
-  pub room_left : {X : Type 0} (n : ℕ) (f : X → List E) (g : X → ℕ × R) (h : X → P) (Y : List X) (r : Gathered E R P) → HasTaken n (map f Y) (map g Y) (map h Y) r → length Y < n → HasRoom r
-  room_left n f g h Y r taken few = record {
-    columns = room_for_row (λ c. c.items) (λ c. vec_capacity c) r.columns.items r.columns.items (map f Y) 8 n taken.columns refl taken.deep (let l = length-map Y f in omega (arith, l, few));
-    lanes = let l = length-map Y g in let e = ap length taken.lanes in let c = taken.lanes_room in omega (arith, l, e, c, few);
-    parts = let l = length-map Y h in let e = ap length taken.parts in let c = taken.parts_room in omega (arith, l, e, c, few);
-  }
+-- the first of xs were taken in, by their rows of ends, their lanes and their parts, and the others are still to come
+pub record Gathers {E R P X Z : Type 0} (f : X → List E) (g : X → ℕ × R) (h : X → P) (xs Y : List X) (it : IntoIter X Z) (r : Gathered E R P) : Type 0 where
+  pub so_far : Y ++ into_iter_items it ≡ xs
+  pub counted : into_iter_len it ≡ length (into_iter_items it)
+  pub taken : HasTaken (length xs) (map f Y) (map g Y) (map h Y) r
 
-  -- one more was taken in
-  pub one_more_taken : {X : Type 0} (n : ℕ) (f : X → List E) (g : X → ℕ × R) (h : X → P) (Y : List X) (x : X) (r r' : Gathered E R P)
-      → HasTaken n (map f Y) (map g Y) (map h Y) r → TakesIn (f x) (g x) (h x) r r' → HasTaken n (map f (Y ++ x ∷ [])) (map g (Y ++ x ∷ [])) (map h (Y ++ x ∷ [])) r'
-  one_more_taken n f g h Y x r r' taken takes = record {
-    columns = takes.columns ∙ ap (λ C. put_row C (f x)) taken.columns ∙ sym (dealt_snoc (replicate 8 []) (map f Y) (f x)) ∙ ap (dealt (replicate 8 [])) (sym (map-append f Y (x ∷ [])));
-    deep = room_stays (λ c. vec_capacity c) r.columns.items r'.columns.items n takes.depth taken.deep;
-    lanes = takes.lanes ∙ ap (λ l. l ++ g x ∷ []) taken.lanes ∙ sym (map-append g Y (x ∷ []));
-    lanes_room = let e = takes.lanes_room in let c = taken.lanes_room in omega (arith, e, c);
-    parts = takes.parts ∙ ap (λ l. l ++ h x ∷ []) taken.parts ∙ sym (map-append h Y (x ∷ []));
-    parts_room = let e = takes.parts_room in let c = taken.parts_room in omega (arith, e, c);
-  }
+module _ {E R P X Z : Type 0} (f : X → List E) (g : X → ℕ × R) (h : X → P) (xs Y : List X) (it it' : IntoIter X Z) (x : X) (r : Gathered E R P)
+    (so : Gathers f g h xs Y it r) (next : into_iter_items it ≡ x ∷ into_iter_items it') where
+  -- there is room for one more
+  pub room_left : HasRoom r
+  room_left =
+      let given = ap length so.so_far in
+      let more = ap length next in
+      let few : length Y < length xs = omega (arith, given, more, length-append Y (into_iter_items it)) in
+      let taken = so.taken in
+      record {
+        columns = room_for_row (λ c. c.items) (λ c. vec_capacity c) r.columns.items r.columns.items (map f Y) 8 (length xs) taken.columns refl taken.deep
+            (let l = length-map Y f in omega (arith, l, few));
+        lanes = let l = length-map Y g in let e = ap length taken.lanes in let c = taken.lanes_room in omega (arith, l, e, c, few);
+        parts = let l = length-map Y h in let e = ap length taken.parts in let c = taken.parts_room in omega (arith, l, e, c, few);
+      }
 
-  -- there are eight columns
-  pub eight_columns : (n : ℕ) (rows : List (List E)) (lanes : List (ℕ × R)) (parts : List P) (r : Gathered E R P) → HasTaken n rows lanes parts r → length r.columns.items ≡ 8
-  eight_columns n rows lanes parts r taken = sym (length-map r.columns.items (λ c. c.items)) ∙ ap length taken.columns ∙ length_dealt (replicate 8 []) rows
+  -- its row is as short as the eight columns are many
+  pub row_fits : (size : X → ℕ) (all : List X) (row : List E) → xs ≡ all → All (λ x. size x ≤ 8) all → length row ≡ size x → length row ≤ length r.columns.items
+  row_fits size all row are few long =
+      let place = next_place Y _ (into_iter_items it') all x next (so.so_far ∙ are) in
+      let most = few (length Y) x place.0 in
+      let own = ap size place.1 in
+      let eight : length r.columns.items ≡ 8 = sym (length-map r.columns.items (λ c. c.items)) ∙ ap length so.taken.columns
+      ∙ length_dealt (replicate 8 []) (map f Y) in
+      omega (arith, most, own, long, eight)
+
+  -- and where it was taken in, the others are still to come
+  pub one_more_taken : into_iter_len it' + 1 ≡ into_iter_len it → (r' : Gathered E R P) → TakesIn (f x) (g x) (h x) r r' → Gathers f g h xs (Y ++ x ∷ []) it' r'
+  one_more_taken fewer r' takes =
+      let taken = so.taken in
+      record {
+        so_far = taken_next Y _ (into_iter_items it') _ x next so.so_far;
+        counted = let n = so.counted in let more = ap length next in omega (arith, n, fewer, more);
+        taken = record {
+          columns = takes.columns ∙ ap (λ C. put_row C (f x)) taken.columns ∙ sym (dealt_snoc (replicate 8 []) (map f Y) (f x))
+              ∙ ap (dealt (replicate 8 [])) (sym (map-append f Y (x ∷ [])));
+          deep = room_stays (λ c. vec_capacity c) r.columns.items r'.columns.items (length xs) takes.depth taken.deep;
+          lanes = takes.lanes ∙ ap (λ l. l ++ g x ∷ []) taken.lanes ∙ sym (map-append g Y (x ∷ []));
+          lanes_room = let e = takes.lanes_room in let c = taken.lanes_room in omega (arith, e, c);
+          parts = takes.parts ∙ ap (λ l. l ++ h x ∷ []) taken.parts ∙ sym (map-append h Y (x ∷ []));
+          parts_room = let e = takes.parts_room in let c = taken.parts_room in omega (arith, e, c);
+        };
+      }

@@ -43,7 +43,8 @@ follows_in s m None e h = (
     opened = new_opens (opening []) (accounts_new []);
     codes = ap journal_in e ∙ sym (ap (λ (o : Option ManagerPart). coded (requests (journal_in o)) (opening [])) e);
     fates = λ x g. ap (fate_in x g) e ∙ sym (ap (λ (o : Option ManagerPart). fate x g (requests (journal_in o)) (opening [])) e);
-    values = λ k. ap (value_in k) e ∙ sym (ap (λ (o : Option ManagerPart). finmap.get (tables_after (requests (journal_in o)) (opening [])).values k) e ∙ finmap.get-empty key_cmp k);
+    values = λ k. ap (value_in k) e
+        ∙ sym (ap (λ (o : Option ManagerPart). finmap.get (tables_after (requests (journal_in o)) (opening [])).values k) e ∙ finmap.get-empty key_cmp k);
   },
 )
 follows_in s m (Some p) e h = (p.first, follows_part s m p e h)
@@ -64,5 +65,6 @@ follows_first s m T h is =
     let (p, there, first) = begun s m T is in
     subst (IsOpenedWith s m) first (follows_part s m p there h)
 
-pub sums : ((before : List History) (h : History) (k : List ℕ) (T : Tables) → IsNew T → ValueIsSum k before h T) → (s : Settling) (m : ℕ) (before : List History) (T : Tables) → IsSettled s → IsNew T → first_of s m ≡ Some (left_by before T) → IsSumOver s m before T
+pub sums : ((before : List History) (h : History) (k : List ℕ) (T : Tables) → IsNew T → ValueIsSum k before h T)
+    → (s : Settling) (m : ℕ) (before : List History) (T : Tables) → IsSettled s → IsNew T → first_of s m ≡ Some (left_by before T) → IsSumOver s m before T
 sums law s m before T h new is k = (follows_first s m (left_by before T) h is).values k ∙ law before (history s m) k T new

@@ -1,5 +1,6 @@
 -- What is outstanding stays kept under a number, as a desk calls and collects.
-use Rattle.std.proofs.Common.{◌≡◌, ◌≢◌, ℕ, ℤ, ◌-◌, ⊎_elim, zero, suc, Bool, true, false, List, [], length, arith, Option, Some, None, Result, Ok, Err, sym, refl, ap, ◌∙◌, subst, inl, inr}
+use Rattle.std.proofs.Common.{◌≡◌, ◌≢◌, ℕ, ℤ, ◌-◌, ⊎_elim, zero, suc, Bool, true, false, List, [], length, arith, Option, Some, None, Result, Ok, Err, sym}
+use Rattle.std.proofs.Common.{refl, ap, ◌∙◌, subst, inl, inr}
 use Rattle.std.specs.Prelude.{All}
 use Rattle.std.specs.List.{slice_index_or}
 use Rattle.std.proofs.lemmas.Option.{slice_get-get_or}
@@ -55,7 +56,8 @@ quiet_same old new q = (
 )
 
 -- where an operation is collected, and each other one that was outstanding was kept
-collects_keep : (mid new : DeskView) (o : Operation) (c : Code) → Collects mid new o c → ((p : Operation) → IsOut mid.ledgers p → p ≢ o → (k : ℕ) × (finmap.get mid.kept k ≡ Some p)) → AllKept new
+collects_keep : (mid new : DeskView) (o : Operation) (c : Code) → Collects mid new o c
+    → ((p : Operation) → IsOut mid.ledgers p → p ≢ o → (k : ℕ) × (finmap.get mid.kept k ≡ Some p)) → AllKept new
 collects_keep mid new o c is rest = record {
   each = λ p out.
       let ledgers = ap (λ (d : DeskView). d.ledgers) is.collected in
@@ -65,14 +67,16 @@ collects_keep mid new o c is rest = record {
 }
 
 -- an operation that is kept under the number is collected, and the number is free
-freed_kept : (m : Handles) (k : ℕ) (o : Operation) → finmap.get m k ≡ Some o → (p : Operation) → p ≢ o → (j : ℕ) × (finmap.get m j ≡ Some p) → (j : ℕ) × (finmap.get (finmap.remove m k) j ≡ Some p)
+freed_kept : (m : Handles) (k : ℕ) (o : Operation) → finmap.get m k ≡ Some o → (p : Operation) → p ≢ o → (j : ℕ) × (finmap.get m j ≡ Some p)
+    → (j : ℕ) × (finmap.get (finmap.remove m k) j ≡ Some p)
 freed_kept m k o at p differs j = elim (cases_eq j.0 k) [
   | inl same ↦ absurd (differs (other_operation (finmap.get m k) o p at (subst (λ n. finmap.get m n ≡ Some p) same j.1)))
   | inr other ↦ (j.0, removed_other m k j.0 other ∙ j.1)
 ]
 
 pub redeemed_keep : (old new : DeskView) (k : ℕ) (c : Code) → CollectsRedeemed old new k c → AllKept old → AllKept new
-redeemed_keep old new k c is all = collects_keep (record old { kept = finmap.remove old.kept k }) new is.operation c is.collects (λ p out differs. freed_kept old.kept k is.operation is.kept p differs (all.each p out))
+redeemed_keep old new k c is all =
+    collects_keep (record old { kept = finmap.remove old.kept k }) new is.operation c is.collects (λ p out differs. freed_kept old.kept k is.operation is.kept p differs (all.each p out))
 
 takes_keep : (old new : DeskView) (k : ℕ) (c : Code) → TakesKept old new k c → AllKept old → AllKept new
 takes_keep old new k c is all = record {
@@ -104,7 +108,8 @@ fulls_kept zero d m = refl
 fulls_kept (suc n) d m = fulls_kept n d m
 
 -- an operation that is sent and kept
-inserted_keep : (old : DeskView) (m : ℕ) (op : Op) (k : ℕ) → IsKnown old.ledgers m → finmap.get old.kept k ≡ None → AllKept old → AllKept (record (submitted old m op) { kept = finmap.insert old.kept k (next_operation old.ledgers m) })
+inserted_keep : (old : DeskView) (m : ℕ) (op : Op) (k : ℕ) → IsKnown old.ledgers m → finmap.get old.kept k ≡ None → AllKept old
+    → AllKept (record (submitted old m op) { kept = finmap.insert old.kept k (next_operation old.ledgers m) })
 inserted_keep old m op k known unkept all = record {
   each = λ p out.
       let next = next_operation old.ledgers m in
@@ -118,7 +123,8 @@ inserted_keep old m op k known unkept all = record {
 }
 
 -- an operation that is sent and collected
-pub answered_keep : (old mid new : DeskView) (m : ℕ) (op : Op) (c : Code) → mid.ledgers ≡ old.ledgers → mid.kept ≡ old.kept → IsKnown old.ledgers m → Collects (submitted mid m op) new (next_operation old.ledgers m) c → AllKept old → AllKept new
+pub answered_keep : (old mid new : DeskView) (m : ℕ) (op : Op) (c : Code) → mid.ledgers ≡ old.ledgers → mid.kept ≡ old.kept → IsKnown old.ledgers m
+    → Collects (submitted mid m op) new (next_operation old.ledgers m) c → AllKept old → AllKept new
 answered_keep old mid new m op c ledgers handles known is all =
     collects_keep (submitted mid m op) new (next_operation old.ledgers m) c is (λ p out differs.
     ⊎_elim
@@ -129,8 +135,10 @@ answered_keep old mid new m op c ledgers handles known is all =
 puts_keep : (old : DeskView) (m : ℕ) (asked : _) (new : DeskView) (n : ℤ) → Puts old m asked new n → AllKept old → AllKept new
 puts_keep old m asked new n (refused c why told e) all = subst AllKept (sym e) all
 puts_keep old m asked new n (full why async told e) all = same_kept old new (ap (λ (d : DeskView). d.ledgers) e) (ap (λ (d : DeskView). d.kept) e) all
-puts_keep old m asked new n (kept why async k told is e) all = subst AllKept (sym e) (inserted_keep old m asked.op k (known_here old m asked.asynchronous why) is.free all)
-puts_keep old m asked new n (answered why async times c told is) all = answered_keep old (after_fulls times old m) new m asked.op c (fulls_ledgers times old m) (fulls_kept times old m) (known_here old m asked.asynchronous why) is all
+puts_keep old m asked new n (kept why async k told is e) all =
+    subst AllKept (sym e) (inserted_keep old m asked.op k (known_here old m asked.asynchronous why) is.free all)
+puts_keep old m asked new n (answered why async times c told is) all =
+    answered_keep old (after_fulls times old m) new m asked.op c (fulls_ledgers times old m) (fulls_kept times old m) (known_here old m asked.asynchronous why) is all
 
 pub calls_keep : (asked : Result _ Code) (old : DeskView) (m : ℕ) (new : DeskView) (n : ℤ) → Calls asked old m new n → AllKept old → AllKept new
 calls_keep (Ok asked) old m new n is all = puts_keep old m asked new n is all
@@ -138,23 +146,28 @@ calls_keep (Err c) old m new n is all = subst AllKept (sym is.1) all
 
 -- ---- collecting
 
-one_keep : (old : DeskView) (k : Option ℕ) (m : ℕ) (nowait : Bool) (new : DeskView) (r : Result (ℕ × Code) Code) → CompletesOne old k m nowait new r → AllKept old → AllKept new
+one_keep : (old : DeskView) (k : Option ℕ) (m : ℕ) (nowait : Bool) (new : DeskView) (r : Result (ℕ × Code) Code) → CompletesOne old k m nowait new r
+    → AllKept old → AllKept new
 one_keep old k m nowait new r (unknown missing told e) all = subst AllKept (sym e) all
 one_keep old k m nowait new r (retry_one j is there way told quiet unready) all = let same = quiet_same old new quiet in same_kept old new same.0 same.1 all
-one_keep old k m nowait new r (ready j c is there way told takes) all = takes_keep takes.before new j c takes.takes (same_kept old takes.before (ap (λ (d : DeskView). d.ledgers) takes.looks.rest) (ap (λ (d : DeskView). d.kept) takes.looks.rest) all)
+one_keep old k m nowait new r (ready j c is there way told takes) all =
+    takes_keep takes.before new j c takes.takes (same_kept old takes.before (ap (λ (d : DeskView). d.ledgers) takes.looks.rest) (ap (λ (d : DeskView). d.kept) takes.looks.rest) all)
 one_keep old k m nowait new r (waited j c is there way told takes) all = redeemed_keep old new j c takes all
 
 any_keep : (old : DeskView) (m : ℕ) (nowait : Bool) (new : DeskView) (r : Result (ℕ × Code) Code) → CompletesAny old m nowait new r → AllKept old → AllKept new
 any_keep old m nowait new r (nothing empty told e) all = subst AllKept (sym e) all
 any_keep old m nowait new r (retry_any j there way told quiet unready) all = let same = quiet_same old new quiet in same_kept old new same.0 same.1 all
-any_keep old m nowait new r (least j c told takes) all = let same = quiet_same old takes.before takes.quiet in takes_keep takes.before new j c takes.takes (same_kept old takes.before same.0 same.1 all)
+any_keep old m nowait new r (least j c told takes) all =
+    let same = quiet_same old takes.before takes.quiet in takes_keep takes.before new j c takes.takes (same_kept old takes.before same.0 same.1 all)
 
-at_keep : (may multiple nowait : Bool) (old : DeskView) (k : Option ℕ) (m : ℕ) (new : DeskView) (r : Result (ℕ × Code) Code) → CompletesAt may multiple nowait old k m new r → AllKept old → AllKept new
+at_keep : (may multiple nowait : Bool) (old : DeskView) (k : Option ℕ) (m : ℕ) (new : DeskView) (r : Result (ℕ × Code) Code)
+    → CompletesAt may multiple nowait old k m new r → AllKept old → AllKept new
 at_keep false multiple nowait old k m new r is all = subst AllKept (sym is.1) all
 at_keep true true nowait old k m new r is all = any_keep old m nowait new r is all
 at_keep true false nowait old k m new r is all = one_keep old k m nowait new r is all
 
-pub by_keep : (mode : Result Mode Code) (old : DeskView) (k : Option ℕ) (m : ℕ) (new : DeskView) (r : Result (ℕ × Code) Code) → CompletesBy mode old k m new r → AllKept old → AllKept new
+pub by_keep : (mode : Result Mode Code) (old : DeskView) (k : Option ℕ) (m : ℕ) (new : DeskView) (r : Result (ℕ × Code) Code) → CompletesBy mode old k m new r
+    → AllKept old → AllKept new
 by_keep (Ok mode) old k m new r is all = at_keep (may_complete old m mode.multiple) mode.multiple mode.nowait old k m new r is all
 by_keep (Err c) old k m new r is all = subst AllKept (sym is.1) all
 
@@ -174,7 +187,8 @@ new_kept : (p : Setup) (t : ℕ) (d : DeskView) → IsNewDesk p t d → AllKept 
 new_kept p t d is = record {
   each = λ o out.
       let ledgers : d.ledgers ≡ new_ledgers p.numbers.requests p.use_async = ap (λ (x : DeskView). x.ledgers) is.made in
-      let none : (ledger d.ledgers o.manager).sent ≡ [] = ap (λ (at : List LedgerView). (ledger at o.manager).sent) ledgers ∙ fresh_sent p.numbers.requests p.use_async (o.manager - 1) in
+      let none : (ledger d.ledgers o.manager).sent ≡ [] =
+      ap (λ (at : List LedgerView). (ledger at o.manager).sent) ledgers ∙ fresh_sent p.numbers.requests p.use_async (o.manager - 1) in
       let sent = out.sent in
       let size : length (ledger d.ledgers o.manager).sent ≡ 0 = ap (λ l. length l) none in
       absurd (omega (arith, sent, size));

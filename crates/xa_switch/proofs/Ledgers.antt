@@ -1,5 +1,6 @@
 -- What a settled opening has of a thread is what its desk had in the end, and of a manager what its worker had.
-use Rattle.std.proofs.Common.{◌≡◌, ℕ, suc, ◌<◌, ◌≤◌, true, false, ◌==◌, List, [], ◌∷◌, length, map, get_or, sym, refl, ap, ◌∙◌, arith, Some, None, ⊎_elim, eq-eqb}
+use Rattle.std.proofs.Common.{◌≡◌, ℕ, suc, ◌<◌, ◌≤◌, true, false, ◌==◌, List, [], ◌∷◌, length, map, get_or, sym, refl, ap, ◌∙◌, arith, Some, None, ⊎_elim}
+use Rattle.std.proofs.Common.{eq-eqb}
 use Rattle.std.specs.List.{Contains, find, list_any}
 use Rattle.std.proofs.lemmas.List.{get_or_default}
 use Rattle.std.proofs.lemmas.Bool.{eqb-true, cases_lt, cases_eq}
@@ -57,12 +58,14 @@ module _ (ds : List EndedView) (ws : List Served) (from : ComeFromOpenings (desk
   -- no two desks of one opening are of one thread, and no two workers of one manager
   apart_desks : AreApart (λ (d : EndedView). d.thread) ds
   apart_desks i k d lt below same =
-      let r : AreApartDesks (seat_of_ended (get_or ds i d)) (seat_of_ended (get_or ds k d)) = pairs_at seat_of_ended AreApartDesks ds from.desks_apart i k lt below d in
+      let r : AreApartDesks (seat_of_ended (get_or ds i d)) (seat_of_ended (get_or ds k d)) =
+      pairs_at seat_of_ended AreApartDesks ds from.desks_apart i k lt below d in
       r (one.0 i d (omega (arith, lt, below)) ∙ sym (one.0 k d below)) same
 
   apart_workers : AreApart (λ (w : Served). w.number) ws
   apart_workers i k w lt below same =
-      let r : AreApartWorkers (seat_of_done (get_or ws i w)) (seat_of_done (get_or ws k w)) = pairs_at seat_of_done AreApartWorkers ws from.workers_apart i k lt below w in
+      let r : AreApartWorkers (seat_of_done (get_or ws i w)) (seat_of_done (get_or ws k w)) =
+      pairs_at seat_of_done AreApartWorkers ws from.workers_apart i k lt below w in
       r (one.1 i w (omega (arith, lt, below)) ∙ sym (one.1 k w below)) same
 
   pub settled_ledgers : (e : EndedView) → Contains ds e → ledgers_of (settling ds ws) e.thread ≡ e.ledgers

@@ -20,3 +20,4 @@ pub mod Scanning
 mod Retaken
 mod Recovered
 pub mod Refusals
+pub mod Leaving

@@ -1,5 +1,6 @@
 -- Elements of lists: where they stand, what maps and searches make of them.
-use Rattle.std.proofs.Common.{◌≡◌, ℕ, zero, suc, ◌<◌, Bool, true, false, cond, ◌||◌, List, [], ◌∷◌, ◌++◌, length, map, get_or, slice_get, option_map, sym, refl, ap, ◌∙◌, subst, ◌⊎◌, ⊎_elim, inl, inr, arith, Option, Some, None}
+use Rattle.std.proofs.Common.{◌≡◌, ℕ, zero, suc, ◌<◌, Bool, true, false, cond, ◌||◌, List, [], ◌∷◌, ◌++◌, length, map, get_or, slice_get, option_map, sym, refl}
+use Rattle.std.proofs.Common.{ap, ◌∙◌, subst, ◌⊎◌, ⊎_elim, inl, inr, arith, Option, Some, None}
 use Rattle.std.specs.List.{list_any, find, Contains, All, AllPairs}
 use Rattle.std.proofs.lemmas.Option.{slice_get-get_or, slice_get-map}
 use Rattle.std.proofs.lemmas.List.{get_or-map, length-map, get_or_default}
@@ -60,7 +61,8 @@ all_map f P (x ∷ xs) h = λ k d below.
 
 -- a relation of the elements at two places, of a mapped list
 pub pairs_map : {X Y : Type 0} (f : X → Y) (R : Y → Y → Type 0) (xs : List X)
-    → ((a b : X) → Contains xs a → Contains xs b → (i k : ℕ) → i < k → k < length xs → (d : X) → get_or xs i d ≡ a → get_or xs k d ≡ b → R (f a) (f b)) → AllPairs R (map f xs)
+    → ((a b : X) → Contains xs a → Contains xs b → (i k : ℕ) → i < k → k < length xs → (d : X) → get_or xs i d ≡ a → get_or xs k d ≡ b → R (f a) (f b))
+    → AllPairs R (map f xs)
 pairs_map {X} {Y} f R [] h = λ i k d lt below. absurd (omega arith)
 pairs_map {X} {Y} f R (x ∷ xs) h = λ i k d lt below.
     let n = length-map (x ∷ xs) f in
@@ -70,7 +72,8 @@ pairs_map {X} {Y} f R (x ∷ xs) h = λ i k d lt below.
     let r = h (get_or (x ∷ xs) i x) (get_or (x ∷ xs) k x) (contains_place (x ∷ xs) i x ib) (contains_place (x ∷ xs) k x kb) i k lt kb x refl refl in
     subst (λ (p : Y × Y). R p.0 p.1) (λ j. (sym (get_or-map f (x ∷ xs) i x d ib) j, sym (get_or-map f (x ∷ xs) k x d kb) j)) r
 
-pub pairs_at : {X Y : Type 0} (f : X → Y) (R : Y → Y → Type 0) (xs : List X) → AllPairs R (map f xs) → (i k : ℕ) → i < k → k < length xs → (d : X) → R (f (get_or xs i d)) (f (get_or xs k d))
+pub pairs_at : {X Y : Type 0} (f : X → Y) (R : Y → Y → Type 0) (xs : List X) → AllPairs R (map f xs) → (i k : ℕ) → i < k → k < length xs → (d : X)
+    → R (f (get_or xs i d)) (f (get_or xs k d))
 pairs_at {X} {Y} f R xs h i k lt below d =
     let n = length-map xs f in
     subst (λ (p : Y × Y). R p.0 p.1) (λ j. (get_or-map f xs i d (f d) (omega arith) j, get_or-map f xs k d (f d) below j)) (h i k (f d) lt (omega arith))
@@ -78,7 +81,8 @@ pairs_at {X} {Y} f R xs h i k lt below d =
 after : {X : Type 0} (x y : X) (xs : List X) → Contains xs y → Contains (x ∷ xs) y
 after x y xs c = let lt = c.1 in (suc c.0, omega arith, c.2)
 
-found_step : {X : Type 0} (p : X → Bool) (x y : X) (xs : List X) (b : Bool) → p x ≡ b → (find p xs ≡ Some y → Contains xs y × (p y ≡ true)) → cond b (Some x) (find p xs) ≡ Some y → Contains (x ∷ xs) y × (p y ≡ true)
+found_step : {X : Type 0} (p : X → Bool) (x y : X) (xs : List X) (b : Bool) → p x ≡ b → (find p xs ≡ Some y → Contains xs y × (p y ≡ true))
+    → cond b (Some x) (find p xs) ≡ Some y → Contains (x ∷ xs) y × (p y ≡ true)
 found_step p x y xs true e f h = let g : x ≡ y = cc in ((0, omega arith, g), subst (λ z. p z ≡ true) g e)
 found_step p x y xs false e f h = let r = f h in (after x y xs r.0, r.1)
 
@@ -91,7 +95,8 @@ found p (x ∷ xs) y e = found_step p x y xs (p x) refl (found p xs y) e
 abbrev pub SearchedAs : {X Y : Type 0} → (X → Y) → (Y → Bool) → List X → Option Y → Bool → Type 0
 SearchedAs {X} {Y} f p xs o b = ((x : X) × Contains xs x × (p (f x) ≡ true) × (o ≡ Some (f x))) ⊎ ((o ≡ None) × (b ≡ false))
 
-searched_step : {X Y : Type 0} (f : X → Y) (p : Y → Bool) (x : X) (xs : List X) (b : Bool) → p (f x) ≡ b → SearchedAs f p xs (find p (map f xs)) (list_any (λ y. p (f y)) xs)
+searched_step : {X Y : Type 0} (f : X → Y) (p : Y → Bool) (x : X) (xs : List X) (b : Bool) → p (f x) ≡ b
+    → SearchedAs f p xs (find p (map f xs)) (list_any (λ y. p (f y)) xs)
     → SearchedAs f p (x ∷ xs) (cond b (Some (f x)) (find p (map f xs))) (b || list_any (λ y. p (f y)) xs)
 searched_step f p x xs true e r = inl (x, (0, omega arith, refl), e, refl)
 searched_step {X} {Y} f p x xs false e r =

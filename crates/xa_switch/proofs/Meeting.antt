@@ -3,9 +3,10 @@ use Rattle.std.proofs.Common.{◌≡◌, ℕ, suc, ◌+◌, ◌≤◌, List, [],
 use Rattle.std.specs.List.{All}
 use Rattle.std.proofs.lemmas.List.{length-map}
 use Rattle.std.proofs.lemmas.Option.{slice_get_within}
-use Rattle.xa_switch.specs.Columns.{Each}
+use Rattle.xa_switch.specs.Columns.{Each, AreLanes}
 use Rattle.xa_switch.specs.Lanes.{AreNewLanes, IsRequestSender, IsCompletionSender}
-use Rattle.xa_switch.specs.OpenedPieces.{desk_parts, worker_parts, DesksFit, WorkersFit, IsDeskOf, IsWorkerOf, IsLaidOut, IsNewDesk, IsNewWorker, ShareNewLanes, AreOfOneOpening}
+use Rattle.xa_switch.specs.OpenedPieces.{desk_parts, worker_parts, DesksFit, WorkersFit, IsDeskOf, IsWorkerOf, IsLaidOut, IsNewDesk, IsNewWorker, ShareNewLanes}
+use Rattle.xa_switch.specs.OpenedPieces.{AreOfOneOpening}
 use Rattle.xa_words.specs.declared.request.Request.{Request}
 use Rattle.xa_words.specs.declared.request.Completion.{Completion}
 use Rattle.xa_lane.specs.Ends.{Sending, Receiving}
@@ -45,24 +46,27 @@ pub record Ends (p : Setup) (deskparts : List PartsView) (workerparts : List Res
   pub requests : AreRequestLanes p.numbers.opening p.numbers.threads (p.managers) p.numbers.queue asks takes
   pub completions : AreCompletionLanes p.numbers.opening p.numbers.threads (p.managers) (completion_room p.numbers p.managers) answers hears
 
-module _ (p : Setup) (deskparts : List PartsView) (workerparts : List Reserved) (managed : List Managed) (asks : List (List (Sending Request))) (takes : List Asking) (answers : List (List Answering)) (hears : List (Receiving Completion))
+-- each sender of a column has its receiver
+its_receiver : {S R : Type 0} {IsReceiver : ℕ → R → Type 0} {IsSender : ℕ → ℕ → S → R → Type 0} {senders lanes : ℕ} {C : List (List S)} {rs : List R}
+    → AreLanes IsReceiver IsSender senders lanes C rs → (k : ℕ) (c : List S) → slice_get C k ≡ Some c → (j : ℕ) (s : S) → slice_get c j ≡ Some s → (r : R)
+    × IsSender k j s r
+its_receiver {rs = rs} are k c at j s at_s =
+    let low = slice_get_within c j s at_s in
+    let deep = are.deep k c at in
+    let many = are.many in
+    let r = got rs j (omega (arith, low, deep, many)) in
+    (r.0, are.dealt k j c s r.0 at at_s r.1)
+
+module _ (p : Setup) (deskparts : List PartsView) (workerparts : List Reserved) (managed : List Managed) (asks : List (List (Sending Request)))
+    (takes : List Asking) (answers : List (List Answering)) (hears : List (Receiving Completion))
     (is : Ends p deskparts workerparts managed asks takes answers hears) where
   -- the senders of thread t + 1 are on the lanes to each manager
   request_senders : (t : ℕ) (c : List (Sending Request)) → slice_get asks t ≡ Some c → Each (IsRequestSender p.numbers.opening p.numbers.queue t) c
-  request_senders t c at m s at_s =
-      let low = slice_get_within c m s at_s in
-      let deep = is.requests.deep t c at in
-      let many = is.requests.many in
-      let r = got takes m (omega (arith, low, deep, many)) in
-      (is.requests.dealt t m c s r.0 at at_s r.1).0
+  request_senders t c at m s at_s = (its_receiver is.requests t c at m s at_s).1.0
 
-  completion_senders : (m : ℕ) (c : List Answering) → slice_get answers m ≡ Some c → Each (IsCompletionSender p.numbers.opening (completion_room p.numbers p.managers) m) c
-  completion_senders m c at t s at_s =
-      let low = slice_get_within c t s at_s in
-      let deep = is.completions.deep m c at in
-      let many = is.completions.many in
-      let r = got hears t (omega (arith, low, deep, many)) in
-      (is.completions.dealt m t c s r.0 at at_s r.1).0
+  completion_senders : (m : ℕ) (c : List Answering) → slice_get answers m ≡ Some c
+      → Each (IsCompletionSender p.numbers.opening (completion_room p.numbers p.managers) m) c
+  completion_senders m c at t s at_s = (its_receiver is.completions m c at t s at_s).1.0
 
   -- a manager's room and threads are the plan's
   managed_is : (m : ℕ) (x : Managed) → slice_get managed m ≡ Some x → (x.threads ≡ p.numbers.threads) × (x.room ≡ manager_room p.numbers)
@@ -96,7 +100,8 @@ module _ (p : Setup) (deskparts : List PartsView) (workerparts : List Reserved) 
       )
 
   -- a worker with its manager
-  manager_fits : p.numbers.threads ≤ 8 → (m : ℕ) (part : Reserved) (x : Managed) → slice_get workerparts m ≡ Some part → slice_get managed m ≡ Some x → (x.room ≡ part.room) × (x.threads ≤ 8)
+  manager_fits : p.numbers.threads ≤ 8 → (m : ℕ) (part : Reserved) (x : Managed) → slice_get workerparts m ≡ Some part → slice_get managed m ≡ Some x
+      → (x.room ≡ part.room) × (x.threads ≤ 8)
   manager_fits low m part x at_part at_x =
       let of = managed_is m x at_x in
       let threads = of.0 in
@@ -109,7 +114,8 @@ module _ (p : Setup) (deskparts : List PartsView) (workerparts : List Reserved) 
       (ap (λ y. y.senders) receiver ∙ sym (managed_is m x at_x).0, ap (λ y. y.taken) receiver)
 
   -- a manager with its senders of completions
-  completions_fit : (m : ℕ) (x : Managed) (c : List Answering) → slice_get managed m ≡ Some x → slice_get answers m ≡ Some c → (length c ≡ x.threads) × All (λ s. s.sent ≡ []) c
+  completions_fit : (m : ℕ) (x : Managed) (c : List Answering) → slice_get managed m ≡ Some x → slice_get answers m ≡ Some c
+      → (length c ≡ x.threads) × All (λ s. s.sent ≡ []) c
   completions_fit m x c at_x at_c =
       (is.completions.deep m c at_c ∙ sym (managed_is m x at_x).0, all_from (λ s. s.sent ≡ []) c (λ t s at_s. ap (λ y. y.sent) (completion_senders m c at_c t s at_s)))
 
@@ -133,13 +139,15 @@ module _ (p : Setup) (deskparts : List PartsView) (workerparts : List Reserved) 
       (record {
         first = plan.0;
         begins = plan.1;
-        made = ap (λ x. new_worker x.number of.manager of.requests of.senders) (is.worker_parts_ m of.part of.part_at) ∙ ap (λ x. new_worker (m + 1) x of.requests of.senders) plan.2;
+        made = ap (λ x. new_worker x.number of.manager of.requests of.senders) (is.worker_parts_ m of.part of.part_at)
+            ∙ ap (λ x. new_worker (m + 1) x of.requests of.senders) plan.2;
         threads = is.completions.deep m of.senders of.senders_at;
         requests = is.requests.receivers m of.requests of.requests_at;
         completions = completion_senders m of.senders of.senders_at;
       })
 
-  together_are : (t m : ℕ) (d : DeskView) (w : WorkerView) → IsDeskOf deskparts asks hears t d → IsWorkerOf workerparts managed takes answers m w → ShareNewLanes t m d w
+  together_are : (t m : ℕ) (d : DeskView) (w : WorkerView) → IsDeskOf deskparts asks hears t d → IsWorkerOf workerparts managed takes answers m w
+      → ShareNewLanes t m d w
   together_are t m d w of_d of_w =
       let t_low = slice_get_within deskparts t of_d.part of_d.part_at in
       let m_low = slice_get_within workerparts m of_w.part of_w.part_at in
@@ -160,7 +168,8 @@ module _ (p : Setup) (deskparts : List PartsView) (workerparts : List Reserved) 
         answered = (is.completions.dealt m t of_w.senders a.0 of_d.completions of_w.senders_at a.1 of_d.completions_at).1;
       }))
 
-  pub one_opening : (ds : List DeskView) (ws : List WorkerView) → length ds ≡ length deskparts → length ws ≡ length workerparts → Each (IsDeskOf deskparts asks hears) ds → Each (IsWorkerOf workerparts managed takes answers) ws → AreOfOneOpening p ds ws
+  pub one_opening : (ds : List DeskView) (ws : List WorkerView) → length ds ≡ length deskparts → length ws ≡ length workerparts
+      → Each (IsDeskOf deskparts asks hears) ds → Each (IsWorkerOf workerparts managed takes answers) ws → AreOfOneOpening p ds ws
   one_opening ds ws many_d many_w desks workers = record {
     threads = many_d ∙ is.threads;
     managers = many_w ∙ is.managers;
@@ -180,7 +189,8 @@ mapped_whole f (x ∷ xs) h = λ i. h 0 x (omega arith) i ∷ mapped_whole f xs 
 all_first : (xs : List Managed) → All (λ x. IsOpening x.tables) xs → All IsOpening (map (λ x. x.tables) xs)
 all_first xs h = All-map IsOpening (λ (x : Managed). x.tables) xs h
 
-pub ends_of : (l : Layout) (managers : List Managed) → IsLaidOut l → length managers ≡ length l.use_async.items → All (λ m. m ≡ new_manager l.numbers m.tables) managers → All (λ m. IsOpening m.tables) managers
+pub ends_of : (l : Layout) (managers : List Managed) → IsLaidOut l → length managers ≡ length l.use_async.items
+    → All (λ m. m ≡ new_manager l.numbers m.tables) managers → All (λ m. IsOpening m.tables) managers
     → Ends (setup l.numbers l.use_async.items (map (λ (m : Managed). m.tables) managers)) l.desk_parts.items l.worker_parts.items managers (map (λ c. c.items) l.requests.columns.items) l.requests.receivers.items (map (λ c. c.items) l.completions.columns.items) l.completions.receivers.items
 ends_of l managers is many new begins = record {
   threads = is.threads;

@@ -37,7 +37,8 @@ came_apart a b i k s t ne (p, q, r) (x, y, z) e = grind arith
 
 module _ {X : Type 0} (R : X → X → Type 0) (flips : (x y : X) → R x y → R y x) where
   pairs_either : (xs : List X) (s t : ℕ) (d : X) → AllPairs R xs → (s ≡ t → ⊥) → s < length xs → t < length xs → R (get_or xs s d) (get_or xs t d)
-  pairs_either xs s t d h ne ls lt = ⊎_elim (λ (l : s < t). h s t d l lt) (λ (l : t ≤ s). flips (get_or xs t d) (get_or xs s d) (h t s d (omega (arith, l, ne)) ls)) (cases_lt s t)
+  pairs_either xs s t d h ne ls lt =
+      ⊎_elim (λ (l : s < t). h s t d l lt) (λ (l : t ≤ s). flips (get_or xs t d) (get_or xs s d) (h t s d (omega (arith, l, ne)) ls)) (cases_lt s t)
 
   pairs_swapped : (xs : List X) (a b : ℕ) → a < length xs → b < length xs → AllPairs R xs → AllPairs R (swap xs a b)
   pairs_swapped xs a b la lb h i k d lt below =

@@ -13,7 +13,8 @@ length_senders T lane line capacity (suc n) =
     omega (arith, h, length-append (new_senders {T = T} lane line capacity n) (new_sender lane line capacity n ∷ []))
 
 module _ {T : Type 0} where
-  pub sender_at : (lane : LaneName) (line : QueueId) (capacity n k : ℕ) (s : Sending T) → slice_get (new_senders lane line capacity n) k ≡ Some s → s ≡ new_sender lane line capacity k
+  pub sender_at : (lane : LaneName) (line : QueueId) (capacity n k : ℕ) (s : Sending T) → slice_get (new_senders lane line capacity n) k ≡ Some s
+      → s ≡ new_sender lane line capacity k
   sender_at lane line capacity zero k s e = absurd (no_element k s e)
   sender_at lane line capacity (suc n) k s e =
       ⊎_elim (λ (h : slice_get (new_senders lane line capacity n) k ≡ Some s). sender_at lane line capacity n k s h)
@@ -23,7 +24,8 @@ module _ {T : Type 0} where
 
   -- lanes with one more
   pub one_more_lane : (opening kind senders lanes room : ℕ) (C : List (List (Sending T))) (rs : List (Receiving T)) (row : List (Sending T)) (r : Receiving T)
-      → AreNewLanes opening kind senders lanes room C rs → row ≡ new_senders (lane_to opening kind (lanes + 1)) r.line room senders → r ≡ new_receiver (lane_to opening kind (lanes + 1)) r.line room senders
+      → AreNewLanes opening kind senders lanes room C rs → row ≡ new_senders (lane_to opening kind (lanes + 1)) r.line room senders
+      → r ≡ new_receiver (lane_to opening kind (lanes + 1)) r.line room senders
       → AreNewLanes opening kind senders (lanes + 1) room (put_row C row) (rs ++ r ∷ [])
   one_more_lane opening kind senders lanes room C rs row r are is_row is_r =
       more_lanes (IsNewReceiver opening kind senders room) (IsNewPair opening kind room) senders lanes C rs row r are

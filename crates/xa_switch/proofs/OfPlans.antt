@@ -1,5 +1,6 @@
 -- What is settled of all pieces of an opening is of the setup that it was made with.
-use Rattle.std.proofs.Common.{◌≡◌, ℕ, suc, ◌+◌, ◌<◌, ◌==◌, true, false, List, [], ◌∷◌, length, map, slice_get, option_map, Some, None, sym, refl, ap, subst, ◌∙◌, ⊎_elim, eq-eqb, arith}
+use Rattle.std.proofs.Common.{◌≡◌, ℕ, suc, ◌+◌, ◌<◌, ◌==◌, true, false, List, [], ◌∷◌, length, map, slice_get, option_map, Some, None, sym, refl, ap, subst}
+use Rattle.std.proofs.Common.{◌∙◌, ⊎_elim, eq-eqb, arith}
 use Rattle.std.specs.List.{All, Contains, list_any, range_with_len}
 use Rattle.std.specs.List.Sorted.{IsPermutation}
 use Rattle.std.proofs.lemmas.Bool.{eqb-true}
@@ -16,7 +17,8 @@ use Rattle.xa_switch.specs.Fates.{first_of}
 use Rattle.xa_switch.specs.Plans.{Setup}
 use Rattle.xa_tables.specs.Tables.{Tables}
 use Rattle.xa_switch.specs.OpenedPieces.{AreOfOneOpening, IsNewDesk, IsNewWorker}
-use Rattle.xa_switch.specs.Belonging.{DeskSeat, WorkerSeat, desk_seats, worker_seats, seat_of_desk, seat_of_worker, seat_of_ended, seat_of_done, first_opening, AreAll}
+use Rattle.xa_switch.specs.Belonging.{DeskSeat, WorkerSeat, desk_seats, worker_seats, seat_of_desk, seat_of_worker, seat_of_ended, seat_of_done, first_opening}
+use Rattle.xa_switch.specs.Belonging.{AreAll}
 use Rattle.xa_switch.specs.Settling.{ThreadPart, ManagerPart, find_manager}
 use Rattle.xa_words.specs.declared.request.Completion.{Completion}
 use Rattle.xa_lane.specs.Ends.{Receiving}
@@ -37,11 +39,13 @@ read f g h same [] = refl
 read f g h same (x ∷ xs) = λ i. same x i ∷ read f g h same xs i
 
 -- the opening has a worker of each manager of its setup, with the setup's tables
-module _ (p : Setup) (ds : List DeskView) (ws : List WorkerView) (o : AreOfOneOpening p ds ws) (vs : List Served) (workers : IsPermutation (map seat_of_worker ws) (worker_seats vs)) where
+module _ (p : Setup) (ds : List DeskView) (ws : List WorkerView) (o : AreOfOneOpening p ds ws) (vs : List Served)
+    (workers : IsPermutation (map seat_of_worker ws) (worker_seats vs)) where
   -- the worker that the settled one was
   worker_of : (v : Served) → Contains vs v → (k : ℕ) × (w : WorkerView) × (slice_get ws k ≡ Some w) × (seat_of_worker w ≡ seat_of_done v)
   worker_of v in_v =
-      let there : Contains (map seat_of_worker ws) (seat_of_done v) = Contains-permutation (worker_seats vs) (map seat_of_worker ws) (seat_of_done v) (IsPermutation-sym _ _ workers) (contains_map seat_of_done vs v in_v) in
+      let there : Contains (map seat_of_worker ws) (seat_of_done v) =
+      Contains-permutation (worker_seats vs) (map seat_of_worker ws) (seat_of_done v) (IsPermutation-sym _ _ workers) (contains_map seat_of_done vs v in_v) in
       let found = was_mapped seat_of_worker ws there.0 (seat_of_done v) (get_contained (map seat_of_worker ws) (seat_of_done v) there) in
       (there.0, found.0, found.1, found.2)
 
@@ -63,7 +67,8 @@ module _ (p : Setup) (ds : List DeskView) (ws : List WorkerView) (o : AreOfOneOp
       let first_many = o.tables in
       let opened = got ws m (omega (arith, below, many, first_many)) in
       let w : WorkerView = opened.0 in
-      let there : Contains (worker_seats vs) (seat_of_worker w) = Contains-permutation (map seat_of_worker ws) (worker_seats vs) (seat_of_worker w) workers (contains_map seat_of_worker ws w (contains_at ws m w opened.1)) in
+      let there : Contains (worker_seats vs) (seat_of_worker w) =
+      Contains-permutation (map seat_of_worker ws) (worker_seats vs) (seat_of_worker w) workers (contains_map seat_of_worker ws w (contains_at ws m w opened.1)) in
       let found = was_mapped seat_of_done vs there.0 (seat_of_worker w) (get_contained (worker_seats vs) (seat_of_worker w) there) in
       (found.0, contains_at vs there.0 found.0 found.1, ap (λ (s : WorkerSeat). s.number) found.2 ∙ ap (λ (x : WorkerView). x.number) (o.workers m w opened.1).made)
 
@@ -80,20 +85,24 @@ module _ (p : Setup) (ds : List DeskView) (ws : List WorkerView) (o : AreOfOneOp
       (searched manager_part (λ (q : ManagerPart). q.number == m + 1) vs)
 
 -- a desk that is there has the opening's number
-first_is : (es : List EndedView) (vs : List Served) (n : ℕ) → 0 < length es → All (λ (s : DeskSeat). s.lane.opening ≡ n) (desk_seats es) → first_opening es vs ≡ n
+first_is : (es : List EndedView) (vs : List Served) (n : ℕ) → 0 < length es → All (λ (s : DeskSeat). s.lane.opening ≡ n) (desk_seats es)
+    → first_opening es vs ≡ n
 first_is [] vs n some h = absurd (omega arith)
 first_is (e ∷ es) vs n some h = h 0 (seat_of_ended e) (omega arith)
 
 pub of_setup : (p : Setup) (ds : List DeskView) (ws : List WorkerView) (es : List EndedView) (vs : List Served)
-    → AreOfOneOpening p ds ws → IsPermutation (map seat_of_desk ds) (desk_seats es) → IsPermutation (map seat_of_worker ws) (worker_seats vs) → AreAll es vs → IsOf p (settling es vs)
+    → AreOfOneOpening p ds ws → IsPermutation (map seat_of_desk ds) (desk_seats es) → IsPermutation (map seat_of_worker ws) (worker_seats vs) → AreAll es vs
+    → IsOf p (settling es vs)
 of_setup p ds ws es vs o desks workers all = record {
   opening = first_is es vs p.numbers.opening all.some_desk
       (All-permutation (λ (s : DeskSeat). s.lane.opening ≡ p.numbers.opening) (map seat_of_desk ds) (desk_seats es) desks
       (all_map seat_of_desk (λ (s : DeskSeat). s.lane.opening ≡ p.numbers.opening) ds
       (λ d cd. let new : IsNewDesk p cd.0 d = o.desks cd.0 d (get_contained ds d cd) in ap (λ (r : Receiving Completion). r.lane.opening) new.completions)));
-  threads = rearranged (λ (s : DeskSeat). s.thread) seat_of_desk (λ (d : DeskView). d.thread) (λ d. refl) seat_of_ended thread_part (λ (t : ThreadPart). t.thread) (λ e. refl) p.numbers.threads ds es o.threads
+  threads =
+      rearranged (λ (s : DeskSeat). s.thread) seat_of_desk (λ (d : DeskView). d.thread) (λ d. refl) seat_of_ended thread_part (λ (t : ThreadPart). t.thread) (λ e. refl) p.numbers.threads ds es o.threads
       (λ k d at. ap (λ (x : DeskView). x.thread) (o.desks k d at).made ∙ (omega arith)) desks;
-  managers = rearranged (λ (s : WorkerSeat). s.number) seat_of_worker (λ (w : WorkerView). w.number) (λ w. refl) seat_of_done manager_part (λ (m : ManagerPart). m.number) (λ v. refl) p.managers ws vs o.managers
+  managers =
+      rearranged (λ (s : WorkerSeat). s.number) seat_of_worker (λ (w : WorkerView). w.number) (λ w. refl) seat_of_done manager_part (λ (m : ManagerPart). m.number) (λ v. refl) p.managers ws vs o.managers
       (λ k w at. ap (λ (x : WorkerView). x.number) (o.workers k w at).made ∙ (omega arith)) workers;
   opened = found_with p ds ws o vs workers es;
 }
@@ -104,6 +113,8 @@ of_setup p ds ws es vs o desks workers all = record {
         → (n : ℕ) (xs : List X) (ys : List Y) → length xs ≡ n → Each (λ k x. of_piece x ≡ 1 + k) xs → IsPermutation (map seat xs) (map seat' ys)
         → IsPermutation (range_with_len 1 n) (map of_part (map part ys))
     rearranged of_seat seat of_piece same seat' part of_part same' n xs ys many numbered moved =
-        let before : map of_seat (map seat xs) ≡ range_with_len 1 n = read of_seat seat of_piece same xs ∙ numbers_of of_piece 1 xs numbered ∙ ap (range_with_len 1) many in
-        let after : map of_seat (map seat' ys) ≡ map of_part (map part ys) = read of_seat seat' (λ y. of_seat (seat' y)) (λ y. refl) ys ∙ sym (read of_part part (λ y. of_seat (seat' y)) same' ys) in
+        let before : map of_seat (map seat xs) ≡ range_with_len 1 n =
+        read of_seat seat of_piece same xs ∙ numbers_of of_piece 1 xs numbered ∙ ap (range_with_len 1) many in
+        let after : map of_seat (map seat' ys) ≡ map of_part (map part ys) =
+        read of_seat seat' (λ y. of_seat (seat' y)) (λ y. refl) ys ∙ sym (read of_part part (λ y. of_seat (seat' y)) same' ys) in
         subst (λ (l : List ℕ × List ℕ). IsPermutation l.0 l.1) (λ j. (before j, after j)) (IsPermutation-map of_seat (map seat xs) (map seat' ys) moved)

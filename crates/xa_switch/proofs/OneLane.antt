@@ -1,5 +1,6 @@
 -- What the closed lanes of a desk and a worker say of the two.
-use Rattle.std.proofs.Common.{◌≡◌, ℕ, zero, suc, ◌+◌, ◌<◌, ◌≤◌, Bool, true, false, ◌==◌, ◌&&◌, cond, List, [], ◌∷◌, ◌++◌, map, slice_get, option_map, sym, refl, ap, ◌∙◌, subst, ⊎_elim, inl, inr, arith, eq-eqb, ne_eqb, Option, Some, None}
+use Rattle.std.proofs.Common.{◌≡◌, ℕ, zero, suc, ◌+◌, ◌<◌, ◌≤◌, Bool, true, false, ◌==◌, ◌&&◌, cond, List, [], ◌∷◌, ◌++◌, map, slice_get, option_map, sym, refl}
+use Rattle.std.proofs.Common.{ap, ◌∙◌, subst, ⊎_elim, inl, inr, arith, eq-eqb, ne_eqb, Option, Some, None}
 use Rattle.std.specs.List.{All, Contains, filter}
 use Rattle.std.proofs.lemmas.Bool.{eqb-true}
 use Rattle.std.proofs.lemmas.List.Folds.{Any-from_list_any}
@@ -36,7 +37,8 @@ answered_there (s ∷ ss) (suc k) e at = answered_there ss k e at
 module _ {T : Type 0} (r : Receiving T) (ends : List (Sending T)) (h : IsClosed r ends) where
   -- once its end mark was taken, all that an end sent was
   pub taken_whole : (e : Sending T) → Contains ends e → has_ended e.index r.taken ≡ true → received e.index r.taken ≡ e.sent
-  taken_whole e c m = (all_contains (λ (e : Sending T). has_ended e.index r.taken ≡ true → (received e.index r.taken ≡ e.sent) × (left_of e.index h.left ≡ [])) ends e h.nothing c m).0
+  taken_whole e c m =
+      (all_contains (λ (e : Sending T). has_ended e.index r.taken ≡ true → (received e.index r.taken ≡ e.sent) × (left_of e.index h.left ≡ [])) ends e h.nothing c m).0
 
   -- what was taken of an end was sent by it
   pub in_sent : (e : Sending T) → Contains ends e → (x : T) → In x (received e.index r.taken) → In x e.sent
@@ -61,7 +63,8 @@ module _ {T : Type 0} where
   none_of n p (x ∷ xs) h le =
       none_of_step p x.from x.item (of_sender p xs) (ne_eqb x.from p (λ e. let low = h 0 x (omega arith) in omega (arith, low, e, le))) (none_of n p xs (λ k d lt. h (suc k) d (omega arith)) le)
 
-  in_received_step : (y : T) (i : Option T) (from : ℕ) (zs : List (Option T)) (rest : ℕ → List (Option T)) (n : ℕ) → from < n → (In y (somes zs) → (p : ℕ) × (p < n) × In y (somes (rest p))) → In y (somes (i ∷ zs))
+  in_received_step : (y : T) (i : Option T) (from : ℕ) (zs : List (Option T)) (rest : ℕ → List (Option T)) (n : ℕ) → from < n
+      → (In y (somes zs) → (p : ℕ) × (p < n) × In y (somes (rest p))) → In y (somes (i ∷ zs))
       → (p : ℕ) × (p < n) × In y (somes (cond (from == p) (i ∷ rest p) (rest p)))
   in_received_step y None from zs rest n low f h =
       let r = f h in (r.0, r.1, elim (from == r.0) as (λ b. In y (somes (cond b (None ∷ rest r.0) (rest r.0)))) [ true ↦ r.2 | false ↦ r.2 ])
@@ -70,15 +73,18 @@ module _ {T : Type 0} where
       (λ (x : In y (somes zs)). let r = f x in (r.0, r.1, elim (from == r.0) as (λ b. In y (somes (cond b (Some z ∷ rest r.0) (rest r.0)))) [ true ↦ inr r.2 | false ↦ r.2 ])) h
 
   -- what was taken was taken of some sender
-  pub in_received : (y : T) (n : ℕ) (xs : List (Parcel T)) → All (λ x. x.from < n) xs → In y (somes (map (λ x. x.item) xs)) → (p : ℕ) × (p < n) × In y (received p xs)
+  pub in_received : (y : T) (n : ℕ) (xs : List (Parcel T)) → All (λ x. x.from < n) xs → In y (somes (map (λ x. x.item) xs))
+      → (p : ℕ) × (p < n) × In y (received p xs)
   in_received y n [] h i = absurd i
   in_received y n (x ∷ xs) h i =
       in_received_step y x.item x.from (map (λ x. x.item) xs) (λ p. of_sender p xs) n (h 0 x (omega arith)) (in_received y n xs (λ k d lt. h (suc k) d (omega arith))) i
 
 -- ---- what was drained
 
-drained_step : (m n : ℕ) (code : Code) (c : Completion) (cs : List Completion) (b : Bool) (b' : Bool) → (m == c.manager) ≡ b → (n == c.number) ≡ b' → (drained_code (record { manager = m; number = n }) cs ≡ Some code → In (record { manager = m; number = n; code = code }) cs)
-    → cond (b && b') (Some c.code) (drained_code (record { manager = m; number = n }) cs) ≡ Some code → In (record { manager = m; number = n; code = code }) (c ∷ cs)
+drained_step : (m n : ℕ) (code : Code) (c : Completion) (cs : List Completion) (b : Bool) (b' : Bool) → (m == c.manager) ≡ b → (n == c.number) ≡ b'
+    → (drained_code (record { manager = m; number = n }) cs ≡ Some code → In (record { manager = m; number = n; code = code }) cs)
+    → cond (b && b') (Some c.code) (drained_code (record { manager = m; number = n }) cs) ≡ Some code
+    → In (record { manager = m; number = n; code = code }) (c ∷ cs)
 drained_step m n code c cs true true e f h at =
     let g : c.code ≡ code = cc in
     inl (λ i. record { manager = sym (eqb-true m c.manager e) i; number = sym (eqb-true n c.number f) i; code = g i })
@@ -86,7 +92,8 @@ drained_step m n code c cs true false e f h at = inr (h at)
 drained_step m n code c cs false b' e f h at = inr (h at)
 
 -- the completion whose code was drained for an operation
-pub in_drained : (m n : ℕ) (code : Code) (cs : List Completion) → drained_code (record { manager = m; number = n }) cs ≡ Some code → In (record { manager = m; number = n; code = code }) cs
+pub in_drained : (m n : ℕ) (code : Code) (cs : List Completion) → drained_code (record { manager = m; number = n }) cs ≡ Some code
+    → In (record { manager = m; number = n; code = code }) cs
 in_drained m n code [] at = cc
 in_drained m n code (c ∷ cs) at = drained_step m n code c cs (m == c.manager) (n == c.number) refl refl (in_drained m n code cs) at
 
@@ -104,12 +111,14 @@ in_part c _ _ (without_last xs ys zs y p e) h = subst (In c) (sym e) (in_front c
 
 -- ---- what was answered
 
-numbers_step : (t : ℕ) (b : Bool) (r : Request) (c : Code) (J : List Entry) (H : List Request) → map (λ (e : Entry). e.0.number) J ≡ map (λ (r : Request). r.number) H
+numbers_step : (t : ℕ) (b : Bool) (r : Request) (c : Code) (J : List Entry) (H : List Request)
+    → map (λ (e : Entry). e.0.number) J ≡ map (λ (r : Request). r.number) H
     → map (λ (e : Entry). e.0.number) (cond b ((r, c) ∷ J) J) ≡ map (λ (r : Request). r.number) (cond b (r ∷ H) H)
 numbers_step t true r c J H e = ap (λ l. r.number ∷ l) e
 numbers_step t false r c J H e = e
 
-entries_numbers : (t : ℕ) (J : List Entry) → map (λ (e : Entry). e.0.number) (filter (λ e. e.0.thread == t) J) ≡ map (λ (r : Request). r.number) (of_thread t (requests J))
+entries_numbers : (t : ℕ) (J : List Entry)
+    → map (λ (e : Entry). e.0.number) (filter (λ e. e.0.thread == t) J) ≡ map (λ (r : Request). r.number) (of_thread t (requests J))
 entries_numbers t [] = refl
 entries_numbers t (x ∷ J) = numbers_step t (x.0.thread == t) x.0 x.1 (filter (λ e. e.0.thread == t) J) (of_thread t (requests J)) (entries_numbers t J)
 
@@ -119,12 +128,15 @@ number_at t n (op ∷ ops) zero v e = let f : n ≡ v = cc in omega arith
 number_at t n (op ∷ ops) (suc k) v e = let f = number_at t (suc n) ops k v e in omega arith
 
 -- an answer stands at the place of its number
-pub placed : (t : ℕ) (J : List Entry) (ops : List Op) (q : Entry) → of_thread t (requests J) ≡ numbered t 0 ops → In q (filter (λ e. e.0.thread == t) J) → slice_get (answers t J) q.0.number ≡ Some (q.0.number, q.1)
+pub placed : (t : ℕ) (J : List Entry) (ops : List Op) (q : Entry) → of_thread t (requests J) ≡ numbered t 0 ops → In q (filter (λ e. e.0.thread == t) J)
+    → slice_get (answers t J) q.0.number ≡ Some (q.0.number, q.1)
 placed t J ops q e i =
     let F = filter (λ (e : Entry). e.0.thread == t) J in
     let x = place_of q F i in
-    let n : slice_get (map (λ (e : Entry). e.0.number) F) x.0 ≡ Some q.0.number = slice_get-map (λ (e : Entry). e.0.number) F x.0 ∙ ap (option_map (λ (e : Entry). e.0.number)) x.1 in
-    let at : q.0.number ≡ 0 + x.0 = number_at t 0 ops x.0 q.0.number (ap (λ l. slice_get l x.0) (sym (entries_numbers t J ∙ ap (map (λ (r : Request). r.number)) e)) ∙ n) in
+    let n : slice_get (map (λ (e : Entry). e.0.number) F) x.0 ≡ Some q.0.number =
+    slice_get-map (λ (e : Entry). e.0.number) F x.0 ∙ ap (option_map (λ (e : Entry). e.0.number)) x.1 in
+    let at : q.0.number ≡ 0 + x.0 =
+    number_at t 0 ops x.0 q.0.number (ap (λ l. slice_get l x.0) (sym (entries_numbers t J ∙ ap (map (λ (r : Request). r.number)) e)) ∙ n) in
     let same : q.0.number ≡ x.0 = omega (arith, at) in
     ap (slice_get (answers t J)) same ∙ slice_get-map (λ (e : Entry). (e.0.number, e.1)) F x.0 ∙ ap (option_map (λ (e : Entry). (e.0.number, e.1))) x.1
 
@@ -133,13 +145,15 @@ abbrev pub Answers : Sending Completion → Type 0
 Answers e = (A : List Entry) × (e.sent ≡ map (completion_of (e.index + 1)) A)
 
 -- a completion of manager m that was taken is one that its end sent
-pub drawn_law : (r : Receiving Completion) (ends : List (Sending Completion)) → IsClosed r ends → All Answers ends → (m : ℕ) (e : Sending Completion) (A : List Entry) → Contains ends e → e.index + 1 ≡ m
+pub drawn_law : (r : Receiving Completion) (ends : List (Sending Completion)) → IsClosed r ends → All Answers ends
+    → (m : ℕ) (e : Sending Completion) (A : List Entry) → Contains ends e → e.index + 1 ≡ m
     → e.sent ≡ map (completion_of m) A → (c : Completion) → c.manager ≡ m → In c (arrived r.taken) → (q : Entry) × In q A × (completion_of m q ≡ c)
 drawn_law r ends h each m e A c i s y of_m drawn =
     let x = in_received y r.senders r.taken h.known.0 drawn in
     let f = end_of r ends h x.0 x.1 in
     let a : Answers f.0 = all_contains Answers ends f.0 each f.1 in
-    let z = in_map (completion_of (f.0.index + 1)) y a.0 (subst (In y) a.1 (in_sent r ends h f.0 f.1 y (subst (λ p. In y (received p r.taken)) (sym f.2) x.2))) in
+    let z =
+    in_map (completion_of (f.0.index + 1)) y a.0 (subst (In y) a.1 (in_sent r ends h f.0 f.1 y (subst (λ p. In y (received p r.taken)) (sym f.2) x.2))) in
     let same : f.0.index + 1 ≡ m = ap (λ (v : Completion). v.manager) z.2 ∙ of_m in
     let at = f.2 in
     let here : x.0 ≡ e.index = omega (arith, same, i, at) in

@@ -1,5 +1,6 @@
 -- What is outstanding as operations are sent and collected.
-use Rattle.std.proofs.Common.{◌≡◌, ◌≢◌, ℕ, ◌+◌, ◌-◌, ◌<◌, ◌≤◌, ◌⊎◌, suc, false, true, ◌||◌, nat_eq, List, [], ◌∷◌, length, sum_by, sym, refl, ap, ◌∙◌, subst, inl, inr, arith, length-append, slice_index_or}
+use Rattle.std.proofs.Common.{◌≡◌, ◌≢◌, ℕ, ◌+◌, ◌-◌, ◌<◌, ◌≤◌, ◌⊎◌, suc, false, true, ◌||◌, nat_eq, List, [], ◌∷◌, length, sum_by, sym, refl, ap, ◌∙◌, subst}
+use Rattle.std.proofs.Common.{inl, inr, arith, length-append, slice_index_or}
 use Rattle.std.proofs.lemmas.List.{length-map}
 use Rattle.std.proofs.lemmas.List.Sums.{sum_by-cons}
 use Rattle.std.proofs.lemmas.Map.Steps.{le-length_from_below}
@@ -39,7 +40,8 @@ out_sent at m op known o is =
     ]
 
 -- what is outstanding after a collection was outstanding, and wasn't collected
-pub out_collected : (at : List LedgerView) (o : Operation) (code : Code) → IsKnown at o.manager → (p : Operation) → IsOut (after_collected at o code) p → IsOut at p × (p ≢ o)
+pub out_collected : (at : List LedgerView) (o : Operation) (code : Code) → IsKnown at o.manager → (p : Operation) → IsOut (after_collected at o code) p
+    → IsOut at p × (p ≢ o)
 out_collected at o code known p is =
     let a = with_collected (ledger at o.manager) o.number code in
     let k = known_before at o.manager p.manager a is.known in
@@ -48,7 +50,8 @@ out_collected at o code known p is =
           let e = ap (ledger (put_ledger at o.manager a)) same ∙ ledger-put_same at o.manager a known in
           let within : p.number < length (ledger at o.manager).sent = subst (λ (x : LedgerView). p.number < length x.sent) e is.sent in
           let open_now : is_collected a p.number ≡ false = subst (λ (x : LedgerView). is_collected x p.number ≡ false) e is.open_ in
-          let parts = or_parts (is_collected (ledger at o.manager) p.number) (nat_eq p.number o.number || false) (sym (is_collected-push (ledger at o.manager) o.number code p.number) ∙ open_now) in (
+          let parts =
+          or_parts (is_collected (ledger at o.manager) p.number) (nat_eq p.number o.number || false) (sym (is_collected-push (ledger at o.manager) o.number code p.number) ∙ open_now) in (
             record {
               known = k;
               sent = subst (λ n. p.number < length (ledger at n).sent) (sym same) within;

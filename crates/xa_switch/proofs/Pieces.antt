@@ -1,5 +1,6 @@
 -- What is known of desks and workers that are all there, and of one opening.
-use Rattle.std.proofs.Common.{◌≡◌, ◌≢◌, ℕ, ◌+◌, ◌-◌, ◌<◌, ◌≤◌, true, ◌==◌, List, [], ◌∷◌, length, map, filter, replicate, get_or, slice_get, option_map, sym, refl, ap, ◌∙◌, subst, arith, eq-eqb, Some}
+use Rattle.std.proofs.Common.{◌≡◌, ◌≢◌, ℕ, ◌+◌, ◌-◌, ◌<◌, ◌≤◌, true, ◌==◌, List, [], ◌∷◌, length, map, filter, replicate, get_or, slice_get, option_map, sym}
+use Rattle.std.proofs.Common.{refl, ap, ◌∙◌, subst, arith, eq-eqb, Some}
 use Rattle.std.specs.List.{All, AllPairs, Contains}
 use Rattle.std.proofs.lemmas.Bool.{eqb-true}
 use Rattle.std.proofs.lemmas.List.Folds.{Any-from_list_any, list_any_at}
@@ -19,7 +20,9 @@ use Rattle.xa_worker.specs.Outgoing.{Answering}
 use Rattle.xa_worker.specs.Workers.{Asking}
 use Rattle.xa_worker.specs.Done.{Served, IsServed, IsOrdered}
 use Rattle.xa_switch.specs.Settling.{Agree, answers}
-use Rattle.xa_switch.specs.Belonging.{EndSeat, WorkerSeat, end_seat, seat_of_ended, seat_of_done, ShareLanes, AreTogether, AreApartDesks, AreApartWorkers, ComeFromOpenings, desk_seats, worker_seats, desk_opening, worker_opening, first_opening, AreOfOne, HasDesks, HasWorkers, has_desk, has_worker, AreAll}
+use Rattle.xa_switch.specs.Belonging.{EndSeat, WorkerSeat, end_seat, seat_of_ended, seat_of_done, ShareLanes, AreTogether, AreApartDesks, AreApartWorkers}
+use Rattle.xa_switch.specs.Belonging.{ComeFromOpenings, desk_seats, worker_seats, desk_opening, worker_opening, first_opening, AreOfOne, HasDesks, HasWorkers}
+use Rattle.xa_switch.specs.Belonging.{has_desk, has_worker, AreAll}
 use Rattle.xa_switch.specs.Closing.{dealt, column, IsClosable, IsClosed, desk_lane, worker_lane}
 use Rattle.xa_base.proofs.Lists.{contains_at, was_mapped}
 use Rattle.xa_switch.proofs.Lists.{In, all_map, pairs_map, pairs_at, all_contains, contains_in, get_contained, contains_map, contains_place}
@@ -43,7 +46,8 @@ pub record Joint (ds : List EndedView) (ws : List Served) : Type 0 where
 
 -- a worker's manager was opened
 pub workers_opened : (ds : List EndedView) (ws : List Served) → Whole ds ws → All (λ w. IsOpening w.first) ws
-workers_opened ds ws h k w below = all_contains (λ (s : WorkerSeat). IsOpening s.first) (worker_seats ws) (seat_of_done (get_or ws k w)) h.from.opened (contains_map seat_of_done ws (get_or ws k w) (contains_place ws k w below))
+workers_opened ds ws h k w below =
+    all_contains (λ (s : WorkerSeat). IsOpening s.first) (worker_seats ws) (seat_of_done (get_or ws k w)) h.from.opened (contains_map seat_of_done ws (get_or ws k w) (contains_place ws k w below))
 
 some_of : {X : Type 0} (xs : List X) → 0 < length xs → (x : X) × Contains xs x
 some_of [] h = absurd (omega arith)
@@ -58,7 +62,9 @@ completion_columns ws = dealt (replicate 8 []) (map (λ w. w.ends) ws)
 
 module _ (ds : List EndedView) (ws : List Served) (h : Whole ds ws) where
   same_opening : (d : EndedView) (w : Served) → Contains ds d → Contains ws w → desk_opening d ≡ worker_opening w
-  same_opening d w cd cw = all_contains (λ d. desk_opening d ≡ first_opening ds ws) ds d h.one.0 cd ∙ sym (all_contains (λ w. worker_opening w ≡ first_opening ds ws) ws w h.one.1 cw)
+  same_opening d w cd cw =
+      all_contains (λ d. desk_opening d ≡ first_opening ds ws) ds d h.one.0 cd
+      ∙ sym (all_contains (λ w. worker_opening w ≡ first_opening ds ws) ws w h.one.1 cw)
 
   pair_at : (d : EndedView) (w : Served) → Contains ds d → Contains ws w → ShareLanes (seat_of_ended d) (seat_of_done w)
   pair_at d w cd cw =
@@ -67,14 +73,16 @@ module _ (ds : List EndedView) (ws : List Served) (h : Whole ds ws) where
       (contains_map seat_of_done ws w cw) (same_opening d w cd cw)
 
   -- the desk's end on the worker's lane
-  pub sends_at : (d : EndedView) (w : Served) → Contains ds d → Contains ws w → (e : Sending Request) × (slice_get d.requests (w.number - 1) ≡ Some e) × ((e.lane ≡ w.receiver.lane) × (e.line ≡ w.receiver.line)) × (e.index + 1 ≡ d.thread)
+  pub sends_at : (d : EndedView) (w : Served) → Contains ds d → Contains ws w
+      → (e : Sending Request) × (slice_get d.requests (w.number - 1) ≡ Some e) × ((e.lane ≡ w.receiver.lane) × (e.line ≡ w.receiver.line)) × (e.index + 1 ≡ d.thread)
   sends_at d w cd cw =
       let s = pair_at d w cd cw in
       let x = was_mapped (λ (e : Sending Request). end_seat e) d.requests (w.number - 1) s.asking s.asks in
       (x.0, x.1, (ap (λ (v : EndSeat). v.lane) x.2 ∙ s.asked.0, ap (λ (v : EndSeat). v.line) x.2 ∙ s.asked.1), ap (λ (v : EndSeat). v.index + 1) x.2 ∙ s.asker)
 
   -- the worker's end on the desk's lane
-  pub answers_at : (d : EndedView) (w : Served) → Contains ds d → Contains ws w → (e : Answering) × (slice_get w.ends (d.thread - 1) ≡ Some e) × ((e.lane ≡ d.completions.lane) × (e.line ≡ d.completions.line)) × (e.index + 1 ≡ w.number)
+  pub answers_at : (d : EndedView) (w : Served) → Contains ds d → Contains ws w
+      → (e : Answering) × (slice_get w.ends (d.thread - 1) ≡ Some e) × ((e.lane ≡ d.completions.lane) × (e.line ≡ d.completions.line)) × (e.index + 1 ≡ w.number)
   answers_at d w cd cw =
       let s = pair_at d w cd cw in
       let x = was_mapped (λ (e : Answering). end_seat e) w.ends (d.thread - 1) s.answering s.answers in
@@ -127,7 +135,8 @@ module _ (ds : List EndedView) (ws : List Served) (j : Joint ds ws) where
   abbrev RequestFits : Served → Sending Request → Type 0
   RequestFits w e = (e.lane ≡ w.receiver.lane) × (e.line ≡ w.receiver.line)
 
-  request_fits : (w : Served) → Contains ws w → (i : ℕ) (row : List (Sending Request)) (e : Sending Request) → slice_get (map (λ (d : EndedView). d.requests) ds) i ≡ Some row → slice_get row (w.number - 1) ≡ Some e → RequestFits w e
+  request_fits : (w : Served) → Contains ws w → (i : ℕ) (row : List (Sending Request)) (e : Sending Request)
+      → slice_get (map (λ (d : EndedView). d.requests) ds) i ≡ Some row → slice_get row (w.number - 1) ≡ Some e → RequestFits w e
   request_fits w cw i row e at_row at_e =
       let x = was_mapped (λ (d : EndedView). d.requests) ds i row at_row in
       let own = sends_at ds ws j.all x.0 w (contains_at ds i x.0 x.1) cw in
@@ -140,7 +149,8 @@ module _ (ds : List EndedView) (ws : List Served) (j : Joint ds ws) where
       dealt_all (RequestFits w) (replicate 8 []) (map (λ d. d.requests) ds) (w.number - 1) (subst (All (RequestFits w)) (sym (column_none 8 (w.number - 1))) (λ k d below. absurd (omega arith))) (request_fits w cw)
 
   -- the desk's end is among the ends of the worker's lane
-  pub request_in : (d : EndedView) (w : Served) → Contains ds d → Contains ws w → (e : Sending Request) → slice_get d.requests (w.number - 1) ≡ Some e → Contains (column (request_columns ds) (w.number - 1)) e
+  pub request_in : (d : EndedView) (w : Served) → Contains ds d → Contains ws w → (e : Sending Request) → slice_get d.requests (w.number - 1) ≡ Some e
+      → Contains (column (request_columns ds) (w.number - 1)) e
   request_in d w cd cw e at =
       contains_in e (column (request_columns ds) (w.number - 1))
       (dealt_adds (replicate 8 []) (map (λ d. d.requests) ds) (w.number - 1) cd.0 d.requests e (slice_get-map (λ (d : EndedView). d.requests) ds cd.0 ∙ ap (option_map (λ (d : EndedView). d.requests)) (get_contained ds d cd)) at (worker_place w cw))
@@ -149,7 +159,8 @@ module _ (ds : List EndedView) (ws : List Served) (j : Joint ds ws) where
   request_whole : (w : Served) → Contains ws w → IsWhole w.receiver.senders (column (request_columns ds) (w.number - 1))
   request_whole w cw p below =
       let senders = (worker_known w cw).senders in
-      let there : has_desk (p + 1) ds ≡ true = all_contains (λ (w : Served). HasDesks w.manager.threads ds) ws w j.all.whole.desks cw (p + 1) (omega arith) (omega (arith, senders, below)) in
+      let there : has_desk (p + 1) ds ≡ true =
+      all_contains (λ (w : Served). HasDesks w.manager.threads ds) ws w j.all.whole.desks cw (p + 1) (omega arith) (omega (arith, senders, below)) in
       let found = Any-from_list_any (λ (d : EndedView). d.thread == p + 1) ds there in
       let cd : Contains ds found.1 = (found.0, found.2, found.3) in
       let own = sends_at ds ws j.all found.1 w cd cw in
@@ -175,13 +186,16 @@ module _ (ds : List EndedView) (ws : List Served) (j : Joint ds ws) where
   entries_of t J = filter (λ e. e.0.thread == t) J
 
   -- what a worker's end has sent
-  answered : (d : EndedView) (w : Served) → Contains ds d → Contains ws w → (e : Answering) → slice_get w.ends (d.thread - 1) ≡ Some e → e.sent ≡ map (completion_of w.number) (entries_of d.thread w.journal)
+  answered : (d : EndedView) (w : Served) → Contains ds d → Contains ws w → (e : Answering) → slice_get w.ends (d.thread - 1) ≡ Some e
+      → e.sent ≡ map (completion_of w.number) (entries_of d.thread w.journal)
   answered d w cd cw e at =
       let seated = desk_number ds ws j.all d cd in
       let t : d.thread - 1 + 1 ≡ d.thread = omega (arith, seated) in
-      sym (answered_there w.ends (d.thread - 1) e at) ∙ (worker_known w cw).sent (d.thread - 1) ∙ ap (λ t. map (completion_of w.number) (entries_of t w.journal)) t
+      sym (answered_there w.ends (d.thread - 1) e at) ∙ (worker_known w cw).sent (d.thread - 1)
+      ∙ ap (λ t. map (completion_of w.number) (entries_of t w.journal)) t
 
-  completion_fits : (d : EndedView) → Contains ds d → (i : ℕ) (row : List Answering) (e : Answering) → slice_get (map (λ (w : Served). w.ends) ws) i ≡ Some row → slice_get row (d.thread - 1) ≡ Some e → CompletionFits d e
+  completion_fits : (d : EndedView) → Contains ds d → (i : ℕ) (row : List Answering) (e : Answering) → slice_get (map (λ (w : Served). w.ends) ws) i ≡ Some row
+      → slice_get row (d.thread - 1) ≡ Some e → CompletionFits d e
   completion_fits d cd i row e at_row at_e =
       let x = was_mapped (λ (w : Served). w.ends) ws i row at_row in
       let cw = contains_at ws i x.0 x.1 in
@@ -198,7 +212,8 @@ module _ (ds : List EndedView) (ws : List Served) (j : Joint ds ws) where
   completion_all d cd =
       dealt_all (CompletionFits d) (replicate 8 []) (map (λ w. w.ends) ws) (d.thread - 1) (subst (All (CompletionFits d)) (sym (column_none 8 (d.thread - 1))) (λ k d below. absurd (omega arith))) (completion_fits d cd)
 
-  pub completion_in : (d : EndedView) (w : Served) → Contains ds d → Contains ws w → (e : Answering) → slice_get w.ends (d.thread - 1) ≡ Some e → Contains (column (completion_columns ws) (d.thread - 1)) e
+  pub completion_in : (d : EndedView) (w : Served) → Contains ds d → Contains ws w → (e : Answering) → slice_get w.ends (d.thread - 1) ≡ Some e
+      → Contains (column (completion_columns ws) (d.thread - 1)) e
   completion_in d w cd cw e at =
       contains_in e (column (completion_columns ws) (d.thread - 1))
       (dealt_adds (replicate 8 []) (map (λ w. w.ends) ws) (d.thread - 1) cw.0 w.ends e (slice_get-map (λ (w : Served). w.ends) ws cw.0 ∙ ap (option_map (λ (w : Served). w.ends)) (get_contained ws w cw)) at (desk_place d cd))
@@ -206,7 +221,8 @@ module _ (ds : List EndedView) (ws : List Served) (j : Joint ds ws) where
   completion_whole : (d : EndedView) → Contains ds d → IsWhole d.completions.senders (column (completion_columns ws) (d.thread - 1))
   completion_whole d cd p below =
       let senders = (desk_known d cd).tied.ends.senders in
-      let there : has_worker (p + 1) ws ≡ true = all_contains (λ (d : EndedView). HasWorkers (length d.ledgers) ws) ds d j.all.whole.workers cd (p + 1) (omega arith) (omega (arith, senders, below)) in
+      let there : has_worker (p + 1) ws ≡ true =
+      all_contains (λ (d : EndedView). HasWorkers (length d.ledgers) ws) ds d j.all.whole.workers cd (p + 1) (omega arith) (omega (arith, senders, below)) in
       let found = Any-from_list_any (λ (w : Served). w.number == p + 1) ws there in
       let cw : Contains ws found.1 = (found.0, found.2, found.3) in
       let own = answers_at ds ws j.all d found.1 cd cw in
@@ -237,7 +253,8 @@ module _ (ds : List EndedView) (ws : List Served) (j : Joint ds ws) where
 
   module _ (d : EndedView) (w : Served) (cd : Contains ds d) (cw : Contains ws w) where
     -- the journal has of the thread what it sent
-    carried : IsClosed w.receiver (column (request_columns ds) (w.number - 1)) → of_thread d.thread (requests w.journal) ≡ numbered d.thread 0 (ledger d.ledgers w.number).sent
+    carried : IsClosed w.receiver (column (request_columns ds) (w.number - 1))
+        → of_thread d.thread (requests w.journal) ≡ numbered d.thread 0 (ledger d.ledgers w.number).sent
     carried hs =
         let own = sends_at ds ws j.all d w cd cw in
         let e = own.0 in
@@ -253,7 +270,8 @@ module _ (ds : List EndedView) (ws : List Served) (j : Joint ds ws) where
         ∙ (desk_known d cd).tied.sent w.number (known_at d w cd cw)
 
     -- what was collected is what the journal answers
-    coded_at : IsClosed w.receiver (column (request_columns ds) (w.number - 1)) → IsClosed d.completions (column (completion_columns ws) (d.thread - 1)) → (p : ℕ × Code) → In (record { manager = w.number; number = p.0; code = p.1 }) d.drained
+    coded_at : IsClosed w.receiver (column (request_columns ds) (w.number - 1)) → IsClosed d.completions (column (completion_columns ws) (d.thread - 1))
+        → (p : ℕ × Code) → In (record { manager = w.number; number = p.0; code = p.1 }) d.drained
         → slice_get (answers d.thread w.journal) p.0 ≡ Some p
     coded_at hs ha p drawn =
         let own = answers_at ds ws j.all d w cd cw in
@@ -296,7 +314,9 @@ module _ (ds : List EndedView) (ws : List Served) (j : Joint ds ws) where
       pairs_map worker_lane (λ (a b : ℕ × Asking). a.0 ≢ b.0) ws
       (λ a b ca cb i k lt below d ea eb e.
       let x = pairs_at seat_of_done AreApartWorkers ws j.all.from.workers_apart i k lt below d in
-      let same : worker_opening a ≡ worker_opening b = all_contains (λ w. worker_opening w ≡ first_opening ds ws) ws a j.all.one.1 ca ∙ sym (all_contains (λ w. worker_opening w ≡ first_opening ds ws) ws b j.all.one.1 cb) in
+      let same : worker_opening a ≡ worker_opening b =
+      all_contains (λ w. worker_opening w ≡ first_opening ds ws) ws a j.all.one.1 ca
+      ∙ sym (all_contains (λ w. worker_opening w ≡ first_opening ds ws) ws b j.all.one.1 cb) in
       let sa = worker_number ds ws j.all a ca in
       let sb = worker_number ds ws j.all b cb in
       let m : a.number ≡ b.number = omega (arith, sa, sb, e) in
@@ -307,7 +327,9 @@ module _ (ds : List EndedView) (ws : List Served) (j : Joint ds ws) where
       pairs_map desk_lane (λ (a b : ℕ × Receiving Completion). a.0 ≢ b.0) ds
       (λ a b ca cb i k lt below d ea eb e.
       let x = pairs_at seat_of_ended AreApartDesks ds j.all.from.desks_apart i k lt below d in
-      let same : desk_opening a ≡ desk_opening b = all_contains (λ d. desk_opening d ≡ first_opening ds ws) ds a j.all.one.0 ca ∙ sym (all_contains (λ d. desk_opening d ≡ first_opening ds ws) ds b j.all.one.0 cb) in
+      let same : desk_opening a ≡ desk_opening b =
+      all_contains (λ d. desk_opening d ≡ first_opening ds ws) ds a j.all.one.0 ca
+      ∙ sym (all_contains (λ d. desk_opening d ≡ first_opening ds ws) ds b j.all.one.0 cb) in
       let sa = desk_number ds ws j.all a ca in
       let sb = desk_number ds ws j.all b cb in
       let m : a.thread ≡ b.thread = omega (arith, sa, sb, e) in

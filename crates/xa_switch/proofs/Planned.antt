@@ -11,16 +11,29 @@ use Rattle.xa_switch.specs.declared.plan.ManagerPlan.{ManagerPlan}
 use Rattle.xa_switch.specs.declared.plan.Again.{Again}
 use Rattle.xa_switch.specs.Plans.{setup, planned, numbers_of, manager_room, new_manager, opened_by, use_async}
 
-tables_of : (threads room : ℕ) (ms : List ManagerPlan) → map (λ (m : Managed). m.tables) (map (opened_by threads room) ms) ≡ map (λ (m : ManagerPlan). opening m.accounts.items) ms
+tables_of : (threads room : ℕ) (ms : List ManagerPlan)
+    → map (λ (m : Managed). m.tables) (map (opened_by threads room) ms) ≡ map (λ (m : ManagerPlan). opening m.accounts.items) ms
 tables_of threads room [] = refl
 tables_of threads room (m ∷ ms) = ap (λ l. opening m.accounts.items ∷ l) (tables_of threads room ms)
 
-module _ (p : Plan) (numbers : Again) (is : numbers ≡ numbers_of p) (room : ℕ) (roomy : room ≡ manager_room numbers) (xs : List Managed) (made : xs ≡ map (opened_by p.threads room) p.managers.items) where
+module _ (p : Plan) (numbers own : Again) (laid : numbers ≡ own) (owns : own ≡ numbers_of p) (room : ℕ) (roomy : room ≡ manager_room own)
+    (given : List ManagerPlan) (gives : given ≡ p.managers.items) (xs : List Managed) (opens : xs ≡ map (opened_by p.threads room) given) where
+  is : numbers ≡ numbers_of p
+  is = laid ∙ owns
+
+  made : xs ≡ map (opened_by p.threads room) p.managers.items
+  made = opens ∙ ap (map (opened_by p.threads room)) gives
+
   pub all_new : All (λ m. m ≡ new_manager numbers m.tables) xs
   all_new =
       subst (All (λ (m : Managed). m ≡ new_manager numbers m.tables)) (sym made)
       (All-map (λ (m : Managed). m ≡ new_manager numbers m.tables) (opened_by p.threads room) p.managers.items
-      (λ k d lt i. record { tables = opening (get_or p.managers.items k d).accounts.items; threads = sym (ap (λ (n : Again). n.threads) is) i; room = roomy i; reserved = None }))
+      (λ k d lt i. record {
+        tables = opening (get_or p.managers.items k d).accounts.items;
+        threads = sym (ap (λ (n : Again). n.threads) is) i;
+        room = (roomy ∙ sym (ap manager_room laid)) i;
+        reserved = None;
+      }))
 
   pub all_begin : All (λ m. IsOpening m.tables) xs
   all_begin =

@@ -5,11 +5,13 @@ use Rattle.xa_words.specs.declared.code.Code.{Code}
 use Rattle.xa_desk.specs.declared.refused.Refused.{Refused}
 
 -- the refusal of a synchronous request that was answered, and of one that wasn't
-pub no_refusal : (answer : Result Code Refused) (code : Code) (r : Option Refused) → answer ≡ Ok code → ((why : Refused) → r ≡ Some why → answer ≡ Err why) → r ≡ None
+pub no_refusal : (answer : Result Code Refused) (code : Code) (r : Option Refused) → answer ≡ Ok code → ((why : Refused) → r ≡ Some why → answer ≡ Err why)
+    → r ≡ None
 no_refusal answer code None is same = refl
 no_refusal answer code (Some why) is same = let e = same why refl in cc
 
-pub its_refusal : (answer : Result Code Refused) (why : Refused) (r : Option Refused) → answer ≡ Err why → ((w : Refused) → r ≡ Some w → answer ≡ Err w) → (r ≡ None → IsOk answer) → r ≡ Some why
+pub its_refusal : (answer : Result Code Refused) (why : Refused) (r : Option Refused) → answer ≡ Err why → ((w : Refused) → r ≡ Some w → answer ≡ Err w)
+    → (r ≡ None → IsOk answer) → r ≡ Some why
 its_refusal answer why None is same never = let e = subst IsOk is (never refl) in cc
 its_refusal answer why (Some w) is same never = let e = same w refl in cc
 

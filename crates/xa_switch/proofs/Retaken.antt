@@ -1,5 +1,6 @@
 -- Managers that are taken out of a list, and that have their memory.
-use Rattle.std.proofs.Common.{◌≡◌, ℕ, zero, suc, ◌+◌, ◌<◌, Bool, true, false, cond, Option, None, Some, option_map, List, [], ◌∷◌, length, map, take, remove, get_or, set, refl, sym, ap, ◌∙◌, subst, arith}
+use Rattle.std.proofs.Common.{◌≡◌, ℕ, zero, suc, ◌+◌, ◌<◌, Bool, true, false, cond, Option, None, Some, option_map, List, [], ◌∷◌, length, map, take, remove}
+use Rattle.std.proofs.Common.{get_or, set, refl, sym, ap, ◌∙◌, subst, arith}
 use Rattle.std.specs.List.{All, find}
 use Rattle.std.proofs.lemmas.List.{take_more}
 use Rattle.std.proofs.lemmas.Option.{slice_get-get_or}
@@ -15,11 +16,13 @@ pub same_place : {A : Type 0} (xs : List A) (i : ℕ) (d e : A) → i < length x
 same_place xs i d e low = some_same _ _ (sym (slice_get-get_or xs i d low) ∙ slice_get-get_or xs i e low)
 
 -- the element at a place is found, where none before it passes
-pub found_at : {A : Type 0} (p : A → Bool) (xs : List A) (i : ℕ) (d : A) → i < length xs → p (get_or xs i d) ≡ true → All (λ x. p x ≡ false) (take i xs) → find p xs ≡ Some (get_or xs i d)
+pub found_at : {A : Type 0} (p : A → Bool) (xs : List A) (i : ℕ) (d : A) → i < length xs → p (get_or xs i d) ≡ true → All (λ x. p x ≡ false) (take i xs)
+    → find p xs ≡ Some (get_or xs i d)
 found_at p [] i d low here before = absurd (omega (arith, low))
 found_at p (x ∷ xs) zero d low here before = ap (λ b. cond b (Some x) (find p xs)) here
 found_at p (x ∷ xs) (suc i) d low here before =
-    ap (λ b. cond b (Some x) (find p xs)) (All-head (λ y. p y ≡ false) x (take i xs) before) ∙ found_at p xs i d (omega (arith, low)) here (All-tail (λ y. p y ≡ false) x (take i xs) before)
+    ap (λ b. cond b (Some x) (find p xs)) (All-head (λ y. p y ≡ false) x (take i xs) before)
+    ∙ found_at p xs i d (omega (arith, low)) here (All-tail (λ y. p y ≡ false) x (take i xs) before)
 
 -- taking out one that doesn't pass changes nothing
 pub found_without : {A : Type 0} (p : A → Bool) (xs : List A) (i : ℕ) (d : A) → i < length xs → p (get_or xs i d) ≡ false → find p (remove xs i) ≡ find p xs
@@ -37,7 +40,8 @@ set_alike f (x ∷ xs) (suc i) y d same = ap (λ l. f x ∷ l) (set_alike f xs i
 all_set : {A : Type 0} (P : A → Type 0) (xs : List A) (i : ℕ) (y : A) → All P (take i xs) → P y → All P (take (suc i) (set xs i y))
 all_set P [] i y before here = All-nil P
 all_set P (x ∷ xs) zero y before here = All-cons P y [] here (All-nil P)
-all_set P (x ∷ xs) (suc i) y before here = All-cons P x (take (suc i) (set xs i y)) (All-head P x (take i xs) before) (all_set P xs i y (All-tail P x (take i xs) before) here)
+all_set P (x ∷ xs) (suc i) y before here =
+    All-cons P x (take (suc i) (set xs i y)) (All-head P x (take i xs) before) (all_set P xs i y (All-tail P x (take i xs) before) here)
 
 pub all_set_more : {A : Type 0} (P : A → Type 0) (xs : List A) (i : ℕ) (y : A) → All P (take i xs) → P y → All P (take (i + 1) (set xs i y))
 all_set_more P xs i y before here = subst (λ n. All P (take n (set xs i y))) (let e : suc i ≡ i + 1 = omega arith in e) (all_set P xs i y before here)

@@ -1,5 +1,6 @@
 -- Scans, and where they stand.
-use Rattle.std.proofs.Common.{◌≡◌, ℕ, zero, suc, ◌-◌, ◌≤◌, inl, inr, ◌==◌, Option, Some, None, IfSome, List, [], ◌∷◌, ◌++◌, length, map, get_or, set, slice_index_or, slice_set, refl, sym, ap, ◌∙◌, subst, arith}
+use Rattle.std.proofs.Common.{◌≡◌, ℕ, zero, suc, ◌-◌, ◌≤◌, inl, inr, ◌==◌, Option, Some, None, IfSome, List, [], ◌∷◌, ◌++◌, length, map, get_or, set}
+use Rattle.std.proofs.Common.{slice_index_or, slice_set, refl, sym, ap, ◌∙◌, subst, arith}
 use Rattle.std.specs.Prelude.{◌⊎◌, Vec, slice_get}
 use Rattle.std.proofs.lemmas.Bool.{cases_Bool, eqb-true, eqb-false}
 use Rattle.std.proofs.lemmas.List.{get_or-map, get_or-set_other, length-map, map-append}
@@ -16,11 +17,13 @@ left_there z zero low = absurd (omega (arith, low))
 left_there z (suc k) low = ap (λ i. slice_index_or z.left i []) (let e : k ≡ suc k - 1 = omega arith in e)
 
 -- so it is the vector there
-pub left_is : {Z : Type 0} (lists : Option (Arc (Vec (Vec XidName Z) Z) Z)) (places : List (Option ℕ)) (v : Arc (Vec (Vec XidName Z) Z) Z) (xs : Vec XidName Z) (m : ℕ) → lists ≡ Some v → 1 ≤ m
+pub left_is : {Z : Type 0} (lists : Option (Arc (Vec (Vec XidName Z) Z) Z)) (places : List (Option ℕ)) (v : Arc (Vec (Vec XidName Z) Z) Z) (xs : Vec XidName Z) (m : ℕ)
+    → lists ≡ Some v → 1 ≤ m
     → m ≤ length (arc_value v).items → xs ≡ slice_index_or (arc_value v).items (m - 1) xs
     → left_at (scan_of lists places) m ≡ xs.items
 left_is lists places v xs m is low high there =
-    left_there (scan_of lists places) m low ∙ ap (λ o. slice_index_or (lists_in o) (m - 1) []) is ∙ get_or-map (λ x. x.items) (arc_value v).items (m - 1) xs [] (omega (arith, low, high)) ∙ ap (λ x. x.items) (sym there)
+    left_there (scan_of lists places) m low ∙ ap (λ o. slice_index_or (lists_in o) (m - 1) []) is
+    ∙ get_or-map (λ x. x.items) (arc_value v).items (m - 1) xs [] (omega (arith, low, high)) ∙ ap (λ x. x.items) (sym there)
 
 -- a scan stands within what was left
 pub stands_within : (z : ScanView) → IsScan z → (m : ℕ) → 1 ≤ m → IfSome (slice_index_or z.places (m - 1) None) (λ k. k ≤ length (left_at z m))
@@ -36,9 +39,11 @@ set_or (x ∷ xs) zero y d = inl refl
 set_or (x ∷ xs) (suc i) y d = set_or xs i y d
 
 -- and so it does where one scan is put within it
-pub still_within : (z : ScanView) (m : ℕ) (o : Option ℕ) → 1 ≤ m → IfSome o (λ k. k ≤ length (left_at z m)) → IsScan z → IsScan (record z { places = slice_set z.places (m - 1) o })
+pub still_within : (z : ScanView) (m : ℕ) (o : Option ℕ) → 1 ≤ m → IfSome o (λ k. k ≤ length (left_at z m)) → IsScan z
+    → IsScan (record z { places = slice_set z.places (m - 1) o })
 still_within z zero o low fits is = absurd (omega (arith, low))
-still_within z (suc i) o low fits is = subst (λ j. IsScan (record z { places = slice_set z.places j o })) (let e : i ≡ suc i - 1 = omega arith in e) (record { within = stood })
+still_within z (suc i) o low fits is =
+    subst (λ j. IsScan (record z { places = slice_set z.places j o })) (let e : i ≡ suc i - 1 = omega arith in e) (record { within = stood })
   where
     z' : ScanView
     z' = record z { places = slice_set z.places i o }

@@ -13,7 +13,8 @@ use Rattle.xa_worker.specs.Workers.{WorkerView}
 use Rattle.xa_switch.specs.Plans.{Setup}
 use Rattle.xa_base.proofs.Lists.{contains_at}
 use Rattle.xa_switch.specs.OpenedPieces.{IsNewDesk, IsNewWorker, ShareNewLanes, AreOfOneOpening}
-use Rattle.xa_switch.specs.Belonging.{DeskSeat, WorkerSeat, openings_of, end_seat, seat_of_desk, seat_of_worker, ShareLanes, AreTogether, AreApartDesks, AreApartWorkers, ComeFromOpenings}
+use Rattle.xa_switch.specs.Belonging.{DeskSeat, WorkerSeat, openings_of, end_seat, seat_of_desk, seat_of_worker, ShareLanes, AreTogether, AreApartDesks}
+use Rattle.xa_switch.specs.Belonging.{AreApartWorkers, ComeFromOpenings}
 use Rattle.xa_switch.proofs.Lists.{all_map, all_contains, pairs_map, get_contained}
 
 -- ---- an opening
@@ -32,11 +33,13 @@ module _ (p : Setup) (ds : List DeskView) (ws : List WorkerView) (h : AreOfOneOp
       let answering = W.completions t T.answering T.answers in
       record {
         asking = end_seat T.asking;
-        asks = slice_get-map (λ (e : Sending Request). end_seat e) d.requests (w.number - 1) ∙ ap (option_map (λ (e : Sending Request). end_seat e)) (ap (slice_get d.requests) m_is ∙ T.asks);
+        asks = slice_get-map (λ (e : Sending Request). end_seat e) d.requests (w.number - 1)
+            ∙ ap (option_map (λ (e : Sending Request). end_seat e)) (ap (slice_get d.requests) m_is ∙ T.asks);
         asked = (ap (λ (e : Sending Request). e.lane) asking ∙ sym (ap (λ (r : Receiving Request). r.lane) W.requests), T.asked);
         asker = let i = ap (λ (e : Sending Request). e.index) asking in omega (arith, i, thread);
         answering = end_seat T.answering;
-        answers = slice_get-map (λ (e : Answering). end_seat e) w.out.senders (d.thread - 1) ∙ ap (option_map (λ (e : Answering). end_seat e)) (ap (slice_get w.out.senders) t_is ∙ T.answers);
+        answers = slice_get-map (λ (e : Answering). end_seat e) w.out.senders (d.thread - 1)
+            ∙ ap (option_map (λ (e : Answering). end_seat e)) (ap (slice_get w.out.senders) t_is ∙ T.answers);
         answered = (ap (λ (e : Answering). e.lane) answering ∙ sym (ap (λ (r : Receiving Completion). r.lane) D.completions), T.answered);
         answerer = let i = ap (λ (e : Answering). e.index) answering in omega (arith, i, number);
       }

@@ -1,6 +1,7 @@
 -- What all accounts are worth together is what was declared and what the threads have moved.
 use Rattle.std.specs.Prelude.{ℤ, pos, ◌+ℤ◌, option_map, unwrap_or, All}
-use Rattle.std.proofs.Common.{◌≡◌, ℕ, zero, suc, ◌+◌, ◌-◌, ◌<◌, ◌≤◌, ◌==◌, true, false, cond, if◌then◌else◌, List, [], ◌∷◌, length, map, get_or, slice_get, sym, refl, ap, ◌∙◌, arith, Some, None}
+use Rattle.std.proofs.Common.{◌≡◌, ℕ, zero, suc, ◌+◌, ◌-◌, ◌<◌, ◌≤◌, ◌==◌, true, false, cond, if◌then◌else◌, List, [], ◌∷◌, length, map, get_or, slice_get, sym}
+use Rattle.std.proofs.Common.{refl, ap, ◌∙◌, arith, Some, None}
 use Rattle.std.specs.List.{Contains, range_with_len}
 use Rattle.std.specs.FinMap as finmap
 use Rattle.std.proofs.lemmas.Bool.{eqb-true, eqb-false}
@@ -36,7 +37,8 @@ use Rattle.xa_switch.proofs.Journaled.{follows_first}
 none_counted : (k : ℕ) (v : ℤ) (a n : ℕ) → k < a → total (λ t. if k == t then v else pos 0) (range_with_len a n) ≡ pos 0
 none_counted k v a zero lt = refl
 none_counted k v a (suc n) lt =
-    let other : (k == a) ≡ false = elim (k == a) as (λ b. (k == a) ≡ b → b ≡ false) [ true ↦ λ e. let same = eqb-true k a e in absurd (omega (arith, same)) | false ↦ λ e. refl ] refl in
+    let other : (k == a) ≡ false =
+    elim (k == a) as (λ b. (k == a) ≡ b → b ≡ false) [ true ↦ λ e. let same = eqb-true k a e in absurd (omega (arith, same)) | false ↦ λ e. refl ] refl in
     (λ i. (if other i then v else pos 0) +ℤ none_counted k v (a + 1) n (omega arith) i)
 
 one_counted : (k : ℕ) (v : ℤ) (a n : ℕ) → a ≤ k → k < a + n → total (λ t. if k == t then v else pos 0) (range_with_len a n) ≡ v
@@ -53,7 +55,8 @@ one_counted k v a (suc n) from below =
 abbrev IsPlaced : List ℕ → Request → Type 0
 IsPlaced ts r = (v : ℤ) → total (λ t. if is_of t r then v else pos 0) ts ≡ v
 
-split_moved : (accounts : List (List ℕ × ℕ)) (ts : List ℕ) (h : History) (T : Tables) → All (IsPlaced ts) h → moved accounts is_any h T ≡ total (λ t. moved accounts (is_of t) h T) ts
+split_moved : (accounts : List (List ℕ × ℕ)) (ts : List ℕ) (h : History) (T : Tables) → All (IsPlaced ts) h
+    → moved accounts is_any h T ≡ total (λ t. moved accounts (is_of t) h T) ts
 split_moved accounts ts [] T placed = sym (total_nothing ts)
 split_moved accounts ts (r ∷ h) T placed =
     let v : ℤ = moved_by_request accounts r.op (next r.thread r.op T).1 T in
@@ -107,7 +110,8 @@ module _ (p : Plan) (s : Settling) (settled : IsSettled s) (of_plan : IsOfPlan p
       let (plan, planned) = got p.managers.items (m - 1) (omega (arith, positive, below)) in
       let number : m - 1 + 1 ≡ m = omega (arith, positive) in
       let begins : slice_get (map (λ (q : ManagerPlan). opening q.accounts.items) p.managers.items) (m - 1) ≡ Some (opening plan.accounts.items) =
-      slice_get-map (λ (q : ManagerPlan). opening q.accounts.items) p.managers.items (m - 1) ∙ ap (option_map (λ (q : ManagerPlan). opening q.accounts.items)) planned in
+      slice_get-map (λ (q : ManagerPlan). opening q.accounts.items) p.managers.items (m - 1)
+      ∙ ap (option_map (λ (q : ManagerPlan). opening q.accounts.items)) planned in
       ap (first_of s) (sym number) ∙ of_plan.opened (m - 1) (opening plan.accounts.items) begins ∙ ap (λ o. Some (opening (accounts_in o))) (sym planned)
 
   pub opened_with : (m : ℕ) → 1 ≤ m → m ≤ length p.managers.items → IsOpenedWith s m (opening (accounts_of p m))
@@ -118,7 +122,8 @@ module _ (p : Plan) (s : Settling) (settled : IsSettled s) (of_plan : IsOfPlan p
     sound_at : (m : ℕ) → 1 ≤ m → m ≤ length p.managers.items → are_accounts (accounts_of p m) ≡ true
     sound_at m positive below =
         let (plan, planned) = got p.managers.items (m - 1) (omega (arith, positive, below)) in
-        ap (λ o. are_accounts (accounts_in o)) planned ∙ all_contains IsSoundManager p.managers.items plan sound (contains_at p.managers.items (m - 1) plan planned)
+        ap (λ o. are_accounts (accounts_in o)) planned
+        ∙ all_contains IsSoundManager p.managers.items plan sound (contains_at p.managers.items (m - 1) plan planned)
 
     at_manager : (m : ℕ) → 1 ≤ m → m < 1 + length p.managers.items
         → total (λ d. unwrap_or (value s m d.0) (pos 0)) (accounts_of p m) ≡ worth_declared (accounts_of p m) +ℤ total (λ t. moved_at p s t m) (threads_of p)

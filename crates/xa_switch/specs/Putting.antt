@@ -10,10 +10,18 @@ use Rattle.xa_desk.specs.declared.refused.Refused.{Refused}
 use Rattle.xa_desk.specs.declared.refused.Refused.TheVariants.{NoSuchManager, Shut, TooMany, Spent, Full}
 use Rattle.xa_desk.specs.DeskView.{DeskView, ledger, next_operation, IsLeastFree, reach_refusal, submit_refusal}
 use Rattle.xa_desk.specs.DeskView.{call_refusal}
+use Rattle.xa_desk.specs.GoesOn.{GoesOn}
 use Rattle.xa_desk.specs.Lanes.{submitted, after_full, after_fulls}
 use Rattle.xa_desk.specs.Looks.{Collects}
+use Rattle.xa_desk.specs.Tickets.{LeavesTickets}
 use Rattle.xa_desk.specs.Waits.{SendsAndWaits}
 use Rattle.xa_switch.specs.declared.calls.asked.Asked.{Asked}
+
+-- What a call leaves: its desk has gone on with the tickets that are out, and what was lent has idled on, or stays.
+pub record CallLeaves {I : Type 0} (leads : I → I → Type 0) (old new : DeskView) (before after : I) : Type 0 where
+  pub goes_on : GoesOn old new
+  pub tickets : LeavesTickets old new
+  pub idled : leads before after
 
 -- the code that a refusal of a desk is answered as
 abbrev pub code_of : Refused → Code

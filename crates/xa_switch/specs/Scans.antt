@@ -190,18 +190,18 @@ asks d z m (Ok mode) = asks_at d z m mode
 -- ---- how a scan waits
 
 module _ {I : Type 0} where
-  -- Over a desk with what was lent to idle with: manager m was asked, and waited for as the desk waits for it, which is
-  -- to idle at m alone; or it wasn't asked, and nothing idled.
-  pub data AsksAndWaits (by : I → I → Type 0) (m : ℕ) (old : DeskView × I) (op : Op) (new : DeskView × I)
+  -- What it is to ask manager m over a desk with what was lent to idle with: the manager answers, and was waited for as
+  -- the desk waits for it, which is to idle at m alone; or it isn't asked, and nothing idles.
+  pub record AsksAndWaits (by : ℕ → I → I → Type 0) (m : ℕ) (old : DeskView × I) (op : Op) (new : DeskView × I)
       (code : Code) : Type 0 where
-    unasked : put_refusal old.0 m false ≡ Some code → new ≡ old → AsksAndWaits by m old op new code
-    waited : put_refusal old.0 m false ≡ None → SendsAndWaits by old.0 new.0 old.1 new.1 m op code
-        → AsksAndWaits by m old op new code
+    pub answers : Answers m old.0 op new.0 code
+    pub waits : put_refusal old.0 m false ≡ None → SendsAndWaits (by m) old.0 new.0 old.1 new.1 m op code
+    pub stays : put_refusal old.0 m false ≡ Some code → new.1 ≡ old.1
 
   -- xa_recover with these flags, each request of which was so waited for
   pub record RecoversAndWaits (by : ℕ → I → I → Type 0) (m flags : ℕ) (old : DeskView × I) (z : ScanView)
       (xids : List XidName) (new : DeskView × I) (z' : ScanView) (xids' : List XidName) (answer : ℤ) : Type 0 where
     pub result : Result ℕ Code
-    pub recovers : RecoversBy (AsksAndWaits (by m) m) (is_known old.0.ledgers m) (check_flags call.Recover flags) m old
+    pub recovers : RecoversBy (AsksAndWaits by m) (is_known old.0.ledgers m) (check_flags call.Recover flags) m old
         z xids new z' xids' result
     pub answered : answer ≡ told_as result

@@ -7,7 +7,7 @@ ghost use Rattle.xa_desk.specs.Kept.{AllKept};
 ghost use Rattle.xa_desk.specs.Lanes.{submitted, after_full};
 ghost use Rattle.xa_desk.specs.Tickets.{LeavesTickets};
 ghost use Rattle.xa_switch.specs.Asking.{asked_of, native};
-ghost use Rattle.xa_switch.specs.Putting.{code_of, put_refusal, Puts, Calls, CallsAndWaits, call_waits};
+ghost use Rattle.xa_switch.specs.Putting.{code_of, put_refusal, Puts, Calls, CallLeaves, CallsAndWaits, call_waits};
 
 mod asked;
 pub(crate) mod completing;
@@ -54,7 +54,7 @@ fn put_later<R: Wait>(rt: &R, desk: &mut Desk, manager: u32, op: Op) -> Result<u
     if !desk.carries_async(manager) {
         return Err(Code::Async);
     }
-    match desk.submit(rt, manager, op) {
+    match desk.submit_reached(rt, manager, op) {
         Ok(ticket) => Ok(desk.keep(ticket)),
         Err(why) => Err(code_of(why)),
     }
@@ -63,9 +63,7 @@ fn put_later<R: Wait>(rt: &R, desk: &mut Desk, manager: u32, op: Op) -> Result<u
 // Puts what is asked for to a manager, and answers the handle, or the code of a synchronous request.
 fn put<R: Wait, I: Idle>(rt: &R, desk: &mut Desk, manager: u32, asked: Asked, idle: &mut I) -> i32
     ensures puts { Puts desk.old manager asked desk.new result }
-    ensures goes_on { GoesOn desk.old desk.new }
-    ensures tickets { LeavesTickets desk.old desk.new }
-    ensures idled { I.leads idle.old idle.new }
+    ensures leaves { CallLeaves I.leads desk.old desk.new idle.old idle.new }
     ensures prompt { call_waits desk.old manager (Ok asked) ≡ false → idle.new ≡ idle.old }
     ensures waited { CallsAndWaits I.leads_by (Ok asked) desk.old manager desk.new idle.old idle.new result }
 {
@@ -91,9 +89,7 @@ fn put_asked<R: Wait, I: Idle>(
     idle: &mut I,
 ) -> i32
     ensures calls { Calls asked desk.old manager desk.new result }
-    ensures goes_on { GoesOn desk.old desk.new }
-    ensures tickets { LeavesTickets desk.old desk.new }
-    ensures idled { I.leads idle.old idle.new }
+    ensures leaves { CallLeaves I.leads desk.old desk.new idle.old idle.new }
     ensures prompt { call_waits desk.old manager asked ≡ false → idle.new ≡ idle.old }
     ensures waited { CallsAndWaits I.leads_by asked desk.old manager desk.new idle.old idle.new result }
 {

@@ -1,5 +1,6 @@
 -- The maps that the accounts make.
-use Rattle.std.specs.Prelude.{◌≡◌, ◌≢◌, ℕ, ℤ, pos, ◌+ℤ◌, ◌≤ℤ◌, All, nat_eq, zero, suc, ◌+◌, ◌<◌, Bool, true, false, cond, not, ◌&&◌, ◌||◌, if◌then◌else◌, List, [], ◌∷◌, ◌++◌, take, drop, length, map, Option, None, Some, is_some, unwrap_or, option_map, refl}
+use Rattle.std.specs.Prelude.{◌≡◌, ◌≢◌, ℕ, ℤ, pos, ◌+ℤ◌, ◌≤ℤ◌, All, nat_eq, zero, suc, ◌+◌, ◌<◌, Bool, true, false, cond, not, ◌&&◌, ◌||◌, if◌then◌else◌, List}
+use Rattle.std.specs.Prelude.{[], ◌∷◌, ◌++◌, take, drop, length, map, Option, None, Some, is_some, unwrap_or, option_map, refl}
 use Rattle.std.proofs.Common.{sym, ap, ◌∙◌, subst, arith, get_or}
 use Rattle.std.proofs.Math.ListN.{set}
 use Rattle.std.specs.List.{list_any}
@@ -27,10 +28,11 @@ use Rattle.xa_words.specs.Key.{key_eq}
 use Rattle.xa_words.specs.Orders.{key_cmp, key_cmp_total, key_cmp-IsAntisymmetric, xid_cmp_total, xid_cmp-IsAntisymmetric, Decides-xid_eq, Decides-key_eq}
 use Rattle.xa_tables.specs.declared.accounts.Account.{Account}
 use Rattle.xa_tables.specs.declared.accounts.Hold.{Hold}
-use Rattle.xa_tables.specs.declared.state.State.{State}
-use Rattle.xa_tables.specs.Tables.{Touch, touch_cmp, is_within, is_S3, value_of, sum_of, has_touched, has_other_touched, is_broken, posted}
-use Rattle.xa_tables.specs.Accounts.{IsSmall, IsGood, with_hold, hold_entries, value_entries, AreDistinct, AreDistinctEntries, hold_is_of, is_held_by, hold_is_other, hold_breaks, is_broken_by, amount_in, added_to, hold_where, hold_without, amount_of, posted_by, forgotten_by, retained_in}
-use Rattle.xa_tables.proofs.MapLemmas.{put_one, retain_some, map_some, any_entries, Distinct}
+use Rattle.xa_tables.specs.Tables.{Touch, touch_cmp, is_within, value_of, sum_of, has_touched, has_other_touched, is_broken, posted}
+use Rattle.xa_tables.specs.Accounts.{IsSmall, IsGood, with_hold, hold_entries, value_entries, AreDistinct, AreDistinctEntries, hold_is_of, is_held_by}
+use Rattle.xa_tables.specs.Accounts.{hold_is_other, hold_breaks, is_broken_by, amount_in, added_to, hold_where, hold_without, kept_where, all_but, amount_of}
+use Rattle.xa_tables.specs.Accounts.{posted_by}
+use Rattle.xa_base.proofs.FinMaps.{put_one, retain_some, map_some, any_entries, Distinct}
 
 -- touches are ordered, and no two are tied
 pub touch_cmp_total : IsTotalOrder touch_cmp
@@ -104,7 +106,8 @@ distinct_holds (a ∷ rest) h =
     ]
 
 -- tests of the holds, account by account
-any_hold : (p : Touch → ℤ → Bool) (q : Account → Bool) → ((a : Account) → q a ≡ elim (a.hold) [ None ↦ false | Some l ↦ p (l.xid, a.key) l.amount ]) → (accounts : List Account)
+any_hold : (p : Touch → ℤ → Bool) (q : Account → Bool) → ((a : Account) → q a ≡ elim (a.hold) [ None ↦ false | Some l ↦ p (l.xid, a.key) l.amount ])
+    → (accounts : List Account)
     → list_any (λ (e : Touch × ℤ). p e.0 e.1) (hold_entries accounts) ≡ list_any q accounts
 any_hold p q is [] = refl
 any_hold p q is (a ∷ rest) =
@@ -117,7 +120,8 @@ hold_of_cases : (x : XidName) (a : Account) → is_held_by a x ≡ elim (a.hold)
 hold_of_cases x a = elim (a.hold) as (λ o. hold_is_of o x ≡ elim o [ None ↦ false | Some l ↦ xid_eq l.xid x ]) [ None ↦ refl | Some l ↦ refl ]
 
 -- x has touched a key if it holds an account
-pub touched_any : (accounts : List Account) (x : XidName) → AreDistinct accounts → has_touched (from_entries (hold_entries accounts)) x ≡ list_any (λ a. is_held_by a x) accounts
+pub touched_any : (accounts : List Account) (x : XidName) → AreDistinct accounts
+    → has_touched (from_entries (hold_entries accounts)) x ≡ list_any (λ a. is_held_by a x) accounts
 touched_any accounts x h =
     any_entries touch_cmp_total touch_cmp-IsAntisymmetric (λ p s. xid_eq p.0 x) (hold_entries accounts) (distinct_holds accounts h)
     ∙ any_hold (λ p s. xid_eq p.0 x) (λ a. is_held_by a x) (hold_of_cases x) accounts
@@ -127,10 +131,12 @@ abbrev pub is_other : Account → XidName → List ℕ → Bool
 is_other a x k = key_eq a.key k && hold_is_other a.hold x
 
 other_cases : (x : XidName) (k : List ℕ) (a : Account) → is_other a x k ≡ elim (a.hold) [ None ↦ false | Some l ↦ key_eq a.key k && not (xid_eq l.xid x) ]
-other_cases x k a = elim (a.hold) as (λ o. (key_eq a.key k && hold_is_other o x) ≡ elim o [ None ↦ false | Some l ↦ key_eq a.key k && not (xid_eq l.xid x) ]) [ None ↦ and-false (key_eq a.key k) | Some l ↦ refl ]
+other_cases x k a =
+    elim (a.hold) as (λ o. (key_eq a.key k && hold_is_other o x) ≡ elim o [ None ↦ false | Some l ↦ key_eq a.key k && not (xid_eq l.xid x) ]) [ None ↦ and-false (key_eq a.key k) | Some l ↦ refl ]
 
 -- another branch has touched k if it holds k's account
-pub other_any : (accounts : List Account) (x : XidName) (k : List ℕ) → AreDistinct accounts → has_other_touched (from_entries (hold_entries accounts)) x k ≡ list_any (λ a. is_other a x k) accounts
+pub other_any : (accounts : List Account) (x : XidName) (k : List ℕ) → AreDistinct accounts
+    → has_other_touched (from_entries (hold_entries accounts)) x k ≡ list_any (λ a. is_other a x k) accounts
 other_any accounts x k h =
     any_entries touch_cmp_total touch_cmp-IsAntisymmetric (λ p s. key_eq p.1 k && not (xid_eq p.0 x)) (hold_entries accounts) (distinct_holds accounts h)
     ∙ any_hold (λ p s. key_eq p.1 k && not (xid_eq p.0 x)) (λ a. is_other a x k) (other_cases x k) accounts
@@ -151,7 +157,8 @@ values_all [] h = tt
 values_all (a ∷ rest) h =
     (ap (λ b. cond b (Some a.value) (find key_cmp a.key (value_entries rest))) (key_self a.key), values_more (a.key, a.value) (value_entries rest) rest h.0 (values_all rest h.1))
 
-broken_each : (values : FinMap key_cmp ℤ) (x : XidName) (es : List (List ℕ × ℤ)) → ((k : List ℕ) → finmap.get values k ≡ find key_cmp k es) → (accounts : List Account) → Values es accounts
+broken_each : (values : FinMap key_cmp ℤ) (x : XidName) (es : List (List ℕ × ℤ)) → ((k : List ℕ) → finmap.get values k ≡ find key_cmp k es)
+    → (accounts : List Account) → Values es accounts
     → list_any (λ (e : Touch × ℤ). xid_eq e.0.0 x && not (is_within (value_of values e.0.1 +ℤ e.1))) (hold_entries accounts) ≡ list_any (λ a. is_broken_by a x) accounts
 broken_each values x es gets [] v = refl
 broken_each values x es gets (a ∷ rest) v =
@@ -163,7 +170,8 @@ broken_each values x es gets (a ∷ rest) v =
     ]
 
 -- x takes a value out of the limits if it does so at an account
-pub broken_any : (accounts : List Account) (x : XidName) → AreDistinct accounts → is_broken (from_entries (value_entries accounts)) (from_entries (hold_entries accounts)) x ≡ list_any (λ a. is_broken_by a x) accounts
+pub broken_any : (accounts : List Account) (x : XidName) → AreDistinct accounts
+    → is_broken (from_entries (value_entries accounts)) (from_entries (hold_entries accounts)) x ≡ list_any (λ a. is_broken_by a x) accounts
 broken_any accounts x h =
     let values : FinMap key_cmp ℤ = from_entries (value_entries accounts) in
     any_entries touch_cmp_total touch_cmp-IsAntisymmetric (λ p s. xid_eq p.0 x && not (is_within (value_of values p.1 +ℤ s))) (hold_entries accounts) (distinct_holds accounts h)
@@ -176,20 +184,14 @@ pub record LetsGo (keep : XidName → Bool) (f : Account → Account) : Type 0 w
   pub key : (a : Account) → (f a).key ≡ a.key
   pub hold : (a : Account) → (f a).hold ≡ hold_where keep a.hold
 
--- all branches but x
-abbrev pub all_but : XidName → XidName → Bool
-all_but x y = not (xid_eq y x)
-
 pub posted_goes : (x : XidName) → LetsGo (all_but x) (posted_by x)
 posted_goes x = record { key = λ a. refl; hold = λ a. refl }
 
-pub forgotten_goes : (x : XidName) → LetsGo (all_but x) (forgotten_by x)
-forgotten_goes x = record { key = λ a. refl; hold = λ a. refl }
+pub kept_goes : (keep : XidName → Bool) → LetsGo keep (kept_where keep)
+kept_goes keep = record { key = λ a. refl; hold = λ a. refl }
 
-pub retained_goes : (states : FinMap xid_cmp State) → LetsGo (λ x. is_S3 (finmap.get states x)) (retained_in states)
-retained_goes states = record { key = λ a. refl; hold = λ a. refl }
-
-kept_hold : (keep : XidName → Bool) (p : Touch) (k : List ℕ) (l : Hold) (fs es : List (Touch × ℤ)) → find touch_cmp p fs ≡ cond (keep p.0) (find touch_cmp p es) None
+kept_hold : (keep : XidName → Bool) (p : Touch) (k : List ℕ) (l : Hold) (fs es : List (Touch × ℤ))
+    → find touch_cmp p fs ≡ cond (keep p.0) (find touch_cmp p es) None
     → find touch_cmp p (with_hold k (if keep l.xid then Some l else None) fs) ≡ cond (keep p.0) (cond (same_touch p (l.xid, k)) (Some l.amount) (find touch_cmp p es)) None
 kept_hold keep p k l fs es later =
     elim (same_touch p (l.xid, k)) as (λ t. same_touch p (l.xid, k) ≡ t → find touch_cmp p (with_hold k (if keep l.xid then Some l else None) fs) ≡ cond (keep p.0) (cond t (Some l.amount) (find touch_cmp p es)) None) [
@@ -216,16 +218,10 @@ kept_holds keep f g (a ∷ rest) p =
       | Some l ↦ kept_hold keep p a.key l (hold_entries (map f rest)) (hold_entries rest) later
     ]
 
--- the values stay where f leaves each account's
-pub values_stay : (f : Account → Account) → ((a : Account) → (f a).key ≡ a.key) → ((a : Account) → (f a).value ≡ a.value) → (accounts : List Account) → value_entries (map f accounts) ≡ value_entries accounts
-values_stay f keys values [] = refl
-values_stay f keys values (a ∷ rest) = λ i. (keys a i, values a i) ∷ values_stay f keys values rest i
-
-pub values_forgotten : (x : XidName) (accounts : List Account) → value_entries (map (forgotten_by x) accounts) ≡ value_entries accounts
-values_forgotten x = values_stay (forgotten_by x) (λ a. refl) (λ a. refl)
-
-pub values_retained : (states : FinMap xid_cmp State) (accounts : List Account) → value_entries (map (retained_in states) accounts) ≡ value_entries accounts
-values_retained states = values_stay (retained_in states) (λ a. refl) (λ a. refl)
+-- the values stay
+pub values_kept : (keep : XidName → Bool) (accounts : List Account) → value_entries (map (kept_where keep) accounts) ≡ value_entries accounts
+values_kept keep [] = refl
+values_kept keep (a ∷ rest) = ap (λ es. (a.key, a.value) ∷ es) (values_kept keep rest)
 
 -- the sums are then those of the branches that are kept
 pub sums_go : (keep : XidName → Bool) (f : Account → Account) → LetsGo keep f → (accounts : List Account)
@@ -237,14 +233,16 @@ abbrev Amounts : XidName → List (Touch × ℤ) → List Account → Type 0
 Amounts x es [] = Unit {0}
 Amounts x es (a ∷ rest) = (unwrap_or (find touch_cmp (x, a.key) es) (pos 0) ≡ amount_of a.hold x) × Amounts x es rest
 
-amounts_more : (x : XidName) (k : List ℕ) (o : Option Hold) (es : List (Touch × ℤ)) (accounts : List Account) → Lacks k accounts → Amounts x es accounts → Amounts x (with_hold k o es) accounts
+amounts_more : (x : XidName) (k : List ℕ) (o : Option Hold) (es : List (Touch × ℤ)) (accounts : List Account) → Lacks k accounts → Amounts x es accounts
+    → Amounts x (with_hold k o es) accounts
 amounts_more x k None es accounts h v = v
 amounts_more x k (Some l) es [] h v = tt
 amounts_more x k (Some l) es (a ∷ rest) h v =
     let d = lacks_split k a rest h in
     (ap (λ b. unwrap_or (cond b (Some l.amount) (find touch_cmp (x, a.key) es)) (pos 0)) (touch_apart (x, a.key) (l.xid, k) (λ t. d.0 (sym t))) ∙ v.0, amounts_more x k (Some l) es rest d.1 v.1)
 
-amount_first : (x : XidName) (k : List ℕ) (o : Option Hold) (es : List (Touch × ℤ)) → find touch_cmp (x, k) es ≡ None → unwrap_or (find touch_cmp (x, k) (with_hold k o es)) (pos 0) ≡ amount_of o x
+amount_first : (x : XidName) (k : List ℕ) (o : Option Hold) (es : List (Touch × ℤ)) → find touch_cmp (x, k) es ≡ None
+    → unwrap_or (find touch_cmp (x, k) (with_hold k o es)) (pos 0) ≡ amount_of o x
 amount_first x k None es none = ap (λ v. unwrap_or v (pos 0)) none
 amount_first x k (Some l) es none =
     elim (xid_eq l.xid x) as (λ b. xid_eq l.xid x ≡ b → unwrap_or (cond (same_touch (x, k) (l.xid, k)) (Some l.amount) (find touch_cmp (x, k) es)) (pos 0) ≡ cond b l.amount (pos 0)) [
@@ -252,15 +250,19 @@ amount_first x k (Some l) es none =
           let same : l.xid ≡ x = (Decides-xid_eq l.xid x).0 t in
           ap (λ b. unwrap_or (cond b (Some l.amount) (find touch_cmp (x, k) es)) (pos 0)) (ap (λ z. same_touch (x, k) (z, k)) same ∙ touch_self (x, k))
       | false ↦ λ t.
-          ap (λ b. unwrap_or (cond b (Some l.amount) (find touch_cmp (x, k) es)) (pos 0)) (false_from_ne_true _ (λ y. let z = (Decides-xid_eq l.xid x).1 (sym (ap (λ (r : Touch). r.0) (touch_from (x, k) (l.xid, k) y))) in cc)) ∙ ap (λ v. unwrap_or v (pos 0)) none
+          ap (λ b. unwrap_or (cond b (Some l.amount) (find touch_cmp (x, k) es)) (pos 0)) (false_from_ne_true _ (λ y. let z = (Decides-xid_eq l.xid x).1 (sym (ap (λ (r : Touch). r.0) (touch_from (x, k) (l.xid, k) y))) in cc))
+          ∙ ap (λ v. unwrap_or v (pos 0)) none
     ] refl
 
 amounts_all : (x : XidName) (accounts : List Account) → AreDistinct accounts → Amounts x (hold_entries accounts) accounts
 amounts_all x [] h = tt
-amounts_all x (a ∷ rest) h = (amount_first x a.key a.hold (hold_entries rest) (lacks_hold x a.key rest h.0), amounts_more x a.key a.hold (hold_entries rest) rest h.0 (amounts_all x rest h.1))
+amounts_all x (a ∷ rest) h =
+    (amount_first x a.key a.hold (hold_entries rest) (lacks_hold x a.key rest h.0), amounts_more x a.key a.hold (hold_entries rest) rest h.0 (amounts_all x rest h.1))
 
-settled_finds : (x : XidName) (sums : FinMap touch_cmp ℤ) (es : List (Touch × ℤ)) → ((p : Touch) → finmap.get sums p ≡ find touch_cmp p es) → (accounts : List Account) → Amounts x es accounts
-    → (q : List ℕ) → find key_cmp q (value_entries (map (posted_by x) accounts)) ≡ option_map (λ v. v +ℤ sum_of sums x q) (find key_cmp q (value_entries accounts))
+settled_finds : (x : XidName) (sums : FinMap touch_cmp ℤ) (es : List (Touch × ℤ)) → ((p : Touch) → finmap.get sums p ≡ find touch_cmp p es)
+    → (accounts : List Account) → Amounts x es accounts
+    → (q : List ℕ)
+    → find key_cmp q (value_entries (map (posted_by x) accounts)) ≡ option_map (λ v. v +ℤ sum_of sums x q) (find key_cmp q (value_entries accounts))
 settled_finds x sums es gets [] v q = refl
 settled_finds x sums es gets (a ∷ rest) v q =
     elim (same_key q a.key) as (λ b. same_key q a.key ≡ b → cond b (Some (a.value +ℤ amount_of a.hold x)) (find key_cmp q (value_entries (map (posted_by x) rest))) ≡ option_map (λ v. v +ℤ sum_of sums x q) (cond b (Some a.value) (find key_cmp q (value_entries rest)))) [
@@ -275,29 +277,28 @@ values_posted x accounts h =
     let sums : FinMap touch_cmp ℤ = from_entries (hold_entries accounts) in
     map_some key_cmp_total key_cmp-IsAntisymmetric (λ k v. v +ℤ sum_of sums x k) _ _ (settled_finds x sums (hold_entries accounts) (λ p. get-from_entries touch_cmp_total (hold_entries accounts) p) accounts (amounts_all x accounts h))
 
-lacks_posted : (x : XidName) (k : List ℕ) (accounts : List Account) → Lacks k accounts → Lacks k (map (posted_by x) accounts)
-lacks_posted x k [] h = refl
-lacks_posted x k (a ∷ rest) h =
+lacks_changed : (f : Account → Account) → ((a : Account) → (f a).key ≡ a.key) → (k : List ℕ) (accounts : List Account) → Lacks k accounts
+    → Lacks k (map f accounts)
+lacks_changed f keys k [] h = refl
+lacks_changed f keys k (a ∷ rest) h =
     let d = lacks_split k a rest h in
-    ap (λ b. cond b (Some (a.value +ℤ amount_of a.hold x)) (find key_cmp k (value_entries (map (posted_by x) rest)))) (key_apart k a.key d.0) ∙ lacks_posted x k rest d.1
+    ap (λ b. cond b (Some (f a).value) (find key_cmp k (value_entries (map f rest)))) (key_apart k (f a).key (λ e. d.0 (e ∙ keys a)))
+    ∙ lacks_changed f keys k rest d.1
 
--- the keys stay
-pub distinct_posted : (x : XidName) (accounts : List Account) → AreDistinct accounts → AreDistinct (map (posted_by x) accounts)
-distinct_posted x [] h = tt
-distinct_posted x (a ∷ rest) h = (lacks_posted x a.key rest h.0, distinct_posted x rest h.1)
-
-pub distinct_forgotten : (x : XidName) (accounts : List Account) → AreDistinct accounts → AreDistinct (map (forgotten_by x) accounts)
-distinct_forgotten x accounts h = subst AreDistinctEntries (sym (values_forgotten x accounts)) h
-
-pub distinct_retained : (states : FinMap xid_cmp State) (accounts : List Account) → AreDistinct accounts → AreDistinct (map (retained_in states) accounts)
-distinct_retained states accounts h = subst AreDistinctEntries (sym (values_retained states accounts)) h
+-- the keys stay apart
+pub distinct_changed : (f : Account → Account) → ((a : Account) → (f a).key ≡ a.key) → (accounts : List Account) → AreDistinct accounts
+    → AreDistinct (map f accounts)
+distinct_changed f keys [] h = tt
+distinct_changed f keys (a ∷ rest) h =
+    (subst (λ (k : List ℕ). Lacks k (map f rest)) (sym (keys a)) (lacks_changed f keys a.key rest h.0), distinct_changed f keys rest h.1)
 
 -- another branch is broken as it was
-each_as_was : (p : Account → Bool) (f : Account → Account) → ((a : Account) → p (f a) ≡ p a) → (accounts : List Account) → list_any p (map f accounts) ≡ list_any p accounts
+each_as_was : (p : Account → Bool) (f : Account → Account) → ((a : Account) → p (f a) ≡ p a) → (accounts : List Account)
+    → list_any p (map f accounts) ≡ list_any p accounts
 each_as_was p f is [] = refl
 each_as_was p f is (a ∷ rest) = λ i. is a i || each_as_was p f is rest i
 
-forgotten_breaks : (x y : XidName) → y ≢ x → (v : ℤ) (o : Option Hold) → hold_breaks v (hold_without o x) y ≡ hold_breaks v o y
+pub forgotten_breaks : (x y : XidName) → y ≢ x → (v : ℤ) (o : Option Hold) → hold_breaks v (hold_without o x) y ≡ hold_breaks v o y
 forgotten_breaks x y apart v None = refl
 forgotten_breaks x y apart v (Some l) =
     elim (xid_eq l.xid x) as (λ b. xid_eq l.xid x ≡ b → hold_breaks v (if not b then Some l else None) y ≡ (xid_eq l.xid y && not (is_within (v +ℤ l.amount)))) [
@@ -305,7 +306,7 @@ forgotten_breaks x y apart v (Some l) =
       | false ↦ λ t. refl
     ] refl
 
-settled_breaks : (x y : XidName) → y ≢ x → (v : ℤ) (o : Option Hold) → hold_breaks (v +ℤ amount_of o x) (hold_without o x) y ≡ hold_breaks v o y
+pub settled_breaks : (x y : XidName) → y ≢ x → (v : ℤ) (o : Option Hold) → hold_breaks (v +ℤ amount_of o x) (hold_without o x) y ≡ hold_breaks v o y
 settled_breaks x y apart v None = refl
 settled_breaks x y apart v (Some l) =
     elim (xid_eq l.xid x) as (λ b. xid_eq l.xid x ≡ b → hold_breaks (v +ℤ (if b then l.amount else pos 0)) (if not b then Some l else None) y ≡ (xid_eq l.xid y && not (is_within (v +ℤ l.amount)))) [
@@ -313,18 +314,13 @@ settled_breaks x y apart v (Some l) =
       | false ↦ λ t. ap (λ w. xid_eq l.xid y && not (is_within (w +ℤ l.amount))) (plus_none v)
     ] refl
 
--- and so once x is rolled back
-pub others_forgotten : (x : XidName) (accounts : List Account) → AreDistinct accounts → (y : XidName) → y ≢ x
-    → is_broken (from_entries (value_entries (map (forgotten_by x) accounts))) (from_entries (hold_entries (map (forgotten_by x) accounts))) y ≡ is_broken (from_entries (value_entries accounts)) (from_entries (hold_entries accounts)) y
-others_forgotten x accounts h y apart =
-    broken_any (map (forgotten_by x) accounts) y (distinct_forgotten x accounts h)
-    ∙ each_as_was (λ a. is_broken_by a y) (forgotten_by x) (λ a. forgotten_breaks x y apart a.value a.hold) accounts ∙ sym (broken_any accounts y h)
-
-pub others_posted : (x : XidName) (accounts : List Account) → AreDistinct accounts → (y : XidName) → y ≢ x
-    → is_broken (from_entries (value_entries (map (posted_by x) accounts))) (from_entries (hold_entries (map (posted_by x) accounts))) y ≡ is_broken (from_entries (value_entries accounts)) (from_entries (hold_entries accounts)) y
-others_posted x accounts h y apart =
-    broken_any (map (posted_by x) accounts) y (distinct_posted x accounts h)
-    ∙ each_as_was (λ a. is_broken_by a y) (posted_by x) (λ a. settled_breaks x y apart a.value a.hold) accounts ∙ sym (broken_any accounts y h)
+-- and so once each account was changed by f, which leaves the keys
+pub others_as_were : (f : Account → Account) → ((a : Account) → (f a).key ≡ a.key) → (accounts : List Account) (y : XidName) → AreDistinct accounts
+    → ((a : Account) → is_broken_by (f a) y ≡ is_broken_by a y)
+    → is_broken (from_entries (value_entries (map f accounts))) (from_entries (hold_entries (map f accounts))) y
+    ≡ is_broken (from_entries (value_entries accounts)) (from_entries (hold_entries accounts)) y
+others_as_were f keys accounts y h same =
+    broken_any (map f accounts) y (distinct_changed f keys accounts h) ∙ each_as_was (λ a. is_broken_by a y) f same accounts ∙ sym (broken_any accounts y h)
 
 -- what is written over the whole of a list
 over_whole : (n : ℕ) (xs ys : List Account) → length xs ≡ length ys → length ys ≡ n → take n (xs ++ drop (length xs) ys) ≡ xs
@@ -332,21 +328,25 @@ over_whole n xs ys e h =
     ap (λ zs. take n (xs ++ zs)) (drop_all (length xs) ys (omega arith)) ∙ ap (take n) (append-nil xs) ∙ take_all n xs (omega arith)
 
 -- the accounts, each of them changed by f through one slice
-pub written_whole : (f : Account → Account) (n : ℕ) (slice items after : List Account) → after ≡ map f slice → slice ≡ items → length slice ≡ n → take n (after ++ drop (length after) items) ≡ map f items
+pub written_whole : (f : Account → Account) (n : ℕ) (slice items after : List Account) → after ≡ map f slice → slice ≡ items → length slice ≡ n
+    → take n (after ++ drop (length after) items) ≡ map f items
 written_whole f n slice items after done is long =
     let written : after ≡ map f items = done ∙ ap (map f) is in
     over_whole n after items (ap length written ∙ length-map items f) (sym (ap length is) ∙ long) ∙ written
 
 -- ---- an addition
 
-place_has : (accounts : List Account) (i : ℕ) (a : Account) → i < length accounts → a ≡ get_or accounts i a → is_some (find key_cmp a.key (value_entries accounts)) ≡ true
+place_has : (accounts : List Account) (i : ℕ) (a : Account) → i < length accounts → a ≡ get_or accounts i a
+    → is_some (find key_cmp a.key (value_entries accounts)) ≡ true
 place_has [] i a h e = absurd (omega arith)
-place_has (b ∷ rest) zero a h e = ap (λ t. is_some (cond t (Some b.value) (find key_cmp a.key (value_entries rest)))) (ap (λ z. same_key a.key z) (sym (ap (λ (w : Account). w.key) e)) ∙ key_self a.key)
+place_has (b ∷ rest) zero a h e =
+    ap (λ t. is_some (cond t (Some b.value) (find key_cmp a.key (value_entries rest)))) (ap (λ z. same_key a.key z) (sym (ap (λ (w : Account). w.key) e)) ∙ key_self a.key)
 place_has (b ∷ rest) (suc i) a h e =
     elim (same_key a.key b.key) as (λ t. is_some (cond t (Some b.value) (find key_cmp a.key (value_entries rest))) ≡ true) [ true ↦ refl | false ↦ place_has rest i a (omega arith) e ]
 
 -- an account that is replaced by one of the same key and value
-pub values_set : (accounts : List Account) (i : ℕ) (a b : Account) → i < length accounts → a ≡ get_or accounts i a → b.key ≡ a.key → b.value ≡ a.value → value_entries (set accounts i b) ≡ value_entries accounts
+pub values_set : (accounts : List Account) (i : ℕ) (a b : Account) → i < length accounts → a ≡ get_or accounts i a → b.key ≡ a.key → b.value ≡ a.value
+    → value_entries (set accounts i b) ≡ value_entries accounts
 values_set [] i a b h e k v = refl
 values_set (c ∷ rest) zero a b h e k v = λ i. ((k ∙ ap (λ (w : Account). w.key) e) i, (v ∙ ap (λ (w : Account). w.value) e) i) ∷ value_entries rest
 values_set (c ∷ rest) (suc i) a b h e k v = ap (λ es. (c.key, c.value) ∷ es) (values_set rest i a b (omega arith) e k v)
@@ -371,11 +371,14 @@ other_swap p x y k l d e o apart =
       | false ↦ λ t. refl
     ] refl
 
-holds_set : (accounts : List Account) (i : ℕ) (a : Account) (x : XidName) (d : ℤ) → AreDistinct accounts → i < length accounts → a ≡ get_or accounts i a → IsFor x a.hold
-    → (p : Touch) → find touch_cmp p (hold_entries (set accounts i (record a { hold = Some (record { xid = x; amount = d }) }))) ≡ cond (same_touch p (x, a.key)) (Some d) (find touch_cmp p (hold_entries accounts))
+holds_set : (accounts : List Account) (i : ℕ) (a : Account) (x : XidName) (d : ℤ) → AreDistinct accounts → i < length accounts → a ≡ get_or accounts i a
+    → IsFor x a.hold
+    → (p : Touch)
+    → find touch_cmp p (hold_entries (set accounts i (record a { hold = Some (record { xid = x; amount = d }) }))) ≡ cond (same_touch p (x, a.key)) (Some d) (find touch_cmp p (hold_entries accounts))
 holds_set [] i a x d dist h e for p = absurd (omega arith)
 holds_set (c ∷ rest) zero a x d dist h e for p =
-    held_find x a.key d a.hold (hold_entries rest) p for ∙ ap (λ (w : Account). cond (same_touch p (x, a.key)) (Some d) (find touch_cmp p (with_hold w.key w.hold (hold_entries rest)))) e
+    held_find x a.key d a.hold (hold_entries rest) p for
+    ∙ ap (λ (w : Account). cond (same_touch p (x, a.key)) (Some d) (find touch_cmp p (with_hold w.key w.hold (hold_entries rest)))) e
 holds_set (c ∷ rest) (suc i) a x d dist h e for p =
     let later = holds_set rest i a x d dist.1 (omega arith) e for p in
     let there = place_has rest i a (omega arith) e in
@@ -385,7 +388,8 @@ holds_set (c ∷ rest) (suc i) a x d dist h e for p =
           ∙ other_swap p x l.xid a.key c.key d l.amount (find touch_cmp p (hold_entries rest)) (λ same. let z = ap (λ k. is_some (find key_cmp k (value_entries rest))) same in let n = ap is_some dist.0 in cc)
     ]
 
-amount_at : (x : XidName) (es : List (Touch × ℤ)) (accounts : List Account) (i : ℕ) (a : Account) → i < length accounts → a ≡ get_or accounts i a → Amounts x es accounts → unwrap_or (find touch_cmp (x, a.key) es) (pos 0) ≡ amount_of a.hold x
+amount_at : (x : XidName) (es : List (Touch × ℤ)) (accounts : List Account) (i : ℕ) (a : Account) → i < length accounts → a ≡ get_or accounts i a
+    → Amounts x es accounts → unwrap_or (find touch_cmp (x, a.key) es) (pos 0) ≡ amount_of a.hold x
 amount_at x es [] i a h e v = absurd (omega arith)
 amount_at x es (c ∷ rest) zero a h e v = subst (λ (w : Account). unwrap_or (find touch_cmp (x, w.key) es) (pos 0) ≡ amount_of w.hold x) (sym e) v.0
 amount_at x es (c ∷ rest) (suc i) a h e v = amount_at x es rest i a (omega arith) e v.1
@@ -395,11 +399,13 @@ amount_for x None h = refl
 amount_for x (Some l) h = ap (λ b. if b then l.amount else pos 0) ((Decides-xid_eq l.xid x).1 h)
 
 -- the sums once x has added d at one account
-pub sums_added : (accounts : List Account) (i : ℕ) (a : Account) (x : XidName) (d : ℤ) → AreDistinct accounts → i < length accounts → a ≡ get_or accounts i a → IsFor x a.hold
+pub sums_added : (accounts : List Account) (i : ℕ) (a : Account) (x : XidName) (d : ℤ) → AreDistinct accounts → i < length accounts → a ≡ get_or accounts i a
+    → IsFor x a.hold
     → from_entries {R = touch_cmp} (hold_entries (set accounts i (added_to a x d))) ≡ finmap.insert (from_entries (hold_entries accounts)) (x, a.key) (sum_of (from_entries (hold_entries accounts)) x a.key +ℤ d)
 sums_added accounts i a x d dist h e for =
     let amount : sum_of (from_entries (hold_entries accounts)) x a.key ≡ amount_in a.hold =
-    ap (λ o. unwrap_or o (pos 0)) (get-from_entries touch_cmp_total (hold_entries accounts) (x, a.key)) ∙ amount_at x (hold_entries accounts) accounts i a h e (amounts_all x accounts dist) ∙ amount_for x a.hold for in
+    ap (λ o. unwrap_or o (pos 0)) (get-from_entries touch_cmp_total (hold_entries accounts) (x, a.key))
+    ∙ amount_at x (hold_entries accounts) accounts i a h e (amounts_all x accounts dist) ∙ amount_for x a.hold for in
     put_one touch_cmp_total touch_cmp-IsAntisymmetric _ _ (x, a.key) (amount_in a.hold +ℤ d) (holds_set accounts i a x (amount_in a.hold +ℤ d) dist h e for)
     ∙ ap (λ s. finmap.insert (from_entries (hold_entries accounts)) (x, a.key) (s +ℤ d)) (sym amount)
 
@@ -408,18 +414,22 @@ for_hold : (x : XidName) (o : Option Hold) → hold_is_other o x ≡ false → I
 for_hold x None h = tt
 for_hold x (Some l) h = (Decides-xid_eq l.xid x).0 (not-false (xid_eq l.xid x) h)
 
-pub passes_none : (p : Account → Bool) (accounts : List Account) (i : ℕ) (a : Account) → i < length accounts → a ≡ get_or accounts i a → list_any p accounts ≡ false → p a ≡ false
+pub passes_none : (p : Account → Bool) (accounts : List Account) (i : ℕ) (a : Account) → i < length accounts → a ≡ get_or accounts i a
+    → list_any p accounts ≡ false → p a ≡ false
 passes_none p accounts i a h e none = false_from_ne_true (p a) (λ t. let some = list_any_at p accounts i a h (ap p (sym e) ∙ t) in cc)
 
 -- the account of a key that no other branch has touched
-pub for_place : (accounts : List Account) (i : ℕ) (a : Account) (x : XidName) (k : List ℕ) → AreDistinct accounts → i < length accounts → a ≡ get_or accounts i a → a.key ≡ k
+pub for_place : (accounts : List Account) (i : ℕ) (a : Account) (x : XidName) (k : List ℕ) → AreDistinct accounts → i < length accounts
+    → a ≡ get_or accounts i a → a.key ≡ k
     → has_other_touched (from_entries (hold_entries accounts)) x k ≡ false → IsFor x a.hold
 for_place accounts i a x k dist h e same alone =
-    let none : (key_eq a.key k && hold_is_other a.hold x) ≡ false = passes_none (λ b. is_other b x k) accounts i a h e (sym (other_any accounts x k dist) ∙ alone) in
+    let none : (key_eq a.key k && hold_is_other a.hold x) ≡ false =
+    passes_none (λ b. is_other b x k) accounts i a h e (sym (other_any accounts x k dist) ∙ alone) in
     let here : key_eq a.key k ≡ true = (Decides-key_eq a.key k).1 same in
     for_hold x a.hold (sym (ap (λ b. b && hold_is_other a.hold x) here) ∙ none)
 
-pub any_set : (p : Account → Bool) (accounts : List Account) (i : ℕ) (a b : Account) → i < length accounts → a ≡ get_or accounts i a → p b ≡ p a → list_any p (set accounts i b) ≡ list_any p accounts
+pub any_set : (p : Account → Bool) (accounts : List Account) (i : ℕ) (a b : Account) → i < length accounts → a ≡ get_or accounts i a → p b ≡ p a
+    → list_any p (set accounts i b) ≡ list_any p accounts
 any_set p [] i a b h e is = refl
 any_set p (c ∷ rest) zero a b h e is = ap (λ t. t || list_any p rest) (is ∙ ap p e)
 any_set p (c ∷ rest) (suc i) a b h e is = ap (λ t. p c || t) (any_set p rest i a b (omega arith) e is)
@@ -431,15 +441,18 @@ added_breaks x y v d (Some l) apart h =
     ∙ sym (ap (λ b. b && not (is_within (v +ℤ l.amount))) (false_from_ne_true (xid_eq l.xid y) (λ t. apart (sym ((Decides-xid_eq l.xid y).0 t) ∙ h))))
 
 -- the keys stay
-pub distinct_added : (accounts : List Account) (i : ℕ) (a : Account) (x : XidName) (d : ℤ) → AreDistinct accounts → i < length accounts → a ≡ get_or accounts i a → AreDistinct (set accounts i (added_to a x d))
+pub distinct_added : (accounts : List Account) (i : ℕ) (a : Account) (x : XidName) (d : ℤ) → AreDistinct accounts → i < length accounts
+    → a ≡ get_or accounts i a → AreDistinct (set accounts i (added_to a x d))
 distinct_added accounts i a x d dist h e = subst AreDistinctEntries (sym (values_set accounts i a (added_to a x d) h e refl refl)) dist
 
 -- another branch is broken as it was
-pub others_added : (accounts : List Account) (i : ℕ) (a : Account) (x : XidName) (d : ℤ) → AreDistinct accounts → i < length accounts → a ≡ get_or accounts i a → IsFor x a.hold → (y : XidName) → y ≢ x
+pub others_added : (accounts : List Account) (i : ℕ) (a : Account) (x : XidName) (d : ℤ) → AreDistinct accounts → i < length accounts → a ≡ get_or accounts i a
+    → IsFor x a.hold → (y : XidName) → y ≢ x
     → is_broken (from_entries (value_entries (set accounts i (added_to a x d)))) (from_entries (hold_entries (set accounts i (added_to a x d)))) y ≡ is_broken (from_entries (value_entries accounts)) (from_entries (hold_entries accounts)) y
 others_added accounts i a x d dist h e for y apart =
     broken_any (set accounts i (added_to a x d)) y (distinct_added accounts i a x d dist h e)
-    ∙ any_set (λ b. is_broken_by b y) accounts i a (added_to a x d) h e (added_breaks x y a.value (amount_in a.hold +ℤ d) a.hold apart for) ∙ sym (broken_any accounts y dist)
+    ∙ any_set (λ b. is_broken_by b y) accounts i a (added_to a x d) h e (added_breaks x y a.value (amount_in a.hold +ℤ d) a.hold apart for)
+    ∙ sym (broken_any accounts y dist)
 
 -- ---- the bounds
 
@@ -450,10 +463,8 @@ small_where : (n : ℕ) (keep : XidName → Bool) (o : Option Hold) → IsSmall 
 small_where n keep None s = tt
 small_where n keep (Some l) s = elim (keep l.xid) as (λ b. IsSmall n (if b then Some l else None)) [ true ↦ s | false ↦ tt ]
 
-good_forgotten : (n : ℕ) (x : XidName) (a : Account) → IsGood n a → IsGood n (forgotten_by x a)
-good_forgotten n x a g = (g.0, g.1, small_where n (all_but x) a.hold g.2)
-
-posted_value : (x : XidName) (v : ℤ) (o : Option Hold) → hold_breaks v o x ≡ false → (pos 0 ≤ℤ v) × (v ≤ℤ pos 1000000000000) → (pos 0 ≤ℤ (v +ℤ amount_of o x)) × ((v +ℤ amount_of o x) ≤ℤ pos 1000000000000)
+posted_value : (x : XidName) (v : ℤ) (o : Option Hold) → hold_breaks v o x ≡ false → (pos 0 ≤ℤ v) × (v ≤ℤ pos 1000000000000)
+    → (pos 0 ≤ℤ (v +ℤ amount_of o x)) × ((v +ℤ amount_of o x) ≤ℤ pos 1000000000000)
 posted_value x v None e g = subst (λ (w : ℤ). (pos 0 ≤ℤ w) × (w ≤ℤ pos 1000000000000)) (sym (plus_none v)) g
 posted_value x v (Some l) e g =
     elim (xid_eq l.xid x) as (λ b. (b && not (is_within (v +ℤ l.amount))) ≡ false → (pos 0 ≤ℤ (v +ℤ (if b then l.amount else pos 0))) × ((v +ℤ (if b then l.amount else pos 0)) ≤ℤ pos 1000000000000)) [
@@ -473,15 +484,18 @@ small_added n x d None h s = (omega (arith, ints), omega (arith, ints))
 small_added n x d (Some l) h s = (omega (arith, ints), omega (arith, ints))
 
 -- every account stays within its bounds
-pub all_forgotten : (n : ℕ) (x : XidName) (accounts : List Account) → All (IsGood n) accounts → All (IsGood n) (map (forgotten_by x) accounts)
-all_forgotten n x accounts g = All-map (IsGood n) (forgotten_by x) accounts (λ k d h. good_forgotten n x (get_or accounts k d) (g k d h))
+pub all_kept : (n : ℕ) (keep : XidName → Bool) (accounts : List Account) → All (IsGood n) accounts → All (IsGood n) (map (kept_where keep) accounts)
+all_kept n keep accounts g =
+    All-map (IsGood n) (kept_where keep) accounts (λ k d h. let good = g k d h in (good.0, good.1, small_where n keep (get_or accounts k d).hold good.2))
 
-pub all_posted : (n : ℕ) (x : XidName) (accounts : List Account) → All (IsGood n) accounts → list_any (λ a. is_broken_by a x) accounts ≡ false → All (IsGood n) (map (posted_by x) accounts)
+pub all_posted : (n : ℕ) (x : XidName) (accounts : List Account) → All (IsGood n) accounts → list_any (λ a. is_broken_by a x) accounts ≡ false
+    → All (IsGood n) (map (posted_by x) accounts)
 all_posted n x accounts g e =
     All-map (IsGood n) (posted_by x) accounts (λ k d h.
     good_posted n x (get_or accounts k d) (g k d h) (false_from_ne_true _ (λ t. let some = list_any_at (λ a. is_broken_by a x) accounts k d h t in cc)))
 
-pub all_added : (n i : ℕ) (a : Account) (x : XidName) (d : ℤ) (accounts : List Account) → IsDelta d → i < length accounts → a ≡ get_or accounts i a → All (IsGood n) accounts → All (IsGood (n + 1)) (set accounts i (added_to a x d))
+pub all_added : (n i : ℕ) (a : Account) (x : XidName) (d : ℤ) (accounts : List Account) → IsDelta d → i < length accounts → a ≡ get_or accounts i a
+    → All (IsGood n) accounts → All (IsGood (n + 1)) (set accounts i (added_to a x d))
 all_added n i a x d accounts delta h e g k b j =
     let here : IsGood n a = subst (IsGood n) (sym e) (g i a h) in
     let new : IsGood (n + 1) (added_to a x d) = (here.0, here.1, small_added n x d a.hold delta here.2) in
@@ -493,25 +507,27 @@ all_added n i a x d accounts delta h e g k b j =
     ] refl
 
 -- a prepared branch keeps the value within the limits, so its sum is that of one addition
-small_prepared : (keep : XidName → Bool) (v : ℤ) (o : Option Hold) → (pos 0 ≤ℤ v) × (v ≤ℤ pos 1000000000000) → ((x : XidName) → keep x ≡ true → hold_breaks v o x ≡ false) → IsSmall 1 (hold_where keep o)
+small_prepared : (keep : XidName → Bool) (v : ℤ) (o : Option Hold) → (pos 0 ≤ℤ v) × (v ≤ℤ pos 1000000000000)
+    → ((x : XidName) → keep x ≡ true → hold_breaks v o x ≡ false) → IsSmall 1 (hold_where keep o)
 small_prepared keep v None g unbroken = tt
 small_prepared keep v (Some l) g unbroken =
     elim (keep l.xid) as (λ b. keep l.xid ≡ b → IsSmall 1 (if b then Some l else None)) [
       | true ↦ λ t.
-          let fits : is_within (v +ℤ l.amount) ≡ true = not-false _ (ap (λ b. b && not (is_within (v +ℤ l.amount))) (sym ((Decides-xid_eq l.xid l.xid).1 refl)) ∙ unbroken l.xid t) in
+          let fits : is_within (v +ℤ l.amount) ≡ true =
+          not-false _ (ap (λ b. b && not (is_within (v +ℤ l.amount))) (sym ((Decides-xid_eq l.xid l.xid).1 refl)) ∙ unbroken l.xid t) in
           let sum : (pos 0 ≤ℤ (v +ℤ l.amount)) × ((v +ℤ l.amount) ≤ℤ pos 1000000000000) = within_bounds _ fits in
           (omega (arith, ints), omega (arith, ints))
       | false ↦ λ t. tt
     ] refl
 
-pub all_retained : (n : ℕ) (states : FinMap xid_cmp State) (accounts : List Account) → All (IsGood n) accounts
-    → ((x : XidName) → is_S3 (finmap.get states x) ≡ true → list_any (λ a. is_broken_by a x) accounts ≡ false) → All (IsGood 1) (map (retained_in states) accounts)
-all_retained n states accounts g unbroken =
-    All-map (IsGood 1) (retained_in states) accounts (λ k d h.
+pub all_prepared : (n : ℕ) (keep : XidName → Bool) (accounts : List Account) → All (IsGood n) accounts
+    → ((x : XidName) → keep x ≡ true → list_any (λ a. is_broken_by a x) accounts ≡ false) → All (IsGood 1) (map (kept_where keep) accounts)
+all_prepared n keep accounts g unbroken =
+    All-map (IsGood 1) (kept_where keep) accounts (λ k d h.
     let a : Account = get_or accounts k d in
     let good : IsGood n a = g k d h in (
       good.0,
       good.1,
-      small_prepared (λ x. is_S3 (finmap.get states x)) a.value a.hold (good.0, good.1) (λ x voted.
+      small_prepared keep a.value a.hold (good.0, good.1) (λ x voted.
           false_from_ne_true _ (λ t. let some = list_any_at (λ b. is_broken_by b x) accounts k d h t in let none = unbroken x voted in cc)),
     ))

@@ -17,11 +17,13 @@ use Rattle.xa_tables.specs.declared.state.RollbackReason.TheVariants.{Failed, Tr
 use Rattle.xa_tables.specs.declared.state.Association.{Association}
 use Rattle.xa_tables.specs.declared.state.AssociationState.{AssociationState}
 use Rattle.xa_tables.specs.declared.state.AssociationState.TheVariants.{Associated, Suspended}
-use Rattle.xa_tables.specs.Tables.{Tables, association_of, has_association, is_association_with, is_associated, state_of, is_S1, is_S2, is_S3, is_S4, is_S5, is_left_in, is_rollback_only, is_somebody_associated}
+use Rattle.xa_tables.specs.Tables.{Tables, association_of, has_association, is_association_with, is_associated, state_of, is_S1, is_S2, is_S3, is_S4, is_S5}
+use Rattle.xa_tables.specs.Tables.{is_left_in, is_rollback_only, is_somebody_associated}
 use Rattle.xa_tables.specs.Next.{Answer, next, association, with_association, associated, dissociated, stated, gone}
 use Rattle.xa_tables.specs.History.{History, tables_after, ActiveWhileAssociated}
 use Rattle.xa_tables.specs.Openings.{IsOpening}
-use Rattle.xa_tables.proofs.Effects.{Effect, Starts, Joins, Resumes, Suspends, Leaves, Fails, Idles, Dooms, Prepares, Commits, Drops, CommitsByItself, RollsBackByItself, Forgets, effect_of}
+use Rattle.xa_tables.proofs.Effects.{Effect, Starts, Joins, Resumes, Suspends, Leaves, Fails, Idles, Dooms, Prepares, Commits, Drops, CommitsByItself}
+use Rattle.xa_tables.proofs.Effects.{RollsBackByItself, Forgets, effect_of}
 use Rattle.xa_tables.proofs.Law.{AtWork, standing, get_put, get_gone, nobody_rests, run_sound, opening_sound}
 use Rattle.xa_tables.proofs.Unnamed.{apart_from, nobody_with, nobody_joins, nobody_leaves}
 
@@ -34,7 +36,8 @@ record AtWorkWhile (T : Tables) : Type 0 where
 
 -- a thread's own association, once it was put
 own_now : (associations : FinMap nat_cmp Association) (t : ℕ) (l : Association) → map.get (map.insert associations t l) t ≡ Some l
-own_now associations t l = get-insert nat_cmp_total associations t l t ∙ ap (λ b. cond b (Some l) (map.get associations t)) (ap is_eq (tied_itself nat_cmp_total t))
+own_now associations t l =
+    get-insert nat_cmp_total associations t l t ∙ ap (λ b. cond b (Some l) (map.get associations t)) (ap is_eq (tied_itself nat_cmp_total t))
 
 -- t has an association with y
 with_y : (T : Tables) (t : ℕ) (y : XidName) (l : Association) → is_associated T t y ≡ true → association_of T t ≡ Some l → l.xid ≡ y
@@ -42,7 +45,8 @@ with_y T t y l own here = (Decides-xid_eq l.xid y).0 (sym (ap (λ o. is_associat
 
 module _ (T : Tables) (t : ℕ) (x : XidName) where
   -- nobody was associated with x before t, which had no association, got one
-  before_join : (l : Association) → has_association T t ≡ false → is_somebody_associated (map.insert T.associations t l) x ≡ false → is_somebody_associated T.associations x ≡ false
+  before_join : (l : Association) → has_association T t ≡ false → is_somebody_associated (map.insert T.associations t l) x ≡ false
+      → is_somebody_associated T.associations x ≡ false
   before_join l free nobody =
       nobody_with x T.associations (λ u k found.
       elim (eq_by_cmp nat_cmp u t) as (λ b. eq_by_cmp nat_cmp u t ≡ b → xid_eq k.xid x ≡ false) [
@@ -54,7 +58,8 @@ module _ (T : Tables) (t : ℕ) (x : XidName) where
       ] refl)
 
   -- nor before t's association with another branch y changed
-  before_change : (y : XidName) (l : Association) → is_associated T t y ≡ true → xid_eq y x ≡ false → is_somebody_associated (map.insert T.associations t l) x ≡ false → is_somebody_associated T.associations x ≡ false
+  before_change : (y : XidName) (l : Association) → is_associated T t y ≡ true → xid_eq y x ≡ false
+      → is_somebody_associated (map.insert T.associations t l) x ≡ false → is_somebody_associated T.associations x ≡ false
   before_change y l own other nobody =
       nobody_with x T.associations (λ u k found.
       elim (eq_by_cmp nat_cmp u t) as (λ b. eq_by_cmp nat_cmp u t ≡ b → xid_eq k.xid x ≡ false) [
@@ -65,7 +70,8 @@ module _ (T : Tables) (t : ℕ) (x : XidName) where
       ] refl)
 
   -- nor before t's association with another branch y went
-  before_leave : (y : XidName) → is_associated T t y ≡ true → xid_eq y x ≡ false → is_somebody_associated (map.remove T.associations t) x ≡ false → is_somebody_associated T.associations x ≡ false
+  before_leave : (y : XidName) → is_associated T t y ≡ true → xid_eq y x ≡ false → is_somebody_associated (map.remove T.associations t) x ≡ false
+      → is_somebody_associated T.associations x ≡ false
   before_leave y own other nobody =
       nobody_with x T.associations (λ u k found.
       elim (eq_by_cmp nat_cmp u t) as (λ b. eq_by_cmp nat_cmp u t ≡ b → xid_eq k.xid x ≡ false) [
@@ -98,8 +104,10 @@ module _ (t : ℕ) (T : Tables) (w : AtWorkWhile T) where
   begins : (y : XidName) → has_association T t ≡ false → AtWorkWhile (associated t y (stated y Active T))
   begins y free = record {
     active = λ x nobody.
-        let other : xid_eq y x ≡ false = apart_from x (map.insert T.associations t (association y Associated)) nobody t (association y Associated) (own_now T.associations t (association y Associated)) in
-        ap is_S1 (get_put T y x Active ∙ ap (λ b. if b then Some Active else state_of T x) other) ∙ w.active x (before_join T t x (association y Associated) free nobody);
+        let other : xid_eq y x ≡ false =
+        apart_from x (map.insert T.associations t (association y Associated)) nobody t (association y Associated) (own_now T.associations t (association y Associated)) in
+        ap is_S1 (get_put T y x Active ∙ ap (λ b. if b then Some Active else state_of T x) other)
+        ∙ w.active x (before_join T t x (association y Associated) free nobody);
     idle = λ x is.
         by_bool (λ b. is_S2 (if b then Some Active else state_of T x) ≡ true → is_somebody_associated (map.insert T.associations t (association y Associated)) x ≡ false) (xid_eq y x)
         (λ _ e. cc) (λ other e. nobody_joins x T.associations t (association y Associated) other (w.idle x e)) (sym (ap is_S2 (get_put T y x Active)) ∙ is);
@@ -109,13 +117,15 @@ module _ (t : ℕ) (T : Tables) (w : AtWorkWhile T) where
   changes : (y : XidName) (state : AssociationState) → is_associated T t y ≡ true → AtWorkWhile (with_association t (association y state) T)
   changes y state own = record {
     active = λ x nobody.
-        let other : xid_eq y x ≡ false = apart_from x (map.insert T.associations t (association y state)) nobody t (association y state) (own_now T.associations t (association y state)) in
+        let other : xid_eq y x ≡ false =
+        apart_from x (map.insert T.associations t (association y state)) nobody t (association y state) (own_now T.associations t (association y state)) in
         w.active x (before_change T t x y (association y state) own other nobody);
     idle = λ x is. let nobody = w.idle x is in nobody_joins x T.associations t (association y state) (own_apart T t x y own nobody) nobody;
   }
 
   -- t's association with y goes, and y stays as it is
-  leaves : (y : XidName) → is_associated T t y ≡ true → (is_rollback_only T y || is_somebody_associated (dissociated t T).associations y) ≡ true → AtWorkWhile (dissociated t T)
+  leaves : (y : XidName) → is_associated T t y ≡ true → (is_rollback_only T y || is_somebody_associated (dissociated t T).associations y) ≡ true
+      → AtWorkWhile (dissociated t T)
   leaves y own why = record {
     active = λ x nobody.
         by_bool (λ b. xid_eq y x ≡ b → is_S1 (state_of T x) ≡ false) (xid_eq y x)
@@ -130,7 +140,8 @@ module _ (t : ℕ) (T : Tables) (w : AtWorkWhile T) where
   }
 
   -- t's association with y goes, and y is put into a state that isn't active
-  left_as : (y : XidName) (s : State) → is_S1 (Some s) ≡ false → (is_S2 (Some s) ≡ true → is_somebody_associated (map.remove T.associations t) y ≡ false) → is_associated T t y ≡ true → AtWorkWhile (stated y s (dissociated t T))
+  left_as : (y : XidName) (s : State) → is_S1 (Some s) ≡ false → (is_S2 (Some s) ≡ true → is_somebody_associated (map.remove T.associations t) y ≡ false)
+      → is_associated T t y ≡ true → AtWorkWhile (stated y s (dissociated t T))
   left_as y s inactive alone own = record {
     active = λ x nobody.
         ap is_S1 (get_put (dissociated t T) y x s)
@@ -144,7 +155,8 @@ module _ (t : ℕ) (T : Tables) (w : AtWorkWhile T) where
   -- y is put into a state that is neither active nor idle
   put_as : (y : XidName) (s : State) → is_S1 (Some s) ≡ false → is_S2 (Some s) ≡ false → AtWorkWhile (stated y s T)
   put_as y s inactive busy = record {
-    active = λ x nobody. ap is_S1 (get_put T y x s) ∙ by_bool (λ b. is_S1 (if b then Some s else state_of T x) ≡ false) (xid_eq y x) (λ _. inactive) (λ _. w.active x nobody);
+    active = λ x nobody. ap is_S1 (get_put T y x s)
+        ∙ by_bool (λ b. is_S1 (if b then Some s else state_of T x) ≡ false) (xid_eq y x) (λ _. inactive) (λ _. w.active x nobody);
     idle = λ x is.
         by_bool (λ b. is_S2 (if b then Some s else state_of T x) ≡ true → is_somebody_associated T.associations x ≡ false) (xid_eq y x)
         (λ _ e. let z : true ≡ false = sym e ∙ busy in cc) (λ _ e. w.idle x e) (sym (ap is_S2 (get_put T y x s)) ∙ is);
@@ -153,7 +165,8 @@ module _ (t : ℕ) (T : Tables) (w : AtWorkWhile T) where
   -- y is gone
   without : (y : XidName) → AtWorkWhile (gone y T)
   without y = record {
-    active = λ x nobody. ap is_S1 (get_gone T y x) ∙ by_bool (λ b. is_S1 (if b then None else state_of T x) ≡ false) (xid_eq y x) (λ _. refl) (λ _. w.active x nobody);
+    active = λ x nobody. ap is_S1 (get_gone T y x)
+        ∙ by_bool (λ b. is_S1 (if b then None else state_of T x) ≡ false) (xid_eq y x) (λ _. refl) (λ _. w.active x nobody);
     idle = λ x is.
         by_bool (λ b. is_S2 (if b then None else state_of T x) ≡ true → is_somebody_associated T.associations x ≡ false) (xid_eq y x)
         (λ _ e. cc) (λ _ e. w.idle x e) (sym (ap is_S2 (get_gone T y x)) ∙ is);
@@ -183,7 +196,8 @@ run_at_work : (h : History) (T : Tables) → AtWorkWhile T → AtWorkWhile (tabl
 run_at_work [] T w = w
 run_at_work (r ∷ h) T w = run_at_work h (next r.thread r.op T).0 (by_effect r.thread T w (effect_of r.thread r.op T))
 
-conclude : (o : Option State) (b : Bool) → (b ≡ false → is_S1 o ≡ false) → (is_S2 o ≡ true → b ≡ false) → (standing o ≢ AtWork → b ≡ false) → is_S1 o ≡ (b && not (is_S3 o || (is_S4 o || is_S5 o)))
+conclude : (o : Option State) (b : Bool) → (b ≡ false → is_S1 o ≡ false) → (is_S2 o ≡ true → b ≡ false) → (standing o ≢ AtWork → b ≡ false)
+    → is_S1 o ≡ (b && not (is_S3 o || (is_S4 o || is_S5 o)))
 conclude None true active idle rests = sym (rests (λ e. cc))
 conclude None false active idle rests = refl
 conclude (Some Active) true active idle rests = refl
@@ -208,7 +222,8 @@ left_rests (Some (HeuristicallyCompleted decision)) left = (refl, refl)
 
 opening_at_work : (T : Tables) → IsOpening T → AtWorkWhile T
 opening_at_work T o =
-    let rests : (x : XidName) → (is_S1 (state_of T x) ≡ false) × (is_S2 (state_of T x) ≡ false) = λ x. left_rests (state_of T x) (λ s e. ap is_left_in (sym e) ∙ o.left x s e) in
+    let rests : (x : XidName) → (is_S1 (state_of T x) ≡ false) × (is_S2 (state_of T x) ≡ false) =
+    λ x. left_rests (state_of T x) (λ s e. ap is_left_in (sym e) ∙ o.left x s e) in
     record { active = λ x nobody. (rests x).0; idle = λ x is. let z : true ≡ false = sym is ∙ (rests x).1 in cc }
 
 pub active_law : (h : History) (x : XidName) (T : Tables) → IsOpening T → ActiveWhileAssociated x h T

@@ -1,5 +1,6 @@
 -- The law: a branch that has added to a key doesn't vote read-only, unless it was ended in between.
-use Rattle.std.specs.Prelude.{◌≡◌, ◌≢◌, ℕ, suc, ℤ, ◌+ℤ◌, Bool, true, false, cond, not, ◌||◌, if◌then◌else◌, Option, None, Some, option_map, is_some, List, [], ◌∷◌, refl}
+use Rattle.std.specs.Prelude.{◌≡◌, ◌≢◌, ℕ, suc, ℤ, ◌+ℤ◌, Bool, true, false, cond, not, ◌||◌, if◌then◌else◌, Option, None, Some, option_map, is_some, List, []}
+use Rattle.std.specs.Prelude.{◌∷◌, refl}
 use Rattle.std.proofs.Common.{sym, ap, ◌∙◌, subst, arith}
 use Rattle.std.specs.FinMap as map
 use Rattle.std.specs.FinMap.{get-insert}
@@ -11,14 +12,16 @@ use Rattle.xa_words.specs.declared.code.Code.TheVariants.{Done, RdOnly}
 use Rattle.xa_words.specs.declared.request.Op.{Op}
 use Rattle.xa_words.specs.declared.request.Op.TheVariants.{Add, Prepare}
 use Rattle.xa_tables.specs.declared.state.Association.{Association}
-use Rattle.xa_tables.specs.Tables.{Tables, touch_cmp, association_of, has_opened, exists, is_somebody_associated, is_prepared, is_rollback_only, is_completed, reason_of, state_of, branch_in, is_broken, has_touched, is_at_work, is_declared, branch_of, has_other_touched, sum_of, sums_without}
+use Rattle.xa_tables.specs.Tables.{Tables, touch_cmp, association_of, has_opened, exists, is_somebody_associated, is_prepared, is_rollback_only, is_completed}
+use Rattle.xa_tables.specs.Tables.{reason_of, state_of, branch_in, is_broken, has_touched, is_at_work, is_declared, branch_of, has_other_touched, sum_of}
+use Rattle.xa_tables.specs.Tables.{sums_without}
 use Rattle.xa_tables.specs.Next.{Answer, next}
-use Rattle.xa_tables.specs.History.{History, Fate, Committed, HeurCommitted, HeurRolledBack, ending, fate_of, if_named, tables_after, EndsNowhere, is_rolled_back}
+use Rattle.xa_tables.specs.History.{History, ending, fate_of, tables_after, EndsNowhere, is_rolled_back}
 use Rattle.xa_base.proofs.Truth.{by_if}
-use Rattle.xa_base.proofs.Options.{is_there}
-use Rattle.xa_tables.proofs.Effects.{Effect, Adds, Commits, Drops, CommitsByItself, RollsBackByItself, effect_of, reason_rolls_back}
+use Rattle.xa_tables.proofs.Effects.{reason_rolls_back}
+use Rattle.xa_tables.proofs.Moves.{Moves, Still, Ended, Added, moves_of}
 use Rattle.xa_tables.proofs.Law.{swap_xid}
-use Rattle.xa_tables.proofs.MapLemmas.{none_passes}
+use Rattle.xa_base.proofs.FinMaps.{none_passes}
 use Rattle.xa_tables.proofs.AccountLemmas.{touch_cmp_total, touch_cmp-IsAntisymmetric, touch_self}
 use Rattle.xa_tables.proofs.ValueLaw.{get_without}
 
@@ -30,14 +33,13 @@ either : {A : Type 0} (b : Bool) (v : A) (o : Option A) → is_some o ≡ true �
 either true v o e = refl
 either false v o e = e
 
--- so it has touched a key
-touched : (x : XidName) (k : List ℕ) (T : Tables) → HasAdded x k T → has_touched T.sums x ≡ true
-touched x k T h =
-    let at = is_there (map.get T.sums (x, k)) h in
-    elim (has_touched T.sums x) as (λ b. has_touched T.sums x ≡ b → b ≡ true) [
-      | true ↦ λ e. refl
-      | false ↦ λ none.
-          let no : xid_eq x x ≡ false = none_passes touch_cmp_total touch_cmp-IsAntisymmetric (λ p s. xid_eq p.0 x) T.sums (x, k) at.0 none at.1 in
+-- a branch that has touched no key has none
+pub untouched : (x : XidName) (T : Tables) → has_touched T.sums x ≡ false → (k : List ℕ) → map.get T.sums (x, k) ≡ None
+untouched x T none k =
+    elim (map.get T.sums (x, k)) as (λ o. map.get T.sums (x, k) ≡ o → o ≡ None) [
+      | None ↦ λ e. refl
+      | Some v ↦ λ e.
+          let no : xid_eq x x ≡ false = none_passes touch_cmp_total touch_cmp-IsAntisymmetric (λ p s. xid_eq p.0 x) T.sums (x, k) v none e in
           let yes : xid_eq x x ≡ true = (Decides-xid_eq x x).1 refl in
           cc
     ] refl
@@ -47,34 +49,24 @@ left_there : (x y : XidName) (k : List ℕ) (T : Tables) → xid_eq x y ≡ fals
 left_there x y k T other h = ap is_some (get_without T.sums y x k ∙ ap (λ b. if b then None else map.get T.sums (x, k)) other) ∙ h
 
 -- a request that ends y doesn't end x, and so x isn't y
-not_ended : (x y : XidName) (b : Bool) (f : Option Bool) → f ≡ Some b → (if xid_eq y x then f else None) ≡ None → xid_eq x y ≡ false
-not_ended x y b f is none =
-    swap_xid x y ∙ elim (xid_eq y x) as (λ c. xid_eq y x ≡ c → (if c then f else None) ≡ None → c ≡ false) [
-      | true ↦ λ e n. let z : Some b ≡ None = sym is ∙ n in cc
-      | false ↦ λ e n. refl
-    ] refl none
-
-named_ending : (x y : XidName) (o : Option Fate) → ending (if_named x y o) ≡ (if xid_eq y x then ending o else None)
-named_ending x y o = elim (xid_eq y x) as (λ c. ending (if c then o else None) ≡ (if c then ending o else None)) [ true ↦ refl | false ↦ refl ]
+not_ended : (x y : XidName) (b : Bool) → (if xid_eq y x then Some b else None) ≡ None → xid_eq x y ≡ false
+not_ended x y b none =
+    swap_xid x y ∙ elim (xid_eq y x) as (λ c. (if c then Some b else None) ≡ None → c ≡ false) [ true ↦ λ n. cc | false ↦ λ n. refl ] none
 
 -- a request that doesn't end the branch leaves what it has added to
-stays : (t : ℕ) (x : XidName) (k : List ℕ) (T : Tables) {op : Op} {a : Answer} → Effect t T op a → HasAdded x k T → ending (fate_of x op a.1) ≡ None → HasAdded x k a.0
-stays t x k T (Adds own d l mine known alone) h n =
+stays : (x : XidName) (k : List ℕ) (T : Tables) {l : Option Association} {op : Op} {a : Answer} → Moves T l op a → HasAdded x k T
+    → ending (fate_of x op a.1) ≡ None → HasAdded x k a.0
+stays x k T (Still l op a sums values shares moved endings) h n = ap (λ m. is_some (map.get m (x, k))) sums ∙ h
+stays x k T (Ended l op a y commits sums values shares moved endings) h n =
+    ap (λ m. is_some (map.get m (x, k))) sums ∙ left_there x y k T (not_ended x y commits (sym (endings x) ∙ n)) h
+stays x k T (Added own d l known alone) h n =
     ap is_some (get-insert touch_cmp_total T.sums (l.xid, own) _ (x, k)) ∙ either (eq_by_cmp touch_cmp (x, k) (l.xid, own)) _ (map.get T.sums (x, k)) h
-stays t x k T (Commits y one_phase nobody may) h n =
-    left_there x y k T (not_ended x y true (Some true) refl (sym (named_ending x y (Some Committed)) ∙ n)) h
-stays t x k T (Drops op y c nobody tells) h n =
-    left_there x y k T (not_ended x y false _ tells.uncommitted (sym (ap ending (tells.fates x) ∙ named_ending x y (Some tells.fate)) ∙ n)) h
-stays t x k T (CommitsByItself y voted) h n =
-    left_there x y k T (not_ended x y true (Some true) refl (sym (named_ending x y (Some HeurCommitted)) ∙ n)) h
-stays t x k T (RollsBackByItself y voted) h n =
-    left_there x y k T (not_ended x y false (Some false) refl (sym (named_ending x y (Some HeurRolledBack)) ∙ n)) h
-stays t x k T effect h n = h
 
 stays_on : (g : History) (x : XidName) (k : List ℕ) (T : Tables) → HasAdded x k T → EndsNowhere x g T → HasAdded x k (tables_after g T)
 stays_on [] x k T h n = h
 stays_on (r ∷ g) x k T h n =
-    stays_on g x k (next r.thread r.op T).0 (stays r.thread x k T (effect_of r.thread r.op T) h (n 0 (r, (next r.thread r.op T).1) (omega arith))) (λ i e lt. n (suc i) e (omega arith))
+    stays_on g x k (next r.thread r.op T).0 (stays x k T (moves_of r.thread r.op T) h (n 0 (r, (next r.thread r.op T).1) (omega arith)))
+    (λ i e lt. n (suc i) e (omega arith))
 
 -- an addition that is answered XA_OK
 branch_is : (o : Option Association) (x : XidName) → option_map (λ (a : Association). a.xid) o ≡ Some x → branch_in o ≡ x
@@ -84,7 +76,8 @@ branch_is (Some a) x e = let z : a.xid ≡ x = cc in z
 reason_not_done : (T : Tables) (y : XidName) → is_rollback_only T y ≡ true → reason_of T y ≡ Done → ⊥
 reason_not_done T y back e = let z : is_rolled_back Done ≡ true = ap is_rolled_back (sym e) ∙ reason_rolls_back (state_of T y) back in cc
 
-has_added : (t : ℕ) (x : XidName) (k : List ℕ) (d : ℤ) (T : Tables) → option_map (λ (a : Association). a.xid) (association_of T t) ≡ Some x → (next t (Add k d) T).1 ≡ Done → HasAdded x k (next t (Add k d) T).0
+has_added : (t : ℕ) (x : XidName) (k : List ℕ) (d : ℤ) (T : Tables) → option_map (λ (a : Association). a.xid) (association_of T t) ≡ Some x
+    → (next t (Add k d) T).1 ≡ Done → HasAdded x k (next t (Add k d) T).0
 unfolding next
 has_added t x k d T own =
     let P : Answer → Type 0 = λ a. a.1 ≡ Done → HasAdded x k a.0 in
@@ -94,7 +87,8 @@ has_added t x k d T own =
     by_if P (not (is_declared T k)) _ _ (λ _ e. cc) (λ _.
     by_if P (is_rollback_only T (branch_of T t)) _ _ (λ reason e. absurd (reason_not_done T (branch_of T t) reason e)) (λ _.
     by_if P (has_other_touched T.sums (branch_of T t) k) _ _ (λ _ e. cc) (λ _ e.
-    let here : eq_by_cmp touch_cmp (x, k) (branch_of T t, k) ≡ true = ap (λ y. eq_by_cmp touch_cmp (x, k) (y, k)) (branch_is (association_of T t) x own) ∙ touch_self (x, k) in
+    let here : eq_by_cmp touch_cmp (x, k) (branch_of T t, k) ≡ true =
+    ap (λ y. eq_by_cmp touch_cmp (x, k) (y, k)) (branch_is (association_of T t) x own) ∙ touch_self (x, k) in
     let v : ℤ = sum_of T.sums (branch_of T t) k +ℤ d in
     ap is_some (get-insert touch_cmp_total T.sums (branch_of T t, k) v (x, k) ∙ ap (λ b. cond b (Some v) (map.get T.sums (x, k))) here)))))))
 
@@ -110,11 +104,13 @@ reads_only t x T =
     by_if P (not (has_touched T.sums x)) _ _ (λ none _. not-true _ none) (λ _.
     by_if P (is_broken T.values T.sums x) _ _ (λ _ e. cc) (λ _ e. cc))))))
 
-pub added_law : (t u : ℕ) (op : Op) (x : XidName) (k : List ℕ) (d : ℤ) (g : History) (T : Tables) → op ≡ Add k d → option_map (λ (a : Association). a.xid) (association_of T u) ≡ Some x
+pub added_law : (t u : ℕ) (op : Op) (x : XidName) (k : List ℕ) (d : ℤ) (g : History) (T : Tables) → op ≡ Add k d
+    → option_map (λ (a : Association). a.xid) (association_of T u) ≡ Some x
     → (next u op T).1 ≡ Done → EndsNowhere x g (next u op T).0 → (next t (Prepare x) (tables_after g (next u op T).0)).1 ≢ RdOnly
 added_law t u op x k d g T is own =
     subst (λ (o : Op). (next u o T).1 ≡ Done → EndsNowhere x g (next u o T).0 → (next t (Prepare x) (tables_after g (next u o T).0)).1 ≢ RdOnly) (sym is) (λ done unended reads.
     let after : Tables = (next u (Add k d) T).0 in
-    let yes : has_touched (tables_after g after).sums x ≡ true = touched x k (tables_after g after) (stays_on g x k after (has_added u x k d T own done) unended) in
-    let no : has_touched (tables_after g after).sums x ≡ false = reads_only t x (tables_after g after) reads in
+    let there : HasAdded x k (tables_after g after) = stays_on g x k after (has_added u x k d T own done) unended in
+    let none : map.get (tables_after g after).sums (x, k) ≡ None = untouched x (tables_after g after) (reads_only t x (tables_after g after) reads) k in
+    let z : false ≡ true = sym (ap is_some none) ∙ there in
     cc)

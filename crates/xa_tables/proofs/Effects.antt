@@ -8,7 +8,8 @@ use Rattle.xa_base.proofs.Truth.{by_if}
 use Rattle.xa_words.specs.Xid.{XidName, xid_eq}
 use Rattle.xa_words.specs.Key.{key_eq}
 use Rattle.xa_words.specs.declared.code.Code.{Code}
-use Rattle.xa_words.specs.declared.code.Code.TheVariants.{Done, RdOnly, RbRollback, RbCommFail, RbDeadlock, RbIntegrity, RbOther, RbProto, RbTimeout, RbTransient, Async, RmErr, Nota, Inval, Proto, RmFail, DupId, Outside}
+use Rattle.xa_words.specs.declared.code.Code.TheVariants.{Done, RdOnly, RbRollback, RbIntegrity, RbTransient, Async, RmErr, Nota, Inval, Proto, RmFail, DupId}
+use Rattle.xa_words.specs.declared.code.Code.TheVariants.{Outside}
 use Rattle.xa_words.specs.declared.request.Op.{Op}
 use Rattle.xa_words.specs.declared.request.Op.TheVariants.{OpenRm, CloseRm, Start, Add, End, Prepare, Commit, Rollback, Forget, Heur, Listed, Shut}
 use Rattle.xa_words.specs.declared.request.StartHow.{StartHow}
@@ -22,25 +23,33 @@ use Rattle.xa_tables.specs.declared.state.HeuristicDecision.TheVariants as decis
 use Rattle.xa_tables.specs.declared.state.RollbackReason.{RollbackReason}
 use Rattle.xa_tables.specs.declared.state.RollbackReason.TheVariants.{Failed, Transient}
 use Rattle.xa_tables.specs.declared.state.Association.{Association}
-use Rattle.xa_tables.specs.Tables.{Tables, has_opened, association_of, has_association, is_T1, branch_in, state_of, exists, is_S4, is_suspended, is_associated, is_idle, is_prepared, is_rollback_only, is_completed, is_left, is_S5, reason_in, reason_of, decision_in, decision_of, is_somebody_associated, is_declared, has_touched, has_other_touched, is_broken}
+use Rattle.xa_tables.specs.Tables.{Tables, has_opened, association_of, has_association, is_T1, branch_in, state_of, exists, is_S4, is_suspended, is_associated}
+use Rattle.xa_tables.specs.Tables.{is_idle, is_prepared, is_rollback_only, is_completed, is_left, is_S5, reason_in, reason_of, decision_in, decision_of}
+use Rattle.xa_tables.specs.Tables.{is_somebody_associated, is_declared, has_touched, has_other_touched, is_broken}
 use Rattle.xa_tables.specs.Reasons.{reason_code, decision_code}
-use Rattle.xa_tables.specs.Next.{Answer, next, needs_opening, by_rules, open_rm, close_rm, start, add, end, prepare, commit_one, commit_two, rollback, heur, forget, listed, is_suspend, associated, suspended, dissociated, stated, added, gone, forgotten, completed, committed, shut_down}
-use Rattle.xa_tables.specs.History.{Fate, Live, ReadOnly, RolledBack, HeurCommitted, HeurRolledBack, fate_of, if_named, prepare_fate, commit_fate, rollback_fate, heur_fate, ending_by, is_done, is_rolled_back, added_by, share_of}
+use Rattle.xa_tables.specs.Next.{Answer, next, needs_opening, by_rules, open_rm, close_rm, start, add, end, prepare, commit_one, commit_two, rollback, heur}
+use Rattle.xa_tables.specs.Next.{forget, listed, is_suspend, associated, suspended, dissociated, stated, added, gone, forgotten, completed, committed}
+use Rattle.xa_tables.specs.Next.{shut_down}
+use Rattle.xa_tables.specs.History.{Fate, Live, ReadOnly, RolledBack, HeurCommitted, HeurRolledBack, fate_of, if_named, prepare_fate, commit_fate}
+use Rattle.xa_tables.specs.History.{rollback_fate, heur_fate, ending_by, is_done, is_rolled_back, added_by, share_of}
 use Rattle.xa_tables.specs.Prepared.{names}
+use Rattle.xa_tables.specs.Worth.{moved_by, held_by}
 
 -- ---- what a code tells
 
--- the request with this code makes nothing of any branch, and adds nothing to any key
+-- the request with this code makes nothing of any branch, adds nothing to any key, and moves no worth
 pub record TellsNothing (op : Op) (c : Code) : Type 0 where
   pub fates : (x : XidName) → fate_of x op c ≡ None
   pub shares : (k : List ℕ) (l : Option Association) (later : XidName → Bool) → share_of k op c l later ≡ pos 0
+  pub moved : (accounts : List (List ℕ × ℕ)) (T : Tables) → moved_by accounts op c T ≡ pos 0
 
--- the request names y alone, and with this code y has ended without a commit
+-- the request names y alone, and with this code y has ended without a commit: it adds nothing and moves no worth
 pub record TellsDropped (op : Op) (y : XidName) (c : Code) : Type 0 where
   pub fate : Fate
   pub uncommitted : ending_by fate ≡ Some false
   pub fates : (x : XidName) → fate_of x op c ≡ if_named x y (Some fate)
   pub shares : (k : List ℕ) (l : Option Association) (later : XidName → Bool) → share_of k op c l later ≡ pos 0
+  pub moved : (accounts : List (List ℕ × ℕ)) (T : Tables) → moved_by accounts op c T ≡ pos 0
   pub named : (x : XidName) → names x op ≡ xid_eq y x
 
 -- XAER_*
@@ -67,6 +76,7 @@ pub undone_adds : (own : List ℕ) (d : ℤ) (c : Code) → is_done c ≡ false 
 undone_adds own d c e = record {
   fates = λ x. refl;
   shares = λ k l later. ap (λ b. if key_eq own k && b then added_by l d later else pos 0) e ∙ no_share (key_eq own k) _;
+  moved = λ accounts T. refl;
 }
 
 error_undone : (c : Code) → is_error c ≡ true → is_done c ≡ false
@@ -75,26 +85,15 @@ error_undone c e = refl
 
 error_prepare : (c : Code) → is_error c ≡ true → prepare_fate c ≡ None
 error_prepare Done e = cc
-error_prepare RdOnly e = cc
-error_prepare RbIntegrity e = cc
-error_prepare c e = refl
+error_prepare c e = cc
 
 error_commit : (c : Code) → is_error c ≡ true → commit_fate c ≡ None
 error_commit Done e = cc
-error_commit RbIntegrity e = cc
-error_commit c e = refl
+error_commit c e = cc
 
 error_rollback : (c : Code) → is_error c ≡ true → rollback_fate c ≡ None
 error_rollback Done e = cc
-error_rollback RbRollback e = cc
-error_rollback RbCommFail e = cc
-error_rollback RbDeadlock e = cc
-error_rollback RbIntegrity e = cc
-error_rollback RbOther e = cc
-error_rollback RbProto e = cc
-error_rollback RbTimeout e = cc
-error_rollback RbTransient e = cc
-error_rollback c e = refl
+error_rollback c e = cc
 
 error_heur : (commits : Bool) (c : Code) → is_error c ≡ true → heur_fate commits c ≡ None
 error_heur commits c e = ap (λ b. if b then Some (if commits then HeurCommitted else HeurRolledBack) else None) (error_undone c e)
@@ -108,10 +107,15 @@ error_fate x (Rollback y) c e = ap (if_named x y) (error_rollback c e) ∙ named
 error_fate x (Heur y commits) c e = ap (if_named x y) (error_heur commits c e) ∙ named_none x y
 error_fate x op c e = refl
 
+error_moved : (accounts : List (List ℕ × ℕ)) (T : Tables) (op : Op) (c : Code) → is_error c ≡ true → moved_by accounts op c T ≡ pos 0
+error_moved accounts T (Commit y one_phase) c e = ap (λ b. if b then held_by accounts y T else pos 0) (error_undone c e)
+error_moved accounts T (Heur y commits) c e = ap (λ b. if b && commits then held_by accounts y T else pos 0) (error_undone c e)
+error_moved accounts T op c e = refl
+
 -- an error tells nothing, whatever was requested
 pub error_tells : (op : Op) (c : Code) → is_error c ≡ true → TellsNothing op c
 error_tells (Add own d) c e = undone_adds own d c (error_undone c e)
-error_tells op c e = record { fates = λ x. error_fate x op c e; shares = λ k l later. refl }
+error_tells op c e = record { fates = λ x. error_fate x op c e; shares = λ k l later. refl; moved = λ accounts T. error_moved accounts T op c e }
 
 code_rolls_back : (reason : RollbackReason) → is_rolled_back (reason_code reason) ≡ true
 code_rolls_back Failed = refl
@@ -135,6 +139,11 @@ pub decision_commits_nothing : (o : Option State) → is_S5 o ≡ true → commi
 decision_commits_nothing (Some (HeuristicallyCompleted d)) e = decided_commit d
 decision_commits_nothing o e = cc
 
+-- nor does it move any worth
+undone_commit : (c : Code) → commit_fate c ≡ None → is_done c ≡ false
+undone_commit Done e = cc
+undone_commit c e = refl
+
 pub decision_rolls_nothing_back : (o : Option State) → is_S5 o ≡ true → rollback_fate (decision_in o) ≡ None
 decision_rolls_nothing_back (Some (HeuristicallyCompleted d)) e = decided_rollback d
 decision_rolls_nothing_back o e = cc
@@ -144,13 +153,15 @@ not_done Done e = cc
 not_done r e = refl
 
 read_only_drops : (y : XidName) → TellsDropped (Prepare y) y RdOnly
-read_only_drops y = record { fate = ReadOnly; uncommitted = refl; fates = λ x. refl; shares = λ k l later. refl; named = λ x. refl }
+read_only_drops y = record { fate = ReadOnly; uncommitted = refl; fates = λ x. refl; shares = λ k l later. refl; moved = λ accounts T. refl; named = λ x. refl }
 
 broken_prepare_drops : (y : XidName) → TellsDropped (Prepare y) y RbIntegrity
-broken_prepare_drops y = record { fate = RolledBack; uncommitted = refl; fates = λ x. refl; shares = λ k l later. refl; named = λ x. refl }
+broken_prepare_drops y =
+    record { fate = RolledBack; uncommitted = refl; fates = λ x. refl; shares = λ k l later. refl; moved = λ accounts T. refl; named = λ x. refl }
 
 broken_commit_drops : (y : XidName) → TellsDropped (Commit y true) y RbIntegrity
-broken_commit_drops y = record { fate = RolledBack; uncommitted = refl; fates = λ x. refl; shares = λ k l later. refl; named = λ x. refl }
+broken_commit_drops y =
+    record { fate = RolledBack; uncommitted = refl; fates = λ x. refl; shares = λ k l later. refl; moved = λ accounts T. refl; named = λ x. refl }
 
 rollback_drops : (y : XidName) (c : Code) → (is_done c || is_rolled_back c) ≡ true → TellsDropped (Rollback y) y c
 rollback_drops y c e = record {
@@ -158,6 +169,7 @@ rollback_drops y c e = record {
   uncommitted = refl;
   fates = λ x. ap (λ b. if_named x y (if b then Some RolledBack else None)) e;
   shares = λ k l later. refl;
+  moved = λ accounts T. refl;
   named = λ x. refl;
 }
 
@@ -174,19 +186,25 @@ pub data Effect (t : ℕ) (T : Tables) : Op → Answer → Type 0 where
   Closes : Effect t T CloseRm (record T { opened = set.remove T.opened t }, Done)
   -- t begins a branch, joins one that is at work, and goes on with its own
   Starts : (y : XidName) → has_association T t ≡ false → Effect t T (Start y Fresh) (associated t y (stated y Active T), Done)
-  Joins : (y : XidName) → has_association T t ≡ false → exists T y ≡ true → is_left T y ≡ false → Effect t T (Start y Join) (associated t y (stated y Active T), Done)
+  Joins : (y : XidName) → has_association T t ≡ false → exists T y ≡ true → is_left T y ≡ false
+      → Effect t T (Start y Join) (associated t y (stated y Active T), Done)
   Resumes : (y : XidName) → is_associated T t y ≡ true → Effect t T (Start y Resume) (associated t y T, Done)
   -- t pauses, or leaves its branch as it is, only to be rolled back, or idle
   Suspends : (y : XidName) → is_associated T t y ≡ true → Effect t T (End y Suspend) (suspended t y T, Done)
-  Leaves : (y : XidName) (how : EndHow) (c : Code) → is_associated T t y ≡ true → (is_rollback_only T y || is_somebody_associated (dissociated t T).associations y) ≡ true → Effect t T (End y how) (dissociated t T, c)
+  Leaves : (y : XidName) (how : EndHow) (c : Code) → is_associated T t y ≡ true
+      → (is_rollback_only T y || is_somebody_associated (dissociated t T).associations y) ≡ true → Effect t T (End y how) (dissociated t T, c)
   Fails : (y : XidName) → is_associated T t y ≡ true → Effect t T (End y Fail) (stated y (RollbackOnly Failed) (dissociated t T), RbRollback)
-  Idles : (y : XidName) → is_associated T t y ≡ true → is_somebody_associated (dissociated t T).associations y ≡ false → Effect t T (End y Success) (stated y Idle (dissociated t T), Done)
+  Idles : (y : XidName) → is_associated T t y ≡ true → is_somebody_associated (dissociated t T).associations y ≡ false
+      → Effect t T (End y Success) (stated y Idle (dissociated t T), Done)
   -- t's branch meets a key that another has touched, and adds to one that none has
   Dooms : (k : List ℕ) (d : ℤ) (l : Association) → association_of T t ≡ Some l → Effect t T (Add k d) (stated l.xid (RollbackOnly Transient) T, RbTransient)
-  Adds : (k : List ℕ) (d : ℤ) (l : Association) → association_of T t ≡ Some l → is_declared T k ≡ true → has_other_touched T.sums l.xid k ≡ false → Effect t T (Add k d) (added l.xid k d T, Done)
+  Adds : (k : List ℕ) (d : ℤ) (l : Association) → association_of T t ≡ Some l → is_declared T k ≡ true → has_other_touched T.sums l.xid k ≡ false
+      → Effect t T (Add k d) (added l.xid k d T, Done)
   -- a branch with which nobody is associated is prepared, is committed, or ends without a commit
-  Prepares : (y : XidName) → is_somebody_associated T.associations y ≡ false → is_broken T.values T.sums y ≡ false → Effect t T (Prepare y) (stated y S3 T, Done)
-  Commits : (y : XidName) (one_phase : Bool) → is_somebody_associated T.associations y ≡ false → (is_prepared T y ≡ true) ⊎ (is_broken T.values T.sums y ≡ false) → Effect t T (Commit y one_phase) (gone y (committed y T), Done)
+  Prepares : (y : XidName) → is_somebody_associated T.associations y ≡ false → is_broken T.values T.sums y ≡ false
+      → Effect t T (Prepare y) (stated y S3 T, Done)
+  Commits : (y : XidName) (one_phase : Bool) → is_somebody_associated T.associations y ≡ false
+      → (is_prepared T y ≡ true) ⊎ (is_broken T.values T.sums y ≡ false) → Effect t T (Commit y one_phase) (gone y (committed y T), Done)
   Drops : (op : Op) (y : XidName) (c : Code) → is_somebody_associated T.associations y ≡ false → TellsDropped op y c → Effect t T op (gone y T, c)
   -- a prepared branch is committed or rolled back by a heuristic decision, and such a decision is forgotten
   CommitsByItself : (y : XidName) → is_prepared T y ≡ true → Effect t T (Heur y true) (completed y decision.Commit (committed y T), Done)
@@ -202,7 +220,7 @@ module _ (t : ℕ) (T : Tables) where
   at_close : Effect t T CloseRm (close_rm t T)
   at_close =
       let Q : Answer → Type 0 = Effect t T CloseRm in
-      by_if Q (not (has_opened T t)) _ _ (λ _. Stays CloseRm Done (record { fates = λ x. refl; shares = λ k l later. refl })) (λ _.
+      by_if Q (not (has_opened T t)) _ _ (λ _. Stays CloseRm Done (record { fates = λ x. refl; shares = λ k l later. refl; moved = λ accounts T. refl })) (λ _.
       by_if Q (has_association T t) _ _ (λ _. refuses CloseRm Proto refl) (λ _. Closes))
 
   at_start : (how : StartHow) (y : XidName) → Effect t T (Start y how) (start how t y T)
@@ -215,7 +233,8 @@ module _ (t : ℕ) (T : Tables) where
       by_if Q (has_association T t) _ _ (λ _. refuses (Start y Join) Proto refl) (λ free.
       by_if Q (not (exists T y)) _ _ (λ _. refuses (Start y Join) Nota refl) (λ there.
       by_if Q (is_left T y) _ _ (λ _. refuses (Start y Join) Proto refl) (λ unprepared.
-      by_if Q (is_rollback_only T y) _ _ (λ _. Stays (Start y Join) (reason_of T y) (record { fates = λ x. named_none x y; shares = λ k l later. refl })) (λ _.
+      by_if Q (is_rollback_only T y) _ _
+      (λ _. Stays (Start y Join) (reason_of T y) (record { fates = λ x. named_none x y; shares = λ k l later. refl; moved = λ accounts T. refl })) (λ _.
       Joins y free (not-false _ there) unprepared))))
   at_start Resume y =
       let Q : Answer → Type 0 = Effect t T (Start y Resume) in
@@ -260,7 +279,8 @@ module _ (t : ℕ) (T : Tables) where
   at_end : (how : EndHow) (y : XidName) → Effect t T (End y how) (end how t y T)
   at_end Suspend y = at_end_by Suspend y (suspended t y T, Done) (Suspends y)
   at_end Fail y = at_end_by Fail y (stated y (RollbackOnly Failed) (dissociated t T), RbRollback) (Fails y)
-  at_end Success y = at_end_by Success y (if is_somebody_associated (dissociated t T).associations y then (dissociated t T, Done) else (stated y Idle (dissociated t T), Done)) (λ own. by_if (Effect t T (End y Success)) (is_somebody_associated (dissociated t T).associations y) _ _ (λ left. Leaves y Success Done own (ap (λ b. is_rollback_only T y || b) left ∙ or-true (is_rollback_only T y))) (λ alone. Idles y own alone))
+  at_end Success y =
+      at_end_by Success y (if is_somebody_associated (dissociated t T).associations y then (dissociated t T, Done) else (stated y Idle (dissociated t T), Done)) (λ own. by_if (Effect t T (End y Success)) (is_somebody_associated (dissociated t T).associations y) _ _ (λ left. Leaves y Success Done own (ap (λ b. is_rollback_only T y || b) left ∙ or-true (is_rollback_only T y))) (λ alone. Idles y own alone))
 
   at_prepare : (y : XidName) → Effect t T (Prepare y) (prepare y T)
   at_prepare y =
@@ -281,7 +301,13 @@ module _ (t : ℕ) (T : Tables) where
   at_commit false y =
       let Q : Answer → Type 0 = Effect t T (Commit y false) in
       by_if Q (not (exists T y)) _ _ (λ _. refuses (Commit y false) Nota refl) (λ _.
-      by_if Q (is_completed T y) _ _ (λ decided. Stays (Commit y false) (decision_of T y) (record { fates = λ x. ap (if_named x y) (decision_commits_nothing (state_of T y) decided) ∙ named_none x y; shares = λ k l later. refl })) (λ _.
+      by_if Q (is_completed T y) _ _ (λ decided.
+      let none = decision_commits_nothing (state_of T y) decided in
+      Stays (Commit y false) (decision_of T y) (record {
+        fates = λ x. ap (if_named x y) none ∙ named_none x y;
+        shares = λ k l later. refl;
+        moved = λ accounts U. ap (λ b. if b then held_by accounts y U else pos 0) (undone_commit (decision_of T y) none);
+      })) (λ _.
       by_if Q (is_somebody_associated T.associations y || not (is_prepared T y)) _ _ (λ _. refuses (Commit y false) Proto refl) (λ free.
       let parts = or_parts (is_somebody_associated T.associations y) _ free in
       Commits y false parts.0 (inl (not-false (is_prepared T y) parts.1)))))
@@ -290,7 +316,11 @@ module _ (t : ℕ) (T : Tables) where
   at_rollback y =
       let Q : Answer → Type 0 = Effect t T (Rollback y) in
       by_if Q (not (exists T y)) _ _ (λ _. refuses (Rollback y) Nota refl) (λ _.
-      by_if Q (is_completed T y) _ _ (λ decided. Stays (Rollback y) (decision_of T y) (record { fates = λ x. ap (if_named x y) (decision_rolls_nothing_back (state_of T y) decided) ∙ named_none x y; shares = λ k l later. refl })) (λ _.
+      by_if Q (is_completed T y) _ _ (λ decided. Stays (Rollback y) (decision_of T y) (record {
+        fates = λ x. ap (if_named x y) (decision_rolls_nothing_back (state_of T y) decided) ∙ named_none x y;
+        shares = λ k l later. refl;
+        moved = λ accounts U. refl;
+      })) (λ _.
       by_if Q (is_somebody_associated T.associations y) _ _ (λ _. refuses (Rollback y) Proto refl) (λ nobody.
       by_if Q (is_rollback_only T y) _ _ (λ doomed. Drops (Rollback y) y (reason_of T y) nobody (rollback_drops y (reason_of T y) (ap (λ b. is_done (reason_of T y) || b) (reason_rolls_back (state_of T y) doomed) ∙ or-true (is_done (reason_of T y))))) (λ _.
       Drops (Rollback y) y Done nobody (rollback_drops y Done refl)))))
@@ -312,10 +342,11 @@ module _ (t : ℕ) (T : Tables) where
       by_if Q (not (is_completed T y)) _ _ (λ _. refuses (Forget y) Proto refl) (λ decided. Forgets y (not-false (is_completed T y) decided)))
 
   at_listed : (x : Option XidName) → Effect t T (Listed x) (listed x T)
-  at_listed None = Stays (Listed None) Done (record { fates = λ x. refl; shares = λ k l later. refl })
+  at_listed None = Stays (Listed None) Done (record { fates = λ x. refl; shares = λ k l later. refl; moved = λ accounts T. refl })
   at_listed (Some y) =
       let Q : Answer → Type 0 = Effect t T (Listed (Some y)) in
-      by_if Q (is_left T y) _ _ (λ _. Stays (Listed (Some y)) Done (record { fates = λ x. refl; shares = λ k l later. refl })) (λ _. refuses (Listed (Some y)) Nota refl)
+      by_if Q (is_left T y) _ _ (λ _. Stays (Listed (Some y)) Done (record { fates = λ x. refl; shares = λ k l later. refl; moved = λ accounts T. refl }))
+      (λ _. refuses (Listed (Some y)) Nota refl)
 
   at_rules : (op : Op) → Effect t T op (by_rules t op T)
   at_rules Shut = Shuts

@@ -9,10 +9,12 @@ use Rattle.xa_tables.specs.declared.state.State.TheVariants.{Active, Idle, Prepa
 use Rattle.xa_tables.specs.declared.state.HeuristicDecision.{HeuristicDecision}
 use Rattle.xa_tables.specs.declared.state.HeuristicDecision.TheVariants as decision
 use Rattle.xa_tables.specs.Tables.{Tables, state_of, is_S3, is_S5, is_left_in}
-use Rattle.xa_tables.specs.History.{History, Fate, Absent, Live, InDoubt, RolledBack, is_live, is_in_doubt, is_unfinished, decided_fate, fate, tables_after, accepted, IsFateOf}
+use Rattle.xa_tables.specs.History.{History, Fate, Absent, Live, InDoubt, RolledBack, is_live, is_in_doubt, is_unfinished, decided_fate, fate, tables_after}
+use Rattle.xa_tables.specs.History.{accepted, IsFateOf}
 use Rattle.xa_tables.specs.Openings.{IsNew, IsOpening, reopened, reopened_fate, left_by, fate_left, told_by, FatesAreTold}
 use Rattle.xa_tables.proofs.ShutLemmas.{after_accepted}
-use Rattle.xa_tables.proofs.Law.{Nowhere, AtWork, Voted, standing, standing_of, is_voted, is_there, state_voted, fate_voted, state_there, fate_there, run, opening_sound}
+use Rattle.xa_tables.proofs.Law.{Nowhere, AtWork, Voted, standing, standing_of, is_voted, is_there, state_voted, fate_voted, state_there, fate_there, run}
+use Rattle.xa_tables.proofs.Law.{opening_sound}
 use Rattle.xa_tables.proofs.DecidedLaw.{IsAsDecided, run as decided_run, same_decision}
 use Rattle.xa_tables.proofs.Reopening.{state_reopened, reopens, new_opens, left_opens}
 
@@ -51,7 +53,8 @@ stands (Some (HeuristicallyCompleted d)) f t = sym (ap standing_of (t.1.1 d refl
 
 -- where it stands by its fate, and as decided, the state tells the fate
 tells : (o : Option State) (f : Fate) → standing o ≡ standing_of f → IsAsDecided o f → Tells o f
-tells o f e decided = (state_voted o ∙ ap is_voted e ∙ sym (fate_voted f), (state_there o ∙ ap (λ b. b || is_S5 o) (ap is_there e ∙ sym (fate_there f)), decided))
+tells o f e decided =
+    (state_voted o ∙ ap is_voted e ∙ sym (fate_voted f), (state_there o ∙ ap (λ b. b || is_S5 o) (ap is_there e ∙ sym (fate_there f)), decided))
 
 -- ---- one opening
 
@@ -112,7 +115,8 @@ reopened_law x f T w =
 
 -- ---- any openings
 
-left_told : (before : List History) (x : XidName) (f : Fate) (T : Tables) → IsOpening T → IsFateOf x f T → IsFateOf x (fate_left x f before T) (left_by before T)
+left_told : (before : List History) (x : XidName) (f : Fate) (T : Tables) → IsOpening T → IsFateOf x f T
+    → IsFateOf x (fate_left x f before T) (left_by before T)
 left_told [] x f T o w = w
 left_told (h ∷ hs) x f T o w =
     left_told hs x (reopened_fate (fate x f h T)) (reopened (tables_after h T)) (reopens (tables_after h T)) (reopened_law x (fate x f h T) (tables_after h T) (kept_law h x f T o w))

@@ -1,30 +1,31 @@
 -- Scans of the places that branches hold, in place of scans of all accounts.
-use Rattle.std.specs.Prelude.{◌≡◌, ℕ, ℤ, pos, ◌+ℤ◌, zero, suc, ◌+◌, ◌<◌, ◌≤◌, nat_eq, Bool, true, false, cond, not, ◌&&◌, ◌||◌, if◌then◌else◌, List, [], ◌∷◌, ◌++◌, drop, length, map, filter, Option, None, Some, is_some, refl}
-use Rattle.std.proofs.Common.{sym, ap, ◌∙◌, subst, arith, get_or, take}
+use Rattle.std.specs.Prelude.{◌≡◌, All, ℕ, ℤ, pos, ◌+ℤ◌, zero, suc, ◌+◌, ◌<◌, ◌≤◌, nat_eq, Bool, true, false, cond, not, ◌&&◌, ◌||◌, if◌then◌else◌, List, []}
+use Rattle.std.specs.Prelude.{◌∷◌, ◌++◌, drop, length, map, filter, Option, None, Some, is_some, refl}
+use Rattle.std.proofs.Common.{sym, ap, ◌∙◌, subst, arith, get_or}
 use Rattle.std.proofs.Math.ListN.{set}
 use Rattle.std.specs.List.{AllByRecursion, IsDistinct, list_any}
 use Rattle.std.specs.Cmp.{nat_eq_equiv}
-use Rattle.std.specs.FinMap as finmap
 use Rattle.std.specs.FinMap.{FinMap}
 use Rattle.std.proofs.Math.Bool.{or-false}
-use Rattle.std.proofs.lemmas.Bool.{eqb-true, eq-eqb, false_from_ne_true, or_left, or_right, or_from}
+use Rattle.std.proofs.lemmas.Bool.{eqb-true, eq-eqb, false_from_ne_true, or_left, or_right}
 use Rattle.std.proofs.lemmas.Grind.{get_or-set_at}
-use Rattle.std.proofs.lemmas.List.{drop_more, drop_all, get_or_default, get_or-map, get_or-set_other, length-set, length_push, map-set, set-get_or, take_all}
-use Rattle.std.proofs.lemmas.List.Folds.{list_any-append, list_any_at, map_fixed, list_any_more}
+use Rattle.std.proofs.lemmas.List.{drop_more, drop_all, get_or_default, get_or-map, get_or-set_other, length-map, length-set, length_push, map-set, set-get_or}
+use Rattle.std.proofs.lemmas.List.Folds.{list_any-append, list_any_at, map_fixed}
 use Rattle.std.proofs.lemmas.Map.Keys.{IsDistinct-head, IsDistinct-tail, IsDistinct-cons, IsDistinct-push}
 use Rattle.std.proofs.lemmas.Map.Steps.{length-le_from_distinct_below}
 use Rattle.std.proofs.lemmas.Map.Views.{any-filter_same}
 use Rattle.std.proofs.Math.IntN.{+ℤ_idr as plus_none}
 use Rattle.xa_base.proofs.Lists.{none_twice}
-use Rattle.xa_words.specs.Xid.{XidName, xid_cmp, xid_eq}
+use Rattle.xa_words.specs.Xid.{XidName, xid_eq}
+use Rattle.xa_words.specs.Orders.{key_cmp}
 use Rattle.xa_tables.specs.declared.accounts.Account.{Account}
 use Rattle.xa_tables.specs.declared.accounts.Hold.{Hold}
-use Rattle.xa_tables.specs.declared.state.State.{State}
-use Rattle.xa_tables.specs.Tables.{is_S3, is_within}
-use Rattle.xa_tables.specs.Accounts.{hold_is_of, is_held_by, hold_breaks, is_broken_by, hold_where, hold_without, amount_of, added_to, posted_by, forgotten_by, retained_in}
+use Rattle.xa_tables.specs.Tables.{is_within}
+use Rattle.xa_tables.specs.Accounts.{AreDistinct, AreIndexed, IsGood, hold_is_of, is_held_by, hold_breaks, is_broken_by, hold_where, hold_without, kept_where}
+use Rattle.xa_tables.specs.Accounts.{all_but, amount_of, added_to, posted_by}
 use Rattle.xa_tables.specs.Held.{passes_at, is_held, is_held_at, AreHeld, noted}
-use Rattle.xa_tables.proofs.AccountLemmas.{all_but, passes_none, any_set}
-use Rattle.xa_tables.proofs.PlaceLemmas.{account_of}
+use Rattle.xa_tables.proofs.AccountLemmas.{LetsGo, distinct_changed, passes_none, any_set}
+use Rattle.xa_tables.proofs.PlaceLemmas.{account_of, indexed_map}
 
 -- ---- the account at a place
 
@@ -33,17 +34,20 @@ passes_within test [] i h = let never : ⊥ = cc in absurd never
 passes_within test (a ∷ rest) zero h = omega arith
 passes_within test (a ∷ rest) (suc i) h = let later = passes_within test rest i h in omega arith
 
-pub passes_read : (test : Account → Bool) (accounts : List Account) (i : ℕ) (a : Account) → i < length accounts → a ≡ get_or accounts i a → passes_at test accounts i ≡ test a
+pub passes_read : (test : Account → Bool) (accounts : List Account) (i : ℕ) (a : Account) → i < length accounts → a ≡ get_or accounts i a
+    → passes_at test accounts i ≡ test a
 passes_read test [] i a h e = absurd (omega arith)
 passes_read test (c ∷ rest) zero a h e = ap test (sym e)
 passes_read test (c ∷ rest) (suc i) a h e = passes_read test rest i a (omega arith) e
 
-passes_weaker : (test other : Account → Bool) → ((a : Account) → test a ≡ true → other a ≡ true) → (accounts : List Account) (i : ℕ) → passes_at test accounts i ≡ true → passes_at other accounts i ≡ true
+passes_weaker : (test other : Account → Bool) → ((a : Account) → test a ≡ true → other a ≡ true) → (accounts : List Account) (i : ℕ)
+    → passes_at test accounts i ≡ true → passes_at other accounts i ≡ true
 passes_weaker test other only [] i h = h
 passes_weaker test other only (a ∷ rest) zero h = only a h
 passes_weaker test other only (a ∷ rest) (suc i) h = passes_weaker test other only rest i h
 
-passes_map : (test : Account → Bool) (f : Account → Account) → ((a : Account) → test (f a) ≡ true → test a ≡ true) → (accounts : List Account) (i : ℕ) → passes_at test (map f accounts) i ≡ true → passes_at test accounts i ≡ true
+passes_map : (test : Account → Bool) (f : Account → Account) → ((a : Account) → test (f a) ≡ true → test a ≡ true) → (accounts : List Account) (i : ℕ)
+    → passes_at test (map f accounts) i ≡ true → passes_at test accounts i ≡ true
 passes_map test f only [] i h = h
 passes_map test f only (a ∷ rest) zero h = only a h
 passes_map test f only (a ∷ rest) (suc i) h = passes_map test f only rest i h
@@ -53,7 +57,8 @@ passes_set test [] i b h = absurd (omega arith)
 passes_set test (c ∷ rest) zero b h = refl
 passes_set test (c ∷ rest) (suc i) b h = passes_set test rest i b (omega arith)
 
-passes_set_other : (test : Account → Bool) (accounts : List Account) (i j : ℕ) (b : Account) → (j ≡ i → ⊥) → passes_at test (set accounts i b) j ≡ passes_at test accounts j
+passes_set_other : (test : Account → Bool) (accounts : List Account) (i j : ℕ) (b : Account) → (j ≡ i → ⊥)
+    → passes_at test (set accounts i b) j ≡ passes_at test accounts j
 passes_set_other test [] i j b h = refl
 passes_set_other test (c ∷ rest) zero zero b h = absurd (h refl)
 passes_set_other test (c ∷ rest) zero (suc j) b h = refl
@@ -92,6 +97,10 @@ none_held test only held accounts h none =
     let found = any_at (λ place. passes_at test accounts place) held there.0 noted there.1 in
     cc)
 
+-- the same places and accounts, seen through slices
+pub held_alike : {held ps : List ℕ} {accounts now : List Account} → ps ≡ held → now ≡ accounts → AreHeld held accounts → AreHeld ps now
+held_alike {held = held} {now = now} same alike h = subst (λ (qs : List ℕ). AreHeld qs now) (sym same) (subst (AreHeld held) (sym alike) h)
+
 -- the places are within
 pub held_within : (held : List ℕ) (accounts : List Account) → AreHeld held accounts → (i : ℕ) → i < length held → get_or held i 0 < length accounts
 held_within held accounts h i within =
@@ -108,26 +117,6 @@ touched_held x a h = elim (a.hold) as (λ o. hold_is_of o x ≡ true → is_some
 pub broken_held : (x : XidName) (a : Account) → is_broken_by a x ≡ true → is_held a ≡ true
 broken_held x a h = elim (a.hold) as (λ o. hold_breaks a.value o x ≡ true → is_some o ≡ true) [ None ↦ λ t. t | Some l ↦ λ t. refl ] h
 
--- ---- a look at each of the places
-
-module _ (test : Account → Bool) (held : List ℕ) (accounts : List Account) (h : AreHeld held accounts) (i : ℕ) where
-  -- one passes
-  pub one_passes : (a : Account) → i < length held → a ≡ get_or accounts (get_or held i 0) a → test a ≡ true → list_any test accounts ≡ true
-  one_passes a within is passes = list_any_at test accounts (get_or held i 0) a (held_within held accounts h i within) (ap test (sym is) ∙ passes)
-
-  -- none at one place more
-  pub none_more : (a : Account) → i < length held → a ≡ get_or accounts (get_or held i 0) a → test a ≡ false
-      → list_any (λ p. passes_at test accounts p) (take i held) ≡ false → list_any (λ p. passes_at test accounts p) (take (i + 1) held) ≡ false
-  none_more a within is fails none =
-      list_any_more (λ p. passes_at test accounts p) held i 0 within
-      ∙ or_from _ _ none (passes_read test accounts (get_or held i 0) a (held_within held accounts h i within) is ∙ fails)
-
-  -- none at all
-  pub none_at_all : ((a : Account) → test a ≡ true → is_held a ≡ true) → length held ≤ i → list_any (λ p. passes_at test accounts p) (take i held) ≡ false
-      → list_any test accounts ≡ false
-  none_at_all only past none =
-      none_held test only held accounts h (ap (list_any (λ p. passes_at test accounts p)) (sym (take_all i held past)) ∙ none)
-
 -- ---- a change at each of the places
 
 -- f was applied at the first i places: each account that it would still change stands at one of the others
@@ -135,7 +124,8 @@ pub record IsChanging (f : Account → Account) (held : List ℕ) (old now : Lis
   pub same : map f now ≡ map f old
   pub rest : (q : ℕ) (d : Account) → q < length now → list_any (nat_eq q) (drop i held) ≡ false → f (get_or now q d) ≡ get_or now q d
 
-pub changing_none : (f : Account → Account) → ((a : Account) → is_held a ≡ false → f a ≡ a) → (held : List ℕ) (accounts : List Account) → AreHeld held accounts → IsChanging f held accounts accounts 0
+pub changing_none : (f : Account → Account) → ((a : Account) → is_held a ≡ false → f a ≡ a) → (held : List ℕ) (accounts : List Account) → AreHeld held accounts
+    → IsChanging f held accounts accounts 0
 changing_none f unheld held accounts h = record {
   same = refl;
   rest = λ q d within none.
@@ -143,7 +133,8 @@ changing_none f unheld held accounts h = record {
       unheld a (sym (passes_read is_held accounts q a within (get_or_default accounts q d a within)) ∙ sym (h.each q) ∙ none);
 }
 
-pub changing_more : (f : Account → Account) → ((a : Account) → f (f a) ≡ f a) → (held : List ℕ) (old now : List Account) (i place : ℕ) (a : Account) → IsChanging f held old now i → i < length held → place ≡ get_or held i 0 → place < length now → a ≡ get_or now place a
+pub changing_more : (f : Account → Account) → ((a : Account) → f (f a) ≡ f a) → (held : List ℕ) (old now : List Account) (i place : ℕ) (a : Account)
+    → IsChanging f held old now i → i < length held → place ≡ get_or held i 0 → place < length now → a ≡ get_or now place a
     → IsChanging f held old (set now place (f a)) (i + 1)
 changing_more f twice held old now i place a h within is there e = record {
   same =
@@ -154,7 +145,8 @@ changing_more f twice held old now i place a h within is there e = record {
         | true ↦ λ t. subst (λ (w : Account). f w ≡ w) (sym (get_or-set_at now place q (f a) d (eqb-true q place t) there)) (twice a)
         | false ↦ λ t.
             let long = length-set now place (f a) in
-            let left : list_any (nat_eq q) (drop i held) ≡ false = ap (list_any (nat_eq q)) (drop_more held i 0 within) ∙ ap (λ b. b || list_any (nat_eq q) (drop (i + 1) held)) (ap (nat_eq q) (sym is) ∙ t) ∙ none in
+            let left : list_any (nat_eq q) (drop i held) ≡ false =
+            ap (list_any (nat_eq q)) (drop_more held i 0 within) ∙ ap (λ b. b || list_any (nat_eq q) (drop (i + 1) held)) (ap (nat_eq q) (sym is) ∙ t) ∙ none in
             subst (λ (w : Account). f w ≡ w) (sym (get_or-set_other now place q (f a) d (λ y. let z = eq-eqb q place y in cc))) (h.rest q d (omega arith) left)
       ] refl;
 }
@@ -189,11 +181,8 @@ posted_twice x a =
     let v : ℤ = a.value +ℤ amount_of a.hold x in
     λ i. record { key = a.key; value = (ap (λ s. v +ℤ s) (amount_gone x a.hold) ∙ plus_none v) i; hold = where_twice (all_but x) a.hold i }
 
-pub forgotten_twice : (x : XidName) (a : Account) → forgotten_by x (forgotten_by x a) ≡ forgotten_by x a
-forgotten_twice x a = λ i. record a { hold = where_twice (all_but x) a.hold i }
-
-pub retained_twice : (states : FinMap xid_cmp State) (a : Account) → retained_in states (retained_in states a) ≡ retained_in states a
-retained_twice states a = λ i. record a { hold = where_twice (λ x. is_S3 (finmap.get states x)) a.hold i }
+pub kept_twice : (keep : XidName → Bool) (a : Account) → kept_where keep (kept_where keep a) ≡ kept_where keep a
+kept_twice keep a = λ i. record a { hold = where_twice keep a.hold i }
 
 -- an account that no branch has touched stays as it is
 untouched : (a : Account) → is_held a ≡ false → a.hold ≡ None
@@ -204,13 +193,8 @@ posted_untouched x a h =
     let none = untouched a h in
     λ i. record { key = a.key; value = (ap (λ o. a.value +ℤ amount_of o x) none ∙ plus_none a.value) i; hold = (ap (λ o. hold_without o x) none ∙ sym none) i }
 
-pub forgotten_untouched : (x : XidName) (a : Account) → is_held a ≡ false → forgotten_by x a ≡ a
-forgotten_untouched x a h = let none = untouched a h in λ i. record a { hold = (ap (λ o. hold_without o x) none ∙ sym none) i }
-
-pub retained_untouched : (states : FinMap xid_cmp State) (a : Account) → is_held a ≡ false → retained_in states a ≡ a
-retained_untouched states a h =
-    let none = untouched a h in
-    λ i. record a { hold = (ap (hold_where (λ x. is_S3 (finmap.get states x))) none ∙ sym none) i }
+pub kept_untouched : (keep : XidName → Bool) (a : Account) → is_held a ≡ false → kept_where keep a ≡ a
+kept_untouched keep a h = let none = untouched a h in λ i. record a { hold = (ap (hold_where keep) none ∙ sym none) i }
 
 -- what x has posted takes no value out of the limits
 posted_whole : (x : XidName) (a : Account) → is_broken_by (posted_by x a) x ≡ false
@@ -221,20 +205,23 @@ posted_whole x a =
     ] (a.value +ℤ amount_of a.hold x)
 
 -- and so the accounts do with one more of them posted
-pub whole_more : (x : XidName) (accounts : List Account) (i : ℕ) (a : Account) → i < length accounts → a ≡ get_or accounts i a → list_any (λ b. is_broken_by b x) accounts ≡ false
+pub whole_more : (x : XidName) (accounts : List Account) (i : ℕ) (a : Account) → i < length accounts → a ≡ get_or accounts i a
+    → list_any (λ b. is_broken_by b x) accounts ≡ false
     → list_any (λ b. is_broken_by b x) (set accounts i (posted_by x a)) ≡ false
 whole_more x accounts i a within e whole =
-    any_set (λ b. is_broken_by b x) accounts i a (posted_by x a) within e (posted_whole x a ∙ sym (passes_none (λ b. is_broken_by b x) accounts i a within e whole)) ∙ whole
+    any_set (λ b. is_broken_by b x) accounts i a (posted_by x a) within e (posted_whole x a ∙ sym (passes_none (λ b. is_broken_by b x) accounts i a within e whole))
+    ∙ whole
 
 -- ---- the places that stay
 
-pub where_held : (keep : XidName → Bool) (o : Option Hold) → is_some (hold_where keep o) ≡ true → is_some o ≡ true
+where_held : (keep : XidName → Bool) (o : Option Hold) → is_some (hold_where keep o) ≡ true → is_some o ≡ true
 where_held keep None h = h
 where_held keep (Some l) h = refl
 
 kept_all : (P : ℕ → Type 0) (test : ℕ → Bool) (ps : List ℕ) → AllByRecursion P ps → AllByRecursion P (filter test ps)
 kept_all P test [] h = tt
-kept_all P test (p ∷ ps) h = elim (test p) as (λ b. AllByRecursion P (cond b (p ∷ filter test ps) (filter test ps))) [ true ↦ (h.0, kept_all P test ps h.1) | false ↦ kept_all P test ps h.1 ]
+kept_all P test (p ∷ ps) h =
+    elim (test p) as (λ b. AllByRecursion P (cond b (p ∷ filter test ps) (filter test ps))) [ true ↦ (h.0, kept_all P test ps h.1) | false ↦ kept_all P test ps h.1 ]
 
 kept_once : (test : ℕ → Bool) (ps : List ℕ) → IsDistinct nat_eq ps → IsDistinct nat_eq (filter test ps)
 kept_once test [] h = h
@@ -246,7 +233,8 @@ kept_once test (p ∷ ps) h =
     ]
 
 -- once some branches let go of their keys
-pub held_kept : (f : Account → Account) → ((a : Account) → is_held (f a) ≡ true → is_held a ≡ true) → (held : List ℕ) (accounts : List Account) → AreHeld held accounts → AreHeld (filter (is_held_at (map f accounts)) held) (map f accounts)
+held_kept : (f : Account → Account) → ((a : Account) → is_held (f a) ≡ true → is_held a ≡ true) → (held : List ℕ) (accounts : List Account)
+    → AreHeld held accounts → AreHeld (filter (is_held_at (map f accounts)) held) (map f accounts)
 held_kept f only held accounts h = record {
   once = kept_once (is_held_at (map f accounts)) held h.once;
   each = λ q.
@@ -255,8 +243,25 @@ held_kept f only held accounts h = record {
       ∙ elim (stays q) as (λ b. stays q ≡ b → (b && is_held_at accounts q) ≡ b) [ true ↦ λ t. passes_map is_held f only accounts q t | false ↦ λ t. refl ] refl;
 }
 
+-- what holds of the accounts holds once each was changed by an f by which some branches let go of their keys
+pub accounts_kept : (keep : XidName → Bool) (f : Account → Account) → LetsGo keep f → (n : ℕ) (places : FinMap key_cmp ℕ) (held : List ℕ) (old : List Account)
+    → {now : List Account} {left : List ℕ} {room cap : ℕ} → now ≡ map f old → left ≡ filter (is_held_at now) held → room ≡ cap
+    → AreDistinct old → All (IsGood n) (map f old) → AreIndexed places old → AreHeld held old → length old ≤ cap
+    → AreDistinct now × All (IsGood n) now × AreIndexed places now × AreHeld left now × (length now ≤ room)
+accounts_kept keep f g n places held old {now = now} {left = left} {room = room} {cap = cap} all kept same apart good indexed h fits =
+    let places_left : left ≡ filter (is_held_at (map f old)) held = kept ∙ ap (λ as1. filter (is_held_at as1) held) all in
+    subst (λ (as1 : List Account). AreDistinct as1 × All (IsGood n) as1 × AreIndexed places as1 × AreHeld left as1 × (length as1 ≤ room)) (sym all) (
+      distinct_changed f g.key old apart,
+      good,
+      indexed_map places f g.key old indexed,
+      subst (λ (ps : List ℕ). AreHeld ps (map f old)) (sym places_left)
+          (held_kept f (λ a is. where_held keep a.hold (sym (ap is_some (g.hold a)) ∙ is)) held old h),
+      omega (arith, length-map old f),
+    )
+
 -- once a branch has added at a place
-pub held_noted : (held : List ℕ) (accounts : List Account) (i : ℕ) (a b : Account) → AreHeld held accounts → i < length accounts → a ≡ get_or accounts i a → is_held b ≡ true → AreHeld (noted held (is_held a) i) (set accounts i b)
+pub held_noted : (held : List ℕ) (accounts : List Account) (i : ℕ) (a b : Account) → AreHeld held accounts → i < length accounts → a ≡ get_or accounts i a
+    → is_held b ≡ true → AreHeld (noted held (is_held a) i) (set accounts i b)
 held_noted held accounts i a b h within e touched =
     let was : is_held_at accounts i ≡ is_held a = passes_read is_held accounts i a within e in
     let now : is_held_at (set accounts i b) i ≡ true = passes_set is_held accounts i b within ∙ touched in
@@ -274,7 +279,8 @@ held_noted held accounts i a b h within e touched =
       | false ↦ λ w. record {
         once = IsDistinct-push nat_eq_equiv held i h.once (h.each i ∙ was ∙ w);
         each = λ q.
-            list_any-append (nat_eq q) held (i ∷ []) ∙ elim (nat_eq q i) as (λ t. nat_eq q i ≡ t → (list_any (nat_eq q) held || (t || false)) ≡ is_held_at (set accounts i b) q) [
+            list_any-append (nat_eq q) held (i ∷ [])
+            ∙ elim (nat_eq q i) as (λ t. nat_eq q i ≡ t → (list_any (nat_eq q) held || (t || false)) ≡ is_held_at (set accounts i b) q) [
               | true ↦ λ t. or_right _ _ refl ∙ sym now ∙ ap (is_held_at (set accounts i b)) (sym (here q t))
               | false ↦ λ t. or-false _ ∙ h.each q ∙ sym (other q t)
             ] refl;
@@ -282,7 +288,8 @@ held_noted held accounts i a b h within e touched =
     ] refl
 
 -- where nobody has touched the account, there is room for its place
-pub note_room : (held : List ℕ) (accounts : List Account) (i : ℕ) (a : Account) (x : XidName) (d : ℤ) → AreHeld held accounts → i < length accounts → a ≡ get_or accounts i a → is_held a ≡ false → length held < length accounts
+pub note_room : (held : List ℕ) (accounts : List Account) (i : ℕ) (a : Account) (x : XidName) (d : ℤ) → AreHeld held accounts → i < length accounts
+    → a ≡ get_or accounts i a → is_held a ≡ false → length held < length accounts
 note_room held accounts i a x d h within e none =
     let b : Account = added_to a x d in
     let room : length (noted held (is_held a) i) ≤ length (set accounts i b) = held_room _ _ (held_noted held accounts i a b h within e refl) in

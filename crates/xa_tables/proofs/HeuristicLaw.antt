@@ -19,14 +19,16 @@ use Rattle.xa_tables.specs.declared.state.RollbackReason.{RollbackReason}
 use Rattle.xa_tables.specs.declared.state.RollbackReason.TheVariants.{Failed, Transient}
 use Rattle.xa_tables.specs.declared.state.HeuristicDecision.{HeuristicDecision}
 use Rattle.xa_tables.specs.declared.state.HeuristicDecision.TheVariants as decision
-use Rattle.xa_tables.specs.Tables.{Tables, has_opened, state_of, exists, is_S3, is_S4, is_S5, is_prepared, is_rollback_only, is_completed, decision_in, decision_of, reason_in, reason_of, is_somebody_associated}
+use Rattle.xa_tables.specs.Tables.{Tables, has_opened, state_of, exists, is_S3, is_S4, is_S5, is_prepared, is_rollback_only, is_completed, decision_in}
+use Rattle.xa_tables.specs.Tables.{decision_of, reason_in, reason_of, is_somebody_associated}
 use Rattle.xa_tables.specs.Reasons.{reason_code, decision_code}
 use Rattle.xa_tables.specs.Next.{Answer, next, completed, committed, gone}
 use Rattle.xa_tables.specs.History.{History, HeurCommitted, HeurRolledBack, fate_of, fates_in, coded, decided_fate, heur_fate}
 use Rattle.xa_tables.specs.Prepared.{names, is_heur, is_forget, OnlyDecides, IsTold}
 use Rattle.xa_base.proofs.Truth.{by_if, at_true}
 use Rattle.xa_tables.proofs.ShutLemmas.{next-shut}
-use Rattle.xa_tables.proofs.Effects.{Effect, Starts, Joins, Fails, Idles, Dooms, Prepares, Commits, Drops, CommitsByItself, RollsBackByItself, Forgets, effect_of, error_tells, named_none}
+use Rattle.xa_tables.proofs.Effects.{Effect, Starts, Joins, Fails, Idles, Dooms, Prepares, Commits, Drops, CommitsByItself, RollsBackByItself, Forgets}
+use Rattle.xa_tables.proofs.Effects.{effect_of, error_tells, named_none}
 use Rattle.xa_tables.proofs.Law.{get_put, get_gone}
 use Rattle.xa_tables.proofs.SoundLemmas.{others_put, others_removed}
 use Rattle.xa_tables.proofs.Unnamed.{unnamed_fate, differs}

@@ -23,7 +23,8 @@ all_refused : (h : History) (T : Tables) → T.shut ≡ true → codes h T ≡ m
 all_refused [] T s = refl
 all_refused (r ∷ h) T s = ap (λ (a : Answer). a.1 ∷ codes h a.0) (next-shut r.thread r.op T s) ∙ ap (λ cs. RmFail ∷ cs) (all_refused h T s)
 
-from_shut : (t : ℕ) (op : Op) (h : History) (T : Tables) → op ≡ Shut → T.shut ≡ false → (next t op T).1 ∷ codes h (next t op T).0 ≡ Done ∷ map (λ (q : Request). RmFail) h
+from_shut : (t : ℕ) (op : Op) (h : History) (T : Tables) → op ≡ Shut → T.shut ≡ false
+    → (next t op T).1 ∷ codes h (next t op T).0 ≡ Done ∷ map (λ (q : Request). RmFail) h
 from_shut t op h T is s =
     ap (λ (o : Op). (next t o T).1 ∷ codes h (next t o T).0) is
     ∙ ap (λ (a : Answer). a.1 ∷ codes h a.0) (next-Shut t T s) ∙ ap (λ cs. Done ∷ cs) (all_refused h (shut_down T) refl)

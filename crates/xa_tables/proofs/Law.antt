@@ -21,12 +21,15 @@ use Rattle.xa_tables.specs.declared.state.AssociationState.{AssociationState}
 use Rattle.xa_tables.specs.declared.state.AssociationState.TheVariants.{Associated, Suspended}
 use Rattle.xa_tables.specs.Tables.{Tables, association_of, state_of, is_S3, is_S5, is_prepared, is_association_with, is_associated, is_somebody_associated}
 use Rattle.xa_tables.specs.Next.{Answer, next, gone, forgotten, stated, with_association, associated, dissociated, association}
-use Rattle.xa_tables.specs.History.{History, Fate, ending_by, InDoubt, Live, Committed, ReadOnly, RolledBack, HeurCommitted, HeurRolledBack, Absent, is_in_doubt, is_unfinished, fate_of, last_or, if_named, tables_after, coded}
+use Rattle.xa_tables.specs.History.{History, Fate, ending_by, InDoubt, Live, Committed, ReadOnly, RolledBack, HeurCommitted, HeurRolledBack, Absent}
+use Rattle.xa_tables.specs.History.{is_in_doubt, is_unfinished, fate_of, last_or, if_named, tables_after, coded}
 use Rattle.xa_tables.specs.Openings.{IsOpening}
 use Rattle.std.specs.List.{filter_map, cons_option}
-use Rattle.xa_tables.proofs.MapLemmas.{none_pass}
-use Rattle.xa_tables.proofs.Effects.{Effect, Stays, Starts, Joins, Resumes, Suspends, Leaves, Fails, Idles, Dooms, Prepares, Commits, Drops, CommitsByItself, RollsBackByItself, Forgets, effect_of, named_none}
-use Rattle.xa_tables.proofs.SoundLemmas.{AreHeld, held_put, held_associated, held_dissociated, held_apart, held_now, associated_held, others_put, others_removed}
+use Rattle.xa_base.proofs.FinMaps.{none_pass}
+use Rattle.xa_tables.proofs.Effects.{Effect, Stays, Starts, Joins, Resumes, Suspends, Leaves, Fails, Idles, Dooms, Prepares, Commits, Drops, CommitsByItself}
+use Rattle.xa_tables.proofs.Effects.{RollsBackByItself, Forgets, effect_of, named_none}
+use Rattle.xa_tables.proofs.SoundLemmas.{AreHeld, held_put, held_associated, held_dissociated, held_apart, held_now, associated_held, others_put}
+use Rattle.xa_tables.proofs.SoundLemmas.{others_removed}
 
 -- how a branch stands, as its state and as its fate have it
 pub data Standing : Type 0 where
@@ -63,44 +66,24 @@ is_voted Voted = true
 is_voted s = false
 
 pub state_voted : (o : Option State) → is_S3 o ≡ is_voted (standing o)
-state_voted None = refl
-state_voted (Some Active) = refl
-state_voted (Some Idle) = refl
 state_voted (Some S3) = refl
-state_voted (Some (RollbackOnly reason)) = refl
-state_voted (Some (HeuristicallyCompleted decision)) = refl
+state_voted o = refl
 
 pub fate_voted : (f : Fate) → is_in_doubt f ≡ is_voted (standing_of f)
-fate_voted Absent = refl
 fate_voted Live = refl
-fate_voted InDoubt = refl
-fate_voted Committed = refl
-fate_voted ReadOnly = refl
-fate_voted RolledBack = refl
-fate_voted HeurCommitted = refl
-fate_voted HeurRolledBack = refl
+fate_voted f = refl
 
 abbrev pub is_there : Standing → Bool
 is_there Nowhere = false
 is_there s = true
 
 pub state_there : (o : Option State) → is_some o ≡ (is_there (standing o) || is_S5 o)
-state_there None = refl
-state_there (Some Active) = refl
-state_there (Some Idle) = refl
 state_there (Some S3) = refl
-state_there (Some (RollbackOnly reason)) = refl
-state_there (Some (HeuristicallyCompleted decision)) = refl
+state_there o = refl
 
 pub fate_there : (f : Fate) → is_unfinished f ≡ is_there (standing_of f)
-fate_there Absent = refl
 fate_there Live = refl
-fate_there InDoubt = refl
-fate_there Committed = refl
-fate_there ReadOnly = refl
-fate_there RolledBack = refl
-fate_there HeurCommitted = refl
-fate_there HeurRolledBack = refl
+fate_there f = refl
 
 -- a branch that exists and is in neither S3 nor S5
 works : (o : Option State) → is_some o ≡ true → (is_S3 o || is_S5 o) ≡ false → standing o ≡ AtWork
@@ -151,7 +134,8 @@ owes_gone x y g f T e h =
     ∙ elim (xid_eq y x) as (λ b. standing (if b then None else state_of T x) ≡ standing_of (unwrap_or (if b then Some g else None) f)) [ true ↦ e | false ↦ h ]
 
 -- y is put into a state in which it stands as it stood
-quiet_put : (x y : XidName) (s : State) (T : Tables) → standing (Some s) ≡ standing (state_of T y) → standing (state_of (stated y s T) x) ≡ standing (state_of T x)
+quiet_put : (x y : XidName) (s : State) (T : Tables) → standing (Some s) ≡ standing (state_of T y)
+    → standing (state_of (stated y s T) x) ≡ standing (state_of T x)
 quiet_put x y s T e =
     ap standing (get_put T y x s)
     ∙ elim (xid_eq y x) as (λ b. xid_eq y x ≡ b → standing (if b then Some s else state_of T x) ≡ standing (state_of T x)) [
@@ -193,8 +177,10 @@ associated_alive t y T s =
       | Some l ↦ λ e h. associated_held standing AtWork T.associations T.states t l y s.at_work (sym e) (sym h)
     ] refl
 
-reassociated : (t : ℕ) (y : XidName) (state : AssociationState) (T : Tables) → Sound T → is_associated T t y ≡ true → Sound (with_association t (association y state) T)
-reassociated t y state T s h = record { at_work = held_associated standing AtWork T.associations _ T.states t (association y state) refl (associated_alive t y T s h) s.at_work }
+reassociated : (t : ℕ) (y : XidName) (state : AssociationState) (T : Tables) → Sound T → is_associated T t y ≡ true
+    → Sound (with_association t (association y state) T)
+reassociated t y state T s h =
+    record { at_work = held_associated standing AtWork T.associations _ T.states t (association y state) refl (associated_alive t y T s h) s.at_work }
 
 -- a fate that ends a branch without a commit leaves it nowhere
 dropped_nowhere : (g : Fate) → ending_by g ≡ Some false → Nowhere ≡ standing_of g
@@ -214,13 +200,16 @@ module _ (t : ℕ) (x : XidName) (f : Fate) (T : Tables) (s : Sound T) (h : stan
   removed y nobody = held_apart standing AtWork _ _ _ y (others_removed T.states y) nobody s.at_work
 
   -- a prepared branch is decided heuristically
-  decided : (y : XidName) (d : HeuristicDecision) → is_prepared T y ≡ true → AreHeld standing AtWork T.associations (stated y (HeuristicallyCompleted d) T).states
-  decided y d voted = held_apart standing AtWork T.associations T.states _ y (others_put T.states y (HeuristicallyCompleted d)) (nobody_rests T s y (voted_rests (state_of T y) voted)) s.at_work
+  decided : (y : XidName) (d : HeuristicDecision) → is_prepared T y ≡ true
+      → AreHeld standing AtWork T.associations (stated y (HeuristicallyCompleted d) T).states
+  decided y d voted =
+      held_apart standing AtWork T.associations T.states _ y (others_put T.states y (HeuristicallyCompleted d)) (nobody_rests T s y (voted_rests (state_of T y) voted)) s.at_work
 
   by_effect : {op : Op} {a : Answer} → Effect t T op a → Step x op f a
   by_effect (Stays op c tells) = same op (T, c) s (tells.fates x) h
   by_effect (Starts y free) = record { sound = started t y T s; owes = owes_put x y Active Live f T refl h }
-  by_effect (Joins y free there unprepared) = same (Start y Join) _ (started t y T s) (named_none x y) (quiet_put x y Active T (sym (works _ there unprepared)) ∙ h)
+  by_effect (Joins y free there unprepared) =
+      same (Start y Join) _ (started t y T s) (named_none x y) (quiet_put x y Active T (sym (works _ there unprepared)) ∙ h)
   by_effect (Resumes y own) = same (Start y Resume) _ (reassociated t y Associated T s own) (named_none x y) h
   by_effect (Suspends y own) = record { sound = reassociated t y Suspended T s own; owes = h }
   by_effect (Leaves y how c own why) = record { sound = left; owes = h }
@@ -245,8 +234,10 @@ module _ (t : ℕ) (x : XidName) (f : Fate) (T : Tables) (s : Sound T) (h : stan
     sound = record { at_work = removed y nobody };
     owes = owes_gone x y tells.fate f T (dropped_nowhere tells.fate tells.uncommitted) h ∙ ap (λ o. standing_of (unwrap_or o f)) (sym (tells.fates x));
   }
-  by_effect (CommitsByItself y voted) = record { sound = record { at_work = decided y decision.Commit voted }; owes = owes_put x y (HeuristicallyCompleted decision.Commit) HeurCommitted f T refl h }
-  by_effect (RollsBackByItself y voted) = record { sound = record { at_work = decided y decision.Rollback voted }; owes = owes_put x y (HeuristicallyCompleted decision.Rollback) HeurRolledBack f T refl h }
+  by_effect (CommitsByItself y voted) =
+      record { sound = record { at_work = decided y decision.Commit voted }; owes = owes_put x y (HeuristicallyCompleted decision.Commit) HeurCommitted f T refl h }
+  by_effect (RollsBackByItself y voted) =
+      record { sound = record { at_work = decided y decision.Rollback voted }; owes = owes_put x y (HeuristicallyCompleted decision.Rollback) HeurRolledBack f T refl h }
   by_effect (Forgets y is) =
       let nowhere = completed_nowhere (state_of T y) is in
       same (Forget y) _ (record { at_work = removed y (nobody_rests T s y (λ w. let z : Nowhere ≡ AtWork = sym nowhere ∙ w in cc)) }) refl (quiet_gone x y T nowhere ∙ h)
@@ -264,7 +255,8 @@ last_more f (Some g) gs = refl
 abbrev pub fates : XidName → History → Tables → List Fate
 fates x H T = filter_map (λ e. fate_of x e.0.op e.1) (coded H T)
 
-pub run : (H : History) (x : XidName) (f : Fate) (T : Tables) → Sound T → standing (state_of T x) ≡ standing_of f → standing (state_of (tables_after H T) x) ≡ standing_of (last_or f (fates x H T))
+pub run : (H : History) (x : XidName) (f : Fate) (T : Tables) → Sound T → standing (state_of T x) ≡ standing_of f
+    → standing (state_of (tables_after H T) x) ≡ standing_of (last_or f (fates x H T))
 run [] x f T s h = h
 run (r ∷ H) x f T s h =
     let T1 : Tables = (next r.thread r.op T).0 in

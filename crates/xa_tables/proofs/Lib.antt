@@ -1,5 +1,3 @@
-pub mod MapLemmas
-pub mod HashLemmas
 pub mod ThreadLemmas
 pub mod SetLemmas
 pub mod SoundLemmas
@@ -9,6 +7,7 @@ pub mod PlaceLemmas
 pub mod HeldLemmas
 pub mod Effects
 pub mod Law
+pub mod Moves
 pub mod ValueLaw
 pub mod AddedLaw
 pub mod WorthLaw

@@ -1,5 +1,6 @@
 -- Where the keys stand among the accounts, and what was declared.
-use Rattle.std.specs.Prelude.{◌≡◌, ℕ, pos, zero, suc, ◌+◌, ◌<◌, ◌≤◌, All, Bool, true, false, cond, ◌&&◌, ◌||◌, if◌then◌else◌, nat_le, List, [], ◌∷◌, ◌++◌, length, map, Option, None, Some, IsSome, is_some, refl}
+use Rattle.std.specs.Prelude.{◌≡◌, ℕ, pos, zero, suc, ◌+◌, ◌<◌, ◌≤◌, All, Bool, true, false, cond, ◌&&◌, ◌||◌, if◌then◌else◌, nat_le, List, [], ◌∷◌, ◌++◌}
+use Rattle.std.specs.Prelude.{length, map, Option, None, Some, IsSome, is_some, refl}
 use Rattle.std.proofs.Common.{sym, ap, ◌∙◌, arith, get_or, take, length-take-le}
 use Rattle.std.proofs.Math.ListN.{set}
 use Rattle.std.proofs.lemmas.Int.{ints}
@@ -16,7 +17,8 @@ use Rattle.xa_words.specs.Xid.{XidName}
 use Rattle.xa_words.specs.Key.{key_eq}
 use Rattle.xa_words.specs.Orders.{key_cmp, key_cmp_total, Decides-key_eq, key_eq-by_cmp}
 use Rattle.xa_tables.specs.declared.accounts.Account.{Account}
-use Rattle.xa_tables.specs.Accounts.{AreDistinct, AreIndexed, IsGood, value_entries, hold_entries, place_in, later_place, hold_is_other, is_held_by_other, are_apart, are_accounts, declared_values}
+use Rattle.xa_tables.specs.Accounts.{AreDistinct, AreIndexed, IsGood, value_entries, hold_entries, place_in, later_place, hold_is_other, is_held_by_other}
+use Rattle.xa_tables.specs.Accounts.{are_apart, are_accounts, declared_values}
 use Rattle.xa_tables.proofs.AccountLemmas.{same_key, key_self, key_apart, Lacks, is_other}
 
 swapped : (k l : List ℕ) → key_eq l k ≡ same_key k l
@@ -64,9 +66,11 @@ place_some k (a ∷ rest) =
     ] (place_some k rest)
 
 -- a declared key has a place
-pub is_placed : (k : List ℕ) (accounts : List Account) (o : Option ℕ) → o ≡ place_in k accounts → is_some (finmap.get (from_entries {R = key_cmp} (value_entries accounts)) k) ≡ true → IsSome o
+pub is_placed : (k : List ℕ) (accounts : List Account) (o : Option ℕ) → o ≡ place_in k accounts
+    → is_some (finmap.get (from_entries {R = key_cmp} (value_entries accounts)) k) ≡ true → IsSome o
 is_placed k accounts o e declared =
-    let there : is_some o ≡ true = ap is_some e ∙ place_some k accounts ∙ ap is_some (sym (get-from_entries key_cmp_total (value_entries accounts) k)) ∙ declared in
+    let there : is_some o ≡ true =
+    ap is_some e ∙ place_some k accounts ∙ ap is_some (sym (get-from_entries key_cmp_total (value_entries accounts) k)) ∙ declared in
     elim o as (λ p. is_some p ≡ true → IsSome p) [ None ↦ λ f. cc | Some i ↦ λ f. refl ] there
 
 -- a key's value, by its place
@@ -74,16 +78,20 @@ pub value_none : (k : List ℕ) (accounts : List Account) → place_in k account
 value_none k accounts e =
     elim (find key_cmp k (value_entries accounts)) as (λ o. is_some o ≡ false → o ≡ None) [ Some v ↦ λ f. let never : ⊥ = cc in absurd never | None ↦ λ f. refl ] (sym (place_some k accounts) ∙ ap is_some e)
 
-found : (k : List ℕ) (accounts : List Account) (i : ℕ) (a : Account) → AreDistinct accounts → i < length accounts → a ≡ get_or accounts i a → a.key ≡ k → find key_cmp k (value_entries accounts) ≡ Some a.value
+found : (k : List ℕ) (accounts : List Account) (i : ℕ) (a : Account) → AreDistinct accounts → i < length accounts → a ≡ get_or accounts i a → a.key ≡ k
+    → find key_cmp k (value_entries accounts) ≡ Some a.value
 found k [] i a dist h e same = absurd (omega arith)
 found k (c ∷ rest) zero a dist h e same =
-    ap (λ b. cond b (Some c.value) (find key_cmp k (value_entries rest))) (ap (same_key k) (sym (ap (λ (w : Account). w.key) e) ∙ same) ∙ key_self k) ∙ ap (λ (w : Account). Some w.value) (sym e)
+    ap (λ b. cond b (Some c.value) (find key_cmp k (value_entries rest))) (ap (same_key k) (sym (ap (λ (w : Account). w.key) e) ∙ same) ∙ key_self k)
+    ∙ ap (λ (w : Account). Some w.value) (sym e)
 found k (c ∷ rest) (suc i) a dist h e same =
     let later = found k rest i a dist.1 (omega arith) e same in
     ap (λ b. cond b (Some c.value) (find key_cmp k (value_entries rest)))
-    (key_apart k c.key (λ is. let z : is_some (find key_cmp k (value_entries rest)) ≡ false = ap (λ w. is_some (find key_cmp w (value_entries rest))) is ∙ ap is_some dist.0 in let y = ap is_some later in cc)) ∙ later
+    (key_apart k c.key (λ is. let z : is_some (find key_cmp k (value_entries rest)) ≡ false = ap (λ w. is_some (find key_cmp w (value_entries rest))) is ∙ ap is_some dist.0 in let y = ap is_some later in cc))
+    ∙ later
 
-pub value_at : (k : List ℕ) (accounts : List Account) (i : ℕ) (a : Account) → AreDistinct accounts → place_in k accounts ≡ Some i → a ≡ get_or accounts i a → find key_cmp k (value_entries accounts) ≡ Some a.value
+pub value_at : (k : List ℕ) (accounts : List Account) (i : ℕ) (a : Account) → AreDistinct accounts → place_in k accounts ≡ Some i → a ≡ get_or accounts i a
+    → find key_cmp k (value_entries accounts) ≡ Some a.value
 value_at k accounts i a dist there e = found k accounts i a dist (place_within k accounts i there) e (place_key k accounts i a there e)
 
 -- one more account at the end
@@ -93,25 +101,30 @@ place_push k (c ∷ xs) a =
     ap (λ o. later_place o (key_eq c.key k)) (place_push k xs a)
     ∙ elim (key_eq a.key k) as (λ b. later_place (cond b (Some (length xs)) (place_in k xs)) (key_eq c.key k) ≡ cond b (Some (suc (length xs))) (later_place (place_in k xs) (key_eq c.key k))) [ true ↦ refl | false ↦ refl ]
 
-pub indexed_push : (places : FinMap key_cmp ℕ) (xs : List Account) (a : Account) → AreIndexed places xs → AreIndexed (finmap.insert places a.key (length xs)) (xs ++ a ∷ [])
+pub indexed_push : (places : FinMap key_cmp ℕ) (xs : List Account) (a : Account) → AreIndexed places xs
+    → AreIndexed (finmap.insert places a.key (length xs)) (xs ++ a ∷ [])
 indexed_push places xs a h k =
     get-insert key_cmp_total places a.key (length xs) k
     ∙ (λ i. cond (sym (swapped k a.key) i) (Some (length xs)) (h k i)) ∙ sym (place_push k xs a)
 
 -- accounts that keep their keys keep their places
-place_map : (k : List ℕ) (f : Account → Account) → ((a : Account) → (f a).key ≡ a.key) → (accounts : List Account) → place_in k (map f accounts) ≡ place_in k accounts
+place_map : (k : List ℕ) (f : Account → Account) → ((a : Account) → (f a).key ≡ a.key) → (accounts : List Account)
+    → place_in k (map f accounts) ≡ place_in k accounts
 place_map k f keeps [] = refl
 place_map k f keeps (a ∷ rest) = λ i. later_place (place_map k f keeps rest i) (key_eq (keeps a i) k)
 
-pub indexed_map : (places : FinMap key_cmp ℕ) (f : Account → Account) → ((a : Account) → (f a).key ≡ a.key) → (accounts : List Account) → AreIndexed places accounts → AreIndexed places (map f accounts)
+pub indexed_map : (places : FinMap key_cmp ℕ) (f : Account → Account) → ((a : Account) → (f a).key ≡ a.key) → (accounts : List Account)
+    → AreIndexed places accounts → AreIndexed places (map f accounts)
 indexed_map places f keeps accounts h k = h k ∙ sym (place_map k f keeps accounts)
 
-place_set : (k : List ℕ) (accounts : List Account) (i : ℕ) (a b : Account) → i < length accounts → a ≡ get_or accounts i a → b.key ≡ a.key → place_in k (set accounts i b) ≡ place_in k accounts
+place_set : (k : List ℕ) (accounts : List Account) (i : ℕ) (a b : Account) → i < length accounts → a ≡ get_or accounts i a → b.key ≡ a.key
+    → place_in k (set accounts i b) ≡ place_in k accounts
 place_set k [] i a b h e same = refl
 place_set k (c ∷ rest) zero a b h e same = ap (λ own. later_place (place_in k rest) (key_eq own k)) (same ∙ ap (λ (w : Account). w.key) e)
 place_set k (c ∷ rest) (suc i) a b h e same = ap (λ o. later_place o (key_eq c.key k)) (place_set k rest i a b (omega arith) e same)
 
-pub indexed_set : (places : FinMap key_cmp ℕ) (accounts : List Account) (i : ℕ) (a b : Account) → i < length accounts → a ≡ get_or accounts i a → b.key ≡ a.key → AreIndexed places accounts → AreIndexed places (set accounts i b)
+pub indexed_set : (places : FinMap key_cmp ℕ) (accounts : List Account) (i : ℕ) (a b : Account) → i < length accounts → a ≡ get_or accounts i a → b.key ≡ a.key
+    → AreIndexed places accounts → AreIndexed places (set accounts i b)
 indexed_set places accounts i a b h e same old k = old k ∙ sym (place_set k accounts i a b h e same)
 
 -- ---- who has touched a key
@@ -132,7 +145,8 @@ other_none k x (a ∷ rest) e =
     ] refl e
 
 -- who holds a key is told by the account at its place
-pub other_at : (k : List ℕ) (x : XidName) (accounts : List Account) (i : ℕ) (a : Account) → AreDistinct accounts → place_in k accounts ≡ Some i → a ≡ get_or accounts i a → list_any (λ b. is_other b x k) accounts ≡ is_held_by_other a x
+pub other_at : (k : List ℕ) (x : XidName) (accounts : List Account) (i : ℕ) (a : Account) → AreDistinct accounts → place_in k accounts ≡ Some i
+    → a ≡ get_or accounts i a → list_any (λ b. is_other b x k) accounts ≡ is_held_by_other a x
 other_at k x [] i a dist e h = let never : ⊥ = cc in absurd never
 other_at k x (c ∷ rest) zero a dist e h =
     let same : c.key ≡ k = ap (λ (w : Account). w.key) (sym h) ∙ place_key k (c ∷ rest) zero a e h in
@@ -145,7 +159,8 @@ other_at k x (c ∷ rest) (suc i) a dist e h =
           let is : suc j ≡ suc i = cc in
           let same : j ≡ i = omega arith in
           let there : is_some (find key_cmp k (value_entries rest)) ≡ true = sym (place_some k rest) ∙ ap is_some p in
-          let other : key_eq c.key k ≡ false = false_from_ne_true _ (λ t. let s : c.key ≡ k = (Decides-key_eq c.key k).0 t in let z : is_some (find key_cmp k (value_entries rest)) ≡ false = ap (λ w. is_some (find key_cmp w (value_entries rest))) (sym s) ∙ ap is_some dist.0 in cc) in
+          let other : key_eq c.key k ≡ false =
+          false_from_ne_true _ (λ t. let s : c.key ≡ k = (Decides-key_eq c.key k).0 t in let z : is_some (find key_cmp k (value_entries rest)) ≡ false = ap (λ w. is_some (find key_cmp w (value_entries rest))) (sym s) ∙ ap is_some dist.0 in cc) in
           ap (λ b. (b && hold_is_other c.hold x) || list_any (λ b. is_other b x k) rest) other ∙ other_at k x rest i a dist.1 (p ∙ ap (λ n. Some n) same) h
       | None ↦ λ p f. let is = (one_here (key_eq c.key k) (suc i) f).1 in absurd (omega arith)
     ] refl e
@@ -185,7 +200,8 @@ distinct_apart (d ∷ ds) h = (lacks_declared d.0 ds (not-true _ (and_parts _ _ 
 pub distinct_declared : (ds : List (List ℕ × ℕ)) → are_accounts ds ≡ true → AreDistinct (map account_of ds)
 distinct_declared ds h = distinct_apart ds (and_parts _ _ (and_parts _ _ h).1).1
 
-limit_from : (ds : List (List ℕ × ℕ)) (i : ℕ) (d : List ℕ × ℕ) → list_all (λ e. nat_le e.1 1000000000000) ds ≡ true → i < length ds → d.1 ≡ (get_or ds i d).1 → d.1 ≤ 1000000000000
+limit_from : (ds : List (List ℕ × ℕ)) (i : ℕ) (d : List ℕ × ℕ) → list_all (λ e. nat_le e.1 1000000000000) ds ≡ true → i < length ds → d.1 ≡ (get_or ds i d).1
+    → d.1 ≤ 1000000000000
 limit_from ds i d each within is =
     leb-true d.1 1000000000000 (true_from_ne_false (nat_le d.1 1000000000000) (λ f. let broken = list_all_at (λ (e : List ℕ × ℕ). nat_le e.1 1000000000000) ds i d within (ap (λ v. nat_le v 1000000000000) (sym is) ∙ f) in cc))
 
@@ -201,8 +217,10 @@ good_declared ds h =
     (omega (arith, ints), omega (arith, ints), tt))
 
 -- one more declared key
-pub declared_more : (ds : List (List ℕ × ℕ)) (i : ℕ) (d : List ℕ × ℕ) → i < length ds → d ≡ get_or ds i d → map account_of (take (i + 1) ds) ≡ map account_of (take i ds) ++ account_of d ∷ []
-declared_more ds i d within is = ap (map account_of) (take_more ds i d within ∙ ap (λ e. take i ds ++ e ∷ []) (sym is)) ∙ map-append account_of (take i ds) (d ∷ [])
+pub declared_more : (ds : List (List ℕ × ℕ)) (i : ℕ) (d : List ℕ × ℕ) → i < length ds → d ≡ get_or ds i d
+    → map account_of (take (i + 1) ds) ≡ map account_of (take i ds) ++ account_of d ∷ []
+declared_more ds i d within is =
+    ap (map account_of) (take_more ds i d within ∙ ap (λ e. take i ds ++ e ∷ []) (sym is)) ∙ map-append account_of (take i ds) (d ∷ [])
 
 -- the places that were filled so far
 pub length_declared : (ds : List (List ℕ × ℕ)) (i : ℕ) → i < length ds → length (map account_of (take i ds)) ≡ i

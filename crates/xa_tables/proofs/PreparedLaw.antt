@@ -14,12 +14,14 @@ use Rattle.xa_words.specs.declared.request.Op.TheVariants.{Prepare, Commit, Roll
 use Rattle.xa_words.specs.declared.request.Request.{Request}
 use Rattle.xa_tables.specs.declared.state.State.TheVariants.{Prepared as S3, HeuristicallyCompleted}
 use Rattle.xa_tables.specs.declared.state.HeuristicDecision.{HeuristicDecision}
-use Rattle.xa_tables.specs.Tables.{Tables, has_opened, state_of, exists, is_S3, is_S4, is_S5, is_prepared, is_rollback_only, is_completed, decision_in, is_somebody_associated, has_touched, is_broken}
+use Rattle.xa_tables.specs.Tables.{Tables, has_opened, state_of, exists, is_S3, is_S4, is_S5, is_prepared, is_rollback_only, is_completed, decision_in}
+use Rattle.xa_tables.specs.Tables.{is_somebody_associated, has_touched, is_broken}
 use Rattle.xa_tables.specs.Reasons.{decision_code}
 use Rattle.xa_tables.specs.Next.{Answer, next}
 use Rattle.xa_tables.specs.History.{History, is_shut, is_rolled_back, coded, fates_in, tables_after}
 use Rattle.xa_tables.specs.Openings.{IsOpening}
-use Rattle.xa_tables.specs.Prepared.{names, closes, is_heur, is_forget, NamesNowhere, OnlyDecides, LeavesWaiting, has_shut, IsPrepared, StaysPrepared, AwaitsTheOutcome, AwaitsAfter}
+use Rattle.xa_tables.specs.Prepared.{names, closes, is_heur, is_forget, NamesNowhere, OnlyDecides, LeavesWaiting, has_shut, IsPrepared, StaysPrepared}
+use Rattle.xa_tables.specs.Prepared.{AwaitsTheOutcome, AwaitsAfter}
 use Rattle.xa_tables.proofs.ShutLemmas.{next-shut, next-Shut, shut_op}
 use Rattle.xa_base.proofs.Truth.{by_if, at_false, at_true}
 use Rattle.xa_tables.proofs.Law.{Sound, Nowhere, AtWork, standing, voted_rests, nobody_rests, get_put, sound_after, run_sound, opening_sound}
@@ -32,7 +34,8 @@ use Rattle.xa_tables.proofs.LateLaw.{stays_open}
 nobody : (x : XidName) (T : Tables) → Sound T → IsPrepared x T → is_somebody_associated T.associations x ≡ false
 nobody x T s h = nobody_rests T s x (voted_rests (state_of T x) (ap is_S3 h))
 
-pub prepared_law : (h g : History) (x : XidName) (T : Tables) → IsOpening T → IsPrepared x (tables_after h T) → NamesNowhere x g → StaysPrepared x (tables_after h T) (tables_after (h ++ g) T)
+pub prepared_law : (h g : History) (x : XidName) (T : Tables) → IsOpening T → IsPrepared x (tables_after h T) → NamesNowhere x g
+    → StaysPrepared x (tables_after h T) (tables_after (h ++ g) T)
 prepared_law h g x T o p n =
     let left = unnamed_law h g x T (nobody x (tables_after h T) (run_sound h T (opening_sound T o)) p) n in
     record { prepared = left.state ∙ p; sums = left.sums }
@@ -115,7 +118,8 @@ sums_kept h g t x T o e n k =
     let here : Tables = tables_after h T in
     let later : Tables = (next t (Prepare x) here).0 in
     let p = prepare_holds t x here e in
-    (unnamed_on g x later (nobody x later (sound_after t (Prepare x) here (run_sound h T (opening_sound T o))) p.prepared) n).sums k ∙ ap (λ m. map.get m (x, k)) p.sums
+    (unnamed_on g x later (nobody x later (sound_after t (Prepare x) here (run_sound h T (opening_sound T o))) p.prepared) n).sums k
+    ∙ ap (λ m. map.get m (x, k)) p.sums
 
 pub prepare_breaks : (t : ℕ) (x : XidName) (T : Tables) → is_rolled_back (next t (Prepare x) T).1 ≡ true → (next t (Prepare x) T).1 ≡ RbIntegrity
 unfolding next
@@ -145,7 +149,8 @@ only_decides : (t : ℕ) (x : XidName) (g : History) → LeavesWaiting t x g →
 only_decides t x g n k d lt named = ap (λ b. b || is_forget (get_or g k d).op) ((n k d lt).0 named)
 
 -- a completed branch stays completed with its decision
-completed_on : (g : History) (t : ℕ) (x : XidName) (d : HeuristicDecision) (T : Tables) → Sound T → state_of T x ≡ Some (HeuristicallyCompleted d) → has_opened T t ≡ true → LeavesWaiting t x g
+completed_on : (g : History) (t : ℕ) (x : XidName) (d : HeuristicDecision) (T : Tables) → Sound T → state_of T x ≡ Some (HeuristicallyCompleted d)
+    → has_opened T t ≡ true → LeavesWaiting t x g
     → AwaitsTheOutcome t x (Some d) (tables_after g T)
 completed_on [] t x d T s h o n = told t x T o d h
 completed_on (r ∷ g) t x d T s h o n =
@@ -154,7 +159,8 @@ completed_on (r ∷ g) t x d T s h o n =
     let stays : state_of (next r.thread r.op T).0 x ≡ Some (HeuristicallyCompleted d) =
     elim (names x r.op) as (λ b. names x r.op ≡ b → state_of (next r.thread r.op T).0 x ≡ Some (HeuristicallyCompleted d)) [
       | true ↦ λ named. by_decision (next r.thread r.op T) (decides r.thread x r.op T named (first.0 named))
-      | false ↦ λ unnamed. (unnamed_stays r.thread r.op x T (nobody_rests T s x (λ w. let z : Nowhere ≡ AtWork = sym (ap standing h) ∙ w in cc)) unnamed).state ∙ h
+      | false ↦ λ unnamed. (unnamed_stays r.thread r.op x T (nobody_rests T s x (λ w. let z : Nowhere ≡ AtWork = sym (ap standing h) ∙ w in cc)) unnamed).state
+          ∙ h
     ] refl in
     completed_on g t x d (next r.thread r.op T).0 (sound_after r.thread r.op T s) stays (opened_one r t T o first.1) rest
   where
@@ -163,7 +169,8 @@ completed_on (r ∷ g) t x d T s h o n =
     by_decision a (Completes c voted state opened fate) = let z : true ≡ false = sym voted ∙ ap is_S3 h in cc
 
 -- one request more before it: it made nothing of the branch, or decided it
-waits_past : (r : Request) (g : History) (t : ℕ) (x : XidName) (T : Tables) → Sound T → has_opened (next r.thread r.op T).0 t ≡ true → LeavesWaiting t x g → (IsPrepared x (next r.thread r.op T).0 → AwaitsAfter t x g (next r.thread r.op T).0)
+waits_past : (r : Request) (g : History) (t : ℕ) (x : XidName) (T : Tables) → Sound T → has_opened (next r.thread r.op T).0 t ≡ true → LeavesWaiting t x g
+    → (IsPrepared x (next r.thread r.op T).0 → AwaitsAfter t x g (next r.thread r.op T).0)
     → IsPrepared x T → Decides x r.op T (next r.thread r.op T) → AwaitsAfter t x (r ∷ g) T
 waits_past r g t x T s still n on p (Nothing same none) =
     let later = on (ap (λ (U : Tables). state_of U x) same ∙ p) in

@@ -6,36 +6,29 @@ use Rattle.std.specs.FinMap.{FinMap, get-empty, get-retain_keys}
 use Rattle.xa_words.specs.Xid.{XidName, xid_cmp, xid_eq}
 use Rattle.xa_words.specs.Orders.{key_cmp, xid_cmp-IsAntisymmetric}
 use Rattle.xa_tables.specs.declared.state.State.{State}
-use Rattle.xa_tables.specs.declared.state.State.TheVariants.{Active, Idle, Prepared as S3, RollbackOnly, HeuristicallyCompleted}
+use Rattle.xa_tables.specs.declared.state.State.TheVariants.{Prepared as S3}
 use Rattle.xa_tables.specs.Tables.{Tables, Touch, touch_cmp, state_of, is_S3, is_left_in, is_left, is_prepared, is_broken, is_within, value_of}
 use Rattle.xa_tables.specs.Managers.{ArePreparedSound, opening}
 use Rattle.xa_tables.specs.History.{History, tables_after}
 use Rattle.xa_tables.specs.Openings.{IsNew, IsOpening, AreLeft, reopened, left_by}
 use Rattle.xa_tables.proofs.AccountLemmas.{touch_cmp_total, touch_cmp-IsAntisymmetric}
-use Rattle.xa_tables.proofs.MapLemmas.{none_pass, none_passes}
+use Rattle.xa_base.proofs.FinMaps.{none_pass, none_passes}
 
 pub state_reopened : (T : Tables) (x : XidName) → state_of (reopened T) x ≡ cond (is_left T x) (state_of T x) None
 state_reopened T x = get-retain_keys T.states (λ y. is_left T y) x (λ y e. ap (λ z. is_left T z) (sym (xid_cmp-IsAntisymmetric x y e)))
 
 pub sums_reopened : (T : Tables) (x : XidName) (k : List ℕ) → map.get (reopened T).sums (x, k) ≡ cond (is_prepared T x) (map.get T.sums (x, k)) None
-sums_reopened T x k = get-retain_keys T.sums (λ p. is_prepared T p.0) (x, k) (λ q e. ap (λ (r : Touch). is_prepared T r.0) (sym (touch_cmp-IsAntisymmetric (x, k) q e)))
+sums_reopened T x k =
+    get-retain_keys T.sums (λ p. is_prepared T p.0) (x, k) (λ q e. ap (λ (r : Touch). is_prepared T r.0) (sym (touch_cmp-IsAntisymmetric (x, k) q e)))
 
 -- a branch is as left as it was, and as prepared
 left_stays : (o : Option State) → is_left_in (cond (is_left_in o) o None) ≡ is_left_in o
-left_stays None = refl
-left_stays (Some Active) = refl
-left_stays (Some Idle) = refl
 left_stays (Some S3) = refl
-left_stays (Some (RollbackOnly reason)) = refl
-left_stays (Some (HeuristicallyCompleted decision)) = refl
+left_stays o = refl
 
 prepared_stays : (o : Option State) → is_S3 (cond (is_left_in o) o None) ≡ is_S3 o
-prepared_stays None = refl
-prepared_stays (Some Active) = refl
-prepared_stays (Some Idle) = refl
 prepared_stays (Some S3) = refl
-prepared_stays (Some (RollbackOnly reason)) = refl
-prepared_stays (Some (HeuristicallyCompleted decision)) = refl
+prepared_stays o = refl
 
 pub as_left : (T : Tables) (x : XidName) → is_left (reopened T) x ≡ is_left T x
 as_left T x = ap is_left_in (state_reopened T x) ∙ left_stays (state_of T x)
@@ -78,8 +71,10 @@ pub same_left : (xs : List XidName) (T : Tables) → AreLeft xs T → AreLeft xs
 same_left xs T l = record { rising = l.rising; once = l.once; each = λ x. l.each x ∙ sym (as_left T x) }
 
 -- the prepared branches still keep the values within the limits
-pub sound_retained : (states states' : FinMap xid_cmp State) (sums sums' : FinMap touch_cmp ℤ) (values values' : FinMap key_cmp ℤ) → states' ≡ map.retain_keys states (λ x. is_left_in (map.get states x))
-    → sums' ≡ map.retain_keys sums (λ p. is_S3 (map.get states p.0)) → values' ≡ values → ArePreparedSound states sums values → ArePreparedSound states' sums' values'
+pub sound_retained : (states states' : FinMap xid_cmp State) (sums sums' : FinMap touch_cmp ℤ) (values values' : FinMap key_cmp ℤ)
+    → states' ≡ map.retain_keys states (λ x. is_left_in (map.get states x))
+    → sums' ≡ map.retain_keys sums (λ p. is_S3 (map.get states p.0)) → values' ≡ values → ArePreparedSound states sums values
+    → ArePreparedSound states' sums' values'
 sound_retained states states' sums sums' values values' e f g sound x voted =
     let before : is_S3 (map.get states x) ≡ true =
     sym (prepared_stays (map.get states x))

@@ -28,16 +28,20 @@ none_or true x = refl
 none_or false x = refl
 
 -- one key more
-pub mark_put : (es fs : Marks) (k : ℕ) → ((q : ℕ) → find nat_cmp q fs ≡ cond (eq_by_cmp nat_cmp q k) (Some tt) (find nat_cmp q es)) → marked fs ≡ set.insert (marked es) k
+pub mark_put : (es fs : Marks) (k : ℕ) → ((q : ℕ) → find nat_cmp q fs ≡ cond (eq_by_cmp nat_cmp q k) (Some tt) (find nat_cmp q es))
+    → marked fs ≡ set.insert (marked es) k
 mark_put es fs k h =
     same_set nat_cmp_total nat_cmp-IsAntisymmetric _ _ (λ q.
-    contains-marked fs q ∙ ap is_some (h q) ∙ some_or _ _ ∙ ap (λ b. eq_by_cmp nat_cmp q k || b) (sym (contains-marked es q)) ∙ sym (contains-insert nat_cmp_total (marked es) k q))
+    contains-marked fs q ∙ ap is_some (h q) ∙ some_or _ _ ∙ ap (λ b. eq_by_cmp nat_cmp q k || b) (sym (contains-marked es q))
+    ∙ sym (contains-insert nat_cmp_total (marked es) k q))
 
 -- one key less
-pub mark_removed : (es fs : Marks) (k : ℕ) → ((q : ℕ) → find nat_cmp q fs ≡ cond (eq_by_cmp nat_cmp q k) None (find nat_cmp q es)) → marked fs ≡ set.remove (marked es) k
+pub mark_removed : (es fs : Marks) (k : ℕ) → ((q : ℕ) → find nat_cmp q fs ≡ cond (eq_by_cmp nat_cmp q k) None (find nat_cmp q es))
+    → marked fs ≡ set.remove (marked es) k
 mark_removed es fs k h =
     same_set nat_cmp_total nat_cmp-IsAntisymmetric _ _ (λ q.
-    contains-marked fs q ∙ ap is_some (h q) ∙ none_or _ _ ∙ ap (λ b. not (eq_by_cmp nat_cmp q k) && b) (sym (contains-marked es q)) ∙ sym (contains-remove nat_cmp_total (marked es) k q))
+    contains-marked fs q ∙ ap is_some (h q) ∙ none_or _ _ ∙ ap (λ b. not (eq_by_cmp nat_cmp q k) && b) (sym (contains-marked es q))
+    ∙ sym (contains-remove nat_cmp_total (marked es) k q))
 
 -- the same keys
 pub mark_same : (es fs : Marks) → ((q : ℕ) → find nat_cmp q fs ≡ find nat_cmp q es) → marked fs ≡ marked es

@@ -27,15 +27,18 @@ unfolding next
 next-Shut t T s = ap (λ b. if b then (T, RmFail) else (shut_down T, Done)) s
 
 -- what a Shut leaves is left by all after it
-after_shut : {A : Type 0} (view : Tables → A) → ((T : Tables) → view (shut_down T) ≡ view T) → (t : ℕ) (op : Op) (h : History) (T : Tables) → op ≡ Shut → view (tables_after h (next t op T).0) ≡ view T
+after_shut : {A : Type 0} (view : Tables → A) → ((T : Tables) → view (shut_down T) ≡ view T) → (t : ℕ) (op : Op) (h : History) (T : Tables) → op ≡ Shut
+    → view (tables_after h (next t op T).0) ≡ view T
 after_shut view keeps t op h T is =
     elim (T.shut) as (λ b. T.shut ≡ b → view (tables_after h (next t op T).0) ≡ view T) [
       | true ↦ λ s. ap (λ (a : Answer). view (tables_after h a.0)) (next-shut t op T s) ∙ ap view (shut_stays h T s)
-      | false ↦ λ s. ap (λ (o : Op). view (tables_after h (next t o T).0)) is ∙ ap (λ (a : Answer). view (tables_after h a.0)) (next-Shut t T s) ∙ ap view (shut_stays h (shut_down T) refl) ∙ keeps T
+      | false ↦ λ s. ap (λ (o : Op). view (tables_after h (next t o T).0)) is ∙ ap (λ (a : Answer). view (tables_after h a.0)) (next-Shut t T s)
+          ∙ ap view (shut_stays h (shut_down T) refl) ∙ keeps T
     ] refl
 
 -- what a Shut leaves is decided by the accepted requests
-pub after_accepted : {A : Type 0} (view : Tables → A) → ((T : Tables) → view (shut_down T) ≡ view T) → (h : History) (T : Tables) → view (tables_after h T) ≡ view (tables_after (accepted h) T)
+pub after_accepted : {A : Type 0} (view : Tables → A) → ((T : Tables) → view (shut_down T) ≡ view T) → (h : History) (T : Tables)
+    → view (tables_after h T) ≡ view (tables_after (accepted h) T)
 after_accepted view keeps [] T = refl
 after_accepted view keeps (r ∷ h) T =
     elim (is_shut r.op) as (λ b. is_shut r.op ≡ b → view (tables_after h (next r.thread r.op T).0) ≡ view (tables_after (if b then [] else r ∷ accepted h) T)) [

@@ -14,7 +14,7 @@ use Rattle.xa_tables.specs.declared.state.Association.{Association}
 use Rattle.xa_tables.specs.Tables.{touch_cmp, is_broken, is_somebody_associated}
 use Rattle.xa_tables.specs.Tables.{is_S3}
 use Rattle.xa_tables.specs.Managers.{AreAssociationsLive, ArePreparedSound}
-use Rattle.xa_tables.proofs.MapLemmas.{none_passes}
+use Rattle.xa_base.proofs.FinMaps.{none_passes}
 
 abbrev Associations : Type 0
 Associations = FinMap nat_cmp Association
@@ -56,31 +56,37 @@ module _ {A : Type 0} (f : Option State → A) (v : A) where
   AreHeld associations states = (t : ℕ) (l : Association) → map.get associations t ≡ Some l → f (map.get states l.xid) ≡ v
 
   -- a branch is put into a state of which it is so
-  pub held_put : (associations : Associations) (states states' : States) (x : XidName) (s : State) → states' ≡ map.insert states x s → f (Some s) ≡ v → AreHeld associations states → AreHeld associations states'
+  pub held_put : (associations : Associations) (states states' : States) (x : XidName) (s : State) → states' ≡ map.insert states x s → f (Some s) ≡ v
+      → AreHeld associations states → AreHeld associations states'
   held_put associations states states' x s e fits held t l found =
       ap (λ m. f (map.get m l.xid)) e ∙ ap f (get-insert xid_cmp_total states x s l.xid)
       ∙ by_xid l.xid x (λ b. f (cond b (Some s) (map.get states l.xid)) ≡ v) (λ _. fits) (λ _. held t l found)
 
   -- a thread becomes associated with a branch of which it is so
-  pub held_associated : (associations associations' : Associations) (states : States) (t : ℕ) (l : Association) → associations' ≡ map.insert associations t l → f (map.get states l.xid) ≡ v → AreHeld associations states → AreHeld associations' states
+  pub held_associated : (associations associations' : Associations) (states : States) (t : ℕ) (l : Association) → associations' ≡ map.insert associations t l
+      → f (map.get states l.xid) ≡ v → AreHeld associations states → AreHeld associations' states
   held_associated associations associations' states t l e fits held u k found =
-      let is : cond (eq_by_cmp nat_cmp u t) (Some l) (map.get associations u) ≡ Some k = sym (get-insert nat_cmp_total associations t l u) ∙ ap (λ m. map.get m u) (sym e) ∙ found in
+      let is : cond (eq_by_cmp nat_cmp u t) (Some l) (map.get associations u) ≡ Some k =
+      sym (get-insert nat_cmp_total associations t l u) ∙ ap (λ m. map.get m u) (sym e) ∙ found in
       elim (eq_by_cmp nat_cmp u t) as (λ b. cond b (Some l) (map.get associations u) ≡ Some k → f (map.get states k.xid) ≡ v) [
         | true ↦ λ is. let same : l ≡ k = cc in subst (λ (j : Association). f (map.get states j.xid) ≡ v) same fits
         | false ↦ λ is. held u k is
       ] is
 
   -- a thread loses its association
-  pub held_dissociated : (associations associations' : Associations) (states : States) (t : ℕ) → associations' ≡ map.remove associations t → AreHeld associations states → AreHeld associations' states
+  pub held_dissociated : (associations associations' : Associations) (states : States) (t : ℕ) → associations' ≡ map.remove associations t
+      → AreHeld associations states → AreHeld associations' states
   held_dissociated associations associations' states t e held u k found =
-      let is : cond (eq_by_cmp nat_cmp u t) None (map.get associations u) ≡ Some k = sym (get-remove nat_cmp_total associations t u) ∙ ap (λ m. map.get m u) (sym e) ∙ found in
+      let is : cond (eq_by_cmp nat_cmp u t) None (map.get associations u) ≡ Some k =
+      sym (get-remove nat_cmp_total associations t u) ∙ ap (λ m. map.get m u) (sym e) ∙ found in
       elim (eq_by_cmp nat_cmp u t) as (λ b. cond b None (map.get associations u) ≡ Some k → f (map.get states k.xid) ≡ v) [
         | true ↦ λ is. cc
         | false ↦ λ is. held u k is
       ] is
 
   -- a branch that nobody is associated with changes
-  pub held_apart : (associations : Associations) (states states' : States) (x : XidName) → ((y : XidName) → y ≢ x → map.get states' y ≡ map.get states y) → is_somebody_associated associations x ≡ false → AreHeld associations states → AreHeld associations states'
+  pub held_apart : (associations : Associations) (states states' : States) (x : XidName) → ((y : XidName) → y ≢ x → map.get states' y ≡ map.get states y)
+      → is_somebody_associated associations x ≡ false → AreHeld associations states → AreHeld associations states'
   held_apart associations states states' x others nobody held t l found =
       let other : xid_eq l.xid x ≡ false = none_passes nat_cmp_total nat_cmp-IsAntisymmetric (λ t l. xid_eq l.xid x) associations t l nobody found in
       ap f (others l.xid (λ same. let tied = (Decides-xid_eq l.xid x).1 same in cc)) ∙ held t l found
@@ -92,27 +98,34 @@ module _ {A : Type 0} (f : Option State → A) (v : A) where
       ∙ by_xid x x (λ b. f (cond b (Some s) (map.get states x)) ≡ v) (λ _. fits) (λ apart. absurd (apart refl))
 
   -- it is so of the branch of an association
-  pub associated_held : (associations : Associations) (states : States) (t : ℕ) (l : Association) (x : XidName) → AreHeld associations states → Some l ≡ map.get associations t → true ≡ xid_eq l.xid x → f (map.get states x) ≡ v
+  pub associated_held : (associations : Associations) (states : States) (t : ℕ) (l : Association) (x : XidName) → AreHeld associations states
+      → Some l ≡ map.get associations t → true ≡ xid_eq l.xid x → f (map.get states x) ≡ v
   associated_held associations states t l x held found same =
       subst (λ (y : XidName). f (map.get states y) ≡ v) ((Decides-xid_eq l.xid x).0 (sym same)) (held t l (sym found))
 
 -- the same of being in another state than S3
-pub live_put : (associations : Associations) (states states' : States) (x : XidName) (s : State) → states' ≡ map.insert states x s → is_S3 (Some s) ≡ false → AreAssociationsLive associations states → AreAssociationsLive associations states'
+pub live_put : (associations : Associations) (states states' : States) (x : XidName) (s : State) → states' ≡ map.insert states x s → is_S3 (Some s) ≡ false
+    → AreAssociationsLive associations states → AreAssociationsLive associations states'
 live_put = held_put is_S3 false
 
-pub live_associated : (associations associations' : Associations) (states : States) (t : ℕ) (l : Association) → associations' ≡ map.insert associations t l → is_S3 (map.get states l.xid) ≡ false → AreAssociationsLive associations states → AreAssociationsLive associations' states
+pub live_associated : (associations associations' : Associations) (states : States) (t : ℕ) (l : Association) → associations' ≡ map.insert associations t l
+    → is_S3 (map.get states l.xid) ≡ false → AreAssociationsLive associations states → AreAssociationsLive associations' states
 live_associated = held_associated is_S3 false
 
-pub live_dissociated : (associations associations' : Associations) (states : States) (t : ℕ) → associations' ≡ map.remove associations t → AreAssociationsLive associations states → AreAssociationsLive associations' states
+pub live_dissociated : (associations associations' : Associations) (states : States) (t : ℕ) → associations' ≡ map.remove associations t
+    → AreAssociationsLive associations states → AreAssociationsLive associations' states
 live_dissociated = held_dissociated is_S3 false
 
-pub live_prepared : (associations : Associations) (states states' : States) (x : XidName) → states' ≡ map.insert states x Prepared → is_somebody_associated associations x ≡ false → AreAssociationsLive associations states → AreAssociationsLive associations states'
-live_prepared associations states states' x e = held_apart is_S3 false associations states states' x (λ y apart. ap (λ m. map.get m y) e ∙ others_put states x Prepared y apart)
+pub live_prepared : (associations : Associations) (states states' : States) (x : XidName) → states' ≡ map.insert states x Prepared
+    → is_somebody_associated associations x ≡ false → AreAssociationsLive associations states → AreAssociationsLive associations states'
+live_prepared associations states states' x e =
+    held_apart is_S3 false associations states states' x (λ y apart. ap (λ m. map.get m y) e ∙ others_put states x Prepared y apart)
 
 pub now_at : (states states' : States) (x : XidName) (s : State) → states' ≡ map.insert states x s → is_S3 (Some s) ≡ false → is_S3 (map.get states' x) ≡ false
 now_at = held_now is_S3 false
 
-pub associated_live : (associations : Associations) (states : States) (t : ℕ) (l : Association) (x : XidName) → AreAssociationsLive associations states → Some l ≡ map.get associations t → true ≡ xid_eq l.xid x → is_S3 (map.get states x) ≡ false
+pub associated_live : (associations : Associations) (states : States) (t : ℕ) (l : Association) (x : XidName) → AreAssociationsLive associations states
+    → Some l ≡ map.get associations t → true ≡ xid_eq l.xid x → is_S3 (map.get states x) ≡ false
 associated_live = associated_held is_S3 false
 
 pub sound_put : (states states' : States) (sums : Sums) (values : Values) (x : XidName) (s : State) → states' ≡ map.insert states x s → is_S3 (Some s) ≡ false
@@ -122,33 +135,39 @@ sound_put states states' sums values x s e not_prepared sound y =
     (by_xid y x (λ b. is_S3 (cond b (Some s) (map.get states y)) ≡ true → is_broken values sums y ≡ false) (λ _ h. cc) (λ _. sound y))
 
 -- a branch is gone
-pub live_removed : (associations : Associations) (states states' : States) (x : XidName) → states' ≡ map.remove states x → AreAssociationsLive associations states → AreAssociationsLive associations states'
+pub live_removed : (associations : Associations) (states states' : States) (x : XidName) → states' ≡ map.remove states x
+    → AreAssociationsLive associations states → AreAssociationsLive associations states'
 live_removed associations states states' x e live t l found =
     ap (λ m. is_S3 (map.get m l.xid)) e ∙ ap is_S3 (get-remove xid_cmp_total states x l.xid)
     ∙ by_xid l.xid x (λ b. is_S3 (cond b None (map.get states l.xid)) ≡ false) (λ _. refl) (λ _. live t l found)
 
 -- x is gone, and the other branches stand as they stood
 pub sound_removed : (states states' : States) (sums sums' : Sums) (values values' : Values) (x : XidName) → states' ≡ map.remove states x
-    → ((y : XidName) → y ≢ x → is_broken values' sums' y ≡ is_broken values sums y) → ArePreparedSound states sums values → ArePreparedSound states' sums' values'
+    → ((y : XidName) → y ≢ x → is_broken values' sums' y ≡ is_broken values sums y) → ArePreparedSound states sums values
+    → ArePreparedSound states' sums' values'
 sound_removed states states' sums sums' values values' x e others sound y =
     subst (λ (o : Option State). is_S3 o ≡ true → is_broken values' sums' y ≡ false) (sym (ap (λ m. map.get m y) e ∙ get-remove xid_cmp_total states x y))
     (by_xid y x (λ b. is_S3 (cond b None (map.get states y)) ≡ true → is_broken values' sums' y ≡ false) (λ _ h. cc) (λ apart h. others y apart ∙ sound y h))
 
 -- x isn't in S3, and the other branches stand as they stood
 pub sound_others : (states : States) (sums sums' : Sums) (values values' : Values) (x : XidName) → is_S3 (map.get states x) ≡ false
-    → ((y : XidName) → y ≢ x → is_broken values' sums' y ≡ is_broken values sums y) → ArePreparedSound states sums values → ArePreparedSound states sums' values'
+    → ((y : XidName) → y ≢ x → is_broken values' sums' y ≡ is_broken values sums y) → ArePreparedSound states sums values
+    → ArePreparedSound states sums' values'
 sound_others states sums sums' values values' x not_prepared others sound y h =
     others y (λ e. let z = ap (λ w. is_S3 (map.get states w)) e in cc) ∙ sound y h
 
 -- x is put into another state than S3, and the other branches stand as they stood
-pub sound_decided : (states states' : States) (sums sums' : Sums) (values values' : Values) (x : XidName) (s : State) → states' ≡ map.insert states x s → is_S3 (Some s) ≡ false
-    → ((y : XidName) → y ≢ x → is_broken values' sums' y ≡ is_broken values sums y) → ArePreparedSound states sums values → ArePreparedSound states' sums' values'
+pub sound_decided : (states states' : States) (sums sums' : Sums) (values values' : Values) (x : XidName) (s : State) → states' ≡ map.insert states x s
+    → is_S3 (Some s) ≡ false
+    → ((y : XidName) → y ≢ x → is_broken values' sums' y ≡ is_broken values sums y) → ArePreparedSound states sums values
+    → ArePreparedSound states' sums' values'
 sound_decided states states' sums sums' values values' x s e not_prepared others sound y =
     subst (λ (o : Option State). is_S3 o ≡ true → is_broken values' sums' y ≡ false) (sym (ap (λ m. map.get m y) e ∙ get-insert xid_cmp_total states x s y))
     (by_xid y x (λ b. is_S3 (cond b (Some s) (map.get states y)) ≡ true → is_broken values' sums' y ≡ false) (λ _ h. cc) (λ apart h. others y apart ∙ sound y h))
 
 -- a branch that keeps the values within the limits is put into S3
-pub sound_prepared : (states states' : States) (sums : Sums) (values : Values) (x : XidName) → states' ≡ map.insert states x Prepared → is_broken values sums x ≡ false
+pub sound_prepared : (states states' : States) (sums : Sums) (values : Values) (x : XidName) → states' ≡ map.insert states x Prepared
+    → is_broken values sums x ≡ false
     → ArePreparedSound states sums values → ArePreparedSound states' sums values
 sound_prepared states states' sums values x e whole sound y =
     subst (λ (o : Option State). is_S3 o ≡ true → is_broken values sums y ≡ false) (sym (ap (λ m. map.get m y) e ∙ get-insert xid_cmp_total states x Prepared y))

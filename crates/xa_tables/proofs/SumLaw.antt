@@ -137,7 +137,8 @@ values_over h (g ∷ gs) k p F T s n stand pending =
     let stand_now : Stand G U = stand_after h F T s stand in
     let o : IsOpening (reopened U) = reopens U in
     let more : ℤ = added_over k (begun G) (g ∷ gs) (reopened U) in
-    let rest = values_over g gs k (left_held U r.held) (begun G) (reopened U) (opening_sound (reopened U) o) (opening_clean (reopened U) o) (stand_reopened G U stand_now) (pending_left k r.held U here) in
+    let rest =
+    values_over g gs k (left_held U r.held) (begun G) (reopened U) (opening_sound (reopened U) o) (opening_clean (reopened U) o) (stand_reopened G U stand_now) (pending_left k r.held U here) in
     rest
     ∙ ap (option_map (λ v. v +ℤ (due (left_held U r.held) (from_start (begun G) g gs (reopened U)) +ℤ more))) (after_accepted (λ (W : Tables). map.get W.values k) (λ _. refl) h T ∙ r.values)
     ∙ chained (map.get T.values k) r.moved (due (left_held U r.held) (from_start (begun G) g gs (reopened U)) +ℤ more)

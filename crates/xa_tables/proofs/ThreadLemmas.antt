@@ -1,5 +1,6 @@
 -- The maps that the threads make.
-use Rattle.std.specs.Prelude.{◌≡◌, ◌≢◌, ℕ, zero, suc, ◌+◌, ◌-◌, ◌<◌, ◌≤◌, Bool, true, false, cond, ◌||◌, List, [], ◌∷◌, length, replicate, Option, None, Some, is_some, refl}
+use Rattle.std.specs.Prelude.{◌≡◌, ◌≢◌, ℕ, zero, suc, ◌+◌, ◌-◌, ◌<◌, ◌≤◌, Bool, true, false, cond, if◌then◌else◌, ◌||◌, List, [], ◌∷◌, length, replicate}
+use Rattle.std.specs.Prelude.{Option, None, Some, is_some, refl}
 use Rattle.std.proofs.Common.{sym, ap, ◌∙◌, subst, arith, get_or}
 use Rattle.std.proofs.Math.ListN.{set}
 use Rattle.std.specs.List.{list_any}
@@ -9,10 +10,10 @@ use Rattle.std.specs.FinMap as map
 use Rattle.std.specs.FinSet as finset
 use Rattle.std.specs.FinMap.{find, from_entries, get-from_entries, nat_cmp-IsAntisymmetric}
 use Rattle.xa_base.proofs.Truth.{is_equal}
-use Rattle.xa_tables.specs.Maps.{any_entry}
-use Rattle.xa_tables.specs.Views.{with_entry, entries_from}
+use Rattle.xa_base.specs.Maps.{any_entry}
+use Rattle.xa_tables.specs.Views.{with_entry, entries_from, put_or_removed}
 use Rattle.xa_tables.proofs.SetLemmas.{marked, contains-marked, mark_put, mark_removed, mark_same}
-use Rattle.xa_tables.proofs.MapLemmas.{put_one, remove_one, same_finds, Distinct, any_entries}
+use Rattle.xa_base.proofs.FinMaps.{put_one, remove_one, same_finds, Distinct, any_entries}
 
 abbrev same_nat : ℕ → ℕ → Bool
 same_nat = eq_by_cmp nat_cmp
@@ -75,31 +76,35 @@ module _ {S X : Type 0} (f : S → Option X) where
   look-at (x ∷ ss) (suc j) n k d e h =
       ap (λ b. cond b (f x) (look (suc n) ss k)) (same_nat-apart k n (λ y. omega arith)) ∙ look-at ss j (suc n) k d (omega arith) (omega arith)
 
-  found_set : (ss : List S) (t : ℕ) (s : S) → 0 < t → t ≤ length ss → (q : ℕ) → find nat_cmp q (entries_from f 1 (set ss (t - 1) s)) ≡ cond (same_nat q t) (f s) (find nat_cmp q (entries_from f 1 ss))
-  found_set ss t s p h q = find-look q 1 (set ss (t - 1) s) ∙ look-set ss (t - 1) 1 t q s (omega arith) (omega arith) ∙ ap (cond (same_nat q t) (f s)) (sym (find-look q 1 ss))
+  found_set : (ss : List S) (t : ℕ) (s : S) → 0 < t → t ≤ length ss → (q : ℕ)
+      → find nat_cmp q (entries_from f 1 (set ss (t - 1) s)) ≡ cond (same_nat q t) (f s) (find nat_cmp q (entries_from f 1 ss))
+  found_set ss t s p h q =
+      find-look q 1 (set ss (t - 1) s) ∙ look-set ss (t - 1) 1 t q s (omega arith) (omega arith) ∙ ap (cond (same_nat q t) (f s)) (sym (find-look q 1 ss))
+
+  -- the same where f reads o of what is written
+  written : (ss : List S) (t : ℕ) (s : S) (o : Option X) → 0 < t → t ≤ length ss → f s ≡ o
+      → (q : ℕ) → find nat_cmp q (entries_from f 1 (set ss (t - 1) s)) ≡ cond (same_nat q t) o (find nat_cmp q (entries_from f 1 ss))
+  written ss t s o p h e q = found_set ss t s p h q ∙ ap (λ w. cond (same_nat q t) w (find nat_cmp q (entries_from f 1 ss))) e
 
   -- what the map tells of thread t is what f reads of its place
-  pub get_thread : (ss : List S) (t : ℕ) (d : S) → 0 < t → t ≤ length ss → map.get (from_entries {R = nat_cmp} (entries_from f 1 ss)) t ≡ f (get_or ss (t - 1) d)
+  pub get_thread : (ss : List S) (t : ℕ) (d : S) → 0 < t → t ≤ length ss
+      → map.get (from_entries {R = nat_cmp} (entries_from f 1 ss)) t ≡ f (get_or ss (t - 1) d)
   get_thread ss t d p h = get-from_entries nat_cmp_total _ t ∙ find-look t 1 ss ∙ look-at ss (t - 1) 1 t d (omega arith) (omega arith)
 
-  -- a write that f reads as v puts v at thread t
-  pub thread_put : (ss : List S) (t : ℕ) (s : S) (v : X) → 0 < t → t ≤ length ss → f s ≡ Some v
-      → from_entries {R = nat_cmp} (entries_from f 1 (set ss (t - 1) s)) ≡ map.insert (from_entries (entries_from f 1 ss)) t v
-  thread_put ss t s v p h e = put_one nat_cmp_total nat_cmp-IsAntisymmetric _ _ t v (λ q. found_set ss t s p h q ∙ ap (λ o. cond (same_nat q t) o (find nat_cmp q (entries_from f 1 ss))) e)
-
-  -- a write of which f reads nothing takes thread t out
-  pub thread_removed : (ss : List S) (t : ℕ) (s : S) → 0 < t → t ≤ length ss → f s ≡ None
-      → from_entries {R = nat_cmp} (entries_from f 1 (set ss (t - 1) s)) ≡ map.remove (from_entries (entries_from f 1 ss)) t
-  thread_removed ss t s p h e =
-      remove_one nat_cmp_total nat_cmp-IsAntisymmetric _ _ t (λ q. found_set ss t s p h q ∙ ap (λ o. cond (same_nat q t) o (find nat_cmp q (entries_from f 1 ss))) e)
-      (λ q. (eq_by_cmp_equiv nat_cmp_total).symm t q)
+  -- what f reads of a write stands at thread t
+  pub thread_given : (ss : List S) (t : ℕ) (s : S) (o : Option X) → 0 < t → t ≤ length ss → f s ≡ o
+      → from_entries {R = nat_cmp} (entries_from f 1 (set ss (t - 1) s)) ≡ put_or_removed (from_entries (entries_from f 1 ss)) t o
+  thread_given ss t s (Some v) p h e = put_one nat_cmp_total nat_cmp-IsAntisymmetric _ _ t v (written ss t s (Some v) p h e)
+  thread_given ss t s None p h e =
+      remove_one nat_cmp_total nat_cmp-IsAntisymmetric _ _ t (written ss t s None p h e) (λ q. (eq_by_cmp_equiv nat_cmp_total).symm t q)
 
   same_set : (ss : List S) (t : ℕ) (s d : S) → 0 < t → t ≤ length ss → f s ≡ f (get_or ss (t - 1) d)
       → (q : ℕ) → find nat_cmp q (entries_from f 1 (set ss (t - 1) s)) ≡ find nat_cmp q (entries_from f 1 ss)
   same_set ss t s d p h e q =
       found_set ss t s p h q
       ∙ elim (same_nat q t) as (λ b. same_nat q t ≡ b → cond b (f s) (find nat_cmp q (entries_from f 1 ss)) ≡ find nat_cmp q (entries_from f 1 ss)) [
-        | true ↦ λ y. e ∙ sym (find-look t 1 ss ∙ look-at ss (t - 1) 1 t d (omega arith) (omega arith)) ∙ ap (λ r. find nat_cmp r (entries_from f 1 ss)) (sym (same_nat-yes q t y))
+        | true ↦ λ y. e ∙ sym (find-look t 1 ss ∙ look-at ss (t - 1) 1 t d (omega arith) (omega arith))
+            ∙ ap (λ r. find nat_cmp r (entries_from f 1 ss)) (sym (same_nat-yes q t y))
         | false ↦ λ y. refl
       ] refl
 
@@ -142,14 +147,16 @@ module _ {S X : Type 0} (f : S → Option X) where
 
 module _ {S : Type 0} (f : S → Option (Unit {0})) where
   -- the same for the set of threads that have a mark
-  pub open_put : (ss : List S) (t : ℕ) (s : S) → 0 < t → t ≤ length ss → f s ≡ Some tt → marked (entries_from f 1 (set ss (t - 1) s)) ≡ finset.insert (marked (entries_from f 1 ss)) t
-  open_put ss t s p h e = mark_put _ _ t (λ q. found_set f ss t s p h q ∙ ap (λ o. cond (same_nat q t) o (find nat_cmp q (entries_from f 1 ss))) e)
+  pub open_given : (ss : List S) (t : ℕ) (s : S) (b : Bool) → 0 < t → t ≤ length ss → f s ≡ (if b then Some tt else None)
+      → marked (entries_from f 1 (set ss (t - 1) s))
+      ≡ (if b then finset.insert (marked (entries_from f 1 ss)) t else finset.remove (marked (entries_from f 1 ss)) t)
+  open_given ss t s true p h e = mark_put _ _ t (written f ss t s (Some tt) p h e)
+  open_given ss t s false p h e = mark_removed _ _ t (written f ss t s None p h e)
 
-  pub open_removed : (ss : List S) (t : ℕ) (s : S) → 0 < t → t ≤ length ss → f s ≡ None → marked (entries_from f 1 (set ss (t - 1) s)) ≡ finset.remove (marked (entries_from f 1 ss)) t
-  open_removed ss t s p h e = mark_removed _ _ t (λ q. found_set f ss t s p h q ∙ ap (λ o. cond (same_nat q t) o (find nat_cmp q (entries_from f 1 ss))) e)
-
-  pub open_same : (ss : List S) (t : ℕ) (s d : S) → 0 < t → t ≤ length ss → f s ≡ f (get_or ss (t - 1) d) → marked (entries_from f 1 (set ss (t - 1) s)) ≡ marked (entries_from f 1 ss)
+  pub open_same : (ss : List S) (t : ℕ) (s d : S) → 0 < t → t ≤ length ss → f s ≡ f (get_or ss (t - 1) d)
+      → marked (entries_from f 1 (set ss (t - 1) s)) ≡ marked (entries_from f 1 ss)
   open_same ss t s d p h e = mark_same _ _ (same_set f ss t s d p h e)
 
-  pub contains_thread : (ss : List S) (t : ℕ) (d : S) → 0 < t → t ≤ length ss → finset.contains (marked (entries_from f 1 ss)) t ≡ is_some (f (get_or ss (t - 1) d))
+  pub contains_thread : (ss : List S) (t : ℕ) (d : S) → 0 < t → t ≤ length ss
+      → finset.contains (marked (entries_from f 1 ss)) t ≡ is_some (f (get_or ss (t - 1) d))
   contains_thread ss t d p h = contains-marked _ t ∙ ap is_some (find_thread f ss t d p h)

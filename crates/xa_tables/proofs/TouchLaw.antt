@@ -13,8 +13,10 @@ use Rattle.xa_tables.specs.Tables.{Tables, state_of, is_S5, sums_without}
 use Rattle.xa_tables.specs.Next.{Answer, next, stated}
 use Rattle.xa_tables.specs.History.{History, tables_after, OnlyUnfinishedTouch}
 use Rattle.xa_tables.specs.Openings.{IsOpening}
-use Rattle.xa_tables.proofs.Effects.{Effect, Starts, Joins, Fails, Idles, Dooms, Adds, Prepares, Commits, Drops, CommitsByItself, RollsBackByItself, Forgets, effect_of}
-use Rattle.xa_tables.proofs.Law.{Sound, Standing, Nowhere, AtWork, standing, swap_xid, get_put, get_gone, completed_nowhere, is_voted, state_voted, sound_after, opening_sound}
+use Rattle.xa_tables.proofs.Effects.{Effect, Starts, Joins, Fails, Idles, Dooms, Adds, Prepares, Commits, Drops, CommitsByItself, RollsBackByItself, Forgets}
+use Rattle.xa_tables.proofs.Effects.{effect_of}
+use Rattle.xa_tables.proofs.Law.{Sound, Standing, Nowhere, AtWork, standing, swap_xid, get_put, get_gone, completed_nowhere, is_voted, state_voted, sound_after}
+use Rattle.xa_tables.proofs.Law.{opening_sound}
 use Rattle.xa_tables.proofs.ValueLaw.{get_without, get_added}
 
 -- a branch that stands nowhere has touched no key
@@ -37,7 +39,8 @@ module _ (t : ℕ) (T : Tables) (s : Sound T) (w : Clean T) where
   }
 
   -- y has no sums, and the other branches are as they were
-  without : (x y : XidName) (o : Option State) → standing (if xid_eq y x then o else state_of T x) ≡ Nowhere → (k : List ℕ) → map.get (sums_without T.sums y) (x, k) ≡ None
+  without : (x y : XidName) (o : Option State) → standing (if xid_eq y x then o else state_of T x) ≡ Nowhere → (k : List ℕ)
+      → map.get (sums_without T.sums y) (x, k) ≡ None
   without x y o nowhere k =
       get_without T.sums y x k
       ∙ ap (λ b. if b then None else map.get T.sums (x, k)) (swap_xid x y)
@@ -60,8 +63,10 @@ module _ (t : ℕ) (T : Tables) (s : Sound T) (w : Clean T) where
   by_effect (Prepares y nobody unbroken) = put y S3 refl
   by_effect (Commits y one_phase nobody may) = record { none = λ x nowhere. without x y None (sym (ap standing (get_gone T y x)) ∙ nowhere) }
   by_effect (Drops op y c nobody tells) = record { none = λ x nowhere. without x y None (sym (ap standing (get_gone T y x)) ∙ nowhere) }
-  by_effect (CommitsByItself y voted) = record { none = λ x nowhere. without x y (Some (HeuristicallyCompleted decision.Commit)) (sym (ap standing (get_put T y x (HeuristicallyCompleted decision.Commit))) ∙ nowhere) }
-  by_effect (RollsBackByItself y voted) = record { none = λ x nowhere. without x y (Some (HeuristicallyCompleted decision.Rollback)) (sym (ap standing (get_put T y x (HeuristicallyCompleted decision.Rollback))) ∙ nowhere) }
+  by_effect (CommitsByItself y voted) =
+      record { none = λ x nowhere. without x y (Some (HeuristicallyCompleted decision.Commit)) (sym (ap standing (get_put T y x (HeuristicallyCompleted decision.Commit))) ∙ nowhere) }
+  by_effect (RollsBackByItself y voted) =
+      record { none = λ x nowhere. without x y (Some (HeuristicallyCompleted decision.Rollback)) (sym (ap standing (get_put T y x (HeuristicallyCompleted decision.Rollback))) ∙ nowhere) }
   by_effect (Forgets y is) = record {
     none = λ x nowhere k.
         elim (xid_eq y x) as (λ b. xid_eq y x ≡ b → standing (if b then None else state_of T x) ≡ Nowhere → map.get T.sums (x, k) ≡ None) [

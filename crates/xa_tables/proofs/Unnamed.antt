@@ -22,23 +22,27 @@ use Rattle.xa_tables.specs.Tables.{Tables, association_of, is_somebody_associate
 use Rattle.xa_tables.specs.Next.{Answer, next, gone, association}
 use Rattle.xa_tables.specs.History.{History, tables_after, fate_of}
 use Rattle.xa_tables.specs.Prepared.{names, NamesNowhere, StaysAsItWas}
-use Rattle.xa_tables.proofs.MapLemmas.{none_pass, none_passes}
+use Rattle.xa_base.proofs.FinMaps.{none_pass, none_passes}
 use Rattle.xa_tables.proofs.SoundLemmas.{others_put, others_removed}
 use Rattle.xa_base.proofs.Truth.{at_false}
-use Rattle.xa_tables.proofs.Effects.{Effect, Starts, Joins, Resumes, Suspends, Leaves, Fails, Idles, Dooms, Adds, Prepares, Commits, Drops, CommitsByItself, RollsBackByItself, Forgets, effect_of}
+use Rattle.xa_tables.proofs.Effects.{Effect, Starts, Joins, Resumes, Suspends, Leaves, Fails, Idles, Dooms, Adds, Prepares, Commits, Drops, CommitsByItself}
+use Rattle.xa_tables.proofs.Effects.{RollsBackByItself, Forgets, effect_of}
 use Rattle.xa_tables.proofs.Law.{swap_xid}
 use Rattle.xa_tables.proofs.ValueLaw.{get_without, get_added}
 
 -- each association is with another branch than x
-pub apart_from : (x : XidName) (associations : FinMap nat_cmp Association) → is_somebody_associated associations x ≡ false → (t : ℕ) (l : Association) → map.get associations t ≡ Some l → xid_eq l.xid x ≡ false
+pub apart_from : (x : XidName) (associations : FinMap nat_cmp Association) → is_somebody_associated associations x ≡ false → (t : ℕ) (l : Association)
+    → map.get associations t ≡ Some l → xid_eq l.xid x ≡ false
 apart_from x associations nobody t l found = none_passes nat_cmp_total nat_cmp-IsAntisymmetric (λ u k. xid_eq k.xid x) associations t l nobody found
 
 -- and where each is, nobody is associated with x
-pub nobody_with : (x : XidName) (associations : FinMap nat_cmp Association) → ((t : ℕ) (l : Association) → map.get associations t ≡ Some l → xid_eq l.xid x ≡ false) → is_somebody_associated associations x ≡ false
+pub nobody_with : (x : XidName) (associations : FinMap nat_cmp Association)
+    → ((t : ℕ) (l : Association) → map.get associations t ≡ Some l → xid_eq l.xid x ≡ false) → is_somebody_associated associations x ≡ false
 nobody_with x associations apart = none_pass nat_cmp_total nat_cmp-IsAntisymmetric (λ u k. xid_eq k.xid x) associations apart
 
 -- a thread becomes associated with another branch, and a thread loses its association
-pub nobody_joins : (x : XidName) (associations : FinMap nat_cmp Association) (t : ℕ) (l : Association) → xid_eq l.xid x ≡ false → is_somebody_associated associations x ≡ false → is_somebody_associated (map.insert associations t l) x ≡ false
+pub nobody_joins : (x : XidName) (associations : FinMap nat_cmp Association) (t : ℕ) (l : Association) → xid_eq l.xid x ≡ false
+    → is_somebody_associated associations x ≡ false → is_somebody_associated (map.insert associations t l) x ≡ false
 nobody_joins x associations t l other nobody =
     nobody_with x (map.insert associations t l) (λ u k found.
     elim (eq_by_cmp nat_cmp u t) as (λ b. cond b (Some l) (map.get associations u) ≡ Some k → xid_eq k.xid x ≡ false) [
@@ -46,7 +50,8 @@ nobody_joins x associations t l other nobody =
       | false ↦ λ is. apart_from x associations nobody u k is
     ] (sym (get-insert nat_cmp_total associations t l u) ∙ found))
 
-pub nobody_leaves : (x : XidName) (associations : FinMap nat_cmp Association) (t : ℕ) → is_somebody_associated associations x ≡ false → is_somebody_associated (map.remove associations t) x ≡ false
+pub nobody_leaves : (x : XidName) (associations : FinMap nat_cmp Association) (t : ℕ) → is_somebody_associated associations x ≡ false
+    → is_somebody_associated (map.remove associations t) x ≡ false
 nobody_leaves x associations t nobody =
     nobody_with x (map.remove associations t) (λ u k found.
     elim (eq_by_cmp nat_cmp u t) as (λ b. cond b None (map.get associations u) ≡ Some k → xid_eq k.xid x ≡ false) [
@@ -82,7 +87,8 @@ module _ (t : ℕ) (x : XidName) (T : Tables) (nobody : is_somebody_associated T
 
   by_effect : {op : Op} {a : Answer} → Effect t T op a → names x op ≡ false → StaysAsItWas x T a.0
   by_effect (Starts y free) n = record { state = others_put T.states y Active x (differs x y n); sums = λ k. refl; apart = joined y Associated n }
-  by_effect (Joins y free there unprepared) n = record { state = others_put T.states y Active x (differs x y n); sums = λ k. refl; apart = joined y Associated n }
+  by_effect (Joins y free there unprepared) n =
+      record { state = others_put T.states y Active x (differs x y n); sums = λ k. refl; apart = joined y Associated n }
   by_effect (Resumes y own) n = record { state = refl; sums = λ k. refl; apart = joined y Associated n }
   by_effect (Suspends y own) n = record { state = refl; sums = λ k. refl; apart = joined y Suspended n }
   by_effect (Leaves y how c own why) n = record { state = refl; sums = λ k. refl; apart = left }
@@ -95,17 +101,21 @@ module _ (t : ℕ) (x : XidName) (T : Tables) (nobody : is_somebody_associated T
   by_effect (Drops op y c free tells) n =
       let other = sym (tells.named x) ∙ n in
       record { state = others_removed T.states y x (differs x y other); sums = others_gone y other; apart = nobody }
-  by_effect (CommitsByItself y voted) n = record { state = others_put T.states y (HeuristicallyCompleted decision.Commit) x (differs x y n); sums = others_gone y n; apart = nobody }
-  by_effect (RollsBackByItself y voted) n = record { state = others_put T.states y (HeuristicallyCompleted decision.Rollback) x (differs x y n); sums = others_gone y n; apart = nobody }
+  by_effect (CommitsByItself y voted) n =
+      record { state = others_put T.states y (HeuristicallyCompleted decision.Commit) x (differs x y n); sums = others_gone y n; apart = nobody }
+  by_effect (RollsBackByItself y voted) n =
+      record { state = others_put T.states y (HeuristicallyCompleted decision.Rollback) x (differs x y n); sums = others_gone y n; apart = nobody }
   by_effect (Forgets y is) n = record { state = others_removed T.states y x (differs x y n); sums = λ k. refl; apart = nobody }
   -- the others change no branch
   by_effect effect n = record { state = refl; sums = λ k. refl; apart = nobody }
 
-pub unnamed_stays : (t : ℕ) (op : Op) (x : XidName) (T : Tables) → is_somebody_associated T.associations x ≡ false → names x op ≡ false → StaysAsItWas x T (next t op T).0
+pub unnamed_stays : (t : ℕ) (op : Op) (x : XidName) (T : Tables) → is_somebody_associated T.associations x ≡ false → names x op ≡ false
+    → StaysAsItWas x T (next t op T).0
 unnamed_stays t op x T nobody = by_effect t x T nobody (effect_of t op T)
 
 -- the same for the requests of a history
-pub unnamed_on : (g : History) (x : XidName) (T : Tables) → is_somebody_associated T.associations x ≡ false → NamesNowhere x g → StaysAsItWas x T (tables_after g T)
+pub unnamed_on : (g : History) (x : XidName) (T : Tables) → is_somebody_associated T.associations x ≡ false → NamesNowhere x g
+    → StaysAsItWas x T (tables_after g T)
 unnamed_on [] x T nobody n = record { state = refl; sums = λ k. refl; apart = nobody }
 unnamed_on (r ∷ g) x T nobody n =
     let P : Request → Type 0 = λ q. names x q.op ≡ false in
@@ -118,5 +128,6 @@ pub tables_after-append : (h g : History) (T : Tables) → tables_after (h ++ g)
 tables_after-append [] g T = refl
 tables_after-append (r ∷ h) g T = tables_after-append h g (next r.thread r.op T).0
 
-pub unnamed_law : (h g : History) (x : XidName) (T : Tables) → is_somebody_associated (tables_after h T).associations x ≡ false → NamesNowhere x g → StaysAsItWas x (tables_after h T) (tables_after (h ++ g) T)
+pub unnamed_law : (h g : History) (x : XidName) (T : Tables) → is_somebody_associated (tables_after h T).associations x ≡ false → NamesNowhere x g
+    → StaysAsItWas x (tables_after h T) (tables_after (h ++ g) T)
 unnamed_law h g x T nobody n = subst (StaysAsItWas x (tables_after h T)) (sym (tables_after-append h g T)) (unnamed_on g x (tables_after h T) nobody n)

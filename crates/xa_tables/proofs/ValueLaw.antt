@@ -1,5 +1,6 @@
 -- What a history moves of a key's value: the additions whose branches commit.
-use Rattle.std.specs.Prelude.{◌≡◌, ◌≢◌, ℕ, ℤ, pos, ◌+ℤ◌, option_map, Bool, true, false, cond, not, ◌&&◌, if◌then◌else◌, Option, None, Some, unwrap_or, List, [], ◌∷◌, refl}
+use Rattle.std.specs.Prelude.{◌≡◌, ◌≢◌, ℕ, ℤ, pos, ◌+ℤ◌, option_map, Bool, true, false, cond, not, ◌&&◌, if◌then◌else◌, Option, None, Some, unwrap_or, List, []}
+use Rattle.std.specs.Prelude.{◌∷◌, refl}
 use Rattle.std.proofs.Common.{sym, ap, ◌∙◌, subst, arith}
 use Rattle.std.specs.FinMap as map
 use Rattle.std.specs.FinMap.{get-insert, get-retain_keys, FinMap}
@@ -7,20 +8,22 @@ use Rattle.std.proofs.lemmas.Bool.{false_from_ne_true, not-false}
 use Rattle.xa_words.specs.Xid.{XidName, xid_eq}
 use Rattle.xa_words.specs.Orders.{Decides-xid_eq, key_cmp_total, key_cmp-IsAntisymmetric, Decides-key_eq}
 use Rattle.xa_words.specs.declared.code.Code.{Code}
-use Rattle.xa_words.specs.declared.code.Code.TheVariants.{Done, RbTransient, RmFail}
+use Rattle.xa_words.specs.declared.code.Code.TheVariants.{Done, RmFail}
 use Rattle.xa_words.specs.declared.request.Op.{Op}
 use Rattle.xa_words.specs.declared.request.Op.TheVariants.{Add, Shut}
 use Rattle.xa_words.specs.declared.request.Request.{Request}
 use Rattle.xa_tables.specs.declared.state.Association.{Association}
 use Rattle.xa_tables.specs.Tables.{Tables, association_of, has_other_touched, Touch, touch_cmp, sum_of, sums_without}
 use Rattle.xa_tables.specs.Next.{Answer, next, committed, shut_down}
-use Rattle.xa_tables.specs.History.{History, coded, accepted, Fate, InDoubt, Live, Committed, HeurCommitted, HeurRolledBack, fate_of, ending_by, if_named, tables_after, added_in, share_of, commits_later, ending, or_later, is_shut, LateAddNothing}
+use Rattle.xa_tables.specs.History.{History, coded, accepted, fate_of, tables_after, added_in, share_of, commits_later, ending, or_later, is_shut}
+use Rattle.xa_tables.specs.History.{LateAddNothing}
 use Rattle.xa_tables.proofs.ShutLemmas.{next-shut, next-Shut, shut_op}
-use Rattle.xa_tables.proofs.Effects.{Effect, Stays, Starts, Joins, Resumes, Dooms, Adds, Prepares, Commits, Drops, CommitsByItself, RollsBackByItself, effect_of, undone_adds, error_tells}
+use Rattle.xa_tables.proofs.Effects.{error_tells}
+use Rattle.xa_tables.proofs.Moves.{Moves, Still, Ended, Added, moves_of}
 use Rattle.xa_tables.proofs.Law.{swap_xid}
 use Rattle.std.proofs.lemmas.Int.{ints}
 use Rattle.xa_words.specs.Key.{key_eq}
-use Rattle.xa_tables.proofs.MapLemmas.{get-map_values, none_passes}
+use Rattle.xa_base.proofs.FinMaps.{get-map_values, none_passes}
 use Rattle.xa_tables.proofs.AccountLemmas.{touch_cmp_total, touch_cmp-IsAntisymmetric, touch_from, touch_self}
 
 -- the branch that has touched the key, and its sum
@@ -58,10 +61,8 @@ due_same (Some p) C D h = ap (λ b. if b then p.1 else pos 0) (h p.0)
 zero_plus : (d e s : ℤ) → e ≡ d → s ≡ pos 0 → pos 0 +ℤ d ≡ e +ℤ s
 zero_plus d e s h z = omega (arith, ints)
 
-pub quiet_named : (x y : XidName) (o : Option Fate) → ending o ≡ None → ending (if_named x y o) ≡ None
-quiet_named x y o e = elim (xid_eq y x) as (λ b. ending (if b then o else None) ≡ None) [ true ↦ e | false ↦ refl ]
-
-pub get_without : (sums : FinMap touch_cmp ℤ) (y x : XidName) (k : List ℕ) → map.get (sums_without sums y) (x, k) ≡ (if xid_eq x y then None else map.get sums (x, k))
+pub get_without : (sums : FinMap touch_cmp ℤ) (y x : XidName) (k : List ℕ)
+    → map.get (sums_without sums y) (x, k) ≡ (if xid_eq x y then None else map.get sums (x, k))
 get_without sums y x k =
     get-retain_keys sums (λ p. not (xid_eq p.0 y)) (x, k) (λ q e. ap (λ (r : Touch). not (xid_eq r.0 y)) (sym (touch_cmp-IsAntisymmetric (x, k) q e)))
     ∙ elim (xid_eq x y) as (λ b. cond (not b) (map.get sums (x, k)) None ≡ (if b then None else map.get sums (x, k))) [ true ↦ refl | false ↦ refl ]
@@ -77,7 +78,8 @@ amount_of_held (Some p) y = if xid_eq p.0 y then p.1 else pos 0
 
 due_left : (k : List ℕ) (y : XidName) (p : Held) (sums : FinMap touch_cmp ℤ) → IsPending k p sums → IsPending k (left_by p y) (sums_without sums y)
 unfolding left_by
-due_left k y None sums h = λ x. get_without sums y x k ∙ elim (xid_eq x y) as (λ b. (if b then None else map.get sums (x, k)) ≡ None) [ true ↦ refl | false ↦ h x ]
+due_left k y None sums h =
+    λ x. get_without sums y x k ∙ elim (xid_eq x y) as (λ b. (if b then None else map.get sums (x, k)) ≡ None) [ true ↦ refl | false ↦ h x ]
 due_left k y (Some p) sums h =
     elim (xid_eq p.0 y) as (λ b. xid_eq p.0 y ≡ b → IsPending k (if b then None else Some p) (sums_without sums y)) [
       | true ↦ λ t x. get_without sums y x k
@@ -91,11 +93,9 @@ due_left k y (Some p) sums h =
       )
     ] refl
 
-pub ended_named : (x y : XidName) (g : Fate) (b : Bool) → ending (Some g) ≡ Some b → ending (if_named x y (Some g)) ≡ (if xid_eq y x then Some b else None)
-ended_named x y g b e = elim (xid_eq y x) as (λ c. ending (if c then Some g else None) ≡ (if c then Some b else None)) [ true ↦ e | false ↦ refl ]
-
 -- what is due before an entry that ends y: y's sum if it commits, and else nothing
-due_ended : (y : XidName) (b : Bool) (p : Held) (op : Op) (c : Code) (later : XidName → Bool) → ((x : XidName) → ending (fate_of x op c) ≡ (if xid_eq y x then Some b else None))
+due_ended : (y : XidName) (b : Bool) (p : Held) (op : Op) (c : Code) (later : XidName → Bool)
+    → ((x : XidName) → ending (fate_of x op c) ≡ (if xid_eq y x then Some b else None))
     → due p (before op c later) ≡ (if b then amount_of_held p y else pos 0) +ℤ due (left_by p y) later
 unfolding left_by amount_of_held
 due_ended y b None op c later h = elim b as (λ d. pos 0 ≡ (if d then pos 0 else pos 0) +ℤ pos 0) [ true ↦ refl | false ↦ refl ]
@@ -118,30 +118,37 @@ amount_is k (Some p) y sums h =
       | false ↦ λ t. ap (λ o. unwrap_or o (pos 0)) (h.1 y (λ e. let z = (Decides-xid_eq p.0 y).1 (sym e) in cc))
     ] refl
 
-pub get_added : (sums : FinMap touch_cmp ℤ) (y x : XidName) (own k : List ℕ) (s : ℤ) → (x ≡ y → k ≡ own → ⊥) → map.get (map.insert sums (y, own) s) (x, k) ≡ map.get sums (x, k)
+pub get_added : (sums : FinMap touch_cmp ℤ) (y x : XidName) (own k : List ℕ) (s : ℤ) → (x ≡ y → k ≡ own → ⊥)
+    → map.get (map.insert sums (y, own) s) (x, k) ≡ map.get sums (x, k)
 get_added sums y x own k s apart =
     get-insert touch_cmp_total sums (y, own) s (x, k)
     ∙ ap (λ b. cond b (Some s) (map.get sums (x, k))) (false_from_ne_true _ (λ t. let e = touch_from (x, k) (y, own) t in apart (ap (λ (r : Touch). r.0) e) (ap (λ (r : Touch). r.1) e)))
 
-pending_other : (k : List ℕ) (p : Held) (y : XidName) (own : List ℕ) (s : ℤ) (sums : FinMap touch_cmp ℤ) → (k ≡ own → ⊥) → IsPending k p sums → IsPending k p (map.insert sums (y, own) s)
+pending_other : (k : List ℕ) (p : Held) (y : XidName) (own : List ℕ) (s : ℤ) (sums : FinMap touch_cmp ℤ) → (k ≡ own → ⊥) → IsPending k p sums
+    → IsPending k p (map.insert sums (y, own) s)
 pending_other k None y own s sums apart h = λ x. get_added sums y x own k s (λ _ e. apart e) ∙ h x
-pending_other k (Some p) y own s sums apart h = (get_added sums y p.0 own k s (λ _ e. apart e) ∙ h.0, λ x z. get_added sums y x own k s (λ _ e. apart e) ∙ h.1 x z)
+pending_other k (Some p) y own s sums apart h =
+    (get_added sums y p.0 own k s (λ _ e. apart e) ∙ h.0, λ x z. get_added sums y x own k s (λ _ e. apart e) ∙ h.1 x z)
 
 no_other : (sums : FinMap touch_cmp ℤ) (y x : XidName) (k : List ℕ) (s : ℤ) → has_other_touched sums y k ≡ false → map.get sums (x, k) ≡ Some s → x ≡ y
 no_other sums y x k s none found =
-    let t : (key_eq k k && not (xid_eq x y)) ≡ false = none_passes touch_cmp_total touch_cmp-IsAntisymmetric (λ (q : Touch) v. key_eq q.1 k && not (xid_eq q.0 y)) sums (x, k) s none found in
+    let t : (key_eq k k && not (xid_eq x y)) ≡ false =
+    none_passes touch_cmp_total touch_cmp-IsAntisymmetric (λ (q : Touch) v. key_eq q.1 k && not (xid_eq q.0 y)) sums (x, k) s none found in
     let self : key_eq k k ≡ true = (Decides-key_eq k k).1 refl in
     (Decides-xid_eq x y).0 (not-false (xid_eq x y) (sym (ap (λ b. b && not (xid_eq x y)) self) ∙ t))
 
-pending_own : (k : List ℕ) (y : XidName) (s : ℤ) (sums : FinMap touch_cmp ℤ) → has_other_touched sums y k ≡ false → IsPending k (Some (y, s)) (map.insert sums (y, k) s)
+pending_own : (k : List ℕ) (y : XidName) (s : ℤ) (sums : FinMap touch_cmp ℤ) → has_other_touched sums y k ≡ false
+    → IsPending k (Some (y, s)) (map.insert sums (y, k) s)
 pending_own k y s sums none = (
   get-insert touch_cmp_total sums (y, k) s (y, k) ∙ ap (λ b. cond b (Some s) (map.get sums (y, k))) (touch_self (y, k)),
   λ x apart. get_added sums y x k k s (λ e _. apart e)
       ∙ elim (map.get sums (x, k)) as (λ o. map.get sums (x, k) ≡ o → o ≡ None) [ None ↦ λ e. refl | Some v ↦ λ e. absurd (apart (no_other sums y x k v none e)) ] refl,
 )
 
-due_own : (k : List ℕ) (p : Held) (y : XidName) (sums : FinMap touch_cmp ℤ) (later : XidName → Bool) → IsPending k p sums → has_other_touched sums y k ≡ false → due p later ≡ (if later y then sum_of sums y k else pos 0)
-due_own k None y sums later h none = elim (later y) as (λ b. pos 0 ≡ (if b then sum_of sums y k else pos 0)) [ true ↦ sym (ap (λ o. unwrap_or o (pos 0)) (h y)) | false ↦ refl ]
+due_own : (k : List ℕ) (p : Held) (y : XidName) (sums : FinMap touch_cmp ℤ) (later : XidName → Bool) → IsPending k p sums → has_other_touched sums y k ≡ false
+    → due p later ≡ (if later y then sum_of sums y k else pos 0)
+due_own k None y sums later h none =
+    elim (later y) as (λ b. pos 0 ≡ (if b then sum_of sums y k else pos 0)) [ true ↦ sym (ap (λ o. unwrap_or o (pos 0)) (h y)) | false ↦ refl ]
 due_own k (Some p) y sums later h none =
     let e : p.0 ≡ y = no_other sums y p.0 k p.1 none h.0 in
     let amount : sum_of sums y k ≡ p.1 = ap (λ z. sum_of sums z k) (sym e) ∙ ap (λ o. unwrap_or o (pos 0)) h.0 in
@@ -175,58 +182,30 @@ gained k own d p l T held none =
           }
     ] refl
 
-module _ (t : ℕ) (k : List ℕ) (p : Held) (T : Tables) (h : IsPending k p T.sums) where
-  -- neither sums nor values change, and the request ends nothing
-  still : {op : Op} {a : Answer} → a.0.sums ≡ T.sums → a.0.values ≡ T.values → ((x : XidName) → ending (fate_of x op a.1) ≡ None) → ((later : XidName → Bool) → share_of k op a.1 (association_of T t) later ≡ pos 0)
-      → ValueStep k p op (association_of T t) T a
-  still {op = op} {a = a} sums values quiet none = record {
+module _ (k : List ℕ) (p : Held) (T : Tables) (h : IsPending k p T.sums) where
+  by_move : {l : Option Association} {op : Op} {a : Answer} → Moves T l op a → ValueStep k p op l T a
+  by_move (Still l op a sums values shares moved endings) = record {
     held = p;
     pending = subst (IsPending k p) (sym sums) h;
     moved = pos 0;
     values = ap (λ m. map.get m k) values ∙ plus_zero _;
-    owes = λ later. zero_plus _ _ _ (due_same p later (before op a.1 later) (λ x. ap (λ o. or_later o (later x)) (quiet x))) (none later);
+    owes = λ later. zero_plus _ _ _ (due_same p later (before op a.1 later) (λ x. ap (λ o. or_later o (later x)) (endings x))) (shares k l later);
   }
-
-  -- y ends without a commit, and has no sums
-  lost : {op : Op} {a : Answer} (y : XidName) (f : Fate) → a.0.sums ≡ sums_without T.sums y → a.0.values ≡ T.values → ending_by f ≡ Some false → ((x : XidName) → fate_of x op a.1 ≡ if_named x y (Some f))
-      → ((later : XidName → Bool) → share_of k op a.1 (association_of T t) later ≡ pos 0) → ValueStep k p op (association_of T t) T a
-  lost {op = op} {a = a} y f sums values uncommitted fates none = record {
+  by_move (Ended l op a y commits sums values shares moved endings) = record {
     held = left_by p y;
     pending = subst (IsPending k (left_by p y)) (sym sums) (due_left k y p T.sums h);
-    moved = pos 0;
-    values = ap (λ m. map.get m k) values ∙ plus_zero _;
-    owes = λ later. add_zero (due (left_by p y) later) _ (pos 0) _ (due_ended y false p op a.1 later (λ x. ap ending (fates x) ∙ ended_named x y f false uncommitted)) (none later);
+    moved = if commits then amount_of_held p y else pos 0;
+    values = ap (λ m. map.get m k) values ∙ paid commits;
+    owes = λ later. add_zero (due (left_by p y) later) _ _ _ (due_ended y commits p op a.1 later endings) (shares k l later);
   }
-
-  -- y is committed, and has no sums
-  paid : {op : Op} {a : Answer} (y : XidName) (f : Fate) → a.0.sums ≡ sums_without T.sums y → a.0.values ≡ (committed y T).values → ending_by f ≡ Some true → ((x : XidName) → fate_of x op a.1 ≡ if_named x y (Some f))
-      → ((later : XidName → Bool) → share_of k op a.1 (association_of T t) later ≡ pos 0) → ValueStep k p op (association_of T t) T a
-  paid {op = op} {a = a} y f sums values committing fates none = record {
-    held = left_by p y;
-    pending = subst (IsPending k (left_by p y)) (sym sums) (due_left k y p T.sums h);
-    moved = amount_of_held p y;
-    values = ap (λ m. map.get m k) values ∙ get-map_values key_cmp_total key_cmp-IsAntisymmetric (λ q v. v +ℤ sum_of T.sums y q) T.values k ∙ ap (λ m. option_map (λ v. v +ℤ m) (map.get T.values k)) (amount_is k p y T.sums h);
-    owes = λ later. add_zero (due (left_by p y) later) _ (amount_of_held p y) _ (due_ended y true p op a.1 later (λ x. ap ending (fates x) ∙ ended_named x y f true committing)) (none later);
-  }
-
-  by_effect : {op : Op} {a : Answer} → Effect t T op a → ValueStep k p op (association_of T t) T a
-  by_effect (Stays op c tells) = still refl refl (λ x. ap ending (tells.fates x)) (λ later. tells.shares k _ later)
-  by_effect (Starts y free) = still refl refl (λ x. quiet_named x y (Some Live) refl) (λ later. refl)
-  by_effect (Joins y free there unprepared) = still refl refl (λ x. quiet_named x y None refl) (λ later. refl)
-  by_effect (Resumes y own) = still refl refl (λ x. quiet_named x y None refl) (λ later. refl)
-  by_effect (Dooms own d l mine) = still refl refl (λ x. refl) (λ later. (undone_adds own d RbTransient refl).shares k _ later)
-  by_effect (Adds own d l mine known alone) =
-      subst (λ (o : Option Association). ValueStep k p (Add own d) o T (record T { sums = map.insert T.sums (l.xid, own) (sum_of T.sums l.xid own +ℤ d) }, Done)) (sym mine) (gained k own d p l T h alone)
-  by_effect (Prepares y nobody unbroken) = still refl refl (λ x. quiet_named x y (Some InDoubt) refl) (λ later. refl)
-  by_effect (Commits y one_phase nobody may) = paid y Committed refl refl refl (λ x. refl) (λ later. refl)
-  by_effect (Drops op y c nobody tells) = lost y tells.fate refl refl tells.uncommitted tells.fates (λ later. tells.shares k _ later)
-  by_effect (CommitsByItself y voted) = paid y HeurCommitted refl refl refl (λ x. refl) (λ later. refl)
-  by_effect (RollsBackByItself y voted) = lost y HeurRolledBack refl refl refl (λ x. refl) (λ later. refl)
-  -- the others change no sum and no value
-  by_effect effect = still refl refl (λ x. refl) (λ later. refl)
-
-value_step : (t : ℕ) (k : List ℕ) (p : Held) (op : Op) (T : Tables) → IsPending k p T.sums → ValueStep k p op (association_of T t) T (next t op T)
-value_step t k p op T h = by_effect t k p T h (effect_of t op T)
+    where
+      paid : (b : Bool)
+          → map.get (if b then committed y T else T).values k ≡ option_map (λ v. v +ℤ (if b then amount_of_held p y else pos 0)) (map.get T.values k)
+      paid true =
+          get-map_values key_cmp_total key_cmp-IsAntisymmetric (λ q v. v +ℤ sum_of T.sums y q) T.values k
+          ∙ ap (λ m. option_map (λ v. v +ℤ m) (map.get T.values k)) (amount_is k p y T.sums h)
+      paid false = plus_zero _
+  by_move (Added own d l known alone) = gained k own d p l T h alone
 
 -- a value moved twice
 pub chained : (o : Option ℤ) (m n : ℤ) → option_map (λ v. v +ℤ n) (option_map (λ v. v +ℤ m) o) ≡ option_map (λ v. v +ℤ (m +ℤ n)) o
@@ -251,7 +230,7 @@ pub value_run : (H : History) (k : List ℕ) (p : Held) (after : XidName → Boo
 value_run [] k p after T h = record { held = p; pending = h; moved = pos 0; values = plus_zero _; owes = none_moved (due p after) }
 value_run (r ∷ H) k p after T h =
     let T1 : Tables = (next r.thread r.op T).0 in
-    let a : ValueStep k p r.op (association_of T r.thread) T (next r.thread r.op T) = value_step r.thread k p r.op T h in
+    let a : ValueStep k p r.op (association_of T r.thread) T (next r.thread r.op T) = by_move k p T h (moves_of r.thread r.op T) in
     let rest : Run k a.held after H T1 = value_run H k a.held after T1 a.pending in
     record {
       held = rest.held;
@@ -275,7 +254,8 @@ none_from k after r h T is =
     ap (λ (o : Op). share_of k o (next r.thread o T).1 (association_of T r.thread) (λ x. commits_later (after x) x (coded h (next r.thread o T).0)) +ℤ added_in k after h (next r.thread o T).0) is
     ∙ elim (T.shut) as (λ b. T.shut ≡ b → pos 0 +ℤ added_in k after h (next r.thread Shut T).0 ≡ pos 0) [
       | true ↦ λ s. ap (λ (a : Answer). pos 0 +ℤ added_in k after h a.0) (next-shut r.thread Shut T s) ∙ ap (λ z. pos 0 +ℤ z) (none_shut k after h T s)
-      | false ↦ λ s. ap (λ (a : Answer). pos 0 +ℤ added_in k after h a.0) (next-Shut r.thread T s) ∙ ap (λ z. pos 0 +ℤ z) (none_shut k after h (shut_down T) refl)
+      | false ↦ λ s. ap (λ (a : Answer). pos 0 +ℤ added_in k after h a.0) (next-Shut r.thread T s)
+          ∙ ap (λ z. pos 0 +ℤ z) (none_shut k after h (shut_down T) refl)
     ] refl
 
 -- who commits is decided by the accepted requests
@@ -285,7 +265,8 @@ commits_shut b x (r ∷ h) T s =
     ap (λ (a : Answer). or_later (ending (fate_of x r.op a.1)) (commits_later b x (coded h a.0))) (next-shut r.thread r.op T s)
     ∙ ap (λ o. or_later (ending o) (commits_later b x (coded h T))) ((error_tells r.op RmFail refl).fates x) ∙ commits_shut b x h T s
 
-commits_from : (b : Bool) (x : XidName) (t : ℕ) (op : Op) (h : History) (T : Tables) → op ≡ Shut → or_later (ending (fate_of x op (next t op T).1)) (commits_later b x (coded h (next t op T).0)) ≡ b
+commits_from : (b : Bool) (x : XidName) (t : ℕ) (op : Op) (h : History) (T : Tables) → op ≡ Shut
+    → or_later (ending (fate_of x op (next t op T).1)) (commits_later b x (coded h (next t op T).0)) ≡ b
 commits_from b x t op h T is =
     ap (λ (o : Op). or_later (ending (fate_of x o (next t o T).1)) (commits_later b x (coded h (next t o T).0))) is
     ∙ elim (T.shut) as (λ c. T.shut ≡ c → commits_later b x (coded h (next t Shut T).0) ≡ b) [

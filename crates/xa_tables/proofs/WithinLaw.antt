@@ -1,5 +1,6 @@
 -- The law: the value of a declared key stays within the limits, whatever is requested, over any openings.
-use Rattle.std.specs.Prelude.{◌≡◌, ◌≢◌, ℕ, ℤ, pos, ◌+ℤ◌, Bool, true, false, cond, not, ◌&&◌, if◌then◌else◌, Option, None, Some, option_map, unwrap_or, List, [], ◌∷◌, map, refl, nat_le}
+use Rattle.std.specs.Prelude.{◌≡◌, ◌≢◌, ℕ, ℤ, pos, ◌+ℤ◌, Bool, true, false, cond, not, ◌&&◌, if◌then◌else◌, Option, None, Some, option_map, unwrap_or, List, []}
+use Rattle.std.specs.Prelude.{◌∷◌, map, refl, nat_le}
 use Rattle.std.specs.List.{list_all}
 use Rattle.std.proofs.Common.{sym, ap, ◌∙◌, subst, ⊎_elim, le-leb, arith}
 use Rattle.std.specs.FinMap as finmap
@@ -18,16 +19,18 @@ use Rattle.xa_tables.specs.declared.state.HeuristicDecision.{HeuristicDecision}
 use Rattle.xa_tables.specs.declared.state.HeuristicDecision.TheVariants as decision
 use Rattle.xa_tables.specs.declared.state.RollbackReason.TheVariants.{Failed, Transient}
 use Rattle.xa_tables.specs.declared.state.Association.{Association}
-use Rattle.xa_tables.specs.Tables.{Tables, Touch, touch_cmp, association_of, state_of, is_S3, is_prepared, is_within, value_of, sum_of, has_other_touched, is_broken, sums_without}
+use Rattle.xa_tables.specs.Tables.{Tables, Touch, touch_cmp, association_of, state_of, is_S3, is_prepared, is_within, value_of, sum_of, has_other_touched}
+use Rattle.xa_tables.specs.Tables.{is_broken, sums_without}
 use Rattle.xa_tables.specs.Next.{Answer, next, stated, added, gone, forgotten, completed, committed}
 use Rattle.xa_tables.specs.Accounts.{are_accounts}
 use Rattle.xa_tables.specs.Managers.{opening}
 use Rattle.xa_tables.specs.History.{History, tables_after, StaysWithin}
 use Rattle.xa_tables.specs.Openings.{IsOpening, reopened, left_by}
 use Rattle.xa_tables.proofs.Reopening.{sums_reopened, reopens, new_opens, accounts_new, left_opens}
-use Rattle.xa_tables.proofs.MapLemmas.{none_passes, get-map_values}
+use Rattle.xa_base.proofs.FinMaps.{none_passes, get-map_values}
 use Rattle.xa_tables.proofs.AccountLemmas.{touch_cmp_total, touch_cmp-IsAntisymmetric, touch_from, within_bounds}
-use Rattle.xa_tables.proofs.Effects.{Effect, Starts, Joins, Fails, Idles, Dooms, Adds, Prepares, Commits, Drops, CommitsByItself, RollsBackByItself, Forgets, effect_of}
+use Rattle.xa_tables.proofs.Effects.{Effect, Starts, Joins, Fails, Idles, Dooms, Adds, Prepares, Commits, Drops, CommitsByItself, RollsBackByItself, Forgets}
+use Rattle.xa_tables.proofs.Effects.{effect_of}
 use Rattle.xa_tables.proofs.Law.{Sound, standing, get_put, get_gone, voted_rests, sound_after, opening_sound}
 use Rattle.xa_tables.proofs.ValueLaw.{get_without, get_added}
 
@@ -44,13 +47,15 @@ pub record Kept (T : Tables) : Type 0 where
 -- a branch that breaks no limit fits
 unbroken_fits : (T : Tables) (x : XidName) → is_broken T.values T.sums x ≡ false → Fits T x
 unbroken_fits T x unbroken k s at =
-    let none = none_passes touch_cmp_total touch_cmp-IsAntisymmetric (λ p r. xid_eq p.0 x && not (is_within (value_of T.values p.1 +ℤ r))) T.sums (x, k) s unbroken at in
+    let none =
+    none_passes touch_cmp_total touch_cmp-IsAntisymmetric (λ p r. xid_eq p.0 x && not (is_within (value_of T.values p.1 +ℤ r))) T.sums (x, k) s unbroken at in
     not-false (is_within (value_of T.values k +ℤ s)) (ap (λ b. b && not (is_within (value_of T.values k +ℤ s))) (sym ((Decides-xid_eq x x).1 refl)) ∙ none)
 
 -- the values with y's sums are within the limits, and the other prepared branches fit them
 record Posted (T : Tables) (y : XidName) : Type 0 where
   values : (k : List ℕ) (v : ℤ) → finmap.get (committed y T).values k ≡ Some v → is_within v ≡ true
-  others : (x : XidName) → (is_S3 (state_of T x) ≡ true) × (x ≢ y) → (k : List ℕ) (r : ℤ) → finmap.get (sums_without T.sums y) (x, k) ≡ Some r → is_within (value_of (committed y T).values k +ℤ r) ≡ true
+  others : (x : XidName) → (is_S3 (state_of T x) ≡ true) × (x ≢ y) → (k : List ℕ) (r : ℤ) → finmap.get (sums_without T.sums y) (x, k) ≡ Some r
+      → is_within (value_of (committed y T).values k +ℤ r) ≡ true
 
 some_same : {u v : ℤ} → Some u ≡ Some v → u ≡ v
 some_same e = cc
@@ -102,7 +107,8 @@ module _ (t : ℕ) (T : Tables) (s : Sound T) (w : Kept T) where
 
   -- what was touched by a branch that is left when y is gone
   left : (y x : XidName) (k : List ℕ) (r : ℤ) → finmap.get (sums_without T.sums y) (x, k) ≡ Some r → finmap.get T.sums (x, k) ≡ Some r
-  left y x k r at = by_bool (λ b. (if b then None else finmap.get T.sums (x, k)) ≡ Some r → finmap.get T.sums (x, k) ≡ Some r) (xid_eq x y) (λ _ e. cc) (λ _ e. e) (sym (get_without T.sums y x k) ∙ at)
+  left y x k r at =
+      by_bool (λ b. (if b then None else finmap.get T.sums (x, k)) ≡ Some r → finmap.get T.sums (x, k) ≡ Some r) (xid_eq x y) (λ _ e. cc) (λ _ e. e) (sym (get_without T.sums y x k) ∙ at)
 
   -- a branch that is prepared when y is gone is another one, and was prepared
   still : (y x : XidName) → is_S3 (state_of (gone y T) x) ≡ true → (is_S3 (state_of T x) ≡ true) × (x ≢ y)
@@ -149,13 +155,16 @@ module _ (t : ℕ) (T : Tables) (s : Sound T) (w : Kept T) where
       none_more None = refl
       none_more (Some v) = plus_none v
 
-      value_fits : (o q : Option ℤ) (k : List ℕ) (v : ℤ) → finmap.get T.values k ≡ o → finmap.get T.sums (y, k) ≡ q → option_map (λ u. u +ℤ sum_of T.sums y k) (finmap.get T.values k) ≡ Some v → is_within v ≡ true
+      value_fits : (o q : Option ℤ) (k : List ℕ) (v : ℤ) → finmap.get T.values k ≡ o → finmap.get T.sums (y, k) ≡ q
+          → option_map (λ u. u +ℤ sum_of T.sums y k) (finmap.get T.values k) ≡ Some v → is_within v ≡ true
       value_fits None q k v here there at = let z : None ≡ Some v = sym (ap (option_map (λ u. u +ℤ sum_of T.sums y k)) here) ∙ at in cc
       value_fits (Some u) None k v here there at =
-          let same : u +ℤ pos 0 ≡ v = some_same (ap (λ (z : ℤ). Some (u +ℤ z)) (sym (ap (λ o. unwrap_or o (pos 0)) there)) ∙ sym (ap (option_map (λ u. u +ℤ sum_of T.sums y k)) here) ∙ at) in
+          let same : u +ℤ pos 0 ≡ v =
+          some_same (ap (λ (z : ℤ). Some (u +ℤ z)) (sym (ap (λ o. unwrap_or o (pos 0)) there)) ∙ sym (ap (option_map (λ u. u +ℤ sum_of T.sums y k)) here) ∙ at) in
           subst (λ (z : ℤ). is_within z ≡ true) (sym (plus_none u) ∙ same) (w.values k u here)
       value_fits (Some u) (Some r) k v here there at =
-          let same : u +ℤ r ≡ v = some_same (ap (λ (z : ℤ). Some (u +ℤ z)) (sym (ap (λ o. unwrap_or o (pos 0)) there)) ∙ sym (ap (option_map (λ u. u +ℤ sum_of T.sums y k)) here) ∙ at) in
+          let same : u +ℤ r ≡ v =
+          some_same (ap (λ (z : ℤ). Some (u +ℤ z)) (sym (ap (λ o. unwrap_or o (pos 0)) there)) ∙ sym (ap (option_map (λ u. u +ℤ sum_of T.sums y k)) here) ∙ at) in
           subst (λ (z : ℤ). is_within z ≡ true) (ap (λ o. unwrap_or o (pos 0) +ℤ r) here ∙ same) (fits k r there)
 
       nobody_else : (x : XidName) (k : List ℕ) (r : ℤ) → finmap.get T.sums (x, k) ≡ Some r → x ≢ y → finmap.get T.sums (y, k) ≡ None
@@ -170,7 +179,8 @@ module _ (t : ℕ) (T : Tables) (s : Sound T) (w : Kept T) where
   commits y fits = record { values = (posts y fits).values; alone = (drops y).alone; prepared = λ x is. (posts y fits).others x (still y x is) }
 
   commits_by_itself : (y : XidName) → Fits T y → Kept (completed y decision.Commit (committed y T))
-  commits_by_itself y fits = record { values = (posts y fits).values; alone = (drops y).alone; prepared = λ x is. (posts y fits).others x (undecided y decision.Commit x is) }
+  commits_by_itself y fits =
+      record { values = (posts y fits).values; alone = (drops y).alone; prepared = λ x is. (posts y fits).others x (undecided y decision.Commit x is) }
 
   by_effect : {op : Op} {a : Answer} → Effect t T op a → Kept a.0
   by_effect (Starts y free) = let p = put y Active refl in record { values = p.values; alone = p.alone; prepared = p.prepared }
@@ -180,7 +190,8 @@ module _ (t : ℕ) (T : Tables) (s : Sound T) (w : Kept T) where
   by_effect (Dooms k d l own) = put l.xid (RollbackOnly Transient) refl
   by_effect (Adds k d l own known free) = adds k d l own free
   by_effect (Prepares y nobody unbroken) = prepares y (unbroken_fits T y unbroken)
-  by_effect (Commits y one_phase nobody may) = commits y (⊎_elim (λ (is : is_prepared T y ≡ true). w.prepared y is) (λ (unbroken : is_broken T.values T.sums y ≡ false). unbroken_fits T y unbroken) may)
+  by_effect (Commits y one_phase nobody may) =
+      commits y (⊎_elim (λ (is : is_prepared T y ≡ true). w.prepared y is) (λ (unbroken : is_broken T.values T.sums y ≡ false). unbroken_fits T y unbroken) may)
   by_effect (Drops op y c nobody tells) = drops y
   by_effect (CommitsByItself y voted) = commits_by_itself y (w.prepared y voted)
   by_effect (RollsBackByItself y voted) = decides y decision.Rollback
@@ -195,7 +206,8 @@ run_kept [] T s w = w
 run_kept (r ∷ h) T s w = run_kept h (next r.thread r.op T).0 (sound_after r.thread r.op T s) (by_effect r.thread T s w (effect_of r.thread r.op T))
 
 -- a declared value
-declared_within : (accounts : List (List ℕ × ℕ)) → list_all (λ d. nat_le d.1 1000000000000) accounts ≡ true → (k : List ℕ) (v : ℤ) → find key_cmp k (map (λ d. (d.0, pos d.1)) accounts) ≡ Some v → is_within v ≡ true
+declared_within : (accounts : List (List ℕ × ℕ)) → list_all (λ d. nat_le d.1 1000000000000) accounts ≡ true → (k : List ℕ) (v : ℤ)
+    → find key_cmp k (map (λ d. (d.0, pos d.1)) accounts) ≡ Some v → is_within v ≡ true
 declared_within [] all k v at = cc
 declared_within (d ∷ ds) all k v at =
     let both : (nat_le d.1 1000000000000 ≡ true) × (list_all (λ e. nat_le e.1 1000000000000) ds ≡ true) = and_parts _ _ all in
@@ -228,9 +240,11 @@ kept_over T w = record {
 
 pub kept_by : (before : List History) (T : Tables) → IsOpening T → Kept T → Kept (left_by before T)
 kept_by [] T o w = w
-kept_by (h ∷ hs) T o w = kept_by hs (reopened (tables_after h T)) (reopens (tables_after h T)) (kept_over (tables_after h T) (run_kept h T (opening_sound T o) w))
+kept_by (h ∷ hs) T o w =
+    kept_by hs (reopened (tables_after h T)) (reopens (tables_after h T)) (kept_over (tables_after h T) (run_kept h T (opening_sound T o) w))
 
-pub within_law : (accounts : List (List ℕ × ℕ)) (before : List History) (h : History) (k : List ℕ) → are_accounts accounts ≡ true → StaysWithin k h (left_by before (opening accounts))
+pub within_law : (accounts : List (List ℕ × ℕ)) (before : List History) (h : History) (k : List ℕ) → are_accounts accounts ≡ true
+    → StaysWithin k h (left_by before (opening accounts))
 within_law accounts before h k are v at =
     let new = new_opens (opening accounts) (accounts_new accounts) in
     let T : Tables = left_by before (opening accounts) in

@@ -28,9 +28,9 @@ use Rattle.xa_tables.specs.Prepared.{names, NamesNowhere}
 use Rattle.xa_tables.specs.Worth.{gain, unless_ended, added_by_now}
 use Rattle.xa_tables.specs.Work.{request, LeavesAtWork, DoesWork}
 use Rattle.xa_base.proofs.Truth.{by_if, tied_false}
-use Rattle.xa_tables.proofs.MapLemmas.{none_pass}
+use Rattle.xa_base.proofs.FinMaps.{none_pass}
 use Rattle.xa_tables.proofs.Effects.{Effect, Starts, Joins, Resumes, Suspends, Leaves, Fails, Idles, effect_of}
-use Rattle.xa_tables.proofs.ValueLaw.{quiet_named}
+use Rattle.xa_tables.proofs.Moves.{quiet_named}
 use Rattle.xa_tables.proofs.Unnamed.{apart_from, unnamed_fate, unnamed_stays, unnamed_on}
 
 -- ---- associations
@@ -85,7 +85,9 @@ OnlyOne t x T = (u : ℕ) → u ≢ t → is_associated T u x ≡ false
 -- a thread that isn't associated with x adds nothing to it
 apart_gains : (x : XidName) (op : Op) (c : Code) (l : Option Association) → is_association_with l x ≡ false → gain x op c l ≡ pos 0
 apart_gains x (Add k d) c None e = elim (is_done c) as (λ b. (if b then pos 0 else pos 0) ≡ pos 0) [ true ↦ refl | false ↦ refl ]
-apart_gains x (Add k d) c (Some l) e = ap (λ b. if is_done c then (if b then d else pos 0) else pos 0) e ∙ elim (is_done c) as (λ b. (if b then pos 0 else pos 0) ≡ pos 0) [ true ↦ refl | false ↦ refl ]
+apart_gains x (Add k d) c (Some l) e =
+    ap (λ b. if is_done c then (if b then d else pos 0) else pos 0) e
+    ∙ elim (is_done c) as (λ b. (if b then pos 0 else pos 0) ≡ pos 0) [ true ↦ refl | false ↦ refl ]
 apart_gains x op c l e = refl
 
 same_after : (v w : ℤ) → w ≡ pos 0 → v +ℤ w ≡ v
@@ -101,7 +103,8 @@ unmoved x v r T n apart =
 
 -- nobody is associated with x
 nobody_is : (x : XidName) (T : Tables) → is_somebody_associated T.associations x ≡ false → (u : ℕ) → is_associated T u x ≡ false
-nobody_is x T nobody u = elim (association_of T u) as (λ o. association_of T u ≡ o → is_association_with o x ≡ false) [ None ↦ λ e. refl | Some l ↦ λ e. apart_from x T.associations nobody u l e ] refl
+nobody_is x T nobody u =
+    elim (association_of T u) as (λ o. association_of T u ≡ o → is_association_with o x ≡ false) [ None ↦ λ e. refl | Some l ↦ λ e. apart_from x T.associations nobody u l e ] refl
 
 nobody_adds : (x : XidName) (v : ℤ) (h : History) (T : Tables) → is_somebody_associated T.associations x ≡ false → NamesNowhere x h → added_by_now x v h T ≡ v
 nobody_adds x v [] T nobody n = refl
@@ -151,7 +154,8 @@ left_at_work t x v (r ∷ h) T only leaves =
 -- ---- the work
 
 -- t began x
-begun_with : (t : ℕ) (x : XidName) (T : Tables) → (next t (Start x Fresh) T).1 ≡ Done → association_of (next t (Start x Fresh) T).0 t ≡ Some (association x Associated)
+begun_with : (t : ℕ) (x : XidName) (T : Tables) → (next t (Start x Fresh) T).1 ≡ Done
+    → association_of (next t (Start x Fresh) T).0 t ≡ Some (association x Associated)
 unfolding next
 begun_with t x T =
     let P : Answer → Type 0 = λ a. a.1 ≡ Done → association_of a.0 t ≡ Some (association x Associated) in
@@ -188,12 +192,14 @@ work_law t n x k d h T opened w =
     let only1 : OnlyOne t x T1 = λ u apart. nobody_is x T1 (unnamed_on w.before x T free w.unnamed).apart u in
     let start_code = w.starts in
     let begins : unless_ended (ending (fate_of x (Start x Fresh) (next t (Start x Fresh) T1).1)) (pos 0 +ℤ pos 0) ≡ pos 0 =
-    ap (λ c. unless_ended (ending (fate_of x (Start x Fresh) c)) (pos 0 +ℤ pos 0)) start_code ∙ ap (λ o. unless_ended o (pos 0 +ℤ pos 0)) (quiet_named x x (Some Live) refl) in
+    ap (λ c. unless_ended (ending (fate_of x (Start x Fresh) c)) (pos 0 +ℤ pos 0)) start_code
+    ∙ ap (λ o. unless_ended o (pos 0 +ℤ pos 0)) (quiet_named x x (Some Live) refl) in
     let at_work = left_at_work t x (pos 0) w.begun T2 (own_request t x (Start x Fresh) T1 only1) w.at_work in
     let own : association_of T3 t ≡ Some (association x Associated) = at_work.own ∙ begun_with t x T1 w.starts in
     let self : xid_eq x x ≡ true = (Decides-xid_eq x x).1 refl in
     let gained : gain x (Add k d) (next t (Add k d) T3).1 (association_of T3 t) ≡ d =
-    ap (λ c. if is_done c then added_by (association_of T3 t) d (λ y. xid_eq y x) else pos 0) w.adds ∙ ap (λ o. added_by o d (λ y. xid_eq y x)) own ∙ ap (λ b. if b then d else pos 0) self in
+    ap (λ c. if is_done c then added_by (association_of T3 t) d (λ y. xid_eq y x) else pos 0) w.adds ∙ ap (λ o. added_by o d (λ y. xid_eq y x)) own
+    ∙ ap (λ b. if b then d else pos 0) self in
     let ending_work = left_at_work t x d w.added T4 (own_request t x (Add k d) T3 at_work.only) w.ending in
     let done = left_at_work t x d w.after T6 (own_request t x (End x Success) T5 ending_work.only) w.ended in
     ap (λ l. added_by_now x (pos 0) l T) w.place

@@ -1,13 +1,14 @@
 -- The laws: commits alone, heuristic ones included, move what the accounts are worth together, by what their branches hold, and a branch holds what it
 -- has added.
-use Rattle.std.specs.Prelude.{◌≡◌, ℕ, zero, suc, ℤ, pos, ◌+ℤ◌, Bool, true, false, cond, not, ◌&&◌, ◌||◌, if◌then◌else◌, Option, None, Some, is_some, option_map, unwrap_or, List, [], ◌∷◌, map, refl}
+use Rattle.std.specs.Prelude.{◌≡◌, ℕ, zero, suc, ℤ, pos, ◌+ℤ◌, Bool, true, false, cond, not, ◌&&◌, ◌||◌, if◌then◌else◌, Option, None, Some, is_some, option_map}
+use Rattle.std.specs.Prelude.{unwrap_or, List, [], ◌∷◌, map, refl}
 use Rattle.std.specs.List.{All, list_any}
 use Rattle.std.specs.FinMap as finmap
-use Rattle.std.specs.FinMap.{FinMap, find, get-empty, get-insert, get-from_entries}
-use Rattle.std.proofs.Common.{sym, ap, ◌∙◌, subst, arith, get_or}
+use Rattle.std.specs.FinMap.{find, get-empty, get-insert, get-from_entries}
+use Rattle.std.proofs.Common.{sym, ap, ◌∙◌, arith, get_or}
 use Rattle.std.proofs.lemmas.Int.{ints}
 use Rattle.std.proofs.lemmas.Bool.{and_parts, not-true}
-use Rattle.std.proofs.Math.Bool.{or-true, and-false}
+use Rattle.std.proofs.Math.Bool.{or-true}
 use Rattle.std.proofs.Math.IntN.{+ℤ_idl as none_plus}
 use Rattle.xa_base.specs.Sums.{total}
 use Rattle.xa_base.proofs.Sums.{total_same, total_alike, total_both, total_nothing}
@@ -17,23 +18,23 @@ use Rattle.xa_words.specs.Orders.{key_cmp, key_cmp_total, key_cmp-IsAntisymmetri
 use Rattle.xa_words.specs.declared.code.Code.{Code}
 use Rattle.xa_words.specs.declared.code.Code.TheVariants.{Done, RdOnly}
 use Rattle.xa_words.specs.declared.request.Op.{Op}
-use Rattle.xa_words.specs.declared.request.Op.TheVariants.{Add, Prepare, Commit, Heur}
+use Rattle.xa_words.specs.declared.request.Op.TheVariants.{Add, Prepare}
 use Rattle.xa_words.specs.declared.request.Request.{Request}
 use Rattle.xa_tables.specs.declared.state.Association.{Association}
-use Rattle.xa_tables.specs.Tables.{Tables, Touch, touch_cmp, association_of, is_declared, has_touched, value_of, sum_of, sums_without}
+use Rattle.xa_tables.specs.Tables.{Tables, Touch, touch_cmp, association_of, is_declared, value_of, sum_of, sums_without}
 use Rattle.xa_tables.specs.Next.{Answer, next, added, committed}
 use Rattle.xa_tables.specs.Accounts.{are_accounts, are_apart}
 use Rattle.xa_tables.specs.Managers.{opening}
-use Rattle.xa_tables.specs.History.{History, Fate, Live, InDoubt, Committed, RolledBack, HeurCommitted, HeurRolledBack, fate_of, if_named, ending_by, heur_fate, tables_after, added_by, share_of, is_done, is_integrity, commit_fate, ending}
+use Rattle.xa_tables.specs.History.{History, fate_of, tables_after, added_by, share_of, is_done, ending}
 use Rattle.xa_tables.specs.Openings.{IsOpening}
 use Rattle.xa_tables.specs.Prepared.{NamesNowhere}
 use Rattle.xa_tables.specs.Worth.{worth_declared, worth, held_by, moved_by, moved, is_any, gain, unless_ended, added_by_now, WorthIsMoved, HoldsItsAdditions}
-use Rattle.xa_tables.proofs.MapLemmas.{none_passes, get-map_values}
-use Rattle.xa_tables.proofs.AccountLemmas.{same_key, key_self, key_apart, touch_cmp_total, touch_cmp-IsAntisymmetric, touch_self}
-use Rattle.xa_tables.proofs.Effects.{Effect, TellsNothing, TellsDropped, Stays, Starts, Joins, Resumes, Adds, Prepares, Commits, Drops, CommitsByItself, RollsBackByItself, effect_of}
+use Rattle.xa_base.proofs.FinMaps.{get-map_values}
+use Rattle.xa_tables.proofs.AccountLemmas.{same_key, key_self, key_apart, touch_cmp_total, touch_self}
+use Rattle.xa_tables.proofs.Moves.{Moves, Still, Ended, Added, moves_of}
 use Rattle.xa_tables.proofs.Law.{swap_xid}
-use Rattle.xa_tables.proofs.ValueLaw.{quiet_named, ended_named, get_without, get_added}
-use Rattle.xa_tables.proofs.AddedLaw.{reads_only}
+use Rattle.xa_tables.proofs.ValueLaw.{get_without, get_added}
+use Rattle.xa_tables.proofs.AddedLaw.{untouched, reads_only}
 use Rattle.xa_tables.proofs.PreparedLaw.{sums_kept}
 
 abbrev Accounts : Type 0
@@ -89,7 +90,8 @@ each_among (d ∷ ds) (suc k) e lt =
 -- ---- sums over accounts with keys of their own
 
 -- what counts for one key counts once
-once : (accounts : Accounts) (k : List ℕ) (v : ℤ) → are_apart accounts ≡ true → total (λ d. if key_eq d.0 k then v else pos 0) accounts ≡ (if among accounts k then v else pos 0)
+once : (accounts : Accounts) (k : List ℕ) (v : ℤ) → are_apart accounts ≡ true
+    → total (λ d. if key_eq d.0 k then v else pos 0) accounts ≡ (if among accounts k then v else pos 0)
 once [] k v apart = refl
 once (d ∷ ds) k v apart =
     let parts = and_parts (not (list_any (λ e. key_eq e.0 d.0) ds)) (are_apart ds) apart in
@@ -104,7 +106,8 @@ once (d ∷ ds) k v apart =
 value_in : List Entry → List ℕ → ℤ
 value_in es k = unwrap_or (find key_cmp k es) (pos 0)
 
-passed : (d : Entry) (es : List Entry) (rest : Accounts) → list_any (λ e. key_eq e.0 d.0) rest ≡ false → total (λ e. value_in (d ∷ es) e.0) rest ≡ total (λ e. value_in es e.0) rest
+passed : (d : Entry) (es : List Entry) (rest : Accounts) → list_any (λ e. key_eq e.0 d.0) rest ≡ false
+    → total (λ e. value_in (d ∷ es) e.0) rest ≡ total (λ e. value_in es e.0) rest
 unfolding value_in
 passed d es [] none = refl
 passed d es (e ∷ rest) none =
@@ -121,8 +124,10 @@ unfolding value_in
 declared_worth [] apart = refl
 declared_worth (d ∷ ds) apart =
     let parts = and_parts (not (list_any (λ e. key_eq e.0 d.0) ds)) (are_apart ds) apart in
-    let here : value_in (map entry_of (d ∷ ds)) d.0 ≡ pos d.1 = ap (λ b. unwrap_or (cond b (Some (pos d.1)) (find key_cmp d.0 (map entry_of ds))) (pos 0)) (key_self d.0) in
-    let there : total (λ e. value_in (map entry_of (d ∷ ds)) e.0) ds ≡ worth_declared ds = passed (entry_of d) (map entry_of ds) ds (not-true _ parts.0) ∙ declared_worth ds parts.1 in
+    let here : value_in (map entry_of (d ∷ ds)) d.0 ≡ pos d.1 =
+    ap (λ b. unwrap_or (cond b (Some (pos d.1)) (find key_cmp d.0 (map entry_of ds))) (pos 0)) (key_self d.0) in
+    let there : total (λ e. value_in (map entry_of (d ∷ ds)) e.0) ds ≡ worth_declared ds =
+    passed (entry_of d) (map entry_of ds) ds (not-true _ parts.0) ∙ declared_worth ds parts.1 in
     λ i. here i +ℤ there i
 
 opening_worth : (accounts : Accounts) → are_apart accounts ≡ true → worth accounts (opening accounts) ≡ worth_declared accounts
@@ -134,12 +139,14 @@ opening_worth accounts apart =
 -- nothing is held at the opening
 opening_holds : (accounts : Accounts) (x : XidName) → held_by accounts x (opening accounts) ≡ pos 0
 opening_holds accounts x =
-    total_same (λ d. sum_of (opening accounts).sums x d.0) (λ d. pos 0) accounts (λ d. ap (λ o. unwrap_or o (pos 0)) (get-empty touch_cmp (x, d.0))) ∙ total_nothing accounts
+    total_same (λ d. sum_of (opening accounts).sums x d.0) (λ d. pos 0) accounts (λ d. ap (λ o. unwrap_or o (pos 0)) (get-empty touch_cmp (x, d.0)))
+    ∙ total_nothing accounts
 
 -- ---- one request
 
 -- an addition counts for its branch, at its key
-get_sum : (x y : XidName) (own k : List ℕ) (d : ℤ) (T : Tables) → sum_of (added y own d T).sums x k ≡ sum_of T.sums x k +ℤ (if key_eq k own && xid_eq y x then d else pos 0)
+get_sum : (x y : XidName) (own k : List ℕ) (d : ℤ) (T : Tables)
+    → sum_of (added y own d T).sums x k ≡ sum_of T.sums x k +ℤ (if key_eq k own && xid_eq y x then d else pos 0)
 get_sum x y own k d T =
     elim (key_eq k own) as (λ b. key_eq k own ≡ b → sum_of (added y own d T).sums x k ≡ sum_of T.sums x k +ℤ (if b && xid_eq y x then d else pos 0)) [
       | false ↦ λ t. ap (λ o. unwrap_or o (pos 0)) (get_added T.sums y x own k _ (λ _ e. let z = (Decides-key_eq k own).1 e in cc)) ∙ plus_none _
@@ -160,71 +167,17 @@ record WorthStep (accounts : Accounts) (op : Op) (l : Option Association) (T : T
   holds : (x : XidName) → held_by accounts x a.0 ≡ unless_ended (ending (fate_of x op a.1)) (held_by accounts x T +ℤ gain x op a.1 l)
 
 -- a request that adds nothing to any key adds nothing to any branch
-no_gain : (x : XidName) (op : Op) (c : Code) (l : Option Association) → ((k : List ℕ) (m : Option Association) (later : XidName → Bool) → share_of k op c m later ≡ pos 0) → gain x op c l ≡ pos 0
-no_gain x (Add k d) c l shares = ap (λ b. if b && is_done c then added_by l d (λ y. xid_eq y x) else pos 0) (sym ((Decides-key_eq k k).1 refl)) ∙ shares k l (λ y. xid_eq y x)
+no_gain : (x : XidName) (op : Op) (c : Code) (l : Option Association)
+    → ((k : List ℕ) (m : Option Association) (later : XidName → Bool) → share_of k op c m later ≡ pos 0) → gain x op c l ≡ pos 0
+no_gain x (Add k d) c l shares =
+    ap (λ b. if b && is_done c then added_by l d (λ y. xid_eq y x) else pos 0) (sym ((Decides-key_eq k k).1 refl)) ∙ shares k l (λ y. xid_eq y x)
 no_gain x op c l shares = refl
-
-and_true : (b : Bool) → (b && true) ≡ b
-and_true true = refl
-and_true false = refl
-
--- a commit that makes nothing of its branch moves nothing
-unmoved : (b : Bool) (v : ℤ) → (b ≡ true → ⊥) → (if b then v else pos 0) ≡ pos 0
-unmoved true v never = absurd (never refl)
-unmoved false v never = refl
-
-stays_unmoved : (accounts : Accounts) (op : Op) (c : Code) (T : Tables) → TellsNothing op c → moved_by accounts op c T ≡ pos 0
-stays_unmoved accounts (Commit y one_phase) c T tells =
-    unmoved (is_done c) (held_by accounts y T) (λ done.
-    let own : xid_eq y y ≡ true = (Decides-xid_eq y y).1 refl in
-    let fate : commit_fate c ≡ Some Committed = ap (λ b. if b then Some Committed else if is_integrity c then Some RolledBack else None) done in
-    let z : Some Committed ≡ None = sym (ap (λ b. if b then commit_fate c else None) own ∙ fate) ∙ tells.fates y in
-    cc)
-stays_unmoved accounts (Heur y true) c T tells =
-    ap (λ b. if b then held_by accounts y T else pos 0) (and_true (is_done c))
-    ∙ unmoved (is_done c) (held_by accounts y T) (λ done.
-    let own : xid_eq y y ≡ true = (Decides-xid_eq y y).1 refl in
-    let fate : heur_fate true c ≡ Some HeurCommitted = ap (λ b. if b then Some HeurCommitted else None) done in
-    let z : Some HeurCommitted ≡ None = sym (ap (λ b. if b then heur_fate true c else None) own ∙ fate) ∙ tells.fates y in
-    cc)
-stays_unmoved accounts (Heur y false) c T tells = ap (λ b. if b then held_by accounts y T else pos 0) (and-false (is_done c))
-stays_unmoved accounts op c T tells = refl
-
-dropped_unmoved : (accounts : Accounts) (op : Op) (y : XidName) (c : Code) (T : Tables) → TellsDropped op y c → moved_by accounts op c T ≡ pos 0
-dropped_unmoved accounts (Commit x one_phase) y c T tells =
-    unmoved (is_done c) (held_by accounts x T) (λ done.
-    let own : xid_eq x x ≡ true = (Decides-xid_eq x x).1 refl in
-    let fate : commit_fate c ≡ Some Committed = ap (λ b. if b then Some Committed else if is_integrity c then Some RolledBack else None) done in
-    let committing : ending (fate_of x (Commit x one_phase) c) ≡ Some true = ap ending (ap (λ b. if b then commit_fate c else None) own ∙ fate) in
-    let other : ending (fate_of x (Commit x one_phase) c) ≡ (if xid_eq y x then Some false else None) = ap ending (tells.fates x) ∙ ended_named x y tells.fate false tells.uncommitted in
-    elim (xid_eq y x) as (λ b. Some true ≡ (if b then Some false else None) → ⊥) [ true ↦ λ e. cc | false ↦ λ e. cc ] (sym committing ∙ other))
-dropped_unmoved accounts (Heur x true) y c T tells =
-    ap (λ b. if b then held_by accounts x T else pos 0) (and_true (is_done c))
-    ∙ unmoved (is_done c) (held_by accounts x T) (λ done.
-    let own : xid_eq x x ≡ true = (Decides-xid_eq x x).1 refl in
-    let fate : heur_fate true c ≡ Some HeurCommitted = ap (λ b. if b then Some HeurCommitted else None) done in
-    let committing : ending (fate_of x (Heur x true) c) ≡ Some true = ap ending (ap (λ b. if b then heur_fate true c else None) own ∙ fate) in
-    let other : ending (fate_of x (Heur x true) c) ≡ (if xid_eq y x then Some false else None) = ap ending (tells.fates x) ∙ ended_named x y tells.fate false tells.uncommitted in
-    elim (xid_eq y x) as (λ b. Some true ≡ (if b then Some false else None) → ⊥) [ true ↦ λ e. cc | false ↦ λ e. cc ] (sym committing ∙ other))
-dropped_unmoved accounts (Heur x false) y c T tells = ap (λ b. if b then held_by accounts x T else pos 0) (and-false (is_done c))
-dropped_unmoved accounts op y c T tells = refl
 
 ended_either : (b : Bool) (c : Bool) (u v : ℤ) → v ≡ (if b then pos 0 else u) → v ≡ unless_ended (if b then Some c else None) (u +ℤ pos 0)
 ended_either true c u v e = e
 ended_either false c u v e = e ∙ plus_none u
 
-module _ (accounts : Accounts) (apart : are_apart accounts ≡ true) (t : ℕ) (T : Tables) (known : Declares accounts T) where
-  -- sums and values stay, and the request ends no branch
-  still : {op : Op} {a : Answer} → a.0.sums ≡ T.sums → a.0.values ≡ T.values → ((x : XidName) → ending (fate_of x op a.1) ≡ None) → ((x : XidName) → gain x op a.1 (association_of T t) ≡ pos 0)
-      → moved_by accounts op a.1 T ≡ pos 0 → WorthStep accounts op (association_of T t) T a
-  still {op = op} {a = a} sums values quiet none unmoving = record {
-    keys = λ k. ap (λ m. is_some (finmap.get m k)) values;
-    worth_after = ap (λ m. total (λ d. value_of m d.0) accounts) values ∙ plus_none _ ∙ ap (λ v. worth accounts T +ℤ v) (sym unmoving);
-    holds = λ x.
-        ap (λ m. total (λ d. sum_of m x d.0) accounts) sums ∙ plus_none _ ∙ ap (λ v. held_by accounts x T +ℤ v) (sym (none x))
-        ∙ ap (λ o. unless_ended o (held_by accounts x T +ℤ gain x op a.1 (association_of T t))) (sym (quiet x));
-  }
-
+module _ (accounts : Accounts) (apart : are_apart accounts ≡ true) (T : Tables) (known : Declares accounts T) where
   -- what branches hold once y is gone
   without : (y x : XidName) → total (λ d. sum_of (sums_without T.sums y) x d.0) accounts ≡ (if xid_eq y x then pos 0 else held_by accounts x T)
   without y x =
@@ -233,17 +186,6 @@ module _ (accounts : Accounts) (apart : are_apart accounts ≡ true) (t : ℕ) (
       ∙ ap (λ b. unwrap_or (if b then None else finmap.get T.sums (x, d.0)) (pos 0)) (swap_xid x y)
       ∙ elim (xid_eq y x) as (λ b. unwrap_or (if b then None else finmap.get T.sums (x, d.0)) (pos 0) ≡ (if b then pos 0 else sum_of T.sums x d.0)) [ true ↦ refl | false ↦ refl ])
       ∙ elim (xid_eq y x) as (λ b. total (λ d. if b then pos 0 else sum_of T.sums x d.0) accounts ≡ (if b then pos 0 else held_by accounts x T)) [ true ↦ total_nothing accounts | false ↦ refl ]
-
-  -- y ends without a commit, and has no sums
-  lost : {op : Op} {a : Answer} (y : XidName) (f : Fate) → a.0.sums ≡ sums_without T.sums y → a.0.values ≡ T.values → ending_by f ≡ Some false → ((x : XidName) → fate_of x op a.1 ≡ if_named x y (Some f))
-      → ((x : XidName) → gain x op a.1 (association_of T t) ≡ pos 0) → moved_by accounts op a.1 T ≡ pos 0 → WorthStep accounts op (association_of T t) T a
-  lost {op = op} {a = a} y f sums values uncommitted fates none unmoving = record {
-    keys = λ k. ap (λ m. is_some (finmap.get m k)) values;
-    worth_after = ap (λ m. total (λ d. value_of m d.0) accounts) values ∙ plus_none _ ∙ ap (λ v. worth accounts T +ℤ v) (sym unmoving);
-    holds = λ x.
-        ap (λ m. total (λ d. sum_of m x d.0) accounts) sums ∙ ended_either (xid_eq y x) false (held_by accounts x T) _ (without y x)
-        ∙ (λ i. unless_ended (sym (ap ending (fates x) ∙ ended_named x y f false uncommitted) i) (held_by accounts x T +ℤ sym (none x) i));
-  }
 
   -- the values once y is committed
   paid_value : (y : XidName) (d : List ℕ × ℕ) → among accounts d.0 ≡ true → value_of (committed y T).values d.0 ≡ value_of T.values d.0 +ℤ sum_of T.sums y d.0
@@ -254,27 +196,24 @@ module _ (accounts : Accounts) (apart : are_apart accounts ≡ true) (t : ℕ) (
         | Some v ↦ λ e. refl
       ] (known d.0 ∙ in_them)
 
-  paid_keys : (y : XidName) (k : List ℕ) → is_declared (committed y T) k ≡ is_declared T k
-  paid_keys y k =
+  -- the keys and the worth once y has ended
+  ended_keys : (y : XidName) (commits : Bool) (k : List ℕ) → is_declared (if commits then committed y T else T) k ≡ is_declared T k
+  ended_keys y true k =
       ap is_some (get-map_values key_cmp_total key_cmp-IsAntisymmetric (λ q v. v +ℤ sum_of T.sums y q) T.values k)
       ∙ elim (finmap.get T.values k) as (λ o. is_some (option_map (λ v. v +ℤ sum_of T.sums y k) o) ≡ is_some o) [ None ↦ refl | Some v ↦ refl ]
+  ended_keys y false k = refl
 
-  -- y is committed, and has no sums
-  paid : {op : Op} {a : Answer} (y : XidName) (f : Fate) → a.0.sums ≡ sums_without T.sums y → a.0.values ≡ (committed y T).values → ending_by f ≡ Some true → ((x : XidName) → fate_of x op a.1 ≡ if_named x y (Some f))
-      → ((x : XidName) → gain x op a.1 (association_of T t) ≡ pos 0) → moved_by accounts op a.1 T ≡ held_by accounts y T → WorthStep accounts op (association_of T t) T a
-  paid {op = op} {a = a} y f sums values committing fates none moving = record {
-    keys = λ k. ap (λ m. is_some (finmap.get m k)) values ∙ paid_keys y k;
-    worth_after =
-        ap (λ m. total (λ d. value_of m d.0) accounts) values
-        ∙ total_alike (λ d. value_of (committed y T).values d.0) (λ d. value_of T.values d.0 +ℤ sum_of T.sums y d.0) accounts (λ k d lt. paid_value y (get_or accounts k d) (each_among accounts k d lt))
-        ∙ total_both (λ d. value_of T.values d.0) (λ d. sum_of T.sums y d.0) accounts ∙ ap (λ v. worth accounts T +ℤ v) (sym moving);
-    holds = λ x.
-        ap (λ m. total (λ d. sum_of m x d.0) accounts) sums ∙ ended_either (xid_eq y x) true (held_by accounts x T) _ (without y x)
-        ∙ (λ i. unless_ended (sym (ap ending (fates x) ∙ ended_named x y f true committing) i) (held_by accounts x T +ℤ sym (none x) i));
-  }
+  ended_worth : (y : XidName) (commits : Bool)
+      → worth accounts (if commits then committed y T else T) ≡ worth accounts T +ℤ (if commits then held_by accounts y T else pos 0)
+  ended_worth y true =
+      total_alike (λ d. value_of (committed y T).values d.0) (λ d. value_of T.values d.0 +ℤ sum_of T.sums y d.0) accounts
+      (λ k d lt. paid_value y (get_or accounts k d) (each_among accounts k d lt))
+      ∙ total_both (λ d. value_of T.values d.0) (λ d. sum_of T.sums y d.0) accounts
+  ended_worth y false = plus_none _
 
   -- what a branch holds once y has added d to a declared key
-  gained : (own : List ℕ) (d : ℤ) (l : Association) → is_declared T own ≡ true → (x : XidName) → held_by accounts x (added l.xid own d T) ≡ held_by accounts x T +ℤ (if xid_eq l.xid x then d else pos 0)
+  gained : (own : List ℕ) (d : ℤ) (l : Association) → is_declared T own ≡ true → (x : XidName)
+      → held_by accounts x (added l.xid own d T) ≡ held_by accounts x T +ℤ (if xid_eq l.xid x then d else pos 0)
   gained own d l there x =
       total_same (λ e. sum_of (added l.xid own d T).sums x e.0) (λ e. sum_of T.sums x e.0 +ℤ (if key_eq e.0 own && xid_eq l.xid x then d else pos 0)) accounts (λ e. get_sum x l.xid own e.0 d T)
       ∙ total_both (λ e. sum_of T.sums x e.0) (λ e. if key_eq e.0 own && xid_eq l.xid x then d else pos 0) accounts
@@ -288,22 +227,23 @@ module _ (accounts : Accounts) (apart : are_apart accounts ≡ true) (t : ℕ) (
             ∙ total_nothing accounts
       ])
 
-  adds : (own : List ℕ) (d : ℤ) (l : Association) → is_declared T own ≡ true → WorthStep accounts (Add own d) (Some l) T (added l.xid own d T, Done)
-  adds own d l there = record { keys = λ k. refl; worth_after = plus_none _; holds = gained own d l there }
-
-  by_effect : {op : Op} {a : Answer} → Effect t T op a → WorthStep accounts op (association_of T t) T a
-  by_effect (Stays op c tells) = still refl refl (λ x. ap ending (tells.fates x)) (λ x. no_gain x op c (association_of T t) tells.shares) (stays_unmoved accounts op c T tells)
-  by_effect (Starts y free) = still refl refl (λ x. quiet_named x y (Some Live) refl) (λ x. refl) refl
-  by_effect (Joins y free there unprepared) = still refl refl (λ x. quiet_named x y None refl) (λ x. refl) refl
-  by_effect (Resumes y own) = still refl refl (λ x. quiet_named x y None refl) (λ x. refl) refl
-  by_effect (Adds own d l mine there alone) = subst (λ (o : Option Association). WorthStep accounts (Add own d) o T (added l.xid own d T, Done)) (sym mine) (adds own d l there)
-  by_effect (Prepares y nobody unbroken) = still refl refl (λ x. quiet_named x y (Some InDoubt) refl) (λ x. refl) refl
-  by_effect (Commits y one_phase nobody may) = paid y Committed refl refl refl (λ x. refl) (λ x. refl) refl
-  by_effect (Drops op y c nobody tells) = lost y tells.fate refl refl tells.uncommitted tells.fates (λ x. no_gain x op c (association_of T t) tells.shares) (dropped_unmoved accounts op y c T tells)
-  by_effect (CommitsByItself y voted) = paid y HeurCommitted refl refl refl (λ x. refl) (λ x. refl) refl
-  by_effect (RollsBackByItself y voted) = lost y HeurRolledBack refl refl refl (λ x. refl) (λ x. refl) refl
-  -- the others change no sum and no value
-  by_effect effect = still refl refl (λ x. refl) (λ x. refl) refl
+  by_move : {l : Option Association} {op : Op} {a : Answer} → Moves T l op a → WorthStep accounts op l T a
+  by_move (Still l op a sums values shares moved endings) = record {
+    keys = λ k. ap (λ m. is_some (finmap.get m k)) values;
+    worth_after = ap (λ m. total (λ d. value_of m d.0) accounts) values ∙ plus_none _ ∙ ap (λ v. worth accounts T +ℤ v) (sym (moved accounts));
+    holds = λ x.
+        ap (λ m. total (λ d. sum_of m x d.0) accounts) sums ∙ plus_none _
+        ∙ (λ i. unless_ended (sym (endings x) i) (held_by accounts x T +ℤ sym (no_gain x op a.1 l shares) i));
+  }
+  by_move (Ended l op a y commits sums values shares moved endings) = record {
+    keys = λ k. ap (λ m. is_some (finmap.get m k)) values ∙ ended_keys y commits k;
+    worth_after =
+        ap (λ m. total (λ d. value_of m d.0) accounts) values ∙ ended_worth y commits ∙ ap (λ v. worth accounts T +ℤ v) (sym (moved accounts));
+    holds = λ x.
+        ap (λ m. total (λ d. sum_of m x d.0) accounts) sums ∙ ended_either (xid_eq y x) commits (held_by accounts x T) _ (without y x)
+        ∙ (λ i. unless_ended (sym (endings x) i) (held_by accounts x T +ℤ sym (no_gain x op a.1 l shares) i));
+  }
+  by_move (Added own d l there alone) = record { keys = λ k. refl; worth_after = plus_none _; holds = gained own d l there }
 
 -- ---- a history
 
@@ -312,7 +252,7 @@ regroup w d m n v e f = omega (arith, ints)
 
 module _ (accounts : Accounts) (apart : are_apart accounts ≡ true) where
   step : (r : Request) (T : Tables) → Declares accounts T → WorthStep accounts r.op (association_of T r.thread) T (next r.thread r.op T)
-  step r T known = by_effect accounts apart r.thread T known (effect_of r.thread r.op T)
+  step r T known = by_move accounts apart T known (moves_of r.thread r.op T)
 
   known_after : (r : Request) (T : Tables) → Declares accounts T → Declares accounts (next r.thread r.op T).0
   known_after r T known k = (step r T known).keys k ∙ known k
@@ -336,27 +276,23 @@ apart_of accounts e = (and_parts _ (are_apart accounts) ((and_parts _ _ e).1)).1
 pub worth_law : (accounts : Accounts) (h : History) → are_accounts accounts ≡ true → WorthIsMoved accounts h
 worth_law accounts h e =
     let apart = apart_of accounts e in
-    moved_on accounts apart h (opening accounts) (opening_declares accounts) ∙ ap (λ v. v +ℤ moved accounts is_any h (opening accounts)) (opening_worth accounts apart)
+    moved_on accounts apart h (opening accounts) (opening_declares accounts)
+    ∙ ap (λ v. v +ℤ moved accounts is_any h (opening accounts)) (opening_worth accounts apart)
 
 pub held_law : (accounts : Accounts) (x : XidName) (h : History) → are_accounts accounts ≡ true → HoldsItsAdditions accounts x h
-held_law accounts x h e = held_on accounts (apart_of accounts e) x h (opening accounts) (opening_declares accounts) ∙ ap (λ v. added_by_now x v h (opening accounts)) (opening_holds accounts x)
+held_law accounts x h e =
+    held_on accounts (apart_of accounts e) x h (opening accounts) (opening_declares accounts)
+    ∙ ap (λ v. added_by_now x v h (opening accounts)) (opening_holds accounts x)
 
 -- ---- a Prepare
 
-pub kept_law : (accounts : Accounts) (t : ℕ) (x : XidName) (h g : History) (T : Tables) → IsOpening T → (next t (Prepare x) (tables_after h T)).1 ≡ Done → NamesNowhere x g
+pub kept_law : (accounts : Accounts) (t : ℕ) (x : XidName) (h g : History) (T : Tables) → IsOpening T → (next t (Prepare x) (tables_after h T)).1 ≡ Done
+    → NamesNowhere x g
     → held_by accounts x (tables_after g (next t (Prepare x) (tables_after h T)).0) ≡ held_by accounts x (tables_after h T)
 kept_law accounts t x h g T o e n =
     total_same (λ d. sum_of (tables_after g (next t (Prepare x) (tables_after h T)).0).sums x d.0) (λ d. sum_of (tables_after h T).sums x d.0) accounts (λ d. ap (λ q. unwrap_or q (pos 0)) (sums_kept h g t x T o e n d.0))
 
-untouched : (x : XidName) (sums : FinMap touch_cmp ℤ) → has_touched sums x ≡ false → (k : List ℕ) → sum_of sums x k ≡ pos 0
-untouched x sums none k =
-    elim (finmap.get sums (x, k)) as (λ o. finmap.get sums (x, k) ≡ o → unwrap_or o (pos 0) ≡ pos 0) [
-      | None ↦ λ e. refl
-      | Some v ↦ λ e.
-          let no : xid_eq x x ≡ false = none_passes touch_cmp_total touch_cmp-IsAntisymmetric (λ p s. xid_eq p.0 x) sums (x, k) v none e in
-          let yes : xid_eq x x ≡ true = (Decides-xid_eq x x).1 refl in
-          cc
-    ] refl
-
 pub read_law : (accounts : Accounts) (t : ℕ) (x : XidName) (T : Tables) → (next t (Prepare x) T).1 ≡ RdOnly → held_by accounts x T ≡ pos 0
-read_law accounts t x T e = total_same (λ d. sum_of T.sums x d.0) (λ d. pos 0) accounts (λ d. untouched x T.sums (reads_only t x T e) d.0) ∙ total_nothing accounts
+read_law accounts t x T e =
+    total_same (λ d. sum_of T.sums x d.0) (λ d. pos 0) accounts (λ d. ap (λ o. unwrap_or o (pos 0)) (untouched x T (reads_only t x T e) d.0))
+    ∙ total_nothing accounts

@@ -87,13 +87,21 @@ abbrev pub hold_where : (XidName → Bool) → Option Hold → Option Hold
 hold_where keep None = None
 hold_where keep (Some h) = if keep h.xid then Some h else None
 
+-- the account where only branches to be kept hold any
+abbrev pub kept_where : (XidName → Bool) → Account → Account
+kept_where keep a = record a { hold = hold_where keep a.hold }
+
+-- all branches but x are to be kept
+abbrev pub all_but : XidName → XidName → Bool
+all_but x y = not (xid_eq y x)
+
+-- the prepared branches are to be kept
+abbrev pub prepared_in : FinMap xid_cmp State → XidName → Bool
+prepared_in states x = is_S3 (finmap.get states x)
+
 -- the hold, unless it is that of x
 abbrev pub hold_without : Option Hold → XidName → Option Hold
-hold_without o x = hold_where (λ y. not (xid_eq y x)) o
-
--- the account where only prepared branches hold any
-abbrev pub retained_in : FinMap xid_cmp State → Account → Account
-retained_in states a = record a { hold = hold_where (λ x. is_S3 (finmap.get states x)) a.hold }
+hold_without o x = hold_where (all_but x) o
 
 -- what x has added, 0 where it hasn't touched the key
 abbrev pub amount_of : Option Hold → XidName → ℤ
@@ -103,10 +111,6 @@ amount_of (Some h) x = if xid_eq h.xid x then h.amount else pos 0
 -- the account once x has committed
 abbrev pub posted_by : XidName → Account → Account
 posted_by x a = record { key = a.key; value = a.value +ℤ amount_of a.hold x; hold = hold_without a.hold x }
-
--- the account once x is rolled back
-abbrev pub forgotten_by : XidName → Account → Account
-forgotten_by x a = record a { hold = hold_without a.hold x }
 
 -- no two entries have one key
 abbrev pub AreDistinctEntries : List (List ℕ × ℤ) → Type 0

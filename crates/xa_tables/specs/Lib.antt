@@ -1,4 +1,3 @@
-pub mod Maps
 pub mod Reasons
 pub mod Tables
 pub mod Views

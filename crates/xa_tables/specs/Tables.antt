@@ -24,7 +24,7 @@ use Rattle.xa_tables.specs.declared.state.AssociationState.TheVariants.{Associat
 use Rattle.xa_tables.specs.Reasons.{reason_code, decision_code}
 use Rattle.xa_tables.specs.contracts.state.State as state_type
 use Rattle.xa_tables.specs.contracts.state.Association as association_type
-use Rattle.xa_tables.specs.Maps.{any_entry, map_values}
+use Rattle.xa_base.specs.Maps.{any_entry, map_values}
 
 -- a branch and a key
 abbrev pub Touch : Type 0

@@ -1,13 +1,14 @@
 //! The declared keys: their committed values, and what branches have added.
-ghost use Rattle.std.specs.Prelude.{◌≡◌, ◌≢◌, ◌+◌, ◌<◌, ◌≤◌, ◌^◌, ◌+ℤ◌, ◌≤ℤ◌, IfOk, IfSome, is_some, true, false};
+ghost use Rattle.std.specs.Prelude.{◌≡◌, ◌≢◌, ◌+◌, ◌<◌, ◌≤◌, ◌^◌, ◌+ℤ◌, ◌≤ℤ◌, Bool, IfOk, IfSome, is_some, true, false};
 ghost use Rattle.std.specs.Prelude.{option_map, map, filter, nat_le, pos, vec_len, vec_capacity};
 ghost use Rattle.std.specs.List.{list_any, list_all};
+ghost use Rattle.std.specs.Fn.{FnReturnsAt};
 ghost use Rattle.std.specs.FinMap as finmap;
 ghost use Rattle.xa_words.specs.Delta.{IsDelta};
 ghost use Rattle.xa_words.specs.Key.{key_eq};
 ghost use Rattle.xa_words.specs.Xid.{XidName};
 ghost use Rattle.xa_tables.specs.Accounts.{are_accounts, are_apart, declared_values, is_held_by, is_held_by_other};
-ghost use Rattle.xa_tables.specs.Accounts.{is_broken_by, IsGood, added_to, posted_by, forgotten_by, retained_in};
+ghost use Rattle.xa_tables.specs.Accounts.{is_broken_by, IsGood, added_to, posted_by, kept_where};
 ghost use Rattle.xa_tables.specs.Held.{AreHeld, is_held, is_held_at, noted};
 ghost use Rattle.xa_tables.specs.Tables.{is_within, sum_of, has_touched, has_other_touched, is_broken, posted};
 ghost use Rattle.xa_tables.specs.Tables.{sums_without, is_S3};
@@ -108,7 +109,9 @@ impl Accounts {
     pub(crate) fn has_touched(&self, xid: &Xid) -> bool
         ensures { result ≡ has_touched self.now.sums xid.now }
     {
-        any_held(&self.accounts, &self.held, xid)
+        any_at(&self.accounts, &self.held, |account| {
+            is_held_by(account, xid)
+        })
     }
 
     /// Whether another branch than this has touched the key.
@@ -125,7 +128,9 @@ impl Accounts {
     pub(crate) fn is_broken(&self, xid: &Xid) -> bool
         ensures { result ≡ is_broken self.now.values self.now.sums xid.now }
     {
-        any_broken(&self.accounts, &self.held, xid)
+        any_at(&self.accounts, &self.held, |account| {
+            is_broken_by(account, xid)
+        })
     }
 
     /// Adds to the branch's sum at the key.
@@ -167,7 +172,7 @@ impl Accounts {
         ensures others { (y : XidName) → y ≢ xid.now → is_broken self.new.values self.new.sums y
             ≡ is_broken self.old.values self.old.sums y }
     {
-        forget_all(&mut self.accounts, &self.held, xid);
+        let_go(&mut self.accounts, &self.held, |own| *own != *xid);
         keep_held(&mut self.held, &self.accounts);
     }
 
@@ -180,9 +185,11 @@ impl Accounts {
         ensures values { self.new.values ≡ self.old.values }
         ensures adds { self.new.adds ≡ 1 }
     {
-        retain_all(&mut self.accounts, &self.held, branches);
-        keep_held(&mut self.held, &self.accounts);
         self.adds = 1;
+        let_go(&mut self.accounts, &self.held, |own| {
+            branches.get(own) == Some(State::Prepared)
+        });
+        keep_held(&mut self.held, &self.accounts);
     }
 }
 
@@ -265,13 +272,15 @@ fn is_held_at(accounts: &[Account], place: usize) -> bool
     accounts[place].hold.is_some()
 }
 
-// Whether the branch has touched one of these keys.
-fn any_held(accounts: &[Account], held: &[usize], xid: &Xid) -> bool
-    requires { AreHeld held.now accounts.now }
-    ensures { result ≡ list_any (λ a. is_held_by a xid.now) accounts.now }
+// Whether one of these accounts passes a test, which only accounts pass that a branch has touched.
+fn any_at<F: Fn(&Account) -> bool>(accounts: &[Account], held: &[usize], test: F) -> bool
+    requires callable { F.IsAlwaysCallable test }
+    requires held { AreHeld held.now accounts.now }
+    ensures { (passes : _ → Bool) → ((a : _) (b : Bool) → FnReturnsAt F.Fn test a b → b ≡ passes a)
+        → ((a : _) → passes a ≡ true → is_held a ≡ true) → result ≡ list_any passes accounts.now }
 {
     for place in held {
-        if is_held_by(&accounts[*place], xid) {
+        if test(&accounts[*place]) {
             return true;
         }
     }
@@ -296,19 +305,6 @@ fn is_held_by_other(account: &Account, xid: &Xid) -> bool
         Some(hold) => hold.xid != *xid,
         None => false,
     }
-}
-
-// Whether the branch would take one of these values out of the limits.
-fn any_broken(accounts: &[Account], held: &[usize], xid: &Xid) -> bool
-    requires { AreHeld held.now accounts.now }
-    ensures { result ≡ list_any (λ a. is_broken_by a xid.now) accounts.now }
-{
-    for place in held {
-        if is_broken_by(&accounts[*place], xid) {
-            return true;
-        }
-    }
-    false
 }
 
 // Whether the branch would take this value out of the limits.
@@ -374,39 +370,25 @@ fn post_account(account: &mut Account, xid: &Xid)
     }
 }
 
-// Lets go of what the branch holds.
-fn forget_all(accounts: &mut [Account], held: &[usize], xid: &Xid)
-    requires { AreHeld held.now accounts.old }
-    ensures { accounts.new ≡ map (forgotten_by xid.now) accounts.old }
+// Lets go of what is held by branches that aren't to be kept.
+fn let_go<F: Fn(&Xid) -> bool>(accounts: &mut [Account], held: &[usize], keeps: F)
+    requires callable { F.IsAlwaysCallable keeps }
+    requires held { AreHeld held.now accounts.old }
+    ensures { (keep : XidName → Bool) → ((x : XidName) (b : Bool) → FnReturnsAt F.Fn keeps x b → b ≡ keep x)
+        → accounts.new ≡ map (kept_where keep) accounts.old }
 {
     for place in held {
-        forget_account(&mut accounts[*place], xid);
+        let_go_of(&mut accounts[*place], &keeps);
     }
 }
 
-fn forget_account(account: &mut Account, xid: &Xid)
-    ensures { account.new ≡ forgotten_by xid.now account.old }
-{
-    if is_held_by(account, xid) {
-        account.hold = None;
-    }
-}
-
-// Lets go of what is held by others than prepared branches.
-fn retain_all(accounts: &mut [Account], held: &[usize], branches: &Branches)
-    requires { AreHeld held.now accounts.old }
-    ensures { accounts.new ≡ map (retained_in branches.now.states) accounts.old }
-{
-    for place in held {
-        retain_account(&mut accounts[*place], branches);
-    }
-}
-
-fn retain_account(account: &mut Account, branches: &Branches)
-    ensures { account.new ≡ retained_in branches.now.states account.old }
+fn let_go_of<F: Fn(&Xid) -> bool>(account: &mut Account, keeps: &F)
+    requires { F.IsAlwaysCallable keeps.now }
+    ensures { (keep : XidName → Bool) → ((x : XidName) (b : Bool) → FnReturnsAt F.Fn keeps.now x b → b ≡ keep x)
+        → account.new ≡ kept_where keep account.old }
 {
     if let Some(hold) = &account.hold {
-        if branches.get(&hold.xid) != Some(State::Prepared) {
+        if !keeps(&hold.xid) {
             account.hold = None;
         }
     }

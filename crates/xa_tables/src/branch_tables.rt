@@ -131,7 +131,7 @@ impl BranchTables {
         ensures step { (self.new.tables, result) ≡ open_rm t self.old.tables }
         ensures kept { Keeps self.old self.new }
     {
-        self.threads.set_open(t);
+        self.threads.set_open(t, true);
         Code::Done
     }
 
@@ -148,7 +148,7 @@ impl BranchTables {
         if self.threads.association(t).is_some() {
             return Code::Proto;
         }
-        self.threads.set_closed(t);
+        self.threads.set_open(t, false);
         Code::Done
     }
 
@@ -167,7 +167,7 @@ impl BranchTables {
             return Code::DupId;
         }
         self.branches.put(*xid, State::Active);
-        self.threads.associate(t, associated(*xid));
+        self.threads.associate(t, Some(associated(*xid)));
         Code::Done
     }
 
@@ -188,7 +188,7 @@ impl BranchTables {
             Some(State::RollbackOnly(reason)) => reason.code(),
             Some(State::Active | State::Idle) => {
                 self.branches.put(*xid, State::Active);
-                self.threads.associate(t, associated(*xid));
+                self.threads.associate(t, Some(associated(*xid)));
                 Code::Done
             }
         }
@@ -203,7 +203,7 @@ impl BranchTables {
     {
         if let Some(association) = self.threads.association(t) {
             if association.xid == *xid && association.state.is_suspended() {
-                self.threads.associate(t, associated(*xid));
+                self.threads.associate(t, Some(associated(*xid)));
                 return Code::Done;
             }
         }
@@ -266,22 +266,22 @@ impl BranchTables {
             return Code::Proto;
         }
         if let Some(State::RollbackOnly(reason)) = self.branches.get(xid) {
-            self.threads.dissociate(t);
+            self.threads.associate(t, None);
             return reason.code();
         }
         match how {
             EndHow::Suspend => {
-                self.threads.associate(t, suspended(*xid));
+                self.threads.associate(t, Some(suspended(*xid)));
                 Code::Done
             }
             EndHow::Fail => {
-                self.threads.dissociate(t);
+                self.threads.associate(t, None);
                 self.branches
                     .put(*xid, State::RollbackOnly(RollbackReason::Failed));
                 Code::RbRollback
             }
             EndHow::Success => {
-                self.threads.dissociate(t);
+                self.threads.associate(t, None);
                 if !self.threads.is_somebody_associated(xid) {
                     self.branches.put(*xid, State::Idle);
                 }

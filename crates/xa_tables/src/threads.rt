@@ -1,10 +1,10 @@
 //! The threads: which of them have the manager open, and their associations.
-ghost use Rattle.std.specs.Prelude.{◌≡◌, ◌≤◌, ◌<◌, IfOk, OnOk};
+ghost use Rattle.std.specs.Prelude.{◌≡◌, ◌≤◌, ◌<◌, if◌then◌else◌, IfOk, OnOk};
 ghost use Rattle.std.specs.FinMap as map;
 ghost use Rattle.std.specs.FinSet as set;
 ghost use Rattle.std.specs.List.{list_any};
 ghost use Rattle.xa_tables.specs.Tables.{is_somebody_associated};
-ghost use Rattle.xa_tables.specs.Views.{is_thread_with};
+ghost use Rattle.xa_tables.specs.Views.{is_thread_with, put_or_removed};
 
 use crate::state::Association;
 use std::alloc::{AllocError, Global};
@@ -84,26 +84,16 @@ impl Threads {
         self.threads[thread - 1].is_open
     }
 
-    /// From now on the thread has the manager open.
-    pub(crate) fn set_open(&mut self, thread: usize)
+    /// From now on the thread has the manager open, or hasn't.
+    pub(crate) fn set_open(&mut self, thread: usize, is_open: bool)
         requires first { 0 < thread }
         requires last { thread ≤ self.old.threads }
-        ensures opened { self.new.opened ≡ set.insert self.old.opened thread }
+        ensures opened { self.new.opened
+            ≡ (if is_open then set.insert self.old.opened thread else set.remove self.old.opened thread) }
         ensures associations { self.new.associations ≡ self.old.associations }
         ensures threads { self.new.threads ≡ self.old.threads }
     {
-        self.threads[thread - 1].is_open = true;
-    }
-
-    /// From now on the thread hasn't the manager open.
-    pub(crate) fn set_closed(&mut self, thread: usize)
-        requires first { 0 < thread }
-        requires last { thread ≤ self.old.threads }
-        ensures opened { self.new.opened ≡ set.remove self.old.opened thread }
-        ensures associations { self.new.associations ≡ self.old.associations }
-        ensures threads { self.new.threads ≡ self.old.threads }
-    {
-        self.threads[thread - 1].is_open = false;
+        self.threads[thread - 1].is_open = is_open;
     }
 
     /// The thread's association, if it has one.
@@ -115,26 +105,15 @@ impl Threads {
         self.threads[thread - 1].association
     }
 
-    /// Gives the thread this association in place of any that it has.
-    pub(crate) fn associate(&mut self, thread: usize, association: Association)
+    /// Gives the thread this association, or none, in place of any that it has.
+    pub(crate) fn associate(&mut self, thread: usize, association: Option<Association>)
         requires first { 0 < thread }
         requires last { thread ≤ self.old.threads }
-        ensures associations { self.new.associations ≡ map.insert self.old.associations thread association }
+        ensures associations { self.new.associations ≡ put_or_removed self.old.associations thread association }
         ensures opened { self.new.opened ≡ self.old.opened }
         ensures threads { self.new.threads ≡ self.old.threads }
     {
-        self.threads[thread - 1].association = Some(association);
-    }
-
-    /// Takes the thread's association away.
-    pub(crate) fn dissociate(&mut self, thread: usize)
-        requires first { 0 < thread }
-        requires last { thread ≤ self.old.threads }
-        ensures associations { self.new.associations ≡ map.remove self.old.associations thread }
-        ensures opened { self.new.opened ≡ self.old.opened }
-        ensures threads { self.new.threads ≡ self.old.threads }
-    {
-        self.threads[thread - 1].association = None;
+        self.threads[thread - 1].association = association;
     }
 
     /// Whether a thread is associated with the branch, be it suspended or not.

@@ -52,7 +52,8 @@ new_flags plan [] = refl
 new_flags plan (b ∷ flags) = ap (λ l. b ∷ l) (new_flags plan flags)
 
 -- what its tasks leave
-runs_plan : (first : Session × List Told) (tasks : List ScriptTask) (last : Session × List Told) → Chain HasDone first tasks last → plans last.0.desk.ledgers ≡ plans first.0.desk.ledgers
+runs_plan : (first : Session × List Told) (tasks : List ScriptTask) (last : Session × List Told) → Chain HasDone first tasks last
+    → plans last.0.desk.ledgers ≡ plans first.0.desk.ledgers
 runs_plan first tasks last (none xs l e f) = ap (λ (s : Session × List Told). plans s.0.desk.ledgers) f
 runs_plan first tasks last (more xs x now l before is) = is.does.goes_on.plan ∙ runs_plan first xs now before
 
@@ -60,7 +61,8 @@ first_there : (es : List EndedView) (e : EndedView) → slice_get es 0 ≡ Some 
 first_there [] e at = absurd (cc)
 first_there (d ∷ es) e at = let same : d ≡ e = cc in ap (λ (x : EndedView). x.ledgers) same
 
-module _ (s : Content) (b : Beginning) (steps : List ScriptStep) (answers : List Told) (sessions left : List Session) (workers : List WorkerView) (ended : List EndedView) (done : List Served)
+module _ (s : Content) (b : Beginning) (steps : List ScriptStep) (answers : List Told) (sessions left : List Session) (workers : List WorkerView)
+    (ended : List EndedView) (done : List Served)
     (r : Ran s b steps answers sessions left workers ended done) where
   abbrev settled : Settling
   settled = settling ended done
@@ -79,7 +81,8 @@ module _ (s : Content) (b : Beginning) (steps : List ScriptStep) (answers : List
       let c : Comes steps answers x.0 y.0 e.0 = r.threads 0 x.0 y.0 e.0 x.1 y.1 e.1 in
       let new : IsNewDesk r.opened.setup 0 x.0.desk = new_desk_at s b steps answers sessions left workers ended done r 0 x.0 x.1 in
       let plan : plans e.0.ledgers ≡ plans x.0.desk.ledgers =
-      ap plans c.ends.ends.ledgers ∙ c.ends.goes_on.plan ∙ runs_plan (x.0, []) (tasks_of x.0.desk.thread steps) (y.0, answers_to x.0.desk.thread answers) c.runs in
+      ap plans c.ends.ends.ledgers ∙ c.ends.goes_on.plan
+      ∙ runs_plan (x.0, []) (tasks_of x.0.desk.thread steps) (y.0, answers_to x.0.desk.thread answers) c.runs in
       ap (map (λ (a : LedgerView). a.carries_async)) (first_there ended e.0 e.1)
       ∙ sym (flags_planned e.0.ledgers) ∙ ap (map (λ (p : Bool × ℕ). p.0)) plan ∙ flags_planned x.0.desk.ledgers
       ∙ ap (λ (d : DeskView). map (λ (a : LedgerView). a.carries_async) d.ledgers) new.made ∙ new_flags r.opened.setup.numbers.requests r.opened.setup.use_async
@@ -88,7 +91,8 @@ module _ (s : Content) (b : Beginning) (steps : List ScriptStep) (answers : List
   as_many_managers = ap (λ l. length l) (flags_kept ∙ r.opened.said.use_async) ∙ length-map-range_with_len (carries_async s) 1 (managers_of s)
 
   -- what the next one is made with
-  pub again_setup : (again : Again) → AreNumbersOf s (suc b.opening) again → MayReopen settled again → IsSetupOf s (suc b.opening) (reopened_at settled.managers) (reopening settled again)
+  pub again_setup : (again : Again) → AreNumbersOf s (suc b.opening) again → MayReopen settled again
+      → IsSetupOf s (suc b.opening) (reopened_at settled.managers) (reopening settled again)
   again_setup again numbers may = record {
     numbers = numbers;
     managers = as_many_managers;
@@ -119,7 +123,8 @@ module _ (s : Content) (b : Beginning) (steps : List ScriptStep) (answers : List
   next_beginning scans = record { opening = suc b.opening; tables = reopened_at settled.managers; logs = log_left b left; scans = scans }
 
   -- the tables are those that are left
-  tables_left : IsSettled settled → (m : ℕ) → 1 ≤ m → m ≤ managers_of s → reopened_at settled.managers m ≡ reopened (tables_after (history settled m) (b.tables m))
+  tables_left : IsSettled settled → (m : ℕ) → 1 ≤ m → m ≤ managers_of s
+      → reopened_at settled.managers m ≡ reopened (tables_after (history settled m) (b.tables m))
   tables_left is m low high =
       let p = found_manager s b.tables settled.managers (of_script s b steps answers sessions left workers ended done r) m low high in
       let follows : FollowsTables p.0 = part_follows p.0 p.3 in
@@ -163,7 +168,8 @@ begins_after s before b (more fs f now last earlier is) m low high =
     ∙ sym (ap (λ l. opened_after s l m) (map-append (λ (g : Former). g.opening.settled) fs (f ∷ [])))
 
 -- so its managers are those of the script after the openings before it
-pub of_script_after : (s : Content) (before : List Former) (b : Beginning) → Chain (Leaves s) (beginning s) before b → (managers : List ManagerPart) → AreOfScript s b.tables managers
+pub of_script_after : (s : Content) (before : List Former) (b : Beginning) → Chain (Leaves s) (beginning s) before b → (managers : List ManagerPart)
+    → AreOfScript s b.tables managers
     → AreOfScript s (opened_after s (map (λ f. f.opening.settled) before)) managers
 of_script_after s before b chain managers is = record {
   many = is.many;

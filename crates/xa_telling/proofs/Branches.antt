@@ -1,5 +1,6 @@
 -- What a commit and a resolve send to each manager and collect from it, and what they add to the journals.
-use Rattle.std.proofs.Common.{◌≡◌, ℕ, ◌<◌, ◌≤◌, ◌⊎◌, ⊎_elim, zero, suc, Bool, true, false, ◌==◌, ◌||◌, List, [], ◌∷◌, ◌++◌, length, take, Option, Some, sym, refl, ap, ◌∙◌, subst, inl, inr, arith, length-append}
+use Rattle.std.proofs.Common.{◌≡◌, ℕ, ◌<◌, ◌≤◌, ◌⊎◌, ⊎_elim, zero, suc, Bool, true, false, ◌==◌, ◌||◌, List, [], ◌∷◌, ◌++◌, length, take, Option, Some, sym}
+use Rattle.std.proofs.Common.{refl, ap, ◌∙◌, subst, inl, inr, arith, length-append}
 use Rattle.std.specs.Prelude.{slice_get}
 use Rattle.std.specs.List.{list_any}
 use Rattle.std.proofs.lemmas.Bool.{cases_eq, cases_lt, cases_Bool, eqb-true, false_from_ne_true}
@@ -23,7 +24,7 @@ use Rattle.xa_driver.specs.declared.done.Ending.{Ending}
 use Rattle.xa_driver.specs.declared.resolved.Outcome.{Outcome}
 use Rattle.xa_driver.specs.Course.{AtBranch}
 use Rattle.xa_driver.specs.Endings.{second_op, third_op}
-use Rattle.xa_driver.specs.Log.{LogState, Records}
+use Rattle.xa_log.specs.Log.{LogState, Records}
 use Rattle.xa_driver.specs.Resolving.{AsksLedger, ResolvesAt, IsTraceOfResolve, requests_for}
 use Rattle.xa_driver.specs.Trace.{EachBranch, HasRoom, HaveRoom, has_branch_at, IsTraceOfCommit}
 use Rattle.xa_driver.proofs.Alone.{known_with_room}
@@ -142,11 +143,13 @@ module _ (t : ℕ) (ops : List Op) (pairs : List (ℕ × Code)) (es : List Entry
   sound_on a a' op c asks sound = (ask_answered a op c a' asks).sound sound
 
   -- what is asked at a branch, and of a manager at which branches were left
-  pub branch_carried : (commit : Bool) (b : Branch) (v : Code) (s : Option Code) (e : Ending) (a a' : LedgerView) → AtBranch AsksLedger commit b v s e a a' → Sound a → Begins a'.sent ops → Begins a'.collected pairs → AtBranch (CarriesOut t) commit b v s e (upto a) (upto a')
+  pub branch_carried : (commit : Bool) (b : Branch) (v : Code) (s : Option Code) (e : Ending) (a a' : LedgerView) → AtBranch AsksLedger commit b v s e a a'
+      → Sound a → Begins a'.sent ops → Begins a'.collected pairs → AtBranch (CarriesOut t) commit b v s e (upto a) (upto a')
   branch_carried commit b v s e a a' is sound sent collected =
       branch_mapped AsksLedger (CarriesOut t) upto Sound There sound_on there_before carries commit b v s e a a' is sound (record { sent = sent; collected = collected })
 
-  pub left_carried : (records : Records) (m : ℕ) (xs : List XidName) (os : List Outcome) (a a' : LedgerView) → ResolvesAt AsksLedger records m xs os a a' → Sound a → Begins a'.sent ops → Begins a'.collected pairs → ResolvesAt (CarriesOut t) records m xs os (upto a) (upto a')
+  pub left_carried : (records : Records) (m : ℕ) (xs : List XidName) (os : List Outcome) (a a' : LedgerView) → ResolvesAt AsksLedger records m xs os a a'
+      → Sound a → Begins a'.sent ops → Begins a'.collected pairs → ResolvesAt (CarriesOut t) records m xs os (upto a) (upto a')
   left_carried records m xs os a a' is sound sent collected =
       resolves_mapped AsksLedger (CarriesOut t) upto Sound There sound_on there_before carries records m xs os a a' is sound (record { sent = sent; collected = collected })
 
@@ -183,7 +186,8 @@ untouched_grows old new m many same =
 -- ---- branch by branch
 
 -- the branch at a manager, if there is one
-pub branch_there : (P : Branch → Code → Option Code → Ending → Type 0) (m : ℕ) (bs : List Branch) (vs : List Code) (ss : List (Option Code)) (es : List Ending) → EachBranch P bs vs ss es
+pub branch_there : (P : Branch → Code → Option Code → Ending → Type 0) (m : ℕ) (bs : List Branch) (vs : List Code) (ss : List (Option Code)) (es : List Ending)
+    → EachBranch P bs vs ss es
     → (has_branch_at bs m ≡ false) ⊎ ((b : Branch) × (v : Code) × (s : Option Code) × (e : Ending) × (b.m ≡ m) × P b v s e)
 branch_there P m [] [] [] [] each = inl refl
 branch_there P m (b ∷ bs) (v ∷ vs) (s ∷ ss) (e ∷ es) each =
@@ -198,14 +202,17 @@ branch_there P m (b ∷ bs) (v ∷ vs) (s ∷ ss) (e ∷ es) each =
 branch_there P m bs vs ss es each = absurd each
 
 -- what holds of each branch
-pub each_branch : (P Q : Branch → Code → Option Code → Ending → Type 0) (at : List LedgerView) → ((b : Branch) (v : Code) (s : Option Code) (e : Ending) → HasRoom at b.m → P b v s e → Q b v s e) → (bs : List Branch) (vs : List Code) (ss : List (Option Code)) (es : List Ending) → HaveRoom at bs → EachBranch P bs vs ss es → EachBranch Q bs vs ss es
+pub each_branch : (P Q : Branch → Code → Option Code → Ending → Type 0) (at : List LedgerView)
+    → ((b : Branch) (v : Code) (s : Option Code) (e : Ending) → HasRoom at b.m → P b v s e → Q b v s e)
+    → (bs : List Branch) (vs : List Code) (ss : List (Option Code)) (es : List Ending) → HaveRoom at bs → EachBranch P bs vs ss es → EachBranch Q bs vs ss es
 each_branch P Q at so [] [] [] [] room each = tt
 each_branch P Q at so (b ∷ bs) (v ∷ vs) (s ∷ ss) (e ∷ es) room each = (so b v s e room.0 each.0, each_branch P Q at so bs vs ss es room.1 each.1)
 each_branch P Q at so bs vs ss es room each = absurd each
 
 -- ---- the entries that lists of a desk have in the journals
 
-module _ (t : ℕ) (ops : ℕ → List Op) (pairs : ℕ → List (ℕ × Code)) (es : ℕ → List Entry) (fits : (m : ℕ) → Fits t (ops m) (pairs m) (es m)) (old new : List LedgerView) (managers : length new ≡ length old) (sound : (m : ℕ) → AllSent m old)
+module _ (t : ℕ) (ops : ℕ → List Op) (pairs : ℕ → List (ℕ × Code)) (es : ℕ → List Entry) (fits : (m : ℕ) → Fits t (ops m) (pairs m) (es m))
+    (old new : List LedgerView) (managers : length new ≡ length old) (sound : (m : ℕ) → AllSent m old)
     (sent : (m : ℕ) → Begins (sent_to new m) (ops m)) (collected : (m : ℕ) → Begins (collected_from new m) (pairs m)) where
   abbrev pub entries : List LedgerView → ℕ → List Entry
   entries at m = take (length (sent_to at m)) (es m)
@@ -231,10 +238,13 @@ module _ (t : ℕ) (ops : ℕ → List Op) (pairs : ℕ → List (ℕ × Code)) 
     collected_here = subst (λ l. Begins l (pairs m)) (collected_of new m (known_by old new m managers known)) (collected m)
 
     -- what is carried over its ledgers is over its entries
-    by_entries : (Q : List Entry → List Entry → Type 0) → Q (so_far t (ops m) (pairs m) (es m) (fits m) (ledger old m).sent) (so_far t (ops m) (pairs m) (es m) (fits m) (ledger new m).sent) → Q (entries old m) (entries new m)
+    by_entries : (Q : List Entry → List Entry → Type 0)
+        → Q (so_far t (ops m) (pairs m) (es m) (fits m) (ledger old m).sent) (so_far t (ops m) (pairs m) (es m) (fits m) (ledger new m).sent)
+        → Q (entries old m) (entries new m)
     by_entries Q h = subst (λ l. Q l (entries new m)) was (subst (λ l. Q (so_far t (ops m) (pairs m) (es m) (fits m) (ledger old m).sent) l) now h)
 
-  pub branches_at : (commit : Bool) (bs : List Branch) (vs : List Code) (ss : List (Option Code)) (ends : List Ending) → HaveRoom old bs → EachBranch (λ b v s e. AtBranch AsksLedger commit b v s e (ledger old b.m) (ledger new b.m)) bs vs ss ends
+  pub branches_at : (commit : Bool) (bs : List Branch) (vs : List Code) (ss : List (Option Code)) (ends : List Ending) → HaveRoom old bs
+      → EachBranch (λ b v s e. AtBranch AsksLedger commit b v s e (ledger old b.m) (ledger new b.m)) bs vs ss ends
       → EachBranch (λ b v s e. AtBranch (CarriesOut t) commit b v s e (entries old b.m) (entries new b.m)) bs vs ss ends
   branches_at commit bs vs ss ends room each =
       each_branch (λ b v s e. AtBranch AsksLedger commit b v s e (ledger old b.m) (ledger new b.m)) (λ b v s e. AtBranch (CarriesOut t) commit b v s e (entries old b.m) (entries new b.m)) old
@@ -243,7 +253,8 @@ module _ (t : ℕ) (ops : ℕ → List Op) (pairs : ℕ → List (ℕ × Code)) 
       by_entries m has.known (AtBranch (CarriesOut t) commit b v s e)
       (branch_carried t (ops m) (pairs m) (es m) (fits m) commit b v s e (ledger old m) (ledger new m) is (sound_here m has.known) (sent_here m has.known) (collected_here m has.known))) bs vs ss ends room each
 
-  pub left_at_entries : (records : Records) (m : ℕ) (xs : List XidName) (os : List Outcome) → requests_for xs ≤ room_at old m → ResolvesAt AsksLedger records m xs os (ledger old m) (ledger new m) → ResolvesAt (CarriesOut t) records m xs os (entries old m) (entries new m)
+  pub left_at_entries : (records : Records) (m : ℕ) (xs : List XidName) (os : List Outcome) → requests_for xs ≤ room_at old m
+      → ResolvesAt AsksLedger records m xs os (ledger old m) (ledger new m) → ResolvesAt (CarriesOut t) records m xs os (entries old m) (entries new m)
   left_at_entries records m [] os few is = (is.0, same_entries m (λ low. is.1))
   left_at_entries records m (x ∷ xs) os few is =
       let known = known_with_room old m (omega (arith, few)) in
@@ -252,7 +263,8 @@ module _ (t : ℕ) (ops : ℕ → List Op) (pairs : ℕ → List (ℕ × Code)) 
 
 -- ---- what was sent and collected only grows
 
-pub trace_grows : (tran : TranName) (bs : List Branch) (old new : List LedgerView) (log log' : LogState) (d : Done) → IsTraceOfCommit tran bs old new log log' d → HaveRoom old bs → (m : ℕ) → Grows m old new
+pub trace_grows : (tran : TranName) (bs : List Branch) (old new : List LedgerView) (log log' : LogState) (d : Done) → IsTraceOfCommit tran bs old new log log' d
+    → HaveRoom old bs → (m : ℕ) → Grows m old new
 trace_grows tran bs old new log log' d is room m =
     ⊎_elim (λ (none_there : has_branch_at bs m ≡ false). untouched_grows old new m is.managers (λ low. is.course.others m low none_there))
     (λ (h : (b : Branch) × (v : Code) × (s : Option Code) × (e : Ending) × (b.m ≡ m) × (HasRoom old b.m × AtBranch AsksLedger d.commit b v s e (ledger old b.m) (ledger new b.m))).
@@ -263,7 +275,8 @@ trace_grows tran bs old new log log' d is room m =
     (branch_there (λ b v s e. HasRoom old b.m × AtBranch AsksLedger d.commit b v s e (ledger old b.m) (ledger new b.m)) m bs d.votes.items is.course.seconds d.endings.items
     (each_branch (λ b v s e. AtBranch AsksLedger d.commit b v s e (ledger old b.m) (ledger new b.m)) (λ b v s e. HasRoom old b.m × AtBranch AsksLedger d.commit b v s e (ledger old b.m) (ledger new b.m)) old (λ b v s e has x. (has, x)) bs d.votes.items is.course.seconds d.endings.items room is.course.each))
 
-pub resolve_grows : (z : ScanView) (records : Records) (old new : List LedgerView) (outcomes : List Outcome) → IsTraceOfResolve z records old new outcomes → ((m : ℕ) → IsUpTo MOST_MANAGERS m → requests_for (left_at z m) ≤ room_at old m) → (m : ℕ) → Grows m old new
+pub resolve_grows : (z : ScanView) (records : Records) (old new : List LedgerView) (outcomes : List Outcome) → IsTraceOfResolve z records old new outcomes
+    → ((m : ℕ) → IsUpTo MOST_MANAGERS m → requests_for (left_at z m) ≤ room_at old m) → (m : ℕ) → Grows m old new
 resolve_grows z records old new outcomes is room m =
     ⊎_elim (λ (within : IsUpTo MOST_MANAGERS m). by_left (left_at z m) (room m within) (is.course.each m within))
     (λ (past : IsUpTo MOST_MANAGERS m → ⊥). untouched_grows old new m is.managers (λ low. is.course.others m (past_it low past))) (up_to_or_not m)
@@ -271,7 +284,8 @@ resolve_grows z records old new outcomes is room m =
     past_it : 1 ≤ m → (IsUpTo MOST_MANAGERS m → ⊥) → MOST_MANAGERS < m
     past_it low past = ⊎_elim (λ (h : MOST_MANAGERS < m). h) (λ (h : m ≤ MOST_MANAGERS). absurd (past (low, h))) (cases_lt MOST_MANAGERS m)
 
-    by_left : (xs : List XidName) → requests_for xs ≤ room_at old m → ResolvesAt AsksLedger records m xs (is.course.at m) (ledger old m) (ledger new m) → Grows m old new
+    by_left : (xs : List XidName) → requests_for xs ≤ room_at old m → ResolvesAt AsksLedger records m xs (is.course.at m) (ledger old m) (ledger new m)
+        → Grows m old new
     by_left [] few resolves = untouched_grows old new m is.managers (λ low. resolves.1)
     by_left (x ∷ xs) few resolves =
         known_grows old new m is.managers (known_with_room old m (omega (arith, few)))

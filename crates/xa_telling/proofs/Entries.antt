@@ -1,10 +1,11 @@
 -- What a thread has sent to a manager and collected from it, as the manager's journal has it.
-use Rattle.std.proofs.Common.{◌≡◌, ℕ, ◌+◌, ◌<◌, zero, suc, Bool, true, false, cond, ◌==◌, List, [], ◌∷◌, ◌++◌, length, map, take, Option, Some, None, option_map, sym, refl, ap, ◌∙◌, subst, arith, append_assoc}
+use Rattle.std.proofs.Common.{◌≡◌, ℕ, ◌+◌, ◌<◌, zero, suc, Bool, true, false, cond, ◌==◌, List, [], ◌∷◌, ◌++◌, length, map, take, Option, Some, None}
+use Rattle.std.proofs.Common.{option_map, sym, refl, ap, ◌∙◌, subst, arith, append_assoc}
 use Rattle.std.specs.Prelude.{slice_get}
 use Rattle.std.specs.List.{Contains}
 use Rattle.std.proofs.lemmas.List.{length-map, length-append, length-take-le}
 use Rattle.std.proofs.lemmas.Option.{slice_get-map, slice_get_within, get_or_from_slice_get, some_pair_parts}
-use Rattle.xa_driver.proofs.Placing.{numbered_length}
+use Rattle.xa_driver.proofs.Ledgers.{numbered_length}
 use Rattle.xa_words.specs.declared.code.Code.{Code}
 use Rattle.xa_words.specs.declared.request.Op.{Op}
 use Rattle.xa_words.specs.declared.request.Request.{Request}
@@ -19,7 +20,8 @@ use Rattle.xa_base.proofs.Lists.{contains_at, next_there}
 
 -- ---- the entries of a thread
 
-requests_step : (e : Entry) (rs : List Request) (es : List Entry) (b : Bool) → rs ≡ map (λ (e : Entry). e.0) es → cond b (e.0 ∷ rs) rs ≡ map (λ (e : Entry). e.0) (cond b (e ∷ es) es)
+requests_step : (e : Entry) (rs : List Request) (es : List Entry) (b : Bool) → rs ≡ map (λ (e : Entry). e.0) es
+    → cond b (e.0 ∷ rs) rs ≡ map (λ (e : Entry). e.0) (cond b (e ∷ es) es)
 requests_step e rs es true same = ap (λ l. e.0 ∷ l) same
 requests_step e rs es false same = same
 
@@ -42,9 +44,12 @@ agreed_fits t ops pairs entries is = record {
   coded = λ k p at. subst (λ q. slice_get (answers t entries) q.0 ≡ Some q) (get_or_from_slice_get pairs k p p at) (is.coded k p (slice_get_within pairs k p at));
 }
 
-numbered_at : (t n : ℕ) (pre : List Op) (o : Op) (post : List Op) → slice_get (numbered t n (pre ++ o ∷ post)) (length pre) ≡ Some (record { thread = t; number = n + length pre; op = o })
+numbered_at : (t n : ℕ) (pre : List Op) (o : Op) (post : List Op)
+    → slice_get (numbered t n (pre ++ o ∷ post)) (length pre) ≡ Some (record { thread = t; number = n + length pre; op = o })
 numbered_at t n [] o post = let same : n ≡ n + 0 = omega arith in ap (λ k. Some (record { thread = t; number = k; op = o })) same
-numbered_at t n (p ∷ pre) o post = let same : suc n + length pre ≡ n + suc (length pre) = omega arith in numbered_at t (suc n) pre o post ∙ ap (λ k. Some (record { thread = t; number = k; op = o })) same
+numbered_at t n (p ∷ pre) o post =
+    let same : suc n + length pre ≡ n + suc (length pre) = omega arith in
+    numbered_at t (suc n) pre o post ∙ ap (λ k. Some (record { thread = t; number = k; op = o })) same
 
 -- what a mapped option has
 pub was_some : {A B : Type 0} (f : A → B) (o : Option A) (y : B) → option_map f o ≡ Some y → (x : A) × (o ≡ Some x) × (f x ≡ y)
@@ -71,11 +76,14 @@ module _ (t : ℕ) (ops : List Op) (pairs : List (ℕ × Code)) (es : List Entry
   many_entries = sym (length-map es (λ e. e.0)) ∙ ap (λ l. length l) fits.carried ∙ numbered_length t 0 ops
 
   -- the entry of an op that was sent
-  entry_at : (pre post : List Op) (o : Op) → ops ≡ pre ++ o ∷ post → (c : Code) × (slice_get es (length pre) ≡ Some (entry (record { thread = t; number = length pre; op = o }) c))
+  entry_at : (pre post : List Op) (o : Op) → ops ≡ pre ++ o ∷ post
+      → (c : Code) × (slice_get es (length pre) ≡ Some (entry (record { thread = t; number = length pre; op = o }) c))
   entry_at pre post o is =
       let r : Request = record { thread = t; number = length pre; op = o } in
       let none_more : 0 + length pre ≡ length pre = omega arith in
-      let there : slice_get (map (λ e. e.0) es) (length pre) ≡ Some r = ap (λ l. slice_get l (length pre)) (fits.carried ∙ ap (numbered t 0) is) ∙ numbered_at t 0 pre o post ∙ ap (λ k. Some (record { thread = t; number = k; op = o })) none_more in
+      let there : slice_get (map (λ e. e.0) es) (length pre) ≡ Some r =
+      ap (λ l. slice_get l (length pre)) (fits.carried ∙ ap (numbered t 0) is) ∙ numbered_at t 0 pre o post
+      ∙ ap (λ k. Some (record { thread = t; number = k; op = o })) none_more in
       let e = was_some (λ (e : Entry). e.0) (slice_get es (length pre)) r (sym (slice_get-map (λ (e : Entry). e.0) es (length pre)) ∙ there) in
       (e.0.1, e.1 ∙ ap (λ (q : Request). Some (entry q e.0.1)) e.2)
 
@@ -101,11 +109,13 @@ module _ (t : ℕ) (ops : List Op) (pairs : List (ℕ × Code)) (es : List Entry
     longer : length new ≡ suc (length old)
     longer = let sizes = ap (λ l. length l) sent in omega (arith, sizes, length-append old (o ∷ []))
 
-    enters_with : (c : Code) → slice_get es (length old) ≡ Some (entry (record { thread = t; number = length old; op = o }) c) → so_far new ≡ so_far old ++ next_entry t (so_far old) o c ∷ []
+    enters_with : (c : Code) → slice_get es (length old) ≡ Some (entry (record { thread = t; number = length old; op = o }) c)
+        → so_far new ≡ so_far old ++ next_entry t (so_far old) o c ∷ []
     enters_with c at =
         let n = length old in
         let many : length (so_far old) ≡ n = within old (o ∷ now.0, split) in
-        ap (λ k. take k es) longer ∙ take_next es n (entry (record { thread = t; number = n; op = o }) c) at ∙ ap (λ k. so_far old ++ entry (record { thread = t; number = k; op = o }) c ∷ []) (sym many)
+        ap (λ k. take k es) longer ∙ take_next es n (entry (record { thread = t; number = n; op = o }) c) at
+        ∙ ap (λ k. so_far old ++ entry (record { thread = t; number = k; op = o }) c ∷ []) (sym many)
 
     -- has one more entry, with some code
     pub enters : (c : Code) × (so_far new ≡ so_far old ++ next_entry t (so_far old) o c ∷ [])

@@ -1,5 +1,6 @@
 -- What a thread's calls do with its handles.
-use Rattle.std.proofs.Common.{◌≡◌, ℕ, ℤ, zero, suc, ◌<◌, Bool, true, false, ◌&&◌, List, [], ◌∷◌, ◌++◌, Option, Some, None, Result, Ok, Err, sym, refl, ap, ◌∙◌, subst, arith, slice_index_or}
+use Rattle.std.proofs.Common.{◌≡◌, ℕ, ℤ, zero, suc, ◌<◌, Bool, true, false, ◌&&◌, List, [], ◌∷◌, ◌++◌, Option, Some, None, Result, Ok, Err, sym, refl, ap, ◌∙◌}
+use Rattle.std.proofs.Common.{subst, arith, slice_index_or}
 use Rattle.std.specs.Prelude.{pos, if◌then◌else◌}
 use Rattle.std.specs.List.{Contains}
 use Rattle.std.specs.Ordering.{nat_cmp, int_eq}
@@ -44,8 +45,11 @@ kept_of d = d.kept
 
 -- what a call does with its desk's handles
 pub data Holds (q : Called XidName) (a : Answer) (old new : DeskView) : Type 0 where
-  gives : (o : Op) (k : ℕ) → wanted_in q ≡ handle_for o → a ≡ shown (pos k) → finmap.get old.kept k ≡ None → new.kept ≡ finmap.insert old.kept k (next_operation old.ledgers q.manager) → IsKnown old.ledgers q.manager → Holds q a old new
-  takes : (o : Operation) (k : ℕ) (c : Code) → wanted_in q ≡ completion → finmap.get old.kept k ≡ Some o → a ≡ answer.Completed (pos k) (number_of c) → new.kept ≡ finmap.remove old.kept k → collected_from new.ledgers o.manager ≡ collected_from old.ledgers o.manager ++ (o.number, c) ∷ [] → Holds q a old new
+  gives : (o : Op) (k : ℕ) → wanted_in q ≡ handle_for o → a ≡ shown (pos k) → finmap.get old.kept k ≡ None
+      → new.kept ≡ finmap.insert old.kept k (next_operation old.ledgers q.manager) → IsKnown old.ledgers q.manager → Holds q a old new
+  takes : (o : Operation) (k : ℕ) (c : Code) → wanted_in q ≡ completion → finmap.get old.kept k ≡ Some o → a ≡ answer.Completed (pos k) (number_of c)
+      → new.kept ≡ finmap.remove old.kept k → collected_from new.ledgers o.manager ≡ collected_from old.ledgers o.manager ++ (o.number, c) ∷ []
+      → Holds q a old new
   shows : (c : Code) → MayShow (wanted_in q) c → a ≡ shown (number_of c) → new.kept ≡ old.kept → Holds q a old new
 
 -- ---- a call that puts something
@@ -57,15 +61,20 @@ may_show (in_vain why) c is = is
 may_show completion c is = is
 may_show (listing n) c is = is
 
-puts_hold : (q : Called XidName) (old new : DeskView) (a : Answer) (n : ℤ) (asked : _) → Puts old q.manager asked new n → asks asked.asynchronous asked.op ≡ wanted_in q → a ≡ shown n → Holds q a old new
-puts_hold q old new a n asked (put_refused c why of same) e told = shows c (subst (λ r. MayShow r c) e (may_show (asks asked.asynchronous asked.op) c (refusal_by asked.asynchronous asked.op c (is_refusal old q.manager asked.asynchronous c why)))) (told ∙ ap (λ z. shown z) of) (ap kept_of same)
-puts_hold q old new a n asked (full why async of same) e told = shows Async (subst (λ r. MayShow r Async) e (may_show (asks asked.asynchronous asked.op) Async (refusal_by asked.asynchronous asked.op Async (no_place asked.asynchronous async)))) (told ∙ ap (λ z. shown z) of) (ap kept_of same)
-puts_hold q old new a n asked (put_kept why async k of is same) e told = gives asked.op k (sym e ∙ ap (λ b. asks b asked.op) async) (told ∙ ap (λ z. shown z) of) is.free (ap kept_of same) (known_here old q.manager asked.asynchronous why)
+puts_hold : (q : Called XidName) (old new : DeskView) (a : Answer) (n : ℤ) (asked : _) → Puts old q.manager asked new n
+    → asks asked.asynchronous asked.op ≡ wanted_in q → a ≡ shown n → Holds q a old new
+puts_hold q old new a n asked (put_refused c why of same) e told =
+    shows c (subst (λ r. MayShow r c) e (may_show (asks asked.asynchronous asked.op) c (refusal_by asked.asynchronous asked.op c (is_refusal old q.manager asked.asynchronous c why)))) (told ∙ ap (λ z. shown z) of) (ap kept_of same)
+puts_hold q old new a n asked (full why async of same) e told =
+    shows Async (subst (λ r. MayShow r Async) e (may_show (asks asked.asynchronous asked.op) Async (refusal_by asked.asynchronous asked.op Async (no_place asked.asynchronous async)))) (told ∙ ap (λ z. shown z) of) (ap kept_of same)
+puts_hold q old new a n asked (put_kept why async k of is same) e told =
+    gives asked.op k (sym e ∙ ap (λ b. asks b asked.op) async) (told ∙ ap (λ z. shown z) of) is.free (ap kept_of same) (known_here old q.manager asked.asynchronous why)
 puts_hold q old new a n asked (put_answered why async times c of is) e told =
     shows c (subst (λ r. MayShow r c) (sym (ap (λ b. asks b asked.op) async) ∙ e) tt) (told ∙ ap (λ z. shown z) of)
     (ap kept_of is.collected ∙ ap kept_of is.looks.rest ∙ fulls_kept times old q.manager)
 
-calls_hold : (q : Called XidName) (old new : DeskView) (a : Answer) (n : ℤ) (r : Result _ Code) → Calls r old q.manager new n → wanted r (λ asked. asked.op) (λ asked. asked.asynchronous) ≡ wanted_in q → a ≡ shown n → Holds q a old new
+calls_hold : (q : Called XidName) (old new : DeskView) (a : Answer) (n : ℤ) (r : Result _ Code) → Calls r old q.manager new n
+    → wanted r (λ asked. asked.op) (λ asked. asked.asynchronous) ≡ wanted_in q → a ≡ shown n → Holds q a old new
 calls_hold q old new a n (Ok asked) is e told = puts_hold q old new a n asked is e told
 calls_hold q old new a n (Err c) is e told = shows c (subst (λ r. MayShow r c) e refl) (told ∙ ap (λ z. shown z) is.0) (ap kept_of is.1)
 
@@ -73,7 +82,8 @@ calls_hold q old new a n (Err c) is e told = shows c (subst (λ r. MayShow r c) 
 
 -- what came of it
 data Comes (old new : DeskView) (collected : Result (ℕ × Code) Code) : Type 0 where
-  took : (o : Operation) (k : ℕ) (c : Code) → collected ≡ Ok (k, c) → finmap.get old.kept k ≡ Some o → new.kept ≡ finmap.remove old.kept k → collected_from new.ledgers o.manager ≡ collected_from old.ledgers o.manager ++ (o.number, c) ∷ [] → Comes old new collected
+  took : (o : Operation) (k : ℕ) (c : Code) → collected ≡ Ok (k, c) → finmap.get old.kept k ≡ Some o → new.kept ≡ finmap.remove old.kept k
+      → collected_from new.ledgers o.manager ≡ collected_from old.ledgers o.manager ++ (o.number, c) ∷ [] → Comes old new collected
   left : (why : Code) → collected ≡ Err why → Contains (Inval ∷ Proto ∷ Retry ∷ []) why → new.kept ≡ old.kept → Comes old new collected
 
 inval : Contains (Inval ∷ Proto ∷ Retry ∷ []) Inval
@@ -86,7 +96,8 @@ again : Contains (Inval ∷ Proto ∷ Retry ∷ []) Retry
 again = (2, omega arith, refl)
 
 -- a number that was kept as the lane was looked at, and then freed
-taking : (old before new : DeskView) (k : ℕ) (c : Code) (r : Result (ℕ × Code) Code) → before.kept ≡ old.kept → before.ledgers ≡ old.ledgers → TakesKept before new k c → r ≡ Ok (k, c) → Comes old new r
+taking : (old before new : DeskView) (k : ℕ) (c : Code) (r : Result (ℕ × Code) Code) → before.kept ≡ old.kept → before.ledgers ≡ old.ledgers
+    → TakesKept before new k c → r ≡ Ok (k, c) → Comes old new r
 taking old before new k c r kept_same ledgers_same is e =
     took is.operation k c e (ap (λ (m : Handles). finmap.get m k) (sym kept_same) ∙ is.kept) (ap kept_of is.taken ∙ ap (λ (m : Handles). finmap.remove m k) kept_same)
     (ap (λ (d : DeskView). collected_from d.ledgers is.operation.manager) is.taken ∙ collected_here before.ledgers is.operation c is.out.known ∙ ap (λ (at : List LedgerView). collected_from at is.operation.manager ++ (is.operation.number, c) ∷ []) ledgers_same)
@@ -98,23 +109,28 @@ redeeming old new k c r is e =
     ∙ collected_here is.collects.before.ledgers is.operation c is.collects.out.known
     ∙ ap (λ (d : DeskView). collected_from d.ledgers is.operation.manager ++ (is.operation.number, c) ∷ []) is.collects.looks.rest)
 
-one_comes : (old : DeskView) (k : Option ℕ) (m : ℕ) (nowait : Bool) (new : DeskView) (r : Result (ℕ × Code) Code) → CompletesOne old k m nowait new r → Comes old new r
+one_comes : (old : DeskView) (k : Option ℕ) (m : ℕ) (nowait : Bool) (new : DeskView) (r : Result (ℕ × Code) Code) → CompletesOne old k m nowait new r
+    → Comes old new r
 one_comes old k m nowait new r (unknown missing told e) = left Inval told inval (ap kept_of e)
 one_comes old k m nowait new r (retry_one j is there way told quiet unready) = left Retry told again (quiet_same old new quiet).1
-one_comes old k m nowait new r (ready j c is there way told takes_it) = taking old takes_it.before new j c r (ap kept_of takes_it.looks.rest) (ap (λ (d : DeskView). d.ledgers) takes_it.looks.rest) takes_it.takes told
+one_comes old k m nowait new r (ready j c is there way told takes_it) =
+    taking old takes_it.before new j c r (ap kept_of takes_it.looks.rest) (ap (λ (d : DeskView). d.ledgers) takes_it.looks.rest) takes_it.takes told
 one_comes old k m nowait new r (waited j c is there way told takes_it) = redeeming old new j c r takes_it told
 
 any_comes : (old : DeskView) (m : ℕ) (nowait : Bool) (new : DeskView) (r : Result (ℕ × Code) Code) → CompletesAny old m nowait new r → Comes old new r
 any_comes old m nowait new r (nothing_kept empty told e) = left Proto told proto (ap kept_of e)
 any_comes old m nowait new r (retry_any j there way told quiet unready) = left Retry told again (quiet_same old new quiet).1
-any_comes old m nowait new r (least j c told takes_it) = let same = quiet_same old takes_it.before takes_it.quiet in taking old takes_it.before new j c r same.1 same.0 takes_it.takes told
+any_comes old m nowait new r (least j c told takes_it) =
+    let same = quiet_same old takes_it.before takes_it.quiet in taking old takes_it.before new j c r same.1 same.0 takes_it.takes told
 
-at_comes : (may multiple nowait : Bool) (old : DeskView) (k : Option ℕ) (m : ℕ) (new : DeskView) (r : Result (ℕ × Code) Code) → CompletesAt may multiple nowait old k m new r → Comes old new r
+at_comes : (may multiple nowait : Bool) (old : DeskView) (k : Option ℕ) (m : ℕ) (new : DeskView) (r : Result (ℕ × Code) Code)
+    → CompletesAt may multiple nowait old k m new r → Comes old new r
 at_comes false multiple nowait old k m new r is = left Inval is.0 inval (ap kept_of is.1)
 at_comes true true nowait old k m new r is = any_comes old m nowait new r is
 at_comes true false nowait old k m new r is = one_comes old k m nowait new r is
 
-by_comes : (b : Bool) (mode : Mode) (old : DeskView) (k : Option ℕ) (m : ℕ) (new : DeskView) (r : Result (ℕ × Code) Code) → CompletesBy (if b then Ok mode else Err Inval) old k m new r → Comes old new r
+by_comes : (b : Bool) (mode : Mode) (old : DeskView) (k : Option ℕ) (m : ℕ) (new : DeskView) (r : Result (ℕ × Code) Code)
+    → CompletesBy (if b then Ok mode else Err Inval) old k m new r → Comes old new r
 by_comes true mode old k m new r is = at_comes (may_complete old m mode.multiple) mode.multiple mode.nowait old k m new r is
 by_comes false mode old k m new r is = left Inval is.0 inval (ap kept_of is.1)
 
@@ -125,7 +141,8 @@ not_done why (suc zero) below is = ap (λ (c : Code). int_eq (number_of c) (pos 
 not_done why (suc (suc zero)) below is = ap (λ (c : Code). int_eq (number_of c) (pos 0)) (sym is)
 not_done why (suc (suc (suc k))) below is = absurd (omega (arith, below))
 
-completes_hold : (q : Called XidName) (old new : DeskView) (a : Answer) (h h' r' n : ℤ) (collected : Result (ℕ × Code) Code) → wanted_in q ≡ completion → Comes old new collected → Tells collected h (pos 0) h' r' n → a ≡ completed h' r' n → Holds q a old new
+completes_hold : (q : Called XidName) (old new : DeskView) (a : Answer) (h h' r' n : ℤ) (collected : Result (ℕ × Code) Code) → wanted_in q ≡ completion
+    → Comes old new collected → Tells collected h (pos 0) h' r' n → a ≡ completed h' r' n → Holds q a old new
 completes_hold q old new a h h' r' n collected e (took o k c ok at now got) tells told =
     let t = subst (λ r. Tells r h (pos 0) h' r' n) ok tells in
     takes o k c e at (told ∙ (λ i. completed (t.0 i) (t.1.0 i) (t.1.1 i))) now got
@@ -136,7 +153,8 @@ completes_hold q old new a h h' r' n collected e (left why err among now) tells 
 
 -- ---- a call of a line
 
-pub answers_hold : (x : Calling XidName) (q : Called XidName) → is_recover x ≡ false → wanted_by x q.flags ≡ wanted_in q → (old new : DeskView) (z z' : ScanView) (a : Answer) → Answers x q old z new z' a → Holds q a old new
+pub answers_hold : (x : Calling XidName) (q : Called XidName) → is_recover x ≡ false → wanted_by x q.flags ≡ wanted_in q
+    → (old new : DeskView) (z z' : ScanView) (a : Answer) → Answers x q old z new z' a → Holds q a old new
 answers_hold (calling.Xa c x) q plain e old new z z' a (is, still) = calls_hold q old new a is.answer _ is.calls e is.shown
 answers_hold (calling.Heur x commits) q plain e old new z z' a (is, still) = calls_hold q old new a is.answer _ is.calls e is.shown
 answers_hold (calling.Add k d) q plain e old new z z' a (is, still) = calls_hold q old new a is.answer _ is.calls e is.shown

@@ -1,5 +1,6 @@
 -- What was sent to a manager and collected from it, as a thread goes on.
-use Rattle.std.proofs.Common.{◌≡◌, ◌≢◌, ℕ, ◌-◌, ◌<◌, ◌≤◌, ⊎_elim, zero, suc, Bool, true, false, cond, ◌&&◌, List, [], ◌∷◌, ◌++◌, length, Some, sym, refl, ap, ◌∙◌, subst, inl, inr, arith}
+use Rattle.std.proofs.Common.{◌≡◌, ◌≢◌, ℕ, ◌-◌, ◌<◌, ◌≤◌, ⊎_elim, zero, suc, Bool, true, false, cond, ◌&&◌, List, [], ◌∷◌, ◌++◌, length, Some, sym, refl, ap}
+use Rattle.std.proofs.Common.{◌∙◌, subst, inl, inr, arith}
 use Rattle.std.specs.Prelude.{nat_le, slice_get, if◌then◌else◌}
 use Rattle.std.proofs.lemmas.List.{length-append, length-set, get_or-set_same, get_or-set_other}
 use Rattle.std.proofs.lemmas.Bool.{cases_eq}
@@ -21,7 +22,8 @@ seen f at m = if is_known at m then f (ledger at m) else []
 seen_known : {X : Type 0} (f : LedgerView → List X) (at : List LedgerView) (m : ℕ) → is_known at m ≡ true → seen f at m ≡ f (ledger at m)
 seen_known f at m e = ap (λ b. cond b (f (ledger at m)) []) e
 
-seen_alike : {X : Type 0} (f : LedgerView → List X) (at at' : List LedgerView) (m : ℕ) (b : Bool) → is_known at m ≡ b → is_known at' m ≡ b → (b ≡ true → f (ledger at' m) ≡ f (ledger at m)) → seen f at' m ≡ seen f at m
+seen_alike : {X : Type 0} (f : LedgerView → List X) (at at' : List LedgerView) (m : ℕ) (b : Bool) → is_known at m ≡ b → is_known at' m ≡ b
+    → (b ≡ true → f (ledger at' m) ≡ f (ledger at m)) → seen f at' m ≡ seen f at m
 seen_alike f at at' m true e e' same = seen_known f at' m e' ∙ same refl ∙ sym (seen_known f at m e)
 seen_alike f at at' m false e e' same = ap (λ b. cond b (f (ledger at' m)) []) e' ∙ sym (ap (λ b. cond b (f (ledger at m)) []) e)
 
@@ -62,7 +64,8 @@ module _ (at : List LedgerView) (n : ℕ) (a : LedgerView) (known : IsKnown at n
   seen_there f = seen_known f (put_ledger at n a) n (still_known n ∙ known_true at n known) ∙ ap f put_there
 
   seen_elsewhere : {X : Type 0} (f : LedgerView → List X) (m : ℕ) → m ≢ n → seen f (put_ledger at n a) m ≡ seen f at m
-  seen_elsewhere f m differs = seen_alike f at (put_ledger at n a) m (is_known at m) refl (still_known m) (λ e. ap f (put_elsewhere m (positive_of at m e) differs))
+  seen_elsewhere f m differs =
+      seen_alike f at (put_ledger at n a) m (is_known at m) refl (still_known m) (λ e. ap f (put_elsewhere m (positive_of at m e) differs))
 
   -- what is written shows the same as before
   seen_stays : {X : Type 0} (f : LedgerView → List X) (m : ℕ) → f a ≡ f (ledger at n) → seen f (put_ledger at n a) m ≡ seen f at m
@@ -76,7 +79,8 @@ module _ (at : List LedgerView) (n : ℕ) (a : LedgerView) (known : IsKnown at n
 
 module _ (at : List LedgerView) (m : ℕ) (op : Op) (known : IsKnown at m) where
   pub sent_here : sent_to (after_sent at m op) m ≡ sent_to at m ++ op ∷ []
-  sent_here = seen_there at m (with_sent (ledger at m) op) known (λ a. a.sent) ∙ ap (λ l. l ++ op ∷ []) (sym (seen_known (λ a. a.sent) at m (known_true at m known)))
+  sent_here =
+      seen_there at m (with_sent (ledger at m) op) known (λ a. a.sent) ∙ ap (λ l. l ++ op ∷ []) (sym (seen_known (λ a. a.sent) at m (known_true at m known)))
 
   pub sent_elsewhere : (k : ℕ) → k ≢ m → sent_to (after_sent at m op) k ≡ sent_to at k
   sent_elsewhere k differs = seen_elsewhere at m (with_sent (ledger at m) op) known (λ a. a.sent) k differs
@@ -89,11 +93,14 @@ module _ (at : List LedgerView) (m : ℕ) (op : Op) (known : IsKnown at m) where
 
 -- a manager that is known still is
 pub sent_known : (at : List LedgerView) (n : ℕ) (op : Op) → IsKnown at n → IsKnown (after_sent at n op) n
-sent_known at n op known = record { positive = known.positive; within = subst (λ l. n ≤ l) (sym (length-set at (n - 1) (with_sent (ledger at n) op))) known.within }
+sent_known at n op known =
+    record { positive = known.positive; within = subst (λ l. n ≤ l) (sym (length-set at (n - 1) (with_sent (ledger at n) op))) known.within }
 
 module _ (at : List LedgerView) (o : Operation) (code : Code) (known : IsKnown at o.manager) where
   pub collected_here : collected_from (after_collected at o code) o.manager ≡ collected_from at o.manager ++ (o.number, code) ∷ []
-  collected_here = seen_there at o.manager (with_collected (ledger at o.manager) o.number code) known (λ a. a.collected) ∙ ap (λ l. l ++ (o.number, code) ∷ []) (sym (seen_known (λ a. a.collected) at o.manager (known_true at o.manager known)))
+  collected_here =
+      seen_there at o.manager (with_collected (ledger at o.manager) o.number code) known (λ a. a.collected)
+      ∙ ap (λ l. l ++ (o.number, code) ∷ []) (sym (seen_known (λ a. a.collected) at o.manager (known_true at o.manager known)))
 
   pub collected_elsewhere : (k : ℕ) → k ≢ o.manager → collected_from (after_collected at o code) k ≡ collected_from at k
   collected_elsewhere k differs = seen_elsewhere at o.manager (with_collected (ledger at o.manager) o.number code) known (λ a. a.collected) k differs
@@ -131,7 +138,8 @@ grows_both m u v w g h = record {
 }
 
 -- where nothing is collected each request that was collected still was sent
-sent_still : (m : ℕ) (old new : List LedgerView) → Begins (sent_to old m) (sent_to new m) → collected_from new m ≡ collected_from old m → AllSent m old → AllSent m new
+sent_still : (m : ℕ) (old new : List LedgerView) → Begins (sent_to old m) (sent_to new m) → collected_from new m ≡ collected_from old m → AllSent m old
+    → AllSent m new
 sent_still m old new b same all k p at =
     let before = all k p (ap (λ l. slice_get l k) (sym same) ∙ at) in
     let size = ap (λ l. length l) b.1 in

@@ -61,12 +61,14 @@ module _ (n : ℕ) (first now next : DeskView) (told : List (ℕ × Code)) (h : 
   ended_kept c takes =
       let o = takes.operation in
       let at_first : finmap.get first.kept (n + 1) ≡ Some o = sym (h.others (n + 1) fresh) ∙ takes.kept in
-      let handles : next.kept ≡ finmap.remove now.kept (n + 1) = ap (λ (d : DeskView). d.kept) takes.collects.collected ∙ ap (λ (d : DeskView). d.kept) takes.collects.looks.rest in
+      let handles : next.kept ≡ finmap.remove now.kept (n + 1) =
+      ap (λ (d : DeskView). d.kept) takes.collects.collected ∙ ap (λ (d : DeskView). d.kept) takes.collects.looks.rest in
       let collected : collected_from next.ledgers o.manager ≡ collected_from now.ledgers o.manager ++ (o.number, c) ∷ [] =
       ap (λ (d : DeskView). collected_from d.ledgers o.manager) takes.collects.collected
       ∙ collected_here takes.collects.before.ledgers o c takes.collects.out.known
       ∙ ap (λ (d : DeskView). collected_from d.ledgers o.manager ++ (o.number, c) ∷ []) takes.collects.looks.rest in
-      let this : IsTold first next (n + 1, c) = (o, at_first, collected_from now.ledgers o.manager, begins_same (collected_from now.ledgers o.manager ++ (o.number, c) ∷ []) (collected_from next.ledgers o.manager) collected) in
+      let this : IsTold first next (n + 1, c) =
+      (o, at_first, collected_from now.ledgers o.manager, begins_same (collected_from now.ledgers o.manager ++ (o.number, c) ∷ []) (collected_from next.ledgers o.manager) collected) in
       record {
         others = λ k out.
             ap (λ (m : finmap.FinMap nat_cmp Operation). finmap.get m k) handles
@@ -94,15 +96,20 @@ module _ (n : ℕ) (first now next : DeskView) (told : List (ℕ × Code)) (h : 
     rising = h.rising;
   }
 
-one_ended : (n : ℕ) (first : DeskView) (now next : Telling) → HaveEnded n first now.0 now.1 → EndsNumber (n + 1) now next → HaveEnded (n + 1) first next.0 next.1
-one_ended n first now next h (kept c takes pushed) = subst (λ (l : List (ℕ × Code)). HaveEnded (n + 1) first next.0 l) (sym pushed) (ended_kept n first now.0 next.0 now.1 h c takes)
-one_ended n first now next h (free empty same) = subst (λ (x : Telling). HaveEnded (n + 1) first x.0 x.1) (sym same) (ended_free n first now.0 now.0 now.1 h empty)
+one_ended : (n : ℕ) (first : DeskView) (now next : Telling) → HaveEnded n first now.0 now.1 → EndsNumber (n + 1) now next
+    → HaveEnded (n + 1) first next.0 next.1
+one_ended n first now next h (kept c takes pushed) =
+    subst (λ (l : List (ℕ × Code)). HaveEnded (n + 1) first next.0 l) (sym pushed) (ended_kept n first now.0 next.0 now.1 h c takes)
+one_ended n first now next h (free empty same) =
+    subst (λ (x : Telling). HaveEnded (n + 1) first x.0 x.1) (sym same) (ended_free n first now.0 now.0 now.1 h empty)
 
 -- the numbers of a chain
-pub numbers_ended : (first : DeskView) (ks : List ℕ) (last : Telling) → Chain EndsNumber (first, []) ks last → (n : ℕ) → ks ≡ range_with_len 1 n → HaveEnded n first last.0 last.1
+pub numbers_ended : (first : DeskView) (ks : List ℕ) (last : Telling) → Chain EndsNumber (first, []) ks last → (n : ℕ) → ks ≡ range_with_len 1 n
+    → HaveEnded n first last.0 last.1
 numbers_ended first ks last (none xs l e f) zero same = subst (λ (x : Telling). HaveEnded 0 first x.0 x.1) (sym f) (none_ended first)
 numbers_ended first ks last (none xs l e f) (suc n) same = absurd (let size = ap (λ (l : List ℕ). length l) (sym e ∙ same) in omega (arith, size))
-numbers_ended first ks last (more xs x now l before is) zero same = absurd (let size = ap (λ (l : List ℕ). length l) same in omega (arith, size, length-append xs (x ∷ [])))
+numbers_ended first ks last (more xs x now l before is) zero same =
+    absurd (let size = ap (λ (l : List ℕ). length l) same in omega (arith, size, length-append xs (x ∷ [])))
 numbers_ended first ks last (more xs x now l before is) (suc n) same =
     let parts = snoc_parts xs (range_with_len 1 n) x (1 + n) (same ∙ range_suc 1 n) in
     let number : x ≡ n + 1 = let last_one = parts.1 in omega (arith, last_one) in

@@ -17,7 +17,7 @@ use Rattle.xa_switch.specs.Settling.{Settling, journal}
 use Rattle.xa_switch.specs.Scans.{ScanView, left_at}
 use Rattle.xa_switch.specs.Scans.{Answers as Reaches}
 use Rattle.xa_switch.specs.Scans.Answers.{refused as unreached, answered as reached}
-use Rattle.xa_driver.specs.Log.{LogView, LogState, record_of}
+use Rattle.xa_log.specs.Log.{LogView, LogState, record_of}
 use Rattle.xa_driver.specs.Trace.{IsTranOf}
 use Rattle.xa_words.specs.Xid.{XidName}
 use Rattle.xa_words.specs.ManagerSet.{managers_in}
@@ -58,25 +58,30 @@ use Rattle.xa_telling.proofs.Ledgers.{numbered_so, Grows, AllSent, grows_same, g
 use Rattle.xa_telling.proofs.Branches.{trace_grows, resolve_grows, branches_at, left_at_entries, same_entries}
 use Rattle.xa_telling.proofs.Entries.{Fits, many_entries, within, enters, enters_coded, pair_there}
 use Rattle.xa_telling.proofs.Handles.{Holds, gives, takes, shows, answers_hold}
-use Rattle.xa_telling.proofs.Sent.{Sends, answered, kept, nothing, is_recover, answers_do, is_refusal, answered_here, request_grows, request_elsewhere, request_keeps, recover_grows}
+use Rattle.xa_telling.proofs.Sent.{Sends, answered, kept, nothing, is_recover, answers_do, is_refusal, answered_here, request_grows, request_elsewhere}
+use Rattle.xa_telling.proofs.Sent.{request_keeps, recover_grows}
 
 -- ---- a thread's tasks only add to what it sent and collected
 
 commit_grows : (m : ℕ) (c : CommitAll TranName) (old new : Session) (a : Answer) → CommitsAll c old new a → Grows m old.desk.ledgers new.desk.ledgers
 commit_grows m c old new a (refused why told e) = grows_same m old.desk.ledgers new.desk.ledgers (ap (λ (x : Session). x.desk.ledgers) e)
-commit_grows m c old new a (decided done may trace still keeps as_many told rounds appends) = trace_grows (named c) (branches_of c) old.desk.ledgers new.desk.ledgers old.log.state new.log.state done trace may.room m
+commit_grows m c old new a (decided done may trace still keeps as_many told rounds appends) =
+    trace_grows (named c) (branches_of c) old.desk.ledgers new.desk.ledgers old.log.state new.log.state done trace may.room m
 
 resolve_grows_so : (m : ℕ) (old new : Session) (a : Answer) → ResolvesLeft old new a → Grows m old.desk.ledgers new.desk.ledgers
 resolve_grows_so m old new a (left_refused why told e) = grows_same m old.desk.ledgers new.desk.ledgers (ap (λ (x : Session). x.desk.ledgers) e)
-resolve_grows_so m old new a (left_resolved outcomes may trace log still keeps as_many told in_turn) = resolve_grows old.scan old.log.state.records old.desk.ledgers new.desk.ledgers outcomes.items trace may.room m
+resolve_grows_so m old new a (left_resolved outcomes may trace log still keeps as_many told in_turn) =
+    resolve_grows old.scan old.log.state.records old.desk.ledgers new.desk.ledgers outcomes.items trace may.room m
 
-call_grows : (m : ℕ) (x : Calling XidName) (q : Called XidName) → wanted_by x q.flags ≡ wanted_in q → (old new : Session) (a : Answer) → Answers x q old.desk old.scan new.desk new.scan a → Grows m old.desk.ledgers new.desk.ledgers
+call_grows : (m : ℕ) (x : Calling XidName) (q : Called XidName) → wanted_by x q.flags ≡ wanted_in q → (old new : Session) (a : Answer)
+    → Answers x q old.desk old.scan new.desk new.scan a → Grows m old.desk.ledgers new.desk.ledgers
 call_grows m (calling.Xa c y) q e old new a is = (answers_do (calling.Xa c y) 0 q refl e old.desk new.desk old.scan new.scan a is m).1
 call_grows m (calling.Heur x commits) q e old new a is = (answers_do (calling.Heur x commits) 0 q refl e old.desk new.desk old.scan new.scan a is m).1
 call_grows m (calling.Add k d) q e old new a is = (answers_do (calling.Add k d) 0 q refl e old.desk new.desk old.scan new.scan a is m).1
 call_grows m calling.Shut q e old new a is = (answers_do calling.Shut 0 q refl e old.desk new.desk old.scan new.scan a is m).1
 call_grows m (calling.Complete h) q e old new a is = (answers_do (calling.Complete h) 0 q refl e old.desk new.desk old.scan new.scan a is m).1
-call_grows m (calling.Recover n) q e old new a is = recover_grows m q.manager q.flags old.desk old.scan is.before new.desk new.scan is.after is.answer is.recovers
+call_grows m (calling.Recover n) q e old new a is =
+    recover_grows m q.manager q.flags old.desk old.scan is.before new.desk new.scan is.after is.answer is.recovers
 
 executes_grow : (m : ℕ) (x : ScriptAction) (old new : Session) (a : Answer) → Executes x old new a → Grows m old.desk.ledgers new.desk.ledgers
 executes_grow m (action.Call q) old new a is = call_grows m q.call q refl old new a is.0
@@ -90,9 +95,11 @@ does_grow m x old new a is = executes_grow m x old new a is.executes
 abbrev State : Type 0
 State = Session × List Told
 
-pub runs_grow : (m : ℕ) (first : State) (tasks : List ScriptTask) (last : State) → Chain HasDone first tasks last → Grows m first.0.desk.ledgers last.0.desk.ledgers
+pub runs_grow : (m : ℕ) (first : State) (tasks : List ScriptTask) (last : State) → Chain HasDone first tasks last
+    → Grows m first.0.desk.ledgers last.0.desk.ledgers
 runs_grow m first tasks last (none xs l e f) = grows_same m first.0.desk.ledgers l.0.desk.ledgers (ap (λ (s : State). s.0.desk.ledgers) f)
-runs_grow m first tasks last (more xs x now l before is) = grows_both m first.0.desk.ledgers now.0.desk.ledgers l.0.desk.ledgers (runs_grow m first xs now before) (does_grow m x.action now.0 l.0 is.answer is.does)
+runs_grow m first tasks last (more xs x now l before is) =
+    grows_both m first.0.desk.ledgers now.0.desk.ledgers l.0.desk.ledgers (runs_grow m first xs now before) (does_grow m x.action now.0 l.0 is.answer is.does)
 
 -- ---- the lines of a thread
 
@@ -104,20 +111,27 @@ abbrev pub lines_in : (first : State) (tasks : List ScriptTask) (last : State) �
 lines_in first tasks last (none xs l e f) = []
 lines_in first tasks last (more xs x now l before is) = lines_in first xs now before ++ line x is.answer ∷ []
 
-pub tasks_in : (first : State) (tasks : List ScriptTask) (last : State) (runs : Chain HasDone first tasks last) → map (λ l. l.task) (lines_in first tasks last runs) ≡ tasks
+pub tasks_in : (first : State) (tasks : List ScriptTask) (last : State) (runs : Chain HasDone first tasks last)
+    → map (λ l. l.task) (lines_in first tasks last runs) ≡ tasks
 tasks_in first tasks last (none xs l e f) = sym e
-tasks_in first tasks last (more xs x now l before is) = map-append (λ (l : Line). l.task) (lines_in first xs now before) (line x is.answer ∷ []) ∙ ap (λ l. l ++ x ∷ []) (tasks_in first xs now before)
+tasks_in first tasks last (more xs x now l before is) =
+    map-append (λ (l : Line). l.task) (lines_in first xs now before) (line x is.answer ∷ []) ∙ ap (λ l. l ++ x ∷ []) (tasks_in first xs now before)
 
-pub answers_in : (first : State) (tasks : List ScriptTask) (last : State) (runs : Chain HasDone first tasks last) → first.1 ≡ [] → map (λ l. told_of l.task l.answer) (lines_in first tasks last runs) ≡ last.1
+pub answers_in : (first : State) (tasks : List ScriptTask) (last : State) (runs : Chain HasDone first tasks last) → first.1 ≡ []
+    → map (λ l. told_of l.task l.answer) (lines_in first tasks last runs) ≡ last.1
 answers_in first tasks last (none xs l e f) start = sym (ap (λ (s : State). s.1) f ∙ start)
-answers_in first tasks last (more xs x now l before is) start = map-append (λ (l : Line). told_of l.task l.answer) (lines_in first xs now before) (line x is.answer ∷ []) ∙ ap (λ l. l ++ told_of x is.answer ∷ []) (answers_in first xs now before start) ∙ sym is.told
+answers_in first tasks last (more xs x now l before is) start =
+    map-append (λ (l : Line). told_of l.task l.answer) (lines_in first xs now before) (line x is.answer ∷ [])
+    ∙ ap (λ l. l ++ told_of x is.answer ∷ []) (answers_in first xs now before start) ∙ sym is.told
 
 -- the transaction that may be committed isn't logged yet
-not_logged : (c : CommitAll TranName) (ms : List ℕ) (log : LogState) (t : TranName) → 1 ≤ length (map (branch_at c) ms) → IsTranOf (map (branch_at c) ms) t → record_of log t ≡ None → record_of log (named c) ≡ None
+not_logged : (c : CommitAll TranName) (ms : List ℕ) (log : LogState) (t : TranName) → 1 ≤ length (map (branch_at c) ms) → IsTranOf (map (branch_at c) ms) t
+    → record_of log t ≡ None → record_of log (named c) ≡ None
 not_logged c [] log t some of absent = absurd (omega (arith, some))
 not_logged c (m ∷ ms) log t some of absent = ap (record_of log) of.0 ∙ absent
 
-module _ (settled : Settling) (t : ℕ) (ops : ℕ → List Op) (pairs : ℕ → List (ℕ × Code)) (fits : (m : ℕ) → Fits t (ops m) (pairs m) (entries_of t (journal settled m))) where
+module _ (settled : Settling) (t : ℕ) (ops : ℕ → List Op) (pairs : ℕ → List (ℕ × Code))
+    (fits : (m : ℕ) → Fits t (ops m) (pairs m) (entries_of t (journal settled m))) where
   abbrev own_entries : ℕ → List Entry
   own_entries m = entries_of t (journal settled m)
 
@@ -136,19 +150,24 @@ module _ (settled : Settling) (t : ℕ) (ops : ℕ → List Op) (pairs : ℕ →
   AllThere at = (m : ℕ) → Begins (sent_to at m) (ops m) × Begins (collected_from at m) (pairs m)
 
   there_before : (old new : List LedgerView) → ((m : ℕ) → Grows m old new) → AllThere new → AllThere old
-  there_before old new grows all m = (begins_on (sent_to old m) (sent_to new m) (ops m) (grows m).sent (all m).0, begins_on (collected_from old m) (collected_from new m) (pairs m) (grows m).collected (all m).1)
+  there_before old new grows all m =
+      (begins_on (sent_to old m) (sent_to new m) (ops m) (grows m).sent (all m).0, begins_on (collected_from old m) (collected_from new m) (pairs m) (grows m).collected (all m).1)
 
-  adds : (m : ℕ) (q : Called XidName) (a : Answer) (old new : List LedgerView) → AllThere new → Sends m t q a old new → Adds m t q a (entries_so_far old m) (entries_so_far new m)
-  adds m q a old new all (nothing adds_none same) = subst (λ (l : List Op). Adds m t q a (entries_so_far old m) (take (length l) (own_entries m))) (sym same) (adds_none (entries_so_far old m))
+  adds : (m : ℕ) (q : Called XidName) (a : Answer) (old new : List LedgerView) → AllThere new → Sends m t q a old new
+      → Adds m t q a (entries_so_far old m) (entries_so_far new m)
+  adds m q a old new all (nothing adds_none same) =
+      subst (λ (l : List Op). Adds m t q a (entries_so_far old m) (take (length l) (own_entries m))) (sym same) (adds_none (entries_so_far old m))
   adds m q a old new all (kept o k here asks low told sent) =
       let e = enters t (ops m) (pairs m) (own_entries m) (fits m) (sent_to old m) (sent_to new m) o sent (all m).0 in
       adds_kept o e.0 k here asks low told e.1
   adds m q a old new all (answered o c here asks told sent got) =
       let collected = pair_there (pairs m) (collected_from old m) (collected_from new m) (length (sent_to old m)) c got (all m).1 in
-      let e = enters_coded t (ops m) (pairs m) (own_entries m) (fits m) (sent_to old m) (sent_to new m) o sent (all m).0 (length (collected_from old m)) c collected in
+      let e =
+      enters_coded t (ops m) (pairs m) (own_entries m) (fits m) (sent_to old m) (sent_to new m) o sent (all m).0 (length (collected_from old m)) c collected in
       adds_answered o c here asks told e
 
-  hands : (q : Called XidName) (a : Answer) (old new : Session) → AllThere old.desk.ledgers → AllThere new.desk.ledgers → Holds q a old.desk new.desk → Hands settled t q a (part_of old) new.desk.kept
+  hands : (q : Called XidName) (a : Answer) (old new : Session) → AllThere old.desk.ledgers → AllThere new.desk.ledgers → Holds q a old.desk new.desk
+      → Hands settled t q a (part_of old) new.desk.kept
   hands q a old new was all (gives o k asked told free now known) =
       let m = q.manager in
       let size = within t (ops m) (pairs m) (own_entries m) (fits m) (sent_to old.desk.ledgers m) (was m).0 in
@@ -156,12 +175,15 @@ module _ (settled : Settling) (t : ℕ) (ops : ℕ → List Op) (pairs : ℕ →
       hands_gives o k asked told free (now ∙ (λ i. finmap.insert old.desk.kept k (record { manager = m; number = number i })))
   hands q a old new was all (takes o k c asked at told now got) =
       let m = o.manager in
-      let there = (fits m).coded (length (collected_from old.desk.ledgers m)) (o.number, c) (pair_there (pairs m) (collected_from old.desk.ledgers m) (collected_from new.desk.ledgers m) o.number c got (all m).1) in
+      let there =
+      (fits m).coded (length (collected_from old.desk.ledgers m)) (o.number, c) (pair_there (pairs m) (collected_from old.desk.ledgers m) (collected_from new.desk.ledgers m) o.number c got (all m).1) in
       hands_takes o k c asked at there told now
   hands q a old new was all (shows c may told now) = hands_shows c may told now
 
   -- what a call does to its thread's part that is no xa_recover
-  plain_takes : (x : Calling XidName) (q : Called XidName) → is_recover x ≡ false → wanted_by x q.flags ≡ wanted_in q → (old new : Session) (a : Answer) → AllThere old.desk.ledgers → AllThere new.desk.ledgers → Answers x q old.desk old.scan new.desk new.scan a → new.log ≡ old.log → new.scan ≡ old.scan → CallTakes settled t q a (part_of old) (part_of new)
+  plain_takes : (x : Calling XidName) (q : Called XidName) → is_recover x ≡ false → wanted_by x q.flags ≡ wanted_in q → (old new : Session) (a : Answer)
+      → AllThere old.desk.ledgers → AllThere new.desk.ledgers → Answers x q old.desk old.scan new.desk new.scan a → new.log ≡ old.log → new.scan ≡ old.scan
+      → CallTakes settled t q a (part_of old) (part_of new)
   plain_takes x q plain e old new a was all is same still =
       call_takes_so settled t q a (part_of old) (part_of new)
       (λ m. adds m q a old.desk.ledgers new.desk.ledgers all (answers_do x t q plain e old.desk new.desk old.scan new.scan a is m).0)
@@ -169,7 +191,8 @@ module _ (settled : Settling) (t : ℕ) (ops : ℕ → List Op) (pairs : ℕ →
       (hands q a old new was all (answers_hold x q plain e old.desk new.desk old.scan new.scan a is))
 
   -- a request that is carried out
-  one_asked : (log : LogState) (scan : ScanView) (m : ℕ) (old : DeskView) (op : Op) (new : DeskView) (c : Code) → Reaches m old op new c → entries_so_far new.ledgers m ≡ entries_so_far old.ledgers m ++ next_entry t (entries_so_far old.ledgers m) op c ∷ []
+  one_asked : (log : LogState) (scan : ScanView) (m : ℕ) (old : DeskView) (op : Op) (new : DeskView) (c : Code) → Reaches m old op new c
+      → entries_so_far new.ledgers m ≡ entries_so_far old.ledgers m ++ next_entry t (entries_so_far old.ledgers m) op c ∷ []
       → (n : ℕ) → entries_so_far new.ledgers n ≡ (with_entry t m op c (part_at log scan old)).entries n
   one_asked log scan m old op new c is here n = elim (cases_eq n m) [
     | inl same ↦
@@ -180,17 +203,20 @@ module _ (settled : Settling) (t : ℕ) (ops : ℕ → List Op) (pairs : ℕ →
         ∙ sym (entry_elsewhere t m op c (part_at log scan old) n differs)
   ]
 
-  asked_so : (log : LogState) (scan : ScanView) (m : ℕ) (old : DeskView) (op : Op) (new : DeskView) (c : Code) → Reaches m old op new c → AllThere new.ledgers → Asked t m (part_at log scan old) op (part_at log scan new) c
+  asked_so : (log : LogState) (scan : ScanView) (m : ℕ) (old : DeskView) (op : Op) (new : DeskView) (c : Code) → Reaches m old op new c → AllThere new.ledgers
+      → Asked t m (part_at log scan old) op (part_at log scan new) c
   asked_so log scan m old op new c (unreached why same) all = asked_refused (is_refusal old m false c why) (ap (part_at log scan) same)
   asked_so log scan m old op new c (reached none_refused times is) all =
       let here = answered_here m times old new op false c none_refused is in
       let collected = pair_there (pairs m) (collected_from old.ledgers m) (collected_from new.ledgers m) (length (sent_to old.ledgers m)) c here.1 (all m).1 in
-      let e = enters_coded t (ops m) (pairs m) (own_entries m) (fits m) (sent_to old.ledgers m) (sent_to new.ledgers m) op here.0 (all m).0 (length (collected_from old.ledgers m)) c collected in
+      let e =
+      enters_coded t (ops m) (pairs m) (own_entries m) (fits m) (sent_to old.ledgers m) (sent_to new.ledgers m) op here.0 (all m).0 (length (collected_from old.ledgers m)) c collected in
       let asked = reached none_refused times is in
       asked_answered (λ i. record { entries = λ n. one_asked log scan m old op new c asked e n i; handles = request_keeps m old op new c asked i; log = log; scan = scan })
 
   -- what an xa_recover does
-  lists : (q : Called XidName) (n : ℕ) (a : Answer) (old new : Session) → AllThere new.desk.ledgers → HasListed q n old.desk old.scan new.desk new.scan a → new.log ≡ old.log → Lists t q n a (part_of old) (part_of new)
+  lists : (q : Called XidName) (n : ℕ) (a : Answer) (old new : Session) → AllThere new.desk.ledgers → HasListed q n old.desk old.scan new.desk new.scan a
+      → new.log ≡ old.log → Lists t q n a (part_of old) (part_of new)
   lists q n a old new all is same =
       let m = q.manager in
       let log = old.log.state in
@@ -216,7 +242,8 @@ module _ (settled : Settling) (t : ℕ) (ops : ℕ → List Op) (pairs : ℕ →
       }
 
   -- what a call does
-  call_takes : (x : Calling XidName) (q : Called XidName) → wanted_by x q.flags ≡ wanted_in q → (old new : Session) (a : Answer) → AllThere old.desk.ledgers → AllThere new.desk.ledgers → Answers x q old.desk old.scan new.desk new.scan a → new.log ≡ old.log → CallTakes settled t q a (part_of old) (part_of new)
+  call_takes : (x : Calling XidName) (q : Called XidName) → wanted_by x q.flags ≡ wanted_in q → (old new : Session) (a : Answer) → AllThere old.desk.ledgers
+      → AllThere new.desk.ledgers → Answers x q old.desk old.scan new.desk new.scan a → new.log ≡ old.log → CallTakes settled t q a (part_of old) (part_of new)
   call_takes (calling.Xa c y) q e old new a was all is same = plain_takes (calling.Xa c y) q refl e old new a was all is same is.1
   call_takes (calling.Heur x commits) q e old new a was all is same = plain_takes (calling.Heur x commits) q refl e old new a was all is same is.1
   call_takes (calling.Add k d) q e old new a was all is same = plain_takes (calling.Add k d) q refl e old new a was all is same is.1
@@ -225,7 +252,8 @@ module _ (settled : Settling) (t : ℕ) (ops : ℕ → List Op) (pairs : ℕ →
   call_takes (calling.Recover n) q e old new a was all is same = call_lists n (sym e) (lists q n a old new all is same)
 
   -- and what a commit does
-  commit_takes : (c : CommitAll TranName) (old new : Session) (a : Answer) → ((m : ℕ) → AllSent m old.desk.ledgers) → AllThere new.desk.ledgers → CommitsAll c old new a → CommitTakes t c a (part_of old) (part_of new)
+  commit_takes : (c : CommitAll TranName) (old new : Session) (a : Answer) → ((m : ℕ) → AllSent m old.desk.ledgers) → AllThere new.desk.ledgers
+      → CommitsAll c old new a → CommitTakes t c a (part_of old) (part_of new)
   commit_takes c old new a sound all (refused why told e) = takes_none told (ap part_of e)
   commit_takes c old new a sound all (decided done may trace still keeps as_many told rounds appends) =
       let at = old.desk.ledgers in
@@ -246,7 +274,8 @@ module _ (settled : Settling) (t : ℕ) (ops : ℕ → List Op) (pairs : ℕ →
       })
 
   -- and a resolve
-  resolve_takes : (old new : Session) (a : Answer) → ((m : ℕ) → AllSent m old.desk.ledgers) → AllThere new.desk.ledgers → ResolvesLeft old new a → ResolveTakes t a (part_of old) (part_of new)
+  resolve_takes : (old new : Session) (a : Answer) → ((m : ℕ) → AllSent m old.desk.ledgers) → AllThere new.desk.ledgers → ResolvesLeft old new a
+      → ResolveTakes t a (part_of old) (part_of new)
   resolve_takes old new a sound all (left_refused why told e) = ends_none told (ap part_of e)
   resolve_takes old new a sound all (left_resolved outcomes may trace log still keeps as_many told in_turn) =
       let at = old.desk.ledgers in
@@ -265,13 +294,16 @@ module _ (settled : Settling) (t : ℕ) (ops : ℕ → List Op) (pairs : ℕ →
         scan = still;
       })
 
-  executes_takes : (x : ScriptAction) (old new : Session) (a : Answer) → ((m : ℕ) → AllSent m old.desk.ledgers) → AllThere old.desk.ledgers → AllThere new.desk.ledgers → Executes x old new a → Takes settled x t a (part_of old) (part_of new)
+  executes_takes : (x : ScriptAction) (old new : Session) (a : Answer) → ((m : ℕ) → AllSent m old.desk.ledgers) → AllThere old.desk.ledgers
+      → AllThere new.desk.ledgers → Executes x old new a → Takes settled x t a (part_of old) (part_of new)
   executes_takes (action.Call q) old new a sound was all is = call_takes q.call q refl old new a was all is.0 is.1
   executes_takes (action.CommitAll c) old new a sound was all is = commit_takes c old new a sound all is
   executes_takes action.Resolve old new a sound was all is = resolve_takes old new a sound all is
 
   -- line by line
-  carried_so_far : (first : State) → ((m : ℕ) → AllSent m first.0.desk.ledgers) → (tasks : List ScriptTask) (last : State) (runs : Chain HasDone first tasks last) → AreOf t tasks → AllThere last.0.desk.ledgers → Chain (TakesPart settled) (part_of first.0) (lines_in first tasks last runs) (part_of last.0)
+  carried_so_far : (first : State) → ((m : ℕ) → AllSent m first.0.desk.ledgers)
+      → (tasks : List ScriptTask) (last : State) (runs : Chain HasDone first tasks last) → AreOf t tasks → AllThere last.0.desk.ledgers
+      → Chain (TakesPart settled) (part_of first.0) (lines_in first tasks last runs) (part_of last.0)
   carried_so_far first sound tasks last (none xs l e f) own all = none [] (part_of l.0) refl (ap (λ (s : State). part_of s.0) f)
   carried_so_far first sound tasks last (more xs x now l before is) own all =
       let was = there_before now.0.desk.ledgers l.0.desk.ledgers (λ m. does_grow m x.action now.0 l.0 is.answer is.does) all in
@@ -280,14 +312,17 @@ module _ (settled : Settling) (t : ℕ) (ops : ℕ → List Op) (pairs : ℕ →
       (subst (λ u. Takes settled x.action u is.answer (part_of now.0) (part_of l.0)) (sym (last_of t xs x own)) (executes_takes x.action now.0 l.0 is.answer sound_now was all is.does.executes))
 
   -- all lines, and all entries
-  pub carried_all : (first : State) → ((m : ℕ) → sent_to first.0.desk.ledgers m ≡ []) → ((m : ℕ) → collected_from first.0.desk.ledgers m ≡ []) → first.0.desk.kept ≡ finmap.empty → (tasks : List ScriptTask) (last : State) (runs : Chain HasDone first tasks last) → AreOf t tasks
+  pub carried_all : (first : State) → ((m : ℕ) → sent_to first.0.desk.ledgers m ≡ []) → ((m : ℕ) → collected_from first.0.desk.ledgers m ≡ [])
+      → first.0.desk.kept ≡ finmap.empty → (tasks : List ScriptTask) (last : State) (runs : Chain HasDone first tasks last) → AreOf t tasks
       → ((m : ℕ) → sent_to last.0.desk.ledgers m ≡ ops m) → ((m : ℕ) → Begins (collected_from last.0.desk.ledgers m) (pairs m))
       → Chain (TakesPart settled) (new_part first.0.log.state first.0.scan) (lines_in first tasks last runs) (record { entries = own_entries; handles = last.0.desk.kept; log = last.0.log.state; scan = last.0.scan })
   carried_all first fresh uncollected unkept tasks last runs own sent collected =
       let at = last.0.desk.ledgers in
-      let sound : (m : ℕ) → AllSent m first.0.desk.ledgers = λ m k p there. absurd (nothing_there k p (ap (λ l. slice_get l k) (sym (uncollected m)) ∙ there)) in
+      let sound : (m : ℕ) → AllSent m first.0.desk.ledgers =
+      λ m k p there. absurd (nothing_there k p (ap (λ l. slice_get l k) (sym (uncollected m)) ∙ there)) in
       let all = carried_so_far first sound tasks last runs own (λ m. (([], sym (sent m) ∙ sym (append-nil (sent_to at m))), collected m)) in
-      let start : part_of first.0 ≡ new_part first.0.log.state first.0.scan = λ i. record { entries = λ m. take (length (fresh m i)) (own_entries m); handles = unkept i; log = first.0.log.state; scan = first.0.scan } in
+      let start : part_of first.0 ≡ new_part first.0.log.state first.0.scan =
+      λ i. record { entries = λ m. take (length (fresh m i)) (own_entries m); handles = unkept i; log = first.0.log.state; scan = first.0.scan } in
       let whole : (m : ℕ) → entries_so_far at m ≡ own_entries m = λ m.
       take_all (length (sent_to at m)) (own_entries m) (let sizes = ap (λ l. length l) (sent m) in omega (arith, sizes, many_entries t (ops m) (pairs m) (own_entries m) (fits m))) in
       subst (λ (p : Part). Chain (TakesPart settled) p (lines_in first tasks last runs) (record { entries = own_entries; handles = last.0.desk.kept; log = last.0.log.state; scan = last.0.scan })) start

@@ -5,14 +5,16 @@ use Rattle.xa_words.specs.declared.code.Code.{Code}
 use Rattle.xa_words.specs.declared.code.Code.TheVariants.{Done, Nota}
 use Rattle.xa_words.specs.declared.flags.Mode.{Mode}
 use Rattle.xa_words.specs.declared.request.Op.TheVariants.{Listed}
-use Rattle.xa_switch.specs.Scans.{Asking, Looks, begun, finds, passes, Scans, filled, ended, stopped, ScanView, start_of, place_at, IsInVain, RecoversFrom, RecoversAt, RecoversBy}
+use Rattle.xa_switch.specs.Scans.{Asking, Looks, begun, finds, passes, Scans, filled, ended, stopped, ScanView, start_of, place_at, IsInVain, RecoversFrom}
+use Rattle.xa_switch.specs.Scans.{RecoversAt, RecoversBy}
 use Rattle.xa_switch.specs.Scans.{Recovers}
 use Rattle.xa_switch.specs.Scans.Recovers.{unreached, stopped as stopped_at, told}
 
 -- what is asked over states D is asked over E, where P holds afterwards, and P held before
 module _ {D E : Type 0} (A : Asking D) (B : Asking E) (f : D → E) (P : D → Type 0)
     (step : (d e : D) (x : Option XidName) (c : Code) → A d (Listed x) e c → P e → P d × B (f d) (Listed x) (f e) c) where
-  looks_mapped : (room : ℕ) (xids : List XidName) (old : D) (k : ℕ) (xs : List XidName) (d : D) → Looks A room xids old k xs d → P d → P old × Looks B room xids (f old) k xs (f d)
+  looks_mapped : (room : ℕ) (xids : List XidName) (old : D) (k : ℕ) (xs : List XidName) (d : D) → Looks A room xids old k xs d → P d
+      → P old × Looks B room xids (f old) k xs (f d)
   looks_mapped room xids old k xs d begun p = (p, begun)
   looks_mapped room xids old k xs d (finds j ys e g x before short there asked) p =
       let s = step e g (Some x) Done asked p in
@@ -23,15 +25,18 @@ module _ {D E : Type 0} (A : Asking D) (B : Asking E) (f : D → E) (P : D → T
       let l = looks_mapped room xids old j ys e before s.0 in
       (l.0, passes j ys (f e) (f g) x l.1 short there s.1)
 
-  scans_mapped : (room : ℕ) (xids : List XidName) (old new : D) (found : List XidName) (r : Result ℕ Code) → Scans A room xids old new found r → P new → P old × Scans B room xids (f old) (f new) found r
-  scans_mapped room xids old new found r (filled looked looks full) p = let l = looks_mapped room xids old looked found new looks p in (l.0, filled looked l.1 full)
+  scans_mapped : (room : ℕ) (xids : List XidName) (old new : D) (found : List XidName) (r : Result ℕ Code) → Scans A room xids old new found r → P new
+      → P old × Scans B room xids (f old) (f new) found r
+  scans_mapped room xids old new found r (filled looked looks full) p =
+      let l = looks_mapped room xids old looked found new looks p in (l.0, filled looked l.1 full)
   scans_mapped room xids old new found r (ended looks) p = let l = looks_mapped room xids old (length xids) found new looks p in (l.0, ended l.1)
   scans_mapped room xids old new found r (stopped k d x why looks short there asked not_done not_nota) p =
       let s = step d new (Some x) why asked p in
       let l = looks_mapped room xids old k found d looks s.0 in
       (l.0, stopped k (f d) x why l.1 short there s.1 not_done not_nota)
 
-  recovers_mapped : (m : ℕ) (mode : Mode) (place : ℕ) (old : D) (z : ScanView) (xids : List XidName) (new : D) (z' : ScanView) (xids' : List XidName) (r : Result ℕ Code) → Recovers A m mode place old z xids new z' xids' r → P new → P old × Recovers B m mode place (f old) z xids (f new) z' xids' r
+  recovers_mapped : (m : ℕ) (mode : Mode) (place : ℕ) (old : D) (z : ScanView) (xids : List XidName) (new : D) (z' : ScanView) (xids' : List XidName) (r : Result ℕ Code)
+      → Recovers A m mode place old z xids new z' xids' r → P new → P old × Recovers B m mode place (f old) z xids (f new) z' xids' r
   recovers_mapped m mode place old z xids new z' xids' r (unreached why asked not_done same unwritten) p =
       let s = step old new None why asked p in (s.0, unreached why s.1 not_done same unwritten)
   recovers_mapped m mode place old z xids new z' xids' r (stopped_at mid found why asked scans same writes) p =
@@ -43,17 +48,22 @@ module _ {D E : Type 0} (A : Asking D) (B : Asking E) (f : D → E) (P : D → T
       let s = step old mid None Done asked l.0 in
       (s.0, told (f mid) found looked s.1 l.1 stands writes)
 
-  in_vain_mapped : (why : Code) (old : D) (z : ScanView) (xids : List XidName) (new : D) (z' : ScanView) (xids' : List XidName) (r : Result ℕ Code) → IsInVain why old z xids new z' xids' r → P new → P old × IsInVain why (f old) z xids (f new) z' xids' r
-  in_vain_mapped why old z xids new z' xids' r is p = (subst P is.state p, record { answer = is.answer; state = ap f is.state; scan = is.scan; written = is.written })
+  in_vain_mapped : (why : Code) (old : D) (z : ScanView) (xids : List XidName) (new : D) (z' : ScanView) (xids' : List XidName) (r : Result ℕ Code)
+      → IsInVain why old z xids new z' xids' r → P new → P old × IsInVain why (f old) z xids (f new) z' xids' r
+  in_vain_mapped why old z xids new z' xids' r is p =
+      (subst P is.state p, record { answer = is.answer; state = ap f is.state; scan = is.scan; written = is.written })
 
-  from_mapped : (start : Option ℕ) (m : ℕ) (mode : Mode) (old : D) (z : ScanView) (xids : List XidName) (new : D) (z' : ScanView) (xids' : List XidName) (r : Result ℕ Code) → RecoversFrom A start m mode old z xids new z' xids' r → P new → P old × RecoversFrom B start m mode (f old) z xids (f new) z' xids' r
+  from_mapped : (start : Option ℕ) (m : ℕ) (mode : Mode) (old : D) (z : ScanView) (xids : List XidName) (new : D) (z' : ScanView) (xids' : List XidName) (r : Result ℕ Code)
+      → RecoversFrom A start m mode old z xids new z' xids' r → P new → P old × RecoversFrom B start m mode (f old) z xids (f new) z' xids' r
   from_mapped None m mode old z xids new z' xids' r is p = in_vain_mapped _ old z xids new z' xids' r is p
   from_mapped (Some place) m mode old z xids new z' xids' r is p = recovers_mapped m mode place old z xids new z' xids' r is p
 
-  at_mapped : (there : Bool) (m : ℕ) (mode : Mode) (old : D) (z : ScanView) (xids : List XidName) (new : D) (z' : ScanView) (xids' : List XidName) (r : Result ℕ Code) → RecoversAt A there m mode old z xids new z' xids' r → P new → P old × RecoversAt B there m mode (f old) z xids (f new) z' xids' r
+  at_mapped : (there : Bool) (m : ℕ) (mode : Mode) (old : D) (z : ScanView) (xids : List XidName) (new : D) (z' : ScanView) (xids' : List XidName) (r : Result ℕ Code)
+      → RecoversAt A there m mode old z xids new z' xids' r → P new → P old × RecoversAt B there m mode (f old) z xids (f new) z' xids' r
   at_mapped false m mode old z xids new z' xids' r is p = in_vain_mapped _ old z xids new z' xids' r is p
   at_mapped true m mode old z xids new z' xids' r is p = from_mapped (start_of mode (place_at z m)) m mode old z xids new z' xids' r is p
 
-  pub by_mapped : (there : Bool) (mode : Result Mode Code) (m : ℕ) (old : D) (z : ScanView) (xids : List XidName) (new : D) (z' : ScanView) (xids' : List XidName) (r : Result ℕ Code) → RecoversBy A there mode m old z xids new z' xids' r → P new → P old × RecoversBy B there mode m (f old) z xids (f new) z' xids' r
+  pub by_mapped : (there : Bool) (mode : Result Mode Code) (m : ℕ) (old : D) (z : ScanView) (xids : List XidName) (new : D) (z' : ScanView) (xids' : List XidName) (r : Result ℕ Code)
+      → RecoversBy A there mode m old z xids new z' xids' r → P new → P old × RecoversBy B there mode m (f old) z xids (f new) z' xids' r
   by_mapped there (Err why) m old z xids new z' xids' r is p = in_vain_mapped why old z xids new z' xids' r is p
   by_mapped there (Ok mode) m old z xids new z' xids' r is p = at_mapped there m mode old z xids new z' xids' r is p

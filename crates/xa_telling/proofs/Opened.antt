@@ -40,16 +40,20 @@ fresh_collected plan (b ∷ flags) (suc i) = fresh_collected plan flags i
 
 -- nor collected from it
 pub new_collected : (plan : ℕ) (flags : List Bool) (m : ℕ) → collected_from (new_ledgers plan flags) m ≡ []
-new_collected plan flags m = none_either (is_known (new_ledgers plan flags) m) (ledger (new_ledgers plan flags) m).collected (fresh_collected plan flags (m - 1))
+new_collected plan flags m =
+    none_either (is_known (new_ledgers plan flags) m) (ledger (new_ledgers plan flags) m).collected (fresh_collected plan flags (m - 1))
 
-pub opened_threads : (s : Content) (n : ℕ) (tables : ℕ → Tables) (desks : List DeskView) (workers : List WorkerView) → AreOpened s n tables desks workers → length desks ≡ threads_of s
+pub opened_threads : (s : Content) (n : ℕ) (tables : ℕ → Tables) (desks : List DeskView) (workers : List WorkerView) → AreOpened s n tables desks workers
+    → length desks ≡ threads_of s
 opened_threads s n tables desks workers is = is.opened.threads ∙ is.said.numbers.threads
 
-pub opened_managers : (s : Content) (n : ℕ) (tables : ℕ → Tables) (desks : List DeskView) (workers : List WorkerView) → AreOpened s n tables desks workers → length workers ≡ managers_of s
+pub opened_managers : (s : Content) (n : ℕ) (tables : ℕ → Tables) (desks : List DeskView) (workers : List WorkerView) → AreOpened s n tables desks workers
+    → length workers ≡ managers_of s
 opened_managers s n tables desks workers is = is.opened.managers ∙ is.said.managers
 
 -- the desk at place k is that of thread k + 1
-pub opened_thread : (s : Content) (n : ℕ) (tables : ℕ → Tables) (desks : List DeskView) (workers : List WorkerView) → AreOpened s n tables desks workers → (k : ℕ) (d : DeskView) → slice_get desks k ≡ Some d → d.thread ≡ k + 1
+pub opened_thread : (s : Content) (n : ℕ) (tables : ℕ → Tables) (desks : List DeskView) (workers : List WorkerView) → AreOpened s n tables desks workers
+    → (k : ℕ) (d : DeskView) → slice_get desks k ≡ Some d → d.thread ≡ k + 1
 opened_thread s n tables desks workers is k d at = let new : IsNewDesk is.setup k d = is.opened.desks k d at in ap (λ (x : DeskView). x.thread) new.made
 
 -- ---- the workers
@@ -60,9 +64,11 @@ over_managers f many k x at =
     let list = map f (range_with_len 1 many) in
     let within = slice_get_within list k x at in
     let size = length-map-range_with_len f 1 many in
-    some_same x (slice_index_or list k x) (sym at ∙ slice_get-get_or list k x within) ∙ get_or-map-range_with_len f 1 many k (k + 1) x (omega (arith, within, size)) (omega arith)
+    some_same x (slice_index_or list k x) (sym at ∙ slice_get-get_or list k x within)
+    ∙ get_or-map-range_with_len f 1 many k (k + 1) x (omega (arith, within, size)) (omega arith)
 
-pub opened_first : (s : Content) (n : ℕ) (tables : ℕ → Tables) (p : Setup) → IsSetupOf s n tables p → (k : ℕ) (w : WorkerView) → IsNewWorker p k w → w.first ≡ tables (k + 1)
+pub opened_first : (s : Content) (n : ℕ) (tables : ℕ → Tables) (p : Setup) → IsSetupOf s n tables p → (k : ℕ) (w : WorkerView) → IsNewWorker p k w
+    → w.first ≡ tables (k + 1)
 opened_first s n tables p is k w new =
     ap (λ (x : WorkerView). x.first) new.made ∙ over_managers tables (managers_of s) k new.first (ap (λ l. slice_get l k) (sym is.first) ∙ new.begins)
 
@@ -74,7 +80,8 @@ map_map f g (x ∷ xs) = ap (λ l. f (g x) ∷ l) (map_map f g xs)
 
 says_many : (s : Content) (p : Plan) → IsPlanOf s p → length p.managers.items ≡ managers_of s
 says_many s p is =
-    let same : length (map plan_says p.managers.items) ≡ managers_of s = ap (λ l. length l) is.managers ∙ length-map-range_with_len (script_says s) 1 (managers_of s) in
+    let same : length (map plan_says p.managers.items) ≡ managers_of s =
+    ap (λ l. length l) is.managers ∙ length-map-range_with_len (script_says s) 1 (managers_of s) in
     rw length-map at same
 
 -- what is made by the script's plan is what the script says

@@ -1,5 +1,6 @@
 -- What the threads and the managers of a run tell once they are settled.
-use Rattle.std.proofs.Common.{◌≡◌, ◌≢◌, ℕ, ◌+◌, ◌-◌, ◌<◌, ◌≤◌, ⊎_elim, zero, suc, List, [], ◌∷◌, length, map, Some, None, option_map, sym, refl, ap, ◌∙◌, subst, arith, ◌++◌, Option, inl, inr}
+use Rattle.std.proofs.Common.{◌≡◌, ◌≢◌, ℕ, ◌+◌, ◌-◌, ◌<◌, ◌≤◌, ⊎_elim, zero, suc, List, [], ◌∷◌, length, map, Some, None, option_map, sym, refl, ap, ◌∙◌, subst}
+use Rattle.std.proofs.Common.{arith, ◌++◌, Option, inl, inr}
 use Rattle.std.specs.Prelude.{slice_get}
 use Rattle.std.specs.List.{range_with_len, slice_index_or}
 use Rattle.std.specs.FinMap as finmap
@@ -22,7 +23,7 @@ use Rattle.xa_switch.specs.OpenedPieces.{IsNewDesk, IsNewWorker}
 use Rattle.xa_switch.specs.Belonging.{DeskSeat, seat_of_desk}
 use Rattle.xa_switch.specs.Settling.{Settling, ThreadPart, ManagerPart, IsSettled, find_thread, ledgers_in, sent, collected, journal}
 use Rattle.xa_switch.specs.Closing.{thread_part, manager_part, settling}
-use Rattle.xa_driver.specs.Log.{LogState}
+use Rattle.xa_log.specs.Log.{LogState}
 use Rattle.xa_grammar.specs.Steps.{ScriptTask, ScriptStep}
 use Rattle.xa_grammar.specs.Content.{Content, tasks_of, threads_of, managers_of}
 use Rattle.xa_session.specs.declared.session.Session.{Session}
@@ -49,7 +50,8 @@ use Rattle.xa_telling.proofs.Tasks.{tasks_are_of, no_tasks}
 
 -- ---- as a thread goes on
 
-runs_go : (first : Session × List Told) (tasks : List ScriptTask) (last : Session × List Told) → Chain HasDone first tasks last → seat_of_desk last.0.desk ≡ seat_of_desk first.0.desk
+runs_go : (first : Session × List Told) (tasks : List ScriptTask) (last : Session × List Told) → Chain HasDone first tasks last
+    → seat_of_desk last.0.desk ≡ seat_of_desk first.0.desk
 runs_go first tasks last (none xs l e f) = ap (λ (s : Session × List Told). seat_of_desk s.0.desk) f
 runs_go first tasks last (more xs x now l before is) = is.does.goes_on.seat ∙ runs_go first xs now before
 
@@ -60,7 +62,8 @@ are_left : (settled : Settling) (t : ℕ) (last : DeskView) (e : EndedView) (out
     → (ops : ℕ → List Op) (pairs : ℕ → List (ℕ × Code)) → ((m : ℕ) → Agrees t (ops m) (pairs m) (entries_of t (journal settled m)))
     → ((m : ℕ) → pairs m ≡ collected_from e.ledgers m) → AreLeft settled t last.kept outstanding
 are_left settled t last e outstanding is ops pairs fits collected =
-    let h : HaveEnded last.handles last is.emptied outstanding = numbers_ended last (range_with_len 1 last.handles) (is.emptied, outstanding) is.collects last.handles refl in
+    let h : HaveEnded last.handles last is.emptied outstanding =
+    numbers_ended last (range_with_len 1 last.handles) (is.emptied, outstanding) is.collects last.handles refl in
     record {
       coded = λ k d below.
           let one = h.coded k d below in
@@ -95,7 +98,8 @@ log_there b left k x at = sym (ap (log_in (b.logs (suc k))) at)
 no_log_there : (b : Beginning) (left : List Session) (k : ℕ) → length left ≤ k → b.logs (suc k) ≡ log_left b left (suc k)
 no_log_there b left k past = sym (ap (log_in (b.logs (suc k))) (slice_get_past left k past))
 
-module _ (s : Content) (b : Beginning) (steps : List ScriptStep) (answers : List Told) (sessions left : List Session) (workers : List WorkerView) (ended : List EndedView) (done : List Served)
+module _ (s : Content) (b : Beginning) (steps : List ScriptStep) (answers : List Told) (sessions left : List Session) (workers : List WorkerView)
+    (ended : List EndedView) (done : List Served)
     (r : Ran s b steps answers sessions left workers ended done) where
   abbrev setup : Setup
   setup = r.opened.setup
@@ -107,7 +111,8 @@ module _ (s : Content) (b : Beginning) (steps : List ScriptStep) (answers : List
       ∙ ap (λ (x : DeskSeat). x.thread) (c.ends.goes_on.seat ∙ runs_go (x, []) (tasks_of x.desk.thread steps) (y, answers_to x.desk.thread answers) c.runs)
 
   -- the thread of an ended desk, and the opened worker of one that has run
-  thread_of_ended : (k : ℕ) (e : EndedView) → slice_get ended k ≡ Some e → (x : Session) × (slice_get sessions k ≡ Some x) × (y : Session) × Comes steps answers x y e
+  thread_of_ended : (k : ℕ) (e : EndedView) → slice_get ended k ≡ Some e
+      → (x : Session) × (slice_get sessions k ≡ Some x) × (y : Session) × Comes steps answers x y e
   thread_of_ended k e at =
       let within = slice_get_within ended k e at in
       let many = r.many_ended in
@@ -207,10 +212,12 @@ module _ (s : Content) (b : Beginning) (steps : List ScriptStep) (answers : List
         let t : x.desk.thread ≡ suc k = omega (arith, own) in
         let begins = r.begins k x at in
         let next : k + 1 ≡ suc k = omega arith in
-        let found : find_thread x.desk.thread (map thread_part ended) ≡ Some (thread_part e.0) = ap (λ n. find_thread n (map thread_part ended)) own ∙ found_thread k e.0 e.1 in
+        let found : find_thread x.desk.thread (map thread_part ended) ≡ Some (thread_part e.0) =
+        ap (λ n. find_thread n (map thread_part ended)) own ∙ found_thread k e.0 e.1 in
         let sent_so : (m : ℕ) → sent settled x.desk.thread m ≡ sent_to e.0.ledgers m = λ m. ap (λ o. sent_to (ledgers_in o) m) found in
         let collected_so : (m : ℕ) → collected settled x.desk.thread m ≡ collected_from e.0.ledgers m = λ m. ap (λ o. collected_from (ledgers_in o) m) found in
-        let fits : (m : ℕ) → Agrees x.desk.thread (sent settled x.desk.thread m) (collected settled x.desk.thread m) (entries_of x.desk.thread (journal settled m)) = λ m. agreed_fits x.desk.thread (sent settled x.desk.thread m) (collected settled x.desk.thread m) (journal settled m) (is.agree x.desk.thread m) in
+        let fits : (m : ℕ) → Agrees x.desk.thread (sent settled x.desk.thread m) (collected settled x.desk.thread m) (entries_of x.desk.thread (journal settled m)) =
+        λ m. agreed_fits x.desk.thread (sent settled x.desk.thread m) (collected settled x.desk.thread m) (journal settled m) (is.agree x.desk.thread m) in
         let tasks = tasks_of x.desk.thread steps in
         let last : Session × List Told = (y.0, answers_to x.desk.thread answers) in
         let log : x.log.state ≡ b.logs (suc k) = begins.log ∙ ap b.logs next in

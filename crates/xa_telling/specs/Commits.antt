@@ -6,7 +6,7 @@ use Rattle.xa_words.specs.declared.code.Code.TheVariants.{RmFail}
 use Rattle.xa_words.specs.declared.request.Op.{Op}
 use Rattle.xa_worker.specs.Journal.{Entry, codes_in}
 use Rattle.xa_driver.specs.declared.done.Done.{Done as Outcome}
-use Rattle.xa_driver.specs.Log.{record_of}
+use Rattle.xa_log.specs.Log.{record_of}
 use Rattle.xa_driver.specs.Trace.{Commits}
 use Rattle.xa_words.specs.Tran.{TranName}
 use Rattle.xa_grammar.specs.declared.step.CommitAll.{CommitAll}

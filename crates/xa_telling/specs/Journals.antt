@@ -17,7 +17,7 @@ use Rattle.xa_driver.specs.declared.done.Done.{Done as Outcome}
 use Rattle.xa_driver.specs.declared.done.Ending.TheVariants.{Committed}
 use Rattle.xa_driver.specs.Commits.{is_commit}
 use Rattle.xa_driver.specs.Decision.{is_no}
-use Rattle.xa_driver.specs.Log.{LogState}
+use Rattle.xa_log.specs.Log.{LogState}
 use Rattle.xa_words.specs.Xid.{XidName}
 use Rattle.xa_words.specs.Tran.{TranName}
 use Rattle.xa_grammar.specs.declared.step.Called.{Called}

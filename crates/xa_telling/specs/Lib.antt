@@ -5,5 +5,4 @@ pub mod Commits
 pub mod Resolves
 pub mod Journals
 pub mod ToldOpenings
-pub mod Outcomes
 pub mod Runs

@@ -9,7 +9,7 @@ use Rattle.xa_switch.specs.Settling.{Settling, IsSettled}
 use Rattle.xa_switch.specs.Fates.{history}
 use Rattle.xa_switch.specs.Scans.{ScanView, no_scan}
 use Rattle.xa_switch.specs.Recovery.{IsScanOf}
-use Rattle.xa_driver.specs.Log.{LogState, no_records}
+use Rattle.xa_log.specs.Log.{LogState, no_records}
 use Rattle.xa_grammar.specs.declared.script.Declared.{Declared}
 use Rattle.xa_grammar.specs.declared.step.Step.TheVariants as step
 use Rattle.xa_grammar.specs.Steps.{ScriptStep}

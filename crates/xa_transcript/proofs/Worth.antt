@@ -1,5 +1,6 @@
 -- Each declared key has a value, whatever its manager has carried out.
-use Rattle.std.specs.Prelude.{◌≡◌, ℕ, ℤ, ◌+ℤ◌, ◌+◌, ◌-◌, ◌≤◌, zero, suc, pos, ◌<◌, ◌==◌, Bool, true, false, cond, ◌||◌, Option, None, Some, is_some, option_map, List, [], ◌∷◌, ◌++◌, length, map, filter, slice_get, refl}
+use Rattle.std.specs.Prelude.{◌≡◌, ℕ, ℤ, ◌+ℤ◌, ◌+◌, ◌-◌, ◌≤◌, zero, suc, pos, ◌<◌, ◌==◌, Bool, true, false, cond, ◌||◌, Option, None, Some, is_some, option_map}
+use Rattle.std.specs.Prelude.{List, [], ◌∷◌, ◌++◌, length, map, filter, slice_get, refl}
 use Rattle.std.proofs.Common.{sym, ap, ◌∙◌, arith}
 use Rattle.std.specs.List.{list_any, slice_index_or}
 use Rattle.std.specs.FinMap as finmap
@@ -30,7 +31,8 @@ is_listed b d e keys =
     list_any (λ k. key_eq d.key k) (map (λ (f : List ℕ × ℤ). f.0) (map (λ (f : List ℕ × ℕ). (f.0, pos f.1)) (map {B = List ℕ × ℕ} (λ (f : Declared). (f.key, f.value)) (cond b (e ∷ rest) rest))))
 
 -- a key that is declared is among them
-is_among : (keys : List Declared) (i : ℕ) (d : Declared) → i < length keys → d ≡ slice_index_or keys i d → list_any (λ k. key_eq d.key k) (names d.manager keys) ≡ true
+is_among : (keys : List Declared) (i : ℕ) (d : Declared) → i < length keys → d ≡ slice_index_or keys i d
+    → list_any (λ k. key_eq d.key k) (names d.manager keys) ≡ true
 is_among [] i d below is = absurd (omega (arith, below))
 is_among (e ∷ keys) zero d below is =
     let same : (e.manager == d.manager) ≡ true = eq-eqb e.manager d.manager (ap (λ (x : Declared). x.manager) (sym is)) in
@@ -49,15 +51,19 @@ any_alike p q alike [] = refl
 any_alike p q alike (x ∷ xs) = λ i. alike x i || any_alike p q alike xs i
 
 -- so it has a value at the opening
-has_value : (s : Content) (i : ℕ) (d : Declared) → i < length s.keys → d ≡ slice_index_or s.keys i d → is_some (finmap.get (opened s d.manager).values d.key) ≡ true
+has_value : (s : Content) (i : ℕ) (d : Declared) → i < length s.keys → d ≡ slice_index_or s.keys i d
+    → is_some (finmap.get (opened s d.manager).values d.key) ≡ true
 has_value s i d below is =
     let entries = map (λ (e : List ℕ × ℕ). (e.0, pos e.1)) (accounts_of d.manager s.keys) in
-    ap is_some (get-from_entries key_cmp_total entries d.key) ∙ is_some-find key_cmp d.key entries ∙ sym (any_alike (λ k. key_eq d.key k) (eq_by_cmp key_cmp d.key) (key_eq-by_cmp d.key) (names d.manager s.keys)) ∙ is_among s.keys i d below is
+    ap is_some (get-from_entries key_cmp_total entries d.key) ∙ is_some-find key_cmp d.key entries
+    ∙ sym (any_alike (λ k. key_eq d.key k) (eq_by_cmp key_cmp d.key) (key_eq-by_cmp d.key) (names d.manager s.keys)) ∙ is_among s.keys i d below is
 
 -- so it has one after the histories of any openings
-pub told : (s : Content) (hs : List History) (i : ℕ) (d : Declared) (value : Option ℕ) → i < length s.keys → d ≡ slice_index_or s.keys i d → option_map pos value ≡ value_over d.key hs (opened s d.manager) → is_some value ≡ true
+pub told : (s : Content) (hs : List History) (i : ℕ) (d : Declared) (value : Option ℕ) → i < length s.keys → d ≡ slice_index_or s.keys i d
+    → option_map pos value ≡ value_over d.key hs (opened s d.manager) → is_some value ≡ true
 told s hs i d value below is e =
-    sym (is_some-map (λ n. pos n) value) ∙ ap is_some e ∙ is_some-map (λ v. v +ℤ added_over d.key (λ x. Absent) hs (opened s d.manager)) (finmap.get (opened s d.manager).values d.key) ∙ has_value s i d below is
+    sym (is_some-map (λ n. pos n) value) ∙ ap is_some e
+    ∙ is_some-map (λ v. v +ℤ added_over d.key (λ x. Absent) hs (opened s d.manager)) (finmap.get (opened s d.manager).values d.key) ∙ has_value s i d below is
 
 -- the key has its value after any openings that left the settled one its managers' tables
 abbrev pub WorthAfter : Content → Settling → Declared → Type 0
@@ -71,10 +77,13 @@ found_manager s tables managers is m low high =
     let p = got managers (m - 1) (omega (arith, low, high, many)) in
     let place : 0 + (m - 1) + 1 ≡ m = omega (arith, low) in
     let next : m - 1 + 1 ≡ m = omega (arith, low) in
-    let found : find_manager m managers ≡ Some p.0 = ap (λ n. find_manager n managers) (sym place) ∙ find_numbered (λ (q : ManagerPart). q.number) 0 managers (λ j q at. let number = is.numbers j q at in omega (arith, number)) (m - 1) p.0 p.1 in
+    let found : find_manager m managers ≡ Some p.0 =
+    ap (λ n. find_manager n managers) (sym place)
+    ∙ find_numbered (λ (q : ManagerPart). q.number) 0 managers (λ j q at. let number = is.numbers j q at in omega (arith, number)) (m - 1) p.0 p.1 in
     (p.0, found, is.first (m - 1) p.0 p.1 ∙ ap tables next, p.1)
 
-pub first_is : (s : Content) (tables : ℕ → Tables) (settled : Settling) → AreOfScript s tables settled.managers → (m : ℕ) → 1 ≤ m → m ≤ managers_of s → first_of settled m ≡ Some (tables m)
+pub first_is : (s : Content) (tables : ℕ → Tables) (settled : Settling) → AreOfScript s tables settled.managers → (m : ℕ) → 1 ≤ m → m ≤ managers_of s
+    → first_of settled m ≡ Some (tables m)
 first_is s tables settled is m low high =
     let p = found_manager s tables settled.managers is m low high in
     ap (option_map (λ (q : ManagerPart). q.first)) p.1 ∙ ap (λ T. Some T) p.2

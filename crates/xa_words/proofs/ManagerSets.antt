@@ -1,10 +1,25 @@
--- A set of managers with one more.
-use Rattle.std.specs.Prelude.{◌≡◌, ℕ, ◌+◌, ◌-◌, ◌<◌, ◌≤◌, ◌==◌, ◌||◌, Bool, true, false, List, [], ◌∷◌, length, slice_set, get_or}
+-- A set of managers by a test, and one with one more.
+use Rattle.std.specs.Prelude.{◌≡◌, ℕ, zero, suc, ◌+◌, ◌-◌, ◌<◌, ◌≤◌, ◌==◌, ◌||◌, Bool, true, false, List, [], ◌∷◌, length, slice_set, get_or}
 use Rattle.std.proofs.Common.{refl, sym, ◌∙◌, subst, arith}
 use Rattle.std.proofs.Math.Bool.{or-false, or-true}
 use Rattle.std.proofs.lemmas.Bool.{eqb-true}
 use Rattle.std.proofs.lemmas.List.{get_or-set_same, get_or-set_other, length-set}
+use Rattle.xa_base.specs.declared.limits.TheConstants.{MOST_MANAGERS}
+use Rattle.xa_base.specs.Lists.{IsUpTo}
 use Rattle.xa_words.specs.ManagerSet.{is_in, set_of, with_manager}
+
+-- the set of the managers that a test tells of has just these
+pub in_set_of : (test : ℕ → Bool) (m : ℕ) → IsUpTo MOST_MANAGERS m → is_in (set_of test) m ≡ test m
+in_set_of test zero up = absurd (omega (arith, up.0))
+in_set_of test (suc zero) up = refl
+in_set_of test (suc (suc zero)) up = refl
+in_set_of test (suc (suc (suc zero))) up = refl
+in_set_of test (suc (suc (suc (suc zero)))) up = refl
+in_set_of test (suc (suc (suc (suc (suc zero))))) up = refl
+in_set_of test (suc (suc (suc (suc (suc (suc zero)))))) up = refl
+in_set_of test (suc (suc (suc (suc (suc (suc (suc zero))))))) up = refl
+in_set_of test (suc (suc (suc (suc (suc (suc (suc (suc zero)))))))) up = refl
+in_set_of test (suc (suc (suc (suc (suc (suc (suc (suc (suc k))))))))) up = absurd (let high = up.1 in omega (arith, high))
 
 -- a list of eight is told by its places
 eight : (set : List Bool) → length set ≡ 8 → set ≡ set_of (is_in set)
@@ -19,7 +34,8 @@ place_with set m k low within =
           let same : m ≡ k + 1 = eqb-true m (k + 1) t in
           let here : k ≡ m - 1 = omega (arith, same) in
           subst (λ n. get_or (slice_set set n true) k false ≡ (get_or set k false || true)) here (get_or-set_same set k true false within ∙ sym (or-true (get_or set k false)))
-      | false ↦ λ f. get_or-set_other set (m - 1) k true false (λ same. let t : (m == (k + 1)) ≡ true = grind (arith, same, low) in let no : ⊥ = cc in no) ∙ sym (or-false (get_or set k false))
+      | false ↦ λ f. get_or-set_other set (m - 1) k true false (λ same. let t : (m == (k + 1)) ≡ true = grind (arith, same, low) in let no : ⊥ = cc in no)
+          ∙ sym (or-false (get_or set k false))
     ] refl
 
 -- the set with manager m

@@ -34,6 +34,13 @@ impl ManagerSet {
         }
     }
 
+    /// The managers that these places tell of: place m - 1 for manager m.
+    pub fn of(places: [bool; MOST_MANAGERS]) -> ManagerSet
+        ensures { result ≡ places }
+    {
+        ManagerSet { places }
+    }
+
     /// Whether the manager is in it.
     pub fn contains(&self, manager: u32) -> bool
         ensures { result ≡ is_in self.now manager }

@@ -1,5 +1,6 @@
 -- Lanes of completions, place by place.
-use Rattle.std.proofs.Common.{◌≡◌, ◌≢◌, ⊎_elim, ℕ, ◌<◌, ◌==◌, Bool, true, false, cond, List, [], ◌∷◌, ◌++◌, length, map, Option, Some, None, refl, sym, ap, ◌∙◌, subst, eq-eqb, ne_eqb}
+use Rattle.std.proofs.Common.{◌≡◌, ◌≢◌, ⊎_elim, ℕ, ◌<◌, ◌==◌, Bool, true, false, cond, List, [], ◌∷◌, ◌++◌, length, map, Option, Some, None, refl, sym, ap, ◌∙◌}
+use Rattle.std.proofs.Common.{subst, eq-eqb, ne_eqb}
 use Rattle.std.specs.Prelude.{MatchBool}
 use Rattle.std.proofs.lemmas.Bool.Decides.{eqb_tells}
 use Rattle.std.proofs.lemmas.List.{append-nil, length-map}
@@ -17,11 +18,13 @@ same_eqb a b c d f g =
 abbrev nothing : List Completion
 nothing = []
 
-sent_at-each : (ss : List Answering) (i : ℕ) (c : Completion) → i < length ss → (k : ℕ) → sent_at k (at_place i (with_item c) ss) ≡ sent_at k ss ++ cond (i == k) (c ∷ []) nothing
+sent_at-each : (ss : List Answering) (i : ℕ) (c : Completion) → i < length ss → (k : ℕ)
+    → sent_at k (at_place i (with_item c) ss) ≡ sent_at k ss ++ cond (i == k) (c ∷ []) nothing
 sent_at-each ss i c h k =
     ⊎_elim
     (λ (x : ((i == k) ≡ true) × (i ≡ k)).
-    subst (λ j. sent_at j (at_place i (with_item c) ss) ≡ sent_at j ss ++ c ∷ []) x.1 (sent_at-item i c ss h) ∙ ap (λ b. sent_at k ss ++ cond b (c ∷ []) nothing) (sym x.0))
+    subst (λ j. sent_at j (at_place i (with_item c) ss) ≡ sent_at j ss ++ c ∷ []) x.1 (sent_at-item i c ss h)
+    ∙ ap (λ b. sent_at k ss ++ cond b (c ∷ []) nothing) (sym x.0))
     (λ (x : ((i == k) ≡ false) × (i ≢ k)).
     sent_at-other k i c ss (λ e. x.1 (sym e)) ∙ sym (append-nil (sent_at k ss)) ∙ ap (λ b. sent_at k ss ++ cond b (c ∷ []) nothing) (sym x.0))
     (eqb_tells i k)
@@ -59,12 +62,14 @@ pub lanes-still : (o o' : Outgoing) → StillFull o o' → SameLanes o.senders o
 lanes-still o o' f = ap (λ (x : Outgoing). map bare x.senders) f.rest ∙ lanes-full o.senders f.place
 
 -- one more completion was sent, or waits
-pub put-puts : (o : Outgoing) (i : ℕ) (c : Completion) (o' : Outgoing) → i < length o.senders → o.waiting ≡ None → Puts o i c o' → (k : ℕ) → put_to k o' ≡ put_to k o ++ cond (i == k) (c ∷ []) nothing
+pub put-puts : (o : Outgoing) (i : ℕ) (c : Completion) (o' : Outgoing) → i < length o.senders → o.waiting ≡ None → Puts o i c o' → (k : ℕ)
+    → put_to k o' ≡ put_to k o ++ cond (i == k) (c ∷ []) nothing
 put-puts o i c o' h none p k =
     let here : put_to k o ≡ sent_at k o.senders = ap (λ w. sent_at k o.senders ++ waiting_at k w) none ∙ append-nil (sent_at k o.senders) in
     ⊎_elim
     (λ (e : o' ≡ record o { senders = at_place i (with_item c) o.senders }).
-    ap (put_to k) e ∙ ap (λ w. sent_at k (at_place i (with_item c) o.senders) ++ waiting_at k w) none ∙ append-nil (sent_at k (at_place i (with_item c) o.senders)) ∙ sent_at-each o.senders i c h k ∙ ap (λ xs. xs ++ cond (i == k) (c ∷ []) nothing) (sym here))
+    ap (put_to k) e ∙ ap (λ w. sent_at k (at_place i (with_item c) o.senders) ++ waiting_at k w) none
+    ∙ append-nil (sent_at k (at_place i (with_item c) o.senders)) ∙ sent_at-each o.senders i c h k ∙ ap (λ xs. xs ++ cond (i == k) (c ∷ []) nothing) (sym here))
     (λ (e : o' ≡ record { senders = at_place i with_full o.senders; waiting = Some (i, c) }).
     ap (put_to k) e ∙ ap (λ xs. xs ++ cond (i == k) (c ∷ []) nothing) (sent_at-full k i o.senders ∙ sym here))
     p
@@ -89,10 +94,12 @@ lanes_flush true o o' e = ap (λ (x : Outgoing). map bare x.senders) e ∙ lanes
 lanes_flush false o o' f = lanes-still o o' f
 
 -- the completion that waited was sent
-pub put-sent : (ss ts : List Answering) (w : Option (ℕ × Completion)) (i : ℕ) (c : Completion) → w ≡ Some (i, c) → i < length ss → ts ≡ at_place i (with_item c) ss → (k : ℕ) → put_to k (record { senders = ts; waiting = None }) ≡ put_to k (record { senders = ss; waiting = w })
+pub put-sent : (ss ts : List Answering) (w : Option (ℕ × Completion)) (i : ℕ) (c : Completion) → w ≡ Some (i, c) → i < length ss
+    → ts ≡ at_place i (with_item c) ss → (k : ℕ) → put_to k (record { senders = ts; waiting = None }) ≡ put_to k (record { senders = ss; waiting = w })
 put-sent ss ts w i c e h s k =
     append-nil (sent_at k ts) ∙ ap (sent_at k) s ∙ sent_at-each ss i c h k ∙ ap (λ x. sent_at k ss ++ waiting_at k x) (sym e)
 
 -- it met a full moment
-pub put-full : (ss ts : List Answering) (w : Option (ℕ × Completion)) (i : ℕ) → ts ≡ at_place i with_full ss → (k : ℕ) → put_to k (record { senders = ts; waiting = w }) ≡ put_to k (record { senders = ss; waiting = w })
+pub put-full : (ss ts : List Answering) (w : Option (ℕ × Completion)) (i : ℕ) → ts ≡ at_place i with_full ss → (k : ℕ)
+    → put_to k (record { senders = ts; waiting = w }) ≡ put_to k (record { senders = ss; waiting = w })
 put-full ss ts w i s k = ap (λ x. x ++ waiting_at k w) (ap (sent_at k) s ∙ sent_at-full k i ss)

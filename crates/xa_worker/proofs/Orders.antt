@@ -20,4 +20,5 @@ left_threaded t [] = refl
 left_threaded t (e ∷ journal) = ap (λ l. cond (e.0.thread == t) (e.0 ∷ l) l) (left_threaded t journal)
 
 pub ordered : (d : Served) → IsServed d → IsOrdered d
-ordered d h s = sym (left_threaded (s + 1) d.journal) ∙ ap (left_of (s + 1)) (sym h.taken) ∙ left_numbered s (items_in d.receiver.taken) ∙ left_is s d.receiver.taken
+ordered d h s =
+    sym (left_threaded (s + 1) d.journal) ∙ ap (left_of (s + 1)) (sym h.taken) ∙ left_numbered s (items_in d.receiver.taken) ∙ left_is s d.receiver.taken

@@ -1,5 +1,6 @@
 -- What was taken of a lane, with one parcel more.
-use Rattle.std.proofs.Common.{◌≡◌, ◌≢◌, ⊎_elim, ℕ, ◌+◌, ◌<◌, ◌==◌, Bool, true, false, ◌||◌, cond, List, [], ◌∷◌, ◌++◌, length, map, get_or, Option, Some, None, refl, sym, ap, ◌∙◌, subst, arith}
+use Rattle.std.proofs.Common.{◌≡◌, ◌≢◌, ⊎_elim, ℕ, ◌+◌, ◌<◌, ◌==◌, Bool, true, false, ◌||◌, cond, List, [], ◌∷◌, ◌++◌, length, map, get_or, Option, Some, None}
+use Rattle.std.proofs.Common.{refl, sym, ap, ◌∙◌, subst, arith}
 use Rattle.std.proofs.Math.ListN.{set}
 use Rattle.std.proofs.Math.Bool.{or-false, or-true}
 use Rattle.std.proofs.lemmas.Bool.Decides.{eqb_tells}
@@ -37,7 +38,8 @@ module _ {T : Type 0} where
       ∙ elim (s == p) as (λ b. (has_ended p taken || has_mark (cond b (None ∷ []) no_marks)) ≡ (has_ended p taken || b)) [ true ↦ refl | false ↦ refl ]
 
   -- the flags of the senders, one more set
-  pub marked_end : (marks : List Bool) (taken : List (Parcel T)) (s : ℕ) → length marks ≡ 8 → s < 8 → ((i : ℕ) → i < 8 → get_or marks i false ≡ has_ended i taken)
+  pub marked_end : (marks : List Bool) (taken : List (Parcel T)) (s : ℕ) → length marks ≡ 8 → s < 8
+      → ((i : ℕ) → i < 8 → get_or marks i false ≡ has_ended i taken)
       → (i : ℕ) → i < 8 → get_or (set marks s true) i false ≡ has_ended i (taken ++ parcel s None ∷ [])
   marked_end marks taken s eight below were i h =
       ⊎_elim

@@ -1,5 +1,6 @@
 -- What each kind of step keeps of a worker.
-use Rattle.std.proofs.Common.{◌≡◌, ◌⊎◌, ⊎_elim, append_assoc, ℕ, ◌+◌, ◌-◌, ◌<◌, ◌==◌, Bool, true, false, cond, List, [], ◌∷◌, ◌++◌, length, map, get_or, Some, None, sym, ap, ◌∙◌, subst, arith}
+use Rattle.std.proofs.Common.{◌≡◌, ◌⊎◌, ⊎_elim, append_assoc, ℕ, ◌+◌, ◌-◌, ◌<◌, ◌==◌, Bool, true, false, cond, List, [], ◌∷◌, ◌++◌, length, map, get_or, Some}
+use Rattle.std.proofs.Common.{None, sym, ap, ◌∙◌, subst, arith}
 use Rattle.std.proofs.lemmas.List.{append-nil, map-append, length-map}
 use Rattle.xa_words.specs.declared.request.Request.{Request}
 use Rattle.xa_words.specs.declared.request.Completion.{Completion}
@@ -10,7 +11,8 @@ use Rattle.xa_worker.specs.Journal.{Entry, entry_next, applied, completion_of, o
 use Rattle.xa_lane.specs.Senders.{but_full, bare, sent_at}
 use Rattle.xa_lane.proofs.Senders.{nothing_sent}
 use Rattle.xa_worker.specs.Outgoing.{Answering, Outgoing, SameLanes, Puts, flushed, waiting_at, put_to}
-use Rattle.xa_worker.specs.Workers.{WorkerView, Asking, IsTied, IsUnfit, IsHeldUnfit, IsFinished, SameWorker, Extends, asked, of_own_thread, in_hand, new_worker}
+use Rattle.xa_worker.specs.Workers.{WorkerView, Asking, IsTied, IsUnfit, IsHeldUnfit, IsFinished, SameWorker, Extends, asked, of_own_thread, in_hand}
+use Rattle.xa_worker.specs.Workers.{new_worker}
 use Rattle.xa_worker.specs.declared.step.Step.{Step}
 use Rattle.xa_worker.specs.declared.step.Step.TheVariants.{Did, Late, EndSeen, Empty, Blocked}
 use Rattle.xa_worker.specs.Steps.{EntersOne, Waits, StillHolds, Holds, Stepped, step_of}
@@ -19,7 +21,8 @@ use Rattle.xa_worker.proofs.Journals.{follows_more, follows_none, owed-more}
 use Rattle.xa_worker.proofs.Lanes.{same_eqb, length-lanes, lanes-flushed, none-flushed, lanes-puts, put-puts, sent_alike}
 use Rattle.xa_worker.proofs.Parcels.{asked_end, asked_item}
 
-pub tied_new : (number : ℕ) (manager : Managed) (receiver : Asking) (senders : List Answering) → receiver.senders ≡ manager.threads → length senders ≡ manager.threads → receiver.taken ≡ []
+pub tied_new : (number : ℕ) (manager : Managed) (receiver : Asking) (senders : List Answering) → receiver.senders ≡ manager.threads
+    → length senders ≡ manager.threads → receiver.taken ≡ []
     → ((i : ℕ) (d : Answering) → i < length senders → (get_or senders i d).sent ≡ []) → IsTied (new_worker number manager receiver senders)
 tied_new number manager receiver senders threads lanes taken none = record {
   follows = follows_none manager.tables;
@@ -80,8 +83,10 @@ module _ (w : WorkerView) (o : Outgoing) (same : SameLanes w.out.senders o.sende
         lanes = length-lanes w.out.senders o.senders same ∙ t.lanes;
       }
 
-      pub tied_enter : (m : Managed) (p : Outgoing) (journal : List Entry) → r.thread ≡ s + 1 → m ≡ applied r w.manager → journal ≡ w.journal ++ entry_next r w.manager.tables ∷ [] → SameLanes o.senders p.senders
-          → ((k : ℕ) → put_to k p ≡ put_to k o ++ cond ((r.thread - 1) == k) (completion_of w.number (entry_next r w.manager.tables) ∷ []) []) → IsTied (record w { manager = m; receiver = r'; out = p; journal = journal })
+      pub tied_enter : (m : Managed) (p : Outgoing) (journal : List Entry) → r.thread ≡ s + 1 → m ≡ applied r w.manager
+          → journal ≡ w.journal ++ entry_next r w.manager.tables ∷ [] → SameLanes o.senders p.senders
+          → ((k : ℕ) → put_to k p ≡ put_to k o ++ cond ((r.thread - 1) == k) (completion_of w.number (entry_next r w.manager.tables) ∷ []) [])
+          → IsTied (record w { manager = m; receiver = r'; out = p; journal = journal })
       tied_enter m p journal thread carried entered lanes more =
           let e : Entry = entry_next r w.manager.tables in
           let c : Completion = completion_of w.number e in
@@ -89,7 +94,8 @@ module _ (w : WorkerView) (o : Outgoing) (same : SameLanes w.out.senders o.sende
           record {
             follows = follows_more w.first w.journal journal w.manager.tables m.tables r entered (ap (λ (x : Managed). x.tables) carried) t.follows;
             taken =
-                after ∙ ap (λ n. map of_own_thread w.journal ++ (n, r) ∷ []) (sym thread) ∙ sym (map-append of_own_thread w.journal (e ∷ [])) ∙ ap (map of_own_thread) (sym entered)
+                after ∙ ap (λ n. map of_own_thread w.journal ++ (n, r) ∷ []) (sym thread) ∙ sym (map-append of_own_thread w.journal (e ∷ []))
+                ∙ ap (map of_own_thread) (sym entered)
                 ∙ sym (append-nil (map of_own_thread journal)) ∙ ap (λ h. map of_own_thread journal ++ in_hand h) (sym none);
             sent = λ k. more k ∙ ap (λ xs. xs ++ cond ((r.thread - 1) == k) (c ∷ []) []) (put k ∙ t.sent k)
                 ∙ ap (λ b. owed w.number (k + 1) w.journal ++ cond b (c ∷ []) []) (same_eqb (r.thread - 1) k r.thread (k + 1) (λ q. omega (arith, thread)) (λ q. omega (arith, thread)))
@@ -100,8 +106,10 @@ module _ (w : WorkerView) (o : Outgoing) (same : SameLanes w.out.senders o.sende
           }
 
 -- the completion that waited was sent, and then a request was taken and carried out
-pub tied_carried : (w : WorkerView) (o : Outgoing) (r' : Asking) (s : ℕ) (r : Request) (m : Managed) (p : Outgoing) (journal : List Entry) → IsTied w → o ≡ flushed w.out → ((k : ℕ) → put_to k o ≡ put_to k w.out) → w.held ≡ None
-    → Took w.receiver (Item s r) r' → r.thread ≡ s + 1 → m ≡ applied r w.manager → journal ≡ w.journal ++ entry_next r w.manager.tables ∷ [] → Puts o (r.thread - 1) (completion_of w.number (entry_next r w.manager.tables)) p
+pub tied_carried : (w : WorkerView) (o : Outgoing) (r' : Asking) (s : ℕ) (r : Request) (m : Managed) (p : Outgoing) (journal : List Entry) → IsTied w
+    → o ≡ flushed w.out → ((k : ℕ) → put_to k o ≡ put_to k w.out) → w.held ≡ None
+    → Took w.receiver (Item s r) r' → r.thread ≡ s + 1 → m ≡ applied r w.manager → journal ≡ w.journal ++ entry_next r w.manager.tables ∷ []
+    → Puts o (r.thread - 1) (completion_of w.number (entry_next r w.manager.tables)) p
     → IsTied (record w { manager = m; receiver = r'; out = p; journal = journal })
 tied_carried w o r' s r m p journal t sent put none took thread carried entered puts =
     let lanes : SameLanes w.out.senders o.senders = ap (λ (x : Outgoing). map bare x.senders) sent ∙ lanes-flushed w.out in
@@ -111,11 +119,13 @@ tied_carried w o r' s r m p journal t sent put none took thread carried entered 
     tied_enter w o lanes put t r' s r none took m p journal thread carried entered (lanes-puts o _ _ p puts) (put-puts o _ _ p place idle puts)
 
 -- a worker that has finished, and has put its end marks
-pub served_by : (w : WorkerView) (ends : List Answering) → IsTied w → IsFinished w → map but_full ends ≡ map but_full w.out.senders → IsServed (served w.number w.first w.manager w.receiver ends w.journal)
+pub served_by : (w : WorkerView) (ends : List Answering) → IsTied w → IsFinished w → map but_full ends ≡ map but_full w.out.senders
+    → IsServed (served w.number w.first w.manager w.receiver ends w.journal)
 served_by w ends t f e = record {
   follows = t.follows;
   taken = t.taken ∙ ap (λ h. map of_own_thread w.journal ++ in_hand h) f.held ∙ append-nil (map of_own_thread w.journal);
-  sent = λ k. sent_alike k w.out.senders ends e ∙ sym (ap (λ h. sent_at k w.out.senders ++ waiting_at k h) f.waiting ∙ append-nil (sent_at k w.out.senders)) ∙ t.sent k;
+  sent = λ k. sent_alike k w.out.senders ends e ∙ sym (ap (λ h. sent_at k w.out.senders ++ waiting_at k h) f.waiting ∙ append-nil (sent_at k w.out.senders))
+      ∙ t.sent k;
   ended = f.ended;
   senders = t.senders;
   lanes = sym (length-map ends but_full) ∙ ap length e ∙ length-map w.out.senders but_full ∙ t.lanes;

@@ -16,10 +16,7 @@ pub struct DoneWorker {
     number: u32,
     // The manager as it was given, with its number. It has no bytes: only proofs read it.
     given: Log<u32, Manager>,
-    manager: Manager,
-    receiver: Receiver<Request>,
-    ends: Vec<Ended<Completion>>,
-    journal: Vec<(Request, Code)>,
+    parts: WorkerEnds,
 }
 
 impl Model for DoneWorker {
@@ -51,26 +48,17 @@ pub struct WorkerEnds {
 }
 
 impl DoneWorker {
-    pub(crate) fn new(
-        number: u32,
-        given: Log<u32, Manager>,
-        manager: Manager,
-        receiver: Receiver<Request>,
-        ends: Vec<Ended<Completion>>,
-        journal: Vec<(Request, Code)>,
-    ) -> DoneWorker
-        requires served { IsServed (served number (first_tables given.items) manager receiver ends.items
-            journal.items) }
-        requires few { manager.threads ≤ MOST_THREADS }
-        ensures { result ≡ served number (first_tables given.items) manager receiver ends.items journal.items }
+    pub(crate) fn new(number: u32, given: Log<u32, Manager>, parts: WorkerEnds) -> DoneWorker
+        requires served { IsServed (served number (first_tables given.items) parts.manager parts.receiver
+            parts.ends.items parts.journal.items) }
+        requires few { parts.manager.threads ≤ MOST_THREADS }
+        ensures { result ≡ served number (first_tables given.items) parts.manager parts.receiver parts.ends.items
+            parts.journal.items }
     {
         DoneWorker {
             number,
             given,
-            manager,
-            receiver,
-            ends,
-            journal,
+            parts,
         }
     }
 
@@ -85,14 +73,14 @@ impl DoneWorker {
     pub fn opening(&self) -> u64
         ensures { result ≡ self.now.receiver.lane.opening }
     {
-        self.receiver.name().opening
+        self.parts.receiver.name().opening
     }
 
     /// How many threads its opening has, 1 to 8.
     pub fn peers(&self) -> u32
         ensures { result ≡ self.now.manager.threads }
     {
-        self.ends.len() as u32
+        self.parts.ends.len() as u32
     }
 
     /// The requests in the order in which they were taken, each with its code.
@@ -101,7 +89,7 @@ impl DoneWorker {
         ensures served { IsServed self.now }
         ensures ordered { IsOrdered self.now }
     {
-        &self.journal
+        &self.parts.journal
     }
 
     /// Its manager, the ends of its lanes and its journal.
@@ -114,16 +102,8 @@ impl DoneWorker {
         let DoneWorker {
             number: _,
             given: _,
-            manager,
-            receiver,
-            ends,
-            journal,
+            parts,
         } = self;
-        WorkerEnds {
-            manager,
-            receiver,
-            ends,
-            journal,
-        }
+        parts
     }
 }

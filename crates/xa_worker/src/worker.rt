@@ -7,7 +7,7 @@ ghost use Rattle.xa_worker.specs.Seats.{seat_of_worker, seat_of_done};
 ghost use Rattle.xa_worker.specs.Inner.{AreSet};
 
 use crate::carry::carry_out;
-use crate::done::DoneWorker;
+use crate::done::{DoneWorker, WorkerEnds};
 use crate::outbox::{Outbox, end_all};
 use crate::pace::Pace;
 use crate::parts::WorkerParts;
@@ -211,6 +211,12 @@ impl Worker {
             ends,
         } = self;
         let ends = end_all(rt, out.into_senders(), ends);
-        DoneWorker::new(number, given, manager, receiver, ends, journal)
+        let parts = WorkerEnds {
+            manager,
+            receiver,
+            ends,
+            journal,
+        };
+        DoneWorker::new(number, given, parts)
     }
 }

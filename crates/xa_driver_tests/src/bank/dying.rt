@@ -10,7 +10,7 @@ use std::sync::Wait;
 use std::thread::Threads;
 use xa_bank::{Day, Death, Point, Teller, TransferOutcome, run_day};
 use xa_crew::{Attended, Run};
-use xa_driver::DecisionRecords;
+use xa_log::DecisionRecords;
 use xa_switch::Settled;
 use xa_words::{Code, Key, Tran, Xid};
 

@@ -1,6 +1,6 @@
 //! What the managers were asked for when the record is appended.
 ghost use Rattle.std.specs.Prelude.{refl};
-ghost use Rattle.xa_driver.specs.Log.{AppendsTo};
+ghost use Rattle.xa_log.specs.Log.{AppendsTo};
 
 use super::plan_of;
 use super::threads::commit_two;
@@ -11,9 +11,10 @@ use std::sync::atomic::{AtomicU64, Ordering};
 use std::thread;
 use std::thread::{Threads, join};
 use xa_desk::Desk;
-use xa_driver::{CommitRecord, DecisionLog, DecisionRecords, Done, LogFault, MemoryLog, Yes};
+use xa_driver::Done;
+use xa_log::{CommitRecord, DecisionLog, DecisionRecords, LogFault, MemoryLog};
 use xa_switch::open_switch;
-use xa_words::{Op, Request, Tran};
+use xa_words::{ManagerSet, Op, Request, Tran};
 use xa_worker::{Pace, Worker};
 
 // How often the log lets the workers go on before it looks at what they took.
@@ -60,7 +61,7 @@ struct Watching<'a> {
 impl DecisionRecords for Watching<'_> {
     ghost records = { λ l. l.inner.state.records };
 
-    fn has(&self, tran: &Tran) -> Option<Yes> {
+    fn has(&self, tran: &Tran) -> Option<ManagerSet> {
         self.inner.has(tran)
     }
 }

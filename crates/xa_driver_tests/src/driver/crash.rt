@@ -3,7 +3,7 @@
 ghost use Rattle.std.specs.Prelude.{refl};
 ghost use Rattle.xa_desk.specs.GoesOn.{GoesOn};
 ghost use Rattle.xa_desk.specs.Kept.{AllKept};
-ghost use Rattle.xa_driver.specs.Log.{AppendsTo};
+ghost use Rattle.xa_log.specs.Log.{AppendsTo};
 
 use super::resolved::recover;
 use super::{branch, key, plan_of};
@@ -15,13 +15,11 @@ use xa_crew::laws::idles_go_on;
 use xa_crew::{Attended, Client, Run, run_clients};
 use xa_desk::laws::desks_go_on;
 use xa_desk::{Desk, Idle};
-use xa_driver::{
-    Branch, CommitRecord, DecisionLog, DecisionRecords, Done, Ending, LogFault, MemoryLog, Outcome,
-    Yes, commit_all, may_commit,
-};
+use xa_driver::{Branch, Done, Ending, Outcome, commit_all, may_commit};
+use xa_log::{CommitRecord, DecisionLog, DecisionRecords, LogFault, MemoryLog};
 use xa_switch::{Again, Plan, RmOp, Settled, native, xa_call};
 use xa_testing::comes;
-use xa_words::{Call, Code, Delta, Key, TMNOFLAGS, TMSUCCESS, Tran, Xid};
+use xa_words::{Call, Code, Delta, Key, ManagerSet, TMNOFLAGS, TMSUCCESS, Tran, Xid};
 use xa_worker::Free;
 
 // What the two threads tell each other.
@@ -59,7 +57,7 @@ struct Waiting {
 impl DecisionRecords for Waiting {
     ghost records = { λ l. l.inner.state.records };
 
-    fn has(&self, tran: &Tran) -> Option<Yes> {
+    fn has(&self, tran: &Tran) -> Option<ManagerSet> {
         self.inner.has(tran)
     }
 }

@@ -10,10 +10,10 @@ ghost use Rattle.xa_desk.specs.Growth.{HaveGrown};
 ghost use Rattle.xa_switch.specs.Fates.{ledgers_of};
 ghost use Rattle.xa_switch.specs.Belonging.{ComeFromOpenings, seat_of_desk, seat_of_worker};
 ghost use Rattle.xa_switch.specs.Settling.{IsSettled};
-ghost use Rattle.xa_driver.specs.Cut.{IsCut};
-ghost use Rattle.xa_driver.specs.Outcomes.{AreLeftOrDecided, sent_so_far};
-ghost use Rattle.xa_driver.specs.Presumed.{CountsByTheLog, EndsByTheLog};
-ghost use Rattle.xa_driver.specs.Resolution.{CutCall, ResolveCall, cuts, resolves, with_use};
+ghost use Rattle.xa_atomicity.specs.Cut.{IsCut};
+ghost use Rattle.xa_atomicity.specs.Outcomes.{AreLeftOrDecided, sent_so_far};
+ghost use Rattle.xa_atomicity.specs.Presumed.{CountsByTheLog, EndsByTheLog};
+ghost use Rattle.xa_atomicity.specs.Resolution.{CutCall, ResolveCall, cut_call, cuts, resolve_call, resolves, with_use};
 ghost use Rattle.xa_driver.specs.Trace.{MayCommit};
 
 use super::openings::{again, open, settle_all};
@@ -24,16 +24,15 @@ use std::alloc::Global;
 use std::process::Abort;
 use std::snapshot::Snapshot;
 use std::sync::Wait;
-use xa_crew::Turns;
-use xa_desk::laws::desks_go_on;
-use xa_desk::{Desk, Idle};
-use xa_driver::laws::{
+use xa_atomicity::{
     next_openings_resolve, others_leave_the_branches, presumed_transactions_count_by_the_log,
     presumed_transactions_have_one_outcome, rounds_are_cuts, stages_are_cuts, stages_follow,
 };
-use xa_driver::{
-    Branch, DecisionRecords, DriverFault, Ending, MemoryLog, Outcome, begin_prepare, may_commit,
-};
+use xa_crew::Turns;
+use xa_desk::laws::desks_go_on;
+use xa_desk::{Desk, Idle};
+use xa_driver::{Branch, DriverFault, Ending, Outcome, begin_prepare, may_commit};
+use xa_log::{DecisionRecords, MemoryLog};
 use xa_switch::{Again, Plan, Settled};
 use xa_words::{Code, Op, Xid};
 
@@ -319,23 +318,12 @@ fn die_and_resolve<R: Wait + Abort>(
     requires opened { ComeFromOpenings (seat_of_desk opened.first ∷ seat_of_desk opened.second ∷ [])
         (map seat_of_worker opened.workers) }
     requires fresh { (m : ℕ) → (ledger opened.second.ledgers m).sent ≡ [] }
-    ensures { let k : CutCall = record {
-      thread = result.thread;
-      branches = branches.now;
-      desk = result.died.before.value;
-      new = result.died.after.value.ledgers;
-      log = result.died.log_before.value.state;
-      later = result.died.log_after.value.state;
-      endings = result.died.endings.items;
-    } in
-        let q : ResolveCall = record {
-          thread = result.last.thread;
-          scan = result.last.ended.scan.value;
-          old = result.last.ended.before.value.ledgers;
-          new = result.last.ended.after.value.ledgers;
-          records = result.log.value.state.records;
-          outcomes = result.last.ended.told.outcomes.items;
-        } in
+    ensures { let k : CutCall = cut_call result.thread branches.now result.died.before.value
+        result.died.after.value.ledgers result.died.log_before.value.state result.died.log_after.value.state
+        result.died.endings.items in
+        let q : ResolveCall = resolve_call result.last.thread result.last.ended.scan.value
+        result.last.ended.before.value.ledgers result.last.ended.after.value.ledgers
+        result.last.ended.told.outcomes.items result.log.value.state.records in
         EndsByTheLog k (with_use result.first.value (cuts k)) (with_use result.last.settled (resolves q) ∷ [])
         × CountsByTheLog k (with_use result.first.value (cuts k))
         (with_use result.last.settled (resolves q) ∷ []) }

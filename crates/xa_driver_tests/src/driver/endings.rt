@@ -5,7 +5,8 @@ use std::process::Abort;
 use std::sync::Wait;
 use xa_crew::Turns;
 use xa_desk::{Desk, Idle};
-use xa_driver::{Branch, Done, Ending, MemoryLog, commit_all, may_commit};
+use xa_driver::{Branch, Done, Ending, commit_all, may_commit};
+use xa_log::MemoryLog;
 use xa_switch::xa_call;
 use xa_words::{Call, Code, EndHow, Op, TMJOIN};
 

@@ -5,7 +5,8 @@ use std::process::Abort;
 use std::sync::Wait;
 use xa_crew::Turns;
 use xa_desk::{Desk, Idle};
-use xa_driver::{Done, Ending, MemoryLog, commit_all, may_commit};
+use xa_driver::{Done, Ending, commit_all, may_commit};
+use xa_log::MemoryLog;
 use xa_switch::Plan;
 use xa_words::{Code, Op};
 

@@ -20,12 +20,13 @@ ghost use Rattle.xa_switch.specs.Recovery.{IsScanOf};
 ghost use Rattle.xa_switch.specs.Belonging.{ComeFromOpenings, desk_seats, worker_seats, seat_of_desk, seat_of_ended};
 ghost use Rattle.xa_switch.specs.Belonging.{seat_of_worker, seat_of_done};
 ghost use Rattle.xa_switch.specs.Settling.{IsSettled};
-ghost use Rattle.xa_driver.specs.Outcomes.{AreLeftOrDecided, sent_so_far};
-ghost use Rattle.xa_driver.specs.Resolution.{CommitCall, ResolveCall, Opening, Use, commits, resolves, Continues};
-ghost use Rattle.xa_driver.specs.Resolution.{IsAllOrNone, IsResolved, OnlyResolves};
+ghost use Rattle.xa_atomicity.specs.Outcomes.{AreLeftOrDecided, sent_so_far};
+ghost use Rattle.xa_atomicity.specs.Resolution.{CommitCall, ResolveCall, Opening, Use, commit_call, commits};
+ghost use Rattle.xa_atomicity.specs.Resolution.{resolve_call};
+ghost use Rattle.xa_atomicity.specs.Resolution.{Continues, IsAllOrNone, IsResolved, OnlyResolves, resolves, with_use};
 ghost use Rattle.xa_driver.specs.Resolving.{IsTraceOfResolve};
 ghost use Rattle.xa_driver.specs.Trace.{IsCommit};
-ghost use Rattle.xa_driver.specs.Worth.{CountsOver, CountsAllOrNone};
+ghost use Rattle.xa_atomicity.specs.Worth.{CountsOver, CountsAllOrNone};
 
 use super::openings::{Reopened, again, open, open_again, settle_all};
 use super::pieces::{Made, commit, end, run_all, work};
@@ -34,15 +35,14 @@ use std::alloc::Global;
 use std::process::Abort;
 use std::snapshot::Snapshot;
 use std::sync::Wait;
-use xa_crew::Turns;
-use xa_desk::{Desk, Idle};
-use xa_driver::laws::{
+use xa_atomicity::{
     next_openings_resolve, resolved_transactions_count_where_committed,
     resolved_transactions_have_one_outcome,
 };
-use xa_driver::{
-    Branch, DecisionRecords, Ending, MemoryLog, Outcome, Resolved, may_resolve, resolve,
-};
+use xa_crew::Turns;
+use xa_desk::{Desk, Idle};
+use xa_driver::{Branch, Ending, Outcome, Resolved, may_resolve, resolve};
+use xa_log::{DecisionRecords, MemoryLog};
 use xa_switch::laws::{
     opened_pieces_come_from_their_opening, reopened_openings_go_on_from_what_was_left,
     settled_openings_are_whole,
@@ -233,15 +233,10 @@ pub(super) fn recover<R: Wait + Abort, L: DecisionRecords>(
     ensures trace { IsTraceOfResolve result.ended.scan.value (L.records log.now) result.ended.before.value.ledgers
         result.ended.after.value.ledgers result.ended.told.outcomes.items }
     ensures grown { HaveGrown result.ended.after.value.ledgers (ledgers_of result.settled result.thread) }
-    ensures later { let q : ResolveCall = record {
-      thread = result.thread;
-      scan = result.ended.scan.value;
-      old = result.ended.before.value.ledgers;
-      new = result.ended.after.value.ledgers;
-      records = L.records log.now;
-      outcomes = result.ended.told.outcomes.items;
-    } in (t : TranName)
-        → OnlyResolves t (record { settled = result.settled; uses = resolves q ∷ [] }) }
+    ensures later { let q : ResolveCall = resolve_call result.thread result.ended.scan.value
+        result.ended.before.value.ledgers result.ended.after.value.ledgers result.ended.told.outcomes.items
+        (L.records log.now) in
+        (t : TranName) → OnlyResolves t (with_use result.settled (resolves q)) }
     ensures of { IsOf (reopening settled again.now) result.settled }
     ensures scan { IsScanOf settled result.ended.scan.value }
     ensures reached { All (λ x. x.code ≢ RmFail) result.ended.told.outcomes.items }
@@ -293,25 +288,14 @@ fn commit_and_resolve<R: Wait + Abort>(
     requires opened { ComeFromOpenings (seat_of_desk opened.first ∷ seat_of_desk opened.second ∷ [])
         (map seat_of_worker opened.workers) }
     requires fresh { (m : ℕ) → (ledger opened.second.ledgers m).sent ≡ [] }
-    ensures { let c : CommitCall = record {
-      thread = result.thread;
-      branches = branches.now;
-      desk = result.made.before.value;
-      new = result.made.after.value.ledgers;
-      log = result.made.log_before.value.state;
-      later = result.made.log_after.value.state;
-      done = result.made.done;
-    } in
-        let q : ResolveCall = record {
-          thread = result.last.thread;
-          scan = result.last.ended.scan.value;
-          old = result.last.ended.before.value.ledgers;
-          new = result.last.ended.after.value.ledgers;
-          records = result.log.value.state.records;
-          outcomes = result.last.ended.told.outcomes.items;
-        } in
-        let o : Opening = record { settled = result.first.value; uses = commits c ∷ [] } in
-        let last : Opening = record { settled = result.last.settled; uses = resolves q ∷ [] } in
+    ensures { let c : CommitCall = commit_call result.thread branches.now result.made.before.value
+        result.made.after.value.ledgers result.made.log_before.value.state result.made.log_after.value.state
+        result.made.done in
+        let q : ResolveCall = resolve_call result.last.thread result.last.ended.scan.value
+        result.last.ended.before.value.ledgers result.last.ended.after.value.ledgers
+        result.last.ended.told.outcomes.items result.log.value.state.records in
+        let o : Opening = with_use result.first.value (commits c) in
+        let last : Opening = with_use result.last.settled (resolves q) in
         IsResolved o [] last c q × IsAllOrNone c o (last ∷ []) × CountsOver c o (last ∷ [])
         × CountsAllOrNone c o (last ∷ []) }
 {
@@ -382,26 +366,15 @@ fn commit_and_resolve_later<R: Wait + Abort>(
     requires opened { ComeFromOpenings (seat_of_desk opened.first ∷ seat_of_desk opened.second ∷ [])
         (map seat_of_worker opened.workers) }
     requires fresh { (m : ℕ) → (ledger opened.second.ledgers m).sent ≡ [] }
-    ensures { let c : CommitCall = record {
-      thread = result.thread;
-      branches = branches.now;
-      desk = result.made.before.value;
-      new = result.made.after.value.ledgers;
-      log = result.made.log_before.value.state;
-      later = result.made.log_after.value.state;
-      done = result.made.done;
-    } in
-        let q : ResolveCall = record {
-          thread = result.last.thread;
-          scan = result.last.ended.scan.value;
-          old = result.last.ended.before.value.ledgers;
-          new = result.last.ended.after.value.ledgers;
-          records = result.log.value.state.records;
-          outcomes = result.last.ended.told.outcomes.items;
-        } in
-        let o : Opening = record { settled = result.first.value; uses = commits c ∷ [] } in
+    ensures { let c : CommitCall = commit_call result.thread branches.now result.made.before.value
+        result.made.after.value.ledgers result.made.log_before.value.state result.made.log_after.value.state
+        result.made.done in
+        let q : ResolveCall = resolve_call result.last.thread result.last.ended.scan.value
+        result.last.ended.before.value.ledgers result.last.ended.after.value.ledgers
+        result.last.ended.told.outcomes.items result.log.value.state.records in
+        let o : Opening = with_use result.first.value (commits c) in
         let between : Opening = record { settled = result.between.value; uses = [] } in
-        let last : Opening = record { settled = result.last.settled; uses = resolves q ∷ [] } in
+        let last : Opening = with_use result.last.settled (resolves q) in
         IsResolved o (between ∷ []) last c q × IsAllOrNone c o (between ∷ last ∷ [])
         × CountsOver c o (between ∷ last ∷ []) × CountsAllOrNone c o (between ∷ last ∷ []) }
 {

@@ -13,7 +13,8 @@ use std::process::Abort;
 use std::sync::Wait;
 use xa_crew::Turns;
 use xa_desk::{Desk, Idle};
-use xa_driver::{Branch, MemoryLog, Outcome, may_resolve, resolve};
+use xa_driver::{Branch, Outcome, may_resolve, resolve};
+use xa_log::MemoryLog;
 use xa_switch::{Plan, Settled, xa_call};
 use xa_words::{Call, Code, TMNOFLAGS, Xid};
 

@@ -6,7 +6,7 @@ ghost use Rattle.xa_switch.specs.Belonging.{ComeFromOpenings, desk_seats, worker
 ghost use Rattle.xa_switch.specs.Belonging.{seat_of_worker, seat_of_done};
 ghost use Rattle.xa_desk.specs.Growth.{HaveGrown};
 ghost use Rattle.xa_driver.specs.Trace.{IsCommit};
-ghost use Rattle.xa_driver.specs.Outcomes.{AreLeftOrDecided, KeepsTheVotes, TellsTheFates, sent_so_far};
+ghost use Rattle.xa_atomicity.specs.Outcomes.{AreLeftOrDecided, KeepsTheVotes, TellsTheFates, sent_so_far};
 
 use super::pieces::{Made, commit, end, run_all, work};
 use super::{branch, key, plan_of};
@@ -14,11 +14,12 @@ use std::alloc::Global;
 use std::process::Abort;
 use std::snapshot::Snapshot;
 use std::sync::Wait;
+use xa_atomicity::commit_in_a_settled_opening;
 use xa_crew::Turns;
 use xa_desk::laws::{desks_go_on, growth_goes_on};
 use xa_desk::{Desk, EndedDesk};
-use xa_driver::laws::commit_in_a_settled_opening;
-use xa_driver::{Branch, Ending, MemoryLog};
+use xa_driver::{Branch, Ending};
+use xa_log::MemoryLog;
 use xa_switch::laws::opened_pieces_come_from_their_opening;
 use xa_switch::{Plan, Settled, settle, xa_call};
 use xa_testing::one;

@@ -3,7 +3,7 @@
 ghost use Rattle.std.specs.Prelude.{◌≡◌, ◌≢◌, ◌↔◌, IsTrue, ◌∷◌, [], map};
 ghost use Rattle.std.specs.List.{All};
 ghost use Rattle.xa_switch.specs.Belonging.{ComeFromOpenings, seat_of_desk, seat_of_worker};
-ghost use Rattle.xa_driver.specs.Cut.{AreOthers, IsCut};
+ghost use Rattle.xa_atomicity.specs.Cut.{AreOthers, IsCut};
 
 use super::openings::{open, settle_all};
 use super::pieces::{end, run_all};
@@ -12,12 +12,11 @@ use std::alloc::Global;
 use std::process::Abort;
 use std::snapshot::Snapshot;
 use std::sync::Wait;
+use xa_atomicity::{others_leave_the_branches, stages_are_cuts, stages_follow};
 use xa_crew::Turns;
 use xa_desk::Desk;
-use xa_driver::laws::{others_leave_the_branches, stages_are_cuts, stages_follow};
-use xa_driver::{
-    Branch, DecisionRecords, Done, Ending, MemoryLog, commit_all, may_commit, prepare_all,
-};
+use xa_driver::{Branch, Done, Ending, commit_all, may_commit, prepare_all};
+use xa_log::{DecisionRecords, MemoryLog};
 use xa_switch::{Plan, RmOp, Settled, native, xa_call};
 use xa_words::{Call, Key, TMNOFLAGS, TMSUCCESS, Xid};
 

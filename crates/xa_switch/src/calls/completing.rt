@@ -6,6 +6,7 @@ ghost use Rattle.xa_desk.specs.GoesOn.{GoesOn};
 ghost use Rattle.xa_desk.specs.Kept.{AllKept};
 ghost use Rattle.xa_desk.specs.Tickets.{LeavesTickets};
 ghost use Rattle.xa_desk.specs.Waits.{WaitsForAny};
+ghost use Rattle.xa_switch.specs.Putting.{CallLeaves};
 ghost use Rattle.xa_switch.specs.Completing.{number_in, keeps_for, CompletesOne, CompletesAny, may_complete};
 ghost use Rattle.xa_switch.specs.Completing.{CompletesIn, CompletesBy, Tells, HasCompleted, completion_waits};
 ghost use Rattle.xa_switch.specs.Completing.{WaitsIn, CompletesAndWaits, HasWaited};
@@ -43,10 +44,8 @@ fn complete_one<R: Wait, I: Idle>(
     idle: &mut I,
 ) -> Result<(u32, Code), Code>
     ensures completes { CompletesOne desk.old number manager nowait desk.new result }
-    ensures goes_on { GoesOn desk.old desk.new }
-    ensures tickets { LeavesTickets desk.old desk.new }
+    ensures leaves { CallLeaves I.leads desk.old desk.new idle.old idle.new }
     ensures handle { IfOk result (λ r. IsHandle r.0) }
-    ensures idled { I.leads idle.old idle.new }
     ensures refused { IsErr result → idle.new ≡ idle.old }
     ensures prompt { IsTrue nowait → idle.new ≡ idle.old }
     ensures waited { IfOk result (λ r. nowait ≡ false → WaitsIn I.leads_by false desk.old number manager desk.new
@@ -80,10 +79,8 @@ fn complete_any<R: Wait, I: Idle>(
     idle: &mut I,
 ) -> Result<(u32, Code), Code>
     ensures completes { CompletesAny desk.old manager nowait desk.new result }
-    ensures goes_on { GoesOn desk.old desk.new }
-    ensures tickets { LeavesTickets desk.old desk.new }
+    ensures leaves { CallLeaves I.leads desk.old desk.new idle.old idle.new }
     ensures handle { IfOk result (λ r. IsHandle r.0) }
-    ensures idled { I.leads idle.old idle.new }
     ensures refused { IsErr result → idle.new ≡ idle.old }
     ensures prompt { IsTrue nowait → idle.new ≡ idle.old }
     ensures waited { IfOk result (λ r. nowait ≡ false → WaitsForAny (I.leads_by manager) desk.old desk.new idle.old
@@ -120,10 +117,8 @@ fn complete_in<R: Wait, I: Idle>(
     idle: &mut I,
 ) -> Result<(u32, Code), Code>
     ensures completes { CompletesIn mode desk.old number manager desk.new result }
-    ensures goes_on { GoesOn desk.old desk.new }
-    ensures tickets { LeavesTickets desk.old desk.new }
+    ensures leaves { CallLeaves I.leads desk.old desk.new idle.old idle.new }
     ensures handle { IfOk result (λ r. IsHandle r.0) }
-    ensures idled { I.leads idle.old idle.new }
     ensures refused { IsErr result → idle.new ≡ idle.old }
     ensures prompt { IsTrue mode.nowait → idle.new ≡ idle.old }
     ensures waited { IfOk result (λ r. mode.nowait ≡ false → WaitsIn I.leads_by mode.multiple desk.old number manager
@@ -150,10 +145,8 @@ fn complete_by<R: Wait, I: Idle>(
     idle: &mut I,
 ) -> Result<(u32, Code), Code>
     ensures completes { CompletesBy mode desk.old number manager desk.new result }
-    ensures goes_on { GoesOn desk.old desk.new }
-    ensures tickets { LeavesTickets desk.old desk.new }
+    ensures leaves { CallLeaves I.leads desk.old desk.new idle.old idle.new }
     ensures handle { IfOk result (λ r. IsHandle r.0) }
-    ensures idled { I.leads idle.old idle.new }
     ensures refused { IsErr result → idle.new ≡ idle.old }
     ensures prompt { completion_waits mode ≡ false → idle.new ≡ idle.old }
     ensures waited { IfOk result (CompletesAndWaits I.leads_by mode desk.old number manager desk.new idle.old

@@ -9,8 +9,8 @@ ghost use Rattle.xa_desk.specs.GoesOn.{GoesOn};
 ghost use Rattle.xa_desk.specs.Kept.{AllKept};
 ghost use Rattle.xa_desk.specs.Tickets.{LeavesTickets};
 ghost use Rattle.xa_base.specs.Lists.{IsUpTo};
-ghost use Rattle.xa_switch.specs.Putting.{put_refusal};
-ghost use Rattle.xa_switch.specs.Scans.{Answers, Scans, looked_at, written, left_at, room_in, start_of, Recovers};
+ghost use Rattle.xa_switch.specs.Putting.{CallLeaves, put_refusal};
+ghost use Rattle.xa_switch.specs.Scans.{Scans, looked_at, written, left_at, room_in, start_of, Recovers};
 ghost use Rattle.xa_switch.specs.Scans.{RecoversBy, HasRecovered, asks, AsksAndWaits, RecoversAndWaits};
 
 use crate::calls::code_of;
@@ -29,14 +29,10 @@ fn ask<R: Wait, I: Idle>(
     xid: Option<Xid>,
     idle: &mut I,
 ) -> Code
-    ensures answers { Answers manager desk.old (Listed xid) desk.new result }
-    ensures goes_on { GoesOn desk.old desk.new }
-    ensures tickets { LeavesTickets desk.old desk.new }
-    ensures idled { I.leads idle.old idle.new }
+    ensures leaves { CallLeaves I.leads desk.old desk.new idle.old idle.new }
     ensures kept { AllKept desk.old → AllKept desk.new }
     ensures prompt { is_some (put_refusal desk.old manager false) ≡ true → idle.new ≡ idle.old }
-    ensures waited { AsksAndWaits (I.leads_by manager) manager (desk.old, idle.old) (Listed xid) (desk.new, idle.new)
-        result }
+    ensures asks { AsksAndWaits I.leads_by manager (desk.old, idle.old) (Listed xid) (desk.new, idle.new) result }
 {
     desks_go_on();
     match desk.call(rt, manager, Op::Listed(xid), idle) {
@@ -57,17 +53,13 @@ fn look<R: Wait, I: Idle>(
     idle: &mut I,
 ) -> Result<(usize, usize), Code>
     requires { room ≤ length xids.old }
-    ensures scanned { (found : List XidName) × Scans (Answers manager) room left.now desk.old desk.new found
-        (looked_at result) × (xids.new ≡ written found xids.old) × IfOk result (λ r. r.0 ≡ length found) }
-    ensures bound { IfOk result (λ r. r.0 ≤ room) }
-    ensures within { IfOk result (λ r. r.1 ≤ length left.now) }
-    ensures goes_on { GoesOn desk.old desk.new }
-    ensures tickets { LeavesTickets desk.old desk.new }
-    ensures idled { I.leads idle.old idle.new }
-    ensures kept { AllKept desk.old → AllKept desk.new }
-    ensures waited { (found : List XidName) × Scans (AsksAndWaits (I.leads_by manager) manager) room left.now
+    ensures scanned { (found : List XidName) × Scans (AsksAndWaits I.leads_by manager) room left.now
         (desk.old, idle.old) (desk.new, idle.new) found (looked_at result) × (xids.new ≡ written found xids.old)
         × IfOk result (λ r. r.0 ≡ length found) }
+    ensures bound { IfOk result (λ r. r.0 ≤ room) }
+    ensures within { IfOk result (λ r. r.1 ≤ length left.now) }
+    ensures leaves { CallLeaves I.leads desk.old desk.new idle.old idle.new }
+    ensures kept { AllKept desk.old → AllKept desk.new }
 {
     desks_go_on();
     let mut found = 0;
@@ -109,16 +101,12 @@ fn recover_from<R: Wait, I: Idle>(
 ) -> Result<usize, Code>
     requires manager { IsUpTo MOST_MANAGERS manager }
     requires within { place ≤ length (left_at scan.old manager) }
-    ensures recovers { Recovers (Answers manager) manager mode place desk.old scan.old xids.old desk.new scan.new
-        xids.new result }
+    ensures recovers { Recovers (AsksAndWaits I.leads_by manager) manager mode place (desk.old, idle.old) scan.old
+        xids.old (desk.new, idle.new) scan.new xids.new result }
     ensures bound { IfOk result (λ n. n ≤ 2147483647) }
-    ensures goes_on { GoesOn desk.old desk.new }
-    ensures tickets { LeavesTickets desk.old desk.new }
-    ensures idled { I.leads idle.old idle.new }
+    ensures leaves { CallLeaves I.leads desk.old desk.new idle.old idle.new }
     ensures kept { AllKept desk.old → AllKept desk.new }
     ensures prompt { is_some (put_refusal desk.old manager false) ≡ true → idle.new ≡ idle.old }
-    ensures waited { Recovers (AsksAndWaits (I.leads_by manager) manager) manager mode place (desk.old, idle.old)
-        scan.old xids.old (desk.new, idle.new) scan.new xids.new result }
 {
     desks_go_on();
     match ask(rt, desk, manager, None, idle) {
@@ -151,17 +139,13 @@ fn recover_by<R: Wait, I: Idle>(
     flags: u32,
     idle: &mut I,
 ) -> Result<usize, Code>
-    ensures recovers { RecoversBy (Answers manager) (is_known desk.old.ledgers manager)
-        (check_flags call.Recover flags) manager desk.old scan.old xids.old desk.new scan.new xids.new result }
-    ensures bound { IfOk result (λ n. n ≤ 2147483647) }
-    ensures goes_on { GoesOn desk.old desk.new }
-    ensures tickets { LeavesTickets desk.old desk.new }
-    ensures idled { I.leads idle.old idle.new }
-    ensures kept { AllKept desk.old → AllKept desk.new }
-    ensures prompt { asks desk.old scan.old manager (check_flags call.Recover flags) ≡ false → idle.new ≡ idle.old }
-    ensures waited { RecoversBy (AsksAndWaits (I.leads_by manager) manager) (is_known desk.old.ledgers manager)
+    ensures recovers { RecoversBy (AsksAndWaits I.leads_by manager) (is_known desk.old.ledgers manager)
         (check_flags call.Recover flags) manager (desk.old, idle.old) scan.old xids.old (desk.new, idle.new) scan.new
         xids.new result }
+    ensures bound { IfOk result (λ n. n ≤ 2147483647) }
+    ensures leaves { CallLeaves I.leads desk.old desk.new idle.old idle.new }
+    ensures kept { AllKept desk.old → AllKept desk.new }
+    ensures prompt { asks desk.old scan.old manager (check_flags call.Recover flags) ≡ false → idle.new ≡ idle.old }
 {
     desks_go_on();
     let mode = check_flags(Call::Recover, flags)?;

@@ -17,5 +17,6 @@ pub returns-else-answer-eq0-clause-collects : goal.returns-else-answer-eq0-claus
 returns-else-answer-eq0-clause-collects g c =
     let answer : ℤ = c.xa_complete-answer.result in
     let given : to_z w32 (of_z w32 c.args.handle) ≡ c.args.handle = to_z-of_z w32 c.args.handle c.ranges.handle in
-    let (none, same) = (completed _ _ c.args.manager _ _ _ _ answer c.xa_complete-answer.ensures.completes).never (λ e. c.if-answer-eq0.false (ap (of_z w32) e)) in
+    let (none, same) =
+    (completed _ _ c.args.manager _ _ _ _ answer c.xa_complete-answer.ensures.completes).never (λ e. c.if-answer-eq0.false (ap (of_z w32) e)) in
     nothing (ne_eqb (of_z w32 answer) 0 c.if-answer-eq0.false) (subst (λ z. IsNoHandle c.args.manager z c.args.desk.now) given none) same

@@ -24,7 +24,8 @@ returns-clause-worked g c = λ all apart.
     let d9 = c.is_done-first_done.new.desk in
     let d12 = c.is_done-second_done.new.desk in
     let further = c.desks_go_on.ensures.further in
-    let goes = further d0 d9 d12 (further d0 d6 d9 (further d0 d3 d6 c.begin-first.ensures.goes_on c.begin-second.ensures.goes_on) c.is_done-first_done.ensures.goes_on) c.is_done-second_done.ensures.goes_on in
+    let goes =
+    further d0 d9 d12 (further d0 d6 d9 (further d0 d3 d6 c.begin-first.ensures.goes_on c.begin-second.ensures.goes_on) c.is_done-first_done.ensures.goes_on) c.is_done-second_done.ensures.goes_on in
     let parts = both c.is_done-first_done.result c.is_done-second_done.result all in
     legs_worked c.args.one.now c.args.two.now c.args.account c.begin-first.result c.begin-second.result d0 d3 d6 d9 d12 c.begin-first.ensures.begins c.begin-second.ensures.begins
     (gets_leg c.args.one.now.branch.m c.begin-first.result c.is_done-first_done.result d6 d9 c.is_done-first_done.ensures.ends parts.0)

@@ -2,7 +2,7 @@ use Rattle.std.proofs.Common.{◌≡◌, ◌≢◌, true, false, Option, List, r
 use Rattle.xa_desk.specs.LedgerView.{LedgerView}
 use Rattle.xa_desk.specs.DeskView.{DeskView}
 use Rattle.xa_driver.specs.declared.branch.Branch.{Branch}
-use Rattle.xa_driver.specs.Log.{LogState}
+use Rattle.xa_log.specs.Log.{LogState}
 use Rattle.xa_driver.specs.Trace.{MayCommit}
 use Rattle.xa_bank.specs.declared.dying.Point.{Point}
 use Rattle.xa_bank.specs.declared.teller.TransferOutcome.{TransferOutcome}
@@ -13,7 +13,8 @@ use Rattle.xa_bank.proofs.teller.carry_out.Goals as goal
 use Rattle.xa_bank.proofs.teller.carry_out.Goals.{then-not-worked-via-then-not-worked, then-not-worked-via-else-not-worked+then-not-may_commit}
 
 -- the branches could be committed
-might_be : (bs : List Branch) (point : Option Point) (o : TransferOutcome) (desk : DeskView) (new : List LedgerView) (log later : LogState) → ComesOfCommit bs point o desk new log later → MayCommit desk log bs
+might_be : (bs : List Branch) (point : Option Point) (o : TransferOutcome) (desk : DeskView) (new : List LedgerView) (log later : LogState)
+    → ComesOfCommit bs point o desk new log later → MayCommit desk log bs
 might_be bs point o desk new log later (in_full done none is made) = made.may
 might_be bs point o desk new log later (cut_short at known some is dies) = dies.cut.may
 
@@ -44,7 +45,8 @@ returns-clause-carried g c =
     commits c.work_for-worked.new.desk (c.work_for-worked.ensures.worked all (record { first = may.room.0.known; second = may.room.1.0.known; apart = apart })) comes
 
 pub returns-then-not-has_room-clause-carried : goal.returns-then-not-has_room-clause-carried
-returns-then-not-has_room-clause-carried g c = refused refl refl (unroomed (λ room. let yes_ : c.has_room.result ≡ true = c.has_room.ensures.1 room in let no : c.has_room.result ≡ false = c.if-not-has_room.true in cc) refl) (have_none (IsFor c.args.one.now c.args.two.now) _ _ refl)
+returns-then-not-has_room-clause-carried g c =
+    refused refl refl (unroomed (λ room. let yes_ : c.has_room.result ≡ true = c.has_room.ensures.1 room in let no : c.has_room.result ≡ false = c.if-not-has_room.true in cc) refl) (have_none (IsFor c.args.one.now c.args.two.now) _ _ refl)
 
 pub returns-in_default-clause-wants : goal.returns-in_default-clause-wants
 returns-in_default-clause-wants g c =

@@ -1,11 +1,12 @@
-use Rattle.std.proofs.Common.{rules, ◌≡◌, ℕ, ◌+◌, ◌<◌, true, false, ◌||◌, Option, List, [], ◌∷◌, ◌++◌, length, length-append, take, drop, length-take, append_assoc, sym, refl, ap, ◌∙◌, subst, arith}
+use Rattle.std.proofs.Common.{rules, ◌≡◌, ℕ, ◌+◌, ◌<◌, true, false, ◌||◌, Option, List, [], ◌∷◌, ◌++◌, length, length-append, take, drop, length-take}
+use Rattle.std.proofs.Common.{append_assoc, sym, refl, ap, ◌∙◌, subst, arith}
 use Rattle.std.specs.List.{list_any}
 use Rattle.std.proofs.lemmas.List.{take_all, take-append-drop}
 use Rattle.std.proofs.lemmas.List.Folds.{list_any-append}
 use Rattle.xa_base.proofs.Lists.{one_more}
 use Rattle.xa_desk.specs.DeskView.{DeskView}
 use Rattle.xa_desk.specs.Seats.{DeskSeat}
-use Rattle.xa_driver.specs.Log.{LogState}
+use Rattle.xa_log.specs.Log.{LogState}
 use Rattle.xa_bank.specs.declared.dying.Death.{Death}
 use Rattle.xa_bank.specs.declared.dying.Point.{Point}
 use Rattle.xa_bank.specs.declared.teller.TransferOutcome.{TransferOutcome}
@@ -17,18 +18,23 @@ use Rattle.xa_bank.proofs.Named.{makes_more}
 use Rattle.xa_bank.proofs.teller.make_all.Goals as goal
 
 -- a transfer more, where others may follow that aren't made
-one_made : (t place : ℕ) (death : Option Death) (trs : List Transfer) (tr : Transfer) (unmade : List Transfer) (more : List TransferOutcome) (o : TransferOutcome) (point : Option Point) (u : ℕ) (old mid new : DeskView) (log now later : LogState) → place < length trs → length more ≡ place → u ≡ t → point ≡ point_at death place
-    → MakesEach t death 0 (take place trs) more old mid log now → Makes u place tr point o mid new now later → MakesEach t death 0 (take place trs ++ tr ∷ unmade) (more ++ o ∷ []) old new log later
+one_made : (t place : ℕ) (death : Option Death) (trs : List Transfer) (tr : Transfer) (unmade : List Transfer) (more : List TransferOutcome) (o : TransferOutcome) (point : Option Point) (u : ℕ) (old mid new : DeskView) (log now later : LogState)
+    → place < length trs → length more ≡ place → u ≡ t → point ≡ point_at death place
+    → MakesEach t death 0 (take place trs) more old mid log now → Makes u place tr point o mid new now later
+    → MakesEach t death 0 (take place trs ++ tr ∷ unmade) (more ++ o ∷ []) old new log later
 one_made t place death trs tr unmade more o point u old mid new log now later below many same at makes made =
     let size = length-take place trs in
     let number : place ≡ 0 + length (take place trs) = omega (arith, size, below) in
-    let its : Makes t place tr (point_at death place) o mid new now later = subst (λ q. Makes t place tr q o mid new now later) at (subst (λ k. Makes k place tr point o mid new now later) same made) in
+    let its : Makes t place tr (point_at death place) o mid new now later =
+    subst (λ q. Makes t place tr q o mid new now later) at (subst (λ k. Makes k place tr point o mid new now later) same made) in
     makes_more t death 0 (take place trs) more tr unmade o old mid new log now later (omega (arith, many, number)) makes (subst (λ n. Makes t n tr (point_at death n) o mid new now later) number its)
 
-still_none : (more : List TransferOutcome) (o : TransferOutcome) → list_any has_died more ≡ false → has_died o ≡ false → list_any has_died (more ++ o ∷ []) ≡ false
+still_none : (more : List TransferOutcome) (o : TransferOutcome) → list_any has_died more ≡ false → has_died o ≡ false
+    → list_any has_died (more ++ o ∷ []) ≡ false
 still_none more o none lives = list_any-append has_died more (o ∷ []) ∙ (λ i. none i || (lives i || false))
 
-grown : (xs more : List TransferOutcome) (o : TransferOutcome) (ys zs : List TransferOutcome) → ys ≡ zs ++ o ∷ [] → zs ≡ xs ++ more → ys ≡ xs ++ (more ++ o ∷ [])
+grown : (xs more : List TransferOutcome) (o : TransferOutcome) (ys zs : List TransferOutcome) → ys ≡ zs ++ o ∷ [] → zs ≡ xs ++ more
+    → ys ≡ xs ++ (more ++ o ∷ [])
 grown xs more o ys zs is told = is ∙ ap (λ l. l ++ o ∷ []) told ∙ append_assoc xs more (o ∷ [])
 
 pub loop-place-preserved : goal.loop-place-preserved
@@ -45,7 +51,8 @@ loop-place-preserved g c =
     let log : LogState = c.args.log.now.state in
     let later : LogState = c.make.new.log.state in
     let same : c.loop-place.desk.thread ≡ t = ap (λ (s : DeskSeat). s.thread) c.loop-place.invariant.goes_on.seat in
-    let all = one_made t place death trs tr [] more o c.point_at-point.result c.loop-place.desk.thread first c.loop-place.desk c.make.new.desk log c.loop-place.log.state later below many same c.point_at-point.ensures makes c.in_ok-outcome.ensures.makes in
+    let all =
+    one_made t place death trs tr [] more o c.point_at-point.result c.loop-place.desk.thread first c.loop-place.desk c.make.new.desk log c.loop-place.log.state later below many same c.point_at-point.ensures makes c.in_ok-outcome.ensures.makes in
     let taken : take (place + 1) trs ≡ take place trs ++ tr ∷ [] = one_more trs place tr below c.index-transfers-place.is in
     let size : length (more ++ o ∷ []) ≡ length more + 1 = length-append more (o ∷ []) in
     record {
@@ -77,9 +84,11 @@ returns-then-died-clause-made g c =
     let later : LogState = c.make.new.log.state in
     let rest : List Transfer = drop (place + 1) trs in
     let same : c.loop-place.desk.thread ≡ t = ap (λ (s : DeskSeat). s.thread) c.loop-place.invariant.goes_on.seat in
-    let all = one_made t place death trs tr rest more o c.point_at-point.result c.loop-place.desk.thread first c.loop-place.desk c.make.new.desk log c.loop-place.log.state later below many same c.point_at-point.ensures makes c.in_ok-outcome.ensures.makes in
+    let all =
+    one_made t place death trs tr rest more o c.point_at-point.result c.loop-place.desk.thread first c.loop-place.desk c.make.new.desk log c.loop-place.log.state later below many same c.point_at-point.ensures makes c.in_ok-outcome.ensures.makes in
     let taken : take (place + 1) trs ≡ take place trs ++ tr ∷ [] = one_more trs place tr below c.index-transfers-place.is in
-    let parts : take place trs ++ tr ∷ rest ≡ trs = sym (append_assoc (take place trs) (tr ∷ []) rest) ∙ ap (λ l. l ++ rest) (sym taken) ∙ take-append-drop (place + 1) trs in
+    let parts : take place trs ++ tr ∷ rest ≡ trs =
+    sym (append_assoc (take place trs) (tr ∷ []) rest) ∙ ap (λ l. l ++ rest) (sym taken) ∙ take-append-drop (place + 1) trs in
     let whole : more ++ o ∷ [] ≡ more ++ o ∷ [] = refl in
     record {
       more = more ++ o ∷ [];

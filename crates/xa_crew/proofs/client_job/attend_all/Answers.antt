@@ -1,7 +1,6 @@
-use Rattle.std.proofs.Common.{◌++◌, ◌∷◌, [], length, sym, ap, ◌∙◌, subst, refl, rules, append_assoc}
+use Rattle.std.proofs.Common.{◌++◌, [], length, sym, ap, ◌∙◌, refl, rules}
 use Rattle.std.specs.Vec.Iter.{into_iter_items}
-use Rattle.xa_base.specs.Lists.{Pairwise}
-use Rattle.xa_base.proofs.Lists.{all_at, next_there, none_side, push_side}
+use Rattle.xa_base.proofs.Lists.{all_at, next_there, none_side, push_side, taken_next}
 use Rattle.xa_crew.specs.Run.{HasWorked, IsReady}
 use Rattle.xa_crew.proofs.client_job.attend_all.Goals as goal
 
@@ -26,9 +25,8 @@ loop-job-preserved g c =
     let first = c.loop-job.yielded in
     let job = c.in-Some.job in
     record {
-      so_far = append_assoc first (job ∷ []) (into_iter_items c.next.new.self) ∙ ap (λ l. first ++ l) (sym c.in-Some.ensures.steps.0) ∙ i.so_far;
-      worked =
-          subst (λ l. Pairwise (HasWorked g.C.Client.works) (first ++ job ∷ []) l) (sym c.push_reserved.ensures.items)
+      so_far = taken_next first _ (into_iter_items c.next.new.self) _ job c.in-Some.ensures.steps.0 i.so_far;
+      worked = rw c.push_reserved.ensures.items
           (push_side (HasWorked g.C.Client.works) first c.loop-job.done.items job c.attend.result i.worked c.attend.ensures.worked);
       room = c.push_reserved.ensures.capacity ∙ i.room;
       idled = g.met.I.Idle.leads_chain _ _ _ i.idled c.attend.ensures.idled;

@@ -5,7 +5,8 @@ pub finish-requires-clause-kept : goal.finish-requires-clause-kept
 finish-requires-clause-kept g c = numbers_keep c.outstanding_operations_stay_kept.ensures.collected _ _ _ c.end_numbers.ensures.ends c.requires.kept
 
 pub returns-clause-ends : goal.returns-clause-ends
-returns-clause-ends g c = record { emptied = c.end_numbers.new.desk; collects = c.end_numbers.ensures.ends; none = c.end_numbers.ensures.none; goes_on = c.end_numbers.ensures.goes_on; ends = c.finish.ensures.ended }
+returns-clause-ends g c =
+    record { emptied = c.end_numbers.new.desk; collects = c.end_numbers.ensures.ends; none = c.end_numbers.ensures.none; goes_on = c.end_numbers.ensures.goes_on; ends = c.finish.ensures.ended }
 
 pub returns-clause-idled : goal.returns-clause-idled
 returns-clause-idled g c = g.met.I.Idle.leads_chain _ _ _ c.end_numbers.ensures.idled c.finish.ensures.idled

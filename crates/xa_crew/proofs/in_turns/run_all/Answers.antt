@@ -12,11 +12,8 @@ client_jobs_of-requires-clause-kept g c =
 
 pub returns : goal.returns
 returns g c =
-    let given = c.in_ok-client_jobs.client_jobs.items in
-    let worked = c.attend_all-worked.result.items in
     let left = c.attend_all-worked.new.idle in
     let goes = subst (λ (ws : List WorkerView). AllGoOn ws left) c.new-turns.ensures c.attend_all-worked.ensures.idled in
     let served = all_served c.args.workers.items left c.run-workers.result.items goes c.run-workers.ensures.served in
-    all_have_run g.C.Client.works c.args.plan.now c.args.desks.items c.args.workers.items c.args.clients.items given worked _
-    c.requires.sound c.requires.opened c.in_ok-client_jobs.ensures.clients
-    c.in_ok-client_jobs.ensures.desks c.attend_all-worked.ensures.worked c.apart-clients.ensures.clients c.apart-clients.ensures.desks served
+    all_have_run g.C.Client.works c.requires.sound c.requires.opened c.in_ok-client_jobs.ensures.clients c.in_ok-client_jobs.ensures.desks
+    c.attend_all-worked.ensures.worked c.apart-clients.ensures.clients c.apart-clients.ensures.desks served

@@ -13,13 +13,9 @@ client_jobs_of-requires-clause-kept g c =
 
 pub returns : goal.returns
 returns g c =
-    let given = c.in_ok-client_jobs.client_jobs.items in
-    let worker_jobs = c.in_ok-worker_jobs.worker_jobs.items in
-    let worked = c.in_ok-worked.worked.items in
     let done = c.in_ok-worked.workers.items in
     let served =
     subst (λ (ws : List WorkerView). Pairwise HasServed ws done) c.in_ok-worker_jobs.ensures
-    (side_of HasServed (λ s. s.worker) worker_jobs done c.in_ok-worked.ensures.others) in
-    all_have_run g.C.Client.works c.args.plan.now c.args.desks.items c.args.workers.items c.args.clients.items given worked _
-    c.requires.sound c.requires.opened c.in_ok-client_jobs.ensures.clients
-    c.in_ok-client_jobs.ensures.desks c.in_ok-worked.ensures.jobs c.apart-clients.ensures.clients c.apart-clients.ensures.desks served
+    (side_of HasServed (λ s. s.worker) c.in_ok-worker_jobs.worker_jobs.items done c.in_ok-worked.ensures.others) in
+    all_have_run g.C.Client.works c.requires.sound c.requires.opened c.in_ok-client_jobs.ensures.clients c.in_ok-client_jobs.ensures.desks
+    c.in_ok-worked.ensures.jobs c.apart-clients.ensures.clients c.apart-clients.ensures.desks served

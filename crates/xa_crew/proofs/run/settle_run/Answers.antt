@@ -12,16 +12,13 @@ settle_pieces-requires g c =
 
 pub returns-in-Ok-clause-run : goal.returns-in-Ok-clause-run
 returns-in-Ok-clause-run g c = λ p cs all. record {
-  members = all.members;
-  workers = all.workers;
-  sound = all.sound;
-  opened = all.opened;
-  clients_are = all.clients_are;
-  ran = all.ran;
-  attended_are = all.attended_are;
+  desks = c.args.ran.desks.items;
   done = c.args.ran.workers.items;
-  served = all.served;
+  threads = all;
   settles = c.in-Ok.ensures.pieces ∙ ap (λ (es : List EndedView). settling es c.args.ran.workers.items) all.desks_are;
   agrees = c.in-Ok.ensures.settled;
   of_plan = c.in-Ok.ensures.of (planned p) (run_pieces g.C.Client.works c.desks_go_on.ensures.further p cs c.args.ran all);
 }
+
+pub returns-in-Err-clause-back : goal.returns-in-Err-clause-back
+returns-in-Err-clause-back g c = λ p cs all. rw (c.in-Err.ensures.back.0, c.in-Err.ensures.back.1) all

@@ -4,7 +4,7 @@ use Rattle.xa_desk.proofs.Waiting.{bare_full}
 use Rattle.xa_desk.proofs.ended.end_one.Goals as goal
 
 pub loop-init : goal.loop-init
-loop-init g c = record { can = tt; finite = tt; fulls = (0, refl, refl); idled = g.met.I.Idle.leads_start _ }
+loop-init g c = record { fulls = (0, refl, refl); idled = g.met.I.Idle.leads_start _ }
 
 pub returns-in-Ok-clause-ended : goal.returns-in-Ok-clause-ended
 returns-in-Ok-clause-ended g c =
@@ -15,8 +15,6 @@ pub loop-preserved : goal.loop-preserved
 loop-preserved g c =
     let fulls = c.loop.invariant.fulls in
     record {
-      can = tt;
-      finite = tt;
       fulls = (suc fulls.0, c.in-Err.ensures.ended ∙ ap with_full fulls.1, (_, fulls.2, c.idle.ensures));
       idled = g.met.I.Idle.leads_chain _ _ _ c.loop.invariant.idled (g.met.I.Idle.leads_each _ _ _ c.idle.ensures);
     }

@@ -5,8 +5,6 @@ use Rattle.xa_desk.proofs.ended.end_one.Given as goal
 -- the lane was found full some times, with an idle after each
 abbrev pub invariant-loop : goal.invariant-loop
 invariant-loop g l = record {
-  can : (goal.iterator-loop g).can_next l.iterator';
-  finite : (goal.iterator-loop g).is_finite l.iterator';
   fulls : (n : ℕ) × (l.sender ≡ found_full n l.fn.sender) × Idles (g.I.Idle.leads_by l.manager) n l.initial.idle l.idle;
   idled : g.I.Idle.leads l.initial.idle l.idle;
 }

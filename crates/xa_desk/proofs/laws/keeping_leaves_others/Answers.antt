@@ -1,8 +1,5 @@
 use Rattle.xa_desk.proofs.Tickets.{kept_leaves, freed_leaves}
 use Rattle.xa_desk.proofs.laws.keeping_leaves_others.Goals as goal
 
-pub returns-clause-kept : goal.returns-clause-kept
-returns-clause-kept c = kept_leaves
-
-pub returns-clause-freed : goal.returns-clause-freed
-returns-clause-freed c = freed_leaves
+pub returns : goal.returns
+returns c = record { kept = kept_leaves; freed = freed_leaves }

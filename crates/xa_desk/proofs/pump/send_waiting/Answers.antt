@@ -6,7 +6,7 @@ use Rattle.xa_desk.proofs.Ties.{fulls_alike}
 use Rattle.xa_desk.proofs.pump.send_waiting.Goals as goal
 
 pub loop-init : goal.loop-init
-loop-init g c = record { can = tt; finite = tt; fulls = (0, refl, refl); idled = g.met.I.Idle.leads_start _ }
+loop-init g c = record { fulls = (0, refl, refl); idled = g.met.I.Idle.leads_start _ }
 
 pub offer-requires-clause-known : goal.offer-requires-clause-known
 offer-requires-clause-known g c =
@@ -34,7 +34,8 @@ returns-in-Some-offer-clause-named g c =
     c.in-Some-offer.ensures.named ∙ ap (λ (at : List LedgerView). next_operation at c.args.manager) a.ledgers
 
 pub returns-in-Some-offer-clause-sent : goal.returns-in-Some-offer-clause-sent
-returns-in-Some-offer-clause-sent g c = (c.loop.invariant.fulls.0, c.in-Some-offer.ensures.sent ∙ ap (λ (d : DeskView). submitted d c.args.manager c.args.op.now) c.loop.invariant.fulls.1, c.loop.invariant.fulls.2)
+returns-in-Some-offer-clause-sent g c =
+    (c.loop.invariant.fulls.0, c.in-Some-offer.ensures.sent ∙ ap (λ (d : DeskView). submitted d c.args.manager c.args.op.now) c.loop.invariant.fulls.1, c.loop.invariant.fulls.2)
 
 pub returns-in-Some-offer-clause-more : goal.returns-in-Some-offer-clause-more
 returns-in-Some-offer-clause-more g c =
@@ -43,8 +44,6 @@ returns-in-Some-offer-clause-more g c =
 
 pub loop-preserved : goal.loop-preserved
 loop-preserved g c = record {
-  can = tt;
-  finite = tt;
   fulls = (suc c.loop.invariant.fulls.0, c.in_default.ensures.full ∙ ap (λ (d : DeskView). after_full d c.args.manager) c.loop.invariant.fulls.1, (_, c.loop.invariant.fulls.2, c.idle.ensures));
   idled = g.met.I.Idle.leads_chain _ _ _ c.loop.invariant.idled (g.met.I.Idle.leads_each _ _ _ c.idle.ensures);
 }

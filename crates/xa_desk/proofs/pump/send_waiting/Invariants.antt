@@ -6,8 +6,6 @@ use Rattle.xa_desk.proofs.pump.send_waiting.Given as goal
 -- the lane was found full some times, with an idle after each
 abbrev pub invariant-loop : goal.invariant-loop
 invariant-loop g l = record {
-  can : (goal.iterator-loop g).can_next l.iterator';
-  finite : (goal.iterator-loop g).is_finite l.iterator';
   fulls : (n : ℕ) × (l.book ≡ after_fulls n l.initial.book l.manager) × Idles (g.I.Idle.leads_by l.manager) n l.initial.idle l.idle;
   idled : g.I.Idle.leads l.initial.idle l.idle;
 }

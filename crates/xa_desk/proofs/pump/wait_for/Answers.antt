@@ -4,7 +4,7 @@ use Rattle.xa_desk.proofs.Looks.{looks_start, looks_out, looks_loose, looks_chai
 use Rattle.xa_desk.proofs.pump.wait_for.Goals as goal
 
 pub loop-init : goal.loop-init
-loop-init g c = record { can = tt; finite = tt; looks = looks_start _ _ refl; idled = g.met.I.Idle.leads_start _; waits = begins _ _ refl refl }
+loop-init g c = record { looks = looks_start _ _ refl; idled = g.met.I.Idle.leads_start _; waits = begins _ _ refl refl }
 
 pub try_collect-requires-clause-out : goal.try_collect-requires-clause-out
 try_collect-requires-clause-out g c = looks_out _ _ c.args.operation c.loop.invariant.looks c.requires.out
@@ -16,12 +16,11 @@ pub returns-in-Some-try_collect-clause-collected : goal.returns-in-Some-try_coll
 returns-in-Some-try_collect-clause-collected g c = collects_chain _ _ _ c.args.operation _ c.loop.invariant.looks c.in-Some-try_collect.ensures.collected
 
 pub returns-in-Some-try_collect-clause-waited : goal.returns-in-Some-try_collect-clause-waited
-returns-in-Some-try_collect-clause-waited g c = record { now = c.loop.book; waits = c.loop.invariant.waits; found = c.in-Some-try_collect.ensures.at_once; collects = c.in-Some-try_collect.ensures.collected }
+returns-in-Some-try_collect-clause-waited g c =
+    record { now = c.loop.book; waits = c.loop.invariant.waits; found = c.in-Some-try_collect.ensures.at_once; collects = c.in-Some-try_collect.ensures.collected }
 
 pub loop-preserved : goal.loop-preserved
 loop-preserved g c = record {
-  can = tt;
-  finite = tt;
   looks = looks_chain _ _ _ c.loop.invariant.looks (quiet_looks _ _ (c.in_default.ensures.quiet refl));
   idled = g.met.I.Idle.leads_chain _ _ _ c.loop.invariant.idled (g.met.I.Idle.leads_each _ _ _ c.idle.ensures);
   waits = idles _ _ _ _ c.loop.invariant.waits (record { quiet = c.in_default.ensures.quiet refl; once = c.in_default.ensures.once refl }) (c.in_default.ensures.missing refl) c.idle.ensures;

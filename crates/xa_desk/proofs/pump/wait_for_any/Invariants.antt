@@ -6,8 +6,6 @@ use Rattle.xa_desk.proofs.pump.wait_for_any.Given as goal
 -- missing
 abbrev pub invariant-loop : goal.invariant-loop
 invariant-loop g l = record {
-  can : (goal.iterator-loop g).can_next l.iterator';
-  finite : (goal.iterator-loop g).is_finite l.iterator';
   looks : Looks l.initial.book l.book;
   idled : g.I.Idle.leads l.initial.idle l.idle;
   waits : Waits (NothingIsReady l.manager) (g.I.Idle.leads_by l.manager) l.initial.book l.initial.idle l.book l.idle;

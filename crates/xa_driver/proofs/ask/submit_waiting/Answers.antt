@@ -46,11 +46,13 @@ another why full (inr (inr (inl e))) = cc
 another why full (inr (inr (inr e))) = cc
 
 -- so it isn't while nothing is sent
-never_refused : (first now : DeskView) (m : ℕ) → CanAsk first.ledgers m → outstanding first.ledgers < first.handles → now.ledgers ≡ first.ledgers → KeepsDesk first now → false ≡ (is_known first.ledgers m && learnt_shut (ledger first.ledgers m)) → submit_refusal now m ≡ None
+never_refused : (first now : DeskView) (m : ℕ) → CanAsk first.ledgers m → outstanding first.ledgers < first.handles → now.ledgers ≡ first.ledgers
+    → KeepsDesk first now → false ≡ (is_known first.ledgers m && learnt_shut (ledger first.ledgers m)) → submit_refusal now m ≡ None
 never_refused first now m can free unsent keeps open_ =
     let handles = keeps.goes_on.handles in
     let out = ap outstanding unsent in
-    let still : learnt_shut (ledger first.ledgers m) ≡ false = second_fails (is_known first.ledgers m) (learnt_shut (ledger first.ledgers m)) (known_true first.ledgers m can.known) (sym open_) in
+    let still : learnt_shut (ledger first.ledgers m) ≡ false =
+    second_fails (is_known first.ledgers m) (learnt_shut (ledger first.ledgers m)) (known_true first.ledgers m can.known) (sym open_) in
     allowed now m (subst (λ (l : List LedgerView). CanAsk l m) (sym unsent) can) (ap (λ l. learnt_shut (ledger l m)) unsent ∙ still) (omega (arith, free, handles, out))
 
 pub loop-preserved : goal.loop-preserved
@@ -78,7 +80,8 @@ loop-preserved g c =
 pub unreachable-requires : goal.unreachable-requires
 unreachable-requires g c =
     let now : DeskView = c.loop.desk in
-    let none = never_refused c.args.desk.now now c.args.manager c.requires.can c.requires.free c.loop.invariant.unsent c.loop.invariant.keeps c.if-learnt_shut.ensures in
+    let none =
+    never_refused c.args.desk.now now c.args.manager c.requires.can c.requires.free c.loop.invariant.unsent c.loop.invariant.keeps c.if-learnt_shut.ensures in
     another c.in-Err.why (c.in-Err.ensures.full none).0 c.in-NoSuchManager.is
 
 pub returns-in-Ok-clause-waited : goal.returns-in-Ok-clause-waited

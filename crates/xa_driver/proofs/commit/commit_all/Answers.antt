@@ -3,18 +3,17 @@ use Rattle.xa_words.specs.Tran.{TranName}
 use Rattle.xa_desk.specs.DeskView.{DeskView}
 use Rattle.xa_driver.specs.Asks.{KeepsTheRest}
 use Rattle.xa_driver.specs.Decision.{yes_of}
-use Rattle.xa_driver.specs.Log.{record_of}
+use Rattle.xa_log.specs.Log.{record_of}
 use Rattle.xa_driver.specs.Trace.{AppendsOnce, IsTraceOfCommit}
 use Rattle.xa_driver.proofs.Idling.{all_idle}
-use Rattle.xa_driver.proofs.OneOutcome.{one_tran}
-use Rattle.xa_driver.proofs.Staged.{asks_log, may_forget, may_tell, stages_call}
+use Rattle.xa_driver.proofs.Calls.{one_tran}
+use Rattle.xa_driver.proofs.OneCall.{asks_log, may_forget, may_tell, stages_call}
 use Rattle.xa_driver.specs.Trace.{IsTraceOfCommit}
 use Rattle.xa_driver.specs.declared.ask.Ask.{Ask}
 use Rattle.xa_driver.specs.Asks.{SameAsks}
 use Rattle.xa_driver.specs.Rounds.{first_ask, second_ask, third_ask}
-use Rattle.xa_driver.proofs.OneOutcome.{one_tran}
 use Rattle.xa_driver.proofs.Ordering.{same_in_order}
-use Rattle.xa_driver.proofs.Staged.{may_forget, may_tell, stages_call}
+use Rattle.xa_driver.proofs.OneCall.{may_forget, may_tell, stages_call}
 use Rattle.xa_driver.proofs.Staying.{rest_chain}
 use Rattle.xa_driver.proofs.commit.commit_all.Goals as goal
 
@@ -22,7 +21,8 @@ pub decide-decided-requires : goal.decide-decided-requires
 decide-decided-requires g c =
     let p = c.in_ok-prepared.prepared in
     let first = c.in_ok-prepared.ensures.prepared in
-    ap (record_of (g.L.DecisionLog.state c.args.log.now)) (one_tran c.args.branches.now p.tran c.requires.tran c.requires.some first.tran c.requires.one) ∙ c.requires.absent
+    ap (record_of (g.L.DecisionLog.state c.args.log.now)) (one_tran c.args.branches.now p.tran c.requires.tran c.requires.some first.tran c.requires.one)
+    ∙ c.requires.absent
 
 pub tell-told-requires : goal.tell-told-requires
 tell-told-requires g c =
@@ -51,19 +51,24 @@ whole : (old mid late new : DeskView) → KeepsTheRest old mid → KeepsTheRest 
 whole old mid late new a b c = rest_chain old mid new a (rest_chain mid late new b c)
 
 pub returns-clause-keeps : goal.returns-clause-keeps
-returns-clause-keeps g c = (whole c.args.desk.now c.prepare_all.new.desk c.tell-told.new.desk c.forget.new.desk c.in_ok-prepared.ensures.keeps c.tell-told.ensures.keeps c.forget.ensures.keeps).keeps
+returns-clause-keeps g c =
+    (whole c.args.desk.now c.prepare_all.new.desk c.tell-told.new.desk c.forget.new.desk c.in_ok-prepared.ensures.keeps c.tell-told.ensures.keeps c.forget.ensures.keeps).keeps
 
 pub returns-clause-kept : goal.returns-clause-kept
-returns-clause-kept g c = (whole c.args.desk.now c.prepare_all.new.desk c.tell-told.new.desk c.forget.new.desk c.in_ok-prepared.ensures.keeps c.tell-told.ensures.keeps c.forget.ensures.keeps).kept
+returns-clause-kept g c =
+    (whole c.args.desk.now c.prepare_all.new.desk c.tell-told.new.desk c.forget.new.desk c.in_ok-prepared.ensures.keeps c.tell-told.ensures.keeps c.forget.ensures.keeps).kept
 
 pub returns-clause-left : goal.returns-clause-left
-returns-clause-left g c = (whole c.args.desk.now c.prepare_all.new.desk c.tell-told.new.desk c.forget.new.desk c.in_ok-prepared.ensures.keeps c.tell-told.ensures.keeps c.forget.ensures.keeps).left
+returns-clause-left g c =
+    (whole c.args.desk.now c.prepare_all.new.desk c.tell-told.new.desk c.forget.new.desk c.in_ok-prepared.ensures.keeps c.tell-told.ensures.keeps c.forget.ensures.keeps).left
 
 pub returns-clause-tickets : goal.returns-clause-tickets
-returns-clause-tickets g c = (whole c.args.desk.now c.prepare_all.new.desk c.tell-told.new.desk c.forget.new.desk c.in_ok-prepared.ensures.keeps c.tell-told.ensures.keeps c.forget.ensures.keeps).tickets
+returns-clause-tickets g c =
+    (whole c.args.desk.now c.prepare_all.new.desk c.tell-told.new.desk c.forget.new.desk c.in_ok-prepared.ensures.keeps c.tell-told.ensures.keeps c.forget.ensures.keeps).tickets
 
 pub returns-clause-free : goal.returns-clause-free
-returns-clause-free g c = (whole c.args.desk.now c.prepare_all.new.desk c.tell-told.new.desk c.forget.new.desk c.in_ok-prepared.ensures.keeps c.tell-told.ensures.keeps c.forget.ensures.keeps).free
+returns-clause-free g c =
+    (whole c.args.desk.now c.prepare_all.new.desk c.tell-told.new.desk c.forget.new.desk c.in_ok-prepared.ensures.keeps c.tell-told.ensures.keeps c.forget.ensures.keeps).free
 
 pub returns-clause-waited : goal.returns-clause-waited
 returns-clause-waited g c =

@@ -9,7 +9,8 @@ loop-before-preserved c =
     let z = c.args.scan.now in
     let n = c.loop-before.before in
     let below = c.loop-before-test.true in
-    let few : length (left_at z (n + 1)) ≤ room_at c.args.desk.now.ledgers (n + 1) = left_few (left_at z (n + 1)) _ (c.requires.room (n + 1) (omega arith, omega (arith, below))) in
+    let few : length (left_at z (n + 1)) ≤ room_at c.args.desk.now.ledgers (n + 1) =
+    left_few (left_at z (n + 1)) _ (c.requires.room (n + 1) (omega arith, omega (arith, below))) in
     let x = c.min-count.ensures in
     let y : length c.left-left.result.now ≡ length (left_at z (n + 1)) = ap (λ l. length l) c.left-left.ensures in
     let r = c.room.ensures in

@@ -1,7 +1,8 @@
 use Rattle.std.proofs.Common.{◌≡◌, ◌≤◌, ◌+◌, length, length-append, vec_capacity, refl, sym, ap, ◌∙◌, subst, arith}
 use Rattle.xa_base.specs.declared.limits.TheConstants.{MOST_MANAGERS}
 use Rattle.xa_desk.specs.DeskView.{ledger}
-use Rattle.xa_driver.specs.Resolving.{requests_for, ResolvesAt, ResolvesInTurn, AsksAndWaits, AsksLedger, begun, next}
+use Rattle.xa_driver.specs.Resolving.{requests_for, ResolvesAt, ResolvesInTurn, AsksLedger, begun, next}
+use Rattle.xa_switch.specs.Scans.{AsksAndWaits}
 use Rattle.xa_driver.proofs.Asking.{keeps_start, keeps_chain}
 use Rattle.xa_driver.proofs.Staying.{outstanding_chain, tickets_stay}
 use Rattle.xa_driver.proofs.EachLeft.{SoFar, none_so_far, one_more_so_far, left_more, left_within, room_same}
@@ -54,9 +55,11 @@ loop-before-preserved g c =
     let alone = c.resolve_at.ensures.alone in
     let (more, items, as_many, resolves, waits) = c.resolve_at.ensures.resolves in
     record {
-      so_far = one_more_so_far z (g.L.DecisionRecords.records c.args.log.now) n c.args.desk.now.ledgers c.loop-before.desk.ledgers c.resolve_at.new.desk.ledgers c.loop-before.outcomes.items c.resolve_at.new.outcomes.items more i.so_far items
+      so_far =
+          one_more_so_far z (g.L.DecisionRecords.records c.args.log.now) n c.args.desk.now.ledgers c.loop-before.desk.ledgers c.resolve_at.new.desk.ledgers c.loop-before.outcomes.items c.resolve_at.new.outcomes.items more i.so_far items
           (subst (λ l. ResolvesAt AsksLedger (g.L.DecisionRecords.records c.args.log.now) (n + 1) l more (ledger c.loop-before.desk.ledgers (n + 1)) (ledger c.resolve_at.new.desk.ledgers (n + 1))) c.left.ensures resolves) alone.others;
-      waits = next n (n + 1) c.loop-before.outcomes.items more c.resolve_at.new.outcomes.items (c.loop-before.desk, c.loop-before.idle) (c.resolve_at.new.desk, c.resolve_at.new.idle) i.waits refl
+      waits =
+          next n (n + 1) c.loop-before.outcomes.items more c.resolve_at.new.outcomes.items (c.loop-before.desk, c.loop-before.idle) (c.resolve_at.new.desk, c.resolve_at.new.idle) i.waits refl
           (subst (λ l. ResolvesAt (AsksAndWaits g.I.Idle.leads_by (n + 1)) (g.L.DecisionRecords.records c.args.log.now) (n + 1) l more (c.loop-before.desk, c.loop-before.idle) (c.resolve_at.new.desk, c.resolve_at.new.idle)) c.left.ensures waits) items;
       many =
           let all = ap (λ l. length l) items in
@@ -80,7 +83,8 @@ returns-clause-trace g c =
     let done = c.loop-before-test.false in
     let stop = c.loop-before.auto.before-end in
     let all : c.loop-before.before ≡ MOST_MANAGERS = omega (arith, done, stop) in
-    let is = subst (λ n. SoFar c.args.scan.now (g.L.DecisionRecords.records c.args.log.now) n c.args.desk.now.ledgers c.loop-before.desk.ledgers c.loop-before.outcomes.items) all i.so_far in
+    let is =
+    subst (λ n. SoFar c.args.scan.now (g.L.DecisionRecords.records c.args.log.now) n c.args.desk.now.ledgers c.loop-before.desk.ledgers c.loop-before.outcomes.items) all i.so_far in
     record { course = is; managers = i.managers }
 
 pub returns-clause-tickets : goal.returns-clause-tickets

@@ -6,7 +6,8 @@ use Rattle.xa_base.proofs.Lists.{one_more}
 use Rattle.xa_words.specs.Xid.{XidName}
 use Rattle.xa_desk.specs.DeskView.{ledger}
 use Rattle.xa_driver.specs.declared.resolved.Outcome.{Outcome}
-use Rattle.xa_driver.specs.Resolving.{AsksAndWaits, AsksLedger}
+use Rattle.xa_driver.specs.Resolving.{AsksLedger}
+use Rattle.xa_switch.specs.Scans.{AsksAndWaits}
 use Rattle.xa_driver.proofs.Alone.{alone_start, alone_chain}
 use Rattle.xa_driver.proofs.EachLeft.{requests_there, resolves_there}
 use Rattle.xa_driver.proofs.resolving.resolve_at.Goals as goal
@@ -39,7 +40,8 @@ loop-xid-preserved g c =
       more = (
         before ++ o ∷ [],
         c.push_reserved.ensures.items ∙ ap (λ l. l ++ o ∷ []) items ∙ append_assoc c.args.outcomes.now.items before (o ∷ []),
-        map_push (λ (p : Outcome). p.xid) before o ∙ (λ j. xids j ++ c.resolve_branch-outcome.ensures.xid j ∷ []) ∙ sym (one_more left c.loop-xid.xid-index c.xid-item.result below c.xid-item.is),
+        map_push (λ (p : Outcome). p.xid) before o ∙ (λ j. xids j ++ c.resolve_branch-outcome.ensures.xid j ∷ [])
+            ∙ sym (one_more left c.loop-xid.xid-index c.xid-item.result below c.xid-item.is),
         more before o (ledger c.loop-xid.desk.ledgers c.args.manager) _ chain c.resolve_branch-outcome.ensures.resolves,
         more before o (c.loop-xid.desk, c.loop-xid.idle) _ waits c.resolve_branch-outcome.ensures.waits,
       );

@@ -37,7 +37,8 @@ loop-place-preserved c =
 
 pub returns-clause-kept : goal.returns-clause-kept
 returns-clause-kept c but =
-    let none = none_left c.loop-place.tickets.items (let a = c.loop-place-test.false in let b = c.loop-place.invariant.counted in let d = c.len-place-end.ensures in let e = c.args.tickets.now.ok.0 in omega (arith, a, b, d, e)) in
+    let none =
+    none_left c.loop-place.tickets.items (let a = c.loop-place-test.false in let b = c.loop-place.invariant.counted in let d = c.len-place-end.ensures in let e = c.args.tickets.now.ok.0 in omega (arith, a, b, d, e)) in
     all_kept c.loop-place.desk (subst (λ (rs : List (Option TicketView)). AllKeptBut rs c.loop-place.desk) none (c.loop-place.invariant.kept but))
   where
     none_left : (rs : List (Option TicketView)) → length rs ≡ 0 → rs ≡ []

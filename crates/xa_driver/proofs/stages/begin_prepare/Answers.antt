@@ -1,11 +1,12 @@
 use Rattle.std.proofs.Common.{◌≡◌, List, length, map, refl, sym, ap, ◌∙◌, subst, arith}
+use Rattle.std.proofs.lemmas.List.{length-map}
 use Rattle.xa_words.specs.Tran.{tran_of}
 use Rattle.xa_driver.specs.declared.ask.Ask.{Ask}
 use Rattle.xa_driver.specs.declared.branch.Branch.{Branch}
 use Rattle.xa_driver.specs.Asks.{AllCanAsk, AreRising, SameAsks}
 use Rattle.xa_driver.specs.Rounds.{first_ask}
 use Rattle.xa_driver.specs.Trace.{IsTranOf}
-use Rattle.xa_driver.proofs.Calls.{first_can, first_rising, firsts, tran_first}
+use Rattle.xa_driver.proofs.Calls.{first_can, first_rising, tran_first}
 use Rattle.xa_driver.proofs.Gathering.{same_itself}
 use Rattle.xa_driver.proofs.stages.begin_prepare.Goals as goal
 
@@ -13,14 +14,15 @@ pub new-requires-clause-rising : goal.new-requires-clause-rising
 new-requires-clause-rising g c = subst (AreRising 0) (sym c.in_ok-asks.ensures) (first_rising 0 c.args.branches.now c.requires.rising)
 
 pub new-requires-clause-can : goal.new-requires-clause-can
-new-requires-clause-can g c = subst (λ (l : List Ask). AllCanAsk l c.args.desk.now.ledgers) (sym c.in_ok-asks.ensures) (first_can c.args.desk.now.ledgers c.args.branches.now c.requires.room)
+new-requires-clause-can g c =
+    subst (λ (l : List Ask). AllCanAsk l c.args.desk.now.ledgers) (sym c.in_ok-asks.ensures) (first_can c.args.desk.now.ledgers c.args.branches.now c.requires.room)
 
 pub returns-clause-preparing : goal.returns-clause-preparing
 returns-clause-preparing g c =
     let begins = c.in_ok-round.ensures.begins in
     let bs = c.args.branches.now in
     let asks_are = begins.asks_are ∙ c.in_ok-asks.ensures in
-    let long : length c.in_ok-round.round.asks.items ≡ length bs = ap (λ l. length l) asks_are ∙ firsts bs in
+    let long : length c.in_ok-round.round.asks.items ≡ length bs = ap (λ l. length l) asks_are ∙ length-map bs first_ask in
     record {
       before = begins.before;
       tran = subst (IsTranOf bs) (sym (c.tran.ensures ∙ ap (λ (d : Branch). tran_of d.xid) (sym c.index-branches-0.is) ∙ tran_first bs c.index-branches-0.result c.requires.tran c.requires.some c.index-branches-0.is c.requires.one)) c.requires.one;

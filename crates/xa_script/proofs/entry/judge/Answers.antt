@@ -12,11 +12,13 @@ returns-in-Ok-clause-ok c =
     let command_is : app_of c.in_ok-command.command ≡ command q.0 = c.in_ok-command.ensures.shape (search rules)
     ∙ ap₂ with_rule (top_is _ _ _ c.new-2.ensures.app c.no_binary_name.ensures c.disable_help_flag.ensures)
     (mode_is _ _ _ q.0 c.new.ensures.rule c.required.ensures c.value_parser-mode.ensures.others q.1) in
-    let only : (v : List ℕ) → accepts false q.0 v ≡ is_either v = λ v. ap (λ p. accepts false p v) q.2 ∙ accepts_two c.as_slice.result _ _ v c.as_slice.ensures in
+    let only : (v : List ℕ) → accepts false q.0 v ≡ is_either v =
+    λ v. ap (λ p. accepts false p v) q.2 ∙ accepts_two c.as_slice.result _ _ v c.as_slice.ensures in
     let texts = one_word c.args.words.now (record { ref_ptr = (0, 0); now = [] }) c.if-words-ne1.false in
     let w : List ℕ = (slice_index_or c.args.words.now 0 (record { ref_ptr = (0, 0); now = [] })).now in
     let minus : (slice_index w 0 == 45) ≡ false = sym (c.starts_with.ensures.byte (omega arith) (omega arith) (λ w o h. h)) ∙ c.if-starts_with.false in
-    let none : fault_of (command q.0) (w ∷ []) ≡ [] = sym (ap₂ fault_of command_is texts) ∙ c.in-Ok.ensures.kinds (ap is_simple_and_free command_is ∙ free q.0) in
+    let none : fault_of (command q.0) (w ∷ []) ≡ [] =
+    sym (ap₂ fault_of command_is texts) ∙ c.in-Ok.ensures.kinds (ap is_simple_and_free command_is ∙ free q.0) in
     let m = only_either q.0 w only minus none in
     (m.0, texts ∙ ap (λ (t : List ℕ). t ∷ []) m.1)
 
@@ -26,7 +28,8 @@ returns-clause-usage c usage are =
     let command_is : app_of c.in_ok-command.command ≡ command q.0 = c.in_ok-command.ensures.shape (search rules)
     ∙ ap₂ with_rule (top_is _ _ _ c.new-2.ensures.app c.no_binary_name.ensures c.disable_help_flag.ensures)
     (mode_is _ _ _ q.0 c.new.ensures.rule c.required.ensures c.value_parser-mode.ensures.others q.1) in
-    let accepted : accepts false q.0 (word_of are.0) ≡ true = ap (λ p. accepts false p (word_of are.0)) q.2 ∙ accepts_two c.as_slice.result _ _ (word_of are.0) c.as_slice.ensures ∙ either_mode are.0 in
+    let accepted : accepts false q.0 (word_of are.0) ≡ true =
+    ap (λ p. accepts false p (word_of are.0)) q.2 ∙ accepts_two c.as_slice.result _ _ (word_of are.0) c.as_slice.ensures ∙ either_mode are.0 in
     let memory = c.in-Err.ensures.passes (ap₂ takes command_is are.1 ∙ takes_mode q.0 are.0 accepted) in
     let same : c.kind.result ≡ OutOfMemory = c.kind.ensures ∙ memory in
     let bad : true ≡ false = sym (c.eq.ensures ∙ rw same refl) ∙ c.if-eq.false in

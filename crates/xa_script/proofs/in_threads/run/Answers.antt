@@ -25,13 +25,16 @@ use Rattle.xa_script.proofs.Members.{members_worked, members_tell, as_many_new}
 use Rattle.xa_script.proofs.in_threads.run.Goals as goal
 
 pub run_clients-requires-clause-clients : goal.run_clients-requires-clause-clients
-run_clients-requires-clause-clients g c κs within = as_many_new c.args.script.now c.in_ok-threads.threads.items c.in_ok-threads.ensures ∙ sym c.in_ok-plan.ensures.plan.numbers.threads
+run_clients-requires-clause-clients g c κs within =
+    as_many_new c.args.script.now c.in_ok-threads.threads.items c.in_ok-threads.ensures ∙ sym c.in_ok-plan.ensures.plan.numbers.threads
 
 pub run_clients-requires-clause-paces : goal.run_clients-requires-clause-paces
-run_clients-requires-clause-paces g c κs within = let few = c.in_ok-plan.ensures.sound.limits.managers.1 in let eight = c.requires.paces in omega (arith, few, eight)
+run_clients-requires-clause-paces g c κs within =
+    let few = c.in_ok-plan.ensures.sound.limits.managers.1 in let eight = c.requires.paces in omega (arith, few, eight)
 
 -- each begins with a log without a record and without scans
-begin_so : (s : Content) (ms : List (Member ScriptThread)) (k : ℕ) (x : Session) → slice_get (map (λ (t : Member ScriptThread). new_session s t.desk) ms) k ≡ Some x → BeginsAs (beginning s) (k + 1) x
+begin_so : (s : Content) (ms : List (Member ScriptThread)) (k : ℕ) (x : Session)
+    → slice_get (map (λ (t : Member ScriptThread). new_session s t.desk) ms) k ≡ Some x → BeginsAs (beginning s) (k + 1) x
 begin_so s ms k x at =
     let m = was_mapped (λ (t : Member ScriptThread). new_session s t.desk) ms k x at in
     subst (BeginsAs (beginning s) (k + 1)) m.2 (record { log = refl; scan = refl })
@@ -45,11 +48,13 @@ returns-in-Ok g c =
     let desks : List DeskView = map (λ (t : Member ScriptThread). t.desk) r.members in
     let sessions : List Session = map (λ (t : Member ScriptThread). new_session s t.desk) r.members in
     let ended : List EndedView = map (λ (t : Member ScriptThread). t.ended) r.members in
-    let are_opened : AreOpened s 1 (opened s) desks r.workers = record { setup = planned c.in_ok-plan.plan; said = planned_setup s c.in_ok-plan.plan c.in_ok-plan.ensures.plan r.sound; opened = r.opened } in
+    let are_opened : AreOpened s 1 (opened s) desks r.workers =
+    record { setup = planned c.in_ok-plan.plan; said = planned_setup s c.in_ok-plan.plan c.in_ok-plan.ensures.plan r.sound; opened = r.opened } in
     let all_opened : AreOpened s 1 (opened s) (map (λ (x : Session). x.desk) sessions) r.workers =
     subst (λ ds. AreOpened s 1 (opened s) ds r.workers) (sym (map_map (λ (x : Session). x.desk) (λ (t : Member ScriptThread). new_session s t.desk) r.members)) are_opened in
     let fits : All (Fits (threads_of s) (managers_of s)) s.steps = c.steps_are_of_it.ensures in
-    let worked = members_worked s r.members r.workers are_opened c.in_ok-threads.threads.items c.in_ok-threads.ensures r.clients_are r.ran c.in-Ok.run'.clients.items r.attended_are c.in_ok-lines_of-in-Ok.ensures.done in
+    let worked =
+    members_worked s r.members r.workers are_opened c.in_ok-threads.threads.items c.in_ok-threads.ensures r.clients_are r.ran c.in-Ok.run'.clients.items r.attended_are c.in_ok-lines_of-in-Ok.ensures.done in
     let runs : InThreads s s.steps sessions worked.0 r.workers ended r.done answers = record {
       threads = r.members;
       sessions_are = refl;

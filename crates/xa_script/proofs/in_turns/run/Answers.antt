@@ -15,10 +15,12 @@ use Rattle.xa_script.specs.Outcome.{IsOutcome}
 use Rattle.xa_script.specs.TurnsSoFar.{HasReached}
 use Rattle.xa_script.proofs.Reached.{begun, reached_threads, reached_managers, stepped, ended_so, reopened, outcome_so}
 use Rattle.xa_script.proofs.in_turns.run.Goals as goal
-use Rattle.xa_script.proofs.in_turns.run.Goals.{in-Task+in_ok-call-in-Task+in_ok-tell-in-Task, in-Turn+in_ok-tell-in-Turn, in-Reopen+in_ok-closed-in-Reopen+in_ok-tell-in-Reopen+in_ok-runner-in-Reopen}
+use Rattle.xa_script.proofs.in_turns.run.Goals.{in-Task+in_ok-call-in-Task+in_ok-tell-in-Task, in-Turn+in_ok-tell-in-Turn}
+use Rattle.xa_script.proofs.in_turns.run.Goals.{in-Reopen+in_ok-closed-in-Reopen+in_ok-tell-in-Reopen+in_ok-runner-in-Reopen}
 
 -- the same lines, number and answers
-reached_as : (s : Content) (lines lines' : List ScriptStep) (r : Runner) (opening : ℕ) (sessions : List Session) (workers : List WorkerView) (answers answers' : List Told) → lines' ≡ lines → r.opening ≡ opening → r.sessions.items ≡ sessions → r.turns ≡ workers → answers' ≡ answers
+reached_as : (s : Content) (lines lines' : List ScriptStep) (r : Runner) (opening : ℕ) (sessions : List Session) (workers : List WorkerView) (answers answers' : List Told)
+    → lines' ≡ lines → r.opening ≡ opening → r.sessions.items ≡ sessions → r.turns ≡ workers → answers' ≡ answers
     → HasReached s lines opening sessions workers answers → HasReached s lines' r.opening r.sessions.items r.turns answers'
 reached_as s lines lines' r opening sessions workers answers answers' same_lines number same_sessions same_workers same_answers is =
     subst (λ (l : List ScriptStep). HasReached s l r.opening r.sessions.items r.turns answers') (sym same_lines)
@@ -39,23 +41,13 @@ loop-place-init g c =
 
 pub call-requires : goal.call-requires
 call-requires g c =
-    let s : Content = c.args.script.now in
-    let r = c.loop-place.runner in
-    let lines = take c.loop-place.place s.steps in
-    let p : ScriptStep = c.step.result in
-    let fits : Fits (threads_of s) (managers_of s) p = c.step.ensures.of in
-    let own : IsOfScript s (step.Task c.in-Task.task) = subst (Fits (threads_of s) (managers_of s)) c.in-Task.is fits in
-    subst (λ n. IsUpTo n c.in-Task.task.thread) (sym (reached_threads s lines r.opening r.sessions.items r.turns c.loop-place.transcript c.loop-place.invariant.reached)) own.0
+    let own = subst (IsOfScript c.args.script.now) c.in-Task.is c.step.ensures.of in
+    subst (λ n. IsUpTo n c.in-Task.task.thread) (sym (reached_threads _ _ _ _ _ _ c.loop-place.invariant.reached)) own.0
 
 pub turn-requires : goal.turn-requires
 turn-requires g c =
-    let s : Content = c.args.script.now in
-    let r = c.loop-place.runner in
-    let lines = take c.loop-place.place s.steps in
-    let p : ScriptStep = c.step.result in
-    let fits : Fits (threads_of s) (managers_of s) p = c.step.ensures.of in
-    let own : IsOfScript s (step.Turn c.in-Turn.line c.in-Turn.manager) = subst (Fits (threads_of s) (managers_of s)) c.in-Turn.is fits in
-    subst (λ n. IsUpTo n c.in-Turn.manager) (sym (reached_managers s lines r.opening r.sessions.items r.turns c.loop-place.transcript c.loop-place.invariant.reached)) own
+    let own = subst (IsOfScript c.args.script.now) c.in-Turn.is c.step.ensures.of in
+    subst (λ n. IsUpTo n c.in-Turn.manager) (sym (reached_managers _ _ _ _ _ _ c.loop-place.invariant.reached)) own
 
 pub reopen-requires-clause-closed : goal.reopen-requires-clause-closed
 reopen-requires-clause-closed g c =
@@ -83,7 +75,8 @@ loop-place-preserved g c =
     let h = c.loop-place.invariant.reached in
     let few = c.loop-place.invariant.few in
     let p : ScriptStep = c.step.result in
-    let longer : take (k + 1) steps ≡ lines ++ p ∷ [] = take_next steps k p (let there = c.loop-place-test.true in let all = c.len-place-end.ensures.steps in omega (arith, there, all)) c.step.ensures.step in
+    let longer : take (k + 1) steps ≡ lines ++ p ∷ [] =
+    take_next steps k p (let there = c.loop-place-test.true in let all = c.len-place-end.ensures.steps in omega (arith, there, all)) c.step.ensures.step in
     let fits : Fits (threads_of s) (managers_of s) p = c.step.ensures.of in
     elim c.match-step.branch [
       | in-Task+in_ok-call-in-Task+in_ok-tell-in-Task w ↦
@@ -118,7 +111,8 @@ loop-place-preserved g c =
           let x = w.in_ok-closed-in-Reopen.ensures.closed s h.begins h.own h.told h.goes in
           let own = w.in_ok-closed-in-Reopen.ensures.number in
           let new = w.in_ok-runner-in-Reopen.runner in
-          let y = w.in_ok-runner-in-Reopen.ensures.opened h.begins (ended_so s lines r.opening r.sessions.items r.turns answers h x.0 closed.settled) line x.2 refl (own ∙ h.number) in
+          let y =
+          w.in_ok-runner-in-Reopen.ensures.opened h.begins (ended_so s lines r.opening r.sessions.items r.turns answers h x.0 closed.settled) line x.2 refl (own ∙ h.number) in
           let number = w.in_ok-runner-in-Reopen.ensures.number in
           let same = ap (λ (x : Runner). x.opening) w.runner-is in
           record {

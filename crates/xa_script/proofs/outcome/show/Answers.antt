@@ -34,7 +34,8 @@ returns-clause-ok g c =
     (λ written m answers before last are outcome same.
     let former : List Settling = map (λ (f : Former). f.opening.settled) before in
     let managers = subst (λ (x : Settling). AreOfScript s (opened_after s former) x.managers) same (managers_so m s answers before last outcome) in
-    let shown : AreValues s (settled_over before last) values = subst (λ (x : Settling). AreValues s (former ++ x ∷ []) values) (sym same) (c.in_ok-values.ensures former managers) in
+    let shown : AreValues s (settled_over before last) values =
+    subst (λ (x : Settling). AreValues s (former ++ x ∷ []) values) (sym same) (c.in_ok-values.ensures former managers) in
     record {
       answers = answers;
       former = before;

@@ -8,7 +8,8 @@ use Rattle.xa_session.specs.Calling.{IsListed}
 use Rattle.xa_session.proofs.calls.listed.Goals as goal
 
 -- an answer that isn't negative tells how many were written
-listed_so : (n z : ℤ) (xids : List XidName) (v : Vec XidName Global) → z ≡ n → int_lt z (pos 0) ≡ false → v.items ≡ take (nat_abs z) xids → IsListed n xids (Recovered v)
+listed_so : (n z : ℤ) (xids : List XidName) (v : Vec XidName Global) → z ≡ n → int_lt z (pos 0) ≡ false → v.items ≡ take (nat_abs z) xids
+    → IsListed n xids (Recovered v)
 listed_so (pos n) z xids v same low is = (v, is ∙ ap (λ y. take (nat_abs y) xids) same, refl)
 listed_so (negsuc n) z xids v same low is = absurd (let f : true ≡ false = ap (λ y. int_lt y (pos 0)) (sym same) ∙ low in cc)
 

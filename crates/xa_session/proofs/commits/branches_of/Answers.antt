@@ -1,4 +1,5 @@
-use Rattle.std.proofs.Common.{◌≡◌, ℕ, ◌+◌, true, false, cond, List, [], ◌∷◌, ◌++◌, length, map, filter, sym, ap, ◌∙◌, arith, length-append, append-nil, vec_capacity, Vec, Global}
+use Rattle.std.proofs.Common.{◌≡◌, ℕ, ◌+◌, true, false, cond, List, [], ◌∷◌, ◌++◌, length, map, filter, sym, ap, ◌∙◌, arith, length-append, append-nil}
+use Rattle.std.proofs.Common.{vec_capacity, Vec, Global}
 use Rattle.std.specs.List.{range_with_len}
 use Rattle.std.proofs.lemmas.List.{map-append}
 use Rattle.std.proofs.lemmas.List.Elements.{filter-append}
@@ -16,7 +17,10 @@ firsts c n = map (branch_at c) (filter (is_in c.managers) (range_with_len 1 n))
 
 -- with one more manager there is its branch, or none
 more : (c : CommitAll TranName) (n : ℕ) → firsts c (n + 1) ≡ firsts c n ++ map (branch_at c) (filter (is_in c.managers) ((n + 1) ∷ []))
-more c n = ap (λ l. map (branch_at c) (filter (is_in c.managers) l)) (range_more n) ∙ ap (map (branch_at c)) (filter-append (is_in c.managers) (range_with_len 1 n) ((n + 1) ∷ [])) ∙ map-append (branch_at c) (filter (is_in c.managers) (range_with_len 1 n)) (filter (is_in c.managers) ((n + 1) ∷ []))
+more c n =
+    ap (λ l. map (branch_at c) (filter (is_in c.managers) l)) (range_more n)
+    ∙ ap (map (branch_at c)) (filter-append (is_in c.managers) (range_with_len 1 n) ((n + 1) ∷ []))
+    ∙ map-append (branch_at c) (filter (is_in c.managers) (range_with_len 1 n)) (filter (is_in c.managers) ((n + 1) ∷ []))
 
 here : (c : CommitAll TranName) (n : ℕ) → is_in c.managers (n + 1) ≡ true → firsts c (n + 1) ≡ firsts c n ++ branch_at c (n + 1) ∷ []
 here c n e = more c n ∙ ap (λ b. firsts c n ++ map (branch_at c) (cond b ((n + 1) ∷ []) [])) e
@@ -34,12 +38,14 @@ loop-before-preserved c =
       | then-contains w ↦
           let there : is_in asked.managers (n + 1) ≡ true = sym w.if-contains.ensures in
           let is = ap (λ (v : Vec Branch Global). v.items) w.branches-is in
-          let pushed : w.push_reserved.new.self.items ≡ c.loop-before.branches.items ++ branch_at asked (n + 1) ∷ [] = w.push_reserved.ensures.items ∙ ap (λ b. c.loop-before.branches.items ++ b ∷ []) w.branch_at.ensures in
+          let pushed : w.push_reserved.new.self.items ≡ c.loop-before.branches.items ++ branch_at asked (n + 1) ∷ [] =
+          w.push_reserved.ensures.items ∙ ap (λ b. c.loop-before.branches.items ++ b ∷ []) w.branch_at.ensures in
           let size = ap (λ (l : List Branch). length l) (is ∙ pushed) in
           record {
             so_far = is ∙ pushed ∙ ap (λ l. l ++ branch_at asked (n + 1) ∷ []) i.so_far ∙ sym (here asked n there);
             few = omega (arith, few, size, length-append c.loop-before.branches.items (branch_at asked (n + 1) ∷ []));
-            room = let room = i.room in let same = ap (λ (v : Vec Branch Global). vec_capacity v) w.branches-is ∙ w.push_reserved.ensures.capacity in omega (arith, room, same);
+            room = let room = i.room in let same = ap (λ (v : Vec Branch Global). vec_capacity v) w.branches-is
+                ∙ w.push_reserved.ensures.capacity in omega (arith, room, same);
           }
       | else-contains w ↦
           let missing : is_in asked.managers (n + 1) ≡ false = sym w.if-contains.ensures in

@@ -1,7 +1,7 @@
 use Rattle.std.proofs.Common.{◌≡◌, ℕ, List, [], ◌∷◌, map, refl, sym, ◌∙◌, subst}
 use Rattle.xa_driver.specs.declared.branch.Branch.{Branch}
 use Rattle.xa_driver.specs.Decision.{yes_of}
-use Rattle.xa_driver.specs.Log.{AppendsTo}
+use Rattle.xa_log.specs.Log.{AppendsTo}
 use Rattle.xa_driver.specs.Order.{IsThreeRounds}
 use Rattle.xa_driver.specs.Trace.{AppendsOnce, MayCommit, IsTraceOfCommit, IsTranOf}
 use Rattle.xa_words.specs.Tran.{TranName}
@@ -24,7 +24,9 @@ returns-in-Ok-clause-commits g c = λ z.
     let bs' : c.deref-2.result.now ≡ branches_of asked = c.deref-2.ensures.value ∙ c.in_ok-branches.ensures in
     let own : IsTranOf c.deref-2.result.now (named asked) = subst (λ (l : List Branch). IsTranOf l (named asked)) (sym bs') (of_tran asked _) in
     let may : MayCommit desk log.state (branches_of asked) = subst (MayCommit desk log.state) bs (c.may_commit.ensures.0 c.if-not-may_commit.false) in
-    let trace = subst (λ (l : List Branch). IsTraceOfCommit (named asked) l desk.ledgers c.commit_all.new.desk.ledgers log.state c.commit_all.new.log.state c.in-Ok.done) bs' (c.in-Ok.ensures.call (named asked) own) in
+    let trace =
+    subst (λ (l : List Branch). IsTraceOfCommit (named asked) l desk.ledgers c.commit_all.new.desk.ledgers log.state c.commit_all.new.log.state c.in-Ok.done) bs' (c.in-Ok.ensures.call (named asked) own) in
     let rounds = subst (λ (l : List Branch). IsThreeRounds l c.in-Ok.done.commit desk c.commit_all.new.desk) bs' c.in-Ok.ensures.rounds in
-    let appends = subst (λ (l : List Branch). AppendsOnce AppendsTo (named asked) (yes_of l c.in-Ok.done.votes.items) c.in-Ok.done.votes.items c.in-Ok.done.logged log c.commit_all.new.log) bs' (c.in-Ok.ensures.appends (named asked) own) in
+    let appends =
+    subst (λ (l : List Branch). AppendsOnce AppendsTo (named asked) (yes_of l c.in-Ok.done.votes.items) c.in-Ok.done.votes.items c.in-Ok.done.logged log c.commit_all.new.log) bs' (c.in-Ok.ensures.appends (named asked) own) in
     decided c.in-Ok.done may trace refl c.in-Ok.ensures.keeps c.in-Ok.ensures.free refl rounds appends

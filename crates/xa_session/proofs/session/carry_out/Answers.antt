@@ -7,7 +7,7 @@ use Rattle.xa_grammar.specs.declared.step.CommitAll.{CommitAll}
 use Rattle.xa_grammar.specs.declared.step.Action.TheVariants as action
 use Rattle.xa_grammar.specs.Steps.{ScriptAction}
 use Rattle.xa_switch.specs.Scans.{ScanView}
-use Rattle.xa_driver.specs.Log.{LogView}
+use Rattle.xa_log.specs.Log.{LogView}
 use Rattle.xa_desk.specs.DeskView.{DeskView}
 use Rattle.xa_transcript.specs.declared.answer.Answer.{Answer}
 use Rattle.xa_session.specs.Committing.{CommitsAll}
@@ -16,14 +16,17 @@ use Rattle.xa_session.specs.Sessions.{session_of, Executes, Does}
 use Rattle.xa_session.proofs.session.carry_out.Goals as goal
 
 -- a commit leaves its thread's scans
-commits_so : (x : ScriptAction) (c : CommitAll TranName) (old new : DeskView) (log log' : LogView) (scan : ScanView) (r : Result Answer AllocError) → x ≡ action.CommitAll c
-    → IfOk r (λ a. (z : ScanView) → CommitsAll c (session_of old log z) (session_of new log' z) a) → GoesOn old new → (AllKept old → AllKept new) → IfOk r (Does x (session_of old log scan) (session_of new log' scan))
+commits_so : (x : ScriptAction) (c : CommitAll TranName) (old new : DeskView) (log log' : LogView) (scan : ScanView) (r : Result Answer AllocError)
+    → x ≡ action.CommitAll c
+    → IfOk r (λ a. (z : ScanView) → CommitsAll c (session_of old log z) (session_of new log' z) a) → GoesOn old new → (AllKept old → AllKept new)
+    → IfOk r (Does x (session_of old log scan) (session_of new log' scan))
 commits_so x c old new log log' scan (Ok a) is commits goes_on kept =
     record { executes = subst (λ (x : ScriptAction). Executes x (session_of old log scan) (session_of new log' scan) a) (sym is) (commits scan); goes_on = goes_on; kept = kept }
 commits_so x c old new log log' scan (Err why) is commits goes_on kept = tt
 
 -- and so does a resolve
-resolves_so : (x : ScriptAction) (old new : DeskView) (log : LogView) (scan : ScanView) (told : Result Answer AllocError) → x ≡ action.Resolve → IfOk told (ResolvesLeft (session_of old log scan) (session_of new log scan)) → GoesOn old new → (AllKept old → AllKept new)
+resolves_so : (x : ScriptAction) (old new : DeskView) (log : LogView) (scan : ScanView) (told : Result Answer AllocError) → x ≡ action.Resolve
+    → IfOk told (ResolvesLeft (session_of old log scan) (session_of new log scan)) → GoesOn old new → (AllKept old → AllKept new)
     → IfOk told (Does x (session_of old log scan) (session_of new log scan))
 resolves_so x old new log scan (Ok a) is resolves goes_on kept =
     record { executes = subst (λ (x : ScriptAction). Executes x (session_of old log scan) (session_of new log scan) a) (sym is) resolves; goes_on = goes_on; kept = kept }

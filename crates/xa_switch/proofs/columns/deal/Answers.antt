@@ -13,8 +13,10 @@ push_reserved-requires g c =
     let given = ap length (i.so_far ∙ c.into_iter-x-iterator.ensures.into_iter_gives.0) in
     let more = ap length c.in-Some.ensures.steps.0 in
     let row = c.requires.row in
-    let below : length c.loop-x.yielded < length c.args.columns.items = omega (arith, given, more, row, length-append c.loop-x.yielded (into_iter_items c.loop-x.x-iterator)) in
-    let h = room_there (λ v. v.items) (λ v. vec_capacity v) c.args.columns.items c.loop-x.columns.items c.loop-x.yielded c.index_mut-column.result.now i.dealt i.capacity below c.requires.room in
+    let below : length c.loop-x.yielded < length c.args.columns.items =
+    omega (arith, given, more, row, length-append c.loop-x.yielded (into_iter_items c.loop-x.x-iterator)) in
+    let h =
+    room_there (λ v. v.items) (λ v. vec_capacity v) c.args.columns.items c.loop-x.columns.items c.loop-x.yielded c.index_mut-column.result.now i.dealt i.capacity below c.requires.room in
     let at = i.place in
     let ok = c.index_mut-column.result.now.ok in
     let is = c.index_mut-column.ensures.value in
@@ -28,7 +30,8 @@ loop-x-preserved g c =
     let given = ap length (i.so_far ∙ c.into_iter-x-iterator.ensures.into_iter_gives.0) in
     let more = ap length c.in-Some.ensures.steps.0 in
     let row = c.requires.row in
-    let below : length c.loop-x.yielded < length c.args.columns.items = omega (arith, given, more, row, length-append c.loop-x.yielded (into_iter_items c.loop-x.x-iterator)) in
+    let below : length c.loop-x.yielded < length c.args.columns.items =
+    omega (arith, given, more, row, length-append c.loop-x.yielded (into_iter_items c.loop-x.x-iterator)) in
     let at = i.place in
     let is = c.index_mut-column.ensures.value in
     record {

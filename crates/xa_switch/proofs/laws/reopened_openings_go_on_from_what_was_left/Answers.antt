@@ -20,7 +20,8 @@ returns c s next again m T whole of first =
     let n : ℕ = managers_in s in
     let below : m - 1 < length (range_with_len 1 n) = let size = length-range_with_len 1 n in omega (arith, low, high, size) in
     let number : slice_get (range_with_len 1 n) (m - 1) ≡ Some m =
-    slice_get-get_or (range_with_len 1 n) (m - 1) m below ∙ ap (λ k. Some k) (let e = get_or-range_with_len 1 n (m - 1) m (omega (arith, low, high)) in omega (arith, e, low)) in
+    slice_get-get_or (range_with_len 1 n) (m - 1) m below
+    ∙ ap (λ k. Some k) (let e = get_or-range_with_len 1 n (m - 1) m (omega (arith, low, high)) in omega (arith, e, low)) in
     let given : slice_get (map (reopened_at s.managers) (range_with_len 1 n)) (m - 1) ≡ Some (reopened_at s.managers m) =
     slice_get-map (reopened_at s.managers) (range_with_len 1 n) (m - 1) ∙ ap (option_map (reopened_at s.managers)) number in
     let same : m - 1 + 1 ≡ m = omega (arith, low) in

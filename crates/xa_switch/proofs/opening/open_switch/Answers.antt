@@ -1,7 +1,7 @@
-use Rattle.std.proofs.Common.{rules, length, map, sym, ap, ◌∙◌, subst}
+use Rattle.std.proofs.Common.{rules, length, sym, ap, ◌∙◌, subst}
 use Rattle.std.specs.List.{All}
 use Rattle.std.proofs.lemmas.Result.{err_from_is_err_and}
-use Rattle.xa_switch.specs.Plans.{Setup, IsWithinLimits, IsSoundManager, numbers_of, manager_room, opened_by, use_async}
+use Rattle.xa_switch.specs.Plans.{Setup, IsWithinLimits, IsSoundManager, numbers_of, use_async}
 use Rattle.xa_switch.specs.OpenedPieces.{AreOfOneOpening}
 use Rattle.xa_switch.proofs.Planned.{all_new, all_begin, setup_is}
 use Rattle.xa_switch.proofs.opening.open_switch.Goals as goal
@@ -16,26 +16,17 @@ returns-in_err-managers-clause-bad g c =
 
 pub put_together-requires-clause-new : goal.put_together-requires-clause-new
 put_together-requires-clause-new g c =
-    let plan = c.args.plan.now in
-    let numbers = c.in_ok-layout.ensures.numbers ∙ c.numbers-numbers.ensures in
-    let room = c.manager_room-room.ensures.room ∙ sym (ap (λ n. manager_room n) c.in_ok-layout.ensures.numbers) in
-    let made = c.in_ok-managers.ensures.opened ∙ ap (map (opened_by plan.threads c.manager_room-room.result)) c.deref.ensures.value in
-    all_new plan c.in_ok-layout.layout.numbers numbers c.manager_room-room.result room c.in_ok-managers.managers.items made
+    all_new c.args.plan.now _ _ c.in_ok-layout.ensures.numbers c.numbers-numbers.ensures _ c.manager_room-room.ensures.room _ c.deref.ensures.value _
+    c.in_ok-managers.ensures.opened
 
 pub put_together-requires-clause-begins : goal.put_together-requires-clause-begins
 put_together-requires-clause-begins g c =
-    let plan = c.args.plan.now in
-    let numbers = c.in_ok-layout.ensures.numbers ∙ c.numbers-numbers.ensures in
-    let room = c.manager_room-room.ensures.room ∙ sym (ap (λ n. manager_room n) c.in_ok-layout.ensures.numbers) in
-    let made = c.in_ok-managers.ensures.opened ∙ ap (map (opened_by plan.threads c.manager_room-room.result)) c.deref.ensures.value in
-    all_begin plan c.in_ok-layout.layout.numbers numbers c.manager_room-room.result room c.in_ok-managers.managers.items made
+    all_begin c.args.plan.now _ _ c.in_ok-layout.ensures.numbers c.numbers-numbers.ensures _ c.manager_room-room.ensures.room _ c.deref.ensures.value _
+    c.in_ok-managers.ensures.opened
 
 pub returns-clause-opened : goal.returns-clause-opened
 returns-clause-opened g c =
-    let plan = c.args.plan.now in
-    let numbers = c.in_ok-layout.ensures.numbers ∙ c.numbers-numbers.ensures in
-    let room = c.manager_room-room.ensures.room ∙ sym (ap (λ n. manager_room n) c.in_ok-layout.ensures.numbers) in
-    let made = c.in_ok-managers.ensures.opened ∙ ap (map (opened_by plan.threads c.manager_room-room.result)) c.deref.ensures.value in
     let flags = c.in_ok-layout.ensures.flags ∙ c.in_ok-use_async.ensures ∙ ap (λ l. use_async l) c.deref-2.ensures.value in
     subst (λ (s : Setup). AreOfOneOpening s c.put_together.result.0.items c.put_together.result.1.items)
-    (setup_is plan c.in_ok-layout.layout.numbers numbers c.manager_room-room.result room c.in_ok-managers.managers.items made c.in_ok-layout.layout.use_async.items flags) c.put_together.ensures
+    (setup_is c.args.plan.now _ _ c.in_ok-layout.ensures.numbers c.numbers-numbers.ensures _ c.manager_room-room.ensures.room _ c.deref.ensures.value _
+    c.in_ok-managers.ensures.opened c.in_ok-layout.layout.use_async.items flags) c.put_together.ensures

@@ -12,4 +12,5 @@ returns c =
     let accounts = c.args.accounts.now in
     let a = c.index-accounts-place.result in
     let within = c.if-accounts-place.false in
-    c.is_some.ensures ∙ sym (passes_read is_held accounts c.args.place (get_or accounts c.args.place a) within (get_or_default accounts c.args.place a (get_or accounts c.args.place a) within))
+    c.is_some.ensures
+    ∙ sym (passes_read is_held accounts c.args.place (get_or accounts c.args.place a) within (get_or_default accounts c.args.place a (get_or accounts c.args.place a) within))

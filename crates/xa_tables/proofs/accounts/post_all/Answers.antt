@@ -9,7 +9,8 @@ use Rattle.xa_tables.proofs.HeldLemmas.{changing_none, changing_at, changing_all
 use Rattle.xa_tables.proofs.accounts.post_all.Goals as goal
 
 pub loop-place-init : goal.loop-place-init
-loop-place-init c = (changing_none (posted_by c.args.xid.now) (posted_untouched c.args.xid.now) c.args.held.now c.args.accounts.now c.requires.held, c.requires.whole)
+loop-place-init c =
+    (changing_none (posted_by c.args.xid.now) (posted_untouched c.args.xid.now) c.args.held.now c.args.accounts.now c.requires.held, c.requires.whole)
 
 pub bounds-accounts-place : goal.bounds-accounts-place
 bounds-accounts-place c =

@@ -24,7 +24,8 @@ unwrap-value-requires c =
     let below : i < length s.keys = subst (λ l. i < length l) c.keys-keys.ensures.keys c.loop-declared-test.true in
     let of : IsOfManager s d = subst (IsOfManager s) (sym c.declared-item.is) (c.keys-keys.ensures.managers i d c.loop-declared-test.true) in
     let (before, are) = c.requires in
-    let sum = c.value.ensures.sum (histories before d.manager) (opened s d.manager) (accounts_new (accounts_of d.manager s.keys)) (first_is s (opened_after s before) c.args.settled.now are d.manager of.0 of.1) in
+    let sum =
+    c.value.ensures.sum (histories before d.manager) (opened s d.manager) (accounts_new (accounts_of d.manager s.keys)) (first_is s (opened_after s before) c.args.settled.now are d.manager of.0 of.1) in
     told s (histories before d.manager ++ history c.args.settled.now d.manager ∷ []) i d c.value.result below there sum
 
 pub loop-declared-preserved : goal.loop-declared-preserved
@@ -39,9 +40,11 @@ loop-declared-preserved c =
     let of : IsOfManager s d = subst (IsOfManager s) (sym c.declared-item.is) (c.keys-keys.ensures.managers i d c.loop-declared-test.true) in
     let worth : WorthAfter s settled e = λ before are.
     ap (λ l. value_over d.key l (opened s d.manager)) (map-append (λ (o : Settling). history o d.manager) before (settled ∷ []))
-    ∙ sym (c.value.ensures.sum (histories before d.manager) (opened s d.manager) (accounts_new (accounts_of d.manager s.keys)) (first_is s (opened_after s before) settled are d.manager of.0 of.1)) ∙ ap (option_map (λ n. pos n)) c.unwrap-value.ensures in
+    ∙ sym (c.value.ensures.sum (histories before d.manager) (opened s d.manager) (accounts_new (accounts_of d.manager s.keys)) (first_is s (opened_after s before) settled are d.manager of.0 of.1))
+    ∙ ap (option_map (λ n. pos n)) c.unwrap-value.ensures in
     let more : map name_of (values ++ e ∷ []) ≡ map name_of (take (i + 1) keys) =
-    map-append name_of values (e ∷ []) ∙ ap (λ l. l ++ name_of d ∷ []) c.loop-declared.invariant.named ∙ sym (map-append name_of (take i keys) (d ∷ [])) ∙ ap (map name_of) (sym (one_more keys i d c.loop-declared-test.true c.declared-item.is)) in
+    map-append name_of values (e ∷ []) ∙ ap (λ l. l ++ name_of d ∷ []) c.loop-declared.invariant.named ∙ sym (map-append name_of (take i keys) (d ∷ []))
+    ∙ ap (map name_of) (sym (one_more keys i d c.loop-declared-test.true c.declared-item.is)) in
     record {
       named = ap (map name_of) c.in_ok-push.ensures.items ∙ more;
       worth = subst (All (WorthAfter s settled)) (sym c.in_ok-push.ensures.items) (All-push (WorthAfter s settled) values e c.loop-declared.invariant.worth worth);

@@ -25,6 +25,7 @@ returns-then-all g c jobs at =
     let i = c.loop-hand.invariant in
     let first = c.loop-hand.yielded in
     let done = c.loop-hand.done.items in
-    let none = none_of (into_iter_items c.loop-hand.hand-iterator) (let counted = i.counted in let left = c.in-None.ensures.steps.0 in omega (arith, counted, left)) in
+    let none =
+    none_of (into_iter_items c.loop-hand.hand-iterator) (let counted = i.counted in let left = c.in-None.ensures.steps.0 in omega (arith, counted, left)) in
     let all = sym (append-nil first) ∙ ap (λ l. first ++ l) (sym none) ∙ i.so_far in
     all_done g.J.Job.comes_to jobs c.args.self.hands.items done at (subst (λ l. Pairwise (Brings g.J.Job.comes_to) l done) all (i.done c.if-all.true))

@@ -1,7 +1,6 @@
-use Rattle.std.proofs.Common.{◌≡◌, ◌++◌, ◌∷◌, [], List, length, map, sym, ap, ◌∙◌, subst, arith, append_assoc, append-nil}
+use Rattle.std.proofs.Common.{◌≡◌, ◌++◌, List, length, map, sym, ap, ◌∙◌, arith, append-nil}
 use Rattle.std.specs.Vec.Iter.{into_iter_items}
-use Rattle.xa_base.specs.Lists.{Pairwise}
-use Rattle.xa_base.proofs.Lists.{map_alike, none_of, push_side}
+use Rattle.xa_base.proofs.Lists.{map_alike, none_of, push_side, taken_next}
 use Rattle.xa_worker.specs.Seats.{seat_of_worker, seat_of_done}
 use Rattle.xa_worker.specs.Workers.{WorkerView}
 use Rattle.xa_crew.specs.Pieces.{HasServed}
@@ -13,10 +12,8 @@ loop-worker-preserved g c =
     let first = c.loop-worker.yielded in
     let w = c.in-Some.worker in
     record {
-      so_far = append_assoc first (w ∷ []) (into_iter_items c.next.new.self) ∙ ap (λ l. first ++ l) (sym c.in-Some.ensures.steps.0) ∙ i.so_far;
-      served =
-          subst (λ l. Pairwise HasServed (first ++ w ∷ []) l) (sym c.push_reserved.ensures.items)
-          (push_side HasServed first c.loop-worker.done.items w c.run.result i.served
+      so_far = taken_next first _ (into_iter_items c.next.new.self) _ w c.in-Some.ensures.steps.0 i.so_far;
+      served = rw c.push_reserved.ensures.items (push_side HasServed first c.loop-worker.done.items w c.run.result i.served
           (record { same = c.run.ensures.same; served = c.run.ensures.served; seat = c.run.ensures.seat }));
       counted =
           let before = i.counted in

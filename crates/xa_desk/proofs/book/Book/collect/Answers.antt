@@ -24,13 +24,15 @@ push_collected-requires c =
 out : (c : After-push_collected) → IsOut c.self.inside.ledgers.items c.args.operation
 out c = rw (← c.self.view_is) at c.requires.out
 
-written : (c : After-push_collected) → c.push_collected.new.self ≡ with_collected (ledger c.self.inside.ledgers.items c.args.operation.manager) c.args.operation.number c.in-Some-code.code
+written : (c : After-push_collected)
+    → c.push_collected.new.self ≡ with_collected (ledger c.self.inside.ledgers.items c.args.operation.manager) c.args.operation.number c.in-Some-code.code
 written c =
     let o = c.args.operation in
     let read = ledger-read c.self.inside.ledgers.items o.manager c.index_mut-ledger.result.now (out c).known c.index_mut-ledger.ensures.value in
     c.push_collected.ensures ∙ ap (λ (a : LedgerView). with_collected a o.number c.in-Some-code.code) read
 
-books : (c : After-push_collected) → IsBooks (after_collected c.self.inside.ledgers.items c.args.operation c.in-Some-code.code) c.remove.new.self c.self.inside.kept.items (logged c.self.inside.drained.items)
+books : (c : After-push_collected)
+    → IsBooks (after_collected c.self.inside.ledgers.items c.args.operation c.in-Some-code.code) c.remove.new.self c.self.inside.kept.items (logged c.self.inside.drained.items)
 books c =
     let i = c.self.invariant in
     let at = c.self.inside.ledgers.items in
@@ -38,8 +40,10 @@ books c =
     let slot = c.in-Some.slot in
     let named = c.in-Some.ensures.named in
     let loose = rw (← c.self.view_is) at c.requires.loose in
-    let handle = loose_handle at c.self.inside.slots c.in-Some.key slot c.self.inside.kept.items (logged c.self.inside.drained.items) i.books c.in-Some.ensures.found (λ k kept. loose k (kept ∙ ap (λ (p : Operation). Some p) named)) in
-    let after = books_collected at c.self.inside.slots c.remove.new.self c.in-Some.key slot code c.self.inside.kept.items (logged c.self.inside.drained.items) i.books c.in-Some.ensures.found c.in-Some-code.is handle c.remove.ensures.updates c.remove.ensures.len in
+    let handle =
+    loose_handle at c.self.inside.slots c.in-Some.key slot c.self.inside.kept.items (logged c.self.inside.drained.items) i.books c.in-Some.ensures.found (λ k kept. loose k (kept ∙ ap (λ (p : Operation). Some p) named)) in
+    let after =
+    books_collected at c.self.inside.slots c.remove.new.self c.in-Some.key slot code c.self.inside.kept.items (logged c.self.inside.drained.items) i.books c.in-Some.ensures.found c.in-Some-code.is handle c.remove.ensures.updates c.remove.ensures.len in
     subst (λ p. IsBooks (after_collected at p code) c.remove.new.self c.self.inside.kept.items (logged c.self.inside.drained.items)) named after
 
 pub invariant_of-self : goal.invariant_of-self

@@ -56,7 +56,8 @@ invariant_of-self c =
     let place = c.first_free-place.result in
     let old = c.self.inside.kept.items in
     let next : place + 1 ≡ suc place = omega arith in
-    let moves : Rehandles old (set old place (Some c.args.operation)) e.slot.handle (place + 1) e.slot.operation = rw (unkept d e.key e.slot e.found e.names, next, e.names) (rehandles_keep old place c.args.operation (within d) (free d)) in
+    let moves : Rehandles old (set old place (Some c.args.operation)) e.slot.handle (place + 1) e.slot.operation =
+    rw (unkept d e.key e.slot e.found e.names, next, e.names) (rehandles_keep old place c.args.operation (within d) (free d)) in
     record {
       books = books_rehandled c.self.inside.ledgers.items c.self.inside.slots c.enter_handle.new.slots e.key e.slot (place + 1) old (set old place (Some c.args.operation)) (logged c.self.inside.drained.items) i.books e.found moves e.updates e.len;
       keys = keys_kept c.self.inside.ledgers.items c.self.inside.rows.items c.self.inside.slots c.enter_handle.new.slots e.key e.slot _ i.keys e.found refl e.updates;

@@ -42,10 +42,13 @@ written c = c.push_sent.ensures ∙ ap (λ (a : LedgerView). with_sent a c.args.
 number : (c : After-enter) → c.next_number-number.result ≡ length (ledger c.self.inside.ledgers.items c.args.manager).sent
 number c = c.next_number-number.ensures.sent ∙ ap (λ (a : LedgerView). length a.sent) (read c)
 
-updates : (c : After-enter) → Updates c.self.inside.slots c.insert_reserved-key.new.self c.insert_reserved-key.result (Some (record { operation = record { manager = c.args.manager; number = length (ledger c.self.inside.ledgers.items c.args.manager).sent }; code = None; handle = 0 }))
-updates c = subst (λ k. Updates c.self.inside.slots c.insert_reserved-key.new.self c.insert_reserved-key.result (Some (record { operation = record { manager = c.args.manager; number = k }; code = None; handle = 0 }))) (number c) c.insert_reserved-key.ensures.updates
+updates : (c : After-enter)
+    → Updates c.self.inside.slots c.insert_reserved-key.new.self c.insert_reserved-key.result (Some (record { operation = record { manager = c.args.manager; number = length (ledger c.self.inside.ledgers.items c.args.manager).sent }; code = None; handle = 0 }))
+updates c =
+    subst (λ k. Updates c.self.inside.slots c.insert_reserved-key.new.self c.insert_reserved-key.result (Some (record { operation = record { manager = c.args.manager; number = k }; code = None; handle = 0 }))) (number c) c.insert_reserved-key.ensures.updates
 
-books : (c : After-enter) → IsBooks (after_sent c.self.inside.ledgers.items c.args.manager c.args.op.now) c.insert_reserved-key.new.self c.self.inside.kept.items (logged c.self.inside.drained.items)
+books : (c : After-enter)
+    → IsBooks (after_sent c.self.inside.ledgers.items c.args.manager c.args.op.now) c.insert_reserved-key.new.self c.self.inside.kept.items (logged c.self.inside.drained.items)
 books c =
     let room = rw (← c.self.view_is) at c.requires.room in
     books_sent c.self.inside.ledgers.items c.args.manager c.args.op.now (known c) c.self.inside.slots c.insert_reserved-key.new.self c.insert_reserved-key.result c.self.inside.kept.items (logged c.self.inside.drained.items) c.self.invariant.books room c.insert_reserved-key.ensures.was_vacant (updates c) c.insert_reserved-key.ensures.len
@@ -63,7 +66,8 @@ entering c =
     c.enter.ensures
     ∙ ap (λ (row : KeysView). with_key row c.insert_reserved-key.result) (get_or_read c.self.inside.rows.items (c.args.manager - 1) c.index_mut-row.result.now (within c) c.index_mut-row.ensures.value (no_keys 0))
 
-keys : (c : After-enter) → AreKeys (after_sent c.self.inside.ledgers.items c.args.manager c.args.op.now) (entered c.self.inside.rows.items c.args.manager c.insert_reserved-key.result) c.insert_reserved-key.new.self
+keys : (c : After-enter)
+    → AreKeys (after_sent c.self.inside.ledgers.items c.args.manager c.args.op.now) (entered c.self.inside.rows.items c.args.manager c.insert_reserved-key.result) c.insert_reserved-key.new.self
 keys c =
     let at = c.self.inside.ledgers.items in
     let m = c.args.manager in

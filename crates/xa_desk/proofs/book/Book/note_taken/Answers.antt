@@ -16,7 +16,8 @@ pub overflow_add-self : goal.overflow_add-self
 overflow_add-self c =
     let i = c.self.invariant in
     let e = c.enter_code.ensures.entered c.if-enter_code.true in
-    let below = drained-lt-planned c.self.inside.ledgers.items c.self.inside.slots c.self.inside.kept.items (logged c.self.inside.drained.items) e.key e.slot i.books e.found e.waiting in
+    let below =
+    drained-lt-planned c.self.inside.ledgers.items c.self.inside.slots c.self.inside.kept.items (logged c.self.inside.drained.items) e.key e.slot i.books e.found e.waiting in
     let counted = i.drained in
     let planned = i.planned in
     omega arith

@@ -35,14 +35,17 @@ index_mut-requires c =
     let same = c.self.inside.kept.ok.0 in
     omega arith
 
-books : (c : After-enter_handle) → IsBooks c.self.inside.ledgers.items c.enter_handle.new.slots (set c.self.inside.kept.items (c.args.number - 1) None) (logged c.self.inside.drained.items)
+books : (c : After-enter_handle)
+    → IsBooks c.self.inside.ledgers.items c.enter_handle.new.slots (set c.self.inside.kept.items (c.args.number - 1) None) (logged c.self.inside.drained.items)
 books c =
     let i = c.self.invariant in
     let e = c.enter_handle.ensures in
     let p = place ((goal.at.returns-clause-freed c).In_ok-operation) in
     let p' : KeptPlace c.self.inside.kept.items c.args.number e.slot.operation = rw e.names p in
-    let handle = kept_handle c.self.inside.ledgers.items c.self.inside.slots e.key e.slot c.self.inside.kept.items (logged c.self.inside.drained.items) i.books e.found c.args.number p' in
-    let moves : Rehandles c.self.inside.kept.items (set c.self.inside.kept.items (c.args.number - 1) None) e.slot.handle 0 e.slot.operation = rw handle (rehandles_release c.self.inside.kept.items c.args.number e.slot.operation p') in
+    let handle =
+    kept_handle c.self.inside.ledgers.items c.self.inside.slots e.key e.slot c.self.inside.kept.items (logged c.self.inside.drained.items) i.books e.found c.args.number p' in
+    let moves : Rehandles c.self.inside.kept.items (set c.self.inside.kept.items (c.args.number - 1) None) e.slot.handle 0 e.slot.operation =
+    rw handle (rehandles_release c.self.inside.kept.items c.args.number e.slot.operation p') in
     books_rehandled c.self.inside.ledgers.items c.self.inside.slots c.enter_handle.new.slots e.key e.slot 0 c.self.inside.kept.items (set c.self.inside.kept.items (c.args.number - 1) None) (logged c.self.inside.drained.items) i.books e.found moves e.updates e.len
 
 pub invariant_of-self : goal.invariant_of-self
@@ -70,5 +73,6 @@ returns-clause-freed c =
 pub returns-clause-loose : goal.returns-clause-loose
 returns-clause-loose c = λ k kept.
     let e = c.enter_handle.ensures in
-    let free = rehandled c.self.inside.ledgers.items c.self.inside.slots c.enter_handle.new.slots e.key e.slot 0 c.self.inside.kept.items (set c.self.inside.kept.items (c.args.number - 1) None) (logged c.self.inside.drained.items) in
+    let free =
+    rehandled c.self.inside.ledgers.items c.self.inside.slots c.enter_handle.new.slots e.key e.slot 0 c.self.inside.kept.items (set c.self.inside.kept.items (c.args.number - 1) None) (logged c.self.inside.drained.items) in
     loose_from_handle c.self.inside.ledgers.items c.enter_handle.new.slots e.key free (set c.self.inside.kept.items (c.args.number - 1) None) (logged c.self.inside.drained.items) (books c) e.updates.changed refl k (kept ∙ ap (λ (o : Operation). Some o) (sym e.names))

@@ -10,7 +10,8 @@ use Rattle.xa_desk.proofs.desk.Desk.call.Goals as goal
 pub invariant_of-self : goal.invariant_of-self
 invariant_of-self g c =
     let sent = c.send_waiting-operation.ensures.sent in
-    let called = called_desk _ _ sent.0 c.args.manager c.args.op (subst (λ d. None ≡ call_refusal d c.args.manager) (sym c.self.view_is) c.in_default.ensures) sent.1 c.self.invariant.1 in
+    let called =
+    called_desk _ _ sent.0 c.args.manager c.args.op (subst (λ d. None ≡ call_refusal d c.args.manager) (sym c.self.view_is) c.in_default.ensures) sent.1 c.self.invariant.1 in
     let stays = collects_stays _ _ _ _ c.wait_for.ensures.collected in
     let fewer = c.wait_for.ensures.collected.fewer in
     let more = c.send_waiting-operation.ensures.more in
@@ -22,7 +23,8 @@ invariant_of-self g c =
 pub returns-clause-tied : goal.returns-clause-tied
 returns-clause-tied g c =
     let sent = c.send_waiting-operation.ensures.sent in
-    let called = called_desk _ _ sent.0 c.args.manager c.args.op (subst (λ d. None ≡ call_refusal d c.args.manager) (sym c.self.view_is) c.in_default.ensures) sent.1 c.self.invariant.1 in
+    let called =
+    called_desk _ _ sent.0 c.args.manager c.args.op (subst (λ d. None ≡ call_refusal d c.args.manager) (sym c.self.view_is) c.in_default.ensures) sent.1 c.self.invariant.1 in
     (collects_stays _ _ _ _ c.wait_for.ensures.collected).tied called.0
 
 pub returns-clause-goes_on : goal.returns-clause-goes_on

@@ -22,8 +22,10 @@ loop-place-preserved g c =
     let i = c.loop-place.invariant in
     let e = c.collect_place.ensures in
     let asks = c.args.self.now.asks.items in
-    let below : c.loop-place._place < length c.loop-place.self.asks.items = let a = c.loop-place-test.true in let b = c.len-place-end.ensures in let d = c.args.self.now.asks.ok.0 in let f = i.long in omega (arith, a, b, d, f) in
-    let reaches = collect_reaches c.loop-place.self c.collect_place.new.self c.loop-place.desk c.collect_place.new.desk c.collect_place.result c.loop-place._place e.collects i.all i.reached below in
+    let below : c.loop-place._place < length c.loop-place.self.asks.items = let a = c.loop-place-test.true in
+    let b = c.len-place-end.ensures in let d = c.args.self.now.asks.ok.0 in let f = i.long in omega (arith, a, b, d, f) in
+    let reaches =
+    collect_reaches c.loop-place.self c.collect_place.new.self c.loop-place.desk c.collect_place.new.desk c.collect_place.result c.loop-place._place e.collects i.all i.reached below in
     record {
       under_way = e.under_way;
       reached = reaches.0;

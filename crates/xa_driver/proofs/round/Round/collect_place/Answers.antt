@@ -20,7 +20,8 @@ returns-clause-under_way g c =
     let ts = c.pop_front.new.self.items in
     let one = first_one r desk c.requires c.in-Some.ticket ts c.in-Some.ensures.items in
     let is : c.index.result.now ≡ one.0 = c.index.ensures ∙ place_is r desk c.requires c.in-Some.ticket ts c.in-Some.ensures.items c.index.result.now in
-    let is_mut : c.index_mut.result.now ≡ one.0 = c.index_mut.ensures.value ∙ place_is r desk c.requires c.in-Some.ticket ts c.in-Some.ensures.items c.index_mut.result.now in
+    let is_mut : c.index_mut.result.now ≡ one.0 =
+    c.index_mut.ensures.value ∙ place_is r desk c.requires c.in-Some.ticket ts c.in-Some.ensures.items c.index_mut.result.now in
     one_more_collected r desk c.requires c.in-Some.ticket ts c.in-Some.ensures.items c.end-code.result c.end-code.new.desk (subst (λ (k : Ask). Ends k desk c.end-code.new.desk c.in-Some.ticket c.end-code.result) is c.end-code.ensures.ended) _
     refl (ap (λ (k : Ask). set r.asks.items r.collected (coded k c.end-code.result)) is_mut) refl refl c.in-Some.ensures.capacity
 
@@ -31,7 +32,8 @@ returns-clause-collects g c =
     let ts = c.pop_front.new.self.items in
     let within = place_within r desk c.requires c.in-Some.ticket ts c.in-Some.ensures.items in
     let same : c.index_mut.result.now ≡ c.index.result.now =
-    c.index_mut.ensures.value ∙ place_is r desk c.requires c.in-Some.ticket ts c.in-Some.ensures.items c.index_mut.result.now ∙ sym (place_is r desk c.requires c.in-Some.ticket ts c.in-Some.ensures.items c.index.result.now) ∙ sym c.index.ensures in
+    c.index_mut.ensures.value ∙ place_is r desk c.requires c.in-Some.ticket ts c.in-Some.ensures.items c.index_mut.result.now
+    ∙ sym (place_is r desk c.requires c.in-Some.ticket ts c.in-Some.ensures.items c.index.result.now) ∙ sym c.index.ensures in
     matched_some _ _ (next_ticket r) c.in-Some.ticket (ap (λ l. slice_get l 0) c.in-Some.ensures.items) (
       refl,
       record {
@@ -51,4 +53,5 @@ returns-clause-same g c js s =
     same_set js c.args.self.now.asks.items c.args.self.now.collected c.index_mut.result.now _ c.index_mut.ensures.value (record { manager = refl; xid = refl; vote = refl; op = refl }) s
 
 pub returns-clause-waited : goal.returns-clause-waited
-returns-clause-waited g c = matched_some _ _ (next_ticket c.args.self.now) c.in-Some.ticket (ap (λ l. slice_get l 0) c.in-Some.ensures.items) c.end-code.ensures.waited
+returns-clause-waited g c =
+    matched_some _ _ (next_ticket c.args.self.now) c.in-Some.ticket (ap (λ l. slice_get l 0) c.in-Some.ensures.items) c.end-code.ensures.waited

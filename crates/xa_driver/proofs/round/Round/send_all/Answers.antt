@@ -23,7 +23,8 @@ loop-place-preserved g c =
     let e = c.send_place.ensures in
     let keeps = step_sends_keeps _ _ _ _ _ _ e.sends in
     let asks = c.args.self.now.asks.items in
-    let below : c.loop-place._place < length c.loop-place.self.asks.items = let a = c.loop-place-test.true in let b = c.len-place-end.ensures in let d = c.args.self.now.asks.ok.0 in let f = i.long in omega (arith, a, b, d, f) in
+    let below : c.loop-place._place < length c.loop-place.self.asks.items = let a = c.loop-place-test.true in
+    let b = c.len-place-end.ensures in let d = c.args.self.now.asks.ok.0 in let f = i.long in omega (arith, a, b, d, f) in
     record {
       under_way = e.under_way;
       reached = send_reaches c.loop-place.self c.send_place.new.self c.loop-place.desk c.send_place.new.desk c.send_place.result c.loop-place._place e.sends i.reached below;

@@ -1,20 +1,12 @@
-use Rattle.std.proofs.Common.{◌≡◌, ◌-◌, length, List}
-use Rattle.xa_driver.specs.declared.ask.Ask.{Ask}
-use Rattle.xa_driver.specs.Asks.{SameAsks}
-use Rattle.xa_driver.specs.Steps.{Passes, SendsNothing}
-use Rattle.xa_driver.specs.UnderWay.{IsUnderWay, sent_count}
+use Rattle.std.proofs.Common.{◌-◌, length}
+use Rattle.xa_driver.specs.Steps.{SendsNothing}
+use Rattle.xa_driver.specs.UnderWay.{sent_count}
+use Rattle.xa_driver.proofs.Passing.{Passed}
 use Rattle.xa_driver.proofs.round.Round.send_next.Given as goal
 
 -- those so far were asked nothing, so nothing was sent
 abbrev pub invariant-passed : goal.invariant-passed
-invariant-passed g l = record {
-  under_way : IsUnderWay l.self l.desk;
-  passed : Passes (SendsNothing l.initial.desk) l.initial.self l.self;
-  desk : l.desk ≡ l.initial.desk;
-  idle : l.idle ≡ l.initial.idle;
-  before : l.self.before ≡ l.initial.self.before;
-  same : (js : List Ask) → SameAsks js l.initial.self.asks.items → SameAsks js l.self.asks.items;
-}
+invariant-passed g l = Passed (SendsNothing l.initial.desk) l.initial.self l.self l.initial.desk l.desk l.initial.idle l.idle
 
 abbrev pub decreases-passed : goal.decreases-passed
 decreases-passed g l = length l.self.asks.items - sent_count l.self

@@ -18,7 +18,9 @@ again-requires-clause-may c =
 pub returns-clause-telling : goal.returns-clause-telling
 returns-clause-telling c =
     let r = c.args.self.round in
-    let is = c.again.ensures.asks_are ∙ lent (second_ask c.args.self.known.commit) (λ k. refl) r.asks.len r.asks.items c.as_mut_slice.result.now c.second_round.new.asks _ r.asks.ok.0 c.second_round.ensures c.as_mut_slice.ensures.value in
+    let is =
+    c.again.ensures.asks_are
+    ∙ lent (second_ask c.args.self.known.commit) (λ k. refl) r.asks.len r.asks.items c.as_mut_slice.result.now c.second_round.new.asks _ r.asks.ok.0 c.second_round.ensures c.as_mut_slice.ensures.value in
     record {
       before = c.again.ensures.before;
       same = subst (SameAsks (map (second_ask c.args.self.known.commit) r.asks.items)) (sym is) (same_itself (map (second_ask c.args.self.known.commit) r.asks.items));

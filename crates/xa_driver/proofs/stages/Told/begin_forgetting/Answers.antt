@@ -18,7 +18,9 @@ again-requires-clause-may c =
 pub returns-clause-forgetting : goal.returns-clause-forgetting
 returns-clause-forgetting c =
     let r = c.args.self.round in
-    let is = c.again.ensures.asks_are ∙ lent third_ask (λ k. refl) r.asks.len r.asks.items c.as_mut_slice.result.now c.third_round.new.asks _ r.asks.ok.0 c.third_round.ensures c.as_mut_slice.ensures.value in
+    let is =
+    c.again.ensures.asks_are
+    ∙ lent third_ask (λ k. refl) r.asks.len r.asks.items c.as_mut_slice.result.now c.third_round.new.asks _ r.asks.ok.0 c.third_round.ensures c.as_mut_slice.ensures.value in
     record {
       before = c.again.ensures.before;
       same = subst (SameAsks (map third_ask r.asks.items)) (sym is) (same_itself (map third_ask r.asks.items));

@@ -5,4 +5,5 @@ use Rattle.xa_driver_tests.proofs.Shutting.{after_only}
 use Rattle.xa_driver_tests.proofs.driver.dying.decide.Goals as goal
 
 pub returns-clause-decides : goal.returns-clause-decides
-returns-clause-decides g c = after_only (λ op. is_heur op ≡ true) (Heur c.args.xid c.args.commits) refl _ _ 2 _ c.call.ensures.collected c.call.ensures.unchanged
+returns-clause-decides g c =
+    after_only (λ op. is_heur op ≡ true) (Heur c.args.xid c.args.commits) refl _ _ 2 _ c.call.ensures.collected c.call.ensures.unchanged

@@ -1,18 +1,20 @@
 use Rattle.std.proofs.Common.{◌≡◌, [], ◌∷◌, sym, ap, subst}
 use Rattle.xa_switch.specs.Settling.{Settling}
-use Rattle.xa_driver.specs.Log.{LogView, Records, record_in}
-use Rattle.xa_driver.specs.Presumed.{CountsByTheLog, EndsByTheLog}
-use Rattle.xa_driver.specs.Resolution.{CutCall, ResolveCall, cuts, resolves, with_use}
+use Rattle.xa_log.specs.Log.{LogView, Records, record_in}
+use Rattle.xa_atomicity.specs.Presumed.{CountsByTheLog, EndsByTheLog}
+use Rattle.xa_atomicity.specs.Resolution.{CutCall, ResolveCall, cuts, resolves, with_use}
 use Rattle.xa_driver_tests.proofs.driver.dying.die_and_resolve.Goals as goal
 
 pub returns : goal.returns
 returns g c =
     let first = c.die_and_settle-settled.result in
     let died = first.died in
-    let k : CutCall = record { thread = first.thread; branches = c.args.branches.now; desk = died.before.value; new = died.after.value.ledgers; log = died.log_before.value.state; later = died.log_after.value.state; endings = died.endings.items } in
+    let k : CutCall =
+    record { thread = first.thread; branches = c.args.branches.now; desk = died.before.value; new = died.after.value.ledgers; log = died.log_before.value.state; later = died.log_after.value.state; endings = died.endings.items } in
     let last = c.recover-last.result in
     let ended = last.ended in
-    let q : Records → ResolveCall = λ records. record { thread = last.thread; scan = ended.scan.value; old = ended.before.value.ledgers; new = ended.after.value.ledgers; records = records; outcomes = ended.told.outcomes.items } in
+    let q : Records → ResolveCall =
+    λ records. record { thread = last.thread; scan = ended.scan.value; old = ended.before.value.ledgers; new = ended.after.value.ledgers; records = records; outcomes = ended.told.outcomes.items } in
     let records : Records = c.die_and_settle-settled.new.log.state.records in
     let records_are : records ≡ k.later.records = ap (λ (l : LogView). l.state.records) (sym c.die_and_settle-settled.ensures.log) in
     let resolved =

@@ -1,15 +1,15 @@
 use Rattle.std.proofs.Common.{◌≡◌, [], sym, ap, subst}
 use Rattle.xa_switch.specs.Settling.{Settling}
-use Rattle.xa_driver.specs.Log.{LogView, Records, record_in}
-use Rattle.xa_driver.specs.Resolution.{CommitCall, ResolveCall, IsResolved, commits, resolves, with_use}
-use Rattle.xa_driver_tests.proofs.Resolved.{resolve_call}
+use Rattle.xa_log.specs.Log.{LogView, Records, record_in}
+use Rattle.xa_atomicity.specs.Resolution.{CommitCall, ResolveCall, IsResolved, commits, resolve_call, resolves, with_use}
 use Rattle.xa_driver_tests.proofs.driver.resolved.commit_and_resolve.Goals as goal
 
 pub returns : goal.returns
 returns g c =
     let first = c.commit_and_crash-settled.result in
     let made = first.made in
-    let call : CommitCall = record { thread = first.thread; branches = c.args.branches.now; desk = made.before.value; new = made.after.value.ledgers; log = made.log_before.value.state; later = made.log_after.value.state; done = made.done } in
+    let call : CommitCall =
+    record { thread = first.thread; branches = c.args.branches.now; desk = made.before.value; new = made.after.value.ledgers; log = made.log_before.value.state; later = made.log_after.value.state; done = made.done } in
     let last = c.recover-last.result in
     let ended = last.ended in
     let q : Records → ResolveCall = resolve_call last.thread ended.scan.value ended.before.value.ledgers ended.after.value.ledgers ended.told.outcomes.items in

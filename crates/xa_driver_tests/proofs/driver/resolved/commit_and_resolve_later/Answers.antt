@@ -1,6 +1,6 @@
 use Rattle.std.proofs.Common.{[], ◌∷◌, sym, ap}
-use Rattle.xa_driver.specs.Log.{LogView}
-use Rattle.xa_driver.specs.Resolution.{CommitCall}
+use Rattle.xa_log.specs.Log.{LogView}
+use Rattle.xa_atomicity.specs.Resolution.{CommitCall}
 use Rattle.xa_driver_tests.proofs.Resolved.{told_three_resolved, without_use}
 use Rattle.xa_driver_tests.proofs.driver.resolved.commit_and_resolve_later.Goals as goal
 
@@ -8,7 +8,8 @@ pub returns : goal.returns
 returns g c =
     let first = c.commit_and_crash-settled.result in
     let made = first.made in
-    let call : CommitCall = record { thread = first.thread; branches = c.args.branches.now; desk = made.before.value; new = made.after.value.ledgers; log = made.log_before.value.state; later = made.log_after.value.state; done = made.done } in
+    let call : CommitCall =
+    record { thread = first.thread; branches = c.args.branches.now; desk = made.before.value; new = made.after.value.ledgers; log = made.log_before.value.state; later = made.log_after.value.state; done = made.done } in
     let last = c.recover-last.result in
     let ended = last.ended in
     let resolved =

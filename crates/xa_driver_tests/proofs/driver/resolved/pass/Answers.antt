@@ -22,7 +22,8 @@ returns-clause-continues g c = λ m T first.
     let desks : map seat_of_desk (c.open_again-desk.result.desk ∷ []) ≡ desk_seats c.in-Ok.desks.items =
     sym (ap desk_seats c.in-Ok.ensures.items ∙ ap (λ (x : DeskSeat). x ∷ []) (c.end-last.ensures.seat)) in
     let workers = sym (c.run_all-done.ensures ∙ c.end-last.ensures.idled) in
-    let of = c.settle_all.ensures.of (reopening c.args.settled c.args.again.now) (c.open_again-desk.result.desk ∷ []) c.open_again-desk.result.workers c.open_again-desk.ensures.opened desks workers in
+    let of =
+    c.settle_all.ensures.of (reopening c.args.settled c.args.again.now) (c.open_again-desk.result.desk ∷ []) c.open_again-desk.result.workers c.open_again-desk.ensures.opened desks workers in
     c.reopened_openings_go_on_from_what_was_left.ensures c.args.settled c.settle_all.result c.args.again.now m T c.settled_openings_are_whole.ensures of first
 
 pub returns-clause-silent : goal.returns-clause-silent

@@ -3,8 +3,8 @@ use Rattle.std.proofs.Common.{◌≡◌, sym, ap, ◌∙◌}
 use Rattle.xa_base.proofs.Options.{is_missing}
 use Rattle.xa_words.specs.Tran.{tran_of}
 use Rattle.xa_driver.specs.declared.branch.Branch.{Branch}
-use Rattle.xa_driver.specs.Cut.{LeavesBranches}
-use Rattle.xa_driver.specs.Log.{record_of}
+use Rattle.xa_atomicity.specs.Cut.{LeavesBranches}
+use Rattle.xa_log.specs.Log.{record_of}
 use Rattle.xa_driver.specs.Trace.{MayCommit}
 use Rattle.xa_driver.proofs.Calls.{tran_first}
 use Rattle.xa_driver_tests.proofs.driver.woven.weave.Goals as goal
@@ -19,10 +19,15 @@ returns-clause-cut g c =
     let first = c.in-Ok.ensures.prepared in
     let may = c.may_commit.ensures.0 c.if-not-may_commit.false in
     let tran : c.tran.result ≡ c.in-Ok.prepared.tran =
-    c.tran.ensures ∙ ap (λ (b : Branch). tran_of b.xid) (sym c.index-branches-0.is) ∙ tran_first bs c.index-branches-0.result c.in-Ok.prepared.tran may.some c.index-branches-0.is first.tran in
-    let absent : record_of found.state c.in-Ok.prepared.tran ≡ None = ap (record_of found.state) (sym tran) ∙ sym c.has.ensures ∙ is_missing c.has.result (sym c.is_some.ensures ∙ c.if-is_some.false) in
-    let still : MayCommit start found.state bs = c.stages_follow.ensures.log bs start c.args.log.now.state found.state c.in-Ok.prepared.tran may first.tran absent in
-    let between : LeavesBranches bs mid.ledgers tell.ledgers = c.others_leave_the_branches.ensures.committed bs c.args.others.now mid tell.ledgers c.args.log.now.state found.state c.in-Ok-commit_all.field-0 may.rising (c.are_others.ensures.0 c.if-not-are_others.false) c.in-Ok-commit_all.ensures.made in
+    c.tran.ensures ∙ ap (λ (b : Branch). tran_of b.xid) (sym c.index-branches-0.is)
+    ∙ tran_first bs c.index-branches-0.result c.in-Ok.prepared.tran may.some c.index-branches-0.is first.tran in
+    let absent : record_of found.state c.in-Ok.prepared.tran ≡ None =
+    ap (record_of found.state) (sym tran) ∙ sym c.has.ensures ∙ is_missing c.has.result (sym c.is_some.ensures ∙ c.if-is_some.false) in
+    let still : MayCommit start found.state bs =
+    c.stages_follow.ensures.log bs start c.args.log.now.state found.state c.in-Ok.prepared.tran may first.tran absent in
+    let between : LeavesBranches bs mid.ledgers tell.ledgers =
+    c.others_leave_the_branches.ensures.committed bs c.args.others.now mid tell.ledgers c.args.log.now.state found.state c.in-Ok-commit_all.field-0 may.rising (c.are_others.ensures.0 c.if-not-are_others.false) c.in-Ok-commit_all.ensures.made in
     let nothing = c.others_leave_the_branches.ensures.nothing bs c.tell-told.new.desk.ledgers in
-    let cut = c.stages_are_cuts.ensures.told bs start mid.ledgers tell.ledgers c.tell-told.new.desk.ledgers c.tell-told.new.desk.ledgers found.state c.decide-decided.new.log.state c.in-Ok.prepared c.decide-decided.result c.tell-told.result still first between c.decide-decided.ensures.decided c.tell-told.ensures.told nothing in
+    let cut =
+    c.stages_are_cuts.ensures.told bs start mid.ledgers tell.ledgers c.tell-told.new.desk.ledgers c.tell-told.new.desk.ledgers found.state c.decide-decided.new.log.state c.in-Ok.prepared c.decide-decided.result c.tell-told.result still first between c.decide-decided.ensures.decided c.tell-told.ensures.told nothing in
     rw (c.of-before.ensures, c.of.ensures, c.of-log_before.ensures, c.of-2.ensures, c.let_go.ensures) cut

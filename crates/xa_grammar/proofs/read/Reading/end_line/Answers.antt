@@ -12,14 +12,16 @@ returns-in_err-read_line-clause-err c =
     let p = err_from_is_err_and c.from_residual.result c.from_residual.ensures.1 in
     let r = c.args.self.now in
     let fault = c.in_err-read_line.field-0.0 in
-    let fails : FailsAt r.number fault (after_line r.threads_mode r.script r.number r.line.items) = subst (λ (l : List ℕ). FailsAt r.number fault (after_line r.threads_mode r.script r.number l)) c.deref.ensures.value c.in_err-read_line.ensures.err in
+    let fails : FailsAt r.number fault (after_line r.threads_mode r.script r.number r.line.items) =
+    subst (λ (l : List ℕ). FailsAt r.number fault (after_line r.threads_mode r.script r.number l)) c.deref.ensures.value c.in_err-read_line.ensures.err in
     rw (p.1, p.2) (λ bytes. stops_there r.threads_mode fault r.script r.number r.line.items bytes r.no_end fails)
 
 pub returns-clause-ok : goal.returns-clause-ok
 returns-clause-ok c = λ bytes.
     let r = c.args.self.now in
     let t = c.read_line.new.script in
-    let taken : after_line r.threads_mode r.script r.number r.line.items ≡ Ok t = ap (after_line r.threads_mode r.script r.number) (sym c.deref.ensures.value) ∙ c.in_ok-read_line.ensures.ok in
+    let taken : after_line r.threads_mode r.script r.number r.line.items ≡ Ok t =
+    ap (after_line r.threads_mode r.script r.number) (sym c.deref.ensures.value) ∙ c.in_ok-read_line.ensures.ok in
     goes_further r.threads_mode r.script t r.number r.line.items bytes r.no_end taken
     ∙ ap (λ (xs : List ℕ). script_from r.threads_mode (r.number + 1) t (lines_of (xs ++ bytes))) (sym c.clear.ensures.items)
 
@@ -27,5 +29,6 @@ pub returns-clause-one : goal.returns-clause-one
 returns-clause-one c =
     let r = c.args.self.now in
     let t = c.read_line.new.script in
-    let taken : after_line r.threads_mode r.script r.number r.line.items ≡ Ok t = ap (after_line r.threads_mode r.script r.number) (sym c.deref.ensures.value) ∙ c.in_ok-read_line.ensures.ok in
+    let taken : after_line r.threads_mode r.script r.number r.line.items ≡ Ok t =
+    ap (after_line r.threads_mode r.script r.number) (sym c.deref.ensures.value) ∙ c.in_ok-read_line.ensures.ok in
     (refl, λ threads all. after_one r.threads_mode r.script t r.number r.line.items taken threads all)

@@ -20,19 +20,22 @@ returns-in_err-read_line-clause-reads c =
     let p = err_from_is_err_and c.from_residual.result c.from_residual.ensures.1 in
     let r = c.args.self in
     let fault = c.in_err-read_line.field-0.0 in
-    let fails : FailsAt r.number fault (after_line r.threads_mode r.script r.number r.line.items) = subst (λ (l : List ℕ). FailsAt r.number fault (after_line r.threads_mode r.script r.number l)) c.deref.ensures.value c.in_err-read_line.ensures.err in
+    let fails : FailsAt r.number fault (after_line r.threads_mode r.script r.number r.line.items) =
+    subst (λ (l : List ℕ). FailsAt r.number fault (after_line r.threads_mode r.script r.number l)) c.deref.ensures.value c.in_err-read_line.ensures.err in
     rw (p.1, p.2) (ends_in_fault r.threads_mode fault r.script r.number r.line.items r.no_end (some_byte _ _ r.line.ok.0 (sym c.if-is_empty.ensures)) fails)
 
 pub returns-clause-reads : goal.returns-clause-reads
 returns-clause-reads c =
     let r = c.args.self in
     let t = c.read_line.new.script in
-    let taken : after_line r.threads_mode r.script r.number r.line.items ≡ Ok t = ap (after_line r.threads_mode r.script r.number) (sym c.deref.ensures.value) ∙ c.in_ok-read_line.ensures.ok in
+    let taken : after_line r.threads_mode r.script r.number r.line.items ≡ Ok t =
+    ap (after_line r.threads_mode r.script r.number) (sym c.deref.ensures.value) ∙ c.in_ok-read_line.ensures.ok in
     ends r.threads_mode r.script t r.number r.line.items r.no_end (some_byte _ _ r.line.ok.0 (sym c.if-is_empty.ensures)) taken
 
 pub returns-clause-one : goal.returns-clause-one
 returns-clause-one c = λ threads all.
     let r = c.args.self in
     let t = c.read_line.new.script in
-    let taken : after_line r.threads_mode r.script r.number r.line.items ≡ Ok t = ap (after_line r.threads_mode r.script r.number) (sym c.deref.ensures.value) ∙ c.in_ok-read_line.ensures.ok in
+    let taken : after_line r.threads_mode r.script r.number r.line.items ≡ Ok t =
+    ap (after_line r.threads_mode r.script r.number) (sym c.deref.ensures.value) ∙ c.in_ok-read_line.ensures.ok in
     after_one r.threads_mode r.script t r.number r.line.items taken threads all

@@ -1,4 +1,5 @@
-use Rattle.std.proofs.Common.{◌≡◌, ◌+◌, ◌-◌, ◌<◌, ℕ, List, [], ◌∷◌, ◌++◌, length, take, drop, slice_index, true, ap, sym, subst, ◌∙◌, arith, append_assoc, take_all, length-drop}
+use Rattle.std.proofs.Common.{◌≡◌, ◌+◌, ◌-◌, ◌<◌, ℕ, List, [], ◌∷◌, ◌++◌, length, take, drop, slice_index, true, ap, sym, subst, ◌∙◌, arith, append_assoc}
+use Rattle.std.proofs.Common.{take_all, length-drop}
 use Rattle.std.specs.Prelude.{◌==◌}
 use Rattle.std.proofs.lemmas.Result.{err_from_is_err_and}
 use Rattle.xa_grammar.specs.declared.read.Reading.{Reading}
@@ -38,7 +39,8 @@ loop-end-preserved c =
     let taken = c.in_ok-take_line.ensures in
     let rest = c.loop-end.rest.now in
     let next = c.take_line.new.self in
-    let after : take (length rest - (c.in-Some.end + 1)) (drop (c.in-Some.end + 1) rest) ≡ drop (c.in-Some.end + 1) rest = take_all _ _ (omega (arith, length-drop (c.in-Some.end + 1) rest)) in
+    let after : take (length rest - (c.in-Some.end + 1)) (drop (c.in-Some.end + 1) rest) ≡ drop (c.in-Some.end + 1) rest =
+    take_all _ _ (omega (arith, length-drop (c.in-Some.end + 1) rest)) in
     record {
       goes = λ bytes.
           c.loop-end.invariant.goes bytes ∙ cut c.loop-end.self rest c.in-Some.end bytes found.0.high found.1

@@ -8,7 +8,8 @@ use Rattle.xa_grammar.proofs.OwnTasks.{own_are_tasks, own_tasks}
 use Rattle.xa_grammar.proofs.script.Script.tasks_of.Goals as goal
 
 -- the same steps behind each pointer
-own_behind : (t : ℕ) (shared lent steps : List ScriptStep) (places : List ℕ) → shared ≡ steps → lent ≡ steps → steps_at lent places ≡ own_steps t lent → steps_at shared places ≡ own_steps t steps
+own_behind : (t : ℕ) (shared lent steps : List ScriptStep) (places : List ℕ) → shared ≡ steps → lent ≡ steps → steps_at lent places ≡ own_steps t lent
+    → steps_at shared places ≡ own_steps t steps
 own_behind t shared lent steps places one other own = ap (λ (l : List ScriptStep). steps_at l places) (one ∙ sym other) ∙ own ∙ ap (own_steps t) other
 
 pub new-requires-clause-tasks : goal.new-requires-clause-tasks

@@ -5,7 +5,8 @@ use Rattle.xa_grammar.specs.Steps.{call_with}
 use Rattle.xa_grammar.proofs.step.Calling.map.Goals as goal
 
 -- what a call at what is there may answer is what the function gives
-mapped : {X Y : Type 0} (answers : Bor X → Y → Type 0) (f : X → Y) (lent : Option (Bor X)) (told : Option Y) → ((p : Bor X) (y : Y) → answers p y → y ≡ f p.now) → MatchOption lent (told ≡ None) (λ p. IsSomeAnd told (answers p)) → told ≡ option_map f (option_copied lent)
+mapped : {X Y : Type 0} (answers : Bor X → Y → Type 0) (f : X → Y) (lent : Option (Bor X)) (told : Option Y) → ((p : Bor X) (y : Y) → answers p y → y ≡ f p.now)
+    → MatchOption lent (told ≡ None) (λ p. IsSomeAnd told (answers p)) → told ≡ option_map f (option_copied lent)
 mapped answers f None told same is = is
 mapped answers f (Some p) (Some y) same is = ap Some (same p y is)
 mapped answers f (Some p) None same is = absurd is

@@ -4,17 +4,19 @@ use Rattle.std.proofs.lemmas.List.{map-append}
 use Rattle.std.proofs.lemmas.List.Elements.{All-push}
 use Rattle.xa_grammar.specs.Steps.{ScriptStep, step_with}
 use Rattle.xa_grammar.specs.KeptSteps.{KeptStep, IsNamed, step_at, steps_of, IsShort, bytes_in, place_from, gtrid_place_from}
-use Rattle.xa_grammar.proofs.Names.{step_put, with_bytes, steps_grown, all_grown}
+use Rattle.xa_grammar.proofs.Names.{step_put, with_bytes, steps_grown}
 use Rattle.xa_grammar.proofs.steps.Steps.push.Goals as goal
 
--- the step that is kept has its name among the bytes, and they go on from those of before
-put : (p : ScriptStep) (kept : KeptStep) (old new : List ℕ) (at : ℕ) (gtrid bqual : List ℕ) → IsShort p → (gtrid, bqual) ≡ bytes_in p → at ≡ length old → kept ≡ step_with (place_from at) (gtrid_place_from at) p → new ≡ (old ++ gtrid) ++ bqual
-    → (step_at new kept ≡ p) × IsNamed new kept
-put p kept old new at gtrid bqual short bytes here placed are =
-    let all : new ≡ with_bytes old (bytes_in p) = are ∙ ap (with_bytes old) bytes in
-    let is : kept ≡ step_with (place_from (length old)) (gtrid_place_from (length old)) p = placed ∙ ap (λ n. step_with (place_from n) (gtrid_place_from n) p) here in
-    subst (λ (l : List ℕ). (step_at l kept ≡ p) × IsNamed l kept) (sym all)
-    (subst (λ (k : KeptStep). (step_at (with_bytes old (bytes_in p)) k ≡ p) × IsNamed (with_bytes old (bytes_in p)) k) (sym is) (step_put old p short))
+-- the step that is kept last has its name among the bytes, which go on from those of before
+put : (p : ScriptStep) (kept : List KeptStep) (k : KeptStep) (old mid new : List ℕ) (at : ℕ) (parts : List ℕ × List ℕ) → IsShort p → parts ≡ bytes_in p
+    → at ≡ length old → k ≡ step_with (place_from at) (gtrid_place_from at) p → mid ≡ old ++ parts.0 → new ≡ mid ++ parts.1 → All (IsNamed old) kept
+    → (steps_of new (kept ++ k ∷ []) ≡ steps_of old kept ++ p ∷ []) × All (IsNamed new) (kept ++ k ∷ [])
+put p kept k old mid new at parts short bytes here placed first second named =
+    let are : new ≡ with_bytes old parts = second ∙ ap (λ l. l ++ parts.1) first in
+    let is : k ≡ step_with (place_from (length old)) (gtrid_place_from (length old)) p = placed ∙ rw here in
+    let (same, last) = subst (λ (l : List ℕ). (step_at l k ≡ p) × IsNamed l k) (sym (are ∙ ap (with_bytes old) bytes)) (rw is (step_put old p short)) in
+    let (before, still) = rw (← append_assoc old parts.0 parts.1, ← are) at (steps_grown old (parts.0 ++ parts.1) kept named) in
+    (map-append {B = ScriptStep} (step_at new) kept (k ∷ []) ∙ (λ i. before i ++ same i ∷ []), All-push (IsNamed new) kept k still last)
 
 -- bytes of a step that isn't kept change nothing
 on_err : {A E : Type 0} (r : Result A E) (P : Type 0) → P → OnErr r P
@@ -23,41 +25,34 @@ on_err (Err e) P p = p
 
 pub invariant_of-self-2 : goal.invariant_of-self-2
 invariant_of-self-2 c =
-    let kept = c.self.inside.kept.items in
     let old = c.self.inside.names.items in
-    let new = c.extend_from_slice-2.new.self.items in
-    let (gtrid, bqual) = c.name_in.result in
-    let are : new ≡ (old ++ gtrid.now) ++ bqual.now = c.in_ok-extend_from_slice-2.ensures.items ∙ ap (λ l. l ++ bqual.now) c.in_ok-extend_from_slice.ensures.items in
     let here : c.len-at.result ≡ length old = search rules in
-    let is = put c.args.step.now c.place_names-kept.result old new c.len-at.result gtrid.now bqual.now c.name_in.ensures.short c.name_in.ensures.bytes here c.place_names-kept.ensures are in
-    subst (All (IsNamed new)) (sym c.in_ok-push.ensures.items)
-    (All-push (IsNamed new) kept c.place_names-kept.result (subst (λ l. All (IsNamed l) kept) (sym (are ∙ append_assoc old gtrid.now bqual.now)) (all_grown old (gtrid.now ++ bqual.now) kept c.self.invariant)) is.1)
+    let is = put c.args.step.now c.self.inside.kept.items c.place_names-kept.result old _ _ c.len-at.result _ c.name_in.ensures.short
+    c.name_in.ensures.bytes here c.place_names-kept.ensures c.in_ok-extend_from_slice.ensures.items c.in_ok-extend_from_slice-2.ensures.items
+    c.self.invariant in
+    rw c.in_ok-push.ensures.items is.1
 
 pub returns-clause-pushed : goal.returns-clause-pushed
 returns-clause-pushed c =
-    let kept = c.self.inside.kept.items in
     let old = c.self.inside.names.items in
-    let new = c.extend_from_slice-2.new.self.items in
-    let (gtrid, bqual) = c.name_in.result in
-    let are : new ≡ (old ++ gtrid.now) ++ bqual.now = c.in_ok-extend_from_slice-2.ensures.items ∙ ap (λ l. l ++ bqual.now) c.in_ok-extend_from_slice.ensures.items in
     let here : c.len-at.result ≡ length old = search rules in
-    let p = c.place_names-kept.result in
-    let is = put c.args.step.now p old new c.len-at.result gtrid.now bqual.now c.name_in.ensures.short c.name_in.ensures.bytes here c.place_names-kept.ensures are in
-    ap (steps_of new) c.in_ok-push.ensures.items
-    ∙ map-append {B = ScriptStep} (step_at new) kept (p ∷ [])
-    ∙ ap (λ l. l ++ step_at new p ∷ []) (ap (λ l. steps_of l kept) (are ∙ append_assoc old gtrid.now bqual.now) ∙ steps_grown old (gtrid.now ++ bqual.now) kept c.self.invariant ∙ c.self.view_is)
-    ∙ ap (λ (q : ScriptStep). c.args.self.now ++ q ∷ []) is.0
+    let is = put c.args.step.now c.self.inside.kept.items c.place_names-kept.result old _ _ c.len-at.result _ c.name_in.ensures.short
+    c.name_in.ensures.bytes here c.place_names-kept.ensures c.in_ok-extend_from_slice.ensures.items c.in_ok-extend_from_slice-2.ensures.items
+    c.self.invariant in
+    ap (steps_of _) c.in_ok-push.ensures.items ∙ is.0 ∙ ap (λ l. l ++ c.args.step.now ∷ []) c.self.view_is
 
 pub returns-in_err-extend_from_slice-2-clause-same : goal.returns-in_err-extend_from_slice-2-clause-same
 returns-in_err-extend_from_slice-2-clause-same c =
     let kept = c.self.inside.kept.items in
-    let gtrid = c.name_in.result.0.now in
-    on_err _ _ (ap (λ l. steps_of l kept) (c.in_err-extend_from_slice-2.ensures.items ∙ c.in_ok-extend_from_slice.ensures.items) ∙ steps_grown c.self.inside.names.items gtrid kept c.self.invariant ∙ c.self.view_is)
+    let grown = steps_grown c.self.inside.names.items c.name_in.result.0.now kept c.self.invariant in
+    on_err _ _ (ap (λ l. steps_of l kept) (c.in_err-extend_from_slice-2.ensures.items ∙ c.in_ok-extend_from_slice.ensures.items) ∙ grown.0 ∙ c.self.view_is)
 
 pub returns-in_err-push-clause-same : goal.returns-in_err-push-clause-same
 returns-in_err-push-clause-same c =
     let kept = c.self.inside.kept.items in
     let old = c.self.inside.names.items in
     let (gtrid, bqual) = c.name_in.result in
-    let are = c.in_ok-extend_from_slice-2.ensures.items ∙ ap (λ l. l ++ bqual.now) c.in_ok-extend_from_slice.ensures.items ∙ append_assoc old gtrid.now bqual.now in
-    on_err _ _ (ap (steps_of c.extend_from_slice-2.new.self.items) c.in_err-push.ensures.items ∙ ap (λ l. steps_of l kept) are ∙ steps_grown old (gtrid.now ++ bqual.now) kept c.self.invariant ∙ c.self.view_is)
+    let are =
+    c.in_ok-extend_from_slice-2.ensures.items ∙ ap (λ l. l ++ bqual.now) c.in_ok-extend_from_slice.ensures.items ∙ append_assoc old gtrid.now bqual.now in
+    let grown = steps_grown old (gtrid.now ++ bqual.now) kept c.self.invariant in
+    on_err _ _ (ap (steps_of c.extend_from_slice-2.new.self.items) c.in_err-push.ensures.items ∙ ap (λ l. steps_of l kept) are ∙ grown.0 ∙ c.self.view_is)

@@ -8,7 +8,8 @@ use Rattle.xa_grammar.proofs.tasks.Tasks.get.Goals as goal
 
 pub index-requires : goal.index-requires
 index-requires c =
-    let within = place_within (arc_value c.self.inside.steps) c.self.inside.places.items c.args.place _ c.self.invariant.0 c.self.invariant.1 c.self.view_is c.requires in
+    let within =
+    place_within (arc_value c.self.inside.steps) c.self.inside.places.items c.args.place _ c.self.invariant.0 c.self.invariant.1 c.self.view_is c.requires in
     let long = c.self.inside.places.ok.0 in
     omega (arith, within, long)
 
@@ -24,7 +25,8 @@ unreachable-requires c =
     let steps = arc_value c.self.inside.steps in
     let places = c.self.inside.places.items in
     let within = place_within steps places c.args.place _ c.self.invariant.0 c.self.invariant.1 c.self.view_is c.requires in
-    let there = step_at_place steps places c.args.place c.index.result.now c.get.result c.self.invariant.1 within c.index.ensures (ap (λ (l : List ScriptStep). slice_get l c.index.result.now) (sym c.deref.ensures) ∙ c.get.ensures) in
+    let there =
+    step_at_place steps places c.args.place c.index.result.now c.get.result c.self.invariant.1 within c.index.ensures (ap (λ (l : List ScriptStep). slice_get l c.index.result.now) (sym c.deref.ensures) ∙ c.get.ensures) in
     let task = none_there (steps_at steps places) c.args.place c.get.result c.self.invariant.0 there in
     elim c.in-Turn.is [
       | inl turn ↦ let never : false ≡ true = subst IsTask turn.2 task in let no : ⊥ = cc in no
@@ -36,6 +38,7 @@ returns c =
     let steps = arc_value c.self.inside.steps in
     let places = c.self.inside.places.items in
     let within = place_within steps places c.args.place _ c.self.invariant.0 c.self.invariant.1 c.self.view_is c.requires in
-    let there = step_at_place steps places c.args.place c.index.result.now c.get.result c.self.invariant.1 within c.index.ensures (ap (λ (l : List ScriptStep). slice_get l c.index.result.now) (sym c.deref.ensures) ∙ c.get.ensures) in
+    let there =
+    step_at_place steps places c.args.place c.index.result.now c.get.result c.self.invariant.1 within c.index.ensures (ap (λ (l : List ScriptStep). slice_get l c.index.result.now) (sym c.deref.ensures) ∙ c.get.ensures) in
     ap (λ (l : List ScriptTask). slice_get l c.args.place) (sym c.self.view_is)
     ∙ task_there (steps_at steps places) c.args.place c.in-Task.task c.self.invariant.0 (there ∙ ap (λ (p : ScriptStep). Some p) c.in-Task.is)

@@ -15,7 +15,8 @@ slice_get-push (z ∷ zs) x y (suc k) found = elim (slice_get-push zs x y k foun
   | inr last ↦ inr (ap suc last.0, last.1)
 ]
 
-ends_push : (t opening : ℕ) (xs : List (Sending Request)) (x : Sending Request) → AreEndsTo t opening xs → IsEndTo t opening (length xs + 1) x → AreEndsTo t opening (xs ++ x ∷ [])
+ends_push : (t opening : ℕ) (xs : List (Sending Request)) (x : Sending Request) → AreEndsTo t opening xs → IsEndTo t opening (length xs + 1) x
+    → AreEndsTo t opening (xs ++ x ∷ [])
 ends_push t opening xs x each last k s found = elim (slice_get-push xs x s k found) [
   | inl there ↦ each k s there
   | inr new ↦ subst (λ n. IsEndTo t opening (n + 1) s) (sym new.0) (subst (IsEndTo t opening (length xs + 1)) new.1 last)

@@ -11,7 +11,8 @@ use Rattle.xa_script.proofs.in_turns.Runner.close.Goals as goal
 pub end_desks-requires : goal.end_desks-requires
 end_desks-requires g c =
     let (s, b, steps, told, goes) = c.requires in
-    let kept = c.outstanding_operations_stay_kept.ensures.opened goes.is_open.opened.setup (map (λ (x : Session). x.desk) goes.first) goes.first_workers goes.is_open.opened.opened in
+    let kept =
+    c.outstanding_operations_stay_kept.ensures.opened goes.is_open.opened.setup (map (λ (x : Session). x.desk) goes.first) goes.first_workers goes.is_open.opened.opened in
     run_keeps (turns_at goes.first goes.first_workers []) steps (turns_at c.args.self.sessions.items c.args.self.turns told) goes.made (all_unmapped (λ (x : Session). x.desk) AllKept goes.first kept)
 
 pub settle_all-requires : goal.settle_all-requires
@@ -20,7 +21,8 @@ settle_all-requires g c =
     let sessions = c.args.self.sessions.items in
     let ended = c.in_ok-ended.ended.items in
     let done = c.run-done.result.items in
-    let r = has_run s b steps told sessions c.args.self.turns goes c.args.transcript.now ended c.end_desks.new.turns c.end_desks.new.transcript done c.in_ok-ended.ensures.ended c.run-done.ensures.served in
+    let r =
+    has_run s b steps told sessions c.args.self.turns goes c.args.transcript.now ended c.end_desks.new.turns c.end_desks.new.transcript done c.in_ok-ended.ensures.ended c.run-done.ensures.served in
     (r.opened.setup, pieces_of c.desks_go_on.ensures.same c.desks_go_on.ensures.further s b steps _ goes.first sessions goes.first_workers ended done r)
 
 pub returns-clause-closed : goal.returns-clause-closed

@@ -13,4 +13,5 @@ returns-in-Err-Retry-clause-completes g c =
     retry some.0 some.1 c.if-nowait.true refl (e.retry_quiet is) (e.retry_none is)
 
 pub returns-in-Ok-complete_any-clause-completes : goal.returns-in-Ok-complete_any-clause-completes
-returns-in-Ok-complete_any-clause-completes g c = least c.in-Ok-complete_any.collected.0 c.in-Ok-complete_any.collected.1 refl c.in-Ok-complete_any.ensures.collected
+returns-in-Ok-complete_any-clause-completes g c =
+    least c.in-Ok-complete_any.collected.0 c.in-Ok-complete_any.collected.1 refl c.in-Ok-complete_any.ensures.collected

@@ -1,23 +1,31 @@
-use Rattle.std.proofs.Common.{◌≡◌, None, Ok, refl, ap}
+use Rattle.std.proofs.Common.{◌≡◌, false, None, Some, Ok, Err, refl, ap, ◌∙◌}
 use Rattle.std.specs.Prelude.{option_map}
 use Rattle.xa_words.specs.declared.request.Op.TheVariants.{Listed}
-use Rattle.xa_desk.specs.DeskView.{call_refusal}
-use Rattle.xa_switch.specs.Putting.{code_of}
-use Rattle.xa_switch.specs.Scans.{answered}
-use Rattle.xa_switch.specs.Scans.AsksAndWaits.{waited}
+use Rattle.xa_switch.specs.Putting.{code_of, put_refusal}
+use Rattle.xa_switch.specs.Scans.{refused, answered}
 use Rattle.xa_switch.proofs.Recovered.{asked_keep}
-use Rattle.xa_switch.proofs.Refusals.{no_refusal}
+use Rattle.xa_switch.proofs.Refusals.{no_refusal, its_refusal}
 use Rattle.xa_switch.proofs.calls.recovering.ask.Goals as goal
 
-pub returns-in-Ok-clause-answers : goal.returns-in-Ok-clause-answers
-returns-in-Ok-clause-answers g c =
-    let none : call_refusal c.args.desk.now c.args.manager ≡ None = no_refusal (Ok c.in-Ok.code) c.in-Ok.code _ refl c.in-Ok.ensures.refused in
-    answered (ap (option_map code_of) none) c.in-Ok.ensures.collected.0 c.in-Ok.ensures.collected.1
+pub returns-in-Ok-clause-asks : goal.returns-in-Ok-clause-asks
+returns-in-Ok-clause-asks g c =
+    let none : put_refusal c.args.desk.now c.args.manager false ≡ None = ap (option_map code_of)
+    (no_refusal (Ok c.in-Ok.code) c.in-Ok.code _ refl c.in-Ok.ensures.refused) in
+    record {
+      answers = answered none c.in-Ok.ensures.collected.0 c.in-Ok.ensures.collected.1;
+      waits = λ _. c.in-Ok.ensures.waited;
+      stays = λ some. absurd (let never : ⊥ = cc in never);
+    }
 
 pub returns-in-Ok-clause-kept : goal.returns-in-Ok-clause-kept
-returns-in-Ok-clause-kept g c = asked_keep _ _ c.args.manager (Listed c.args.xid) c.in-Ok.code (returns-in-Ok-clause-answers g c)
+returns-in-Ok-clause-kept g c = asked_keep _ _ c.args.manager (Listed c.args.xid) c.in-Ok.code (returns-in-Ok-clause-asks g c).answers
 
-pub returns-in-Ok-clause-waited : goal.returns-in-Ok-clause-waited
-returns-in-Ok-clause-waited g c =
-    let none : call_refusal c.args.desk.now c.args.manager ≡ None = no_refusal (Ok c.in-Ok.code) c.in-Ok.code _ refl c.in-Ok.ensures.refused in
-    waited (ap (option_map code_of) none) c.in-Ok.ensures.waited
+pub returns-in-Err-clause-asks : goal.returns-in-Err-clause-asks
+returns-in-Err-clause-asks g c =
+    let some : put_refusal c.args.desk.now c.args.manager false ≡ Some (code_of c.in-Err.why) = ap (option_map code_of)
+    (its_refusal (Err c.in-Err.why) c.in-Err.why _ refl c.in-Err.ensures.refused c.in-Err.ensures.answered) in
+    record {
+      answers = refused (some ∙ ap Some (let told = c.code_of.ensures in cc)) c.in-Err.ensures.unchanged;
+      waits = λ none. absurd (let never : ⊥ = cc in never);
+      stays = λ _. c.in-Err.ensures.idle_stays;
+    }

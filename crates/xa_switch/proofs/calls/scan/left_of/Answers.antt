@@ -15,7 +15,8 @@ loop-before-preserved c =
     let xs = c.in_ok-left-in-Some.field-0 in
     let part = c.in-Some.part.now.part in
     let found : find_manager (k + 1) s.managers ≡ Some part =
-    ap (λ z. find_manager (k + 1) z.managers) (sym c.settled.view_is) ∙ ap (λ l. find_manager (k + 1) (parts_of l)) (sym c.deref.ensures.value) ∙ sym c.find_carried.ensures ∙ ap (option_map (λ m. m.now.part)) c.in-Some.is in
+    ap (λ z. find_manager (k + 1) z.managers) (sym c.settled.view_is) ∙ ap (λ l. find_manager (k + 1) (parts_of l)) (sym c.deref.ensures.value)
+    ∙ sym c.find_carried.ensures ∙ ap (option_map (λ m. m.now.part)) c.in-Some.is in
     let here : AreLeft xs.items (reopened_at s.managers (k + 1)) =
     subst (λ o. AreLeft xs.items (reopened (last_in o))) (sym found) (c.openings_begin_with_what_was_left.ensures.left xs.items part.last c.in_ok-left-in-Some.ensures) in
     let counted = i.counted in

@@ -1,4 +1,5 @@
-use Rattle.std.proofs.Common.{◌≡◌, Bool, true, false, ℕ, ◌+◌, ◌<◌, List, [], ◌∷◌, ◌++◌, length, cond, Result, Ok, Err, is_ok, is_err, get_or, take, refl, sym, ap, ◌∙◌, subst, arith}
+use Rattle.std.proofs.Common.{◌≡◌, Bool, true, false, ℕ, ◌+◌, ◌<◌, List, [], ◌∷◌, ◌++◌, length, cond, Result, Ok, Err, is_ok, is_err, get_or, take, refl, sym}
+use Rattle.std.proofs.Common.{ap, ◌∙◌, subst, arith}
 use Rattle.std.specs.List.{All}
 use Rattle.std.proofs.lemmas.List.{take_more, take_all, map_more}
 use Rattle.std.proofs.lemmas.List.Elements.{All-push}
@@ -12,7 +13,8 @@ fits (Ok x) e = refl
 fits (Err x) e = absurd (cc)
 
 -- one manager more
-sound_more : (xs : List ManagerPlan) (i : ℕ) (x : ManagerPlan) → i < length xs → x ≡ get_or xs i x → All IsSoundManager (take i xs) → IsSoundManager x → All IsSoundManager (take (i + 1) xs)
+sound_more : (xs : List ManagerPlan) (i : ℕ) (x : ManagerPlan) → i < length xs → x ≡ get_or xs i x → All IsSoundManager (take i xs) → IsSoundManager x
+    → All IsSoundManager (take (i + 1) xs)
 sound_more xs i x low is before here =
     subst (λ l. All IsSoundManager l) (sym (take_more xs i x low)) (All-push IsSoundManager (take i xs) (get_or xs i x) before (subst IsSoundManager is here))
 

@@ -24,7 +24,8 @@ reopen_managers-managers-requires-clause-there g c = λ m low high.
 pub put_together-desks-requires-clause-many : goal.put_together-desks-requires-clause-many
 put_together-desks-requires-clause-many g c =
     let f : ℕ → Managed = λ m. new_manager c.args.again.now (reopened_at (parts_of c.reserve_managers.new.managers.items) m) in
-    ap (λ l. length l) c.reopen_managers-managers.ensures ∙ length-map-range_with_len f 1 c.managers-many.result ∙ c.managers-many.ensures.managers ∙ sym (ap (λ l. length l) c.in-Ok.ensures.flags)
+    ap (λ l. length l) c.reopen_managers-managers.ensures ∙ length-map-range_with_len f 1 c.managers-many.result ∙ c.managers-many.ensures.managers
+    ∙ sym (ap (λ l. length l) c.in-Ok.ensures.flags)
 
 pub put_together-desks-requires-clause-new : goal.put_together-desks-requires-clause-new
 put_together-desks-requires-clause-new g c =

@@ -7,7 +7,8 @@ use Rattle.xa_switch.proofs.opening.reopening.reserve_managers.Goals as goal
 
 pub returns-in_err-reserve-clause-parts : goal.returns-in_err-reserve-clause-parts
 returns-in_err-reserve-clause-parts c =
-    set_alike (λ (r : ReadyPart). r.part) c.loop-place.managers.items c.loop-place.place c.reserve.new.self c.index_mut.result.now (c.in_err-reserve.ensures.part ∙ ap (λ (r : ReadyPart). r.part) c.index_mut.ensures.value) ∙ c.loop-place.invariant.parts
+    set_alike (λ (r : ReadyPart). r.part) c.loop-place.managers.items c.loop-place.place c.reserve.new.self c.index_mut.result.now (c.in_err-reserve.ensures.part ∙ ap (λ (r : ReadyPart). r.part) c.index_mut.ensures.value)
+    ∙ c.loop-place.invariant.parts
 
 pub loop-place-preserved : goal.loop-place-preserved
 loop-place-preserved c =
@@ -15,7 +16,9 @@ loop-place-preserved c =
     let i = c.loop-place.place in
     let after : ReadyPart = c.reserve.new.self in
     record {
-      parts = set_alike (λ (r : ReadyPart). r.part) managers i after c.index_mut.result.now (c.in_ok-reserve.ensures.part ∙ ap (λ (r : ReadyPart). r.part) c.index_mut.ensures.value) ∙ c.loop-place.invariant.parts;
+      parts =
+          set_alike (λ (r : ReadyPart). r.part) managers i after c.index_mut.result.now (c.in_ok-reserve.ensures.part ∙ ap (λ (r : ReadyPart). r.part) c.index_mut.ensures.value)
+          ∙ c.loop-place.invariant.parts;
       many = length-set managers i after ∙ c.loop-place.invariant.many;
       reserved = all_set_more (λ (r : ReadyPart). r.reserved ≡ Some (c.args.threads, c.args.room)) managers i after c.loop-place.invariant.reserved c.in_ok-reserve.ensures.reserved;
     }

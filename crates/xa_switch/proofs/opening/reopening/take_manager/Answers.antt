@@ -15,7 +15,8 @@ returns-then-number-clause-taken c =
     let d : ReadyPart = c.index.result.now in
     let number = c.args.number in
     let here : (get_or xs i d).part.number ≡ number = ap (λ (r : ReadyPart). r.part.number) (sym c.index.ensures) ∙ sym c.number.ensures ∙ c.if-number.true in
-    let found = found_at (λ (r : ReadyPart). r.part.number == number) xs i d (omega arith) (eq-eqb _ _ here) (λ k e lt. ne_eqb (get_or (take i xs) k e).part.number number (c.loop-place.invariant.none k e lt)) in
+    let found =
+    found_at (λ (r : ReadyPart). r.part.number == number) xs i d (omega arith) (eq-eqb _ _ here) (λ k e lt. ne_eqb (get_or (take i xs) k e).part.number number (c.loop-place.invariant.none k e lt)) in
     subst (λ l. find_ready number l ≡ Some c.remove.result) c.loop-place.invariant.same (found ∙ ap Some (same_place xs i d c.remove.result (omega arith) ∙ sym c.remove.ensures.value))
 
 pub returns-then-number-clause-others : goal.returns-then-number-clause-others
@@ -23,15 +24,19 @@ returns-then-number-clause-others c = λ m differs.
     let xs = c.loop-place.managers.items in
     let i = c.loop-place.place in
     let d : ReadyPart = c.index.result.now in
-    let here : (get_or xs i d).part.number ≡ c.args.number = ap (λ (r : ReadyPart). r.part.number) (sym c.index.ensures) ∙ sym c.number.ensures ∙ c.if-number.true in
-    ap (find_ready m) c.remove.ensures.items ∙ found_without (λ (r : ReadyPart). r.part.number == m) xs i d (omega arith) (ne_eqb (get_or xs i d).part.number m (λ e. differs (sym e ∙ here))) ∙ ap (find_ready m) c.loop-place.invariant.same
+    let here : (get_or xs i d).part.number ≡ c.args.number =
+    ap (λ (r : ReadyPart). r.part.number) (sym c.index.ensures) ∙ sym c.number.ensures ∙ c.if-number.true in
+    ap (find_ready m) c.remove.ensures.items
+    ∙ found_without (λ (r : ReadyPart). r.part.number == m) xs i d (omega arith) (ne_eqb (get_or xs i d).part.number m (λ e. differs (sym e ∙ here)))
+    ∙ ap (find_ready m) c.loop-place.invariant.same
 
 pub loop-place-preserved : goal.loop-place-preserved
 loop-place-preserved c =
     let d : ReadyPart = c.index.result.now in
     record {
       same = c.loop-place.invariant.same;
-      none = all_more (λ (r : ReadyPart). r.part.number ≢ c.args.number) c.loop-place.managers.items c.loop-place.place d (omega arith) c.loop-place.invariant.none
+      none =
+          all_more (λ (r : ReadyPart). r.part.number ≢ c.args.number) c.loop-place.managers.items c.loop-place.place d (omega arith) c.loop-place.invariant.none
           (λ e. c.if-number.false (c.number.ensures ∙ ap (λ (r : ReadyPart). r.part.number) c.index.ensures ∙ e));
     }
 
@@ -40,6 +45,7 @@ unreachable-requires c =
     let xs = c.loop-place.managers.items in
     let there = subst (λ l. find_ready c.args.number l ≡ Some c.requires.0) (sym c.loop-place.invariant.same) c.requires.1 in
     let none = subst (All (λ (r : ReadyPart). r.part.number ≢ c.args.number)) (take_all c.loop-place.place xs (omega arith)) c.loop-place.invariant.none in
-    let nowhere = find_none (λ (r : ReadyPart). r.part.number) c.args.number xs (λ k r at. all_at (λ (q : ReadyPart). q.part.number ≢ c.args.number) xs k r none at) in
+    let nowhere =
+    find_none (λ (r : ReadyPart). r.part.number) c.args.number xs (λ k r at. all_at (λ (q : ReadyPart). q.part.number ≢ c.args.number) xs k r none at) in
     let no = sym nowhere ∙ there in
     cc

@@ -11,7 +11,8 @@ loop-before-preserved c =
     let many = c.loop-before.invariant.many in
     let pushed : c.push.new.self.items ≡ c.loop-before.parts.items ++ c.in_ok-part.part ∷ [] = c.in_ok-push.ensures.items in
     let is : c.in_ok-part.part ≡ desk_parts numbers flags (c.loop-before.before + 1) = c.in_ok-part.ensures in
-    let placed : c.in_ok-part.part ≡ desk_parts numbers flags (length c.loop-before.parts.items + 1) = is ∙ ap (λ n. desk_parts numbers flags (n + 1)) (sym many) in
+    let placed : c.in_ok-part.part ≡ desk_parts numbers flags (length c.loop-before.parts.items + 1) =
+    is ∙ ap (λ n. desk_parts numbers flags (n + 1)) (sym many) in
     record {
       many = let longer = ap length pushed in omega (arith, many, longer, length-append c.loop-before.parts.items (c.in_ok-part.part ∷ []));
       each =

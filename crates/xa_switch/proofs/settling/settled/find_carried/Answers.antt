@@ -8,4 +8,6 @@ both f None = refl
 both f (Some x) = refl
 
 pub returns : goal.returns
-returns c = both (λ m. m.now) c.find_ready.result ∙ ap (option_map (λ (p : ReadyPart). p.part)) c.find_ready.ensures ∙ sym (find_parts c.args.manager c.args.managers.now)
+returns c =
+    both (λ m. m.now) c.find_ready.result ∙ ap (option_map (λ (p : ReadyPart). p.part)) c.find_ready.ensures
+    ∙ sym (find_parts c.args.manager c.args.managers.now)

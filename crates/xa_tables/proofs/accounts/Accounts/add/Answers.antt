@@ -1,4 +1,4 @@
-use Rattle.std.proofs.Common.{ℕ, length, ◌≤◌, refl, sym, ap, ◌∙◌, subst, arith, List, ◌+◌}
+use Rattle.std.proofs.Common.{◌≡◌, ◌<◌, Some, ℕ, length, ◌≤◌, refl, sym, ap, ◌∙◌, subst, arith, List, ◌+◌}
 use Rattle.std.specs.Prelude.{vec_capacity, All, is_some, ◌+ℤ◌}
 use Rattle.std.proofs.Math.ListN.{set}
 use Rattle.std.proofs.lemmas.List.{length-set}
@@ -7,12 +7,13 @@ use Rattle.std.specs.FinMap.{from_entries}
 use Rattle.xa_words.specs.Orders.{key_cmp}
 use Rattle.xa_tables.specs.declared.accounts.Account.{Account}
 use Rattle.xa_tables.specs.Tables.{touch_cmp, is_broken, has_other_touched, sum_of}
-use Rattle.xa_tables.specs.Accounts.{AreDistinct, AreIndexed, IsGood, value_entries, hold_entries, added_to}
+use Rattle.xa_tables.specs.Accounts.{AreDistinct, AreIndexed, IsGood, value_entries, hold_entries, added_to, place_in}
 use Rattle.xa_tables.specs.Held.{AreHeld}
 use Rattle.xa_tables.proofs.HeldLemmas.{held_noted, note_room}
-use Rattle.xa_tables.proofs.AccountLemmas.{for_place, values_set, sums_added, others_added, distinct_added, all_added}
+use Rattle.xa_tables.proofs.AccountLemmas.{IsFor, for_place, values_set, sums_added, others_added, distinct_added, all_added}
 use Rattle.xa_tables.proofs.PlaceLemmas.{is_placed, place_within, place_key, indexed_set}
 use Rattle.xa_tables.proofs.accounts.Accounts.add.Goals as goal
+use Rattle.xa_tables.proofs.accounts.Accounts.add.Goals.{After-index-account}
 
 pub unwrap-place-requires : goal.unwrap-place-requires
 unwrap-place-requires c =
@@ -28,89 +29,81 @@ index-account-requires c =
     let within = place_within k items c.unwrap-place.result there in
     omega (arith, within, c.self.inside.accounts.ok.0)
 
+-- the place of the key, the account there, which no other branch has touched, and the accounts after it
+placed : (c : After-index-account) → place_in c.args.key c.self.inside.accounts.items ≡ Some c.unwrap-place.result
+placed c = sym (c.self.invariant.2 c.args.key) ∙ sym c.get.ensures ∙ c.unwrap-place.ensures
+
+within : (c : After-index-account) → c.unwrap-place.result < length c.self.inside.accounts.items
+within c = place_within c.args.key c.self.inside.accounts.items c.unwrap-place.result (placed c)
+
+keyed : (c : After-index-account) → c.index-account.result.now.key ≡ c.args.key
+keyed c = place_key c.args.key c.self.inside.accounts.items c.unwrap-place.result c.index-account.result.now (placed c) c.index-account.ensures
+
+mine : (c : After-index-account) → IsFor c.args.xid c.index-account.result.now.hold
+mine c =
+    for_place c.self.inside.accounts.items c.unwrap-place.result c.index-account.result.now c.args.xid c.args.key c.self.invariant.0 (within c)
+    c.index-account.ensures (keyed c) (ap (λ h. has_other_touched h.sums c.args.xid c.args.key) c.self.view_is ∙ c.requires.alone)
+
 pub index_mut-requires : goal.index_mut-requires
-index_mut-requires c =
-    let items = c.self.inside.accounts.items in
-    let k = c.args.key in
-    let there = sym (c.self.invariant.2 k) ∙ sym c.get.ensures ∙ c.unwrap-place.ensures in
-    let within = place_within k items c.unwrap-place.result there in
-    omega (arith, within, c.self.inside.accounts.ok.0)
+index_mut-requires c = omega (arith, within ((goal.at.index_mut-requires c).After-index-account), c.self.inside.accounts.ok.0)
 
 pub note-requires : goal.note-requires
 note-requires c none =
-    let items = c.self.inside.accounts.items in
-    let k = c.args.key in
-    let there = sym (c.self.invariant.2 k) ∙ sym c.get.ensures ∙ c.unwrap-place.ensures in
-    let within = place_within k items c.unwrap-place.result there in
-    let fewer = note_room c.self.inside.held.items items c.unwrap-place.result c.index-account.result.now c.args.xid c.args.delta c.self.invariant.3 within c.index-account.ensures none in
+    let fewer = note_room c.self.inside.held.items c.self.inside.accounts.items c.unwrap-place.result c.index-account.result.now c.args.xid c.args.delta
+    c.self.invariant.3 (within ((goal.at.note-requires c).After-index-account)) c.index-account.ensures none in
     omega (arith, c.self.invariant.4, c.self.inside.held.ok.0)
 
 pub with_added-requires-clause-good : goal.with_added-requires-clause-good
 with_added-requires-clause-good c =
-    let items = c.self.inside.accounts.items in
-    let k = c.args.key in
-    let there = sym (c.self.invariant.2 k) ∙ sym c.get.ensures ∙ c.unwrap-place.ensures in
-    let within = place_within k items c.unwrap-place.result there in
-    subst (IsGood c.self.inside.adds) (sym c.index-account.ensures) (c.self.invariant.1 c.unwrap-place.result c.index-account.result.now within)
+    let inside = within ((goal.at.with_added-requires-clause-good c).After-index-account) in
+    subst (IsGood c.self.inside.adds) (sym c.index-account.ensures) (c.self.invariant.1 c.unwrap-place.result c.index-account.result.now inside)
 
 pub invariant_of-self : goal.invariant_of-self
 invariant_of-self c =
     let items = c.self.inside.accounts.items in
-    let k = c.args.key in
-    let there = sym (c.self.invariant.2 k) ∙ sym c.get.ensures ∙ c.unwrap-place.ensures in
-    let within = place_within k items c.unwrap-place.result there in
+    let inside = within ((goal.at.invariant_of-self c).After-index-account) in
     let i = c.unwrap-place.result in
     let a = c.index-account.result.now in
     let x = c.args.xid in
-    let new = ap (set items i) c.with_added.ensures.added in
-    subst (λ (as1 : List Account). AreDistinct as1 × All (IsGood (c.self.inside.adds + 1)) as1 × AreIndexed c.self.inside.places.places as1 × AreHeld c.note.new.held.items as1 × (length as1 ≤ vec_capacity c.note.new.held)) (sym new) (
-      distinct_added items i a x c.args.delta c.self.invariant.0 within c.index-account.ensures,
-      all_added c.self.inside.adds i a x c.args.delta items c.with_added.ensures.valid within c.index-account.ensures c.self.invariant.1,
-      indexed_set c.self.inside.places.places items i a (added_to a x c.args.delta) within c.index-account.ensures refl c.self.invariant.2,
-      subst (λ (ps : List ℕ). AreHeld ps (set items i (added_to a x c.args.delta))) (sym c.note.ensures.places) (held_noted c.self.inside.held.items items i a (added_to a x c.args.delta) c.self.invariant.3 within c.index-account.ensures refl),
-      omega (arith, length-set items i (added_to a x c.args.delta), c.note.ensures.room, c.self.invariant.4),
+    let b : Account = added_to a x c.args.delta in
+    subst (λ (as1 : List Account). AreDistinct as1 × All (IsGood (c.self.inside.adds + 1)) as1 × AreIndexed c.self.inside.places.places as1
+    × AreHeld c.note.new.held.items as1 × (length as1 ≤ vec_capacity c.note.new.held))
+    (sym (ap (set items i) c.with_added.ensures.added)) (
+      distinct_added items i a x c.args.delta c.self.invariant.0 inside c.index-account.ensures,
+      all_added c.self.inside.adds i a x c.args.delta items c.with_added.ensures.valid inside c.index-account.ensures c.self.invariant.1,
+      indexed_set c.self.inside.places.places items i a b inside c.index-account.ensures refl c.self.invariant.2,
+      subst (λ (ps : List ℕ). AreHeld ps (set items i b)) (sym c.note.ensures.places)
+          (held_noted c.self.inside.held.items items i a b c.self.invariant.3 inside c.index-account.ensures refl),
+      omega (arith, length-set items i b, c.note.ensures.room, c.self.invariant.4),
     )
 
 pub returns-clause-sums : goal.returns-clause-sums
 returns-clause-sums c =
     let items = c.self.inside.accounts.items in
-    let k = c.args.key in
-    let there = sym (c.self.invariant.2 k) ∙ sym c.get.ensures ∙ c.unwrap-place.ensures in
-    let within = place_within k items c.unwrap-place.result there in
+    let at = (goal.at.returns-clause-sums c).After-index-account in
     let i = c.unwrap-place.result in
-    let a = c.index-account.result.now in
     let x = c.args.xid in
-    let same = place_key k items i a there c.index-account.ensures in
-    let alone = ap (λ h. has_other_touched h.sums x c.args.key) c.self.view_is ∙ c.requires.alone in
-    let mine = for_place items i a x c.args.key c.self.invariant.0 within c.index-account.ensures same alone in
-    let new = ap (set items i) c.with_added.ensures.added in
-    ap (λ as1. from_entries {R = touch_cmp} (hold_entries as1)) new ∙ sums_added items i a x c.args.delta c.self.invariant.0 within c.index-account.ensures mine
-    ∙ ap (λ k. finmap.insert (from_entries {R = touch_cmp} (hold_entries items)) (x, k) (sum_of (from_entries (hold_entries items)) x k +ℤ c.args.delta)) same
+    ap (λ b. from_entries {R = touch_cmp} (hold_entries (set items i b))) c.with_added.ensures.added
+    ∙ sums_added items i c.index-account.result.now x c.args.delta c.self.invariant.0 (within at) c.index-account.ensures (mine at)
+    ∙ ap (λ k. finmap.insert (from_entries {R = touch_cmp} (hold_entries items)) (x, k) (sum_of (from_entries (hold_entries items)) x k +ℤ c.args.delta))
+    (keyed at)
     ∙ ap (λ h. finmap.insert h.sums (x, c.args.key) (sum_of h.sums x c.args.key +ℤ c.args.delta)) c.self.view_is
 
 pub returns-clause-values : goal.returns-clause-values
 returns-clause-values c =
     let items = c.self.inside.accounts.items in
-    let k = c.args.key in
-    let there = sym (c.self.invariant.2 k) ∙ sym c.get.ensures ∙ c.unwrap-place.ensures in
-    let within = place_within k items c.unwrap-place.result there in
+    let at = (goal.at.returns-clause-values c).After-index-account in
     let i = c.unwrap-place.result in
     let a = c.index-account.result.now in
-    let x = c.args.xid in
-    let new = ap (set items i) c.with_added.ensures.added in
-    ap (λ as1. from_entries {R = key_cmp} (value_entries as1)) new ∙ ap (from_entries {R = key_cmp}) (values_set items i a (added_to a x c.args.delta) within c.index-account.ensures refl refl) ∙ ap (λ h. h.values) c.self.view_is
+    ap (λ b. from_entries {R = key_cmp} (value_entries (set items i b))) c.with_added.ensures.added
+    ∙ ap (from_entries {R = key_cmp}) (values_set items i a (added_to a c.args.xid c.args.delta) (within at) c.index-account.ensures refl refl)
+    ∙ ap (λ h. h.values) c.self.view_is
 
 pub returns-clause-others : goal.returns-clause-others
 returns-clause-others c y apart =
     let items = c.self.inside.accounts.items in
-    let k = c.args.key in
-    let there = sym (c.self.invariant.2 k) ∙ sym c.get.ensures ∙ c.unwrap-place.ensures in
-    let within = place_within k items c.unwrap-place.result there in
+    let at = (goal.at.returns-clause-others c).After-index-account in
     let i = c.unwrap-place.result in
-    let a = c.index-account.result.now in
-    let x = c.args.xid in
-    let same = place_key k items i a there c.index-account.ensures in
-    let alone = ap (λ h. has_other_touched h.sums x c.args.key) c.self.view_is ∙ c.requires.alone in
-    let mine = for_place items i a x c.args.key c.self.invariant.0 within c.index-account.ensures same alone in
-    let new = ap (set items i) c.with_added.ensures.added in
-    ap (λ as1. is_broken (from_entries (value_entries as1)) (from_entries (hold_entries as1)) y) new ∙ others_added items i a x c.args.delta c.self.invariant.0 within c.index-account.ensures mine y apart ∙ ap (λ h. is_broken h.values h.sums y) c.self.view_is
+    ap (λ b. is_broken (from_entries (value_entries (set items i b))) (from_entries (hold_entries (set items i b))) y) c.with_added.ensures.added
+    ∙ others_added items i c.index-account.result.now c.args.xid c.args.delta c.self.invariant.0 (within at) c.index-account.ensures (mine at) y apart
+    ∙ ap (λ h. is_broken h.values h.sums y) c.self.view_is

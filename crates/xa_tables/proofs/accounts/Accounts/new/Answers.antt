@@ -10,7 +10,8 @@ use Rattle.xa_tables.specs.Tables.{touch_cmp}
 use Rattle.xa_tables.specs.Accounts.{hold_entries, value_entries, AreDistinct, AreIndexed, IsGood}
 use Rattle.xa_tables.specs.Held.{AreHeld}
 use Rattle.xa_tables.proofs.HeldLemmas.{held_declared}
-use Rattle.xa_tables.proofs.PlaceLemmas.{account_of, indexed_push, values_declared, holds_declared, distinct_declared, good_declared, limit_declared, declared_more, length_declared}
+use Rattle.xa_tables.proofs.PlaceLemmas.{account_of, indexed_push, values_declared, holds_declared, distinct_declared, good_declared, limit_declared}
+use Rattle.xa_tables.proofs.PlaceLemmas.{declared_more, length_declared}
 use Rattle.xa_tables.proofs.accounts.Accounts.new.Goals as goal
 
 pub loop-place-init : goal.loop-place-init
@@ -30,7 +31,9 @@ loop-place-preserved c =
     let d = c.index-declared-place.result in
     let old = c.loop-place.accounts.items in
     let a : Account = account_of d in
-    let pushed : c.push.new.self.items ≡ old ++ a ∷ [] = c.in_ok-push.ensures.items ∙ ap (λ v. old ++ record { key = d.0; value = v; hold = None } ∷ []) (to_z-of_z w64 c.signed.result (omega (arith, ints)) ∙ c.signed.ensures) in
+    let pushed : c.push.new.self.items ≡ old ++ a ∷ [] =
+    c.in_ok-push.ensures.items
+    ∙ ap (λ v. old ++ record { key = d.0; value = v; hold = None } ∷ []) (to_z-of_z w64 c.signed.result (omega (arith, ints)) ∙ c.signed.ensures) in
     let place : length old ≡ i = ap length c.loop-place.invariant.0 ∙ length_declared ds i c.loop-place-test.true in (
       pushed ∙ ap (λ as1. as1 ++ a ∷ []) c.loop-place.invariant.0 ∙ sym (declared_more ds i d c.loop-place-test.true c.index-declared-place.is),
       omega (arith, c.loop-place.invariant.1, c.put.ensures.room),
@@ -41,7 +44,8 @@ loop-place-preserved c =
 pub invariant_of-result : goal.invariant_of-result
 invariant_of-result c =
     let ds = c.args.declared.now in
-    let all : c.loop-place.accounts.items ≡ map account_of ds = c.loop-place.invariant.0 ∙ ap (map account_of) (take_all c.loop-place.place ds (omega (arith, c.loop-place-test.false))) in (
+    let all : c.loop-place.accounts.items ≡ map account_of ds =
+    c.loop-place.invariant.0 ∙ ap (map account_of) (take_all c.loop-place.place ds (omega (arith, c.loop-place-test.false))) in (
       subst AreDistinct (sym all) (distinct_declared ds c.requires),
       subst (All (IsGood 0)) (sym all) (good_declared ds c.requires),
       c.loop-place.invariant.2,
@@ -52,11 +56,13 @@ invariant_of-result c =
 pub returns-clause-sums : goal.returns-clause-sums
 returns-clause-sums c =
     let ds = c.args.declared.now in
-    let all : c.loop-place.accounts.items ≡ map account_of ds = c.loop-place.invariant.0 ∙ ap (map account_of) (take_all c.loop-place.place ds (omega (arith, c.loop-place-test.false))) in
+    let all : c.loop-place.accounts.items ≡ map account_of ds =
+    c.loop-place.invariant.0 ∙ ap (map account_of) (take_all c.loop-place.place ds (omega (arith, c.loop-place-test.false))) in
     ap (λ es. from_entries {R = touch_cmp} es) (ap hold_entries all ∙ holds_declared ds)
 
 pub returns-clause-values : goal.returns-clause-values
 returns-clause-values c =
     let ds = c.args.declared.now in
-    let all : c.loop-place.accounts.items ≡ map account_of ds = c.loop-place.invariant.0 ∙ ap (map account_of) (take_all c.loop-place.place ds (omega (arith, c.loop-place-test.false))) in
+    let all : c.loop-place.accounts.items ≡ map account_of ds =
+    c.loop-place.invariant.0 ∙ ap (map account_of) (take_all c.loop-place.place ds (omega (arith, c.loop-place-test.false))) in
     ap (λ as1. from_entries {R = key_cmp} (value_entries as1)) all ∙ values_declared ds

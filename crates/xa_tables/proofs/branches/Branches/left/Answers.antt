@@ -11,7 +11,7 @@ use Rattle.xa_words.specs.Xid.{xid_eq}
 use Rattle.xa_words.specs.Orders.{xid_cmp_total, xid_cmp-IsAntisymmetric, xid_eq-by_cmp}
 use Rattle.xa_tables.specs.declared.state.State.{State}
 use Rattle.xa_tables.specs.Tables.{is_left_in}
-use Rattle.xa_tables.proofs.HashLemmas.{get-lookup}
+use Rattle.xa_base.proofs.HashMaps.{get-lookup}
 use Rattle.xa_tables.proofs.Law.{swap_xid}
 use Rattle.xa_tables.proofs.Xids.{xid_eq_laws}
 use Rattle.xa_tables.proofs.branches.Branches.left.Goals as goal
@@ -37,6 +37,7 @@ returns-clause-once c =
 pub returns-clause-each : goal.returns-clause-each
 returns-clause-each c x =
     let es = c.self.inside.states.entries in
-    sym (list_any-IsPermutation (xid_eq x) _ _ c.sort_unstable.ensures.permutation) ∙ ap (list_any (xid_eq x)) (all_left c) ∙ sym (is_some-lookup (xid_eq x) (filter (λ e. is_kept e.1) es))
+    sym (list_any-IsPermutation (xid_eq x) _ _ c.sort_unstable.ensures.permutation) ∙ ap (list_any (xid_eq x)) (all_left c)
+    ∙ sym (is_some-lookup (xid_eq x) (filter (λ e. is_kept e.1) es))
     ∙ ap is_some (lookup-filter-values xid_eq_laws is_kept x es c.iter-xid-items.ensures.unique) ∙ there (lookup (xid_eq x) es)
     ∙ ap is_left_in (sym (get-lookup xid_eq xid_cmp_total xid_cmp-IsAntisymmetric xid_eq-by_cmp es x) ∙ ap (λ b. map.get b.states x) c.self.view_is)

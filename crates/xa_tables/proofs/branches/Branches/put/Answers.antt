@@ -4,7 +4,7 @@ use Rattle.std.specs.FinMap as map
 use Rattle.xa_base.proofs.Options.{at_ok}
 use Rattle.xa_words.specs.Xid.{xid_eq}
 use Rattle.xa_words.specs.Orders.{xid_cmp_total, xid_cmp-IsAntisymmetric, xid_eq-by_cmp}
-use Rattle.xa_tables.proofs.HashLemmas.{one_put}
+use Rattle.xa_base.proofs.HashMaps.{one_put}
 use Rattle.xa_tables.proofs.branches.Branches.put.Goals as goal
 
 pub returns-clause-state : goal.returns-clause-state

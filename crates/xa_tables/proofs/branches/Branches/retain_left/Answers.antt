@@ -4,7 +4,7 @@ use Rattle.xa_words.specs.Xid.{xid_eq}
 use Rattle.xa_words.specs.Orders.{xid_cmp_total, xid_cmp-IsAntisymmetric, xid_eq-by_cmp}
 use Rattle.std.specs.Prelude.{Some}
 use Rattle.xa_tables.specs.Tables.{is_left_in}
-use Rattle.xa_tables.proofs.HashLemmas.{retained, kept_by_value}
+use Rattle.xa_base.proofs.HashMaps.{retained, kept_by_value}
 use Rattle.xa_tables.proofs.Xids.{xid_eq_laws}
 use Rattle.xa_tables.proofs.branches.Branches.retain_left.Goals as goal
 

@@ -12,5 +12,6 @@ marked s = elim (s.is_open) as (λ b. b ≡ is_some (open_mark (record s { is_op
 pub returns : goal.returns
 returns c =
     let last : c.args.thread ≤ length c.self.inside.threads.items = omega (arith, ap (λ s. s.threads) c.self.view_is) in
-    marked c.index.result.now ∙ ap (λ s. is_some (open_mark s)) c.index.ensures ∙ sym (contains_thread open_mark c.self.inside.threads.items c.args.thread c.index.result.now c.requires.first last)
+    marked c.index.result.now ∙ ap (λ s. is_some (open_mark s)) c.index.ensures
+    ∙ sym (contains_thread open_mark c.self.inside.threads.items c.args.thread c.index.result.now c.requires.first last)
     ∙ ap (λ s. set.contains s.opened c.args.thread) c.self.view_is

@@ -14,4 +14,5 @@ returns-clause-nobody c =
 pub returns-clause-free : goal.returns-clause-free
 returns-clause-free c =
     let is = c.in_ok-vec.ensures.items_if_clones_equal (λ y e. e) in
-    ap (λ ss. from_entries {R = nat_cmp} (entries_from association_in 1 ss)) is ∙ ap (from_entries {R = nat_cmp}) (none_from association_in _ c.args.threads 1 refl)
+    ap (λ ss. from_entries {R = nat_cmp} (entries_from association_in 1 ss)) is
+    ∙ ap (from_entries {R = nat_cmp}) (none_from association_in _ c.args.threads 1 refl)

@@ -15,4 +15,5 @@ returns-clause-nobody c =
 pub returns-clause-free : goal.returns-clause-free
 returns-clause-free c =
     let is : c.resize.new.self.items ≡ replicate c.args.threads (record { is_open = false; association = None }) = search rules in
-    ap (λ ss. from_entries {R = nat_cmp} (entries_from association_in 1 ss)) is ∙ ap (from_entries {R = nat_cmp}) (none_from association_in _ c.args.threads 1 refl)
+    ap (λ ss. from_entries {R = nat_cmp} (entries_from association_in 1 ss)) is
+    ∙ ap (from_entries {R = nat_cmp}) (none_from association_in _ c.args.threads 1 refl)

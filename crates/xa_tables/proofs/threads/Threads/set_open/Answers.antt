@@ -1,14 +1,15 @@
 use Rattle.std.proofs.Common.{ap, refl, ◌∙◌, length, ◌≤◌, arith}
+use Rattle.std.specs.Prelude.{if◌then◌else◌}
 use Rattle.std.specs.FinSet as set
 use Rattle.xa_tables.specs.Views.{open_mark, association_in}
-use Rattle.xa_tables.proofs.ThreadLemmas.{open_put, thread_same}
+use Rattle.xa_tables.proofs.ThreadLemmas.{open_given, thread_same}
 use Rattle.xa_tables.proofs.threads.Threads.set_open.Goals as goal
 
 pub returns-clause-opened : goal.returns-clause-opened
 returns-clause-opened c =
     let last : c.args.thread ≤ length c.self.inside.threads.items = omega (arith, ap (λ s. s.threads) c.self.view_is) in
-    open_put open_mark c.self.inside.threads.items c.args.thread _ c.requires.first last refl
-    ∙ ap (λ s. set.insert s.opened c.args.thread) c.self.view_is
+    open_given open_mark c.self.inside.threads.items c.args.thread _ c.args.is_open c.requires.first last refl
+    ∙ ap (λ s. if c.args.is_open then set.insert s.opened c.args.thread else set.remove s.opened c.args.thread) c.self.view_is
 
 pub returns-clause-associations : goal.returns-clause-associations
 returns-clause-associations c =

@@ -19,7 +19,8 @@ unset (suc (suc (suc (suc (suc (suc (suc zero))))))) h = refl
 unset (suc (suc (suc (suc (suc (suc (suc (suc k)))))))) h = absurd (omega arith)
 
 pub returns-clause-tied : goal.returns-clause-tied
-returns-clause-tied c = rw (c.new-2.ensures, c.and.ensures, c.new.ensures, c.parts.invariant.0) (tied_new _ _ _ _ c.requires.requests c.requires.lanes c.requires.taken c.requires.sent)
+returns-clause-tied c =
+    rw (c.new-2.ensures, c.and.ensures, c.new.ensures, c.parts.invariant.0) (tied_new _ _ _ _ c.requires.requests c.requires.lanes c.requires.taken c.requires.sent)
 
 pub invariant_of-result : goal.invariant_of-result
 invariant_of-result c =

@@ -23,13 +23,15 @@ invariant_of-self g c =
     unentered _ _ i refl refl refl refl (λ s. refl) (tied_out (working_of c.self.inside) c.flush.new.self (lanes_flush c.flush.result c.self.inside.out c.flush.new.self e.flushed) e.put i.tied)
 
 pub returns-then-not-flush-clause-same : goal.returns-then-not-flush-clause-same
-returns-then-not-flush-clause-same g c = rw (← c.self.view_is) (record { number = refl; first = refl; threads = refl; receiver = (refl, refl, refl, refl); lanes = lanes_flush c.flush.result c.self.inside.out c.flush.new.self c.flush.ensures.flushed })
+returns-then-not-flush-clause-same g c =
+    rw (← c.self.view_is) (record { number = refl; first = refl; threads = refl; receiver = (refl, refl, refl, refl); lanes = lanes_flush c.flush.result c.self.inside.out c.flush.new.self c.flush.ensures.flushed })
 
 pub returns-then-not-flush-clause-seat : goal.returns-then-not-flush-clause-seat
 returns-then-not-flush-clause-seat g c = stepped_keeps _ _ (returns-then-not-flush-clause-same g c)
 
 pub returns-then-not-flush-clause-tied : goal.returns-then-not-flush-clause-tied
-returns-then-not-flush-clause-tied g c = tied_out (working_of c.self.inside) c.flush.new.self (lanes_flush c.flush.result c.self.inside.out c.flush.new.self c.flush.ensures.flushed) c.flush.ensures.put c.self.invariant.tied
+returns-then-not-flush-clause-tied g c =
+    tied_out (working_of c.self.inside) c.flush.new.self (lanes_flush c.flush.result c.self.inside.out c.flush.new.self c.flush.ensures.flushed) c.flush.ensures.put c.self.invariant.tied
 
 -- a request is held
 
@@ -45,13 +47,15 @@ returns-then-is_some-clause-step g c =
     rw (← c.self.view_is) (inr (inl (some.0.0, some.0.1, some.1, ap (λ (o : Outgoing). record (working_of c.self.inside) { out = o }) c.if-not-flush.ensures.flushed)))
 
 pub returns-then-is_some-clause-same : goal.returns-then-is_some-clause-same
-returns-then-is_some-clause-same g c = rw (← c.self.view_is) (record { number = refl; first = refl; threads = refl; receiver = (refl, refl, refl, refl); lanes = lanes_flush c.flush.result c.self.inside.out c.flush.new.self c.flush.ensures.flushed })
+returns-then-is_some-clause-same g c =
+    rw (← c.self.view_is) (record { number = refl; first = refl; threads = refl; receiver = (refl, refl, refl, refl); lanes = lanes_flush c.flush.result c.self.inside.out c.flush.new.self c.flush.ensures.flushed })
 
 pub returns-then-is_some-clause-seat : goal.returns-then-is_some-clause-seat
 returns-then-is_some-clause-seat g c = stepped_keeps _ _ (returns-then-is_some-clause-same g c)
 
 pub returns-then-is_some-clause-tied : goal.returns-then-is_some-clause-tied
-returns-then-is_some-clause-tied g c = tied_out (working_of c.self.inside) c.flush.new.self (lanes_flush c.flush.result c.self.inside.out c.flush.new.self c.flush.ensures.flushed) c.flush.ensures.put c.self.invariant.tied
+returns-then-is_some-clause-tied g c =
+    tied_out (working_of c.self.inside) c.flush.new.self (lanes_flush c.flush.result c.self.inside.out c.flush.new.self c.flush.ensures.flushed) c.flush.ensures.put c.self.invariant.tied
 
 -- nothing was there
 
@@ -63,13 +67,15 @@ invariant_of-self-in-Empty g c =
     unentered _ _ i refl refl refl refl (λ s. ap (λ (r : Asking). has_ended s r.taken) took) (tied_nothing (working_of c.self.inside) c.flush.new.self (lanes_flush c.flush.result c.self.inside.out c.flush.new.self e.flushed) e.put i.tied c.take.new.self took)
 
 pub returns-in-Empty-clause-same : goal.returns-in-Empty-clause-same
-returns-in-Empty-clause-same g c = rw (← c.self.view_is) (record { number = refl; first = refl; threads = refl; receiver = c.take.ensures.same; lanes = lanes_flush c.flush.result c.self.inside.out c.flush.new.self c.flush.ensures.flushed })
+returns-in-Empty-clause-same g c =
+    rw (← c.self.view_is) (record { number = refl; first = refl; threads = refl; receiver = c.take.ensures.same; lanes = lanes_flush c.flush.result c.self.inside.out c.flush.new.self c.flush.ensures.flushed })
 
 pub returns-in-Empty-clause-seat : goal.returns-in-Empty-clause-seat
 returns-in-Empty-clause-seat g c = stepped_keeps _ _ (returns-in-Empty-clause-same g c)
 
 pub returns-in-Empty-clause-tied : goal.returns-in-Empty-clause-tied
-returns-in-Empty-clause-tied g c = tied_nothing (working_of c.self.inside) c.flush.new.self (lanes_flush c.flush.result c.self.inside.out c.flush.new.self c.flush.ensures.flushed) c.flush.ensures.put c.self.invariant.tied c.take.new.self c.in-Empty.ensures.took
+returns-in-Empty-clause-tied g c =
+    tied_nothing (working_of c.self.inside) c.flush.new.self (lanes_flush c.flush.result c.self.inside.out c.flush.new.self c.flush.ensures.flushed) c.flush.ensures.put c.self.invariant.tied c.take.new.self c.in-Empty.ensures.took
 
 -- an end mark was taken
 
@@ -83,20 +89,23 @@ invariant_of-self-in-EndOf g c =
       tied = tied_end (working_of c.self.inside) c.flush.new.self (lanes_flush c.flush.result c.self.inside.out c.flush.new.self e.flushed) e.put i.tied c.take.new.self c.in-EndOf.from took;
       room = i.room;
       marks = simp length-set i.marks;
-      ended = λ k h. marked_end c.self.inside.ended c.self.inside.receiver.taken c.in-EndOf.from i.marks below i.ended k h ∙ sym (ap (λ (r : Asking). has_ended k r.taken) took.1);
+      ended = λ k h. marked_end c.self.inside.ended c.self.inside.receiver.taken c.in-EndOf.from i.marks below i.ended k h
+          ∙ sym (ap (λ (r : Asking). has_ended k r.taken) took.1);
       few = i.few;
       none = i.none;
       enough = i.enough;
     }
 
 pub returns-in-EndOf-clause-same : goal.returns-in-EndOf-clause-same
-returns-in-EndOf-clause-same g c = rw (← c.self.view_is) (record { number = refl; first = refl; threads = refl; receiver = c.take.ensures.same; lanes = lanes_flush c.flush.result c.self.inside.out c.flush.new.self c.flush.ensures.flushed })
+returns-in-EndOf-clause-same g c =
+    rw (← c.self.view_is) (record { number = refl; first = refl; threads = refl; receiver = c.take.ensures.same; lanes = lanes_flush c.flush.result c.self.inside.out c.flush.new.self c.flush.ensures.flushed })
 
 pub returns-in-EndOf-clause-seat : goal.returns-in-EndOf-clause-seat
 returns-in-EndOf-clause-seat g c = stepped_keeps _ _ (returns-in-EndOf-clause-same g c)
 
 pub returns-in-EndOf-clause-tied : goal.returns-in-EndOf-clause-tied
-returns-in-EndOf-clause-tied g c = tied_end (working_of c.self.inside) c.flush.new.self (lanes_flush c.flush.result c.self.inside.out c.flush.new.self c.flush.ensures.flushed) c.flush.ensures.put c.self.invariant.tied c.take.new.self c.in-EndOf.from c.in-EndOf.ensures.took
+returns-in-EndOf-clause-tied g c =
+    tied_end (working_of c.self.inside) c.flush.new.self (lanes_flush c.flush.result c.self.inside.out c.flush.new.self c.flush.ensures.flushed) c.flush.ensures.put c.self.invariant.tied c.take.new.self c.in-EndOf.from c.in-EndOf.ensures.took
 
 -- a request was taken that can't be carried out
 
@@ -106,11 +115,13 @@ invariant_of-self-then-request-from g c =
     let i = c.self.invariant in
     let took = c.in-Item.ensures.took in
     let none = is_missing c.self.inside.held (sym c.is_some.ensures ∙ c.if-is_some.false) in
-    let unfit : IsUnfit c.in-Item.from c.in-Item.request c.self.inside.manager.room = elim c.then-request-from.branch [ then-request-from-via-then-request-from w ↦ inl w.if-request-from.true | then-request-from-via-else-request-from+then-room-eq0 w ↦ inr (sym w.room.ensures ∙ w.if-room-eq0.true) ] in
+    let unfit : IsUnfit c.in-Item.from c.in-Item.request c.self.inside.manager.room =
+    elim c.then-request-from.branch [ then-request-from-via-then-request-from w ↦ inl w.if-request-from.true | then-request-from-via-else-request-from+then-room-eq0 w ↦ inr (sym w.room.ensures ∙ w.if-room-eq0.true) ] in
     unentered _ _ i refl refl refl refl (λ s. ap (λ (r : Asking). has_ended s r.taken) took.1 ∙ ended_item s c.in-Item.from c.self.inside.receiver.taken c.in-Item.request) (tied_hold (working_of c.self.inside) c.flush.new.self (lanes_flush c.flush.result c.self.inside.out c.flush.new.self e.flushed) e.put i.tied c.take.new.self c.in-Item.from c.in-Item.request none took unfit)
 
 pub returns-then-request-from-clause-same : goal.returns-then-request-from-clause-same
-returns-then-request-from-clause-same g c = rw (← c.self.view_is) (record { number = refl; first = refl; threads = refl; receiver = c.take.ensures.same; lanes = lanes_flush c.flush.result c.self.inside.out c.flush.new.self c.flush.ensures.flushed })
+returns-then-request-from-clause-same g c =
+    rw (← c.self.view_is) (record { number = refl; first = refl; threads = refl; receiver = c.take.ensures.same; lanes = lanes_flush c.flush.result c.self.inside.out c.flush.new.self c.flush.ensures.flushed })
 
 pub returns-then-request-from-clause-seat : goal.returns-then-request-from-clause-seat
 returns-then-request-from-clause-seat g c = stepped_keeps _ _ (returns-then-request-from-clause-same g c)
@@ -118,7 +129,8 @@ returns-then-request-from-clause-seat g c = stepped_keeps _ _ (returns-then-requ
 pub returns-then-request-from-clause-tied : goal.returns-then-request-from-clause-tied
 returns-then-request-from-clause-tied g c =
     let none = is_missing c.self.inside.held (sym c.is_some.ensures ∙ c.if-is_some.false) in
-    let unfit : IsUnfit c.in-Item.from c.in-Item.request c.self.inside.manager.room = elim c.then-request-from.branch [ then-request-from-via-then-request-from w ↦ inl w.if-request-from.true | then-request-from-via-else-request-from+then-room-eq0 w ↦ inr (sym w.room.ensures ∙ w.if-room-eq0.true) ] in
+    let unfit : IsUnfit c.in-Item.from c.in-Item.request c.self.inside.manager.room =
+    elim c.then-request-from.branch [ then-request-from-via-then-request-from w ↦ inl w.if-request-from.true | then-request-from-via-else-request-from+then-room-eq0 w ↦ inr (sym w.room.ensures ∙ w.if-room-eq0.true) ] in
     tied_hold (working_of c.self.inside) c.flush.new.self (lanes_flush c.flush.result c.self.inside.out c.flush.new.self c.flush.ensures.flushed) c.flush.ensures.put c.self.invariant.tied c.take.new.self c.in-Item.from c.in-Item.request none c.in-Item.ensures.took unfit
 
 -- a request is carried out
@@ -126,7 +138,8 @@ returns-then-request-from-clause-tied g c =
 pub carry_out-requires-clause-lanes : goal.carry_out-requires-clause-lanes
 carry_out-requires-clause-lanes g c =
     let i = c.self.invariant in
-    let lanes : SameLanes c.self.inside.out.senders c.flush.new.self.senders = lanes_flush c.flush.result c.self.inside.out c.flush.new.self c.flush.ensures.flushed in
+    let lanes : SameLanes c.self.inside.out.senders c.flush.new.self.senders =
+    lanes_flush c.flush.result c.self.inside.out c.flush.new.self c.flush.ensures.flushed in
     let count : length c.flush.new.self.senders ≡ length c.self.inside.out.senders = length-lanes c.self.inside.out.senders c.flush.new.self.senders lanes in
     omega (arith, count, i.tied.lanes)
 
@@ -142,7 +155,8 @@ invariant_of-self-in-Item g c =
       tied = tied_carried (working_of c.self.inside) c.flush.new.self c.take.new.self c.in-Item.from c.in-Item.request c.carry_out.new.manager c.carry_out.new.out c.carry_out.new.journal.items c.self.invariant.tied c.if-not-flush.ensures.flushed c.flush.ensures.put none c.in-Item.ensures.took c.if-request-from.false d.manager d.journal d.out;
       room = omega (arith, more, room, d.space, i.room);
       marks = i.marks;
-      ended = λ k h. i.ended k h ∙ sym (ap (λ (r : Asking). has_ended k r.taken) c.in-Item.ensures.took.1 ∙ ended_item k c.in-Item.from c.self.inside.receiver.taken c.in-Item.request);
+      ended = λ k h. i.ended k h
+          ∙ sym (ap (λ (r : Asking). has_ended k r.taken) c.in-Item.ensures.took.1 ∙ ended_item k c.in-Item.from c.self.inside.receiver.taken c.in-Item.request);
       few = omega (arith, threads, i.few);
       none = i.none;
       enough = i.enough;
@@ -167,5 +181,6 @@ returns-else-room-eq0-clause-step g c =
     let d = c.carry_out.ensures in
     let none = is_missing c.self.inside.held (sym c.is_some.ensures ∙ c.if-is_some.false) in
     let room : 0 < c.self.inside.manager.room = omega (arith, c.room.ensures, c.if-room-eq0.false) in
-    let out = subst (λ (o : Outgoing). Puts o (c.in-Item.request.thread - 1) (completion_of c.self.inside.number (entry_next c.in-Item.request c.self.inside.manager.tables)) c.carry_out.new.out) c.if-not-flush.ensures.flushed d.out in
+    let out =
+    subst (λ (o : Outgoing). Puts o (c.in-Item.request.thread - 1) (completion_of c.self.inside.number (entry_next c.in-Item.request c.self.inside.manager.tables)) c.carry_out.new.out) c.if-not-flush.ensures.flushed d.out in
     rw (← c.self.view_is, d.late) (stepped (working_of c.self.inside) _ c.self.inside.manager.tables.shut refl (c.in-Item.from, c.in-Item.request, record { free = none; took = c.in-Item.ensures.took; thread = c.if-request-from.false; room = room; manager = d.manager; journal = d.journal; out = out; rest = refl }))

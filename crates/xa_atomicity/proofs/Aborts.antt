@@ -1,0 +1,57 @@
+-- On abort no Commit is sent.
+use Rattle.std.specs.Prelude.{◌≡◌, true, false, not, ◌&&◌, ◌||◌, Option, None, Some, List, refl}
+use Rattle.std.proofs.Common.{◌∙◌, subst}
+use Rattle.std.proofs.lemmas.List.Folds.{list_any_none}
+use Rattle.std.proofs.Math.Bool.{and-false}
+use Rattle.std.proofs.lemmas.Bool.{and_parts}
+use Rattle.xa_base.proofs.Truth.{by_if}
+use Rattle.xa_words.specs.Xid.{XidName}
+use Rattle.xa_words.specs.Tran.{TranName}
+use Rattle.xa_words.specs.declared.code.Code.{Code}
+use Rattle.xa_words.specs.declared.request.Op.{Op}
+use Rattle.xa_words.specs.declared.request.Op.TheVariants.{Rollback, Forget}
+use Rattle.xa_tables.specs.History.{is_rolled_back}
+use Rattle.xa_desk.specs.LedgerView.{LedgerView}
+use Rattle.xa_driver.specs.declared.branch.Branch.{Branch}
+use Rattle.xa_driver.specs.declared.done.Done.{Done}
+use Rattle.xa_driver.specs.Decision.{is_read, decides_commit, has_yes}
+use Rattle.xa_driver.specs.Endings.{second_op, third_op, is_decided, is_out_of_reach}
+use Rattle.xa_log.specs.Log.{LogState}
+use Rattle.xa_driver.specs.Trace.{IsTraceOfCommit, wants_record}
+use Rattle.xa_driver.specs.Course.{AtBranch}
+use Rattle.xa_driver.specs.Resolving.{AsksLedger}
+use Rattle.xa_driver.specs.declared.done.Ending.{Ending}
+use Rattle.xa_driver.proofs.Mapped.{IsAskedFor, branch_by}
+use Rattle.xa_driver.specs.Commits.{NoCommitWasSent, is_commit}
+use Rattle.xa_atomicity.proofs.EachManager.{every_manager}
+use Rattle.xa_atomicity.proofs.Resolves.{Sends, asks_on, stays}
+
+abbrev pub IsNoCommit : Op → Type 0
+IsNoCommit op = is_commit op ≡ false
+
+pub on_abort : (x : XidName) (v : Code) → IsAskedFor IsNoCommit (second_op false x v)
+on_abort x v = by_if (IsAskedFor IsNoCommit) (is_read v || (is_rolled_back v || is_out_of_reach v)) None (Some (Rollback x)) (λ _. tt) (λ _. refl)
+
+pub on_forget : (x : XidName) (s : Option Code) → IsAskedFor IsNoCommit (third_op x s)
+on_forget x None = tt
+on_forget x (Some c) = by_if (IsAskedFor IsNoCommit) (is_decided c) (Some (Forget x)) None (λ _. refl) (λ _. tt)
+
+-- on abort no Commit is sent to any manager
+pub abort_sends_no_commit : (tran : TranName) (bs : List Branch) (old new : List LedgerView) (log later : LogState) (done : Done)
+    → IsTraceOfCommit tran bs old new log later done → done.commit ≡ false → NoCommitWasSent old new
+abort_sends_no_commit tran bs old new log later done call off m positive =
+    let z =
+    every_manager (Sends IsNoCommit) (stays IsNoCommit) (λ b. Unit {0}) tran bs old new log later done (λ b _ v s e a a' is. no_commit b v s e a a' (subst (λ c. AtBranch AsksLedger c b v s e a a') off is)) (λ k d lt. tt) call m positive in
+    record { more = z.more; sent = z.sent; none = list_any_none is_commit z.more z.all }
+  where
+    no_commit : (b : Branch) (v : Code) (s : Option Code) (e : Ending) (a a' : LedgerView) → AtBranch AsksLedger false b v s e a a' → Sends IsNoCommit a a'
+    no_commit b v s e a a' is =
+        branch_by AsksLedger IsNoCommit (Sends IsNoCommit a) (λ d z op c so asked q. asks_on IsNoCommit a d z op c so asked q) false b v s e a a' is (on_abort b.xid v) (on_forget b.xid s) refl (stays IsNoCommit a)
+
+-- where the log didn't take the record, the decision is to abort
+pub failed_append_aborts : (tran : TranName) (bs : List Branch) (old new : List LedgerView) (log later : LogState) (done : Done)
+    → IsTraceOfCommit tran bs old new log later done → wants_record done.votes.items ≡ true → done.logged ≡ false → done.commit ≡ false
+failed_append_aborts tran bs old new log later done call wanted off =
+    let votes : List Code = done.votes.items in
+    let some_yes : has_yes votes ≡ true = (and_parts _ _ wanted).1 in
+    call.course.decision ∙ (λ i. decides_commit votes && (not (some_yes i) || off i)) ∙ and-false (decides_commit votes)

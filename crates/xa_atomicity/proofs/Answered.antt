@@ -1,0 +1,226 @@
+-- Where the request of a resolve that was answered stands in a history, and what it leaves.
+use Rattle.std.specs.Prelude.{◌&&◌, unwrap_or}
+use Rattle.std.proofs.Common.{◌≡◌, ◌≢◌, ℕ, suc, ◌+◌, Bool, true, false, cond, ◌==◌, ◌||◌, List, [], ◌∷◌, ◌++◌, length, append_assoc, slice_get, get_or, sym}
+use Rattle.std.proofs.Common.{refl, ap, ◌∙◌, subst, arith, Option, Some, None}
+use Rattle.std.specs.List.{All, cons_option}
+use Rattle.std.specs.Cmp.{nat_cmp_total}
+use Rattle.std.specs.FinSet.{contains-insert}
+use Rattle.std.proofs.lemmas.Bool.{and_right, eqb-true}
+use Rattle.std.proofs.lemmas.List.Elements.{All-head, All-tail}
+use Rattle.xa_base.proofs.Truth.{tied_true}
+use Rattle.xa_base.proofs.Lists.{all_left, all_right}
+use Rattle.xa_words.specs.Xid.{XidName}
+use Rattle.xa_words.specs.declared.code.Code.{Code}
+use Rattle.xa_words.specs.declared.code.Code.TheVariants.{RmFail}
+use Rattle.xa_words.specs.declared.request.Op.{Op}
+use Rattle.xa_words.specs.declared.request.Op.TheVariants.{OpenRm, CloseRm}
+use Rattle.xa_words.specs.declared.request.Request.{Request}
+use Rattle.xa_tables.specs.declared.state.HeuristicDecision.{HeuristicDecision}
+use Rattle.xa_tables.specs.declared.state.State.{State}
+use Rattle.xa_tables.specs.declared.state.State.TheVariants.{Prepared, HeuristicallyCompleted}
+use Rattle.xa_tables.specs.Tables.{Tables, has_opened}
+use Rattle.xa_tables.specs.Reasons.{decision_code}
+use Rattle.xa_tables.specs.Next.{Answer, next, open_rm}
+use Rattle.xa_tables.specs.History.{History, Fate, decided_fate, coded, of_thread, tables_after, fate_of, last_or, is_in_doubt as is_unknown}
+use Rattle.xa_tables.specs.Prepared.{IsTold, closes, is_close}
+use Rattle.xa_tables.proofs.Law.{Sound, sound_after, last_more}
+use Rattle.xa_tables.proofs.Opened.{opened_on}
+use Rattle.xa_tables.proofs.ShutLemmas.{next-shut, shut_stays}
+use Rattle.xa_tables.proofs.Unnamed.{tables_after-append}
+use Rattle.xa_desk.specs.LedgerView.{LedgerView}
+use Rattle.xa_desk.specs.Lanes.{numbered}
+use Rattle.xa_switch.specs.Settling.{answers}
+use Rattle.xa_atomicity.specs.Resolution.{ended_as}
+use Rattle.xa_driver.specs.Resolving.{outcome_op}
+use Rattle.xa_atomicity.proofs.Guided.{decided_known, known_stays}
+use Rattle.xa_atomicity.proofs.Leading.{Stands, waits, unforgotten, over, IsTowards, Led, Standing, led_after, ends_it}
+use Rattle.xa_atomicity.proofs.Placing.{request_of, part, numbered_both, fates, fates_both, last_both}
+use Rattle.xa_atomicity.proofs.Requests.{own_all, code_there, count_two}
+use Rattle.xa_atomicity.proofs.Resolves.{IsAnsweredIn, IsNoClose}
+use Rattle.xa_atomicity.specs.Tabled.{Tabled}
+use Rattle.xa_atomicity.proofs.Voting.{tells_so}
+
+-- ---- a history, parted at a request
+
+-- what stands before it, and is left by it, stands after all
+module _ (commit open_ : Bool) (D L : Type 0) (x : XidName) (T : Tables) (f : Fate) (before after : History) (r : Request) where
+  abbrev here : Tables
+  here = tables_after before T
+
+  abbrev fate_here : Fate
+  fate_here = last_or f (fates x before T)
+
+  abbrev next_here : Tables
+  next_here = (next r.thread r.op here).0
+
+  abbrev made : Option Fate
+  made = fate_of x r.op (next r.thread r.op here).1
+
+  stands_after : All (λ q. IsTowards commit L x q.op) after → Sound here → Led commit open_ D L x r.op fate_here (next r.thread r.op here)
+      → Standing commit open_ D L x (tables_after (before ++ r ∷ after) T) (last_or f (fates x (before ++ r ∷ after) T))
+  stands_after towards sound led =
+      let z =
+      led_after commit open_ D L x after next_here (unwrap_or made fate_here) towards (record { stands = led.stands; sound = sound_after r.thread r.op here sound }) in
+      let fate_is : last_or (unwrap_or made fate_here) (fates x after next_here) ≡ last_or f (fates x (before ++ r ∷ after) T) =
+      last_more fate_here made (fates x after next_here) ∙ sym (last_both f (fates x before T) (cons_option made (fates x after next_here)))
+      ∙ sym (ap (last_or f) (fates_both x before (r ∷ after) T)) in
+      subst (λ (g : Fate). Standing commit open_ D L x (tables_after (before ++ r ∷ after) T) g) fate_is
+      (subst (λ (U : Tables). Standing commit open_ D L x U (last_or (unwrap_or made fate_here) (fates x after next_here))) (sym (tables_after-append before (r ∷ after) T)) z)
+
+-- ---- a fate, once it ended as was decided
+
+pub last_ended : (commit : Bool) (fs : List Fate) (g : Fate) → g ≡ ended_as commit → All (λ h. h ≡ ended_as commit) fs → last_or g fs ≡ ended_as commit
+last_ended commit [] g e all = e
+last_ended commit (f ∷ fs) g e all =
+    last_ended commit fs f (All-head (λ (h : Fate). h ≡ ended_as commit) f fs all) (All-tail (λ (h : Fate). h ≡ ended_as commit) f fs all)
+
+-- what stands so and was decided has that fate
+pub decided_of : {commit : Bool} {D L : Type 0} {d : HeuristicDecision} {s : Option State} {f : Fate} → s ≡ Some (HeuristicallyCompleted d)
+    → Stands commit true D L s f → f ≡ decided_fate d
+decided_of {d = d} is (waits y o state known) = let z : Some Prepared ≡ Some (HeuristicallyCompleted d) = sym state ∙ is in cc
+decided_of {d = d} is (unforgotten k state known l) =
+    let z : ◌≡◌ {A = Option State} (Some (HeuristicallyCompleted k)) (Some (HeuristicallyCompleted d)) = sym state ∙ is in
+    let same : k ≡ d = cc in known ∙ ap decided_fate same
+decided_of {d = d} is (over state known) = let z : None ≡ Some (HeuristicallyCompleted d) = sym state ∙ is in cc
+
+-- ---- the request of a resolve that was answered
+
+-- it stands in the history after its thread's OpenRm, with no CloseRm of the thread in between
+pub record Placed (t : ℕ) (T : Tables) (H : History) (op : Op) (code : Code) : Type 0 where
+  pub first : History
+  pub opens : Request
+  pub mid : History
+  pub ends : Request
+  pub rest : History
+  pub place : H ≡ (first ++ opens ∷ mid) ++ ends ∷ rest
+  pub opens_thread : opens.thread ≡ t
+  pub opens_op : opens.op ≡ OpenRm
+  pub ends_thread : ends.thread ≡ t
+  pub ends_op : ends.op ≡ op
+  pub open_ : All (λ r. closes t r ≡ false) mid
+  pub code_is : code ≡ (next t op (tables_after (first ++ opens ∷ mid) T)).1
+
+no_closes : (t : ℕ) (h : History) → All (λ r. r.thread ≡ t → IsNoClose r.op) h → All (λ r. closes t r ≡ false) h
+no_closes t h none k d lt =
+    elim ((get_or h k d).thread == t) as (λ b. ((get_or h k d).thread == t) ≡ b → (is_close (get_or h k d).op && b) ≡ false) [
+      | false ↦ λ _. and_right (is_close (get_or h k d).op) false refl
+      | true ↦ λ own. closing (get_or h k d).op (none k d lt (eqb-true (get_or h k d).thread t own))
+    ] refl
+  where
+    closing : (op : Op) → op ≢ CloseRm → (is_close op && true) ≡ false
+    closing CloseRm n = absurd (n refl)
+    closing op n = refl
+
+pub placed : (t : ℕ) (T : Tables) (H : History) (op : Op) (code : Code) (a : LedgerView) (ops : List Op) (pairs : List (ℕ × Code))
+    → of_thread t H ≡ numbered t 0 ops → All (λ p. slice_get (answers t (coded H T)) p.0 ≡ Some p) pairs
+    → IsAnsweredIn op code a ops pairs → Placed t T H op code
+placed t T H op code a ops pairs carried answered i =
+    let n : ℕ = 0 + length a.sent in
+    let m : ℕ = suc n + length i.mid in
+    let p =
+    part t H (numbered t 0 a.sent) (numbered t (suc n) (i.mid ++ op ∷ i.later)) (request_of t n OpenRm) (carried ∙ ap (numbered t 0) i.sent ∙ numbered_both t 0 a.sent (OpenRm ∷ (i.mid ++ op ∷ i.later))) in
+    let q =
+    part t p.after (numbered t (suc n) i.mid) (numbered t (suc m) i.later) (request_of t m op) (p.later ∙ numbered_both t (suc n) i.mid (op ∷ i.later)) in
+    let place : H ≡ (p.before ++ request_of t n OpenRm ∷ q.before) ++ request_of t m op ∷ q.after =
+    p.place ∙ ap (λ l. p.before ++ request_of t n OpenRm ∷ l) q.place
+    ∙ sym (append_assoc p.before (request_of t n OpenRm ∷ q.before) (request_of t m op ∷ q.after)) in
+    let count : length (of_thread t (p.before ++ request_of t n OpenRm ∷ q.before)) ≡ m =
+    count_two t n OpenRm p.before q.before a.sent i.mid p.earlier q.earlier ∙ (let e : suc (length a.sent) + length i.mid ≡ m = omega arith in e) in
+    let number : i.number ≡ m = i.number_is ∙ (let e : suc (length a.sent) + length i.mid ≡ m = omega arith in e) in
+    record {
+      first = p.before;
+      opens = request_of t n OpenRm;
+      mid = q.before;
+      ends = request_of t m op;
+      rest = q.after;
+      place = place;
+      opens_thread = refl;
+      opens_op = refl;
+      ends_thread = refl;
+      ends_op = refl;
+      open_ = no_closes t q.before (own_all t IsNoClose q.before (suc n) i.mid q.earlier i.open_);
+      code_is = code_there t H T pairs i.earlier i.others m code answered (i.collected ∙ ap (λ k. i.earlier ++ (k, code) ∷ i.others) number) (p.before ++ request_of t n OpenRm ∷ q.before) q.after op place count;
+    }
+
+-- a thread that asks to open has the manager open, unless it is shut
+opens_now : (t : ℕ) (T : Tables) → T.shut ≡ false → has_opened (next t OpenRm T).0 t ≡ true
+unfolding next
+opens_now t T open_ =
+    ap (λ b. has_opened (cond b (T, RmFail) (open_rm t T)).0 t) open_ ∙ contains-insert nat_cmp_total T.opened t t
+    ∙ ap (λ b. b || has_opened T t) (tied_true t t refl)
+
+module _ (commit : Bool) (D L : Type 0) (t : ℕ) (x : XidName) (T : Tables) (H : History) (f : Fate) (code : Code)
+    (towards : All (λ r. IsTowards commit L x r.op) H) (st : Standing commit true D L x T f) (reached : code ≢ RmFail)
+    (told : (d : HeuristicDecision) → code ≡ decision_code d → L) (z : Placed t T H (outcome_op commit x) code) where
+  abbrev op : Op
+  op = outcome_op commit x
+
+  abbrev before : History
+  before = z.first ++ z.opens ∷ z.mid
+
+  abbrev U : Tables
+  U = tables_after before T
+
+  abbrev at_first : Tables
+  at_first = tables_after z.first T
+
+  pub all_towards : All (λ r. IsTowards commit L x r.op) (before ++ z.ends ∷ z.rest)
+  all_towards = subst (All (λ (r : Request). IsTowards commit L x r.op)) z.place towards
+
+  towards_before : All (λ r. IsTowards commit L x r.op) before
+  towards_before = all_left (λ (r : Request). IsTowards commit L x r.op) before (z.ends ∷ z.rest) all_towards
+
+  towards_rest : All (λ r. IsTowards commit L x r.op) z.rest
+  towards_rest =
+      All-tail (λ (r : Request). IsTowards commit L x r.op) z.ends z.rest (all_right (λ (r : Request). IsTowards commit L x r.op) before (z.ends ∷ z.rest) all_towards)
+
+  pub now : Standing commit true D L x U (last_or f (fates x before T))
+  now = led_after commit true D L x before T f towards_before st
+
+  open_now : U.shut ≡ false
+  open_now = elim (U.shut) as (λ b. U.shut ≡ b → b ≡ false) [
+    | true ↦ λ shut. absurd (reached (z.code_is ∙ ap (λ (a : Answer). a.1) (next-shut t op U shut)))
+    | false ↦ λ _. refl
+  ] refl
+
+  open_first : at_first.shut ≡ false
+  open_first = elim (at_first.shut) as (λ b. at_first.shut ≡ b → b ≡ false) [
+    | true ↦ λ shut.
+        let same : U ≡ at_first = tables_after-append z.first (z.opens ∷ z.mid) T ∙ shut_stays (z.opens ∷ z.mid) at_first shut in
+        let no_more : true ≡ false = sym shut ∙ sym (ap (λ (V : Tables). V.shut) same) ∙ open_now in cc
+    | false ↦ λ _. refl
+  ] refl
+
+  has_it : has_opened U t ≡ true
+  has_it =
+      ap (λ (V : Tables). has_opened V t) (tables_after-append z.first (z.opens ∷ z.mid) T)
+      ∙ opened_on z.mid t (next z.opens.thread z.opens.op at_first).0 ((λ i. has_opened (next (z.opens_thread i) (z.opens_op i) at_first).0 t) ∙ opens_now t at_first open_first) z.open_
+
+  led : Led commit false D L x z.ends.op (last_or f (fates x before T)) (next z.ends.thread z.ends.op U)
+  led =
+      subst (λ (o : Op). Led commit false D L x o (last_or f (fates x before T)) (next z.ends.thread o U)) (sym z.ends_op)
+      (subst (λ (k : ℕ). Led commit false D L x op (last_or f (fates x before T)) (next k op U)) (sym z.ends_thread)
+      (ends_it commit D L x (last_or f (fates x before T)) U now.sound t open_now has_it now.stands (λ d e. told d (z.code_is ∙ e))))
+
+  -- after it the branch is no longer open
+  pub placed_ends : Standing commit false D L x (tables_after H T) (last_or f (fates x H T))
+  placed_ends =
+      subst (λ (h : History). Standing commit false D L x (tables_after h T) (last_or f (fates x h T))) (sym z.place)
+      (stands_after commit false D L x T f before z.rest z.ends towards_rest now.sound led)
+
+  -- from it on
+  pub from_there : last_or f (fates x H T) ≡ last_or (last_or f (fates x before T)) (fates x (z.ends ∷ z.rest) U)
+  from_there =
+      ap (λ (h : History). last_or f (fates x h T)) z.place ∙ ap (last_or f) (fates_both x before (z.ends ∷ z.rest) T)
+      ∙ last_both f (fates x before T) (fates x (z.ends ∷ z.rest) U)
+
+  -- a decision that it was told is its fate
+  pub placed_tells : (law : Tabled) (d : HeuristicDecision) → code ≡ decision_code d → last_or f (fates x H T) ≡ decided_fate d
+  placed_tells law d e =
+      let is : IsTold x d U (next t op U) = tells_so law commit t x d U (sym z.code_is ∙ e) in
+      let here : last_or f (fates x before T) ≡ decided_fate d = decided_of is.state now.stands in
+      let towards_all : All (λ r. IsTowards commit L x r.op) (z.ends ∷ z.rest) =
+      all_right (λ (r : Request). IsTowards commit L x r.op) before (z.ends ∷ z.rest) all_towards in
+      from_there
+      ∙ ap (last_or (last_or f (fates x before T))) (known_stays commit D L x (z.ends ∷ z.rest) U (last_or f (fates x before T)) (ap is_unknown here ∙ decided_known d) towards_all now)
+      ∙ here

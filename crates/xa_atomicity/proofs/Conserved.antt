@@ -1,0 +1,350 @@
+-- Transfers conserve what all accounts are worth together, but for what branches in doubt hold.
+use Rattle.std.specs.Prelude.{ℤ, pos, ◌+ℤ◌, All, nat_le, ◌&&◌}
+use Rattle.std.proofs.Common.{◌≡◌, ℕ, zero, suc, ◌+◌, ◌-◌, ◌<◌, ◌≤◌, ◌==◌, Bool, true, false, ◌||◌, if◌then◌else◌, ⊎_elim, List, [], ◌∷◌, ◌++◌, length}
+use Rattle.std.proofs.Common.{length-append, append_assoc, get_or, slice_get, sym, refl, ap, ◌∙◌, subst, arith, None}
+use Rattle.std.specs.List.{list_any, range_with_len}
+use Rattle.std.proofs.lemmas.Int.{ints}
+use Rattle.std.proofs.lemmas.Bool.{cases_lt, eqb-true, eqb-false, le-leb, or_parts}
+use Rattle.std.proofs.Math.IntN.{+ℤ_idl as none_plus, +ℤ_idr as plus_none}
+use Rattle.xa_base.specs.Lists.{Begins}
+use Rattle.xa_base.specs.Sums.{total}
+use Rattle.xa_base.proofs.Lists.{contains_at, range_all, got}
+use Rattle.xa_base.proofs.Sums.{total_alike, total_both, total_nothing}
+use Rattle.xa_words.specs.Xid.{XidName}
+use Rattle.xa_words.specs.declared.code.Code.{Code}
+use Rattle.xa_words.specs.declared.request.Request.{Request}
+use Rattle.xa_tables.specs.Tables.{Tables}
+use Rattle.xa_tables.specs.Accounts.{are_accounts}
+use Rattle.xa_tables.specs.Managers.{opening}
+use Rattle.xa_tables.specs.History.{History, tables_after}
+use Rattle.xa_tables.specs.Worth.{moved, held_by, is_of, HoldsItsAdditions}
+use Rattle.xa_desk.specs.LedgerView.{LedgerView}
+use Rattle.xa_desk.specs.DeskView.{DeskView, ledger}
+use Rattle.xa_desk.specs.Lanes.{numbered}
+use Rattle.xa_desk.specs.Growth.{HaveGrown}
+use Rattle.xa_desk.proofs.Growth.{as_it_was, grown_on}
+use Rattle.xa_switch.specs.declared.plan.Plan.{Plan}
+use Rattle.xa_switch.specs.Plans.{IsSoundManager}
+use Rattle.xa_switch.specs.Settling.{Settling, IsSettled, sent}
+use Rattle.xa_switch.specs.Fates.{IsOpenedWith, ledgers_of, history}
+use Rattle.xa_switch.specs.Worth.{threads_of, managers_of, accounts_in, accounts_of, plan_worth, settled_worth, moved_by, WorthIsOfThreads}
+use Rattle.xa_switch.proofs.Lists.{all_contains}
+use Rattle.xa_driver.specs.declared.branch.Branch.{Branch}
+use Rattle.xa_driver.specs.declared.done.Done.{Done}
+use Rattle.xa_driver.specs.declared.done.Ending.{Ending}
+use Rattle.xa_driver.specs.declared.done.Ending.TheVariants.{Committed, ReadOnly, RolledBack, InDoubt, Heuristic, Left}
+use Rattle.xa_driver.specs.Decision.{is_no}
+use Rattle.xa_log.specs.Log.{LogState}
+use Rattle.xa_driver.specs.Trace.{IsCommit, AreBranchesRising, has_branch_at}
+use Rattle.xa_driver.specs.Commits.{HasSentNoCommit, NoCommitWasSent}
+use Rattle.xa_atomicity.specs.Outcomes.{EachOutcome, AreLeftAlone, has_committed, is_committed, is_rolled_back, is_in_doubt, is_heuristic, is_left}
+use Rattle.xa_atomicity.specs.Outcomes.{is_read_only, sent_so_far}
+use Rattle.xa_atomicity.specs.Conservation.{taken_before, added_before, added_by_all, total_in_doubt, held_in_doubt, OnlyTransfers, opened, worked, committed}
+use Rattle.xa_atomicity.specs.Tabled.{Tabled}
+use Rattle.xa_atomicity.proofs.Moves.{is_within, outside, moved_parted, moved_none, moved_without, moved_alike, moved_nothing, no_commits}
+use Rattle.xa_atomicity.proofs.Requests.{all_earlier}
+use Rattle.xa_atomicity.proofs.OneOutcome.{committed_law}
+use Rattle.xa_atomicity.proofs.Settled.{Both, all_outcomes, growth_law, by_ledger}
+
+nothing_there : {X : Type 0} (xs : List X) (k : ℕ) → length xs ≤ k → slice_get xs k ≡ None
+nothing_there [] k le = refl
+nothing_there (x ∷ xs) zero le = absurd (omega arith)
+nothing_there (x ∷ xs) (suc k) le = nothing_there xs k (omega arith)
+
+begins_length : {X : Type 0} (xs ys : List X) → Begins xs ys → length xs ≤ length ys
+begins_length xs ys b = let e : length ys ≡ length xs + length b.0 = ap length b.1 ∙ length-append xs b.0 in omega (arith, e)
+
+-- ---- branches and managers
+
+-- no branch of rising ones is at a manager before them
+none_before : (lo m : ℕ) (bs : List Branch) → AreBranchesRising lo bs → m ≤ lo → has_branch_at bs m ≡ false
+none_before lo m [] r le = refl
+none_before lo m (b ∷ bs) r le =
+    let up = r.0 in
+    elim (b.m == m) as (λ c. (b.m == m) ≡ c → (c || has_branch_at bs m) ≡ false) [
+      | true ↦ λ e. let same = eqb-true b.m m e in absurd (omega (arith, same, up, le))
+      | false ↦ λ e. none_before b.m m bs r.1 (omega (arith, up, le))
+    ] refl
+
+-- what counts at the managers of branches alone may be summed over the branches
+over_branches : (g : ℕ → ℤ) (bs : List Branch) (lo n : ℕ) → AreBranchesRising lo bs → ((m : ℕ) → lo < m → has_branch_at bs m ≡ false → g m ≡ pos 0)
+    → ((m : ℕ) → lo + n < m → g m ≡ pos 0)
+    → total g (range_with_len (lo + 1) n) ≡ total (λ b. g b.m) bs
+over_branches g [] lo zero r none beyond = refl
+over_branches g (b ∷ bs) lo zero r none beyond =
+    let up = r.0 in
+    let rest : total g (range_with_len (b.m + 1) zero) ≡ total (λ c. g c.m) bs =
+    over_branches g bs b.m zero r.1 (λ m lt _. beyond m (omega (arith, up, lt))) (λ m lt. beyond m (omega (arith, up, lt))) in
+    sym (λ i. beyond b.m (omega (arith, up)) i +ℤ sym rest i)
+over_branches g [] lo (suc n) r none beyond =
+    (λ i. none (lo + 1) (omega arith) refl i +ℤ over_branches g [] (lo + 1) n tt (λ m lt e. none m (omega (arith, lt)) e) (λ m lt. beyond m (omega (arith, lt))) i)
+over_branches g (b ∷ bs) lo (suc n) r none beyond =
+    let up = r.0 in
+    elim (b.m == lo + 1) as (λ c. (b.m == lo + 1) ≡ c → g (lo + 1) +ℤ total g (range_with_len (lo + 1 + 1) n) ≡ g b.m +ℤ total (λ c. g c.m) bs) [
+      | true ↦ λ e.
+          let same : b.m ≡ lo + 1 = eqb-true b.m (lo + 1) e in
+          let later : AreBranchesRising (lo + 1) bs = subst (λ k. AreBranchesRising k bs) same r.1 in
+          let others : (m : ℕ) → lo + 1 < m → has_branch_at bs m ≡ false → g m ≡ pos 0 = λ m lt f.
+          none m (omega (arith, lt)) (elim (b.m == m) as (λ c. (b.m == m) ≡ c → (c || has_branch_at bs m) ≡ false) [ true ↦ λ e. let at = eqb-true b.m m e in absurd (omega (arith, at, same, lt)) | false ↦ λ e. f ] refl) in
+          λ i. g (sym same i) +ℤ over_branches g bs (lo + 1) n later others (λ m lt. beyond m (omega (arith, lt))) i
+      | false ↦ λ e.
+          let apart = eqb-false b.m (lo + 1) e in
+          let above : lo + 1 < b.m = omega (arith, up, apart) in
+          let free : g (lo + 1) ≡ pos 0 = none (lo + 1) (omega arith) (none_before (lo + 1) (lo + 1) (b ∷ bs) (above, r.1) (omega arith)) in
+          ap (λ v. v +ℤ total g (range_with_len (lo + 1 + 1) n)) free ∙ none_plus _
+          ∙ over_branches g (b ∷ bs) (lo + 1) n (above, r.1) (λ m lt f. none m (omega (arith, lt)) f) (λ m lt. beyond m (omega (arith, lt)))
+    ] refl
+
+-- ---- one thread
+
+module _ (law : Tabled) (opens : (s : Settling) (m : ℕ) → IsSettled s → (T : Tables) × IsOpenedWith s m T)
+    (holds : (accounts : List (List ℕ × ℕ)) (x : XidName) (h : History) → are_accounts accounts ≡ true → HoldsItsAdditions accounts x h)
+    (p : Plan) (s : Settling) (settled : IsSettled s) (opens_with : (m : ℕ) → 1 ≤ m → m ≤ length p.managers.items → IsOpenedWith s m (opening (accounts_of p m))) (sound : All IsSoundManager p.managers.items) (t : ℕ) where
+  sound_at : (m : ℕ) → 1 ≤ m → m ≤ length p.managers.items → are_accounts (accounts_of p m) ≡ true
+  sound_at m positive below =
+      let (plan, planned) = got p.managers.items (m - 1) (omega (arith, positive, below)) in
+      ap (λ o. are_accounts (accounts_in o)) planned
+      ∙ all_contains IsSoundManager p.managers.items plan sound (contains_at p.managers.items (m - 1) plan planned)
+
+  -- what the thread's requests with numbers from a to below b moved at manager m
+  abbrev moved_in : ℕ → ℕ → ℕ → ℤ
+  moved_in m a b = moved (accounts_of p m) (is_within t a b) (history s m) (opening (accounts_of p m))
+
+  -- how many requests it has sent to manager m
+  abbrev count : List LedgerView → ℕ → ℕ
+  count at m = length (ledger at m).sent
+
+  -- what all requests that it has sent have moved together
+  abbrev moved_until : List LedgerView → ℤ
+  moved_until at = total (λ m. moved_in m 0 (count at m)) (managers_of p)
+
+  -- what is sent between two moments counts between them
+  moved_on : (at later : List LedgerView) → HaveGrown at later
+      → moved_until later ≡ moved_until at +ℤ total (λ m. moved_in m (count at m) (count later m)) (managers_of p)
+  moved_on at later grown =
+      total_alike (λ m. moved_in m 0 (count later m)) (λ m. moved_in m 0 (count at m) +ℤ moved_in m (count at m) (count later m)) (managers_of p)
+      (range_all (λ m. moved_in m 0 (count later m) ≡ moved_in m 0 (count at m) +ℤ moved_in m (count at m) (count later m)) 1 (length p.managers.items) (λ m positive below.
+      moved_parted (accounts_of p m) t (count at m) (count later m) (history s m) (opening (accounts_of p m)) (begins_length _ _ (grown.each m positive).sent)))
+      ∙ total_both (λ m. moved_in m 0 (count at m)) (λ m. moved_in m (count at m) (count later m)) (managers_of p)
+
+  -- what it sent to a manager, in a settled opening
+  all_sent : (at : List LedgerView) (m : ℕ) → 1 ≤ m → HaveGrown at (ledgers_of s t) → Begins (ledger at m).sent (sent s t m)
+  all_sent at m positive grown =
+      subst (Begins (ledger at m).sent) (sym (by_ledger (ledgers_of s t) m (λ (z : LedgerView). z.sent) positive refl)) (grown.each m positive).sent
+
+  -- requests without a Commit move nothing
+  quiet_between : (at later : List LedgerView) → HaveGrown later (ledgers_of s t) → NoCommitWasSent at later → (m : ℕ) → 1 ≤ m
+      → moved_in m (count at m) (count later m) ≡ pos 0
+  quiet_between at later grown none m positive =
+      let since : HasSentNoCommit (ledger at m) (ledger later m) = none m positive in
+      let rest = all_sent later m positive grown in
+      let ops : sent s t m ≡ (ledger at m).sent ++ (since.more ++ rest.0) =
+      rest.1 ∙ ap (λ l. l ++ rest.0) since.sent ∙ append_assoc (ledger at m).sent since.more rest.0 in
+      let many : count later m ≡ count at m + length since.more = ap length since.sent ∙ length-append (ledger at m).sent since.more in
+      moved_without (accounts_of p m) (is_within t (count at m) (count later m)) (history s m) (opening (accounts_of p m))
+      (no_commits t (history s m) (ledger at m).sent since.more rest.0 ((settled.agree t m).carried ∙ ap (numbered t 0) ops) since.none (count at m) (count later m) (omega arith) (omega (arith, many)))
+
+  -- where nothing was sent nothing was moved
+  none_within : (m k : ℕ) → moved_in m k k ≡ pos 0
+  none_within m k =
+      moved_none (accounts_of p m) (is_within t k k) (history s m) (opening (accounts_of p m)) (λ j d lt. outside t k k (get_or (history s m) j d) (λ own. cases_lt (get_or (history s m) j d).number k))
+
+  -- a manager that isn't there has no accounts
+  no_accounts : (m : ℕ) → length p.managers.items < m → accounts_of p m ≡ []
+  no_accounts m past = ap accounts_in (nothing_there p.managers.items (m - 1) (omega (arith, past)))
+
+  no_moves : (m a b : ℕ) → length p.managers.items < m → moved_in m a b ≡ pos 0
+  no_moves m a b past =
+      ap (λ l. moved l (is_within t a b) (history s m) (opening (accounts_of p m))) (no_accounts m past)
+      ∙ moved_nothing (is_within t a b) (history s m) (opening (accounts_of p m))
+
+  -- ---- a commit of several branches
+
+  module _ (old new : List LedgerView) where
+    abbrev added : Branch → ℤ
+    added = added_before p s t old
+
+    -- what a branch's ending says of what it has added
+    record BranchMoves (b : Branch) (vote : Code) (e : Ending) : Type 0 where
+      moves : moved_in b.m (count old b.m) (count new b.m) ≡ (if is_committed e then added b else pos 0)
+      reads : is_read_only e ≡ true → added b ≡ pos 0
+      unless_no : is_no vote ≡ false → is_left e ≡ false
+      undecided : is_no vote ≡ false → is_heuristic e ≡ false
+
+    -- a branch holds at its Prepare what it has added
+    held_is : (b : Branch) → are_accounts (accounts_of p b.m) ≡ true
+        → held_by (accounts_of p b.m) b.xid (tables_after (taken_before t (count old b.m) (history s b.m)) (opening (accounts_of p b.m))) ≡ added b
+    held_is b good = holds (accounts_of p b.m) b.xid (taken_before t (count old b.m) (history s b.m)) good
+
+    nothing_added : (b : Branch) → length p.managers.items < b.m → added b ≡ pos 0
+    nothing_added b past =
+        sym (held_is b (ap are_accounts (no_accounts b.m past)))
+        ∙ ap (λ l. held_by l b.xid (tables_after (taken_before t (count old b.m) (history s b.m)) (opening (accounts_of p b.m)))) (no_accounts b.m past)
+
+    either_none : (c : Bool) (v : ℤ) → v ≡ pos 0 → pos 0 ≡ (if c then v else pos 0)
+    either_none true v e = sym e
+    either_none false v e = refl
+
+    branch_moves : (b : Branch) (vote : Code) (e : Ending) → 1 ≤ b.m → Both law opens s t b (count old b.m) (count new b.m) vote e → BranchMoves b vote e
+    branch_moves b vote e positive both =
+        ⊎_elim
+        (λ (past : length p.managers.items < b.m). record {
+          moves = no_moves b.m (count old b.m) (count new b.m) past ∙ either_none (is_committed e) (added b) (nothing_added b past);
+          reads = λ _. nothing_added b past;
+          unless_no = both.fated.unless_no;
+          undecided = both.undecided;
+        })
+        (λ (below : b.m ≤ length p.managers.items).
+        let good = sound_at b.m positive below in
+        let T : Tables = opening (accounts_of p b.m) in
+        record {
+          moves = both.moves T (opens_with b.m positive below) (accounts_of p b.m) ∙ ap (λ v. if is_committed e then v else pos 0) (held_is b good);
+          reads = λ only_read. sym (held_is b good) ∙ both.reads only_read T (opens_with b.m positive below) (accounts_of p b.m);
+          unless_no = both.fated.unless_no;
+          undecided = both.undecided;
+        })
+        (cases_lt (length p.managers.items) b.m)
+
+    all_moves : (lo : ℕ) (bs : List Branch) (vs : List Code) (es : List Ending) → AreBranchesRising lo bs
+        → EachOutcome (λ b v e. Both law opens s t b (count old b.m) (count new b.m) v e) bs vs es → EachOutcome BranchMoves bs vs es
+    all_moves lo [] [] [] r h = tt
+    all_moves lo (b ∷ bs) (v ∷ vs) (e ∷ es) r h = let up = r.0 in (branch_moves b v e (omega (arith, up)) h.0, all_moves b.m bs vs es r.1 h.1)
+    all_moves lo bs vs es r h = absurd h
+
+    abbrev moved_for : List Branch → ℤ
+    moved_for bs = total (λ b. moved_in b.m (count old b.m) (count new b.m)) bs
+
+    -- no branch was committed
+    none_moved : (bs : List Branch) (vs : List Code) (es : List Ending) → list_any is_committed es ≡ false → EachOutcome BranchMoves bs vs es
+        → moved_for bs ≡ pos 0
+    none_moved [] [] [] none h = refl
+    none_moved (b ∷ bs) (v ∷ vs) (e ∷ es) none h =
+        let parts = or_parts (is_committed e) (list_any is_committed es) none in
+        λ i. (h.0.moves ∙ ap (λ c. if c then added b else pos 0) parts.0) i +ℤ none_moved bs vs es parts.1 h.1 i
+    none_moved bs vs es none h = absurd h
+
+    -- a branch of a committed transaction moved what it added, unless it is in doubt
+    moved_or_doubted : (e : Ending) (v : ℤ) → is_rolled_back e ≡ false → is_left e ≡ false → is_heuristic e ≡ false → (is_read_only e ≡ true → v ≡ pos 0)
+        → (if is_committed e then v else pos 0) +ℤ (if is_in_doubt e then v else pos 0) ≡ v
+    moved_or_doubted Committed v back left plain reads = plus_none v
+    moved_or_doubted ReadOnly v back left plain reads = sym (reads refl)
+    moved_or_doubted RolledBack v back left plain reads = cc
+    moved_or_doubted InDoubt v back left plain reads = none_plus v
+    moved_or_doubted (Heuristic c) v back left plain reads = cc
+    moved_or_doubted (Left c) v back left plain reads = cc
+
+    regroup : (a b c d v w : ℤ) → a +ℤ c ≡ v → b +ℤ d ≡ w → (a +ℤ b) +ℤ (c +ℤ d) ≡ v +ℤ w
+    regroup a b c d v w e f = omega (arith, ints)
+
+    all_moved : (bs : List Branch) (vs : List Code) (es : List Ending) → list_any is_no vs ≡ false → list_any is_rolled_back es ≡ false
+        → EachOutcome BranchMoves bs vs es → moved_for bs +ℤ total_in_doubt added bs es ≡ total added bs
+    all_moved [] [] [] unopposed kept h = refl
+    all_moved (b ∷ bs) (v ∷ vs) (e ∷ es) unopposed kept h =
+        let votes = or_parts (is_no v) (list_any is_no vs) unopposed in
+        let backs = or_parts (is_rolled_back e) (list_any is_rolled_back es) kept in
+        regroup (moved_in b.m (count old b.m) (count new b.m)) (moved_for bs) (if is_in_doubt e then added b else pos 0) (total_in_doubt added bs es) (added b) (total added bs)
+        (ap (λ q. q +ℤ (if is_in_doubt e then added b else pos 0)) h.0.moves ∙ moved_or_doubted e (added b) backs.0 (h.0.unless_no votes.0) (h.0.undecided votes.0) h.0.reads)
+        (all_moved bs vs es votes.1 backs.1 h.1)
+    all_moved bs vs es unopposed kept h = absurd h
+
+  module _ (bs : List Branch) (desk : DeskView) (new : List LedgerView) (log later : LogState) (d : Done) (made : IsCommit bs desk new log later d)
+      (grown : HaveGrown new (ledgers_of s t)) (alone : AreLeftAlone s t bs (sent_so_far desk.ledgers) (sent_so_far new))
+      (zero_sum : added_by_all p s t desk.ledgers bs ≡ pos 0) where
+    abbrev old : List LedgerView
+    old = desk.ledgers
+
+    -- what the call moved, with what is in doubt, is nothing
+    call_moves : moved_for old new bs +ℤ held_in_doubt p s t old bs d ≡ pos 0
+    call_moves =
+        let each =
+        all_moves old new 0 bs d.votes.items d.endings.items made.may.rising (all_outcomes law opens s t bs desk new log later d settled made grown alone) in
+        elim (has_committed d) as (λ c. has_committed d ≡ c → moved_for old new bs +ℤ (if c then total_in_doubt (added_before p s t old) bs d.endings.items else pos 0) ≡ pos 0) [
+          | true ↦ λ some.
+              let whole = committed_law made.may.tran bs desk new log later d made made.may.one some in
+              all_moved old new bs d.votes.items d.endings.items whole.unopposed whole.kept each ∙ zero_sum
+          | false ↦ λ none. plus_none _ ∙ none_moved old new bs d.votes.items d.endings.items none each
+        ] refl
+
+    -- its requests are to the managers of its branches
+    at_managers : total (λ m. moved_in m (count old m) (count new m)) (managers_of p) ≡ moved_for old new bs
+    at_managers =
+        over_branches (λ m. moved_in m (count old m) (count new m)) bs 0 (length p.managers.items) made.may.rising
+        (λ m positive none. ap (λ (l : LedgerView). moved_in m (count old m) (length l.sent)) (made.trace.course.others m (omega (arith, positive)) none) ∙ none_within m (count old m))
+        (λ m past. no_moves m (count old m) (count new m) (omega (arith, past)))
+
+  add_up : (u v w d e : ℤ) → v ≡ u +ℤ w → w +ℤ e ≡ pos 0 → u +ℤ d ≡ pos 0 → v +ℤ (d +ℤ e) ≡ pos 0
+  add_up u v w d e f g h = omega (arith, ints)
+
+  joined : (at later last : List LedgerView) → HaveGrown at later → HaveGrown later last → HaveGrown at last
+  joined at later last one two =
+      record { each = λ m positive. grown_on (ledger at m) (ledger later m) (ledger last m) (one.each m positive) (two.each m positive) }
+
+  pub thread_law : (at : List LedgerView) (doubt : ℤ) → OnlyTransfers p s t at doubt → HaveGrown at (ledgers_of s t) → moved_until at +ℤ doubt ≡ pos 0
+  thread_law _ _ (opened at nothing) grown =
+      plus_none _
+      ∙ total_alike (λ m. moved_in m 0 (count at m)) (λ m. pos 0) (managers_of p)
+      (range_all (λ m. moved_in m 0 (count at m) ≡ pos 0) 1 (length p.managers.items) (λ m positive below. ap (λ l. moved_in m 0 (length l)) (nothing m positive) ∙ none_within m 0))
+      ∙ total_nothing (managers_of p)
+  thread_law _ _ (worked at later doubt before growth none) grown =
+      let quiet : total (λ m. moved_in m (count at m) (count later m)) (managers_of p) ≡ pos 0 =
+      total_alike (λ m. moved_in m (count at m) (count later m)) (λ m. pos 0) (managers_of p)
+      (range_all (λ m. moved_in m (count at m) (count later m) ≡ pos 0) 1 (length p.managers.items) (λ m positive below. quiet_between at later grown none m positive))
+      ∙ total_nothing (managers_of p) in
+      ap (λ v. v +ℤ doubt) (moved_on at later growth ∙ ap (λ v. moved_until at +ℤ v) quiet ∙ plus_none _)
+      ∙ thread_law at doubt before (joined at later (ledgers_of s t) growth grown)
+  thread_law _ _ (committed bs desk new log later d doubt before made alone zero_sum) grown =
+      let growth : HaveGrown desk.ledgers new = growth_law made.may.tran bs desk.ledgers new log later d made.trace in
+      add_up (moved_until desk.ledgers) (moved_until new) (total (λ m. moved_in m (count desk.ledgers m) (count new m)) (managers_of p)) doubt (held_in_doubt p s t desk.ledgers bs d)
+      (moved_on desk.ledgers new growth)
+      (ap (λ v. v +ℤ held_in_doubt p s t desk.ledgers bs d) (at_managers bs desk new log later d made grown alone zero_sum) ∙ call_moves bs desk new log later d made grown alone zero_sum)
+      (thread_law desk.ledgers doubt before (joined desk.ledgers new (ledgers_of s t) growth grown))
+
+  -- in the end its requests are all those of the thread
+  whole_thread : moved_by p s t ≡ moved_until (ledgers_of s t)
+  whole_thread =
+      total_alike (λ m. moved (accounts_of p m) (is_of t) (history s m) (opening (accounts_of p m))) (λ m. moved_in m 0 (count (ledgers_of s t) m)) (managers_of p)
+      (range_all (λ m. moved (accounts_of p m) (is_of t) (history s m) (opening (accounts_of p m)) ≡ moved_in m 0 (count (ledgers_of s t) m)) 1 (length p.managers.items) (λ m positive below.
+      moved_alike (accounts_of p m) (is_of t) (is_within t 0 (count (ledgers_of s t) m)) (history s m) (opening (accounts_of p m)) (λ k d lt.
+      let r : Request = get_or (history s m) k d in
+      elim (r.thread == t) as (λ b. (r.thread == t) ≡ b → b ≡ (b && (nat_le 0 r.number && nat_le (suc r.number) (count (ledgers_of s t) m)))) [
+        | true ↦ λ e.
+            let lower = all_earlier t (history s m) 0 (sent s t m) (settled.agree t m).carried k d lt (eqb-true r.thread t e) in
+            let many : length (sent s t m) ≡ count (ledgers_of s t) m = ap length (by_ledger (ledgers_of s t) m (λ (z : LedgerView). z.sent) positive refl) in
+            let from : nat_le 0 r.number ≡ true = le-leb 0 r.number (omega arith) in
+            let up : nat_le (suc r.number) (count (ledgers_of s t) m) ≡ true = le-leb (suc r.number) (count (ledgers_of s t) m) (omega (arith, lower, many)) in
+            sym (λ i. from i && up i)
+        | false ↦ λ e. refl
+      ] refl)))
+
+  grown_self : (at : List LedgerView) → HaveGrown at at
+  grown_self at = record { each = λ m positive. as_it_was (ledger at m) }
+
+  pub conserved_by : (doubt : ℤ) → OnlyTransfers p s t (ledgers_of s t) doubt → moved_by p s t +ℤ doubt ≡ pos 0
+  conserved_by doubt only = ap (λ v. v +ℤ doubt) whole_thread ∙ thread_law (ledgers_of s t) doubt only (grown_self (ledgers_of s t))
+
+-- ---- all threads
+
+pub conserved_law : (p : Plan) (s : Settling) (doubt : ℕ → ℤ) → WorthIsOfThreads p s → ((t : ℕ) → 1 ≤ t → t ≤ p.threads → moved_by p s t +ℤ doubt t ≡ pos 0)
+    → settled_worth p s +ℤ total doubt (threads_of p) ≡ plan_worth p
+conserved_law p s doubt worth each =
+    let none : total (moved_by p s) (threads_of p) +ℤ total doubt (threads_of p) ≡ pos 0 =
+    sym (total_both (moved_by p s) doubt (threads_of p))
+    ∙ total_alike (λ t. moved_by p s t +ℤ doubt t) (λ t. pos 0) (threads_of p) (range_all (λ t. moved_by p s t +ℤ doubt t ≡ pos 0) 1 p.threads (λ t positive below. each t positive (omega (arith, below))))
+    ∙ total_nothing (threads_of p) in
+    settle_up (plan_worth p) (total (moved_by p s) (threads_of p)) (total doubt (threads_of p)) (settled_worth p s) worth none
+  where
+    settle_up : (a b c d : ℤ) → d ≡ a +ℤ b → b +ℤ c ≡ pos 0 → d +ℤ c ≡ a
+    settle_up a b c d e f = omega (arith, ints)
+
+-- where no branch is in doubt nothing is missing
+no_doubt : (f : Branch → ℤ) (bs : List Branch) (es : List Ending) → list_any is_in_doubt es ≡ false → total_in_doubt f bs es ≡ pos 0
+no_doubt f [] es none = refl
+no_doubt f (b ∷ bs) [] none = refl
+no_doubt f (b ∷ bs) (e ∷ es) none =
+    let parts = or_parts (is_in_doubt e) (list_any is_in_doubt es) none in
+    λ i. (if parts.0 i then f b else pos 0) +ℤ no_doubt f bs es parts.1 i
+
+pub decided_law : (p : Plan) (s : Settling) (t : ℕ) (old : List LedgerView) (bs : List Branch) (d : Done) → list_any is_in_doubt d.endings.items ≡ false
+    → held_in_doubt p s t old bs d ≡ pos 0
+decided_law p s t old bs d none =
+    elim (has_committed d) as (λ c. (if c then total_in_doubt (added_before p s t old) bs d.endings.items else pos 0) ≡ pos 0) [ true ↦ no_doubt (added_before p s t old) bs d.endings.items none | false ↦ refl ]

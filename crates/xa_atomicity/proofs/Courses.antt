@@ -1,0 +1,220 @@
+-- The courses that a branch of a commit may take, by the places of its requests in its manager's settled history.
+use Rattle.std.proofs.Common.{◌≡◌, ℕ, ◌∷◌, ◌++◌, suc, ◌+◌, ◌<◌, Bool, true, false, ◌||◌, if◌then◌else◌, sym, refl, ap, ◌∙◌, subst, arith, Option, Some, None}
+use Rattle.std.specs.List.{All}
+use Rattle.std.proofs.Common.{inl, inr}
+use Rattle.std.proofs.lemmas.Bool.{cases_Bool}
+use Rattle.std.proofs.Math.Bool.{or-true}
+use Rattle.xa_base.proofs.Lists.{all_after}
+use Rattle.xa_words.specs.Xid.{XidName}
+use Rattle.xa_words.specs.declared.code.Code.{Code}
+use Rattle.xa_words.specs.declared.code.Code.TheVariants.{Done, RdOnly, RmFail}
+use Rattle.xa_words.specs.declared.request.Op.{Op}
+use Rattle.xa_words.specs.declared.request.Op.TheVariants.{Prepare, Commit, Rollback, Forget}
+use Rattle.xa_words.specs.declared.request.Request.{Request}
+use Rattle.xa_tables.specs.Tables.{Tables}
+use Rattle.xa_tables.specs.History.{History, is_rolled_back}
+use Rattle.xa_tables.specs.Prepared.{is_forget}
+use Rattle.xa_desk.specs.LedgerView.{is_rm_fail}
+use Rattle.xa_base.proofs.Truth.{by_if, at_false, at_true}
+use Rattle.xa_driver.specs.declared.branch.Branch.{Branch}
+use Rattle.xa_driver.specs.declared.done.Ending.{Ending}
+use Rattle.xa_driver.specs.declared.done.Ending.TheVariants.{ReadOnly, RolledBack, Left}
+use Rattle.xa_driver.specs.Course.{AsksFor, AtBranch}
+use Rattle.xa_driver.specs.Decision.{is_yes, is_read}
+use Rattle.xa_driver.specs.Endings.{second_op, third_op, ending_of, yes_ending, no_ending, is_out_of_reach, is_decided}
+use Rattle.xa_atomicity.proofs.Placing.{request_of}
+use Rattle.xa_atomicity.proofs.Sites.{Site, StandsIn, Sent, AsksIn, asks, withholds, At, at, only_op, Second}
+
+pub yes_is : (c : Code) → is_yes c ≡ true → c ≡ Done
+yes_is Done e = refl
+yes_is c e = cc
+
+pub read_is : (c : Code) → is_read c ≡ true → c ≡ RdOnly
+read_is RdOnly e = refl
+read_is c e = cc
+
+-- ---- where the requests of a branch stand
+
+module _ {t : ℕ} {T : Tables} {H : History} (s : Site t T H) (x : XidName) (n last : ℕ) (vote : Code) where
+  -- the Prepare alone was sent
+  pub record SendsOne : Type 0 where
+    pub first : At s n (Prepare x) vote
+    pub limit : last ≡ n + 1
+
+  -- after it a second request was sent, and at most a Forget after that
+  pub record Sends (op : Op) (c : Code) : Type 0 where
+    pub first : At s n (Prepare x) vote
+    pub second : At s (suc n) op c
+    pub more : n + 1 < last
+    pub forgets : All (λ r. r.thread ≡ t → suc n < r.number → r.number < last → is_forget r.op ≡ true) H
+
+  -- what a branch goes through up to its ending
+  pub data Course (commit : Bool) : Ending → Type 0 where
+    -- its manager was heard to be shut, and nothing was sent
+    Unreached : last ≡ n → vote ≡ RmFail → Course commit (Left RmFail)
+    -- it voted, and that was all: it only read, it was rolled back, or it is left
+    Reads : is_read vote ≡ true → SendsOne → Course commit ReadOnly
+    Breaks : is_rolled_back vote ≡ true → SendsOne → Course commit RolledBack
+    Stays : (c : Code) → is_yes vote ≡ false → SendsOne → Course commit (Left c)
+    -- it voted to commit, and got the decision
+    Agrees : (c : Code) → is_yes vote ≡ true → Sends (if commit then Commit x false else Rollback x) c → Course commit (yes_ending commit (Some c))
+    -- it voted against, and was to be rolled back
+    Refuses : (c : Code) → is_yes vote ≡ false → is_read vote ≡ false → Sends (Rollback x) c → Course commit (no_ending vote (Some c))
+
+-- what the thread sends of it after the second request is a Forget
+pub rest_forgets : {t : ℕ} {T : Tables} {H : History} (s : Site t T H) (x : XidName) (n last : ℕ) (vote : Code) (op : Op) (c : Code) (z : Sends s x n last vote op c) (f : At s n (Prepare x) vote) (r : Second s n (Prepare x) vote f op c)
+    → All (λ q. q.thread ≡ t → q.number < last → is_forget q.op ≡ true) r.rest
+rest_forgets {t} {T} {H} s x n last vote op c z f r k d lt own less =
+    let up = r.later k d lt own in
+    all_after (λ (q : Request). q.thread ≡ t → suc n < q.number → q.number < last → is_forget q.op ≡ true) (f.before ++ request_of t n (Prepare x) ∷ r.mid) (request_of t (suc n) op) r.rest
+    (subst (All (λ (q : Request). q.thread ≡ t → suc n < q.number → q.number < last → is_forget q.op ≡ true)) r.place z.forgets) k d lt own (omega (arith, up)) less
+
+-- ---- the course, by what the branch was asked
+
+-- where no request is wanted the second is none
+none_wanted : (x : XidName) (vote : Code) (commit : Bool) → is_yes vote ≡ false → (is_read vote || (is_rolled_back vote || is_out_of_reach vote)) ≡ true
+    → second_op commit x vote ≡ None
+none_wanted x vote true y e = at_false (is_yes vote) _ None y
+none_wanted x vote false y e = at_true (is_read vote || (is_rolled_back vote || is_out_of_reach vote)) None _ e
+
+-- the second request of a yes branch
+yes_wanted : (x : XidName) (vote : Code) (commit : Bool) → is_yes vote ≡ true → second_op commit x vote ≡ Some (if commit then Commit x false else Rollback x)
+yes_wanted x vote true y = at_true (is_yes vote) _ None y
+yes_wanted x vote false y = ap (λ v. if is_read v || (is_rolled_back v || is_out_of_reach v) then None else Some (Rollback x)) (yes_is vote y)
+
+module _ {t : ℕ} {T : Tables} {H : History} (s : Site t T H) (x : XidName) (old new : Sent) (vote : Code) (first : At s old.number (Prepare x) vote) where
+  abbrev n : ℕ
+  n = old.number
+
+  abbrev last : ℕ
+  last = new.number
+
+  -- once the vote was answered
+  abbrev voted : Sent
+  voted = record { number = suc n; shut = old.shut || is_rm_fail vote }
+
+  abbrev Ends : Bool → Ending → Type 0
+  Ends = Course s x n last vote
+
+  -- then the requests as they are wanted
+  record Goes (op : Option Op) (second : Option Code) : Type 0 where
+    decided : Sent
+    third : Option Code
+    obeys : AsksFor (AsksIn t T H) op second voted decided
+    forgets : AsksFor (AsksIn t T H) (third_op x second) third decided new
+
+  sends_one : new ≡ voted → SendsOne s x n last vote
+  sends_one is = record { first = first; limit = let e = ap (λ (z : Sent). z.number) is in omega (arith, e) }
+
+  -- nothing more was wanted
+  alone : (second : Option Code) → Goes None second → new ≡ voted
+  alone second g = after second g.third g.obeys.0 g.forgets ∙ g.obeys.1
+    where
+      after : (z third : Option Code) → z ≡ None → AsksFor (AsksIn t T H) (third_op x z) third g.decided new → new ≡ g.decided
+      after z third e f = (subst (λ (o : Option Code). AsksFor (AsksIn t T H) (third_op x o) third g.decided new) e f).1
+
+  -- nothing is to be forgotten where XAER_RMFAIL was answered
+  unsent : (third : Option Code) (d : Sent) → AsksFor (AsksIn t T H) (third_op x (Some RmFail)) third d new → d ≡ voted → new ≡ voted
+  unsent third d f same = f.1 ∙ same
+
+  -- what was sent after the second request is a Forget
+  module _ (op : Op) (c : Code) (two : Sent) (number : two.number ≡ suc (suc n)) (second : At s (suc n) op c) where
+    -- nothing was
+    no_third : new ≡ two → Sends s x n last vote op c
+    no_third is =
+        let long : last ≡ suc (suc n) = ap (λ (z : Sent). z.number) is ∙ number in
+        record { first = first; second = second; more = omega (arith, long); forgets = λ k d lt own up less. absurd (omega (arith, up, less, long)) }
+
+    -- one was
+    a_third : (d : Code) → StandsIn t two.number (Forget x) d T H → new.number ≡ suc two.number → Sends s x n last vote op c
+    a_third d stands is = record {
+      first = first;
+      second = second;
+      more = omega (arith, is, number);
+      forgets = λ k e lt own up less. ap is_forget (only_op s two.number (Forget x) d (at s two.number (Forget x) d stands) k e lt own (omega (arith, up, less, is, number)));
+    }
+
+    third_of : (z third : Option Code) → AsksFor (AsksIn t T H) (third_op x z) third two new → Sends s x n last vote op c
+    third_of None third f = no_third f.1
+    third_of (Some d) third f = by_decided (is_decided d) third f
+      where
+        by_decided : (b : Bool) (third : Option Code) → AsksFor (AsksIn t T H) (if b then Some (Forget x) else None) third two new → Sends s x n last vote op c
+        by_decided false third f = no_third f.1
+        by_decided true None f = absurd f
+        by_decided true (Some e) (asks stands hears is) = a_third e stands (ap (λ (z : Sent). z.number) is)
+        by_decided true (Some e) (withholds shut fails is) = no_third is
+
+  -- a second request, which was sent or withheld
+  sent_or_not : (P : Type 0) (op : Op) (c : Code) → Goes (Some op) (Some c) → (Sends s x n last vote op c → P)
+      → ((old.shut || is_rm_fail vote) ≡ true → c ≡ RmFail → SendsOne s x n last vote → P) → P
+  sent_or_not P op c g sent not = by_second g.obeys
+    where
+      by_second : AsksIn t T H voted op g.decided c → P
+      by_second (asks stands hears is) = sent (third_of op c g.decided (ap (λ (z : Sent). z.number) is) (at s (suc n) op c stands) (Some c) g.third g.forgets)
+      by_second (withholds shut fails is) =
+          not shut fails (sends_one (unsent g.third g.decided (subst (λ (d : Code). AsksFor (AsksIn t T H) (third_op x (Some d)) g.third g.decided new) fails g.forgets) is))
+
+  module _ (hears : old.shut ≡ true → vote ≡ RmFail) where
+    -- a yes vote: the manager wasn't heard to be shut
+    open_still : is_yes vote ≡ true → (old.shut || is_rm_fail vote) ≡ true → ⊥
+    open_still y e = elim (cases_Bool (old.shut)) [
+      | inl shut ↦ let z : false ≡ true = sym (ap is_yes (hears shut)) ∙ y in cc
+      | inr not_shut ↦ let z : false ≡ true = (λ i. sym not_shut i || is_rm_fail (sym (yes_is vote y) i)) ∙ e in cc
+    ]
+
+    agrees : (commit : Bool) (second : Option Code) → is_yes vote ≡ true → Goes (Some (if commit then Commit x false else Rollback x)) second
+        → Ends commit (yes_ending commit second)
+    agrees commit None y g = absurd g.obeys
+    agrees commit (Some c) y g = sent_or_not (Ends commit (yes_ending commit (Some c))) _ c g (Agrees c y) (λ shut fails one. absurd (open_still y shut))
+
+    refuses : (commit : Bool) (second : Option Code) → is_yes vote ≡ false → is_read vote ≡ false → Goes (Some (Rollback x)) second
+        → Ends commit (no_ending vote second)
+    refuses commit None y r g = absurd g.obeys
+    refuses commit (Some c) y r g =
+        sent_or_not (Ends commit (no_ending vote (Some c))) (Rollback x) c g (Refuses c y r) (λ shut fails one.
+        subst (λ (d : Code). Ends commit (no_ending vote (Some d))) (sym fails) (Stays RmFail y one))
+
+    -- a vote against that may leave the branch there
+    still_there : (commit : Bool) (second : Option Code) → is_yes vote ≡ false → is_read vote ≡ false → is_rolled_back vote ≡ false
+        → is_out_of_reach vote ≡ false
+        → Goes (second_op commit x vote) second → Ends commit (no_ending vote second)
+    still_there true second y r k o g =
+        let g' : Goes None second = subst (λ (p : Option Op). Goes p second) (at_false (is_yes vote) _ None y) g in
+        subst (λ z. Ends true (no_ending vote z)) (sym g'.obeys.0) (Stays vote y (sends_one (alone second g')))
+    still_there false second y r k o g =
+        refuses false second y r (subst (λ (p : Option Op). Goes p second) (at_false (is_read vote || (is_rolled_back vote || is_out_of_reach vote)) None _ (λ i. r i || (k i || o i))) g)
+
+    sent_course : (commit : Bool) (second : Option Code) → Goes (second_op commit x vote) second → Ends commit (ending_of commit vote second)
+    sent_course commit second g =
+        let now : second_op commit x vote ≡ None → SendsOne s x n last vote = λ e. sends_one (alone second (subst (λ (p : Option Op). Goes p second) e g)) in
+        by_if (Ends commit) (is_yes vote) _ _ (λ y. agrees commit second y (subst (λ (p : Option Op). Goes p second) (yes_wanted x vote commit y) g)) (λ y.
+        by_if (Ends commit) (is_read vote) _ _ (λ r. Reads r (now (none_wanted x vote commit y (ap (λ q. q || (is_rolled_back vote || is_out_of_reach vote)) r)))) (λ r.
+        by_if (Ends commit) (is_rolled_back vote) _ _ (λ k. Breaks k (now (none_wanted x vote commit y (ap (λ q. is_read vote || (q || is_out_of_reach vote)) k ∙ or-true (is_read vote))))) (λ k.
+        by_if (Ends commit) (is_out_of_reach vote) _ _ (λ o.
+        Stays vote y (now (none_wanted x vote commit y (ap (λ q. is_read vote || (is_rolled_back vote || q)) o ∙ ap (λ q. is_read vote || q) (or-true (is_rolled_back vote)) ∙ or-true (is_read vote))))) (λ o.
+        still_there commit second y r k o g))))
+
+-- the course of a branch
+pub course_of : {t : ℕ} {T : Tables} {H : History} (s : Site t T H) (b : Branch) (commit : Bool) (vote : Code) (second : Option Code) (ending : Ending) (old new : Sent)
+    → AtBranch (AsksIn t T H) commit b vote second ending old new
+    → Course s b.xid old.number new.number vote commit ending
+course_of {t} {T} {H} s b commit vote second ending old new is = subst (Course s b.xid old.number new.number vote commit) (sym is.ends) (by_vote is.prepares)
+  where
+    none_for : (commit : Bool) → second_op commit b.xid RmFail ≡ None
+    none_for true = refl
+    none_for false = refl
+
+    by_vote : AsksIn t T H old (Prepare b.xid) is.prepared vote → Course s b.xid old.number new.number vote commit (ending_of commit vote second)
+    by_vote (asks stands hears to) =
+        sent_course s b.xid old new vote (at s old.number (Prepare b.xid) vote stands) hears commit second (record {
+          decided = is.decided;
+          third = is.third;
+          obeys = subst (λ (z : Sent). AsksFor (AsksIn t T H) (second_op commit b.xid vote) second z is.decided) to is.obeys;
+          forgets = is.forgets;
+        })
+    by_vote (withholds shut fails same) =
+        let unasked : second_op commit b.xid vote ≡ None = ap (second_op commit b.xid) fails ∙ none_for commit in
+        let silent = subst (λ (o : Option Op). AsksFor (AsksIn t T H) o second is.prepared is.decided) unasked is.obeys in
+        let last_one = subst (λ (o : Option Code). AsksFor (AsksIn t T H) (third_op b.xid o) is.third is.decided new) silent.0 is.forgets in
+        subst (Course s b.xid old.number new.number vote commit) (sym (λ i. ending_of commit (fails i) (silent.0 i)))
+        (Unreached (ap (λ (z : Sent). z.number) (last_one.1 ∙ silent.1 ∙ same)) fails)

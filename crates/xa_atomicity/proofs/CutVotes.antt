@@ -1,0 +1,227 @@
+-- The votes that a commit got which was cut short, and what it leaves in the log.
+use Rattle.std.proofs.Common.{◌≡◌, ℕ, ◌+◌, Bool, true, false, ◌==◌, ◌&&◌, ◌||◌, List, [], ◌∷◌, ◌++◌, length, append-nil, append_assoc, get_or, sym, refl, ap}
+use Rattle.std.proofs.Common.{◌∙◌, subst, Option, Some}
+use Rattle.std.specs.List.{All}
+use Rattle.std.proofs.lemmas.Bool.{eqb-true}
+use Rattle.std.proofs.lemmas.List.Elements.{All-nil, All-cons}
+use Rattle.xa_base.specs.declared.limits.TheConstants.{MOST_MANAGERS}
+use Rattle.xa_base.specs.Lists.{Begins, IsUpTo}
+use Rattle.xa_base.proofs.Lists.{all_mid, same_begins}
+use Rattle.xa_base.proofs.Truth.{at_false}
+use Rattle.xa_words.specs.Xid.{XidName}
+use Rattle.xa_words.specs.Tran.{TranName, tran_of}
+use Rattle.xa_words.specs.declared.code.Code.{Code}
+use Rattle.xa_words.specs.declared.code.Code.TheVariants.{RmFail}
+use Rattle.xa_words.specs.declared.request.Op.{Op}
+use Rattle.xa_words.specs.declared.request.Op.TheVariants.{Prepare}
+use Rattle.xa_words.specs.declared.request.Request.{Request}
+use Rattle.xa_tables.specs.Prepared.{names}
+use Rattle.xa_desk.specs.LedgerView.{LedgerView, learnt_shut, with_sent, with_collected}
+use Rattle.xa_desk.specs.DeskView.{DeskView, ledger}
+use Rattle.xa_desk.specs.Growth.{HaveGrown}
+use Rattle.xa_switch.specs.Fates.{ledgers_of, history as history_of}
+use Rattle.xa_driver.specs.declared.branch.Branch.{Branch}
+use Rattle.xa_driver.specs.declared.done.Done.{Done}
+use Rattle.xa_driver.specs.declared.done.Ending.{Ending}
+use Rattle.xa_driver.specs.Asks.{IsAnswered, IsBegun, asked, collected, in_flight, unasked}
+use Rattle.xa_atomicity.specs.Cut.{CameSoFar, DidOther, EachVote, IsCut, IsEnded, IsTold, asking, forgetting, telling}
+use Rattle.xa_driver.specs.Decision.{is_yes, voted_yes}
+use Rattle.xa_driver.specs.Endings.{second_op, third_op, ending_of}
+use Rattle.xa_log.specs.Log.{LogState}
+use Rattle.xa_atomicity.specs.Resolution.{IsKept, NamesTran, OnlyResolves, Opening}
+use Rattle.xa_driver.specs.Course.{AtBranch}
+use Rattle.xa_driver.specs.Resolving.{AsksLedger}
+use Rattle.xa_driver.specs.Trace.{EachBranch, IsCommit, IsTranOf, decision_of, voted}
+use Rattle.xa_driver.proofs.Mapped.{Any, IsAskedFor, any_asked}
+use Rattle.xa_driver.proofs.Traces.{trace_of}
+use Rattle.xa_atomicity.proofs.Naming.{named_so, no_prepare, prepare_part, IsNoPrepare}
+use Rattle.xa_atomicity.proofs.Placing.{request_of}
+use Rattle.xa_atomicity.proofs.Records.{is_marked, logs_keep}
+use Rattle.xa_atomicity.proofs.Resolves.{Sends, asked_sends, stays, on}
+
+-- ---- what was sent
+
+-- A vote was collected as the code of its Prepare, and what was sent after that is so.
+pub record HasVoted (P : Op → Type 0) (b : Branch) (v : Code) (a a' : LedgerView) : Type 0 where
+  pub prepared : IsAnswered a (Some (Prepare b.xid)) (Some v)
+  pub rest : Sends P (voted b v a) a'
+
+module _ (P : Op → Type 0) where
+  one_sent : (a a' : LedgerView) (op : Op) → P op → a'.sent ≡ a.sent ++ op ∷ [] → Begins a.collected a'.collected → Sends P a a'
+  one_sent a a' op so sends begins = record { more = op ∷ []; sent = sends; all = All-cons P op [] so (All-nil P); collected = begins }
+
+  pub begun_sends : (op : Option Op) (a a' : LedgerView) → IsAskedFor P op → IsBegun op a a' → Sends P a a'
+  begun_sends op a a' so (unasked e) = subst (Sends P a) (sym e) (stays P a)
+  begun_sends op a a' so (in_flight o is open_ e) =
+      subst (Sends P a) (sym e) (one_sent a (with_sent a o) o (subst (IsAskedFor P) is so) refl (same_begins a.collected))
+  begun_sends op a a' so (collected code tr) = subst (Sends P a) (sym tr.trace) (asked_sends P a op code so)
+
+  pub other_sends : (x : XidName) (a a' : LedgerView) → ((op : Op) → names x op ≡ false → P op) → DidOther x a a' → Sends P a a'
+  other_sends x a a' so z = record { more = z.more; sent = z.sent; all = λ k d lt. so (get_or z.more k d) (z.others k d lt); collected = z.collected }
+
+  -- after the vote, by how far it came
+  module _ (commit : Bool) (b : Branch) (v : Code) (a a' : LedgerView) (others : (op : Op) → names b.xid op ≡ false → P op)
+      (second : IsAskedFor P (second_op commit b.xid v)) where
+    told_sends : IsTold commit b v a a' → Sends P (voted b v a) a'
+    told_sends z =
+        on P (voted b v a) z.start a' (other_sends b.xid (voted b v a) z.start others z.between) (begun_sends (second_op commit b.xid v) z.start a' second z.tells)
+
+    pub forget_sends : (s : Option Code) → IsAskedFor P (third_op b.xid s) → (z : IsEnded commit b v s a a')
+        → Sends P (asked z.start (second_op commit b.xid v) s) a'
+    forget_sends s third z =
+        let late : LedgerView = asked z.start (second_op commit b.xid v) s in
+        on P late z.told a' (other_sends b.xid late z.told others z.after) (begun_sends (third_op b.xid s) z.told a' third z.forgets)
+
+    ended_sends : (s : Option Code) → IsAskedFor P (third_op b.xid s) → IsEnded commit b v s a a' → Sends P (voted b v a) a'
+    ended_sends s third z =
+        let late : LedgerView = asked z.start (second_op commit b.xid v) s in
+        on P (voted b v a) z.start a' (other_sends b.xid (voted b v a) z.start others z.between) (on P z.start late a' (asked_sends P z.start (second_op commit b.xid v) s second) (forget_sends s third z))
+
+    pub told_voted : IsTold commit b v a a' → HasVoted P b v a a'
+    told_voted z = record { prepared = z.prepared; rest = told_sends z }
+
+    pub ended_voted : (s : Option Code) → IsAskedFor P (third_op b.xid s) → IsEnded commit b v s a a' → HasVoted P b v a a'
+    ended_voted s third z = record { prepared = z.prepared; rest = ended_sends s third z }
+
+-- ---- a vote that was collected
+
+pub shut_unless : (v : Code) (a : LedgerView) → (learnt_shut a ≡ true → v ≡ RmFail) → is_yes v ≡ true → learnt_shut a ≡ false
+shut_unless v a refused y =
+    elim (learnt_shut a) as (λ c. learnt_shut a ≡ c → c ≡ false) [
+      | true ↦ λ shut. let no : true ≡ false = sym y ∙ ap is_yes (refused shut) in cc
+      | false ↦ λ _. refl
+    ] refl
+
+pub first_is : (b : Branch) (v : Code) (a : LedgerView) → learnt_shut a ≡ false → voted b v a ≡ with_collected (with_sent a (Prepare b.xid)) (length a.sent) v
+first_is b v a open_ = at_false (learnt_shut a) _ _ open_
+
+-- its Prepare was sent, unless the manager is learnt to be shut
+pub prepare_sent : (P : Op → Type 0) (b : Branch) (v : Code) (a a' : LedgerView) → learnt_shut a ≡ false → (h : HasVoted P b v a a')
+    → a'.sent ≡ a.sent ++ Prepare b.xid ∷ h.rest.more
+prepare_sent P b v a a' open_ h =
+    h.rest.sent ∙ ap (λ (l : LedgerView). l.sent ++ h.rest.more) (first_is b v a open_) ∙ append_assoc a.sent (Prepare b.xid ∷ []) h.rest.more
+
+-- ---- all of them
+
+pub vote_map : (P Q : Branch → Code → Type 0) → ((b : Branch) (v : Code) → P b v → Q b v) → (bs : List Branch) (vs : List Code) → EachVote P bs vs
+    → EachVote Q bs vs
+vote_map P Q f [] [] h = tt
+vote_map P Q f (b ∷ bs) (v ∷ vs) h = (f b v h.0, vote_map P Q f bs vs h.1)
+vote_map P Q f bs vs h = absurd h
+
+pub branch_votes : (P : Branch → Code → Option Code → Ending → Type 0) (Q : Branch → Code → Type 0)
+    → ((b : Branch) (v : Code) (s : Option Code) (e : Ending) → P b v s e → Q b v)
+    → (bs : List Branch) (vs : List Code) (ss : List (Option Code)) (es : List Ending) → EachBranch P bs vs ss es → EachVote Q bs vs
+branch_votes P Q f [] [] [] [] h = tt
+branch_votes P Q f (b ∷ bs) (v ∷ vs) (s ∷ ss) (e ∷ es) h = (f b v s e h.0, branch_votes P Q f bs vs ss es h.1)
+branch_votes P Q f bs vs ss es h = absurd h
+
+-- whatever was sent
+abbrev pub Votes : List LedgerView → List LedgerView → Branch → Code → Type 0
+Votes old new b v = HasVoted Any b v (ledger old b.m) (ledger new b.m)
+
+told_votes : (commit : Bool) (old new : List LedgerView) (bs : List Branch) (vs : List Code)
+    → EachVote (λ b v. IsTold commit b v (ledger old b.m) (ledger new b.m)) bs vs → EachVote (Votes old new) bs vs
+told_votes commit old new =
+    vote_map (λ b v. IsTold commit b v (ledger old b.m) (ledger new b.m)) (Votes old new) (λ b v z. told_voted Any commit b v (ledger old b.m) (ledger new b.m) (λ op _. tt) (any_asked (second_op commit b.xid v)) z)
+
+abbrev pub Ended : Bool → List LedgerView → List LedgerView → Branch → Code → Option Code → Ending → Type 0
+Ended commit old new b v s e = IsEnded commit b v s (ledger old b.m) (ledger new b.m) × (e ≡ ending_of commit v s)
+
+pub any_voted : (commit : Bool) (b : Branch) (v : Code) (s : Option Code) (a a' : LedgerView) → IsEnded commit b v s a a' → HasVoted Any b v a a'
+any_voted commit b v s a a' = ended_voted Any commit b v a a' (λ op _. tt) (any_asked (second_op commit b.xid v)) s (any_asked (third_op b.xid s))
+
+ended_votes : (commit : Bool) (old new : List LedgerView) (bs : List Branch) (vs : List Code) (ss : List (Option Code)) (es : List Ending)
+    → EachBranch (Ended commit old new) bs vs ss es → EachVote (Votes old new) bs vs
+ended_votes commit old new = branch_votes (Ended commit old new) (Votes old new) (λ b v s e z. any_voted commit b v s (ledger old b.m) (ledger new b.m) z.0)
+
+-- ---- a commit that came to its end
+
+pub did_nothing : (x : XidName) (a : LedgerView) → DidOther x a a
+did_nothing x a = record { more = []; sent = sym (append-nil a.sent); others = All-nil (λ (op : Op). names x op ≡ false); collected = same_begins a.collected }
+
+-- what was asked at a branch of it
+pub ended_so : (commit : Bool) (b : Branch) (v : Code) (s : Option Code) (e : Ending) (a a' : LedgerView) → AtBranch AsksLedger commit b v s e a a'
+    → IsEnded commit b v s a a'
+ended_so commit b v s e a a' is =
+    let tr = trace_of commit b v s e a a' is in
+    let late : LedgerView = asked (voted b v a) (second_op commit b.xid v) s in
+    record {
+      prepared = tr.prepared;
+      start = voted b v a;
+      between = did_nothing b.xid (voted b v a);
+      seconded = tr.seconded;
+      told = late;
+      after = did_nothing b.xid late;
+      forgets = collected tr.third tr.forgotten;
+    }
+
+-- it is one that was cut short after it
+pub finished_law : (bs : List Branch) (desk : DeskView) (new : List LedgerView) (log later : LogState) (d : Done) → IsCommit bs desk new log later d
+    → IsCut bs desk new log later d.endings.items
+finished_law bs desk new log later d made = record {
+  may = made.may;
+  far = forgetting d.votes.items d.logged made.trace.course.seconds made.trace.course.logs (subst (λ c. EachBranch (Ended c desk.ledgers new) bs d.votes.items made.trace.course.seconds d.endings.items) made.trace.course.decision (each bs d.votes.items made.trace.course.seconds d.endings.items made.trace.course.each));
+  managers = made.trace.managers;
+}
+  where
+    each : (cs : List Branch) (vs : List Code) (ss : List (Option Code)) (es : List Ending)
+        → EachBranch (λ b v s e. AtBranch AsksLedger d.commit b v s e (ledger desk.ledgers b.m) (ledger new b.m)) cs vs ss es
+        → EachBranch (Ended d.commit desk.ledgers new) cs vs ss es
+    each [] [] [] [] h = tt
+    each (b ∷ cs) (v ∷ vs) (s ∷ ss) (e ∷ es) h = ((ended_so d.commit b v s e (ledger desk.ledgers b.m) (ledger new b.m) h.0, h.0.ends), each cs vs ss es h.1)
+    each cs vs ss es h = absurd h
+
+-- ---- where none may be to commit
+
+pub none_of : (P : Branch → Code → Type 0) (t : TranName) (m : ℕ) → ((b : Branch) (v : Code) → tran_of b.xid ≡ t → b.m ≡ m → P b v → is_yes v ≡ false)
+    → (bs : List Branch) (vs : List Code) → IsTranOf bs t → EachVote P bs vs → voted_yes m bs vs ≡ false
+none_of P t m against [] [] tran h = refl
+none_of P t m against (b ∷ bs) (v ∷ vs) tran h =
+    ap (λ q. q || voted_yes m bs vs)
+    (elim (b.m == m) as (λ c. (b.m == m) ≡ c → (c && is_yes v) ≡ false) [ true ↦ λ same. against b v tran.0 (eqb-true b.m m same) h.0 | false ↦ λ other. refl ] refl)
+    ∙ none_of P t m against bs vs tran.1 h.1
+none_of P t m against bs vs tran h = absurd h
+
+-- where the desk has learnt that the manager is shut
+pub none_shut : (old new : List LedgerView) (t : TranName) (m : ℕ) → learnt_shut (ledger old m) ≡ true → (bs : List Branch) (vs : List Code) → IsTranOf bs t
+    → EachVote (Votes old new) bs vs → voted_yes m bs vs ≡ false
+none_shut old new t m shut = none_of (Votes old new) t m (λ b v of_tran same h. ap is_yes (h.prepared (ap (λ k. learnt_shut (ledger old k)) same ∙ shut)))
+
+-- where nothing but resolves names the transaction
+module _ (o : Opening) (kept : IsKept o) (t : TranName) (only : OnlyResolves t o) (m : ℕ) (up : IsUpTo MOST_MANAGERS m) where
+  no_prepares : All (λ r. NamesTran t r.op → IsNoPrepare r.op) (history_of o.settled m)
+  no_prepares = named_so o.settled kept.settled m up IsNoPrepare t o.uses (λ y e. cc) kept.uses (λ q _ p _. no_prepare q.records m p) (only m)
+
+  no_vote : (u : ℕ) (old new : List LedgerView) → HaveGrown new (ledgers_of o.settled u) → (b : Branch) (v : Code) → tran_of b.xid ≡ t → b.m ≡ m
+      → Votes old new b v → is_yes v ≡ false
+  no_vote u old new grown b v of_tran same h =
+      elim (is_yes v) as (λ y. is_yes v ≡ y → y ≡ false) [
+        | false ↦ λ _. refl
+        | true ↦ λ y.
+            let mine : HasVoted Any b v (ledger old m) (ledger new m) = subst (λ k. HasVoted Any b v (ledger old k) (ledger new k)) same h in
+            let open_ : learnt_shut (ledger old m) ≡ false = shut_unless v (ledger old m) mine.prepared y in
+            let at =
+            prepare_part o.settled kept.settled m up.0 u b.xid (ledger old m) (ledger new m) (grown.each m up.0) mine.rest.more (prepare_sent Any b v (ledger old m) (ledger new m) open_ mine) in
+            absurd (all_mid (λ (r : Request). NamesTran t r.op → IsNoPrepare r.op) at.1.before at.1.after (request_of u (0 + length (ledger old m).sent) (Prepare b.xid)) (subst (All (λ (r : Request). NamesTran t r.op → IsNoPrepare r.op)) at.1.place no_prepares) of_tran b.xid refl)
+      ] refl
+
+  pub none_resolved : (u : ℕ) (old new : List LedgerView) → HaveGrown new (ledgers_of o.settled u) → (bs : List Branch) (vs : List Code) → IsTranOf bs t
+      → EachVote (Votes old new) bs vs → voted_yes m bs vs ≡ false
+  none_resolved u old new grown = none_of (Votes old new) t m (no_vote u old new grown)
+
+-- ---- what it leaves in the log
+
+-- a mark of the transaction stays, where its votes make none
+pub cut_keeps : (mark : Bool) (t : TranName) (m : ℕ) → IsUpTo MOST_MANAGERS m
+    → (bs : List Branch) (desk : DeskView) (new : List LedgerView) (log later : LogState) (es : List Ending) (c : IsCut bs desk new log later es)
+    → ((vs : List Code) → EachVote (Votes desk.ledgers new) bs vs → c.may.tran ≡ t → mark ≡ false → voted_yes m bs vs ≡ false)
+    → is_marked log.records t m ≡ mark → is_marked later.records t m ≡ mark
+cut_keeps mark t m up bs desk new log later es c quiet e = so_far c.far
+  where
+    so_far : CameSoFar c.may.tran bs desk.ledgers new log later es → is_marked later.records t m ≡ mark
+    so_far (asking same none each) = ap (λ (l : LogState). is_marked l.records t m) same ∙ e
+    so_far (telling votes logged logs none each) =
+        logs_keep mark t m up bs votes logged log later c.may.tran c.may.absent (quiet votes (told_votes (decision_of votes logged) desk.ledgers new bs votes each)) e logs
+    so_far (forgetting votes logged seconds logs each) =
+        logs_keep mark t m up bs votes logged log later c.may.tran c.may.absent (quiet votes (ended_votes (decision_of votes logged) desk.ledgers new bs votes seconds es each)) e logs

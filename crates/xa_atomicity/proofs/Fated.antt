@@ -1,0 +1,403 @@
+-- What became of a branch that nobody else named, but for heuristic decisions, over the settled history of its manager.
+use Rattle.std.specs.Prelude.{◌⊎◌}
+use Rattle.std.proofs.Common.{◌≡◌, ◌≢◌, ℕ, suc, ◌+◌, ◌<◌, inl, inr, Bool, true, false, ◌||◌, if◌then◌else◌, List, [], ◌∷◌, ◌++◌, length, append-nil}
+use Rattle.std.proofs.Common.{append_assoc, get_or, sym, refl, ap, ◌∙◌, subst, arith, Option, Some, None}
+use Rattle.std.specs.List.{All, cons_option}
+use Rattle.xa_words.specs.Xid.{XidName, xid_eq}
+use Rattle.xa_words.specs.declared.code.Code.{Code}
+use Rattle.xa_words.specs.declared.code.Code.TheVariants.{Done, RbIntegrity, HeurRb, HeurCom, RmFail}
+use Rattle.xa_words.specs.declared.request.Op.{Op}
+use Rattle.xa_words.specs.declared.request.Op.TheVariants.{Prepare, Commit, Rollback, Heur}
+use Rattle.xa_words.specs.declared.request.Request.{Request}
+use Rattle.xa_words.proofs.Xids.{xid_self}
+use Rattle.xa_tables.specs.declared.state.HeuristicDecision.{HeuristicDecision}
+use Rattle.xa_tables.specs.declared.state.HeuristicDecision.TheVariants as decision
+use Rattle.xa_tables.specs.Tables.{Tables, is_S3, is_prepared}
+use Rattle.xa_tables.specs.Reasons.{decision_code}
+use Rattle.xa_tables.specs.Next.{next}
+use Rattle.xa_tables.proofs.Unnamed.{tables_after-append, unnamed_fate}
+use Rattle.xa_tables.specs.History as history
+use Rattle.xa_tables.specs.History.{History, Fate, fate, fate_in, fate_of, coded, tables_after, last_or, is_done, is_rolled_back, is_in_doubt as is_unknown}
+use Rattle.xa_tables.specs.History.{prepare_fate, decided_fate, heur_fate, IsFateOf}
+use Rattle.xa_tables.specs.Prepared.{names, OnlyDecides, LeavesWaiting, AwaitsTheOutcome, AwaitsAfter, IsTold, closes, is_heur, is_forget, answer_when}
+use Rattle.xa_tables.specs.Prepared.{fates_when}
+use Rattle.xa_desk.specs.LedgerView.{is_rm_fail}
+use Rattle.xa_base.proofs.Truth.{by_if, at_true}
+use Rattle.xa_base.proofs.Lists.{all_left, all_after, some_same}
+use Rattle.xa_driver.specs.declared.branch.Branch.{Branch}
+use Rattle.xa_driver.specs.declared.done.Ending.{Ending}
+use Rattle.xa_driver.specs.declared.done.Ending.TheVariants.{Committed, ReadOnly, RolledBack, InDoubt, Heuristic, Left}
+use Rattle.xa_driver.specs.Decision.{is_yes, is_read}
+use Rattle.xa_driver.specs.Endings.{yes_ending, no_ending, is_heuristic as is_heuristic_code}
+use Rattle.xa_driver.specs.Course.{AtBranch}
+use Rattle.xa_atomicity.specs.Outcomes.{IsBetween, OnlyTheseOrDecisionsName, IsAfterShut, IsDecidedAfter, told_fate, is_left, is_in_doubt, is_heuristic}
+use Rattle.xa_atomicity.proofs.Placing.{request_of, fates, fates_both, fate_is, last_both}
+use Rattle.xa_atomicity.proofs.Requests.{closes_other}
+use Rattle.xa_atomicity.proofs.Courses.{yes_is, read_is, Sends, SendsOne, Course, Unreached, Reads, Breaks, Stays, Agrees, Refuses, course_of, rest_forgets}
+use Rattle.xa_atomicity.proofs.Sites.{Site, Sent, AsksIn, At, above, Second, second_of}
+
+-- ---- who may name the branch
+
+-- A request after thread t's number n, which may be a heuristic decision; else it names the branch only as one of t's own, up
+-- to before number `last`.
+abbrev pub IsAllowed : ℕ → XidName → ℕ → ℕ → Request → Type 0
+IsAllowed t x n last q = names x q.op ≡ true → is_heur q.op ≡ false → IsBetween t n last q
+
+-- others name it only in heuristic decisions, and close nothing for the thread
+pub leaves_waiting : (t : ℕ) (x : XidName) (n last : ℕ) (mid : History) (S : Request) (rest : History) → All (IsAllowed t x n last) (mid ++ S ∷ rest)
+    → ((k : ℕ) (d : Request) → k < length mid → (get_or mid k d).thread ≢ t) → LeavesWaiting t x mid
+leaves_waiting t x n last mid S rest allowed others k d lt =
+    let differs = others k d lt in (
+      λ named.
+          elim (is_heur (get_or mid k d).op) as (λ b. is_heur (get_or mid k d).op ≡ b → b ≡ true) [
+            | true ↦ λ h. refl
+            | false ↦ λ h. absurd (differs (all_left (IsAllowed t x n last) mid (S ∷ rest) allowed k d lt named h).thread)
+          ] refl,
+      closes_other t (get_or mid k d) differs,
+    )
+
+-- where what the thread itself still sends of it are Forgets, the rest only decides it
+pub only_decides : (t : ℕ) (x : XidName) (n last : ℕ) (mid : History) (S : Request) (rest : History) → All (IsAllowed t x n last) (mid ++ S ∷ rest)
+    → ((k : ℕ) (d : Request) → k < length rest → (get_or rest k d).thread ≡ t → (get_or rest k d).number < last → is_forget (get_or rest k d).op ≡ true)
+    → OnlyDecides x rest
+only_decides t x n last mid S rest allowed forgets k d lt named =
+    elim (is_heur (get_or rest k d).op) as (λ b. is_heur (get_or rest k d).op ≡ b → (b || is_forget (get_or rest k d).op) ≡ true) [
+      | true ↦ λ h. refl
+      | false ↦ λ h. let between = all_after (IsAllowed t x n last) mid S rest allowed k d lt named h in forgets k d lt between.thread between.below
+    ] refl
+
+-- ---- decisions that were carried out
+
+-- the request that makes the one fate of a history
+record Found (x : XidName) (f : Fate) (g : History) (T : Tables) : Type 0 where
+  before : History
+  request : Request
+  after : History
+  place : g ≡ before ++ request ∷ after
+  fate_here : fate_of x request.op (next request.thread request.op (tables_after before T)).1 ≡ Some f
+
+found : (x : XidName) (f : Fate) (g : History) (T : Tables) → fates x g T ≡ f ∷ [] → Found x f g T
+found x f [] T e = cc
+found x f (r ∷ g) T e =
+    let T1 : Tables = (next r.thread r.op T).0 in
+    elim (fate_of x r.op (next r.thread r.op T).1) as (λ o. fate_of x r.op (next r.thread r.op T).1 ≡ o → cons_option o (fates x g T1) ≡ f ∷ [] → Found x f (r ∷ g) T) [
+      | None ↦ λ none e.
+          let on = found x f g T1 e in
+          record { before = r ∷ on.before; request = on.request; after = on.after; place = ap (λ l. r ∷ l) on.place; fate_here = on.fate_here }
+      | Some h ↦ λ is e.
+          let same : h ≡ f = cc in
+          record { before = []; request = r; after = g; place = refl; fate_here = is ∙ ap Some same }
+    ] refl e
+
+-- a request that makes something of the branch names it
+named_by : (x : XidName) (op : Op) (c : Code) (f : Fate) → fate_of x op c ≡ Some f → names x op ≡ true
+named_by x op c f is =
+    elim (names x op) as (λ b. names x op ≡ b → b ≡ true) [
+      | true ↦ λ n. refl
+      | false ↦ λ n. let z : None ≡ Some f = sym (unnamed_fate x op c n) ∙ is in cc
+    ] refl
+
+-- a heuristic decision that makes something of it was carried out
+carried_out_by : (x : XidName) (op : Op) (c : Code) (f : Fate) → is_heur op ≡ true → fate_of x op c ≡ Some f → c ≡ Done
+carried_out_by x (Heur y commits) c f h is = heur_done (xid_eq y x) c is
+  where
+    heur_done : (b : Bool) (c : Code) → (if b then heur_fate commits c else None) ≡ Some f → c ≡ Done
+    heur_done true Done e = refl
+    heur_done true c e = cc
+    heur_done false c e = cc
+carried_out_by x op c f h is = cc
+
+-- ---- what became of a branch
+
+-- by its manager's history
+pub record Told (t : ℕ) (x : XidName) (f0 : Fate) (T : Tables) (H : History) (n : ℕ) (vote : Code) (e : Ending) : Type 0 where
+  pub reached : is_yes vote ≡ true → is_left e ≡ false
+  pub shut : is_yes vote ≡ true → is_in_doubt e ≡ true → IsAfterShut t (n + 1) H
+  pub decided : is_yes vote ≡ true → is_heuristic e ≡ true → IsDecidedAfter x t n T H
+  pub named : is_yes vote ≡ true → is_heuristic e ≡ true → (d : HeuristicDecision) × (told_fate e ≡ Some (decided_fate d))
+  pub told : (f : Fate) → told_fate e ≡ Some f → fate x f0 H T ≡ f
+  pub doubt : is_in_doubt e ≡ true
+      → (fate x f0 H T ≡ history.InDoubt) ⊎ ((d : HeuristicDecision) × ((fate x f0 H T ≡ decided_fate d) × IsDecidedAfter x t n T H))
+
+module _ {t : ℕ} {T : Tables} {H : History} (site : Site t T H) (x : XidName) (f0 : Fate) (fits : IsFateOf x f0 T) (n last : ℕ) (vote : Code)
+    (only : OnlyTheseOrDecisionsName x t n last H) where
+  abbrev Goal : Ending → Type 0
+  Goal e = Told t x f0 T H n vote e
+
+  abbrev P : Op
+  P = Prepare x
+
+  -- a request that gave the branch a fate by which it isn't prepared left it so
+  ended : (before after : History) (r : Request) (f : Fate) → H ≡ before ++ r ∷ after → fate_of x r.op (next r.thread r.op (tables_after before T)).1 ≡ Some f
+      → is_unknown f ≡ false → OnlyDecides x after → fate x f0 H T ≡ f
+  ended before after r f place e known only_after =
+      let there : Tables = (next r.thread r.op (tables_after before T)).0 in
+      let so_far : fate x f0 (before ++ r ∷ []) T ≡ f = site.law.leaves (before ++ r ∷ []) x f0 T ∙ fate_is x before [] r T f0 f e refl in
+      let unprepared : is_prepared there x ≡ false =
+      ap (λ (U : Tables). is_prepared U x) (sym (tables_after-append before (r ∷ []) T)) ∙ (site.law.kept (before ++ r ∷ []) x f0 T site.opening fits).prepared
+      ∙ ap is_unknown so_far ∙ known in
+      site.law.leaves H x f0 T ∙ ap (λ (h : History). fate_in x f0 (coded h T)) place
+      ∙ fate_is x before after r T f0 f e (site.law.undecided after x there unprepared only_after)
+
+  -- a vote that doesn't agree, and an ending that tells nothing, or what became of it
+  no_vote : (e : Ending) → is_yes vote ≡ false → is_in_doubt e ≡ false → ((f : Fate) → told_fate e ≡ Some f → fate x f0 H T ≡ f) → Goal e
+  no_vote e y sure told = record {
+    reached = λ agreed. let z : true ≡ false = sym agreed ∙ y in cc;
+    shut = λ agreed d. let z : true ≡ false = sym agreed ∙ y in cc;
+    decided = λ agreed d. let z : true ≡ false = sym agreed ∙ y in cc;
+    named = λ agreed d. let z : true ≡ false = sym agreed ∙ y in cc;
+    told = told;
+    doubt = λ d. let z : true ≡ false = sym d ∙ sure in cc;
+  }
+
+  -- ---- the Prepare alone was sent
+
+  module _ (z : SendsOne site x n last vote) where
+    abbrev alone : At site n P vote
+    alone = z.first
+
+    decides_after : OnlyDecides x alone.after
+    decides_after k d lt named =
+        elim (is_heur (get_or alone.after k d).op) as (λ b. is_heur (get_or alone.after k d).op ≡ b → (b || is_forget (get_or alone.after k d).op) ≡ true) [
+          | true ↦ λ h. refl
+          | false ↦ λ h.
+              let between : IsBetween t n last (get_or alone.after k d) =
+              only alone.before alone.after (request_of t n P) alone.place refl refl k d lt named h in
+              let up = above site n P alone.before alone.after alone.sides k d lt between.thread in
+              let down = between.below in
+              let limit = z.limit in
+              absurd (omega (arith, up, down, limit))
+        ] refl
+
+    -- the vote tells what became of it
+    voted_so : (e : Ending) (f : Fate) → is_yes vote ≡ false → is_in_doubt e ≡ false → told_fate e ≡ Some f → prepare_fate vote ≡ Some f → is_unknown f ≡ false
+        → Goal e
+    voted_so e f y sure named makes known =
+        let own : fate_of x P (next t P (tables_after alone.before T)).1 ≡ Some f =
+        ap (fate_of x P) (sym alone.code) ∙ at_true (xid_eq x x) _ None (xid_self x) ∙ makes in
+        no_vote e y sure (λ g is. ended alone.before alone.after (request_of t n P) f alone.place own known decides_after ∙ (let s : Some f ≡ Some g = sym named ∙ is in cc))
+
+    broken_code : is_rolled_back vote ≡ true → vote ≡ RbIntegrity
+    broken_code back = alone.code ∙ site.law.breaks t x (tables_after alone.before T) (sym (ap is_rolled_back alone.code) ∙ back)
+
+  -- ---- a second request was sent
+
+  module _ (op : Op) (c : Code) (z : Sends site x n last vote op c) where
+    abbrev f : At site n P vote
+    f = z.first
+
+    abbrev s : Second site n P vote f op c
+    s = second_of site n P vote f op c z.second
+
+    abbrev S : Request
+    S = request_of t (suc n) op
+
+    abbrev now : Tables
+    now = (next t P (tables_after f.before T)).0
+
+    abbrev there : Tables
+    there = tables_after s.mid now
+
+    abbrev all_before : History
+    all_before = f.before ++ request_of t n P ∷ s.mid
+
+    allowed : All (IsAllowed t x n last) (s.mid ++ S ∷ s.rest)
+    allowed = subst (All (IsAllowed t x n last)) s.split (only f.before f.after (request_of t n P) f.place refl refl)
+
+    waiting : LeavesWaiting t x s.mid
+    waiting = leaves_waiting t x n last s.mid S s.rest allowed s.others
+
+    decides_rest : OnlyDecides x s.rest
+    decides_rest = only_decides t x n last s.mid S s.rest allowed (rest_forgets site x n last vote op c z f s)
+
+    code_there : c ≡ (next t op (tables_after all_before T)).1
+    code_there = s.code ∙ ap (λ (U : Tables). (next t op U).1) (sym s.there_is)
+
+    -- the second request ended it
+    ended_by : (g : Fate) → fate_of x op c ≡ Some g → is_unknown g ≡ false → fate x f0 H T ≡ g
+    ended_by g makes known = ended all_before s.rest S g s.place (ap (fate_of x op) (sym code_there) ∙ makes) known decides_rest
+
+    -- it was told a decision
+    told_by : (d : HeuristicDecision) → fate_of x op c ≡ None → IsTold x d (tables_after all_before T) (next t op (tables_after all_before T))
+        → fate x f0 H T ≡ decided_fate d
+    told_by d none is =
+        let U : Tables = tables_after all_before T in
+        let unprepared : is_prepared (next t op U).0 x ≡ false = ap (λ (V : Tables). is_prepared V x) is.unchanged ∙ ap is_S3 is.state in
+        let quiet : fates x (S ∷ s.rest) U ≡ [] =
+        λ i. cons_option ((ap (fate_of x op) (sym code_there) ∙ none) i) (site.law.undecided s.rest x (next t op U).0 unprepared decides_rest i) in
+        site.law.leaves H x f0 T ∙ ap (λ (h : History). fate_in x f0 (coded h T)) s.place
+        ∙ ap (last_or f0) (fates_both x all_before (S ∷ s.rest) T ∙ ap (λ l. fates x all_before T ++ l) quiet ∙ append-nil (fates x all_before T))
+        ∙ sym (site.law.leaves all_before x f0 T) ∙ (site.law.kept all_before x f0 T site.opening fits).decided d is.state
+
+    -- ---- after a yes vote
+
+    module _ (agreed : vote ≡ Done) where
+      w : AwaitsAfter t x s.mid now
+      w = site.law.awaits f.before s.mid t x T site.opening (sym f.code ∙ agreed) waiting
+
+      -- a decision of it was carried out between the two
+      decided_between : (d : HeuristicDecision) → fates x s.mid now ≡ decided_fate d ∷ [] → IsDecidedAfter x t n T H
+      decided_between d made =
+          let p = found x (decided_fate d) s.mid now made in
+          let named : names x p.request.op ≡ true = named_by x p.request.op _ (decided_fate d) p.fate_here in
+          let heur : is_heur p.request.op ≡ true = (mid_of p.before p.request p.after (subst (LeavesWaiting t x) p.place waiting)).0 named in
+          record {
+            before = f.before;
+            request = request_of t n P;
+            between = p.before;
+            decision = p.request;
+            after = p.after ++ S ∷ s.rest;
+            place = f.place
+                ∙ ap (λ l. f.before ++ request_of t n P ∷ l) (s.split ∙ ap (λ l. l ++ S ∷ s.rest) p.place ∙ append_assoc p.before (p.request ∷ p.after) (S ∷ s.rest));
+            thread = refl;
+            number = refl;
+            named = named;
+            decides = heur;
+            carried_out = ap (λ (U : Tables). (next p.request.thread p.request.op U).1) (tables_after-append f.before (request_of t n P ∷ p.before) T)
+                ∙ carried_out_by x p.request.op (next p.request.thread p.request.op (tables_after p.before now)).1 (decided_fate d) heur p.fate_here;
+          }
+        where
+          mid_of : (before : History) (r : Request) (after : History) → LeavesWaiting t x (before ++ r ∷ after)
+              → (names x r.op ≡ true → is_heur r.op ≡ true) × (closes t r ≡ false)
+          mid_of [] r after all = all 0 r (omega arith)
+          mid_of (q ∷ before) r after all = mid_of before r after (λ k d lt. all (suc k) d (omega arith))
+
+      -- the manager is shut at its second request, and what became of it since its Prepare is all
+      at_shut : there.shut ≡ true → fates x f.after now ≡ fates_when w.decision
+      at_shut closed =
+          ap (λ (h : History). fates x h now) s.split ∙ fates_both x s.mid (S ∷ s.rest) now
+          ∙ (λ i. w.fates i ++ site.law.silent (S ∷ s.rest) x there closed i) ∙ append-nil (fates_when w.decision)
+
+      after_shut : there.shut ≡ true → IsAfterShut t (n + 1) H
+      after_shut e = record {
+        before = all_before;
+        after = s.rest;
+        request = S;
+        place = s.place;
+        thread = refl;
+        number = let q : suc n ≡ n + 1 = omega arith in q;
+        shut = sym (site.law.shuts all_before T site.opening) ∙ ap (λ (U : Tables). U.shut) s.there_is ∙ e;
+      }
+
+      first_fate : (fs : List Fate) → fates x f.after now ≡ fs → fate x f0 H T ≡ last_or history.InDoubt fs
+      first_fate fs made =
+          let own : fate_of x P (next t P (tables_after f.before T)).1 ≡ Some history.InDoubt =
+          ap (fate_of x P) (sym f.code ∙ agreed) ∙ at_true (xid_eq x x) _ None (xid_self x) in
+          site.law.leaves H x f0 T ∙ ap (λ (h : History). fate_in x f0 (coded h T)) f.place
+          ∙ ap (last_or f0) (fates_both x f.before (request_of t n P ∷ f.after) T ∙ (λ i. fates x f.before T ++ cons_option (own i) (made i)))
+          ∙ last_both f0 (fates x f.before T) (history.InDoubt ∷ fs)
+
+      in_doubt : there.shut ≡ true
+          → (fate x f0 H T ≡ history.InDoubt) ⊎ ((d : HeuristicDecision) × ((fate x f0 H T ≡ decided_fate d) × IsDecidedAfter x t n T H))
+      in_doubt closed =
+          let fs = at_shut closed in
+          elim (w.decision) as (λ o. fates x s.mid now ≡ fates_when o → fates x f.after now ≡ fates_when o → (fate x f0 H T ≡ history.InDoubt) ⊎ ((d : HeuristicDecision) × ((fate x f0 H T ≡ decided_fate d) × IsDecidedAfter x t n T H))) [
+            | None ↦ λ made all. inl (first_fate [] all)
+            | Some d ↦ λ made all. inr (d, (first_fate (decided_fate d ∷ []) all, decided_between d made))
+          ] w.fates fs
+
+      abbrev Ends : Ending → Code → Ending
+      Ends e d = if is_done d then e else (if is_rm_fail d then InDoubt else (if is_heuristic_code d then Heuristic d else Left d))
+
+      -- what a prepared branch comes to, by the decision
+      outcome : (e : Ending) (g : Fate) → is_in_doubt e ≡ false → is_left e ≡ false → is_heuristic e ≡ false → told_fate e ≡ Some g → is_unknown g ≡ false
+          → fate_of x op Done ≡ Some g
+          → ((d : HeuristicDecision) → fate_of x op (decision_code d) ≡ None)
+          → ((o : Option HeuristicDecision) (U : Tables) → AwaitsTheOutcome t x o U → (next t op U).1 ≡ (if U.shut then RmFail else answer_when o))
+          → ((d : HeuristicDecision) (U : Tables) → (next t op U).1 ≡ decision_code d → IsTold x d U (next t op U)) → Goal (Ends e c)
+      outcome e g sure reached plain named known by_done by_decision answers_so tells =
+          let code : c ≡ (if there.shut then RmFail else answer_when w.decision) = s.code ∙ answers_so w.decision there w.awaits in
+          elim (there.shut) as (λ l. there.shut ≡ l → c ≡ (if l then RmFail else answer_when w.decision) → Goal (Ends e c)) [
+            | true ↦ λ closed is.
+                subst (λ (d : Code). Goal (Ends e d)) (sym is)
+                (record { reached = λ _. refl; shut = λ _ _. after_shut closed; decided = λ _ h. cc; named = λ _ h. cc; told = λ h i. cc; doubt = λ _. in_doubt closed })
+            | false ↦ λ opened is. by_answer w.decision w.fates is
+          ] refl code
+        where
+          done_goal : c ≡ Done → Goal (Ends e c)
+          done_goal is =
+              subst (λ (d : Code). Goal (Ends e d)) (sym is) (record {
+                reached = λ _. reached;
+                shut = λ _ d. let q : true ≡ false = sym d ∙ sure in cc;
+                decided = λ _ d. let q : true ≡ false = sym d ∙ plain in cc;
+                named = λ _ d. let q : true ≡ false = sym d ∙ plain in cc;
+                told = λ h i. ended_by g (ap (fate_of x op) is ∙ by_done) known ∙ (let q : Some g ≡ Some h = sym named ∙ i in cc);
+                doubt = λ d. let q : true ≡ false = sym d ∙ sure in cc;
+              })
+
+          named_it : (d : HeuristicDecision) → told_fate (Heuristic (decision_code d)) ≡ Some (decided_fate d)
+          named_it decision.Commit = refl
+          named_it decision.Rollback = refl
+
+          decided_goal : (d : HeuristicDecision) → fates x s.mid now ≡ decided_fate d ∷ [] → c ≡ decision_code d → Goal (Heuristic (decision_code d))
+          decided_goal d made is =
+              let fate_is_so : fate x f0 H T ≡ decided_fate d =
+              told_by d (ap (fate_of x op) is ∙ by_decision d) (tells d (tables_after all_before T) (sym code_there ∙ is)) in
+              record {
+                reached = λ _. refl;
+                shut = λ _ q. cc;
+                decided = λ _ _. decided_between d made;
+                named = λ _ _. (d, named_it d);
+                told = λ h i. fate_is_so ∙ some_same (decided_fate d) h (sym (named_it d) ∙ i);
+                doubt = λ q. cc;
+              }
+
+          by_answer : (o : Option HeuristicDecision) → fates x s.mid now ≡ fates_when o → c ≡ answer_when o → Goal (Ends e c)
+          by_answer None made is = done_goal is
+          by_answer (Some decision.Commit) made is = subst (λ (d : Code). Goal (Ends e d)) (sym is) (decided_goal decision.Commit made is)
+          by_answer (Some decision.Rollback) made is = subst (λ (d : Code). Goal (Ends e d)) (sym is) (decided_goal decision.Rollback made is)
+
+  -- ---- after a vote against
+
+  commit_quiet : (d : HeuristicDecision) → fate_of x (Commit x false) (decision_code d) ≡ None
+  commit_quiet decision.Commit = at_true (xid_eq x x) _ None (xid_self x)
+  commit_quiet decision.Rollback = at_true (xid_eq x x) _ None (xid_self x)
+
+  rollback_quiet : (d : HeuristicDecision) → fate_of x (Rollback x) (decision_code d) ≡ None
+  rollback_quiet decision.Commit = at_true (xid_eq x x) _ None (xid_self x)
+  rollback_quiet decision.Rollback = at_true (xid_eq x x) _ None (xid_self x)
+
+  refused : (c : Code) → is_yes vote ≡ false → Sends site x n last vote (Rollback x) c → Goal (no_ending vote (Some c))
+  refused c y z =
+      by_if Goal (is_done c || is_rolled_back c) RolledBack _ (λ back.
+      no_vote RolledBack y refl (λ g is. ended_by (Rollback x) c z history.RolledBack (at_true (xid_eq x x) _ None (xid_self x) ∙ at_true (is_done c || is_rolled_back c) _ None back) refl ∙ (let q : Some history.RolledBack ≡ Some g = is in cc))) (λ _.
+      by_if Goal (is_heuristic_code c) (Heuristic c) (Left c) (λ _. no_vote (Heuristic c) y refl (heuristic_told c z)) (λ _. no_vote (Left c) y refl (λ g is. cc)))
+    where
+      told_with : (d : HeuristicDecision) (c : Code) → c ≡ decision_code d → Sends site x n last vote (Rollback x) c → fate x f0 H T ≡ decided_fate d
+      told_with d c is z =
+          told_by (Rollback x) c z d (ap (fate_of x (Rollback x)) is ∙ rollback_quiet d) (site.law.rollback_tells t x d _ (sym (code_there (Rollback x) c z) ∙ is))
+
+      heuristic_told : (c : Code) → Sends site x n last vote (Rollback x) c → (g : Fate) → told_fate (Heuristic c) ≡ Some g → fate x f0 H T ≡ g
+      heuristic_told HeurCom z g is = told_with decision.Commit HeurCom refl z ∙ (let q : Some history.HeurCommitted ≡ Some g = is in cc)
+      heuristic_told HeurRb z g is = told_with decision.Rollback HeurRb refl z ∙ (let q : Some history.HeurRolledBack ≡ Some g = is in cc)
+      heuristic_told c z g is = cc
+
+-- what became of a branch of a commit that nobody else named, but for heuristic decisions
+pub branch_told : {t : ℕ} {T : Tables} {H : History} (site : Site t T H) (b : Branch) (commit : Bool) (vote : Code) (second : Option Code) (ending : Ending) (old new : Sent)
+    → AtBranch (AsksIn t T H) commit b vote second ending old new
+    → (f0 : Fate) → IsFateOf b.xid f0 T → OnlyTheseOrDecisionsName b.xid t old.number new.number H → Told t b.xid f0 T H old.number vote ending
+branch_told {t} {T} {H} site b commit vote second ending old new is f0 fits only = by_course ending (course_of site b commit vote second ending old new is)
+  where
+    read_not : is_read vote ≡ true → is_yes vote ≡ false
+    read_not r = ap is_yes (read_is vote r)
+
+    by_decision : (commit : Bool) (c : Code) → is_yes vote ≡ true
+        → Sends site b.xid old.number new.number vote (if commit then Commit b.xid false else Rollback b.xid) c
+        → Told t b.xid f0 T H old.number vote (yes_ending commit (Some c))
+    by_decision true c y z =
+        outcome site b.xid f0 fits old.number new.number vote only (Commit b.xid false) c z (yes_is vote y) Committed history.Committed refl refl refl refl refl (at_true (xid_eq b.xid b.xid) _ None (xid_self b.xid))
+        (commit_quiet site b.xid f0 fits old.number new.number vote only) (λ o U h. h.commits) (λ d U. site.law.commit_tells t b.xid d U)
+    by_decision false c y z =
+        outcome site b.xid f0 fits old.number new.number vote only (Rollback b.xid) c z (yes_is vote y) RolledBack history.RolledBack refl refl refl refl refl (at_true (xid_eq b.xid b.xid) _ None (xid_self b.xid))
+        (rollback_quiet site b.xid f0 fits old.number new.number vote only) (λ o U h. h.rolls_back) (λ d U. site.law.rollback_tells t b.xid d U)
+
+    by_course : (e : Ending) → Course site b.xid old.number new.number vote commit e → Told t b.xid f0 T H old.number vote e
+    by_course _ (Unreached same code) = no_vote site b.xid f0 fits old.number new.number vote only (Left RmFail) (ap is_yes code) refl (λ f e. cc)
+    by_course _ (Reads r z) =
+        voted_so site b.xid f0 fits old.number new.number vote only z ReadOnly history.ReadOnly (read_not r) refl refl (ap prepare_fate (read_is vote r)) refl
+    by_course _ (Breaks k z) =
+        let code : vote ≡ RbIntegrity = broken_code site b.xid f0 fits old.number new.number vote only z k in
+        voted_so site b.xid f0 fits old.number new.number vote only z RolledBack history.RolledBack (ap is_yes code) refl refl (ap prepare_fate code) refl
+    by_course _ (Stays c y z) = no_vote site b.xid f0 fits old.number new.number vote only (Left c) y refl (λ f e. cc)
+    by_course _ (Agrees c y z) = by_decision commit c y z
+    by_course _ (Refuses c y r z) = refused site b.xid f0 fits old.number new.number vote only c y z

@@ -1,0 +1,229 @@
+-- What a branch that voted to commit stands at, where requests that lead it and heuristic decisions name it.
+use Rattle.std.specs.Prelude.{unwrap_or, ◌⊎◌}
+use Rattle.std.proofs.Common.{◌≡◌, ℕ, inl, inr, ⊎_elim, Bool, true, false, if◌then◌else◌, List, [], ◌∷◌, ◌++◌, sym, refl, ap, ◌∙◌, subst, arith, Option, Some}
+use Rattle.std.proofs.Common.{None}
+use Rattle.std.specs.List.{All, cons_option}
+use Rattle.std.proofs.lemmas.List.Elements.{All-head, All-tail}
+use Rattle.xa_base.proofs.Truth.{at_true}
+use Rattle.xa_words.specs.Xid.{XidName, xid_eq}
+use Rattle.xa_words.specs.declared.code.Code.TheVariants.{Done}
+use Rattle.xa_words.specs.declared.request.Op.{Op}
+use Rattle.xa_words.specs.declared.request.Op.TheVariants.{Prepare, Commit, Rollback, Forget}
+use Rattle.xa_words.specs.declared.request.Request.{Request}
+use Rattle.xa_words.proofs.Xids.{xid_self}
+use Rattle.xa_tables.specs.declared.state.State.{State}
+use Rattle.xa_tables.specs.declared.state.State.TheVariants.{Prepared, HeuristicallyCompleted}
+use Rattle.xa_tables.specs.declared.state.HeuristicDecision.{HeuristicDecision}
+use Rattle.xa_tables.specs.declared.state.HeuristicDecision.TheVariants as decision
+use Rattle.xa_tables.specs.Tables.{Tables, state_of, is_S3, is_prepared}
+use Rattle.xa_tables.specs.Next.{Answer, next}
+use Rattle.xa_tables.specs.History as history
+use Rattle.xa_tables.specs.History.{History, Fate, fate, fate_of, tables_after, last_or, decided_fate, is_in_doubt as is_unknown}
+use Rattle.xa_tables.specs.Openings.{IsOpening}
+use Rattle.xa_tables.specs.Prepared.{names, is_heur, AwaitsAfter, fates_when, state_when}
+use Rattle.xa_tables.proofs.HeuristicLaw.{Decides, Nothing, Completes, decides}
+use Rattle.xa_tables.proofs.Law.{Sound, sound_after, run_sound, opening_sound, last_more}
+use Rattle.xa_tables.proofs.Unnamed.{tables_after-append, unnamed_fate}
+use Rattle.xa_atomicity.specs.Resolution.{ended_as}
+use Rattle.xa_atomicity.specs.Tabled.{Tabled}
+use Rattle.xa_atomicity.proofs.EndsByFate.{decided_apart}
+use Rattle.xa_atomicity.proofs.Leading.{Stands, waits, unforgotten, over, Leads, Led, Standing, step_led, IsTowards}
+use Rattle.xa_atomicity.proofs.Placing.{request_of, fates, fates_both, last_both}
+use Rattle.xa_atomicity.proofs.Voting.{once, ended_known}
+
+-- what the branch may be named in: a heuristic decision, or what leads it
+abbrev pub IsGuided : Bool → Type 0 → XidName → Op → Type 0
+IsGuided commit L x op = names x op ≡ true → is_heur op ≡ false → Leads commit L op
+
+-- what such a request leaves of it: it stands so, and nothing was made of it, or it is known what
+pub record IsGuidedTo (commit : Bool) (D L : Type 0) (x : XidName) (f : Fate) (op : Op) (a : Answer) : Type 0 where
+  pub stands : Stands commit true D L (state_of a.0 x) (unwrap_or (fate_of x op a.1) f)
+  pub makes : (fate_of x op a.1 ≡ None) ⊎ ((g : Fate) × ((fate_of x op a.1 ≡ Some g) × (is_unknown g ≡ false)))
+
+pub decided_known : (d : HeuristicDecision) → is_unknown (decided_fate d) ≡ false
+decided_known decision.Commit = refl
+decided_known decision.Rollback = refl
+
+module _ (commit : Bool) (D L : Type 0) (x : XidName) where
+  by_decision : (f : Fate) (T : Tables) (op : Op) (a : Answer) → Stands commit true D L (state_of T x) f → Decides x op T a → IsGuidedTo commit D L x f op a
+  by_decision f T op a st (Nothing same none) = record {
+    stands = subst (λ (o : Option Fate). Stands commit true D L (state_of a.0 x) (unwrap_or o f)) (sym none) (subst (λ (U : Tables). Stands commit true D L (state_of U x) f) (sym same) st);
+    makes = inl none;
+  }
+  by_decision f T op a st (Completes d voted state opened told) = record {
+    stands = unforgotten d state (ap (λ (o : Option Fate). unwrap_or o f) told) (inl refl);
+    makes = inr (decided_fate d, (told, decided_known d));
+  }
+
+  by_leading : (f : Fate) (op : Op) (a : Answer) → Led commit true D L x op f a → IsGuidedTo commit D L x f op a
+  by_leading f op a led = record {
+    stands = led.stands;
+    makes = ⊎_elim (λ (e : fate_of x op a.1 ≡ None). inl e) (λ (e : fate_of x op a.1 ≡ Some (ended_as commit)). inr (ended_as commit, (e, ended_known commit))) led.makes;
+  }
+
+  pub guided : (f : Fate) (T : Tables) → Stands commit true D L (state_of T x) f → Sound T → (t : ℕ) (op : Op) → IsGuided commit L x op
+      → IsGuidedTo commit D L x f op (next t op T)
+  guided f T st sound t op guide =
+      elim (is_heur op) as (λ h. is_heur op ≡ h → IsGuidedTo commit D L x f op (next t op T)) [
+        | false ↦ λ plain. by_leading f op (next t op T) (step_led commit true D L x f T st sound t op (λ n. guide n plain))
+        | true ↦ λ heur.
+            elim (names x op) as (λ n. names x op ≡ n → IsGuidedTo commit D L x f op (next t op T)) [
+              | true ↦ λ named. by_decision f T op (next t op T) st (decides t x op T named heur)
+              | false ↦ λ other. by_leading f op (next t op T) (step_led commit true D L x f T st sound t op (λ n. let z : true ≡ false = sym n ∙ other in cc))
+            ] refl
+      ] refl
+
+  pub guided_after : (h : History) (T : Tables) (f : Fate) → All (λ r. IsGuided commit L x r.op) h → Standing commit true D L x T f
+      → Standing commit true D L x (tables_after h T) (last_or f (fates x h T))
+  guided_after [] T f guide s = s
+  guided_after (r ∷ h) T f guide s =
+      let P : Request → Type 0 = λ q. IsGuided commit L x q.op in
+      let T1 : Tables = (next r.thread r.op T).0 in
+      let o : Option Fate = fate_of x r.op (next r.thread r.op T).1 in
+      let st = guided f T s.stands s.sound r.thread r.op (All-head P r h guide) in
+      subst (λ (g : Fate). Standing commit true D L x (tables_after h T1) g) (last_more f o (fates x h T1))
+      (guided_after h T1 (unwrap_or o f) (All-tail P r h guide) (record { stands = st.stands; sound = sound_after r.thread r.op T s.sound }))
+
+-- ---- nothing is made of a branch that isn't prepared any more
+
+-- it is gone, or was decided heuristically
+abbrev IsPast : Option State → Type 0
+IsPast s = (s ≡ None) ⊎ ((d : HeuristicDecision) × (s ≡ Some (HeuristicallyCompleted d)))
+
+past_so : (commit : Bool) (D L : Type 0) (s : Option State) (f : Fate) → is_unknown f ≡ false → Stands commit true D L s f → IsPast s
+past_so commit D L s f known (waits y o e g) = let z : true ≡ false = sym (ap is_unknown g) ∙ known in cc
+past_so commit D L s f known (unforgotten d e g l) = inr (d, e)
+past_so commit D L s f known (over e g) = inl e
+
+module _ (x : XidName) (T : Tables) (sound : Sound T) (past : IsPast (state_of T x)) where
+  abbrev Quiet : Op → Answer → Type 0
+  Quiet op a = fate_of x op a.1 ≡ None
+
+  unprepared : is_prepared T x ≡ false
+  unprepared =
+      ⊎_elim (λ (e : state_of T x ≡ None). ap is_S3 e) (λ (e : (d : HeuristicDecision) × (state_of T x ≡ Some (HeuristicallyCompleted d))). ap is_S3 e.1) past
+
+  heur_quiet : (op : Op) (a : Answer) → Decides x op T a → Quiet op a
+  heur_quiet op a (Nothing same none) = none
+  heur_quiet op a (Completes d voted state opened told) = let z : true ≡ false = sym voted ∙ unprepared in cc
+
+  -- it stands as one that was decided, and ends no more
+  stands_so : (commit : Bool) → (d : HeuristicDecision) × Stands commit true ⊥ (Unit {0}) (state_of T x) (decided_fate d)
+  stands_so commit =
+      ⊎_elim (λ (e : state_of T x ≡ None). (decision.Commit, over e (inr (decision.Commit, (refl, tt)))))
+      (λ (e : (d : HeuristicDecision) × (state_of T x ≡ Some (HeuristicallyCompleted d))). (e.0, unforgotten e.0 e.1 refl (inl refl))) past
+
+  ends_no_more : (commit : Bool) (s : Option State) → Stands commit true ⊥ (Unit {0}) s (ended_as commit) → ⊥
+  ends_no_more commit s (waits never o e g) = never
+  ends_no_more commit s (unforgotten d e g l) = decided_apart d commit (sym g)
+  ends_no_more commit s (over e (inl z)) = z.0
+  ends_no_more commit s (over e (inr z)) = decided_apart z.0 commit (sym z.1.0)
+
+  led_quiet : (commit : Bool) (op : Op) (f : Fate) (a : Answer) → Led commit true ⊥ (Unit {0}) x op f a → Quiet op a
+  led_quiet commit op f a led =
+      ⊎_elim (λ (none : fate_of x op a.1 ≡ None). none)
+      (λ (some : fate_of x op a.1 ≡ Some (ended_as commit)).
+      absurd (ends_no_more commit (state_of a.0 x) (subst (λ (o : Option Fate). Stands commit true ⊥ (Unit {0}) (state_of a.0 x) (unwrap_or o f)) some led.stands))) led.makes
+
+  leads_any : (commit : Bool) (L : Type 0) (op : Op) → Leads commit L op → Leads commit (Unit {0}) op
+  leads_any commit L (Commit y one_phase) l = l
+  leads_any commit L (Rollback y) l = l
+  leads_any commit L (Forget y) l = tt
+  leads_any commit L op l = absurd l
+
+  quiet : (commit : Bool) (L : Type 0) (t : ℕ) (op : Op) → IsGuided commit L x op → Quiet op (next t op T)
+  quiet commit L t op guide =
+      elim (is_heur op) as (λ h. is_heur op ≡ h → Quiet op (next t op T)) [
+        | false ↦ λ plain.
+            let st = stands_so commit in
+            led_quiet commit op (decided_fate st.0) (next t op T) (step_led commit true ⊥ (Unit {0}) x (decided_fate st.0) T st.1 sound t op (λ n. leads_any commit L op (guide n plain)))
+        | true ↦ λ heur.
+            elim (names x op) as (λ n. names x op ≡ n → Quiet op (next t op T)) [
+              | false ↦ λ other. unnamed_fate x op (next t op T).1 other
+              | true ↦ λ named. heur_quiet op (next t op T) (decides t x op T named heur)
+            ] refl
+      ] refl
+
+-- one that was in doubt gets at most one fate
+module _ (commit : Bool) (D L : Type 0) (x : XidName) where
+  abbrev Once : Fate → List Fate → Type 0
+  Once f fs = (is_unknown f ≡ false → fs ≡ []) × (is_unknown f ≡ true → fs ≡ once (last_or f fs))
+
+  one_more : (f : Fate) (o : Option Fate) (fs : List Fate) → (is_unknown f ≡ false → o ≡ None)
+      → (o ≡ None) ⊎ ((g : Fate) × ((o ≡ Some g) × (is_unknown g ≡ false))) → Once (unwrap_or o f) fs → Once f (cons_option o fs)
+  one_more f o fs silent (inl none) rest = subst (λ (p : Option Fate). Once (unwrap_or p f) fs → Once f (cons_option p fs)) (sym none) (λ r. r) rest
+  one_more f o fs silent (inr made) rest =
+      let g : Fate = made.0 in
+      subst (λ (p : Option Fate). Once (unwrap_or p f) fs → Once f (cons_option p fs)) (sym made.1.0)
+      (λ r. let nothing : fs ≡ [] = r.0 made.1.1 in (
+        λ known. let z : None ≡ Some g = sym (silent known) ∙ made.1.0 in cc,
+        λ _. ap (λ l. g ∷ l) nothing ∙ sym (ap (λ b. if b then [] else g ∷ []) made.1.1) ∙ sym (ap (λ l. once (last_or g l)) nothing),
+      )) rest
+
+  pub fates_once : (h : History) (T : Tables) (f : Fate) → All (λ r. IsGuided commit L x r.op) h → Standing commit true D L x T f → Once f (fates x h T)
+  fates_once [] T f guide s = (λ _. refl, λ unknown. sym (ap (λ b. if b then [] else f ∷ []) unknown))
+  fates_once (r ∷ h) T f guide s =
+      let P : Request → Type 0 = λ q. IsGuided commit L x q.op in
+      let T1 : Tables = (next r.thread r.op T).0 in
+      let o : Option Fate = fate_of x r.op (next r.thread r.op T).1 in
+      let here : IsGuided commit L x r.op = All-head P r h guide in
+      let st = guided commit D L x f T s.stands s.sound r.thread r.op here in
+      let rest = fates_once h T1 (unwrap_or o f) (All-tail P r h guide) (record { stands = st.stands; sound = sound_after r.thread r.op T s.sound }) in
+      one_more f o (fates x h T1) (λ known. quiet x T s.sound (past_so commit D L (state_of T x) f known s.stands) commit L r.thread r.op here) st.makes rest
+
+-- so nothing more is made of one whose fate is known, by what leads it
+pub known_stays : (commit : Bool) (D L : Type 0) (x : XidName) (h : History) (T : Tables) (f : Fate) → is_unknown f ≡ false
+    → All (λ r. IsTowards commit L x r.op) h → Standing commit true D L x T f → fates x h T ≡ []
+known_stays commit D L x h T f known towards s = (fates_once commit D L x h T f (λ k d lt named plain. towards k d lt named) s).0 known
+
+-- ---- from the Prepare on
+
+undecided_yet : (o : Option HeuristicDecision) (s : Option State) → [] ≡ fates_when o → s ≡ Some (state_when o) → s ≡ Some Prepared
+undecided_yet None s e state = state
+undecided_yet (Some d) s e state = cc
+
+module _ (law : Tabled) (commit : Bool) (D L : Type 0) (t n : ℕ) (x : XidName) (T : Tables) (H : History) (opening : IsOpening T) (before after : History)
+    (place : H ≡ before ++ request_of t n (Prepare x) ∷ after)
+    (agreed : (next t (Prepare x) (tables_after before T)).1 ≡ Done) (guide : All (λ r. IsGuided commit L x r.op) after) where
+  abbrev P : Op
+  P = Prepare x
+
+  abbrev U : Tables
+  U = tables_after before T
+
+  abbrev now : Tables
+  now = (next t P U).0
+
+  prepared : state_of now x ≡ Some Prepared
+  prepared =
+      let w : AwaitsAfter t x [] now = law.awaits before [] t x T opening agreed (λ k d lt. absurd (omega (arith, lt))) in
+      undecided_yet w.decision (state_of now x) w.fates w.awaits.state
+
+  pub voted_now : fate_of x P (next t P U).1 ≡ Some history.InDoubt
+  voted_now = ap (fate_of x P) agreed ∙ at_true (xid_eq x x) _ None (xid_self x)
+
+  -- the Prepare made it be in doubt
+  pub fates_are : fates x H T ≡ fates x before T ++ history.InDoubt ∷ fates x after now
+  fates_are =
+      ap (λ (h : History). fates x h T) place ∙ fates_both x before (request_of t n P ∷ after) T
+      ∙ ap (λ o. fates x before T ++ cons_option o (fates x after now)) voted_now
+
+  pub fate_any : (f : Fate) → last_or f (fates x H T) ≡ last_or history.InDoubt (fates x after now)
+  fate_any f = ap (last_or f) fates_are ∙ last_both f (fates x before T) (history.InDoubt ∷ fates x after now)
+
+  tables_are : tables_after H T ≡ tables_after after now
+  tables_are = ap (λ (h : History). tables_after h T) place ∙ tables_after-append before (request_of t n P ∷ after) T
+
+  pub at_last : D → (f : Fate) → Standing commit true D L x (tables_after H T) (fate x f H T)
+  at_last doubt f =
+      subst (λ (g : Fate). Standing commit true D L x (tables_after H T) g) (sym (law.leaves H x f T ∙ fate_any f))
+      (subst (λ (V : Tables). Standing commit true D L x V (last_or history.InDoubt (fates x after now))) (sym tables_are)
+      (guided_after commit D L x after now history.InDoubt guide (record { stands = waits doubt refl prepared refl; sound = sound_after t P U (run_sound before T (opening_sound T opening)) })))
+
+  -- and so what the Prepare and what is after it make of it
+  pub fates_from : D → (f : Fate) → fates x (request_of t n P ∷ after) U ≡ history.InDoubt ∷ once (fate x f H T)
+  fates_from doubt f =
+      let st : Standing commit true D L x now history.InDoubt =
+      record { stands = waits doubt refl prepared refl; sound = sound_after t P U (run_sound before T (opening_sound T opening)) } in
+      ap (λ o. cons_option o (fates x after now)) voted_now
+      ∙ ap (λ l. history.InDoubt ∷ l) ((fates_once commit D L x after now history.InDoubt guide st).1 refl ∙ ap once (sym (law.leaves H x f T ∙ fate_any f)))

@@ -1,0 +1,263 @@
+-- What becomes of a branch that was left, through the openings up to one with a resolve that reached it.
+use Rattle.std.specs.Prelude.{option_map}
+use Rattle.std.proofs.Common.{◌≡◌, ◌≢◌, ℕ, Bool, true, false, cond, ◌==◌, List, [], ◌∷◌, ◌++◌, slice_get, get_or, sym, refl, ap, ◌∙◌, subst, arith, Option}
+use Rattle.std.proofs.Common.{Some, None, ⊎_elim}
+use Rattle.std.specs.List.{All, Contains}
+use Rattle.std.proofs.lemmas.List.Elements.{All-head, All-tail, All-contains, Contains-append_left, Contains-append_right, Contains-append_cases}
+use Rattle.xa_base.specs.declared.limits.TheConstants.{MOST_MANAGERS}
+use Rattle.xa_base.specs.Lists.{IsUpTo}
+use Rattle.xa_base.proofs.Lists.{all_left, all_right}
+use Rattle.xa_words.specs.Xid.{XidName, xid_eq}
+use Rattle.xa_words.specs.Orders.{Decides-xid_eq}
+use Rattle.xa_words.specs.Tran.{tran_of}
+use Rattle.xa_words.specs.declared.code.Code.{Code}
+use Rattle.xa_words.specs.declared.code.Code.TheVariants.{HeurCom, HeurRb, RmFail}
+use Rattle.xa_words.specs.declared.request.Op.{Op}
+use Rattle.xa_tables.specs.declared.state.State.{State}
+use Rattle.xa_tables.specs.declared.state.HeuristicDecision.{HeuristicDecision}
+use Rattle.xa_tables.specs.declared.state.HeuristicDecision.TheVariants as decision
+use Rattle.xa_tables.specs.Tables.{Tables, state_of, is_S3, is_left_in, is_prepared}
+use Rattle.xa_tables.specs.Reasons.{decision_code}
+use Rattle.xa_tables.specs.History.{History, Fate, coded, decided_fate, of_thread, tables_after, last_or, is_in_doubt as is_unknown}
+use Rattle.xa_tables.specs.Openings.{AreLeft, reopened, reopened_fate}
+use Rattle.xa_tables.specs.Prepared.{names}
+use Rattle.xa_tables.proofs.Law.{opening_sound}
+use Rattle.xa_desk.specs.LedgerView.{LedgerView}
+use Rattle.xa_desk.specs.DeskView.{ledger}
+use Rattle.xa_desk.specs.Lanes.{numbered}
+use Rattle.xa_worker.specs.Journal.{requests, Entry}
+use Rattle.xa_switch.specs.Again.{last_in}
+use Rattle.xa_switch.specs.Fates.{IsOpenedWith, first_of, history as history_of, ledgers_of, settled_fate}
+use Rattle.xa_switch.specs.Scans.{left_at}
+use Rattle.xa_switch.specs.Settling.{ManagerPart, Settling, IsSettled, FollowsTables, answers, collected, find_manager, journal_in}
+use Rattle.xa_driver.specs.declared.resolved.Outcome.{Outcome}
+use Rattle.xa_driver.specs.Endings.{is_decided}
+use Rattle.xa_atomicity.specs.Resolution.{ResolveCall, resolves, IsUseIn, IsKept, Opening, AreInARow, OnlyResolves, uses_of, fate_through, last_of, tables_left}
+use Rattle.xa_driver.specs.Resolving.{is_to_commit, outcome_op}
+use Rattle.xa_atomicity.proofs.Answered.{Placed, placed, placed_ends, placed_tells}
+use Rattle.xa_atomicity.proofs.Guided.{decided_known, known_stays}
+use Rattle.xa_atomicity.proofs.Leading.{IsOver, Stands, waits, unforgotten, over, IsTowards, Standing, led_after, by_itself, ends_towards, stands_reopened}
+use Rattle.xa_atomicity.proofs.Leading.{is_over}
+use Rattle.xa_atomicity.proofs.Naming.{named_so, named_tran, sent_is}
+use Rattle.xa_atomicity.proofs.Placing.{fates}
+use Rattle.xa_atomicity.proofs.Records.{FindsMark}
+use Rattle.xa_atomicity.proofs.Resolves.{IsAnsweredIn, left_has, outcome_asked}
+use Rattle.xa_atomicity.proofs.Settled.{by_ledger}
+use Rattle.xa_atomicity.specs.Tabled.{Tabled}
+
+-- ---- one opening
+
+found_all : (P : ManagerPart → Type 0) (m : ℕ) (parts : List ManagerPart) (p : ManagerPart) → All P parts → find_manager m parts ≡ Some p → P p
+found_all P m [] p all e = cc
+found_all P m (q ∷ parts) p all e =
+    elim (q.number == m) as (λ b. cond b (Some q) (find_manager m parts) ≡ Some p → P p) [
+      | true ↦ λ e. let same : q ≡ p = cc in subst P same (All-head P q parts all)
+      | false ↦ λ e. found_all P m parts p (All-tail P q parts all) e
+    ] e
+
+-- the tables that it leaves are those after its history
+pub ends_with : (s : Settling) (m : ℕ) (T : Tables) → IsSettled s → first_of s m ≡ Some T
+    → last_in (find_manager m s.managers) ≡ tables_after (history_of s m) T
+ends_with s m T settled first = of_part (find_manager m s.managers) (λ p e. found_all FollowsTables m s.managers p settled.tables e) first
+  where
+    of_part : (o : Option ManagerPart) → ((p : ManagerPart) → o ≡ Some p → FollowsTables p) → option_map (λ (p : ManagerPart). p.first) o ≡ Some T
+        → last_in o ≡ tables_after (requests (journal_in o)) T
+    of_part None follows e = cc
+    of_part (Some p) follows e = let same : p.first ≡ T = cc in (follows p refl).left ∙ ap (tables_after (requests p.journal)) same
+
+module _ (law : Tabled) (first : (s : Settling) (m : ℕ) (T : Tables) → IsSettled s → first_of s m ≡ Some T → IsOpenedWith s m T) (commit : Bool) (D L : Type 0)
+    (m : ℕ) (up : IsUpTo MOST_MANAGERS m) (x : XidName) where
+  -- a decision of the branch that a resolve of the opening was told is listed
+  abbrev pub Lists : Opening → Type 0
+  Lists o = (q : ResolveCall) → Contains o.uses (resolves q) → (r : Outcome) → Contains q.outcomes r → r.m ≡ m → r.xid ≡ x → is_decided r.code ≡ true → L
+
+  -- what names the branch leads it
+  pub opening_towards : (o : Opening) → IsKept o → OnlyResolves (tran_of x) o → All (FindsMark commit (tran_of x) m) o.uses → Lists o
+      → All (λ r. IsTowards commit L x r.op) (history_of o.settled m)
+  opening_towards o kept only marks lists =
+      let all = named_so o.settled kept.settled m up (IsTowards commit L x) (tran_of x) o.uses (λ n. cc) kept.uses (λ q there r among. record {
+        ends = λ manager is n.
+            let same : r.xid ≡ x = (Decides-xid_eq r.xid x).0 (outcome_named r.commit r.xid n) in
+            let decided : r.commit ≡ commit =
+            is ∙ ap (is_to_commit q.records m) same ∙ All-contains (FindsMark commit (tran_of x) m) o.uses (resolves q) marks there in
+            subst (λ b. IsTowards commit L x (outcome_op b r.xid)) (sym decided) (ends_towards commit L x r.xid) n;
+        forgets = λ manager told n. lists q there r among manager ((Decides-xid_eq r.xid x).0 n) told;
+      }) (only m) in
+      λ k d lt n. all k d lt (named_tran x (get_or (history_of o.settled m) k d).op n) n
+    where
+      outcome_named : (b : Bool) (y : XidName) → names x (outcome_op b y) ≡ true → xid_eq y x ≡ true
+      outcome_named true y n = n
+      outcome_named false y n = n
+
+  -- its fate there, by its history
+  fate_so : (o : Opening) (T : Tables) (f : Fate) → IsOpenedWith o.settled m T → settled_fate o.settled m x f ≡ last_or f (fates x (history_of o.settled m) T)
+  fate_so o T f with_T = with_T.fates x f ∙ law.leaves (history_of o.settled m) x f T
+
+  -- it stands as it did
+  pub opening_stands : (o : Opening) (T : Tables) (f : Fate) → IsKept o → first_of o.settled m ≡ Some T
+      → All (λ r. IsTowards commit L x r.op) (history_of o.settled m) → Stands commit true D L (state_of T x) f
+      → Stands commit true D L (state_of (tables_after (history_of o.settled m) T) x) (settled_fate o.settled m x f)
+  opening_stands o T f kept begins towards st =
+      let with_T = first o.settled m T kept.settled begins in
+      let z = led_after commit true D L x (history_of o.settled m) T f towards (record { stands = st; sound = opening_sound T with_T.opened }) in
+      subst (λ (g : Fate). Stands commit true D L (state_of (tables_after (history_of o.settled m) T) x) g) (sym (fate_so o T f with_T)) z.stands
+
+  decided_so : (c : Code) (d : HeuristicDecision) → c ≡ decision_code d → is_decided c ≡ true
+  decided_so c decision.Commit e = ap is_decided e
+  decided_so c decision.Rollback e = ap is_decided e
+
+  -- ---- an opening, where the branch has this fate as it begins with these tables
+
+  pub record IsStep (o : Opening) (T : Tables) (f : Fate) : Type 0 where
+    pub kept : IsKept o
+    pub begins : first_of o.settled m ≡ Some T
+    pub towards : All (λ r. IsTowards commit L x r.op) (history_of o.settled m)
+    pub marks : All (FindsMark commit (tran_of x) m) o.uses
+    pub lists : Lists o
+    pub stands : Stands commit true D L (state_of T x) f
+
+  module _ (o : Opening) (T : Tables) (f : Fate) (w : IsStep o T f) where
+    abbrev H : History
+    H = history_of o.settled m
+
+    with_T : IsOpenedWith o.settled m T
+    with_T = first o.settled m T w.kept.settled w.begins
+
+    pub stands_first : Standing commit true D L x T f
+    stands_first = record { stands = w.stands; sound = opening_sound T with_T.opened }
+
+    -- an outcome of the branch that was answered has its request in the history
+    module _ (q : ResolveCall) (there : Contains o.uses (resolves q)) where
+      abbrev t : ℕ
+      t = q.thread
+
+      use_ : IsUseIn o.settled (resolves q)
+      use_ = All-contains (IsUseIn o.settled) o.uses (resolves q) w.kept.uses there
+
+      mark : is_to_commit q.records m x ≡ commit
+      mark = All-contains (FindsMark commit (tran_of x) m) o.uses (resolves q) w.marks there
+
+      carried : of_thread t H ≡ numbered t 0 (ledger (ledgers_of o.settled t) m).sent
+      carried = (w.kept.settled.agree t m).carried ∙ ap (numbered t 0) (sent_is o.settled m up.0 t)
+
+      answered : All (λ p. slice_get (answers t (coded H T)) p.0 ≡ Some p) (ledger (ledgers_of o.settled t) m).collected
+      answered =
+          subst (All (λ (p : ℕ × Code). slice_get (answers t (coded H T)) p.0 ≡ Some p)) (by_ledger (ledgers_of o.settled t) m (λ (z : LedgerView). z.collected) up.0 refl)
+          (subst (λ (J : List Entry). All (λ (p : ℕ × Code). slice_get (answers t J) p.0 ≡ Some p) (collected o.settled t m)) with_T.codes (w.kept.settled.agree t m).coded)
+
+      pub answered_at : (r : Outcome) → Contains q.outcomes r → r.m ≡ m → r.xid ≡ x → r.code ≢ RmFail → Placed t T H (outcome_op commit x) r.code
+      answered_at r among own same reached =
+          let asked =
+          outcome_asked q.scan q.records q.old q.new q.outcomes use_.made m up (ledger (ledgers_of o.settled t) m) (use_.grown.each m up.0) r among own in
+          let decided : r.commit ≡ commit = asked.decision ∙ ap (is_to_commit q.records m) same ∙ mark in
+          placed t T H (outcome_op commit x) r.code (ledger q.old m) (ledger (ledgers_of o.settled t) m).sent (ledger (ledgers_of o.settled t) m).collected carried answered
+          (subst (λ (op : Op). IsAnsweredIn op r.code (ledger q.old m) (ledger (ledgers_of o.settled t) m).sent (ledger (ledgers_of o.settled t) m).collected) (λ i. outcome_op (decided i) (same i)) (asked.answered reached))
+
+      -- where it was left, and the resolve reached all, it is no longer open
+      module _ (scan : AreLeft (left_at q.scan m) T) (reached : (r : Outcome) → Contains q.outcomes r → r.m ≡ m → r.xid ≡ x → r.code ≢ RmFail) where
+        left_ends : is_left_in (state_of T x) ≡ true → Standing commit false D L x (tables_after H T) (last_or f (fates x H T))
+        left_ends left =
+            let r =
+            left_has q.scan q.records q.old q.new q.outcomes use_.made m up (ledger (ledgers_of o.settled t) m) (use_.grown.each m up.0) x (scan.each x ∙ left) in
+            let in_time : r.0.code ≢ RmFail = reached r.0 r.1.0 r.1.1.0 r.1.1.1 in
+            placed_ends commit D L t x T H f r.0.code w.towards stands_first in_time (λ d e. w.lists q there r.0 r.1.0 r.1.1.0 r.1.1.1 (decided_so r.0.code d e)) (answered_at r.0 r.1.0 r.1.1.0 r.1.1.1 in_time)
+
+        by_standing : Stands commit true D L (state_of T x) f → Standing commit false D L x (tables_after H T) (last_or f (fates x H T))
+        by_standing (waits y open_ e g) = left_ends (ap is_left_in e)
+        by_standing (unforgotten d e g l) = left_ends (ap is_left_in e)
+        by_standing (over e g) = led_after commit false D L x H T f w.towards (record { stands = over e g; sound = stands_first.sound })
+
+        -- so it isn't prepared any more
+        pub step_rests : is_prepared (tables_after H T) x ≡ false
+        step_rests = rests_so (by_standing w.stands).stands
+          where
+            rests_so : {s : Option State} {g : Fate} → Stands commit false D L s g → is_S3 s ≡ false
+            rests_so (waits y open_ e g) = cc
+            rests_so (unforgotten d e g l) = ap is_S3 e
+            rests_so (over e g) = ap is_S3 e
+
+        pub step_ends : IsOver commit D L (settled_fate o.settled m x f)
+        step_ends =
+            subst (IsOver commit D L) (sym (fate_so o T f with_T)) (is_over commit D L (state_of (tables_after H T) x) (last_or f (fates x H T)) (by_standing w.stands).stands)
+
+  -- ---- one after another, after one that left these tables and this fate
+
+  abbrev pub Walk : List Opening → Tables → Fate → Type 0
+  Walk [] T f = Unit {0}
+  Walk (o ∷ os) T f =
+      IsStep o (reopened T) (reopened_fate f) × Walk os (tables_after (history_of o.settled m) (reopened T)) (settled_fate o.settled m x (reopened_fate f))
+
+  pub walk : (os : List Opening) (o : Opening) (T : Tables) (f : Fate) → IsKept o → first_of o.settled m ≡ Some T → All IsKept os → AreInARow o os
+      → All (OnlyResolves (tran_of x)) os → All (FindsMark commit (tran_of x) m) (uses_of os)
+      → ((q : ResolveCall) → Contains (uses_of os) (resolves q) → (r : Outcome) → Contains q.outcomes r → r.m ≡ m → r.xid ≡ x → is_decided r.code ≡ true → L)
+      → Stands commit true D L (state_of (tables_after (history_of o.settled m) T) x) f → Walk os (tables_after (history_of o.settled m) T) f
+  walk [] o T f kept_o begins kept row only marks lists st = tt
+  walk (p ∷ ps) o T f kept_o begins kept row only marks lists st =
+      let V : Tables = tables_after (history_of o.settled m) T in
+      let kept_p : IsKept p = All-head IsKept p ps kept in
+      let begins_p : first_of p.settled m ≡ Some (reopened V) =
+      row.0 m T begins ∙ ap (λ (U : Tables). Some (reopened U)) (ends_with o.settled m T kept_o.settled begins) in
+      let marks_p : All (FindsMark commit (tran_of x) m) p.uses = all_left (FindsMark commit (tran_of x) m) p.uses (uses_of ps) marks in
+      let lists_p : Lists p = λ q among. lists q (Contains-append_left p.uses (uses_of ps) (resolves q) among) in
+      let towards = opening_towards p kept_p (All-head (OnlyResolves (tran_of x)) p ps only) marks_p lists_p in
+      let here : Stands commit true D L (state_of (reopened V) x) (reopened_fate f) = stands_reopened commit true D L x V f st in (
+        record { kept = kept_p; begins = begins_p; towards = towards; marks = marks_p; lists = lists_p; stands = here },
+        walk ps p (reopened V) (settled_fate p.settled m x (reopened_fate f)) kept_p begins_p (All-tail IsKept p ps kept) row.1 (All-tail (OnlyResolves (tran_of x)) p ps only) (all_right (FindsMark commit (tran_of x) m) p.uses (uses_of ps) marks)
+            (λ q among. lists q (Contains-append_right p.uses (uses_of ps) (resolves q) among)) (opening_stands p (reopened V) (reopened_fate f) kept_p begins_p towards here),
+      )
+
+  -- where a resolve of the last reached all, it is over
+  pub walk_ends : (between : List Opening) (last : Opening) (q : ResolveCall) (T : Tables) (f : Fate) → Contains last.uses (resolves q)
+      → ((n : ℕ) (U : Tables) → first_of last.settled n ≡ Some U → AreLeft (left_at q.scan n) U)
+      → ((r : Outcome) → Contains q.outcomes r → r.m ≡ m → r.xid ≡ x → r.code ≢ RmFail)
+      → Walk (between ++ last ∷ []) T f → IsOver commit D L (fate_through m x f (between ++ last ∷ []))
+  walk_ends [] last q T f there scan reached w = step_ends last (reopened T) (reopened_fate f) w.0 q there (scan m (reopened T) w.0.begins) reached
+  walk_ends (p ∷ between) last q T f there scan reached w =
+      walk_ends between last q (tables_after (history_of p.settled m) (reopened T)) (settled_fate p.settled m x (reopened_fate f)) there scan reached w.1
+
+  -- and it isn't prepared at the end of the last
+  pub walk_rests : (o : Opening) (between : List Opening) (last : Opening) (q : ResolveCall) (T : Tables) (f : Fate) → Contains last.uses (resolves q)
+      → ((n : ℕ) (U : Tables) → first_of last.settled n ≡ Some U → AreLeft (left_at q.scan n) U)
+      → ((r : Outcome) → Contains q.outcomes r → r.m ≡ m → r.xid ≡ x → r.code ≢ RmFail)
+      → Walk (between ++ last ∷ []) T f → is_prepared (tables_left (last_of o (between ++ last ∷ [])) m) x ≡ false
+  walk_rests o [] last q T f there scan reached w =
+      ap (λ (U : Tables). is_prepared U x) (ends_with last.settled m (reopened T) w.0.kept.settled w.0.begins)
+      ∙ step_rests last (reopened T) (reopened_fate f) w.0 q there (scan m (reopened T) w.0.begins) reached
+  walk_rests o (p ∷ between) last q T f there scan reached w =
+      walk_rests p between last q (tables_after (history_of p.settled m) (reopened T)) (settled_fate p.settled m x (reopened_fate f)) there scan reached w.1
+
+  -- ---- a decision that a resolve was told
+
+  -- the fate stays it
+  step_after : (d : HeuristicDecision) (o : Opening) (T : Tables) (f : Fate) → IsStep o T f → f ≡ decided_fate d → settled_fate o.settled m x f ≡ decided_fate d
+  step_after d o T f w e =
+      fate_so o T f (first o.settled m T w.kept.settled w.begins)
+      ∙ ap (last_or f) (known_stays commit D L x (history_of o.settled m) T f (ap is_unknown e ∙ decided_known d) w.towards (stands_first o T f w)) ∙ e
+
+  pub walk_after : (d : HeuristicDecision) (os : List Opening) (T : Tables) (f : Fate) → Walk os T f → f ≡ decided_fate d
+      → fate_through m x f os ≡ decided_fate d
+  walk_after d [] T f w e = e
+  walk_after d (o ∷ os) T f w e =
+      walk_after d os (tables_after (history_of o.settled m) (reopened T)) (settled_fate o.settled m x (reopened_fate f)) w.1 (step_after d o (reopened T) (reopened_fate f) w.0 (ap reopened_fate e ∙ by_itself d))
+
+  -- so from the resolve on
+  not_failed : (d : HeuristicDecision) (c : Code) → c ≡ decision_code d → c ≢ RmFail
+  not_failed decision.Commit c e f = let z : HeurCom ≡ RmFail = sym e ∙ f in cc
+  not_failed decision.Rollback c e f = let z : HeurRb ≡ RmFail = sym e ∙ f in cc
+
+  step_tells : (d : HeuristicDecision) (o : Opening) (T : Tables) (f : Fate) → IsStep o T f → (q : ResolveCall) → Contains o.uses (resolves q) → (r : Outcome)
+      → Contains q.outcomes r → r.m ≡ m → r.xid ≡ x → r.code ≡ decision_code d → settled_fate o.settled m x f ≡ decided_fate d
+  step_tells d o T f w q there r among own same e =
+      let reached : r.code ≢ RmFail = not_failed d r.code e in
+      fate_so o T f (first o.settled m T w.kept.settled w.begins)
+      ∙ placed_tells commit D L q.thread x T (history_of o.settled m) f r.code w.towards (stands_first o T f w) reached (λ k is. w.lists q there r among own same (decided_so r.code k is)) (answered_at o T f w q there r among own same reached) law d e
+
+  pub walk_tells : (d : HeuristicDecision) (os : List Opening) (T : Tables) (f : Fate) → Walk os T f → (q : ResolveCall) → Contains (uses_of os) (resolves q)
+      → (r : Outcome) → Contains q.outcomes r → r.m ≡ m → r.xid ≡ x → r.code ≡ decision_code d → fate_through m x f os ≡ decided_fate d
+  walk_tells d [] T f w q (k, lt, e) r among own same is = absurd (omega (arith, lt))
+  walk_tells d (o ∷ os) T f w q there r among own same is =
+      let T1 : Tables = tables_after (history_of o.settled m) (reopened T) in
+      let f1 : Fate = settled_fate o.settled m x (reopened_fate f) in
+      ⊎_elim (λ (here : Contains o.uses (resolves q)). walk_after d os T1 f1 w.1 (step_tells d o (reopened T) (reopened_fate f) w.0 q here r among own same is))
+      (λ (later : Contains (uses_of os) (resolves q)). walk_tells d os T1 f1 w.1 q later r among own same is)
+      (Contains-append_cases o.uses (uses_of os) (resolves q) there)

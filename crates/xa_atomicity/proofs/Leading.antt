@@ -1,0 +1,277 @@
+-- What a branch that voted to commit stands at, where nothing but resolves names it.
+use Rattle.std.specs.Prelude.{◌⊎◌, ◌&&◌, not, cond, is_some, unwrap_or}
+use Rattle.std.proofs.Common.{◌≡◌, ◌≢◌, ℕ, inl, inr, ⊎_elim, Bool, true, false, ◌||◌, if◌then◌else◌, [], ◌∷◌, sym, refl, ap, ◌∙◌, subst, Option, Some, None}
+use Rattle.std.specs.List.{All, cons_option}
+use Rattle.std.proofs.lemmas.Bool.{not-false, or_from}
+use Rattle.std.proofs.lemmas.List.Elements.{All-nil, All-cons, All-head, All-tail}
+use Rattle.std.proofs.Math.Bool.{and-false}
+use Rattle.xa_words.specs.Xid.{XidName, xid_eq}
+use Rattle.xa_words.specs.Orders.{Decides-xid_eq}
+use Rattle.xa_words.specs.declared.code.Code.{Code}
+use Rattle.xa_words.specs.declared.code.Code.TheVariants.{Done, Nota, Proto, RmFail}
+use Rattle.xa_words.specs.declared.request.Op.{Op}
+use Rattle.xa_words.specs.declared.request.Op.TheVariants.{Commit, Rollback, Forget}
+use Rattle.xa_words.specs.declared.request.Request.{Request}
+use Rattle.xa_words.proofs.Xids.{xid_self}
+use Rattle.xa_tables.specs.declared.state.State.{State}
+use Rattle.xa_tables.specs.declared.state.State.TheVariants.{Prepared, HeuristicallyCompleted}
+use Rattle.xa_tables.specs.declared.state.HeuristicDecision.{HeuristicDecision}
+use Rattle.xa_tables.specs.declared.state.HeuristicDecision.TheVariants as decision
+use Rattle.xa_tables.specs.Tables.{Tables, has_opened, state_of, exists, is_S3, is_S4, is_S5, is_left_in, is_prepared, is_completed, is_rollback_only}
+use Rattle.xa_tables.specs.Tables.{is_somebody_associated, decision_in, decision_of, reason_of}
+use Rattle.xa_tables.specs.Reasons.{decision_code}
+use Rattle.xa_tables.specs.Next.{Answer, next, needs_opening, by_rules, commit_two, rollback, forget, gone, committed}
+use Rattle.xa_tables.specs.History as history
+use Rattle.xa_tables.specs.History.{History, Fate, tables_after, fate_of, is_done, last_or, decided_fate}
+use Rattle.xa_tables.specs.Openings.{reopened, reopened_fate}
+use Rattle.xa_tables.specs.Prepared.{names}
+use Rattle.xa_tables.proofs.Effects.{error_tells, reason_rolls_back, decision_commits_nothing, decision_rolls_nothing_back}
+use Rattle.xa_tables.proofs.Law.{Sound, Nowhere, AtWork, standing, nobody_rests, get_gone, sound_after, last_more}
+use Rattle.xa_tables.proofs.Reopening.{state_reopened}
+use Rattle.xa_tables.proofs.Unnamed.{unnamed_fate, unnamed_stays}
+use Rattle.xa_base.proofs.Truth.{by_if, at_false, at_true}
+use Rattle.xa_atomicity.specs.Resolution.{ended_as}
+use Rattle.xa_driver.specs.Resolving.{outcome_op}
+use Rattle.xa_atomicity.proofs.Placing.{fates}
+
+-- it ended as was decided, where it was undecided at first: D; or heuristically, and then it is listed: L
+abbrev pub IsOver : Bool → Type 0 → Type 0 → Fate → Type 0
+IsOver commit D L f = (D × (f ≡ ended_as commit)) ⊎ ((d : HeuristicDecision) × ((f ≡ decided_fate d) × L))
+
+-- By its state and its fate the branch awaits the outcome, it was decided heuristically and isn't forgotten, or it is over.
+-- Once it is no longer open it doesn't await the outcome, and a decision is listed.
+pub data Stands (commit open_ : Bool) (D L : Type 0) (s : Option State) (f : Fate) : Type 0 where
+  waits : D → open_ ≡ true → s ≡ Some Prepared → f ≡ history.InDoubt → Stands commit open_ D L s f
+  unforgotten : (d : HeuristicDecision) → s ≡ Some (HeuristicallyCompleted d) → f ≡ decided_fate d → (open_ ≡ true) ⊎ L → Stands commit open_ D L s f
+  over : s ≡ None → IsOver commit D L f → Stands commit open_ D L s f
+
+-- what a resolve may ask of the branch: to end as was decided, and a Forget once it is listed
+abbrev pub Leads : Bool → Type 0 → Op → Type 0
+Leads commit L (Commit y one_phase) = (one_phase ≡ false) × (commit ≡ true)
+Leads commit L (Rollback y) = commit ≡ false
+Leads commit L (Forget y) = L
+Leads commit L op = ⊥
+
+abbrev pub IsTowards : Bool → Type 0 → XidName → Op → Type 0
+IsTowards commit L x op = names x op ≡ true → Leads commit L op
+
+-- what a request leaves of it
+pub record Led (commit open_ : Bool) (D L : Type 0) (x : XidName) (op : Op) (f : Fate) (a : Answer) : Type 0 where
+  pub stands : Stands commit open_ D L (state_of a.0 x) (unwrap_or (fate_of x op a.1) f)
+  pub makes : (fate_of x op a.1 ≡ None) ⊎ (fate_of x op a.1 ≡ Some (ended_as commit))
+
+-- so after a history
+pub record Standing (commit open_ : Bool) (D L : Type 0) (x : XidName) (T : Tables) (f : Fate) : Type 0 where
+  pub stands : Stands commit open_ D L (state_of T x) f
+  pub sound : Sound T
+
+named_self : (x : XidName) (o : Option Fate) → (if xid_eq x x then o else None) ≡ o
+named_self x o = at_true (xid_eq x x) o None (xid_self x)
+
+gone_state : (T : Tables) (x : XidName) → state_of (gone x T) x ≡ None
+gone_state T x = get_gone T x x ∙ at_true (xid_eq x x) None _ (xid_self x)
+
+-- a branch that stands so isn't at work, so nobody is associated with it
+rests : (commit open_ : Bool) (D L : Type 0) (s : Option State) (f : Fate) → Stands commit open_ D L s f → standing s ≢ AtWork
+rests commit open_ D L s f (waits y o e g) w = let z : standing s ≡ standing (Some Prepared) = ap standing e in cc
+rests commit open_ D L s f (unforgotten d e g l) w = let z : standing s ≡ Nowhere = ap standing e in cc
+rests commit open_ D L s f (over e g) w = let z : standing s ≡ Nowhere = ap standing e in cc
+
+-- it is gone, and ended as was decided
+gone_so : (commit open_ : Bool) (D L : Type 0) (x : XidName) (f : Fate) (op : Op) (c : Code) (T : Tables) → D → fate_of x op c ≡ Some (ended_as commit)
+    → Led commit open_ D L x op f (gone x T, c)
+gone_so commit open_ D L x f op c T y e = record { stands = over (gone_state T x) (inl (y, ap (λ o. unwrap_or o f) e)); makes = inr e }
+
+module _ (commit open_ : Bool) (D L : Type 0) (x : XidName) (f : Fate) (T : Tables) (st : Stands commit open_ D L (state_of T x) f) where
+  -- nothing was done
+  same : (op : Op) (c : Code) → fate_of x op c ≡ None → Led commit open_ D L x op f (T, c)
+  same op c e = record { stands = subst (λ (o : Option Fate). Stands commit open_ D L (state_of T x) (unwrap_or o f)) (sym e) st; makes = inl e }
+
+  refuses : (op : Op) → (fate_of x op Proto ≡ None) × (fate_of x op RmFail ≡ None)
+  refuses op = ((error_tells op Proto refl).fates x, (error_tells op RmFail refl).fates x)
+
+  -- one that is there and isn't completed awaits the outcome
+  undecided : not (exists T x) ≡ false → is_completed T x ≡ false → D
+  undecided there open_now = by_standing st
+    where
+      by_standing : Stands commit open_ D L (state_of T x) f → D
+      by_standing (waits y o e g) = y
+      by_standing (unforgotten d e g l) = let z : true ≡ false = sym (ap is_S5 e) ∙ open_now in cc
+      by_standing (over e g) = let z : true ≡ false = sym (ap (λ s. not (is_some s)) e) ∙ there in cc
+
+  committing : commit ≡ true → Led commit open_ D L x (Commit x false) f (commit_two x T)
+  committing is =
+      let P : Answer → Type 0 = Led commit open_ D L x (Commit x false) f in
+      by_if P (not (exists T x)) _ _ (λ _. same (Commit x false) Nota (named_self x None)) (λ there.
+      by_if P (is_completed T x) _ _ (λ e. same (Commit x false) (decision_of T x) (named_self x _ ∙ decision_commits_nothing (state_of T x) e)) (λ open_now.
+      by_if P (is_somebody_associated T.associations x || not (is_prepared T x)) _ _ (λ _. same (Commit x false) Proto (refuses (Commit x false)).0) (λ _.
+      gone_so commit open_ D L x f (Commit x false) Done (committed x T) (undecided there open_now) (named_self x (Some history.Committed) ∙ ap (λ b. Some (ended_as b)) (sym is)))))
+
+  rolling_back : commit ≡ false → Led commit open_ D L x (Rollback x) f (rollback x T)
+  rolling_back is =
+      let P : Answer → Type 0 = Led commit open_ D L x (Rollback x) f in
+      let ends : Some history.RolledBack ≡ Some (ended_as commit) = ap (λ b. Some (ended_as b)) (sym is) in
+      by_if P (not (exists T x)) _ _ (λ _. same (Rollback x) Nota (named_self x None)) (λ there.
+      by_if P (is_completed T x) _ _ (λ e. same (Rollback x) (decision_of T x) (named_self x _ ∙ decision_rolls_nothing_back (state_of T x) e)) (λ open_now.
+      by_if P (is_somebody_associated T.associations x) _ _ (λ _. same (Rollback x) Proto (refuses (Rollback x)).0) (λ _.
+      by_if P (is_rollback_only T x) _ _
+      (λ e. gone_so commit open_ D L x f (Rollback x) (reason_of T x) T (undecided there open_now) (named_self x _ ∙ ap (λ b. if is_done (reason_of T x) || b then Some history.RolledBack else None) (reason_rolls_back (state_of T x) e) ∙ either (is_done (reason_of T x)) ∙ ends))
+      (λ _. gone_so commit open_ D L x f (Rollback x) Done T (undecided there open_now) (named_self x (Some history.RolledBack) ∙ ends)))))
+    where
+      either : (b : Bool) → (if b || true then Some history.RolledBack else None) ≡ Some history.RolledBack
+      either true = refl
+      either false = refl
+
+  forgets : L → is_S5 (state_of T x) ≡ true → Stands commit open_ D L (state_of T x) f → Stands commit open_ D L None f
+  forgets l h (waits y o e g) = let z : true ≡ false = sym h ∙ ap is_S5 e in cc
+  forgets l h (unforgotten d e g k) = over refl (inr (d, (g, l)))
+  forgets l h (over e g) = over refl g
+
+  forgetting : L → Led commit open_ D L x (Forget x) f (forget x T)
+  forgetting l =
+      let P : Answer → Type 0 = Led commit open_ D L x (Forget x) f in
+      by_if P (not (exists T x)) _ _ (λ _. same (Forget x) Nota refl) (λ _.
+      by_if P (not (is_completed T x)) _ _ (λ _. same (Forget x) Proto refl) (λ e.
+      record { stands = subst (λ (o : Option State). Stands commit open_ D L o f) (sym (gone_state T x)) (forgets l (not-false _ e) st); makes = inl refl }))
+
+  unless_refused : (t : ℕ) (op : Op) → Led commit open_ D L x op f (by_rules t op T) → Led commit open_ D L x op f (next t op T)
+  unfolding next
+  unless_refused t op h =
+      by_if (Led commit open_ D L x op f) (T.shut) _ _ (λ _. same op RmFail (refuses op).1) (λ _.
+      by_if (Led commit open_ D L x op f) _ _ _ (λ _. same op Proto (refuses op).0) (λ _. h))
+
+  -- a request of the three that name it and lead it
+  named_led : (t : ℕ) (op : Op) → names x op ≡ true → Leads commit L op → Led commit open_ D L x op f (next t op T)
+  named_led t (Commit y one_phase) n l =
+      subst (λ (b : Bool). Led commit open_ D L x (Commit y b) f (next t (Commit y b) T)) (sym l.0)
+      (subst (λ (z : XidName). Led commit open_ D L x (Commit z false) f (next t (Commit z false) T)) (sym ((Decides-xid_eq y x).0 n)) (unless_refused t (Commit x false) (committing l.1)))
+  named_led t (Rollback y) n l =
+      subst (λ (z : XidName). Led commit open_ D L x (Rollback z) f (next t (Rollback z) T)) (sym ((Decides-xid_eq y x).0 n)) (unless_refused t (Rollback x) (rolling_back l))
+  named_led t (Forget y) n l =
+      subst (λ (z : XidName). Led commit open_ D L x (Forget z) f (next t (Forget z) T)) (sym ((Decides-xid_eq y x).0 n)) (unless_refused t (Forget x) (forgetting l))
+  named_led t op n l = absurd l
+
+  -- a request that doesn't name it, or leads it
+  pub step_led : Sound T → (t : ℕ) (op : Op) → IsTowards commit L x op → Led commit open_ D L x op f (next t op T)
+  step_led sound t op towards =
+      elim (names x op) as (λ b. names x op ≡ b → Led commit open_ D L x op f (next t op T)) [
+        | true ↦ λ n. named_led t op n (towards n)
+        | false ↦ λ n.
+            record {
+              stands =
+                  subst (λ (o : Option State). Stands commit open_ D L o (unwrap_or (fate_of x op (next t op T).1) f)) (sym (unnamed_stays t op x T (nobody_rests T sound x (rests commit open_ D L (state_of T x) f st)) n).state)
+                  (subst (λ (o : Option Fate). Stands commit open_ D L (state_of T x) (unwrap_or o f)) (sym (unnamed_fate x op (next t op T).1 n)) st);
+              makes = inl (unnamed_fate x op (next t op T).1 n);
+            }
+      ] refl
+
+-- after a history of such requests
+pub led_after : (commit open_ : Bool) (D L : Type 0) (x : XidName) (h : History) (T : Tables) (f : Fate) → All (λ r. IsTowards commit L x r.op) h
+    → Standing commit open_ D L x T f → Standing commit open_ D L x (tables_after h T) (last_or f (fates x h T))
+led_after commit open_ D L x [] T f towards s = s
+led_after commit open_ D L x (r ∷ h) T f towards s =
+    let P : Request → Type 0 = λ q. IsTowards commit L x q.op in
+    let T1 : Tables = (next r.thread r.op T).0 in
+    let o : Option Fate = fate_of x r.op (next r.thread r.op T).1 in
+    let led = step_led commit open_ D L x f T s.stands s.sound r.thread r.op (All-head P r h towards) in
+    subst (λ (g : Fate). Standing commit open_ D L x (tables_after h T1) g) (last_more f o (fates x h T1))
+    (led_after commit open_ D L x h T1 (unwrap_or o f) (All-tail P r h towards) (record { stands = led.stands; sound = sound_after r.thread r.op T s.sound }))
+
+-- the fates that they make are that which was decided
+pub led_fates : (commit open_ : Bool) (D L : Type 0) (x : XidName) (h : History) (T : Tables) (f : Fate) → All (λ r. IsTowards commit L x r.op) h
+    → Standing commit open_ D L x T f → All (λ g. g ≡ ended_as commit) (fates x h T)
+led_fates commit open_ D L x [] T f towards s = All-nil (λ (g : Fate). g ≡ ended_as commit)
+led_fates commit open_ D L x (r ∷ h) T f towards s =
+    let P : Request → Type 0 = λ q. IsTowards commit L x q.op in
+    let Q : Fate → Type 0 = λ g. g ≡ ended_as commit in
+    let T1 : Tables = (next r.thread r.op T).0 in
+    let o : Option Fate = fate_of x r.op (next r.thread r.op T).1 in
+    let led = step_led commit open_ D L x f T s.stands s.sound r.thread r.op (All-head P r h towards) in
+    let rest : All Q (fates x h T1) =
+    led_fates commit open_ D L x h T1 (unwrap_or o f) (All-tail P r h towards) (record { stands = led.stands; sound = sound_after r.thread r.op T s.sound }) in
+    ⊎_elim (λ (e : o ≡ None). subst (λ (p : Option Fate). All Q (cons_option p (fates x h T1))) (sym e) rest)
+    (λ (e : o ≡ Some (ended_as commit)). subst (λ (p : Option Fate). All Q (cons_option p (fates x h T1))) (sym e) (All-cons Q (ended_as commit) (fates x h T1) refl rest))
+    led.makes
+
+-- ---- the request that ends it
+
+-- a thread that has it open is answered by the rules, unless it is shut
+asked_now : (t : ℕ) (op : Op) (T : Tables) → T.shut ≡ false → has_opened T t ≡ true → next t op T ≡ by_rules t op T
+unfolding next
+asked_now t op T open_ has =
+    at_false (T.shut) _ _ open_
+    ∙ at_false (needs_opening op && not (has_opened T t)) _ _ (ap (λ b. needs_opening op && not b) has ∙ and-false (needs_opening op))
+
+pub ends_towards : (commit : Bool) (L : Type 0) (x y : XidName) → IsTowards commit L x (outcome_op commit y)
+ends_towards true L x y n = (refl, refl)
+ends_towards false L x y n = refl
+
+module _ (commit : Bool) (D L : Type 0) (x : XidName) (f : Fate) (T : Tables) (sound : Sound T) (t : ℕ) (open_ : T.shut ≡ false)
+    (has : has_opened T t ≡ true) where
+  abbrev E : Bool → Type 0
+  E b = Led commit false D L x (outcome_op b x) f (next t (outcome_op b x) T)
+
+  -- one that awaits the outcome
+  prepared_ends : D → state_of T x ≡ Some Prepared → (b : Bool) → b ≡ commit → E b
+  prepared_ends y e true is =
+      let free : is_somebody_associated T.associations x ≡ false =
+      nobody_rests T sound x (λ w. let z : standing (state_of T x) ≡ standing (Some Prepared) = ap standing e in cc) in
+      let answer : next t (Commit x false) T ≡ (gone x (committed x T), Done) =
+      asked_now t (Commit x false) T open_ has ∙ at_false (not (exists T x)) _ _ (ap (λ s. not (is_some s)) e) ∙ at_false (is_completed T x) _ _ (ap is_S5 e)
+      ∙ at_false (is_somebody_associated T.associations x || not (is_prepared T x)) _ _ (or_from _ _ free (ap (λ s. not (is_S3 s)) e)) in
+      subst (Led commit false D L x (Commit x false) f) (sym answer) (gone_so commit false D L x f (Commit x false) Done (committed x T) y (named_self x (Some history.Committed) ∙ ap (λ c. Some (ended_as c)) is))
+  prepared_ends y e false is =
+      let free : is_somebody_associated T.associations x ≡ false =
+      nobody_rests T sound x (λ w. let z : standing (state_of T x) ≡ standing (Some Prepared) = ap standing e in cc) in
+      let answer : next t (Rollback x) T ≡ (gone x T, Done) =
+      asked_now t (Rollback x) T open_ has ∙ at_false (not (exists T x)) _ _ (ap (λ s. not (is_some s)) e) ∙ at_false (is_completed T x) _ _ (ap is_S5 e)
+      ∙ at_false (is_somebody_associated T.associations x) _ _ free ∙ at_false (is_rollback_only T x) _ _ (ap is_S4 e) in
+      subst (Led commit false D L x (Rollback x) f) (sym answer) (gone_so commit false D L x f (Rollback x) Done T y (named_self x (Some history.RolledBack) ∙ ap (λ c. Some (ended_as c)) is))
+
+  -- one that was decided tells so
+  decided_tells : (d : HeuristicDecision) → state_of T x ≡ Some (HeuristicallyCompleted d) → (b : Bool) → (next t (outcome_op b x) T).1 ≡ decision_code d
+  decided_tells d e true =
+      ap (λ (a : Answer). a.1) (asked_now t (Commit x false) T open_ has ∙ at_false (not (exists T x)) _ _ (ap (λ s. not (is_some s)) e) ∙ at_true (is_completed T x) _ _ (ap is_S5 e))
+      ∙ ap decision_in e
+  decided_tells d e false =
+      ap (λ (a : Answer). a.1) (asked_now t (Rollback x) T open_ has ∙ at_false (not (exists T x)) _ _ (ap (λ s. not (is_some s)) e) ∙ at_true (is_completed T x) _ _ (ap is_S5 e))
+      ∙ ap decision_in e
+
+  -- where what is told is listed, it is no longer open
+  pub ends_it : Stands commit true D L (state_of T x) f → ((d : HeuristicDecision) → (next t (outcome_op commit x) T).1 ≡ decision_code d → L)
+      → Led commit false D L x (outcome_op commit x) f (next t (outcome_op commit x) T)
+  ends_it (waits y o e g) told = prepared_ends y e commit refl
+  ends_it (unforgotten d e g l) told =
+      step_led commit false D L x f T (unforgotten d e g (inr (told d (decided_tells d e commit)))) sound t (outcome_op commit x) (ends_towards commit L x x)
+  ends_it (over e g) told = step_led commit false D L x f T (over e g) sound t (outcome_op commit x) (ends_towards commit L x x)
+
+-- ---- a reopening
+
+left_as : (T : Tables) (x : XidName) (o : Option State) → state_of T x ≡ o → state_of (reopened T) x ≡ cond (is_left_in o) o None
+left_as T x o e = state_reopened T x ∙ ap (λ s. cond (is_left_in s) s None) e
+
+pub as_decided : (commit : Bool) → reopened_fate (ended_as commit) ≡ ended_as commit
+as_decided true = refl
+as_decided false = refl
+
+pub by_itself : (d : HeuristicDecision) → reopened_fate (decided_fate d) ≡ decided_fate d
+by_itself decision.Commit = refl
+by_itself decision.Rollback = refl
+
+over_reopened : (commit : Bool) (D L : Type 0) (f : Fate) → IsOver commit D L f → IsOver commit D L (reopened_fate f)
+over_reopened commit D L f (inl z) = inl (z.0, ap reopened_fate z.1 ∙ as_decided commit)
+over_reopened commit D L f (inr z) = inr (z.0, (ap reopened_fate z.1.0 ∙ by_itself z.0, z.1.1))
+
+-- leaves the branch as it stands
+pub stands_reopened : (commit open_ : Bool) (D L : Type 0) (x : XidName) (T : Tables) (f : Fate) → Stands commit open_ D L (state_of T x) f
+    → Stands commit open_ D L (state_of (reopened T) x) (reopened_fate f)
+stands_reopened commit open_ D L x T f (waits y o e g) = waits y o (left_as T x _ e) (ap reopened_fate g)
+stands_reopened commit open_ D L x T f (unforgotten d e g l) = unforgotten d (left_as T x _ e) (ap reopened_fate g ∙ by_itself d) l
+stands_reopened commit open_ D L x T f (over e g) = over (left_as T x _ e) (over_reopened commit D L f g)
+
+-- a branch that is no longer open is over
+pub is_over : (commit : Bool) (D L : Type 0) (s : Option State) (f : Fate) → Stands commit false D L s f → IsOver commit D L f
+is_over commit D L s f (waits y o e g) = cc
+is_over commit D L s f (unforgotten d e g (inl o)) = cc
+is_over commit D L s f (unforgotten d e g (inr l)) = inr (d, (g, l))
+is_over commit D L s f (over e g) = g

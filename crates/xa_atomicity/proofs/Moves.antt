@@ -1,0 +1,195 @@
+-- What the requests of one thread with numbers in a range move, in a history.
+use Rattle.std.specs.Prelude.{ℤ, pos, ◌+ℤ◌, nat_le, if◌then◌else◌}
+use Rattle.std.proofs.Common.{◌≡◌, ℕ, suc, ◌+◌, ◌<◌, ◌≤◌, Bool, true, false, ◌==◌, ◌&&◌, ◌⊎◌, ⊎_elim, inl, inr, List, [], ◌∷◌, ◌++◌, length, get_or, sym, refl}
+use Rattle.std.proofs.Common.{ap, ◌∙◌, arith, eq-eqb}
+use Rattle.std.specs.List.{All, list_any}
+use Rattle.std.proofs.lemmas.Int.{ints}
+use Rattle.std.proofs.lemmas.Bool.{and_parts, eqb-true, le-leb, lt-leb, leb-true, leb-false, or_parts}
+use Rattle.std.proofs.lemmas.List.Elements.{All-nil, All-cons}
+use Rattle.std.proofs.Math.Bool.{and-false}
+use Rattle.std.proofs.Math.IntN.{+ℤ_idl as none_plus, +ℤ_idr as plus_none}
+use Rattle.xa_words.specs.declared.request.Op.{Op}
+use Rattle.xa_words.specs.declared.request.Op.TheVariants.{Commit, Heur}
+use Rattle.xa_words.specs.declared.code.Code.{Code}
+use Rattle.xa_words.specs.declared.request.Request.{Request}
+use Rattle.xa_tables.specs.Tables.{Tables}
+use Rattle.xa_tables.specs.Next.{next}
+use Rattle.xa_tables.specs.History.{History, of_thread, tables_after, is_done}
+use Rattle.xa_tables.specs.Worth.{moved, moved_by, held_by}
+use Rattle.xa_desk.specs.Lanes.{numbered}
+use Rattle.xa_driver.specs.Commits.{is_commit}
+use Rattle.xa_atomicity.specs.Conservation.{taken_before}
+use Rattle.xa_atomicity.proofs.Requests.{own_between}
+
+-- a request of thread t with a number from `first` to below `last`
+abbrev pub is_within : ℕ → ℕ → ℕ → Request → Bool
+is_within t first last r = (r.thread == t) && (nat_le first r.number && nat_le (suc r.number) last)
+
+abbrev Accounts : Type 0
+Accounts = List (List ℕ × ℕ)
+
+-- ---- numbers
+
+and_none : (a b c : Bool) → (a ≡ true → (b ≡ false) ⊎ (c ≡ false)) → (a && (b && c)) ≡ false
+and_none false b c h = refl
+and_none true b c h =
+    ⊎_elim (λ (e : b ≡ false). ap (λ q. q && c) e) (λ (e : c ≡ false). ap (λ q. b && q) e ∙ elim b as (λ q. (q && false) ≡ false) [ true ↦ refl | false ↦ refl ]) (h refl)
+
+-- a request whose number is outside
+pub outside : (t first last : ℕ) (r : Request) → (r.thread ≡ t → (r.number < first) ⊎ (last ≤ r.number)) → is_within t first last r ≡ false
+outside t first last r h =
+    and_none (r.thread == t) (nat_le first r.number) (nat_le (suc r.number) last) (λ e.
+    ⊎_elim (λ (lt : r.number < first). inl (lt-leb first r.number lt)) (λ (le : last ≤ r.number). inr (lt-leb (suc r.number) last (omega (arith, le)))) (h (eqb-true r.thread t e)))
+
+-- and one whose number is inside
+pub inside : (t first last : ℕ) (r : Request) → r.thread ≡ t → first ≤ r.number → r.number < last → is_within t first last r ≡ true
+inside t first last r own from below =
+    let thread : (r.thread == t) ≡ true = eq-eqb r.thread t own in
+    let lower : nat_le first r.number ≡ true = le-leb first r.number from in
+    let upper : nat_le (suc r.number) last ≡ true = le-leb (suc r.number) last (omega (arith, below)) in
+    λ i. thread i && (lower i && upper i)
+
+-- ---- histories
+
+pub moved_both : (accounts : Accounts) (passes : Request → Bool) (h g : History) (T : Tables)
+    → moved accounts passes (h ++ g) T ≡ moved accounts passes h T +ℤ moved accounts passes g (tables_after h T)
+moved_both accounts passes [] g T = sym (none_plus _)
+moved_both accounts passes (r ∷ h) g T =
+    let T1 : Tables = (next r.thread r.op T).0 in
+    regroup (if passes r then moved_by accounts r.op (next r.thread r.op T).1 T else pos 0) (moved accounts passes h T1) (moved accounts passes g (tables_after h T1)) (moved accounts passes (h ++ g) T1) (moved_both accounts passes h g T1)
+  where
+    regroup : (v a b c : ℤ) → c ≡ a +ℤ b → v +ℤ c ≡ (v +ℤ a) +ℤ b
+    regroup v a b c e = omega (arith, ints)
+
+-- what is no Commit moves nothing
+unmoving : (accounts : Accounts) (op : Op) (c : Code) (T : Tables) → is_commit op ≡ false → moved_by accounts op c T ≡ pos 0
+unmoving accounts (Commit x one_phase) c T e = cc
+unmoving accounts (Heur x commits) c T e = ap (λ b. if b then held_by accounts x T else pos 0) (ap (λ b. is_done c && b) e ∙ and-false (is_done c))
+unmoving accounts op c T e = refl
+
+pub moved_without : (accounts : Accounts) (passes : Request → Bool) (h : History) (T : Tables) → All (λ r. passes r ≡ true → is_commit r.op ≡ false) h
+    → moved accounts passes h T ≡ pos 0
+moved_without accounts passes [] T none = refl
+moved_without accounts passes (r ∷ h) T none =
+    let T1 : Tables = (next r.thread r.op T).0 in
+    let first : (if passes r then moved_by accounts r.op (next r.thread r.op T).1 T else pos 0) ≡ pos 0 =
+    elim (passes r) as (λ b. (b ≡ true → is_commit r.op ≡ false) → (if b then moved_by accounts r.op (next r.thread r.op T).1 T else pos 0) ≡ pos 0) [
+      | true ↦ λ e. unmoving accounts r.op (next r.thread r.op T).1 T (e refl)
+      | false ↦ λ e. refl
+    ] (none 0 r (omega arith)) in
+    λ i. first i +ℤ moved_without accounts passes h T1 (λ k d lt. none (suc k) d (omega arith)) i
+
+pub moved_none : (accounts : Accounts) (passes : Request → Bool) (h : History) (T : Tables) → All (λ r. passes r ≡ false) h → moved accounts passes h T ≡ pos 0
+moved_none accounts passes h T none = moved_without accounts passes h T (λ k d lt passed. let z : true ≡ false = sym passed ∙ none k d lt in cc)
+
+-- tests that agree pass the same
+pub moved_alike : (accounts : Accounts) (p q : Request → Bool) (h : History) (T : Tables) → All (λ r. p r ≡ q r) h → moved accounts p h T ≡ moved accounts q h T
+moved_alike accounts p q [] T same = refl
+moved_alike accounts p q (r ∷ h) T same =
+    let T1 : Tables = (next r.thread r.op T).0 in
+    λ i. (if same 0 r (omega arith) i then moved_by accounts r.op (next r.thread r.op T).1 T else pos 0) +ℤ moved_alike accounts p q h T1 (λ k d lt. same (suc k) d (omega arith)) i
+
+-- accounts that aren't there are worth nothing
+pub moved_nothing : (passes : Request → Bool) (h : History) (T : Tables) → moved [] passes h T ≡ pos 0
+moved_nothing passes [] T = refl
+moved_nothing passes (r ∷ h) T =
+    let T1 : Tables = (next r.thread r.op T).0 in
+    let c : Code = (next r.thread r.op T).1 in
+    let first : (if passes r then moved_by [] r.op c T else pos 0) ≡ pos 0 =
+    elim (passes r) as (λ b. (if b then moved_by [] r.op c T else pos 0) ≡ pos 0) [ true ↦ no_worth r.op c T | false ↦ refl ] in
+    λ i. first i +ℤ moved_nothing passes h T1 i
+  where
+    no_worth : (op : Op) (c : Code) (T : Tables) → moved_by [] op c T ≡ pos 0
+    no_worth (Commit x one_phase) c T = elim (is_done c) as (λ b. (if b then pos 0 else pos 0) ≡ pos 0) [ true ↦ refl | false ↦ refl ]
+    no_worth (Heur x commits) c T = elim (is_done c && commits) as (λ b. (if b then pos 0 else pos 0) ≡ pos 0) [ true ↦ refl | false ↦ refl ]
+    no_worth op c T = refl
+
+-- what is passed at one place alone
+pub moved_at : (accounts : Accounts) (passes : Request → Bool) (before after : History) (r : Request) (T : Tables) → All (λ q. passes q ≡ false) before
+    → passes r ≡ true → All (λ q. passes q ≡ false) after
+    → moved accounts passes (before ++ r ∷ after) T ≡ moved_by accounts r.op (next r.thread r.op (tables_after before T)).1 (tables_after before T)
+moved_at accounts passes before after r T none here later =
+    let U : Tables = tables_after before T in
+    let v : ℤ = moved_by accounts r.op (next r.thread r.op U).1 U in
+    moved_both accounts passes before (r ∷ after) T
+    ∙ (λ i. moved_none accounts passes before T none i +ℤ ((if here i then v else pos 0) +ℤ moved_none accounts passes after (next r.thread r.op U).0 later i))
+    ∙ none_plus _ ∙ plus_none v
+
+-- ---- ranges of numbers
+
+either_range : (own : Bool) (a b : ℕ) (n : ℕ) (v : ℤ) → a ≤ b → (if own && (nat_le 0 n && nat_le (suc n) b) then v else pos 0)
+    ≡ (if own && (nat_le 0 n && nat_le (suc n) a) then v else pos 0) +ℤ (if own && (nat_le a n && nat_le (suc n) b) then v else pos 0)
+either_range false a b n v le = refl
+either_range true a b n v le =
+    let from : nat_le 0 n ≡ true = le-leb 0 n (omega arith) in
+    ap (λ q. if q && nat_le (suc n) b then v else pos 0) from
+    ∙ elim (nat_le a n) as (λ q. nat_le a n ≡ q → (if nat_le (suc n) b then v else pos 0) ≡ (if nat_le (suc n) a then v else pos 0) +ℤ (if q && nat_le (suc n) b then v else pos 0)) [
+      | true ↦ λ e.
+          let below : nat_le (suc n) a ≡ false = lt-leb (suc n) a (let up = leb-true a n e in omega (arith, up)) in
+          sym (ap (λ q. (if q then v else pos 0) +ℤ (if nat_le (suc n) b then v else pos 0)) below ∙ none_plus _)
+      | false ↦ λ e.
+          let up : suc n ≤ a = leb-false a n e in
+          let here : nat_le (suc n) a ≡ true = le-leb (suc n) a up in
+          let there : nat_le (suc n) b ≡ true = le-leb (suc n) b (omega (arith, up, le)) in
+          ap (λ q. if q then v else pos 0) there ∙ sym (ap (λ q. (if q then v else pos 0) +ℤ pos 0) here ∙ plus_none v)
+    ] refl
+    ∙ ap (λ q. (if q && nat_le (suc n) a then v else pos 0) +ℤ (if nat_le a n && nat_le (suc n) b then v else pos 0)) (sym from)
+
+-- a range of numbers from 0 on may be parted
+pub moved_parted : (accounts : Accounts) (t a b : ℕ) (h : History) (T : Tables) → a ≤ b
+    → moved accounts (is_within t 0 b) h T ≡ moved accounts (is_within t 0 a) h T +ℤ moved accounts (is_within t a b) h T
+moved_parted accounts t a b [] T le = refl
+moved_parted accounts t a b (r ∷ h) T le =
+    let T1 : Tables = (next r.thread r.op T).0 in
+    let v : ℤ = moved_by accounts r.op (next r.thread r.op T).1 T in
+    (λ i. either_range (r.thread == t) a b r.number v le i +ℤ moved_parted accounts t a b h T1 le i)
+    ∙ regroup (if is_within t 0 a r then v else pos 0) (if is_within t a b r then v else pos 0) (moved accounts (is_within t 0 a) h T1) (moved accounts (is_within t a b) h T1)
+  where
+    regroup : (u v a b : ℤ) → (u +ℤ v) +ℤ (a +ℤ b) ≡ (u +ℤ a) +ℤ (v +ℤ b)
+    regroup u v a b = omega (arith, ints)
+
+-- ---- numbers of a thread's requests
+
+-- what a request within them is
+pub within_parts : (t first last : ℕ) (r : Request) → is_within t first last r ≡ true → (r.thread ≡ t) × (first ≤ r.number) × (r.number < last)
+within_parts t first last r e =
+    let own = and_parts (r.thread == t) _ e in
+    let range = and_parts (nat_le first r.number) _ own.1 in
+    let from = leb-true first r.number range.0 in
+    let below = leb-true (suc r.number) last range.1 in
+    (eqb-true r.thread t own.0, from, omega (arith, below))
+
+module _ (t : ℕ) where
+  -- what was taken before a request of the thread
+  pub taken_is : (n : ℕ) (before after : History) (r : Request) → r.thread ≡ t → r.number ≡ n
+      → ((k : ℕ) (d : Request) → k < length before → (get_or before k d).thread ≡ t → (get_or before k d).number < n)
+      → taken_before t n (before ++ r ∷ after) ≡ before
+  taken_is n [] after r own number below =
+      let here : (r.thread == t) ≡ true = eq-eqb r.thread t own in
+      let there : (r.number == n) ≡ true = eq-eqb r.number n number in
+      λ i. if here i && there i then [] else r ∷ taken_before t n after
+  taken_is n (q ∷ before) after r own number below =
+      let other : ((q.thread == t) && (q.number == n)) ≡ false =
+      elim (q.thread == t) as (λ b. (q.thread == t) ≡ b → (b && (q.number == n)) ≡ false) [
+        | true ↦ λ e.
+            let lt = below 0 q (omega arith) (eqb-true q.thread t e) in
+            elim (q.number == n) as (λ c. (q.number == n) ≡ c → c ≡ false) [ true ↦ λ f. absurd (let same = eqb-true q.number n f in omega (arith, lt, same)) | false ↦ λ f. refl ] refl
+        | false ↦ λ e. refl
+      ] refl in
+      (λ i. if other i then [] else q ∷ taken_before t n (before ++ r ∷ after))
+      ∙ ap (λ l. q ∷ l) (taken_is n before after r own number (λ k d lt. below (suc k) d (omega arith)))
+
+  -- where no Commit was sent in between, none stands among the requests with those numbers
+  pub no_commits : (h : History) (pre more post : List Op) → of_thread t h ≡ numbered t 0 (pre ++ (more ++ post)) → list_any is_commit more ≡ false
+      → (a b : ℕ) → length pre ≤ a → b ≤ length pre + length more → All (λ r. is_within t a b r ≡ true → is_commit r.op ≡ false) h
+  no_commits h pre more post e none a b from to k d lt here =
+      let w = within_parts t a b (get_or h k d) here in
+      let up = w.1 in
+      let down = w.2 in
+      own_between t (λ op. is_commit op ≡ false) h pre more post e (each_none more none) k d lt w.0 (omega (arith, up, from)) (omega (arith, down, to))
+    where
+      each_none : (ops : List Op) → list_any is_commit ops ≡ false → All (λ op. is_commit op ≡ false) ops
+      each_none [] none = All-nil (λ (op : Op). is_commit op ≡ false)
+      each_none (op ∷ ops) none =
+          let parts = or_parts (is_commit op) (list_any is_commit ops) none in
+          All-cons (λ (op : Op). is_commit op ≡ false) op ops parts.0 (each_none ops parts.1)

@@ -1,0 +1,90 @@
+-- A commit in an opening and a resolve in the next one, with nothing else in either.
+use Rattle.std.proofs.Common.{◌≡◌, ◌≢◌, ℕ, ◌≤◌, List, [], ◌∷◌, length, refl, arith, Some}
+use Rattle.std.specs.List.{All}
+use Rattle.std.proofs.lemmas.List.Elements.{All-nil, All-cons}
+use Rattle.xa_base.specs.declared.limits.TheConstants.{MOST_MANAGERS}
+use Rattle.xa_words.specs.Tran.{TranName}
+use Rattle.xa_words.specs.declared.code.Code.TheVariants.{RmFail}
+use Rattle.xa_tables.specs.Tables.{Tables}
+use Rattle.xa_tables.specs.Openings.{AreLeft}
+use Rattle.xa_switch.specs.Again.{reopening}
+use Rattle.xa_switch.specs.Fates.{first_of}
+use Rattle.xa_switch.specs.OfPlans.{IsOf}
+use Rattle.xa_switch.specs.Recovery.{IsScanOf}
+use Rattle.xa_switch.specs.Scans.{ScanView, left_at}
+use Rattle.xa_switch.specs.Settling.{Settling, IsSettled}
+use Rattle.xa_switch.specs.declared.plan.Again.{Again}
+use Rattle.xa_desk.specs.DeskView.{DeskView}
+use Rattle.xa_driver.specs.declared.branch.Branch.{Branch}
+use Rattle.xa_log.specs.Log.{LogState, record_in, record_of}
+use Rattle.xa_atomicity.specs.Outcomes.{AreLeftOrDecided, sent_so_far}
+use Rattle.xa_atomicity.specs.Presumed.{AskedAreLeft, IsOfAnother, IsResolvedAfter}
+use Rattle.xa_atomicity.specs.Resolution.{CommitCall, CutCall, ResolveCall, Use, commits, cuts, resolves, AreUses, Continues, IsByItsThread, IsFollowed, IsKept}
+use Rattle.xa_atomicity.specs.Resolution.{IsOutcomeOf, IsResolved, IsUseIn, OnlyResolves, with_use}
+use Rattle.xa_driver.specs.Trace.{IsTranOf}
+use Rattle.xa_atomicity.proofs.Scanned.{begins_with, left_each, was_there}
+
+pub kept_with : (s : Settling) (u : Use) → IsSettled s → IsUseIn s u → IsKept (with_use s u)
+kept_with s u settled made = record { settled = settled; uses = All-cons (IsUseIn s) u [] made (All-nil (IsUseIn s)) }
+
+both_kept : (s next : Settling) (u v : Use) → IsSettled s → IsUseIn s u → IsSettled next → IsUseIn next v → All IsKept (with_use s u ∷ with_use next v ∷ [])
+both_kept s next u v settled made last_settled resolved =
+    All-cons IsKept (with_use s u) (with_use next v ∷ []) (kept_with s u settled made) (All-cons IsKept (with_use next v) [] (kept_with next v last_settled resolved) (All-nil IsKept))
+
+-- the scan that the reopening gave is of the tables that the next opening begins with
+pub scan_of : (s next : Settling) (again : Again) (z : ScanView) → IsOf (reopening s again) next → IsScanOf s z → (m : ℕ) (T : Tables)
+    → first_of next m ≡ Some T → AreLeft (left_at z m) T
+scan_of s next again z of scanned m T first =
+    let within = was_there s next again m T of first in
+    let low = within.0 in
+    let high = within.1 in
+    let many = scanned.left.managers in
+    rw (begins_with s next again m T of first) (left_each _ z scanned.left.each m low (omega (arith, high, many)))
+
+-- what is the same of a commit and of one that was cut short
+module _ (s next : Settling) (again : Again) (u : Use) (bs : List Branch) (desk : DeskView) (left : LogState) (q : ResolveCall) (settled : IsSettled s)
+    (made : IsUseIn s u) (few : length desk.ledgers ≤ MOST_MANAGERS)
+    (last_settled : IsSettled next) (resolved : IsUseIn next (resolves q)) (continues : Continues s next) (of : IsOf (reopening s again) next) (scanned : IsScanOf s q.scan) where
+  abbrev next_follows : ((t : TranName) → IsTranOf bs t → AreUses t left.records (resolves q ∷ []))
+      → ((t : TranName) → IsTranOf bs t → OnlyResolves t (with_use next (resolves q))) → All (λ r. IsOutcomeOf bs r → r.code ≢ RmFail) q.outcomes
+      → IsFollowed (with_use s u) [] (with_use next (resolves q)) u bs desk left q
+  next_follows log later reached = record {
+    kept = both_kept s next u (resolves q) settled made last_settled resolved;
+    in_a_row = (continues, tt);
+    us = [];
+    vs = [];
+    use_at = refl;
+    ps = [];
+    qs = [];
+    resolve_at = refl;
+    few = few;
+    log = log;
+    later = λ t tran left. All-cons (OnlyResolves t) (with_use next (resolves q)) [] (later t tran) (All-nil (OnlyResolves t));
+    scan = scan_of s next again q.scan of scanned;
+    reached = reached;
+  }
+
+pub next_resolved : (s next : Settling) (again : Again) (c : CommitCall) (q : ResolveCall)
+    → IsSettled s → IsUseIn s (commits c) → length c.desk.ledgers ≤ MOST_MANAGERS
+    → AreLeftOrDecided s c.thread c.branches (sent_so_far c.desk.ledgers) (sent_so_far c.new)
+    → IsSettled next → IsUseIn next (resolves q) → Continues s next → IsOf (reopening s again) next → IsScanOf s q.scan
+    → ((t : TranName) → IsTranOf c.branches t → record_in q.records t ≡ record_of c.later t)
+    → ((t : TranName) → IsTranOf c.branches t → OnlyResolves t (with_use next (resolves q))) → All (λ r. IsOutcomeOf c.branches r → r.code ≢ RmFail) q.outcomes
+    → IsResolved (with_use s (commits c)) [] (with_use next (resolves q)) c q
+next_resolved s next again c q settled made few own last_settled resolved continues of scanned log later reached = record {
+  followed = next_follows s next again (commits c) c.branches c.desk c.later q settled made few last_settled resolved continues of scanned (λ t tran. (log t tran, tt)) later reached;
+  its_thread = All-nil (IsByItsThread c);
+  own = own;
+}
+
+pub next_resolved_after : (s next : Settling) (again : Again) (k : CutCall) (q : ResolveCall)
+    → IsSettled s → IsUseIn s (cuts k) → length k.desk.ledgers ≤ MOST_MANAGERS → AskedAreLeft k s
+    → IsSettled next → IsUseIn next (resolves q) → Continues s next → IsOf (reopening s again) next → IsScanOf s q.scan
+    → ((t : TranName) → IsTranOf k.branches t → record_in q.records t ≡ record_of k.later t)
+    → ((t : TranName) → IsTranOf k.branches t → OnlyResolves t (with_use next (resolves q))) → All (λ r. IsOutcomeOf k.branches r → r.code ≢ RmFail) q.outcomes
+    → IsResolvedAfter (with_use s (cuts k)) [] (with_use next (resolves q)) k q
+next_resolved_after s next again k q settled made few own last_settled resolved continues of scanned log later reached = record {
+  followed = next_follows s next again (cuts k) k.branches k.desk k.later q settled made few last_settled resolved continues of scanned (λ t tran. (log t tran, tt)) later reached;
+  alone = λ t tran. All-nil (IsOfAnother t);
+  own = own;
+}

@@ -1,0 +1,170 @@
+-- One outcome for all the branches of a call.
+use Rattle.std.specs.Prelude.{◌≡◌, Bool, true, false, cond, not, ◌||◌, Option, None, Some, List, [], ◌∷◌, refl}
+use Rattle.std.proofs.Common.{sym, ap, ◌∙◌, subst}
+use Rattle.std.specs.List.{list_any}
+use Rattle.std.specs.FinMap as map
+use Rattle.std.specs.FinMap.{get-insert}
+use Rattle.std.specs.Ordering.{is_eq, eq_by_cmp}
+use Rattle.std.specs.Cmp.{tied_itself}
+use Rattle.std.proofs.lemmas.Bool.{and_parts, or_parts, or_from, not-true}
+use Rattle.xa_words.specs.Tran.{TranName}
+use Rattle.xa_words.specs.declared.code.Code.{Code}
+use Rattle.xa_tables.specs.History.{is_done}
+use Rattle.xa_tables.specs.History as history
+use Rattle.xa_desk.specs.LedgerView.{LedgerView, is_rm_fail}
+use Rattle.xa_desk.specs.DeskView.{DeskView, ledger}
+use Rattle.xa_log.specs.Transactions.{tran_cmp}
+use Rattle.xa_driver.specs.declared.branch.Branch.{Branch}
+use Rattle.xa_driver.specs.declared.done.Done.{Done}
+use Rattle.xa_driver.specs.declared.done.Ending.{Ending}
+use Rattle.xa_driver.specs.Decision.{is_yes, is_read, is_no, has_yes, yes_of}
+use Rattle.xa_driver.specs.Endings.{ending_of, yes_ending, no_ending, is_out_of_reach, is_heuristic}
+use Rattle.xa_log.specs.Log.{LogState, record_of}
+use Rattle.xa_driver.specs.Course.{AtBranch}
+use Rattle.xa_driver.specs.Resolving.{AsksLedger}
+use Rattle.xa_driver.specs.Trace.{EachBranch, IsCommit, IsTraceOfCommit, IsTranOf, MayCommit, Logs, appended, failed, unwanted, wants_record}
+use Rattle.xa_atomicity.specs.Outcomes.{is_committed, is_rolled_back, has_committed, has_rolled_back, has_vote_against, append_failed, was_refused}
+use Rattle.xa_atomicity.specs.Outcomes.{IsCommittedTransaction, IsAbortedTransaction}
+use Rattle.xa_base.proofs.Truth.{by_if}
+use Rattle.xa_atomicity.proofs.Aborts.{abort_sends_no_commit, failed_append_aborts}
+use Rattle.xa_atomicity.proofs.Records.{none_on_abort}
+use Rattle.xa_log.proofs.Transactions.{tran_cmp_total}
+use Rattle.xa_driver.proofs.Calls.{one_tran}
+
+abbrev Falls : (Ending → Bool) → Ending → Type 0
+Falls test e = test e ≡ false
+
+-- a vote is to commit, that the branch only read, or against
+pub neither : (v : Code) → is_yes v ≡ false → is_read v ≡ false → is_no v ≡ true
+neither v against unread = λ i. not (against i || unread i)
+
+-- on abort nothing is committed
+not_by_abort : (v : Code) (s : Option Code) → Falls is_committed (yes_ending false s)
+not_by_abort v None = refl
+not_by_abort v (Some c) =
+    by_if (Falls is_committed) (is_done c) _ _ (λ _. refl) (λ _. by_if (Falls is_committed) (is_rm_fail c) _ _ (λ _. refl) (λ _. by_if (Falls is_committed) (is_heuristic c) _ _ (λ _. refl) (λ _. refl)))
+
+not_by_no : (v : Code) (s : Option Code) → Falls is_committed (no_ending v s)
+not_by_no v None = refl
+not_by_no v (Some c) =
+    by_if (Falls is_committed) (is_done c || history.is_rolled_back c) _ _ (λ _. refl) (λ _. by_if (Falls is_committed) (is_heuristic c) _ _ (λ _. refl) (λ _. refl))
+
+-- what isn't voted for isn't committed
+unvoted : (commit : Bool) (v : Code) (s : Option Code) → is_yes v ≡ false → Falls is_committed (ending_of commit v s)
+unvoted commit v s e =
+    by_if (Falls is_committed) (is_yes v) _ _ (λ t. cc) (λ _.
+    by_if (Falls is_committed) (is_read v) _ _ (λ _. refl) (λ _.
+    by_if (Falls is_committed) (history.is_rolled_back v) _ _ (λ _. refl) (λ _.
+    by_if (Falls is_committed) (is_out_of_reach v) _ _ (λ _. refl) (λ _. not_by_no v s))))
+
+uncommitted : (v : Code) (s : Option Code) → Falls is_committed (ending_of false v s)
+uncommitted v s =
+    elim (is_yes v) as (λ b. is_yes v ≡ b → Falls is_committed (ending_of false v s)) [
+      | true ↦ λ e. by_if (Falls is_committed) (is_yes v) _ _ (λ _. not_by_abort v s) (λ f. cc)
+      | false ↦ λ e. unvoted false v s e
+    ] refl
+
+-- on commit nothing is rolled back, where no vote is against
+kept_by_commit : (s : Option Code) → Falls is_rolled_back (yes_ending true s)
+kept_by_commit None = refl
+kept_by_commit (Some c) =
+    by_if (Falls is_rolled_back) (is_done c) _ _ (λ _. refl) (λ _. by_if (Falls is_rolled_back) (is_rm_fail c) _ _ (λ _. refl) (λ _. by_if (Falls is_rolled_back) (is_heuristic c) _ _ (λ _. refl) (λ _. refl)))
+
+not_rolled_back : (v : Code) (s : Option Code) → is_no v ≡ false → Falls is_rolled_back (ending_of true v s)
+not_rolled_back v s e =
+    by_if (Falls is_rolled_back) (is_yes v) _ _ (λ _. kept_by_commit s) (λ one.
+    by_if (Falls is_rolled_back) (is_read v) _ _ (λ _. refl) (λ two. let z = neither v one two in cc))
+
+-- a test that no ending of a call passes
+module _ (Q : Branch → Code → Option Code → Ending → Type 0) (commit : Bool) (test : Ending → Bool) (bad : Code → Bool)
+    (ends : (b : Branch) (v : Code) (s : Option Code) (e : Ending) → Q b v s e → e ≡ ending_of commit v s)
+    (falls : (v : Code) (s : Option Code) → bad v ≡ false → Falls test (ending_of commit v s)) where
+  none_end : (bs : List Branch) (vs : List Code) (ss : List (Option Code)) (es : List Ending) → EachBranch Q bs vs ss es → list_any bad vs ≡ false
+      → list_any test es ≡ false
+  none_end [] [] [] [] h n = refl
+  none_end (b ∷ bs) (v ∷ vs) (s ∷ ss) (e ∷ es) h n =
+      or_from _ _ (ap test (ends b v s e h.0) ∙ falls v s (or_parts _ _ n).0) (none_end bs vs ss es h.1 (or_parts _ _ n).1)
+  none_end bs vs ss es h n = absurd h
+
+never : Code → Bool
+never v = false
+
+any_never : (vs : List Code) → list_any never vs ≡ false
+unfolding never
+any_never [] = refl
+any_never (v ∷ vs) = any_never vs
+
+same_tran : (t : TranName) → eq_by_cmp tran_cmp t t ≡ true
+same_tran t = ap is_eq (tied_itself tran_cmp_total t)
+
+module _ (tran : TranName) (bs : List Branch) (desk : DeskView) (new : List LedgerView) (log later : LogState) (d : Done)
+    (made : IsCommit bs desk new log later d) (of_tran : IsTranOf bs tran) where
+  abbrev may : MayCommit desk log bs
+  may = made.may
+
+  same_tran_here : may.tran ≡ tran
+  same_tran_here = one_tran bs may.tran tran may.some may.one of_tran
+
+  call : IsTraceOfCommit tran bs desk.ledgers new log later d
+  call = subst (λ (t : TranName). IsTraceOfCommit t bs desk.ledgers new log later d) same_tran_here made.trace
+
+  abbrev votes : List Code
+  votes = d.votes.items
+
+  abbrev Traces : Branch → Code → Option Code → Ending → Type 0
+  Traces b v s e = AtBranch AsksLedger d.commit b v s e (ledger desk.ledgers b.m) (ledger new b.m)
+
+  ends : (b : Branch) (v : Code) (s : Option Code) (e : Ending) → Traces b v s e → e ≡ ending_of d.commit v s
+  ends b v s e is = is.ends
+
+  absent : record_of log tran ≡ None
+  absent = ap (record_of log) (sym same_tran_here) ∙ may.absent
+
+  recorded : Logs tran (yes_of bs votes) votes d.logged log later → d.logged ≡ true → record_of later tran ≡ Some (yes_of bs votes)
+  recorded (appended wants on is) e =
+      ap (λ l. record_of l tran) is ∙ get-insert tran_cmp_total log.records tran (yes_of bs votes) tran
+      ∙ ap (λ b. cond b (Some (yes_of bs votes)) (map.get log.records tran)) (same_tran tran)
+  recorded (failed wants off is) e = cc
+  recorded (unwanted wants off is) e = cc
+
+  -- on abort
+  aborted : d.commit ≡ false → IsAbortedTransaction tran desk.ledgers new later d
+  aborted off = record {
+    uncommitted = none_end Traces d.commit is_committed never ends (λ v s _. ap (λ c. is_committed (ending_of c v s)) off ∙ uncommitted v s) bs votes call.course.seconds d.endings.items call.course.each (any_never votes);
+    unrecorded = none_on_abort tran (yes_of bs votes) votes d.logged d.commit log later call.course.decision off absent call.course.logs;
+    unsent = abort_sends_no_commit tran bs desk.ledgers new log later d call off;
+  }
+
+  -- on commit no vote is against, and nothing is rolled back
+  unopposed : d.commit ≡ true → has_vote_against d ≡ false
+  unopposed on = not-true _ (and_parts _ _ (sym call.course.decision ∙ on)).0
+
+  kept : d.commit ≡ true → has_rolled_back d ≡ false
+  kept on =
+      none_end Traces d.commit is_rolled_back is_no ends (λ v s e. ap (λ c. is_rolled_back (ending_of c v s)) on ∙ not_rolled_back v s e) bs votes call.course.seconds d.endings.items call.course.each (unopposed on)
+
+  pub committed_law : has_committed d ≡ true → IsCommittedTransaction tran bs later d
+  committed_law some =
+      let on : d.commit ≡ true =
+      elim (d.commit) as (λ c. d.commit ≡ c → c ≡ true) [ true ↦ λ e. refl | false ↦ λ e. let z = (aborted e).uncommitted in cc ] refl in
+      let some_yes : has_yes votes ≡ true = elim (has_yes votes) as (λ y. has_yes votes ≡ y → y ≡ true) [
+        | true ↦ λ e. refl
+        | false ↦ λ e. let z = none_end Traces d.commit is_committed is_yes ends (λ v s n. unvoted d.commit v s n) bs votes call.course.seconds d.endings.items call.course.each e in cc
+      ] refl in
+      let in_log : d.logged ≡ true = sym (ap (λ y. not y || d.logged) some_yes) ∙ (and_parts _ _ (sym call.course.decision ∙ on)).1 in
+      record { unopposed = unopposed on; recorded = recorded call.course.logs in_log; kept = kept on }
+
+  -- where the log didn't take the record
+  unlogged : append_failed d ≡ true → d.commit ≡ false
+  unlogged e =
+      failed_append_aborts tran bs desk.ledgers new log later d call (and_parts _ _ e).0 (not-true _ (and_parts (wants_record votes) (not d.logged) e).1)
+
+  pub aborted_law : was_refused d ≡ true → IsAbortedTransaction tran desk.ledgers new later d
+  aborted_law refused =
+      aborted (elim (d.commit) as (λ c. d.commit ≡ c → c ≡ false) [
+        | false ↦ λ e. refl
+        | true ↦ λ on.
+            let logged_so : append_failed d ≡ false =
+            elim (append_failed d) as (λ b. append_failed d ≡ b → b ≡ false) [ true ↦ λ e. let z = unlogged e in cc | false ↦ λ e. refl ] refl in
+            let z : was_refused d ≡ false = or_from _ _ (unopposed on) (or_from _ _ (kept on) logged_so) in cc
+      ] refl)

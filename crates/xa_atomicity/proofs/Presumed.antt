@@ -1,0 +1,446 @@
+-- One outcome for each global transaction whose commit was cut short, over openings one after another.
+use Rattle.std.specs.Prelude.{◌&&◌, not, option_map, is_some, unwrap_or, cond}
+use Rattle.std.proofs.Common.{◌≡◌, ◌≢◌, ℕ, zero, ◌+◌, ◌<◌, Bool, true, false, ◌==◌, ◌||◌, if◌then◌else◌, List, [], ◌∷◌, ◌++◌, length, get_or, slice_get, sym}
+use Rattle.std.proofs.Common.{refl, ap, ◌∙◌, subst, arith, Option, Some, None}
+use Rattle.std.specs.List.{All, Contains}
+use Rattle.std.specs.FinMap as map
+use Rattle.std.specs.FinMap.{get-insert}
+use Rattle.std.specs.Ordering.{is_eq}
+use Rattle.std.specs.Cmp.{tied_itself}
+use Rattle.std.proofs.lemmas.Bool.{eq-eqb, ne_eqb, and_parts}
+use Rattle.std.proofs.lemmas.List.Elements.{All-nil, All-cons, All-append, All-contains, All-head, All-tail, Contains-append_right}
+use Rattle.std.proofs.Math.Bool.{or-true, and-false}
+use Rattle.xa_base.specs.declared.limits.TheConstants.{MOST_MANAGERS}
+use Rattle.xa_base.specs.Lists.{Begins, IsUpTo}
+use Rattle.xa_base.proofs.Lists.{all_after, all_mid, all_right}
+use Rattle.xa_base.proofs.Truth.{at_true}
+use Rattle.xa_words.specs.Xid.{XidName}
+use Rattle.xa_words.specs.Tran.{TranName, tran_of}
+use Rattle.xa_words.specs.declared.code.Code.{Code}
+use Rattle.xa_words.specs.declared.code.Code.TheVariants.{Done, RmFail}
+use Rattle.xa_words.specs.declared.request.Op.{Op}
+use Rattle.xa_words.specs.declared.request.Op.TheVariants.{Prepare}
+use Rattle.xa_words.specs.declared.request.Request.{Request}
+use Rattle.xa_tables.specs.Tables.{Tables, state_of, is_left_in}
+use Rattle.xa_tables.specs.History as history
+use Rattle.xa_tables.specs.History.{History, Fate, IsFateOf, coded, fate, tables_after}
+use Rattle.xa_tables.specs.Openings.{reopened, told_by}
+use Rattle.xa_tables.proofs.Reopening.{as_left}
+use Rattle.xa_desk.specs.LedgerView.{LedgerView, learnt_shut}
+use Rattle.xa_desk.specs.DeskView.{ledger}
+use Rattle.xa_desk.specs.Growth.{HasGrown, HaveGrown}
+use Rattle.xa_worker.specs.Journal.{Entry, requests}
+use Rattle.xa_switch.specs.Again.{reopened_at}
+use Rattle.xa_switch.specs.Fates.{IsOpenedWith, first_of, history as history_of, ledgers_of}
+use Rattle.xa_switch.specs.Settling.{ManagerPart, Settling, IsSettled, answers, collected, find_manager, journal, journal_in}
+use Rattle.xa_driver.specs.declared.branch.Branch.{Branch}
+use Rattle.xa_driver.specs.declared.done.Ending.{Ending}
+use Rattle.xa_driver.specs.declared.done.Ending.TheVariants.{InDoubt}
+use Rattle.xa_driver.specs.declared.resolved.Outcome.{Outcome}
+use Rattle.xa_atomicity.specs.Cut.{CameSoFar, EachVote, IsAsked, IsCut, IsEnded, IsTold, asking, ending_at, forgetting, is_recorded, known_at, telling}
+use Rattle.xa_driver.specs.Decision.{decides_commit, has_yes, is_yes, voted_yes, yes_of}
+use Rattle.xa_driver.specs.Endings.{ending_of, is_decided, yes_ending}
+use Rattle.xa_log.specs.Log.{LogState, Records, record_of}
+use Rattle.xa_atomicity.specs.Outcomes.{OnlyTheseOrDecisionsName, is_heuristic}
+use Rattle.xa_atomicity.specs.Presumed.{AskedAreLeft, CountsByTheLog, EndsByTheLog, IsResolvedAfter, VotedToCommit, WasAsked, known_of}
+use Rattle.xa_driver.specs.Resolving.{names, outcome_op}
+use Rattle.xa_atomicity.specs.Resolution.{AreUses, CutCall, EndsAs, HasLeftOf, IsFollowed, IsKept, IsOutcomeOf, IsUseIn, OnlyResolves, Opening, ResolveCall}
+use Rattle.xa_atomicity.specs.Resolution.{Use, cuts, resolves, uses_of}
+use Rattle.xa_atomicity.specs.Tabled.{Tabled}
+use Rattle.xa_driver.specs.Trace.{AreBranchesRising, EachBranch, HaveRoom, IsTranOf, Logs, appended, decision_of, failed, unwanted}
+use Rattle.xa_atomicity.specs.Worth.{IsUnlisted, SharesOver}
+use Rattle.xa_atomicity.proofs.BranchEnds.{Follows, IsMarked, branch_follows}
+use Rattle.xa_atomicity.proofs.CutBranch.{HasSentOnly, WasTold, asked_only, ended_voted_so, open_so, sent_end, sent_fates, told_end, told_only, told_voted_so}
+use Rattle.xa_atomicity.proofs.CutBranch.{vote_is, voted_only, was_told}
+use Rattle.xa_atomicity.proofs.CutVotes.{Ended, HasVoted, branch_votes}
+use Rattle.xa_atomicity.proofs.Leading.{IsTowards}
+use Rattle.xa_atomicity.proofs.Naming.{prepare_part}
+use Rattle.xa_driver.proofs.Calls.{one_tran}
+use Rattle.xa_atomicity.proofs.Placing.{request_of, fates}
+use Rattle.xa_atomicity.proofs.Later.{ends_with}
+use Rattle.xa_atomicity.proofs.Quiet.{quiet_alone, quiet_openings}
+use Rattle.xa_atomicity.proofs.Records.{FindsMark, IsQuiet, is_marked, marks_stay, own_mark, some_yes}
+use Rattle.xa_atomicity.proofs.Settled.{by_ledger}
+use Rattle.xa_log.proofs.Transactions.{tran_cmp_total}
+use Rattle.xa_atomicity.proofs.Voting.{AtEnd, Comes, once}
+
+-- ---- the record is the decision, where a branch voted to commit
+
+none_left : (a b : Bool) → (a && b) ≡ false → b ≡ true → a ≡ false
+none_left true b e f = let z : true ≡ false = sym f ∙ e in cc
+none_left false b e f = refl
+
+pub recorded_is : (t : TranName) (managers : List Bool) (votes : List Code) (logged : Bool) (log later : LogState) → record_of log t ≡ None
+    → has_yes votes ≡ true → Logs t managers votes logged log later → decision_of votes logged ≡ is_recorded later t
+recorded_is t managers votes logged log later absent some (appended wants on is) =
+    (λ i. (and_parts (decides_commit votes) (has_yes votes) wants).0 i && (not (has_yes votes) || on i)) ∙ ap (λ b. true && b) (or-true (not (has_yes votes)))
+    ∙ sym (ap (λ (l : LogState). is_some (record_of l t)) is ∙ ap is_some (get-insert tran_cmp_total log.records t managers t ∙ ap (λ c. cond c (Some managers) (map.get log.records t)) (ap is_eq (tied_itself tran_cmp_total t))))
+recorded_is t managers votes logged log later absent some (failed wants off is) =
+    (λ i. decides_commit votes && (not (some i) || off i)) ∙ and-false (decides_commit votes)
+    ∙ sym (ap (λ (l : LogState). is_some (record_of l t)) is ∙ ap is_some absent)
+recorded_is t managers votes logged log later absent some (unwanted wants off is) =
+    (λ i. none_left (decides_commit votes) (has_yes votes) wants some i && (not (has_yes votes) || logged))
+    ∙ sym (ap (λ (l : LogState). is_some (record_of l t)) is ∙ ap is_some absent)
+
+-- ---- the manager of a branch
+
+-- a manager with a history is there
+pub part_there : (o : Option ManagerPart) (before after : History) (r : Request) → requests (journal_in o) ≡ before ++ r ∷ after
+    → (p : ManagerPart) × (o ≡ Some p)
+part_there None [] after r e = cc
+part_there None (q ∷ before) after r e = cc
+part_there (Some p) before after r e = (p, refl)
+
+-- a branch that is left to the next opening: nothing but resolves names it later, and they find what was decided
+pub left_is_marked : (s : Settling) (b : Branch) (tran : TranName) (up : IsUpTo MOST_MANAGERS b.m) (T : Tables) (commit : Bool) (records : Records)
+    (vs : List Use) (later : List Opening) → tran_of b.xid ≡ tran → IsSettled s → first_of s b.m ≡ Some T → All IsKept later
+    → (HasLeftOf tran s → All (OnlyResolves tran) later) → All (IsQuiet commit tran b.m) vs → AreUses tran records (vs ++ uses_of later)
+    → is_marked records tran b.m ≡ commit → is_left_in (state_of (tables_after (history_of s b.m) T) b.xid) ≡ true → IsMarked later commit b
+left_is_marked s b tran up T commit records vs later of_tran settled begins kept only quiet_now uses mark left =
+    let end : Tables = tables_after (history_of s b.m) T in
+    let tables_are : reopened_at s.managers b.m ≡ reopened end = ap reopened (ends_with s b.m T settled begins) in
+    let is_left = ap (λ (U : Tables). is_left_in (state_of U b.xid)) tables_are ∙ as_left end b.xid ∙ left in
+    let only_later : All (OnlyResolves tran) later = only (b.m, (b.xid, (of_tran, is_left))) in
+    let quiet : All (IsQuiet commit tran b.m) (vs ++ uses_of later) =
+    All-append (IsQuiet commit tran b.m) vs (uses_of later) quiet_now (quiet_openings commit tran b.m up later kept only_later) in
+    let marks : All (FindsMark commit tran b.m) (uses_of later) =
+    all_right (FindsMark commit tran b.m) vs (uses_of later) (marks_stay commit tran b.m up (vs ++ uses_of later) records uses mark quiet) in
+    record {
+      only = subst (λ (u : TranName). All (OnlyResolves u) later) (sym of_tran) only_later;
+      marks = subst (λ (u : TranName). All (FindsMark commit u b.m) (uses_of later)) (sym of_tran) marks;
+    }
+
+-- ---- a use of an opening, and those after it
+
+module _ (s : Settling) (used us vs : List Use) (u : Use) (place : used ≡ us ++ u ∷ vs) (uses : All (IsUseIn s) used) where
+  pub use_there : IsUseIn s u
+  use_there = all_mid (IsUseIn s) us vs u (subst (All (IsUseIn s)) place uses)
+
+  pub uses_after : All (IsUseIn s) vs
+  uses_after = all_after (IsUseIn s) us u vs (subst (All (IsUseIn s)) place uses)
+
+pub is_used : (used us vs : List Use) (u : Use) → used ≡ us ++ u ∷ vs → Contains used u
+is_used used us vs u place = subst (λ (ws : List Use). Contains ws u) (sym place) (Contains-append_right us (u ∷ vs) u (zero, omega arith, refl))
+
+-- ---- a commit, cut short or not, and a resolve of a later opening
+
+-- V is known of a branch that voted to commit, and W where it may be left: then nothing marks its manager any more.
+pub record Followed (o : Opening) (between : List Opening) (last : Opening) (u : Use) (k : CutCall) (q : ResolveCall) (V W : Branch → Type 0) : Type 0 where
+  pub use_ : IsFollowed o between last u k.branches k.desk k.later q
+  pub made : IsCut k.branches k.desk k.new k.log k.later k.endings
+  pub grown : HaveGrown k.new (ledgers_of o.settled k.thread)
+  pub own : AskedAreLeft k o.settled
+  pub voted : (b : Branch) → V b → VotedToCommit k o.settled b
+  pub quiet : (mark : Bool) (b : Branch) → IsUpTo MOST_MANAGERS b.m → W b → All (IsQuiet mark made.may.tran b.m) use_.vs
+
+-- what its coordinator knew of each branch is its ending
+pub known_each : (P : Branch → Code → Option Code → Ending → Type 0) (A : Type 0) (known : ℕ → Ending) (lo : ℕ) (bs : List Branch) (vs : List Code) (zs : List (Option Code)) (es : List Ending)
+    → AreBranchesRising lo bs
+    → ((n : ℕ) → lo < n → known_at n bs es ≡ known n) → (has_yes vs ≡ true → A) → EachBranch P bs vs zs es
+    → EachBranch (λ b v z e. P b v z e × (known b.m ≡ e) × (is_yes v ≡ true → A)) bs vs zs es
+known_each P A known lo [] [] [] [] rising same some h = tt
+known_each P A known lo (b ∷ bs) (v ∷ vs) (z ∷ zs) (e ∷ es) rising same some h =
+    let lower = rising.0 in (
+      (h.0, sym (same b.m lower) ∙ ap (λ c. unwrap_or (if c then Some e else ending_at b.m bs es) InDoubt) (eq-eqb b.m b.m refl), λ y. some (ap (λ c. c || has_yes vs) y)),
+      known_each P A known b.m bs vs zs es rising.1
+          (λ n above. ap (λ c. unwrap_or (if c then Some e else ending_at n bs es) InDoubt) (sym (ne_eqb b.m n (λ q. absurd (omega (arith, q, above))))) ∙ same n (omega (arith, lower, above)))
+          (λ y. some (ap (λ c. is_yes v || c) y ∙ or-true (is_yes v))) h.1,
+    )
+known_each P A known lo bs vs zs es rising same some h = absurd h
+
+-- each branch has its vote, and a manager whose branch voted to commit did
+voters : (P : Branch → Code → Type 0) (bs : List Branch) (vs : List Code) → EachVote P bs vs
+    → All (λ b. (v : Code) × (P b v × (is_yes v ≡ true → voted_yes b.m bs vs ≡ true))) bs
+voters P [] [] h = All-nil (λ b. (v : Code) × (P b v × (is_yes v ≡ true → voted_yes b.m [] [] ≡ true)))
+voters P (b ∷ bs) (v ∷ vs) h =
+    All-cons (λ c. (w : Code) × (P c w × (is_yes w ≡ true → voted_yes c.m (b ∷ bs) (v ∷ vs) ≡ true))) b bs (v, (h.0, λ y. λ i. (eq-eqb b.m b.m refl i && y i) || voted_yes b.m bs vs))
+    (λ j d lt.
+    let w = voters P bs vs h.1 j d lt in
+    let n : ℕ = (get_or bs j d).m in
+    (w.0, (w.1.0, λ y. ap (λ z. ((b.m == n) && is_yes v) || z) (w.1.1 y) ∙ or-true ((b.m == n) && is_yes v))))
+voters P bs vs h = absurd h
+
+module _ (law : Tabled) (first : (s : Settling) (m : ℕ) (T : Tables) → IsSettled s → first_of s m ≡ Some T → IsOpenedWith s m T)
+    (o : Opening) (between : List Opening) (last : Opening) (u : Use) (k : CutCall) (q : ResolveCall) (V W : Branch → Type 0) (r : Followed o between last u k q V W)
+    (doubt : (L : Type 0) (b : Branch) → V b → IsUpTo MOST_MANAGERS b.m → OnlyTheseOrDecisionsName b.xid k.thread (length (ledger k.desk.ledgers b.m).sent) (length (ledger k.new b.m).sent) (history_of o.settled b.m)
+    → (T : Tables) → IsOpenedWith o.settled b.m T → (commit : Bool)
+    → Comes commit (Unit {0}) L (state_of (tables_after (history_of o.settled b.m) T) b.xid) (fate b.xid (told_by (state_of T b.xid)) (history_of o.settled b.m) T) (known_of k b)
+    → Comes commit (W b) L (state_of (tables_after (history_of o.settled b.m) T) b.xid) (fate b.xid (told_by (state_of T b.xid)) (history_of o.settled b.m) T) (known_of k b)) where
+  abbrev later : List Opening
+  later = between ++ last ∷ []
+
+  abbrev s : Settling
+  s = o.settled
+
+  abbrev t : ℕ
+  t = k.thread
+
+  kept_o : IsKept o
+  kept_o = All-head IsKept o later r.use_.kept
+
+  resolve_there : Contains last.uses (resolves q)
+  resolve_there = is_used last.uses r.use_.ps r.use_.qs (resolves q) r.use_.resolve_at
+
+  abbrev tran : TranName
+  tran = r.made.may.tran
+
+  -- ---- one branch that voted to commit
+
+  abbrev before_of : Branch → LedgerView
+  before_of b = ledger k.desk.ledgers b.m
+
+  abbrev after_of : Branch → LedgerView
+  after_of b = ledger k.new b.m
+
+  abbrev Only : Branch → Type 0
+  Only b = OnlyTheseOrDecisionsName b.xid t (length (before_of b).sent) (length (after_of b).sent) (history_of s b.m)
+
+  abbrev commit : Bool
+  commit = is_recorded k.later tran
+
+  -- where it is among the branches
+  abbrev pub Among : Branch → Type 0
+  Among b = IsUpTo MOST_MANAGERS b.m × (tran_of b.xid ≡ tran) × Contains k.branches b
+
+  -- it ended by the log, and so its additions count
+  abbrev Result : Branch → Type 0
+  Result b = Follows commit o later t b (length (before_of b).sent) (known_of k b)
+
+  module _ (b : Branch) (among : Among b) (only : Only b) (here : V b)
+      (prepared : (more : List Op) × ((after_of b).sent ≡ (before_of b).sent ++ Prepare b.xid ∷ more))
+      (mark : is_marked k.later.records tran b.m ≡ commit) where
+    abbrev m : ℕ
+    m = b.m
+
+    abbrev n : ℕ
+    n = length (before_of b).sent
+
+    abbrev H : History
+    H = history_of s m
+
+    up : IsUpTo MOST_MANAGERS m
+    up = among.0
+
+    grown : HasGrown (after_of b) (ledger (ledgers_of s t) m)
+    grown = r.grown.each m up.0
+
+    -- where its Prepare stands in the history
+    stands_at : (before : History) × ((after : History) × (H ≡ before ++ request_of t n (Prepare b.xid) ∷ after))
+    stands_at =
+        let at = prepare_part s kept_o.settled m up.0 t b.xid (before_of b) (after_of b) grown prepared.0 prepared.1 in
+        (at.1.before, (at.1.after, at.1.place ∙ ap (λ j. at.1.before ++ request_of t j (Prepare b.xid) ∷ at.1.after) (let e : 0 + n ≡ n = omega arith in e)))
+
+    part_of : (p : ManagerPart) × (find_manager m s.managers ≡ Some p)
+    part_of = part_there (find_manager m s.managers) stands_at.0 stands_at.1.0 (request_of t n (Prepare b.xid)) stands_at.1.1
+
+    abbrev T : Tables
+    T = part_of.0.first
+
+    begins : first_of s m ≡ Some T
+    begins = ap (λ z. option_map (λ (p : ManagerPart). p.first) z) part_of.1
+
+    with_T : IsOpenedWith s m T
+    with_T = first s m T kept_o.settled begins
+
+    answered_T : All (λ p. slice_get (answers t (coded H T)) p.0 ≡ Some p) (collected s t m)
+    answered_T = subst (λ (J : List Entry). All (λ p. slice_get (answers t J) p.0 ≡ Some p) (collected s t m)) with_T.codes (kept_o.settled.agree t m).coded
+
+    collected_is : collected s t m ≡ (ledger (ledgers_of s t) m).collected
+    collected_is = by_ledger (ledgers_of s t) m (λ (l : LedgerView). l.collected) up.0 refl
+
+    collected_so : Begins (after_of b).collected (collected s t m)
+    collected_so = subst (Begins (after_of b).collected) (sym collected_is) grown.collected
+
+    agreed_so : Contains (collected s t m) (n, Done)
+    agreed_so = subst (λ (l : List (ℕ × Code)). Contains l (n, Done)) (sym collected_is) (r.voted b here).agreed
+
+    reached : (w : Outcome) → Contains q.outcomes w → w.m ≡ m → w.xid ≡ b.xid → w.code ≢ RmFail
+    reached w there manager xid =
+        All-contains (λ (z : Outcome). IsOutcomeOf k.branches z → z.code ≢ RmFail) q.outcomes w r.use_.reached there (record { branch = b; among = among.2; manager = manager; xid = xid })
+
+    -- where it is left, nothing but resolves names it later, and they find the record
+    marked : W b → is_left_in (state_of (tables_after H T) b.xid) ≡ true → IsMarked later commit b
+    marked why left =
+        left_is_marked s b tran up T commit k.later.records r.use_.vs later among.1 kept_o.settled begins (All-tail IsKept o later r.use_.kept) (r.use_.later tran r.made.may.one) (r.quiet commit b up why)
+        (r.use_.log tran r.made.may.one) mark left
+
+    abbrev G : Fate
+    G = told_by (state_of T b.xid)
+
+    concludes : ((L : Type 0) → AtEnd commit (Unit {0}) L b.xid (fate b.xid G H T) H T (known_of k b))
+        → ((f : Fate) → IsFateOf b.xid f T → (before after : History) → H ≡ before ++ request_of t n (Prepare b.xid) ∷ after → fates b.xid (request_of t n (Prepare b.xid) ∷ after) (tables_after before T) ≡ history.InDoubt ∷ once (fate b.xid f H T))
+        → Result b
+    concludes at_end makes =
+        branch_follows law first o between last q r.use_.kept r.use_.in_a_row resolve_there r.use_.scan commit (W b) b t n (known_of k b) up T begins
+        (λ L. record { comes = doubt L b here up only T with_T commit (at_end L).comes; any = (at_end L).any }) marked reached makes
+
+    abbrev Sent : Type 0 → Type 0
+    Sent L = HasSentOnly commit L b.xid (before_of b) (after_of b)
+
+    makes_so : (L : Type 0) → Sent L → (f : Fate) → IsFateOf b.xid f T → (before after : History) → H ≡ before ++ request_of t n (Prepare b.xid) ∷ after
+        → fates b.xid (request_of t n (Prepare b.xid) ∷ after) (tables_after before T) ≡ history.InDoubt ∷ once (fate b.xid f H T)
+    makes_so L h f fits before after place =
+        sent_fates law s kept_o.settled m up.0 t b.xid (before_of b) (after_of b) grown commit only T with_T.opened (collected s t m) answered_T agreed_so before after place L h f
+
+    -- it was told no decision of its own, whatever its coordinator knew of it
+    plain : Sent ⊥ → Result b
+    plain h =
+        concludes
+        (λ L. sent_end law s kept_o.settled m up.0 t b.xid (before_of b) (after_of b) grown commit only T with_T.opened (collected s t m) answered_T agreed_so stands_at.0 stands_at.1.0 stands_at.1.1 h (known_of k b) L G)
+        (makes_so ⊥ h)
+
+    -- it was told one
+    decided : (c : Code) → is_decided c ≡ true → yes_ending commit (Some c) ≡ known_of k b → WasTold commit b.xid c (before_of b) (after_of b) → Result b
+    decided c is known z =
+        concludes
+        (λ L. subst (AtEnd commit (Unit {0}) L b.xid (fate b.xid G H T) H T) known
+        (told_end law s kept_o.settled m up.0 t b.xid (before_of b) (after_of b) grown commit only T with_T.opened (collected s t m) answered_T agreed_so stands_at.0 stands_at.1.0 stands_at.1.1 c z collected_so is L G (law.first b.xid T)))
+        (makes_so (Unit {0}) (told_only law s kept_o.settled m up.0 t b.xid (before_of b) (after_of b) grown commit only T with_T.opened (collected s t m) answered_T agreed_so stands_at.0 stands_at.1.0 stands_at.1.1 c z collected_so))
+
+  -- ---- all of them, by how far it came
+
+  all_among : (lo : ℕ) (bs : List Branch) → AreBranchesRising lo bs → HaveRoom k.desk.ledgers bs → IsTranOf bs tran
+      → ((b : Branch) → Contains bs b → Contains k.branches b) → All Among bs
+  all_among lo [] rising room of_tran there = All-nil Among
+  all_among lo (b ∷ bs) rising room of_tran there =
+      let above = rising.0 in
+      let within = room.0.known.within in
+      let few = r.use_.few in
+      All-cons Among b bs ((omega (arith, above), omega (arith, within, few)), of_tran.0, there b (zero, omega arith, refl)) (all_among b.m bs rising.1 room.1 of_tran.1 (λ c at. there c (Contains-append_right (b ∷ []) bs c at)))
+
+  pub among_so : All Among k.branches
+  among_so = all_among 0 k.branches r.made.may.rising r.made.may.room r.made.may.one (λ b there. there)
+
+  module _ (b : Branch) (among : Among b) (own : WasAsked k b → Only b) (here : V b) where
+    voted : VotedToCommit k s b
+    voted = r.voted b here
+
+    abbrev x : XidName
+    x = b.xid
+
+    -- by what was sent, and where the record is the decision
+    sent_plainly : HasSentOnly commit ⊥ x (before_of b) (after_of b) → is_marked k.later.records tran b.m ≡ commit → Result b
+    sent_plainly h mark = plain b among (own voted.asked) here (h.rest, h.sent) mark h
+
+    -- it was asking for votes
+    asking_so : k.later ≡ k.log → IsAsked b (before_of b) (after_of b) → Result b
+    asking_so same h =
+        let unrecorded : commit ≡ false = ap (λ (l : LogState). is_some (record_of l tran)) same ∙ ap is_some r.made.may.absent in
+        let unmarked : is_marked k.log.records tran b.m ≡ false = ap (λ z. names z b.m) r.made.may.absent in
+        sent_plainly (asked_only commit ⊥ b (before_of b) (after_of b) h voted.asked) (ap (λ (l : LogState). is_marked l.records tran b.m) same ∙ unmarked ∙ sym unrecorded)
+
+    -- all had voted
+    module _ (votes : List Code) (logged : Bool) (logs : Logs tran (yes_of k.branches votes) votes logged k.log k.later) (v : Code)
+        (yes_so : is_yes v ≡ true → voted_yes b.m k.branches votes ≡ true) where
+      abbrev decision : Bool
+      decision = decision_of votes logged
+
+      abbrev Towards : Bool → Type 0 → Type 0
+      Towards c L = HasVoted (IsTowards c L x) b v (before_of b) (after_of b)
+
+      open_now : (L : Type 0) → Towards decision L → learnt_shut (before_of b) ≡ false
+      open_now L h = open_so decision L b v (before_of b) (after_of b) h voted.asked
+
+      -- the vote that was collected is the one that the settled opening has
+      agreed_now : (L : Type 0) → Towards decision L → v ≡ Done
+      agreed_now L h =
+          let same : collected s t b.m ≡ (ledger (ledgers_of s t) b.m).collected =
+          by_ledger (ledgers_of s t) b.m (λ (l : LedgerView). l.collected) among.0.0 refl in
+          vote_is (IsTowards decision L x) b v Done (before_of b) (after_of b) (answers t (journal s b.m)) (collected s t b.m) h (open_now L h)
+          (subst (Begins (after_of b).collected) (sym same) (r.grown.each b.m among.0.0).collected) (kept_o.settled.agree t b.m).coded
+          (subst (λ (l : List (ℕ × Code)). Contains l (length (before_of b).sent, Done)) (sym same) voted.agreed)
+
+      marked_now : (L : Type 0) → Towards decision L → voted_yes b.m k.branches votes ≡ true
+      marked_now L h = yes_so (ap is_yes (agreed_now L h))
+
+      -- the record is the decision, and names its manager
+      decided_so : (L : Type 0) → Towards decision L → decision ≡ commit
+      decided_so L h =
+          recorded_is tran (yes_of k.branches votes) votes logged k.log k.later r.made.may.absent (some_yes b.m k.branches votes (marked_now L h)) logs
+
+      mark_so : (L : Type 0) → Towards decision L → is_marked k.later.records tran b.m ≡ commit
+      mark_so L h = own_mark k.branches k.log k.later votes logged decision tran b.m among.0 refl r.made.may.absent (marked_now L h) logs ∙ decided_so L h
+
+      -- it was told no decision of its own
+      voted_so : Towards decision ⊥ → Result b
+      voted_so h =
+          sent_plainly (subst (λ c. HasSentOnly c ⊥ x (before_of b) (after_of b)) (decided_so ⊥ h) (voted_only decision ⊥ b v (before_of b) (after_of b) h (open_now ⊥ h))) (mark_so ⊥ h)
+
+      told_so : (z : Option Code) → IsEnded decision b v z (before_of b) (after_of b) → known_of k b ≡ ending_of decision v z → Result b
+      told_so None h known = voted_so (ended_voted_so decision ⊥ b v None (before_of b) (after_of b) (λ e. cc) h)
+      told_so (Some c) h known =
+          elim (is_decided c) as (λ q. is_decided c ≡ q → Result b) [
+            | false ↦ λ off. voted_so (ended_voted_so decision ⊥ b v (Some c) (before_of b) (after_of b) (λ on. let z : true ≡ false = sym on ∙ off in cc) h)
+            | true ↦ λ on.
+                let L : Type 0 = Unit {0} in
+                let sends : Towards decision L = ended_voted_so decision L b v (Some c) (before_of b) (after_of b) (λ _. tt) h in
+                let agreed : v ≡ Done = agreed_now L sends in
+                let told : WasTold commit x c (before_of b) (after_of b) =
+                subst (λ d. WasTold d x c (before_of b) (after_of b)) (decided_so L sends) (was_told decision b v c (before_of b) (after_of b) h (open_now L sends) agreed on) in
+                let ending : yes_ending commit (Some c) ≡ known_of k b =
+                ap (λ d. yes_ending d (Some c)) (sym (decided_so L sends)) ∙ sym (at_true (is_yes v) _ _ (ap is_yes agreed)) ∙ sym known in
+                decided b among (own voted.asked) here (told.gap ++ outcome_op commit x ∷ told.rest, told.sent) (mark_so L sends) c on ending told
+          ] refl
+
+  abbrev Goal : Branch → Type 0
+  Goal b = V b → Result b
+
+  all_goals : CameSoFar tran k.branches k.desk.ledgers k.new k.log k.later k.endings → All Goal k.branches
+  all_goals (asking same unknown each) = λ j d lt here. asking_so (get_or k.branches j d) (among_so j d lt) (r.own j d lt) here same (each j d lt)
+  all_goals (telling votes logged logs unknown each) = λ j d lt here.
+      let b : Branch = get_or k.branches j d in
+      let w = voters (λ c v. IsTold (decision_of votes logged) c v (before_of c) (after_of c)) k.branches votes each j d lt in
+      voted_so b (among_so j d lt) (r.own j d lt) here votes logged logs w.0 w.1.1 (told_voted_so (decision_of votes logged) ⊥ b w.0 (before_of b) (after_of b) w.1.0)
+  all_goals (forgetting votes logged seconds logs each) = λ j d lt here.
+      let b : Branch = get_or k.branches j d in
+      let End : Branch → Code → Option Code → Ending → Type 0 = Ended (decision_of votes logged) k.desk.ledgers k.new in
+      let Known : Branch → Code → Option Code → Ending → Type 0 = λ c v z e. End c v z e × (known_of k c ≡ e) × (is_yes v ≡ true → Unit {0}) in
+      let known : EachBranch Known k.branches votes seconds k.endings =
+      known_each End (Unit {0}) (λ n. known_at n k.branches k.endings) 0 k.branches votes seconds k.endings r.made.may.rising (λ n above. refl) (λ _. tt) each in
+      let w =
+      voters (λ c v. (z : Option Code) × ((e : Ending) × Known c v z e)) k.branches votes (branch_votes Known (λ c v. (z : Option Code) × ((e : Ending) × Known c v z e)) (λ c v z e h. (z, (e, h))) k.branches votes seconds k.endings known) j d lt in
+      let h = w.1.0.1.1 in
+      told_so b (among_so j d lt) (r.own j d lt) here votes logged logs w.0 w.1.1 w.1.0.0 h.0.0 (h.1 ∙ h.0.1)
+
+  pub follows : All Goal k.branches
+  follows = all_goals r.made.far
+
+-- ---- one that may have been cut short
+
+module _ (law : Tabled) (first : (s : Settling) (m : ℕ) (T : Tables) → IsSettled s → first_of s m ≡ Some T → IsOpenedWith s m T)
+    (o : Opening) (between : List Opening) (last : Opening) (k : CutCall) (q : ResolveCall) (r : IsResolvedAfter o between last k q) where
+  abbrev openings : List Opening
+  openings = between ++ last ∷ []
+
+  kept_first : IsKept o
+  kept_first = All-head IsKept o openings r.followed.kept
+
+  cut_use : IsUseIn o.settled (cuts k)
+  cut_use = use_there o.settled o.uses r.followed.us r.followed.vs (cuts k) r.followed.use_at kept_first.uses
+
+  abbrev cut_made : IsCut k.branches k.desk k.new k.log k.later k.endings
+  cut_made = cut_use.made
+
+  abbrev cut_tran : TranName
+  cut_tran = cut_made.may.tran
+
+  abbrev followed : Followed o between last (cuts k) k q (VotedToCommit k o.settled) (λ b. Unit {0})
+  followed =
+      record { use_ = r.followed; made = cut_made; grown = cut_use.grown; own = r.own; voted = λ b here. here; quiet = λ mark b up _. quiet_alone mark cut_tran b.m up o.settled r.followed.vs (uses_after o.settled o.uses r.followed.us r.followed.vs (cuts k) r.followed.use_at kept_first.uses) (r.alone cut_tran cut_made.may.one) }
+
+  each_so : All (λ b. VotedToCommit k o.settled b → Follows (is_recorded k.later cut_made.may.tran) o openings k.thread b (length (ledger k.desk.ledgers b.m).sent) (known_of k b)) k.branches
+  each_so = follows law first o between last (cuts k) k q (VotedToCommit k o.settled) (λ b. Unit {0}) followed (λ L b here up only T with_T commit comes. comes)
+
+  pub presumed_law : EndsByTheLog k o openings
+  presumed_law = record {
+    each = λ u of_u.
+        subst (λ (w : TranName). All (λ b. VotedToCommit k o.settled b → EndsAs (is_recorded k.later w) o openings b (known_of k b)) k.branches) (one_tran k.branches cut_made.may.tran u cut_made.may.some cut_made.may.one of_u)
+        (λ j d lt voted. (each_so j d lt voted).0);
+  }
+
+  pub presumed_counts : CountsByTheLog k o openings
+  presumed_counts = record {
+    each = λ u of_u.
+        subst (λ (w : TranName). All (λ b. VotedToCommit k o.settled b → is_heuristic (known_of k b) ≡ false → IsUnlisted b openings → SharesOver o openings k.thread b (length (ledger k.desk.ledgers b.m).sent) (λ f. is_recorded k.later w)) k.branches)
+        (one_tran k.branches cut_made.may.tran u cut_made.may.some cut_made.may.one of_u) (λ j d lt voted plain unlisted. (each_so j d lt voted).2 plain unlisted);
+  }

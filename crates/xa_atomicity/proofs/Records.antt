@@ -1,0 +1,127 @@
+-- What the log has of a transaction stays what its commit left.
+use Rattle.std.specs.Prelude.{cond, not}
+use Rattle.std.proofs.Common.{◌≡◌, ℕ, Bool, true, false, ◌==◌, ◌&&◌, ◌||◌, List, [], ◌∷◌, sym, refl, ap, ◌∙◌, arith, Some, None}
+use Rattle.std.specs.List.{All}
+use Rattle.std.specs.FinMap as map
+use Rattle.std.specs.FinMap.{get-insert}
+use Rattle.std.specs.Ordering.{eq_by_cmp, is_eq}
+use Rattle.std.specs.Cmp.{tied_itself}
+use Rattle.std.proofs.lemmas.List.Elements.{All-nil, All-cons, All-head, All-tail}
+use Rattle.std.proofs.Math.Bool.{or-true, and-false}
+use Rattle.std.proofs.lemmas.Bool.{and_parts}
+use Rattle.xa_base.specs.declared.limits.TheConstants.{MOST_MANAGERS}
+use Rattle.xa_base.specs.Lists.{IsUpTo}
+use Rattle.xa_base.proofs.Truth.{is_equal}
+use Rattle.xa_words.specs.Tran.{TranName}
+use Rattle.xa_words.proofs.ManagerSets.{in_set_of}
+use Rattle.xa_words.specs.declared.code.Code.{Code}
+use Rattle.xa_driver.specs.declared.branch.Branch.{Branch}
+use Rattle.xa_driver.specs.Decision.{is_yes, decides_commit, has_yes, voted_yes, yes_of}
+use Rattle.xa_log.specs.Log.{LogState, Records}
+use Rattle.xa_driver.specs.Trace.{Logs, appended, failed, unwanted}
+use Rattle.xa_log.specs.Transactions.{tran_cmp}
+use Rattle.xa_atomicity.specs.Resolution.{Use, commits, cuts, resolves, AreUses, OfCommit}
+use Rattle.xa_driver.specs.Resolving.{names}
+use Rattle.xa_log.proofs.Transactions.{tran_cmp_total, tran_cmp-IsAntisymmetric}
+
+-- the record of the transaction names the manager
+abbrev pub is_marked : Records → TranName → ℕ → Bool
+is_marked records t m = names (map.get records t) m
+
+-- ---- a record that is made
+
+-- it names the managers that voted to commit
+mark_is : (m : ℕ) (bs : List Branch) (vs : List Code) → IsUpTo MOST_MANAGERS m → names (Some (yes_of bs vs)) m ≡ voted_yes m bs vs
+mark_is m bs vs up = in_set_of (λ k. voted_yes k bs vs) m up
+
+own_mark_is : (records : Records) (t : TranName) (m : ℕ) (bs : List Branch) (vs : List Code) → IsUpTo MOST_MANAGERS m
+    → is_marked (map.insert records t (yes_of bs vs)) t m ≡ voted_yes m bs vs
+own_mark_is records t m bs vs up =
+    ap (λ o. names o m) (get-insert tran_cmp_total records t (yes_of bs vs) t ∙ ap (λ c. cond c (Some (yes_of bs vs)) (map.get records t)) (ap is_eq (tied_itself tran_cmp_total t)))
+    ∙ mark_is m bs vs up
+
+-- where a branch voted to commit some vote is
+pub some_yes : (m : ℕ) (bs : List Branch) (vs : List Code) → voted_yes m bs vs ≡ true → has_yes vs ≡ true
+some_yes m [] vs e = cc
+some_yes m (b ∷ bs) [] e = cc
+some_yes m (b ∷ bs) (v ∷ vs) e =
+    elim (is_yes v) as (λ y. ((b.m == m) && y) || voted_yes m bs vs ≡ true → (y || has_yes vs) ≡ true) [
+      | true ↦ λ _. refl
+      | false ↦ λ e. some_yes m bs vs (sym (ap (λ q. q || voted_yes m bs vs) (and-false (b.m == m))) ∙ e)
+    ] e
+
+module _ (bs : List Branch) (log later : LogState) (votes : List Code) (logged commit : Bool) (t : TranName) (m : ℕ) (up : IsUpTo MOST_MANAGERS m)
+    (decision : commit ≡ (decides_commit votes && (not (has_yes votes) || logged)))
+    (absent : map.get log.records t ≡ None) (here : voted_yes m bs votes ≡ true) where
+  some : has_yes votes ≡ true
+  some = some_yes m bs votes here
+
+  unlogged : logged ≡ false → commit ≡ false
+  unlogged off = decision ∙ (λ i. decides_commit votes && (not (some i) || off i)) ∙ and-false (decides_commit votes)
+
+  -- what a commit leaves in the log of a manager that voted to commit is the decision
+  pub own_mark : Logs t (yes_of bs votes) votes logged log later → is_marked later.records t m ≡ commit
+  own_mark (appended wants on is) =
+      ap (λ (l : LogState). is_marked l.records t m) is ∙ own_mark_is log.records t m bs votes up ∙ here
+      ∙ sym (decision ∙ (λ i. (and_parts (decides_commit votes) (has_yes votes) wants).0 i && (not (some i) || on i)))
+  own_mark (failed wants off is) = ap (λ (l : LogState). is_marked l.records t m) is ∙ ap (λ o. names o m) absent ∙ sym (unlogged off)
+  own_mark (unwanted wants off is) = ap (λ (l : LogState). is_marked l.records t m) is ∙ ap (λ o. names o m) absent ∙ sym (unlogged off)
+
+-- where it was decided to abort it leaves none
+pub none_on_abort : (t : TranName) (managers : List Bool) (votes : List Code) (logged commit : Bool) (log later : LogState)
+    → commit ≡ (decides_commit votes && (not (has_yes votes) || logged)) → commit ≡ false → map.get log.records t ≡ None
+    → Logs t managers votes logged log later → map.get later.records t ≡ None
+none_on_abort t managers votes logged commit log later decision off absent (appended wants on is) =
+    let commits_so : commit ≡ true =
+    decision ∙ (λ i. (and_parts (decides_commit votes) (has_yes votes) wants).0 i && (not (has_yes votes) || on i)) ∙ or-true (not (has_yes votes)) in
+    let z : true ≡ false = sym commits_so ∙ off in cc
+none_on_abort t managers votes logged commit log later decision off absent (failed wants off_ is) = ap (λ (l : LogState). map.get l.records t) is ∙ absent
+none_on_abort t managers votes logged commit log later decision off absent (unwanted wants off_ is) = ap (λ (l : LogState). map.get l.records t) is ∙ absent
+
+-- ---- it stays
+
+-- a commit leaves the mark of the manager as it is
+abbrev pub IsQuiet : Bool → TranName → ℕ → Use → Type 0
+IsQuiet mark t m = OfCommit (λ k. is_marked k.log.records t m ≡ mark → is_marked k.later.records t m ≡ mark)
+
+-- a resolve finds the mark so
+abbrev pub FindsMark : Bool → TranName → ℕ → Use → Type 0
+FindsMark mark t m (commits d) = Unit {0}
+FindsMark mark t m (cuts k) = Unit {0}
+FindsMark mark t m (resolves q) = is_marked q.records t m ≡ mark
+
+module _ (mark : Bool) (t : TranName) (m : ℕ) (up : IsUpTo MOST_MANAGERS m) where
+  inserted : (bs : List Branch) (vs : List Code) (log : LogState) (own : TranName) → map.get log.records own ≡ None
+      → (own ≡ t → mark ≡ false → voted_yes m bs vs ≡ false) → is_marked log.records t m ≡ mark
+      → is_marked (map.insert log.records own (yes_of bs vs)) t m ≡ mark
+  inserted bs vs log own absent quiet e =
+      elim (eq_by_cmp tran_cmp t own) as (λ c. eq_by_cmp tran_cmp t own ≡ c → is_marked (map.insert log.records own (yes_of bs vs)) t m ≡ mark) [
+        | false ↦ λ other. ap (λ o. names o m) (get-insert tran_cmp_total log.records own (yes_of bs vs) t ∙ ap (λ c. cond c (Some (yes_of bs vs)) (map.get log.records t)) other)
+            ∙ e
+        | true ↦ λ same.
+            let is : own ≡ t = sym (tran_cmp-IsAntisymmetric t own (is_equal _ same)) in
+            let unmarked : mark ≡ false = sym e ∙ ap (λ o. names o m) (ap (map.get log.records) (sym is) ∙ absent) in
+            ap (λ (k : TranName). is_marked (map.insert log.records own (yes_of bs vs)) k m) (sym is) ∙ own_mark_is log.records own m bs vs up
+            ∙ quiet is unmarked ∙ sym unmarked
+      ] refl
+
+  pub logs_keep : (bs : List Branch) (vs : List Code) (logged : Bool) (log later : LogState) (own : TranName) → map.get log.records own ≡ None
+      → (own ≡ t → mark ≡ false → voted_yes m bs vs ≡ false) → is_marked log.records t m ≡ mark
+      → Logs own (yes_of bs vs) vs logged log later → is_marked later.records t m ≡ mark
+  logs_keep bs vs logged log later own absent quiet e (appended wants on is) =
+      ap (λ (l : LogState). is_marked l.records t m) is ∙ inserted bs vs log own absent quiet e
+  logs_keep bs vs logged log later own absent quiet e (failed wants off is) = ap (λ (l : LogState). is_marked l.records t m) is ∙ e
+  logs_keep bs vs logged log later own absent quiet e (unwanted wants off is) = ap (λ (l : LogState). is_marked l.records t m) is ∙ e
+
+  -- from use to use
+  pub marks_stay : (us : List Use) (records : Records) → AreUses t records us → is_marked records t m ≡ mark → All (IsQuiet mark t m) us
+      → All (FindsMark mark t m) us
+  marks_stay [] records h e quiet = All-nil (FindsMark mark t m)
+  marks_stay (commits d ∷ us) records h e quiet =
+      All-cons (FindsMark mark t m) (commits d) us tt
+      (marks_stay us d.later.records h.1 (All-head (IsQuiet mark t m) (commits d) us quiet (ap (λ (r : Records). is_marked r t m) h.0 ∙ e)) (All-tail (IsQuiet mark t m) (commits d) us quiet))
+  marks_stay (cuts k ∷ us) records h e quiet =
+      All-cons (FindsMark mark t m) (cuts k) us tt
+      (marks_stay us k.later.records h.1 (All-head (IsQuiet mark t m) (cuts k) us quiet (ap (λ (r : Records). is_marked r t m) h.0 ∙ e)) (All-tail (IsQuiet mark t m) (cuts k) us quiet))
+  marks_stay (resolves q ∷ us) records h e quiet =
+      All-cons (FindsMark mark t m) (resolves q) us (ap (λ o. names o m) h.0 ∙ e) (marks_stay us records h.1 e (All-tail (IsQuiet mark t m) (resolves q) us quiet))

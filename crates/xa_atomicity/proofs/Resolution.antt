@@ -1,0 +1,206 @@
+-- One outcome for each global transaction, over openings one after another: a commit that came to its end is one that was
+-- cut short after it.
+use Rattle.std.proofs.Common.{◌≡◌, ℕ, ◌≤◌, zero, ◌+◌, Bool, true, false, List, [], ◌∷◌, ◌++◌, length, append_assoc, slice_get, sym, refl, ap, ◌∙◌, subst, arith}
+use Rattle.std.proofs.Common.{Option, Some, None}
+use Rattle.std.specs.List.{All, Contains, list_any}
+use Rattle.std.proofs.lemmas.Bool.{and_parts, not-true}
+use Rattle.std.proofs.lemmas.List.Elements.{All-head, Contains-append_right}
+use Rattle.xa_base.specs.declared.limits.TheConstants.{MOST_MANAGERS}
+use Rattle.xa_base.specs.Lists.{Begins, IsUpTo}
+use Rattle.xa_base.proofs.Lists.{begins_on}
+use Rattle.xa_words.specs.Tran.{TranName}
+use Rattle.xa_words.specs.declared.code.Code.{Code}
+use Rattle.xa_words.specs.declared.code.Code.TheVariants.{Done}
+use Rattle.xa_words.specs.declared.request.Op.TheVariants.{Prepare}
+use Rattle.xa_tables.specs.Tables.{Tables, state_of}
+use Rattle.xa_tables.specs.History.{fate, tables_after}
+use Rattle.xa_tables.specs.Openings.{told_by}
+use Rattle.xa_desk.specs.LedgerView.{LedgerView, learnt_shut}
+use Rattle.xa_desk.specs.DeskView.{ledger}
+use Rattle.xa_switch.specs.Fates.{IsOpenedWith, first_of, history as history_of, ledgers_of}
+use Rattle.xa_switch.specs.Settling.{Settling, IsSettled}
+use Rattle.xa_driver.specs.declared.branch.Branch.{Branch}
+use Rattle.xa_driver.specs.declared.done.Ending.{Ending}
+use Rattle.xa_atomicity.specs.Cut.{IsCut, is_recorded, known_at}
+use Rattle.xa_driver.specs.Decision.{decides_commit, has_yes, is_no, is_yes, yes_of}
+use Rattle.xa_atomicity.specs.Outcomes.{EachOutcome, OnlyTheseOrDecisionsName, has_committed, has_vote_against, is_heuristic}
+use Rattle.xa_atomicity.specs.Presumed.{VotedToCommit, known_of}
+use Rattle.xa_atomicity.specs.Resolution.{CommitCall, CutCall, as_cut, ResolveCall, commits, Opening, EndsAs, EachEnds, IsAllOrNone, all, none, IsKept}
+use Rattle.xa_atomicity.specs.Resolution.{IsResolved, IsUseIn}
+use Rattle.xa_atomicity.specs.Tabled.{Tabled}
+use Rattle.xa_driver.specs.Trace.{EachBranch, IsCommit}
+use Rattle.xa_atomicity.specs.Worth.{CountsOver, CountsAllOrNone, IsUnlisted, SharesOver, is_committed}
+use Rattle.xa_atomicity.proofs.BranchEnds.{Follows}
+use Rattle.xa_atomicity.proofs.Courses.{yes_is}
+use Rattle.xa_atomicity.proofs.CutVotes.{HasVoted, any_voted, ended_so, finished_law, first_is, prepare_sent, shut_unless}
+use Rattle.xa_atomicity.proofs.EndsByFate.{doubted}
+use Rattle.xa_driver.proofs.Mapped.{Any}
+use Rattle.xa_atomicity.proofs.Naming.{Traced}
+use Rattle.xa_atomicity.proofs.OneOutcome.{committed_law}
+use Rattle.xa_driver.proofs.Calls.{one_tran}
+use Rattle.xa_atomicity.proofs.Presumed.{Followed, among_so, follows, known_each, recorded_is, use_there, uses_after}
+use Rattle.xa_atomicity.proofs.Quiet.{quiet_after}
+use Rattle.xa_atomicity.proofs.Records.{none_on_abort}
+use Rattle.xa_atomicity.proofs.Settled.{each_outcome, told_in}
+use Rattle.xa_atomicity.proofs.Placing.{at_seam}
+use Rattle.xa_atomicity.proofs.Voting.{Comes, learnt_in_doubt}
+
+module _ (law : Tabled) (first : (s : Settling) (m : ℕ) (T : Tables) → IsSettled s → first_of s m ≡ Some T → IsOpenedWith s m T)
+    (o : Opening) (between : List Opening) (last : Opening) (c : CommitCall) (q : ResolveCall) (r : IsResolved o between last c q) where
+  abbrev later : List Opening
+  later = between ++ last ∷ []
+
+  abbrev s : Settling
+  s = o.settled
+
+  kept_o : IsKept o
+  kept_o = All-head IsKept o later r.followed.kept
+
+  use_ : IsUseIn s (commits c)
+  use_ = use_there s o.uses r.followed.us r.followed.vs (commits c) r.followed.use_at kept_o.uses
+
+  abbrev made : IsCommit c.branches c.desk c.new c.log c.later c.done
+  made = use_.made
+
+  abbrev tran : TranName
+  tran = made.may.tran
+
+  abbrev k : CutCall
+  k = as_cut c
+
+  abbrev cut : IsCut c.branches c.desk c.new c.log c.later c.done.endings.items
+  cut = finished_law c.branches c.desk c.new c.log c.later c.done made
+
+  abbrev before_of : Branch → LedgerView
+  before_of b = ledger c.desk.ledgers b.m
+
+  abbrev after_of : Branch → LedgerView
+  after_of b = ledger c.new b.m
+
+  -- ---- a branch that voted to commit
+
+  record Agreed (b : Branch) : Type 0 where
+    vote : Code
+    second : Option Code
+    ending : Ending
+    traced : Traced c.done.commit c.desk.ledgers c.new b vote second ending
+    agreed : is_yes vote ≡ true
+    known : known_of k b ≡ ending
+    voted : VotedToCommit k s b
+
+  voted_so : (b : Branch) → 1 ≤ b.m → (v : Code) (z : Option Code) (e : Ending) → Traced c.done.commit c.desk.ledgers c.new b v z e → is_yes v ≡ true
+      → VotedToCommit k s b
+  voted_so b positive v z e is y =
+      let a : LedgerView = before_of b in
+      let a' : LedgerView = after_of b in
+      let n : ℕ = length a.sent in
+      let h : HasVoted Any b v a a' = any_voted c.done.commit b v z a a' (ended_so c.done.commit b v z e a a' is) in
+      let open_ : learnt_shut a ≡ false = shut_unless v a h.prepared y in
+      let took : Begins (a.collected ++ (n, v) ∷ []) a'.collected =
+      subst (λ (l : LedgerView). Begins l.collected a'.collected) (first_is b v a open_) h.rest.collected in
+      let all : Begins (a.collected ++ (n, v) ∷ []) (ledger (ledgers_of s c.thread) b.m).collected =
+      begins_on (a.collected ++ (n, v) ∷ []) a'.collected (ledger (ledgers_of s c.thread) b.m).collected took (use_.grown.each b.m positive).collected in
+      record {
+        asked = ap (λ l. slice_get l n) (prepare_sent Any b v a a' open_ h) ∙ at_seam a.sent (Prepare b.xid) h.rest.more;
+        agreed =
+            subst (λ (l : List (ℕ × Code)). Contains l (n, Done)) (sym (all.1 ∙ append_assoc a.collected ((n, v) ∷ []) all.0 ∙ ap (λ w. a.collected ++ (n, w) ∷ all.0) (yes_is v y)))
+            (Contains-append_right a.collected ((n, Done) ∷ all.0) (n, Done) (zero, omega arith, refl));
+      }
+
+  -- it is left only where the desk has learnt that its manager is shut
+  abbrev Learnt : Branch → Type 0
+  Learnt b = learnt_shut (after_of b) ≡ true
+
+  module _ (L : Type 0) (b : Branch) (here : Agreed b) (up : IsUpTo MOST_MANAGERS b.m)
+      (only : OnlyTheseOrDecisionsName b.xid c.thread (length (before_of b).sent) (length (after_of b).sent) (history_of s b.m)) (T : Tables)
+      (with_T : IsOpenedWith s b.m T) (commit : Bool) where
+    abbrev ComesTo : Type 0 → Ending → Type 0
+    ComesTo W e = Comes commit W L (state_of (tables_after (history_of s b.m) T) b.xid) (fate b.xid (told_by (state_of T b.xid)) (history_of s b.m) T) e
+
+    doubt : ComesTo (Unit {0}) (known_of k b) → ComesTo (Learnt b) (known_of k b)
+    doubt comes =
+        let told =
+        told_in law s c.thread kept_o.settled b c.done.commit here.vote here.second here.ending (before_of b) (after_of b) up.0 (use_.grown.each b.m up.0) here.traced T with_T only in
+        subst (ComesTo (Learnt b)) (sym here.known)
+        (doubted commit (Learnt b) L (fate b.xid (told_by (state_of T b.xid)) (history_of s b.m) T) here.ending told.told (told.reached here.agreed) (told.named here.agreed)
+        (learnt_in_doubt b here.vote here.second here.ending c.done.commit (before_of b) (after_of b) here.traced here.agreed) (subst (ComesTo (Unit {0})) here.known comes))
+
+  abbrev followed : Followed o between last (commits c) k q Agreed Learnt
+  followed = record {
+    use_ = r.followed;
+    made = cut;
+    grown = use_.grown;
+    own = λ j d lt _. r.own.each j d lt;
+    voted = λ b here. here.voted;
+    quiet = λ mark b up learnt.
+        quiet_after mark cut.may.tran b.m up c s r.followed.vs cut.may.one learnt (uses_after s o.uses r.followed.us r.followed.vs (commits c) r.followed.use_at kept_o.uses) r.its_thread;
+  }
+
+  -- ---- each branch
+
+  -- where a branch voted to commit, the record is the decision
+  by_record : has_yes c.done.votes.items ≡ true → is_recorded c.later cut.may.tran ≡ c.done.commit
+  by_record some =
+      ap (is_recorded c.later) (one_tran c.branches cut.may.tran tran made.may.some cut.may.one made.may.one)
+      ∙ sym (recorded_is tran (yes_of c.branches c.done.votes.items) c.done.votes.items c.done.logged c.log c.later made.may.absent some made.trace.course.logs)
+      ∙ sym made.trace.course.decision
+
+  abbrev Known : Branch → Code → Option Code → Ending → Type 0
+  Known b v z e = Traced c.done.commit c.desk.ledgers c.new b v z e × (known_of k b ≡ e) × (is_yes v ≡ true → has_yes c.done.votes.items ≡ true)
+
+  known : EachBranch Known c.branches c.done.votes.items made.trace.course.seconds c.done.endings.items
+  known =
+      known_each (Traced c.done.commit c.desk.ledgers c.new) (has_yes c.done.votes.items ≡ true) (λ n. known_at n c.branches c.done.endings.items) 0 c.branches c.done.votes.items made.trace.course.seconds c.done.endings.items made.may.rising
+      (λ n above. refl) (λ y. y) made.trace.course.each
+
+  abbrev FollowsTo : Bool → Branch → Ending → Type 0
+  FollowsTo commit b e = Follows commit o later c.thread b (length (before_of b).sent) e
+
+  -- what follows of a branch, where it voted to commit
+  abbrev Goal : Branch → Type 0
+  Goal b = IsUpTo MOST_MANAGERS b.m × (Agreed b → FollowsTo (is_recorded c.later cut.may.tran) b (known_of k b))
+
+  goals : All Goal c.branches
+  goals j d lt =
+      ((among_so law first o between last (commits c) k q Agreed Learnt followed doubt j d lt).0, follows law first o between last (commits c) k q Agreed Learnt followed doubt j d lt)
+
+  follows_so : (b : Branch) (v : Code) (z : Option Code) (e : Ending) → Goal b → Known b v z e → is_yes v ≡ true → FollowsTo c.done.commit b e
+  follows_so b v z e goal is y =
+      subst (λ w. FollowsTo w b e) (by_record (is.2 y))
+      (subst (FollowsTo (is_recorded c.later cut.may.tran) b) is.1
+      (goal.1 (record { vote = v; second = z; ending = e; traced = is.0; agreed = y; known = is.1; voted = voted_so b goal.0.0 v z e is.0 y })))
+
+  all_yes : (Q : Branch → Ending → Type 0) → ((b : Branch) (e : Ending) → FollowsTo c.done.commit b e → Q b e)
+      → EachOutcome (λ b v e. is_yes v ≡ true → Q b e) c.branches c.done.votes.items c.done.endings.items
+  all_yes Q so =
+      each_outcome Goal Known (λ b v e. is_yes v ≡ true → Q b e) (λ b v z e goal is y. so b e (follows_so b v z e goal is y)) c.branches c.done.votes.items made.trace.course.seconds c.done.endings.items goals known
+
+  all_ends : EachEnds c o later
+  all_ends = all_yes (λ b e. EndsAs c.done.commit o later b e) (λ b e z. z.0)
+
+  pub counted_law : CountsOver c o later
+  counted_law = record { each = all_yes (λ b e. SharesOver o later c.thread b (length (before_of b).sent) is_committed) (λ b e z. z.1) }
+
+  pub whole_law : CountsAllOrNone c o later
+  whole_law =
+      record { each = all_yes (λ b e. is_heuristic e ≡ false → IsUnlisted b later → SharesOver o later c.thread b (length (before_of b).sent) (λ f. c.done.commit)) (λ b e z. z.2) }
+
+  -- ---- the decision
+
+  unopposed : c.done.commit ≡ true → has_vote_against c.done ≡ false
+  unopposed on = not-true (list_any is_no c.done.votes.items) (and_parts (decides_commit c.done.votes.items) _ (sym made.trace.course.decision ∙ on)).0
+
+  uncommitted : c.done.commit ≡ false → has_committed c.done ≡ false
+  uncommitted off =
+      elim (has_committed c.done) as (λ k. has_committed c.done ≡ k → k ≡ false) [
+        | false ↦ λ _. refl
+        | true ↦ λ some.
+            let recorded = (committed_law tran c.branches c.desk c.new c.log c.later c.done made made.may.one some).recorded in
+            let unrecorded =
+            none_on_abort tran _ c.done.votes.items c.done.logged c.done.commit c.log c.later made.trace.course.decision off made.may.absent made.trace.course.logs in
+            let no_record : None ≡ Some _ = sym unrecorded ∙ recorded in cc
+      ] refl
+
+  pub resolved_law : IsAllOrNone c o later
+  resolved_law =
+      elim (c.done.commit) as (λ k. c.done.commit ≡ k → IsAllOrNone c o later) [ true ↦ λ on. all on (unopposed on) all_ends | false ↦ λ off. none off (uncommitted off) all_ends ] refl

@@ -1,0 +1,341 @@
+-- What a resolve sent to a manager, and collected from it.
+use Rattle.std.specs.Prelude.{map}
+use Rattle.std.proofs.Common.{Option, None, ◌≡◌, ◌≢◌, ℕ, zero, suc, ⊎_elim, ◌+◌, ◌-◌, ◌<◌, Bool, true, false, ◌||◌, if◌then◌else◌, List, [], ◌∷◌, ◌++◌, length}
+use Rattle.std.proofs.Common.{append-nil, append_assoc, get_or, sym, refl, ap, ◌∙◌, subst, arith, Some}
+use Rattle.std.specs.List.{All, Contains, flat_map, list_any, range_with_len}
+use Rattle.std.proofs.lemmas.List.Elements.{All-nil, All-cons, All-append, Contains-append_left, Contains-append_right, Contains-append_cases}
+use Rattle.std.proofs.lemmas.List.Elements.{Contains-push_cases}
+use Rattle.std.proofs.lemmas.List.FromFn.{length-range_with_len, get_or-range_with_len}
+use Rattle.std.proofs.lemmas.List.Folds.{list_any-append}
+use Rattle.std.proofs.Math.Bool.{or-true}
+use Rattle.xa_base.specs.declared.limits.TheConstants.{MOST_MANAGERS}
+use Rattle.xa_base.specs.Lists.{Begins, Chain, IsUpTo, none, more}
+use Rattle.xa_base.proofs.Lists.{same_begins, begins_on}
+use Rattle.xa_base.proofs.Truth.{at_false, by_if}
+use Rattle.xa_words.specs.Xid.{XidName, xid_eq}
+use Rattle.xa_words.specs.Orders.{Decides-xid_eq}
+use Rattle.xa_words.specs.declared.code.Code.{Code}
+use Rattle.xa_words.specs.declared.code.Code.TheVariants.{RmFail}
+use Rattle.xa_words.specs.declared.request.Op.{Op}
+use Rattle.xa_words.specs.declared.request.Op.TheVariants.{OpenRm, CloseRm, Forget}
+use Rattle.xa_desk.specs.LedgerView.{LedgerView, is_rm_fail, learnt_shut, with_sent, with_collected}
+use Rattle.xa_desk.specs.DeskView.{ledger}
+use Rattle.xa_desk.specs.Growth.{HasGrown}
+use Rattle.xa_switch.specs.Scans.{ScanView, left_at}
+use Rattle.xa_switch.proofs.Lists.{contains_map}
+use Rattle.xa_driver.specs.declared.resolved.Outcome.{Outcome}
+use Rattle.xa_driver.specs.Endings.{is_decided}
+use Rattle.xa_log.specs.Log.{Records}
+use Rattle.xa_driver.specs.Asks.{AskTrace, asked}
+use Rattle.xa_driver.specs.Resolving.{AsksIf, AsksLedger, IsTraceOfResolve, ResolvesAt, ResolvesBranch, is_to_commit, outcome_op}
+use Rattle.xa_driver.proofs.Mapped.{Any, Asks, IsAskedFor, anything, if_by, outcome_by, outcomes_by, resolves_by}
+
+-- ---- what is sent
+
+-- requests were sent, each of which is so, and no other; and what was collected stays
+pub record Sends (P : Op → Type 0) (a a' : LedgerView) : Type 0 where
+  pub more : List Op
+  pub sent : a'.sent ≡ a.sent ++ more
+  pub all : All P more
+  pub collected : Begins a.collected a'.collected
+
+module _ (P : Op → Type 0) where
+  pub stays : (a : LedgerView) → Sends P a a
+  stays a = record { more = []; sent = sym (append-nil a.sent); all = All-nil P; collected = same_begins a.collected }
+
+  pub on : (a b c : LedgerView) → Sends P a b → Sends P b c → Sends P a c
+  on a b c p q = record {
+    more = p.more ++ q.more;
+    sent = q.sent ∙ ap (λ l. l ++ q.more) p.sent ∙ append_assoc a.sent p.more q.more;
+    all = All-append P p.more q.more p.all q.all;
+    collected = begins_on a.collected b.collected c.collected p.collected q.collected;
+  }
+
+  pub asked_sends : (a : LedgerView) (op : Option Op) (code : Option Code) → IsAskedFor P op → Sends P a (asked a op code)
+  asked_sends a None code so = stays a
+  asked_sends a (Some op) None so = stays a
+  asked_sends a (Some op) (Some code) so =
+      by_if (Sends P a) (learnt_shut a) _ _ (λ _. stays a) (λ _. record { more = op ∷ []; sent = refl; all = All-cons P op [] so (All-nil P); collected = ((length a.sent, code) ∷ [], refl) })
+
+  asks_one : (a a' : LedgerView) (op : Op) (code : Code) → P op → AskTrace (Some op) (Some code) a a' → Sends P a a'
+  asks_one a a' op code so tr = subst (Sends P a) (sym tr.trace) (asked_sends a (Some op) (Some code) so)
+
+  pub asks_on : (old a a' : LedgerView) (op : Op) (code : Code) → P op → AsksLedger a op a' code → Sends P old a → Sends P old a'
+  asks_on old a a' op code so asked so_far = on old a a' so_far (asks_one a a' op code so asked)
+
+  asks_if : (b : Bool) (a a' : LedgerView) (op : Op) → (b ≡ true → P op) → AsksIf b AsksLedger op a a' → Sends P a a'
+  asks_if b a a' op so is = if_by AsksLedger P (Sends P a) (asks_on a) b op a a' so is (stays a)
+
+  module _ (records : Records) (m : ℕ) where
+    branch_sends : (o : Outcome) (a a' : LedgerView) → Asks P records m o → ResolvesBranch AsksLedger records m o a a' → Sends P a a'
+    branch_sends o a a' so is = outcome_by AsksLedger P (Sends P a) (asks_on a) records m o a a' so is (stays a)
+
+    chain_sends : (a : LedgerView) (os : List Outcome) (a' : LedgerView) → ((o : Outcome) → Contains os o → Asks P records m o)
+        → Chain (ResolvesBranch AsksLedger records m) a os a' → Sends P a a'
+    chain_sends a os a' so chain = outcomes_by AsksLedger P (Sends P a) (asks_on a) records m a os a' so chain (stays a)
+
+    at_sends : (xs : List XidName) (os : List Outcome) (a a' : LedgerView) → P OpenRm → ((o : Outcome) → Contains os o → Asks P records m o)
+        → ResolvesAt AsksLedger records m xs os a a' → Sends P a a'
+    at_sends xs os a a' opens so is = resolves_by AsksLedger P (Sends P a) (asks_on a) records m xs os a a' opens so is (stays a)
+
+-- ---- the outcomes of one manager are among all
+
+contains_flat : {A B : Type 0} (f : A → List B) (xs : List A) (x : A) (k : ℕ) → k < length xs → get_or xs k x ≡ x → (y : B) → Contains (f x) y
+    → Contains (flat_map f xs) y
+contains_flat f [] x k lt e y c = absurd (omega (arith, lt))
+contains_flat {A} f (z ∷ xs) x zero lt e y c = Contains-append_left (f z) (flat_map f xs) y (subst (λ (w : A). Contains (f w) y) (sym e) c)
+contains_flat f (z ∷ xs) x (suc k) lt e y c = Contains-append_right (f z) (flat_map f xs) y (contains_flat f xs x k (omega (arith, lt)) e y c)
+
+contains_upto : {B : Type 0} (f : ℕ → List B) (most m : ℕ) → IsUpTo most m → (y : B) → Contains (f m) y → Contains (flat_map f (range_with_len 1 most)) y
+contains_upto f most m up y c =
+    let lo = up.0 in
+    let hi = up.1 in
+    let size = length-range_with_len 1 most in
+    let same : 1 + (m - 1) ≡ m = omega (arith, lo) in
+    contains_flat f (range_with_len 1 most) m (m - 1) (omega (arith, lo, hi, size)) (get_or-range_with_len 1 most (m - 1) m (omega (arith, lo, hi)) ∙ same) y c
+
+module _ (z : ScanView) (records : Records) (old new : List LedgerView) (outcomes : List Outcome) (trace : IsTraceOfResolve z records old new outcomes) where
+  pub of_all : (m : ℕ) → IsUpTo MOST_MANAGERS m → (o : Outcome) → Contains (trace.course.at m) o → Contains outcomes o
+  of_all m up o c = subst (λ os. Contains os o) (sym trace.course.outcomes_are) (contains_upto trace.course.at MOST_MANAGERS m up o c)
+
+  -- what a resolve sends to a manager
+  pub resolve_sends : (P : Op → Type 0) (m : ℕ) → IsUpTo MOST_MANAGERS m → P OpenRm → ((o : Outcome) → Contains outcomes o → Asks P records m o)
+      → Sends P (ledger old m) (ledger new m)
+  resolve_sends P m up opens so =
+      at_sends P records m (left_at z m) (trace.course.at m) (ledger old m) (ledger new m) opens (λ o c. so o (of_all m up o c)) (trace.course.each m up)
+
+-- ---- the request of one branch
+
+abbrev pub IsNoClose : Op → Type 0
+IsNoClose op = op ≢ CloseRm
+
+ends_open : (commit : Bool) (x : XidName) → IsNoClose (outcome_op commit x)
+ends_open true x e = cc
+ends_open false x e = cc
+
+no_close : (records : Records) (m : ℕ) (o : Outcome) → Asks IsNoClose records m o
+no_close records m o = record { ends = λ _ _. ends_open o.commit o.xid; forgets = λ _ _ e. cc }
+
+-- the branch of the outcome was asked to end: before it and after it others were, and none of these requests closes
+pub record Asked (records : Records) (m : ℕ) (o : Outcome) (a a' : LedgerView) : Type 0 where
+  pub manager : o.m ≡ m
+  pub decision : o.commit ≡ is_to_commit records m o.xid
+  pub now : LedgerView
+  pub decided : LedgerView
+  pub before : Sends IsNoClose a now
+  pub obeys : AskTrace (Some (outcome_op o.commit o.xid)) (Some o.code) now decided
+  pub after : Sends Any decided a'
+
+module _ (records : Records) (m : ℕ) (o : Outcome) where
+  asked_last : (xs : List Outcome) (p : Outcome) (a now last : LedgerView) → Chain (ResolvesBranch AsksLedger records m) a xs now
+      → ResolvesBranch AsksLedger records m p now last → p ≡ o → Asked records m o a last
+  asked_last xs p a now last chain leads same =
+      let r : ResolvesBranch AsksLedger records m o now last = subst (λ (w : Outcome). ResolvesBranch AsksLedger records m w now last) same leads in
+      record {
+        manager = r.manager;
+        decision = r.decision;
+        now = now;
+        decided = r.decided;
+        before = chain_sends IsNoClose records m a xs now (λ w c. no_close records m w) chain;
+        obeys = r.obeys;
+        after = asks_if Any (is_decided o.code) r.decided last (Forget o.xid) (λ _. tt) r.forgets;
+      }
+
+  asked_before : (p : Outcome) (a now last : LedgerView) → ResolvesBranch AsksLedger records m p now last → Asked records m o a now → Asked records m o a last
+  asked_before p a now last r s = record {
+    manager = s.manager;
+    decision = s.decision;
+    now = s.now;
+    decided = s.decided;
+    before = s.before;
+    obeys = s.obeys;
+    after = on Any s.decided now last s.after (branch_sends Any records m p now last (anything records m p) r);
+  }
+
+  none_there : Contains [] o → ⊥
+  none_there (k, lt, e) = absurd (omega (arith, lt))
+
+  chain_asked : (a : LedgerView) (os : List Outcome) (a' : LedgerView) → Chain (ResolvesBranch AsksLedger records m) a os a' → Contains os o
+      → Asked records m o a a'
+  chain_asked a _ _ (none xs last e f) there = absurd (none_there (subst (λ ws. Contains ws o) e there))
+  chain_asked a _ _ (more xs p now last chain leads) there =
+      ⊎_elim (λ (c : Contains xs o). asked_before p a now last leads (chain_asked a xs now chain c)) (λ (same : p ≡ o). asked_last xs p a now last chain leads same) (Contains-push_cases xs p o there)
+
+-- ---- the lists of one that was asked, and answered
+
+-- an OpenRm was sent, and then, with no CloseRm in between, the request, which was collected with this code
+pub record IsAnsweredIn (op : Op) (code : Code) (a : LedgerView) (ops : List Op) (pairs : List (ℕ × Code)) : Type 0 where
+  pub mid : List Op
+  pub later : List Op
+  pub sent : ops ≡ a.sent ++ OpenRm ∷ (mid ++ op ∷ later)
+  pub open_ : All IsNoClose mid
+  pub earlier : List (ℕ × Code)
+  pub others : List (ℕ × Code)
+  pub number : ℕ
+  pub number_is : number ≡ suc (length a.sent) + length mid
+  pub collected : pairs ≡ earlier ++ (number, code) ∷ others
+
+learnt_on : (a b : LedgerView) → Begins a.collected b.collected → learnt_shut b ≡ false → learnt_shut a ≡ false
+learnt_on a b begins open_ =
+    left (learnt_shut a) _ (sym (list_any-append (λ (p : ℕ × Code). is_rm_fail p.1) a.collected begins.0) ∙ sym (ap (list_any (λ (p : ℕ × Code). is_rm_fail p.1)) begins.1) ∙ open_)
+  where
+    left : (b c : Bool) → (b || c) ≡ false → b ≡ false
+    left true c e = e
+    left false c e = refl
+
+-- what was asked and answered in time was sent
+open_then : (a a' : LedgerView) (op : Op) (code : Code) → code ≢ RmFail → AskTrace (Some op) (Some code) a a' → learnt_shut a ≡ false
+open_then a a' op code reached tr =
+    elim (learnt_shut a) as (λ b. learnt_shut a ≡ b → b ≡ false) [ true ↦ λ shut. absurd (reached (tr.answered shut)) | false ↦ λ _. refl ] refl
+
+sent_so : (a a' : LedgerView) (op : Op) (code : Code) → learnt_shut a ≡ false → AskTrace (Some op) (Some code) a a'
+    → a' ≡ with_collected (with_sent a op) (length a.sent) code
+sent_so a a' op code open_ tr = tr.trace ∙ at_false (learnt_shut a) _ _ open_
+
+module _ (a opened now decided new last : LedgerView) (op : Op) (first code : Code) (opens : AskTrace (Some OpenRm) (Some first) a opened)
+    (before : Sends IsNoClose opened now) (obeys : AskTrace (Some op) (Some code) now decided)
+    (after : Sends Any decided new) (grown : HasGrown new last) (reached : code ≢ RmFail) where
+  open_now : learnt_shut now ≡ false
+  open_now = open_then now decided op code reached obeys
+
+  open_first : learnt_shut a ≡ false
+  open_first = learnt_on a opened (asks_one Any a opened OpenRm first tt opens).collected (learnt_on opened now before.collected open_now)
+
+  opened_sent : opened.sent ≡ a.sent ++ OpenRm ∷ []
+  opened_sent = ap (λ (l : LedgerView). l.sent) (sent_so a opened OpenRm first open_first opens)
+
+  now_sent : now.sent ≡ a.sent ++ OpenRm ∷ before.more
+  now_sent = before.sent ∙ ap (λ l. l ++ before.more) opened_sent ∙ append_assoc a.sent (OpenRm ∷ []) before.more
+
+  decided_is : decided ≡ with_collected (with_sent now op) (length now.sent) code
+  decided_is = sent_so now decided op code open_now obeys
+
+  last_sent : last.sent ≡ a.sent ++ OpenRm ∷ (before.more ++ op ∷ (after.more ++ grown.sent.0))
+  last_sent =
+      grown.sent.1 ∙ ap (λ l. l ++ grown.sent.0) (after.sent ∙ ap (λ (l : LedgerView). l.sent ++ after.more) decided_is)
+      ∙ append_assoc (now.sent ++ op ∷ []) after.more grown.sent.0 ∙ append_assoc now.sent (op ∷ []) (after.more ++ grown.sent.0)
+      ∙ ap (λ l. l ++ op ∷ (after.more ++ grown.sent.0)) now_sent ∙ append_assoc a.sent (OpenRm ∷ before.more) (op ∷ (after.more ++ grown.sent.0))
+
+  last_collected : last.collected ≡ now.collected ++ (length now.sent, code) ∷ (after.collected.0 ++ grown.collected.0)
+  last_collected =
+      grown.collected.1 ∙ ap (λ l. l ++ grown.collected.0) (after.collected.1 ∙ ap (λ (l : LedgerView). l.collected ++ after.collected.0) decided_is)
+      ∙ append_assoc (now.collected ++ (length now.sent, code) ∷ []) after.collected.0 grown.collected.0
+      ∙ append_assoc now.collected ((length now.sent, code) ∷ []) (after.collected.0 ++ grown.collected.0)
+
+  length_of : (xs ys : List Op) → length (xs ++ OpenRm ∷ ys) ≡ suc (length xs) + length ys
+  length_of [] ys = omega arith
+  length_of (x ∷ xs) ys = let e = length_of xs ys in omega (arith, e)
+
+  pub answered_in : IsAnsweredIn op code a last.sent last.collected
+  answered_in = record {
+    mid = before.more;
+    later = after.more ++ grown.sent.0;
+    sent = last_sent;
+    open_ = before.all;
+    earlier = now.collected;
+    others = after.collected.0 ++ grown.collected.0;
+    number = length now.sent;
+    number_is = ap (λ l. length l) now_sent ∙ length_of a.sent before.more;
+    collected = last_collected;
+  }
+
+-- ---- the outcomes of one manager
+
+-- each was asked for as the log says, and if it was answered, its request stands in the lists
+pub record IsAsked (records : Records) (m : ℕ) (o : Outcome) (a last : LedgerView) : Type 0 where
+  pub manager : o.m ≡ m
+  pub decision : o.commit ≡ is_to_commit records m o.xid
+  pub answered : o.code ≢ RmFail → IsAnsweredIn (outcome_op o.commit o.xid) o.code a last.sent last.collected
+
+at_asked : (records : Records) (m : ℕ) (xs : List XidName) (os : List Outcome) (a a' last : LedgerView) → ResolvesAt AsksLedger records m xs os a a'
+    → HasGrown a' last → (o : Outcome) → Contains os o → IsAsked records m o a last
+at_asked records m [] os a a' last h grown o there = absurd (none_there records m o (subst (λ ws. Contains ws o) h.0 there))
+at_asked records m (x ∷ xs) os a a' last h grown o there =
+    let s : Asked records m o h.opened a' = chain_asked records m o h.opened os a' h.each there in
+    record {
+      manager = s.manager;
+      decision = s.decision;
+      answered = λ reached. answered_in a h.opened s.now s.decided a' last (outcome_op o.commit o.xid) h.code o.code h.opens s.before s.obeys s.after grown reached;
+    }
+
+-- a branch that was left has one
+any_there : {A : Type 0} (p : A → Bool) (xs : List A) → list_any p xs ≡ true → (x : A) × (Contains xs x × (p x ≡ true))
+any_there p [] e = cc
+any_there {A} p (y ∷ xs) e =
+    elim (p y) as (λ b. p y ≡ b → (b || list_any p xs) ≡ true → (x : A) × (Contains (y ∷ xs) x × (p x ≡ true))) [
+      | true ↦ λ is _. (y, ((zero, omega arith, refl), is))
+      | false ↦ λ _ e. let z = any_there p xs e in (z.0, (Contains-append_right (y ∷ []) xs z.0 z.1.0, z.1.1))
+    ] refl e
+
+any_map : (x : XidName) (os : List Outcome) → list_any (xid_eq x) (map (λ o. o.xid) os) ≡ list_any (λ o. xid_eq x o.xid) os
+any_map x [] = refl
+any_map x (o ∷ os) = ap (λ b. xid_eq x o.xid || b) (any_map x os)
+
+has_outcome : (records : Records) (m : ℕ) (x : XidName) (xs : List XidName) (os : List Outcome) (a a' : LedgerView) → ResolvesAt AsksLedger records m xs os a a'
+    → list_any (xid_eq x) xs ≡ true → (o : Outcome) × (Contains os o × (o.xid ≡ x))
+has_outcome records m x [] os a a' h there = cc
+has_outcome records m x (y ∷ xs) os a a' h there =
+    let z = any_there (λ (o : Outcome). xid_eq x o.xid) os (sym (any_map x os) ∙ ap (list_any (xid_eq x)) h.xids_are ∙ there) in
+    (z.0, (z.1.0, sym ((Decides-xid_eq x z.0.xid).0 z.1.1)))
+
+list_there : (x : XidName) (xs : List XidName) → Contains xs x → list_any (xid_eq x) xs ≡ true
+list_there x [] (k, lt, e) = absurd (omega (arith, lt))
+list_there x (y ∷ xs) (zero, lt, e) = ap (λ b. b || list_any (xid_eq x) xs) ((Decides-xid_eq x y).1 (sym e))
+list_there x (y ∷ xs) (suc k, lt, e) = ap (λ b. xid_eq x y || b) (list_there x xs (k, omega (arith, lt), e)) ∙ or-true (xid_eq x y)
+
+at_left : (records : Records) (m : ℕ) (xs : List XidName) (os : List Outcome) (a a' : LedgerView) → ResolvesAt AsksLedger records m xs os a a' → (o : Outcome)
+    → Contains os o → list_any (xid_eq o.xid) xs ≡ true
+at_left records m [] os a a' h o there = absurd (none_there records m o (subst (λ ws. Contains ws o) h.0 there))
+at_left records m (x ∷ xs) os a a' h o there =
+    list_there o.xid (x ∷ xs) (subst (λ ys. Contains ys o.xid) h.xids_are (contains_map (λ (w : Outcome). w.xid) os o there))
+
+-- an element of lists that are put together is in one of them
+flat_contains : {A B : Type 0} (f : A → List B) (xs : List A) (y : B) → Contains (flat_map f xs) y → (x : A) × (Contains xs x × Contains (f x) y)
+flat_contains f [] y (k, lt, e) = absurd (omega (arith, lt))
+flat_contains f (x ∷ xs) y c =
+    ⊎_elim (λ (here : Contains (f x) y). (x, ((zero, omega arith, refl), here))) (λ (later : Contains (flat_map f xs) y). let z = flat_contains f xs y later in (z.0, (Contains-append_right (x ∷ []) xs z.0 z.1.0, z.1.1)))
+    (Contains-append_cases (f x) (flat_map f xs) y c)
+
+upto_so : (most m : ℕ) → Contains (range_with_len 1 most) m → IsUpTo most m
+upto_so most m (k, lt, e) =
+    let size = length-range_with_len 1 most in
+    let is : 1 + k ≡ m = sym (get_or-range_with_len 1 most k m (omega (arith, size, lt))) ∙ e in
+    (omega (arith, is), omega (arith, is, size, lt))
+
+-- an outcome is of a manager with a number within the limits, and among those of it
+module _ (z : ScanView) (records : Records) (old new : List LedgerView) (outcomes : List Outcome) (trace : IsTraceOfResolve z records old new outcomes)
+    (o : Outcome) (there : Contains outcomes o) where
+  pub outcome_at : IsUpTo MOST_MANAGERS o.m × Contains (trace.course.at o.m) o
+  outcome_at =
+      let w = flat_contains trace.course.at (range_with_len 1 MOST_MANAGERS) o (subst (λ os. Contains os o) trace.course.outcomes_are there) in
+      let among : IsUpTo MOST_MANAGERS w.0 = upto_so MOST_MANAGERS w.0 w.1.0 in
+      let own : HasGrown (ledger new w.0) (ledger new w.0) =
+      record { sent = same_begins (ledger new w.0).sent; collected = same_begins (ledger new w.0).collected } in
+      let elsewhere =
+      at_asked records w.0 (left_at z w.0) (trace.course.at w.0) (ledger old w.0) (ledger new w.0) (ledger new w.0) (trace.course.each w.0 among) own o w.1.1 in
+      subst (λ k. IsUpTo MOST_MANAGERS k × Contains (trace.course.at k) o) (sym elsewhere.manager) (among, w.1.1)
+
+pub outcome_upto : (z : ScanView) (records : Records) (old new : List LedgerView) (outcomes : List Outcome) → IsTraceOfResolve z records old new outcomes
+    → (o : Outcome) → Contains outcomes o → IsUpTo MOST_MANAGERS o.m
+outcome_upto z records old new outcomes trace o there = (outcome_at z records old new outcomes trace o there).0
+
+module _ (z : ScanView) (records : Records) (old new : List LedgerView) (outcomes : List Outcome) (trace : IsTraceOfResolve z records old new outcomes) (m : ℕ)
+    (up : IsUpTo MOST_MANAGERS m) (last : LedgerView) (grown : HasGrown (ledger new m) last) where
+  -- of a branch that was left there is an outcome
+  pub left_has : (x : XidName) → list_any (xid_eq x) (left_at z m) ≡ true → (o : Outcome) × (Contains outcomes o × ((o.m ≡ m) × (o.xid ≡ x)))
+  left_has x there =
+      let w = has_outcome records m x (left_at z m) (trace.course.at m) (ledger old m) (ledger new m) (trace.course.each m up) there in
+      let asked = at_asked records m (left_at z m) (trace.course.at m) (ledger old m) (ledger new m) last (trace.course.each m up) grown w.0 w.1.0 in
+      (w.0, (of_all z records old new outcomes trace m up w.0 w.1.0, (asked.manager, w.1.1)))
+
+  at_own : (o : Outcome) → Contains outcomes o → o.m ≡ m → Contains (trace.course.at m) o
+  at_own o there own = subst (λ k. Contains (trace.course.at k) o) own (outcome_at z records old new outcomes trace o there).1
+
+  -- what an outcome is of was left
+  pub outcome_left : (o : Outcome) → Contains outcomes o → o.m ≡ m → list_any (xid_eq o.xid) (left_at z m) ≡ true
+  outcome_left o there own = at_left records m (left_at z m) (trace.course.at m) (ledger old m) (ledger new m) (trace.course.each m up) o (at_own o there own)
+
+  -- each outcome of the manager was asked for
+  pub outcome_asked : (o : Outcome) → Contains outcomes o → o.m ≡ m → IsAsked records m o (ledger old m) last
+  outcome_asked o there own =
+      at_asked records m (left_at z m) (trace.course.at m) (ledger old m) (ledger new m) last (trace.course.each m up) grown o (at_own o there own)

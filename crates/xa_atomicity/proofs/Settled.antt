@@ -1,0 +1,358 @@
+-- What the branches of a call came to in a settled opening.
+use Rattle.std.proofs.Common.{◌≡◌, ℕ, suc, ◌-◌, ◌<◌, ◌≤◌, Bool, ◌&&◌, if◌then◌else◌, List, [], ◌∷◌, length, ◌++◌, append_assoc, slice_get, sym, refl, ap, ◌∙◌}
+use Rattle.std.proofs.Common.{subst, arith, Option, Some, ⊎_elim}
+use Rattle.std.specs.List.{All}
+use Rattle.std.proofs.lemmas.Bool.{le-leb, cases_lt, or_parts, not-true}
+use Rattle.xa_words.specs.Tran.{TranName}
+use Rattle.xa_words.specs.declared.code.Code.{Code}
+use Rattle.xa_words.specs.declared.code.Code.TheVariants.{Done as Voted, RdOnly}
+use Rattle.xa_tables.specs.declared.state.HeuristicDecision.{HeuristicDecision}
+use Rattle.xa_words.specs.Xid.{XidName}
+use Rattle.xa_words.specs.declared.request.Request.{Request}
+use Rattle.xa_tables.specs.Tables.{Tables, state_of}
+use Rattle.xa_tables.specs.Next.{next}
+use Rattle.xa_tables.specs.Openings.{told_by}
+use Rattle.xa_tables.specs.History as history
+use Rattle.xa_tables.specs.History.{History, Fate, IsFateOf, fate, coded, decided_fate, tables_after}
+use Rattle.xa_tables.specs.Worth.{moved, held_by}
+use Rattle.xa_desk.specs.LedgerView.{LedgerView}
+use Rattle.xa_desk.specs.DeskView.{DeskView, ledger, no_ledger, is_known}
+use Rattle.xa_worker.specs.Journal.{Entry}
+use Rattle.xa_switch.specs.Settling.{Settling, IsSettled, sent, collected, answers}
+use Rattle.xa_base.specs.Lists.{Begins}
+use Rattle.xa_desk.specs.Growth.{HasGrown, HaveGrown}
+use Rattle.xa_desk.proofs.Ledgers.{past_end}
+use Rattle.xa_desk.proofs.Growth.{as_it_was, grown_on}
+use Rattle.xa_switch.specs.Fates.{IsOpenedWith, ledgers_of, history as history_of}
+use Rattle.xa_driver.specs.declared.branch.Branch.{Branch}
+use Rattle.xa_driver.specs.declared.done.Done.{Done}
+use Rattle.xa_driver.specs.declared.done.Ending.{Ending}
+use Rattle.xa_driver.specs.Decision.{is_yes, is_no}
+use Rattle.xa_driver.specs.Endings.{ending_of, second_op, third_op}
+use Rattle.xa_log.specs.Log.{LogState}
+use Rattle.xa_driver.specs.Resolving.{AsksLedger}
+use Rattle.xa_driver.specs.Trace.{EachBranch, IsCommit, IsTraceOfCommit, AreBranchesRising}
+use Rattle.xa_driver.proofs.Mapped.{any_asked, branch_by}
+use Rattle.xa_driver.proofs.Traces.{asked_grows}
+use Rattle.xa_atomicity.specs.Outcomes.{AreLeftAlone, AreLeftOrDecided, OnlyTheseName, OnlyTheseOrDecisionsName, IsDecidedAfter, KeepsItsVote, TellsTheFate}
+use Rattle.xa_atomicity.specs.Outcomes.{undecided, decided, told_fate, EachOutcome, KeepsTheVotes, TellsTheFates, has_committed, has_rolled_back}
+use Rattle.xa_atomicity.specs.Outcomes.{has_vote_against, is_committed, is_rolled_back, is_in_doubt, is_heuristic, is_left, is_read_only, sent_so_far}
+use Rattle.xa_driver.specs.declared.done.Ending.TheVariants.{Committed, ReadOnly, RolledBack, InDoubt, Heuristic, Left}
+use Rattle.std.specs.List.{list_any}
+use Rattle.std.specs.Prelude.{ℤ, pos, true, false, ◌||◌, ◌⊎◌}
+use Rattle.std.proofs.Math.Bool.{or-true}
+use Rattle.xa_atomicity.specs.Additions.{IsAddition, Shares, CountsTheCommitted, HasAllOrNothing, is_decided}
+use Rattle.xa_base.proofs.Truth.{by_if}
+use Rattle.xa_atomicity.specs.Conservation.{taken_before}
+use Rattle.xa_atomicity.proofs.Moves.{is_within}
+use Rattle.xa_atomicity.proofs.EachManager.{every_manager}
+use Rattle.xa_atomicity.specs.Tabled.{Tabled}
+use Rattle.xa_atomicity.proofs.Values.{Counted, branch_counts}
+use Rattle.xa_atomicity.proofs.Fated.{Told, branch_told}
+use Rattle.xa_driver.specs.Course.{AtBranch}
+use Rattle.xa_atomicity.proofs.Sites.{Site, Sent, AsksIn}
+use Rattle.xa_atomicity.proofs.InLedgers.{heard, branch_in}
+
+all_first : {A : Type 0} (P : A → Type 0) (y : A) (ys : List A) → All P (y ∷ ys) → P y
+all_first P y ys h = h 0 y (omega arith)
+
+all_rest : {A : Type 0} (P : A → Type 0) (y : A) (ys : List A) → All P (y ∷ ys) → All P ys
+all_rest P y ys h k d lt = h (suc k) d (omega arith)
+
+-- what was sent to a manager, and collected from it, stands in the ledger with it
+pub by_ledger : {X : Type 0} (at : List LedgerView) (m : ℕ) (f : LedgerView → List X) → 1 ≤ m → f no_ledger ≡ []
+    → (if is_known at m then f (ledger at m) else []) ≡ f (ledger at m)
+by_ledger at m f positive none =
+    ⊎_elim
+    (λ (past : length at < m). by_if (λ l. l ≡ f (ledger at m)) (is_known at m) _ _ (λ _. refl) (λ _. sym (ap f (past_end at (m - 1) (omega (arith, past))) ∙ none)))
+    (λ (within : m ≤ length at). ap (λ b. if b then f (ledger at m) else []) (λ i. le-leb 1 m positive i && le-leb m (length at) within i))
+    (cases_lt (length at) m)
+
+-- a branch that didn't vote against is left only where it voted yes
+not_left : (commit : Bool) (vote : Code) (second : Option Code) → (is_yes vote ≡ true → is_left (ending_of commit vote second) ≡ false) → is_no vote ≡ false
+    → is_left (ending_of commit vote second) ≡ false
+not_left commit Voted second reached n = reached refl
+not_left commit RdOnly second reached n = refl
+not_left commit vote second reached n = cc
+
+-- what is shown of each branch follows for each
+pub outcome_map : (P Q : Branch → Code → Ending → Type 0) → ((b : Branch) (v : Code) (e : Ending) → P b v e → Q b v e)
+    → (bs : List Branch) (vs : List Code) (es : List Ending) → EachOutcome P bs vs es → EachOutcome Q bs vs es
+outcome_map P Q f [] [] [] h = tt
+outcome_map P Q f (b ∷ bs) (v ∷ vs) (e ∷ es) h = (f b v e h.0, outcome_map P Q f bs vs es h.1)
+outcome_map P Q f bs vs es h = absurd h
+
+-- tables by which a history has the same codes give a request in it the same
+code_within : (before after : History) (r : Request) (T U : Tables) → coded (before ++ r ∷ after) T ≡ coded (before ++ r ∷ after) U
+    → (next r.thread r.op (tables_after before T)).1 ≡ (next r.thread r.op (tables_after before U)).1
+code_within [] after r T U e =
+    let head : (r, (next r.thread r.op T).1) ≡ (r, (next r.thread r.op U).1) = cc in
+    ap (λ (p : Request × Code). p.1) head
+code_within (q ∷ before) after r T U e =
+    let tail : coded (before ++ r ∷ after) (next q.thread q.op T).0 ≡ coded (before ++ r ∷ after) (next q.thread q.op U).0 = cc in
+    code_within before after r (next q.thread q.op T).0 (next q.thread q.op U).0 tail
+
+-- so a decision that was carried out by the one was by the other
+decided_alike : (x : XidName) (t n : ℕ) (T U : Tables) (H : History) → coded H T ≡ coded H U → IsDecidedAfter x t n T H → IsDecidedAfter x t n U H
+decided_alike x t n T U H e z =
+    let place : H ≡ (z.before ++ z.request ∷ z.between) ++ z.decision ∷ z.after =
+    z.place ∙ sym (append_assoc z.before (z.request ∷ z.between) (z.decision ∷ z.after)) in
+    record {
+      before = z.before;
+      request = z.request;
+      between = z.between;
+      decision = z.decision;
+      after = z.after;
+      place = z.place;
+      thread = z.thread;
+      number = z.number;
+      named = z.named;
+      decides = z.decides;
+      carried_out = sym (code_within (z.before ++ z.request ∷ z.between) z.after z.decision T U (subst (λ h. coded h T ≡ coded h U) place e)) ∙ z.carried_out;
+    }
+
+-- what is told of a branch became of it, where it did by the history that each opening's tables give
+pub tells_of : (s : Settling) (t : ℕ) (b : Branch) (n : ℕ) (ending : Ending)
+    → ((before : Fate) (T : Tables) → IsOpenedWith s b.m T → IsFateOf b.xid before T → (f : Fate) → told_fate ending ≡ Some f → fate b.xid before (history_of s b.m) T ≡ f)
+    → ((before : Fate) (T : Tables) → IsOpenedWith s b.m T → IsFateOf b.xid before T → is_in_doubt ending ≡ true
+    → (fate b.xid before (history_of s b.m) T ≡ history.InDoubt) ⊎ ((d : HeuristicDecision) × ((fate b.xid before (history_of s b.m) T ≡ decided_fate d) × IsDecidedAfter b.xid t n T (history_of s b.m))))
+    → TellsTheFate s t b n ending
+tells_of s t b n ending told doubt = record {
+  told = λ before f was e. was.opened.fates b.xid before ∙ told before was.first was.opened was.fits f e;
+  doubt = λ before was unknown.
+      ⊎_elim
+      (λ (none : fate b.xid before (history_of s b.m) was.first ≡ history.InDoubt). undecided (was.opened.fates b.xid before ∙ none))
+      (λ (some : (d : HeuristicDecision) × ((fate b.xid before (history_of s b.m) was.first ≡ decided_fate d) × IsDecidedAfter b.xid t n was.first (history_of s b.m))).
+      decided some.0 (was.opened.fates b.xid before ∙ some.1.0) (λ U with_U. decided_alike b.xid t n was.first U (history_of s b.m) (sym was.opened.codes ∙ with_U.codes) some.1.1))
+      (doubt before was.first was.opened was.fits unknown);
+}
+
+-- branch by branch, without the second codes
+pub each_outcome : (C : Branch → Type 0) (P : Branch → Code → Option Code → Ending → Type 0) (Q : Branch → Code → Ending → Type 0)
+    → ((b : Branch) (v : Code) (z : Option Code) (e : Ending) → C b → P b v z e → Q b v e)
+    → (bs : List Branch) (vs : List Code) (zs : List (Option Code)) (es : List Ending) → All C bs → EachBranch P bs vs zs es → EachOutcome Q bs vs es
+each_outcome C P Q so [] [] [] [] all h = tt
+each_outcome C P Q so (b ∷ bs) (v ∷ vs) (z ∷ zs) (e ∷ es) all h =
+    (so b v z e (all_first C b bs all) h.0, each_outcome C P Q so bs vs zs es (all_rest C b bs all) h.1)
+each_outcome C P Q so bs vs zs es all h = absurd h
+
+-- what a branch was asked, by its manager's history
+module _ (law : Tabled) (s : Settling) (t : ℕ) (settled : IsSettled s) (b : Branch) (commit : Bool) (v : Code) (z : Option Code) (e : Ending)
+    (a a' : LedgerView) (positive : 1 ≤ b.m) (grown : HasGrown a' (ledger (ledgers_of s t) b.m)) (is : AtBranch AsksLedger commit b v z e a a')
+    (T : Tables) (with_T : IsOpenedWith s b.m T) where
+  abbrev its_site : Site t T (history_of s b.m)
+  its_site = record { law = law; opening = with_T.opened; ops = sent s t b.m; carried = (settled.agree t b.m).carried }
+
+  pub asked_in : AtBranch (AsksIn t T (history_of s b.m)) commit b v z e (heard a) (heard a')
+  asked_in =
+      branch_in its_site (collected s t b.m) (subst (λ (J : List Entry). All (λ (p : ℕ × Code). slice_get (answers t J) p.0 ≡ Some p) (collected s t b.m)) with_T.codes (settled.agree t b.m).coded) b commit v z e a a' is
+      (subst (Begins a'.sent) (sym (by_ledger (ledgers_of s t) b.m (λ (l : LedgerView). l.sent) positive refl)) grown.sent)
+      (subst (Begins a'.collected) (sym (by_ledger (ledgers_of s t) b.m (λ (l : LedgerView). l.collected) positive refl)) grown.collected)
+
+  -- and what became of it
+  pub told_in : OnlyTheseOrDecisionsName b.xid t (length a.sent) (length a'.sent) (history_of s b.m)
+      → Told t b.xid (told_by (state_of T b.xid)) T (history_of s b.m) (length a.sent) v e
+  told_in only = branch_told its_site b commit v z e (heard a) (heard a') asked_in (told_by (state_of T b.xid)) (law.first b.xid T) only
+
+-- in a settled opening, by the histories of its managers
+module _ (law : Tabled) (opened : (s : Settling) (m : ℕ) → IsSettled s → (T : Tables) × IsOpenedWith s m T) (s : Settling) (t : ℕ) where
+  -- a branch with an addition, whose Prepare has number n, didn't only read
+  abbrev Adders : Branch → ℕ → Ending → Type 0
+  Adders b n ending = (T : Tables) → IsOpenedWith s b.m T → (k : List ℕ) (d : ℤ) → IsAddition b.xid k d t n T (history_of s b.m) → is_read_only ending ≡ false
+
+  -- what became of one branch
+  pub record Fated (b : Branch) (n : ℕ) (vote : Code) (ending : Ending) : Type 0 where
+    pub keeps : KeepsItsVote s t b n vote ending
+    pub tells : TellsTheFate s t b n ending
+    pub unless_no : is_no vote ≡ false → is_left ending ≡ false
+
+  -- and what it counts for, whose requests have the numbers from n to below `last`
+  pub record Both (b : Branch) (n last : ℕ) (vote : Code) (ending : Ending) : Type 0 where
+    pub fated : Fated b n vote ending
+    pub counts : Shares s t b n (is_committed ending)
+    pub adders : Adders b n ending
+    pub moves : (T : Tables) → IsOpenedWith s b.m T → (accounts : List (List ℕ × ℕ))
+        → moved accounts (is_within t n last) (history_of s b.m) T ≡ (if is_committed ending then held_by accounts b.xid (tables_after (taken_before t n (history_of s b.m)) T) else pos 0)
+    pub undecided : is_no vote ≡ false → is_heuristic ending ≡ false
+    pub reads : is_read_only ending ≡ true → (T : Tables) → IsOpenedWith s b.m T → (accounts : List (List ℕ × ℕ))
+        → held_by accounts b.xid (tables_after (taken_before t n (history_of s b.m)) T) ≡ pos 0
+
+  -- what a branch was asked, in its manager's history
+  abbrev pub InHistory : Bool → (ℕ → Sent) → (ℕ → Sent) → Branch → Code → Option Code → Ending → Type 0
+  InHistory commit old new b v z e = (T : Tables) → IsOpenedWith s b.m T → AtBranch (AsksIn t T (history_of s b.m)) commit b v z e (old b.m) (new b.m)
+
+  -- ---- one branch
+
+  module _ (settled : IsSettled s) (commit : Bool) (old new : ℕ → Sent) (b : Branch) (vote : Code) (second : Option Code) (ending : Ending)
+      (is : InHistory commit old new b vote second ending) where
+    abbrev H : History
+    H = history_of s b.m
+
+    abbrev n : ℕ
+    n = (old b.m).number
+
+    abbrev last : ℕ
+    last = (new b.m).number
+
+    abbrev site : (T : Tables) → IsOpenedWith s b.m T → Site t T H
+    site T with_T = record { law = law; opening = with_T.opened; ops = sent s t b.m; carried = (settled.agree t b.m).carried }
+
+    one_told : OnlyTheseOrDecisionsName b.xid t n last H → (before : Fate) (T : Tables) → IsOpenedWith s b.m T → IsFateOf b.xid before T
+        → Told t b.xid before T H n vote ending
+    one_told only before T with_T fits = branch_told (site T with_T) b commit vote second ending (old b.m) (new b.m) (is T with_T) before fits only
+
+    one_voted : OnlyTheseOrDecisionsName b.xid t n last H → (T : Tables) → IsOpenedWith s b.m T → Told t b.xid (told_by (state_of T b.xid)) T H n vote ending
+    one_voted only T with_T = one_told only (told_by (state_of T b.xid)) T with_T (law.first b.xid T)
+
+    one_counted : OnlyTheseName b.xid t n last H → (T : Tables) → IsOpenedWith s b.m T → Counted t b.xid T H n last vote ending
+    one_counted only T with_T = branch_counts (site T with_T) b commit vote second ending (old b.m) (new b.m) (is T with_T) only
+
+    one_fated : OnlyTheseOrDecisionsName b.xid t n last H → Fated b n vote ending
+    one_fated only =
+        let open_ = opened s b.m settled in
+        let z = one_voted only open_.0 open_.1 in
+        let ends = (is open_.0 open_.1).ends in
+        record {
+          keeps = record { reached = z.reached; shut = z.shut; decided = λ y h U with_U. (one_voted only U with_U).decided y h };
+          tells = tells_of s t b n ending (λ before U with_U fits. (one_told only before U with_U fits).told) (λ before U with_U fits. (one_told only before U with_U fits).doubt);
+          unless_no = λ no. ap is_left ends ∙ not_left commit vote second (λ y. sym (ap is_left ends) ∙ z.reached y) no;
+        }
+
+    one_both : OnlyTheseName b.xid t n last H → Both b n last vote ending
+    one_both only =
+        let open_ = opened s b.m settled in
+        let z : (U : Tables) → IsOpenedWith s b.m U → Counted t b.xid U H n last vote ending = one_counted only in
+        record {
+          fated = one_fated (λ before after r place own number k d lt named other. only before after r place own number k d lt named);
+          counts = λ U with_U k d add. (z U with_U).counted k d add;
+          adders = λ U with_U k d add. (z U with_U).adders k d add;
+          moves = λ U with_U accounts. (z U with_U).moves accounts;
+          undecided = (z open_.0 open_.1).undecided;
+          reads = λ only_read U with_U accounts. (z U with_U).reads only_read accounts;
+        }
+
+  -- ---- each branch of a commit
+
+  abbrev numbers : (ℕ → Sent) → ℕ → ℕ
+  numbers at m = (at m).number
+
+  module _ (settled : IsSettled s) (d : Done) (bs : List Branch) (zs : List (Option Code)) (old new : ℕ → Sent)
+      (each : EachBranch (InHistory d.commit old new) bs d.votes.items zs d.endings.items) where
+    module _ (alone : AreLeftOrDecided s t bs (numbers old) (numbers new)) where
+      pub each_fated : EachOutcome (λ b v e. Fated b (old b.m).number v e) bs d.votes.items d.endings.items
+      each_fated =
+          each_outcome (λ b. OnlyTheseOrDecisionsName b.xid t (old b.m).number (new b.m).number (history_of s b.m)) (InHistory d.commit old new) (λ b v e. Fated b (old b.m).number v e)
+          (λ b v z e only is. one_fated settled d.commit old new b v z e is only) bs d.votes.items zs d.endings.items alone.each each
+
+      pub keeps_votes : KeepsTheVotes s t bs (numbers old) d
+      keeps_votes =
+          record { each = outcome_map (λ b v e. Fated b (old b.m).number v e) (λ b v e. KeepsItsVote s t b (old b.m).number v e) (λ b v e f. f.keeps) bs d.votes.items d.endings.items each_fated }
+
+      pub tells_fates : TellsTheFates s t bs (numbers old) d
+      tells_fates =
+          record { each = outcome_map (λ b v e. Fated b (old b.m).number v e) (λ b v e. TellsTheFate s t b (old b.m).number e) (λ b v e f. f.tells) bs d.votes.items d.endings.items each_fated }
+
+    module _ (alone : AreLeftAlone s t bs (numbers old) (numbers new)) where
+      pub each_both : EachOutcome (λ b v e. Both b (old b.m).number (new b.m).number v e) bs d.votes.items d.endings.items
+      each_both =
+          each_outcome (λ b. OnlyTheseName b.xid t (old b.m).number (new b.m).number (history_of s b.m)) (InHistory d.commit old new) (λ b v e. Both b (old b.m).number (new b.m).number v e)
+          (λ b v z e only is. one_both settled d.commit old new b v z e is only) bs d.votes.items zs d.endings.items alone.each each
+
+      pub counts_committed : CountsTheCommitted s t bs (numbers old) d
+      counts_committed =
+          record { each = outcome_map (λ b v e. Both b (old b.m).number (new b.m).number v e) (λ b v e. Shares s t b (old b.m).number (is_committed e)) (λ b v e z. z.counts) bs d.votes.items d.endings.items each_both }
+
+  -- ---- all of a transaction or nothing
+
+  -- an ending of a call that is decided, where one branch or none was committed
+  ending_is : (whole : Bool) (e : Ending) → (whole ≡ true → is_rolled_back e ≡ false) → (whole ≡ true → is_heuristic e ≡ false)
+      → (is_committed e ≡ true → whole ≡ true) → is_in_doubt e ≡ false → is_left e ≡ false → is_read_only e ≡ false → is_committed e ≡ whole
+  ending_is true Committed agree plain some doubt left reads = refl
+  ending_is false Committed agree plain some doubt left reads = sym (some refl)
+  ending_is whole ReadOnly agree plain some doubt left reads = cc
+  ending_is true RolledBack agree plain some doubt left reads = let z : true ≡ false = agree refl in cc
+  ending_is false RolledBack agree plain some doubt left reads = refl
+  ending_is true (Heuristic c) agree plain some doubt left reads = let z : true ≡ false = plain refl in cc
+  ending_is false (Heuristic c) agree plain some doubt left reads = refl
+  ending_is whole InDoubt agree plain some doubt left reads = cc
+  ending_is whole (Left c) agree plain some doubt left reads = cc
+
+  each_whole : (whole : Bool) (from upto : ℕ → ℕ) (bs : List Branch) (vs : List Code) (es : List Ending) → (whole ≡ true → list_any is_rolled_back es ≡ false)
+      → (whole ≡ true → list_any is_no vs ≡ false) → (list_any is_committed es ≡ true → whole ≡ true)
+      → list_any is_in_doubt es ≡ false → list_any is_left es ≡ false → EachOutcome (λ b v e. Both b (from b.m) (upto b.m) v e) bs vs es
+      → EachOutcome (λ b v e. Shares s t b (from b.m) whole) bs vs es
+  each_whole whole from upto [] [] [] agree unopposed some doubt left h = tt
+  each_whole whole from upto (b ∷ bs) (v ∷ vs) (e ∷ es) agree unopposed some doubt left h =
+      let here = or_parts (is_in_doubt e) (list_any is_in_doubt es) doubt in
+      let there = or_parts (is_left e) (list_any is_left es) left in (
+        λ T with_T k d add.
+            let same : is_committed e ≡ whole =
+            ending_is whole e (λ w. (or_parts (is_rolled_back e) (list_any is_rolled_back es) (agree w)).0) (λ w. h.0.undecided (or_parts (is_no v) (list_any is_no vs) (unopposed w)).0) (λ c. some (ap (λ q. q || list_any is_committed es) c)) here.0 there.0
+            (h.0.adders T with_T k d add) in
+            h.0.counts T with_T k d add ∙ ap (λ q. if q then d else pos 0) same,
+        each_whole whole from upto bs vs es (λ w. (or_parts (is_rolled_back e) (list_any is_rolled_back es) (agree w)).1) (λ w. (or_parts (is_no v) (list_any is_no vs) (unopposed w)).1) (λ c. some (ap (λ q. is_committed e || q) c ∙ or-true (is_committed e))) here.1 there.1 h.1,
+      )
+  each_whole whole from upto bs vs es agree unopposed some doubt left h = absurd h
+
+  -- ---- by a desk's lists
+
+  module _ (bs : List Branch) (desk : DeskView) (new : List LedgerView) (log later : LogState) (d : Done)
+      (settled : IsSettled s) (made : IsCommit bs desk new log later d) (grown : HaveGrown new (ledgers_of s t)) where
+    abbrev at : List LedgerView
+    at = desk.ledgers
+
+    abbrev old_sent : ℕ → Sent
+    old_sent m = heard (ledger at m)
+
+    abbrev new_sent : ℕ → Sent
+    new_sent m = heard (ledger new m)
+
+    in_history : (b : Branch) (v : Code) (z : Option Code) (e : Ending) → 1 ≤ b.m → AtBranch AsksLedger d.commit b v z e (ledger at b.m) (ledger new b.m)
+        → InHistory d.commit old_sent new_sent b v z e
+    in_history b v z e positive is T with_T =
+        asked_in law s t settled b d.commit v z e (ledger at b.m) (ledger new b.m) positive (grown.each b.m positive) is T with_T
+
+    in_histories : (lo : ℕ) (cs : List Branch) (vs : List Code) (zs : List (Option Code)) (es : List Ending) → AreBranchesRising lo cs
+        → EachBranch (λ b v z e. AtBranch AsksLedger d.commit b v z e (ledger at b.m) (ledger new b.m)) cs vs zs es
+        → EachBranch (InHistory d.commit old_sent new_sent) cs vs zs es
+    in_histories lo [] [] [] [] rising h = tt
+    in_histories lo (b ∷ cs) (v ∷ vs) (z ∷ zs) (e ∷ es) rising h =
+        let up = rising.0 in (in_history b v z e (omega (arith, up)) h.0, in_histories b.m cs vs zs es rising.1 h.1)
+    in_histories lo cs vs zs es rising h = absurd h
+
+    each : EachBranch (InHistory d.commit old_sent new_sent) bs d.votes.items made.trace.course.seconds d.endings.items
+    each = in_histories 0 bs d.votes.items made.trace.course.seconds d.endings.items made.may.rising made.trace.course.each
+
+    module _ (alone : AreLeftOrDecided s t bs (sent_so_far at) (sent_so_far new)) where
+      pub votes_law : KeepsTheVotes s t bs (sent_so_far at) d
+      votes_law = keeps_votes settled d bs made.trace.course.seconds old_sent new_sent each alone
+
+      pub fates_law : TellsTheFates s t bs (sent_so_far at) d
+      fates_law = tells_fates settled d bs made.trace.course.seconds old_sent new_sent each alone
+
+    module _ (alone : AreLeftAlone s t bs (sent_so_far at) (sent_so_far new)) where
+      pub all_outcomes : EachOutcome (λ b v e. Both b (sent_so_far at b.m) (sent_so_far new b.m) v e) bs d.votes.items d.endings.items
+      all_outcomes = each_both settled d bs made.trace.course.seconds old_sent new_sent each alone
+
+      pub counts_law : CountsTheCommitted s t bs (sent_so_far at) d
+      counts_law = counts_committed settled d bs made.trace.course.seconds old_sent new_sent each alone
+
+      -- no branch was rolled back, and none voted against, where one was committed
+      pub whole_law : (has_committed d ≡ true → has_rolled_back d ≡ false) → (has_committed d ≡ true → has_vote_against d ≡ false) → is_decided d ≡ true
+          → HasAllOrNothing s t bs (sent_so_far at) d
+      whole_law agree unopposed sure =
+          let none = or_parts _ _ (not-true _ sure) in
+          record { each = each_whole (has_committed d) (sent_so_far at) (sent_so_far new) bs d.votes.items d.endings.items agree unopposed (λ e. e) none.0 none.1 all_outcomes }
+
+-- ---- a commit only makes the lists grow
+
+traced_grows : (commit : Bool) (b : Branch) (v : Code) (z : Option Code) (e : Ending) (a a' : LedgerView) → AtBranch AsksLedger commit b v z e a a'
+    → HasGrown a a'
+traced_grows commit b v z e a a' is =
+    branch_by AsksLedger (λ op. Unit {0}) (HasGrown a) (λ d w op c so asked q. grown_on a d w q (subst (HasGrown d) (sym asked.trace) (asked_grows d (Some op) (Some c)))) commit b v z e a a' is
+    (any_asked (second_op commit b.xid v)) (any_asked (third_op b.xid z)) tt (as_it_was a)
+
+pub growth_law : (tran : TranName) (bs : List Branch) (old new : List LedgerView) (log later : LogState) (d : Done)
+    → IsTraceOfCommit tran bs old new log later d → HaveGrown old new
+growth_law tran bs old new log later d call =
+    record { each = every_manager HasGrown as_it_was (λ b. Unit {0}) tran bs old new log later d (λ b _. traced_grows d.commit b) (λ k d lt. tt) call }

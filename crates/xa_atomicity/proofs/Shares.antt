@@ -1,0 +1,72 @@
+-- The share that a value has of an addition, by the fates that a history makes of its branch.
+use Rattle.std.specs.Prelude.{ℤ, pos, option_map}
+use Rattle.std.proofs.Common.{◌≡◌, ℕ, suc, Bool, true, ◌&&◌, if◌then◌else◌, List, [], ◌∷◌, ◌++◌, append_assoc, sym, refl, ap, ◌∙◌, arith, Option, Some, None}
+use Rattle.std.specs.List.{cons_option}
+use Rattle.xa_words.specs.Xid.{XidName}
+use Rattle.xa_words.specs.Key.{key_eq}
+use Rattle.xa_words.specs.Orders.{Decides-key_eq}
+use Rattle.xa_words.specs.declared.request.Op.TheVariants.{Prepare}
+use Rattle.xa_tables.specs.declared.state.Association.{Association}
+use Rattle.xa_tables.specs.Tables.{Tables, association_of}
+use Rattle.xa_tables.specs.Next.{next}
+use Rattle.xa_tables.specs.History.{History, Fate, added_by, coded, commits_later, ending, ending_by, fate_of, is_done, or_later, share, share_of, tables_after}
+use Rattle.xa_tables.specs.History.{EndsNowhere}
+use Rattle.xa_tables.proofs.Unnamed.{tables_after-append}
+use Rattle.xa_atomicity.specs.Additions.{IsAddition, prepare_of}
+use Rattle.xa_atomicity.proofs.Placing.{request_of, fates}
+
+-- ---- by the fates that a history makes
+
+-- whether the first of these fates that ends the branch commits it; where none ends it, what comes later
+abbrev pub commits_or : Bool → List Fate → Bool
+commits_or later [] = later
+commits_or later (f ∷ fs) = or_later (ending_by f) (commits_or later fs)
+
+pub commits_by : (later : Bool) (x : XidName) (h : History) (T : Tables) → commits_later later x (coded h T) ≡ commits_or later (fates x h T)
+commits_by later x [] T = refl
+commits_by later x (r ∷ h) T =
+    let T1 : Tables = (next r.thread r.op T).0 in
+    let o : Option Fate = fate_of x r.op (next r.thread r.op T).1 in
+    ap (or_later (ending o)) (commits_by later x h T1)
+    ∙ elim o as (λ o. or_later (ending o) (commits_or later (fates x h T1)) ≡ commits_or later (cons_option o (fates x h T1))) [ None ↦ refl | Some f ↦ refl ]
+
+-- a history that doesn't end the branch decides nothing
+commits_past : (later : Bool) (x : XidName) (h g : History) (T : Tables) → EndsNowhere x h T
+    → commits_later later x (coded (h ++ g) T) ≡ commits_later later x (coded g (tables_after h T))
+commits_past later x [] g T e = refl
+commits_past later x (r ∷ h) g T e =
+    let T1 : Tables = (next r.thread r.op T).0 in
+    ap (λ o. or_later o (commits_later later x (coded (h ++ g) T1))) (e 0 (r, (next r.thread r.op T).1) (omega arith))
+    ∙ commits_past later x h g T1 (λ k d lt. e (suc k) d (omega arith))
+
+-- ---- one addition
+
+added_is : (o : Option Association) (d : ℤ) (later : XidName → Bool) (x : XidName) → option_map (λ (a : Association). a.xid) o ≡ Some x
+    → added_by o d later ≡ (if later x then d else pos 0)
+added_is None d later x e = cc
+added_is (Some a) d later x e = let same : a.xid ≡ x = cc in ap (λ y. if later y then d else pos 0) same
+
+-- its share is decided by what comes from the Prepare on
+pub share_is : (x : XidName) (k : List ℕ) (d : ℤ) (t n : ℕ) (T : Tables) (H : History) (after : XidName → Bool) (add : IsAddition x k d t n T H) (fs : List Fate)
+    → fates x (request_of t n (Prepare x) ∷ add.after) (tables_after (add.before ++ add.adding ∷ add.between) T) ≡ fs
+    → share k after add.adding (add.between ++ prepare_of t n x ∷ add.after) (tables_after add.before T) ≡ (if commits_or (after x) fs then d else pos 0)
+share_is x k d t n T H after add fs e =
+    let here : Tables = tables_after add.before T in
+    let U : Tables = (next add.adding.thread add.adding.op here).0 in
+    let V : Tables = tables_after add.between U in
+    let rest : History = request_of t n (Prepare x) ∷ add.after in
+    let later : XidName → Bool = λ y. commits_later (after y) y (coded (add.between ++ rest) U) in
+    let own : Option Association = association_of here add.adding.thread in
+    let is : later x ≡ commits_or (after x) fs =
+    commits_past (after x) x add.between rest U add.unended ∙ commits_by (after x) x rest V
+    ∙ ap (λ (W : Tables). commits_or (after x) (fates x rest W)) (sym (tables_after-append add.before (add.adding ∷ add.between) T))
+    ∙ ap (commits_or (after x)) e in
+    ap (λ op. share_of k op (next add.adding.thread add.adding.op here).1 own later) add.adds
+    ∙ ap (λ c. if key_eq k k && is_done c then added_by own d later else pos 0) add.answered
+    ∙ ap (λ b. if b && true then added_by own d later else pos 0) ((Decides-key_eq k k).1 refl)
+    ∙ added_is own d later x add.branch ∙ ap (λ b. if b then d else pos 0) is
+
+-- where it stands in a history
+pub add_place : (x : XidName) (k : List ℕ) (d : ℤ) (t n : ℕ) (T : Tables) (H : History) (add : IsAddition x k d t n T H)
+    → H ≡ (add.before ++ add.adding ∷ add.between) ++ request_of t n (Prepare x) ∷ add.after
+add_place x k d t n T H add = add.place ∙ sym (append_assoc add.before (add.adding ∷ add.between) (request_of t n (Prepare x) ∷ add.after))

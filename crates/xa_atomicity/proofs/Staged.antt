@@ -1,0 +1,215 @@
+-- Each stage of a commit is one that was cut short, whatever else was done between them.
+use Rattle.std.specs.Prelude.{◌≡◌, ℕ, Bool, Option, Some, List, [], ◌∷◌, map, refl}
+use Rattle.std.proofs.Common.{get_or, sym, ap, ◌∙◌, subst}
+use Rattle.std.specs.List.{All}
+use Rattle.std.proofs.lemmas.List.Elements.{All-nil, All-cons, All-head, All-tail}
+use Rattle.xa_words.specs.Tran.{TranName}
+use Rattle.xa_words.specs.declared.code.Code.{Code}
+use Rattle.xa_words.specs.declared.request.Op.{Op}
+use Rattle.xa_words.specs.declared.request.Op.TheVariants.{Prepare}
+use Rattle.xa_desk.specs.LedgerView.{LedgerView}
+use Rattle.xa_desk.specs.DeskView.{DeskView, ledger}
+use Rattle.xa_driver.specs.declared.ask.Ask.{Ask}
+use Rattle.xa_driver.specs.declared.branch.Branch.{Branch}
+use Rattle.xa_driver.specs.declared.done.Ending.{Ending}
+use Rattle.xa_driver.specs.declared.round.Round.{Round}
+use Rattle.xa_driver.specs.declared.stages.Preparing.{Preparing}
+use Rattle.xa_driver.specs.declared.stages.Prepared.{Prepared}
+use Rattle.xa_driver.specs.declared.stages.Decided.{Decided}
+use Rattle.xa_driver.specs.declared.stages.Telling.{Telling}
+use Rattle.xa_driver.specs.declared.stages.Told.{Told}
+use Rattle.xa_driver.specs.declared.stages.Forgetting.{Forgetting}
+use Rattle.xa_driver.specs.Asks.{Asks, EachAsk, HaveComeSoFar, IsBegun, SameAsks, collected, unasked}
+use Rattle.xa_atomicity.specs.Cut.{DidOther, EachVote, IsAsked, IsCut, IsTold, LeavesBranches, asking, forgetting, telling}
+use Rattle.xa_driver.specs.Decision.{yes_of}
+use Rattle.xa_driver.specs.Endings.{second_op, third_op, ending_of}
+use Rattle.xa_log.specs.Log.{LogState}
+use Rattle.xa_driver.specs.Rounds.{code_of, ending_of_ask, first_ask, second_ask, third_ask, yes_asked}
+use Rattle.xa_driver.specs.Stages.{HasDecided, HasPrepared, HasTold, IsForgetting, IsPreparing, IsTelling}
+use Rattle.xa_driver.specs.Trace.{EachBranch, Logs, MayCommit, decision_of}
+use Rattle.xa_driver.proofs.Calls.{first_trace, second_code, second_is, second_trace, yes_is, one_tran}
+use Rattle.xa_atomicity.proofs.CutVotes.{Ended, did_nothing}
+use Rattle.xa_driver.proofs.Gathering.{same_itself}
+
+-- ---- one request
+
+-- what was done of a request
+abbrev pub Begun : List LedgerView → List LedgerView → Ask → Type 0
+Begun at now k = IsBegun k.op (ledger at k.manager) (ledger now k.manager)
+
+begun_at : (k : Ask) (o : Option Op) (m : ℕ) (at now : List LedgerView) → k.op ≡ o → k.manager ≡ m → Begun at now k → IsBegun o (ledger at m) (ledger now m)
+begun_at k o m at now op manager h =
+    subst (λ (z : Option Op). IsBegun z (ledger at m) (ledger now m)) op (subst (λ (n : ℕ). IsBegun k.op (ledger at n) (ledger now n)) manager h)
+
+-- requests that were collected were done of, and of others nothing was
+pub asks_begun : (ks : List Ask) (at now : List LedgerView) → EachAsk ks at now → All (Begun at now) ks
+asks_begun [] at now e = All-nil (Begun at now)
+asks_begun (k ∷ ks) at now e = All-cons (Begun at now) k ks (collected k.code e.0) (asks_begun ks at now e.1)
+
+none_begun : (ks : List Ask) (at : List LedgerView) → All (Begun at at) ks
+none_begun ks at k d lt = unasked refl
+
+-- ---- all branches
+
+abbrev Other : List LedgerView → List LedgerView → Branch → Type 0
+Other old new b = DidOther b.xid (ledger old b.m) (ledger new b.m)
+
+module _ (old mid now : List LedgerView) where
+  all_asked : (bs : List Branch) (ks : List Ask) → SameAsks (map first_ask bs) ks → All (Begun old mid) ks → All (Other mid now) bs
+      → All (λ b. IsAsked b (ledger old b.m) (ledger now b.m)) bs
+  all_asked [] ks s e f = All-nil (λ (b : Branch). IsAsked b (ledger old b.m) (ledger now b.m))
+  all_asked (b ∷ bs) [] s e f = absurd s
+  all_asked (b ∷ bs) (k ∷ ks) s e f =
+      All-cons (λ (c : Branch). IsAsked c (ledger old c.m) (ledger now c.m)) b bs
+      (record { left = ledger mid b.m; asks = begun_at k (Some (Prepare b.xid)) b.m old mid s.0.op s.0.manager (All-head (Begun old mid) k ks e); after = All-head (Other mid now) b bs f })
+      (all_asked bs ks s.1 (All-tail (Begun old mid) k ks e) (All-tail (Other mid now) b bs f))
+
+module _ (commit : Bool) (old mid tell now : List LedgerView) where
+  all_told : (bs : List Branch) (ks js : List Ask) → SameAsks (map first_ask bs) ks → SameAsks (map (second_ask commit) ks) js → EachAsk ks old mid
+      → All (Other mid tell) bs → All (Begun tell now) js
+      → EachVote (λ b v. IsTold commit b v (ledger old b.m) (ledger now b.m)) bs (map code_of ks)
+  all_told [] [] js s q e f g = tt
+  all_told [] (k ∷ ks) js s q e f g = absurd s
+  all_told (b ∷ bs) [] js s q e f g = absurd s
+  all_told (b ∷ bs) (k ∷ ks) [] s q e f g = absurd q
+  all_told (b ∷ bs) (k ∷ ks) (j ∷ js) s q e f g =
+      let x = first_trace b k old mid s.0 e.0 in (
+        record {
+          prepared = x.answered;
+          start = ledger tell b.m;
+          between = subst (λ (a : LedgerView). DidOther b.xid a (ledger tell b.m)) x.trace (All-head (Other mid tell) b bs f);
+          tells = begun_at j (second_op commit b.xid (code_of k)) b.m tell now (second_is commit b k j s.0 q.0) (q.0.manager ∙ s.0.manager) (All-head (Begun tell now) j js g);
+        },
+        all_told bs ks js s.1 q.1 e.1 (All-tail (Other mid tell) b bs f) (All-tail (Begun tell now) j js g),
+      )
+
+module _ (commit : Bool) (old mid tell late start now : List LedgerView) where
+  all_ended : (bs : List Branch) (ks js ls : List Ask) → SameAsks (map first_ask bs) ks → SameAsks (map (second_ask commit) ks) js
+      → SameAsks (map third_ask js) ls → EachAsk ks old mid → All (Other mid tell) bs → EachAsk js tell late → All (Other late start) bs
+      → All (Begun start now) ls
+      → EachBranch (Ended commit old now) bs (map code_of ks) (map second_code js) (map (ending_of_ask commit) js)
+  all_ended [] [] [] ls s q u e f g h w = tt
+  all_ended [] [] (j ∷ js) ls s q u e f g h w = absurd q
+  all_ended [] (k ∷ ks) js ls s q u e f g h w = absurd s
+  all_ended (b ∷ bs) [] js ls s q u e f g h w = absurd s
+  all_ended (b ∷ bs) (k ∷ ks) [] ls s q u e f g h w = absurd q
+  all_ended (b ∷ bs) (k ∷ ks) (j ∷ js) [] s q u e f g h w = absurd u
+  all_ended (b ∷ bs) (k ∷ ks) (j ∷ js) (l ∷ ls) s q u e f g h w =
+      let x = first_trace b k old mid s.0 e.0 in
+      let y = second_trace commit b k j tell late s.0 q.0 g.0 in
+      let last : l.op ≡ third_op b.xid j.code = u.0.op ∙ ap (λ z. third_op z j.code) (q.0.xid ∙ s.0.xid) in (
+        (
+          record {
+            prepared = x.answered;
+            start = ledger tell b.m;
+            between = subst (λ (a : LedgerView). DidOther b.xid a (ledger tell b.m)) x.trace (All-head (Other mid tell) b bs f);
+            seconded = y.answered;
+            told = ledger start b.m;
+            after = subst (λ (a : LedgerView). DidOther b.xid a (ledger start b.m)) y.trace (All-head (Other late start) b bs h);
+            forgets = begun_at l (third_op b.xid j.code) b.m start now last (u.0.manager ∙ q.0.manager ∙ s.0.manager) (All-head (Begun start now) l ls w);
+          },
+          ap (λ v. ending_of commit v j.code) q.0.vote,
+        ),
+        all_ended bs ks js ls s.1 q.1 u.1 e.1 (All-tail (Other mid tell) b bs f) g.1 (All-tail (Other late start) b bs h) (All-tail (Begun start now) l ls w),
+      )
+
+pub nothing_between : (bs : List Branch) (at : List LedgerView) → LeavesBranches bs at at
+nothing_between bs at = record { each = λ k d lt. did_nothing (get_or bs k d).xid (ledger at (get_or bs k d).m); managers = refl }
+
+-- ---- how far it came is a commit that was cut short
+
+asking_cut : (bs : List Branch) (desk : DeskView) (mid now : List LedgerView) (log : LogState) (ks : List Ask) → MayCommit desk log bs
+    → SameAsks (map first_ask bs) ks → HaveComeSoFar ks desk.ledgers mid → LeavesBranches bs mid now → IsCut bs desk now log log []
+asking_cut bs desk mid now log ks may same far between = record {
+  may = may;
+  far = asking refl refl (all_asked desk.ledgers mid now bs ks same far.each between.each);
+  managers = between.managers ∙ far.managers;
+}
+
+pub asks_so_far : (ks : List Ask) (at now : List LedgerView) → Asks ks at now → HaveComeSoFar ks at now
+asks_so_far ks at now asked = record { each = asks_begun ks at now asked.each; others = asked.others; managers = asked.managers }
+
+none_so_far : (ks : List Ask) (at : List LedgerView) → HaveComeSoFar ks at at
+none_so_far ks at = record { each = none_begun ks at; others = λ m positive none. refl; managers = refl }
+
+module _ (bs : List Branch) (desk : DeskView) (mid tell : List LedgerView) (log later : LogState) (p : Prepared) (d : Decided) (may : MayCommit desk log bs)
+    (first : HasPrepared bs desk.ledgers mid p) (between : LeavesBranches bs mid tell) (second : HasDecided p log later d) where
+  abbrev asks : List Ask
+  asks = p.round.asks.items
+
+  abbrev votes : List Code
+  votes = map code_of asks
+
+  abbrev commit : Bool
+  commit = d.known.commit
+
+  logs_are : Logs may.tran (yes_of bs votes) votes d.known.logged log later
+  logs_are =
+      let tran_is : p.tran ≡ may.tran = one_tran bs p.tran may.tran may.some first.tran may.one in
+      subst (λ (u : TranName). Logs u (yes_of bs votes) votes d.known.logged log later) tran_is
+      (subst (λ (l : List Bool). Logs p.tran l votes d.known.logged log later) (yes_is bs asks first.same) (subst (λ (vs : List Code). Logs p.tran (yes_asked asks) vs d.known.logged log later) first.votes second.logs))
+
+  decision_is : commit ≡ decision_of votes d.known.logged
+  decision_is = second.decision ∙ ap (λ vs. decision_of vs d.known.logged) first.votes
+
+  telling_cut : (now : List LedgerView) (js : List Ask) → SameAsks (map (second_ask commit) asks) js → HaveComeSoFar js tell now
+      → IsCut bs desk now log later []
+  telling_cut now js same far = record {
+    may = may;
+    far = telling votes d.known.logged logs_are refl
+        (subst (λ c. EachVote (λ b v. IsTold c b v (ledger desk.ledgers b.m) (ledger now b.m)) bs votes) decision_is (all_told commit desk.ledgers mid tell now bs asks js first.same same first.asked.each between.each far.each));
+    managers = far.managers ∙ between.managers ∙ first.asked.managers;
+  }
+
+  module _ (late start : List LedgerView) (t : Told) (third : HasTold d tell late t) (after : LeavesBranches bs late start) where
+    told_are : SameAsks (map (second_ask commit) asks) t.round.asks.items
+    told_are = subst (λ (r : Round). SameAsks (map (second_ask commit) r.asks.items) t.round.asks.items) second.round third.same
+
+    forgetting_cut : (now : List LedgerView) (ls : List Ask) → SameAsks (map third_ask t.round.asks.items) ls → HaveComeSoFar ls start now
+        → IsCut bs desk now log later t.known.endings.items
+    forgetting_cut now ls same far = record {
+      may = may;
+      far = forgetting votes d.known.logged (map second_code t.round.asks.items) logs_are
+          (subst (λ c. EachBranch (Ended c desk.ledgers now) bs votes (map second_code t.round.asks.items) t.known.endings.items) decision_is
+          (subst (λ (es : List Ending). EachBranch (Ended commit desk.ledgers now) bs votes (map second_code t.round.asks.items) es) (sym third.endings)
+          (all_ended commit desk.ledgers mid tell late start now bs asks t.round.asks.items ls first.same told_are same first.asked.each between.each third.asked.each after.each far.each)));
+      managers = far.managers ∙ after.managers ∙ third.asked.managers ∙ between.managers ∙ first.asked.managers;
+    }
+
+-- ---- a stage that is let go
+
+pub prepared_is_cut : (bs : List Branch) (desk : DeskView) (mid new : List LedgerView) (log : LogState) (p : Prepared) → MayCommit desk log bs
+    → HasPrepared bs desk.ledgers mid p → LeavesBranches bs mid new → IsCut bs desk new log log []
+prepared_is_cut bs desk mid new log p may first between =
+    asking_cut bs desk mid new log p.round.asks.items may first.same (asks_so_far p.round.asks.items desk.ledgers mid first.asked) between
+
+pub decided_is_cut : (bs : List Branch) (desk : DeskView) (mid new : List LedgerView) (log later : LogState) (p : Prepared) (d : Decided)
+    → MayCommit desk log bs → HasPrepared bs desk.ledgers mid p → LeavesBranches bs mid new → HasDecided p log later d → IsCut bs desk new log later []
+decided_is_cut bs desk mid new log later p d may first between second =
+    telling_cut bs desk mid new log later p d may first between second new (map (second_ask d.known.commit) p.round.asks.items) (same_itself (map (second_ask d.known.commit) p.round.asks.items)) (none_so_far (map (second_ask d.known.commit) p.round.asks.items) new)
+
+pub told_is_cut : (bs : List Branch) (desk : DeskView) (mid tell late new : List LedgerView) (log later : LogState) (p : Prepared) (d : Decided) (t : Told)
+    → MayCommit desk log bs → HasPrepared bs desk.ledgers mid p → LeavesBranches bs mid tell → HasDecided p log later d → HasTold d tell late t
+    → LeavesBranches bs late new
+    → IsCut bs desk new log later t.known.endings.items
+told_is_cut bs desk mid tell late new log later p d t may first between second third after =
+    forgetting_cut bs desk mid tell log later p d may first between second late new t third after new (map third_ask t.round.asks.items) (same_itself (map third_ask t.round.asks.items)) (none_so_far (map third_ask t.round.asks.items) new)
+
+-- ---- a round that is left
+
+pub asking_is_cut : (bs : List Branch) (desk : DeskView) (now : List LedgerView) (log : LogState) (p : Preparing) → MayCommit desk log bs
+    → IsPreparing bs desk p → HaveComeSoFar p.round.asks.items desk.ledgers now → IsCut bs desk now log log []
+asking_is_cut bs desk now log p may first far = asking_cut bs desk now now log p.round.asks.items may first.same far (nothing_between bs now)
+
+pub telling_is_cut : (bs : List Branch) (desk tell : DeskView) (mid now : List LedgerView) (log later : LogState) (p : Prepared) (d : Decided) (t : Telling)
+    → MayCommit desk log bs → HasPrepared bs desk.ledgers mid p → LeavesBranches bs mid tell.ledgers → HasDecided p log later d
+    → IsTelling d tell t → HaveComeSoFar t.round.asks.items tell.ledgers now → IsCut bs desk now log later []
+telling_is_cut bs desk tell mid now log later p d t may first between second third far =
+    telling_cut bs desk mid tell.ledgers log later p d may first between second now t.round.asks.items (subst (λ (r : Round). SameAsks (map (second_ask d.known.commit) r.asks.items) t.round.asks.items) second.round third.same) far
+
+pub forgetting_is_cut : (bs : List Branch) (desk start : DeskView) (mid tell late now : List LedgerView) (log later : LogState) (p : Prepared) (d : Decided) (t : Told) (f : Forgetting)
+    → MayCommit desk log bs → HasPrepared bs desk.ledgers mid p → LeavesBranches bs mid tell → HasDecided p log later d
+    → HasTold d tell late t → LeavesBranches bs late start.ledgers → IsForgetting t start f → HaveComeSoFar f.round.asks.items start.ledgers now
+    → IsCut bs desk now log later t.known.endings.items
+forgetting_is_cut bs desk start mid tell late now log later p d t f may first between second third after last far =
+    forgetting_cut bs desk mid tell log later p d may first between second late start.ledgers t third after now f.round.asks.items last.same far

@@ -1,0 +1,25 @@
+use Rattle.xa_atomicity.proofs.Settled.{votes_law, fates_law, counts_law, whole_law}
+use Rattle.xa_atomicity.proofs.OneOutcome.{committed_law}
+use Rattle.xa_atomicity.proofs.fates.endings_are_fates.Goals as goal
+
+pub returns-clause-votes : goal.returns-clause-votes
+returns-clause-votes c = λ s t bs desk new log later done settled made grown alone.
+    let law = c.tables_keep_to_their_laws.ensures in
+    votes_law law c.settled_journals_follow_the_tables.ensures.some s t bs desk new log later done settled made grown alone
+
+pub returns-clause-fates : goal.returns-clause-fates
+returns-clause-fates c = λ s t bs desk new log later done settled made grown alone.
+    let law = c.tables_keep_to_their_laws.ensures in
+    fates_law law c.settled_journals_follow_the_tables.ensures.some s t bs desk new log later done settled made grown alone
+
+pub returns-clause-values : goal.returns-clause-values
+returns-clause-values c = λ s t bs desk new log later done settled made grown alone.
+    let law = c.tables_keep_to_their_laws.ensures in
+    counts_law law c.settled_journals_follow_the_tables.ensures.some s t bs desk new log later done settled made grown alone
+
+pub returns-clause-whole : goal.returns-clause-whole
+returns-clause-whole c = λ s t bs desk new log later done settled made grown alone decided.
+    let law = c.tables_keep_to_their_laws.ensures in
+    whole_law law c.settled_journals_follow_the_tables.ensures.some s t bs desk new log later done settled made grown alone
+    (λ some. (committed_law made.may.tran bs desk new log later done made made.may.one some).kept)
+    (λ some. (committed_law made.may.tran bs desk new log later done made made.may.one some).unopposed) decided

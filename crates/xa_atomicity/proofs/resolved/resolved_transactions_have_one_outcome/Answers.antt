@@ -1,0 +1,7 @@
+use Rattle.xa_atomicity.proofs.Resolution.{resolved_law}
+use Rattle.xa_atomicity.proofs.resolved.resolved_transactions_have_one_outcome.Goals as goal
+
+pub returns : goal.returns
+returns c o between last call resolve resolved =
+    let law = c.tables_keep_to_their_laws.ensures in
+    resolved_law law c.settled_journals_follow_the_tables.ensures.first o between last call resolve resolved

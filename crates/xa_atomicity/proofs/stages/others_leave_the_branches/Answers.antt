@@ -1,0 +1,41 @@
+use Rattle.xa_atomicity.proofs.Between.{commit_leaves, forgetting_leaves, forgotten_leaves, leaves_on, prepared_leaves, preparing_leaves, resolve_leaves}
+use Rattle.xa_atomicity.proofs.Between.{telling_leaves, told_leaves, unnamed_leaves}
+use Rattle.xa_atomicity.proofs.Staged.{nothing_between}
+use Rattle.xa_atomicity.proofs.stages.others_leave_the_branches.Goals as goal
+
+pub returns-clause-nothing : goal.returns-clause-nothing
+returns-clause-nothing c = λ bs at. nothing_between bs at
+
+pub returns-clause-chained : goal.returns-clause-chained
+returns-clause-chained c = λ bs old mid new first second. leaves_on bs old mid new first second
+
+pub returns-clause-unnamed : goal.returns-clause-unnamed
+returns-clause-unnamed c = λ bs old new rising grown managers unnamed. unnamed_leaves bs old new rising grown managers unnamed
+
+pub returns-clause-resolved : goal.returns-clause-resolved
+returns-clause-resolved c = λ bs q rising made others. resolve_leaves bs q rising made others
+
+pub returns-clause-committed : goal.returns-clause-committed
+returns-clause-committed c = λ bs cs desk new log later done rising others made. commit_leaves bs cs rising others desk new log later done made
+
+pub returns-clause-preparing : goal.returns-clause-preparing
+returns-clause-preparing c = λ bs cs desk now p rising others first far. preparing_leaves bs cs rising others desk now p first far
+
+pub returns-clause-prepared : goal.returns-clause-prepared
+returns-clause-prepared c = λ bs cs old new p rising others first. prepared_leaves bs cs rising others old new p first
+
+pub returns-clause-telling : goal.returns-clause-telling
+returns-clause-telling c =
+    λ bs cs start mid desk now log later p d t rising others first second third far. telling_leaves bs cs rising others start mid log later p d first second desk now t third far
+
+pub returns-clause-told : goal.returns-clause-told
+returns-clause-told c =
+    λ bs cs start mid old new log later p d t rising others first second third. told_leaves bs cs rising others start mid log later p d first second old new t third
+
+pub returns-clause-forgetting : goal.returns-clause-forgetting
+returns-clause-forgetting c =
+    λ bs cs start mid tell late desk now log later p d t f rising others first second third last far. forgetting_leaves bs cs rising others start mid log later p d first second tell late t third desk now f last far
+
+pub returns-clause-forgotten : goal.returns-clause-forgotten
+returns-clause-forgotten c =
+    λ bs cs start mid tell late old new log later p d t done rising others first second third last. forgotten_leaves bs cs rising others start mid log later p d first second tell late t third old new done last

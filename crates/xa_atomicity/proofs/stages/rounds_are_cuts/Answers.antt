@@ -1,0 +1,17 @@
+use Rattle.xa_driver.proofs.Stepping.{so_far}
+use Rattle.xa_atomicity.proofs.Staged.{asking_is_cut, forgetting_is_cut, telling_is_cut}
+use Rattle.xa_atomicity.proofs.stages.rounds_are_cuts.Goals as goal
+
+pub returns-clause-so_far : goal.returns-clause-so_far
+returns-clause-so_far c = λ r now under_way. so_far r now under_way
+
+pub returns-clause-asking : goal.returns-clause-asking
+returns-clause-asking c = λ bs desk now log p may first far. asking_is_cut bs desk now log p may first far
+
+pub returns-clause-telling : goal.returns-clause-telling
+returns-clause-telling c =
+    λ bs desk tell mid now log later p d t may first between second third far. telling_is_cut bs desk tell mid now log later p d t may first between second third far
+
+pub returns-clause-forgetting : goal.returns-clause-forgetting
+returns-clause-forgetting c =
+    λ bs desk start mid tell late now log later p d t f may first between second third after last far. forgetting_is_cut bs desk start mid tell late now log later p d t f may first between second third after last far

@@ -1,0 +1,12 @@
+use Rattle.xa_atomicity.proofs.Staged.{decided_is_cut, prepared_is_cut, told_is_cut}
+use Rattle.xa_atomicity.proofs.stages.stages_are_cuts.Goals as goal
+
+pub returns-clause-prepared : goal.returns-clause-prepared
+returns-clause-prepared c = λ bs desk mid new log p may first between. prepared_is_cut bs desk mid new log p may first between
+
+pub returns-clause-decided : goal.returns-clause-decided
+returns-clause-decided c = λ bs desk mid new log later p d may first between second. decided_is_cut bs desk mid new log later p d may first between second
+
+pub returns-clause-told : goal.returns-clause-told
+returns-clause-told c =
+    λ bs desk mid tell late new log later p d t may first between second third after. told_is_cut bs desk mid tell late new log later p d t may first between second third after

@@ -1,0 +1,157 @@
+-- What a commit left that was cut short: its coordinator died at some point of it, or let it go.
+use Rattle.std.specs.Prelude.{◌≡◌, ◌≢◌, ℕ, ◌≤◌, Bool, true, false, ◌&&◌, ◌==◌, if◌then◌else◌, Option, None, Some}
+use Rattle.std.specs.Prelude.{is_some, unwrap_or, List, [], ◌∷◌, ◌++◌, length}
+use Rattle.std.specs.List.{All, list_any}
+use Rattle.xa_base.specs.Lists.{Begins}
+use Rattle.xa_words.specs.Xid.{XidName}
+use Rattle.xa_words.specs.Tran.{TranName}
+use Rattle.xa_words.specs.declared.code.Code.{Code}
+use Rattle.xa_words.specs.declared.request.Op.{Op}
+use Rattle.xa_words.specs.declared.request.Op.TheVariants.{Prepare, Rollback}
+use Rattle.xa_tables.specs.Prepared.{names}
+use Rattle.xa_desk.specs.LedgerView.{LedgerView}
+use Rattle.xa_desk.specs.DeskView.{DeskView, ledger}
+use Rattle.xa_driver.specs.declared.branch.Branch.{Branch}
+use Rattle.xa_driver.specs.declared.done.Ending.{Ending}
+use Rattle.xa_driver.specs.declared.done.Ending.TheVariants.{InDoubt}
+use Rattle.xa_driver.specs.Commits.{NoCommitWasSent, is_commit}
+use Rattle.xa_driver.specs.Decision.{yes_of}
+use Rattle.xa_driver.specs.Endings.{second_op, third_op, ending_of}
+use Rattle.xa_log.specs.Log.{LogState, record_of}
+use Rattle.xa_driver.specs.Asks.{IsAnswered, IsBegun, asked}
+use Rattle.xa_driver.specs.Trace.{EachBranch, Logs, MayCommit, decision_of, voted}
+
+-- ---- between the requests of one branch
+
+-- What else its thread did at the branch's manager: it sent more, of which nothing names the branch, and collected
+-- more.
+pub record DidOther (x : XidName) (a a' : LedgerView) : Type 0 where
+  pub more : List Op
+  pub sent : a'.sent ≡ a.sent ++ more
+  pub others : All (λ op. names x op ≡ false) more
+  pub collected : Begins a.collected a'.collected
+
+-- ---- one branch: a prefix of its requests
+
+-- It was asked to prepare, or not; other things were done after that.
+pub record IsAsked (b : Branch) (a a' : LedgerView) : Type 0 where
+  pub left : LedgerView
+  pub asks : IsBegun (Some (Prepare b.xid)) a left
+  pub after : DidOther b.xid left a'
+
+-- Its vote was collected, and it was told the decision, or not, after other things.
+pub record IsTold (commit : Bool) (b : Branch) (vote : Code) (a a' : LedgerView) : Type 0 where
+  pub prepared : IsAnswered a (Some (Prepare b.xid)) (Some vote)
+  -- as its list was when the decision was told
+  pub start : LedgerView
+  pub between : DidOther b.xid (voted b vote a) start
+  pub tells : IsBegun (second_op commit b.xid vote) start a'
+
+-- Its vote and its second code were collected, and it was told to forget a decision of its own, or not; there were
+-- other things before each of the two.
+pub record IsEnded (commit : Bool) (b : Branch) (vote : Code) (second : Option Code) (a a' : LedgerView) : Type 0 where
+  pub prepared : IsAnswered a (Some (Prepare b.xid)) (Some vote)
+  -- as its list was when the decision was told
+  pub start : LedgerView
+  pub between : DidOther b.xid (voted b vote a) start
+  pub seconded : IsAnswered start (second_op commit b.xid vote) second
+  -- as it was when it was told to forget
+  pub told : LedgerView
+  pub after : DidOther b.xid (asked start (second_op commit b.xid vote) second) told
+  pub forgets : IsBegun (third_op b.xid second) told a'
+
+-- branch by branch, with its vote
+abbrev pub EachVote : (Branch → Code → Type 0) → List Branch → List Code → Type 0
+EachVote P [] [] = Unit {0}
+EachVote P (b ∷ bs) (v ∷ vs) = P b v × EachVote P bs vs
+EachVote P bs vs = ⊥
+
+-- ---- all branches
+
+-- How far it came, and which endings its coordinator knew. It was asking for votes: nothing was decided, and the log is
+-- as it was. It was telling the decision, which all votes made, and the log's taking of the record. Or all were told,
+-- and it had some forget what they had decided themselves.
+pub data CameSoFar (tran : TranName) (bs : List Branch) (old new : List LedgerView) (log later : LogState)
+    (endings : List Ending) : Type 0 where
+  asking : later ≡ log → endings ≡ [] → All (λ b. IsAsked b (ledger old b.m) (ledger new b.m)) bs
+      → CameSoFar tran bs old new log later endings
+  telling : (votes : List Code) (logged : Bool) → Logs tran (yes_of bs votes) votes logged log later → endings ≡ []
+      → EachVote (λ b v. IsTold (decision_of votes logged) b v (ledger old b.m) (ledger new b.m)) bs votes
+      → CameSoFar tran bs old new log later endings
+  forgetting : (votes : List Code) (logged : Bool) (seconds : List (Option Code))
+      → Logs tran (yes_of bs votes) votes logged log later
+      → EachBranch
+      (λ b v s e. IsEnded (decision_of votes logged) b v s (ledger old b.m) (ledger new b.m)
+      × (e ≡ ending_of (decision_of votes logged) v s))
+      bs votes seconds endings
+      → CameSoFar tran bs old new log later endings
+
+-- A commit of the branches was begun, and cut short: it might be made, and the branches' managers and the log have what
+-- it came to. The log is as the decision found it. What else its thread did meanwhile is anything that names none of
+-- the branches at its manager.
+pub record IsCut (bs : List Branch) (desk : DeskView) (new : List LedgerView) (log later : LogState)
+    (endings : List Ending) : Type 0 where
+  pub may : MayCommit desk log bs
+  pub far : CameSoFar may.tran bs desk.ledgers new log later endings
+  pub managers : length new ≡ length desk.ledgers
+
+-- ---- what else may be done between two stages
+
+-- What was done leaves the branches: at the manager of each nothing that was sent names it.
+pub record LeavesBranches (bs : List Branch) (old new : List LedgerView) : Type 0 where
+  pub each : All (λ b. DidOther b.xid (ledger old b.m) (ledger new b.m)) bs
+  pub managers : length new ≡ length old
+
+-- no branch of the first is one of the second
+abbrev pub AreOthers : List Branch → List Branch → Type 0
+AreOthers bs cs = All (λ b. All (λ c. c.xid ≢ b.xid) cs) bs
+
+-- ---- what its coordinator knew
+
+-- the ending of the branch at manager m
+abbrev pub ending_at : ℕ → List Branch → List Ending → Option Ending
+ending_at m [] es = None
+ending_at m (b ∷ bs) [] = None
+ending_at m (b ∷ bs) (e ∷ es) = if b.m == m then Some e else ending_at m bs es
+
+-- what its coordinator knew of the branch at manager m: its ending, or that it is in doubt
+abbrev pub known_at : ℕ → List Branch → List Ending → Ending
+known_at m bs es = unwrap_or (ending_at m bs es) InDoubt
+
+-- ---- what was sent, and what the log has
+
+-- the log has a record of the transaction: it was decided to commit
+abbrev pub is_recorded : LogState → TranName → Bool
+is_recorded log t = is_some (record_of log t)
+
+-- a Rollback
+abbrev pub is_rollback : Op → Bool
+is_rollback (Rollback x) = true
+is_rollback op = false
+
+-- a Commit of the branch, or a heuristic one
+abbrev pub is_commit_of : XidName → Op → Bool
+is_commit_of x op = names x op && is_commit op
+
+-- a Rollback of the branch
+abbrev pub is_rollback_of : XidName → Op → Bool
+is_rollback_of x op = names x op && is_rollback op
+
+-- what was sent to the manager since, and no such request among it
+pub record HasSentNone (is : Op → Bool) (a a' : LedgerView) : Type 0 where
+  pub more : List Op
+  pub sent : a'.sent ≡ a.sent ++ more
+  pub none : list_any is more ≡ false
+
+-- to no branch's manager a Commit of the branch was sent
+abbrev pub NoneWasToldToCommit : List Branch → List LedgerView → List LedgerView → Type 0
+NoneWasToldToCommit bs old new = All (λ b. HasSentNone (is_commit_of b.xid) (ledger old b.m) (ledger new b.m)) bs
+
+-- to none a Rollback of it
+abbrev pub NoneWasToldToRollBack : List Branch → List LedgerView → List LedgerView → Type 0
+NoneWasToldToRollBack bs old new = All (λ b. HasSentNone (is_rollback_of b.xid) (ledger old b.m) (ledger new b.m)) bs
+
+-- By whether there is a record: without one no Commit was sent to any manager, and with one no Rollback.
+pub record GoesByTheRecord (is_there : Bool) (old new : List LedgerView) : Type 0 where
+  pub unrecorded : is_there ≡ false → NoCommitWasSent old new
+  pub recorded : is_there ≡ true → (m : ℕ) → 1 ≤ m → HasSentNone is_rollback (ledger old m) (ledger new m)

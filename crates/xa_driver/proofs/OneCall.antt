@@ -1,0 +1,117 @@
+-- The stages of a commit make a call.
+use Rattle.std.specs.Prelude.{◌≡◌, Bool, None, List, length, map, vec_capacity}
+use Rattle.std.proofs.Common.{sym, ap, ◌∙◌, subst, arith}
+use Rattle.xa_words.specs.Tran.{TranName}
+use Rattle.xa_desk.specs.LedgerView.{LedgerView}
+use Rattle.xa_desk.specs.DeskView.{DeskView}
+use Rattle.xa_driver.specs.declared.ask.Ask.{Ask}
+use Rattle.xa_driver.specs.declared.branch.Branch.{Branch}
+use Rattle.xa_driver.specs.declared.done.Done.{Done}
+use Rattle.xa_driver.specs.declared.round.Round.{Round}
+use Rattle.xa_driver.specs.declared.stages.Prepared.{Prepared}
+use Rattle.xa_driver.specs.declared.stages.Decided.{Decided}
+use Rattle.xa_driver.specs.declared.stages.Told.{Told}
+use Rattle.xa_driver.specs.Asks.{KeepsTheRest, SameAsks}
+use Rattle.xa_driver.specs.Decision.{yes_of}
+use Rattle.xa_log.specs.Log.{LogState, record_of}
+use Rattle.xa_driver.specs.Rounds.{code_of, ending_of_ask, second_ask, yes_asked}
+use Rattle.xa_driver.specs.Stages.{HasDecided, HasForgotten, HasPrepared, HasTold, MayForget, MayTell}
+use Rattle.xa_driver.specs.Trace.{AppendsOnce, IsTraceOfCommit, IsTranOf, Logs, MayCommit, decision_of}
+use Rattle.xa_driver.specs.UnderWay.{IsAtRest, MayAsk}
+use Rattle.xa_driver.proofs.Calls.{asks_long, call_by, last_can, next_can, same_long, seconds_long, yes_is, one_tran}
+
+-- ---- all stages make a call
+
+module _ (bs : List Branch) (old mid late new : List LedgerView) (log later : LogState) (p : Prepared) (d : Decided) (t : Told)
+    (first : HasPrepared bs old mid p) (second : HasDecided p log later d) (third : HasTold d mid late t) where
+  abbrev firsts : List Ask
+  firsts = p.round.asks.items
+
+  abbrev seconds : List Ask
+  seconds = t.round.asks.items
+
+  asks_are : d.round.asks.items ≡ firsts
+  asks_are = ap (λ r. r.asks.items) second.round
+
+  pub seconds_are : SameAsks (map (second_ask d.known.commit) firsts) seconds
+  seconds_are = subst (λ (l : List Ask). SameAsks (map (second_ask d.known.commit) l) seconds) asks_are third.same
+
+  pub stages_call : (done : Done) → HasForgotten t late new done → IsTraceOfCommit p.tran bs old new log later done
+  stages_call done last =
+      let commit_is : d.known.commit ≡ done.commit = sym (ap (λ k. k.commit) last.known ∙ third.commit) in
+      let logged_is : d.known.logged ≡ done.logged = sym (ap (λ k. k.logged) last.known ∙ third.logged) in
+      call_by done bs firsts seconds last.thirds old mid late new log later p.tran first.same first.asked (subst (λ c. SameAsks (map (second_ask c) firsts) seconds) commit_is seconds_are) third.asked last.same last.asked
+      (ap (λ k. k.votes.items) last.known ∙ ap (λ v. v.items) third.votes ∙ ap (λ v. v.items) second.votes ∙ first.votes) (ap (λ k. k.endings.items) last.known ∙ third.endings ∙ ap (λ c. map (ending_of_ask c) seconds) commit_is)
+      (sym commit_is ∙ second.decision ∙ (λ i. decision_of (first.votes i) (logged_is i))) (subst (λ g. Logs p.tran (yes_asked firsts) (map code_of firsts) g log later) logged_is (subst (λ vs. Logs p.tran (yes_asked firsts) vs d.known.logged log later) first.votes second.logs))
+
+  -- and ask the log for one append
+  pub asks_log : {L : Type 0} (appends : TranName → List Bool → Bool → L → L → Type 0) (x y : L) (done : Done) → HasForgotten t late new done
+      → AppendsOnce appends p.tran (yes_asked firsts) p.known.votes.items d.known.logged x y
+      → AppendsOnce appends p.tran (yes_of bs done.votes.items) done.votes.items done.logged x y
+  asks_log appends x y done last asks =
+      let logged_is : d.known.logged ≡ done.logged = sym (ap (λ k. k.logged) last.known ∙ third.logged) in
+      let votes_are : p.known.votes.items ≡ done.votes.items =
+      sym (ap (λ k. k.votes.items) last.known ∙ ap (λ v. v.items) third.votes ∙ ap (λ v. v.items) second.votes) in
+      let yes_are : yes_asked firsts ≡ yes_of bs done.votes.items = yes_is bs firsts first.same ∙ ap (yes_of bs) (sym first.votes ∙ votes_are) in
+      subst (λ yes. AppendsOnce appends p.tran yes done.votes.items done.logged x y) yes_are
+      (subst (λ votes. AppendsOnce appends p.tran (yes_asked firsts) votes done.logged x y) votes_are
+      (subst (λ logged. AppendsOnce appends p.tran (yes_asked firsts) p.known.votes.items logged x y) logged_is asks))
+
+-- ---- when the next may be done, with nothing in between
+
+pub may_decide : (bs : List Branch) (desk : DeskView) (new : List LedgerView) (log : LogState) (p : Prepared) → MayCommit desk log bs
+    → HasPrepared bs desk.ledgers new p → record_of log p.tran ≡ None
+may_decide bs desk new log p may first = ap (record_of log) (one_tran bs p.tran may.tran may.some first.tran may.one) ∙ may.absent
+
+pub may_tell : (bs : List Branch) (desk new : DeskView) (start log later : LogState) (p : Prepared) (d : Decided) → MayCommit desk start bs
+    → HasPrepared bs desk.ledgers new.ledgers p → HasDecided p log later d → KeepsTheRest desk new → MayTell d new
+may_tell bs desk new start log later p d may first second rest =
+    let same : p.round ≡ d.round = sym second.round in
+    let ks : List Ask = p.round.asks.items in
+    let long : length ks ≡ length bs = asks_long bs ks first.same in
+    record {
+      rest = subst IsAtRest same first.rest;
+      endings = record {
+        none = ap (λ v. v.items) second.endings ∙ first.endings.none;
+        room = let a = ap (λ r. length r.asks.items) same in let b = ap vec_capacity second.endings in let room = first.endings.room in omega (arith, a, b, room);
+      };
+      may = subst (λ (r : Round). MayAsk r new) same (record {
+        can = next_can desk.ledgers new.ledgers bs ks first.asked.managers first.same first.asked.each may.room;
+        free = let handles = rest.keeps.goes_on.handles in let enough = may.free in let free = rest.free in omega (arith, long, handles, enough, free);
+      });
+    }
+
+pub may_forget : (bs : List Branch) (desk mid new : DeskView) (start log later : LogState) (p : Prepared) (d : Decided) (t : Told) → MayCommit desk start bs
+    → HasPrepared bs desk.ledgers mid.ledgers p → HasDecided p log later d → HasTold d mid.ledgers new.ledgers t
+    → KeepsTheRest desk mid → KeepsTheRest mid new → MayForget t new
+may_forget bs desk mid new start log later p d t may first second third rest rest_on =
+    let s = seconds_are bs desk.ledgers mid.ledgers new.ledgers new.ledgers log later p d t first second third in
+    record {
+      rest = third.rest;
+      may = record {
+        can = last_can d.known.commit desk.ledgers mid.ledgers new.ledgers bs p.round.asks.items t.round.asks.items first.asked.managers third.asked.managers first.same s first.asked.each third.asked.each may.room;
+        free =
+            let long : length t.round.asks.items ≡ length bs =
+            same_long _ t.round.asks.items s ∙ seconds_long d.known.commit bs p.round.asks.items first.same in
+            let handles = rest.keeps.goes_on.handles in
+            let handles_on = rest_on.keeps.goes_on.handles in
+            let enough = may.free in
+            let free = rest.free in
+            let free_on = rest_on.free in
+            omega (arith, long, handles, handles_on, enough, free, free_on);
+      };
+    }
+
+-- it asks of the log only that it has no record yet
+pub may_still : (bs : List Branch) (desk : DeskView) (start log : LogState) (tran : TranName) → MayCommit desk start bs → IsTranOf bs tran
+    → record_of log tran ≡ None → MayCommit desk log bs
+may_still bs desk start log tran may of_tran absent = record {
+  some = may.some;
+  most = may.most;
+  rising = may.rising;
+  room = may.room;
+  free = may.free;
+  tran = tran;
+  one = of_tran;
+  absent = absent;
+}

@@ -1,6 +1,0 @@
-use Rattle.xa_driver.proofs.Aborts.{abort_sends_no_commit, failed_append_aborts}
-use Rattle.xa_driver.proofs.laws.commits.failed_append.Goals as goal
-
-pub returns : goal.returns
-returns c tran bs old new log later done call wanted off =
-    abort_sends_no_commit tran bs old new log later done call (failed_append_aborts tran bs old new log later done call wanted off)

@@ -1,8 +1,0 @@
-use Rattle.std.proofs.Common.{◌≡◌, ◌+◌, ◌%◌, ◌^◌, ap, arith}
-use Rattle.xa_driver.specs.Log.{LogState}
-use Rattle.xa_driver.proofs.laws.commits.failed_appends_are_told.Goals as goal
-
-pub returns : goal.returns
-returns c log e =
-    let same : (log.failures + 1) % 2 ^ 64 ≡ log.failures = ap (λ (l : LogState). l.failures) e in
-    omega (arith, same)

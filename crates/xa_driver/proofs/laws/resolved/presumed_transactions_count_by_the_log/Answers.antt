@@ -1,7 +1,0 @@
-use Rattle.xa_driver.proofs.Presumed.{presumed_counts}
-use Rattle.xa_driver.proofs.laws.resolved.presumed_transactions_count_by_the_log.Goals as goal
-
-pub returns : goal.returns
-returns c o between last call resolve resolved =
-    let law = c.tables_keep_to_their_laws.ensures in
-    presumed_counts law c.settled_journals_follow_the_tables.ensures.first o between last call resolve resolved

@@ -1,7 +1,0 @@
-use Rattle.xa_driver.proofs.Resolution.{resolved_law}
-use Rattle.xa_driver.proofs.laws.resolved.resolved_transactions_have_one_outcome.Goals as goal
-
-pub returns : goal.returns
-returns c o between last call resolve resolved =
-    let law = c.tables_keep_to_their_laws.ensures in
-    resolved_law law c.settled_journals_follow_the_tables.ensures.first o between last call resolve resolved

@@ -1,5 +1,0 @@
-use Rattle.xa_driver.proofs.CutVotes.{finished_law}
-use Rattle.xa_driver.proofs.laws.stages.finished_commits_are_cut_after_all.Goals as goal
-
-pub returns : goal.returns
-returns c bs desk new log later done made = finished_law bs desk new log later done made

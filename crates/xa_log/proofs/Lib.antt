@@ -1,0 +1,2 @@
+pub mod Transactions
+pub mod SeveralLogs

@@ -1,0 +1,14 @@
+use Rattle.std.proofs.Common.{ap, sym, ◌∙◌}
+use Rattle.std.specs.FinMap as map
+use Rattle.xa_base.proofs.Options.{at_ok}
+use Rattle.xa_words.specs.Tran.{tran_eq}
+use Rattle.xa_base.proofs.HashMaps.{one_put}
+use Rattle.xa_log.proofs.Transactions.{tran_cmp_total, tran_cmp-IsAntisymmetric, tran_eq-by_cmp}
+use Rattle.xa_log.proofs.memory.MemoryLog.put.Goals as goal
+
+pub returns-clause-put : goal.returns-clause-put
+returns-clause-put c t =
+    let updates = at_ok c.insert.result _ (sym c.is_ok.ensures.value ∙ t) c.insert.ensures.updates in
+    let put = one_put tran_eq tran_cmp_total tran_cmp-IsAntisymmetric tran_eq-by_cmp c.self.inside.records.entries c.insert.new.self.entries c.args.tran c.args.yes updates.0
+    ∙ ap (λ b. map.insert b.state.records c.args.tran c.args.yes) c.self.view_is in
+    λ i. record { records = put i; failures = (c.self.view_is i).state.failures }

@@ -1,0 +1,82 @@
+-- The decision log: a finite map. A transaction that isn't there is presumed aborted.
+use Rattle.std.specs.Prelude.{◌≡◌, ◌≢◌, ℕ, ◌+◌, ◌-◌, ◌%◌, ◌^◌, ◌<◌, ◌≤◌, nat_lt, if◌then◌else◌, Bool, true, false}
+use Rattle.std.specs.Prelude.{Option, List, [], ◌∷◌, refl}
+use Rattle.std.specs.List.{flat_map}
+use Rattle.std.specs.FinMap.{FinMap}
+use Rattle.std.specs.FinMap as map
+use Rattle.std.specs.Coded.{Coded, code_by, coded×, coded_ℕ, coded_bool, coded_list}
+use Rattle.xa_words.specs.Tran.{TranName, tran_code}
+use Rattle.xa_log.specs.Transactions.{tran_cmp}
+
+-- which managers voted yes, of each transaction that was decided to commit
+abbrev pub Records : Type 0
+Records = FinMap tran_cmp (List Bool)
+
+-- the record of a transaction among these, if there is one
+abbrev pub record_in : Records → TranName → Option (List Bool)
+record_in records t = map.get records t
+
+-- the records of several logs together; of a transaction that more than one has, the first one's
+abbrev pub all_records : List Records → Records
+all_records logs = map.from_entries (flat_map map.entries logs)
+
+-- what contracts see of a log: its records, and how many appends failed, counted from 0 again after u64::MAX
+pub record LogState : Type 0 where
+  pub records : Records
+  pub failures : ℕ
+
+-- a log without a record
+abbrev pub no_records : LogState
+no_records = record { records = map.empty; failures = 0 }
+
+-- the record of a transaction, if there is one
+abbrev pub record_of : LogState → TranName → Option (List Bool)
+record_of log t = record_in log.records t
+
+-- one more record
+abbrev pub with_record : LogState → TranName → List Bool → LogState
+with_record log t managers = record log { records = map.insert log.records t managers }
+
+-- one more; at u64::MAX it stays
+abbrev pub counted : ℕ → ℕ
+counted n = if nat_lt n (2 ^ 64 - 1) then n + 1 else n
+
+-- one more failure; there is no count at which it can't be told
+abbrev pub with_failure : LogState → LogState
+with_failure log = record log { failures = (log.failures + 1) % 2 ^ 64 }
+
+-- a log in memory: its state, how many appends there were, which one fails, and for how many more records it has room
+pub record LogView : Type 0 where
+  pub state : LogState
+  pub appends : ℕ
+  pub failing : ℕ
+  pub room : ℕ
+
+-- the room that a map with these entries has by its spare places; of a map without entries none is known
+abbrev pub room_in : {E : Type 0} → List E → ℕ → ℕ
+room_in [] spare = 0
+room_in (e ∷ es) spare = spare
+
+-- What an append to a log in memory does, and whether that takes the record. The append that is to fail does, and
+-- nothing else changes; another one fails only where the log has no room.
+pub record AppendsTo (tran : TranName) (yes : List Bool) (taken : Bool) (old new : LogView) : Type 0 where
+  pub state : new.state ≡ (if taken then with_record old.state tran yes else with_failure old.state)
+  pub appends : new.appends ≡ counted old.appends
+  pub failing : new.failing ≡ old.failing
+  pub injected : counted old.appends ≡ old.failing → (taken ≡ false) × (new.room ≡ old.room)
+  pub fits : 0 < old.room → counted old.appends ≢ old.failing → taken ≡ true
+  pub room : taken ≡ true → old.room ≤ new.room + 1
+
+-- a log in memory as data
+abbrev pub log_code : Coded LogView
+log_code =
+    code_by (Records × (ℕ × (ℕ × (ℕ × ℕ))))
+    (coded× (map.code tran_code (coded_list coded_bool)) (coded× coded_ℕ (coded× coded_ℕ (coded× coded_ℕ coded_ℕ))))
+    (λ l. (l.state.records, (l.state.failures, (l.appends, (l.failing, l.room)))))
+    (λ p. record {
+      state = record { records = p.0; failures = p.1.0 };
+      appends = p.1.1.0;
+      failing = p.1.1.1.0;
+      room = p.1.1.1.1;
+    })
+    (λ _. refl)

@@ -1,0 +1,130 @@
+//! A decision log in memory.
+ghost use Rattle.std.specs.Prelude.{◌≡◌, ◌+◌, ◌<◌, ◌≤◌, OnOk, OnErr, IsErr, is_ok, true, false, refl};
+ghost use Rattle.xa_log.specs.Log.{no_records, with_record, with_failure, counted, AppendsTo};
+
+use crate::log::{CommitRecord, DecisionLog, DecisionRecords, LogFault};
+use std::alloc::Global;
+use std::collections::HashMap;
+use std::marker::Model;
+use xa_words::{ManagerSet, Tran};
+
+/// A log that forgets all when it ends. Want of memory is a failed append.
+#[derive(Drop)]
+pub struct MemoryLog {
+    records: HashMap<Tran, ManagerSet>,
+    appends: u64,
+    failing: u32,
+    failures: u64,
+}
+
+impl Model for MemoryLog {
+    ghost use Rattle.std.specs.FinMap.{from_entries};
+    ghost use Rattle.std.specs.HashMap.{spare};
+    ghost use Rattle.xa_log.specs.Log.{LogView, log_code, room_in};
+
+    ghost Value = { LogView };
+
+    ghost coded = { log_code };
+
+    ghost view = { λ l. record {
+      state = record { records = from_entries l.records.entries; failures = l.failures };
+      appends = l.appends;
+      failing = l.failing;
+      room = room_in l.records.entries (spare l.records);
+    } };
+}
+
+impl MemoryLog {
+    /// A log with no record, which takes no memory yet.
+    pub fn new(alloc: Global) -> MemoryLog
+        ensures { result ≡ record { state = no_records; appends = 0; failing = 0; room = 0 } }
+    {
+        MemoryLog {
+            records: HashMap::new(alloc),
+            appends: 0,
+            failing: 0,
+            failures: 0,
+        }
+    }
+
+    /// A log with no record whose k-th append, from 1, fails.
+    pub fn failing_at(alloc: Global, k: u32) -> MemoryLog
+        ensures { result ≡ record { state = no_records; appends = 0; failing = k; room = 0 } }
+    {
+        MemoryLog {
+            records: HashMap::new(alloc),
+            appends: 0,
+            failing: k,
+            failures: 0,
+        }
+    }
+
+    fn count_failure(&mut self)
+        ensures { self.new ≡ record self.old { state = with_failure self.old.state } }
+    {
+        self.failures = self.failures.wrapping_add(1);
+    }
+
+    fn count_append(&mut self)
+        ensures { self.new ≡ record self.old { appends = counted self.old.appends } }
+    {
+        if self.appends < u64::MAX {
+            self.appends += 1;
+        }
+    }
+
+    // Whether the record was put.
+    fn put(&mut self, tran: Tran, yes: ManagerSet) -> bool
+        ensures put { result ≡ true → self.new.state ≡ with_record self.old.state tran yes }
+        ensures unchanged { result ≡ false → self.new.state ≡ self.old.state }
+        ensures appends { self.new.appends ≡ self.old.appends }
+        ensures failing { self.new.failing ≡ self.old.failing }
+
+        // With room for it there is, and it takes up no more than one place.
+        ensures fits { 0 < self.old.room → result ≡ true }
+        ensures room { result ≡ true → self.old.room ≤ self.new.room + 1 }
+    {
+        self.records.insert(tran, yes).is_ok()
+    }
+}
+
+impl DecisionRecords for MemoryLog {
+    ghost records = { λ l. l.state.records };
+
+    fn has(&self, tran: &Tran) -> Option<ManagerSet> {
+        self.records.get(tran).copied()
+    }
+}
+
+impl DecisionLog for MemoryLog {
+    ghost state = { λ l. l.state };
+
+    ghost appends = { AppendsTo };
+
+    ghost records_are = { λ l. refl };
+
+    fn append(&mut self, decision: &CommitRecord) -> Result<(), LogFault>
+        ensures appended { OnOk result (self.new.state ≡ with_record self.old.state decision.now.tran
+            decision.now.yes) }
+        ensures failed { OnErr result (self.new.state ≡ with_failure self.old.state) }
+        ensures appends { AppendsTo decision.now.tran decision.now.yes (is_ok result) self.old self.new }
+        ensures counted { self.new.appends ≡ counted self.old.appends }
+        ensures kept { self.new.failing ≡ self.old.failing }
+        ensures injected { counted self.old.appends ≡ self.old.failing → IsErr result }
+    {
+        self.count_append();
+        if self.appends == self.failing as u64 {
+            self.count_failure();
+            return Err(LogFault);
+        }
+        if !self.put(decision.tran, decision.yes) {
+            self.count_failure();
+            return Err(LogFault);
+        }
+        Ok(())
+    }
+
+    fn failures(&self) -> u64 {
+        self.failures
+    }
+}

@@ -1,0 +1,216 @@
+-- What a thread's lines add to its entries of a manager's journal, where all that they ask the manager is so.
+use Rattle.std.proofs.Common.{◌≡◌, ℕ, ⊎_elim, ◌⊎◌, zero, suc, ◌<◌, ◌≤◌, Bool, false, ◌==◌, List, [], ◌∷◌, ◌++◌, Option, Some, None, sym, refl, ap, ◌∙◌, subst}
+use Rattle.std.proofs.Common.{arith, append_assoc, append-nil}
+use Rattle.std.specs.Prelude.{if◌then◌else◌, All, map}
+use Rattle.std.specs.List.{Contains}
+use Rattle.std.proofs.lemmas.Bool.{cases_lt, eqb-true}
+use Rattle.std.proofs.lemmas.List.Elements.{All-append, All-cons, All-contains, All-head, All-nil, All-tail}
+use Rattle.xa_base.proofs.Truth.{by_if}
+use Rattle.xa_base.specs.declared.limits.TheConstants.{MOST_MANAGERS}
+use Rattle.xa_base.specs.Lists.{IsUpTo}
+use Rattle.xa_words.specs.Flags.{check_flags}
+use Rattle.xa_words.specs.Tran.{TranName}
+use Rattle.xa_words.specs.Xid.{XidName}
+use Rattle.xa_words.specs.declared.code.Code.{Code}
+use Rattle.xa_words.specs.declared.flags.Call.TheVariants as call
+use Rattle.xa_words.specs.declared.request.Op.{Op}
+use Rattle.xa_words.specs.declared.request.Op.TheVariants.{OpenRm, Prepare, Forget, Listed}
+use Rattle.xa_worker.specs.Journal.{Entry}
+use Rattle.xa_switch.specs.Scans.{ScanView, left_at}
+use Rattle.xa_switch.specs.Settling.{Settling}
+use Rattle.xa_driver.specs.declared.branch.Branch.{Branch}
+use Rattle.xa_driver.specs.declared.done.Done.{Done as Outcomes}
+use Rattle.xa_driver.specs.declared.done.Ending.{Ending}
+use Rattle.xa_driver.specs.declared.resolved.Outcome.{Outcome}
+use Rattle.xa_driver.specs.Course.{AtBranch}
+use Rattle.xa_driver.specs.Endings.{second_op, third_op}
+use Rattle.xa_log.specs.Log.{Records}
+use Rattle.xa_driver.specs.Resolving.{ResolvesAt, outcome_op}
+use Rattle.xa_driver.specs.Trace.{EachBranch, has_branch_at}
+use Rattle.xa_driver.proofs.Mapped.{Any, IsAskedFor, any_asked, branch_by, resolves_by}
+use Rattle.xa_grammar.specs.declared.step.Called.{Called}
+use Rattle.xa_grammar.specs.declared.step.CommitAll.{CommitAll}
+use Rattle.xa_grammar.specs.declared.step.Action.TheVariants as action
+use Rattle.xa_grammar.specs.Steps.{ScriptAction}
+use Rattle.xa_transcript.specs.declared.answer.Answer.{Answer}
+use Rattle.xa_session.specs.Committing.{branches_of}
+use Rattle.xa_telling.specs.Wants.{Wanted, wanted_in}
+use Rattle.xa_telling.specs.Wants.Wanted.{code_of, handle_for, in_vain, completion, listing}
+use Rattle.xa_telling.specs.Parts.{Part, next_entry, Asked, Lists, CallTakes}
+use Rattle.xa_telling.specs.Parts.Asked.{answered as asked_answered, refused as asked_refused}
+use Rattle.xa_telling.specs.Parts.CallTakes.{answered, kept, refused, completes, lists}
+use Rattle.xa_telling.specs.Commits.{CarriesOut, Decides}
+use Rattle.xa_telling.specs.Commits.CarriesOut.{carried, withheld}
+use Rattle.xa_telling.specs.Commits.CommitTakes.{refused as takes_none, decided}
+use Rattle.xa_telling.specs.Resolves.{EndsLeft}
+use Rattle.xa_telling.specs.Resolves.ResolveTakes.{refused as ends_none, resolved}
+use Rattle.xa_telling.specs.Journals.{Takes}
+use Rattle.xa_telling.proofs.Mapped.{by_mapped}
+use Rattle.xa_telling.proofs.Branches.{branch_there, up_to_or_not}
+
+-- the op that a call asks for, if it does
+abbrev pub op_in : Wanted → Option Op
+op_in (code_of o) = Some o
+op_in (handle_for o) = Some o
+op_in (in_vain why) = None
+op_in completion = None
+op_in (listing n) = None
+
+-- each branch, with what holds of it
+each_with : (C : Branch → Type 0) (P : Branch → Code → Option Code → Ending → Type 0) (bs : List Branch) (vs : List Code) (ss : List (Option Code)) (es : List Ending)
+    → All C bs → EachBranch P bs vs ss es → EachBranch (λ b v s e. C b × P b v s e) bs vs ss es
+each_with C P [] [] [] [] all h = tt
+each_with C P (b ∷ bs) (v ∷ vs) (s ∷ ss) (e ∷ es) all h = ((All-head C b bs all, h.0), each_with C P bs vs ss es (All-tail C b bs all) h.1)
+each_with C P bs vs ss es all h = absurd h
+
+-- where a commit has no branch nothing was added
+pub elsewhere : (t : ℕ) (c : CommitAll TranName) (done : Outcomes) (old new : Part) → Decides t c done old new → (m : ℕ)
+    → has_branch_at (branches_of c) m ≡ false → new.entries m ≡ old.entries m
+elsewhere t c done old new is zero none = is.nowhere
+elsewhere t c done old new is (suc m) none = is.course.others (suc m) (omega arith) none
+
+-- nor where a resolve has no manager
+pub past_all : (t : ℕ) (outcomes : List Outcome) (old new : Part) → EndsLeft t outcomes old new → (m : ℕ) → (IsUpTo MOST_MANAGERS m → ⊥)
+    → new.entries m ≡ old.entries m
+past_all t outcomes old new is zero past = is.nowhere
+past_all t outcomes old new is (suc m) past = is.course.others (suc m) (past_it (suc m) (omega arith) past)
+  where
+    past_it : (m : ℕ) → 0 < m → (IsUpTo MOST_MANAGERS m → ⊥) → MOST_MANAGERS < m
+    past_it m low past = ⊎_elim (λ (h : MOST_MANAGERS < m). h) (λ (h : m ≤ MOST_MANAGERS). absurd (past (omega (arith, low), h))) (cases_lt MOST_MANAGERS m)
+
+module _ (P : Op → Type 0) where
+  -- entries are added, and the op of each is so
+  abbrev pub Adds : List Entry → List Entry → Type 0
+  Adds old new = (more : List Entry) × (new ≡ old ++ more) × All (λ (e : Entry). P e.0.op) more
+
+  pub adds_none : (old new : List Entry) → new ≡ old → Adds old new
+  adds_none old new e = ([], e ∙ sym (append-nil old), All-nil (λ (e : Entry). P e.0.op))
+
+  pub adds_both : (old mid new : List Entry) → Adds old mid → Adds mid new → Adds old new
+  adds_both old mid new a b = (
+    a.0 ++ b.0,
+    b.1 ∙ ap (λ es. es ++ b.0) a.1 ∙ append_assoc old a.0 b.0,
+    All-append (λ (e : Entry). P e.0.op) a.0 b.0 a.2 b.2,
+  )
+
+  adds_one : (t : ℕ) (old new : List Entry) (op : Op) (c : Code) → P op → new ≡ old ++ next_entry t old op c ∷ [] → Adds old new
+  adds_one t old new op c so is =
+      (next_entry t old op c ∷ [], is, All-cons (λ (e : Entry). P e.0.op) (next_entry t old op c) [] so (All-nil (λ (e : Entry). P e.0.op)))
+
+  -- what is asked, one request after another
+  carries_adds : (t : ℕ) (old new : List Entry) (op : Op) (c : Code) → P op → CarriesOut t old op new c → Adds old new
+  carries_adds t old new op c so (carried is) = adds_one t old new op c so is
+  carries_adds t old new op c so (withheld fails shut same) = adds_none old new same
+
+  pub carries_on : (t : ℕ) (old d e : List Entry) (op : Op) (c : Code) → P op → CarriesOut t d op e c → Adds old d → Adds old e
+  carries_on t old d e op c so is so_far = adds_both old d e so_far (carries_adds t d e op c so is)
+
+  -- ---- a commit
+
+  -- what a commit asks at a branch of manager m is so
+  pub record AsksAt (m : ℕ) (commit : Bool) (b : Branch) : Type 0 where
+    pub prepares : b.m ≡ m → P (Prepare b.xid)
+    pub obeys : b.m ≡ m → (v : Code) → IsAskedFor P (second_op commit b.xid v)
+    pub forgets : b.m ≡ m → (s : Option Code) → IsAskedFor P (third_op b.xid s)
+
+  pub decides_adds : (m t : ℕ) (c : CommitAll TranName) (done : Outcomes) (old new : Part) → All (AsksAt m done.commit) (branches_of c)
+      → Decides t c done old new → Adds (old.entries m) (new.entries m)
+  decides_adds m t c done old new so is =
+      ⊎_elim (λ (h : has_branch_at (branches_of c) m ≡ false). adds_none (old.entries m) (new.entries m) (elsewhere t c done old new is m h))
+      (λ (h : (b : Branch) × (v : Code) × (s : Option Code) × (e : Ending) × (b.m ≡ m) × (AsksAt m done.commit b × AtBranch (CarriesOut t) done.commit b v s e (old.entries b.m) (new.entries b.m))).
+      let b : Branch = h.0 in
+      let asks = h.5.0 in
+      subst (λ k. Adds (old.entries k) (new.entries k)) h.4
+      (branch_by (CarriesOut t) P (Adds (old.entries b.m)) (carries_on t (old.entries b.m)) done.commit b h.1 h.2 h.3 (old.entries b.m) (new.entries b.m) h.5.1
+      (asks.obeys h.4 h.1) (asks.forgets h.4 h.2) (asks.prepares h.4) (adds_none (old.entries b.m) (old.entries b.m) refl)))
+      (branch_there (λ b v s e. AsksAt m done.commit b × AtBranch (CarriesOut t) done.commit b v s e (old.entries b.m) (new.entries b.m)) m (branches_of c) done.votes.items is.course.seconds done.endings.items
+      (each_with (AsksAt m done.commit) (λ b v s e. AtBranch (CarriesOut t) done.commit b v s e (old.entries b.m) (new.entries b.m)) (branches_of c) done.votes.items is.course.seconds done.endings.items so is.course.each))
+
+  -- ---- a resolve
+
+  -- what a resolve asks of a branch is so
+  abbrev pub EndsSo : XidName → Type 0
+  EndsSo x = ((commit : Bool) → P (outcome_op commit x)) × P (Forget x)
+
+  outcome_so : (xs : List XidName) (os : List Outcome) → map (λ o. o.xid) os ≡ xs → All EndsSo xs → (o : Outcome) → Contains os o → EndsSo o.xid
+  outcome_so xs os same all o there = All-contains (λ (w : Outcome). EndsSo w.xid) os o (by_map os (subst (All EndsSo) (sym same) all)) there
+    where
+      by_map : (os : List Outcome) → All EndsSo (map (λ o. o.xid) os) → All (λ (w : Outcome). EndsSo w.xid) os
+      by_map [] all = All-nil (λ (w : Outcome). EndsSo w.xid)
+      by_map (w ∷ os) all =
+          All-cons (λ (w : Outcome). EndsSo w.xid) w os (All-head EndsSo w.xid (map (λ o. o.xid) os) all) (by_map os (All-tail EndsSo w.xid (map (λ o. o.xid) os) all))
+
+  at_adds : (t : ℕ) (records : Records) (m : ℕ) (xs : List XidName) (os : List Outcome) (old new : List Entry) → P OpenRm → All EndsSo xs
+      → ResolvesAt (CarriesOut t) records m xs os old new → Adds old new
+  at_adds t records m [] os old new opens so is = adds_none old new is.1
+  at_adds t records m (x ∷ xs) os old new opens so is =
+      resolves_by (CarriesOut t) P (Adds old) (carries_on t old) records m (x ∷ xs) os old new opens
+      (λ o there. let each = outcome_so (x ∷ xs) os is.xids_are so o there in record { ends = λ _ _. each.0 o.commit; forgets = λ _ _. each.1 }) is (adds_none old old refl)
+
+  pub ends_adds : (m t : ℕ) (outcomes : List Outcome) (old new : Part) → P OpenRm → All EndsSo (left_at old.scan m) → EndsLeft t outcomes old new
+      → Adds (old.entries m) (new.entries m)
+  ends_adds m t outcomes old new opens so is =
+      ⊎_elim (λ (within : IsUpTo MOST_MANAGERS m). at_adds t old.log.records m (left_at old.scan m) (is.course.at m) (old.entries m) (new.entries m) opens so (is.course.each m within))
+      (λ (past : IsUpTo MOST_MANAGERS m → ⊥). adds_none (old.entries m) (new.entries m) (past_all t outcomes old new is m past)) (up_to_or_not m)
+
+  -- ---- a call
+
+  module _ (listed : (x : Option XidName) → P (Listed x)) (m : ℕ) where
+    either_adds : (t n : ℕ) (op : Op) (c : Code) (old : List Entry) → (n ≡ m → P op) → Adds old (if m == n then old ++ next_entry t old op c ∷ [] else old)
+    either_adds t n op c old so =
+        by_if (Adds old) (m == n) (old ++ next_entry t old op c ∷ []) old (λ e. adds_one t old (old ++ next_entry t old op c ∷ []) op c (so (sym (eqb-true m n e))) refl) (λ _. adds_none old old refl)
+
+    asked_adds : (t n : ℕ) (old : Part) (o : Op) (new : Part) (c : Code) → P o → Asked t n old o new c → Adds (old.entries m) (new.entries m)
+    asked_adds t n old o new c so (asked_answered is) =
+        subst (λ (x : Part). Adds (old.entries m) (x.entries m)) (sym is) (either_adds t n o c (old.entries m) (λ _. so))
+    asked_adds t n old o new c so (asked_refused why same) = adds_none (old.entries m) (new.entries m) (ap (λ (x : Part). x.entries m) same)
+
+    listing_adds : (t : ℕ) (q : Called XidName) (n : ℕ) (a : Answer) (old new : Part) → Lists t q n a old new → Adds (old.entries m) (new.entries m)
+    listing_adds t q n a old new is =
+        subst (λ (x : Part). Adds (old.entries m) (x.entries m)) (sym is.stands)
+        (by_mapped (Asked t q.manager) (λ d o e c. Unit {0}) (λ x. x) (λ (x : Part). Adds (x.entries m) (is.asked.entries m))
+        (λ d e x c asked adding. (adds_both (d.entries m) (e.entries m) (is.asked.entries m) (asked_adds t q.manager d (Listed x) e c (listed x) asked) adding, tt))
+        is.there (check_flags call.Recover q.flags) q.manager old old.scan is.before is.asked new.scan is.after is.result is.recovers (adds_none (is.asked.entries m) (is.asked.entries m) refl)).0
+
+    -- what a call asks its manager for is so
+    abbrev pub AsksSo : Called XidName → Type 0
+    AsksSo q = q.manager ≡ m → (o : Op) → op_in (wanted_in q) ≡ Some o → P o
+
+    call_adds : (settled : Settling) (t : ℕ) (q : Called XidName) (a : Answer) (old new : Part) → AsksSo q → CallTakes settled t q a old new
+        → Adds (old.entries m) (new.entries m)
+    call_adds settled t q a old new so (answered o c asks told is) =
+        subst (λ (x : Part). Adds (old.entries m) (x.entries m)) (sym is) (either_adds t q.manager o c (old.entries m) (λ here. so here o (ap op_in asks)))
+    call_adds settled t q a old new so (kept o c k asks low told free is) =
+        subst (λ (x : Part). Adds (old.entries m) (x.entries m)) (sym is) (either_adds t q.manager o c (old.entries m) (λ here. so here o (ap op_in asks)))
+    call_adds settled t q a old new so (refused c is told same) = adds_none (old.entries m) (new.entries m) (ap (λ (x : Part). x.entries m) same)
+    call_adds settled t q a old new so (lists n asks is) = listing_adds t q n a old new is
+    call_adds settled t q a old new so (completes r k c asks there code told same) =
+        adds_none (old.entries m) (new.entries m) (ap (λ (x : Part). x.entries m) same)
+
+    -- ---- a line
+
+    -- what is done asks manager m only what is so, where its thread's scans are z
+    abbrev pub TaskSo : ScanView → ScriptAction → Type 0
+    TaskSo z (action.Call q) = AsksSo q
+    TaskSo z (action.CommitAll c) = (commit : Bool) → All (AsksAt m commit) (branches_of c)
+    TaskSo z action.Resolve = P OpenRm × All EndsSo (left_at z m)
+
+    pub takes_add : (settled : Settling) (x : ScriptAction) (t : ℕ) (a : Answer) (old new : Part) → TaskSo old.scan x → Takes settled x t a old new
+        → Adds (old.entries m) (new.entries m)
+    takes_add settled (action.Call q) t a old new so is = call_adds settled t q a old new so is
+    takes_add settled (action.CommitAll c) t a old new so (takes_none told same) =
+        adds_none (old.entries m) (new.entries m) (ap (λ (x : Part). x.entries m) same)
+    takes_add settled (action.CommitAll c) t a old new so (decided done told is) = decides_adds m t c done old new (so done.commit) is
+    takes_add settled action.Resolve t a old new so (ends_none told same) = adds_none (old.entries m) (new.entries m) (ap (λ (x : Part). x.entries m) same)
+    takes_add settled action.Resolve t a old new so (resolved outcomes told is) = ends_adds m t outcomes.items old new so.0 so.1 is
+
+-- anything may be asked
+pub any_task : (m : ℕ) (z : ScanView) (x : ScriptAction) → TaskSo Any (λ x. tt) m z x
+any_task m z (action.Call q) = λ here o asks. tt
+any_task m z (action.CommitAll c) =
+    λ commit k d lt. record { prepares = λ here. tt; obeys = λ here v. any_asked (second_op commit _ v); forgets = λ here s. any_asked (third_op _ s) }
+any_task m z action.Resolve = (tt, λ k d lt. (λ commit. tt, tt))
+
+pub takes_adds : (settled : Settling) (x : ScriptAction) (t : ℕ) (a : Answer) (old new : Part) → Takes settled x t a old new → (m : ℕ)
+    → Adds Any (old.entries m) (new.entries m)
+takes_adds settled x t a old new is m = takes_add Any (λ x. tt) m settled x t a old new (any_task m old.scan x) is

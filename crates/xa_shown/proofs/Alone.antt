@@ -1,0 +1,141 @@
+-- Where no other line names the branches of a commit, nobody else names them in the journals.
+use Rattle.std.proofs.Common.{◌≡◌, ◌≢◌, ℕ, suc, ◌+◌, ◌<◌, inl, inr, Bool, true, false, cond, ◌==◌, List, [], ◌∷◌, ◌++◌, length, map, sym, refl, ap, ◌∙◌, subst}
+use Rattle.std.proofs.Common.{arith, get_or}
+use Rattle.std.specs.Prelude.{All}
+use Rattle.std.specs.List.{filter}
+use Rattle.std.proofs.lemmas.Bool.{cases_eq, eq-eqb}
+use Rattle.std.proofs.lemmas.List.{length-map, map-append}
+use Rattle.std.proofs.lemmas.List.Elements.{All-cons, All-nil, All-head, All-tail, All-append, filter-append}
+use Rattle.xa_base.proofs.Lists.{all_after, all_unmapped}
+use Rattle.xa_words.specs.Xid.{XidName}
+use Rattle.xa_words.specs.declared.request.Op.{Op}
+use Rattle.xa_words.specs.declared.request.Request.{Request}
+use Rattle.xa_tables.specs.History.{History, of_thread}
+use Rattle.xa_tables.specs.Prepared.{names}
+use Rattle.xa_desk.specs.Lanes.{numbered}
+use Rattle.xa_worker.specs.Journal.{Entry, requests}
+use Rattle.xa_switch.specs.Settling.{journal, sent}
+use Rattle.xa_driver.specs.declared.branch.Branch.{Branch}
+use Rattle.xa_atomicity.specs.Outcomes.{OnlyTheseName}
+use Rattle.xa_words.specs.Tran.{TranName}
+use Rattle.xa_grammar.specs.declared.step.CommitAll.{CommitAll}
+use Rattle.xa_grammar.specs.Content.{Content}
+use Rattle.xa_session.specs.Committing.{branches_of}
+use Rattle.xa_telling.specs.Parts.{Part}
+use Rattle.xa_telling.specs.Journals.{Line, entries_of}
+use Rattle.xa_telling.specs.ToldOpenings.{Beginning, Opening, TellsOf, part_at}
+use Rattle.xa_atomicity.specs.Outcomes.{AreLeftAlone}
+use Rattle.xa_shown.specs.Outcomes.{Place, AreNamedByNoOther, NamesNone, entered_so_far}
+use Rattle.xa_telling.proofs.Entries.{requests_kept}
+use Rattle.xa_base.specs.Lists.Chain.{more as one_step}
+use Rattle.xa_shown.proofs.Named.{AddsUnnamed, lines_unnamed, lines_leave}
+
+-- ---- lists
+
+pub all_mapped : {A B : Type 0} (f : A → B) (P : B → Type 0) (xs : List A) → All (λ x. P (f x)) xs → All P (map f xs)
+all_mapped f P [] h = All-nil P
+all_mapped f P (x ∷ xs) h = All-cons P (f x) (map f xs) (All-head (λ x. P (f x)) x xs h) (all_mapped f P xs (All-tail (λ x. P (f x)) x xs h))
+
+all_unfiltered : {A : Type 0} (p : A → Bool) (P : A → Type 0) (xs : List A) → All P (filter p xs) → All (λ x. p x ≡ true → P x) xs
+all_unfiltered p P [] h = All-nil (λ x. p x ≡ true → P x)
+all_unfiltered {A} p P (x ∷ xs) h =
+    elim (p x) as (λ b. p x ≡ b → All P (cond b (x ∷ filter p xs) (filter p xs)) → All (λ (y : A). p y ≡ true → P y) (x ∷ xs)) [
+      | true ↦ λ e h. All-cons (λ (y : A). p y ≡ true → P y) x xs (λ _. All-head P x (filter p xs) h) (all_unfiltered p P xs (All-tail P x (filter p xs) h))
+      | false ↦ λ e h. All-cons (λ (y : A). p y ≡ true → P y) x xs (λ f. absurd (let z : true ≡ false = sym f ∙ e in cc)) (all_unfiltered p P xs h)
+    ] refl h
+
+-- ---- the numbers of a thread's requests rise
+
+from_here : (t n m : ℕ) (ops : List Op) → n < m → All (λ (q : Request). n < q.number) (numbered t m ops)
+from_here t n m [] above = All-nil (λ (q : Request). n < q.number)
+from_here t n m (o ∷ ops) above =
+    All-cons (λ (q : Request). n < q.number) (record { thread = t; number = m; op = o }) (numbered t (suc m) ops) above (from_here t n (suc m) ops (omega (arith, above)))
+
+-- after one the numbers are higher
+higher : (t n : ℕ) (ops : List Op) (xs : History) (r : Request) (ys : History) → numbered t n ops ≡ xs ++ r ∷ ys → All (λ (q : Request). r.number < q.number) ys
+higher t n [] [] r ys e = absurd (cc)
+higher t n [] (x ∷ xs) r ys e = absurd (cc)
+higher t n (o ∷ ops) [] r ys e =
+    let head : record { thread = t; number = n; op = o } ≡ r = cc in
+    let tail : numbered t (suc n) ops ≡ ys = cc in
+    let number : n ≡ r.number = ap (λ (q : Request). q.number) head in
+    subst (All (λ (q : Request). r.number < q.number)) tail (from_here t r.number (suc n) ops (omega (arith, number)))
+higher t n (o ∷ ops) (x ∷ xs) r ys e = let tail : numbered t (suc n) ops ≡ xs ++ r ∷ ys = cc in higher t (suc n) ops xs r ys tail
+
+-- and of the first they are below how many these are
+lower : (t n : ℕ) (ops : List Op) (xs ys : History) (last : ℕ) → numbered t n ops ≡ xs ++ ys → n + length xs ≡ last → All (λ (q : Request). q.number < last) xs
+lower t n ops [] ys last e many = All-nil (λ (q : Request). q.number < last)
+lower t n [] (x ∷ xs) ys last e many = absurd (cc)
+lower t n (o ∷ ops) (x ∷ xs) ys last e many =
+    let head : record { thread = t; number = n; op = o } ≡ x = cc in
+    let tail : numbered t (suc n) ops ≡ xs ++ ys = cc in
+    let number : n ≡ x.number = ap (λ (q : Request). q.number) head in
+    All-cons (λ (q : Request). q.number < last) x xs (omega (arith, number, many)) (lower t (suc n) ops xs ys last tail (omega (arith, many)))
+
+-- ---- one branch
+
+module _ (t : ℕ) (x : XidName) (H : History) (ops : List Op) (sent_so : of_thread t H ≡ numbered t 0 ops) (first last : ℕ)
+    (own : All (λ (q : Request). names x q.op ≡ true → q.number < last) (of_thread t H)) (others : (u : ℕ) → u ≢ t → All (λ (q : Request). names x q.op ≡ false) (of_thread u H)) where
+  only_these : OnlyTheseName x t first last H
+  only_these before after r place thread number k d lt named =
+      let q : Request = get_or after k d in
+      elim (cases_eq q.thread t) [
+        | inl same ↦
+            let parted : of_thread t H ≡ of_thread t before ++ r ∷ of_thread t after =
+            ap (of_thread t) place ∙ filter-append (λ (p : Request). p.thread == t) before (r ∷ after)
+            ∙ ap (λ b. of_thread t before ++ cond b (r ∷ of_thread t after) (of_thread t after)) (eq-eqb r.thread t thread) in
+            let above : r.number < q.number =
+            all_unfiltered (λ (p : Request). p.thread == t) (λ p. r.number < p.number) after (higher t 0 ops (of_thread t before) r (of_thread t after) (sym sent_so ∙ parted)) k d lt (eq-eqb q.thread t same) in
+            let below : q.number < last =
+            all_after (λ (p : Request). (p.thread == t) ≡ true → names x p.op ≡ true → p.number < last) before r after
+            (subst (All (λ (p : Request). (p.thread == t) ≡ true → names x p.op ≡ true → p.number < last)) place
+            (all_unfiltered (λ (p : Request). p.thread == t) (λ p. names x p.op ≡ true → p.number < last) H own)) k d lt (eq-eqb q.thread t same) named in
+            record { thread = same; from = omega (arith, above, number); below = below }
+        | inr differs ↦
+            let quiet : names x q.op ≡ false =
+            all_after (λ (p : Request). (p.thread == q.thread) ≡ true → names x p.op ≡ false) before r after
+            (subst (All (λ (p : Request). (p.thread == q.thread) ≡ true → names x p.op ≡ false)) place
+            (all_unfiltered (λ (p : Request). p.thread == q.thread) (λ p. names x p.op ≡ false) H (others q.thread differs))) k d lt (eq-eqb q.thread q.thread refl) in
+            absurd (let z : true ≡ false = sym named ∙ quiet in cc)
+      ]
+
+-- ---- all branches
+
+-- a thread whose entries don't name the branch
+quiet_requests : (u : ℕ) (x : XidName) (J : List Entry) → All (λ (e : Entry). names x e.0.op ≡ false) (entries_of u J)
+    → All (λ (q : Request). names x q.op ≡ false) (of_thread u (requests J))
+quiet_requests u x J h =
+    subst (All (λ (q : Request). names x q.op ≡ false)) (sym (requests_kept u J)) (all_mapped (λ (e : Entry). e.0) (λ (q : Request). names x q.op ≡ false) (entries_of u J) h)
+
+-- the thread itself, whose later entries don't name it
+own_requests : (t : ℕ) (x : XidName) (J : List Entry) (ops : List Op) (new : List Entry) → of_thread t (requests J) ≡ numbered t 0 ops
+    → AddsUnnamed x new (entries_of t J)
+    → All (λ (q : Request). names x q.op ≡ true → q.number < length new) (of_thread t (requests J))
+own_requests t x J ops new sent_so (more, grown, quiet) =
+    let P : Request → Type 0 = λ q. names x q.op ≡ true → q.number < length new in
+    let f : Entry → Request = λ e. e.0 in
+    let parts : of_thread t (requests J) ≡ map f new ++ map f more = requests_kept t J ∙ ap (map f) grown ∙ map-append f new more in
+    let early = lower t 0 ops (map f new) (map f more) (length new) (sym sent_so ∙ parts) (let many = length-map new f in omega (arith, many)) in
+    let late = all_mapped f (λ (q : Request). names x q.op ≡ false) more quiet in
+    subst (All P) (sym parts)
+    (All-append P (map f new) (map f more) (λ k d lt named. early k d lt) (λ k d lt named. absurd (let e = late k d lt in let z : true ≡ false = sym named ∙ e in cc)))
+
+pub left_alone : (s : Content) (beg : Beginning) (o : Opening) (tells : TellsOf s beg o) (c : CommitAll TranName) (before : List Line) (l : Line) (after : List Line) (old new : Part)
+    → Place (tells.carried l.task.thread) before l after old new → AreNamedByNoOther o.steps beg.scans l.task.thread (branches_of c) after
+    → AreLeftAlone o.settled l.task.thread (branches_of c) (entered_so_far old) (entered_so_far new)
+left_alone s beg o tells c before l after old new place named =
+    let t : ℕ = l.task.thread in
+    record {
+      each = λ k d lt.
+          let b : Branch = get_or (branches_of c) k d in
+          let J : List Entry = journal o.settled b.m in
+          let sent_so = (tells.agree.agree t b.m).carried in
+          only_these t b.xid (requests J) (sent o.settled t b.m) sent_so (length (old.entries b.m)) (length (new.entries b.m))
+          (own_requests t b.xid J (sent o.settled t b.m) (new.entries b.m) sent_so (lines_unnamed o.settled b (beg.scans t) new after _ place.later (lines_leave o.settled (part_at beg t) (before ++ l ∷ []) new (one_step before l old new place.earlier place.takes)) (λ j e below. named.later j e below k d lt)))
+          (λ u differs.
+          let told = tells.carried u in
+          let quiet : All (λ (l : Line). NamesNone (beg.scans u) (branches_of c) l.task) told.lines =
+          all_unmapped (λ (l : Line). l.task) (NamesNone (beg.scans u) (branches_of c)) told.lines (subst (All (NamesNone (beg.scans u) (branches_of c))) (sym told.tasks) (named.threads u differs)) in
+          let adds = lines_unnamed o.settled b (beg.scans u) (part_at beg u) told.lines _ told.carried refl (λ j e below. quiet j e below k d lt) in
+          quiet_requests u b.xid J (subst (All (λ (e : Entry). names b.xid e.0.op ≡ false)) (sym adds.1) adds.2));
+    }

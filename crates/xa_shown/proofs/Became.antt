@@ -1,0 +1,124 @@
+-- What a thread's entries in a journal have of a commit's branch, as its requests stand in the manager's history.
+use Rattle.std.specs.Prelude.{slice_get, option_map}
+use Rattle.std.proofs.Common.{◌≡◌, ℕ, zero, suc, ◌+◌, Bool, true, false, ◌==◌, ◌||◌, List, [], ◌∷◌, ◌++◌, length, map, Option, Some, sym, refl, ap, ◌∙◌, arith}
+use Rattle.std.proofs.Common.{append_assoc, length-append}
+use Rattle.std.specs.List.{Contains, list_any}
+use Rattle.std.proofs.lemmas.List.{map-append}
+use Rattle.std.proofs.lemmas.List.Folds.{list_any-append}
+use Rattle.std.proofs.lemmas.Option.{slice_get-map}
+use Rattle.xa_telling.proofs.Branches.{is_rm_fail_so}
+use Rattle.xa_base.specs.Lists.{Begins}
+use Rattle.xa_base.proofs.Lists.{begins_on, begins_same, contains_at, next_there}
+use Rattle.xa_words.specs.declared.code.Code.{Code}
+use Rattle.xa_words.specs.declared.code.Code.TheVariants.{RmFail}
+use Rattle.xa_words.specs.declared.request.Op.{Op}
+use Rattle.xa_words.specs.declared.request.Request.{Request}
+use Rattle.xa_tables.specs.Tables.{Tables}
+use Rattle.xa_tables.specs.History.{History, coded, of_thread}
+use Rattle.xa_tables.specs.Openings.{IsOpening}
+use Rattle.xa_desk.specs.Lanes.{numbered}
+use Rattle.xa_desk.specs.LedgerView.{is_rm_fail}
+use Rattle.xa_worker.specs.Journal.{Entry, codes_in, requests}
+use Rattle.xa_switch.specs.Settling.{answers}
+use Rattle.xa_driver.specs.declared.branch.Branch.{Branch}
+use Rattle.xa_driver.specs.declared.done.Ending.{Ending}
+use Rattle.xa_driver.specs.Course.{AtBranch}
+use Rattle.xa_atomicity.specs.Tabled.{Tabled}
+use Rattle.xa_driver.proofs.Mapped.{branch_mapped}
+use Rattle.xa_atomicity.proofs.Sites.{Site, StandsIn, Sent, AsksIn, asks, withholds, stands_by}
+use Rattle.xa_telling.specs.Parts.{next_entry}
+use Rattle.xa_telling.specs.Journals.{entries_of}
+use Rattle.xa_telling.specs.Commits.{CarriesOut}
+use Rattle.xa_telling.specs.Commits.CarriesOut.{carried, withheld}
+use Rattle.xa_telling.proofs.Entries.{Fits, pair_of}
+use Rattle.xa_shown.proofs.Failing.{fails_on}
+
+-- how many entries there are, and whether one has XAER_RMFAIL
+abbrev pub entered : List Entry → Sent
+entered es = record { number = length es; shut = list_any is_rm_fail (codes_in es) }
+
+-- ---- lists of codes
+
+-- where one is XAER_RMFAIL it is among them
+fail_there : (cs : List Code) → list_any is_rm_fail cs ≡ true → Contains cs RmFail
+fail_there cs e = let at = failing cs e in contains_at cs at.0 RmFail at.1
+  where
+    failing : (cs : List Code) → list_any is_rm_fail cs ≡ true → (k : ℕ) × (slice_get cs k ≡ Some RmFail)
+    failing [] e = absurd (cc)
+    failing (c ∷ cs) e =
+        elim (is_rm_fail c) as (λ b. is_rm_fail c ≡ b → (b || list_any is_rm_fail cs) ≡ true → (k : ℕ) × (slice_get (c ∷ cs) k ≡ Some RmFail)) [
+          | true ↦ λ here _. (zero, ap (λ (d : Code). Some d) (is_rm_fail_so c here))
+          | false ↦ λ _ e. let there = failing cs e in (suc there.0, there.1)
+        ] refl e
+
+there_fails : (cs : List Code) → Contains cs RmFail → list_any is_rm_fail cs ≡ true
+there_fails [] has = let below = has.1 in absurd (omega (arith, below))
+there_fails (c ∷ cs) (zero, below, e) = ap (λ (d : Code). is_rm_fail d || list_any is_rm_fail cs) e
+there_fails (c ∷ cs) (suc k, below, e) = ap (λ b. is_rm_fail c || b) (there_fails cs (k, omega (arith, below), e)) ∙ or_true (is_rm_fail c)
+  where
+    or_true : (b : Bool) → (b || true) ≡ true
+    or_true true = refl
+    or_true false = refl
+
+or_false : (b : Bool) → (b || false) ≡ b
+or_false true = refl
+or_false false = refl
+
+entered_more : (old : List Entry) (e : Entry)
+    → entered (old ++ e ∷ []) ≡ record { number = suc (length old); shut = list_any is_rm_fail (codes_in old) || is_rm_fail e.1 }
+entered_more old e =
+    let number : length (old ++ e ∷ []) ≡ suc (length old) = omega (arith, length-append old (e ∷ [])) in
+    let shut : list_any is_rm_fail (codes_in (old ++ e ∷ [])) ≡ (list_any is_rm_fail (codes_in old) || is_rm_fail e.1) =
+    ap (list_any is_rm_fail) (map-append (λ (d : Entry). d.1) old (e ∷ [])) ∙ list_any-append is_rm_fail (codes_in old) (e.1 ∷ [])
+    ∙ ap (λ b. list_any is_rm_fail (codes_in old) || b) (or_false (is_rm_fail e.1)) in
+    λ i. record { number = number i; shut = shut i }
+
+-- ---- lists of ops
+
+-- a request's op is the one that was sent with its number
+op_numbered : (t n : ℕ) (ops : List Op) (k : ℕ) (r : Request) → slice_get (numbered t n ops) k ≡ Some r → slice_get ops k ≡ Some r.op
+op_numbered t n [] k r e = absurd (cc)
+op_numbered t n (o ∷ ops) zero r e = let same : record { thread = t; number = n; op = o } ≡ r = cc in ap (λ (q : Request). Some q.op) same
+op_numbered t n (o ∷ ops) (suc k) r e = op_numbered t (suc n) ops k r e
+
+carry_begins : (t : ℕ) (old new : List Entry) (op : Op) (c : Code) → CarriesOut t old op new c → Begins old new
+carry_begins t old new op c (carried is) = (next_entry t old op c ∷ [], is)
+carry_begins t old new op c (withheld fails shut same) = begins_same old new same
+
+-- ---- in a journal that follows the tables
+
+module _ (law : Tabled) (t : ℕ) (T : Tables) (opening : IsOpening T) (J : List Entry) (follows : J ≡ coded (requests J) T) (ops : List Op)
+    (pairs : List (ℕ × Code)) (fits : Fits t ops pairs (entries_of t J)) (sent_so : of_thread t (requests J) ≡ numbered t 0 ops) where
+  abbrev H : History
+  H = requests J
+
+  abbrev es : List Entry
+  es = entries_of t J
+
+  abbrev pub site : Site t T H
+  site = record { law = law; opening = opening; ops = ops; carried = sent_so }
+
+  -- an entry of the thread stands in the history
+  entry_stands : (old rest : List Entry) (op : Op) (c : Code) → es ≡ old ++ next_entry t old op c ∷ rest → StandsIn t (length old) op c T H
+  entry_stands old rest op c place =
+      let n : ℕ = length old in
+      let e : Entry = next_entry t old op c in
+      let at : slice_get es n ≡ Some e = next_there es old rest e (sym place) in
+      let sent : slice_get (map (λ (d : Entry). d.0) es) n ≡ Some e.0 = slice_get-map (λ (d : Entry). d.0) es n ∙ ap (option_map (λ (d : Entry). d.0)) at in
+      stands_by site n op c (op_numbered t 0 ops n e.0 (ap (λ l. slice_get l n) (sym fits.carried) ∙ sent))
+      (ap (λ (l : List Entry). slice_get (answers t l) n) (sym follows) ∙ slice_get-map pair_of es n ∙ ap (option_map pair_of) at)
+
+  asked_so : (old new : List Entry) (op : Op) (c : Code) → CarriesOut t old op new c → Unit {0} → Begins new es → AsksIn t T H (entered old) op (entered new) c
+  asked_so old new op c (carried is) q grown =
+      let e : Entry = next_entry t old op c in
+      let place : es ≡ old ++ e ∷ grown.0 = grown.1 ∙ ap (λ l. l ++ grown.0) is ∙ append_assoc old (e ∷ []) grown.0 in
+      asks (entry_stands old grown.0 op c place) (λ shut. fails_on H T (λ d. d.0.thread == t) old e grown.0 (ap (entries_of t) (sym follows) ∙ place) (fail_there (codes_in old) shut)) (ap entered is ∙ entered_more old e)
+  asked_so old new op c (withheld fails shut same) q grown = withholds (there_fails (codes_in old) shut) fails (ap entered same)
+
+  began : (old new : List Entry) (op : Op) (c : Code) → CarriesOut t old op new c → Begins new es → Begins old es
+  began old new op c is grown = begins_on old new es (carry_begins t old new op c is) grown
+
+  pub branch_entered : (commit : Bool) (b : Branch) (v : Code) (s : Option Code) (e : Ending) (old new : List Entry)
+      → AtBranch (CarriesOut t) commit b v s e old new → Begins new es → AtBranch (AsksIn t T H) commit b v s e (entered old) (entered new)
+  branch_entered commit b v s e old new is grown =
+      branch_mapped (CarriesOut t) (AsksIn t T H) entered (λ l. Unit {0}) (λ l. Begins l es) (λ d z op c asked q. tt) began asked_so commit b v s e old new is tt grown

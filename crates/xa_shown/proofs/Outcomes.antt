@@ -1,0 +1,304 @@
+-- All branches of a commit: what the line shows of them became of them.
+use Rattle.std.proofs.Common.{◌≡◌, ℕ, inl, inr, Bool, true, false, ◌||◌, List, [], ◌∷◌, length, Option, Some, None, sym, refl, ap, ◌∙◌, subst, slice_index_or}
+use Rattle.std.specs.Prelude.{pos, if◌then◌else◌, All}
+use Rattle.std.specs.List.{list_any}
+use Rattle.std.proofs.lemmas.Bool.{cases_Bool, or_parts}
+use Rattle.std.proofs.lemmas.List.Elements.{All-cons, All-nil, All-append}
+use Rattle.xa_words.specs.declared.code.Code.{Code}
+use Rattle.xa_words.specs.declared.code.Code.TheVariants.{Done, RdOnly}
+use Rattle.xa_tables.specs.Tables.{Tables}
+use Rattle.xa_tables.specs.History.{is_done, is_rolled_back as rolls_back}
+use Rattle.xa_desk.specs.LedgerView.{is_rm_fail}
+use Rattle.xa_switch.specs.Settling.{Settling, IsSettled, journal, sent, collected}
+use Rattle.xa_switch.specs.Fates.{IsOpenedWith}
+use Rattle.xa_driver.specs.declared.branch.Branch.{Branch}
+use Rattle.xa_driver.specs.declared.done.Done.{Done as Outcome}
+use Rattle.xa_driver.specs.declared.done.Ending.{Ending}
+use Rattle.xa_driver.specs.declared.done.Ending.TheVariants.{Committed, ReadOnly, RolledBack, InDoubt, Heuristic, Left}
+use Rattle.xa_atomicity.specs.Additions.{Shares}
+use Rattle.xa_driver.specs.Decision.{is_yes, is_no, is_read}
+use Rattle.xa_driver.specs.Endings.{ending_of, yes_ending, is_out_of_reach, is_heuristic as is_heuristic_code}
+use Rattle.xa_atomicity.specs.Outcomes.{AreLeftAlone, AreLeftOrDecided, EachOutcome, is_committed, is_rolled_back, is_in_doubt, is_heuristic, is_left}
+use Rattle.xa_atomicity.specs.Outcomes.{is_read_only}
+use Rattle.xa_driver.specs.Trace.{EachBranch}
+use Rattle.xa_atomicity.specs.Tabled.{Tabled}
+use Rattle.xa_atomicity.proofs.Settled.{Both, Fated, InHistory, counts_committed, each_both, each_fated, keeps_votes, tells_fates, outcome_map}
+use Rattle.xa_session.specs.Committing.{branches_of}
+use Rattle.xa_words.specs.Tran.{TranName}
+use Rattle.xa_grammar.specs.declared.step.CommitAll.{CommitAll}
+use Rattle.xa_grammar.specs.Steps.{ScriptStep}
+use Rattle.xa_grammar.specs.Content.{Content}
+use Rattle.xa_transcript.specs.declared.answer.Told.{Told}
+use Rattle.xa_telling.specs.Parts.{Part}
+use Rattle.xa_base.specs.Lists.{Chain}
+use Rattle.xa_base.specs.Lists.Chain.{none, more}
+use Rattle.xa_telling.specs.Commits.{CarriesOut, Decides}
+use Rattle.xa_driver.specs.Course.{AtBranch}
+use Rattle.xa_telling.specs.Journals.{Line, TakesPart, AreCarriedOut, ShowsCommit, entries_of}
+use Rattle.xa_telling.specs.ToldOpenings.{Beginning, Opening, TellsOf}
+use Rattle.xa_shown.specs.Outcomes.{IsOneOutcome, ShowsOneOutcome, Place, IsAsShown, CountsAsShown, entered_so_far}
+use Rattle.xa_telling.proofs.Entries.{agreed_fits}
+use Rattle.xa_shown.proofs.Shown.{decided_so, committed_yes, committed_done, none_against}
+use Rattle.xa_shown.proofs.Placed.{chain_adds}
+use Rattle.xa_shown.proofs.Became.{entered, branch_entered}
+use Rattle.xa_shown.proofs.Adds.{Adds}
+use Rattle.xa_driver.proofs.Mapped.{Any}
+use Rattle.xa_atomicity.proofs.Sites.{Sent}
+
+-- ---- lists of outcomes
+
+-- each with what holds of its vote, and of its ending
+with_votes : (P : Branch → Code → Ending → Type 0) (p : Code → Bool) (bs : List Branch) (vs : List Code) (es : List Ending) → list_any p vs ≡ false
+    → EachOutcome P bs vs es → EachOutcome (λ b v e. (p v ≡ false) × P b v e) bs vs es
+with_votes P p [] [] [] never h = tt
+with_votes P p (b ∷ bs) (v ∷ vs) (e ∷ es) never h = let parts = or_parts (p v) (list_any p vs) never in ((parts.0, h.0), with_votes P p bs vs es parts.1 h.1)
+with_votes P p bs vs es never h = absurd h
+
+with_endings : (P : Branch → Code → Ending → Type 0) (p : Ending → Bool) (bs : List Branch) (vs : List Code) (es : List Ending) → list_any p es ≡ false
+    → EachOutcome P bs vs es → EachOutcome (λ b v e. (p e ≡ false) × P b v e) bs vs es
+with_endings P p [] [] [] never h = tt
+with_endings P p (b ∷ bs) (v ∷ vs) (e ∷ es) never h =
+    let parts = or_parts (p e) (list_any p es) never in ((parts.0, h.0), with_endings P p bs vs es parts.1 h.1)
+with_endings P p bs vs es never h = absurd h
+
+all_endings : (P : Branch → Code → Ending → Type 0) (Q : Ending → Type 0) → ((b : Branch) (v : Code) (e : Ending) → P b v e → Q e)
+    → (bs : List Branch) (vs : List Code) (es : List Ending) → EachOutcome P bs vs es → All Q es
+all_endings P Q so [] [] [] h = All-nil Q
+all_endings P Q so (b ∷ bs) (v ∷ vs) (e ∷ es) h = All-cons Q e es (so b v e h.0) (all_endings P Q so bs vs es h.1)
+all_endings P Q so bs vs es h = absurd h
+
+no_ending_is : (P : Branch → Code → Ending → Type 0) (p : Ending → Bool) → ((b : Branch) (v : Code) (e : Ending) → P b v e → p e ≡ false)
+    → (bs : List Branch) (vs : List Code) (es : List Ending) → EachOutcome P bs vs es → list_any p es ≡ false
+no_ending_is P p so [] [] [] h = refl
+no_ending_is P p so (b ∷ bs) (v ∷ vs) (e ∷ es) h = λ i. so b v e h.0 i || no_ending_is P p so bs vs es h.1 i
+no_ending_is P p so bs vs es h = absurd h
+
+-- without the second codes
+outcomes_of : (P : Branch → Code → Option Code → Ending → Type 0) (bs : List Branch) (vs : List Code) (zs : List (Option Code)) (es : List Ending)
+    → EachBranch P bs vs zs es → EachOutcome (λ b v e. (z : Option Code) × P b v z e) bs vs es
+outcomes_of P [] [] [] [] h = tt
+outcomes_of P (b ∷ bs) (v ∷ vs) (z ∷ zs) (e ∷ es) h = ((z, h.0), outcomes_of P bs vs zs es h.1)
+outcomes_of P bs vs zs es h = absurd h
+
+-- ---- endings
+
+-- by its vote and some second code
+abbrev Ends : Bool → Branch → Code → Ending → Type 0
+Ends commit b v e = (z : Option Code) × (e ≡ ending_of commit v z)
+
+-- a yes vote isn't rolled back where the transaction commits
+yes_stays : (z : Option Code) → is_rolled_back (yes_ending true z) ≡ false
+yes_stays None = refl
+yes_stays (Some c) = stays (is_done c) (is_rm_fail c) (is_heuristic_code c)
+  where
+    stays : (a b h : Bool) → is_rolled_back (if a then Committed else (if b then InDoubt else (if h then Heuristic c else Left c))) ≡ false
+    stays true b h = refl
+    stays false true h = refl
+    stays false false true = refl
+    stays false false false = refl
+
+stays_back : (v : Code) (z : Option Code) → is_no v ≡ false → is_rolled_back (ending_of true v z) ≡ false
+stays_back Done z e = yes_stays z
+stays_back RdOnly z e = refl
+stays_back v z e = absurd (cc)
+
+committed_so : (e : Ending) → is_committed e ≡ true → e ≡ Committed
+committed_so Committed e = refl
+committed_so x e = absurd (cc)
+
+-- nothing is committed where it aborts
+stays_out : (v : Code) (z : Option Code) → is_committed (ending_of false v z) ≡ false
+stays_out v z = elim (cases_Bool (is_committed (ending_of false v z))) [
+  | inl y ↦
+      let yes' = committed_yes (is_yes v) (is_read v) (rolls_back v) (is_out_of_reach v) false v z (committed_so (ending_of false v z) y) in
+      absurd (let e : false ≡ true = (committed_done false z yes'.1).0 in cc)
+  | inr n ↦ n
+]
+
+kept_so : (commit : Bool) → commit ≡ true → (b : Branch) (v : Code) (e : Ending) → (is_no v ≡ false) × Ends commit b v e → is_rolled_back e ≡ false
+kept_so commit is b v e h = ap is_rolled_back (h.1.1 ∙ ap (λ c. ending_of c v h.1.0) is) ∙ stays_back v h.1.0 h.0
+
+out_so : (commit : Bool) → commit ≡ false → (b : Branch) (v : Code) (e : Ending) → Ends commit b v e → is_committed e ≡ false
+out_so commit is b v e h = ap is_committed (h.1 ∙ ap (λ c. ending_of c v h.0) is) ∙ stays_out v h.0
+
+-- what is neither left nor rolled back
+rest_is : (e : Ending) → is_left e ≡ false → is_rolled_back e ≡ false → (is_committed e || (is_read_only e || (is_in_doubt e || is_heuristic e))) ≡ true
+rest_is Committed l r = refl
+rest_is ReadOnly l r = refl
+rest_is RolledBack l r = absurd (cc)
+rest_is InDoubt l r = refl
+rest_is (Heuristic c) l r = refl
+rest_is (Left c) l r = absurd (cc)
+
+certain_is : (e : Ending) → is_left e ≡ false → is_rolled_back e ≡ false → is_in_doubt e ≡ false → is_heuristic e ≡ false → is_read_only e ≡ false
+    → is_committed e ≡ true
+certain_is Committed l r d h o = refl
+certain_is ReadOnly l r d h o = absurd (cc)
+certain_is RolledBack l r d h o = absurd (cc)
+certain_is InDoubt l r d h o = absurd (cc)
+certain_is (Heuristic c) l r d h o = absurd (cc)
+certain_is (Left c) l r d h o = absurd (cc)
+
+-- ---- by the line alone
+
+module _ (t : ℕ) (c : CommitAll TranName) (done : Outcome) (old new : Part) (is : Decides t c done old new) where
+  abbrev own : List Branch
+  own = branches_of c
+
+  -- each branch has its ending
+  pub ends_all : EachOutcome (Ends done.commit) own done.votes.items done.endings.items
+  ends_all =
+      outcome_map (λ b v e. (z : Option Code) × AtBranch (CarriesOut t) done.commit b v z e (old.entries b.m) (new.entries b.m)) (Ends done.commit) (λ b v e h. (h.0, h.1.ends)) own done.votes.items done.endings.items
+      (outcomes_of (λ b v z e. AtBranch (CarriesOut t) done.commit b v z e (old.entries b.m) (new.entries b.m)) own done.votes.items is.course.seconds done.endings.items is.course.each)
+
+  pub unopposed : done.commit ≡ true → list_any is_no done.votes.items ≡ false
+  unopposed commit = none_against done.votes.items done.logged (sym is.course.decision ∙ commit)
+
+  pub one_outcome : IsOneOutcome done
+  one_outcome = record {
+    kept = λ commit.
+        no_ending_is (λ b v e. (is_no v ≡ false) × Ends done.commit b v e) is_rolled_back (kept_so done.commit commit) own done.votes.items done.endings.items
+        (with_votes (Ends done.commit) is_no own done.votes.items done.endings.items (unopposed commit) ends_all);
+    uncommitted = λ aborts. no_ending_is (Ends done.commit) is_committed (out_so done.commit aborts) own done.votes.items done.endings.items ends_all;
+  }
+
+-- ---- by the journals
+
+-- each with what is known of it twice
+each_and : (P Q : Branch → Code → Ending → Type 0) (bs : List Branch) (vs : List Code) (es : List Ending) → EachOutcome P bs vs es → EachOutcome Q bs vs es
+    → EachOutcome (λ b v e. P b v e × Q b v e) bs vs es
+each_and P Q [] [] [] h k = tt
+each_and P Q (b ∷ bs) (v ∷ vs) (e ∷ es) h k = ((h.0, k.0), each_and P Q bs vs es h.1 k.1)
+each_and P Q bs vs es h k = absurd h
+
+each_map : (P Q : Branch → Code → Option Code → Ending → Type 0) → ((b : Branch) (v : Code) (z : Option Code) (e : Ending) → P b v z e → Q b v z e)
+    → (bs : List Branch) (vs : List Code) (zs : List (Option Code)) (es : List Ending) → EachBranch P bs vs zs es → EachBranch Q bs vs zs es
+each_map P Q so [] [] [] [] h = tt
+each_map P Q so (b ∷ bs) (v ∷ vs) (z ∷ zs) (e ∷ es) h = (so b v z e h.0, each_map P Q so bs vs zs es h.1)
+each_map P Q so bs vs zs es h = absurd h
+
+module _ (law : Tabled) (opens : (s : Settling) (m : ℕ) → IsSettled s → (T : Tables) × IsOpenedWith s m T) (s : Settling) (settled : IsSettled s) (t : ℕ)
+    (c : CommitAll TranName) (done : Outcome) (old new : Part) (is : Decides t c done old new)
+    (grown : (m : ℕ) → Adds Any (new.entries m) (entries_of t (journal s m))) where
+  abbrev bs : List Branch
+  bs = branches_of c
+
+  abbrev each : (Branch → Code → Ending → Type 0) → Type 0
+  each P = EachOutcome P bs done.votes.items done.endings.items
+
+  -- how many requests the thread had sent each manager, by its entries
+  abbrev was : ℕ → Sent
+  was m = entered (old.entries m)
+
+  abbrev now : ℕ → Sent
+  now m = entered (new.entries m)
+
+  abbrev In : Branch → Code → Option Code → Ending → Type 0
+  In = InHistory law opens s t done.commit was now
+
+  in_history : (b : Branch) (v : Code) (z : Option Code) (e : Ending) → AtBranch (CarriesOut t) done.commit b v z e (old.entries b.m) (new.entries b.m)
+      → In b v z e
+  in_history b v z e at T with_T =
+      let agree = settled.agree t b.m in
+      let more = grown b.m in
+      branch_entered law t T with_T.opened (journal s b.m) with_T.codes (sent s t b.m) (collected s t b.m) (agreed_fits t (sent s t b.m) (collected s t b.m) (journal s b.m) agree) agree.carried
+      done.commit b v z e (old.entries b.m) (new.entries b.m) at (more.0, more.1)
+
+  each_in : EachBranch In bs done.votes.items is.course.seconds done.endings.items
+  each_in =
+      each_map (λ b v z e. AtBranch (CarriesOut t) done.commit b v z e (old.entries b.m) (new.entries b.m)) In in_history bs done.votes.items is.course.seconds done.endings.items is.course.each
+
+  -- ---- what became of them
+
+  module _ (alone : AreLeftOrDecided s t (branches_of c) (entered_so_far old) (entered_so_far new)) where
+    abbrev FatedSo : Branch → Code → Ending → Type 0
+    FatedSo b v e = Fated law opens s t b (was b.m).number v e × Ends done.commit b v e
+
+    all_fated : each FatedSo
+    all_fated =
+        each_and (λ b v e. Fated law opens s t b (was b.m).number v e) (Ends done.commit) bs done.votes.items done.endings.items
+        (each_fated law opens s t settled done bs is.course.seconds was now each_in alone) (ends_all t c done old new is)
+
+    pub as_shown : IsAsShown s t (branches_of c) old done
+    as_shown = record {
+      committed = λ commit.
+          all_endings (λ b v e. (is_no v ≡ false) × FatedSo b v e) (λ e. (is_committed e || (is_read_only e || (is_in_doubt e || is_heuristic e))) ≡ true)
+          (λ b v e h. rest_is e (h.1.0.unless_no h.0) (kept_so done.commit commit b v e (h.0, h.1.1))) bs done.votes.items done.endings.items
+          (with_votes FatedSo is_no bs done.votes.items done.endings.items (unopposed t c done old new is commit) all_fated);
+      aborted = (one_outcome t c done old new is).uncommitted;
+      votes = keeps_votes law opens s t settled done bs is.course.seconds was now each_in alone;
+      fates = tells_fates law opens s t settled done bs is.course.seconds was now each_in alone;
+    }
+
+  -- ---- what they count for
+
+  module _ (alone : AreLeftAlone s t (branches_of c) (entered_so_far old) (entered_so_far new)) where
+    pub left_or_decided : AreLeftOrDecided s t (branches_of c) (entered_so_far old) (entered_so_far new)
+    left_or_decided =
+        record { each = λ k d lt before after r place own number j e low named other. alone.each k d lt before after r place own number j e low named }
+
+    abbrev BothSo : Branch → Code → Ending → Type 0
+    BothSo b v e = Both law opens s t b (was b.m).number (now b.m).number v e × Ends done.commit b v e
+
+    all_both : each BothSo
+    all_both =
+        each_and (λ b v e. Both law opens s t b (was b.m).number (now b.m).number v e) (Ends done.commit) bs done.votes.items done.endings.items
+        (each_both law opens s t settled done bs is.course.seconds was now each_in alone) (ends_all t c done old new is)
+
+    all_count : done.commit ≡ true → list_any is_in_doubt done.endings.items ≡ false → each (λ b v e. Shares s t b (length (old.entries b.m)) done.commit)
+    all_count commit certain =
+        outcome_map (λ b v e. (is_in_doubt e ≡ false) × ((is_no v ≡ false) × BothSo b v e)) (λ b v e. Shares s t b (length (old.entries b.m)) done.commit)
+        (λ b v e h T with_T k d add.
+        let own = h.1.1.0 in
+        let same : is_committed e ≡ done.commit =
+        certain_is e (own.fated.unless_no h.1.0) (kept_so done.commit commit b v e (h.1.0, h.1.1.1)) h.0 (own.undecided h.1.0) (own.adders T with_T k d add)
+        ∙ sym commit in
+        own.counts T with_T k d add ∙ ap (λ q. if q then d else pos 0) same)
+        bs done.votes.items done.endings.items
+        (with_endings (λ b v e. (is_no v ≡ false) × BothSo b v e) is_in_doubt bs done.votes.items done.endings.items certain
+        (with_votes BothSo is_no bs done.votes.items done.endings.items (unopposed t c done old new is commit) all_both))
+
+    none_counts : done.commit ≡ false → each (λ b v e. Shares s t b (length (old.entries b.m)) done.commit)
+    none_counts aborts =
+        outcome_map BothSo (λ b v e. Shares s t b (length (old.entries b.m)) done.commit)
+        (λ b v e own T with_T k d add. own.0.counts T with_T k d add ∙ ap (λ q. if q then d else pos 0) (out_so done.commit aborts b v e own.1 ∙ sym aborts)) bs done.votes.items done.endings.items all_both
+
+    pub counts_as_shown : CountsAsShown s t (branches_of c) old done
+    counts_as_shown = record {
+      counts = counts_committed law opens s t settled done bs is.course.seconds was now each_in alone;
+      whole = λ certain. elim (cases_Bool (done.commit)) [ inl commit ↦ all_count commit certain | inr aborts ↦ none_counts aborts ];
+    }
+
+-- ---- line by line
+
+chain_steps : (settled : Settling) (first : Part) (ls : List Line) (last : Part) → Chain (TakesPart settled) first ls last
+    → All (λ l. (old : Part) × (new : Part) × TakesPart settled l old new) ls
+chain_steps settled first ls last (none xs end e f) =
+    subst (All (λ l. (old : Part) × (new : Part) × TakesPart settled l old new)) (sym e) (All-nil (λ l. (old : Part) × (new : Part) × TakesPart settled l old new))
+chain_steps settled first ls last (more xs x now end before step) =
+    All-append (λ l. (old : Part) × (new : Part) × TakesPart settled l old new) xs (x ∷ []) (chain_steps settled first xs now before)
+    (All-cons (λ l. (old : Part) × (new : Part) × TakesPart settled l old new) x [] (now, end, step) (All-nil (λ l. (old : Part) × (new : Part) × TakesPart settled l old new)))
+
+pub all_one_outcome : (steps : List ScriptStep) (answers : List Told) (settled : Settling) (t : ℕ) (first : Part) (told : AreCarriedOut steps answers settled t first)
+    → All ShowsOneOutcome told.lines
+all_one_outcome steps answers settled t first told k d below c done shows =
+    let step = chain_steps settled first told.lines _ told.carried k d below in
+    one_outcome (slice_index_or told.lines k d).task.thread c done step.0 step.1 (decided_so settled (slice_index_or told.lines k d) c done step.0 step.1 shows step.2)
+
+-- a line of its thread
+module _ (law : Tabled) (opens : (s : Settling) (m : ℕ) → IsSettled s → (T : Tables) × IsOpenedWith s m T) (s : Content) (b : Beginning) (o : Opening)
+    (tells : TellsOf s b o) (c : CommitAll TranName) (done : Outcome)
+    (before : List Line) (l : Line) (after : List Line) (old new : Part) (place : Place (tells.carried l.task.thread) before l after old new) (shows : ShowsCommit l c done) where
+  -- whose branches are left alone but for heuristic decisions
+  pub shown_so : AreLeftOrDecided o.settled l.task.thread (branches_of c) (entered_so_far old) (entered_so_far new)
+      → IsAsShown o.settled l.task.thread (branches_of c) old done
+  shown_so alone =
+      as_shown law opens o.settled tells.agree l.task.thread c done old new (decided_so o.settled l c done old new shows place.takes) (λ m. chain_adds o.settled new after _ place.later m) alone
+
+  -- or left alone
+  pub counts_so : AreLeftAlone o.settled l.task.thread (branches_of c) (entered_so_far old) (entered_so_far new)
+      → IsAsShown o.settled l.task.thread (branches_of c) old done × CountsAsShown o.settled l.task.thread (branches_of c) old done
+  counts_so alone =
+      let is = decided_so o.settled l c done old new shows place.takes in
+      let grown : (m : ℕ) → Adds Any (new.entries m) (entries_of l.task.thread (journal o.settled m)) = λ m. chain_adds o.settled new after _ place.later m in
+      (shown_so (left_or_decided law opens o.settled tells.agree l.task.thread c done old new is grown alone), counts_as_shown law opens o.settled tells.agree l.task.thread c done old new is grown alone)

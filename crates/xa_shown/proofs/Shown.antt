@@ -1,0 +1,335 @@
+-- What a line shows stands in the journals.
+use Rattle.std.proofs.Common.{◌≡◌, ℕ, pos, Bool, true, false, ◌==◌, ◌||◌, not, List, [], ◌∷◌, ◌++◌, length, Option, Some, None, sym, refl, ap, ◌∙◌, subst}
+use Rattle.std.proofs.Common.{⊎_elim, inl, inr, zero, suc, ◌<◌, arith, slice_index_or}
+use Rattle.std.specs.Prelude.{get_or, slice_get, All, if◌then◌else◌}
+use Rattle.std.specs.List.{Contains, filter, list_any}
+use Rattle.std.proofs.lemmas.Bool.{cases_Bool, and_parts}
+use Rattle.std.proofs.lemmas.List.Elements.{Contains-append_left, Contains-push, Contains-push_cases, Contains-get_or, All-head, All-tail, All-contains}
+use Rattle.std.proofs.lemmas.List.Elements.{All-filter, All-contains_itself}
+use Rattle.xa_words.specs.Code.{number_of}
+use Rattle.xa_words.specs.Xid.{XidName}
+use Rattle.xa_words.specs.declared.code.Code.{Code}
+use Rattle.xa_words.specs.declared.code.Code.TheVariants.{Done, RdOnly, Retry, HeurMix, HeurRb, HeurCom, HeurHaz, RbRollback, RbCommFail, RbDeadlock}
+use Rattle.xa_words.specs.declared.code.Code.TheVariants.{RbIntegrity, RbOther, RbProto, RbTimeout, RbTransient, Async, RmErr, Nota, Inval, Proto, RmFail}
+use Rattle.xa_words.specs.declared.code.Code.TheVariants.{DupId, Outside}
+use Rattle.xa_words.specs.declared.request.Op.{Op}
+use Rattle.xa_words.specs.declared.request.Op.TheVariants.{Prepare, Commit, Rollback}
+use Rattle.xa_tables.specs.History.{is_done, is_rolled_back}
+use Rattle.xa_desk.specs.LedgerView.{is_rm_fail}
+use Rattle.xa_worker.specs.Journal.{Entry, entry}
+use Rattle.xa_switch.specs.Settling.{Settling, journal}
+use Rattle.xa_driver.specs.declared.branch.Branch.{Branch}
+use Rattle.xa_driver.specs.declared.done.Done.{Done as Outcome}
+use Rattle.xa_driver.specs.declared.done.Ending.{Ending}
+use Rattle.xa_driver.specs.declared.done.Ending.TheVariants.{Committed, ReadOnly, RolledBack, InDoubt, Heuristic, Left}
+use Rattle.xa_driver.specs.Commits.{is_commit}
+use Rattle.xa_driver.specs.Decision.{is_yes, is_read, is_no, decides_commit, has_yes}
+use Rattle.xa_driver.specs.Endings.{second_op, third_op, yes_ending, no_ending, is_out_of_reach, is_heuristic}
+use Rattle.xa_driver.specs.Course.{AsksFor, AtBranch}
+use Rattle.xa_driver.specs.Trace.{EachBranch, decision_of}
+use Rattle.xa_atomicity.proofs.Aborts.{IsNoCommit, on_abort, on_forget}
+use Rattle.xa_driver.proofs.Mapped.{Any, IsAskedFor, any_asked, for_by, rest_by}
+use Rattle.xa_shown.proofs.Adds.{Adds, adds_none, carries_on, decides_adds, takes_adds}
+use Rattle.xa_words.specs.Xid.{XidName}
+use Rattle.xa_words.specs.Tran.{TranName}
+use Rattle.xa_grammar.specs.declared.step.Called.{Called}
+use Rattle.xa_grammar.specs.declared.step.CommitAll.{CommitAll}
+use Rattle.xa_grammar.specs.declared.step.Action.TheVariants as action
+use Rattle.xa_grammar.specs.Steps.{ScriptAction, ScriptStep}
+use Rattle.xa_transcript.specs.declared.answer.Answer.{Answer}
+use Rattle.xa_transcript.specs.declared.answer.Told.{Told}
+use Rattle.xa_transcript.specs.declared.answer.Answer.TheVariants as answer
+use Rattle.xa_base.specs.Lists.{Chain}
+use Rattle.xa_base.specs.Lists.Chain.{none, more}
+use Rattle.xa_transcript.specs.declared.answer.Answer.TheVariants.{Called as shown}
+use Rattle.xa_session.specs.Committing.{branches_of}
+use Rattle.xa_telling.specs.Wants.{wanted_in, refusals, IsRefusal}
+use Rattle.xa_telling.specs.Parts.{Part, next_entry, CallTakes}
+use Rattle.xa_telling.specs.Commits.{CarriesOut, Decides, CommitTakes}
+use Rattle.xa_telling.proofs.Parts.{entry_here, same_number}
+use Rattle.xa_telling.specs.Journals.{Line, Takes, TakesPart, entries_of, AreCarriedOut, IsInJournal, IsCarriedOut, ShowsCommit, AreCommitted, ArePrepared}
+use Rattle.xa_telling.specs.Journals.{AddsNoCommit}
+use Rattle.xa_telling.specs.Wants.Wanted.{code_of, handle_for, completion, listing}
+use Rattle.xa_telling.specs.Parts.CallTakes.{answered, kept, refused, completes, lists}
+use Rattle.xa_telling.specs.Commits.CarriesOut.{carried, withheld}
+use Rattle.xa_telling.specs.Commits.CommitTakes.{refused as takes_none, decided}
+use Rattle.xa_base.proofs.Lists.{any_at, some_same}
+
+-- ---- codes
+
+done_is : (c : Code) → number_of c ≡ pos 0 → c ≡ Done
+done_is Done e = refl
+done_is RdOnly e = absurd (cc)
+done_is Retry e = absurd (cc)
+done_is HeurMix e = absurd (cc)
+done_is HeurRb e = absurd (cc)
+done_is HeurCom e = absurd (cc)
+done_is HeurHaz e = absurd (cc)
+done_is RbRollback e = absurd (cc)
+done_is RbCommFail e = absurd (cc)
+done_is RbDeadlock e = absurd (cc)
+done_is RbIntegrity e = absurd (cc)
+done_is RbOther e = absurd (cc)
+done_is RbProto e = absurd (cc)
+done_is RbTimeout e = absurd (cc)
+done_is RbTransient e = absurd (cc)
+done_is Async e = absurd (cc)
+done_is RmErr e = absurd (cc)
+done_is Nota e = absurd (cc)
+done_is Inval e = absurd (cc)
+done_is Proto e = absurd (cc)
+done_is RmFail e = absurd (cc)
+done_is DupId e = absurd (cc)
+done_is Outside e = absurd (cc)
+
+not_done : (k : ℕ) (c : Code) → k < 3 → slice_index_or (refusals false) k c ≡ c → c ≡ Done → ⊥
+not_done zero c below is e = let f : Inval ≡ Done = is ∙ e in cc
+not_done (suc zero) c below is e = let f : RmFail ≡ Done = is ∙ e in cc
+not_done (suc (suc zero)) c below is e = let f : RmErr ≡ Done = is ∙ e in cc
+not_done (suc (suc (suc k))) c below is e = omega (arith, below)
+
+no_refusal : (c : Code) → Contains (refusals false) c → c ≡ Done → ⊥
+no_refusal c is e = not_done is.0 c is.1 is.2 e
+
+-- ---- entries
+
+-- an entry of thread t with this op and this code
+abbrev HasEntry : ℕ → Op → Code → List Entry → Type 0
+HasEntry t o c es = (n : ℕ) × Contains es (entry (record { thread = t; number = n; op = o }) c)
+
+entered : (t : ℕ) (o : Op) (c : Code) (old new : List Entry) → new ≡ old ++ next_entry t old o c ∷ [] → HasEntry t o c new
+entered t o c old new is = (length old, subst (λ (es : List Entry). Contains es (next_entry t old o c)) (sym is) (Contains-push old (next_entry t old o c)))
+
+still_has : (t : ℕ) (o : Op) (c : Code) (old new : List Entry) → Adds Any old new → HasEntry t o c old → HasEntry t o c new
+still_has t o c old new a has =
+    (has.0, subst (λ (es : List Entry). Contains es (entry (record { thread = t; number = has.0; op = o }) c)) (sym a.1) (Contains-append_left old a.0 (entry (record { thread = t; number = has.0; op = o }) c) has.1))
+
+-- ---- a call
+
+same_op : (o p : Op) → code_of o ≡ code_of p → o ≡ p
+same_op o p e = cc
+
+-- the entries of a call's own manager, once it has answered XA_OK
+one_entered : (settled : Settling) (t : ℕ) (q : Called XidName) (a : Answer) (old new : Part) → CallTakes settled t q a old new → (o : Op)
+    → wanted_in q ≡ code_of o → a ≡ shown (pos 0) → HasEntry t o Done (new.entries q.manager)
+one_entered settled t q a old new (answered r c asks told is) o asked ok =
+    let own : r ≡ o = same_op r o (sym asks ∙ asked) in
+    let code : c ≡ Done = done_is c (same_number (number_of c) (pos 0) (sym told ∙ ok)) in
+    let m = q.manager in
+    let here : new.entries m ≡ old.entries m ++ next_entry t (old.entries m) r c ∷ [] = ap (λ (x : Part). x.entries m) is ∙ entry_here t m r c old in
+    subst (λ (d : Code). HasEntry t o d (new.entries m)) code (subst (λ (r : Op). HasEntry t r c (new.entries m)) own (entered t r c (old.entries m) (new.entries m) here))
+one_entered settled t q a old new (kept r c k asks low told free is) o asked ok = absurd (let e : handle_for r ≡ code_of o = sym asks ∙ asked in cc)
+one_entered settled t q a old new (refused c is told same) o asked ok =
+    absurd (no_refusal c (subst (λ r. IsRefusal r c) asked is) (done_is c (same_number (number_of c) (pos 0) (sym told ∙ ok))))
+one_entered settled t q a old new (lists n none_asked is) o asked ok = absurd (let e : listing n ≡ code_of o = sym none_asked ∙ asked in cc)
+one_entered settled t q a old new (completes r k c none_asked there code told same) o asked ok =
+    absurd (let e : completion ≡ code_of o = sym none_asked ∙ asked in cc)
+
+-- ---- a branch
+
+-- what was asked and answered another code than XAER_RMFAIL was carried out
+carried_out : (t : ℕ) (o : Op) (c : Code) (old new : List Entry) → CarriesOut t old o new c → is_rm_fail c ≡ false → HasEntry t o c new
+carried_out t o c old new (carried is) other = entered t o c old new is
+carried_out t o c old new (withheld fails shut same) other = absurd (let z : true ≡ false = sym (ap is_rm_fail fails) ∙ other in cc)
+
+-- and what a branch has stays, whatever else it is asked
+stays_there : (t u : ℕ) (p : Op) (d : Code) (old new : List Entry) (o : Op) (c : Code) → Any o → CarriesOut u old o new c → HasEntry t p d old
+    → HasEntry t p d new
+stays_there t u p d old new o c so is has = still_has t p d old new (carries_on Any u old old new o c tt is (adds_none Any old old refl)) has
+
+-- ---- a branch that ends as committed
+
+pub committed_yes : (yes' read back away : Bool) (commit : Bool) (v : Code) (s : Option Code)
+    → (if yes' then yes_ending commit s else (if read then ReadOnly else (if back then RolledBack else (if away then Left v else no_ending v s)))) ≡ Committed
+    → (yes' ≡ true) × (yes_ending commit s ≡ Committed)
+committed_yes true read back away commit v s e = (refl, e)
+committed_yes false true back away commit v s e = absurd (cc)
+committed_yes false false true away commit v s e = absurd (cc)
+committed_yes false false false true commit v s e = absurd (cc)
+committed_yes false false false false commit v s e = absurd (never s e)
+  where
+    one_of : (b h : Bool) (c : Code) → (if b then RolledBack else (if h then Heuristic c else Left c)) ≡ Committed → ⊥
+    one_of true h c e = cc
+    one_of false true c e = cc
+    one_of false false c e = cc
+
+    never : (s : Option Code) → no_ending v s ≡ Committed → ⊥
+    never None e = cc
+    never (Some c) e = one_of (is_done c || is_rolled_back c) (is_heuristic c) c e
+
+done_so : (c : Code) → is_done c ≡ true → c ≡ Done
+done_so Done e = refl
+done_so c e = absurd (cc)
+
+pub committed_done : (commit : Bool) (s : Option Code) → yes_ending commit s ≡ Committed → (commit ≡ true) × (s ≡ Some Done)
+committed_done commit None e = absurd (cc)
+committed_done commit (Some c) e =
+    let parts = both (is_done c) commit (is_rm_fail c) (is_heuristic c) e in (parts.1, ap (λ (d : Code). Some d) (done_so c parts.0))
+  where
+    both : (done' commit' shut heur : Bool)
+        → (if done' then (if commit' then Committed else RolledBack) else (if shut then InDoubt else (if heur then Heuristic c else Left c))) ≡ Committed
+        → (done' ≡ true) × (commit' ≡ true)
+    both true true shut heur e = (refl, refl)
+    both true false shut heur e = absurd (cc)
+    both false commit' true heur e = absurd (cc)
+    both false commit' false true e = absurd (cc)
+    both false commit' false false e = absurd (cc)
+
+chosen : (a b : Bool) (x y z : Option Op) → a ≡ true → b ≡ true → (if a then (if b then x else y) else z) ≡ x
+chosen true true x y z e f = refl
+chosen true false x y z e f = absurd (cc)
+chosen false b x y z e f = absurd (cc)
+
+branch_commits : (t : ℕ) (commit : Bool) (b : Branch) (v : Code) (s : Option Code) (e : Ending) (old new : List Entry)
+    → AtBranch (CarriesOut t) commit b v s e old new → e ≡ Committed → HasEntry t (Commit b.xid false) Done new
+branch_commits t commit b v s e old new is told =
+    let voted = committed_yes (is_yes v) (is_read v) (is_rolled_back v) (is_out_of_reach v) commit v s (sym is.ends ∙ told) in
+    let heard = committed_done commit s voted.1 in
+    let op : second_op commit b.xid v ≡ Some (Commit b.xid false) =
+    chosen commit (is_yes v) (Some (Commit b.xid false)) None (if is_read v || (is_rolled_back v || is_out_of_reach v) then None else Some (Rollback b.xid)) heard.0 voted.0 in
+    let obeyed : CarriesOut t is.prepared (Commit b.xid false) is.decided Done =
+    subst (λ (o : Option Op). AsksFor (CarriesOut t) o (Some Done) is.prepared is.decided) op (subst (λ (c : Option Code). AsksFor (CarriesOut t) (second_op commit b.xid v) c is.prepared is.decided) heard.1 is.obeys) in
+    for_by (CarriesOut t) Any (HasEntry t (Commit b.xid false) Done) (stays_there t t (Commit b.xid false) Done) (third_op b.xid s) is.third is.decided new (any_asked (third_op b.xid s)) is.forgets
+    (carried_out t (Commit b.xid false) Done is.prepared is.decided obeyed refl)
+
+-- ---- a branch that didn't vote against
+
+not_shut : (v : Code) → is_no v ≡ false → is_rm_fail v ≡ false
+not_shut RmFail e = absurd (cc)
+not_shut v e = refl
+
+branch_prepared : (t : ℕ) (commit : Bool) (b : Branch) (v : Code) (s : Option Code) (e : Ending) (old new : List Entry)
+    → AtBranch (CarriesOut t) commit b v s e old new → is_no v ≡ false → HasEntry t (Prepare b.xid) v new
+branch_prepared t commit b v s e old new is vote =
+    rest_by (CarriesOut t) Any (HasEntry t (Prepare b.xid) v) (stays_there t t (Prepare b.xid) v) commit b v s e old new is (any_asked (second_op commit b.xid v)) (any_asked (third_op b.xid s))
+    (carried_out t (Prepare b.xid) v old is.prepared is.prepares (not_shut v vote))
+
+pub none_against : (votes : List Code) (logged : Bool) → decision_of votes logged ≡ true → list_any is_no votes ≡ false
+none_against votes logged e = flipped (list_any is_no votes) (and_parts (decides_commit votes) (not (has_yes votes) || logged) e).0
+  where
+    flipped : (b : Bool) → not b ≡ true → b ≡ false
+    flipped true f = absurd (cc)
+    flipped false f = refl
+
+none_at : (p : Code → Bool) (xs : List Code) (k : ℕ) (x : Code) → list_any p xs ≡ false → slice_get xs k ≡ Some x → p x ≡ false
+none_at p xs k x none_there at = elim (cases_Bool (p x)) [ inl yes' ↦ absurd (let f : list_any p xs ≡ true = any_at p xs k x at yes' in cc) | inr no' ↦ no' ]
+
+-- ---- the k-th branch of a commit
+
+each_at : (P : Branch → Code → Option Code → Ending → Type 0) (bs : List Branch) (vs : List Code) (ss : List (Option Code)) (es : List Ending)
+    → EachBranch P bs vs ss es → (k : ℕ) (b : Branch) → slice_get bs k ≡ Some b
+    → (v : Code) × (s : Option Code) × (e : Ending) × (slice_get vs k ≡ Some v) × (slice_get es k ≡ Some e) × P b v s e
+each_at P [] [] [] [] each k b at = absurd (cc)
+each_at P (c ∷ bs) (v ∷ vs) (s ∷ ss) (e ∷ es) each zero b at = (v, s, e, refl, refl, subst (λ (x : Branch). P x v s e) (some_same c b at) each.0)
+each_at P (c ∷ bs) (v ∷ vs) (s ∷ ss) (e ∷ es) each (suc k) b at = each_at P bs vs ss es each.1 k b at
+each_at P bs vs ss es each k b at = absurd each
+
+-- what a commit shows of it
+module _ (t : ℕ) (c : CommitAll TranName) (done : Outcome) (old new : Part) (is : Decides t c done old new) where
+  abbrev At : Branch → Code → Option Code → Ending → Type 0
+  At b v s e = AtBranch (CarriesOut t) done.commit b v s e (old.entries b.m) (new.entries b.m)
+
+  commit_shows : (k : ℕ) (b : Branch) → slice_get (branches_of c) k ≡ Some b → slice_get done.endings.items k ≡ Some Committed
+      → HasEntry t (Commit b.xid false) Done (new.entries b.m)
+  commit_shows k b at told =
+      let x = each_at At (branches_of c) done.votes.items is.course.seconds done.endings.items is.course.each k b at in
+      branch_commits t done.commit b x.0 x.1 x.2 (old.entries b.m) (new.entries b.m) x.5 (some_same x.2 Committed (sym x.4 ∙ told))
+
+  commit_prepared : done.commit ≡ true → (k : ℕ) (b : Branch) → slice_get (branches_of c) k ≡ Some b
+      → (vote : Code) × (is_no vote ≡ false) × HasEntry t (Prepare b.xid) vote (new.entries b.m)
+  commit_prepared commit k b at =
+      let x = each_at At (branches_of c) done.votes.items is.course.seconds done.endings.items is.course.each k b at in
+      let vote = none_at is_no done.votes.items k x.0 (none_against done.votes.items done.logged (sym is.course.decision ∙ commit)) x.3 in
+      (x.0, vote, branch_prepared t done.commit b x.0 x.1 x.2 (old.entries b.m) (new.entries b.m) x.5 vote)
+
+-- ---- line by line
+
+no_element : (ls : List Line) (l : Line) → ls ≡ [] → Contains ls l → ⊥
+no_element ls l e there = let size = ap (λ xs. length xs) e in let below = there.1 in omega (arith, size, below)
+
+-- what a line has put into the journals is there after the last line
+module _ (settled : Settling) (l : Line) (Has : (ℕ → List Entry) → Type 0)
+    (stays : (old new : ℕ → List Entry) → ((m : ℕ) → Adds Any (old m) (new m)) → Has old → Has new)
+    (puts : (old new : Part) → TakesPart settled l old new → Has new.entries) (first : Part) where
+  chain_has : (ls : List Line) (p : Part) → Chain (TakesPart settled) first ls p → Contains ls l → Has p.entries
+  chain_has ls p (none xs last e f) there = absurd (no_element xs l e there)
+  chain_has ls p (more xs x now last before is) there =
+      ⊎_elim (λ (h : Contains xs l). stays now.entries last.entries (takes_adds settled x.task.action x.task.thread x.answer now last is) (chain_has xs now before h))
+      (λ (h : x ≡ l). puts now last (subst (λ (y : Line). TakesPart settled y now last) h is))
+      (Contains-push_cases xs x l there)
+
+-- what a thread has in a journal is in the journal
+in_filter : {A : Type 0} (p : A → Bool) (xs : List A) (x : A) → Contains (filter p xs) x → Contains xs x
+in_filter p xs x there = All-contains (Contains xs) (filter p xs) x (All-filter p (Contains xs) xs (All-contains_itself xs)) there
+
+in_journal : (settled : Settling) (t m u : ℕ) (o : Op) (c : Code) → HasEntry u o c (entries_of t (journal settled m)) → IsInJournal settled m u o c
+in_journal settled t m u o c has =
+    (has.0, in_filter (λ (e : Entry). e.0.thread == t) (journal settled m) (entry (record { thread = u; number = has.0; op = o }) c) has.1)
+
+-- what a commit has come to
+pub decided_so : (settled : Settling) (l : Line) (c : CommitAll TranName) (done : Outcome) (old new : Part) → ShowsCommit l c done → TakesPart settled l old new
+    → Decides l.task.thread c done old new
+decided_so settled l c done old new shows takes =
+    of_answer (subst (λ (a : Answer). CommitTakes l.task.thread c a old new) shows.tells (subst (λ (x : ScriptAction). Takes settled x l.task.thread l.answer old new) shows.asks takes))
+  where
+    same_done : (d e : Outcome) → answer.Decided d ≡ answer.Decided e → d ≡ e
+    same_done d e same = cc
+
+    not_refused : (d : Outcome) → answer.Decided d ≡ answer.Refused → ⊥
+    not_refused d same = cc
+
+    of_answer : CommitTakes l.task.thread c (answer.Decided done) old new → Decides l.task.thread c done old new
+    of_answer (takes_none told e) = absurd (not_refused done told)
+    of_answer (decided d told is) = subst (λ (x : Outcome). Decides l.task.thread c x old new) (sym (same_done done d told)) is
+
+module _ (steps : List ScriptStep) (answers : List Told) (settled : Settling) (t : ℕ) (first : Part) (told : AreCarriedOut steps answers settled t first) where
+  abbrev own : ℕ → List Entry
+  own m = entries_of t (journal settled m)
+
+  -- what each line puts into the journals is there
+  left_there : (k : ℕ) (d : Line) → k < length told.lines → (Has : (ℕ → List Entry) → Type 0)
+      → ((old new : ℕ → List Entry) → ((m : ℕ) → Adds Any (old m) (new m)) → Has old → Has new)
+      → ((old new : Part) → TakesPart settled (slice_index_or told.lines k d) old new → Has new.entries) → Has own
+  left_there k d below Has stays puts =
+      chain_has settled (slice_index_or told.lines k d) Has stays puts first told.lines (record { entries = own; handles = told.left; log = told.log; scan = told.scan }) told.carried (Contains-get_or told.lines k d below)
+
+  pub all_carried_out : All (IsCarriedOut settled) told.lines
+  all_carried_out k d below q o is asked ok =
+      let l = slice_index_or told.lines k d in
+      let u = l.task.thread in
+      in_journal settled t q.manager u o Done (left_there k d below (λ es. HasEntry u o Done (es q.manager)) (λ old new adding. still_has u o Done (old q.manager) (new q.manager) (adding q.manager)) (λ old new takes.
+      let so : CallTakes settled l.task.thread q l.answer old new = subst (λ (x : ScriptAction). Takes settled x l.task.thread l.answer old new) is takes in
+      one_entered settled l.task.thread q l.answer old new so o asked ok))
+
+  pub all_committed : All (AreCommitted settled) told.lines
+  all_committed k d below c done shows j b at ends =
+      let l = slice_index_or told.lines k d in
+      let u = l.task.thread in
+      in_journal settled t b.m u (Commit b.xid false) Done (left_there k d below (λ es. HasEntry u (Commit b.xid false) Done (es b.m)) (λ old new adding. still_has u (Commit b.xid false) Done (old b.m) (new b.m) (adding b.m))
+      (λ old new takes. commit_shows u c done old new (decided_so settled l c done old new shows takes) j b at ends))
+
+  pub all_prepared : All (ArePrepared settled) told.lines
+  all_prepared k d below c done shows commit j b at =
+      let l = slice_index_or told.lines k d in
+      let u = l.task.thread in
+      let has = left_there k d below (λ es. (vote : Code) × (is_no vote ≡ false) × HasEntry u (Prepare b.xid) vote (es b.m)) (λ old new adding h. (h.0, h.1, still_has u (Prepare b.xid) h.0 (old b.m) (new b.m) (adding b.m) h.2))
+      (λ old new takes. commit_prepared u c done old new (decided_so settled l c done old new shows takes) commit j b at) in
+      (has.0, has.1, in_journal settled t b.m u (Prepare b.xid) has.0 has.2)
+
+-- ---- a commit that aborts
+
+-- entries of ops of which none commits
+no_commits : (es : List Entry) → All (λ e. is_commit e.0.op ≡ false) es → list_any (λ e. is_commit e.0.op) es ≡ false
+no_commits [] all = refl
+no_commits (e ∷ es) all =
+    λ i. All-head (λ (e : Entry). is_commit e.0.op ≡ false) e es all i || no_commits es (All-tail (λ (e : Entry). is_commit e.0.op ≡ false) e es all) i
+
+pub aborts_commit_none : (t : ℕ) (c : CommitAll TranName) (done : Outcome) (old new : Part) → Decides t c done old new → done.commit ≡ false → (m : ℕ)
+    → AddsNoCommit (old.entries m) (new.entries m)
+aborts_commit_none t c done old new is aborts m =
+    let adds = decides_adds IsNoCommit m t c done old new (λ k d lt. record {
+      prepares = λ here. refl;
+      obeys = λ here v. subst (λ q. IsAskedFor IsNoCommit (second_op q (get_or (branches_of c) k d).xid v)) (sym aborts) (on_abort (get_or (branches_of c) k d).xid v);
+      forgets = λ here s. on_forget (get_or (branches_of c) k d).xid s;
+    }) is in
+    (adds.0, adds.1, no_commits adds.0 adds.2)

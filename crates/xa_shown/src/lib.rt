@@ -1,0 +1,103 @@
+//! What a transcript shows: laws alone, of what xa_telling says that the answers tell of the managers' journals.
+//!
+//! What is answered XA_OK is carried out; a line `commitall` shows one outcome, and each of its branches as what became
+//! of it; the values shown are sums of what the journals have. Nothing that runs stands on this crate.
+#![tactic(auto)]
+
+ghost use Rattle.std.specs.Prelude.{◌≡◌, ℕ, List, All, false, ◌++◌, ◌∷◌};
+ghost use Rattle.xa_switch.specs.Settling.{Settling};
+ghost use Rattle.xa_driver.specs.declared.done.Done.{Done};
+ghost use Rattle.xa_words.specs.Tran.{TranName};
+ghost use Rattle.xa_grammar.specs.declared.step.CommitAll.{CommitAll};
+ghost use Rattle.xa_grammar.specs.declared.script.Declared.{Declared};
+ghost use Rattle.xa_grammar.specs.Content.{Content, IsScript};
+ghost use Rattle.xa_transcript.specs.declared.answer.Told.{Told};
+ghost use Rattle.xa_session.specs.Committing.{branches_of};
+ghost use Rattle.xa_telling.specs.Parts.{Part};
+ghost use Rattle.xa_telling.specs.Commits.{Decides};
+ghost use Rattle.xa_telling.specs.Journals.{Line, AreCarriedOut, IsCarriedOut, ShowsCommit, AreCommitted};
+ghost use Rattle.xa_telling.specs.Journals.{ArePrepared, AddsNoCommit};
+ghost use Rattle.xa_telling.specs.ToldOpenings.{Beginning, Opening, Former, TellsOf, Tells};
+ghost use Rattle.xa_grammar.specs.Steps.{ScriptStep};
+ghost use Rattle.xa_atomicity.specs.Outcomes.{AreLeftAlone, AreLeftOrDecided};
+ghost use Rattle.xa_shown.specs.Outcomes.{Place, entered_so_far, AreNamedByNoOther};
+ghost use Rattle.xa_shown.specs.Outcomes.{ShowsOneOutcome, IsAsShown, CountsAsShown, IsSumOfShares};
+
+use xa_atomicity::tables_keep_to_their_laws;
+use xa_switch::laws::settled_journals_follow_the_tables;
+
+/// Each call without `TMASYNC` that answers XA_OK has its request in its manager's journal, with XA_OK.
+pub fn what_answers_ok_is_carried_out()
+    ensures { (steps : List ScriptStep) (answers : List Told) (settled : Settling) (t : ℕ) (first : Part)
+        (told : AreCarriedOut steps answers settled t first) → All (IsCarriedOut settled) told.lines }
+{}
+
+/// Each branch that a line shows as committed has its Commit in its manager's journal, with XA_OK.
+pub fn what_is_committed_has_its_commit()
+    ensures { (steps : List ScriptStep) (answers : List Told) (settled : Settling) (t : ℕ) (first : Part)
+        (told : AreCarriedOut steps answers settled t first) → All (AreCommitted settled) told.lines }
+{}
+
+/// Where a line shows that a transaction commits, each of its branches has its Prepare in its manager's
+/// journal, with XA_OK or XA_RDONLY.
+pub fn what_commits_was_prepared()
+    ensures { (steps : List ScriptStep) (answers : List Told) (settled : Settling) (t : ℕ) (first : Part)
+        (told : AreCarriedOut steps answers settled t first) → All (ArePrepared settled) told.lines }
+{}
+
+/// A line that shows that a transaction aborts adds no Commit to any journal.
+pub fn what_aborts_adds_no_commit()
+    ensures { (t : ℕ) (c : CommitAll TranName) (done : Done) (old new : Part) → Decides t c done old new
+        → done.commit ≡ false → (m : ℕ) → AddsNoCommit (old.entries m) (new.entries m) }
+{}
+
+/// Where a line shows `commit` none of its branches is shown as rolled back, and where it shows `abort` none
+/// as committed.
+pub fn one_outcome_is_shown()
+    ensures { (steps : List ScriptStep) (answers : List Told) (settled : Settling) (t : ℕ) (first : Part)
+        (told : AreCarriedOut steps answers settled t first) → All ShowsOneOutcome told.lines }
+{}
+
+/// Each line has a place among those of its thread.
+pub fn lines_have_their_places()
+    ensures { (steps : List ScriptStep) (answers : List Told) (settled : Settling) (t : ℕ) (first : Part)
+        (told : AreCarriedOut steps answers settled t first) (before : List Line) (l : Line) (after : List Line)
+        → told.lines ≡ before ++ l ∷ after → (old : Part) × (new : Part) × Place told before l after old new }
+{}
+
+/// All of a transaction or nothing, by what a transcript tells: where no line but that of its commit names a
+/// branch of it from that line on, each branch is shown as what became of it, and the values count what is shown
+/// as committed (clause `lines`). For that it is enough that in the journals nobody else names a branch after its
+/// Prepare; each is shown as what became of it also where heuristic decisions do (`journals`, `decisions`).
+pub fn branches_are_as_shown()
+    ensures decisions { (s : Content) (b : Beginning) (o : Opening) (tells : TellsOf s b o) (c : CommitAll TranName)
+        (done : Done) (before : List Line) (l : Line) (after : List Line) (old new : Part)
+        → Place (tells.carried l.task.thread) before l after old new → ShowsCommit l c done
+        → AreLeftOrDecided o.settled l.task.thread (branches_of c) (entered_so_far old) (entered_so_far new)
+        → IsAsShown o.settled l.task.thread (branches_of c) old done }
+    ensures journals { (s : Content) (b : Beginning) (o : Opening) (tells : TellsOf s b o) (c : CommitAll TranName)
+        (done : Done) (before : List Line) (l : Line) (after : List Line) (old new : Part)
+        → Place (tells.carried l.task.thread) before l after old new → ShowsCommit l c done
+        → AreLeftAlone o.settled l.task.thread (branches_of c) (entered_so_far old) (entered_so_far new)
+        → IsAsShown o.settled l.task.thread (branches_of c) old done
+        × CountsAsShown o.settled l.task.thread (branches_of c) old done }
+    ensures lines { (s : Content) (b : Beginning) (o : Opening) (tells : TellsOf s b o) (c : CommitAll TranName)
+        (done : Done) (before : List Line) (l : Line) (after : List Line)
+        → (tells.carried l.task.thread).lines ≡ before ++ l ∷ after
+        → ShowsCommit l c done → AreNamedByNoOther o.steps b.scans l.task.thread (branches_of c) after
+        → (old : Part) × (new : Part) × Place (tells.carried l.task.thread) before l after old new
+        × IsAsShown o.settled l.task.thread (branches_of c) old done
+        × CountsAsShown o.settled l.task.thread (branches_of c) old done }
+{
+    tables_keep_to_their_laws();
+    settled_journals_follow_the_tables();
+}
+
+/// The value of each key that is shown is that at the first opening and what the requests in its manager's journals
+/// have added to it.
+pub fn values_are_sums_of_shares()
+    ensures { (s : Content) (answers : List Told) (values : List Declared) (before : List Former) (last : Opening)
+        → IsScript s → Tells s answers values before last → All (IsSumOfShares s before last) values }
+{
+    settled_journals_follow_the_tables();
+}

@@ -1,0 +1,40 @@
+use Rattle.std.proofs.Common.{◌≡◌, ◌<◌, ◌∙◌, sym, ap, rules, length, get_or}
+use Rattle.std.specs.List.{list_any}
+use Rattle.std.proofs.lemmas.Bool.{or_from}
+use Rattle.std.proofs.lemmas.List.{take_all}
+use Rattle.std.proofs.lemmas.List.Folds.{list_any_at, list_any_more}
+use Rattle.xa_tables.specs.Held.{passes_at}
+use Rattle.xa_tables.proofs.HeldLemmas.{held_within, passes_read, none_held}
+use Rattle.xa_tables.proofs.accounts.any_at.Goals as goal
+
+pub bounds-accounts-place : goal.bounds-accounts-place
+bounds-accounts-place g c = held_within c.args.held.now c.args.accounts.now c.requires.held c.loop-place.place-index c.loop-place-test.true
+
+pub offset_bounds-accounts-place : goal.offset_bounds-accounts-place
+offset_bounds-accounts-place g c =
+    let within : get_or c.args.held.now c.loop-place.place-index 0 < length c.args.accounts.now =
+    held_within c.args.held.now c.args.accounts.now c.requires.held c.loop-place.place-index c.loop-place-test.true in
+    search rules
+
+pub returns-then-test : goal.returns-then-test
+returns-then-test g c passes agrees only =
+    let a = c.index-accounts-place.result in
+    let is : c.test.result ≡ passes a = agrees a c.test.result (search rules) in
+    let inside = held_within c.args.held.now c.args.accounts.now c.requires.held c.loop-place.place-index c.loop-place-test.true in
+    sym (list_any_at passes c.args.accounts.now (get_or c.args.held.now c.loop-place.place-index 0) a inside
+    (ap passes (sym c.index-accounts-place.is) ∙ sym is ∙ c.if-test.true))
+
+pub loop-place-preserved : goal.loop-place-preserved
+loop-place-preserved g c passes agrees =
+    let a = c.index-accounts-place.result in
+    let is : c.test.result ≡ passes a = agrees a c.test.result (search rules) in
+    let inside = held_within c.args.held.now c.args.accounts.now c.requires.held c.loop-place.place-index c.loop-place-test.true in
+    list_any_more (λ p. passes_at passes c.args.accounts.now p) c.args.held.now c.loop-place.place-index 0 c.loop-place-test.true
+    ∙ or_from _ _ (c.loop-place.invariant passes agrees)
+    (passes_read passes c.args.accounts.now (get_or c.args.held.now c.loop-place.place-index 0) a inside c.index-accounts-place.is ∙ sym is ∙ c.if-test.false)
+
+pub returns : goal.returns
+returns g c passes agrees only =
+    sym (none_held passes only c.args.held.now c.args.accounts.now c.requires.held
+    (ap (list_any (λ p. passes_at passes c.args.accounts.now p)) (sym (take_all c.loop-place.place-index c.args.held.now c.loop-place-test.false))
+    ∙ c.loop-place.invariant passes agrees))

@@ -1,0 +1,11 @@
+use Rattle.std.proofs.Common.{◌≡◌, Bool}
+use Rattle.std.specs.Fn.{FnReturnsAt}
+use Rattle.xa_words.specs.Xid.{XidName}
+use Rattle.xa_tables.specs.Accounts.{kept_where}
+use Rattle.xa_tables.proofs.HeldLemmas.{IsChanging}
+use Rattle.xa_tables.proofs.accounts.let_go.Given as goal
+
+abbrev pub invariant-loop-place : goal.invariant-loop-place
+invariant-loop-place g l =
+    (keep : XidName → Bool) → ((x : XidName) (b : Bool) → FnReturnsAt g.F.Fn l.keeps x b → b ≡ keep x)
+    → IsChanging (kept_where keep) l.held l.initial.accounts l.accounts l.place-index

@@ -1,5 +1,0 @@
-use Rattle.xa_telling.proofs.Shown.{all_carried_out}
-use Rattle.xa_telling.proofs.laws.what_answers_ok_is_carried_out.Goals as goal
-
-pub returns : goal.returns
-returns c = λ steps answers settled t first told. all_carried_out steps answers settled t first told

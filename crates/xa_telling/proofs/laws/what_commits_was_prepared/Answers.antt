@@ -1,5 +1,0 @@
-use Rattle.xa_telling.proofs.Shown.{all_prepared}
-use Rattle.xa_telling.proofs.laws.what_commits_was_prepared.Goals as goal
-
-pub returns : goal.returns
-returns c = λ steps answers settled t first told. all_prepared steps answers settled t first told
