@@ -1,6 +1,6 @@
 -- Each stage of a commit is one that was cut short, whatever else was done between them.
-use Rattle.std.specs.Prelude.{◌≡◌, ℕ, Bool, Option, Some, List, [], ◌∷◌, map, refl}
-use Rattle.std.proofs.Common.{get_or, sym, ap, ◌∙◌, subst}
+use Rattle.std.specs.Prelude.{◌≡◌, ℕ, Bool, true, false, not, ◌&&◌, ◌||◌, Option, Some, List, [], ◌∷◌, map, refl}
+use Rattle.std.proofs.Common.{inl, inr, get_or, sym, ap, ◌∙◌, subst}
 use Rattle.std.specs.List.{All}
 use Rattle.std.proofs.lemmas.List.Elements.{All-nil, All-cons, All-head, All-tail}
 use Rattle.xa_words.specs.Tran.{TranName}
@@ -21,12 +21,12 @@ use Rattle.xa_driver.specs.declared.stages.Told.{Told}
 use Rattle.xa_driver.specs.declared.stages.Forgetting.{Forgetting}
 use Rattle.xa_driver.specs.Asks.{Asks, EachAsk, HaveComeSoFar, IsBegun, SameAsks, collected, unasked}
 use Rattle.xa_atomicity.specs.Cut.{DidOther, EachVote, IsAsked, IsCut, IsTold, LeavesBranches, asking, forgetting, telling}
-use Rattle.xa_driver.specs.Decision.{yes_of}
+use Rattle.xa_driver.specs.Decision.{decides_commit, has_yes, yes_of}
 use Rattle.xa_driver.specs.Endings.{second_op, third_op, ending_of}
-use Rattle.xa_log.specs.Log.{LogState}
+use Rattle.xa_log.specs.Log.{LogState, IsEither, with_record}
 use Rattle.xa_driver.specs.Rounds.{code_of, ending_of_ask, first_ask, second_ask, third_ask, yes_asked}
-use Rattle.xa_driver.specs.Stages.{HasDecided, HasPrepared, HasTold, IsForgetting, IsPreparing, IsTelling}
-use Rattle.xa_driver.specs.Trace.{EachBranch, Logs, MayCommit, decision_of}
+use Rattle.xa_driver.specs.Stages.{HasDecided, HasPrepared, HasTold, HasVoted, IsForgetting, IsPreparing, IsTelling}
+use Rattle.xa_driver.specs.Trace.{EachBranch, IsTranOf, Logs, MayCommit, appended, decision_of, wants_record}
 use Rattle.xa_driver.proofs.Calls.{first_trace, second_code, second_is, second_trace, yes_is, one_tran}
 use Rattle.xa_atomicity.proofs.CutVotes.{Ended, did_nothing}
 use Rattle.xa_driver.proofs.Gathering.{same_itself}
@@ -194,6 +194,39 @@ pub told_is_cut : (bs : List Branch) (desk : DeskView) (mid tell late new : List
     → IsCut bs desk new log later t.known.endings.items
 told_is_cut bs desk mid tell late new log later p d t may first between second third after =
     forgetting_cut bs desk mid tell log later p d may first between second late new t third after new (map third_ask t.round.asks.items) (same_itself (map third_ask t.round.asks.items)) (none_so_far (map third_ask t.round.asks.items) new)
+
+-- ---- a commit that came to no decision
+
+decides : (a b : Bool) → (a && b) ≡ true → true ≡ (a && (not b || true))
+decides true true e = refl
+decides true false e = cc
+decides false b e = cc
+
+-- the stage that would have come, had the log told that it took the record
+abbrev logged_stage : Prepared → Decided
+logged_stage p = record { round = p.round; known = record p.known { commit = true; logged = true } }
+
+pub undecided_is_cut : (bs : List Branch) (desk : DeskView) (mid new : List LedgerView) (log later : LogState) (votes : List Code) (tran : TranName)
+    → MayCommit desk log bs → HasVoted bs desk.ledgers mid votes → LeavesBranches bs mid new → IsTranOf bs tran → wants_record votes ≡ true
+    → IsEither log later tran (yes_of bs votes) → IsCut bs desk new log later []
+undecided_is_cut bs desk mid new log later votes tran may voted between of_tran wanted either =
+    let p : Prepared = voted.stage in
+    let first = voted.prepared in
+    let asks : List Ask = p.round.asks.items in
+    let wants : wants_record p.known.votes.items ≡ true = ap wants_record voted.votes_are ∙ wanted in
+    let tran_is : tran ≡ p.tran = one_tran bs tran p.tran may.some of_tran first.tran in
+    let yes_are : yes_of bs votes ≡ yes_asked asks = ap (yes_of bs) (sym voted.votes_are ∙ first.votes) ∙ sym (yes_is bs asks first.same) in
+    elim either [
+      | inl same ↦ subst (λ (l : LogState). IsCut bs desk new log l []) (sym same) (prepared_is_cut bs desk mid new log p may first between)
+      | inr added ↦
+          decided_is_cut bs desk mid new log later p (logged_stage p) may first between (record {
+            round = refl;
+            votes = refl;
+            endings = refl;
+            decision = decides (decides_commit p.known.votes.items) (has_yes p.known.votes.items) wants;
+            logs = appended wants refl (added ∙ (λ i. with_record log (tran_is i) (yes_are i)));
+          })
+    ]
 
 -- ---- a round that is left
 

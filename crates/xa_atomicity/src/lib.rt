@@ -4,7 +4,8 @@
 //! A commit that was made is `commit_all`'s clause `made`; one that was cut short is what its stages promise. The
 //! desk's lists lead to what the settled opening has of its thread, since every call says that it goes on
 //! (`xa_desk::laws::desks_go_on` joins two such calls) and `settle` has the lists with which the desk ended. That
-//! nobody else names a branch after its Prepare is for the caller to know. Nothing that runs stands on this crate.
+//! nobody else names a branch after its Prepare is for the caller to know. The program doesn't stand on this crate;
+//! a caller may cite its laws, as xa_bank does.
 #![tactic(auto)]
 
 ghost use Rattle.xa_atomicity.specs.Tabled.{Tabled};

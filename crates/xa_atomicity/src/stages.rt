@@ -10,7 +10,9 @@ ghost use Rattle.xa_desk.specs.DeskView.{DeskView, ledger};
 ghost use Rattle.xa_desk.specs.Growth.{HaveGrown};
 ghost use Rattle.xa_driver.specs.declared.branch.Branch.{Branch};
 ghost use Rattle.xa_driver.specs.declared.done.Done.{Done};
-ghost use Rattle.xa_log.specs.Log.{LogState, record_of};
+ghost use Rattle.xa_words.specs.declared.code.Code.{Code};
+ghost use Rattle.xa_driver.specs.Decision.{yes_of};
+ghost use Rattle.xa_log.specs.Log.{LogState, IsEither, record_of};
 ghost use Rattle.xa_driver.specs.declared.stages.Prepared.{Prepared};
 ghost use Rattle.xa_driver.specs.declared.stages.Decided.{Decided};
 ghost use Rattle.xa_driver.specs.declared.stages.Told.{Told};
@@ -19,10 +21,10 @@ ghost use Rattle.xa_driver.specs.declared.stages.Preparing.{Preparing};
 ghost use Rattle.xa_driver.specs.declared.stages.Telling.{Telling};
 ghost use Rattle.xa_driver.specs.declared.stages.Forgetting.{Forgetting};
 ghost use Rattle.xa_driver.specs.Asks.{HaveComeSoFar, KeepsTheRest};
-ghost use Rattle.xa_driver.specs.Stages.{HasDecided, HasForgotten, HasPrepared, HasTold, IsForgetting, IsPreparing};
-ghost use Rattle.xa_driver.specs.Stages.{IsTelling, MayForget, MayTell};
+ghost use Rattle.xa_driver.specs.Stages.{HasDecided, HasForgotten, HasPrepared, HasTold, HasVoted, IsForgetting};
+ghost use Rattle.xa_driver.specs.Stages.{IsPreparing, IsTelling, MayForget, MayTell};
 ghost use Rattle.xa_driver.specs.UnderWay.{IsUnderWay};
-ghost use Rattle.xa_driver.specs.Trace.{AreBranchesRising, IsCommit, IsTranOf, MayCommit};
+ghost use Rattle.xa_driver.specs.Trace.{AreBranchesRising, IsCommit, IsTranOf, MayCommit, wants_record};
 ghost use Rattle.xa_atomicity.specs.Cut.{AreOthers, GoesByTheRecord, IsCut, LeavesBranches, NoneWasToldToCommit};
 ghost use Rattle.xa_atomicity.specs.Cut.{NoneWasToldToRollBack, is_recorded};
 ghost use Rattle.xa_driver.specs.declared.done.Ending.{Ending};
@@ -78,7 +80,8 @@ pub fn stages_follow()
 
 /// A stage of a commit that is let go is a commit that was cut short, whatever its thread did between its stages that
 /// leaves the branches: before it was decided, once it was, or once all branches were told, where it leaves the endings
-/// that it knew. The log is as the decision found it.
+/// that it knew. The log is as the decision found it. So is a commit that came to no decision, whichever records the
+/// log turns out to have.
 pub fn stages_are_cuts()
     ensures prepared { (bs : List Branch) (desk : DeskView) (mid new : List LedgerView) (log : LogState) (p : Prepared)
         → MayCommit desk log bs → HasPrepared bs desk.ledgers mid p → LeavesBranches bs mid new
@@ -86,6 +89,12 @@ pub fn stages_are_cuts()
     ensures decided { (bs : List Branch) (desk : DeskView) (mid new : List LedgerView) (log later : LogState)
         (p : Prepared) (d : Decided) → MayCommit desk log bs → HasPrepared bs desk.ledgers mid p
         → LeavesBranches bs mid new → HasDecided p log later d → IsCut bs desk new log later [] }
+
+    // Where nobody knew whether the log has the record, what the log has once it is opened again decides.
+    ensures undecided { (bs : List Branch) (desk : DeskView) (mid new : List LedgerView) (log later : LogState)
+        (votes : List Code) (tran : TranName) → MayCommit desk log bs → HasVoted bs desk.ledgers mid votes
+        → LeavesBranches bs mid new → IsTranOf bs tran → wants_record votes ≡ true
+        → IsEither log later tran (yes_of bs votes) → IsCut bs desk new log later [] }
     ensures told { (bs : List Branch) (desk : DeskView) (mid tell late new : List LedgerView) (log later : LogState)
         (p : Prepared) (d : Decided) (t : Told) → MayCommit desk log bs → HasPrepared bs desk.ledgers mid p
         → LeavesBranches bs mid tell → HasDecided p log later d → HasTold d tell late t → LeavesBranches bs late new

@@ -86,7 +86,11 @@ pub(crate) fn die<R: Wait, I: Idle>(
     if at == Point::Voted {
         return Ok(Some(prepared.let_go()));
     }
-    let decided = prepared.decide(log);
+    let decided = match prepared.decide(log) {
+        Ok(decided) => decided,
+        // No append to a log in memory has an unknown end.
+        Err(prepared) => return Ok(Some(prepared.let_go())),
+    };
     if at == Point::Decided {
         return Ok(Some(decided.let_go()));
     }

@@ -20,7 +20,7 @@ use xa_crew::Client;
 use xa_crew::laws::idles_go_on;
 use xa_desk::laws::desks_go_on;
 use xa_desk::{Desk, Idle};
-use xa_driver::{Branch, Done, DriverFault, commit_all, may_commit};
+use xa_driver::{Branch, CommitFault, Done, DriverFault, commit_all, may_commit};
 use xa_log::MemoryLog;
 use xa_switch::xa_call;
 use xa_words::{Call, Delta, EndHow, Key, Op, TMFAIL, TMNOFLAGS, Xid};
@@ -234,8 +234,12 @@ fn commit<R: Wait, I: Idle>(
     idles_go_on::<I>();
     match point {
         None => {
-            let done = commit_all(rt, alloc, desk, log, branches, idle)?;
-            Ok(TransferOutcome::Decided(done))
+            match commit_all(rt, alloc, desk, log, branches, idle) {
+                Ok(done) => Ok(TransferOutcome::Decided(done)),
+                Err(CommitFault::NoMemory) => Err(DriverFault::NoMemory),
+                // No append to a log in memory has an unknown end.
+                Err(CommitFault::Undecided(_)) => unreachable!(),
+            }
         }
         Some(at) => {
             let known = die(rt, alloc, desk, log, branches, at, idle)?;

@@ -179,6 +179,7 @@ impl Desk {
         ensures tickets { LeavesTickets self.old self.new }
         ensures fresh { IfOk result (λ t. (older : TicketView) → Owns self.old older → older.operation ≢ t.operation) }
     {
+        // What holds of the book, for the way out by a refusal.
         let _ = &self.book;
         if let Some(why) = self.reach_refusal(manager) {
             return Err(why);

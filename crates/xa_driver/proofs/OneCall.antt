@@ -2,6 +2,7 @@
 use Rattle.std.specs.Prelude.{◌≡◌, Bool, None, List, length, map, vec_capacity}
 use Rattle.std.proofs.Common.{sym, ap, ◌∙◌, subst, arith}
 use Rattle.xa_words.specs.Tran.{TranName}
+use Rattle.xa_words.specs.declared.code.Code.{Code}
 use Rattle.xa_desk.specs.LedgerView.{LedgerView}
 use Rattle.xa_desk.specs.DeskView.{DeskView}
 use Rattle.xa_driver.specs.declared.ask.Ask.{Ask}
@@ -16,7 +17,7 @@ use Rattle.xa_driver.specs.Decision.{yes_of}
 use Rattle.xa_log.specs.Log.{LogState, record_of}
 use Rattle.xa_driver.specs.Rounds.{code_of, ending_of_ask, second_ask, yes_asked}
 use Rattle.xa_driver.specs.Stages.{HasDecided, HasForgotten, HasPrepared, HasTold, MayForget, MayTell}
-use Rattle.xa_driver.specs.Trace.{AppendsOnce, IsTraceOfCommit, IsTranOf, Logs, MayCommit, decision_of}
+use Rattle.xa_driver.specs.Trace.{AppendsOnce, IsTraceOfCommit, IsTranOf, IsUnknown, Logs, MayCommit, decision_of}
 use Rattle.xa_driver.specs.UnderWay.{IsAtRest, MayAsk}
 use Rattle.xa_driver.proofs.Calls.{asks_long, call_by, last_can, next_can, same_long, seconds_long, yes_is, one_tran}
 
@@ -56,6 +57,19 @@ module _ (bs : List Branch) (old mid late new : List LedgerView) (log later : Lo
       subst (λ yes. AppendsOnce appends p.tran yes done.votes.items done.logged x y) yes_are
       (subst (λ votes. AppendsOnce appends p.tran (yes_asked firsts) votes done.logged x y) votes_are
       (subst (λ logged. AppendsOnce appends p.tran (yes_asked firsts) p.known.votes.items logged x y) logged_is asks))
+
+-- or ask it for one whose end is unknown
+pub lost_log : {L : Type 0} (bs : List Branch) (old new : List LedgerView) (p : Prepared) (first : HasPrepared bs old new p)
+    (knows : L → Type 0) (loses : TranName → List Bool → L → L → Type 0) (x y : L) (votes : List Code)
+    → p.known.votes.items ≡ votes → (t : TranName) → p.tran ≡ t
+    → IsUnknown knows loses p.tran (yes_asked p.round.asks.items) p.known.votes.items x y
+    → IsUnknown knows loses t (yes_of bs votes) votes x y
+lost_log bs old new p first knows loses x y votes votes_are t same lost =
+    let firsts : List Ask = p.round.asks.items in
+    let yes_are : yes_asked firsts ≡ yes_of bs votes = yes_is bs firsts first.same ∙ ap (yes_of bs) (sym first.votes ∙ votes_are) in
+    subst (λ (u : TranName). IsUnknown knows loses u (yes_of bs votes) votes x y) same
+    (subst (λ (ys : List Bool). IsUnknown knows loses p.tran ys votes x y) yes_are
+    (subst (λ (vs : List Code). IsUnknown knows loses p.tran (yes_asked firsts) vs x y) votes_are lost))
 
 -- ---- when the next may be done, with nothing in between
 

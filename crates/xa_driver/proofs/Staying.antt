@@ -15,7 +15,7 @@ use Rattle.xa_driver.specs.Asks.{asked, among_asks, Asks, EachAsk, KeepsDesk, Ke
 use Rattle.xa_driver.proofs.Gathering.{as_many_open}
 use Rattle.xa_driver.proofs.Kept.{asks_keep}
 use Rattle.xa_base.proofs.Truth.{by_if}
-use Rattle.xa_driver.proofs.Asking.{keeps_chain}
+use Rattle.xa_driver.proofs.Asking.{keeps_chain, keeps_start}
 
 -- the request of this number was sent and not collected
 pub record IsOpen (n : ℕ) (a : LedgerView) : Type 0 where
@@ -73,6 +73,16 @@ pub rest_kept : (ks : List Ask) (old new : DeskView) → Asks ks old.ledgers new
 rest_kept ks old new asks keeps =
     let left : LeavesOutstanding old.ledgers new.ledgers = asks_leave_outstanding ks old.ledgers new.ledgers asks in
     record { keeps = keeps; kept = asks_keep ks old new asks keeps; left = left; tickets = tickets_stay old new keeps left; free = as_many_open ks old.ledgers new.ledgers asks }
+
+-- a desk that is as it was keeps all
+pub rest_same : (old new : DeskView) → new ≡ old → KeepsTheRest old new
+rest_same old new same = subst (KeepsTheRest old) (sym same) (record {
+  keeps = keeps_start old;
+  kept = λ all. all;
+  left = λ o out. out;
+  tickets = tickets_stay old old (keeps_start old) (λ o out. out);
+  free = refl;
+})
 
 pub rest_chain : (a b c : DeskView) → KeepsTheRest a b → KeepsTheRest b c → KeepsTheRest a c
 rest_chain a b c p q = record {

@@ -4,6 +4,8 @@ use Rattle.xa_desk.specs.LedgerView.{LedgerView}
 use Rattle.xa_desk.specs.DeskView.{DeskView}
 use Rattle.xa_driver.specs.declared.ask.Ask.{Ask}
 use Rattle.xa_driver.specs.declared.branch.Branch.{Branch}
+use Rattle.xa_driver.specs.declared.done.CommitFault.{CommitFault}
+use Rattle.xa_driver.specs.declared.done.CommitFault.TheVariants.{NoMemory, Undecided}
 use Rattle.xa_driver.specs.declared.done.Done.{Done}
 use Rattle.xa_driver.specs.declared.round.Round.{Round}
 use Rattle.xa_driver.specs.declared.stages.Preparing.{Preparing}
@@ -14,6 +16,7 @@ use Rattle.xa_driver.specs.declared.stages.Told.{Told}
 use Rattle.xa_driver.specs.declared.stages.Forgetting.{Forgetting}
 use Rattle.xa_driver.specs.Asks.{Asks, SameAsks}
 use Rattle.xa_log.specs.Log.{LogState}
+use Rattle.xa_words.specs.declared.code.Code.{Code}
 use Rattle.xa_driver.specs.Rounds.{code_of, ending_of_ask, first_ask, second_ask, third_ask, yes_asked}
 use Rattle.xa_driver.specs.Trace.{IsTranOf, Logs, decision_of}
 use Rattle.xa_driver.specs.UnderWay.{IsAtRest, MayAsk}
@@ -55,6 +58,17 @@ pub record HasPrepared (bs : List Branch) (old new : List LedgerView) (p : Prepa
   pub votes : p.known.votes.items ≡ map code_of p.round.asks.items
   pub endings : HasRoomForEndings p.round p.known
   pub undecided : IsUndecided p.known
+
+-- of a commit without a decision, whose votes are known
+abbrev pub IfUndecided : (List Code → Type 0) → CommitFault → Type 0
+IfUndecided P NoMemory = Unit {0}
+IfUndecided P (Undecided votes) = P votes.items
+
+-- Each branch was asked to prepare, and answered with its vote, and the commit came no further.
+pub record HasVoted (bs : List Branch) (old new : List LedgerView) (votes : List Code) : Type 0 where
+  pub stage : Prepared
+  pub prepared : HasPrepared bs old new stage
+  pub votes_are : stage.known.votes.items ≡ votes
 
 -- it was decided by the votes, and what became of the log
 pub record HasDecided (p : Prepared) (log later : LogState) (d : Decided) : Type 0 where

@@ -84,6 +84,13 @@ pub record AppendsOnce {L : Type 0} (appends : TranName → List Bool → Bool �
   pub once : wants_record votes ≡ true → appends tran yes logged old new
   pub never : wants_record votes ≡ false → new ≡ old
 
+-- An append of the record has an unknown end: the votes want one, and what the log has isn't known any more.
+pub record IsUnknown {L : Type 0} (knows : L → Type 0) (loses : TranName → List Bool → L → L → Type 0) (tran : TranName)
+    (yes : List Bool) (votes : List Code) (old new : L) : Type 0 where
+  pub wanted : wants_record votes ≡ true
+  pub unknown : knows new → ⊥
+  pub lost : loses tran yes old new
+
 -- the votes decide commit, and no append failed
 abbrev pub decision_of : List Code → Bool → Bool
 decision_of votes logged = decides_commit votes && (not (has_yes votes) || logged)

@@ -42,6 +42,27 @@ pub enum DriverFault {
     NoMemory,
 }
 
+/// Why a commit came to no decision.
+#[derive(Debug, Drop)]
+pub enum CommitFault {
+    /// Memory was refused, and nothing was sent.
+    NoMemory,
+    /// Nobody knows whether the log has the record of the decision, so no branch was told any: each one that voted yes
+    /// is in doubt, until what the log has once it is opened again resolves it. With the votes, in the order of the
+    /// branches.
+    Undecided(Vec<Code>),
+}
+
+impl From<DriverFault> for CommitFault {
+    ghost use Rattle.xa_driver.specs.declared.done.CommitFault.TheVariants.{NoMemory};
+
+    ghost from_gives = { λ _ fault. fault ≡ NoMemory };
+
+    fn from(_fault: DriverFault) -> CommitFault {
+        CommitFault::NoMemory
+    }
+}
+
 impl From<AllocError> for DriverFault {
     ghost use Rattle.xa_driver.specs.declared.done.DriverFault.TheVariants.{NoMemory};
 

@@ -14,7 +14,7 @@ mod stages;
 
 pub use branch::Branch;
 pub use commit::commit_all;
-pub use done::{Done, DriverFault, Ending};
+pub use done::{CommitFault, Done, DriverFault, Ending};
 pub use may::may_commit;
 pub use resolved::{Outcome, ResolveFault, Resolved};
 pub use resolving::{may_resolve, resolve};

@@ -51,9 +51,10 @@ fn is_tran_of(branches: &[Branch], tran: Tran) -> bool
 }
 
 /// Whether `commit_all` may be called: 1 to 8 branches of one global transaction, at known managers in
-/// rising order, a free handle for each, room for three requests to each manager, and no record yet.
+/// rising order, a free handle for each, room for three requests to each manager, and a log that is known to have no
+/// record yet.
 pub fn may_commit<L: DecisionLog>(desk: &Desk, log: &L, branches: &[Branch]) -> bool
-    ensures { IsTrue result ↔ MayCommit desk.now (L.state log.now) branches.now }
+    ensures { IsTrue result ↔ (MayCommit desk.now (L.state log.now) branches.now × L.knows log.now) }
 {
     if branches.is_empty() || branches.len() > MOST_MANAGERS {
         return false;
@@ -71,5 +72,5 @@ pub fn may_commit<L: DecisionLog>(desk: &Desk, log: &L, branches: &[Branch]) -> 
     if !is_tran_of(branches, tran) {
         return false;
     }
-    log.has(&tran).is_none()
+    log.is_known() && log.has(&tran).is_none()
 }

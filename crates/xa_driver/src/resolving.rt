@@ -1,12 +1,10 @@
 //! Resolving what a reopening found left, by presumption.
-ghost use Rattle.std.specs.Prelude.{◌≡◌, ◌↔◌, ◌≤◌, ◌+◌, ◌++◌, ℕ, List, length, IfOk, OnOk, OnErr, IsTrue, vec_capacity};
+ghost use Rattle.std.specs.Prelude.{◌≡◌, ◌↔◌, ◌≤◌, ◌+◌, ◌++◌, ℕ, List, length, IfOk, OnErr, IsTrue, vec_capacity};
 ghost use Rattle.xa_base.specs.Lists.{IsUpTo};
-ghost use Rattle.xa_desk.specs.DeskView.{ledger, outstanding, room_at};
-ghost use Rattle.xa_desk.specs.Kept.{AllKept};
-ghost use Rattle.xa_desk.specs.Tickets.{LeavesTickets};
+ghost use Rattle.xa_desk.specs.DeskView.{ledger, room_at};
 ghost use Rattle.xa_switch.specs.Scans.{Answers, left_at};
 ghost use Rattle.xa_driver.specs.declared.resolved.Outcome.{Outcome};
-ghost use Rattle.xa_driver.specs.Asks.{KeepsDesk, LeavesOutstanding};
+ghost use Rattle.xa_driver.specs.Asks.{KeepsTheRest};
 ghost use Rattle.xa_driver.specs.Resolving.{is_to_commit, outcome_op, AsksLedger, AsksAlone};
 ghost use Rattle.xa_switch.specs.Scans.{AsksAndWaits};
 ghost use Rattle.xa_driver.specs.Resolving.{ResolvesBranch};
@@ -42,7 +40,8 @@ fn ask<R: Wait, I: Idle>(rt: &R, desk: &mut Desk, manager: u32, op: Op, idle: &m
 
 // Whether it is recorded that the branch is to be committed.
 fn is_to_commit<L: DecisionRecords>(log: &L, manager: u32, xid: &Xid) -> bool
-    requires { IsUpTo MOST_MANAGERS manager }
+    requires manager { IsUpTo MOST_MANAGERS manager }
+    requires known { L.knows log.now }
     ensures { result ≡ is_to_commit (L.records log.now) manager xid.now }
 {
     match log.has(&xid.tran()) {
@@ -71,6 +70,7 @@ fn resolve_branch<R: Wait, L: DecisionRecords, I: Idle>(
 ) -> Outcome
     requires manager { IsUpTo MOST_MANAGERS manager }
     requires room { 2 ≤ room_at desk.old.ledgers manager }
+    requires known { L.knows log.now }
     ensures resolves { ResolvesBranch AsksLedger (L.records log.now) manager result (ledger desk.old.ledgers manager)
         (ledger desk.new.ledgers manager) }
     ensures waits { ResolvesBranch (AsksAndWaits I.leads_by manager) (L.records log.now) manager result
@@ -107,6 +107,7 @@ fn resolve_at<R: Wait, L: DecisionRecords, I: Idle>(
     requires manager { IsUpTo MOST_MANAGERS manager }
     requires room { requests_for left.now ≤ room_at desk.old.ledgers manager }
     requires space { length outcomes.old.items + length left.now ≤ vec_capacity outcomes.old }
+    requires known { L.knows log.now }
     ensures resolves { (more : List Outcome) × (outcomes.new.items ≡ outcomes.old.items ++ more)
         × (length more ≡ length left.now) × ResolvesAt AsksLedger (L.records log.now) manager left.now more
         (ledger desk.old.ledgers manager) (ledger desk.new.ledgers manager)
@@ -151,16 +152,16 @@ fn has_room(desk: &Desk, scan: &Scan, manager: u32) -> bool
 }
 
 /// Whether `resolve` may be called: at each manager at which the scan has branches left, the desk has room for a
-/// request to open it and for two for each of them.
-pub fn may_resolve(desk: &Desk, scan: &Scan) -> bool
-    ensures { IsTrue result ↔ MayResolve desk.now scan.now }
+/// request to open it and for two for each of them; and the records of the log are known.
+pub fn may_resolve<L: DecisionRecords>(desk: &Desk, scan: &Scan, log: &L) -> bool
+    ensures { IsTrue result ↔ (MayResolve desk.now scan.now × L.knows log.now) }
 {
     for before in 0..MOST_MANAGERS as u32 {
         if !has_room(desk, scan, before + 1) {
             return false;
         }
     }
-    true
+    log.is_known()
 }
 
 /// Ends each branch that the reopening found left, by presumed abort (Mohan, Lindsay and Obermarck, 1986).
@@ -181,7 +182,8 @@ pub fn resolve<R: Wait, L: DecisionRecords, I: Idle>(
     log: &L,
     idle: &mut I,
 ) -> Result<Resolved, ResolveFault>
-    requires { MayResolve desk.old scan.now }
+    requires may { MayResolve desk.old scan.now }
+    requires known { L.knows log.now }
     ensures trace { IfOk result (λ r. IsTraceOfResolve scan.now
         (L.records log.now) desk.old.ledgers desk.new.ledgers r.outcomes.items) }
 
@@ -192,11 +194,7 @@ pub fn resolve<R: Wait, L: DecisionRecords, I: Idle>(
         (desk.old, idle.old) MOST_MANAGERS r.outcomes.items (desk.new, idle.new)) }
 
     // What is kept under the handles stays, and so does all that was outstanding, with its tickets.
-    ensures keeps { OnOk result (KeepsDesk desk.old desk.new) }
-    ensures kept { OnOk result (AllKept desk.old → AllKept desk.new) }
-    ensures left { OnOk result (LeavesOutstanding desk.old.ledgers desk.new.ledgers) }
-    ensures tickets { OnOk result (LeavesTickets desk.old desk.new) }
-    ensures free { OnOk result (outstanding desk.new.ledgers ≡ outstanding desk.old.ledgers) }
+    ensures keeps { KeepsTheRest desk.old desk.new }
 
     ensures unsent { OnErr result (desk.new ≡ desk.old) }
     ensures idle_stays { OnErr result (idle.new ≡ idle.old) }

@@ -4,8 +4,7 @@
 //! branches were told (`Told`). Between these are the rounds (`Preparing`, `Telling`, `Forgetting`), whose requests go
 //! out one by one. A coordinator that dies lets go of the stage that it holds, or leaves the round that it is in. That
 //! takes a call: a program that just drops a stage doesn't compile, so no commit is cut short unawares.
-ghost use Rattle.std.specs.Prelude.{◌≡◌, ◌≤◌, ◌↔◌, List, IfOk, IsTrue, OnErr, OnOk, None, length};
-ghost use Rattle.std.specs.Prelude.{◌≡◌, ◌↔◌, List, map, IfOk, IsTrue, OnErr, OnOk, None};
+ghost use Rattle.std.specs.Prelude.{◌≡◌, ◌≤◌, ◌↔◌, List, map, length, IfOk, IfErr, IfSome, IsTrue, OnErr, OnOk, None};
 ghost use Rattle.xa_desk.specs.DeskView.{DeskView};
 ghost use Rattle.xa_desk.specs.GoesOn.{GoesOn};
 ghost use Rattle.xa_desk.specs.Kept.{AllKept};
@@ -18,7 +17,7 @@ ghost use Rattle.xa_driver.specs.Rounds.{first_ask, second_ask, third_ask};
 ghost use Rattle.xa_driver.specs.Stages.{HasDecided, HasForgotten, HasPrepared, HasRoomForEndings, HasRoomForVotes};
 ghost use Rattle.xa_driver.specs.Stages.{HasTold, IsForgetting, IsPreparing, IsTelling, MayForget, MayTell};
 ghost use Rattle.xa_driver.specs.Rounds.{yes_asked};
-ghost use Rattle.xa_driver.specs.Trace.{AppendsOnce, Logs, MayCommit, decision_of, has_branch_at};
+ghost use Rattle.xa_driver.specs.Trace.{AppendsOnce, IsUnknown, Logs, MayCommit, decision_of, has_branch_at};
 ghost use Rattle.xa_driver.specs.UnderWay.{IsAtRest, IsUnderWay, LeavesInFlight, sent_count};
 
 use crate::branch::Branch;
@@ -31,7 +30,7 @@ use std::alloc::Global;
 use std::sync::Wait;
 use xa_base::MOST_MANAGERS;
 use xa_desk::{Desk, Idle};
-use xa_log::{CommitRecord, DecisionLog};
+use xa_log::{CommitRecord, DecisionLog, LogFault};
 use xa_words::{Code, ManagerSet, Tran};
 
 /// A commit that is asking its branches to prepare.
@@ -77,29 +76,32 @@ pub struct Forgetting {
     known: Done,
 }
 
-// Whether to commit, and whether that was logged.
+// Whether to commit, and whether that was logged; `None` where nobody knows whether it was.
 fn decide_by<L: DecisionLog>(
     log: &mut L,
     tran: Tran,
     yes: ManagerSet,
     votes: &[Code],
-) -> (bool, bool)
-    requires { record_of (L.state log.old) tran ≡ None }
-    ensures decision { result.0 ≡ decision_of votes.now result.1 }
-    ensures logs { Logs tran yes votes.now result.1 (L.state log.old) (L.state log.new) }
-    ensures appends { AppendsOnce L.appends tran yes votes.now result.1 log.old log.new }
+) -> Option<(bool, bool)>
+    requires known { L.knows log.old }
+    requires new { record_of (L.state log.old) tran ≡ None }
+    ensures decision { IfSome result (λ d. d.0 ≡ decision_of votes.now d.1) }
+    ensures logs { IfSome result (λ d. Logs tran yes votes.now d.1 (L.state log.old) (L.state log.new)) }
+    ensures appends { IfSome result (λ d. AppendsOnce L.appends tran yes votes.now d.1 log.old log.new) }
+    ensures known { IfSome result (λ d. L.knows log.new) }
+    ensures unknown { result ≡ None → IsUnknown L.knows L.loses tran yes votes.now log.old log.new }
 {
     if has_no(votes) {
-        return (false, false);
+        return Some((false, false));
     }
     if !has_yes(votes) {
-        return (true, false);
+        return Some((true, false));
     }
-    let appended = log.append(&CommitRecord { tran, yes });
-    if appended.is_err() {
-        return (false, false);
+    match log.append(&CommitRecord { tran, yes }) {
+        Ok(()) => Some((true, true)),
+        Err(LogFault::Refused) => Some((false, false)),
+        Err(LogFault::Unknown) => None,
     }
-    (true, true)
 }
 
 /// Begins to ask all branches of a global transaction to prepare; nothing is sent yet.
@@ -208,23 +210,34 @@ impl Prepared {
     }
 
     /// Decides by the votes, and logs a decision to commit where there is a vote for it: the commit point.
-    pub fn decide<L: DecisionLog>(self, log: &mut L) -> Decided
-        requires { record_of (L.state log.old) self.tran ≡ None }
-        ensures decided { HasDecided self (L.state log.old) (L.state log.new) result }
+    ///
+    /// Where nobody knows whether the log has the record, nothing is decided, and the commit comes back as it was: it
+    /// can only be let go.
+    pub fn decide<L: DecisionLog>(self, log: &mut L) -> Result<Decided, Prepared>
+        requires known { L.knows log.old }
+        requires new { record_of (L.state log.old) self.tran ≡ None }
+        ensures decided { IfOk result (HasDecided self (L.state log.old) (L.state log.new)) }
 
         // Where the votes want a record, it is appended once.
-        ensures appends { AppendsOnce L.appends self.tran (yes_asked self.round.asks.items) self.known.votes.items
-            result.known.logged log.old log.new }
+        ensures appends { IfOk result (λ d. AppendsOnce L.appends self.tran (yes_asked self.round.asks.items)
+            self.known.votes.items d.known.logged log.old log.new) }
+        ensures known { OnOk result (L.knows log.new) }
+
+        ensures undecided { IfErr result (λ p. p ≡ self) }
+        ensures unknown { OnErr result (IsUnknown L.knows L.loses self.tran (yes_asked self.round.asks.items)
+            self.known.votes.items log.old log.new) }
     {
         let Prepared {
             round,
             tran,
             mut known,
         } = self;
-        let (commit, logged) = decide_by(log, tran, yes_of(&round.asks), &known.votes);
+        let Some((commit, logged)) = decide_by(log, tran, yes_of(&round.asks), &known.votes) else {
+            return Err(Prepared { round, tran, known });
+        };
         known.commit = commit;
         known.logged = logged;
-        Decided { round, known }
+        Ok(Decided { round, known })
     }
 
     /// Lets the commit go, as a coordinator does that dies here, and tells what was known.

@@ -10,6 +10,7 @@ mod resolved;
 mod resolving;
 mod threads;
 mod told;
+mod undecided;
 mod woven;
 
 use std::alloc::Global;

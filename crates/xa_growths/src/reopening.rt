@@ -137,11 +137,11 @@ impl Resolver {
 
     /// Resolves what is left.
     pub(crate) fn resolve<R: Wait>(&mut self, rt: &R, alloc: Global) -> Came {
-        if !may_resolve(&self.desk, &self.scan) {
+        let log = MemoryLog::new(alloc);
+        if !may_resolve(&self.desk, &self.scan, &log) {
             return Came::Wrong;
         }
         let before = self.desk.room(1);
-        let log = MemoryLog::new(alloc);
         let (desk, idle) = (&mut self.desk, &mut self.workers);
         match resolve(rt, alloc, desk, &self.scan, &log, idle) {
             Ok(resolved) => Resolver::judge(&resolved.outcomes),

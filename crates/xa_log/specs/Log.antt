@@ -1,5 +1,5 @@
 -- The decision log: a finite map. A transaction that isn't there is presumed aborted.
-use Rattle.std.specs.Prelude.{◌≡◌, ◌≢◌, ℕ, ◌+◌, ◌-◌, ◌%◌, ◌^◌, ◌<◌, ◌≤◌, nat_lt, if◌then◌else◌, Bool, true, false}
+use Rattle.std.specs.Prelude.{◌≡◌, ◌≢◌, ◌⊎◌, ℕ, ◌+◌, ◌-◌, ◌%◌, ◌^◌, ◌<◌, ◌≤◌, nat_lt, if◌then◌else◌, Bool, true, false}
 use Rattle.std.specs.Prelude.{Option, List, [], ◌∷◌, refl}
 use Rattle.std.specs.List.{flat_map}
 use Rattle.std.specs.FinMap.{FinMap}
@@ -44,6 +44,10 @@ counted n = if nat_lt n (2 ^ 64 - 1) then n + 1 else n
 -- one more failure; there is no count at which it can't be told
 abbrev pub with_failure : LogState → LogState
 with_failure log = record log { failures = (log.failures + 1) % 2 ^ 64 }
+
+-- What a log has, once it is opened again, whose append of this record had an unknown end: it isn't there, or it is.
+abbrev pub IsEither : LogState → LogState → TranName → List Bool → Type 0
+IsEither log later t managers = (later ≡ log) ⊎ (later ≡ with_record log t managers)
 
 -- a log in memory: its state, how many appends there were, which one fails, and for how many more records it has room
 pub record LogView : Type 0 where

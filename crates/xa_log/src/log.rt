@@ -1,6 +1,7 @@
 //! The decision log.
-ghost use Rattle.std.specs.Prelude.{◌≡◌, OnOk, OnErr, None, List, Bool, is_ok};
+ghost use Rattle.std.specs.Prelude.{◌≡◌, ◌↔◌, OnOk, IsErrOf, IsTrue, None, List, Bool, true, false};
 ghost use Rattle.xa_words.specs.Tran.{TranName};
+ghost use Rattle.xa_log.specs.declared.log.LogFault.TheVariants.{Refused, Unknown};
 ghost use Rattle.xa_log.specs.Log.{LogState, Records, record_in, record_of, with_record, with_failure};
 
 use xa_words::{ManagerSet, Tran};
@@ -13,37 +14,59 @@ pub struct CommitRecord {
     pub yes: ManagerSet,
 }
 
-/// The log didn't take the record.
+/// Why a log doesn't answer that it has the record.
 #[derive(Clone, Copy, Debug, PartialEq, Eq)]
-pub struct LogFault;
+pub enum LogFault {
+    /// The record isn't there, and no crash brings it: the decision is abort.
+    Refused,
+    /// The record may be there, or not: neither decision may be told before the log is opened again.
+    Unknown,
+}
 
-/// What is known of the transactions that were decided to commit. One without a record is presumed aborted.
+/// What is known of the transactions that were decided to commit. One without a record is presumed aborted, so the
+/// records may be asked only while they are known.
 pub trait DecisionRecords {
     /// The records.
     ghost records: { Self → Records };
 
+    /// The records are known. Once an append had an unknown end they aren't, up to the log's own end.
+    ghost knows: { Self → Type 0 };
+
     /// The managers that voted yes, where there is a record of the transaction.
     fn has(&self, tran: &Tran) -> Option<ManagerSet>
+        requires known { knows self.now }
         ensures { result ≡ record_in (records self.now) tran.now };
+
+    /// Whether the records are known.
+    fn is_known(&self) -> bool
+        ensures { IsTrue result ↔ knows self.now };
 }
 
 /// What a coordinator decides by: records, to which it adds its own.
 pub trait DecisionLog: DecisionRecords {
-    /// The records, and how many appends failed.
+    /// The records, and how many appends were refused.
     ghost state: { Self → LogState };
 
     /// What an append of the record of this transaction, with these managers, does to the log, and whether it took it.
     ghost appends: { TranName → List Bool → Bool → Self → Self → Type 0 };
 
-    /// Adds a record of a transaction that has none. A failed append leaves the records, and is counted.
-    fn append(&mut self, decision: &CommitRecord) -> Result<(), LogFault>
-        requires { record_of (state self.old) decision.now.tran ≡ None }
-        ensures appended { OnOk result (state self.new ≡ with_record
-            (state self.old) decision.now.tran decision.now.yes) }
-        ensures failed { OnErr result (state self.new ≡ with_failure (state self.old)) }
-        ensures appends { appends decision.now.tran decision.now.yes (is_ok result) self.old self.new };
+    /// What an append with an unknown end does to the log.
+    ghost loses: { TranName → List Bool → Self → Self → Type 0 };
 
-    /// How many appends failed; after `u64::MAX` it counts from 0 again.
+    /// Adds a record of a transaction that has none. A refused append leaves the records, and is counted; after one
+    /// with an unknown end the records aren't known.
+    fn append(&mut self, decision: &CommitRecord) -> Result<(), LogFault>
+        requires known { Self.knows self.old }
+        requires new { record_of (state self.old) decision.now.tran ≡ None }
+        ensures appended { OnOk result (
+            (state self.new ≡ with_record (state self.old) decision.now.tran decision.now.yes)
+            × Self.knows self.new × appends decision.now.tran decision.now.yes true self.old self.new) }
+        ensures refused { IsErrOf result Refused → (state self.new ≡ with_failure (state self.old))
+            × Self.knows self.new × appends decision.now.tran decision.now.yes false self.old self.new }
+        ensures unknown { IsErrOf result Unknown → (Self.knows self.new → ⊥)
+            × loses decision.now.tran decision.now.yes self.old self.new };
+
+    /// How many appends were refused; after `u64::MAX` it counts from 0 again.
     fn failures(&self) -> u64
         ensures { result ≡ (state self.now).failures };
 

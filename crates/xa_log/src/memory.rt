@@ -1,5 +1,6 @@
 //! A decision log in memory.
-ghost use Rattle.std.specs.Prelude.{◌≡◌, ◌+◌, ◌<◌, ◌≤◌, OnOk, OnErr, IsErr, is_ok, true, false, refl};
+ghost use Rattle.std.specs.Prelude.{◌≡◌, ◌+◌, ◌<◌, ◌≤◌, OnOk, IsErr, IsErrOf, true, false, refl};
+ghost use Rattle.xa_log.specs.declared.log.LogFault.TheVariants.{Refused, Unknown};
 ghost use Rattle.xa_log.specs.Log.{no_records, with_record, with_failure, counted, AppendsTo};
 
 use crate::log::{CommitRecord, DecisionLog, DecisionRecords, LogFault};
@@ -8,7 +9,7 @@ use std::collections::HashMap;
 use std::marker::Model;
 use xa_words::{ManagerSet, Tran};
 
-/// A log that forgets all when it ends. Want of memory is a failed append.
+/// A log that forgets all when it ends. Want of memory is a refused append, and no append has an unknown end.
 #[derive(Drop)]
 pub struct MemoryLog {
     records: HashMap<Tran, ManagerSet>,
@@ -91,8 +92,14 @@ impl MemoryLog {
 impl DecisionRecords for MemoryLog {
     ghost records = { λ l. l.state.records };
 
+    ghost knows = { λ l. Unit {0} };
+
     fn has(&self, tran: &Tran) -> Option<ManagerSet> {
         self.records.get(tran).copied()
+    }
+
+    fn is_known(&self) -> bool {
+        true
     }
 }
 
@@ -101,13 +108,16 @@ impl DecisionLog for MemoryLog {
 
     ghost appends = { AppendsTo };
 
+    ghost loses = { λ tran yes old new. ⊥ };
+
     ghost records_are = { λ l. refl };
 
     fn append(&mut self, decision: &CommitRecord) -> Result<(), LogFault>
-        ensures appended { OnOk result (self.new.state ≡ with_record self.old.state decision.now.tran
-            decision.now.yes) }
-        ensures failed { OnErr result (self.new.state ≡ with_failure self.old.state) }
-        ensures appends { AppendsTo decision.now.tran decision.now.yes (is_ok result) self.old self.new }
+        ensures appended { OnOk result ((self.new.state ≡ with_record self.old.state decision.now.tran decision.now.yes)
+            × Unit {0} × AppendsTo decision.now.tran decision.now.yes true self.old self.new) }
+        ensures refused { IsErrOf result Refused → (self.new.state ≡ with_failure self.old.state)
+            × Unit {0} × AppendsTo decision.now.tran decision.now.yes false self.old self.new }
+        ensures unknown { IsErrOf result Unknown → ⊥ }
         ensures counted { self.new.appends ≡ counted self.old.appends }
         ensures kept { self.new.failing ≡ self.old.failing }
         ensures injected { counted self.old.appends ≡ self.old.failing → IsErr result }
@@ -115,11 +125,11 @@ impl DecisionLog for MemoryLog {
         self.count_append();
         if self.appends == self.failing as u64 {
             self.count_failure();
-            return Err(LogFault);
+            return Err(LogFault::Refused);
         }
         if !self.put(decision.tran, decision.yes) {
             self.count_failure();
-            return Err(LogFault);
+            return Err(LogFault::Refused);
         }
         Ok(())
     }

@@ -1,4 +1,5 @@
 //! The records of several logs, read as one.
+ghost use Rattle.std.specs.List.{All};
 ghost use Rattle.std.specs.Prelude.{map};
 ghost use Rattle.xa_log.specs.Log.{all_records};
 
@@ -9,8 +10,14 @@ use xa_words::{ManagerSet, Tran};
 impl<L: DecisionRecords> DecisionRecords for &L {
     ghost records = { λ log. L.records log.now };
 
+    ghost knows = { λ log. L.knows log.now };
+
     fn has(&self, tran: &Tran) -> Option<ManagerSet> {
         (**self).has(tran)
+    }
+
+    fn is_known(&self) -> bool {
+        (**self).is_known()
     }
 }
 
@@ -18,6 +25,8 @@ impl<L: DecisionRecords> DecisionRecords for &L {
 /// the first one's counts.
 impl<L: DecisionRecords> DecisionRecords for &[L] {
     ghost records = { λ logs. all_records (map L.records logs.now) };
+
+    ghost knows = { λ logs. All L.knows logs.now };
 
     fn has(&self, tran: &Tran) -> Option<ManagerSet> {
         for log in *self {
@@ -27,5 +36,14 @@ impl<L: DecisionRecords> DecisionRecords for &[L] {
             }
         }
         None
+    }
+
+    fn is_known(&self) -> bool {
+        for log in *self {
+            if !log.is_known() {
+                return false;
+            }
+        }
+        true
     }
 }

@@ -19,7 +19,7 @@ use Rattle.xa_session.specs.declared.session.Session.{Session}
 use Rattle.xa_transcript.specs.Ended.{all_ended}
 use Rattle.xa_telling.specs.ToldOpenings.{Beginning}
 use Rattle.xa_telling.specs.Runs.{Ran}
-use Rattle.xa_script.specs.declared.mode.Mode.TheVariants as mode
+use Rattle.xa_command.specs.declared.mode.Mode.TheVariants as mode
 use Rattle.xa_script.specs.InTurns.{Closing, HasEndedDesk, HaveEnded, InTurns, closing_of, turns_at}
 use Rattle.xa_script.specs.Outcome.{HasCome}
 use Rattle.xa_script.specs.TurnsSoFar.{Goes}

@@ -1,4 +1,3 @@
-pub mod CommandLemmas
 pub mod Results
 pub mod WorkersOn
 pub mod Kept

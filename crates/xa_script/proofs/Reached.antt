@@ -17,7 +17,7 @@ use Rattle.xa_transcript.specs.declared.answer.Told.TheVariants.{Reopened}
 use Rattle.xa_session.specs.declared.session.Session.{Session}
 use Rattle.xa_telling.specs.ToldOpenings.{Beginning, Opening, Former, beginning}
 use Rattle.xa_telling.proofs.Opened.{opened_threads, opened_managers}
-use Rattle.xa_script.specs.declared.mode.Mode.TheVariants as mode
+use Rattle.xa_command.specs.declared.mode.Mode.TheVariants as mode
 use Rattle.xa_script.specs.InTurns.{Steps, turns_at}
 use Rattle.xa_script.specs.Outcome.{Follows, IsOutcome}
 use Rattle.xa_script.specs.TurnsSoFar.{IsOpen, Goes, IsClosed, HasReached}

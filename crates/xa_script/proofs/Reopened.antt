@@ -23,7 +23,7 @@ use Rattle.xa_telling.specs.ToldOpenings.{Beginning, Opening, Leaves}
 use Rattle.xa_telling.proofs.Opened.{opened_threads}
 use Rattle.xa_telling.proofs.Told.{log_left, log_there}
 use Rattle.xa_telling.proofs.Again.{again_setup, may_reopen, next_beginning, leaves}
-use Rattle.xa_script.specs.declared.mode.Mode.TheVariants as mode
+use Rattle.xa_command.specs.declared.mode.Mode.TheVariants as mode
 use Rattle.xa_script.specs.Outcome.{HasCome, Follows}
 use Rattle.xa_script.specs.TurnsSoFar.{IsOpen}
 

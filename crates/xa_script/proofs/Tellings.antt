@@ -11,7 +11,7 @@ use Rattle.xa_telling.specs.ToldOpenings.{Beginning, Opening, Former, TellsOf, L
 use Rattle.xa_transcript.specs.Values.{opened_after, AreOfScript, AreValues}
 use Rattle.xa_telling.proofs.Told.{tells}
 use Rattle.xa_telling.proofs.Again.{of_script_after}
-use Rattle.xa_script.specs.declared.mode.Mode.{Mode}
+use Rattle.xa_command.specs.declared.mode.Mode.{Mode}
 use Rattle.xa_script.specs.Outcome.{HasCome, Follows, IsOutcome}
 
 module _ (m : Mode) (s : Content) where

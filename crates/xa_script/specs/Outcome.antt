@@ -16,8 +16,8 @@ use Rattle.xa_telling.specs.ToldOpenings.{Beginning, Opening, Former, Leaves, Te
 use Rattle.xa_telling.specs.ToldOpenings.{steps_over, answers_over}
 use Rattle.xa_telling.specs.Runs.{Ran}
 use Rattle.xa_transcript.specs.Transcript.{text}
-use Rattle.xa_script.specs.declared.mode.Mode.{Mode}
-use Rattle.xa_script.specs.declared.mode.Mode.TheVariants.{Turns, Threads}
+use Rattle.xa_command.specs.declared.mode.Mode.{Mode}
+use Rattle.xa_command.specs.declared.mode.Mode.TheVariants.{Turns, Threads}
 use Rattle.xa_script.specs.InTurns.{InTurns}
 use Rattle.xa_script.specs.InThreads.{InThreads}
 

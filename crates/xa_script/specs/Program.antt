@@ -1,7 +1,6 @@
 -- What the program answers, and what it has then shown.
-use Rattle.std.specs.Prelude.{◌≡◌, Bool, true, false, ◌⊎◌, ℕ, List, [], ◌∷◌, ◌++◌, Option, IfSome, Ok, Err, map, take}
+use Rattle.std.specs.Prelude.{◌≡◌, Bool, true, false, ◌⊎◌, ℕ, List, ◌++◌, Option, IfSome, Ok, Err, take}
 use Rattle.std.specs.Prelude.{codes, decimal}
-use Rattle.std.specs.Borrow.{Bor}
 use Rattle.std.specs.Io.KnownBytes.{Appends}
 use Rattle.xa_grammar.specs.declared.fault.Reason.{Reason}
 use Rattle.xa_grammar.specs.declared.fault.ScriptFault.TheVariants as script
@@ -9,8 +8,8 @@ use Rattle.xa_grammar.specs.Content.{Content}
 use Rattle.xa_grammar.specs.Faults.{reason_text}
 use Rattle.xa_grammar.specs.Grammar.{script_of}
 use Rattle.xa_transcript.specs.declared.writing.RunFault.TheVariants as run
-use Rattle.xa_script.specs.declared.mode.Mode.{Mode}
-use Rattle.xa_script.specs.declared.mode.Mode.TheVariants as mode
+use Rattle.xa_command.specs.declared.mode.Mode.{Mode}
+use Rattle.xa_command.specs.declared.mode.Mode.TheVariants as mode
 use Rattle.xa_script.specs.declared.entry.Fault.{Fault}
 use Rattle.xa_script.specs.declared.entry.Fault.TheVariants.{Usage, NoMemory, Script, Run}
 use Rattle.xa_script.specs.Outcome.{Writes}
@@ -19,19 +18,6 @@ use Rattle.xa_script.specs.Outcome.{Writes}
 abbrev pub has_threads : Mode → Bool
 has_threads mode.Turns = false
 has_threads mode.Threads = true
-
--- The word that stands for a mode.
-abbrev pub word_of : Mode → List ℕ
-word_of mode.Turns = codes "turns"
-word_of mode.Threads = codes "threads"
-
--- The words are the one word of this mode.
-abbrev pub IsMode : List (Bor (List ℕ)) → Mode → Type 0
-IsMode words m = map (λ w. w.now) words ≡ word_of m ∷ []
-
--- The words are the one word of a mode.
-abbrev pub AreWords : List (Bor (List ℕ)) → Type 0
-AreWords words = (m : Mode) × IsMode words m
 
 -- The exit status of a fault.
 abbrev pub status_of : Fault → ℕ

@@ -13,7 +13,7 @@ use Rattle.xa_session.specs.declared.session.Session.{Session}
 use Rattle.xa_telling.specs.Planning.{AreOpened}
 use Rattle.xa_telling.specs.ToldOpenings.{Beginning, Opening, Former, beginning}
 use Rattle.xa_telling.specs.Runs.{BeginsAs}
-use Rattle.xa_script.specs.declared.mode.Mode.TheVariants as mode
+use Rattle.xa_command.specs.declared.mode.Mode.TheVariants as mode
 use Rattle.xa_script.specs.InTurns.{HasMadeSteps, turns_at}
 use Rattle.xa_script.specs.Outcome.{HasCome, Follows}
 

@@ -1,23 +1,21 @@
 //! The program, over any reader and writers.
 ghost use Rattle.std.specs.Prelude.{◌≡◌, ◌≢◌, ◌⊎◌, ◌<◌, ◌≤◌, length, Err, OnOk, IfErr, IsErrOf, IfSome};
-ghost use Rattle.xa_script.specs.declared.mode.Mode.{Mode};
+ghost use Rattle.xa_command.specs.declared.mode.Mode.{Mode};
 ghost use Rattle.xa_grammar.specs.Content.{AreOfOne};
 ghost use Rattle.xa_script.specs.declared.entry.Fault.{Fault};
-ghost use Rattle.xa_script.specs.declared.entry.Fault.TheVariants.{NoMemory};
+ghost use Rattle.xa_command.specs.Words.{AreWords, IsMode};
 ghost use Rattle.xa_script.specs.Outcome.{Writes};
-ghost use Rattle.xa_script.specs.Program.{status_of, line_text, text_of, IsMode, AreWords, IsJudged, ShowsRun};
-ghost use Rattle.xa_script.specs.Program.{AppendsSome, IsFaulty, FailsBy, has_threads};
+ghost use Rattle.xa_script.specs.Program.{status_of, line_text, text_of, IsJudged, ShowsRun, AppendsSome, IsFaulty};
+ghost use Rattle.xa_script.specs.Program.{FailsBy, has_threads};
 
 use crate::in_threads::run_threads;
 use crate::in_turns::run_turns;
-use crate::mode::Mode;
-use clap::error::ErrorKind;
-use clap::{Arg, Command};
 use itoa::Buffer;
-use std::alloc::{AllocError, Global};
+use std::alloc::Global;
 use std::io::{IoSlice, Read, Write};
 use std::sync::Wait;
 use std::thread::Threads;
+use xa_command::{Mode, WordsFault, mode_of};
 use xa_grammar::{Reason, Script, ScriptFault, read_script};
 use xa_transcript::RunFault;
 use xa_worker::Free;
@@ -33,14 +31,6 @@ pub(crate) enum Fault {
     NoMemory,
     Script(ScriptFault),
     Run(RunFault),
-}
-
-impl From<AllocError> for Fault {
-    ghost from_gives = { λ _ fault. fault ≡ NoMemory };
-
-    fn from(_error: AllocError) -> Fault {
-        Fault::NoMemory
-    }
 }
 
 // The exit status of a fault.
@@ -91,48 +81,6 @@ fn tell<E: Write>(fault: Fault, err: &mut E)
         Fault::NoMemory | Fault::Script(ScriptFault::NoMemory) | Fault::Run(RunFault::NoMemory) => {
             put(OUT_OF_MEMORY, err)
         }
-    }
-}
-
-// Judges whether the words are the one word of a mode. A word that could be an option is judged before
-// clap reads it.
-fn judge(alloc: Global, words: &[&str]) -> Result<(), Fault>
-    ensures ok { OnOk result (AreWords words.now) }
-    ensures err { IfErr result IsJudged }
-    ensures usage { IsErrOf result Fault.Usage → ¬ AreWords words.now }
-    ensures several { length words.now ≢ 1 → result ≡ Err Fault.Usage }
-{
-    if words.len() != 1 || words[0].starts_with('-') {
-        return Err(Fault::Usage);
-    }
-    let mode = Arg::new(alloc, "mode")
-        .required(true)
-        .value_parser(["turns", "threads"].as_slice());
-    let command = Command::new(alloc, "xaswitch")
-        .no_binary_name(true)
-        .disable_help_flag(true)
-        .arg(mode)?;
-    match command.try_get_matches_from(words) {
-        Ok(_matches) => Ok(()),
-        Err(error) => {
-            if error.kind() == ErrorKind::OutOfMemory {
-                Err(Fault::NoMemory)
-            } else {
-                Err(Fault::Usage)
-            }
-        }
-    }
-}
-
-// The mode that the words are the one word of.
-fn mode_of(words: &[&str]) -> Mode
-    requires { AreWords words.now }
-    ensures { IsMode words.now result }
-{
-    if words[0] == "threads" {
-        Mode::Threads
-    } else {
-        Mode::Turns
     }
 }
 
@@ -209,8 +157,11 @@ fn carry_out<H: Threads + Wait + Copy + Send + 'static, R: Read, W: Write>(
     ensures err { IfErr result (λ fault. (mode : Mode) → IsMode words.now mode →
         FailsBy fault mode (R.remaining reader.old) (W.contents out.old) (W.contents out.new)) }
 {
-    judge(alloc, words)?;
-    show(rt, alloc, mode_of(words), reader, out)
+    match mode_of(alloc, words) {
+        Ok(mode) => show(rt, alloc, mode, reader, out),
+        Err(WordsFault::Usage) => Err(Fault::Usage),
+        Err(WordsFault::NoMemory) => Err(Fault::NoMemory),
+    }
 }
 
 /// The whole program: judges the words after its name, reads the script, runs it and writes its

@@ -7,7 +7,7 @@ ghost use Rattle.xa_telling.specs.ToldOpenings.{Opening};
 ghost use Rattle.xa_transcript.specs.declared.answer.Told.{Told};
 ghost use Rattle.xa_session.specs.ScriptThreads.{IsNew};
 ghost use Rattle.xa_transcript.specs.Text.{lines_text};
-ghost use Rattle.xa_script.specs.declared.mode.Mode.TheVariants as mode;
+ghost use Rattle.xa_command.specs.declared.mode.Mode.TheVariants as mode;
 ghost use Rattle.xa_script.specs.InThreads.{told_by};
 ghost use Rattle.xa_script.specs.Outcome.{IsOutcome, Writes};
 

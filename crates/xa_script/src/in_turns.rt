@@ -5,7 +5,7 @@ ghost use Rattle.xa_desk.specs.Kept.{AllKept};
 ghost use Rattle.xa_grammar.specs.Steps.{ScriptStep};
 ghost use Rattle.xa_grammar.specs.Content.{Content};
 ghost use Rattle.xa_telling.specs.ToldOpenings.{Beginning, Opening, Former, beginning};
-ghost use Rattle.xa_script.specs.declared.mode.Mode.TheVariants as mode;
+ghost use Rattle.xa_command.specs.declared.mode.Mode.TheVariants as mode;
 ghost use Rattle.xa_script.specs.InTurns.{stage_of, closing_of, HasCalled, HasTurned, HaveEnded};
 ghost use Rattle.xa_script.specs.TurnsSoFar.{IsOpen, Goes, IsClosed};
 ghost use Rattle.xa_script.specs.Outcome.{Follows, IsOutcome, Writes};

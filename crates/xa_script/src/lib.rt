@@ -11,7 +11,6 @@
 mod entry;
 mod in_threads;
 mod in_turns;
-mod mode;
 mod outcome;
 mod plan;
 

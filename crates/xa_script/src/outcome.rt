@@ -3,7 +3,7 @@ ghost use Rattle.std.specs.Prelude.{◌≡◌, List, OnOk, IsErrOf};
 ghost use Rattle.xa_transcript.specs.declared.answer.Told.{Told};
 ghost use Rattle.xa_transcript.specs.Text.{lines_text};
 ghost use Rattle.xa_telling.specs.ToldOpenings.{Former, Opening};
-ghost use Rattle.xa_script.specs.declared.mode.Mode.{Mode};
+ghost use Rattle.xa_command.specs.declared.mode.Mode.{Mode};
 ghost use Rattle.xa_script.specs.Outcome.{IsRun, IsOutcome, Writes};
 
 use std::alloc::Global;

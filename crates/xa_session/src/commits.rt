@@ -13,7 +13,7 @@ use std::sync::Wait;
 use xa_base::MOST_MANAGERS;
 use xa_desk::laws::desks_go_on;
 use xa_desk::{Desk, Idle};
-use xa_driver::{Branch, DriverFault, commit_all, may_commit};
+use xa_driver::{Branch, CommitFault, commit_all, may_commit};
 use xa_grammar::CommitAll;
 use xa_log::MemoryLog;
 use xa_transcript::Answer;
@@ -69,6 +69,8 @@ pub(crate) fn commit<R: Wait, I: Idle>(
     }
     match commit_all(rt, alloc, desk, log, &branches, idle) {
         Ok(done) => Ok(Answer::Decided(done)),
-        Err(DriverFault::NoMemory) => Err(AllocError),
+        Err(CommitFault::NoMemory) => Err(AllocError),
+        // No append to a log in memory has an unknown end.
+        Err(CommitFault::Undecided(_)) => unreachable!(),
     }
 }

@@ -33,7 +33,7 @@ pub(crate) fn resolve_left<R: Wait, I: Idle>(
     ensures prompt { ¬ MayResolve desk.old scan.now → idle.new ≡ idle.old }
 {
     desks_go_on();
-    if !may_resolve(desk, scan) {
+    if !may_resolve(desk, scan, log) {
         return Ok(Answer::Refused);
     }
     match resolve(rt, alloc, desk, scan, log, idle) {

@@ -61,8 +61,14 @@ struct Watching<'a> {
 impl DecisionRecords for Watching<'_> {
     ghost records = { λ l. l.inner.state.records };
 
+    ghost knows = { λ l. Unit {0} };
+
     fn has(&self, tran: &Tran) -> Option<ManagerSet> {
         self.inner.has(tran)
+    }
+
+    fn is_known(&self) -> bool {
+        true
     }
 }
 
@@ -70,6 +76,8 @@ impl DecisionLog for Watching<'_> {
     ghost state = { λ l. l.inner.state };
 
     ghost appends = { λ tran yes taken old new. AppendsTo tran yes taken old.inner new.inner };
+
+    ghost loses = { λ tran yes old new. ⊥ };
 
     ghost records_are = { λ l. refl };
 

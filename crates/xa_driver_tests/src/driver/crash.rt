@@ -57,8 +57,14 @@ struct Waiting {
 impl DecisionRecords for Waiting {
     ghost records = { λ l. l.inner.state.records };
 
+    ghost knows = { λ l. Unit {0} };
+
     fn has(&self, tran: &Tran) -> Option<ManagerSet> {
         self.inner.has(tran)
+    }
+
+    fn is_known(&self) -> bool {
+        true
     }
 }
 
@@ -66,6 +72,8 @@ impl DecisionLog for Waiting {
     ghost state = { λ l. l.inner.state };
 
     ghost appends = { λ tran yes taken old new. AppendsTo tran yes taken old.inner new.inner };
+
+    ghost loses = { λ tran yes old new. ⊥ };
 
     ghost records_are = { λ l. refl };
 

@@ -87,7 +87,11 @@ fn commit_until<R: Wait, I: Idle>(
     if matches!(death, Death::Prepared) {
         return Ok(prepared.let_go().endings);
     }
-    let decided = prepared.decide(log);
+    let decided = match prepared.decide(log) {
+        Ok(decided) => decided,
+        // No append to a log in memory has an unknown end.
+        Err(prepared) => return Ok(prepared.let_go().endings),
+    };
     if matches!(death, Death::Decided) {
         return Ok(decided.let_go().endings);
     }

@@ -21,9 +21,9 @@ ghost use Rattle.xa_switch.specs.Belonging.{ComeFromOpenings, desk_seats, worker
 ghost use Rattle.xa_switch.specs.Belonging.{seat_of_worker, seat_of_done};
 ghost use Rattle.xa_switch.specs.Settling.{IsSettled};
 ghost use Rattle.xa_atomicity.specs.Outcomes.{AreLeftOrDecided, sent_so_far};
-ghost use Rattle.xa_atomicity.specs.Resolution.{CommitCall, ResolveCall, Opening, Use, commit_call, commits};
-ghost use Rattle.xa_atomicity.specs.Resolution.{resolve_call};
-ghost use Rattle.xa_atomicity.specs.Resolution.{Continues, IsAllOrNone, IsResolved, OnlyResolves, resolves, with_use};
+ghost use Rattle.xa_atomicity.specs.Resolution.{CommitCall, ResolveCall, Opening, Use, commit_call, resolve_call};
+ghost use Rattle.xa_atomicity.specs.Resolution.{commits, resolves, with_use, Continues, IsAllOrNone, IsResolved};
+ghost use Rattle.xa_atomicity.specs.Resolution.{OnlyResolves};
 ghost use Rattle.xa_driver.specs.Resolving.{IsTraceOfResolve};
 ghost use Rattle.xa_driver.specs.Trace.{IsCommit};
 ghost use Rattle.xa_atomicity.specs.Worth.{CountsOver, CountsAllOrNone};
@@ -194,7 +194,7 @@ fn resolve_left<R: Wait + Abort, L: DecisionRecords>(
     ensures seat { seat_of_desk desk.new ≡ seat_of_desk desk.old }
     ensures idled { map seat_of_worker idle.new ≡ map seat_of_worker idle.old }
 {
-    if !may_resolve(desk, scan) {
+    if !may_resolve(desk, scan, log) {
         panic!(rt; "there is no room to resolve what is left");
     }
     let before = Snapshot::of(desk);

@@ -54,7 +54,7 @@ fn prepare<R: Wait + Abort>(rt: &R, desk: &mut Desk, branch: &Branch, idle: &mut
 }
 
 // Ends both threads of an opening, which is settled.
-fn end_both<R: Wait + Abort>(
+pub(super) fn end_both<R: Wait + Abort>(
     rt: &R,
     alloc: Global,
     first: Desk,
@@ -110,7 +110,7 @@ fn managers_are_resolved_one_after_the_other(rt: HostRuntime) {
         waited: Vec::new(alloc),
     };
     let log = MemoryLog::new(alloc);
-    if !may_resolve(&desk, &scan) {
+    if !may_resolve(&desk, &scan, &log) {
         panic!(rt; "there is no room to resolve what is left");
     }
     let told = resolve(&rt, alloc, &mut desk, &scan, &log, &mut idle);

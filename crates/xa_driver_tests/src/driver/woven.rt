@@ -89,7 +89,13 @@ fn weave<R: Wait + Abort>(
         panic!(rt; "the transaction is recorded");
     }
     let log_before = Snapshot::of(log);
-    let decided = prepared.decide(log);
+    let decided = match prepared.decide(log) {
+        Ok(decided) => decided,
+        Err(prepared) => {
+            let _ = prepared.let_go();
+            panic!(rt; "nobody knows what the log has")
+        }
+    };
     if !decided.may_tell(desk) {
         panic!(rt; "they can't be told");
     }

@@ -1,4 +1,4 @@
-use Rattle.xa_atomicity.proofs.Staged.{decided_is_cut, prepared_is_cut, told_is_cut}
+use Rattle.xa_atomicity.proofs.Staged.{decided_is_cut, prepared_is_cut, told_is_cut, undecided_is_cut}
 use Rattle.xa_atomicity.proofs.stages.stages_are_cuts.Goals as goal
 
 pub returns-clause-prepared : goal.returns-clause-prepared
@@ -10,3 +10,7 @@ returns-clause-decided c = λ bs desk mid new log later p d may first between se
 pub returns-clause-told : goal.returns-clause-told
 returns-clause-told c =
     λ bs desk mid tell late new log later p d t may first between second third after. told_is_cut bs desk mid tell late new log later p d t may first between second third after
+
+pub returns-clause-undecided : goal.returns-clause-undecided
+returns-clause-undecided c =
+    λ bs desk mid new log later votes tran may voted between of_tran wanted either. undecided_is_cut bs desk mid new log later votes tran may voted between of_tran wanted either

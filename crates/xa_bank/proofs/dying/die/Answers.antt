@@ -56,34 +56,34 @@ returns-then-eq-2-clause-dies g c =
     let is : c.args.at ≡ point.Voted = same_true the_type (search rules) _ _ (sym c.eq-2.ensures ∙ c.if-eq-2.true) in
     subst (λ at. Dies at bs (Some known) desk new log log) (sym is) dies
 
-pub decide-decided-requires : goal.decide-decided-requires
-decide-decided-requires g c =
+pub decide-requires-clause-new : goal.decide-requires-clause-new
+decide-requires-clause-new g c =
     c.stages_follow.ensures.decide c.args.branches.now c.args.desk.now c.finish-prepared.new.desk.ledgers c.args.log.now.state c.finish-prepared.result c.requires
     (c.finish-prepared.ensures.prepared c.args.branches.now c.args.desk.now c.in_ok-preparing.ensures.preparing)
 
 pub let_go-requires-then-eq-3 : goal.let_go-requires-then-eq-3
 let_go-requires-then-eq-3 g c =
     let first = c.finish-prepared.ensures.prepared c.args.branches.now c.args.desk.now c.in_ok-preparing.ensures.preparing in
-    subst (λ (r : Round). IsAtRest r) (sym c.decide-decided.ensures.decided.round) first.rest
+    subst (λ (r : Round). IsAtRest r) (sym c.in-Ok.ensures.decided.round) first.rest
 
 pub returns-then-eq-3-clause-dies : goal.returns-then-eq-3-clause-dies
 returns-then-eq-3-clause-dies g c =
     let bs : List Branch = c.args.branches.now in
     let desk : DeskView = c.args.desk.now in
     let log = c.args.log.now.state in
-    let later = c.decide-decided.new.log.state in
+    let later = c.decide.new.log.state in
     let new : List LedgerView = c.finish-prepared.new.desk.ledgers in
     let p = c.finish-prepared.result in
-    let d = c.decide-decided.result in
+    let d = c.in-Ok.decided in
     let known : Done = c.let_go-then-eq-3.result in
     let first : HasPrepared bs desk.ledgers new p = c.finish-prepared.ensures.prepared bs desk c.in_ok-preparing.ensures.preparing in
     let none : endings_in (Some known) ≡ [] =
-    ap (λ (k : Done). k.endings.items) c.let_go-then-eq-3.ensures ∙ ap (λ v. v.items) c.decide-decided.ensures.decided.endings ∙ first.endings.none in
+    ap (λ (k : Done). k.endings.items) c.let_go-then-eq-3.ensures ∙ ap (λ v. v.items) c.in-Ok.ensures.decided.endings ∙ first.endings.none in
     let cut =
-    c.stages_are_cuts.ensures.decided bs desk new new log later p d c.requires first (c.others_leave_the_branches.ensures.nothing bs new) c.decide-decided.ensures.decided in
+    c.stages_are_cuts.ensures.decided bs desk new new log later p d c.requires first (c.others_leave_the_branches.ensures.nothing bs new) c.in-Ok.ensures.decided in
     let dies : Dies point.Decided bs (Some known) desk new log later = record {
       cut = subst (λ (es : List Ending). IsCut bs desk new log later es) (sym none) cut;
-      far = (p, d, first, c.decide-decided.ensures.decided, ap Some c.let_go-then-eq-3.ensures);
+      far = (p, d, first, c.in-Ok.ensures.decided, ap Some c.let_go-then-eq-3.ensures);
     } in
     let is : c.args.at ≡ point.Decided = same_true the_type (search rules) _ _ (sym c.eq-3.ensures ∙ c.if-eq-3.true) in
     subst (λ at. Dies at bs (Some known) desk new log later) (sym is) dies
@@ -96,18 +96,18 @@ begin_telling-telling-requires g c =
     let first = c.finish-prepared.ensures.prepared bs desk c.in_ok-preparing.ensures.preparing in
     let keeps : KeepsTheRest desk c.finish-prepared.new.desk =
     subst (λ (d : DeskView). KeepsTheRest d c.finish-prepared.new.desk) c.in_ok-preparing.ensures.preparing.before c.finish-prepared.ensures.keeps in
-    c.stages_follow.ensures.tell bs desk c.finish-prepared.new.desk c.args.log.now.state c.args.log.now.state c.decide-decided.new.log.state c.finish-prepared.result c.decide-decided.result c.requires first c.decide-decided.ensures.decided keeps
+    c.stages_follow.ensures.tell bs desk c.finish-prepared.new.desk c.args.log.now.state c.args.log.now.state c.decide.new.log.state c.finish-prepared.result c.in-Ok.decided c.requires first c.in-Ok.ensures.decided keeps
 
 pub returns-then-eq-4-clause-dies : goal.returns-then-eq-4-clause-dies
 returns-then-eq-4-clause-dies g c =
     let bs : List Branch = c.args.branches.now in
     let desk : DeskView = c.args.desk.now in
     let log = c.args.log.now.state in
-    let later = c.decide-decided.new.log.state in
+    let later = c.decide.new.log.state in
     let mid : DeskView = c.finish-prepared.new.desk in
     let new : List LedgerView = c.leave-then-eq-4.new.desk.ledgers in
     let p = c.finish-prepared.result in
-    let d = c.decide-decided.result in
+    let d = c.in-Ok.decided in
     let t : Telling = c.begin_telling-telling.result in
     let one : Round = c.send_next-then-eq-4.new.self in
     let r : Round = c.collect_next.new.self in
@@ -122,40 +122,40 @@ returns-then-eq-4-clause-dies g c =
     left_so_far r mid c.collect_next.new.desk new c.rounds_are_cuts.ensures.so_far tells.before c.leave-then-eq-4.ensures.left.lists c.collect_next.ensures.under_way in
     let none : endings_in (Some known) ≡ [] =
     ap (λ (k : Done). k.endings.items) c.leave-then-eq-4.ensures.known ∙ ap (λ (k : Done). k.endings.items) tells.known
-    ∙ ap (λ v. v.items) c.decide-decided.ensures.decided.endings ∙ first.endings.none in
+    ∙ ap (λ v. v.items) c.in-Ok.ensures.decided.endings ∙ first.endings.none in
     let cut =
-    c.rounds_are_cuts.ensures.telling bs desk mid mid.ledgers new log later p d u c.requires first (c.others_leave_the_branches.ensures.nothing bs mid.ledgers) c.decide-decided.ensures.decided tells far in
+    c.rounds_are_cuts.ensures.telling bs desk mid mid.ledgers new log later p d u c.requires first (c.others_leave_the_branches.ensures.nothing bs mid.ledgers) c.in-Ok.ensures.decided tells far in
     let dies : Dies point.Telling bs (Some known) desk new log later = record {
       cut = subst (λ (es : List Ending). IsCut bs desk new log later es) (sym none) cut;
-      far = (p, d, u, mid, first, c.decide-decided.ensures.decided, tells, far, ap Some c.leave-then-eq-4.ensures.known);
+      far = (p, d, u, mid, first, c.in-Ok.ensures.decided, tells, far, ap Some c.leave-then-eq-4.ensures.known);
     } in
     let is : c.args.at ≡ point.Telling = same_true the_type (search rules) _ _ (sym c.eq-4.ensures ∙ c.if-eq-4.true) in
     subst (λ at. Dies at bs (Some known) desk new log later) (sym is) dies
 
 pub let_go-requires-2 : goal.let_go-requires-2
 let_go-requires-2 g c =
-    let third = c.finish.ensures.told c.decide-decided.result c.finish-prepared.new.desk c.begin_telling-telling.ensures.telling in third.rest
+    let third = c.finish.ensures.told c.in-Ok.decided c.finish-prepared.new.desk c.begin_telling-telling.ensures.telling in third.rest
 
 pub returns-clause-dies : goal.returns-clause-dies
 returns-clause-dies g c =
     let bs : List Branch = c.args.branches.now in
     let desk : DeskView = c.args.desk.now in
     let log = c.args.log.now.state in
-    let later = c.decide-decided.new.log.state in
+    let later = c.decide.new.log.state in
     let mid : DeskView = c.finish-prepared.new.desk in
     let new : List LedgerView = c.finish.new.desk.ledgers in
     let p = c.finish-prepared.result in
-    let d = c.decide-decided.result in
+    let d = c.in-Ok.decided in
     let t = c.finish.result in
     let known : Done = c.let_go-2.result in
     let first : HasPrepared bs desk.ledgers mid.ledgers p = c.finish-prepared.ensures.prepared bs desk c.in_ok-preparing.ensures.preparing in
     let third = c.finish.ensures.told d mid c.begin_telling-telling.ensures.telling in
     let same : endings_in (Some known) ≡ t.known.endings.items = ap (λ (k : Done). k.endings.items) c.let_go-2.ensures in
     let cut =
-    c.stages_are_cuts.ensures.told bs desk mid.ledgers mid.ledgers new new log later p d t c.requires first (c.others_leave_the_branches.ensures.nothing bs mid.ledgers) c.decide-decided.ensures.decided third (c.others_leave_the_branches.ensures.nothing bs new) in
+    c.stages_are_cuts.ensures.told bs desk mid.ledgers mid.ledgers new new log later p d t c.requires first (c.others_leave_the_branches.ensures.nothing bs mid.ledgers) c.in-Ok.ensures.decided third (c.others_leave_the_branches.ensures.nothing bs new) in
     let dies : Dies point.Told bs (Some known) desk new log later = record {
       cut = subst (λ (es : List Ending). IsCut bs desk new log later es) (sym same) cut;
-      far = (p, d, t, mid, first, c.decide-decided.ensures.decided, third, ap Some c.let_go-2.ensures);
+      far = (p, d, t, mid, first, c.in-Ok.ensures.decided, third, ap Some c.let_go-2.ensures);
     } in
     elim c.args.at as (λ at. c.args.at ≡ at → Dies at bs (Some known) desk new log later) [
       | point.Asking ↦ λ e. let bad : true ≡ false = sym (c.eq.ensures ∙ rw e refl) ∙ c.if-eq.false in cc

@@ -29,7 +29,7 @@ returns-then-not-worked-clause-carried g c =
       | then-not-worked-via-then-not-worked w ↦ undone tried (subst (λ ok. Tries one two c.args.account ok old tried) w.if-not-worked.true c.work_for-worked.ensures.tries) gives_up
       | then-not-worked-via-else-not-worked+then-not-may_commit w ↦
           barred tried (subst (λ ok. Tries one two c.args.account ok old tried) w.if-not-worked.false c.work_for-worked.ensures.tries)
-          (λ may. let yes_ : w.may_commit.result ≡ true = w.may_commit.ensures.1 may in let no : w.may_commit.result ≡ false = w.if-not-may_commit.true in cc) gives_up
+          (λ may. let yes_ : w.may_commit.result ≡ true = w.may_commit.ensures.1 (may, tt) in let no : w.may_commit.result ≡ false = w.if-not-may_commit.true in cc) gives_up
     ] in
     refused refl refl why (have_on (IsFor c.args.one.now c.args.two.now) _ _ _ c.work_for-worked.ensures.sent c.give_up.ensures.sent)
 

@@ -1,94 +1,95 @@
 use Rattle.std.proofs.Common.{◌≡◌, ap, sym, ◌∙◌, subst, map, List, Bool}
 use Rattle.xa_words.specs.Tran.{TranName}
-use Rattle.xa_desk.specs.DeskView.{DeskView}
-use Rattle.xa_driver.specs.Asks.{KeepsTheRest}
 use Rattle.xa_driver.specs.Decision.{yes_of}
 use Rattle.xa_log.specs.Log.{record_of}
 use Rattle.xa_driver.specs.Trace.{AppendsOnce, IsTraceOfCommit}
 use Rattle.xa_driver.proofs.Idling.{all_idle}
 use Rattle.xa_driver.proofs.Calls.{one_tran}
-use Rattle.xa_driver.proofs.OneCall.{asks_log, may_forget, may_tell, stages_call}
-use Rattle.xa_driver.specs.Trace.{IsTraceOfCommit}
+use Rattle.xa_driver.proofs.OneCall.{asks_log, lost_log, may_forget, may_tell, stages_call}
 use Rattle.xa_driver.specs.declared.ask.Ask.{Ask}
 use Rattle.xa_driver.specs.Asks.{SameAsks}
 use Rattle.xa_driver.specs.Rounds.{first_ask, second_ask, third_ask}
 use Rattle.xa_driver.proofs.Ordering.{same_in_order}
-use Rattle.xa_driver.proofs.OneCall.{may_forget, may_tell, stages_call}
-use Rattle.xa_driver.proofs.Staying.{rest_chain}
+use Rattle.xa_driver.proofs.Staying.{rest_chain, rest_same}
+use Rattle.xa_driver.specs.declared.done.Done.{Done}
+use Rattle.xa_driver.specs.declared.stages.Prepared.{Prepared}
+use Rattle.xa_driver.specs.UnderWay.{IsAtRest}
 use Rattle.xa_driver.proofs.commit.commit_all.Goals as goal
 
-pub decide-decided-requires : goal.decide-decided-requires
-decide-decided-requires g c =
+pub decide-requires-clause-new : goal.decide-requires-clause-new
+decide-requires-clause-new g c =
     let p = c.in_ok-prepared.prepared in
     let first = c.in_ok-prepared.ensures.prepared in
-    ap (record_of (g.L.DecisionLog.state c.args.log.now)) (one_tran c.args.branches.now p.tran c.requires.tran c.requires.some first.tran c.requires.one)
-    ∙ c.requires.absent
+    ap (record_of (g.L.DecisionLog.state c.args.log.now)) (one_tran c.args.branches.now p.tran c.requires.may.tran c.requires.may.some first.tran c.requires.may.one)
+    ∙ c.requires.may.absent
 
 pub tell-told-requires : goal.tell-told-requires
 tell-told-requires g c =
-    may_tell c.args.branches.now c.args.desk.now c.prepare_all.new.desk (g.L.DecisionLog.state c.args.log.now) _ _ c.in_ok-prepared.prepared c.decide-decided.result c.requires c.in_ok-prepared.ensures.prepared c.decide-decided.ensures.decided c.in_ok-prepared.ensures.keeps
+    may_tell c.args.branches.now c.args.desk.now c.prepare_all.new.desk (g.L.DecisionLog.state c.args.log.now) _ _ c.in_ok-prepared.prepared c.in-Ok.decided c.requires.may c.in_ok-prepared.ensures.prepared c.in-Ok.ensures.decided c.in_ok-prepared.ensures.keeps
 
 pub forget-requires : goal.forget-requires
 forget-requires g c =
-    may_forget c.args.branches.now c.args.desk.now c.prepare_all.new.desk c.tell-told.new.desk (g.L.DecisionLog.state c.args.log.now) _ _ c.in_ok-prepared.prepared c.decide-decided.result c.tell-told.result c.requires c.in_ok-prepared.ensures.prepared
-    c.decide-decided.ensures.decided c.tell-told.ensures.told c.in_ok-prepared.ensures.keeps c.tell-told.ensures.keeps
+    may_forget c.args.branches.now c.args.desk.now c.prepare_all.new.desk c.tell-told.new.desk (g.L.DecisionLog.state c.args.log.now) _ _ c.in_ok-prepared.prepared c.in-Ok.decided c.tell-told.result c.requires.may c.in_ok-prepared.ensures.prepared
+    c.in-Ok.ensures.decided c.tell-told.ensures.told c.in_ok-prepared.ensures.keeps c.tell-told.ensures.keeps
 
-pub returns-clause-call : goal.returns-clause-call
-returns-clause-call g c t all =
+pub returns-in-Ok-clause-call : goal.returns-in-Ok-clause-call
+returns-in-Ok-clause-call g c t all =
     let p = c.in_ok-prepared.prepared in
     let first = c.in_ok-prepared.ensures.prepared in
     let old = g.L.DecisionLog.state c.args.log.now in
-    let new = g.L.DecisionLog.state c.decide-decided.new.log in
-    subst (λ (u : TranName). IsTraceOfCommit u c.args.branches.now c.args.desk.now.ledgers c.forget.new.desk.ledgers old new c.forget.result) (one_tran c.args.branches.now p.tran t c.requires.some first.tran all)
-    (stages_call c.args.branches.now c.args.desk.now.ledgers c.prepare_all.new.desk.ledgers c.tell-told.new.desk.ledgers c.forget.new.desk.ledgers old new p c.decide-decided.result c.tell-told.result first c.decide-decided.ensures.decided c.tell-told.ensures.told
+    let new = g.L.DecisionLog.state c.decide.new.log in
+    subst (λ (u : TranName). IsTraceOfCommit u c.args.branches.now c.args.desk.now.ledgers c.forget.new.desk.ledgers old new c.forget.result) (one_tran c.args.branches.now p.tran t c.requires.may.some first.tran all)
+    (stages_call c.args.branches.now c.args.desk.now.ledgers c.prepare_all.new.desk.ledgers c.tell-told.new.desk.ledgers c.forget.new.desk.ledgers old new p c.in-Ok.decided c.tell-told.result first c.in-Ok.ensures.decided c.tell-told.ensures.told
     c.forget.result c.forget.ensures.forgot)
 
-pub returns-clause-made : goal.returns-clause-made
-returns-clause-made g c = record { may = c.requires; trace = returns-clause-call g c c.requires.tran c.requires.one }
+pub returns-in-Ok-clause-made : goal.returns-in-Ok-clause-made
+returns-in-Ok-clause-made g c = record { may = c.requires.may; trace = returns-in-Ok-clause-call g c c.requires.may.tran c.requires.may.one }
 
--- what all stages leave of the desk
-whole : (old mid late new : DeskView) → KeepsTheRest old mid → KeepsTheRest mid late → KeepsTheRest late new → KeepsTheRest old new
-whole old mid late new a b c = rest_chain old mid new a (rest_chain mid late new b c)
+pub returns-in-Ok-clause-keeps : goal.returns-in-Ok-clause-keeps
+returns-in-Ok-clause-keeps g c =
+    rest_chain c.args.desk.now c.prepare_all.new.desk c.forget.new.desk c.in_ok-prepared.ensures.keeps
+    (rest_chain c.prepare_all.new.desk c.tell-told.new.desk c.forget.new.desk c.tell-told.ensures.keeps c.forget.ensures.keeps)
 
-pub returns-clause-keeps : goal.returns-clause-keeps
-returns-clause-keeps g c =
-    (whole c.args.desk.now c.prepare_all.new.desk c.tell-told.new.desk c.forget.new.desk c.in_ok-prepared.ensures.keeps c.tell-told.ensures.keeps c.forget.ensures.keeps).keeps
+pub returns-in_err-prepared-clause-keeps : goal.returns-in_err-prepared-clause-keeps
+returns-in_err-prepared-clause-keeps g c = rest_same c.args.desk.now c.prepare_all.new.desk c.in_err-prepared.ensures.unsent
 
-pub returns-clause-kept : goal.returns-clause-kept
-returns-clause-kept g c =
-    (whole c.args.desk.now c.prepare_all.new.desk c.tell-told.new.desk c.forget.new.desk c.in_ok-prepared.ensures.keeps c.tell-told.ensures.keeps c.forget.ensures.keeps).kept
+pub let_go-requires : goal.let_go-requires
+let_go-requires g c = subst (λ (p : Prepared). IsAtRest p.round) (sym c.in-Err.ensures.undecided) c.in_ok-prepared.ensures.prepared.rest
 
-pub returns-clause-left : goal.returns-clause-left
-returns-clause-left g c =
-    (whole c.args.desk.now c.prepare_all.new.desk c.tell-told.new.desk c.forget.new.desk c.in_ok-prepared.ensures.keeps c.tell-told.ensures.keeps c.forget.ensures.keeps).left
+pub returns-in-Err-clause-undecided : goal.returns-in-Err-clause-undecided
+returns-in-Err-clause-undecided g c = record {
+  stage = c.in_ok-prepared.prepared;
+  prepared = c.in_ok-prepared.ensures.prepared;
+  votes_are = ap (λ (p : Prepared). p.known.votes.items) (sym c.in-Err.ensures.undecided) ∙ ap (λ (k : Done). k.votes.items) (sym c.let_go.ensures);
+}
 
-pub returns-clause-tickets : goal.returns-clause-tickets
-returns-clause-tickets g c =
-    (whole c.args.desk.now c.prepare_all.new.desk c.tell-told.new.desk c.forget.new.desk c.in_ok-prepared.ensures.keeps c.tell-told.ensures.keeps c.forget.ensures.keeps).tickets
-
-pub returns-clause-free : goal.returns-clause-free
-returns-clause-free g c =
-    (whole c.args.desk.now c.prepare_all.new.desk c.tell-told.new.desk c.forget.new.desk c.in_ok-prepared.ensures.keeps c.tell-told.ensures.keeps c.forget.ensures.keeps).free
-
-pub returns-clause-waited : goal.returns-clause-waited
-returns-clause-waited g c =
-    all_idle g.I.Idle.leads_by c.args.branches.now c.args.desk.now.ledgers c.prepare_all.new.desk.ledgers c.tell-told.new.desk.ledgers c.forget.new.desk.ledgers (g.L.DecisionLog.state c.args.log.now) (g.L.DecisionLog.state c.decide-decided.new.log)
-    c.in_ok-prepared.prepared c.decide-decided.result c.tell-told.result c.args.idle.now c.prepare_all.new.idle c.tell-told.new.idle c.forget.new.idle c.in_ok-prepared.ensures.prepared c.decide-decided.ensures.decided c.tell-told.ensures.told
-    c.in_ok-prepared.ensures.waited c.tell-told.ensures.waited c.forget.ensures.waited
-
-pub returns-clause-appends : goal.returns-clause-appends
-returns-clause-appends g c t all =
+pub returns-in-Err-clause-unknown : goal.returns-in-Err-clause-unknown
+returns-in-Err-clause-unknown g c t all =
     let p = c.in_ok-prepared.prepared in
     let first = c.in_ok-prepared.ensures.prepared in
-    subst (λ (u : TranName). AppendsOnce g.L.DecisionLog.appends u (yes_of c.args.branches.now c.forget.result.votes.items) c.forget.result.votes.items c.forget.result.logged c.args.log.now c.decide-decided.new.log) (one_tran c.args.branches.now p.tran t c.requires.some first.tran all)
-    (asks_log c.args.branches.now c.args.desk.now.ledgers c.prepare_all.new.desk.ledgers c.tell-told.new.desk.ledgers c.forget.new.desk.ledgers (g.L.DecisionLog.state c.args.log.now) (g.L.DecisionLog.state c.decide-decided.new.log) p c.decide-decided.result c.tell-told.result first
-    c.decide-decided.ensures.decided c.tell-told.ensures.told g.L.DecisionLog.appends c.args.log.now c.decide-decided.new.log c.forget.result c.forget.ensures.forgot c.decide-decided.ensures.appends)
+    lost_log c.args.branches.now c.args.desk.now.ledgers c.prepare_all.new.desk.ledgers p first g.L.DecisionRecords.knows g.L.DecisionLog.loses c.args.log.now c.decide.new.log _
+    (ap (λ (q : Prepared). q.known.votes.items) (sym c.in-Err.ensures.undecided) ∙ ap (λ (k : Done). k.votes.items) (sym c.let_go.ensures))
+    t (one_tran c.args.branches.now p.tran t c.requires.may.some first.tran all) c.in-Err.ensures.unknown
 
-pub returns-clause-rounds : goal.returns-clause-rounds
-returns-clause-rounds g c =
+pub returns-in-Ok-clause-waited : goal.returns-in-Ok-clause-waited
+returns-in-Ok-clause-waited g c =
+    all_idle g.I.Idle.leads_by c.args.branches.now c.args.desk.now.ledgers c.prepare_all.new.desk.ledgers c.tell-told.new.desk.ledgers c.forget.new.desk.ledgers (g.L.DecisionLog.state c.args.log.now) (g.L.DecisionLog.state c.decide.new.log)
+    c.in_ok-prepared.prepared c.in-Ok.decided c.tell-told.result c.args.idle.now c.prepare_all.new.idle c.tell-told.new.idle c.forget.new.idle c.in_ok-prepared.ensures.prepared c.in-Ok.ensures.decided c.tell-told.ensures.told
+    c.in_ok-prepared.ensures.waited c.tell-told.ensures.waited c.forget.ensures.waited
+
+pub returns-in-Ok-clause-appends : goal.returns-in-Ok-clause-appends
+returns-in-Ok-clause-appends g c t all =
+    let p = c.in_ok-prepared.prepared in
+    let first = c.in_ok-prepared.ensures.prepared in
+    subst (λ (u : TranName). AppendsOnce g.L.DecisionLog.appends u (yes_of c.args.branches.now c.forget.result.votes.items) c.forget.result.votes.items c.forget.result.logged c.args.log.now c.decide.new.log) (one_tran c.args.branches.now p.tran t c.requires.may.some first.tran all)
+    (asks_log c.args.branches.now c.args.desk.now.ledgers c.prepare_all.new.desk.ledgers c.tell-told.new.desk.ledgers c.forget.new.desk.ledgers (g.L.DecisionLog.state c.args.log.now) (g.L.DecisionLog.state c.decide.new.log) p c.in-Ok.decided c.tell-told.result first
+    c.in-Ok.ensures.decided c.tell-told.ensures.told g.L.DecisionLog.appends c.args.log.now c.decide.new.log c.forget.result c.forget.ensures.forgot c.in-Ok.ensures.appends)
+
+pub returns-in-Ok-clause-rounds : goal.returns-in-Ok-clause-rounds
+returns-in-Ok-clause-rounds g c =
     let p = c.in_ok-prepared.ensures.prepared in
-    let d = c.decide-decided.result in
-    let h = c.decide-decided.ensures.decided in
+    let d = c.in-Ok.decided in
+    let h = c.in-Ok.ensures.decided in
     let t = c.tell-told.ensures.told in
     let f = c.forget.ensures.forgot in
     let firsts : List Ask = c.in_ok-prepared.prepared.round.asks.items in

@@ -7,4 +7,4 @@ use Rattle.xa_driver.proofs.resolving.may_resolve.Given as goal
 
 -- there is room at the managers so far
 abbrev pub invariant-loop-before : goal.invariant-loop-before
-invariant-loop-before l = (m : ℕ) → IsUpTo l.before m → requests_for (left_at l.scan m) ≤ room_at l.desk.ledgers m
+invariant-loop-before g l = (m : ℕ) → IsUpTo l.before m → requests_for (left_at l.scan m) ≤ room_at l.desk.ledgers m

@@ -4,7 +4,7 @@ use Rattle.xa_desk.specs.DeskView.{ledger}
 use Rattle.xa_driver.specs.Resolving.{requests_for, ResolvesAt, ResolvesInTurn, AsksLedger, begun, next}
 use Rattle.xa_switch.specs.Scans.{AsksAndWaits}
 use Rattle.xa_driver.proofs.Asking.{keeps_start, keeps_chain}
-use Rattle.xa_driver.proofs.Staying.{outstanding_chain, tickets_stay}
+use Rattle.xa_driver.proofs.Staying.{outstanding_chain, rest_same, tickets_stay}
 use Rattle.xa_driver.proofs.EachLeft.{SoFar, none_so_far, one_more_so_far, left_more, left_within, room_same}
 use Rattle.xa_switch.specs.Scans.{Answers}
 use Rattle.xa_driver.proofs.InTurn.{turns_by}
@@ -30,7 +30,7 @@ resolve_at-requires-clause-room g c =
     let n = c.loop-before.before in
     let below = c.loop-before-test.true in
     let same = room_same c.args.desk.now.ledgers c.loop-before.desk.ledgers (n + 1) i.managers (i.so_far.others (n + 1) (omega arith)) in
-    let room = c.requires.room (n + 1) (omega arith, omega (arith, below)) in
+    let room = c.requires.may.room (n + 1) (omega arith, omega (arith, below)) in
     let there = ap requests_for c.left.ensures in
     omega (arith, same, room, there)
 
@@ -87,8 +87,19 @@ returns-clause-trace g c =
     subst (λ n. SoFar c.args.scan.now (g.L.DecisionRecords.records c.args.log.now) n c.args.desk.now.ledgers c.loop-before.desk.ledgers c.loop-before.outcomes.items) all i.so_far in
     record { course = is; managers = i.managers }
 
-pub returns-clause-tickets : goal.returns-clause-tickets
-returns-clause-tickets g c = tickets_stay c.args.desk.now c.loop-before.desk c.loop-before.invariant.keeps c.loop-before.invariant.left
+pub returns-clause-keeps : goal.returns-clause-keeps
+returns-clause-keeps g c =
+    let i = c.loop-before.invariant in
+    record {
+      keeps = i.keeps;
+      kept = i.all;
+      left = i.left;
+      tickets = tickets_stay c.args.desk.now c.loop-before.desk i.keeps i.left;
+      free = i.free;
+    }
+
+pub returns-in_err-outcomes-clause-keeps : goal.returns-in_err-outcomes-clause-keeps
+returns-in_err-outcomes-clause-keeps g c = rest_same c.args.desk.now c.args.desk.now refl
 
 pub returns-clause-waited : goal.returns-clause-waited
 returns-clause-waited g c =

@@ -10,7 +10,7 @@ use Rattle.xa_transcript.specs.declared.answer.Told.{Told}
 use Rattle.xa_transcript.specs.declared.answer.Told.TheVariants as told
 use Rattle.xa_session.specs.declared.session.Session.{Session}
 use Rattle.xa_script.specs.declared.in_turns.Runner.{Runner}
-use Rattle.xa_script.specs.declared.mode.Mode.TheVariants as mode
+use Rattle.xa_command.specs.declared.mode.Mode.TheVariants as mode
 use Rattle.xa_script.specs.Outcome.{IsOutcome}
 use Rattle.xa_script.specs.TurnsSoFar.{HasReached}
 use Rattle.xa_script.proofs.Reached.{begun, reached_threads, reached_managers, stepped, ended_so, reopened, outcome_so}

@@ -1,4 +1,4 @@
-use Rattle.xa_script.specs.declared.mode.Mode.TheVariants as mode
+use Rattle.xa_command.specs.declared.mode.Mode.TheVariants as mode
 use Rattle.xa_script.proofs.Results.{on_ok}
 use Rattle.xa_script.proofs.in_turns.run_turns.Goals as goal
 

@@ -8,7 +8,7 @@ use Rattle.xa_transcript.specs.Text.{lines_text}
 use Rattle.xa_telling.specs.ToldOpenings.{Opening, Former, settled_over}
 use Rattle.xa_transcript.specs.Transcript.{text, values_text}
 use Rattle.xa_transcript.specs.Values.{opened_after, AreOfScript, AreValues}
-use Rattle.xa_script.specs.declared.mode.Mode.{Mode}
+use Rattle.xa_command.specs.declared.mode.Mode.{Mode}
 use Rattle.xa_script.specs.Outcome.{IsOutcome, Writes}
 use Rattle.xa_script.proofs.Results.{on_ok}
 use Rattle.xa_script.proofs.Tellings.{managers_so, run_tells}

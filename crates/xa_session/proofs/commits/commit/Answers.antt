@@ -23,10 +23,10 @@ returns-in-Ok-clause-commits g c = λ z.
     let bs : c.deref.result.now ≡ branches_of asked = c.deref.ensures.value ∙ c.in_ok-branches.ensures in
     let bs' : c.deref-2.result.now ≡ branches_of asked = c.deref-2.ensures.value ∙ c.in_ok-branches.ensures in
     let own : IsTranOf c.deref-2.result.now (named asked) = subst (λ (l : List Branch). IsTranOf l (named asked)) (sym bs') (of_tran asked _) in
-    let may : MayCommit desk log.state (branches_of asked) = subst (MayCommit desk log.state) bs (c.may_commit.ensures.0 c.if-not-may_commit.false) in
+    let may : MayCommit desk log.state (branches_of asked) = subst (MayCommit desk log.state) bs (c.may_commit.ensures.0 c.if-not-may_commit.false).0 in
     let trace =
     subst (λ (l : List Branch). IsTraceOfCommit (named asked) l desk.ledgers c.commit_all.new.desk.ledgers log.state c.commit_all.new.log.state c.in-Ok.done) bs' (c.in-Ok.ensures.call (named asked) own) in
     let rounds = subst (λ (l : List Branch). IsThreeRounds l c.in-Ok.done.commit desk c.commit_all.new.desk) bs' c.in-Ok.ensures.rounds in
     let appends =
     subst (λ (l : List Branch). AppendsOnce AppendsTo (named asked) (yes_of l c.in-Ok.done.votes.items) c.in-Ok.done.votes.items c.in-Ok.done.logged log c.commit_all.new.log) bs' (c.in-Ok.ensures.appends (named asked) own) in
-    decided c.in-Ok.done may trace refl c.in-Ok.ensures.keeps c.in-Ok.ensures.free refl rounds appends
+    decided c.in-Ok.done may trace refl c.commit_all.ensures.keeps.keeps c.commit_all.ensures.keeps.free refl rounds appends

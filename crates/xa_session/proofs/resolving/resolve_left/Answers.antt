@@ -4,5 +4,5 @@ use Rattle.xa_session.proofs.resolving.resolve_left.Goals as goal
 
 pub returns-in-Ok-clause-resolves : goal.returns-in-Ok-clause-resolves
 returns-in-Ok-clause-resolves g c =
-    let may = c.may_resolve.ensures.0 c.if-not-may_resolve.false in
-    resolved c.in-Ok.resolved.outcomes may c.in-Ok.ensures.trace refl refl c.in-Ok.ensures.keeps c.in-Ok.ensures.free refl c.in-Ok.ensures.in_turn
+    let may = (c.may_resolve.ensures.0 c.if-not-may_resolve.false).0 in
+    resolved c.in-Ok.resolved.outcomes may c.in-Ok.ensures.trace refl refl c.resolve.ensures.keeps.keeps c.resolve.ensures.keeps.free refl c.in-Ok.ensures.in_turn

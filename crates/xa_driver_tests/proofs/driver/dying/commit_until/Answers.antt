@@ -48,47 +48,47 @@ returns-then-matches-2-clause-cut g c =
     c.stages_are_cuts.ensures.prepared bs desk new new log c.finish-prepared.result c.requires first (c.others_leave_the_branches.ensures.nothing bs new) in
     subst (λ (es : List Ending). IsCut bs desk new log log es) (sym none) cut
 
-pub decide-decided-requires : goal.decide-decided-requires
-decide-decided-requires g c =
+pub decide-requires-clause-new : goal.decide-requires-clause-new
+decide-requires-clause-new g c =
     c.stages_follow.ensures.decide c.args.branches.now c.args.desk.now c.finish-prepared.new.desk.ledgers c.args.log.now.state c.finish-prepared.result c.requires
     (c.finish-prepared.ensures.prepared c.args.branches.now c.args.desk.now c.in_ok-preparing.ensures.preparing)
 
 pub let_go-requires-then-matches-3 : goal.let_go-requires-then-matches-3
 let_go-requires-then-matches-3 g c =
     let first = c.finish-prepared.ensures.prepared c.args.branches.now c.args.desk.now c.in_ok-preparing.ensures.preparing in
-    subst (λ (r : Round). IsAtRest r) (sym c.decide-decided.ensures.decided.round) first.rest
+    subst (λ (r : Round). IsAtRest r) (sym c.in-Ok.ensures.decided.round) first.rest
 
 pub returns-then-matches-3-clause-cut : goal.returns-then-matches-3-clause-cut
 returns-then-matches-3-clause-cut g c =
     let bs : List Branch = c.args.branches.now in
     let desk : DeskView = c.args.desk.now in
     let log = c.args.log.now.state in
-    let later = c.decide-decided.new.log.state in
+    let later = c.decide.new.log.state in
     let new : List LedgerView = c.finish-prepared.new.desk.ledgers in
     let first : HasPrepared bs desk.ledgers new c.finish-prepared.result =
     c.finish-prepared.ensures.prepared c.args.branches.now c.args.desk.now c.in_ok-preparing.ensures.preparing in
     let none : c.let_go-then-matches-3.result.endings.items ≡ [] =
-    ap (λ (k : Done). k.endings.items) c.let_go-then-matches-3.ensures ∙ ap (λ v. v.items) c.decide-decided.ensures.decided.endings ∙ first.endings.none in
+    ap (λ (k : Done). k.endings.items) c.let_go-then-matches-3.ensures ∙ ap (λ v. v.items) c.in-Ok.ensures.decided.endings ∙ first.endings.none in
     let cut =
-    c.stages_are_cuts.ensures.decided bs desk new new log later c.finish-prepared.result c.decide-decided.result c.requires first (c.others_leave_the_branches.ensures.nothing bs new) c.decide-decided.ensures.decided in
+    c.stages_are_cuts.ensures.decided bs desk new new log later c.finish-prepared.result c.in-Ok.decided c.requires first (c.others_leave_the_branches.ensures.nothing bs new) c.in-Ok.ensures.decided in
     subst (λ (es : List Ending). IsCut bs desk new log later es) (sym none) cut
 
 pub begin_telling-telling-requires : goal.begin_telling-telling-requires
 begin_telling-telling-requires g c =
     let keeps : KeepsTheRest c.args.desk.now c.finish-prepared.new.desk =
     subst (λ (d : DeskView). KeepsTheRest d c.finish-prepared.new.desk) c.in_ok-preparing.ensures.preparing.before c.finish-prepared.ensures.keeps in
-    c.stages_follow.ensures.tell c.args.branches.now c.args.desk.now c.finish-prepared.new.desk c.args.log.now.state c.args.log.now.state c.decide-decided.new.log.state c.finish-prepared.result c.decide-decided.result c.requires
-    (c.finish-prepared.ensures.prepared c.args.branches.now c.args.desk.now c.in_ok-preparing.ensures.preparing) c.decide-decided.ensures.decided keeps
+    c.stages_follow.ensures.tell c.args.branches.now c.args.desk.now c.finish-prepared.new.desk c.args.log.now.state c.args.log.now.state c.decide.new.log.state c.finish-prepared.result c.in-Ok.decided c.requires
+    (c.finish-prepared.ensures.prepared c.args.branches.now c.args.desk.now c.in_ok-preparing.ensures.preparing) c.in-Ok.ensures.decided keeps
 
 pub returns-then-matches-4-clause-cut : goal.returns-then-matches-4-clause-cut
 returns-then-matches-4-clause-cut g c =
     let bs : List Branch = c.args.branches.now in
     let desk : DeskView = c.args.desk.now in
     let log = c.args.log.now.state in
-    let later = c.decide-decided.new.log.state in
+    let later = c.decide.new.log.state in
     let mid : DeskView = c.finish-prepared.new.desk in
     let new : List LedgerView = c.leave-then-matches-4.new.desk.ledgers in
-    let d = c.decide-decided.result in
+    let d = c.in-Ok.decided in
     let t : Telling = c.begin_telling-telling.result in
     let one : Round = c.send_next-then-matches-4.new.self in
     let r : Round = c.collect_next.new.self in
@@ -101,9 +101,9 @@ returns-then-matches-4-clause-cut g c =
     left_so_far r mid c.collect_next.new.desk new c.rounds_are_cuts.ensures.so_far tells.before c.leave-then-matches-4.ensures.left.lists c.collect_next.ensures.under_way in
     let none : c.leave-then-matches-4.result.endings.items ≡ [] =
     ap (λ (k : Done). k.endings.items) c.leave-then-matches-4.ensures.known ∙ ap (λ (k : Done). k.endings.items) tells.known
-    ∙ ap (λ v. v.items) c.decide-decided.ensures.decided.endings ∙ first.endings.none in
+    ∙ ap (λ v. v.items) c.in-Ok.ensures.decided.endings ∙ first.endings.none in
     let cut =
-    c.rounds_are_cuts.ensures.telling bs desk mid mid.ledgers new log later c.finish-prepared.result d u c.requires first (c.others_leave_the_branches.ensures.nothing bs mid.ledgers) c.decide-decided.ensures.decided tells far in
+    c.rounds_are_cuts.ensures.telling bs desk mid mid.ledgers new log later c.finish-prepared.result d u c.requires first (c.others_leave_the_branches.ensures.nothing bs mid.ledgers) c.in-Ok.ensures.decided tells far in
     subst (λ (es : List Ending). IsCut bs desk new log later es) (sym none) cut
 
 pub returns-then-matches-4-clause-goes_on : goal.returns-then-matches-4-clause-goes_on
@@ -120,24 +120,24 @@ returns-then-matches-4-clause-idled g c =
 
 pub let_go-requires-then-matches-5 : goal.let_go-requires-then-matches-5
 let_go-requires-then-matches-5 g c =
-    let third = c.finish-told.ensures.told c.decide-decided.result c.finish-prepared.new.desk c.begin_telling-telling.ensures.telling in third.rest
+    let third = c.finish-told.ensures.told c.in-Ok.decided c.finish-prepared.new.desk c.begin_telling-telling.ensures.telling in third.rest
 
 pub returns-then-matches-5-clause-cut : goal.returns-then-matches-5-clause-cut
 returns-then-matches-5-clause-cut g c =
     let bs : List Branch = c.args.branches.now in
     let desk : DeskView = c.args.desk.now in
     let log = c.args.log.now.state in
-    let later = c.decide-decided.new.log.state in
+    let later = c.decide.new.log.state in
     let mid : List LedgerView = c.finish-prepared.new.desk.ledgers in
     let new : List LedgerView = c.finish-told.new.desk.ledgers in
     let first : HasPrepared bs desk.ledgers mid c.finish-prepared.result =
     c.finish-prepared.ensures.prepared c.args.branches.now c.args.desk.now c.in_ok-preparing.ensures.preparing in
-    let third = c.finish-told.ensures.told c.decide-decided.result c.finish-prepared.new.desk c.begin_telling-telling.ensures.telling in
+    let third = c.finish-told.ensures.told c.in-Ok.decided c.finish-prepared.new.desk c.begin_telling-telling.ensures.telling in
     let same : c.let_go-then-matches-5.result.endings.items ≡ c.finish-told.result.known.endings.items =
     ap (λ (k : Done). k.endings.items) c.let_go-then-matches-5.ensures in
     let nothing = c.others_leave_the_branches.ensures.nothing bs in
     let cut =
-    c.stages_are_cuts.ensures.told bs desk mid mid new new log later c.finish-prepared.result c.decide-decided.result c.finish-told.result c.requires first (nothing mid) c.decide-decided.ensures.decided third (nothing new) in
+    c.stages_are_cuts.ensures.told bs desk mid mid new new log later c.finish-prepared.result c.in-Ok.decided c.finish-told.result c.requires first (nothing mid) c.in-Ok.ensures.decided third (nothing new) in
     subst (λ (es : List Ending). IsCut bs desk new log later es) (sym same) cut
 
 pub returns-then-matches-5-clause-idled : goal.returns-then-matches-5-clause-idled
@@ -149,15 +149,15 @@ begin_forgetting-forgetting-requires g c =
     subst (λ (d : DeskView). KeepsTheRest d c.finish-prepared.new.desk) c.in_ok-preparing.ensures.preparing.before c.finish-prepared.ensures.keeps in
     let later_keeps : KeepsTheRest c.finish-prepared.new.desk c.finish-told.new.desk =
     subst (λ (d : DeskView). KeepsTheRest d c.finish-told.new.desk) c.begin_telling-telling.ensures.telling.before c.finish-told.ensures.keeps in
-    c.stages_follow.ensures.forget c.args.branches.now c.args.desk.now c.finish-prepared.new.desk c.finish-told.new.desk c.args.log.now.state c.args.log.now.state c.decide-decided.new.log.state c.finish-prepared.result c.decide-decided.result c.finish-told.result c.requires
-    (c.finish-prepared.ensures.prepared c.args.branches.now c.args.desk.now c.in_ok-preparing.ensures.preparing) c.decide-decided.ensures.decided (c.finish-told.ensures.told c.decide-decided.result c.finish-prepared.new.desk c.begin_telling-telling.ensures.telling) keeps later_keeps
+    c.stages_follow.ensures.forget c.args.branches.now c.args.desk.now c.finish-prepared.new.desk c.finish-told.new.desk c.args.log.now.state c.args.log.now.state c.decide.new.log.state c.finish-prepared.result c.in-Ok.decided c.finish-told.result c.requires
+    (c.finish-prepared.ensures.prepared c.args.branches.now c.args.desk.now c.in_ok-preparing.ensures.preparing) c.in-Ok.ensures.decided (c.finish-told.ensures.told c.in-Ok.decided c.finish-prepared.new.desk c.begin_telling-telling.ensures.telling) keeps later_keeps
 
 pub returns-clause-cut : goal.returns-clause-cut
 returns-clause-cut g c =
     let bs : List Branch = c.args.branches.now in
     let desk : DeskView = c.args.desk.now in
     let log = c.args.log.now.state in
-    let later = c.decide-decided.new.log.state in
+    let later = c.decide.new.log.state in
     let mid : List LedgerView = c.finish-prepared.new.desk.ledgers in
     let start : DeskView = c.finish-told.new.desk in
     let new : List LedgerView = c.leave-2.new.desk.ledgers in
@@ -168,7 +168,7 @@ returns-clause-cut g c =
     let h : Forgetting = record { round = r; known = f.known } in
     let first : HasPrepared bs desk.ledgers mid c.finish-prepared.result =
     c.finish-prepared.ensures.prepared c.args.branches.now c.args.desk.now c.in_ok-preparing.ensures.preparing in
-    let third = c.finish-told.ensures.told c.decide-decided.result c.finish-prepared.new.desk c.begin_telling-telling.ensures.telling in
+    let third = c.finish-told.ensures.told c.in-Ok.decided c.finish-prepared.new.desk c.begin_telling-telling.ensures.telling in
     let forgets : IsForgetting t start h =
     forgetting_on t start f one r c.begin_forgetting-forgetting.ensures.forgetting c.send_next-2.ensures.before c.send_next-3.ensures.before c.send_next-2.ensures.same c.send_next-3.ensures.same in
     let far : HaveComeSoFar r.asks.items start.ledgers new =
@@ -176,7 +176,7 @@ returns-clause-cut g c =
     let same : c.leave-2.result.endings.items ≡ t.known.endings.items = ap (λ (k : Done). k.endings.items) (c.leave-2.ensures.known ∙ forgets.known) in
     let nothing = c.others_leave_the_branches.ensures.nothing bs in
     let cut =
-    c.rounds_are_cuts.ensures.forgetting bs desk start mid mid start.ledgers new log later c.finish-prepared.result c.decide-decided.result t h c.requires first (nothing mid) c.decide-decided.ensures.decided third (nothing start.ledgers) forgets far in
+    c.rounds_are_cuts.ensures.forgetting bs desk start mid mid start.ledgers new log later c.finish-prepared.result c.in-Ok.decided t h c.requires first (nothing mid) c.in-Ok.ensures.decided third (nothing start.ledgers) forgets far in
     subst (λ (es : List Ending). IsCut bs desk new log later es) (sym same) cut
 
 pub returns-clause-goes_on : goal.returns-clause-goes_on

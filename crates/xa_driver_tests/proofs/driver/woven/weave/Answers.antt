@@ -17,7 +17,7 @@ returns-clause-cut g c =
     let tell = c.commit_all.new.desk in
     let found = c.commit_all.new.log in
     let first = c.in-Ok.ensures.prepared in
-    let may = c.may_commit.ensures.0 c.if-not-may_commit.false in
+    let may = (c.may_commit.ensures.0 c.if-not-may_commit.false).0 in
     let tran : c.tran.result ≡ c.in-Ok.prepared.tran =
     c.tran.ensures ∙ ap (λ (b : Branch). tran_of b.xid) (sym c.index-branches-0.is)
     ∙ tran_first bs c.index-branches-0.result c.in-Ok.prepared.tran may.some c.index-branches-0.is first.tran in
@@ -29,5 +29,5 @@ returns-clause-cut g c =
     c.others_leave_the_branches.ensures.committed bs c.args.others.now mid tell.ledgers c.args.log.now.state found.state c.in-Ok-commit_all.field-0 may.rising (c.are_others.ensures.0 c.if-not-are_others.false) c.in-Ok-commit_all.ensures.made in
     let nothing = c.others_leave_the_branches.ensures.nothing bs c.tell-told.new.desk.ledgers in
     let cut =
-    c.stages_are_cuts.ensures.told bs start mid.ledgers tell.ledgers c.tell-told.new.desk.ledgers c.tell-told.new.desk.ledgers found.state c.decide-decided.new.log.state c.in-Ok.prepared c.decide-decided.result c.tell-told.result still first between c.decide-decided.ensures.decided c.tell-told.ensures.told nothing in
-    rw (c.of-before.ensures, c.of.ensures, c.of-log_before.ensures, c.of-2.ensures, c.let_go.ensures) cut
+    c.stages_are_cuts.ensures.told bs start mid.ledgers tell.ledgers c.tell-told.new.desk.ledgers c.tell-told.new.desk.ledgers found.state c.decide.new.log.state c.in-Ok.prepared c.in-Ok-decide.decided c.tell-told.result still first between c.in-Ok-decide.ensures.decided c.tell-told.ensures.told nothing in
+    rw (c.of-before.ensures, c.of.ensures, c.of-log_before.ensures, c.of-2.ensures, c.let_go-2.ensures) cut

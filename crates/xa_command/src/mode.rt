@@ -2,7 +2,7 @@
 
 /// How a script is run.
 #[derive(Clone, Copy, PartialEq, Eq)]
-pub(crate) enum Mode {
+pub enum Mode {
     /// In one thread, in which the workers take turns.
     Turns,
     /// Each thread of the script and each worker has a thread of its own.

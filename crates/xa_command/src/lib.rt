@@ -1,0 +1,8 @@
+//! The words of the command line: they name the way in which a script is run.
+#![tactic(auto)]
+
+mod mode;
+mod words;
+
+pub use mode::Mode;
+pub use words::{WordsFault, mode_of};

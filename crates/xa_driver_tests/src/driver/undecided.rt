@@ -1,0 +1,132 @@
+//! A commit whose log can't tell whether it has the record. No branch is told anything; and what the log turns out to
+//! have, once it is opened again, ends them all the same way.
+ghost use Rattle.std.specs.Prelude.{◌≡◌, false, map, refl};
+ghost use Rattle.xa_switch.specs.Belonging.{seat_of_desk, seat_of_worker};
+
+use super::openings::{again, open};
+use super::pieces::work;
+use super::resolved::recover;
+use super::resolving::end_both;
+use super::{Opened, branch, key, plan_of};
+use std::alloc::Global;
+use std::process::Abort;
+use std::sync::Wait;
+use xa_crew::Turns;
+use xa_desk::Desk;
+use xa_driver::{Branch, CommitFault, commit_all, may_commit};
+use xa_log::{CommitRecord, DecisionLog, DecisionRecords, LogFault, MemoryLog};
+use xa_switch::Plan;
+use xa_words::{Code, ManagerSet, Tran};
+
+// A log each append of which has an unknown end.
+#[derive(Drop)]
+struct Losing {
+    // What it turns out to have.
+    found: MemoryLog,
+    // Whether it turns out to have what is appended.
+    keeps: bool,
+    is_lost: bool,
+}
+
+impl DecisionRecords for Losing {
+    ghost records = { λ l. l.found.state.records };
+
+    ghost knows = { λ l. l.is_lost ≡ false };
+
+    fn has(&self, tran: &Tran) -> Option<ManagerSet> {
+        self.found.has(tran)
+    }
+
+    fn is_known(&self) -> bool {
+        !self.is_lost
+    }
+}
+
+impl DecisionLog for Losing {
+    ghost state = { λ l. l.found.state };
+
+    ghost appends = { λ tran yes taken old new. ⊥ };
+
+    ghost loses = { λ tran yes old new. Unit {0} };
+
+    ghost records_are = { λ l. refl };
+
+    fn append(&mut self, decision: &CommitRecord) -> Result<(), LogFault> {
+        if self.keeps {
+            let _ = self.found.append(decision);
+        }
+        self.is_lost = true;
+        Err(LogFault::Unknown)
+    }
+
+    fn failures(&self) -> u64 {
+        self.found.failures()
+    }
+}
+
+// A commit that comes to no decision, and the votes of its branches.
+fn commit<R: Wait + Abort>(
+    rt: &R,
+    alloc: Global,
+    desk: &mut Desk,
+    log: &mut Losing,
+    branches: &[Branch; 2],
+    idle: &mut Turns,
+) -> Vec<Code>
+    ensures seat { seat_of_desk desk.new ≡ seat_of_desk desk.old }
+    ensures idled { map seat_of_worker idle.new ≡ map seat_of_worker idle.old }
+{
+    if !may_commit(desk, log, branches) {
+        panic!(rt; "these branches are refused");
+    }
+    match commit_all(rt, alloc, desk, log, branches, idle) {
+        Err(CommitFault::Undecided(votes)) => votes,
+        _ => panic!(rt; "it was decided"),
+    }
+}
+
+// Commits two branches that each add 1 to 5, with a log that keeps the record or doesn't, and resolves them by what it
+// has. Then the managers' values are this.
+fn comes_to<R: Wait + Abort>(rt: &R, alloc: Global, keeps: bool, value: u64) {
+    let plan = Plan {
+        queue: 4,
+        ..plan_of(rt, alloc, 2)
+    };
+    let branches = [branch(rt, 1), branch(rt, 2)];
+    let Opened {
+        mut first,
+        second,
+        mut workers,
+    } = open(rt, alloc, &plan);
+    work(rt, &mut first, &branches[0], &mut workers);
+    work(rt, &mut first, &branches[1], &mut workers);
+    let mut log = Losing {
+        found: MemoryLog::new(alloc),
+        keeps,
+        is_lost: false,
+    };
+    let room = first.room(1).checked_sub(1).expect(rt, "room");
+    let votes = commit(rt, alloc, &mut first, &mut log, &branches, &mut workers);
+    assert_eq!(rt; votes.as_slice(), [Code::Done; 2].as_slice());
+    // Each was asked to prepare, and no more; and the log can't be asked any more.
+    assert_eq!(rt; (first.room(1), first.room(2)), (room, room));
+    assert!(rt; !may_commit(&first, &log, &[branch(rt, 1)]));
+    let settled = end_both(rt, alloc, first, second, workers);
+    let recovered = recover(rt, alloc, settled, &again(8), &log.found);
+    for outcome in &recovered.ended.told.outcomes {
+        assert_eq!(rt; (outcome.commit, outcome.code), (keeps, Code::Done));
+    }
+    assert_eq!(rt; recovered.ended.told.outcomes.len(), 2);
+    let (one, two) = (
+        recovered.settled.value(1, &key(rt)),
+        recovered.settled.value(2, &key(rt)),
+    );
+    assert_eq!(rt; (one, two), (Some(value), Some(value)));
+}
+
+#[test]
+fn what_the_log_turns_out_to_have_ends_an_undecided_commit(rt: HostRuntime) {
+    let alloc = rt.alloc();
+    comes_to(&rt, alloc, true, 6);
+    comes_to(&rt, alloc, false, 5);
+}
