@@ -1,0 +1,7 @@
+use Rattle.std.proofs.Common.{sym, ap, ◌∙◌}
+use Rattle.xa_file_log.specs.Slots.{records_of}
+use Rattle.xa_durable.proofs.crashes.files_have_one_log.Goals as goal
+
+pub returns : goal.returns
+returns c one other file has also =
+    sym has.same ∙ ap records_of (c.a_file_has_one_table.ensures has.table also.table file has.stands also.stands) ∙ also.same

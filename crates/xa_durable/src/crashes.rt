@@ -1,0 +1,70 @@
+//! A commit, a crash, and a resolve by the file that it left.
+ghost use Rattle.std.specs.List.{All};
+ghost use Rattle.std.specs.Prelude.{◌≡◌, ◌≢◌, ◌≤◌, true, ℕ, List, [], ◌∷◌, length};
+ghost use Rattle.xa_base.specs.declared.limits.TheConstants.{MOST_MANAGERS};
+ghost use Rattle.xa_words.specs.Tran.{TranName};
+ghost use Rattle.xa_words.specs.declared.code.Code.{Code};
+ghost use Rattle.xa_words.specs.declared.code.Code.TheVariants.{RmFail};
+ghost use Rattle.xa_desk.specs.LedgerView.{LedgerView};
+ghost use Rattle.xa_desk.specs.DeskView.{DeskView};
+ghost use Rattle.xa_switch.specs.declared.plan.Again.{Again};
+ghost use Rattle.xa_switch.specs.Again.{reopening};
+ghost use Rattle.xa_switch.specs.OfPlans.{IsOf};
+ghost use Rattle.xa_switch.specs.Recovery.{IsScanOf};
+ghost use Rattle.xa_switch.specs.Settling.{Settling, IsSettled};
+ghost use Rattle.xa_log.specs.Log.{LogState, Records, with_record};
+ghost use Rattle.xa_driver.specs.declared.branch.Branch.{Branch};
+ghost use Rattle.xa_driver.specs.Decision.{yes_of};
+ghost use Rattle.xa_driver.specs.Stages.{HasVoted};
+ghost use Rattle.xa_driver.specs.Trace.{IsTranOf, MayCommit, wants_record};
+ghost use Rattle.xa_atomicity.specs.Cut.{IsCut, LeavesBranches};
+ghost use Rattle.xa_atomicity.specs.Presumed.{AskedAreLeft, CountsByTheLog, EndsByTheLog};
+ghost use Rattle.xa_atomicity.specs.Resolution.{Continues, CutCall, IsOutcomeOf, IsUseIn, OnlyResolves, ResolveCall};
+ghost use Rattle.xa_atomicity.specs.Resolution.{cuts, resolves, with_use};
+ghost use Rattle.xa_file_log.specs.Slots.{HasEither, HasRecords};
+
+use xa_atomicity::{
+    next_openings_resolve, presumed_transactions_count_by_the_log,
+    presumed_transactions_have_one_outcome, stages_are_cuts,
+};
+use xa_file_log::laws::a_file_has_one_table;
+
+/// A file stands for the records of one log at most: so who opens it has what the crash left, and nothing else.
+pub fn files_have_one_log()
+    ensures { (one other : Records) (file : List ℕ) → HasRecords one file → HasRecords other file → one ≡ other }
+{
+    a_file_has_one_table();
+}
+
+/// A crash in an append: all branches have voted, and the file has the records from before, with the new one or
+/// without. It is a commit that was cut short, whichever it is, and the log is the one that the file has.
+pub fn crashed_appends_are_cuts()
+    ensures { (bs : List Branch) (desk : DeskView) (mid new : List LedgerView) (log : LogState) (votes : List Code)
+        (tran : TranName) (file : List ℕ) → MayCommit desk log bs → HasVoted bs desk.ledgers mid votes
+        → LeavesBranches bs mid new → IsTranOf bs tran → wants_record votes ≡ true
+        → HasEither log.records (with_record log tran (yes_of bs votes)).records file
+        → (later : LogState) × IsCut bs desk new log later [] × HasRecords later.records file }
+{
+    stages_are_cuts();
+}
+
+/// A commit that a crash cut short anywhere, and a resolve in the next opening by what is read of the file that the
+/// crash left: each branch that voted to commit ended committed where the file has the record, and rolled back where it
+/// hasn't, or it was decided heuristically; and its additions count so. Of the log it is asked only that the file is
+/// the one that was left.
+pub fn next_openings_end_by_the_file()
+    ensures { (s next : Settling) (again : Again) (k : CutCall) (q : ResolveCall) (file : List ℕ) → IsSettled s
+        → IsUseIn s (cuts k) → length k.desk.ledgers ≤ MOST_MANAGERS
+        → AskedAreLeft k s → IsSettled next → IsUseIn next (resolves q) → Continues s next
+        → IsOf (reopening s again) next → IsScanOf s q.scan
+        → HasRecords k.later.records file → HasRecords q.records file
+        → ((t : TranName) → IsTranOf k.branches t → OnlyResolves t (with_use next (resolves q)))
+        → All (λ r. IsOutcomeOf k.branches r → r.code ≢ RmFail) q.outcomes
+        → EndsByTheLog k (with_use s (cuts k)) (with_use next (resolves q) ∷ [])
+        × CountsByTheLog k (with_use s (cuts k)) (with_use next (resolves q) ∷ []) }
+{
+    next_openings_resolve();
+    presumed_transactions_have_one_outcome();
+    presumed_transactions_count_by_the_log();
+    files_have_one_log();
+}

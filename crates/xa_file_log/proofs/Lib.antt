@@ -1,0 +1,12 @@
+pub mod Moments
+pub mod Overwrites
+pub mod Puts
+pub mod Stands
+pub mod Steps
+pub mod Records
+pub mod Unspelled
+pub mod Spelled
+pub mod OneTable
+pub mod Elapsing
+pub mod NewLogs
+pub mod Making

@@ -1,0 +1,70 @@
+-- What a crash leaves while a log is made.
+use Rattle.std.proofs.Common.{◌≡◌, ◌≢◌, inl, inr, ℕ, ◌+◌, ◌-◌, ◌*◌, ◌<◌, ◌≤◌, None, List, [], ◌∷◌, ◌++◌, length, get_or, take, drop, replicate, refl, sym, ◌∙◌}
+use Rattle.std.proofs.Common.{ap, subst, arith, length-append}
+use Rattle.std.proofs.lemmas.List.{append-nil, drop_all, length-replicate, get_or-replicate, take-replicate, drop-replicate, take_at, drop_at, drop-drop}
+use Rattle.xa_file_log.specs.Device.{overwritten, IsOverwritten, Torn}
+use Rattle.xa_file_log.specs.Spelling.{head}
+use Rattle.xa_file_log.specs.Slots.{slot, StandsFor, IsNoLog, IsNewLog, free_slots}
+
+pub short_file : (c : List ℕ) → length c ≤ 17 → IsNoLog c
+short_file c short = λ records there. absurd (omega (arith, there.stands.size))
+
+pub wrong_first : (g : ℕ) (c : List ℕ) → g ≢ 120 → IsNoLog (g ∷ c)
+unfolding head
+wrong_first g c other = λ records there. let h = there.stands.header in let first : g ≡ 120 = cc in other first
+
+-- while a byte is written into the empty file
+pub after_first : (c : List ℕ) → Torn 0 (0 ∷ []) [] c → IsNoLog c
+after_first c t = short_file c (omega (arith, t.torn.no_longer))
+
+-- while the rest is
+pub after_rest : (later c : List ℕ) → Torn 1 later (0 ∷ []) c → IsNoLog c
+after_rest later [] t = short_file [] (omega arith)
+after_rest later (g ∷ c) t = let b = t.torn.before in let first : g ≡ 0 = cc in wrong_first g c (omega arith)
+
+pub rest_done : (later new : List ℕ) → new ≡ overwritten (0 ∷ []) 1 later → new ≡ 0 ∷ later
+rest_done later new is =
+    is ∙ ap (λ (l : List ℕ). 0 ∷ (later ++ l)) (drop_all (1 + length later) (0 ∷ []) (omega arith)) ∙ ap (λ (l : List ℕ). 0 ∷ l) (append-nil later)
+
+length-head : (n : ℕ) → length (head n) ≡ 18
+unfolding head
+length-head n = refl
+
+head_begins : (n : ℕ) → head n ≡ 120 ∷ drop 1 (head n)
+unfolding head
+head_begins n = refl
+
+-- slots of zeros have no record
+free_zeros : (n k : ℕ) → k < n → slot k (head n ++ replicate (94 * n) 0) ≡ replicate 94 0
+free_zeros n k below =
+    ap (λ (l : List ℕ). take 94 l) (sym (drop-drop (94 * k) 18 (head n ++ replicate (94 * n) 0))
+    ∙ ap (λ (l : List ℕ). drop (94 * k) l) (drop_at (head n) (replicate (94 * n) 0) 18 (length-head n))
+    ∙ drop-replicate (94 * k) (94 * n) 0)
+    ∙ take-replicate 94 (94 * n - 94 * k) 0 (omega arith)
+
+pub new_stands : (n : ℕ) (later : List ℕ) → n ≤ 65536 → later ≡ drop 1 (head n) ++ replicate (94 * n) 0 → StandsFor (free_slots n) (120 ∷ later)
+new_stands n later few is =
+    let whole : 120 ∷ later ≡ head n ++ replicate (94 * n) 0 =
+    ap (λ (l : List ℕ). 120 ∷ l) is ∙ ap (λ (l : List ℕ). l ++ replicate (94 * n) 0) (sym (head_begins n)) in
+    let many : length (free_slots n) ≡ n = length-replicate n None in
+    subst (StandsFor (free_slots n)) (sym whole) (record {
+      few = omega (arith, many);
+      size = length-append (head n) (replicate (94 * n) 0) ∙ omega (arith, length-head n, length-replicate {A = ℕ} (94 * n) 0, many);
+      header = take_at (head n) (replicate (94 * n) 0) 18 (length-head n) ∙ ap head (sym many);
+      each = λ k here.
+          let below : k < n = omega (arith, many) in
+          let none : get_or (free_slots n) k None ≡ None = get_or-replicate n k None None below in
+          record {
+            free = λ is_none. ap (λ (l : List ℕ). take 1 l) (free_zeros n k below);
+            taken = λ r is_there. absurd (cc (none, is_there));
+            valid = λ r is_there. absurd (cc (none, is_there));
+          };
+    })
+
+-- while the first byte is
+pub after_last : (n : ℕ) (later c : List ℕ) → n ≤ 65536 → later ≡ drop 1 (head n) ++ replicate (94 * n) 0 → IsOverwritten (0 ∷ later) 0 (120 ∷ []) c
+    → IsNewLog n c
+after_last n later c few is torn = elim (torn.whole.alone 120 refl) [
+  | inl before ↦ inl (subst IsNoLog (sym before) (wrong_first 0 later (omega arith)))
+  | inr after ↦ inr (subst (StandsFor (free_slots n)) (sym after) (new_stands n later few is))
+]

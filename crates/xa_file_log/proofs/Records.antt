@@ -1,0 +1,92 @@
+-- One more record in a table.
+use Rattle.std.proofs.Common.{◌≡◌, ℕ, zero, suc, ◌+◌, ◌<◌, Bool, true, false, cond, Option, None, Some, [], ◌∷◌, length, get_or, set, drop, refl, sym, ◌∙◌, ap}
+use Rattle.std.proofs.Common.{subst, arith}
+use Rattle.std.specs.Ordering.{eq_by_cmp, is_eq}
+use Rattle.std.specs.Cmp.{tied_itself}
+use Rattle.std.specs.FinMap as finmap
+use Rattle.std.specs.FinMap.{find, get-from_entries, get-insert, same_map}
+use Rattle.std.proofs.lemmas.List.{at_drop_more}
+use Rattle.xa_base.proofs.Truth.{is_equal}
+use Rattle.xa_words.specs.Tran.{TranName, tran_eq}
+use Rattle.xa_log.specs.declared.log.CommitRecord.{CommitRecord}
+use Rattle.xa_log.specs.Transactions.{tran_cmp}
+use Rattle.xa_log.proofs.Transactions.{tran_cmp_total, tran_cmp-IsAntisymmetric, tran_eq-by_cmp}
+use Rattle.xa_file_log.specs.Slots.{Table, entries, records_of}
+
+one_name : (x y : TranName) → eq_by_cmp tran_cmp x y ≡ true → x ≡ y
+one_name x y t = tran_cmp-IsAntisymmetric x y (is_equal (tran_cmp x y) t)
+
+own_name : (x y : TranName) → x ≡ y → eq_by_cmp tran_cmp x y ≡ true
+own_name x y e = subst (λ (z : TranName). eq_by_cmp tran_cmp x z ≡ true) e (ap is_eq (tied_itself tran_cmp_total x))
+
+turned : {X : Type 0} (a b : Bool) (x y z : X) → (a ≡ true → b ≡ true → ⊥) → cond a x (cond b y z) ≡ cond b y (cond a x z)
+turned true true x y z apart = absurd (apart refl refl)
+turned true false x y z apart = refl
+turned false true x y z apart = refl
+turned false false x y z apart = refl
+
+not_here : {X : Type 0} (b : Bool) (x : X) (o : Option X) → cond b (Some x) o ≡ None → (b ≡ false) × (o ≡ None)
+not_here true x o none = cc
+not_here false x o none = (refl, none)
+
+find_set : (table : Table) (k : ℕ) (r : CommitRecord) (q : TranName) → k < length table → get_or table k None ≡ None
+    → find tran_cmp r.tran (entries table) ≡ None
+    → find tran_cmp q (entries (set table k (Some r))) ≡ cond (eq_by_cmp tran_cmp q r.tran) (Some r.yes) (find tran_cmp q (entries table))
+find_set [] k r q below free absent = absurd (omega arith)
+find_set (None ∷ table) zero r q below free absent = refl
+find_set (Some e ∷ table) zero r q below free absent = cc
+find_set (None ∷ table) (suc k) r q below free absent = find_set table k r q (omega arith) free absent
+find_set (Some e ∷ table) (suc k) r q below free absent =
+    let apart = not_here (eq_by_cmp tran_cmp r.tran e.tran) e.yes (find tran_cmp r.tran (entries table)) absent in
+    let both : eq_by_cmp tran_cmp q e.tran ≡ true → eq_by_cmp tran_cmp q r.tran ≡ true → ⊥ = λ a b.
+    let same : r.tran ≡ e.tran = sym (one_name q r.tran b) ∙ one_name q e.tran a in
+    let here = own_name r.tran e.tran same in
+    let never = apart.0 in
+    cc in
+    ap (cond (eq_by_cmp tran_cmp q e.tran) (Some e.yes)) (find_set table k r q (omega arith) free apart.1)
+    ∙ turned (eq_by_cmp tran_cmp q e.tran) (eq_by_cmp tran_cmp q r.tran) (Some e.yes) (Some r.yes) (find tran_cmp q (entries table)) both
+
+-- the record of a transaction that has none, in a free place
+pub records_set : (table : Table) (k : ℕ) (r : CommitRecord) → k < length table → get_or table k None ≡ None → finmap.get (records_of table) r.tran ≡ None
+    → records_of (set table k (Some r)) ≡ finmap.insert (records_of table) r.tran r.yes
+records_set table k r below free absent =
+    let none = sym (get-from_entries tran_cmp_total (entries table) r.tran) ∙ absent in
+    same_map tran_cmp_total tran_cmp-IsAntisymmetric _ _ (λ q.
+    get-from_entries tran_cmp_total (entries (set table k (Some r))) q ∙ find_set table k r q below free none
+    ∙ ap (cond (eq_by_cmp tran_cmp q r.tran) (Some r.yes)) (sym (get-from_entries tran_cmp_total (entries table) q))
+    ∙ sym (get-insert tran_cmp_total (records_of table) r.tran r.yes q))
+
+-- the first of the slots that are left
+pub find_taken : (table : Table) (i : ℕ) (q : TranName) (r : CommitRecord) → i < length table → get_or table i None ≡ Some r
+    → find tran_cmp q (entries (drop i table)) ≡ cond (eq_by_cmp tran_cmp q r.tran) (Some r.yes) (find tran_cmp q (entries (drop (i + 1) table)))
+find_taken table i q r below is =
+    at_drop_more (λ (l : Table). find tran_cmp q (entries l)) table i None below
+    ∙ ap (λ (o : Option CommitRecord). find tran_cmp q (entries (o ∷ drop (i + 1) table))) is
+
+pub find_free : (table : Table) (i : ℕ) (q : TranName) → i < length table → get_or table i None ≡ None
+    → find tran_cmp q (entries (drop i table)) ≡ find tran_cmp q (entries (drop (i + 1) table))
+find_free table i q below is =
+    at_drop_more (λ (l : Table). find tran_cmp q (entries l)) table i None below
+    ∙ ap (λ (o : Option CommitRecord). find tran_cmp q (entries (o ∷ drop (i + 1) table))) is
+
+same_name : (x y : TranName) → tran_eq x y ≡ true → eq_by_cmp tran_cmp y x ≡ true
+same_name x y t = own_name y x (sym (one_name x y (sym (tran_eq-by_cmp x y) ∙ t)))
+
+pub find_other : (table : Table) (i : ℕ) (q : TranName) (r : CommitRecord) → i < length table → get_or table i None ≡ Some r → tran_eq r.tran q ≡ false
+    → find tran_cmp q (entries (drop i table)) ≡ find tran_cmp q (entries (drop (i + 1) table))
+find_other table i q r below is other =
+    find_taken table i q r below is
+    ∙ ap (λ (b : Bool). cond b (Some r.yes) (find tran_cmp q (entries (drop (i + 1) table)))) (apart (eq_by_cmp tran_cmp q r.tran) refl)
+  where
+    apart : (b : Bool) → eq_by_cmp tran_cmp q r.tran ≡ b → eq_by_cmp tran_cmp q r.tran ≡ false
+    apart true e = let t : tran_eq r.tran q ≡ true = tran_eq-by_cmp r.tran q ∙ own_name r.tran q (sym (one_name q r.tran e)) in cc
+    apart false e = e
+
+pub find_same : (table : Table) (i : ℕ) (q : TranName) (r : CommitRecord) → i < length table → get_or table i None ≡ Some r → tran_eq r.tran q ≡ true
+    → find tran_cmp q (entries (drop i table)) ≡ Some r.yes
+find_same table i q r below is same =
+    find_taken table i q r below is ∙ ap (λ (b : Bool). cond b (Some r.yes) (find tran_cmp q (entries (drop (i + 1) table)))) (same_name r.tran q same)
+
+-- what the table has of a transaction
+pub get_found : (table : Table) (q : TranName) → finmap.get (records_of table) q ≡ find tran_cmp q (entries table)
+get_found table q = get-from_entries tran_cmp_total (entries table) q

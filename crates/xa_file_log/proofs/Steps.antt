@@ -1,0 +1,40 @@
+-- What a crash leaves in each of the two steps of a record.
+use Rattle.std.proofs.Common.{◌≡◌, ◌⊎◌, inl, ℕ, ◌+◌, ◌*◌, ◌<◌, None, Some, List, [], ◌∷◌, length, get_or, set, subst, sym}
+use Rattle.xa_log.specs.declared.log.CommitRecord.{CommitRecord}
+use Rattle.xa_file_log.specs.Device.{overwritten, IsOverwritten, LeavesOnly}
+use Rattle.xa_file_log.specs.Spelling.{spelling, IsValid}
+use Rattle.xa_file_log.specs.Slots.{Table, StandsFor}
+use Rattle.xa_file_log.proofs.Moments.{weaker, joined}
+use Rattle.xa_file_log.proofs.Stands.{after_stage, after_gate, opened, Staged, stage_done}
+
+-- the records from before, or with the one more
+abbrev pub StandsForEither : Table → ℕ → CommitRecord → List ℕ → Type 0
+StandsForEither table k r c = StandsFor table c ⊎ StandsFor (set table k (Some r)) c
+
+module _ {D : Type 0} (moment : D → ℕ) (left_since : D → ℕ → List ℕ → Type 0) (seen : D → List ℕ) (table : Table) (k : ℕ)
+    (r : CommitRecord) (body : List ℕ) (below : k < length table) (free : get_or table k None ≡ None) (size : length body ≡ 93)
+    (old mid : D) (stands : StandsFor table (seen old)) where
+  -- the body
+  pub first_step : LeavesOnly moment left_since old mid (IsOverwritten (seen old) (18 + 94 * k + 1) body)
+      → LeavesOnly moment left_since old mid (StandsForEither table k r)
+  first_step =
+      weaker moment left_since old mid (IsOverwritten (seen old) (18 + 94 * k + 1) body) (StandsForEither table k r)
+      (λ c torn. inl (after_stage table (seen old) stands k r below body c free size torn))
+
+  module _ (valid : IsValid r) (spells : body ≡ spelling r) (is : seen mid ≡ overwritten (seen old) (18 + 94 * k + 1) body) (new : D) where
+    staged : Staged table k r (seen mid)
+    staged = stage_done table (seen old) stands k r below free body (seen mid) spells size is
+
+    -- and the gate
+    pub both_steps : LeavesOnly moment left_since old mid (IsOverwritten (seen old) (18 + 94 * k + 1) body)
+        → LeavesOnly moment left_since mid new (IsOverwritten (seen mid) (18 + 94 * k) (255 ∷ []))
+        → LeavesOnly moment left_since old new (StandsForEither table k r)
+    both_steps first second =
+        joined moment left_since old mid new (StandsForEither table k r) (first_step first)
+        (weaker moment left_since mid new (IsOverwritten (seen mid) (18 + 94 * k) (255 ∷ [])) (StandsForEither table k r)
+        (λ c torn. after_gate table (seen mid) staged.stands k r below c valid staged.body torn) second)
+
+    -- after both
+    pub logged : seen new ≡ overwritten (seen mid) (18 + 94 * k) (255 ∷ []) → StandsFor (set table k (Some r)) (seen new)
+    logged done =
+        subst (StandsFor (set table k (Some r))) (sym done) (opened table (seen mid) staged.stands k below r valid staged.body)

@@ -1,0 +1,35 @@
+use Rattle.std.proofs.Common.{[], ◌∷◌, ◌++◌, Bool, cond, ◌∙◌, ap, arith}
+use Rattle.xa_file_log.specs.declared.mirrored.Call.{Call}
+use Rattle.xa_file_log.proofs.Elapsing.{leaves_to, elapses_to, failures_to, writing_follows, writing_failed}
+use Rattle.xa_file_log.proofs.mirrored.MirroredDevice.write_at.Goals as goal
+
+pub returns-then-ok-clause-crash : goal.returns-then-ok-clause-crash
+returns-then-ok-clause-crash g c = λ f left.
+    let made = c.and-self.ensures ∙ ap (λ (e : Call). c.args.self.now.past.items ++ (e, c.write_both-ok.new.copy) ∷ []) c.call_of.ensures in
+    writing_follows c.args.at c.args.bytes.now c.write_both-ok.result c.write_both-ok.new.copy.items _ f
+    (leaves_to c.args.self.now.past.items c.and-self.result.items _ _ f made left)
+
+pub returns-then-ok-clause-time : goal.returns-then-ok-clause-time
+returns-then-ok-clause-time g c = elapses_to c.args.self.now.past.items c.and-self.result.items _ _ c.and-self.ensures
+
+pub returns-then-ok-clause-cause : goal.returns-then-ok-clause-cause
+returns-then-ok-clause-cause g c =
+    let made = c.and-self.ensures ∙ ap (λ (e : Call). c.args.self.now.past.items ++ (e, c.write_both-ok.new.copy) ∷ []) c.call_of.ensures in
+    let count = failures_to c.args.self.now.past.items c.and-self.result.items _ _ made in
+    record { later = omega (arith, count); failed = λ never. cc }
+
+pub returns-else-ok-clause-crash : goal.returns-else-ok-clause-crash
+returns-else-ok-clause-crash g c = λ f left.
+    let made = c.and-self.ensures ∙ ap (λ (e : Call). c.args.self.now.past.items ++ (e, c.write_both-ok.new.copy) ∷ []) c.call_of.ensures in
+    writing_follows c.args.at c.args.bytes.now c.write_both-ok.result c.write_both-ok.new.copy.items _ f
+    (leaves_to c.args.self.now.past.items c.and-self.result.items _ _ f made left)
+
+pub returns-else-ok-clause-time : goal.returns-else-ok-clause-time
+returns-else-ok-clause-time g c = elapses_to c.args.self.now.past.items c.and-self.result.items _ _ c.and-self.ensures
+
+pub returns-else-ok-clause-cause : goal.returns-else-ok-clause-cause
+returns-else-ok-clause-cause g c =
+    let made = c.and-self.ensures ∙ ap (λ (e : Call). c.args.self.now.past.items ++ (e, c.write_both-ok.new.copy) ∷ []) c.call_of.ensures in
+    let count = failures_to c.args.self.now.past.items c.and-self.result.items _ _ made in
+    let one = writing_failed c.args.at c.args.bytes.now c.write_both-ok.result ∙ ap (λ (b : Bool). cond b 0 1) c.if-ok.false in
+    record { later = omega (arith, count); failed = λ it. omega (arith, count, one) }

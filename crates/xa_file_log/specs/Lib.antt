@@ -1,0 +1,6 @@
+pub mod Device
+pub mod Spelling
+pub mod Slots
+pub mod Appends
+pub mod History
+pub mod HistoryLaws

@@ -1,0 +1,173 @@
+//! Opening a file that a crash may have left.
+ghost use Rattle.std.specs.Prelude.{◌≡◌, ◌≢◌, ◌⊎◌, ◌+◌, ◌*◌, ◌<◌, ◌≤◌, ℕ, length, slice_index_or, Option};
+ghost use Rattle.std.specs.Prelude.{IfOk, IfErr, IfSome, None, Some};
+ghost use Rattle.xa_log.specs.declared.log.CommitRecord.{CommitRecord};
+ghost use Rattle.xa_log.specs.Log.{Records};
+ghost use Rattle.xa_file_log.specs.declared.condition.Condition.TheVariants.{Ready};
+ghost use Rattle.xa_file_log.specs.declared.opening.OpenFault.TheVariants.{Memory, Failed, NotALog, Damaged};
+ghost use Rattle.xa_file_log.specs.Device.{Only, LeavesOnly};
+ghost use Rattle.xa_file_log.specs.Spelling.{head};
+ghost use Rattle.xa_file_log.specs.Slots.{slot, IsSlotOf, StandsFor, HasRecords, IsNoLog, records_of};
+
+use crate::condition::Condition;
+use crate::device::{Device, ReadFault};
+use crate::file_log::FileLog;
+use crate::layout::{HEAD, MOST, OPEN, SHUT, SLOT};
+use crate::spelling::read_body;
+use std::alloc::{AllocError, AllocFailed, Global};
+use xa_log::CommitRecord;
+
+/// Why a file isn't opened. It is left as it was.
+#[derive(Clone, Copy, Debug, PartialEq, Eq)]
+pub enum OpenFault {
+    Memory,
+    /// The device failed.
+    Failed,
+    /// Its head or its size isn't that of a log.
+    NotALog,
+    /// The gate of a slot is neither open nor shut, or an open one has bytes that spell no record.
+    Damaged,
+}
+
+impl From<AllocError> for OpenFault {
+    ghost from_gives = { λ _ e. e ≡ Memory };
+
+    fn from(_: AllocError) -> Self {
+        OpenFault::Memory
+    }
+}
+
+impl<T: Drop> From<AllocFailed<T>> for OpenFault {
+    ghost from_gives = { λ _ e. e ≡ Memory };
+
+    fn from(_: AllocFailed<T>) -> Self {
+        OpenFault::Memory
+    }
+}
+
+fn fault_of(fault: ReadFault) -> OpenFault
+    ensures { (result ≡ Memory) ⊎ (result ≡ Failed) }
+{
+    match fault {
+        ReadFault::Memory => OpenFault::Memory,
+        ReadFault::Failed => OpenFault::Failed,
+    }
+}
+
+/// The head of a file of so many slots.
+pub(crate) fn head_of(count: u32) -> [u8; HEAD]
+    ensures { result ≡ head count }
+{
+    let [a, b, c, d] = count.to_be_bytes();
+    [
+        b'x', b'a', b' ', b'd', b'e', b'c', b'i', b's', b'i', b'o', b'n', b's', b' ', b'1', a, b,
+        c, d,
+    ]
+}
+
+// The bytes of a slot.
+fn slot_of(bytes: &[u8], place: usize) -> &[u8]
+    requires few { place < 65536 }
+    requires within { 18 + 94 * (place + 1) ≤ length bytes.now }
+    ensures bytes { result.now ≡ slot place bytes.now }
+    ensures size { length result.now ≡ 94 }
+{
+    let (_, rest) = bytes.split_at(HEAD + SLOT * place);
+    let (slot, _) = rest.split_at(SLOT);
+    slot
+}
+
+// The record of a slot, or that it has none; nothing where it is damaged.
+fn read_slot(slot: &[u8]) -> Option<Option<CommitRecord>>
+    requires { length slot.now ≡ 94 }
+    ensures found { IfSome result (λ found. IsSlotOf found slot.now) }
+    ensures damaged { result ≡ None → (o : Option CommitRecord) → IsSlotOf o slot.now → ⊥ }
+{
+    let gate = slot[0];
+    if gate == SHUT {
+        return Some(None);
+    }
+    if gate != OPEN {
+        return None;
+    }
+    read_body(&slot[1..]).map(Some)
+}
+
+// The record of each slot of a file, where it has one.
+fn read_slots(
+    alloc: Global,
+    bytes: &[u8],
+    count: usize,
+) -> Result<Vec<Option<CommitRecord>>, OpenFault>
+    requires few { count ≤ 65536 }
+    requires size { length bytes.now ≡ 18 + 94 * count }
+    ensures count { IfOk result (λ table. length table.items ≡ count) }
+    ensures each { IfOk result (λ table. (k : ℕ) → k < count
+        → IsSlotOf (slice_index_or table.items k None) (slot k bytes.now)) }
+    ensures refused { IfErr result (λ fault. fault ≢ Memory → IsNoLog bytes.now) }
+{
+    let mut table = Vec::with_capacity(alloc, count)?;
+    for place in 0..count {
+        let Some(record) = read_slot(slot_of(bytes, place)) else {
+            return Err(OpenFault::Damaged);
+        };
+        table.push(record)?;
+    }
+    Ok(table)
+}
+
+fn read_table(alloc: Global, bytes: &[u8]) -> Result<Vec<Option<CommitRecord>>, OpenFault>
+    ensures stands { IfOk result (λ table. StandsFor table.items bytes.now) }
+    ensures refused { IfErr result (λ fault. fault ≢ Memory → IsNoLog bytes.now) }
+{
+    if bytes.len() < HEAD {
+        return Err(OpenFault::NotALog);
+    }
+    let count = (bytes.len() - HEAD) / SLOT;
+    if count > MOST || bytes.len() != HEAD + SLOT * count {
+        return Err(OpenFault::NotALog);
+    }
+    let (front, _) = bytes.split_at(HEAD);
+    if front != head_of(count as u32).as_slice() {
+        return Err(OpenFault::NotALog);
+    }
+    read_slots(alloc, bytes, count)
+}
+
+/// Opens a file that a crash may have left. It writes nothing, so a crash leaves what was there, and an `Err` hands the
+/// file back.
+pub fn open<D: Device>(alloc: Global, device: D) -> Result<FileLog<D>, (OpenFault, D)>
+    // After a restart, what is read is what is on the disk.
+    requires { Only (D.seen device) (D.may_leave device) }
+
+    // It has exactly the records that the file stands for.
+    ensures opened { IfOk result (λ log. StandsFor log.table.items (D.seen device)) }
+    ensures reads { IfOk result (λ log. (records : Records) → HasRecords records (D.seen device)
+        → records_of log.table.items ≡ records) }
+    ensures seen { IfOk result (λ log. D.seen log.device ≡ D.seen device) }
+    ensures ready { IfOk result (λ log. log.condition ≡ Ready) }
+    ensures failures { IfOk result (λ log. log.failures ≡ 0) }
+
+    // A file that stands for records isn't refused for what it has.
+    ensures not_a_log { IfErr result (λ e. e.0 ≡ NotALog → IsNoLog (D.seen device)) }
+    ensures damaged { IfErr result (λ e. e.0 ≡ Damaged → IsNoLog (D.seen device)) }
+    ensures any_moment { IfOk result (λ log.
+        LeavesOnly D.moment D.left_since device log.device (λ c. c ≡ D.seen device)) }
+    ensures any_moment_err { IfErr result (λ e.
+        LeavesOnly D.moment D.left_since device e.1 (λ c. c ≡ D.seen device)) }
+{
+    let mut device = device;
+    let bytes = match device.read(alloc) {
+        Ok(bytes) => bytes,
+        Err(fault) => return Err((fault_of(fault), device)),
+    };
+    match read_table(alloc, &bytes) {
+        Ok(table) => Ok(FileLog {
+            device,
+            table,
+            condition: Condition::Ready,
+            failures: 0,
+        }),
+        Err(fault) => Err((fault, device)),
+    }
+}
