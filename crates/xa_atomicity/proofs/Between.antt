@@ -28,7 +28,7 @@ use Rattle.xa_driver.specs.declared.stages.Decided.{Decided}
 use Rattle.xa_driver.specs.declared.stages.Telling.{Telling}
 use Rattle.xa_driver.specs.declared.stages.Told.{Told}
 use Rattle.xa_driver.specs.declared.stages.Forgetting.{Forgetting}
-use Rattle.xa_driver.specs.Asks.{HaveComeSoFar, SameAsks, asked}
+use Rattle.xa_driver.specs.Asks.{HaveComeSoFar, SameAsks}
 use Rattle.xa_atomicity.specs.Cut.{AreOthers, DidOther, LeavesBranches}
 use Rattle.xa_driver.specs.Decision.{is_read, is_yes}
 use Rattle.xa_driver.specs.Endings.{is_decided, is_out_of_reach, second_op, third_op}

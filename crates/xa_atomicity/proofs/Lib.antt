@@ -34,3 +34,4 @@ pub mod Between
 pub mod Scanned
 pub mod NextOpening
 pub mod OutcomeFates
+pub mod Gone

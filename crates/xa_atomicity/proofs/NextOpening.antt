@@ -19,7 +19,8 @@ use Rattle.xa_driver.specs.declared.branch.Branch.{Branch}
 use Rattle.xa_log.specs.Log.{LogState, record_in, record_of}
 use Rattle.xa_atomicity.specs.Outcomes.{AreLeftOrDecided, sent_so_far}
 use Rattle.xa_atomicity.specs.Presumed.{AskedAreLeft, IsOfAnother, IsResolvedAfter}
-use Rattle.xa_atomicity.specs.Resolution.{CommitCall, CutCall, ResolveCall, Use, commits, cuts, resolves, AreUses, Continues, IsByItsThread, IsFollowed, IsKept}
+use Rattle.xa_atomicity.specs.Resolution.{CommitCall, CutCall, ResolveCall, Use, commits, cuts, resolves, AreUses, Continues, HasLeft, IsByItsThread}
+use Rattle.xa_atomicity.specs.Resolution.{IsFollowed, IsKept}
 use Rattle.xa_atomicity.specs.Resolution.{IsOutcomeOf, IsResolved, IsUseIn, OnlyResolves, with_use}
 use Rattle.xa_driver.specs.Trace.{IsTranOf}
 use Rattle.xa_atomicity.proofs.Scanned.{begins_with, left_each, was_there}
@@ -45,7 +46,7 @@ scan_of s next again z of scanned m T first =
 module _ (s next : Settling) (again : Again) (u : Use) (bs : List Branch) (desk : DeskView) (left : LogState) (q : ResolveCall) (settled : IsSettled s)
     (made : IsUseIn s u) (few : length desk.ledgers ≤ MOST_MANAGERS)
     (last_settled : IsSettled next) (resolved : IsUseIn next (resolves q)) (continues : Continues s next) (of : IsOf (reopening s again) next) (scanned : IsScanOf s q.scan) where
-  abbrev next_follows : ((t : TranName) → IsTranOf bs t → AreUses t left.records (resolves q ∷ []))
+  abbrev next_follows : (HasLeft bs s → (t : TranName) → IsTranOf bs t → AreUses t left.records (resolves q ∷ []))
       → ((t : TranName) → IsTranOf bs t → OnlyResolves t (with_use next (resolves q))) → All (λ r. IsOutcomeOf bs r → r.code ≢ RmFail) q.outcomes
       → IsFollowed (with_use s u) [] (with_use next (resolves q)) u bs desk left q
   next_follows log later reached = record {
@@ -68,11 +69,11 @@ pub next_resolved : (s next : Settling) (again : Again) (c : CommitCall) (q : Re
     → IsSettled s → IsUseIn s (commits c) → length c.desk.ledgers ≤ MOST_MANAGERS
     → AreLeftOrDecided s c.thread c.branches (sent_so_far c.desk.ledgers) (sent_so_far c.new)
     → IsSettled next → IsUseIn next (resolves q) → Continues s next → IsOf (reopening s again) next → IsScanOf s q.scan
-    → ((t : TranName) → IsTranOf c.branches t → record_in q.records t ≡ record_of c.later t)
+    → (HasLeft c.branches s → (t : TranName) → IsTranOf c.branches t → record_in q.records t ≡ record_of c.later t)
     → ((t : TranName) → IsTranOf c.branches t → OnlyResolves t (with_use next (resolves q))) → All (λ r. IsOutcomeOf c.branches r → r.code ≢ RmFail) q.outcomes
     → IsResolved (with_use s (commits c)) [] (with_use next (resolves q)) c q
 next_resolved s next again c q settled made few own last_settled resolved continues of scanned log later reached = record {
-  followed = next_follows s next again (commits c) c.branches c.desk c.later q settled made few last_settled resolved continues of scanned (λ t tran. (log t tran, tt)) later reached;
+  followed = next_follows s next again (commits c) c.branches c.desk c.later q settled made few last_settled resolved continues of scanned (λ left t tran. (log left t tran, tt)) later reached;
   its_thread = All-nil (IsByItsThread c);
   own = own;
 }
@@ -80,11 +81,11 @@ next_resolved s next again c q settled made few own last_settled resolved contin
 pub next_resolved_after : (s next : Settling) (again : Again) (k : CutCall) (q : ResolveCall)
     → IsSettled s → IsUseIn s (cuts k) → length k.desk.ledgers ≤ MOST_MANAGERS → AskedAreLeft k s
     → IsSettled next → IsUseIn next (resolves q) → Continues s next → IsOf (reopening s again) next → IsScanOf s q.scan
-    → ((t : TranName) → IsTranOf k.branches t → record_in q.records t ≡ record_of k.later t)
+    → (HasLeft k.branches s → (t : TranName) → IsTranOf k.branches t → record_in q.records t ≡ record_of k.later t)
     → ((t : TranName) → IsTranOf k.branches t → OnlyResolves t (with_use next (resolves q))) → All (λ r. IsOutcomeOf k.branches r → r.code ≢ RmFail) q.outcomes
     → IsResolvedAfter (with_use s (cuts k)) [] (with_use next (resolves q)) k q
 next_resolved_after s next again k q settled made few own last_settled resolved continues of scanned log later reached = record {
-  followed = next_follows s next again (cuts k) k.branches k.desk k.later q settled made few last_settled resolved continues of scanned (λ t tran. (log t tran, tt)) later reached;
+  followed = next_follows s next again (cuts k) k.branches k.desk k.later q settled made few last_settled resolved continues of scanned (λ left t tran. (log left t tran, tt)) later reached;
   alone = λ t tran. All-nil (IsOfAnother t);
   own = own;
 }

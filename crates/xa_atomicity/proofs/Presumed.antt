@@ -44,7 +44,7 @@ use Rattle.xa_log.specs.Log.{LogState, Records, record_of}
 use Rattle.xa_atomicity.specs.Outcomes.{OnlyTheseOrDecisionsName, is_heuristic}
 use Rattle.xa_atomicity.specs.Presumed.{AskedAreLeft, CountsByTheLog, EndsByTheLog, IsResolvedAfter, VotedToCommit, WasAsked, known_of}
 use Rattle.xa_driver.specs.Resolving.{names, outcome_op}
-use Rattle.xa_atomicity.specs.Resolution.{AreUses, CutCall, EndsAs, HasLeftOf, IsFollowed, IsKept, IsOutcomeOf, IsUseIn, OnlyResolves, Opening, ResolveCall}
+use Rattle.xa_atomicity.specs.Resolution.{AreUses, CutCall, EndsAs, IsFollowed, IsKept, IsOutcomeOf, IsUseIn, OnlyResolves, Opening, ResolveCall}
 use Rattle.xa_atomicity.specs.Resolution.{Use, cuts, resolves, uses_of}
 use Rattle.xa_atomicity.specs.Tabled.{Tabled}
 use Rattle.xa_driver.specs.Trace.{AreBranchesRising, EachBranch, HaveRoom, IsTranOf, Logs, appended, decision_of, failed, unwanted}
@@ -91,22 +91,25 @@ part_there None [] after r e = cc
 part_there None (q ∷ before) after r e = cc
 part_there (Some p) before after r e = (p, refl)
 
--- a branch that is left to the next opening: nothing but resolves names it later, and they find what was decided
-pub left_is_marked : (s : Settling) (b : Branch) (tran : TranName) (up : IsUpTo MOST_MANAGERS b.m) (T : Tables) (commit : Bool) (records : Records)
-    (vs : List Use) (later : List Opening) → tran_of b.xid ≡ tran → IsSettled s → first_of s b.m ≡ Some T → All IsKept later
-    → (HasLeftOf tran s → All (OnlyResolves tran) later) → All (IsQuiet commit tran b.m) vs → AreUses tran records (vs ++ uses_of later)
-    → is_marked records tran b.m ≡ commit → is_left_in (state_of (tables_after (history_of s b.m) T) b.xid) ≡ true → IsMarked later commit b
-left_is_marked s b tran up T commit records vs later of_tran settled begins kept only quiet_now uses mark left =
+-- a branch that is left is there as the next opening begins
+left_next : (s : Settling) (b : Branch) (T : Tables) → IsSettled s → first_of s b.m ≡ Some T
+    → is_left_in (state_of (tables_after (history_of s b.m) T) b.xid) ≡ true
+    → is_left_in (state_of (reopened_at s.managers b.m) b.xid) ≡ true
+left_next s b T settled begins left =
     let end : Tables = tables_after (history_of s b.m) T in
-    let tables_are : reopened_at s.managers b.m ≡ reopened end = ap reopened (ends_with s b.m T settled begins) in
-    let is_left = ap (λ (U : Tables). is_left_in (state_of U b.xid)) tables_are ∙ as_left end b.xid ∙ left in
-    let only_later : All (OnlyResolves tran) later = only (b.m, (b.xid, (of_tran, is_left))) in
+    ap (λ (U : Tables). is_left_in (state_of (reopened U) b.xid)) (ends_with s b.m T settled begins) ∙ as_left end b.xid ∙ left
+
+-- a branch that is left to the next opening: nothing but resolves names it later, and they find what was decided
+left_is_marked : (b : Branch) (tran : TranName) (up : IsUpTo MOST_MANAGERS b.m) (commit : Bool) (records : Records) (vs : List Use)
+    (later : List Opening) → tran_of b.xid ≡ tran → All IsKept later → All (OnlyResolves tran) later → All (IsQuiet commit tran b.m) vs
+    → AreUses tran records (vs ++ uses_of later) → is_marked records tran b.m ≡ commit → IsMarked later commit b
+left_is_marked b tran up commit records vs later of_tran kept only quiet_now uses mark =
     let quiet : All (IsQuiet commit tran b.m) (vs ++ uses_of later) =
-    All-append (IsQuiet commit tran b.m) vs (uses_of later) quiet_now (quiet_openings commit tran b.m up later kept only_later) in
+    All-append (IsQuiet commit tran b.m) vs (uses_of later) quiet_now (quiet_openings commit tran b.m up later kept only) in
     let marks : All (FindsMark commit tran b.m) (uses_of later) =
     all_right (FindsMark commit tran b.m) vs (uses_of later) (marks_stay commit tran b.m up (vs ++ uses_of later) records uses mark quiet) in
     record {
-      only = subst (λ (u : TranName). All (OnlyResolves u) later) (sym of_tran) only_later;
+      only = subst (λ (u : TranName). All (OnlyResolves u) later) (sym of_tran) only;
       marks = subst (λ (u : TranName). All (FindsMark commit u b.m) (uses_of later)) (sym of_tran) marks;
     }
 
@@ -261,8 +264,10 @@ module _ (law : Tabled) (first : (s : Settling) (m : ℕ) (T : Tables) → IsSet
     -- where it is left, nothing but resolves names it later, and they find the record
     marked : W b → is_left_in (state_of (tables_after H T) b.xid) ≡ true → IsMarked later commit b
     marked why left =
-        left_is_marked s b tran up T commit k.later.records r.use_.vs later among.1 kept_o.settled begins (All-tail IsKept o later r.use_.kept) (r.use_.later tran r.made.may.one) (r.quiet commit b up why)
-        (r.use_.log tran r.made.may.one) mark left
+        let one = r.made.may.one in
+        let there = left_next s b T kept_o.settled begins left in
+        left_is_marked b tran up commit k.later.records r.use_.vs later among.1 (All-tail IsKept o later r.use_.kept) (r.use_.later tran one (b.m, (b.xid, (among.1, there))))
+        (r.quiet commit b up why) (r.use_.log (record { branch = b; among = among.2; left = there }) tran one) mark
 
     abbrev G : Fate
     G = told_by (state_of T b.xid)

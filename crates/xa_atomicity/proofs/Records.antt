@@ -1,6 +1,6 @@
 -- What the log has of a transaction stays what its commit left.
 use Rattle.std.specs.Prelude.{cond, not}
-use Rattle.std.proofs.Common.{◌≡◌, ℕ, Bool, true, false, ◌==◌, ◌&&◌, ◌||◌, List, [], ◌∷◌, sym, refl, ap, ◌∙◌, arith, Some, None}
+use Rattle.std.proofs.Common.{◌≡◌, ℕ, Bool, true, false, ◌==◌, ◌&&◌, ◌||◌, List, [], ◌∷◌, sym, refl, ap, ◌∙◌, Some, None}
 use Rattle.std.specs.List.{All}
 use Rattle.std.specs.FinMap as map
 use Rattle.std.specs.FinMap.{get-insert}
@@ -119,9 +119,9 @@ module _ (mark : Bool) (t : TranName) (m : ℕ) (up : IsUpTo MOST_MANAGERS m) wh
   marks_stay [] records h e quiet = All-nil (FindsMark mark t m)
   marks_stay (commits d ∷ us) records h e quiet =
       All-cons (FindsMark mark t m) (commits d) us tt
-      (marks_stay us d.later.records h.1 (All-head (IsQuiet mark t m) (commits d) us quiet (ap (λ (r : Records). is_marked r t m) h.0 ∙ e)) (All-tail (IsQuiet mark t m) (commits d) us quiet))
+      (marks_stay us d.later.records h.1 (All-head (IsQuiet mark t m) (commits d) us quiet (ap (λ o. names o m) h.0 ∙ e)) (All-tail (IsQuiet mark t m) (commits d) us quiet))
   marks_stay (cuts k ∷ us) records h e quiet =
       All-cons (FindsMark mark t m) (cuts k) us tt
-      (marks_stay us k.later.records h.1 (All-head (IsQuiet mark t m) (cuts k) us quiet (ap (λ (r : Records). is_marked r t m) h.0 ∙ e)) (All-tail (IsQuiet mark t m) (cuts k) us quiet))
+      (marks_stay us k.later.records h.1 (All-head (IsQuiet mark t m) (cuts k) us quiet (ap (λ o. names o m) h.0 ∙ e)) (All-tail (IsQuiet mark t m) (cuts k) us quiet))
   marks_stay (resolves q ∷ us) records h e quiet =
       All-cons (FindsMark mark t m) (resolves q) us (ap (λ o. names o m) h.0 ∙ e) (marks_stay us records h.1 e (All-tail (IsQuiet mark t m) (resolves q) us quiet))

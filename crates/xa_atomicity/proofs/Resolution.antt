@@ -1,6 +1,6 @@
 -- One outcome for each global transaction, over openings one after another: a commit that came to its end is one that was
 -- cut short after it.
-use Rattle.std.proofs.Common.{◌≡◌, ℕ, ◌≤◌, zero, ◌+◌, Bool, true, false, List, [], ◌∷◌, ◌++◌, length, append_assoc, slice_get, sym, refl, ap, ◌∙◌, subst, arith}
+use Rattle.std.proofs.Common.{◌≡◌, ℕ, ◌≤◌, zero, Bool, true, false, List, [], ◌∷◌, ◌++◌, length, append_assoc, slice_get, sym, refl, ap, ◌∙◌, subst, arith}
 use Rattle.std.proofs.Common.{Option, Some, None}
 use Rattle.std.specs.List.{All, Contains, list_any}
 use Rattle.std.proofs.lemmas.Bool.{and_parts, not-true}

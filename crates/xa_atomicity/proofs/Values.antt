@@ -37,7 +37,7 @@ use Rattle.xa_atomicity.specs.Conservation.{taken_before}
 use Rattle.xa_atomicity.proofs.Moves.{is_within, inside, outside, moved_both, moved_none, moved_at, moved_without, taken_is, within_parts}
 use Rattle.xa_base.proofs.Truth.{by_if, at_true}
 use Rattle.xa_base.proofs.Lists.{all_left, all_after}
-use Rattle.xa_atomicity.proofs.Placing.{request_of, sides, fates, fates_both, none_first}
+use Rattle.xa_atomicity.proofs.Placing.{request_of, fates, fates_both, none_first}
 use Rattle.xa_atomicity.proofs.Requests.{closes_other}
 use Rattle.xa_atomicity.proofs.Courses.{yes_is, read_is, Sends, SendsOne, Course, Unreached, Reads, Breaks, Stays, Agrees, Refuses, course_of, rest_forgets}
 use Rattle.xa_atomicity.proofs.Shares.{add_place, commits_or, share_is}

@@ -1,7 +1,6 @@
 -- What the values have of the additions of a global transaction.
 use Rattle.std.specs.List.{list_any}
 use Rattle.std.specs.Prelude.{◌≡◌, ℕ, ℤ, pos, Bool, false, not, ◌||◌, if◌then◌else◌, option_map, Some, List, ◌∷◌, ◌++◌}
-use Rattle.std.specs.Prelude.{length}
 use Rattle.xa_words.specs.Xid.{XidName}
 use Rattle.xa_words.specs.declared.code.Code.TheVariants as code
 use Rattle.xa_words.specs.declared.request.Op.TheVariants.{Add, Prepare}

@@ -31,7 +31,7 @@ use Rattle.xa_driver.specs.declared.done.Ending.{Ending}
 use Rattle.xa_driver.specs.declared.resolved.Outcome.{Outcome}
 use Rattle.xa_atomicity.specs.Cut.{IsCut}
 use Rattle.xa_driver.specs.Decision.{is_yes}
-use Rattle.xa_log.specs.Log.{LogState, Records, record_in}
+use Rattle.xa_log.specs.Log.{LogState, Records, record_in, record_of}
 use Rattle.xa_driver.specs.Trace.{IsCommit, IsTranOf}
 use Rattle.xa_atomicity.specs.Outcomes.{AreLeftOrDecided, EachOutcome, IsBetween, WasAtFirst, has_committed}
 use Rattle.xa_atomicity.specs.Outcomes.{sent_so_far}
@@ -132,12 +132,12 @@ IsByItsThread c =
     OfCommit
     (λ k. (t : TranName) → IsTranOf c.branches t → IsTranOf k.branches t → GoesOnAfter c k.thread k.desk.ledgers)
 
--- The records of the log, use after use: each commit finds those that the use before it left; and a resolve, which may
--- read others beside them, finds the same of the transaction.
+-- What the log has of the transaction, use after use: each finds what the one before it left. Of others it may take
+-- records, and forget them, between any two.
 abbrev pub AreUses : TranName → Records → List Use → Type 0
 AreUses t records [] = Unit {0}
-AreUses t records (commits c ∷ us) = (c.log.records ≡ records) × AreUses t c.later.records us
-AreUses t records (cuts k ∷ us) = (k.log.records ≡ records) × AreUses t k.later.records us
+AreUses t records (commits c ∷ us) = (record_of c.log t ≡ record_in records t) × AreUses t c.later.records us
+AreUses t records (cuts k ∷ us) = (record_of k.log t ≡ record_in records t) × AreUses t k.later.records us
 AreUses t records (resolves q ∷ us) = (record_in q.records t ≡ record_in records t) × AreUses t records us
 
 -- ---- openings
@@ -192,6 +192,12 @@ HasSent m r (resolves q) = IsBetween q.thread (length (ledger q.old m).sent) (le
 abbrev pub OnlyResolves : TranName → Opening → Type 0
 OnlyResolves t o =
     (m : ℕ) → All (λ r. NamesTran t r.op → (u : Use) × (Contains o.uses u × HasSent m r u)) (history_of o.settled m)
+
+-- one of these branches is left to the next opening
+pub record HasLeft (bs : List Branch) (s : Settling) : Type 0 where
+  pub branch : Branch
+  pub among : Contains bs branch
+  pub left : is_left_in (reopened_at s.managers branch.m) branch.xid ≡ true
 
 -- a branch of the transaction is left to the next opening
 abbrev pub HasLeftOf : TranName → Settling → Type 0
@@ -267,13 +273,15 @@ outcome_fate commit HeurCom = Some history.HeurCommitted
 outcome_fate commit HeurRb = Some history.HeurRolledBack
 outcome_fate commit c = None
 
--- what each outcome tells of its branch is its fate as the opening ends, where that began with the tables T
+-- what the outcome tells of its branch is its fate as the opening ends, where that began with the tables T
+abbrev pub TellsTheOutcome : Settling → Outcome → Type 0
+TellsTheOutcome s r =
+    (T : Tables) (before f : Fate) → first_of s r.m ≡ Some T → IsFateOf r.xid before T
+    → outcome_fate r.commit r.code ≡ Some f → settled_fate s r.m r.xid before ≡ f
+
+-- so for each of them
 abbrev pub TellsTheOutcomes : Settling → List Outcome → Type 0
-TellsTheOutcomes s outcomes =
-    All
-    (λ r. (T : Tables) (before f : Fate) → first_of s r.m ≡ Some T → IsFateOf r.xid before T
-    → outcome_fate r.commit r.code ≡ Some f → settled_fate s r.m r.xid before ≡ f)
-    outcomes
+TellsTheOutcomes s outcomes = All (TellsTheOutcome s) outcomes
 
 -- ---- what that asks for
 
@@ -300,8 +308,9 @@ pub record IsFollowed (o : Opening) (between : List Opening) (last : Opening) (u
   pub resolve_at : last.uses ≡ ps ++ resolves q ∷ qs
   -- the desk has no more managers than a record has places for
   pub few : length desk.ledgers ≤ MOST_MANAGERS
-  -- from the use on the log keeps its records
-  pub log : (t : TranName) → IsTranOf bs t → AreUses t left.records (vs ++ uses_of (between ++ last ∷ []))
+  -- if one of the branches was left, the log keeps the record of the transaction from the use on
+  pub log : HasLeft bs o.settled
+      → (t : TranName) → IsTranOf bs t → AreUses t left.records (vs ++ uses_of (between ++ last ∷ []))
   -- if a branch of the transaction was left, nothing but resolves with the log names it later
   pub later : (t : TranName) → IsTranOf bs t → HasLeftOf t o.settled → All (OnlyResolves t) (between ++ last ∷ [])
   -- the resolve had the scan of its opening, and reached each branch of the commit that it was to end

@@ -8,6 +8,7 @@ ghost use Rattle.xa_desk.specs.LedgerView.{LedgerView};
 ghost use Rattle.xa_desk.specs.DeskView.{DeskView};
 ghost use Rattle.xa_switch.specs.Settling.{Settling, IsSettled};
 ghost use Rattle.xa_desk.specs.Growth.{HaveGrown};
+ghost use Rattle.xa_switch.specs.Again.{reopened_at};
 ghost use Rattle.xa_switch.specs.Fates.{first_of, ledgers_of};
 ghost use Rattle.xa_switch.specs.Plans.{IsSoundManager};
 ghost use Rattle.xa_switch.specs.Worth.{threads_of, plan_worth, settled_worth};
@@ -15,6 +16,7 @@ ghost use Rattle.xa_switch.specs.declared.plan.Plan.{Plan};
 ghost use Rattle.xa_driver.specs.declared.branch.Branch.{Branch};
 ghost use Rattle.xa_driver.specs.declared.done.Done.{Done};
 ghost use Rattle.xa_log.specs.Log.{LogState};
+ghost use Rattle.xa_driver.specs.Forgetful.{is_acknowledged};
 ghost use Rattle.xa_driver.specs.Trace.{IsCommit, IsTranOf};
 ghost use Rattle.xa_atomicity.specs.Outcomes.{AreLeftAlone, AreLeftOrDecided, IsCommittedTransaction};
 ghost use Rattle.xa_atomicity.specs.Outcomes.{IsAbortedTransaction, KeepsTheVotes, TellsTheFates, has_committed};
@@ -22,10 +24,11 @@ ghost use Rattle.xa_atomicity.specs.Outcomes.{is_in_doubt, was_refused, sent_so_
 ghost use Rattle.xa_atomicity.specs.Conservation.{OnlyTransfers, held_in_doubt};
 ghost use Rattle.xa_atomicity.specs.Additions.{CountsTheCommitted, HasAllOrNothing, is_decided};
 ghost use Rattle.xa_atomicity.specs.Resolution.{ResolveCall};
-ghost use Rattle.xa_atomicity.specs.Resolution.{IsUseIn, OnlyResolves, TellsTheOutcomes};
+ghost use Rattle.xa_atomicity.specs.Resolution.{HasLeft, IsUseIn, OnlyResolves, TellsTheOutcomes};
 ghost use Rattle.xa_atomicity.specs.Resolution.{resolves, with_use};
 ghost use Rattle.xa_driver.specs.declared.resolved.Outcome.{Outcome};
-ghost use Rattle.xa_tables.specs.Tables.{Tables};
+ghost use Rattle.xa_tables.specs.History.{is_done};
+ghost use Rattle.xa_tables.specs.Tables.{Tables, is_left};
 ghost use Rattle.xa_tables.specs.Openings.{AreLeft};
 ghost use Rattle.xa_switch.specs.Scans.{left_at};
 ghost use Rattle.xa_switch.specs.OfPlans.{IsOfPlan};
@@ -70,6 +73,19 @@ pub fn endings_are_fates()
     settled_journals_follow_the_tables();
 }
 
+/// In a settled opening, where nobody but the call named a branch after its Prepare, but for heuristic decisions: a
+/// commit that all branches have acknowledged leaves none of them to the next opening. So nobody will ask for its
+/// record, and a log may forget it.
+pub fn acknowledged_commits_leave_no_branch()
+    ensures { (s : Settling) (t : ℕ) (bs : List Branch) (desk : DeskView) (new : List LedgerView)
+        (log later : LogState) (done : Done) → IsSettled s → IsCommit bs desk new log later done
+        → HaveGrown new (ledgers_of s t) → AreLeftOrDecided s t bs (sent_so_far desk.ledgers) (sent_so_far new)
+        → is_acknowledged done ≡ true → HasLeft bs s → ⊥ }
+{
+    tables_keep_to_their_laws();
+    settled_journals_follow_the_tables();
+}
+
 /// In a settled opening where threads made only transfers, all accounts are together worth what they were declared
 /// with, but for what is missing where a transaction was committed and a branch of it is in doubt: exactly what that
 /// branch holds. Where no branch is in doubt nothing is missing.
@@ -95,6 +111,19 @@ pub fn outcomes_are_fates()
         → ((m : ℕ) (T : Tables) → first_of s m ≡ Some T → AreLeft (left_at q.scan m) T)
         → ((r : Outcome) → Contains q.outcomes r → OnlyResolves (tran_of r.xid) (with_use s (resolves q)))
         → TellsTheOutcomes s q.outcomes }
+{
+    tables_keep_to_their_laws();
+    settled_journals_follow_the_tables();
+}
+
+/// In the same opening: a branch whose outcome was answered XA_OK isn't left to the next opening. So once each branch
+/// of a transaction that a scan has was answered so, a log may forget its record.
+pub fn finished_outcomes_leave_no_branch()
+    ensures { (s : Settling) (q : ResolveCall) → IsSettled s → IsUseIn s (resolves q)
+        → ((m : ℕ) (T : Tables) → first_of s m ≡ Some T → AreLeft (left_at q.scan m) T)
+        → ((r : Outcome) → Contains q.outcomes r → OnlyResolves (tran_of r.xid) (with_use s (resolves q)))
+        → (r : Outcome) → Contains q.outcomes r → is_done r.code ≡ true
+        → is_left (reopened_at s.managers r.m) r.xid ≡ false }
 {
     tables_keep_to_their_laws();
     settled_journals_follow_the_tables();

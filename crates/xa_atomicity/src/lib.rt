@@ -17,8 +17,8 @@ mod stages;
 
 pub use crate::commits::{commits_grow_the_lists, failed_append, one_outcome};
 pub use crate::fates::{
-    commit_in_a_settled_opening, endings_are_fates, outcomes_are_fates,
-    transfers_conserve_the_worth,
+    acknowledged_commits_leave_no_branch, commit_in_a_settled_opening, endings_are_fates,
+    finished_outcomes_leave_no_branch, outcomes_are_fates, transfers_conserve_the_worth,
 };
 pub use crate::resolved::{
     commit_resolved_in_the_next_opening, next_openings_resolve,

@@ -15,7 +15,7 @@ ghost use Rattle.xa_atomicity.specs.Outcomes.{AreLeftOrDecided};
 ghost use Rattle.xa_atomicity.specs.Outcomes.{sent_so_far};
 ghost use Rattle.xa_atomicity.specs.Presumed.{AskedAreLeft, CountsByTheLog, EndsByTheLog, IsResolvedAfter};
 ghost use Rattle.xa_atomicity.specs.Resolution.{CommitCall, CutCall, ResolveCall, Opening, IsResolved, IsAllOrNone};
-ghost use Rattle.xa_atomicity.specs.Resolution.{IsUseIn, IsOutcomeOf, OnlyResolves, Continues};
+ghost use Rattle.xa_atomicity.specs.Resolution.{IsUseIn, IsOutcomeOf, OnlyResolves, Continues, HasLeft};
 ghost use Rattle.xa_atomicity.specs.Resolution.{commit_call, commits, cuts, resolve_call, resolves, with_use};
 ghost use Rattle.xa_driver.specs.Resolving.{IsTraceOfResolve};
 ghost use Rattle.xa_switch.specs.Again.{reopening};
@@ -84,14 +84,16 @@ pub fn presumed_transactions_count_by_the_log()
 
 /// What resolving asks for, where a commit is resolved in the next opening and nothing else used the log: each premise
 /// is what a call promises, but that nobody else names the branches, that nothing but the resolve does in the next
-/// opening, and that no branch's outcome was XAER_RMFAIL, which the caller sees.
+/// opening, and that no branch's outcome was XAER_RMFAIL, which the caller sees. The log has to have the record still
+/// where one of the branches was left: once none is, it may be forgotten.
 pub fn next_openings_resolve()
     ensures finished { (s next : Settling) (again : Again) (c : CommitCall) (q : ResolveCall) → IsSettled s
         → IsUseIn s (commits c) → length c.desk.ledgers ≤ MOST_MANAGERS
         → AreLeftOrDecided s c.thread c.branches (sent_so_far c.desk.ledgers) (sent_so_far c.new) → IsSettled next
         → IsUseIn next (resolves q)
         → Continues s next → IsOf (reopening s again) next → IsScanOf s q.scan
-        → ((t : TranName) → IsTranOf c.branches t → record_in q.records t ≡ record_of c.later t)
+        → (HasLeft c.branches s → (t : TranName) → IsTranOf c.branches t
+        → record_in q.records t ≡ record_of c.later t)
         → ((t : TranName) → IsTranOf c.branches t → OnlyResolves t (with_use next (resolves q)))
         → All (λ r. IsOutcomeOf c.branches r → r.code ≢ RmFail) q.outcomes
         → IsResolved (with_use s (commits c)) [] (with_use next (resolves q)) c q }
@@ -99,7 +101,8 @@ pub fn next_openings_resolve()
         → IsUseIn s (cuts k) → length k.desk.ledgers ≤ MOST_MANAGERS
         → AskedAreLeft k s → IsSettled next → IsUseIn next (resolves q) → Continues s next
         → IsOf (reopening s again) next → IsScanOf s q.scan
-        → ((t : TranName) → IsTranOf k.branches t → record_in q.records t ≡ record_of k.later t)
+        → (HasLeft k.branches s → (t : TranName) → IsTranOf k.branches t
+        → record_in q.records t ≡ record_of k.later t)
         → ((t : TranName) → IsTranOf k.branches t → OnlyResolves t (with_use next (resolves q)))
         → All (λ r. IsOutcomeOf k.branches r → r.code ≢ RmFail) q.outcomes
         → IsResolvedAfter (with_use s (cuts k)) [] (with_use next (resolves q)) k q }
@@ -138,8 +141,8 @@ pub fn commit_resolved_in_the_next_opening<L: DecisionLog, D: DecisionRecords>(
     requires trace { IsTraceOfResolve scan.now.value (D.records log.now.value) start.now.value.ledgers
         end.now.value.ledgers resolved.now.outcomes.items }
     requires ended { HaveGrown end.now.value.ledgers (ledgers_of next.now resolver) }
-    requires log { (t : TranName) → IsTranOf branches.now t → record_in (D.records log.now.value) t
-        ≡ record_of (L.state log_after.now.value) t }
+    requires log { HasLeft branches.now settled.now.value → (t : TranName) → IsTranOf branches.now t
+        → record_in (D.records log.now.value) t ≡ record_of (L.state log_after.now.value) t }
     requires later { let q : ResolveCall = resolve_call resolver scan.now.value start.now.value.ledgers
         end.now.value.ledgers resolved.now.outcomes.items (D.records log.now.value) in
         (t : TranName) → IsTranOf branches.now t → OnlyResolves t (with_use next.now (resolves q)) }

@@ -1,6 +1,6 @@
 -- A day whose transfers end whole conserves what all accounts are worth together.
 use Rattle.std.specs.Prelude.{ℤ, pos, ◌+ℤ◌, All}
-use Rattle.std.proofs.Common.{◌≡◌, ◌≢◌, ℕ, ◌+◌, ◌-◌, ◌^◌, ◌<◌, ◌≤◌, ⊎_elim, List, [], ◌∷◌, length, map, slice_get, sym, ap, ◌∙◌, subst, inl, inr, arith, Option}
+use Rattle.std.proofs.Common.{◌≡◌, ◌≢◌, ℕ, ◌+◌, ◌-◌, ◌^◌, ◌<◌, ◌≤◌, ⊎_elim, List, [], length, map, slice_get, sym, ap, ◌∙◌, subst, inl, inr, arith, Option}
 use Rattle.std.proofs.Common.{Some, None, false}
 use Rattle.std.specs.List.{list_any}
 use Rattle.std.proofs.lemmas.Int.{ints}
@@ -38,6 +38,7 @@ use Rattle.xa_driver.specs.declared.branch.Branch.{Branch}
 use Rattle.xa_driver.specs.declared.done.Done.{Done}
 use Rattle.xa_atomicity.specs.Conservation.{OnlyTransfers, NothingWasSent, held_in_doubt}
 use Rattle.xa_atomicity.specs.Outcomes.{is_in_doubt}
+use Rattle.xa_log.specs.Log.{LogState}
 use Rattle.xa_crew.specs.declared.client_job.Attended.{Attended}
 use Rattle.xa_crew.specs.Ending.{Telling, EndsNumber}
 use Rattle.xa_crew.specs.Ending.EndsNumber.{kept as kept_there, free}
@@ -78,12 +79,12 @@ nothing_sent p k d is = λ m positive.
 -- ---- a member of the crew
 
 -- thread t of a run, with its teller
-record Known (p : Plan) (s : Settling) (t : ℕ) : Type 0 where
-  member : Member Teller
+record Known {L : Type 0} (state : L → LogState) (knows : L → Type 0) (p : Plan) (s : Settling) (t : ℕ) : Type 0 where
+  member : Member (Teller L)
   left : DeskView
   desk_thread : member.desk.thread ≡ t
   nothing : NothingWasSent member.desk.ledgers
-  worked : Works member.client member.desk member.attended.client left
+  worked : Works state knows member.client member.desk member.attended.client left
   whole : EndsWhole member.attended
   end : HaveSent Never left.ledgers (ledgers_of s t)
   managers : length (ledgers_of s t) ≡ length p.managers.items
@@ -91,45 +92,46 @@ record Known (p : Plan) (s : Settling) (t : ℕ) : Type 0 where
 goes_thread : (old new : DeskView) → GoesOn old new → new.thread ≡ old.thread
 goes_thread old new goes = ap (λ (q : DeskSeat). q.thread) goes.seat
 
-module _ (p : Plan) (tellers : List Teller) (attended : List (Attended Teller)) (s : Settling) (r : IsRun Works p tellers attended s)
+module _ {L : Type 0} (state : L → LogState) (knows : L → Type 0) (p : Plan) (tellers : List (Teller L)) (attended : List (Attended (Teller L))) (s : Settling)
+    (r : IsRun (Works state knows) p tellers attended s)
     (whole : All EndsWhole attended) where
   many : length r.members ≡ p.threads
-  many = sym (length-map r.members (λ (t : Member Teller). t.desk)) ∙ r.opened.threads
+  many = sym (length-map r.members (λ (t : Member (Teller L)). t.desk)) ∙ r.opened.threads
 
-  new_desk_at : (k : ℕ) (mb : Member Teller) → slice_get r.members k ≡ Some mb → IsNewDesk (planned p) k mb.desk
-  new_desk_at k mb at = r.opened.desks k mb.desk (got_map (λ (t : Member Teller). t.desk) r.members k mb at)
+  new_desk_at : (k : ℕ) (mb : Member (Teller L)) → slice_get r.members k ≡ Some mb → IsNewDesk (planned p) k mb.desk
+  new_desk_at k mb at = r.opened.desks k mb.desk (got_map (λ (t : Member (Teller L)). t.desk) r.members k mb at)
 
-  ran_at : (k : ℕ) (mb : Member Teller) → slice_get r.members k ≡ Some mb → HasRun Works mb
-  ran_at k mb at = all_at (HasRun Works) r.members k mb r.ran at
+  ran_at : (k : ℕ) (mb : Member (Teller L)) → slice_get r.members k ≡ Some mb → HasRun (Works state knows) mb
+  ran_at k mb at = all_at (HasRun (Works state knows)) r.members k mb r.ran at
 
-  ended_thread : (k : ℕ) (mb : Member Teller) → slice_get r.members k ≡ Some mb → mb.ended.thread ≡ k + 1
+  ended_thread : (k : ℕ) (mb : Member (Teller L)) → slice_get r.members k ≡ Some mb → mb.ended.thread ≡ k + 1
   ended_thread k mb at =
       let run = ran_at k mb at in
       run.ends.ends.thread ∙ goes_thread run.left run.ends.emptied run.ends.goes_on ∙ goes_thread mb.desk run.left run.goes_on
       ∙ ap (λ (d : DeskView). d.thread) (new_desk_at k mb at).made
 
   abbrev parts : List ThreadPart
-  parts = map thread_part (map (λ (t : Member Teller). t.ended) r.members)
+  parts = map thread_part (map (λ (t : Member (Teller L)). t.ended) r.members)
 
   threads_are : s.threads ≡ parts
   threads_are = ap (λ (q : Settling). q.threads) r.settles
 
   numbered_ : (k : ℕ) (q : ThreadPart) → slice_get parts k ≡ Some q → q.thread ≡ 0 + k + 1
   numbered_ k q at =
-      let e = was_mapped thread_part (map (λ (t : Member Teller). t.ended) r.members) k q at in
-      let mb = was_mapped (λ (t : Member Teller). t.ended) r.members k e.0 e.1 in
+      let e = was_mapped thread_part (map (λ (t : Member (Teller L)). t.ended) r.members) k q at in
+      let mb = was_mapped (λ (t : Member (Teller L)). t.ended) r.members k e.0 e.1 in
       let thread : mb.0.ended.thread ≡ k + 1 = ended_thread k mb.0 mb.1 in
       let first : q.thread ≡ e.0.thread = sym (ap (λ (z : ThreadPart). z.thread) e.2) in
       let second : e.0.thread ≡ mb.0.ended.thread = sym (ap (λ (z : EndedView). z.thread) mb.2) in
       omega (arith, thread, first, second)
 
-  ledgers_are : (k : ℕ) (mb : Member Teller) → slice_get r.members k ≡ Some mb → ledgers_of s (0 + k + 1) ≡ mb.ended.ledgers
+  ledgers_are : (k : ℕ) (mb : Member (Teller L)) → slice_get r.members k ≡ Some mb → ledgers_of s (0 + k + 1) ≡ mb.ended.ledgers
   ledgers_are k mb at =
       ap (λ (l : List ThreadPart). ledgers_in (find_thread (0 + k + 1) l)) threads_are
       ∙ ap ledgers_in (find_numbered (λ (q : ThreadPart). q.thread) 0 parts numbered_ k (thread_part mb.ended)
-      (got_map thread_part (map (λ (t : Member Teller). t.ended) r.members) k mb.ended (got_map (λ (t : Member Teller). t.ended) r.members k mb at)))
+      (got_map thread_part (map (λ (t : Member (Teller L)). t.ended) r.members) k mb.ended (got_map (λ (t : Member (Teller L)). t.ended) r.members k mb at)))
 
-  known : (t : ℕ) → 1 ≤ t → t ≤ p.threads → Known p s t
+  known : (t : ℕ) → 1 ≤ t → t ≤ p.threads → Known state knows p s t
   known t positive below =
       let count = many in
       let (mb, at) = got r.members (t - 1) (omega (arith, positive, below, count)) in
@@ -145,7 +147,7 @@ module _ (p : Plan) (tellers : List Teller) (attended : List (Attended Teller)) 
         desk_thread = omega (arith, thread, number);
         nothing = nothing_sent p (t - 1) mb.desk fresh;
         worked = run.worked;
-        whole = all_at EndsWhole attended (t - 1) mb.attended whole (ap (λ (l : List (Attended Teller)). slice_get l (t - 1)) r.attended_are ∙ got_map (λ (t : Member Teller). t.attended) r.members (t - 1) mb at);
+        whole = all_at EndsWhole attended (t - 1) mb.attended whole (ap (λ (l : List (Attended (Teller L))). slice_get l (t - 1)) r.attended_are ∙ got_map (λ (t : Member (Teller L)). t.attended) r.members (t - 1) mb at);
         end = subst (HaveSent Never run.left.ledgers) (sym last) (numbers_sent (run.left, []) _ (run.ends.emptied, mb.attended.outstanding.items) run.ends.collects);
         managers =
             ap (λ (l : List LedgerView). length l) last ∙ same_many run.left run.ends.emptied run.ends.goes_on ∙ same_many mb.desk run.left run.goes_on
@@ -156,11 +158,11 @@ module _ (p : Plan) (tellers : List Teller) (attended : List (Attended Teller)) 
   few = let most = r.sound.limits.threads.1 in omega (arith, most)
 
   -- what a teller of the day made
-  made_by : (t : ℕ) (z : Known p s t)
-      → HasMade z.member.client.transfers.items z.member.client.death z.member.client.outcomes.items z.member.desk z.member.client.log.state z.member.attended.client.outcomes.items z.left z.member.attended.client.log.state
+  made_by : (t : ℕ) (z : Known state knows p s t)
+      → HasMade z.member.client.transfers.items z.member.client.habits z.member.client.outcomes.items z.member.desk (state z.member.client.log) (knows z.member.client.log) z.member.attended.client.outcomes.items z.left (state z.member.attended.client.log) (knows z.member.attended.client.log)
   made_by t z = z.worked.made z.whole.memory
 
-  fine_of : (t : ℕ) (z : Known p s t) → All IsUndoubted (made_by t z).more
+  fine_of : (t : ℕ) (z : Known state knows p s t) → All IsUndoubted (made_by t z).more
   fine_of t z = all_right IsUndoubted z.member.client.outcomes.items (made_by t z).more (subst (All IsUndoubted) (made_by t z).told z.whole.undoubted)
 
   nobody : (t : ℕ) → ((k : ℕ) (q : ThreadPart) → slice_get parts k ≡ Some q → q.thread ≢ t) → (m : ℕ) → sent s t m ≡ []
@@ -178,13 +180,13 @@ module _ (p : Plan) (tellers : List Teller) (attended : List (Attended Teller)) 
       let e = numbered_ k q at in
       let within = slice_get_within parts k q at in
       let count = many in
-      let size : length parts ≡ length r.members = length-map (map (λ (t : Member Teller). t.ended) r.members) _ ∙ length-map r.members _ in
+      let size : length parts ≡ length r.members = length-map (map (λ (t : Member (Teller L)). t.ended) r.members) _ ∙ length-map r.members _ in
       absurd (omega (arith, past, e, same, within, count, size)))))
       (λ (below : u ≤ p.threads).
       let z = known u positive below in
       let made = made_by u z in
       let bound = few in
-      inl (omega (arith, below, bound), all_told s u z.member.client.transfers.items z.member.client.death made.more z.member.desk z.left z.member.client.log.state z.member.attended.client.log.state z.desk_thread z.nothing made.makes z.end))
+      inl (omega (arith, below, bound), all_told s u z.member.client.transfers.items z.member.client.habits made.more z.member.desk z.left (state z.member.client.log) (state z.member.attended.client.log) z.desk_thread z.nothing made.makes z.end))
       (cases_lt p.threads u))
       (cases_lt u 1)
 
@@ -200,7 +202,7 @@ module _ (p : Plan) (tellers : List Teller) (attended : List (Attended Teller)) 
       let made = made_by t z in
       let bound = few in
       only_transfers adds undoubted p s r.agrees (λ m up to. opens p s m r.agrees r.of_plan up to) told t (omega (arith, below, bound)) z.managers
-      z.member.client.transfers.items z.member.client.death made.more z.member.desk z.left z.member.client.log.state z.member.attended.client.log.state z.desk_thread z.nothing made.makes (fine_of t z) z.end) in
+      z.member.client.transfers.items z.member.client.habits made.more z.member.desk z.left (state z.member.client.log) (state z.member.attended.client.log) z.desk_thread z.nothing made.makes (fine_of t z) z.end) in
       let nothing = total_nothing (threads_of p) in
       drop_nothing (settled_worth p s) (total (λ (t : ℕ). pos 0) (threads_of p)) (plan_worth p) all nothing
     where

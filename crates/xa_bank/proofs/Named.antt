@@ -25,7 +25,6 @@ use Rattle.xa_desk.specs.DeskView.{DeskView, ledger}
 use Rattle.xa_driver.specs.declared.branch.Branch.{Branch}
 use Rattle.xa_driver.specs.declared.done.Done.{Done}
 use Rattle.xa_driver.specs.declared.done.Ending.{Ending}
-use Rattle.xa_driver.specs.Asks.{asked}
 use Rattle.xa_driver.specs.Decision.{is_yes, is_read}
 use Rattle.xa_driver.specs.Endings.{second_op, third_op, is_out_of_reach, is_decided}
 use Rattle.xa_log.specs.Log.{LogState}
@@ -33,13 +32,15 @@ use Rattle.xa_driver.specs.Course.{AtBranch}
 use Rattle.xa_driver.specs.Resolving.{AsksLedger}
 use Rattle.xa_driver.specs.Trace.{EachBranch, IsCommit, has_branch_at}
 use Rattle.xa_driver.proofs.Mapped.{IsAskedFor, branch_by}
-use Rattle.xa_bank.specs.declared.dying.Death.{Death}
+use Rattle.xa_bank.specs.declared.habits.Habits.{Habits}
 use Rattle.xa_bank.specs.declared.dying.Point.{Point}
+use Rattle.xa_bank.specs.declared.dying.Point.TheVariants.{Voted}
 use Rattle.xa_bank.specs.Deaths.{CameTo, point_at}
 use Rattle.xa_bank.specs.declared.teller.Leg.{Leg}
 use Rattle.xa_bank.specs.declared.teller.Transfer.{Transfer}
 use Rattle.xa_bank.specs.declared.teller.TransferOutcome.{TransferOutcome}
 use Rattle.xa_bank.specs.Transfers.{HasSent, HaveSent, IsFor, AreLegs, pays_first, paid_first, HasWorked, HaveWorked, ComesOfCommit, in_full, cut_short}
+use Rattle.xa_bank.specs.Transfers.{undecided}
 use Rattle.xa_bank.specs.Transfers.{commits, refused, Makes, with_legs, without_legs, MakesEach, gtrid_of}
 use Rattle.xa_bank.proofs.Sent.{none_sent, sent_on, asked_sent, have_none, have_on, have_as}
 use Rattle.xa_bank.proofs.Deaths.{died_sent}
@@ -242,53 +243,55 @@ comes_names : (t n : ℕ) (one two : Leg) (point : Option Point) (o : TransferOu
     → LegsOf t n one two → ComesOfCommit (one.branch ∷ two.branch ∷ []) point o worked new log later → HaveSent (Names t (Is n)) worked.ledgers new
 comes_names t n one two point o worked new log later legs (in_full d none is made) = commit_names t n one two worked new log later d legs made
 comes_names t n one two point o worked new log later legs (cut_short at known some is dies) = died_names t n one two at known worked new log later legs dies.far
+comes_names t n one two point o worked new log later legs (undecided votes decides is may voted wanted) =
+    died_names t n one two Voted (Some voted.stage.known) worked new log log legs (voted.stage, voted.prepared, refl, refl)
 
-pub transfer_names : (t n : ℕ) (tr : Transfer) (point : Option Point) (o : TransferOutcome) (old new : DeskView) (log later : LogState)
-    → Makes t n tr point o old new log later → HaveSent (Names t (Is n)) old.ledgers new.ledgers
-transfer_names t n tr point o old new log later (with_legs one two legs (commits worked work comes)) =
+pub transfer_names : (t n : ℕ) (tr : Transfer) (habits : Habits) (o : TransferOutcome) (old new : DeskView) (log later : LogState)
+    → Makes t n tr habits o old new log later → HaveSent (Names t (Is n)) old.ledgers new.ledgers
+transfer_names t n tr habits o old new log later (with_legs one two left legs (commits worked work comes) kept) =
     let of_it = legs_are t n tr one two legs in
     have_on (Names t (Is n)) old.ledgers worked.ledgers new.ledgers
     (work_sent (Names t (Is n)) one two tr.account old.ledgers worked.ledgers (λ leg which. legs_name t n one two leg tr.account of_it which) work)
-    (comes_names t n one two point o worked new.ledgers log later of_it comes)
-transfer_names t n tr point o old new log later (with_legs one two legs (refused is same why sent)) =
+    (comes_names t n one two (point_at habits.death n) o worked new.ledgers log left of_it comes)
+transfer_names t n tr habits o old new log later (with_legs one two left legs (refused is same why sent) kept) =
     have_as (IsFor one two) (Names t (Is n)) (for_names t n one two (legs_are t n tr one two legs)) old.ledgers new.ledgers sent
-transfer_names t n tr point o old new log later (without_legs is none same unlogged) =
+transfer_names t n tr habits o old new log later (without_legs is none same unlogged) =
     have_none (Names t (Is n)) old.ledgers new.ledgers (ap (λ (d : DeskView). d.ledgers) same)
 
 -- from this number on
 abbrev pub IsFrom : ℕ → ℕ → Type 0
 IsFrom n k = n ≤ k
 
-pub transfers_name : (t : ℕ) (death : Option Death) (n : ℕ) (trs : List Transfer) (os : List TransferOutcome) (old new : DeskView) (log later : LogState)
-    → MakesEach t death n trs os old new log later → HaveSent (Names t (IsFrom n)) old.ledgers new.ledgers
-transfers_name t death n [] [] old new log later (same, unlogged) =
+pub transfers_name : (t : ℕ) (habits : Habits) (n : ℕ) (trs : List Transfer) (os : List TransferOutcome) (old new : DeskView) (log later : LogState)
+    → MakesEach t habits n trs os old new log later → HaveSent (Names t (IsFrom n)) old.ledgers new.ledgers
+transfers_name t habits n [] [] old new log later (same, unlogged) =
     have_none (Names t (IsFrom n)) old.ledgers new.ledgers (ap (λ (d : DeskView). d.ledgers) same)
-transfers_name t death n (tr ∷ trs) [] old new log later (same, unlogged) =
+transfers_name t habits n (tr ∷ trs) [] old new log later (same, unlogged) =
     have_none (Names t (IsFrom n)) old.ledgers new.ledgers (ap (λ (d : DeskView). d.ledgers) same)
-transfers_name t death n (tr ∷ trs) (o ∷ os) old new log later (mid, now, makes, rest) =
+transfers_name t habits n (tr ∷ trs) (o ∷ os) old new log later (mid, now, makes, rest) =
     have_on (Names t (IsFrom n)) old.ledgers mid.ledgers new.ledgers
-    (have_as (Names t (Is n)) (Names t (IsFrom n)) (names_as t (Is n) (IsFrom n) (λ k e. omega (arith, e))) old.ledgers mid.ledgers (transfer_names t n tr (point_at death n) o old mid log now makes))
-    (have_as (Names t (IsFrom (n + 1))) (Names t (IsFrom n)) (names_as t (IsFrom (n + 1)) (IsFrom n) (λ k le. omega (arith, le))) mid.ledgers new.ledgers (transfers_name t death (n + 1) trs os mid new now later rest))
-transfers_name t death n [] (o ∷ os) old new log later h = absurd h
+    (have_as (Names t (Is n)) (Names t (IsFrom n)) (names_as t (Is n) (IsFrom n) (λ k e. omega (arith, e))) old.ledgers mid.ledgers (transfer_names t n tr habits o old mid log now makes))
+    (have_as (Names t (IsFrom (n + 1))) (Names t (IsFrom n)) (names_as t (IsFrom (n + 1)) (IsFrom n) (λ k le. omega (arith, le))) mid.ledgers new.ledgers (transfers_name t habits (n + 1) trs os mid new now later rest))
+transfers_name t habits n [] (o ∷ os) old new log later h = absurd h
 
-makes_none : (t : ℕ) (death : Option Death) (n : ℕ) (trs : List Transfer) (d : DeskView) (log : LogState) → MakesEach t death n trs [] d d log log
-makes_none t death n [] d log = (refl, refl)
-makes_none t death n (tr ∷ trs) d log = (refl, refl)
+pub makes_none : (t : ℕ) (habits : Habits) (n : ℕ) (trs : List Transfer) (d : DeskView) (log : LogState) → MakesEach t habits n trs [] d d log log
+makes_none t habits n [] d log = (refl, refl)
+makes_none t habits n (tr ∷ trs) d log = (refl, refl)
 
 -- one transfer more at the end, and more that weren't made
-pub makes_more : (t : ℕ) (death : Option Death) (n : ℕ) (trs : List Transfer) (os : List TransferOutcome) (tr : Transfer) (unmade : List Transfer) (o : TransferOutcome) (old mid new : DeskView) (log now later : LogState)
-    → length os ≡ length trs → MakesEach t death n trs os old mid log now → Makes t (n + length trs) tr (point_at death (n + length trs)) o mid new now later
-    → MakesEach t death n (trs ++ tr ∷ unmade) (os ++ o ∷ []) old new log later
-makes_more t death n [] [] tr unmade o old mid new log now later many (same, unlogged) makes =
-    let here : Makes t n tr (point_at death n) o mid new now later =
-    subst (λ k. Makes t k tr (point_at death k) o mid new now later) (let e : n + 0 ≡ n = omega arith in e) makes in
-    (new, later, subst (λ (d : DeskView). Makes t n tr (point_at death n) o d new log later) same (subst (λ (l : LogState). Makes t n tr (point_at death n) o mid new l later) unlogged here), makes_none t death (n + 1) unmade new later)
-makes_more t death n (r ∷ trs) (p ∷ os) tr unmade o old mid new log now later many (next, state, first, rest) makes = (
+pub makes_more : (t : ℕ) (habits : Habits) (n : ℕ) (trs : List Transfer) (os : List TransferOutcome) (tr : Transfer) (unmade : List Transfer) (o : TransferOutcome) (old mid new : DeskView) (log now later : LogState)
+    → length os ≡ length trs → MakesEach t habits n trs os old mid log now → Makes t (n + length trs) tr habits o mid new now later
+    → MakesEach t habits n (trs ++ tr ∷ unmade) (os ++ o ∷ []) old new log later
+makes_more t habits n [] [] tr unmade o old mid new log now later many (same, unlogged) makes =
+    let here : Makes t n tr habits o mid new now later =
+    subst (λ k. Makes t k tr habits o mid new now later) (let e : n + 0 ≡ n = omega arith in e) makes in
+    (new, later, subst (λ (d : DeskView). Makes t n tr habits o d new log later) same (subst (λ (l : LogState). Makes t n tr habits o mid new l later) unlogged here), makes_none t habits (n + 1) unmade new later)
+makes_more t habits n (r ∷ trs) (p ∷ os) tr unmade o old mid new log now later many (next, state, first, rest) makes = (
   next,
   state,
   first,
-  makes_more t death (n + 1) trs os tr unmade o next mid new state now later (omega (arith, many)) rest
-      (subst (λ k. Makes t k tr (point_at death k) o mid new now later) (let e : n + suc (length trs) ≡ n + 1 + length trs = omega arith in e) makes),
+  makes_more t habits (n + 1) trs os tr unmade o next mid new state now later (omega (arith, many)) rest
+      (subst (λ k. Makes t k tr habits o mid new now later) (let e : n + suc (length trs) ≡ n + 1 + length trs = omega arith in e) makes),
 )
-makes_more t death n (r ∷ trs) [] tr unmade o old mid new log now later many h makes = absurd (omega (arith, many))
-makes_more t death n [] (p ∷ os) tr unmade o old mid new log now later many h makes = absurd h
+makes_more t habits n (r ∷ trs) [] tr unmade o old mid new log now later many h makes = absurd (omega (arith, many))
+makes_more t habits n [] (p ∷ os) tr unmade o old mid new log now later many h makes = absurd h

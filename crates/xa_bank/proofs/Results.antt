@@ -5,6 +5,6 @@ pub ok_as : {A E : Type 0} (P Q : A → Type 0) → ((a : A) → P a → Q a) �
 ok_as P Q also (Ok a) h = also a h
 ok_as P Q also (Err e) h = h
 
-pub err_as : {A E : Type 0} (P Q : Type 0) → (P → Q) → (r : Result A E) → OnErr r P → OnErr r Q
-err_as P Q also (Ok a) h = h
-err_as P Q also (Err e) h = also h
+pub err_same : {A E : Type 0} (P : Type 0) (r : Result A E) → P → OnErr r P
+err_same P (Ok a) h = tt
+err_same P (Err e) h = h

@@ -1,5 +1,5 @@
 -- The death of a teller as it commits a transfer.
-use Rattle.std.specs.Prelude.{◌≡◌, ℕ, ◌==◌, if◌then◌else◌, Option, None, Some, List, []}
+use Rattle.std.specs.Prelude.{◌≡◌, ℕ, ◌==◌, if◌then◌else◌, Bool, true, false, Option, None, Some, List, []}
 use Rattle.xa_desk.specs.LedgerView.{LedgerView}
 use Rattle.xa_desk.specs.DeskView.{DeskView}
 use Rattle.xa_driver.specs.declared.branch.Branch.{Branch}
@@ -22,6 +22,14 @@ use Rattle.xa_bank.specs.declared.dying.Point.TheVariants as point
 abbrev pub point_at : Option Death → ℕ → Option Point
 point_at None n = None
 point_at (Some d) n = if d.place == n then Some d.point else None
+
+-- the commit is decided before this point
+abbrev pub is_decided_by : Point → Bool
+is_decided_by point.Asking = false
+is_decided_by point.Voted = false
+is_decided_by point.Decided = true
+is_decided_by point.Telling = true
+is_decided_by point.Told = true
 
 -- the endings among what was known
 abbrev pub endings_in : Option Done → List Ending

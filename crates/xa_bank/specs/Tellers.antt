@@ -1,49 +1,64 @@
 -- What a teller comes to.
-use Rattle.std.specs.Prelude.{◌≡◌, ◌+◌, Bool, true, false, Option, None, List, [], ◌∷◌, ◌++◌, length}
+use Rattle.std.specs.Prelude.{◌≡◌, ◌+◌, Bool, true, false, None, List, [], ◌∷◌, ◌++◌, length}
 use Rattle.std.specs.List.{All, list_any}
 use Rattle.xa_desk.specs.DeskView.{DeskView}
 use Rattle.xa_crew.specs.declared.client_job.Attended.{Attended}
 use Rattle.xa_driver.specs.declared.done.Ending.{Ending}
 use Rattle.xa_log.specs.Log.{LogState}
 use Rattle.xa_atomicity.specs.Outcomes.{is_heuristic, is_in_doubt}
-use Rattle.xa_bank.specs.declared.dying.Death.{Death}
 use Rattle.xa_bank.specs.declared.dying.Point.{Point}
 use Rattle.xa_bank.specs.declared.dying.Point.TheVariants as point
+use Rattle.xa_bank.specs.declared.habits.Habits.{Habits}
 use Rattle.xa_bank.specs.declared.teller.TransferOutcome.{TransferOutcome}
-use Rattle.xa_bank.specs.declared.teller.TransferOutcome.TheVariants.{Decided, Died, Refused}
+use Rattle.xa_bank.specs.declared.teller.TransferOutcome.TheVariants.{Decided, Died, Refused, Undecided}
 use Rattle.xa_bank.specs.declared.teller.Teller.{Teller}
 use Rattle.xa_bank.specs.declared.teller.Transfer.{Transfer}
 use Rattle.xa_bank.specs.Deaths.{endings_in}
-use Rattle.xa_bank.specs.Transfers.{MakesAll}
+use Rattle.xa_bank.specs.Transfers.{LeavesKnown, MakesAll}
+
+-- the habits of a teller that counts from 0, lives, and keeps its records
+abbrev pub plain : Habits
+plain = record { first = 0; death = None; forgets = false }
 
 -- the teller died with the transfer
 abbrev pub has_died : TransferOutcome → Bool
 has_died (Died at known) = true
 has_died o = false
 
--- How far a teller came with these transfers: it lived, and made all of them; or it died with the last that it made.
-pub data Comes (trs : List Transfer) (os : List TransferOutcome) : Type 0 where
-  lived : list_any has_died os ≡ false → length os ≡ length trs → Comes trs os
-  died : (before : List TransferOutcome) (o : TransferOutcome) → os ≡ before ++ o ∷ []
-      → list_any has_died before ≡ false → has_died o ≡ true → Comes trs os
+-- no transfer is made after it: the teller died with it, or its log has lost the record
+abbrev pub is_last : TransferOutcome → Bool
+is_last (Died at known) = true
+is_last (Undecided votes) = true
+is_last o = false
 
--- these transfers were made, up to the teller's death, and what became of each was told after the outcomes before it
-pub record HasMade (trs : List Transfer) (death : Option Death) (before : List TransferOutcome) (old : DeskView)
-    (log : LogState) (after : List TransferOutcome) (new : DeskView) (later : LogState) : Type 0 where
+-- How far a teller came with these transfers, where its log is known at first if `Known`, and at the end if `Knows`: it
+-- lived, and made all of them; or the last that it made was the last; or its log wasn't known, and it made none.
+pub data Comes (Known Knows : Type 0) (trs : List Transfer) (os : List TransferOutcome) : Type 0 where
+  lived : list_any is_last os ≡ false → length os ≡ length trs → Knows → Comes Known Knows trs os
+  ended : (before : List TransferOutcome) (o : TransferOutcome) → os ≡ before ++ o ∷ []
+      → list_any is_last before ≡ false → is_last o ≡ true → LeavesKnown Knows o → Comes Known Knows trs os
+  unknown : (Known → ⊥) → os ≡ [] → Comes Known Knows trs os
+
+-- these transfers were made, up to the last that the teller makes, and what became of each was told after the outcomes
+-- before it
+pub record HasMade (trs : List Transfer) (habits : Habits) (before : List TransferOutcome) (old : DeskView)
+    (log : LogState) (Known : Type 0) (after : List TransferOutcome) (new : DeskView) (later : LogState)
+    (Knows : Type 0) : Type 0 where
   pub more : List TransferOutcome
   pub told : after ≡ before ++ more
-  pub makes : MakesAll trs death more old new log later
-  pub comes : Comes trs more
+  pub makes : MakesAll trs habits more old new log later
+  pub comes : Comes Known Knows trs more
 
--- Its transfers stay, and so does the death that it is to die. Unless memory was refused, there is an outcome more for
--- each of its transfers, where it isn't to die, and its desk and its log show that it came so.
-pub record Works (t : Teller) (d : DeskView) (t' : Teller) (d' : DeskView) : Type 0 where
+-- Its transfers and its habits stay. Unless memory was refused, there is an outcome more for each of its transfers,
+-- where it isn't to die and its log is known at first and at the end; and its desk and its log show that it came so.
+pub record Works {L : Type 0} (state : L → LogState) (knows : L → Type 0) (t : Teller L) (d : DeskView)
+    (t' : Teller L) (d' : DeskView) : Type 0 where
   pub transfers : t'.transfers ≡ t.transfers
-  pub death : t'.death ≡ t.death
-  pub outcomes : t'.wants_memory ≡ false → t.death ≡ None
+  pub habits : t'.habits ≡ t.habits
+  pub outcomes : t'.wants_memory ≡ false → t.habits.death ≡ None → knows t.log → knows t'.log
       → length t'.outcomes.items ≡ length t.outcomes.items + length t.transfers.items
-  pub made : t'.wants_memory ≡ false → HasMade t.transfers.items t.death t.outcomes.items d t.log.state
-      t'.outcomes.items d' t'.log.state
+  pub made : t'.wants_memory ≡ false → HasMade t.transfers.items t.habits t.outcomes.items d (state t.log)
+      (knows t.log) t'.outcomes.items d' (state t'.log) (knows t'.log)
 
 -- Nothing is in doubt of a transfer with which the teller died: no branch had heard of the decision, so that none is
 -- committed; or it was known how each ended, and none was decided by its store itself.
@@ -54,13 +69,14 @@ IsClearAt point.Decided endings = Unit {0}
 IsClearAt point.Telling endings = ⊥
 IsClearAt point.Told endings = (list_any is_in_doubt endings ≡ false) × (list_any is_heuristic endings ≡ false)
 
--- no branch of the transfer is in doubt
+-- no branch of the transfer is in doubt, or none was told a decision, so that none is committed
 abbrev pub IsUndoubted : TransferOutcome → Type 0
 IsUndoubted (Decided done) = list_any is_in_doubt done.endings.items ≡ false
 IsUndoubted (Died at known) = IsClearAt at (endings_in known)
+IsUndoubted (Undecided votes) = Unit {0}
 IsUndoubted Refused = Unit {0}
 
 -- the teller got all memory that it asked for, and no branch of its transfers is in doubt
-pub record EndsWhole (a : Attended Teller) : Type 0 where
+pub record EndsWhole {L : Type 0} (a : Attended (Teller L)) : Type 0 where
   pub memory : a.client.wants_memory ≡ false
   pub undoubted : All IsUndoubted a.client.outcomes.items

@@ -1,10 +1,13 @@
 -- What a transfer does to its teller's desk.
 use Rattle.std.specs.Prelude.{◌≡◌, ◌≢◌, ℕ, ◌+◌, ◌-◌, ◌*◌, ◌^◌, ◌≤◌, ◌<◌, ◌⊎◌, ℤ, pos, neg_ℤ, true, false, List, []}
-use Rattle.std.specs.Prelude.{◌∷◌, ◌++◌, length, Option, None, Some}
+use Rattle.std.specs.Prelude.{◌∷◌, ◌++◌, length, Option, None, Some, Bool, if◌then◌else◌, Vec}
+use Rattle.std.specs.Global.{Global}
 use Rattle.std.specs.List.{All}
 use Rattle.std.specs.Int.{w64, to_be_bytes}
 use Rattle.xa_base.specs.Lists.{Begins}
 use Rattle.xa_words.specs.Xid.{XidName}
+use Rattle.xa_words.specs.Tran.{TranName, tran_of}
+use Rattle.xa_words.specs.declared.code.Code.{Code}
 use Rattle.xa_words.specs.declared.code.Code.TheVariants.{Done as Ok_}
 use Rattle.xa_words.specs.declared.request.Op.{Op}
 use Rattle.xa_words.specs.declared.request.Op.TheVariants.{OpenRm, Start, Add, End}
@@ -16,15 +19,17 @@ use Rattle.xa_desk.specs.DeskView.{DeskView, IsKnown, ledger, outstanding, room_
 use Rattle.xa_driver.specs.declared.branch.Branch.{Branch}
 use Rattle.xa_driver.specs.declared.done.Done.{Done}
 use Rattle.xa_driver.specs.Commits.{is_commit}
-use Rattle.xa_log.specs.Log.{LogState}
-use Rattle.xa_driver.specs.Trace.{IsCommit, MayCommit}
-use Rattle.xa_bank.specs.Deaths.{Dies, point_at}
-use Rattle.xa_bank.specs.declared.dying.Death.{Death}
+use Rattle.xa_driver.specs.Forgetful.{is_acknowledged}
+use Rattle.xa_driver.specs.Stages.{HasVoted}
+use Rattle.xa_log.specs.Log.{LogState, without_record}
+use Rattle.xa_driver.specs.Trace.{IsCommit, MayCommit, wants_record}
+use Rattle.xa_bank.specs.Deaths.{Dies, is_decided_by, point_at}
 use Rattle.xa_bank.specs.declared.dying.Point.{Point}
+use Rattle.xa_bank.specs.declared.habits.Habits.{Habits}
 use Rattle.xa_bank.specs.declared.teller.Leg.{Leg}
 use Rattle.xa_bank.specs.declared.teller.Transfer.{Transfer}
 use Rattle.xa_bank.specs.declared.teller.TransferOutcome.{TransferOutcome}
-use Rattle.xa_bank.specs.declared.teller.TransferOutcome.TheVariants.{Decided, Died, Refused}
+use Rattle.xa_bank.specs.declared.teller.TransferOutcome.TheVariants.{Decided, Died, Refused, Undecided}
 use Rattle.xa_bank.specs.declared.teller.TheConstants.{BRANCHES, REQUESTS}
 use Rattle.xa_bank.specs.Requests.{GivesUp, Tries}
 
@@ -95,14 +100,29 @@ pub record HaveWorked (one two : Leg) (k : List ℕ) (old new : List LedgerView)
   pub two_ : HasWorked two k (ledger old two.branch.m) (ledger new two.branch.m)
   pub others : (m : ℕ) → 1 ≤ m → m ≢ one.branch.m → m ≢ two.branch.m → ledger new m ≡ ledger old m
 
+-- a teller that is to die at this point of a commit, or at none, comes to the decision
+abbrev pub comes_to_decide : Option Point → Bool
+comes_to_decide None = true
+comes_to_decide (Some at) = is_decided_by at
+
 -- What comes of a commit of these branches, at a point of which the teller is to die, or at none: it was made, and
--- decided so; or the teller died there.
+-- decided so; or the teller died there; or all votes wanted a record, nobody knows whether the log has it, and so the
+-- branches were told nothing.
 pub data ComesOfCommit (bs : List Branch) (point : Option Point) (o : TransferOutcome) (desk : DeskView)
     (new : List LedgerView) (log later : LogState) : Type 0 where
   in_full : (done : Done) → point ≡ None → o ≡ Decided done → IsCommit bs desk new log later done
       → ComesOfCommit bs point o desk new log later
   cut_short : (at : Point) (known : Option Done) → point ≡ Some at → o ≡ Died at known
       → Dies at bs known desk new log later → ComesOfCommit bs point o desk new log later
+  undecided : (votes : Vec Code Global) → comes_to_decide point ≡ true → o ≡ Undecided votes → MayCommit desk log bs
+      → HasVoted bs desk.ledgers new votes.items → wants_record votes.items ≡ true
+      → ComesOfCommit bs point o desk new log later
+
+-- Whether a log is known, after a transfer that came to this of which it was known before: unless it has lost the
+-- record.
+abbrev pub LeavesKnown : Type 0 → TransferOutcome → Type 0
+LeavesKnown Known (Undecided votes) = Known → ⊥
+LeavesKnown Known o = Known
 
 -- There is room for a transfer of these legs: a handle for each branch as it commits, and as many planned requests at
 -- each store as it may need there.
@@ -138,12 +158,20 @@ pub data Transfers (one two : Leg) (k : List ℕ) (point : Option Point) (o : Tr
   refused : o ≡ Refused → later ≡ log → IsRefused one two k old new log
       → HaveSent (IsFor one two) old.ledgers new.ledgers → Transfers one two k point o old new log later
 
--- What comes of thread t's transfer of number n: that of its legs; or it has none, and nothing is done.
-pub data Makes (t n : ℕ) (tr : Transfer) (point : Option Point) (o : TransferOutcome) (old new : DeskView)
+-- the log, once the record of a transaction that came to this is forgotten, where every store has acknowledged it
+abbrev pub forgotten : TranName → TransferOutcome → LogState → LogState
+forgotten tran (Decided done) log = if is_acknowledged done then without_record log tran else log
+forgotten tran o log = log
+
+-- What comes of thread t's transfer of number n, by its habits: that of its legs, and the record may be forgotten; or
+-- it has none, and nothing is done.
+pub data Makes (t n : ℕ) (tr : Transfer) (habits : Habits) (o : TransferOutcome) (old new : DeskView)
     (log later : LogState) : Type 0 where
-  with_legs : (one two : Leg) → AreLegs t n tr one two → Transfers one two tr.account point o old new log later
-      → Makes t n tr point o old new log later
-  without_legs : o ≡ Refused → HasNoLegs n tr → new ≡ old → later ≡ log → Makes t n tr point o old new log later
+  with_legs : (one two : Leg) (left : LogState) → AreLegs t n tr one two
+      → Transfers one two tr.account (point_at habits.death n) o old new log left
+      → later ≡ (if habits.forgets then forgotten (tran_of one.branch.xid) o left else left)
+      → Makes t n tr habits o old new log later
+  without_legs : o ≡ Refused → HasNoLegs n tr → new ≡ old → later ≡ log → Makes t n tr habits o old new log later
 
 -- What comes of thread t's transfer of number n where memory was wanted: it is given up.
 pub record WantsMemory (t n : ℕ) (tr : Transfer) (old new : DeskView) : Type 0 where
@@ -153,18 +181,18 @@ pub record WantsMemory (t n : ℕ) (tr : Transfer) (old new : DeskView) : Type 0
   pub given_up : IsGivenUp one two tr.account old new
 
 -- so for as many of these transfers as there are outcomes, one after the other, with numbers from n on
-abbrev pub MakesEach : ℕ → Option Death → ℕ → List Transfer → List TransferOutcome → DeskView → DeskView → LogState
+abbrev pub MakesEach : ℕ → Habits → ℕ → List Transfer → List TransferOutcome → DeskView → DeskView → LogState
     → LogState → Type 0
-MakesEach t death n [] [] old new log later = (new ≡ old) × (later ≡ log)
-MakesEach t death n (tr ∷ trs) [] old new log later = (new ≡ old) × (later ≡ log)
-MakesEach t death n (tr ∷ trs) (o ∷ os) old new log later =
-    (mid : DeskView) × (now : LogState) × Makes t n tr (point_at death n) o old mid log now
-    × MakesEach t death (n + 1) trs os mid new now later
-MakesEach t death n [] (o ∷ os) old new log later = ⊥
+MakesEach t habits n [] [] old new log later = (new ≡ old) × (later ≡ log)
+MakesEach t habits n (tr ∷ trs) [] old new log later = (new ≡ old) × (later ≡ log)
+MakesEach t habits n (tr ∷ trs) (o ∷ os) old new log later =
+    (mid : DeskView) × (now : LogState) × Makes t n tr habits o old mid log now
+    × MakesEach t habits (n + 1) trs os mid new now later
+MakesEach t habits n [] (o ∷ os) old new log later = ⊥
 
--- the thread opened stores, and then made these transfers
-pub record MakesAll (trs : List Transfer) (death : Option Death) (os : List TransferOutcome) (old new : DeskView)
+-- the thread opened stores, and then made these transfers, the first of which has the number of its habits
+pub record MakesAll (trs : List Transfer) (habits : Habits) (os : List TransferOutcome) (old new : DeskView)
     (log later : LogState) : Type 0 where
   pub opened : DeskView
   pub opens : HaveSent IsOpenRm old.ledgers opened.ledgers
-  pub makes : MakesEach old.thread death 0 trs os opened new log later
+  pub makes : MakesEach old.thread habits habits.first trs os opened new log later

@@ -1,9 +1,11 @@
 //! The death of a teller as it commits a transfer: what it left is for others to resolve, by its log.
-ghost use Rattle.std.specs.Prelude.{◌≡◌, IfOk, OnErr};
-ghost use Rattle.xa_bank.specs.Deaths.{Dies, point_at};
+ghost use Rattle.std.specs.Prelude.{◌≡◌, true, IfErr, IfOk, IsErrOf, OnOk};
+ghost use Rattle.xa_bank.specs.Deaths.{Dies, is_decided_by, point_at};
 ghost use Rattle.xa_desk.specs.GoesOn.{GoesOn};
 ghost use Rattle.xa_desk.specs.Kept.{AllKept};
-ghost use Rattle.xa_driver.specs.Trace.{MayCommit};
+ghost use Rattle.xa_driver.specs.declared.done.CommitFault.TheVariants.{NoMemory};
+ghost use Rattle.xa_driver.specs.Stages.{HasVoted, IfUndecided};
+ghost use Rattle.xa_driver.specs.Trace.{MayCommit, wants_record};
 
 use std::alloc::Global;
 use std::sync::Wait;
@@ -11,8 +13,8 @@ use xa_atomicity::{others_leave_the_branches, rounds_are_cuts, stages_are_cuts, 
 use xa_crew::laws::idles_go_on;
 use xa_desk::laws::desks_go_on;
 use xa_desk::{Desk, Idle};
-use xa_driver::{Branch, Done, DriverFault, begin_prepare};
-use xa_log::MemoryLog;
+use xa_driver::{Branch, CommitFault, Done, begin_prepare};
+use xa_log::DecisionLog;
 
 /// A point of a commit at which its teller dies.
 #[derive(Clone, Copy, Debug, PartialEq, Eq)]
@@ -32,18 +34,18 @@ pub enum Point {
 /// The death that a teller is to die. Where its transfer at that place comes to no commit, it lives on.
 #[derive(Clone, Copy, Debug, PartialEq, Eq)]
 pub struct Death {
-    /// The place of the transfer among the teller's, from 0.
+    /// The number of the transfer: its place among the teller's, where these are counted from 0.
     pub place: usize,
     /// The point of its commit.
     pub point: Point,
 }
 
-/// The point at which the teller dies in its transfer at this place, if it dies there.
-pub(crate) fn point_at(death: Option<Death>, place: usize) -> Option<Point>
-    ensures { result ≡ point_at death place }
+/// The point at which the teller dies in its transfer of this number, if it dies there.
+pub(crate) fn point_at(death: Option<Death>, number: usize) -> Option<Point>
+    ensures { result ≡ point_at death number }
 {
     match death {
-        Some(death) if death.place == place => Some(death.point),
+        Some(death) if death.place == number => Some(death.point),
         _ => None,
     }
 }
@@ -51,24 +53,31 @@ pub(crate) fn point_at(death: Option<Death>, place: usize) -> Option<Point>
 /// Commits the branches up to the point at which the teller dies. It tells what is known of the commit then, which is
 /// nothing before all have voted. Requests that are in flight are kept under handles.
 ///
-/// It fails only for want of memory, and then nothing was sent.
-pub(crate) fn die<R: Wait, I: Idle>(
+/// It fails for want of memory, and then nothing was sent; and where the log has lost the record before the teller came
+/// to its death.
+pub(crate) fn die<R: Wait, L: DecisionLog, I: Idle>(
     rt: &R,
     alloc: Global,
     desk: &mut Desk,
-    log: &mut MemoryLog,
+    log: &mut L,
     branches: &[Branch],
     at: Point,
     idle: &mut I,
-) -> Result<Option<Done>, DriverFault>
-    requires { MayCommit desk.old log.old.state branches.now }
+) -> Result<Option<Done>, CommitFault>
+    requires may { MayCommit desk.old (L.state log.old) branches.now }
+    requires known { L.knows log.old }
     ensures goes_on { GoesOn desk.old desk.new }
     ensures kept { AllKept desk.old → AllKept desk.new }
     ensures idled { I.leads idle.old idle.new }
-    ensures dies { IfOk result (λ known. Dies at branches.now known desk.old desk.new.ledgers log.old.state
-        log.new.state) }
-    ensures unsent { OnErr result (desk.new ≡ desk.old) }
-    ensures unlogged { OnErr result (log.new.state ≡ log.old.state) }
+    ensures dies { IfOk result (λ known. Dies at branches.now known desk.old desk.new.ledgers (L.state log.old)
+        (L.state log.new)) }
+    ensures known { OnOk result (L.knows log.new) }
+    ensures undecided { IfErr result (IfUndecided (λ votes.
+        HasVoted branches.now desk.old.ledgers desk.new.ledgers votes × (wants_record votes ≡ true)
+        × (is_decided_by at ≡ true))) }
+    ensures lost { IfErr result (IfUndecided (λ votes. L.knows log.new → ⊥)) }
+    ensures unsent { IsErrOf result NoMemory → desk.new ≡ desk.old }
+    ensures unlogged { IsErrOf result NoMemory → log.new ≡ log.old }
 {
     desks_go_on();
     idles_go_on::<I>();
@@ -88,8 +97,7 @@ pub(crate) fn die<R: Wait, I: Idle>(
     }
     let decided = match prepared.decide(log) {
         Ok(decided) => decided,
-        // No append to a log in memory has an unknown end.
-        Err(prepared) => return Ok(Some(prepared.let_go())),
+        Err(prepared) => return Err(CommitFault::Undecided(prepared.let_go().votes)),
     };
     if at == Point::Decided {
         return Ok(Some(decided.let_go()));

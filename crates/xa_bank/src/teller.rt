@@ -1,17 +1,19 @@
 //! What a teller does: transfers, one after the other.
-ghost use Rattle.std.specs.Prelude.{◌≡◌, ◌+◌, ◌≤◌, ◌↔◌, ℤ, ◌≤ℤ◌, neg_ℤ, pos, [], length, true, IfOk, IsTrue};
+ghost use Rattle.std.specs.Prelude.{◌≡◌, ◌+◌, ◌≤◌, ◌↔◌, ℤ, ◌≤ℤ◌, neg_ℤ, pos, [], length, false, true, IfOk, IsTrue};
 ghost use Rattle.std.specs.Prelude.{MatchOption, None};
 ghost use Rattle.std.specs.Prelude.{OnErr, OnOk, Some};
 ghost use Rattle.xa_words.specs.Flags.{TMFAIL};
 ghost use Rattle.xa_bank.specs.Requests.{Asks, GivesUp, Tries};
-ghost use Rattle.xa_bank.specs.Tellers.{HasMade, has_died};
+ghost use Rattle.xa_bank.specs.Tellers.{HasMade, has_died, is_last, plain};
 ghost use Rattle.xa_bank.specs.Transfers.{AreApart, AreLegs, HaveSent, HaveWorked, IsFor, IsLeg, IsOpenRm, Makes};
 ghost use Rattle.xa_bank.specs.Transfers.{ComesOfCommit, HasNoLegs, HasRoom, IsGivenUp, Transfers, WantsMemory};
+ghost use Rattle.xa_bank.specs.Transfers.{LeavesKnown, forgotten};
 ghost use Rattle.xa_desk.specs.GoesOn.{GoesOn};
 ghost use Rattle.xa_desk.specs.Kept.{AllKept};
 ghost use Rattle.xa_driver.specs.Trace.{MayCommit};
 
 use crate::dying::{Death, Point, die, point_at};
+use crate::habits::Habits;
 use crate::in_flight::work_in_flight;
 use crate::in_turn::work_in_turn;
 use std::alloc::{AllocError, Global};
@@ -20,10 +22,12 @@ use xa_crew::Client;
 use xa_crew::laws::idles_go_on;
 use xa_desk::laws::desks_go_on;
 use xa_desk::{Desk, Idle};
-use xa_driver::{Branch, CommitFault, Done, DriverFault, commit_all, may_commit};
-use xa_log::MemoryLog;
+use xa_driver::{
+    Branch, CommitFault, Done, DriverFault, commit_all, forget_acknowledged, may_commit,
+};
+use xa_log::{DecisionLog, MemoryLog};
 use xa_switch::xa_call;
-use xa_words::{Call, Delta, EndHow, Key, Op, TMFAIL, TMNOFLAGS, Xid};
+use xa_words::{Call, Code, Delta, EndHow, Key, Op, TMFAIL, TMNOFLAGS, Tran, Xid};
 
 /// An amount that goes from an account at one store to the account of that name at another.
 #[derive(Clone, Copy, Debug, PartialEq, Eq)]
@@ -44,6 +48,10 @@ pub enum TransferOutcome {
     /// The work for both branches answered XA_OK, and the teller died at this point of their commit. What was known of
     /// it then, and nothing before all had voted: what is left is resolved by the teller's log.
     Died { at: Point, known: Option<Done> },
+    /// The work for both branches answered XA_OK, and so did their Prepares, or one only read; and nobody knows whether
+    /// the teller's log has the record of it. No store was told a decision: what is left is resolved by the log, once
+    /// it is opened again. With the votes, in the order of the branches.
+    Undecided(Vec<Code>),
     /// No Commit was sent for it. Either it has no two legs, or wanted handles or planned requests, and nothing was
     /// sent; or not all of its work answered XA_OK, and it was given up: both branches were ended as failed and rolled
     /// back.
@@ -55,8 +63,16 @@ impl TransferOutcome {
     pub fn has_died(&self) -> bool
         ensures { result ≡ has_died self.now }
     {
+        matches!(self, TransferOutcome::Died { at: _, known: _ })
+    }
+
+    /// Whether its teller makes no transfer after it: it died with it, or its log has lost the record.
+    pub fn is_last(&self) -> bool
+        ensures { result ≡ is_last self.now }
+    {
         match self {
             TransferOutcome::Died { at: _, known: _ } => true,
+            TransferOutcome::Undecided(_) => true,
             TransferOutcome::Decided(_) | TransferOutcome::Refused => false,
         }
     }
@@ -64,12 +80,13 @@ impl TransferOutcome {
 
 /// A teller: a decision log of its own, its transfers, and what became of each.
 #[derive(Drop)]
-pub struct Teller {
+pub struct Teller<L> {
     alloc: Global,
-    log: MemoryLog,
+    log: L,
     transfers: Vec<Transfer>,
-    death: Option<Death>,
-    /// One for each transfer that was made, in their order. None was made after one with which the teller died.
+    habits: Habits,
+    /// One for each transfer that was made, in their order. None was made after one with which the teller died, or that
+    /// its log has lost, and none at all where the log wasn't known at first.
     pub outcomes: Vec<TransferOutcome>,
     /// Whether memory was refused, after which no transfer was made.
     pub wants_memory: bool,
@@ -97,14 +114,14 @@ fn leg_of(gtrid: &[u8], bqual: &[u8], m: u32, amount: i64) -> Leg
     Leg { branch, delta }
 }
 
-// The two legs of the transfer at a place of the thread's, by rising store. There are none where the stores are one, or
-// the place is too great.
-fn legs_of(thread: u32, place: usize, transfer: &Transfer) -> Option<(Leg, Leg)>
-    ensures { MatchOption result (HasNoLegs place transfer.now)
-        (λ legs. AreLegs thread place transfer.now legs.0 legs.1) }
+// The two legs of the thread's transfer of this number, by rising store. There are none where the stores are one, or
+// the number is too great.
+fn legs_of(thread: u32, number: usize, transfer: &Transfer) -> Option<(Leg, Leg)>
+    ensures { MatchOption result (HasNoLegs number transfer.now)
+        (λ legs. AreLegs thread number transfer.now legs.0 legs.1) }
 {
-    let place = u32::try_from(place).ok()?;
-    let gtrid = (u64::from(thread) * 0x1_0000_0000 + u64::from(place)).to_be_bytes();
+    let number = u32::try_from(number).ok()?;
+    let gtrid = (u64::from(thread) * 0x1_0000_0000 + u64::from(number)).to_be_bytes();
     let Transfer {
         from,
         to,
@@ -212,62 +229,64 @@ fn has_room(desk: &Desk, one: &Leg, two: &Leg) -> bool
 
 // Commits the branches, or dies at this point of their commit. It fails only for want of memory, and then nothing was
 // sent.
-fn commit<R: Wait, I: Idle>(
+fn commit<R: Wait, L: DecisionLog, I: Idle>(
     rt: &R,
     alloc: Global,
     desk: &mut Desk,
-    log: &mut MemoryLog,
+    log: &mut L,
     branches: &[Branch],
     point: Option<Point>,
     idle: &mut I,
 ) -> Result<TransferOutcome, DriverFault>
-    requires { MayCommit desk.old log.old.state branches.now }
+    requires may { MayCommit desk.old (L.state log.old) branches.now }
+    requires known { L.knows log.old }
     ensures goes_on { GoesOn desk.old desk.new }
     ensures kept { AllKept desk.old → AllKept desk.new }
     ensures idled { I.leads idle.old idle.new }
-    ensures comes { IfOk result (λ o. ComesOfCommit branches.now point o desk.old desk.new.ledgers log.old.state
-        log.new.state) }
+    ensures comes { IfOk result (λ o. ComesOfCommit branches.now point o desk.old desk.new.ledgers (L.state log.old)
+        (L.state log.new)) }
+    ensures known { IfOk result (LeavesKnown (L.knows log.new)) }
     ensures unsent { OnErr result (desk.new ≡ desk.old) }
-    ensures unlogged { OnErr result (log.new.state ≡ log.old.state) }
+    ensures unlogged { OnErr result (log.new ≡ log.old) }
 {
     desks_go_on();
     idles_go_on::<I>();
     match point {
-        None => {
-            match commit_all(rt, alloc, desk, log, branches, idle) {
-                Ok(done) => Ok(TransferOutcome::Decided(done)),
-                Err(CommitFault::NoMemory) => Err(DriverFault::NoMemory),
-                // No append to a log in memory has an unknown end.
-                Err(CommitFault::Undecided(_)) => unreachable!(),
-            }
-        }
-        Some(at) => {
-            let known = die(rt, alloc, desk, log, branches, at, idle)?;
-            Ok(TransferOutcome::Died { at, known })
-        }
+        None => match commit_all(rt, alloc, desk, log, branches, idle) {
+            Ok(done) => Ok(TransferOutcome::Decided(done)),
+            Err(CommitFault::NoMemory) => Err(DriverFault::NoMemory),
+            Err(CommitFault::Undecided(votes)) => Ok(TransferOutcome::Undecided(votes)),
+        },
+        Some(at) => match die(rt, alloc, desk, log, branches, at, idle) {
+            Ok(known) => Ok(TransferOutcome::Died { at, known }),
+            Err(CommitFault::NoMemory) => Err(DriverFault::NoMemory),
+            Err(CommitFault::Undecided(votes)) => Ok(TransferOutcome::Undecided(votes)),
+        },
     }
 }
 
 // Makes a transfer of these legs, where there is room for it; or dies at this point of its commit. It fails only for
 // want of memory, and then both branches are given up.
-fn carry_out<R: Wait, I: Idle>(
+fn carry_out<R: Wait, L: DecisionLog, I: Idle>(
     rt: &R,
     alloc: Global,
     desk: &mut Desk,
-    log: &mut MemoryLog,
+    log: &mut L,
     one: &Leg,
     two: &Leg,
     account: Key,
     point: Option<Point>,
     idle: &mut I,
 ) -> Result<TransferOutcome, AllocError>
+    requires { L.knows log.old }
     ensures goes_on { GoesOn desk.old desk.new }
     ensures kept { AllKept desk.old → AllKept desk.new }
     ensures idled { I.leads idle.old idle.new }
-    ensures carried { IfOk result (λ o. Transfers one.now two.now account point o desk.old desk.new log.old.state
-        log.new.state) }
+    ensures carried { IfOk result (λ o. Transfers one.now two.now account point o desk.old desk.new (L.state log.old)
+        (L.state log.new)) }
+    ensures known { IfOk result (LeavesKnown (L.knows log.new)) }
     ensures wants { OnErr result (IsGivenUp one.now two.now account desk.old desk.new) }
-    ensures unlogged { OnErr result (log.new.state ≡ log.old.state) }
+    ensures unlogged { OnErr result (log.new ≡ log.old) }
 {
     desks_go_on();
     idles_go_on::<I>();
@@ -287,6 +306,17 @@ fn carry_out<R: Wait, I: Idle>(
     Ok(outcome)
 }
 
+// Forgets the record of a transfer that came to this, where every store has acknowledged it.
+fn forget_made<L: DecisionLog>(log: &mut L, tran: &Tran, outcome: &TransferOutcome)
+    requires { LeavesKnown (L.knows log.old) outcome.now }
+    ensures forgotten { L.state log.new ≡ forgotten tran.now outcome.now (L.state log.old) }
+    ensures known { LeavesKnown (L.knows log.new) outcome.now }
+{
+    if let TransferOutcome::Decided(done) = outcome {
+        forget_acknowledged(log, tran, done);
+    }
+}
+
 // Opens each store.
 fn open_all<R: Wait, I: Idle>(rt: &R, desk: &mut Desk, idle: &mut I)
     ensures goes_on { GoesOn desk.old desk.new }
@@ -301,105 +331,167 @@ fn open_all<R: Wait, I: Idle>(rt: &R, desk: &mut Desk, idle: &mut I)
     }
 }
 
-// Makes the transfer at this place, or dies at this point of its commit. It fails only for want of memory.
-fn make<R: Wait, I: Idle>(
+// Makes the transfer of this number, or dies with it, as the teller's habits have it. It fails only for want of memory.
+fn make<R: Wait, L: DecisionLog, I: Idle>(
     rt: &R,
     alloc: Global,
     desk: &mut Desk,
-    log: &mut MemoryLog,
-    place: usize,
+    log: &mut L,
+    number: usize,
     transfer: &Transfer,
-    point: Option<Point>,
+    habits: &Habits,
     idle: &mut I,
 ) -> Result<TransferOutcome, AllocError>
+    requires { L.knows log.old }
     ensures goes_on { GoesOn desk.old desk.new }
     ensures kept { AllKept desk.old → AllKept desk.new }
     ensures idled { I.leads idle.old idle.new }
-    ensures makes { IfOk result (λ o. Makes desk.old.thread place transfer.now point o desk.old desk.new
-        log.old.state log.new.state) }
-    ensures wants { OnErr result (WantsMemory desk.old.thread place transfer.now desk.old desk.new) }
-    ensures unlogged { OnErr result (log.new.state ≡ log.old.state) }
+    ensures makes { IfOk result (λ o. Makes desk.old.thread number transfer.now habits.now o desk.old desk.new
+        (L.state log.old) (L.state log.new)) }
+    ensures known { IfOk result (LeavesKnown (L.knows log.new)) }
+    ensures wants { OnErr result (WantsMemory desk.old.thread number transfer.now desk.old desk.new) }
+    ensures unlogged { OnErr result (log.new ≡ log.old) }
 {
     desks_go_on();
     idles_go_on::<I>();
-    let Some((one, two)) = legs_of(desk.thread(), place, transfer) else {
+    let Some((one, two)) = legs_of(desk.thread(), number, transfer) else {
         return Ok(TransferOutcome::Refused);
     };
     let account = transfer.account;
-    carry_out(rt, alloc, desk, log, &one, &two, account, point, idle)
+    let point = point_at(habits.death, number);
+    let outcome = carry_out(rt, alloc, desk, log, &one, &two, account, point, idle)?;
+    if !habits.forgets {
+        return Ok(outcome);
+    }
+    forget_made(log, &one.branch.xid.tran(), &outcome);
+    Ok(outcome)
 }
 
-// Makes the transfers, until memory is refused or the teller dies.
-fn make_all<R: Wait, I: Idle>(
+// Makes the transfers, until memory is refused, the teller dies or its log has lost a record. It makes none where the
+// log isn't known.
+fn make_all<R: Wait, L: DecisionLog, I: Idle>(
     rt: &R,
     alloc: Global,
     desk: &mut Desk,
-    log: &mut MemoryLog,
+    log: &mut L,
     transfers: &[Transfer],
-    death: Option<Death>,
+    habits: &Habits,
     outcomes: &mut Vec<TransferOutcome>,
     idle: &mut I,
 ) -> Result<(), AllocError>
     ensures goes_on { GoesOn desk.old desk.new }
     ensures kept { AllKept desk.old → AllKept desk.new }
     ensures idled { I.leads idle.old idle.new }
-    ensures each { OnOk result (death ≡ None → length outcomes.new.items
-        ≡ length outcomes.old.items + length transfers.now) }
-    ensures made { OnOk result (HasMade transfers.now death outcomes.old.items desk.old log.old.state
-        outcomes.new.items desk.new log.new.state) }
+    ensures each { OnOk result (habits.now.death ≡ None → L.knows log.old → L.knows log.new
+        → length outcomes.new.items ≡ length outcomes.old.items + length transfers.now) }
+    ensures made { OnOk result (HasMade transfers.now habits.now outcomes.old.items desk.old (L.state log.old)
+        (L.knows log.old) outcomes.new.items desk.new (L.state log.new) (L.knows log.new)) }
 {
     desks_go_on();
     idles_go_on::<I>();
+    if !log.is_known() {
+        return Ok(());
+    }
     open_all(rt, desk, idle);
     for (place, transfer) in transfers.iter().enumerate() {
-        let point = point_at(death, place);
-        let outcome = make(rt, alloc, desk, log, place, transfer, point, idle)?;
-        let died = outcome.has_died();
+        let number = habits.first as usize + place;
+        let outcome = make(rt, alloc, desk, log, number, transfer, habits, idle)?;
+        let last = outcome.is_last();
         outcomes.push(outcome)?;
-        if died {
+        if last {
             return Ok(());
         }
     }
     Ok(())
 }
 
-impl Teller {
-    /// A teller that has made none of its transfers, with room for what becomes of them.
-    pub fn new(alloc: Global, transfers: Vec<Transfer>) -> Result<Teller, AllocError>
+impl Teller<MemoryLog> {
+    /// A teller with a log in memory that has made none of its transfers, with room for what becomes of them.
+    pub fn new(alloc: Global, transfers: Vec<Transfer>) -> Result<Teller<MemoryLog>, AllocError>
         ensures none { IfOk result (λ t. t.outcomes.items ≡ []) }
         ensures transfers { IfOk result (λ t. t.transfers.items ≡ transfers.items) }
-        ensures lives { IfOk result (λ t. t.death ≡ None) }
+        ensures habits { IfOk result (λ t. t.habits ≡ plain) }
+    {
+        Teller::over(alloc, MemoryLog::new(alloc), transfers)
+    }
+}
+
+impl<L: DecisionLog + Drop> Teller<L> {
+    /// A teller with this log that has made none of its transfers, with room for what becomes of them. It makes none
+    /// where the log isn't known.
+    pub fn over(alloc: Global, log: L, transfers: Vec<Transfer>) -> Result<Teller<L>, AllocError>
+        ensures log { IfOk result (λ t. t.log ≡ log) }
+        ensures none { IfOk result (λ t. t.outcomes.items ≡ []) }
+        ensures transfers { IfOk result (λ t. t.transfers.items ≡ transfers.items) }
+        ensures habits { IfOk result (λ t. t.habits ≡ plain) }
     {
         Ok(Teller {
             alloc,
-            log: MemoryLog::new(alloc),
+            log,
             outcomes: Vec::with_capacity(alloc, transfers.len())?,
             transfers,
-            death: None,
+            habits: Habits::plain(),
             wants_memory: false,
         })
     }
 
-    /// The same teller, to die this death.
-    pub fn dying(mut self, death: Death) -> Teller
-        ensures { result ≡ record self { death = Some death } }
+    /// The same teller, with these habits.
+    pub fn with_habits(mut self, habits: Habits) -> Teller<L>
+        ensures { result ≡ record self { habits = habits } }
     {
-        self.death = Some(death);
+        self.habits = habits;
         self
     }
 
+    /// The same teller, to die this death.
+    pub fn dying(mut self, death: Death) -> Teller<L>
+        ensures { result ≡ record self { habits = record self.habits { death = Some death } } }
+    {
+        self.habits.death = Some(death);
+        self
+    }
+
+    /// Sets the teller to other transfers, of which it has made none, with these habits. It keeps its log.
+    pub fn turn_to(&mut self, transfers: Vec<Transfer>, habits: Habits)
+        ensures log { self.new.log ≡ self.old.log }
+        ensures transfers { self.new.transfers ≡ transfers }
+        ensures habits { self.new.habits ≡ habits }
+        ensures none { self.new.outcomes.items ≡ [] }
+        ensures memory { self.new.wants_memory ≡ false }
+    {
+        self.transfers = transfers;
+        self.habits = habits;
+        self.outcomes.clear();
+        self.wants_memory = false;
+    }
+
     /// Its decision log, by which what it left is resolved.
-    pub fn log(&self) -> &MemoryLog
+    pub fn log(&self) -> &L
         ensures { result.now ≡ self.now.log }
     {
         &self.log
     }
+
+    /// Its decision log, and the teller goes.
+    pub fn into_log(self) -> L
+        ensures { result ≡ self.log }
+    {
+        let Teller {
+            alloc: _,
+            log,
+            transfers: _,
+            habits: _,
+            outcomes: _,
+            wants_memory: _,
+        } = self;
+        log
+    }
 }
 
-impl Client for Teller {
+impl<L: DecisionLog + Drop> Client for Teller<L> {
     ghost use Rattle.xa_bank.specs.Tellers.{Works};
 
-    ghost works = { Works };
+    ghost works = { Works L.state L.knows };
 
     fn work<R: Wait, I: Idle>(&mut self, rt: &R, desk: &mut Desk, idle: &mut I) {
         let made = make_all(
@@ -408,7 +500,7 @@ impl Client for Teller {
             desk,
             &mut self.log,
             &self.transfers,
-            self.death,
+            &self.habits,
             &mut self.outcomes,
             idle,
         );

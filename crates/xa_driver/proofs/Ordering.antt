@@ -1,5 +1,5 @@
 -- The order of what a round sends and collects.
-use Rattle.std.proofs.Common.{◌≡◌, ◌+◌, ◌≤◌, ℕ, Bool, true, false, List, [], ◌∷◌, ◌++◌, length, drop, Option, None, Some, refl, sym, ap, ap₂, ◌∙◌, subst}
+use Rattle.std.proofs.Common.{◌≡◌, ◌≤◌, ℕ, Bool, true, false, List, [], ◌∷◌, ◌++◌, length, drop, Option, None, Some, refl, sym, ap, ap₂, ◌∙◌, subst}
 use Rattle.std.proofs.Common.{append_assoc, append-nil, arith}
 use Rattle.std.specs.Prelude.{not, if◌then◌else◌, MatchOption}
 use Rattle.std.proofs.lemmas.List.{map-append, length-append}

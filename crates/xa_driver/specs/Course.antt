@@ -1,7 +1,6 @@
 -- The course of a commit: what it asks at each branch, over whatever states its requests lead through. A desk's ledgers
 -- are such states, a thread's entries in a journal, and the numbers of its requests in a settled history.
-use Rattle.std.specs.Prelude.{◌≡◌, ℕ, ◌≤◌, Bool, false, Option, None, Some, List}
-use Rattle.xa_words.specs.Tran.{TranName}
+use Rattle.std.specs.Prelude.{◌≡◌, Bool, Option, None, Some}
 use Rattle.xa_words.specs.declared.code.Code.{Code}
 use Rattle.xa_words.specs.declared.request.Op.{Op}
 use Rattle.xa_words.specs.declared.request.Op.TheVariants.{Prepare}

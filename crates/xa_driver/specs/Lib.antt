@@ -1,5 +1,6 @@
 pub mod Decision
 pub mod Endings
+pub mod Forgetful
 pub mod Course
 pub mod Asks
 pub mod Rounds

@@ -1,5 +1,5 @@
 -- The three rounds of requests of a call, as its working lists.
-use Rattle.std.specs.Prelude.{ℕ, Bool, ◌&&◌, ◌==◌, None, Some, unwrap_or, List, [], ◌∷◌}
+use Rattle.std.specs.Prelude.{ℕ, Bool, ◌&&◌, ◌==◌, None, Some, unwrap_or, List}
 use Rattle.std.specs.List.{list_any}
 use Rattle.xa_words.specs.ManagerSet.{set_of}
 use Rattle.xa_words.specs.declared.code.Code.{Code}

@@ -45,7 +45,7 @@ three_resolved s between next again c q settled made few own mid_settled goes_on
         qs = [];
         resolve_at = refl;
         few = few;
-        log = λ t tran. (ap (λ (r : Records). record_in r t) log, tt);
+        log = λ left t tran. (ap (λ (r : Records). record_in r t) log, tt);
         later = λ t tran left. All-cons (OnlyResolves t) mid (last ∷ []) (silent t) (All-cons (OnlyResolves t) last [] (later t) (All-nil (OnlyResolves t)));
         scan = scan_of between next again q.scan of scanned;
         reached = λ k d lt of. reached k d lt;

@@ -13,6 +13,7 @@ use std::thread::Threads;
 use xa_bank::{Day, Teller, Transfer, TransferOutcome, run_day};
 use xa_crew::{CrewFault, run_clients_in_turns};
 use xa_driver::Ending;
+use xa_log::MemoryLog;
 use xa_switch::{Plan, Settled};
 use xa_words::Key;
 
@@ -83,7 +84,7 @@ fn account_of(rt: &impl Abort, place: u32, k: u32) -> Key {
 }
 
 // The teller at this place, with transfers round the stores.
-fn teller_of(rt: &impl Abort, alloc: Global, place: u32) -> Teller {
+fn teller_of(rt: &impl Abort, alloc: Global, place: u32) -> Teller<MemoryLog> {
     let mut all = Vec::new(alloc);
     for k in 0..TRANSFERS {
         let transfer = Transfer {
@@ -98,7 +99,7 @@ fn teller_of(rt: &impl Abort, alloc: Global, place: u32) -> Teller {
 }
 
 // The tellers of so many threads.
-fn tellers_of(rt: &impl Abort, alloc: Global, threads: u32) -> Vec<Teller> {
+fn tellers_of(rt: &impl Abort, alloc: Global, threads: u32) -> Vec<Teller<MemoryLog>> {
     let mut tellers = Vec::new(alloc);
     for place in 0..threads {
         tellers
@@ -113,7 +114,7 @@ fn day_of<R: Threads + Wait + Abort + Copy + Send + 'static>(
     rt: &R,
     alloc: Global,
     plan: &Plan,
-) -> Day {
+) -> Day<MemoryLog> {
     let tellers = tellers_of(rt, alloc, plan.threads);
     assert_eq!(rt; tellers.len(), plan.threads as usize);
     let day = run_day(rt, alloc, plan, tellers).expect(rt, "a day");
@@ -122,7 +123,7 @@ fn day_of<R: Threads + Wait + Abort + Copy + Send + 'static>(
 }
 
 // Each teller has made all its transfers, and left nothing outstanding.
-fn all_are_done(rt: &impl Abort, day: &Day) {
+fn all_are_done(rt: &impl Abort, day: &Day<MemoryLog>) {
     for attended in &day.clients {
         assert!(rt; !attended.client.wants_memory && attended.outstanding.is_empty());
         assert_eq!(rt; attended.client.outcomes.len(), TRANSFERS as usize);
@@ -146,7 +147,7 @@ fn sum_of(rt: &impl Abort, settled: &Settled) -> u64 {
 fn is_whole(outcome: &TransferOutcome) -> bool {
     match outcome {
         TransferOutcome::Refused => true,
-        TransferOutcome::Died { at: _, known: _ } => false,
+        TransferOutcome::Died { at: _, known: _ } | TransferOutcome::Undecided(_) => false,
         TransferOutcome::Decided(done) if done.commit => done.endings.iter().all(|ending| matches!(
             ending,
             Ending::Committed | Ending::ReadOnly
@@ -163,7 +164,7 @@ fn is_committed(outcome: &TransferOutcome) -> bool {
 }
 
 // A teller's transfers between its own tills are in nobody's way, and have the funds.
-fn own_transfers_commit(rt: &impl Abort, day: &Day) {
+fn own_transfers_commit(rt: &impl Abort, day: &Day<MemoryLog>) {
     for attended in &day.clients {
         for (k, outcome) in attended.client.outcomes.iter().enumerate() {
             if k % 4 == 3 {
@@ -174,7 +175,7 @@ fn own_transfers_commit(rt: &impl Abort, day: &Day) {
 }
 
 // Each transfer has one outcome, and all accounts of the three stores are worth what they were.
-fn is_sound(rt: &impl Abort, day: &Day) {
+fn is_sound(rt: &impl Abort, day: &Day<MemoryLog>) {
     for attended in &day.clients {
         for outcome in &attended.client.outcomes {
             assert!(rt; is_whole(outcome));

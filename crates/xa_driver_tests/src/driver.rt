@@ -3,6 +3,7 @@ mod appending;
 mod crash;
 pub(crate) mod dying;
 mod endings;
+mod forgetful;
 mod meddling;
 mod openings;
 mod pieces;

@@ -1,6 +1,6 @@
 //! A commit, a crash, and a resolve by the file that it left.
 ghost use Rattle.std.specs.List.{All};
-ghost use Rattle.std.specs.Prelude.{◌≡◌, ◌≢◌, ◌≤◌, true, ℕ, List, [], ◌∷◌, length};
+ghost use Rattle.std.specs.Prelude.{◌≡◌, ◌≢◌, ◌⊎◌, ◌≤◌, true, ℕ, None, List, [], ◌∷◌, length};
 ghost use Rattle.xa_base.specs.declared.limits.TheConstants.{MOST_MANAGERS};
 ghost use Rattle.xa_words.specs.Tran.{TranName};
 ghost use Rattle.xa_words.specs.declared.code.Code.{Code};
@@ -12,7 +12,7 @@ ghost use Rattle.xa_switch.specs.Again.{reopening};
 ghost use Rattle.xa_switch.specs.OfPlans.{IsOf};
 ghost use Rattle.xa_switch.specs.Recovery.{IsScanOf};
 ghost use Rattle.xa_switch.specs.Settling.{Settling, IsSettled};
-ghost use Rattle.xa_log.specs.Log.{LogState, Records, with_record};
+ghost use Rattle.xa_log.specs.Log.{LogState, Records, record_in, record_of, with_record};
 ghost use Rattle.xa_driver.specs.declared.branch.Branch.{Branch};
 ghost use Rattle.xa_driver.specs.Decision.{yes_of};
 ghost use Rattle.xa_driver.specs.Stages.{HasVoted};
@@ -20,8 +20,9 @@ ghost use Rattle.xa_driver.specs.Trace.{IsTranOf, MayCommit, wants_record};
 ghost use Rattle.xa_atomicity.specs.Cut.{IsCut, LeavesBranches};
 ghost use Rattle.xa_atomicity.specs.Presumed.{AskedAreLeft, CountsByTheLog, EndsByTheLog};
 ghost use Rattle.xa_atomicity.specs.Resolution.{Continues, CutCall, IsOutcomeOf, IsUseIn, OnlyResolves, ResolveCall};
-ghost use Rattle.xa_atomicity.specs.Resolution.{cuts, resolves, with_use};
-ghost use Rattle.xa_file_log.specs.Slots.{HasEither, HasRecords};
+ghost use Rattle.xa_atomicity.specs.Resolution.{HasLeft, cuts, resolves, with_use};
+ghost use Rattle.xa_file_log.specs.Memory.{HasRecordsAndPerhaps};
+ghost use Rattle.xa_file_log.specs.Slots.{HasRecords};
 
 use xa_atomicity::{
     next_openings_resolve, presumed_transactions_count_by_the_log,
@@ -36,28 +37,37 @@ pub fn files_have_one_log()
     a_file_has_one_table();
 }
 
-/// A crash in an append: all branches have voted, and the file has the records from before, with the new one or
-/// without. It is a commit that was cut short, whichever it is, and the log is the one that the file has.
+/// A crash in an append: all branches have voted, and the file that it left has the records from before, with the new
+/// one or without, and perhaps some that the log had forgotten, which are of other transactions. It is a commit that
+/// was cut short, whichever it is, and the log has of the transaction what the file has.
 pub fn crashed_appends_are_cuts()
     ensures { (bs : List Branch) (desk : DeskView) (mid new : List LedgerView) (log : LogState) (votes : List Code)
-        (tran : TranName) (file : List ℕ) → MayCommit desk log bs → HasVoted bs desk.ledgers mid votes
-        → LeavesBranches bs mid new → IsTranOf bs tran → wants_record votes ≡ true
-        → HasEither log.records (with_record log tran (yes_of bs votes)).records file
-        → (later : LogState) × IsCut bs desk new log later [] × HasRecords later.records file }
+        (tran : TranName) (forgotten : Records) (file : List ℕ) → MayCommit desk log bs
+        → HasVoted bs desk.ledgers mid votes → LeavesBranches bs mid new → IsTranOf bs tran
+        → wants_record votes ≡ true → record_in forgotten tran ≡ None
+        → HasRecordsAndPerhaps log.records forgotten file
+        ⊎ HasRecordsAndPerhaps (with_record log tran (yes_of bs votes)).records forgotten file
+        → (later : LogState) × (found : Records) × IsCut bs desk new log later [] × HasRecords found file
+        × (record_in found tran ≡ record_of later tran) }
 {
     stages_are_cuts();
 }
 
 /// A commit that a crash cut short anywhere, and a resolve in the next opening by what is read of the file that the
-/// crash left: each branch that voted to commit ended committed where the file has the record, and rolled back where it
-/// hasn't, or it was decided heuristically; and its additions count so. Of the log it is asked only that the file is
-/// the one that was left.
+/// crash left: each branch that voted to commit ended committed where the log had the record, and rolled back where it
+/// hadn't, or it was decided heuristically; and its additions count so.
+///
+/// Of the log it is asked only that the file is the one that was left, with the records that the log had and perhaps
+/// some that it had forgotten; and that, if a branch of the transaction was left, it still had its record, and hadn't
+/// forgotten one of that name.
 pub fn next_openings_end_by_the_file()
-    ensures { (s next : Settling) (again : Again) (k : CutCall) (q : ResolveCall) (file : List ℕ) → IsSettled s
-        → IsUseIn s (cuts k) → length k.desk.ledgers ≤ MOST_MANAGERS
+    ensures { (s next : Settling) (again : Again) (k : CutCall) (q : ResolveCall) (records forgotten : Records)
+        (file : List ℕ) → IsSettled s → IsUseIn s (cuts k) → length k.desk.ledgers ≤ MOST_MANAGERS
         → AskedAreLeft k s → IsSettled next → IsUseIn next (resolves q) → Continues s next
         → IsOf (reopening s again) next → IsScanOf s q.scan
-        → HasRecords k.later.records file → HasRecords q.records file
+        → HasRecordsAndPerhaps records forgotten file → HasRecords q.records file
+        → (HasLeft k.branches s → (t : TranName) → IsTranOf k.branches t
+        → (record_in records t ≡ record_of k.later t) × (record_in forgotten t ≡ None))
         → ((t : TranName) → IsTranOf k.branches t → OnlyResolves t (with_use next (resolves q)))
         → All (λ r. IsOutcomeOf k.branches r → r.code ≢ RmFail) q.outcomes
         → EndsByTheLog k (with_use s (cuts k)) (with_use next (resolves q) ∷ [])

@@ -10,3 +10,15 @@ pub mod OneTable
 pub mod Elapsing
 pub mod NewLogs
 pub mod Making
+pub mod Finds
+pub mod Shown
+pub mod Slotwise
+pub mod Gates
+pub mod Mapped
+pub mod Index
+pub mod Forgetting
+pub mod Placed
+pub mod Grouped
+pub mod Anew
+pub mod Reading
+pub mod Appending

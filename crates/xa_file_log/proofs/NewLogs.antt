@@ -1,10 +1,12 @@
 -- What a crash leaves while a log is made.
-use Rattle.std.proofs.Common.{◌≡◌, ◌≢◌, inl, inr, ℕ, ◌+◌, ◌-◌, ◌*◌, ◌<◌, ◌≤◌, None, List, [], ◌∷◌, ◌++◌, length, get_or, take, drop, replicate, refl, sym, ◌∙◌}
+use Rattle.std.proofs.Common.{◌≡◌, ◌≢◌, inl, inr, ℕ, zero, suc, ◌+◌, ◌-◌, ◌*◌, ◌<◌, ◌≤◌, None, Some, List, [], ◌∷◌, ◌++◌, length, get_or, take, drop, replicate}
+use Rattle.std.proofs.Common.{refl, sym, ◌∙◌}
 use Rattle.std.proofs.Common.{ap, subst, arith, length-append}
 use Rattle.std.proofs.lemmas.List.{append-nil, drop_all, length-replicate, get_or-replicate, take-replicate, drop-replicate, take_at, drop_at, drop-drop}
 use Rattle.xa_file_log.specs.Device.{overwritten, IsOverwritten, Torn}
 use Rattle.xa_file_log.specs.Spelling.{head}
-use Rattle.xa_file_log.specs.Slots.{slot, StandsFor, IsNoLog, IsNewLog, free_slots}
+use Rattle.xa_words.specs.Tran.{TranName}
+use Rattle.xa_file_log.specs.Slots.{slot, name_of, StandsFor, IsNoLog, IsNewLog, free_slots}
 
 pub short_file : (c : List ℕ) → length c ≤ 17 → IsNoLog c
 short_file c short = λ records there. absurd (omega (arith, there.stands.size))
@@ -42,6 +44,12 @@ free_zeros n k below =
     ∙ drop-replicate (94 * k) (94 * n) 0)
     ∙ take-replicate 94 (94 * n - 94 * k) 0 (omega arith)
 
+-- no free slot has a transaction
+nameless : (n k : ℕ) (t : TranName) → name_of (get_or (free_slots n) k None) ≡ Some t → ⊥
+nameless zero k t is = absurd (cc (is))
+nameless (suc n) zero t is = absurd (cc (is))
+nameless (suc n) (suc k) t is = nameless n k t is
+
 pub new_stands : (n : ℕ) (later : List ℕ) → n ≤ 65536 → later ≡ drop 1 (head n) ++ replicate (94 * n) 0 → StandsFor (free_slots n) (120 ∷ later)
 new_stands n later few is =
     let whole : 120 ∷ later ≡ head n ++ replicate (94 * n) 0 =
@@ -59,6 +67,7 @@ new_stands n later few is =
             taken = λ r is_there. absurd (cc (none, is_there));
             valid = λ r is_there. absurd (cc (none, is_there));
           };
+      apart = λ j k t named. absurd (nameless n j t named);
     })
 
 -- while the first byte is

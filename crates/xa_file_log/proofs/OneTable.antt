@@ -1,8 +1,7 @@
 -- A file stands for one table at most.
-use Rattle.std.proofs.Common.{◌≡◌, inl, inr, ℕ, ◌+◌, ◌<◌, Option, None, Some, List, [], ◌∷◌, ◌++◌, length, get_or, take, drop, refl, sym, ◌∙◌, ap}
-use Rattle.std.proofs.Common.{subst, arith}
-use Rattle.std.proofs.lemmas.Bool.{cases_lt}
-use Rattle.std.proofs.lemmas.List.{ext_get_or, get_or_append_left, get_or_push}
+use Rattle.std.proofs.Common.{◌≡◌, ℕ, Option, None, Some, List, [], ◌∷◌, length, get_or, take, drop, refl, sym, ◌∙◌, ap}
+use Rattle.std.proofs.Common.{arith}
+use Rattle.std.proofs.lemmas.List.{ext_get_or}
 use Rattle.xa_log.specs.declared.log.CommitRecord.{CommitRecord}
 use Rattle.xa_log.specs.Log.{Records}
 use Rattle.xa_file_log.specs.Spelling.{spelling}
@@ -15,7 +14,7 @@ apart bytes body free taken =
     let e : ◌≡◌ {A = ℕ} 255 0 = ap (λ (l : List ℕ). get_or l 0 0) (sym (ap (λ (l : List ℕ). take 1 l) taken) ∙ free) in
     omega (arith, e)
 
-same_slot : (a b : Option CommitRecord) (bytes : List ℕ) → IsSlotOf a bytes → IsSlotOf b bytes → a ≡ b
+pub same_slot : (a b : Option CommitRecord) (bytes : List ℕ) → IsSlotOf a bytes → IsSlotOf b bytes → a ≡ b
 same_slot None None bytes ha hb = refl
 same_slot None (Some s) bytes ha hb = absurd (apart bytes (spelling s) (ha.free refl) (hb.taken s refl))
 same_slot (Some r) None bytes ha hb = absurd (apart bytes (spelling r) (hb.free refl) (ha.taken r refl))
@@ -31,15 +30,3 @@ one_table one other file a b =
 
 pub one_content : (table : Table) (file : List ℕ) → StandsFor table file → (records : Records) → HasRecords records file → records_of table ≡ records
 one_content table file stands records there = ap records_of (one_table table there.table file stands there.stands) ∙ there.same
-
--- one slot more of a file
-pub slots_push : (table : Table) (o : Option CommitRecord) (n : ℕ) (file : List ℕ) → length table ≡ n
-    → ((k : ℕ) → k < n → IsSlotOf (get_or table k None) (slot k file)) → IsSlotOf o (slot n file)
-    → (k : ℕ) → k < n + 1 → IsSlotOf (get_or (table ++ o ∷ []) k None) (slot k file)
-slots_push table o n file size below here k within = elim (cases_lt k n) [
-  | inl lt ↦ subst (λ (x : Option CommitRecord). IsSlotOf x (slot k file)) (sym (get_or_append_left table (o ∷ []) None k (omega arith))) (below k lt)
-  | inr ge ↦
-      let same : n ≡ k = omega arith in
-      subst (λ (j : ℕ). IsSlotOf (get_or (table ++ o ∷ []) j None) (slot j file)) same
-      (subst (λ (x : Option CommitRecord). IsSlotOf x (slot n file)) (sym (get_or_push table o None n size)) here)
-]

@@ -1,16 +1,15 @@
 -- One more record in a table.
-use Rattle.std.proofs.Common.{◌≡◌, ℕ, zero, suc, ◌+◌, ◌<◌, Bool, true, false, cond, Option, None, Some, [], ◌∷◌, length, get_or, set, drop, refl, sym, ◌∙◌, ap}
+use Rattle.std.proofs.Common.{◌≡◌, ℕ, zero, suc, ◌<◌, Bool, true, false, cond, Option, None, Some, [], ◌∷◌, length, get_or, set, refl, sym, ◌∙◌, ap}
 use Rattle.std.proofs.Common.{subst, arith}
 use Rattle.std.specs.Ordering.{eq_by_cmp, is_eq}
 use Rattle.std.specs.Cmp.{tied_itself}
 use Rattle.std.specs.FinMap as finmap
 use Rattle.std.specs.FinMap.{find, get-from_entries, get-insert, same_map}
-use Rattle.std.proofs.lemmas.List.{at_drop_more}
 use Rattle.xa_base.proofs.Truth.{is_equal}
-use Rattle.xa_words.specs.Tran.{TranName, tran_eq}
+use Rattle.xa_words.specs.Tran.{TranName}
 use Rattle.xa_log.specs.declared.log.CommitRecord.{CommitRecord}
 use Rattle.xa_log.specs.Transactions.{tran_cmp}
-use Rattle.xa_log.proofs.Transactions.{tran_cmp_total, tran_cmp-IsAntisymmetric, tran_eq-by_cmp}
+use Rattle.xa_log.proofs.Transactions.{tran_cmp_total, tran_cmp-IsAntisymmetric}
 use Rattle.xa_file_log.specs.Slots.{Table, entries, records_of}
 
 one_name : (x y : TranName) → eq_by_cmp tran_cmp x y ≡ true → x ≡ y
@@ -55,37 +54,6 @@ records_set table k r below free absent =
     get-from_entries tran_cmp_total (entries (set table k (Some r))) q ∙ find_set table k r q below free none
     ∙ ap (cond (eq_by_cmp tran_cmp q r.tran) (Some r.yes)) (sym (get-from_entries tran_cmp_total (entries table) q))
     ∙ sym (get-insert tran_cmp_total (records_of table) r.tran r.yes q))
-
--- the first of the slots that are left
-pub find_taken : (table : Table) (i : ℕ) (q : TranName) (r : CommitRecord) → i < length table → get_or table i None ≡ Some r
-    → find tran_cmp q (entries (drop i table)) ≡ cond (eq_by_cmp tran_cmp q r.tran) (Some r.yes) (find tran_cmp q (entries (drop (i + 1) table)))
-find_taken table i q r below is =
-    at_drop_more (λ (l : Table). find tran_cmp q (entries l)) table i None below
-    ∙ ap (λ (o : Option CommitRecord). find tran_cmp q (entries (o ∷ drop (i + 1) table))) is
-
-pub find_free : (table : Table) (i : ℕ) (q : TranName) → i < length table → get_or table i None ≡ None
-    → find tran_cmp q (entries (drop i table)) ≡ find tran_cmp q (entries (drop (i + 1) table))
-find_free table i q below is =
-    at_drop_more (λ (l : Table). find tran_cmp q (entries l)) table i None below
-    ∙ ap (λ (o : Option CommitRecord). find tran_cmp q (entries (o ∷ drop (i + 1) table))) is
-
-same_name : (x y : TranName) → tran_eq x y ≡ true → eq_by_cmp tran_cmp y x ≡ true
-same_name x y t = own_name y x (sym (one_name x y (sym (tran_eq-by_cmp x y) ∙ t)))
-
-pub find_other : (table : Table) (i : ℕ) (q : TranName) (r : CommitRecord) → i < length table → get_or table i None ≡ Some r → tran_eq r.tran q ≡ false
-    → find tran_cmp q (entries (drop i table)) ≡ find tran_cmp q (entries (drop (i + 1) table))
-find_other table i q r below is other =
-    find_taken table i q r below is
-    ∙ ap (λ (b : Bool). cond b (Some r.yes) (find tran_cmp q (entries (drop (i + 1) table)))) (apart (eq_by_cmp tran_cmp q r.tran) refl)
-  where
-    apart : (b : Bool) → eq_by_cmp tran_cmp q r.tran ≡ b → eq_by_cmp tran_cmp q r.tran ≡ false
-    apart true e = let t : tran_eq r.tran q ≡ true = tran_eq-by_cmp r.tran q ∙ own_name r.tran q (sym (one_name q r.tran e)) in cc
-    apart false e = e
-
-pub find_same : (table : Table) (i : ℕ) (q : TranName) (r : CommitRecord) → i < length table → get_or table i None ≡ Some r → tran_eq r.tran q ≡ true
-    → find tran_cmp q (entries (drop i table)) ≡ Some r.yes
-find_same table i q r below is same =
-    find_taken table i q r below is ∙ ap (λ (b : Bool). cond b (Some r.yes) (find tran_cmp q (entries (drop (i + 1) table)))) (same_name r.tran q same)
 
 -- what the table has of a transaction
 pub get_found : (table : Table) (q : TranName) → finmap.get (records_of table) q ≡ find tran_cmp q (entries table)

@@ -1,10 +1,10 @@
 -- What a file of slots stands for.
-use Rattle.std.specs.Prelude.{◌≡◌, ◌⊎◌, ℕ, ◌+◌, ◌*◌, ◌<◌, ◌≤◌, Bool, Option, None, Some}
+use Rattle.std.specs.Prelude.{◌≡◌, ◌⊎◌, ℕ, ◌+◌, ◌*◌, ◌<◌, ◌≤◌, Bool, Option, None, Some, option_map}
 use Rattle.std.specs.Prelude.{List, [], ◌∷◌, length, get_or, take, drop, replicate}
 use Rattle.std.specs.FinMap as finmap
 use Rattle.xa_words.specs.Tran.{TranName}
 use Rattle.xa_log.specs.declared.log.CommitRecord.{CommitRecord}
-use Rattle.xa_log.specs.Log.{Records, LogState}
+use Rattle.xa_log.specs.Log.{Records}
 use Rattle.xa_file_log.specs.Device.{Only}
 use Rattle.xa_file_log.specs.Spelling.{spelling, head, IsValid}
 
@@ -22,16 +22,23 @@ pub record IsSlotOf (o : Option CommitRecord) (bytes : List ℕ) : Type 0 where
   pub taken : (r : CommitRecord) → o ≡ Some r → bytes ≡ 255 ∷ spelling r
   pub valid : (r : CommitRecord) → o ≡ Some r → IsValid r
 
--- The file stands for the table: its size and its head are those of so many slots, and each has what the table has.
+-- the transaction of a slot's record, where it has one
+abbrev pub name_of : Option CommitRecord → Option TranName
+name_of o = option_map (λ r. r.tran) o
+
+-- no two slots have one transaction
+abbrev pub AreApart : Table → Type 0
+AreApart table = (j k : ℕ) (t : TranName) → name_of (get_or table j None) ≡ Some t
+    → name_of (get_or table k None) ≡ Some t → j ≡ k
+
+-- The file stands for the table: its size and its head are those of so many slots, each has what the table has, and no
+-- two have one transaction.
 pub record StandsFor (table : Table) (file : List ℕ) : Type 0 where
   pub few : length table ≤ 65536
   pub size : length file ≡ 18 + 94 * length table
   pub header : take 18 file ≡ head (length table)
   pub each : (k : ℕ) → k < length table → IsSlotOf (get_or table k None) (slot k file)
-
--- no slot is free
-abbrev pub IsFull : Table → Type 0
-IsFull table = (k : ℕ) → k < length table → get_or table k None ≡ None → ⊥
+  pub apart : AreApart table
 
 -- the records of a table, by their transactions
 abbrev pub entries : Table → List (TranName × List Bool)
@@ -41,10 +48,6 @@ entries (Some r ∷ table) = (r.tran, r.yes) ∷ entries table
 
 abbrev pub records_of : Table → Records
 records_of table = finmap.from_entries (entries table)
-
--- what contracts of logs see of one with this table
-abbrev pub log_state : Table → ℕ → LogState
-log_state table failures = record { records = records_of table; failures = failures }
 
 -- the file stands for these records
 pub record HasRecords (records : Records) (file : List ℕ) : Type 0 where

@@ -1,6 +1,7 @@
 //! A new log in an empty file.
 ghost use Rattle.std.specs.Prelude.{◌≡◌, ◌≢◌, ◌⊎◌, ◌≤◌, ◌*◌, ◌++◌, [], None, drop, replicate};
 ghost use Rattle.std.specs.Prelude.{IfOk, IfErr, OnOk};
+ghost use Rattle.xa_file_log.specs.declared.slot.Slot.TheVariants.{Free};
 ghost use Rattle.xa_file_log.specs.declared.condition.Condition.TheVariants.{Ready};
 ghost use Rattle.xa_file_log.specs.declared.creating.CreateFault.TheVariants.{NotEmpty, Memory, Failed};
 ghost use Rattle.xa_file_log.specs.Device.{Only, LeavesOnly};
@@ -12,9 +13,9 @@ use crate::device::{Device, DeviceFault, ReadFault};
 use crate::file_log::FileLog;
 use crate::layout::{HEAD, SLOT};
 use crate::opening::head_of;
+use crate::slot_table::SlotTable;
 use crate::synced::put;
 use std::alloc::{AllocError, Global};
-use xa_log::CommitRecord;
 
 /// Why no log is made.
 #[derive(Clone, Copy, Debug, PartialEq, Eq)]
@@ -49,12 +50,6 @@ fn later_bytes(alloc: Global, slots: u32) -> Result<Vec<u8>, AllocError>
     Ok(bytes)
 }
 
-fn free_table(alloc: Global, slots: u32) -> Result<Vec<Option<CommitRecord>>, AllocError>
-    ensures { IfOk result (λ table. table.items ≡ free_slots slots) }
-{
-    vec![in alloc; None; slots as usize]
-}
-
 // Writes a file without a record. The first byte of its head comes last, once all else is on the disk: so until then
 // it is no log, whatever a crash makes of the rest.
 fn write_new<D: Device>(device: &mut D, slots: u32, later: &[u8]) -> Result<(), DeviceFault>
@@ -83,8 +78,9 @@ pub fn create<D: Device>(
 ) -> Result<FileLog<D>, (CreateFault, D)>
     requires durable { Only (D.seen device) (D.may_leave device) }
     requires few { slots ≤ 65536 }
+    ensures empty { IfOk result (λ _. D.seen device ≡ []) }
     ensures created { IfOk result (λ log. StandsFor (free_slots slots) (D.seen log.device)) }
-    ensures table { IfOk result (λ log. log.table.items ≡ free_slots slots) }
+    ensures table { IfOk result (λ log. log.table.slots.items ≡ replicate slots Free) }
     ensures ready { IfOk result (λ log. log.condition ≡ Ready) }
     ensures failures { IfOk result (λ log. log.failures ≡ 0) }
     ensures not_empty { IfErr result (λ e. e.0 ≡ NotEmpty → D.seen device ≢ []) }
@@ -103,7 +99,8 @@ pub fn create<D: Device>(
         Ok(_) => return Err((CreateFault::NotEmpty, device)),
         Err(fault) => return Err((fault_of(fault), device)),
     }
-    let (Ok(table), Ok(later)) = (free_table(alloc, slots), later_bytes(alloc, slots)) else {
+    let table = SlotTable::new(alloc, slots as usize);
+    let (Ok(table), Ok(later)) = (table, later_bytes(alloc, slots)) else {
         return Err((CreateFault::Memory, device));
     };
     let Ok(()) = write_new(&mut device, slots, &later) else {

@@ -15,6 +15,13 @@
 //! written every failure is a refusal. A file keeps its length, so an append needs no room on the disk; a log whose
 //! slots are all taken refuses.
 //!
+//! An append of several records writes all bodies, syncs, opens all gates, and syncs: a crash leaves any of them, each
+//! whole.
+//!
+//! Forgetting is of the memory alone, so a crash may bring a forgotten record back. Where no slot is free, or a record
+//! of a forgotten transaction is appended, the gates of all forgotten records are shut first: a byte each, and one
+//! sync.
+//!
 //! `create` makes a log in an empty file; `open` reads one, and writes nothing. Both take a `Device`, whose contract
 //! says what a crash may leave. `Mirrored` is one over any `Backing`, and `HostFile` is a file of the operating system:
 //! that it keeps what it was told to sync, and that a byte which is written alone is there or not, is trusted and not
@@ -25,11 +32,16 @@ mod condition;
 mod creating;
 mod device;
 mod file_log;
+mod group;
+mod group_log;
 mod host;
 pub mod laws;
 mod layout;
 mod mirrored;
 mod opening;
+mod shutting;
+mod slot;
+mod slot_table;
 mod spelling;
 mod synced;
 mod writing;
@@ -41,3 +53,4 @@ pub use file_log::FileLog;
 pub use host::HostFile;
 pub use mirrored::{Backing, Call, Mirrored};
 pub use opening::{OpenFault, open};
+pub use slot::Slot;

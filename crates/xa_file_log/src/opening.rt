@@ -1,18 +1,21 @@
 //! Opening a file that a crash may have left.
-ghost use Rattle.std.specs.Prelude.{◌≡◌, ◌≢◌, ◌⊎◌, ◌+◌, ◌*◌, ◌<◌, ◌≤◌, ℕ, length, slice_index_or, Option};
-ghost use Rattle.std.specs.Prelude.{IfOk, IfErr, IfSome, None, Some};
+ghost use Rattle.std.specs.Prelude.{◌≡◌, ◌≢◌, ◌⊎◌, ◌+◌, ◌*◌, ◌<◌, ◌≤◌, length, Option};
+ghost use Rattle.std.specs.Prelude.{IfOk, IfErr, IfSome, None, Some, take};
 ghost use Rattle.xa_log.specs.declared.log.CommitRecord.{CommitRecord};
 ghost use Rattle.xa_log.specs.Log.{Records};
 ghost use Rattle.xa_file_log.specs.declared.condition.Condition.TheVariants.{Ready};
 ghost use Rattle.xa_file_log.specs.declared.opening.OpenFault.TheVariants.{Memory, Failed, NotALog, Damaged};
 ghost use Rattle.xa_file_log.specs.Device.{Only, LeavesOnly};
 ghost use Rattle.xa_file_log.specs.Spelling.{head};
-ghost use Rattle.xa_file_log.specs.Slots.{slot, IsSlotOf, StandsFor, HasRecords, IsNoLog, records_of};
+ghost use Rattle.xa_file_log.specs.declared.slot.Slot.TheVariants.{Free};
+ghost use Rattle.xa_file_log.specs.Slots.{slot, IsSlotOf, StandsFor, HasRecords, IsNoLog};
+ghost use Rattle.xa_file_log.specs.Memory.{HasNoneForgotten, table_of, records_in};
 
 use crate::condition::Condition;
 use crate::device::{Device, ReadFault};
 use crate::file_log::FileLog;
 use crate::layout::{HEAD, MOST, OPEN, SHUT, SLOT};
+use crate::slot_table::SlotTable;
 use crate::spelling::read_body;
 use std::alloc::{AllocError, AllocFailed, Global};
 use xa_log::CommitRecord;
@@ -25,7 +28,8 @@ pub enum OpenFault {
     Failed,
     /// Its head or its size isn't that of a log.
     NotALog,
-    /// The gate of a slot is neither open nor shut, or an open one has bytes that spell no record.
+    /// The gate of a slot is neither open nor shut, an open one has bytes that spell no record, or two are of one
+    /// transaction.
     Damaged,
 }
 
@@ -94,30 +98,32 @@ fn read_slot(slot: &[u8]) -> Option<Option<CommitRecord>>
 }
 
 // The record of each slot of a file, where it has one.
-fn read_slots(
-    alloc: Global,
-    bytes: &[u8],
-    count: usize,
-) -> Result<Vec<Option<CommitRecord>>, OpenFault>
+fn read_slots(alloc: Global, bytes: &[u8], count: usize) -> Result<SlotTable, OpenFault>
     requires few { count ≤ 65536 }
     requires size { length bytes.now ≡ 18 + 94 * count }
-    ensures count { IfOk result (λ table. length table.items ≡ count) }
-    ensures each { IfOk result (λ table. (k : ℕ) → k < count
-        → IsSlotOf (slice_index_or table.items k None) (slot k bytes.now)) }
+    requires header { take 18 bytes.now ≡ head count }
+    ensures stands { IfOk result (λ table. StandsFor (table_of table.slots.items) bytes.now) }
+    ensures none_forgotten { IfOk result (λ table. HasNoneForgotten table.slots.items) }
     ensures refused { IfErr result (λ fault. fault ≢ Memory → IsNoLog bytes.now) }
 {
-    let mut table = Vec::with_capacity(alloc, count)?;
+    let mut table = SlotTable::new(alloc, count)?;
     for place in 0..count {
-        let Some(record) = read_slot(slot_of(bytes, place)) else {
+        let Some(found) = read_slot(slot_of(bytes, place)) else {
             return Err(OpenFault::Damaged);
         };
-        table.push(record)?;
+        if let Some(record) = found {
+            if table.place_of(&record.tran).is_some() {
+                return Err(OpenFault::Damaged);
+            }
+            table.take(place, record);
+        }
     }
     Ok(table)
 }
 
-fn read_table(alloc: Global, bytes: &[u8]) -> Result<Vec<Option<CommitRecord>>, OpenFault>
-    ensures stands { IfOk result (λ table. StandsFor table.items bytes.now) }
+fn read_table(alloc: Global, bytes: &[u8]) -> Result<SlotTable, OpenFault>
+    ensures stands { IfOk result (λ table. StandsFor (table_of table.slots.items) bytes.now) }
+    ensures none_forgotten { IfOk result (λ table. HasNoneForgotten table.slots.items) }
     ensures refused { IfErr result (λ fault. fault ≢ Memory → IsNoLog bytes.now) }
 {
     if bytes.len() < HEAD {
@@ -141,9 +147,10 @@ pub fn open<D: Device>(alloc: Global, device: D) -> Result<FileLog<D>, (OpenFaul
     requires { Only (D.seen device) (D.may_leave device) }
 
     // It has exactly the records that the file stands for.
-    ensures opened { IfOk result (λ log. StandsFor log.table.items (D.seen device)) }
+    ensures opened { IfOk result (λ log. StandsFor (table_of log.table.slots.items) (D.seen device)) }
     ensures reads { IfOk result (λ log. (records : Records) → HasRecords records (D.seen device)
-        → records_of log.table.items ≡ records) }
+        → records_in log.table.slots.items ≡ records) }
+    ensures none_forgotten { IfOk result (λ log. HasNoneForgotten log.table.slots.items) }
     ensures seen { IfOk result (λ log. D.seen log.device ≡ D.seen device) }
     ensures ready { IfOk result (λ log. log.condition ≡ Ready) }
     ensures failures { IfOk result (λ log. log.failures ≡ 0) }

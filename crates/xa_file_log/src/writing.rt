@@ -1,13 +1,16 @@
 //! A record into a free slot.
-ghost use Rattle.std.specs.Prelude.{◌≡◌, ◌⊎◌, ◌<◌, ◌≤◌, length, slice_index_or, slice_set};
-ghost use Rattle.std.specs.Prelude.{OnOk, IsErr, IsErrOf, None, Some};
+ghost use Rattle.std.specs.Prelude.{◌≡◌, ◌⊎◌, ◌<◌, length, slice_index_or, slice_set};
+ghost use Rattle.std.specs.Prelude.{OnOk, IsErr, IsErrOf};
 ghost use Rattle.xa_log.specs.declared.log.LogFault.TheVariants.{Refused};
 ghost use Rattle.xa_file_log.specs.Device.{LeavesOnly};
 ghost use Rattle.xa_file_log.specs.Spelling.{IsValid};
+ghost use Rattle.xa_file_log.specs.declared.slot.Slot.TheVariants.{Free, Taken};
 ghost use Rattle.xa_file_log.specs.Slots.{Keeps, StandsFor, IsSettled};
+ghost use Rattle.xa_file_log.specs.Memory.{HasNoName, table_of};
 
 use crate::device::Device;
 use crate::layout::{HEAD, OPEN, SLOT};
+use crate::slot::Slot;
 use crate::spelling::spelled;
 use crate::synced::put;
 use xa_log::{CommitRecord, LogFault};
@@ -18,22 +21,23 @@ use xa_log::{CommitRecord, LogFault};
 /// `Refused`; where the gate can't, nobody knows.
 pub(crate) fn write_record<D: Device>(
     device: &mut D,
-    table: &[Option<CommitRecord>],
+    slots: &[Slot],
     place: usize,
     decision: &CommitRecord,
 ) -> Result<(), LogFault>
-    requires settled { IsSettled D.seen D.may_leave table.now device.old }
-    requires few { length table.now ≤ 65536 }
-    requires place { place < length table.now }
-    requires free { slice_index_or table.now place None ≡ None }
+    requires settled { IsSettled D.seen D.may_leave (table_of slots.now) device.old }
+    requires place { place < length slots.now }
+    requires free { slice_index_or slots.now place Free ≡ Free }
+    requires new { HasNoName slots.now decision.now.tran }
     requires valid { IsValid decision.now }
     ensures logged { OnOk result
-        (IsSettled D.seen D.may_leave (slice_set table.now place (Some decision.now)) device.new) }
-    ensures refused { IsErrOf result Refused → Keeps D.may_leave table.now device.new }
+        (IsSettled D.seen D.may_leave (table_of (slice_set slots.now place (Taken decision.now))) device.new) }
+    ensures refused { IsErrOf result Refused → Keeps D.may_leave (table_of slots.now) device.new }
 
     // A crash at any moment leaves the records from before the call, with the new one or without.
     ensures any_moment { LeavesOnly D.moment D.left_since device.old device.new
-        (λ c. StandsFor table.now c ⊎ StandsFor (slice_set table.now place (Some decision.now)) c) }
+        (λ c. StandsFor (table_of slots.now) c
+        ⊎ StandsFor (table_of (slice_set slots.now place (Taken decision.now))) c) }
     ensures cause { IsErr result → D.faults device.old < D.faults device.new }
 {
     let gate = HEAD + SLOT * place;

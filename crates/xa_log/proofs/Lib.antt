@@ -1,2 +1,3 @@
 pub mod Transactions
 pub mod SeveralLogs
+pub mod Kept

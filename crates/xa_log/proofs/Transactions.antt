@@ -1,6 +1,6 @@
 -- The order of global transactions is total, and tells all apart as `==` does.
-use Rattle.std.specs.Prelude.{◌≡◌, ℤ, ℕ, List, true}
-use Rattle.std.proofs.Common.{ap, subst}
+use Rattle.std.specs.Prelude.{◌≡◌, ℤ, ℕ, Bool, List, true}
+use Rattle.std.proofs.Common.{ap, subst, sym}
 use Rattle.std.specs.Ordering.{nat_cmp, int_cmp, eq_by_cmp, is_eq}
 use Rattle.std.specs.Bool.{Decides}
 use Rattle.std.specs.Cmp.{IsTotalOrder, tied_itself, int_cmp_total}
@@ -24,9 +24,14 @@ tran_cmp-IsAntisymmetric x y e =
     exact_pairs int_cmp (slice_cmp nat_cmp) exact_signed exact_bytes (x.format, x.gtrid) (y.format, y.gtrid) e in
     λ i. record { format = (p i).0; gtrid = (p i).1 }
 
-decides_by_cmp : (x y : TranName) → Decides (eq_by_cmp tran_cmp x y) (x ≡ y)
+-- the order ties two names exactly if they are one
+pub decides_by_cmp : (x y : TranName) → Decides (eq_by_cmp tran_cmp x y) (x ≡ y)
 decides_by_cmp x y =
     (λ t. tran_cmp-IsAntisymmetric x y (is_equal (tran_cmp x y) t), λ e. subst (λ (z : TranName). eq_by_cmp tran_cmp x z ≡ true) e (ap is_eq (tied_itself tran_cmp_total x)))
 
 pub tran_eq-by_cmp : (x y : TranName) → tran_eq x y ≡ eq_by_cmp tran_cmp x y
 tran_eq-by_cmp x y = same_from_decides _ _ (Decides-tran_eq x y) (decides_by_cmp x y)
+
+-- what is said of a name is said of each that is equal to it
+pub tran_alike : (p : TranName → Bool) (q k : TranName) → tran_eq q k ≡ true → p k ≡ p q
+tran_alike p q k t = ap p (sym ((Decides-tran_eq q k).0 t))

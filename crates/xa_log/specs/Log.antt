@@ -1,11 +1,12 @@
 -- The decision log: a finite map. A transaction that isn't there is presumed aborted.
 use Rattle.std.specs.Prelude.{◌≡◌, ◌≢◌, ◌⊎◌, ℕ, ◌+◌, ◌-◌, ◌%◌, ◌^◌, ◌<◌, ◌≤◌, nat_lt, if◌then◌else◌, Bool, true, false}
-use Rattle.std.specs.Prelude.{Option, List, [], ◌∷◌, refl}
-use Rattle.std.specs.List.{flat_map}
+use Rattle.std.specs.Prelude.{Option, None, List, [], ◌∷◌, refl}
+use Rattle.std.specs.List.{flat_map, list_any}
 use Rattle.std.specs.FinMap.{FinMap}
 use Rattle.std.specs.FinMap as map
 use Rattle.std.specs.Coded.{Coded, code_by, coded×, coded_ℕ, coded_bool, coded_list}
-use Rattle.xa_words.specs.Tran.{TranName, tran_code}
+use Rattle.xa_words.specs.Tran.{TranName, tran_code, tran_eq}
+use Rattle.xa_log.specs.declared.log.CommitRecord.{CommitRecord}
 use Rattle.xa_log.specs.Transactions.{tran_cmp}
 
 -- which managers voted yes, of each transaction that was decided to commit
@@ -37,9 +38,31 @@ record_of log t = record_in log.records t
 abbrev pub with_record : LogState → TranName → List Bool → LogState
 with_record log t managers = record log { records = map.insert log.records t managers }
 
+-- without the record of a transaction
+abbrev pub without_record : LogState → TranName → LogState
+without_record log t = record log { records = map.remove log.records t }
+
+-- the transaction is one of these
+abbrev pub is_among : List TranName → TranName → Bool
+is_among ts t = list_any (tran_eq t) ts
+
+-- with no records but those of these transactions
+abbrev pub with_only : LogState → List TranName → LogState
+with_only log ts = record log { records = map.retain_keys log.records (is_among ts) }
+
 -- one more; at u64::MAX it stays
 abbrev pub counted : ℕ → ℕ
 counted n = if nat_lt n (2 ^ 64 - 1) then n + 1 else n
+
+-- these records more, in their order
+abbrev pub with_records : LogState → List CommitRecord → LogState
+with_records log [] = log
+with_records log (r ∷ rs) = with_records (with_record log r.tran r.yes) rs
+
+-- none of their transactions has a record, and no two of them are of one transaction
+abbrev pub AreNew : LogState → List CommitRecord → Type 0
+AreNew log [] = Unit {0}
+AreNew log (r ∷ rs) = (record_of log r.tran ≡ None) × AreNew (with_record log r.tran r.yes) rs
 
 -- one more failure; there is no count at which it can't be told
 abbrev pub with_failure : LogState → LogState
@@ -70,6 +93,13 @@ pub record AppendsTo (tran : TranName) (yes : List Bool) (taken : Bool) (old new
   pub injected : counted old.appends ≡ old.failing → (taken ≡ false) × (new.room ≡ old.room)
   pub fits : 0 < old.room → counted old.appends ≢ old.failing → taken ≡ true
   pub room : taken ≡ true → old.room ≤ new.room + 1
+
+-- What forgetting does to a log in memory beside its records: while it has one there is room for as many more as
+-- before.
+pub record ForgetsFrom (old new : LogView) : Type 0 where
+  pub appends : new.appends ≡ old.appends
+  pub failing : new.failing ≡ old.failing
+  pub room : (old.room ≤ new.room) ⊎ (new.state.records ≡ map.empty)
 
 -- a log in memory as data
 abbrev pub log_code : Coded LogView

@@ -6,5 +6,5 @@ mod log;
 mod memory;
 mod several;
 
-pub use log::{CommitRecord, DecisionLog, DecisionRecords, LogFault};
+pub use log::{CommitRecord, DecisionLog, DecisionRecords, GroupLog, LogFault};
 pub use memory::MemoryLog;

@@ -2,7 +2,9 @@
 ghost use Rattle.std.specs.Prelude.{◌≡◌, ◌↔◌, OnOk, IsErrOf, IsTrue, None, List, Bool, true, false};
 ghost use Rattle.xa_words.specs.Tran.{TranName};
 ghost use Rattle.xa_log.specs.declared.log.LogFault.TheVariants.{Refused, Unknown};
-ghost use Rattle.xa_log.specs.Log.{LogState, Records, record_in, record_of, with_record, with_failure};
+ghost use Rattle.xa_log.specs.Log.{LogState, Records, record_in, record_of, with_record, with_failure, without_record};
+ghost use Rattle.xa_log.specs.Log.{with_only, with_records, AreNew};
+ghost use Rattle.xa_log.specs.declared.log.CommitRecord.{CommitRecord};
 
 use xa_words::{ManagerSet, Tran};
 
@@ -53,6 +55,9 @@ pub trait DecisionLog: DecisionRecords {
     /// What an append with an unknown end does to the log.
     ghost loses: { TranName → List Bool → Self → Self → Type 0 };
 
+    /// What forgetting does to the log beside its records.
+    ghost forgets: { Self → Self → Type 0 };
+
     /// Adds a record of a transaction that has none. A refused append leaves the records, and is counted; after one
     /// with an unknown end the records aren't known.
     fn append(&mut self, decision: &CommitRecord) -> Result<(), LogFault>
@@ -66,10 +71,46 @@ pub trait DecisionLog: DecisionRecords {
         ensures unknown { IsErrOf result Unknown → (Self.knows self.new → ⊥)
             × loses decision.now.tran decision.now.yes self.old self.new };
 
+    /// Forgets the record of a transaction, where there is one. That is for a transaction of which no manager has a
+    /// branch that is prepared: nobody will ask for it, and it does no harm where a crash brings the record back.
+    fn forget(&mut self, tran: &Tran)
+        requires { Self.knows self.old }
+        ensures forgotten { state self.new ≡ without_record (state self.old) tran.now }
+        ensures known { Self.knows self.new }
+        ensures forgets { forgets self.old self.new };
+
+    /// Forgets all records but those of these transactions.
+    fn keep_only(&mut self, trans: &[Tran])
+        requires { Self.knows self.old }
+        ensures kept { state self.new ≡ with_only (state self.old) trans.now }
+        ensures known { Self.knows self.new }
+        ensures forgets { forgets self.old self.new };
+
     /// How many appends were refused; after `u64::MAX` it counts from 0 again.
     fn failures(&self) -> u64
         ensures { result ≡ (state self.now).failures };
 
     /// What a reader finds is what the log has.
     ghost records_are: { (l : Self) → Self.records l ≡ (state l).records };
+}
+
+/// A log that takes several records at once, for little more than it takes for one.
+pub trait GroupLog: DecisionLog {
+    /// What an append of these records does to the log, and whether that takes them.
+    ghost appends_all: { List CommitRecord → Bool → Self → Self → Type 0 };
+
+    /// What an append of these records with an unknown end does to the log.
+    ghost loses_all: { List CommitRecord → Self → Self → Type 0 };
+
+    /// Adds records of transactions that have none, all of them or none. What is refused counts as one append. After
+    /// one with an unknown end any of them may be there.
+    fn append_all(&mut self, decisions: &[CommitRecord]) -> Result<(), LogFault>
+        requires known { Self.knows self.old }
+        requires new { AreNew (Self.state self.old) decisions.now }
+        ensures appended { OnOk result ((Self.state self.new ≡ with_records (Self.state self.old) decisions.now)
+            × Self.knows self.new × appends_all decisions.now true self.old self.new) }
+        ensures refused { IsErrOf result Refused → (Self.state self.new ≡ with_failure (Self.state self.old))
+            × Self.knows self.new × appends_all decisions.now false self.old self.new }
+        ensures unknown { IsErrOf result Unknown → (Self.knows self.new → ⊥)
+            × loses_all decisions.now self.old self.new };
 }

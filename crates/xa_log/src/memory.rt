@@ -1,7 +1,7 @@
 //! A decision log in memory.
 ghost use Rattle.std.specs.Prelude.{◌≡◌, ◌+◌, ◌<◌, ◌≤◌, OnOk, IsErr, IsErrOf, true, false, refl};
 ghost use Rattle.xa_log.specs.declared.log.LogFault.TheVariants.{Refused, Unknown};
-ghost use Rattle.xa_log.specs.Log.{no_records, with_record, with_failure, counted, AppendsTo};
+ghost use Rattle.xa_log.specs.Log.{no_records, with_record, with_failure, counted, AppendsTo, ForgetsFrom};
 
 use crate::log::{CommitRecord, DecisionLog, DecisionRecords, LogFault};
 use std::alloc::Global;
@@ -110,6 +110,8 @@ impl DecisionLog for MemoryLog {
 
     ghost loses = { λ tran yes old new. ⊥ };
 
+    ghost forgets = { ForgetsFrom };
+
     ghost records_are = { λ l. refl };
 
     fn append(&mut self, decision: &CommitRecord) -> Result<(), LogFault>
@@ -132,6 +134,14 @@ impl DecisionLog for MemoryLog {
             return Err(LogFault::Refused);
         }
         Ok(())
+    }
+
+    fn forget(&mut self, tran: &Tran) {
+        let _ = self.records.remove(tran);
+    }
+
+    fn keep_only(&mut self, trans: &[Tran]) {
+        self.records.retain(|tran, _yes| trans.contains(tran));
     }
 
     fn failures(&self) -> u64 {

@@ -9,6 +9,7 @@ use xa_crew::{Client, run_clients};
 use xa_desk::laws::desks_go_on;
 use xa_desk::{Desk, Idle};
 use xa_driver::Ending;
+use xa_log::MemoryLog;
 use xa_switch::{Settled, native};
 use xa_words::{Key, Op, RmOp, TMNOFLAGS};
 use xa_worker::Free;
@@ -25,7 +26,7 @@ const TRANSFERS: u32 = 90;
 // A teller that shuts a store when it has made its transfers, if there is one to shut.
 #[derive(Drop)]
 struct Clerk {
-    teller: Teller,
+    teller: Teller<MemoryLog>,
     shuts: Option<u32>,
 }
 

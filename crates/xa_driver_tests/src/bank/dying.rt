@@ -10,7 +10,7 @@ use std::sync::Wait;
 use std::thread::Threads;
 use xa_bank::{Day, Death, Point, Teller, TransferOutcome, run_day};
 use xa_crew::{Attended, Run};
-use xa_log::DecisionRecords;
+use xa_log::{DecisionRecords, MemoryLog};
 use xa_switch::Settled;
 use xa_words::{Code, Key, Tran, Xid};
 
@@ -32,7 +32,7 @@ fn day_of<R: Threads + Wait + Abort + Copy + Send + 'static>(
     rt: &R,
     alloc: Global,
     points: [Point; 2],
-) -> Day {
+) -> Day<MemoryLog> {
     let mut tellers = Vec::new(alloc);
     for before in 0..2usize {
         let death = Death {
@@ -68,7 +68,7 @@ fn tran_of(rt: &impl Abort, thread: u32, place: u32) -> Tran {
 // Whether the transfer was made: as was decided, or where its teller died with it, as the log has it.
 fn was_made(
     rt: &impl Abort,
-    teller: &Teller,
+    teller: &Teller<MemoryLog>,
     outcome: &TransferOutcome,
     thread: u32,
     place: u32,
@@ -78,7 +78,7 @@ fn was_made(
         TransferOutcome::Died { at: _, known: _ } => {
             teller.log().has(&tran_of(rt, thread, place)).is_some()
         }
-        TransferOutcome::Refused => false,
+        TransferOutcome::Refused | TransferOutcome::Undecided(_) => false,
     }
 }
 
@@ -97,7 +97,12 @@ fn moved(rt: &impl Abort, place: u32, k: u32, store: u32, name: &Key) -> i64 {
 }
 
 // What the store's account of this name has, by all transfers that were made.
-fn value_of(rt: &impl Abort, clients: &[Attended<Teller>], store: u32, name: usize) -> Option<u64> {
+fn value_of(
+    rt: &impl Abort,
+    clients: &[Attended<Teller<MemoryLog>>],
+    store: u32,
+    name: usize,
+) -> Option<u64> {
     let account = Key::new(NAMES.get(name)?)?;
     let mut value = i64::try_from(start_of(name)).ok()?;
     for (place, attended) in clients.iter().enumerate() {
@@ -113,7 +118,7 @@ fn value_of(rt: &impl Abort, clients: &[Attended<Teller>], store: u32, name: usi
 }
 
 // Each account has what the transfers that were made have left in it.
-fn balances(rt: &impl Abort, clients: &[Attended<Teller>], settled: &Settled) {
+fn balances(rt: &impl Abort, clients: &[Attended<Teller<MemoryLog>>], settled: &Settled) {
     for before in 0..STORES {
         for (name, account) in NAMES.iter().enumerate() {
             let account = Key::new(account).expect(rt, "a name");
@@ -126,7 +131,7 @@ fn balances(rt: &impl Abort, clients: &[Attended<Teller>], settled: &Settled) {
 }
 
 // The tellers died at these points, and nowhere else.
-fn died_there(rt: &impl Abort, clients: &[Attended<Teller>], points: [Point; 2]) {
+fn died_there(rt: &impl Abort, clients: &[Attended<Teller<MemoryLog>>], points: [Point; 2]) {
     for (before, attended) in clients.iter().enumerate() {
         let outcomes = &attended.client.outcomes;
         let last = outcomes.last();

@@ -2,6 +2,7 @@
 use super::{STORES, day_of, own_transfers_commit, plan_of};
 use std::process::Abort;
 use xa_bank::Day;
+use xa_log::MemoryLog;
 use xa_switch::{Plan, Settled};
 use xa_words::{Code, Op};
 
@@ -12,7 +13,7 @@ fn met_association(settled: &Settled, store: u32) -> bool {
     })
 }
 
-fn nobody_is_stuck(rt: &impl Abort, day: &Day) {
+fn nobody_is_stuck(rt: &impl Abort, day: &Day<MemoryLog>) {
     for before in 0..STORES {
         assert!(rt;
             !met_association(&day.settled, before + 1),

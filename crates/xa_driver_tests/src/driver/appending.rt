@@ -1,6 +1,6 @@
 //! What the managers were asked for when the record is appended.
 ghost use Rattle.std.specs.Prelude.{refl};
-ghost use Rattle.xa_log.specs.Log.{AppendsTo};
+ghost use Rattle.xa_log.specs.Log.{AppendsTo, ForgetsFrom};
 
 use super::plan_of;
 use super::threads::commit_two;
@@ -79,6 +79,8 @@ impl DecisionLog for Watching<'_> {
 
     ghost loses = { λ tran yes old new. ⊥ };
 
+    ghost forgets = { λ old new. ForgetsFrom old.inner new.inner };
+
     ghost records_are = { λ l. refl };
 
     fn append(&mut self, decision: &CommitRecord) -> Result<(), LogFault> {
@@ -89,6 +91,14 @@ impl DecisionLog for Watching<'_> {
         let seconds = self.asked.seconds.load(Ordering::SeqCst);
         self.saw = Some((prepares, seconds));
         self.inner.append(decision)
+    }
+
+    fn forget(&mut self, tran: &Tran) {
+        self.inner.forget(tran);
+    }
+
+    fn keep_only(&mut self, trans: &[Tran]) {
+        self.inner.keep_only(trans);
     }
 
     fn failures(&self) -> u64 {

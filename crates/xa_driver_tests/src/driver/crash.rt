@@ -3,7 +3,7 @@
 ghost use Rattle.std.specs.Prelude.{refl};
 ghost use Rattle.xa_desk.specs.GoesOn.{GoesOn};
 ghost use Rattle.xa_desk.specs.Kept.{AllKept};
-ghost use Rattle.xa_log.specs.Log.{AppendsTo};
+ghost use Rattle.xa_log.specs.Log.{AppendsTo, ForgetsFrom};
 
 use super::resolved::recover;
 use super::{branch, key, plan_of};
@@ -75,6 +75,8 @@ impl DecisionLog for Waiting {
 
     ghost loses = { λ tran yes old new. ⊥ };
 
+    ghost forgets = { λ old new. ForgetsFrom old.inner new.inner };
+
     ghost records_are = { λ l. refl };
 
     fn append(&mut self, decision: &CommitRecord) -> Result<(), LogFault> {
@@ -82,6 +84,14 @@ impl DecisionLog for Waiting {
         self.signals.recorded.store(true, Ordering::SeqCst);
         comes(&self.signals.shut);
         appended
+    }
+
+    fn forget(&mut self, tran: &Tran) {
+        self.inner.forget(tran);
+    }
+
+    fn keep_only(&mut self, trans: &[Tran]) {
+        self.inner.keep_only(trans);
     }
 
     fn failures(&self) -> u64 {

@@ -99,15 +99,15 @@ impl Idle for Crash {
 
 // A settled opening, and the commit that its first thread made.
 #[derive(Drop)]
-struct Crashed {
-    settled: Settled,
+pub(super) struct Crashed {
+    pub(super) settled: Settled,
     thread: u32,
-    made: Made,
+    pub(super) made: Made,
 }
 
 // The first thread works for two branches and commits them, and manager 2 is shut after its vote. Then the opening ends
 // and is settled. Nobody but the first thread names a branch.
-fn commit_and_crash<R: Wait + Abort>(
+pub(super) fn commit_and_crash<R: Wait + Abort>(
     rt: &R,
     alloc: Global,
     opened: Opened,

@@ -49,6 +49,8 @@ impl DecisionLog for Losing {
 
     ghost loses = { λ tran yes old new. Unit {0} };
 
+    ghost forgets = { λ old new. Unit {0} };
+
     ghost records_are = { λ l. refl };
 
     fn append(&mut self, decision: &CommitRecord) -> Result<(), LogFault> {
@@ -57,6 +59,14 @@ impl DecisionLog for Losing {
         }
         self.is_lost = true;
         Err(LogFault::Unknown)
+    }
+
+    fn forget(&mut self, tran: &Tran) {
+        self.found.forget(tran);
+    }
+
+    fn keep_only(&mut self, trans: &[Tran]) {
+        self.found.keep_only(trans);
     }
 
     fn failures(&self) -> u64 {

@@ -10,8 +10,8 @@ use Rattle.xa_bank.proofs.day.run_day.Goals as goal
 pub returns-clause-conserved : goal.returns-clause-conserved
 returns-clause-conserved g c =
     let p = c.args.plan.now in
-    ok_as (λ day. IsRun Works p c.args.tellers.items day.clients.items day.settled) (λ day. All EndsWhole day.clients.items → settled_worth p day.settled ≡ plan_worth p)
+    ok_as (λ day. IsRun (Works g.L.DecisionLog.state g.L.DecisionRecords.knows) p c.args.tellers.items day.clients.items day.settled) (λ day. All EndsWhole day.clients.items → settled_worth p day.settled ≡ plan_worth p)
     (λ day ran whole.
-    day_law p c.args.tellers.items day.clients.items day.settled ran whole c.transfers_conserve_the_worth.ensures.conserved c.transfers_conserve_the_worth.ensures.decided
+    day_law g.L.DecisionLog.state g.L.DecisionRecords.knows p c.args.tellers.items day.clients.items day.settled ran whole c.transfers_conserve_the_worth.ensures.conserved c.transfers_conserve_the_worth.ensures.decided
     c.a_thread_adds_as_it_works.ensures c.managers_open_with_their_accounts.ensures)
     c.run_clients.result c.run_clients.ensures.ran

@@ -7,7 +7,7 @@ use Rattle.xa_driver.specs.Trace.{MayCommit}
 use Rattle.xa_bank.specs.declared.dying.Point.{Point}
 use Rattle.xa_bank.specs.declared.teller.TransferOutcome.{TransferOutcome}
 use Rattle.xa_bank.specs.Requests.{GivesUp, Tries}
-use Rattle.xa_bank.specs.Transfers.{ComesOfCommit, IsFor, IsRefused, commits, barred, cut_short, in_full, refused, undone, unroomed}
+use Rattle.xa_bank.specs.Transfers.{ComesOfCommit, IsFor, IsRefused, commits, barred, cut_short, in_full, undecided, refused, undone, unroomed}
 use Rattle.xa_bank.proofs.Sent.{have_none, have_on}
 use Rattle.xa_bank.proofs.teller.carry_out.Goals as goal
 use Rattle.xa_bank.proofs.teller.carry_out.Goals.{then-not-worked-via-then-not-worked, then-not-worked-via-else-not-worked+then-not-may_commit}
@@ -17,6 +17,7 @@ might_be : (bs : List Branch) (point : Option Point) (o : TransferOutcome) (desk
     → ComesOfCommit bs point o desk new log later → MayCommit desk log bs
 might_be bs point o desk new log later (in_full done none is made) = made.may
 might_be bs point o desk new log later (cut_short at known some is dies) = dies.cut.may
+might_be bs point o desk new log later (undecided votes decides is may voted wanted) = may
 
 pub returns-then-not-worked-clause-carried : goal.returns-then-not-worked-clause-carried
 returns-then-not-worked-clause-carried g c =
@@ -25,11 +26,11 @@ returns-then-not-worked-clause-carried g c =
     let old = c.args.desk.now in
     let tried = c.work_for-worked.new.desk in
     let gives_up = c.give_up.ensures.gives_up in
-    let why : IsRefused one two c.args.account old c.give_up.new.desk c.args.log.now.state = elim c.then-not-worked.branch [
+    let why : IsRefused one two c.args.account old c.give_up.new.desk (g.L.DecisionLog.state c.args.log.now) = elim c.then-not-worked.branch [
       | then-not-worked-via-then-not-worked w ↦ undone tried (subst (λ ok. Tries one two c.args.account ok old tried) w.if-not-worked.true c.work_for-worked.ensures.tries) gives_up
       | then-not-worked-via-else-not-worked+then-not-may_commit w ↦
           barred tried (subst (λ ok. Tries one two c.args.account ok old tried) w.if-not-worked.false c.work_for-worked.ensures.tries)
-          (λ may. let yes_ : w.may_commit.result ≡ true = w.may_commit.ensures.1 (may, tt) in let no : w.may_commit.result ≡ false = w.if-not-may_commit.true in cc) gives_up
+          (λ may. let yes_ : w.may_commit.result ≡ true = w.may_commit.ensures.1 (may, c.requires) in let no : w.may_commit.result ≡ false = w.if-not-may_commit.true in cc) gives_up
     ] in
     refused refl refl why (have_on (IsFor c.args.one.now c.args.two.now) _ _ _ c.work_for-worked.ensures.sent c.give_up.ensures.sent)
 

@@ -1,26 +1,44 @@
-use Rattle.std.proofs.Common.{subst}
-use Rattle.xa_bank.specs.Transfers.{AreLegs, IsGivenUp, Transfers, Makes, WantsMemory, with_legs}
-use Rattle.xa_bank.proofs.Results.{err_as, ok_as}
+use Rattle.std.proofs.Common.{◌≡◌, true, false, if◌then◌else◌, Option, sym, ap, ◌∙◌, subst}
+use Rattle.xa_words.specs.Tran.{TranName, tran_of}
+use Rattle.xa_log.specs.Log.{LogState}
+use Rattle.xa_bank.specs.declared.dying.Point.{Point}
+use Rattle.xa_bank.specs.Transfers.{AreLegs, Transfers, WantsMemory, forgotten, with_legs}
+use Rattle.xa_bank.proofs.Results.{err_same}
 use Rattle.xa_bank.proofs.teller.make.Goals as goal
+
+pub returns-in_err-outcome-clause-wants : goal.returns-in_err-outcome-clause-wants
+returns-in_err-outcome-clause-wants g c =
+    let one = c.in-Some.one in
+    let two = c.in-Some.two in
+    let tr = c.args.transfer.now in
+    let legs = subst (λ t. AreLegs t c.args.number tr one two) c.thread.ensures.thread c.in-Some.ensures in
+    err_same (WantsMemory c.args.desk.now.thread c.args.number tr c.args.desk.now c.carry_out.new.desk) c.from_residual.result (record { one = one; two = two; legs = legs; given_up = c.in_err-outcome.ensures.wants })
+
+pub returns-then-not-habits-clause-makes : goal.returns-then-not-habits-clause-makes
+returns-then-not-habits-clause-makes g c =
+    let one = c.in-Some.one in
+    let two = c.in-Some.two in
+    let tr = c.args.transfer.now in
+    let o = c.in_ok-outcome.outcome in
+    let log : LogState = g.L.DecisionLog.state c.args.log.now in
+    let left : LogState = g.L.DecisionLog.state c.carry_out.new.log in
+    let legs = subst (λ t. AreLegs t c.args.number tr one two) c.thread.ensures.thread c.in-Some.ensures in
+    let carried =
+    subst (λ (p : Option Point). Transfers one two tr.account p o c.args.desk.now c.carry_out.new.desk log left) c.point_at-point.ensures c.in_ok-outcome.ensures.carried in
+    let keeps : c.args.habits.now.forgets ≡ false = c.if-not-habits.true in
+    with_legs one two left legs carried (sym (ap (λ b. if b then forgotten (tran_of one.branch.xid) o left else left) keeps))
 
 pub returns-clause-makes : goal.returns-clause-makes
 returns-clause-makes g c =
     let one = c.in-Some.one in
     let two = c.in-Some.two in
     let tr = c.args.transfer.now in
-    let point = c.args.point in
-    let old = c.args.desk.now in
-    let new = c.carry_out.new.desk in
-    let log = c.args.log.now.state in
-    let later = c.carry_out.new.log.state in
-    let legs = subst (λ t. AreLegs t c.args.place tr one two) c.thread.ensures.thread c.in-Some.ensures in
-    ok_as (λ o. Transfers one two tr.account point o old new log later) (λ o. Makes old.thread c.args.place tr point o old new log later) (λ o h. with_legs one two legs h) c.carry_out.result c.carry_out.ensures.carried
-
-pub returns-clause-wants : goal.returns-clause-wants
-returns-clause-wants g c =
-    let one = c.in-Some.one in
-    let two = c.in-Some.two in
-    let tr = c.args.transfer.now in
-    let legs = subst (λ t. AreLegs t c.args.place tr one two) c.thread.ensures.thread c.in-Some.ensures in
-    err_as (IsGivenUp one two tr.account c.args.desk.now c.carry_out.new.desk) (WantsMemory c.args.desk.now.thread c.args.place tr c.args.desk.now c.carry_out.new.desk) (λ given. record { one = one; two = two; legs = legs; given_up = given }) c.carry_out.result
-    c.carry_out.ensures.wants
+    let o = c.in_ok-outcome.outcome in
+    let log : LogState = g.L.DecisionLog.state c.args.log.now in
+    let left : LogState = g.L.DecisionLog.state c.carry_out.new.log in
+    let legs = subst (λ t. AreLegs t c.args.number tr one two) c.thread.ensures.thread c.in-Some.ensures in
+    let carried =
+    subst (λ (p : Option Point). Transfers one two tr.account p o c.args.desk.now c.carry_out.new.desk log left) c.point_at-point.ensures c.in_ok-outcome.ensures.carried in
+    let forgets : c.args.habits.now.forgets ≡ true = c.if-not-habits.false in
+    let gone = c.forget_made.ensures.forgotten ∙ ap (λ (t : TranName). forgotten t o left) c.tran.ensures in
+    with_legs one two left legs carried (gone ∙ sym (ap (λ b. if b then forgotten (tran_of one.branch.xid) o left else left) forgets))

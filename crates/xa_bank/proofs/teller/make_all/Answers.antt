@@ -1,4 +1,4 @@
-use Rattle.std.proofs.Common.{rules, ◌≡◌, ℕ, ◌+◌, ◌<◌, true, false, ◌||◌, Option, List, [], ◌∷◌, ◌++◌, length, length-append, take, drop, length-take}
+use Rattle.std.proofs.Common.{rules, ◌≡◌, ℕ, ◌+◌, ◌<◌, true, false, ◌||◌, List, [], ◌∷◌, ◌++◌, length, length-append, append-nil, None, take, drop, length-take}
 use Rattle.std.proofs.Common.{append_assoc, sym, refl, ap, ◌∙◌, subst, arith}
 use Rattle.std.specs.List.{list_any}
 use Rattle.std.proofs.lemmas.List.{take_all, take-append-drop}
@@ -7,35 +7,72 @@ use Rattle.xa_base.proofs.Lists.{one_more}
 use Rattle.xa_desk.specs.DeskView.{DeskView}
 use Rattle.xa_desk.specs.Seats.{DeskSeat}
 use Rattle.xa_log.specs.Log.{LogState}
-use Rattle.xa_bank.specs.declared.dying.Death.{Death}
-use Rattle.xa_bank.specs.declared.dying.Point.{Point}
+use Rattle.xa_bank.specs.declared.habits.Habits.{Habits}
 use Rattle.xa_bank.specs.declared.teller.TransferOutcome.{TransferOutcome}
+use Rattle.xa_bank.specs.declared.teller.TransferOutcome.TheVariants.{Decided, Died, Refused, Undecided}
 use Rattle.xa_bank.specs.declared.teller.Transfer.{Transfer}
 use Rattle.xa_bank.specs.Deaths.{point_at}
-use Rattle.xa_bank.specs.Tellers.{died, has_died, lived}
-use Rattle.xa_bank.specs.Transfers.{Makes, MakesEach}
-use Rattle.xa_bank.proofs.Named.{makes_more}
+use Rattle.xa_bank.specs.Tellers.{ended, has_died, is_last, lived, unknown}
+use Rattle.xa_bank.specs.Transfers.{IsOpenRm, LeavesKnown, Makes, MakesEach, with_legs, without_legs, commits, refused}
+use Rattle.xa_bank.specs.Transfers.{in_full, cut_short, undecided}
+use Rattle.xa_bank.proofs.Named.{makes_more, makes_none}
+use Rattle.xa_bank.proofs.Sent.{have_none}
 use Rattle.xa_bank.proofs.teller.make_all.Goals as goal
 
 -- a transfer more, where others may follow that aren't made
-one_made : (t place : ℕ) (death : Option Death) (trs : List Transfer) (tr : Transfer) (unmade : List Transfer) (more : List TransferOutcome) (o : TransferOutcome) (point : Option Point) (u : ℕ) (old mid new : DeskView) (log now later : LogState)
-    → place < length trs → length more ≡ place → u ≡ t → point ≡ point_at death place
-    → MakesEach t death 0 (take place trs) more old mid log now → Makes u place tr point o mid new now later
-    → MakesEach t death 0 (take place trs ++ tr ∷ unmade) (more ++ o ∷ []) old new log later
-one_made t place death trs tr unmade more o point u old mid new log now later below many same at makes made =
+one_made : (t place : ℕ) (habits : Habits) (trs : List Transfer) (tr : Transfer) (unmade : List Transfer) (more : List TransferOutcome) (o : TransferOutcome) (u : ℕ) (old mid new : DeskView) (log now later : LogState)
+    → place < length trs → length more ≡ place → u ≡ t
+    → MakesEach t habits habits.first (take place trs) more old mid log now → Makes u (habits.first + place) tr habits o mid new now later
+    → MakesEach t habits habits.first (take place trs ++ tr ∷ unmade) (more ++ o ∷ []) old new log later
+one_made t place habits trs tr unmade more o u old mid new log now later below many same makes made =
     let size = length-take place trs in
-    let number : place ≡ 0 + length (take place trs) = omega (arith, size, below) in
-    let its : Makes t place tr (point_at death place) o mid new now later =
-    subst (λ q. Makes t place tr q o mid new now later) at (subst (λ k. Makes k place tr point o mid new now later) same made) in
-    makes_more t death 0 (take place trs) more tr unmade o old mid new log now later (omega (arith, many, number)) makes (subst (λ n. Makes t n tr (point_at death n) o mid new now later) number its)
+    let number : habits.first + place ≡ habits.first + length (take place trs) = omega (arith, size, below) in
+    let its : Makes t (habits.first + place) tr habits o mid new now later =
+    subst (λ k. Makes k (habits.first + place) tr habits o mid new now later) same made in
+    makes_more t habits habits.first (take place trs) more tr unmade o old mid new log now later (omega (arith, many, size, below)) makes (subst (λ n. Makes t n tr habits o mid new now later) number its)
 
-still_none : (more : List TransferOutcome) (o : TransferOutcome) → list_any has_died more ≡ false → has_died o ≡ false
-    → list_any has_died (more ++ o ∷ []) ≡ false
-still_none more o none lives = list_any-append has_died more (o ∷ []) ∙ (λ i. none i || (lives i || false))
+still_none : (more : List TransferOutcome) (o : TransferOutcome) → list_any is_last more ≡ false → is_last o ≡ false
+    → list_any is_last (more ++ o ∷ []) ≡ false
+still_none more o none lives = list_any-append is_last more (o ∷ []) ∙ (λ i. none i || (lives i || false))
 
 grown : (xs more : List TransferOutcome) (o : TransferOutcome) (ys zs : List TransferOutcome) → ys ≡ zs ++ o ∷ [] → zs ≡ xs ++ more
     → ys ≡ xs ++ (more ++ o ∷ [])
 grown xs more o ys zs is told = is ∙ ap (λ l. l ++ o ∷ []) told ∙ append_assoc xs more (o ∷ [])
+
+-- after an outcome that isn't the last the log is known
+still_known : (Knows : Type 0) (o : TransferOutcome) → is_last o ≡ false → LeavesKnown Knows o → Knows
+still_known Knows (Decided done) lives known = known
+still_known Knows Refused lives known = known
+still_known Knows (Died at known_) lives known = known
+still_known Knows (Undecided votes) lives known = cc
+
+pub returns-then-not-is_known-clause-made : goal.returns-then-not-is_known-clause-made
+returns-then-not-is_known-clause-made g c = record {
+  more = [];
+  told = sym (append-nil c.args.outcomes.now.items);
+  makes = record {
+    opened = c.args.desk.now;
+    opens = have_none IsOpenRm c.args.desk.now.ledgers c.args.desk.now.ledgers refl;
+    makes = makes_none c.args.desk.now.thread c.args.habits.now c.args.habits.now.first c.args.transfers.now c.args.desk.now (g.L.DecisionLog.state c.args.log.now);
+  };
+  comes = unknown (λ known. let yes_ : c.is_known.result ≡ true = c.is_known.ensures.1 known in let no : c.is_known.result ≡ false = c.if-not-is_known.true in cc) refl;
+}
+
+pub loop-place-init : goal.loop-place-init
+loop-place-init g c = record {
+  goes_on = c.open_all.ensures.goes_on;
+  kept = c.open_all.ensures.kept;
+  idled = c.open_all.ensures.idled;
+  knows = c.is_known.ensures.0 (let yes_ : c.is_known.result ≡ true = c.if-not-is_known.false in yes_);
+  each = search rules;
+  made = (
+    [],
+    sym (append-nil c.args.outcomes.now.items),
+    refl,
+    refl,
+    makes_none c.args.desk.now.thread c.args.habits.now c.args.habits.now.first (take 0 c.args.transfers.now) c.open_all.new.desk (g.L.DecisionLog.state c.args.log.now),
+  );
+}
 
 pub loop-place-preserved : goal.loop-place-preserved
 loop-place-preserved g c =
@@ -47,30 +84,32 @@ loop-place-preserved g c =
     let o : TransferOutcome = c.in_ok-outcome.outcome in
     let first : DeskView = c.open_all.new.desk in
     let t : ℕ = c.args.desk.now.thread in
-    let death : Option Death = c.args.death in
-    let log : LogState = c.args.log.now.state in
-    let later : LogState = c.make.new.log.state in
+    let habits : Habits = c.args.habits.now in
+    let log : LogState = g.L.DecisionLog.state c.args.log.now in
+    let later : LogState = g.L.DecisionLog.state c.make.new.log in
     let same : c.loop-place.desk.thread ≡ t = ap (λ (s : DeskSeat). s.thread) c.loop-place.invariant.goes_on.seat in
     let all =
-    one_made t place death trs tr [] more o c.point_at-point.result c.loop-place.desk.thread first c.loop-place.desk c.make.new.desk log c.loop-place.log.state later below many same c.point_at-point.ensures makes c.in_ok-outcome.ensures.makes in
+    one_made t place habits trs tr [] more o c.loop-place.desk.thread first c.loop-place.desk c.make.new.desk log (g.L.DecisionLog.state c.loop-place.log) later below many same makes c.in_ok-outcome.ensures.makes in
     let taken : take (place + 1) trs ≡ take place trs ++ tr ∷ [] = one_more trs place tr below c.index-transfers-place.is in
     let size : length (more ++ o ∷ []) ≡ length more + 1 = length-append more (o ∷ []) in
+    let lives : is_last o ≡ false = sym c.is_last-last.ensures ∙ c.if-last.false in
     record {
       goes_on = search rules;
       kept = search rules;
       idled = c.idles_go_on.ensures.further _ _ _ c.loop-place.invariant.idled c.make.ensures.idled;
+      knows = still_known (g.L.DecisionRecords.knows c.make.new.log) o lives c.in_ok-outcome.ensures.known;
       each = search rules;
       made = (
         more ++ o ∷ [],
         grown c.args.outcomes.now.items more o c.push.new.self.items c.loop-place.outcomes.items c.in_ok-push.ensures.items told,
         omega (arith, size, many),
-        still_none more o none (sym c.has_died-died.ensures ∙ c.if-died.false),
-        subst (λ (l : List Transfer). MakesEach t death 0 l (more ++ o ∷ []) first c.make.new.desk log later) (sym taken) all,
+        still_none more o none lives,
+        subst (λ (l : List Transfer). MakesEach t habits habits.first l (more ++ o ∷ []) first c.make.new.desk log later) (sym taken) all,
       );
     }
 
-pub returns-then-died-clause-made : goal.returns-then-died-clause-made
-returns-then-died-clause-made g c =
+pub returns-then-last-clause-made : goal.returns-then-last-clause-made
+returns-then-last-clause-made g c =
     let (more, told, many, none, makes) = c.loop-place.invariant.made in
     let trs : List Transfer = c.args.transfers.now in
     let place : ℕ = c.loop-place.place in
@@ -79,13 +118,13 @@ returns-then-died-clause-made g c =
     let o : TransferOutcome = c.in_ok-outcome.outcome in
     let first : DeskView = c.open_all.new.desk in
     let t : ℕ = c.args.desk.now.thread in
-    let death : Option Death = c.args.death in
-    let log : LogState = c.args.log.now.state in
-    let later : LogState = c.make.new.log.state in
+    let habits : Habits = c.args.habits.now in
+    let log : LogState = g.L.DecisionLog.state c.args.log.now in
+    let later : LogState = g.L.DecisionLog.state c.make.new.log in
     let rest : List Transfer = drop (place + 1) trs in
     let same : c.loop-place.desk.thread ≡ t = ap (λ (s : DeskSeat). s.thread) c.loop-place.invariant.goes_on.seat in
     let all =
-    one_made t place death trs tr rest more o c.point_at-point.result c.loop-place.desk.thread first c.loop-place.desk c.make.new.desk log c.loop-place.log.state later below many same c.point_at-point.ensures makes c.in_ok-outcome.ensures.makes in
+    one_made t place habits trs tr rest more o c.loop-place.desk.thread first c.loop-place.desk c.make.new.desk log (g.L.DecisionLog.state c.loop-place.log) later below many same makes c.in_ok-outcome.ensures.makes in
     let taken : take (place + 1) trs ≡ take place trs ++ tr ∷ [] = one_more trs place tr below c.index-transfers-place.is in
     let parts : take place trs ++ tr ∷ rest ≡ trs =
     sym (append_assoc (take place trs) (tr ∷ []) rest) ∙ ap (λ l. l ++ rest) (sym taken) ∙ take-append-drop (place + 1) trs in
@@ -96,10 +135,34 @@ returns-then-died-clause-made g c =
       makes = record {
         opened = first;
         opens = c.open_all.ensures.opens;
-        makes = subst (λ (l : List Transfer). MakesEach t death 0 l (more ++ o ∷ []) first c.make.new.desk log later) parts all;
+        makes = subst (λ (l : List Transfer). MakesEach t habits habits.first l (more ++ o ∷ []) first c.make.new.desk log later) parts all;
       };
-      comes = died more o whole none (sym c.has_died-died.ensures ∙ c.if-died.true);
+      comes = ended more o whole none (sym c.is_last-last.ensures ∙ c.if-last.true) c.in_ok-outcome.ensures.known;
     }
+
+-- a teller that isn't to die doesn't
+lives_on : (t n : ℕ) (tr : Transfer) (habits : Habits) (o : TransferOutcome) (old new : DeskView) (log later : LogState)
+    → Makes t n tr habits o old new log later → habits.death ≡ None → has_died o ≡ false
+lives_on t n tr habits o old new log later (with_legs one two left legs (commits worked work (in_full done none is made)) kept) never = ap has_died is
+lives_on t n tr habits o old new log later (with_legs one two left legs (commits worked work (cut_short at known some is dies)) kept) never =
+    let nowhere : point_at habits.death n ≡ None = ap (λ d. point_at d n) never in cc
+lives_on t n tr habits o old new log later (with_legs one two left legs (commits worked work (undecided votes decides is may voted wanted)) kept) never =
+    ap has_died is
+lives_on t n tr habits o old new log later (with_legs one two left legs (refused is same why sent) kept) never = ap has_died is
+lives_on t n tr habits o old new log later (without_legs is none same unlogged) never = ap has_died is
+
+-- so its last transfer is one that its log has lost
+last_is_lost : (Knows : Type 0) (o : TransferOutcome) → is_last o ≡ true → has_died o ≡ false → LeavesKnown Knows o → Knows → ⊥
+last_is_lost Knows (Decided done) last lives known = cc
+last_is_lost Knows Refused last lives known = cc
+last_is_lost Knows (Died at known_) last lives known = cc
+last_is_lost Knows (Undecided votes) last lives known = known
+
+pub returns-then-last-clause-each : goal.returns-then-last-clause-each
+returns-then-last-clause-each g c never known knows =
+    let o : TransferOutcome = c.in_ok-outcome.outcome in
+    let lives = lives_on _ _ _ _ o _ _ _ _ c.in_ok-outcome.ensures.makes never in
+    absurd (last_is_lost (g.L.DecisionRecords.knows c.make.new.log) o (sym c.is_last-last.ensures ∙ c.if-last.true) lives c.in_ok-outcome.ensures.known knows)
 
 pub returns-clause-made : goal.returns-clause-made
 returns-clause-made g c =
@@ -112,7 +175,7 @@ returns-clause-made g c =
       makes = record {
         opened = c.open_all.new.desk;
         opens = c.open_all.ensures.opens;
-        makes = subst (λ (l : List Transfer). MakesEach c.args.desk.now.thread c.args.death 0 l more c.open_all.new.desk c.loop-place.desk c.args.log.now.state c.loop-place.log.state) (take_all c.loop-place.place trs (omega (arith, past))) makes;
+        makes = subst (λ (l : List Transfer). MakesEach c.args.desk.now.thread c.args.habits.now c.args.habits.now.first l more c.open_all.new.desk c.loop-place.desk (g.L.DecisionLog.state c.args.log.now) (g.L.DecisionLog.state c.loop-place.log)) (take_all c.loop-place.place trs (omega (arith, past))) makes;
       };
-      comes = lived none (let low = c.loop-place.invariant.each in omega (arith, past, many));
+      comes = lived none (let low = c.loop-place.invariant.each in omega (arith, past, many)) c.loop-place.invariant.knows;
     }

@@ -1,12 +1,28 @@
-use Rattle.std.proofs.Common.{◌∙◌, subst, rules}
-use Rattle.xa_file_log.specs.Slots.{StandsFor, IsNoLog}
+use Rattle.std.proofs.Common.{◌≡◌, ℕ, List, sym, ◌∙◌, ap, subst, rules}
+use Rattle.xa_file_log.specs.Slots.{StandsFor, IsNoLog, records_of}
+use Rattle.xa_file_log.specs.Memory.{table_of}
 use Rattle.xa_file_log.proofs.OneTable.{one_content}
+use Rattle.xa_file_log.proofs.Shown.{stands_shown}
+use Rattle.xa_file_log.proofs.Slotwise.{all_count}
 use Rattle.xa_file_log.proofs.opening.open.Goals as goal
+
+pub invariant_of-result : goal.invariant_of-result
+invariant_of-result g c =
+    let stands : StandsFor (table_of c.in-Ok-read_table.table.slots.items) (g.D.Device.seen c.read.new.self) = search rules in
+    let durable : (f : List ℕ) → g.D.Device.may_leave c.read.new.self f → f ≡ g.D.Device.seen c.read.new.self =
+    λ f left. c.requires f (c.read.ensures.crash f left) ∙ sym c.read.ensures.seen in
+    record {
+      ready = λ is. record { stands = stands; durable = durable };
+      known = λ is f left.
+          stands_shown c.in-Ok-read_table.table.slots.items f
+          (subst (StandsFor (table_of c.in-Ok-read_table.table.slots.items)) (sym (durable f left)) stands);
+    }
 
 pub returns-in-Ok-read_table-clause-reads : goal.returns-in-Ok-read_table-clause-reads
 returns-in-Ok-read_table-clause-reads g c = λ records there.
-    let stands : StandsFor c.in-Ok-read_table.table.items (g.D.Device.seen c.args.device) = search rules in
-    one_content c.in-Ok-read_table.table.items (g.D.Device.seen c.args.device) stands records there
+    let stands : StandsFor (table_of c.in-Ok-read_table.table.slots.items) (g.D.Device.seen c.args.device) = search rules in
+    ap records_of (all_count c.in-Ok-read_table.table.slots.items c.in-Ok-read_table.ensures.none_forgotten)
+    ∙ one_content (table_of c.in-Ok-read_table.table.slots.items) (g.D.Device.seen c.args.device) stands records there
 
 pub returns-clause-not_a_log : goal.returns-clause-not_a_log
 returns-clause-not_a_log g c = λ is.

@@ -1,15 +1,37 @@
-use Rattle.std.proofs.Common.{ℕ, ◌+◌, length, get_or, None, sym, ◌∙◌, ap, subst}
-use Rattle.std.proofs.lemmas.List.{length_push}
-use Rattle.xa_file_log.specs.Slots.{Table, slot, IsSlotOf}
-use Rattle.xa_file_log.proofs.OneTable.{slots_push}
+use Rattle.std.proofs.Common.{◌+◌, None, Some, sym, ◌∙◌, ap, subst}
+use Rattle.xa_file_log.specs.declared.slot_table.SlotTable.{SlotTable}
+use Rattle.xa_file_log.specs.Slots.{IsSlotOf}
+use Rattle.xa_file_log.specs.Memory.{HasName}
+use Rattle.xa_file_log.proofs.Reading.{IsRead, none_read, free_read, taken_read, all_read, some_of, twice_named}
 use Rattle.xa_file_log.proofs.opening.read_slots.Goals as goal
+use Rattle.xa_file_log.proofs.opening.read_slots.Goals.{in-Some-found+else-is_some, in_default-found}
+
+pub loop-place-init : goal.loop-place-init
+loop-place-init c = none_read c.args.count c.in_ok-table.table.slots.items c.args.bytes.now c.in_ok-table.ensures
+
+pub returns-then-is_some-clause-refused : goal.returns-then-is_some-clause-refused
+returns-then-is_some-clause-refused c = λ other.
+    let here =
+    subst (IsSlotOf (Some c.in-Some-found.record)) c.slot_of.ensures.bytes (subst (λ o. IsSlotOf o c.slot_of.result.now) c.in-Some-found.is c.in-Some.ensures.found) in
+    twice_named c.loop-place.place c.args.count c.loop-place.table.slots.items c.args.bytes.now c.in-Some-found.record c.loop-place-test.true
+    c.requires.size here c.loop-place.invariant
+    (some_of (λ k. HasName c.loop-place.table.slots.items k c.in-Some-found.record.tran) c.place_of.result (sym c.is_some.ensures ∙ c.if-is_some.true)
+    c.place_of.ensures.there)
 
 pub loop-place-preserved : goal.loop-place-preserved
-loop-place-preserved c =
-    let so_far = c.loop-place.invariant in
-    let here = subst (IsSlotOf c.in-Some.record) c.slot_of.ensures.bytes c.in-Some.ensures.found in
-    record {
-      count = ap length c.in_ok-push.ensures.items ∙ length_push c.loop-place.table.items c.in-Some.record ∙ ap (λ (n : ℕ). n + 1) so_far.count;
-      each = λ k below. subst (λ (t : Table). IsSlotOf (get_or t k None) (slot k c.args.bytes.now)) (sym c.in_ok-push.ensures.items)
-          (slots_push c.loop-place.table.items c.in-Some.record c.loop-place.place c.args.bytes.now so_far.count so_far.each here k below);
-    }
+loop-place-preserved c = elim c.match-found.branch [
+  | in-Some-found+else-is_some w ↦
+      let here =
+      subst (IsSlotOf (Some w.in-Some-found.record)) c.slot_of.ensures.bytes (subst (λ o. IsSlotOf o c.slot_of.result.now) w.in-Some-found.is c.in-Some.ensures.found) in
+      taken_read c.loop-place.place c.args.count c.loop-place.table.slots.items c.match-found.table.slots.items c.args.bytes.now w.in-Some-found.record
+      c.loop-place-test.true (ap (λ (t : SlotTable). t.slots.items) w.table-is ∙ w.take.ensures) here c.loop-place.invariant
+  | in_default-found w ↦
+      let here = subst (IsSlotOf None) c.slot_of.ensures.bytes (subst (λ o. IsSlotOf o c.slot_of.result.now) w.in_default-found.is c.in-Some.ensures.found) in
+      subst (λ (t : SlotTable). IsRead (c.loop-place.place + 1) c.args.count t.slots.items c.args.bytes.now) (sym w.table-is)
+      (free_read c.loop-place.place c.args.count c.loop-place.table.slots.items c.args.bytes.now here c.loop-place.invariant)
+]
+
+pub returns-clause-stands : goal.returns-clause-stands
+returns-clause-stands c =
+    all_read c.loop-place.place c.args.count c.loop-place.table.slots.items c.args.bytes.now _ c.loop-place.table.indexed c.loop-place-test.false
+    c.requires.few c.requires.size c.requires.header c.loop-place.invariant

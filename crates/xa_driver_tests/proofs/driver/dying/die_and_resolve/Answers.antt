@@ -20,7 +20,7 @@ returns g c =
     let resolved =
     c.next_openings_resolve.ensures.cut first.settled last.settled c.args.again.now k (q records) c.die_and_settle-settled.ensures.settled (record { made = c.die_and_settle-settled.ensures.cut; grown = c.die_and_settle-settled.ensures.grown })
     c.die_and_settle-settled.ensures.few (λ j d lt asked. c.die_and_settle-settled.ensures.own.each j d lt) c.recover-last.ensures.settled (record { made = c.recover-last.ensures.trace; grown = c.recover-last.ensures.grown }) c.recover-last.ensures.continues c.recover-last.ensures.of
-    c.recover-last.ensures.scan (λ t tran. ap (λ (r : Records). record_in r t) records_are) (λ t tran. c.recover-last.ensures.later t) (λ j d lt of. c.recover-last.ensures.reached j d lt) in
+    c.recover-last.ensures.scan (λ left t tran. ap (λ (r : Records). record_in r t) records_are) (λ t tran. c.recover-last.ensures.later t) (λ j d lt of. c.recover-last.ensures.reached j d lt) in
     let outcome : EndsByTheLog k (with_use first.settled (cuts k)) (with_use last.settled (resolves (q records)) ∷ []) × CountsByTheLog k (with_use first.settled (cuts k)) (with_use last.settled (resolves (q records)) ∷ []) =
     (c.presumed_transactions_have_one_outcome.ensures (with_use first.settled (cuts k)) [] (with_use last.settled (resolves (q records))) k (q records) resolved, c.presumed_transactions_count_by_the_log.ensures (with_use first.settled (cuts k)) [] (with_use last.settled (resolves (q records))) k (q records) resolved) in
     subst (λ (p : Settling × Records). EndsByTheLog k (with_use p.0 (cuts k)) (with_use last.settled (resolves (q p.1)) ∷ []) × CountsByTheLog k (with_use p.0 (cuts k)) (with_use last.settled (resolves (q p.1)) ∷ []))

@@ -18,7 +18,7 @@ returns g c =
     let there =
     c.next_openings_resolve.ensures.finished first.settled last.settled c.args.again.now call (q records) c.commit_and_crash-settled.ensures.settled (record { made = c.commit_and_crash-settled.ensures.made; grown = c.commit_and_crash-settled.ensures.grown })
     c.commit_and_crash-settled.ensures.few c.commit_and_crash-settled.ensures.own c.recover-last.ensures.settled (record { made = c.recover-last.ensures.trace; grown = c.recover-last.ensures.grown }) c.recover-last.ensures.continues c.recover-last.ensures.of
-    c.recover-last.ensures.scan (λ t tran. ap (λ (r : Records). record_in r t) records_are) (λ t tran. c.recover-last.ensures.later t) (λ j d lt of. c.recover-last.ensures.reached j d lt) in
+    c.recover-last.ensures.scan (λ left t tran. ap (λ (r : Records). record_in r t) records_are) (λ t tran. c.recover-last.ensures.later t) (λ j d lt of. c.recover-last.ensures.reached j d lt) in
     let resolved =
     subst (λ (p : Settling × Records). IsResolved (with_use p.0 (commits call)) [] (with_use last.settled (resolves (q p.1))) call (q p.1))
     (λ i. (sym c.of-first.ensures i, sym (ap (λ (l : LogView). l.state.records) c.of.ensures) i)) there in

@@ -1,74 +1,104 @@
-use Rattle.std.proofs.Common.{◌≡◌, inl, inr, ⊎_elim, ℕ, ◌<◌, None, Some, List, length, get_or, set, refl, subst}
-use Rattle.std.specs.FinMap as finmap
-use Rattle.xa_log.specs.declared.log.CommitRecord.{CommitRecord}
-use Rattle.xa_file_log.specs.Device.{LeavesOnly}
-use Rattle.xa_file_log.specs.Slots.{Table, HasEither, records_of}
-use Rattle.xa_file_log.proofs.Moments.{started, weaker}
-use Rattle.xa_file_log.proofs.Records.{records_set}
-use Rattle.xa_file_log.proofs.Steps.{StandsForEither}
+use Rattle.std.proofs.Common.{inl, inr, ◌<◌, ◌+◌, ◌%◌, ◌^◌, List, set, refl, sym, ◌∙◌, ap, subst, arith}
+use Rattle.xa_file_log.specs.declared.slot.Slot.{Slot}
+use Rattle.xa_file_log.specs.declared.slot.Slot.TheVariants.{Taken}
+use Rattle.xa_file_log.specs.Slots.{StandsFor, IsSettled}
+use Rattle.xa_file_log.specs.Appends.{ForgetsNoMore}
+use Rattle.xa_file_log.specs.Memory.{MayShow, table_of, records_in}
+use Rattle.xa_file_log.proofs.Appending.{same_records, no_more, before_it, one_more, none_more, both_runs}
+use Rattle.xa_file_log.proofs.Moments.{weaker}
+use Rattle.xa_file_log.proofs.Shown.{stands_shown}
 use Rattle.xa_file_log.proofs.file_log.FileLogDecisionLog.append.Goals as goal
 
--- what is refused at once leaves the file
+-- what is refused before the record is written
 pub returns-in_default-clause-refused : goal.returns-in_default-clause-refused
-returns-in_default-clause-refused g c = λ it. (
-  refl,
-  c.requires.known,
-  record {
-    any_moment = started g.D.Device.moment g.D.Device.left_since c.args.self.now.device _ (λ f left. inl (record {
-      table = c.args.self.now.table.items;
-      stands = c.args.self.now.known c.requires.known f (g.met.D.Device.only_now c.args.self.now.device f left);
-      same = refl;
-    }));
-    cause = λ no. ⊎_elim (λ shut. inl shut) (λ rest. inr (⊎_elim (λ full. inl full) (λ other. inr (inr other)) rest)) c.in_default.ensures.none;
-  },
-)
+returns-in_default-clause-refused g c = λ it.
+    let same = same_records c.args.self.now.table.slots.items c.place_for.new.self.table.slots.items c.place_for.ensures.slots in (
+      λ i. record { records = same i; failures = (c.place_for.ensures.failures i + 1) % 2 ^ 64 },
+      c.place_for.ensures.known,
+      record {
+        any_moment =
+            weaker g.D.Device.moment g.D.Device.left_since c.args.self.now.device c.place_for.new.self.device
+            (MayShow c.args.self.now.table.slots.items) _ (before_it c.args.self.now.table.slots.items c.args.decision.now)
+            c.place_for.ensures.any_moment;
+        forgotten = no_more c.args.self.now.table.slots.items c.place_for.new.self.table.slots.items c.place_for.ensures.slots;
+        ready = λ taken. absurd (cc (taken));
+        goes_on = λ refused. c.place_for.ensures.goes_on;
+        cause = λ refused. c.in_default.ensures.cause;
+      },
+    )
 
-module _ {D : Type 0} (moment : D → ℕ) (left_since : D → ℕ → List ℕ → Type 0) (table : Table) (place : ℕ) (r : CommitRecord)
-    (free : (place < length table) × (get_or table place None ≡ None)) (absent : finmap.get (records_of table) r.tran ≡ None) where
-  -- a record in a free place
-  either : (c : List ℕ) → StandsForEither table place r c → HasEither (records_of table) (finmap.insert (records_of table) r.tran r.yes) c
-  either c (inl before) = inl (record { table = table; stands = before; same = refl })
-  either c (inr after) = inr (record { table = set table place (Some r); stands = after; same = records_set table place r free.0 free.1 absent })
+pub invariant_of-self-in-Ok : goal.invariant_of-self-in-Ok
+invariant_of-self-in-Ok g c =
+    let same = ap (λ (l : List Slot). table_of (set l c.in-Some.place (Taken c.args.decision.now))) c.deref.ensures.value
+    ∙ sym (ap table_of c.take.ensures) in
+    let settled = subst (λ t. IsSettled g.D.Device.seen g.D.Device.may_leave t c.write_record.new.device) same c.in-Ok.ensures.logged in
+    record {
+      ready = λ is. settled;
+      known = λ known f left.
+          stands_shown c.take.new.self.slots.items f
+          (subst (StandsFor (table_of c.take.new.self.slots.items)) (sym (settled.durable f left)) settled.stands);
+    }
 
-  leaves_either : (shown : Table) → shown ≡ table → (old new : D) → LeavesOnly moment left_since old new (StandsForEither shown place r)
-      → LeavesOnly moment left_since old new (HasEither (records_of table) (finmap.insert (records_of table) r.tran r.yes))
-  leaves_either shown same old new run =
-      weaker moment left_since old new (StandsForEither table place r) _ either
-      (subst (λ (t : Table). LeavesOnly moment left_since old new (StandsForEither t place r)) same run)
+pub invariant_of-self-in-Err-Refused : goal.invariant_of-self-in-Err-Refused
+invariant_of-self-in-Err-Refused g c = record {
+  ready = λ is. absurd (cc (is));
+  known = λ known f left.
+      stands_shown c.place_for.new.self.table.slots.items f
+      (subst (λ (l : List Slot). StandsFor (table_of l) f) c.deref.ensures.value (c.in-Err-Refused.ensures.refused (cc (c.in-Err-Refused.field-0-is)) f left));
+}
 
 pub returns-in-Ok-clause-appended : goal.returns-in-Ok-clause-appended
 returns-in-Ok-clause-appended g c =
     let free = c.in-Some.ensures.free in
-    let same = records_set c.args.self.now.table.items c.in-Some.place c.args.decision.now free.0 free.1 c.requires.new in (
-      λ i. record { records = same i; failures = c.args.self.now.failures },
-      c.requires.known,
+    let more = ap records_in c.take.ensures
+    ∙ one_more c.args.self.now.table.slots.items c.place_for.new.self.table.slots.items c.place_for.ensures.slots c.in-Some.place
+    c.args.decision.now free.0 free.1 c.requires.new in (
+      λ i. record { records = more i; failures = c.place_for.ensures.failures i },
+      λ lost. absurd (cc (lost, c.in-Some.ensures.ready)),
       record {
         any_moment =
-            leaves_either g.D.Device.moment g.D.Device.left_since c.args.self.now.table.items c.in-Some.place c.args.decision.now free c.requires.new
-            c.deref.result.now c.deref.ensures.value c.args.self.now.device c.write_record.new.device c.write_record.ensures.any_moment;
-        cause = λ no. absurd (cc (no));
+            both_runs c.args.self.now.table.slots.items c.place_for.new.self.table.slots.items c.place_for.ensures.slots c.in-Some.place
+            c.args.decision.now free.0 free.1 c.requires.new g.D.Device.moment g.D.Device.left_since c.deref.result.now c.deref.ensures.value
+            c.args.self.now.device c.place_for.new.self.device c.write_record.new.device c.place_for.ensures.any_moment c.write_record.ensures.any_moment;
+        forgotten =
+            subst (ForgetsNoMore c.args.self.now.table.slots.items) (sym c.take.ensures)
+            (none_more c.args.self.now.table.slots.items c.place_for.new.self.table.slots.items c.place_for.ensures.slots c.in-Some.place
+            c.args.decision.now free.0 free.1 c.requires.new);
+        ready = λ taken. c.in-Some.ensures.ready;
+        goes_on = λ refused. absurd (cc (refused));
+        cause = λ refused. absurd (cc (refused));
       },
     )
 
 pub returns-in-Err-Refused-clause-refused : goal.returns-in-Err-Refused-clause-refused
-returns-in-Err-Refused-clause-refused g c = λ it. (
-  refl,
-  λ lost. absurd (cc (lost)),
-  record {
-    any_moment =
-        leaves_either g.D.Device.moment g.D.Device.left_since c.args.self.now.table.items c.in-Some.place c.args.decision.now c.in-Some.ensures.free
-        c.requires.new c.deref.result.now c.deref.ensures.value c.args.self.now.device c.write_record.new.device c.write_record.ensures.any_moment;
-    cause = λ no. inr (inr (inl (c.in-Err-Refused.ensures.cause refl)));
-  },
-)
+returns-in-Err-Refused-clause-refused g c = λ it.
+    let free = c.in-Some.ensures.free in
+    let same = same_records c.args.self.now.table.slots.items c.place_for.new.self.table.slots.items c.place_for.ensures.slots in
+    let failed : g.D.Device.faults c.args.self.now.device < g.D.Device.faults c.write_record.new.device =
+    omega (arith, c.place_for.ensures.faults, c.in-Err-Refused.ensures.cause refl) in (
+      λ i. record { records = same i; failures = (c.place_for.ensures.failures i + 1) % 2 ^ 64 },
+      λ lost. absurd (cc (lost)),
+      record {
+        any_moment =
+            both_runs c.args.self.now.table.slots.items c.place_for.new.self.table.slots.items c.place_for.ensures.slots c.in-Some.place
+            c.args.decision.now free.0 free.1 c.requires.new g.D.Device.moment g.D.Device.left_since c.deref.result.now c.deref.ensures.value
+            c.args.self.now.device c.place_for.new.self.device c.write_record.new.device c.place_for.ensures.any_moment c.write_record.ensures.any_moment;
+        forgotten = no_more c.args.self.now.table.slots.items c.place_for.new.self.table.slots.items c.place_for.ensures.slots;
+        ready = λ taken. absurd (cc (taken));
+        goes_on = λ refused. inr failed;
+        cause = λ refused. inr (inr (inl failed));
+      },
+    )
 
 pub returns-in-Err-Unknown-clause-unknown : goal.returns-in-Err-Unknown-clause-unknown
-returns-in-Err-Unknown-clause-unknown g c = λ it. (
-  λ known. known refl,
-  record {
-    any_moment =
-        leaves_either g.D.Device.moment g.D.Device.left_since c.args.self.now.table.items c.in-Some.place c.args.decision.now c.in-Some.ensures.free
-        c.requires.new c.deref.result.now c.deref.ensures.value c.args.self.now.device c.write_record.new.device c.write_record.ensures.any_moment;
-    cause = c.in-Err-Unknown.ensures.cause refl;
-  },
-)
+returns-in-Err-Unknown-clause-unknown g c = λ it.
+    let free = c.in-Some.ensures.free in (
+      λ known. known refl,
+      record {
+        any_moment =
+            both_runs c.args.self.now.table.slots.items c.place_for.new.self.table.slots.items c.place_for.ensures.slots c.in-Some.place
+            c.args.decision.now free.0 free.1 c.requires.new g.D.Device.moment g.D.Device.left_since c.deref.result.now c.deref.ensures.value
+            c.args.self.now.device c.place_for.new.self.device c.write_record.new.device c.place_for.ensures.any_moment c.write_record.ensures.any_moment;
+        cause = omega (arith, c.place_for.ensures.faults, c.in-Err-Unknown.ensures.cause refl);
+      },
+    )

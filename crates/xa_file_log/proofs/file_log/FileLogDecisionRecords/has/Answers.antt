@@ -1,43 +1,32 @@
-use Rattle.std.proofs.Common.{◌≡◌, ℕ, ◌<◌, ◌≤◌, Option, None, Some, length, get_or, sym, ◌∙◌, subst}
-use Rattle.std.proofs.lemmas.List.{get_or_read, at_drop_all}
-use Rattle.std.specs.FinMap.{find}
-use Rattle.xa_log.specs.declared.log.CommitRecord.{CommitRecord}
-use Rattle.xa_log.specs.Transactions.{tran_cmp}
-use Rattle.xa_file_log.specs.Slots.{Table, entries}
-use Rattle.xa_file_log.proofs.Records.{find_same, find_other, find_free, get_found}
+use Rattle.std.proofs.Common.{◌≡◌, ℕ, None, get_or, refl, sym, ◌∙◌, subst}
+use Rattle.std.proofs.lemmas.List.{get_or_default}
+use Rattle.xa_file_log.specs.declared.slot.Slot.TheVariants.{Free, Taken}
+use Rattle.xa_file_log.specs.Memory.{taken}
+use Rattle.xa_file_log.proofs.Index.{index_apart, one_place}
+use Rattle.xa_file_log.proofs.Slotwise.{counted_found, not_counted}
+use Rattle.xa_file_log.proofs.Mapped.{slot_indexed}
+use Rattle.xa_file_log.proofs.Forgetting.{not_taken}
 use Rattle.xa_file_log.proofs.file_log.FileLogDecisionRecords.has.Goals as goal
-use Rattle.xa_file_log.proofs.file_log.FileLogDecisionRecords.has.Goals.{in-Some+else-eq, in_default}
 
-at_slot : (xs table : Table) (i : ℕ) (x o : Option CommitRecord) → xs ≡ table → i < length xs → x ≡ get_or xs i x → x ≡ o
-    → (i < length table) × (get_or table i None ≡ o)
-at_slot xs table i x o same below read is =
-    subst (λ (t : Table). (i < length t) × (get_or t i None ≡ o)) same (below, sym (get_or_read xs i x below read None) ∙ is)
+pub returns-in_err-place : goal.returns-in_err-place
+returns-in_err-place g c =
+    let none = not_counted c.args.self.now.table.slots.items c.args.tran.now (λ k named. absurd (c.in_err-place.ensures.none k named)) _ refl in
+    c.from_residual.ensures ∙ sym none
 
-pub returns-then-eq : goal.returns-then-eq
-returns-then-eq g c =
-    let at =
-    at_slot c.deref-slot-items.result.now c.args.self.now.table.items c.loop-slot.slot-index c.slot-item.result (Some c.in-Some.record)
-    c.deref-slot-items.ensures.value c.loop-slot-test.true c.slot-item.is c.in-Some.is in
-    sym (get_found c.args.self.now.table.items c.args.tran.now ∙ sym c.loop-slot.invariant
-    ∙ find_same c.args.self.now.table.items c.loop-slot.slot-index c.args.tran.now c.in-Some.record at.0 at.1 (sym c.eq.ensures ∙ c.if-eq.true))
+pub returns-in-Taken : goal.returns-in-Taken
+returns-in-Taken g c =
+    let at = c.in_ok-place.ensures.there in
+    sym (counted_found c.args.self.now.table.slots.items (index_apart _ c.args.self.now.table.slots.items c.args.self.now.table.indexed)
+    c.in_ok-place.place c.args.tran.now c.in-Taken.record
+    (slot_indexed c.args.self.now.table.slots.items c.in_ok-place.place c.index.result.now (Taken c.in-Taken.record) at.0 c.index.ensures c.in-Taken.is)
+    at.1)
 
-pub loop-slot-preserved : goal.loop-slot-preserved
-loop-slot-preserved g c = elim c.match-slot.branch [
-  | in-Some+else-eq w ↦
-      let at =
-      at_slot c.deref-slot-items.result.now c.args.self.now.table.items c.loop-slot.slot-index c.slot-item.result (Some w.in-Some.record)
-      c.deref-slot-items.ensures.value c.loop-slot-test.true c.slot-item.is w.in-Some.is in
-      sym (find_other c.args.self.now.table.items c.loop-slot.slot-index c.args.tran.now w.in-Some.record at.0 at.1 (sym w.eq.ensures ∙ w.if-eq.false))
-      ∙ c.loop-slot.invariant
-  | in_default w ↦
-      let at =
-      at_slot c.deref-slot-items.result.now c.args.self.now.table.items c.loop-slot.slot-index c.slot-item.result None
-      c.deref-slot-items.ensures.value c.loop-slot-test.true c.slot-item.is w.in_default.is in
-      sym (find_free c.args.self.now.table.items c.loop-slot.slot-index c.args.tran.now at.0 at.1) ∙ c.loop-slot.invariant
-]
-
-pub returns : goal.returns
-returns g c =
-    let past = subst (λ (t : Table). length t ≤ c.loop-slot.slot-index) c.deref-slot-items.ensures.value c.loop-slot-test.false in
-    sym (get_found c.args.self.now.table.items c.args.tran.now ∙ sym c.loop-slot.invariant
-    ∙ at_drop_all (λ (l : Table). find tran_cmp c.args.tran.now (entries l)) c.args.self.now.table.items c.loop-slot.slot-index past)
+pub returns-in_default : goal.returns-in_default
+returns-in_default g c =
+    let at = c.in_ok-place.ensures.there in
+    let none : taken (get_or c.args.self.now.table.slots.items c.in_ok-place.place Free) ≡ None =
+    not_taken (get_or c.args.self.now.table.slots.items c.in_ok-place.place Free) (λ r is.
+    c.in_default.not-Taken r (c.index.ensures ∙ get_or_default c.args.self.now.table.slots.items c.in_ok-place.place c.index.result.now Free at.0 ∙ is)) in
+    sym (not_counted c.args.self.now.table.slots.items c.args.tran.now (λ k named.
+    subst (λ (i : ℕ). taken (get_or c.args.self.now.table.slots.items i Free) ≡ None)
+    (sym (one_place _ c.args.self.now.table.slots.items c.args.self.now.table.indexed k c.in_ok-place.place c.args.tran.now named at.1)) none) _ refl)

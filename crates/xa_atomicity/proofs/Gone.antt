@@ -1,0 +1,135 @@
+-- A branch whose end was told isn't left to the next opening.
+use Rattle.std.proofs.Common.{◌≡◌, ℕ, Bool, true, false, [], ◌∷◌, List, ap, sym, subst, refl, ◌∙◌}
+use Rattle.std.specs.Prelude.{Option, None, Some, option_map}
+use Rattle.std.specs.List.{All, list_all}
+use Rattle.std.specs.FinMap.{get-empty}
+use Rattle.std.proofs.lemmas.Bool.{and_parts}
+use Rattle.std.proofs.lemmas.List.Elements.{All-contains, All-cons, All-nil}
+use Rattle.xa_words.specs.Xid.{XidName, xid_cmp}
+use Rattle.xa_words.specs.declared.code.Code.{Code}
+use Rattle.xa_words.specs.declared.code.Code.TheVariants.{Done as OK}
+use Rattle.xa_tables.specs.declared.state.State.{State}
+use Rattle.xa_tables.specs.declared.state.State.TheVariants.{Prepared, HeuristicallyCompleted}
+use Rattle.xa_tables.specs.declared.state.HeuristicDecision.{HeuristicDecision}
+use Rattle.xa_tables.specs.declared.state.HeuristicDecision.TheVariants as decision
+use Rattle.xa_tables.specs.Managers.{opening}
+use Rattle.xa_tables.specs.Tables.{Tables, state_of, is_left, is_left_in, is_S3}
+use Rattle.xa_tables.specs.History as history
+use Rattle.xa_tables.specs.History.{Fate, History, IsFateOf, decided_fate, fate, is_done, tables_after}
+use Rattle.xa_tables.specs.Openings.{reopened, told_by}
+use Rattle.xa_tables.proofs.Reopening.{as_left}
+use Rattle.xa_switch.specs.Again.{last_in, reopened_at}
+use Rattle.xa_switch.specs.Fates.{IsOpenedWith, first_of, history as history_of, settled_fate}
+use Rattle.xa_switch.specs.Settling.{ManagerPart, Settling, IsSettled, find_manager}
+use Rattle.xa_driver.specs.declared.branch.Branch.{Branch}
+use Rattle.xa_driver.specs.declared.done.Done.{Done}
+use Rattle.xa_driver.specs.declared.done.Ending.{Ending}
+use Rattle.xa_driver.specs.declared.done.Ending.TheVariants.{Committed, ReadOnly}
+use Rattle.xa_driver.specs.declared.resolved.Outcome.{Outcome}
+use Rattle.xa_driver.specs.Forgetful.{has_acknowledged, is_acknowledged}
+use Rattle.xa_atomicity.specs.Outcomes.{EachOutcome, TellsTheFate, WasAtFirst, told_fate}
+use Rattle.xa_atomicity.specs.Resolution.{HasLeft, TellsTheOutcome, ended_as, outcome_fate}
+use Rattle.xa_atomicity.specs.Tabled.{Tabled}
+use Rattle.xa_atomicity.proofs.Later.{ends_with}
+
+-- a fate after which nothing of the branch is left
+record IsOver (f : Fate) : Type 0 where
+  known : history.is_in_doubt f ≡ false
+  plain : (d : HeuristicDecision) → f ≡ decided_fate d → ⊥
+
+committed_is_over : IsOver history.Committed
+committed_is_over =
+    record { known = refl; plain = λ d e. elim d as (λ d. history.Committed ≡ decided_fate d → ⊥) [ decision.Commit ↦ λ e. cc | decision.Rollback ↦ λ e. cc ] e }
+
+read_is_over : IsOver history.ReadOnly
+read_is_over =
+    record { known = refl; plain = λ d e. elim d as (λ d. history.ReadOnly ≡ decided_fate d → ⊥) [ decision.Commit ↦ λ e. cc | decision.Rollback ↦ λ e. cc ] e }
+
+rolled_back_is_over : IsOver history.RolledBack
+rolled_back_is_over =
+    record { known = refl; plain = λ d e. elim d as (λ d. history.RolledBack ≡ decided_fate d → ⊥) [ decision.Commit ↦ λ e. cc | decision.Rollback ↦ λ e. cc ] e }
+
+ended_is_over : (commit : Bool) → IsOver (ended_as commit)
+ended_is_over true = committed_is_over
+ended_is_over false = rolled_back_is_over
+
+-- tables that tell it have nothing left
+not_left : (x : XidName) (f : Fate) (T : Tables) → IsFateOf x f T → IsOver f → (o : Option State) → state_of T x ≡ o
+    → is_left_in o ≡ false
+not_left x f T fits over (Some Prepared) is =
+    let z : true ≡ false = sym (ap is_S3 is) ∙ fits.prepared ∙ over.known in cc
+not_left x f T fits over (Some (HeuristicallyCompleted d)) is = absurd (over.plain d (fits.decided d is))
+not_left x f T fits over o is = refl
+
+module _ (law : Tabled) (first : (s : Settling) (m : ℕ) (T : Tables) → IsSettled s → first_of s m ≡ Some T → IsOpenedWith s m T)
+    (s : Settling) (settled : IsSettled s) where
+  -- what the tables with which its opening began tell of it
+  abbrev Ends : ℕ → XidName → Fate → Type 0
+  Ends m x f =
+      (T : Tables) → first_of s m ≡ Some T → settled_fate s m x (told_by (state_of T x)) ≡ f
+
+  gone_of : (m : ℕ) (x : XidName) (f : Fate) → IsOver f → Ends m x f → (T : Tables) → first_of s m ≡ Some T
+      → is_left (reopened_at s.managers m) x ≡ false
+  gone_of m x f over ends T begins =
+      let H : History = history_of s m in
+      let end : Tables = tables_after H T in
+      let G : Fate = told_by (state_of T x) in
+      let with_T = first s m T settled begins in
+      let fits = law.kept H x G T with_T.opened (law.first x T) in
+      let is : fate x G H T ≡ f = sym (with_T.fates x G) ∙ ends T begins in
+      ap (λ (U : Tables). is_left (reopened U) x) (ends_with s m T settled begins) ∙ as_left end x
+      ∙ not_left x f end (subst (λ g. IsFateOf x g end) is fits) over (state_of end x) refl
+
+  gone : (m : ℕ) (x : XidName) (f : Fate) → IsOver f → Ends m x f → is_left (reopened_at s.managers m) x ≡ false
+  gone m x f over ends =
+      elim (find_manager m s.managers) as (λ o. find_manager m s.managers ≡ o → is_left (reopened_at s.managers m) x ≡ false) [
+        | None ↦ λ none. ap (λ o. is_left (reopened (last_in o)) x) none ∙ as_left (opening []) x ∙ ap is_left_in (get-empty xid_cmp x)
+        | Some p ↦ λ is. gone_of m x f over ends p.first (ap (option_map (λ (q : ManagerPart). q.first)) is)
+      ] refl
+
+  -- ---- of a commit that was acknowledged
+
+  acknowledged_is_over : (e : Ending) → has_acknowledged e ≡ true → (f : Fate) × (told_fate e ≡ Some f) × IsOver f
+  acknowledged_is_over Committed is = (history.Committed, refl, committed_is_over)
+  acknowledged_is_over ReadOnly is = (history.ReadOnly, refl, read_is_over)
+  acknowledged_is_over e is = cc
+
+  abbrev IsGone : Branch → Type 0
+  IsGone b = is_left (reopened_at s.managers b.m) b.xid ≡ false
+
+  gone_acknowledged : (t n : ℕ) (b : Branch) (e : Ending) → TellsTheFate s t b n e → has_acknowledged e ≡ true → IsGone b
+  gone_acknowledged t n b e tells is =
+      let over = acknowledged_is_over e is in
+      gone b.m b.xid over.0 over.2
+      (λ T begins.
+      let was : WasAtFirst s b (told_by (state_of T b.xid)) =
+      record { first = T; opened = first s b.m T settled begins; fits = law.first b.xid T } in
+      tells.told (told_by (state_of T b.xid)) over.0 was over.1)
+
+  all_gone : (t : ℕ) (from : ℕ → ℕ) (bs : List Branch) (vs : List Code) (es : List Ending)
+      → EachOutcome (λ b v e. TellsTheFate s t b (from b.m) e) bs vs es → list_all has_acknowledged es ≡ true → All IsGone bs
+  all_gone t from [] [] [] h is = All-nil IsGone
+  all_gone t from (b ∷ bs) (v ∷ vs) (e ∷ es) h is =
+      let parts = and_parts (has_acknowledged e) (list_all has_acknowledged es) is in
+      All-cons IsGone b bs (gone_acknowledged t (from b.m) b e h.0 parts.0) (all_gone t from bs vs es h.1 parts.1)
+  all_gone t from bs vs es h is = absurd h
+
+  pub none_left : (t : ℕ) (from : ℕ → ℕ) (bs : List Branch) (done : Done)
+      → EachOutcome (λ b v e. TellsTheFate s t b (from b.m) e) bs done.votes.items done.endings.items
+      → is_acknowledged done ≡ true → HasLeft bs s → ⊥
+  none_left t from bs done h is left =
+      let z : IsGone left.branch =
+      All-contains IsGone bs left.branch (all_gone t from bs done.votes.items done.endings.items h is) left.among in
+      let no : true ≡ false = sym left.left ∙ z in cc
+
+  -- ---- of an outcome that was answered XA_OK
+
+  told_done : (commit : Bool) (c : Code) → is_done c ≡ true → outcome_fate commit c ≡ Some (ended_as commit)
+  told_done commit OK is = refl
+  told_done commit c is = cc
+
+  pub gone_finished : (r : Outcome) → is_done r.code ≡ true → TellsTheOutcome s r
+      → is_left (reopened_at s.managers r.m) r.xid ≡ false
+  gone_finished r is tells =
+      gone r.m r.xid (ended_as r.commit) (ended_is_over r.commit)
+      (λ T begins. tells T (told_by (state_of T r.xid)) (ended_as r.commit) begins (law.first r.xid T) (told_done r.commit r.code is))

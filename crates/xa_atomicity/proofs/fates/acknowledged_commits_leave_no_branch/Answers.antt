@@ -1,0 +1,11 @@
+use Rattle.xa_atomicity.specs.Outcomes.{sent_so_far}
+use Rattle.xa_atomicity.proofs.Settled.{fates_law}
+use Rattle.xa_atomicity.proofs.Gone.{none_left}
+use Rattle.xa_atomicity.proofs.fates.acknowledged_commits_leave_no_branch.Goals as goal
+
+pub returns : goal.returns
+returns c s t bs desk new log later done settled made grown own acknowledged =
+    let law = c.tables_keep_to_their_laws.ensures in
+    let journals = c.settled_journals_follow_the_tables.ensures in
+    let told = fates_law law journals.some s t bs desk new log later done settled made grown own in
+    none_left law journals.first s settled t (sent_so_far desk.ledgers) bs done told.each acknowledged

@@ -1,0 +1,113 @@
+//! A log that forgets: a record goes once every branch has acknowledged, and stays while one is in doubt, until what
+//! was left is resolved.
+ghost use Rattle.std.specs.Prelude.{◌≡◌, ◌∷◌, [], ℕ, map};
+ghost use Rattle.xa_desk.specs.DeskView.{ledger};
+ghost use Rattle.xa_switch.specs.Belonging.{ComeFromOpenings, seat_of_desk, seat_of_worker};
+
+use super::openings::{again, open};
+use super::pieces::{commit, work};
+use super::resolved::{Crashed, commit_and_crash, recover};
+use super::{Opened, branch, plan_of};
+use std::alloc::Global;
+use std::process::Abort;
+use std::sync::Wait;
+use xa_driver::{Outcome, Resolved, forget_acknowledged, forget_resolved};
+use xa_log::{CommitRecord, DecisionLog, DecisionRecords, MemoryLog};
+use xa_switch::Plan;
+use xa_words::{Code, ManagerSet, Tran, Xid};
+
+// An opening of two threads and two managers.
+fn opened<R: Wait + Abort>(rt: &R, alloc: Global) -> Opened
+    ensures opened { ComeFromOpenings (seat_of_desk result.first ∷ seat_of_desk result.second ∷ [])
+        (map seat_of_worker result.workers) }
+    ensures fresh { (m : ℕ) → (ledger result.second.ledgers m).sent ≡ [] }
+{
+    let plan = Plan {
+        queue: 4,
+        ..plan_of(rt, alloc, 2)
+    };
+    open(rt, alloc, &plan)
+}
+
+#[test]
+fn a_record_goes_once_all_have_acknowledged(rt: HostRuntime) {
+    let alloc = rt.alloc();
+    let branches = [branch(&rt, 1), branch(&rt, 2)];
+    let tran = branches[0].xid.tran();
+    let mut opened = opened(&rt, alloc);
+    work(&rt, &mut opened.first, &branches[0], &mut opened.workers);
+    work(&rt, &mut opened.first, &branches[1], &mut opened.workers);
+    let mut log = MemoryLog::new(alloc);
+    let made = commit(
+        &rt,
+        alloc,
+        &mut opened.first,
+        &mut log,
+        &branches,
+        &mut opened.workers,
+    );
+    assert!(&rt; made.done.logged && made.done.is_acknowledged());
+    assert!(&rt; log.has(&tran).is_some());
+    forget_acknowledged(&mut log, &tran, &made.done);
+    assert!(&rt; log.has(&tran).is_none());
+}
+
+#[test]
+fn a_record_stays_while_a_branch_is_in_doubt(rt: HostRuntime) {
+    let alloc = rt.alloc();
+    let branches = [branch(&rt, 1), branch(&rt, 2)];
+    let tran = branches[0].xid.tran();
+    let opened = opened(&rt, alloc);
+    let mut log = MemoryLog::new(alloc);
+    let Crashed { settled, made, .. } = commit_and_crash(&rt, alloc, opened, &mut log, &branches);
+    assert!(&rt; made.done.logged && !made.done.is_acknowledged());
+    forget_acknowledged(&mut log, &tran, &made.done);
+    assert!(&rt; log.has(&tran).is_some());
+    let recovered = recover(&rt, alloc, settled, &again(8), &log);
+    assert_eq!(&rt; recovered.ended.told.outcomes.len(), 1);
+    forget_resolved(alloc, &mut log, &recovered.ended.told).expect(&rt, "memory");
+    assert!(&rt; log.has(&tran).is_none());
+}
+
+// The transaction of this gtrid.
+fn tran<A: Abort>(rt: &A, gtrid: &[u8]) -> Tran {
+    Tran::new(1, gtrid).expect(rt, "a name")
+}
+
+// What a branch of the transaction at manager 1 came to.
+fn outcome<A: Abort>(rt: &A, gtrid: &[u8], code: Code) -> Outcome {
+    Outcome {
+        m: 1,
+        xid: Xid::new(1, gtrid, b"1").expect(rt, "an xid"),
+        commit: true,
+        code,
+    }
+}
+
+#[test]
+fn a_resolve_that_found_a_manager_shut_keeps_what_it_has_to_be_told(rt: HostRuntime) {
+    let alloc = rt.alloc();
+    let mut log = MemoryLog::new(alloc);
+    for gtrid in [b"a", b"b", b"c"] {
+        let record = CommitRecord {
+            tran: tran(&rt, gtrid),
+            yes: ManagerSet::of([true; 8]),
+        };
+        let None = log.has(&record.tran) else {
+            panic!(&rt; "it has a record");
+        };
+        log.append(&record).expect(&rt, "room");
+    }
+    let told = [
+        outcome(&rt, b"a", Code::Done),
+        outcome(&rt, b"b", Code::RmFail),
+    ];
+    let resolved = Resolved {
+        outcomes: Vec::from_array(alloc, told).expect(&rt, "memory"),
+    };
+    forget_resolved(alloc, &mut log, &resolved).expect(&rt, "memory");
+    assert!(&rt; log.has(&tran(&rt, b"a")).is_none());
+    assert!(&rt; log.has(&tran(&rt, b"b")).is_some());
+    // A crash had brought it back, and nothing of it was left.
+    assert!(&rt; log.has(&tran(&rt, b"c")).is_none());
+}

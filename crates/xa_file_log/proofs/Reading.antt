@@ -1,0 +1,101 @@
+-- The slots as they are read from a file.
+use Rattle.std.proofs.Common.{◌≡◌, inl, inr, ℕ, ◌+◌, ◌*◌, ◌<◌, ◌≤◌, true, Option, None, Some, List, length, get_or, set, take, replicate, sym, ◌∙◌, ap, subst}
+use Rattle.std.proofs.Common.{arith}
+use Rattle.std.specs.Prelude.{is_some, IfSome}
+use Rattle.std.specs.FinMap.{FinMap}
+use Rattle.std.proofs.lemmas.Bool.{cases_eq, cases_lt}
+use Rattle.std.proofs.lemmas.List.{length-map, length-set, length-replicate, get_or-set_same, get_or-set_other}
+use Rattle.xa_log.specs.declared.log.CommitRecord.{CommitRecord}
+use Rattle.xa_log.specs.Transactions.{tran_cmp}
+use Rattle.xa_file_log.specs.declared.slot.Slot.{Slot}
+use Rattle.xa_file_log.specs.declared.slot.Slot.TheVariants.{Free, Taken}
+use Rattle.xa_file_log.specs.Spelling.{head}
+use Rattle.xa_file_log.specs.Slots.{name_of, slot, IsSlotOf, StandsFor, IsNoLog}
+use Rattle.xa_file_log.specs.Memory.{on_file, forgotten, table_of, HasName, HasNoneForgotten, IsIndexOf}
+use Rattle.xa_file_log.proofs.Finds.{at_map, whole_part}
+use Rattle.xa_file_log.proofs.Index.{index_apart, all_free}
+use Rattle.xa_file_log.proofs.OneTable.{same_slot}
+
+-- the slots before this place are read
+pub record IsRead (n count : ℕ) (slots : List Slot) (bytes : List ℕ) : Type 0 where
+  pub size : length slots ≡ count
+  pub each : (k : ℕ) → k < n → IsSlotOf (on_file (get_or slots k Free)) (slot k bytes)
+  pub later : (k : ℕ) → n ≤ k → get_or slots k Free ≡ Free
+  pub none_forgotten : HasNoneForgotten slots
+
+pub none_read : (count : ℕ) (slots : List Slot) (bytes : List ℕ) → slots ≡ replicate count Free → IsRead 0 count slots bytes
+none_read count slots bytes free = record {
+  size = ap length free ∙ length-replicate count Free;
+  each = λ k no_. absurd (omega (arith, no_));
+  later = λ k from. ap (λ (l : List Slot). get_or l k Free) free ∙ all_free count k;
+  none_forgotten = λ k. ap (λ (l : List Slot). forgotten (get_or l k Free)) free ∙ ap forgotten (all_free count k);
+}
+
+pub free_read : (n count : ℕ) (slots : List Slot) (bytes : List ℕ) → IsSlotOf None (slot n bytes) → IsRead n count slots bytes
+    → IsRead (n + 1) count slots bytes
+free_read n count slots bytes is so_far = record {
+  size = so_far.size;
+  each = λ k below. elim (cases_eq k n) [
+    | inl same ↦
+        subst (λ (i : ℕ). IsSlotOf (on_file (get_or slots i Free)) (slot i bytes)) (sym same)
+        (subst (λ (s : Slot). IsSlotOf (on_file s) (slot n bytes)) (sym (so_far.later n (omega arith))) is)
+    | inr other ↦ so_far.each k (omega (arith, other))
+  ];
+  later = λ k from. so_far.later k (omega (arith, from));
+  none_forgotten = so_far.none_forgotten;
+}
+
+pub taken_read : (n count : ℕ) (slots new : List Slot) (bytes : List ℕ) (r : CommitRecord) → n < count → new ≡ set slots n (Taken r)
+    → IsSlotOf (Some r) (slot n bytes) → IsRead n count slots bytes → IsRead (n + 1) count new bytes
+taken_read n count slots new bytes r below put is so_far =
+    let here : get_or (set slots n (Taken r)) n Free ≡ Taken r = get_or-set_same slots n (Taken r) Free (omega (arith, so_far.size)) in
+    subst (λ (l : List Slot). IsRead (n + 1) count l bytes) (sym put) (record {
+      size = length-set slots n (Taken r) ∙ so_far.size;
+      each = λ k before. elim (cases_eq k n) [
+        | inl same ↦
+            subst (λ (i : ℕ). IsSlotOf (on_file (get_or (set slots n (Taken r)) i Free)) (slot i bytes)) (sym same)
+            (subst (λ (s : Slot). IsSlotOf (on_file s) (slot n bytes)) (sym here) is)
+        | inr other ↦
+            subst (λ (s : Slot). IsSlotOf (on_file s) (slot k bytes)) (sym (get_or-set_other slots n k (Taken r) Free other))
+            (so_far.each k (omega (arith, other)))
+      ];
+      later = λ k from.
+          let other : k ≡ n → ⊥ = λ e. omega (arith, e, from) in
+          get_or-set_other slots n k (Taken r) Free other ∙ so_far.later k (omega (arith, from));
+      none_forgotten = λ k. elim (cases_eq k n) [
+        | inl same ↦ subst (λ (i : ℕ). forgotten (get_or (set slots n (Taken r)) i Free) ≡ None) (sym same) (ap forgotten here)
+        | inr other ↦ ap forgotten (get_or-set_other slots n k (Taken r) Free other) ∙ so_far.none_forgotten k
+      ];
+    })
+
+pub all_read : (n count : ℕ) (slots : List Slot) (bytes : List ℕ) (places : FinMap tran_cmp ℕ) → IsIndexOf places slots → count ≤ n → count ≤ 65536
+    → length bytes ≡ 18 + 94 * count → take 18 bytes ≡ head count → IsRead n count slots bytes → StandsFor (table_of slots) bytes
+all_read n count slots bytes places index past few size header read =
+    let many : length (table_of slots) ≡ count = length-map slots on_file ∙ read.size in
+    record {
+      few = omega (arith, many);
+      size = omega (arith, many);
+      header = header ∙ ap head (sym many);
+      each = λ k below. subst (λ o. IsSlotOf o (slot k bytes)) (sym (at_map on_file whole_part slots k)) (read.each k (omega (arith, many)));
+      apart = index_apart places slots index;
+    }
+
+pub some_of : {X : Type 0} (P : X → Type 0) (o : Option X) → is_some o ≡ true → IfSome o P → (x : X) × P x
+some_of P None is has = absurd (cc (is))
+some_of P (Some x) is has = (x, has)
+
+-- a second slot of one transaction
+pub twice_named : (n count : ℕ) (slots : List Slot) (bytes : List ℕ) (r : CommitRecord) → n < count → length bytes ≡ 18 + 94 * count
+    → IsSlotOf (Some r) (slot n bytes) → IsRead n count slots bytes → (k : ℕ) × HasName slots k r.tran → IsNoLog bytes
+twice_named n count slots bytes r below size is read at = λ records there. elim (cases_lt at.0 n) [
+  | inl before ↦
+      let many : length there.table ≡ count = omega (arith, there.stands.size, size) in
+      let here : get_or there.table n None ≡ Some r =
+      same_slot (get_or there.table n None) (Some r) (slot n bytes) (there.stands.each n (omega (arith, many))) is in
+      let other : get_or there.table at.0 None ≡ on_file (get_or slots at.0 Free) =
+      same_slot (get_or there.table at.0 None) (on_file (get_or slots at.0 Free)) (slot at.0 bytes) (there.stands.each at.0 (omega (arith, many, before)))
+      (read.each at.0 before) in
+      let same : n ≡ at.0 = there.stands.apart n at.0 r.tran (ap name_of here) (ap name_of other ∙ at.1.1) in
+      absurd (omega (arith, same, before))
+  | inr from ↦ let none = ap (λ (s : Slot). name_of (on_file s)) (read.later at.0 from) in let named = at.1.1 in absurd (cc (none, named))
+]

@@ -1,0 +1,22 @@
+use Rattle.std.proofs.Common.{◌≡◌, inl, inr, ⊎_elim, None, Some, Option, List, length, map, refl, ap, ◌∙◌, subst}
+use Rattle.std.specs.Prelude.{IfNone}
+use Rattle.xa_file_log.specs.declared.slot.Slot.{Slot}
+use Rattle.xa_file_log.specs.Memory.{HasNoFree, name_at, shut}
+use Rattle.xa_file_log.proofs.Index.{index_apart}
+use Rattle.xa_file_log.proofs.Slotwise.{none_named_shut, full_shut}
+use Rattle.xa_file_log.proofs.file_log.FileLog.place_for.Goals as goal
+
+if_none : {X : Type 0} (P Q : Type 0) → (P → Q) → (o : Option X) → IfNone o P → IfNone o Q
+if_none P Q f None p = f p
+if_none P Q f (Some x) p = tt
+
+pub returns-clause-cause : goal.returns-clause-cause
+returns-clause-cause g c =
+    let shut_now = c.if-not-shut_forgotten.ensures.shut refl in
+    let is = shut_now.1 ∙ ap (map shut) c.free_place_for-place.ensures.slots in
+    if_none _ _ (⊎_elim
+    (λ none. inr (inl (full_shut c.args.self.now.table.slots.items (subst (λ (l : List Slot). HasNoFree l (length l)) is none))))
+    (λ at. absurd (none_named_shut c.args.self.now.table.slots.items
+    (index_apart _ c.args.self.now.table.slots.items c.args.self.now.table.indexed) c.args.decision.now.tran c.requires.new at.0
+    (subst (λ (l : List Slot). name_at l at.0 ≡ Some c.args.decision.now.tran) is at.1.1))))
+    c.free_place_for.result c.free_place_for.ensures.none

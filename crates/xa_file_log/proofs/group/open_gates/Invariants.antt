@@ -1,0 +1,14 @@
+use Rattle.std.proofs.Common.{ℕ, ◌≤◌, List}
+use Rattle.xa_file_log.specs.Device.{LeavesOnly}
+use Rattle.xa_file_log.specs.Memory.{MayShow, coming}
+use Rattle.xa_file_log.proofs.Placed.{IsOnTheWay, IsOpenBelow, MayCome}
+use Rattle.xa_file_log.proofs.group.open_gates.Given as goal
+
+abbrev pub invariant-loop-place : goal.invariant-loop-place
+invariant-loop-place g l = record {
+  way : IsOnTheWay l.slots l.decisions l.place l.next;
+  opening : IsOpenBelow l.slots l.decisions l.place (g.D.Device.seen l.device);
+  comes : (c : List ℕ) → g.D.Device.may_leave l.device c → MayCome l.slots l.decisions c;
+  run : LeavesOnly g.D.Device.moment g.D.Device.left_since l.fn.device l.device (MayShow (coming l.slots l.decisions));
+  faults : g.D.Device.faults l.fn.device ≤ g.D.Device.faults l.device;
+}

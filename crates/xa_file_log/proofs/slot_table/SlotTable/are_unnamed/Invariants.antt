@@ -1,0 +1,8 @@
+use Rattle.std.proofs.Common.{ℕ, ◌<◌, get_or}
+use Rattle.xa_log.specs.declared.log.CommitRecord.{CommitRecord}
+use Rattle.xa_file_log.specs.Memory.{HasNoName}
+use Rattle.xa_file_log.proofs.slot_table.SlotTable.are_unnamed.Given as goal
+
+abbrev pub invariant-loop-decision : goal.invariant-loop-decision
+invariant-loop-decision l =
+    (k : ℕ) (d : CommitRecord) → k < l.decision-index → HasNoName l.self.slots.items (get_or l.decisions k d).tran

@@ -1,0 +1,42 @@
+use Rattle.std.proofs.Common.{◌<◌, refl, ◌∙◌, sym, arith}
+use Rattle.std.specs.FinMap.{from_entries}
+use Rattle.std.specs.HashMap.{hash_map_len, spare}
+use Rattle.std.proofs.lemmas.List.{length-set}
+use Rattle.xa_base.proofs.Options.{at_ok}
+use Rattle.xa_base.proofs.HashMaps.{get-lookup, one_put}
+use Rattle.xa_words.specs.Tran.{tran_eq}
+use Rattle.xa_log.proofs.Transactions.{tran_cmp_total, tran_cmp-IsAntisymmetric, tran_eq-by_cmp}
+use Rattle.xa_file_log.specs.declared.slot.Slot.TheVariants.{Taken}
+use Rattle.xa_file_log.proofs.Anew.{if_ok_at, longer_by_one}
+use Rattle.xa_file_log.proofs.Index.{used_less, index_set, not_indexed, used_set, none_free_set}
+use Rattle.xa_file_log.proofs.slot_table.SlotTable.take.Goals as goal
+
+pub unwrap-requires : goal.unwrap-requires
+unwrap-requires c =
+    let less = used_less c.args.self.now.slots.items c.args.place c.requires.within c.requires.free in
+    let room : 0 < spare c.args.self.now.places = omega (arith, less, c.args.self.now.room) in
+    c.insert-put.ensures.succeeds room
+
+pub invariant_of-self : goal.invariant_of-self
+invariant_of-self c =
+    let less = used_less c.args.self.now.slots.items c.args.place c.requires.within c.requires.free in
+    let room : 0 < spare c.args.self.now.places = omega (arith, less, c.args.self.now.room) in
+    let updates = at_ok c.insert-put.result _ (c.insert-put.ensures.succeeds room) c.insert-put.ensures.updates in
+    let absent = not_indexed (from_entries c.args.self.now.places.entries) c.args.self.now.slots.items c.args.self.now.indexed c.args.decision.tran
+    c.requires.new _ refl in
+    let longer = longer_by_one (hash_map_len c.args.self.now.places) (hash_map_len c.insert-put.new.self) c.unwrap.result _
+    (if_ok_at _ c.insert-put.result c.unwrap.result c.unwrap.ensures c.insert-put.ensures.old)
+    (sym (get-lookup tran_eq tran_cmp_total tran_cmp-IsAntisymmetric tran_eq-by_cmp c.args.self.now.places.entries c.args.decision.tran) ∙ absent)
+    (if_ok_at _ c.insert-put.result c.unwrap.result c.unwrap.ensures c.insert-put.ensures.len) in
+    let many = length-set c.args.self.now.slots.items c.args.place (Taken c.args.decision) in
+    let more = used_set c.args.self.now.slots.items c.args.place c.args.decision c.requires.within c.requires.free in
+    record {
+      indexed = index_set (from_entries c.args.self.now.places.entries) (from_entries c.insert-put.new.self.entries) c.args.self.now.slots.items c.args.place
+          c.args.decision c.args.self.now.indexed c.requires.within c.requires.free c.requires.new
+          (one_put tran_eq tran_cmp_total tran_cmp-IsAntisymmetric tran_eq-by_cmp c.args.self.now.places.entries c.insert-put.new.self.entries
+          c.args.decision.tran c.args.place updates.0);
+      none_before = none_free_set c.args.self.now.slots.items c.args.place c.args.self.now.first c.args.decision c.requires.within
+          c.args.self.now.none_before;
+      room = omega (arith, many, more, c.insert-put.ensures.spare, c.args.self.now.room);
+      capacity = omega (arith, many, longer, c.insert-put.ensures.spare, c.args.self.now.capacity);
+    }

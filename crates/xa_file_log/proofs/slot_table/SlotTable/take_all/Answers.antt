@@ -1,0 +1,47 @@
+use Rattle.std.proofs.Common.{◌+◌, List, length, set, drop, sym, ◌∙◌, ap, subst, arith}
+use Rattle.std.proofs.lemmas.List.{length-drop, length-set, drop_all}
+use Rattle.xa_file_log.specs.declared.slot.Slot.{Slot}
+use Rattle.xa_file_log.specs.declared.slot.Slot.TheVariants.{Taken}
+use Rattle.xa_file_log.specs.Slots.{AreApart}
+use Rattle.xa_file_log.specs.Memory.{HasNoName, placed, table_of, used}
+use Rattle.xa_file_log.proofs.Grouped.{all_used, first_is_new, placed_first}
+use Rattle.xa_file_log.proofs.Index.{used_set}
+use Rattle.xa_file_log.proofs.Placed.{records_left, none_placed}
+use Rattle.xa_file_log.proofs.slot_table.SlotTable.take_all.Goals as goal
+
+pub returns-in_default : goal.returns-in_default
+returns-in_default c =
+    let full = all_used c.loop-decision.self.slots.items c.in_default.ensures.none in
+    let many = length-drop c.loop-decision.decision-index c.args.decisions.now in
+    absurd (omega (arith, full, many, c.loop-decision.invariant.room, c.loop-decision-test.true))
+
+pub take-requires-clause-new : goal.take-requires-clause-new
+take-requires-clause-new c =
+    let left = records_left c.args.decisions.now c.loop-decision.decision-index c.decision-item.result c.loop-decision-test.true c.decision-item.is in
+    let same = ap (placed c.loop-decision.self.slots.items) (sym left) ∙ c.loop-decision.invariant.rest in
+    subst (λ (l : List Slot). HasNoName l c.decision-item.result.tran) (sym c.free_place.ensures.slots)
+    (first_is_new c.loop-decision.self.slots.items c.decision-item.result (drop (c.loop-decision.decision-index + 1) c.args.decisions.now) c.in-Some.place
+    c.in-Some.ensures.free.0 c.in-Some.ensures.free.1 c.in-Some.ensures.first
+    (subst (λ (l : List Slot). AreApart (table_of l)) (sym same) c.requires.new))
+
+pub loop-decision-preserved : goal.loop-decision-preserved
+loop-decision-preserved c =
+    let left = records_left c.args.decisions.now c.loop-decision.decision-index c.decision-item.result c.loop-decision-test.true c.decision-item.is in
+    let is = c.take.ensures ∙ ap (λ (l : List Slot). set l c.in-Some.place (Taken c.decision-item.result)) c.free_place.ensures.slots in
+    let more = ap used is ∙ used_set c.loop-decision.self.slots.items c.in-Some.place c.decision-item.result c.in-Some.ensures.free.0
+    c.in-Some.ensures.free.1 in
+    let many = ap length is ∙ length-set c.loop-decision.self.slots.items c.in-Some.place (Taken c.decision-item.result) in
+    let fewer = ap length left in
+    record {
+      rest = ap (λ (l : List Slot). placed l (drop (c.loop-decision.decision-index + 1) c.args.decisions.now)) is
+          ∙ sym (placed_first c.loop-decision.self.slots.items c.in-Some.place c.decision-item.result
+          (drop (c.loop-decision.decision-index + 1) c.args.decisions.now) c.in-Some.ensures.free.0 c.in-Some.ensures.free.1 c.in-Some.ensures.first)
+          ∙ ap (placed c.loop-decision.self.slots.items) (sym left) ∙ c.loop-decision.invariant.rest;
+      room = omega (arith, more, many, fewer, c.loop-decision.invariant.room);
+    }
+
+pub returns : goal.returns
+returns c =
+    sym (none_placed c.loop-decision.self.slots.items)
+    ∙ ap (placed c.loop-decision.self.slots.items) (sym (drop_all c.loop-decision.decision-index c.args.decisions.now c.loop-decision-test.false))
+    ∙ c.loop-decision.invariant.rest

@@ -1,0 +1,8 @@
+use Rattle.std.proofs.Common.{not}
+use Rattle.xa_log.specs.Log.{is_among}
+use Rattle.xa_file_log.specs.Memory.{forgets}
+use Rattle.xa_file_log.proofs.Mapped.{MapsBelow}
+use Rattle.xa_file_log.proofs.slot_table.forget_others.Given as goal
+
+abbrev pub invariant-loop-place : goal.invariant-loop-place
+invariant-loop-place l = MapsBelow (forgets (λ t. not (is_among l.trans t))) l.place l.fn.slots.items l.slots.items

@@ -1,0 +1,42 @@
+use Rattle.std.proofs.Common.{◌≡◌, Bool, true, false, not, cond, ◌||◌, List, [], ◌∷◌, refl, sym, ◌∙◌, ap}
+use Rattle.std.specs.List.{list_any}
+use Rattle.std.specs.Cmp.{eq_by_cmp_equiv}
+use Rattle.xa_words.specs.Tran.{TranName, tran_eq}
+use Rattle.xa_log.specs.declared.log.CommitRecord.{CommitRecord}
+use Rattle.xa_log.specs.Log.{is_among}
+use Rattle.xa_log.proofs.Transactions.{tran_cmp_total, tran_eq-by_cmp}
+use Rattle.xa_file_log.specs.declared.slot.Slot.{Slot}
+use Rattle.xa_file_log.specs.declared.slot.Slot.TheVariants.{Free, Taken, Forgotten}
+use Rattle.xa_file_log.specs.Memory.{forgets}
+use Rattle.xa_file_log.proofs.slot_table.kept.Goals as goal
+use Rattle.xa_file_log.proofs.slot_table.kept.Goals.{in-Taken+else-not-contains, in_default}
+
+turned : (s t : TranName) → tran_eq s t ≡ tran_eq t s
+turned s t = tran_eq-by_cmp s t ∙ (eq_by_cmp_equiv tran_cmp_total).symm s t ∙ sym (tran_eq-by_cmp t s)
+
+among : (ts : List TranName) (t : TranName) → list_any (λ s. tran_eq s t) ts ≡ is_among ts t
+among [] t = refl
+among (s ∷ ts) t = λ i. turned s t i || among ts t i
+
+others : (ts : List TranName) (s : Slot) → ((r : CommitRecord) → s ≡ Taken r → ⊥) → s ≡ forgets (λ t. not (is_among ts t)) s
+others ts Free differs = refl
+others ts (Taken r) differs = absurd (differs r refl)
+others ts (Forgotten r) differs = refl
+
+pub returns-then-not-contains : goal.returns-then-not-contains
+returns-then-not-contains c =
+    let fails : is_among c.args.trans.now c.in-Taken.decision.tran ≡ false =
+    sym (c.contains.ensures.value ∙ among c.args.trans.now c.in-Taken.decision.tran) ∙ c.if-not-contains.true in
+    sym (ap (forgets (λ t. not (is_among c.args.trans.now t))) c.in-Taken.is
+    ∙ ap (λ (b : Bool). cond (not b) (Forgotten c.in-Taken.decision) (Taken c.in-Taken.decision)) fails)
+
+pub returns : goal.returns
+returns c = elim c.match-slot.branch [
+  | in-Taken+else-not-contains w ↦
+      let passes : is_among c.args.trans.now w.in-Taken.decision.tran ≡ true =
+      sym (w.contains.ensures.value ∙ among c.args.trans.now w.in-Taken.decision.tran) ∙ w.if-not-contains.false in
+      sym (ap (forgets (λ t. not (is_among c.args.trans.now t))) w.in-Taken.is
+      ∙ ap (λ (b : Bool). cond (not b) (Forgotten w.in-Taken.decision) (Taken w.in-Taken.decision)) passes
+      ∙ sym w.in-Taken.is)
+  | in_default w ↦ others c.args.trans.now c.args.slot.now (λ r is. w.in_default.not-Taken r is)
+]

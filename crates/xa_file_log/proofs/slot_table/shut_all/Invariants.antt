@@ -1,0 +1,7 @@
+use Rattle.std.specs.FinMap.{from_entries}
+use Rattle.std.specs.HashMap.{hash_map_len, spare}
+use Rattle.xa_file_log.proofs.Anew.{IsAnew}
+use Rattle.xa_file_log.proofs.slot_table.shut_all.Given as goal
+
+abbrev pub invariant-loop-place : goal.invariant-loop-place
+invariant-loop-place l = IsAnew l.place l.fn.slots.items l.slots.items (from_entries l.places.entries) (hash_map_len l.places) (spare l.places)

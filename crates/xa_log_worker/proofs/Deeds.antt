@@ -1,0 +1,116 @@
+-- Deeds, one after another.
+use Rattle.std.proofs.Common.{◌≡◌, ℕ, cond, Bool, true, false, List, [], ◌∷◌, ◌++◌, None, Some, refl, sym, ap, ◌∙◌, subst, append_assoc}
+use Rattle.std.specs.Prelude.{if◌then◌else◌, is_some}
+use Rattle.std.specs.FinMap.{get-insert}
+use Rattle.std.specs.Ordering.{eq_by_cmp}
+use Rattle.xa_log.specs.Transactions.{tran_cmp}
+use Rattle.xa_log.proofs.Transactions.{tran_cmp_total}
+use Rattle.xa_log.specs.Log.{LogState, record_of, with_record, with_failure, without_record, AreNew}
+use Rattle.xa_words.specs.Tran.{TranName}
+use Rattle.xa_log.specs.declared.log.CommitRecord.{CommitRecord}
+use Rattle.xa_log_worker.specs.declared.ask.Answer.{Answer}
+use Rattle.xa_log_worker.specs.declared.ask.Answer.TheVariants.{Taken, Refused, Unknown}
+use Rattle.xa_log_worker.specs.declared.ask.Answered.{Answered}
+use Rattle.xa_log_worker.specs.declared.ask.Deed.{Deed}
+use Rattle.xa_log_worker.specs.declared.ask.Deed.TheVariants.{Answers, Forgets}
+use Rattle.xa_log_worker.specs.Deeds.{after_deed, after_answer, after, IsRightAnswer, AreRight, AreUnknown, Does}
+use Rattle.xa_log_worker.specs.Deeds.{answers_in, answer_of}
+
+pub after-append : (log : LogState) (ds es : List Deed) → after log (ds ++ es) ≡ after (after log ds) es
+after-append log [] es = refl
+after-append log (d ∷ ds) es = after-append (after_deed log d) ds es
+
+pub right-append : (log : LogState) (ds es : List Deed) → AreRight log ds → AreRight (after log ds) es → AreRight log (ds ++ es)
+right-append log [] es a b = b
+right-append log (d ∷ ds) es a b = (a.0, right-append (after_deed log d) ds es a.1 b)
+
+pub unknown-append : (ds es : List Deed) → AreUnknown ds → AreUnknown es → AreUnknown (ds ++ es)
+unknown-append [] es a b = b
+unknown-append (d ∷ ds) es a b = (a.0, unknown-append ds es a.1 b)
+
+pub answers-append : (ds es : List Deed) → answers_in (ds ++ es) ≡ answers_in ds ++ answers_in es
+answers-append [] es = refl
+answers-append (d ∷ ds) es = ap (λ xs. answer_of d ++ xs) (answers-append ds es) ∙ sym (append_assoc (answer_of d) (answers_in ds) (answers_in es))
+
+-- nothing was done
+pub does_nothing : (knows : Bool) (log : LogState) → Does knows log [] knows log
+does_nothing true log = (tt, refl)
+does_nothing false log = tt
+
+-- spans follow one another
+pub does-chain : (j k l : Bool) (s t u : LogState) (ds es : List Deed) → Does j s ds k t → Does k t es l u → Does j s (ds ++ es) l u
+does-chain true true true s t u ds es a b = (
+  right-append s ds es a.0 (subst (λ x. AreRight x es) a.1 b.0),
+  b.1 ∙ ap (λ x. after x es) a.1 ∙ sym (after-append s ds es),
+)
+does-chain true true false s t u ds es a b = record {
+  done = ds ++ b.done;
+  rest = b.rest;
+  parts = ap (λ xs. ds ++ xs) b.parts ∙ sym (append_assoc ds b.done b.rest);
+  right = right-append s ds b.done a.0 (subst (λ x. AreRight x b.done) a.1 b.right);
+  unknown = b.unknown;
+}
+does-chain true false true s t u ds es a b = absurd b
+does-chain true false false s t u ds es a b = record {
+  done = a.done;
+  rest = a.rest ++ es;
+  parts = ap (λ xs. xs ++ es) a.parts ∙ append_assoc a.done a.rest es;
+  right = a.right;
+  unknown = unknown-append a.rest es a.unknown b;
+}
+does-chain false true l s t u ds es a b = absurd a
+does-chain false false true s t u ds es a b = absurd b
+does-chain false false false s t u ds es a b = unknown-append ds es a b
+
+-- a log that has a record of no transaction of which the other has none
+abbrev pub HasNoMore : LogState → LogState → Type 0
+HasNoMore log other = (r : CommitRecord) → record_of other r.tran ≡ None → record_of log r.tran ≡ None
+
+no_more_after : (log other : LogState) (r : CommitRecord) → HasNoMore log other → HasNoMore (with_record log r.tran r.yes) (with_record other r.tran r.yes)
+no_more_after log other r below q none =
+    get-insert tran_cmp_total log.records r.tran r.yes q.tran
+    ∙ (elim (eq_by_cmp tran_cmp q.tran r.tran) as (λ b. cond b (Some r.yes) (record_of other q.tran) ≡ None → cond b (Some r.yes) (record_of log q.tran) ≡
+    None) [
+      | true ↦ λ e. e
+      | false ↦ λ e. below q e
+    ] (sym (get-insert tran_cmp_total other.records r.tran r.yes q.tran) ∙ none))
+
+pub new_below : (log other : LogState) (rs : List CommitRecord) → HasNoMore log other → AreNew other rs → AreNew log rs
+new_below log other [] below new = tt
+new_below log other (r ∷ rs) below new =
+    (below r new.0, new_below (with_record log r.tran r.yes) (with_record other r.tran r.yes) rs (no_more_after log other r below) new.1)
+
+-- a log has no more records than with one more
+fewer : (log : LogState) (r : CommitRecord) → HasNoMore log (with_record log r.tran r.yes)
+fewer log r q none =
+    elim (eq_by_cmp tran_cmp q.tran r.tran) as (λ b. cond b (Some r.yes) (record_of log q.tran) ≡ None → record_of log q.tran ≡ None) [
+      | true ↦ λ e. cc
+      | false ↦ λ e. e
+    ] (sym (get-insert tran_cmp_total log.records r.tran r.yes q.tran) ∙ none)
+
+new_still : (log : LogState) (r : CommitRecord) (rs : List CommitRecord) (b : Bool) → AreNew (with_record log r.tran r.yes) rs
+    → AreNew (if b then log else with_failure log) rs
+new_still log r rs true new = new_below log (with_record log r.tran r.yes) rs (fewer log r) new
+new_still log r rs false new = new_below (with_failure log) (with_record log r.tran r.yes) rs (fewer log r) new
+
+new_answered : (log : LogState) (r : CommitRecord) (rs : List CommitRecord) (answer : Answer) → IsRightAnswer log r answer
+    → AreNew (with_record log r.tran r.yes) rs → AreNew (after_answer log r answer) rs
+new_answered log r rs Taken right new = new
+new_answered log r rs Refused right new = new_still log r rs (is_some (record_of log r.tran)) new
+new_answered log r rs Unknown right new = absurd right
+
+-- once one is answered, the others are still new
+pub new_after : (b k : Bool) (log now : LogState) (a : Answered) (rs : List CommitRecord) → (b ≡ true → AreNew log (a.decision ∷ rs))
+    → Does b log (Answers a ∷ []) k now → k ≡ true → AreNew now rs
+new_after true true log now a rs new does known =
+    subst (λ x. AreNew x rs) (sym does.1) (new_answered log a.decision rs a.answer does.0.0 (new refl).1)
+new_after true false log now a rs new does known = cc
+new_after false true log now a rs new does known = absurd does
+new_after false false log now a rs new does known = cc
+
+-- ---- the flag
+
+-- a record was forgotten, where the log is known
+pub does_forget : (b : Bool) (log now : LogState) (from : ℕ) (t : TranName) → (b ≡ true → now ≡ without_record log t) → Does b log (Forgets from t ∷ []) b now
+does_forget true log now from t is = ((tt, tt), is refl)
+does_forget false log now from t is = (tt, tt)

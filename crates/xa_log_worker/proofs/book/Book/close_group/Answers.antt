@@ -1,0 +1,15 @@
+use Rattle.std.proofs.Common.{ap, map, ◌∙◌}
+use Rattle.xa_log_worker.specs.Deeds.{as_waiting}
+use Rattle.xa_log_worker.proofs.Groups.{answered_places}
+use Rattle.xa_log_worker.proofs.Moves.{moves_settled}
+use Rattle.xa_log_worker.proofs.book.Book.close_group.Goals as goal
+
+pub send_all-requires : goal.send_all-requires
+send_all-requires g c =
+    answered_places _ c.args.self.now.waiting.items c.deref-2.result.now
+    (ap (map as_waiting) c.deref-2.ensures.value ∙ c.append_group.ensures.settles.each ∙ c.deref.ensures.value) c.args.self.now.places
+
+pub returns-clause-moves : goal.returns-clause-moves
+returns-clause-moves g c =
+    moves_settled _ _ _ _ _ _ _ _ _ _ _ _ _ c.deref.ensures.value c.deref-2.ensures.value c.clear.ensures.items c.append_group.ensures.settles
+    c.send_all.ensures.sent

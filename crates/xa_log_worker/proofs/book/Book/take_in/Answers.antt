@@ -1,0 +1,20 @@
+use Rattle.std.proofs.Common.{◌≡◌, false, subst, ap, ◌∙◌}
+use Rattle.xa_log_worker.specs.Deeds.{is_clash, tran_in}
+use Rattle.xa_log_worker.proofs.Moves.{moves_then}
+use Rattle.xa_log_worker.proofs.book.Book.take_in.Goals as goal
+
+pub admit-requires-clause-apart : goal.admit-requires-clause-apart
+admit-requires-clause-apart g c =
+    subst (λ t. is_clash c.args.from t c.make_way.new.self.waiting.items ≡ false) (c.tran_of.ensures ∙ ap tran_in c.in-Append.is) c.make_way.ensures.apart
+
+pub forget-requires-clause-apart : goal.forget-requires-clause-apart
+forget-requires-clause-apart g c =
+    subst (λ t. is_clash c.args.from t c.make_way.new.self.waiting.items ≡ false) (c.tran_of.ensures ∙ ap tran_in c.in-Forget.is) c.make_way.ensures.apart
+
+pub returns-in-Append-clause-moves : goal.returns-in-Append-clause-moves
+returns-in-Append-clause-moves g c =
+    moves_then _ _ _ _ _ _ _ _ _ _ _ _ _ _ _ _ _ _ c.in-Append.is c.make_way.ensures.moves c.admit.ensures.moves
+
+pub returns-in-Forget-clause-moves : goal.returns-in-Forget-clause-moves
+returns-in-Forget-clause-moves g c =
+    moves_then _ _ _ _ _ _ _ _ _ _ _ _ _ _ _ _ _ _ c.in-Forget.is c.make_way.ensures.moves c.forget.ensures.moves

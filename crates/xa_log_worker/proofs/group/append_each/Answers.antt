@@ -1,0 +1,27 @@
+use Rattle.std.proofs.Common.{◌≡◌, ◌+◌, ◌++◌, ◌∷◌, [], ap, sym, subst, refl, take, drop, true, ◌∙◌}
+use Rattle.std.proofs.lemmas.List.{take_more}
+use Rattle.xa_log.specs.Log.{AreNew}
+use Rattle.xa_log_worker.specs.Deeds.{answered_by, records_in}
+use Rattle.xa_log_worker.proofs.Deeds.{new_after}
+use Rattle.xa_log_worker.proofs.Groups.{settles_next, drop_more}
+use Rattle.xa_log_worker.proofs.group.append_each.Goals as goal
+
+pub loop-one-preserved : goal.loop-one-preserved
+loop-one-preserved g c =
+    let ws = c.args.waiting.now in
+    let i = c.loop-one.one-index in
+    let w = c.one-item.result in
+    let a = answered_by w.from w.decision c.append_one-answer.result in
+    let does = c.append_one-answer.ensures.does w.from in
+    let more : take (i + 1) ws ≡ take i ws ++ w ∷ [] = take_more ws i w c.loop-one-test.true ∙ ap (λ x. take i ws ++ x ∷ []) (sym c.one-item.is) in
+    let new =
+    λ (known : c.loop-one.is_known ≡ true). subst (λ xs. AreNew (g.L.DecisionLog.state c.loop-one.log) (records_in xs))
+    (drop_more ws i w c.loop-one-test.true c.one-item.is) (c.loop-one.invariant.new known) in
+    record {
+      told = c.append_one-answer.ensures.told;
+      new = new_after c.loop-one.is_known _ _ _ a (records_in (drop (i + 1) ws)) new does;
+      space = c.push_reserved.ensures.capacity ∙ c.loop-one.invariant.space;
+      settles =
+          settles_next _ _ _ _ _ _ _ _ _ _ _ _ _ w a c.answered.result more c.push_reserved.ensures.items c.answered.ensures c.loop-one.invariant.settles
+          c.note.ensures does refl;
+    }

@@ -1,0 +1,36 @@
+use Rattle.std.proofs.Common.{false, ap, rules, sym, subst, ◌∙◌}
+use Rattle.xa_log.specs.Log.{with_records}
+use Rattle.xa_log_worker.specs.Deeds.{Settles, records_in}
+use Rattle.xa_log_worker.proofs.Groups.{settles_taken, settles_lost, settles_after_refusal, new_failed}
+use Rattle.xa_log_worker.proofs.group.append_group.Goals as goal
+
+pub append_each-requires-in-Err-Refused-clause-new : goal.append_each-requires-in-Err-Refused-clause-new
+append_each-requires-in-Err-Refused-clause-new g c known =
+    let failed = c.append_all-end.ensures.refused (search rules) in
+    new_failed _ _ (records_in c.args.waiting.now) failed.0 (c.requires.new known)
+
+pub returns-in-Ok-clause-settles : goal.returns-in-Ok-clause-settles
+returns-in-Ok-clause-settles g c =
+    let known = c.requires.told.1 (c.is_known.ensures.0 c.if-not-is_known.false) in
+    let s = g.L.DecisionLog.state c.args.log.now in
+    let ws = c.args.waiting.now in
+    let u = g.L.DecisionLog.state c.append_all-end.new.self in
+    subst (λ cs. Settles ws cs c.args.deeds.now.items c.answer_all.new.deeds.items c.args.is_known.now s c.args.is_known.now u) (sym c.answer_all.ensures.done)
+    (settles_taken ws c.args.deeds.now.items c.answer_all.new.deeds.items c.args.is_known.now s u known (c.requires.new known)
+    (c.in-Ok.ensures.appended.0 ∙ ap (with_records s) (c.deref.ensures.value ∙ c.copy_records.ensures.copied)) c.answer_all.ensures.deeds)
+
+pub returns-in-Err-Unknown-clause-settles : goal.returns-in-Err-Unknown-clause-settles
+returns-in-Err-Unknown-clause-settles g c =
+    let known = c.requires.told.1 (c.is_known.ensures.0 c.if-not-is_known.false) in
+    let s = g.L.DecisionLog.state c.args.log.now in
+    let ws = c.args.waiting.now in
+    let u = g.L.DecisionLog.state c.append_all-end.new.self in
+    let d = c.answer_all-in-Err-Unknown in
+    subst (λ cs. Settles ws cs c.args.deeds.now.items d.new.deeds.items c.args.is_known.now s false u) (sym d.ensures.done)
+    (settles_lost ws c.args.deeds.now.items d.new.deeds.items c.args.is_known.now s u known d.ensures.deeds)
+
+pub returns-in-Err-Refused-clause-settles : goal.returns-in-Err-Refused-clause-settles
+returns-in-Err-Refused-clause-settles g c =
+    let known = c.requires.told.1 (c.is_known.ensures.0 c.if-not-is_known.false) in
+    let failed = c.append_all-end.ensures.refused (search rules) in
+    settles_after_refusal _ _ _ _ _ _ _ _ _ _ known failed.0 c.note_refusal.ensures c.append_each-in-Err-Refused.ensures.settles

@@ -1,0 +1,10 @@
+use Rattle.std.proofs.Common.{◌≡◌, take}
+use Rattle.std.specs.Prelude.{vec_capacity}
+use Rattle.xa_log_worker.specs.Deeds.{records_in}
+use Rattle.xa_log_worker.proofs.group.copy_records.Given as goal
+
+abbrev pub invariant-loop-one : goal.invariant-loop-one
+invariant-loop-one l = record {
+  copied : l.group.items ≡ records_in (take l.one-index l.waiting);
+  space : vec_capacity l.group ≡ vec_capacity l.initial.group;
+}

@@ -1,0 +1,44 @@
+use Rattle.std.proofs.Common.{◌≡◌, ◌≤◌, [], true, ap, refl, rules, arith, length, ◌∙◌}
+use Rattle.std.specs.HashMap.{spare}
+use Rattle.std.proofs.lemmas.Grind.{common_steps}
+use Rattle.xa_log.specs.Log.{no_records}
+use Rattle.xa_log_worker.specs.Asking.{Answers, records_of}
+use Rattle.xa_log_worker.specs.declared.ask.Ask.{Ask}
+use Rattle.xa_log_worker.proofs.Openings.{as_many, pushed_all}
+use Rattle.xa_log_worker.proofs.opening.open_parts.Goals as goal
+
+pub loop-sender-init : goal.loop-sender-init
+loop-sender-init g c =
+    let e = c.into_iter-sender-iterator.ensures.into_iter_gives in
+    let f = c.in_ok-senders.ensures.senders in
+    record {
+      so_far = refl;
+      counted = search rules;
+      count = ap length c.in_ok-answers.ensures.items;
+      clients = ap length c.in_ok-clients.ensures.items;
+      sent = search rules;
+      new = search rules;
+      all = as_many Ask _ c.in_ok-senders.asks.line 64 c.args.coordinators _ (e.0 ∙ f);
+    }
+
+pub loop-sender-preserved : goal.loop-sender-preserved
+loop-sender-preserved g c = record {
+  so_far = grind (arith, common_steps);
+  counted = grind (arith, common_steps);
+  count = grind (arith, common_steps);
+  clients = grind (arith, common_steps);
+  all = c.loop-sender.invariant.all;
+  sent = pushed_all (λ s. s.sent ≡ []) c.loop-sender.answers.items c.push.new.self.items c.in_ok-to.to c.in_ok-push.ensures.items
+      c.loop-sender.invariant.sent c.in_ok-to.ensures.sent;
+  new =
+      pushed_all (λ e. (records_of e.records ≡ no_records.records) × (e.is_known ≡ true) × (e.room ≡ c.args.room) × (c.args.room ≤ spare e.records) ×
+      (e.answers.taken ≡ []))
+      c.loop-sender.clients.items c.push-in-loop-sender.new.self.items c.in_ok-new_client.field-0 c.in_ok-push-2.ensures.items c.loop-sender.invariant.new (
+        c.in_ok-new_client.ensures.none,
+        c.in_ok-new_client.ensures.known,
+        c.in_ok-new_client.ensures.room.0,
+        c.in_ok-new_client.ensures.room.1,
+        ap
+            (λ (r : Answers). r.taken) c.in_ok-new_client.ensures.lanes.1 ∙ c.in_ok-to.ensures.taken,
+      );
+}

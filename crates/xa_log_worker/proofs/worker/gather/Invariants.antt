@@ -1,0 +1,15 @@
+use Rattle.std.proofs.Common.{◌≡◌, true, length}
+use Rattle.xa_log.specs.Log.{AreNew}
+use Rattle.xa_log_worker.specs.Deeds.{records_in}
+use Rattle.xa_log_worker.specs.Moves.{Works}
+use Rattle.xa_log_worker.proofs.worker.gather.Given as goal
+
+abbrev pub invariant-loop : goal.invariant-loop
+invariant-loop g l = record {
+  lanes : l.asks.senders ≡ l.initial.asks.senders;
+  len : length l.book.answers.items ≡ length l.initial.book.answers.items;
+  new : l.book.is_known ≡ true → AreNew (g.L.DecisionLog.state l.book.log) (records_in l.book.waiting.items);
+  works : Works l.initial.book.deeds.items l.book.deeds.items l.initial.book.is_known (g.L.DecisionLog.state l.initial.book.log) l.book.is_known
+      (g.L.DecisionLog.state l.book.log) l.initial.book.answers.items l.book.answers.items l.initial.book.waiting.items l.book.waiting.items
+      l.initial.asks.taken l.asks.taken;
+}

@@ -1,0 +1,17 @@
+use Rattle.std.proofs.Common.{ap, ◌∙◌}
+use Rattle.xa_lane.specs.Ends.{received}
+use Rattle.xa_log_worker.specs.Asking.{Asked}
+use Rattle.xa_log_worker.proofs.Moves.{works_none, works_one}
+use Rattle.xa_log_worker.proofs.Requests.{received_end}
+use Rattle.xa_log_worker.proofs.worker.take_one.Goals as goal
+
+pub returns-in-Empty-clause-works : goal.returns-in-Empty-clause-works
+returns-in-Empty-clause-works g c = works_none _ _ _ _ _ _ _ (λ p. ap (λ (r : Asked). received p r.taken) c.in-Empty.ensures.took)
+
+pub returns-in-EndOf-clause-works : goal.returns-in-EndOf-clause-works
+returns-in-EndOf-clause-works g c =
+    works_none _ _ _ _ _ _ _ (λ p. ap (λ (r : Asked). received p r.taken) c.in-EndOf.ensures.took.1 ∙ received_end c.args.asks.now.taken c.in-EndOf.from p)
+
+pub returns-in-Item-clause-works : goal.returns-in-Item-clause-works
+returns-in-Item-clause-works g c =
+    works_one _ _ _ _ _ _ _ _ _ _ _ _ c.in-Item.from c.in-Item.ask (ap (λ (r : Asked). r.taken) c.in-Item.ensures.took.1) c.take_in.ensures.moves

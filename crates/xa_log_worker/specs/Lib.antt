@@ -1,0 +1,3 @@
+pub mod Asking
+pub mod Deeds
+pub mod Moves

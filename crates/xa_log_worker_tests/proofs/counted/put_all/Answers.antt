@@ -1,0 +1,18 @@
+use Rattle.std.proofs.Common.{◌≡◌, ◌+◌, ◌++◌, ◌∷◌, [], take, ap, sym, ◌∙◌}
+use Rattle.std.specs.FinMap.{insert}
+use Rattle.std.proofs.lemmas.List.{take_more}
+use Rattle.xa_log_worker.specs.Asking.{records_of}
+use Rattle.xa_log_worker_tests.specs.Puts.{put_records}
+use Rattle.xa_log_worker_tests.proofs.Puts.{put_one_more}
+use Rattle.xa_log_worker_tests.proofs.counted.put_all.Goals as goal
+
+pub loop-decision-preserved : goal.loop-decision-preserved
+loop-decision-preserved c =
+    let i = c.loop-decision.decision-index in
+    let all = c.args.decisions.now in
+    let r = c.decision-item.result in
+    let first = records_of c.args.records.now in
+    let more : take (i + 1) all ≡ take i all ++ r ∷ [] =
+    take_more all i r c.loop-decision-test.true ∙ ap (λ x. take i all ++ x ∷ []) (sym c.decision-item.is) in
+    c.put.ensures c.if-not-put.false ∙ ap (λ m. insert m r.tran r.yes) c.loop-decision.invariant ∙ sym (put_one_more first (take i all) r)
+    ∙ ap (put_records first) (sym more)

@@ -1,0 +1,7 @@
+use Rattle.std.proofs.Common.{◌≡◌, take}
+use Rattle.xa_log_worker.specs.Asking.{records_of}
+use Rattle.xa_log_worker_tests.specs.Puts.{put_records}
+use Rattle.xa_log_worker_tests.proofs.counted.put_all.Given as goal
+
+abbrev pub invariant-loop-decision : goal.invariant-loop-decision
+invariant-loop-decision l = records_of l.records ≡ put_records (records_of l.initial.records) (take l.decision-index l.decisions)
