@@ -22,8 +22,15 @@ VERBS = {
 FLAGS = set("async onephase fail nowait resume success suspend startrscan endrscan multiple join".split())
 
 # A line that does something; thread 0 is that of `turn` and `reopen`. In `told` are the words between the manager and
-# the flags; those of a `commitall` are its global transaction and its managers.
+# the flags; those of a `commitall` are its global transaction, its managers and its death.
 Step = collections.namedtuple("Step", "line thread verb manager told flags")
+
+
+# Where the coordinator of a `commitall` dies: `prepared`, `decided` or `told`, and how many answers of that round it has
+# collected by then, None for all.
+Death = collections.namedtuple("Death", "point answers")
+# How many answers a line may name.
+MOST_ANSWERS = 7
 
 
 class Fault(Exception):
@@ -59,6 +66,10 @@ class Words:
         word = self.take()
         return word if re.fullmatch(pattern, word) else self.fail(why)
 
+    def one_of(self, *known):
+        word = self.take()
+        return word if word in known else self.fail("unknown word")
+
     def key(self):
         return self.named("[a-z0-9]{1,16}", "bad key")
 
@@ -88,7 +99,9 @@ class Script:
 
     def __init__(self):
         self.threads, self.managers, self.handles, self.queue, self.requests = 1, 1, 4, 8, 256
-        self.were_set, self.keys, self.synchronous, self.failing, self.steps = set(), {}, set(), {}, []
+        self.were_set, self.keys, self.synchronous, self.steps = set(), {}, set(), []
+        # Which append of a thread's log fails, and which has an unknown end and whether its record is kept.
+        self.failing, self.unknown = {}, {}
 
     def set(self, words, name):
         """Takes the words after the name of a setting."""
@@ -109,6 +122,11 @@ class Script:
             thread, append = words.number_in(1, self.threads), words.number_in(1, 1_000_000)
             words.end()
             self.failing[thread] = append
+        elif name == "logunknown":
+            thread, append = words.number_in(1, self.threads), words.number_in(1, 1_000_000)
+            is_kept = words.one_of("kept", "lost") == "kept"
+            words.end()
+            self.unknown[thread] = append, is_kept
         else:
             self.declare(words)
 
@@ -157,12 +175,23 @@ class Script:
 
     def branches(self, words):
         """Takes the words after `commitall`."""
-        gtrid, managers = words.gtrid(), [words.number_in(0, MOST_NUMBER)]
-        while words.words:
+        gtrid, managers, death = words.gtrid(), [words.number_in(0, MOST_NUMBER)], None
+        while words.words and words.words[0] != "dies":
             managers.append(words.number_in(0, MOST_NUMBER))
+        if words.words:
+            words.take()
+            death = self.death(words)
         if managers != sorted(set(managers)) or not 1 <= managers[0] <= managers[-1] <= self.managers:
             words.fail("bad branches")
-        return gtrid, managers
+        return gtrid, managers, death
+
+    def death(self, words):
+        """Takes the words after `dies`."""
+        point, answers = words.one_of("prepared", "decided", "told"), None
+        if words.words and point != "decided":
+            answers = words.number_in(0, MOST_ANSWERS)
+        words.end()
+        return Death(point, answers)
 
 
 def lines_of(text):
@@ -187,7 +216,7 @@ def read(text, in_threads):
         if not words.words or words.words[0].startswith("#"):
             continue
         first = words.take()
-        if first in LIMITS or first in ("sync", "logfail", "key"):
+        if first in LIMITS or first in ("sync", "logfail", "logunknown", "key"):
             script.set(words, first)
         elif first == "turn":
             script.turn(words, in_threads)

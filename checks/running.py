@@ -40,6 +40,8 @@ class Thread:
 
     def open_again(self, left):
         self.left, self.kept, self.sent, self.known_shut, self.scans = left, {}, collections.Counter(), set(), {}
+        # Whether an append to the log has had an unknown end.
+        self.has_lost = False
 
 
 class Run:
@@ -112,8 +114,13 @@ class Run:
             return SPENT
         if len(self.queues[m]) == self.script.queue:
             return ASYNC
+        return self.keep(t, self.put(t, m, *words))
+
+    def keep(self, t, request):
+        """Keeps a request under the least handle that is free."""
+        kept = self.threads[t].kept
         handle = min(set(range(1, self.script.handles + 1)) - set(kept))
-        kept[handle] = self.put(t, m, *words)
+        kept[handle] = request
         return handle
 
     def carry_out(self, step):
@@ -179,33 +186,65 @@ class Run:
         thread.scans[m] = None if "endrscan" in flags else place
         return len(found), *map(".".join, found)
 
-    def ask_all(self, t, asked):
-        """Puts requests to managers, all before any is collected, and gives the code of each."""
+    def ask_all(self, t, asked, answers=None):
+        """Puts requests to managers, all before any is collected, and gives the code of each; or of so many, and then
+        the others are kept."""
         known_shut = self.threads[t].known_shut
         sent = [(m, None if m in known_shut else self.put(t, m, verb, (xid,))) for m, verb, xid in asked]
-        return {m: SHUT if request is None else self.collect(t, request) for m, request in sent}
+        answers = len(sent) if answers is None else answers
+        codes = {m: SHUT if request is None else self.collect(t, request) for m, request in sent[:answers]}
+        for _, request in sent[answers:]:
+            if request is not None:
+                self.keep(t, request)
+        return codes
 
-    def commit_all(self, t, gtrid, managers):
+    def commit_all(self, t, gtrid, managers, death):
         thread = self.threads[t]
         free = self.script.handles - len(thread.kept)
         if any(self.room(t, m) < 3 for m in managers) or free < len(managers) or gtrid in thread.log:
             return ["refused"]
+        if thread.has_lost:
+            return ["refused"]
+        dies, answers = death or (None, None)
         xids = {m: (gtrid, str(m)) for m in managers}
-        votes = self.ask_all(t, [(m, "prepare", xids[m]) for m in managers])
+        prepares = [(m, "prepare", xids[m]) for m in managers]
+        votes = self.ask_all(t, prepares, answers if dies == "prepared" else None)
+        told = [f"vote:{vote}" for vote in votes.values()]
+        if dies == "prepared":
+            return "died", *told
         commits, logged = all(vote in (OK, READ_ONLY) for vote in votes.values()), False
         if commits and OK in votes.values():
-            thread.appends += 1
-            commits = logged = thread.appends != self.script.failing.get(t)
-        if logged:
-            thread.log[gtrid] = {m for m in managers if votes[m] == OK}
+            commits = logged = self.append(t, gtrid, {m for m in managers if votes[m] == OK})
+            if thread.has_lost:
+                return "undecided", *told
+        decision = "commit" if commits else "abort", "logged" if logged else "unlogged"
+        if dies == "decided":
+            return "died", *decision, *told
         second = [(m, "commit" if commits else "rollback", xids[m]) for m in managers if votes[m] not in GONE]
-        codes = self.ask_all(t, second)
-        self.ask_all(t, [(m, "forget", xids[m]) for m in managers if codes.get(m) in DECIDED])
+        codes = self.ask_all(t, second, answers)
+        if answers is not None:
+            return "died", *decision, *told
         ends = [ending(votes[m], codes.get(m), commits) for m in managers]
-        return "commit" if commits else "abort", "logged" if logged else "unlogged", *ends
+        if dies == "told":
+            return "died", *decision, *ends
+        self.ask_all(t, [(m, "forget", xids[m]) for m in managers if codes.get(m) in DECIDED])
+        return *decision, *ends
+
+    def append(self, t, gtrid, managers):
+        """Whether the thread's log takes a record. Of one append nobody knows."""
+        thread = self.threads[t]
+        thread.appends += 1
+        append, is_kept = self.script.unknown.get(t, (None, False))
+        thread.has_lost = thread.appends == append
+        takes_it = is_kept if thread.has_lost else thread.appends != self.script.failing.get(t)
+        if takes_it:
+            thread.log[gtrid] = managers
+        return takes_it
 
     def resolve(self, t):
         thread = self.threads[t]
+        if thread.has_lost:
+            return ["refused"]
         if any(left and self.room(t, m) < 1 + 2 * len(left) for m, left in thread.left.items()):
             return ["refused"]
         outcomes = []

@@ -25,8 +25,13 @@ class Wrong(Exception):
     """What is wrong with a transcript."""
 
 
+class Unjudged(Exception):
+    """Why a transcript can't be judged."""
+
+
 class Asked:
-    """A request, or the requests of a `commitall` to one manager, with the code or the word that came of it."""
+    """A request, or the requests of a `commitall` to one manager, with the code or the word that came of it; None for a
+    request the code of which isn't shown."""
 
     def __init__(self, verb, told, flags=frozenset(), came=None, may_be_left_out=False):
         self.verb, self.told, self.flags, self.came = verb, told, flags, came
@@ -54,6 +59,8 @@ class Desk:
         self.least, self.most = collections.Counter(), collections.Counter()
         # The managers that it knows to be shut, those that it may know to be shut, and those with a scan.
         self.shut, self.perhaps_shut, self.scanned = set(), set(), set()
+        # Whether an append to its log has had an unknown end.
+        self.has_lost = False
 
     def ask(self, m, verb, told, flags=frozenset(), came=None):
         """Notes a request, and what came of it if that is known."""
@@ -90,7 +97,8 @@ class Desk:
         if verb == "commitall":
             self.commit_all(told, words)
         elif verb == "resolve":
-            want(words == ["resolved"], "at the first opening nothing is left")
+            expected = ["refused"] if self.has_lost else ["resolved"]
+            want(words == expected, "at the first opening nothing is left, and a log that isn't known isn't asked")
         elif not takes(verb, flags):
             want(words == [str(INVALID)], "the flags aren't the call's")
         elif verb == "complete":
@@ -107,13 +115,16 @@ class Desk:
         if must is not None:
             want(answer in [must] + [SHUT] * (m in self.perhaps_shut), f"it is refused with {must}")
         elif later and answer > 0:
-            free = set(range(1, self.script.handles + 1)) - set(self.kept)
-            want(answer == min(free), f"the least handle is {min(free)}")
+            free = self.free_handle()
+            want(answer == free, f"the least handle is {free}")
             self.kept[answer] = m, self.ask(m, verb, told, flags)
         elif answer not in may:
             want(not later or answer == SHUT and m in self.perhaps_shut, "it isn't refused")
             want(answer in CODES, "there is no such code")
             self.ask(m, verb, told, flags, answer)
+
+    def free_handle(self):
+        return min(set(range(1, self.script.handles + 1)) - set(self.kept))
 
     def collect(self, handle, words):
         """Judges `handle H retval R`, and takes the handle away."""
@@ -153,39 +164,117 @@ class Desk:
             (self.scanned.discard if "endrscan" in flags else self.scanned.add)(m)
 
     def commit_all(self, told, words):
-        gtrid, managers = told
+        gtrid, managers, death = told
         free = self.script.handles - len(self.kept)
-        must = free < len(managers) or gtrid in self.log
+        must = free < len(managers) or gtrid in self.log or self.has_lost
         must = must or any(self.least[m] > self.script.requests - 3 for m in managers)
         may = must or any(self.most[m] > self.script.requests - 3 for m in managers)
         if words == ["refused"]:
             want(may, "it isn't refused")
             return
         want(not must, "it is refused")
+        xids = {m: (gtrid, str(m)) for m in managers}
+        if words[:1] == ["undecided"]:
+            want(death is None or death.point != "prepared", "nothing was appended before the death")
+            self.undecided(xids, words[1:])
+            return
+        if death is not None:
+            want(words[:1] == ["died"], "the coordinator dies")
+            words = words[1:]
+        if death is not None and (death.point != "told" or death.answers is not None):
+            self.die(xids, death, words)
+            return
         want(len(words) == 2 + len(managers), "each branch has a word")
         decision, record, *ends = words
         want(all(ENDING.fullmatch(it) for it in ends), "there is no such word")
-        needs_record = decision == "commit" and any(it != "readonly" for it in ends)
+        self.decided(gtrid, decision, record, any(it != "readonly" for it in ends))
+        for m, word in zip(managers, ends):
+            self.branch(m, xids[m], decision == "commit", word, death is None)
+
+    def next_appends(self):
+        """Which append to its log the next one may be: one that failed isn't always seen."""
+        taken, failing = len(self.log), self.script.failing.get(self.thread)
+        return {taken + 1, taken + 2} if failing is not None and failing <= taken + 1 else {taken + 1}
+
+    def decided(self, gtrid, decision, record, has_yes):
+        """Judges a decision, and notes its record."""
         want(decision in ("commit", "abort"), "it is decided")
+        needs_record = decision == "commit" and has_yes
         want(record == ("logged" if needs_record else "unlogged"), "a commit is logged unless all only read")
         if record == "logged":
+            others = {self.script.failing.get(self.thread), self.script.unknown.get(self.thread, (None,))[0]}
+            want(self.next_appends() - others, "that append isn't taken")
             self.log.add(gtrid)
-        for m, word in zip(managers, ends):
-            self.branch(m, (gtrid, str(m)), decision == "commit", word)
 
-    def branch(self, m, xid, commits, word):
-        """Notes what a `commitall` asked of one manager."""
+    def undecided(self, xids, words):
+        """Judges a commit for which the log can't tell whether it has the record."""
+        votes = self.votes(xids, words)
+        want(len(votes) == len(xids), "all branches have voted")
+        want(set(votes.values()) <= {OK, READ_ONLY} and OK in votes.values(), "a record is wanted")
+        append, _ = self.script.unknown.get(self.thread, (None, None))
+        want(append in self.next_appends(), "the end of that append is known")
+        self.has_lost = True
+
+    def votes(self, xids, words):
+        """Notes that branches were asked to prepare and have voted so: the first of them, one for each word."""
+        votes = {}
+        for (m, xid), word in zip(xids.items(), words):
+            want(word.startswith("vote:"), "a vote is shown")
+            votes[m] = vote = number(word[5:])
+            want(vote in CODES, "there is no such code")
+            if m in self.shut:
+                want(vote == SHUT, "the manager is known to be shut")
+                continue
+            self.ask(m, "prepare", (xid,), came=vote)
+            if vote != SHUT:
+                self.perhaps_shut.discard(m)
+        return votes
+
+    def leave(self, m, verb, xid):
+        """Notes a request that is in flight as the coordinator dies: it is kept under the least handle that is free."""
+        if m in self.perhaps_shut:
+            raise Unjudged("it may be that the manager is known to be shut, and was asked nothing")
+        if m not in self.shut:
+            self.kept[self.free_handle()] = m, self.ask(m, verb, (xid,))
+
+    def die(self, xids, death, words):
+        """Judges what a coordinator shows that died before it has heard of all endings."""
+        if death.point == "prepared":
+            answers = len(xids) if death.answers is None else min(death.answers, len(xids))
+            want(len(words) == answers, "as many votes are shown as were collected")
+            self.votes(xids, words)
+            for m, xid in list(xids.items())[answers:]:
+                self.leave(m, "prepare", xid)
+            return
+        want(len(words) == 2 + len(xids), "each branch has a word")
+        decision, record, *words = words
+        votes = self.votes(xids, words)
+        wants_commit = set(votes.values()) <= {OK, READ_ONLY}
+        has_failed = OK in votes.values() and self.script.failing.get(self.thread) in self.next_appends()
+        may_abort = not wants_commit or has_failed
+        want(wants_commit if decision == "commit" else may_abort, "the votes decide")
+        self.decided(next(iter(xids.values()))[0], decision, record, OK in votes.values())
+        if death.point == "told":
+            second = [m for m in xids if votes[m] not in GONE]
+            for m in second[: death.answers]:
+                self.ask(m, "commit" if decision == "commit" else "rollback", (xids[m],))
+                self.perhaps_shut.add(m)
+            for m in second[death.answers :]:
+                self.leave(m, "commit" if decision == "commit" else "rollback", xids[m])
+
+    def branch(self, m, xid, commits, word, forgets):
+        """Notes what a `commitall` asked of one manager, and whether it has it forget a decision of its own."""
         if m in self.shut:
             want(word == f"left:{SHUT}", "the manager is known to be shut")
             return
         left_out = m in self.perhaps_shut and word == f"left:{SHUT}"
-        self.asked[m].append(Asked("commitall", (xid, commits), came=word, may_be_left_out=left_out))
+        self.asked[m].append(Asked("commitall", (xid, commits, forgets), came=word, may_be_left_out=left_out))
         is_one = word == "readonly" or word == "rolledback" or word.startswith("left:")
         self.least[m] += 0 if left_out else 1 if is_one else 2
-        self.most[m] += 1 if word == "readonly" else 3 if word.startswith("heur:") else 2
+        self.most[m] += 1 if word == "readonly" else 3 if forgets and word.startswith("heur:") else 2
         if word in (f"left:{SHUT}", "indoubt"):
             self.shut.add(m)
-        elif word.startswith("heur:"):
+        elif forgets and word.startswith("heur:"):
             self.perhaps_shut.add(m)
 
 
@@ -199,8 +288,8 @@ def key_of(manager):
 def carried_out(manager, thread, asked, vote):
     """Carries out what is next of this: whether that fits, whether more of it is asked, and the vote of its Prepare."""
     if asked.verb != "commitall":
-        return manager.carry_out(thread, asked.verb, asked.told, asked.flags) == asked.came, False, None
-    xid, commits = asked.told
+        return asked.came in (None, manager.carry_out(thread, asked.verb, asked.told, asked.flags)), False, None
+    xid, commits, forgets = asked.told
     if vote is None:
         vote = manager.carry_out(thread, "prepare", (xid,), frozenset())
         if commits and vote not in (OK, READ_ONLY):
@@ -213,7 +302,7 @@ def carried_out(manager, thread, asked, vote):
         return True, False, None
     code = manager.carry_out(thread, "commit" if commits else "rollback", (xid,), frozenset())
     fits = ending(vote, code, commits) == asked.came
-    return (fits, True, "decided") if code in DECIDED else (fits, False, None)
+    return (fits, True, "decided") if forgets and code in DECIDED else (fits, False, None)
 
 
 def next_states(manager, asked, places):
@@ -325,6 +414,8 @@ def judge(text, mode, came):
         judge_lines(lines, [line for _, line in answers] + values)
     except Wrong as why:
         return "taken", str(why), True
+    except Unjudged:
+        return "taken", None, False
     return "taken", None, True
 
 

@@ -37,7 +37,7 @@ FAULTS = re.split(r",\s+", FAULTS)
 
 # What transcripts have to show somewhere.
 SHOWN = """refused committed readonly rolledback heur:6 heur:7 left:-4 left:-6 left:-7 logged unlogged
-did late empty reopened resolved handle 0 6 7 100 103 107 -2 -3 -4 -5 -6 -7 -8""".split()
+died undecided vote:0 vote:3 vote:-4 vote:-6 vote:-7 did late empty reopened resolved handle 0 6 7 100 103 107 -2 -3 -4 -5 -6 -7 -8""".split()
 
 # Each line of the grammar, each word of which is replaced by each word below.
 LINES = """threads 2
@@ -47,6 +47,8 @@ queue 8
 requests 256
 sync 1
 logfail 1 1
+logunknown 1 1 kept
+logunknown 1 2 lost
 key 1 a 100
 1 open 1 async
 1 close 1
@@ -66,6 +68,9 @@ key 1 a 100
 1 complete 1 1 nowait
 1 complete 0 0 multiple
 1 commitall g 1 2
+1 commitall g 1 2 dies prepared 1
+1 commitall g 1 dies decided
+1 commitall g 1 2 dies told 1
 1 recover 1 4 startrscan endrscan
 1 resolve
 turn 1
@@ -116,7 +121,7 @@ def count_misjudged():
 
 SCANS = ["", " startrscan", " startrscan", " startrscan endrscan", " endrscan"]
 SETTINGS = ["sync 1", "sync 2", "logfail 1 1", "logfail 2 2", "key 1 a 5", "key 1 b 0", "key 2 a 1"]
-SETTINGS += ["key 2 b 1000000000000"]
+SETTINGS += ["key 2 b 1000000000000", "logunknown 1 1 kept", "logunknown 2 1 lost", "logunknown 3 2 kept"]
 
 
 def a_line(rnd):
@@ -126,6 +131,14 @@ def a_line(rnd):
     while rnd.random() < 0.3:
         words[rnd.randrange(len(words))] = rnd.choice(WORDS)
     return " ".join(words)
+
+
+def a_death(rnd):
+    """Where the coordinator of a commit dies, if it does."""
+    if rnd.random() < 0.6:
+        return ""
+    in_rounds = [f"prepared {rnd.randint(0, 2)}", f"told {rnd.randint(0, 2)}"]
+    return " dies " + rnd.choice(["prepared", "decided", "told", *in_rounds, *in_rounds])
 
 
 def a_call(rnd):
@@ -146,8 +159,8 @@ def a_call(rnd):
         f"{t} rollback {m} {xid}{flags}",
         f"{t} {rnd.choice(['forget', 'heurcom', 'heurrb'])} {m} {xid}{flags}",
         f"{t} close {m}{flags}",
-        f"{t} commitall {rnd.choice('gh')} 1 2",
-        f"{t} commitall {xid[0]} {m}",
+        f"{t} commitall {rnd.choice('gh')} 1 2{a_death(rnd)}",
+        f"{t} commitall {xid[0]} {m}{a_death(rnd)}",
         f"{t} complete {m} {rnd.randint(0, 4)}{rnd.choice([' nowait', ' nowait multiple', ' multiple', ''])}",
         f"{t} complete 0 0 multiple{rnd.choice(['', ' nowait'])}",
         f"{t} shut {m}{flags}" if rnd.random() < 0.1 else other,
@@ -171,7 +184,7 @@ def a_run(rnd):
 
 def an_end(rnd, t, g):
     """What becomes of a transaction once a thread has worked for its branches."""
-    commits, other = f"{t} commitall {g} 1 2", rnd.choice("123")
+    commits, other = f"{t} commitall {g} 1 2{a_death(rnd)}", rnd.choice("123")
     at = [f"{g}.1", f"{g}.2"]
     prepares = [f"{t} prepare 1 {at[0]}", f"{other} prepare 2 {at[1]}"]
     decides = f"{other} {rnd.choice(['heurcom', 'heurrb'])} 1 {at[0]}"
@@ -179,6 +192,8 @@ def an_end(rnd, t, g):
     outcome = rnd.choice(["commit", "rollback"])
     return rnd.choice([
         [commits, commits],
+        [commits, f"{t} complete 0 0 multiple", f"{t} resolve"],
+        [prepares[0], f"{t} commitall {g} 1 2 dies prepared 1", decides, f"{t} complete 2 1"],
         [prepares[0], decides, commits],
         [*prepares, decides, f"{other} {outcome} 1 {at[0]}", f"{t} forget 1 {at[0]}", f"{t} {outcome} 2 {at[1]}"],
         [shuts, commits, f"{t} open 2"],
@@ -191,6 +206,7 @@ def an_end(rnd, t, g):
 def a_history(rnd):
     """A script in which two threads work each for a transaction and bring it to its end, and a third comes between."""
     head = ["threads 3", "managers 2", f"queue {rnd.randint(1, 4)}"]
+    head += [f"logunknown {rnd.choice('12')} 1 {rnd.choice(['kept', 'lost'])}"] * (rnd.random() < 0.5)
     head += [f"key {m} {key} 5" for m in "12" for key in "ab"]
     plans, lines = [], []
     for t, g in ("1g", "2h"):

@@ -30,6 +30,7 @@ pub mod Presumed
 pub mod Resolution
 pub mod CutSends
 pub mod Staged
+pub mod Died
 pub mod Between
 pub mod Scanned
 pub mod NextOpening

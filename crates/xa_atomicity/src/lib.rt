@@ -26,8 +26,9 @@ pub use crate::resolved::{
     resolved_transactions_count_where_committed, resolved_transactions_have_one_outcome,
 };
 pub use crate::stages::{
-    cut_commits_go_by_the_record, finished_commits_are_cut_after_all, others_leave_the_branches,
-    rounds_are_cuts, second_rounds_go_by_the_record, stages_are_cuts, stages_follow,
+    cut_commits_go_by_the_record, deaths_are_cuts, finished_commits_are_cut_after_all,
+    others_leave_the_branches, rounds_are_cuts, second_rounds_go_by_the_record, stages_are_cuts,
+    stages_follow,
 };
 use xa_tables::laws::{
     adders_never_vote_read_only, late_requests_leave_fates, only_a_shut_shuts,

@@ -3,6 +3,7 @@ ghost use Rattle.std.specs.List.{All};
 ghost use Rattle.std.specs.Prelude.{◌≡◌, true, false, None, List, []};
 ghost use Rattle.std.specs.Prelude.{◌++◌, length};
 ghost use Rattle.xa_words.specs.Tran.{TranName};
+ghost use Rattle.xa_words.specs.declared.death.Death.{Death};
 ghost use Rattle.xa_words.specs.declared.request.Op.{Op};
 ghost use Rattle.xa_tables.specs.Prepared.{names};
 ghost use Rattle.xa_desk.specs.LedgerView.{LedgerView};
@@ -11,7 +12,9 @@ ghost use Rattle.xa_desk.specs.Growth.{HaveGrown};
 ghost use Rattle.xa_driver.specs.declared.branch.Branch.{Branch};
 ghost use Rattle.xa_driver.specs.declared.done.Done.{Done};
 ghost use Rattle.xa_words.specs.declared.code.Code.{Code};
+ghost use Rattle.xa_driver.specs.Deaths.{Dies, PutsLedger};
 ghost use Rattle.xa_driver.specs.Decision.{yes_of};
+ghost use Rattle.xa_driver.specs.Resolving.{AsksLedger};
 ghost use Rattle.xa_log.specs.Log.{LogState, IsEither, record_of};
 ghost use Rattle.xa_driver.specs.declared.stages.Prepared.{Prepared};
 ghost use Rattle.xa_driver.specs.declared.stages.Decided.{Decided};
@@ -117,6 +120,15 @@ pub fn rounds_are_cuts()
         → HasPrepared bs desk.ledgers mid p → LeavesBranches bs mid tell → HasDecided p log later d
         → HasTold d tell late t → LeavesBranches bs late start.ledgers → IsForgetting t start f
         → HaveComeSoFar f.round.asks.items start.ledgers now → IsCut bs desk now log later t.known.endings.items }
+{}
+
+/// So is what `commit_until` leaves: a commit whose coordinator died at some point of it, with the endings that were
+/// known then.
+pub fn deaths_are_cuts()
+    ensures { (at : Death) (tran : TranName) (bs : List Branch) (desk : DeskView) (new : List LedgerView)
+        (log later : LogState) (known : Done) → MayCommit desk log bs → IsTranOf bs tran
+        → Dies AsksLedger PutsLedger at tran bs (ledger desk.ledgers) (ledger new) log later known
+        → length new ≡ length desk.ledgers → IsCut bs desk new log later known.endings.items }
 {}
 
 /// What a commit's thread may do between its stages that leaves the branches: nothing, one thing after another,

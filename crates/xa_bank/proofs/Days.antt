@@ -36,6 +36,7 @@ use Rattle.xa_switch.specs.Settling.{Settling, ThreadPart, IsSettled, find_threa
 use Rattle.xa_switch.specs.Worth.{accounts_of, plan_worth, settled_worth, threads_of}
 use Rattle.xa_driver.specs.declared.branch.Branch.{Branch}
 use Rattle.xa_driver.specs.declared.done.Done.{Done}
+use Rattle.xa_driver.proofs.AtDeath.{as_many_managers}
 use Rattle.xa_atomicity.specs.Conservation.{OnlyTransfers, NothingWasSent, held_in_doubt}
 use Rattle.xa_atomicity.specs.Outcomes.{is_in_doubt}
 use Rattle.xa_log.specs.Log.{LogState}
@@ -49,7 +50,6 @@ use Rattle.xa_bank.specs.Transfers.{HaveSent}
 use Rattle.xa_bank.proofs.Sent.{have_none, have_on, one_collected}
 use Rattle.xa_bank.proofs.Told.{IsTold}
 use Rattle.xa_bank.proofs.Only.{only_transfers, all_told}
-use Rattle.xa_bank.proofs.Worked.{same_many}
 
 -- ---- the end of a desk sends nothing
 
@@ -150,7 +150,8 @@ module _ {L : Type 0} (state : L → LogState) (knows : L → Type 0) (p : Plan)
         whole = all_at EndsWhole attended (t - 1) mb.attended whole (ap (λ (l : List (Attended (Teller L))). slice_get l (t - 1)) r.attended_are ∙ got_map (λ (t : Member (Teller L)). t.attended) r.members (t - 1) mb at);
         end = subst (HaveSent Never run.left.ledgers) (sym last) (numbers_sent (run.left, []) _ (run.ends.emptied, mb.attended.outstanding.items) run.ends.collects);
         managers =
-            ap (λ (l : List LedgerView). length l) last ∙ same_many run.left run.ends.emptied run.ends.goes_on ∙ same_many mb.desk run.left run.goes_on
+            ap (λ (l : List LedgerView). length l) last ∙ as_many_managers run.left run.ends.emptied run.ends.goes_on
+            ∙ as_many_managers mb.desk run.left run.goes_on
             ∙ ap (λ (d : DeskView). length d.ledgers) fresh.made ∙ length-map (use_async p.managers.items) _ ∙ length-map p.managers.items _;
       }
 

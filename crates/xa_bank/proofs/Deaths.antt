@@ -1,14 +1,16 @@
--- What a commit sent whose teller died, and what it was once all branches were told.
-use Rattle.std.proofs.Common.{◌≡◌, ℕ, Bool, true, false, ◌||◌, ◌==◌, Option, Some, None, List, [], ◌∷◌, map, refl, sym, ap, ◌∙◌, subst}
+-- What a commit sent whose coordinator died, and what it was once all branches were told.
+use Rattle.std.proofs.Common.{◌≡◌, ◌≤◌, ℕ, zero, suc, Bool, true, false, ◌||◌, ◌==◌, Option, Some, None, List, [], ◌∷◌, map, refl, sym, ap, ◌∙◌, subst}
 use Rattle.std.specs.List.{All, list_any}
 use Rattle.std.proofs.lemmas.Bool.{eqb-true, or_parts}
 use Rattle.std.proofs.lemmas.List.Elements.{All-nil, All-cons, All-head, All-tail}
-use Rattle.xa_base.proofs.Lists.{same_begins}
+use Rattle.xa_base.proofs.Lists.{same_begins, some_same}
 use Rattle.xa_base.proofs.Truth.{by_if, at_true, at_false}
 use Rattle.xa_words.specs.Tran.{TranName}
 use Rattle.xa_words.specs.Xid.{XidName}
 use Rattle.xa_words.specs.declared.code.Code.{Code}
 use Rattle.xa_words.specs.declared.code.Code.TheVariants.{HeurRb, HeurCom}
+use Rattle.xa_words.specs.declared.death.Death.{Death}
+use Rattle.xa_words.specs.declared.death.Death.TheVariants as death
 use Rattle.xa_words.specs.declared.request.Op.{Op}
 use Rattle.xa_words.specs.declared.request.Op.TheVariants.{Prepare, Forget}
 use Rattle.xa_tables.specs.History.{is_rolled_back}
@@ -19,133 +21,144 @@ use Rattle.xa_driver.specs.declared.branch.Branch.{Branch}
 use Rattle.xa_driver.specs.declared.done.Done.{Done}
 use Rattle.xa_driver.specs.declared.done.Ending.{Ending}
 use Rattle.xa_driver.specs.declared.done.Ending.TheVariants.{Heuristic}
-use Rattle.xa_driver.specs.declared.stages.Prepared.{Prepared}
-use Rattle.xa_driver.specs.declared.stages.Decided.{Decided}
-use Rattle.xa_driver.specs.declared.stages.Told.{Told}
-use Rattle.xa_driver.specs.Asks.{Asks, AskTrace, EachAsk, HaveComeSoFar, IsAnswered, IsBegun, IsSameAsk, SameAsks, among_asks, collected as was_collected}
-use Rattle.xa_driver.specs.Asks.{in_flight, unasked}
+use Rattle.xa_driver.specs.Asks.{EachAsk, SameAsks}
+use Rattle.xa_driver.specs.Course.{AsksFor, AtBranch}
+use Rattle.xa_driver.specs.Deaths.{CameTo, HaveAsked, HaveTold, PutsLedger, Tells, VotesAndObeys, sent, to_come, withheld}
 use Rattle.xa_driver.specs.Decision.{is_read, is_yes}
 use Rattle.xa_driver.specs.Endings.{second_op, third_op, ending_of, yes_ending, no_ending, is_decided, is_out_of_reach}
 use Rattle.xa_log.specs.Log.{LogState}
 use Rattle.xa_atomicity.specs.Outcomes.{is_heuristic}
-use Rattle.xa_driver.specs.Rounds.{code_of, ending_of_ask, first_ask, second_ask, third_ask}
-use Rattle.xa_driver.specs.Stages.{HasDecided, HasForgotten, HasPrepared, HasTold}
-use Rattle.xa_driver.specs.Trace.{IsCommit, IsTraceOfCommit, MayCommit}
-use Rattle.xa_driver.proofs.Calls.{one_tran}
-use Rattle.xa_driver.proofs.OneCall.{stages_call}
-use Rattle.xa_atomicity.proofs.Staged.{Begun, asks_begun}
-use Rattle.xa_driver.proofs.Gathering.{same_itself}
+use Rattle.xa_driver.specs.Resolving.{AsksLedger}
+use Rattle.xa_driver.specs.Rounds.{first_ask}
+use Rattle.xa_driver.specs.Stages.{HasVoted}
+use Rattle.xa_driver.specs.Trace.{EachBranch, IsCommit, has_branch_at}
+use Rattle.xa_driver.proofs.Calls.{among_first}
+use Rattle.xa_bank.specs.Deaths.{IsDeath}
 use Rattle.xa_bank.specs.Transfers.{HasSent, HaveSent}
-use Rattle.xa_bank.specs.declared.dying.Point.{Point}
-use Rattle.xa_bank.specs.declared.dying.Point.TheVariants as point
-use Rattle.xa_bank.specs.Deaths.{CameTo, endings_in}
-use Rattle.xa_bank.proofs.Sent.{none_sent, asked_sent, have_on}
+use Rattle.xa_bank.proofs.Sent.{none_sent, sent_on, asked_sent}
 
--- ---- what requests sent, as far as they came
+-- ---- one request
 
-begun_sent : (P : Op → Type 0) (op : Option Op) (a a' : LedgerView) → ((o : Op) → op ≡ Some o → P o) → IsBegun op a a' → HasSent P a a'
-begun_sent P op a a' so (unasked is) = subst (HasSent P a) (sym is) (none_sent P a)
-begun_sent P op a a' so (in_flight o wanted open_ is) =
-    subst (HasSent P a) (sym is) (record { more = o ∷ []; sent = refl; each = All-cons P o [] (so o wanted) (All-nil P); collected = same_begins a.collected })
-begun_sent P op a a' so (was_collected code tr) = subst (HasSent P a) (sym tr.trace) (asked_sent P a op code so)
+put_sent : (P : Op → Type 0) (op : Op) (a a' : LedgerView) → P op → PutsLedger a op a' → HasSent P a a'
+put_sent P op a a' so (sent open_ is) =
+    subst (HasSent P a) (sym is) (record { more = op ∷ []; sent = refl; each = All-cons P op [] so (All-nil P); collected = same_begins a.collected })
+put_sent P op a a' so (withheld shut is) = subst (HasSent P a) (sym is) (none_sent P a)
 
--- the request, if there is one, is such a one
-abbrev Asks_ : (Op → Type 0) → Ask → Type 0
-Asks_ P k = (o : Op) → k.op ≡ Some o → P o
+answered_sent : (P : Op → Type 0) (op : Op) (code : Code) (a a' : LedgerView) → P op → AsksLedger a op a' code → HasSent P a a'
+answered_sent P op code a a' so tr =
+    subst (HasSent P a) (sym tr.trace) (asked_sent P a (Some op) (Some code) (λ o is. subst P (some_same op o is) so))
 
-there_sent : (P : Op → Type 0) (ks : List Ask) (at now : List LedgerView) (m : ℕ) → All (Asks_ P) ks → All (Begun at now) ks → among_asks ks m ≡ true
-    → HasSent P (ledger at m) (ledger now m)
-there_sent P [] at now m so each there = cc
-there_sent P (k ∷ ks) at now m so each there =
-    elim (k.manager == m) as (λ b. (k.manager == m) ≡ b → (b || among_asks ks m) ≡ true → HasSent P (ledger at m) (ledger now m)) [
-      | true ↦ λ here _. subst (λ n. HasSent P (ledger at n) (ledger now n)) (eqb-true k.manager m here)
-          (begun_sent P k.op (ledger at k.manager) (ledger now k.manager) (All-head (Asks_ P) k ks so) (All-head (Begun at now) k ks each))
-      | false ↦ λ _ rest. there_sent P ks at now m (All-tail (Asks_ P) k ks so) (All-tail (Begun at now) k ks each) rest
+obeyed_sent : (P : Op → Type 0) (op : Option Op) (code : Option Code) (a a' : LedgerView) → ((o : Op) → op ≡ Some o → P o) → AsksFor AsksLedger op code a a'
+    → HasSent P a a'
+obeyed_sent P None code a a' so h = subst (HasSent P a) (sym h.1) (none_sent P a)
+obeyed_sent P (Some op) None a a' so h = absurd h
+obeyed_sent P (Some op) (Some code) a a' so h = answered_sent P op code a a' (so op refl) h
+
+told_sent : (P : Op → Type 0) (k : ℕ) (op : Option Op) (a a' : LedgerView) → ((o : Op) → op ≡ Some o → P o) → Tells AsksLedger PutsLedger k op a a'
+    → HasSent P a a'
+told_sent P zero None a a' so h = subst (HasSent P a) (sym h) (none_sent P a)
+told_sent P (suc k) None a a' so h = subst (HasSent P a) (sym h) (none_sent P a)
+told_sent P zero (Some op) a a' so h = put_sent P op a a' (so op refl) h
+told_sent P (suc k) (Some op) a a' so h = answered_sent P op h.0 a a' (so op refl) h.1
+
+-- ---- all branches
+
+-- what was sent to the branch's manager
+abbrev SentAt : (Op → Type 0) → List LedgerView → List LedgerView → Branch → Type 0
+SentAt P old new b = HasSent P (ledger old b.m) (ledger new b.m)
+
+-- at no other manager anything was done
+abbrev StaysElsewhere : List Branch → List LedgerView → List LedgerView → Type 0
+StaysElsewhere bs old new = (m : ℕ) → 1 ≤ m → has_branch_at bs m ≡ false → ledger new m ≡ ledger old m
+
+there_sent : (P : Op → Type 0) (bs : List Branch) (old new : List LedgerView) (m : ℕ) → All (SentAt P old new) bs → has_branch_at bs m ≡ true
+    → HasSent P (ledger old m) (ledger new m)
+there_sent P [] old new m each there = cc
+there_sent P (b ∷ bs) old new m each there =
+    elim (b.m == m) as (λ c. (b.m == m) ≡ c → (c || has_branch_at bs m) ≡ true → HasSent P (ledger old m) (ledger new m)) [
+      | true ↦ λ here _. subst (λ n. HasSent P (ledger old n) (ledger new n)) (eqb-true b.m m here) (All-head (SentAt P old new) b bs each)
+      | false ↦ λ _ rest. there_sent P bs old new m (All-tail (SentAt P old new) b bs each) rest
     ] refl there
 
-so_far_sent : (P : Op → Type 0) (ks : List Ask) (at now : List LedgerView) → All (Asks_ P) ks → HaveComeSoFar ks at now → HaveSent P at now
-so_far_sent P ks at now so far = λ m positive. elim (among_asks ks m) as (λ b. among_asks ks m ≡ b → HasSent P (ledger at m) (ledger now m)) [
-  | true ↦ λ there. there_sent P ks at now m so far.each there
-  | false ↦ λ elsewhere. subst (HasSent P (ledger at m)) (sym (far.others m positive elsewhere)) (none_sent P (ledger at m))
+branches_sent : (P : Op → Type 0) (bs : List Branch) (old new : List LedgerView) → All (SentAt P old new) bs → StaysElsewhere bs old new → HaveSent P old new
+branches_sent P bs old new each others = λ m positive. elim (has_branch_at bs m) as (λ b. has_branch_at bs m ≡ b → HasSent P (ledger old m) (ledger new m)) [
+  | true ↦ λ there. there_sent P bs old new m each there
+  | false ↦ λ elsewhere. subst (HasSent P (ledger old m)) (sym (others m positive elsewhere)) (none_sent P (ledger old m))
 ] refl
-
-asks_sent : (P : Op → Type 0) (ks : List Ask) (at now : List LedgerView) → All (Asks_ P) ks → Asks ks at now → HaveSent P at now
-asks_sent P ks at now so asks = so_far_sent P ks at now so (record { each = asks_begun ks at now asks.each; others = asks.others; managers = asks.managers })
 
 -- ---- which requests these are
 
-module _ (P : Op → Type 0) (Q : Branch → Type 0) (firsts : (b : Branch) → Q b → P (Prepare b.xid)) where
-  first_so : (b : Branch) (k : Ask) → Q b → IsSameAsk (first_ask b) k → Asks_ P k
-  first_so b k so same o is = prepare_is b o (sym same.op ∙ is)
-    where
-      prepare_is : (c : Branch) (o : Op) → Some (Prepare b.xid) ≡ Some o → P o
-      prepare_is c o e = let z : Prepare b.xid ≡ o = cc in subst P z (firsts b so)
+module _ (P : Op → Type 0) (Q : Branch → Type 0) (firsts : (b : Branch) → Q b → P (Prepare b.xid)) (old new : List LedgerView) where
+  asked_each : (bs : List Branch) (vs : List Code) → All Q bs → HaveAsked AsksLedger PutsLedger bs vs (ledger old) (ledger new) → All (SentAt P old new) bs
+  asked_each [] [] so h = All-nil (SentAt P old new)
+  asked_each [] (v ∷ vs) so h = absurd h
+  asked_each (b ∷ bs) [] so h =
+      All-cons (SentAt P old new) b bs (put_sent P (Prepare b.xid) (ledger old b.m) (ledger new b.m) (firsts b (All-head Q b bs so)) h.0)
+      (asked_each bs [] (All-tail Q b bs so) h.1)
+  asked_each (b ∷ bs) (v ∷ vs) so h =
+      All-cons (SentAt P old new) b bs (answered_sent P (Prepare b.xid) v (ledger old b.m) (ledger new b.m) (firsts b (All-head Q b bs so)) h.0)
+      (asked_each bs vs (All-tail Q b bs so) h.1)
 
-  firsts_so : (bs : List Branch) (ks : List Ask) → All Q bs → SameAsks (map first_ask bs) ks → All (Asks_ P) ks
-  firsts_so [] [] so same = All-nil (Asks_ P)
-  firsts_so [] (k ∷ ks) so same = absurd same
-  firsts_so (b ∷ bs) [] so same = absurd same
-  firsts_so (b ∷ bs) (k ∷ ks) so same = All-cons (Asks_ P) k ks (first_so b k (All-head Q b bs so) same.0) (firsts_so bs ks (All-tail Q b bs so) same.1)
+  voted_each : (bs : List Branch) (ks : List Ask) → All Q bs → SameAsks (map first_ask bs) ks → EachAsk ks old new → All (SentAt P old new) bs
+  voted_each [] ks so same each = All-nil (SentAt P old new)
+  voted_each (b ∷ bs) [] so same each = absurd same
+  voted_each (b ∷ bs) (k ∷ ks) so same each =
+      let first : (o : Op) → k.op ≡ Some o → P o = λ o is. subst P (some_same (Prepare b.xid) o (sym same.0.op ∙ is)) (firsts b (All-head Q b bs so)) in
+      All-cons (SentAt P old new) b bs
+      (subst (λ n. HasSent P (ledger old n) (ledger new n)) same.0.manager (subst (HasSent P (ledger old k.manager)) (sym each.0.trace) (asked_sent P (ledger old k.manager) k.op k.code first)))
+      (voted_each bs ks (All-tail Q b bs so) same.1 each.1)
 
-  prepared_sent : (bs : List Branch) (ks : List Ask) (at now : List LedgerView) → All Q bs → SameAsks (map first_ask bs) ks → Asks ks at now → HaveSent P at now
-  prepared_sent bs ks at now so same asks = asks_sent P ks at now (firsts_so bs ks so same) asks
+  -- what a commit sent that came to no decision
+  pub voted_sent : (bs : List Branch) (votes : List Code) → All Q bs → HasVoted bs old new votes → HaveSent P old new
+  voted_sent bs votes so h =
+      let ks : List Ask = h.stage.round.asks.items in
+      branches_sent P bs old new (voted_each bs ks so h.prepared.same h.prepared.asked.each)
+      (λ m positive none. h.prepared.asked.others m positive (among_first bs ks m h.prepared.same ∙ none))
+
+  -- before any branch was told only Prepares were sent
+  pub untold_sent : (bs : List Branch) (vs : List Code) → All Q bs → HaveAsked AsksLedger PutsLedger bs vs (ledger old) (ledger new) → StaysElsewhere bs old new
+      → HaveSent P old new
+  untold_sent bs vs so h others = branches_sent P bs old new (asked_each bs vs so h) others
 
   module _ (seconds : (b : Branch) → Q b → (commit : Bool) (v : Code) (o : Op) → second_op commit b.xid v ≡ Some o → P o) where
-    second_so : (commit : Bool) (b : Branch) (k j : Ask) → Q b → IsSameAsk (first_ask b) k → IsSameAsk (second_ask commit k) j → Asks_ P j
-    second_so commit b k j so same again o is = seconds b so commit (code_of k) o (ap (λ x. second_op commit x (code_of k)) (sym same.xid) ∙ sym again.op ∙ is)
+    told_each : (commit : Bool) (k : ℕ) (bs : List Branch) (vs : List Code) → All Q bs
+        → HaveTold AsksLedger PutsLedger commit k bs vs (ledger old) (ledger new) → All (SentAt P old new) bs
+    told_each commit k [] [] so h = All-nil (SentAt P old new)
+    told_each commit k [] (v ∷ vs) so h = absurd h
+    told_each commit k (b ∷ bs) [] so h = absurd h
+    told_each commit k (b ∷ bs) (v ∷ vs) so h =
+        let its : Q b = All-head Q b bs so in
+        All-cons (SentAt P old new) b bs
+        (sent_on P (ledger old b.m) h.0.prepared (ledger new b.m) (answered_sent P (Prepare b.xid) v (ledger old b.m) h.0.prepared (firsts b its) h.0.prepares)
+        (told_sent P k (second_op commit b.xid v) h.0.prepared (ledger new b.m) (seconds b its commit v) h.0.tells))
+        (told_each commit (to_come (second_op commit b.xid v) k) bs vs (All-tail Q b bs so) h.1)
 
-    seconds_so : (commit : Bool) (bs : List Branch) (ks js : List Ask) → All Q bs → SameAsks (map first_ask bs) ks → SameAsks (map (second_ask commit) ks) js
-        → All (Asks_ P) js
-    seconds_so commit [] [] [] so same again = All-nil (Asks_ P)
-    seconds_so commit [] [] (j ∷ js) so same again = absurd again
-    seconds_so commit [] (k ∷ ks) js so same again = absurd same
-    seconds_so commit (b ∷ bs) [] js so same again = absurd same
-    seconds_so commit (b ∷ bs) (k ∷ ks) [] so same again = absurd again
-    seconds_so commit (b ∷ bs) (k ∷ ks) (j ∷ js) so same again =
-        All-cons (Asks_ P) j js (second_so commit b k j (All-head Q b bs so) same.0 again.0) (seconds_so commit bs ks js (All-tail Q b bs so) same.1 again.1)
+    ended_each : (commit : Bool) (bs : List Branch) (vs : List Code) (ss : List (Option Code)) (es : List Ending) → All Q bs
+        → EachBranch (λ b v s e. VotesAndObeys AsksLedger commit b v s e (ledger old b.m) (ledger new b.m)) bs vs ss es → All (SentAt P old new) bs
+    ended_each commit [] [] [] [] so h = All-nil (SentAt P old new)
+    ended_each commit (b ∷ bs) (v ∷ vs) (s ∷ ss) (e ∷ es) so h =
+        let its : Q b = All-head Q b bs so in
+        All-cons (SentAt P old new) b bs
+        (sent_on P (ledger old b.m) h.0.prepared (ledger new b.m) (answered_sent P (Prepare b.xid) v (ledger old b.m) h.0.prepared (firsts b its) h.0.prepares)
+        (obeyed_sent P (second_op commit b.xid v) s h.0.prepared (ledger new b.m) (seconds b its commit v) h.0.obeys))
+        (ended_each commit bs vs ss es (All-tail Q b bs so) h.1)
+    ended_each commit bs vs ss es so h = absurd h
 
-    seconds_of : (commit : Bool) (bs : List Branch) (ks ls js : List Ask) → All Q bs → SameAsks (map first_ask bs) ks → ls ≡ ks
-        → SameAsks (map (second_ask commit) ls) js → All (Asks_ P) js
-    seconds_of commit bs ks ls js so same is again =
-        seconds_so commit bs ks js so same (subst (λ (l : List Ask). SameAsks (map (second_ask commit) l) js) is again)
+    came_each : (at : Death) (tran : TranName) (bs : List Branch) (log later : LogState) (known : Done) → All Q bs
+        → CameTo AsksLedger PutsLedger at tran bs (ledger old) (ledger new) log later known → All (SentAt P old new) bs
+    came_each (death.Preparing k) tran bs log later known so far = asked_each bs known.votes.items so far.asked
+    came_each death.Prepared tran bs log later known so far = asked_each bs known.votes.items so far.asked
+    came_each death.Decided tran bs log later known so far = asked_each bs known.votes.items so far.asked
+    came_each (death.Telling k) tran bs log later known so far = told_each known.commit k bs known.votes.items so far.told
+    came_each death.Told tran bs log later known so far = ended_each known.commit bs known.votes.items far.seconds known.endings.items so far.each
 
--- what a commit sent whose teller died
+-- what a commit sent whose coordinator died
 pub died_sent : (P : Op → Type 0) (Q : Branch → Type 0) → ((b : Branch) → Q b → P (Prepare b.xid))
     → ((b : Branch) → Q b → (commit : Bool) (v : Code) (o : Op) → second_op commit b.xid v ≡ Some o → P o)
-    → (at : Point) (bs : List Branch) (known : Option Done) (desk : DeskView) (new : List LedgerView) (log later : LogState) → All Q bs
-    → CameTo at bs known desk new log later → HaveSent P desk.ledgers new
-died_sent P Q firsts seconds point.Asking bs known desk new log later each (p, begun, far, unlogged, none) =
-    so_far_sent P p.round.asks.items desk.ledgers new (firsts_so P Q firsts bs p.round.asks.items each begun.same) far
-died_sent P Q firsts seconds point.Voted bs known desk new log later each (p, first, unlogged, is) =
-    prepared_sent P Q firsts bs p.round.asks.items desk.ledgers new each first.same first.asked
-died_sent P Q firsts seconds point.Decided bs known desk new log later each (p, d, first, second, is) =
-    prepared_sent P Q firsts bs p.round.asks.items desk.ledgers new each first.same first.asked
-died_sent P Q firsts seconds point.Telling bs known desk new log later each (p, d, t, mid, first, second, begun, far, is) =
-    have_on P desk.ledgers mid.ledgers new (prepared_sent P Q firsts bs p.round.asks.items desk.ledgers mid.ledgers each first.same first.asked)
-    (so_far_sent P t.round.asks.items mid.ledgers new (seconds_of P Q firsts seconds d.known.commit bs p.round.asks.items d.round.asks.items t.round.asks.items each first.same (ap (λ r. r.asks.items) second.round) begun.same) far)
-died_sent P Q firsts seconds point.Told bs known desk new log later each (p, d, t, mid, first, second, third, is) =
-    have_on P desk.ledgers mid.ledgers new (prepared_sent P Q firsts bs p.round.asks.items desk.ledgers mid.ledgers each first.same first.asked)
-    (asks_sent P t.round.asks.items mid.ledgers new (seconds_of P Q firsts seconds d.known.commit bs p.round.asks.items d.round.asks.items t.round.asks.items each first.same (ap (λ r. r.asks.items) second.round) third.same) third.asked)
-
--- before any branch was told only Prepares were sent
-abbrev pub IsUntold : Point → Type 0
-IsUntold point.Asking = Unit {0}
-IsUntold point.Voted = Unit {0}
-IsUntold point.Decided = Unit {0}
-IsUntold at = ⊥
-
-pub untold_sent : (P : Op → Type 0) (Q : Branch → Type 0) → ((b : Branch) → Q b → P (Prepare b.xid))
-    → (at : Point) (bs : List Branch) (known : Option Done) (desk : DeskView) (new : List LedgerView) (log later : LogState) → IsUntold at → All Q bs
-    → CameTo at bs known desk new log later
-    → HaveSent P desk.ledgers new
-untold_sent P Q firsts point.Asking bs known desk new log later untold each (p, begun, far, unlogged, none) =
-    so_far_sent P p.round.asks.items desk.ledgers new (firsts_so P Q firsts bs p.round.asks.items each begun.same) far
-untold_sent P Q firsts point.Voted bs known desk new log later untold each (p, first, unlogged, is) =
-    prepared_sent P Q firsts bs p.round.asks.items desk.ledgers new each first.same first.asked
-untold_sent P Q firsts point.Decided bs known desk new log later untold each (p, d, first, second, is) =
-    prepared_sent P Q firsts bs p.round.asks.items desk.ledgers new each first.same first.asked
-untold_sent P Q firsts point.Telling bs known desk new log later untold each far = absurd untold
-untold_sent P Q firsts point.Told bs known desk new log later untold each far = absurd untold
+    → (at : Death) (bs : List Branch) (desk : DeskView) (new : List LedgerView) (log later : LogState) (known : Done) → All Q bs
+    → IsDeath at bs desk new log later known → HaveSent P desk.ledgers new
+died_sent P Q firsts seconds at bs desk new log later known so died =
+    branches_sent P bs desk.ledgers new (came_each P Q firsts desk.ledgers new seconds at died.may.tran bs log later known so died.dies.far) died.dies.others
 
 -- ---- once all were told
 
@@ -168,16 +181,16 @@ quiet_unasked : (commit : Bool) (x : XidName) (vote : Code) → is_yes vote ≡ 
 quiet_unasked true x vote yes_ quiet = at_false (is_yes vote) _ _ yes_
 quiet_unasked false x vote yes_ quiet = at_true (is_quiet vote) _ _ quiet
 
-unanswered : (a : LedgerView) (c : Code) → IsAnswered a None (Some c) → ⊥
-unanswered a c e = cc
+unanswered : (a a' : LedgerView) (c : Code) → AsksFor AsksLedger None (Some c) a a' → ⊥
+unanswered a a' c h = let e = h.0 in cc
 
-told_heuristic : (commit : Bool) (x : XidName) (vote c : Code) (a : LedgerView) → is_decided c ≡ true → IsAnswered a (second_op commit x vote) (Some c)
-    → is_heuristic (ending_of commit vote (Some c)) ≡ true
-told_heuristic commit x vote c a kept answered =
+told_heuristic : (commit : Bool) (x : XidName) (vote c : Code) (a a' : LedgerView) → is_decided c ≡ true
+    → AsksFor AsksLedger (second_op commit x vote) (Some c) a a' → is_heuristic (ending_of commit vote (Some c)) ≡ true
+told_heuristic commit x vote c a a' kept obeys =
     elim (is_yes vote) as (λ b. is_yes vote ≡ b → is_heuristic (ending_of commit vote (Some c)) ≡ true) [
       | true ↦ λ yes_. ap is_heuristic (at_true (is_yes vote) _ _ yes_ ∙ yes_heuristic commit c kept)
       | false ↦ λ yes_. elim (is_quiet vote) as (λ b. is_quiet vote ≡ b → is_heuristic (ending_of commit vote (Some c)) ≡ true) [
-        | true ↦ λ quiet. absurd (unanswered a c (subst (λ (o : Option Op). IsAnswered a o (Some c)) (quiet_unasked commit x vote yes_ quiet) answered))
+        | true ↦ λ quiet. absurd (unanswered a a' c (subst (λ (o : Option Op). AsksFor AsksLedger o (Some c) a a') (quiet_unasked commit x vote yes_ quiet) obeys))
         | false ↦ λ quiet.
             let one = or_parts (is_read vote) (is_rolled_back vote || is_out_of_reach vote) quiet in
             let two = or_parts (is_rolled_back vote) (is_out_of_reach vote) one.1 in
@@ -186,54 +199,47 @@ told_heuristic commit x vote c a kept answered =
     ] refl
 
 -- so where no ending tells one, nobody is to forget
-none_forgets : (commit : Bool) (x : XidName) (vote : Code) (second : Option Code) (a : LedgerView) → IsAnswered a (second_op commit x vote) second
-    → is_heuristic (ending_of commit vote second) ≡ false → third_op x second ≡ None
-none_forgets commit x vote None a answered cool = refl
-none_forgets commit x vote (Some c) a answered cool =
-    by_if (λ (o : Option Op). o ≡ None) (is_decided c) (Some (Forget x)) None (λ kept. let z : true ≡ false = sym (told_heuristic commit x vote c a kept answered) ∙ cool in cc) (λ _. refl)
+none_forgets : (commit : Bool) (x : XidName) (vote : Code) (second : Option Code) (a a' : LedgerView)
+    → AsksFor AsksLedger (second_op commit x vote) second a a' → is_heuristic (ending_of commit vote second) ≡ false → third_op x second ≡ None
+none_forgets commit x vote None a a' obeys cool = refl
+none_forgets commit x vote (Some c) a a' obeys cool =
+    by_if (λ (o : Option Op). o ≡ None) (is_decided c) (Some (Forget x)) None (λ kept. let z : true ≡ false = sym (told_heuristic commit x vote c a a' kept obeys) ∙ cool in cc) (λ _. refl)
 
-nothing_asked : (a : LedgerView) (op : Option Op) → op ≡ None → AskTrace op None a a
-nothing_asked a op none = subst (λ (o : Option Op). AskTrace o None a a) (sym none) (record { answered = refl; trace = refl })
-
-third_nothing : (commit : Bool) (mid new : List LedgerView) (k j : Ask) → IsSameAsk (second_ask commit k) j
-    → AskTrace j.op j.code (ledger mid j.manager) (ledger new j.manager) → is_heuristic (ending_of_ask commit j) ≡ false
-    → AskTrace (third_op j.xid j.code) None (ledger new j.manager) (ledger new j.manager)
-third_nothing commit mid new k j same tr cool =
-    let op : j.op ≡ second_op commit j.xid j.vote = same.op ∙ (λ i. second_op commit (sym same.xid i) (sym same.vote i)) in
-    nothing_asked (ledger new j.manager) (third_op j.xid j.code)
-    (none_forgets commit j.xid j.vote j.code (ledger mid j.manager) (subst (λ (o : Option Op). IsAnswered (ledger mid j.manager) o j.code) op tr.answered) cool)
-
-thirds_nothing : (commit : Bool) (mid new : List LedgerView) (ks js : List Ask) → SameAsks (map (second_ask commit) ks) js → EachAsk js mid new
-    → list_any is_heuristic (map (ending_of_ask commit) js) ≡ false → EachAsk (map third_ask js) new new
-thirds_nothing commit mid new [] [] same each cool = tt
-thirds_nothing commit mid new [] (j ∷ js) same each cool = absurd same
-thirds_nothing commit mid new (k ∷ ks) [] same each cool = absurd same
-thirds_nothing commit mid new (k ∷ ks) (j ∷ js) same each cool =
-    let parts = or_parts (is_heuristic (ending_of_ask commit j)) (list_any is_heuristic (map (ending_of_ask commit) js)) cool in
-    (third_nothing commit mid new k j same.0 each.0 parts.0, thirds_nothing commit mid new ks js same.1 each.1 parts.1)
-
--- the commit was made
-stages_made : (bs : List Branch) (desk : DeskView) (mid new : List LedgerView) (log later : LogState) (p : Prepared) (d : Decided) (t : Told)
-    → MayCommit desk log bs → HasPrepared bs desk.ledgers mid p → HasDecided p log later d → HasTold d mid new t
-    → list_any is_heuristic t.known.endings.items ≡ false → IsCommit bs desk new log later t.known
-stages_made bs desk mid new log later p d t may first second third cool =
-    let same : SameAsks (map (second_ask d.known.commit) p.round.asks.items) t.round.asks.items =
-    subst (λ (l : List Ask). SameAsks (map (second_ask d.known.commit) l) t.round.asks.items) (ap (λ r. r.asks.items) second.round) third.same in
-    let each : EachAsk (map third_ask t.round.asks.items) new new =
-    thirds_nothing d.known.commit mid new p.round.asks.items t.round.asks.items same third.asked.each (subst (λ (es : List Ending). list_any is_heuristic es ≡ false) third.endings cool) in
-    let last : HasForgotten t new new t.known = record {
-      known = refl;
-      thirds = map third_ask t.round.asks.items;
-      same = same_itself (map third_ask t.round.asks.items);
-      asked = record { each = each; others = λ m positive none. refl; managers = refl };
-    } in record {
-      may = may;
-      trace = subst (λ (u : TranName). IsTraceOfCommit u bs desk.ledgers new log later t.known) (one_tran bs p.tran may.tran may.some first.tran may.one)
-          (stages_call bs desk.ledgers mid new new log later p d t first second third t.known last);
+branch_made : (commit : Bool) (b : Branch) (v : Code) (s : Option Code) (e : Ending) (a a' : LedgerView) → VotesAndObeys AsksLedger commit b v s e a a'
+    → is_heuristic e ≡ false → AtBranch AsksLedger commit b v s e a a'
+branch_made commit b v s e a a' h cool =
+    let none = none_forgets commit b.xid v s h.prepared a' h.obeys (ap is_heuristic (sym h.ends) ∙ cool) in record {
+      prepared = h.prepared;
+      decided = a';
+      third = None;
+      prepares = h.prepares;
+      obeys = h.obeys;
+      forgets = subst (λ (o : Option Op). AsksFor AsksLedger o None a' a') (sym none) (refl, refl);
+      ends = h.ends;
     }
 
-pub told_made : (bs : List Branch) (known : Option Done) (desk : DeskView) (new : List LedgerView) (log later : LogState) → MayCommit desk log bs
-    → CameTo point.Told bs known desk new log later → list_any is_heuristic (endings_in known) ≡ false
-    → (done : Done) × (done.endings.items ≡ endings_in known) × IsCommit bs desk new log later done
-told_made bs known desk new log later may (p, d, t, mid, first, second, third, is) cool =
-    (t.known, ap endings_in (sym is), stages_made bs desk mid.ledgers new log later p d t may first second third (subst (λ (k : Option Done). list_any is_heuristic (endings_in k) ≡ false) is cool))
+branches_made : (commit : Bool) (old new : List LedgerView) (bs : List Branch) (vs : List Code) (ss : List (Option Code)) (es : List Ending)
+    → EachBranch (λ b v s e. VotesAndObeys AsksLedger commit b v s e (ledger old b.m) (ledger new b.m)) bs vs ss es → list_any is_heuristic es ≡ false
+    → EachBranch (λ b v s e. AtBranch AsksLedger commit b v s e (ledger old b.m) (ledger new b.m)) bs vs ss es
+branches_made commit old new [] [] [] [] h cool = tt
+branches_made commit old new (b ∷ bs) (v ∷ vs) (s ∷ ss) (e ∷ es) h cool =
+    let parts = or_parts (is_heuristic e) (list_any is_heuristic es) cool in
+    (branch_made commit b v s e (ledger old b.m) (ledger new b.m) h.0 parts.0, branches_made commit old new bs vs ss es h.1 parts.1)
+branches_made commit old new bs vs ss es h cool = absurd h
+
+-- the commit was made
+pub told_made : (bs : List Branch) (desk : DeskView) (new : List LedgerView) (log later : LogState) (known : Done)
+    → IsDeath death.Told bs desk new log later known → list_any is_heuristic known.endings.items ≡ false → IsCommit bs desk new log later known
+told_made bs desk new log later known died cool = let far = died.dies.far in record {
+  may = died.may;
+  trace = record {
+    course = record {
+      seconds = far.seconds;
+      each = branches_made known.commit desk.ledgers new bs known.votes.items far.seconds known.endings.items far.each cool;
+      others = died.dies.others;
+      decision = far.decided.decision;
+      logs = far.decided.logs;
+    };
+    managers = died.managers;
+  };
+}

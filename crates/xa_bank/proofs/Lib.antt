@@ -3,7 +3,6 @@ pub mod Sent
 pub mod Handles
 pub mod Worked
 pub mod Called
-pub mod Stepped
 pub mod Deaths
 pub mod Named
 pub mod Told

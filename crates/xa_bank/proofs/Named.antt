@@ -14,6 +14,7 @@ use Rattle.xa_words.specs.Xid.{XidName}
 use Rattle.xa_words.specs.Orders.{Decides-xid_eq}
 use Rattle.xa_words.specs.declared.code.Code.{Code}
 use Rattle.xa_words.specs.declared.code.Code.TheVariants.{Done as Ok_}
+use Rattle.xa_words.specs.declared.death.Death.{Death}
 use Rattle.xa_words.specs.declared.request.Op.{Op}
 use Rattle.xa_words.specs.declared.request.Op.TheVariants.{Start, Add, End, Prepare, Commit, Rollback, Forget}
 use Rattle.xa_words.specs.declared.request.StartHow.TheVariants.{Fresh}
@@ -30,12 +31,11 @@ use Rattle.xa_driver.specs.Endings.{second_op, third_op, is_out_of_reach, is_dec
 use Rattle.xa_log.specs.Log.{LogState}
 use Rattle.xa_driver.specs.Course.{AtBranch}
 use Rattle.xa_driver.specs.Resolving.{AsksLedger}
+use Rattle.xa_driver.specs.Stages.{HasVoted}
 use Rattle.xa_driver.specs.Trace.{EachBranch, IsCommit, has_branch_at}
 use Rattle.xa_driver.proofs.Mapped.{IsAskedFor, branch_by}
 use Rattle.xa_bank.specs.declared.habits.Habits.{Habits}
-use Rattle.xa_bank.specs.declared.dying.Point.{Point}
-use Rattle.xa_bank.specs.declared.dying.Point.TheVariants.{Voted}
-use Rattle.xa_bank.specs.Deaths.{CameTo, point_at}
+use Rattle.xa_bank.specs.Deaths.{IsDeath, death_in}
 use Rattle.xa_bank.specs.declared.teller.Leg.{Leg}
 use Rattle.xa_bank.specs.declared.teller.Transfer.{Transfer}
 use Rattle.xa_bank.specs.declared.teller.TransferOutcome.{TransferOutcome}
@@ -43,7 +43,7 @@ use Rattle.xa_bank.specs.Transfers.{HasSent, HaveSent, IsFor, AreLegs, pays_firs
 use Rattle.xa_bank.specs.Transfers.{undecided}
 use Rattle.xa_bank.specs.Transfers.{commits, refused, Makes, with_legs, without_legs, MakesEach, gtrid_of}
 use Rattle.xa_bank.proofs.Sent.{none_sent, sent_on, asked_sent, have_none, have_on, have_as}
-use Rattle.xa_bank.proofs.Deaths.{died_sent}
+use Rattle.xa_bank.proofs.Deaths.{died_sent, voted_sent}
 
 -- ---- names of transfers
 
@@ -231,20 +231,33 @@ pub commit_names : (t n : ℕ) (one two : Leg) (worked : DeskView) (new : List L
 commit_names t n one two worked new log later d legs made =
     commit_sent (Names t (Is n)) one.branch two.branch worked new log later d (names_leg t n one legs.first) (names_leg t n two legs.second) made
 
-pub died_names : (t n : ℕ) (one two : Leg) (at : Point) (known : Option Done) (worked : DeskView) (new : List LedgerView) (log later : LogState)
-    → LegsOf t n one two → CameTo at (one.branch ∷ two.branch ∷ []) known worked new log later → HaveSent (Names t (Is n)) worked.ledgers new
-died_names t n one two at known worked new log later legs far =
-    let Q : Branch → Type 0 = λ b. (o : Op) → NamesAlone b.xid o → Names t (Is n) o in
-    let each : All Q (one.branch ∷ two.branch ∷ []) =
-    All-cons Q one.branch (two.branch ∷ []) (names_leg t n one legs.first) (All-cons Q two.branch [] (names_leg t n two legs.second) (All-nil Q)) in
-    died_sent (Names t (Is n)) Q (λ b so. so (Prepare b.xid) (same_xid b.xid)) (λ b so commit v o is. so o (second_names commit b.xid v o is)) at (one.branch ∷ two.branch ∷ []) known worked new log later each far
+-- where all requests for a branch name it alone, they name the transfer
+abbrev NamesIt : ℕ → ℕ → Branch → Type 0
+NamesIt t n b = (o : Op) → NamesAlone b.xid o → Names t (Is n) o
 
-comes_names : (t n : ℕ) (one two : Leg) (point : Option Point) (o : TransferOutcome) (worked : DeskView) (new : List LedgerView) (log later : LogState)
-    → LegsOf t n one two → ComesOfCommit (one.branch ∷ two.branch ∷ []) point o worked new log later → HaveSent (Names t (Is n)) worked.ledgers new
-comes_names t n one two point o worked new log later legs (in_full d none is made) = commit_names t n one two worked new log later d legs made
-comes_names t n one two point o worked new log later legs (cut_short at known some is dies) = died_names t n one two at known worked new log later legs dies.far
-comes_names t n one two point o worked new log later legs (undecided votes decides is may voted wanted) =
-    died_names t n one two Voted (Some voted.stage.known) worked new log log legs (voted.stage, voted.prepared, refl, refl)
+both_name : (t n : ℕ) (one two : Leg) → LegsOf t n one two → All (NamesIt t n) (one.branch ∷ two.branch ∷ [])
+both_name t n one two legs =
+    All-cons (NamesIt t n) one.branch (two.branch ∷ []) (names_leg t n one legs.first)
+    (All-cons (NamesIt t n) two.branch [] (names_leg t n two legs.second) (All-nil (NamesIt t n)))
+
+died_names : (t n : ℕ) (one two : Leg) (at : Death) (worked : DeskView) (new : List LedgerView) (log later : LogState) (known : Done)
+    → LegsOf t n one two → IsDeath at (one.branch ∷ two.branch ∷ []) worked new log later known → HaveSent (Names t (Is n)) worked.ledgers new
+died_names t n one two at worked new log later known legs died =
+    died_sent (Names t (Is n)) (NamesIt t n) (λ b so. so (Prepare b.xid) (same_xid b.xid)) (λ b so commit v o is. so o (second_names commit b.xid v o is)) at
+    (one.branch ∷ two.branch ∷ []) worked new log later known (both_name t n one two legs) died
+
+voted_names : (t n : ℕ) (one two : Leg) (worked : DeskView) (new : List LedgerView) (votes : List Code) → LegsOf t n one two
+    → HasVoted (one.branch ∷ two.branch ∷ []) worked.ledgers new votes → HaveSent (Names t (Is n)) worked.ledgers new
+voted_names t n one two worked new votes legs voted =
+    voted_sent (Names t (Is n)) (NamesIt t n) (λ b so. so (Prepare b.xid) (same_xid b.xid)) worked.ledgers new (one.branch ∷ two.branch ∷ []) votes
+    (both_name t n one two legs) voted
+
+comes_names : (t n : ℕ) (one two : Leg) (death : Option Death) (o : TransferOutcome) (worked : DeskView) (new : List LedgerView) (log later : LogState)
+    → LegsOf t n one two → ComesOfCommit (one.branch ∷ two.branch ∷ []) death o worked new log later → HaveSent (Names t (Is n)) worked.ledgers new
+comes_names t n one two death o worked new log later legs (in_full d none is made) = commit_names t n one two worked new log later d legs made
+comes_names t n one two death o worked new log later legs (cut_short at known some is died) = died_names t n one two at worked new log later known legs died
+comes_names t n one two death o worked new log later legs (undecided votes decides is may voted wanted) =
+    voted_names t n one two worked new votes.items legs voted
 
 pub transfer_names : (t n : ℕ) (tr : Transfer) (habits : Habits) (o : TransferOutcome) (old new : DeskView) (log later : LogState)
     → Makes t n tr habits o old new log later → HaveSent (Names t (Is n)) old.ledgers new.ledgers
@@ -252,7 +265,7 @@ transfer_names t n tr habits o old new log later (with_legs one two left legs (c
     let of_it = legs_are t n tr one two legs in
     have_on (Names t (Is n)) old.ledgers worked.ledgers new.ledgers
     (work_sent (Names t (Is n)) one two tr.account old.ledgers worked.ledgers (λ leg which. legs_name t n one two leg tr.account of_it which) work)
-    (comes_names t n one two (point_at habits.death n) o worked new.ledgers log left of_it comes)
+    (comes_names t n one two (death_in habits n) o worked new.ledgers log left of_it comes)
 transfer_names t n tr habits o old new log later (with_legs one two left legs (refused is same why sent) kept) =
     have_as (IsFor one two) (Names t (Is n)) (for_names t n one two (legs_are t n tr one two legs)) old.ledgers new.ledgers sent
 transfer_names t n tr habits o old new log later (without_legs is none same unlogged) =

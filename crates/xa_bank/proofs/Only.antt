@@ -10,6 +10,8 @@ use Rattle.xa_base.proofs.Lists.{all_right}
 use Rattle.xa_words.specs.Xid.{XidName}
 use Rattle.xa_words.specs.declared.code.Code.{Code}
 use Rattle.xa_words.specs.declared.code.Code.TheVariants.{Done as Ok_}
+use Rattle.xa_words.specs.declared.death.Death.{Death}
+use Rattle.xa_words.specs.declared.death.Death.TheVariants as death
 use Rattle.xa_words.specs.declared.request.Op.{Op}
 use Rattle.xa_words.specs.declared.request.Op.TheVariants.{Start, Add, End}
 use Rattle.xa_words.specs.declared.request.StartHow.TheVariants.{Fresh}
@@ -34,6 +36,8 @@ use Rattle.xa_driver.specs.declared.done.Ending.{Ending}
 use Rattle.xa_driver.specs.Commits.{is_commit, NoCommitWasSent}
 use Rattle.xa_log.specs.Log.{LogState}
 use Rattle.xa_atomicity.specs.Outcomes.{AreLeftAlone, OnlyTheseName, is_in_doubt, sent_so_far}
+use Rattle.xa_driver.specs.Deaths.{HaveAsked, PutsLedger}
+use Rattle.xa_driver.specs.Resolving.{AsksLedger}
 use Rattle.xa_driver.specs.Trace.{IsCommit}
 use Rattle.xa_atomicity.specs.Conservation.{added_before, added_by_all, held_in_doubt, NothingWasSent, OnlyTransfers, opened, worked, committed}
 use Rattle.xa_atomicity.proofs.Settled.{by_ledger}
@@ -41,12 +45,9 @@ use Rattle.xa_bank.specs.declared.teller.Leg.{Leg}
 use Rattle.xa_bank.specs.declared.teller.Transfer.{Transfer}
 use Rattle.xa_bank.specs.declared.teller.TransferOutcome.{TransferOutcome}
 use Rattle.xa_bank.specs.declared.habits.Habits.{Habits}
-use Rattle.xa_bank.specs.declared.dying.Point.{Point}
-use Rattle.xa_bank.specs.declared.dying.Point.TheVariants as point
-use Rattle.xa_bank.specs.declared.dying.Point.TheVariants.{Voted}
-use Rattle.xa_bank.specs.Deaths.{CameTo, Dies, endings_in, point_at}
+use Rattle.xa_bank.specs.Deaths.{IsDeath, death_in}
 use Rattle.xa_bank.specs.Tellers.{IsClearAt, IsUndoubted}
-use Rattle.xa_bank.proofs.Deaths.{IsUntold, told_made, untold_sent}
+use Rattle.xa_bank.proofs.Deaths.{told_made, untold_sent, voted_sent}
 use Rattle.xa_bank.specs.Transfers.{HasSent, HaveSent, IsOpenRm, IsFor, HasWorked, HaveWorked, ComesOfCommit, in_full, cut_short, undecided, commits, refused}
 use Rattle.xa_bank.specs.Transfers.{Makes}
 use Rattle.xa_bank.specs.Transfers.{with_legs, without_legs, MakesEach, MakesAll}
@@ -227,30 +228,42 @@ module _ (adds : (t n : ℕ) (x : XidName) (k : List ℕ) (d : ℤ) (h : History
 
   -- ---- a transfer with which its teller died
 
-  -- before it told any branch
-  only_untold : (n : ℕ) (account : List ℕ) (one two : Leg) (at : Point) (old : List LedgerView) (desk : DeskView) (new : List LedgerView) (log later : LogState) (known : Option Done)
-      → HaveWorked one two account old desk.ledgers → IsUntold at
-      → CameTo at (one.branch ∷ two.branch ∷ []) known desk new log later → OnlyTransfers p s t old (pos 0) → OnlyTransfers p s t new (pos 0)
-  only_untold n account one two at old desk new log later known work untold far only =
-      let Q : Branch → Type 0 = λ b. Unit {0} in
-      let each : All Q (one.branch ∷ two.branch ∷ []) = All-cons Q one.branch (two.branch ∷ []) tt (All-cons Q two.branch [] tt (All-nil Q)) in
-      only_quiet desk.ledgers new (untold_sent IsNone Q (λ b _. refl) at (one.branch ∷ two.branch ∷ []) known desk new log later untold each far)
-      (only_quiet old desk.ledgers (work_sent IsNone one two account old desk.ledgers (λ leg which. (refl, refl, refl)) work) only)
+  -- nothing is wanted of a branch
+  abbrev IsAnyBranch : Branch → Type 0
+  IsAnyBranch b = Unit {0}
 
-  only_died : (n : ℕ) (account : List ℕ) (one two : Leg) (legs : LegsOf t n one two) (at : Point) (old : List LedgerView) (desk : DeskView) (new : List LedgerView) (log later : LogState) (known : Option Done)
+  any_two : (one two : Leg) → All IsAnyBranch (one.branch ∷ two.branch ∷ [])
+  any_two one two = All-cons IsAnyBranch one.branch (two.branch ∷ []) tt (All-cons IsAnyBranch two.branch [] tt (All-nil IsAnyBranch))
+
+  only_worked : (account : List ℕ) (one two : Leg) (old at : List LedgerView) → HaveWorked one two account old at → OnlyTransfers p s t old (pos 0)
+      → OnlyTransfers p s t at (pos 0)
+  only_worked account one two old at work only =
+      only_quiet old at (work_sent IsNone one two account old at (λ leg which. (refl, refl, refl)) work) only
+
+  -- before it told any branch
+  only_untold : (account : List ℕ) (one two : Leg) (at : Death) (old : List LedgerView) (desk : DeskView) (new : List LedgerView) (log later : LogState) (known : Done)
+      → HaveWorked one two account old desk.ledgers → IsDeath at (one.branch ∷ two.branch ∷ []) desk new log later known
+      → HaveAsked AsksLedger PutsLedger (one.branch ∷ two.branch ∷ []) known.votes.items (ledger desk.ledgers) (ledger new) → OnlyTransfers p s t old (pos 0)
+      → OnlyTransfers p s t new (pos 0)
+  only_untold account one two at old desk new log later known work died asked only =
+      only_quiet desk.ledgers new
+      (untold_sent IsNone IsAnyBranch (λ b _. refl) desk.ledgers new (one.branch ∷ two.branch ∷ []) known.votes.items (any_two one two) asked died.dies.others)
+      (only_worked account one two old desk.ledgers work only)
+
+  only_died : (n : ℕ) (account : List ℕ) (one two : Leg) (legs : LegsOf t n one two) (at : Death) (old : List LedgerView) (desk : DeskView) (new : List LedgerView) (log later : LogState) (known : Done)
       → HaveWorked one two account old desk.ledgers
-      → Dies at (one.branch ∷ two.branch ∷ []) known desk new log later → IsClearAt at (endings_in known) → Earlier n old → Later (n + 1) new
+      → IsDeath at (one.branch ∷ two.branch ∷ []) desk new log later known → IsClearAt at known.endings.items → Earlier n old → Later (n + 1) new
       → OnlyTransfers p s t old (pos 0) → OnlyTransfers p s t new (pos 0)
-  only_died n account one two legs point.Asking old desk new log later known work dies clear before after only =
-      only_untold n account one two point.Asking old desk new log later known work tt dies.far only
-  only_died n account one two legs point.Voted old desk new log later known work dies clear before after only =
-      only_untold n account one two point.Voted old desk new log later known work tt dies.far only
-  only_died n account one two legs point.Decided old desk new log later known work dies clear before after only =
-      only_untold n account one two point.Decided old desk new log later known work tt dies.far only
-  only_died n account one two legs point.Telling old desk new log later known work dies clear before after only = absurd clear
-  only_died n account one two legs point.Told old desk new log later known work dies clear before after only =
-      let made = told_made (one.branch ∷ two.branch ∷ []) known desk new log later dies.cut.may dies.far clear.1 in
-      only_decided n account one two legs old desk new log later made.0 work made.2 before after (subst (λ (l : List Ending). list_any is_in_doubt l ≡ false) (sym made.1) clear.0) only
+  only_died n account one two legs (death.Preparing k) old desk new log later known work died clear before after only =
+      only_untold account one two (death.Preparing k) old desk new log later known work died died.dies.far.asked only
+  only_died n account one two legs death.Prepared old desk new log later known work died clear before after only =
+      only_untold account one two death.Prepared old desk new log later known work died died.dies.far.asked only
+  only_died n account one two legs death.Decided old desk new log later known work died clear before after only =
+      only_untold account one two death.Decided old desk new log later known work died died.dies.far.asked only
+  only_died n account one two legs (death.Telling k) old desk new log later known work died clear before after only = absurd clear
+  only_died n account one two legs death.Told old desk new log later known work died clear before after only =
+      let made = told_made (one.branch ∷ two.branch ∷ []) desk new log later known died clear.1 in
+      only_decided n account one two legs old desk new log later known work made before after clear.0 only
 
   -- ---- any transfer
 
@@ -258,22 +271,24 @@ module _ (adds : (t n : ℕ) (x : XidName) (k : List ℕ) (d : ℤ) (h : History
       → OnlyTransfers p s t new (pos 0)
   only_quiet_one one two old new h only = only_quiet old new (have_as (IsFor one two) IsNone (λ op f. f.uncommitting) old new h) only
 
-  only_commit : (n : ℕ) (account : List ℕ) (one two : Leg) (legs : LegsOf t n one two) (point : Option Point) (o : TransferOutcome) (old : List LedgerView) (desk : DeskView) (new : List LedgerView) (log later : LogState)
+  only_commit : (n : ℕ) (account : List ℕ) (one two : Leg) (legs : LegsOf t n one two) (dies : Option Death) (o : TransferOutcome) (old : List LedgerView) (desk : DeskView) (new : List LedgerView) (log later : LogState)
       → HaveWorked one two account old desk.ledgers
-      → ComesOfCommit (one.branch ∷ two.branch ∷ []) point o desk new log later → IsUndoubted o → Earlier n old → Later (n + 1) new
+      → ComesOfCommit (one.branch ∷ two.branch ∷ []) dies o desk new log later → IsUndoubted o → Earlier n old → Later (n + 1) new
       → OnlyTransfers p s t old (pos 0) → OnlyTransfers p s t new (pos 0)
-  only_commit n account one two legs point o old desk new log later work (in_full d none is made) fine before after only =
+  only_commit n account one two legs dies o old desk new log later work (in_full d none is made) fine before after only =
       only_decided n account one two legs old desk new log later d work made before after (subst IsUndoubted is fine) only
-  only_commit n account one two legs point o old desk new log later work (cut_short at known some is dies) fine before after only =
-      only_died n account one two legs at old desk new log later known work dies (subst IsUndoubted is fine) before after only
-  only_commit n account one two legs point o old desk new log later work (undecided votes decides is may voted wanted) fine before after only =
-      only_untold n account one two Voted old desk new log log (Some voted.stage.known) work tt (voted.stage, voted.prepared, refl, refl) only
+  only_commit n account one two legs dies o old desk new log later work (cut_short at known some is died) fine before after only =
+      only_died n account one two legs at old desk new log later known work died (subst IsUndoubted is fine) before after only
+  only_commit n account one two legs dies o old desk new log later work (undecided votes decides is may voted wanted) fine before after only =
+      only_quiet desk.ledgers new
+      (voted_sent IsNone IsAnyBranch (λ b _. refl) desk.ledgers new (one.branch ∷ two.branch ∷ []) votes.items (any_two one two) voted)
+      (only_worked account one two old desk.ledgers work only)
 
   only_one : (n : ℕ) (tr : Transfer) (habits : Habits) (o : TransferOutcome) (old new : DeskView) (log later : LogState)
       → Makes t n tr habits o old new log later → IsUndoubted o → Earlier n old.ledgers → Later (n + 1) new.ledgers → OnlyTransfers p s t old.ledgers (pos 0)
       → OnlyTransfers p s t new.ledgers (pos 0)
   only_one n tr habits o old new log later (with_legs one two left legs (commits desk work comes) kept) fine before after only =
-      only_commit n tr.account one two (legs_are t n tr one two legs) (point_at habits.death n) o old.ledgers desk new.ledgers log left work comes fine before after only
+      only_commit n tr.account one two (legs_are t n tr one two legs) (death_in habits n) o old.ledgers desk new.ledgers log left work comes fine before after only
   only_one n tr habits o old new log later (with_legs one two left legs (refused is unlogged why h) kept) fine before after only =
       only_quiet_one one two old.ledgers new.ledgers h only
   only_one n tr habits o old new log later (without_legs is none same unlogged) fine before after only =

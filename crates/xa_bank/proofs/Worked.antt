@@ -3,7 +3,7 @@ use Rattle.std.proofs.Common.{◌≡◌, ◌≢◌, ℕ, zero, suc, ◌+◌, ◌
 use Rattle.std.proofs.Common.{refl, ap, ◌∙◌, subst, arith, Some, None}
 use Rattle.std.specs.FinMap as map
 use Rattle.std.specs.Ordering.{nat_cmp}
-use Rattle.std.proofs.lemmas.List.{length-set, length-map}
+use Rattle.std.proofs.lemmas.List.{length-set}
 use Rattle.xa_base.proofs.Maps.{inserted_there, inserted_other, removed_other}
 use Rattle.xa_base.proofs.Options.{not_both}
 use Rattle.xa_words.specs.declared.code.Code.TheVariants.{Done}
@@ -14,7 +14,6 @@ use Rattle.xa_words.specs.declared.request.EndHow.TheVariants.{Success}
 use Rattle.xa_desk.specs.declared.operation.Operation.{Operation}
 use Rattle.xa_desk.specs.LedgerView.{LedgerView, with_sent, with_collected}
 use Rattle.xa_desk.specs.DeskView.{DeskView, IsKnown, ledger, put_ledger, after_sent, after_collected, next_operation}
-use Rattle.xa_desk.specs.GoesOn.{GoesOn, plan_of}
 use Rattle.xa_desk.proofs.Ledgers.{ledger-put_same, ledger-put_other}
 use Rattle.xa_bank.specs.declared.teller.Leg.{Leg}
 use Rattle.xa_bank.specs.declared.in_flight.Flight.{Flight}
@@ -214,10 +213,6 @@ has_worked leg k a a' n1 n2 n3 is e1 e2 e3 = record {
   collected = ap (λ (l : LedgerView). l.collected) is ∙ three_more a.collected (n1, Done) (n2, Done) (n3, Done)
       ∙ (λ i. a.collected ++ (e1 i, Done) ∷ (e2 i, Done) ∷ (e3 i, Done) ∷ []);
 }
-
--- a desk that goes on has its managers
-pub same_many : (old new : DeskView) → GoesOn old new → length new.ledgers ≡ length old.ledgers
-same_many old new goes = sym (length-map new.ledgers plan_of) ∙ ap (λ (l : List (Bool × ℕ)). length l) goes.plan ∙ length-map old.ledgers plan_of
 
 -- ---- both legs
 

@@ -1,19 +1,18 @@
 -- What a teller comes to.
 use Rattle.std.specs.Prelude.{◌≡◌, ◌+◌, Bool, true, false, None, List, [], ◌∷◌, ◌++◌, length}
 use Rattle.std.specs.List.{All, list_any}
+use Rattle.xa_words.specs.declared.death.Death.{Death}
+use Rattle.xa_words.specs.declared.death.Death.TheVariants as death
 use Rattle.xa_desk.specs.DeskView.{DeskView}
 use Rattle.xa_crew.specs.declared.client_job.Attended.{Attended}
 use Rattle.xa_driver.specs.declared.done.Ending.{Ending}
 use Rattle.xa_log.specs.Log.{LogState}
 use Rattle.xa_atomicity.specs.Outcomes.{is_heuristic, is_in_doubt}
-use Rattle.xa_bank.specs.declared.dying.Point.{Point}
-use Rattle.xa_bank.specs.declared.dying.Point.TheVariants as point
 use Rattle.xa_bank.specs.declared.habits.Habits.{Habits}
 use Rattle.xa_bank.specs.declared.teller.TransferOutcome.{TransferOutcome}
 use Rattle.xa_bank.specs.declared.teller.TransferOutcome.TheVariants.{Decided, Died, Refused, Undecided}
 use Rattle.xa_bank.specs.declared.teller.Teller.{Teller}
 use Rattle.xa_bank.specs.declared.teller.Transfer.{Transfer}
-use Rattle.xa_bank.specs.Deaths.{endings_in}
 use Rattle.xa_bank.specs.Transfers.{LeavesKnown, MakesAll}
 
 -- the habits of a teller that counts from 0, lives, and keeps its records
@@ -62,17 +61,17 @@ pub record Works {L : Type 0} (state : L → LogState) (knows : L → Type 0) (t
 
 -- Nothing is in doubt of a transfer with which the teller died: no branch had heard of the decision, so that none is
 -- committed; or it was known how each ended, and none was decided by its store itself.
-abbrev pub IsClearAt : Point → List Ending → Type 0
-IsClearAt point.Asking endings = Unit {0}
-IsClearAt point.Voted endings = Unit {0}
-IsClearAt point.Decided endings = Unit {0}
-IsClearAt point.Telling endings = ⊥
-IsClearAt point.Told endings = (list_any is_in_doubt endings ≡ false) × (list_any is_heuristic endings ≡ false)
+abbrev pub IsClearAt : Death → List Ending → Type 0
+IsClearAt (death.Preparing k) endings = Unit {0}
+IsClearAt death.Prepared endings = Unit {0}
+IsClearAt death.Decided endings = Unit {0}
+IsClearAt (death.Telling k) endings = ⊥
+IsClearAt death.Told endings = (list_any is_in_doubt endings ≡ false) × (list_any is_heuristic endings ≡ false)
 
 -- no branch of the transfer is in doubt, or none was told a decision, so that none is committed
 abbrev pub IsUndoubted : TransferOutcome → Type 0
 IsUndoubted (Decided done) = list_any is_in_doubt done.endings.items ≡ false
-IsUndoubted (Died at known) = IsClearAt at (endings_in known)
+IsUndoubted (Died at known) = IsClearAt at known.endings.items
 IsUndoubted (Undecided votes) = Unit {0}
 IsUndoubted Refused = Unit {0}
 

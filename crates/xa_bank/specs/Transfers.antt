@@ -9,6 +9,7 @@ use Rattle.xa_words.specs.Xid.{XidName}
 use Rattle.xa_words.specs.Tran.{TranName, tran_of}
 use Rattle.xa_words.specs.declared.code.Code.{Code}
 use Rattle.xa_words.specs.declared.code.Code.TheVariants.{Done as Ok_}
+use Rattle.xa_words.specs.declared.death.Death.{Death}
 use Rattle.xa_words.specs.declared.request.Op.{Op}
 use Rattle.xa_words.specs.declared.request.Op.TheVariants.{OpenRm, Start, Add, End}
 use Rattle.xa_words.specs.declared.request.StartHow.TheVariants.{Fresh}
@@ -19,12 +20,12 @@ use Rattle.xa_desk.specs.DeskView.{DeskView, IsKnown, ledger, outstanding, room_
 use Rattle.xa_driver.specs.declared.branch.Branch.{Branch}
 use Rattle.xa_driver.specs.declared.done.Done.{Done}
 use Rattle.xa_driver.specs.Commits.{is_commit}
+use Rattle.xa_driver.specs.Deaths.{is_decided_by}
 use Rattle.xa_driver.specs.Forgetful.{is_acknowledged}
 use Rattle.xa_driver.specs.Stages.{HasVoted}
 use Rattle.xa_log.specs.Log.{LogState, without_record}
 use Rattle.xa_driver.specs.Trace.{IsCommit, MayCommit, wants_record}
-use Rattle.xa_bank.specs.Deaths.{Dies, is_decided_by, point_at}
-use Rattle.xa_bank.specs.declared.dying.Point.{Point}
+use Rattle.xa_bank.specs.Deaths.{IsDeath, death_in}
 use Rattle.xa_bank.specs.declared.habits.Habits.{Habits}
 use Rattle.xa_bank.specs.declared.teller.Leg.{Leg}
 use Rattle.xa_bank.specs.declared.teller.Transfer.{Transfer}
@@ -101,22 +102,22 @@ pub record HaveWorked (one two : Leg) (k : List ℕ) (old new : List LedgerView)
   pub others : (m : ℕ) → 1 ≤ m → m ≢ one.branch.m → m ≢ two.branch.m → ledger new m ≡ ledger old m
 
 -- a teller that is to die at this point of a commit, or at none, comes to the decision
-abbrev pub comes_to_decide : Option Point → Bool
+abbrev pub comes_to_decide : Option Death → Bool
 comes_to_decide None = true
 comes_to_decide (Some at) = is_decided_by at
 
 -- What comes of a commit of these branches, at a point of which the teller is to die, or at none: it was made, and
 -- decided so; or the teller died there; or all votes wanted a record, nobody knows whether the log has it, and so the
 -- branches were told nothing.
-pub data ComesOfCommit (bs : List Branch) (point : Option Point) (o : TransferOutcome) (desk : DeskView)
+pub data ComesOfCommit (bs : List Branch) (death : Option Death) (o : TransferOutcome) (desk : DeskView)
     (new : List LedgerView) (log later : LogState) : Type 0 where
-  in_full : (done : Done) → point ≡ None → o ≡ Decided done → IsCommit bs desk new log later done
-      → ComesOfCommit bs point o desk new log later
-  cut_short : (at : Point) (known : Option Done) → point ≡ Some at → o ≡ Died at known
-      → Dies at bs known desk new log later → ComesOfCommit bs point o desk new log later
-  undecided : (votes : Vec Code Global) → comes_to_decide point ≡ true → o ≡ Undecided votes → MayCommit desk log bs
+  in_full : (done : Done) → death ≡ None → o ≡ Decided done → IsCommit bs desk new log later done
+      → ComesOfCommit bs death o desk new log later
+  cut_short : (at : Death) (known : Done) → death ≡ Some at → o ≡ Died at known
+      → IsDeath at bs desk new log later known → ComesOfCommit bs death o desk new log later
+  undecided : (votes : Vec Code Global) → comes_to_decide death ≡ true → o ≡ Undecided votes → MayCommit desk log bs
       → HasVoted bs desk.ledgers new votes.items → wants_record votes.items ≡ true
-      → ComesOfCommit bs point o desk new log later
+      → ComesOfCommit bs death o desk new log later
 
 -- Whether a log is known, after a transfer that came to this of which it was known before: unless it has lost the
 -- record.
@@ -150,13 +151,13 @@ pub record IsGivenUp (one two : Leg) (k : List ℕ) (old new : DeskView) : Type 
 
 -- What comes of two legs: both worked, and a commit of both branches came to this; or the transfer is refused for a
 -- reason, and only requests for its branches were sent, no Commit among them.
-pub data Transfers (one two : Leg) (k : List ℕ) (point : Option Point) (o : TransferOutcome) (old new : DeskView)
+pub data Transfers (one two : Leg) (k : List ℕ) (death : Option Death) (o : TransferOutcome) (old new : DeskView)
     (log later : LogState) : Type 0 where
   commits : (worked : DeskView) → HaveWorked one two k old.ledgers worked.ledgers
-      → ComesOfCommit (one.branch ∷ two.branch ∷ []) point o worked new.ledgers log later
-      → Transfers one two k point o old new log later
+      → ComesOfCommit (one.branch ∷ two.branch ∷ []) death o worked new.ledgers log later
+      → Transfers one two k death o old new log later
   refused : o ≡ Refused → later ≡ log → IsRefused one two k old new log
-      → HaveSent (IsFor one two) old.ledgers new.ledgers → Transfers one two k point o old new log later
+      → HaveSent (IsFor one two) old.ledgers new.ledgers → Transfers one two k death o old new log later
 
 -- the log, once the record of a transaction that came to this is forgotten, where every store has acknowledged it
 abbrev pub forgotten : TranName → TransferOutcome → LogState → LogState
@@ -168,7 +169,7 @@ forgotten tran o log = log
 pub data Makes (t n : ℕ) (tr : Transfer) (habits : Habits) (o : TransferOutcome) (old new : DeskView)
     (log later : LogState) : Type 0 where
   with_legs : (one two : Leg) (left : LogState) → AreLegs t n tr one two
-      → Transfers one two tr.account (point_at habits.death n) o old new log left
+      → Transfers one two tr.account (death_in habits n) o old new log left
       → later ≡ (if habits.forgets then forgotten (tran_of one.branch.xid) o left else left)
       → Makes t n tr habits o old new log later
   without_legs : o ≡ Refused → HasNoLegs n tr → new ≡ old → later ≡ log → Makes t n tr habits o old new log later

@@ -24,9 +24,9 @@ pub type Day<L> = Run<Teller<L>>;
 /// what they have come to. The teller at place t has thread t + 1.
 ///
 /// No money is lost or made: where no teller wanted memory and no branch of a transfer is in doubt, all
-/// accounts are together worth what the plan declares. That is so also where tellers died, but for one that had told
-/// one store and not the other, and where a log has lost a record. What such a teller left is resolved by its log in
-/// the next opening.
+/// accounts are together worth what the plan declares. That is so also where tellers died, but for one that was telling
+/// the stores its decision, and where a log has lost a record. What such a teller left is resolved by its log in the
+/// next opening.
 ///
 /// The faults are those of the crew: `BadPlan` where the plan can't be opened, `NoMemory`, and `Unsettled` with what
 /// the tellers and the stores have come to.

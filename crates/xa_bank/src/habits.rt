@@ -1,7 +1,17 @@
 //! How a teller goes about its transfers.
 ghost use Rattle.std.specs.Prelude.{◌≡◌, false, None};
+ghost use Rattle.xa_bank.specs.Deaths.{death_in};
 
-use crate::dying::Death;
+use xa_words::Death;
+
+/// The death that a teller is to die. Where its transfer of that number comes to no commit, it lives on.
+#[derive(Clone, Copy, Debug, PartialEq, Eq)]
+pub struct DiesAt {
+    /// The number of the transfer: its place among the teller's, where these are counted from 0.
+    pub number: usize,
+    /// The point of its commit.
+    pub death: Death,
+}
 
 /// How a teller goes about its transfers.
 #[derive(Clone, Copy, Debug, PartialEq, Eq)]
@@ -9,7 +19,7 @@ pub struct Habits {
     /// The number of its first transfer. The others follow it.
     pub first: u32,
     /// The death that it is to die, if any.
-    pub death: Option<Death>,
+    pub death: Option<DiesAt>,
     /// Whether it forgets the record of a transfer that every store has acknowledged.
     pub forgets: bool,
 }
@@ -23,6 +33,16 @@ impl Habits {
             first: 0,
             death: None,
             forgets: false,
+        }
+    }
+
+    /// The death that the teller dies in its transfer of this number, if it dies there.
+    pub(crate) fn death_in(&self, number: usize) -> Option<Death>
+        ensures { result ≡ death_in self.now number }
+    {
+        match self.death {
+            Some(dies) if dies.number == number => Some(dies.death),
+            _ => None,
         }
     }
 }

@@ -12,8 +12,7 @@ ghost use Rattle.xa_desk.specs.GoesOn.{GoesOn};
 ghost use Rattle.xa_desk.specs.Kept.{AllKept};
 ghost use Rattle.xa_driver.specs.Trace.{MayCommit};
 
-use crate::dying::{Death, Point, die, point_at};
-use crate::habits::Habits;
+use crate::habits::{DiesAt, Habits};
 use crate::in_flight::work_in_flight;
 use crate::in_turn::work_in_turn;
 use std::alloc::{AllocError, Global};
@@ -23,11 +22,12 @@ use xa_crew::laws::idles_go_on;
 use xa_desk::laws::desks_go_on;
 use xa_desk::{Desk, Idle};
 use xa_driver::{
-    Branch, CommitFault, Done, DriverFault, commit_all, forget_acknowledged, may_commit,
+    Branch, CommitFault, Done, DriverFault, commit_all, commit_until, forget_acknowledged,
+    may_commit,
 };
 use xa_log::{DecisionLog, MemoryLog};
 use xa_switch::xa_call;
-use xa_words::{Call, Code, Delta, EndHow, Key, Op, TMFAIL, TMNOFLAGS, Tran, Xid};
+use xa_words::{Call, Code, Death, Delta, EndHow, Key, Op, TMFAIL, TMNOFLAGS, Tran, Xid};
 
 /// An amount that goes from an account at one store to the account of that name at another.
 #[derive(Clone, Copy, Debug, PartialEq, Eq)]
@@ -45,9 +45,9 @@ pub struct Transfer {
 pub enum TransferOutcome {
     /// The work for both branches answered XA_OK, and `commit_all` came to this. A store may have voted against it.
     Decided(Done),
-    /// The work for both branches answered XA_OK, and the teller died at this point of their commit. What was known of
-    /// it then, and nothing before all had voted: what is left is resolved by the teller's log.
-    Died { at: Point, known: Option<Done> },
+    /// The work for both branches answered XA_OK, and the teller died at this point of their commit, when this was
+    /// known of it. What is left is resolved by the teller's log.
+    Died { at: Death, known: Done },
     /// The work for both branches answered XA_OK, and so did their Prepares, or one only read; and nobody knows whether
     /// the teller's log has the record of it. No store was told a decision: what is left is resolved by the log, once
     /// it is opened again. With the votes, in the order of the branches.
@@ -235,7 +235,7 @@ fn commit<R: Wait, L: DecisionLog, I: Idle>(
     desk: &mut Desk,
     log: &mut L,
     branches: &[Branch],
-    point: Option<Point>,
+    death: Option<Death>,
     idle: &mut I,
 ) -> Result<TransferOutcome, DriverFault>
     requires may { MayCommit desk.old (L.state log.old) branches.now }
@@ -243,7 +243,7 @@ fn commit<R: Wait, L: DecisionLog, I: Idle>(
     ensures goes_on { GoesOn desk.old desk.new }
     ensures kept { AllKept desk.old → AllKept desk.new }
     ensures idled { I.leads idle.old idle.new }
-    ensures comes { IfOk result (λ o. ComesOfCommit branches.now point o desk.old desk.new.ledgers (L.state log.old)
+    ensures comes { IfOk result (λ o. ComesOfCommit branches.now death o desk.old desk.new.ledgers (L.state log.old)
         (L.state log.new)) }
     ensures known { IfOk result (LeavesKnown (L.knows log.new)) }
     ensures unsent { OnErr result (desk.new ≡ desk.old) }
@@ -251,13 +251,13 @@ fn commit<R: Wait, L: DecisionLog, I: Idle>(
 {
     desks_go_on();
     idles_go_on::<I>();
-    match point {
+    match death {
         None => match commit_all(rt, alloc, desk, log, branches, idle) {
             Ok(done) => Ok(TransferOutcome::Decided(done)),
             Err(CommitFault::NoMemory) => Err(DriverFault::NoMemory),
             Err(CommitFault::Undecided(votes)) => Ok(TransferOutcome::Undecided(votes)),
         },
-        Some(at) => match die(rt, alloc, desk, log, branches, at, idle) {
+        Some(at) => match commit_until(rt, alloc, desk, log, branches, at, idle) {
             Ok(known) => Ok(TransferOutcome::Died { at, known }),
             Err(CommitFault::NoMemory) => Err(DriverFault::NoMemory),
             Err(CommitFault::Undecided(votes)) => Ok(TransferOutcome::Undecided(votes)),
@@ -275,14 +275,14 @@ fn carry_out<R: Wait, L: DecisionLog, I: Idle>(
     one: &Leg,
     two: &Leg,
     account: Key,
-    point: Option<Point>,
+    death: Option<Death>,
     idle: &mut I,
 ) -> Result<TransferOutcome, AllocError>
     requires { L.knows log.old }
     ensures goes_on { GoesOn desk.old desk.new }
     ensures kept { AllKept desk.old → AllKept desk.new }
     ensures idled { I.leads idle.old idle.new }
-    ensures carried { IfOk result (λ o. Transfers one.now two.now account point o desk.old desk.new (L.state log.old)
+    ensures carried { IfOk result (λ o. Transfers one.now two.now account death o desk.old desk.new (L.state log.old)
         (L.state log.new)) }
     ensures known { IfOk result (LeavesKnown (L.knows log.new)) }
     ensures wants { OnErr result (IsGivenUp one.now two.now account desk.old desk.new) }
@@ -299,7 +299,7 @@ fn carry_out<R: Wait, L: DecisionLog, I: Idle>(
         give_up(rt, desk, one, two, idle);
         return Ok(TransferOutcome::Refused);
     }
-    let Ok(outcome) = commit(rt, alloc, desk, log, &branches, point, idle) else {
+    let Ok(outcome) = commit(rt, alloc, desk, log, &branches, death, idle) else {
         give_up(rt, desk, one, two, idle);
         return Err(AllocError);
     };
@@ -358,8 +358,8 @@ fn make<R: Wait, L: DecisionLog, I: Idle>(
         return Ok(TransferOutcome::Refused);
     };
     let account = transfer.account;
-    let point = point_at(habits.death, number);
-    let outcome = carry_out(rt, alloc, desk, log, &one, &two, account, point, idle)?;
+    let death = habits.death_in(number);
+    let outcome = carry_out(rt, alloc, desk, log, &one, &two, account, death, idle)?;
     if !habits.forgets {
         return Ok(outcome);
     }
@@ -444,7 +444,7 @@ impl<L: DecisionLog + Drop> Teller<L> {
     }
 
     /// The same teller, to die this death.
-    pub fn dying(mut self, death: Death) -> Teller<L>
+    pub fn dying(mut self, death: DiesAt) -> Teller<L>
         ensures { result ≡ record self { habits = record self.habits { death = Some death } } }
     {
         self.habits.death = Some(death);

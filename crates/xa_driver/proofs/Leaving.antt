@@ -4,6 +4,7 @@ use Rattle.std.proofs.Common.{◌≡◌, ℕ, ◌==◌, ◌||◌, ◌≤◌, inl
 use Rattle.std.proofs.Common.{subst, arith, length-append}
 use Rattle.std.specs.FinMap as map
 use Rattle.std.proofs.lemmas.Bool.{eqb-false, eqb-true}
+use Rattle.xa_base.proofs.Lists.{some_same}
 use Rattle.xa_base.proofs.Maps.{inserted_other, inserted_there}
 use Rattle.xa_words.specs.declared.request.Op.{Op}
 use Rattle.xa_desk.specs.declared.operation.Operation.{Operation}
@@ -72,6 +73,10 @@ lists_kept : (d d' : DeskView) (r : Option TicketView) → Keeps d d' r → d'.l
 lists_kept d d' None same = ap (λ (e : DeskView). e.ledgers) same
 lists_kept d d' (Some t) (n, (free, is)) = ap (λ (e : DeskView). e.ledgers) is
 
+events_kept : (d d' : DeskView) (r : Option TicketView) → Keeps d d' r → d'.events ≡ d.events
+events_kept d d' None same = ap (λ (e : DeskView). e.events) same
+events_kept d d' (Some t) (n, (free, is)) = ap (λ (e : DeskView). e.events) is
+
 pub kept_one_more : (d d' : DeskView) (r : Option TicketView) (rs : List (Option TicketView)) → AllKeptBut (r ∷ rs) d → Keeps d d' r → AllKeptBut rs d'
 kept_one_more d d' None rs but same = subst (AllKeptBut rs) (sym same) but
 kept_one_more d d' (Some t) rs but (n, (free, is)) = λ o out.
@@ -97,13 +102,27 @@ pub last_more : (r : Option TicketView) (rs all : List (Option TicketView)) → 
 last_more r rs all last o among = last o (among_more o r rs among)
 
 pub nothing_left : (rs : List (Option TicketView)) (d : DeskView) → LeavesInFlight rs d d
-nothing_left rs d = record { lists = refl; stays = λ k o is. is; others = λ t owned other. owned }
+nothing_left rs d =
+    record { lists = refl; events = refl; stays = λ k o is. is; only = λ k o is. inl is; others = λ t owned other. owned }
 
 kept_stays : (d d' : DeskView) (r : Option TicketView) → Keeps d d' r → LeavesKept d d'
 kept_stays d d' None same k o is = ap (λ (e : DeskView). map.get e.kept k) same ∙ is
 kept_stays d d' (Some t) (n, (free, made)) k o is =
     ap (λ (e : DeskView). map.get e.kept k) made
     ∙ inserted_other d.kept n t.operation k (λ same. let no : None ≡ Some o = sym free ∙ ap (map.get d.kept) (sym same) ∙ is in cc) ∙ is
+
+-- nothing else is
+kept_only : (d d' : DeskView) (r : Option TicketView) (rs : List (Option TicketView)) → Keeps d d' r → (k : ℕ) (o : Operation)
+    → map.get d'.kept k ≡ Some o → (map.get d.kept k ≡ Some o) ⊎ IsAmong o (r ∷ rs)
+kept_only d d' None rs same k o is = inl (ap (λ (e : DeskView). map.get e.kept k) (sym same) ∙ is)
+kept_only d d' (Some t) rs (n, (free, made)) k o is =
+    let got : map.get (map.insert d.kept n t.operation) k ≡ Some o = ap (λ (e : DeskView). map.get e.kept k) (sym made) ∙ is in
+    elim (k == n) as (λ b. (k == n) ≡ b → (map.get d.kept k ≡ Some o) ⊎ IsAmong o (Some t ∷ rs)) [
+      | true ↦ λ e.
+          let same : k ≡ n = eqb-true k n e in
+          inr (inl (some_same t.operation o (sym (inserted_there d.kept n t.operation) ∙ ap (map.get (map.insert d.kept n t.operation)) (sym same) ∙ got)))
+      | false ↦ λ e. inl (sym (inserted_other d.kept n t.operation k (eqb-false k n e)) ∙ got)
+    ] refl
 
 other_owned : (d d' : DeskView) (r : Option TicketView) (rs all : List (Option TicketView)) → IsLast (r ∷ rs) all → LeavesOwned d d' r
     → LeavesOtherTickets all d d'
@@ -114,7 +133,10 @@ pub left_more : (all : List (Option TicketView)) (d0 d d' : DeskView) (r : Optio
     → LeavesInFlight all d0 d → Keeps d d' r → LeavesOwned d d' r → LeavesInFlight all d0 d'
 left_more all d0 d d' r rs last left kept owned = record {
   lists = lists_kept d d' r kept ∙ left.lists;
+  events = events_kept d d' r kept ∙ left.events;
   stays = λ k o is. kept_stays d d' r kept k o (left.stays k o is);
+  only = λ k o is.
+      ⊎_elim (λ (before : map.get d.kept k ≡ Some o). left.only k o before) (λ (among : IsAmong o (r ∷ rs)). inr (last o among)) (kept_only d d' r rs kept k o is);
   others = λ t mine other. other_owned d d' r rs all last owned t (left.others t mine other) other;
 }
 

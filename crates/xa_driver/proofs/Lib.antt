@@ -17,3 +17,6 @@ pub mod OneCall
 pub mod Idling
 pub mod InTurn
 pub mod Passing
+pub mod Firsts
+pub mod AtDeath
+pub mod Undecided

@@ -15,7 +15,8 @@ use Rattle.xa_driver.specs.declared.ask.Ask.{Ask}
 use Rattle.xa_driver.specs.declared.round.Round.{Round}
 use Rattle.xa_driver.specs.Asks.{BeginsAsk, EachBegan, Ends, IsUnsent, SameAsks}
 use Rattle.xa_driver.specs.UnderWay.{Collects, IsSent, IsUnderWay, Sends, Stays, sent_count}
-use Rattle.xa_driver.specs.Order.{sendings, collections, round_of, goes_out, sent_of, operations_of, SendsMore, CollectsFirst, SendsThenCollects, GoesAsRound}
+use Rattle.xa_driver.specs.Order.{sendings, collections, round_of, goes_out, sent_of, operations_of, SendsMore, CollectsFirst, SendsThenCollects, GoesAsFar}
+use Rattle.xa_driver.specs.Order.{GoesAsRound}
 use Rattle.xa_driver.proofs.Stepping.{as_many}
 
 -- ---- what has a ticket
@@ -137,7 +138,7 @@ same_sent (j ∷ js) (k ∷ ks) at (one, same) =
 
 -- ---- a round that is finished
 
-no_elements : {A : Type 0} (l : List A) → length l ≤ 0 → l ≡ []
+pub no_elements : {A : Type 0} (l : List A) → length l ≤ 0 → l ≡ []
 no_elements [] few = refl
 no_elements (x ∷ l) few = absurd (omega (arith, few))
 
@@ -183,6 +184,27 @@ finished_in_order first sent last old mid new sends same before under_way all co
       all = sym sends.tickets ∙ all_in_flight sent mid under_way all
           ∙ ap₂ (λ n l. sent_of (drop n l) sent.before.value.ledgers) same.1 (ap (λ v. v.items) same.0)
           ∙ ap (λ b. sent_of (drop first.collected first.asks.items) b.value.ledgers) before;
+    }
+
+-- a round that was sent whole, and of which the first were collected
+pub far_in_order : (first sent last : Round) (old mid new : DeskView) → SendsMore first.tickets.items sent.tickets.items old mid
+    → (sent.asks ≡ first.asks) × (sent.collected ≡ first.collected) → sent.before ≡ first.before → IsUnderWay sent mid → IsSent sent
+    → sent_count first ≡ 0 → CollectsFirst sent.tickets.items last.tickets.items mid new → GoesAsFar first.asks.items first.before.value.ledgers old new
+far_in_order first sent last old mid new sends same before under_way all none collects =
+    let no_tickets : first.tickets.items ≡ [] = no_elements first.tickets.items (omega (arith, none)) in
+    let none_collected : first.collected ≡ 0 = omega (arith, none) in
+    let more : sends.more ≡ operations_of sent.tickets.items =
+    sym (sends.tickets ∙ ap (λ l. operations_of l ++ sends.more) no_tickets) in
+    record {
+      first = collects.first;
+      rest = operations_of last.tickets.items;
+      all = sym (all_in_flight sent mid under_way all
+          ∙ ap₂ (λ n l. sent_of (drop n l) sent.before.value.ledgers) (same.1 ∙ none_collected) (ap (λ v. v.items) same.0)
+          ∙ ap (λ b. sent_of first.asks.items b.value.ledgers) before)
+          ∙ collects.tickets;
+      events =
+          collects.events ∙ ap (λ l. l ++ collections collects.first) sends.events ∙ append_assoc old.events (sendings sends.more) (collections collects.first)
+          ∙ ap (λ l. old.events ++ (sendings l ++ collections collects.first)) (more ∙ collects.tickets);
     }
 
 -- of a round of which nothing was sent, that is all of it

@@ -12,3 +12,4 @@ pub mod Resolving
 pub mod Idling
 pub mod Steps
 pub mod Commits
+pub mod Deaths

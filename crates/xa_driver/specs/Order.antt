@@ -61,6 +61,13 @@ pub record SendsThenCollects (r : Round) (old new : DeskView) : Type 0 where
   pub events : new.events ≡ old.events ++ (sendings more ++ collections (operations_of r.tickets.items ++ more))
   pub all : operations_of r.tickets.items ++ more ≡ sent_of (drop r.collected r.asks.items) r.before.value.ledgers
 
+-- Of a round's requests all that go out were sent, and only then was any collected: the first of them, or none.
+pub record GoesAsFar (ks : List Ask) (at : List LedgerView) (old new : DeskView) : Type 0 where
+  pub first : List Operation
+  pub rest : List Operation
+  pub all : sent_of ks at ≡ first ++ rest
+  pub events : new.events ≡ old.events ++ (sendings (first ++ rest) ++ collections first)
+
 -- ---- whole rounds
 
 -- The requests of a round that go out were all sent, and only then was any collected.

@@ -1,5 +1,5 @@
 -- The stages of a commit: what each has, and when the next may be done.
-use Rattle.std.specs.Prelude.{◌≡◌, ◌≤◌, false, List, [], length, map, vec_capacity}
+use Rattle.std.specs.Prelude.{◌≡◌, ◌≤◌, false, List, [], length, map, take, vec_capacity}
 use Rattle.xa_desk.specs.LedgerView.{LedgerView}
 use Rattle.xa_desk.specs.DeskView.{DeskView}
 use Rattle.xa_driver.specs.declared.ask.Ask.{Ask}
@@ -48,6 +48,13 @@ pub record IsPreparing (bs : List Branch) (desk : DeskView) (p : Preparing) : Ty
   pub votes : HasRoomForVotes p.round p.known
   pub endings : HasRoomForEndings p.round p.known
   pub undecided : IsUndecided p.known
+
+-- the votes that were collected so far are known, and nothing else became known
+pub record KnowsVotesSoFar (p : Preparing) (known : Done) : Type 0 where
+  pub votes : known.votes.items ≡ map code_of (take p.round.collected p.round.asks.items)
+  pub commit : known.commit ≡ p.known.commit
+  pub logged : known.logged ≡ p.known.logged
+  pub endings : known.endings ≡ p.known.endings
 
 -- each branch was asked to prepare, and answered
 pub record HasPrepared (bs : List Branch) (old new : List LedgerView) (p : Prepared) : Type 0 where

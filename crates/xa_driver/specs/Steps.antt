@@ -1,5 +1,6 @@
 -- The steps of a round: each is one request, and branches that are asked nothing are passed over.
-use Rattle.std.specs.Prelude.{◌≡◌, ℕ, Bool, true, false, Option, None, Some, List, [], ◌∷◌, is_none, MatchOption}
+use Rattle.std.specs.Prelude.{◌≡◌, ℕ, suc, Bool, true, false, if◌then◌else◌, Option, None, Some, List, []}
+use Rattle.std.specs.Prelude.{◌∷◌, is_none, MatchOption}
 use Rattle.std.specs.List.{slice_get}
 use Rattle.xa_desk.specs.DeskView.{DeskView, TicketView}
 use Rattle.xa_driver.specs.declared.ask.Ask.{Ask}
@@ -19,6 +20,11 @@ asked_first (t ∷ ts) r = slice_get r.asks.items r.collected
 
 abbrev pub next_collected : Round → Option Ask
 next_collected r = asked_first r.tickets.items r
+
+-- how many of these are asked anything
+abbrev pub asked_in : List Ask → ℕ
+asked_in [] = 0
+asked_in (k ∷ ks) = if is_none k.op then asked_in ks else suc (asked_in ks)
 
 -- From one round to the other those were passed over that came next and are asked nothing, each by this step.
 pub data Passes (step : Ask → Round → Round → Type 0) (old : Round) : Round → Type 0 where

@@ -141,5 +141,7 @@ AllKeptBut rs d = (o : Operation) → IsOut d.ledgers o → ((k : ℕ) × (map.g
 -- The operations of these tickets were kept under handles that were free, and nothing else was done.
 pub record LeavesInFlight (rs : List (Option TicketView)) (old new : DeskView) : Type 0 where
   pub lists : new.ledgers ≡ old.ledgers
+  pub events : new.events ≡ old.events
   pub stays : LeavesKept old new
+  pub only : (k : ℕ) (o : Operation) → map.get new.kept k ≡ Some o → (map.get old.kept k ≡ Some o) ⊎ IsAmong o rs
   pub others : LeavesOtherTickets rs old new

@@ -1,15 +1,17 @@
 //! A round of requests to several managers, request by request.
 ghost use Rattle.std.specs.Prelude.{◌≡◌, ◌+◌, ◌≤◌, ◌↔◌, List, [], length, true, false, IfOk, IsTrue, MatchOption};
+ghost use Rattle.std.specs.Prelude.{min, take};
 ghost use Rattle.xa_desk.specs.DeskView.{DeskView, outstanding};
 ghost use Rattle.xa_desk.specs.GoesOn.{GoesOn};
 ghost use Rattle.xa_desk.specs.Kept.{AllKept};
 ghost use Rattle.xa_driver.specs.declared.ask.Ask.{Ask};
 ghost use Rattle.xa_driver.specs.Asks.{AllCanAsk, AreRising, Asks, KeepsTheRest, SameAsks, among_asks};
 ghost use Rattle.xa_driver.specs.Idling.{IdlesAt, IdlesToCollect, IdlesToSend};
-ghost use Rattle.xa_driver.specs.Steps.{CollectsNext, SendsNext, is_passed, next_collected};
-ghost use Rattle.xa_driver.specs.Order.{CollectsFirst, SendsMore, SendsThenCollects};
+ghost use Rattle.xa_driver.specs.Steps.{CollectsNext, SendsNext, asked_in, is_passed, next_collected};
+ghost use Rattle.xa_driver.specs.Order.{CollectsFirst, GoesAsFar, SendsMore, SendsThenCollects};
 ghost use Rattle.xa_driver.specs.UnderWay.{AllKeptBut, Begins, Collects, IsAtRest, IsCollected, IsSent, IsUnderWay};
 ghost use Rattle.xa_driver.specs.UnderWay.{LeavesInFlight, MayAsk, OwnsAll, Sends, Stays, next_ask, next_ticket};
+ghost use Rattle.xa_driver.specs.UnderWay.{sent_count};
 
 use crate::ask::{Ask, begin, end, keep};
 use std::alloc::{AllocError, Global};
@@ -223,6 +225,55 @@ impl Round {
         for _place in 0..self.asks.len() {
             self.collect_place(rt, desk, idle);
         }
+    }
+
+    // Collects the answers to the first so many requests, or to all where there are fewer.
+    fn collect_first<R: Wait, I: Idle>(&mut self, rt: &R, desk: &mut Desk, count: u32, idle: &mut I)
+        requires under_way { IsUnderWay self.old desk.old }
+        requires all { IsSent self.old }
+        requires none { self.old.collected ≡ 0 }
+        ensures under_way { IsUnderWay self.new desk.new }
+        ensures all { IsSent self.new }
+        ensures first { asked_in (take self.new.collected self.new.asks.items)
+            ≡ min count (asked_in self.new.asks.items) }
+        ensures before { self.new.before ≡ self.old.before }
+        ensures same { (js : List Ask) → SameAsks js self.old.asks.items → SameAsks js self.new.asks.items }
+        ensures waited { IdlesAt I.leads_by (among_asks self.old.asks.items) idle.old idle.new }
+        ensures ordered { CollectsFirst self.old.tickets.items self.new.tickets.items desk.old desk.new }
+        ensures idled { I.leads idle.old idle.new }
+    {
+        let mut left = count;
+        'answers: while left > 0 && !self.tickets.is_empty() {
+            if !self.is_unasked() {
+                left -= 1;
+            }
+            self.collect_place(rt, desk, idle);
+        }
+    }
+
+    /// Sends the whole round, and then collects the answers to the first so many requests, or to all where there are
+    /// fewer. A branch that is asked nothing doesn't count.
+    pub(crate) fn begin_to_collect<R: Wait, I: Idle>(
+        &mut self,
+        rt: &R,
+        desk: &mut Desk,
+        count: u32,
+        idle: &mut I,
+    )
+        requires under_way { IsUnderWay self.old desk.old }
+        requires none { sent_count self.old ≡ 0 }
+        ensures under_way { IsUnderWay self.new desk.new }
+        ensures all { IsSent self.new }
+        ensures first { asked_in (take self.new.collected self.new.asks.items)
+            ≡ min count (asked_in self.new.asks.items) }
+        ensures before { self.new.before ≡ self.old.before }
+        ensures same { (js : List Ask) → SameAsks js self.old.asks.items → SameAsks js self.new.asks.items }
+        ensures waited { IdlesAt I.leads_by (among_asks self.old.asks.items) idle.old idle.new }
+        ensures ordered { GoesAsFar self.old.asks.items self.old.before.value.ledgers desk.old desk.new }
+        ensures idled { I.leads idle.old idle.new }
+    {
+        self.send_all(rt, desk, idle);
+        self.collect_first(rt, desk, count, idle);
     }
 
     /// Sends all that isn't sent, and then collects all that is in flight.

@@ -15,7 +15,8 @@ ghost use Rattle.xa_log.specs.Log.{record_of};
 ghost use Rattle.xa_driver.specs.Order.{GoesAsRound, SendsThenCollects};
 ghost use Rattle.xa_driver.specs.Rounds.{first_ask, second_ask, third_ask};
 ghost use Rattle.xa_driver.specs.Stages.{HasDecided, HasForgotten, HasPrepared, HasRoomForEndings, HasRoomForVotes};
-ghost use Rattle.xa_driver.specs.Stages.{HasTold, IsForgetting, IsPreparing, IsTelling, MayForget, MayTell};
+ghost use Rattle.xa_driver.specs.Stages.{HasTold, IsForgetting, IsPreparing, IsTelling, KnowsVotesSoFar, MayForget};
+ghost use Rattle.xa_driver.specs.Stages.{MayTell};
 ghost use Rattle.xa_driver.specs.Rounds.{yes_asked};
 ghost use Rattle.xa_driver.specs.Trace.{AppendsOnce, IsUnknown, Logs, MayCommit, decision_of, has_branch_at};
 ghost use Rattle.xa_driver.specs.UnderWay.{IsAtRest, IsUnderWay, LeavesInFlight, sent_count};
@@ -159,10 +160,12 @@ impl Preparing {
         Prepared { round, tran, known }
     }
 
-    /// Leaves the commit, as a coordinator does that dies here: what is in flight is kept under handles, and collected
-    /// as the desk ends.
-    pub fn leave(self, desk: &mut Desk)
-        requires { IsUnderWay self.round desk.old }
+    /// Leaves the commit, as a coordinator does that dies here, and tells the votes that were collected. What is in
+    /// flight is kept under handles, and collected as the desk ends.
+    pub fn leave(self, desk: &mut Desk) -> Done
+        requires under_way { IsUnderWay self.round desk.old }
+        requires votes { HasRoomForVotes self.round self.known }
+        ensures known { KnowsVotesSoFar self result }
         ensures left { LeavesInFlight self.round.tickets.items desk.old desk.new }
         ensures goes_on { GoesOn desk.old desk.new }
         ensures kept { AllKept self.round.before.value → AllKept desk.new }
@@ -170,9 +173,11 @@ impl Preparing {
         let Preparing {
             round,
             tran: _,
-            known: _,
+            mut known,
         } = self;
+        read_votes(&round.asks[..round.collected], &mut known.votes);
         round.leave(desk);
+        known
     }
 }
 

@@ -4,6 +4,7 @@ mod crash;
 pub(crate) mod dying;
 mod endings;
 mod forgetful;
+mod known;
 mod meddling;
 mod openings;
 mod pieces;

@@ -1,53 +1,82 @@
 -- The managers of a commit are numbers, one word after another.
-use Rattle.std.specs.Prelude.{◌≡◌, ◌==◌, ℕ, Bool, true, ◌&&◌, ◌||◌, nat_lt, nat_le, if◌then◌else◌, List, [], ◌∷◌, Result, Ok, Err, refl}
+use Rattle.std.specs.Prelude.{◌≡◌, ◌==◌, ℕ, Bool, true, false, ◌&&◌, ◌||◌, nat_lt, nat_le, if◌then◌else◌, List, [], ◌∷◌, Option, Some, None, Result, Ok, Err}
+use Rattle.std.specs.Prelude.{codes, refl}
+use Rattle.std.specs.Str.{bytes_eq}
 use Rattle.std.proofs.Common.{sym, ap, ◌∙◌}
 use Rattle.std.proofs.Math.Bool.{or_assoc}
 use Rattle.std.proofs.lemmas.Bool.{and_parts}
+use Rattle.xa_words.specs.declared.death.Death.{Death}
 use Rattle.xa_words.specs.ManagerSet.{is_in, set_of, with_manager}
 use Rattle.xa_grammar.specs.declared.fault.Reason.{Reason}
 use Rattle.xa_grammar.specs.declared.fault.Reason.TheVariants.{BadBranches}
 use Rattle.xa_grammar.specs.declared.named.Named.{Named}
-use Rattle.xa_grammar.specs.Fields.{◌>>=◌, Word, number_in, number_at, numbers_to_end}
-use Rattle.xa_grammar.specs.Commits.{are_rising, is_named, numbers_at, rising_branches, branches_at, goes_on}
+use Rattle.xa_grammar.specs.Fields.{◌>>=◌, Word, number_in, number_at}
+use Rattle.xa_grammar.specs.Commits.{are_rising, is_named, death_at, managers_to_end, managers_at, rising_branches, branches_at, goes_on}
+
+-- The managers that stand on a line, and where the coordinator dies.
+abbrev pub Named_on : Type 0
+Named_on = List ℕ × Option Death
+
+-- Where the branches are, and where the coordinator dies.
+abbrev pub Branches : Type 0
+Branches = List Bool × Option Death
+
+-- What the managers of a line come to, by what they come to alone.
+abbrev pub with_death : (List ℕ → Result (List Bool) Reason) → Named_on → Result Branches Reason
+with_death f named = f named.0 >>= λ managers. Ok (managers, named.1)
 
 -- A number ahead of others.
-on_top : (r : Result (List ℕ) Reason) (m : ℕ) (f : List ℕ → Result (List Bool) Reason) → ((r >>= λ ms. Ok (m ∷ ms)) >>= f) ≡ (r >>= λ ms. f (m ∷ ms))
-on_top (Ok ms) m f = refl
+on_top : (r : Result Named_on Reason) (m : ℕ) (f : List ℕ → Result (List Bool) Reason)
+    → ((r >>= λ rest. Ok (m ∷ rest.0, rest.1)) >>= with_death f) ≡ (r >>= with_death (λ ms. f (m ∷ ms)))
+on_top (Ok rest) m f = refl
 on_top (Err why) m f = refl
 
 -- What goes on alike comes to the same.
-alike : (r : Result (List ℕ) Reason) (f g : List ℕ → Result (List Bool) Reason) → ((ms : List ℕ) → f ms ≡ g ms) → (r >>= f) ≡ (r >>= g)
-alike (Ok ms) f g same = same ms
+alike : (r : Result Named_on Reason) (f g : List ℕ → Result (List Bool) Reason) → ((ms : List ℕ) → f ms ≡ g ms) → (r >>= with_death f) ≡ (r >>= with_death g)
+alike (Ok rest) f g same = ap (λ r. r >>= λ managers. Ok (managers, rest.1)) (same rest.0)
 alike (Err why) f g same = refl
 
 -- The first word is a number, and the others go on.
 pub first_number : (count : ℕ) (ws rest : List Word) (m : ℕ) (g : List ℕ → Result (List Bool) Reason) → number_at 0 4294967295 ws ≡ Ok (m, rest)
-    → ((ms : List ℕ) → g ms ≡ rising_branches count (m ∷ ms)) → (numbers_to_end 0 4294967295 rest >>= g) ≡ branches_at count ws
-unfolding branches_at numbers_at
+    → ((ms : List ℕ) → g ms ≡ rising_branches count (m ∷ ms)) → (managers_to_end rest >>= with_death g) ≡ branches_at count ws
+unfolding branches_at managers_at
 first_number count ws rest m g e same =
-    rw e (alike (numbers_to_end 0 4294967295 rest) g (λ ms. rising_branches count (m ∷ ms)) same ∙ sym (on_top (numbers_to_end 0 4294967295 rest) m (rising_branches count)))
+    rw e (alike (managers_to_end rest) g (λ ms. rising_branches count (m ∷ ms)) same ∙ sym (on_top (managers_to_end rest) m (rising_branches count)))
 
 -- Or it is a fault.
 pub no_first_number : (count : ℕ) (ws : List Word) (why : Reason) → number_at 0 4294967295 ws ≡ Err why → branches_at count ws ≡ Err why
-unfolding branches_at numbers_at
+unfolding branches_at managers_at
 no_first_number count ws why e = rw e refl
 
 -- The next word is a number, and the others go on.
-pub next_number : (w : Word) (rest : List Word) (m : ℕ) (f g : List ℕ → Result (List Bool) Reason) → number_in 0 4294967295 w ≡ Ok m
-    → ((ms : List ℕ) → g ms ≡ f (m ∷ ms)) → (numbers_to_end 0 4294967295 rest >>= g) ≡ (numbers_to_end 0 4294967295 (w ∷ rest) >>= f)
-unfolding numbers_to_end
-next_number w rest m f g e same =
-    rw e (alike (numbers_to_end 0 4294967295 rest) g (λ ms. f (m ∷ ms)) same ∙ sym (on_top (numbers_to_end 0 4294967295 rest) m f))
+pub next_number : (w : Word) (rest : List Word) (m : ℕ) (f g : List ℕ → Result (List Bool) Reason) → bytes_eq w (codes "dies") ≡ false
+    → number_in 0 4294967295 w ≡ Ok m → ((ms : List ℕ) → g ms ≡ f (m ∷ ms))
+    → (managers_to_end rest >>= with_death g) ≡ (managers_to_end (w ∷ rest) >>= with_death f)
+unfolding managers_to_end
+next_number w rest m f g lives e same =
+    rw (lives, e) (alike (managers_to_end rest) g (λ ms. f (m ∷ ms)) same ∙ sym (on_top (managers_to_end rest) m f))
 
 -- Or it is a fault.
-pub no_next_number : (w : Word) (rest : List Word) (why : Reason) (f : List ℕ → Result (List Bool) Reason) → number_in 0 4294967295 w ≡ Err why
-    → (numbers_to_end 0 4294967295 (w ∷ rest) >>= f) ≡ Err why
-unfolding numbers_to_end
-no_next_number w rest why f e = rw e refl
+pub no_next_number : (w : Word) (rest : List Word) (why : Reason) (f : List ℕ → Result (List Bool) Reason) → bytes_eq w (codes "dies") ≡ false
+    → number_in 0 4294967295 w ≡ Err why → (managers_to_end (w ∷ rest) >>= with_death f) ≡ Err why
+unfolding managers_to_end
+no_next_number w rest why f lives e = rw (lives, e) refl
+
+-- The next word is `dies`, and the point comes after it.
+pub dies_so : (w : Word) (rest : List Word) (death : Death) (f : List ℕ → Result (List Bool) Reason) → bytes_eq w (codes "dies") ≡ true
+    → death_at rest ≡ Ok death → (managers_to_end (w ∷ rest) >>= with_death f) ≡ (f [] >>= λ managers. Ok (managers, Some death))
+unfolding managers_to_end
+dies_so w rest death f dies e = rw (dies, e) refl
+
+-- Or a fault comes after it.
+pub dies_nowhere : (w : Word) (rest : List Word) (why : Reason) (f : List ℕ → Result (List Bool) Reason) → bytes_eq w (codes "dies") ≡ true
+    → death_at rest ≡ Err why → (managers_to_end (w ∷ rest) >>= with_death f) ≡ Err why
+unfolding managers_to_end
+dies_nowhere w rest why f dies e = rw (dies, e) refl
 
 -- No word is left.
-pub no_more_numbers : (f : List ℕ → Result (List Bool) Reason) → (numbers_to_end 0 4294967295 [] >>= f) ≡ f []
-unfolding numbers_to_end
+pub no_more_numbers : (f : List ℕ → Result (List Bool) Reason) → (managers_to_end [] >>= with_death f) ≡ (f [] >>= λ managers. Ok (managers, None))
+unfolding managers_to_end
 no_more_numbers f = refl
 
 -- ---- one more manager

@@ -77,7 +77,7 @@ action_grown xs more (action.Call c) has =
     let (same, still) = call_grown xs more c.call has in
     (ap (λ (q : Calling XidName). action.Call (record { manager = c.manager; call = q; flags = c.flags })) same, still)
 action_grown xs more (action.CommitAll c) has =
-    (ap (λ (g : TranName). action.CommitAll (record { tran = g; managers = c.managers })) (gtrid_grown xs more c.tran has), is_gtrid_grown xs more c.tran has)
+    (ap (λ (g : TranName). action.CommitAll (record { tran = g; managers = c.managers; death = c.death })) (gtrid_grown xs more c.tran has), is_gtrid_grown xs more c.tran has)
 action_grown xs more action.Resolve has = (refl, tt)
 
 step_grown : (xs more : List ℕ) (p : KeptStep) → IsNamed xs p → (step_at (xs ++ more) p ≡ step_at xs p) × IsNamed (xs ++ more) p
@@ -125,7 +125,8 @@ step_put xs (step.Task p) short =
         let put = call_put xs c.call short in
         (ap (λ (q : Calling XidName). action.Call (record { manager = c.manager; call = q; flags = c.flags })) put.0, put.1)
     given_put (action.CommitAll c) short =
-        let put = gtrid_put xs c.tran short in (ap (λ (t : TranName). action.CommitAll (record { tran = t; managers = c.managers })) put.0, put.1)
+        let put = gtrid_put xs c.tran short in
+        (ap (λ (t : TranName). action.CommitAll (record { tran = t; managers = c.managers; death = c.death })) put.0, put.1)
     given_put action.Resolve short = (refl, tt)
 step_put xs p short = (refl, tt)
 

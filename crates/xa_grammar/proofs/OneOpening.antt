@@ -11,7 +11,7 @@ use Rattle.xa_grammar.specs.Text.{words_of, without_return}
 use Rattle.xa_grammar.specs.Fields.{Word}
 use Rattle.xa_grammar.specs.Steps.{ScriptStep}
 use Rattle.xa_grammar.specs.Content.{Content, is_reopen, AreOfOne, with_step}
-use Rattle.xa_grammar.specs.Settings.{setting_of, sync_of, logfail_of, declared_of}
+use Rattle.xa_grammar.specs.Settings.{setting_of, sync_of, logfail_of, logunknown_of, declared_of}
 use Rattle.xa_grammar.specs.Actions.{task_on, turn_of, reopen_of}
 use Rattle.xa_grammar.specs.Grammar.{head_of, item_by, item_of, line_of, with_item, after_line}
 use Rattle.xa_grammar.proofs.ScriptLemmas.{and_then, ok_is, item_made, line_words}
@@ -34,6 +34,7 @@ item_one (Some head.Comment) s n w ws i e all = item_made {A = Unit {0}} (Keeps 
 item_one (Some (head.Count count)) s n w ws i e all = item_made (Keeps s) (setting_of s count ws) (item.Count count) i e (λ c t. all)
 item_one (Some head.Sync) s n w ws i e all = item_made (Keeps s) (sync_of s ws) item.Sync i e (λ m t. all)
 item_one (Some head.LogFail) s n w ws i e all = item_made (Keeps s) (logfail_of s ws) (λ x. item.LogFail x.0 x.1) i e (λ x t. all)
+item_one (Some head.LogUnknown) s n w ws i e all = item_made (Keeps s) (logunknown_of s ws) (λ x. item.LogUnknown x.0 x.1) i e (λ x t. all)
 item_one (Some head.Key) s n w ws i e all = item_made (Keeps s) (declared_of s ws) item.Key i e (λ d t. all)
 item_one (Some head.Turn) s n w ws i e all = item_made (Keeps s) (turn_of true s ws) (λ m. item.Step (step.Turn n m)) i e
     (λ m t. one_more s (step.Turn n m) refl all)

@@ -19,6 +19,7 @@ use Rattle.xa_tables.specs.Accounts.{are_accounts, are_apart}
 use Rattle.xa_grammar.specs.declared.fault.Reason.{Reason}
 use Rattle.xa_grammar.specs.declared.fault.Reason.TheVariants.{KeyTwice, TooManyKeys, OutOfRange, BadNumber, UnknownWord, TooManyLines, LineTooLong, BadByte}
 use Rattle.xa_grammar.specs.declared.script.Declared.{Declared}
+use Rattle.xa_grammar.specs.declared.script.UnknownAppend.{UnknownAppend}
 use Rattle.xa_grammar.specs.declared.step.Calling.{Calling}
 use Rattle.xa_grammar.specs.declared.step.Calling.TheVariants as calling
 use Rattle.xa_grammar.specs.declared.step.Called.{Called}
@@ -36,9 +37,11 @@ use Rattle.xa_grammar.specs.Text.{is_script_byte, words_of}
 use Rattle.xa_grammar.specs.Fields.{◌>>=◌, Word, word_at, end_of, number_of, number_in, number_at, key_at, xid_at, delta_at, flags_onto}
 use Rattle.xa_base.specs.Lists.{IsUpTo}
 use Rattle.xa_grammar.specs.Steps.{ScriptAction, ScriptTask, ScriptStep}
-use Rattle.xa_grammar.specs.Content.{Content, IsScript, IsOfManager, IsOfLog, IsOfScript, AsksForFew, HasFewXids, threads_of, managers_of, accounts_of}
-use Rattle.xa_grammar.specs.Content.{failing_append, with_count, with_key, with_sync, with_failing, with_step}
-use Rattle.xa_grammar.specs.Settings.{before_actions, count_of, not_set, limit_of, setting_of, sync_of, logfail_of, has_key, key_count, declared_of}
+use Rattle.xa_grammar.specs.Content.{Content, IsScript, IsOfManager, IsOfLog, IsOfUnknown, IsOfScript, AsksForFew, HasFewXids, threads_of, managers_of}
+use Rattle.xa_grammar.specs.Content.{accounts_of}
+use Rattle.xa_grammar.specs.Content.{failing_append, unknown_append, with_count, with_key, with_sync, with_failing, with_unknown, with_step}
+use Rattle.xa_grammar.specs.Settings.{before_actions, count_of, not_set, limit_of, setting_of, sync_of, logfail_of, is_kept, logunknown_of, has_key, key_count}
+use Rattle.xa_grammar.specs.Settings.{declared_of}
 use Rattle.xa_grammar.specs.Commits.{commit_of}
 use Rattle.xa_grammar.specs.Actions.{verb_of, calling_at, call_of, action_of, task_on, turn_of, reopen_of}
 use Rattle.xa_grammar.specs.Grammar.{head_of, item_by, item_of, line_of, with_item}
@@ -138,7 +141,7 @@ sync_kept : (s : Content) (m : ℕ) → IsScript s → IsScript (with_sync m s)
 sync_kept s m is = assumption
 
 -- one place is written, the others are as they were
-after_set : (P : Option ℕ → Type 0) (xs : List (Option ℕ)) (i j : ℕ) (x : Option ℕ) → P (get_or xs j None) → (i ≡ j → P x)
+after_set : {A : Type 0} (P : Option A → Type 0) (xs : List (Option A)) (i j : ℕ) (x : Option A) → P (get_or xs j None) → (i ≡ j → P x)
     → P (get_or (slice_set xs i x) j None)
 after_set P [] i j x old new = old
 after_set P (y ∷ xs) zero zero x old new = new refl
@@ -146,16 +149,29 @@ after_set P (y ∷ xs) zero (suc j) x old new = old
 after_set P (y ∷ xs) (suc i) zero x old new = old
 after_set P (y ∷ xs) (suc i) (suc j) x old new = after_set P xs i j x old (λ e. new (ap suc e))
 
-log_kept : (s : Content) (t k u : ℕ) → IsUpTo (threads_of s) t → IsUpTo 1000000 k → IsOfLog s u → IsOfLog (with_failing t k s) u
-log_kept s t k u of small old =
-    elim (nat_lt 0 u) as (λ b. nat_lt 0 u ≡ b → IfSome (if b then get_or s.failing (u - 1) None else None) (λ k. IsUpTo 1000000 k × IsUpTo (threads_of s) u) → IfSome (if b then get_or (slice_set s.failing (t - 1) (Some k)) (u - 1) None else None) (λ k. IsUpTo 1000000 k × IsUpTo (threads_of s) u)) [
-      | true ↦ λ lt was. after_set (λ o. IfSome o (λ k. IsUpTo 1000000 k × IsUpTo (threads_of s) u)) s.failing (t - 1) (u - 1) (Some k) was (λ e. (small, let first : 0 < u = grind (arith, lt) in let same : t ≡ u = omega (arith, of.0, e, first) in subst (IsUpTo (threads_of s)) same of))
+-- what is told of thread u's log, where something is, is so, and there is such a thread
+abbrev IsToldOf : {A : Type 0} → (A → Type 0) → ℕ → ℕ → Option A → Type 0
+IsToldOf So threads u told = IfSome told (λ x. So x × IsUpTo threads u)
+
+-- thread t's log is told of, those of the others as they were
+log_set : {A : Type 0} (So : A → Type 0) (threads : ℕ) (xs : List (Option A)) (t u : ℕ) (x : A) → IsUpTo threads t → So x
+    → IsToldOf So threads u (if nat_lt 0 u then get_or xs (u - 1) None else None)
+    → IsToldOf So threads u (if nat_lt 0 u then get_or (slice_set xs (t - 1) (Some x)) (u - 1) None else None)
+log_set {A} So threads xs t u x of so old =
+    elim (nat_lt 0 u) as (λ b. nat_lt 0 u ≡ b → IsToldOf So threads u (if b then get_or xs (u - 1) None else None) → IsToldOf So threads u (if b then get_or (slice_set xs (t - 1) (Some x)) (u - 1) None else None)) [
+      | true ↦ λ lt was. after_set (IsToldOf So threads u) xs (t - 1) (u - 1) (Some x) was (λ e. (so, let first : 0 < u = grind (arith, lt) in let same : t ≡ u = omega (arith, of.0, e, first) in subst (IsUpTo threads) same of))
       | false ↦ λ lt was. was
     ] refl old
 
 failing_kept : (s : Content) (t k : ℕ) → IsUpTo (threads_of s) t → IsUpTo 1000000 k → IsScript s → IsScript (with_failing t k s)
 failing_kept s t k of small is =
-    let of_logs : (u : ℕ) → IsOfLog (with_failing t k s) u = λ u. log_kept s t k u of small (is.of_logs u) in
+    let of_logs : (u : ℕ) → IsOfLog (with_failing t k s) u = λ u. log_set (IsUpTo 1000000) (threads_of s) s.failing t u k of small (is.of_logs u) in
+    assumption
+
+unknown_kept : (s : Content) (t : ℕ) (x : UnknownAppend) → IsUpTo (threads_of s) t → IsUpTo 1000000 x.append → IsScript s → IsScript (with_unknown t x s)
+unknown_kept s t x of small is =
+    let of_unknown : (u : ℕ) → IsOfUnknown (with_unknown t x s) u =
+    λ u. log_set (λ (y : UnknownAppend). IsUpTo 1000000 y.append) (threads_of s) s.unknown t u x of small (is.of_unknown u) in
     assumption
 
 -- the first count of managers has the keys that were declared before it, of the one manager that there was
@@ -164,16 +180,18 @@ more_managers s n unset low d of =
     (of.0, let one : managers_of s ≡ 1 = ap (λ (c : Option ℕ). unwrap_or c 1) unset in let most : d.manager ≤ managers_of s = of.1 in omega arith)
 
 -- the first count of threads has the log of the one thread that there was
-more_threads : (s : Content) (n : ℕ) → s.settings.threads ≡ None → 1 ≤ n → (u : ℕ) → IsOfLog s u → IsOfLog (with_count Threads n s) u
-more_threads s n unset low u of =
-    elim (failing_append s u) as (λ o. IfSome o (λ k. IsUpTo 1000000 k × IsUpTo (threads_of s) u) → IfSome o (λ k. IsUpTo 1000000 k × IsUpTo n u)) [
-      | Some k ↦ λ h. (h.0, (h.1.0, let one : threads_of s ≡ 1 = ap (λ (c : Option ℕ). unwrap_or c 1) unset in let most : u ≤ threads_of s = h.1.1 in omega arith))
-      | None ↦ λ h. h
-    ] of
+more_threads : {A : Type 0} (So : A → Type 0) (s : Content) (n : ℕ) → s.settings.threads ≡ None → 1 ≤ n → (u : ℕ) (told : Option A)
+    → IsToldOf So (threads_of s) u told → IsToldOf So n u told
+more_threads So s n unset low u None is = is
+more_threads So s n unset low u (Some x) is =
+    (is.0, (is.1.0, let one : threads_of s ≡ 1 = ap (λ (c : Option ℕ). unwrap_or c 1) unset in let most : u ≤ threads_of s = is.1.1 in omega arith))
 
 count_kept : (s : Content) (c : Count) (n : ℕ) → s.steps ≡ [] → count_of c s.settings ≡ None → 1 ≤ n → n ≤ limit_of c → IsScript s → IsScript (with_count c n s)
 count_kept s Threads n none unset low high is =
-    let of_logs : (u : ℕ) → IsOfLog (with_count Threads n s) u = λ u. more_threads s n unset low u (is.of_logs u) in
+    let of_logs : (u : ℕ) → IsOfLog (with_count Threads n s) u =
+    λ u. more_threads (IsUpTo 1000000) s n unset low u (failing_append s u) (is.of_logs u) in
+    let of_unknown : (u : ℕ) → IsOfUnknown (with_count Threads n s) u =
+    λ u. more_threads (λ (x : UnknownAppend). IsUpTo 1000000 x.append) s n unset low u (unknown_append s u) (is.of_unknown u) in
     let of_steps : All (IsOfScript (with_count Threads n s)) s.steps = rw none (All-nil (IsOfScript (with_count Threads n s))) in
     assumption
 count_kept s Managers n none unset low high is =
@@ -230,6 +248,20 @@ logfail_kept s ws x e =
     let same : (t.0.0, k.0.0) ≡ x = ok_is (t.0.0, k.0.0) x last.1.1 in
     subst (λ (z : ℕ × ℕ). IsScript s → IsScript (with_failing z.0 z.1 s)) same
     (failing_kept s t.0.0 k.0.0 (number_is 1 (threads_of s) ws t.0 t.1.0) (number_is 1 1000000 t.0.1 k.0 k.1.0))
+
+logunknown_kept : (s : Content) (ws : List Word) (x : ℕ × UnknownAppend) → logunknown_of s ws ≡ Ok x → IsScript s → IsScript (with_unknown x.0 x.1 s)
+unfolding logunknown_of
+logunknown_kept s ws x e =
+    let first = and_then (before_actions s.steps) _ x e in
+    let t = and_then (number_at 1 (threads_of s) ws) _ x first.1.1 in
+    let k = and_then (number_at 1 1000000 t.0.1) _ x t.1.1 in
+    let w = and_then (word_at k.0.1) _ x k.1.1 in
+    let kept = and_then (ok_or (is_kept w.0.0) UnknownWord) _ x w.1.1 in
+    let last = and_then (end_of w.0.1) _ x kept.1.1 in
+    let made : UnknownAppend = record { append = k.0.0; kept = kept.0 } in
+    let same : (t.0.0, made) ≡ x = ok_is (t.0.0, made) x last.1.1 in
+    subst (λ (z : ℕ × UnknownAppend). IsScript s → IsScript (with_unknown z.0 z.1 s)) same
+    (unknown_kept s t.0.0 made (number_is 1 (threads_of s) ws t.0 t.1.0) (number_is 1 1000000 t.0.1 k.0 k.1.0))
 
 declared_kept : (s : Content) (ws : List Word) (d : Declared) → declared_of s ws ≡ Ok d → IsScript s → IsScript (with_key d s)
 unfolding declared_of
@@ -321,6 +353,8 @@ item_by_kept (Some (head.Count count)) mode s n w ws i e is = item_made (Keeps s
     (λ c t. setting_kept s count ws c t is)
 item_by_kept (Some head.Sync) mode s n w ws i e is = item_made (Keeps s) (sync_of s ws) item.Sync i e (λ m t. sync_kept s m is)
 item_by_kept (Some head.LogFail) mode s n w ws i e is = item_made (Keeps s) (logfail_of s ws) (λ x. item.LogFail x.0 x.1) i e (λ x t. logfail_kept s ws x t is)
+item_by_kept (Some head.LogUnknown) mode s n w ws i e is = item_made (Keeps s) (logunknown_of s ws) (λ x. item.LogUnknown x.0 x.1) i e
+    (λ x t. logunknown_kept s ws x t is)
 item_by_kept (Some head.Key) mode s n w ws i e is = item_made (Keeps s) (declared_of s ws) item.Key i e (λ d t. declared_kept s ws d t is)
 item_by_kept (Some head.Turn) mode s n w ws i e is = item_made (Keeps s) (turn_of mode s ws) (λ m. item.Step (step.Turn n m)) i e
     (λ m t. step_kept s (step.Turn n m) (turn_is mode s n ws m t) is)

@@ -15,6 +15,7 @@ use Rattle.xa_grammar.specs.declared.script.Count.{Count}
 use Rattle.xa_grammar.specs.declared.script.Count.TheVariants.{Threads, Managers, Handles, Queue, Requests}
 use Rattle.xa_grammar.specs.declared.script.Settings.{Settings}
 use Rattle.xa_grammar.specs.declared.script.Declared.{Declared}
+use Rattle.xa_grammar.specs.declared.script.UnknownAppend.{UnknownAppend}
 use Rattle.xa_grammar.specs.declared.step.Calling.{Calling}
 use Rattle.xa_grammar.specs.declared.step.Calling.TheVariants as calling
 use Rattle.xa_grammar.specs.declared.step.Action.{Action}
@@ -32,6 +33,8 @@ pub record Content : Type 0 where
   pub syncs : List ℕ
   -- Which append of a thread's log fails, at place t - 1 of thread t.
   pub failing : List (Option ℕ)
+  -- Which append of a thread's log has an unknown end, at place t - 1 of thread t.
+  pub unknown : List (Option UnknownAppend)
   pub steps : List ScriptStep
 
 -- How many threads there are, 1 where no line sets it.
@@ -66,6 +69,10 @@ carries_async s m = not (list_any (λ n. n == m) s.syncs)
 abbrev pub failing_append : Content → ℕ → Option ℕ
 failing_append s t = if nat_lt 0 t then get_or s.failing (t - 1) None else None
 
+-- Which append of thread t's log has an unknown end, if one has.
+abbrev pub unknown_append : Content → ℕ → Option UnknownAppend
+unknown_append s t = if nat_lt 0 t then get_or s.unknown (t - 1) None else None
+
 -- The step where it is a task of thread t.
 abbrev pub task_of : {X G : Type 0} → ℕ → Step X G → Option (Task X G)
 task_of t (step.Task p) = if p.thread == t then Some p else None
@@ -96,6 +103,7 @@ nothing =
       keys = [];
       syncs = [];
       failing = replicate 8 None;
+      unknown = replicate 8 None;
       steps = [];
     }
 
@@ -121,6 +129,10 @@ with_sync m s = record s { syncs = s.syncs ++ m ∷ [] }
 -- From now on the k-th append of thread t's log fails, and no other.
 abbrev pub with_failing : ℕ → ℕ → Content → Content
 with_failing t k s = record s { failing = slice_set s.failing (t - 1) (Some k) }
+
+-- From now on this append of thread t's log has an unknown end, and no other.
+abbrev pub with_unknown : ℕ → UnknownAppend → Content → Content
+with_unknown t u s = record s { unknown = slice_set s.unknown (t - 1) (Some u) }
 
 -- One more step is to be done.
 abbrev pub with_step : ScriptStep → Content → Content
@@ -161,9 +173,13 @@ IsOfScript s p = Fits (threads_of s) (managers_of s) p
 abbrev pub IsOfLog : Content → ℕ → Type 0
 IsOfLog s t = IfSome (failing_append s t) (λ k. IsUpTo MOST_APPENDS k × IsUpTo (threads_of s) t)
 
+-- So is an append whose end isn't known, and so is its log.
+abbrev pub IsOfUnknown : Content → ℕ → Type 0
+IsOfUnknown s t = IfSome (unknown_append s t) (λ u. IsUpTo MOST_APPENDS u.append × IsUpTo (threads_of s) t)
+
 -- What holds of every script: its counts are within the limits, each key is of a manager that there is, each manager
--- can be opened with its keys, appends fail in logs that there are, each task is of a thread that there is and asks for
--- at most 64 xids, and each turn is of a manager that there is.
+-- can be opened with its keys, appends fail or have an unknown end in logs that there are, each task is of a thread
+-- that there is and asks for at most 64 xids, and each turn is of a manager that there is.
 pub record IsScript (s : Content) : Type 0 where
   pub threads : IsUpTo MOST_THREADS (threads_of s)
   pub managers : IsUpTo MOST_MANAGERS (managers_of s)
@@ -173,4 +189,5 @@ pub record IsScript (s : Content) : Type 0 where
   pub of_managers : All (IsOfManager s) s.keys
   pub accounts : (m : ℕ) → are_accounts (accounts_of m s.keys) ≡ true
   pub of_logs : (t : ℕ) → IsOfLog s t
+  pub of_unknown : (t : ℕ) → IsOfUnknown s t
   pub of_steps : All (IsOfScript s) s.steps

@@ -73,14 +73,6 @@ number_in low high w = do
 unfoldable pub number_at : ℕ → ℕ → List Word → Result (ℕ × List Word) Reason
 number_at low high ws = field (number_in low high) ws
 
--- Numbers from low to high, up to the end of the line.
-unfoldable pub numbers_to_end : ℕ → ℕ → List Word → Result (List ℕ) Reason
-numbers_to_end low high [] = Ok []
-numbers_to_end low high (w ∷ ws) = do
-  n ← number_in low high w
-  ns ← numbers_to_end low high ws
-  Ok (n ∷ ns)
-
 -- ---- names
 
 -- The bytes of names are a to z and 0 to 9.

@@ -19,8 +19,9 @@ use Rattle.xa_grammar.specs.declared.line.Item.TheVariants as item
 use Rattle.xa_grammar.specs.Text.{hash, lines_of, words_of, without_return, is_script_byte}
 use Rattle.xa_grammar.specs.Fields.{◌>>=◌, Word, all_digits}
 use Rattle.xa_base.specs.Lists.{IsUpTo}
-use Rattle.xa_grammar.specs.Content.{Content, nothing, with_count, with_key, with_sync, with_failing, with_step}
-use Rattle.xa_grammar.specs.Settings.{setting_of, sync_of, logfail_of, declared_of}
+use Rattle.xa_grammar.specs.Content.{Content, nothing, with_count, with_key, with_sync, with_failing, with_unknown}
+use Rattle.xa_grammar.specs.Content.{with_step}
+use Rattle.xa_grammar.specs.Settings.{setting_of, sync_of, logfail_of, logunknown_of, declared_of}
 use Rattle.xa_grammar.specs.Actions.{task_on, turn_of, reopen_of}
 
 -- ---- lines
@@ -45,6 +46,7 @@ heads =
     ∷ (codes "requests", head.Count Requests)
     ∷ (codes "sync", head.Sync)
     ∷ (codes "logfail", head.LogFail)
+    ∷ (codes "logunknown", head.LogUnknown)
     ∷ (codes "key", head.Key)
     ∷ (codes "turn", head.Turn)
     ∷ (codes "reopen", head.Reopen)
@@ -70,6 +72,9 @@ item_by (Some head.Sync) mode s n w ws = do
 item_by (Some head.LogFail) mode s n w ws = do
   x ← logfail_of s ws
   Ok (item.LogFail x.0 x.1)
+item_by (Some head.LogUnknown) mode s n w ws = do
+  x ← logunknown_of s ws
+  Ok (item.LogUnknown x.0 x.1)
 item_by (Some head.Key) mode s n w ws = do
   d ← declared_of s ws
   Ok (item.Key d)
@@ -102,15 +107,17 @@ with_item item.Nothing s = s
 with_item (item.Count count n) s = with_count count n s
 with_item (item.Sync m) s = with_sync m s
 with_item (item.LogFail t k) s = with_failing t k s
+with_item (item.LogUnknown t u) s = with_unknown t u s
 with_item (item.Key d) s = with_key d s
 with_item (item.Step p) s = with_step p s
 
--- A log that fails is that of one of eight threads.
+-- A log that fails, or has an append with an unknown end, is that of one of eight threads.
 abbrev pub HasPlace : Item → Type 0
 HasPlace item.Nothing = Unit {0}
 HasPlace (item.Count count n) = Unit {0}
 HasPlace (item.Sync m) = Unit {0}
 HasPlace (item.LogFail t k) = IsUpTo MOST_THREADS t
+HasPlace (item.LogUnknown t u) = IsUpTo MOST_THREADS t
 HasPlace (item.Key d) = Unit {0}
 HasPlace (item.Step p) = Unit {0}
 

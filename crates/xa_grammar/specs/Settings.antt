@@ -1,19 +1,24 @@
 -- Settings: the lines that come before the first action.
-use Rattle.std.specs.Prelude.{ℕ, Bool, ◌&&◌, ◌==◌, nat_le, is_some, if◌then◌else◌, List, [], ◌∷◌, count_by, Option}
-use Rattle.std.specs.Prelude.{Result, Ok, Err}
+use Rattle.std.specs.Prelude.{ℕ, Bool, true, false, ◌&&◌, ◌==◌, nat_le, is_some, if◌then◌else◌, List, [], ◌∷◌}
+use Rattle.std.specs.Prelude.{count_by, Option, Result, Ok, Err, codes}
 use Rattle.std.specs.List.{list_any}
+use Rattle.std.specs.Option.{ok_or}
+use Rattle.std.specs.Map.{lookup}
+use Rattle.std.specs.Str.{bytes_eq}
 use Rattle.xa_base.specs.declared.limits.TheConstants.{MOST_HANDLES, MOST_KEYS, MOST_MANAGERS, MOST_QUEUED}
 use Rattle.xa_grammar.specs.declared.setting.TheConstants.{MOST_APPENDS}
 use Rattle.xa_base.specs.declared.limits.TheConstants.{MOST_REQUESTS, MOST_THREADS, MOST_VALUE}
 use Rattle.xa_words.specs.Key.{key_eq}
 use Rattle.xa_grammar.specs.declared.fault.Reason.{Reason}
 use Rattle.xa_grammar.specs.declared.fault.Reason.TheVariants.{SettingAfterAction, SettingTwice, KeyTwice, TooManyKeys}
+use Rattle.xa_grammar.specs.declared.fault.Reason.TheVariants.{UnknownWord}
 use Rattle.xa_grammar.specs.declared.script.Count.{Count}
 use Rattle.xa_grammar.specs.declared.script.Count.TheVariants.{Threads, Managers, Handles, Queue, Requests}
 use Rattle.xa_grammar.specs.declared.script.Settings.{Settings}
 use Rattle.xa_grammar.specs.declared.script.Declared.{Declared}
+use Rattle.xa_grammar.specs.declared.script.UnknownAppend.{UnknownAppend}
 use Rattle.xa_grammar.specs.Steps.{ScriptStep}
-use Rattle.xa_grammar.specs.Fields.{◌>>=◌, Word, end_of, number_at, key_at}
+use Rattle.xa_grammar.specs.Fields.{◌>>=◌, Word, word_at, end_of, number_at, key_at}
 use Rattle.xa_grammar.specs.Content.{Content, threads_of, managers_of}
 
 -- Settings stand before the first action.
@@ -68,6 +73,25 @@ logfail_of s ws = do
   k ← number_at 1 MOST_APPENDS t.1
   last ← end_of k.1
   Ok (t.0, k.0)
+
+-- What stands for a record that the log turns out to have, or not.
+abbrev pub fates : List (Word × Bool)
+fates = (codes "kept", true) ∷ (codes "lost", false) ∷ []
+
+-- Whether the log turns out to have the record: kept, lost
+abbrev pub is_kept : Word → Option Bool
+is_kept w = lookup (bytes_eq w) fates
+
+-- logunknown T K kept, logunknown T K lost; T is one of the threads that there are by then, and K at most 1,000,000.
+unfoldable pub logunknown_of : Content → List Word → Result (ℕ × UnknownAppend) Reason
+logunknown_of s ws = do
+  first ← before_actions s.steps
+  t ← number_at 1 (threads_of s) ws
+  k ← number_at 1 MOST_APPENDS t.1
+  w ← word_at k.1
+  kept ← ok_or (is_kept w.0) UnknownWord
+  last ← end_of w.1
+  Ok (t.0, record { append = k.0; kept = kept })
 
 -- ---- keys
 

@@ -61,7 +61,8 @@ call_with name (calling.Recover n) = calling.Recover n
 abbrev pub action_with : {X Y G H : Type 0} → (X → Y) → (G → H) → Action X G → Action Y H
 action_with name tran (action.Call c) =
     action.Call (record { manager = c.manager; call = call_with name c.call; flags = c.flags })
-action_with name tran (action.CommitAll c) = action.CommitAll (record { tran = tran c.tran; managers = c.managers })
+action_with name tran (action.CommitAll c) =
+    action.CommitAll (record { tran = tran c.tran; managers = c.managers; death = c.death })
 action_with name tran action.Resolve = action.Resolve
 
 abbrev pub step_with : {X Y G H : Type 0} → (X → Y) → (G → H) → Step X G → Step Y H

@@ -25,6 +25,6 @@ mod words;
 
 pub use fault::{Reason, ScriptFault};
 pub use read::read_script;
-pub use script::{Declared, Script};
+pub use script::{Declared, Script, UnknownAppend};
 pub use step::{Action, Called, Calling, CommitAll, Step, Task};
 pub use tasks::Tasks;

@@ -10,8 +10,8 @@ use crate::action::{reopen_of, task_on, turn_of};
 use crate::fault::{Reason, ScriptFault};
 use crate::field::{all_digits, meaning_in};
 use crate::name::{Gtrid, Name};
-use crate::script::{Count, Declared, Script};
-use crate::setting::{declared_of, logfail_of, setting_of, sync_of};
+use crate::script::{Count, Declared, Script, UnknownAppend};
+use crate::setting::{declared_of, logfail_of, logunknown_of, setting_of, sync_of};
 use crate::step::Step;
 use crate::words::Words;
 use std::alloc::AllocError;
@@ -29,6 +29,7 @@ pub(crate) enum Head {
     Count(Count),
     Sync,
     LogFail,
+    LogUnknown,
     Key,
     Turn,
     Reopen,
@@ -36,7 +37,7 @@ pub(crate) enum Head {
 }
 
 // The words that say what a line is; a comment and a line of a thread begin otherwise.
-const HEADS: [(&[u8], Head); 10] = [
+const HEADS: [(&[u8], Head); 11] = [
     (b"threads", Head::Count(Count::Threads)),
     (b"managers", Head::Count(Count::Managers)),
     (b"handles", Head::Count(Count::Handles)),
@@ -44,6 +45,7 @@ const HEADS: [(&[u8], Head); 10] = [
     (b"requests", Head::Count(Count::Requests)),
     (b"sync", Head::Sync),
     (b"logfail", Head::LogFail),
+    (b"logunknown", Head::LogUnknown),
     (b"key", Head::Key),
     (b"turn", Head::Turn),
     (b"reopen", Head::Reopen),
@@ -57,6 +59,8 @@ pub(crate) enum Item<'a> {
     Sync(u32),
     /// An append of a thread's log fails.
     LogFail { thread: u32, append: u32 },
+    /// An append of a thread's log has an unknown end.
+    LogUnknown { thread: u32, unknown: UnknownAppend },
     Key(Declared),
     Step(Step<Name<'a>, Gtrid<'a>>),
 }
@@ -98,6 +102,10 @@ fn item_of<'a>(
         Head::LogFail => {
             let (thread, append) = logfail_of(script, &mut words)?;
             Ok(Item::LogFail { thread, append })
+        }
+        Head::LogUnknown => {
+            let (thread, unknown) = logunknown_of(script, &mut words)?;
+            Ok(Item::LogUnknown { thread, unknown })
         }
         Head::Key => Ok(Item::Key(declared_of(script, &mut words)?)),
         Head::Turn => Ok(Item::Step(Step::Turn {
@@ -175,6 +183,10 @@ fn put(script: &mut Script, item: Item) -> Result<(), AllocError>
         Item::Sync(manager) => script.add_sync(manager),
         Item::LogFail { thread, append } => {
             script.set_failing(thread, append);
+            Ok(())
+        }
+        Item::LogUnknown { thread, unknown } => {
+            script.set_unknown(thread, unknown);
             Ok(())
         }
         Item::Key(declared) => script.add_key(declared),

@@ -48,6 +48,15 @@ pub struct Declared {
     pub value: u64,
 }
 
+/// An append to a log whose end isn't known.
+#[derive(Clone, Copy, Debug, PartialEq, Eq)]
+pub struct UnknownAppend {
+    /// Which append of the log it is, 1 to 1,000,000.
+    pub append: u32,
+    /// Whether the log turns out to have the record.
+    pub kept: bool,
+}
+
 /// A whole script: its settings, and its keys and its steps, each in the order of the lines.
 #[derive(Debug, Drop)]
 pub struct Script {
@@ -57,6 +66,8 @@ pub struct Script {
     syncs: Vec<u32>,
     // Which append of a thread's log fails: place t - 1 for thread t.
     failing: [Option<u32>; 8],
+    // Which append of a thread's log has an unknown end: place t - 1 for thread t.
+    unknown: [Option<UnknownAppend>; 8],
     // The threads that run them share them.
     steps: Arc<Steps, Global>,
 }
@@ -72,6 +83,7 @@ impl Model for Script {
       keys = s.keys;
       syncs = s.syncs.items;
       failing = s.failing;
+      unknown = s.unknown;
       steps = arc_value s.steps;
     } };
 
@@ -80,6 +92,7 @@ impl Model for Script {
       keys = s.keys;
       syncs = s.syncs.items;
       failing = s.failing;
+      unknown = s.unknown;
       steps = arc_value s.steps;
     }) };
 }
@@ -90,7 +103,7 @@ impl Script {
     ghost use Rattle.xa_grammar.specs.Content.{is_reopen, tasks_of, accounts_of, IsOfManager, IsOfScript, IsScript};
     ghost use Rattle.xa_grammar.specs.Content.{threads_of, managers_of, handles_of, queue_of, requests_of};
     ghost use Rattle.xa_grammar.specs.Content.{carries_async, failing_append, nothing, with_count, with_key, with_sync};
-    ghost use Rattle.xa_grammar.specs.Content.{with_failing, with_step};
+    ghost use Rattle.xa_grammar.specs.Content.{unknown_append, with_failing, with_unknown, with_step};
 
     pub(crate) fn new(alloc: Global) -> Result<Script, AllocError>
         ensures { IfOk result (λ s. s ≡ nothing) }
@@ -106,6 +119,7 @@ impl Script {
             keys: DeclaredKeys::new(alloc),
             syncs: Vec::new(alloc),
             failing: [None; 8],
+            unknown: [None; 8],
             steps: Arc::new(alloc, Steps::new(alloc))?,
         })
     }
@@ -191,6 +205,18 @@ impl Script {
         }
     }
 
+    /// Which append of the thread's log has an unknown end, if one has. No log of a thread that there isn't has one.
+    pub fn unknown_append(&self, thread: u32) -> Option<UnknownAppend>
+        ensures append { result ≡ unknown_append self.now thread }
+        ensures limits { IfSome result (λ u. IsUpTo MOST_APPENDS u.append) }
+        ensures of { IfSome result (λ u. (1 ≤ thread) × (thread ≤ threads_of self.now)) }
+    {
+        match thread {
+            1..=8 => self.unknown[thread as usize - 1],
+            _ => None,
+        }
+    }
+
     /// How many steps there are.
     pub fn len(&self) -> usize
         ensures steps { result ≡ length self.now.steps }
@@ -271,6 +297,14 @@ impl Script {
         ensures { self.new ≡ with_failing thread append self.old }
     {
         self.failing[thread as usize - 1] = Some(append);
+    }
+
+    pub(crate) fn set_unknown(&mut self, thread: u32, unknown: UnknownAppend)
+        requires script { IsScript self.old → IsScript (with_unknown thread unknown self.old) }
+        requires place { (1 ≤ thread) × (thread ≤ 8) }
+        ensures { self.new ≡ with_unknown thread unknown self.old }
+    {
+        self.unknown[thread as usize - 1] = Some(unknown);
     }
 
     pub(crate) fn add_step(&mut self, step: &Step<Name, Gtrid>) -> Result<(), AllocError>

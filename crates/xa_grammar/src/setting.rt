@@ -1,18 +1,22 @@
 //! What a line sets or declares.
 ghost use Rattle.std.specs.Prelude.{◌≡◌, ◌≤◌, IfOk};
 ghost use Rattle.xa_grammar.specs.Settings.{before_actions, count_of, not_set, limit_of, setting_of, sync_of};
-ghost use Rattle.xa_grammar.specs.Settings.{logfail_of, new_key, declared_of};
+ghost use Rattle.xa_grammar.specs.Settings.{logfail_of, is_kept, logunknown_of, new_key, declared_of};
 
 use crate::fault::Reason;
+use crate::field::meaning_in;
 use crate::keys::DeclaredKeys;
-use crate::script::{Count, Declared, Script, Settings};
+use crate::script::{Count, Declared, Script, Settings, UnknownAppend};
 use crate::words::Words;
 use xa_base::{
     MOST_HANDLES, MOST_KEYS, MOST_MANAGERS, MOST_QUEUED, MOST_REQUESTS, MOST_THREADS, MOST_VALUE,
 };
 
-// How late the append of a log may fail.
+// How late the append of a log may fail, or have an unknown end.
 const MOST_APPENDS: u64 = 1_000_000;
+
+// What stands for a record that the log turns out to have, or not.
+const FATES: [(&[u8], bool); 2] = [(b"kept", true), (b"lost", false)];
 
 fn before_actions(script: &Script) -> Result<(), Reason>
     ensures { result ≡ before_actions script.now.steps }
@@ -90,6 +94,30 @@ pub(crate) fn logfail_of(script: &Script, words: &mut Words) -> Result<(u32, u32
     let append = words.number(1, MOST_APPENDS)? as u32;
     words.end()?;
     Ok((thread, append))
+}
+
+// Whether the log turns out to have the record.
+fn is_kept(word: &[u8]) -> Option<bool>
+    ensures { result ≡ is_kept word.now }
+{
+    meaning_in(&FATES, word)
+}
+
+// The words after `logunknown`: the thread, and which append of its log has an unknown end.
+#[tactic(auto, unfolding(crate::specs::Settings::logunknown_of))]
+pub(crate) fn logunknown_of(
+    script: &Script,
+    words: &mut Words,
+) -> Result<(u32, UnknownAppend), Reason>
+    ensures value { result ≡ logunknown_of script.now words.old }
+    ensures place { IfOk result (λ x. (1 ≤ x.0) × (x.0 ≤ 8)) }
+{
+    before_actions(script)?;
+    let thread = words.number(1, u64::from(script.threads()))? as u32;
+    let append = words.number(1, MOST_APPENDS)? as u32;
+    let kept = is_kept(words.word()?).ok_or(Reason::UnknownWord)?;
+    words.end()?;
+    Ok((thread, UnknownAppend { append, kept }))
 }
 
 // The declaration, where its manager has no such key and room for one more.

@@ -8,7 +8,7 @@ ghost use Rattle.xa_grammar.specs.Content.{is_reopen};
 ghost use Rattle.xa_grammar.specs.OwnTasks.{is_own};
 ghost use Rattle.xa_grammar.specs.Steps.{CallHas, ActionHas, StepHas, Computes, call_with, action_with, step_with};
 
-use xa_words::{Call, Delta, Key, ManagerSet, Tran, Xid};
+use xa_words::{Call, Death, Delta, Key, ManagerSet, Tran, Xid};
 
 /// What a thread calls.
 #[derive(Clone, Copy, Debug, PartialEq, Eq)]
@@ -44,6 +44,8 @@ pub struct CommitAll<G = Tran> {
     pub tran: G,
     /// Where its branches are.
     pub managers: ManagerSet,
+    /// Where its coordinator dies, if it does.
+    pub death: Option<Death>,
 }
 
 /// What a thread does.
@@ -117,6 +119,7 @@ impl<X, G> Action<X, G> {
             Action::CommitAll(commit) => Action::CommitAll(CommitAll {
                 tran: tran(&commit.tran),
                 managers: commit.managers,
+                death: commit.death,
             }),
             Action::Resolve => Action::Resolve,
         }

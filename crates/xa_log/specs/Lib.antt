@@ -1,2 +1,3 @@
 pub mod Transactions
 pub mod Log
+pub mod Losing

@@ -1,7 +1,7 @@
 //! A decision log in memory.
 ghost use Rattle.std.specs.Prelude.{◌≡◌, ◌+◌, ◌<◌, ◌≤◌, OnOk, IsErr, IsErrOf, true, false, refl};
 ghost use Rattle.xa_log.specs.declared.log.LogFault.TheVariants.{Refused, Unknown};
-ghost use Rattle.xa_log.specs.Log.{no_records, with_record, with_failure, counted, AppendsTo, ForgetsFrom};
+ghost use Rattle.xa_log.specs.Log.{no_records, with_record, with_failure, counted, AppendsTo, ForgetsFrom, IsEither};
 
 use crate::log::{CommitRecord, DecisionLog, DecisionRecords, LogFault};
 use std::alloc::Global;
@@ -69,9 +69,37 @@ impl MemoryLog {
     fn count_append(&mut self)
         ensures { self.new ≡ record self.old { appends = counted self.old.appends } }
     {
+        self.appends = self.next_append();
+    }
+
+    /// The number of its next append, from 1.
+    pub(crate) fn next_append(&self) -> u64
+        ensures { result ≡ counted self.now.appends }
+    {
         if self.appends < u64::MAX {
-            self.appends += 1;
+            self.appends + 1
+        } else {
+            self.appends
         }
+    }
+
+    /// Counts an append that does nothing.
+    pub(crate) fn pass_over(&mut self)
+        ensures { self.new ≡ record self.old { appends = counted self.old.appends } }
+    {
+        self.count_append();
+    }
+
+    /// Counts an append that puts the record where there is room for it, also where it is to fail.
+    pub(crate) fn keep(&mut self, decision: &CommitRecord)
+        ensures either { IsEither self.old.state self.new.state decision.now.tran decision.now.yes }
+        ensures fits { 0 < self.old.room
+            → self.new.state ≡ with_record self.old.state decision.now.tran decision.now.yes }
+        ensures appends { self.new.appends ≡ counted self.old.appends }
+        ensures failing { self.new.failing ≡ self.old.failing }
+    {
+        self.count_append();
+        self.put(decision.tran, decision.yes);
     }
 
     // Whether the record was put.

@@ -5,7 +5,7 @@ use Rattle.xa_base.proofs.Lists.{taken_next}
 use Rattle.xa_base.specs.Lists.Chain.{more}
 use Rattle.xa_words.specs.declared.code.Code.{Code}
 use Rattle.xa_desk.specs.Ended.{EndedView}
-use Rattle.xa_log.specs.Log.{LogView}
+use Rattle.xa_log.specs.declared.losing.LosingLog.{LosingLog}
 use Rattle.xa_crew.specs.Ending.{EndsDesk}
 use Rattle.xa_crew.specs.Turns.{AllGoOn}
 use Rattle.xa_session.specs.declared.session.Session.{Session}
@@ -13,7 +13,7 @@ use Rattle.xa_transcript.specs.Ended.{all_ended}
 use Rattle.xa_script.specs.InTurns.{Closing, HasEndedDesk, HaveEnded}
 
 -- the first desks have ended, and their threads' logs were given; the others are still to come
-pub record EndSoFar (sessions : List Session) (start : Closing) (first rest : List Session) (logs : List LogView) (now : Closing) : Type 0 where
+pub record EndSoFar (sessions : List Session) (start : Closing) (first rest : List Session) (logs : List LosingLog) (now : Closing) : Type 0 where
   pub so_far : first ++ rest ≡ sessions
   pub logs_are : logs ≡ map (λ x. x.log) first
   pub ends : HaveEnded start first now
@@ -33,7 +33,7 @@ ends_desk d old new view given outstanding thread none ends ended told own turns
 }
 
 -- so the next one has
-pub one_more_ended : (sessions : List Session) (start old new : Closing) (first left rest : List Session) (d : Session) (logs logs' : List LogView)
+pub one_more_ended : (sessions : List Session) (start old new : Closing) (first left rest : List Session) (d : Session) (logs logs' : List LosingLog)
     → EndSoFar sessions start first left logs old
     → left ≡ d ∷ rest → logs' ≡ logs ++ d.log ∷ [] → HasEndedDesk d old new → EndSoFar sessions start (first ++ d ∷ []) rest logs' new
 one_more_ended sessions start old new first left rest d logs logs' so next given ends = record {

@@ -12,7 +12,7 @@ use Rattle.xa_transcript.specs.Values.{opened}
 use Rattle.xa_worker.specs.Workers.{WorkerView}
 use Rattle.xa_grammar.specs.Steps.{ScriptTask}
 use Rattle.xa_grammar.specs.Content.{Content, tasks_of, threads_of}
-use Rattle.xa_log.specs.Log.{LogView}
+use Rattle.xa_log.specs.declared.losing.LosingLog.{LosingLog}
 use Rattle.xa_crew.specs.declared.client_job.Attended.{Attended}
 use Rattle.xa_crew.specs.Run.{Member, HasRun}
 use Rattle.xa_transcript.specs.declared.answer.Told.{Told}
@@ -72,7 +72,7 @@ one_worked s t m number new ran done =
         own = ran.worked.own ∙ new.own ∙ sym number;
         runs =
             subst (λ (z : ScanView). Chain HasDone (session_of m.desk (log_of s m.desk.thread) z, []) (tasks_of m.desk.thread s.steps) last) new.scan
-            (subst (λ (l : LogView). Chain HasDone (session_of m.desk l x.scan, []) (tasks_of m.desk.thread s.steps) last) log
+            (subst (λ (l : LosingLog). Chain HasDone (session_of m.desk l x.scan, []) (tasks_of m.desk.thread s.steps) last) log
             (subst (λ (l : List Told). Chain HasDone (session_of m.desk x.log x.scan, l) (tasks_of m.desk.thread s.steps) last) new.told
             (subst (λ (l : List ScriptTask). Chain HasDone (session_of m.desk x.log x.scan, x.told) l last) tasks runs)));
         ends = ran.ends;

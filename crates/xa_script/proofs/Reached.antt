@@ -7,7 +7,7 @@ use Rattle.std.proofs.lemmas.List.Folds.{list_any-append}
 use Rattle.xa_base.specs.Lists.Chain.{none, more}
 use Rattle.xa_base.proofs.Lists.{flat_push}
 use Rattle.xa_worker.specs.Workers.{WorkerView}
-use Rattle.xa_log.specs.Log.{LogView}
+use Rattle.xa_log.specs.declared.losing.LosingLog.{LosingLog}
 use Rattle.xa_switch.specs.Settling.{Settling}
 use Rattle.xa_grammar.specs.declared.step.Step.TheVariants as step
 use Rattle.xa_grammar.specs.Steps.{ScriptStep}
@@ -126,7 +126,7 @@ module _ (s : Content) where
         }
 
     -- these were all lines
-    pub outcome_so : lines ≡ s.steps → (later : List Told) (settled : Settling) (logs : List LogView) → IsClosed s h.begins (ended_so later settled) logs
+    pub outcome_so : lines ≡ s.steps → (later : List Told) (settled : Settling) (logs : List LosingLog) → IsClosed s h.begins (ended_so later settled) logs
         → IsOutcome mode.Turns s (answers ++ later) h.before (ended_so later settled)
     outcome_so all later settled logs is = record {
       steps = sym all ∙ h.lines_are;

@@ -7,7 +7,8 @@ use Rattle.std.proofs.lemmas.Option.{slice_get-get_or, slice_get_within}
 use Rattle.xa_base.proofs.Lists.{was_mapped, some_same}
 use Rattle.xa_desk.specs.DeskView.{DeskView}
 use Rattle.xa_worker.specs.Workers.{WorkerView}
-use Rattle.xa_log.specs.Log.{LogView}
+use Rattle.xa_log.specs.Losing.{reopened}
+use Rattle.xa_log.specs.declared.losing.LosingLog.{LosingLog}
 use Rattle.xa_switch.specs.declared.plan.Again.{Again}
 use Rattle.xa_switch.specs.OpenedPieces.{AreOfOneOpening}
 use Rattle.xa_switch.specs.Settling.{Settling, IsSettled}
@@ -29,20 +30,20 @@ use Rattle.xa_script.specs.TurnsSoFar.{IsOpen}
 
 -- ---- the threads
 
-desks_again : (ds : List DeskView) (ls : List LogView) (zs : List ScanView) → length ls ≡ length ds → length zs ≡ length ds
+desks_again : (ds : List DeskView) (ls : List LosingLog) (zs : List ScanView) → length ls ≡ length ds → length zs ≡ length ds
     → map (λ (x : Session). x.desk) (sessions_again ds ls zs) ≡ ds
 desks_again [] ls zs logs scans = refl
 desks_again (d ∷ ds) [] zs logs scans = absurd (omega (arith, logs))
 desks_again (d ∷ ds) (l ∷ ls) [] logs scans = absurd (omega (arith, scans))
 desks_again (d ∷ ds) (l ∷ ls) (z ∷ zs) logs scans = ap (λ ds. d ∷ ds) (desks_again ds ls zs (omega (arith, logs)) (omega (arith, scans)))
 
-again_at : (ds : List DeskView) (ls : List LogView) (zs : List ScanView) (k : ℕ) (x : Session) → slice_get (sessions_again ds ls zs) k ≡ Some x
-    → (slice_get ls k ≡ Some x.log) × (slice_get zs k ≡ Some x.scan)
+again_at : (ds : List DeskView) (ls : List LosingLog) (zs : List ScanView) (k : ℕ) (x : Session) → slice_get (sessions_again ds ls zs) k ≡ Some x
+    → (l : LosingLog) × (slice_get ls k ≡ Some l) × (x.log ≡ reopened l) × (slice_get zs k ≡ Some x.scan)
 again_at [] ls zs k x at = absurd (cc)
 again_at (d ∷ ds) [] zs k x at = absurd (cc)
 again_at (d ∷ ds) (l ∷ ls) [] k x at = absurd (cc)
 again_at (d ∷ ds) (l ∷ ls) (z ∷ zs) zero x at =
-    let same : session_of d l z ≡ x = some_same _ x at in (ap (λ (y : Session). Some y.log) same, ap (λ (y : Session). Some y.scan) same)
+    let same : session_of d (reopened l) z ≡ x = some_same _ x at in (l, refl, ap (λ (y : Session). y.log) (sym same), ap (λ (y : Session). Some y.scan) same)
 again_at (d ∷ ds) (l ∷ ls) (z ∷ zs) (suc k) x at = again_at ds ls zs k x at
 
 -- ---- the scans of thread t
@@ -74,7 +75,7 @@ module _ (s : Content) (b : Beginning) (o : Opening) (left : List Session) (h : 
       subst (λ (x : Settling). MayReopen x again) (sym is_closed)
       (may_reopen s b o.steps o.answers h.sessions left h.workers h.ended h.done h.ran again numbers (ap (λ (x : Settling). x.opening) (sym h.settles) ∙ h.number))
 
-  module _ (desks : List DeskView) (workers : List WorkerView) (zs : List ScanView) (logs : List LogView) (logs_are : logs ≡ map (λ x. x.log) left)
+  module _ (desks : List DeskView) (workers : List WorkerView) (zs : List ScanView) (logs : List LosingLog) (logs_are : logs ≡ map (λ x. x.log) left)
       (opened : AreOfOneOpening (reopening settled again) desks workers) (scans : AreScansOf settled again.threads zs) where
     abbrev pub next : Beginning
     next = next_beginning s b o.steps o.answers h.sessions left h.workers h.ended h.done h.ran (scans_in zs)
@@ -94,7 +95,7 @@ module _ (s : Content) (b : Beginning) (o : Opening) (left : List Session) (h : 
 
     many_logs : length logs ≡ length desks
     many_logs =
-        ap (λ (l : List LogView). length l) logs_are ∙ length-map left (λ (x : Session). x.log) ∙ h.ran.many_left
+        ap (λ (l : List LosingLog). length l) logs_are ∙ length-map left (λ (x : Session). x.log) ∙ h.ran.many_left
         ∙ sym (length-map h.sessions (λ (x : Session). x.desk))
         ∙ opened_threads s b.opening b.tables (map (λ (x : Session). x.desk) h.sessions) h.workers h.ran.opened ∙ sym many_desks
 
@@ -110,10 +111,11 @@ module _ (s : Content) (b : Beginning) (o : Opening) (left : List Session) (h : 
       };
       begins = λ k x at.
           let there = again_at desks logs zs k x at in
-          let log = was_mapped (λ (y : Session). y.log) left k x.log (ap (λ l. slice_get l k) (sym logs_are) ∙ there.0) in
+          let log = was_mapped (λ (y : Session). y.log) left k there.0 (ap (λ l. slice_get l k) (sym logs_are) ∙ there.1) in
           let place : suc k ≡ k + 1 = omega arith in
           record {
-            log = ap (λ (l : LogView). l.state) (sym log.2) ∙ log_there b left k log.0 log.1 ∙ ap (log_left b left) place;
-            scan = scan_there zs k x.scan there.1 ∙ ap (scans_in zs) place;
+            log = ap (λ (l : LosingLog). l.found.state) (there.2 ∙ ap reopened (sym log.2)) ∙ log_there b left k log.0 log.1 ∙ ap (log_left b left) place;
+            known = ap (λ (l : LosingLog). l.is_lost) there.2;
+            scan = scan_there zs k x.scan there.3 ∙ ap (scans_in zs) place;
           };
     }

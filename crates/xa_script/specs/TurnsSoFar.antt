@@ -3,7 +3,7 @@ use Rattle.std.specs.Prelude.{◌≡◌, ℕ, ◌+◌, Some, All, List, [], ◌�
 use Rattle.std.specs.List.{flat_map}
 use Rattle.xa_base.specs.Lists.{Chain}
 use Rattle.xa_worker.specs.Workers.{WorkerView}
-use Rattle.xa_log.specs.Log.{LogView}
+use Rattle.xa_log.specs.declared.losing.LosingLog.{LosingLog}
 use Rattle.xa_grammar.specs.declared.step.Step.TheVariants as step
 use Rattle.xa_grammar.specs.Steps.{ScriptStep}
 use Rattle.xa_grammar.specs.Content.{Content, Fits, threads_of, managers_of, AreOfOne}
@@ -32,7 +32,7 @@ pub record Goes (s : Content) (b : Beginning) (steps : List ScriptStep) (answers
   pub fits : All (Fits (threads_of s) (managers_of s)) steps
 
 -- It has come to what was settled, and to these logs.
-pub record IsClosed (s : Content) (b : Beginning) (o : Opening) (logs : List LogView) : Type 0 where
+pub record IsClosed (s : Content) (b : Beginning) (o : Opening) (logs : List LosingLog) : Type 0 where
   pub left : List Session
   pub comes : HasCome mode.Turns s b o left
   pub logs_are : logs ≡ map (λ x. x.log) left

@@ -20,7 +20,7 @@ use xa_crew::{Turns, end_desk, settle_all};
 use xa_desk::EndedDesk;
 use xa_desk::laws::desks_go_on;
 use xa_grammar::{Script, Step, Task};
-use xa_log::MemoryLog;
+use xa_log::LosingLog;
 use xa_session::{Session, carry_out, sessions_again, sessions_of};
 use xa_switch::laws::outstanding_operations_stay_kept;
 use xa_switch::{OpenFault, Settled, open_switch, reopen};
@@ -38,7 +38,7 @@ struct Runner {
 #[derive(Drop)]
 struct Closed {
     opening: u64,
-    logs: Vec<MemoryLog>,
+    logs: Vec<LosingLog>,
     settled: Settled,
 }
 
@@ -172,7 +172,7 @@ fn end_desks<R: Wait>(
     sessions: Vec<Session>,
     turns: &mut Turns,
     transcript: &mut Transcript,
-) -> Result<(Vec<EndedDesk>, Vec<MemoryLog>), AllocError>
+) -> Result<(Vec<EndedDesk>, Vec<LosingLog>), AllocError>
     requires { All (λ s. AllKept s.desk) sessions.items }
     ensures ended { IfOk result (λ r. HaveEnded (closing_of [] turns.old transcript.old) sessions.items
         (closing_of r.0.items turns.new transcript.new)) }

@@ -1,4 +1,5 @@
 //! How a script is read into settings, keys and steps, and the texts of faults.
+mod deaths;
 mod reopening;
 mod tasks;
 

@@ -1,15 +1,22 @@
 -- What a commit of several branches does to its thread, and what it answers.
-use Rattle.std.specs.Prelude.{◌≡◌, ℕ, pos, List, decimal, map}
+use Rattle.std.specs.Prelude.{◌≡◌, ℕ, pos, Bool, true, false, None, Some, Option, List, Vec, decimal, length, map}
+use Rattle.std.specs.Global.{Global}
+use Rattle.xa_words.specs.declared.code.Code.{Code}
+use Rattle.xa_words.specs.declared.death.Death.{Death}
 use Rattle.xa_words.specs.Tran.{TranName}
 use Rattle.xa_words.specs.ManagerSet.{managers_in}
-use Rattle.xa_desk.specs.DeskView.{outstanding}
+use Rattle.xa_desk.specs.DeskView.{ledger, outstanding}
 use Rattle.xa_driver.specs.declared.branch.Branch.{Branch}
 use Rattle.xa_driver.specs.declared.done.Done.{Done}
 use Rattle.xa_driver.specs.Asks.{KeepsDesk}
 use Rattle.xa_driver.specs.Decision.{yes_of}
-use Rattle.xa_log.specs.Log.{AppendsTo}
-use Rattle.xa_driver.specs.Order.{IsThreeRounds}
-use Rattle.xa_driver.specs.Trace.{MayCommit, AppendsOnce, IsTraceOfCommit}
+use Rattle.xa_driver.specs.Deaths.{AppendsUntil, Dies, LeavesHandles, PutsLedger, is_decided_by}
+use Rattle.xa_driver.specs.Resolving.{AsksLedger}
+use Rattle.xa_driver.specs.Rounds.{first_ask}
+use Rattle.xa_driver.specs.Stages.{HasVoted}
+use Rattle.xa_log.specs.Losing.{AppendsBefore, LosesTo}
+use Rattle.xa_driver.specs.Order.{GoesAsRound, IsThreeRounds}
+use Rattle.xa_driver.specs.Trace.{MayCommit, AppendsOnce, IsTraceOfCommit, IsUnknown}
 use Rattle.xa_grammar.specs.declared.step.CommitAll.{CommitAll}
 use Rattle.xa_transcript.specs.declared.answer.Answer.{Answer}
 use Rattle.xa_transcript.specs.declared.answer.Answer.TheVariants as answer
@@ -27,16 +34,42 @@ branch_at c m = record { m = m; xid = record { format = pos 1; gtrid = c.tran.gt
 abbrev pub branches_of : CommitAll TranName → List Branch
 branches_of c = map (branch_at c) (managers_in c.managers)
 
+-- The thread's log is known, and its branches may be committed.
+pub record CanCommit (c : CommitAll TranName) (x : Session) : Type 0 where
+  pub known : x.log.is_lost ≡ false
+  pub may : MayCommit x.desk x.log.found.state (branches_of c)
+
+-- A commit whose coordinator dies here, if it dies, comes to its decision.
+abbrev pub comes_to_decide : Option Death → Bool
+comes_to_decide None = true
+comes_to_decide (Some at) = is_decided_by at
+
 -- What a commit of several branches does to its thread's desk and log, and what it answers: where the branches may not
--- be committed nothing is done; else it is the trace of the coordinator, in three rounds, and where the votes want a
--- record it is appended once.
+-- be committed nothing is done. Where its coordinator lives it is the trace of the coordinator, in three rounds, and
+-- where the votes want a record it is appended once; and where it dies, it comes as far as that. Where it isn't known
+-- whether the log has the record, all branches have voted, and nothing more was sent.
 pub data CommitsAll (c : CommitAll TranName) (old new : Session) (a : Answer) : Type 0 where
-  refused :
-      (MayCommit old.desk old.log.state (branches_of c) → ⊥) → a ≡ answer.Refused → new ≡ old → CommitsAll c old new a
-  decided : (done : Done) → MayCommit old.desk old.log.state (branches_of c)
-      → IsTraceOfCommit (named c) (branches_of c) old.desk.ledgers new.desk.ledgers old.log.state new.log.state done
+  refused : (CanCommit c old → ⊥) → a ≡ answer.Refused → new ≡ old → CommitsAll c old new a
+  decided : (done : Done) → c.death ≡ None → CanCommit c old
+      → IsTraceOfCommit (named c) (branches_of c) old.desk.ledgers new.desk.ledgers old.log.found.state
+      new.log.found.state done
       → new.scan ≡ old.scan → KeepsDesk old.desk new.desk → outstanding new.desk.ledgers ≡ outstanding old.desk.ledgers
       → a ≡ answer.Decided done → IsThreeRounds (branches_of c) done.commit old.desk new.desk
-      → AppendsOnce AppendsTo (named c) (yes_of (branches_of c) done.votes.items) done.votes.items done.logged old.log
+      → AppendsOnce AppendsBefore (named c) (yes_of (branches_of c) done.votes.items) done.votes.items done.logged
+      old.log new.log
+      → CommitsAll c old new a
+  undecided : (votes : Vec Code Global) → comes_to_decide c.death ≡ true → CanCommit c old
+      → HasVoted (branches_of c) old.desk.ledgers new.desk.ledgers votes.items
+      → new.scan ≡ old.scan → KeepsDesk old.desk new.desk → outstanding new.desk.ledgers ≡ outstanding old.desk.ledgers
+      → a ≡ answer.Undecided votes → GoesAsRound (map first_ask (branches_of c)) old.desk new.desk
+      → IsUnknown (λ l. l.is_lost ≡ false) LosesTo (named c) (yes_of (branches_of c) votes.items) votes.items old.log
       new.log
+      → CommitsAll c old new a
+  died : (at : Death) (known : Done) → c.death ≡ Some at → CanCommit c old
+      → Dies AsksLedger PutsLedger at (named c) (branches_of c) (ledger old.desk.ledgers) (ledger new.desk.ledgers)
+      old.log.found.state new.log.found.state known
+      → length new.desk.ledgers ≡ length old.desk.ledgers → new.scan ≡ old.scan
+      → LeavesHandles (branches_of c) old.desk new.desk → a ≡ answer.Died at known
+      → AppendsUntil AppendsBefore at (named c) (yes_of (branches_of c) known.votes.items) known.votes.items
+      known.logged old.log new.log
       → CommitsAll c old new a

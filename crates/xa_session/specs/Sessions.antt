@@ -1,30 +1,45 @@
 -- A thread of a script, and what its tasks do.
-use Rattle.std.specs.Prelude.{◌≡◌, ℕ, IsTrue, unwrap_or, List, [], ◌∷◌, ◌++◌, map, zip}
+use Rattle.std.specs.Prelude.{◌≡◌, ℕ, Bool, false, Option, None, Some, IsTrue, unwrap_or, List, [], ◌∷◌, ◌++◌, map, zip}
 use Rattle.xa_desk.specs.DeskView.{DeskView}
 use Rattle.xa_desk.specs.GoesOn.{GoesOn}
 use Rattle.xa_desk.specs.Kept.{AllKept}
 use Rattle.xa_switch.specs.Scans.{ScanView, no_scan}
-use Rattle.xa_log.specs.Log.{LogView, no_records}
-use Rattle.xa_driver.specs.Resolving.{MayResolve}
-use Rattle.xa_driver.specs.Trace.{MayCommit}
+use Rattle.xa_log.specs.Log.{no_records}
+use Rattle.xa_log.specs.Losing.{reopened}
+use Rattle.xa_log.specs.declared.losing.LosingLog.{LosingLog}
 use Rattle.xa_grammar.specs.declared.step.Action.TheVariants.{Call, CommitAll, Resolve}
 use Rattle.xa_grammar.specs.Steps.{ScriptAction, ScriptTask}
-use Rattle.xa_grammar.specs.Content.{Content, failing_append}
+use Rattle.xa_grammar.specs.Content.{Content, failing_append, unknown_append}
+use Rattle.xa_grammar.specs.declared.script.UnknownAppend.{UnknownAppend}
 use Rattle.xa_transcript.specs.declared.answer.Answer.{Answer}
 use Rattle.xa_transcript.specs.declared.answer.Told.{Told}
 use Rattle.xa_transcript.specs.declared.answer.Told.TheVariants.{Answered}
 use Rattle.xa_session.specs.declared.session.Session.{Session}
 use Rattle.xa_session.specs.Calling.{Answers, calling_waits}
-use Rattle.xa_session.specs.Committing.{branches_of, CommitsAll}
-use Rattle.xa_session.specs.Resolving.{ResolvesLeft}
+use Rattle.xa_session.specs.Committing.{CanCommit, CommitsAll}
+use Rattle.xa_session.specs.Resolving.{CanResolve, ResolvesLeft}
 
--- The log of thread t at first: without a record and without room for one, and none of its appends fails but the one
--- that a line of the script names.
-abbrev pub log_of : Content → ℕ → LogView
-log_of s t = record { state = no_records; appends = 0; failing = unwrap_or (failing_append s t) 0; room = 0 }
+-- Which append has an unknown end, and whether the log turns out to have the record.
+abbrev pub losing_of : Option UnknownAppend → ℕ
+losing_of None = 0
+losing_of (Some end) = end.append
+
+abbrev pub keeps_of : Option UnknownAppend → Bool
+keeps_of None = false
+keeps_of (Some end) = end.kept
+
+-- The log of thread t at first: without a record and without room for one. None of its appends fails, and none has an
+-- unknown end, but those that lines of the script name.
+abbrev pub log_of : Content → ℕ → LosingLog
+log_of s t = record {
+  found = record { state = no_records; appends = 0; failing = unwrap_or (failing_append s t) 0; room = 0 };
+  losing = losing_of (unknown_append s t);
+  keeps = keeps_of (unknown_append s t);
+  is_lost = false;
+}
 
 -- A desk with a log and with scans.
-abbrev pub session_of : DeskView → LogView → ScanView → Session
+abbrev pub session_of : DeskView → LosingLog → ScanView → Session
 session_of d l z = record { desk = d; log = l; scan = z }
 
 -- The thread of this desk at the first opening.
@@ -35,9 +50,10 @@ new_session s d = session_of d (log_of s d.thread) no_scan
 abbrev pub new_sessions : Content → List DeskView → List Session
 new_sessions s desks = map (new_session s) desks
 
--- The threads of these desks at a later opening, each with the log that it had and with the scans that it got.
-abbrev pub sessions_again : List DeskView → List LogView → List ScanView → List Session
-sessions_again desks logs scans = map (λ x. session_of x.0.0 x.0.1 x.1) (zip (zip desks logs) scans)
+-- The threads of these desks at a later opening, each with the log that it had, opened again, and with the scans that
+-- it got.
+abbrev pub sessions_again : List DeskView → List LosingLog → List ScanView → List Session
+sessions_again desks logs scans = map (λ x. session_of x.0.0 (reopened x.0.1) x.1) (zip (zip desks logs) scans)
 
 -- What a task that asks for this does to its thread, and what it answers. A call leaves the log, a commit the scans,
 -- and a resolve both.
@@ -49,8 +65,8 @@ Executes Resolve old new a = ResolvesLeft old new a
 -- A task that asks for this may wait: a call that may, a commit that may be made, and a resolve that may.
 abbrev pub MayWait : ScriptAction → Session → Type 0
 MayWait (Call c) old = IsTrue (calling_waits c.call c old.desk old.scan)
-MayWait (CommitAll c) old = MayCommit old.desk old.log.state (branches_of c)
-MayWait Resolve old = MayResolve old.desk old.scan
+MayWait (CommitAll c) old = CanCommit c old
+MayWait Resolve old = CanResolve old
 
 -- What a task does to its thread, and what it answers. The desk goes on, and what is outstanding stays kept.
 pub record Does (x : ScriptAction) (old new : Session) (a : Answer) : Type 0 where

@@ -1,9 +1,9 @@
 //! A commit of several branches by a line of a script.
-ghost use Rattle.std.specs.Prelude.{◌≡◌, IfOk, OnErr};
+ghost use Rattle.std.specs.Prelude.{◌≡◌, false, None, Some, IfOk, OnErr};
+ghost use Rattle.xa_driver.specs.Trace.{MayCommit};
 ghost use Rattle.xa_desk.specs.GoesOn.{GoesOn};
 ghost use Rattle.xa_desk.specs.Kept.{AllKept};
-ghost use Rattle.xa_session.specs.Committing.{branch_at, branches_of, CommitsAll};
-ghost use Rattle.xa_driver.specs.Trace.{MayCommit};
+ghost use Rattle.xa_session.specs.Committing.{branch_at, branches_of, CanCommit, CommitsAll};
 ghost use Rattle.xa_switch.specs.Scans.{ScanView};
 ghost use Rattle.xa_session.specs.Sessions.{session_of};
 
@@ -13,11 +13,11 @@ use std::sync::Wait;
 use xa_base::MOST_MANAGERS;
 use xa_desk::laws::desks_go_on;
 use xa_desk::{Desk, Idle};
-use xa_driver::{Branch, CommitFault, commit_all, may_commit};
+use xa_driver::{Branch, CommitFault, commit_all, commit_until, may_commit};
 use xa_grammar::CommitAll;
-use xa_log::MemoryLog;
+use xa_log::LosingLog;
 use xa_transcript::Answer;
-use xa_words::Xid;
+use xa_words::{Death, Xid};
 
 // The branch `G.M` at a manager.
 fn branch_at(asked: &CommitAll, m: u32) -> Branch
@@ -43,13 +43,73 @@ fn branches_of(alloc: Global, asked: &CommitAll) -> Result<Vec<Branch>, AllocErr
     Ok(branches)
 }
 
-/// Commits the branches, where that may be done. It fails only for want of memory, and then nothing is
-/// done.
+// Commits the branches, with a coordinator that lives. It fails only for want of memory, and then nothing is done.
+fn decide<R: Wait, I: Idle>(
+    rt: &R,
+    alloc: Global,
+    desk: &mut Desk,
+    log: &mut LosingLog,
+    asked: &CommitAll,
+    branches: &[Branch],
+    idle: &mut I,
+) -> Result<Answer, AllocError>
+    requires lives { asked.now.death ≡ None }
+    requires branches { branches.now ≡ branches_of asked.now }
+    requires may { MayCommit desk.old log.old.found.state branches.now }
+    requires known { log.old.is_lost ≡ false }
+    ensures commits { IfOk result (λ a. (z : ScanView) → CommitsAll asked.now (session_of desk.old log.old z)
+        (session_of desk.new log.new z) a) }
+    ensures goes_on { GoesOn desk.old desk.new }
+    ensures kept { AllKept desk.old → AllKept desk.new }
+    ensures unsent { OnErr result (desk.new ≡ desk.old) }
+    ensures unlogged { OnErr result (log.new ≡ log.old) }
+    ensures idled { I.leads idle.old idle.new }
+{
+    match commit_all(rt, alloc, desk, log, branches, idle) {
+        Ok(done) => Ok(Answer::Decided(done)),
+        Err(CommitFault::NoMemory) => Err(AllocError),
+        Err(CommitFault::Undecided(votes)) => Ok(Answer::Undecided(votes)),
+    }
+}
+
+// Commits the branches up to the death of their coordinator. It fails only for want of memory, and then nothing is
+// done.
+fn die<R: Wait, I: Idle>(
+    rt: &R,
+    alloc: Global,
+    desk: &mut Desk,
+    log: &mut LosingLog,
+    asked: &CommitAll,
+    branches: &[Branch],
+    at: Death,
+    idle: &mut I,
+) -> Result<Answer, AllocError>
+    requires dies { asked.now.death ≡ Some at }
+    requires branches { branches.now ≡ branches_of asked.now }
+    requires may { MayCommit desk.old log.old.found.state branches.now }
+    requires known { log.old.is_lost ≡ false }
+    ensures commits { IfOk result (λ a. (z : ScanView) → CommitsAll asked.now (session_of desk.old log.old z)
+        (session_of desk.new log.new z) a) }
+    ensures goes_on { GoesOn desk.old desk.new }
+    ensures kept { AllKept desk.old → AllKept desk.new }
+    ensures unsent { OnErr result (desk.new ≡ desk.old) }
+    ensures unlogged { OnErr result (log.new ≡ log.old) }
+    ensures idled { I.leads idle.old idle.new }
+{
+    match commit_until(rt, alloc, desk, log, branches, at, idle) {
+        Ok(known) => Ok(Answer::Died { at, known }),
+        Err(CommitFault::NoMemory) => Err(AllocError),
+        Err(CommitFault::Undecided(votes)) => Ok(Answer::Undecided(votes)),
+    }
+}
+
+/// Commits the branches, where that may be done, or dies as it commits them. It fails only for want of memory, and then
+/// nothing is done.
 pub(crate) fn commit<R: Wait, I: Idle>(
     rt: &R,
     alloc: Global,
     desk: &mut Desk,
-    log: &mut MemoryLog,
+    log: &mut LosingLog,
     asked: &CommitAll,
     idle: &mut I,
 ) -> Result<Answer, AllocError>
@@ -60,17 +120,15 @@ pub(crate) fn commit<R: Wait, I: Idle>(
     ensures unsent { OnErr result (desk.new ≡ desk.old) }
     ensures unlogged { OnErr result (log.new ≡ log.old) }
     ensures idled { I.leads idle.old idle.new }
-    ensures prompt { ¬ MayCommit desk.old log.old.state (branches_of asked.now) → idle.new ≡ idle.old }
+    ensures prompt { (z : ScanView) → ¬ CanCommit asked.now (session_of desk.old log.old z) → idle.new ≡ idle.old }
 {
     desks_go_on();
     let branches = branches_of(alloc, asked)?;
     if !may_commit(desk, log, &branches) {
         return Ok(Answer::Refused);
     }
-    match commit_all(rt, alloc, desk, log, &branches, idle) {
-        Ok(done) => Ok(Answer::Decided(done)),
-        Err(CommitFault::NoMemory) => Err(AllocError),
-        // No append to a log in memory has an unknown end.
-        Err(CommitFault::Undecided(_)) => unreachable!(),
+    match asked.death {
+        None => decide(rt, alloc, desk, log, asked, &branches, idle),
+        Some(at) => die(rt, alloc, desk, log, asked, &branches, at, idle),
     }
 }

@@ -2,8 +2,7 @@
 ghost use Rattle.std.specs.Prelude.{◌≡◌, IfOk, OnErr};
 ghost use Rattle.xa_desk.specs.GoesOn.{GoesOn};
 ghost use Rattle.xa_desk.specs.Kept.{AllKept};
-ghost use Rattle.xa_driver.specs.Resolving.{MayResolve};
-ghost use Rattle.xa_session.specs.Resolving.{ResolvesLeft};
+ghost use Rattle.xa_session.specs.Resolving.{CanResolve, ResolvesLeft};
 ghost use Rattle.xa_session.specs.Sessions.{session_of};
 
 use std::alloc::{AllocError, Global};
@@ -11,16 +10,17 @@ use std::sync::Wait;
 use xa_desk::laws::desks_go_on;
 use xa_desk::{Desk, Idle};
 use xa_driver::{ResolveFault, may_resolve, resolve};
-use xa_log::MemoryLog;
+use xa_log::LosingLog;
 use xa_switch::Scan;
 use xa_transcript::Answer;
 
-/// Resolves what was left, where there is room for it. It fails only for want of memory, and then nothing is done.
+/// Resolves what was left, where the log is known and there is room for it. It fails only for want of memory, and then
+/// nothing is done.
 pub(crate) fn resolve_left<R: Wait, I: Idle>(
     rt: &R,
     alloc: Global,
     desk: &mut Desk,
-    log: &MemoryLog,
+    log: &LosingLog,
     scan: &Scan,
     idle: &mut I,
 ) -> Result<Answer, AllocError>
@@ -30,7 +30,7 @@ pub(crate) fn resolve_left<R: Wait, I: Idle>(
     ensures kept { AllKept desk.old → AllKept desk.new }
     ensures unsent { OnErr result (desk.new ≡ desk.old) }
     ensures idled { I.leads idle.old idle.new }
-    ensures prompt { ¬ MayResolve desk.old scan.now → idle.new ≡ idle.old }
+    ensures prompt { ¬ CanResolve (session_of desk.old log.now scan.now) → idle.new ≡ idle.old }
 {
     desks_go_on();
     if !may_resolve(desk, scan, log) {

@@ -15,7 +15,7 @@ use xa_crew::laws::idles_go_on;
 use xa_desk::laws::desks_go_on;
 use xa_desk::{Desk, Idle};
 use xa_grammar::{Script, Tasks};
-use xa_log::MemoryLog;
+use xa_log::LosingLog;
 use xa_switch::Scan;
 use xa_transcript::{Told, Transcript};
 
@@ -25,7 +25,7 @@ pub struct ScriptThread {
     /// Its number, from 1.
     pub thread: u32,
     alloc: Global,
-    log: MemoryLog,
+    log: LosingLog,
     scan: Scan,
     tasks: Tasks,
     /// What its tasks answered, in their order.
@@ -39,7 +39,7 @@ fn carry_out_all<R: Wait, I: Idle>(
     rt: &R,
     alloc: Global,
     desk: &mut Desk,
-    log: &mut MemoryLog,
+    log: &mut LosingLog,
     scan: &mut Scan,
     tasks: &Tasks,
     told: &mut Transcript,

@@ -12,7 +12,7 @@ use std::alloc::{AllocError, Global};
 use std::sync::Wait;
 use xa_desk::{Desk, Idle};
 use xa_grammar::{Action, Script};
-use xa_log::MemoryLog;
+use xa_log::{LosingLog, MemoryLog};
 use xa_switch::Scan;
 use xa_transcript::Answer;
 
@@ -20,18 +20,22 @@ use xa_transcript::Answer;
 #[derive(Drop)]
 pub struct Session {
     pub desk: Desk,
-    pub log: MemoryLog,
+    pub log: LosingLog,
     pub scan: Scan,
 }
 
-/// The log of a thread that has committed nothing. The append that the script names for it, counted
-/// from 1, fails.
-pub(crate) fn log_of(alloc: Global, script: &Script, thread: u32) -> MemoryLog
+/// The log of a thread that has committed nothing. Of its appends, counted from 1, those that the script names fail or
+/// have an unknown end.
+pub(crate) fn log_of(alloc: Global, script: &Script, thread: u32) -> LosingLog
     ensures { result ≡ log_of script.now thread }
 {
-    match script.failing_append(thread) {
+    let log = match script.failing_append(thread) {
         Some(k) => MemoryLog::failing_at(alloc, k),
         None => MemoryLog::new(alloc),
+    };
+    match script.unknown_append(thread) {
+        Some(end) => LosingLog::losing_at(log, end.append, end.kept),
+        None => LosingLog::new(log),
     }
 }
 
@@ -40,7 +44,7 @@ pub fn carry_out<R: Wait, I: Idle>(
     rt: &R,
     alloc: Global,
     desk: &mut Desk,
-    log: &mut MemoryLog,
+    log: &mut LosingLog,
     scan: &mut Scan,
     action: &Action,
     idle: &mut I,
@@ -79,11 +83,12 @@ pub fn sessions_of(
     Ok(sessions)
 }
 
-/// The threads of these desks at a later opening, each with the log that it had and with the scans that it got.
+/// The threads of these desks at a later opening, each with the log that it had, opened again, and with the
+/// scans that it got.
 pub fn sessions_again(
     alloc: Global,
     desks: Vec<Desk>,
-    logs: Vec<MemoryLog>,
+    logs: Vec<LosingLog>,
     scans: Vec<Scan>,
 ) -> Result<Vec<Session>, AllocError>
     ensures { IfOk result (λ v. v.items ≡ sessions_again desks.items logs.items scans.items) }
@@ -92,6 +97,10 @@ pub fn sessions_again(
         .into_iter()
         .zip(logs)
         .zip(scans)
-        .map(|((desk, log), scan)| Session { desk, log, scan })
+        .map(|((desk, log), scan)| Session {
+            desk,
+            log: log.reopened(),
+            scan,
+        })
         .collect(alloc)
 }

@@ -1,5 +1,5 @@
 -- What a thread's lines add to its entries of a manager's journal, where all that they ask the manager is so.
-use Rattle.std.proofs.Common.{◌≡◌, ℕ, ⊎_elim, ◌⊎◌, zero, suc, ◌<◌, ◌≤◌, Bool, false, ◌==◌, List, [], ◌∷◌, ◌++◌, Option, Some, None, sym, refl, ap, ◌∙◌, subst}
+use Rattle.std.proofs.Common.{◌≡◌, ℕ, ⊎_elim, zero, suc, ◌<◌, ◌≤◌, Bool, false, ◌==◌, List, [], ◌∷◌, ◌++◌, Option, Some, None, sym, refl, ap, ◌∙◌, subst}
 use Rattle.std.proofs.Common.{arith, append_assoc, append-nil}
 use Rattle.std.specs.Prelude.{if◌then◌else◌, All, map}
 use Rattle.std.specs.List.{Contains}
@@ -12,6 +12,7 @@ use Rattle.xa_words.specs.Flags.{check_flags}
 use Rattle.xa_words.specs.Tran.{TranName}
 use Rattle.xa_words.specs.Xid.{XidName}
 use Rattle.xa_words.specs.declared.code.Code.{Code}
+use Rattle.xa_words.specs.declared.death.Death.{Death}
 use Rattle.xa_words.specs.declared.flags.Call.TheVariants as call
 use Rattle.xa_words.specs.declared.request.Op.{Op}
 use Rattle.xa_words.specs.declared.request.Op.TheVariants.{OpenRm, Prepare, Forget, Listed}
@@ -33,20 +34,21 @@ use Rattle.xa_grammar.specs.declared.step.CommitAll.{CommitAll}
 use Rattle.xa_grammar.specs.declared.step.Action.TheVariants as action
 use Rattle.xa_grammar.specs.Steps.{ScriptAction}
 use Rattle.xa_transcript.specs.declared.answer.Answer.{Answer}
-use Rattle.xa_session.specs.Committing.{branches_of}
+use Rattle.xa_session.specs.Committing.{branches_of, named}
 use Rattle.xa_telling.specs.Wants.{Wanted, wanted_in}
 use Rattle.xa_telling.specs.Wants.Wanted.{code_of, handle_for, in_vain, completion, listing}
 use Rattle.xa_telling.specs.Parts.{Part, next_entry, Asked, Lists, CallTakes}
 use Rattle.xa_telling.specs.Parts.Asked.{answered as asked_answered, refused as asked_refused}
 use Rattle.xa_telling.specs.Parts.CallTakes.{answered, kept, refused, completes, lists}
-use Rattle.xa_telling.specs.Commits.{CarriesOut, Decides}
+use Rattle.xa_telling.specs.Commits.{CarriesOut, CarriesOutSome, Decides, LosesSight, StopsAt}
 use Rattle.xa_telling.specs.Commits.CarriesOut.{carried, withheld}
-use Rattle.xa_telling.specs.Commits.CommitTakes.{refused as takes_none, decided}
+use Rattle.xa_telling.specs.Commits.CommitTakes.{refused as takes_none, decided, undecided, died}
 use Rattle.xa_telling.specs.Resolves.{EndsLeft}
 use Rattle.xa_telling.specs.Resolves.ResolveTakes.{refused as ends_none, resolved}
 use Rattle.xa_telling.specs.Journals.{Takes}
 use Rattle.xa_telling.proofs.Mapped.{by_mapped}
 use Rattle.xa_telling.proofs.Branches.{branch_there, up_to_or_not}
+use Rattle.xa_telling.proofs.Deaths.{Reached, asked_reach, at_manager, came_reach, reached_by}
 
 -- the op that a call asks for, if it does
 abbrev pub op_in : Wanted → Option Op
@@ -68,6 +70,16 @@ pub elsewhere : (t : ℕ) (c : CommitAll TranName) (done : Outcomes) (old new : 
     → has_branch_at (branches_of c) m ≡ false → new.entries m ≡ old.entries m
 elsewhere t c done old new is zero none = is.nowhere
 elsewhere t c done old new is (suc m) none = is.course.others (suc m) (omega arith) none
+
+pub nowhere_stopped : (t : ℕ) (c : CommitAll TranName) (at : Death) (known : Outcomes) (old new : Part) → StopsAt t c at known old new → (m : ℕ)
+    → has_branch_at (branches_of c) m ≡ false → new.entries m ≡ old.entries m
+nowhere_stopped t c at known old new is zero none = is.nowhere
+nowhere_stopped t c at known old new is (suc m) none = is.course.others (suc m) (omega arith) none
+
+pub nowhere_lost : (t : ℕ) (c : CommitAll TranName) (votes : List Code) (old new : Part) → LosesSight t c votes old new → (m : ℕ)
+    → has_branch_at (branches_of c) m ≡ false → new.entries m ≡ old.entries m
+nowhere_lost t c votes old new is zero none = is.nowhere
+nowhere_lost t c votes old new is (suc m) none = is.others (suc m) (omega arith) none
 
 -- nor where a resolve has no manager
 pub past_all : (t : ℕ) (outcomes : List Outcome) (old new : Part) → EndsLeft t outcomes old new → (m : ℕ) → (IsUpTo MOST_MANAGERS m → ⊥)
@@ -125,6 +137,42 @@ module _ (P : Op → Type 0) where
       (asks.obeys h.4 h.1) (asks.forgets h.4 h.2) (asks.prepares h.4) (adds_none (old.entries b.m) (old.entries b.m) refl)))
       (branch_there (λ b v s e. AsksAt m done.commit b × AtBranch (CarriesOut t) done.commit b v s e (old.entries b.m) (new.entries b.m)) m (branches_of c) done.votes.items is.course.seconds done.endings.items
       (each_with (AsksAt m done.commit) (λ b v s e. AtBranch (CarriesOut t) done.commit b v s e (old.entries b.m) (new.entries b.m)) (branches_of c) done.votes.items is.course.seconds done.endings.items so is.course.each))
+
+  -- ---- a commit that came to no end
+
+  puts_on : (t : ℕ) (old d e : List Entry) (op : Op) → P op → CarriesOutSome t d op e → Adds old d → Adds old e
+  puts_on t old d e op so is so_far = carries_on t old d e op is.0 so is.1 so_far
+
+  -- what it asks at a branch of manager m is so, where W holds of its vote
+  pub record AsksFirst (W : Code → Type 0) (m : ℕ) (commit : Bool) (b : Branch) : Type 0 where
+    pub prepares : b.m ≡ m → P (Prepare b.xid)
+    pub obeys : b.m ≡ m → (v : Code) → W v → IsAskedFor P (second_op commit b.xid v)
+
+  reached_adds : (W : Code → Type 0) (m t : ℕ) (commit : Bool) (bs : List Branch) (old new : Part) → All (AsksFirst W m commit) bs
+      → All (λ b. Reached (CarriesOut t) (CarriesOutSome t) W commit b (old.entries b.m) (new.entries b.m)) bs
+      → (has_branch_at bs m ≡ false → new.entries m ≡ old.entries m) → Adds (old.entries m) (new.entries m)
+  reached_adds W m t commit bs old new so each other =
+      ⊎_elim (λ (h : has_branch_at bs m ≡ false). adds_none (old.entries m) (new.entries m) (other h))
+      (λ (h : (b : Branch) × (b.m ≡ m) × (AsksFirst W m commit b × Reached (CarriesOut t) (CarriesOutSome t) W commit b (old.entries b.m) (new.entries b.m))).
+      let b : Branch = h.0 in
+      subst (λ k. Adds (old.entries k) (new.entries k)) h.1
+      (reached_by (CarriesOut t) (CarriesOutSome t) P (Adds (old.entries b.m)) (carries_on t (old.entries b.m)) (puts_on t (old.entries b.m)) W commit b (old.entries b.m) (new.entries b.m)
+      (h.2.0.prepares h.1) (h.2.0.obeys h.1) h.2.1 (adds_none (old.entries b.m) (old.entries b.m) refl)))
+      (at_manager (λ b. AsksFirst W m commit b × Reached (CarriesOut t) (CarriesOutSome t) W commit b (old.entries b.m) (new.entries b.m)) m bs (λ k d lt. (so k d lt, each k d lt)))
+
+  pub stops_adds : (W : Code → Type 0) (m t : ℕ) (c : CommitAll TranName) (at : Death) (known : Outcomes) (old new : Part)
+      → All (AsksFirst W m known.commit) (branches_of c) → All W known.votes.items → StopsAt t c at known old new → Adds (old.entries m) (new.entries m)
+  stops_adds W m t c at known old new so votes_so is =
+      reached_adds W m t known.commit (branches_of c) old new so
+      (came_reach (CarriesOut t) (CarriesOutSome t) W old.entries new.entries at (named c) (branches_of c) old.log new.log known votes_so is.course.far)
+      (nowhere_stopped t c at known old new is m)
+
+  pub loses_adds : (m t : ℕ) (c : CommitAll TranName) (votes : List Code) (old new : Part) → All (λ b. b.m ≡ m → P (Prepare b.xid)) (branches_of c)
+      → LosesSight t c votes old new → Adds (old.entries m) (new.entries m)
+  loses_adds m t c votes old new so is =
+      reached_adds (λ v. ⊥) m t false (branches_of c) old new (λ k d lt. record { prepares = so k d lt; obeys = λ here v none. absurd none })
+      (asked_reach (CarriesOut t) (CarriesOutSome t) (λ v. ⊥) old.entries new.entries false (branches_of c) votes is.asked)
+      (nowhere_lost t c votes old new is m)
 
   -- ---- a resolve
 
@@ -200,7 +248,11 @@ module _ (P : Op → Type 0) where
     takes_add settled (action.Call q) t a old new so is = call_adds settled t q a old new so is
     takes_add settled (action.CommitAll c) t a old new so (takes_none told same) =
         adds_none (old.entries m) (new.entries m) (ap (λ (x : Part). x.entries m) same)
-    takes_add settled (action.CommitAll c) t a old new so (decided done told is) = decides_adds m t c done old new (so done.commit) is
+    takes_add settled (action.CommitAll c) t a old new so (decided done alive told is) = decides_adds m t c done old new (so done.commit) is
+    takes_add settled (action.CommitAll c) t a old new so (undecided votes comes told is) =
+        loses_adds m t c votes.items old new (λ k d lt. (so false k d lt).prepares) is
+    takes_add settled (action.CommitAll c) t a old new so (died at known dead told is) =
+        stops_adds (λ v. Unit {0}) m t c at known old new (λ k d lt. record { prepares = (so known.commit k d lt).prepares; obeys = λ here v w. (so known.commit k d lt).obeys here v }) (λ k d lt. tt) is
     takes_add settled action.Resolve t a old new so (ends_none told same) = adds_none (old.entries m) (new.entries m) (ap (λ (x : Part). x.entries m) same)
     takes_add settled action.Resolve t a old new so (resolved outcomes told is) = ends_adds m t outcomes.items old new so.0 so.1 is
 

@@ -1,6 +1,6 @@
 -- What a thread's entries in a journal have of a commit's branch, as its requests stand in the manager's history.
 use Rattle.std.specs.Prelude.{slice_get, option_map}
-use Rattle.std.proofs.Common.{◌≡◌, ℕ, zero, suc, ◌+◌, Bool, true, false, ◌==◌, ◌||◌, List, [], ◌∷◌, ◌++◌, length, map, Option, Some, sym, refl, ap, ◌∙◌, arith}
+use Rattle.std.proofs.Common.{◌≡◌, ℕ, zero, suc, Bool, true, false, ◌==◌, ◌||◌, List, [], ◌∷◌, ◌++◌, length, map, Option, Some, sym, refl, ap, ◌∙◌, arith}
 use Rattle.std.proofs.Common.{append_assoc, length-append}
 use Rattle.std.specs.List.{Contains, list_any}
 use Rattle.std.proofs.lemmas.List.{map-append}
@@ -12,6 +12,7 @@ use Rattle.xa_base.proofs.Lists.{begins_on, begins_same, contains_at, next_there
 use Rattle.xa_words.specs.declared.code.Code.{Code}
 use Rattle.xa_words.specs.declared.code.Code.TheVariants.{RmFail}
 use Rattle.xa_words.specs.declared.request.Op.{Op}
+use Rattle.xa_words.specs.declared.request.Op.TheVariants.{Prepare}
 use Rattle.xa_words.specs.declared.request.Request.{Request}
 use Rattle.xa_tables.specs.Tables.{Tables}
 use Rattle.xa_tables.specs.History.{History, coded, of_thread}
@@ -23,14 +24,16 @@ use Rattle.xa_switch.specs.Settling.{answers}
 use Rattle.xa_driver.specs.declared.branch.Branch.{Branch}
 use Rattle.xa_driver.specs.declared.done.Ending.{Ending}
 use Rattle.xa_driver.specs.Course.{AtBranch}
+use Rattle.xa_driver.specs.Deaths.{VotesAndObeys}
 use Rattle.xa_atomicity.specs.Tabled.{Tabled}
 use Rattle.xa_driver.proofs.Mapped.{branch_mapped}
 use Rattle.xa_atomicity.proofs.Sites.{Site, StandsIn, Sent, AsksIn, asks, withholds, stands_by}
 use Rattle.xa_telling.specs.Parts.{next_entry}
 use Rattle.xa_telling.specs.Journals.{entries_of}
-use Rattle.xa_telling.specs.Commits.{CarriesOut}
+use Rattle.xa_telling.specs.Commits.{CarriesOut, CarriesOutSome}
 use Rattle.xa_telling.specs.Commits.CarriesOut.{carried, withheld}
 use Rattle.xa_telling.proofs.Entries.{Fits, pair_of}
+use Rattle.xa_telling.proofs.Deaths.{obeys_mapped}
 use Rattle.xa_shown.proofs.Failing.{fails_on}
 
 -- how many entries there are, and whether one has XAER_RMFAIL
@@ -60,7 +63,7 @@ there_fails (c ∷ cs) (suc k, below, e) = ap (λ b. is_rm_fail c || b) (there_f
     or_true true = refl
     or_true false = refl
 
-or_false : (b : Bool) → (b || false) ≡ b
+pub or_false : (b : Bool) → (b || false) ≡ b
 or_false true = refl
 or_false false = refl
 
@@ -81,7 +84,7 @@ op_numbered t n [] k r e = absurd (cc)
 op_numbered t n (o ∷ ops) zero r e = let same : record { thread = t; number = n; op = o } ≡ r = cc in ap (λ (q : Request). Some q.op) same
 op_numbered t n (o ∷ ops) (suc k) r e = op_numbered t (suc n) ops k r e
 
-carry_begins : (t : ℕ) (old new : List Entry) (op : Op) (c : Code) → CarriesOut t old op new c → Begins old new
+pub carry_begins : (t : ℕ) (old new : List Entry) (op : Op) (c : Code) → CarriesOut t old op new c → Begins old new
 carry_begins t old new op c (carried is) = (next_entry t old op c ∷ [], is)
 carry_begins t old new op c (withheld fails shut same) = begins_same old new same
 
@@ -122,3 +125,13 @@ module _ (law : Tabled) (t : ℕ) (T : Tables) (opening : IsOpening T) (J : List
       → AtBranch (CarriesOut t) commit b v s e old new → Begins new es → AtBranch (AsksIn t T H) commit b v s e (entered old) (entered new)
   branch_entered commit b v s e old new is grown =
       branch_mapped (CarriesOut t) (AsksIn t T H) entered (λ l. Unit {0}) (λ l. Begins l es) (λ d z op c asked q. tt) began asked_so commit b v s e old new is tt grown
+
+  pub vote_entered : (b : Branch) (v : Code) (old new : List Entry) → CarriesOut t old (Prepare b.xid) new v → Begins new es
+      → AsksIn t T H (entered old) (Prepare b.xid) (entered new) v
+  vote_entered b v old new is grown = asked_so old new (Prepare b.xid) v is tt grown
+
+  pub obeys_entered : (commit : Bool) (b : Branch) (v : Code) (s : Option Code) (e : Ending) (old new : List Entry)
+      → VotesAndObeys (CarriesOut t) commit b v s e old new → Begins new es → VotesAndObeys (AsksIn t T H) commit b v s e (entered old) (entered new)
+  obeys_entered commit b v s e old new is grown =
+      obeys_mapped (CarriesOut t) (CarriesOutSome t) (AsksIn t T H) (λ d op z. (c : Code) × AsksIn t T H d op z c) entered (λ l. Unit {0}) (λ l. Begins l es) (λ d z op c asked q. tt) began
+      (λ d z op puts p. began d z op puts.0 puts.1 p) asked_so (λ d z op puts q p. (puts.0, asked_so d z op puts.0 puts.1 q p)) commit b v s e old new is tt grown

@@ -7,3 +7,7 @@ pub mod Outcomes
 pub mod Named
 pub mod Alone
 pub mod Sums
+pub mod Unfinished
+pub mod Ends
+pub mod Decided
+pub mod Stopped

@@ -41,7 +41,7 @@ use Rattle.xa_atomicity.proofs.Between.{Unnamed, second_unnamed, outcome_unnamed
 use Rattle.xa_words.specs.Orders.{Decides-xid_eq}
 use Rattle.std.specs.Prelude.{get_or}
 use Rattle.xa_telling.specs.Parts.CallTakes.{answered, kept, refused, completes, lists}
-use Rattle.xa_telling.specs.Commits.CommitTakes.{refused as takes_none, decided}
+use Rattle.xa_telling.specs.Commits.CommitTakes.{refused as takes_none, decided, undecided, died}
 use Rattle.xa_telling.specs.Resolves.ResolveTakes.{refused as ends_none, resolved}
 use Rattle.xa_telling.specs.Journals.{Line, Takes, TakesPart}
 use Rattle.xa_shown.specs.Outcomes.{branches_by, is_among, names_it}
@@ -171,7 +171,9 @@ call_leaves settled t q a old new (lists n asks is) =
 takes_leaves : (settled : Settling) (x : ScriptAction) (t : ℕ) (a : Answer) (old new : Part) → Takes settled x t a old new → new.scan.left ≡ old.scan.left
 takes_leaves settled (action.Call q) t a old new is = call_leaves settled t q a old new is
 takes_leaves settled (action.CommitAll c) t a old new (takes_none told same) = ap (λ (x : Part). x.scan.left) same
-takes_leaves settled (action.CommitAll c) t a old new (decided done told is) = ap (λ (y : ScanView). y.left) is.scan
+takes_leaves settled (action.CommitAll c) t a old new (decided done alive told is) = ap (λ (y : ScanView). y.left) is.scan
+takes_leaves settled (action.CommitAll c) t a old new (undecided votes comes told is) = ap (λ (y : ScanView). y.left) is.scan
+takes_leaves settled (action.CommitAll c) t a old new (died at known dead told is) = ap (λ (y : ScanView). y.left) is.scan
 takes_leaves settled action.Resolve t a old new (ends_none told same) = ap (λ (x : Part). x.scan.left) same
 takes_leaves settled action.Resolve t a old new (resolved outcomes told is) = ap (λ (y : ScanView). y.left) is.scan
 

@@ -1,6 +1,6 @@
 -- All branches of a commit: what the line shows of them became of them.
 use Rattle.std.proofs.Common.{◌≡◌, ℕ, inl, inr, Bool, true, false, ◌||◌, List, [], ◌∷◌, length, Option, Some, None, sym, refl, ap, ◌∙◌, subst, slice_index_or}
-use Rattle.std.specs.Prelude.{pos, if◌then◌else◌, All}
+use Rattle.std.specs.Prelude.{ℤ, pos, if◌then◌else◌, All}
 use Rattle.std.specs.List.{list_any}
 use Rattle.std.proofs.lemmas.Bool.{cases_Bool, or_parts}
 use Rattle.std.proofs.lemmas.List.Elements.{All-cons, All-nil, All-append}
@@ -10,19 +10,19 @@ use Rattle.xa_tables.specs.Tables.{Tables}
 use Rattle.xa_tables.specs.History.{is_done, is_rolled_back as rolls_back}
 use Rattle.xa_desk.specs.LedgerView.{is_rm_fail}
 use Rattle.xa_switch.specs.Settling.{Settling, IsSettled, journal, sent, collected}
-use Rattle.xa_switch.specs.Fates.{IsOpenedWith}
+use Rattle.xa_switch.specs.Fates.{IsOpenedWith, history as history_of}
 use Rattle.xa_driver.specs.declared.branch.Branch.{Branch}
 use Rattle.xa_driver.specs.declared.done.Done.{Done as Outcome}
 use Rattle.xa_driver.specs.declared.done.Ending.{Ending}
 use Rattle.xa_driver.specs.declared.done.Ending.TheVariants.{Committed, ReadOnly, RolledBack, InDoubt, Heuristic, Left}
-use Rattle.xa_atomicity.specs.Additions.{Shares}
+use Rattle.xa_atomicity.specs.Additions.{IsAddition, Shares}
 use Rattle.xa_driver.specs.Decision.{is_yes, is_no, is_read}
 use Rattle.xa_driver.specs.Endings.{ending_of, yes_ending, is_out_of_reach, is_heuristic as is_heuristic_code}
 use Rattle.xa_atomicity.specs.Outcomes.{AreLeftAlone, AreLeftOrDecided, EachOutcome, is_committed, is_rolled_back, is_in_doubt, is_heuristic, is_left}
-use Rattle.xa_atomicity.specs.Outcomes.{is_read_only}
+use Rattle.xa_atomicity.specs.Outcomes.{is_read_only, KeepsItsVote, TellsTheFate}
 use Rattle.xa_driver.specs.Trace.{EachBranch}
 use Rattle.xa_atomicity.specs.Tabled.{Tabled}
-use Rattle.xa_atomicity.proofs.Settled.{Both, Fated, InHistory, counts_committed, each_both, each_fated, keeps_votes, tells_fates, outcome_map}
+use Rattle.xa_atomicity.proofs.Settled.{Both, Fated, InHistory, each_both, each_fated, outcome_map}
 use Rattle.xa_session.specs.Committing.{branches_of}
 use Rattle.xa_words.specs.Tran.{TranName}
 use Rattle.xa_grammar.specs.declared.step.CommitAll.{CommitAll}
@@ -48,7 +48,7 @@ use Rattle.xa_atomicity.proofs.Sites.{Sent}
 -- ---- lists of outcomes
 
 -- each with what holds of its vote, and of its ending
-with_votes : (P : Branch → Code → Ending → Type 0) (p : Code → Bool) (bs : List Branch) (vs : List Code) (es : List Ending) → list_any p vs ≡ false
+pub with_votes : (P : Branch → Code → Ending → Type 0) (p : Code → Bool) (bs : List Branch) (vs : List Code) (es : List Ending) → list_any p vs ≡ false
     → EachOutcome P bs vs es → EachOutcome (λ b v e. (p v ≡ false) × P b v e) bs vs es
 with_votes P p [] [] [] never h = tt
 with_votes P p (b ∷ bs) (v ∷ vs) (e ∷ es) never h = let parts = or_parts (p v) (list_any p vs) never in ((parts.0, h.0), with_votes P p bs vs es parts.1 h.1)
@@ -67,7 +67,7 @@ all_endings P Q so [] [] [] h = All-nil Q
 all_endings P Q so (b ∷ bs) (v ∷ vs) (e ∷ es) h = All-cons Q e es (so b v e h.0) (all_endings P Q so bs vs es h.1)
 all_endings P Q so bs vs es h = absurd h
 
-no_ending_is : (P : Branch → Code → Ending → Type 0) (p : Ending → Bool) → ((b : Branch) (v : Code) (e : Ending) → P b v e → p e ≡ false)
+pub no_ending_is : (P : Branch → Code → Ending → Type 0) (p : Ending → Bool) → ((b : Branch) (v : Code) (e : Ending) → P b v e → p e ≡ false)
     → (bs : List Branch) (vs : List Code) (es : List Ending) → EachOutcome P bs vs es → list_any p es ≡ false
 no_ending_is P p so [] [] [] h = refl
 no_ending_is P p so (b ∷ bs) (v ∷ vs) (e ∷ es) h = λ i. so b v e h.0 i || no_ending_is P p so bs vs es h.1 i
@@ -83,7 +83,7 @@ outcomes_of P bs vs zs es h = absurd h
 -- ---- endings
 
 -- by its vote and some second code
-abbrev Ends : Bool → Branch → Code → Ending → Type 0
+abbrev pub Ends : Bool → Branch → Code → Ending → Type 0
 Ends commit b v e = (z : Option Code) × (e ≡ ending_of commit v z)
 
 -- a yes vote isn't rolled back where the transaction commits
@@ -102,12 +102,12 @@ stays_back Done z e = yes_stays z
 stays_back RdOnly z e = refl
 stays_back v z e = absurd (cc)
 
-committed_so : (e : Ending) → is_committed e ≡ true → e ≡ Committed
+pub committed_so : (e : Ending) → is_committed e ≡ true → e ≡ Committed
 committed_so Committed e = refl
 committed_so x e = absurd (cc)
 
 -- nothing is committed where it aborts
-stays_out : (v : Code) (z : Option Code) → is_committed (ending_of false v z) ≡ false
+pub stays_out : (v : Code) (z : Option Code) → is_committed (ending_of false v z) ≡ false
 stays_out v z = elim (cases_Bool (is_committed (ending_of false v z))) [
   | inl y ↦
       let yes' = committed_yes (is_yes v) (is_read v) (rolls_back v) (is_out_of_reach v) false v z (committed_so (ending_of false v z) y) in
@@ -115,10 +115,10 @@ stays_out v z = elim (cases_Bool (is_committed (ending_of false v z))) [
   | inr n ↦ n
 ]
 
-kept_so : (commit : Bool) → commit ≡ true → (b : Branch) (v : Code) (e : Ending) → (is_no v ≡ false) × Ends commit b v e → is_rolled_back e ≡ false
+pub kept_so : (commit : Bool) → commit ≡ true → (b : Branch) (v : Code) (e : Ending) → (is_no v ≡ false) × Ends commit b v e → is_rolled_back e ≡ false
 kept_so commit is b v e h = ap is_rolled_back (h.1.1 ∙ ap (λ c. ending_of c v h.1.0) is) ∙ stays_back v h.1.0 h.0
 
-out_so : (commit : Bool) → commit ≡ false → (b : Branch) (v : Code) (e : Ending) → Ends commit b v e → is_committed e ≡ false
+pub out_so : (commit : Bool) → commit ≡ false → (b : Branch) (v : Code) (e : Ending) → Ends commit b v e → is_committed e ≡ false
 out_so commit is b v e h = ap is_committed (h.1 ∙ ap (λ c. ending_of c v h.0) is) ∙ stays_out v h.0
 
 -- what is neither left nor rolled back
@@ -165,7 +165,7 @@ module _ (t : ℕ) (c : CommitAll TranName) (done : Outcome) (old new : Part) (i
 -- ---- by the journals
 
 -- each with what is known of it twice
-each_and : (P Q : Branch → Code → Ending → Type 0) (bs : List Branch) (vs : List Code) (es : List Ending) → EachOutcome P bs vs es → EachOutcome Q bs vs es
+pub each_and : (P Q : Branch → Code → Ending → Type 0) (bs : List Branch) (vs : List Code) (es : List Ending) → EachOutcome P bs vs es → EachOutcome Q bs vs es
     → EachOutcome (λ b v e. P b v e × Q b v e) bs vs es
 each_and P Q [] [] [] h k = tt
 each_and P Q (b ∷ bs) (v ∷ vs) (e ∷ es) h k = ((h.0, k.0), each_and P Q bs vs es h.1 k.1)
@@ -177,14 +177,89 @@ each_map P Q so [] [] [] [] h = tt
 each_map P Q so (b ∷ bs) (v ∷ vs) (z ∷ zs) (e ∷ es) h = (so b v z e h.0, each_map P Q so bs vs zs es h.1)
 each_map P Q so bs vs zs es h = absurd h
 
+-- ---- one branch
+
+module _ (law : Tabled) (opens : (s : Settling) (m : ℕ) → IsSettled s → (T : Tables) × IsOpenedWith s m T) (s : Settling) (t : ℕ) (old : Part) where
+  -- what became of it
+  abbrev pub FatedSo : Bool → Branch → Code → Ending → Type 0
+  FatedSo commit b v e = Fated law opens s t b (length (old.entries b.m)) v e × Ends commit b v e
+
+  -- and what it counts for
+  pub record Counted (b : Branch) (v : Code) (e : Ending) : Type 0 where
+    pub fated : Fated law opens s t b (length (old.entries b.m)) v e
+    pub counts : Shares s t b (length (old.entries b.m)) (is_committed e)
+    pub adders : (T : Tables) → IsOpenedWith s b.m T → (k : List ℕ) (d : ℤ) → IsAddition b.xid k d t (length (old.entries b.m)) T (history_of s b.m)
+        → is_read_only e ≡ false
+    pub undecided : is_no v ≡ false → is_heuristic e ≡ false
+
+  abbrev pub CountedSo : Bool → Branch → Code → Ending → Type 0
+  CountedSo commit b v e = Counted b v e × Ends commit b v e
+
+-- ---- all of them, by each
+
+module _ (law : Tabled) (opens : (s : Settling) (m : ℕ) → IsSettled s → (T : Tables) × IsOpenedWith s m T) (s : Settling) (t : ℕ) (bs : List Branch)
+    (old : Part) (done : Outcome) (unopposed_so : done.commit ≡ true → list_any is_no done.votes.items ≡ false) where
+  abbrev each : (Branch → Code → Ending → Type 0) → Type 0
+  each P = EachOutcome P bs done.votes.items done.endings.items
+
+  abbrev FatedHere : Branch → Code → Ending → Type 0
+  FatedHere = FatedSo law opens s t old done.commit
+
+  abbrev CountedHere : Branch → Code → Ending → Type 0
+  CountedHere = CountedSo law opens s t old done.commit
+
+  pub as_shown_by : each FatedHere → IsAsShown s t bs old done
+  as_shown_by all = record {
+    committed = λ commit.
+        all_endings (λ b v e. (is_no v ≡ false) × FatedHere b v e) (λ e. (is_committed e || (is_read_only e || (is_in_doubt e || is_heuristic e))) ≡ true)
+        (λ b v e h. rest_is e (h.1.0.unless_no h.0) (kept_so done.commit commit b v e (h.0, h.1.1))) bs done.votes.items done.endings.items
+        (with_votes FatedHere is_no bs done.votes.items done.endings.items (unopposed_so commit) all);
+    aborted = λ aborts. no_ending_is FatedHere is_committed (λ b v e h. out_so done.commit aborts b v e h.1) bs done.votes.items done.endings.items all;
+    votes = record {
+      each =
+          outcome_map FatedHere (λ b v e. KeepsItsVote s t b (length (old.entries b.m)) v e) (λ b v e h. h.0.keeps) bs done.votes.items done.endings.items all;
+    };
+    fates = record {
+      each =
+          outcome_map FatedHere (λ b v e. TellsTheFate s t b (length (old.entries b.m)) e) (λ b v e h. h.0.tells) bs done.votes.items done.endings.items all;
+    };
+  }
+
+  all_count : each CountedHere → done.commit ≡ true → list_any is_in_doubt done.endings.items ≡ false
+      → each (λ b v e. Shares s t b (length (old.entries b.m)) done.commit)
+  all_count all commit certain =
+      outcome_map (λ b v e. (is_in_doubt e ≡ false) × ((is_no v ≡ false) × CountedHere b v e)) (λ b v e. Shares s t b (length (old.entries b.m)) done.commit)
+      (λ b v e h T with_T k d add.
+      let own = h.1.1.0 in
+      let same : is_committed e ≡ done.commit =
+      certain_is e (own.fated.unless_no h.1.0) (kept_so done.commit commit b v e (h.1.0, h.1.1.1)) h.0 (own.undecided h.1.0) (own.adders T with_T k d add)
+      ∙ sym commit in
+      own.counts T with_T k d add ∙ ap (λ q. if q then d else pos 0) same)
+      bs done.votes.items done.endings.items
+      (with_endings (λ b v e. (is_no v ≡ false) × CountedHere b v e) is_in_doubt bs done.votes.items done.endings.items certain
+      (with_votes CountedHere is_no bs done.votes.items done.endings.items (unopposed_so commit) all))
+
+  none_counts : each CountedHere → done.commit ≡ false → each (λ b v e. Shares s t b (length (old.entries b.m)) done.commit)
+  none_counts all aborts =
+      outcome_map CountedHere (λ b v e. Shares s t b (length (old.entries b.m)) done.commit)
+      (λ b v e own T with_T k d add. own.0.counts T with_T k d add ∙ ap (λ q. if q then d else pos 0) (out_so done.commit aborts b v e own.1 ∙ sym aborts)) bs done.votes.items done.endings.items all
+
+  pub counts_by : each CountedHere → CountsAsShown s t bs old done
+  counts_by all = record {
+    counts = record {
+      each =
+          outcome_map CountedHere (λ b v e. Shares s t b (length (old.entries b.m)) (is_committed e)) (λ b v e h. h.0.counts) bs done.votes.items done.endings.items all;
+    };
+    whole = λ certain. elim (cases_Bool (done.commit)) [ inl commit ↦ all_count all commit certain | inr aborts ↦ none_counts all aborts ];
+  }
+
+-- ---- of a commit that came to its end
+
 module _ (law : Tabled) (opens : (s : Settling) (m : ℕ) → IsSettled s → (T : Tables) × IsOpenedWith s m T) (s : Settling) (settled : IsSettled s) (t : ℕ)
     (c : CommitAll TranName) (done : Outcome) (old new : Part) (is : Decides t c done old new)
     (grown : (m : ℕ) → Adds Any (new.entries m) (entries_of t (journal s m))) where
   abbrev bs : List Branch
   bs = branches_of c
-
-  abbrev each : (Branch → Code → Ending → Type 0) → Type 0
-  each P = EachOutcome P bs done.votes.items done.endings.items
 
   -- how many requests the thread had sent each manager, by its entries
   abbrev was : ℕ → Sent
@@ -208,66 +283,25 @@ module _ (law : Tabled) (opens : (s : Settling) (m : ℕ) → IsSettled s → (T
   each_in =
       each_map (λ b v z e. AtBranch (CarriesOut t) done.commit b v z e (old.entries b.m) (new.entries b.m)) In in_history bs done.votes.items is.course.seconds done.endings.items is.course.each
 
-  -- ---- what became of them
+  -- what became of them
+  pub as_shown : AreLeftOrDecided s t (branches_of c) (entered_so_far old) (entered_so_far new) → IsAsShown s t (branches_of c) old done
+  as_shown alone =
+      as_shown_by law opens s t bs old done (unopposed t c done old new is)
+      (each_and (λ b v e. Fated law opens s t b (length (old.entries b.m)) v e) (Ends done.commit) bs done.votes.items done.endings.items
+      (each_fated law opens s t settled done bs is.course.seconds was now each_in alone) (ends_all t c done old new is))
 
-  module _ (alone : AreLeftOrDecided s t (branches_of c) (entered_so_far old) (entered_so_far new)) where
-    abbrev FatedSo : Branch → Code → Ending → Type 0
-    FatedSo b v e = Fated law opens s t b (was b.m).number v e × Ends done.commit b v e
-
-    all_fated : each FatedSo
-    all_fated =
-        each_and (λ b v e. Fated law opens s t b (was b.m).number v e) (Ends done.commit) bs done.votes.items done.endings.items
-        (each_fated law opens s t settled done bs is.course.seconds was now each_in alone) (ends_all t c done old new is)
-
-    pub as_shown : IsAsShown s t (branches_of c) old done
-    as_shown = record {
-      committed = λ commit.
-          all_endings (λ b v e. (is_no v ≡ false) × FatedSo b v e) (λ e. (is_committed e || (is_read_only e || (is_in_doubt e || is_heuristic e))) ≡ true)
-          (λ b v e h. rest_is e (h.1.0.unless_no h.0) (kept_so done.commit commit b v e (h.0, h.1.1))) bs done.votes.items done.endings.items
-          (with_votes FatedSo is_no bs done.votes.items done.endings.items (unopposed t c done old new is commit) all_fated);
-      aborted = (one_outcome t c done old new is).uncommitted;
-      votes = keeps_votes law opens s t settled done bs is.course.seconds was now each_in alone;
-      fates = tells_fates law opens s t settled done bs is.course.seconds was now each_in alone;
-    }
-
-  -- ---- what they count for
-
+  -- what they count for
   module _ (alone : AreLeftAlone s t (branches_of c) (entered_so_far old) (entered_so_far new)) where
     pub left_or_decided : AreLeftOrDecided s t (branches_of c) (entered_so_far old) (entered_so_far new)
     left_or_decided =
         record { each = λ k d lt before after r place own number j e low named other. alone.each k d lt before after r place own number j e low named }
 
-    abbrev BothSo : Branch → Code → Ending → Type 0
-    BothSo b v e = Both law opens s t b (was b.m).number (now b.m).number v e × Ends done.commit b v e
-
-    all_both : each BothSo
-    all_both =
-        each_and (λ b v e. Both law opens s t b (was b.m).number (now b.m).number v e) (Ends done.commit) bs done.votes.items done.endings.items
-        (each_both law opens s t settled done bs is.course.seconds was now each_in alone) (ends_all t c done old new is)
-
-    all_count : done.commit ≡ true → list_any is_in_doubt done.endings.items ≡ false → each (λ b v e. Shares s t b (length (old.entries b.m)) done.commit)
-    all_count commit certain =
-        outcome_map (λ b v e. (is_in_doubt e ≡ false) × ((is_no v ≡ false) × BothSo b v e)) (λ b v e. Shares s t b (length (old.entries b.m)) done.commit)
-        (λ b v e h T with_T k d add.
-        let own = h.1.1.0 in
-        let same : is_committed e ≡ done.commit =
-        certain_is e (own.fated.unless_no h.1.0) (kept_so done.commit commit b v e (h.1.0, h.1.1.1)) h.0 (own.undecided h.1.0) (own.adders T with_T k d add)
-        ∙ sym commit in
-        own.counts T with_T k d add ∙ ap (λ q. if q then d else pos 0) same)
-        bs done.votes.items done.endings.items
-        (with_endings (λ b v e. (is_no v ≡ false) × BothSo b v e) is_in_doubt bs done.votes.items done.endings.items certain
-        (with_votes BothSo is_no bs done.votes.items done.endings.items (unopposed t c done old new is commit) all_both))
-
-    none_counts : done.commit ≡ false → each (λ b v e. Shares s t b (length (old.entries b.m)) done.commit)
-    none_counts aborts =
-        outcome_map BothSo (λ b v e. Shares s t b (length (old.entries b.m)) done.commit)
-        (λ b v e own T with_T k d add. own.0.counts T with_T k d add ∙ ap (λ q. if q then d else pos 0) (out_so done.commit aborts b v e own.1 ∙ sym aborts)) bs done.votes.items done.endings.items all_both
-
     pub counts_as_shown : CountsAsShown s t (branches_of c) old done
-    counts_as_shown = record {
-      counts = counts_committed law opens s t settled done bs is.course.seconds was now each_in alone;
-      whole = λ certain. elim (cases_Bool (done.commit)) [ inl commit ↦ all_count commit certain | inr aborts ↦ none_counts aborts ];
-    }
+    counts_as_shown =
+        counts_by law opens s t bs old done (unopposed t c done old new is)
+        (each_and (Counted law opens s t old) (Ends done.commit) bs done.votes.items done.endings.items
+        (outcome_map (λ b v e. Both law opens s t b (was b.m).number (now b.m).number v e) (Counted law opens s t old) (λ b v e h. record { fated = h.fated; counts = h.counts; adders = h.adders; undecided = h.undecided }) bs done.votes.items done.endings.items
+        (each_both law opens s t settled done bs is.course.seconds was now each_in alone)) (ends_all t c done old new is))
 
 -- ---- line by line
 

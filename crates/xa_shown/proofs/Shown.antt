@@ -1,7 +1,8 @@
 -- What a line shows stands in the journals.
 use Rattle.std.proofs.Common.{◌≡◌, ℕ, pos, Bool, true, false, ◌==◌, ◌||◌, not, List, [], ◌∷◌, ◌++◌, length, Option, Some, None, sym, refl, ap, ◌∙◌, subst}
 use Rattle.std.proofs.Common.{⊎_elim, inl, inr, zero, suc, ◌<◌, arith, slice_index_or}
-use Rattle.std.specs.Prelude.{get_or, slice_get, All, if◌then◌else◌}
+use Rattle.std.specs.Global.{Global}
+use Rattle.std.specs.Prelude.{Vec, get_or, slice_get, All, if◌then◌else◌}
 use Rattle.std.specs.List.{Contains, filter, list_any}
 use Rattle.std.proofs.lemmas.Bool.{cases_Bool, and_parts}
 use Rattle.std.proofs.lemmas.List.Elements.{Contains-append_left, Contains-push, Contains-push_cases, Contains-get_or, All-head, All-tail, All-contains}
@@ -9,6 +10,7 @@ use Rattle.std.proofs.lemmas.List.Elements.{All-filter, All-contains_itself}
 use Rattle.xa_words.specs.Code.{number_of}
 use Rattle.xa_words.specs.Xid.{XidName}
 use Rattle.xa_words.specs.declared.code.Code.{Code}
+use Rattle.xa_words.specs.declared.death.Death.{Death}
 use Rattle.xa_words.specs.declared.code.Code.TheVariants.{Done, RdOnly, Retry, HeurMix, HeurRb, HeurCom, HeurHaz, RbRollback, RbCommFail, RbDeadlock}
 use Rattle.xa_words.specs.declared.code.Code.TheVariants.{RbIntegrity, RbOther, RbProto, RbTimeout, RbTransient, Async, RmErr, Nota, Inval, Proto, RmFail}
 use Rattle.xa_words.specs.declared.code.Code.TheVariants.{DupId, Outside}
@@ -34,7 +36,6 @@ use Rattle.xa_words.specs.Xid.{XidName}
 use Rattle.xa_words.specs.Tran.{TranName}
 use Rattle.xa_grammar.specs.declared.step.Called.{Called}
 use Rattle.xa_grammar.specs.declared.step.CommitAll.{CommitAll}
-use Rattle.xa_grammar.specs.declared.step.Action.TheVariants as action
 use Rattle.xa_grammar.specs.Steps.{ScriptAction, ScriptStep}
 use Rattle.xa_transcript.specs.declared.answer.Answer.{Answer}
 use Rattle.xa_transcript.specs.declared.answer.Told.{Told}
@@ -52,7 +53,7 @@ use Rattle.xa_telling.specs.Journals.{AddsNoCommit}
 use Rattle.xa_telling.specs.Wants.Wanted.{code_of, handle_for, completion, listing}
 use Rattle.xa_telling.specs.Parts.CallTakes.{answered, kept, refused, completes, lists}
 use Rattle.xa_telling.specs.Commits.CarriesOut.{carried, withheld}
-use Rattle.xa_telling.specs.Commits.CommitTakes.{refused as takes_none, decided}
+use Rattle.xa_telling.specs.Commits.CommitTakes.{refused as takes_none, decided, undecided, died}
 use Rattle.xa_base.proofs.Lists.{any_at, some_same}
 
 -- ---- codes
@@ -278,9 +279,17 @@ decided_so settled l c done old new shows takes =
     not_refused : (d : Outcome) → answer.Decided d ≡ answer.Refused → ⊥
     not_refused d same = cc
 
+    not_undecided : (d : Outcome) (votes : Vec Code Global) → answer.Decided d ≡ answer.Undecided votes → ⊥
+    not_undecided d votes same = cc
+
+    not_died : (d : Outcome) (at : Death) (known : Outcome) → answer.Decided d ≡ answer.Died at known → ⊥
+    not_died d at known same = cc
+
     of_answer : CommitTakes l.task.thread c (answer.Decided done) old new → Decides l.task.thread c done old new
     of_answer (takes_none told e) = absurd (not_refused done told)
-    of_answer (decided d told is) = subst (λ (x : Outcome). Decides l.task.thread c x old new) (sym (same_done done d told)) is
+    of_answer (undecided votes comes told is) = absurd (not_undecided done votes told)
+    of_answer (died at known dead told is) = absurd (not_died done at known told)
+    of_answer (decided d alive told is) = subst (λ (x : Outcome). Decides l.task.thread c x old new) (sym (same_done done d told)) is
 
 module _ (steps : List ScriptStep) (answers : List Told) (settled : Settling) (t : ℕ) (first : Part) (told : AreCarriedOut steps answers settled t first) where
   abbrev own : ℕ → List Entry
@@ -291,7 +300,7 @@ module _ (steps : List ScriptStep) (answers : List Told) (settled : Settling) (t
       → ((old new : ℕ → List Entry) → ((m : ℕ) → Adds Any (old m) (new m)) → Has old → Has new)
       → ((old new : Part) → TakesPart settled (slice_index_or told.lines k d) old new → Has new.entries) → Has own
   left_there k d below Has stays puts =
-      chain_has settled (slice_index_or told.lines k d) Has stays puts first told.lines (record { entries = own; handles = told.left; log = told.log; scan = told.scan }) told.carried (Contains-get_or told.lines k d below)
+      chain_has settled (slice_index_or told.lines k d) Has stays puts first told.lines (record { entries = own; handles = told.left; log = told.log; is_lost = told.is_lost; scan = told.scan }) told.carried (Contains-get_or told.lines k d below)
 
   pub all_carried_out : All (IsCarriedOut settled) told.lines
   all_carried_out k d below q o is asked ok =

@@ -58,6 +58,7 @@ pub record Place {steps : List ScriptStep} {answers : List Told} {settled : Sett
         entries = λ m. entries_of t (journal settled m);
         handles = told.left;
         log = told.log;
+        is_lost = told.is_lost;
         scan = told.scan;
       })
 

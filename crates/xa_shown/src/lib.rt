@@ -1,27 +1,35 @@
 //! What a transcript shows: laws alone, of what xa_telling says that the answers tell of the managers' journals.
 //!
 //! What is answered XA_OK is carried out; a line `commitall` shows one outcome, and each of its branches as what became
-//! of it; the values shown are sums of what the journals have. Nothing that runs stands on this crate.
+//! of it; where it came to no end, its branches end by the record that its log has; the values shown are sums of what
+//! the journals have. Nothing that runs stands on this crate.
 #![tactic(auto)]
 
-ghost use Rattle.std.specs.Prelude.{◌≡◌, ℕ, List, All, false, ◌++◌, ◌∷◌};
+ghost use Rattle.std.specs.Prelude.{◌≡◌, ℕ, List, All, Vec, false, [], ◌++◌, ◌∷◌};
+ghost use Rattle.std.specs.Global.{Global};
 ghost use Rattle.xa_switch.specs.Settling.{Settling};
 ghost use Rattle.xa_driver.specs.declared.done.Done.{Done};
+ghost use Rattle.xa_words.specs.declared.code.Code.{Code};
+ghost use Rattle.xa_words.specs.declared.death.Death.{Death};
 ghost use Rattle.xa_words.specs.Tran.{TranName};
 ghost use Rattle.xa_grammar.specs.declared.step.CommitAll.{CommitAll};
 ghost use Rattle.xa_grammar.specs.declared.script.Declared.{Declared};
 ghost use Rattle.xa_grammar.specs.Content.{Content, IsScript};
 ghost use Rattle.xa_transcript.specs.declared.answer.Told.{Told};
-ghost use Rattle.xa_session.specs.Committing.{branches_of};
+ghost use Rattle.xa_session.specs.Committing.{branches_of, named};
 ghost use Rattle.xa_telling.specs.Parts.{Part};
 ghost use Rattle.xa_telling.specs.Commits.{Decides};
+ghost use Rattle.xa_telling.specs.Journals.{TakesPart};
 ghost use Rattle.xa_telling.specs.Journals.{Line, AreCarriedOut, IsCarriedOut, ShowsCommit, AreCommitted};
 ghost use Rattle.xa_telling.specs.Journals.{ArePrepared, AddsNoCommit};
 ghost use Rattle.xa_telling.specs.ToldOpenings.{Beginning, Opening, Former, TellsOf, Tells};
 ghost use Rattle.xa_grammar.specs.Steps.{ScriptStep};
+ghost use Rattle.xa_atomicity.specs.Cut.{is_recorded};
 ghost use Rattle.xa_atomicity.specs.Outcomes.{AreLeftAlone, AreLeftOrDecided};
 ghost use Rattle.xa_shown.specs.Outcomes.{Place, entered_so_far, AreNamedByNoOther};
 ghost use Rattle.xa_shown.specs.Outcomes.{ShowsOneOutcome, IsAsShown, CountsAsShown, IsSumOfShares};
+ghost use Rattle.xa_shown.specs.Unfinished.{EndByTheRecord, EndSoOrAreDecided, GoesByTheRecord, IsAsFarAsShown};
+ghost use Rattle.xa_shown.specs.Unfinished.{IsAsFarUnlessDecided, ShowsDeath, ShowsUndecided};
 
 use xa_atomicity::tables_keep_to_their_laws;
 use xa_switch::laws::settled_journals_follow_the_tables;
@@ -88,6 +96,61 @@ pub fn branches_are_as_shown()
         → (old : Part) × (new : Part) × Place (tells.carried l.task.thread) before l after old new
         × IsAsShown o.settled l.task.thread (branches_of c) old done
         × CountsAsShown o.settled l.task.thread (branches_of c) old done }
+{
+    tables_keep_to_their_laws();
+    settled_journals_follow_the_tables();
+}
+
+/// A line of a commit that came to no end goes by the record that its thread's log has after it, or turns out to have.
+/// Its coordinator died (`died`), or nobody knows whether the log has the record (`undecided`).
+pub fn unfinished_commits_go_by_the_record()
+    ensures died { (settled : Settling) (l : Line) (c : CommitAll TranName) (at : Death) (known : Done)
+        (old new : Part) → TakesPart settled l old new → ShowsDeath l c at known
+        → GoesByTheRecord (named c) known.votes.items known.endings.items old new }
+    ensures undecided { (settled : Settling) (l : Line) (c : CommitAll TranName) (votes : Vec Code Global)
+        (old new : Part) → TakesPart settled l old new → ShowsUndecided l c votes
+        → GoesByTheRecord (named c) votes.items [] old new }
+{}
+
+/// What becomes of the branches of a commit that came to no end, where no other line names one of them from that line
+/// on (clauses `lines`, `undecided_lines`): each that voted to commit ended by the record, or is in doubt; and where
+/// the coordinator died once all had answered, each branch is shown as what became of it. For that it is enough that
+/// in the journals nobody else names a branch after its Prepare (`journals`, `undecided_journals`). Where heuristic
+/// decisions do, a branch that voted to commit may have one of them for its fate instead (`decisions`,
+/// `undecided_decisions`).
+pub fn branches_end_by_the_record()
+    ensures decisions { (s : Content) (b : Beginning) (o : Opening) (tells : TellsOf s b o) (c : CommitAll TranName)
+        (at : Death) (known : Done) (before : List Line) (l : Line) (after : List Line) (old new : Part)
+        → Place (tells.carried l.task.thread) before l after old new → ShowsDeath l c at known
+        → AreLeftOrDecided o.settled l.task.thread (branches_of c) (entered_so_far old) (entered_so_far new)
+        → IsAsFarUnlessDecided o.settled l.task.thread c at known old new }
+    ensures undecided_decisions { (s : Content) (b : Beginning) (o : Opening) (tells : TellsOf s b o)
+        (c : CommitAll TranName) (votes : Vec Code Global) (before : List Line) (l : Line) (after : List Line)
+        (old new : Part) → Place (tells.carried l.task.thread) before l after old new → ShowsUndecided l c votes
+        → AreLeftOrDecided o.settled l.task.thread (branches_of c) (entered_so_far old) (entered_so_far new)
+        → EndSoOrAreDecided o.settled l.task.thread (branches_of c) (is_recorded new.log (named c)) false old new }
+    ensures journals { (s : Content) (b : Beginning) (o : Opening) (tells : TellsOf s b o) (c : CommitAll TranName)
+        (at : Death) (known : Done) (before : List Line) (l : Line) (after : List Line) (old new : Part)
+        → Place (tells.carried l.task.thread) before l after old new → ShowsDeath l c at known
+        → AreLeftAlone o.settled l.task.thread (branches_of c) (entered_so_far old) (entered_so_far new)
+        → IsAsFarAsShown o.settled l.task.thread c at known old new }
+    ensures lines { (s : Content) (b : Beginning) (o : Opening) (tells : TellsOf s b o) (c : CommitAll TranName)
+        (at : Death) (known : Done) (before : List Line) (l : Line) (after : List Line)
+        → (tells.carried l.task.thread).lines ≡ before ++ l ∷ after
+        → ShowsDeath l c at known → AreNamedByNoOther o.steps b.scans l.task.thread (branches_of c) after
+        → (old : Part) × (new : Part) × Place (tells.carried l.task.thread) before l after old new
+        × IsAsFarAsShown o.settled l.task.thread c at known old new }
+    ensures undecided_journals { (s : Content) (b : Beginning) (o : Opening) (tells : TellsOf s b o)
+        (c : CommitAll TranName) (votes : Vec Code Global) (before : List Line) (l : Line) (after : List Line)
+        (old new : Part) → Place (tells.carried l.task.thread) before l after old new → ShowsUndecided l c votes
+        → AreLeftAlone o.settled l.task.thread (branches_of c) (entered_so_far old) (entered_so_far new)
+        → EndByTheRecord o.settled l.task.thread (branches_of c) (is_recorded new.log (named c)) false old new }
+    ensures undecided_lines { (s : Content) (b : Beginning) (o : Opening) (tells : TellsOf s b o)
+        (c : CommitAll TranName) (votes : Vec Code Global) (before : List Line) (l : Line) (after : List Line)
+        → (tells.carried l.task.thread).lines ≡ before ++ l ∷ after
+        → ShowsUndecided l c votes → AreNamedByNoOther o.steps b.scans l.task.thread (branches_of c) after
+        → (old : Part) × (new : Part) × Place (tells.carried l.task.thread) before l after old new
+        × EndByTheRecord o.settled l.task.thread (branches_of c) (is_recorded new.log (named c)) false old new }
 {
     tables_keep_to_their_laws();
     settled_journals_follow_the_tables();

@@ -1,9 +1,12 @@
--- What a commit and a resolve send to each manager and collect from it, and what they add to the journals.
-use Rattle.std.proofs.Common.{◌≡◌, ℕ, ◌<◌, ◌≤◌, ◌⊎◌, ⊎_elim, zero, suc, Bool, true, false, ◌==◌, ◌||◌, List, [], ◌∷◌, ◌++◌, length, take, Option, Some, sym}
+-- What a commit and a resolve send to each manager and collect from it, and what they add to the journals; also a commit
+-- whose coordinator died, or whose record has an unknown end.
+use Rattle.std.proofs.Common.{◌≡◌, ℕ, ◌<◌, ◌≤◌, ◌⊎◌, ⊎_elim, zero, suc, Bool, true, false, ◌==◌, ◌||◌, List, [], ◌∷◌, ◌++◌, length, take, Option, Some, None}
+use Rattle.std.proofs.Common.{map, sym}
 use Rattle.std.proofs.Common.{refl, ap, ◌∙◌, subst, inl, inr, arith, length-append}
-use Rattle.std.specs.Prelude.{slice_get}
-use Rattle.std.specs.List.{list_any}
+use Rattle.std.specs.Prelude.{All, slice_get, unwrap_or}
+use Rattle.std.specs.List.{Contains, list_any}
 use Rattle.std.proofs.lemmas.Bool.{cases_eq, cases_lt, cases_Bool, eqb-true, false_from_ne_true}
+use Rattle.std.proofs.lemmas.List.Elements.{All-cons, All-nil}
 use Rattle.xa_desk.proofs.Ledgers.{known_by}
 use Rattle.xa_base.specs.declared.limits.TheConstants.{MOST_MANAGERS}
 use Rattle.xa_base.specs.Lists.{Begins, IsUpTo}
@@ -13,26 +16,35 @@ use Rattle.xa_words.specs.Xid.{XidName}
 use Rattle.xa_words.specs.Tran.{TranName}
 use Rattle.xa_words.specs.declared.code.Code.{Code}
 use Rattle.xa_words.specs.declared.code.Code.TheVariants.{RmFail}
+use Rattle.xa_words.specs.declared.death.Death.{Death}
 use Rattle.xa_words.specs.declared.request.Op.{Op}
+use Rattle.xa_words.specs.declared.request.Op.TheVariants.{Prepare}
 use Rattle.xa_desk.specs.LedgerView.{LedgerView, is_rm_fail, learnt_shut, with_sent, with_collected}
 use Rattle.xa_desk.specs.DeskView.{IsKnown, ledger, room_at, sent_to, collected_from}
-use Rattle.xa_worker.specs.Journal.{Entry}
+use Rattle.xa_worker.specs.Journal.{Entry, codes_in}
 use Rattle.xa_switch.specs.Scans.{ScanView, left_at}
+use Rattle.xa_driver.specs.declared.ask.Ask.{Ask}
 use Rattle.xa_driver.specs.declared.branch.Branch.{Branch}
 use Rattle.xa_driver.specs.declared.done.Done.{Done}
 use Rattle.xa_driver.specs.declared.done.Ending.{Ending}
 use Rattle.xa_driver.specs.declared.resolved.Outcome.{Outcome}
+use Rattle.xa_driver.specs.Asks.{AskTrace, EachAsk, IsSameAsk, SameAsks, among_asks}
 use Rattle.xa_driver.specs.Course.{AtBranch}
+use Rattle.xa_driver.specs.Deaths.{CameTo, Dies, HaveAsked, PutsLedger, VotesAndHears, VotesAndObeys}
+use Rattle.xa_driver.specs.Deaths.PutsLedger.{sent as put_sent, withheld as put_withheld}
 use Rattle.xa_driver.specs.Endings.{second_op, third_op}
 use Rattle.xa_log.specs.Log.{LogState, Records}
 use Rattle.xa_driver.specs.Resolving.{AsksLedger, ResolvesAt, IsTraceOfResolve, requests_for}
+use Rattle.xa_driver.specs.Rounds.{code_of, first_ask}
+use Rattle.xa_driver.specs.Stages.{HasVoted}
 use Rattle.xa_driver.specs.Trace.{EachBranch, HasRoom, HaveRoom, has_branch_at, IsTraceOfCommit}
 use Rattle.xa_driver.proofs.Alone.{known_with_room}
 use Rattle.xa_driver.proofs.Mapped.{Any, any_asked, anything, branch_by, branch_mapped, resolves_by, resolves_mapped}
-use Rattle.xa_telling.specs.Commits.{CarriesOut}
+use Rattle.xa_telling.specs.Commits.{CarriesOut, CarriesOutSome}
 use Rattle.xa_telling.specs.Commits.CarriesOut.{carried, withheld}
 use Rattle.xa_telling.proofs.Ledgers.{Grows, AllSent, sent_of, collected_of, sent_same, collected_same}
-use Rattle.xa_telling.proofs.Entries.{Fits, so_far, enters_coded, code_so_far, pair_there}
+use Rattle.xa_telling.proofs.Entries.{Fits, so_far, enters, enters_coded, code_so_far, pair_there}
+use Rattle.xa_telling.proofs.Deaths.{Reached, asked_mapped, asked_reach, at_manager, came_mapped, came_reach, hears_mapped, obeys_mapped, reached_by}
 
 -- a number is that of a manager that there may be, or it isn't
 pub up_to_or_not : (m : ℕ) → IsUpTo MOST_MANAGERS m ⊎ (IsUpTo MOST_MANAGERS m → ⊥)
@@ -87,6 +99,18 @@ ask_answered a op c a' is =
 pub asks_on : (old a a' : LedgerView) (op : Op) (code : Code) → Any op → AsksLedger a op a' code → Answered old a → Answered old a'
 asks_on old a a' op code so asks so_far = one_after old a a' so_far (ask_answered a op code a' asks)
 
+-- one that is put, or withheld
+pub put_answered : (a : LedgerView) (op : Op) (a' : LedgerView) → PutsLedger a op a' → Answered a a'
+put_answered a op a' (put_sent open_ is) = subst (Answered a) (sym is) (record {
+  sent = (op ∷ [], refl);
+  collected = begins_same a.collected a.collected refl;
+  sound = λ all k p at. let before = all k p at in let size = length-append a.sent (op ∷ []) in omega (arith, before, size);
+})
+put_answered a op a' (put_withheld shut same) = subst (Answered a) (sym same) (stays a)
+
+pub puts_on : (old a a' : LedgerView) (op : Op) → Any op → PutsLedger a op a' → Answered old a → Answered old a'
+puts_on old a a' op so puts so_far = one_after old a a' so_far (put_answered a op a' puts)
+
 -- ---- what it adds to the journal
 
 pub is_rm_fail_so : (c : Code) → is_rm_fail c ≡ true → c ≡ RmFail
@@ -139,6 +163,22 @@ module _ (t : ℕ) (ops : List Op) (pairs : List (ℕ × Code)) (es : List Entry
       carried (enters_coded t ops pairs es fits a.sent (a.sent ++ op ∷ []) op refl now.sent (length a.collected) c (pair_there pairs a.collected (a.collected ++ (length a.sent, c) ∷ []) (length a.sent) c refl now.collected)))
       (subst There asks.trace there))
 
+  put_there : (a a' : LedgerView) (op : Op) → PutsLedger a op a' → There a' → There a
+  put_there a a' op puts there =
+      let grown = put_answered a op a' puts in
+      record { sent = begins_on a.sent a'.sent ops grown.sent there.sent; collected = begins_on a.collected a'.collected pairs grown.collected there.collected }
+
+  -- a request that is withheld, or sent and not waited for
+  carries_some : (a a' : LedgerView) (op : Op) → PutsLedger a op a' → Sound a → There a' → CarriesOutSome t (upto a) op (upto a')
+  carries_some a a' op (put_sent open_ is) sound there =
+      let e = enters t ops pairs es fits a.sent a'.sent op (ap (λ (l : LedgerView). l.sent) is) there.sent in (e.0, carried e.1)
+  carries_some a a' op (put_withheld shut same) sound there =
+      let at = learnt a.collected shut in
+      let was = put_there a a' op (put_withheld shut same) there in (
+        RmFail,
+        withheld refl (code_so_far t ops pairs es fits a.sent at.0 at.1 RmFail (still_there a.collected pairs at.0 (at.1, RmFail) was.collected at.2) (sound at.0 (at.1, RmFail) at.2)) (ap upto same),
+      )
+
   sound_on : (a a' : LedgerView) (op : Op) (c : Code) → AsksLedger a op a' c → Sound a → Sound a'
   sound_on a a' op c asks sound = (ask_answered a op c a' asks).sound sound
 
@@ -147,6 +187,25 @@ module _ (t : ℕ) (ops : List Op) (pairs : List (ℕ × Code)) (es : List Entry
       → Sound a → Begins a'.sent ops → Begins a'.collected pairs → AtBranch (CarriesOut t) commit b v s e (upto a) (upto a')
   branch_carried commit b v s e a a' is sound sent collected =
       branch_mapped AsksLedger (CarriesOut t) upto Sound There sound_on there_before carries commit b v s e a a' is sound (record { sent = sent; collected = collected })
+
+  -- and of a branch, as far as its commit came
+  pub vote_carried : (b : Branch) (v : Code) (a a' : LedgerView) → AsksLedger a (Prepare b.xid) a' v → Sound a → Begins a'.sent ops → Begins a'.collected pairs
+      → CarriesOut t (upto a) (Prepare b.xid) (upto a') v
+  vote_carried b v a a' is sound sent collected = carries a a' (Prepare b.xid) v is sound (record { sent = sent; collected = collected })
+
+  pub put_carried : (b : Branch) (a a' : LedgerView) → PutsLedger a (Prepare b.xid) a' → Sound a → Begins a'.sent ops → Begins a'.collected pairs
+      → CarriesOutSome t (upto a) (Prepare b.xid) (upto a')
+  put_carried b a a' is sound sent collected = carries_some a a' (Prepare b.xid) is sound (record { sent = sent; collected = collected })
+
+  pub hears_carried : (commit : Bool) (k : ℕ) (b : Branch) (v : Code) (a a' : LedgerView) → VotesAndHears AsksLedger PutsLedger commit k b v a a'
+      → Sound a → Begins a'.sent ops → Begins a'.collected pairs → VotesAndHears (CarriesOut t) (CarriesOutSome t) commit k b v (upto a) (upto a')
+  hears_carried commit k b v a a' is sound sent collected =
+      hears_mapped AsksLedger PutsLedger (CarriesOut t) (CarriesOutSome t) upto Sound There sound_on there_before put_there carries carries_some commit k b v a a' is sound (record { sent = sent; collected = collected })
+
+  pub obeys_carried : (commit : Bool) (b : Branch) (v : Code) (s : Option Code) (e : Ending) (a a' : LedgerView) → VotesAndObeys AsksLedger commit b v s e a a'
+      → Sound a → Begins a'.sent ops → Begins a'.collected pairs → VotesAndObeys (CarriesOut t) commit b v s e (upto a) (upto a')
+  obeys_carried commit b v s e a a' is sound sent collected =
+      obeys_mapped AsksLedger PutsLedger (CarriesOut t) (CarriesOutSome t) upto Sound There sound_on there_before put_there carries carries_some commit b v s e a a' is sound (record { sent = sent; collected = collected })
 
   pub left_carried : (records : Records) (m : ℕ) (xs : List XidName) (os : List Outcome) (a a' : LedgerView) → ResolvesAt AsksLedger records m xs os a a'
       → Sound a → Begins a'.sent ops → Begins a'.collected pairs → ResolvesAt (CarriesOut t) records m xs os (upto a) (upto a')
@@ -209,6 +268,61 @@ each_branch P Q at so [] [] [] [] room each = tt
 each_branch P Q at so (b ∷ bs) (v ∷ vs) (s ∷ ss) (e ∷ es) room each = (so b v s e room.0 each.0, each_branch P Q at so bs vs ss es room.1 each.1)
 each_branch P Q at so bs vs ss es room each = absurd each
 
+-- each has its room
+pub rooms : (at : List LedgerView) (bs : List Branch) → HaveRoom at bs → All (λ b. HasRoom at b.m) bs
+rooms at [] room = All-nil (λ (b : Branch). HasRoom at b.m)
+rooms at (b ∷ bs) room = All-cons (λ (b : Branch). HasRoom at b.m) b bs room.0 (rooms at bs room.1)
+
+-- ---- votes
+
+-- a vote that was collected
+one_vote : (at at' : List LedgerView) (b : Branch) (k : Ask) → IsSameAsk (first_ask b) k
+    → AskTrace k.op k.code (ledger at k.manager) (ledger at' k.manager) → AsksLedger (ledger at b.m) (Prepare b.xid) (ledger at' b.m) (code_of k)
+one_vote at at' b k same is =
+    by_code k.code (subst (λ m. AskTrace (Some (Prepare b.xid)) k.code (ledger at m) (ledger at' m)) same.manager (subst (λ (o : Option Op). AskTrace o k.code (ledger at k.manager) (ledger at' k.manager)) same.op is))
+  where
+    by_code : (o : Option Code) → AskTrace (Some (Prepare b.xid)) o (ledger at b.m) (ledger at' b.m)
+        → AsksLedger (ledger at b.m) (Prepare b.xid) (ledger at' b.m) (unwrap_or o RmFail)
+    by_code None z = absurd z.answered
+    by_code (Some c) z = z
+
+votes_in : (at at' : List LedgerView) (bs : List Branch) (ks : List Ask) → SameAsks (map first_ask bs) ks → EachAsk ks at at'
+    → HaveAsked AsksLedger PutsLedger bs (map code_of ks) (ledger at) (ledger at')
+votes_in at at' [] [] same each = tt
+votes_in at at' [] (k ∷ ks) same each = absurd same
+votes_in at at' (b ∷ bs) [] same each = absurd same
+votes_in at at' (b ∷ bs) (k ∷ ks) same each = (one_vote at at' b k same.0 each.0, votes_in at at' bs ks same.1 each.1)
+
+many_votes : (bs : List Branch) (ks : List Ask) → SameAsks (map first_ask bs) ks → length (map code_of ks) ≡ length bs
+many_votes [] [] same = refl
+many_votes [] (k ∷ ks) same = absurd same
+many_votes (b ∷ bs) [] same = absurd same
+many_votes (b ∷ bs) (k ∷ ks) same = ap (λ n. suc n) (many_votes bs ks same.1)
+
+among_branches : (m : ℕ) (bs : List Branch) (ks : List Ask) → SameAsks (map first_ask bs) ks → among_asks ks m ≡ has_branch_at bs m
+among_branches m [] [] same = refl
+among_branches m [] (k ∷ ks) same = absurd same
+among_branches m (b ∷ bs) [] same = absurd same
+among_branches m (b ∷ bs) (k ∷ ks) same = λ i. (same.0.manager i == m) || among_branches m bs ks same.1 i
+
+-- Each branch has voted, and nothing else was done.
+pub record Voted (bs : List Branch) (old new : List LedgerView) (votes : List Code) : Type 0 where
+  pub asked : HaveAsked AsksLedger PutsLedger bs votes (ledger old) (ledger new)
+  pub counted : length votes ≡ length bs
+  pub others : (m : ℕ) → 1 ≤ m → has_branch_at bs m ≡ false → ledger new m ≡ ledger old m
+  pub managers : length new ≡ length old
+
+pub voted_so : (bs : List Branch) (old new : List LedgerView) (votes : List Code) → HasVoted bs old new votes → Voted bs old new votes
+voted_so bs old new votes is =
+    let ks : List Ask = is.stage.round.asks.items in
+    let all = is.prepared in
+    subst (Voted bs old new) (sym all.votes ∙ is.votes_are) (record {
+      asked = votes_in old new bs ks all.same all.asked.each;
+      counted = many_votes bs ks all.same;
+      others = λ m low none. all.asked.others m low (among_branches m bs ks all.same ∙ none);
+      managers = all.asked.managers;
+    })
+
 -- ---- the entries that lists of a desk have in the journals
 
 module _ (t : ℕ) (ops : ℕ → List Op) (pairs : ℕ → List (ℕ × Code)) (es : ℕ → List Entry) (fits : (m : ℕ) → Fits t (ops m) (pairs m) (es m))
@@ -253,6 +367,62 @@ module _ (t : ℕ) (ops : ℕ → List Op) (pairs : ℕ → List (ℕ × Code)) 
       by_entries m has.known (AtBranch (CarriesOut t) commit b v s e)
       (branch_carried t (ops m) (pairs m) (es m) (fits m) commit b v s e (ledger old m) (ledger new m) is (sound_here m has.known) (sent_here m has.known) (collected_here m has.known))) bs vs ss ends room each
 
+  -- a manager that was learnt to be shut has answered so
+  pub shut_told : (m : ℕ) → IsKnown old m → Begins (collected_from old m) (pairs m) → learnt_shut (ledger old m) ≡ true
+      → Contains (codes_in (entries old m)) RmFail
+  shut_told m known begins shut =
+      let a = ledger old m in
+      let at = learnt a.collected shut in
+      subst (λ (l : List Entry). Contains (codes_in l) RmFail) (was m known)
+      (code_so_far t (ops m) (pairs m) (es m) (fits m) a.sent at.0 at.1 RmFail (still_there a.collected (pairs m) at.0 (at.1, RmFail) (subst (λ l. Begins l (pairs m)) (collected_of old m known) begins) at.2) (sound_here m known at.0 (at.1, RmFail) at.2))
+
+  pub sound_there : (m : ℕ) → IsKnown old m → Sound (ledger old m)
+  sound_there m known = sound_here m known
+
+  -- as far as a commit came
+  abbrev Room : Branch → Type 0
+  Room b = HasRoom old b.m
+
+  votes_so : (b : Branch) (v : Code) → Room b → AsksLedger (ledger old b.m) (Prepare b.xid) (ledger new b.m) v
+      → CarriesOut t (entries old b.m) (Prepare b.xid) (entries new b.m) v
+  votes_so b v has is =
+      let m = b.m in
+      by_entries m has.known (λ es es'. CarriesOut t es (Prepare b.xid) es' v)
+      (vote_carried t (ops m) (pairs m) (es m) (fits m) b v (ledger old m) (ledger new m) is (sound_here m has.known) (sent_here m has.known) (collected_here m has.known))
+
+  put_so : (b : Branch) → Room b → PutsLedger (ledger old b.m) (Prepare b.xid) (ledger new b.m)
+      → CarriesOutSome t (entries old b.m) (Prepare b.xid) (entries new b.m)
+  put_so b has is =
+      let m = b.m in
+      by_entries m has.known (λ es es'. CarriesOutSome t es (Prepare b.xid) es')
+      (put_carried t (ops m) (pairs m) (es m) (fits m) b (ledger old m) (ledger new m) is (sound_here m has.known) (sent_here m has.known) (collected_here m has.known))
+
+  hears_so : (commit : Bool) (k : ℕ) (b : Branch) (v : Code) → Room b → VotesAndHears AsksLedger PutsLedger commit k b v (ledger old b.m) (ledger new b.m)
+      → VotesAndHears (CarriesOut t) (CarriesOutSome t) commit k b v (entries old b.m) (entries new b.m)
+  hears_so commit k b v has is =
+      let m = b.m in
+      by_entries m has.known (VotesAndHears (CarriesOut t) (CarriesOutSome t) commit k b v)
+      (hears_carried t (ops m) (pairs m) (es m) (fits m) commit k b v (ledger old m) (ledger new m) is (sound_here m has.known) (sent_here m has.known) (collected_here m has.known))
+
+  obeys_so : (commit : Bool) (b : Branch) (v : Code) (s : Option Code) (e : Ending) → Room b
+      → VotesAndObeys AsksLedger commit b v s e (ledger old b.m) (ledger new b.m)
+      → VotesAndObeys (CarriesOut t) commit b v s e (entries old b.m) (entries new b.m)
+  obeys_so commit b v s e has is =
+      let m = b.m in
+      by_entries m has.known (VotesAndObeys (CarriesOut t) commit b v s e)
+      (obeys_carried t (ops m) (pairs m) (es m) (fits m) commit b v s e (ledger old m) (ledger new m) is (sound_here m has.known) (sent_here m has.known) (collected_here m has.known))
+
+  pub votes_at : (bs : List Branch) (vs : List Code) → HaveRoom old bs → HaveAsked AsksLedger PutsLedger bs vs (ledger old) (ledger new)
+      → HaveAsked (CarriesOut t) (CarriesOutSome t) bs vs (entries old) (entries new)
+  votes_at bs vs room asked =
+      asked_mapped AsksLedger PutsLedger (CarriesOut t) (CarriesOutSome t) Room (ledger old) (ledger new) (entries old) (entries new) votes_so put_so hears_so obeys_so bs vs (rooms old bs room) asked
+
+  pub death_at : (at : Death) (tran : TranName) (bs : List Branch) (log later : LogState) (known : Done) → HaveRoom old bs
+      → CameTo AsksLedger PutsLedger at tran bs (ledger old) (ledger new) log later known
+      → CameTo (CarriesOut t) (CarriesOutSome t) at tran bs (entries old) (entries new) log later known
+  death_at at tran bs log later known room far =
+      came_mapped AsksLedger PutsLedger (CarriesOut t) (CarriesOutSome t) Room (ledger old) (ledger new) (entries old) (entries new) votes_so put_so hears_so obeys_so at tran bs log later known (rooms old bs room) far
+
   pub left_at_entries : (records : Records) (m : ℕ) (xs : List XidName) (os : List Outcome) → requests_for xs ≤ room_at old m
       → ResolvesAt AsksLedger records m xs os (ledger old m) (ledger new m) → ResolvesAt (CarriesOut t) records m xs os (entries old m) (entries new m)
   left_at_entries records m [] os few is = (is.0, same_entries m (λ low. is.1))
@@ -274,6 +444,30 @@ trace_grows tran bs old new log log' d is room m =
     (branch_by AsksLedger Any (Answered (ledger old b.m)) (asks_on (ledger old b.m)) d.commit b h.1 h.2 h.3 (ledger old b.m) (ledger new b.m) h.5.1 (any_asked (second_op d.commit b.xid h.1)) (any_asked (third_op b.xid h.2)) tt (stays (ledger old b.m)))))
     (branch_there (λ b v s e. HasRoom old b.m × AtBranch AsksLedger d.commit b v s e (ledger old b.m) (ledger new b.m)) m bs d.votes.items is.course.seconds d.endings.items
     (each_branch (λ b v s e. AtBranch AsksLedger d.commit b v s e (ledger old b.m) (ledger new b.m)) (λ b v s e. HasRoom old b.m × AtBranch AsksLedger d.commit b v s e (ledger old b.m) (ledger new b.m)) old (λ b v s e has x. (has, x)) bs d.votes.items is.course.seconds d.endings.items room is.course.each))
+
+-- a commit, as far as it came
+abbrev ReachedSo : Bool → List LedgerView → List LedgerView → Branch → Type 0
+ReachedSo commit old new b = Reached AsksLedger PutsLedger (λ v. Unit {0}) commit b (ledger old b.m) (ledger new b.m)
+
+reached_grows : (commit : Bool) (bs : List Branch) (old new : List LedgerView) → All (ReachedSo commit old new) bs
+    → ((m : ℕ) → 1 ≤ m → has_branch_at bs m ≡ false → ledger new m ≡ ledger old m) → length new ≡ length old → HaveRoom old bs → (m : ℕ) → Grows m old new
+reached_grows commit bs old new each others managers room m =
+    ⊎_elim (λ (none_there : has_branch_at bs m ≡ false). untouched_grows old new m managers (λ low. others m low none_there))
+    (λ (h : (b : Branch) × (b.m ≡ m) × (HasRoom old b.m × ReachedSo commit old new b)).
+    let b : Branch = h.0 in
+    subst (λ k. Grows k old new) h.1
+    (known_grows old new b.m managers h.2.0.known
+    (reached_by AsksLedger PutsLedger Any (Answered (ledger old b.m)) (asks_on (ledger old b.m)) (puts_on (ledger old b.m)) (λ v. Unit {0}) commit b (ledger old b.m) (ledger new b.m) tt (λ v w. any_asked (second_op commit b.xid v)) h.2.1 (stays (ledger old b.m)))))
+    (at_manager (λ b. HasRoom old b.m × ReachedSo commit old new b) m bs (λ k d lt. (rooms old bs room k d lt, each k d lt)))
+
+pub votes_grow : (bs : List Branch) (old new : List LedgerView) (votes : List Code) → Voted bs old new votes → HaveRoom old bs → (m : ℕ) → Grows m old new
+votes_grow bs old new votes is room =
+    reached_grows false bs old new (asked_reach AsksLedger PutsLedger (λ v. Unit {0}) (ledger old) (ledger new) false bs votes is.asked) is.others is.managers room
+
+pub death_grows : (at : Death) (tran : TranName) (bs : List Branch) (old new : List LedgerView) (log later : LogState) (known : Done)
+    → Dies AsksLedger PutsLedger at tran bs (ledger old) (ledger new) log later known → length new ≡ length old → HaveRoom old bs → (m : ℕ) → Grows m old new
+death_grows at tran bs old new log later known is managers room =
+    reached_grows known.commit bs old new (came_reach AsksLedger PutsLedger (λ v. Unit {0}) (ledger old) (ledger new) at tran bs log later known (λ k d lt. tt) is.far) is.others managers room
 
 pub resolve_grows : (z : ScanView) (records : Records) (old new : List LedgerView) (outcomes : List Outcome) → IsTraceOfResolve z records old new outcomes
     → ((m : ℕ) → IsUpTo MOST_MANAGERS m → requests_for (left_at z m) ≤ room_at old m) → (m : ℕ) → Grows m old new

@@ -2,7 +2,9 @@ pub mod Tasks
 pub mod Ledgers
 pub mod Sent
 pub mod Entries
+pub mod Deaths
 pub mod Branches
+pub mod Flight
 pub mod Parts
 pub mod Handles
 pub mod Lines

@@ -106,7 +106,7 @@ other_same m t q a old new differs (elsewhere apart same) = same
 other_same m t q a old new differs (completes asks same) = same
 
 module _ (settled : Settling) (t : ℕ) (q : Called XidName) (a : Answer) (old new : Part)
-    (adds : (m : ℕ) → Adds m t q a (old.entries m) (new.entries m)) (log : new.log ≡ old.log) (scan : new.scan ≡ old.scan) where
+    (adds : (m : ℕ) → Adds m t q a (old.entries m) (new.entries m)) (log : new.log ≡ old.log) (lost : new.is_lost ≡ old.is_lost) (scan : new.scan ≡ old.scan) where
   one_entered : (o : Op) (c : Code)
       → new.entries q.manager ≡ old.entries q.manager ++ next_entry t (old.entries q.manager) o c ∷ []
       → (m : ℕ) → new.entries m ≡ (with_entry t q.manager o c old).entries m
@@ -128,7 +128,7 @@ module _ (settled : Settling) (t : ℕ) (q : Called XidName) (a : Answer) (old n
   takes_by : Adds q.manager t q a (old.entries q.manager) (new.entries q.manager) → Hands settled t q a old new.handles
       → CallTakes settled t q a old new
   takes_by (answered o c here asks told is) (shows d may says now) =
-      call_answered o c asks told (λ i. record { entries = λ m. one_entered o c is m i; handles = now i; log = log i; scan = scan i })
+      call_answered o c asks told (λ i. record { entries = λ m. one_entered o c is m i; handles = now i; log = log i; is_lost = lost i; scan = scan i })
   takes_by (answered o c here asks told is) (gives r k asked says free now) =
       absurd (let e : code_of o ≡ handle_for r = sym asks ∙ asked in cc)
   takes_by (answered o c here asks told is) (takes r k d asked at has says now) =
@@ -140,6 +140,7 @@ module _ (settled : Settling) (t : ℕ) (q : Called XidName) (a : Answer) (old n
         entries = λ m. one_entered o c is m i;
         handles = (now ∙ ap (λ n. finmap.insert old.handles n (next_request old q.manager)) same) i;
         log = log i;
+        is_lost = lost i;
         scan = scan i;
       })
   takes_by (kept o c k here asks low told is) (shows d may says now) =
@@ -147,16 +148,16 @@ module _ (settled : Settling) (t : ℕ) (q : Called XidName) (a : Answer) (old n
   takes_by (kept o c k here asks low told is) (takes r j d asked at has says now) =
       absurd (let e : handle_for o ≡ completion = sym asks ∙ asked in cc)
   takes_by (refused c why told same) (shows d may says now) =
-      call_refused c why told (λ i. record { entries = λ m. all_same same m i; handles = now i; log = log i; scan = scan i })
+      call_refused c why told (λ i. record { entries = λ m. all_same same m i; handles = now i; log = log i; is_lost = lost i; scan = scan i })
   takes_by (refused c why told same) (gives r k asked says free now) = absurd (not_handle q a r c k asked why told says)
   takes_by (refused c why told same) (takes r k d asked at has says now) =
       absurd (not_completed (number_of c) (pos k) (number_of d) (sym told ∙ says))
   takes_by (elsewhere differs same) hands = absurd (differs refl)
   takes_by (completes asks same) (takes r k d asked at has says now) =
-      call_completes r k d asked at has says (λ i. record { entries = λ m. all_same same m i; handles = now i; log = log i; scan = scan i })
+      call_completes r k d asked at has says (λ i. record { entries = λ m. all_same same m i; handles = now i; log = log i; is_lost = lost i; scan = scan i })
   takes_by (completes asks same) (shows d may says now) =
       call_refused d (subst (λ r. IsRefusal r d) (sym asks) (subst (λ r. MayShow r d) asks may)) says
-      (λ i. record { entries = λ m. all_same same m i; handles = now i; log = log i; scan = scan i })
+      (λ i. record { entries = λ m. all_same same m i; handles = now i; log = log i; is_lost = lost i; scan = scan i })
   takes_by (completes asks same) (gives r k asked says free now) =
       absurd (let e : completion ≡ handle_for r = sym asks ∙ asked in cc)
 

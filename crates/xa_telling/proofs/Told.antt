@@ -1,6 +1,6 @@
 -- What the threads and the managers of a run tell once they are settled.
 use Rattle.std.proofs.Common.{◌≡◌, ◌≢◌, ℕ, ◌+◌, ◌-◌, ◌<◌, ◌≤◌, ⊎_elim, zero, suc, List, [], ◌∷◌, length, map, Some, None, option_map, sym, refl, ap, ◌∙◌, subst}
-use Rattle.std.proofs.Common.{arith, ◌++◌, Option, inl, inr}
+use Rattle.std.proofs.Common.{arith, ◌++◌, Option, inl, inr, false}
 use Rattle.std.specs.Prelude.{slice_get}
 use Rattle.std.specs.List.{range_with_len, slice_index_or}
 use Rattle.std.specs.FinMap as finmap
@@ -85,14 +85,14 @@ are_left settled t last e outstanding is ops pairs fits collected =
 
 abbrev log_in : LogState → Option Session → LogState
 log_in log None = log
-log_in log (Some x) = x.log.state
+log_in log (Some x) = x.log.found.state
 
 -- the log of thread t after an opening that began so and left these threads
 abbrev pub log_left : Beginning → List Session → ℕ → LogState
 log_left b left zero = b.logs zero
 log_left b left (suc k) = log_in (b.logs (suc k)) (slice_get left k)
 
-pub log_there : (b : Beginning) (left : List Session) (k : ℕ) (x : Session) → slice_get left k ≡ Some x → x.log.state ≡ log_left b left (suc k)
+pub log_there : (b : Beginning) (left : List Session) (k : ℕ) (x : Session) → slice_get left k ≡ Some x → x.log.found.state ≡ log_left b left (suc k)
 log_there b left k x at = sym (ap (log_in (b.logs (suc k))) at)
 
 no_log_there : (b : Beginning) (left : List Session) (k : ℕ) → length left ≤ k → b.logs (suc k) ≡ log_left b left (suc k)
@@ -220,11 +220,11 @@ module _ (s : Content) (b : Beginning) (steps : List ScriptStep) (answers : List
         λ m. agreed_fits x.desk.thread (sent settled x.desk.thread m) (collected settled x.desk.thread m) (journal settled m) (is.agree x.desk.thread m) in
         let tasks = tasks_of x.desk.thread steps in
         let last : Session × List Told = (y.0, answers_to x.desk.thread answers) in
-        let log : x.log.state ≡ b.logs (suc k) = begins.log ∙ ap b.logs next in
+        let log : x.log.found.state ≡ b.logs (suc k) = begins.log ∙ ap b.logs next in
         let scan : x.scan ≡ b.scans (suc k) = begins.scan ∙ ap b.scans next in
         let chain =
         let ends = ending_collects y.0.desk [] e.0 c.outstanding c.ends in
-        carried_all settled x.desk.thread (sent settled x.desk.thread) (collected settled x.desk.thread) fits (x, []) (λ m. fresh k x m at) (λ m. uncollected k x m at) (unkept k x at)
+        carried_all settled x.desk.thread (sent settled x.desk.thread) (collected settled x.desk.thread) fits (x, []) (λ m. fresh k x m at) (λ m. uncollected k x m at) (unkept k x at) begins.known
         tasks last c.runs (tasks_are_of x.desk.thread steps) (λ m. sym (ends m).1 ∙ sym (sent_so m))
         (λ m. subst (Begins (collected_from y.0.desk.ledgers m)) (sym (collected_so m)) (ends m).0.collected) in
         subst (λ (u : ℕ). (c : AreCarriedOut steps answers settled u (part_at b (suc k))) × (c.log ≡ log_left b left (suc k))) t (
@@ -233,9 +233,10 @@ module _ (s : Content) (b : Beginning) (steps : List ScriptStep) (answers : List
             tasks = tasks_in (x, []) tasks last c.runs;
             told = answers_in (x, []) tasks last c.runs refl;
             left = y.0.desk.kept;
-            log = y.0.log.state;
+            log = y.0.log.found.state;
+            is_lost = y.0.log.is_lost;
             scan = y.0.scan;
-            carried = subst (λ (p : Part). Chain (TakesPart settled) p (lines_in (x, []) tasks last c.runs) (record { entries = λ m. entries_of x.desk.thread (journal settled m); handles = y.0.desk.kept; log = y.0.log.state; scan = y.0.scan })) (λ i. new_part (log i) (scan i)) chain;
+            carried = subst (λ (p : Part). Chain (TakesPart settled) p (lines_in (x, []) tasks last c.runs) (record { entries = λ m. entries_of x.desk.thread (journal settled m); handles = y.0.desk.kept; log = y.0.log.found.state; is_lost = y.0.log.is_lost; scan = y.0.scan })) (λ i. new_part (log i) (scan i)) chain;
             outstanding = c.outstanding;
             are_left = are_left settled x.desk.thread y.0.desk e.0 c.outstanding c.ends (sent settled x.desk.thread) (collected settled x.desk.thread) fits collected_so;
             ends = c.told;
@@ -258,13 +259,14 @@ module _ (s : Content) (b : Beginning) (steps : List ScriptStep) (answers : List
             told = sym (r.others t none_there silent).0;
             left = finmap.empty;
             log = b.logs t;
+            is_lost = false;
             scan = b.scans t;
             carried =
                 let nothing_there : (m : ℕ) → entries_of t (journal settled m) ≡ [] = λ m.
                 let nothing_sent : sent settled t m ≡ [] = ap (λ o. sent_to (ledgers_in o) m) (no_thread t none_there) ∙ nobody_sent m in
                 let fits = agreed_fits t (sent settled t m) (collected settled t m) (journal settled m) (is.agree t m) in
                 no_entries t (collected settled t m) (entries_of t (journal settled m)) (subst (λ ops. Agrees t ops (collected settled t m) (entries_of t (journal settled m))) nothing_sent fits) in
-                none [] (record { entries = λ m. entries_of t (journal settled m); handles = finmap.empty; log = b.logs t; scan = b.scans t }) refl (λ i. record { entries = λ m. nothing_there m i; handles = finmap.empty; log = b.logs t; scan = b.scans t });
+                none [] (record { entries = λ m. entries_of t (journal settled m); handles = finmap.empty; log = b.logs t; is_lost = false; scan = b.scans t }) refl (λ i. record { entries = λ m. nothing_there m i; handles = finmap.empty; log = b.logs t; is_lost = false; scan = b.scans t });
             outstanding = [];
             are_left = record {
               coded = All-nil (λ (x : ℕ × Code). (o : Operation) × (finmap.get finmap.empty x.0 ≡ Some o) × HasCode settled t o x.1);

@@ -87,7 +87,8 @@ pub record AreLeft (settled : Settling) (t : ℕ) (left : finmap.FinMap nat_cmp 
 
 -- The lines of thread t among those of an opening, each with its answer; and line by line, from the part that the
 -- thread has at first, each manager's journal has what they put to it, in their order, and nothing else of the thread.
--- After them these handles, this log and these scans are left, and the `end` lines show the handles with their codes.
+-- After them these handles, this log, known or not, and these scans are left, and the `end` lines show the handles with
+-- their codes.
 pub record AreCarriedOut (steps : List ScriptStep) (answers : List Told) (settled : Settling) (t : ℕ)
     (first : Part) : Type 0 where
   pub lines : List Line
@@ -95,9 +96,16 @@ pub record AreCarriedOut (steps : List ScriptStep) (answers : List Told) (settle
   pub told : map (λ l. told_of l.task l.answer) lines ≡ answers_to t answers
   pub left : finmap.FinMap nat_cmp Operation
   pub log : LogState
+  pub is_lost : Bool
   pub scan : ScanView
   pub carried : Chain (TakesPart settled) first lines
-      (record { entries = λ m. entries_of t (journal settled m); handles = left; log = log; scan = scan })
+      (record {
+        entries = λ m. entries_of t (journal settled m);
+        handles = left;
+        log = log;
+        is_lost = is_lost;
+        scan = scan;
+      })
   pub outstanding : List (ℕ × Code)
   pub are_left : AreLeft settled t left outstanding
   pub ends : ends_of t answers ≡ all_ended t outstanding

@@ -24,16 +24,19 @@ use Rattle.xa_telling.specs.Wants.{wanted_in, refusals, IsRefusal}
 use Rattle.xa_telling.specs.Wants.Wanted.{code_of, handle_for, completion, listing}
 
 -- A thread's part in the journals, its log and its scans: its entries in each manager's journal, the requests that its
--- handles stand for, what it has logged, and where it stands in what the opening found left.
+-- handles stand for, what it has logged, and where it stands in what the opening found left. Where an append had an
+-- unknown end the log is lost from sight: nobody knows what it turns out to have before the next opening.
 pub record Part : Type 0 where
   pub entries : ℕ → List Entry
   pub handles : finmap.FinMap nat_cmp Operation
   pub log : LogState
+  pub is_lost : Bool
   pub scan : ScanView
 
 -- The part of a thread that has done nothing since the opening, at which it had this log and these scans.
 abbrev pub new_part : LogState → ScanView → Part
-new_part log scan = record { entries = λ m. []; handles = finmap.empty; log = log; scan = scan }
+new_part log scan =
+    record { entries = λ m. []; handles = finmap.empty; log = log; is_lost = false; scan = scan }
 
 -- The next entry of thread t: its op, with the next number.
 abbrev pub next_entry : ℕ → List Entry → Op → Code → Entry

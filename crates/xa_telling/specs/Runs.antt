@@ -1,5 +1,5 @@
 -- What the threads and the managers of an opening have come to, whichever way they were run.
-use Rattle.std.specs.Prelude.{◌≡◌, ◌≢◌, ℕ, ◌+◌, Some, All, List, [], length, map, slice_get}
+use Rattle.std.specs.Prelude.{◌≡◌, ◌≢◌, ℕ, ◌+◌, false, Some, All, List, [], length, map, slice_get}
 use Rattle.xa_words.specs.declared.code.Code.{Code}
 use Rattle.xa_desk.specs.Ended.{EndedView}
 use Rattle.xa_worker.specs.Workers.{WorkerView}
@@ -24,9 +24,10 @@ pub record Comes (steps : List ScriptStep) (answers : List Told) (x left : Sessi
   pub ends : EndsDesk left.desk [] e outstanding
   pub told : ends_of x.desk.thread answers ≡ all_ended x.desk.thread outstanding
 
--- The thread has the log and the scans with which thread t begins.
+-- The thread has the log and the scans with which thread t begins, and the log is known.
 pub record BeginsAs (b : Beginning) (t : ℕ) (x : Session) : Type 0 where
-  pub log : x.log.state ≡ b.logs t
+  pub log : x.log.found.state ≡ b.logs t
+  pub known : x.log.is_lost ≡ false
   pub scan : x.scan ≡ b.scans t
 
 -- All threads and all managers of an opening that begins so have come to this: each thread did its tasks among these

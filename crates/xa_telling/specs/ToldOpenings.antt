@@ -57,7 +57,8 @@ pub record Former : Type 0 where
   pub line : ℕ
 
 -- What the answers tell of it, and what the next one begins with: the next number; each manager with what the reopening
--- makes of its tables; each thread with the log that it has, and with new scans of what is left.
+-- makes of its tables; each thread with the log that it has, or turns out to have where that wasn't known, and with new
+-- scans of what is left.
 pub record Leaves (s : Content) (f : Former) (old new : Beginning) : Type 0 where
   pub tells : TellsOf s old f.opening
   pub opening : new.opening ≡ suc old.opening

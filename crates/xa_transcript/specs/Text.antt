@@ -3,6 +3,9 @@ use Rattle.std.specs.Prelude.{ℕ, ℤ, Bool, true, false, List, ◌++◌, lengt
 use Rattle.std.specs.List.{flat_map}
 use Rattle.std.specs.Fmt.{signed_decimal}
 use Rattle.xa_words.specs.Code.{number_of}
+use Rattle.xa_words.specs.declared.code.Code.{Code}
+use Rattle.xa_words.specs.declared.death.Death.{Death}
+use Rattle.xa_words.specs.declared.death.Death.TheVariants as death
 use Rattle.xa_words.specs.Xid.{XidName}
 use Rattle.xa_driver.specs.declared.done.Done.{Done}
 use Rattle.xa_driver.specs.declared.done.Ending.{Ending}
@@ -10,7 +13,7 @@ use Rattle.xa_driver.specs.declared.resolved.Outcome.{Outcome}
 use Rattle.xa_driver.specs.declared.done.Ending.TheVariants.{Committed, ReadOnly, RolledBack, InDoubt, Heuristic, Left}
 use Rattle.xa_transcript.specs.declared.answer.Answer.{Answer}
 use Rattle.xa_transcript.specs.declared.answer.Answer.TheVariants.{Called, Completed, Recovered, Refused, Decided}
-use Rattle.xa_transcript.specs.declared.answer.Answer.TheVariants.{Resolved}
+use Rattle.xa_transcript.specs.declared.answer.Answer.TheVariants.{Undecided, Died, Resolved}
 use Rattle.xa_transcript.specs.declared.answer.Told.{Told}
 use Rattle.xa_transcript.specs.declared.answer.Told.TheVariants.{Answered, Turned, Ended, Reopened}
 use Rattle.xa_worker.specs.declared.step.Step.{Step}
@@ -51,9 +54,30 @@ record_text false = codes "unlogged"
 abbrev pub endings_text : List Ending → List ℕ
 endings_text endings = flat_map (λ e. codes " " ++ ending_text e) endings
 
+-- vote:C
+abbrev pub vote_text : Code → List ℕ
+vote_text c = codes "vote:" ++ signed_decimal (number_of c)
+
+-- A word for each vote, after a space.
+abbrev pub votes_text : List Code → List ℕ
+votes_text votes = flat_map (λ v. codes " " ++ vote_text v) votes
+
+-- The decision, and whether it was logged.
+abbrev pub decided_text : Done → List ℕ
+decided_text d = decision_text d.commit ++ codes " " ++ record_text d.logged
+
 -- The decision, whether it was logged, and what became of each branch.
 abbrev pub done_text : Done → List ℕ
-done_text d = decision_text d.commit ++ codes " " ++ record_text d.logged ++ endings_text d.endings.items
+done_text d = decided_text d ++ endings_text d.endings.items
+
+-- What was known of a commit as its coordinator died: the votes, with the decision before them once it was made, and in
+-- the end what became of each branch.
+abbrev pub known_text : Death → Done → List ℕ
+known_text (death.Preparing k) d = votes_text d.votes.items
+known_text death.Prepared d = votes_text d.votes.items
+known_text death.Decided d = codes " " ++ decided_text d ++ votes_text d.votes.items
+known_text (death.Telling k) d = codes " " ++ decided_text d ++ votes_text d.votes.items
+known_text death.Told d = codes " " ++ done_text d
 
 -- G.B
 abbrev pub xid_text : XidName → List ℕ
@@ -78,13 +102,16 @@ outcome_text o =
 abbrev pub outcomes_text : List Outcome → List ℕ
 outcomes_text outcomes = flat_map (λ o. codes " " ++ outcome_text o) outcomes
 
--- C, 0 handle H retval R, N X .., refused, commit logged E .., resolved O ..
+-- C, 0 handle H retval R, N X .., refused, commit logged E .., undecided V .., died V .., died commit logged V ..,
+-- died commit logged E .., resolved O ..
 abbrev pub answer_text : Answer → List ℕ
 answer_text (Called answer) = signed_decimal answer
 answer_text (Completed handle retval) = codes "0" ++ handle_text (signed_decimal handle) retval
 answer_text (Recovered xids) = listed_text xids.items
 answer_text Refused = codes "refused"
 answer_text (Decided done) = done_text done
+answer_text (Undecided votes) = codes "undecided" ++ votes_text votes.items
+answer_text (Died at known) = codes "died" ++ known_text at known
 answer_text (Resolved outcomes) = codes "resolved" ++ outcomes_text outcomes.items
 
 -- L T and the answer, L turn S, end T handle H retval R, L reopened

@@ -1,6 +1,6 @@
 //! What the lines of a transcript tell.
 use xa_driver::{Done, Outcome};
-use xa_words::Xid;
+use xa_words::{Code, Death, Xid};
 use xa_worker::Step;
 
 /// What a thread's task answered.
@@ -18,6 +18,13 @@ pub enum Answer {
     /// What became of the branches of a commit: `commit logged E ..`, `commit unlogged E ..` or
     /// `abort unlogged E ..`.
     Decided(Done),
+    /// Nobody knows whether the log has the record, so no branch was told a decision: `undecided`, and `vote:C` for
+    /// each branch, in their order.
+    Undecided(Vec<Code>),
+    /// The coordinator of a commit died at this point, and what was known of the commit by then: `died`, and `vote:C`
+    /// for each vote that it had; once it was decided `died commit logged vote:C ..`, `died commit unlogged vote:C ..`
+    /// or `died abort unlogged vote:C ..`; and once all branches were told the words of `Decided` after `died`.
+    Died { at: Death, known: Done },
     /// What became of the branches that the reopening found left: `resolved`, and `M:G.B:commit:C` or
     /// `M:G.B:rollback:C` for each.
     Resolved(Vec<Outcome>),

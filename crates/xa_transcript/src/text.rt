@@ -1,14 +1,15 @@
 //! The bytes of a line of a transcript.
 ghost use Rattle.std.specs.Prelude.{◌≡◌, ◌++◌, OnOk};
 ghost use Rattle.xa_transcript.specs.Text.{turn_text, handle_text, decision_text, record_text, ending_text};
-ghost use Rattle.xa_transcript.specs.Text.{endings_text, done_text, xid_text, listed_text, resolution_text};
+ghost use Rattle.xa_transcript.specs.Text.{endings_text, vote_text, votes_text, decided_text, done_text, known_text};
+ghost use Rattle.xa_transcript.specs.Text.{xid_text, listed_text, resolution_text};
 ghost use Rattle.xa_transcript.specs.Text.{outcome_text, outcomes_text, answer_text, told_text, line_text};
 
 use crate::answer::{Answer, Told};
 use itoa::{Buffer, Integer};
 use std::alloc::AllocError;
 use xa_driver::{Done, Ending, Outcome};
-use xa_words::Xid;
+use xa_words::{Code, Death, Xid};
 use xa_worker::Step;
 
 pub(crate) fn put_number<I: Integer>(out: &mut Vec<u8>, number: I) -> Result<(), AllocError>
@@ -85,14 +86,59 @@ fn put_endings(out: &mut Vec<u8>, endings: &[Ending]) -> Result<(), AllocError>
     Ok(())
 }
 
+// `vote:C`
+fn put_vote(out: &mut Vec<u8>, vote: Code) -> Result<(), AllocError>
+    ensures { OnOk result (out.new.items ≡ out.old.items ++ vote_text vote) }
+{
+    out.extend_from_slice(b"vote:")?;
+    put_number(out, vote.value())
+}
+
+// A word for each vote, after a space.
+fn put_votes(out: &mut Vec<u8>, votes: &[Code]) -> Result<(), AllocError>
+    ensures { OnOk result (out.new.items ≡ out.old.items ++ votes_text votes.now) }
+{
+    for vote in votes {
+        out.extend_from_slice(b" ")?;
+        put_vote(out, *vote)?;
+    }
+    Ok(())
+}
+
+// The decision, and whether it was logged.
+fn put_decided(out: &mut Vec<u8>, done: &Done) -> Result<(), AllocError>
+    ensures { OnOk result (out.new.items ≡ out.old.items ++ decided_text done.now) }
+{
+    out.extend_from_slice(decision_text(done.commit))?;
+    out.extend_from_slice(b" ")?;
+    out.extend_from_slice(record_text(done.logged))
+}
+
 // The decision, whether it was logged, and what became of each branch.
 fn put_done(out: &mut Vec<u8>, done: &Done) -> Result<(), AllocError>
     ensures { OnOk result (out.new.items ≡ out.old.items ++ done_text done.now) }
 {
-    out.extend_from_slice(decision_text(done.commit))?;
-    out.extend_from_slice(b" ")?;
-    out.extend_from_slice(record_text(done.logged))?;
+    put_decided(out, done)?;
     put_endings(out, &done.endings)
+}
+
+// What was known of a commit as its coordinator died: the votes, then the decision too, and at last what became of each
+// branch.
+fn put_known(out: &mut Vec<u8>, at: Death, known: &Done) -> Result<(), AllocError>
+    ensures { OnOk result (out.new.items ≡ out.old.items ++ known_text at known.now) }
+{
+    match at {
+        Death::Preparing(_) | Death::Prepared => put_votes(out, &known.votes),
+        Death::Decided | Death::Telling(_) => {
+            out.extend_from_slice(b" ")?;
+            put_decided(out, known)?;
+            put_votes(out, &known.votes)
+        }
+        Death::Told => {
+            out.extend_from_slice(b" ")?;
+            put_done(out, known)
+        }
+    }
 }
 
 // `G.B`
@@ -160,6 +206,14 @@ fn put_answer(out: &mut Vec<u8>, answer: &Answer) -> Result<(), AllocError>
         Answer::Recovered(xids) => put_listed(out, xids),
         Answer::Refused => out.extend_from_slice(b"refused"),
         Answer::Decided(done) => put_done(out, done),
+        Answer::Undecided(votes) => {
+            out.extend_from_slice(b"undecided")?;
+            put_votes(out, votes)
+        }
+        Answer::Died { at, known } => {
+            out.extend_from_slice(b"died")?;
+            put_known(out, *at, known)
+        }
         Answer::Resolved(outcomes) => {
             out.extend_from_slice(b"resolved")?;
             put_outcomes(out, outcomes)

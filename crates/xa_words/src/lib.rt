@@ -1,8 +1,9 @@
 //! The words of the switch: names of transactions and keys, changes, codes, calls with their flags,
-//! requests and completions.
+//! requests and completions, and the points of a commit at which its coordinator may die.
 #![tactic(auto)]
 
 mod code;
+mod death;
 mod delta;
 mod flags;
 mod key;
@@ -14,6 +15,7 @@ mod tran;
 mod xid;
 
 pub use code::Code;
+pub use death::Death;
 pub use delta::Delta;
 pub use flags::{
     Call, Mode, TMASYNC, TMENDRSCAN, TMFAIL, TMJOIN, TMMULTIPLE, TMNOFLAGS, TMNOWAIT, TMONEPHASE,

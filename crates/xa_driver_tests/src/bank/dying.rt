@@ -8,38 +8,40 @@ use std::alloc::Global;
 use std::process::Abort;
 use std::sync::Wait;
 use std::thread::Threads;
-use xa_bank::{Day, Death, Point, Teller, TransferOutcome, run_day};
+use xa_bank::{Day, DiesAt, Teller, TransferOutcome, run_day};
 use xa_crew::{Attended, Run};
 use xa_log::{DecisionRecords, MemoryLog};
 use xa_switch::Settled;
-use xa_words::{Code, Key, Tran, Xid};
+use xa_words::{Code, Death, Key, Tran, Xid};
 
 const TELLERS: u32 = 3;
 
-const POINTS: [Point; 5] = [
-    Point::Asking,
-    Point::Voted,
-    Point::Decided,
-    Point::Telling,
-    Point::Told,
+const DEATHS: [Death; 7] = [
+    Death::Preparing(0),
+    Death::Preparing(1),
+    Death::Prepared,
+    Death::Decided,
+    Death::Telling(0),
+    Death::Telling(1),
+    Death::Told,
 ];
 
 // The transfers with which the first two tellers die: each is between tills of its own, so that it comes to its commit.
-const PLACES: [usize; 2] = [3, 11];
+const NUMBERS: [usize; 2] = [3, 11];
 
-// A day of three tellers, of which the first two die at these points.
+// A day of three tellers, of which the first two die these deaths.
 fn day_of<R: Threads + Wait + Abort + Copy + Send + 'static>(
     rt: &R,
     alloc: Global,
-    points: [Point; 2],
+    deaths: [Death; 2],
 ) -> Day<MemoryLog> {
     let mut tellers = Vec::new(alloc);
     for before in 0..2usize {
-        let death = Death {
-            place: PLACES[before],
-            point: points[before],
+        let dies = DiesAt {
+            number: NUMBERS[before],
+            death: deaths[before],
         };
-        let teller = teller_of(rt, alloc, before as u32).dying(death);
+        let teller = teller_of(rt, alloc, before as u32).dying(dies);
         tellers.push(teller).expect(rt, "memory");
     }
     tellers.push(teller_of(rt, alloc, 2)).expect(rt, "memory");
@@ -49,13 +51,11 @@ fn day_of<R: Threads + Wait + Abort + Copy + Send + 'static>(
 }
 
 // How many branches a commit leaves in doubt whose teller dies at this point, and whether it has a record.
-fn left_by(point: Point) -> (usize, bool) {
-    match point {
-        Point::Asking => (1, false),
-        Point::Voted => (2, false),
-        Point::Decided => (2, true),
-        Point::Telling => (1, true),
-        Point::Told => (0, true),
+fn left_by(death: Death) -> (usize, bool) {
+    match death {
+        Death::Preparing(_) | Death::Prepared => (2, false),
+        Death::Decided => (2, true),
+        Death::Telling(_) | Death::Told => (0, true),
     }
 }
 
@@ -130,15 +130,15 @@ fn balances(rt: &impl Abort, clients: &[Attended<Teller<MemoryLog>>], settled: &
     }
 }
 
-// The tellers died at these points, and nowhere else.
-fn died_there(rt: &impl Abort, clients: &[Attended<Teller<MemoryLog>>], points: [Point; 2]) {
+// The first two tellers died these deaths, and the third didn't die.
+fn died_there(rt: &impl Abort, clients: &[Attended<Teller<MemoryLog>>], deaths: [Death; 2]) {
     for (before, attended) in clients.iter().enumerate() {
         let outcomes = &attended.client.outcomes;
         let last = outcomes.last();
         if before < 2 {
-            assert_eq!(rt; outcomes.len(), PLACES[before].saturating_add(1));
+            assert_eq!(rt; outcomes.len(), NUMBERS[before].saturating_add(1));
             assert!(rt;
-                matches!(last, Some(TransferOutcome::Died { at, known: _ }) if *at == points[before])
+                matches!(last, Some(TransferOutcome::Died { at, known: _ }) if *at == deaths[before])
             );
         } else {
             assert!(rt; last.is_some_and(|outcome| !outcome.has_died()));
@@ -150,14 +150,14 @@ fn died_there(rt: &impl Abort, clients: &[Attended<Teller<MemoryLog>>], points: 
 fn resolves<R: Threads + Wait + Abort + Copy + Send + 'static>(
     rt: &R,
     alloc: Global,
-    points: [Point; 2],
+    deaths: [Death; 2],
 ) {
-    let Run { clients, settled } = day_of(rt, alloc, points);
+    let Run { clients, settled } = day_of(rt, alloc, deaths);
     assert_eq!(rt; clients.len(), 3);
-    died_there(rt, &clients, points);
+    died_there(rt, &clients, deaths);
     let logs = [clients[0].client.log(), clients[1].client.log()];
     let (settled, outcomes) = resolve_by(rt, alloc, settled, &logs.as_slice());
-    let (first, second) = (left_by(points[0]), left_by(points[1]));
+    let (first, second) = (left_by(deaths[0]), left_by(deaths[1]));
     assert_eq!(rt; outcomes.len(), first.0.saturating_add(second.0));
     let committed = outcomes.iter().filter(|outcome| outcome.commit).count();
     let recorded = |left: (usize, bool)| if left.1 { left.0 } else { 0 };
@@ -170,8 +170,8 @@ fn resolves<R: Threads + Wait + Abort + Copy + Send + 'static>(
 #[test]
 fn what_dead_tellers_left_is_resolved_by_their_logs(rt: HostRuntime) {
     let alloc = rt.alloc();
-    for first in 0..POINTS.len() {
-        let second = (first + 1) % POINTS.len();
-        resolves(&rt, alloc, [POINTS[first], POINTS[second]]);
+    for first in 0..DEATHS.len() {
+        let second = (first + 1) % DEATHS.len();
+        resolves(&rt, alloc, [DEATHS[first], DEATHS[second]]);
     }
 }

@@ -25,100 +25,93 @@ use std::process::Abort;
 use std::snapshot::Snapshot;
 use std::sync::Wait;
 use xa_atomicity::{
-    next_openings_resolve, others_leave_the_branches, presumed_transactions_count_by_the_log,
-    presumed_transactions_have_one_outcome, rounds_are_cuts, stages_are_cuts, stages_follow,
+    deaths_are_cuts, next_openings_resolve, others_leave_the_branches,
+    presumed_transactions_count_by_the_log, presumed_transactions_have_one_outcome,
+    rounds_are_cuts, stages_follow,
 };
 use xa_crew::Turns;
 use xa_desk::laws::desks_go_on;
 use xa_desk::{Desk, Idle};
-use xa_driver::{Branch, DriverFault, Ending, Outcome, begin_prepare, may_commit};
+use xa_driver::{Branch, CommitFault, Done, Outcome, begin_prepare, commit_until, may_commit};
 use xa_log::{DecisionRecords, MemoryLog};
 use xa_switch::{Again, Plan, Settled};
-use xa_words::{Code, Op, Xid};
+use xa_words::{Code, Death, Op, Xid};
 
 // ---- the coordinator
 
 // Where the coordinator dies.
 #[derive(Clone, Copy)]
-pub(super) enum Death {
-    // All branches were asked to prepare, and none has answered.
-    Asking,
-    // All have voted.
-    Prepared,
-    // It is decided. No branch has heard of it, and perhaps not even the coordinator: the log took the record.
-    Decided,
-    // One branch was told, and has answered; no other was sent anything.
-    Telling,
-    // All were told, and have answered.
-    Told,
+pub(super) enum Dies {
+    // At a point before any branch is told to forget a decision of its own.
+    At(Death),
     // Those that were decided heuristically were told to forget it, and have not answered.
     Forgetting,
 }
 
-// Commits the branches until the coordinator dies, and tells the endings that it knew.
-fn commit_until<R: Wait, I: Idle>(
+// Commits the branches until those that were decided heuristically are told to forget it, and dies then.
+fn commit_until_forgetting<R: Wait, I: Idle>(
     rt: &R,
     alloc: Global,
     desk: &mut Desk,
     log: &mut MemoryLog,
     branches: &[Branch],
-    death: Death,
     idle: &mut I,
-) -> Result<Vec<Ending>, DriverFault>
+) -> Result<Done, CommitFault>
     requires { MayCommit desk.old log.old.state branches.now }
-    ensures cut { IfOk result (λ endings. IsCut branches.now desk.old desk.new.ledgers log.old.state log.new.state
-        endings.items) }
+    ensures cut { IfOk result (λ known. IsCut branches.now desk.old desk.new.ledgers log.old.state log.new.state
+        known.endings.items) }
     ensures goes_on { GoesOn desk.old desk.new }
     ensures idled { I.leads idle.old idle.new }
 {
     desks_go_on();
     stages_follow();
-    stages_are_cuts();
     rounds_are_cuts();
     others_leave_the_branches();
-    let mut preparing = begin_prepare(alloc, desk, log, branches)?;
-    if matches!(death, Death::Asking) {
-        preparing.round.send_next(rt, desk, idle);
-        preparing.round.send_next(rt, desk, idle);
-        preparing.leave(desk);
-        return Ok(Vec::new(alloc));
-    }
+    let preparing = begin_prepare(alloc, desk, log, branches)?;
     let prepared = preparing.finish(rt, desk, idle);
-    if matches!(death, Death::Prepared) {
-        return Ok(prepared.let_go().endings);
-    }
     let decided = match prepared.decide(log) {
         Ok(decided) => decided,
-        // No append to a log in memory has an unknown end.
-        Err(prepared) => return Ok(prepared.let_go().endings),
+        Err(prepared) => return Err(CommitFault::Undecided(prepared.let_go().votes)),
     };
-    if matches!(death, Death::Decided) {
-        return Ok(decided.let_go().endings);
-    }
-    let mut telling = decided.begin_telling(desk);
-    if matches!(death, Death::Telling) {
-        telling.round.send_next(rt, desk, idle);
-        telling.round.collect_next(rt, desk, idle);
-        return Ok(telling.leave(desk).endings);
-    }
+    let telling = decided.begin_telling(desk);
     let told = telling.finish(rt, desk, idle);
-    if matches!(death, Death::Told) {
-        return Ok(told.let_go().endings);
-    }
     let mut forgetting = told.begin_forgetting(desk);
     forgetting.round.send_next(rt, desk, idle);
     forgetting.round.send_next(rt, desk, idle);
-    Ok(forgetting.leave(desk).endings)
+    Ok(forgetting.leave(desk))
 }
 
-// A commit whose coordinator died: its desk and its log before it and after it, and the endings that it knew.
+// Commits the branches until the coordinator dies, and tells what it knew then.
+fn commit_until_it_dies<R: Wait, I: Idle>(
+    rt: &R,
+    alloc: Global,
+    desk: &mut Desk,
+    log: &mut MemoryLog,
+    branches: &[Branch],
+    dies: Dies,
+    idle: &mut I,
+) -> Result<Done, CommitFault>
+    requires { MayCommit desk.old log.old.state branches.now }
+    ensures cut { IfOk result (λ known. IsCut branches.now desk.old desk.new.ledgers log.old.state log.new.state
+        known.endings.items) }
+    ensures goes_on { GoesOn desk.old desk.new }
+    ensures idled { I.leads idle.old idle.new }
+{
+    deaths_are_cuts();
+    match dies {
+        Dies::At(death) => commit_until(rt, alloc, desk, log, branches, death, idle),
+        Dies::Forgetting => commit_until_forgetting(rt, alloc, desk, log, branches, idle),
+    }
+}
+
+// A commit whose coordinator died: its desk and its log before it and after it, and what it knew.
 #[derive(Drop)]
 pub(super) struct Died {
     before: Snapshot<Desk>,
     after: Snapshot<Desk>,
     log_before: Snapshot<MemoryLog>,
     log_after: Snapshot<MemoryLog>,
-    endings: Vec<Ending>,
+    known: Done,
 }
 
 // Commits the branches up to the death of the coordinator.
@@ -128,11 +121,11 @@ pub(super) fn die<R: Wait + Abort, I: Idle>(
     desk: &mut Desk,
     log: &mut MemoryLog,
     branches: &[Branch],
-    death: Death,
+    dies: Dies,
     idle: &mut I,
 ) -> Died
     ensures cut { IsCut branches.now result.before.value result.after.value.ledgers result.log_before.value.state
-        result.log_after.value.state result.endings.items }
+        result.log_after.value.state result.known.endings.items }
     ensures few { length result.before.value.ledgers ≤ 8 }
     ensures after { result.after.value ≡ desk.new }
     ensures log { result.log_after.value ≡ log.new }
@@ -144,7 +137,7 @@ pub(super) fn die<R: Wait + Abort, I: Idle>(
     }
     let _managers = desk.managers();
     let (before, log_before) = (Snapshot::of(desk), Snapshot::of(log));
-    let Ok(endings) = commit_until(rt, alloc, desk, log, branches, death, idle) else {
+    let Ok(known) = commit_until_it_dies(rt, alloc, desk, log, branches, dies, idle) else {
         panic!(rt; "memory");
     };
     Died {
@@ -152,7 +145,7 @@ pub(super) fn die<R: Wait + Abort, I: Idle>(
         after: Snapshot::of(desk),
         log_before,
         log_after: Snapshot::of(log),
-        endings,
+        known,
     }
 }
 
@@ -247,7 +240,7 @@ fn die_and_settle<R: Wait + Abort>(
     opened: Opened,
     log: &mut MemoryLog,
     branches: &[Branch; 2],
-    death: Death,
+    dies: Dies,
     decision: Option<bool>,
 ) -> Ended
     requires opened { ComeFromOpenings (seat_of_desk opened.first ∷ seat_of_desk opened.second ∷ [])
@@ -255,7 +248,7 @@ fn die_and_settle<R: Wait + Abort>(
     requires fresh { (m : ℕ) → (ledger opened.second.ledgers m).sent ≡ [] }
     ensures settled { IsSettled result.settled }
     ensures cut { IsCut branches.now result.died.before.value result.died.after.value.ledgers
-        result.died.log_before.value.state result.died.log_after.value.state result.died.endings.items }
+        result.died.log_before.value.state result.died.log_after.value.state result.died.known.endings.items }
     ensures grown { HaveGrown result.died.after.value.ledgers (ledgers_of result.settled result.thread) }
     ensures own { AreLeftOrDecided result.settled result.thread branches.now
         (sent_so_far result.died.before.value.ledgers) (sent_so_far result.died.after.value.ledgers) }
@@ -276,7 +269,7 @@ fn die_and_settle<R: Wait + Abort>(
         workers,
         decision: decision.map(|commits| (xid, commits)),
     };
-    let died = die(rt, alloc, &mut first, log, branches, death, &mut idle);
+    let died = die(rt, alloc, &mut first, log, branches, dies, &mut idle);
     let Deciding {
         second,
         mut workers,
@@ -316,7 +309,7 @@ fn die_and_resolve<R: Wait + Abort>(
     again: &Again,
     log: MemoryLog,
     branches: &[Branch; 2],
-    death: Death,
+    dies: Dies,
     decision: Option<bool>,
 ) -> Story
     requires opened { ComeFromOpenings (seat_of_desk opened.first ∷ seat_of_desk opened.second ∷ [])
@@ -324,7 +317,7 @@ fn die_and_resolve<R: Wait + Abort>(
     requires fresh { (m : ℕ) → (ledger opened.second.ledgers m).sent ≡ [] }
     ensures { let k : CutCall = cut_call result.thread branches.now result.died.before.value
         result.died.after.value.ledgers result.died.log_before.value.state result.died.log_after.value.state
-        result.died.endings.items in
+        result.died.known.endings.items in
         let q : ResolveCall = resolve_call result.last.thread result.last.ended.scan.value
         result.last.ended.before.value.ledgers result.last.ended.after.value.ledgers
         result.last.ended.told.outcomes.items result.log.value.state.records in
@@ -340,7 +333,7 @@ fn die_and_resolve<R: Wait + Abort>(
         settled,
         thread,
         died,
-    } = die_and_settle(rt, alloc, opened, &mut log, branches, death, decision);
+    } = die_and_settle(rt, alloc, opened, &mut log, branches, dies, decision);
     let first = Snapshot::of(&settled);
     let last = recover(rt, alloc, settled, again, &log);
     Story {
@@ -369,7 +362,7 @@ fn resolves<R: Wait + Abort>(
     rt: &R,
     alloc: Global,
     log: MemoryLog,
-    death: Death,
+    dies: Dies,
     decision: Option<bool>,
     outcomes: &[(u32, bool, Code)],
     values: [u64; 2],
@@ -381,7 +374,7 @@ fn resolves<R: Wait + Abort>(
     let branches = [branch(rt, 1), branch(rt, 2)];
     let opened = open(rt, alloc, &plan);
     let again = again(8);
-    let story = die_and_resolve(rt, alloc, opened, &again, log, &branches, death, decision);
+    let story = die_and_resolve(rt, alloc, opened, &again, log, &branches, dies, decision);
     let told = &story.last.ended.told.outcomes;
     assert_eq!(rt; told.len(), outcomes.len());
     for place in 0..outcomes.len() {
@@ -403,44 +396,44 @@ const COMMITTED: [(u32, bool, Code); 2] = [(1, true, Code::Done), (2, true, Code
 fn what_a_dead_coordinator_left_is_resolved_by_its_log(rt: HostRuntime) {
     let alloc = rt.alloc();
     let log = || MemoryLog::new(alloc);
-    resolves(
-        &rt,
-        alloc,
-        log(),
-        Death::Asking,
-        None,
-        ROLLED_BACK.as_slice(),
-        [5, 5],
-    );
-    resolves(
-        &rt,
-        alloc,
-        log(),
+    let before = [
+        Death::Preparing(0),
+        Death::Preparing(1),
+        Death::Preparing(2),
         Death::Prepared,
-        None,
-        ROLLED_BACK.as_slice(),
-        [5, 5],
-    );
+    ];
+    for death in before {
+        let rolled_back = ROLLED_BACK.as_slice();
+        resolves(
+            &rt,
+            alloc,
+            log(),
+            Dies::At(death),
+            None,
+            rolled_back,
+            [5, 5],
+        );
+    }
+    let decided = Dies::At(Death::Decided);
     resolves(
         &rt,
         alloc,
         log(),
-        Death::Decided,
+        decided,
         None,
         COMMITTED.as_slice(),
         [6, 6],
     );
-    resolves(
-        &rt,
-        alloc,
-        log(),
-        Death::Telling,
-        None,
-        &COMMITTED[1..],
-        [6, 6],
-    );
-    resolves(&rt, alloc, log(), Death::Told, None, &[], [6, 6]);
-    resolves(&rt, alloc, log(), Death::Forgetting, None, &[], [6, 6]);
+    let told = [
+        Dies::At(Death::Telling(0)),
+        Dies::At(Death::Telling(1)),
+        Dies::At(Death::Telling(8)),
+        Dies::At(Death::Told),
+        Dies::Forgetting,
+    ];
+    for dies in told {
+        resolves(&rt, alloc, log(), dies, None, &[], [6, 6]);
+    }
 }
 
 // The log fails: it has no record, so that all is rolled back, by the resolve or by the coordinator itself.
@@ -448,25 +441,19 @@ fn what_a_dead_coordinator_left_is_resolved_by_its_log(rt: HostRuntime) {
 fn what_a_log_did_not_take_is_rolled_back(rt: HostRuntime) {
     let alloc = rt.alloc();
     let failing = || MemoryLog::failing_at(alloc, 1);
+    let decided = Dies::At(Death::Decided);
     resolves(
         &rt,
         alloc,
         failing(),
-        Death::Decided,
+        decided,
         None,
         ROLLED_BACK.as_slice(),
         [5, 5],
     );
-    resolves(
-        &rt,
-        alloc,
-        failing(),
-        Death::Telling,
-        None,
-        &ROLLED_BACK[1..],
-        [5, 5],
-    );
-    resolves(&rt, alloc, failing(), Death::Told, None, &[], [5, 5]);
+    for death in [Death::Telling(0), Death::Telling(1), Death::Told] {
+        resolves(&rt, alloc, failing(), Dies::At(death), None, &[], [5, 5]);
+    }
 }
 
 // Manager 2 decides its branch against the record. It lists the decision until it was told to forget it.
@@ -475,39 +462,34 @@ fn a_decision_is_listed_until_it_is_forgotten(rt: HostRuntime) {
     let alloc = rt.alloc();
     let log = || MemoryLog::new(alloc);
     let listed = [(2, true, Code::HeurRb)];
+    for death in [Death::Telling(0), Death::Telling(1), Death::Told] {
+        let dies = Dies::At(death);
+        resolves(
+            &rt,
+            alloc,
+            log(),
+            dies,
+            Some(false),
+            listed.as_slice(),
+            [6, 5],
+        );
+    }
     resolves(
         &rt,
         alloc,
         log(),
-        Death::Telling,
-        Some(false),
-        listed.as_slice(),
-        [6, 5],
-    );
-    resolves(
-        &rt,
-        alloc,
-        log(),
-        Death::Told,
-        Some(false),
-        listed.as_slice(),
-        [6, 5],
-    );
-    resolves(
-        &rt,
-        alloc,
-        log(),
-        Death::Forgetting,
+        Dies::Forgetting,
         Some(false),
         &[],
         [6, 5],
     );
     let rolled_back = [(1, false, Code::Done), (2, false, Code::HeurCom)];
+    let prepared = Dies::At(Death::Prepared);
     resolves(
         &rt,
         alloc,
         log(),
-        Death::Prepared,
+        prepared,
         Some(true),
         rolled_back.as_slice(),
         [5, 6],

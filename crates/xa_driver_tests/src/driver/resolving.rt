@@ -3,7 +3,7 @@
 ghost use Rattle.std.specs.Prelude.{◌≡◌, ◌∷◌, [], map};
 ghost use Rattle.xa_switch.specs.Belonging.{ComeFromOpenings, seat_of_desk, seat_of_worker};
 
-use super::dying::{Death, die};
+use super::dying::{Dies, die};
 use super::openings::{Reopened, again, open, open_again, settle_all};
 use super::pieces::{end, run_all, work};
 use super::resolved::recover;
@@ -16,7 +16,7 @@ use xa_desk::{Desk, Idle};
 use xa_driver::{Branch, Outcome, may_resolve, resolve};
 use xa_log::MemoryLog;
 use xa_switch::{Plan, Settled, xa_call};
-use xa_words::{Call, Code, TMNOFLAGS, Xid};
+use xa_words::{Call, Code, Death, TMNOFLAGS, Xid};
 
 // It notes whom each idle waits for. Then the worker that is waited for does one step, which carries out a request.
 #[derive(Drop)]
@@ -132,7 +132,7 @@ fn die_both<R: Wait + Abort>(
     opened: Opened,
     branches: &[Branch; 2],
     logs: (&mut MemoryLog, &mut MemoryLog),
-    deaths: [Death; 2],
+    deaths: [Dies; 2],
 ) -> Settled
     requires { ComeFromOpenings (seat_of_desk opened.first ∷ seat_of_desk opened.second ∷ [])
         (map seat_of_worker opened.workers) }
@@ -173,11 +173,11 @@ fn resolves_by_both<R: Wait + Abort>(rt: &R, alloc: Global, recorded: [bool; 2],
         queue: 4,
         ..plan_of(rt, alloc, 2)
     };
-    let death = |recorded: bool| if recorded {
+    let death = |recorded: bool| Dies::At(if recorded {
         Death::Decided
     } else {
         Death::Prepared
-    };
+    });
     let deaths = [death(recorded[0]), death(recorded[1])];
     let branches = branch_of_each(rt);
     let (mut first, mut second) = (MemoryLog::new(alloc), MemoryLog::new(alloc));

@@ -1,6 +1,6 @@
 //! A commit whose log can't tell whether it has the record. No branch is told anything; and what the log turns out to
 //! have, once it is opened again, ends them all the same way.
-ghost use Rattle.std.specs.Prelude.{◌≡◌, false, map, refl};
+ghost use Rattle.std.specs.Prelude.{◌≡◌, map};
 ghost use Rattle.xa_switch.specs.Belonging.{seat_of_desk, seat_of_worker};
 
 use super::openings::{again, open};
@@ -14,72 +14,16 @@ use std::sync::Wait;
 use xa_crew::Turns;
 use xa_desk::Desk;
 use xa_driver::{Branch, CommitFault, commit_all, may_commit};
-use xa_log::{CommitRecord, DecisionLog, DecisionRecords, LogFault, MemoryLog};
+use xa_log::{LosingLog, MemoryLog};
 use xa_switch::Plan;
-use xa_words::{Code, ManagerSet, Tran};
-
-// A log each append of which has an unknown end.
-#[derive(Drop)]
-struct Losing {
-    // What it turns out to have.
-    found: MemoryLog,
-    // Whether it turns out to have what is appended.
-    keeps: bool,
-    is_lost: bool,
-}
-
-impl DecisionRecords for Losing {
-    ghost records = { λ l. l.found.state.records };
-
-    ghost knows = { λ l. l.is_lost ≡ false };
-
-    fn has(&self, tran: &Tran) -> Option<ManagerSet> {
-        self.found.has(tran)
-    }
-
-    fn is_known(&self) -> bool {
-        !self.is_lost
-    }
-}
-
-impl DecisionLog for Losing {
-    ghost state = { λ l. l.found.state };
-
-    ghost appends = { λ tran yes taken old new. ⊥ };
-
-    ghost loses = { λ tran yes old new. Unit {0} };
-
-    ghost forgets = { λ old new. Unit {0} };
-
-    ghost records_are = { λ l. refl };
-
-    fn append(&mut self, decision: &CommitRecord) -> Result<(), LogFault> {
-        if self.keeps {
-            let _ = self.found.append(decision);
-        }
-        self.is_lost = true;
-        Err(LogFault::Unknown)
-    }
-
-    fn forget(&mut self, tran: &Tran) {
-        self.found.forget(tran);
-    }
-
-    fn keep_only(&mut self, trans: &[Tran]) {
-        self.found.keep_only(trans);
-    }
-
-    fn failures(&self) -> u64 {
-        self.found.failures()
-    }
-}
+use xa_words::Code;
 
 // A commit that comes to no decision, and the votes of its branches.
 fn commit<R: Wait + Abort>(
     rt: &R,
     alloc: Global,
     desk: &mut Desk,
-    log: &mut Losing,
+    log: &mut LosingLog,
     branches: &[Branch; 2],
     idle: &mut Turns,
 ) -> Vec<Code>
@@ -110,11 +54,7 @@ fn comes_to<R: Wait + Abort>(rt: &R, alloc: Global, keeps: bool, value: u64) {
     } = open(rt, alloc, &plan);
     work(rt, &mut first, &branches[0], &mut workers);
     work(rt, &mut first, &branches[1], &mut workers);
-    let mut log = Losing {
-        found: MemoryLog::new(alloc),
-        keeps,
-        is_lost: false,
-    };
+    let mut log = LosingLog::losing_at(MemoryLog::new(alloc), 1, keeps);
     let room = first.room(1).checked_sub(1).expect(rt, "room");
     let votes = commit(rt, alloc, &mut first, &mut log, &branches, &mut workers);
     assert_eq!(rt; votes.as_slice(), [Code::Done; 2].as_slice());
@@ -122,7 +62,7 @@ fn comes_to<R: Wait + Abort>(rt: &R, alloc: Global, keeps: bool, value: u64) {
     assert_eq!(rt; (first.room(1), first.room(2)), (room, room));
     assert!(rt; !may_commit(&first, &log, &[branch(rt, 1)]));
     let settled = end_both(rt, alloc, first, second, workers);
-    let recovered = recover(rt, alloc, settled, &again(8), &log.found);
+    let recovered = recover(rt, alloc, settled, &again(8), &log.reopened());
     for outcome in &recovered.ended.told.outcomes {
         assert_eq!(rt; (outcome.commit, outcome.code), (keeps, Code::Done));
     }

@@ -2,9 +2,19 @@
 use super::{call, has_steps};
 use std::test::Fail;
 use xa_grammar::{Action, Calling, CommitAll, Step, Task, read_script};
-use xa_words::{Call, ManagerSet, TMASYNC, Tran};
+use xa_words::{Call, Death, ManagerSet, TMASYNC, Tran};
 
-fn commit(line: u32, thread: u32, gtrid: &[u8], managers: &[u32]) -> Result<Step, Fail> {
+pub(super) fn commit(line: u32, thread: u32, gtrid: &[u8], managers: &[u32]) -> Result<Step, Fail> {
+    commit_until(line, thread, gtrid, managers, None)
+}
+
+pub(super) fn commit_until(
+    line: u32,
+    thread: u32,
+    gtrid: &[u8],
+    managers: &[u32],
+    death: Option<Death>,
+) -> Result<Step, Fail> {
     let tran = Tran::new(1, gtrid).ok().ok_or("tran")?;
     let mut all = ManagerSet::new();
     for manager in 1..=8 {
@@ -18,6 +28,7 @@ fn commit(line: u32, thread: u32, gtrid: &[u8], managers: &[u32]) -> Result<Step
         action: Action::CommitAll(CommitAll {
             tran,
             managers: all,
+            death,
         }),
     }))
 }

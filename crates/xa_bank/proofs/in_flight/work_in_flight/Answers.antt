@@ -1,7 +1,8 @@
 use Rattle.std.proofs.Common.{refl, inl, inr}
 use Rattle.xa_bank.specs.Transfers.{IsFor}
 use Rattle.xa_bank.proofs.Sent.{have_on, leg_begins, ends_sent}
-use Rattle.xa_bank.proofs.Worked.{both, gets_leg, same_many, legs_worked}
+use Rattle.xa_driver.proofs.AtDeath.{as_many_managers}
+use Rattle.xa_bank.proofs.Worked.{both, gets_leg, legs_worked}
 use Rattle.xa_bank.proofs.in_flight.work_in_flight.Goals as goal
 
 pub returns-clause-sent : goal.returns-clause-sent
@@ -30,7 +31,7 @@ returns-clause-worked g c = λ all apart.
     legs_worked c.args.one.now c.args.two.now c.args.account c.begin-first.result c.begin-second.result d0 d3 d6 d9 d12 c.begin-first.ensures.begins c.begin-second.ensures.begins
     (gets_leg c.args.one.now.branch.m c.begin-first.result c.is_done-first_done.result d6 d9 c.is_done-first_done.ensures.ends parts.0)
     (gets_leg c.args.two.now.branch.m c.begin-second.result c.is_done-second_done.result d9 d12 c.is_done-second_done.ensures.ends parts.1)
-    (same_many d0 d12 goes) apart
+    (as_many_managers d0 d12 goes) apart
 
 pub returns-clause-tries : goal.returns-clause-tries
 returns-clause-tries g c = record {

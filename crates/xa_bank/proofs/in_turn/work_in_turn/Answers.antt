@@ -2,7 +2,7 @@ use Rattle.std.proofs.Common.{◌≡◌, true, false, refl, subst, inl, inr}
 use Rattle.xa_bank.specs.Requests.{CallsLeg, one_leg, two_legs}
 use Rattle.xa_bank.specs.Transfers.{IsFor}
 use Rattle.xa_bank.proofs.Sent.{have_on}
-use Rattle.xa_bank.proofs.Worked.{same_many}
+use Rattle.xa_driver.proofs.AtDeath.{as_many_managers}
 use Rattle.xa_bank.proofs.Called.{leg_calls, legs_called}
 use Rattle.xa_bank.proofs.in_turn.work_in_turn.Goals as goal
 
@@ -28,7 +28,7 @@ returns-clause-worked g c = λ all apart.
     legs_called c.args.one.now c.args.two.now c.args.account d0 d3 d6
     (subst (λ ok. CallsLeg c.args.one.now c.args.account ok d0 d3) one_done c.work_on.ensures.works)
     (subst (λ ok. CallsLeg c.args.two.now c.args.account ok d3 d6) all c.work_on-2.ensures.works)
-    (same_many d0 d6 goes) apart
+    (as_many_managers d0 d6 goes) apart
 
 pub returns-then-not-work_on-clause-tries : goal.returns-then-not-work_on-clause-tries
 returns-then-not-work_on-clause-tries g c =

@@ -4,7 +4,7 @@ use Rattle.xa_desk.specs.DeskView.{DeskView}
 use Rattle.xa_driver.specs.declared.branch.Branch.{Branch}
 use Rattle.xa_log.specs.Log.{LogState}
 use Rattle.xa_driver.specs.Trace.{MayCommit}
-use Rattle.xa_bank.specs.declared.dying.Point.{Point}
+use Rattle.xa_words.specs.declared.death.Death.{Death}
 use Rattle.xa_bank.specs.declared.teller.TransferOutcome.{TransferOutcome}
 use Rattle.xa_bank.specs.Requests.{GivesUp, Tries}
 use Rattle.xa_bank.specs.Transfers.{ComesOfCommit, IsFor, IsRefused, commits, barred, cut_short, in_full, undecided, refused, undone, unroomed}
@@ -13,11 +13,11 @@ use Rattle.xa_bank.proofs.teller.carry_out.Goals as goal
 use Rattle.xa_bank.proofs.teller.carry_out.Goals.{then-not-worked-via-then-not-worked, then-not-worked-via-else-not-worked+then-not-may_commit}
 
 -- the branches could be committed
-might_be : (bs : List Branch) (point : Option Point) (o : TransferOutcome) (desk : DeskView) (new : List LedgerView) (log later : LogState)
-    → ComesOfCommit bs point o desk new log later → MayCommit desk log bs
-might_be bs point o desk new log later (in_full done none is made) = made.may
-might_be bs point o desk new log later (cut_short at known some is dies) = dies.cut.may
-might_be bs point o desk new log later (undecided votes decides is may voted wanted) = may
+might_be : (bs : List Branch) (death : Option Death) (o : TransferOutcome) (desk : DeskView) (new : List LedgerView) (log later : LogState)
+    → ComesOfCommit bs death o desk new log later → MayCommit desk log bs
+might_be bs death o desk new log later (in_full done none is made) = made.may
+might_be bs death o desk new log later (cut_short at known some is died) = died.may
+might_be bs death o desk new log later (undecided votes decides is may voted wanted) = may
 
 pub returns-then-not-worked-clause-carried : goal.returns-then-not-worked-clause-carried
 returns-then-not-worked-clause-carried g c =
@@ -39,7 +39,7 @@ returns-clause-carried g c =
     let one = c.args.one.now in
     let two = c.args.two.now in
     let comes = c.in-Ok.ensures.comes in
-    let may = might_be _ c.args.point c.in-Ok.outcome _ _ _ _ comes in
+    let may = might_be _ c.args.death c.in-Ok.outcome _ _ _ _ comes in
     let rising = may.rising in
     let all : c.work_for-worked.result ≡ true = cc in
     let apart : one.branch.m ≢ two.branch.m = λ same. let up = rising.1.0 in omega (arith, up, same) in

@@ -1,7 +1,7 @@
 use Rattle.std.proofs.Common.{◌≡◌, true, false, if◌then◌else◌, Option, sym, ap, ◌∙◌, subst}
 use Rattle.xa_words.specs.Tran.{TranName, tran_of}
 use Rattle.xa_log.specs.Log.{LogState}
-use Rattle.xa_bank.specs.declared.dying.Point.{Point}
+use Rattle.xa_words.specs.declared.death.Death.{Death}
 use Rattle.xa_bank.specs.Transfers.{AreLegs, Transfers, WantsMemory, forgotten, with_legs}
 use Rattle.xa_bank.proofs.Results.{err_same}
 use Rattle.xa_bank.proofs.teller.make.Goals as goal
@@ -24,7 +24,7 @@ returns-then-not-habits-clause-makes g c =
     let left : LogState = g.L.DecisionLog.state c.carry_out.new.log in
     let legs = subst (λ t. AreLegs t c.args.number tr one two) c.thread.ensures.thread c.in-Some.ensures in
     let carried =
-    subst (λ (p : Option Point). Transfers one two tr.account p o c.args.desk.now c.carry_out.new.desk log left) c.point_at-point.ensures c.in_ok-outcome.ensures.carried in
+    subst (λ (p : Option Death). Transfers one two tr.account p o c.args.desk.now c.carry_out.new.desk log left) c.death_in-death.ensures c.in_ok-outcome.ensures.carried in
     let keeps : c.args.habits.now.forgets ≡ false = c.if-not-habits.true in
     with_legs one two left legs carried (sym (ap (λ b. if b then forgotten (tran_of one.branch.xid) o left else left) keeps))
 
@@ -38,7 +38,7 @@ returns-clause-makes g c =
     let left : LogState = g.L.DecisionLog.state c.carry_out.new.log in
     let legs = subst (λ t. AreLegs t c.args.number tr one two) c.thread.ensures.thread c.in-Some.ensures in
     let carried =
-    subst (λ (p : Option Point). Transfers one two tr.account p o c.args.desk.now c.carry_out.new.desk log left) c.point_at-point.ensures c.in_ok-outcome.ensures.carried in
+    subst (λ (p : Option Death). Transfers one two tr.account p o c.args.desk.now c.carry_out.new.desk log left) c.death_in-death.ensures c.in_ok-outcome.ensures.carried in
     let forgets : c.args.habits.now.forgets ≡ true = c.if-not-habits.false in
     let gone = c.forget_made.ensures.forgotten ∙ ap (λ (t : TranName). forgotten t o left) c.tran.ensures in
     with_legs one two left legs carried (gone ∙ sym (ap (λ b. if b then forgotten (tran_of one.branch.xid) o left else left) forgets))

@@ -11,7 +11,7 @@ use Rattle.xa_bank.specs.declared.habits.Habits.{Habits}
 use Rattle.xa_bank.specs.declared.teller.TransferOutcome.{TransferOutcome}
 use Rattle.xa_bank.specs.declared.teller.TransferOutcome.TheVariants.{Decided, Died, Refused, Undecided}
 use Rattle.xa_bank.specs.declared.teller.Transfer.{Transfer}
-use Rattle.xa_bank.specs.Deaths.{point_at}
+use Rattle.xa_bank.specs.Deaths.{death_in, death_if_at}
 use Rattle.xa_bank.specs.Tellers.{ended, has_died, is_last, lived, unknown}
 use Rattle.xa_bank.specs.Transfers.{IsOpenRm, LeavesKnown, Makes, MakesEach, with_legs, without_legs, commits, refused}
 use Rattle.xa_bank.specs.Transfers.{in_full, cut_short, undecided}
@@ -145,7 +145,7 @@ lives_on : (t n : ℕ) (tr : Transfer) (habits : Habits) (o : TransferOutcome) (
     → Makes t n tr habits o old new log later → habits.death ≡ None → has_died o ≡ false
 lives_on t n tr habits o old new log later (with_legs one two left legs (commits worked work (in_full done none is made)) kept) never = ap has_died is
 lives_on t n tr habits o old new log later (with_legs one two left legs (commits worked work (cut_short at known some is dies)) kept) never =
-    let nowhere : point_at habits.death n ≡ None = ap (λ d. point_at d n) never in cc
+    let nowhere : death_in habits n ≡ None = ap (λ d. death_if_at d n) never in cc
 lives_on t n tr habits o old new log later (with_legs one two left legs (commits worked work (undecided votes decides is may voted wanted)) kept) never =
     ap has_died is
 lives_on t n tr habits o old new log later (with_legs one two left legs (refused is same why sent) kept) never = ap has_died is

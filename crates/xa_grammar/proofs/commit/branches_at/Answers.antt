@@ -1,8 +1,10 @@
-use Rattle.std.proofs.Common.{ap, sym, ◌∙◌, ◌∷◌}
+use Rattle.std.specs.Prelude.{◌∷◌, Ok, Some, None, codes}
+use Rattle.std.specs.Str.{bytes_eq}
+use Rattle.std.proofs.Common.{◌≡◌, true, false, ap, sym, ◌∙◌, rules}
 use Rattle.std.proofs.lemmas.Result.{err_from_is_err_and}
-use Rattle.xa_grammar.specs.Fields.{◌>>=◌, numbers_to_end}
-use Rattle.xa_grammar.specs.Commits.{goes_on}
-use Rattle.xa_grammar.proofs.CommitLemmas.{first_number, no_first_number, next_number, no_next_number, no_more_numbers}
+use Rattle.xa_grammar.specs.Fields.{◌>>=◌}
+use Rattle.xa_grammar.specs.Commits.{managers_to_end, goes_on}
+use Rattle.xa_grammar.proofs.CommitLemmas.{first_number, no_first_number, next_number, no_next_number, dies_so, dies_nowhere, no_more_numbers, with_death}
 use Rattle.xa_grammar.proofs.commit.branches_at.Goals as goal
 
 pub returns-in_err-number : goal.returns-in_err-number
@@ -15,22 +17,57 @@ loop-word-init c =
     let m = c.in_ok-number.field-0 in
     first_number c.args.count c.args.words.now c.number.new.self m (goes_on c.add.new.self) c.in_ok-number.ensures.takes (λ ms. c.add.ensures ms ∙ c.new-named.ensures (m ∷ ms))
 
+pub returns-in_err-death : goal.returns-in_err-death
+returns-in_err-death c =
+    let p = err_from_is_err_and c.from_residual-in_err-death.result c.from_residual-in_err-death.ensures.1 in
+    let dies : bytes_eq c.in-Some.word.now (codes "dies") ≡ true = search rules in
+    rw (p.1, p.2) (sym (dies_nowhere c.in-Some.word.now c.next.new.self c.in_err-death.field-0.0 (goes_on c.loop-word.named) dies (sym c.in_err-death.ensures))
+    ∙ ap (λ ws. managers_to_end ws >>= with_death (goes_on c.loop-word.named)) (sym c.in-Some.ensures)
+    ∙ c.loop-word.invariant)
+
+pub returns-in_err-managers : goal.returns-in_err-managers
+returns-in_err-managers c =
+    let p = err_from_is_err_and c.from_residual-in_err-managers.result c.from_residual-in_err-managers.ensures.1 in
+    let dies : bytes_eq c.in-Some.word.now (codes "dies") ≡ true = search rules in
+    rw (p.1, p.2) (ap (λ r. r >>= λ managers. Ok (managers, Some c.in_ok-death.death)) c.in_err-managers.ensures
+    ∙ sym (dies_so c.in-Some.word.now c.next.new.self c.in_ok-death.death (goes_on c.loop-word.named) dies (sym c.in_ok-death.ensures))
+    ∙ ap (λ ws. managers_to_end ws >>= with_death (goes_on c.loop-word.named)) (sym c.in-Some.ensures)
+    ∙ c.loop-word.invariant)
+
+pub returns-then-eq : goal.returns-then-eq
+returns-then-eq c =
+    let dies : bytes_eq c.in-Some.word.now (codes "dies") ≡ true = search rules in
+    ap (λ r. r >>= λ managers. Ok (managers, Some c.in_ok-death.death)) c.in_ok-managers.ensures
+    ∙ sym (dies_so c.in-Some.word.now c.next.new.self c.in_ok-death.death (goes_on c.loop-word.named) dies (sym c.in_ok-death.ensures))
+    ∙ ap (λ ws. managers_to_end ws >>= with_death (goes_on c.loop-word.named)) (sym c.in-Some.ensures)
+    ∙ c.loop-word.invariant
+
 pub returns-in_err-number_in : goal.returns-in_err-number_in
 returns-in_err-number_in c =
     let p = err_from_is_err_and c.from_residual-in_err-number_in.result c.from_residual-in_err-number_in.ensures.1 in
-    rw (p.1, p.2) (sym (no_next_number c.in-Some.word.now c.next.new.self c.in_err-number_in.field-0.0 (goes_on c.loop-word.named) (sym c.in_err-number_in.ensures.value))
-    ∙ ap (λ ws. numbers_to_end 0 4294967295 ws >>= goes_on c.loop-word.named) (sym c.in-Some.ensures)
+    let lives : bytes_eq c.in-Some.word.now (codes "dies") ≡ false = search rules in
+    rw (p.1, p.2) (sym (no_next_number c.in-Some.word.now c.next.new.self c.in_err-number_in.field-0.0 (goes_on c.loop-word.named) lives (sym c.in_err-number_in.ensures.value))
+    ∙ ap (λ ws. managers_to_end ws >>= with_death (goes_on c.loop-word.named)) (sym c.in-Some.ensures)
     ∙ c.loop-word.invariant)
 
 pub loop-word-preserved : goal.loop-word-preserved
 loop-word-preserved c =
-    next_number c.in-Some.word.now c.next.new.self c.in_ok-number_in.field-0 (goes_on c.loop-word.named) (goes_on c.add-in-Some.new.self) (sym c.in_ok-number_in.ensures.value) (λ ms. c.add-in-Some.ensures ms)
-    ∙ ap (λ ws. numbers_to_end 0 4294967295 ws >>= goes_on c.loop-word.named) (sym c.in-Some.ensures)
+    let lives : bytes_eq c.in-Some.word.now (codes "dies") ≡ false = search rules in
+    next_number c.in-Some.word.now c.next.new.self c.in_ok-number_in.field-0 (goes_on c.loop-word.named) (goes_on c.add-in-Some.new.self) lives (sym c.in_ok-number_in.ensures.value) (λ ms. c.add-in-Some.ensures ms)
+    ∙ ap (λ ws. managers_to_end ws >>= with_death (goes_on c.loop-word.named)) (sym c.in-Some.ensures)
     ∙ c.loop-word.invariant
+
+pub returns-in_err-managers-2 : goal.returns-in_err-managers-2
+returns-in_err-managers-2 c =
+    let p = err_from_is_err_and c.from_residual-in_err-managers-2.result c.from_residual-in_err-managers-2.ensures.1 in
+    rw (p.1, p.2) (ap (λ r. r >>= λ managers. Ok (managers, None)) c.in_err-managers-2.ensures
+    ∙ sym (no_more_numbers (goes_on c.loop-word.named))
+    ∙ ap (λ ws. managers_to_end ws >>= with_death (goes_on c.loop-word.named)) (sym c.in_default.ensures.0)
+    ∙ c.loop-word.invariant)
 
 pub returns : goal.returns
 returns c =
-    c.managers.ensures
+    ap (λ r. r >>= λ managers. Ok (managers, None)) c.in_ok-managers-2.ensures
     ∙ sym (no_more_numbers (goes_on c.loop-word.named))
-    ∙ ap (λ ws. numbers_to_end 0 4294967295 ws >>= goes_on c.loop-word.named) (sym c.in_default.ensures.0)
+    ∙ ap (λ ws. managers_to_end ws >>= with_death (goes_on c.loop-word.named)) (sym c.in_default.ensures.0)
     ∙ c.loop-word.invariant

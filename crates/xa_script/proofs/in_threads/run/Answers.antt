@@ -37,7 +37,7 @@ begin_so : (s : Content) (ms : List (Member ScriptThread)) (k : ℕ) (x : Sessio
     → slice_get (map (λ (t : Member ScriptThread). new_session s t.desk) ms) k ≡ Some x → BeginsAs (beginning s) (k + 1) x
 begin_so s ms k x at =
     let m = was_mapped (λ (t : Member ScriptThread). new_session s t.desk) ms k x at in
-    subst (BeginsAs (beginning s) (k + 1)) m.2 (record { log = refl; scan = refl })
+    subst (BeginsAs (beginning s) (k + 1)) m.2 (record { log = refl; known = refl; scan = refl })
 
 pub returns-in-Ok : goal.returns-in-Ok
 returns-in-Ok g c =

@@ -7,16 +7,16 @@ use Rattle.xa_grammar.specs.declared.step.CommitAll.{CommitAll}
 use Rattle.xa_grammar.specs.declared.step.Action.TheVariants as action
 use Rattle.xa_grammar.specs.Steps.{ScriptAction}
 use Rattle.xa_switch.specs.Scans.{ScanView}
-use Rattle.xa_log.specs.Log.{LogView}
+use Rattle.xa_log.specs.declared.losing.LosingLog.{LosingLog}
 use Rattle.xa_desk.specs.DeskView.{DeskView}
 use Rattle.xa_transcript.specs.declared.answer.Answer.{Answer}
 use Rattle.xa_session.specs.Committing.{CommitsAll}
 use Rattle.xa_session.specs.Resolving.{ResolvesLeft}
-use Rattle.xa_session.specs.Sessions.{session_of, Executes, Does}
+use Rattle.xa_session.specs.Sessions.{session_of, Executes, Does, MayWait}
 use Rattle.xa_session.proofs.session.carry_out.Goals as goal
 
 -- a commit leaves its thread's scans
-commits_so : (x : ScriptAction) (c : CommitAll TranName) (old new : DeskView) (log log' : LogView) (scan : ScanView) (r : Result Answer AllocError)
+commits_so : (x : ScriptAction) (c : CommitAll TranName) (old new : DeskView) (log log' : LosingLog) (scan : ScanView) (r : Result Answer AllocError)
     → x ≡ action.CommitAll c
     → IfOk r (λ a. (z : ScanView) → CommitsAll c (session_of old log z) (session_of new log' z) a) → GoesOn old new → (AllKept old → AllKept new)
     → IfOk r (Does x (session_of old log scan) (session_of new log' scan))
@@ -25,7 +25,7 @@ commits_so x c old new log log' scan (Ok a) is commits goes_on kept =
 commits_so x c old new log log' scan (Err why) is commits goes_on kept = tt
 
 -- and so does a resolve
-resolves_so : (x : ScriptAction) (old new : DeskView) (log : LogView) (scan : ScanView) (told : Result Answer AllocError) → x ≡ action.Resolve
+resolves_so : (x : ScriptAction) (old new : DeskView) (log : LosingLog) (scan : ScanView) (told : Result Answer AllocError) → x ≡ action.Resolve
     → IfOk told (ResolvesLeft (session_of old log scan) (session_of new log scan)) → GoesOn old new → (AllKept old → AllKept new)
     → IfOk told (Does x (session_of old log scan) (session_of new log scan))
 resolves_so x old new log scan (Ok a) is resolves goes_on kept =
@@ -39,3 +39,7 @@ returns-in-CommitAll-clause-does g c =
 pub returns-in-Resolve-clause-does : goal.returns-in-Resolve-clause-does
 returns-in-Resolve-clause-does g c =
     resolves_so c.args.action.now c.args.desk.now c.resolve_left.new.desk c.args.log.now c.args.scan.now c.resolve_left.result c.in-Resolve.is c.resolve_left.ensures.resolves c.resolve_left.ensures.goes_on c.resolve_left.ensures.kept
+
+pub returns-in-CommitAll-clause-prompt : goal.returns-in-CommitAll-clause-prompt
+returns-in-CommitAll-clause-prompt g c = λ not.
+    c.commit.ensures.prompt c.args.scan.now (λ can. not (subst (λ (x : ScriptAction). MayWait x (session_of c.args.desk.now c.args.log.now c.args.scan.now)) (sym c.in-CommitAll.is) can))

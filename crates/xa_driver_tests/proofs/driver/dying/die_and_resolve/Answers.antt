@@ -10,7 +10,7 @@ returns g c =
     let first = c.die_and_settle-settled.result in
     let died = first.died in
     let k : CutCall =
-    record { thread = first.thread; branches = c.args.branches.now; desk = died.before.value; new = died.after.value.ledgers; log = died.log_before.value.state; later = died.log_after.value.state; endings = died.endings.items } in
+    record { thread = first.thread; branches = c.args.branches.now; desk = died.before.value; new = died.after.value.ledgers; log = died.log_before.value.state; later = died.log_after.value.state; endings = died.known.endings.items } in
     let last = c.recover-last.result in
     let ended = last.ended in
     let q : Records → ResolveCall =

@@ -19,7 +19,8 @@ desks_of_new s [] = refl
 desks_of_new s (d ∷ desks) = ap (λ l. d ∷ l) (desks_of_new s desks)
 
 begin_so : (s : Content) (desks : List DeskView) (k : ℕ) (x : Session) → slice_get (new_sessions s desks) k ≡ Some x → BeginsAs (beginning s) (k + 1) x
-begin_so s desks k x at = let d = was_mapped (new_session s) desks k x at in subst (BeginsAs (beginning s) (k + 1)) d.2 (record { log = refl; scan = refl })
+begin_so s desks k x at =
+    let d = was_mapped (new_session s) desks k x at in subst (BeginsAs (beginning s) (k + 1)) d.2 (record { log = refl; known = refl; scan = refl })
 
 pub returns-clause-opened : goal.returns-clause-opened
 returns-clause-opened g c =

@@ -1,0 +1,62 @@
+use Rattle.std.specs.Prelude.{if◌then◌else◌}
+use Rattle.std.proofs.Common.{◌≡◌, ◌≢◌, ℕ, ◌+◌, ◌-◌, ◌<◌, Bool, false, inl, length, refl, sym, true, take, ap, ◌∙◌, arith}
+use Rattle.std.proofs.lemmas.Bool.{eqb-false}
+use Rattle.xa_driver.specs.Steps.{asked_in, is_passed, next_collected}
+use Rattle.xa_driver.proofs.Firsts.{OneCollected, first_so_many, one_collected}
+use Rattle.xa_driver.proofs.Gathering.{same_itself}
+use Rattle.xa_driver.proofs.Idling.{idles_start, collect_on}
+use Rattle.xa_driver.proofs.Ordering.{collects_nothing, collects_on, step_collects}
+use Rattle.xa_driver.proofs.round.Round.collect_first.Goals as goal
+use Rattle.xa_driver.proofs.round.Round.collect_first.Goals.{then-not-is_unasked, else-not-is_unasked}
+
+pub answers-init : goal.answers-init
+answers-init g c = record {
+  under_way = c.requires.under_way;
+  all = c.requires.all;
+  counted = let none = ap (λ n. asked_in (take n c.args.self.now.asks.items)) c.requires.none in omega (arith, none);
+  before = refl;
+  same = λ js s. s;
+  waited = idles_start g.I.Idle.leads_by _ _;
+  ordered = collects_nothing c.args.self.now.tickets.items c.args.desk.now;
+  idled = g.met.I.Idle.leads_start _;
+}
+
+one_less : (b : Bool) (before now : ℕ) → b ≡ false → 0 < before → now ≡ before - 1 → (if b then 0 else 1) + now ≡ before
+one_less true before now e some is = cc
+one_less false before now e some is = omega (arith, some, is)
+
+as_many : (b : Bool) (before now : ℕ) → b ≡ true → now ≡ before → (if b then 0 else 1) + now ≡ before
+as_many true before now e is = omega (arith, is)
+as_many false before now e is = cc
+
+pub answers-preserved : goal.answers-preserved
+answers-preserved g c =
+    let i = c.answers.invariant in
+    let e = c.collect_place.ensures in
+    let asks = c.args.self.now.asks.items in
+    let r = c.answers.self in
+    let some : length r.tickets.items ≢ 0 =
+    λ n. eqb-false _ 0 (sym c.is_empty.ensures ∙ c.if-not-is_empty.true) (let b = r.tickets.ok.0 in omega (arith, b, n)) in
+    let one : OneCollected r c.collect_place.new.self =
+    one_collected r c.collect_place.new.self c.answers.desk c.collect_place.new.desk c.collect_place.result e.collects i.all some in
+    let b : Bool = is_passed (next_collected r) in
+    let left : (if b then 0 else 1) + c.if-not-is_unasked.left ≡ c.answers.left = elim c.if-not-is_unasked.branch [
+      | then-not-is_unasked w ↦ one_less b c.answers.left c.if-not-is_unasked.left (sym c.is_unasked.ensures ∙ w.if-not-is_unasked.true) c.answers-test.true w.left-is
+      | else-not-is_unasked w ↦ as_many b c.answers.left c.if-not-is_unasked.left (sym c.is_unasked.ensures ∙ w.if-not-is_unasked.false) w.left-is
+    ] in
+    record {
+      under_way = e.under_way;
+      all = one.all;
+      counted = let a = one.taken in let d = i.counted in omega (arith, a, left, d);
+      before = e.before ∙ i.before;
+      same = λ js s. e.same js (i.same js s);
+      waited = collect_on g.I.Idle.leads_by asks r c.answers.desk c.collect_place.new.desk c.args.idle.now c.answers.idle c.collect_place.new.idle i.under_way (i.same asks (same_itself asks)) i.waited e.waited;
+      ordered = collects_on _ _ _ _ _ _ i.ordered (step_collects _ _ _ _ _ _ e.collects);
+      idled = g.met.I.Idle.leads_chain _ _ _ i.idled e.idled;
+    }
+
+pub returns-after-answers-clause-first : goal.returns-after-answers-clause-first
+returns-after-answers-clause-first g c =
+    let i = c.answers.invariant in
+    let none = c.answers-test.false in
+    first_so_many c.answers.self c.args.count c.answers.left i.all i.counted (inl (omega (arith, none)))

@@ -1,0 +1,24 @@
+use Rattle.std.proofs.Common.{◌≡◌, ◌+◌, length, take, List}
+use Rattle.xa_driver.specs.declared.ask.Ask.{Ask}
+use Rattle.xa_driver.specs.Asks.{SameAsks, among_asks}
+use Rattle.xa_driver.specs.Idling.{IdlesAt}
+use Rattle.xa_driver.specs.Order.{CollectsFirst}
+use Rattle.xa_driver.specs.Steps.{asked_in}
+use Rattle.xa_driver.specs.UnderWay.{IsSent, IsUnderWay}
+use Rattle.xa_driver.proofs.round.Round.collect_first.Given as goal
+
+-- so many answers are left to come
+abbrev pub invariant-answers : goal.invariant-answers
+invariant-answers g l = record {
+  under_way : IsUnderWay l.self l.desk;
+  all : IsSent l.self;
+  counted : asked_in (take l.self.collected l.self.asks.items) + l.left ≡ l.initial.left;
+  before : l.self.before ≡ l.initial.self.before;
+  same : (js : List Ask) → SameAsks js l.initial.self.asks.items → SameAsks js l.self.asks.items;
+  waited : IdlesAt g.I.Idle.leads_by (among_asks l.initial.self.asks.items) l.initial.idle l.idle;
+  ordered : CollectsFirst l.initial.self.tickets.items l.self.tickets.items l.initial.desk l.desk;
+  idled : g.I.Idle.leads l.initial.idle l.idle;
+}
+
+abbrev pub decreases-answers : goal.decreases-answers
+decreases-answers g l = length l.self.tickets.items

@@ -1,0 +1,183 @@
+-- What a commit of several branches did whose coordinator died, and what was known of it then.
+use Rattle.std.specs.Prelude.{◌≡◌, ◌⊎◌, ℕ, zero, suc, ◌<◌, ◌≤◌, min, Bool, true, false, Option, None, Some, List}
+use Rattle.std.specs.Prelude.{[], ◌∷◌, length}
+use Rattle.std.specs.FinMap as map
+use Rattle.xa_words.specs.Tran.{TranName}
+use Rattle.xa_words.specs.declared.code.Code.{Code}
+use Rattle.xa_words.specs.declared.death.Death.{Death}
+use Rattle.xa_words.specs.declared.death.Death.TheVariants as death
+use Rattle.xa_words.specs.declared.request.Op.{Op}
+use Rattle.xa_words.specs.declared.request.Op.TheVariants.{Prepare}
+use Rattle.xa_desk.specs.declared.operation.Operation.{Operation}
+use Rattle.xa_desk.specs.LedgerView.{LedgerView, learnt_shut, with_sent}
+use Rattle.xa_desk.specs.DeskView.{DeskView, ledger}
+use Rattle.xa_desk.specs.GoesOn.{GoesOn}
+use Rattle.xa_desk.specs.Kept.{AllKept}
+use Rattle.xa_switch.specs.Scans.{Asking}
+use Rattle.xa_driver.specs.declared.branch.Branch.{Branch}
+use Rattle.xa_driver.specs.declared.done.Done.{Done}
+use Rattle.xa_driver.specs.declared.done.Ending.{Ending}
+use Rattle.xa_driver.specs.Course.{AsksFor}
+use Rattle.xa_driver.specs.Decision.{yes_of}
+use Rattle.xa_driver.specs.Endings.{second_op, ending_of}
+use Rattle.xa_driver.specs.Stages.{IsUndecided}
+use Rattle.xa_driver.specs.Trace.{AppendsOnce, EachBranch, Logs, decision_of, has_branch_at}
+use Rattle.xa_driver.specs.UnderWay.{LeavesKept}
+use Rattle.xa_log.specs.Log.{LogState}
+
+-- ---- a request that isn't answered
+
+-- A request takes a manager from one state to another as it is put to it: it isn't answered yet, or it is withheld,
+-- since the manager is known to be shut.
+abbrev pub Putting : Type 0 → Type 1
+Putting D = D → Op → D → Type 0
+
+-- so over a desk's ledgers
+pub data PutsLedger (a : LedgerView) (op : Op) (a' : LedgerView) : Type 0 where
+  sent : learnt_shut a ≡ false → a' ≡ with_sent a op → PutsLedger a op a'
+  withheld : learnt_shut a ≡ true → a' ≡ a → PutsLedger a op a'
+
+-- ---- the first round
+
+-- Each branch was put a Prepare, and the first of them have answered with these votes.
+abbrev pub HaveAsked : {D : Type 0} → Asking D → Putting D → List Branch → List Code → (ℕ → D) → (ℕ → D) → Type 0
+HaveAsked asking putting [] [] old new = Unit {0}
+HaveAsked asking putting [] (v ∷ vs) old new = ⊥
+HaveAsked asking putting (b ∷ bs) [] old new =
+    putting (old b.m) (Prepare b.xid) (new b.m) × HaveAsked asking putting bs [] old new
+HaveAsked asking putting (b ∷ bs) (v ∷ vs) old new =
+    asking (old b.m) (Prepare b.xid) (new b.m) v × HaveAsked asking putting bs vs old new
+
+-- ---- the second round
+
+-- What is wanted of a manager, if anything is, was put to it: it was answered while there were answers to come, and
+-- else it was put and no more.
+abbrev pub Tells : {D : Type 0} → Asking D → Putting D → ℕ → Option Op → D → D → Type 0
+Tells asking putting k None old new = new ≡ old
+Tells asking putting zero (Some op) old new = putting old op new
+Tells asking putting (suc k) (Some op) old new = (code : Code) × asking old op new code
+
+-- so many answers are to come after it
+abbrev pub to_come : Option Op → ℕ → ℕ
+to_come None k = k
+to_come (Some op) zero = zero
+to_come (Some op) (suc k) = k
+
+-- A branch has voted, and was told the decision where it wants it.
+pub record VotesAndHears {D : Type 0} (asking : Asking D) (putting : Putting D) (commit : Bool) (k : ℕ) (b : Branch)
+    (vote : Code) (old new : D) : Type 0 where
+  pub prepared : D
+  pub prepares : asking old (Prepare b.xid) prepared vote
+  pub tells : Tells asking putting k (second_op commit b.xid vote) prepared new
+
+-- Each branch has voted, and was told the decision where it wants it; so many of those that want it have answered.
+abbrev pub HaveTold : {D : Type 0} → Asking D → Putting D → Bool → ℕ → List Branch → List Code → (ℕ → D) → (ℕ → D)
+    → Type 0
+HaveTold asking putting commit k [] [] old new = Unit {0}
+HaveTold asking putting commit k [] (v ∷ vs) old new = ⊥
+HaveTold asking putting commit k (b ∷ bs) [] old new = ⊥
+HaveTold asking putting commit k (b ∷ bs) (v ∷ vs) old new =
+    VotesAndHears asking putting commit k b v (old b.m) (new b.m)
+    × HaveTold asking putting commit (to_come (second_op commit b.xid v) k) bs vs old new
+
+-- A branch has voted, and was told the decision where it wants it, and has answered; by both codes it ended so.
+pub record VotesAndObeys {D : Type 0} (asking : Asking D) (commit : Bool) (b : Branch) (vote : Code)
+    (second : Option Code) (ending : Ending) (old new : D) : Type 0 where
+  pub prepared : D
+  pub prepares : asking old (Prepare b.xid) prepared vote
+  pub obeys : AsksFor asking (second_op commit b.xid vote) second prepared new
+  pub ends : ending ≡ ending_of commit vote second
+
+-- ---- how far it came
+
+-- So many branches have voted, and nothing was decided.
+pub record CameToVotes {D : Type 0} (asking : Asking D) (putting : Putting D) (count : ℕ) (bs : List Branch)
+    (old new : ℕ → D) (log later : LogState) (known : Done) : Type 0 where
+  pub asked : HaveAsked asking putting bs known.votes.items old new
+  pub counted : length known.votes.items ≡ count
+  pub undecided : IsUndecided known
+  pub unlogged : later ≡ log
+  pub endings : known.endings.items ≡ []
+
+-- It was decided by the votes, and a record was logged where they want one and the log took it.
+pub record IsDecidedBy (tran : TranName) (bs : List Branch) (log later : LogState) (known : Done) : Type 0 where
+  pub decision : known.commit ≡ decision_of known.votes.items known.logged
+  pub logs : Logs tran (yes_of bs known.votes.items) known.votes.items known.logged log later
+
+-- All have voted, and it was decided; no branch was told.
+pub record CameToDecision {D : Type 0} (asking : Asking D) (putting : Putting D) (tran : TranName) (bs : List Branch)
+    (old new : ℕ → D) (log later : LogState) (known : Done) : Type 0 where
+  pub asked : HaveAsked asking putting bs known.votes.items old new
+  pub counted : length known.votes.items ≡ length bs
+  pub decided : IsDecidedBy tran bs log later known
+  pub endings : known.endings.items ≡ []
+
+-- It was decided, and all that want the decision were told; so many of them have answered.
+pub record CameToAnswers {D : Type 0} (asking : Asking D) (putting : Putting D) (count : ℕ) (tran : TranName)
+    (bs : List Branch) (old new : ℕ → D) (log later : LogState) (known : Done) : Type 0 where
+  pub told : HaveTold asking putting known.commit count bs known.votes.items old new
+  pub decided : IsDecidedBy tran bs log later known
+  pub endings : known.endings.items ≡ []
+
+-- It was decided, all that want the decision were told, and all have answered. None was told to forget anything.
+pub record CameToEndings {D : Type 0} (asking : Asking D) (tran : TranName) (bs : List Branch) (old new : ℕ → D)
+    (log later : LogState) (known : Done) : Type 0 where
+  pub seconds : List (Option Code)
+  pub each : EachBranch (λ b v s e. VotesAndObeys asking known.commit b v s e (old b.m) (new b.m)) bs known.votes.items
+      seconds known.endings.items
+  pub decided : IsDecidedBy tran bs log later known
+
+-- How far a commit came whose coordinator died at this point, and what was known of it then.
+abbrev pub CameTo : {D : Type 0} → Asking D → Putting D → Death → TranName → List Branch → (ℕ → D) → (ℕ → D) → LogState
+    → LogState → Done → Type 0
+CameTo asking putting (death.Preparing k) tran bs old new log later known =
+    CameToVotes asking putting (min k (length bs)) bs old new log later known
+CameTo asking putting death.Prepared tran bs old new log later known =
+    CameToVotes asking putting (length bs) bs old new log later known
+CameTo asking putting death.Decided tran bs old new log later known =
+    CameToDecision asking putting tran bs old new log later known
+CameTo asking putting (death.Telling k) tran bs old new log later known =
+    CameToAnswers asking putting k tran bs old new log later known
+CameTo asking putting death.Told tran bs old new log later known =
+    CameToEndings asking tran bs old new log later known
+
+-- What a commit of these branches did whose coordinator died at this point, over states of each manager, and what was
+-- known of it then. At other managers it did nothing.
+pub record Dies {D : Type 0} (asking : Asking D) (putting : Putting D) (at : Death) (tran : TranName) (bs : List Branch)
+    (old new : ℕ → D) (log later : LogState) (known : Done) : Type 0 where
+  pub far : CameTo asking putting at tran bs old new log later known
+  pub others : (m : ℕ) → 1 ≤ m → has_branch_at bs m ≡ false → new m ≡ old m
+
+-- ---- what it leaves
+
+-- the commit is decided before its coordinator dies at this point
+abbrev pub is_decided_by : Death → Bool
+is_decided_by (death.Preparing k) = false
+is_decided_by death.Prepared = false
+is_decided_by death.Decided = true
+is_decided_by (death.Telling k) = true
+is_decided_by death.Told = true
+
+-- What it does to the log itself: what the decision does, if it came to one, and else nothing.
+pub record AppendsUntil {L : Type 0} (appends : TranName → List Bool → Bool → L → L → Type 0) (at : Death)
+    (tran : TranName) (yes : List Bool) (votes : List Code) (logged : Bool) (old new : L) : Type 0 where
+  pub decided : is_decided_by at ≡ true → AppendsOnce appends tran yes votes logged old new
+  pub undecided : is_decided_by at ≡ false → new ≡ old
+
+-- It is a request that was put to the manager of a branch since.
+pub record IsOfRound (bs : List Branch) (old new : List LedgerView) (o : Operation) : Type 0 where
+  pub manager : has_branch_at bs o.manager ≡ true
+  pub later : length (ledger old o.manager).sent ≤ o.number
+  pub sent : o.number < length (ledger new o.manager).sent
+
+-- The handles that it leaves: what was kept stays, and whatever else is kept is a request of its own.
+pub record LeavesHandles (bs : List Branch) (old new : DeskView) : Type 0 where
+  pub stays : LeavesKept old new
+  pub more : (k : ℕ) (o : Operation) → map.get new.kept k ≡ Some o
+      → (map.get old.kept k ≡ Some o) ⊎ IsOfRound bs old.ledgers new.ledgers o
+
+-- And the desk goes on, and where all that was outstanding was kept under a handle, it still is.
+pub record LeavesDesk (bs : List Branch) (old new : DeskView) : Type 0 where
+  pub handles : LeavesHandles bs old new
+  pub goes_on : GoesOn old new
+  pub kept : AllKept old → AllKept new

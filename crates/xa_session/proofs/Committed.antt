@@ -1,0 +1,41 @@
+-- What a commit of a script's line comes to.
+use Rattle.std.proofs.Common.{◌≡◌, ℕ, true, false, List, [], ◌∷◌, Vec, Global, map, refl, sym, subst}
+use Rattle.xa_words.specs.Tran.{TranName}
+use Rattle.xa_words.specs.declared.code.Code.{Code}
+use Rattle.xa_driver.specs.declared.branch.Branch.{Branch}
+use Rattle.xa_driver.specs.Asks.{KeepsTheRest}
+use Rattle.xa_driver.specs.Decision.{yes_of}
+use Rattle.xa_driver.specs.Order.{GoesAsRound}
+use Rattle.xa_driver.specs.Rounds.{first_ask}
+use Rattle.xa_driver.specs.Stages.{HasVoted}
+use Rattle.xa_driver.specs.Trace.{IsTranOf, IsUnknown}
+use Rattle.xa_log.specs.Losing.{LosesTo}
+use Rattle.xa_log.specs.declared.losing.LosingLog.{LosingLog}
+use Rattle.xa_grammar.specs.declared.step.CommitAll.{CommitAll}
+use Rattle.xa_transcript.specs.declared.answer.Answer.TheVariants as answer
+use Rattle.xa_session.specs.declared.session.Session.{Session}
+use Rattle.xa_session.specs.Committing.{CanCommit, CommitsAll, branch_at, branches_of, comes_to_decide, named}
+use Rattle.xa_session.specs.Committing.CommitsAll.{undecided}
+
+-- all branches of a commit are of its transaction
+pub of_tran : (c : CommitAll TranName) (ms : List ℕ) → IsTranOf (map (branch_at c) ms) (named c)
+of_tran c [] = tt
+of_tran c (m ∷ ms) = (refl, of_tran c ms)
+
+pub all_of_tran : (c : CommitAll TranName) (bs : List Branch) → bs ≡ branches_of c → IsTranOf bs (named c)
+all_of_tran c bs is = subst (λ (l : List Branch). IsTranOf l (named c)) (sym is) (of_tran c _)
+
+-- where it isn't known whether the log has the record
+pub was_lost : (c : CommitAll TranName) (bs : List Branch) (old new : Session) (votes : Vec Code Global) → bs ≡ branches_of c
+    → comes_to_decide c.death ≡ true → CanCommit c old → HasVoted bs old.desk.ledgers new.desk.ledgers votes.items
+    → ((t : TranName) → IsTranOf bs t
+    → IsUnknown (λ (l : LosingLog). l.is_lost ≡ false) LosesTo t (yes_of bs votes.items) votes.items old.log new.log)
+    → GoesAsRound (map first_ask bs) old.desk new.desk → KeepsTheRest old.desk new.desk → new.scan ≡ old.scan
+    → CommitsAll c old new (answer.Undecided votes)
+was_lost c bs old new votes is comes can voted unknown round keeps scan =
+    undecided votes comes can
+    (subst (λ (l : List Branch). HasVoted l old.desk.ledgers new.desk.ledgers votes.items) is voted)
+    scan keeps.keeps keeps.free refl
+    (subst (λ (l : List Branch). GoesAsRound (map first_ask l) old.desk new.desk) is round)
+    (subst (λ (l : List Branch). IsUnknown (λ (l : LosingLog). l.is_lost ≡ false) LosesTo (named c) (yes_of l votes.items) votes.items old.log new.log) is
+    (unknown (named c) (all_of_tran c bs is)))

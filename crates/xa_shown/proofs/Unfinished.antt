@@ -1,0 +1,247 @@
+-- What a commit that came to no end left, by the line that shows it: it goes by the record.
+use Rattle.std.specs.Global.{Global}
+use Rattle.std.specs.Prelude.{Vec, ◌⊎◌, All, is_some, not}
+use Rattle.std.proofs.Common.{◌≡◌, ℕ, inl, inr, Bool, true, false, ◌&&◌, ◌||◌, List, [], ◌∷◌, Option, Some, None, get_or, sym, refl, ap, ◌∙◌, subst}
+use Rattle.std.specs.List.{list_any}
+use Rattle.std.proofs.Math.Bool.{or-true}
+use Rattle.std.proofs.lemmas.Bool.{and_parts, cases_Bool}
+use Rattle.std.proofs.lemmas.List.Elements.{All-head, All-tail}
+use Rattle.std.proofs.lemmas.List.Folds.{list_any_none}
+use Rattle.xa_base.proofs.Truth.{by_if}
+use Rattle.xa_words.specs.Xid.{XidName}
+use Rattle.xa_words.specs.Tran.{TranName}
+use Rattle.xa_words.specs.declared.code.Code.{Code}
+use Rattle.xa_words.specs.declared.death.Death.{Death}
+use Rattle.xa_words.specs.declared.death.Death.TheVariants as death
+use Rattle.xa_words.specs.declared.request.Op.{Op}
+use Rattle.xa_words.specs.declared.request.Op.TheVariants.{Commit, Rollback}
+use Rattle.xa_tables.specs.History.{is_rolled_back as rolls_back}
+use Rattle.xa_worker.specs.Journal.{Entry}
+use Rattle.xa_switch.specs.Settling.{Settling}
+use Rattle.xa_switch.specs.Scans.{Asking}
+use Rattle.xa_driver.specs.declared.branch.Branch.{Branch}
+use Rattle.xa_driver.specs.declared.done.Done.{Done as Outcome}
+use Rattle.xa_driver.specs.declared.done.Ending.{Ending}
+use Rattle.xa_driver.specs.Commits.{is_commit}
+use Rattle.xa_driver.specs.Deaths.{CameTo, IsDecidedBy, Putting, VotesAndObeys}
+use Rattle.xa_driver.specs.Decision.{decides_commit, has_yes, is_no, is_read, is_yes}
+use Rattle.xa_driver.specs.Endings.{is_out_of_reach, second_op}
+use Rattle.xa_driver.specs.Trace.{EachBranch, decision_of}
+use Rattle.xa_driver.proofs.Mapped.{IsAskedFor}
+use Rattle.xa_log.specs.Log.{LogState, record_of}
+use Rattle.xa_atomicity.specs.Cut.{is_recorded, is_rollback}
+use Rattle.xa_atomicity.specs.Outcomes.{EachOutcome, is_committed, is_rolled_back}
+use Rattle.xa_atomicity.proofs.CutSends.{decided_so, undecided_so}
+use Rattle.xa_atomicity.proofs.Aborts.{IsNoCommit}
+use Rattle.xa_grammar.specs.declared.step.CommitAll.{CommitAll}
+use Rattle.xa_grammar.specs.Steps.{ScriptAction}
+use Rattle.xa_transcript.specs.declared.answer.Answer.{Answer}
+use Rattle.xa_transcript.specs.declared.answer.Answer.TheVariants as answer
+use Rattle.xa_session.specs.Committing.{branches_of, named}
+use Rattle.xa_telling.specs.Parts.{Part}
+use Rattle.xa_telling.specs.Commits.{CarriesOut, CarriesOutSome, CommitTakes, LosesSight, StopsAt}
+use Rattle.xa_telling.specs.Commits.CommitTakes.{refused as takes_none, decided, undecided, died}
+use Rattle.xa_telling.specs.Journals.{Line, Takes, TakesPart}
+use Rattle.xa_shown.specs.Unfinished.{GoesByTheRecord, ShowsDeath, ShowsUndecided}
+use Rattle.xa_shown.proofs.Adds.{loses_adds, stops_adds}
+use Rattle.xa_shown.proofs.Outcomes.{Ends, committed_so, kept_so, no_ending_is, out_so, with_votes}
+use Rattle.xa_shown.proofs.Shown.{committed_yes, none_against}
+
+-- ---- what such a line does
+
+taken : (settled : Settling) (l : Line) (c : CommitAll TranName) (a : Answer) (old new : Part) → l.answer ≡ a → TakesPart settled l old new
+    → (x : ScriptAction) → l.task.action ≡ x → Takes settled x l.task.thread a old new
+taken settled l c a old new tells takes x asks =
+    subst (λ (b : Answer). Takes settled x l.task.thread b old new) tells (subst (λ (y : ScriptAction). Takes settled y l.task.thread l.answer old new) asks takes)
+
+pub stopped_so : (settled : Settling) (l : Line) (c : CommitAll TranName) (at : Death) (known : Outcome) (old new : Part) → ShowsDeath l c at known
+    → TakesPart settled l old new → StopsAt l.task.thread c at known old new
+stopped_so settled l c at known old new shows takes = of_answer (taken settled l c (answer.Died at known) old new shows.tells takes _ shows.asks)
+  where
+    same_known : (at at' : Death) (d e : Outcome) → answer.Died at d ≡ answer.Died at' e → d ≡ e
+    same_known at at' d e same = cc
+
+    same_death : (at at' : Death) (d e : Outcome) → answer.Died at d ≡ answer.Died at' e → at ≡ at'
+    same_death at at' d e same = cc
+
+    not_refused : (at : Death) (d : Outcome) → answer.Died at d ≡ answer.Refused → ⊥
+    not_refused at d same = cc
+
+    not_undecided : (at : Death) (d : Outcome) (votes : Vec Code Global) → answer.Died at d ≡ answer.Undecided votes → ⊥
+    not_undecided at d votes same = cc
+
+    not_decided : (at : Death) (d e : Outcome) → answer.Died at d ≡ answer.Decided e → ⊥
+    not_decided at d e same = cc
+
+    of_answer : CommitTakes l.task.thread c (answer.Died at known) old new → StopsAt l.task.thread c at known old new
+    of_answer (takes_none told e) = absurd (not_refused at known told)
+    of_answer (undecided votes comes told is) = absurd (not_undecided at known votes told)
+    of_answer (decided d alive told is) = absurd (not_decided at known d told)
+    of_answer (died at' d dead told is) =
+        subst (λ (x : Outcome). StopsAt l.task.thread c at x old new) (sym (same_known at at' known d told)) (subst (λ (x : Death). StopsAt l.task.thread c x d old new) (sym (same_death at at' known d told)) is)
+
+pub lost_so : (settled : Settling) (l : Line) (c : CommitAll TranName) (votes : Vec Code Global) (old new : Part) → ShowsUndecided l c votes
+    → TakesPart settled l old new → LosesSight l.task.thread c votes.items old new
+lost_so settled l c votes old new shows takes = of_answer (taken settled l c (answer.Undecided votes) old new shows.tells takes _ shows.asks)
+  where
+    same_votes : (v w : Vec Code Global) → answer.Undecided v ≡ answer.Undecided w → v ≡ w
+    same_votes v w same = cc
+
+    not_refused : (v : Vec Code Global) → answer.Undecided v ≡ answer.Refused → ⊥
+    not_refused v same = cc
+
+    not_decided : (v : Vec Code Global) (e : Outcome) → answer.Undecided v ≡ answer.Decided e → ⊥
+    not_decided v e same = cc
+
+    not_died : (v : Vec Code Global) (at : Death) (e : Outcome) → answer.Undecided v ≡ answer.Died at e → ⊥
+    not_died v at e same = cc
+
+    of_answer : CommitTakes l.task.thread c (answer.Undecided votes) old new → LosesSight l.task.thread c votes.items old new
+    of_answer (takes_none told e) = absurd (not_refused votes told)
+    of_answer (decided d alive told is) = absurd (not_decided votes d told)
+    of_answer (died at d dead told is) = absurd (not_died votes at d told)
+    of_answer (undecided v comes told is) = subst (λ (x : Vec Code Global). LosesSight l.task.thread c x.items old new) (sym (same_votes votes v told)) is
+
+-- ---- by the record
+
+-- it was decided to abort, or the vote isn't to commit
+abbrev pub NotToCommit : Bool → Code → Type 0
+NotToCommit commit v = (commit ≡ false) ⊎ (is_yes v ≡ false)
+
+abbrev IsNoRollback : Op → Type 0
+IsNoRollback op = is_rollback op ≡ false
+
+no_commit_so : (commit : Bool) (x : XidName) (v : Code) → NotToCommit commit v → IsAskedFor IsNoCommit (second_op commit x v)
+no_commit_so false x v h = by_if (IsAskedFor IsNoCommit) (is_read v || (rolls_back v || is_out_of_reach v)) None (Some (Rollback x)) (λ _. tt) (λ _. refl)
+no_commit_so true x v (inl e) = cc
+no_commit_so true x v (inr e) =
+    by_if (IsAskedFor IsNoCommit) (is_yes v) (Some (Commit x false)) None (λ y. let z : true ≡ false = sym y ∙ e in cc) (λ _. tt)
+
+no_rollback_so : (commit : Bool) (x : XidName) (v : Code) → commit ≡ true → IsAskedFor IsNoRollback (second_op commit x v)
+no_rollback_so true x v h = by_if (IsAskedFor IsNoRollback) (is_yes v) (Some (Commit x false)) None (λ _. refl) (λ _. tt)
+no_rollback_so false x v h = cc
+
+-- without a record the transaction isn't recorded
+unrecorded : (tran : TranName) (log later : LogState) → record_of log tran ≡ None → later ≡ log → is_recorded later tran ≡ true → ⊥
+unrecorded tran log later absent same on =
+    let z : false ≡ true = sym (ap (λ (l : LogState). is_some (record_of l tran)) same ∙ ap is_some absent) ∙ on in cc
+
+module _ (tran : TranName) (bs : List Branch) (log later : LogState) (known : Outcome) (absent : record_of log tran ≡ None) where
+  votes_by : IsDecidedBy tran bs log later known → is_recorded later tran ≡ false → All (NotToCommit known.commit) known.votes.items
+  votes_by is off =
+      subst (λ c. All (NotToCommit c) known.votes.items) (sym is.decision) (undecided_so tran log later absent known.votes.items known.logged _ is.logs off)
+
+  commits_by : IsDecidedBy tran bs log later known → is_recorded later tran ≡ true → decision_of known.votes.items known.logged ≡ true
+  commits_by is on = decided_so tran log later absent known.votes.items known.logged _ is.logs on
+
+  module _ {D : Type 0} (A : Asking D) (U : Putting D) (old new : ℕ → D) where
+    -- where there is none, it was decided to abort, or no branch voted to commit
+    pub votes_fit : (at : Death) → CameTo A U at tran bs old new log later known → is_recorded later tran ≡ false
+        → All (NotToCommit known.commit) known.votes.items
+    votes_fit (death.Preparing k) far off = λ j d lt. inl far.undecided.commit
+    votes_fit death.Prepared far off = λ j d lt. inl far.undecided.commit
+    votes_fit death.Decided far off = votes_by far.decided off
+    votes_fit (death.Telling k) far off = votes_by far.decided off
+    votes_fit death.Told far off = votes_by far.decided off
+
+    -- where there is one, it was decided to commit
+    pub decision_so : (at : Death) → CameTo A U at tran bs old new log later known → is_recorded later tran ≡ true
+        → (known.commit ≡ true) × (decision_of known.votes.items known.logged ≡ true)
+    decision_so (death.Preparing k) far on = absurd (unrecorded tran log later absent far.unlogged on)
+    decision_so death.Prepared far on = absurd (unrecorded tran log later absent far.unlogged on)
+    decision_so death.Decided far on = (far.decided.decision ∙ commits_by far.decided on, commits_by far.decided on)
+    decision_so (death.Telling k) far on = (far.decided.decision ∙ commits_by far.decided on, commits_by far.decided on)
+    decision_so death.Told far on = (far.decided.decision ∙ commits_by far.decided on, commits_by far.decided on)
+
+-- ---- endings
+
+-- each has its ending
+pub obeyed_ends : {D : Type 0} (A : Asking D) (commit : Bool) (old new : ℕ → D) (bs : List Branch) (vs : List Code) (zs : List (Option Code)) (es : List Ending)
+    → EachBranch (λ b v z e. VotesAndObeys A commit b v z e (old b.m) (new b.m)) bs vs zs es → EachOutcome (Ends commit) bs vs es
+obeyed_ends A commit old new [] [] [] [] h = tt
+obeyed_ends A commit old new (b ∷ bs) (v ∷ vs) (z ∷ zs) (e ∷ es) h = ((z, h.0.ends), obeyed_ends A commit old new bs vs zs es h.1)
+obeyed_ends A commit old new bs vs zs es h = absurd h
+
+-- with what holds of its vote
+voted_with : (W : Code → Type 0) (P : Branch → Code → Ending → Type 0) (bs : List Branch) (vs : List Code) (es : List Ending) → All W vs
+    → EachOutcome P bs vs es → EachOutcome (λ b v e. W v × P b v e) bs vs es
+voted_with W P [] [] [] all h = tt
+voted_with W P (b ∷ bs) (v ∷ vs) (e ∷ es) all h = ((All-head W v vs all, h.0), voted_with W P bs vs es (All-tail W v vs all) h.1)
+voted_with W P bs vs es all h = absurd h
+
+-- a branch that isn't to be committed isn't shown as committed
+not_shown : (commit : Bool) (b : Branch) (v : Code) (e : Ending) → NotToCommit commit v × Ends commit b v e → is_committed e ≡ false
+not_shown commit b v e (inl aborts, ends) = out_so commit aborts b v e ends
+not_shown commit b v e (inr against, ends) = elim (cases_Bool (is_committed e)) [
+  | inr out ↦ out
+  | inl shown ↦
+      let voted = committed_yes (is_yes v) (is_read v) (rolls_back v) (is_out_of_reach v) commit v ends.0 (sym ends.1 ∙ committed_so e shown) in
+      absurd (let z : true ≡ false = sym voted.0 ∙ against in cc)
+]
+
+abbrev none_among : (Ending → Bool) → List Ending → Type 0
+none_among p es = list_any p es ≡ false
+
+module _ {D : Type 0} (A : Asking D) (U : Putting D) (tran : TranName) (bs : List Branch) (old new : ℕ → D) (log later : LogState) (known : Outcome)
+    (absent : record_of log tran ≡ None) where
+  endings_out : (at : Death) → CameTo A U at tran bs old new log later known → is_recorded later tran ≡ false → none_among is_committed known.endings.items
+  endings_out (death.Preparing k) far off = ap (list_any is_committed) far.endings
+  endings_out death.Prepared far off = ap (list_any is_committed) far.endings
+  endings_out death.Decided far off = ap (list_any is_committed) far.endings
+  endings_out (death.Telling k) far off = ap (list_any is_committed) far.endings
+  endings_out death.Told far off =
+      no_ending_is (λ b v e. NotToCommit known.commit v × Ends known.commit b v e) is_committed (not_shown known.commit) bs known.votes.items known.endings.items
+      (voted_with (NotToCommit known.commit) (Ends known.commit) bs known.votes.items known.endings.items (votes_by tran bs log later known absent far.decided off) (obeyed_ends A known.commit old new bs known.votes.items far.seconds known.endings.items far.each))
+
+  endings_kept : (at : Death) → CameTo A U at tran bs old new log later known → is_recorded later tran ≡ true → none_among is_rolled_back known.endings.items
+  endings_kept (death.Preparing k) far on = ap (list_any is_rolled_back) far.endings
+  endings_kept death.Prepared far on = ap (list_any is_rolled_back) far.endings
+  endings_kept death.Decided far on = ap (list_any is_rolled_back) far.endings
+  endings_kept (death.Telling k) far on = ap (list_any is_rolled_back) far.endings
+  endings_kept death.Told far on =
+      let decides = commits_by tran bs log later known absent far.decided on in
+      no_ending_is (λ b v e. (is_no v ≡ false) × Ends known.commit b v e) is_rolled_back (kept_so known.commit (far.decided.decision ∙ decides)) bs known.votes.items known.endings.items
+      (with_votes (Ends known.commit) is_no bs known.votes.items known.endings.items (none_against known.votes.items known.logged decides) (obeyed_ends A known.commit old new bs known.votes.items far.seconds known.endings.items far.each))
+
+-- ---- the laws
+
+pub death_by_record : (t : ℕ) (c : CommitAll TranName) (at : Death) (known : Outcome) (old new : Part) → StopsAt t c at known old new
+    → GoesByTheRecord (named c) known.votes.items known.endings.items old new
+death_by_record t c at known old new is =
+    let A = CarriesOut t in
+    let U = CarriesOutSome t in
+    let bs : List Branch = branches_of c in
+    let log = old.log in
+    let later = new.log in
+    record {
+      unsent = λ off m.
+          let adds = stops_adds IsNoCommit (NotToCommit known.commit) m t c at known old new (λ k d lt. record {
+            prepares = λ here. refl;
+            obeys = λ here v w. no_commit_so known.commit (get_or bs k d).xid v w;
+          }) (votes_fit (named c) bs log later known is.unlogged A U old.entries new.entries at is.course.far off) is in
+          (adds.0, adds.1, list_any_none (λ (e : Entry). is_commit e.0.op) adds.0 adds.2);
+      uncommitted = λ off. endings_out A U (named c) bs old.entries new.entries log later known is.unlogged at is.course.far off;
+      unopposed = λ on.
+          none_against known.votes.items known.logged (decision_so (named c) bs log later known is.unlogged A U old.entries new.entries at is.course.far on).1;
+      kept = λ on m.
+          let adds = stops_adds IsNoRollback (λ v. Unit {0}) m t c at known old new (λ k d lt. record {
+            prepares = λ here. refl;
+            obeys = λ here v w. no_rollback_so known.commit (get_or bs k d).xid v (decision_so (named c) bs log later known is.unlogged A U old.entries new.entries at is.course.far on).0;
+          }) (λ k d lt. tt) is in
+          (adds.0, adds.1, list_any_none (λ (e : Entry). is_rollback e.0.op) adds.0 adds.2);
+      committed = λ on. endings_kept A U (named c) bs old.entries new.entries log later known is.unlogged at is.course.far on;
+    }
+
+pub undecided_by_record : (t : ℕ) (c : CommitAll TranName) (votes : List Code) (old new : Part) → LosesSight t c votes old new
+    → GoesByTheRecord (named c) votes [] old new
+undecided_by_record t c votes old new is = record {
+  unsent = λ off m.
+      let adds = loses_adds IsNoCommit m t c votes old new (λ k d lt here. refl) is in
+      (adds.0, adds.1, list_any_none (λ (e : Entry). is_commit e.0.op) adds.0 adds.2);
+  uncommitted = λ off. refl;
+  unopposed = λ on. none_against votes true ((λ i. (and_parts (decides_commit votes) (has_yes votes) is.wanted).0 i && or-true (not (has_yes votes)) i));
+  kept = λ on m.
+      let adds = loses_adds IsNoRollback m t c votes old new (λ k d lt here. refl) is in
+      (adds.0, adds.1, list_any_none (λ (e : Entry). is_rollback e.0.op) adds.0 adds.2);
+  committed = λ on. refl;
+}
