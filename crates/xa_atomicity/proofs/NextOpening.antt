@@ -1,7 +1,8 @@
--- A commit in an opening and a resolve in the next one, with nothing else in either.
-use Rattle.std.proofs.Common.{◌≡◌, ◌≢◌, ℕ, ◌≤◌, List, [], ◌∷◌, length, refl, arith, Some}
+-- A commit in an opening and resolves in the next one, with nothing else in either.
+use Rattle.std.proofs.Common.{◌≡◌, ◌≢◌, ℕ, ◌≤◌, List, [], ◌∷◌, ◌++◌, length, map, refl, ap, ◌∙◌, arith, None, Some}
 use Rattle.std.specs.List.{All}
-use Rattle.std.proofs.lemmas.List.Elements.{All-nil, All-cons}
+use Rattle.std.proofs.lemmas.List.{map-append}
+use Rattle.std.proofs.lemmas.List.Elements.{All-nil, All-cons, All-head, All-tail, All-map}
 use Rattle.xa_base.specs.declared.limits.TheConstants.{MOST_MANAGERS}
 use Rattle.xa_words.specs.Tran.{TranName}
 use Rattle.xa_words.specs.declared.code.Code.TheVariants.{RmFail}
@@ -16,21 +17,21 @@ use Rattle.xa_switch.specs.Settling.{Settling, IsSettled}
 use Rattle.xa_switch.specs.declared.plan.Again.{Again}
 use Rattle.xa_desk.specs.DeskView.{DeskView}
 use Rattle.xa_driver.specs.declared.branch.Branch.{Branch}
-use Rattle.xa_log.specs.Log.{LogState, record_in, record_of}
+use Rattle.xa_log.specs.Log.{LogState, Records, all_records, record_in, record_of}
 use Rattle.xa_atomicity.specs.Outcomes.{AreLeftOrDecided, sent_so_far}
 use Rattle.xa_atomicity.specs.Presumed.{AskedAreLeft, IsOfAnother, IsResolvedAfter}
 use Rattle.xa_atomicity.specs.Resolution.{CommitCall, CutCall, ResolveCall, Use, commits, cuts, resolves, AreUses, Continues, HasLeft, IsByItsThread}
-use Rattle.xa_atomicity.specs.Resolution.{IsFollowed, IsKept}
-use Rattle.xa_atomicity.specs.Resolution.{IsOutcomeOf, IsResolved, IsUseIn, OnlyResolves, with_use}
+use Rattle.xa_atomicity.specs.Resolution.{AreOfAllLogs, IsFollowed, IsKept, Opening}
+use Rattle.xa_atomicity.specs.Resolution.{IsOutcomeOf, IsResolved, IsUseIn, OnlyResolves, with_resolves, with_use}
 use Rattle.xa_driver.specs.Trace.{IsTranOf}
 use Rattle.xa_atomicity.proofs.Scanned.{begins_with, left_each, was_there}
 
 pub kept_with : (s : Settling) (u : Use) → IsSettled s → IsUseIn s u → IsKept (with_use s u)
 kept_with s u settled made = record { settled = settled; uses = All-cons (IsUseIn s) u [] made (All-nil (IsUseIn s)) }
 
-both_kept : (s next : Settling) (u v : Use) → IsSettled s → IsUseIn s u → IsSettled next → IsUseIn next v → All IsKept (with_use s u ∷ with_use next v ∷ [])
-both_kept s next u v settled made last_settled resolved =
-    All-cons IsKept (with_use s u) (with_use next v ∷ []) (kept_with s u settled made) (All-cons IsKept (with_use next v) [] (kept_with next v last_settled resolved) (All-nil IsKept))
+-- one resolve alone
+pub one_of : (P : ResolveCall → Type 0) (q : ResolveCall) → P q → All P (q ∷ [])
+one_of P q h = All-cons P q [] h (All-nil P)
 
 -- the scan that the reopening gave is of the tables that the next opening begins with
 pub scan_of : (s next : Settling) (again : Again) (z : ScanView) → IsOf (reopening s again) next → IsScanOf s z → (m : ℕ) (T : Tables)
@@ -42,25 +43,38 @@ scan_of s next again z of scanned m T first =
     let many = scanned.left.managers in
     rw (begins_with s next again m T of first) (left_each _ z scanned.left.each m low (omega (arith, high, many)))
 
--- what is the same of a commit and of one that was cut short
-module _ (s next : Settling) (again : Again) (u : Use) (bs : List Branch) (desk : DeskView) (left : LogState) (q : ResolveCall) (settled : IsSettled s)
-    (made : IsUseIn s u) (few : length desk.ledgers ≤ MOST_MANAGERS)
-    (last_settled : IsSettled next) (resolved : IsUseIn next (resolves q)) (continues : Continues s next) (of : IsOf (reopening s again) next) (scanned : IsScanOf s q.scan) where
-  abbrev next_follows : (HasLeft bs s → (t : TranName) → IsTranOf bs t → AreUses t left.records (resolves q ∷ []))
-      → ((t : TranName) → IsTranOf bs t → OnlyResolves t (with_use next (resolves q))) → All (λ r. IsOutcomeOf bs r → r.code ≢ RmFail) q.outcomes
-      → IsFollowed (with_use s u) [] (with_use next (resolves q)) u bs desk left q
+-- resolves that find what the log has of the transaction use it so
+uses_by : (t : TranName) (records : Records) (qs : List ResolveCall) → All (λ r. record_in r.records t ≡ record_in records t) qs
+    → AreUses t records (map resolves qs ++ [])
+uses_by t records [] same = tt
+uses_by t records (q ∷ qs) same =
+    (All-head (λ r. record_in r.records t ≡ record_in records t) q qs same, uses_by t records qs (All-tail (λ r. record_in r.records t ≡ record_in records t) q qs same))
+
+-- what is the same of a commit and of one that was cut short, where the next opening has these resolves
+module _ (s next : Settling) (again : Again) (u : Use) (bs : List Branch) (desk : DeskView) (left : LogState) (ps : List ResolveCall) (q : ResolveCall)
+    (rs : List ResolveCall)
+    (settled : IsSettled s) (made : IsUseIn s u) (few : length desk.ledgers ≤ MOST_MANAGERS) (last_settled : IsSettled next)
+    (resolved : All (λ r. IsUseIn next (resolves r)) (ps ++ q ∷ rs)) (continues : Continues s next) (of : IsOf (reopening s again) next) (scanned : IsScanOf s q.scan) where
+  abbrev last : Opening
+  last = with_resolves next (ps ++ q ∷ rs)
+
+  abbrev next_follows : (HasLeft bs s → (t : TranName) → IsTranOf bs t → All (λ r. record_in r.records t ≡ record_in left.records t) (ps ++ q ∷ rs))
+      → ((t : TranName) → IsTranOf bs t → OnlyResolves t last) → All (λ r. IsOutcomeOf bs r → r.code ≢ RmFail) q.outcomes
+      → IsFollowed (with_use s u) [] last u bs desk left q
   next_follows log later reached = record {
-    kept = both_kept s next u (resolves q) settled made last_settled resolved;
+    kept =
+        All-cons IsKept (with_use s u) (last ∷ []) (kept_with s u settled made)
+        (All-cons IsKept last [] (record { settled = last_settled; uses = All-map (IsUseIn next) resolves (ps ++ q ∷ rs) resolved }) (All-nil IsKept));
     in_a_row = (continues, tt);
     us = [];
     vs = [];
     use_at = refl;
-    ps = [];
-    qs = [];
-    resolve_at = refl;
+    ps = map resolves ps;
+    qs = map resolves rs;
+    resolve_at = map-append resolves ps (q ∷ rs);
     few = few;
-    log = log;
-    later = λ t tran left. All-cons (OnlyResolves t) (with_use next (resolves q)) [] (later t tran) (All-nil (OnlyResolves t));
+    log = λ is_left t tran. uses_by t left.records (ps ++ q ∷ rs) (log is_left t tran);
+    later = λ t tran _. All-cons (OnlyResolves t) last [] (later t tran) (All-nil (OnlyResolves t));
     scan = scan_of s next again q.scan of scanned;
     reached = reached;
   }
@@ -73,19 +87,28 @@ pub next_resolved : (s next : Settling) (again : Again) (c : CommitCall) (q : Re
     → ((t : TranName) → IsTranOf c.branches t → OnlyResolves t (with_use next (resolves q))) → All (λ r. IsOutcomeOf c.branches r → r.code ≢ RmFail) q.outcomes
     → IsResolved (with_use s (commits c)) [] (with_use next (resolves q)) c q
 next_resolved s next again c q settled made few own last_settled resolved continues of scanned log later reached = record {
-  followed = next_follows s next again (commits c) c.branches c.desk c.later q settled made few last_settled resolved continues of scanned (λ left t tran. (log left t tran, tt)) later reached;
+  followed =
+      next_follows s next again (commits c) c.branches c.desk c.later [] q [] settled made few last_settled (one_of (λ r. IsUseIn next (resolves r)) q resolved) continues of scanned
+      (λ left t tran. one_of (λ r. record_in r.records t ≡ record_of c.later t) q (log left t tran)) later reached;
   its_thread = All-nil (IsByItsThread c);
   own = own;
 }
 
-pub next_resolved_after : (s next : Settling) (again : Again) (k : CutCall) (q : ResolveCall)
+pub next_resolved_after : (s next : Settling) (again : Again) (k : CutCall) (ps : List ResolveCall) (q : ResolveCall) (rs : List ResolveCall)
     → IsSettled s → IsUseIn s (cuts k) → length k.desk.ledgers ≤ MOST_MANAGERS → AskedAreLeft k s
-    → IsSettled next → IsUseIn next (resolves q) → Continues s next → IsOf (reopening s again) next → IsScanOf s q.scan
-    → (HasLeft k.branches s → (t : TranName) → IsTranOf k.branches t → record_in q.records t ≡ record_of k.later t)
-    → ((t : TranName) → IsTranOf k.branches t → OnlyResolves t (with_use next (resolves q))) → All (λ r. IsOutcomeOf k.branches r → r.code ≢ RmFail) q.outcomes
-    → IsResolvedAfter (with_use s (cuts k)) [] (with_use next (resolves q)) k q
-next_resolved_after s next again k q settled made few own last_settled resolved continues of scanned log later reached = record {
-  followed = next_follows s next again (cuts k) k.branches k.desk k.later q settled made few last_settled resolved continues of scanned (λ left t tran. (log left t tran, tt)) later reached;
+    → IsSettled next → All (λ r. IsUseIn next (resolves r)) (ps ++ q ∷ rs) → Continues s next → IsOf (reopening s again) next → IsScanOf s q.scan
+    → (HasLeft k.branches s → (t : TranName) → IsTranOf k.branches t → All (λ r. record_in r.records t ≡ record_of k.later t) (ps ++ q ∷ rs))
+    → ((t : TranName) → IsTranOf k.branches t → OnlyResolves t (with_resolves next (ps ++ q ∷ rs)))
+    → All (λ r. IsOutcomeOf k.branches r → r.code ≢ RmFail) q.outcomes
+    → IsResolvedAfter (with_use s (cuts k)) [] (with_resolves next (ps ++ q ∷ rs)) k q
+next_resolved_after s next again k ps q rs settled made few own last_settled resolved continues of scanned log later reached = record {
+  followed = next_follows s next again (cuts k) k.branches k.desk k.later ps q rs settled made few last_settled resolved continues of scanned log later reached;
   alone = λ t tran. All-nil (IsOfAnother t);
   own = own;
 }
+
+-- several logs have of the transaction what its own has, where no other has a record of it
+pub found_in_all : (own_log : (before after : List Records) (own : Records) (t : TranName) → All (λ log. record_in log t ≡ None) (before ++ after)
+    → record_in (all_records (before ++ own ∷ after)) t ≡ record_in own t) → (t : TranName) (own records : Records) → AreOfAllLogs t own records
+    → record_in records t ≡ record_in own t
+found_in_all own_log t own records are = ap (λ log. record_in log t) are.all ∙ own_log are.before are.after own t are.alone

@@ -1,7 +1,7 @@
 -- One outcome for each global transaction, over openings one after another: what was left in doubt is resolved by the
 -- log.
 use Rattle.std.specs.Prelude.{◌≡◌, ◌≢◌, ◌⊎◌, ℕ, ◌≤◌, Bool, true, false, if◌then◌else◌, Option, None, Some, List, []}
-use Rattle.std.specs.Prelude.{◌∷◌, ◌++◌, length}
+use Rattle.std.specs.Prelude.{◌∷◌, ◌++◌, length, map}
 use Rattle.std.specs.List.{All, Contains, flat_map}
 use Rattle.xa_base.specs.declared.limits.TheConstants.{MOST_MANAGERS}
 use Rattle.xa_words.specs.Xid.{XidName}
@@ -31,7 +31,7 @@ use Rattle.xa_driver.specs.declared.done.Ending.{Ending}
 use Rattle.xa_driver.specs.declared.resolved.Outcome.{Outcome}
 use Rattle.xa_atomicity.specs.Cut.{IsCut}
 use Rattle.xa_driver.specs.Decision.{is_yes}
-use Rattle.xa_log.specs.Log.{LogState, Records, record_in, record_of}
+use Rattle.xa_log.specs.Log.{LogState, Records, all_records, record_in, record_of}
 use Rattle.xa_driver.specs.Trace.{IsCommit, IsTranOf}
 use Rattle.xa_atomicity.specs.Outcomes.{AreLeftOrDecided, EachOutcome, IsBetween, WasAtFirst, has_committed}
 use Rattle.xa_atomicity.specs.Outcomes.{sent_so_far}
@@ -168,6 +168,18 @@ uses_of os = flat_map (λ o. o.uses) os
 -- an opening with one use of the log
 abbrev pub with_use : Settling → Use → Opening
 with_use s u = record { settled = s; uses = u ∷ [] }
+
+-- an opening with these resolves, one for a thread, say
+abbrev pub with_resolves : Settling → List ResolveCall → Opening
+with_resolves s qs = record { settled = s; uses = map resolves qs }
+
+-- The records are those of several logs, read as one: one has these of its own, and no other has a record of the
+-- transaction.
+pub record AreOfAllLogs (t : TranName) (own : Records) (records : Records) : Type 0 where
+  pub before : List Records
+  pub after : List Records
+  pub all : records ≡ all_records (before ++ own ∷ after)
+  pub alone : All (λ log. record_in log t ≡ None) (before ++ after)
 
 -- ---- what may name a branch
 

@@ -21,7 +21,7 @@ pub use crate::fates::{
     finished_outcomes_leave_no_branch, outcomes_are_fates, transfers_conserve_the_worth,
 };
 pub use crate::resolved::{
-    commit_resolved_in_the_next_opening, next_openings_resolve,
+    commit_resolved_in_the_next_opening, next_openings_resolve, next_openings_resolve_by_all_logs,
     presumed_transactions_count_by_the_log, presumed_transactions_have_one_outcome,
     resolved_transactions_count_where_committed, resolved_transactions_have_one_outcome,
 };

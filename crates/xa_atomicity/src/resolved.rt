@@ -15,8 +15,9 @@ ghost use Rattle.xa_atomicity.specs.Outcomes.{AreLeftOrDecided};
 ghost use Rattle.xa_atomicity.specs.Outcomes.{sent_so_far};
 ghost use Rattle.xa_atomicity.specs.Presumed.{AskedAreLeft, CountsByTheLog, EndsByTheLog, IsResolvedAfter};
 ghost use Rattle.xa_atomicity.specs.Resolution.{CommitCall, CutCall, ResolveCall, Opening, IsResolved, IsAllOrNone};
-ghost use Rattle.xa_atomicity.specs.Resolution.{IsUseIn, IsOutcomeOf, OnlyResolves, Continues, HasLeft};
-ghost use Rattle.xa_atomicity.specs.Resolution.{commit_call, commits, cuts, resolve_call, resolves, with_use};
+ghost use Rattle.xa_atomicity.specs.Resolution.{IsUseIn, IsOutcomeOf, OnlyResolves, Continues, HasLeft, AreOfAllLogs};
+ghost use Rattle.xa_atomicity.specs.Resolution.{commit_call, commits, cuts, resolve_call, resolves, with_resolves};
+ghost use Rattle.xa_atomicity.specs.Resolution.{with_use};
 ghost use Rattle.xa_driver.specs.Resolving.{IsTraceOfResolve};
 ghost use Rattle.xa_switch.specs.Again.{reopening};
 ghost use Rattle.xa_switch.specs.OfPlans.{IsOf};
@@ -30,6 +31,7 @@ use crate::tables_keep_to_their_laws;
 use std::snapshot::Snapshot;
 use xa_desk::Desk;
 use xa_driver::{Branch, Done, Resolved};
+use xa_log::laws::several_logs_are_read_as_one;
 use xa_log::{DecisionLog, DecisionRecords};
 use xa_switch::laws::settled_journals_follow_the_tables;
 use xa_switch::{Again, Scan, Settled};
@@ -107,6 +109,23 @@ pub fn next_openings_resolve()
         → All (λ r. IsOutcomeOf k.branches r → r.code ≢ RmFail) q.outcomes
         → IsResolvedAfter (with_use s (cuts k)) [] (with_use next (resolves q)) k q }
 {}
+
+/// The same where several threads of the next opening resolve, in whatever order, each by the logs of all coordinators:
+/// where no other log has a record of the transaction, any of the resolves that reached the branches ends them as the
+/// commit's own log says, and none takes back what another log has recorded.
+pub fn next_openings_resolve_by_all_logs()
+    ensures { (s next : Settling) (again : Again) (k : CutCall) (ps : List ResolveCall) (q : ResolveCall)
+        (rs : List ResolveCall) → IsSettled s → IsUseIn s (cuts k) → length k.desk.ledgers ≤ MOST_MANAGERS
+        → AskedAreLeft k s → IsSettled next → All (λ r. IsUseIn next (resolves r)) (ps ++ q ∷ rs) → Continues s next
+        → IsOf (reopening s again) next → IsScanOf s q.scan
+        → (HasLeft k.branches s → (t : TranName) → IsTranOf k.branches t
+        → All (λ r. AreOfAllLogs t k.later.records r.records) (ps ++ q ∷ rs))
+        → ((t : TranName) → IsTranOf k.branches t → OnlyResolves t (with_resolves next (ps ++ q ∷ rs)))
+        → All (λ r. IsOutcomeOf k.branches r → r.code ≢ RmFail) q.outcomes
+        → IsResolvedAfter (with_use s (cuts k)) [] (with_resolves next (ps ++ q ∷ rs)) k q }
+{
+    several_logs_are_read_as_one();
+}
 
 /// A commit that is resolved in the next opening, for a caller that kept both settled openings, its desks and its logs
 /// as they were: all or none of its branches ended as was decided, and the values have all of its additions or none.

@@ -31,7 +31,7 @@ use Rattle.xa_switch.specs.Closing.{thread_part}
 use Rattle.xa_switch.specs.Fates.{IsOpenedWith, ledgers_of}
 use Rattle.xa_switch.specs.OfPlans.{IsOfPlan}
 use Rattle.xa_switch.specs.OpenedPieces.{IsNewDesk}
-use Rattle.xa_switch.specs.Plans.{IsSoundManager, planned, use_async}
+use Rattle.xa_switch.specs.Plans.{IsSound, IsSoundManager, planned, use_async}
 use Rattle.xa_switch.specs.Settling.{Settling, ThreadPart, IsSettled, find_thread, ledgers_in, sent}
 use Rattle.xa_switch.specs.Worth.{accounts_of, plan_worth, settled_worth, threads_of}
 use Rattle.xa_driver.specs.declared.branch.Branch.{Branch}
@@ -93,7 +93,7 @@ goes_thread : (old new : DeskView) → GoesOn old new → new.thread ≡ old.thr
 goes_thread old new goes = ap (λ (q : DeskSeat). q.thread) goes.seat
 
 module _ {L : Type 0} (state : L → LogState) (knows : L → Type 0) (p : Plan) (tellers : List (Teller L)) (attended : List (Attended (Teller L))) (s : Settling)
-    (r : IsRun (Works state knows) p tellers attended s)
+    (r : IsRun (Works state knows) (planned p) tellers attended s) (sound : IsSound p)
     (whole : All EndsWhole attended) where
   many : length r.members ≡ p.threads
   many = sym (length-map r.members (λ (t : Member (Teller L)). t.desk)) ∙ r.opened.threads
@@ -156,7 +156,7 @@ module _ {L : Type 0} (state : L → LogState) (knows : L → Type 0) (p : Plan)
       }
 
   few : p.threads < 2 ^ 32
-  few = let most = r.sound.limits.threads.1 in omega (arith, most)
+  few = let most = sound.limits.threads.1 in omega (arith, most)
 
   -- what a teller of the day made
   made_by : (t : ℕ) (z : Known state knows p s t)
@@ -198,11 +198,11 @@ module _ {L : Type 0} (state : L → LogState) (knows : L → Type 0) (p : Plan)
       → settled_worth p s ≡ plan_worth p
   day_law conserves undoubted adds opens =
       let all : settled_worth p s +ℤ total (λ (t : ℕ). pos 0) (threads_of p) ≡ plan_worth p =
-      conserves p s (λ t. pos 0) r.agrees r.of_plan r.sound.accounts (λ t positive below.
+      conserves p s (λ t. pos 0) r.agrees r.of_setup sound.accounts (λ t positive below.
       let z = known t positive below in
       let made = made_by t z in
       let bound = few in
-      only_transfers adds undoubted p s r.agrees (λ m up to. opens p s m r.agrees r.of_plan up to) told t (omega (arith, below, bound)) z.managers
+      only_transfers adds undoubted p s r.agrees (λ m up to. opens p s m r.agrees r.of_setup up to) told t (omega (arith, below, bound)) z.managers
       z.member.client.transfers.items z.member.client.habits made.more z.member.desk z.left (state z.member.client.log) (state z.member.attended.client.log) z.desk_thread z.nothing made.makes (fine_of t z) z.end) in
       let nothing = total_nothing (threads_of p) in
       drop_nothing (settled_worth p s) (total (λ (t : ℕ). pos 0) (threads_of p)) (plan_worth p) all nothing

@@ -1,6 +1,6 @@
 //! A day of the bank: its tellers at work, and what is settled in the end.
 ghost use Rattle.std.specs.Prelude.{◌≡◌, length, All, IfErr, IfOk};
-ghost use Rattle.xa_switch.specs.Plans.{IsSound};
+ghost use Rattle.xa_switch.specs.Plans.{IsSound, planned};
 ghost use Rattle.xa_switch.specs.Worth.{plan_worth, settled_worth};
 ghost use Rattle.xa_crew.specs.Run.{HasRunAll, IsRun, PutsBack};
 ghost use Rattle.xa_bank.specs.Tellers.{EndsWhole, Works};
@@ -37,12 +37,12 @@ pub fn run_day<R: Threads + Wait + Copy + Send + 'static, L: DecisionLog + Drop 
     tellers: Vec<Teller<L>>,
 ) -> Result<Day<L>, CrewFault<Teller<L>>>
     requires { length tellers.items ≡ plan.now.threads }
-    ensures ran { IfOk result (λ day. IsRun (Works L.state L.knows) plan.now tellers.items day.clients.items
-        day.settled) }
+    ensures ran { IfOk result (λ day. IsRun (Works L.state L.knows) (planned plan.now) tellers.items
+        day.clients.items day.settled) }
     ensures conserved { IfOk result (λ day. All EndsWhole day.clients.items
         → settled_worth plan.now day.settled ≡ plan_worth plan.now) }
     ensures bad { IfErr result (λ f. f ≡ CrewFault.BadPlan → ¬ IsSound plan.now) }
-    ensures unsettled { IfErr result (PutsBack (HasRunAll (Works L.state L.knows) plan.now tellers.items)) }
+    ensures unsettled { IfErr result (PutsBack (HasRunAll (Works L.state L.knows) (planned plan.now) tellers.items)) }
 {
     transfers_conserve_the_worth();
     managers_open_with_their_accounts();

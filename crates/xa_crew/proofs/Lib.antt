@@ -1,5 +1,5 @@
-pub mod Joined
 pub mod Kept
 pub mod Settled
 pub mod Members
+pub mod Threads
 pub mod WorkersOn

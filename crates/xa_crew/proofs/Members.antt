@@ -4,8 +4,7 @@ use Rattle.std.specs.Prelude.{All}
 use Rattle.xa_desk.specs.DeskView.{DeskView}
 use Rattle.xa_desk.specs.GoesOn.{GoesOn}
 use Rattle.xa_desk.specs.Ended.{EndedView}
-use Rattle.xa_switch.specs.declared.plan.Plan.{Plan}
-use Rattle.xa_switch.specs.Plans.{IsSound, planned}
+use Rattle.xa_switch.specs.Plans.{IsWithinLimits, Setup}
 use Rattle.xa_switch.specs.OpenedPieces.{AreOfOneOpening}
 use Rattle.xa_worker.specs.Workers.{WorkerView}
 use Rattle.xa_worker.specs.Done.{Served}
@@ -15,7 +14,9 @@ use Rattle.xa_crew.specs.declared.client_job.Worked.{Worked}
 use Rattle.xa_crew.specs.declared.run.Ran.{Ran}
 use Rattle.xa_base.specs.Lists.{Pairwise}
 use Rattle.xa_crew.specs.Pieces.{HasGone, HasServed, ArePiecesOf}
-use Rattle.xa_crew.specs.Run.{Member, member_of, HasRun, HaveRun, HasRunAll, HasWorked}
+use Rattle.xa_crew.specs.declared.opened.Opened.{Opened}
+use Rattle.xa_crew.specs.Opened.{HasRoomFor, IsOpened, clients_of}
+use Rattle.xa_crew.specs.Run.{IsReady, Member, member_of, HasRun, HaveRun, HasRunAll, HasWorked}
 use Rattle.xa_base.proofs.Lists.{some_same, all_at, tail_side, side_of, side_to}
 
 abbrev pub members : {C : Type 0} → List (ClientJob C) → List (Worked C) → List (Member C)
@@ -59,33 +60,44 @@ module _ {C : Type 0} (works : C → DeskView → C → DeskView → Type 0) whe
       }))
 
   -- what all threads of a run have come to are all pieces of the opening
-  pub run_pieces : ((old mid new : DeskView) → GoesOn old mid → GoesOn mid new → GoesOn old new) → (p : Plan) (cs : List C) (r : Ran C) → HasRunAll works p cs r
-      → ArePiecesOf (planned p) r.desks.items r.workers.items
+  pub run_pieces : ((old mid new : DeskView) → GoesOn old mid → GoesOn mid new → GoesOn old new) → (p : Setup) (cs : List C) (r : Ran C)
+      → HasRunAll works p cs r
+      → ArePiecesOf p r.desks.items r.workers.items
   run_pieces further p cs r all = record {
     desks = map (λ t. t.desk) all.members;
     workers = all.workers;
-    limits = all.sound.limits;
+    limits = all.limits;
     opened = all.opened;
     gone = subst (λ (es : List EndedView). Pairwise HasGone (map (λ (t : Member C). t.desk) all.members) es) (sym all.desks_are) (members_gone further all.members all.ran);
     served = all.served;
   }
 
-  -- where each client has worked, and each worker has run, all have
-  pub all_have_run : {p : Plan} {desks : List DeskView} {workers : List WorkerView} {clients : List C} {given : List (ClientJob C)} {worked : List (Worked C)}
-      {attended : List (Attended C)} {ended : List EndedView} {done : List Served}
-      → IsSound p → AreOfOneOpening (planned p) desks workers → map (λ a. a.client) given ≡ clients → map (λ a. a.desk) given ≡ desks
-      → Pairwise (HasWorked works) given worked → attended ≡ map (λ w. w.attended) worked → ended ≡ map (λ w. w.desk) worked
-      → Pairwise HasServed workers done → HaveRun works p clients attended ended done
-  all_have_run {p = p} {workers = workers} {given = given} {worked = worked} sound opened own own_desks ran attended ended served = record {
-    members = members given worked;
-    workers = workers;
-    sound = sound;
+  -- where each client of an opening has worked, and each worker has run, all have
+  pub all_have_run : {p : Setup} (o : Opened C) {worked : List (Worked C)} {attended : List (Attended C)} {ended : List EndedView} {done : List Served}
+      → IsOpened p o → Pairwise (HasWorked works) o.jobs.items worked → attended ≡ map (λ w. w.attended) worked → ended ≡ map (λ w. w.desk) worked
+      → Pairwise HasServed o.workers.items done → HaveRun works p (clients_of o) attended ended done
+  all_have_run {p} o {worked = worked} is ran attended ended served = record {
+    members = members o.jobs.items worked;
+    workers = o.workers.items;
+    limits = is.limits;
     opened =
-        subst (λ (ds : List DeskView). AreOfOneOpening (planned p) ds workers)
-        (sym own_desks ∙ sym (read_given (λ t. t.desk) (λ a. a.desk) (λ a w. refl) given worked ran.as_many)) opened;
-    clients_are = sym own ∙ sym (read_given (λ t. t.client) (λ a. a.client) (λ a w. refl) given worked ran.as_many);
-    ran = all_ran given worked ran;
-    attended_are = attended ∙ sym (read_come (λ t. t.attended) (λ w. w.attended) (λ a w. refl) given worked ran.as_many);
-    desks_are = ended ∙ sym (read_come (λ t. t.ended) (λ w. w.desk) (λ a w. refl) given worked ran.as_many);
+        subst (λ (ds : List DeskView). AreOfOneOpening p ds o.workers.items)
+        (sym (read_given (λ t. t.desk) (λ a. a.desk) (λ a w. refl) o.jobs.items worked ran.as_many)) is.opened;
+    clients_are = sym (read_given (λ t. t.client) (λ a. a.client) (λ a w. refl) o.jobs.items worked ran.as_many);
+    ran = all_ran o.jobs.items worked ran;
+    attended_are = attended ∙ sym (read_come (λ t. t.attended) (λ w. w.attended) (λ a w. refl) o.jobs.items worked ran.as_many);
+    desks_are = ended ∙ sym (read_come (λ t. t.ended) (λ w. w.desk) (λ a w. refl) o.jobs.items worked ran.as_many);
     served = served;
   }
+
+-- an opening with the same clients, desks and workers is opened so too
+pub still_opened : {C : Type 0} (p : Setup) (old new : Opened C) → new.jobs.items ≡ old.jobs.items → new.workers.items ≡ old.workers.items → new.room ≡ old.room
+    → IsOpened p old → IsOpened p new
+still_opened {C} p old new jobs workers room is = record {
+  limits = is.limits;
+  opened =
+      subst (λ (ws : List WorkerView). AreOfOneOpening p (map (λ a. a.desk) new.jobs.items) ws) (sym workers)
+      (subst (λ (js : List (ClientJob C)). AreOfOneOpening p (map (λ a. a.desk) js) old.workers.items) (sym jobs) is.opened);
+  ready = subst (λ (js : List (ClientJob C)). All IsReady js) (sym jobs) is.ready;
+  room = subst (HasRoomFor (length new.jobs.items)) (sym room) (subst (λ (js : List (ClientJob C)). HasRoomFor (length js) old.room) (sym jobs) is.room);
+}

@@ -1,5 +1,7 @@
 -- A run of clients, in threads or in turns: what each client and its desk come to, and what is settled.
-use Rattle.std.specs.Prelude.{◌≡◌, ◌≤◌, List, [], map, vec_capacity}
+use Rattle.std.specs.Prelude.{◌≡◌, ℕ, ◌≤◌, List, [], map, Vec, vec_capacity}
+use Rattle.std.specs.Global.{Global}
+use Rattle.xa_words.specs.declared.code.Code.{Code}
 use Rattle.std.specs.List.{All}
 use Rattle.xa_base.specs.declared.limits.TheConstants.{MOST_HANDLES}
 use Rattle.xa_desk.specs.DeskView.{DeskView}
@@ -7,14 +9,13 @@ use Rattle.xa_desk.specs.Ended.{EndedView}
 use Rattle.xa_desk.specs.GoesOn.{GoesOn}
 use Rattle.xa_worker.specs.Workers.{WorkerView}
 use Rattle.xa_worker.specs.Done.{Served}
-use Rattle.xa_switch.specs.declared.plan.Plan.{Plan}
 use Rattle.xa_switch.specs.declared.plan.OpenFault.{OpenFault}
 use Rattle.xa_switch.specs.declared.plan.OpenFault.TheVariants as open_
-use Rattle.xa_switch.specs.Plans.{IsSound, planned}
+use Rattle.xa_switch.specs.Plans.{Setup, IsWithinLimits}
 use Rattle.xa_switch.specs.OpenedPieces.{AreOfOneOpening}
 use Rattle.xa_switch.specs.Settling.{Settling, IsSettled}
 use Rattle.xa_switch.specs.Closing.{settling}
-use Rattle.xa_switch.specs.OfPlans.{IsOfPlan}
+use Rattle.xa_switch.specs.OfPlans.{IsOf}
 use Rattle.xa_crew.specs.declared.fault.CrewFault.{CrewFault}
 use Rattle.xa_crew.specs.declared.fault.CrewFault.TheVariants as crew
 use Rattle.xa_crew.specs.declared.client_job.ClientJob.{ClientJob}
@@ -48,11 +49,15 @@ pub record HasRun {C : Type 0} (works : C → DeskView → C → DeskView → Ty
   pub goes_on : GoesOn t.desk left
   pub ends : EndsDesk left [] t.ended t.attended.outstanding.items
 
--- What is outstanding at the desk is kept, and there is room to tell what may be outstanding at the end.
+-- Nothing is told there, and there is room to tell what may be outstanding at a desk.
+pub record CanTell (told : Vec (ℕ × Code) Global) : Type 0 where
+  pub none : told.items ≡ []
+  pub room : MOST_HANDLES ≤ vec_capacity told
+
+-- What is outstanding at the desk is kept, and what may be outstanding at the end can be told.
 pub record IsReady {C : Type 0} (a : ClientJob C) : Type 0 where
   pub kept : AllKept a.desk
-  pub none : a.outstanding.items ≡ []
-  pub room : MOST_HANDLES ≤ vec_capacity a.outstanding
+  pub tell : CanTell a.outstanding
 
 -- A client's thread as a member, by what it was given and what it came to.
 abbrev pub member_of : {C : Type 0} → ClientJob C → Worked C → Member C
@@ -64,15 +69,15 @@ HasWorked works a w = HasRun works (member_of a w)
 
 -- ---- the whole run
 
--- What the threads of a run of these clients come to: these clients, desks and workers. The plan was opened, and each
--- client worked with the desk at its own place; and each worker of that opening ran to the last end mark.
-pub record HaveRun {C : Type 0} (works : C → DeskView → C → DeskView → Type 0) (p : Plan) (clients : List C)
+-- What the threads of a run of these clients come to: these clients, desks and workers. An opening was made with this,
+-- and each client worked with the desk at its own place; and each worker of that opening ran to the last end mark.
+pub record HaveRun {C : Type 0} (works : C → DeskView → C → DeskView → Type 0) (p : Setup) (clients : List C)
     (attended : List (Attended C)) (desks : List EndedView) (done : List Served) : Type 0 where
-  -- the threads and the workers of one opening of the plan
+  -- the threads and the workers of one opening
   pub members : List (Member C)
   pub workers : List WorkerView
-  pub sound : IsSound p
-  pub opened : AreOfOneOpening (planned p) (map (λ t. t.desk) members) workers
+  pub limits : IsWithinLimits p.numbers p.managers
+  pub opened : AreOfOneOpening p (map (λ t. t.desk) members) workers
   -- each thread has the client at its place, and ran with it
   pub clients_are : clients ≡ map (λ t. t.client) members
   pub ran : All (HasRun works) members
@@ -82,7 +87,7 @@ pub record HaveRun {C : Type 0} (works : C → DeskView → C → DeskView → T
   pub served : Pairwise HasServed workers done
 
 -- All threads of a run of these clients have come to this, which isn't settled yet.
-abbrev pub HasRunAll : {C : Type 0} → (C → DeskView → C → DeskView → Type 0) → Plan → List C → Ran C → Type 0
+abbrev pub HasRunAll : {C : Type 0} → (C → DeskView → C → DeskView → Type 0) → Setup → List C → Ran C → Type 0
 HasRunAll works p clients r = HaveRun works p clients r.clients.items r.desks.items r.workers.items
 
 -- What a fault gives back of what was run, if it does, is this.
@@ -93,7 +98,7 @@ PutsBack P (crew.Unsettled ran) = P ran
 
 -- What a run of these clients comes to: its threads have run, and the opening is settled with what all of them came to,
 -- so that what was sent, carried out and collected agree.
-pub record IsRun {C : Type 0} (works : C → DeskView → C → DeskView → Type 0) (p : Plan) (clients : List C)
+pub record IsRun {C : Type 0} (works : C → DeskView → C → DeskView → Type 0) (p : Setup) (clients : List C)
     (attended : List (Attended C)) (settled : Settling) : Type 0 where
   pub desks : List EndedView
   pub done : List Served
@@ -102,4 +107,4 @@ pub record IsRun {C : Type 0} (works : C → DeskView → C → DeskView → Typ
   -- just these are settled
   pub settles : settled ≡ settling (map (λ t. t.ended) members) done
   pub agrees : IsSettled settled
-  pub of_plan : IsOfPlan p settled
+  pub of_setup : IsOf p settled

@@ -1,17 +1,15 @@
 //! A client at work, in a thread of its own or in one for all.
-ghost use Rattle.std.specs.Prelude.{◌≡◌, ◌≤◌, [], length, map, vec_capacity, All, IfOk};
+ghost use Rattle.std.specs.Prelude.{◌≡◌, ◌≤◌, [], length, map, vec_capacity, All};
 ghost use Rattle.xa_base.specs.Lists.{Pairwise};
 ghost use Rattle.xa_desk.specs.Kept.{AllKept};
-ghost use Rattle.xa_crew.specs.Run.{HasWorked, IsReady};
+ghost use Rattle.xa_crew.specs.Run.{CanTell, HasWorked, IsReady};
 
 use crate::client::Client;
 use crate::ending::end_desk;
 use crate::job::Job;
 use crate::laws::idles_go_on;
 use crate::word::Go;
-use std::alloc::{AllocError, Global};
 use std::sync::Wait;
-use xa_base::MOST_HANDLES;
 use xa_desk::{Desk, EndedDesk, Idle, Spin};
 use xa_words::Code;
 
@@ -95,43 +93,34 @@ pub(crate) fn attend_all<R: Wait, C: Client, I: Idle>(
     done
 }
 
-// The client with the desk. It has all memory that the end of the desk takes.
-fn client_job_of<C: Client>(
-    alloc: Global,
-    client: C,
-    desk: Desk,
-) -> Result<ClientJob<C>, AllocError>
-    requires { AllKept desk }
-    ensures client { IfOk result (λ a. a.client ≡ client) }
-    ensures desk { IfOk result (λ a. a.desk ≡ desk) }
-    ensures ready { IfOk result IsReady }
-{
-    Ok(ClientJob {
-        client,
-        desk,
-        outstanding: Vec::with_capacity(alloc, MOST_HANDLES)?,
-    })
-}
-
-/// Each client with the desk at its place.
+/// Each client with the desk at its place, and with room to tell what will be outstanding.
 pub(crate) fn client_jobs_of<C: Client>(
-    alloc: Global,
     clients: Vec<C>,
     desks: Vec<Desk>,
-) -> Result<Vec<ClientJob<C>>, AllocError>
+    outstanding: Vec<Vec<(u32, Code)>>,
+    mut jobs: Vec<ClientJob<C>>,
+) -> Vec<ClientJob<C>>
     requires as_many { length desks.items ≡ length clients.items }
     requires kept { All AllKept desks.items }
-    ensures clients { IfOk result (λ v. map (λ a. a.client) v.items ≡ clients.items) }
-    ensures desks { IfOk result (λ v. map (λ a. a.desk) v.items ≡ desks.items) }
-    ensures ready { IfOk result (λ v. All IsReady v.items) }
+    requires as_many_rooms { length outstanding.items ≡ length clients.items }
+    requires rooms { All CanTell outstanding.items }
+    requires none { jobs.items ≡ [] }
+    requires room { length clients.items ≤ vec_capacity jobs }
+    ensures clients { map (λ a. a.client) result.items ≡ clients.items }
+    ensures desks { map (λ a. a.desk) result.items ≡ desks.items }
+    ensures ready { All IsReady result.items }
 {
-    let mut client_jobs = Vec::new(alloc);
     let mut desks = desks.into_iter();
+    let mut rooms = outstanding.into_iter();
     for client in clients {
-        let Some(desk) = desks.next() else {
+        let (Some(desk), Some(outstanding)) = (desks.next(), rooms.next()) else {
             unreachable!()
         };
-        client_jobs.push(client_job_of(alloc, client, desk)?)?;
+        jobs.push_reserved(ClientJob {
+            client,
+            desk,
+            outstanding,
+        });
     }
-    Ok(client_jobs)
+    jobs
 }

@@ -1,24 +1,20 @@
 //! A run of clients in threads.
-ghost use Rattle.std.specs.Prelude.{◌≡◌, ◌≢◌, ◌≤◌, ◌↔◌, [], List, length, map, vec_capacity, IfOk, IfErr};
-ghost use Rattle.xa_switch.specs.OpenedPieces.{AreOfOneOpening};
-ghost use Rattle.xa_switch.specs.Plans.{IsSound, planned};
-ghost use Rattle.xa_switch.specs.declared.plan.Plan.{Plan};
+ghost use Rattle.std.specs.Prelude.{◌≡◌, ◌≤◌, ◌↔◌, [], List, length, map, vec_capacity, IfOk, IfErr, OnOk};
+ghost use Rattle.xa_switch.specs.Plans.{IsSound, Setup, planned};
 ghost use Rattle.xa_crew.specs.Run.{HasRunAll, IsRun, PutsBack};
 
 use crate::client::Client;
-use crate::client_job::{Attended, Worked, client_jobs_of};
+use crate::client_job::{Attended, Worked};
 use crate::fault::CrewFault;
-use crate::hands::do_all;
+use crate::opened::{RunFault, open_clients};
 use crate::settling::settle_pieces;
-use crate::worker_job::worker_jobs_of;
-use std::alloc::{AllocError, Global};
+use std::alloc::Global;
 use std::sync::Wait;
 use std::thread::Threads;
+use xa_desk::EndedDesk;
 use xa_desk::laws::desks_go_on;
-use xa_desk::{Desk, EndedDesk};
-use xa_switch::laws::outstanding_operations_stay_kept;
-use xa_switch::{Plan, Settled, open_switch};
-use xa_worker::{DoneWorker, Pace, Worker};
+use xa_switch::{Plan, Settled};
+use xa_worker::{DoneWorker, Pace};
 
 /// What a run came to.
 #[derive(Drop)]
@@ -62,57 +58,25 @@ pub fn run_clients<
 ) -> Result<Run<C>, CrewFault<C>>
     requires clients { length clients.items ≡ plan.now.threads }
     requires paces { length plan.now.managers.items ≤ length paces.items }
-    ensures ran { IfOk result (λ r. IsRun C.works plan.now clients.items r.clients.items r.settled) }
+    ensures ran { IfOk result (λ r. IsRun C.works (planned plan.now) clients.items r.clients.items r.settled) }
+    ensures sound { OnOk result (IsSound plan.now) }
     ensures bad { IfErr result (λ f. f ≡ CrewFault.BadPlan ↔ ¬ IsSound plan.now) }
-    ensures unsettled { IfErr result (PutsBack (HasRunAll C.works plan.now clients.items)) }
+    ensures unsettled { IfErr result (PutsBack (HasRunAll C.works (planned plan.now) clients.items)) }
 {
-    let (desks, workers) = open_switch(rt, alloc, plan)?;
-    let ran = run_all(rt, alloc, plan, desks, workers, clients, paces)?;
-    settle_or_keep(rt, alloc, ran)
-}
-
-// Runs the clients with the desks of one opening of the plan, and the workers of that opening, and all have come to
-// their ends; or none was run, for want of memory or of a thread. All memory but that of the settling is taken before
-// any thread is started.
-fn run_all<
-    R: Threads + Wait + Copy + Send + 'static,
-    C: Client + Send + 'static,
-    P: Pace + Drop + Send + 'static,
->(
-    rt: &R,
-    alloc: Global,
-    plan: &Plan,
-    desks: Vec<Desk>,
-    workers: Vec<Worker>,
-    clients: Vec<C>,
-    paces: Vec<P>,
-) -> Result<Ran<C>, AllocError>
-    requires sound { IsSound plan.now }
-    requires opened { AreOfOneOpening (planned plan.now) desks.items workers.items }
-    requires clients { length clients.items ≡ plan.now.threads }
-    requires paces { length plan.now.managers.items ≤ length paces.items }
-    ensures { IfOk result (HasRunAll C.works plan.now clients.items) }
-{
-    outstanding_operations_stay_kept();
-    let attended = Vec::with_capacity(alloc, clients.len())?;
-    let ended = Vec::with_capacity(alloc, clients.len())?;
-    let client_jobs = client_jobs_of(alloc, clients, desks)?;
-    let worker_jobs = worker_jobs_of(alloc, workers, paces)?;
-    let (worked, workers) = do_all(rt, alloc, client_jobs, worker_jobs)?;
-    let (clients, desks) = apart(worked, attended, ended);
-    Ok(Ran {
-        clients,
-        desks,
-        workers,
-    })
+    let opened = open_clients(rt, alloc, plan, clients)?;
+    match opened.run(rt, alloc, paces) {
+        Ok(run) => Ok(run),
+        Err(RunFault::Unstarted(_)) => Err(CrewFault::NoMemory),
+        Err(RunFault::Unsettled(ran)) => Err(CrewFault::Unsettled(ran)),
+    }
 }
 
 /// Settles what all threads of a run have come to. It fails only for want of memory, and then all of that comes back.
 pub fn settle_run<R: Wait, C: Client>(rt: &R, alloc: Global, ran: Ran<C>) -> Result<Run<C>, Ran<C>>
-    requires { (p : Plan) × (cs : List C) × HasRunAll C.works p cs ran }
-    ensures run { IfOk result (λ r. (p : Plan) → (cs : List C) → HasRunAll C.works p cs ran
+    requires { (p : Setup) × (cs : List C) × HasRunAll C.works p cs ran }
+    ensures run { IfOk result (λ r. (p : Setup) → (cs : List C) → HasRunAll C.works p cs ran
         → IsRun C.works p cs r.clients.items r.settled) }
-    ensures back { IfErr result (λ r. (p : Plan) → (cs : List C) → HasRunAll C.works p cs ran
+    ensures back { IfErr result (λ r. (p : Setup) → (cs : List C) → HasRunAll C.works p cs ran
         → HasRunAll C.works p cs r) }
     ensures clients { IfErr result (λ r. r.clients ≡ ran.clients) }
 {
@@ -129,25 +93,6 @@ pub fn settle_run<R: Wait, C: Client>(rt: &R, alloc: Global, ran: Ran<C>) -> Res
             desks,
             workers,
         }),
-    }
-}
-
-/// Settles it, or else keeps it in the fault.
-pub(crate) fn settle_or_keep<R: Wait, C: Client>(
-    rt: &R,
-    alloc: Global,
-    ran: Ran<C>,
-) -> Result<Run<C>, CrewFault<C>>
-    requires { (p : Plan) × (cs : List C) × HasRunAll C.works p cs ran }
-    ensures run { (p : Plan) → (cs : List C) → HasRunAll C.works p cs ran
-        → IfOk result (λ r. IsRun C.works p cs r.clients.items r.settled) }
-    ensures opens { IfErr result (λ f. f ≢ CrewFault.BadPlan) }
-    ensures unsettled { (p : Plan) → (cs : List C) → HasRunAll C.works p cs ran
-        → IfErr result (PutsBack (HasRunAll C.works p cs)) }
-{
-    match settle_run(rt, alloc, ran) {
-        Ok(run) => Ok(run),
-        Err(ran) => Err(CrewFault::Unsettled(ran)),
     }
 }
 

@@ -1,9 +1,8 @@
 //! A worker's thread.
-ghost use Rattle.std.specs.Prelude.{◌≡◌, ◌≤◌, length, map, IfOk};
+ghost use Rattle.std.specs.Prelude.{◌≡◌, ◌≤◌, [], length, map, vec_capacity};
 
 use crate::job::Job;
 use crate::word::Go;
-use std::alloc::{AllocError, Global};
 use std::sync::Wait;
 use xa_worker::{DoneWorker, Pace, Worker};
 
@@ -29,20 +28,37 @@ impl<P: Pace + Drop> Job<DoneWorker> for WorkerJob<P> {
 
 /// Each worker with the pace at its place.
 pub(crate) fn worker_jobs_of<P: Drop>(
-    alloc: Global,
     workers: Vec<Worker>,
     paces: Vec<P>,
-) -> Result<Vec<WorkerJob<P>>, AllocError>
-    requires { length workers.items ≤ length paces.items }
-    ensures { IfOk result (λ v. map (λ s. s.worker) v.items ≡ workers.items) }
+    mut worker_jobs: Vec<WorkerJob<P>>,
+) -> Vec<WorkerJob<P>>
+    requires paces { length workers.items ≤ length paces.items }
+    requires none { worker_jobs.items ≡ [] }
+    requires room { length workers.items ≤ vec_capacity worker_jobs }
+    ensures { map (λ s. s.worker) result.items ≡ workers.items }
 {
-    let mut worker_jobs = Vec::new(alloc);
     let mut paces = paces.into_iter();
     for worker in workers {
         let Some(pace) = paces.next() else {
             unreachable!()
         };
-        worker_jobs.push(WorkerJob { worker, pace })?;
+        worker_jobs.push_reserved(WorkerJob { worker, pace });
     }
-    Ok(worker_jobs)
+    worker_jobs
+}
+
+/// Their workers, where their jobs weren't done.
+pub(crate) fn workers_of<P: Drop>(
+    worker_jobs: Vec<WorkerJob<P>>,
+    mut workers: Vec<Worker>,
+) -> Vec<Worker>
+    requires none { workers.items ≡ [] }
+    requires room { length worker_jobs.items ≤ vec_capacity workers }
+    ensures { result.items ≡ map (λ s. s.worker) worker_jobs.items }
+{
+    for worker_job in worker_jobs {
+        let WorkerJob { worker, pace: _ } = worker_job;
+        workers.push_reserved(worker);
+    }
+    workers
 }

@@ -1,6 +1,8 @@
 //! A commit of several branches, in two phases.
 ghost use Rattle.std.specs.Prelude.{◌≡◌, ◌≤◌, map, length, IfOk, IfErr, OnOk, IsErrOf};
 ghost use Rattle.xa_words.specs.Tran.{TranName};
+ghost use Rattle.xa_desk.specs.GoesOn.{GoesOn};
+ghost use Rattle.xa_desk.specs.Kept.{AllKept};
 ghost use Rattle.xa_driver.specs.Asks.{KeepsTheRest};
 ghost use Rattle.xa_driver.specs.Idling.{IdlesAt};
 ghost use Rattle.xa_driver.specs.Decision.{yes_of};
@@ -66,7 +68,10 @@ pub fn commit_all<R: Wait, L: DecisionLog, I: Idle>(
     ensures one_round { IfErr result (IfUndecided (λ votes.
         GoesAsRound (map first_ask branches.now) desk.old desk.new)) }
 
-    // What is kept under the handles stays, and so does all that was outstanding, with its tickets.
+    // The desk goes on, and what is outstanding stays kept. What is kept under the handles stays, and so does all that
+    // was outstanding, with its tickets.
+    ensures goes_on { GoesOn desk.old desk.new }
+    ensures kept { AllKept desk.old → AllKept desk.new }
     ensures keeps { KeepsTheRest desk.old desk.new }
 
     // Want of memory comes before anything is sent.

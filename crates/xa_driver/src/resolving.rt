@@ -2,6 +2,8 @@
 ghost use Rattle.std.specs.Prelude.{◌≡◌, ◌↔◌, ◌≤◌, ◌+◌, ◌++◌, ℕ, List, length, IfOk, OnErr, IsTrue, vec_capacity};
 ghost use Rattle.xa_base.specs.Lists.{IsUpTo};
 ghost use Rattle.xa_desk.specs.DeskView.{ledger, room_at};
+ghost use Rattle.xa_desk.specs.GoesOn.{GoesOn};
+ghost use Rattle.xa_desk.specs.Kept.{AllKept};
 ghost use Rattle.xa_switch.specs.Scans.{Answers, left_at};
 ghost use Rattle.xa_driver.specs.declared.resolved.Outcome.{Outcome};
 ghost use Rattle.xa_driver.specs.Asks.{KeepsTheRest};
@@ -193,7 +195,10 @@ pub fn resolve<R: Wait, L: DecisionRecords, I: Idle>(
     ensures waited { IfOk result (λ r. ResolvesInTurn (AsksAndWaits I.leads_by) (L.records log.now) scan.now
         (desk.old, idle.old) MOST_MANAGERS r.outcomes.items (desk.new, idle.new)) }
 
-    // What is kept under the handles stays, and so does all that was outstanding, with its tickets.
+    // The desk goes on, and what is outstanding stays kept. What is kept under the handles stays, and so does all that
+    // was outstanding, with its tickets.
+    ensures goes_on { GoesOn desk.old desk.new }
+    ensures kept { AllKept desk.old → AllKept desk.new }
     ensures keeps { KeepsTheRest desk.old desk.new }
 
     ensures unsent { OnErr result (desk.new ≡ desk.old) }

@@ -1,5 +1,6 @@
 //! Commits over an opening whose workers take turns, and the log in memory.
 mod appending;
+mod callers;
 mod crash;
 pub(crate) mod dying;
 mod endings;

@@ -19,7 +19,7 @@ pub use calls::recovering::xa_recover;
 pub use calls::scan::Scan;
 pub use calls::{native, xa_call};
 pub use opening::open_switch;
-pub use opening::reopening::{Unopened, reopen};
+pub use opening::reopening::{Unopened, may_reopen, reopen};
 pub use plan::{Again, ManagerPlan, OpenFault, Plan};
 pub use settling::settled::Settled;
 pub use settling::{Unsettled, Why, settle};

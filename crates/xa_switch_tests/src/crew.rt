@@ -1,4 +1,5 @@
 //! A client that opens two managers, and runs of it.
+mod again;
 mod runs;
 mod shut;
 

@@ -29,6 +29,7 @@ use Rattle.xa_tables.specs.History.{History, fate_of, tables_after, added_by, sh
 use Rattle.xa_tables.specs.Openings.{IsOpening}
 use Rattle.xa_tables.specs.Prepared.{NamesNowhere}
 use Rattle.xa_tables.specs.Worth.{worth_declared, worth, held_by, moved_by, moved, is_any, gain, unless_ended, added_by_now, WorthIsMoved, HoldsItsAdditions}
+use Rattle.xa_tables.specs.Worth.{DeclareEach, WorthIsMovedFrom}
 use Rattle.xa_base.proofs.FinMaps.{get-map_values}
 use Rattle.xa_tables.proofs.AccountLemmas.{same_key, key_self, key_apart, touch_cmp_total, touch_self}
 use Rattle.xa_tables.proofs.Moves.{Moves, Still, Ended, Added, moves_of}
@@ -160,11 +161,14 @@ get_sum x y own k d T =
       ] refl
     ] refl
 
--- what a request does that is so answered
-record WorthStep (accounts : Accounts) (op : Op) (l : Option Association) (T : Tables) (a : Answer) : Type 0 where
+-- what a request that is so answered does to the worth of accounts, and to what branches hold
+record WorthStep (accounts : Accounts) (op : Op) (T : Tables) (a : Answer) : Type 0 where
   keys : (k : List ℕ) → is_declared a.0 k ≡ is_declared T k
-  worth_after : worth accounts a.0 ≡ worth accounts T +ℤ moved_by accounts op a.1 T
-  holds : (x : XidName) → held_by accounts x a.0 ≡ unless_ended (ending (fate_of x op a.1)) (held_by accounts x T +ℤ gain x op a.1 l)
+  worth_after : DeclareEach accounts T → worth accounts a.0 ≡ worth accounts T +ℤ moved_by accounts op a.1 T
+
+abbrev HeldStep : Accounts → Op → Option Association → Tables → Answer → Type 0
+HeldStep accounts op l T a =
+    (x : XidName) → held_by accounts x a.0 ≡ unless_ended (ending (fate_of x op a.1)) (held_by accounts x T +ℤ gain x op a.1 l)
 
 -- a request that adds nothing to any key adds nothing to any branch
 no_gain : (x : XidName) (op : Op) (c : Code) (l : Option Association)
@@ -177,7 +181,7 @@ ended_either : (b : Bool) (c : Bool) (u v : ℤ) → v ≡ (if b then pos 0 else
 ended_either true c u v e = e
 ended_either false c u v e = e ∙ plus_none u
 
-module _ (accounts : Accounts) (apart : are_apart accounts ≡ true) (T : Tables) (known : Declares accounts T) where
+module _ (accounts : Accounts) (T : Tables) where
   -- what branches hold once y is gone
   without : (y x : XidName) → total (λ d. sum_of (sums_without T.sums y) x d.0) accounts ≡ (if xid_eq y x then pos 0 else held_by accounts x T)
   without y x =
@@ -188,13 +192,13 @@ module _ (accounts : Accounts) (apart : are_apart accounts ≡ true) (T : Tables
       ∙ elim (xid_eq y x) as (λ b. total (λ d. if b then pos 0 else sum_of T.sums x d.0) accounts ≡ (if b then pos 0 else held_by accounts x T)) [ true ↦ total_nothing accounts | false ↦ refl ]
 
   -- the values once y is committed
-  paid_value : (y : XidName) (d : List ℕ × ℕ) → among accounts d.0 ≡ true → value_of (committed y T).values d.0 ≡ value_of T.values d.0 +ℤ sum_of T.sums y d.0
-  paid_value y d in_them =
+  paid_value : (y : XidName) (d : List ℕ × ℕ) → is_declared T d.0 ≡ true → value_of (committed y T).values d.0 ≡ value_of T.values d.0 +ℤ sum_of T.sums y d.0
+  paid_value y d known =
       ap (λ o. unwrap_or o (pos 0)) (get-map_values key_cmp_total key_cmp-IsAntisymmetric (λ q v. v +ℤ sum_of T.sums y q) T.values d.0)
       ∙ elim (finmap.get T.values d.0) as (λ o. is_some o ≡ true → unwrap_or (option_map (λ v. v +ℤ sum_of T.sums y d.0) o) (pos 0) ≡ unwrap_or o (pos 0) +ℤ sum_of T.sums y d.0) [
         | None ↦ λ e. cc
         | Some v ↦ λ e. refl
-      ] (known d.0 ∙ in_them)
+      ] known
 
   -- the keys and the worth once y has ended
   ended_keys : (y : XidName) (commits : Bool) (k : List ℕ) → is_declared (if commits then committed y T else T) k ≡ is_declared T k
@@ -203,14 +207,29 @@ module _ (accounts : Accounts) (apart : are_apart accounts ≡ true) (T : Tables
       ∙ elim (finmap.get T.values k) as (λ o. is_some (option_map (λ v. v +ℤ sum_of T.sums y k) o) ≡ is_some o) [ None ↦ refl | Some v ↦ refl ]
   ended_keys y false k = refl
 
-  ended_worth : (y : XidName) (commits : Bool)
+  ended_worth : (y : XidName) (commits : Bool) → DeclareEach accounts T
       → worth accounts (if commits then committed y T else T) ≡ worth accounts T +ℤ (if commits then held_by accounts y T else pos 0)
-  ended_worth y true =
+  ended_worth y true known =
       total_alike (λ d. value_of (committed y T).values d.0) (λ d. value_of T.values d.0 +ℤ sum_of T.sums y d.0) accounts
-      (λ k d lt. paid_value y (get_or accounts k d) (each_among accounts k d lt))
+      (λ k d lt. paid_value y (get_or accounts k d) (known k d lt))
       ∙ total_both (λ d. value_of T.values d.0) (λ d. sum_of T.sums y d.0) accounts
-  ended_worth y false = plus_none _
+  ended_worth y false known = plus_none _
 
+  worth_by_move : {l : Option Association} {op : Op} {a : Answer} → Moves T l op a → WorthStep accounts op T a
+  worth_by_move (Still l op a sums values shares moved endings) = record {
+    keys = λ k. ap (λ m. is_some (finmap.get m k)) values;
+    worth_after = λ known.
+        ap (λ m. total (λ d. value_of m d.0) accounts) values ∙ plus_none _ ∙ ap (λ v. worth accounts T +ℤ v) (sym (moved accounts));
+  }
+  worth_by_move (Ended l op a y commits sums values shares moved endings) = record {
+    keys = λ k. ap (λ m. is_some (finmap.get m k)) values ∙ ended_keys y commits k;
+    worth_after = λ known.
+        ap (λ m. total (λ d. value_of m d.0) accounts) values ∙ ended_worth y commits known
+        ∙ ap (λ v. worth accounts T +ℤ v) (sym (moved accounts));
+  }
+  worth_by_move (Added own d l there alone) = record { keys = λ k. refl; worth_after = λ known. plus_none _ }
+
+module _ (accounts : Accounts) (apart : are_apart accounts ≡ true) (T : Tables) (known : Declares accounts T) where
   -- what a branch holds once y has added d to a declared key
   gained : (own : List ℕ) (d : ℤ) (l : Association) → is_declared T own ≡ true → (x : XidName)
       → held_by accounts x (added l.xid own d T) ≡ held_by accounts x T +ℤ (if xid_eq l.xid x then d else pos 0)
@@ -227,57 +246,54 @@ module _ (accounts : Accounts) (apart : are_apart accounts ≡ true) (T : Tables
             ∙ total_nothing accounts
       ])
 
-  by_move : {l : Option Association} {op : Op} {a : Answer} → Moves T l op a → WorthStep accounts op l T a
-  by_move (Still l op a sums values shares moved endings) = record {
-    keys = λ k. ap (λ m. is_some (finmap.get m k)) values;
-    worth_after = ap (λ m. total (λ d. value_of m d.0) accounts) values ∙ plus_none _ ∙ ap (λ v. worth accounts T +ℤ v) (sym (moved accounts));
-    holds = λ x.
-        ap (λ m. total (λ d. sum_of m x d.0) accounts) sums ∙ plus_none _
-        ∙ (λ i. unless_ended (sym (endings x) i) (held_by accounts x T +ℤ sym (no_gain x op a.1 l shares) i));
-  }
-  by_move (Ended l op a y commits sums values shares moved endings) = record {
-    keys = λ k. ap (λ m. is_some (finmap.get m k)) values ∙ ended_keys y commits k;
-    worth_after =
-        ap (λ m. total (λ d. value_of m d.0) accounts) values ∙ ended_worth y commits ∙ ap (λ v. worth accounts T +ℤ v) (sym (moved accounts));
-    holds = λ x.
-        ap (λ m. total (λ d. sum_of m x d.0) accounts) sums ∙ ended_either (xid_eq y x) commits (held_by accounts x T) _ (without y x)
-        ∙ (λ i. unless_ended (sym (endings x) i) (held_by accounts x T +ℤ sym (no_gain x op a.1 l shares) i));
-  }
-  by_move (Added own d l there alone) = record { keys = λ k. refl; worth_after = plus_none _; holds = gained own d l there }
+  held_by_move : {l : Option Association} {op : Op} {a : Answer} → Moves T l op a → HeldStep accounts op l T a
+  held_by_move (Still l op a sums values shares moved endings) x =
+      ap (λ m. total (λ d. sum_of m x d.0) accounts) sums ∙ plus_none _
+      ∙ (λ i. unless_ended (sym (endings x) i) (held_by accounts x T +ℤ sym (no_gain x op a.1 l shares) i))
+  held_by_move (Ended l op a y commits sums values shares moved endings) x =
+      ap (λ m. total (λ d. sum_of m x d.0) accounts) sums
+      ∙ ended_either (xid_eq y x) commits (held_by accounts x T) _ (without accounts T y x)
+      ∙ (λ i. unless_ended (sym (endings x) i) (held_by accounts x T +ℤ sym (no_gain x op a.1 l shares) i))
+  held_by_move (Added own d l there alone) x = gained own d l there x
 
 -- ---- a history
 
 regroup : (w d m n v : ℤ) → w ≡ d +ℤ m → w +ℤ n ≡ v → v ≡ d +ℤ (m +ℤ n)
 regroup w d m n v e f = omega (arith, ints)
 
+step : (accounts : Accounts) (r : Request) (T : Tables) → WorthStep accounts r.op T (next r.thread r.op T)
+step accounts r T = worth_by_move accounts T (moves_of r.thread r.op T)
+
+-- what is declared stays so
+pub declared_on : (h : History) (k : List ℕ) (T : Tables) → is_declared (tables_after h T) k ≡ is_declared T k
+declared_on [] k T = refl
+declared_on (r ∷ h) k T = declared_on h k (next r.thread r.op T).0 ∙ (step [] r T).keys k
+
+pub worth_from : (accounts : Accounts) (h : History) (T : Tables) → DeclareEach accounts T → WorthIsMovedFrom accounts h T
+worth_from accounts [] T known = plus_none _
+worth_from accounts (r ∷ h) T known =
+    let T1 : Tables = (next r.thread r.op T).0 in
+    let one = step accounts r T in
+    let still : DeclareEach accounts T1 = λ k d lt. one.keys (get_or accounts k d).0 ∙ known k d lt in
+    regroup (worth accounts T1) (worth accounts T) (moved_by accounts r.op (next r.thread r.op T).1 T) (moved accounts is_any h T1) (worth accounts (tables_after h T1))
+    (one.worth_after known) (sym (worth_from accounts h T1 still))
+
 module _ (accounts : Accounts) (apart : are_apart accounts ≡ true) where
-  step : (r : Request) (T : Tables) → Declares accounts T → WorthStep accounts r.op (association_of T r.thread) T (next r.thread r.op T)
-  step r T known = by_move accounts apart T known (moves_of r.thread r.op T)
-
-  known_after : (r : Request) (T : Tables) → Declares accounts T → Declares accounts (next r.thread r.op T).0
-  known_after r T known k = (step r T known).keys k ∙ known k
-
-  moved_on : (h : History) (T : Tables) → Declares accounts T → worth accounts (tables_after h T) ≡ worth accounts T +ℤ moved accounts is_any h T
-  moved_on [] T known = plus_none _
-  moved_on (r ∷ h) T known =
-      let T1 : Tables = (next r.thread r.op T).0 in
-      regroup (worth accounts T1) (worth accounts T) (moved_by accounts r.op (next r.thread r.op T).1 T) (moved accounts is_any h T1) (worth accounts (tables_after h T1))
-      (step r T known).worth_after (sym (moved_on h T1 (known_after r T known)))
-
   held_on : (x : XidName) (h : History) (T : Tables) → Declares accounts T → held_by accounts x (tables_after h T) ≡ added_by_now x (held_by accounts x T) h T
   held_on x [] T known = refl
   held_on x (r ∷ h) T known =
       let T1 : Tables = (next r.thread r.op T).0 in
-      held_on x h T1 (known_after r T known) ∙ ap (λ v. added_by_now x v h T1) ((step r T known).holds x)
+      held_on x h T1 (λ k. (step accounts r T).keys k ∙ known k)
+      ∙ ap (λ v. added_by_now x v h T1) (held_by_move accounts apart T known (moves_of r.thread r.op T) x)
 
 apart_of : (accounts : Accounts) → are_accounts accounts ≡ true → are_apart accounts ≡ true
 apart_of accounts e = (and_parts _ (are_apart accounts) ((and_parts _ _ e).1)).1
 
 pub worth_law : (accounts : Accounts) (h : History) → are_accounts accounts ≡ true → WorthIsMoved accounts h
 worth_law accounts h e =
-    let apart = apart_of accounts e in
-    moved_on accounts apart h (opening accounts) (opening_declares accounts)
-    ∙ ap (λ v. v +ℤ moved accounts is_any h (opening accounts)) (opening_worth accounts apart)
+    let known : DeclareEach accounts (opening accounts) = λ k d lt. opening_declares accounts (get_or accounts k d).0 ∙ each_among accounts k d lt in
+    worth_from accounts h (opening accounts) known
+    ∙ ap (λ v. v +ℤ moved accounts is_any h (opening accounts)) (opening_worth accounts (apart_of accounts e))
 
 pub held_law : (accounts : Accounts) (x : XidName) (h : History) → are_accounts accounts ≡ true → HoldsItsAdditions accounts x h
 held_law accounts x h e =

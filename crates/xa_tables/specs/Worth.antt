@@ -1,6 +1,7 @@
 -- What a manager's accounts are worth together, and what moves it.
 use Rattle.std.specs.Prelude.{◌≡◌, ℕ, ℤ, pos, ◌+ℤ◌, Bool, true, ◌==◌, ◌&&◌, if◌then◌else◌, Option, None, Some, List, []}
 use Rattle.std.specs.Prelude.{◌∷◌}
+use Rattle.std.specs.List.{All}
 use Rattle.xa_base.specs.Sums.{total}
 use Rattle.xa_words.specs.Xid.{XidName, xid_eq}
 use Rattle.xa_words.specs.declared.code.Code.{Code}
@@ -9,7 +10,7 @@ use Rattle.xa_words.specs.declared.request.Op.TheVariants.{Add, Commit}
 use Rattle.xa_words.specs.declared.request.Op.TheVariants.{Heur}
 use Rattle.xa_words.specs.declared.request.Request.{Request}
 use Rattle.xa_tables.specs.declared.state.Association.{Association}
-use Rattle.xa_tables.specs.Tables.{Tables, association_of, value_of, sum_of}
+use Rattle.xa_tables.specs.Tables.{Tables, association_of, is_declared, value_of, sum_of}
 use Rattle.xa_tables.specs.Next.{next}
 use Rattle.xa_tables.specs.Managers.{opening}
 use Rattle.xa_tables.specs.History.{History, tables_after, added_by, ending, fate_of, is_done}
@@ -77,6 +78,15 @@ abbrev pub WorthIsMoved : List (List ℕ × ℕ) → History → Type 0
 WorthIsMoved accounts h =
     worth accounts (tables_after h (opening accounts))
     ≡ worth_declared accounts +ℤ moved accounts is_any h (opening accounts)
+
+-- the tables declare each of the accounts
+abbrev pub DeclareEach : List (List ℕ × ℕ) → Tables → Type 0
+DeclareEach accounts T = All (λ d. is_declared T d.0 ≡ true) accounts
+
+-- the worth after a history is what it was before, in the tables T, and what its Commits have added
+abbrev pub WorthIsMovedFrom : List (List ℕ × ℕ) → History → Tables → Type 0
+WorthIsMovedFrom accounts h T =
+    worth accounts (tables_after h T) ≡ worth accounts T +ℤ moved accounts is_any h T
 
 -- a branch holds what it has added since it was last ended
 abbrev pub HoldsItsAdditions : List (List ℕ × ℕ) → XidName → History → Type 0

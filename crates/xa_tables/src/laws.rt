@@ -5,7 +5,8 @@ ghost use Rattle.xa_words.specs.declared.code.Code.TheVariants.{Done, RbIntegrit
 ghost use Rattle.xa_words.specs.declared.request.Op.{Op};
 ghost use Rattle.xa_words.specs.declared.request.Op.TheVariants.{Add, Prepare, Commit, Rollback};
 ghost use Rattle.xa_tables.specs.declared.state.HeuristicDecision.{HeuristicDecision};
-ghost use Rattle.xa_tables.specs.Tables.{Tables, association_of, is_somebody_associated, is_prepared, state_of};
+ghost use Rattle.xa_tables.specs.Tables.{Tables, association_of, is_declared, is_somebody_associated};
+ghost use Rattle.xa_tables.specs.Tables.{is_prepared, state_of};
 ghost use Rattle.xa_tables.specs.Reasons.{decision_code};
 ghost use Rattle.xa_tables.specs.History.{History, Fate, IsFateOf, EndsNowhere, OnlyUnfinishedTouch};
 ghost use Rattle.xa_tables.specs.History.{ActiveWhileAssociated, StaysWithin, LateAddNothing, LateAreRefused};
@@ -20,7 +21,7 @@ ghost use Rattle.xa_tables.specs.Next.{next};
 ghost use Rattle.xa_tables.specs.Prepared.{NamesNowhere, OnlyDecides, LeavesWaiting, StaysAsItWas, IsPrepared};
 ghost use Rattle.xa_tables.specs.Prepared.{StaysPrepared, AwaitsAfter, IsTold, has_shut};
 ghost use Rattle.xa_tables.specs.Work.{AddsAsItWorks};
-ghost use Rattle.xa_tables.specs.Worth.{WorthIsMoved, HoldsItsAdditions, held_by};
+ghost use Rattle.xa_tables.specs.Worth.{WorthIsMoved, WorthIsMovedFrom, DeclareEach, HoldsItsAdditions, held_by};
 ghost use Rattle.xa_tables.specs.Worked.{branch, worked, voted, transferred, undone, overdrawn, unchanged, failed};
 ghost use Rattle.xa_tables.specs.Worked.{begun_again, decided, forgotten};
 ghost use Rattle.xa_tables.specs.Worked.{fate_after, committed_later, rolled_back_later, gone_later};
@@ -84,6 +85,14 @@ pub fn adders_never_vote_read_only()
 /// one, that was answered XA_OK has added: all that its branch held.
 pub fn commits_alone_move_the_worth()
     ensures { (accounts : List (List ℕ × ℕ)) (h : History) → are_accounts accounts ≡ true → WorthIsMoved accounts h }
+{}
+
+/// So they move the worth of any accounts that are declared in the tables with which a history begins, as in those of a
+/// later opening. What is declared stays so, and nothing else becomes so.
+pub fn commits_alone_move_the_worth_of_any_tables()
+    ensures worth { (accounts : List (List ℕ × ℕ)) (h : History) (T : Tables) → DeclareEach accounts T
+        → WorthIsMovedFrom accounts h T }
+    ensures declared { (h : History) (k : List ℕ) (T : Tables) → is_declared (tables_after h T) k ≡ is_declared T k }
 {}
 
 /// A branch holds what it has added since it was last ended, whichever threads have added it.

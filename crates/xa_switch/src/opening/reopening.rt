@@ -1,6 +1,6 @@
 //! How a settled opening is opened again.
 ghost use Rattle.std.specs.Prelude.{◌≡◌, ◌≢◌, ◌↔◌, ℕ, ◌≤◌, ◌<◌, ◌+◌, [], None, Some, length, map, vec_capacity, IfOk};
-ghost use Rattle.std.specs.Prelude.{IfErr, OnOk};
+ghost use Rattle.std.specs.Prelude.{IfErr, IsTrue, OnOk};
 ghost use Rattle.std.specs.List.{All, range_with_len};
 ghost use Rattle.xa_base.specs.Lists.{IsUpTo};
 ghost use Rattle.xa_switch.specs.Plans.{IsWithinLimits, manager_room, new_manager};
@@ -114,13 +114,20 @@ fn lay_out_again<R: Wait>(
     Ok((layout, managers, scans))
 }
 
+/// Whether it may be opened again with these numbers: each is within its limits, and the opening's is its own.
+pub fn may_reopen(settled: &Settled, again: &Again) -> bool
+    ensures { IsTrue result ↔ MayReopen settled.now again.now }
+{
+    again.is_within_limits(settled.managers()) && again.opening != settled.opening
+}
+
 /// Opens a settled opening again: as `open_switch` does with a plan of these numbers, but that each manager goes on
 /// from where it ended. Its values stay, and the branches that are prepared or heuristically completed, with what they
 /// have added; all other branches are gone, and no thread has it open. It takes asynchronous calls as before. Each
 /// thread gets a scan of what is left at each manager.
 ///
-/// The faults: `BadPlan` where a number is outside its limits, or is that of the opening that was settled, and else
-/// `NoMemory`. All memory is taken before anything is put together.
+/// The faults: `BadPlan` where a number is outside its limits, or is that of the opening that was settled, as
+/// `may_reopen` tells, and else `NoMemory`. All memory is taken before anything is put together.
 pub fn reopen<R: Wait>(
     rt: &R,
     alloc: Global,
@@ -134,7 +141,7 @@ pub fn reopen<R: Wait>(
     ensures scans { IfOk result (λ r. AreScansOf settled again.now.threads r.2.items) }
 {
     let many = settled.managers();
-    if !again.is_within_limits(many) || again.opening == settled.opening {
+    if !may_reopen(&settled, again) {
         let why = OpenFault::BadPlan;
         return Err(Unopened { why, settled });
     }

@@ -214,7 +214,7 @@ fn collected_in(ledgers: &[Ledger], manager: u32) -> &[(u32, Code)]
 
 impl Settled {
     /// How many managers it has, 1 to 8.
-    pub(crate) fn managers(&self) -> usize
+    pub fn managers(&self) -> usize
         ensures managers { result ≡ managers_in self.now }
         ensures limits { IsUpTo MOST_MANAGERS result }
     {

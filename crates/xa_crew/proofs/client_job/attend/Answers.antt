@@ -7,5 +7,5 @@ returns-clause-worked g c = record {
   left = c.work.new.desk;
   worked = c.work.ensures.works;
   goes_on = c.work.ensures.goes_on;
-  ends = subst (λ l. EndsDesk c.work.new.desk l c.end_desk-desk.result c.end_desk-desk.new.told.items) c.requires.none c.end_desk-desk.ensures.ends;
+  ends = subst (λ l. EndsDesk c.work.new.desk l c.end_desk-desk.result c.end_desk-desk.new.told.items) c.requires.tell.none c.end_desk-desk.ensures.ends;
 }

@@ -1,40 +1,48 @@
-use Rattle.std.proofs.Common.{◌++◌, ◌∷◌, [], length, map, sym, ap, ◌∙◌, subst, arith, append_assoc}
-use Rattle.std.specs.Prelude.{All}
+use Rattle.std.proofs.Common.{◌≡◌, ◌++◌, ◌∷◌, [], length, map, sym, ap, ◌∙◌, subst, arith, append_assoc}
+use Rattle.std.specs.Prelude.{All, List}
 use Rattle.std.specs.Vec.Iter.{into_iter_items}
 use Rattle.std.proofs.lemmas.List.{map-append}
 use Rattle.std.proofs.lemmas.List.Elements.{All-push}
 use Rattle.xa_desk.specs.Kept.{AllKept}
-use Rattle.xa_crew.specs.Run.{IsReady}
+use Rattle.xa_crew.specs.declared.client_job.ClientJob.{ClientJob}
+use Rattle.xa_crew.specs.Run.{CanTell, IsReady}
 use Rattle.xa_base.proofs.Lists.{all_at, next_there, taken_next}
 use Rattle.xa_crew.proofs.client_job.client_jobs_of.Goals as goal
 
-pub client_job_of-requires : goal.client_job_of-requires
-client_job_of-requires g c =
-    let i = c.loop-client.invariant in
-    let given = map (λ a. a.desk) c.loop-client.client_jobs.items in
-    let desk = c.in-Some-next.desk in
-    all_at AllKept c.args.desks.items (length given) desk c.requires.kept
-    (next_there c.args.desks.items given (into_iter_items c.next-in-loop-client.new.self) desk (ap (λ l. given ++ l) (sym c.in-Some-next.ensures.cases.0) ∙ i.desks))
+-- what is read of the jobs, and what is left for the others, once there is one more
+read_more : {A B : Type 0} (f : A → B) (before after : List A) (one : A) (old rest all : List B) → after ≡ before ++ one ∷ [] → old ≡ f one ∷ rest
+    → map f before ++ old ≡ all → map f after ++ rest ≡ all
+read_more f before after one old rest all pushed next so_far =
+    ap (λ l. map f l ++ rest) pushed
+    ∙ ap (λ l. l ++ rest) (map-append f before (one ∷ []))
+    ∙ append_assoc (map f before) (f one ∷ []) rest
+    ∙ ap (λ l. map f before ++ l) (sym next)
+    ∙ so_far
 
 pub loop-client-preserved : goal.loop-client-preserved
 loop-client-preserved g c =
     let i = c.loop-client.invariant in
-    let first = c.loop-client.yielded in
-    let before = c.loop-client.client_jobs.items in
-    let one = c.in_ok-client_job_of.field-0 in
-    let is = c.in_ok-client_job_of.ensures in
-    let rest = into_iter_items c.next-in-loop-client.new.self in
-    let pushed = c.in_ok-push.ensures.items in
+    let before = c.loop-client.jobs.items in
+    let after = c.push_reserved.new.self.items in
+    let one : ClientJob g.row.C.Denot = record { client = c.in-Some.client; desk = c.in-Some-Some.desk; outstanding = c.in-Some-Some.outstanding } in
+    let pushed : after ≡ before ++ one ∷ [] = c.push_reserved.ensures.items in
+    let desk = c.in-Some-Some.ensures.cases in
+    let room = c.in-Some-Some.ensures'.cases in
+    let desks = into_iter_items c.next-in-loop-client.new.self in
+    let rooms = into_iter_items c.next-in-loop-client-2.new.self in
+    let desk_at = next_there c.args.desks.items (map (λ a. a.desk) before) desks one.desk (ap (λ l. map (λ a. a.desk) before ++ l) (sym desk.0) ∙ i.desks) in
+    let room_at =
+    next_there c.args.outstanding.items (map (λ a. a.outstanding) before) rooms one.outstanding (ap (λ l. map (λ a. a.outstanding) before ++ l) (sym room.0) ∙ i.rooms) in
     record {
-      so_far = taken_next first _ (into_iter_items c.next.new.self) _ c.in-Some.client c.in-Some.ensures.steps.0 i.so_far;
-      clients = ap (λ l. map (λ a. a.client) l) pushed ∙ map-append (λ a. a.client) before (one ∷ []) ∙ (λ j. i.clients j ++ is.client j ∷ []);
-      desks =
-          ap (λ l. map (λ a. a.desk) l ++ rest) pushed
-          ∙ ap (λ l. l ++ rest) (map-append (λ a. a.desk) before (one ∷ []))
-          ∙ append_assoc (map (λ a. a.desk) before) (one.desk ∷ []) rest
-          ∙ (λ j. map (λ a. a.desk) before ++ is.desk j ∷ rest)
-          ∙ ap (λ l. map (λ a. a.desk) before ++ l) (sym c.in-Some-next.ensures.cases.0)
-          ∙ i.desks;
-      ready = subst (All IsReady) (sym pushed) (All-push IsReady before one i.ready is.ready);
-      counted = let before = i.counted in let size = ap length c.in-Some-next.ensures.cases.0 in let len = c.in-Some-next.ensures.cases.1 in omega (arith, before, size, len);
+      so_far = taken_next c.loop-client.yielded _ (into_iter_items c.next.new.self) _ one.client c.in-Some.ensures.steps.0 i.so_far;
+      clients = ap (λ l. map (λ a. a.client) l) pushed ∙ map-append (λ a. a.client) before (one ∷ []) ∙ ap (λ l. l ++ one.client ∷ []) i.clients;
+      desks = read_more (λ a. a.desk) before after one (into_iter_items c.loop-client.desks) desks c.args.desks.items pushed desk.0 i.desks;
+      rooms = read_more (λ a. a.outstanding) before after one (into_iter_items c.loop-client.rooms) rooms c.args.outstanding.items pushed room.0 i.rooms;
+      ready = subst (All IsReady) (sym pushed) (All-push IsReady before one i.ready (record {
+        kept = all_at AllKept c.args.desks.items (length (map (λ a. a.desk) before)) one.desk c.requires.kept desk_at;
+        tell = all_at CanTell c.args.outstanding.items (length (map (λ a. a.outstanding) before)) one.outstanding c.requires.rooms room_at;
+      }));
+      room = c.push_reserved.ensures.capacity ∙ i.room;
+      counted = let before = i.counted in let size = ap length desk.0 in let len = desk.1 in omega (arith, before, size, len);
+      rooms_counted = let before = i.rooms_counted in let size = ap length room.0 in let len = room.1 in omega (arith, before, size, len);
     }

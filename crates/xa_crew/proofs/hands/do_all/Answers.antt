@@ -1,36 +1,53 @@
-use Rattle.std.proofs.Common.{ap, subst, arith}
-use Rattle.std.specs.Prelude.{IfSome, vec_capacity}
-use Rattle.xa_base.specs.Lists.{Pairwise}
+use Rattle.std.proofs.Common.{◌∙◌, arith}
+use Rattle.xa_crew.proofs.Threads.{room_for_all}
 use Rattle.xa_crew.proofs.hands.do_all.Goals as goal
 
-pub start-all-requires-clause-ready : goal.start-all-requires-clause-ready
-start-all-requires-clause-ready g c = λ κs within. c.requires.jobs
+pub done-requires-clause-room : goal.done-requires-clause-room
+done-requires-clause-room g c =
+    let comes = c.join-came.ensures.came c.args.jobs.items c.start-all.ensures.started in
+    room_for_all g.J.Job.comes_to c.args.jobs.items c.len.result c.in-Ok-Ok-Ok.hands c.join-came.result c.in-Ok-Ok-Ok.ensures'
+    (let many = c.len.ensures in omega (arith, many))
+    (c.join-came.ensures.done ∙ c.start-all.ensures.done) (c.join-came.ensures.back ∙ c.start-all.ensures.back) comes
 
-pub start-all_others-requires-clause-ready : goal.start-all_others-requires-clause-ready
-start-all_others-requires-clause-ready g c = λ κs within. c.requires.others
+pub done-requires-clause-ready : goal.done-requires-clause-ready
+done-requires-clause-ready g c = (c.args.jobs.items, c.requires.jobs, c.join-came.ensures.came c.args.jobs.items c.start-all.ensures.started)
 
-pub join-done-requires-clause-room : goal.join-done-requires-clause-room
-join-done-requires-clause-room g c = λ κs within.
-    let few = c.start-all.ensures.few in
-    let room = c.in_ok-hands.ensures.room in
-    let many = c.len.ensures in
-    let same = ap (λ v. vec_capacity v) c.start-all.ensures.done in
-    omega (arith, few, room.1, many, same)
+pub done-requires-in-Some-clause-room : goal.done-requires-in-Some-clause-room
+done-requires-in-Some-clause-room g c =
+    let comes = c.join-others_came.ensures.came c.args.others.items c.start-all_others.ensures.started in
+    room_for_all g.K.Job.comes_to c.args.others.items c.len-2.result c.in-Ok-Ok-Ok.other_hands c.join-others_came.result c.in-Ok-Ok-Ok.ensures''
+    (let many = c.len-2.ensures in omega (arith, many)) (c.join-others_came.ensures.done ∙ c.start-all_others.ensures.done) (c.join-others_came.ensures.back ∙ c.start-all_others.ensures.back) comes
 
-pub join-others_done-requires-clause-room : goal.join-others_done-requires-clause-room
-join-others_done-requires-clause-room g c = λ κs within.
-    let few = c.start-all_others.ensures.few in
-    let room = c.in_ok-other_hands.ensures.room in
-    let many = c.len-2.ensures in
-    let same = ap (λ v. vec_capacity v) c.start-all_others.ensures.done in
-    omega (arith, few, room.1, many, same)
+pub done-requires-in-Some-clause-ready : goal.done-requires-in-Some-clause-ready
+done-requires-in-Some-clause-ready g c =
+    (c.args.others.items, c.requires.others, c.join-others_came.ensures.came c.args.others.items c.start-all_others.ensures.started)
 
-pub returns-in-Some-Some-clause-jobs : goal.returns-in-Some-Some-clause-jobs
-returns-in-Some-Some-clause-jobs g c =
-    subst (λ o. IfSome o (λ v. Pairwise g.J.Job.comes_to c.args.jobs.items v.items)) c.in-Some-Some.is-0
-    (c.join-done.ensures c.args.jobs.items (c.start-all.ensures.started c.if-all-2.true))
+pub returns-in-Some-clause-jobs : goal.returns-in-Some-clause-jobs
+returns-in-Some-clause-jobs g c = c.done.ensures c.args.jobs.items (c.join-came.ensures.came c.args.jobs.items c.start-all.ensures.started)
 
-pub returns-in-Some-Some-clause-others : goal.returns-in-Some-Some-clause-others
-returns-in-Some-Some-clause-others g c =
-    subst (λ o. IfSome o (λ v. Pairwise g.K.Job.comes_to c.args.others.items v.items)) c.in-Some-Some.is-1
-    (c.join-others_done.ensures c.args.others.items (c.start-all_others.ensures.started c.if-all_others.true))
+pub returns-in-Some-clause-others : goal.returns-in-Some-clause-others
+returns-in-Some-clause-others g c =
+    c.done-in-Some.ensures c.args.others.items (c.join-others_came.ensures.came c.args.others.items c.start-all_others.ensures.started)
+
+pub back-requires : goal.back-requires
+back-requires g c = record {
+  room =
+      let comes = c.join-came.ensures.came c.args.jobs.items c.start-all.ensures.started in
+      room_for_all g.J.Job.comes_to c.args.jobs.items c.len.result c.in-Ok-Ok-Ok.hands c.join-came.result c.in-Ok-Ok-Ok.ensures'
+      (let many = c.len.ensures in omega (arith, many))
+      (c.join-came.ensures.done ∙ c.start-all.ensures.done) (c.join-came.ensures.back ∙ c.start-all.ensures.back) comes;
+}
+
+pub back-requires-in-None : goal.back-requires-in-None
+back-requires-in-None g c = record {
+  room =
+      let comes = c.join-others_came.ensures.came c.args.others.items c.start-all_others.ensures.started in
+      room_for_all g.K.Job.comes_to c.args.others.items c.len-2.result c.in-Ok-Ok-Ok.other_hands c.join-others_came.result c.in-Ok-Ok-Ok.ensures''
+      (let many = c.len-2.ensures in omega (arith, many)) (c.join-others_came.ensures.done ∙ c.start-all_others.ensures.done) (c.join-others_came.ensures.back ∙ c.start-all_others.ensures.back) comes;
+}
+
+pub returns-clause-back : goal.returns-clause-back
+returns-clause-back g c = (
+  c.back.ensures c.args.jobs.items (c.join-came.ensures.came c.args.jobs.items c.start-all.ensures.started),
+  c.back-in-None.ensures c.args.others.items (c.join-others_came.ensures.came c.args.others.items c.start-all_others.ensures.started),
+)

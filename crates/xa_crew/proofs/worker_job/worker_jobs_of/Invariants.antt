@@ -1,4 +1,4 @@
-use Rattle.std.proofs.Common.{◌≡◌, ◌+◌, ◌++◌, map, length}
+use Rattle.std.proofs.Common.{◌≡◌, ◌+◌, ◌++◌, map, length, vec_capacity}
 use Rattle.std.specs.Vec.Iter.{into_iter_items, into_iter_len}
 use Rattle.xa_crew.proofs.worker_job.worker_jobs_of.Given as goal
 
@@ -9,4 +9,5 @@ invariant-loop-worker g l = record {
   served : map (λ s. s.worker) l.worker_jobs.items ≡ l.yielded;
   paced : length l.yielded + length (into_iter_items l.paces) ≡ length l.fn.paces.items;
   counted : into_iter_len l.paces ≡ length (into_iter_items l.paces);
+  room : vec_capacity l.worker_jobs ≡ vec_capacity l.fn.worker_jobs;
 }

@@ -110,3 +110,15 @@ returns-in-Ok-clause-rounds g c =
       second = record { asked = t.asked; ordered = same_in_order (map (second_ask d.known.commit) asked) c.tell-told.result.round.asks.items c.prepare_all.new.desk c.tell-told.new.desk t.same c.tell-told.ensures.ordered };
       third = record { asked = f.asked; ordered = same_in_order (map third_ask c.tell-told.result.round.asks.items) f.thirds c.tell-told.new.desk c.forget.new.desk f.same c.forget.ensures.ordered };
     }
+
+pub returns-in-Ok-clause-goes_on : goal.returns-in-Ok-clause-goes_on
+returns-in-Ok-clause-goes_on g c = (returns-in-Ok-clause-keeps g c).keeps.goes_on
+
+pub returns-in-Ok-clause-kept : goal.returns-in-Ok-clause-kept
+returns-in-Ok-clause-kept g c = (returns-in-Ok-clause-keeps g c).kept
+
+pub returns-in_err-prepared-clause-goes_on : goal.returns-in_err-prepared-clause-goes_on
+returns-in_err-prepared-clause-goes_on g c = (returns-in_err-prepared-clause-keeps g c).keeps.goes_on
+
+pub returns-in_err-prepared-clause-kept : goal.returns-in_err-prepared-clause-kept
+returns-in_err-prepared-clause-kept g c = (returns-in_err-prepared-clause-keeps g c).kept

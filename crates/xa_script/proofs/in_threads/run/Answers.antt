@@ -44,12 +44,12 @@ returns-in-Ok g c =
     let s : Content = c.args.script.now in
     let answers : List Told = flat_map told_by c.in-Ok.run'.clients.items in
     let settled = c.in-Ok.run'.settled in
-    let r : IsRun Works c.in_ok-plan.plan c.in_ok-threads.threads.items c.in-Ok.run'.clients.items settled = c.in-Ok.ensures.ran in
+    let r : IsRun Works (planned c.in_ok-plan.plan) c.in_ok-threads.threads.items c.in-Ok.run'.clients.items settled = c.in-Ok.ensures.ran in
     let desks : List DeskView = map (λ (t : Member ScriptThread). t.desk) r.members in
     let sessions : List Session = map (λ (t : Member ScriptThread). new_session s t.desk) r.members in
     let ended : List EndedView = map (λ (t : Member ScriptThread). t.ended) r.members in
     let are_opened : AreOpened s 1 (opened s) desks r.workers =
-    record { setup = planned c.in_ok-plan.plan; said = planned_setup s c.in_ok-plan.plan c.in_ok-plan.ensures.plan r.sound; opened = r.opened } in
+    record { setup = planned c.in_ok-plan.plan; said = planned_setup s c.in_ok-plan.plan c.in_ok-plan.ensures.plan c.in_ok-plan.ensures.sound; opened = r.opened } in
     let all_opened : AreOpened s 1 (opened s) (map (λ (x : Session). x.desk) sessions) r.workers =
     subst (λ ds. AreOpened s 1 (opened s) ds r.workers) (sym (map_map (λ (x : Session). x.desk) (λ (t : Member ScriptThread). new_session s t.desk) r.members)) are_opened in
     let fits : All (Fits (threads_of s) (managers_of s)) s.steps = c.steps_are_of_it.ensures in
@@ -81,7 +81,7 @@ returns-in-Ok g c =
           runs = runs;
           ran = threads_ran s (beginning s) s.steps sessions r.workers all_opened (begin_so s r.members) fits worked.0 ended r.done answers runs;
           settles = r.settles;
-          number = r.of_plan.opening ∙ c.in_ok-plan.ensures.plan.numbers.opening_;
+          number = r.of_setup.opening ∙ c.in_ok-plan.ensures.plan.numbers.opening_;
           agree = r.agrees;
         };
       },

@@ -1,14 +1,17 @@
-use Rattle.std.proofs.Common.{◌≡◌, ◌++◌, vec_capacity}
+use Rattle.std.proofs.Common.{◌≡◌, ◌+◌, ◌++◌, [], true, length, vec_capacity}
 use Rattle.std.specs.Vec.Iter.{into_iter_items}
-use Rattle.xa_crew.specs.Hands.{IsAt}
-use Rattle.xa_base.specs.Lists.{Pairwise}
+use Rattle.xa_crew.specs.Hands.{AreAtFirst}
 use Rattle.xa_crew.proofs.hands.Hands.start.Given as goal
 
--- the first jobs have a thread
+-- the first jobs have a thread, or came to something without one
 abbrev pub invariant-loop-job : goal.invariant-loop-job
 invariant-loop-job g l = record {
   so_far : l.yielded ++ into_iter_items l.job-iterator ≡ l.fn.jobs.items;
-  at : Pairwise IsAt l.yielded l.self.hands.items;
-  room : vec_capacity l.self.hands ≡ vec_capacity l.fn.self.hands;
+  started : AreAtFirst g.J.Job.comes_to l.yielded l.self.hands.items l.self.others.items;
+  all : l.all ≡ true → l.self.others.items ≡ [];
+  hands : vec_capacity l.self.hands ≡ vec_capacity l.fn.self.hands;
+  others : vec_capacity l.self.others ≡ vec_capacity l.fn.self.others;
+  came : l.self.came ≡ l.fn.self.came;
   done : l.self.done ≡ l.fn.self.done;
+  back : l.self.back ≡ l.fn.self.back;
 }

@@ -1,0 +1,136 @@
+-- Jobs, the threads at the first of them, and what became of all.
+use Rattle.std.proofs.Common.{◌≡◌, ℕ, zero, suc, List, [], ◌∷◌, ◌++◌, ◌≤◌, length, refl, sym, ap, ◌∙◌, subst, arith, append-nil, append_assoc, Some}
+use Rattle.std.specs.Prelude.{Result, Ok, Err, slice_get, All, Vec, vec_capacity}
+use Rattle.std.specs.Global.{Global}
+use Rattle.std.proofs.lemmas.Option.{slice_get_within}
+use Rattle.std.specs.declared.thread.PromisedHandle.{PromisedHandle}
+use Rattle.xa_base.specs.Lists.{Pairwise}
+use Rattle.xa_base.proofs.Lists.{all_at, got, none_of, none_side, push_side, some_same, tail_side, through}
+use Rattle.xa_crew.specs.declared.hands.DoneOf.{DoneOf}
+use Rattle.xa_crew.specs.declared.hands.Came.{Came}
+use Rattle.xa_crew.specs.declared.hands.Hands.{Hands}
+use Rattle.xa_crew.specs.Hands.{AreAtFirst, Comes, HasRoom, HasRoomForAll, IsAt}
+
+-- what was gone through is all, where nothing is left
+pub gone_through : {A : Type 0} (first rest all : List A) (n : ℕ) → n ≡ length rest → n ≡ 0 → first ++ rest ≡ all → first ≡ all
+gone_through first rest all n counted none so_far =
+    sym (append-nil first) ∙ ap (λ l. first ++ l) (sym (none_of rest (omega (arith, counted, none)))) ∙ so_far
+
+-- ---- lists side by side, and others after them
+
+module _ {A B : Type 0} (P : A → B → Type 0) where
+  each_after : (x : A) (xs : List A) (y : B) (ys : List B) → P x y → Pairwise P xs ys → (k : ℕ) (u : A) (v : B) → slice_get (x ∷ xs) k ≡ Some u
+      → slice_get (y ∷ ys) k ≡ Some v → P u v
+  each_after x xs y ys here rest zero u v at at' = subst (λ b. P u b) (some_same y v at') (subst (λ a. P a y) (some_same x u at) here)
+  each_after x xs y ys here rest (suc k) u v at at' = rest.each k u v at at'
+
+  both_sides : (xs us : List A) (ys vs : List B) → Pairwise P xs ys → Pairwise P us vs → Pairwise P (xs ++ us) (ys ++ vs)
+  both_sides [] us [] vs all more = more
+  both_sides [] us (y ∷ ys) vs all more = absurd (let many = all.as_many in omega (arith, many))
+  both_sides (x ∷ xs) us [] vs all more = absurd (let many = all.as_many in omega (arith, many))
+  both_sides (x ∷ xs) us (y ∷ ys) vs all more =
+      let rest = both_sides xs us ys vs (tail_side P x xs y ys all) more in
+      record { as_many = ap suc rest.as_many; each = each_after x (xs ++ us) y (ys ++ vs) (all.each 0 x y refl refl) rest }
+
+-- what is the same on both sides
+pub same_side : {A : Type 0} (xs ys : List A) → Pairwise (λ x y. y ≡ x) xs ys → ys ≡ xs
+same_side [] [] all = refl
+same_side [] (y ∷ ys) all = absurd (let many = all.as_many in omega (arith, many))
+same_side (x ∷ xs) [] all = absurd (let many = all.as_many in omega (arith, many))
+same_side {A} (x ∷ xs) (y ∷ ys) all = λ i. all.each 0 x y refl refl i ∷ same_side xs ys (tail_side (λ (a b : A). b ≡ a) x xs y ys all) i
+
+module _ {J D : Type 0} (comes_to : J → D → Type 0) where
+  abbrev Hand : Type 0
+  Hand = PromisedHandle (Result D J) (DoneOf J)
+
+  -- ---- starting
+
+  pub none_at : (hands : List Hand) (others : List (Result D J)) → hands ≡ [] → others ≡ [] → AreAtFirst comes_to [] hands others
+  none_at hands others e f =
+      record { first = []; rest = []; all = refl; at = none_side IsAt [] hands refl e; came = none_side (Comes comes_to) [] others refl f }
+
+  -- one more thread, where no job came to something without one
+  pub one_more_at : (jobs : List J) (hands : List Hand) (others : List (Result D J)) (job : J) (hand : Hand) → others ≡ []
+      → AreAtFirst comes_to jobs hands others
+      → IsAt job hand → AreAtFirst comes_to (jobs ++ job ∷ []) (hands ++ hand ∷ []) others
+  one_more_at jobs hands others job hand none so_far is =
+      let many = so_far.came.as_many in
+      let no_rest : so_far.rest ≡ [] = none_of so_far.rest (let zero = ap (λ l. length l) none in omega (arith, many, zero)) in
+      record {
+        first = so_far.first ++ job ∷ [];
+        rest = [];
+        all =
+            ap (λ l. l ++ job ∷ []) (so_far.all ∙ ap (λ l. so_far.first ++ l) no_rest ∙ append-nil so_far.first)
+            ∙ sym (append-nil (so_far.first ++ job ∷ []));
+        at = push_side IsAt so_far.first hands job hand so_far.at is;
+        came = none_side (Comes comes_to) [] others refl none;
+      }
+
+  -- one more job that has no thread
+  pub one_more_other : (jobs : List J) (hands : List Hand) (others : List (Result D J)) (job : J) (other : Result D J) → AreAtFirst comes_to jobs hands others
+      → Comes comes_to job other → AreAtFirst comes_to (jobs ++ job ∷ []) hands (others ++ other ∷ [])
+  one_more_other jobs hands others job other so_far comes = record {
+    first = so_far.first;
+    rest = so_far.rest ++ job ∷ [];
+    all = ap (λ l. l ++ job ∷ []) so_far.all ∙ append_assoc so_far.first so_far.rest (job ∷ []);
+    at = so_far.at;
+    came = push_side (Comes comes_to) so_far.rest others job other so_far.came comes;
+  }
+
+  -- ---- joining
+
+  -- whichever job the thread is at, this is what the job came to
+  abbrev pub Brings : Hand → Result D J → Type 0
+  Brings hand came = (job : J) → IsAt job hand → Comes comes_to job came
+
+  -- so these are what all jobs came to
+  pub all_came : (jobs : List J) (hands : List Hand) (others brought came : List (Result D J)) → AreAtFirst comes_to jobs hands others
+      → Pairwise Brings hands brought → came ≡ brought ++ others → Pairwise (Comes comes_to) jobs came
+  all_came jobs hands others brought came at brings e =
+      subst (λ js. Pairwise (Comes comes_to) js came) (sym at.all)
+      (subst (Pairwise (Comes comes_to) (at.first ++ at.rest)) (sym e)
+      (both_sides (Comes comes_to) at.first at.rest brought others
+      (through IsAt Brings (Comes comes_to) (λ job hand came there brings. brings job there) at.first hands brought at.at brings) at.came))
+
+  -- ---- what came of it
+
+  -- whichever job came to this, it is done so
+  abbrev pub IsDoneAs : Result D J → D → Type 0
+  IsDoneAs came done = (job : J) → Comes comes_to job came → comes_to job done
+
+  pub all_done : (jobs : List J) (came : List (Result D J)) (done : List D) → Pairwise (Comes comes_to) jobs came → Pairwise IsDoneAs came done
+      → Pairwise comes_to jobs done
+  all_done = through (Comes comes_to) IsDoneAs comes_to (λ job came done comes is. is job comes)
+
+  -- whichever job came to this, it came back
+  abbrev pub IsBackAs : Result D J → J → Type 0
+  IsBackAs came back = (job : J) → Comes comes_to job came → back ≡ job
+
+  pub all_back : (jobs : List J) (came : List (Result D J)) (back : List J) → Pairwise (Comes comes_to) jobs came → Pairwise IsBackAs came back → back ≡ jobs
+  all_back jobs came back comes is =
+      same_side jobs back (through (Comes comes_to) IsBackAs (λ x y. y ≡ x) (λ job r b comes is. is job comes) jobs came back comes is)
+
+  -- a job that came back may run, as each may of which these came
+  pub can_run : (runs : J → Type 0) (jobs : List J) (came : List (Result D J)) (k : ℕ) (back : J) → All runs jobs → Pairwise (Comes comes_to) jobs came
+      → slice_get came k ≡ Some (Err back) → runs back
+  can_run runs jobs came k back all comes at =
+      let within = slice_get_within came k (Err back) at in
+      let many = comes.as_many in
+      let (job, there) = got jobs k (omega (arith, within, many)) in
+      subst runs (sym (comes.each k job (Err back) there at)) (all_at runs jobs k job all there)
+
+-- there is room for all that came of so many jobs, where there was before they were started
+pub room_for_all : {J D : Type 0} (comes_to : J → D → Type 0) (jobs : List J) (many : ℕ) (h : Hands J D) (c : Came J D) → HasRoom many h → many ≡ length jobs
+    → c.done ≡ h.done → c.back ≡ h.back → Pairwise (Comes comes_to) jobs c.came.items → HasRoomForAll c
+room_for_all {J} {D} comes_to jobs many h c room counted done back comes =
+    let done_room = ap (λ (v : Vec D Global). vec_capacity v) done in
+    let back_room = ap (λ (v : Vec J Global). vec_capacity v) back in
+    let for_done = room.done in
+    let for_back = room.back in
+    let few = comes.as_many in
+    record {
+      none_done = ap (λ (v : Vec D Global). v.items) done ∙ room.none_done;
+      none_back = ap (λ (v : Vec J Global). v.items) back ∙ room.none_back;
+      done = omega (arith, few, counted, done_room, for_done);
+      back = omega (arith, few, counted, back_room, for_back);
+    }

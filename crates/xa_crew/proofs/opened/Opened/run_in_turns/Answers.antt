@@ -1,0 +1,38 @@
+use Rattle.std.proofs.Common.{List, subst}
+use Rattle.std.proofs.lemmas.Result.{IfErr-weaker, IfOk-weaker}
+use Rattle.xa_worker.specs.Workers.{WorkerView}
+use Rattle.xa_crew.specs.Opened.{clients_of}
+use Rattle.xa_crew.specs.Turns.{AllGoOn}
+use Rattle.xa_crew.proofs.Members.{all_have_run}
+use Rattle.xa_crew.proofs.WorkersOn.{all_served}
+use Rattle.xa_crew.proofs.opened.Opened.run_in_turns.Goals as goal
+
+pub settle_run-requires : goal.settle_run-requires
+settle_run-requires g c =
+    let (p, is) = c.requires in
+    let left = c.attend_all-worked.new.idle in
+    let goes = subst (λ (ws : List WorkerView). AllGoOn ws left) c.new-turns.ensures c.attend_all-worked.ensures.idled in
+    let served = all_served c.args.self.workers.items left c.run-workers.result.items goes c.run-workers.ensures.served in
+    (p, clients_of c.args.self, all_have_run g.C.Client.works c.args.self is c.attend_all-worked.ensures.worked c.apart-clients.ensures.clients c.apart-clients.ensures.desks served)
+
+pub returns-clause-ran : goal.returns-clause-ran
+returns-clause-ran g c =
+    IfOk-weaker c.settle_run.result _ _
+    (λ r settles p is.
+    let left = c.attend_all-worked.new.idle in
+    let goes = subst (λ (ws : List WorkerView). AllGoOn ws left) c.new-turns.ensures c.attend_all-worked.ensures.idled in
+    let served = all_served c.args.self.workers.items left c.run-workers.result.items goes c.run-workers.ensures.served in
+    settles p (clients_of c.args.self)
+    (all_have_run g.C.Client.works c.args.self is c.attend_all-worked.ensures.worked c.apart-clients.ensures.clients c.apart-clients.ensures.desks served))
+    c.settle_run.ensures.run
+
+pub returns-clause-unsettled : goal.returns-clause-unsettled
+returns-clause-unsettled g c =
+    IfErr-weaker c.settle_run.result _ _
+    (λ r back p is.
+    let left = c.attend_all-worked.new.idle in
+    let goes = subst (λ (ws : List WorkerView). AllGoOn ws left) c.new-turns.ensures c.attend_all-worked.ensures.idled in
+    let served = all_served c.args.self.workers.items left c.run-workers.result.items goes c.run-workers.ensures.served in
+    back p (clients_of c.args.self)
+    (all_have_run g.C.Client.works c.args.self is c.attend_all-worked.ensures.worked c.apart-clients.ensures.clients c.apart-clients.ensures.desks served))
+    c.settle_run.ensures.back

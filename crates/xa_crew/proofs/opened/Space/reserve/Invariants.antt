@@ -1,0 +1,10 @@
+use Rattle.std.proofs.Common.{◌≡◌, length, All}
+use Rattle.xa_crew.specs.Run.{CanTell}
+use Rattle.xa_crew.proofs.opened.Space.reserve.Given as goal
+
+-- there is room to tell of so many desks
+abbrev pub invariant-loop : goal.invariant-loop
+invariant-loop g l = record {
+  many : length l.outstanding.items ≡ l.counter;
+  tell : All CanTell l.outstanding.items;
+}

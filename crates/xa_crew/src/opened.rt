@@ -1,0 +1,254 @@
+//! Clients of one opening with its desks and its workers, before anything is done.
+ghost use Rattle.std.specs.Prelude.{◌≡◌, ◌≤◌, ◌↔◌, [], length, vec_capacity, IfOk, IfErr, OnOk};
+ghost use Rattle.xa_switch.specs.OpenedPieces.{AreOfOneOpening};
+ghost use Rattle.xa_switch.specs.Plans.{IsSound, IsWithinLimits, Setup, planned};
+ghost use Rattle.xa_crew.specs.Opened.{HasSpaceFor, IfNotSettled, IfNotStarted, IsOpened, clients_of};
+ghost use Rattle.xa_crew.specs.Run.{HasRunAll, IsRun};
+
+use crate::client::Client;
+use crate::client_job::{Attended, ClientJob, Worked, attend_all, client_jobs_of};
+use crate::hands::do_all;
+use crate::run::{Ran, Run, apart, settle_run};
+use crate::turns::Turns;
+use crate::worker_job::{WorkerJob, worker_jobs_of, workers_of};
+use std::alloc::{AllocError, Global};
+use std::fmt;
+use std::sync::Wait;
+use std::thread::Threads;
+use xa_base::{MOST_HANDLES, MOST_MANAGERS};
+use xa_desk::{Desk, EndedDesk};
+use xa_switch::laws::outstanding_operations_stay_kept;
+use xa_switch::{OpenFault, Plan, open_switch};
+use xa_words::Code;
+use xa_worker::{DoneWorker, Pace, Worker};
+
+// Room for what clients, desks and workers come to as they are run in turns.
+#[derive(Drop)]
+struct Room<C> {
+    attended: Vec<Attended<C>>,
+    ended: Vec<EndedDesk>,
+    worked: Vec<Worked<C>>,
+    done: Vec<DoneWorker>,
+}
+
+/// All memory that clients and their desks take before they are settled, when no thread is started for them.
+#[derive(Drop)]
+pub(crate) struct Space<C> {
+    jobs: Vec<ClientJob<C>>,
+    outstanding: Vec<Vec<(u32, Code)>>,
+    room: Room<C>,
+}
+
+/// Clients with the desks of one opening, and its workers. Nothing is done yet.
+#[derive(Drop)]
+pub struct Opened<C> {
+    jobs: Vec<ClientJob<C>>,
+    workers: Vec<Worker>,
+    room: Room<C>,
+}
+
+/// Why no settled opening comes of one whose clients were to be run.
+#[derive(Drop)]
+pub enum RunFault<C> {
+    /// Memory was refused, or a thread, before all threads were started. Nothing was run and nothing sent: it is as it
+    /// was opened.
+    Unstarted(Opened<C>),
+    /// All was run, and memory was refused for the settling. What the run has come to is here, and `settle_run` settles
+    /// it once there is memory.
+    Unsettled(Ran<C>),
+}
+
+// What comes back isn't shown: clients needn't be `Debug`.
+impl<C> fmt::Debug for RunFault<C> {
+    fn fmt<W: fmt::Write>(&self, f: &mut fmt::Formatter<W>) -> fmt::Result {
+        match self {
+            RunFault::Unstarted(_) => write!(f, "Unstarted(..)"),
+            RunFault::Unsettled(_) => write!(f, "Unsettled(..)"),
+        }
+    }
+}
+
+impl<C: Client> Space<C> {
+    /// That of so many clients.
+    pub(crate) fn reserve(alloc: Global, clients: usize) -> Result<Space<C>, AllocError>
+        ensures { IfOk result (HasSpaceFor clients) }
+    {
+        let mut outstanding = Vec::with_capacity(alloc, clients)?;
+        for _ in 0..clients {
+            outstanding.push(Vec::with_capacity(alloc, MOST_HANDLES)?)?;
+        }
+        Ok(Space {
+            jobs: Vec::with_capacity(alloc, clients)?,
+            outstanding,
+            room: Room {
+                attended: Vec::with_capacity(alloc, clients)?,
+                ended: Vec::with_capacity(alloc, clients)?,
+                worked: Vec::with_capacity(alloc, clients)?,
+                done: Vec::with_capacity(alloc, MOST_MANAGERS)?,
+            },
+        })
+    }
+
+    /// Clients with the desks of one opening, each with the one at its place, and its workers.
+    pub(crate) fn hold(self, clients: Vec<C>, desks: Vec<Desk>, workers: Vec<Worker>) -> Opened<C>
+        requires space { HasSpaceFor (length clients.items) self }
+        requires as_many { length desks.items ≡ length clients.items }
+        requires opened { (p : Setup) × IsWithinLimits p.numbers p.managers
+            × AreOfOneOpening p desks.items workers.items }
+        ensures opened { (p : Setup) → IsWithinLimits p.numbers p.managers
+            → AreOfOneOpening p desks.items workers.items → IsOpened p result }
+        ensures clients { clients_of result ≡ clients.items }
+    {
+        outstanding_operations_stay_kept();
+        let Space {
+            jobs,
+            outstanding,
+            room,
+        } = self;
+        Opened {
+            jobs: client_jobs_of(clients, desks, outstanding, jobs),
+            workers,
+            room,
+        }
+    }
+}
+
+/// Opens a plan, with a client for each of its threads of control: the client at place t has thread t + 1. Nothing is
+/// run yet. The faults are those of `open_switch`.
+pub fn open_clients<R: Wait, C: Client>(
+    rt: &R,
+    alloc: Global,
+    plan: &Plan,
+    clients: Vec<C>,
+) -> Result<Opened<C>, OpenFault>
+    requires { length clients.items ≡ plan.now.threads }
+    ensures opened { IfOk result (IsOpened (planned plan.now)) }
+    ensures clients { IfOk result (λ o. clients_of o ≡ clients.items) }
+    ensures bad { IfErr result (λ f. f ≡ OpenFault.BadPlan ↔ ¬ IsSound plan.now) }
+    ensures sound { OnOk result (IsSound plan.now) }
+{
+    let (desks, workers) = open_switch(rt, alloc, plan)?;
+    let space = Space::reserve(alloc, clients.len())?;
+    Ok(space.hold(clients, desks, workers))
+}
+
+// Room for the workers' jobs, and for the workers where their jobs come back.
+fn reserve_workers<P: Drop>(
+    alloc: Global,
+    workers: usize,
+) -> Result<(Vec<WorkerJob<P>>, Vec<Worker>), AllocError>
+    ensures jobs { IfOk result (λ r. (r.0.items ≡ []) × (workers ≤ vec_capacity r.0)) }
+    ensures workers { IfOk result (λ r. (r.1.items ≡ []) × (workers ≤ vec_capacity r.1)) }
+{
+    Ok((
+        Vec::with_capacity(alloc, workers)?,
+        Vec::with_capacity(alloc, workers)?,
+    ))
+}
+
+impl<C: Client + Send + 'static> Opened<C> {
+    /// How many managers there are.
+    pub fn managers(&self) -> usize
+        ensures { result ≡ length self.now.workers.items }
+    {
+        self.workers.len()
+    }
+
+    /// Runs each client in a thread of its own, and each worker, and settles what they come to: as `run_clients` does.
+    /// Where memory is refused, or a thread, before all threads are started, it comes back as it was.
+    pub fn run<R: Threads + Wait + Copy + Send + 'static, P: Pace + Drop + Send + 'static>(
+        self,
+        rt: &R,
+        alloc: Global,
+        paces: Vec<P>,
+    ) -> Result<Run<C>, RunFault<C>>
+        requires opened { (p : Setup) × IsOpened p self }
+        requires paces { length self.workers.items ≤ length paces.items }
+        ensures ran { IfOk result (λ r. (p : Setup) → IsOpened p self
+            → IsRun C.works p (clients_of self) r.clients.items r.settled) }
+        ensures unstarted { IfErr result (IfNotStarted (λ o. (clients_of o ≡ clients_of self)
+            × ((p : Setup) → IsOpened p self → IsOpened p o))) }
+        ensures unsettled { IfErr result (IfNotSettled (λ ran. (p : Setup) → IsOpened p self
+            → HasRunAll C.works p (clients_of self) ran)) }
+    {
+        let Opened {
+            jobs,
+            workers,
+            room,
+        } = self;
+        let Ok((worker_jobs, spare)) = reserve_workers(alloc, workers.len()) else {
+            return Err(RunFault::Unstarted(Opened {
+                jobs,
+                workers,
+                room,
+            }));
+        };
+        let worker_jobs = worker_jobs_of(workers, paces, worker_jobs);
+        match do_all(rt, alloc, jobs, worker_jobs) {
+            Ok((worked, workers)) => {
+                let Room {
+                    attended,
+                    ended,
+                    worked: _,
+                    done: _,
+                } = room;
+                let (clients, desks) = apart(worked, attended, ended);
+                match settle_run(
+                    rt,
+                    alloc,
+                    Ran {
+                        clients,
+                        desks,
+                        workers,
+                    },
+                ) {
+                    Ok(run) => Ok(run),
+                    Err(ran) => Err(RunFault::Unsettled(ran)),
+                }
+            }
+            Err((jobs, worker_jobs)) => Err(RunFault::Unstarted(Opened {
+                jobs,
+                workers: workers_of(worker_jobs, spare),
+                room,
+            })),
+        }
+    }
+}
+
+impl<C: Client> Opened<C> {
+    /// Runs all in the thread that calls it, one client after the other, and settles what they come to: as
+    /// `run_clients_in_turns` does. It takes no memory but for the settling: where that is refused, what the run has
+    /// come to comes back.
+    pub fn run_in_turns<R: Wait>(self, rt: &R, alloc: Global) -> Result<Run<C>, Ran<C>>
+        requires { (p : Setup) × IsOpened p self }
+        ensures ran { IfOk result (λ r. (p : Setup) → IsOpened p self
+            → IsRun C.works p (clients_of self) r.clients.items r.settled) }
+        ensures unsettled { IfErr result (λ ran. (p : Setup) → IsOpened p self
+            → HasRunAll C.works p (clients_of self) ran) }
+    {
+        let Opened {
+            jobs,
+            workers,
+            room,
+        } = self;
+        let Room {
+            attended,
+            ended,
+            worked,
+            done,
+        } = room;
+        let mut turns = Turns::new(workers);
+        let worked = attend_all(rt, jobs, &mut turns, worked);
+        let (clients, desks) = apart(worked, attended, ended);
+        let workers = turns.run(rt, done);
+        settle_run(
+            rt,
+            alloc,
+            Ran {
+                clients,
+                desks,
+                workers,
+            },
+        )
+    }
+}

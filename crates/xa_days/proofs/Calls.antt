@@ -1,0 +1,251 @@
+-- What a commit and a resolve sent, as the histories have it.
+use Rattle.std.specs.Prelude.{not}
+use Rattle.std.proofs.Common.{◌≡◌, ℕ, ◌+◌, ◌<◌, ◌≤◌, Bool, true, false, Option, Some, List, [], ◌∷◌, ◌++◌, length, get_or, slice_get, sym, refl, ap, ◌∙◌}
+use Rattle.std.proofs.Common.{subst, arith, append_assoc, length-append, ◌&&◌}
+use Rattle.std.specs.List.{All, Contains, list_any}
+use Rattle.std.proofs.lemmas.Bool.{or_parts}
+use Rattle.std.proofs.lemmas.List.Elements.{All-nil, All-cons, All-contains}
+use Rattle.xa_base.specs.declared.limits.TheConstants.{MOST_MANAGERS}
+use Rattle.xa_base.specs.Lists.{IsUpTo}
+use Rattle.xa_base.proofs.Lists.{all_after}
+use Rattle.xa_words.specs.Xid.{XidName}
+use Rattle.xa_words.specs.Orders.{Decides-xid_eq}
+use Rattle.xa_words.specs.Tran.{TranName, tran_of}
+use Rattle.xa_words.specs.declared.code.Code.{Code}
+use Rattle.xa_words.specs.declared.code.Code.TheVariants.{Done}
+use Rattle.xa_words.specs.declared.request.Op.{Op}
+use Rattle.xa_words.specs.declared.request.Op.TheVariants.{Prepare, Commit, Rollback, Forget}
+use Rattle.xa_words.specs.declared.request.Request.{Request}
+use Rattle.xa_tables.specs.Tables.{Tables}
+use Rattle.xa_tables.specs.History.{History, coded}
+use Rattle.xa_tables.specs.Prepared.{names, is_heur}
+use Rattle.xa_desk.specs.Lanes.{numbered}
+use Rattle.xa_desk.specs.LedgerView.{LedgerView}
+use Rattle.xa_desk.specs.DeskView.{ledger}
+use Rattle.xa_desk.specs.Growth.{HasGrown}
+use Rattle.xa_worker.specs.Journal.{Entry}
+use Rattle.xa_switch.specs.Fates.{IsOpenedWith, first_of, history as history_of, ledgers_of}
+use Rattle.xa_switch.specs.Settling.{Settling, IsSettled, answers, collected, sent}
+use Rattle.xa_switch.proofs.Journaled.{follows_first}
+use Rattle.xa_log.specs.Log.{LogState}
+use Rattle.xa_driver.specs.declared.branch.Branch.{Branch}
+use Rattle.xa_driver.specs.declared.done.Ending.{Ending}
+use Rattle.xa_driver.specs.Commits.{is_commit}
+use Rattle.xa_driver.specs.Resolving.{outcome_op, is_to_commit}
+use Rattle.xa_driver.specs.Trace.{AreBranchesRising, decision_of, IsTranOf}
+use Rattle.xa_atomicity.specs.Conservation.{taken_before}
+use Rattle.xa_atomicity.specs.Cut.{CameSoFar, EachVote, IsCut, IsEnded, IsTold, asking, forgetting, telling}
+use Rattle.xa_atomicity.specs.Cut.{HasSentNone, is_commit_of, is_recorded}
+use Rattle.xa_atomicity.specs.Outcomes.{OnlyTheseOrDecisionsName}
+use Rattle.xa_atomicity.specs.Presumed.{AskedAreLeft, VotedToCommit, WasAsked}
+use Rattle.xa_atomicity.specs.Resolution.{CutCall, IsKept, IsUseIn, OnlyResolves, Opening, cuts}
+use Rattle.xa_atomicity.proofs.CutBranch.{HasSentOnly, asked_only, code_is, ended_voted_so, guide, open_so, told_voted_so, voted_only}
+use Rattle.xa_atomicity.proofs.CutSends.{unrecorded_law}
+use Rattle.xa_atomicity.proofs.CutVotes.{Ended, HasVoted, branch_votes}
+use Rattle.xa_atomicity.proofs.Leading.{IsTowards, Leads}
+use Rattle.xa_atomicity.proofs.Moves.{taken_is}
+use Rattle.xa_atomicity.proofs.Naming.{named_so, named_tran, prepare_part, sent_is}
+use Rattle.xa_atomicity.proofs.Placing.{request_of}
+use Rattle.xa_atomicity.proofs.Requests.{all_earlier, own_between}
+use Rattle.xa_atomicity.proofs.Settled.{by_ledger}
+use Rattle.xa_days.specs.Openings.{CommitsNowhere}
+use Rattle.xa_days.specs.Course.{OnlyTold, tells_outcome}
+use Rattle.xa_days.specs.Calls.{CommitsInCall, DecidesNowhere, IsMarkedNowhere, VotedInCall, taken_till_asked}
+
+-- ---- resolves
+
+told_either : (commit : Bool) (x : XidName) → tells_outcome (outcome_op commit x) ≡ true
+told_either true x = refl
+told_either false x = refl
+
+pub resolves_tell : (m : ℕ) (x : XidName) (o : Opening) → IsUpTo MOST_MANAGERS m → IsKept o → OnlyResolves (tran_of x) o
+    → OnlyTold x (history_of o.settled m)
+resolves_tell m x o up kept only =
+    let all = named_so o.settled kept.settled m up (λ op. names x op ≡ true → tells_outcome op ≡ true) (tran_of x) o.uses (λ n. cc) kept.uses (λ q there r among. record {
+      ends = λ _ _ n. told_either r.commit r.xid;
+      forgets = λ _ _ n. refl;
+    }) (only m) in
+    λ k d lt n. all k d lt (named_tran x (get_or (history_of o.settled m) k d).op n) n
+
+outcome_named : (b : Bool) (y x : XidName) → names x (outcome_op b y) ≡ true → y ≡ x
+outcome_named true y x n = (Decides-xid_eq y x).0 n
+outcome_named false y x n = (Decides-xid_eq y x).0 n
+
+pub resolves_commit_nothing : (m : ℕ) (x : XidName) (o : Opening) → IsUpTo MOST_MANAGERS m → IsKept o → OnlyResolves (tran_of x) o → IsMarkedNowhere m x o
+    → CommitsNowhere x (history_of o.settled m)
+resolves_commit_nothing m x o up kept only marked =
+    let all = named_so o.settled kept.settled m up (λ op. names x op ≡ true → is_commit op ≡ false) (tran_of x) o.uses (λ n. cc) kept.uses (λ q there r among. record {
+      ends = λ manager is n.
+          let same : r.xid ≡ x = outcome_named r.commit r.xid x n in
+          let off : r.commit ≡ false = is ∙ ap (is_to_commit q.records m) same ∙ marked q there in
+          ap (λ b. is_commit (outcome_op b r.xid)) off;
+      forgets = λ _ _ n. refl;
+    }) (only m) in
+    λ k d lt n. all k d lt (named_tran x (get_or (history_of o.settled m) k d).op n) n
+
+-- ---- a commit
+
+each_of : (P : Branch → Code → Type 0) (bs : List Branch) (vs : List Code) → EachVote P bs vs → All (λ b. (v : Code) × P b v) bs
+each_of P [] [] h = All-nil (λ b. (v : Code) × P b v)
+each_of P (b ∷ bs) (v ∷ vs) h = All-cons (λ c. (v : Code) × P c v) b bs (v, h.0) (each_of P bs vs h.1)
+each_of P bs vs h = absurd h
+
+pub positive_each : (lo : ℕ) (bs : List Branch) → AreBranchesRising lo bs → All (λ b. 1 ≤ b.m) bs
+positive_each lo [] rising = All-nil (λ (b : Branch). 1 ≤ b.m)
+positive_each lo (b ∷ bs) rising = All-cons (λ (b : Branch). 1 ≤ b.m) b bs (let up = rising.0 in omega (arith, up)) (positive_each b.m bs rising.1)
+
+-- what it sent to a branch's manager after the branch's Prepare leads the branch, or doesn't name it
+module _ (bs : List Branch) (old new : List LedgerView) where
+  abbrev Asked : Branch → Type 0
+  Asked b = slice_get (ledger new b.m).sent (length (ledger old b.m).sent) ≡ Some (Prepare b.xid)
+
+  abbrev Sent : Branch → Type 0
+  Sent b = (commit : Bool) × HasSentOnly commit (Unit {0}) b.xid (ledger old b.m) (ledger new b.m)
+
+  voted_sent : (c : Bool) (b : Branch) (v : Code) → HasVoted (IsTowards c (Unit {0}) b.xid) b v (ledger old b.m) (ledger new b.m) → Asked b → Sent b
+  voted_sent c b v h first =
+      (c, voted_only c (Unit {0}) b v (ledger old b.m) (ledger new b.m) h (open_so c (Unit {0}) b v (ledger old b.m) (ledger new b.m) h first))
+
+  all_sent : {tran : TranName} {log later : LogState} {endings : List Ending} → CameSoFar tran bs old new log later endings
+      → All (λ b. Asked b → Sent b) bs
+  all_sent (asking same unknown each) = λ j d lt first.
+      let b : Branch = get_or bs j d in
+      (false, asked_only false (Unit {0}) b (ledger old b.m) (ledger new b.m) (each j d lt) first)
+  all_sent (telling votes logged logs unknown each) = λ j d lt first.
+      let b : Branch = get_or bs j d in
+      let c : Bool = decision_of votes logged in
+      let w = each_of (λ b v. IsTold c b v (ledger old b.m) (ledger new b.m)) bs votes each j d lt in
+      voted_sent c b w.0 (told_voted_so c (Unit {0}) b w.0 (ledger old b.m) (ledger new b.m) w.1) first
+  all_sent {endings = endings} (forgetting votes logged seconds logs each) = λ j d lt first.
+      let b : Branch = get_or bs j d in
+      let c : Bool = decision_of votes logged in
+      let Q : Branch → Code → Type 0 = λ b v. (z : Option Code) × IsEnded c b v z (ledger old b.m) (ledger new b.m) in
+      let w = each_of Q bs votes (branch_votes (Ended c old new) Q (λ b v z e h. (z, h.0)) bs votes seconds endings each) j d lt in
+      voted_sent c b w.0 (ended_voted_so c (Unit {0}) b w.0 w.1.0 (ledger old b.m) (ledger new b.m) (λ _. tt) w.1.1) first
+
+leads_tells : (commit : Bool) (op : Op) → Leads commit (Unit {0}) op → tells_outcome op ≡ true
+leads_tells commit (Commit y one_phase) z = ap not z.0
+leads_tells commit (Rollback y) z = refl
+leads_tells commit (Forget y) z = refl
+leads_tells commit op z = absurd z
+
+module _ (s : Settling) (k : CutCall) (b : Branch) (T : Tables) (settled : IsSettled s) (use_ : IsUseIn s (cuts k)) (there : Contains k.branches b)
+    (voted : VotedToCommit k s b) (own : AskedAreLeft k s) (first : first_of s b.m ≡ Some T) (plain : DecidesNowhere b.xid (history_of s b.m))
+    (quiet : CommitsNowhere b.xid (taken_till_asked k s b)) where
+  abbrev t : ℕ
+  t = k.thread
+
+  abbrev m : ℕ
+  m = b.m
+
+  abbrev x : XidName
+  x = b.xid
+
+  abbrev a : LedgerView
+  a = ledger k.desk.ledgers m
+
+  abbrev a' : LedgerView
+  a' = ledger k.new m
+
+  abbrev n : ℕ
+  n = length a.sent
+
+  abbrev H : History
+  H = history_of s m
+
+  made : IsCut k.branches k.desk k.new k.log k.later k.endings
+  made = use_.made
+
+  positive : 1 ≤ m
+  positive = All-contains (λ (c : Branch). 1 ≤ c.m) k.branches b (positive_each 0 k.branches made.may.rising) there
+
+  grown : HasGrown a' (ledger (ledgers_of s t) m)
+  grown = use_.grown.each m positive
+
+  sends : (commit : Bool) × HasSentOnly commit (Unit {0}) x a a'
+  sends =
+      All-contains (λ (c : Branch). Asked k.branches k.desk.ledgers k.new c → Sent k.branches k.desk.ledgers k.new c) k.branches b
+      (all_sent k.branches k.desk.ledgers k.new made.far) there voted.asked
+
+  only : OnlyTheseOrDecisionsName x t n (length a'.sent) H
+  only =
+      All-contains (λ (c : Branch). WasAsked k c → OnlyTheseOrDecisionsName c.xid t (length (ledger k.desk.ledgers c.m).sent) (length (ledger k.new c.m).sent) (history_of s c.m)) k.branches b own there voted.asked
+
+  opened : IsOpenedWith s m T
+  opened = follows_first s m T settled first
+
+  agreed : slice_get (answers t (coded H T)) n ≡ Some (n, Done)
+  agreed =
+      All-contains (λ (p : ℕ × Code). slice_get (answers t (coded H T)) p.0 ≡ Some p) (collected s t m) (n, Done)
+      (subst (λ (J : List Entry). All (λ p. slice_get (answers t J) p.0 ≡ Some p) (collected s t m)) opened.codes (settled.agree t m).coded)
+      (subst (λ (l : List (ℕ × Code)). Contains l (n, Done)) (sym (by_ledger (ledgers_of s t) m (λ (l : LedgerView). l.collected) positive refl)) voted.agreed)
+
+  pub voted_in_call : VotedInCall k s b T
+  voted_in_call =
+      let at = prepare_part s settled m positive t x a a' grown sends.1.rest sends.1.sent in
+      let before : History = at.1.before in
+      let after : History = at.1.after in
+      let place : H ≡ before ++ request_of t n (Prepare x) ∷ after =
+      at.1.place ∙ ap (λ j. before ++ request_of t j (Prepare x) ∷ after) (let e : 0 + n ≡ n = omega arith in e) in
+      let low : (j : ℕ) (d : Request) → j < length before → (get_or before j d).thread ≡ t → (get_or before j d).number < n = λ j d lt mine.
+      let up = all_earlier t before 0 a.sent at.1.earlier j d lt mine in omega (arith, up) in
+      let taken : taken_till_asked k s b ≡ before = ap (taken_before t n) place ∙ taken_is t n before after (request_of t n (Prepare x)) refl refl low in
+      let P : Request → Type 0 = λ r. names x r.op ≡ true → is_heur r.op ≡ false in
+      let plain_after : All P after = all_after P before (request_of t n (Prepare x)) after (subst (All P) place plain) in
+      record {
+        votes = record {
+          before = before;
+          ask = request_of t n (Prepare x);
+          after = after;
+          parts = place;
+          asks = refl;
+          agrees = code_is s settled m positive t x a a' grown sends.0 (Unit {0}) sends.1 only before after place T Done agreed;
+          uncommitted = subst (CommitsNowhere x) taken quiet;
+          told = λ j d lt named.
+              leads_tells sends.0 (get_or after j d).op
+              (guide s settled m positive t x a a' grown sends.0 (Unit {0}) sends.1 only before after place j d lt named (plain_after j d lt named));
+        };
+        asked = sym taken;
+      }
+
+-- ---- a commit that sent no Commit to a branch
+
+none_each : (f : Op → Bool) (ops : List Op) → list_any f ops ≡ false → All (λ op. f op ≡ false) ops
+none_each f [] none = All-nil (λ (op : Op). f op ≡ false)
+none_each f (op ∷ ops) none =
+    let parts = or_parts (f op) (list_any f ops) none in
+    All-cons (λ (op : Op). f op ≡ false) op ops parts.0 (none_each f ops parts.1)
+
+pub unsent_law : (s : Settling) (k : CutCall) (b : Branch) → IsSettled s → IsUseIn s (cuts k) → 1 ≤ b.m
+    → HasSentNone (is_commit_of b.xid) (ledger k.desk.ledgers b.m) (ledger k.new b.m) → CommitsInCall k s b → CommitsNowhere b.xid (history_of s b.m)
+unsent_law s k b settled use_ positive z within j d lt named =
+    let old : LedgerView = ledger k.desk.ledgers b.m in
+    let new : LedgerView = ledger k.new b.m in
+    let grown : HasGrown new (ledger (ledgers_of s k.thread) b.m) = use_.grown.each b.m positive in
+    let P : Op → Type 0 = λ op. is_commit_of b.xid op ≡ false in
+    let ops : sent s k.thread b.m ≡ old.sent ++ (z.more ++ grown.sent.0) =
+    sent_is s b.m positive k.thread ∙ grown.sent.1 ∙ ap (λ l. l ++ grown.sent.0) z.sent ∙ append_assoc old.sent z.more grown.sent.0 in
+    let size : length new.sent ≡ length old.sent + length z.more = ap (λ l. length l) z.sent ∙ length-append old.sent z.more in
+    let each =
+    own_between k.thread P (history_of s b.m) old.sent z.more grown.sent.0 ((settled.agree k.thread b.m).carried ∙ ap (numbered k.thread 0) ops)
+    (none_each (is_commit_of b.xid) z.more z.none) in
+    let r : Request = get_or (history_of s b.m) j d in
+    elim (is_commit r.op) as (λ c. is_commit r.op ≡ c → c ≡ false) [
+      | true ↦ λ on.
+          let w = within j d lt named on in
+          let no : is_commit_of b.xid r.op ≡ false = each j d lt w.thread w.from (subst (λ n. r.number < n) size w.below) in
+          let yes : is_commit_of b.xid r.op ≡ true = λ i. named i && on i in
+          let y : true ≡ false = sym yes ∙ no in
+          cc
+      | false ↦ λ off. refl
+    ] refl
+
+pub unrecorded_nowhere : (s : Settling) (k : CutCall) (b : Branch) (t : TranName) → IsSettled s → IsUseIn s (cuts k) → Contains k.branches b
+    → IsTranOf k.branches t → is_recorded k.later t ≡ false → CommitsInCall k s b → CommitsNowhere b.xid (history_of s b.m)
+unrecorded_nowhere s k b t settled use_ there of_tran off within =
+    let made : IsCut k.branches k.desk k.new k.log k.later k.endings = use_.made in
+    unsent_law s k b settled use_
+    (All-contains (λ (c : Branch). 1 ≤ c.m) k.branches b (positive_each 0 k.branches made.may.rising) there)
+    (All-contains (λ (c : Branch). HasSentNone (is_commit_of c.xid) (ledger k.desk.ledgers c.m) (ledger k.new c.m)) k.branches b
+    (unrecorded_law k.branches k.desk k.new k.log k.later k.endings made t of_tran off) there)
+    within

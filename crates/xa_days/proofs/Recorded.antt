@@ -1,0 +1,180 @@
+-- Where the log has a transaction's record, all of its branches were asked, and none voted against.
+use Rattle.std.specs.Prelude.{if◌then◌else◌, ◌&&◌, is_some}
+use Rattle.std.proofs.Common.{◌≡◌, ℕ, zero, suc, ◌≤◌, Bool, true, false, ◌||◌, Option, None, Some, List, [], ◌∷◌, ◌++◌, length, get_or, slice_get, sym, refl}
+use Rattle.std.proofs.Common.{ap, ◌∙◌}
+use Rattle.std.proofs.Common.{subst, arith, append_assoc}
+use Rattle.std.specs.List.{All, Contains, list_any}
+use Rattle.std.proofs.lemmas.Bool.{and_parts, or_parts, not-true}
+use Rattle.std.proofs.lemmas.List.Elements.{All-nil, All-cons, Contains-append_right}
+use Rattle.xa_base.specs.Lists.{Begins}
+use Rattle.xa_base.proofs.Lists.{begins_on}
+use Rattle.xa_base.proofs.Truth.{by_bool, by_if}
+use Rattle.xa_words.specs.Xid.{XidName}
+use Rattle.xa_words.specs.Tran.{TranName}
+use Rattle.xa_words.specs.declared.code.Code.{Code}
+use Rattle.xa_words.specs.declared.code.Code.TheVariants.{Done, RdOnly}
+use Rattle.xa_words.specs.declared.request.Op.{Op}
+use Rattle.xa_words.specs.declared.request.Op.TheVariants.{Forget, Prepare}
+use Rattle.xa_desk.specs.LedgerView.{LedgerView, learnt_shut}
+use Rattle.xa_desk.specs.DeskView.{ledger}
+use Rattle.xa_desk.specs.Growth.{HasGrown}
+use Rattle.xa_switch.specs.Fates.{ledgers_of}
+use Rattle.xa_switch.specs.Settling.{Settling}
+use Rattle.xa_log.specs.Log.{LogState, record_of}
+use Rattle.xa_driver.specs.declared.branch.Branch.{Branch}
+use Rattle.xa_driver.specs.Commits.{is_commit}
+use Rattle.xa_driver.specs.Decision.{decides_commit, has_yes, is_no, is_yes}
+use Rattle.xa_driver.specs.Endings.{is_decided, second_op, third_op}
+use Rattle.xa_tables.specs.Prepared.{names}
+use Rattle.xa_driver.specs.Trace.{IsTranOf, Logs, appended, decision_of, failed, unwanted}
+use Rattle.xa_driver.proofs.Calls.{one_tran}
+use Rattle.xa_driver.proofs.Mapped.{Any, IsAskedFor, any_asked}
+use Rattle.xa_atomicity.specs.Cut.{CameSoFar, EachVote, HasSentNone, IsCut, IsEnded, IsTold, asking, forgetting, is_commit_of, is_recorded, telling}
+use Rattle.xa_atomicity.specs.Presumed.{WasAsked}
+use Rattle.xa_atomicity.specs.Resolution.{CutCall, IsUseIn, cuts}
+use Rattle.xa_atomicity.proofs.CutVotes.{Ended, HasVoted, branch_votes, ended_voted, first_is, prepare_sent, told_voted}
+use Rattle.xa_atomicity.proofs.Placing.{at_seam}
+use Rattle.xa_days.specs.Recorded.{AgreedOrRead, agreed, read}
+use Rattle.xa_days.proofs.Calls.{positive_each}
+
+-- ---- the record is there only where no vote was against
+
+decided_so : (tran : TranName) (managers : List Bool) (votes : List Code) (logged : Bool) (log later : LogState) → record_of log tran ≡ None
+    → is_recorded later tran ≡ true → Logs tran managers votes logged log later → list_any is_no votes ≡ false
+decided_so tran managers votes logged log later absent on (appended wants _ _) = not-true _ (and_parts (decides_commit votes) (has_yes votes) wants).0
+decided_so tran managers votes logged log later absent on (failed _ _ is) =
+    let z : false ≡ true = sym (ap (λ (l : LogState). is_some (record_of l tran)) is ∙ ap is_some absent) ∙ on in cc
+decided_so tran managers votes logged log later absent on (unwanted _ _ is) =
+    let z : false ≡ true = sym (ap (λ (l : LogState). is_some (record_of l tran)) is ∙ ap is_some absent) ∙ on in cc
+
+-- each branch with its vote, which isn't against
+votes_for : (P : Branch → Code → Type 0) (bs : List Branch) (vs : List Code) → EachVote P bs vs → list_any is_no vs ≡ false
+    → All (λ b. (v : Code) × (P b v × (is_no v ≡ false))) bs
+votes_for P [] [] h none = All-nil (λ b. (v : Code) × (P b v × (is_no v ≡ false)))
+votes_for P (b ∷ bs) (v ∷ vs) h none =
+    let parts = or_parts (is_no v) (list_any is_no vs) none in
+    All-cons (λ c. (w : Code) × (P c w × (is_no w ≡ false))) b bs (v, (h.0, parts.0)) (votes_for P bs vs h.1 parts.1)
+votes_for P bs vs h none = absurd h
+
+-- it is one of two
+vote_so : (v : Code) → is_no v ≡ false → v ≡ (if is_yes v then Done else RdOnly)
+vote_so Done for = refl
+vote_so RdOnly for = refl
+vote_so v for = cc
+
+-- ---- what was sent after the vote of a branch that only read
+
+abbrev NoCommit : XidName → Op → Type 0
+NoCommit x op = is_commit_of x op ≡ false
+
+unnamed_none : (x : XidName) (op : Op) → names x op ≡ false → NoCommit x op
+unnamed_none x op n = ap (λ b. b && is_commit op) n
+
+untold : (c : Bool) (x : XidName) → IsAskedFor (NoCommit x) (second_op c x RdOnly)
+untold true x = tt
+untold false x = tt
+
+forgets_none : (x : XidName) (z : Option Code) → IsAskedFor (NoCommit x) (third_op x z)
+forgets_none x None = tt
+forgets_none x (Some c) =
+    by_if (IsAskedFor (NoCommit x)) (is_decided c) (Some (Forget x)) None (λ _. by_bool (λ b. (b && false) ≡ false) (names x (Forget x)) (λ _. refl) (λ _. refl)) (λ _. tt)
+
+-- ---- one branch
+
+module _ (s : Settling) (k : CutCall) (use_ : IsUseIn s (cuts k)) (b : Branch) (positive : 1 ≤ b.m) where
+  abbrev a : LedgerView
+  a = ledger k.desk.ledgers b.m
+
+  abbrev a' : LedgerView
+  a' = ledger k.new b.m
+
+  -- its vote was collected, as the settled opening has it
+  record Collected (v : Code) : Type 0 where
+    asked : WasAsked k b
+    voted : Contains (ledger (ledgers_of s k.thread) b.m).collected (length a.sent, v)
+    open_ : learnt_shut a ≡ false
+
+  collected_so : (P : Op → Type 0) (v : Code) → is_no v ≡ false → HasVoted P b v a a' → Collected v
+  collected_so P v for h =
+      let open_ : learnt_shut a ≡ false =
+      elim (learnt_shut a) as (λ c. learnt_shut a ≡ c → c ≡ false) [
+        | true ↦ λ shut. let z : true ≡ false = ap is_no (sym (h.prepared shut)) ∙ for in cc
+        | false ↦ λ _. refl
+      ] refl in
+      let grown : HasGrown a' (ledger (ledgers_of s k.thread) b.m) = use_.grown.each b.m positive in
+      let took : Begins (a.collected ++ (length a.sent, v) ∷ []) a'.collected =
+      subst (λ (l : LedgerView). Begins l.collected a'.collected) (first_is b v a open_) h.rest.collected in
+      let all = begins_on (a.collected ++ (length a.sent, v) ∷ []) a'.collected (ledger (ledgers_of s k.thread) b.m).collected took grown.collected in
+      record {
+        asked = ap (λ l. slice_get l (length a.sent)) (prepare_sent P b v a a' open_ h) ∙ at_seam a.sent (Prepare b.xid) h.rest.more;
+        voted = subst (λ (l : List (ℕ × Code)). Contains l (length a.sent, v)) (sym (all.1 ∙ append_assoc a.collected ((length a.sent, v) ∷ []) all.0))
+            (Contains-append_right a.collected ((length a.sent, v) ∷ all.0) (length a.sent, v) (zero, omega arith, refl));
+        open_ = open_;
+      }
+
+  none_sent : (v : Code) → learnt_shut a ≡ false → HasVoted (NoCommit b.xid) b v a a' → HasSentNone (is_commit_of b.xid) a a'
+  none_sent v open_ h = record {
+    more = Prepare b.xid ∷ h.rest.more;
+    sent = prepare_sent (NoCommit b.xid) b v a a' open_ h;
+    none = none_any (Prepare b.xid ∷ h.rest.more) (All-cons (NoCommit b.xid) (Prepare b.xid) h.rest.more (no_prepare b.xid) h.rest.all);
+  }
+    where
+      no_prepare : (x : XidName) → NoCommit x (Prepare x)
+      no_prepare x = elim (names x (Prepare x)) as (λ c. (c && false) ≡ false) [ true ↦ refl | false ↦ refl ]
+
+      none_any : (ops : List Op) → All (NoCommit b.xid) ops → list_any (is_commit_of b.xid) ops ≡ false
+      none_any [] all = refl
+      none_any (op ∷ ops) all = (λ i. all 0 op (omega arith) i || none_any ops (λ j d lt. all (suc j) d (omega arith)) i)
+
+  by_vote : (v : Code) → is_no v ≡ false → HasVoted Any b v a a' → (v ≡ RdOnly → HasVoted (NoCommit b.xid) b v a a') → AgreedOrRead k s b
+  by_vote v for h quiet =
+      let z = collected_so Any v for h in
+      elim (is_yes v) as (λ c. is_yes v ≡ c → AgreedOrRead k s b) [
+        | true ↦ λ y. agreed (record { asked = z.asked; agreed = subst (λ w. Contains (ledger (ledgers_of s k.thread) b.m).collected (length a.sent, w)) (vote_so v for ∙ ap (λ c. if c then Done else RdOnly) y) z.voted })
+        | false ↦ λ n.
+            let is : v ≡ RdOnly = vote_so v for ∙ ap (λ c. if c then Done else RdOnly) n in
+            read (record {
+              asked = z.asked;
+              agreed = subst (λ w. Contains (ledger (ledgers_of s k.thread) b.m).collected (length a.sent, w)) is z.voted;
+              untold = none_sent v z.open_ (quiet is);
+            })
+      ] refl
+
+-- ---- all of them
+
+module _ (s : Settling) (k : CutCall) (use_ : IsUseIn s (cuts k)) (t : TranName) (of_tran : IsTranOf k.branches t) (on : is_recorded k.later t ≡ true) where
+  made : IsCut k.branches k.desk k.new k.log k.later k.endings
+  made = use_.made
+
+  there : is_recorded k.later made.may.tran ≡ true
+  there = ap (is_recorded k.later) (one_tran k.branches made.may.tran t made.may.some made.may.one of_tran) ∙ on
+
+  positives : All (λ b. 1 ≤ b.m) k.branches
+  positives = positive_each 0 k.branches made.may.rising
+
+  by_far : CameSoFar made.may.tran k.branches k.desk.ledgers k.new k.log k.later k.endings → All (AgreedOrRead k s) k.branches
+  by_far (asking same unknown each) =
+      let z : false ≡ true = sym (ap (λ (l : LogState). is_some (record_of l made.may.tran)) same ∙ ap is_some made.may.absent) ∙ there in cc
+  by_far (telling votes logged logs unknown each) = λ j d lt.
+      let b : Branch = get_or k.branches j d in
+      let c : Bool = decision_of votes logged in
+      let none = decided_so made.may.tran _ votes logged k.log k.later made.may.absent there logs in
+      let w = votes_for (λ b v. IsTold c b v (ledger k.desk.ledgers b.m) (ledger k.new b.m)) k.branches votes each none j d lt in
+      by_vote s k use_ b (positives j d lt) w.0 w.1.1
+      (told_voted Any c b w.0 (ledger k.desk.ledgers b.m) (ledger k.new b.m) (λ op _. tt) (any_asked (second_op c b.xid w.0)) w.1.0)
+      (λ is. told_voted (NoCommit b.xid) c b w.0 (ledger k.desk.ledgers b.m) (ledger k.new b.m) (unnamed_none b.xid)
+      (subst (λ v. IsAskedFor (NoCommit b.xid) (second_op c b.xid v)) (sym is) (untold c b.xid)) w.1.0)
+  by_far (forgetting votes logged seconds logs each) = λ j d lt.
+      let b : Branch = get_or k.branches j d in
+      let c : Bool = decision_of votes logged in
+      let none = decided_so made.may.tran _ votes logged k.log k.later made.may.absent there logs in
+      let Q : Branch → Code → Type 0 = λ b v. (z : Option Code) × IsEnded c b v z (ledger k.desk.ledgers b.m) (ledger k.new b.m) in
+      let w =
+      votes_for Q k.branches votes (branch_votes (Ended c k.desk.ledgers k.new) Q (λ b v z e h. (z, h.0)) k.branches votes seconds k.endings each) none j d lt in
+      by_vote s k use_ b (positives j d lt) w.0 w.1.1
+      (ended_voted Any c b w.0 (ledger k.desk.ledgers b.m) (ledger k.new b.m) (λ op _. tt) (any_asked (second_op c b.xid w.0)) w.1.0.0 (any_asked (third_op b.xid w.1.0.0)) w.1.0.1)
+      (λ is. ended_voted (NoCommit b.xid) c b w.0 (ledger k.desk.ledgers b.m) (ledger k.new b.m) (unnamed_none b.xid)
+      (subst (λ v. IsAskedFor (NoCommit b.xid) (second_op c b.xid v)) (sym is) (untold c b.xid)) w.1.0.0 (forgets_none b.xid w.1.0.0) w.1.0.1)
+
+  pub recorded_law : All (AgreedOrRead k s) k.branches
+  recorded_law = by_far made.far

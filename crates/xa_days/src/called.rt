@@ -1,0 +1,57 @@
+//! What a commit and a resolve say of the requests that name a branch, for the laws of days.
+ghost use Rattle.std.specs.Prelude.{◌≡◌, ◌≤◌, ℕ, Some, true, false};
+ghost use Rattle.std.specs.List.{All, Contains};
+ghost use Rattle.xa_base.specs.declared.limits.TheConstants.{MOST_MANAGERS};
+ghost use Rattle.xa_base.specs.Lists.{IsUpTo};
+ghost use Rattle.xa_words.specs.Xid.{XidName};
+ghost use Rattle.xa_words.specs.Tran.{TranName, tran_of};
+ghost use Rattle.xa_tables.specs.Tables.{Tables};
+ghost use Rattle.xa_desk.specs.DeskView.{ledger};
+ghost use Rattle.xa_switch.specs.Settling.{Settling, IsSettled};
+ghost use Rattle.xa_switch.specs.Fates.{first_of, history};
+ghost use Rattle.xa_driver.specs.declared.branch.Branch.{Branch};
+ghost use Rattle.xa_driver.specs.Trace.{IsTranOf};
+ghost use Rattle.xa_atomicity.specs.Cut.{HasSentNone, is_commit_of, is_recorded};
+ghost use Rattle.xa_atomicity.specs.Presumed.{AskedAreLeft, VotedToCommit};
+ghost use Rattle.xa_atomicity.specs.Resolution.{CutCall, IsKept, IsUseIn, OnlyResolves, Opening, cuts};
+ghost use Rattle.xa_days.specs.Openings.{CommitsNowhere};
+ghost use Rattle.xa_days.specs.Course.{OnlyTold};
+ghost use Rattle.xa_days.specs.Recorded.{AgreedOrRead};
+ghost use Rattle.xa_days.specs.Calls.{CommitsInCall, DecidesNowhere, IsMarkedNowhere, VotedInCall, taken_till_asked};
+
+/// A branch of a commit that voted to commit, in its settled opening: its Prepare stands in its manager's history with
+/// XA_OK, and from then on it is only told its outcome, if nobody else names it after that, nothing committed it
+/// before, and no manager decides it.
+pub fn branches_of_a_commit_vote()
+    ensures { (s : Settling) (k : CutCall) (b : Branch) (T : Tables) → IsSettled s → IsUseIn s (cuts k)
+        → Contains k.branches b → VotedToCommit k s b → AskedAreLeft k s → first_of s b.m ≡ Some T
+        → DecidesNowhere b.xid (history s b.m) → CommitsNowhere b.xid (taken_till_asked k s b)
+        → VotedInCall k s b T }
+{}
+
+/// Where nothing but resolves names a transaction in an opening, its branches are only told their outcome there; and a
+/// branch is not committed there that no resolve has a record of.
+pub fn resolves_only_tell_outcomes()
+    ensures told { (m : ℕ) (x : XidName) (o : Opening) → IsUpTo MOST_MANAGERS m → IsKept o
+        → OnlyResolves (tran_of x) o → OnlyTold x (history o.settled m) }
+    ensures unmarked { (m : ℕ) (x : XidName) (o : Opening) → IsUpTo MOST_MANAGERS m → IsKept o
+        → OnlyResolves (tran_of x) o → IsMarkedNowhere m x o → CommitsNowhere x (history o.settled m) }
+{}
+
+/// A branch is committed nowhere in a settled opening to which its commit sent no Commit of it, if nobody else commits
+/// it: so each branch of a transaction of which the log has no record.
+pub fn branches_that_are_not_told_to_commit_are_not_committed()
+    ensures unsent { (s : Settling) (k : CutCall) (b : Branch) → IsSettled s → IsUseIn s (cuts k) → 1 ≤ b.m
+        → HasSentNone (is_commit_of b.xid) (ledger k.desk.ledgers b.m) (ledger k.new b.m) → CommitsInCall k s b
+        → CommitsNowhere b.xid (history s b.m) }
+    ensures unrecorded { (s : Settling) (k : CutCall) (b : Branch) (t : TranName) → IsSettled s → IsUseIn s (cuts k)
+        → Contains k.branches b → IsTranOf k.branches t → is_recorded k.later t ≡ false → CommitsInCall k s b
+        → CommitsNowhere b.xid (history s b.m) }
+{}
+
+/// Where the log has the record of a transaction, all of its branches were asked to prepare, and each voted to commit
+/// or had changed nothing.
+pub fn recorded_branches_agreed_or_read()
+    ensures { (s : Settling) (k : CutCall) (t : TranName) → IsUseIn s (cuts k) → IsTranOf k.branches t
+        → is_recorded k.later t ≡ true → All (AgreedOrRead k s) k.branches }
+{}

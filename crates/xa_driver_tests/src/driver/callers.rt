@@ -1,0 +1,252 @@
+//! A caller's own functions: what they owe of the desk on every exit follows from what the calls promise, also where
+//! want of memory is passed on, and with no proof file. And two threads that resolve by the logs of all coordinators.
+ghost use Rattle.std.specs.Prelude.{◌≡◌};
+ghost use Rattle.xa_desk.specs.GoesOn.{GoesOn};
+ghost use Rattle.xa_desk.specs.Kept.{AllKept};
+
+use std::alloc::Global;
+use std::process::Abort;
+use std::sync::Wait;
+use std::test::Fail;
+use std::thread::Threads;
+use xa_crew::laws::idles_go_on;
+use xa_crew::{Client, ClientAgain, Run, run_clients, run_clients_again_in_turns};
+use xa_desk::laws::desks_go_on;
+use xa_desk::{Desk, Idle};
+use xa_driver::{
+    Branch, Outcome, Resolved, commit_all, commit_until, may_commit, may_resolve, resolve,
+};
+use xa_log::{DecisionRecords, MemoryLog};
+use xa_switch::{Again, Plan, RmOp, Scan, Settled, native, xa_call};
+use xa_words::{Call, Code, Death, Delta, Key, TMNOFLAGS, TMSUCCESS, Xid};
+use xa_worker::Free;
+
+// Opens the branch's manager, and starts the branch.
+fn start<R: Wait, I: Idle>(rt: &R, desk: &mut Desk, branch: &Branch, idle: &mut I)
+    ensures goes_on { GoesOn desk.old desk.new }
+    ensures kept { AllKept desk.old → AllKept desk.new }
+    ensures idled { I.leads idle.old idle.new }
+{
+    desks_go_on();
+    idles_go_on::<I>();
+    let Branch { m, xid } = *branch;
+    xa_call(rt, desk, Call::OpenRm, None, m, TMNOFLAGS, idle);
+    xa_call(rt, desk, Call::Start, Some(xid), m, TMNOFLAGS, idle);
+}
+
+// Makes a change in the branch, at its manager.
+fn work<R: Wait, I: Idle>(rt: &R, desk: &mut Desk, branch: &Branch, change: RmOp, idle: &mut I)
+    ensures goes_on { GoesOn desk.old desk.new }
+    ensures kept { AllKept desk.old → AllKept desk.new }
+    ensures idled { I.leads idle.old idle.new }
+{
+    desks_go_on();
+    idles_go_on::<I>();
+    start(rt, desk, branch, idle);
+    let Branch { m, xid } = *branch;
+    native(rt, desk, change, m, TMNOFLAGS, idle);
+    xa_call(rt, desk, Call::End, Some(xid), m, TMSUCCESS, idle);
+}
+
+// The account of the thread, which the other doesn't touch.
+fn account_of(thread: u32) -> Option<Key> {
+    Key::new(if thread == 1 { b"a" } else { b"b" })
+}
+
+// The branches of the thread's payment, and what is changed in each: 1 goes from manager 1 to manager 2.
+fn payment(thread: u32) -> Option<([Branch; 2], [RmOp; 2])> {
+    let gtrid = thread.to_be_bytes();
+    let pays = Branch {
+        m: 1,
+        xid: Xid::new(1, &gtrid, b"pays").ok()?,
+    };
+    let is_paid = Branch {
+        m: 2,
+        xid: Xid::new(1, &gtrid, b"paid").ok()?,
+    };
+    let account = account_of(thread)?;
+    let changes = [
+        RmOp::Add(account, Delta::new(-1)?),
+        RmOp::Add(account, Delta::new(1)?),
+    ];
+    Some(([pays, is_paid], changes))
+}
+
+// Makes the payment: whether it was committed. Its coordinator may die once that is decided.
+fn pay<R: Wait, I: Idle>(
+    rt: &R,
+    alloc: Global,
+    desk: &mut Desk,
+    log: &mut MemoryLog,
+    dies: bool,
+    idle: &mut I,
+) -> Option<bool>
+    ensures goes_on { GoesOn desk.old desk.new }
+    ensures kept { AllKept desk.old → AllKept desk.new }
+    ensures idled { I.leads idle.old idle.new }
+{
+    desks_go_on();
+    idles_go_on::<I>();
+    let ([pays, is_paid], [minus, plus]) = payment(desk.thread())?;
+    work(rt, desk, &pays, minus, idle);
+    work(rt, desk, &is_paid, plus, idle);
+    let branches = [pays, is_paid];
+    if !may_commit(desk, log, &branches) {
+        return None;
+    }
+    if dies {
+        let known = commit_until(rt, alloc, desk, log, &branches, Death::Decided, idle).ok()?;
+        return Some(known.commit);
+    }
+    let done = commit_all(rt, alloc, desk, log, &branches, idle).ok()?;
+    Some(done.commit)
+}
+
+// Ends what is left, where that can be.
+fn end_what_is_left<R: Wait, L: DecisionRecords, I: Idle>(
+    rt: &R,
+    alloc: Global,
+    desk: &mut Desk,
+    scan: &Scan,
+    log: &L,
+    idle: &mut I,
+) -> Option<Resolved>
+    ensures goes_on { GoesOn desk.old desk.new }
+    ensures kept { AllKept desk.old → AllKept desk.new }
+    ensures idled { I.leads idle.old idle.new }
+{
+    if !may_resolve(desk, scan, log) {
+        return None;
+    }
+    resolve(rt, alloc, desk, scan, log, idle).ok()
+}
+
+// A thread that makes a payment.
+#[derive(Drop)]
+struct Payer {
+    alloc: Global,
+    log: MemoryLog,
+    dies: bool,
+    committed: Option<bool>,
+}
+
+impl Client for Payer {
+    ghost works = { λ payer desk payer' desk'. Unit {0} };
+
+    fn work<R: Wait, I: Idle>(&mut self, rt: &R, desk: &mut Desk, idle: &mut I) {
+        self.committed = pay(rt, self.alloc, desk, &mut self.log, self.dies, idle);
+    }
+}
+
+// A thread that resolves by the logs of all.
+#[derive(Drop)]
+struct Clerk<'a> {
+    alloc: Global,
+    logs: &'a [&'a MemoryLog],
+    resolved: Option<Resolved>,
+}
+
+impl<'a> ClientAgain for Clerk<'a> {
+    ghost works_again = { λ clerk desk scan clerk' desk' scan'. Unit {0} };
+
+    fn work_again<R: Wait, I: Idle>(
+        &mut self,
+        rt: &R,
+        desk: &mut Desk,
+        scan: &mut Scan,
+        idle: &mut I,
+    ) {
+        self.resolved = end_what_is_left(rt, self.alloc, desk, scan, &self.logs, idle);
+    }
+}
+
+// A run of two payers in threads, which die, or don't.
+fn run_of<R: Threads + Wait + Abort + Copy + Send + 'static>(
+    rt: &R,
+    alloc: Global,
+    dies: bool,
+) -> Result<Run<Payer>, Fail> {
+    let (Some(a), Some(b)) = (account_of(1), account_of(2)) else {
+        panic!(rt; "they are names");
+    };
+    let accounts = [(a, 10), (b, 10)];
+    let plan = Plan {
+        threads: 2,
+        handles: 2,
+        requests: 16,
+        ..xa_testing::plan_of(alloc, 2, &accounts).expect(rt, "memory")
+    };
+    let payers = [0u8; 2].map(|_payer: u8| Payer {
+        alloc,
+        log: MemoryLog::new(alloc),
+        dies,
+        committed: None,
+    });
+    let payers = Vec::from_array(alloc, payers)?;
+    let paces = vec![in alloc; Free; plan.managers.len()]?;
+    assert_eq!(rt; plan.threads, 2);
+    Ok(run_clients(rt, alloc, &plan, payers, paces).expect(rt, "a run"))
+}
+
+// Each account has this much at the two managers.
+fn have(rt: &impl Abort, settled: &Settled, values: [Option<u64>; 2]) {
+    for thread in 1..3u32 {
+        let account = account_of(thread).expect(rt, "an account");
+        assert_eq!(rt;
+            [settled.value(1, &account), settled.value(2, &account)],
+            values
+        );
+    }
+}
+
+// Of each branch that was left, that it was to be committed, and what its manager answered.
+fn told(rt: &impl Abort, resolved: &Option<Resolved>, code: Code) {
+    let Some(Resolved { outcomes }) = resolved else {
+        panic!(rt; "it may resolve");
+    };
+    assert_eq!(rt; outcomes.len(), 4);
+    let is_so = |outcome: &Outcome| outcome.commit && outcome.code == code;
+    assert!(rt; outcomes.iter().all(is_so));
+}
+
+#[test]
+fn a_caller_passes_want_of_memory_on(rt: HostRuntime) -> Result<(), Fail> {
+    let run = run_of(&rt, rt.alloc(), false)?;
+    for payer in &run.clients {
+        assert_eq!(rt; payer.client.committed, Some(true));
+    }
+    have(&rt, &run.settled, [Some(9), Some(11)]);
+    Ok(())
+}
+
+// Each of the two finds all four branches left. The first ends them as their own logs have it, and the second is told
+// that they are gone.
+#[test]
+fn two_threads_resolve_by_the_logs_of_all(rt: HostRuntime) -> Result<(), Fail> {
+    let alloc = rt.alloc();
+    let Run { clients, settled } = run_of(&rt, alloc, true)?;
+    assert_eq!(rt; clients.len(), 2);
+    have(&rt, &settled, [Some(10), Some(10)]);
+    let logs = [&clients[0].client.log, &clients[1].client.log];
+    let again = Again {
+        opening: 2,
+        threads: 2,
+        handles: 2,
+        queue: 2,
+        requests: 16,
+    };
+    let clerks = [0u8; 2].map(|_clerk: u8| Clerk {
+        alloc,
+        logs: &logs,
+        resolved: None,
+    });
+    let clerks = Vec::from_array(alloc, clerks)?;
+    let run = run_clients_again_in_turns(&rt, alloc, settled, &again, clerks).expect(&rt, "a run");
+    let [first, second] = run.clients.as_slice() else {
+        panic!(rt; "two clerks");
+    };
+    told(&rt, &first.client.client.resolved, Code::Done);
+    told(&rt, &second.client.client.resolved, Code::Nota);
+    have(&rt, &run.settled, [Some(9), Some(11)]);
+    Ok(())
+}

@@ -1,0 +1,205 @@
+//! Runs of a client over an opening that is opened again: it is lent the scan of what it left prepared.
+ghost use Rattle.std.specs.Prelude.{◌≡◌};
+ghost use Rattle.xa_desk.specs.GoesOn.{GoesOn};
+ghost use Rattle.xa_desk.specs.Kept.{AllKept};
+
+use std::alloc::Global;
+use std::process::Abort;
+use std::sync::Wait;
+use std::test::Fail;
+use std::thread::Threads;
+use xa_crew::laws::idles_go_on;
+use xa_crew::{
+    AgainFault, Client, ClientAgain, Run, WithScan, run_clients, run_clients_again,
+    run_clients_again_in_turns,
+};
+use xa_desk::laws::desks_go_on;
+use xa_desk::{Desk, Idle};
+use xa_switch::{Again, OpenFault, Plan, RmOp, Scan, Settled, native, xa_call, xa_recover};
+use xa_words::{Call, Delta, Key, TMNOFLAGS, TMSTARTRSCAN, TMSUCCESS, Xid};
+use xa_worker::Free;
+
+// A thread that leaves a branch prepared at manager 1, and rolls back what an earlier opening left there.
+#[derive(Drop)]
+struct Leaver {
+    // What its Prepare answered.
+    prepared: i32,
+    // How many branches were listed in a later opening, and what the last rollback answered.
+    found: i32,
+    rolled_back: i32,
+}
+
+impl Leaver {
+    fn new() -> Leaver {
+        Leaver {
+            prepared: -1,
+            found: -1,
+            rolled_back: -1,
+        }
+    }
+}
+
+// Opens manager 1, and adds in the branch, whose work ends.
+fn work_for<R: Wait, I: Idle>(rt: &R, desk: &mut Desk, xid: Xid, addition: RmOp, idle: &mut I)
+    ensures goes_on { GoesOn desk.old desk.new }
+    ensures kept { AllKept desk.old → AllKept desk.new }
+    ensures idled { I.leads idle.old idle.new }
+{
+    desks_go_on();
+    idles_go_on::<I>();
+    start(rt, desk, xid, idle);
+    native(rt, desk, addition, 1, TMNOFLAGS, idle);
+    xa_call(rt, desk, Call::End, Some(xid), 1, TMSUCCESS, idle);
+}
+
+// Opens manager 1, and starts the branch there.
+fn start<R: Wait, I: Idle>(rt: &R, desk: &mut Desk, xid: Xid, idle: &mut I)
+    ensures goes_on { GoesOn desk.old desk.new }
+    ensures kept { AllKept desk.old → AllKept desk.new }
+    ensures idled { I.leads idle.old idle.new }
+{
+    desks_go_on();
+    idles_go_on::<I>();
+    xa_call(rt, desk, Call::OpenRm, None, 1, TMNOFLAGS, idle);
+    xa_call(rt, desk, Call::Start, Some(xid), 1, TMNOFLAGS, idle);
+}
+
+impl Client for Leaver {
+    ghost works = { λ leaver desk leaver' desk'. Unit {0} };
+
+    fn work<R: Wait, I: Idle>(&mut self, rt: &R, desk: &mut Desk, idle: &mut I) {
+        desks_go_on();
+        idles_go_on::<I>();
+        let (Ok(xid), Some(key), Some(more)) = (
+            Xid::new(1, b"g", b"1"),
+            Key::new(b"a"),
+            Delta::new(1),
+        ) else {
+            return;
+        };
+        work_for(rt, desk, xid, RmOp::Add(key, more), idle);
+        self.prepared = xa_call(rt, desk, Call::Prepare, Some(xid), 1, TMNOFLAGS, idle);
+    }
+}
+
+impl ClientAgain for Leaver {
+    ghost works_again = { λ leaver desk scan leaver' desk' scan'. Unit {0} };
+
+    fn work_again<R: Wait, I: Idle>(
+        &mut self,
+        rt: &R,
+        desk: &mut Desk,
+        scan: &mut Scan,
+        idle: &mut I,
+    ) {
+        desks_go_on();
+        idles_go_on::<I>();
+        let Ok(none) = Xid::new(1, b"none", b"1") else {
+            return;
+        };
+        let mut page = [none; 2];
+        xa_call(rt, desk, Call::OpenRm, None, 1, TMNOFLAGS, idle);
+        self.found = xa_recover(rt, desk, scan, &mut page, 1, TMSTARTRSCAN, idle);
+        if self.found == 1 {
+            let left = Some(page[0]);
+            self.rolled_back = xa_call(rt, desk, Call::Rollback, left, 1, TMNOFLAGS, idle);
+        }
+    }
+}
+
+// The numbers of a later opening, with one thread.
+fn again(opening: u64) -> Again
+    ensures { result.threads ≡ 1 }
+{
+    Again {
+        opening,
+        threads: 1,
+        handles: 2,
+        queue: 2,
+        requests: 8,
+    }
+}
+
+// A settled opening with a branch prepared at manager 1.
+fn settled_with_one_left<R: Threads + Wait + Abort + Copy + Send + 'static>(
+    rt: &R,
+    alloc: Global,
+) -> Result<Settled, Fail> {
+    let accounts = [(Key::new(b"a").expect(rt, "a key"), 5)];
+    let plan = Plan {
+        opening: 7,
+        threads: 1,
+        handles: 2,
+        queue: 2,
+        requests: 8,
+        ..xa_testing::plan_of(alloc, 2, &accounts).expect(rt, "memory")
+    };
+    let clients = Vec::from_array(alloc, [Leaver::new()])?;
+    let paces = Vec::from_array(alloc, [Free, Free])?;
+    assert_eq!(rt; (plan.threads, plan.managers.len()), (1, 2));
+    let run = run_clients(rt, alloc, &plan, clients, paces).expect(rt, "a run");
+    assert_eq!(rt; run.clients[0].client.prepared, 0);
+    Ok(run.settled)
+}
+
+// The client listed the one that was left, and rolled it back.
+fn rolled_one_back(rt: &impl Abort, run: &Run<WithScan<Leaver>>) {
+    let [attended] = run.clients.as_slice() else {
+        panic!(rt; "one client");
+    };
+    let WithScan { client, scan } = &attended.client;
+    assert_eq!(rt; (client.found, client.rolled_back), (1, 0));
+    assert_eq!(rt; (scan.left(1).len(), scan.left(2).len()), (1, 0));
+    let key = Key::new(b"a").expect(rt, "a key");
+    assert_eq!(rt; run.settled.value(1, &key), Some(5));
+}
+
+#[test]
+fn what_was_left_is_lent_to_a_client_in_a_thread(rt: HostRuntime) -> Result<(), Fail> {
+    let alloc = rt.alloc();
+    let settled = settled_with_one_left(&rt, alloc)?;
+    let clients = Vec::from_array(alloc, [Leaver::new()])?;
+    let paces = vec![in alloc; Free; settled.managers()]?;
+    let run = run_clients_again(&rt, alloc, settled, &again(8), clients, paces).expect(
+        &rt, "a run",
+    );
+    rolled_one_back(&rt, &run);
+    Ok(())
+}
+
+#[test]
+fn what_was_left_is_lent_to_a_client_in_its_turn(rt: HostRuntime) -> Result<(), Fail> {
+    let alloc = rt.alloc();
+    let settled = settled_with_one_left(&rt, alloc)?;
+    let clients = Vec::from_array(alloc, [Leaver::new()])?;
+    let run = run_clients_again_in_turns(&rt, alloc, settled, &again(8), clients).expect(
+        &rt, "a run",
+    );
+    rolled_one_back(&rt, &run);
+    // Nothing is left for the opening after that.
+    let clients = Vec::from_array(alloc, [Leaver::new()])?;
+    let run = run_clients_again_in_turns(&rt, alloc, run.settled, &again(9), clients).expect(
+        &rt, "a run",
+    );
+    assert_eq!(rt; run.clients[0].client.client.found, 0);
+    Ok(())
+}
+
+#[test]
+fn what_may_not_be_opened_again_comes_back_with_its_clients(rt: HostRuntime) -> Result<(), Fail> {
+    let alloc = rt.alloc();
+    let settled = settled_with_one_left(&rt, alloc)?;
+    let clients = Vec::from_array(alloc, [Leaver::new()])?;
+    // The number is that of the opening that was settled.
+    let refused = run_clients_again_in_turns(&rt, alloc, settled, &again(7), clients);
+    let Err(AgainFault::Unopened(back)) = refused else {
+        panic!(rt; "it was opened again");
+    };
+    assert!(rt; matches!(back.why, OpenFault::BadPlan));
+    assert_eq!(rt; back.clients.len(), 1);
+    let run = run_clients_again_in_turns(&rt, alloc, back.settled, &again(8), back.clients).expect(
+        &rt, "a run",
+    );
+    rolled_one_back(&rt, &run);
+    Ok(())
+}
