@@ -218,7 +218,7 @@ module _ (s : Settling) (settled : IsSettled s) (t m b : ℕ) (T : Tables) (with
       ap (λ (U : Tables). (next t (Add k d) U).1) (sym (tables_after-append first.before (r1 ∷ second.before) T))
       ∙ code_is t (first.before ++ r1 ∷ second.before) (second.after ++ all_taken.rest) r2 T (journal s m) (length pre + 1) Done (with_T.codes ∙ ap (λ (h : History). coded h T) whole2) refl count2 added
 
-  work_done : DoesWork t (length pre) x k d T P
+  pub work_done : DoesWork t (length pre) x k d T P
   work_done = record {
     before = first.before;
     begun = second.before;

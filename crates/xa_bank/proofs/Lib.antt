@@ -1,11 +1,9 @@
 pub mod Results
-pub mod Sent
-pub mod Handles
-pub mod Worked
-pub mod Called
+pub mod Legs
 pub mod Deaths
 pub mod Named
 pub mod Told
 pub mod Adds
 pub mod Only
+pub mod Members
 pub mod Days

@@ -1,7 +1,7 @@
 -- A teller's thread makes only transfers.
 use Rattle.std.specs.Prelude.{ℤ, pos, ◌+ℤ◌}
 use Rattle.std.proofs.Common.{◌≡◌, ℕ, suc, ◌+◌, ◌-◌, ◌^◌, ◌<◌, ◌≤◌, ⊎_elim, true, false, ◌||◌, List, [], ◌∷◌, ◌++◌, length, length-append, append_assoc}
-use Rattle.std.proofs.Common.{slice_get, sym, refl, ap, ◌∙◌, subst, arith, Option, Some}
+use Rattle.std.proofs.Common.{slice_get, sym, refl, ap, ◌∙◌, subst, arith, None, Option, Some}
 use Rattle.std.specs.List.{All, list_any}
 use Rattle.std.proofs.lemmas.Int.{ints}
 use Rattle.std.proofs.lemmas.Bool.{cases_lt}
@@ -13,9 +13,6 @@ use Rattle.xa_words.specs.declared.code.Code.TheVariants.{Done as Ok_}
 use Rattle.xa_words.specs.declared.death.Death.{Death}
 use Rattle.xa_words.specs.declared.death.Death.TheVariants as death
 use Rattle.xa_words.specs.declared.request.Op.{Op}
-use Rattle.xa_words.specs.declared.request.Op.TheVariants.{Start, Add, End}
-use Rattle.xa_words.specs.declared.request.StartHow.TheVariants.{Fresh}
-use Rattle.xa_words.specs.declared.request.EndHow.TheVariants.{Success}
 use Rattle.xa_tables.specs.Tables.{Tables}
 use Rattle.xa_tables.specs.Managers.{opening}
 use Rattle.xa_tables.specs.History.{History}
@@ -32,7 +29,6 @@ use Rattle.xa_switch.specs.Fates.{IsOpenedWith, history, ledgers_of}
 use Rattle.xa_switch.specs.Worth.{accounts_of}
 use Rattle.xa_driver.specs.declared.branch.Branch.{Branch}
 use Rattle.xa_driver.specs.declared.done.Done.{Done}
-use Rattle.xa_driver.specs.declared.done.Ending.{Ending}
 use Rattle.xa_driver.specs.Commits.{is_commit, NoCommitWasSent}
 use Rattle.xa_log.specs.Log.{LogState}
 use Rattle.xa_atomicity.specs.Outcomes.{AreLeftAlone, OnlyTheseName, is_in_doubt, sent_so_far}
@@ -41,18 +37,26 @@ use Rattle.xa_driver.specs.Resolving.{AsksLedger}
 use Rattle.xa_driver.specs.Trace.{IsCommit}
 use Rattle.xa_atomicity.specs.Conservation.{added_before, added_by_all, held_in_doubt, NothingWasSent, OnlyTransfers, opened, worked, committed}
 use Rattle.xa_atomicity.proofs.Settled.{by_ledger}
+use Rattle.xa_work.specs.declared.unit.WorkOutcome.{WorkOutcome}
+use Rattle.xa_work.specs.declared.unit.WorkOutcome.TheVariants.{Decided}
+use Rattle.xa_work.specs.Sent.{HasSent, HaveSent, IsFor, IsOpenRm}
+use Rattle.xa_work.specs.Units.{ComesOfCommit, IsDeath}
+use Rattle.xa_work.specs.Units.ComesOfCommit.{cut_short, in_full, undecided}
+use Rattle.xa_work.specs.Units.Transacts.{commits, refused}
+use Rattle.xa_work.specs.Works.{HaveWorked}
+use Rattle.xa_work.proofs.Named.{worked_for}
+use Rattle.xa_work.proofs.Sent.{have_as, have_on}
+use Rattle.xa_work.proofs.Voted.{untold_sent, voted_sent}
 use Rattle.xa_bank.specs.declared.teller.Leg.{Leg}
 use Rattle.xa_bank.specs.declared.teller.Transfer.{Transfer}
-use Rattle.xa_bank.specs.declared.teller.TransferOutcome.{TransferOutcome}
 use Rattle.xa_bank.specs.declared.habits.Habits.{Habits}
-use Rattle.xa_bank.specs.Deaths.{IsDeath, death_in}
+use Rattle.xa_bank.specs.Numbered.{death_in, shut_before}
 use Rattle.xa_bank.specs.Tellers.{IsClearAt, IsUndoubted}
-use Rattle.xa_bank.proofs.Deaths.{told_made, untold_sent, voted_sent}
-use Rattle.xa_bank.specs.Transfers.{HasSent, HaveSent, IsOpenRm, IsFor, HasWorked, HaveWorked, ComesOfCommit, in_full, cut_short, undecided, commits, refused}
-use Rattle.xa_bank.specs.Transfers.{Makes}
-use Rattle.xa_bank.specs.Transfers.{with_legs, without_legs, MakesEach, MakesAll}
-use Rattle.xa_bank.proofs.Sent.{have_on, have_as}
-use Rattle.xa_bank.proofs.Named.{IsOf, Names, names_as, LegsOf, legs_are, legs_name, work_sent, commit_names, transfer_names, transfers_name, Is, IsFrom}
+use Rattle.xa_bank.specs.Transfers.{Makes, MakesAll, MakesEach, MakesNext, branches_of, changes_of, with_legs, without_legs}
+use Rattle.xa_bank.proofs.Deaths.{told_made}
+use Rattle.xa_bank.proofs.Legs.{LegWorked, leg_work, legs_worked}
+use Rattle.xa_bank.proofs.Named.{Is, IsFrom, IsOf, IsShut, LegsOf, Names, comes_names, legs_are, names_as, next_names, shut_names, shut_sent, transfers_name}
+use Rattle.xa_bank.proofs.Named.{work_names}
 use Rattle.xa_bank.proofs.Told.{IsAny, IsBelow, IsTold, NamedWithin, named_within, only_these}
 use Rattle.xa_bank.proofs.Adds.{leg_adds}
 
@@ -85,6 +89,12 @@ known_by at m some =
 add_nothing : (a b : ℤ) → a +ℤ b ≡ pos 0 → a +ℤ (b +ℤ pos 0) ≡ pos 0
 add_nothing a b e = omega (arith, ints, e)
 
+-- the work of two legs has none
+quiet_work : (account : List ℕ) (one two : Leg) (old new : List LedgerView) → HaveWorked (changes_of one two account) (branches_of one two) old new
+    → HaveSent IsNone old new
+quiet_work account one two old new work =
+    have_as (IsFor (branches_of one two)) IsNone (λ op f. f.uncommitting) old new (worked_for (changes_of one two account) (branches_of one two) old new work)
+
 -- ---- one thread
 
 module _ (adds : (t n : ℕ) (x : XidName) (k : List ℕ) (d : ℤ) (h : History) (T : Tables) → IsOpening T → AddsAsItWorks t n x k d T h)
@@ -114,12 +124,12 @@ module _ (adds : (t n : ℕ) (x : XidName) (k : List ℕ) (d : ℤ) (h : History
 
   module _ (n : ℕ) (account : List ℕ) (one two : Leg) (legs : LegsOf t n one two) (old : List LedgerView) (desk : DeskView) (new : List LedgerView)
       (log later_log : LogState) (d : Done)
-      (work : HaveWorked one two account old desk.ledgers) (made : IsCommit (one.branch ∷ two.branch ∷ []) desk new log later_log d) (before : Earlier n old) (after : Later (n + 1) new) where
+      (work : HaveWorked (changes_of one two account) (branches_of one two) old desk.ledgers) (made : IsCommit (branches_of one two) desk new log later_log d) (before : Earlier n old) (after : Later (n + 1) new) where
     worked_names : HaveSent (Names t (Is n)) old desk.ledgers
-    worked_names = work_sent (Names t (Is n)) one two account old desk.ledgers (λ leg which. legs_name t n one two leg account legs which) work
+    worked_names = work_names t n one two account old desk.ledgers legs work
 
     made_names : HaveSent (Names t (Is n)) desk.ledgers new
-    made_names = commit_names t n one two desk new log later_log d legs made
+    made_names = comes_names t n one two None (Decided d) desk new log later_log legs (in_full d refl refl made)
 
     from_work : HaveSent (Names t IsAny) desk.ledgers final
     from_work =
@@ -129,15 +139,12 @@ module _ (adds : (t n : ℕ) (x : XidName) (k : List ℕ) (d : ℤ) (h : History
 
     -- one of the legs
     module _ (leg : Leg) (of_it : IsOf t n leg.branch.xid) (positive : 1 ≤ leg.branch.m)
-        (its : HasWorked leg account (ledger old leg.branch.m) (ledger desk.ledgers leg.branch.m)) where
+        (its : LegWorked leg account (ledger old leg.branch.m) (ledger desk.ledgers leg.branch.m)) where
       abbrev m : ℕ
       m = leg.branch.m
 
       abbrev pre : List Op
       pre = (ledger old leg.branch.m).sent
-
-      abbrev leg_work : List Op
-      leg_work = Start leg.branch.xid Fresh ∷ Add account leg.delta ∷ End leg.branch.xid Success ∷ []
 
       segment : HasSent (Names t (Is n)) (ledger old m) (ledger new m)
       segment = have_on (Names t (Is n)) old desk.ledgers new worked_names made_names m positive
@@ -163,7 +170,7 @@ module _ (adds : (t n : ℕ) (x : XidName) (k : List ℕ) (d : ℤ) (h : History
       since : HasSent (Names t IsAny) (ledger desk.ledgers m) (ledger final m)
       since = from_work m positive
 
-      parted : sent s t m ≡ (pre ++ leg_work) ++ since.more
+      parted : sent s t m ≡ (pre ++ leg_work leg account) ++ since.more
       parted = all_sent ∙ since.sent ∙ ap (λ l. l ++ since.more) its.sent
 
       answered : All (λ (q : ℕ × Code). slice_get (answers t (journal s m)) q.0 ≡ Some q) ((length pre, Ok_) ∷ (length pre + 1, Ok_) ∷ (length pre + 2, Ok_) ∷ since.collected.0)
@@ -175,7 +182,7 @@ module _ (adds : (t n : ℕ) (x : XidName) (k : List ℕ) (d : ℤ) (h : History
           (settled.agree t m).coded)
 
       many : length (ledger desk.ledgers m).sent ≡ length pre + 3
-      many = ap length its.sent ∙ length-append pre leg_work
+      many = ap length its.sent ∙ length-append pre (leg_work leg account)
 
       there : m ≤ length p.managers.items
       there =
@@ -192,6 +199,9 @@ module _ (adds : (t n : ℕ) (x : XidName) (k : List ℕ) (d : ℤ) (h : History
           (All-tail (λ (q : ℕ × Code). slice_get (answers t (journal s m)) q.0 ≡ Some q) (length pre, Ok_) ((length pre + 1, Ok_) ∷ (length pre + 2, Ok_) ∷ since.collected.0) answered))
           adds
 
+    both_worked : LegWorked one account (ledger old one.branch.m) (ledger desk.ledgers one.branch.m) × LegWorked two account (ledger old two.branch.m) (ledger desk.ledgers two.branch.m)
+    both_worked = legs_worked one two account legs.apart old desk.ledgers work
+
     first_up : 1 ≤ one.branch.m
     first_up = let up = made.may.rising.0 in omega (arith, up)
 
@@ -201,27 +211,28 @@ module _ (adds : (t n : ℕ) (x : XidName) (k : List ℕ) (d : ℤ) (h : History
     abbrev IsAlone : Branch → Type 0
     IsAlone b = OnlyTheseName b.xid t (length (ledger desk.ledgers b.m).sent) (length (ledger new b.m).sent) (history s b.m)
 
-    both_alone : AreLeftAlone s t (one.branch ∷ two.branch ∷ []) (sent_so_far desk.ledgers) (sent_so_far new)
+    both_alone : AreLeftAlone s t (branches_of one two) (sent_so_far desk.ledgers) (sent_so_far new)
     both_alone = record {
       each =
-          All-cons IsAlone one.branch (two.branch ∷ []) (left_alone one legs.first first_up work.one_)
-          (All-cons IsAlone two.branch [] (left_alone two legs.second second_up work.two_) (All-nil IsAlone));
+          All-cons IsAlone one.branch (two.branch ∷ []) (left_alone one legs.first first_up both_worked.0)
+          (All-cons IsAlone two.branch [] (left_alone two legs.second second_up both_worked.1) (All-nil IsAlone));
     }
 
-    zero_sum : added_by_all p s t desk.ledgers (one.branch ∷ two.branch ∷ []) ≡ pos 0
+    zero_sum : added_by_all p s t desk.ledgers (branches_of one two) ≡ pos 0
     zero_sum =
-        (λ i. added one legs.first first_up work.one_ i +ℤ (added two legs.second second_up work.two_ i +ℤ pos 0)) ∙ add_nothing one.delta two.delta legs.sum
+        (λ i. added one legs.first first_up both_worked.0 i +ℤ (added two legs.second second_up both_worked.1 i +ℤ pos 0))
+        ∙ add_nothing one.delta two.delta legs.sum
 
     worked_quietly : HaveSent IsNone old desk.ledgers
-    worked_quietly = work_sent IsNone one two account old desk.ledgers (λ leg which. (refl, refl, refl)) work
+    worked_quietly = quiet_work account one two old desk.ledgers work
 
     pub only_decided : list_any is_in_doubt d.endings.items ≡ false → OnlyTransfers p s t old (pos 0) → OnlyTransfers p s t new (pos 0)
     only_decided none only =
         let at_work : OnlyTransfers p s t desk.ledgers (pos 0) =
         worked old desk.ledgers (pos 0) only (grown_by IsNone old desk.ledgers worked_quietly) (no_commit old desk.ledgers worked_quietly) in
-        let done : OnlyTransfers p s t new (pos 0 +ℤ held_in_doubt p s t desk.ledgers (one.branch ∷ two.branch ∷ []) d) =
-        committed (one.branch ∷ two.branch ∷ []) desk new log later_log d (pos 0) at_work made both_alone zero_sum in
-        subst (λ v. OnlyTransfers p s t new (pos 0 +ℤ v)) (undoubted p s t desk.ledgers (one.branch ∷ two.branch ∷ []) d none) done
+        let done : OnlyTransfers p s t new (pos 0 +ℤ held_in_doubt p s t desk.ledgers (branches_of one two) d) =
+        committed (branches_of one two) desk new log later_log d (pos 0) at_work made both_alone zero_sum in
+        subst (λ v. OnlyTransfers p s t new (pos 0 +ℤ v)) (undoubted p s t desk.ledgers (branches_of one two) d none) done
 
   only_quiet : (old new : List LedgerView) → HaveSent IsNone old new → OnlyTransfers p s t old (pos 0) → OnlyTransfers p s t new (pos 0)
   only_quiet old new h only = worked old new (pos 0) only (grown_by IsNone old new h) (no_commit old new h)
@@ -232,27 +243,28 @@ module _ (adds : (t n : ℕ) (x : XidName) (k : List ℕ) (d : ℤ) (h : History
   abbrev IsAnyBranch : Branch → Type 0
   IsAnyBranch b = Unit {0}
 
-  any_two : (one two : Leg) → All IsAnyBranch (one.branch ∷ two.branch ∷ [])
+  any_two : (one two : Leg) → All IsAnyBranch (branches_of one two)
   any_two one two = All-cons IsAnyBranch one.branch (two.branch ∷ []) tt (All-cons IsAnyBranch two.branch [] tt (All-nil IsAnyBranch))
 
-  only_worked : (account : List ℕ) (one two : Leg) (old at : List LedgerView) → HaveWorked one two account old at → OnlyTransfers p s t old (pos 0)
+  only_worked : (account : List ℕ) (one two : Leg) (old at : List LedgerView) → HaveWorked (changes_of one two account) (branches_of one two) old at
+      → OnlyTransfers p s t old (pos 0)
       → OnlyTransfers p s t at (pos 0)
   only_worked account one two old at work only =
-      only_quiet old at (work_sent IsNone one two account old at (λ leg which. (refl, refl, refl)) work) only
+      only_quiet old at (quiet_work account one two old at work) only
 
   -- before it told any branch
   only_untold : (account : List ℕ) (one two : Leg) (at : Death) (old : List LedgerView) (desk : DeskView) (new : List LedgerView) (log later : LogState) (known : Done)
-      → HaveWorked one two account old desk.ledgers → IsDeath at (one.branch ∷ two.branch ∷ []) desk new log later known
-      → HaveAsked AsksLedger PutsLedger (one.branch ∷ two.branch ∷ []) known.votes.items (ledger desk.ledgers) (ledger new) → OnlyTransfers p s t old (pos 0)
+      → HaveWorked (changes_of one two account) (branches_of one two) old desk.ledgers → IsDeath at (branches_of one two) desk new log later known
+      → HaveAsked AsksLedger PutsLedger (branches_of one two) known.votes.items (ledger desk.ledgers) (ledger new) → OnlyTransfers p s t old (pos 0)
       → OnlyTransfers p s t new (pos 0)
   only_untold account one two at old desk new log later known work died asked only =
       only_quiet desk.ledgers new
-      (untold_sent IsNone IsAnyBranch (λ b _. refl) desk.ledgers new (one.branch ∷ two.branch ∷ []) known.votes.items (any_two one two) asked died.dies.others)
+      (untold_sent IsNone IsAnyBranch (λ b _. refl) desk.ledgers new (branches_of one two) known.votes.items (any_two one two) asked died.dies.others)
       (only_worked account one two old desk.ledgers work only)
 
   only_died : (n : ℕ) (account : List ℕ) (one two : Leg) (legs : LegsOf t n one two) (at : Death) (old : List LedgerView) (desk : DeskView) (new : List LedgerView) (log later : LogState) (known : Done)
-      → HaveWorked one two account old desk.ledgers
-      → IsDeath at (one.branch ∷ two.branch ∷ []) desk new log later known → IsClearAt at known.endings.items → Earlier n old → Later (n + 1) new
+      → HaveWorked (changes_of one two account) (branches_of one two) old desk.ledgers
+      → IsDeath at (branches_of one two) desk new log later known → IsClearAt at known.endings.items → Earlier n old → Later (n + 1) new
       → OnlyTransfers p s t old (pos 0) → OnlyTransfers p s t new (pos 0)
   only_died n account one two legs (death.Preparing k) old desk new log later known work died clear before after only =
       only_untold account one two (death.Preparing k) old desk new log later known work died died.dies.far.asked only
@@ -262,18 +274,18 @@ module _ (adds : (t n : ℕ) (x : XidName) (k : List ℕ) (d : ℤ) (h : History
       only_untold account one two death.Decided old desk new log later known work died died.dies.far.asked only
   only_died n account one two legs (death.Telling k) old desk new log later known work died clear before after only = absurd clear
   only_died n account one two legs death.Told old desk new log later known work died clear before after only =
-      let made = told_made (one.branch ∷ two.branch ∷ []) desk new log later known died clear.1 in
+      let made = told_made (branches_of one two) desk new log later known died clear.1 in
       only_decided n account one two legs old desk new log later known work made before after clear.0 only
 
   -- ---- any transfer
 
-  only_quiet_one : (one two : Leg) (old new : List LedgerView) → HaveSent (IsFor one two) old new → OnlyTransfers p s t old (pos 0)
+  only_quiet_one : (one two : Leg) (old new : List LedgerView) → HaveSent (IsFor (branches_of one two)) old new → OnlyTransfers p s t old (pos 0)
       → OnlyTransfers p s t new (pos 0)
-  only_quiet_one one two old new h only = only_quiet old new (have_as (IsFor one two) IsNone (λ op f. f.uncommitting) old new h) only
+  only_quiet_one one two old new h only = only_quiet old new (have_as (IsFor (branches_of one two)) IsNone (λ op f. f.uncommitting) old new h) only
 
-  only_commit : (n : ℕ) (account : List ℕ) (one two : Leg) (legs : LegsOf t n one two) (dies : Option Death) (o : TransferOutcome) (old : List LedgerView) (desk : DeskView) (new : List LedgerView) (log later : LogState)
-      → HaveWorked one two account old desk.ledgers
-      → ComesOfCommit (one.branch ∷ two.branch ∷ []) dies o desk new log later → IsUndoubted o → Earlier n old → Later (n + 1) new
+  only_commit : (n : ℕ) (account : List ℕ) (one two : Leg) (legs : LegsOf t n one two) (dies : Option Death) (o : WorkOutcome) (old : List LedgerView) (desk : DeskView) (new : List LedgerView) (log later : LogState)
+      → HaveWorked (changes_of one two account) (branches_of one two) old desk.ledgers
+      → ComesOfCommit (branches_of one two) dies o desk new log later → IsUndoubted o → Earlier n old → Later (n + 1) new
       → OnlyTransfers p s t old (pos 0) → OnlyTransfers p s t new (pos 0)
   only_commit n account one two legs dies o old desk new log later work (in_full d none is made) fine before after only =
       only_decided n account one two legs old desk new log later d work made before after (subst IsUndoubted is fine) only
@@ -281,20 +293,34 @@ module _ (adds : (t n : ℕ) (x : XidName) (k : List ℕ) (d : ℤ) (h : History
       only_died n account one two legs at old desk new log later known work died (subst IsUndoubted is fine) before after only
   only_commit n account one two legs dies o old desk new log later work (undecided votes decides is may voted wanted) fine before after only =
       only_quiet desk.ledgers new
-      (voted_sent IsNone IsAnyBranch (λ b _. refl) desk.ledgers new (one.branch ∷ two.branch ∷ []) votes.items (any_two one two) voted)
+      (voted_sent IsNone IsAnyBranch (λ b _. refl) desk.ledgers new (branches_of one two) votes.items (any_two one two) voted)
       (only_worked account one two old desk.ledgers work only)
 
-  only_one : (n : ℕ) (tr : Transfer) (habits : Habits) (o : TransferOutcome) (old new : DeskView) (log later : LogState)
+  only_one : (n : ℕ) (tr : Transfer) (habits : Habits) (o : WorkOutcome) (old new : DeskView) (log later : LogState)
       → Makes t n tr habits o old new log later → IsUndoubted o → Earlier n old.ledgers → Later (n + 1) new.ledgers → OnlyTransfers p s t old.ledgers (pos 0)
       → OnlyTransfers p s t new.ledgers (pos 0)
-  only_one n tr habits o old new log later (with_legs one two left legs (commits desk work comes) kept) fine before after only =
+  only_one n tr habits o old new log later (with_legs one two left legs (commits desk begins known work comes) kept) fine before after only =
       only_commit n tr.account one two (legs_are t n tr one two legs) (death_in habits n) o old.ledgers desk new.ledgers log left work comes fine before after only
-  only_one n tr habits o old new log later (with_legs one two left legs (refused is unlogged why h) kept) fine before after only =
+  only_one n tr habits o old new log later (with_legs one two left legs (refused unlogged why h) kept) fine before after only =
       only_quiet_one one two old.ledgers new.ledgers h only
   only_one n tr habits o old new log later (without_legs is none same unlogged) fine before after only =
       subst (λ (q : DeskView). OnlyTransfers p s t q.ledgers (pos 0)) (sym same) only
 
-  only_each : (habits : Habits) (n : ℕ) (trs : List Transfer) (os : List TransferOutcome) (old new : DeskView) (log later : LogState)
+  only_next : (n : ℕ) (tr : Transfer) (habits : Habits) (o : WorkOutcome) (old new : DeskView) (log later : LogState)
+      → MakesNext t n tr habits o old new log later → IsUndoubted o → Earlier n old.ledgers → Later (n + 1) new.ledgers
+      → OnlyTransfers p s t old.ledgers (pos 0)
+      → OnlyTransfers p s t new.ledgers (pos 0)
+  only_next n tr habits o old new log later next fine before after only =
+      let shuts : HaveSent IsShut old.ledgers next.shut.ledgers = shut_sent (shut_before habits n) old next.shut next.shuts in
+      only_one n tr habits o next.shut new log later next.makes fine
+      (λ m positive.
+      let z = shuts m positive in
+      subst (All (Names t (IsBelow n))) (sym z.sent)
+      (All-append (Names t (IsBelow n)) (ledger old.ledgers m).sent z.more (before m positive) (All-weaker IsShut (Names t (IsBelow n)) (shut_names t (IsBelow n)) z.more z.each)))
+      after
+      (only_quiet old.ledgers next.shut.ledgers (have_as IsShut IsNone (λ op is. ap is_commit is) old.ledgers next.shut.ledgers shuts) only)
+
+  only_each : (habits : Habits) (n : ℕ) (trs : List Transfer) (os : List WorkOutcome) (old new : DeskView) (log later : LogState)
       → MakesEach t habits n trs os old new log later → All IsUndoubted os → Earlier n old.ledgers → Later (n + length trs) new.ledgers
       → OnlyTransfers p s t old.ledgers (pos 0)
       → OnlyTransfers p s t new.ledgers (pos 0)
@@ -306,9 +332,9 @@ module _ (adds : (t n : ℕ) (x : XidName) (k : List ℕ) (d : ℤ) (h : History
       let later_on : Later (n + 1) mid.ledgers =
       have_on (Names t (IsFrom (n + 1))) mid.ledgers new.ledgers final (transfers_name t habits (n + 1) trs os mid new now later rest)
       (have_as (Names t (IsFrom (n + suc (length trs)))) (Names t (IsFrom (n + 1))) (names_as t (IsFrom (n + suc (length trs))) (IsFrom (n + 1)) (λ k le. omega (arith, le))) new.ledgers final after) in
-      only_each habits (n + 1) trs os mid new now later rest (All-tail IsUndoubted o os fine) (earlier_on n old.ledgers mid.ledgers before (transfer_names t n tr habits o old mid log now makes))
+      only_each habits (n + 1) trs os mid new now later rest (All-tail IsUndoubted o os fine) (earlier_on n old.ledgers mid.ledgers before (next_names t n tr habits o old mid log now makes))
       (subst (λ k. Later k new.ledgers) (let e : n + suc (length trs) ≡ n + 1 + length trs = omega arith in e) after)
-      (only_one n tr habits o old mid log now makes (All-head IsUndoubted o os fine) before later_on only)
+      (only_next n tr habits o old mid log now makes (All-head IsUndoubted o os fine) before later_on only)
   only_each habits n [] (o ∷ os) old new log later h fine before after only = absurd h
 
   -- ---- all that the thread did
@@ -316,7 +342,7 @@ module _ (adds : (t n : ℕ) (x : XidName) (k : List ℕ) (d : ℤ) (h : History
   opens_name : (n : ℕ) (op : Op) → IsOpenRm op → Names t (IsBelow n) op
   opens_name n op is = record { each = λ x e. let z : false ≡ true = sym (ap (λ o. names x o) is) ∙ e in cc }
 
-  pub only_transfers : (trs : List Transfer) (habits : Habits) (os : List TransferOutcome) (begun last : DeskView) (log later : LogState)
+  pub only_transfers : (trs : List Transfer) (habits : Habits) (os : List WorkOutcome) (begun last : DeskView) (log later : LogState)
       → begun.thread ≡ t → NothingWasSent begun.ledgers → MakesAll trs habits os begun last log later → All IsUndoubted os
       → HaveSent (λ op. ⊥) last.ledgers final → OnlyTransfers p s t final (pos 0)
   only_transfers trs habits os begun last log later thread nothing all fine end =
@@ -337,7 +363,7 @@ module _ (adds : (t n : ℕ) (x : XidName) (k : List ℕ) (d : ℤ) (h : History
 opens_any : (t : ℕ) (op : Op) → IsOpenRm op → Names t IsAny op
 opens_any t op is = record { each = λ x e. let z : false ≡ true = sym (ap (λ o. names x o) is) ∙ e in cc }
 
-pub all_told : (s : Settling) (t : ℕ) (trs : List Transfer) (habits : Habits) (os : List TransferOutcome) (begun last : DeskView) (log later : LogState)
+pub all_told : (s : Settling) (t : ℕ) (trs : List Transfer) (habits : Habits) (os : List WorkOutcome) (begun last : DeskView) (log later : LogState)
     → begun.thread ≡ t → NothingWasSent begun.ledgers → MakesAll trs habits os begun last log later
     → HaveSent (λ op. ⊥) last.ledgers (ledgers_of s t) → (m : ℕ) → 1 ≤ m → All (Names t IsAny) (sent s t m)
 all_told s t trs habits os begun last log later thread nothing all end m positive =

@@ -1,4 +1,3 @@
-pub mod Requests
-pub mod Deaths
+pub mod Numbered
 pub mod Transfers
 pub mod Tellers

@@ -1,49 +1,40 @@
 -- What a teller comes to.
-use Rattle.std.specs.Prelude.{◌≡◌, ◌+◌, Bool, true, false, None, List, [], ◌∷◌, ◌++◌, length}
+use Rattle.std.specs.Prelude.{◌≡◌, ◌+◌, true, false, None, List, [], ◌∷◌, ◌++◌, length}
 use Rattle.std.specs.List.{All, list_any}
 use Rattle.xa_words.specs.declared.death.Death.{Death}
 use Rattle.xa_words.specs.declared.death.Death.TheVariants as death
 use Rattle.xa_desk.specs.DeskView.{DeskView}
+use Rattle.xa_switch.specs.Scans.{ScanView}
 use Rattle.xa_crew.specs.declared.client_job.Attended.{Attended}
 use Rattle.xa_driver.specs.declared.done.Ending.{Ending}
 use Rattle.xa_log.specs.Log.{LogState}
 use Rattle.xa_atomicity.specs.Outcomes.{is_heuristic, is_in_doubt}
+use Rattle.xa_work.specs.declared.unit.WorkOutcome.{WorkOutcome}
+use Rattle.xa_work.specs.declared.unit.WorkOutcome.TheVariants.{Decided, Died, Refused, Undecided}
+use Rattle.xa_work.specs.Units.{LeavesKnown, is_last}
 use Rattle.xa_bank.specs.declared.habits.Habits.{Habits}
-use Rattle.xa_bank.specs.declared.teller.TransferOutcome.{TransferOutcome}
-use Rattle.xa_bank.specs.declared.teller.TransferOutcome.TheVariants.{Decided, Died, Refused, Undecided}
 use Rattle.xa_bank.specs.declared.teller.Teller.{Teller}
 use Rattle.xa_bank.specs.declared.teller.Transfer.{Transfer}
-use Rattle.xa_bank.specs.Transfers.{LeavesKnown, MakesAll}
+use Rattle.xa_bank.specs.Transfers.{MakesAll}
 
--- the habits of a teller that counts from 0, lives, and keeps its records
+-- the habits of a teller that counts from 0, lives, shuts no store, and keeps its records
 abbrev pub plain : Habits
-plain = record { first = 0; death = None; forgets = false }
-
--- the teller died with the transfer
-abbrev pub has_died : TransferOutcome → Bool
-has_died (Died at known) = true
-has_died o = false
-
--- no transfer is made after it: the teller died with it, or its log has lost the record
-abbrev pub is_last : TransferOutcome → Bool
-is_last (Died at known) = true
-is_last (Undecided votes) = true
-is_last o = false
+plain = record { first = 0; death = None; shuts = None; forgets = false }
 
 -- How far a teller came with these transfers, where its log is known at first if `Known`, and at the end if `Knows`: it
 -- lived, and made all of them; or the last that it made was the last; or its log wasn't known, and it made none.
-pub data Comes (Known Knows : Type 0) (trs : List Transfer) (os : List TransferOutcome) : Type 0 where
+pub data Comes (Known Knows : Type 0) (trs : List Transfer) (os : List WorkOutcome) : Type 0 where
   lived : list_any is_last os ≡ false → length os ≡ length trs → Knows → Comes Known Knows trs os
-  ended : (before : List TransferOutcome) (o : TransferOutcome) → os ≡ before ++ o ∷ []
+  ended : (before : List WorkOutcome) (o : WorkOutcome) → os ≡ before ++ o ∷ []
       → list_any is_last before ≡ false → is_last o ≡ true → LeavesKnown Knows o → Comes Known Knows trs os
   unknown : (Known → ⊥) → os ≡ [] → Comes Known Knows trs os
 
 -- these transfers were made, up to the last that the teller makes, and what became of each was told after the outcomes
 -- before it
-pub record HasMade (trs : List Transfer) (habits : Habits) (before : List TransferOutcome) (old : DeskView)
-    (log : LogState) (Known : Type 0) (after : List TransferOutcome) (new : DeskView) (later : LogState)
+pub record HasMade (trs : List Transfer) (habits : Habits) (before : List WorkOutcome) (old : DeskView)
+    (log : LogState) (Known : Type 0) (after : List WorkOutcome) (new : DeskView) (later : LogState)
     (Knows : Type 0) : Type 0 where
-  pub more : List TransferOutcome
+  pub more : List WorkOutcome
   pub told : after ≡ before ++ more
   pub makes : MakesAll trs habits more old new log later
   pub comes : Comes Known Knows trs more
@@ -59,6 +50,12 @@ pub record Works {L : Type 0} (state : L → LogState) (knows : L → Type 0) (t
   pub made : t'.wants_memory ≡ false → HasMade t.transfers.items t.habits t.outcomes.items d (state t.log)
       (knows t.log) t'.outcomes.items d' (state t'.log) (knows t'.log)
 
+-- in an opening that was opened again it works as in the first, and its scan of what was left stays
+pub record WorksOn {L : Type 0} (state : L → LogState) (knows : L → Type 0) (t : Teller L) (d : DeskView)
+    (scan : ScanView) (t' : Teller L) (d' : DeskView) (scan' : ScanView) : Type 0 where
+  pub works : Works state knows t d t' d'
+  pub scan_ : scan' ≡ scan
+
 -- Nothing is in doubt of a transfer with which the teller died: no branch had heard of the decision, so that none is
 -- committed; or it was known how each ended, and none was decided by its store itself.
 abbrev pub IsClearAt : Death → List Ending → Type 0
@@ -69,11 +66,11 @@ IsClearAt (death.Telling k) endings = ⊥
 IsClearAt death.Told endings = (list_any is_in_doubt endings ≡ false) × (list_any is_heuristic endings ≡ false)
 
 -- no branch of the transfer is in doubt, or none was told a decision, so that none is committed
-abbrev pub IsUndoubted : TransferOutcome → Type 0
+abbrev pub IsUndoubted : WorkOutcome → Type 0
 IsUndoubted (Decided done) = list_any is_in_doubt done.endings.items ≡ false
 IsUndoubted (Died at known) = IsClearAt at known.endings.items
 IsUndoubted (Undecided votes) = Unit {0}
-IsUndoubted Refused = Unit {0}
+IsUndoubted (Refused why) = Unit {0}
 
 -- the teller got all memory that it asked for, and no branch of its transfers is in doubt
 pub record EndsWhole {L : Type 0} (a : Attended (Teller L)) : Type 0 where

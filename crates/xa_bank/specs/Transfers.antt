@@ -1,66 +1,26 @@
--- What a transfer does to its teller's desk.
-use Rattle.std.specs.Prelude.{◌≡◌, ◌≢◌, ℕ, ◌+◌, ◌-◌, ◌*◌, ◌^◌, ◌≤◌, ◌<◌, ◌⊎◌, ℤ, pos, neg_ℤ, true, false, List, []}
-use Rattle.std.specs.Prelude.{◌∷◌, ◌++◌, length, Option, None, Some, Bool, if◌then◌else◌, Vec}
-use Rattle.std.specs.Global.{Global}
-use Rattle.std.specs.List.{All}
+-- What a transfer does to its teller's desk and log.
+use Rattle.std.specs.Prelude.{◌≡◌, ℕ, ◌+◌, ◌*◌, ◌^◌, ◌<◌, ◌≤◌, ◌⊎◌, ℤ, pos, neg_ℤ, List, [], ◌∷◌, Option}
+use Rattle.std.specs.Prelude.{None, Some, if◌then◌else◌}
 use Rattle.std.specs.Int.{w64, to_be_bytes}
-use Rattle.xa_base.specs.Lists.{Begins}
-use Rattle.xa_words.specs.Xid.{XidName}
 use Rattle.xa_words.specs.Tran.{TranName, tran_of}
-use Rattle.xa_words.specs.declared.code.Code.{Code}
-use Rattle.xa_words.specs.declared.code.Code.TheVariants.{Done as Ok_}
 use Rattle.xa_words.specs.declared.death.Death.{Death}
-use Rattle.xa_words.specs.declared.request.Op.{Op}
-use Rattle.xa_words.specs.declared.request.Op.TheVariants.{OpenRm, Start, Add, End}
-use Rattle.xa_words.specs.declared.request.StartHow.TheVariants.{Fresh}
-use Rattle.xa_words.specs.declared.request.EndHow.TheVariants.{Success}
-use Rattle.xa_tables.specs.Prepared.{names}
-use Rattle.xa_desk.specs.LedgerView.{LedgerView}
-use Rattle.xa_desk.specs.DeskView.{DeskView, IsKnown, ledger, outstanding, room_at}
+use Rattle.xa_words.specs.declared.request.RmOp.TheVariants.{Shut}
+use Rattle.xa_desk.specs.DeskView.{DeskView}
+use Rattle.xa_switch.specs.Asking.{native}
+use Rattle.xa_switch.specs.Putting.{Calls}
 use Rattle.xa_driver.specs.declared.branch.Branch.{Branch}
-use Rattle.xa_driver.specs.declared.done.Done.{Done}
-use Rattle.xa_driver.specs.Commits.{is_commit}
-use Rattle.xa_driver.specs.Deaths.{is_decided_by}
 use Rattle.xa_driver.specs.Forgetful.{is_acknowledged}
-use Rattle.xa_driver.specs.Stages.{HasVoted}
 use Rattle.xa_log.specs.Log.{LogState, without_record}
-use Rattle.xa_driver.specs.Trace.{IsCommit, MayCommit, wants_record}
-use Rattle.xa_bank.specs.Deaths.{IsDeath, death_in}
+use Rattle.xa_work.specs.declared.unit.Change.{Change}
+use Rattle.xa_work.specs.declared.unit.Refusal.TheVariants.{NotBegun}
+use Rattle.xa_work.specs.declared.unit.WorkOutcome.{WorkOutcome}
+use Rattle.xa_work.specs.declared.unit.WorkOutcome.TheVariants.{Decided, Refused}
+use Rattle.xa_work.specs.Sent.{HaveSent, IsOpenRm}
+use Rattle.xa_work.specs.Units.{IsGivenUp, Transacts}
+use Rattle.xa_bank.specs.Numbered.{death_in, shut_before}
 use Rattle.xa_bank.specs.declared.habits.Habits.{Habits}
 use Rattle.xa_bank.specs.declared.teller.Leg.{Leg}
 use Rattle.xa_bank.specs.declared.teller.Transfer.{Transfer}
-use Rattle.xa_bank.specs.declared.teller.TransferOutcome.{TransferOutcome}
-use Rattle.xa_bank.specs.declared.teller.TransferOutcome.TheVariants.{Decided, Died, Refused, Undecided}
-use Rattle.xa_bank.specs.declared.teller.TheConstants.{BRANCHES, REQUESTS}
-use Rattle.xa_bank.specs.Requests.{GivesUp, Tries}
-
--- ---- what was sent
-
--- since then only such requests were sent to the manager, and what was collected stays
-pub record HasSent (P : Op → Type 0) (a a' : LedgerView) : Type 0 where
-  pub more : List Op
-  pub sent : a'.sent ≡ a.sent ++ more
-  pub each : All P more
-  pub collected : Begins a.collected a'.collected
-
--- so for every manager
-abbrev pub HaveSent : (Op → Type 0) → List LedgerView → List LedgerView → Type 0
-HaveSent P old new = (m : ℕ) → 1 ≤ m → HasSent P (ledger old m) (ledger new m)
-
--- the request opens a manager
-abbrev pub IsOpenRm : Op → Type 0
-IsOpenRm op = op ≡ OpenRm
-
--- the request is no Commit, and names no other branch than one of these legs
-pub record IsFor (one two : Leg) (op : Op) : Type 0 where
-  pub uncommitting : is_commit op ≡ false
-  pub named : (x : XidName) → names x op ≡ true → (x ≡ one.branch.xid) ⊎ (x ≡ two.branch.xid)
-
--- the legs are at two stores, which are known
-pub record AreApart (one two : Leg) (at : List LedgerView) : Type 0 where
-  pub first : IsKnown at one.branch.m
-  pub second : IsKnown at two.branch.m
-  pub apart : one.branch.m ≢ two.branch.m
 
 -- ---- the legs of a transfer
 
@@ -85,114 +45,72 @@ pub data AreLegs (t n : ℕ) (tr : Transfer) (one two : Leg) : Type 0 where
   paid_first : n < 2 ^ 32 → tr.to < tr.from → IsLeg (gtrid_of t n) tr.to (pos tr.amount) one
       → IsLeg (gtrid_of t n) tr.from (neg_ℤ (pos tr.amount)) two → AreLegs t n tr one two
 
+-- what the leg changes: account k at its store
+abbrev pub change_of : Leg → List ℕ → Change
+change_of leg k = record { m = leg.branch.m; key = k; delta = leg.delta }
+
+-- the branches of two legs, and what they change
+abbrev pub branches_of : Leg → Leg → List Branch
+branches_of one two = one.branch ∷ two.branch ∷ []
+
+abbrev pub changes_of : Leg → Leg → List ℕ → List Change
+changes_of one two k = change_of one k ∷ change_of two k ∷ []
+
 -- ---- what becomes of a transfer
 
--- The leg's work was done: its start, its addition to account k and its end were sent to its store, one after the
--- other, and each was collected with XA_OK.
-pub record HasWorked (leg : Leg) (k : List ℕ) (a a' : LedgerView) : Type 0 where
-  pub sent : a'.sent
-      ≡ a.sent ++ Start leg.branch.xid Fresh ∷ Add k leg.delta ∷ End leg.branch.xid Success ∷ []
-  pub collected : a'.collected
-      ≡ a.collected ++ (length a.sent, Ok_) ∷ (length a.sent + 1, Ok_) ∷ (length a.sent + 2, Ok_) ∷ []
-
--- so for both legs, and nothing else was done
-pub record HaveWorked (one two : Leg) (k : List ℕ) (old new : List LedgerView) : Type 0 where
-  pub one_ : HasWorked one k (ledger old one.branch.m) (ledger new one.branch.m)
-  pub two_ : HasWorked two k (ledger old two.branch.m) (ledger new two.branch.m)
-  pub others : (m : ℕ) → 1 ≤ m → m ≢ one.branch.m → m ≢ two.branch.m → ledger new m ≡ ledger old m
-
--- a teller that is to die at this point of a commit, or at none, comes to the decision
-abbrev pub comes_to_decide : Option Death → Bool
-comes_to_decide None = true
-comes_to_decide (Some at) = is_decided_by at
-
--- What comes of a commit of these branches, at a point of which the teller is to die, or at none: it was made, and
--- decided so; or the teller died there; or all votes wanted a record, nobody knows whether the log has it, and so the
--- branches were told nothing.
-pub data ComesOfCommit (bs : List Branch) (death : Option Death) (o : TransferOutcome) (desk : DeskView)
-    (new : List LedgerView) (log later : LogState) : Type 0 where
-  in_full : (done : Done) → death ≡ None → o ≡ Decided done → IsCommit bs desk new log later done
-      → ComesOfCommit bs death o desk new log later
-  cut_short : (at : Death) (known : Done) → death ≡ Some at → o ≡ Died at known
-      → IsDeath at bs desk new log later known → ComesOfCommit bs death o desk new log later
-  undecided : (votes : Vec Code Global) → comes_to_decide death ≡ true → o ≡ Undecided votes → MayCommit desk log bs
-      → HasVoted bs desk.ledgers new votes.items → wants_record votes.items ≡ true
-      → ComesOfCommit bs death o desk new log later
-
--- Whether a log is known, after a transfer that came to this of which it was known before: unless it has lost the
--- record.
-abbrev pub LeavesKnown : Type 0 → TransferOutcome → Type 0
-LeavesKnown Known (Undecided votes) = Known → ⊥
-LeavesKnown Known o = Known
-
--- There is room for a transfer of these legs: a handle for each branch as it commits, and as many planned requests at
--- each store as it may need there.
-pub record HasRoom (one two : Leg) (d : DeskView) : Type 0 where
-  pub handles : BRANCHES ≤ d.handles - outstanding d.ledgers
-  pub first : REQUESTS ≤ room_at d.ledgers one.branch.m
-  pub second : REQUESTS ≤ room_at d.ledgers two.branch.m
-
--- Why a transfer of two legs is refused, and what was done: there was no room, and nothing was; or the work was tried,
--- and not all of it answered XA_OK, or the branches might not be committed then, and it was given up.
-pub data IsRefused (one two : Leg) (k : List ℕ) (old new : DeskView) (log : LogState) : Type 0 where
-  unroomed : (HasRoom one two old → ⊥) → new ≡ old → IsRefused one two k old new log
-  undone : (tried : DeskView) → Tries one two k false old tried → GivesUp one two tried new
-      → IsRefused one two k old new log
-  barred : (tried : DeskView) → Tries one two k true old tried
-      → (MayCommit tried log (one.branch ∷ two.branch ∷ []) → ⊥) → GivesUp one two tried new
-      → IsRefused one two k old new log
-
--- Memory was wanted for a transfer of two legs: all of its work answered XA_OK, no Commit and no Prepare was sent, and
--- it was given up.
-pub record IsGivenUp (one two : Leg) (k : List ℕ) (old new : DeskView) : Type 0 where
-  pub tried : DeskView
-  pub worked : Tries one two k true old tried
-  pub gives_up : GivesUp one two tried new
-
--- What comes of two legs: both worked, and a commit of both branches came to this; or the transfer is refused for a
--- reason, and only requests for its branches were sent, no Commit among them.
-pub data Transfers (one two : Leg) (k : List ℕ) (death : Option Death) (o : TransferOutcome) (old new : DeskView)
-    (log later : LogState) : Type 0 where
-  commits : (worked : DeskView) → HaveWorked one two k old.ledgers worked.ledgers
-      → ComesOfCommit (one.branch ∷ two.branch ∷ []) death o worked new.ledgers log later
-      → Transfers one two k death o old new log later
-  refused : o ≡ Refused → later ≡ log → IsRefused one two k old new log
-      → HaveSent (IsFor one two) old.ledgers new.ledgers → Transfers one two k death o old new log later
+-- what comes of two legs, by a teller whose log is known: they are one unit of work
+abbrev pub Transfers : Leg → Leg → List ℕ → Option Death → WorkOutcome → DeskView → DeskView → LogState → LogState
+    → Type 0
+Transfers one two k death o old new log later =
+    Transacts (branches_of one two) (changes_of one two k) death o old new log (Unit {0}) later
 
 -- the log, once the record of a transaction that came to this is forgotten, where every store has acknowledged it
-abbrev pub forgotten : TranName → TransferOutcome → LogState → LogState
+abbrev pub forgotten : TranName → WorkOutcome → LogState → LogState
 forgotten tran (Decided done) log = if is_acknowledged done then without_record log tran else log
 forgotten tran o log = log
 
 -- What comes of thread t's transfer of number n, by its habits: that of its legs, and the record may be forgotten; or
 -- it has none, and nothing is done.
-pub data Makes (t n : ℕ) (tr : Transfer) (habits : Habits) (o : TransferOutcome) (old new : DeskView)
+pub data Makes (t n : ℕ) (tr : Transfer) (habits : Habits) (o : WorkOutcome) (old new : DeskView)
     (log later : LogState) : Type 0 where
   with_legs : (one two : Leg) (left : LogState) → AreLegs t n tr one two
       → Transfers one two tr.account (death_in habits n) o old new log left
       → later ≡ (if habits.forgets then forgotten (tran_of one.branch.xid) o left else left)
       → Makes t n tr habits o old new log later
-  without_legs : o ≡ Refused → HasNoLegs n tr → new ≡ old → later ≡ log → Makes t n tr habits o old new log later
+  without_legs : o ≡ Refused NotBegun → HasNoLegs n tr → new ≡ old → later ≡ log
+      → Makes t n tr habits o old new log later
 
 -- What comes of thread t's transfer of number n where memory was wanted: it is given up.
-pub record WantsMemory (t n : ℕ) (tr : Transfer) (old new : DeskView) : Type 0 where
+pub record WantsMemory (t n : ℕ) (tr : Transfer) (old new : DeskView) (log : LogState) : Type 0 where
   pub one : Leg
   pub two : Leg
   pub legs : AreLegs t n tr one two
-  pub given_up : IsGivenUp one two tr.account old new
+  pub given_up : IsGivenUp (branches_of one two) (changes_of one two tr.account) old new log
+
+-- it may shut a store: this one, if any
+abbrev pub MayShut : Option ℕ → DeskView → DeskView → Type 0
+MayShut None old new = new ≡ old
+MayShut (Some m) old new = (answer : ℤ) × Calls (native Shut 0) old m new answer
+
+-- what comes of it, where the teller shuts a store first, or none
+pub record MakesNext (t n : ℕ) (tr : Transfer) (habits : Habits) (o : WorkOutcome) (old new : DeskView)
+    (log later : LogState) : Type 0 where
+  pub shut : DeskView
+  pub shuts : MayShut (shut_before habits n) old shut
+  pub makes : Makes t n tr habits o shut new log later
 
 -- so for as many of these transfers as there are outcomes, one after the other, with numbers from n on
-abbrev pub MakesEach : ℕ → Habits → ℕ → List Transfer → List TransferOutcome → DeskView → DeskView → LogState
+abbrev pub MakesEach : ℕ → Habits → ℕ → List Transfer → List WorkOutcome → DeskView → DeskView → LogState
     → LogState → Type 0
 MakesEach t habits n [] [] old new log later = (new ≡ old) × (later ≡ log)
 MakesEach t habits n (tr ∷ trs) [] old new log later = (new ≡ old) × (later ≡ log)
 MakesEach t habits n (tr ∷ trs) (o ∷ os) old new log later =
-    (mid : DeskView) × (now : LogState) × Makes t n tr habits o old mid log now
+    (mid : DeskView) × (now : LogState) × MakesNext t n tr habits o old mid log now
     × MakesEach t habits (n + 1) trs os mid new now later
 MakesEach t habits n [] (o ∷ os) old new log later = ⊥
 
 -- the thread opened stores, and then made these transfers, the first of which has the number of its habits
-pub record MakesAll (trs : List Transfer) (habits : Habits) (os : List TransferOutcome) (old new : DeskView)
+pub record MakesAll (trs : List Transfer) (habits : Habits) (os : List WorkOutcome) (old new : DeskView)
     (log later : LogState) : Type 0 where
   pub opened : DeskView
   pub opens : HaveSent IsOpenRm old.ledgers opened.ledgers

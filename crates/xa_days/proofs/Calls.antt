@@ -67,7 +67,7 @@ resolves_tell m x o up kept only =
     }) (only m) in
     λ k d lt n. all k d lt (named_tran x (get_or (history_of o.settled m) k d).op n) n
 
-outcome_named : (b : Bool) (y x : XidName) → names x (outcome_op b y) ≡ true → y ≡ x
+pub outcome_named : (b : Bool) (y x : XidName) → names x (outcome_op b y) ≡ true → y ≡ x
 outcome_named true y x n = (Decides-xid_eq y x).0 n
 outcome_named false y x n = (Decides-xid_eq y x).0 n
 

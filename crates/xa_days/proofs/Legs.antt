@@ -49,7 +49,7 @@ use Rattle.xa_days.proofs.Calls.{positive_each, resolves_commit_nothing, resolve
 use Rattle.xa_days.proofs.Recorded.{recorded_law}
 
 -- what follows the requests of a list
-after_seam : {A : Type 0} (xs more : List A) (y : A) → slice_get (xs ++ more) (length xs) ≡ Some y → (rest : List A) × (more ≡ y ∷ rest)
+pub after_seam : {A : Type 0} (xs more : List A) (y : A) → slice_get (xs ++ more) (length xs) ≡ Some y → (rest : List A) × (more ≡ y ∷ rest)
 after_seam [] [] y e = cc
 after_seam [] (z ∷ rest) y e = (rest, ap (λ w. w ∷ rest) (some_same z y e))
 after_seam (x ∷ xs) more y e = after_seam xs more y e

@@ -4,3 +4,4 @@ pub mod InARow
 pub mod Calls
 pub mod Recorded
 pub mod Legs
+pub mod AtWork

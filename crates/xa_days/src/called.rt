@@ -1,11 +1,17 @@
 //! What a commit and a resolve say of the requests that name a branch, for the laws of days.
-ghost use Rattle.std.specs.Prelude.{◌≡◌, ◌≤◌, ℕ, Some, true, false};
+ghost use Rattle.std.specs.Prelude.{◌≡◌, ◌≤◌, ℕ, ℤ, pos, if◌then◌else◌, Some, true, false};
+ghost use Rattle.std.specs.Prelude.{List, [], ◌∷◌};
 ghost use Rattle.std.specs.List.{All, Contains};
 ghost use Rattle.xa_base.specs.declared.limits.TheConstants.{MOST_MANAGERS};
 ghost use Rattle.xa_base.specs.Lists.{IsUpTo};
 ghost use Rattle.xa_words.specs.Xid.{XidName};
 ghost use Rattle.xa_words.specs.Tran.{TranName, tran_of};
+ghost use Rattle.xa_words.specs.Key.{key_eq};
 ghost use Rattle.xa_tables.specs.Tables.{Tables};
+ghost use Rattle.xa_tables.specs.History.{History, tables_after};
+ghost use Rattle.xa_tables.specs.Openings.{IsOpening};
+ghost use Rattle.xa_tables.specs.Work.{DoesWork};
+ghost use Rattle.xa_tables.specs.Worth.{held_by};
 ghost use Rattle.xa_desk.specs.DeskView.{ledger};
 ghost use Rattle.xa_switch.specs.Settling.{Settling, IsSettled};
 ghost use Rattle.xa_switch.specs.Fates.{first_of, history};
@@ -54,4 +60,12 @@ pub fn branches_that_are_not_told_to_commit_are_not_committed()
 pub fn recorded_branches_agreed_or_read()
     ensures { (s : Settling) (k : CutCall) (t : TranName) → IsUseIn s (cuts k) → IsTranOf k.branches t
         → is_recorded k.later t ≡ true → All (AgreedOrRead k s) k.branches }
+{}
+
+/// A branch whose work one thread did holds of an account what the thread added to it, in any opening; so of each other
+/// account nothing.
+pub fn a_branch_holds_what_its_thread_added()
+    ensures { (t n : ℕ) (x : XidName) (k : List ℕ) (d : ℤ) (h : History) (T : Tables) → DoesWork t n x k d T h
+        → IsOpening T → (j : List ℕ) (v : ℕ)
+        → held_by ((j, v) ∷ []) x (tables_after h T) ≡ (if key_eq j k then d else pos 0) }
 {}

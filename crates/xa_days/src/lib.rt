@@ -11,8 +11,9 @@ mod laws;
 mod settled;
 
 pub use crate::called::{
-    branches_of_a_commit_vote, branches_that_are_not_told_to_commit_are_not_committed,
-    recorded_branches_agreed_or_read, resolves_only_tell_outcomes,
+    a_branch_holds_what_its_thread_added, branches_of_a_commit_vote,
+    branches_that_are_not_told_to_commit_are_not_committed, recorded_branches_agreed_or_read,
+    resolves_only_tell_outcomes,
 };
 pub use crate::laws::{
     branches_move_the_worth_over_openings, recorded_branches_are_what_a_day_moves,

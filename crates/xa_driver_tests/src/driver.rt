@@ -2,7 +2,7 @@
 mod appending;
 mod callers;
 mod crash;
-pub(crate) mod dying;
+mod dying;
 mod endings;
 mod forgetful;
 mod known;

@@ -1,7 +1,5 @@
-//! Tests of the coordinator and of a caller, the bank, over their public surfaces.
+//! Tests of the coordinator over its public surface.
 #![tactic(auto)]
 
-#[cfg(test)]
-mod bank;
 #[cfg(test)]
 mod driver;

@@ -10,13 +10,14 @@ use crate::numbers::{STORES, TRANSFERS};
 use std::alloc::{AllocError, Global};
 use std::io::Write;
 use std::sync::Wait;
-use xa_bank::{Habits, Teller, Transfer, TransferOutcome};
+use xa_bank::{Habits, Teller, Transfer};
 use xa_crew::Client;
 use xa_crew::laws::idles_go_on;
 use xa_desk::laws::desks_go_on;
 use xa_desk::{Desk, Idle};
 use xa_log::DecisionLog;
 use xa_words::{Key, Tran};
+use xa_work::WorkOutcome;
 
 /// A teller that tells of each of its transfers on standard output, or wherever it is to.
 #[derive(Drop)]
@@ -104,7 +105,7 @@ impl<L: DecisionLog + Drop, W: Write + Drop> Clerk<L, W> {
     ) -> Result<(), Fault> {
         for outcome in &self.teller.outcomes {
             match outcome {
-                TransferOutcome::Decided(done) if done.commit && done.logged => {
+                WorkOutcome::Decided(done) if done.commit && done.logged => {
                     add_event(self.alloc, lines, Event::Committed, thread, &tran)?;
                     if forgets && done.is_acknowledged() {
                         add_event(self.alloc, lines, Event::Forgotten, thread, &tran)?;
@@ -112,7 +113,7 @@ impl<L: DecisionLog + Drop, W: Write + Drop> Clerk<L, W> {
                         self.recorded.push(tran)?;
                     }
                 }
-                TransferOutcome::Undecided(_) => {
+                WorkOutcome::Undecided(_) => {
                     add_event(self.alloc, lines, Event::Undecided, thread, &tran)?;
                 }
                 _ => {}
@@ -154,6 +155,7 @@ impl<L: DecisionLog + Drop, W: Write + Drop> Clerk<L, W> {
         let habits = Habits {
             first: number,
             death: None,
+            shuts: None,
             forgets: forgets(place),
         };
         self.teller.turn_to(transfers, habits);

@@ -32,8 +32,8 @@ use xa_atomicity::{
 use xa_crew::Turns;
 use xa_desk::laws::desks_go_on;
 use xa_desk::{Desk, Idle};
-use xa_driver::{Branch, CommitFault, Done, Outcome, begin_prepare, commit_until, may_commit};
-use xa_log::{DecisionRecords, MemoryLog};
+use xa_driver::{Branch, CommitFault, Done, begin_prepare, commit_until, may_commit};
+use xa_log::MemoryLog;
 use xa_switch::{Again, Plan, Settled};
 use xa_words::{Code, Death, Op, Xid};
 
@@ -343,18 +343,6 @@ fn die_and_resolve<R: Wait + Abort>(
         last,
         log: Snapshot::of(&log),
     }
-}
-
-// Opens what was settled again, and resolves what was left by these records: what that opening is settled to, and what
-// each branch came to.
-pub(crate) fn resolve_by<R: Wait + Abort, L: DecisionRecords>(
-    rt: &R,
-    alloc: Global,
-    settled: Settled,
-    records: &L,
-) -> (Settled, Vec<Outcome>) {
-    let last = recover(rt, alloc, settled, &again(8), records);
-    (last.settled, last.ended.told.outcomes)
 }
 
 // What the next opening's resolve does, and the values after it.

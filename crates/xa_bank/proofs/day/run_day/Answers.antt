@@ -1,21 +1,22 @@
 use Rattle.std.specs.Prelude.{All}
 use Rattle.std.proofs.Common.{◌≡◌}
+use Rattle.std.proofs.lemmas.Result.{IfOk-weaker}
 use Rattle.xa_switch.specs.Plans.{IsSound, planned}
 use Rattle.xa_switch.specs.Worth.{plan_worth, settled_worth}
 use Rattle.xa_crew.specs.Run.{IsRun}
 use Rattle.xa_bank.specs.Tellers.{EndsWhole, Works}
-use Rattle.xa_bank.proofs.Results.{ok_as, ok_with}
+use Rattle.xa_bank.proofs.Results.{ok_both}
 use Rattle.xa_bank.proofs.Days.{day_law}
 use Rattle.xa_bank.proofs.day.run_day.Goals as goal
 
 pub returns-clause-conserved : goal.returns-clause-conserved
 returns-clause-conserved g c =
     let p = c.args.plan.now in
-    ok_as (λ day. IsRun (Works g.L.DecisionLog.state g.L.DecisionRecords.knows) (planned p) c.args.tellers.items day.clients.items day.settled × IsSound p)
+    IfOk-weaker c.run_clients.result
+    (λ day. IsRun (Works g.L.DecisionLog.state g.L.DecisionRecords.knows) (planned p) c.args.tellers.items day.clients.items day.settled × IsSound p)
     (λ day. All EndsWhole day.clients.items → settled_worth p day.settled ≡ plan_worth p)
     (λ day (ran, sound) whole.
     day_law g.L.DecisionLog.state g.L.DecisionRecords.knows p c.args.tellers.items day.clients.items day.settled ran sound whole c.transfers_conserve_the_worth.ensures.conserved c.transfers_conserve_the_worth.ensures.decided
     c.a_thread_adds_as_it_works.ensures c.managers_open_with_their_accounts.ensures)
-    c.run_clients.result
-    (ok_with (λ day. IsRun (Works g.L.DecisionLog.state g.L.DecisionRecords.knows) (planned p) c.args.tellers.items day.clients.items day.settled) (IsSound p)
+    (ok_both (λ day. IsRun (Works g.L.DecisionLog.state g.L.DecisionRecords.knows) (planned p) c.args.tellers.items day.clients.items day.settled) (IsSound p)
     c.run_clients.result c.run_clients.ensures.ran c.run_clients.ensures.sound)

@@ -12,7 +12,7 @@ returns-in_err-outcome-clause-wants g c =
     let two = c.in-Some.two in
     let tr = c.args.transfer.now in
     let legs = subst (λ t. AreLegs t c.args.number tr one two) c.thread.ensures.thread c.in-Some.ensures in
-    err_same (WantsMemory c.args.desk.now.thread c.args.number tr c.args.desk.now c.carry_out.new.desk) c.from_residual.result (record { one = one; two = two; legs = legs; given_up = c.in_err-outcome.ensures.wants })
+    err_same (WantsMemory c.args.desk.now.thread c.args.number tr c.args.desk.now c.carry_out.new.desk (g.L.DecisionLog.state c.args.log.now)) c.from_residual.result (record { one = one; two = two; legs = legs; given_up = c.in_err-outcome.ensures.wants })
 
 pub returns-then-not-habits-clause-makes : goal.returns-then-not-habits-clause-makes
 returns-then-not-habits-clause-makes g c =

@@ -7,42 +7,46 @@ use Rattle.xa_base.proofs.Lists.{one_more}
 use Rattle.xa_desk.specs.DeskView.{DeskView}
 use Rattle.xa_desk.specs.Seats.{DeskSeat}
 use Rattle.xa_log.specs.Log.{LogState}
+use Rattle.xa_work.specs.declared.unit.WorkOutcome.{WorkOutcome}
+use Rattle.xa_work.specs.declared.unit.WorkOutcome.TheVariants.{Decided, Died, Refused, Undecided}
+use Rattle.xa_work.specs.Sent.{IsOpenRm}
+use Rattle.xa_work.specs.Units.{LeavesKnown, has_died, is_last}
+use Rattle.xa_work.specs.Units.ComesOfCommit.{cut_short, in_full, undecided}
+use Rattle.xa_work.specs.Units.IsRefused.{barred, unbegun, undone}
+use Rattle.xa_work.specs.Units.Transacts.{commits, refused}
+use Rattle.xa_work.proofs.Sent.{have_none}
 use Rattle.xa_bank.specs.declared.habits.Habits.{Habits}
-use Rattle.xa_bank.specs.declared.teller.TransferOutcome.{TransferOutcome}
-use Rattle.xa_bank.specs.declared.teller.TransferOutcome.TheVariants.{Decided, Died, Refused, Undecided}
 use Rattle.xa_bank.specs.declared.teller.Transfer.{Transfer}
-use Rattle.xa_bank.specs.Deaths.{death_in, death_if_at}
-use Rattle.xa_bank.specs.Tellers.{ended, has_died, is_last, lived, unknown}
-use Rattle.xa_bank.specs.Transfers.{IsOpenRm, LeavesKnown, Makes, MakesEach, with_legs, without_legs, commits, refused}
-use Rattle.xa_bank.specs.Transfers.{in_full, cut_short, undecided}
+use Rattle.xa_bank.specs.Numbered.{death_in, death_if_at}
+use Rattle.xa_bank.specs.Tellers.{ended, lived, unknown}
+use Rattle.xa_bank.specs.Transfers.{Makes, MakesEach, MakesNext, with_legs, without_legs}
 use Rattle.xa_bank.proofs.Named.{makes_more, makes_none}
-use Rattle.xa_bank.proofs.Sent.{have_none}
 use Rattle.xa_bank.proofs.teller.make_all.Goals as goal
 
 -- a transfer more, where others may follow that aren't made
-one_made : (t place : ℕ) (habits : Habits) (trs : List Transfer) (tr : Transfer) (unmade : List Transfer) (more : List TransferOutcome) (o : TransferOutcome) (u : ℕ) (old mid new : DeskView) (log now later : LogState)
+one_made : (t place : ℕ) (habits : Habits) (trs : List Transfer) (tr : Transfer) (unmade : List Transfer) (more : List WorkOutcome) (o : WorkOutcome) (u : ℕ) (old mid new : DeskView) (log now later : LogState)
     → place < length trs → length more ≡ place → u ≡ t
-    → MakesEach t habits habits.first (take place trs) more old mid log now → Makes u (habits.first + place) tr habits o mid new now later
+    → MakesEach t habits habits.first (take place trs) more old mid log now → MakesNext u (habits.first + place) tr habits o mid new now later
     → MakesEach t habits habits.first (take place trs ++ tr ∷ unmade) (more ++ o ∷ []) old new log later
 one_made t place habits trs tr unmade more o u old mid new log now later below many same makes made =
     let size = length-take place trs in
     let number : habits.first + place ≡ habits.first + length (take place trs) = omega (arith, size, below) in
-    let its : Makes t (habits.first + place) tr habits o mid new now later =
-    subst (λ k. Makes k (habits.first + place) tr habits o mid new now later) same made in
-    makes_more t habits habits.first (take place trs) more tr unmade o old mid new log now later (omega (arith, many, size, below)) makes (subst (λ n. Makes t n tr habits o mid new now later) number its)
+    let its : MakesNext t (habits.first + place) tr habits o mid new now later =
+    subst (λ k. MakesNext k (habits.first + place) tr habits o mid new now later) same made in
+    makes_more t habits habits.first (take place trs) more tr unmade o old mid new log now later (omega (arith, many, size, below)) makes (subst (λ n. MakesNext t n tr habits o mid new now later) number its)
 
-still_none : (more : List TransferOutcome) (o : TransferOutcome) → list_any is_last more ≡ false → is_last o ≡ false
+still_none : (more : List WorkOutcome) (o : WorkOutcome) → list_any is_last more ≡ false → is_last o ≡ false
     → list_any is_last (more ++ o ∷ []) ≡ false
 still_none more o none lives = list_any-append is_last more (o ∷ []) ∙ (λ i. none i || (lives i || false))
 
-grown : (xs more : List TransferOutcome) (o : TransferOutcome) (ys zs : List TransferOutcome) → ys ≡ zs ++ o ∷ [] → zs ≡ xs ++ more
+grown : (xs more : List WorkOutcome) (o : WorkOutcome) (ys zs : List WorkOutcome) → ys ≡ zs ++ o ∷ [] → zs ≡ xs ++ more
     → ys ≡ xs ++ (more ++ o ∷ [])
 grown xs more o ys zs is told = is ∙ ap (λ l. l ++ o ∷ []) told ∙ append_assoc xs more (o ∷ [])
 
 -- after an outcome that isn't the last the log is known
-still_known : (Knows : Type 0) (o : TransferOutcome) → is_last o ≡ false → LeavesKnown Knows o → Knows
+still_known : (Knows : Type 0) (o : WorkOutcome) → is_last o ≡ false → LeavesKnown Knows o → Knows
 still_known Knows (Decided done) lives known = known
-still_known Knows Refused lives known = known
+still_known Knows (Refused why) lives known = known
 still_known Knows (Died at known_) lives known = known
 still_known Knows (Undecided votes) lives known = cc
 
@@ -81,30 +85,30 @@ loop-place-preserved g c =
     let place : ℕ = c.loop-place.place in
     let tr : Transfer = c.index-transfers-place.result in
     let below : place < length trs = c.loop-place-test.true in
-    let o : TransferOutcome = c.in_ok-outcome.outcome in
+    let o : WorkOutcome = c.in_ok-outcome.outcome in
     let first : DeskView = c.open_all.new.desk in
     let t : ℕ = c.args.desk.now.thread in
     let habits : Habits = c.args.habits.now in
     let log : LogState = g.L.DecisionLog.state c.args.log.now in
-    let later : LogState = g.L.DecisionLog.state c.make.new.log in
+    let later : LogState = g.L.DecisionLog.state c.make_next.new.log in
     let same : c.loop-place.desk.thread ≡ t = ap (λ (s : DeskSeat). s.thread) c.loop-place.invariant.goes_on.seat in
     let all =
-    one_made t place habits trs tr [] more o c.loop-place.desk.thread first c.loop-place.desk c.make.new.desk log (g.L.DecisionLog.state c.loop-place.log) later below many same makes c.in_ok-outcome.ensures.makes in
+    one_made t place habits trs tr [] more o c.loop-place.desk.thread first c.loop-place.desk c.make_next.new.desk log (g.L.DecisionLog.state c.loop-place.log) later below many same makes c.in_ok-outcome.ensures.makes in
     let taken : take (place + 1) trs ≡ take place trs ++ tr ∷ [] = one_more trs place tr below c.index-transfers-place.is in
     let size : length (more ++ o ∷ []) ≡ length more + 1 = length-append more (o ∷ []) in
     let lives : is_last o ≡ false = sym c.is_last-last.ensures ∙ c.if-last.false in
     record {
       goes_on = search rules;
       kept = search rules;
-      idled = c.idles_go_on.ensures.further _ _ _ c.loop-place.invariant.idled c.make.ensures.idled;
-      knows = still_known (g.L.DecisionRecords.knows c.make.new.log) o lives c.in_ok-outcome.ensures.known;
+      idled = c.idles_go_on.ensures.further _ _ _ c.loop-place.invariant.idled c.make_next.ensures.idled;
+      knows = still_known (g.L.DecisionRecords.knows c.make_next.new.log) o lives c.in_ok-outcome.ensures.known;
       each = search rules;
       made = (
         more ++ o ∷ [],
         grown c.args.outcomes.now.items more o c.push.new.self.items c.loop-place.outcomes.items c.in_ok-push.ensures.items told,
         omega (arith, size, many),
         still_none more o none lives,
-        subst (λ (l : List Transfer). MakesEach t habits habits.first l (more ++ o ∷ []) first c.make.new.desk log later) (sym taken) all,
+        subst (λ (l : List Transfer). MakesEach t habits habits.first l (more ++ o ∷ []) first c.make_next.new.desk log later) (sym taken) all,
       );
     }
 
@@ -115,16 +119,16 @@ returns-then-last-clause-made g c =
     let place : ℕ = c.loop-place.place in
     let tr : Transfer = c.index-transfers-place.result in
     let below : place < length trs = c.loop-place-test.true in
-    let o : TransferOutcome = c.in_ok-outcome.outcome in
+    let o : WorkOutcome = c.in_ok-outcome.outcome in
     let first : DeskView = c.open_all.new.desk in
     let t : ℕ = c.args.desk.now.thread in
     let habits : Habits = c.args.habits.now in
     let log : LogState = g.L.DecisionLog.state c.args.log.now in
-    let later : LogState = g.L.DecisionLog.state c.make.new.log in
+    let later : LogState = g.L.DecisionLog.state c.make_next.new.log in
     let rest : List Transfer = drop (place + 1) trs in
     let same : c.loop-place.desk.thread ≡ t = ap (λ (s : DeskSeat). s.thread) c.loop-place.invariant.goes_on.seat in
     let all =
-    one_made t place habits trs tr rest more o c.loop-place.desk.thread first c.loop-place.desk c.make.new.desk log (g.L.DecisionLog.state c.loop-place.log) later below many same makes c.in_ok-outcome.ensures.makes in
+    one_made t place habits trs tr rest more o c.loop-place.desk.thread first c.loop-place.desk c.make_next.new.desk log (g.L.DecisionLog.state c.loop-place.log) later below many same makes c.in_ok-outcome.ensures.makes in
     let taken : take (place + 1) trs ≡ take place trs ++ tr ∷ [] = one_more trs place tr below c.index-transfers-place.is in
     let parts : take place trs ++ tr ∷ rest ≡ trs =
     sym (append_assoc (take place trs) (tr ∷ []) rest) ∙ ap (λ l. l ++ rest) (sym taken) ∙ take-append-drop (place + 1) trs in
@@ -134,35 +138,40 @@ returns-then-last-clause-made g c =
       told = grown c.args.outcomes.now.items more o c.push.new.self.items c.loop-place.outcomes.items c.in_ok-push.ensures.items told;
       makes = record {
         opened = first;
-        opens = c.open_all.ensures.opens;
-        makes = subst (λ (l : List Transfer). MakesEach t habits habits.first l (more ++ o ∷ []) first c.make.new.desk log later) parts all;
+        opens = c.open_all.ensures.sent;
+        makes = subst (λ (l : List Transfer). MakesEach t habits habits.first l (more ++ o ∷ []) first c.make_next.new.desk log later) parts all;
       };
       comes = ended more o whole none (sym c.is_last-last.ensures ∙ c.if-last.true) c.in_ok-outcome.ensures.known;
     }
 
 -- a teller that isn't to die doesn't
-lives_on : (t n : ℕ) (tr : Transfer) (habits : Habits) (o : TransferOutcome) (old new : DeskView) (log later : LogState)
+lives_on : (t n : ℕ) (tr : Transfer) (habits : Habits) (o : WorkOutcome) (old new : DeskView) (log later : LogState)
     → Makes t n tr habits o old new log later → habits.death ≡ None → has_died o ≡ false
-lives_on t n tr habits o old new log later (with_legs one two left legs (commits worked work (in_full done none is made)) kept) never = ap has_died is
-lives_on t n tr habits o old new log later (with_legs one two left legs (commits worked work (cut_short at known some is dies)) kept) never =
-    let nowhere : death_in habits n ≡ None = ap (λ d. death_if_at d n) never in cc
-lives_on t n tr habits o old new log later (with_legs one two left legs (commits worked work (undecided votes decides is may voted wanted)) kept) never =
+lives_on t n tr habits o old new log later (with_legs one two left legs (commits worked begins known_ work (in_full done none is made)) kept) never =
     ap has_died is
-lives_on t n tr habits o old new log later (with_legs one two left legs (refused is same why sent) kept) never = ap has_died is
+lives_on t n tr habits o old new log later (with_legs one two left legs (commits worked begins known_ work (cut_short at known some is dies)) kept) never =
+    let nowhere : death_in habits n ≡ None = ap (λ d. death_if_at d n) never in cc
+lives_on t n tr habits o old new log later (with_legs one two left legs (commits worked begins known_ work (undecided votes decides is may voted wanted)) kept) never =
+    ap has_died is
+lives_on t n tr habits o old new log later (with_legs one two left legs (refused same (unbegun is may none) sent) kept) never = ap has_died is
+lives_on t n tr habits o old new log later (with_legs one two left legs (refused same (undone tried is may known_ tries gives_up) sent) kept) never =
+    ap has_died is
+lives_on t n tr habits o old new log later (with_legs one two left legs (refused same (barred tried is may known_ tries may_not gives_up) sent) kept) never =
+    ap has_died is
 lives_on t n tr habits o old new log later (without_legs is none same unlogged) never = ap has_died is
 
 -- so its last transfer is one that its log has lost
-last_is_lost : (Knows : Type 0) (o : TransferOutcome) → is_last o ≡ true → has_died o ≡ false → LeavesKnown Knows o → Knows → ⊥
+last_is_lost : (Knows : Type 0) (o : WorkOutcome) → is_last o ≡ true → has_died o ≡ false → LeavesKnown Knows o → Knows → ⊥
 last_is_lost Knows (Decided done) last lives known = cc
-last_is_lost Knows Refused last lives known = cc
+last_is_lost Knows (Refused why) last lives known = cc
 last_is_lost Knows (Died at known_) last lives known = cc
 last_is_lost Knows (Undecided votes) last lives known = known
 
 pub returns-then-last-clause-each : goal.returns-then-last-clause-each
 returns-then-last-clause-each g c never known knows =
-    let o : TransferOutcome = c.in_ok-outcome.outcome in
-    let lives = lives_on _ _ _ _ o _ _ _ _ c.in_ok-outcome.ensures.makes never in
-    absurd (last_is_lost (g.L.DecisionRecords.knows c.make.new.log) o (sym c.is_last-last.ensures ∙ c.if-last.true) lives c.in_ok-outcome.ensures.known knows)
+    let o : WorkOutcome = c.in_ok-outcome.outcome in
+    let lives = lives_on _ _ _ _ o _ _ _ _ c.in_ok-outcome.ensures.makes.makes never in
+    absurd (last_is_lost (g.L.DecisionRecords.knows c.make_next.new.log) o (sym c.is_last-last.ensures ∙ c.if-last.true) lives c.in_ok-outcome.ensures.known knows)
 
 pub returns-clause-made : goal.returns-clause-made
 returns-clause-made g c =
@@ -174,7 +183,7 @@ returns-clause-made g c =
       told = told;
       makes = record {
         opened = c.open_all.new.desk;
-        opens = c.open_all.ensures.opens;
+        opens = c.open_all.ensures.sent;
         makes = subst (λ (l : List Transfer). MakesEach c.args.desk.now.thread c.args.habits.now c.args.habits.now.first l more c.open_all.new.desk c.loop-place.desk (g.L.DecisionLog.state c.args.log.now) (g.L.DecisionLog.state c.loop-place.log)) (take_all c.loop-place.place trs (omega (arith, past))) makes;
       };
       comes = lived none (let low = c.loop-place.invariant.each in omega (arith, past, many)) c.loop-place.invariant.knows;

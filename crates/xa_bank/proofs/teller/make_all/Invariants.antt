@@ -2,8 +2,8 @@ use Rattle.std.proofs.Common.{◌≡◌, ◌+◌, false, List, ◌++◌, length,
 use Rattle.std.specs.List.{list_any}
 use Rattle.xa_desk.specs.GoesOn.{GoesOn}
 use Rattle.xa_desk.specs.Kept.{AllKept}
-use Rattle.xa_bank.specs.declared.teller.TransferOutcome.{TransferOutcome}
-use Rattle.xa_bank.specs.Tellers.{is_last}
+use Rattle.xa_work.specs.declared.unit.WorkOutcome.{WorkOutcome}
+use Rattle.xa_work.specs.Units.{is_last}
 use Rattle.xa_bank.specs.Transfers.{MakesEach}
 use Rattle.xa_bank.proofs.teller.make_all.Given as goal
 
@@ -15,7 +15,7 @@ invariant-loop-place g l = record {
   idled : g.I.Idle.leads l.fn.idle l.idle;
   knows : g.L.DecisionRecords.knows l.log;
   each : length l.outcomes.items ≡ length l.fn.outcomes.items + l.place;
-  made : (more : List TransferOutcome)
+  made : (more : List WorkOutcome)
       × (l.outcomes.items ≡ l.fn.outcomes.items ++ more) × (length more ≡ l.place) × (list_any is_last more ≡ false)
       × MakesEach l.fn.desk.thread l.habits l.habits.first (take l.place l.transfers) more l.initial.desk l.desk (g.L.DecisionLog.state l.fn.log) (g.L.DecisionLog.state l.log);
 }

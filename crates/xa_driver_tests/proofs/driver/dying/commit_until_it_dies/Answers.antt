@@ -1,4 +1,5 @@
 use Rattle.std.proofs.Common.{List}
+use Rattle.std.proofs.lemmas.Result.{IfOk-weaker}
 use Rattle.xa_words.specs.Tran.{TranName}
 use Rattle.xa_desk.specs.LedgerView.{LedgerView}
 use Rattle.xa_desk.specs.DeskView.{DeskView, ledger}
@@ -8,7 +9,6 @@ use Rattle.xa_driver.specs.Deaths.{Dies, PutsLedger}
 use Rattle.xa_driver.specs.Resolving.{AsksLedger}
 use Rattle.xa_driver.specs.Trace.{IsTranOf}
 use Rattle.xa_atomicity.specs.Cut.{IsCut}
-use Rattle.xa_bank.proofs.Results.{ok_as}
 use Rattle.xa_driver_tests.proofs.driver.dying.commit_until_it_dies.Goals as goal
 
 pub returns-in-At-clause-cut : goal.returns-in-At-clause-cut
@@ -20,7 +20,8 @@ returns-in-At-clause-cut g c =
     let log = c.args.log.now.state in
     let later = c.commit_until.new.log.state in
     let may = c.requires in
-    ok_as (λ (known : Done). (t : TranName) → IsTranOf bs t → Dies AsksLedger PutsLedger at t bs (ledger desk.ledgers) (ledger new) log later known)
+    IfOk-weaker c.commit_until.result
+    (λ (known : Done). (t : TranName) → IsTranOf bs t → Dies AsksLedger PutsLedger at t bs (ledger desk.ledgers) (ledger new) log later known)
     (λ (known : Done). IsCut bs desk new log later known.endings.items)
     (λ known dies. c.deaths_are_cuts.ensures at may.tran bs desk new log later known may may.one (dies may.tran may.one) c.commit_until.ensures.managers)
-    c.commit_until.result c.commit_until.ensures.dies
+    c.commit_until.ensures.dies

@@ -1,0 +1,71 @@
+-- The work of a transfer's two legs: each has one addition.
+use Rattle.std.proofs.Common.{◌≡◌, ◌≢◌, ℕ, ◌+◌, true, false, ◌==◌, cond, List, [], ◌∷◌, ◌++◌, length, map, sym, refl, ap, ◌∙◌, arith, eq-eqb}
+use Rattle.std.specs.List.{range_with_len}
+use Rattle.std.proofs.lemmas.Bool.{ne_eqb}
+use Rattle.xa_words.specs.declared.code.Code.TheVariants.{Done as Ok_}
+use Rattle.xa_words.specs.declared.request.Op.{Op}
+use Rattle.xa_words.specs.declared.request.Op.TheVariants.{Start, Add, End}
+use Rattle.xa_words.specs.declared.request.StartHow.TheVariants.{Fresh}
+use Rattle.xa_words.specs.declared.request.EndHow.TheVariants.{Success}
+use Rattle.xa_base.proofs.Lists.{all_at}
+use Rattle.xa_driver.specs.declared.branch.Branch.{Branch}
+use Rattle.xa_desk.specs.LedgerView.{LedgerView}
+use Rattle.xa_desk.specs.DeskView.{ledger}
+use Rattle.xa_work.specs.declared.unit.Change.{Change}
+use Rattle.xa_work.specs.Works.{HasWorked, HaveWorked, changes_at, ops_of}
+use Rattle.xa_bank.specs.declared.teller.Leg.{Leg}
+use Rattle.xa_bank.specs.Transfers.{branches_of, change_of, changes_of}
+
+-- a leg, for laws of other crates
+abbrev pub AnyLeg : Type 0
+AnyLeg = Leg
+
+-- the leg's requests
+abbrev pub leg_work : Leg → List ℕ → List Op
+leg_work leg k = Start leg.branch.xid Fresh ∷ Add k leg.delta ∷ End leg.branch.xid Success ∷ []
+
+-- The leg's start, its addition to account k and its end were sent to its store, one after the other, and each was
+-- collected with XA_OK.
+pub record LegWorked (leg : Leg) (k : List ℕ) (a a' : LedgerView) : Type 0 where
+  pub sent : a'.sent ≡ a.sent ++ leg_work leg k
+  pub collected : a'.collected ≡ a.collected ++ (length a.sent, Ok_) ∷ (length a.sent + 1, Ok_) ∷ (length a.sent + 2, Ok_) ∷ []
+
+one_change : (leg : Leg) (k : List ℕ) (cs : List Change) (a a' : LedgerView) → changes_at cs leg.branch.m ≡ change_of leg k ∷ []
+    → HasWorked cs leg.branch a a' → LegWorked leg k a a'
+one_change leg k cs a a' one its =
+    let ops : ops_of cs leg.branch ≡ leg_work leg k =
+    ap (λ (l : List Change). Start leg.branch.xid Fresh ∷ map (λ (c : Change). Add c.key c.delta) l ++ End leg.branch.xid Success ∷ []) one in
+    let n : ℕ = length a.sent in
+    let third : n + 1 + 1 ≡ n + 2 = omega arith in
+    record {
+      sent = its.sent ∙ ap (λ l. a.sent ++ l) ops;
+      collected =
+          its.collected ∙ ap (λ (l : List Op). a.collected ++ map (λ i. (i, Ok_)) (range_with_len n (length l))) ops
+          ∙ (λ i. a.collected ++ (n, Ok_) ∷ (n + 1, Ok_) ∷ (third i, Ok_) ∷ []);
+    }
+
+module _ (one two : Leg) (k : List ℕ) (apart : one.branch.m ≢ two.branch.m) where
+  first_change : changes_at (changes_of one two k) one.branch.m ≡ change_of one k ∷ []
+  first_change =
+      let here : (one.branch.m == one.branch.m) ≡ true = eq-eqb one.branch.m one.branch.m refl in
+      let there : (two.branch.m == one.branch.m) ≡ false = ne_eqb two.branch.m one.branch.m (λ e. apart (sym e)) in
+      λ i. cond (here i) (change_of one k ∷ cond (there i) (change_of two k ∷ []) []) (cond (there i) (change_of two k ∷ []) [])
+
+  second_change : changes_at (changes_of one two k) two.branch.m ≡ change_of two k ∷ []
+  second_change =
+      let there : (one.branch.m == two.branch.m) ≡ false = ne_eqb one.branch.m two.branch.m apart in
+      let here : (two.branch.m == two.branch.m) ≡ true = eq-eqb two.branch.m two.branch.m refl in
+      λ i. cond (there i) (change_of one k ∷ cond (here i) (change_of two k ∷ []) []) (cond (here i) (change_of two k ∷ []) [])
+
+  -- both legs worked
+  pub legs_worked : (old new : List LedgerView) → HaveWorked (changes_of one two k) (branches_of one two) old new
+      → LegWorked one k (ledger old one.branch.m) (ledger new one.branch.m) × LegWorked two k (ledger old two.branch.m) (ledger new two.branch.m)
+  legs_worked old new w =
+      let cs : List Change = changes_of one two k in
+      let first : HasWorked cs one.branch (ledger old one.branch.m) (ledger new one.branch.m) =
+      all_at (λ (b : Branch). HasWorked cs b (ledger old b.m) (ledger new b.m)) (branches_of one two) 0 one.branch w.each refl in
+      let second : HasWorked cs two.branch (ledger old two.branch.m) (ledger new two.branch.m) =
+      all_at (λ (b : Branch). HasWorked cs b (ledger old b.m) (ledger new b.m)) (branches_of one two) 1 two.branch w.each refl in (
+        one_change one k cs (ledger old one.branch.m) (ledger new one.branch.m) first_change first,
+        one_change two k cs (ledger old two.branch.m) (ledger new two.branch.m) second_change second,
+      )

@@ -1,0 +1,241 @@
+-- What a commit came to that was made, or whose coordinator died: whether its log has the record is what was told, where the
+-- first branch isn't read only.
+use Rattle.std.specs.Prelude.{is_some, if◌then◌else◌}
+use Rattle.std.proofs.Common.{◌≡◌, ◌≢◌, ℕ, zero, Bool, true, false, not, ◌&&◌, ◌||◌, cond, Option, None, Some, List, [], ◌∷◌, ◌++◌, length, append_assoc, sym}
+use Rattle.std.proofs.Common.{refl, ap, ◌∙◌, subst, arith}
+use Rattle.std.specs.List.{Contains}
+use Rattle.std.specs.Ordering.{eq_by_cmp, is_eq}
+use Rattle.std.specs.Cmp.{tied_itself}
+use Rattle.std.specs.FinMap as map
+use Rattle.std.specs.FinMap.{get-insert}
+use Rattle.std.proofs.Math.Bool.{or-true}
+use Rattle.std.proofs.lemmas.Bool.{and_parts}
+use Rattle.std.proofs.lemmas.List.Elements.{Contains-append_right}
+use Rattle.xa_base.proofs.Truth.{is_equal}
+use Rattle.xa_words.specs.Tran.{TranName, tran_of}
+use Rattle.xa_words.specs.declared.code.Code.{Code}
+use Rattle.xa_words.specs.declared.code.Code.TheVariants.{Done, RdOnly, RmFail}
+use Rattle.xa_words.specs.declared.death.Death.{Death}
+use Rattle.xa_words.specs.declared.death.Death.TheVariants as death
+use Rattle.xa_words.specs.declared.request.Op.{Op}
+use Rattle.xa_words.specs.declared.request.Op.TheVariants.{Prepare}
+use Rattle.xa_desk.specs.LedgerView.{LedgerView, learnt_shut, with_collected, with_sent}
+use Rattle.xa_desk.specs.DeskView.{DeskView, ledger}
+use Rattle.xa_log.specs.Log.{LogState, record_of, with_record}
+use Rattle.xa_log.specs.Transactions.{tran_cmp}
+use Rattle.xa_log.proofs.Transactions.{tran_cmp_total, tran_cmp-IsAntisymmetric}
+use Rattle.xa_driver.specs.declared.branch.Branch.{Branch}
+use Rattle.xa_driver.specs.declared.done.Done.{Done as Made}
+use Rattle.xa_driver.specs.declared.done.Ending.{Ending}
+use Rattle.xa_driver.specs.Course.{AtBranch}
+use Rattle.xa_driver.specs.Deaths.{CameTo, HaveAsked, HaveTold, IsDecidedBy, PutsLedger, VotesAndObeys}
+use Rattle.xa_driver.specs.Decision.{decides_commit, has_yes, yes_of}
+use Rattle.xa_driver.specs.Resolving.{AsksLedger}
+use Rattle.xa_driver.specs.Trace.{EachBranch, Logs, appended, decision_of, failed, unwanted}
+use Rattle.xa_atomicity.specs.Cut.{IsCut, is_recorded}
+use Rattle.xa_atomicity.proofs.CutVotes.{finished_law}
+use Rattle.xa_atomicity.proofs.Died.{died_is_cut}
+use Rattle.xa_work.specs.declared.unit.WorkOutcome.{WorkOutcome}
+use Rattle.xa_work.specs.Sent.{HasSent}
+use Rattle.xa_work.specs.Units.{ComesOfCommit, LeavesKnown, is_to_commit}
+use Rattle.xa_work.specs.Units.ComesOfCommit.{cut_short, in_full, undecided}
+use Rattle.xa_work.proofs.Sent.{none_sent}
+use Rattle.xa_bank_days.proofs.Obeyed.{Obeys, ObeysAll, after_heard, after_obeyed, after_vote, died_obeys, made_obeys}
+
+-- ---- the record
+
+recorded : (log : LogState) (t : TranName) (managers : List Bool) → is_recorded (with_record log t managers) t ≡ true
+recorded log t managers =
+    ap is_some (get-insert tran_cmp_total log.records t managers t
+    ∙ ap (λ c. cond c (Some managers) (map.get log.records t)) (ap is_eq (tied_itself tran_cmp_total t)))
+
+-- it is there exactly where the log took it
+logged_is : (t : TranName) (managers : List Bool) (votes : List Code) (logged : Bool) (log later : LogState) → record_of log t ≡ None
+    → Logs t managers votes logged log later → is_recorded later t ≡ logged
+logged_is t managers votes logged log later absent (appended wants on is) = ap (λ (l : LogState). is_recorded l t) is ∙ recorded log t managers ∙ sym on
+logged_is t managers votes logged log later absent (failed wants off is) = ap (λ (l : LogState). is_recorded l t) is ∙ ap is_some absent ∙ sym off
+logged_is t managers votes logged log later absent (unwanted wants off is) = ap (λ (l : LogState). is_recorded l t) is ∙ ap is_some absent ∙ sym off
+
+-- those of other transactions stay
+others_stay : (own t : TranName) (managers : List Bool) (votes : List Code) (logged : Bool) (log later : LogState) → t ≢ own
+    → Logs own managers votes logged log later
+    → record_of later t ≡ record_of log t
+others_stay own t managers votes logged log later other (appended wants on is) =
+    ap (λ (l : LogState). record_of l t) is ∙ get-insert tran_cmp_total log.records own managers t
+    ∙ elim (eq_by_cmp tran_cmp t own) as (λ c. eq_by_cmp tran_cmp t own ≡ c → cond c (Some managers) (map.get log.records t) ≡ map.get log.records t) [
+      | true ↦ λ same. absurd (other (tran_cmp-IsAntisymmetric t own (is_equal _ same)))
+      | false ↦ λ _. refl
+    ] refl
+others_stay own t managers votes logged log later other (failed wants off is) = ap (λ (l : LogState). record_of l t) is
+others_stay own t managers votes logged log later other (unwanted wants off is) = ap (λ (l : LogState). record_of l t) is
+
+-- ---- the first vote
+
+-- the branch was asked to prepare, and answered XA_RDONLY
+pub record OnlyReads (b : Branch) (a a' : LedgerView) : Type 0 where
+  pub more : List Op
+  pub sent : a'.sent ≡ a.sent ++ Prepare b.xid ∷ more
+  pub collected : Contains a'.collected (length a.sent, RdOnly)
+
+reads : (b : Branch) (a d a' : LedgerView) → AsksLedger a (Prepare b.xid) d RdOnly → HasSent (Obeys b.xid) d a' → OnlyReads b a a'
+reads b a d a' asks after =
+    let open_ : learnt_shut a ≡ false =
+    elim (learnt_shut a) as (λ c. learnt_shut a ≡ c → c ≡ false) [ true ↦ λ shut. let z : RdOnly ≡ RmFail = asks.answered shut in cc | false ↦ λ _. refl ] refl in
+    let first : d ≡ with_collected (with_sent a (Prepare b.xid)) (length a.sent) RdOnly =
+    asks.trace ∙ ap (λ c. if c then a else with_collected (with_sent a (Prepare b.xid)) (length a.sent) RdOnly) open_ in
+    let took = after.collected in
+    record {
+      more = after.more;
+      sent = after.sent ∙ ap (λ (l : LedgerView). l.sent ++ after.more) first ∙ append_assoc a.sent (Prepare b.xid ∷ []) after.more;
+      collected =
+          subst (λ l. Contains l (length a.sent, RdOnly))
+          (sym (took.1 ∙ ap (λ (l : LedgerView). l.collected ++ took.0) first ∙ append_assoc a.collected ((length a.sent, RdOnly) ∷ []) took.0))
+          (Contains-append_right a.collected ((length a.sent, RdOnly) ∷ took.0) (length a.sent, RdOnly) (zero, omega arith, refl));
+    }
+
+-- the first of the branches was asked to prepare, with its vote, and what it was told after it
+record FirstAsked (b : Branch) (vs : List Code) (a a' : LedgerView) : Type 0 where
+  vote : Code
+  others : List Code
+  votes : vs ≡ vote ∷ others
+  prepared : LedgerView
+  asks : AsksLedger a (Prepare b.xid) prepared vote
+  after : HasSent (Obeys b.xid) prepared a'
+
+module _ (old new : List LedgerView) (b : Branch) (bs : List Branch) where
+  abbrev First : List Code → Type 0
+  First vs = FirstAsked b vs (ledger old b.m) (ledger new b.m)
+
+  made_first : (commit : Bool) (vs : List Code) (ss : List (Option Code)) (es : List Ending)
+      → EachBranch (λ c v s e. AtBranch AsksLedger commit c v s e (ledger old c.m) (ledger new c.m)) (b ∷ bs) vs ss es → First vs
+  made_first commit (v ∷ vs) (s ∷ ss) (e ∷ es) h =
+      record { vote = v; others = vs; votes = refl; prepared = h.0.prepared; asks = h.0.prepares; after = after_vote commit b v s e (ledger old b.m) (ledger new b.m) h.0 }
+  made_first commit vs ss es h = absurd h
+
+  asked_first : (vs : List Code) → length vs ≡ length (b ∷ bs) → HaveAsked AsksLedger PutsLedger (b ∷ bs) vs (ledger old) (ledger new) → First vs
+  asked_first [] many h = absurd (omega (arith, many))
+  asked_first (v ∷ vs) many h =
+      record { vote = v; others = vs; votes = refl; prepared = ledger new b.m; asks = h.0; after = none_sent (Obeys b.xid) (ledger new b.m) }
+
+  told_first : (commit : Bool) (k : ℕ) (vs : List Code) → HaveTold AsksLedger PutsLedger commit k (b ∷ bs) vs (ledger old) (ledger new) → First vs
+  told_first commit k [] h = absurd h
+  told_first commit k (v ∷ vs) h =
+      record { vote = v; others = vs; votes = refl; prepared = h.0.prepared; asks = h.0.prepares; after = after_heard commit k b v (ledger old b.m) (ledger new b.m) h.0 }
+
+  ended_first : (commit : Bool) (vs : List Code) (ss : List (Option Code)) (es : List Ending)
+      → EachBranch (λ c v s e. VotesAndObeys AsksLedger commit c v s e (ledger old c.m) (ledger new c.m)) (b ∷ bs) vs ss es → First vs
+  ended_first commit (v ∷ vs) (s ∷ ss) (e ∷ es) h =
+      record { vote = v; others = vs; votes = refl; prepared = h.0.prepared; asks = h.0.prepares; after = after_obeyed commit b v s e (ledger old b.m) (ledger new b.m) h.0 }
+  ended_first commit vs ss es h = absurd h
+
+-- where it isn't read only, and no vote is against, there is one to commit
+some_yes : (v : Code) (vs : List Code) → (v ≡ RdOnly → ⊥) → decides_commit (v ∷ vs) ≡ true → has_yes (v ∷ vs) ≡ true
+some_yes Done vs reads decides = refl
+some_yes RdOnly vs reads decides = absurd (reads refl)
+some_yes v vs reads decides = cc
+
+some_decided : (b : Branch) (vs : List Code) (a a' : LedgerView) → FirstAsked b vs a a' → (OnlyReads b a a' → ⊥) → decides_commit vs ≡ true → has_yes vs ≡ true
+some_decided b vs a a' z never decides =
+    let votes : z.vote ≡ RdOnly → ⊥ = λ is. never (reads b a z.prepared a' (subst (λ v. AsksLedger a (Prepare b.xid) z.prepared v) is z.asks) z.after) in
+    subst (λ l. has_yes l ≡ true) (sym z.votes) (some_yes z.vote z.others votes (subst (λ l. decides_commit l ≡ true) z.votes decides))
+
+-- then it was decided to commit exactly where the log has the record
+decided_so : (t : TranName) (managers : List Bool) (votes : List Code) (logged : Bool) (log later : LogState)
+    → (decides_commit votes ≡ true → has_yes votes ≡ true)
+    → Logs t managers votes logged log later → decision_of votes logged ≡ logged
+decided_so t managers votes logged log later some (appended wants on is) =
+    ap (λ c. c && (not (has_yes votes) || logged)) (and_parts (decides_commit votes) (has_yes votes) wants).0 ∙ ap (λ l. not (has_yes votes) || l) on
+    ∙ or-true (not (has_yes votes)) ∙ sym on
+decided_so t managers votes logged log later some (failed wants off is) =
+    ap (λ c. c && (not (has_yes votes) || logged)) (and_parts (decides_commit votes) (has_yes votes) wants).0
+    ∙ ap (λ y. not y || logged) (and_parts (decides_commit votes) (has_yes votes) wants).1
+decided_so t managers votes logged log later some (unwanted wants off is) =
+    elim (decides_commit votes) as (λ c. decides_commit votes ≡ c → (c && (not (has_yes votes) || logged)) ≡ logged) [
+      | true ↦ λ decides. ap (λ y. not y || logged) (some decides)
+      | false ↦ λ _. sym off
+    ] refl
+
+-- ---- what it came to
+
+-- A commit of these branches, the first of which isn't read only, came to this: made, or cut short.
+pub record HasCome (one two : Branch) (o : WorkOutcome) (desk : DeskView) (new : List LedgerView) (log later : LogState) : Type 0 where
+  pub endings : List Ending
+  pub cut : IsCut (one ∷ two ∷ []) desk new log later endings
+  pub obeys : ObeysAll (one ∷ two ∷ []) desk.ledgers new
+  pub others : (t : TranName) → t ≢ tran_of one.xid → record_of later t ≡ record_of log t
+  pub applied : (OnlyReads one (ledger desk.ledgers one.m) (ledger new one.m) → ⊥) → is_recorded later (tran_of one.xid) ≡ is_to_commit o
+
+module _ (one two : Branch) (desk : DeskView) (new : List LedgerView) (log later : LogState) (tran : TranName) (absent : record_of log tran ≡ None)
+    (never : OnlyReads one (ledger desk.ledgers one.m) (ledger new one.m) → ⊥) where
+  abbrev bs : List Branch
+  bs = one ∷ two ∷ []
+
+  by_votes : (votes : List Code) (logged commit : Bool) → FirstAsked one votes (ledger desk.ledgers one.m) (ledger new one.m)
+      → commit ≡ decision_of votes logged → Logs tran (yes_of bs votes) votes logged log later → is_recorded later tran ≡ commit
+  by_votes votes logged commit first decision logs =
+      logged_is tran (yes_of bs votes) votes logged log later absent logs
+      ∙ sym (decided_so tran (yes_of bs votes) votes logged log later (some_decided one votes (ledger desk.ledgers one.m) (ledger new one.m) first never) logs)
+      ∙ sym decision
+
+  module _ (known : Made) where
+    undecided_commit : known.commit ≡ false → later ≡ log → is_recorded later tran ≡ known.commit
+    undecided_commit off same = ap (λ (l : LogState). is_some (record_of l tran)) same ∙ ap is_some absent ∙ sym off
+
+    came_commit : (at : Death) → CameTo AsksLedger PutsLedger at tran bs (ledger desk.ledgers) (ledger new) log later known
+        → is_recorded later tran ≡ known.commit
+    came_commit (death.Preparing k) far = undecided_commit far.undecided.commit far.unlogged
+    came_commit death.Prepared far = undecided_commit far.undecided.commit far.unlogged
+    came_commit death.Decided far =
+        by_votes known.votes.items known.logged known.commit (asked_first desk.ledgers new one (two ∷ []) known.votes.items far.counted far.asked) far.decided.decision
+        far.decided.logs
+    came_commit (death.Telling k) far =
+        by_votes known.votes.items known.logged known.commit (told_first desk.ledgers new one (two ∷ []) known.commit k known.votes.items far.told) far.decided.decision
+        far.decided.logs
+    came_commit death.Told far =
+        by_votes known.votes.items known.logged known.commit
+        (ended_first desk.ledgers new one (two ∷ []) known.commit known.votes.items far.seconds known.endings.items far.each) far.decided.decision far.decided.logs
+
+module _ (tran : TranName) (bs : List Branch) (old new : ℕ → LedgerView) (log later : LogState) (known : Made) where
+  decided_others : (t : TranName) → t ≢ tran → IsDecidedBy tran bs log later known → record_of later t ≡ record_of log t
+  decided_others t other decided = others_stay tran t (yes_of bs known.votes.items) known.votes.items known.logged log later other decided.logs
+
+  came_others : (at : Death) (t : TranName) → t ≢ tran → CameTo AsksLedger PutsLedger at tran bs old new log later known
+      → record_of later t ≡ record_of log t
+  came_others (death.Preparing k) t other far = ap (λ (l : LogState). record_of l t) far.unlogged
+  came_others death.Prepared t other far = ap (λ (l : LogState). record_of l t) far.unlogged
+  came_others death.Decided t other far = decided_others t other far.decided
+  came_others (death.Telling k) t other far = decided_others t other far.decided
+  came_others death.Told t other far = decided_others t other far.decided
+
+pub has_come : (one two : Branch) (at : Option Death) (o : WorkOutcome) (desk : DeskView) (new : List LedgerView) (log later : LogState)
+    → ComesOfCommit (one ∷ two ∷ []) at o desk new log later → LeavesKnown (Unit {0}) o → HasCome one two o desk new log later
+has_come one two at o desk new log later (in_full d none is made) known =
+    let first : tran_of one.xid ≡ made.may.tran = made.may.one.0 in
+    let managers : List Bool = yes_of (one ∷ two ∷ []) d.votes.items in
+    record {
+      endings = d.endings.items;
+      cut = finished_law (one ∷ two ∷ []) desk new log later d made;
+      obeys = made_obeys (one ∷ two ∷ []) desk new log later d made;
+      others = λ t other. others_stay made.may.tran t managers d.votes.items d.logged log later (λ e. other (e ∙ sym first)) made.trace.course.logs;
+      applied = λ never.
+          ap (is_recorded later) first
+          ∙ by_votes one two desk new log later made.may.tran made.may.absent never d.votes.items d.logged d.commit
+          (made_first desk.ledgers new one (two ∷ []) d.commit d.votes.items made.trace.course.seconds d.endings.items made.trace.course.each) made.trace.course.decision
+          made.trace.course.logs
+          ∙ ap is_to_commit (sym is);
+    }
+has_come one two at o desk new log later (cut_short point known_ some is died) known =
+    let first : tran_of one.xid ≡ died.may.tran = died.may.one.0 in
+    record {
+      endings = known_.endings.items;
+      cut = died_is_cut point died.may.tran (one ∷ two ∷ []) desk new log later known_ died.may died.may.one died.dies died.managers;
+      obeys = died_obeys point (one ∷ two ∷ []) desk new log later known_ died;
+      others = λ t other.
+          came_others died.may.tran (one ∷ two ∷ []) (ledger desk.ledgers) (ledger new) log later known_ point t (λ e. other (e ∙ sym first)) died.dies.far;
+      applied = λ never.
+          ap (is_recorded later) first
+          ∙ came_commit one two desk new log later died.may.tran died.may.absent never known_ point died.dies.far
+          ∙ ap is_to_commit (sym is);
+    }
+has_come one two at o desk new log later (undecided votes decides is may voted wanted) known =
+    absurd (subst (LeavesKnown (Unit {0})) is known tt)

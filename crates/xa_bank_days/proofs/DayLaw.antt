@@ -1,0 +1,222 @@
+-- A day of the bank and its night apply the transfers of which the tellers were told that they were decided to commit, each whole,
+-- and the others not at all.
+use Rattle.std.specs.Prelude.{◌+ℤ◌, is_some}
+use Rattle.std.proofs.Common.{◌≡◌, ℕ, ◌^◌, ◌<◌, ◌⊎◌, ⊎_elim, Bool, true, false, ◌||◌, Option, None, Some, List, [], ◌∷◌, length, get_or, map, sym}
+use Rattle.std.proofs.Common.{refl, ap, ◌∙◌, subst, arith, inl, inr}
+use Rattle.std.specs.List.{All, Contains, list_any}
+use Rattle.std.proofs.Math.Bool.{or-true}
+use Rattle.std.proofs.Math.IntN.{+ℤ_idr as plus_none}
+use Rattle.std.proofs.lemmas.List.{length-map}
+use Rattle.std.proofs.lemmas.List.Elements.{All-nil, All-cons, All-head, All-tail}
+use Rattle.xa_base.specs.declared.limits.TheConstants.{MOST_MANAGERS}
+use Rattle.xa_base.specs.Lists.{IsUpTo}
+use Rattle.xa_words.specs.Xid.{XidName, xid_eq}
+use Rattle.xa_words.specs.Orders.{Decides-xid_eq}
+use Rattle.xa_words.specs.Tran.{tran_of}
+use Rattle.xa_words.specs.declared.request.Op.{Op}
+use Rattle.xa_words.specs.declared.request.Op.TheVariants.{Commit, Heur}
+use Rattle.xa_base.specs.Sums.{total}
+use Rattle.xa_words.specs.declared.request.Request.{Request}
+use Rattle.xa_tables.specs.declared.state.State.{State}
+use Rattle.xa_tables.specs.Tables.{Tables, exists, is_declared, is_left, is_left_in, state_of}
+use Rattle.xa_tables.specs.History.{History, tables_after}
+use Rattle.xa_tables.specs.Openings.{IsOpening, reopened}
+use Rattle.xa_tables.specs.Prepared.{NamesNowhere, names}
+use Rattle.xa_tables.proofs.Reopening.{as_left}
+use Rattle.xa_tables.proofs.Unnamed.{unnamed_on}
+use Rattle.xa_desk.specs.DeskView.{ledger}
+use Rattle.xa_switch.specs.declared.plan.Again.{Again}
+use Rattle.xa_switch.specs.Settling.{Settling, IsSettled}
+use Rattle.xa_switch.specs.Again.{reopened_at}
+use Rattle.xa_switch.specs.Fates.{first_of, history, ledgers_of}
+use Rattle.xa_switch.proofs.Journaled.{follows_first}
+use Rattle.xa_log.specs.Log.{LogState, Records, record_in}
+use Rattle.xa_driver.specs.declared.resolved.Outcome.{Outcome}
+use Rattle.xa_driver.specs.Commits.{is_commit}
+use Rattle.xa_driver.specs.Resolving.{is_to_commit, names as names_manager, outcome_op}
+use Rattle.xa_driver.proofs.Mapped.{Asks}
+use Rattle.xa_atomicity.specs.Resolution.{IsUseIn, Opening, ResolveCall, resolves}
+use Rattle.xa_atomicity.proofs.Later.{ends_with}
+use Rattle.xa_atomicity.proofs.Naming.{named_so, named_tran}
+use Rattle.xa_atomicity.proofs.NextOpening.{scan_of}
+use Rattle.xa_atomicity.proofs.Resolves.{outcome_left}
+use Rattle.xa_days.specs.Days.{Leg, counted}
+use Rattle.xa_days.specs.Openings.{CommitsAmong}
+use Rattle.xa_days.specs.Settled.{IsSettledDay}
+use Rattle.xa_days.proofs.AtWork.{opening_free}
+use Rattle.xa_days.proofs.InARow.{settled_law}
+use Rattle.xa_words.proofs.Xids.{xid_self}
+use Rattle.xa_bank.specs.declared.teller.Teller.{Teller}
+use Rattle.xa_bank_days.specs.Days.{AreToldAll, BeginsWith, IsDawn, IsDayOf, IsResolvedBy, all_told, balances_at, balances_of, records_of}
+use Rattle.xa_bank_days.specs.Ledger.{all_applied}
+use Rattle.xa_bank_days.proofs.Logs.{NoLogs, OneLogMore}
+use Rattle.xa_bank_days.proofs.Made.{Noted}
+use Rattle.xa_bank_days.proofs.Out.{BranchesComeOut, day, night, only_one}
+use Rattle.xa_bank_days.proofs.Shares.{all_applied_is}
+use Rattle.xa_bank_days.proofs.Together.{DayAt, all_noted, found_before, whole}
+
+-- a Commit, or a heuristic one, names a branch
+record NamesOne (op : Op) : Type 0 where
+  branch : XidName
+  named : names branch op ≡ true
+
+commits_one : (op : Op) → is_commit op ≡ true → NamesOne op
+commits_one (Commit x one_phase) e = record { branch = x; named = xid_self x }
+commits_one (Heur x commits) e = record { branch = x; named = xid_self x }
+commits_one op e = cc
+
+-- so it is of one of these legs that has that branch
+named_leg : (legs : List Leg) (x : XidName) (op : Op) → names x op ≡ true → list_any (λ g. xid_eq g.xid x) legs ≡ true
+    → list_any (λ y. names y op) (map (λ g. g.xid) legs) ≡ true
+named_leg [] x op named e = cc
+named_leg (g ∷ legs) x op named e =
+    elim (xid_eq g.xid x) as (λ b. xid_eq g.xid x ≡ b → (b || list_any (λ (h : Leg). xid_eq h.xid x) legs) ≡ true → (names g.xid op || list_any (λ y. names y op) (map (λ (h : Leg). h.xid) legs)) ≡ true) [
+      | true ↦ λ same _. ap (λ b. b || list_any (λ y. names y op) (map (λ (h : Leg). h.xid) legs)) (subst (λ y. names y op ≡ true) (sym ((Decides-xid_eq g.xid x).0 same)) named)
+      | false ↦ λ _ rest. ap (λ b. names g.xid op || b) (named_leg legs x op named rest) ∙ or-true (names g.xid op)
+    ] refl e
+
+noted_commit : (records : Records) (legs : List Leg) (op : Op) → Noted records legs op → is_commit op ≡ true
+    → list_any (λ y. names y op) (map (λ g. g.xid) legs) ≡ true
+noted_commit records legs op noted commits =
+    let z = commits_one op commits in
+    ⊎_elim
+    (λ (is : list_any (λ (g : Leg). xid_eq g.xid z.branch) legs ≡ true). named_leg legs z.branch op z.named is)
+    (λ (isnt : (is_commit op ≡ false) × (record_in records (tran_of z.branch) ≡ None)). absurd (let y : true ≡ false = sym commits ∙ isnt.0 in cc))
+    (noted z.branch z.named)
+
+-- ---- a branch at an opening
+
+-- a branch that is left exists
+pub left_exists : (o : Option State) → is_left_in o ≡ true → is_some o ≡ true
+left_exists None e = cc
+left_exists (Some state) e = refl
+
+-- what a history doesn't name by one of its requests it names nowhere, and what it names is noted
+named_or_not : (records : Records) (legs : List Leg) (x : XidName) (h : History) → All (λ r. Noted records legs r.op) h
+    → NamesNowhere x h ⊎ ((list_any (λ g. xid_eq g.xid x) legs ≡ true) ⊎ (record_in records (tran_of x) ≡ None))
+named_or_not records legs x [] all = inl (All-nil (λ (r : Request). names x r.op ≡ false))
+named_or_not records legs x (r ∷ h) all =
+    elim (names x r.op) as (λ b. names x r.op ≡ b → NamesNowhere x (r ∷ h) ⊎ ((list_any (λ (g : Leg). xid_eq g.xid x) legs ≡ true) ⊎ (record_in records (tran_of x) ≡ None))) [
+      | true ↦ λ is. inr (
+          ⊎_elim (λ (e : list_any (λ (g : Leg). xid_eq g.xid x) legs ≡ true). inl e) (λ (e : (is_commit r.op ≡ false) × (record_in records (tran_of x) ≡ None)). inr e.1)
+          (All-head (λ (p : Request). Noted records legs p.op) r h all x is)
+          )
+      | false ↦ λ isnt.
+          ⊎_elim (λ (none : NamesNowhere x h). inl (All-cons (λ (p : Request). names x p.op ≡ false) r h isnt none))
+          (λ (e : (list_any (λ (g : Leg). xid_eq g.xid x) legs ≡ true) ⊎ (record_in records (tran_of x) ≡ None)). inr e)
+          (named_or_not records legs x h (All-tail (λ (p : Request). Noted records legs p.op) r h all))
+    ] refl
+
+-- a record that names a manager is there
+no_mark : (o : Option (List Bool)) (m : ℕ) → names_manager o m ≡ true → o ≡ None → ⊥
+no_mark None m e is = cc
+no_mark (Some set) m e is = cc
+
+module _ (L : Type 0) (state : L → LogState) (knows : L → Type 0)
+    (outs : BranchesComeOut)
+    (none_law : NoLogs)
+    (more_law : OneLogMore)
+    (s : Settling) (again : Again) (q : ResolveCall) (next : Settling) (olds news : List (Teller L)) (stores n : ℕ) (tables : ℕ → Tables)
+    (is_day : IsDayOf state knows s olds news) (begins : BeginsWith s stores tables) (many : length olds < 2 ^ 32) (told_all : AreToldAll knows n olds news)
+    (dawn : IsDawn state stores n tables (map (λ t. t.log) olds))
+    (resolved : IsResolvedBy (records_of state (map (λ t. t.log) news)) s again q next) (m : ℕ) (up : IsUpTo stores m) (j : List ℕ) where
+  abbrev T : Tables
+  T = tables m
+
+  low : IsUpTo MOST_MANAGERS m
+  low = let high = up.1 in let most = begins.few in (up.0, omega (arith, high, most))
+
+  pub all : DayAt L state knows outs none_law more_law s again q next olds news stores n tables is_day begins many told_all dawn resolved m up j 0 news
+  all = whole L state knows outs none_law more_law s again q next olds news stores n tables is_day begins many told_all dawn resolved m up j
+
+  pub noted : All (λ r. Noted q.records all.legs r.op) (history s m)
+  unfolding all
+  noted = all_noted L state knows outs none_law more_law s again q next olds news stores n tables is_day begins many told_all dawn resolved m up j
+
+  opened : IsOpening T
+  opened = (follows_first s m T is_day.settled (begins.there m up)).opened
+
+  abbrev end : Tables
+  end = tables_after (history s m) (tables m)
+
+  pub left_as : (x : XidName) → is_left (reopened_at s.managers m) x ≡ is_left_in (state_of end x)
+  left_as x =
+      ap (λ (U : Tables). is_left (reopened U) x) (ends_with s m T is_day.settled (begins.there m up)) ∙ as_left (tables_after (history s m) (tables m)) x
+
+  -- a branch that the opening had before the day has no record
+  pub before_none : (x : XidName) → exists (tables m) x ≡ true → record_in q.records (tran_of x) ≡ None
+  before_none x there =
+      found_before L state knows outs none_law more_law s again q next olds news stores n tables is_day begins many told_all dawn resolved m up j (tran_of x)
+      (λ t k some within from named.
+      let below = dawn.fresh m x up there t k some (let e = length-map olds (λ (t : Teller L). t.log) in omega (arith, within, e)) named in
+      omega (arith, below, from))
+      ∙ dawn.unrecorded m x up there
+
+  -- a branch that the day left, and that has a record, is that of a leg of the day
+  pub left_leg : (x : XidName) → is_left (reopened_at s.managers m) x ≡ true → (record_in q.records (tran_of x) ≡ None → ⊥)
+      → list_any (λ g. xid_eq g.xid x) all.legs ≡ true
+  left_leg x left recorded =
+      ⊎_elim
+      (λ (none : NamesNowhere x (history s m)).
+      let stays = unnamed_on (history s m) x (tables m) (opening_free x (tables m) opened) none in
+      let there : is_some (state_of (tables_after (history s m) (tables m)) x) ≡ true =
+      left_exists (state_of (tables_after (history s m) (tables m)) x) (sym (left_as x) ∙ left) in
+      absurd (recorded (before_none x (ap is_some (sym stays.state) ∙ there))))
+      (λ (e : (list_any (λ (g : Leg). xid_eq g.xid x) all.legs ≡ true) ⊎ (record_in q.records (tran_of x) ≡ None)).
+      ⊎_elim (λ (is : list_any (λ (g : Leg). xid_eq g.xid x) all.legs ≡ true). is) (λ (is : record_in q.records (tran_of x) ≡ None). absurd (recorded is)) e)
+      (named_or_not q.records all.legs x (history s m) noted)
+
+  -- ---- what is committed
+
+  day_among : CommitsAmong (map (λ g. g.xid) all.legs) (history s m)
+  day_among k d lt commits = noted_commit q.records all.legs (get_or (history s m) k d).op (noted k d lt) commits
+
+  next_first : first_of next m ≡ Some (reopened_at s.managers m)
+  next_first = resolved.continues m (tables m) (begins.there m up)
+
+  -- an outcome of the night's resolve there is of a branch that was left
+  pub outcome_leg : (o : Outcome) → Contains q.outcomes o → o.m ≡ m → is_left (reopened_at s.managers m) o.xid ≡ true
+  outcome_leg o among own =
+      sym ((scan_of s next again q.scan resolved.of_setup resolved.scanned m (reopened_at s.managers m) next_first).each o.xid)
+      ∙ outcome_left q.scan q.records q.old q.new q.outcomes resolved.made.made m low (ledger (ledgers_of next q.thread) m) (resolved.made.grown.each m low.0) o among own
+
+  abbrev IsAmong : Op → Type 0
+  IsAmong op = is_commit op ≡ true → list_any (λ y. names y op) (map (λ (g : Leg). g.xid) all.legs) ≡ true
+
+  outcome_among : (o : Outcome) → Contains q.outcomes o → o.m ≡ m → (b : Bool) → b ≡ is_to_commit q.records m o.xid → IsAmong (outcome_op b o.xid)
+  outcome_among o among own true is commits =
+      named_leg all.legs o.xid (Commit o.xid false) (xid_self o.xid)
+      (left_leg o.xid (outcome_leg o among own) (no_mark (record_in q.records (tran_of o.xid)) m (sym is)))
+  outcome_among o among own false is commits = cc
+
+  asks_among : (r : ResolveCall) → Contains (resolves q ∷ []) (resolves r) → (o : Outcome) → Contains r.outcomes o → Asks IsAmong r.records m o
+  asks_among r there o among =
+      let same : q ≡ r = only_one q r there in
+      subst (λ (p : ResolveCall). (o : Outcome) → Contains p.outcomes o → Asks IsAmong p.records m o) same
+      (λ p its. record { ends = λ own is. outcome_among p its own p.commit is; forgets = λ own is commits. cc }) o among
+
+  night_among : CommitsAmong (map (λ g. g.xid) all.legs) (history next m)
+  night_among k d lt commits =
+      let op : Op = (get_or (history next m) k d).op in
+      let z = commits_one op commits in
+      named_so next resolved.settled m low IsAmong (tran_of z.branch) (resolves q ∷ []) (λ e. cc)
+      (All-cons (IsUseIn next) (resolves q) [] resolved.made (All-nil (IsUseIn next))) asks_among (resolved.only (tran_of z.branch) m) k d lt (named_tran z.branch op z.named) commits
+
+  settled_day : IsSettledDay ((j, 0) ∷ []) m (tables m) (day s) (night next q ∷ []) all.legs
+  settled_day = record {
+    distinct = all.once;
+    among =
+        All-cons (CommitsAmong (map (λ (g : Leg). g.xid) all.legs)) (history s m) (history next m ∷ []) day_among
+        (All-cons (CommitsAmong (map (λ (g : Leg). g.xid) all.legs)) (history next m) [] night_among (All-nil (CommitsAmong (map (λ (g : Leg). g.xid) all.legs))));
+    each = all.outs_;
+  }
+
+  pub day_law : is_declared (tables m) j ≡ true → balances_at next m j ≡ all_applied (all_told news) (balances_of tables) m j
+  day_law declared =
+      let P : Opening → Type 0 = λ o. IsSettled o.settled in
+      let worth_is =
+      settled_law ((j, 0) ∷ []) m (tables m) (day s) (night next q ∷ []) all.legs
+      (All-cons P (day s) (night next q ∷ []) is_day.settled (All-cons P (night next q) [] resolved.settled (All-nil P))) (resolved.continues, tt) (begins.there m up)
+      (All-cons (λ (d : List ℕ × ℕ). is_declared (tables m) d.0 ≡ true) (j, 0) [] declared (All-nil (λ (d : List ℕ × ℕ). is_declared (tables m) d.0 ≡ true))) settled_day in
+      sym (plus_none (balances_at next m j)) ∙ worth_is ∙ ap (λ v. v +ℤ total counted all.legs) (plus_none (balances_of tables m j))
+      ∙ ap (λ v. balances_of tables m j +ℤ v) all.sum ∙ sym (all_applied_is (all_told news) (balances_of tables) m j)

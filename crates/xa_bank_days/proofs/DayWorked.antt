@@ -1,0 +1,144 @@
+-- What tellers come to over stores that are opened again.
+use Rattle.std.specs.Prelude.{option_map}
+use Rattle.std.proofs.Common.{◌≡◌, ℕ, ◌+◌, ◌^◌, ◌<◌, ◌≤◌, ⊎_elim, false, List, [], ◌∷◌, length, map, slice_get, Some, inl, inr, sym, refl, ap, ◌∙◌, subst}
+use Rattle.std.proofs.Common.{arith}
+use Rattle.std.specs.List.{All, list_any}
+use Rattle.std.proofs.lemmas.Bool.{or_parts}
+use Rattle.std.proofs.lemmas.List.{length-map}
+use Rattle.std.proofs.lemmas.List.Elements.{All-nil, All-cons}
+use Rattle.std.proofs.lemmas.Option.{same_Some as some_same, slice_get_within}
+use Rattle.xa_base.specs.Lists.{IsUpTo}
+use Rattle.xa_base.proofs.Lists.{got_map}
+use Rattle.xa_tables.specs.Tables.{Tables}
+use Rattle.xa_desk.specs.DeskView.{DeskView}
+use Rattle.xa_switch.specs.declared.plan.Again.{Again}
+use Rattle.xa_switch.specs.Again.{IsWhole, managers_in, reopened_at, reopening}
+use Rattle.xa_switch.specs.Fates.{first_of}
+use Rattle.xa_switch.specs.OfPlans.{IsOf}
+use Rattle.xa_switch.specs.Settling.{ManagerPart, Settling}
+use Rattle.xa_switch.proofs.Journaled.{begun}
+use Rattle.xa_log.specs.Log.{LogState}
+use Rattle.xa_atomicity.proofs.Scanned.{was_there}
+use Rattle.xa_crew.specs.declared.again.WithScan.{WithScan}
+use Rattle.xa_crew.specs.declared.client_job.Attended.{Attended}
+use Rattle.xa_crew.specs.Again.{AgainWorks, IsRunAgain, WorksWithScan}
+use Rattle.xa_crew.specs.Run.{Member}
+use Rattle.xa_bank.specs.declared.teller.Teller.{Teller}
+use Rattle.xa_bank.specs.Tellers.{Works, WorksOn}
+use Rattle.xa_bank.proofs.Members.{MemberAt, member_at, nobody_else}
+use Rattle.xa_bank_days.specs.declared.days.Bank.{Bank}
+use Rattle.xa_bank_days.specs.declared.days.Stop.{Stop}
+use Rattle.xa_bank_days.specs.declared.days.Stop.TheVariants.{Day}
+use Rattle.xa_bank_days.specs.Days.{BeginsWith, IsDayOf, WorkedIn}
+use Rattle.xa_bank_days.specs.declared.days.Closed.{Closed}
+use Rattle.xa_bank_days.specs.declared.days.Errands.{Errands}
+use Rattle.xa_bank_days.specs.declared.days.Worked.{Worked}
+use Rattle.xa_bank_days.specs.Kept.{AreTurned, HasWorked, IsAsItWas, IsWorkedDay, KeepsStores}
+
+-- lists that are mapped to one list are as long
+pub same_length : {A B C : Type 0} (f : A → C) (g : B → C) (xs : List A) (ys : List B) → map f xs ≡ map g ys → length xs ≡ length ys
+same_length f g xs ys e = sym (length-map xs f) ∙ ap (λ l. length l) e ∙ length-map ys g
+
+pub mapped_twice : {A B C : Type 0} (f : B → C) (g : A → B) (xs : List A) → map (λ x. f (g x)) xs ≡ map f (map g xs)
+mapped_twice f g [] = refl
+mapped_twice f g (x ∷ xs) = ap (λ l. f (g x) ∷ l) (mapped_twice f g xs)
+
+-- as many have worked as there are threads
+pub many_attended : {C : Type 0} (works : AgainWorks C) (s : Settling) (again : Again) (clients : List C) (attended : List (Attended (WithScan C))) (next : Settling)
+    → IsRunAgain works s again clients attended next → length attended ≡ again.threads
+many_attended {C} works s again clients attended next z =
+    ap (λ (l : List (Attended (WithScan C))). length l) z.run.attended_are ∙ length-map z.run.members (λ (t : Member (WithScan C)). t.attended)
+    ∙ sym (length-map z.run.members (λ (t : Member (WithScan C)). t.desk)) ∙ z.run.opened.threads
+
+-- nobody wants memory
+pub none_wants : {L : Type 0} (clients : List (Attended (WithScan (Teller L)))) → list_any (λ a. a.client.client.wants_memory) clients ≡ false
+    → All (λ (t : Teller L). t.wants_memory ≡ false) (map (λ a. a.client.client) clients)
+none_wants {L} [] e = All-nil (λ (t : Teller L). t.wants_memory ≡ false)
+none_wants {L} (a ∷ rest) e =
+    let parts = or_parts a.client.client.wants_memory (list_any (λ (b : Attended (WithScan (Teller L))). b.client.client.wants_memory) rest) e in
+    All-cons (λ (t : Teller L). t.wants_memory ≡ false) a.client.client (map (λ (b : Attended (WithScan (Teller L))). b.client.client) rest) parts.0 (none_wants rest parts.1)
+
+-- ---- the stores
+
+module _ (goes_on : (s next : Settling) (again : Again) (m : ℕ) (T : Tables) → IsWhole s → IsOf (reopening s again) next → first_of s m ≡ Some T → first_of next m ≡ Some (reopened_at s.managers m))
+    (s next : Settling) (again : Again) (whole : IsWhole s) (of : IsOf (reopening s again) next) where
+  there : (m : ℕ) → IsUpTo (managers_in s) m → first_of next m ≡ Some (reopened_at s.managers m)
+  there m up =
+      let p = whole.there m up.0 up.1 in
+      goes_on s next again m p.0.first whole of (ap (option_map (λ (q : ManagerPart). q.first)) p.1)
+
+  pub begins_with : BeginsWith next (managers_in s) (reopened_at s.managers)
+  begins_with = record { few = whole.few.1; there = there; only = λ m T first. was_there s next again m T of first }
+
+  -- there are as many
+  pub same_stores : IsWhole next → managers_in next ≡ managers_in s
+  same_stores whole' =
+      let last = whole'.there (managers_in next) whole'.few.0 (omega arith) in
+      let low = (begins_with.only (managers_in next) last.0.first (ap (option_map (λ (q : ManagerPart). q.first)) last.1)).1 in
+      let found = begun next (managers_in s) (reopened_at s.managers (managers_in s)) (there (managers_in s) (whole.few.0, omega arith)) in
+      let high = (whole'.only (managers_in s) found.0 found.1).1 in
+      omega (arith, low, high)
+
+-- ---- the tellers
+
+module _ {L : Type 0} (state : L → LogState) (knows : L → Type 0) (s : Settling) (again : Again) (olds : List (Teller L))
+    (attended : List (Attended (WithScan (Teller L)))) (day : Settling) (z : IsRunAgain (WorksOn state knows) s again olds attended day)
+    (many : length olds ≡ again.threads) where
+  abbrev OnDay : WithScan (Teller L) → DeskView → WithScan (Teller L) → DeskView → Type 0
+  OnDay = WorksWithScan (WorksOn state knows)
+
+  abbrev news : List (Teller L)
+  news = map (λ (a : Attended (WithScan (Teller L))). a.client.client) attended
+
+  worked_at : (k : ℕ) (old new : Teller L) → slice_get olds k ≡ Some old → slice_get news k ≡ Some new → WorkedIn state knows day (k + 1) old new
+  worked_at k old new old_at new_at =
+      let within = slice_get_within olds k old old_at in
+      let at : MemberAt OnDay (reopening s again).managers z.given attended day k =
+      member_at OnDay (reopening s again) z.given attended day z.run k (omega (arith, within, many)) in
+      let first : at.member.client.client ≡ old =
+      some_same at.member.client.client old
+      (sym (got_map (λ (w : WithScan (Teller L)). w.client) z.given k at.member.client at.client_at) ∙ ap (λ (l : List (Teller L)). slice_get l k) z.are_given.clients_are ∙ old_at) in
+      let last : at.member.attended.client.client ≡ new =
+      some_same at.member.attended.client.client new (sym (got_map (λ (a : Attended (WithScan (Teller L))). a.client.client) attended k at.member.attended at.attended_at) ∙ new_at) in
+      record {
+        desk = at.member.desk;
+        left = at.left;
+        thread = at.thread;
+        nothing = at.nothing;
+        worked = subst (λ (p : Teller L × Teller L). Works state knows p.0 at.member.desk p.1 at.left) (λ i. (first i, last i)) at.worked.works;
+        ended = at.end;
+      }
+
+  pub is_day : IsDayOf state knows day olds news
+  is_day = record {
+    settled = z.run.agrees;
+    many = length-map attended (λ (a : Attended (WithScan (Teller L))). a.client.client) ∙ many_attended (WorksOn state knows) s again olds attended day z
+        ∙ sym many;
+    each = worked_at;
+    others = λ t outside m.
+        nobody_else OnDay (reopening s again) z.given attended day z.run t
+        (⊎_elim (λ (low : t < 1). inl low) (λ (high : length olds < t). inr (omega (arith, high, many))) outside) m;
+  }
+
+-- ---- the day
+
+abbrev pub worked_day : {L : Type 0} (state : L → LogState) (knows : L → Type 0) (b : Bank L) (given errands : List Errands) (c : Closed) (b' : Bank L) (turned : List (Teller L))
+    (day : Worked L) → given ≡ errands → AreTurned b.next b.tellers.items errands turned → length given < 2 ^ 32 → HasWorked state knows b.settled turned day → c.outcomes ≡ day.outcomes
+    → b'.tellers ≡ day.tellers → b.next ≤ b'.next → All (λ e. b.next + length e.transfers.items ≤ b'.next) given → IsWorkedDay state knows b errands c b'
+worked_day state knows b given errands c b' turned day same are_turned many works told tellers later next = record {
+  turned = turned;
+  are_turned = are_turned;
+  many = let e = ap (λ (l : List Errands). length l) same in omega (arith, e, many);
+  day = day;
+  works = works;
+  told_ = told;
+  tellers = tellers;
+  later = later;
+  next = subst (All (λ (e : Errands). b.next + length e.transfers.items ≤ b'.next)) same next;
+}
+
+-- ---- where the stores weren't opened
+
+pub as_it_was : {L : Type 0} (b : Bank L) (stop : Stop L) → KeepsStores b.settled stop → IsAsItWas b stop
+as_it_was b (Day fault) kept = kept
+as_it_was b stop kept = absurd kept

@@ -1,0 +1,123 @@
+-- A commit that was cut short, seen over the first managers of its desk alone, of which there are no more than a record has
+-- places for.
+use Rattle.std.proofs.Common.{◌≡◌, ℕ, ◌+◌, ◌-◌, ◌<◌, ◌≤◌, ⊎_elim, List, [], ◌∷◌, length, get_or, take, sym, refl, subst, arith, Option}
+use Rattle.std.specs.List.{All}
+use Rattle.std.proofs.lemmas.Bool.{cases_lt}
+use Rattle.std.proofs.lemmas.List.{length-take, get_or-take}
+use Rattle.std.proofs.lemmas.List.Sums.{sum_by-take-le}
+use Rattle.std.proofs.lemmas.List.Elements.{All-head, All-tail}
+use Rattle.xa_base.specs.declared.limits.TheConstants.{MOST_MANAGERS}
+use Rattle.xa_base.specs.Lists.{IsUpTo}
+use Rattle.xa_words.specs.declared.code.Code.{Code}
+use Rattle.xa_desk.specs.LedgerView.{LedgerView}
+use Rattle.xa_desk.specs.DeskView.{DeskView, ledger, no_ledger, outstanding}
+use Rattle.xa_desk.specs.Growth.{HasGrown, HaveGrown}
+use Rattle.xa_desk.proofs.Ledgers.{past_end}
+use Rattle.xa_driver.specs.declared.branch.Branch.{Branch}
+use Rattle.xa_driver.specs.declared.done.Ending.{Ending}
+use Rattle.xa_driver.specs.Endings.{ending_of}
+use Rattle.xa_driver.specs.Trace.{EachBranch, HaveRoom, MayCommit, decision_of}
+use Rattle.xa_log.specs.Log.{LogState}
+use Rattle.xa_words.specs.Tran.{TranName}
+use Rattle.xa_atomicity.specs.Cut.{CameSoFar, EachVote, IsAsked, IsCut, IsEnded, IsTold, asking, forgetting, telling}
+
+-- the first managers
+abbrev pub fewer : List LedgerView → List LedgerView
+fewer at = take MOST_MANAGERS at
+
+abbrev pub fewer_at : DeskView → DeskView
+fewer_at desk = record desk { ledgers = fewer desk.ledgers }
+
+abbrev pub IsLow : Branch → Type 0
+IsLow b = IsUpTo MOST_MANAGERS b.m
+
+pub same_ledger : (at : List LedgerView) (m : ℕ) → IsUpTo MOST_MANAGERS m → ledger (fewer at) m ≡ ledger at m
+same_ledger at m (low, high) = get_or-take MOST_MANAGERS at (m - 1) no_ledger (omega (arith, low, high))
+
+pub few_left : (at : List LedgerView) → length (fewer at) ≤ MOST_MANAGERS
+few_left at = let e = length-take MOST_MANAGERS at in omega (arith, e)
+
+-- what was sent and collected grows all the same
+pub fewer_grown : (at final : List LedgerView) → HaveGrown at final → HaveGrown (fewer at) final
+fewer_grown at final grown = record {
+  each = λ m positive.
+      ⊎_elim
+      (λ (above : MOST_MANAGERS < m).
+      let none : ledger (fewer at) m ≡ no_ledger =
+      past_end (fewer at) (m - 1) (let e = few_left at in omega (arith, above, e)) in
+      subst (λ (a : LedgerView). HasGrown a (ledger final m)) (sym none) (record { sent = ((ledger final m).sent, refl); collected = ((ledger final m).collected, refl) }))
+      (λ (low : m ≤ MOST_MANAGERS). subst (λ (a : LedgerView). HasGrown a (ledger final m)) (sym (same_ledger at m (positive, low))) (grown.each m positive))
+      (cases_lt MOST_MANAGERS m);
+}
+
+-- ---- the cut
+
+fewer_room : (at : List LedgerView) (bs : List Branch) → All IsLow bs → HaveRoom at bs → HaveRoom (fewer at) bs
+fewer_room at [] low h = tt
+fewer_room at (b ∷ bs) low h =
+    let up = All-head IsLow b bs low in
+    let high = up.1 in
+    let within = h.0.known.within in
+    let e = length-take MOST_MANAGERS at in (
+      record {
+        known = record { positive = h.0.known.positive; within = omega (arith, e, high, within) };
+        room = subst (λ (a : LedgerView). length a.sent + 3 ≤ a.plan) (sym (same_ledger at b.m up)) h.0.room;
+      },
+      fewer_room at bs (All-tail IsLow b bs low) h.1,
+    )
+
+pub fewer_may : (desk : DeskView) (log : LogState) (bs : List Branch) → All IsLow bs → MayCommit desk log bs → MayCommit (fewer_at desk) log bs
+fewer_may desk log bs low may = record {
+  some = may.some;
+  most = may.most;
+  rising = may.rising;
+  room = fewer_room desk.ledgers bs low may.room;
+  free =
+      let less : outstanding (fewer desk.ledgers) ≤ outstanding desk.ledgers =
+      sum_by-take-le (λ (a : LedgerView). length a.sent - length a.collected) desk.ledgers MOST_MANAGERS in
+      let free = may.free in
+      omega (arith, less, free);
+  tran = may.tran;
+  one = may.one;
+  absent = may.absent;
+}
+
+module _ (old new : List LedgerView) where
+  at_branch : (P : LedgerView → LedgerView → Type 0) (b : Branch) → IsLow b → P (ledger old b.m) (ledger new b.m)
+      → P (ledger (fewer old) b.m) (ledger (fewer new) b.m)
+  at_branch P b up h =
+      subst (λ (a : LedgerView). P a (ledger (fewer new) b.m)) (sym (same_ledger old b.m up))
+      (subst (P (ledger old b.m)) (sym (same_ledger new b.m up)) h)
+
+  at_votes : (P : Branch → Code → LedgerView → LedgerView → Type 0) (bs : List Branch) (vs : List Code) → All IsLow bs
+      → EachVote (λ b v. P b v (ledger old b.m) (ledger new b.m)) bs vs → EachVote (λ b v. P b v (ledger (fewer old) b.m) (ledger (fewer new) b.m)) bs vs
+  at_votes P [] [] low h = tt
+  at_votes P (b ∷ bs) (v ∷ vs) low h = (at_branch (P b v) b (All-head IsLow b bs low) h.0, at_votes P bs vs (All-tail IsLow b bs low) h.1)
+  at_votes P bs vs low h = absurd h
+
+  at_branches : (P : Branch → Code → Option Code → Ending → LedgerView → LedgerView → Type 0) (bs : List Branch) (vs : List Code) (ss : List (Option Code))
+      (es : List Ending) → All IsLow bs → EachBranch (λ b v s e. P b v s e (ledger old b.m) (ledger new b.m)) bs vs ss es
+      → EachBranch (λ b v s e. P b v s e (ledger (fewer old) b.m) (ledger (fewer new) b.m)) bs vs ss es
+  at_branches P [] [] [] [] low h = tt
+  at_branches P (b ∷ bs) (v ∷ vs) (s ∷ ss) (e ∷ es) low h =
+      (at_branch (P b v s e) b (All-head IsLow b bs low) h.0, at_branches P bs vs ss es (All-tail IsLow b bs low) h.1)
+  at_branches P bs vs ss es low h = absurd h
+
+  fewer_far : (tran : TranName) (bs : List Branch) (log later : LogState) (endings : List Ending) → All IsLow bs
+      → CameSoFar tran bs old new log later endings → CameSoFar tran bs (fewer old) (fewer new) log later endings
+  fewer_far tran bs log later endings low (asking same unknown each) =
+      asking same unknown (λ k d lt. let b : Branch = get_or bs k d in at_branch (IsAsked b) b (low k d lt) (each k d lt))
+  fewer_far tran bs log later endings low (telling votes logged logs unknown each) =
+      telling votes logged logs unknown (at_votes (λ b v a a'. IsTold (decision_of votes logged) b v a a') bs votes low each)
+  fewer_far tran bs log later endings low (forgetting votes logged seconds logs each) =
+      forgetting votes logged seconds logs
+      (at_branches (λ b v s e a a'. IsEnded (decision_of votes logged) b v s a a' × (e ≡ ending_of (decision_of votes logged) v s)) bs votes seconds endings low each)
+
+pub fewer_cut : (bs : List Branch) (desk : DeskView) (new : List LedgerView) (log later : LogState) (endings : List Ending) → All IsLow bs
+    → IsCut bs desk new log later endings → IsCut bs (fewer_at desk) (fewer new) log later endings
+unfolding fewer_may
+fewer_cut bs desk new log later endings low cut = record {
+  may = fewer_may desk log bs low cut.may;
+  far = fewer_far desk.ledgers new cut.may.tran bs log later endings low cut.far;
+  managers = let e = length-take MOST_MANAGERS new in let f = length-take MOST_MANAGERS desk.ledgers in let g = cut.managers in omega (arith, e, f, g);
+}

@@ -1,0 +1,113 @@
+-- An opening of a plan in which nobody does anything: each store is left with what it opened with.
+use Rattle.std.proofs.Common.{◌≡◌, ℕ, ◌+◌, ◌-◌, ◌<◌, ◌≤◌, ⊎_elim, List, [], ◌∷◌, ◌++◌, append-nil, length, map, Option, Some, inl, inr, sym, refl, ap, ◌∙◌}
+use Rattle.std.proofs.Common.{subst, arith, ◌==◌}
+use Rattle.std.specs.List.{Contains, range_with_len}
+use Rattle.std.proofs.lemmas.Bool.{cases_lt, eqb-true}
+use Rattle.std.proofs.lemmas.List.Elements.{All-contains}
+use Rattle.std.proofs.lemmas.List.FromFn.{length-range_with_len, get_or-range_with_len}
+use Rattle.std.proofs.lemmas.List.Sorted.{IsPermutation-sym, Contains-permutation}
+use Rattle.xa_base.specs.Lists.{IsUpTo}
+use Rattle.xa_base.proofs.Lists.{got, got_map}
+use Rattle.xa_words.specs.declared.request.Op.{Op}
+use Rattle.xa_tables.specs.History.{History, of_thread, tables_after}
+use Rattle.xa_tables.specs.Managers.{opening}
+use Rattle.xa_tables.proofs.WorkLaw.{others_first}
+use Rattle.xa_desk.specs.LedgerView.{LedgerView}
+use Rattle.xa_desk.specs.Lanes.{numbered}
+use Rattle.xa_desk.specs.DeskView.{DeskView, ledger}
+use Rattle.xa_worker.specs.Journal.{requests}
+use Rattle.xa_switch.specs.declared.plan.Plan.{Plan}
+use Rattle.xa_switch.specs.declared.plan.ManagerPlan.{ManagerPlan}
+use Rattle.xa_switch.specs.Again.{IsWhole, last_in, managers_in}
+use Rattle.xa_switch.specs.Fates.{first_of, history, ledgers_of}
+use Rattle.xa_switch.specs.Plans.{planned}
+use Rattle.xa_switch.specs.Settling.{ManagerPart, FollowsTables, Settling, find_manager, journal_in, sent}
+use Rattle.xa_switch.specs.Worth.{accounts_in, accounts_of}
+use Rattle.xa_switch.proofs.Journaled.{begun}
+use Rattle.xa_switch.proofs.Lists.{contains_map, found}
+use Rattle.xa_atomicity.proofs.Settled.{by_ledger}
+use Rattle.xa_crew.specs.declared.client_job.Attended.{Attended}
+use Rattle.xa_crew.specs.Run.{IsRun}
+use Rattle.xa_bank.proofs.Members.{member_at, nobody_else}
+use Rattle.xa_bank_days.proofs.Nightly.{never_none}
+
+-- a history without a request of any thread
+no_requests : (h : History) → ((t : ℕ) → of_thread t h ≡ []) → h ≡ []
+no_requests [] e = refl
+no_requests (r ∷ h) e = absurd ((others_first r.thread r h (e r.thread)).0 refl)
+
+module _ {C : Type 0} (p : Plan) (clients : List C) (attended : List (Attended C)) (s : Settling)
+    (r : IsRun (λ (x : C) (d : DeskView) (x' : C) (d' : DeskView). d' ≡ d) (planned p) clients attended s) (whole : IsWhole s) where
+  abbrev Idles : C → DeskView → C → DeskView → Type 0
+  Idles x d x' d' = d' ≡ d
+
+  abbrev stores : ℕ
+  stores = length p.managers.items
+
+  nothing_at : (k m : ℕ) → k < p.threads → 1 ≤ m → sent s (k + 1) m ≡ []
+  nothing_at k m below positive =
+      let at = member_at Idles (planned p) clients attended s r k below in
+      let end = at.end m positive in
+      by_ledger (ledgers_of s (k + 1)) m (λ (a : LedgerView). a.sent) positive refl ∙ end.sent
+      ∙ ap (λ (l : List Op). (ledger at.left.ledgers m).sent ++ l) (never_none end.more end.each) ∙ append-nil (ledger at.left.ledgers m).sent
+      ∙ ap (λ (d : DeskView). (ledger d.ledgers m).sent) at.worked ∙ at.nothing m positive
+
+  nothing : (t m : ℕ) → 1 ≤ m → sent s t m ≡ []
+  nothing t m positive =
+      ⊎_elim (λ (zero_ : t < 1). nobody_else Idles (planned p) clients attended s r t (inl zero_) m)
+      (λ (there : 1 ≤ t).
+      ⊎_elim (λ (past : p.threads < t). nobody_else Idles (planned p) clients attended s r t (inr past) m)
+      (λ (below : t ≤ p.threads).
+      let number : t - 1 + 1 ≡ t = omega (arith, there) in
+      subst (λ u. sent s u m ≡ []) number (nothing_at (t - 1) m (omega (arith, there, below)) positive))
+      (cases_lt p.threads t))
+      (cases_lt t 1)
+
+  untouched : (m : ℕ) → 1 ≤ m → history s m ≡ []
+  untouched m positive = no_requests (history s m) (λ t. (r.agrees.agree t m).carried ∙ ap (numbered t 0) (nothing t m positive))
+
+  first : (m : ℕ) → IsUpTo stores m → first_of s m ≡ Some (opening (accounts_of p m))
+  first m up =
+      let low = up.0 in
+      let high = up.1 in
+      let x = got p.managers.items (m - 1) (omega (arith, low, high)) in
+      let number : m - 1 + 1 ≡ m = omega (arith, low) in
+      ap (first_of s) (sym number)
+      ∙ r.of_setup.opened (m - 1) (opening x.0.accounts.items) (got_map (λ (q : ManagerPlan). opening q.accounts.items) p.managers.items (m - 1) x.0 x.1)
+      ∙ ap (λ (o : Option ManagerPlan). Some (opening (accounts_in o))) (sym x.1)
+
+  pub tables : (m : ℕ) → IsUpTo stores m → last_in (find_manager m s.managers) ≡ opening (accounts_of p m)
+  tables m up =
+      let q = begun s m (opening (accounts_of p m)) (first m up) in
+      let is = found (λ (c : ManagerPart). c.number == m) s.managers q.0 q.1 in
+      let follows : FollowsTables q.0 = All-contains FollowsTables s.managers q.0 r.agrees.tables is.0 in
+      let none : requests q.0.journal ≡ [] = ap (λ (o : Option ManagerPart). requests (journal_in o)) (sym q.1) ∙ untouched m up.0 in
+      ap last_in q.1 ∙ follows.left ∙ ap (λ (h : History). tables_after h q.0.first) none ∙ q.2
+
+  -- ---- how many stores there are
+
+  in_range : (n m : ℕ) → Contains (range_with_len 1 n) m → m ≤ n
+  in_range n m there =
+      let size = length-range_with_len 1 n in
+      let below = there.1 in
+      let low : there.0 < n = omega (arith, size, below) in
+      let is : 1 + there.0 ≡ m = sym (get_or-range_with_len 1 n there.0 m low) ∙ there.2 in
+      omega (arith, is, low)
+
+  within : (m : ℕ) (q : ManagerPart) → find_manager m s.managers ≡ Some q → m ≤ stores
+  within m q at =
+      let is = found (λ (c : ManagerPart). c.number == m) s.managers q at in
+      let numbers : List ℕ = map (λ (c : ManagerPart). c.number) s.managers in
+      let among : Contains numbers m =
+      subst (Contains numbers) (eqb-true q.number m is.1) (contains_map (λ (c : ManagerPart). c.number) s.managers q is.0) in
+      in_range stores m (Contains-permutation numbers (range_with_len 1 stores) m (IsPermutation-sym _ _ r.of_setup.managers) among)
+
+  pub all_stores : managers_in s ≡ stores
+  all_stores =
+      let last = whole.there (managers_in s) whole.few.0 (omega arith) in
+      let low = within (managers_in s) last.0 last.1 in
+      let most = whole.few.0 in
+      let up : IsUpTo stores stores = (omega (arith, low, most), omega arith) in
+      let q = begun s stores (opening (accounts_of p stores)) (first stores up) in
+      let high = (whole.only stores q.0 q.1).1 in
+      omega (arith, low, high)

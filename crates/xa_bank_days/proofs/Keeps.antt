@@ -1,0 +1,117 @@
+-- What the log of a teller has after its transfers: what it had of other transactions, and records of these.
+use Rattle.std.specs.Prelude.{pos, if◌then◌else◌}
+use Rattle.std.proofs.Common.{◌≡◌, ℕ, zero, suc, ◌+◌, ◌^◌, ◌<◌, ◌≤◌, ◌⊎◌, ⊎_elim, true, false, List, [], ◌∷◌, length, sym, refl, ap, ◌∙◌, subst, arith, inl}
+use Rattle.std.proofs.Common.{inr}
+use Rattle.std.specs.List.{All}
+use Rattle.std.specs.Ordering.{eq_by_cmp, is_eq}
+use Rattle.std.specs.Cmp.{tied_itself}
+use Rattle.std.proofs.lemmas.Bool.{cases_lt}
+use Rattle.std.proofs.lemmas.List.Elements.{All-head, All-tail}
+use Rattle.xa_base.proofs.Truth.{is_equal}
+use Rattle.xa_words.specs.Tran.{TranName, tran_of}
+use Rattle.xa_desk.specs.DeskView.{DeskView}
+use Rattle.xa_log.specs.Log.{LogState, record_of}
+use Rattle.xa_log.specs.Transactions.{tran_cmp}
+use Rattle.xa_log.proofs.Transactions.{tran_cmp_total, tran_cmp-IsAntisymmetric}
+use Rattle.xa_work.specs.declared.unit.WorkOutcome.{WorkOutcome}
+use Rattle.xa_work.specs.Units.{LeavesKnown}
+use Rattle.xa_work.specs.Units.Transacts.{commits, refused}
+use Rattle.xa_bank.specs.declared.habits.Habits.{Habits}
+use Rattle.xa_bank.specs.declared.teller.Transfer.{Transfer}
+use Rattle.xa_bank.specs.Numbered.{death_in}
+use Rattle.xa_bank.specs.Transfers.{Makes, MakesEach, forgotten, gtrid_of, with_legs, without_legs}
+use Rattle.xa_bank.proofs.Named.{legs_are, one_transfer}
+use Rattle.xa_bank_days.specs.Days.{IsNamed}
+use Rattle.xa_bank_days.proofs.Come.{has_come}
+
+-- ---- numbers
+
+-- a transaction is of one transfer of the thread
+pub one_number : (t n k : ℕ) (gtrid : List ℕ) → t < 2 ^ 32 → IsNamed t n gtrid → IsNamed t k gtrid → k ≡ n
+one_number t n k gtrid low one two =
+    (one_transfer t n t k (record { format = pos 0; gtrid = gtrid; bqual = [] }) low low (record { small = one.small; gtrid = one.gtrid_ }) (record { small = two.small; gtrid = two.gtrid_ })).1
+
+-- it is of a transfer or not
+named_or_not : (t n : ℕ) (tran : TranName) → IsNamed t n tran.gtrid ⊎ (IsNamed t n tran.gtrid → ⊥)
+named_or_not t n tran =
+    let its : TranName = record { format = tran.format; gtrid = gtrid_of t n } in
+    ⊎_elim
+    (λ (small : n < 2 ^ 32). elim (eq_by_cmp tran_cmp tran its) as (λ c. eq_by_cmp tran_cmp tran its ≡ c → IsNamed t n tran.gtrid ⊎ (IsNamed t n tran.gtrid → ⊥)) [
+      | true ↦ λ same. inl (record { small = small; gtrid_ = ap (λ (u : TranName). u.gtrid) (tran_cmp-IsAntisymmetric tran its (is_equal _ same)) })
+      | false ↦ λ other. inr (λ z.
+          let is : tran ≡ its = ap (λ g. record { format = tran.format; gtrid = g }) z.gtrid_ in
+          let tied : eq_by_cmp tran_cmp tran its ≡ true = ap (eq_by_cmp tran_cmp tran) (sym is) ∙ ap is_eq (tied_itself tran_cmp_total tran) in
+          let y : true ≡ false = sym tied ∙ other in cc)
+    ] refl)
+    (λ (great : 2 ^ 32 ≤ n). inr (λ z. let small = z.small in omega (arith, small, great)))
+    (cases_lt n (2 ^ 32))
+
+-- or of one of so many
+pub record IsNamedFrom (t n count : ℕ) (gtrid : List ℕ) : Type 0 where
+  pub number : ℕ
+  pub from : n ≤ number
+  pub below : number < n + count
+  pub named : IsNamed t number gtrid
+
+pub named_from : (t n count : ℕ) (tran : TranName)
+    → IsNamedFrom t n count tran.gtrid ⊎ ((k : ℕ) → n ≤ k → k < n + count → IsNamed t k tran.gtrid → ⊥)
+named_from t n zero tran = inr (λ k above below z. omega (arith, above, below))
+named_from t n (suc count) tran =
+    ⊎_elim
+    (λ (here : IsNamed t n tran.gtrid). inl (record { number = n; from = omega arith; below = omega arith; named = here }))
+    (λ (not_here : IsNamed t n tran.gtrid → ⊥).
+    ⊎_elim
+    (λ (z : IsNamedFrom t (n + 1) count tran.gtrid).
+    let above = z.from in
+    let low = z.below in
+    inl (record { number = z.number; from = omega (arith, above); below = omega (arith, low); named = z.named }))
+    (λ (none : (k : ℕ) → n + 1 ≤ k → k < n + 1 + count → IsNamed t k tran.gtrid → ⊥).
+    inr (λ k above below z.
+    ⊎_elim (λ (same : k < n + 1). not_here (subst (λ i. IsNamed t i tran.gtrid) (let e : k ≡ n = omega (arith, same, above) in e) z))
+    (λ (past : n + 1 ≤ k). none k past (omega (arith, below)) z)
+    (cases_lt k (n + 1))))
+    (named_from t (n + 1) count tran))
+    (named_or_not t n tran)
+
+-- ---- the log
+
+-- the log as it left it is as its habits leave it
+pub left_is : (habits : Habits) (o : WorkOutcome) → habits.forgets ≡ false → (tran : TranName) (left later : LogState)
+    → later ≡ (if habits.forgets then forgotten tran o left else left) → later ≡ left
+left_is habits o keeps tran left later kept = kept ∙ ap (λ b. if b then forgotten tran o left else left) keeps
+
+module _ (t n : ℕ) (tr : Transfer) (habits : Habits) (o : WorkOutcome) (keeps : habits.forgets ≡ false) (known : LeavesKnown (Unit {0}) o) where
+  -- the records of other transactions stay
+  pub makes_keeps : (old new : DeskView) (log later : LogState) → Makes t n tr habits o old new log later → (tran : TranName) → (IsNamed t n tran.gtrid → ⊥)
+      → record_of later tran ≡ record_of log tran
+  makes_keeps old new log later (with_legs one two left legs (commits worked begins known_ work comes) kept) tran other =
+      let of_one = (legs_are t n tr one two legs).first in
+      ap (λ (l : LogState). record_of l tran) (left_is habits o keeps (tran_of one.branch.xid) left later kept)
+      ∙ (has_come one.branch two.branch (death_in habits n) o worked new.ledgers log left comes known).others tran
+      (λ is. other (record { small = of_one.small; gtrid_ = ap (λ (u : TranName). u.gtrid) is ∙ of_one.gtrid }))
+  makes_keeps old new log later (with_legs one two left legs (refused same why sent) kept) tran other =
+      ap (λ (l : LogState). record_of l tran) (left_is habits o keeps (tran_of one.branch.xid) left later kept ∙ same)
+  makes_keeps old new log later (without_legs is none same unlogged) tran other = ap (λ (l : LogState). record_of l tran) unlogged
+
+module _ (t : ℕ) (habits : Habits) (keeps : habits.forgets ≡ false) where
+  -- the records of other transactions than these transfers' stay
+  pub each_keeps : (n : ℕ) (trs : List Transfer) (os : List WorkOutcome) (old new : DeskView) (log later : LogState)
+      → MakesEach t habits n trs os old new log later
+      → All (LeavesKnown (Unit {0})) os → (tran : TranName) → ((k : ℕ) → n ≤ k → k < n + length os → IsNamed t k tran.gtrid → ⊥)
+      → record_of later tran ≡ record_of log tran
+  each_keeps n [] [] old new log later (same, unlogged) known tran others = ap (λ (l : LogState). record_of l tran) unlogged
+  each_keeps n (tr ∷ trs) [] old new log later (same, unlogged) known tran others = ap (λ (l : LogState). record_of l tran) unlogged
+  each_keeps n (tr ∷ trs) (o ∷ os) old new log later (mid, now, makes, rest) known tran others =
+      each_keeps (n + 1) trs os mid new now later rest (All-tail (LeavesKnown (Unit {0})) o os known) tran (λ k from below. others k (omega (arith, from)) (omega (arith, below)))
+      ∙ makes_keeps t n tr habits o keeps (All-head (LeavesKnown (Unit {0})) o os known)
+      makes.shut mid log now makes.makes tran (others n (omega arith) (omega arith))
+  each_keeps n [] (o ∷ os) old new log later h known tran others = absurd h
+
+  -- no more were made than there are
+  pub made_most : (n : ℕ) (trs : List Transfer) (os : List WorkOutcome) (old new : DeskView) (log later : LogState)
+      → MakesEach t habits n trs os old new log later
+      → length os ≤ length trs
+  made_most n [] [] old new log later h = omega arith
+  made_most n (tr ∷ trs) [] old new log later h = omega arith
+  made_most n (tr ∷ trs) (o ∷ os) old new log later (mid, now, makes, rest) = let z = made_most (n + 1) trs os mid new now later rest in omega (arith, z)
+  made_most n [] (o ∷ os) old new log later h = absurd h

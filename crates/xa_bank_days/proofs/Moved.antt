@@ -1,0 +1,205 @@
+-- What days do to the balances, by the law of a day and its night.
+use Rattle.std.specs.Prelude.{if◌then◌else◌, is_some, ◌+ℤ◌}
+use Rattle.std.proofs.Common.{◌≡◌, ℕ, ℤ, suc, ◌+◌, ◌^◌, ◌<◌, ◌≤◌, Bool, true, false, Option, Some, Vec, List, [], ◌∷◌, ◌++◌, length, map, slice_get, sym, refl}
+use Rattle.std.proofs.Common.{ap, ◌∙◌, subst, arith}
+use Rattle.std.specs.Global.{Global}
+use Rattle.std.specs.List.{All}
+use Rattle.xa_base.specs.Lists.{IsUpTo}
+use Rattle.xa_base.proofs.Lists.{all_at, all_from, got_map, was_mapped}
+use Rattle.xa_tables.specs.Tables.{Tables, is_declared}
+use Rattle.xa_tables.specs.History.{is_done}
+use Rattle.xa_tables.proofs.WorthLaw.{declared_on}
+use Rattle.xa_switch.specs.declared.plan.Again.{Again}
+use Rattle.xa_switch.specs.Again.{last_in, managers_in, reopened_at}
+use Rattle.xa_switch.specs.Fates.{first_of, history}
+use Rattle.xa_switch.specs.Settling.{ManagerPart, Settling, IsSettled, value_in}
+use Rattle.xa_switch.proofs.Journaled.{begun, follows_first}
+use Rattle.xa_log.specs.Log.{LogState}
+use Rattle.xa_driver.specs.declared.resolved.Outcome.{Outcome}
+use Rattle.xa_atomicity.specs.Resolution.{ResolveCall}
+use Rattle.xa_bank.specs.declared.habits.Habits.{Habits}
+use Rattle.xa_bank.specs.declared.teller.Teller.{Teller}
+use Rattle.xa_bank.specs.declared.teller.Transfer.{Transfer}
+use Rattle.xa_bank_days.specs.declared.days.Bank.{Bank}
+use Rattle.xa_bank_days.specs.declared.days.Closed.{Closed}
+use Rattle.xa_bank_days.specs.declared.days.Errands.{Errands}
+use Rattle.xa_bank_days.specs.Days.{AreToldAll, BeginsWith, IsDawn, IsDayOf, IsResolvedBy, all_told, balances_at, balances_of, records_of, told}
+use Rattle.xa_bank_days.specs.Kept.{AreKept, HasWorked, IsKept, IsMovedBy, IsReady, habits_on, has_account, told_on, told_over}
+use Rattle.xa_bank_days.specs.Ledger.{Balances, all_applied, applied, share}
+use Rattle.xa_bank_days.proofs.DayWorked.{same_length}
+
+-- ---- the abstract machine
+
+-- what is applied to an account goes by what it had
+applied_same : (es : List (Transfer × Bool)) (B C : Balances) (m : ℕ) (k : List ℕ) → B m k ≡ C m k → all_applied es B m k ≡ all_applied es C m k
+applied_same [] B C m k e = e
+applied_same (x ∷ es) B C m k e =
+    applied_same es (applied x.0 x.1 B) (applied x.0 x.1 C) m k (ap (λ (v : ℤ). if x.1 then v +ℤ share x.0 m k else v) e)
+
+applied_both : (es more : List (Transfer × Bool)) (B : Balances) (m : ℕ) (k : List ℕ) → all_applied (es ++ more) B m k ≡ all_applied more (all_applied es B) m k
+applied_both [] more B m k = refl
+applied_both (x ∷ es) more B m k = applied_both es more (applied x.0 x.1 B) m k
+
+-- ---- the stores
+
+-- what is declared stays so to the end of an opening
+last_declares : (s : Settling) (m : ℕ) (T : Tables) (k : List ℕ) → IsSettled s → first_of s m ≡ Some T → has_account s m k ≡ is_declared T k
+last_declares s m T k settled first =
+    let p = begun s m T first in
+    let opened = follows_first s m T settled first in
+    ap (λ (o : Option ManagerPart). is_declared (last_in o) k) p.1
+    ∙ ap is_some (sym (ap (value_in k) p.1) ∙ opened.values k) ∙ declared_on (history s m) k T
+
+-- ---- lists of tellers
+
+-- what is so of each at the same place is so of the lists
+same_map : {A B : Type 0} (f : A → B) (xs ys : List A) → length ys ≡ length xs
+    → ((k : ℕ) (x y : A) → slice_get xs k ≡ Some x → slice_get ys k ≡ Some y → f y ≡ f x)
+    → map f ys ≡ map f xs
+same_map f [] [] e same = refl
+same_map f [] (y ∷ ys) e same = absurd (omega (arith, e))
+same_map f (x ∷ xs) [] e same = absurd (omega (arith, e))
+same_map f (x ∷ xs) (y ∷ ys) e same =
+    (λ i. same 0 x y refl refl i ∷ same_map f xs ys (omega (arith, e)) (λ k u v at there. same (suc k) u v at there) i)
+
+told_is : {L : Type 0} (news : List (Teller L)) (errands : List Errands) → map (λ (t : Teller L). t.transfers) news ≡ map (λ (e : Errands). e.transfers) errands
+    → all_told news ≡ told_on errands (map (λ (t : Teller L). t.outcomes) news)
+told_is [] [] e = refl
+told_is [] (x ∷ errands) e = cc
+told_is (t ∷ news) [] e = cc
+told_is {L} (t ∷ news) (x ∷ errands) e =
+    let head : t.transfers ≡ x.transfers = cc in
+    let tail : map (λ (u : Teller L). u.transfers) news ≡ map (λ (y : Errands). y.transfers) errands = cc in
+    (λ i. told (head i).items t.outcomes.items ++ told_is news errands tail i)
+
+-- what holds of all transfers that are a list's holds of the other's
+all_theirs : {A B C : Type 0} (P : C → Type 0) (f : A → C) (g : B → C) (xs : List A) (ys : List B) → map f xs ≡ map g ys → All (λ y. P (g y)) ys
+    → All (λ x. P (f x)) xs
+all_theirs {A} {B} P f g xs ys e all =
+    all_from (λ x. P (f x)) xs (λ k x at.
+    let y = was_mapped g ys k (f x) (ap (λ l. slice_get l k) (sym e) ∙ got_map f xs k x at) in
+    subst P y.2 (all_at (λ z. P (g z)) ys k y.0 all y.1))
+
+-- ---- a day
+
+module _ {L : Type 0} (state : L → LogState) (knows : L → Type 0)
+    (applies : (s : Settling) (again : Again) (q : ResolveCall) (next : Settling) (olds news : List (Teller L)) (stores n : ℕ) (first : ℕ → Tables) (m : ℕ) (account : List ℕ)
+    → IsDayOf state knows s olds news → BeginsWith s stores first → length olds < 2 ^ 32 → AreToldAll knows n olds news
+    → IsDawn state stores n first (map (λ t. t.log) olds) → IsResolvedBy (records_of state (map (λ t. t.log) news)) s again q next → IsUpTo stores m
+    → is_declared (first m) account ≡ true → balances_at next m account ≡ all_applied (all_told news) (balances_of first) m account)
+    (dawns : (s : Settling) (again : Again) (q : ResolveCall) (next : Settling) (olds news : List (Teller L)) (stores n later : ℕ) (first : ℕ → Tables)
+    → IsDayOf state knows s olds news → BeginsWith s stores first → AreToldAll knows n olds news → IsDawn state stores n first (map (λ t. t.log) olds)
+    → IsResolvedBy (records_of state (map (λ t. t.log) news)) s again q next → All (λ r. is_done r.code ≡ true) q.outcomes → n ≤ later
+    → All (λ t. t.habits.first + length t.transfers.items ≤ later) olds → IsDawn state stores later (reopened_at next.managers) (map (λ t. t.log) news)) where
+  module _ (b : Bank L) (errands : List Errands) (c : Closed) (outcomes : List Outcome) (b' : Bank L) (z : IsKept state knows b errands c outcomes b') where
+    abbrev w : HasWorked state knows b.settled z.turned z.day
+    w = z.works
+
+    abbrev n : ℕ
+    n = b.next
+
+    few : length z.turned < 2 ^ 32
+    few =
+        let e = same_length (λ (t : Teller L). t.transfers) (λ (x : Errands). x.transfers) z.turned errands z.are_turned.transfers in
+        let many = z.many in
+        omega (arith, e, many)
+
+    known_at : (k : ℕ) (new : Teller L) → slice_get w.worked k ≡ Some new → knows new.log
+    known_at k new at =
+        let t =
+        was_mapped (λ (u : Teller L). u.log) z.day.tellers.items k new.log (ap (λ l. slice_get l k) w.logs ∙ got_map (λ (u : Teller L). u.log) w.worked k new at) in
+        subst knows t.2 (all_at (λ (u : Teller L). knows u.log) z.day.tellers.items k t.0 z.night.known t.1)
+
+    -- its habits are those of its errands
+    turned_at : (k : ℕ) (t : Teller L) → slice_get z.turned k ≡ Some t → (t.habits.first ≡ n) × (t.habits.forgets ≡ false)
+    turned_at k t at =
+        let e =
+        was_mapped (habits_on n) errands k t.habits (ap (λ l. slice_get l k) (sym z.are_turned.habits) ∙ got_map (λ (u : Teller L). u.habits) z.turned k t at) in
+        (sym (ap (λ (h : Habits). h.first) e.2), sym (ap (λ (h : Habits). h.forgets) e.2))
+
+    told_all : AreToldAll knows n z.turned w.worked
+    told_all k old new old_at new_at =
+        let turned = turned_at k old old_at in
+        let first = turned.0 in
+        record {
+          begins = all_at (λ (t : Teller L). t.outcomes.items ≡ []) z.turned k old z.are_turned.none old_at;
+          counts = omega (arith, first);
+          keeps = turned.1;
+          memory = all_at (λ (t : Teller L). t.wants_memory ≡ false) w.worked k new (w.memory z.wants) new_at;
+          known = known_at k new new_at;
+        }
+
+    resolved : IsResolvedBy (records_of state (map (λ (t : Teller L). t.log) w.worked)) z.day.settled b'.again z.night.call b'.settled
+    resolved = subst (λ (l : List L). IsResolvedBy (records_of state l) z.day.settled b'.again z.night.call b'.settled) w.logs z.night.resolves
+
+    transfers_are : map (λ (t : Teller L). t.transfers) w.worked ≡ map (λ (e : Errands). e.transfers) errands
+    transfers_are =
+        same_map (λ (t : Teller L). t.transfers) z.turned w.worked w.is_day.many (λ k old new old_at new_at. (w.is_day.each k old new old_at new_at).worked.transfers)
+        ∙ z.are_turned.transfers
+
+    told_so : all_told w.worked ≡ told_on errands c.outcomes.items
+    told_so = told_is w.worked errands transfers_are ∙ ap (told_on errands) (sym (ap (λ v. v.items) z.told_ ∙ w.told_))
+
+    ends_at : All (λ (t : Teller L). t.habits.first + length t.transfers.items ≤ b'.next) z.turned
+    ends_at =
+        let each =
+        all_theirs (λ (trs : Vec Transfer Global). n + length trs.items ≤ b'.next) (λ (t : Teller L). t.transfers) (λ (e : Errands). e.transfers) z.turned errands z.are_turned.transfers z.next in
+        all_from (λ (t : Teller L). t.habits.first + length t.transfers.items ≤ b'.next) z.turned (λ k t at.
+        let first = (turned_at k t at).0 in
+        let bound = all_at (λ (u : Teller L). n + length u.transfers.items ≤ b'.next) z.turned k t each at in
+        omega (arith, first, bound))
+
+    module _ (ready : IsReady state b) (ended : All (λ (o : Outcome). is_done o.code ≡ true) outcomes) where
+      dawn : IsDawn state (managers_in b.settled) n (reopened_at b.settled.managers) (map (λ (t : Teller L). t.log) z.turned)
+      dawn = subst (IsDawn state (managers_in b.settled) n (reopened_at b.settled.managers)) (sym z.are_turned.logs) ready
+
+      next_dawn : IsDawn state (managers_in b.settled) b'.next (reopened_at b'.settled.managers) (map (λ (t : Teller L). t.log) w.worked)
+      next_dawn =
+          dawns z.day.settled b'.again z.night.call b'.settled z.turned w.worked (managers_in b.settled) n b'.next (reopened_at b.settled.managers) w.is_day w.begins told_all dawn
+          resolved (subst (All (λ (o : Outcome). is_done o.code ≡ true)) (sym z.night.listed) ended) z.later ends_at
+
+      stores : managers_in b'.settled ≡ managers_in b.settled
+      stores = z.stores ∙ w.stores
+
+      account : (m : ℕ) (k : List ℕ) → IsUpTo (managers_in b.settled) m → has_account b'.settled m k ≡ has_account b.settled m k
+      account m k up =
+          let first = w.begins.there m up in
+          last_declares b'.settled m (reopened_at z.day.settled.managers m) k z.night.resolves.settled (z.night.resolves.continues m (reopened_at b.settled.managers m) first)
+          ∙ last_declares z.day.settled m (reopened_at b.settled.managers m) k w.is_day.settled first
+
+      pub day_moves : IsMovedBy state (told_on errands c.outcomes.items) b b'
+      day_moves = record {
+        stores = stores;
+        accounts = account;
+        balances = λ m k up there.
+            applies z.day.settled b'.again z.night.call b'.settled z.turned w.worked (managers_in b.settled) n (reopened_at b.settled.managers) m k w.is_day w.begins few told_all dawn resolved
+            up there
+            ∙ ap (λ (es : List (Transfer × Bool)). all_applied es (balances_at b.settled) m k) told_so;
+        ready =
+            subst (λ (p : ℕ × List L). IsDawn state p.0 b'.next (reopened_at b'.settled.managers) p.1)
+            (λ i. (sym stores i, sym (ap (λ v. map (λ (t : Teller L). t.log) v.items) z.tellers ∙ w.logs) i)) next_dawn;
+      }
+
+  -- ---- many days
+
+  pub days_move : (b : Bank L) (ds : List (Vec Errands Global)) (cs : List Closed) (b' : Bank L) → AreKept state knows b ds cs b' → IsReady state b
+      → IsMovedBy state (told_over ds cs) b b'
+  days_move b [] [] b' same ready =
+      subst (λ (q : Bank L). IsMovedBy state [] b q) (sym same) (record { stores = refl; accounts = λ m k up. refl; balances = λ m k up there. refl; ready = ready })
+  days_move b [] (c ∷ cs) b' wrong ready = absurd wrong
+  days_move b (d ∷ ds) [] b' wrong ready = absurd wrong
+  days_move b (d ∷ ds) (c ∷ cs) b' all ready =
+      let mid : Bank L = all.0 in
+      let one = day_moves b d.items c all.1.outcomes mid all.1.kept ready all.1.ended in
+      let rest = days_move mid ds cs b' all.2 one.ready in
+      let es : List (Transfer × Bool) = told_on d.items c.outcomes.items in
+      let up_there = λ (m : ℕ) (up : IsUpTo (managers_in b.settled) m). subst (λ (j : ℕ). IsUpTo j m) (sym one.stores) up in
+      record {
+        stores = rest.stores ∙ one.stores;
+        accounts = λ m k up. rest.accounts m k (up_there m up) ∙ one.accounts m k up;
+        balances = λ m k up there.
+            rest.balances m k (up_there m up) (one.accounts m k up ∙ there)
+            ∙ applied_same (told_over ds cs) (balances_at mid.settled) (all_applied es (balances_at b.settled)) m k (one.balances m k up there)
+            ∙ sym (applied_both es (told_over ds cs) (balances_at b.settled) m k);
+        ready = rest.ready;
+      }

@@ -1,0 +1,51 @@
+-- A bank that was opened with a plan is ready for its first day.
+use Rattle.std.specs.Prelude.{is_some}
+use Rattle.std.proofs.Common.{◌≡◌, ℕ, true, false, Some, List, map, slice_get, sym, ap, ◌∙◌, subst}
+use Rattle.std.specs.FinMap.{get-empty}
+use Rattle.xa_base.specs.Lists.{IsUpTo}
+use Rattle.xa_base.proofs.Lists.{all_at, was_mapped}
+use Rattle.xa_words.specs.Xid.{XidName, xid_cmp}
+use Rattle.xa_words.specs.Tran.{TranName}
+use Rattle.xa_tables.specs.Tables.{Tables, exists, is_left, is_left_in}
+use Rattle.xa_tables.specs.Managers.{opening}
+use Rattle.xa_tables.specs.Openings.{reopened}
+use Rattle.xa_tables.proofs.Reopening.{as_left, reopens}
+use Rattle.xa_switch.specs.declared.plan.Plan.{Plan}
+use Rattle.xa_switch.specs.Again.{managers_in, reopened_at}
+use Rattle.xa_switch.specs.Worth.{accounts_of}
+use Rattle.xa_log.specs.Log.{LogState}
+use Rattle.xa_atomicity.specs.Cut.{is_recorded}
+use Rattle.xa_bank.specs.declared.teller.Teller.{Teller}
+use Rattle.xa_bank_days.specs.declared.days.Bank.{Bank}
+use Rattle.xa_bank_days.specs.Kept.{HaveNoRecord, IsOpenedBank, IsReady}
+use Rattle.xa_bank_days.proofs.DawnLaw.{none_left}
+
+module _ {L : Type 0} (state : L → LogState) (p : Plan) (tellers : List (Teller L)) (b : Bank L) (opened : IsOpenedBank p tellers b)
+    (bare : HaveNoRecord state tellers) where
+  nothing : (m : ℕ) (x : XidName) → IsUpTo (managers_in b.settled) m → exists (reopened_at b.settled.managers m) x ≡ false
+  nothing m x up =
+      let T : Tables = opening (accounts_of p m) in
+      let is : reopened_at b.settled.managers m ≡ reopened (opening (accounts_of p m)) =
+      ap reopened (opened.tables m (subst (λ n. IsUpTo n m) opened.stores up)) in
+      let off : is_left (reopened (opening (accounts_of p m))) x ≡ false = as_left (opening (accounts_of p m)) x ∙ ap is_left_in (get-empty xid_cmp x) in
+      ap (λ (U : Tables). exists U x) is ∙ ap is_some (none_left (reopened (opening (accounts_of p m))) (reopens (opening (accounts_of p m))) x off)
+
+  never : (m : ℕ) (x : XidName) → IsUpTo (managers_in b.settled) m → exists (reopened_at b.settled.managers m) x ≡ true → ⊥
+  never m x up there = let z : true ≡ false = sym there ∙ nothing m x up in cc
+
+  no_record : (j : ℕ) (log : L) (tran : TranName) → slice_get (map (λ (t : Teller L). t.log) b.tellers.items) j ≡ Some log → is_recorded (state log) tran ≡ true
+      → ⊥
+  no_record j log tran at on =
+      let t =
+      was_mapped (λ (u : Teller L). u.log) tellers j log (ap (λ (ts : List (Teller L)). slice_get (map (λ (u : Teller L). u.log) ts) j) (sym opened.tellers_) ∙ at) in
+      let z : true ≡ false =
+      sym on ∙ ap (λ (l : L). is_recorded (state l) tran) (sym t.2)
+      ∙ all_at (λ (u : Teller L). (r : TranName) → is_recorded (state u.log) r ≡ false) tellers j t.0 bare t.1 tran in
+      cc
+
+  pub opened_ready : IsReady state b
+  opened_ready = record {
+    fresh = λ m x up there t k some within named. absurd (never m x up there);
+    unrecorded = λ m x up there. absurd (never m x up there);
+    own = λ j log tran at on. absurd (no_record j log tran at on);
+  }

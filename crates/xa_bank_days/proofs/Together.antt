@@ -1,0 +1,315 @@
+-- What the transfers of all tellers come to at one store, for one account.
+use Rattle.std.specs.Prelude.{pos, ◌+ℤ◌, is_some, Vec}
+use Rattle.std.proofs.Common.{◌≡◌, ℕ, zero, suc, ◌+◌, ◌-◌, ◌^◌, ◌<◌, ◌≤◌, ⊎_elim, Bool, true, false, Option, None, Some, List, [], ◌∷◌, ◌++◌, length, get_or}
+use Rattle.std.proofs.Common.{map, slice_get, sym, refl, ap, ◌∙◌, subst, arith, inl, inr}
+use Rattle.std.specs.List.{All, IsDistinct}
+use Rattle.std.proofs.lemmas.Bool.{cases_lt}
+use Rattle.std.proofs.lemmas.List.{length-map, map-append}
+use Rattle.std.proofs.lemmas.Option.{slice_get_within}
+use Rattle.std.specs.Global.{Global}
+use Rattle.std.proofs.lemmas.List.Elements.{All-map, All-nil, All-append, All-weaker}
+use Rattle.xa_base.specs.declared.limits.TheConstants.{MOST_MANAGERS}
+use Rattle.xa_base.specs.Lists.{IsUpTo}
+use Rattle.xa_base.specs.Sums.{total}
+use Rattle.xa_base.proofs.Lists.{got, got_map, none_twice, was_mapped}
+use Rattle.xa_words.specs.Xid.{XidName, xid_eq}
+use Rattle.xa_words.specs.Orders.{Decides-xid_eq}
+use Rattle.xa_words.specs.Tran.{TranName}
+use Rattle.xa_words.specs.declared.request.Op.{Op}
+use Rattle.xa_tables.specs.declared.state.State.{State}
+use Rattle.xa_tables.specs.Tables.{Tables, state_of}
+use Rattle.xa_tables.specs.Prepared.{names}
+use Rattle.xa_desk.specs.LedgerView.{LedgerView}
+use Rattle.xa_desk.specs.DeskView.{ledger}
+use Rattle.xa_switch.specs.declared.plan.Again.{Again}
+use Rattle.xa_switch.specs.Settling.{Settling, sent}
+use Rattle.xa_switch.specs.Fates.{first_of, history, ledgers_of}
+use Rattle.xa_log.specs.Log.{LogState, Records, record_in, record_of}
+use Rattle.xa_atomicity.specs.Resolution.{ResolveCall}
+use Rattle.xa_atomicity.proofs.Requests.{own_all}
+use Rattle.xa_atomicity.proofs.Settled.{by_ledger}
+use Rattle.xa_days.specs.Days.{Leg, counted}
+use Rattle.xa_days.specs.Settled.{ComesOutByTheLog}
+use Rattle.xa_work.specs.Sent.{HasSent, IsOpenRm}
+use Rattle.xa_work.proofs.Sent.{sent_on, sent_as}
+use Rattle.xa_bank.specs.declared.teller.Teller.{Teller}
+use Rattle.xa_bank.specs.declared.teller.Transfer.{Transfer}
+use Rattle.xa_bank.proofs.Named.{IsOf, Names, one_transfer}
+use Rattle.xa_bank.proofs.Told.{IsAny, IsBelow, IsTold}
+use Rattle.xa_bank_days.specs.Days.{AreToldAll, BeginsWith, IsDawn, IsDayOf, IsNamed, IsResolvedBy, all_told, records_of, told as told_of}
+use Rattle.xa_bank_days.proofs.Keeps.{each_keeps}
+use Rattle.xa_bank_days.proofs.Logs.{NoLogs, OneLogMore, one_in_all, same_in_all}
+use Rattle.xa_bank_days.proofs.Made.{Noted, noted_none}
+use Rattle.xa_bank_days.proofs.Out.{BranchesComeOut, IsScene, day, night}
+use Rattle.xa_bank_days.proofs.Shares.{counts_for, total_append}
+use Rattle.xa_bank_days.proofs.Thread.{IsOneOf, TransfersAt, both_distinct, each_at, noted_after, noted_more}
+use Rattle.xa_bank_days.proofs.Went.{WentSo, went}
+
+none_unless : (o : Option State) → (is_some o ≡ true → ⊥) → o ≡ None
+none_unless None never = refl
+none_unless (Some state) never = absurd (never refl)
+
+unrecorded : (o : Option (List Bool)) → (is_some o ≡ true → ⊥) → o ≡ None
+unrecorded None never = refl
+unrecorded (Some managers) never = absurd (never refl)
+
+-- two threads' transfers have different names
+two_threads : (t u n k : ℕ) (gtrid : List ℕ) → t < 2 ^ 32 → u < 2 ^ 32 → IsNamed t n gtrid → IsNamed u k gtrid → u ≡ t
+two_threads t u n k gtrid low high one two =
+    (one_transfer t n u k (record { format = pos 0; gtrid = gtrid; bqual = [] }) low high (record { small = one.small; gtrid = one.gtrid_ }) (record { small = two.small; gtrid = two.gtrid_ })).0
+
+-- what was sent to a manager to which nothing had been
+all_sent : (P : Op → Type 0) (a a' : LedgerView) → a.sent ≡ [] → HasSent P a a' → All P a'.sent
+all_sent P a a' none h = subst (All P) (sym (h.sent ∙ ap (λ l. l ++ h.more) none)) h.each
+
+opens_none : (x : XidName) (op : Op) → IsOpenRm op → names x op ≡ false
+opens_none x op is = ap (names x) is
+
+module _ (L : Type 0) (state : L → LogState) (knows : L → Type 0)
+    (outs : BranchesComeOut)
+    (none_law : NoLogs)
+    (more_law : OneLogMore)
+    (s : Settling) (again : Again) (q : ResolveCall) (next : Settling) (olds news : List (Teller L)) (stores n : ℕ) (tables : ℕ → Tables)
+    (is_day : IsDayOf state knows s olds news) (begins : BeginsWith s stores tables) (many : length olds < 2 ^ 32) (told_all : AreToldAll knows n olds news)
+    (dawn : IsDawn state stores n tables (map (λ t. t.log) olds))
+    (resolved : IsResolvedBy (records_of state (map (λ t. t.log) news)) s again q next) (m : ℕ) (up : IsUpTo stores m) (j : List ℕ) where
+  abbrev T : Tables
+  T = tables m
+
+  first : first_of s m ≡ Some (tables m)
+  first = begins.there m up
+
+  positive : 1 ≤ m
+  positive = up.0
+
+  few : (k : ℕ) (U : Tables) → first_of s k ≡ Some U → IsUpTo MOST_MANAGERS k
+  few k U is = let z = begins.only k U is in let low = z.0 in let high = z.1 in let most = begins.few in (low, omega (arith, high, most))
+
+  as_many : length news ≡ length olds
+  as_many = is_day.many
+
+  new_at : (i : ℕ) (old : Teller L) → slice_get olds i ≡ Some old → (new : Teller L) × (slice_get news i ≡ Some new)
+  new_at i old at = got news i (let within = slice_get_within olds i old at in omega (arith, within, as_many))
+
+  old_at : (i : ℕ) (new : Teller L) → slice_get news i ≡ Some new → (old : Teller L) × (slice_get olds i ≡ Some old)
+  old_at i new at = got olds i (let within = slice_get_within news i new at in omega (arith, within, as_many))
+
+  went_at : (i : ℕ) (old new : Teller L) → slice_get olds i ≡ Some old → slice_get news i ≡ Some new → WentSo state knows s n (i + 1) old new
+  went_at i old new at at' = went state knows s n (i + 1) old new (is_day.each i old new at at') (told_all i old new at at')
+
+  pub told : (u : ℕ) → IsTold s u
+  told u =
+      ⊎_elim (λ (none : u < 1). inr (is_day.others u (inl none)))
+      (λ (some : 1 ≤ u). ⊎_elim (λ (past : length olds < u). inr (is_day.others u (inr past)))
+      (λ (within : u ≤ length olds).
+      let place : u - 1 + 1 ≡ u = omega (arith, some) in
+      let old = got olds (u - 1) (omega (arith, some, within)) in
+      let new = new_at (u - 1) old.0 old.1 in
+      inl (omega (arith, within, many), λ k low. subst (λ t. All (Names t IsAny) (sent s t k)) place ((went_at (u - 1) old.0 new.0 old.1 new.1).names k low)))
+      (cases_lt (length olds) u))
+      (cases_lt u 1)
+
+  scene : IsScene s again q next
+  scene = record { settled = is_day.settled; few = few; told = told; records = records_of state (map (λ t. t.log) news); resolved = resolved }
+
+  low_at : (i : ℕ) (old : Teller L) → slice_get olds i ≡ Some old → i + 1 < 2 ^ 32
+  low_at i old at = let within = slice_get_within olds i old at in omega (arith, within, many)
+
+  -- ---- the logs
+
+  -- the records of transactions that aren't of the thread's transfers of that day stay
+  log_keeps : (i : ℕ) (old new : Teller L) → slice_get olds i ≡ Some old → slice_get news i ≡ Some new → (tran : TranName)
+      → ((k : ℕ) → n ≤ k → IsNamed (i + 1) k tran.gtrid → ⊥) → record_of (state new.log) tran ≡ record_of (state old.log) tran
+  log_keeps i old new at at' tran others =
+      let z = told_all i old new at at' in
+      let w = went_at i old new at at' in
+      let from = z.counts in
+      each_keeps (i + 1) old.habits z.keeps old.habits.first old.transfers.items new.outcomes.items w.opened w.left (state old.log) (state new.log) w.makes w.known tran
+      (λ k above _. others k (omega (arith, above, from)))
+
+  log_at : (i : ℕ) (old : Teller L) → slice_get olds i ≡ Some old → slice_get (map (λ (t : Teller L). t.log) olds) i ≡ Some old.log
+  log_at i old at = got_map (λ (t : Teller L). t.log) olds i old at
+
+  -- what a thread's log had before the day is of its own earlier transfers
+  old_none : (i : ℕ) (old : Teller L) (tran : TranName) → slice_get olds i ≡ Some old → ((k : ℕ) → k < n → IsNamed (i + 1) k tran.gtrid → ⊥)
+      → record_of (state old.log) tran ≡ None
+  old_none i old tran at others =
+      unrecorded (record_of (state old.log) tran) (λ on. let z = dawn.own i old.log tran (log_at i old at) on in others z.0 z.1 z.2)
+
+  abbrev logs_of : List (Teller L) → List Records
+  logs_of ts = map (λ (log : L). (state log).records) (map (λ (t : Teller L). t.log) ts)
+
+  records_at : (ts : List (Teller L)) (i : ℕ) (r : Records) → slice_get (logs_of ts) i ≡ Some r
+      → (t : Teller L) × (slice_get ts i ≡ Some t) × ((state t.log).records ≡ r)
+  records_at ts i r at =
+      let z = was_mapped (λ (log : L). (state log).records) (map (λ (t : Teller L). t.log) ts) i r at in
+      let w = was_mapped (λ (t : Teller L). t.log) ts i z.0 z.1 in
+      (w.0, w.1, ap (λ (log : L). (state log).records) w.2 ∙ z.2)
+
+  found_at : (i : ℕ) (old new : Teller L) → slice_get olds i ≡ Some old → slice_get news i ≡ Some new → (k : ℕ) (tran : TranName)
+      → IsNamed (i + 1) k tran.gtrid → record_in q.records tran ≡ record_of (state new.log) tran
+  found_at i old new at at' k tran named =
+      ap (λ (r : Records). record_in r tran) resolved.by_
+      ∙ one_in_all none_law more_law tran (logs_of news) i (state new.log).records
+      (got_map (λ (log : L). (state log).records) (map (λ (t : Teller L). t.log) news) i new.log (got_map (λ (t : Teller L). t.log) news i new at'))
+      (λ u r apart there.
+      let z = records_at news u r there in
+      let o = old_at u z.0 z.1 in
+      let other : (e : ℕ) → IsNamed (u + 1) e tran.gtrid → ⊥ = λ e its.
+      let same = two_threads (i + 1) (u + 1) k e tran.gtrid (low_at i old at) (low_at u o.0 o.1) named its in apart (omega (arith, same)) in
+      ap (λ (p : Records). record_in p tran) (sym z.2) ∙ log_keeps u o.0 z.0 o.1 z.1 tran (λ e _. other e) ∙ old_none u o.0 tran o.1 (λ e _. other e))
+
+  -- a transaction that isn't of any transfer of that day
+  pub found_before : (tran : TranName) → ((t k : ℕ) → 1 ≤ t → t ≤ length olds → n ≤ k → IsNamed t k tran.gtrid → ⊥)
+      → record_in q.records tran ≡ record_in (records_of state (map (λ t. t.log) olds)) tran
+  found_before tran others =
+      ap (λ (r : Records). record_in r tran) resolved.by_
+      ∙ same_in_all none_law more_law tran (logs_of news) (logs_of olds) (sizes news olds as_many)
+      (λ k x y at at'.
+      let a = records_at news k x at in
+      let b = records_at olds k y at' in
+      let within = slice_get_within olds k b.0 b.1 in
+      ap (λ (p : Records). record_in p tran) (sym a.2)
+      ∙ log_keeps k b.0 a.0 b.1 a.1 tran (λ e from is. others (k + 1) e (omega arith) (omega (arith, within)) from is)
+      ∙ ap (λ (p : Records). record_in p tran) b.2)
+    where
+      sizes : (xs ys : List (Teller L)) → length xs ≡ length ys → length (logs_of xs) ≡ length (logs_of ys)
+      sizes xs ys e =
+          length-map (map (λ (t : Teller L). t.log) xs) (λ (log : L). (state log).records) ∙ length-map xs (λ (t : Teller L). t.log) ∙ e
+          ∙ sym (length-map (map (λ (t : Teller L). t.log) ys) (λ (log : L). (state log).records) ∙ length-map ys (λ (t : Teller L). t.log))
+
+  -- ---- one thread
+
+  -- what thread t's teller came to
+  record ThreadAt (t : ℕ) (new : Teller L) : Type 0 where
+    legs : List Leg
+    outs_ : All (ComesOutByTheLog ((j, 0) ∷ []) m T (day s) (night next q ∷ [])) legs
+    of_it : All (λ g. (k : ℕ) × IsOf t k g.xid) legs
+    once : IsDistinct xid_eq (map (λ g. g.xid) legs)
+    sum : total counted legs ≡ total (counts_for m j) (told_of new.transfers.items new.outcomes.items)
+    noted : All (Noted q.records legs) (sent s t m)
+
+  thread_at : (i : ℕ) (old new : Teller L) → slice_get olds i ≡ Some old → slice_get news i ≡ Some new → ThreadAt (i + 1) new
+  thread_at i old new at at' =
+      let t : ℕ = i + 1 in
+      let z = told_all i old new at at' in
+      let w = went_at i old new at at' in
+      let from = z.counts in
+      let within = slice_get_within olds i old at in
+      let fresh : (k : ℕ) (x : XidName) → old.habits.first ≤ k → IsOf t k x → state_of T x ≡ None = λ k x above of_x.
+      none_unless (state_of T x) (λ there.
+      let below =
+      dawn.fresh m x up there t k (omega arith) (let e = length-map olds (λ (t : Teller L). t.log) in omega (arith, within, e)) (record { small = of_x.small; gtrid_ = of_x.gtrid }) in
+      omega (arith, below, above, from)) in
+      let before : (k : ℕ) → 1 ≤ k → All (Names t (IsBelow old.habits.first)) (ledger w.opened.ledgers k).sent = λ k low.
+      let y = w.opens k low in
+      all_sent (Names t (IsBelow old.habits.first)) (ledger w.desk.ledgers k) (ledger w.opened.ledgers k) (w.nothing k low)
+      (sent_as IsOpenRm (Names t (IsBelow old.habits.first)) (λ op is. record { each = λ x e. let f : true ≡ false = sym e ∙ opens_none x op is in cc }) (ledger w.desk.ledgers k) (ledger w.opened.ledgers k) y) in
+      let a : TransfersAt outs s again q next scene m positive T first j t (low_at i old at) old.habits z.keeps old.habits.first old.transfers.items new.outcomes.items (ledger w.opened.ledgers m) (ledger w.left.ledgers m) =
+      each_at outs s again q next scene m positive T first j t (low_at i old at) old.habits z.keeps old.habits.first old.transfers.items new.outcomes.items w.opened w.left (state old.log) (state new.log) w.makes w.known fresh w.ended_ before
+      (λ k tran _ named. found_at i old new at at' k tran named) in
+      let P : Op → Type 0 = Noted q.records a.legs in
+      let all : HasSent P (ledger w.desk.ledgers m) (ledger (ledgers_of s t) m) =
+      sent_on P (ledger w.desk.ledgers m) (ledger w.opened.ledgers m) (ledger (ledgers_of s t) m)
+      (sent_as IsOpenRm P (λ op is. noted_none q.records a.legs op (λ x. opens_none x op is)) (ledger w.desk.ledgers m) (ledger w.opened.ledgers m) (w.opens m positive))
+      (sent_on P (ledger w.opened.ledgers m) (ledger w.left.ledgers m) (ledger (ledgers_of s t) m) a.noted
+      (sent_as (λ op. ⊥) P (λ op never. absurd never) (ledger w.left.ledgers m) (ledger (ledgers_of s t) m) (w.ended_ m positive))) in
+      record {
+        legs = a.legs;
+        outs_ = a.outs_;
+        of_it = All-weaker (IsOneOf outs s again q next scene m positive T first j t (low_at i old at) old.habits z.keeps old.habits.first (length new.outcomes.items)) (λ g. (k : ℕ) × IsOf t k g.xid) (λ g (k, above, below, its). (k, its)) a.legs a.of_them;
+        once = a.once;
+        sum = subst (λ (v : Vec Transfer Global). total counted a.legs ≡ total (counts_for m j) (told_of v.items new.outcomes.items)) (sym w.transfers) a.sum;
+        noted = subst (All P) (sym (by_ledger (ledgers_of s t) m (λ (l : LedgerView). l.sent) positive refl)) (all_sent P (ledger w.desk.ledgers m) (ledger (ledgers_of s t) m) (w.nothing m positive) all);
+      }
+
+  -- ---- all of them
+
+  -- the branch is of a transfer of a thread after i, and up to i + count
+  abbrev IsOfSome : ℕ → ℕ → Leg → Type 0
+  IsOfSome i count g = (u : ℕ) × (i < u) × (u ≤ i + count) × ((k : ℕ) × IsOf u k g.xid)
+
+  -- what the tellers of threads after i came to
+  pub record DayAt (i : ℕ) (ns : List (Teller L)) : Type 0 where
+    pub legs : List Leg
+    pub outs_ : All (ComesOutByTheLog ((j, 0) ∷ []) m T (day s) (night next q ∷ [])) legs
+    pub of_them : All (IsOfSome i (length ns)) legs
+    pub once : IsDistinct xid_eq (map (λ g. g.xid) legs)
+    pub sum : total counted legs ≡ total (counts_for m j) (all_told ns)
+    pub noted : (k : ℕ) → k < length ns → All (Noted q.records legs) (sent s (i + k + 1) m)
+
+  apart : (i count : ℕ) (legs more : List Leg) → i + 1 + count < 2 ^ 32 → All (λ g. (k : ℕ) × IsOf (i + 1) k g.xid) legs → All (IsOfSome (i + 1) count) more
+      → All (λ x. All (λ y. xid_eq x y ≡ false) (map (λ g. g.xid) more)) (map (λ (g : Leg). g.xid) legs)
+  apart i count legs more high here there =
+      All-map (λ x. All (λ y. xid_eq x y ≡ false) (map (λ (g : Leg). g.xid) more)) (λ (g : Leg). g.xid) legs (λ a d lt.
+      All-map (λ y. xid_eq (get_or legs a d).xid y ≡ false) (λ (g : Leg). g.xid) more (λ b e below. differ (get_or legs a d) (get_or more b e) (here a d lt) (there b e below)))
+    where
+      differ : (f g : Leg) → (k : ℕ) × IsOf (i + 1) k f.xid → IsOfSome (i + 1) count g → xid_eq f.xid g.xid ≡ false
+      differ f g (k, of_f) (u, above, upto, (e, of_g)) = elim (xid_eq f.xid g.xid) as (λ b. xid_eq f.xid g.xid ≡ b → b ≡ false) [
+        | true ↦ λ same.
+            let is : u ≡ i + 1 =
+            (one_transfer (i + 1) k u e g.xid (omega (arith, high)) (omega (arith, high, upto)) (subst (IsOf (i + 1) k) ((Decides-xid_eq f.xid g.xid).0 same) of_f) of_g).0 in
+            absurd (omega (arith, is, above))
+        | false ↦ λ _. refl
+      ] refl
+
+  day_at : (i : ℕ) (ns : List (Teller L)) → i + length ns < 2 ^ 32 → ((k : ℕ) (new : Teller L) → slice_get ns k ≡ Some new → ThreadAt (i + k + 1) new)
+      → DayAt i ns
+  day_at i [] high each = record {
+    legs = [];
+    outs_ = All-nil (ComesOutByTheLog ((j, 0) ∷ []) m T (day s) (night next q ∷ []));
+    of_them = All-nil (IsOfSome i 0);
+    once = none_twice xid_eq;
+    sum = refl;
+    noted = λ k lt. absurd (omega (arith, lt));
+  }
+  day_at i (new ∷ ns) high each =
+      let head : ThreadAt (i + 1) new = subst (λ t. ThreadAt t new) (let e : i + 0 + 1 ≡ i + 1 = omega arith in e) (each 0 new refl) in
+      let tail : DayAt (i + 1) ns =
+      day_at (i + 1) ns (omega (arith, high)) (λ k z at. subst (λ t. ThreadAt t z) (let e : i + suc k + 1 ≡ i + 1 + k + 1 = omega arith in e) (each (suc k) z at)) in
+      record {
+        legs = head.legs ++ tail.legs;
+        outs_ = All-append (ComesOutByTheLog ((j, 0) ∷ []) m T (day s) (night next q ∷ [])) head.legs tail.legs head.outs_ tail.outs_;
+        of_them =
+            All-append (IsOfSome i (suc (length ns))) head.legs tail.legs
+            (All-weaker (λ (g : Leg). (k : ℕ) × IsOf (i + 1) k g.xid) (IsOfSome i (suc (length ns))) (λ g its. (i + 1, omega arith, omega arith, its)) head.legs head.of_it)
+            (All-weaker (IsOfSome (i + 1) (length ns)) (IsOfSome i (suc (length ns))) (λ g (u, above, upto, its). (u, omega (arith, above), omega (arith, upto), its)) tail.legs tail.of_them);
+        once =
+            subst (IsDistinct xid_eq) (sym (map-append (λ (g : Leg). g.xid) head.legs tail.legs))
+            (both_distinct (map (λ (g : Leg). g.xid) head.legs) (map (λ (g : Leg). g.xid) tail.legs) head.once tail.once
+            (apart i (length ns) head.legs tail.legs (omega (arith, high)) head.of_it tail.of_them));
+        sum =
+            total_append counted head.legs tail.legs ∙ ap (λ v. v +ℤ total counted tail.legs) head.sum
+            ∙ ap (λ v. total (counts_for m j) (told_of new.transfers.items new.outcomes.items) +ℤ v) tail.sum
+            ∙ sym (total_append (counts_for m j) (told_of new.transfers.items new.outcomes.items) (all_told ns));
+        noted = λ k lt. noted_at head tail k lt;
+      }
+    where
+      noted_at : (head : ThreadAt (i + 1) new) (tail : DayAt (i + 1) ns) (k : ℕ) → k < suc (length ns)
+          → All (Noted q.records (head.legs ++ tail.legs)) (sent s (i + k + 1) m)
+      noted_at head tail zero lt =
+          subst (λ t. All (Noted q.records (head.legs ++ tail.legs)) (sent s t m)) (let e : i + 1 ≡ i + 0 + 1 = omega arith in e)
+          (All-weaker (Noted q.records head.legs) (Noted q.records (head.legs ++ tail.legs)) (noted_more q.records head.legs tail.legs) (sent s (i + 1) m) head.noted)
+      noted_at head tail (suc k) lt =
+          subst (λ t. All (Noted q.records (head.legs ++ tail.legs)) (sent s t m)) (let e : i + 1 + k + 1 ≡ i + suc k + 1 = omega arith in e)
+          (All-weaker (Noted q.records tail.legs) (Noted q.records (head.legs ++ tail.legs)) (noted_after q.records head.legs tail.legs) (sent s (i + 1 + k + 1) m) (tail.noted k (omega (arith, lt))))
+
+  pub whole : DayAt 0 news
+  whole =
+      day_at 0 news (omega (arith, many, as_many)) (λ k new at.
+      let o = old_at k new at in subst (λ t. ThreadAt t new) (let e : k + 1 ≡ 0 + k + 1 = omega arith in e) (thread_at k o.0 new o.1 at))
+
+  -- each request that the store took
+  pub all_noted : All (λ r. Noted q.records whole.legs r.op) (history s m)
+  all_noted k d lt =
+      let u : ℕ = (get_or (history s m) k d).thread in
+      let P : Op → Type 0 = Noted q.records whole.legs in
+      let own : All P (sent s u m) =
+      ⊎_elim (λ (none : u < 1). subst (All P) (sym (is_day.others u (inl none) m)) (All-nil P))
+      (λ (some : 1 ≤ u). ⊎_elim (λ (past : length olds < u). subst (All P) (sym (is_day.others u (inr past) m)) (All-nil P))
+      (λ (within : u ≤ length olds).
+      let place : 0 + (u - 1) + 1 ≡ u = omega (arith, some) in
+      subst (λ t. All P (sent s t m)) place (whole.noted (u - 1) (omega (arith, some, within, as_many))))
+      (cases_lt (length olds) u))
+      (cases_lt u 1) in
+      own_all u P (history s m) 0 (sent s u m) (is_day.settled.agree u m).carried own k d lt refl

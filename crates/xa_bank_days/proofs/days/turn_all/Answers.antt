@@ -1,0 +1,58 @@
+use Rattle.std.proofs.Common.{◌≡◌, ℕ, ◌+◌, List, [], ◌∷◌, ◌++◌, length, length-append, map, append_assoc, append-nil, sym, ap, ◌∙◌, subst, rules, arith}
+use Rattle.std.specs.List.{All}
+use Rattle.std.proofs.lemmas.List.Elements.{All-nil, All-cons, All-append}
+use Rattle.std.specs.Vec.Iter.{into_iter_items, into_iter_len}
+use Rattle.std.proofs.lemmas.Grind.{common_steps}
+use Rattle.xa_base.proofs.Lists.{none_of}
+use Rattle.xa_bank.specs.declared.teller.Teller.{Teller}
+use Rattle.xa_bank_days.specs.declared.days.Errands.{Errands}
+use Rattle.xa_bank_days.specs.Kept.{habits_on}
+use Rattle.xa_bank_days.proofs.Turned.{moved_map, one_fewer, pushed_map}
+use Rattle.xa_bank_days.proofs.days.turn_all.Goals as goal
+
+one_less : (y e n : ℕ) (rest more : List Errands) (x : Errands) → y + length rest ≡ n → rest ≡ x ∷ more → e ≡ y + 1 → e + length more ≡ n
+one_less y e n rest more x left front next = let size = ap (λ l. length l) front in omega (arith, left, size, next)
+
+pub loop-teller-preserved : goal.loop-teller-preserved
+loop-teller-preserved g c =
+    let i = c.loop-teller.invariant in
+    let P : Teller g.row.L.Denot → Type 0 = λ t. t.outcomes.items ≡ [] in
+    record {
+      so_far = append_assoc c.loop-teller.yielded (c.in-Some.teller ∷ []) _ ∙ ap (λ l. c.loop-teller.yielded ++ l) (sym c.in-Some.ensures.steps.0) ∙ i.so_far;
+      logs = pushed_map (λ t. t.log) (λ t. t.log) c.loop-teller.turned.items c.push_reserved.new.self.items c.turn_to.new.self c.push_reserved.ensures.items c.in-Some.teller c.turn_to.ensures.log c.loop-teller.yielded i.logs;
+      transfers =
+          moved_map (λ t. t.transfers) (λ e. e.transfers) c.loop-teller.turned.items c.push_reserved.new.self.items c.turn_to.new.self c.push_reserved.ensures.items c.in-Some-next.errand c.turn_to.ensures.transfers _ _ _
+          c.in-Some-next.ensures.items i.transfers;
+      habits =
+          moved_map (λ t. t.habits) (habits_on c.args.first) c.loop-teller.turned.items c.push_reserved.new.self.items c.turn_to.new.self c.push_reserved.ensures.items c.in-Some-next.errand
+          (c.turn_to.ensures.habits ∙ c.habits-habits.ensures) _ _ _ c.in-Some-next.ensures.items i.habits;
+      none =
+          subst (All P) (sym c.push_reserved.ensures.items)
+          (All-append P c.loop-teller.turned.items (c.turn_to.new.self ∷ []) i.none (All-cons P c.turn_to.new.self [] c.turn_to.ensures.none (All-nil P)));
+      as_many = grind (arith, common_steps);
+      left = one_less (length c.loop-teller.yielded) _ _ _ _ c.in-Some-next.errand i.left c.in-Some-next.ensures.items (length-append c.loop-teller.yielded (c.in-Some.teller ∷ []));
+      counted = search rules;
+      all_counted = one_fewer (into_iter_len c.loop-teller.teller-iterator) _ _ _ c.in-Some.teller c.in-Some.ensures.steps.0 c.in-Some.ensures.steps.1 i.all_counted;
+      room = search rules;
+    }
+
+pub returns : goal.returns
+returns g c =
+    let i = c.loop-teller.invariant in
+    let none : into_iter_items c.loop-teller.teller-iterator ≡ [] =
+    none_of (into_iter_items c.loop-teller.teller-iterator) (sym i.all_counted ∙ c.in-None.ensures.steps.0) in
+    let whole : c.loop-teller.yielded ≡ c.args.tellers.items =
+    sym (append-nil c.loop-teller.yielded) ∙ ap (λ (l : List (Teller g.row.L.Denot)). c.loop-teller.yielded ++ l) (sym none) ∙ i.so_far in
+    let many = ap (λ (l : List (Teller g.row.L.Denot)). length l) whole in
+    let rest : into_iter_items c.loop-teller.errands ≡ [] =
+    none_of (into_iter_items c.loop-teller.errands) (let a = c.requires.as_many in let b = i.left in omega (arith, many, a, b)) in
+    record {
+      logs = i.logs ∙ ap (map (λ t. t.log)) whole;
+      transfers =
+          sym (append-nil (map (λ t. t.transfers) c.loop-teller.turned.items))
+          ∙ ap (λ (l : List Errands). map (λ t. t.transfers) c.loop-teller.turned.items ++ map (λ e. e.transfers) l) (sym rest) ∙ i.transfers;
+      habits =
+          sym (append-nil (map (λ t. t.habits) c.loop-teller.turned.items))
+          ∙ ap (λ (l : List Errands). map (λ t. t.habits) c.loop-teller.turned.items ++ map (habits_on c.args.first) l) (sym rest) ∙ i.habits;
+      none = i.none;
+    }

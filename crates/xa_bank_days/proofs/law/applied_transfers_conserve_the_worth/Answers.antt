@@ -1,0 +1,8 @@
+use Rattle.std.proofs.Common.{sym, subst}
+use Rattle.xa_base.specs.Lists.{IsUpTo}
+use Rattle.xa_bank_days.proofs.Conserved.{conserved}
+use Rattle.xa_bank_days.proofs.law.applied_transfers_conserve_the_worth.Goals as goal
+
+pub returns : goal.returns
+returns g c p tellers es b b' sound opened moved within =
+    conserved p sound es within b.settled b'.settled opened.tables (λ m k up there. moved.balances m k (subst (λ n. IsUpTo n m) (sym opened.stores) up) there)

@@ -1,0 +1,35 @@
+use Rattle.std.proofs.Common.{◌≡◌, None, List, [], ◌∷◌, ◌++◌, subst, sym, ap, ◌∙◌}
+use Rattle.std.specs.Prelude.{IfSome}
+use Rattle.xa_crew.specs.Again.{IsRunAgain}
+use Rattle.xa_bank_days.specs.declared.night.Resolver.{Resolver}
+use Rattle.xa_bank_days.specs.Nights.{IsNight, ResolvesBy}
+use Rattle.xa_bank_days.proofs.Nightly.{night_law, tellers_law}
+use Rattle.xa_bank_days.proofs.night.run_night.Goals as goal
+
+pub returns-in-Some-clause-night : goal.returns-in-Some-clause-night
+returns-in-Some-clause-night g c =
+    let r : Resolver g.row.L.Denot = record { alloc = c.args.alloc; tellers = c.args.tellers; resolved = None } in
+    let run = c.in-Ok-run_clients_again_in_turns.field-0 in
+    let given : c.push_reserved.new.self.items ≡ r ∷ [] =
+    c.push_reserved.ensures.items ∙ ap (λ (l : List (Resolver g.row.L.Denot)). l ++ r ∷ []) c.in-Ok.ensures.items in
+    let ran =
+    subst (λ (rs : List (Resolver g.row.L.Denot)). IsRunAgain (ResolvesBy g.L.DecisionLog.state g.L.DecisionRecords.knows) c.args.settled c.args.again.now rs run.clients.items run.settled) given c.in-Ok-run_clients_again_in_turns.ensures.ran in
+    let is : run.clients.items ≡ c.pop.new.self.items ++ c.in-Some.attended ∷ [] =
+    c.in-Some.ensures.items in
+    subst (λ o. IfSome o (λ z. IsNight g.L.DecisionLog.state g.L.DecisionRecords.knows c.args.tellers.items c.args.settled c.args.again.now z.outcomes.items run.settled)) (ap (λ p. p.1) (sym c.into_parts-tellers.ensures))
+    (night_law g.L.DecisionLog.state g.L.DecisionRecords.knows c.args.settled c.args.again.now r run.clients.items run.settled ran c.requires
+    c.settled_openings_are_whole.ensures c.reopened_openings_go_on_from_what_was_left.ensures c.in-Some.attended c.pop.new.self.items is)
+
+pub returns-in-Some-clause-tellers : goal.returns-in-Some-clause-tellers
+returns-in-Some-clause-tellers g c =
+    let r : Resolver g.row.L.Denot = record { alloc = c.args.alloc; tellers = c.args.tellers; resolved = None } in
+    let run = c.in-Ok-run_clients_again_in_turns.field-0 in
+    let given : c.push_reserved.new.self.items ≡ r ∷ [] =
+    c.push_reserved.ensures.items ∙ ap (λ (l : List (Resolver g.row.L.Denot)). l ++ r ∷ []) c.in-Ok.ensures.items in
+    let ran =
+    subst (λ (rs : List (Resolver g.row.L.Denot)). IsRunAgain (ResolvesBy g.L.DecisionLog.state g.L.DecisionRecords.knows) c.args.settled c.args.again.now rs run.clients.items run.settled) given c.in-Ok-run_clients_again_in_turns.ensures.ran in
+    let is : run.clients.items ≡ c.pop.new.self.items ++ c.in-Some.attended ∷ [] =
+    c.in-Some.ensures.items in
+    ap (λ p. p.0) c.into_parts-tellers.ensures
+    ∙ tellers_law g.L.DecisionLog.state g.L.DecisionRecords.knows c.args.settled c.args.again.now r run.clients.items run.settled ran c.requires
+    c.settled_openings_are_whole.ensures c.reopened_openings_go_on_from_what_was_left.ensures c.in-Some.attended c.pop.new.self.items is

@@ -1,0 +1,128 @@
+-- What tellers did in a settled opening, the night after it, and what the two do to the balances.
+use Rattle.std.specs.Prelude.{◌≡◌, ◌≢◌, ◌⊎◌, ℕ, ◌+◌, ◌^◌, ◌<◌, ◌≤◌, Bool, true, false, None, Some, List, []}
+use Rattle.std.specs.Prelude.{◌∷◌, length}
+use Rattle.std.specs.Prelude.{map, slice_get}
+use Rattle.std.specs.List.{All, flat_map}
+use Rattle.xa_base.specs.declared.limits.TheConstants.{MOST_MANAGERS}
+use Rattle.xa_base.specs.Lists.{IsUpTo}
+use Rattle.xa_words.specs.Xid.{XidName}
+use Rattle.xa_words.specs.Tran.{TranName, tran_of}
+use Rattle.xa_words.specs.declared.code.Code.TheVariants.{RmFail}
+use Rattle.xa_tables.specs.Tables.{Tables, exists, value_of}
+use Rattle.xa_desk.specs.DeskView.{DeskView}
+use Rattle.xa_switch.specs.declared.plan.Again.{Again}
+use Rattle.xa_switch.specs.Again.{last_in, reopening}
+use Rattle.xa_switch.specs.Fates.{first_of, ledgers_of}
+use Rattle.xa_switch.specs.OfPlans.{IsOf}
+use Rattle.xa_switch.specs.Recovery.{IsScanOf}
+use Rattle.xa_switch.specs.Settling.{Settling, IsSettled, find_manager, sent}
+use Rattle.xa_log.specs.Log.{LogState, Records, all_records, record_in}
+use Rattle.xa_atomicity.specs.Conservation.{NothingWasSent}
+use Rattle.xa_atomicity.specs.Cut.{is_recorded}
+use Rattle.xa_atomicity.specs.Resolution.{Continues, IsUseIn, OnlyResolves, ResolveCall, resolves, with_use}
+use Rattle.xa_work.specs.declared.unit.WorkOutcome.{WorkOutcome}
+use Rattle.xa_work.specs.Sent.{HaveSent}
+use Rattle.xa_work.specs.Units.{is_to_commit}
+use Rattle.xa_bank.specs.declared.teller.Teller.{Teller}
+use Rattle.xa_bank.specs.declared.teller.Transfer.{Transfer}
+use Rattle.xa_bank.specs.Tellers.{Works}
+use Rattle.xa_bank.specs.Transfers.{gtrid_of}
+use Rattle.xa_bank_days.specs.Ledger.{Balances}
+
+-- ---- what the tellers were told
+
+-- the transfers that were made, each with whether it was decided to commit
+abbrev pub told : List Transfer → List WorkOutcome → List (Transfer × Bool)
+told (tr ∷ trs) (o ∷ os) = (tr, is_to_commit o) ∷ told trs os
+told trs os = []
+
+-- those of all tellers
+abbrev pub all_told : {L : Type 0} → List (Teller L) → List (Transfer × Bool)
+all_told tellers = flat_map (λ t. told t.transfers.items t.outcomes.items) tellers
+
+-- ---- the day
+
+-- Thread t of a settled opening was this teller's: from a desk that had sent nothing it worked, and the desk's end sent
+-- nothing more.
+pub record WorkedIn {L : Type 0} (state : L → LogState) (knows : L → Type 0) (s : Settling) (t : ℕ) (old new : Teller L)
+    : Type 0 where
+  pub desk : DeskView
+  pub left : DeskView
+  pub thread : desk.thread ≡ t
+  pub nothing : NothingWasSent desk.ledgers
+  pub worked : Works state knows old desk new left
+  pub ended : HaveSent (λ op. ⊥) left.ledgers (ledgers_of s t)
+
+-- the teller at place k had thread k + 1, and no other thread sent anything
+pub record IsDayOf {L : Type 0} (state : L → LogState) (knows : L → Type 0) (s : Settling) (olds news : List (Teller L))
+    : Type 0 where
+  pub settled : IsSettled s
+  pub many : length news ≡ length olds
+  pub each : (k : ℕ) (old new : Teller L) → slice_get olds k ≡ Some old → slice_get news k ≡ Some new
+      → WorkedIn state knows s (k + 1) old new
+  pub others : (t : ℕ) → (t < 1) ⊎ (length olds < t) → (m : ℕ) → sent s t m ≡ []
+
+-- the stores are those up to this number, and this is what each began with
+pub record BeginsWith (s : Settling) (stores : ℕ) (first : ℕ → Tables) : Type 0 where
+  pub few : stores ≤ MOST_MANAGERS
+  pub there : (m : ℕ) → IsUpTo stores m → first_of s m ≡ Some (first m)
+  pub only : (m : ℕ) (T : Tables) → first_of s m ≡ Some T → IsUpTo stores m
+
+-- The teller had made no transfer, counts from number n or later, and keeps its records; it got all memory that it
+-- asked for, and its log is known at the end.
+pub record IsToldAll {L : Type 0} (knows : L → Type 0) (n : ℕ) (old new : Teller L) : Type 0 where
+  pub begins : old.outcomes.items ≡ []
+  pub counts : n ≤ old.habits.first
+  pub keeps : old.habits.forgets ≡ false
+  pub memory : new.wants_memory ≡ false
+  pub known : knows new.log
+
+-- so each of them
+abbrev pub AreToldAll : {L : Type 0} → (L → Type 0) → ℕ → List (Teller L) → List (Teller L) → Type 0
+AreToldAll {L} knows n olds news =
+    (k : ℕ) (old new : Teller L) → slice_get olds k ≡ Some old → slice_get news k ≡ Some new → IsToldAll knows n old new
+
+-- ---- between days
+
+-- the global transaction is thread t's transfer of number n
+pub record IsNamed (t n : ℕ) (gtrid : List ℕ) : Type 0 where
+  pub small : n < 2 ^ 32
+  pub gtrid_ : gtrid ≡ gtrid_of t n
+
+-- what these logs have, read as one
+abbrev pub records_of : {L : Type 0} → (L → LogState) → List L → Records
+records_of state logs = all_records (map (λ log. (state log).records) logs)
+
+-- Before a day whose transfers have numbers from n on: a branch that a store was left with is none of theirs, and no
+-- log has a record of it; and the log of each thread has records of that thread's earlier transfers alone.
+pub record IsDawn {L : Type 0} (state : L → LogState) (stores n : ℕ) (first : ℕ → Tables) (logs : List L) : Type 0 where
+  pub fresh : (m : ℕ) (x : XidName) → IsUpTo stores m → exists (first m) x ≡ true
+      → (t k : ℕ) → 1 ≤ t → t ≤ length logs → IsNamed t k x.gtrid → k < n
+  pub unrecorded : (m : ℕ) (x : XidName) → IsUpTo stores m → exists (first m) x ≡ true
+      → record_in (records_of state logs) (tran_of x) ≡ None
+  pub own : (j : ℕ) (log : L) (tran : TranName) → slice_get logs j ≡ Some log → is_recorded (state log) tran ≡ true
+      → (k : ℕ) × (k < n) × IsNamed (j + 1) k tran.gtrid
+
+-- ---- the night
+
+-- The opening was opened again and settled in turn, and nothing but one resolve by these records named a branch there:
+-- it had the scan of all that was left, and reached each of it.
+pub record IsResolvedBy (records : Records) (s : Settling) (again : Again) (q : ResolveCall) (next : Settling)
+    : Type 0 where
+  pub settled : IsSettled next
+  pub continues : Continues s next
+  pub of_setup : IsOf (reopening s again) next
+  pub made : IsUseIn next (resolves q)
+  pub by_ : q.records ≡ records
+  pub scanned : IsScanOf s q.scan
+  pub only : (t : TranName) → OnlyResolves t (with_use next (resolves q))
+  pub reached : All (λ r. r.code ≢ RmFail) q.outcomes
+
+-- ---- the balances
+
+-- what these tables have, and what a settled opening has in the end
+abbrev pub balances_of : (ℕ → Tables) → Balances
+balances_of first m k = value_of (first m).values k
+
+abbrev pub balances_at : Settling → Balances
+balances_at s m k = value_of (last_in (find_manager m s.managers)).values k

@@ -1,0 +1,225 @@
+-- The bank from day to day: what a day and its night do to it, and what many do.
+use Rattle.std.specs.Prelude.{◌≡◌, ◌+◌, ◌<◌, ◌≤◌, ◌^◌, ◌-◌, ◌%◌, ℕ, Bool, true}
+use Rattle.std.specs.Prelude.{false, MatchOption, min, Option, None, Some, Vec, List, [], ◌∷◌}
+use Rattle.std.specs.Prelude.{◌++◌, length, map, vec_capacity}
+use Rattle.std.specs.List.{All, list_any}
+use Rattle.std.specs.Global.{Global}
+use Rattle.xa_base.specs.Lists.{IsUpTo}
+use Rattle.xa_words.specs.Key.{key_eq}
+use Rattle.xa_words.specs.Tran.{TranName}
+use Rattle.xa_tables.specs.Tables.{is_declared}
+use Rattle.xa_tables.specs.Managers.{opening}
+use Rattle.xa_tables.specs.History.{is_done}
+use Rattle.xa_switch.specs.declared.plan.Again.{Again}
+use Rattle.xa_switch.specs.declared.plan.Plan.{Plan}
+use Rattle.xa_switch.specs.Again.{last_in, managers_in, reopened_at}
+use Rattle.xa_switch.specs.Plans.{numbers_of}
+use Rattle.xa_switch.specs.Settling.{Settling, find_manager}
+use Rattle.xa_switch.specs.Worth.{accounts_of}
+use Rattle.xa_log.specs.Log.{LogState}
+use Rattle.xa_driver.specs.declared.resolved.Outcome.{Outcome}
+use Rattle.xa_crew.specs.Again.{IfUnopened}
+use Rattle.xa_work.specs.declared.unit.WorkOutcome.{WorkOutcome}
+use Rattle.xa_atomicity.specs.Cut.{is_recorded}
+use Rattle.xa_bank.specs.declared.habits.DiesAt.{DiesAt}
+use Rattle.xa_bank.specs.declared.habits.Habits.{Habits}
+use Rattle.xa_bank.specs.declared.habits.ShutsAt.{ShutsAt}
+use Rattle.xa_bank.specs.declared.teller.Teller.{Teller}
+use Rattle.xa_bank.specs.declared.teller.Transfer.{Transfer}
+use Rattle.xa_bank_days.specs.declared.days.Bank.{Bank}
+use Rattle.xa_bank_days.specs.declared.days.Closed.{Closed}
+use Rattle.xa_bank_days.specs.declared.days.Errands.{Errands}
+use Rattle.xa_bank_days.specs.declared.days.Space.{Space}
+use Rattle.xa_bank_days.specs.declared.days.Stop.{Stop}
+use Rattle.xa_bank_days.specs.declared.days.Stop.TheVariants.{BadDay, Day, Night, NoMemory}
+use Rattle.xa_bank_days.specs.declared.days.Worked.{Worked}
+use Rattle.xa_bank_days.specs.Days.{BeginsWith, IsDawn, IsDayOf, balances_at, told}
+use Rattle.xa_bank_days.specs.Ledger.{all_applied}
+use Rattle.xa_bank_days.specs.Nights.{IsNight}
+
+-- ---- a day
+
+-- the number of the transfer at a place of a day, whose first has number n; none has one past the greatest
+abbrev pub number_at : ℕ → ℕ → ℕ
+number_at place n = min (place + n) (2 ^ 64 - 1)
+
+-- the death, and the store that is shut, at such a place
+abbrev pub death_on : ℕ → Option DiesAt → Option DiesAt
+death_on n None = None
+death_on n (Some dies) = Some (record dies { number = number_at dies.number n })
+
+abbrev pub shuts_on : ℕ → Option ShutsAt → Option ShutsAt
+shuts_on n None = None
+shuts_on n (Some shuts) = Some (record shuts { number = number_at shuts.number n })
+
+-- the habits of a teller on its errands, whose first transfer has number n: it keeps its records
+abbrev pub habits_on : ℕ → Errands → Habits
+habits_on n e =
+    record { first = n; death = death_on n e.death; shuts = shuts_on n e.shuts; forgets = false }
+
+-- these are the tellers with their logs, turned to the errands, of which they have made none
+pub record AreTurned {L : Type 0} (n : ℕ) (tellers : List (Teller L)) (errands : List Errands)
+    (turned : List (Teller L)) : Type 0 where
+  pub logs : map (λ t. t.log) turned ≡ map (λ t. t.log) tellers
+  pub transfers : map (λ t. t.transfers) turned ≡ map (λ e. e.transfers) errands
+  pub habits : map (λ t. t.habits) turned ≡ map (habits_on n) errands
+  pub none : All (λ t. t.outcomes.items ≡ []) turned
+
+-- the numbers of the opening after one, with so many threads
+abbrev pub next_numbers : Again → ℕ → Again
+next_numbers n threads = record n { opening = (n.opening + 1) % 2 ^ 64; threads = threads }
+
+-- there is room for what so many tellers come to at so many stores
+pub record HasRoom {L : Type 0} (tellers stores : ℕ) (s : Space L) : Type 0 where
+  pub paces : stores ≤ length s.paces.items
+  pub none : s.off_work.items ≡ []
+  pub off_work : tellers ≤ vec_capacity s.off_work
+  pub no_outcomes : s.outcomes.items ≡ []
+  pub outcomes : tellers ≤ vec_capacity s.outcomes
+
+-- These tellers worked over stores that had been left so, and got all memory that they asked for, unless they want it;
+-- what became of their transfers was told.
+pub record HasWorked {L : Type 0} (state : L → LogState) (knows : L → Type 0) (before : Settling)
+    (turned : List (Teller L)) (w : Worked L) : Type 0 where
+  pub worked : List (Teller L)
+  pub is_day : IsDayOf state knows w.settled turned worked
+  pub begins : BeginsWith w.settled (managers_in before) (reopened_at before.managers)
+  pub stores : managers_in w.settled ≡ managers_in before
+  pub memory : w.wanting ≡ false → All (λ t. t.wants_memory ≡ false) worked
+  pub logs : map (λ t. t.log) w.tellers.items ≡ map (λ t. t.log) worked
+  pub told_ : w.outcomes.items ≡ map (λ t. t.outcomes) worked
+
+-- where it wasn't opened again, it is as it was
+abbrev pub KeepsStores : {L : Type 0} → Settling → Stop L → Type 0
+KeepsStores s (Day fault) = IfUnopened (λ u. u.settled ≡ s) fault
+KeepsStores s stop = ⊥
+
+-- what stopped before anything was done leaves the bank, or its stores
+abbrev pub IsAsItWas : {L : Type 0} → Bank L → Stop L → Type 0
+IsAsItWas b (BadDay b') = b' ≡ b
+IsAsItWas b (NoMemory b') = b' ≡ b
+IsAsItWas b (Day fault) = IfUnopened (λ u. u.settled ≡ b.settled) fault
+IsAsItWas b (Night closed ran) = Unit {0}
+
+-- A day of these errands: the tellers were turned to them and worked, and what became of their transfers was told.
+pub record IsWorkedDay {L : Type 0} (state : L → LogState) (knows : L → Type 0) (b : Bank L) (errands : List Errands)
+    (c : Closed) (b' : Bank L) : Type 0 where
+  pub turned : List (Teller L)
+  pub are_turned : AreTurned b.next b.tellers.items errands turned
+  pub many : length errands < 2 ^ 32
+  pub day : Worked L
+  pub works : HasWorked state knows b.settled turned day
+  pub told_ : c.outcomes ≡ day.outcomes
+  pub tellers : b'.tellers ≡ day.tellers
+  pub later : b.next ≤ b'.next
+  pub next : All (λ e. b.next + length e.transfers.items ≤ b'.next) errands
+
+-- And its night: the tellers got all memory that they asked for, and what was left was resolved by their logs.
+pub record IsKept {L : Type 0} (state : L → LogState) (knows : L → Type 0) (b : Bank L) (errands : List Errands)
+    (c : Closed) (outcomes : List Outcome) (b' : Bank L) : Type 0 where
+  pub is_worked : IsWorkedDay state knows b errands c b'
+  pub open is_worked use *
+  pub wants : day.wanting ≡ false
+  pub numbers : b'.again ≡ next_numbers (next_numbers b.again (length errands)) 1
+  pub night : IsNight state knows day.tellers.items day.settled b'.again outcomes b'.settled
+  pub stores : managers_in b'.settled ≡ managers_in day.settled
+
+-- all is over: what was left is resolved, and each branch of it ended as it was to
+abbrev pub IsOver : Closed → Type 0
+IsOver c = MatchOption c.resolved ⊥ (λ z. All (λ o. is_done o.code ≡ true) z.outcomes.items)
+
+-- so a day that is over
+pub record IsKeptDay {L : Type 0} (state : L → LogState) (knows : L → Type 0) (b : Bank L) (errands : List Errands)
+    (c : Closed) (b' : Bank L) : Type 0 where
+  pub outcomes : List Outcome
+  pub ended : All (λ o. is_done o.code ≡ true) outcomes
+  pub kept : IsKept state knows b errands c outcomes b'
+
+-- these are such days, one after the other, with what each was closed with
+abbrev pub AreKept : {L : Type 0} → (L → LogState) → (L → Type 0) → Bank L → List (Vec Errands Global) → List Closed
+    → Bank L → Type 0
+AreKept state knows b [] [] b' = b' ≡ b
+AreKept state knows b [] (c ∷ cs) b' = ⊥
+AreKept state knows b (d ∷ ds) [] b' = ⊥
+AreKept {L} state knows b (d ∷ ds) (c ∷ cs) b' =
+    (mid : Bank L) × IsKeptDay state knows b d.items c mid × AreKept state knows mid ds cs b'
+
+-- all of these days are over
+pub record AreOver (days : List (Vec Errands Global)) (closed : List Closed) : Type 0 where
+  pub all : length closed ≡ length days
+  pub each : All IsOver closed
+
+-- Days have ended: all of them are over, or one isn't, up to which they are.
+pub data HasEnded {L : Type 0} (state : L → LogState) (knows : L → Type 0) (b : Bank L)
+    (days : List (Vec Errands Global)) (closed : List Closed) (b' : Bank L) : Type 0 where
+  whole : AreKept state knows b days closed b' → HasEnded state knows b days closed b'
+  early : (before : List (Vec Errands Global)) (d : Vec Errands Global) (rest : List (Vec Errands Global))
+      (cs : List Closed) (c : Closed) (mid : Bank L) → days ≡ before ++ d ∷ rest → closed ≡ cs ++ c ∷ []
+      → AreKept state knows b before cs mid → IsWorkedDay state knows mid d.items c b' → (IsOver c → ⊥)
+      → HasEnded state knows b days closed b'
+
+-- Days were stopped so, before one of them or at it, up to which they are over.
+pub record HasStopped {L : Type 0} (state : L → LogState) (knows : L → Type 0) (b : Bank L)
+    (days : List (Vec Errands Global)) (closed : List Closed) (stop : Stop L) : Type 0 where
+  pub before : List (Vec Errands Global)
+  pub rest : List (Vec Errands Global)
+  pub parts : days ≡ before ++ rest
+  pub mid : Bank L
+  pub kept : AreKept state knows b before closed mid
+  pub leaves : IsAsItWas mid stop
+
+-- ---- the balances
+
+-- store m has the account
+abbrev pub has_account : Settling → ℕ → List ℕ → Bool
+has_account s m k = is_declared (last_in (find_manager m s.managers)) k
+
+-- Before a day: what the stores were left with, and what the logs have, is of earlier transfers.
+abbrev pub IsReady : {L : Type 0} → (L → LogState) → Bank L → Type 0
+IsReady state b =
+    IsDawn state (managers_in b.settled) b.next (reopened_at b.settled.managers) (map (λ t. t.log) b.tellers.items)
+
+-- From one to the other these transfers were applied, each whole or not at all: the stores and their accounts are the
+-- same, and each account has what they leave.
+pub record IsMovedBy {L : Type 0} (state : L → LogState) (es : List (Transfer × Bool)) (b b' : Bank L) : Type 0 where
+  pub stores : managers_in b'.settled ≡ managers_in b.settled
+  pub accounts : (m : ℕ) (k : List ℕ) → IsUpTo (managers_in b.settled) m
+      → has_account b'.settled m k ≡ has_account b.settled m k
+  pub balances : (m : ℕ) (k : List ℕ) → IsUpTo (managers_in b.settled) m → has_account b.settled m k ≡ true
+      → balances_at b'.settled m k ≡ all_applied es (balances_at b.settled) m k
+  pub ready : IsReady state b'
+
+-- what was told of a day's transfers, teller by teller
+abbrev pub told_on : List Errands → List (Vec WorkOutcome Global) → List (Transfer × Bool)
+told_on [] oss = []
+told_on (e ∷ es) [] = []
+told_on (e ∷ es) (os ∷ oss) = told e.transfers.items os.items ++ told_on es oss
+
+-- and of those of many days, day by day
+abbrev pub told_over : List (Vec Errands Global) → List Closed → List (Transfer × Bool)
+told_over [] cs = []
+told_over (d ∷ ds) [] = []
+told_over (d ∷ ds) (c ∷ cs) = told_on d.items c.outcomes.items ++ told_over ds cs
+
+-- ---- the first opening
+
+-- each store opens with the accounts of the plan, and no transfer has a number yet
+pub record IsOpenedBank {L : Type 0} (p : Plan) (tellers : List (Teller L)) (b : Bank L) : Type 0 where
+  pub tellers_ : b.tellers.items ≡ tellers
+  pub next : b.next ≡ 0
+  pub numbers : b.again ≡ numbers_of p
+  pub stores : managers_in b.settled ≡ length p.managers.items
+  pub tables : (m : ℕ) → IsUpTo (length p.managers.items) m
+      → last_in (find_manager m b.settled.managers) ≡ opening (accounts_of p m)
+
+-- no log has a record
+abbrev pub HaveNoRecord : {L : Type 0} → (L → LogState) → List (Teller L) → Type 0
+HaveNoRecord {L} state tellers =
+    All (λ (t : Teller L). (tran : TranName) → is_recorded (state t.log) tran ≡ false) tellers
+
+-- both stores of the transfer are stores of the plan that have its account
+pub record IsWithin (p : Plan) (tr : Transfer) : Type 0 where
+  pub from : IsUpTo (length p.managers.items) tr.from
+  pub to : IsUpTo (length p.managers.items) tr.to
+  pub pays : list_any (λ d. key_eq d.0 tr.account) (accounts_of p tr.from) ≡ true
+  pub is_paid : list_any (λ d. key_eq d.0 tr.account) (accounts_of p tr.to) ≡ true

@@ -1,0 +1,4 @@
+pub mod Ledger
+pub mod Days
+pub mod Nights
+pub mod Kept

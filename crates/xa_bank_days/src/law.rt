@@ -1,0 +1,64 @@
+//! A day of the bank and its night, and many of them, against the bank as an abstract machine: laws alone.
+ghost use Rattle.std.specs.Prelude.{◌≡◌, ℕ, ◌+◌, ◌^◌, ◌<◌, ◌≤◌, Bool, true, List, length, map};
+ghost use Rattle.std.specs.List.{All};
+ghost use Rattle.xa_base.specs.Lists.{IsUpTo};
+ghost use Rattle.xa_tables.specs.Tables.{Tables, is_declared};
+ghost use Rattle.xa_tables.specs.History.{is_done};
+ghost use Rattle.xa_switch.specs.declared.plan.Again.{Again};
+ghost use Rattle.xa_switch.specs.declared.plan.Plan.{Plan};
+ghost use Rattle.xa_switch.specs.Again.{reopened_at};
+ghost use Rattle.xa_switch.specs.Plans.{IsSound};
+ghost use Rattle.xa_switch.specs.Settling.{Settling};
+ghost use Rattle.xa_switch.specs.Worth.{plan_worth, settled_worth};
+ghost use Rattle.xa_atomicity.specs.Resolution.{ResolveCall};
+ghost use Rattle.xa_bank.specs.declared.teller.Teller.{Teller};
+ghost use Rattle.xa_bank.specs.declared.teller.Transfer.{Transfer};
+ghost use Rattle.xa_bank_days.specs.declared.days.Bank.{Bank};
+ghost use Rattle.xa_bank_days.specs.Days.{AreToldAll, BeginsWith, IsDawn, IsDayOf, IsResolvedBy, all_told};
+ghost use Rattle.xa_bank_days.specs.Days.{balances_at, balances_of, records_of};
+ghost use Rattle.xa_bank_days.specs.Kept.{HaveNoRecord, IsMovedBy, IsOpenedBank, IsReady, IsWithin};
+ghost use Rattle.xa_bank_days.specs.Ledger.{all_applied};
+
+use xa_atomicity::finished_outcomes_leave_no_branch;
+use xa_days::branches_come_out_by_the_log;
+use xa_log::DecisionLog;
+use xa_log::laws::several_logs_are_read_as_one;
+
+/// Over a day and its night each transfer was applied whole or not at all, as its teller was told: in the end each
+/// account has at each store the balance after all that were applied. Any store may be shut at any time, and any teller
+/// may die in a commit; in the night one resolve, by the logs of all tellers, ends what they left. Where it told XA_OK
+/// of each branch the next day may begin, with any numbers that are past those of the day.
+pub fn a_day_applies_its_transfers<L: DecisionLog>()
+    ensures applied { (s : Settling) (again : Again) (q : ResolveCall) (next : Settling) (olds news : List (Teller L))
+        (stores n : ℕ) (first : ℕ → Tables) (m : ℕ) (account : List ℕ) → IsDayOf L.state L.knows s olds news
+        → BeginsWith s stores first → length olds < 2 ^ 32 → AreToldAll L.knows n olds news
+        → IsDawn L.state stores n first (map (λ t. t.log) olds)
+        → IsResolvedBy (records_of L.state (map (λ t. t.log) news)) s again q next → IsUpTo stores m
+        → is_declared (first m) account ≡ true
+        → balances_at next m account ≡ all_applied (all_told news) (balances_of first) m account }
+    ensures dawn { (s : Settling) (again : Again) (q : ResolveCall) (next : Settling) (olds news : List (Teller L))
+        (stores n later : ℕ) (first : ℕ → Tables) → IsDayOf L.state L.knows s olds news → BeginsWith s stores first
+        → AreToldAll L.knows n olds news → IsDawn L.state stores n first (map (λ t. t.log) olds)
+        → IsResolvedBy (records_of L.state (map (λ t. t.log) news)) s again q next
+        → All (λ r. is_done r.code ≡ true) q.outcomes → n ≤ later
+        → All (λ t. t.habits.first + length t.transfers.items ≤ later) olds
+        → IsDawn L.state stores later (reopened_at next.managers) (map (λ t. t.log) news) }
+{
+    branches_come_out_by_the_log();
+    several_logs_are_read_as_one();
+    finished_outcomes_leave_no_branch();
+}
+
+/// A bank that was opened for a plan, whose tellers' logs have no record, is ready for its first day.
+pub fn opened_banks_are_ready<L: DecisionLog>()
+    ensures { (p : Plan) (tellers : List (Teller L)) (b : Bank L) → IsOpenedBank p tellers b
+        → HaveNoRecord L.state tellers → IsReady L.state b }
+{}
+
+/// Whatever transfers were applied since a bank was opened for a plan, as long as both stores of each have its account:
+/// all accounts are together worth what the plan declares.
+pub fn applied_transfers_conserve_the_worth<L: DecisionLog>()
+    ensures { (p : Plan) (tellers : List (Teller L)) (es : List (Transfer × Bool)) (b b' : Bank L) → IsSound p
+        → IsOpenedBank p tellers b → IsMovedBy L.state es b b' → All (λ e. IsWithin p e.0) es
+        → settled_worth p b'.settled ≡ plan_worth p }
+{}

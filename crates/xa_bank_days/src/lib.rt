@@ -1,0 +1,13 @@
+//! The bank over days: each day's tellers move money, a store may be shut and a teller may die at any moment, and in
+//! the night what was left in doubt is resolved by the logs of all tellers.
+#![tactic(auto)]
+
+mod days;
+mod law;
+mod night;
+
+pub use days::{Bank, Closed, Days, Errands, Idler, Stop, run_days};
+pub use law::{
+    a_day_applies_its_transfers, applied_transfers_conserve_the_worth, opened_banks_are_ready,
+};
+pub use night::{Night, Resolver, run_night};

@@ -1,0 +1,273 @@
+-- The law: a branch whose work one thread did holds of each account what that thread added to it.
+use Rattle.std.specs.Prelude.{◌≡◌, ◌≢◌, ℕ, ◌+◌, ◌==◌, ℤ, pos, ◌+ℤ◌, true, false, Bool, cond, not, if◌then◌else◌, Option, None, Some, is_some, unwrap_or, List}
+use Rattle.std.specs.Prelude.{[], ◌∷◌, ◌++◌, refl}
+use Rattle.std.proofs.Common.{sym, ap, ◌∙◌, option_map}
+use Rattle.std.specs.List.{All}
+use Rattle.std.proofs.lemmas.Bool.{eqb-true, eqb-false}
+use Rattle.std.specs.Ordering.{nat_cmp}
+use Rattle.std.specs.Cmp.{nat_cmp_total}
+use Rattle.std.specs.FinMap as map
+use Rattle.std.specs.FinMap.{FinMap, get-empty, get-insert, get-remove, nat_cmp-IsAntisymmetric}
+use Rattle.std.proofs.lemmas.List.Elements.{All-nil, All-cons, All-head, All-tail, All-append, All-weaker}
+use Rattle.std.proofs.Math.IntN.{+ℤ_idl as none_plus, +ℤ_idr as plus_none}
+use Rattle.xa_words.specs.Xid.{XidName, xid_eq}
+use Rattle.xa_words.specs.Key.{key_eq}
+use Rattle.xa_words.specs.Orders.{Decides-xid_eq, Decides-key_eq}
+use Rattle.xa_words.specs.declared.code.Code.{Code}
+use Rattle.xa_words.specs.declared.code.Code.TheVariants.{Done, RdOnly}
+use Rattle.xa_words.specs.declared.request.Op.{Op}
+use Rattle.xa_words.specs.declared.request.Op.TheVariants.{Start, Add, End, Prepare}
+use Rattle.xa_words.specs.declared.request.StartHow.TheVariants.{Fresh}
+use Rattle.xa_words.specs.declared.request.EndHow.TheVariants.{Success}
+use Rattle.xa_words.specs.declared.request.Request.{Request}
+use Rattle.xa_tables.specs.declared.state.Association.{Association}
+use Rattle.xa_tables.specs.declared.state.AssociationState.TheVariants.{Associated}
+use Rattle.xa_tables.specs.declared.state.State.{State}
+use Rattle.xa_tables.specs.Tables.{Tables, association_of, has_association, has_opened, exists, is_S3, is_prepared, is_association_with}
+use Rattle.xa_tables.specs.Tables.{is_associated}
+use Rattle.xa_tables.specs.Tables.{is_somebody_associated, is_at_work, is_declared, is_rollback_only, has_other_touched, branch_in, branch_of, reason_of}
+use Rattle.xa_tables.specs.Tables.{state_of, sum_of}
+use Rattle.xa_tables.specs.Next.{Answer, next, association, added}
+use Rattle.xa_tables.specs.History.{History, EndsNowhere, Live, coded, tables_after, fate_of, ending, is_rolled_back}
+use Rattle.xa_tables.specs.Openings.{IsOpening}
+use Rattle.xa_tables.specs.Prepared.{names}
+use Rattle.xa_tables.specs.Worth.{held_by}
+use Rattle.xa_tables.specs.Work.{request, LeavesAtWork, DoesWork}
+use Rattle.xa_base.proofs.Truth.{at_false, by_if, tied_true, tied_false}
+use Rattle.xa_base.proofs.FinMaps.{none_pass}
+use Rattle.xa_tables.proofs.AccountLemmas.{touch_cmp_total, touch_self}
+use Rattle.xa_tables.proofs.AddedLaw.{added_law}
+use Rattle.xa_tables.proofs.Effects.{Effect, Starts, Joins, Resumes, Suspends, Leaves, Fails, Idles, effect_of, reason_rolls_back}
+use Rattle.xa_tables.proofs.Law.{swap_xid}
+use Rattle.xa_tables.proofs.Moves.{Moves, Still, Ended, Added, moves_of, quiet_named}
+use Rattle.xa_tables.proofs.Unnamed.{apart_from, unnamed_fate, unnamed_on, tables_after-append}
+use Rattle.xa_tables.proofs.ValueLaw.{get_without, get_added}
+use Rattle.xa_tables.proofs.WorkLaw.{others_first}
+
+-- ---- associations
+
+abbrev Associations : Type 0
+Associations = FinMap nat_cmp Association
+
+other_put : (m : Associations) (t u : ℕ) (l : Association) → u ≢ t → map.get (map.insert m t l) u ≡ map.get m u
+other_put m t u l apart = get-insert nat_cmp_total m t l u ∙ at_false _ (Some l) (map.get m u) (tied_false u t apart)
+
+other_removed : (m : Associations) (t u : ℕ) → u ≢ t → map.get (map.remove m t) u ≡ map.get m u
+other_removed m t u apart = get-remove nat_cmp_total m t u ∙ at_false _ None (map.get m u) (tied_false u t apart)
+
+own_put : (m : Associations) (t : ℕ) (l : Association) → map.get (map.insert m t l) t ≡ Some l
+own_put m t l = get-insert nat_cmp_total m t l t ∙ ap (λ b. cond b (Some l) (map.get m t)) (tied_true t t refl)
+
+own_removed : (m : Associations) (t : ℕ) → map.get (map.remove m t) t ≡ None
+own_removed m t = get-remove nat_cmp_total m t t ∙ ap (λ b. cond b None (map.get m t)) (tied_true t t refl)
+
+module _ (t : ℕ) (T : Tables) where
+  -- a request leaves the associations of the other threads
+  others_by : (u : ℕ) → u ≢ t → {op : Op} {a : Answer} → Effect t T op a → association_of a.0 u ≡ association_of T u
+  others_by u apart (Starts y free) = other_put T.associations t u _ apart
+  others_by u apart (Joins y free there unprepared) = other_put T.associations t u _ apart
+  others_by u apart (Resumes y own) = other_put T.associations t u _ apart
+  others_by u apart (Suspends y own) = other_put T.associations t u _ apart
+  others_by u apart (Leaves y how c own why) = other_removed T.associations t u apart
+  others_by u apart (Fails y own) = other_removed T.associations t u apart
+  others_by u apart (Idles y own alone) = other_removed T.associations t u apart
+  others_by u apart effect = refl
+
+  -- and its thread becomes associated with no branch that it doesn't name
+  stays_apart : (x : XidName) {op : Op} {a : Answer} → Effect t T op a → names x op ≡ false → is_associated T t x ≡ false → is_associated a.0 t x ≡ false
+  stays_apart x (Starts y free) n h = ap (λ o. is_association_with o x) (own_put T.associations t _) ∙ n
+  stays_apart x (Joins y free there unprepared) n h = ap (λ o. is_association_with o x) (own_put T.associations t _) ∙ n
+  stays_apart x (Resumes y own) n h = ap (λ o. is_association_with o x) (own_put T.associations t _) ∙ n
+  stays_apart x (Suspends y own) n h = ap (λ o. is_association_with o x) (own_put T.associations t _) ∙ n
+  stays_apart x (Leaves y how c own why) n h = ap (λ o. is_association_with o x) (own_removed T.associations t)
+  stays_apart x (Fails y own) n h = ap (λ o. is_association_with o x) (own_removed T.associations t)
+  stays_apart x (Idles y own alone) n h = ap (λ o. is_association_with o x) (own_removed T.associations t)
+  stays_apart x effect n h = h
+
+-- ---- sums
+
+-- the sum of x of each account is what it was
+abbrev SameSums : XidName → Tables → Tables → Type 0
+SameSums x T T' = (j : List ℕ) → map.get T'.sums (x, j) ≡ map.get T.sums (x, j)
+
+-- a request that ends y doesn't end x, and so x isn't y
+not_ended : (x y : XidName) (b : Bool) → (if xid_eq y x then Some b else None) ≡ None → xid_eq x y ≡ false
+not_ended x y b none =
+    swap_xid x y ∙ elim (xid_eq y x) as (λ c. (if c then Some b else None) ≡ None → c ≡ false) [ true ↦ λ n. cc | false ↦ λ n. refl ] none
+
+-- a request that doesn't end x leaves its sums, unless it adds for it
+leaves_sums : (x : XidName) (T : Tables) {l : Option Association} {op : Op} {a : Answer} → Moves T l op a → ending (fate_of x op a.1) ≡ None
+    → ((k : List ℕ) (d : ℤ) → op ≡ Add k d → is_association_with l x ≡ false) → SameSums x T a.0
+leaves_sums x T (Still l op a sums values shares moved endings) n quiet j = ap (λ m. map.get m (x, j)) sums
+leaves_sums x T (Ended l op a y commits sums values shares moved endings) n quiet j =
+    ap (λ m. map.get m (x, j)) sums ∙ get_without T.sums y x j ∙ at_false (xid_eq x y) None _ (not_ended x y commits (sym (endings x) ∙ n))
+leaves_sums x T (Added own d l known alone) n quiet j =
+    get_added T.sums l.xid x own j _ (λ same _.
+    let is : xid_eq l.xid x ≡ true = (Decides-xid_eq l.xid x).1 (sym same) in
+    let isnt : xid_eq l.xid x ≡ false = quiet own d refl in
+    cc)
+
+-- ---- the requests of others
+
+-- no thread but t is associated with x
+abbrev OnlyOne : ℕ → XidName → Tables → Type 0
+OnlyOne t x T = (u : ℕ) → u ≢ t → is_associated T u x ≡ false
+
+-- what others ask for leaves t at its work
+record LeftAtWork (t : ℕ) (x : XidName) (T T' : Tables) : Type 0 where
+  sums : SameSums x T T'
+  only : OnlyOne t x T'
+  own : association_of T' t ≡ association_of T t
+
+one_left : (t : ℕ) (x : XidName) (r : Request) (T : Tables) → r.thread ≢ t → names x r.op ≡ false → OnlyOne t x T → LeftAtWork t x T (next r.thread r.op T).0
+one_left t x r T apart n only =
+    let u : ℕ = r.thread in
+    let U : Tables = (next u r.op T).0 in
+    record {
+      sums = leaves_sums x T (moves_of u r.op T) (ap ending (unnamed_fate x r.op (next u r.op T).1 n)) (λ k d is. only u apart);
+      only = λ w other. elim (w == u) as (λ b. (w == u) ≡ b → is_associated U w x ≡ false) [
+        | true ↦ λ e. ap (λ v. is_associated U v x) (eqb-true w u e) ∙ stays_apart u T x (effect_of u r.op T) n (only u apart)
+        | false ↦ λ e. ap (λ o. is_association_with o x) (others_by u T w (eqb-false w u e) (effect_of u r.op T)) ∙ only w other
+      ] refl;
+      own = others_by u T t (λ e. apart (sym e)) (effect_of u r.op T);
+    }
+
+left_at_work : (t : ℕ) (x : XidName) (h : History) (T : Tables) → OnlyOne t x T → LeavesAtWork t x h → LeftAtWork t x T (tables_after h T)
+left_at_work t x [] T only leaves = record { sums = λ j. refl; only = only; own = refl }
+left_at_work t x (r ∷ h) T only leaves =
+    let P : Request → Type 0 = λ q. names x q.op ≡ false in
+    let others = others_first t r h leaves.quiet in
+    let one = one_left t x r T others.0 (All-head P r h leaves.unnamed) only in
+    let rest = left_at_work t x h (next r.thread r.op T).0 one.only (record { unnamed = All-tail P r h leaves.unnamed; quiet = others.1 }) in
+    record { sums = λ j. rest.sums j ∙ one.sums j; only = rest.only; own = rest.own ∙ one.own }
+
+-- ---- the requests of t
+
+own_request : (t : ℕ) (x : XidName) (op : Op) (T : Tables) → OnlyOne t x T → OnlyOne t x (next t op T).0
+own_request t x op T only u other = ap (λ o. is_association_with o x) (others_by t T u other (effect_of t op T)) ∙ only u other
+
+-- t began x, which wasn't there
+record HasBegun (t : ℕ) (x : XidName) (T T' : Tables) : Type 0 where
+  absent : exists T x ≡ false
+  own : association_of T' t ≡ Some (association x Associated)
+
+begun_with : (t : ℕ) (x : XidName) (T : Tables) → (next t (Start x Fresh) T).1 ≡ Done → HasBegun t x T (next t (Start x Fresh) T).0
+unfolding next
+begun_with t x T =
+    let P : Answer → Type 0 = λ a. a.1 ≡ Done → HasBegun t x T a.0 in
+    by_if P (T.shut) _ _ (λ _ e. cc) (λ _.
+    by_if P (not (has_opened T t)) _ _ (λ _ e. cc) (λ _.
+    by_if P (has_association T t) _ _ (λ _ e. cc) (λ _.
+    by_if P (exists T x) _ _ (λ _ e. cc) (λ none e. record { absent = none; own = own_put T.associations t (association x Associated) }))))
+
+-- what it holds of each account once d is added to one of them, where it held nothing
+put_alone : (x : XidName) (k : List ℕ) (d : ℤ) (T : Tables) → ((j : List ℕ) → map.get T.sums (x, j) ≡ None) → (j : List ℕ)
+    → sum_of (added x k d T).sums x j ≡ (if key_eq j k then d else pos 0)
+put_alone x k d T none j =
+    let v : ℤ = sum_of T.sums x k +ℤ d in
+    let is : v ≡ d = ap (λ o. unwrap_or o (pos 0) +ℤ d) (none k) ∙ none_plus d in
+    elim (key_eq j k) as (λ b. key_eq j k ≡ b → sum_of (added x k d T).sums x j ≡ (if b then d else pos 0)) [
+      | true ↦ λ e.
+          ap (λ l. sum_of (added x k d T).sums x l) ((Decides-key_eq j k).0 e)
+          ∙ ap (λ o. unwrap_or o (pos 0)) (get-insert touch_cmp_total T.sums (x, k) v (x, k) ∙ ap (λ b. cond b (Some v) (map.get T.sums (x, k))) (touch_self (x, k)))
+          ∙ is
+      | false ↦ λ e.
+          ap (λ o. unwrap_or o (pos 0)) (get_added T.sums x x k j v (λ _ same. let z : key_eq j k ≡ true = (Decides-key_eq j k).1 same in cc) ∙ none j)
+    ] refl
+
+not_done : (T : Tables) (y : XidName) → is_rollback_only T y ≡ true → reason_of T y ≡ Done → ⊥
+not_done T y back e = let z : is_rolled_back Done ≡ true = ap is_rolled_back (sym e) ∙ reason_rolls_back (state_of T y) back in cc
+
+added_alone : (t : ℕ) (x : XidName) (k : List ℕ) (d : ℤ) (T : Tables) → branch_of T t ≡ x → ((j : List ℕ) → map.get T.sums (x, j) ≡ None)
+    → (next t (Add k d) T).1 ≡ Done → (j : List ℕ) → sum_of (next t (Add k d) T).0.sums x j ≡ (if key_eq j k then d else pos 0)
+unfolding next
+added_alone t x k d T own none =
+    let P : Answer → Type 0 = λ a. a.1 ≡ Done → (j : List ℕ) → sum_of a.0.sums x j ≡ (if key_eq j k then d else pos 0) in
+    by_if P (T.shut) _ _ (λ _ e. cc) (λ _.
+    by_if P (not (has_opened T t)) _ _ (λ _ e. cc) (λ _.
+    by_if P (not (is_at_work T t)) _ _ (λ _ e. cc) (λ _.
+    by_if P (not (is_declared T k)) _ _ (λ _ e. cc) (λ _.
+    by_if P (is_rollback_only T (branch_of T t)) _ _ (λ reason e. absurd (not_done T (branch_of T t) reason e)) (λ _.
+    by_if P (has_other_touched T.sums (branch_of T t) k) _ _ (λ _ e. cc) (λ _ e j.
+    ap (λ y. sum_of (added y k d T).sums x j) own ∙ put_alone x k d T none j))))))
+
+-- ---- the work
+
+nobody_is : (x : XidName) (T : Tables) → is_somebody_associated T.associations x ≡ false → (u : ℕ) → is_associated T u x ≡ false
+nobody_is x T nobody u =
+    elim (association_of T u) as (λ o. association_of T u ≡ o → is_association_with o x ≡ false) [ None ↦ λ e. refl | Some l ↦ λ e. apart_from x T.associations nobody u l e ] refl
+
+pub opening_free : (x : XidName) (T : Tables) → IsOpening T → is_somebody_associated T.associations x ≡ false
+opening_free x T o =
+    ap (λ m. is_somebody_associated m x) o.associations
+    ∙ none_pass nat_cmp_total nat_cmp-IsAntisymmetric (λ u l. xid_eq l.xid x) map.empty (λ u l found. let z : None ≡ Some l = sym (get-empty nat_cmp u) ∙ found in cc)
+
+absent_unprepared : (o : Option State) → is_some o ≡ false → is_S3 o ≡ false
+absent_unprepared None e = refl
+absent_unprepared (Some s) e = cc
+
+pub work_held : (t n : ℕ) (x : XidName) (k : List ℕ) (d : ℤ) (h : History) (T : Tables) → DoesWork t n x k d T h → IsOpening T → (j : List ℕ) (v : ℕ)
+    → held_by ((j, v) ∷ []) x (tables_after h T) ≡ (if key_eq j k then d else pos 0)
+work_held t n x k d h T w opened j v =
+    let T1 : Tables = tables_after w.before T in
+    let T2 : Tables = (next t (Start x Fresh) T1).0 in
+    let T3 : Tables = tables_after w.begun T2 in
+    let T4 : Tables = (next t (Add k d) T3).0 in
+    let T5 : Tables = tables_after w.added T4 in
+    let T6 : Tables = (next t (End x Success) T5).0 in
+    let first = unnamed_on w.before x T (opening_free x T opened) w.unnamed in
+    let only1 : OnlyOne t x T1 = λ u apart. nobody_is x T1 first.apart u in
+    let begins = begun_with t x T1 w.starts in
+    let unprepared : is_prepared T x ≡ false = absent_unprepared (state_of T x) (ap is_some (sym first.state) ∙ begins.absent) in
+    let quiet : ending (fate_of x (Start x Fresh) (next t (Start x Fresh) T1).1) ≡ None =
+    ap (λ c. ending (fate_of x (Start x Fresh) c)) w.starts ∙ quiet_named x x (Some Live) refl in
+    let started : SameSums x T1 T2 = leaves_sums x T1 (moves_of t (Start x Fresh) T1) quiet (λ l e is. cc) in
+    let begun = left_at_work t x w.begun T2 (own_request t x (Start x Fresh) T1 only1) w.at_work in
+    let none : (l : List ℕ) → map.get T3.sums (x, l) ≡ None = λ l. begun.sums l ∙ started l ∙ first.sums l ∙ opened.sums x l unprepared in
+    let own : branch_of T3 t ≡ x = ap branch_in (begun.own ∙ begins.own) in
+    let ending_work = left_at_work t x w.added T4 (own_request t x (Add k d) T3 begun.only) w.ending in
+    let ends : SameSums x T5 T6 = leaves_sums x T5 (moves_of t (End x Success) T5) refl (λ l e is. cc) in
+    let done = left_at_work t x w.after T6 (own_request t x (End x Success) T5 ending_work.only) w.ended in
+    let rest3 : History = request t (n + 2) (End x Success) ∷ w.after in
+    let rest2 : History = request t (n + 1) (Add k d) ∷ (w.added ++ rest3) in
+    let rest1 : History = request t n (Start x Fresh) ∷ (w.begun ++ rest2) in
+    let last : tables_after h T ≡ tables_after w.after T6 =
+    ap (λ g. tables_after g T) w.place ∙ tables_after-append w.before rest1 T ∙ tables_after-append w.begun rest2 T2 ∙ tables_after-append w.added rest3 T4 in
+    ap (held_by ((j, v) ∷ []) x) last ∙ plus_none _
+    ∙ ap (λ o. unwrap_or o (pos 0)) (done.sums j ∙ ends j ∙ ending_work.sums j)
+    ∙ added_alone t x k d T3 own none w.adds j
+
+-- ---- its vote
+
+ends_nowhere : (x : XidName) (h : History) (T : Tables) → All (λ r. (c : Code) → ending (fate_of x r.op c) ≡ None) h → EndsNowhere x h T
+ends_nowhere x [] T all = All-nil (λ (e : Request × Code). ending (fate_of x e.0.op e.1) ≡ None)
+ends_nowhere x (r ∷ h) T all =
+    let P : Request → Type 0 = λ q. (c : Code) → ending (fate_of x q.op c) ≡ None in
+    All-cons (λ (e : Request × Code). ending (fate_of x e.0.op e.1) ≡ None) (r, (next r.thread r.op T).1) (coded h (next r.thread r.op T).0)
+    (All-head P r h all (next r.thread r.op T).1) (ends_nowhere x h (next r.thread r.op T).0 (All-tail P r h all))
+
+-- it isn't read only
+pub work_never_reads : (t n u : ℕ) (x : XidName) (k : List ℕ) (d : ℤ) (h : History) (T : Tables) → DoesWork t n x k d T h → IsOpening T
+    → (next u (Prepare x) (tables_after h T)).1 ≡ RdOnly → ⊥
+work_never_reads t n u x k d h T w opened e =
+    let T1 : Tables = tables_after w.before T in
+    let T2 : Tables = (next t (Start x Fresh) T1).0 in
+    let T3 : Tables = tables_after w.begun T2 in
+    let T4 : Tables = (next t (Add k d) T3).0 in
+    let first = unnamed_on w.before x T (opening_free x T opened) w.unnamed in
+    let only1 : OnlyOne t x T1 = λ v apart. nobody_is x T1 first.apart v in
+    let begins = begun_with t x T1 w.starts in
+    let begun = left_at_work t x w.begun T2 (own_request t x (Start x Fresh) T1 only1) w.at_work in
+    let ends : Request = request t (n + 2) (End x Success) in
+    let rest3 : History = ends ∷ w.after in
+    let rest2 : History = request t (n + 1) (Add k d) ∷ (w.added ++ rest3) in
+    let rest1 : History = request t n (Start x Fresh) ∷ (w.begun ++ rest2) in
+    let last : tables_after h T ≡ tables_after (w.added ++ rest3) T4 =
+    ap (λ g. tables_after g T) w.place ∙ tables_after-append w.before rest1 T ∙ tables_after-append w.begun rest2 T2 in
+    let P : Request → Type 0 = λ q. (c : Code) → ending (fate_of x q.op c) ≡ None in
+    let unnamed : (q : Request) → names x q.op ≡ false → P q = λ q m c. ap ending (unnamed_fate x q.op c m) in
+    let none : All P (w.added ++ rest3) =
+    All-append P w.added rest3 (All-weaker (λ (q : Request). names x q.op ≡ false) P unnamed w.added w.ending.unnamed)
+    (All-cons P ends w.after (λ c. refl) (All-weaker (λ (q : Request). names x q.op ≡ false) P unnamed w.after w.ended.unnamed)) in
+    added_law u t (Add k d) x k d (w.added ++ rest3) T3 refl (ap (option_map (λ (a : Association). a.xid)) (begun.own ∙ begins.own)) w.adds
+    (ends_nowhere x (w.added ++ rest3) T4 none) (ap (λ U. (next u (Prepare x) U).1) (sym last) ∙ e)

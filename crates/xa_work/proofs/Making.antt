@@ -1,0 +1,250 @@
+-- How the requests of a unit of work are made, one more after those before.
+use Rattle.std.proofs.Common.{◌≡◌, ◌≢◌, ℕ, suc, drop-cons, ◌+◌, ◌<◌, ◌≤◌, Bool, true, false, ◌&&◌, ◌==◌, cond, List, [], ◌∷◌, ◌++◌, length, map}
+use Rattle.std.proofs.Common.{take, drop, subst}
+use Rattle.std.proofs.Common.{append_assoc, length-append, arith, eq-eqb, sym, refl, ap, ◌∙◌}
+use Rattle.std.specs.Prelude.{slice_index_or}
+use Rattle.std.specs.List.{list_all, range_with_len}
+use Rattle.std.proofs.lemmas.Bool.{ne_eqb}
+use Rattle.std.proofs.lemmas.List.{append-nil, length-map, map-append, take_all, take-append-drop}
+use Rattle.std.proofs.lemmas.List.Elements.{filter-append}
+use Rattle.std.proofs.lemmas.List.Folds.{list_all-append}
+use Rattle.xa_base.specs.Lists.{Chain}
+use Rattle.xa_base.specs.Lists.Chain.{none, more}
+use Rattle.xa_base.proofs.Lists.{flat_push, one_more, range_more}
+use Rattle.xa_words.specs.declared.request.Op.{Op}
+use Rattle.xa_words.specs.declared.request.Op.TheVariants.{Add, End, OpenRm, Start}
+use Rattle.xa_words.specs.declared.request.StartHow.TheVariants.{Fresh}
+use Rattle.xa_words.specs.declared.request.EndHow.TheVariants.{Success}
+use Rattle.xa_desk.specs.DeskView.{DeskView}
+use Rattle.xa_driver.specs.declared.branch.Branch.{Branch}
+use Rattle.xa_work.specs.declared.in_flight.Flight.{Flight}
+use Rattle.xa_work.specs.declared.unit.Change.{Change}
+use Rattle.xa_work.specs.Requests.{CallsOp, CollectsOp, PutsAtLast}
+use Rattle.xa_work.specs.Works.{Called, CallsOps, OpensAt, CollectsAll, Got, Put, PutsRequests, changes_at, ops_of, requests_at, requests_of, steps_in}
+
+and_true : (a : Bool) → a ≡ (a && true)
+and_true true = refl
+and_true false = refl
+
+-- where all so far and one more are
+all_more : {X : Type 0} (p : X → Bool) (xs : List X) (x : X) (ok : Bool) → ok ≡ list_all p xs → (ok && p x) ≡ list_all p (xs ++ x ∷ [])
+all_more p xs x ok is = (λ i. is i && and_true (p x) i) ∙ sym (list_all-append p xs (x ∷ []))
+
+-- ---- the first of a list
+
+-- the first and one more, where one step more was made
+pub chain_more : {X A : Type 0} (R : X → A → A → Type 0) (xs : List X) (i : ℕ) (x : X) (first now last : A) → i < length xs → x ≡ slice_index_or xs i x
+    → Chain R first (take i xs) now → R x now last → Chain R first (take (i + 1) xs) last
+chain_more R xs i x first now last below is before step =
+    subst (λ l. Chain R first l last) (sym (one_more xs i x below is)) (more (take i xs) x now last before step)
+
+-- the first are all
+pub chain_all : {X A : Type 0} (R : X → A → A → Type 0) (xs : List X) (i : ℕ) (first last : A) → length xs ≤ i → Chain R first (take i xs) last
+    → Chain R first xs last
+chain_all R xs i first last past before = subst (λ l. Chain R first l last) (take_all i xs past) before
+
+-- the first, one more, and the others
+pub parted : {X : Type 0} (xs : List X) (i : ℕ) (x : X) → i < length xs → x ≡ slice_index_or xs i x → xs ≡ take i xs ++ x ∷ drop (i + 1) xs
+parted xs i x below is =
+    sym (take-append-drop (i + 1) xs) ∙ ap (λ l. l ++ drop (i + 1) xs) (one_more xs i x below is) ∙ append_assoc (take i xs) (x ∷ []) (drop (i + 1) xs)
+
+-- the steps of one list, and then those of another
+pub chain_append : {X A : Type 0} (R : X → A → A → Type 0) (first : A) (xs : List X) (mid : A) (ys : List X) (last : A) → Chain R first xs mid
+    → Chain R mid ys last
+    → Chain R first (xs ++ ys) last
+chain_append R first xs mid ys last before (none zs z e f) =
+    subst (λ l. Chain R first (xs ++ l) last) (sym e)
+    (subst (λ a. Chain R first (xs ++ []) a) (sym f) (subst (λ l. Chain R first l mid) (sym (append-nil xs)) before))
+chain_append R first xs mid ys last before (more zs z now a rest step) =
+    subst (λ l. Chain R first l last) (append_assoc xs zs (z ∷ [])) (more (xs ++ zs) z now last (chain_append R first xs mid zs now before rest) step)
+
+-- what is left, and its first
+pub at_drop : {X : Type 0} (xs : List X) (i : ℕ) (x : X) → i < length xs → x ≡ slice_index_or xs i x → drop i xs ≡ x ∷ drop (i + 1) xs
+at_drop xs i x below is =
+    let next_one : suc i ≡ i + 1 = omega arith in
+    drop-cons xs i x below ∙ ap (λ y. y ∷ drop (suc i) xs) (sym is) ∙ ap (λ n. x ∷ drop n xs) next_one
+
+-- ---- in turn
+
+pub calls_none : (m : ℕ) (d : DeskView) → CallsOps m [] true d d
+calls_none m d = record { calls = []; ops_are = refl; each = none [] d refl refl; all = refl }
+
+pub calls_more : (m : ℕ) (ops : List Op) (o : Op) (ok one : Bool) (old mid new : DeskView) → CallsOps m ops ok old mid → CallsOp m o one mid new
+    → CallsOps m (ops ++ o ∷ []) (ok && one) old new
+calls_more m ops o ok one old mid new x is =
+    let c : Called = record { op = o; ok = one } in
+    record {
+      calls = x.calls ++ c ∷ [];
+      ops_are = map-append (λ (y : Called). y.op) x.calls (c ∷ []) ∙ ap (λ l. l ++ o ∷ []) x.ops_are;
+      each = more x.calls c mid new x.each is;
+      all = all_more (λ (y : Called). y.ok) x.calls c ok x.all;
+    }
+
+-- ---- in flight
+
+pub puts_none : (d : DeskView) → PutsRequests [] [] d d
+puts_none d = record { puts = []; wanted_are = refl; flights_are = refl; each = none [] d refl refl }
+
+pub puts_more : (wanted : List (ℕ × Op)) (flights : List Flight) (o : Op) (f : Flight) (old mid new : DeskView) → PutsRequests wanted flights old mid
+    → PutsAtLast f.manager o f.handle mid new → PutsRequests (wanted ++ (f.manager, o) ∷ []) (flights ++ f ∷ []) old new
+puts_more wanted flights o f old mid new x is =
+    let p : Put = record { op = o; flight = f } in
+    record {
+      puts = x.puts ++ p ∷ [];
+      wanted_are = map-append (λ (y : Put). (y.flight.manager, y.op)) x.puts (p ∷ []) ∙ ap (λ l. l ++ (f.manager, o) ∷ []) x.wanted_are;
+      flights_are = map-append (λ (y : Put). y.flight) x.puts (p ∷ []) ∙ ap (λ l. l ++ f ∷ []) x.flights_are;
+      each = more x.puts p mid new x.each is;
+    }
+
+pub collects_none : (d : DeskView) → CollectsAll [] true d d
+collects_none d = record { gots = []; flights_are = refl; each = none [] d refl refl; all = refl }
+
+pub collects_more : (flights : List Flight) (f : Flight) (ok one : Bool) (old mid new : DeskView) → CollectsAll flights ok old mid
+    → CollectsOp f.manager f.handle one mid new → CollectsAll (flights ++ f ∷ []) (ok && one) old new
+collects_more flights f ok one old mid new x is =
+    let g : Got = record { flight = f; ok = one } in
+    record {
+      gots = x.gots ++ g ∷ [];
+      flights_are = map-append (λ (y : Got). y.flight) x.gots (g ∷ []) ∙ ap (λ l. l ++ f ∷ []) x.flights_are;
+      each = more x.gots g mid new x.each is;
+      all = all_more (λ (y : Got). y.ok) x.gots g ok x.all;
+    }
+
+-- ---- the changes at a manager, one more
+
+pub change_here : (cs : List Change) (c : Change) (m : ℕ) → (c.m == m) ≡ true → changes_at (cs ++ c ∷ []) m ≡ changes_at cs m ++ c ∷ []
+change_here cs c m e = filter-append (λ (x : Change). x.m == m) cs (c ∷ []) ∙ ap (λ b. changes_at cs m ++ cond b (c ∷ []) []) e
+
+pub change_elsewhere : (cs : List Change) (c : Change) (m : ℕ) → (c.m == m) ≡ false → changes_at (cs ++ c ∷ []) m ≡ changes_at cs m
+change_elsewhere cs c m e =
+    filter-append (λ (x : Change). x.m == m) cs (c ∷ []) ∙ ap (λ b. changes_at cs m ++ cond b (c ∷ []) []) e ∙ append-nil (changes_at cs m)
+
+-- among the first and one more
+pub first_here : (cs : List Change) (i : ℕ) (c : Change) (m : ℕ) → i < length cs → c ≡ slice_index_or cs i c → (c.m == m) ≡ true
+    → changes_at (take (i + 1) cs) m ≡ changes_at (take i cs) m ++ c ∷ []
+first_here cs i c m below is e = ap (λ l. changes_at l m) (one_more cs i c below is) ∙ change_here (take i cs) c m e
+
+pub first_elsewhere : (cs : List Change) (i : ℕ) (c : Change) (m : ℕ) → i < length cs → c ≡ slice_index_or cs i c → (c.m == m) ≡ false
+    → changes_at (take (i + 1) cs) m ≡ changes_at (take i cs) m
+first_elsewhere cs i c m below is e = ap (λ l. changes_at l m) (one_more cs i c below is) ∙ change_elsewhere (take i cs) c m e
+
+-- a branch's start, and these changes at its manager
+abbrev pub begun_of : List Change → Branch → List Op
+begun_of cs b = Start b.xid Fresh ∷ map (λ c. Add c.key c.delta) (changes_at cs b.m)
+
+pub begun_here : (cs : List Change) (i : ℕ) (c : Change) (b : Branch) → i < length cs → c ≡ slice_index_or cs i c → c.m ≡ b.m
+    → begun_of (take (i + 1) cs) b ≡ begun_of (take i cs) b ++ Add c.key c.delta ∷ []
+begun_here cs i c b below is e =
+    ap (λ (l : List Change). Start b.xid Fresh ∷ map (λ (x : Change). Add x.key x.delta) l) (first_here cs i c b.m below is (eq-eqb c.m b.m e))
+    ∙ ap (λ (l : List Op). Start b.xid Fresh ∷ l) (map-append (λ (x : Change). Add x.key x.delta) (changes_at (take i cs) b.m) (c ∷ []))
+
+pub begun_elsewhere : (cs : List Change) (i : ℕ) (c : Change) (b : Branch) → i < length cs → c ≡ slice_index_or cs i c → c.m ≢ b.m
+    → begun_of (take (i + 1) cs) b ≡ begun_of (take i cs) b
+begun_elsewhere cs i c b below is e =
+    ap (λ (l : List Change). Start b.xid Fresh ∷ map (λ (x : Change). Add x.key x.delta) l) (first_elsewhere cs i c b.m below is (ne_eqb c.m b.m e))
+
+-- after the last change the end is left
+pub begun_all : (cs : List Change) (i : ℕ) (b : Branch) → length cs ≤ i → begun_of (take i cs) b ++ End b.xid Success ∷ [] ≡ ops_of cs b
+begun_all cs i b past = ap (λ (l : List Change). begun_of l b ++ End b.xid Success ∷ []) (take_all i cs past)
+
+-- the requests of one branch more
+pub requests_push : (cs : List Change) (bs : List Branch) (b : Branch) → requests_of cs (bs ++ b ∷ []) ≡ requests_of cs bs ++ requests_at cs b
+requests_push cs bs b = flat_push (requests_at cs) bs b
+
+-- among the first branches and one more
+pub first_requests : (cs : List Change) (bs : List Branch) (i : ℕ) (b : Branch) → i < length bs → b ≡ slice_index_or bs i b
+    → requests_of cs (take (i + 1) bs) ≡ requests_of cs (take i bs) ++ requests_at cs b
+first_requests cs bs i b below is = ap (requests_of cs) (one_more bs i b below is) ∙ requests_push cs (take i bs) b
+
+-- how many a branch's are
+pub steps_are : (cs : List Change) (b : Branch) → length (ops_of cs b) ≡ steps_in cs b.m
+steps_are cs b =
+    let changes : List Op = map (λ (c : Change). Add c.key c.delta) (changes_at cs b.m) in
+    let size : length changes ≡ length (changes_at cs b.m) = length-map (changes_at cs b.m) (λ (c : Change). Add c.key c.delta) in
+    let ended : length (changes ++ End b.xid Success ∷ []) ≡ length changes + 1 = length-append changes (End b.xid Success ∷ []) in
+    omega (arith, size, ended)
+
+-- ---- requests put after others
+
+-- these requests, each with manager m
+abbrev pub at_of : ℕ → List Op → List (ℕ × Op)
+at_of m ops = map (λ o. (m, o)) ops
+
+-- the flights grew by those of these requests
+pub record Adds (wanted : List (ℕ × Op)) (before now : List Flight) (old new : DeskView) : Type 0 where
+  pub more : List Flight
+  pub grown : now ≡ before ++ more
+  pub puts : PutsRequests wanted more old new
+
+pub adds_none : (fs : List Flight) (d : DeskView) → Adds [] fs fs d d
+adds_none fs d = record { more = []; grown = sym (append-nil fs); puts = puts_none d }
+
+-- by a request more to manager m
+pub adds_one : (m : ℕ) (ops : List Op) (o : Op) (f : Flight) (before now later : List Flight) (old mid new : DeskView) → Adds (at_of m ops) before now old mid
+    → f.manager ≡ m → PutsAtLast m o f.handle mid new → later ≡ now ++ f ∷ [] → Adds (at_of m (ops ++ o ∷ [])) before later old new
+adds_one m ops o f before now later old mid new x same put is = record {
+  more = x.more ++ f ∷ [];
+  grown = is ∙ ap (λ l. l ++ f ∷ []) x.grown ∙ append_assoc before x.more (f ∷ []);
+  puts =
+      subst (λ w. PutsRequests w (x.more ++ f ∷ []) old new) (sym (map-append (λ (p : Op). (m, p)) ops (o ∷ [])))
+      (subst (λ n. PutsRequests (at_of m ops ++ (n, o) ∷ []) (x.more ++ f ∷ []) old new) same
+      (puts_more (at_of m ops) x.more o f old mid new x.puts (subst (λ n. PutsAtLast n o f.handle mid new) (sym same) put)));
+}
+
+-- how many changes are left, with this one
+pub left_here : (cs : List Change) (i : ℕ) (c : Change) (m : ℕ) → i < length cs → c ≡ slice_index_or cs i c → c.m ≡ m
+    → length (changes_at (drop i cs) m) ≡ suc (length (changes_at (drop (i + 1) cs) m))
+left_here cs i c m below is e =
+    ap (λ l. length (changes_at l m)) (at_drop cs i c below is)
+    ∙ ap (λ b. length (cond b (c ∷ changes_at (drop (i + 1) cs) m) (changes_at (drop (i + 1) cs) m))) (eq-eqb c.m m e)
+
+pub left_elsewhere : (cs : List Change) (i : ℕ) (c : Change) (m : ℕ) → i < length cs → c ≡ slice_index_or cs i c → c.m ≢ m
+    → length (changes_at (drop i cs) m) ≡ length (changes_at (drop (i + 1) cs) m)
+left_elsewhere cs i c m below is e =
+    ap (λ l. length (changes_at l m)) (at_drop cs i c below is)
+    ∙ ap (λ b. length (cond b (c ∷ changes_at (drop (i + 1) cs) m) (changes_at (drop (i + 1) cs) m))) (ne_eqb c.m m e)
+
+-- the requests of all branches, after those of the first
+pub puts_append : (one two : List (ℕ × Op)) (fs gs : List Flight) (old mid new : DeskView) → PutsRequests one fs old mid → PutsRequests two gs mid new
+    → PutsRequests (one ++ two) (fs ++ gs) old new
+puts_append one two fs gs old mid new x y = record {
+  puts = x.puts ++ y.puts;
+  wanted_are = map-append (λ (p : Put). (p.flight.manager, p.op)) x.puts y.puts ∙ (λ i. x.wanted_are i ++ y.wanted_are i);
+  flights_are = map-append (λ (p : Put). p.flight) x.puts y.puts ∙ (λ i. x.flights_are i ++ y.flights_are i);
+  each = chain_append (λ p d e. PutsAtLast p.flight.manager p.op p.flight.handle d e) old x.puts mid y.puts new x.each y.each;
+}
+
+-- each request has an answer
+pub puts_length : (wanted : List (ℕ × Op)) (fs : List Flight) (old new : DeskView) → PutsRequests wanted fs old new → length fs ≡ length wanted
+puts_length wanted fs old new x =
+    sym (ap length x.flights_are) ∙ length-map x.puts (λ (p : Put). p.flight) ∙ sym (length-map x.puts (λ (p : Put). (p.flight.manager, p.op)))
+    ∙ ap length x.wanted_are
+
+-- how many are left, with those of this branch
+pub requests_left : (cs : List Change) (bs : List Branch) (i : ℕ) (b : Branch) → i < length bs → b ≡ slice_index_or bs i b
+    → length (requests_of cs (drop i bs)) ≡ length (requests_at cs b) + length (requests_of cs (drop (i + 1) bs))
+requests_left cs bs i b below is =
+    ap (λ l. length (requests_of cs l)) (at_drop bs i b below is) ∙ length-append (requests_at cs b) (requests_of cs (drop (i + 1) bs))
+
+-- ---- opening
+
+-- the first managers were opened, and whether each answered XA_OK
+pub record OpensFirst (n : ℕ) (ok : Bool) (old new : DeskView) : Type 0 where
+  pub opens : List OpensAt
+  pub managers_are : map (λ o. o.manager) opens ≡ range_with_len 1 n
+  pub each : Chain (λ o d e. CallsOp o.manager OpenRm o.ok d e) old opens new
+  pub all : ok ≡ list_all (λ o. o.ok) opens
+
+pub opens_none : (d : DeskView) → OpensFirst 0 true d d
+opens_none d = record { opens = []; managers_are = refl; each = none [] d refl refl; all = refl }
+
+pub opens_more : (n : ℕ) (ok one : Bool) (old mid new : DeskView) → OpensFirst n ok old mid → CallsOp (n + 1) OpenRm one mid new
+    → OpensFirst (n + 1) (ok && one) old new
+opens_more n ok one old mid new x is =
+    let o : OpensAt = record { manager = n + 1; ok = one } in
+    record {
+      opens = x.opens ++ o ∷ [];
+      managers_are = map-append (λ (y : OpensAt). y.manager) x.opens (o ∷ []) ∙ ap (λ l. l ++ (n + 1) ∷ []) x.managers_are ∙ sym (range_more n);
+      each = more x.opens o mid new x.each is;
+      all = all_more (λ (y : OpensAt). y.ok) x.opens o ok x.all;
+    }

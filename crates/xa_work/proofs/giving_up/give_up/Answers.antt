@@ -1,0 +1,46 @@
+use Rattle.std.proofs.Common.{[], refl}
+use Rattle.xa_base.specs.Lists.Chain.{none}
+use Rattle.xa_words.specs.Flags.{TMFAIL}
+use Rattle.xa_words.specs.declared.flags.Call.TheVariants as call
+use Rattle.xa_work.specs.Works.{Asks}
+use Rattle.xa_work.proofs.Making.{chain_all, chain_more}
+use Rattle.xa_work.proofs.giving_up.give_up.Goals as goal
+
+pub loop-branch-init : goal.loop-branch-init
+loop-branch-init g c = record {
+  goes_on = c.desks_go_on.ensures.same _;
+  kept = λ h. h;
+  idled = c.idles_go_on.ensures.same _;
+  ends = none [] _ refl refl;
+}
+
+pub loop-branch-preserved : goal.loop-branch-preserved
+loop-branch-preserved g c = record {
+  goes_on = c.desks_go_on.ensures.further _ _ _ c.loop-branch.invariant.goes_on c.fail.ensures.goes_on;
+  kept = λ h. c.fail.ensures.kept (c.loop-branch.invariant.kept h);
+  idled = c.idles_go_on.ensures.further _ _ _ c.loop-branch.invariant.idled c.fail.ensures.idled;
+  ends = chain_more (Asks call.End TMFAIL) c.args.branches.now _ c.branch-item.result _ _ _ c.loop-branch-test.true c.branch-item.is c.loop-branch.invariant.ends c.fail.ensures.asks;
+}
+
+pub loop-branch-2-init : goal.loop-branch-2-init
+loop-branch-2-init g c = record {
+  goes_on = c.loop-branch.invariant.goes_on;
+  kept = c.loop-branch.invariant.kept;
+  idled = c.loop-branch.invariant.idled;
+  rolls_back = (_, chain_all (Asks call.End TMFAIL) c.args.branches.now _ _ _ c.loop-branch-test.false c.loop-branch.invariant.ends, none [] _ refl refl);
+}
+
+pub loop-branch-2-preserved : goal.loop-branch-2-preserved
+loop-branch-2-preserved g c = record {
+  goes_on = c.desks_go_on.ensures.further _ _ _ c.loop-branch-2.invariant.goes_on c.roll_back.ensures.goes_on;
+  kept = λ h. c.roll_back.ensures.kept (c.loop-branch-2.invariant.kept h);
+  idled = c.idles_go_on.ensures.further _ _ _ c.loop-branch-2.invariant.idled c.roll_back.ensures.idled;
+  rolls_back =
+      let (ended, ends, rolls) = c.loop-branch-2.invariant.rolls_back in
+      (ended, ends, chain_more (Asks call.Rollback 0) c.args.branches.now _ c.branch-item-in-loop-branch-2.result _ _ _ c.loop-branch-2-test.true c.branch-item-in-loop-branch-2.is rolls c.roll_back.ensures.asks);
+}
+
+pub returns-clause-gives_up : goal.returns-clause-gives_up
+returns-clause-gives_up g c =
+    let (ended_, ends_, rolls) = c.loop-branch-2.invariant.rolls_back in
+    record { ended = ended_; ends = ends_; rolls_back = chain_all (Asks call.Rollback 0) c.args.branches.now _ _ _ c.loop-branch-2-test.false rolls }

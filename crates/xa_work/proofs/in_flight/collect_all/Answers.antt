@@ -1,0 +1,35 @@
+use Rattle.std.proofs.Common.{◌≡◌, ◌<◌, ◌&&◌, ℕ, List, length, pos, sym, subst, ◌∙◌}
+use Rattle.std.specs.Prelude.{slice_index_or}
+use Rattle.std.proofs.lemmas.Option.{slice_get-get_or}
+use Rattle.xa_base.proofs.Lists.{one_more, some_same}
+use Rattle.xa_work.specs.declared.in_flight.Flight.{Flight}
+use Rattle.xa_work.specs.Works.{CollectsAll}
+use Rattle.xa_work.proofs.Making.{collects_more, collects_none}
+use Rattle.xa_work.proofs.in_flight.collect_all.Goals as goal
+
+-- what is there is there by itself
+itself : (fs : List Flight) (i : ℕ) (d : Flight) → i < length fs → slice_index_or fs i d ≡ slice_index_or fs i (slice_index_or fs i d)
+itself fs i d below = some_same _ _ (sym (slice_get-get_or fs i d below) ∙ slice_get-get_or fs i (slice_index_or fs i d) below)
+
+pub loop-flight-init : goal.loop-flight-init
+loop-flight-init g c = record {
+  goes_on = c.desks_go_on.ensures.same _;
+  kept = λ h. h;
+  idled = c.idles_go_on.ensures.same _;
+  collects = collects_none _;
+}
+
+pub loop-flight-preserved : goal.loop-flight-preserved
+loop-flight-preserved g c =
+    let fs : List Flight = c.args.flights.now in
+    let i : ℕ = c.loop-flight.flight-index in
+    let none : Flight = record { manager = 0; handle = pos 0 } in
+    let below = c.loop-flight-test.true in
+    record {
+      goes_on = c.desks_go_on.ensures.further _ _ _ c.loop-flight.invariant.goes_on c.collect-all.ensures.goes_on;
+      kept = λ h. c.collect-all.ensures.kept (c.loop-flight.invariant.kept h);
+      idled = c.idles_go_on.ensures.further _ _ _ c.loop-flight.invariant.idled c.collect-all.ensures.idled;
+      collects =
+          subst (λ l. CollectsAll l (c.loop-flight.all && c.collect-all.result) c.args.desk.now c.collect-all.new.desk) (sym (one_more fs i (slice_index_or fs i none) below (itself fs i none below)))
+          (collects_more _ (slice_index_or fs i none) c.loop-flight.all c.collect-all.result _ _ _ c.loop-flight.invariant.collects c.collect-all.ensures.collects);
+    }

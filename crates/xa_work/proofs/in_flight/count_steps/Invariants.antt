@@ -1,0 +1,11 @@
+use Rattle.std.proofs.Common.{◌≡◌, ◌≤◌, ◌+◌, ◌*◌, take, length}
+use Rattle.xa_base.specs.declared.limits.TheConstants.{MOST_REQUESTS}
+use Rattle.xa_work.specs.Works.{requests_of}
+use Rattle.xa_work.proofs.in_flight.count_steps.Given as goal
+
+-- the first branches' steps were counted
+abbrev pub invariant-loop-branch : goal.invariant-loop-branch
+invariant-loop-branch l = record {
+  steps : l.count ≡ length (requests_of l.changes (take l.branch-index l.branches));
+  few : l.count ≤ l.branch-index * (MOST_REQUESTS + 2);
+}

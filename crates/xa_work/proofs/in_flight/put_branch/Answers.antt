@@ -1,0 +1,97 @@
+use Rattle.std.proofs.Common.{◌+◌, ◌≤◌, List, length, vec_capacity, Vec, [], ◌∷◌, arith, ap, drop, length-append, subst, sym, take, ◌∙◌}
+use Rattle.std.specs.Global.{Global}
+use Rattle.xa_words.specs.declared.request.Op.TheVariants.{Add, End, Start}
+use Rattle.xa_words.specs.declared.request.EndHow.TheVariants.{Success}
+use Rattle.xa_words.specs.declared.request.StartHow.TheVariants.{Fresh}
+use Rattle.xa_desk.specs.GoesOn.{GoesOn}
+use Rattle.xa_desk.specs.Kept.{AllKept}
+use Rattle.xa_desk.specs.DeskView.{DeskView}
+use Rattle.xa_work.specs.declared.in_flight.Flight.{Flight}
+use Rattle.xa_work.specs.Works.{PutsRequests, changes_at}
+use Rattle.xa_work.proofs.Making.{Adds, adds_none, adds_one, at_of, begun_all, begun_elsewhere, begun_here, begun_of, left_elsewhere, left_here, steps_are}
+use Rattle.xa_work.proofs.in_flight.put_branch.Goals as goal
+use Rattle.xa_work.proofs.in_flight.put_branch.Goals.{then-change-branch, else-change-branch}
+
+pub loop-change-init : goal.loop-change-init
+loop-change-init g c =
+    let b = c.args.branch.now in
+    let room = c.push_reserved.ensures.capacity in
+    let grown = ap length c.push_reserved.ensures.items ∙ length-append c.args.flights.now.items (c.put.result ∷ []) in
+    let steps = steps_are c.args.changes.now b in
+    let fits = c.requires in
+    record {
+      goes_on = c.put.ensures.goes_on;
+      kept = c.put.ensures.kept;
+      idled = c.put.ensures.idled;
+      puts =
+          adds_one b.m [] (Start b.xid Fresh) c.put.result _ _ _ _ _ _ (adds_none c.args.flights.now.items c.args.desk.now) c.put.ensures.manager c.put.ensures.puts
+          c.push_reserved.ensures.items;
+      room = c.push_reserved.ensures.capacity;
+      left = omega (arith, room, grown, steps, fits);
+    }
+
+pub loop-change-preserved : goal.loop-change-preserved
+loop-change-preserved g c =
+    let b = c.args.branch.now in
+    let cs = c.args.changes.now in
+    let i = c.loop-change.change-index in
+    let x = c.change-item.result in
+    let old = c.args.desk.now in
+    let first : List Flight = c.args.flights.now.items in
+    let so_far = c.loop-change.invariant in
+    let below = c.loop-change-test.true in
+    record {
+      goes_on = elim c.if-change-branch.branch [
+        | then-change-branch w ↦ subst (GoesOn old) (sym w.desk-is) (c.desks_go_on.ensures.further _ _ _ so_far.goes_on w.put-then-change-branch.ensures.goes_on)
+        | else-change-branch w ↦ subst (GoesOn old) (sym w.desk-is) so_far.goes_on
+      ];
+      kept = elim c.if-change-branch.branch [
+        | then-change-branch w ↦ λ h. subst AllKept (sym w.desk-is) (w.put-then-change-branch.ensures.kept (so_far.kept h))
+        | else-change-branch w ↦ λ h. subst AllKept (sym w.desk-is) (so_far.kept h)
+      ];
+      idled = elim c.if-change-branch.branch [
+        | then-change-branch w ↦
+            subst (g.I.Idle.leads c.args.idle.now) (sym w.idle-is) (c.idles_go_on.ensures.further _ _ _ so_far.idled w.put-then-change-branch.ensures.idled)
+        | else-change-branch w ↦ subst (g.I.Idle.leads c.args.idle.now) (sym w.idle-is) so_far.idled
+      ];
+      puts = elim c.if-change-branch.branch [
+        | then-change-branch w ↦
+            let one = w.put-then-change-branch in
+            let items = ap (λ (v : Vec Flight Global). v.items) w.flights-is ∙ w.push_reserved-then-change-branch.ensures.items in
+            subst (λ (d : DeskView). Adds (at_of b.m (begun_of (take (i + 1) cs) b)) first c.if-change-branch.flights.items old d) (sym w.desk-is)
+            (subst (λ os. Adds (at_of b.m os) first c.if-change-branch.flights.items old one.new.desk) (sym (begun_here cs i x b below c.change-item.is w.if-change-branch.true))
+            (adds_one b.m (begun_of (take i cs) b) (Add x.key x.delta) one.result _ _ _ _ _ _ so_far.puts one.ensures.manager one.ensures.puts items))
+        | else-change-branch w ↦
+            subst (λ (d : DeskView). Adds (at_of b.m (begun_of (take (i + 1) cs) b)) first c.if-change-branch.flights.items old d) (sym w.desk-is)
+            (subst (λ (v : Vec Flight Global). Adds (at_of b.m (begun_of (take (i + 1) cs) b)) first v.items old c.loop-change.desk) (sym w.flights-is)
+            (subst (λ os. Adds (at_of b.m os) first c.loop-change.flights.items old c.loop-change.desk)
+            (sym (begun_elsewhere cs i x b below c.change-item.is w.if-change-branch.false)) so_far.puts))
+      ];
+      room = elim c.if-change-branch.branch [
+        | then-change-branch w ↦ ap vec_capacity w.flights-is ∙ w.push_reserved-then-change-branch.ensures.capacity ∙ so_far.room
+        | else-change-branch w ↦ ap vec_capacity w.flights-is ∙ so_far.room
+      ];
+      left =
+          let fits = so_far.left in
+          elim c.if-change-branch.branch [
+            | then-change-branch w ↦
+                let push = w.push_reserved-then-change-branch in
+                let room = push.ensures.capacity in
+                let grown = ap length push.ensures.items ∙ length-append c.loop-change.flights.items (w.put-then-change-branch.result ∷ []) in
+                let rest = left_here cs i x b.m below c.change-item.is w.if-change-branch.true in
+                subst (λ (v : Vec Flight Global). length v.items + length (changes_at (drop (i + 1) cs) b.m) + 1 ≤ vec_capacity v) (sym w.flights-is)
+                (omega (arith, room, grown, rest, fits))
+            | else-change-branch w ↦
+                let rest = left_elsewhere cs i x b.m below c.change-item.is w.if-change-branch.false in
+                subst (λ (v : Vec Flight Global). length v.items + length (changes_at (drop (i + 1) cs) b.m) + 1 ≤ vec_capacity v) (sym w.flights-is)
+                (omega (arith, rest, fits))
+          ];
+    }
+
+pub returns-clause-puts : goal.returns-clause-puts
+returns-clause-puts g c =
+    let b = c.args.branch.now in
+    let cs = c.args.changes.now in
+    let all =
+    adds_one b.m (begun_of (take c.loop-change.change-index cs) b) (End b.xid Success) c.put-2.result _ _ _ _ _ _ c.loop-change.invariant.puts c.put-2.ensures.manager c.put-2.ensures.puts c.push_reserved-2.ensures.items in
+    (all.more, all.grown, subst (λ os. PutsRequests (at_of b.m os) all.more c.args.desk.now c.put-2.new.desk) (begun_all cs _ b c.loop-change-test.false) all.puts)

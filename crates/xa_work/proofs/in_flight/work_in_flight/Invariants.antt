@@ -1,0 +1,15 @@
+use Rattle.std.proofs.Common.{◌≤◌, ◌+◌, drop, length, take, vec_capacity}
+use Rattle.xa_desk.specs.GoesOn.{GoesOn}
+use Rattle.xa_desk.specs.Kept.{AllKept}
+use Rattle.xa_work.specs.Works.{PutsRequests, requests_of}
+use Rattle.xa_work.proofs.in_flight.work_in_flight.Given as goal
+
+-- the requests of the first branches were put
+abbrev pub invariant-loop-branch : goal.invariant-loop-branch
+invariant-loop-branch g l = record {
+  goes_on : GoesOn l.fn.desk l.desk;
+  kept : AllKept l.fn.desk → AllKept l.desk;
+  idled : g.I.Idle.leads l.fn.idle l.idle;
+  puts : PutsRequests (requests_of l.changes (take l.branch-index l.branches)) l.flights.items l.fn.desk l.desk;
+  room : length l.flights.items + length (requests_of l.changes (drop l.branch-index l.branches)) ≤ vec_capacity l.flights;
+}

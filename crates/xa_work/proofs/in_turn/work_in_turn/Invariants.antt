@@ -1,0 +1,15 @@
+use Rattle.std.proofs.Common.{true, take}
+use Rattle.xa_base.specs.Lists.{Chain}
+use Rattle.xa_desk.specs.GoesOn.{GoesOn}
+use Rattle.xa_desk.specs.Kept.{AllKept}
+use Rattle.xa_work.specs.Works.{CallsBranch}
+use Rattle.xa_work.proofs.in_turn.work_in_turn.Given as goal
+
+-- the work of the first branches was done
+abbrev pub invariant-loop-branch : goal.invariant-loop-branch
+invariant-loop-branch g l = record {
+  goes_on : GoesOn l.fn.desk l.desk;
+  kept : AllKept l.fn.desk → AllKept l.desk;
+  idled : g.I.Idle.leads l.fn.idle l.idle;
+  calls : Chain (λ b d e. CallsBranch l.changes b true d e) l.fn.desk (take l.branch-index l.branches) l.desk;
+}

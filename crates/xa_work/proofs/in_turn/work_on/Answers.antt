@@ -1,0 +1,63 @@
+use Rattle.std.proofs.Common.{◌+◌, ◌&&◌, true, subst, sym, take}
+use Rattle.xa_words.specs.declared.request.Op.TheVariants.{Add, End, Start}
+use Rattle.xa_words.specs.declared.request.EndHow.TheVariants.{Success}
+use Rattle.xa_words.specs.declared.request.StartHow.TheVariants.{Fresh}
+use Rattle.xa_desk.specs.GoesOn.{GoesOn}
+use Rattle.xa_desk.specs.Kept.{AllKept}
+use Rattle.xa_desk.specs.DeskView.{DeskView}
+use Rattle.xa_work.specs.Works.{CallsOps}
+use Rattle.xa_work.proofs.Making.{begun_all, begun_elsewhere, begun_here, begun_of, calls_more, calls_none}
+use Rattle.xa_work.proofs.in_turn.work_on.Goals as goal
+use Rattle.xa_work.proofs.in_turn.work_on.Goals.{then-change-branch, else-change-branch}
+
+pub loop-change-init : goal.loop-change-init
+loop-change-init g c = record {
+  goes_on = c.ask-all.ensures.goes_on;
+  kept = c.ask-all.ensures.kept;
+  idled = c.ask-all.ensures.idled;
+  calls = calls_more _ _ (Start c.args.branch.now.xid Fresh) true c.ask-all.result _ _ _ (calls_none c.args.branch.now.m c.args.desk.now) c.ask-all.ensures.calls;
+}
+
+pub loop-change-preserved : goal.loop-change-preserved
+loop-change-preserved g c =
+    let b = c.args.branch.now in
+    let cs = c.args.changes.now in
+    let i = c.loop-change.change-index in
+    let x = c.change-item.result in
+    let old = c.args.desk.now in
+    let so_far = c.loop-change.invariant in
+    let below = c.loop-change-test.true in
+    record {
+      goes_on = elim c.if-change-branch.branch [
+        | then-change-branch w ↦ subst (GoesOn old) (sym w.desk-is) (c.desks_go_on.ensures.further _ _ _ so_far.goes_on w.ask-all-then-change-branch.ensures.goes_on)
+        | else-change-branch w ↦ subst (GoesOn old) (sym w.desk-is) so_far.goes_on
+      ];
+      kept = elim c.if-change-branch.branch [
+        | then-change-branch w ↦ λ h. subst AllKept (sym w.desk-is) (w.ask-all-then-change-branch.ensures.kept (so_far.kept h))
+        | else-change-branch w ↦ λ h. subst AllKept (sym w.desk-is) (so_far.kept h)
+      ];
+      idled = elim c.if-change-branch.branch [
+        | then-change-branch w ↦
+            subst (g.I.Idle.leads c.args.idle.now) (sym w.idle-is) (c.idles_go_on.ensures.further _ _ _ so_far.idled w.ask-all-then-change-branch.ensures.idled)
+        | else-change-branch w ↦ subst (g.I.Idle.leads c.args.idle.now) (sym w.idle-is) so_far.idled
+      ];
+      calls = elim c.if-change-branch.branch [
+        | then-change-branch w ↦
+            let one = w.ask-all-then-change-branch in
+            subst (λ ok. CallsOps b.m (begun_of (take (i + 1) cs) b) ok old c.if-change-branch.desk) (sym w.all-is)
+            (subst (λ (d : DeskView). CallsOps b.m (begun_of (take (i + 1) cs) b) (c.loop-change.all && one.result) old d) (sym w.desk-is)
+            (subst (λ os. CallsOps b.m os (c.loop-change.all && one.result) old one.new.desk) (sym (begun_here cs i x b below c.change-item.is w.if-change-branch.true))
+            (calls_more b.m _ (Add x.key x.delta) c.loop-change.all one.result _ _ _ so_far.calls one.ensures.calls)))
+        | else-change-branch w ↦
+            subst (λ ok. CallsOps b.m (begun_of (take (i + 1) cs) b) ok old c.if-change-branch.desk) (sym w.all-is)
+            (subst (λ (d : DeskView). CallsOps b.m (begun_of (take (i + 1) cs) b) c.loop-change.all old d) (sym w.desk-is)
+            (subst (λ os. CallsOps b.m os c.loop-change.all old c.loop-change.desk) (sym (begun_elsewhere cs i x b below c.change-item.is w.if-change-branch.false)) so_far.calls))
+      ];
+    }
+
+pub returns-clause-calls : goal.returns-clause-calls
+returns-clause-calls g c =
+    let b = c.args.branch.now in
+    let cs = c.args.changes.now in
+    subst (λ os. CallsOps b.m os (c.loop-change.all && c.ask-ended.result) c.args.desk.now c.ask-ended.new.desk) (begun_all cs _ b c.loop-change-test.false)
+    (calls_more b.m _ (End b.xid Success) c.loop-change.all c.ask-ended.result _ _ _ c.loop-change.invariant.calls c.ask-ended.ensures.calls)

@@ -1,0 +1,25 @@
+use Rattle.std.proofs.Common.{◌+◌, refl}
+use Rattle.xa_words.specs.declared.request.Op.TheVariants.{OpenRm}
+use Rattle.xa_work.specs.Sent.{IsOpenRm}
+use Rattle.xa_work.proofs.Called.{op_sent}
+use Rattle.xa_work.proofs.Making.{opens_more, opens_none}
+use Rattle.xa_work.proofs.Sent.{have_none, have_on}
+use Rattle.xa_work.proofs.opening.open_all.Goals as goal
+
+pub loop-before-init : goal.loop-before-init
+loop-before-init g c = record {
+  goes_on = c.desks_go_on.ensures.same _;
+  kept = λ h. h;
+  idled = c.idles_go_on.ensures.same _;
+  opens = opens_none _;
+  sent = have_none IsOpenRm _ _ refl;
+}
+
+pub loop-before-preserved : goal.loop-before-preserved
+loop-before-preserved g c = record {
+  goes_on = c.desks_go_on.ensures.further _ _ _ c.loop-before.invariant.goes_on c.open_one-all.ensures.goes_on;
+  kept = λ h. c.open_one-all.ensures.kept (c.loop-before.invariant.kept h);
+  idled = c.idles_go_on.ensures.further _ _ _ c.loop-before.invariant.idled c.open_one-all.ensures.idled;
+  opens = opens_more _ _ c.open_one-all.result _ _ _ c.loop-before.invariant.opens c.open_one-all.ensures.calls;
+  sent = have_on IsOpenRm _ _ _ c.loop-before.invariant.sent (op_sent IsOpenRm (c.loop-before.before + 1) OpenRm c.open_one-all.result _ _ refl c.open_one-all.ensures.calls);
+}

@@ -1,0 +1,86 @@
+use Rattle.std.proofs.Common.{◌≡◌, true, false, refl, subst}
+use Rattle.xa_desk.specs.DeskView.{DeskView}
+use Rattle.xa_work.specs.Sent.{IsFor, NamesOnly}
+use Rattle.xa_work.specs.Units.{IsRefused}
+use Rattle.xa_work.specs.Units.IsRefused.{barred, unbegun, undone}
+use Rattle.xa_work.specs.Units.Transacts.{commits, refused}
+use Rattle.xa_work.specs.Works.{GivesUp, Tries}
+use Rattle.xa_work.proofs.Comes.{comes_named}
+use Rattle.xa_work.proofs.Named.{all_among, gives_up_sent, tries_sent}
+use Rattle.xa_work.proofs.Sent.{have_as, have_none, have_on}
+use Rattle.xa_work.proofs.Tried.{room_known, tried_works}
+use Rattle.xa_work.proofs.unit.carry_out.Goals as goal
+use Rattle.xa_work.proofs.unit.carry_out.Goals.{then-not-worked-via-then-not-worked, then-not-worked-via-else-not-worked+then-not-may_commit}
+
+pub returns-then-not-may_begin-clause-transacts : goal.returns-then-not-may_begin-clause-transacts
+returns-then-not-may_begin-clause-transacts g c =
+    let bs = c.args.branches.now in
+    refused refl (unbegun refl (λ may known. let yes_ : c.may_begin.result ≡ true = c.may_begin.ensures.1 (may, known) in let no_ : c.may_begin.result ≡ false = c.if-not-may_begin.true in cc) refl)
+    (have_none (IsFor bs) _ _ refl)
+
+pub returns-then-not-worked-clause-transacts : goal.returns-then-not-worked-clause-transacts
+returns-then-not-worked-clause-transacts g c =
+    let bs = c.args.branches.now in
+    let cs = c.args.changes.now in
+    let old = c.args.desk.now in
+    let tried = c.work-worked.new.desk in
+    let gives_up = c.give_up.ensures.gives_up in
+    let begins = c.may_begin.ensures.0 c.if-not-may_begin.false in
+    let why : IsRefused bs cs _ old c.give_up.new.desk (g.L.DecisionLog.state c.args.log.now) (g.L.DecisionRecords.knows c.args.log.now) = elim c.then-not-worked.branch [
+      | then-not-worked-via-then-not-worked w ↦
+          undone tried refl begins.0 begins.1 (subst (λ ok. Tries cs bs ok old tried) w.if-not-worked.true c.work-worked.ensures.tries) gives_up
+      | then-not-worked-via-else-not-worked+then-not-may_commit w ↦
+          barred tried refl begins.0 begins.1 (subst (λ ok. Tries cs bs ok old tried) w.if-not-worked.false c.work-worked.ensures.tries)
+          (λ may. let yes_ : w.may_commit.result ≡ true = w.may_commit.ensures.1 (may, begins.1) in let no_ : w.may_commit.result ≡ false = w.if-not-may_commit.true in cc) gives_up
+    ] in
+    refused refl why
+    (have_on (IsFor bs) _ _ _ (tries_sent cs bs (all_among bs) c.work-worked.result old tried c.work-worked.ensures.tries) (gives_up_sent bs (all_among bs) tried c.give_up.new.desk gives_up))
+
+pub returns-clause-transacts : goal.returns-clause-transacts
+returns-clause-transacts g c =
+    let bs = c.args.branches.now in
+    let cs = c.args.changes.now in
+    let begins = c.may_begin.ensures.0 c.if-not-may_begin.false in
+    let all_ : c.work-worked.result ≡ true = cc in
+    commits c.work-worked.new.desk begins.0 begins.1
+    (tried_works cs bs c.args.desk.now c.work-worked.new.desk begins.0.commit.rising (room_known c.args.desk.now.ledgers bs begins.0.commit.room) (subst (λ ok. Tries cs bs ok c.args.desk.now c.work-worked.new.desk) all_ c.work-worked.ensures.tries))
+    c.in-Ok.ensures.comes
+
+pub returns-clause-named : goal.returns-clause-named
+returns-clause-named g c =
+    let bs = c.args.branches.now in
+    let tried = c.work-worked.new.desk in
+    have_on (NamesOnly bs) _ _ _
+    (have_as (IsFor bs) (NamesOnly bs) (λ o f. f.named) _ _ (tries_sent c.args.changes.now bs (all_among bs) c.work-worked.result c.args.desk.now tried c.work-worked.ensures.tries))
+    (comes_named bs c.args.death c.in-Ok.outcome tried _ _ _ c.in-Ok.ensures.comes)
+
+pub returns-in_default-clause-wants : goal.returns-in_default-clause-wants
+returns-in_default-clause-wants g c =
+    let bs = c.args.branches.now in
+    let cs = c.args.changes.now in
+    let tried = c.work-worked.new.desk in
+    let begins = c.may_begin.ensures.0 c.if-not-may_begin.false in
+    record {
+      begins = begins.0;
+      tried = tried;
+      may = (c.may_commit.ensures.0 c.if-not-may_commit.false).0;
+      worked = subst (λ ok. Tries cs bs ok c.args.desk.now tried) c.if-not-worked.false c.work-worked.ensures.tries;
+      gives_up = subst (λ (d : DeskView). GivesUp bs d c.give_up-in_default.new.desk) c.in_default.ensures.unsent c.give_up-in_default.ensures.gives_up;
+    }
+
+pub returns-then-not-worked-clause-named : goal.returns-then-not-worked-clause-named
+returns-then-not-worked-clause-named g c =
+    let bs = c.args.branches.now in
+    let tried = c.work-worked.new.desk in
+    have_as (IsFor bs) (NamesOnly bs) (λ o f. f.named) _ _
+    (have_on (IsFor bs) _ _ _ (tries_sent c.args.changes.now bs (all_among bs) c.work-worked.result c.args.desk.now tried c.work-worked.ensures.tries)
+    (gives_up_sent bs (all_among bs) tried c.give_up.new.desk c.give_up.ensures.gives_up))
+
+pub returns-in_default-clause-named : goal.returns-in_default-clause-named
+returns-in_default-clause-named g c =
+    let bs = c.args.branches.now in
+    let tried = c.work-worked.new.desk in
+    have_as (IsFor bs) (NamesOnly bs) (λ o f. f.named) _ _
+    (have_on (IsFor bs) _ _ _ (tries_sent c.args.changes.now bs (all_among bs) c.work-worked.result c.args.desk.now tried c.work-worked.ensures.tries)
+    (gives_up_sent bs (all_among bs) tried c.give_up-in_default.new.desk
+    (subst (λ (d : DeskView). GivesUp bs d c.give_up-in_default.new.desk) c.in_default.ensures.unsent c.give_up-in_default.ensures.gives_up)))

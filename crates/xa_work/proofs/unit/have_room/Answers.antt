@@ -1,0 +1,27 @@
+use Rattle.std.proofs.Common.{rules, ◌≤◌, ◌+◌, arith, subst, sym, take}
+use Rattle.std.proofs.lemmas.List.{take_all}
+use Rattle.std.proofs.lemmas.List.Elements.{All-push}
+use Rattle.xa_base.proofs.Lists.{one_more}
+use Rattle.xa_desk.specs.DeskView.{room_at}
+use Rattle.xa_driver.specs.declared.branch.Branch.{Branch}
+use Rattle.xa_work.specs.declared.unit.TheConstants.{AFTERWARDS}
+use Rattle.xa_work.specs.Units.{HaveRoomToWork}
+use Rattle.xa_work.specs.Works.{steps_in}
+use Rattle.xa_work.proofs.unit.have_room.Goals as goal
+
+pub loop-branch-preserved : goal.loop-branch-preserved
+loop-branch-preserved c =
+    let cs = c.args.changes.now in
+    let at = c.args.desk.now.ledgers in
+    let bs = c.args.branches.now in
+    let i = c.loop-branch.branch-index in
+    let b = c.branch-item.result in
+    let fits : steps_in cs b.m + AFTERWARDS ≤ room_at at b.m = omega arith in
+    subst (HaveRoomToWork at cs) (sym (one_more bs i b c.loop-branch-test.true c.branch-item.is))
+    (All-push (λ (d : Branch). steps_in cs d.m + AFTERWARDS ≤ room_at at d.m) (take i bs) b c.loop-branch.invariant fits)
+
+pub returns : goal.returns
+returns c =
+    let all =
+    subst (HaveRoomToWork c.args.desk.now.ledgers c.args.changes.now) (take_all _ c.args.branches.now c.loop-branch-test.false) c.loop-branch.invariant in
+    ((λ _. all), (λ _. search rules))

@@ -1,0 +1,4 @@
+pub mod Requests
+pub mod Sent
+pub mod Works
+pub mod Units

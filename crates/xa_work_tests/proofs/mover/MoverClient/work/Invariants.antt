@@ -1,0 +1,11 @@
+use Rattle.xa_desk.specs.GoesOn.{GoesOn}
+use Rattle.xa_desk.specs.Kept.{AllKept}
+use Rattle.xa_work_tests.proofs.mover.MoverClient.work.Given as goal
+
+-- some units of work were done
+abbrev pub invariant-loop-one : goal.invariant-loop-one
+invariant-loop-one g l = record {
+  goes_on : GoesOn l.fn.desk l.desk;
+  kept : AllKept l.fn.desk → AllKept l.desk;
+  idled : g.I.Idle.leads l.fn.idle l.idle;
+}
