@@ -1,12 +1,13 @@
 -- A day whose transfers end whole conserves what all accounts are worth together.
 use Rattle.std.specs.Prelude.{ℤ, pos, ◌+ℤ◌, All}
-use Rattle.std.proofs.Common.{◌≡◌, ℕ, ◌+◌, ◌-◌, ◌^◌, ◌<◌, ◌≤◌, ◌⊎◌, ⊎_elim, List, length, subst, inl, inr, arith, false}
+use Rattle.std.proofs.Common.{◌≡◌, ℕ, ◌+◌, ◌-◌, ◌^◌, ◌<◌, ◌≤◌, ◌⊎◌, ⊎_elim, Bool, List, length, subst, inl, inr, arith, false}
 use Rattle.std.specs.List.{list_any}
 use Rattle.std.proofs.lemmas.Int.{ints}
 use Rattle.std.proofs.lemmas.Bool.{cases_lt}
 use Rattle.xa_base.specs.Sums.{total}
 use Rattle.xa_base.proofs.Lists.{all_at, all_right}
 use Rattle.xa_base.proofs.Sums.{total_nothing}
+use Rattle.xa_words.specs.Tran.{TranName}
 use Rattle.xa_words.specs.Xid.{XidName}
 use Rattle.xa_tables.specs.Tables.{Tables}
 use Rattle.xa_tables.specs.Managers.{opening}
@@ -24,7 +25,7 @@ use Rattle.xa_driver.specs.declared.branch.Branch.{Branch}
 use Rattle.xa_driver.specs.declared.done.Done.{Done}
 use Rattle.xa_atomicity.specs.Conservation.{OnlyTransfers, held_in_doubt}
 use Rattle.xa_atomicity.specs.Outcomes.{is_in_doubt}
-use Rattle.xa_log.specs.Log.{LogState}
+use Rattle.xa_log.specs.Log.{IsReadAs, LogState}
 use Rattle.xa_crew.specs.declared.client_job.Attended.{Attended}
 use Rattle.xa_crew.specs.Run.{IsRun}
 use Rattle.xa_bank.specs.declared.teller.Teller.{Teller}
@@ -35,11 +36,12 @@ use Rattle.xa_bank.proofs.Told.{IsTold}
 
 -- ---- a teller of the day
 
-module _ {L : Type 0} (state : L → LogState) (knows : L → Type 0) (p : Plan) (tellers : List (Teller L)) (attended : List (Attended (Teller L))) (s : Settling)
-    (r : IsRun (Works state knows) (planned p) tellers attended s) (sound : IsSound p)
+module _ {L : Type 0} (state : L → LogState) (knows : L → Type 0) (loses : TranName → List Bool → L → L → Type 0) (p : Plan) (tellers : List (Teller L))
+    (attended : List (Attended (Teller L))) (s : Settling)
+    (r : IsRun (Works state knows loses) (planned p) tellers attended s) (sound : IsSound p)
     (whole : All EndsWhole attended) where
   abbrev TellerAt : ℕ → Type 0
-  TellerAt k = MemberAt (Works state knows) (length p.managers.items) tellers attended s k
+  TellerAt k = MemberAt (Works state knows loses) (length p.managers.items) tellers attended s k
 
   few : p.threads < 2 ^ 32
   few = let most = sound.limits.threads.1 in omega (arith, most)
@@ -47,9 +49,13 @@ module _ {L : Type 0} (state : L → LogState) (knows : L → Type 0) (p : Plan)
   whole_at : (k : ℕ) (z : TellerAt k) → EndsWhole z.member.attended
   whole_at k z = all_at EndsWhole attended k z.member.attended whole z.attended_at
 
+  -- what its log may be read as
+  abbrev reads : (k : ℕ) → TellerAt k → LogState → Type 0
+  reads k z = IsReadAs state knows loses z.member.attended.client.log
+
   -- what a teller of the day made
   made_by : (k : ℕ) (z : TellerAt k)
-      → HasMade z.member.client.transfers.items z.member.client.habits z.member.client.outcomes.items z.member.desk (state z.member.client.log) (knows z.member.client.log) z.member.attended.client.outcomes.items z.left (state z.member.attended.client.log) (knows z.member.attended.client.log)
+      → HasMade z.member.client.transfers.items z.member.client.habits z.member.client.outcomes.items z.member.desk (state z.member.client.log) (knows z.member.client.log) z.member.attended.client.outcomes.items z.left (state z.member.attended.client.log) (knows z.member.attended.client.log) (reads k z)
   made_by k z = z.worked.made (whole_at k z).memory
 
   fine_of : (k : ℕ) (z : TellerAt k) → All IsUndoubted (made_by k z).more
@@ -58,16 +64,16 @@ module _ {L : Type 0} (state : L → LogState) (knows : L → Type 0) (p : Plan)
 
   told_at : (k : ℕ) → k < p.threads → IsTold s (k + 1)
   told_at k below =
-      let z = member_at (Works state knows) (planned p) tellers attended s r k below in
+      let z = member_at (Works state knows loses) (planned p) tellers attended s r k below in
       let made = made_by k z in
       let bound = few in
       inl (
         omega (arith, below, bound),
-        all_told s (k + 1) z.member.client.transfers.items z.member.client.habits made.more z.member.desk z.left (state z.member.client.log) (state z.member.attended.client.log) z.thread z.nothing made.makes z.end,
+        all_told (reads k z) s (k + 1) z.member.client.transfers.items z.member.client.habits made.more z.member.desk z.left (state z.member.client.log) (state z.member.attended.client.log) z.thread z.nothing made.makes z.end,
       )
 
   nobody : (u : ℕ) → (u < 1) ⊎ (p.threads < u) → IsTold s u
-  nobody u outside = inr (nobody_else (Works state knows) (planned p) tellers attended s r u outside)
+  nobody u outside = inr (nobody_else (Works state knows loses) (planned p) tellers attended s r u outside)
 
   told : (u : ℕ) → IsTold s u
   told u =
@@ -85,11 +91,11 @@ module _ {L : Type 0} (state : L → LogState) (knows : L → Type 0) (p : Plan)
       (opens : (p : Plan) (s : Settling) (m : ℕ) → IsSettled s → IsOfPlan p s → 1 ≤ m → m ≤ length p.managers.items → IsOpenedWith s m (opening (accounts_of p m)))
       (k : ℕ) → k < p.threads → OnlyTransfers p s (k + 1) (ledgers_of s (k + 1)) (pos 0)
   only_at adds undoubted opens k below =
-      let z = member_at (Works state knows) (planned p) tellers attended s r k below in
+      let z = member_at (Works state knows loses) (planned p) tellers attended s r k below in
       let made = made_by k z in
       let bound = few in
       only_transfers adds undoubted p s r.agrees (λ m up to. opens p s m r.agrees r.of_setup up to) told (k + 1) (omega (arith, below, bound)) z.many
-      z.member.client.transfers.items z.member.client.habits made.more z.member.desk z.left (state z.member.client.log) (state z.member.attended.client.log) z.thread z.nothing made.makes (fine_of k z) z.end
+      (reads k z) z.member.client.transfers.items z.member.client.habits made.more z.member.desk z.left (state z.member.client.log) (state z.member.attended.client.log) z.thread z.nothing made.makes (fine_of k z) z.end
 
   pub day_law : (conserves : (p : Plan) (s : Settling) (doubt : ℕ → ℤ) → IsSettled s → IsOfPlan p s → All IsSoundManager p.managers.items → ((t : ℕ) → 1 ≤ t → t ≤ p.threads → OnlyTransfers p s t (ledgers_of s t) (doubt t)) → settled_worth p s +ℤ total doubt (threads_of p) ≡ plan_worth p)
       (undoubted : (p : Plan) (s : Settling) (t : ℕ) (old : List LedgerView) (bs : List Branch) (d : Done) → list_any is_in_doubt d.endings.items ≡ false → held_in_doubt p s t old bs d ≡ pos 0)

@@ -7,3 +7,4 @@ pub mod Adds
 pub mod Only
 pub mod Members
 pub mod Days
+pub mod LostRecords

@@ -7,6 +7,7 @@ use Rattle.std.proofs.lemmas.Int.{ints}
 use Rattle.std.proofs.lemmas.Nat.{from_be_bytes-to_be_bytes_8}
 use Rattle.xa_words.specs.Xid.{XidName, xid_eq}
 use Rattle.xa_words.specs.Orders.{Decides-xid_eq}
+use Rattle.xa_words.specs.Tran.{tran_of}
 use Rattle.xa_words.specs.declared.death.Death.{Death}
 use Rattle.xa_words.specs.declared.request.Op.{Op}
 use Rattle.xa_words.specs.declared.request.Op.TheVariants.{Shut}
@@ -26,7 +27,7 @@ use Rattle.xa_bank.specs.declared.habits.Habits.{Habits}
 use Rattle.xa_bank.specs.declared.teller.Leg.{Leg}
 use Rattle.xa_bank.specs.declared.teller.Transfer.{Transfer}
 use Rattle.xa_bank.specs.Numbered.{death_in, shut_before}
-use Rattle.xa_bank.specs.Transfers.{AreLegs, Makes, MakesEach, MakesNext, MayShut, branches_of, changes_of, gtrid_of, paid_first, pays_first}
+use Rattle.xa_bank.specs.Transfers.{AreLegs, Makes, MakesEach, MakesNext, MayShut, branches_of, changes_of, gtrid_of, paid_first, pays_first, tran_named}
 use Rattle.xa_bank.specs.Transfers.{with_legs, without_legs}
 
 -- ---- names of transfers
@@ -60,6 +61,7 @@ names_as t P Q also op h = record { each = λ x e. let z = h.each x e in (z.0, (
 pub record LegsOf (t n : ℕ) (one two : Leg) : Type 0 where
   pub first : IsOf t n one.branch.xid
   pub second : IsOf t n two.branch.xid
+  pub tran : tran_of one.branch.xid ≡ tran_named t n
   pub apart : one.branch.m ≢ two.branch.m
   pub sum : one.delta +ℤ two.delta ≡ pos 0
 
@@ -73,12 +75,14 @@ pub legs_are : (t n : ℕ) (tr : Transfer) (one two : Leg) → AreLegs t n tr on
 legs_are t n tr one two (pays_first small rising pays paid) = let at_one = pays.store in let at_two = paid.store in record {
   first = record { small = small; gtrid = pays.gtrid_ };
   second = record { small = small; gtrid = paid.gtrid_ };
+  tran = λ i. record { format = pays.format_ i; gtrid = pays.gtrid_ i };
   apart = λ same. omega (arith, rising, at_one, at_two, same);
   sum = pays_and_paid one.delta two.delta (pos tr.amount) pays.adds paid.adds;
 }
 legs_are t n tr one two (paid_first small rising paid pays) = let at_one = paid.store in let at_two = pays.store in record {
   first = record { small = small; gtrid = paid.gtrid_ };
   second = record { small = small; gtrid = pays.gtrid_ };
+  tran = λ i. record { format = paid.format_ i; gtrid = paid.gtrid_ i };
   apart = λ same. omega (arith, rising, at_one, at_two, same);
   sum = paid_and_pays one.delta two.delta (pos tr.amount) paid.adds pays.adds;
 }
@@ -119,13 +123,13 @@ comes_names t n one two death o worked new log later legs comes =
     have_as (NamesOnly (branches_of one two)) (Names t (Is n)) (only_names t n one two legs) worked.ledgers new
     (comes_named (branches_of one two) death o worked new log later comes)
 
-pub transfer_names : (t n : ℕ) (tr : Transfer) (habits : Habits) (o : WorkOutcome) (old new : DeskView) (log later : LogState)
-    → Makes t n tr habits o old new log later → HaveSent (Names t (Is n)) old.ledgers new.ledgers
-transfer_names t n tr habits o old new log later (with_legs one two left legs (commits worked begins known work comes) kept) =
+pub transfer_names : {R : LogState → Type 0} (t n : ℕ) (tr : Transfer) (habits : Habits) (o : WorkOutcome) (old new : DeskView) (log later : LogState)
+    → Makes t n tr habits o old new log later R → HaveSent (Names t (Is n)) old.ledgers new.ledgers
+transfer_names t n tr habits o old new log later (with_legs one two left legs (commits worked begins known work comes) kept read) =
     let of_it = legs_are t n tr one two legs in
     have_on (Names t (Is n)) old.ledgers worked.ledgers new.ledgers (work_names t n one two tr.account old.ledgers worked.ledgers of_it work)
     (comes_names t n one two (death_in habits n) o worked new.ledgers log left of_it comes)
-transfer_names t n tr habits o old new log later (with_legs one two left legs (refused same why sent) kept) =
+transfer_names t n tr habits o old new log later (with_legs one two left legs (refused same why sent) kept read) =
     have_as (IsFor (branches_of one two)) (Names t (Is n)) (for_names t n one two (legs_are t n tr one two legs)) old.ledgers new.ledgers sent
 transfer_names t n tr habits o old new log later (without_legs is none same unlogged) =
     have_none (Names t (Is n)) old.ledgers new.ledgers (ap (λ (d : DeskView). d.ledgers) same)
@@ -143,8 +147,8 @@ shut_sent (Some m) old new shuts = call_sent IsShut m Shut shuts.0 old new refl 
 pub shut_names : (t : ℕ) (P : ℕ → Type 0) (op : Op) → IsShut op → Names t P op
 shut_names t P op is = record { each = λ x e. let z : false ≡ true = sym (ap (λ o. names x o) is) ∙ e in cc }
 
-pub next_names : (t n : ℕ) (tr : Transfer) (habits : Habits) (o : WorkOutcome) (old new : DeskView) (log later : LogState)
-    → MakesNext t n tr habits o old new log later → HaveSent (Names t (Is n)) old.ledgers new.ledgers
+pub next_names : {R : LogState → Type 0} (t n : ℕ) (tr : Transfer) (habits : Habits) (o : WorkOutcome) (old new : DeskView) (log later : LogState)
+    → MakesNext t n tr habits o old new log later R → HaveSent (Names t (Is n)) old.ledgers new.ledgers
 next_names t n tr habits o old new log later next =
     have_on (Names t (Is n)) old.ledgers next.shut.ledgers new.ledgers
     (have_as IsShut (Names t (Is n)) (shut_names t (Is n)) old.ledgers next.shut.ledgers (shut_sent (shut_before habits n) old next.shut next.shuts))
@@ -154,36 +158,37 @@ next_names t n tr habits o old new log later next =
 abbrev pub IsFrom : ℕ → ℕ → Type 0
 IsFrom n k = n ≤ k
 
-pub transfers_name : (t : ℕ) (habits : Habits) (n : ℕ) (trs : List Transfer) (os : List WorkOutcome) (old new : DeskView) (log later : LogState)
-    → MakesEach t habits n trs os old new log later → HaveSent (Names t (IsFrom n)) old.ledgers new.ledgers
-transfers_name t habits n [] [] old new log later (same, unlogged) =
+pub transfers_name : (R : LogState → Type 0) (t : ℕ) (habits : Habits) (n : ℕ) (trs : List Transfer) (os : List WorkOutcome) (old new : DeskView) (log later : LogState)
+    → MakesEach t habits n trs os old new log later R → HaveSent (Names t (IsFrom n)) old.ledgers new.ledgers
+transfers_name R t habits n [] [] old new log later (same, unlogged) =
     have_none (Names t (IsFrom n)) old.ledgers new.ledgers (ap (λ (d : DeskView). d.ledgers) same)
-transfers_name t habits n (tr ∷ trs) [] old new log later (same, unlogged) =
+transfers_name R t habits n (tr ∷ trs) [] old new log later (same, unlogged) =
     have_none (Names t (IsFrom n)) old.ledgers new.ledgers (ap (λ (d : DeskView). d.ledgers) same)
-transfers_name t habits n (tr ∷ trs) (o ∷ os) old new log later (mid, now, makes, rest) =
+transfers_name R t habits n (tr ∷ trs) (o ∷ os) old new log later (mid, now, makes, rest) =
     have_on (Names t (IsFrom n)) old.ledgers mid.ledgers new.ledgers
     (have_as (Names t (Is n)) (Names t (IsFrom n)) (names_as t (Is n) (IsFrom n) (λ k e. omega (arith, e))) old.ledgers mid.ledgers (next_names t n tr habits o old mid log now makes))
-    (have_as (Names t (IsFrom (n + 1))) (Names t (IsFrom n)) (names_as t (IsFrom (n + 1)) (IsFrom n) (λ k le. omega (arith, le))) mid.ledgers new.ledgers (transfers_name t habits (n + 1) trs os mid new now later rest))
-transfers_name t habits n [] (o ∷ os) old new log later h = absurd h
+    (have_as (Names t (IsFrom (n + 1))) (Names t (IsFrom n)) (names_as t (IsFrom (n + 1)) (IsFrom n) (λ k le. omega (arith, le))) mid.ledgers new.ledgers (transfers_name R t habits (n + 1) trs os mid new now later rest))
+transfers_name R t habits n [] (o ∷ os) old new log later h = absurd h
 
-pub makes_none : (t : ℕ) (habits : Habits) (n : ℕ) (trs : List Transfer) (d : DeskView) (log : LogState) → MakesEach t habits n trs [] d d log log
-makes_none t habits n [] d log = (refl, refl)
-makes_none t habits n (tr ∷ trs) d log = (refl, refl)
+pub makes_none : (R : LogState → Type 0) (t : ℕ) (habits : Habits) (n : ℕ) (trs : List Transfer) (d : DeskView) (log : LogState)
+    → MakesEach t habits n trs [] d d log log R
+makes_none R t habits n [] d log = (refl, refl)
+makes_none R t habits n (tr ∷ trs) d log = (refl, refl)
 
 -- one transfer more at the end, and more that weren't made
-pub makes_more : (t : ℕ) (habits : Habits) (n : ℕ) (trs : List Transfer) (os : List WorkOutcome) (tr : Transfer) (unmade : List Transfer) (o : WorkOutcome) (old mid new : DeskView) (log now later : LogState)
-    → length os ≡ length trs → MakesEach t habits n trs os old mid log now → MakesNext t (n + length trs) tr habits o mid new now later
-    → MakesEach t habits n (trs ++ tr ∷ unmade) (os ++ o ∷ []) old new log later
-makes_more t habits n [] [] tr unmade o old mid new log now later many (same, unlogged) makes =
-    let here : MakesNext t n tr habits o mid new now later =
-    subst (λ k. MakesNext t k tr habits o mid new now later) (let e : n + 0 ≡ n = omega arith in e) makes in
-    (new, later, subst (λ (d : DeskView). MakesNext t n tr habits o d new log later) same (subst (λ (l : LogState). MakesNext t n tr habits o mid new l later) unlogged here), makes_none t habits (n + 1) unmade new later)
-makes_more t habits n (r ∷ trs) (p ∷ os) tr unmade o old mid new log now later many (next, state, first, rest) makes = (
+pub makes_more : (R : LogState → Type 0) (t : ℕ) (habits : Habits) (n : ℕ) (trs : List Transfer) (os : List WorkOutcome) (tr : Transfer) (unmade : List Transfer) (o : WorkOutcome) (old mid new : DeskView) (log now later : LogState)
+    → length os ≡ length trs → MakesEach t habits n trs os old mid log now R → MakesNext t (n + length trs) tr habits o mid new now later R
+    → MakesEach t habits n (trs ++ tr ∷ unmade) (os ++ o ∷ []) old new log later R
+makes_more R t habits n [] [] tr unmade o old mid new log now later many (same, unlogged) makes =
+    let here : MakesNext t n tr habits o mid new now later R =
+    subst (λ k. MakesNext t k tr habits o mid new now later R) (let e : n + 0 ≡ n = omega arith in e) makes in
+    (new, later, subst (λ (d : DeskView). MakesNext t n tr habits o d new log later R) same (subst (λ (l : LogState). MakesNext t n tr habits o mid new l later R) unlogged here), makes_none R t habits (n + 1) unmade new later)
+makes_more R t habits n (r ∷ trs) (p ∷ os) tr unmade o old mid new log now later many (next, state, first, rest) makes = (
   next,
   state,
   first,
-  makes_more t habits (n + 1) trs os tr unmade o next mid new state now later (omega (arith, many)) rest
-      (subst (λ k. MakesNext t k tr habits o mid new now later) (let e : n + suc (length trs) ≡ n + 1 + length trs = omega arith in e) makes),
+  makes_more R t habits (n + 1) trs os tr unmade o next mid new state now later (omega (arith, many)) rest
+      (subst (λ k. MakesNext t k tr habits o mid new now later R) (let e : n + suc (length trs) ≡ n + 1 + length trs = omega arith in e) makes),
 )
-makes_more t habits n (r ∷ trs) [] tr unmade o old mid new log now later many h makes = absurd (omega (arith, many))
-makes_more t habits n [] (p ∷ os) tr unmade o old mid new log now later many h makes = absurd h
+makes_more R t habits n (r ∷ trs) [] tr unmade o old mid new log now later many h makes = absurd (omega (arith, many))
+makes_more R t habits n [] (p ∷ os) tr unmade o old mid new log now later many h makes = absurd h

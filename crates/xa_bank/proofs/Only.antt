@@ -296,18 +296,18 @@ module _ (adds : (t n : ℕ) (x : XidName) (k : List ℕ) (d : ℤ) (h : History
       (voted_sent IsNone IsAnyBranch (λ b _. refl) desk.ledgers new (branches_of one two) votes.items (any_two one two) voted)
       (only_worked account one two old desk.ledgers work only)
 
-  only_one : (n : ℕ) (tr : Transfer) (habits : Habits) (o : WorkOutcome) (old new : DeskView) (log later : LogState)
-      → Makes t n tr habits o old new log later → IsUndoubted o → Earlier n old.ledgers → Later (n + 1) new.ledgers → OnlyTransfers p s t old.ledgers (pos 0)
+  only_one : {R : LogState → Type 0} (n : ℕ) (tr : Transfer) (habits : Habits) (o : WorkOutcome) (old new : DeskView) (log later : LogState)
+      → Makes t n tr habits o old new log later R → IsUndoubted o → Earlier n old.ledgers → Later (n + 1) new.ledgers → OnlyTransfers p s t old.ledgers (pos 0)
       → OnlyTransfers p s t new.ledgers (pos 0)
-  only_one n tr habits o old new log later (with_legs one two left legs (commits desk begins known work comes) kept) fine before after only =
+  only_one n tr habits o old new log later (with_legs one two left legs (commits desk begins known work comes) kept read) fine before after only =
       only_commit n tr.account one two (legs_are t n tr one two legs) (death_in habits n) o old.ledgers desk new.ledgers log left work comes fine before after only
-  only_one n tr habits o old new log later (with_legs one two left legs (refused unlogged why h) kept) fine before after only =
+  only_one n tr habits o old new log later (with_legs one two left legs (refused unlogged why h) kept read) fine before after only =
       only_quiet_one one two old.ledgers new.ledgers h only
   only_one n tr habits o old new log later (without_legs is none same unlogged) fine before after only =
       subst (λ (q : DeskView). OnlyTransfers p s t q.ledgers (pos 0)) (sym same) only
 
-  only_next : (n : ℕ) (tr : Transfer) (habits : Habits) (o : WorkOutcome) (old new : DeskView) (log later : LogState)
-      → MakesNext t n tr habits o old new log later → IsUndoubted o → Earlier n old.ledgers → Later (n + 1) new.ledgers
+  only_next : {R : LogState → Type 0} (n : ℕ) (tr : Transfer) (habits : Habits) (o : WorkOutcome) (old new : DeskView) (log later : LogState)
+      → MakesNext t n tr habits o old new log later R → IsUndoubted o → Earlier n old.ledgers → Later (n + 1) new.ledgers
       → OnlyTransfers p s t old.ledgers (pos 0)
       → OnlyTransfers p s t new.ledgers (pos 0)
   only_next n tr habits o old new log later next fine before after only =
@@ -320,42 +320,42 @@ module _ (adds : (t n : ℕ) (x : XidName) (k : List ℕ) (d : ℤ) (h : History
       after
       (only_quiet old.ledgers next.shut.ledgers (have_as IsShut IsNone (λ op is. ap is_commit is) old.ledgers next.shut.ledgers shuts) only)
 
-  only_each : (habits : Habits) (n : ℕ) (trs : List Transfer) (os : List WorkOutcome) (old new : DeskView) (log later : LogState)
-      → MakesEach t habits n trs os old new log later → All IsUndoubted os → Earlier n old.ledgers → Later (n + length trs) new.ledgers
+  only_each : (R : LogState → Type 0) (habits : Habits) (n : ℕ) (trs : List Transfer) (os : List WorkOutcome) (old new : DeskView) (log later : LogState)
+      → MakesEach t habits n trs os old new log later R → All IsUndoubted os → Earlier n old.ledgers → Later (n + length trs) new.ledgers
       → OnlyTransfers p s t old.ledgers (pos 0)
       → OnlyTransfers p s t new.ledgers (pos 0)
-  only_each habits n [] [] old new log later (same, unlogged) fine before after only =
+  only_each R habits n [] [] old new log later (same, unlogged) fine before after only =
       subst (λ (q : DeskView). OnlyTransfers p s t q.ledgers (pos 0)) (sym same) only
-  only_each habits n (tr ∷ trs) [] old new log later (same, unlogged) fine before after only =
+  only_each R habits n (tr ∷ trs) [] old new log later (same, unlogged) fine before after only =
       subst (λ (q : DeskView). OnlyTransfers p s t q.ledgers (pos 0)) (sym same) only
-  only_each habits n (tr ∷ trs) (o ∷ os) old new log later (mid, now, makes, rest) fine before after only =
+  only_each R habits n (tr ∷ trs) (o ∷ os) old new log later (mid, now, makes, rest) fine before after only =
       let later_on : Later (n + 1) mid.ledgers =
-      have_on (Names t (IsFrom (n + 1))) mid.ledgers new.ledgers final (transfers_name t habits (n + 1) trs os mid new now later rest)
+      have_on (Names t (IsFrom (n + 1))) mid.ledgers new.ledgers final (transfers_name R t habits (n + 1) trs os mid new now later rest)
       (have_as (Names t (IsFrom (n + suc (length trs)))) (Names t (IsFrom (n + 1))) (names_as t (IsFrom (n + suc (length trs))) (IsFrom (n + 1)) (λ k le. omega (arith, le))) new.ledgers final after) in
-      only_each habits (n + 1) trs os mid new now later rest (All-tail IsUndoubted o os fine) (earlier_on n old.ledgers mid.ledgers before (next_names t n tr habits o old mid log now makes))
+      only_each R habits (n + 1) trs os mid new now later rest (All-tail IsUndoubted o os fine) (earlier_on n old.ledgers mid.ledgers before (next_names t n tr habits o old mid log now makes))
       (subst (λ k. Later k new.ledgers) (let e : n + suc (length trs) ≡ n + 1 + length trs = omega arith in e) after)
       (only_next n tr habits o old mid log now makes (All-head IsUndoubted o os fine) before later_on only)
-  only_each habits n [] (o ∷ os) old new log later h fine before after only = absurd h
+  only_each R habits n [] (o ∷ os) old new log later h fine before after only = absurd h
 
   -- ---- all that the thread did
 
   opens_name : (n : ℕ) (op : Op) → IsOpenRm op → Names t (IsBelow n) op
   opens_name n op is = record { each = λ x e. let z : false ≡ true = sym (ap (λ o. names x o) is) ∙ e in cc }
 
-  pub only_transfers : (trs : List Transfer) (habits : Habits) (os : List WorkOutcome) (begun last : DeskView) (log later : LogState)
-      → begun.thread ≡ t → NothingWasSent begun.ledgers → MakesAll trs habits os begun last log later → All IsUndoubted os
+  pub only_transfers : (R : LogState → Type 0) (trs : List Transfer) (habits : Habits) (os : List WorkOutcome) (begun last : DeskView) (log later : LogState)
+      → begun.thread ≡ t → NothingWasSent begun.ledgers → MakesAll trs habits os begun last log later R → All IsUndoubted os
       → HaveSent (λ op. ⊥) last.ledgers final → OnlyTransfers p s t final (pos 0)
-  only_transfers trs habits os begun last log later thread nothing all fine end =
+  only_transfers R trs habits os begun last log later thread nothing all fine end =
       let opening_ : DeskView = all.opened in
-      let makes : MakesEach t habits habits.first trs os opening_ last log later =
-      subst (λ u. MakesEach u habits habits.first trs os opening_ last log later) thread all.makes in
+      let makes : MakesEach t habits habits.first trs os opening_ last log later R =
+      subst (λ u. MakesEach u habits habits.first trs os opening_ last log later R) thread all.makes in
       let quiet : HaveSent IsNone begun.ledgers opening_.ledgers =
       have_as IsOpenRm IsNone (λ op is. ap is_commit is) begun.ledgers opening_.ledgers all.opens in
       let before : Earlier habits.first opening_.ledgers = λ m positive.
       let z = all.opens m positive in
       subst (All (Names t (IsBelow habits.first))) (sym (z.sent ∙ ap (λ l. l ++ z.more) (nothing m positive))) (All-weaker IsOpenRm (Names t (IsBelow habits.first)) (opens_name habits.first) z.more z.each) in
       only_quiet last.ledgers final (have_as (λ op. ⊥) IsNone (λ op never. absurd never) last.ledgers final end)
-      (only_each habits habits.first trs os opening_ last log later makes fine before (have_as (λ op. ⊥) (Names t (IsFrom (habits.first + length trs))) (λ op never. absurd never) last.ledgers final end)
+      (only_each R habits habits.first trs os opening_ last log later makes fine before (have_as (λ op. ⊥) (Names t (IsFrom (habits.first + length trs))) (λ op never. absurd never) last.ledgers final end)
       (only_quiet begun.ledgers opening_.ledgers quiet (opened begun.ledgers nothing)))
 
 -- ---- what such a thread names
@@ -363,16 +363,16 @@ module _ (adds : (t n : ℕ) (x : XidName) (k : List ℕ) (d : ℤ) (h : History
 opens_any : (t : ℕ) (op : Op) → IsOpenRm op → Names t IsAny op
 opens_any t op is = record { each = λ x e. let z : false ≡ true = sym (ap (λ o. names x o) is) ∙ e in cc }
 
-pub all_told : (s : Settling) (t : ℕ) (trs : List Transfer) (habits : Habits) (os : List WorkOutcome) (begun last : DeskView) (log later : LogState)
-    → begun.thread ≡ t → NothingWasSent begun.ledgers → MakesAll trs habits os begun last log later
+pub all_told : (R : LogState → Type 0) (s : Settling) (t : ℕ) (trs : List Transfer) (habits : Habits) (os : List WorkOutcome) (begun last : DeskView) (log later : LogState)
+    → begun.thread ≡ t → NothingWasSent begun.ledgers → MakesAll trs habits os begun last log later R
     → HaveSent (λ op. ⊥) last.ledgers (ledgers_of s t) → (m : ℕ) → 1 ≤ m → All (Names t IsAny) (sent s t m)
-all_told s t trs habits os begun last log later thread nothing all end m positive =
+all_told R s t trs habits os begun last log later thread nothing all end m positive =
     let final : List LedgerView = ledgers_of s t in
-    let makes : MakesEach t habits habits.first trs os all.opened last log later =
-    subst (λ u. MakesEach u habits habits.first trs os all.opened last log later) thread all.makes in
+    let makes : MakesEach t habits habits.first trs os all.opened last log later R =
+    subst (λ u. MakesEach u habits habits.first trs os all.opened last log later R) thread all.makes in
     let z =
     have_on (Names t IsAny) begun.ledgers last.ledgers final
     (have_on (Names t IsAny) begun.ledgers all.opened.ledgers last.ledgers (have_as IsOpenRm (Names t IsAny) (opens_any t) begun.ledgers all.opened.ledgers all.opens)
-    (have_as (Names t (IsFrom habits.first)) (Names t IsAny) (names_as t (IsFrom habits.first) IsAny (λ k e. tt)) all.opened.ledgers last.ledgers (transfers_name t habits habits.first trs os all.opened last log later makes)))
+    (have_as (Names t (IsFrom habits.first)) (Names t IsAny) (names_as t (IsFrom habits.first) IsAny (λ k e. tt)) all.opened.ledgers last.ledgers (transfers_name R t habits habits.first trs os all.opened last log later makes)))
     (have_as (λ op. ⊥) (Names t IsAny) (λ op never. absurd never) last.ledgers final end) m positive in
     subst (All (Names t IsAny)) (sym (by_ledger final m (λ (a : LedgerView). a.sent) positive refl ∙ z.sent ∙ ap (λ l. l ++ z.more) (nothing m positive))) z.each

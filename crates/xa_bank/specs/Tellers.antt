@@ -1,13 +1,14 @@
 -- What a teller comes to.
-use Rattle.std.specs.Prelude.{◌≡◌, ◌+◌, true, false, None, List, [], ◌∷◌, ◌++◌, length}
+use Rattle.std.specs.Prelude.{◌≡◌, ℕ, ◌+◌, ◌-◌, Bool, true, false, None, List, [], ◌∷◌, ◌++◌, length}
 use Rattle.std.specs.List.{All, list_any}
+use Rattle.xa_words.specs.Tran.{TranName}
 use Rattle.xa_words.specs.declared.death.Death.{Death}
 use Rattle.xa_words.specs.declared.death.Death.TheVariants as death
 use Rattle.xa_desk.specs.DeskView.{DeskView}
 use Rattle.xa_switch.specs.Scans.{ScanView}
 use Rattle.xa_crew.specs.declared.client_job.Attended.{Attended}
 use Rattle.xa_driver.specs.declared.done.Ending.{Ending}
-use Rattle.xa_log.specs.Log.{LogState}
+use Rattle.xa_log.specs.Log.{IsReadAs, LogState}
 use Rattle.xa_atomicity.specs.Outcomes.{is_heuristic, is_in_doubt}
 use Rattle.xa_work.specs.declared.unit.WorkOutcome.{WorkOutcome}
 use Rattle.xa_work.specs.declared.unit.WorkOutcome.TheVariants.{Decided, Died, Refused, Undecided}
@@ -33,27 +34,42 @@ pub data Comes (Known Knows : Type 0) (trs : List Transfer) (os : List WorkOutco
 -- before it
 pub record HasMade (trs : List Transfer) (habits : Habits) (before : List WorkOutcome) (old : DeskView)
     (log : LogState) (Known : Type 0) (after : List WorkOutcome) (new : DeskView) (later : LogState)
-    (Knows : Type 0) : Type 0 where
+    (Knows : Type 0) (MayRead : LogState → Type 0) : Type 0 where
   pub more : List WorkOutcome
   pub told : after ≡ before ++ more
-  pub makes : MakesAll trs habits more old new log later
+  pub makes : MakesAll trs habits more old new log later MayRead
   pub comes : Comes Known Knows trs more
 
 -- Its transfers and its habits stay. Unless memory was refused, there is an outcome more for each of its transfers,
 -- where it isn't to die and its log is known at first and at the end; and its desk and its log show that it came so.
-pub record Works {L : Type 0} (state : L → LogState) (knows : L → Type 0) (t : Teller L) (d : DeskView)
-    (t' : Teller L) (d' : DeskView) : Type 0 where
+pub record Works {L : Type 0} (state : L → LogState) (knows : L → Type 0)
+    (loses : TranName → List Bool → L → L → Type 0) (t : Teller L) (d : DeskView) (t' : Teller L) (d' : DeskView)
+    : Type 0 where
   pub transfers : t'.transfers ≡ t.transfers
   pub habits : t'.habits ≡ t.habits
   pub outcomes : t'.wants_memory ≡ false → t.habits.death ≡ None → knows t.log → knows t'.log
       → length t'.outcomes.items ≡ length t.outcomes.items + length t.transfers.items
   pub made : t'.wants_memory ≡ false → HasMade t.transfers.items t.habits t.outcomes.items d (state t.log)
-      (knows t.log) t'.outcomes.items d' (state t'.log) (knows t'.log)
+      (knows t.log) t'.outcomes.items d' (state t'.log) (knows t'.log) (IsReadAs state knows loses t'.log)
+
+-- nobody knows of the transfer whether its record was made
+abbrev pub is_undecided : WorkOutcome → Bool
+is_undecided (Undecided votes) = true
+is_undecided o = false
+
+-- so it is of one that the teller made
+abbrev pub has_undecided : {L : Type 0} → Teller L → Bool
+has_undecided t = list_any is_undecided t.outcomes.items
+
+-- the number of the last transfer that it made
+abbrev pub last_number : {L : Type 0} → Teller L → ℕ
+last_number t = t.habits.first + length t.outcomes.items - 1
 
 -- in an opening that was opened again it works as in the first, and its scan of what was left stays
-pub record WorksOn {L : Type 0} (state : L → LogState) (knows : L → Type 0) (t : Teller L) (d : DeskView)
-    (scan : ScanView) (t' : Teller L) (d' : DeskView) (scan' : ScanView) : Type 0 where
-  pub works : Works state knows t d t' d'
+pub record WorksOn {L : Type 0} (state : L → LogState) (knows : L → Type 0)
+    (loses : TranName → List Bool → L → L → Type 0) (t : Teller L) (d : DeskView) (scan : ScanView) (t' : Teller L)
+    (d' : DeskView) (scan' : ScanView) : Type 0 where
+  pub works : Works state knows loses t d t' d'
   pub scan_ : scan' ≡ scan
 
 -- Nothing is in doubt of a transfer with which the teller died: no branch had heard of the decision, so that none is

@@ -10,13 +10,15 @@ use Rattle.xa_switch.specs.Asking.{native}
 use Rattle.xa_switch.specs.Putting.{Calls}
 use Rattle.xa_driver.specs.declared.branch.Branch.{Branch}
 use Rattle.xa_driver.specs.Forgetful.{is_acknowledged}
-use Rattle.xa_log.specs.Log.{LogState, without_record}
+use Rattle.xa_driver.specs.Decision.{yes_of}
+use Rattle.xa_driver.specs.Trace.{IsTranOf}
+use Rattle.xa_log.specs.Log.{IsEither, LogState, without_record}
 use Rattle.xa_work.specs.declared.unit.Change.{Change}
 use Rattle.xa_work.specs.declared.unit.Refusal.TheVariants.{NotBegun}
 use Rattle.xa_work.specs.declared.unit.WorkOutcome.{WorkOutcome}
 use Rattle.xa_work.specs.declared.unit.WorkOutcome.TheVariants.{Decided, Refused}
 use Rattle.xa_work.specs.Sent.{HaveSent, IsOpenRm}
-use Rattle.xa_work.specs.Units.{IsGivenUp, Transacts}
+use Rattle.xa_work.specs.Units.{IfLost, IsGivenUp, Transacts}
 use Rattle.xa_bank.specs.Numbered.{death_in, shut_before}
 use Rattle.xa_bank.specs.declared.habits.Habits.{Habits}
 use Rattle.xa_bank.specs.declared.teller.Leg.{Leg}
@@ -28,9 +30,18 @@ use Rattle.xa_bank.specs.declared.teller.Transfer.{Transfer}
 abbrev pub gtrid_of : ℕ → ℕ → List ℕ
 gtrid_of t n = to_be_bytes w64 (t * 2 ^ 32 + n)
 
+-- the format of its name
+abbrev pub FORMAT : ℤ
+FORMAT = pos 1
+
+-- the name of that transaction
+abbrev pub tran_named : ℕ → ℕ → TranName
+tran_named t n = record { format = FORMAT; gtrid = gtrid_of t n }
+
 -- the leg adds d at store m, by a branch of this global transaction
 pub record IsLeg (gtrid : List ℕ) (m : ℕ) (d : ℤ) (leg : Leg) : Type 0 where
   pub store : leg.branch.m ≡ m
+  pub format_ : leg.branch.xid.format ≡ FORMAT
   pub gtrid_ : leg.branch.xid.gtrid ≡ gtrid
   pub adds : leg.delta ≡ d
 
@@ -69,16 +80,23 @@ abbrev pub forgotten : TranName → WorkOutcome → LogState → LogState
 forgotten tran (Decided done) log = if is_acknowledged done then without_record log tran else log
 forgotten tran o log = log
 
+-- Where nobody knows whether the log has the record that the votes on these branches wanted: whatever it may be read
+-- as, once it is opened again, is what it was, with that record or without it.
+abbrev pub IsReadEither : (LogState → Type 0) → List Branch → LogState → WorkOutcome → Type 0
+IsReadEither MayRead bs log o =
+    IfLost (λ votes. (tran : TranName) (read : LogState) → IsTranOf bs tran → MayRead read
+    → IsEither log read tran (yes_of bs votes)) o
+
 -- What comes of thread t's transfer of number n, by its habits: that of its legs, and the record may be forgotten; or
--- it has none, and nothing is done.
+-- it has none, and nothing is done. `MayRead` says what the log may be read as, once it is opened again.
 pub data Makes (t n : ℕ) (tr : Transfer) (habits : Habits) (o : WorkOutcome) (old new : DeskView)
-    (log later : LogState) : Type 0 where
+    (log later : LogState) (MayRead : LogState → Type 0) : Type 0 where
   with_legs : (one two : Leg) (left : LogState) → AreLegs t n tr one two
       → Transfers one two tr.account (death_in habits n) o old new log left
       → later ≡ (if habits.forgets then forgotten (tran_of one.branch.xid) o left else left)
-      → Makes t n tr habits o old new log later
+      → IsReadEither MayRead (branches_of one two) log o → Makes t n tr habits o old new log later MayRead
   without_legs : o ≡ Refused NotBegun → HasNoLegs n tr → new ≡ old → later ≡ log
-      → Makes t n tr habits o old new log later
+      → Makes t n tr habits o old new log later MayRead
 
 -- What comes of thread t's transfer of number n where memory was wanted: it is given up.
 pub record WantsMemory (t n : ℕ) (tr : Transfer) (old new : DeskView) (log : LogState) : Type 0 where
@@ -94,24 +112,24 @@ MayShut (Some m) old new = (answer : ℤ) × Calls (native Shut 0) old m new ans
 
 -- what comes of it, where the teller shuts a store first, or none
 pub record MakesNext (t n : ℕ) (tr : Transfer) (habits : Habits) (o : WorkOutcome) (old new : DeskView)
-    (log later : LogState) : Type 0 where
+    (log later : LogState) (MayRead : LogState → Type 0) : Type 0 where
   pub shut : DeskView
   pub shuts : MayShut (shut_before habits n) old shut
-  pub makes : Makes t n tr habits o shut new log later
+  pub makes : Makes t n tr habits o shut new log later MayRead
 
 -- so for as many of these transfers as there are outcomes, one after the other, with numbers from n on
 abbrev pub MakesEach : ℕ → Habits → ℕ → List Transfer → List WorkOutcome → DeskView → DeskView → LogState
-    → LogState → Type 0
-MakesEach t habits n [] [] old new log later = (new ≡ old) × (later ≡ log)
-MakesEach t habits n (tr ∷ trs) [] old new log later = (new ≡ old) × (later ≡ log)
-MakesEach t habits n (tr ∷ trs) (o ∷ os) old new log later =
-    (mid : DeskView) × (now : LogState) × MakesNext t n tr habits o old mid log now
-    × MakesEach t habits (n + 1) trs os mid new now later
-MakesEach t habits n [] (o ∷ os) old new log later = ⊥
+    → LogState → (LogState → Type 0) → Type 0
+MakesEach t habits n [] [] old new log later MayRead = (new ≡ old) × (later ≡ log)
+MakesEach t habits n (tr ∷ trs) [] old new log later MayRead = (new ≡ old) × (later ≡ log)
+MakesEach t habits n (tr ∷ trs) (o ∷ os) old new log later MayRead =
+    (mid : DeskView) × (now : LogState) × MakesNext t n tr habits o old mid log now MayRead
+    × MakesEach t habits (n + 1) trs os mid new now later MayRead
+MakesEach t habits n [] (o ∷ os) old new log later MayRead = ⊥
 
 -- the thread opened stores, and then made these transfers, the first of which has the number of its habits
 pub record MakesAll (trs : List Transfer) (habits : Habits) (os : List WorkOutcome) (old new : DeskView)
-    (log later : LogState) : Type 0 where
+    (log later : LogState) (MayRead : LogState → Type 0) : Type 0 where
   pub opened : DeskView
   pub opens : HaveSent IsOpenRm old.ledgers opened.ledgers
-  pub makes : MakesEach old.thread habits habits.first trs os opened new log later
+  pub makes : MakesEach old.thread habits habits.first trs os opened new log later MayRead

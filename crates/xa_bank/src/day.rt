@@ -37,12 +37,13 @@ pub fn run_day<R: Threads + Wait + Copy + Send + 'static, L: DecisionLog + Drop 
     tellers: Vec<Teller<L>>,
 ) -> Result<Day<L>, CrewFault<Teller<L>>>
     requires { length tellers.items ≡ plan.now.threads }
-    ensures ran { IfOk result (λ day. IsRun (Works L.state L.knows) (planned plan.now) tellers.items
+    ensures ran { IfOk result (λ day. IsRun (Works L.state L.knows L.loses) (planned plan.now) tellers.items
         day.clients.items day.settled) }
     ensures conserved { IfOk result (λ day. All EndsWhole day.clients.items
         → settled_worth plan.now day.settled ≡ plan_worth plan.now) }
     ensures bad { IfErr result (λ f. f ≡ CrewFault.BadPlan → ¬ IsSound plan.now) }
-    ensures unsettled { IfErr result (PutsBack (HasRunAll (Works L.state L.knows) (planned plan.now) tellers.items)) }
+    ensures unsettled { IfErr result (PutsBack (HasRunAll (Works L.state L.knows L.loses) (planned plan.now)
+        tellers.items)) }
 {
     transfers_conserve_the_worth();
     managers_open_with_their_accounts();

@@ -1,12 +1,15 @@
 //! What a teller does: transfers, one after the other, each as one unit of work.
 ghost use Rattle.std.specs.Prelude.{◌≡◌, ◌+◌, ℤ, ◌≤ℤ◌, neg_ℤ, pos, [], length, false, IfOk, MatchOption, None, OnErr};
-ghost use Rattle.std.specs.Prelude.{OnOk, Some};
+ghost use Rattle.std.specs.Prelude.{◌-◌, ◌^◌, ◌<◌, OnOk, Some};
 ghost use Rattle.xa_desk.specs.GoesOn.{GoesOn};
 ghost use Rattle.xa_desk.specs.Kept.{AllKept};
-ghost use Rattle.xa_work.specs.Units.{IsGivenUp, LeavesKnown};
-ghost use Rattle.xa_bank.specs.Tellers.{HasMade, plain};
+ghost use Rattle.xa_atomicity.specs.Cut.{is_recorded};
+ghost use Rattle.xa_log.specs.Log.{IsReadAs};
+ghost use Rattle.xa_work.specs.Units.{IfLost, IsGivenUp, LeavesKnown};
+ghost use Rattle.xa_bank.specs.Tellers.{HasMade, has_undecided, last_number, plain};
 ghost use Rattle.xa_bank.specs.Transfers.{AreLegs, HasNoLegs, IsLeg, Makes, Transfers, WantsMemory, branches_of};
-ghost use Rattle.xa_bank.specs.Transfers.{MakesNext, MayShut, change_of, changes_of, forgotten};
+ghost use Rattle.xa_bank.specs.Transfers.{IsReadEither, MakesNext, MayShut, change_of, changes_of, forgotten, gtrid_of};
+ghost use Rattle.xa_bank.specs.Transfers.{tran_named};
 
 use crate::habits::{DiesAt, Habits};
 use std::alloc::{AllocError, Global};
@@ -16,7 +19,7 @@ use xa_crew::{Client, ClientAgain};
 use xa_desk::laws::desks_go_on;
 use xa_desk::{Desk, Idle};
 use xa_driver::{Branch, forget_acknowledged};
-use xa_log::{DecisionLog, MemoryLog};
+use xa_log::{DecisionLog, MemoryLog, ReopenLog};
 use xa_switch::{Scan, native};
 use xa_words::{Death, Delta, Key, RmOp, TMNOFLAGS, Tran, Xid};
 use xa_work::{Change, Refusal, WorkOutcome, open_all, transact, transact_until};
@@ -47,6 +50,9 @@ pub struct Teller<L> {
     pub wants_memory: bool,
 }
 
+// The format of a transfer's name.
+const FORMAT: i32 = 1;
+
 // A store's branch of the transfer, and what is added to its account there.
 #[derive(Clone, Copy)]
 pub(crate) struct Leg {
@@ -67,6 +73,23 @@ impl Leg {
     }
 }
 
+// The gtrid of the thread's transfer of this number.
+fn gtrid_of(thread: u32, number: u32) -> [u8; 8]
+    ensures { result ≡ gtrid_of thread number }
+{
+    (u64::from(thread) * 0x1_0000_0000 + u64::from(number)).to_be_bytes()
+}
+
+// The name of that transaction.
+fn tran_named(thread: u32, number: u32) -> Tran
+    ensures { result ≡ tran_named thread number }
+{
+    let Ok(tran) = Tran::new(FORMAT, &gtrid_of(thread, number)) else {
+        unreachable!()
+    };
+    tran
+}
+
 // The store's leg of this global transaction.
 fn leg_of(gtrid: &[u8], bqual: &[u8], m: u32, amount: i64) -> Leg
     requires gtrid { length gtrid.now ≡ 8 }
@@ -75,7 +98,7 @@ fn leg_of(gtrid: &[u8], bqual: &[u8], m: u32, amount: i64) -> Leg
     requires high { amount ≤ℤ pos u32.MAX }
     ensures { IsLeg gtrid.now m amount result }
 {
-    let (Ok(xid), Some(delta)) = (Xid::new(1, gtrid, bqual), Delta::new(amount)) else {
+    let (Ok(xid), Some(delta)) = (Xid::new(FORMAT, gtrid, bqual), Delta::new(amount)) else {
         unreachable!()
     };
     let branch = Branch { m, xid };
@@ -89,7 +112,7 @@ fn legs_of(thread: u32, number: usize, transfer: &Transfer) -> Option<(Leg, Leg)
         (λ legs. AreLegs thread number transfer.now legs.0 legs.1) }
 {
     let number = u32::try_from(number).ok()?;
-    let gtrid = (u64::from(thread) * 0x1_0000_0000 + u64::from(number)).to_be_bytes();
+    let gtrid = gtrid_of(thread, number);
     let Transfer {
         from,
         to,
@@ -127,6 +150,8 @@ fn carry_out<R: Wait, L: DecisionLog, I: Idle>(
     ensures carried { IfOk result (λ o. Transfers one.now two.now account death o desk.old desk.new (L.state log.old)
         (L.state log.new)) }
     ensures known { IfOk result (LeavesKnown (L.knows log.new)) }
+    ensures read { IfOk result (IsReadEither (IsReadAs L.state L.knows L.loses log.new) (branches_of one.now two.now)
+        (L.state log.old)) }
     ensures wants { OnErr result (IsGivenUp (branches_of one.now two.now) (changes_of one.now two.now account) desk.old
         desk.new (L.state log.old)) }
     ensures unlogged { OnErr result (log.new ≡ log.old) }
@@ -144,6 +169,7 @@ fn forget_made<L: DecisionLog>(log: &mut L, tran: &Tran, outcome: &WorkOutcome)
     requires { LeavesKnown (L.knows log.old) outcome.now }
     ensures forgotten { L.state log.new ≡ forgotten tran.now outcome.now (L.state log.old) }
     ensures known { LeavesKnown (L.knows log.new) outcome.now }
+    ensures lost { IfLost (λ votes. log.new ≡ log.old) outcome.now }
 {
     if let WorkOutcome::Decided(done) = outcome {
         forget_acknowledged(log, tran, done);
@@ -166,7 +192,7 @@ fn make<R: Wait, L: DecisionLog, I: Idle>(
     ensures kept { AllKept desk.old → AllKept desk.new }
     ensures idled { I.leads idle.old idle.new }
     ensures makes { IfOk result (λ o. Makes desk.old.thread number transfer.now habits.now o desk.old desk.new
-        (L.state log.old) (L.state log.new)) }
+        (L.state log.old) (L.state log.new) (IsReadAs L.state L.knows L.loses log.new)) }
     ensures known { IfOk result (LeavesKnown (L.knows log.new)) }
     ensures wants { OnErr result (WantsMemory desk.old.thread number transfer.now desk.old desk.new
         (L.state log.old)) }
@@ -217,7 +243,7 @@ fn make_next<R: Wait, L: DecisionLog, I: Idle>(
     ensures kept { AllKept desk.old → AllKept desk.new }
     ensures idled { I.leads idle.old idle.new }
     ensures makes { IfOk result (λ o. MakesNext desk.old.thread number transfer.now habits.now o desk.old desk.new
-        (L.state log.old) (L.state log.new)) }
+        (L.state log.old) (L.state log.new) (IsReadAs L.state L.knows L.loses log.new)) }
     ensures known { IfOk result (LeavesKnown (L.knows log.new)) }
 {
     desks_go_on();
@@ -244,7 +270,8 @@ fn make_all<R: Wait, L: DecisionLog, I: Idle>(
     ensures each { OnOk result (habits.now.death ≡ None → L.knows log.old → L.knows log.new
         → length outcomes.new.items ≡ length outcomes.old.items + length transfers.now) }
     ensures made { OnOk result (HasMade transfers.now habits.now outcomes.old.items desk.old (L.state log.old)
-        (L.knows log.old) outcomes.new.items desk.new (L.state log.new) (L.knows log.new)) }
+        (L.knows log.old) outcomes.new.items desk.new (L.state log.new) (L.knows log.new)
+        (IsReadAs L.state L.knows L.loses log.new)) }
 {
     desks_go_on();
     idles_go_on::<I>();
@@ -331,6 +358,30 @@ impl<L: DecisionLog + Drop> Teller<L> {
         &self.log
     }
 
+    /// Whether nobody knows of one of its transfers whether the log has its record. No other was made after that.
+    pub fn has_undecided(&self) -> bool
+        ensures { result ≡ has_undecided self.now }
+    {
+        self.outcomes
+            .iter()
+            .any(|outcome| matches!(outcome, WorkOutcome::Undecided(_)))
+    }
+
+    /// Whether its log has the record of the last transfer that it made, as the teller of this thread. It has none of a
+    /// transfer whose number is too great.
+    pub fn has_last_record(&self, thread: u32) -> bool
+        requires made { 0 < length self.now.outcomes.items }
+        requires known { L.knows self.now.log }
+        ensures { last_number self.now < 2 ^ 32
+            → result ≡ is_recorded (L.state self.now.log) (tran_named thread (last_number self.now)) }
+    {
+        let number = self.habits.first as usize + (self.outcomes.len() - 1);
+        match u32::try_from(number) {
+            Ok(number) => self.log.has(&tran_named(thread, number)).is_some(),
+            Err(_) => false,
+        }
+    }
+
     /// Its decision log, and the teller goes.
     pub fn into_log(self) -> L
         ensures { result ≡ self.log }
@@ -347,10 +398,37 @@ impl<L: DecisionLog + Drop> Teller<L> {
     }
 }
 
+impl<L: ReopenLog + Drop> Teller<L> {
+    /// The same teller, with its log opened again.
+    pub fn with_log_reopened(self) -> Teller<L>
+        ensures same { result ≡ record self { log = result.log } }
+        ensures reopened { L.reopens self.log result.log }
+        ensures kept { L.knows self.log → result.log ≡ self.log }
+        ensures read { L.knows result.log → IsReadAs L.state L.knows L.loses self.log (L.state result.log) }
+    {
+        let Teller {
+            alloc,
+            log,
+            transfers,
+            habits,
+            outcomes,
+            wants_memory,
+        } = self;
+        Teller {
+            alloc,
+            log: log.reopen(),
+            transfers,
+            habits,
+            outcomes,
+            wants_memory,
+        }
+    }
+}
+
 impl<L: DecisionLog + Drop> Client for Teller<L> {
     ghost use Rattle.xa_bank.specs.Tellers.{Works};
 
-    ghost works = { Works L.state L.knows };
+    ghost works = { Works L.state L.knows L.loses };
 
     fn work<R: Wait, I: Idle>(&mut self, rt: &R, desk: &mut Desk, idle: &mut I) {
         let made = make_all(
@@ -371,7 +449,7 @@ impl<L: DecisionLog + Drop> Client for Teller<L> {
 impl<L: DecisionLog + Drop> ClientAgain for Teller<L> {
     ghost use Rattle.xa_bank.specs.Tellers.{WorksOn};
 
-    ghost works_again = { WorksOn L.state L.knows };
+    ghost works_again = { WorksOn L.state L.knows L.loses };
 
     fn work_again<R: Wait, I: Idle>(
         &mut self,

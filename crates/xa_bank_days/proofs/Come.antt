@@ -2,7 +2,7 @@
 -- first branch isn't read only.
 use Rattle.std.specs.Prelude.{is_some, if◌then◌else◌}
 use Rattle.std.proofs.Common.{◌≡◌, ◌≢◌, ℕ, zero, Bool, true, false, not, ◌&&◌, ◌||◌, cond, Option, None, Some, List, [], ◌∷◌, ◌++◌, length, append_assoc, sym}
-use Rattle.std.proofs.Common.{refl, ap, ◌∙◌, subst, arith}
+use Rattle.std.proofs.Common.{refl, ap, ◌∙◌, subst, arith, inl, inr}
 use Rattle.std.specs.List.{Contains}
 use Rattle.std.specs.Ordering.{eq_by_cmp, is_eq}
 use Rattle.std.specs.Cmp.{tied_itself}
@@ -21,7 +21,7 @@ use Rattle.xa_words.specs.declared.request.Op.{Op}
 use Rattle.xa_words.specs.declared.request.Op.TheVariants.{Prepare}
 use Rattle.xa_desk.specs.LedgerView.{LedgerView, learnt_shut, with_collected, with_sent}
 use Rattle.xa_desk.specs.DeskView.{DeskView, ledger}
-use Rattle.xa_log.specs.Log.{LogState, record_of, with_record}
+use Rattle.xa_log.specs.Log.{IsEither, LogState, record_of, with_record}
 use Rattle.xa_log.specs.Transactions.{tran_cmp}
 use Rattle.xa_log.proofs.Transactions.{tran_cmp_total, tran_cmp-IsAntisymmetric}
 use Rattle.xa_driver.specs.declared.branch.Branch.{Branch}
@@ -31,16 +31,18 @@ use Rattle.xa_driver.specs.Course.{AtBranch}
 use Rattle.xa_driver.specs.Deaths.{CameTo, HaveAsked, HaveTold, IsDecidedBy, PutsLedger, VotesAndObeys}
 use Rattle.xa_driver.specs.Decision.{decides_commit, has_yes, yes_of}
 use Rattle.xa_driver.specs.Resolving.{AsksLedger}
-use Rattle.xa_driver.specs.Trace.{EachBranch, Logs, appended, decision_of, failed, unwanted}
+use Rattle.xa_driver.specs.Trace.{EachBranch, IsTranOf, Logs, appended, decision_of, failed, unwanted}
 use Rattle.xa_atomicity.specs.Cut.{IsCut, is_recorded}
 use Rattle.xa_atomicity.proofs.CutVotes.{finished_law}
 use Rattle.xa_atomicity.proofs.Died.{died_is_cut}
+use Rattle.xa_atomicity.proofs.Staged.{nothing_between, undecided_is_cut}
 use Rattle.xa_work.specs.declared.unit.WorkOutcome.{WorkOutcome}
 use Rattle.xa_work.specs.Sent.{HasSent}
-use Rattle.xa_work.specs.Units.{ComesOfCommit, LeavesKnown, is_to_commit}
+use Rattle.xa_work.specs.Units.{ComesOfCommit, IfLost}
 use Rattle.xa_work.specs.Units.ComesOfCommit.{cut_short, in_full, undecided}
 use Rattle.xa_work.proofs.Sent.{none_sent}
-use Rattle.xa_bank_days.proofs.Obeyed.{Obeys, ObeysAll, after_heard, after_obeyed, after_vote, died_obeys, made_obeys}
+use Rattle.xa_bank_days.specs.Days.{is_applied}
+use Rattle.xa_bank_days.proofs.Obeyed.{Obeys, ObeysAll, after_heard, after_obeyed, after_vote, died_obeys, made_obeys, voted_obeys}
 
 -- ---- the record
 
@@ -57,17 +59,27 @@ logged_is t managers votes logged log later absent (failed wants off is) = ap (�
 logged_is t managers votes logged log later absent (unwanted wants off is) = ap (λ (l : LogState). is_recorded l t) is ∙ ap is_some absent ∙ sym off
 
 -- those of other transactions stay
-others_stay : (own t : TranName) (managers : List Bool) (votes : List Code) (logged : Bool) (log later : LogState) → t ≢ own
-    → Logs own managers votes logged log later
-    → record_of later t ≡ record_of log t
-others_stay own t managers votes logged log later other (appended wants on is) =
-    ap (λ (l : LogState). record_of l t) is ∙ get-insert tran_cmp_total log.records own managers t
+unadded : (own t : TranName) (managers : List Bool) (log : LogState) → t ≢ own → record_of (with_record log own managers) t ≡ record_of log t
+unadded own t managers log other =
+    get-insert tran_cmp_total log.records own managers t
     ∙ elim (eq_by_cmp tran_cmp t own) as (λ c. eq_by_cmp tran_cmp t own ≡ c → cond c (Some managers) (map.get log.records t) ≡ map.get log.records t) [
       | true ↦ λ same. absurd (other (tran_cmp-IsAntisymmetric t own (is_equal _ same)))
       | false ↦ λ _. refl
     ] refl
+
+others_stay : (own t : TranName) (managers : List Bool) (votes : List Code) (logged : Bool) (log later : LogState) → t ≢ own
+    → Logs own managers votes logged log later
+    → record_of later t ≡ record_of log t
+others_stay own t managers votes logged log later other (appended wants on is) =
+    ap (λ (l : LogState). record_of l t) is ∙ unadded own t managers log other
 others_stay own t managers votes logged log later other (failed wants off is) = ap (λ (l : LogState). record_of l t) is
 others_stay own t managers votes logged log later other (unwanted wants off is) = ap (λ (l : LogState). record_of l t) is
+
+-- so they do where nobody knew whether this one was made
+either_others : (own t : TranName) (managers : List Bool) (log later : LogState) → t ≢ own → IsEither log later own managers
+    → record_of later t ≡ record_of log t
+either_others own t managers log later other (inl same) = ap (λ (l : LogState). record_of l t) same
+either_others own t managers log later other (inr added) = ap (λ (l : LogState). record_of l t) added ∙ unadded own t managers log other
 
 -- ---- the first vote
 
@@ -157,13 +169,14 @@ decided_so t managers votes logged log later some (unwanted wants off is) =
 
 -- ---- what it came to
 
--- A commit of these branches, the first of which isn't read only, came to this: made, or cut short.
-pub record HasCome (one two : Branch) (o : WorkOutcome) (desk : DeskView) (new : List LedgerView) (log later : LogState) : Type 0 where
+-- A commit of these branches, the first of which isn't read only, came to this, and was to commit or not: made, or cut
+-- short, or without a record that anybody knows of.
+pub record HasCome (one two : Branch) (was : Bool) (desk : DeskView) (new : List LedgerView) (log later : LogState) : Type 0 where
   pub endings : List Ending
   pub cut : IsCut (one ∷ two ∷ []) desk new log later endings
   pub obeys : ObeysAll (one ∷ two ∷ []) desk.ledgers new
   pub others : (t : TranName) → t ≢ tran_of one.xid → record_of later t ≡ record_of log t
-  pub applied : (OnlyReads one (ledger desk.ledgers one.m) (ledger new one.m) → ⊥) → is_recorded later (tran_of one.xid) ≡ is_to_commit o
+  pub applied : (OnlyReads one (ledger desk.ledgers one.m) (ledger new one.m) → ⊥) → is_recorded later (tran_of one.xid) ≡ was
 
 module _ (one two : Branch) (desk : DeskView) (new : List LedgerView) (log later : LogState) (tran : TranName) (absent : record_of log tran ≡ None)
     (never : OnlyReads one (ledger desk.ledgers one.m) (ledger new one.m) → ⊥) where
@@ -207,9 +220,15 @@ module _ (tran : TranName) (bs : List Branch) (old new : ℕ → LedgerView) (lo
   came_others (death.Telling k) t other far = decided_others t other far.decided
   came_others death.Told t other far = decided_others t other far.decided
 
-pub has_come : (one two : Branch) (at : Option Death) (o : WorkOutcome) (desk : DeskView) (new : List LedgerView) (log later : LogState)
-    → ComesOfCommit (one ∷ two ∷ []) at o desk new log later → LeavesKnown (Unit {0}) o → HasCome one two o desk new log later
-has_come one two at o desk new log later (in_full d none is made) known =
+-- what the log was read as, where nobody knew whether it has the record of these branches, and what was found
+pub record IsReadSo (bs : List Branch) (tran : TranName) (log later : LogState) (found : Bool) (votes : List Code) : Type 0 where
+  pub either : (t : TranName) → IsTranOf bs t → IsEither log later t (yes_of bs votes)
+  pub found_ : is_recorded later tran ≡ found
+
+pub has_come : (one two : Branch) (at : Option Death) (found : Bool) (o : WorkOutcome) (desk : DeskView) (new : List LedgerView) (log later : LogState)
+    → ComesOfCommit (one ∷ two ∷ []) at o desk new log later → IfLost (IsReadSo (one ∷ two ∷ []) (tran_of one.xid) log later found) o
+    → HasCome one two (is_applied found o) desk new log later
+has_come one two at found o desk new log later (in_full d none is made) read =
     let first : tran_of one.xid ≡ made.may.tran = made.may.one.0 in
     let managers : List Bool = yes_of (one ∷ two ∷ []) d.votes.items in
     record {
@@ -222,9 +241,9 @@ has_come one two at o desk new log later (in_full d none is made) known =
           ∙ by_votes one two desk new log later made.may.tran made.may.absent never d.votes.items d.logged d.commit
           (made_first desk.ledgers new one (two ∷ []) d.commit d.votes.items made.trace.course.seconds d.endings.items made.trace.course.each) made.trace.course.decision
           made.trace.course.logs
-          ∙ ap is_to_commit (sym is);
+          ∙ ap (is_applied found) (sym is);
     }
-has_come one two at o desk new log later (cut_short point known_ some is died) known =
+has_come one two at found o desk new log later (cut_short point known_ some is died) read =
     let first : tran_of one.xid ≡ died.may.tran = died.may.one.0 in
     record {
       endings = known_.endings.items;
@@ -235,7 +254,19 @@ has_come one two at o desk new log later (cut_short point known_ some is died) k
       applied = λ never.
           ap (is_recorded later) first
           ∙ came_commit one two desk new log later died.may.tran died.may.absent never known_ point died.dies.far
-          ∙ ap is_to_commit (sym is);
+          ∙ ap (is_applied found) (sym is);
     }
-has_come one two at o desk new log later (undecided votes decides is may voted wanted) known =
-    absurd (subst (LeavesKnown (Unit {0})) is known tt)
+has_come one two at found o desk new log later (undecided votes decides is may voted wanted) read =
+    let bs : List Branch = one ∷ two ∷ [] in
+    let so : IsReadSo bs (tran_of one.xid) log later found votes.items =
+    subst (IfLost (IsReadSo bs (tran_of one.xid) log later found)) is read in
+    let first : tran_of one.xid ≡ may.tran = may.one.0 in
+    let managers : List Bool = yes_of bs votes.items in
+    let either : IsEither log later may.tran managers = so.either may.tran may.one in
+    record {
+      endings = [];
+      cut = undecided_is_cut bs desk new new log later votes.items may.tran may voted (nothing_between bs new) may.one wanted either;
+      obeys = voted_obeys bs desk.ledgers new votes.items voted;
+      others = λ t other. either_others may.tran t managers log later (λ e. other (e ∙ sym first)) either;
+      applied = λ never. so.found_ ∙ ap (is_applied found) (sym is);
+    }

@@ -1,14 +1,14 @@
 -- After a night that told of each branch XA_OK the next day may begin: no store has a branch, and the logs have records of earlier
 -- transfers alone.
 use Rattle.std.specs.Prelude.{is_some}
-use Rattle.std.proofs.Common.{◌≡◌, ℕ, ◌+◌, ◌<◌, ◌≤◌, ⊎_elim, true, false, None, Some, List, [], ◌∷◌, length, get_or, map, slice_get, sym, refl, ap, ◌∙◌}
+use Rattle.std.proofs.Common.{◌≡◌, ℕ, ◌+◌, ◌<◌, ◌≤◌, ⊎_elim, Bool, true, false, None, Some, List, [], ◌∷◌, length, get_or, map, slice_get, sym, refl, ap, ◌∙◌}
 use Rattle.std.proofs.Common.{subst, arith}
 use Rattle.std.specs.List.{All, Contains, list_any}
 use Rattle.std.proofs.lemmas.List.Elements.{All-nil, All-cons, All-contains}
 use Rattle.xa_base.specs.declared.limits.TheConstants.{MOST_MANAGERS}
 use Rattle.xa_base.specs.Lists.{IsUpTo}
 use Rattle.std.proofs.lemmas.Option.{slice_get_within}
-use Rattle.xa_base.proofs.Lists.{all_at, got, got_map, was_mapped}
+use Rattle.xa_base.proofs.Lists.{all_at, got, got_map, some_same}
 use Rattle.xa_words.specs.Xid.{XidName, xid_eq}
 use Rattle.xa_words.specs.Orders.{Decides-xid_eq}
 use Rattle.xa_words.specs.Tran.{TranName, tran_of}
@@ -26,7 +26,7 @@ use Rattle.xa_switch.specs.Settling.{Settling, IsSettled, find_manager}
 use Rattle.xa_switch.specs.Fates.{first_of, history, ledgers_of}
 use Rattle.xa_switch.specs.Scans.{left_at}
 use Rattle.xa_switch.proofs.Journaled.{follows_first}
-use Rattle.xa_log.specs.Log.{LogState, Records, record_of}
+use Rattle.xa_log.specs.Log.{IsReadAs, LogState, Records, record_of}
 use Rattle.xa_driver.specs.declared.resolved.Outcome.{Outcome}
 use Rattle.xa_driver.proofs.Mapped.{Asks}
 use Rattle.xa_atomicity.specs.Cut.{is_recorded}
@@ -35,8 +35,10 @@ use Rattle.xa_atomicity.proofs.Later.{ends_with}
 use Rattle.xa_atomicity.proofs.Naming.{named_so, named_tran}
 use Rattle.xa_atomicity.proofs.NextOpening.{scan_of}
 use Rattle.xa_atomicity.proofs.Resolves.{left_has, outcome_left}
+use Rattle.xa_work.specs.declared.unit.WorkOutcome.{WorkOutcome}
 use Rattle.xa_bank.specs.declared.teller.Teller.{Teller}
-use Rattle.xa_bank_days.specs.Days.{AreToldAll, BeginsWith, IsDawn, IsDayOf, IsNamed, IsResolvedBy, records_of}
+use Rattle.xa_bank_days.specs.Days.{AreReadBack, AreToldAll, BeginsWith, IsDawn, IsDayOf, IsNamed, IsReadBack, IsResolvedBy, records_of}
+use Rattle.xa_bank_days.proofs.Back.{as_many, back_at}
 use Rattle.xa_days.proofs.AtWork.{opening_free}
 use Rattle.xa_days.proofs.Calls.{outcome_named}
 use Rattle.xa_bank_days.proofs.Keeps.{IsNamedFrom, each_keeps, made_most, named_from}
@@ -112,49 +114,55 @@ module _
 
 -- ---- all of it
 
-module _ (L : Type 0) (state : L → LogState) (knows : L → Type 0)
+module _ (L : Type 0) (state : L → LogState) (knows : L → Type 0) (loses : TranName → List Bool → L → L → Type 0)
     (finished : FinishedAreGone)
-    (s : Settling) (again : Again) (q : ResolveCall) (next : Settling) (olds news : List (Teller L)) (stores n later : ℕ) (tables : ℕ → Tables)
-    (is_day : IsDayOf state knows s olds news) (begins : BeginsWith s stores tables) (told_all : AreToldAll knows n olds news)
-    (dawn : IsDawn state stores n tables (map (λ t. t.log) olds)) (resolved : IsResolvedBy (records_of state (map (λ t. t.log) news)) s again q next)
+    (s : Settling) (again : Again) (q : ResolveCall) (next : Settling) (olds news : List (Teller L)) (logs : List L) (founds : List Bool) (stores n later : ℕ) (tables : ℕ → Tables)
+    (is_day : IsDayOf state knows loses s olds news) (begins : BeginsWith s stores tables) (told_all : AreToldAll n olds news)
+    (back : AreReadBack state knows loses 1 news logs founds) (known : All knows logs)
+    (dawn : IsDawn state stores n tables (map (λ t. t.log) olds)) (resolved : IsResolvedBy (records_of state logs) s again q next)
     (done : All (λ r. is_done r.code ≡ true) q.outcomes) (counts_on : n ≤ later)
     (past : All (λ t. t.habits.first + length t.transfers.items ≤ later) olds) where
   empty : (m : ℕ) (x : XidName) → IsUpTo stores m → exists (reopened_at next.managers m) x ≡ false
   empty m x up =
       let high = up.1 in
       let most = begins.few in
-      nothing_left finished (records_of state (map (λ t. t.log) news)) s again q next resolved done m (up.0, omega (arith, high, most)) (reopened_at s.managers m)
+      nothing_left finished (records_of state logs) s again q next resolved done m (up.0, omega (arith, high, most)) (reopened_at s.managers m)
       (resolved.continues m (tables m) (begins.there m up)) x
 
   no_branch : (m : ℕ) (x : XidName) → IsUpTo stores m → exists (reopened_at next.managers m) x ≡ true → ⊥
   no_branch m x up there = let z : true ≡ false = sym there ∙ empty m x up in cc
 
-  own : (i : ℕ) (log : L) (tran : TranName) → slice_get (map (λ (t : Teller L). t.log) news) i ≡ Some log → is_recorded (state log) tran ≡ true
+  own : (i : ℕ) (log : L) (tran : TranName) → slice_get logs i ≡ Some log → is_recorded (state log) tran ≡ true
       → (k : ℕ) × (k < later) × IsNamed (i + 1) k tran.gtrid
   own i log tran at on =
-      let new = was_mapped (λ (t : Teller L). t.log) news i log at in
-      let within = slice_get_within news i new.0 new.1 in
+      let within = slice_get_within logs i log at in
+      let sizes = (as_many state knows loses 1 news logs founds back).0 in
       let many = is_day.many in
-      let old = got olds i (omega (arith, within, many)) in
-      let z = told_all i old.0 new.0 old.1 new.1 in
-      let w = went state knows s n (i + 1) old.0 new.0 (is_day.each i old.0 new.0 old.1 new.1) z in
-      let made =
-      made_most (i + 1) old.0.habits z.keeps old.0.habits.first old.0.transfers.items new.0.outcomes.items w.opened w.left (state old.0.log) (state new.0.log) w.makes in
+      let new = got news i (omega (arith, within, sizes)) in
+      let old = got olds i (omega (arith, within, sizes, many)) in
+      let b = back_at state knows loses 1 i news logs founds back new.0 new.1 in
+      let z = told_all i old.0 b.teller old.1 b.teller_at in
+      let w = went state knows loses s n (i + 1) old.0 b.teller b.log b.found (is_day.each i old.0 b.teller old.1 b.teller_at) z
+      (subst (λ u. IsReadBack state knows loses u b.teller b.log b.found) (let e : 1 + i ≡ i + 1 = omega arith in e) b.back) (all_at knows logs i b.log known b.log_at) in
+      let R : LogState → Type 0 = IsReadAs state knows loses b.teller.log in
+      let log_is : b.log ≡ log = some_same b.log log (sym b.log_at ∙ at) in
+      let os : List WorkOutcome = b.teller.outcomes.items in
+      let made = made_most R (i + 1) old.0.habits z.keeps old.0.habits.first old.0.transfers.items os w.opened w.left (state old.0.log) (state b.log) w.makes in
       let bound = all_at (λ (t : Teller L). t.habits.first + length t.transfers.items ≤ later) olds i old.0 past old.1 in
       ⊎_elim
-      (λ (its : IsNamedFrom (i + 1) old.0.habits.first (length new.0.outcomes.items) tran.gtrid).
+      (λ (its : IsNamedFrom (i + 1) old.0.habits.first (length os) tran.gtrid).
       let below = its.below in
       (its.number, omega (arith, below, made, bound), its.named))
-      (λ (others : (k : ℕ) → old.0.habits.first ≤ k → k < old.0.habits.first + length new.0.outcomes.items → IsNamed (i + 1) k tran.gtrid → ⊥).
-      let same : record_of (state new.0.log) tran ≡ record_of (state old.0.log) tran =
-      each_keeps (i + 1) old.0.habits z.keeps old.0.habits.first old.0.transfers.items new.0.outcomes.items w.opened w.left (state old.0.log) (state new.0.log) w.makes w.known tran others in
-      let before : is_recorded (state old.0.log) tran ≡ true = ap is_some (sym same) ∙ ap (λ (l : L). is_recorded (state l) tran) new.2 ∙ on in
+      (λ (others : (k : ℕ) → old.0.habits.first ≤ k → k < old.0.habits.first + length os → IsNamed (i + 1) k tran.gtrid → ⊥).
+      let same : record_of (state b.log) tran ≡ record_of (state old.0.log) tran =
+      each_keeps R (i + 1) old.0.habits z.keeps old.0.habits.first old.0.transfers.items os w.opened w.left (state old.0.log) (state b.log) w.makes w.known w.may tran others in
+      let before : is_recorded (state old.0.log) tran ≡ true = ap is_some (sym same) ∙ ap (λ (l : L). is_recorded (state l) tran) log_is ∙ on in
       let y = dawn.own i old.0.log tran (got_map (λ (t : Teller L). t.log) olds i old.0 old.1) before in
       let below = y.1 in
       (y.0, omega (arith, below, counts_on), y.2))
-      (named_from (i + 1) old.0.habits.first (length new.0.outcomes.items) tran)
+      (named_from (i + 1) old.0.habits.first (length os) tran)
 
-  pub dawn_law : IsDawn state stores later (reopened_at next.managers) (map (λ t. t.log) news)
+  pub dawn_law : IsDawn state stores later (reopened_at next.managers) logs
   dawn_law = record {
     fresh = λ m x up there t k some within named. absurd (no_branch m x up there);
     unrecorded = λ m x up there. absurd (no_branch m x up there);

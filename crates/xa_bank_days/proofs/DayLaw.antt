@@ -12,7 +12,7 @@ use Rattle.xa_base.specs.declared.limits.TheConstants.{MOST_MANAGERS}
 use Rattle.xa_base.specs.Lists.{IsUpTo}
 use Rattle.xa_words.specs.Xid.{XidName, xid_eq}
 use Rattle.xa_words.specs.Orders.{Decides-xid_eq}
-use Rattle.xa_words.specs.Tran.{tran_of}
+use Rattle.xa_words.specs.Tran.{TranName, tran_of}
 use Rattle.xa_words.specs.declared.request.Op.{Op}
 use Rattle.xa_words.specs.declared.request.Op.TheVariants.{Commit, Heur}
 use Rattle.xa_base.specs.Sums.{total}
@@ -47,7 +47,7 @@ use Rattle.xa_days.proofs.AtWork.{opening_free}
 use Rattle.xa_days.proofs.InARow.{settled_law}
 use Rattle.xa_words.proofs.Xids.{xid_self}
 use Rattle.xa_bank.specs.declared.teller.Teller.{Teller}
-use Rattle.xa_bank_days.specs.Days.{AreToldAll, BeginsWith, IsDawn, IsDayOf, IsResolvedBy, all_told, balances_at, balances_of, records_of}
+use Rattle.xa_bank_days.specs.Days.{AreReadBack, AreToldAll, BeginsWith, IsDawn, IsDayOf, IsResolvedBy, all_told, balances_at, balances_of, records_of}
 use Rattle.xa_bank_days.specs.Ledger.{all_applied}
 use Rattle.xa_bank_days.proofs.Logs.{NoLogs, OneLogMore}
 use Rattle.xa_bank_days.proofs.Made.{Noted}
@@ -112,26 +112,29 @@ no_mark : (o : Option (List Bool)) (m : ℕ) → names_manager o m ≡ true → 
 no_mark None m e is = cc
 no_mark (Some set) m e is = cc
 
-module _ (L : Type 0) (state : L → LogState) (knows : L → Type 0)
+module _ (L : Type 0) (state : L → LogState) (knows : L → Type 0) (loses : TranName → List Bool → L → L → Type 0)
     (outs : BranchesComeOut)
     (none_law : NoLogs)
     (more_law : OneLogMore)
-    (s : Settling) (again : Again) (q : ResolveCall) (next : Settling) (olds news : List (Teller L)) (stores n : ℕ) (tables : ℕ → Tables)
-    (is_day : IsDayOf state knows s olds news) (begins : BeginsWith s stores tables) (many : length olds < 2 ^ 32) (told_all : AreToldAll knows n olds news)
+    (s : Settling) (again : Again) (q : ResolveCall) (next : Settling) (olds news : List (Teller L)) (logs : List L) (founds : List Bool) (stores n : ℕ) (tables : ℕ → Tables)
+    (is_day : IsDayOf state knows loses s olds news) (begins : BeginsWith s stores tables) (many : length olds < 2 ^ 32) (told_all : AreToldAll n olds news)
+    (back : AreReadBack state knows loses 1 news logs founds) (known : All knows logs)
     (dawn : IsDawn state stores n tables (map (λ t. t.log) olds))
-    (resolved : IsResolvedBy (records_of state (map (λ t. t.log) news)) s again q next) (m : ℕ) (up : IsUpTo stores m) (j : List ℕ) where
+    (resolved : IsResolvedBy (records_of state logs) s again q next) (m : ℕ) (up : IsUpTo stores m) (j : List ℕ) where
   abbrev T : Tables
   T = tables m
 
   low : IsUpTo MOST_MANAGERS m
   low = let high = up.1 in let most = begins.few in (up.0, omega (arith, high, most))
 
-  pub all : DayAt L state knows outs none_law more_law s again q next olds news stores n tables is_day begins many told_all dawn resolved m up j 0 news
-  all = whole L state knows outs none_law more_law s again q next olds news stores n tables is_day begins many told_all dawn resolved m up j
+  pub all : DayAt L state knows loses outs none_law more_law s again q next olds news logs founds stores n tables is_day begins many told_all back known dawn resolved m up j 0 founds news
+  all =
+      whole L state knows loses outs none_law more_law s again q next olds news logs founds stores n tables is_day begins many told_all back known dawn resolved m up j
 
   pub noted : All (λ r. Noted q.records all.legs r.op) (history s m)
   unfolding all
-  noted = all_noted L state knows outs none_law more_law s again q next olds news stores n tables is_day begins many told_all dawn resolved m up j
+  noted =
+      all_noted L state knows loses outs none_law more_law s again q next olds news logs founds stores n tables is_day begins many told_all back known dawn resolved m up j
 
   opened : IsOpening T
   opened = (follows_first s m T is_day.settled (begins.there m up)).opened
@@ -146,7 +149,7 @@ module _ (L : Type 0) (state : L → LogState) (knows : L → Type 0)
   -- a branch that the opening had before the day has no record
   pub before_none : (x : XidName) → exists (tables m) x ≡ true → record_in q.records (tran_of x) ≡ None
   before_none x there =
-      found_before L state knows outs none_law more_law s again q next olds news stores n tables is_day begins many told_all dawn resolved m up j (tran_of x)
+      found_before L state knows loses outs none_law more_law s again q next olds news logs founds stores n tables is_day begins many told_all back known dawn resolved m up j (tran_of x)
       (λ t k some within from named.
       let below = dawn.fresh m x up there t k some (let e = length-map olds (λ (t : Teller L). t.log) in omega (arith, within, e)) named in
       omega (arith, below, from))
@@ -211,7 +214,7 @@ module _ (L : Type 0) (state : L → LogState) (knows : L → Type 0)
     each = all.outs_;
   }
 
-  pub day_law : is_declared (tables m) j ≡ true → balances_at next m j ≡ all_applied (all_told news) (balances_of tables) m j
+  pub day_law : is_declared (tables m) j ≡ true → balances_at next m j ≡ all_applied (all_told founds news) (balances_of tables) m j
   day_law declared =
       let P : Opening → Type 0 = λ o. IsSettled o.settled in
       let worth_is =
@@ -219,4 +222,4 @@ module _ (L : Type 0) (state : L → LogState) (knows : L → Type 0)
       (All-cons P (day s) (night next q ∷ []) is_day.settled (All-cons P (night next q) [] resolved.settled (All-nil P))) (resolved.continues, tt) (begins.there m up)
       (All-cons (λ (d : List ℕ × ℕ). is_declared (tables m) d.0 ≡ true) (j, 0) [] declared (All-nil (λ (d : List ℕ × ℕ). is_declared (tables m) d.0 ≡ true))) settled_day in
       sym (plus_none (balances_at next m j)) ∙ worth_is ∙ ap (λ v. v +ℤ total counted all.legs) (plus_none (balances_of tables m j))
-      ∙ ap (λ v. balances_of tables m j +ℤ v) all.sum ∙ sym (all_applied_is (all_told news) (balances_of tables) m j)
+      ∙ ap (λ v. balances_of tables m j +ℤ v) all.sum ∙ sym (all_applied_is (all_told founds news) (balances_of tables) m j)

@@ -1,6 +1,7 @@
 -- What tellers come to over stores that are opened again.
 use Rattle.std.specs.Prelude.{option_map}
-use Rattle.std.proofs.Common.{◌≡◌, ℕ, ◌+◌, ◌^◌, ◌<◌, ◌≤◌, ⊎_elim, false, List, [], ◌∷◌, length, map, slice_get, Some, inl, inr, sym, refl, ap, ◌∙◌, subst}
+use Rattle.std.proofs.Common.{Vec, ◌≡◌, ℕ, ◌+◌, ◌^◌, ◌<◌, ◌≤◌, ⊎_elim, Bool, true, false, List, [], ◌∷◌, length, map, slice_get, Some, inl, inr, sym, refl, ap}
+use Rattle.std.proofs.Common.{◌∙◌, subst}
 use Rattle.std.proofs.Common.{arith}
 use Rattle.std.specs.List.{All, list_any}
 use Rattle.std.proofs.lemmas.Bool.{or_parts}
@@ -9,6 +10,7 @@ use Rattle.std.proofs.lemmas.List.Elements.{All-nil, All-cons}
 use Rattle.std.proofs.lemmas.Option.{same_Some as some_same, slice_get_within}
 use Rattle.xa_base.specs.Lists.{IsUpTo}
 use Rattle.xa_base.proofs.Lists.{got_map}
+use Rattle.xa_words.specs.Tran.{TranName}
 use Rattle.xa_tables.specs.Tables.{Tables}
 use Rattle.xa_desk.specs.DeskView.{DeskView}
 use Rattle.xa_switch.specs.declared.plan.Again.{Again}
@@ -21,7 +23,10 @@ use Rattle.xa_log.specs.Log.{LogState}
 use Rattle.xa_atomicity.proofs.Scanned.{was_there}
 use Rattle.xa_crew.specs.declared.again.WithScan.{WithScan}
 use Rattle.xa_crew.specs.declared.client_job.Attended.{Attended}
-use Rattle.xa_crew.specs.Again.{AgainWorks, IsRunAgain, WorksWithScan}
+use Rattle.std.specs.Global.{Global}
+use Rattle.xa_crew.specs.declared.again.AgainFault.{AgainFault}
+use Rattle.xa_crew.specs.declared.again.AgainFault.TheVariants.{Unopened}
+use Rattle.xa_crew.specs.Again.{AgainWorks, IfUnopened, IsRunAgain, WorksWithScan}
 use Rattle.xa_crew.specs.Run.{Member}
 use Rattle.xa_bank.specs.declared.teller.Teller.{Teller}
 use Rattle.xa_bank.specs.Tellers.{Works, WorksOn}
@@ -33,7 +38,7 @@ use Rattle.xa_bank_days.specs.Days.{BeginsWith, IsDayOf, WorkedIn}
 use Rattle.xa_bank_days.specs.declared.days.Closed.{Closed}
 use Rattle.xa_bank_days.specs.declared.days.Errands.{Errands}
 use Rattle.xa_bank_days.specs.declared.days.Worked.{Worked}
-use Rattle.xa_bank_days.specs.Kept.{AreTurned, HasWorked, IsAsItWas, IsWorkedDay, KeepsStores}
+use Rattle.xa_bank_days.specs.Kept.{AreTurned, HasWorked, IsWorkedDay, LeavesBank, StopsDay}
 
 -- lists that are mapped to one list are as long
 pub same_length : {A B C : Type 0} (f : A → C) (g : B → C) (xs : List A) (ys : List B) → map f xs ≡ map g ys → length xs ≡ length ys
@@ -81,16 +86,17 @@ module _ (goes_on : (s next : Settling) (again : Again) (m : ℕ) (T : Tables) �
 
 -- ---- the tellers
 
-module _ {L : Type 0} (state : L → LogState) (knows : L → Type 0) (s : Settling) (again : Again) (olds : List (Teller L))
-    (attended : List (Attended (WithScan (Teller L)))) (day : Settling) (z : IsRunAgain (WorksOn state knows) s again olds attended day)
+module _ {L : Type 0} (state : L → LogState) (knows : L → Type 0) (loses : TranName → List Bool → L → L → Type 0) (s : Settling) (again : Again)
+    (olds : List (Teller L))
+    (attended : List (Attended (WithScan (Teller L)))) (day : Settling) (z : IsRunAgain (WorksOn state knows loses) s again olds attended day)
     (many : length olds ≡ again.threads) where
   abbrev OnDay : WithScan (Teller L) → DeskView → WithScan (Teller L) → DeskView → Type 0
-  OnDay = WorksWithScan (WorksOn state knows)
+  OnDay = WorksWithScan (WorksOn state knows loses)
 
   abbrev news : List (Teller L)
   news = map (λ (a : Attended (WithScan (Teller L))). a.client.client) attended
 
-  worked_at : (k : ℕ) (old new : Teller L) → slice_get olds k ≡ Some old → slice_get news k ≡ Some new → WorkedIn state knows day (k + 1) old new
+  worked_at : (k : ℕ) (old new : Teller L) → slice_get olds k ≡ Some old → slice_get news k ≡ Some new → WorkedIn state knows loses day (k + 1) old new
   worked_at k old new old_at new_at =
       let within = slice_get_within olds k old old_at in
       let at : MemberAt OnDay (reopening s again).managers z.given attended day k =
@@ -105,14 +111,14 @@ module _ {L : Type 0} (state : L → LogState) (knows : L → Type 0) (s : Settl
         left = at.left;
         thread = at.thread;
         nothing = at.nothing;
-        worked = subst (λ (p : Teller L × Teller L). Works state knows p.0 at.member.desk p.1 at.left) (λ i. (first i, last i)) at.worked.works;
+        worked = subst (λ (p : Teller L × Teller L). Works state knows loses p.0 at.member.desk p.1 at.left) (λ i. (first i, last i)) at.worked.works;
         ended = at.end;
       }
 
-  pub is_day : IsDayOf state knows day olds news
+  pub is_day : IsDayOf state knows loses day olds news
   is_day = record {
     settled = z.run.agrees;
-    many = length-map attended (λ (a : Attended (WithScan (Teller L))). a.client.client) ∙ many_attended (WorksOn state knows) s again olds attended day z
+    many = length-map attended (λ (a : Attended (WithScan (Teller L))). a.client.client) ∙ many_attended (WorksOn state knows loses) s again olds attended day z
         ∙ sym many;
     each = worked_at;
     others = λ t outside m.
@@ -122,16 +128,18 @@ module _ {L : Type 0} (state : L → LogState) (knows : L → Type 0) (s : Settl
 
 -- ---- the day
 
-abbrev pub worked_day : {L : Type 0} (state : L → LogState) (knows : L → Type 0) (b : Bank L) (given errands : List Errands) (c : Closed) (b' : Bank L) (turned : List (Teller L))
-    (day : Worked L) → given ≡ errands → AreTurned b.next b.tellers.items errands turned → length given < 2 ^ 32 → HasWorked state knows b.settled turned day → c.outcomes ≡ day.outcomes
-    → b'.tellers ≡ day.tellers → b.next ≤ b'.next → All (λ e. b.next + length e.transfers.items ≤ b'.next) given → IsWorkedDay state knows b errands c b'
-worked_day state knows b given errands c b' turned day same are_turned many works told tellers later next = record {
+abbrev pub worked_day : {L : Type 0} (state : L → LogState) (knows : L → Type 0) (loses : TranName → List Bool → L → L → Type 0) (b : Bank L) (given errands : List Errands) (c : Closed) (b' : Bank L) (turned : List (Teller L))
+    (day : Worked L) → given ≡ errands → AreTurned b.next b.tellers.items errands turned → length given < 2 ^ 32 → HasWorked state knows loses b.settled turned day → (day.wanting ≡ true → b'.settled ≡ day.settled) → c.outcomes ≡ day.outcomes → c.found ≡ day.found
+    → b'.tellers ≡ day.tellers → b.next ≤ b'.next → All (λ e. b.next + length e.transfers.items ≤ b'.next) given → IsWorkedDay state knows loses b errands c b'
+worked_day state knows loses b given errands c b' turned day same are_turned many works stays told found tellers later next = record {
   turned = turned;
   are_turned = are_turned;
   many = let e = ap (λ (l : List Errands). length l) same in omega (arith, e, many);
   day = day;
   works = works;
+  stays = stays;
   told_ = told;
+  found_ = found;
   tellers = tellers;
   later = later;
   next = subst (All (λ (e : Errands). b.next + length e.transfers.items ≤ b'.next)) same next;
@@ -139,6 +147,13 @@ worked_day state knows b given errands c b' turned day same are_turned many work
 
 -- ---- where the stores weren't opened
 
-pub as_it_was : {L : Type 0} (b : Bank L) (stop : Stop L) → KeepsStores b.settled stop → IsAsItWas b stop
-as_it_was b (Day fault) kept = kept
-as_it_was b stop kept = absurd kept
+pub leaves_bank : {L : Type 0} (state : L → LogState) (knows : L → Type 0) (loses : TranName → List Bool → L → L → Type 0) (b : Bank L) (errands : List Errands)
+    (stop : Stop L) → StopsDay state knows loses b.settled stop → LeavesBank state knows loses b errands stop
+leaves_bank state knows loses b errands (Day fault) leaves = leaves
+leaves_bank state knows loses b errands stop leaves = absurd leaves
+
+pub as_it_was : {L : Type 0} (s : Settling) (clients : Vec (Teller L) Global) (fault : AgainFault (Teller L))
+    → IfUnopened (λ u. (u.settled ≡ s) × (u.clients ≡ clients)) fault
+    → IfUnopened (λ u. u.settled ≡ s) fault
+as_it_was s clients (Unopened u) same = same.0
+as_it_was s clients fault same = tt

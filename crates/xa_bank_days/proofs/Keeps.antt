@@ -2,27 +2,27 @@
 use Rattle.std.specs.Prelude.{pos, if◌then◌else◌}
 use Rattle.std.proofs.Common.{◌≡◌, ℕ, zero, suc, ◌+◌, ◌^◌, ◌<◌, ◌≤◌, ◌⊎◌, ⊎_elim, true, false, List, [], ◌∷◌, length, sym, refl, ap, ◌∙◌, subst, arith, inl}
 use Rattle.std.proofs.Common.{inr}
-use Rattle.std.specs.List.{All}
 use Rattle.std.specs.Ordering.{eq_by_cmp, is_eq}
 use Rattle.std.specs.Cmp.{tied_itself}
 use Rattle.std.proofs.lemmas.Bool.{cases_lt}
-use Rattle.std.proofs.lemmas.List.Elements.{All-head, All-tail}
 use Rattle.xa_base.proofs.Truth.{is_equal}
 use Rattle.xa_words.specs.Tran.{TranName, tran_of}
 use Rattle.xa_desk.specs.DeskView.{DeskView}
 use Rattle.xa_log.specs.Log.{LogState, record_of}
+use Rattle.xa_atomicity.specs.Cut.{is_recorded}
 use Rattle.xa_log.specs.Transactions.{tran_cmp}
 use Rattle.xa_log.proofs.Transactions.{tran_cmp_total, tran_cmp-IsAntisymmetric}
 use Rattle.xa_work.specs.declared.unit.WorkOutcome.{WorkOutcome}
-use Rattle.xa_work.specs.Units.{LeavesKnown}
+use Rattle.xa_work.specs.Units.{IfLost, is_last}
 use Rattle.xa_work.specs.Units.Transacts.{commits, refused}
 use Rattle.xa_bank.specs.declared.habits.Habits.{Habits}
 use Rattle.xa_bank.specs.declared.teller.Transfer.{Transfer}
 use Rattle.xa_bank.specs.Numbered.{death_in}
-use Rattle.xa_bank.specs.Transfers.{Makes, MakesEach, forgotten, gtrid_of, with_legs, without_legs}
+use Rattle.xa_bank.specs.Transfers.{Makes, MakesEach, branches_of, forgotten, gtrid_of, with_legs, without_legs}
 use Rattle.xa_bank.proofs.Named.{legs_are, one_transfer}
+use Rattle.xa_bank.proofs.LostRecords.{if_both, if_so, none_lost}
 use Rattle.xa_bank_days.specs.Days.{IsNamed}
-use Rattle.xa_bank_days.proofs.Come.{has_come}
+use Rattle.xa_bank_days.proofs.Come.{IsReadSo, has_come}
 
 -- ---- numbers
 
@@ -80,36 +80,60 @@ pub left_is : (habits : Habits) (o : WorkOutcome) → habits.forgets ≡ false �
     → later ≡ (if habits.forgets then forgotten tran o left else left) → later ≡ left
 left_is habits o keeps tran left later kept = kept ∙ ap (λ b. if b then forgotten tran o left else left) keeps
 
-module _ (t n : ℕ) (tr : Transfer) (habits : Habits) (o : WorkOutcome) (keeps : habits.forgets ≡ false) (known : LeavesKnown (Unit {0}) o) where
-  -- the records of other transactions stay
-  pub makes_keeps : (old new : DeskView) (log later : LogState) → Makes t n tr habits o old new log later → (tran : TranName) → (IsNamed t n tran.gtrid → ⊥)
-      → record_of later tran ≡ record_of log tran
-  makes_keeps old new log later (with_legs one two left legs (commits worked begins known_ work comes) kept) tran other =
-      let of_one = (legs_are t n tr one two legs).first in
-      ap (λ (l : LogState). record_of l tran) (left_is habits o keeps (tran_of one.branch.xid) left later kept)
-      ∙ (has_come one.branch two.branch (death_in habits n) o worked new.ledgers log left comes known).others tran
-      (λ is. other (record { small = of_one.small; gtrid_ = ap (λ (u : TranName). u.gtrid) is ∙ of_one.gtrid }))
-  makes_keeps old new log later (with_legs one two left legs (refused same why sent) kept) tran other =
-      ap (λ (l : LogState). record_of l tran) (left_is habits o keeps (tran_of one.branch.xid) left later kept ∙ same)
-  makes_keeps old new log later (without_legs is none same unlogged) tran other = ap (λ (l : LogState). record_of l tran) unlogged
+-- where nobody knows of a transfer whether its record was made, the log is read so after it
+abbrev pub Reads : (LogState → Type 0) → WorkOutcome → LogState → Type 0
+Reads R o later = IfLost (λ votes. R later) o
 
-module _ (t : ℕ) (habits : Habits) (keeps : habits.forgets ≡ false) where
+module _ (R : LogState → Type 0) (t n : ℕ) (tr : Transfer) (habits : Habits) (o : WorkOutcome) (keeps : habits.forgets ≡ false) where
+  -- the records of other transactions stay
+  pub makes_keeps : (old new : DeskView) (log later : LogState) → Makes t n tr habits o old new log later R → Reads R o later
+      → (tran : TranName) → (IsNamed t n tran.gtrid → ⊥) → record_of later tran ≡ record_of log tran
+  makes_keeps old new log later (with_legs one two left legs (commits worked begins known_ work comes) kept read) may tran other =
+      let of_one = (legs_are t n tr one two legs).first in
+      let same : later ≡ left = left_is habits o keeps (tran_of one.branch.xid) left later kept in
+      ap (λ (l : LogState). record_of l tran) same
+      ∙ (has_come one.branch two.branch (death_in habits n) (is_recorded left (tran_of one.branch.xid)) o worked new.ledgers log left comes
+      (if_both _ (λ votes. R later) (IsReadSo (branches_of one two) (tran_of one.branch.xid) log left (is_recorded left (tran_of one.branch.xid))) o
+      (λ votes either may_. record { either = λ u is. either u left is (subst R same may_); found_ = refl }) read may)).others tran
+      (λ is. other (record { small = of_one.small; gtrid_ = ap (λ (u : TranName). u.gtrid) is ∙ of_one.gtrid }))
+  makes_keeps old new log later (with_legs one two left legs (refused same why sent) kept read) may tran other =
+      ap (λ (l : LogState). record_of l tran) (left_is habits o keeps (tran_of one.branch.xid) left later kept ∙ same)
+  makes_keeps old new log later (without_legs is none same unlogged) may tran other = ap (λ (l : LogState). record_of l tran) unlogged
+
+-- of the last alone nobody may know whether its record was made
+abbrev pub AreKnown : List WorkOutcome → Type 0
+AreKnown [] = Unit {0}
+AreKnown (o ∷ []) = Unit {0}
+AreKnown (o ∷ p ∷ os) = (is_last o ≡ false) × AreKnown (p ∷ os)
+
+pub rest_known : (o : WorkOutcome) (os : List WorkOutcome) → AreKnown (o ∷ os) → AreKnown os
+rest_known o [] h = tt
+rest_known o (p ∷ os) h = h.1
+
+module _ (R : LogState → Type 0) (t : ℕ) (habits : Habits) (keeps : habits.forgets ≡ false) where
+  -- so the log is read so after each
+  pub reads_each : (n : ℕ) (trs : List Transfer) (o : WorkOutcome) (os : List WorkOutcome) (mid new : DeskView) (now later : LogState)
+      → MakesEach t habits n trs os mid new now later R → AreKnown (o ∷ os) → R later → Reads R o now
+  reads_each n [] o [] mid new now later (same, unlogged) known may = if_so (λ votes. R now) o (λ votes. subst R unlogged may)
+  reads_each n (tr ∷ trs) o [] mid new now later (same, unlogged) known may = if_so (λ votes. R now) o (λ votes. subst R unlogged may)
+  reads_each n trs o (p ∷ os) mid new now later h known may = none_lost (λ votes. R now) o known.0
+
   -- the records of other transactions than these transfers' stay
   pub each_keeps : (n : ℕ) (trs : List Transfer) (os : List WorkOutcome) (old new : DeskView) (log later : LogState)
-      → MakesEach t habits n trs os old new log later
-      → All (LeavesKnown (Unit {0})) os → (tran : TranName) → ((k : ℕ) → n ≤ k → k < n + length os → IsNamed t k tran.gtrid → ⊥)
+      → MakesEach t habits n trs os old new log later R
+      → AreKnown os → R later → (tran : TranName) → ((k : ℕ) → n ≤ k → k < n + length os → IsNamed t k tran.gtrid → ⊥)
       → record_of later tran ≡ record_of log tran
-  each_keeps n [] [] old new log later (same, unlogged) known tran others = ap (λ (l : LogState). record_of l tran) unlogged
-  each_keeps n (tr ∷ trs) [] old new log later (same, unlogged) known tran others = ap (λ (l : LogState). record_of l tran) unlogged
-  each_keeps n (tr ∷ trs) (o ∷ os) old new log later (mid, now, makes, rest) known tran others =
-      each_keeps (n + 1) trs os mid new now later rest (All-tail (LeavesKnown (Unit {0})) o os known) tran (λ k from below. others k (omega (arith, from)) (omega (arith, below)))
-      ∙ makes_keeps t n tr habits o keeps (All-head (LeavesKnown (Unit {0})) o os known)
-      makes.shut mid log now makes.makes tran (others n (omega arith) (omega arith))
-  each_keeps n [] (o ∷ os) old new log later h known tran others = absurd h
+  each_keeps n [] [] old new log later (same, unlogged) known may tran others = ap (λ (l : LogState). record_of l tran) unlogged
+  each_keeps n (tr ∷ trs) [] old new log later (same, unlogged) known may tran others = ap (λ (l : LogState). record_of l tran) unlogged
+  each_keeps n (tr ∷ trs) (o ∷ os) old new log later (mid, now, makes, rest) known may tran others =
+      each_keeps (n + 1) trs os mid new now later rest (rest_known o os known) may tran (λ k from below. others k (omega (arith, from)) (omega (arith, below)))
+      ∙ makes_keeps R t n tr habits o keeps
+      makes.shut mid log now makes.makes (reads_each (n + 1) trs o os mid new now later rest known may) tran (others n (omega arith) (omega arith))
+  each_keeps n [] (o ∷ os) old new log later h known may tran others = absurd h
 
   -- no more were made than there are
   pub made_most : (n : ℕ) (trs : List Transfer) (os : List WorkOutcome) (old new : DeskView) (log later : LogState)
-      → MakesEach t habits n trs os old new log later
+      → MakesEach t habits n trs os old new log later R
       → length os ≤ length trs
   made_most n [] [] old new log later h = omega arith
   made_most n (tr ∷ trs) [] old new log later h = omega arith

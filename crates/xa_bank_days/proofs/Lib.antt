@@ -22,3 +22,4 @@ pub mod Moved
 pub mod FirstOpening
 pub mod Opened
 pub mod Conserved
+pub mod Back

@@ -26,6 +26,7 @@ use Rattle.xa_log.specs.Log.{LogState, Records, record_in, record_of}
 use Rattle.xa_driver.specs.declared.branch.Branch.{Branch}
 use Rattle.xa_driver.specs.Commits.{is_commit}
 use Rattle.xa_driver.specs.Trace.{MayCommit, has_branch_at}
+use Rattle.xa_atomicity.specs.Cut.{is_recorded}
 use Rattle.xa_atomicity.specs.Resolution.{ResolveCall}
 use Rattle.xa_days.specs.Days.{Leg, counted}
 use Rattle.xa_days.specs.Settled.{ComesOutByTheLog}
@@ -35,25 +36,31 @@ use Rattle.xa_work.specs.declared.unit.WorkOutcome.{WorkOutcome}
 use Rattle.xa_work.specs.declared.unit.WorkOutcome.TheVariants.{Refused}
 use Rattle.xa_work.specs.Works.{HaveWorked}
 use Rattle.xa_work.specs.Sent.{HasSent, HaveSent, IsFor}
-use Rattle.xa_work.specs.Units.{LeavesKnown, IsRefused}
+use Rattle.xa_work.specs.Units.{IfLost, IsRefused}
 use Rattle.xa_work.specs.Units.IsRefused.{unbegun, undone, barred}
 use Rattle.xa_work.specs.Units.Transacts.{commits, refused}
 use Rattle.xa_work.proofs.Sent.{none_sent, sent_on, sent_as, have_on}
 use Rattle.xa_bank.specs.declared.habits.Habits.{Habits}
 use Rattle.xa_bank.specs.declared.teller.Transfer.{Transfer}
 use Rattle.xa_bank.specs.Numbered.{death_in, shut_before}
-use Rattle.xa_bank.specs.Transfers.{AreLegs, Makes, MakesNext, branches_of, changes_of, with_legs, without_legs}
+use Rattle.xa_bank.specs.Transfers.{AreLegs, Makes, MakesNext, branches_of, changes_of, tran_named, with_legs, without_legs}
 use Rattle.xa_bank.proofs.Legs.{AnyLeg, LegWorked, leg_work}
 use Rattle.xa_bank.proofs.Named.{IsOf, Is, IsFrom, IsShut, LegsOf, Names, comes_names, legs_are, shut_names, shut_sent, work_names}
+use Rattle.xa_bank.proofs.LostRecords.{if_both}
 use Rattle.xa_bank.proofs.Told.{IsBelow}
-use Rattle.xa_work.specs.Units.{is_to_commit}
-use Rattle.xa_bank_days.specs.Days.{IsNamed}
+use Rattle.xa_bank_days.specs.Days.{IsNamed, is_applied}
 use Rattle.xa_bank_days.specs.Ledger.{share}
-use Rattle.xa_bank_days.proofs.Come.{HasCome, has_come}
+use Rattle.xa_bank_days.proofs.Come.{HasCome, IsReadSo, has_come}
 use Rattle.xa_bank_days.proofs.Keeps.{left_is}
 use Rattle.xa_bank_days.proofs.Obeyed.{Obeys}
 use Rattle.xa_bank_days.proofs.Out.{BranchesComeOut, IsScene, day, first_obeys, first_out, night, second_obeys, second_out, worked as legs_worked_so}
 use Rattle.xa_bank_days.proofs.Shares.{Part, first_share, no_share, second_share}
+
+-- The log was read so after thread t's transfer of number n, of which nobody knew whether its record was made, and this was
+-- found.
+pub record IsFoundSo (R : LogState → Type 0) (t n : ℕ) (found : Bool) (later : LogState) : Type 0 where
+  pub may : R later
+  pub found_ : n < 2 ^ 32 → found ≡ is_recorded later (tran_named t n)
 
 -- ---- which branch a request names
 
@@ -106,26 +113,26 @@ module _
     (outs : BranchesComeOut)
     (s : Settling) (again : Again) (q : ResolveCall) (next : Settling) (scene : IsScene s again q next) (m : ℕ) (positive : 1 ≤ m) (T : Tables)
     (first : first_of s m ≡ Some T) (j : List ℕ) (t : ℕ) (low : t < 2 ^ 32) where
-  -- what a transfer of number n came to, of which the teller was told o: its legs there, and what was sent between
-  pub record TransferAt (n : ℕ) (tr : Transfer) (o : WorkOutcome) (a a' : LedgerView) : Type 0 where
+  -- what a transfer of number n came to, which was to be applied or not: its legs there, and what was sent between
+  pub record TransferAt (n : ℕ) (tr : Transfer) (was : Bool) (a a' : LedgerView) : Type 0 where
     pub legs : List Leg
     pub outs_ : All (ComesOutByTheLog ((j, 0) ∷ []) m T (day s) (night next q ∷ [])) legs
     pub of_it : All (λ g. IsOf t n g.xid) legs
     pub once : IsDistinct xid_eq (map (λ g. g.xid) legs)
-    pub sum : total counted legs ≡ (if is_to_commit o then share tr m j else pos 0)
+    pub sum : total counted legs ≡ (if was then share tr m j else pos 0)
     pub noted : HasSent (Noted q.records legs) a a'
 
-  module _ (n : ℕ) (tr : Transfer) (o : WorkOutcome) where
+  module _ (n : ℕ) (tr : Transfer) (was : Bool) where
     -- it has no leg there
-    none_at : (a a' : LedgerView) → pos 0 ≡ (if is_to_commit o then share tr m j else pos 0) → HasSent (Noted q.records []) a a' → TransferAt n tr o a a'
+    none_at : (a a' : LedgerView) → pos 0 ≡ (if was then share tr m j else pos 0) → HasSent (Noted q.records []) a a' → TransferAt n tr was a a'
     none_at a a' sum noted =
         record { legs = []; outs_ = All-nil (ComesOutByTheLog ((j, 0) ∷ []) m T (day s) (night next q ∷ [])); of_it = All-nil (λ (g : Leg). IsOf t n g.xid); once = none_twice xid_eq; sum = sum; noted = noted }
 
     -- it has one
-    one_at : (one : AnyLeg) (g : Leg) (a a1 a' : LedgerView) → one.branch.m ≡ m → IsOf t n one.branch.xid → g.xid ≡ one.branch.xid → g.recorded ≡ is_to_commit o
+    one_at : (one : AnyLeg) (g : Leg) (a a1 a' : LedgerView) → one.branch.m ≡ m → IsOf t n one.branch.xid → g.xid ≡ one.branch.xid → g.recorded ≡ was
         → g.sum ≡ Part tr m j one.delta → share tr m j ≡ Part tr m j one.delta
         → ComesOutByTheLog ((j, 0) ∷ []) one.branch.m T (day s) (night next q ∷ []) g → LegWorked one tr.account a a1
-        → HasSent (Obeys one.branch.xid) a1 a' → TransferAt n tr o a a'
+        → HasSent (Obeys one.branch.xid) a1 a' → TransferAt n tr was a a'
     one_at one g a a1 a' at of_leg xid recorded sum shares out its obeyed = record {
       legs = g ∷ [];
       outs_ =
@@ -133,7 +140,7 @@ module _
           (All-nil (ComesOutByTheLog ((j, 0) ∷ []) m T (day s) (night next q ∷ [])));
       of_it = All-cons (λ (h : Leg). IsOf t n h.xid) g [] (subst (IsOf t n) (sym xid) of_leg) (All-nil (λ (h : Leg). IsOf t n h.xid));
       once = once_alone g.xid;
-      sum = plus_none (counted g) ∙ ap (λ b. if b then g.sum else pos 0) recorded ∙ ap (λ v. if is_to_commit o then v else pos 0) (sum ∙ sym shares);
+      sum = plus_none (counted g) ∙ ap (λ b. if b then g.sum else pos 0) recorded ∙ ap (λ v. if was then v else pos 0) (sum ∙ sym shares);
       noted =
           sent_on (Noted q.records (g ∷ [])) a a1 a'
           (record { more = leg_work one tr.account; sent = its.sent; each = work_noted; collected = (_, its.collected) })
@@ -152,10 +159,10 @@ module _
 
   -- ---- a transfer that came to a commit
 
-  module _ (n : ℕ) (tr : Transfer) (o : WorkOutcome) (one two : AnyLeg) (legs : AreLegs t n tr one two)
+  module _ (n : ℕ) (tr : Transfer) (was : Bool) (one two : AnyLeg) (legs : AreLegs t n tr one two)
       (fresh : (x : XidName) → IsOf t n x → state_of T x ≡ None)
       (old desk : DeskView) (new : List LedgerView) (log later : LogState)
-      (work : HaveWorked (changes_of one two tr.account) (branches_of one two) old.ledgers desk.ledgers) (come : HasCome one.branch two.branch o desk new log later)
+      (work : HaveWorked (changes_of one two tr.account) (branches_of one two) old.ledgers desk.ledgers) (come : HasCome one.branch two.branch was desk new log later)
       (segment : HaveSent (Names t (Is n)) old.ledgers new) (after : HaveSent (Names t (IsFrom (n + 1))) new (ledgers_of s t))
       (earlier : (k : ℕ) → 1 ≤ k → All (Names t (IsBelow n)) (ledger old.ledgers k).sent)
       (found : (tran : TranName) → tran_of one.branch.xid ≡ tran → record_in q.records tran ≡ record_of later tran) where
@@ -168,40 +175,40 @@ module _
         let there : (two.branch.m == m) ≡ false = ne_eqb two.branch.m m r in
         λ i. here i || (there i || false)
 
-    at_first : one.branch.m ≡ m → TransferAt n tr o (ledger old.ledgers m) (ledger new m)
+    at_first : one.branch.m ≡ m → TransferAt n tr was (ledger old.ledgers m) (ledger new m)
     at_first at =
         let z =
-        first_out outs s again q next scene t n low tr.account one two of_legs o old.ledgers desk new log later work come segment after earlier found T
+        first_out outs s again q next scene t n low tr.account one two of_legs was old.ledgers desk new log later work come segment after earlier found T
         (ap (first_of s) at ∙ first) (fresh one.branch.xid of_legs.first) j in
-        one_at n tr o one _ (ledger old.ledgers m) (ledger desk.ledgers m) (ledger new m) at of_legs.first z.xid z.recorded z.sum
+        one_at n tr was one _ (ledger old.ledgers m) (ledger desk.ledgers m) (ledger new m) at of_legs.first z.xid z.recorded z.sum
         (first_share tr m j t n one two legs at) z.out
         (subst (λ k. LegWorked one tr.account (ledger old.ledgers k) (ledger desk.ledgers k)) at
-        (legs_worked_so outs s again q next scene t n low tr.account one two of_legs o old.ledgers desk new log later work come segment after earlier found).0)
+        (legs_worked_so outs s again q next scene t n low tr.account one two of_legs was old.ledgers desk new log later work come segment after earlier found).0)
         (subst (λ k. HasSent (Obeys one.branch.xid) (ledger desk.ledgers k) (ledger new k)) at
-        (first_obeys outs s again q next scene t n low tr.account one two of_legs o old.ledgers desk new log later work come segment after earlier found))
+        (first_obeys outs s again q next scene t n low tr.account one two of_legs was old.ledgers desk new log later work come segment after earlier found))
 
-    at_second : two.branch.m ≡ m → TransferAt n tr o (ledger old.ledgers m) (ledger new m)
+    at_second : two.branch.m ≡ m → TransferAt n tr was (ledger old.ledgers m) (ledger new m)
     at_second at =
         let z =
-        second_out outs s again q next scene t n low tr.account one two of_legs o old.ledgers desk new log later work come segment after earlier found T
+        second_out outs s again q next scene t n low tr.account one two of_legs was old.ledgers desk new log later work come segment after earlier found T
         (ap (first_of s) at ∙ first) (fresh two.branch.xid of_legs.second) j in
-        one_at n tr o two _ (ledger old.ledgers m) (ledger desk.ledgers m) (ledger new m) at of_legs.second z.xid z.recorded z.sum
+        one_at n tr was two _ (ledger old.ledgers m) (ledger desk.ledgers m) (ledger new m) at of_legs.second z.xid z.recorded z.sum
         (second_share tr m j t n one two legs at) z.out
         (subst (λ k. LegWorked two tr.account (ledger old.ledgers k) (ledger desk.ledgers k)) at
-        (legs_worked_so outs s again q next scene t n low tr.account one two of_legs o old.ledgers desk new log later work come segment after earlier found).1)
+        (legs_worked_so outs s again q next scene t n low tr.account one two of_legs was old.ledgers desk new log later work come segment after earlier found).1)
         (subst (λ k. HasSent (Obeys two.branch.xid) (ledger desk.ledgers k) (ledger new k)) at
-        (second_obeys outs s again q next scene t n low tr.account one two of_legs o old.ledgers desk new log later work come segment after earlier found))
+        (second_obeys outs s again q next scene t n low tr.account one two of_legs was old.ledgers desk new log later work come segment after earlier found))
 
-    elsewhere : one.branch.m ≢ m → two.branch.m ≢ m → TransferAt n tr o (ledger old.ledgers m) (ledger new m)
+    elsewhere : one.branch.m ≢ m → two.branch.m ≢ m → TransferAt n tr was (ledger old.ledgers m) (ledger new m)
     elsewhere p r =
         let same : ledger new m ≡ ledger old.ledgers m = come.obeys.others m positive (neither p r) ∙ work.others m positive (neither p r) in
-        none_at n tr o (ledger old.ledgers m) (ledger new m) (not_applied (is_to_commit o) (share tr m j) (no_share tr m j t n one two legs p r))
+        none_at n tr was (ledger old.ledgers m) (ledger new m) (not_applied was (share tr m j) (no_share tr m j t n one two legs p r))
         (subst (HasSent (Noted q.records []) (ledger old.ledgers m)) (sym same) (none_sent (Noted q.records []) (ledger old.ledgers m)))
 
-    committed_at : TransferAt n tr o (ledger old.ledgers m) (ledger new m)
-    committed_at = elim (cases_eq one.branch.m m) as (λ _. TransferAt n tr o (ledger old.ledgers m) (ledger new m)) [
+    committed_at : TransferAt n tr was (ledger old.ledgers m) (ledger new m)
+    committed_at = elim (cases_eq one.branch.m m) as (λ _. TransferAt n tr was (ledger old.ledgers m) (ledger new m)) [
       | inl at ↦ at_first at
-      | inr p ↦ elim (cases_eq two.branch.m m) as (λ _. TransferAt n tr o (ledger old.ledgers m) (ledger new m)) [
+      | inr p ↦ elim (cases_eq two.branch.m m) as (λ _. TransferAt n tr was (ledger old.ledgers m) (ledger new m)) [
         | inl at ↦ at_second at
         | inr r ↦ elsewhere p r
       ]
@@ -209,13 +216,13 @@ module _
 
   -- ---- one that was refused
 
-  module _ (n : ℕ) (tr : Transfer) (o : WorkOutcome) (one two : AnyLeg) (legs : AreLegs t n tr one two) (old new : DeskView) (log : LogState)
+  module _ (n : ℕ) (tr : Transfer) (found_so : Bool) (o : WorkOutcome) (one two : AnyLeg) (legs : AreLegs t n tr one two) (old new : DeskView) (log : LogState)
       (found : (tran : TranName) → IsNamed t n tran.gtrid → record_in q.records tran ≡ record_of log tran) where
     abbrev bs : List Branch
     bs = branches_of one two
 
-    unapplied : (why : WorkOutcome) → o ≡ why → is_to_commit why ≡ false → pos 0 ≡ (if is_to_commit o then share tr m j else pos 0)
-    unapplied why is not_ = ap (λ b. if b then share tr m j else pos 0) (sym (ap is_to_commit is ∙ not_))
+    unapplied : (why : WorkOutcome) → o ≡ why → is_applied found_so why ≡ false → pos 0 ≡ (if is_applied found_so o then share tr m j else pos 0)
+    unapplied why is not_ = ap (λ b. if b then share tr m j else pos 0) (sym (ap (is_applied found_so) is ∙ not_))
 
     its_legs : LegsOf t n one two
     its_legs = legs_are t n tr one two legs
@@ -231,60 +238,70 @@ module _
               ∙ may.absent,
         )
 
-    sent_for : MayCommit old log bs → (why : WorkOutcome) → o ≡ why → is_to_commit why ≡ false → HaveSent (IsFor bs) old.ledgers new.ledgers
-        → TransferAt n tr o (ledger old.ledgers m) (ledger new.ledgers m)
+    sent_for : MayCommit old log bs → (why : WorkOutcome) → o ≡ why → is_applied found_so why ≡ false → HaveSent (IsFor bs) old.ledgers new.ledgers
+        → TransferAt n tr (is_applied found_so o) (ledger old.ledgers m) (ledger new.ledgers m)
     sent_for may why is not_ sent =
-        none_at n tr o (ledger old.ledgers m) (ledger new.ledgers m) (unapplied why is not_)
+        none_at n tr (is_applied found_so o) (ledger old.ledgers m) (ledger new.ledgers m) (unapplied why is not_)
         (sent_as (IsFor bs) (Noted q.records []) (noted_for may) (ledger old.ledgers m) (ledger new.ledgers m) (sent m positive))
 
-    nothing_at : (why : WorkOutcome) → o ≡ why → is_to_commit why ≡ false → new ≡ old → TransferAt n tr o (ledger old.ledgers m) (ledger new.ledgers m)
+    nothing_at : (why : WorkOutcome) → o ≡ why → is_applied found_so why ≡ false → new ≡ old
+        → TransferAt n tr (is_applied found_so o) (ledger old.ledgers m) (ledger new.ledgers m)
     nothing_at why is not_ same =
-        none_at n tr o (ledger old.ledgers m) (ledger new.ledgers m) (unapplied why is not_)
+        none_at n tr (is_applied found_so o) (ledger old.ledgers m) (ledger new.ledgers m) (unapplied why is not_)
         (subst (λ (d : DeskView). HasSent (Noted q.records []) (ledger old.ledgers m) (ledger d.ledgers m)) (sym same) (none_sent (Noted q.records []) (ledger old.ledgers m)))
 
     refused_at : (cs : List Change) (Known : Type 0) → IsRefused bs cs o old new log Known → HaveSent (IsFor bs) old.ledgers new.ledgers
-        → TransferAt n tr o (ledger old.ledgers m) (ledger new.ledgers m)
+        → TransferAt n tr (is_applied found_so o) (ledger old.ledgers m) (ledger new.ledgers m)
     refused_at cs Known (unbegun is why same) sent = nothing_at (Refused NotBegun) is refl same
     refused_at cs Known (undone tried is begins known tries gives_up) sent = sent_for begins.commit (Refused GivenUp) is refl sent
     refused_at cs Known (barred tried is begins known tries may gives_up) sent = sent_for begins.commit (Refused GivenUp) is refl sent
 
   -- ---- whichever it was
 
-  module _ (n : ℕ) (tr : Transfer) (habits : Habits) (o : WorkOutcome) (keeps : habits.forgets ≡ false) (known : LeavesKnown (Unit {0}) o) where
+  module _ (n : ℕ) (tr : Transfer) (habits : Habits) (o : WorkOutcome) (keeps : habits.forgets ≡ false) (R : LogState → Type 0) (is_found : Bool) where
     module _ (fresh : (x : XidName) → IsOf t n x → state_of T x ≡ None) where
-      makes_at : (old new : DeskView) (log later : LogState) → Makes t n tr habits o old new log later
+      makes_at : (old new : DeskView) (log later : LogState) → Makes t n tr habits o old new log later R → IfLost (λ votes. IsFoundSo R t n is_found later) o
           → HaveSent (Names t (IsFrom (n + 1))) new.ledgers (ledgers_of s t)
           → ((k : ℕ) → 1 ≤ k → All (Names t (IsBelow n)) (ledger old.ledgers k).sent)
           → ((tran : TranName) → IsNamed t n tran.gtrid → record_in q.records tran ≡ record_of later tran)
-          → TransferAt n tr o (ledger old.ledgers m) (ledger new.ledgers m)
-      makes_at old new log later (with_legs one two left legs (commits worked begins known_ work comes) kept) after earlier found =
+          → TransferAt n tr (is_applied is_found o) (ledger old.ledgers m) (ledger new.ledgers m)
+      makes_at old new log later (with_legs one two left legs (commits worked begins known_ work comes) kept read) so after earlier found =
           let of_legs = legs_are t n tr one two legs in
           let segment : HaveSent (Names t (Is n)) old.ledgers new.ledgers =
           have_on (Names t (Is n)) old.ledgers worked.ledgers new.ledgers (work_names t n one two tr.account old.ledgers worked.ledgers of_legs work)
           (comes_names t n one two (death_in habits n) o worked new.ledgers log left of_legs comes) in
           let first_of_legs = of_legs.first in
-          committed_at n tr o one two legs fresh old worked new.ledgers log left work
-          (has_come one.branch two.branch (death_in habits n) o worked new.ledgers log left comes known) segment after earlier
+          let same : later ≡ left = left_is habits o keeps (tran_of one.branch.xid) left later kept in
+          let tran : TranName = tran_of one.branch.xid in
+          let is_so : IfLost (IsReadSo (branches_of one two) tran log left is_found) o =
+          if_both _ (λ votes. IsFoundSo R t n is_found later) (IsReadSo (branches_of one two) tran log left is_found) o
+          (λ votes either z. record {
+            either = λ u is. either u left is (subst R same z.may);
+            found_ = ap (λ (l : LogState). is_recorded l tran) (sym same) ∙ ap (is_recorded later) of_legs.tran ∙ sym (z.found_ first_of_legs.small);
+          }) read so in
+          committed_at n tr (is_applied is_found o) one two legs fresh old worked new.ledgers log left work
+          (has_come one.branch two.branch (death_in habits n) is_found o worked new.ledgers log left comes is_so) segment after earlier
           (λ tran is.
           found tran (record { small = first_of_legs.small; gtrid_ = ap (λ (u : TranName). u.gtrid) (sym is) ∙ first_of_legs.gtrid })
-          ∙ ap (λ (l : LogState). record_of l tran) (left_is habits o keeps (tran_of one.branch.xid) left later kept))
-      makes_at old new log later (with_legs one two left legs (refused same why sent) kept) after earlier found =
-          refused_at n tr o one two legs old new log
+          ∙ ap (λ (l : LogState). record_of l tran) same)
+      makes_at old new log later (with_legs one two left legs (refused same why sent) kept read) so after earlier found =
+          refused_at n tr is_found o one two legs old new log
           (λ tran is. found tran is ∙ ap (λ (l : LogState). record_of l tran) (left_is habits o keeps (tran_of one.branch.xid) left later kept ∙ same))
           (changes_of one two tr.account) (Unit {0}) why sent
-      makes_at old new log later (without_legs is none same unlogged) after earlier found =
-          none_at n tr o (ledger old.ledgers m) (ledger new.ledgers m)
-          (ap (λ b. if b then share tr m j else pos 0) (sym (ap is_to_commit is)))
+      makes_at old new log later (without_legs is none same unlogged) so after earlier found =
+          none_at n tr (is_applied is_found o) (ledger old.ledgers m) (ledger new.ledgers m)
+          (ap (λ b. if b then share tr m j else pos 0) (sym (ap (is_applied is_found) is)))
           (subst (λ (d : DeskView). HasSent (Noted q.records []) (ledger old.ledgers m) (ledger d.ledgers m)) (sym same) (none_sent (Noted q.records []) (ledger old.ledgers m)))
 
-      pub next_at : (old new : DeskView) (log later : LogState) → MakesNext t n tr habits o old new log later
+      pub next_at : (old new : DeskView) (log later : LogState) → MakesNext t n tr habits o old new log later R
+          → IfLost (λ votes. IsFoundSo R t n is_found later) o
           → HaveSent (Names t (IsFrom (n + 1))) new.ledgers (ledgers_of s t)
           → ((k : ℕ) → 1 ≤ k → All (Names t (IsBelow n)) (ledger old.ledgers k).sent)
           → ((tran : TranName) → IsNamed t n tran.gtrid → record_in q.records tran ≡ record_of later tran)
-          → TransferAt n tr o (ledger old.ledgers m) (ledger new.ledgers m)
-      next_at old new log later makes after earlier found =
+          → TransferAt n tr (is_applied is_found o) (ledger old.ledgers m) (ledger new.ledgers m)
+      next_at old new log later makes so after earlier found =
           let shuts : HaveSent IsShut old.ledgers makes.shut.ledgers = shut_sent (shut_before habits n) old makes.shut makes.shuts in
-          let z = makes_at makes.shut new log later makes.makes after (λ k up.
+          let z = makes_at makes.shut new log later makes.makes so after (λ k up.
           let w = shuts k up in
           subst (All (Names t (IsBelow n))) (sym w.sent)
           (All-append (Names t (IsBelow n)) (ledger old.ledgers k).sent w.more (earlier k up) (All-weaker IsShut (Names t (IsBelow n)) (shut_names t (IsBelow n)) w.more w.each))) found in

@@ -6,6 +6,8 @@ use Rattle.std.specs.Global.{Global}
 use Rattle.std.specs.List.{All}
 use Rattle.xa_base.specs.Lists.{IsUpTo}
 use Rattle.xa_base.proofs.Lists.{all_at, all_from, got_map, was_mapped}
+use Rattle.std.proofs.lemmas.List.Elements.{All-map}
+use Rattle.xa_words.specs.Tran.{TranName}
 use Rattle.xa_tables.specs.Tables.{Tables, is_declared}
 use Rattle.xa_tables.specs.History.{is_done}
 use Rattle.xa_tables.proofs.WorthLaw.{declared_on}
@@ -23,7 +25,7 @@ use Rattle.xa_bank.specs.declared.teller.Transfer.{Transfer}
 use Rattle.xa_bank_days.specs.declared.days.Bank.{Bank}
 use Rattle.xa_bank_days.specs.declared.days.Closed.{Closed}
 use Rattle.xa_bank_days.specs.declared.days.Errands.{Errands}
-use Rattle.xa_bank_days.specs.Days.{AreToldAll, BeginsWith, IsDawn, IsDayOf, IsResolvedBy, all_told, balances_at, balances_of, records_of, told}
+use Rattle.xa_bank_days.specs.Days.{AreReadBack, AreToldAll, BeginsWith, IsDawn, IsDayOf, IsResolvedBy, all_told, balances_at, balances_of, records_of, told}
 use Rattle.xa_bank_days.specs.Kept.{AreKept, HasWorked, IsKept, IsMovedBy, IsReady, habits_on, has_account, told_on, told_over}
 use Rattle.xa_bank_days.specs.Ledger.{Balances, all_applied, applied, share}
 use Rattle.xa_bank_days.proofs.DayWorked.{same_length}
@@ -62,15 +64,18 @@ same_map f (x ∷ xs) [] e same = absurd (omega (arith, e))
 same_map f (x ∷ xs) (y ∷ ys) e same =
     (λ i. same 0 x y refl refl i ∷ same_map f xs ys (omega (arith, e)) (λ k u v at there. same (suc k) u v at there) i)
 
-told_is : {L : Type 0} (news : List (Teller L)) (errands : List Errands) → map (λ (t : Teller L). t.transfers) news ≡ map (λ (e : Errands). e.transfers) errands
-    → all_told news ≡ told_on errands (map (λ (t : Teller L). t.outcomes) news)
-told_is [] [] e = refl
-told_is [] (x ∷ errands) e = cc
-told_is (t ∷ news) [] e = cc
-told_is {L} (t ∷ news) (x ∷ errands) e =
+told_is : {L : Type 0} (founds : List Bool) (news : List (Teller L)) (errands : List Errands)
+    → map (λ (t : Teller L). t.transfers) news ≡ map (λ (e : Errands). e.transfers) errands
+    → all_told founds news ≡ told_on errands (map (λ (t : Teller L). t.outcomes) news) founds
+told_is [] [] [] e = refl
+told_is [] (t ∷ news) (x ∷ errands) e = refl
+told_is (f ∷ founds) [] [] e = refl
+told_is founds [] (x ∷ errands) e = cc
+told_is founds (t ∷ news) [] e = cc
+told_is {L} (f ∷ founds) (t ∷ news) (x ∷ errands) e =
     let head : t.transfers ≡ x.transfers = cc in
     let tail : map (λ (u : Teller L). u.transfers) news ≡ map (λ (y : Errands). y.transfers) errands = cc in
-    (λ i. told (head i).items t.outcomes.items ++ told_is news errands tail i)
+    (λ i. told f (head i).items t.outcomes.items ++ told_is founds news errands tail i)
 
 -- what holds of all transfers that are a list's holds of the other's
 all_theirs : {A B C : Type 0} (P : C → Type 0) (f : A → C) (g : B → C) (xs : List A) (ys : List B) → map f xs ≡ map g ys → All (λ y. P (g y)) ys
@@ -82,17 +87,21 @@ all_theirs {A} {B} P f g xs ys e all =
 
 -- ---- a day
 
-module _ {L : Type 0} (state : L → LogState) (knows : L → Type 0)
-    (applies : (s : Settling) (again : Again) (q : ResolveCall) (next : Settling) (olds news : List (Teller L)) (stores n : ℕ) (first : ℕ → Tables) (m : ℕ) (account : List ℕ)
-    → IsDayOf state knows s olds news → BeginsWith s stores first → length olds < 2 ^ 32 → AreToldAll knows n olds news
-    → IsDawn state stores n first (map (λ t. t.log) olds) → IsResolvedBy (records_of state (map (λ t. t.log) news)) s again q next → IsUpTo stores m
-    → is_declared (first m) account ≡ true → balances_at next m account ≡ all_applied (all_told news) (balances_of first) m account)
-    (dawns : (s : Settling) (again : Again) (q : ResolveCall) (next : Settling) (olds news : List (Teller L)) (stores n later : ℕ) (first : ℕ → Tables)
-    → IsDayOf state knows s olds news → BeginsWith s stores first → AreToldAll knows n olds news → IsDawn state stores n first (map (λ t. t.log) olds)
-    → IsResolvedBy (records_of state (map (λ t. t.log) news)) s again q next → All (λ r. is_done r.code ≡ true) q.outcomes → n ≤ later
-    → All (λ t. t.habits.first + length t.transfers.items ≤ later) olds → IsDawn state stores later (reopened_at next.managers) (map (λ t. t.log) news)) where
-  module _ (b : Bank L) (errands : List Errands) (c : Closed) (outcomes : List Outcome) (b' : Bank L) (z : IsKept state knows b errands c outcomes b') where
-    abbrev w : HasWorked state knows b.settled z.turned z.day
+module _ {L : Type 0} (state : L → LogState) (knows : L → Type 0) (loses : TranName → List Bool → L → L → Type 0)
+    (applies : (s : Settling) (again : Again) (q : ResolveCall) (next : Settling) (olds news : List (Teller L)) (logs : List L) (founds : List Bool) (stores n : ℕ)
+    (first : ℕ → Tables) (m : ℕ) (account : List ℕ)
+    → IsDayOf state knows loses s olds news → BeginsWith s stores first → length olds < 2 ^ 32 → AreToldAll n olds news
+    → AreReadBack state knows loses 1 news logs founds
+    → All knows logs → IsDawn state stores n first (map (λ t. t.log) olds) → IsResolvedBy (records_of state logs) s again q next → IsUpTo stores m
+    → is_declared (first m) account ≡ true → balances_at next m account ≡ all_applied (all_told founds news) (balances_of first) m account)
+    (dawns : (s : Settling) (again : Again) (q : ResolveCall) (next : Settling) (olds news : List (Teller L)) (logs : List L) (founds : List Bool) (stores n later : ℕ)
+    (first : ℕ → Tables) → IsDayOf state knows loses s olds news → BeginsWith s stores first → AreToldAll n olds news → AreReadBack state knows loses 1 news logs founds
+    → All knows logs → IsDawn state stores n first (map (λ t. t.log) olds) → IsResolvedBy (records_of state logs) s again q next
+    → All (λ r. is_done r.code ≡ true) q.outcomes → n ≤ later
+    → All (λ t. t.habits.first + length t.transfers.items ≤ later) olds → IsDawn state stores later (reopened_at next.managers) logs) where
+  module _ (b : Bank L) (errands : List Errands) (c : Closed) (outcomes : List Outcome) (b' : Bank L)
+      (z : IsKept state knows loses b errands c outcomes b') where
+    abbrev w : HasWorked state knows loses b.settled z.turned z.day
     w = z.works
 
     abbrev n : ℕ
@@ -104,11 +113,12 @@ module _ {L : Type 0} (state : L → LogState) (knows : L → Type 0)
         let many = z.many in
         omega (arith, e, many)
 
-    known_at : (k : ℕ) (new : Teller L) → slice_get w.worked k ≡ Some new → knows new.log
-    known_at k new at =
-        let t =
-        was_mapped (λ (u : Teller L). u.log) z.day.tellers.items k new.log (ap (λ l. slice_get l k) w.logs ∙ got_map (λ (u : Teller L). u.log) w.worked k new at) in
-        subst knows t.2 (all_at (λ (u : Teller L). knows u.log) z.day.tellers.items k t.0 z.night.known t.1)
+    -- their logs in the night, which were known
+    abbrev logs : List L
+    logs = map (λ (t : Teller L). t.log) z.day.tellers.items
+
+    known : All knows logs
+    known = All-map knows (λ (t : Teller L). t.log) z.day.tellers.items z.night.known
 
     -- its habits are those of its errands
     turned_at : (k : ℕ) (t : Teller L) → slice_get z.turned k ≡ Some t → (t.habits.first ≡ n) × (t.habits.forgets ≡ false)
@@ -117,7 +127,7 @@ module _ {L : Type 0} (state : L → LogState) (knows : L → Type 0)
         was_mapped (habits_on n) errands k t.habits (ap (λ l. slice_get l k) (sym z.are_turned.habits) ∙ got_map (λ (u : Teller L). u.habits) z.turned k t at) in
         (sym (ap (λ (h : Habits). h.first) e.2), sym (ap (λ (h : Habits). h.forgets) e.2))
 
-    told_all : AreToldAll knows n z.turned w.worked
+    told_all : AreToldAll n z.turned w.worked
     told_all k old new old_at new_at =
         let turned = turned_at k old old_at in
         let first = turned.0 in
@@ -126,19 +136,20 @@ module _ {L : Type 0} (state : L → LogState) (knows : L → Type 0)
           counts = omega (arith, first);
           keeps = turned.1;
           memory = all_at (λ (t : Teller L). t.wants_memory ≡ false) w.worked k new (w.memory z.wants) new_at;
-          known = known_at k new new_at;
         }
 
-    resolved : IsResolvedBy (records_of state (map (λ (t : Teller L). t.log) w.worked)) z.day.settled b'.again z.night.call b'.settled
-    resolved = subst (λ (l : List L). IsResolvedBy (records_of state l) z.day.settled b'.again z.night.call b'.settled) w.logs z.night.resolves
+    resolved : IsResolvedBy (records_of state logs) z.day.settled b'.again z.night.call b'.settled
+    resolved = z.night.resolves
 
     transfers_are : map (λ (t : Teller L). t.transfers) w.worked ≡ map (λ (e : Errands). e.transfers) errands
     transfers_are =
         same_map (λ (t : Teller L). t.transfers) z.turned w.worked w.is_day.many (λ k old new old_at new_at. (w.is_day.each k old new old_at new_at).worked.transfers)
         ∙ z.are_turned.transfers
 
-    told_so : all_told w.worked ≡ told_on errands c.outcomes.items
-    told_so = told_is w.worked errands transfers_are ∙ ap (told_on errands) (sym (ap (λ v. v.items) z.told_ ∙ w.told_))
+    told_so : all_told z.day.found.items w.worked ≡ told_on errands c.outcomes.items c.found.items
+    told_so =
+        told_is z.day.found.items w.worked errands transfers_are
+        ∙ (λ i. told_on errands (sym (ap (λ v. v.items) z.told_ ∙ w.told_) i) (sym (ap (λ v. v.items) z.found_) i))
 
     ends_at : All (λ (t : Teller L). t.habits.first + length t.transfers.items ≤ b'.next) z.turned
     ends_at =
@@ -153,10 +164,10 @@ module _ {L : Type 0} (state : L → LogState) (knows : L → Type 0)
       dawn : IsDawn state (managers_in b.settled) n (reopened_at b.settled.managers) (map (λ (t : Teller L). t.log) z.turned)
       dawn = subst (IsDawn state (managers_in b.settled) n (reopened_at b.settled.managers)) (sym z.are_turned.logs) ready
 
-      next_dawn : IsDawn state (managers_in b.settled) b'.next (reopened_at b'.settled.managers) (map (λ (t : Teller L). t.log) w.worked)
+      next_dawn : IsDawn state (managers_in b.settled) b'.next (reopened_at b'.settled.managers) logs
       next_dawn =
-          dawns z.day.settled b'.again z.night.call b'.settled z.turned w.worked (managers_in b.settled) n b'.next (reopened_at b.settled.managers) w.is_day w.begins told_all dawn
-          resolved (subst (All (λ (o : Outcome). is_done o.code ≡ true)) (sym z.night.listed) ended) z.later ends_at
+          dawns z.day.settled b'.again z.night.call b'.settled z.turned w.worked logs z.day.found.items (managers_in b.settled) n b'.next (reopened_at b.settled.managers) w.is_day w.begins
+          told_all w.logs known dawn resolved (subst (All (λ (o : Outcome). is_done o.code ≡ true)) (sym z.night.listed) ended) z.later ends_at
 
       stores : managers_in b'.settled ≡ managers_in b.settled
       stores = z.stores ∙ w.stores
@@ -167,22 +178,22 @@ module _ {L : Type 0} (state : L → LogState) (knows : L → Type 0)
           last_declares b'.settled m (reopened_at z.day.settled.managers m) k z.night.resolves.settled (z.night.resolves.continues m (reopened_at b.settled.managers m) first)
           ∙ last_declares z.day.settled m (reopened_at b.settled.managers m) k w.is_day.settled first
 
-      pub day_moves : IsMovedBy state (told_on errands c.outcomes.items) b b'
+      pub day_moves : IsMovedBy state (told_on errands c.outcomes.items c.found.items) b b'
       day_moves = record {
         stores = stores;
         accounts = account;
         balances = λ m k up there.
-            applies z.day.settled b'.again z.night.call b'.settled z.turned w.worked (managers_in b.settled) n (reopened_at b.settled.managers) m k w.is_day w.begins few told_all dawn resolved
-            up there
+            applies z.day.settled b'.again z.night.call b'.settled z.turned w.worked logs z.day.found.items (managers_in b.settled) n (reopened_at b.settled.managers) m k w.is_day w.begins few
+            told_all w.logs known dawn resolved up there
             ∙ ap (λ (es : List (Transfer × Bool)). all_applied es (balances_at b.settled) m k) told_so;
         ready =
             subst (λ (p : ℕ × List L). IsDawn state p.0 b'.next (reopened_at b'.settled.managers) p.1)
-            (λ i. (sym stores i, sym (ap (λ v. map (λ (t : Teller L). t.log) v.items) z.tellers ∙ w.logs) i)) next_dawn;
+            (λ i. (sym stores i, sym (ap (λ v. map (λ (t : Teller L). t.log) v.items) z.tellers) i)) next_dawn;
       }
 
   -- ---- many days
 
-  pub days_move : (b : Bank L) (ds : List (Vec Errands Global)) (cs : List Closed) (b' : Bank L) → AreKept state knows b ds cs b' → IsReady state b
+  pub days_move : (b : Bank L) (ds : List (Vec Errands Global)) (cs : List Closed) (b' : Bank L) → AreKept state knows loses b ds cs b' → IsReady state b
       → IsMovedBy state (told_over ds cs) b b'
   days_move b [] [] b' same ready =
       subst (λ (q : Bank L). IsMovedBy state [] b q) (sym same) (record { stores = refl; accounts = λ m k up. refl; balances = λ m k up there. refl; ready = ready })
@@ -192,7 +203,7 @@ module _ {L : Type 0} (state : L → LogState) (knows : L → Type 0)
       let mid : Bank L = all.0 in
       let one = day_moves b d.items c all.1.outcomes mid all.1.kept ready all.1.ended in
       let rest = days_move mid ds cs b' all.2 one.ready in
-      let es : List (Transfer × Bool) = told_on d.items c.outcomes.items in
+      let es : List (Transfer × Bool) = told_on d.items c.outcomes.items c.found.items in
       let up_there = λ (m : ℕ) (up : IsUpTo (managers_in b.settled) m). subst (λ (j : ℕ). IsUpTo j m) (sym one.stores) up in
       record {
         stores = rest.stores ∙ one.stores;

@@ -1,5 +1,5 @@
 -- What a commit sent to the manager of one of its branches: requests that name that branch, and no decision of the manager's own.
-use Rattle.std.proofs.Common.{◌≡◌, ℕ, zero, suc, Bool, true, false, ◌||◌, Option, Some, None, List, [], ◌∷◌, refl, sym, subst}
+use Rattle.std.proofs.Common.{◌≡◌, ℕ, zero, suc, Bool, true, false, ◌||◌, Option, Some, None, List, [], ◌∷◌, map, refl, sym, ◌∙◌, subst}
 use Rattle.std.specs.List.{All}
 use Rattle.std.proofs.lemmas.List.Elements.{All-nil, All-cons}
 use Rattle.xa_base.proofs.Lists.{same_begins, some_same}
@@ -24,6 +24,11 @@ use Rattle.xa_driver.specs.Deaths.{CameTo, HaveAsked, HaveTold, PutsLedger, Tell
 use Rattle.xa_driver.specs.Decision.{is_read, is_yes}
 use Rattle.xa_driver.specs.Endings.{is_decided, is_out_of_reach, second_op, third_op}
 use Rattle.xa_driver.specs.Resolving.{AsksLedger}
+use Rattle.xa_driver.specs.Stages.{HasVoted}
+use Rattle.xa_driver.specs.Rounds.{code_of}
+use Rattle.xa_driver.specs.declared.ask.Ask.{Ask}
+use Rattle.xa_driver.proofs.AtDeath.{asked_all}
+use Rattle.xa_driver.proofs.Calls.{among_first}
 use Rattle.xa_driver.specs.Trace.{EachBranch, IsCommit}
 use Rattle.xa_log.specs.Log.{LogState}
 use Rattle.xa_work.specs.Sent.{HasSent}
@@ -160,6 +165,16 @@ made_obeys bs desk new log later d made = record {
   each = made_each desk.ledgers new d.commit bs d.votes.items made.trace.course.seconds d.endings.items made.trace.course.each;
   others = made.trace.course.others;
 }
+
+-- of a commit of which nobody knows whether its record was made, each branch was asked to prepare
+pub voted_obeys : (bs : List Branch) (old new : List LedgerView) (votes : List Code) → HasVoted bs old new votes → ObeysAll bs old new
+voted_obeys bs old new votes voted =
+    let ks : List Ask = voted.stage.round.asks.items in
+    let first = voted.prepared in
+    record {
+      each = asked_each old new bs (map code_of ks) (asked_all bs ks old new first.same first.asked.each);
+      others = λ m positive none. first.asked.others m positive (among_first bs ks m first.same ∙ none);
+    }
 
 pub died_obeys : (at : Death) (bs : List Branch) (desk : DeskView) (new : List LedgerView) (log later : LogState) (known : Done)
     → IsDeath at bs desk new log later known → ObeysAll bs desk.ledgers new

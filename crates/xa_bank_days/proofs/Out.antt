@@ -33,14 +33,12 @@ use Rattle.xa_days.proofs.Legs.{after_seam}
 use Rattle.xa_days.specs.Legs.{IsItsOwn, asked_sum, leg_of}
 use Rattle.xa_days.specs.Recorded.{OnlyRead}
 use Rattle.xa_days.specs.Settled.{ComesOutByTheLog, voted, unasked}
-use Rattle.xa_work.specs.declared.unit.WorkOutcome.{WorkOutcome}
 use Rattle.xa_work.specs.Sent.{HasSent, HaveSent}
 use Rattle.xa_work.specs.Works.{HaveWorked}
 use Rattle.xa_bank.specs.Transfers.{branches_of, changes_of}
 use Rattle.xa_bank.proofs.Legs.{AnyLeg, LegWorked, legs_worked}
 use Rattle.xa_bank.proofs.Named.{IsOf, Is, IsFrom, LegsOf, Names}
 use Rattle.xa_bank.proofs.Told.{IsBelow, IsTold, only_these}
-use Rattle.xa_work.specs.Units.{is_to_commit}
 use Rattle.xa_bank_days.specs.Days.{IsResolvedBy}
 use Rattle.xa_bank_days.proofs.Come.{HasCome, OnlyReads}
 use Rattle.xa_bank_days.proofs.Fewer.{IsLow, few_left, fewer, fewer_at, fewer_cut, fewer_grown, same_ledger}
@@ -91,8 +89,8 @@ pub record IsScene (s : Settling) (again : Again) (q : ResolveCall) (next : Sett
 module _
     (outs : BranchesComeOut)
     (s : Settling) (again : Again) (q : ResolveCall) (next : Settling) (scene : IsScene s again q next) (t n : ℕ) (low : t < 2 ^ 32) (account : List ℕ) (one two : AnyLeg)
-    (of_it : LegsOf t n one two) (o : WorkOutcome) (old : List LedgerView) (desk : DeskView) (new : List LedgerView) (log later : LogState)
-    (work : HaveWorked (changes_of one two account) (branches_of one two) old desk.ledgers) (come : HasCome one.branch two.branch o desk new log later)
+    (of_it : LegsOf t n one two) (was : Bool) (old : List LedgerView) (desk : DeskView) (new : List LedgerView) (log later : LogState)
+    (work : HaveWorked (changes_of one two account) (branches_of one two) old desk.ledgers) (come : HasCome one.branch two.branch was desk new log later)
     (segment : HaveSent (Names t (Is n)) old new) (after : HaveSent (Names t (IsFrom (n + 1))) new (ledgers_of s t))
     (earlier : (m : ℕ) → 1 ≤ m → All (Names t (IsBelow n)) (ledger old m).sent)
     (found : (tran : TranName) → tran_of one.branch.xid ≡ tran → record_in q.records tran ≡ record_of later tran) where
@@ -140,7 +138,7 @@ module _
       (subst (λ l. Contains l (length (ledger desk.ledgers one.branch.m).sent, RdOnly)) (sym rest.1)
       (Contains-append_left (ledger new one.branch.m).collected rest.0 (length (ledger desk.ledgers one.branch.m).sent, RdOnly) reads.collected))
 
-  pub applied : is_recorded later (tran_of one.branch.xid) ≡ is_to_commit o
+  pub applied : is_recorded later (tran_of one.branch.xid) ≡ was
   applied = come.applied never_reads
 
   -- ---- the call
@@ -270,7 +268,7 @@ module _
   -- what a leg is, where it is found at its store
   pub record IsOut (leg : AnyLeg) (T : Tables) (j : List ℕ) (g : Leg) : Type 0 where
     pub xid : g.xid ≡ leg.branch.xid
-    pub recorded : g.recorded ≡ is_to_commit o
+    pub recorded : g.recorded ≡ was
     pub sum : g.sum ≡ (if key_eq j account then leg.delta else pos 0)
     pub out : ComesOutByTheLog ((j, 0) ∷ []) leg.branch.m T (day s) (night next q ∷ []) g
 

@@ -1,6 +1,7 @@
 -- What all transfers of one teller come to at one store, for one account.
 use Rattle.std.specs.Prelude.{◌+ℤ◌}
-use Rattle.std.proofs.Common.{◌≡◌, ℕ, suc, ◌+◌, ◌^◌, ◌<◌, ◌≤◌, ⊎_elim, true, false, ◌||◌, None, Some, List, [], ◌∷◌, ◌++◌, length, get_or, map, sym, refl, ap}
+use Rattle.std.proofs.Common.{◌≡◌, ℕ, suc, ◌+◌, ◌^◌, ◌<◌, ◌≤◌, ⊎_elim, Bool, true, false, ◌||◌, None, Some, List, [], ◌∷◌, ◌++◌, length, get_or, map, sym, refl}
+use Rattle.std.proofs.Common.{ap}
 use Rattle.std.proofs.Common.{◌∙◌, subst, arith, inl, inr}
 use Rattle.std.specs.List.{All, AllByRecursion, IsDistinct, list_any}
 use Rattle.std.proofs.Math.Bool.{or-true}
@@ -21,22 +22,25 @@ use Rattle.xa_switch.specs.Settling.{Settling}
 use Rattle.xa_switch.specs.Fates.{first_of, ledgers_of}
 use Rattle.xa_log.specs.Log.{LogState, Records, record_in, record_of}
 use Rattle.xa_driver.specs.Commits.{is_commit}
+use Rattle.xa_atomicity.specs.Cut.{is_recorded}
 use Rattle.xa_atomicity.specs.Resolution.{ResolveCall}
 use Rattle.xa_days.specs.Days.{Leg, counted}
 use Rattle.xa_days.specs.Settled.{ComesOutByTheLog}
 use Rattle.xa_work.specs.declared.unit.WorkOutcome.{WorkOutcome}
 use Rattle.xa_work.specs.Sent.{HasSent, HaveSent}
-use Rattle.xa_work.specs.Units.{LeavesKnown}
+use Rattle.xa_work.specs.Units.{IfLost}
+use Rattle.xa_work.specs.declared.unit.WorkOutcome.TheVariants.{Decided, Died, Refused, Undecided}
 use Rattle.xa_work.proofs.Sent.{none_sent, sent_on, sent_as, have_on, have_as}
 use Rattle.xa_bank.specs.declared.habits.Habits.{Habits}
 use Rattle.xa_bank.specs.declared.teller.Transfer.{Transfer}
-use Rattle.xa_bank.specs.Transfers.{MakesEach}
+use Rattle.xa_bank.specs.Tellers.{is_undecided}
+use Rattle.xa_bank.specs.Transfers.{MakesEach, tran_named}
 use Rattle.xa_bank.proofs.Named.{IsOf, Is, IsFrom, Names, names_as, next_names, one_transfer, transfers_name}
+use Rattle.xa_bank.proofs.LostRecords.{none_lost}
 use Rattle.xa_bank.proofs.Told.{IsBelow}
-use Rattle.xa_work.specs.Units.{is_to_commit}
-use Rattle.xa_bank_days.specs.Days.{IsNamed, told as told_of}
-use Rattle.xa_bank_days.proofs.Keeps.{each_keeps, one_number}
-use Rattle.xa_bank_days.proofs.Made.{Noted, TransferAt, next_at}
+use Rattle.xa_bank_days.specs.Days.{IsNamed, is_applied, told as told_of}
+use Rattle.xa_bank_days.proofs.Keeps.{AreKnown, each_keeps, one_number, rest_known}
+use Rattle.xa_bank_days.proofs.Made.{IsFoundSo, Noted, TransferAt, next_at}
 use Rattle.xa_bank_days.proofs.Out.{BranchesComeOut, IsScene, day, night}
 use Rattle.xa_bank_days.proofs.Shares.{counts_for, total_append}
 
@@ -81,7 +85,8 @@ noted_both records legs more a b c h k =
 module _
     (outs : BranchesComeOut)
     (s : Settling) (again : Again) (q : ResolveCall) (next : Settling) (scene : IsScene s again q next) (m : ℕ) (positive : 1 ≤ m) (T : Tables)
-    (first : first_of s m ≡ Some T) (j : List ℕ) (t : ℕ) (low : t < 2 ^ 32) (habits : Habits) (keeps : habits.forgets ≡ false) where
+    (first : first_of s m ≡ Some T) (j : List ℕ) (t : ℕ) (low : t < 2 ^ 32) (habits : Habits) (keeps : habits.forgets ≡ false)
+    (R : LogState → Type 0) (is_found : Bool) where
   -- the branch is of one of these transfers, with numbers from n on, so many
   abbrev pub IsOneOf : ℕ → ℕ → Leg → Type 0
   IsOneOf n count g = (k : ℕ) × (n ≤ k) × (k < n + count) × IsOf t k g.xid
@@ -91,10 +96,10 @@ module _
     pub outs_ : All (ComesOutByTheLog ((j, 0) ∷ []) m T (day s) (night next q ∷ [])) legs
     pub of_them : All (IsOneOf n (length os)) legs
     pub once : IsDistinct xid_eq (map (λ g. g.xid) legs)
-    pub sum : total counted legs ≡ total (counts_for m j) (told_of trs os)
+    pub sum : total counted legs ≡ total (counts_for m j) (told_of is_found trs os)
     pub noted : HasSent (Noted q.records legs) a a'
 
-  none_here : (n : ℕ) (trs : List Transfer) (old new : DeskView) → new ≡ old → told_of trs [] ≡ []
+  none_here : (n : ℕ) (trs : List Transfer) (old new : DeskView) → new ≡ old → told_of is_found trs [] ≡ []
       → TransfersAt n trs [] (ledger old.ledgers m) (ledger new.ledgers m)
   none_here n trs old new same none = record {
     legs = [];
@@ -134,26 +139,52 @@ module _
       (All-weaker (Names t (IsBelow n)) (Names t (IsBelow (n + 1))) (names_as t (IsBelow n) (IsBelow (n + 1)) (λ i lt. omega (arith, lt))) (ledger old k).sent (before k up))
       (All-weaker (Names t (Is n)) (Names t (IsBelow (n + 1))) (names_as t (Is n) (IsBelow (n + 1)) (λ i e. omega (arith, e))) z.more z.each))
 
+  -- what was found is what the log has, as it was read, of the last of these transfers, where nobody knew whether its record
+  -- was made
+  abbrev pub IsFoundAt : ℕ → List WorkOutcome → LogState → Type 0
+  IsFoundAt n os read =
+      (k : ℕ) → k + 1 ≡ n + length os → list_any is_undecided os ≡ true → k < 2 ^ 32 → is_found ≡ is_recorded read (tran_named t k)
+
+  found_last : (n : ℕ) (o : WorkOutcome) (now later : LogState) → later ≡ now → R later → IsFoundAt n (o ∷ []) later
+      → IfLost (λ votes. IsFoundSo R t n is_found now) o
+  found_last n (Decided d) now later same may so = tt
+  found_last n (Died at known) now later same may so = tt
+  found_last n (Undecided votes) now later same may so = record {
+    may = subst R same may;
+    found_ = λ small. so n (omega arith) refl small ∙ ap (λ (l : LogState). is_recorded l (tran_named t n)) same;
+  }
+  found_last n (Refused why) now later same may so = tt
+
+  found_here : (n : ℕ) (trs : List Transfer) (o : WorkOutcome) (os : List WorkOutcome) (mid new : DeskView) (now later : LogState)
+      → MakesEach t habits (n + 1) trs os mid new now later R → AreKnown (o ∷ os) → R later → IsFoundAt n (o ∷ os) later
+      → IfLost (λ votes. IsFoundSo R t n is_found now) o
+  found_here n [] o [] mid new now later (same, unlogged) known may so = found_last n o now later unlogged may so
+  found_here n (tr ∷ trs) o [] mid new now later (same, unlogged) known may so = found_last n o now later unlogged may so
+  found_here n trs o (p ∷ os) mid new now later rest known may so = none_lost (λ votes. IsFoundSo R t n is_found now) o known.0
+
   pub each_at : (n : ℕ) (trs : List Transfer) (os : List WorkOutcome) (old new : DeskView) (log later : LogState)
-      → MakesEach t habits n trs os old new log later
-      → All (LeavesKnown (Unit {0})) os → ((k : ℕ) (x : XidName) → n ≤ k → IsOf t k x → state_of T x ≡ None) → HaveSent (λ op. ⊥) new.ledgers final
+      → MakesEach t habits n trs os old new log later R
+      → AreKnown os → R later → IsFoundAt n os later → ((k : ℕ) (x : XidName) → n ≤ k → IsOf t k x → state_of T x ≡ None) → HaveSent (λ op. ⊥) new.ledgers final
       → Earlier n old.ledgers
       → ((k : ℕ) (tran : TranName) → n ≤ k → IsNamed t k tran.gtrid → record_in q.records tran ≡ record_of later tran)
       → TransfersAt n trs os (ledger old.ledgers m) (ledger new.ledgers m)
-  each_at n [] [] old new log later (same, unlogged) known fresh ended before found = none_here n [] old new same refl
-  each_at n (tr ∷ trs) [] old new log later (same, unlogged) known fresh ended before found = none_here n (tr ∷ trs) old new same refl
-  each_at n (tr ∷ trs) (o ∷ os) old new log later (mid, now, makes, rest) known fresh ended before found =
-      let rest_known = All-tail (LeavesKnown (Unit {0})) o os known in
+  each_at n [] [] old new log later (same, unlogged) known may so fresh ended before found = none_here n [] old new same refl
+  each_at n (tr ∷ trs) [] old new log later (same, unlogged) known may so fresh ended before found = none_here n (tr ∷ trs) old new same refl
+  each_at n (tr ∷ trs) (o ∷ os) old new log later (mid, now, makes, rest) known may so fresh ended before found =
+      let after_it : AreKnown os = rest_known o os known in
+      let here : IfLost (λ votes. IsFoundSo R t n is_found now) o = found_here n trs o os mid new now later rest known may so in
+      let rest_so : IsFoundAt (n + 1) os later =
+      λ k last lost small. so k (omega (arith, last)) (ap (λ b. is_undecided o || b) lost ∙ or-true (is_undecided o)) small in
       let after : HaveSent (Names t (IsFrom (n + 1))) mid.ledgers final =
-      have_on (Names t (IsFrom (n + 1))) mid.ledgers new.ledgers final (transfers_name t habits (n + 1) trs os mid new now later rest)
+      have_on (Names t (IsFrom (n + 1))) mid.ledgers new.ledgers final (transfers_name R t habits (n + 1) trs os mid new now later rest)
       (have_as (λ op. ⊥) (Names t (IsFrom (n + 1))) (λ op never. absurd never) new.ledgers final ended) in
       let kept : (tran : TranName) → IsNamed t n tran.gtrid → record_of later tran ≡ record_of now tran = λ tran is.
-      each_keeps t habits keeps (n + 1) trs os mid new now later rest rest_known tran (λ k from below is_k. let same = one_number t n k tran.gtrid low is is_k in omega (arith, same, from)) in
-      let head : TransferAt outs s again q next scene m positive T first j t low n tr o (ledger old.ledgers m) (ledger mid.ledgers m) =
-      next_at outs s again q next scene m positive T first j t low n tr habits o keeps
-      (All-head (LeavesKnown (Unit {0})) o os known) (λ x. fresh n x (omega arith)) old mid log now makes after before (λ tran is. found n tran (omega arith) is ∙ kept tran is) in
+      each_keeps R t habits keeps (n + 1) trs os mid new now later rest after_it may tran (λ k from below is_k. let same = one_number t n k tran.gtrid low is is_k in omega (arith, same, from)) in
+      let head : TransferAt outs s again q next scene m positive T first j t low n tr (is_applied is_found o) (ledger old.ledgers m) (ledger mid.ledgers m) =
+      next_at outs s again q next scene m positive T first j t low n tr habits o keeps R is_found
+      (λ x. fresh n x (omega arith)) old mid log now makes here after before (λ tran is. found n tran (omega arith) is ∙ kept tran is) in
       let tail : TransfersAt (n + 1) trs os (ledger mid.ledgers m) (ledger new.ledgers m) =
-      each_at (n + 1) trs os mid new now later rest rest_known (λ k x from. fresh k x (omega (arith, from))) ended
+      each_at (n + 1) trs os mid new now later rest after_it may rest_so (λ k x from. fresh k x (omega (arith, from))) ended
       (earlier_on n old.ledgers mid.ledgers before (next_names t n tr habits o old mid log now makes)) (λ k tran from. found k tran (omega (arith, from))) in
       record {
         legs = head.legs ++ tail.legs;
@@ -166,7 +197,7 @@ module _
             subst (IsDistinct xid_eq) (sym (map-append (λ (g : Leg). g.xid) head.legs tail.legs))
             (both_distinct (map (λ (g : Leg). g.xid) head.legs) (map (λ (g : Leg). g.xid) tail.legs) head.once tail.once (apart n (length os) head.legs tail.legs head.of_it tail.of_them));
         sum = total_append counted head.legs tail.legs ∙ ap (λ v. v +ℤ total counted tail.legs) head.sum
-            ∙ ap (λ v. counts_for m j (tr, is_to_commit o) +ℤ v) tail.sum;
+            ∙ ap (λ v. counts_for m j (tr, is_applied is_found o) +ℤ v) tail.sum;
         noted = noted_both q.records head.legs tail.legs (ledger old.ledgers m) (ledger mid.ledgers m) (ledger new.ledgers m) head.noted tail.noted;
       }
-  each_at n [] (o ∷ os) old new log later h known fresh ended before found = absurd h
+  each_at n [] (o ∷ os) old new log later h known may so fresh ended before found = absurd h

@@ -11,7 +11,7 @@ use Rattle.std.proofs.lemmas.List.Elements.{All-map, All-nil, All-append, All-we
 use Rattle.xa_base.specs.declared.limits.TheConstants.{MOST_MANAGERS}
 use Rattle.xa_base.specs.Lists.{IsUpTo}
 use Rattle.xa_base.specs.Sums.{total}
-use Rattle.xa_base.proofs.Lists.{got, got_map, none_twice, was_mapped}
+use Rattle.xa_base.proofs.Lists.{all_at, got, got_map, none_twice, some_same, was_mapped}
 use Rattle.xa_words.specs.Xid.{XidName, xid_eq}
 use Rattle.xa_words.specs.Orders.{Decides-xid_eq}
 use Rattle.xa_words.specs.Tran.{TranName}
@@ -24,7 +24,7 @@ use Rattle.xa_desk.specs.DeskView.{ledger}
 use Rattle.xa_switch.specs.declared.plan.Again.{Again}
 use Rattle.xa_switch.specs.Settling.{Settling, sent}
 use Rattle.xa_switch.specs.Fates.{first_of, history, ledgers_of}
-use Rattle.xa_log.specs.Log.{LogState, Records, record_in, record_of}
+use Rattle.xa_log.specs.Log.{IsReadAs, LogState, Records, record_in, record_of}
 use Rattle.xa_atomicity.specs.Resolution.{ResolveCall}
 use Rattle.xa_atomicity.proofs.Requests.{own_all}
 use Rattle.xa_atomicity.proofs.Settled.{by_ledger}
@@ -36,7 +36,9 @@ use Rattle.xa_bank.specs.declared.teller.Teller.{Teller}
 use Rattle.xa_bank.specs.declared.teller.Transfer.{Transfer}
 use Rattle.xa_bank.proofs.Named.{IsOf, Names, one_transfer}
 use Rattle.xa_bank.proofs.Told.{IsAny, IsBelow, IsTold}
-use Rattle.xa_bank_days.specs.Days.{AreToldAll, BeginsWith, IsDawn, IsDayOf, IsNamed, IsResolvedBy, all_told, records_of, told as told_of}
+use Rattle.xa_bank_days.specs.Days.{AreReadBack, AreToldAll, BeginsWith, IsDawn, IsDayOf, IsNamed, IsReadBack, IsResolvedBy, IsToldAll, all_told, records_of}
+use Rattle.xa_bank_days.specs.Days.{told as told_of}
+use Rattle.xa_bank_days.proofs.Back.{as_many as as_many_back, back_at}
 use Rattle.xa_bank_days.proofs.Keeps.{each_keeps}
 use Rattle.xa_bank_days.proofs.Logs.{NoLogs, OneLogMore, one_in_all, same_in_all}
 use Rattle.xa_bank_days.proofs.Made.{Noted, noted_none}
@@ -65,14 +67,15 @@ all_sent P a a' none h = subst (All P) (sym (h.sent ∙ ap (λ l. l ++ h.more) n
 opens_none : (x : XidName) (op : Op) → IsOpenRm op → names x op ≡ false
 opens_none x op is = ap (names x) is
 
-module _ (L : Type 0) (state : L → LogState) (knows : L → Type 0)
+module _ (L : Type 0) (state : L → LogState) (knows : L → Type 0) (loses : TranName → List Bool → L → L → Type 0)
     (outs : BranchesComeOut)
     (none_law : NoLogs)
     (more_law : OneLogMore)
-    (s : Settling) (again : Again) (q : ResolveCall) (next : Settling) (olds news : List (Teller L)) (stores n : ℕ) (tables : ℕ → Tables)
-    (is_day : IsDayOf state knows s olds news) (begins : BeginsWith s stores tables) (many : length olds < 2 ^ 32) (told_all : AreToldAll knows n olds news)
+    (s : Settling) (again : Again) (q : ResolveCall) (next : Settling) (olds news : List (Teller L)) (logs : List L) (founds : List Bool) (stores n : ℕ) (tables : ℕ → Tables)
+    (is_day : IsDayOf state knows loses s olds news) (begins : BeginsWith s stores tables) (many : length olds < 2 ^ 32) (told_all : AreToldAll n olds news)
+    (back : AreReadBack state knows loses 1 news logs founds) (known : All knows logs)
     (dawn : IsDawn state stores n tables (map (λ t. t.log) olds))
-    (resolved : IsResolvedBy (records_of state (map (λ t. t.log) news)) s again q next) (m : ℕ) (up : IsUpTo stores m) (j : List ℕ) where
+    (resolved : IsResolvedBy (records_of state logs) s again q next) (m : ℕ) (up : IsUpTo stores m) (j : List ℕ) where
   abbrev T : Tables
   T = tables m
 
@@ -94,8 +97,40 @@ module _ (L : Type 0) (state : L → LogState) (knows : L → Type 0)
   old_at : (i : ℕ) (new : Teller L) → slice_get news i ≡ Some new → (old : Teller L) × (slice_get olds i ≡ Some old)
   old_at i new at = got olds i (let within = slice_get_within news i new at in omega (arith, within, as_many))
 
-  went_at : (i : ℕ) (old new : Teller L) → slice_get olds i ≡ Some old → slice_get news i ≡ Some new → WentSo state knows s n (i + 1) old new
-  went_at i old new at at' = went state knows s n (i + 1) old new (is_day.each i old new at at') (told_all i old new at at')
+  -- what the teller at a place did, and its log that was read back
+  record AtPlace (i : ℕ) (old : Teller L) : Type 0 where
+    new : Teller L
+    log : L
+    found : Bool
+    old_at : slice_get olds i ≡ Some old
+    new_at : slice_get news i ≡ Some new
+    log_at : slice_get logs i ≡ Some log
+    found_at : slice_get founds i ≡ Some found
+    all : IsToldAll n old new
+    went : WentSo state knows loses s n (i + 1) old new log found
+
+  at_place : (i : ℕ) (old : Teller L) → slice_get olds i ≡ Some old → AtPlace i old
+  at_place i old at =
+      let new = new_at i old at in
+      let z = back_at state knows loses 1 i news logs founds back new.0 new.1 in
+      let told_so = told_all i old z.teller at z.teller_at in
+      record {
+        new = z.teller;
+        log = z.log;
+        found = z.found;
+        old_at = at;
+        new_at = z.teller_at;
+        log_at = z.log_at;
+        found_at = z.found_at;
+        all = told_so;
+        went =
+            went state knows loses s n (i + 1) old z.teller z.log z.found (is_day.each i old z.teller at z.teller_at) told_so
+            (subst (λ u. IsReadBack state knows loses u z.teller z.log z.found) (let e : 1 + i ≡ i + 1 = omega arith in e) z.back)
+            (all_at knows logs i z.log known z.log_at);
+      }
+
+  logs_many : length logs ≡ length olds
+  logs_many = let z = as_many_back state knows loses 1 news logs founds back in z.0 ∙ as_many
 
   pub told : (u : ℕ) → IsTold s u
   told u =
@@ -104,13 +139,12 @@ module _ (L : Type 0) (state : L → LogState) (knows : L → Type 0)
       (λ (within : u ≤ length olds).
       let place : u - 1 + 1 ≡ u = omega (arith, some) in
       let old = got olds (u - 1) (omega (arith, some, within)) in
-      let new = new_at (u - 1) old.0 old.1 in
-      inl (omega (arith, within, many), λ k low. subst (λ t. All (Names t IsAny) (sent s t k)) place ((went_at (u - 1) old.0 new.0 old.1 new.1).names k low)))
+      inl (omega (arith, within, many), λ k low. subst (λ t. All (Names t IsAny) (sent s t k)) place ((at_place (u - 1) old.0 old.1).went.names k low)))
       (cases_lt (length olds) u))
       (cases_lt u 1)
 
   scene : IsScene s again q next
-  scene = record { settled = is_day.settled; few = few; told = told; records = records_of state (map (λ t. t.log) news); resolved = resolved }
+  scene = record { settled = is_day.settled; few = few; told = told; records = records_of state logs; resolved = resolved }
 
   low_at : (i : ℕ) (old : Teller L) → slice_get olds i ≡ Some old → i + 1 < 2 ^ 32
   low_at i old at = let within = slice_get_within olds i old at in omega (arith, within, many)
@@ -118,82 +152,92 @@ module _ (L : Type 0) (state : L → LogState) (knows : L → Type 0)
   -- ---- the logs
 
   -- the records of transactions that aren't of the thread's transfers of that day stay
-  log_keeps : (i : ℕ) (old new : Teller L) → slice_get olds i ≡ Some old → slice_get news i ≡ Some new → (tran : TranName)
-      → ((k : ℕ) → n ≤ k → IsNamed (i + 1) k tran.gtrid → ⊥) → record_of (state new.log) tran ≡ record_of (state old.log) tran
-  log_keeps i old new at at' tran others =
-      let z = told_all i old new at at' in
-      let w = went_at i old new at at' in
-      let from = z.counts in
-      each_keeps (i + 1) old.habits z.keeps old.habits.first old.transfers.items new.outcomes.items w.opened w.left (state old.log) (state new.log) w.makes w.known tran
-      (λ k above _. others k (omega (arith, above, from)))
-
-  log_at : (i : ℕ) (old : Teller L) → slice_get olds i ≡ Some old → slice_get (map (λ (t : Teller L). t.log) olds) i ≡ Some old.log
-  log_at i old at = got_map (λ (t : Teller L). t.log) olds i old at
+  log_keeps : (i : ℕ) (old : Teller L) (z : AtPlace i old) (tran : TranName)
+      → ((k : ℕ) → n ≤ k → IsNamed (i + 1) k tran.gtrid → ⊥) → record_of (state z.log) tran ≡ record_of (state old.log) tran
+  log_keeps i old z tran others =
+      let w = z.went in
+      let from = z.all.counts in
+      each_keeps (IsReadAs state knows loses z.new.log) (i + 1) old.habits z.all.keeps old.habits.first old.transfers.items z.new.outcomes.items w.opened w.left (state old.log) (state z.log)
+      w.makes w.known w.may tran (λ k above _. others k (omega (arith, above, from)))
 
   -- what a thread's log had before the day is of its own earlier transfers
   old_none : (i : ℕ) (old : Teller L) (tran : TranName) → slice_get olds i ≡ Some old → ((k : ℕ) → k < n → IsNamed (i + 1) k tran.gtrid → ⊥)
       → record_of (state old.log) tran ≡ None
   old_none i old tran at others =
-      unrecorded (record_of (state old.log) tran) (λ on. let z = dawn.own i old.log tran (log_at i old at) on in others z.0 z.1 z.2)
+      unrecorded (record_of (state old.log) tran)
+      (λ on. let z = dawn.own i old.log tran (got_map (λ (t : Teller L). t.log) olds i old at) on in others z.0 z.1 z.2)
 
-  abbrev logs_of : List (Teller L) → List Records
-  logs_of ts = map (λ (log : L). (state log).records) (map (λ (t : Teller L). t.log) ts)
+  abbrev records_in : List L → List Records
+  records_in = map (λ (log : L). (state log).records)
 
-  records_at : (ts : List (Teller L)) (i : ℕ) (r : Records) → slice_get (logs_of ts) i ≡ Some r
-      → (t : Teller L) × (slice_get ts i ≡ Some t) × ((state t.log).records ≡ r)
-  records_at ts i r at =
-      let z = was_mapped (λ (log : L). (state log).records) (map (λ (t : Teller L). t.log) ts) i r at in
-      let w = was_mapped (λ (t : Teller L). t.log) ts i z.0 z.1 in
-      (w.0, w.1, ap (λ (log : L). (state log).records) w.2 ∙ z.2)
+  -- the log of these records, and whose it is
+  record Owner (i : ℕ) (r : Records) : Type 0 where
+    old : Teller L
+    place : AtPlace i old
+    records_are : (state place.log).records ≡ r
 
-  found_at : (i : ℕ) (old new : Teller L) → slice_get olds i ≡ Some old → slice_get news i ≡ Some new → (k : ℕ) (tran : TranName)
-      → IsNamed (i + 1) k tran.gtrid → record_in q.records tran ≡ record_of (state new.log) tran
-  found_at i old new at at' k tran named =
+  owner : (i : ℕ) (r : Records) → slice_get (records_in logs) i ≡ Some r → Owner i r
+  owner i r at =
+      let z = was_mapped (λ (log : L). (state log).records) logs i r at in
+      let within = slice_get_within logs i z.0 z.1 in
+      let old = got olds i (omega (arith, within, logs_many)) in
+      let place = at_place i old.0 old.1 in
+      let same : place.log ≡ z.0 = some_same place.log z.0 (sym place.log_at ∙ z.1) in
+      record { old = old.0; place = place; records_are = ap (λ (log : L). (state log).records) same ∙ z.2 }
+
+  found_at : (i : ℕ) (old : Teller L) (z : AtPlace i old) (k : ℕ) (tran : TranName)
+      → IsNamed (i + 1) k tran.gtrid → record_in q.records tran ≡ record_of (state z.log) tran
+  found_at i old z k tran named =
       ap (λ (r : Records). record_in r tran) resolved.by_
-      ∙ one_in_all none_law more_law tran (logs_of news) i (state new.log).records
-      (got_map (λ (log : L). (state log).records) (map (λ (t : Teller L). t.log) news) i new.log (got_map (λ (t : Teller L). t.log) news i new at'))
+      ∙ one_in_all none_law more_law tran (records_in logs) i (state z.log).records
+      (got_map (λ (log : L). (state log).records) logs i z.log z.log_at)
       (λ u r apart there.
-      let z = records_at news u r there in
-      let o = old_at u z.0 z.1 in
+      let o = owner u r there in
       let other : (e : ℕ) → IsNamed (u + 1) e tran.gtrid → ⊥ = λ e its.
-      let same = two_threads (i + 1) (u + 1) k e tran.gtrid (low_at i old at) (low_at u o.0 o.1) named its in apart (omega (arith, same)) in
-      ap (λ (p : Records). record_in p tran) (sym z.2) ∙ log_keeps u o.0 z.0 o.1 z.1 tran (λ e _. other e) ∙ old_none u o.0 tran o.1 (λ e _. other e))
+      let same = two_threads (i + 1) (u + 1) k e tran.gtrid (low_at i old z.old_at) (low_at u o.old o.place.old_at) named its in apart (omega (arith, same)) in
+      ap (λ (p : Records). record_in p tran) (sym o.records_are) ∙ log_keeps u o.old o.place tran (λ e _. other e)
+      ∙ old_none u o.old tran o.place.old_at (λ e _. other e))
 
   -- a transaction that isn't of any transfer of that day
   pub found_before : (tran : TranName) → ((t k : ℕ) → 1 ≤ t → t ≤ length olds → n ≤ k → IsNamed t k tran.gtrid → ⊥)
       → record_in q.records tran ≡ record_in (records_of state (map (λ t. t.log) olds)) tran
   found_before tran others =
       ap (λ (r : Records). record_in r tran) resolved.by_
-      ∙ same_in_all none_law more_law tran (logs_of news) (logs_of olds) (sizes news olds as_many)
+      ∙ same_in_all none_law more_law tran (records_in logs) (records_in (map (λ (t : Teller L). t.log) olds)) sizes
       (λ k x y at at'.
-      let a = records_at news k x at in
-      let b = records_at olds k y at' in
-      let within = slice_get_within olds k b.0 b.1 in
-      ap (λ (p : Records). record_in p tran) (sym a.2)
-      ∙ log_keeps k b.0 a.0 b.1 a.1 tran (λ e from is. others (k + 1) e (omega arith) (omega (arith, within)) from is)
-      ∙ ap (λ (p : Records). record_in p tran) b.2)
+      let o = owner k x at in
+      let b = was_mapped (λ (log : L). (state log).records) (map (λ (t : Teller L). t.log) olds) k y at' in
+      let log_is : o.old.log ≡ b.0 =
+      some_same o.old.log b.0 (sym (got_map (λ (t : Teller L). t.log) olds k o.old o.place.old_at) ∙ b.1) in
+      let within = slice_get_within olds k o.old o.place.old_at in
+      ap (λ (p : Records). record_in p tran) (sym o.records_are)
+      ∙ log_keeps k o.old o.place tran (λ e from is. others (k + 1) e (omega arith) (omega (arith, within)) from is)
+      ∙ ap (λ (p : Records). record_in p tran) (ap (λ (log : L). (state log).records) log_is ∙ b.2))
     where
-      sizes : (xs ys : List (Teller L)) → length xs ≡ length ys → length (logs_of xs) ≡ length (logs_of ys)
-      sizes xs ys e =
-          length-map (map (λ (t : Teller L). t.log) xs) (λ (log : L). (state log).records) ∙ length-map xs (λ (t : Teller L). t.log) ∙ e
-          ∙ sym (length-map (map (λ (t : Teller L). t.log) ys) (λ (log : L). (state log).records) ∙ length-map ys (λ (t : Teller L). t.log))
+      sizes : length (records_in logs) ≡ length (records_in (map (λ (t : Teller L). t.log) olds))
+      sizes =
+          length-map logs (λ (log : L). (state log).records) ∙ logs_many
+          ∙ sym (length-map (map (λ (t : Teller L). t.log) olds) (λ (log : L). (state log).records) ∙ length-map olds (λ (t : Teller L). t.log))
 
   -- ---- one thread
 
   -- what thread t's teller came to
-  record ThreadAt (t : ℕ) (new : Teller L) : Type 0 where
+  record ThreadAt (t : ℕ) (found : Bool) (new : Teller L) : Type 0 where
     legs : List Leg
     outs_ : All (ComesOutByTheLog ((j, 0) ∷ []) m T (day s) (night next q ∷ [])) legs
     of_it : All (λ g. (k : ℕ) × IsOf t k g.xid) legs
     once : IsDistinct xid_eq (map (λ g. g.xid) legs)
-    sum : total counted legs ≡ total (counts_for m j) (told_of new.transfers.items new.outcomes.items)
+    sum : total counted legs ≡ total (counts_for m j) (told_of found new.transfers.items new.outcomes.items)
     noted : All (Noted q.records legs) (sent s t m)
 
-  thread_at : (i : ℕ) (old new : Teller L) → slice_get olds i ≡ Some old → slice_get news i ≡ Some new → ThreadAt (i + 1) new
-  thread_at i old new at at' =
+  thread_at : (i : ℕ) (old : Teller L) (place : AtPlace i old) → ThreadAt (i + 1) place.found place.new
+  thread_at i old place =
       let t : ℕ = i + 1 in
-      let z = told_all i old new at at' in
-      let w = went_at i old new at at' in
+      let at = place.old_at in
+      let new : Teller L = place.new in
+      let z = place.all in
+      let w = place.went in
+      let R : LogState → Type 0 = IsReadAs state knows loses new.log in
       let from = z.counts in
       let within = slice_get_within olds i old at in
       let fresh : (k : ℕ) (x : XidName) → old.habits.first ≤ k → IsOf t k x → state_of T x ≡ None = λ k x above of_x.
@@ -205,9 +249,9 @@ module _ (L : Type 0) (state : L → LogState) (knows : L → Type 0)
       let y = w.opens k low in
       all_sent (Names t (IsBelow old.habits.first)) (ledger w.desk.ledgers k) (ledger w.opened.ledgers k) (w.nothing k low)
       (sent_as IsOpenRm (Names t (IsBelow old.habits.first)) (λ op is. record { each = λ x e. let f : true ≡ false = sym e ∙ opens_none x op is in cc }) (ledger w.desk.ledgers k) (ledger w.opened.ledgers k) y) in
-      let a : TransfersAt outs s again q next scene m positive T first j t (low_at i old at) old.habits z.keeps old.habits.first old.transfers.items new.outcomes.items (ledger w.opened.ledgers m) (ledger w.left.ledgers m) =
-      each_at outs s again q next scene m positive T first j t (low_at i old at) old.habits z.keeps old.habits.first old.transfers.items new.outcomes.items w.opened w.left (state old.log) (state new.log) w.makes w.known fresh w.ended_ before
-      (λ k tran _ named. found_at i old new at at' k tran named) in
+      let a : TransfersAt outs s again q next scene m positive T first j t (low_at i old at) old.habits z.keeps R place.found old.habits.first old.transfers.items new.outcomes.items (ledger w.opened.ledgers m) (ledger w.left.ledgers m) =
+      each_at outs s again q next scene m positive T first j t (low_at i old at) old.habits z.keeps R place.found old.habits.first old.transfers.items new.outcomes.items w.opened w.left (state old.log) (state place.log) w.makes w.known w.may w.found_ fresh w.ended_ before
+      (λ k tran _ named. found_at i old place k tran named) in
       let P : Op → Type 0 = Noted q.records a.legs in
       let all : HasSent P (ledger w.desk.ledgers m) (ledger (ledgers_of s t) m) =
       sent_on P (ledger w.desk.ledgers m) (ledger w.opened.ledgers m) (ledger (ledgers_of s t) m)
@@ -217,9 +261,9 @@ module _ (L : Type 0) (state : L → LogState) (knows : L → Type 0)
       record {
         legs = a.legs;
         outs_ = a.outs_;
-        of_it = All-weaker (IsOneOf outs s again q next scene m positive T first j t (low_at i old at) old.habits z.keeps old.habits.first (length new.outcomes.items)) (λ g. (k : ℕ) × IsOf t k g.xid) (λ g (k, above, below, its). (k, its)) a.legs a.of_them;
+        of_it = All-weaker (IsOneOf outs s again q next scene m positive T first j t (low_at i old at) old.habits z.keeps R place.found old.habits.first (length new.outcomes.items)) (λ g. (k : ℕ) × IsOf t k g.xid) (λ g (k, above, below, its). (k, its)) a.legs a.of_them;
         once = a.once;
-        sum = subst (λ (v : Vec Transfer Global). total counted a.legs ≡ total (counts_for m j) (told_of v.items new.outcomes.items)) (sym w.transfers) a.sum;
+        sum = subst (λ (v : Vec Transfer Global). total counted a.legs ≡ total (counts_for m j) (told_of place.found v.items new.outcomes.items)) (sym w.transfers) a.sum;
         noted = subst (All P) (sym (by_ledger (ledgers_of s t) m (λ (l : LedgerView). l.sent) positive refl)) (all_sent P (ledger w.desk.ledgers m) (ledger (ledgers_of s t) m) (w.nothing m positive) all);
       }
 
@@ -230,12 +274,12 @@ module _ (L : Type 0) (state : L → LogState) (knows : L → Type 0)
   IsOfSome i count g = (u : ℕ) × (i < u) × (u ≤ i + count) × ((k : ℕ) × IsOf u k g.xid)
 
   -- what the tellers of threads after i came to
-  pub record DayAt (i : ℕ) (ns : List (Teller L)) : Type 0 where
+  pub record DayAt (i : ℕ) (fs : List Bool) (ns : List (Teller L)) : Type 0 where
     pub legs : List Leg
     pub outs_ : All (ComesOutByTheLog ((j, 0) ∷ []) m T (day s) (night next q ∷ [])) legs
     pub of_them : All (IsOfSome i (length ns)) legs
     pub once : IsDistinct xid_eq (map (λ g. g.xid) legs)
-    pub sum : total counted legs ≡ total (counts_for m j) (all_told ns)
+    pub sum : total counted legs ≡ total (counts_for m j) (all_told fs ns)
     pub noted : (k : ℕ) → k < length ns → All (Noted q.records legs) (sent s (i + k + 1) m)
 
   apart : (i count : ℕ) (legs more : List Leg) → i + 1 + count < 2 ^ 32 → All (λ g. (k : ℕ) × IsOf (i + 1) k g.xid) legs → All (IsOfSome (i + 1) count) more
@@ -253,9 +297,12 @@ module _ (L : Type 0) (state : L → LogState) (knows : L → Type 0)
         | false ↦ λ _. refl
       ] refl
 
-  day_at : (i : ℕ) (ns : List (Teller L)) → i + length ns < 2 ^ 32 → ((k : ℕ) (new : Teller L) → slice_get ns k ≡ Some new → ThreadAt (i + k + 1) new)
-      → DayAt i ns
-  day_at i [] high each = record {
+  day_at : (i : ℕ) (fs : List Bool) (ns : List (Teller L)) → i + length ns < 2 ^ 32 → length fs ≡ length ns
+      → ((k : ℕ) (found : Bool) (new : Teller L) → slice_get fs k ≡ Some found → slice_get ns k ≡ Some new → ThreadAt (i + k + 1) found new)
+      → DayAt i fs ns
+  day_at i [] (new ∷ ns) high sizes each = absurd (omega (arith, sizes))
+  day_at i (found ∷ fs) [] high sizes each = absurd (omega (arith, sizes))
+  day_at i [] [] high sizes each = record {
     legs = [];
     outs_ = All-nil (ComesOutByTheLog ((j, 0) ∷ []) m T (day s) (night next q ∷ []));
     of_them = All-nil (IsOfSome i 0);
@@ -263,10 +310,11 @@ module _ (L : Type 0) (state : L → LogState) (knows : L → Type 0)
     sum = refl;
     noted = λ k lt. absurd (omega (arith, lt));
   }
-  day_at i (new ∷ ns) high each =
-      let head : ThreadAt (i + 1) new = subst (λ t. ThreadAt t new) (let e : i + 0 + 1 ≡ i + 1 = omega arith in e) (each 0 new refl) in
-      let tail : DayAt (i + 1) ns =
-      day_at (i + 1) ns (omega (arith, high)) (λ k z at. subst (λ t. ThreadAt t z) (let e : i + suc k + 1 ≡ i + 1 + k + 1 = omega arith in e) (each (suc k) z at)) in
+  day_at i (found ∷ fs) (new ∷ ns) high sizes each =
+      let head : ThreadAt (i + 1) found new = subst (λ t. ThreadAt t found new) (let e : i + 0 + 1 ≡ i + 1 = omega arith in e) (each 0 found new refl refl) in
+      let tail : DayAt (i + 1) fs ns =
+      day_at (i + 1) fs ns (omega (arith, high)) (omega (arith, sizes))
+      (λ k f z f_at at. subst (λ t. ThreadAt t f z) (let e : i + suc k + 1 ≡ i + 1 + k + 1 = omega arith in e) (each (suc k) f z f_at at)) in
       record {
         legs = head.legs ++ tail.legs;
         outs_ = All-append (ComesOutByTheLog ((j, 0) ∷ []) m T (day s) (night next q ∷ [])) head.legs tail.legs head.outs_ tail.outs_;
@@ -280,12 +328,12 @@ module _ (L : Type 0) (state : L → LogState) (knows : L → Type 0)
             (apart i (length ns) head.legs tail.legs (omega (arith, high)) head.of_it tail.of_them));
         sum =
             total_append counted head.legs tail.legs ∙ ap (λ v. v +ℤ total counted tail.legs) head.sum
-            ∙ ap (λ v. total (counts_for m j) (told_of new.transfers.items new.outcomes.items) +ℤ v) tail.sum
-            ∙ sym (total_append (counts_for m j) (told_of new.transfers.items new.outcomes.items) (all_told ns));
+            ∙ ap (λ v. total (counts_for m j) (told_of found new.transfers.items new.outcomes.items) +ℤ v) tail.sum
+            ∙ sym (total_append (counts_for m j) (told_of found new.transfers.items new.outcomes.items) (all_told fs ns));
         noted = λ k lt. noted_at head tail k lt;
       }
     where
-      noted_at : (head : ThreadAt (i + 1) new) (tail : DayAt (i + 1) ns) (k : ℕ) → k < suc (length ns)
+      noted_at : (head : ThreadAt (i + 1) found new) (tail : DayAt (i + 1) fs ns) (k : ℕ) → k < suc (length ns)
           → All (Noted q.records (head.legs ++ tail.legs)) (sent s (i + k + 1) m)
       noted_at head tail zero lt =
           subst (λ t. All (Noted q.records (head.legs ++ tail.legs)) (sent s t m)) (let e : i + 1 ≡ i + 0 + 1 = omega arith in e)
@@ -294,10 +342,15 @@ module _ (L : Type 0) (state : L → LogState) (knows : L → Type 0)
           subst (λ t. All (Noted q.records (head.legs ++ tail.legs)) (sent s t m)) (let e : i + 1 + k + 1 ≡ i + suc k + 1 = omega arith in e)
           (All-weaker (Noted q.records tail.legs) (Noted q.records (head.legs ++ tail.legs)) (noted_after q.records head.legs tail.legs) (sent s (i + 1 + k + 1) m) (tail.noted k (omega (arith, lt))))
 
-  pub whole : DayAt 0 news
+  pub whole : DayAt 0 founds news
   whole =
-      day_at 0 news (omega (arith, many, as_many)) (λ k new at.
-      let o = old_at k new at in subst (λ t. ThreadAt t new) (let e : k + 1 ≡ 0 + k + 1 = omega arith in e) (thread_at k o.0 new o.1 at))
+      day_at 0 founds news (omega (arith, many, as_many)) (as_many_back state knows loses 1 news logs founds back).1 (λ k found new f_at at.
+      let o = old_at k new at in
+      let place = at_place k o.0 o.1 in
+      let same : place.new ≡ new = some_same place.new new (sym place.new_at ∙ at) in
+      let found_same : place.found ≡ found = some_same place.found found (sym place.found_at ∙ f_at) in
+      subst (λ t. ThreadAt t found new) (let e : k + 1 ≡ 0 + k + 1 = omega arith in e)
+      (subst (λ (p : Bool × Teller L). ThreadAt (k + 1) p.0 p.1) (λ i. (found_same i, same i)) (thread_at k o.0 place)))
 
   -- each request that the store took
   pub all_noted : All (λ r. Noted q.records whole.legs r.op) (history s m)

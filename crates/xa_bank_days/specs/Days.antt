@@ -1,8 +1,8 @@
 -- What tellers did in a settled opening, the night after it, and what the two do to the balances.
 use Rattle.std.specs.Prelude.{◌≡◌, ◌≢◌, ◌⊎◌, ℕ, ◌+◌, ◌^◌, ◌<◌, ◌≤◌, Bool, true, false, None, Some, List, []}
-use Rattle.std.specs.Prelude.{◌∷◌, length}
+use Rattle.std.specs.Prelude.{◌∷◌, ◌++◌, length}
 use Rattle.std.specs.Prelude.{map, slice_get}
-use Rattle.std.specs.List.{All, flat_map}
+use Rattle.std.specs.List.{All}
 use Rattle.xa_base.specs.declared.limits.TheConstants.{MOST_MANAGERS}
 use Rattle.xa_base.specs.Lists.{IsUpTo}
 use Rattle.xa_words.specs.Xid.{XidName}
@@ -16,50 +16,58 @@ use Rattle.xa_switch.specs.Fates.{first_of, ledgers_of}
 use Rattle.xa_switch.specs.OfPlans.{IsOf}
 use Rattle.xa_switch.specs.Recovery.{IsScanOf}
 use Rattle.xa_switch.specs.Settling.{Settling, IsSettled, find_manager, sent}
-use Rattle.xa_log.specs.Log.{LogState, Records, all_records, record_in}
+use Rattle.xa_log.specs.Log.{IsReadAs, LogState, Records, all_records, record_in}
 use Rattle.xa_atomicity.specs.Conservation.{NothingWasSent}
 use Rattle.xa_atomicity.specs.Cut.{is_recorded}
 use Rattle.xa_atomicity.specs.Resolution.{Continues, IsUseIn, OnlyResolves, ResolveCall, resolves, with_use}
 use Rattle.xa_work.specs.declared.unit.WorkOutcome.{WorkOutcome}
+use Rattle.xa_work.specs.declared.unit.WorkOutcome.TheVariants.{Undecided}
 use Rattle.xa_work.specs.Sent.{HaveSent}
 use Rattle.xa_work.specs.Units.{is_to_commit}
 use Rattle.xa_bank.specs.declared.teller.Teller.{Teller}
 use Rattle.xa_bank.specs.declared.teller.Transfer.{Transfer}
-use Rattle.xa_bank.specs.Tellers.{Works}
-use Rattle.xa_bank.specs.Transfers.{gtrid_of}
+use Rattle.xa_bank.specs.Tellers.{Works, has_undecided, last_number}
+use Rattle.xa_bank.specs.Transfers.{gtrid_of, tran_named}
 use Rattle.xa_bank_days.specs.Ledger.{Balances}
 
 -- ---- what the tellers were told
 
--- the transfers that were made, each with whether it was decided to commit
-abbrev pub told : List Transfer → List WorkOutcome → List (Transfer × Bool)
-told (tr ∷ trs) (o ∷ os) = (tr, is_to_commit o) ∷ told trs os
-told trs os = []
+-- Whether a transfer is to be applied: it was decided to commit; or nobody knows whether its record was made, and the
+-- log, once it was opened again, was found to have it.
+abbrev pub is_applied : Bool → WorkOutcome → Bool
+is_applied found (Undecided votes) = found
+is_applied found o = is_to_commit o
 
--- those of all tellers
-abbrev pub all_told : {L : Type 0} → List (Teller L) → List (Transfer × Bool)
-all_told tellers = flat_map (λ t. told t.transfers.items t.outcomes.items) tellers
+-- the transfers that were made, each with whether it is to be applied
+abbrev pub told : Bool → List Transfer → List WorkOutcome → List (Transfer × Bool)
+told found (tr ∷ trs) (o ∷ os) = (tr, is_applied found o) ∷ told found trs os
+told found trs os = []
+
+-- those of all tellers, each with what was found
+abbrev pub all_told : {L : Type 0} → List Bool → List (Teller L) → List (Transfer × Bool)
+all_told (found ∷ founds) (t ∷ ts) = told found t.transfers.items t.outcomes.items ++ all_told founds ts
+all_told founds ts = []
 
 -- ---- the day
 
 -- Thread t of a settled opening was this teller's: from a desk that had sent nothing it worked, and the desk's end sent
 -- nothing more.
-pub record WorkedIn {L : Type 0} (state : L → LogState) (knows : L → Type 0) (s : Settling) (t : ℕ) (old new : Teller L)
-    : Type 0 where
+pub record WorkedIn {L : Type 0} (state : L → LogState) (knows : L → Type 0)
+    (loses : TranName → List Bool → L → L → Type 0) (s : Settling) (t : ℕ) (old new : Teller L) : Type 0 where
   pub desk : DeskView
   pub left : DeskView
   pub thread : desk.thread ≡ t
   pub nothing : NothingWasSent desk.ledgers
-  pub worked : Works state knows old desk new left
+  pub worked : Works state knows loses old desk new left
   pub ended : HaveSent (λ op. ⊥) left.ledgers (ledgers_of s t)
 
 -- the teller at place k had thread k + 1, and no other thread sent anything
-pub record IsDayOf {L : Type 0} (state : L → LogState) (knows : L → Type 0) (s : Settling) (olds news : List (Teller L))
-    : Type 0 where
+pub record IsDayOf {L : Type 0} (state : L → LogState) (knows : L → Type 0)
+    (loses : TranName → List Bool → L → L → Type 0) (s : Settling) (olds news : List (Teller L)) : Type 0 where
   pub settled : IsSettled s
   pub many : length news ≡ length olds
   pub each : (k : ℕ) (old new : Teller L) → slice_get olds k ≡ Some old → slice_get news k ≡ Some new
-      → WorkedIn state knows s (k + 1) old new
+      → WorkedIn state knows loses s (k + 1) old new
   pub others : (t : ℕ) → (t < 1) ⊎ (length olds < t) → (m : ℕ) → sent s t m ≡ []
 
 -- the stores are those up to this number, and this is what each began with
@@ -68,19 +76,37 @@ pub record BeginsWith (s : Settling) (stores : ℕ) (first : ℕ → Tables) : T
   pub there : (m : ℕ) → IsUpTo stores m → first_of s m ≡ Some (first m)
   pub only : (m : ℕ) (T : Tables) → first_of s m ≡ Some T → IsUpTo stores m
 
--- The teller had made no transfer, counts from number n or later, and keeps its records; it got all memory that it
--- asked for, and its log is known at the end.
-pub record IsToldAll {L : Type 0} (knows : L → Type 0) (n : ℕ) (old new : Teller L) : Type 0 where
+-- The teller had made no transfer, counts from number n or later, and keeps its records; and it got all memory that it
+-- asked for.
+pub record IsToldAll {L : Type 0} (n : ℕ) (old new : Teller L) : Type 0 where
   pub begins : old.outcomes.items ≡ []
   pub counts : n ≤ old.habits.first
   pub keeps : old.habits.forgets ≡ false
   pub memory : new.wants_memory ≡ false
-  pub known : knows new.log
 
 -- so each of them
-abbrev pub AreToldAll : {L : Type 0} → (L → Type 0) → ℕ → List (Teller L) → List (Teller L) → Type 0
-AreToldAll {L} knows n olds news =
-    (k : ℕ) (old new : Teller L) → slice_get olds k ≡ Some old → slice_get news k ≡ Some new → IsToldAll knows n old new
+abbrev pub AreToldAll : {L : Type 0} → ℕ → List (Teller L) → List (Teller L) → Type 0
+AreToldAll {L} n olds news =
+    (k : ℕ) (old new : Teller L) → slice_get olds k ≡ Some old → slice_get news k ≡ Some new → IsToldAll n old new
+
+-- ---- the logs in the evening
+
+-- The log of thread t's teller, as it is read in the night: as it was, or opened again where nobody knows of a transfer
+-- whether its record was made. Then it was found to have that record, or not.
+pub record IsReadBack {L : Type 0} (state : L → LogState) (knows : L → Type 0)
+    (loses : TranName → List Bool → L → L → Type 0) (t : ℕ) (teller : Teller L) (log : L) (found : Bool) : Type 0 where
+  pub same : has_undecided teller ≡ false → log ≡ teller.log
+  pub read : knows log → IsReadAs state knows loses teller.log (state log)
+  pub finds : knows log → has_undecided teller ≡ true → last_number teller < 2 ^ 32
+      → found ≡ is_recorded (state log) (tran_named t (last_number teller))
+
+-- so those of all tellers, of the threads from t on
+abbrev pub AreReadBack : {L : Type 0} → (L → LogState) → (L → Type 0) → (TranName → List Bool → L → L → Type 0) → ℕ
+    → List (Teller L) → List L → List Bool → Type 0
+AreReadBack state knows loses t [] [] [] = Unit {0}
+AreReadBack state knows loses t (teller ∷ tellers) (log ∷ logs) (found ∷ founds) =
+    IsReadBack state knows loses t teller log found × AreReadBack state knows loses (t + 1) tellers logs founds
+AreReadBack state knows loses t tellers logs founds = ⊥
 
 -- ---- between days
 

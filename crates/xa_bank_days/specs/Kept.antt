@@ -18,7 +18,8 @@ use Rattle.xa_switch.specs.Settling.{Settling, find_manager}
 use Rattle.xa_switch.specs.Worth.{accounts_of}
 use Rattle.xa_log.specs.Log.{LogState}
 use Rattle.xa_driver.specs.declared.resolved.Outcome.{Outcome}
-use Rattle.xa_crew.specs.Again.{IfUnopened}
+use Rattle.xa_crew.specs.declared.again.AgainFault.{AgainFault}
+use Rattle.xa_crew.specs.Again.{HasRunAgain, IfUnopened, IfUnsettled}
 use Rattle.xa_work.specs.declared.unit.WorkOutcome.{WorkOutcome}
 use Rattle.xa_atomicity.specs.Cut.{is_recorded}
 use Rattle.xa_bank.specs.declared.habits.DiesAt.{DiesAt}
@@ -26,6 +27,7 @@ use Rattle.xa_bank.specs.declared.habits.Habits.{Habits}
 use Rattle.xa_bank.specs.declared.habits.ShutsAt.{ShutsAt}
 use Rattle.xa_bank.specs.declared.teller.Teller.{Teller}
 use Rattle.xa_bank.specs.declared.teller.Transfer.{Transfer}
+use Rattle.xa_bank.specs.Tellers.{WorksOn}
 use Rattle.xa_bank_days.specs.declared.days.Bank.{Bank}
 use Rattle.xa_bank_days.specs.declared.days.Closed.{Closed}
 use Rattle.xa_bank_days.specs.declared.days.Errands.{Errands}
@@ -33,9 +35,9 @@ use Rattle.xa_bank_days.specs.declared.days.Space.{Space}
 use Rattle.xa_bank_days.specs.declared.days.Stop.{Stop}
 use Rattle.xa_bank_days.specs.declared.days.Stop.TheVariants.{BadDay, Day, Night, NoMemory}
 use Rattle.xa_bank_days.specs.declared.days.Worked.{Worked}
-use Rattle.xa_bank_days.specs.Days.{BeginsWith, IsDawn, IsDayOf, balances_at, told}
+use Rattle.xa_bank_days.specs.Days.{AreReadBack, BeginsWith, IsDawn, IsDayOf, balances_at, told}
 use Rattle.xa_bank_days.specs.Ledger.{all_applied}
-use Rattle.xa_bank_days.specs.Nights.{IsNight}
+use Rattle.xa_bank_days.specs.Nights.{IsNight, IsUnsettledNight}
 
 -- ---- a day
 
@@ -71,6 +73,8 @@ next_numbers n threads = record n { opening = (n.opening + 1) % 2 ^ 64; threads 
 
 -- there is room for what so many tellers come to at so many stores
 pub record HasRoom {L : Type 0} (tellers stores : ℕ) (s : Space L) : Type 0 where
+  pub nothing : s.found.items ≡ []
+  pub found : tellers ≤ vec_capacity s.found
   pub paces : stores ≤ length s.paces.items
   pub none : s.off_work.items ≡ []
   pub off_work : tellers ≤ vec_capacity s.off_work
@@ -78,46 +82,78 @@ pub record HasRoom {L : Type 0} (tellers stores : ℕ) (s : Space L) : Type 0 wh
   pub outcomes : tellers ≤ vec_capacity s.outcomes
 
 -- These tellers worked over stores that had been left so, and got all memory that they asked for, unless they want it;
--- what became of their transfers was told.
-pub record HasWorked {L : Type 0} (state : L → LogState) (knows : L → Type 0) (before : Settling)
-    (turned : List (Teller L)) (w : Worked L) : Type 0 where
+-- what became of their transfers was told. Then their logs were opened again, where nobody knew of a transfer whether
+-- its record was made.
+pub record HasWorked {L : Type 0} (state : L → LogState) (knows : L → Type 0)
+    (loses : TranName → List Bool → L → L → Type 0) (before : Settling) (turned : List (Teller L)) (w : Worked L)
+    : Type 0 where
   pub worked : List (Teller L)
-  pub is_day : IsDayOf state knows w.settled turned worked
+  pub is_day : IsDayOf state knows loses w.settled turned worked
   pub begins : BeginsWith w.settled (managers_in before) (reopened_at before.managers)
   pub stores : managers_in w.settled ≡ managers_in before
   pub memory : w.wanting ≡ false → All (λ t. t.wants_memory ≡ false) worked
-  pub logs : map (λ t. t.log) w.tellers.items ≡ map (λ t. t.log) worked
+  pub logs : AreReadBack state knows loses 1 worked (map (λ t. t.log) w.tellers.items) w.found.items
   pub told_ : w.outcomes.items ≡ map (λ t. t.outcomes) worked
 
--- where it wasn't opened again, it is as it was
-abbrev pub KeepsStores : {L : Type 0} → Settling → Stop L → Type 0
-KeepsStores s (Day fault) = IfUnopened (λ u. u.settled ≡ s) fault
-KeepsStores s stop = ⊥
+-- Stores that weren't opened again are as they were; and what their tellers came to may be settled yet, by
+-- `settle_run`.
+abbrev pub LeavesDay : {L : Type 0} → (L → LogState) → (L → Type 0) → (TranName → List Bool → L → L → Type 0) → Settling
+    → AgainFault (Teller L) → Type 0
+LeavesDay {L} state knows loses s fault =
+    IfUnopened (λ u. u.settled ≡ s) fault
+    × ((turned : List (Teller L)) × (again : Again)
+    × IfUnsettled (HasRunAgain (WorksOn state knows loses) s again turned) fault)
 
--- what stopped before anything was done leaves the bank, or its stores
-abbrev pub IsAsItWas : {L : Type 0} → Bank L → Stop L → Type 0
-IsAsItWas b (BadDay b') = b' ≡ b
-IsAsItWas b (NoMemory b') = b' ≡ b
-IsAsItWas b (Day fault) = IfUnopened (λ u. u.settled ≡ b.settled) fault
-IsAsItWas b (Night closed ran) = Unit {0}
+-- it was the day that stopped
+abbrev pub StopsDay : {L : Type 0} → (L → LogState) → (L → Type 0) → (TranName → List Bool → L → L → Type 0) → Settling
+    → Stop L → Type 0
+StopsDay state knows loses s (Day fault) = LeavesDay state knows loses s fault
+StopsDay state knows loses s stop = ⊥
+
+-- there are errands for each teller, and numbers for all transfers
+abbrev pub IsGoodDay : {L : Type 0} → Bank L → List Errands → Type 0
+IsGoodDay b errands =
+    (length errands ≡ length b.tellers.items) × (length errands < 2 ^ 32)
+    × All (λ e. b.next + length e.transfers.items < 2 ^ 32) errands
+
+-- What stopped a day of these errands before anything was done leaves the bank, or its stores; and what was done may be
+-- settled yet.
+abbrev pub LeavesBank : {L : Type 0} → (L → LogState) → (L → Type 0) → (TranName → List Bool → L → L → Type 0) → Bank L
+    → List Errands → Stop L → Type 0
+LeavesBank state knows loses b errands (BadDay b') = (b' ≡ b) × (IsGoodDay b errands → ⊥)
+LeavesBank state knows loses b errands (NoMemory b') = b' ≡ b
+LeavesBank state knows loses b errands (Day fault) = LeavesDay state knows loses b.settled fault
+LeavesBank state knows loses b errands (Night closed ran) =
+    (day : Settling) × (again : Again) × IsUnsettledNight state knows day again ran
+
+-- so the first of these days, or before any
+abbrev pub StopsAt : {L : Type 0} → (L → LogState) → (L → Type 0) → (TranName → List Bool → L → L → Type 0) → Bank L
+    → List (Vec Errands Global) → Stop L → Type 0
+StopsAt state knows loses b [] (NoMemory b') = b' ≡ b
+StopsAt state knows loses b [] stop = ⊥
+StopsAt state knows loses b (d ∷ ds) stop = LeavesBank state knows loses b d.items stop
 
 -- A day of these errands: the tellers were turned to them and worked, and what became of their transfers was told.
-pub record IsWorkedDay {L : Type 0} (state : L → LogState) (knows : L → Type 0) (b : Bank L) (errands : List Errands)
-    (c : Closed) (b' : Bank L) : Type 0 where
+pub record IsWorkedDay {L : Type 0} (state : L → LogState) (knows : L → Type 0)
+    (loses : TranName → List Bool → L → L → Type 0) (b : Bank L) (errands : List Errands) (c : Closed) (b' : Bank L)
+    : Type 0 where
   pub turned : List (Teller L)
   pub are_turned : AreTurned b.next b.tellers.items errands turned
   pub many : length errands < 2 ^ 32
   pub day : Worked L
-  pub works : HasWorked state knows b.settled turned day
+  pub works : HasWorked state knows loses b.settled turned day
+  pub stays : day.wanting ≡ true → b'.settled ≡ day.settled
   pub told_ : c.outcomes ≡ day.outcomes
+  pub found_ : c.found ≡ day.found
   pub tellers : b'.tellers ≡ day.tellers
   pub later : b.next ≤ b'.next
   pub next : All (λ e. b.next + length e.transfers.items ≤ b'.next) errands
 
 -- And its night: the tellers got all memory that they asked for, and what was left was resolved by their logs.
-pub record IsKept {L : Type 0} (state : L → LogState) (knows : L → Type 0) (b : Bank L) (errands : List Errands)
-    (c : Closed) (outcomes : List Outcome) (b' : Bank L) : Type 0 where
-  pub is_worked : IsWorkedDay state knows b errands c b'
+pub record IsKept {L : Type 0} (state : L → LogState) (knows : L → Type 0)
+    (loses : TranName → List Bool → L → L → Type 0) (b : Bank L) (errands : List Errands) (c : Closed)
+    (outcomes : List Outcome) (b' : Bank L) : Type 0 where
+  pub is_worked : IsWorkedDay state knows loses b errands c b'
   pub open is_worked use *
   pub wants : day.wanting ≡ false
   pub numbers : b'.again ≡ next_numbers (next_numbers b.again (length errands)) 1
@@ -129,20 +165,21 @@ abbrev pub IsOver : Closed → Type 0
 IsOver c = MatchOption c.resolved ⊥ (λ z. All (λ o. is_done o.code ≡ true) z.outcomes.items)
 
 -- so a day that is over
-pub record IsKeptDay {L : Type 0} (state : L → LogState) (knows : L → Type 0) (b : Bank L) (errands : List Errands)
-    (c : Closed) (b' : Bank L) : Type 0 where
+pub record IsKeptDay {L : Type 0} (state : L → LogState) (knows : L → Type 0)
+    (loses : TranName → List Bool → L → L → Type 0) (b : Bank L) (errands : List Errands) (c : Closed) (b' : Bank L)
+    : Type 0 where
   pub outcomes : List Outcome
   pub ended : All (λ o. is_done o.code ≡ true) outcomes
-  pub kept : IsKept state knows b errands c outcomes b'
+  pub kept : IsKept state knows loses b errands c outcomes b'
 
 -- these are such days, one after the other, with what each was closed with
-abbrev pub AreKept : {L : Type 0} → (L → LogState) → (L → Type 0) → Bank L → List (Vec Errands Global) → List Closed
-    → Bank L → Type 0
-AreKept state knows b [] [] b' = b' ≡ b
-AreKept state knows b [] (c ∷ cs) b' = ⊥
-AreKept state knows b (d ∷ ds) [] b' = ⊥
-AreKept {L} state knows b (d ∷ ds) (c ∷ cs) b' =
-    (mid : Bank L) × IsKeptDay state knows b d.items c mid × AreKept state knows mid ds cs b'
+abbrev pub AreKept : {L : Type 0} → (L → LogState) → (L → Type 0) → (TranName → List Bool → L → L → Type 0) → Bank L
+    → List (Vec Errands Global) → List Closed → Bank L → Type 0
+AreKept state knows loses b [] [] b' = b' ≡ b
+AreKept state knows loses b [] (c ∷ cs) b' = ⊥
+AreKept state knows loses b (d ∷ ds) [] b' = ⊥
+AreKept {L} state knows loses b (d ∷ ds) (c ∷ cs) b' =
+    (mid : Bank L) × IsKeptDay state knows loses b d.items c mid × AreKept state knows loses mid ds cs b'
 
 -- all of these days are over
 pub record AreOver (days : List (Vec Errands Global)) (closed : List Closed) : Type 0 where
@@ -150,23 +187,25 @@ pub record AreOver (days : List (Vec Errands Global)) (closed : List Closed) : T
   pub each : All IsOver closed
 
 -- Days have ended: all of them are over, or one isn't, up to which they are.
-pub data HasEnded {L : Type 0} (state : L → LogState) (knows : L → Type 0) (b : Bank L)
-    (days : List (Vec Errands Global)) (closed : List Closed) (b' : Bank L) : Type 0 where
-  whole : AreKept state knows b days closed b' → HasEnded state knows b days closed b'
+pub data HasEnded {L : Type 0} (state : L → LogState) (knows : L → Type 0)
+    (loses : TranName → List Bool → L → L → Type 0) (b : Bank L) (days : List (Vec Errands Global))
+    (closed : List Closed) (b' : Bank L) : Type 0 where
+  whole : AreKept state knows loses b days closed b' → HasEnded state knows loses b days closed b'
   early : (before : List (Vec Errands Global)) (d : Vec Errands Global) (rest : List (Vec Errands Global))
       (cs : List Closed) (c : Closed) (mid : Bank L) → days ≡ before ++ d ∷ rest → closed ≡ cs ++ c ∷ []
-      → AreKept state knows b before cs mid → IsWorkedDay state knows mid d.items c b' → (IsOver c → ⊥)
-      → HasEnded state knows b days closed b'
+      → AreKept state knows loses b before cs mid → IsWorkedDay state knows loses mid d.items c b' → (IsOver c → ⊥)
+      → HasEnded state knows loses b days closed b'
 
 -- Days were stopped so, before one of them or at it, up to which they are over.
-pub record HasStopped {L : Type 0} (state : L → LogState) (knows : L → Type 0) (b : Bank L)
-    (days : List (Vec Errands Global)) (closed : List Closed) (stop : Stop L) : Type 0 where
+pub record HasStopped {L : Type 0} (state : L → LogState) (knows : L → Type 0)
+    (loses : TranName → List Bool → L → L → Type 0) (b : Bank L) (days : List (Vec Errands Global))
+    (closed : List Closed) (stop : Stop L) : Type 0 where
   pub before : List (Vec Errands Global)
   pub rest : List (Vec Errands Global)
   pub parts : days ≡ before ++ rest
   pub mid : Bank L
-  pub kept : AreKept state knows b before closed mid
-  pub leaves : IsAsItWas mid stop
+  pub kept : AreKept state knows loses b before closed mid
+  pub leaves : StopsAt state knows loses mid rest stop
 
 -- ---- the balances
 
@@ -189,17 +228,16 @@ pub record IsMovedBy {L : Type 0} (state : L → LogState) (es : List (Transfer 
       → balances_at b'.settled m k ≡ all_applied es (balances_at b.settled) m k
   pub ready : IsReady state b'
 
--- what was told of a day's transfers, teller by teller
-abbrev pub told_on : List Errands → List (Vec WorkOutcome Global) → List (Transfer × Bool)
-told_on [] oss = []
-told_on (e ∷ es) [] = []
-told_on (e ∷ es) (os ∷ oss) = told e.transfers.items os.items ++ told_on es oss
+-- what was told of a day's transfers, and what was found, teller by teller
+abbrev pub told_on : List Errands → List (Vec WorkOutcome Global) → List Bool → List (Transfer × Bool)
+told_on (e ∷ es) (os ∷ oss) (found ∷ founds) = told found e.transfers.items os.items ++ told_on es oss founds
+told_on es oss founds = []
 
 -- and of those of many days, day by day
 abbrev pub told_over : List (Vec Errands Global) → List Closed → List (Transfer × Bool)
 told_over [] cs = []
 told_over (d ∷ ds) [] = []
-told_over (d ∷ ds) (c ∷ cs) = told_on d.items c.outcomes.items ++ told_over ds cs
+told_over (d ∷ ds) (c ∷ cs) = told_on d.items c.outcomes.items c.found.items ++ told_over ds cs
 
 -- ---- the first opening
 

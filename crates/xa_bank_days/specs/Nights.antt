@@ -9,6 +9,9 @@ use Rattle.xa_log.specs.Log.{LogState}
 use Rattle.xa_driver.specs.declared.resolved.Outcome.{Outcome}
 use Rattle.xa_driver.specs.Resolving.{IsTraceOfResolve}
 use Rattle.xa_atomicity.specs.Resolution.{ResolveCall}
+use Rattle.xa_crew.specs.declared.again.WithScan.{WithScan}
+use Rattle.xa_crew.specs.declared.run.Ran.{Ran}
+use Rattle.xa_crew.specs.Again.{HasRunAgain}
 use Rattle.xa_bank.specs.declared.teller.Teller.{Teller}
 use Rattle.xa_bank_days.specs.Days.{IsResolvedBy, records_of}
 use Rattle.xa_bank_days.specs.declared.night.Resolver.{Resolver}
@@ -31,3 +34,9 @@ pub record IsNight {L : Type 0} (state : L → LogState) (knows : L → Type 0) 
   pub call : ResolveCall
   pub listed : call.outcomes ≡ outcomes
   pub resolves : IsResolvedBy (records_of state (map (λ t. t.log) tellers)) s again call next
+
+-- what a night came to that isn't settled yet: its tellers resolved, and `settle_run` may settle it
+abbrev pub IsUnsettledNight : {L : Type 0} → (L → LogState) → (L → Type 0) → Settling → Again
+    → Ran (WithScan (Resolver L)) → Type 0
+IsUnsettledNight {L} state knows s again ran =
+    (resolvers : List (Resolver L)) × HasRunAgain (ResolvesBy state knows) s again resolvers ran

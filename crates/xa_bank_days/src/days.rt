@@ -1,12 +1,13 @@
 //! Days of the bank, each with its night.
-ghost use Rattle.std.specs.Prelude.{◌≡◌, ◌↔◌, ◌+◌, ◌^◌, ◌<◌, ◌≤◌, [], length, map, vec_capacity, IfOk};
+ghost use Rattle.std.specs.Prelude.{◌≡◌, ◌↔◌, ℕ, ◌+◌, ◌^◌, ◌<◌, ◌≤◌, [], length, map, vec_capacity, IfOk};
 ghost use Rattle.std.specs.Prelude.{IfErr, IfSome, IsTrue};
 ghost use Rattle.std.specs.List.{All, list_any};
 ghost use Rattle.xa_switch.specs.Again.{managers_in};
 ghost use Rattle.xa_switch.specs.Plans.{IsSound};
-ghost use Rattle.xa_bank_days.specs.Kept.{AreOver, AreTurned, HasEnded, HasRoom, HasStopped, HasWorked, IsAsItWas};
-ghost use Rattle.xa_bank_days.specs.Kept.{IsKept, IsMovedBy, IsOpenedBank, IsOver, IsReady, IsWorkedDay, KeepsStores};
-ghost use Rattle.xa_bank_days.specs.Kept.{habits_on, next_numbers, number_at, told_over};
+ghost use Rattle.xa_bank_days.specs.Days.{AreReadBack, IsReadBack};
+ghost use Rattle.xa_bank_days.specs.Kept.{AreOver, AreTurned, HasEnded, HasRoom, HasStopped, HasWorked, LeavesBank};
+ghost use Rattle.xa_bank_days.specs.Kept.{IsKept, IsMovedBy, IsOpenedBank, IsOver, IsReady, IsWorkedDay, StopsDay};
+ghost use Rattle.xa_bank_days.specs.Kept.{IsGoodDay, habits_on, next_numbers, number_at, told_over};
 
 use crate::law::a_day_applies_its_transfers;
 use crate::night::{Night, Resolver, run_night};
@@ -23,7 +24,7 @@ use xa_crew::{
 use xa_desk::laws::desks_go_on;
 use xa_desk::{Desk, Idle};
 use xa_driver::Resolved;
-use xa_log::DecisionLog;
+use xa_log::{DecisionLog, ReopenLog};
 use xa_switch::laws::{reopened_openings_go_on_from_what_was_left, settled_openings_are_whole};
 use xa_switch::{Again, Plan, Settled};
 use xa_words::Code;
@@ -80,6 +81,10 @@ impl Errands {
 pub struct Closed {
     /// Of each teller, by rising thread, what became of the transfers that it made.
     pub outcomes: Vec<Vec<WorkOutcome>>,
+    /// Of each teller, whether its log was found to have the record of a transfer, of which nobody knew whether it was
+    /// made before the log was opened again. Such a transfer is to be applied where it was found. Where a teller has
+    /// none, or its log still isn't known, it is false.
+    pub found: Vec<bool>,
     /// What was left, and what became of it in the night. None where a teller wanted memory, so that there was no
     /// night, or where nothing was resolved, as of `Night::resolved`.
     pub resolved: Option<Resolved>,
@@ -153,6 +158,7 @@ struct Space<L> {
     paces: Vec<Free>,
     off_work: Vec<Teller<L>>,
     outcomes: Vec<Vec<WorkOutcome>>,
+    found: Vec<bool>,
 }
 
 // Room for so many tellers that are turned, and for what they come to at so many stores.
@@ -170,13 +176,15 @@ fn reserve<L: Drop>(
         paces: vec![in alloc; Free; stores]?,
         off_work: Vec::with_capacity(alloc, tellers)?,
         outcomes: Vec::with_capacity(alloc, tellers)?,
+        found: Vec::with_capacity(alloc, tellers)?,
     };
     Ok((turned, space))
 }
 
 // The most transfers of a teller.
 fn most(errands: &[Errands]) -> usize
-    ensures { All (λ e. length e.transfers.items ≤ result) errands.now }
+    ensures all { All (λ e. length e.transfers.items ≤ result) errands.now }
+    ensures least { (n : ℕ) → All (λ e. length e.transfers.items ≤ n) errands.now → result ≤ n }
 {
     let mut most = 0;
     for errand in errands {
@@ -221,26 +229,48 @@ fn want_memory<L>(clients: &[Attended<WithScan<Teller<L>>>]) -> bool
         .any(|attended| attended.client.client.wants_memory)
 }
 
-// The tellers, off work, and their outcomes.
-fn all_off_work<L: DecisionLog + Drop>(
+// The teller of this thread, with its log opened again where nobody knows of a transfer whether its record was made,
+// and whether it was found to have that record.
+fn read_back<L: ReopenLog + Drop>(teller: Teller<L>, thread: u32) -> (Teller<L>, bool)
+    ensures log { IsReadBack L.state L.knows L.loses thread teller result.0.log result.1 }
+    ensures same { result.0 ≡ record teller { log = result.0.log } }
+{
+    if !teller.has_undecided() {
+        return (teller, false);
+    }
+    let teller = teller.with_log_reopened();
+    let found = teller.log().is_known() && teller.has_last_record(thread);
+    (teller, found)
+}
+
+// The tellers, off work, with their logs read back, what these were found to have, and their outcomes.
+fn all_off_work<L: ReopenLog + Drop>(
     alloc: Global,
     clients: Vec<Attended<WithScan<Teller<L>>>>,
     mut tellers: Vec<Teller<L>>,
     mut outcomes: Vec<Vec<WorkOutcome>>,
-) -> (Vec<Teller<L>>, Vec<Vec<WorkOutcome>>)
+    mut found: Vec<bool>,
+) -> (Vec<Teller<L>>, Vec<Vec<WorkOutcome>>, Vec<bool>)
+    requires few { length clients.items < 2 ^ 32 }
     requires none { tellers.items ≡ [] }
     requires room { length clients.items ≤ vec_capacity tellers }
     requires no_outcomes { outcomes.items ≡ [] }
     requires room_too { length clients.items ≤ vec_capacity outcomes }
-    ensures logs { map (λ t. t.log) result.0.items ≡ map (λ a. a.client.client.log) clients.items }
+    requires nothing { found.items ≡ [] }
+    requires room_left { length clients.items ≤ vec_capacity found }
+    ensures logs { AreReadBack L.state L.knows L.loses 1 (map (λ a. a.client.client) clients.items)
+        (map (λ t. t.log) result.0.items) result.2.items }
     ensures outcomes { result.1.items ≡ map (λ a. a.client.client.outcomes) clients.items }
 {
+    let mut thread = 0;
     for attended in clients {
-        let mut teller = attended.client.client;
+        thread += 1;
+        let (mut teller, has) = read_back(attended.client.client, thread);
         outcomes.push_reserved(mem::replace(&mut teller.outcomes, Vec::new(alloc)));
+        found.push_reserved(has);
         tellers.push_reserved(teller);
     }
-    (tellers, outcomes)
+    (tellers, outcomes, found)
 }
 
 // What a day came to before its night.
@@ -248,13 +278,14 @@ fn all_off_work<L: DecisionLog + Drop>(
 struct Worked<L> {
     tellers: Vec<Teller<L>>,
     outcomes: Vec<Vec<WorkOutcome>>,
+    found: Vec<bool>,
     settled: Settled,
     // Whether a teller was refused memory.
     wanting: bool,
 }
 
 // Opens the stores again, and runs the tellers and the stores.
-fn work_day<R: Threads + Wait + Copy + Send + 'static, L: DecisionLog + Drop + Send + 'static>(
+fn work_day<R: Threads + Wait + Copy + Send + 'static, L: ReopenLog + Drop + Send + 'static>(
     rt: &R,
     alloc: Global,
     settled: Settled,
@@ -263,9 +294,10 @@ fn work_day<R: Threads + Wait + Copy + Send + 'static, L: DecisionLog + Drop + S
     space: Space<L>,
 ) -> Result<Worked<L>, Stop<L>>
     requires tellers { length tellers.items ≡ again.now.threads }
+    requires few { length tellers.items < 2 ^ 32 }
     requires room { HasRoom (length tellers.items) (managers_in settled) space }
-    ensures worked { IfOk result (HasWorked L.state L.knows settled tellers.items) }
-    ensures unopened { IfErr result (KeepsStores settled) }
+    ensures worked { IfOk result (HasWorked L.state L.knows L.loses settled tellers.items) }
+    ensures stopped { IfErr result (StopsDay L.state L.knows L.loses settled) }
 {
     settled_openings_are_whole(&settled);
     reopened_openings_go_on_from_what_was_left();
@@ -273,15 +305,19 @@ fn work_day<R: Threads + Wait + Copy + Send + 'static, L: DecisionLog + Drop + S
         paces,
         off_work,
         outcomes,
+        found,
     } = space;
     match run_clients_again(rt, alloc, settled, again, tellers, paces) {
         Ok(Run { clients, settled }) => {
             settled_openings_are_whole(&settled);
             let wanting = want_memory(&clients);
-            let (tellers, outcomes) = all_off_work(alloc, clients, off_work, outcomes);
+            let (tellers, outcomes, found) = all_off_work(
+                alloc, clients, off_work, outcomes, found,
+            );
             Ok(Worked {
                 tellers,
                 outcomes,
+                found,
                 settled,
                 wanting,
             })
@@ -347,6 +383,7 @@ impl<L: DecisionLog + Drop> Bank<L> {
     // The number of the transfers after a day of these errands, and how many threads work on them. None where they
     // aren't one for each teller, or there are no numbers for them.
     fn after(&self, errands: &[Errands]) -> Option<(u32, u32)>
+        ensures none { result ≡ None → IsGoodDay self.now errands.now → ⊥ }
         ensures as_many { IfSome result (λ r. length errands.now ≡ length self.now.tellers.items) }
         ensures threads { IfSome result (λ r. r.1 ≡ length errands.now) }
         ensures few { IfSome result (λ r. length errands.now < 2 ^ 32) }
@@ -361,19 +398,20 @@ impl<L: DecisionLog + Drop> Bank<L> {
     }
 }
 
-impl<L: DecisionLog + Drop + Send + 'static> Bank<L> {
+impl<L: ReopenLog + Drop + Send + 'static> Bank<L> {
     /// A day and its night. Each teller is turned to its errands and works, in a thread of its own, over stores that
-    /// are opened again, each in a thread too; then a night resolves what they left.
+    /// are opened again, each in a thread too. In the evening a log is opened again where nobody knows whether it has
+    /// the record of its teller's last transfer; then a night resolves what the day left.
     pub fn keep_day<R: Threads + Wait + Copy + Send + 'static>(
         self,
         rt: &R,
         alloc: Global,
         errands: Vec<Errands>,
     ) -> Result<(Closed, Bank<L>), Stop<L>>
-        ensures worked { IfOk result (λ r. IsWorkedDay L.state L.knows self errands.items r.0 r.1) }
-        ensures kept { IfOk result (λ r. IfSome r.0.resolved (λ z. IsKept L.state L.knows self errands.items r.0
+        ensures worked { IfOk result (λ r. IsWorkedDay L.state L.knows L.loses self errands.items r.0 r.1) }
+        ensures kept { IfOk result (λ r. IfSome r.0.resolved (λ z. IsKept L.state L.knows L.loses self errands.items r.0
             z.outcomes.items r.1)) }
-        ensures stopped { IfErr result (IsAsItWas self) }
+        ensures stopped { IfErr result (LeavesBank L.state L.knows L.loses self errands.items) }
     {
         let Some((next, threads)) = self.after(&errands) else {
             return Err(Stop::BadDay(self));
@@ -387,6 +425,7 @@ impl<L: DecisionLog + Drop + Send + 'static> Bank<L> {
         let Worked {
             tellers,
             outcomes,
+            found,
             settled,
             wanting,
         } = work_day(rt, alloc, self.settled, &day, tellers, space)?;
@@ -395,6 +434,7 @@ impl<L: DecisionLog + Drop + Send + 'static> Bank<L> {
         if wanting {
             let closed = Closed {
                 outcomes,
+                found,
                 resolved: None,
             };
             let bank = Bank {
@@ -420,11 +460,17 @@ impl<L: DecisionLog + Drop + Send + 'static> Bank<L> {
                     again: night,
                     next,
                 };
-                Ok((Closed { outcomes, resolved }, bank))
+                let closed = Closed {
+                    outcomes,
+                    found,
+                    resolved,
+                };
+                Ok((closed, bank))
             }
             Err(ran) => {
                 let closed = Closed {
                     outcomes,
+                    found,
                     resolved: None,
                 };
                 Err(Stop::Night(closed, ran))
@@ -434,14 +480,14 @@ impl<L: DecisionLog + Drop + Send + 'static> Bank<L> {
 }
 
 // Keeps days, up to one that stops or isn't over.
-fn keep_days<R: Threads + Wait + Copy + Send + 'static, L: DecisionLog + Drop + Send + 'static>(
+fn keep_days<R: Threads + Wait + Copy + Send + 'static, L: ReopenLog + Drop + Send + 'static>(
     rt: &R,
     alloc: Global,
     mut bank: Bank<L>,
     days: Vec<Vec<Errands>>,
 ) -> Days<L>
-    ensures ended { IfOk result.end (HasEnded L.state L.knows bank days.items result.closed.items) }
-    ensures stopped { IfErr result.end (HasStopped L.state L.knows bank days.items result.closed.items) }
+    ensures ended { IfOk result.end (HasEnded L.state L.knows L.loses bank days.items result.closed.items) }
+    ensures stopped { IfErr result.end (HasStopped L.state L.knows L.loses bank days.items result.closed.items) }
 {
     let Ok(mut closed) = Vec::with_capacity(alloc, days.len()) else {
         let end = Err(Stop::NoMemory(bank));
@@ -481,15 +527,16 @@ fn keep_days<R: Threads + Wait + Copy + Send + 'static, L: DecisionLog + Drop + 
 /// last of those that are closed.
 ///
 /// No transfer is applied in part: where all days are over, each account of each store has the balance after all that
-/// were applied, as their tellers were told. That asks that the logs had no record of the bank's when it was opened.
-pub fn run_days<R: Threads + Wait + Copy + Send + 'static, L: DecisionLog + Drop + Send + 'static>(
+/// were applied, as their tellers were told, or as their logs were found to have it where a teller couldn't be told.
+/// That asks that the logs had no record of the bank's when it was opened.
+pub fn run_days<R: Threads + Wait + Copy + Send + 'static, L: ReopenLog + Drop + Send + 'static>(
     rt: &R,
     alloc: Global,
     bank: Bank<L>,
     days: Vec<Vec<Errands>>,
 ) -> Days<L>
-    ensures ended { IfOk result.end (HasEnded L.state L.knows bank days.items result.closed.items) }
-    ensures stopped { IfErr result.end (HasStopped L.state L.knows bank days.items result.closed.items) }
+    ensures ended { IfOk result.end (HasEnded L.state L.knows L.loses bank days.items result.closed.items) }
+    ensures stopped { IfErr result.end (HasStopped L.state L.knows L.loses bank days.items result.closed.items) }
     ensures moved { IfOk result.end (λ after. AreOver days.items result.closed.items → IsReady L.state bank
         → IsMovedBy L.state (told_over days.items result.closed.items) bank after) }
 {

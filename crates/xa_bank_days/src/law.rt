@@ -14,7 +14,7 @@ ghost use Rattle.xa_atomicity.specs.Resolution.{ResolveCall};
 ghost use Rattle.xa_bank.specs.declared.teller.Teller.{Teller};
 ghost use Rattle.xa_bank.specs.declared.teller.Transfer.{Transfer};
 ghost use Rattle.xa_bank_days.specs.declared.days.Bank.{Bank};
-ghost use Rattle.xa_bank_days.specs.Days.{AreToldAll, BeginsWith, IsDawn, IsDayOf, IsResolvedBy, all_told};
+ghost use Rattle.xa_bank_days.specs.Days.{AreReadBack, AreToldAll, BeginsWith, IsDawn, IsDayOf, IsResolvedBy, all_told};
 ghost use Rattle.xa_bank_days.specs.Days.{balances_at, balances_of, records_of};
 ghost use Rattle.xa_bank_days.specs.Kept.{HaveNoRecord, IsMovedBy, IsOpenedBank, IsReady, IsWithin};
 ghost use Rattle.xa_bank_days.specs.Ledger.{all_applied};
@@ -25,24 +25,26 @@ use xa_log::DecisionLog;
 use xa_log::laws::several_logs_are_read_as_one;
 
 /// Over a day and its night each transfer was applied whole or not at all, as its teller was told: in the end each
-/// account has at each store the balance after all that were applied. Any store may be shut at any time, and any teller
-/// may die in a commit; in the night one resolve, by the logs of all tellers, ends what they left. Where it told XA_OK
-/// of each branch the next day may begin, with any numbers that are past those of the day.
+/// account has at each store the balance after all that were applied. Any store may be shut at any time, any teller may
+/// die in a commit, and any log may lose an append: it is opened again, and the transfer applied where it has the
+/// record. In the night one resolve, by the logs of all tellers, ends what they left. Where it told XA_OK of each
+/// branch the next day may begin, with any numbers that are past those of the day.
 pub fn a_day_applies_its_transfers<L: DecisionLog>()
     ensures applied { (s : Settling) (again : Again) (q : ResolveCall) (next : Settling) (olds news : List (Teller L))
-        (stores n : ℕ) (first : ℕ → Tables) (m : ℕ) (account : List ℕ) → IsDayOf L.state L.knows s olds news
-        → BeginsWith s stores first → length olds < 2 ^ 32 → AreToldAll L.knows n olds news
-        → IsDawn L.state stores n first (map (λ t. t.log) olds)
-        → IsResolvedBy (records_of L.state (map (λ t. t.log) news)) s again q next → IsUpTo stores m
-        → is_declared (first m) account ≡ true
-        → balances_at next m account ≡ all_applied (all_told news) (balances_of first) m account }
+        (logs : List L) (founds : List Bool) (stores n : ℕ) (first : ℕ → Tables) (m : ℕ) (account : List ℕ)
+        → IsDayOf L.state L.knows L.loses s olds news → BeginsWith s stores first → length olds < 2 ^ 32
+        → AreToldAll n olds news → AreReadBack L.state L.knows L.loses 1 news logs founds → All L.knows logs
+        → IsDawn L.state stores n first (map (λ t. t.log) olds) → IsResolvedBy (records_of L.state logs) s again q next
+        → IsUpTo stores m → is_declared (first m) account ≡ true
+        → balances_at next m account ≡ all_applied (all_told founds news) (balances_of first) m account }
     ensures dawn { (s : Settling) (again : Again) (q : ResolveCall) (next : Settling) (olds news : List (Teller L))
-        (stores n later : ℕ) (first : ℕ → Tables) → IsDayOf L.state L.knows s olds news → BeginsWith s stores first
-        → AreToldAll L.knows n olds news → IsDawn L.state stores n first (map (λ t. t.log) olds)
-        → IsResolvedBy (records_of L.state (map (λ t. t.log) news)) s again q next
+        (logs : List L) (founds : List Bool) (stores n later : ℕ) (first : ℕ → Tables)
+        → IsDayOf L.state L.knows L.loses s olds news → BeginsWith s stores first → AreToldAll n olds news
+        → AreReadBack L.state L.knows L.loses 1 news logs founds → All L.knows logs
+        → IsDawn L.state stores n first (map (λ t. t.log) olds) → IsResolvedBy (records_of L.state logs) s again q next
         → All (λ r. is_done r.code ≡ true) q.outcomes → n ≤ later
         → All (λ t. t.habits.first + length t.transfers.items ≤ later) olds
-        → IsDawn L.state stores later (reopened_at next.managers) (map (λ t. t.log) news) }
+        → IsDawn L.state stores later (reopened_at next.managers) logs }
 {
     branches_come_out_by_the_log();
     several_logs_are_read_as_one();

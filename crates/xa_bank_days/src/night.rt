@@ -1,6 +1,6 @@
 //! A night of the bank: what a day left in doubt is resolved by the logs of all tellers.
-ghost use Rattle.std.specs.Prelude.{◌≡◌, IfOk, IfSome};
-ghost use Rattle.xa_bank_days.specs.Nights.{IsNight};
+ghost use Rattle.std.specs.Prelude.{◌≡◌, IfErr, IfOk, IfSome};
+ghost use Rattle.xa_bank_days.specs.Nights.{IsNight, IsUnsettledNight};
 
 use std::alloc::Global;
 use std::sync::Wait;
@@ -118,6 +118,7 @@ pub fn run_night<R: Wait, L: DecisionLog + Drop>(
     ensures night { IfOk result (λ n. IfSome n.resolved (λ z. IsNight L.state L.knows tellers.items settled again.now
         z.outcomes.items n.settled)) }
     ensures tellers { IfOk result (λ n. n.tellers ≡ tellers) }
+    ensures unsettled { IfErr result (IsUnsettledNight L.state L.knows settled again.now) }
 {
     settled_openings_are_whole(&settled);
     reopened_openings_go_on_from_what_was_left();

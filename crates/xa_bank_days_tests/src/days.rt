@@ -1,7 +1,6 @@
 //! Days of the bank. On each day a store is shut, and a teller dies in a commit; each night ends what was left. What
 //! the stores have in the end is compared with the abstract machine: the transfers that were applied, one by one.
 use std::alloc::Global;
-use std::mem;
 use std::process::Abort;
 use std::sync::Wait;
 use xa_bank::{DiesAt, ShutsAt, Teller, Transfer};
@@ -66,31 +65,35 @@ fn tellers_of(rt: &impl Abort, alloc: Global) -> Vec<Teller<MemoryLog>> {
     tellers
 }
 
-// Such tellers, of which the last loses its third record: the log may have kept it.
-fn losing_tellers_of(rt: &impl Abort, alloc: Global, keeps: bool) -> Vec<Teller<LosingLog>> {
-    let mut tellers = Vec::new(alloc);
-    for place in 0..TELLERS {
-        let losing = if place + 1 == TELLERS { 3 } else { 0 };
-        let log = LosingLog::losing_at(MemoryLog::new(alloc), losing, keeps);
-        let teller = Teller::over(alloc, log, Vec::new(alloc)).expect(rt, "memory");
-        tellers.push(teller).expect(rt, "memory");
-    }
-    tellers
+// How an append fails: it is refused; or nobody knows whether it was made, and the log kept the record or not.
+#[derive(Clone, Copy, PartialEq, Eq)]
+enum Failure {
+    Refused,
+    Kept,
+    Gone,
 }
 
-// The tellers with their logs, opened again.
-fn reopened(
+// The tellers, each with a log in memory of which one append fails so: its number for the first teller, and for each
+// other so many more than for the one before it.
+fn failing_tellers_of(
     rt: &impl Abort,
     alloc: Global,
-    tellers: Vec<Teller<LosingLog>>,
+    failure: Failure,
+    first: u32,
+    more: u32,
 ) -> Vec<Teller<LosingLog>> {
-    let mut again = Vec::new(alloc);
-    for teller in tellers {
-        let log = teller.into_log().reopened();
+    let (mut tellers, mut k) = (Vec::new(alloc), first);
+    for _ in 0..TELLERS {
+        let log = match failure {
+            Failure::Refused => LosingLog::new(MemoryLog::failing_at(alloc, k)),
+            Failure::Kept => LosingLog::losing_at(MemoryLog::new(alloc), k, true),
+            Failure::Gone => LosingLog::losing_at(MemoryLog::new(alloc), k, false),
+        };
         let teller = Teller::over(alloc, log, Vec::new(alloc)).expect(rt, "memory");
-        again.push(teller).expect(rt, "memory");
+        tellers.push(teller).expect(rt, "memory");
+        k = k.wrapping_add(more);
     }
-    again
+    tellers
 }
 
 // Transfer k of the day, of the teller at this place: every fourth is between tills of its own.
@@ -133,9 +136,9 @@ fn errands_of(rt: &impl Abort, alloc: Global, day: u32, place: u32) -> Errands {
     }
 }
 
-fn days_of(rt: &impl Abort, alloc: Global) -> Vec<Vec<Errands>> {
+fn days_of(rt: &impl Abort, alloc: Global, many: u32) -> Vec<Vec<Errands>> {
     let mut days = Vec::new(alloc);
-    for day in 0..DAYS {
+    for day in 0..many {
         let mut errands = Vec::new(alloc);
         for place in 0..TELLERS {
             errands
@@ -147,32 +150,25 @@ fn days_of(rt: &impl Abort, alloc: Global) -> Vec<Vec<Errands>> {
     days
 }
 
-// A day on which nobody dies and no store is shut, and the same transfers or none.
-fn quiet_day_of(rt: &impl Abort, alloc: Global, busy: bool) -> Vec<Vec<Errands>> {
-    let mut errands = Vec::new(alloc);
-    for place in 0..TELLERS {
-        let Errands {
-            transfers,
-            death: _,
-            shuts: _,
-        } = errands_of(rt, alloc, 0, place);
-        let transfers = if busy { transfers } else { Vec::new(alloc) };
-        let quiet = Errands {
-            transfers,
-            death: None,
-            shuts: None,
-        };
-        errands.push(quiet).expect(rt, "memory");
+// As many such days on which nobody dies and no store is shut.
+fn quiet_days_of(rt: &impl Abort, alloc: Global, many: u32) -> Vec<Vec<Errands>> {
+    let mut days = days_of(rt, alloc, many);
+    for day in &mut days {
+        for errands in day {
+            errands.death = None;
+            errands.shuts = None;
+        }
     }
-    Vec::from_array(alloc, [errands]).expect(rt, "memory")
+    days
 }
 
-// Whether a transfer was applied, by what its teller was told. Of one whose record was lost the log tells.
-fn is_applied(outcome: &WorkOutcome, kept: bool) -> bool {
+// Whether a transfer was applied, by what its teller was told, or where it couldn't be told by what its log was found
+// to have.
+fn is_applied(outcome: &WorkOutcome, found: bool) -> bool {
     match outcome {
         WorkOutcome::Decided(done) => done.commit,
         WorkOutcome::Died { at: _, known } => known.logged,
-        WorkOutcome::Undecided(_) => kept,
+        WorkOutcome::Undecided(_) => found,
         WorkOutcome::Refused(_) => false,
     }
 }
@@ -191,14 +187,15 @@ fn moved(transfer: &Transfer, store: u32, name: &Key) -> i64 {
 }
 
 // What the store's account has by the abstract machine, after all these days.
-fn balance(rt: &impl Abort, closed: &[Closed], kept: bool, store: u32, name: &Key) -> Option<u64> {
+fn balance(rt: &impl Abort, closed: &[Closed], store: u32, name: &Key) -> Option<u64> {
     let mut value = i64::try_from(START).ok()?;
     for (day, over) in closed.iter().enumerate() {
         let day = u32::try_from(day).ok()?;
         for (place, outcomes) in over.outcomes.iter().enumerate() {
+            let found = *over.found.get(place)?;
             let place = u32::try_from(place).ok()?;
             for (k, outcome) in outcomes.iter().enumerate() {
-                if is_applied(outcome, kept) {
+                if is_applied(outcome, found) {
                     let transfer = transfer_of(rt, day, place, u32::try_from(k).ok()?);
                     value = value.checked_add(moved(&transfer, store, name))?;
                 }
@@ -208,13 +205,13 @@ fn balance(rt: &impl Abort, closed: &[Closed], kept: bool, store: u32, name: &Ke
     u64::try_from(value).ok()
 }
 
-fn balances(rt: &impl Abort, closed: &[Closed], kept: bool, settled: &Settled) {
+fn balances(rt: &impl Abort, closed: &[Closed], settled: &Settled) {
     for store in 1..STORES + 1 {
         for name in 0..NAMES.len() {
             let account = account(rt, name);
             assert_eq!(rt;
                 settled.value(store, &account),
-                balance(rt, closed, kept, store, &account)
+                balance(rt, closed, store, &account)
             );
         }
     }
@@ -257,10 +254,10 @@ fn bank_of<R: Wait + Abort, L: DecisionLog + Drop>(
 fn stores_have_what_was_applied(rt: HostRuntime) {
     let alloc = rt.alloc();
     let bank = bank_of(&rt, alloc, tellers_of(&rt, alloc));
-    let Days { closed, end } = run_days(&rt, alloc, bank, days_of(&rt, alloc));
+    let Days { closed, end } = run_days(&rt, alloc, bank, days_of(&rt, alloc, DAYS));
     assert_eq!(rt; closed.len(), DAYS as usize);
     let Ok(bank) = end else { panic!(rt; "stopped") };
-    balances(&rt, &closed, false, &bank.settled);
+    balances(&rt, &closed, &bank.settled);
     let (died, committed, undone) = counted(&rt, &closed);
     assert!(rt; died > 0 && committed > 0 && undone > 0);
 }
@@ -278,26 +275,47 @@ fn a_day_has_errands_for_each_teller(rt: HostRuntime) {
     assert!(rt; closed.is_empty() && matches!(&end, Err(Stop::BadDay(_))));
 }
 
+// Of how many transfers nobody knew whether their record was made, and how many of these records were found.
+fn lost(closed: &[Closed]) -> (usize, usize) {
+    let (mut lost, mut found): (usize, usize) = (0, 0);
+    for over in closed {
+        for outcomes in &over.outcomes {
+            let last = outcomes.last();
+            let is_lost = last.is_some_and(|o| matches!(o, WorkOutcome::Undecided(_)));
+            lost = lost.wrapping_add(usize::from(is_lost));
+        }
+        for has in &over.found {
+            found = found.wrapping_add(usize::from(*has));
+        }
+    }
+    (lost, found)
+}
+
 #[test]
-fn days_end_where_a_record_is_lost(rt: HostRuntime) {
+fn days_go_on_after_records_are_lost(rt: HostRuntime) {
     let alloc = rt.alloc();
-    for keeps in [false, true] {
-        let bank = bank_of(&rt, alloc, losing_tellers_of(&rt, alloc, keeps));
-        let Days { closed, end } = run_days(&rt, alloc, bank, quiet_day_of(&rt, alloc, true));
-        let Ok(mut bank) = end else {
-            panic!(rt; "stopped")
-        };
-        assert!(rt; closed.len() == 1 && closed[0].resolved.is_none());
-        let tellers = mem::replace(&mut bank.tellers, Vec::new(alloc));
-        bank.tellers = reopened(&rt, alloc, tellers);
-        let Days { closed: more, end } = run_days(
-            &rt,
-            alloc,
-            bank,
-            quiet_day_of(&rt, alloc, false),
-        );
+    for failure in [Failure::Kept, Failure::Gone] {
+        let bank = bank_of(&rt, alloc, failing_tellers_of(&rt, alloc, failure, 3, 10));
+        let Days { closed, end } = run_days(&rt, alloc, bank, quiet_days_of(&rt, alloc, DAYS));
+        assert_eq!(rt; closed.len(), DAYS as usize);
         let Ok(bank) = end else { panic!(rt; "stopped") };
-        assert!(rt; more.len() == 1 && more[0].is_over());
-        balances(&rt, &closed, keeps, &bank.settled);
+        balances(&rt, &closed, &bank.settled);
+        let (lost, found) = lost(&closed);
+        let kept = if failure == Failure::Kept { lost } else { 0 };
+        assert!(rt; lost == TELLERS as usize && found == kept);
+    }
+}
+
+#[test]
+fn any_append_of_a_day_may_fail(rt: HostRuntime) {
+    let alloc = rt.alloc();
+    for k in 1..TRANSFERS + 1 {
+        for failure in [Failure::Refused, Failure::Kept, Failure::Gone] {
+            let bank = bank_of(&rt, alloc, failing_tellers_of(&rt, alloc, failure, k, 0));
+            let Days { closed, end } = run_days(&rt, alloc, bank, quiet_days_of(&rt, alloc, 1));
+            let Ok(bank) = end else { panic!(rt; "stopped") };
+            assert!(rt; closed.len() == 1 && closed[0].is_over());
+            balances(&rt, &closed, &bank.settled);
+        }
     }
 }

@@ -1,6 +1,7 @@
 pub mod Ledgers
 pub mod Books
 pub mod KeptPlaces
+pub mod Marked
 pub mod Counts
 pub mod Looks
 pub mod Fresh

@@ -4,6 +4,7 @@ use Rattle.xa_base.specs.declared.limits.TheConstants.{MOST_HANDLES, MOST_MANAGE
 use Rattle.slab.specs.Slab.{slab_len}
 use Rattle.xa_desk.specs.DeskView.{DeskView}
 use Rattle.xa_desk.specs.Slots.{IsBooks, AreKeys, kept_of, logged, planned_total}
+use Rattle.xa_desk.specs.Marks.{AreKept, AreReady}
 use Rattle.xa_desk.specs.declared.book.Book.TheInside.{Inside}
 
 -- what contracts see
@@ -27,7 +28,8 @@ pub record IsWithinLimits (t h m : ℕ) : Type 0 where
   pub managers : (1 ≤ m) × (m ≤ MOST_MANAGERS)
 
 -- the books are in order, and each slot is found; there is a slot for each handle and one more, a place for each
--- handle, and room for each end of a lane; the drained completions are counted, and what is planned is within limits
+-- handle, and room for each end of a lane; the drained completions are counted, and what is planned is within limits;
+-- and the places of what is kept are marked, and of it those of what is ready
 pub record IsBook (b : Inside) : Type 0 where
   pub books : IsBooks b.ledgers.items b.slots b.kept.items (logged b.drained.items)
   pub keys : AreKeys b.ledgers.items b.rows.items b.slots
@@ -39,3 +41,5 @@ pub record IsBook (b : Inside) : Type 0 where
   pub limits : IsWithinLimits b.thread b.handles (length b.ledgers.items)
   pub ends : b.ends.items ≡ []
   pub ends_room : MOST_MANAGERS ≤ vec_capacity b.ends
+  pub kept_marks : AreKept b.kept_marks b.kept.items
+  pub ready_marks : AreReady b.ready_marks b.kept.items (logged b.drained.items)

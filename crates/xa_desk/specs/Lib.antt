@@ -4,6 +4,7 @@ pub mod Kept
 pub mod Looks
 pub mod Ledger
 pub mod Slots
+pub mod Marks
 pub mod Book
 pub mod Tickets
 pub mod Lanes

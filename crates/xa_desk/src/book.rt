@@ -1,12 +1,12 @@
 //! What a desk knows, and its ends of lanes.
 ghost use Rattle.std.specs.Prelude.{◌≡◌, ℕ, ◌+◌, ◌-◌, ◌<◌, ◌≤◌, ◌↔◌, length, IfSome, IfNone, OnSome, IsTrue, None};
-ghost use Rattle.std.specs.Prelude.{is_some, ◌&&◌, false, [], ◌∷◌, ◌++◌};
+ghost use Rattle.std.specs.Prelude.{is_some, ◌&&◌, true, false, [], ◌∷◌, ◌++◌};
 ghost use Rattle.xa_desk.specs.declared.event.Event.TheVariants.{Sent};
 ghost use Rattle.std.specs.FinMap as map;
 ghost use Rattle.xa_desk.specs.LedgerView.{learnt_shut};
 ghost use Rattle.xa_desk.specs.DeskView.{IsKnown, IsOut, IsLoose, IsHandle, IsLeastFree, ledger, after_sent};
 ghost use Rattle.xa_desk.specs.DeskView.{completed, opening_of, outstanding, drained_code, room_at, is_known};
-ghost use Rattle.xa_desk.specs.DeskView.{next_operation};
+ghost use Rattle.xa_desk.specs.DeskView.{next_operation, IsLeast, keeps_at, ready_at};
 ghost use Rattle.xa_desk.specs.Ended.{AreBalanced};
 ghost use Rattle.xa_desk.specs.Lanes.{new_desk};
 ghost use Rattle.xa_desk.specs.Looks.{Drains};
@@ -16,9 +16,9 @@ mod lanes;
 use crate::event::Event;
 use crate::keys::Keys;
 use crate::ledger::Ledger;
+use crate::marks::Marks;
 use crate::operation::Operation;
 use crate::parts::DeskParts;
-use crate::places::first_free;
 use crate::slot::{Slot, enter_code, enter_handle, find_slot};
 use http_server::Log;
 use slab::Slab;
@@ -28,8 +28,9 @@ use xa_lane::{Ended, Receiver, Sender};
 use xa_words::{Code, Completion, Op, Request};
 
 /// The ledgers with the managers, the slots of what is outstanding and where each is, the places of what
-/// is kept, how many completions were drained by now and at the last quiet moment, and the ends of the
-/// lanes. All memory is reserved as it is made, that for the ended senders too.
+/// is kept, which of these have an operation and which a ready one, how many completions were drained by now
+/// and at the last quiet moment, and the ends of the lanes. All memory is reserved as it is made, that for the
+/// ended senders too.
 #[derive(Drop)]
 pub(crate) struct Book {
     pub(crate) thread: u32,
@@ -40,6 +41,8 @@ pub(crate) struct Book {
     pub(crate) slots: Slab<Slot>,
     pub(crate) rows: Vec<Keys>,
     pub(crate) kept: Vec<Option<Operation>>,
+    pub(crate) kept_marks: Marks,
+    pub(crate) ready_marks: Marks,
     // The completions that were drained. It has no bytes: only proofs read it.
     pub(crate) drained: Log<Completion, ()>,
     pub(crate) drained_now: usize,
@@ -90,6 +93,8 @@ impl Book {
             slots,
             rows,
             kept,
+            kept_marks: Marks::none(),
+            ready_marks: Marks::none(),
             drained: Log::new(),
             drained_now: 0,
             drained_then: 0,
@@ -100,6 +105,7 @@ impl Book {
     }
 
     /// A request was sent, which is outstanding from now on.
+    #[inline(always)]
     pub(crate) fn note_sent(&mut self, manager: u32, op: &Op) -> Operation
         requires known { IsKnown self.old.ledgers manager }
         requires room { length (ledger self.old.ledgers manager).sent < (ledger self.old.ledgers manager).plan }
@@ -130,6 +136,7 @@ impl Book {
 
     /// A completion was taken. One that names nothing outstanding, or that isn't the first for its
     /// operation, changes nothing.
+    #[inline(always)]
     pub(crate) fn note_taken(&mut self, completion: Completion)
         ensures { Drains self.old completion self.new }
     {
@@ -137,13 +144,15 @@ impl Book {
             manager: completion.manager,
             number: completion.number,
         };
-        if enter_code(&self.rows, &mut self.slots, operation, completion.code) {
+        if let Some(number) = enter_code(&self.rows, &mut self.slots, operation, completion.code) {
+            self.ready_marks.mark_number(number);
             self.drained = self.drained.and(&completion, &());
             self.drained_now += 1;
         }
     }
 
     /// Collects an operation that isn't kept, where its completion was drained.
+    #[inline(always)]
     pub(crate) fn collect(&mut self, operation: Operation) -> Option<Code>
         requires out { IsOut self.old.ledgers operation }
         requires loose { IsLoose self.old operation }
@@ -166,6 +175,7 @@ impl Book {
     }
 
     /// Keeps an operation under the least positive number that isn't kept.
+    #[inline(always)]
     pub(crate) fn keep(&mut self, operation: Operation) -> u32
         requires out { IsOut self.old.ledgers operation }
         requires loose { IsLoose self.old operation }
@@ -174,14 +184,17 @@ impl Book {
         ensures kept { self.new ≡ record self.old { kept = map.insert self.old.kept result operation } }
         ensures handle { IsHandle result }
     {
-        let place = first_free(&self.kept);
-        let handle = place as u32 + 1;
-        self.kept[place] = Some(operation);
-        enter_handle(&self.rows, &mut self.slots, operation, handle);
+        let place = self.kept_marks.first_clear();
+        let handle = place + 1;
+        self.kept[place as usize] = Some(operation);
+        let is_ready = enter_handle(&self.rows, &mut self.slots, operation, handle);
+        self.kept_marks.mark(place);
+        self.ready_marks.mark_if(is_ready, place);
         handle
     }
 
     /// Frees a number, and answers the operation that was kept under it.
+    #[inline(always)]
     pub(crate) fn release(&mut self, number: u32) -> Option<Operation>
         ensures found { result ≡ map.get self.old.kept number }
         ensures freed { IfSome result (λ _. self.new ≡ record self.old { kept = map.remove self.old.kept number }) }
@@ -192,12 +205,16 @@ impl Book {
         ensures absent { IfNone result (self.new ≡ self.old) }
     {
         let operation = self.kept_at(number)?;
-        self.kept[number as usize - 1] = None;
-        enter_handle(&self.rows, &mut self.slots, operation, 0);
+        let place = number - 1;
+        self.kept[place as usize] = None;
+        let _was_ready = enter_handle(&self.rows, &mut self.slots, operation, 0);
+        self.kept_marks.clear(place);
+        self.ready_marks.clear(place);
         Some(operation)
     }
 
     /// The operation that is kept under a number.
+    #[inline(always)]
     pub(crate) fn kept_at(&self, number: u32) -> Option<Operation>
         ensures kept { result ≡ map.get self.now.kept number }
         ensures out { IfSome result (λ o. IsOut self.now.ledgers o) }
@@ -212,7 +229,27 @@ impl Book {
         self.kept[number as usize - 1]
     }
 
+    /// Whether an operation is kept.
+    #[inline(always)]
+    pub(crate) fn keeps(&self) -> bool
+        ensures some { IsTrue result → (k : ℕ) × (keeps_at self.now 0 k ≡ true) }
+        ensures none { result ≡ false → (k : ℕ) → keeps_at self.now 0 k ≡ false }
+    {
+        self.kept_marks.first().is_some()
+    }
+
+    /// The least number under which a drained operation is kept.
+    #[inline(always)]
+    pub(crate) fn first_ready(&self) -> Option<u32>
+        ensures found { IfSome result (IsLeast (ready_at self.now 0)) }
+        ensures absent { IfNone result ((k : ℕ) → ready_at self.now 0 k ≡ false) }
+    {
+        let place = self.ready_marks.first()?;
+        Some(place + 1)
+    }
+
     /// How many handles there are. No greater number is kept.
+    #[inline(always)]
     pub(crate) fn handles(&self) -> u32
         ensures handles { result ≡ self.now.handles }
         ensures limit { result ≤ MOST_HANDLES }
@@ -223,6 +260,7 @@ impl Book {
     }
 
     /// Whether an operation is outstanding. Where none is, each request was collected once.
+    #[inline(always)]
     pub(crate) fn is_outstanding(&self) -> bool
         ensures some { IsTrue result ↔ (0 < outstanding self.now.ledgers) }
         ensures settled { result ≡ false → AreBalanced self.now.ledgers }
@@ -241,6 +279,7 @@ impl Book {
     }
 
     /// Whether the operation's completion was drained.
+    #[inline(always)]
     pub(crate) fn is_drained(&self, operation: Operation) -> bool
         requires { IsOut self.now.ledgers operation }
         ensures { result ≡ is_some (drained_code operation self.now.drained) }
@@ -252,6 +291,7 @@ impl Book {
     }
 
     /// The thread of control, from 1.
+    #[inline(always)]
     pub(crate) fn thread(&self) -> u32
         ensures thread { result ≡ self.now.thread }
         ensures limits { (1 ≤ result) × (result ≤ MOST_THREADS) }
@@ -267,6 +307,7 @@ impl Book {
     }
 
     /// How many managers there are, which are numbered from 1.
+    #[inline(always)]
     pub(crate) fn managers(&self) -> u32
         ensures managers { result ≡ length self.now.ledgers }
         ensures limits { (1 ≤ result) × (result ≤ MOST_MANAGERS) }
@@ -275,6 +316,7 @@ impl Book {
     }
 
     /// The number of the next request to the manager.
+    #[inline(always)]
     pub(crate) fn next_number(&self, manager: u32) -> u32
         requires { IsKnown self.now.ledgers manager }
         ensures { result ≡ length (ledger self.now.ledgers manager).sent }

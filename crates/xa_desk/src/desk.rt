@@ -125,6 +125,7 @@ impl Desk {
     }
 
     // Whether there is a manager of this number.
+    #[inline(always)]
     pub(crate) fn knows(&self, manager: u32) -> bool
         ensures { result ≡ is_known self.now.ledgers manager }
     {
@@ -162,6 +163,7 @@ impl Desk {
     /// The refusals come in the order of `Refused`, each where its condition holds and nowhere else; `Full`
     /// where a push of this call found the queue of the lane to the manager full, which the lane's end
     /// counts. No completion is looked at.
+    #[inline(always)]
     pub fn submit<R: Wait>(&mut self, rt: &R, manager: u32, op: Op) -> Result<Ticket, Refused>
         ensures refused { (why : _) → submit_refusal self.old manager ≡ Some why
             → (result ≡ Err why) × (self.new ≡ self.old) }
@@ -222,6 +224,7 @@ impl Desk {
     ///
     /// It is refused as `NoSuchManager`, `Shut` or `Spent`, in this order, each where its condition holds
     /// and nowhere else. Where the lane to the manager is full it idles on the manager and tries again.
+    #[inline(always)]
     pub fn call<R: Wait, I: Idle>(
         &mut self,
         rt: &R,

@@ -134,6 +134,8 @@ pub(crate) fn end<R: Wait, I: Idle>(rt: &R, book: Book, idle: &mut I) -> EndedDe
         slots: _,
         rows: _,
         kept: _,
+        kept_marks: _,
+        ready_marks: _,
         drained,
         drained_now: _,
         drained_then: _,

@@ -7,6 +7,7 @@ use crate::book::Book;
 use xa_words::Code;
 
 // Whether an operation of the manager, of any for 0, is kept under the number.
+#[inline(always)]
 fn is_kept(book: &Book, manager: u32, number: u32) -> bool
     ensures { result ≡ keeps_at book.now manager number }
 {
@@ -17,6 +18,7 @@ fn is_kept(book: &Book, manager: u32, number: u32) -> bool
 }
 
 // The same, and its completion was drained.
+#[inline(always)]
 fn is_ready(book: &Book, manager: u32, number: u32) -> bool
     ensures { result ≡ ready_at book.now manager number }
 {
@@ -27,10 +29,14 @@ fn is_ready(book: &Book, manager: u32, number: u32) -> bool
 }
 
 /// Whether an operation of the manager, of any for 0, is kept.
+#[inline(always)]
 pub(crate) fn keeps_any(book: &Book, manager: u32) -> bool
     ensures some { IsTrue result → (k : ℕ) × (keeps_at book.now manager k ≡ true) }
     ensures none { result ≡ false → (k : ℕ) → keeps_at book.now manager k ≡ false }
 {
+    if manager == 0 {
+        return book.keeps();
+    }
     let end = book.handles() + 1;
     for number in 0..end {
         if is_kept(book, manager, number) {
@@ -41,10 +47,14 @@ pub(crate) fn keeps_any(book: &Book, manager: u32) -> bool
 }
 
 /// The least number under which a drained operation of the manager, of any for 0, is kept.
+#[inline(always)]
 pub(crate) fn least_ready(book: &Book, manager: u32) -> Option<u32>
     ensures found { IfSome result (IsLeast (ready_at book.now manager)) }
     ensures absent { IfNone result ((k : ℕ) → ready_at book.now manager k ≡ false) }
 {
+    if manager == 0 {
+        return book.first_ready();
+    }
     let end = book.handles() + 1;
     for number in 0..end {
         if is_ready(book, manager, number) {
@@ -55,6 +65,7 @@ pub(crate) fn least_ready(book: &Book, manager: u32) -> Option<u32>
 }
 
 /// Collects the operation that is kept under the number, and frees the number.
+#[inline(always)]
 pub(crate) fn collect_kept(book: &mut Book, number: u32) -> Code
     requires { ready_at book.old 0 number ≡ true }
     ensures taken { TakesKept book.old book.new number result }

@@ -31,6 +31,7 @@ impl Keys {
         Ok(Keys { keys })
     }
 
+    #[inline(always)]
     fn key(&self, number: u32) -> Option<usize>
         ensures { result ≡ slice_get self.now.keys number }
     {
@@ -38,6 +39,7 @@ impl Keys {
     }
 
     /// The slot of the next request has this key.
+    #[inline(always)]
     pub(crate) fn enter(&mut self, key: usize)
         requires { length self.old.keys < self.old.capacity }
         ensures { self.new ≡ with_key self.old key }
@@ -62,6 +64,7 @@ pub(crate) fn reserve_keys(
 }
 
 /// The key of the slot that the operation has if it is outstanding.
+#[inline(always)]
 pub(crate) fn key_of(rows: &Vec<Keys>, operation: Operation) -> Option<usize>
     ensures { result ≡ key_at rows.now.items operation }
 {

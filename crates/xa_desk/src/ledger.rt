@@ -45,6 +45,7 @@ impl Ledger {
     }
 
     /// Whether the manager takes asynchronous calls: `TMUSEASYNC` (C193, chapter 4).
+    #[inline(always)]
     pub fn carries_async(&self) -> bool
         ensures { result ≡ self.now.carries_async }
     {
@@ -52,6 +53,7 @@ impl Ledger {
     }
 
     /// Whether `XAER_RMFAIL` was collected.
+    #[inline(always)]
     pub(crate) fn learnt_shut(&self) -> bool
         ensures { result ≡ learnt_shut self.now }
     {
@@ -59,6 +61,7 @@ impl Ledger {
     }
 
     /// How many requests were sent, which is the number of the next.
+    #[inline(always)]
     pub(crate) fn next_number(&self) -> u32
         ensures sent { result ≡ length self.now.sent }
         ensures planned { result ≤ self.now.plan }
@@ -68,6 +71,7 @@ impl Ledger {
     }
 
     /// How many planned requests are left.
+    #[inline(always)]
     pub(crate) fn room(&self) -> u32
         ensures { result ≡ self.now.plan - length self.now.sent }
     {
@@ -89,6 +93,7 @@ impl Ledger {
     }
 
     /// One more request was sent.
+    #[inline(always)]
     pub(crate) fn push_sent(&mut self, op: &Op)
         requires { length self.old.sent < self.old.plan }
         ensures { self.new ≡ with_sent self.old op.now }
@@ -99,6 +104,7 @@ impl Ledger {
     }
 
     /// One more request was collected.
+    #[inline(always)]
     pub(crate) fn push_collected(&mut self, number: u32, code: Code)
         requires { length self.old.collected < self.old.plan }
         ensures { self.new ≡ with_collected self.old number code }

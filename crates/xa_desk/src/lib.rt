@@ -15,6 +15,7 @@ mod kept;
 mod keys;
 pub mod laws;
 mod ledger;
+mod marks;
 mod operation;
 mod parts;
 mod places;

@@ -16,6 +16,7 @@ use std::sync::Wait;
 use xa_words::{Code, Op};
 
 // Takes until the operation's completion is drained, or the lane is found empty.
+#[inline(always)]
 fn look_for<R: Wait>(rt: &R, book: &mut Book, operation: Operation) -> bool
     requires { IsOut book.old.ledgers operation }
     ensures looks { Looks book.old book.new }
@@ -37,6 +38,7 @@ fn look_for<R: Wait>(rt: &R, book: &mut Book, operation: Operation) -> bool
 }
 
 /// Collects an operation that isn't kept, where its completion came.
+#[inline(always)]
 pub(crate) fn try_collect<R: Wait>(rt: &R, book: &mut Book, operation: Operation) -> Option<Code>
     requires out { IsOut book.old.ledgers operation }
     requires loose { IsLoose book.old operation }
@@ -58,6 +60,7 @@ pub(crate) fn try_collect<R: Wait>(rt: &R, book: &mut Book, operation: Operation
 }
 
 /// Collects an operation that isn't kept, and waits for its completion.
+#[inline(always)]
 pub(crate) fn wait_for<R: Wait, I: Idle>(
     rt: &R,
     book: &mut Book,
@@ -80,6 +83,7 @@ pub(crate) fn wait_for<R: Wait, I: Idle>(
 }
 
 // Takes until the lane is found empty.
+#[inline(always)]
 fn drain<R: Wait>(rt: &R, book: &mut Book)
     ensures quiet { EndsQuiet book.old book.new }
     ensures once { book.new.completions.quiet ≡ counted book.old.completions.quiet }
@@ -110,6 +114,7 @@ pub(crate) fn try_collect_kept<R: Wait>(rt: &R, book: &mut Book, number: u32) ->
 }
 
 /// Collects the least ready number of the manager, of any for 0, once the lane was found empty.
+#[inline(always)]
 pub(crate) fn try_collect_any<R: Wait>(rt: &R, book: &mut Book, manager: u32) -> Option<(u32, Code)>
     ensures collected { IfSome result (λ r. CollectsLeast book.old book.new manager r.0 r.1) }
     ensures quiet { IsNone result → EndsQuiet book.old book.new }
@@ -126,6 +131,7 @@ pub(crate) fn try_collect_any<R: Wait>(rt: &R, book: &mut Book, manager: u32) ->
 }
 
 /// The same, waiting for one.
+#[inline(always)]
 pub(crate) fn wait_for_any<R: Wait, I: Idle>(
     rt: &R,
     book: &mut Book,
@@ -147,6 +153,7 @@ pub(crate) fn wait_for_any<R: Wait, I: Idle>(
 }
 
 /// Sends the next request to the manager, and idles while the lane to it is full.
+#[inline(always)]
 pub(crate) fn send_waiting<R: Wait, I: Idle>(
     rt: &R,
     book: &mut Book,

@@ -1,7 +1,7 @@
 //! Slots of outstanding operations.
-ghost use Rattle.std.specs.Prelude.{◌≡◌, ◌≢◌, ℕ, false, Some, None, IfSome, IfNone, IsTrue};
+ghost use Rattle.std.specs.Prelude.{◌≡◌, ◌≢◌, ℕ, Some, None, IfSome, IfNone, OnSome, is_some};
 ghost use Rattle.slab.specs.Slab.{get};
-ghost use Rattle.xa_desk.specs.Slots.{HasSlot, AreTold, EntersCode, EntersHandle};
+ghost use Rattle.xa_desk.specs.Slots.{HasSlot, HasKept, AreTold, EntersCode, EntersHandle};
 
 use crate::keys::{Keys, key_of};
 use crate::operation::Operation;
@@ -20,6 +20,7 @@ pub(crate) struct Slot {
 }
 
 /// The slot of an operation, with its key.
+#[inline(always)]
 pub(crate) fn find_slot(
     rows: &Vec<Keys>,
     slots: &Slab<Slot>,
@@ -42,38 +43,48 @@ pub(crate) fn find_slot(
     Some((key, *slot))
 }
 
-/// Enters the code of a completion into its operation's slot, and answers whether it did: not where the
-/// operation has no slot, or one with a code.
+/// Enters the code of a completion into its operation's slot, and answers the number that the operation is kept
+/// under, or 0. `None`, and nothing entered, where the operation has no slot, or one with a code.
+#[inline(always)]
 pub(crate) fn enter_code(
     rows: &Vec<Keys>,
     slots: &mut Slab<Slot>,
     wanted: Operation,
     code: Code,
-) -> bool
+) -> Option<u32>
     requires { AreTold rows.now.items slots.old }
-    ensures entered { IsTrue result → EntersCode slots.old wanted code slots.new }
-    ensures known { result ≡ false → (key : ℕ) (slot : _) → get slots.old key ≡ Some slot → slot.operation ≡ wanted
-        → slot.code ≢ None }
-    ensures same { result ≡ false → slots.new ≡ slots.old }
+    ensures entered { OnSome result (EntersCode slots.old wanted code slots.new) }
+    ensures number { IfSome result (λ number. HasKept slots.old wanted number) }
+    ensures known { IfNone result ((key : ℕ) (slot : _) → get slots.old key ≡ Some slot → slot.operation ≡ wanted
+        → slot.code ≢ None) }
+    ensures same { IfNone result (slots.new ≡ slots.old) }
 {
     let Some(key) = key_of(rows, wanted) else {
-        return false;
+        return None;
     };
     let Some(slot) = slots.get_mut(key) else {
-        return false;
+        return None;
     };
     if !slot.operation.is(wanted) || slot.code.is_some() {
-        return false;
+        return None;
     }
     slot.code = Some(code);
-    true
+    Some(slot.handle)
 }
 
-/// Writes the number that an operation is kept under, or 0, into its slot.
-pub(crate) fn enter_handle(rows: &Vec<Keys>, slots: &mut Slab<Slot>, wanted: Operation, handle: u32)
+/// Writes the number that an operation is kept under, or 0, into its slot, and answers whether it has a code.
+#[inline(always)]
+pub(crate) fn enter_handle(
+    rows: &Vec<Keys>,
+    slots: &mut Slab<Slot>,
+    wanted: Operation,
+    handle: u32,
+) -> bool
     requires told { AreTold rows.now.items slots.old }
     requires there { HasSlot slots.old wanted }
-    ensures { EntersHandle slots.old wanted handle slots.new }
+    ensures entered { EntersHandle slots.old wanted handle slots.new }
+    ensures code { (key : ℕ) (slot : _) → get slots.old key ≡ Some slot → slot.operation ≡ wanted
+        → result ≡ is_some slot.code }
 {
     let Some(key) = key_of(rows, wanted) else {
         unreachable!()
@@ -82,4 +93,5 @@ pub(crate) fn enter_handle(rows: &Vec<Keys>, slots: &mut Slab<Slot>, wanted: Ope
         unreachable!()
     };
     slot.handle = handle;
+    slot.code.is_some()
 }

@@ -18,7 +18,7 @@ use crate::slot::Slot;
 use crate::slot_table::SlotTable;
 use crate::spelling::is_valid;
 use crate::writing::write_record;
-use xa_log::{CommitRecord, DecisionLog, DecisionRecords, LogFault};
+use xa_log::{CommitRecord, DecisionLog, DecisionRecords, LogFault, ReopenLog};
 use xa_words::{ManagerSet, Tran};
 
 /// A decision log in the slots of a file.
@@ -164,6 +164,15 @@ impl<D: Device> DecisionLog for FileLog<D> {
 
     fn failures(&self) -> u64 {
         self.failures
+    }
+}
+
+/// A file is opened again by its owner, with `open`: a log that has lost an append stays unknown.
+impl<D: Device> ReopenLog for FileLog<D> {
+    ghost reopens = { λ l l'. l' ≡ l };
+
+    fn reopen(self) -> FileLog<D> {
+        self
     }
 }
 

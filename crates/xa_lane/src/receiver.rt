@@ -66,6 +66,7 @@ impl<T: Copy> Receiver<T> {
     ///
     /// `Empty` is answered where a pop found nothing in the queue, which is a quiet moment and is counted.
     /// The count stays at `u64::MAX`. What had been taken by then is the receiver's `taken_then`.
+    #[inline(always)]
     pub fn take<R: Wait>(&mut self, rt: &R) -> Taken<T>
         ensures same { SameReceiver self.old self.new }
         ensures took { Took self.old result self.new }

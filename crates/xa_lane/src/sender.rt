@@ -60,6 +60,7 @@ impl<T: Copy> Sender<T> {
     ///
     /// `Full` hands it back where the queue refused it as full: nothing was sent, and the full moment is
     /// counted. The count stays at `u64::MAX`.
+    #[inline(always)]
     pub fn offer<R: Wait>(&mut self, rt: &R, item: T) -> Result<(), Full<T>>
         ensures same { SameSender self.old self.new }
         ensures sent { OnOk result (self.new ≡ record self.old { sent = self.old.sent ++ item ∷ [] }) }

@@ -72,6 +72,14 @@ with_failure log = record log { failures = (log.failures + 1) % 2 ^ 64 }
 abbrev pub IsEither : LogState → LogState → TranName → List Bool → Type 0
 IsEither log later t managers = (later ≡ log) ⊎ (later ≡ with_record log t managers)
 
+-- What a log may be read as, once it is opened again: what it has, where it is known; and where it has lost an append,
+-- what it had before, with that record or without it.
+pub record IsReadAs {L : Type 0} (state : L → LogState) (knows : L → Type 0)
+    (loses : TranName → List Bool → L → L → Type 0) (log : L) (read : LogState) : Type 0 where
+  pub known : knows log → read ≡ state log
+  pub lost : (knows log → ⊥) → (before : L) (t : TranName) (managers : List Bool) → loses t managers before log
+      → IsEither (state before) read t managers
+
 -- a log in memory: its state, how many appends there were, which one fails, and for how many more records it has room
 pub record LogView : Type 0 where
   pub state : LogState

@@ -8,6 +8,6 @@ mod losing;
 mod memory;
 mod several;
 
-pub use log::{CommitRecord, DecisionLog, DecisionRecords, GroupLog, LogFault};
+pub use log::{CommitRecord, DecisionLog, DecisionRecords, GroupLog, LogFault, ReopenLog};
 pub use losing::LosingLog;
 pub use memory::MemoryLog;

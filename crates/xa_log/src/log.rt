@@ -3,7 +3,7 @@ ghost use Rattle.std.specs.Prelude.{◌≡◌, ◌↔◌, OnOk, IsErrOf, IsTrue,
 ghost use Rattle.xa_words.specs.Tran.{TranName};
 ghost use Rattle.xa_log.specs.declared.log.LogFault.TheVariants.{Refused, Unknown};
 ghost use Rattle.xa_log.specs.Log.{LogState, Records, record_in, record_of, with_record, with_failure, without_record};
-ghost use Rattle.xa_log.specs.Log.{with_only, with_records, AreNew};
+ghost use Rattle.xa_log.specs.Log.{with_only, with_records, AreNew, IsReadAs};
 ghost use Rattle.xa_log.specs.declared.log.CommitRecord.{CommitRecord};
 
 use xa_words::{ManagerSet, Tran};
@@ -113,4 +113,17 @@ pub trait GroupLog: DecisionLog {
             × Self.knows self.new × appends_all decisions.now false self.old self.new }
         ensures unknown { IsErrOf result Unknown → (Self.knows self.new → ⊥)
             × loses_all decisions.now self.old self.new };
+}
+
+/// A log that can be opened again, as after a crash.
+pub trait ReopenLog: DecisionLog {
+    /// What opening again does to the log.
+    ghost reopens: { Self → Self → Type 0 };
+
+    /// The log, opened again. One that is known stays as it is. One that has lost an append has what it had before,
+    /// with that record or without it, if it is known then; one that can't be read stays unknown.
+    fn reopen(self) -> Self
+        ensures reopened { reopens self result }
+        ensures same { Self.knows self → result ≡ self }
+        ensures read { Self.knows result → IsReadAs Self.state Self.knows Self.loses self (Self.state result) };
 }

@@ -2,7 +2,7 @@
 ghost use Rattle.std.specs.Prelude.{◌≡◌, ◌+◌, true, false, IsTrue, ◌↔◌, refl};
 ghost use Rattle.xa_log.specs.Losing.{AppendsBefore, ForgetsBefore, LosesTo, loses_next, reopened};
 
-use crate::log::{CommitRecord, DecisionLog, DecisionRecords, LogFault};
+use crate::log::{CommitRecord, DecisionLog, DecisionRecords, LogFault, ReopenLog};
 use crate::memory::MemoryLog;
 use xa_words::{ManagerSet, Tran};
 
@@ -110,5 +110,13 @@ impl DecisionLog for LosingLog {
 
     fn failures(&self) -> u64 {
         self.found.failures()
+    }
+}
+
+impl ReopenLog for LosingLog {
+    ghost reopens = { λ l l'. l' ≡ reopened l };
+
+    fn reopen(self) -> LosingLog {
+        self.reopened()
     }
 }

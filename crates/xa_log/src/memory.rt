@@ -3,7 +3,7 @@ ghost use Rattle.std.specs.Prelude.{◌≡◌, ◌+◌, ◌<◌, ◌≤◌, OnOk
 ghost use Rattle.xa_log.specs.declared.log.LogFault.TheVariants.{Refused, Unknown};
 ghost use Rattle.xa_log.specs.Log.{no_records, with_record, with_failure, counted, AppendsTo, ForgetsFrom, IsEither};
 
-use crate::log::{CommitRecord, DecisionLog, DecisionRecords, LogFault};
+use crate::log::{CommitRecord, DecisionLog, DecisionRecords, LogFault, ReopenLog};
 use std::alloc::Global;
 use std::collections::HashMap;
 use std::marker::Model;
@@ -174,5 +174,14 @@ impl DecisionLog for MemoryLog {
 
     fn failures(&self) -> u64 {
         self.failures
+    }
+}
+
+/// No append has an unknown end, so it stays as it is.
+impl ReopenLog for MemoryLog {
+    ghost reopens = { λ l l'. l' ≡ l };
+
+    fn reopen(self) -> MemoryLog {
+        self
     }
 }

@@ -13,7 +13,7 @@ use crossbeam_utils::Backoff;
 use std::collections::HashMap;
 use std::sync::Wait;
 use xa_lane::{Ended, Receiver, Sender, Taken};
-use xa_log::{CommitRecord, DecisionLog, DecisionRecords, LogFault};
+use xa_log::{CommitRecord, DecisionLog, DecisionRecords, LogFault, ReopenLog};
 use xa_words::{ManagerSet, Tran};
 
 /// What a coordinator decides by, over a log that it shares: the records that are its own, and the lanes to and from
@@ -183,5 +183,14 @@ impl<R: Wait + Copy> DecisionLog for LogClient<R> {
 
     fn failures(&self) -> u64 {
         self.failures
+    }
+}
+
+/// The log is its worker's, whose owner opens it again: a coordinator for which a record was lost stays so.
+impl<R: Wait + Copy> ReopenLog for LogClient<R> {
+    ghost reopens = { λ l l'. l' ≡ l };
+
+    fn reopen(self) -> LogClient<R> {
+        self
     }
 }

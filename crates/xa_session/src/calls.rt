@@ -21,6 +21,7 @@ use xa_transcript::Answer;
 use xa_words::{Call, RmOp, Xid};
 
 // What an XA call answers.
+#[inline(always)]
 fn xa_called<R: Wait, I: Idle>(
     rt: &R,
     desk: &mut Desk,
@@ -41,6 +42,7 @@ fn xa_called<R: Wait, I: Idle>(
 }
 
 /// What a call answers. It fails only for want of memory, and then nothing is done.
+#[inline(always)]
 pub(crate) fn answer<R: Wait, I: Idle>(
     rt: &R,
     alloc: Global,
@@ -129,6 +131,7 @@ fn listed(answer: i32, mut xids: Vec<Xid>) -> Answer
 }
 
 // What a call outside XA answers.
+#[inline(always)]
 fn native_called<R: Wait, I: Idle>(
     rt: &R,
     desk: &mut Desk,
@@ -148,6 +151,7 @@ fn native_called<R: Wait, I: Idle>(
 }
 
 // What an xa_complete of the handle answers.
+#[inline(always)]
 fn completed<R: Wait, I: Idle>(
     rt: &R,
     desk: &mut Desk,
@@ -168,6 +172,7 @@ fn completed<R: Wait, I: Idle>(
 }
 
 // The answer of an xa_complete, which on XA_OK is shown with what it wrote.
+#[inline(always)]
 fn told(answer: i32, handle: i32, retval: i32) -> Answer
     ensures { result ≡ completed handle retval answer }
 {

@@ -40,6 +40,7 @@ pub(crate) fn log_of(alloc: Global, script: &Script, thread: u32) -> LosingLog
 }
 
 /// Does what a task asks for, and gives its answer. It fails only for want of memory, and then nothing is done.
+#[inline(always)]
 pub fn carry_out<R: Wait, I: Idle>(
     rt: &R,
     alloc: Global,

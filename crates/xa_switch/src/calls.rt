@@ -21,6 +21,7 @@ use xa_desk::{Desk, Idle, Refused};
 use xa_words::{Call, Code, Op, RmOp, Xid};
 
 // The code that a refusal of a desk is answered as.
+#[inline(always)]
 pub(crate) fn code_of(why: Refused) -> Code
     ensures { result ≡ code_of why }
 {
@@ -33,6 +34,7 @@ pub(crate) fn code_of(why: Refused) -> Code
 }
 
 // Puts an asynchronous request to a manager, and answers the handle that it is kept under, or why it wasn't put.
+#[inline(always)]
 fn put_later<R: Wait>(rt: &R, desk: &mut Desk, manager: u32, op: Op) -> Result<u32, Code>
     ensures refused { (c : _) → put_refusal desk.old manager true ≡ Some c → (result ≡ Err c) × (desk.new ≡ desk.old) }
     ensures full { put_refusal desk.old manager true ≡ None → IfErr result (λ c. (c ≡ Code.Async)
@@ -61,6 +63,7 @@ fn put_later<R: Wait>(rt: &R, desk: &mut Desk, manager: u32, op: Op) -> Result<u
 }
 
 // Puts what is asked for to a manager, and answers the handle, or the code of a synchronous request.
+#[inline(always)]
 fn put<R: Wait, I: Idle>(rt: &R, desk: &mut Desk, manager: u32, asked: Asked, idle: &mut I) -> i32
     ensures puts { Puts desk.old manager asked desk.new result }
     ensures leaves { CallLeaves I.leads desk.old desk.new idle.old idle.new }
@@ -81,6 +84,7 @@ fn put<R: Wait, I: Idle>(rt: &R, desk: &mut Desk, manager: u32, asked: Asked, id
 }
 
 // Puts what is asked for, or answers why nothing is.
+#[inline(always)]
 fn put_asked<R: Wait, I: Idle>(
     rt: &R,
     desk: &mut Desk,
@@ -111,6 +115,7 @@ fn put_asked<R: Wait, I: Idle>(
 ///
 /// A call that waits idles on its manager alone: after each offer that found the queue full, and after each look that
 /// found no answer (`waited`).
+#[inline(always)]
 pub fn xa_call<R: Wait, I: Idle>(
     rt: &R,
     desk: &mut Desk,
@@ -133,6 +138,7 @@ pub fn xa_call<R: Wait, I: Idle>(
 }
 
 /// A call outside XA, which takes `TMNOFLAGS` or `TMASYNC`, else XAER_INVAL; then as `xa_call`.
+#[inline(always)]
 pub fn native<R: Wait, I: Idle>(
     rt: &R,
     desk: &mut Desk,

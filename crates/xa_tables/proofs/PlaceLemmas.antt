@@ -1,6 +1,6 @@
 -- Where the keys stand among the accounts, and what was declared.
 use Rattle.std.specs.Prelude.{◌≡◌, ℕ, pos, zero, suc, ◌+◌, ◌<◌, ◌≤◌, All, Bool, true, false, cond, ◌&&◌, ◌||◌, if◌then◌else◌, nat_le, List, [], ◌∷◌, ◌++◌}
-use Rattle.std.specs.Prelude.{length, map, Option, None, Some, IsSome, is_some, refl}
+use Rattle.std.specs.Prelude.{length, map, Option, None, Some, is_some, refl, slice_index_or}
 use Rattle.std.proofs.Common.{sym, ap, ◌∙◌, arith, get_or, take, length-take-le}
 use Rattle.std.proofs.Math.ListN.{set}
 use Rattle.std.proofs.lemmas.Int.{ints}
@@ -12,13 +12,13 @@ use Rattle.std.proofs.lemmas.List.Elements.{All-map}
 use Rattle.std.specs.List.{list_any, list_all}
 use Rattle.std.specs.Cmp.{eq_by_cmp_equiv}
 use Rattle.std.specs.FinMap as finmap
-use Rattle.std.specs.FinMap.{FinMap, find, from_entries, get-insert, get-from_entries}
+use Rattle.std.specs.FinMap.{FinMap, find, from_entries, get-insert}
 use Rattle.xa_words.specs.Xid.{XidName}
 use Rattle.xa_words.specs.Key.{key_eq}
 use Rattle.xa_words.specs.Orders.{key_cmp, key_cmp_total, Decides-key_eq, key_eq-by_cmp}
 use Rattle.xa_tables.specs.declared.accounts.Account.{Account}
 use Rattle.xa_tables.specs.Accounts.{AreDistinct, AreIndexed, IsGood, value_entries, hold_entries, place_in, later_place, hold_is_other, is_held_by_other}
-use Rattle.xa_tables.specs.Accounts.{are_apart, are_accounts, declared_values}
+use Rattle.xa_tables.specs.Accounts.{are_apart, are_accounts, declared_values, keys_of}
 use Rattle.xa_tables.proofs.AccountLemmas.{same_key, key_self, key_apart, Lacks, is_other}
 
 swapped : (k l : List ℕ) → key_eq l k ≡ same_key k l
@@ -55,6 +55,22 @@ place_key k (c ∷ rest) (suc i) a e h =
       | None ↦ λ p f. let is = (one_here (key_eq c.key k) (suc i) f).1 in absurd (omega arith)
     ] refl e
 
+-- the key at a place is that of the account there
+pub key_there : (accounts : List Account) (i : ℕ) (a : Account) → i < length accounts → a ≡ get_or accounts i a
+    → slice_index_or (keys_of accounts) i [] ≡ a.key
+key_there [] i a h e = absurd (omega arith)
+key_there (c ∷ rest) zero a h e = ap (λ (w : Account). w.key) (sym e)
+key_there (c ∷ rest) (suc i) a h e = key_there rest i a (omega arith) e
+
+-- the key at a key's place is that key
+pub key_placed : (k : List ℕ) (accounts : List Account) (i : ℕ) → place_in k accounts ≡ Some i → slice_index_or (keys_of accounts) i [] ≡ k
+key_placed k accounts i e =
+    let none : Account = record { key = []; value = pos 0; hold = None } in
+    let within = place_within k accounts i e in
+    let a : Account = get_or accounts i none in
+    let is : a ≡ get_or accounts i a = get_or_default accounts i none a within in
+    key_there accounts i a within is ∙ place_key k accounts i a e is
+
 -- a key has a place exactly where it has a value
 pub place_some : (k : List ℕ) (accounts : List Account) → is_some (place_in k accounts) ≡ is_some (find key_cmp k (value_entries accounts))
 place_some k [] = refl
@@ -64,14 +80,6 @@ place_some k (a ∷ rest) =
       | None ↦ λ there. ap (λ b. is_some (later_place None b)) (swapped k a.key)
           ∙ elim (same_key k a.key) as (λ b. is_some (later_place None b) ≡ is_some (cond b (Some a.value) (find key_cmp k (value_entries rest)))) [ true ↦ refl | false ↦ there ]
     ] (place_some k rest)
-
--- a declared key has a place
-pub is_placed : (k : List ℕ) (accounts : List Account) (o : Option ℕ) → o ≡ place_in k accounts
-    → is_some (finmap.get (from_entries {R = key_cmp} (value_entries accounts)) k) ≡ true → IsSome o
-is_placed k accounts o e declared =
-    let there : is_some o ≡ true =
-    ap is_some e ∙ place_some k accounts ∙ ap is_some (sym (get-from_entries key_cmp_total (value_entries accounts) k)) ∙ declared in
-    elim o as (λ p. is_some p ≡ true → IsSome p) [ None ↦ λ f. cc | Some i ↦ λ f. refl ] there
 
 -- a key's value, by its place
 pub value_none : (k : List ℕ) (accounts : List Account) → place_in k accounts ≡ None → find key_cmp k (value_entries accounts) ≡ None
@@ -132,6 +140,17 @@ indexed_set places accounts i a b h e same old k = old k ∙ sym (place_set k ac
 lacks_place : (k : List ℕ) (accounts : List Account) → Lacks k accounts → place_in k accounts ≡ None
 lacks_place k accounts h =
     elim (place_in k accounts) as (λ o. is_some o ≡ false → o ≡ None) [ Some i ↦ λ e. let never : ⊥ = cc in absurd never | None ↦ λ e. refl ] (place_some k accounts ∙ ap is_some h)
+
+-- each account stands at its key's place
+pub placed_there : (accounts : List Account) (i : ℕ) (a : Account) → AreDistinct accounts → i < length accounts → a ≡ get_or accounts i a
+    → place_in a.key accounts ≡ Some i
+placed_there [] i a dist h e = absurd (omega arith)
+placed_there (c ∷ rest) zero a dist h e =
+    let same : c.key ≡ a.key = ap (λ (w : Account). w.key) (sym e) in
+    let here : key_eq c.key a.key ≡ true = (Decides-key_eq c.key a.key).1 same in
+    let none : Lacks a.key rest = ap (λ z. find key_cmp z (value_entries rest)) (sym same) ∙ dist.0 in
+    λ i. later_place (lacks_place a.key rest none i) (here i)
+placed_there (c ∷ rest) (suc i) a dist h e = ap (λ o. later_place o (key_eq c.key a.key)) (placed_there rest i a dist.1 (omega arith) e)
 
 -- nobody holds a key without a place
 pub other_none : (k : List ℕ) (x : XidName) (accounts : List Account) → place_in k accounts ≡ None → list_any (λ b. is_other b x k) accounts ≡ false

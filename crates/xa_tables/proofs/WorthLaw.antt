@@ -21,7 +21,7 @@ use Rattle.xa_words.specs.declared.request.Op.{Op}
 use Rattle.xa_words.specs.declared.request.Op.TheVariants.{Add, Prepare}
 use Rattle.xa_words.specs.declared.request.Request.{Request}
 use Rattle.xa_tables.specs.declared.state.Association.{Association}
-use Rattle.xa_tables.specs.Tables.{Tables, Touch, touch_cmp, association_of, is_declared, value_of, sum_of, sums_without}
+use Rattle.xa_tables.specs.Tables.{Tables, Touch, touch_cmp, is_declared, value_of, sum_of, sums_without}
 use Rattle.xa_tables.specs.Next.{Answer, next, added, committed}
 use Rattle.xa_tables.specs.Accounts.{are_accounts, are_apart}
 use Rattle.xa_tables.specs.Managers.{opening}

@@ -1,10 +1,10 @@
 -- What contracts see of the accounts.
 use Rattle.std.specs.Prelude.{◌≡◌, ℕ, suc, nat_le, ℤ, pos, neg_ℤ, ◌+ℤ◌, ◌≤ℤ◌, ◌*◌, Bool, true, false, not, ◌&&◌, length}
-use Rattle.std.specs.Prelude.{if◌then◌else◌, Option, None, Some, List, [], ◌∷◌, map, refl}
+use Rattle.std.specs.Prelude.{if◌then◌else◌, Option, None, Some, List, [], ◌∷◌, map, refl, slice_index_or}
 use Rattle.std.specs.List.{list_any, list_all}
 use Rattle.std.specs.FinMap as finmap
 use Rattle.std.specs.FinMap.{FinMap, from_entries, find}
-use Rattle.std.specs.Coded.{Coded, code_by, coded×, coded_ℕ}
+use Rattle.std.specs.Coded.{Coded, code_by, coded×, coded_ℕ, coded_list}
 use Rattle.xa_base.specs.declared.limits.TheConstants.{MOST_KEYS, MOST_VALUE}
 use Rattle.xa_words.specs.Xid.{XidName, xid_cmp, xid_eq}
 use Rattle.xa_words.specs.Orders.{key_cmp}
@@ -14,17 +14,24 @@ use Rattle.xa_tables.specs.declared.accounts.Hold.{Hold}
 use Rattle.xa_tables.specs.declared.state.State.{State}
 use Rattle.xa_tables.specs.Tables.{is_S3, is_within, Touch, touch_cmp, sums_code, values_code}
 
--- the sums of the branches, the committed values, and how many additions were made
+-- the sums of the branches, the committed values, how many additions were made, and the keys, each at its place
 pub record Holdings : Type 0 where
   pub sums : FinMap touch_cmp ℤ
   pub values : FinMap key_cmp ℤ
   pub adds : ℕ
+  pub keys : List (List ℕ)
 
 -- the holdings as data
 abbrev pub holdings_code : Coded Holdings
 holdings_code =
-    code_by (FinMap touch_cmp ℤ × (FinMap key_cmp ℤ × ℕ)) (coded× sums_code (coded× values_code coded_ℕ))
-    (λ h. (h.sums, (h.values, h.adds))) (λ p. record { sums = p.0; values = p.1.0; adds = p.1.1 }) (λ _. refl)
+    code_by (FinMap touch_cmp ℤ × (FinMap key_cmp ℤ × (ℕ × List (List ℕ))))
+    (coded× sums_code (coded× values_code (coded× coded_ℕ (coded_list (coded_list coded_ℕ)))))
+    (λ h. (h.sums, (h.values, (h.adds, h.keys))))
+    (λ p. record { sums = p.0; values = p.1.0; adds = p.1.1.0; keys = p.1.1.1 }) (λ _. refl)
+
+-- the key at a place
+abbrev pub key_at : Holdings → ℕ → List ℕ
+key_at h place = slice_index_or h.keys place []
 
 -- an entry for the hold of the account with the key k, if there is one
 abbrev pub with_hold : List ℕ → Option Hold → List (Touch × ℤ) → List (Touch × ℤ)
@@ -41,10 +48,18 @@ abbrev pub value_entries : List Account → List (List ℕ × ℤ)
 value_entries [] = []
 value_entries (a ∷ rest) = (a.key, a.value) ∷ value_entries rest
 
+-- the keys of the accounts
+abbrev pub keys_of : List Account → List (List ℕ)
+keys_of accounts = map (λ a. a.key) accounts
+
 -- what the accounts hold, after this many additions
 abbrev pub holdings_of : List Account → ℕ → Holdings
-holdings_of accounts adds =
-    record { sums = from_entries (hold_entries accounts); values = from_entries (value_entries accounts); adds = adds }
+holdings_of accounts adds = record {
+  sums = from_entries (hold_entries accounts);
+  values = from_entries (value_entries accounts);
+  adds = adds;
+  keys = keys_of accounts;
+}
 
 -- the hold is that of x
 abbrev pub hold_is_of : Option Hold → XidName → Bool

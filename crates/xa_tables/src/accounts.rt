@@ -1,6 +1,6 @@
 //! The declared keys: their committed values, and what branches have added.
 ghost use Rattle.std.specs.Prelude.{◌≡◌, ◌≢◌, ◌+◌, ◌<◌, ◌≤◌, ◌^◌, ◌+ℤ◌, ◌≤ℤ◌, Bool, IfOk, IfSome, is_some, true, false};
-ghost use Rattle.std.specs.Prelude.{option_map, map, filter, nat_le, pos, vec_len, vec_capacity};
+ghost use Rattle.std.specs.Prelude.{option_map, map, filter, length, nat_le, pos, vec_len, vec_capacity};
 ghost use Rattle.std.specs.List.{list_any, list_all};
 ghost use Rattle.std.specs.Fn.{FnReturnsAt};
 ghost use Rattle.std.specs.FinMap as finmap;
@@ -8,7 +8,7 @@ ghost use Rattle.xa_words.specs.Delta.{IsDelta};
 ghost use Rattle.xa_words.specs.Key.{key_eq};
 ghost use Rattle.xa_words.specs.Xid.{XidName};
 ghost use Rattle.xa_tables.specs.Accounts.{are_accounts, are_apart, declared_values, is_held_by, is_held_by_other};
-ghost use Rattle.xa_tables.specs.Accounts.{is_broken_by, IsGood, added_to, posted_by, kept_where};
+ghost use Rattle.xa_tables.specs.Accounts.{is_broken_by, IsGood, added_to, posted_by, kept_where, key_at};
 ghost use Rattle.xa_tables.specs.Held.{AreHeld, is_held, is_held_at, noted};
 ghost use Rattle.xa_tables.specs.Tables.{is_within, sum_of, has_touched, has_other_touched, is_broken, posted};
 ghost use Rattle.xa_tables.specs.Tables.{sums_without, is_S3};
@@ -98,11 +98,14 @@ impl Accounts {
         Some(committed(&self.accounts[place]))
     }
 
-    /// Whether the key was declared.
-    pub(crate) fn is_declared(&self, key: &Key) -> bool
-        ensures { result ≡ is_some (finmap.get self.now.values key.now) }
+    /// Where a key stands, and `None` where it isn't declared.
+    #[inline(always)]
+    pub(crate) fn place_of(&self, key: &Key) -> Option<usize>
+        ensures declared { is_some result ≡ is_some (finmap.get self.now.values key.now) }
+        ensures within { IfSome result (λ place. place < length self.now.keys) }
+        ensures placed { IfSome result (λ place. key_at self.now place ≡ key.now) }
     {
-        self.places.get(key).is_some()
+        self.places.get(key)
     }
 
     /// Whether the branch has touched a key.
@@ -114,14 +117,13 @@ impl Accounts {
         })
     }
 
-    /// Whether another branch than this has touched the key.
-    pub(crate) fn has_other_touched(&self, xid: &Xid, key: &Key) -> bool
-        ensures { result ≡ has_other_touched self.now.sums xid.now key.now }
+    /// Whether another branch than this has touched the key at a place.
+    #[inline(always)]
+    pub(crate) fn has_other_touched(&self, xid: &Xid, place: usize) -> bool
+        requires { place < length self.now.keys }
+        ensures { result ≡ has_other_touched self.now.sums xid.now (key_at self.now place) }
     {
-        match self.places.get(key) {
-            Some(place) => is_held_by_other(&self.accounts[place], xid),
-            None => false,
-        }
+        is_held_by_other(&self.accounts[place], xid)
     }
 
     /// Whether the branch would take a value out of the limits.
@@ -133,18 +135,19 @@ impl Accounts {
         })
     }
 
-    /// Adds to the branch's sum at the key.
-    pub(crate) fn add(&mut self, xid: Xid, key: Key, delta: Delta)
-        requires declared { is_some (finmap.get self.old.values key) ≡ true }
-        requires alone { has_other_touched self.old.sums xid key ≡ false }
+    /// Adds to the branch's sum at the key at a place.
+    #[inline(always)]
+    pub(crate) fn add(&mut self, xid: Xid, place: usize, delta: Delta)
+        requires within { place < length self.old.keys }
+        requires alone { has_other_touched self.old.sums xid (key_at self.old place) ≡ false }
         requires few { self.old.adds < 2 ^ 20 }
-        ensures sums { self.new.sums ≡ finmap.insert self.old.sums (xid, key) (sum_of self.old.sums xid key +ℤ delta) }
+        ensures sums { self.new.sums ≡ finmap.insert self.old.sums (xid, key_at self.old place)
+            (sum_of self.old.sums xid (key_at self.old place) +ℤ delta) }
         ensures values { self.new.values ≡ self.old.values }
         ensures adds { self.new.adds ≡ self.old.adds + 1 }
         ensures others { (y : XidName) → y ≢ xid → is_broken self.new.values self.new.sums y
             ≡ is_broken self.old.values self.old.sums y }
     {
-        let place = self.places.get(&key).unwrap();
         let account = &self.accounts[place];
         note(&mut self.held, account, place);
         self.accounts[place] = with_added(account, self.adds, xid, delta);

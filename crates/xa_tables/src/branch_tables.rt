@@ -228,20 +228,20 @@ impl BranchTables {
         if association.state.is_suspended() {
             return Code::Proto;
         }
-        if !self.accounts.is_declared(&key) {
+        let Some(place) = self.accounts.place_of(&key) else {
             return Code::Inval;
-        }
+        };
         if let Some(State::RollbackOnly(reason)) = self.branches.get(&association.xid) {
             return reason.code();
         }
-        if self.accounts.has_other_touched(&association.xid, &key) {
+        if self.accounts.has_other_touched(&association.xid, place) {
             self.branches.put(
                 association.xid,
                 State::RollbackOnly(RollbackReason::Transient),
             );
             return Code::RbTransient;
         }
-        self.accounts.add(association.xid, key, delta);
+        self.accounts.add(association.xid, place, delta);
         Code::Done
     }
 

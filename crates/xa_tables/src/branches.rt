@@ -42,6 +42,7 @@ impl Branches {
     }
 
     /// The state of a branch, and `None` where it doesn't exist.
+    #[inline(always)]
     pub(crate) fn get(&self, xid: &Xid) -> Option<State>
         ensures { result ≡ map.get self.now.states xid.now }
     {
@@ -49,6 +50,7 @@ impl Branches {
     }
 
     /// Puts a branch into a state, in memory that `new` reserved.
+    #[inline(always)]
     pub(crate) fn put(&mut self, xid: Xid, state: State)
         requires { 0 < self.old.spare }
         ensures state { self.new.states ≡ map.insert self.old.states xid state }
@@ -94,6 +96,7 @@ impl Branches {
     }
 
     /// The branch doesn't exist any more.
+    #[inline(always)]
     pub(crate) fn remove(&mut self, xid: &Xid)
         ensures state { self.new.states ≡ map.remove self.old.states xid.now }
         ensures room { self.old.spare ≤ self.new.spare }

@@ -96,6 +96,7 @@ impl Manager {
     }
 
     /// Carries out one request of a thread, and answers its code. It takes no memory.
+    #[inline(always)]
     pub fn apply(&mut self, thread: u32, op: &Op) -> Code
         requires thread { (1 ≤ thread) × (thread ≤ self.old.threads) }
         requires room { 0 < self.old.room }
@@ -159,6 +160,7 @@ impl Manager {
     }
 
     /// Whether a Shut was carried out; from then on every request answers XAER_RMFAIL.
+    #[inline(always)]
     pub fn is_shut(&self) -> bool
         ensures { result ≡ self.now.tables.shut }
     {
@@ -166,6 +168,7 @@ impl Manager {
     }
 
     /// How many more requests it can carry out.
+    #[inline(always)]
     pub fn room(&self) -> u32
         ensures { result ≡ self.now.room }
     {
@@ -175,6 +178,7 @@ impl Manager {
 
 // Carries out one request, unless the manager is shut.
 #[tactic(auto, unfolding(crate::specs::Next::next))]
+#[inline(always)]
 fn step(tables: &mut BranchTables, t: usize, op: &Op) -> Code
     requires first { 0 < t }
     requires last { t ≤ tables.old.threads }
@@ -193,6 +197,7 @@ fn step(tables: &mut BranchTables, t: usize, op: &Op) -> Code
 }
 
 // Whether a thread that hasn't opened may not ask it.
+#[inline(always)]
 fn needs_opening(op: &Op) -> bool
     ensures { result ≡ needs_opening op.now }
 {
@@ -210,6 +215,7 @@ fn needs_opening(op: &Op) -> bool
 }
 
 // A request that may be asked, by the rules of its group.
+#[inline(always)]
 fn step_by_rules(tables: &mut BranchTables, t: usize, op: &Op) -> Code
     requires first { 0 < t }
     requires last { t ≤ tables.old.threads }
@@ -239,6 +245,7 @@ fn step_by_rules(tables: &mut BranchTables, t: usize, op: &Op) -> Code
 }
 
 // A request to start work on a branch.
+#[inline(always)]
 fn start(tables: &mut BranchTables, t: usize, xid: &Xid, how: StartHow) -> Code
     requires first { 0 < t }
     requires last { t ≤ tables.old.threads }

@@ -27,6 +27,7 @@ impl Model for Places {
 
 impl Places {
     /// No key, and room for this many.
+    #[inline(always)]
     pub(crate) fn new(alloc: Global, room: usize) -> Result<Places, AllocError>
         ensures empty { IfOk result (λ p. p.places ≡ map.empty) }
         ensures room { IfOk result (λ p. room ≤ p.spare) }
@@ -37,6 +38,7 @@ impl Places {
     }
 
     /// The place of a key, and `None` where it has none.
+    #[inline(always)]
     pub(crate) fn get(&self, key: &Key) -> Option<usize>
         ensures { result ≡ map.get self.now.places key.now }
     {
@@ -44,6 +46,7 @@ impl Places {
     }
 
     /// Puts a key at a place, in memory that `new` reserved.
+    #[inline(always)]
     pub(crate) fn put(&mut self, key: Key, place: usize)
         requires { 0 < self.old.spare }
         ensures places { self.new.places ≡ map.insert self.old.places key place }

@@ -76,6 +76,7 @@ impl Threads {
     }
 
     /// Whether the thread has the manager open.
+    #[inline(always)]
     pub(crate) fn has_opened(&self, thread: usize) -> bool
         requires first { 0 < thread }
         requires last { thread ≤ self.now.threads }
@@ -85,6 +86,7 @@ impl Threads {
     }
 
     /// From now on the thread has the manager open, or hasn't.
+    #[inline(always)]
     pub(crate) fn set_open(&mut self, thread: usize, is_open: bool)
         requires first { 0 < thread }
         requires last { thread ≤ self.old.threads }
@@ -97,6 +99,7 @@ impl Threads {
     }
 
     /// The thread's association, if it has one.
+    #[inline(always)]
     pub(crate) fn association(&self, thread: usize) -> Option<Association>
         requires first { 0 < thread }
         requires last { thread ≤ self.now.threads }
@@ -106,6 +109,7 @@ impl Threads {
     }
 
     /// Gives the thread this association, or none, in place of any that it has.
+    #[inline(always)]
     pub(crate) fn associate(&mut self, thread: usize, association: Option<Association>)
         requires first { 0 < thread }
         requires last { thread ≤ self.old.threads }
@@ -117,6 +121,7 @@ impl Threads {
     }
 
     /// Whether a thread is associated with the branch, be it suspended or not.
+    #[inline(always)]
     pub(crate) fn is_somebody_associated(&self, xid: &Xid) -> bool
         ensures { result ≡ is_somebody_associated self.now.associations xid.now }
     {
@@ -124,12 +129,14 @@ impl Threads {
     }
 }
 
+#[inline(always)]
 fn any_with(threads: &[Thread], xid: &Xid) -> bool
     ensures { result ≡ list_any (λ t. is_thread_with t xid.now) threads.now }
 {
     threads.iter().any(|thread| is_with(thread, xid))
 }
 
+#[inline(always)]
 fn is_with(thread: &Thread, xid: &Xid) -> bool
     ensures { result ≡ is_thread_with thread.now xid.now }
 {

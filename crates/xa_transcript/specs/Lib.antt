@@ -1,4 +1,5 @@
 pub mod Ended
+pub mod Lines
 pub mod Text
 pub mod Transcript
 pub mod Values

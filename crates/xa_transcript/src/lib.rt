@@ -8,6 +8,7 @@
 
 mod answer;
 mod ended;
+mod lines;
 mod text;
 mod transcript;
 mod values;

@@ -3,6 +3,7 @@ ghost use Rattle.std.specs.Prelude.{◌≡◌, ◌++◌, ◌∷◌, [], IfOk, On
 ghost use Rattle.xa_transcript.specs.Text.{lines_text};
 
 use crate::answer::Told;
+use crate::lines::Lines;
 use crate::text::put_line;
 use http_server::Log;
 use std::alloc::{AllocError, Global};
@@ -14,15 +15,13 @@ pub const LINE: usize = 16;
 /// What was told so far. Only its text is kept; contracts see the lines.
 #[derive(Drop)]
 pub struct Transcript {
-    text: Vec<u8>,
-    // Where a line is put together, so that the text has whole lines.
-    line: Vec<u8>,
+    text: Lines,
     // What the lines tell. They have no bytes: only proofs read them.
     told: Log<Told, ()>,
 }
 
 impl Model for Transcript {
-    ghost use Rattle.std.specs.Prelude.{◌≡◌, List, map};
+    ghost use Rattle.std.specs.Prelude.{◌≡◌, List, [], map};
     ghost use Rattle.xa_transcript.specs.declared.answer.Told.{Told};
     ghost use Rattle.xa_transcript.specs.Text.{lines_text};
 
@@ -30,7 +29,7 @@ impl Model for Transcript {
 
     ghost view = { λ t. map (λ x. x.0) t.told.items };
 
-    ghost invariant = { λ t. t.text.items ≡ lines_text (map (λ x. x.0) t.told.items) };
+    ghost invariant = { λ t. (t.text.whole ≡ lines_text (map (λ x. x.0) t.told.items)) × (t.text.line ≡ []) };
 }
 
 impl Transcript {
@@ -39,8 +38,7 @@ impl Transcript {
         ensures { IfOk result (λ t. t ≡ []) }
     {
         Ok(Transcript {
-            text: Vec::with_capacity(alloc, lines.saturating_mul(LINE))?,
-            line: Vec::new(alloc),
+            text: Lines::with_capacity(alloc, lines.saturating_mul(LINE))?,
             told: Log::new(),
         })
     }
@@ -50,9 +48,11 @@ impl Transcript {
         ensures told { OnOk result (self.new ≡ self.old ++ told ∷ []) }
         ensures same { OnErr result (self.new ≡ self.old) }
     {
-        self.line.clear();
-        put_line(&mut self.line, &told)?;
-        self.text.extend_from_slice(&self.line)?;
+        if put_line(&mut self.text, &told).is_err() {
+            self.text.drop_line();
+            return Err(AllocError);
+        }
+        self.text.end_line();
         self.told = self.told.and(&told, &());
         Ok(())
     }
@@ -61,6 +61,6 @@ impl Transcript {
     pub fn text(&self) -> &[u8]
         ensures { result.now ≡ lines_text self.now }
     {
-        &self.text
+        self.text.whole()
     }
 }

@@ -3,6 +3,7 @@ ghost use Rattle.std.specs.Prelude.{◌≡◌, ◌++◌, OnOk, IfOk, IsErrOf};
 ghost use Rattle.std.specs.Io.KnownBytes.{Appends};
 ghost use Rattle.xa_transcript.specs.Transcript.{value_text, values_text};
 
+use crate::lines::Lines;
 use crate::text::put_number;
 use std::alloc::{AllocError, Global};
 use std::io::Write;
@@ -28,26 +29,28 @@ impl From<AllocError> for RunFault {
     }
 }
 
-fn put_value(out: &mut Vec<u8>, value: &Declared) -> Result<(), AllocError>
-    ensures { OnOk result (out.new.items ≡ out.old.items ++ value_text value.now) }
+fn put_value(out: &mut Lines, value: &Declared) -> Result<(), AllocError>
+    ensures line { OnOk result (out.new.line ≡ out.old.line ++ value_text value.now) }
+    ensures whole { out.new.whole ≡ out.old.whole }
 {
-    out.extend_from_slice(b"value ")?;
+    out.extend(b"value ")?;
     put_number(out, value.manager)?;
-    out.extend_from_slice(b" ")?;
-    out.extend_from_slice(value.key.as_bytes())?;
-    out.extend_from_slice(b" ")?;
+    out.push(b' ')?;
+    out.extend(value.key.as_bytes())?;
+    out.push(b' ')?;
     put_number(out, value.value)?;
-    out.extend_from_slice(b"\n")
+    out.push(b'\n')
 }
 
 // The lines of the values.
-fn values_text(alloc: Global, values: &[Declared]) -> Result<Vec<u8>, AllocError>
-    ensures { IfOk result (λ v. v.items ≡ values_text values.now) }
+fn values_text(alloc: Global, values: &[Declared]) -> Result<Lines, AllocError>
+    ensures { IfOk result (λ l. l.whole ≡ values_text values.now) }
 {
-    let mut text = Vec::new(alloc);
+    let mut text = Lines::with_capacity(alloc, 0)?;
     for value in values {
         put_value(&mut text, value)?;
     }
+    text.end_line();
     Ok(text)
 }
 
@@ -66,5 +69,5 @@ pub fn write_transcript<W: Write>(
 {
     let last = values_text(alloc, values)?;
     writer.write_all(lines).map_err(|_| RunFault::Write)?;
-    writer.write_all(&last).map_err(|_| RunFault::Write)
+    writer.write_all(last.whole()).map_err(|_| RunFault::Write)
 }

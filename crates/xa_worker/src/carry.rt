@@ -13,6 +13,7 @@ use xa_words::{Code, Completion, Op, Request, RmOp, Xid};
 // Enters a request with its code.
 //
 // It names the types within a request: a `push` of a type that only contains them gets no proof.
+#[inline(always)]
 fn enter(journal: &mut Vec<(Request, Code)>, request: &Request, code: Code)
     requires { vec_len journal.old < vec_capacity journal.old }
     ensures entry { journal.new.items ≡ journal.old.items ++ entry request.now code ∷ [] }
@@ -23,6 +24,7 @@ fn enter(journal: &mut Vec<(Request, Code)>, request: &Request, code: Code)
 }
 
 // Carries a request out at the manager, enters it with its code, and then sends its completion.
+#[inline(always)]
 pub(crate) fn carry_out<R: Wait>(
     rt: &R,
     number: u32,

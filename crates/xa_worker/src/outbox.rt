@@ -31,6 +31,7 @@ impl Model for Outbox {
 }
 
 // Offers a completion to the lane at a place: whether it was sent.
+#[inline(always)]
 fn offer_at<R: Wait>(
     rt: &R,
     senders: &mut Vec<Sender<Completion>>,
@@ -73,6 +74,7 @@ impl Outbox {
     }
 
     /// Sends a completion, or keeps it where its lane is full.
+    #[inline(always)]
     pub(crate) fn put<R: Wait>(&mut self, rt: &R, place: usize, completion: Completion)
         requires place { place < length self.old.senders }
         requires nothing { self.old.waiting ≡ None }
@@ -84,6 +86,7 @@ impl Outbox {
     }
 
     /// Offers the completion that waits once more. False where its lane is still full.
+    #[inline(always)]
     pub(crate) fn flush<R: Wait>(&mut self, rt: &R) -> bool
         ensures flushed { MatchBool result (self.new ≡ flushed self.old) (StillFull self.old self.new) }
         ensures put { (k : ℕ) → put_to k self.new ≡ put_to k self.old }

@@ -15,6 +15,7 @@ use xa_words::{Op, Request};
 
 impl Book {
     /// Sends the next request to the manager, unless the lane to it is full.
+    #[inline(always)]
     pub(crate) fn offer<R: Wait>(&mut self, rt: &R, manager: u32, op: &Op) -> Option<Operation>
         requires known { IsKnown self.old.ledgers manager }
         requires lanes { length self.old.requests ≡ length self.old.ledgers }
@@ -39,6 +40,7 @@ impl Book {
     }
 
     /// Takes from the lane of completions once. False where nothing stood there.
+    #[inline(always)]
     pub(crate) fn draw<R: Wait>(&mut self, rt: &R) -> bool
         ensures drawn { IsTrue result → (taken : Taken Completion) × Draws self.old taken self.new }
         ensures quiet { result ≡ false → Draws self.old Empty self.new }

@@ -13,6 +13,7 @@ pub(crate) struct Asked {
 }
 
 /// What an XA call asks for, where its flags suit it and it has an xid if it needs one.
+#[inline(always)]
 pub(crate) fn asked_of(call: Call, xid: Option<Xid>, flags: u32) -> Result<Asked, Code>
     ensures { result ≡ asked_of call xid flags }
 {
@@ -34,6 +35,7 @@ pub(crate) fn asked_of(call: Call, xid: Option<Xid>, flags: u32) -> Result<Asked
     })
 }
 
+#[inline(always)]
 fn rm_op(op: RmOp) -> Op
     ensures { result ≡ rm_op op }
 {
@@ -45,6 +47,7 @@ fn rm_op(op: RmOp) -> Op
 }
 
 /// What a call outside XA asks for, which takes no other flag than `TMASYNC`.
+#[inline(always)]
 pub(crate) fn native_of(op: RmOp, flags: u32) -> Result<Asked, Code>
     ensures { result ≡ native op flags }
 {

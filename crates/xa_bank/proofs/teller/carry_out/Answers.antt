@@ -1,18 +1,21 @@
 use Rattle.std.specs.Prelude.{IfOk, Result}
-use Rattle.std.proofs.Common.{◌≡◌, ℕ, [], ◌∷◌, List, None, Option, Some, subst, sym}
+use Rattle.std.proofs.Common.{◌≡◌, ℕ, Bool, [], ◌∷◌, List, None, Option, Some, subst, sym}
 use Rattle.std.specs.declared.alloc.AllocError.{AllocError}
 use Rattle.std.proofs.lemmas.Result.{IfOk-weaker}
+use Rattle.xa_words.specs.Tran.{TranName}
 use Rattle.xa_words.specs.declared.death.Death.{Death}
 use Rattle.xa_desk.specs.DeskView.{DeskView}
 use Rattle.xa_driver.specs.declared.branch.Branch.{Branch}
-use Rattle.xa_log.specs.Log.{LogState}
+use Rattle.xa_log.specs.Log.{IsReadAs, LogState}
 use Rattle.xa_work.specs.declared.unit.Change.{Change}
 use Rattle.xa_work.specs.declared.unit.WorkOutcome.{WorkOutcome}
-use Rattle.xa_work.specs.Units.{IsRefused, Transacts}
+use Rattle.xa_work.specs.Units.{IfLost, IsRefused, LeavesKnown, Loses, Transacts}
 use Rattle.xa_work.specs.Units.IsRefused.{barred, unbegun, undone}
 use Rattle.xa_work.specs.Units.Transacts.{commits, refused}
 use Rattle.xa_bank.specs.declared.teller.Leg.{Leg}
-use Rattle.xa_bank.specs.Transfers.{Transfers, branches_of, changes_of}
+use Rattle.xa_bank.specs.Transfers.{IsReadEither, Transfers, branches_of, changes_of}
+use Rattle.xa_bank.proofs.LostRecords.{lost_so}
+use Rattle.xa_bank.proofs.Results.{ok_each}
 use Rattle.xa_bank.proofs.teller.carry_out.Goals as goal
 
 -- ---- where the log is known
@@ -50,3 +53,22 @@ returns-in-Some-clause-carried g c =
     let some : c.args.death ≡ Some c.in-Some.at = cc in
     transfers_known (g.L.DecisionRecords.knows c.args.log.now) c.requires c.args.one.now c.args.two.now c.args.account _ c.args.death (Some c.in-Some.at) c.transact_until.result c.args.desk.now
     c.transact_until.new.desk _ _ (λ i. c.change.ensures i ∷ c.change-2.ensures i ∷ []) some c.transact_until.ensures.transacts
+
+-- ---- what a log that has lost the record may be read as
+
+read_so : {L : Type 0} (state : L → LogState) (knows : L → Type 0) (loses : TranName → List Bool → L → L → Type 0) (bs : List Branch) (old new : L)
+    (r : Result WorkOutcome AllocError) → knows old → IfOk r (λ o. knows old → LeavesKnown (knows new) o) → IfOk r (IfLost (Loses loses bs old new))
+    → IfOk r (IsReadEither (IsReadAs state knows loses new) bs (state old))
+read_so state knows loses bs old new r was known lost =
+    ok_each (λ o. knows old → LeavesKnown (knows new) o) (IfLost (Loses loses bs old new)) (IsReadEither (IsReadAs state knows loses new) bs (state old)) r
+    (λ o still lost_. lost_so state knows loses bs old new o lost_ (still was)) known lost
+
+pub returns-in-None-clause-read : goal.returns-in-None-clause-read
+returns-in-None-clause-read g c =
+    read_so g.L.DecisionLog.state g.L.DecisionRecords.knows g.L.DecisionLog.loses (branches_of c.args.one.now c.args.two.now) c.args.log.now c.transact.new.log c.transact.result c.requires
+    c.transact.ensures.known c.transact.ensures.lost
+
+pub returns-in-Some-clause-read : goal.returns-in-Some-clause-read
+returns-in-Some-clause-read g c =
+    read_so g.L.DecisionLog.state g.L.DecisionRecords.knows g.L.DecisionLog.loses (branches_of c.args.one.now c.args.two.now) c.args.log.now c.transact_until.new.log c.transact_until.result c.requires
+    c.transact_until.ensures.known c.transact_until.ensures.lost

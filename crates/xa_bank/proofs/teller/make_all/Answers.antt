@@ -6,7 +6,7 @@ use Rattle.std.proofs.lemmas.List.Folds.{list_any-append}
 use Rattle.xa_base.proofs.Lists.{one_more}
 use Rattle.xa_desk.specs.DeskView.{DeskView}
 use Rattle.xa_desk.specs.Seats.{DeskSeat}
-use Rattle.xa_log.specs.Log.{LogState}
+use Rattle.xa_log.specs.Log.{IsReadAs, LogState}
 use Rattle.xa_work.specs.declared.unit.WorkOutcome.{WorkOutcome}
 use Rattle.xa_work.specs.declared.unit.WorkOutcome.TheVariants.{Decided, Died, Refused, Undecided}
 use Rattle.xa_work.specs.Sent.{IsOpenRm}
@@ -21,19 +21,20 @@ use Rattle.xa_bank.specs.Numbered.{death_in, death_if_at}
 use Rattle.xa_bank.specs.Tellers.{ended, lived, unknown}
 use Rattle.xa_bank.specs.Transfers.{Makes, MakesEach, MakesNext, with_legs, without_legs}
 use Rattle.xa_bank.proofs.Named.{makes_more, makes_none}
+use Rattle.xa_bank.proofs.LostRecords.{each_any}
 use Rattle.xa_bank.proofs.teller.make_all.Goals as goal
 
 -- a transfer more, where others may follow that aren't made
-one_made : (t place : ℕ) (habits : Habits) (trs : List Transfer) (tr : Transfer) (unmade : List Transfer) (more : List WorkOutcome) (o : WorkOutcome) (u : ℕ) (old mid new : DeskView) (log now later : LogState)
+one_made : (R : LogState → Type 0) (t place : ℕ) (habits : Habits) (trs : List Transfer) (tr : Transfer) (unmade : List Transfer) (more : List WorkOutcome) (o : WorkOutcome) (u : ℕ) (old mid new : DeskView) (log now later : LogState)
     → place < length trs → length more ≡ place → u ≡ t
-    → MakesEach t habits habits.first (take place trs) more old mid log now → MakesNext u (habits.first + place) tr habits o mid new now later
-    → MakesEach t habits habits.first (take place trs ++ tr ∷ unmade) (more ++ o ∷ []) old new log later
-one_made t place habits trs tr unmade more o u old mid new log now later below many same makes made =
+    → MakesEach t habits habits.first (take place trs) more old mid log now R → MakesNext u (habits.first + place) tr habits o mid new now later R
+    → MakesEach t habits habits.first (take place trs ++ tr ∷ unmade) (more ++ o ∷ []) old new log later R
+one_made R t place habits trs tr unmade more o u old mid new log now later below many same makes made =
     let size = length-take place trs in
     let number : habits.first + place ≡ habits.first + length (take place trs) = omega (arith, size, below) in
-    let its : MakesNext t (habits.first + place) tr habits o mid new now later =
-    subst (λ k. MakesNext k (habits.first + place) tr habits o mid new now later) same made in
-    makes_more t habits habits.first (take place trs) more tr unmade o old mid new log now later (omega (arith, many, size, below)) makes (subst (λ n. MakesNext t n tr habits o mid new now later) number its)
+    let its : MakesNext t (habits.first + place) tr habits o mid new now later R =
+    subst (λ k. MakesNext k (habits.first + place) tr habits o mid new now later R) same made in
+    makes_more R t habits habits.first (take place trs) more tr unmade o old mid new log now later (omega (arith, many, size, below)) makes (subst (λ n. MakesNext t n tr habits o mid new now later R) number its)
 
 still_none : (more : List WorkOutcome) (o : WorkOutcome) → list_any is_last more ≡ false → is_last o ≡ false
     → list_any is_last (more ++ o ∷ []) ≡ false
@@ -57,7 +58,7 @@ returns-then-not-is_known-clause-made g c = record {
   makes = record {
     opened = c.args.desk.now;
     opens = have_none IsOpenRm c.args.desk.now.ledgers c.args.desk.now.ledgers refl;
-    makes = makes_none c.args.desk.now.thread c.args.habits.now c.args.habits.now.first c.args.transfers.now c.args.desk.now (g.L.DecisionLog.state c.args.log.now);
+    makes = makes_none (IsReadAs g.L.DecisionLog.state g.L.DecisionRecords.knows g.L.DecisionLog.loses c.args.log.now) c.args.desk.now.thread c.args.habits.now c.args.habits.now.first c.args.transfers.now c.args.desk.now (g.L.DecisionLog.state c.args.log.now);
   };
   comes = unknown (λ known. let yes_ : c.is_known.result ≡ true = c.is_known.ensures.1 known in let no : c.is_known.result ≡ false = c.if-not-is_known.true in cc) refl;
 }
@@ -74,7 +75,7 @@ loop-place-init g c = record {
     sym (append-nil c.args.outcomes.now.items),
     refl,
     refl,
-    makes_none c.args.desk.now.thread c.args.habits.now c.args.habits.now.first (take 0 c.args.transfers.now) c.open_all.new.desk (g.L.DecisionLog.state c.args.log.now),
+    makes_none (IsReadAs g.L.DecisionLog.state g.L.DecisionRecords.knows g.L.DecisionLog.loses c.args.log.now) c.args.desk.now.thread c.args.habits.now c.args.habits.now.first (take 0 c.args.transfers.now) c.open_all.new.desk (g.L.DecisionLog.state c.args.log.now),
   );
 }
 
@@ -91,9 +92,11 @@ loop-place-preserved g c =
     let habits : Habits = c.args.habits.now in
     let log : LogState = g.L.DecisionLog.state c.args.log.now in
     let later : LogState = g.L.DecisionLog.state c.make_next.new.log in
+    let reads : LogState → Type 0 = IsReadAs g.L.DecisionLog.state g.L.DecisionRecords.knows g.L.DecisionLog.loses c.make_next.new.log in
     let same : c.loop-place.desk.thread ≡ t = ap (λ (s : DeskSeat). s.thread) c.loop-place.invariant.goes_on.seat in
     let all =
-    one_made t place habits trs tr [] more o c.loop-place.desk.thread first c.loop-place.desk c.make_next.new.desk log (g.L.DecisionLog.state c.loop-place.log) later below many same makes c.in_ok-outcome.ensures.makes in
+    one_made reads t place habits trs tr [] more o c.loop-place.desk.thread first c.loop-place.desk c.make_next.new.desk log (g.L.DecisionLog.state c.loop-place.log) later below many same (each_any (IsReadAs g.L.DecisionLog.state g.L.DecisionRecords.knows g.L.DecisionLog.loses c.loop-place.log) reads t habits habits.first (take place trs) more first c.loop-place.desk log (g.L.DecisionLog.state c.loop-place.log) none makes)
+    c.in_ok-outcome.ensures.makes in
     let taken : take (place + 1) trs ≡ take place trs ++ tr ∷ [] = one_more trs place tr below c.index-transfers-place.is in
     let size : length (more ++ o ∷ []) ≡ length more + 1 = length-append more (o ∷ []) in
     let lives : is_last o ≡ false = sym c.is_last-last.ensures ∙ c.if-last.false in
@@ -108,7 +111,7 @@ loop-place-preserved g c =
         grown c.args.outcomes.now.items more o c.push.new.self.items c.loop-place.outcomes.items c.in_ok-push.ensures.items told,
         omega (arith, size, many),
         still_none more o none lives,
-        subst (λ (l : List Transfer). MakesEach t habits habits.first l (more ++ o ∷ []) first c.make_next.new.desk log later) (sym taken) all,
+        subst (λ (l : List Transfer). MakesEach t habits habits.first l (more ++ o ∷ []) first c.make_next.new.desk log later reads) (sym taken) all,
       );
     }
 
@@ -125,10 +128,12 @@ returns-then-last-clause-made g c =
     let habits : Habits = c.args.habits.now in
     let log : LogState = g.L.DecisionLog.state c.args.log.now in
     let later : LogState = g.L.DecisionLog.state c.make_next.new.log in
+    let reads : LogState → Type 0 = IsReadAs g.L.DecisionLog.state g.L.DecisionRecords.knows g.L.DecisionLog.loses c.make_next.new.log in
     let rest : List Transfer = drop (place + 1) trs in
     let same : c.loop-place.desk.thread ≡ t = ap (λ (s : DeskSeat). s.thread) c.loop-place.invariant.goes_on.seat in
     let all =
-    one_made t place habits trs tr rest more o c.loop-place.desk.thread first c.loop-place.desk c.make_next.new.desk log (g.L.DecisionLog.state c.loop-place.log) later below many same makes c.in_ok-outcome.ensures.makes in
+    one_made reads t place habits trs tr rest more o c.loop-place.desk.thread first c.loop-place.desk c.make_next.new.desk log (g.L.DecisionLog.state c.loop-place.log) later below many same (each_any (IsReadAs g.L.DecisionLog.state g.L.DecisionRecords.knows g.L.DecisionLog.loses c.loop-place.log) reads t habits habits.first (take place trs) more first c.loop-place.desk log (g.L.DecisionLog.state c.loop-place.log) none makes)
+    c.in_ok-outcome.ensures.makes in
     let taken : take (place + 1) trs ≡ take place trs ++ tr ∷ [] = one_more trs place tr below c.index-transfers-place.is in
     let parts : take place trs ++ tr ∷ rest ≡ trs =
     sym (append_assoc (take place trs) (tr ∷ []) rest) ∙ ap (λ l. l ++ rest) (sym taken) ∙ take-append-drop (place + 1) trs in
@@ -139,24 +144,24 @@ returns-then-last-clause-made g c =
       makes = record {
         opened = first;
         opens = c.open_all.ensures.sent;
-        makes = subst (λ (l : List Transfer). MakesEach t habits habits.first l (more ++ o ∷ []) first c.make_next.new.desk log later) parts all;
+        makes = subst (λ (l : List Transfer). MakesEach t habits habits.first l (more ++ o ∷ []) first c.make_next.new.desk log later reads) parts all;
       };
       comes = ended more o whole none (sym c.is_last-last.ensures ∙ c.if-last.true) c.in_ok-outcome.ensures.known;
     }
 
 -- a teller that isn't to die doesn't
-lives_on : (t n : ℕ) (tr : Transfer) (habits : Habits) (o : WorkOutcome) (old new : DeskView) (log later : LogState)
-    → Makes t n tr habits o old new log later → habits.death ≡ None → has_died o ≡ false
-lives_on t n tr habits o old new log later (with_legs one two left legs (commits worked begins known_ work (in_full done none is made)) kept) never =
+lives_on : {R : LogState → Type 0} (t n : ℕ) (tr : Transfer) (habits : Habits) (o : WorkOutcome) (old new : DeskView) (log later : LogState)
+    → Makes t n tr habits o old new log later R → habits.death ≡ None → has_died o ≡ false
+lives_on t n tr habits o old new log later (with_legs one two left legs (commits worked begins known_ work (in_full done none is made)) kept read) never =
     ap has_died is
-lives_on t n tr habits o old new log later (with_legs one two left legs (commits worked begins known_ work (cut_short at known some is dies)) kept) never =
+lives_on t n tr habits o old new log later (with_legs one two left legs (commits worked begins known_ work (cut_short at known some is dies)) kept read) never =
     let nowhere : death_in habits n ≡ None = ap (λ d. death_if_at d n) never in cc
-lives_on t n tr habits o old new log later (with_legs one two left legs (commits worked begins known_ work (undecided votes decides is may voted wanted)) kept) never =
+lives_on t n tr habits o old new log later (with_legs one two left legs (commits worked begins known_ work (undecided votes decides is may voted wanted)) kept read) never =
     ap has_died is
-lives_on t n tr habits o old new log later (with_legs one two left legs (refused same (unbegun is may none) sent) kept) never = ap has_died is
-lives_on t n tr habits o old new log later (with_legs one two left legs (refused same (undone tried is may known_ tries gives_up) sent) kept) never =
+lives_on t n tr habits o old new log later (with_legs one two left legs (refused same (unbegun is may none) sent) kept read) never = ap has_died is
+lives_on t n tr habits o old new log later (with_legs one two left legs (refused same (undone tried is may known_ tries gives_up) sent) kept read) never =
     ap has_died is
-lives_on t n tr habits o old new log later (with_legs one two left legs (refused same (barred tried is may known_ tries may_not gives_up) sent) kept) never =
+lives_on t n tr habits o old new log later (with_legs one two left legs (refused same (barred tried is may known_ tries may_not gives_up) sent) kept read) never =
     ap has_died is
 lives_on t n tr habits o old new log later (without_legs is none same unlogged) never = ap has_died is
 
@@ -184,7 +189,7 @@ returns-clause-made g c =
       makes = record {
         opened = c.open_all.new.desk;
         opens = c.open_all.ensures.sent;
-        makes = subst (λ (l : List Transfer). MakesEach c.args.desk.now.thread c.args.habits.now c.args.habits.now.first l more c.open_all.new.desk c.loop-place.desk (g.L.DecisionLog.state c.args.log.now) (g.L.DecisionLog.state c.loop-place.log)) (take_all c.loop-place.place trs (omega (arith, past))) makes;
+        makes = subst (λ (l : List Transfer). MakesEach c.args.desk.now.thread c.args.habits.now c.args.habits.now.first l more c.open_all.new.desk c.loop-place.desk (g.L.DecisionLog.state c.args.log.now) (g.L.DecisionLog.state c.loop-place.log) (IsReadAs g.L.DecisionLog.state g.L.DecisionRecords.knows g.L.DecisionLog.loses c.loop-place.log)) (take_all c.loop-place.place trs (omega (arith, past))) makes;
       };
       comes = lived none (let low = c.loop-place.invariant.each in omega (arith, past, many)) c.loop-place.invariant.knows;
     }

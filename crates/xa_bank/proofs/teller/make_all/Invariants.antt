@@ -2,6 +2,7 @@ use Rattle.std.proofs.Common.{◌≡◌, ◌+◌, false, List, ◌++◌, length,
 use Rattle.std.specs.List.{list_any}
 use Rattle.xa_desk.specs.GoesOn.{GoesOn}
 use Rattle.xa_desk.specs.Kept.{AllKept}
+use Rattle.xa_log.specs.Log.{IsReadAs}
 use Rattle.xa_work.specs.declared.unit.WorkOutcome.{WorkOutcome}
 use Rattle.xa_work.specs.Units.{is_last}
 use Rattle.xa_bank.specs.Transfers.{MakesEach}
@@ -17,5 +18,6 @@ invariant-loop-place g l = record {
   each : length l.outcomes.items ≡ length l.fn.outcomes.items + l.place;
   made : (more : List WorkOutcome)
       × (l.outcomes.items ≡ l.fn.outcomes.items ++ more) × (length more ≡ l.place) × (list_any is_last more ≡ false)
-      × MakesEach l.fn.desk.thread l.habits l.habits.first (take l.place l.transfers) more l.initial.desk l.desk (g.L.DecisionLog.state l.fn.log) (g.L.DecisionLog.state l.log);
+      × MakesEach l.fn.desk.thread l.habits l.habits.first (take l.place l.transfers) more l.initial.desk l.desk (g.L.DecisionLog.state l.fn.log) (g.L.DecisionLog.state l.log)
+      (IsReadAs g.L.DecisionLog.state g.L.DecisionRecords.knows g.L.DecisionLog.loses l.log);
 }

@@ -1,7 +1,11 @@
 use Rattle.std.proofs.Common.{ℕ, ◌<◌, ◌≤◌, get_or, length}
+use Rattle.std.specs.List.{All}
 use Rattle.xa_bank_days.specs.declared.days.Errands.{Errands}
 use Rattle.xa_bank_days.proofs.days.most.Given as goal
 
--- none of the first has more
+-- none of the first has more, and what none has more than is no less
 abbrev pub invariant-loop-errand : goal.invariant-loop-errand
-invariant-loop-errand l = (k : ℕ) (d : Errands) → k < l.errand-index → length (get_or l.errands k d).transfers.items ≤ l.most
+invariant-loop-errand l = record {
+  all : (k : ℕ) (d : Errands) → k < l.errand-index → length (get_or l.errands k d).transfers.items ≤ l.most;
+  least : (n : ℕ) → All (λ e. length e.transfers.items ≤ n) l.errands → l.most ≤ n;
+}

@@ -1,7 +1,10 @@
-use Rattle.std.proofs.Common.{◌≡◌, take}
+use Rattle.std.proofs.Common.{◌≡◌, [], take}
 use Rattle.xa_transcript.specs.Transcript.{values_text}
 use Rattle.xa_transcript.proofs.writing.values_text.Given as goal
 
 -- the first values are told
 abbrev pub invariant-loop-value : goal.invariant-loop-value
-invariant-loop-value l = l.text.items ≡ values_text (take l.value-index l.values)
+invariant-loop-value l = record {
+  line : l.text.line ≡ values_text (take l.value-index l.values);
+  whole : l.text.whole ≡ [];
+}

@@ -1,9 +1,9 @@
-use Rattle.std.proofs.Common.{ap, refl, arith, List, length, ◌∙◌}
+use Rattle.std.proofs.Common.{◌≡◌, Bool, true, false, ap, refl, sym, arith, List, length, ◌∙◌}
 use Rattle.std.proofs.lemmas.Result.{err_from_is_err_and}
 use Rattle.xa_bank_days.specs.declared.days.Errands.{Errands}
 use Rattle.xa_switch.specs.declared.plan.Again.{Again}
 use Rattle.xa_bank_days.specs.Kept.{next_numbers}
-use Rattle.xa_bank_days.proofs.DayWorked.{as_it_was, same_length, same_stores, worked_day}
+use Rattle.xa_bank_days.proofs.DayWorked.{leaves_bank, same_length, same_stores, worked_day}
 use Rattle.xa_bank_days.proofs.ManyDays.{if_some}
 use Rattle.xa_bank_days.proofs.days.Bank.keep_day.Goals as goal
 
@@ -15,6 +15,13 @@ work_day-requires-clause-tellers g c κs within =
     let d = c.next_numbers-day.ensures.threads in
     omega (arith, e, a, b, d)
 
+pub work_day-requires-clause-few : goal.work_day-requires-clause-few
+work_day-requires-clause-few g c κs within =
+    let e = same_length (λ t. t.transfers) (λ e. e.transfers) _ _ c.turn_all-tellers.ensures.transfers in
+    let a = ap (λ (l : List Errands). length l) c.deref.ensures.value in
+    let few = c.in-Some.ensures.few in
+    omega (arith, e, a, few)
+
 pub work_day-requires-clause-room : goal.work_day-requires-clause-room
 work_day-requires-clause-room g c κs within =
     let room = c.in-Ok.ensures.room in
@@ -25,7 +32,10 @@ work_day-requires-clause-room g c κs within =
     let paces = room.paces in
     let off = room.off_work in
     let outcomes = room.outcomes in
+    let found = room.found in
     record {
+      nothing = room.nothing;
+      found = omega (arith, found, e, a, b);
       paces = omega (arith, paces, stores);
       none = room.none;
       off_work = omega (arith, off, e, a, b);
@@ -33,15 +43,19 @@ work_day-requires-clause-room g c κs within =
       outcomes = omega (arith, outcomes, e, a, b);
     }
 
+-- a night doesn't follow where memory was wanted
+not_wanting : {A : Type 0} {b : Bool} → b ≡ true → b ≡ false → A
+not_wanting wants doesnt = let z : true ≡ false = sym wants ∙ doesnt in cc
+
 pub returns-then-wanting-clause-worked : goal.returns-then-wanting-clause-worked
 returns-then-wanting-clause-worked g c =
-    worked_day g.L.DecisionLog.state g.L.DecisionRecords.knows c.args.self _ c.args.errands.items _ _ c.turn_all-tellers.result.items c.in_ok-tellers.field-0 c.deref.ensures.value
-    c.turn_all-tellers.ensures c.in-Some.ensures.few c.in_ok-tellers.ensures.worked refl refl c.in-Some.ensures.later c.in-Some.ensures.next
+    worked_day g.L.DecisionLog.state g.L.DecisionRecords.knows g.L.DecisionLog.loses c.args.self _ c.args.errands.items _ _ c.turn_all-tellers.result.items c.in_ok-tellers.field-0 c.deref.ensures.value
+    c.turn_all-tellers.ensures c.in-Some.ensures.few c.in_ok-tellers.ensures.worked (λ _. refl) refl refl refl c.in-Some.ensures.later c.in-Some.ensures.next
 
 pub returns-in-Ok-run_night-clause-worked : goal.returns-in-Ok-run_night-clause-worked
 returns-in-Ok-run_night-clause-worked g c =
-    worked_day g.L.DecisionLog.state g.L.DecisionRecords.knows c.args.self _ c.args.errands.items _ _ c.turn_all-tellers.result.items c.in_ok-tellers.field-0 c.deref.ensures.value
-    c.turn_all-tellers.ensures c.in-Some.ensures.few c.in_ok-tellers.ensures.worked refl c.in-Ok-run_night.ensures.tellers c.in-Some.ensures.later c.in-Some.ensures.next
+    worked_day g.L.DecisionLog.state g.L.DecisionRecords.knows g.L.DecisionLog.loses c.args.self _ c.args.errands.items _ _ c.turn_all-tellers.result.items c.in_ok-tellers.field-0 c.deref.ensures.value
+    c.turn_all-tellers.ensures c.in-Some.ensures.few c.in_ok-tellers.ensures.worked (λ wanting. not_wanting wanting c.if-wanting.false) refl refl c.in-Ok-run_night.ensures.tellers c.in-Some.ensures.later c.in-Some.ensures.next
 
 pub returns-in-Ok-run_night-clause-kept : goal.returns-in-Ok-run_night-clause-kept
 returns-in-Ok-run_night-clause-kept g c =
@@ -51,8 +65,8 @@ returns-in-Ok-run_night-clause-kept g c =
     let many = c.in-Some.ensures.threads ∙ ap (λ (l : List Errands). length l) c.deref.ensures.value in
     if_some c.in-Ok-run_night.field-0.resolved (λ z n. record {
       is_worked =
-          worked_day g.L.DecisionLog.state g.L.DecisionRecords.knows c.args.self _ c.args.errands.items _ _ c.turn_all-tellers.result.items day c.deref.ensures.value
-          c.turn_all-tellers.ensures c.in-Some.ensures.few c.in_ok-tellers.ensures.worked refl c.in-Ok-run_night.ensures.tellers c.in-Some.ensures.later c.in-Some.ensures.next;
+          worked_day g.L.DecisionLog.state g.L.DecisionRecords.knows g.L.DecisionLog.loses c.args.self _ c.args.errands.items _ _ c.turn_all-tellers.result.items day c.deref.ensures.value
+          c.turn_all-tellers.ensures c.in-Some.ensures.few c.in_ok-tellers.ensures.worked (λ wanting. not_wanting wanting c.if-wanting.false) refl refl c.in-Ok-run_night.ensures.tellers c.in-Some.ensures.later c.in-Some.ensures.next;
       wants = c.if-wanting.false;
       numbers = c.next_numbers-night.ensures.numbers
           ∙ ap (λ (q : Again). next_numbers q 1) (c.next_numbers-day.ensures.numbers ∙ ap (next_numbers c.args.self.again) many);
@@ -65,5 +79,9 @@ returns-in-Ok-run_night-clause-kept g c =
 pub returns-in_err-tellers-clause-stopped : goal.returns-in_err-tellers-clause-stopped
 returns-in_err-tellers-clause-stopped g c =
     let p = err_from_is_err_and c.from_residual.result c.from_residual.ensures.1 in
-    let kept = as_it_was c.args.self _ c.in_err-tellers.ensures.unopened in
+    let kept =
+    leaves_bank g.L.DecisionLog.state g.L.DecisionRecords.knows g.L.DecisionLog.loses c.args.self c.args.errands.items _ c.in_err-tellers.ensures.stopped in
     rw (p.1, p.2) kept
+
+pub returns-in-Err-clause-stopped : goal.returns-in-Err-clause-stopped
+returns-in-Err-clause-stopped g c = (c.in_ok-tellers.field-0.settled, c.next_numbers-night.result, c.in-Err.ensures.unsettled)

@@ -5,6 +5,7 @@ use Rattle.xa_base.specs.declared.limits.TheConstants.{MOST_MANAGERS, MOST_REQUE
 use Rattle.xa_desk.specs.Parts.{carried}
 use Rattle.xa_desk.specs.Slots.{no_keys, logged}
 use Rattle.xa_desk.proofs.Begins.{books_from, keys_from, planned_from, length-carried, begun-new}
+use Rattle.xa_desk.proofs.Marked.{kept_none, ready_none}
 use Rattle.xa_desk.proofs.book.Book.assemble.Goals as goal
 
 pub invariant_of-result : goal.invariant_of-result
@@ -23,6 +24,8 @@ invariant_of-result c =
       limits = i.limits;
       ends = i.ends;
       ends_room = i.ends_room;
+      kept_marks = kept_none c.none.result p.handles p.kept.items c.none.ensures i.kept;
+      ready_marks = ready_none c.none-2.result p.handles p.kept.items (logged c.new-2.result.items) c.none-2.ensures i.kept;
     }
 
 pub returns : goal.returns

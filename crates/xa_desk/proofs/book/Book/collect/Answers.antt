@@ -66,6 +66,8 @@ invariant_of-self c =
       limits = rw (length-put_ledger at o.manager (with_collected (ledger at o.manager) o.number code)) i.limits;
       ends = i.ends;
       ends_room = i.ends_room;
+      kept_marks = i.kept_marks;
+      ready_marks = i.ready_marks;
     })
 
 pub returns-clause-fewer : goal.returns-clause-fewer

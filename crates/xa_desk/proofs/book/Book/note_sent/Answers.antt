@@ -98,6 +98,8 @@ invariant_of-self c =
       limits = rw (length-put_ledger at m (with_sent (ledger at m) c.args.op.now)) i.limits;
       ends = i.ends;
       ends_room = i.ends_room;
+      kept_marks = i.kept_marks;
+      ready_marks = i.ready_marks;
     })
 
 pub returns-clause-out : goal.returns-clause-out

@@ -8,14 +8,24 @@ use Rattle.xa_desk.specs.Looks.{first, other}
 use Rattle.xa_desk.specs.Slots.{logged}
 use Rattle.xa_desk.proofs.Books.{books_drained}
 use Rattle.xa_desk.proofs.Counts.{drained-lt-planned}
+use Rattle.xa_desk.proofs.Marked.{number_within, ready_drained}
 use Rattle.xa_desk.proofs.KeyRows.{keys_kept}
 use Rattle.xa_desk.proofs.book.Book.note_taken.Goals as goal
 use Rattle.xa_desk.proofs.book.Book.note_taken.Goals.{After-and-self-inside}
 
+pub mark_number-requires : goal.mark_number-requires
+mark_number-requires c =
+    let i = c.self.invariant in
+    let within =
+    number_within c.self.inside.ledgers.items c.self.inside.slots c.self.inside.kept.items (logged c.self.inside.drained.items) (operation_of c.args.completion) c.in-Some.number i.books c.in-Some.ensures.number in
+    let places = i.places in
+    let most = i.limits.handles in
+    omega arith
+
 pub overflow_add-self : goal.overflow_add-self
 overflow_add-self c =
     let i = c.self.invariant in
-    let e = c.enter_code.ensures.entered c.if-enter_code.true in
+    let e = c.in-Some.ensures.entered in
     let below =
     drained-lt-planned c.self.inside.ledgers.items c.self.inside.slots c.self.inside.kept.items (logged c.self.inside.drained.items) e.key e.slot i.books e.found e.waiting in
     let counted = i.drained in
@@ -25,12 +35,19 @@ overflow_add-self c =
 one_more : (c : After-and-self-inside) → logged c.and-self-inside.result.items ≡ logged c.self.inside.drained.items ++ c.args.completion ∷ []
 one_more c = ap logged c.and-self-inside.ensures ∙ map-append (λ p. p.0) c.self.inside.drained.items ((c.args.completion, tt) ∷ [])
 
+-- no completion was drained for the operation before
+fresh : (c : After-and-self-inside) → drained_code (operation_of c.args.completion) (logged c.self.inside.drained.items) ≡ None
+fresh c =
+    let e = c.in-Some.ensures.entered in
+    subst (λ (o : Operation). drained_code o (logged c.self.inside.drained.items) ≡ None) e.names (sym (c.self.invariant.books.coded e.key e.slot e.found) ∙ e.waiting)
+
 pub invariant_of-self : goal.invariant_of-self
 invariant_of-self c =
     let i = c.self.invariant in
-    let e = c.enter_code.ensures.entered c.if-enter_code.true in
+    let e = c.in-Some.ensures.entered in
     let counted = i.drained in
-    let more = one_more ((goal.at.invariant_of-self c).After-and-self-inside) in
+    let d = (goal.at.invariant_of-self c).After-and-self-inside in
+    let more = one_more d in
     record {
       books = rw more (books_drained c.self.inside.ledgers.items c.self.inside.slots c.enter_code.new.slots e.key e.slot c.self.inside.kept.items (logged c.self.inside.drained.items) c.args.completion i.books e.found e.waiting e.names e.updates e.len);
       keys = keys_kept c.self.inside.ledgers.items c.self.inside.rows.items c.self.inside.slots c.enter_code.new.slots e.key e.slot _ i.keys e.found refl e.updates;
@@ -42,22 +59,24 @@ invariant_of-self c =
       limits = i.limits;
       ends = i.ends;
       ends_room = i.ends_room;
+      kept_marks = i.kept_marks;
+      ready_marks = rw more (ready_drained c.self.inside.ledgers.items c.self.inside.slots c.self.inside.kept.items (logged c.self.inside.drained.items) c.args.completion c.in-Some.number c.self.inside.ready_marks c.mark_number.new.self i.books c.in-Some.ensures.number (fresh d) i.ready_marks c.mark_number.ensures.marked c.mark_number.ensures.others);
     }
 
-pub returns-then-enter_code : goal.returns-then-enter_code
-returns-then-enter_code c =
+pub returns-in-Some : goal.returns-in-Some
+returns-in-Some c =
     let b = c.self.invariant.books in
-    let e = c.enter_code.ensures.entered c.if-enter_code.true in
-    let more = one_more ((goal.at.returns-then-enter_code c).After-and-self-inside) in
+    let e = c.in-Some.ensures.entered in
+    let d = (goal.at.returns-in-Some c).After-and-self-inside in
     rw (← c.self.view_is) (first
-    (subst (λ (o : Operation). IsOut c.self.inside.ledgers.items o) e.names (b.slot_out e.key e.slot e.found))
-    (subst (λ (o : Operation). drained_code o (logged c.self.inside.drained.items) ≡ None) e.names (sym (b.coded e.key e.slot e.found) ∙ e.waiting))
-    (ap (λ (cs : List Completion). record (desk_of c.self.inside) { drained = cs }) more))
+    (subst (λ (o : Operation). IsOut c.self.inside.ledgers.items o) e.names (b.slot_out e.key e.slot e.found)) (fresh d)
+    (ap (λ (cs : List Completion). record (desk_of c.self.inside) { drained = cs }) (one_more d)))
 
-pub returns-else-enter_code : goal.returns-else-enter_code
-returns-else-enter_code c =
+pub returns-in_default : goal.returns-in_default
+returns-in_default c =
     let b = c.self.invariant.books in
+    let e = c.in_default.ensures in
     rw (← c.self.view_is) (other (λ out none.
     let h = b.out_slot (operation_of c.args.completion) out in
-    c.enter_code.ensures.known c.if-enter_code.false h.key h.slot h.found h.names
+    e.known h.key h.slot h.found h.names
     (b.coded h.key h.slot h.found ∙ ap (λ (o : Operation). drained_code o (logged c.self.inside.drained.items)) h.names ∙ none)) refl)

@@ -1,4 +1,4 @@
-use Rattle.std.proofs.Common.{◌-◌, Some, None, set, sym, ◌∙◌, refl, ap, arith}
+use Rattle.std.proofs.Common.{◌<◌, ◌-◌, Some, None, set, sym, ◌∙◌, refl, ap, arith}
 use Rattle.std.specs.Ordering.{nat_cmp}
 use Rattle.std.specs.FinMap as map
 use Rattle.std.proofs.lemmas.List.{length-set}
@@ -8,23 +8,24 @@ use Rattle.xa_desk.specs.Book.{desk_of}
 use Rattle.xa_desk.proofs.Books.{books_rehandled, rehandled, Rehandles}
 use Rattle.xa_desk.proofs.KeyRows.{keys_kept}
 use Rattle.xa_desk.proofs.KeptPlaces.{kept_place, KeptPlace, kept_handle, rehandles_release, kept_of-remove, loose_from_handle}
+use Rattle.xa_desk.proofs.Marked.{kept_set, ready_set}
 use Rattle.xa_desk.proofs.book.Book.release.Goals as goal
-use Rattle.xa_desk.proofs.book.Book.release.Goals.{In_ok-operation, After-enter_handle}
+use Rattle.xa_desk.proofs.book.Book.release.Goals.{In_ok-operation, After-clear-2}
 
 place : (c : In_ok-operation) → KeptPlace c.self.inside.kept.items c.args.number c.in_ok-operation.operation
 place c =
     let kept = sym c.kept_at.ensures.kept ∙ c.in_ok-operation.was in
     kept_place c.self.inside.kept.items c.args.number c.in_ok-operation.operation (rw (← c.self.view_is) at kept)
 
-pub enter_handle-requires-clause-there : goal.enter_handle-requires-clause-there
-enter_handle-requires-clause-there c =
-    let p = place ((goal.at.enter_handle-requires-clause-there c).In_ok-operation) in
+pub enter_handle-was_ready-requires-clause-there : goal.enter_handle-was_ready-requires-clause-there
+enter_handle-was_ready-requires-clause-there c =
+    let p = place ((goal.at.enter_handle-was_ready-requires-clause-there c).In_ok-operation) in
     let h = c.self.invariant.books.tabled (c.args.number - 1) c.in_ok-operation.operation p.there in
     record { key = h.key; slot = h.slot; found = h.found; names = h.names }
 
-pub overflow_sub-number : goal.overflow_sub-number
-overflow_sub-number c =
-    let p = place ((goal.at.overflow_sub-number c).In_ok-operation) in
+pub overflow_sub-place : goal.overflow_sub-place
+overflow_sub-place c =
+    let p = place ((goal.at.overflow_sub-place c).In_ok-operation) in
     let is = p.is in
     omega arith
 
@@ -35,26 +36,41 @@ index_mut-requires c =
     let same = c.self.inside.kept.ok.0 in
     omega arith
 
-books : (c : After-enter_handle)
-    → IsBooks c.self.inside.ledgers.items c.enter_handle.new.slots (set c.self.inside.kept.items (c.args.number - 1) None) (logged c.self.inside.drained.items)
+-- there are at most 32 places
+few : (c : In_ok-operation) → c.args.number - 1 < 32
+few c =
+    let within = (place c).within in
+    let places = c.self.invariant.places in
+    let most = c.self.invariant.limits.handles in
+    omega arith
+
+pub clear-requires : goal.clear-requires
+clear-requires c = let below = few ((goal.at.clear-requires c).In_ok-operation) in omega arith
+
+pub clear-requires-2 : goal.clear-requires-2
+clear-requires-2 c = let below = few ((goal.at.clear-requires-2 c).In_ok-operation) in omega arith
+
+books : (c : After-clear-2)
+    → IsBooks c.self.inside.ledgers.items c.enter_handle-was_ready.new.slots (set c.self.inside.kept.items (c.args.number - 1) None) (logged c.self.inside.drained.items)
 books c =
     let i = c.self.invariant in
-    let e = c.enter_handle.ensures in
+    let e = c.enter_handle-was_ready.ensures.entered in
     let p = place ((goal.at.returns-clause-freed c).In_ok-operation) in
     let p' : KeptPlace c.self.inside.kept.items c.args.number e.slot.operation = rw e.names p in
     let handle =
     kept_handle c.self.inside.ledgers.items c.self.inside.slots e.key e.slot c.self.inside.kept.items (logged c.self.inside.drained.items) i.books e.found c.args.number p' in
     let moves : Rehandles c.self.inside.kept.items (set c.self.inside.kept.items (c.args.number - 1) None) e.slot.handle 0 e.slot.operation =
     rw handle (rehandles_release c.self.inside.kept.items c.args.number e.slot.operation p') in
-    books_rehandled c.self.inside.ledgers.items c.self.inside.slots c.enter_handle.new.slots e.key e.slot 0 c.self.inside.kept.items (set c.self.inside.kept.items (c.args.number - 1) None) (logged c.self.inside.drained.items) i.books e.found moves e.updates e.len
+    books_rehandled c.self.inside.ledgers.items c.self.inside.slots c.enter_handle-was_ready.new.slots e.key e.slot 0 c.self.inside.kept.items (set c.self.inside.kept.items (c.args.number - 1) None) (logged c.self.inside.drained.items) i.books e.found moves e.updates e.len
 
 pub invariant_of-self : goal.invariant_of-self
 invariant_of-self c =
     let i = c.self.invariant in
-    let e = c.enter_handle.ensures in
+    let p = place ((goal.at.invariant_of-self c).In_ok-operation) in
+    let e = c.enter_handle-was_ready.ensures.entered in
     record {
       books = books c;
-      keys = keys_kept c.self.inside.ledgers.items c.self.inside.rows.items c.self.inside.slots c.enter_handle.new.slots e.key e.slot _ i.keys e.found refl e.updates;
+      keys = keys_kept c.self.inside.ledgers.items c.self.inside.rows.items c.self.inside.slots c.enter_handle-was_ready.new.slots e.key e.slot _ i.keys e.found refl e.updates;
       slots_used = rw e.len i.slots_used;
       slots_room = rw e.capacity i.slots_room;
       places = length-set c.self.inside.kept.items (c.args.number - 1) None ∙ i.places;
@@ -63,6 +79,8 @@ invariant_of-self c =
       limits = i.limits;
       ends = i.ends;
       ends_room = i.ends_room;
+      kept_marks = kept_set c.self.inside.kept_marks c.clear.new.self c.self.inside.kept.items (c.args.number - 1) None p.within i.kept_marks c.clear.ensures.cleared c.clear.ensures.others;
+      ready_marks = ready_set c.self.inside.ready_marks c.clear-2.new.self c.self.inside.kept.items (logged c.self.inside.drained.items) (c.args.number - 1) None p.within i.ready_marks c.clear-2.ensures.cleared c.clear-2.ensures.others;
     }
 
 pub returns-clause-freed : goal.returns-clause-freed
@@ -72,7 +90,7 @@ returns-clause-freed c =
 
 pub returns-clause-loose : goal.returns-clause-loose
 returns-clause-loose c = λ k kept.
-    let e = c.enter_handle.ensures in
+    let e = c.enter_handle-was_ready.ensures.entered in
     let free =
-    rehandled c.self.inside.ledgers.items c.self.inside.slots c.enter_handle.new.slots e.key e.slot 0 c.self.inside.kept.items (set c.self.inside.kept.items (c.args.number - 1) None) (logged c.self.inside.drained.items) in
-    loose_from_handle c.self.inside.ledgers.items c.enter_handle.new.slots e.key free (set c.self.inside.kept.items (c.args.number - 1) None) (logged c.self.inside.drained.items) (books c) e.updates.changed refl k (kept ∙ ap (λ (o : Operation). Some o) (sym e.names))
+    rehandled c.self.inside.ledgers.items c.self.inside.slots c.enter_handle-was_ready.new.slots e.key e.slot 0 c.self.inside.kept.items (set c.self.inside.kept.items (c.args.number - 1) None) (logged c.self.inside.drained.items) in
+    loose_from_handle c.self.inside.ledgers.items c.enter_handle-was_ready.new.slots e.key free (set c.self.inside.kept.items (c.args.number - 1) None) (logged c.self.inside.drained.items) (books c) e.updates.changed refl k (kept ∙ ap (λ (o : Operation). Some o) (sym e.names))

@@ -1,68 +1,62 @@
-use Rattle.std.proofs.Common.{◌≡◌, ◌<◌, Some, ℕ, length, ◌≤◌, refl, sym, ap, ◌∙◌, subst, arith, List, ◌+◌}
-use Rattle.std.specs.Prelude.{vec_capacity, All, is_some, ◌+ℤ◌}
+use Rattle.std.proofs.Common.{◌≡◌, ◌<◌, ℕ, length, ◌≤◌, refl, sym, ap, ◌∙◌, subst, arith, List, ◌+◌}
+use Rattle.std.specs.Prelude.{vec_capacity, All, slice_index_or, [], ◌+ℤ◌}
 use Rattle.std.proofs.Math.ListN.{set}
-use Rattle.std.proofs.lemmas.List.{length-set}
+use Rattle.std.proofs.lemmas.List.{length-set, length-map}
 use Rattle.std.specs.FinMap as finmap
 use Rattle.std.specs.FinMap.{from_entries}
 use Rattle.xa_words.specs.Orders.{key_cmp}
 use Rattle.xa_tables.specs.declared.accounts.Account.{Account}
 use Rattle.xa_tables.specs.Tables.{touch_cmp, is_broken, has_other_touched, sum_of}
-use Rattle.xa_tables.specs.Accounts.{AreDistinct, AreIndexed, IsGood, value_entries, hold_entries, added_to, place_in}
+use Rattle.xa_tables.specs.Accounts.{AreDistinct, AreIndexed, IsGood, value_entries, hold_entries, added_to, key_at, keys_of}
 use Rattle.xa_tables.specs.Held.{AreHeld}
 use Rattle.xa_tables.proofs.HeldLemmas.{held_noted, note_room}
 use Rattle.xa_tables.proofs.AccountLemmas.{IsFor, for_place, values_set, sums_added, others_added, distinct_added, all_added}
-use Rattle.xa_tables.proofs.PlaceLemmas.{is_placed, place_within, place_key, indexed_set}
+use Rattle.xa_tables.proofs.PlaceLemmas.{key_there, indexed_set}
 use Rattle.xa_tables.proofs.accounts.Accounts.add.Goals as goal
 use Rattle.xa_tables.proofs.accounts.Accounts.add.Goals.{After-index-account}
-
-pub unwrap-place-requires : goal.unwrap-place-requires
-unwrap-place-requires c =
-    let items = c.self.inside.accounts.items in
-    let k = c.args.key in
-    is_placed k items _ (c.get.ensures ∙ c.self.invariant.2 k) (ap (λ h. is_some (finmap.get h.values k)) c.self.view_is ∙ c.requires.declared)
 
 pub index-account-requires : goal.index-account-requires
 index-account-requires c =
     let items = c.self.inside.accounts.items in
-    let k = c.args.key in
-    let there = sym (c.self.invariant.2 k) ∙ sym c.get.ensures ∙ c.unwrap-place.ensures in
-    let within = place_within k items c.unwrap-place.result there in
-    omega (arith, within, c.self.inside.accounts.ok.0)
+    let same = length-map items (λ (a : Account). a.key) in
+    let keys : length (keys_of items) ≡ length c.args.self.now.keys = ap (λ h. length h.keys) c.self.view_is in
+    omega (arith, c.requires.within, c.self.inside.accounts.ok.0)
 
--- the place of the key, the account there, which no other branch has touched, and the accounts after it
-placed : (c : After-index-account) → place_in c.args.key c.self.inside.accounts.items ≡ Some c.unwrap-place.result
-placed c = sym (c.self.invariant.2 c.args.key) ∙ sym c.get.ensures ∙ c.unwrap-place.ensures
+-- the place is one of the accounts, the account there has its key, and no other branch has touched it
+within : (c : After-index-account) → c.args.place < length c.self.inside.accounts.items
+within c =
+    let items = c.self.inside.accounts.items in
+    let same = length-map items (λ (a : Account). a.key) in
+    let keys : length (keys_of items) ≡ length c.args.self.now.keys = ap (λ h. length h.keys) c.self.view_is in
+    omega (arith, c.requires.within)
 
-within : (c : After-index-account) → c.unwrap-place.result < length c.self.inside.accounts.items
-within c = place_within c.args.key c.self.inside.accounts.items c.unwrap-place.result (placed c)
-
-keyed : (c : After-index-account) → c.index-account.result.now.key ≡ c.args.key
-keyed c = place_key c.args.key c.self.inside.accounts.items c.unwrap-place.result c.index-account.result.now (placed c) c.index-account.ensures
+keyed : (c : After-index-account) → c.index-account.result.now.key ≡ slice_index_or (keys_of c.self.inside.accounts.items) c.args.place []
+keyed c = sym (key_there c.self.inside.accounts.items c.args.place c.index-account.result.now (within c) c.index-account.ensures)
 
 mine : (c : After-index-account) → IsFor c.args.xid c.index-account.result.now.hold
 mine c =
-    for_place c.self.inside.accounts.items c.unwrap-place.result c.index-account.result.now c.args.xid c.args.key c.self.invariant.0 (within c)
-    c.index-account.ensures (keyed c) (ap (λ h. has_other_touched h.sums c.args.xid c.args.key) c.self.view_is ∙ c.requires.alone)
+    for_place c.self.inside.accounts.items c.args.place c.index-account.result.now c.args.xid _ c.self.invariant.0 (within c)
+    c.index-account.ensures (keyed c) (ap (λ h. has_other_touched h.sums c.args.xid (key_at h c.args.place)) c.self.view_is ∙ c.requires.alone)
 
 pub index_mut-requires : goal.index_mut-requires
 index_mut-requires c = omega (arith, within ((goal.at.index_mut-requires c).After-index-account), c.self.inside.accounts.ok.0)
 
 pub note-requires : goal.note-requires
 note-requires c none =
-    let fewer = note_room c.self.inside.held.items c.self.inside.accounts.items c.unwrap-place.result c.index-account.result.now c.args.xid c.args.delta
+    let fewer = note_room c.self.inside.held.items c.self.inside.accounts.items c.args.place c.index-account.result.now c.args.xid c.args.delta
     c.self.invariant.3 (within ((goal.at.note-requires c).After-index-account)) c.index-account.ensures none in
     omega (arith, c.self.invariant.4, c.self.inside.held.ok.0)
 
 pub with_added-requires-clause-good : goal.with_added-requires-clause-good
 with_added-requires-clause-good c =
     let inside = within ((goal.at.with_added-requires-clause-good c).After-index-account) in
-    subst (IsGood c.self.inside.adds) (sym c.index-account.ensures) (c.self.invariant.1 c.unwrap-place.result c.index-account.result.now inside)
+    subst (IsGood c.self.inside.adds) (sym c.index-account.ensures) (c.self.invariant.1 c.args.place c.index-account.result.now inside)
 
 pub invariant_of-self : goal.invariant_of-self
 invariant_of-self c =
     let items = c.self.inside.accounts.items in
     let inside = within ((goal.at.invariant_of-self c).After-index-account) in
-    let i = c.unwrap-place.result in
+    let i = c.args.place in
     let a = c.index-account.result.now in
     let x = c.args.xid in
     let b : Account = added_to a x c.args.delta in
@@ -81,19 +75,19 @@ pub returns-clause-sums : goal.returns-clause-sums
 returns-clause-sums c =
     let items = c.self.inside.accounts.items in
     let at = (goal.at.returns-clause-sums c).After-index-account in
-    let i = c.unwrap-place.result in
+    let i = c.args.place in
     let x = c.args.xid in
     ap (λ b. from_entries {R = touch_cmp} (hold_entries (set items i b))) c.with_added.ensures.added
     ∙ sums_added items i c.index-account.result.now x c.args.delta c.self.invariant.0 (within at) c.index-account.ensures (mine at)
     ∙ ap (λ k. finmap.insert (from_entries {R = touch_cmp} (hold_entries items)) (x, k) (sum_of (from_entries (hold_entries items)) x k +ℤ c.args.delta))
     (keyed at)
-    ∙ ap (λ h. finmap.insert h.sums (x, c.args.key) (sum_of h.sums x c.args.key +ℤ c.args.delta)) c.self.view_is
+    ∙ ap (λ h. finmap.insert h.sums (x, key_at h i) (sum_of h.sums x (key_at h i) +ℤ c.args.delta)) c.self.view_is
 
 pub returns-clause-values : goal.returns-clause-values
 returns-clause-values c =
     let items = c.self.inside.accounts.items in
     let at = (goal.at.returns-clause-values c).After-index-account in
-    let i = c.unwrap-place.result in
+    let i = c.args.place in
     let a = c.index-account.result.now in
     ap (λ b. from_entries {R = key_cmp} (value_entries (set items i b))) c.with_added.ensures.added
     ∙ ap (from_entries {R = key_cmp}) (values_set items i a (added_to a c.args.xid c.args.delta) (within at) c.index-account.ensures refl refl)
@@ -103,7 +97,7 @@ pub returns-clause-others : goal.returns-clause-others
 returns-clause-others c y apart =
     let items = c.self.inside.accounts.items in
     let at = (goal.at.returns-clause-others c).After-index-account in
-    let i = c.unwrap-place.result in
+    let i = c.args.place in
     ap (λ b. is_broken (from_entries (value_entries (set items i b))) (from_entries (hold_entries (set items i b))) y) c.with_added.ensures.added
     ∙ others_added items i c.index-account.result.now c.args.xid c.args.delta c.self.invariant.0 (within at) c.index-account.ensures (mine at) y apart
     ∙ ap (λ h. is_broken h.values h.sums y) c.self.view_is

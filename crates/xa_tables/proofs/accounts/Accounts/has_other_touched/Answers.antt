@@ -1,25 +1,31 @@
-use Rattle.std.proofs.Common.{sym, ap, ◌∙◌, arith}
-use Rattle.xa_tables.specs.Tables.{has_other_touched}
+use Rattle.std.proofs.Common.{◌≡◌, ◌<◌, length, sym, ap, ◌∙◌, arith}
+use Rattle.std.proofs.lemmas.List.{length-map}
+use Rattle.std.specs.FinMap.{from_entries}
+use Rattle.xa_tables.specs.declared.accounts.Account.{Account}
+use Rattle.xa_tables.specs.Tables.{touch_cmp, has_other_touched}
+use Rattle.xa_tables.specs.Accounts.{hold_entries, keys_of, key_at}
 use Rattle.xa_tables.proofs.AccountLemmas.{other_any}
-use Rattle.xa_tables.proofs.PlaceLemmas.{place_within, other_at, other_none}
+use Rattle.xa_tables.proofs.PlaceLemmas.{other_at, placed_there, key_there}
 use Rattle.xa_tables.proofs.accounts.Accounts.has_other_touched.Goals as goal
 
 pub index-requires : goal.index-requires
 index-requires c =
     let items = c.self.inside.accounts.items in
-    let there = sym (c.self.invariant.2 c.args.key.now) ∙ sym c.get.ensures ∙ c.in-Some.is in
-    omega (arith, place_within c.args.key.now items c.in-Some.place there, c.self.inside.accounts.ok.0)
+    let same = length-map items (λ (a : Account). a.key) in
+    let keys : length (keys_of items) ≡ length c.args.self.now.keys = ap (λ h. length h.keys) c.self.view_is in
+    omega (arith, c.requires, c.self.inside.accounts.ok.0)
 
-pub returns-in-Some : goal.returns-in-Some
-returns-in-Some c =
+pub returns : goal.returns
+returns c =
     let items = c.self.inside.accounts.items in
-    let there = sym (c.self.invariant.2 c.args.key.now) ∙ sym c.get.ensures ∙ c.in-Some.is in
-    c.is_held_by_other.ensures ∙ sym (other_at c.args.key.now c.args.xid.now items c.in-Some.place c.index.result.now c.self.invariant.0 there c.index.ensures)
-    ∙ sym (other_any items c.args.xid.now c.args.key.now c.self.invariant.0) ∙ ap (λ h. has_other_touched h.sums c.args.xid.now c.args.key.now) c.self.view_is
-
-pub returns-in-None : goal.returns-in-None
-returns-in-None c =
-    let items = c.self.inside.accounts.items in
-    let nowhere = sym (c.self.invariant.2 c.args.key.now) ∙ sym c.get.ensures ∙ c.in-None.is in
-    sym (other_none c.args.key.now c.args.xid.now items nowhere)
-    ∙ sym (other_any items c.args.xid.now c.args.key.now c.self.invariant.0) ∙ ap (λ h. has_other_touched h.sums c.args.xid.now c.args.key.now) c.self.view_is
+    let place = c.args.place in
+    let x = c.args.xid.now in
+    let a = c.index.result.now in
+    let same = length-map items (λ (b : Account). b.key) in
+    let keys : length (keys_of items) ≡ length c.args.self.now.keys = ap (λ h. length h.keys) c.self.view_is in
+    let within : place < length items = omega (arith, c.requires) in
+    let there = placed_there items place a c.self.invariant.0 within c.index.ensures in
+    c.is_held_by_other.ensures ∙ sym (other_at a.key x items place a c.self.invariant.0 there c.index.ensures)
+    ∙ sym (other_any items x a.key c.self.invariant.0)
+    ∙ ap (has_other_touched (from_entries {R = touch_cmp} (hold_entries items)) x) (sym (key_there items place a within c.index.ensures))
+    ∙ ap (λ h. has_other_touched h.sums x (key_at h place)) c.self.view_is

@@ -1,0 +1,64 @@
+-- What a log may be read as matters only to a transfer of which nobody knows whether its record was made.
+use Rattle.std.proofs.Common.{◌≡◌, ℕ, ◌+◌, Bool, true, false, ◌||◌, List, [], ◌∷◌}
+use Rattle.std.specs.List.{list_any}
+use Rattle.std.proofs.lemmas.Bool.{or_parts}
+use Rattle.xa_words.specs.Tran.{TranName}
+use Rattle.xa_words.specs.declared.code.Code.{Code}
+use Rattle.xa_desk.specs.DeskView.{DeskView}
+use Rattle.xa_driver.specs.Decision.{yes_of}
+use Rattle.xa_driver.specs.declared.branch.Branch.{Branch}
+use Rattle.xa_log.specs.Log.{IsReadAs, LogState}
+use Rattle.xa_work.specs.declared.unit.WorkOutcome.{WorkOutcome}
+use Rattle.xa_work.specs.declared.unit.WorkOutcome.TheVariants.{Decided, Died, Refused, Undecided}
+use Rattle.xa_work.specs.Units.{IfLost, LeavesKnown, Loses, is_last}
+use Rattle.xa_bank.specs.declared.habits.Habits.{Habits}
+use Rattle.xa_bank.specs.declared.teller.Transfer.{Transfer}
+use Rattle.xa_bank.specs.Transfers.{IsReadEither, Makes, MakesEach, MakesNext, with_legs, without_legs}
+
+-- what holds where the record is lost
+pub if_so : (P : List Code → Type 0) (o : WorkOutcome) → ((votes : List Code) → P votes) → IfLost P o
+if_so P (Decided done) all = tt
+if_so P (Died at known) all = tt
+if_so P (Undecided votes) all = all votes.items
+if_so P (Refused why) all = tt
+
+pub if_both : (P Q S : List Code → Type 0) (o : WorkOutcome) → ((votes : List Code) → P votes → Q votes → S votes) → IfLost P o → IfLost Q o → IfLost S o
+if_both P Q S (Decided done) also h k = tt
+if_both P Q S (Died at known) also h k = tt
+if_both P Q S (Undecided votes) also h k = also votes.items h k
+if_both P Q S (Refused why) also h k = tt
+
+-- where others follow, none is lost
+pub none_lost : (P : List Code → Type 0) (o : WorkOutcome) → is_last o ≡ false → IfLost P o
+none_lost P (Decided done) e = tt
+none_lost P (Died at known) e = tt
+none_lost P (Undecided votes) e = cc
+none_lost P (Refused why) e = tt
+
+-- what a log that has lost the record may be read as
+pub lost_so : {L : Type 0} (state : L → LogState) (knows : L → Type 0) (loses : TranName → List Bool → L → L → Type 0) (bs : List Branch) (old new : L)
+    (o : WorkOutcome) → IfLost (Loses loses bs old new) o → LeavesKnown (knows new) o
+    → IsReadEither (IsReadAs state knows loses new) bs (state old) o
+lost_so state knows loses bs old new (Decided done) lost known = tt
+lost_so state knows loses bs old new (Died at known_) lost known = tt
+lost_so state knows loses bs old new (Undecided votes) lost known = λ tran read one may. may.lost known old tran (yes_of bs votes.items) (lost tran one)
+lost_so state knows loses bs old new (Refused why) lost known = tt
+
+pub makes_any : {R S : LogState → Type 0} (t n : ℕ) (tr : Transfer) (habits : Habits) (o : WorkOutcome) (old new : DeskView) (log later : LogState)
+    → is_last o ≡ false → Makes t n tr habits o old new log later R → Makes t n tr habits o old new log later S
+makes_any t n tr habits o old new log later goes_on (with_legs one two left legs made kept read) = with_legs one two left legs made kept (none_lost _ o goes_on)
+makes_any t n tr habits o old new log later goes_on (without_legs is none same unlogged) = without_legs is none same unlogged
+
+pub next_any : {R S : LogState → Type 0} (t n : ℕ) (tr : Transfer) (habits : Habits) (o : WorkOutcome) (old new : DeskView) (log later : LogState)
+    → is_last o ≡ false → MakesNext t n tr habits o old new log later R → MakesNext t n tr habits o old new log later S
+next_any t n tr habits o old new log later goes_on next =
+    record { shut = next.shut; shuts = next.shuts; makes = makes_any t n tr habits o next.shut new log later goes_on next.makes }
+
+pub each_any : (R S : LogState → Type 0) (t : ℕ) (habits : Habits) (n : ℕ) (trs : List Transfer) (os : List WorkOutcome) (old new : DeskView) (log later : LogState)
+    → list_any is_last os ≡ false → MakesEach t habits n trs os old new log later R → MakesEach t habits n trs os old new log later S
+each_any R S t habits n [] [] old new log later none h = h
+each_any R S t habits n (tr ∷ trs) [] old new log later none h = h
+each_any R S t habits n (tr ∷ trs) (o ∷ os) old new log later none (mid, now, makes, rest) =
+    let parts = or_parts (is_last o) (list_any is_last os) none in
+    (mid, now, next_any t n tr habits o old mid log now parts.0 makes, each_any R S t habits (n + 1) trs os mid new now later parts.1 rest)
+each_any R S t habits n [] (o ∷ os) old new log later none h = absurd h

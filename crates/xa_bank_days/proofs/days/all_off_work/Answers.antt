@@ -1,0 +1,83 @@
+use Rattle.std.proofs.Common.{rules, ◌≡◌, ◌+◌, Bool, List, [], ◌∷◌, ◌++◌, length, length-append, map, append_assoc, append-nil, sym, ap, ◌∙◌, subst, arith}
+use Rattle.std.proofs.lemmas.List.{length-map, map-append}
+use Rattle.std.specs.Vec.Iter.{into_iter_items, into_iter_len}
+use Rattle.xa_base.proofs.Lists.{none_of}
+use Rattle.xa_crew.specs.declared.again.WithScan.{WithScan}
+use Rattle.xa_crew.specs.declared.client_job.Attended.{Attended}
+use Rattle.xa_bank.specs.declared.teller.Teller.{Teller}
+use Rattle.xa_bank_days.specs.Days.{AreReadBack, IsReadBack}
+use Rattle.xa_bank_days.proofs.Back.{one_back_more}
+use Rattle.xa_bank_days.proofs.Turned.{one_fewer}
+use Rattle.xa_bank_days.proofs.days.all_off_work.Goals as goal
+
+pub loop-attended-preserved : goal.loop-attended-preserved
+loop-attended-preserved g c =
+    let i = c.loop-attended.invariant in
+    let state = g.L.DecisionLog.state in
+    let knows = g.L.DecisionRecords.knows in
+    let loses = g.L.DecisionLog.loses in
+    let teller_of : Attended (WithScan (Teller g.row.L.Denot)) → Teller g.row.L.Denot = λ a. a.client.client in
+    let ys : List (Attended (WithScan (Teller g.row.L.Denot))) = c.loop-attended.yielded in
+    let own : Teller g.row.L.Denot = c.in-Some.attended.client.client in
+    let log : g.row.L.Denot = c.read_back-teller.result.0.log in
+    let has : Bool = c.read_back-teller.result.1 in
+    let number : c.loop-attended.thread + 1 ≡ 1 + length (map teller_of ys) =
+    (let size = length-map ys teller_of in let counted = i.counted in omega (arith, size, counted)) in
+    let one_more : length (ys ++ c.in-Some.attended ∷ []) ≡ length ys + 1 = length-append ys (c.in-Some.attended ∷ []) in
+    let outcomes_are : c.replace.result ≡ own.outcomes =
+    c.replace.ensures.value ∙ ap (λ (t : Teller g.row.L.Denot). t.outcomes) c.read_back-teller.ensures.same in
+    let its : IsReadBack state knows loses (1 + length (map teller_of ys)) own log has =
+    subst (λ t. IsReadBack state knows loses t own log has) number c.read_back-teller.ensures.log in
+    let logs_are : map (λ (t : Teller g.row.L.Denot). t.log) c.push_reserved-in-loop-attended-2.new.self.items ≡ map (λ (t : Teller g.row.L.Denot). t.log) c.loop-attended.tellers.items ++ log ∷ [] =
+    ap (map (λ (t : Teller g.row.L.Denot). t.log)) c.push_reserved-in-loop-attended-2.ensures.items
+    ∙ map-append (λ (t : Teller g.row.L.Denot). t.log) c.loop-attended.tellers.items _ in
+    record {
+      so_far = append_assoc ys (c.in-Some.attended ∷ []) _ ∙ ap (λ l. ys ++ l) (sym c.in-Some.ensures.steps.0) ∙ i.so_far;
+      logs =
+          subst (λ (p : List (Teller g.row.L.Denot) × (List g.row.L.Denot × List Bool)). AreReadBack state knows loses 1 p.0 p.1.0 p.1.1)
+          (λ k. (sym (map-append teller_of ys (c.in-Some.attended ∷ [])) k, (sym logs_are k, sym c.push_reserved-in-loop-attended.ensures.items k)))
+          (one_back_more state knows loses 1 (map teller_of ys) (map (λ (t : Teller g.row.L.Denot). t.log) c.loop-attended.tellers.items) c.loop-attended.found.items own log has i.logs its);
+      counted = (let counted = i.counted in omega (arith, one_more, counted));
+      all_counted = one_fewer (into_iter_len c.loop-attended.attended-iterator) _ _ _ c.in-Some.attended c.in-Some.ensures.steps.0 c.in-Some.ensures.steps.1 i.all_counted;
+      as_many_found =
+          (let grown = ap (λ (l : List Bool). length l) c.push_reserved-in-loop-attended.ensures.items in
+          let one = length-append c.loop-attended.found.items (has ∷ []) in
+          let found = i.as_many_found in
+          omega (arith, grown, one, found, one_more));
+      room_left = search rules;
+      outcomes =
+          c.push_reserved.ensures.items ∙ (λ k. i.outcomes k ++ outcomes_are k ∷ [])
+          ∙ sym (map-append (λ (a : Attended (WithScan (Teller g.row.L.Denot))). a.client.client.outcomes) ys (c.in-Some.attended ∷ []));
+      as_many =
+          (let grown = length-map c.push_reserved-in-loop-attended-2.new.self.items (λ (t : Teller g.row.L.Denot). t.log) in
+          let same = ap (λ (l : List g.row.L.Denot). length l) logs_are in
+          let one = length-append (map (λ (t : Teller g.row.L.Denot). t.log) c.loop-attended.tellers.items) (log ∷ []) in
+          let before = length-map c.loop-attended.tellers.items (λ (t : Teller g.row.L.Denot). t.log) in
+          let many = i.as_many in
+          omega (arith, grown, same, one, before, many, one_more));
+      room = search rules;
+      room_too = search rules;
+    }
+
+-- all clients were taken
+pub returns-clause-logs : goal.returns-clause-logs
+returns-clause-logs g c =
+    let i = c.loop-attended.invariant in
+    let none : into_iter_items c.loop-attended.attended-iterator ≡ [] =
+    none_of (into_iter_items c.loop-attended.attended-iterator) (sym i.all_counted ∙ c.in-None.ensures.steps.0) in
+    let whole : c.loop-attended.yielded ≡ c.args.clients.items =
+    sym (append-nil c.loop-attended.yielded) ∙ ap (λ (l : List (Attended (WithScan (Teller g.row.L.Denot)))). c.loop-attended.yielded ++ l) (sym none)
+    ∙ i.so_far in
+    subst (λ (l : List (Attended (WithScan (Teller g.row.L.Denot)))). AreReadBack g.L.DecisionLog.state g.L.DecisionRecords.knows g.L.DecisionLog.loses 1
+    (map (λ (a : Attended (WithScan (Teller g.row.L.Denot))). a.client.client) l) (map (λ (t : Teller g.row.L.Denot). t.log) c.loop-attended.tellers.items) c.loop-attended.found.items)
+    whole i.logs
+
+pub returns-clause-outcomes : goal.returns-clause-outcomes
+returns-clause-outcomes g c =
+    let i = c.loop-attended.invariant in
+    let none : into_iter_items c.loop-attended.attended-iterator ≡ [] =
+    none_of (into_iter_items c.loop-attended.attended-iterator) (sym i.all_counted ∙ c.in-None.ensures.steps.0) in
+    let whole : c.loop-attended.yielded ≡ c.args.clients.items =
+    sym (append-nil c.loop-attended.yielded) ∙ ap (λ (l : List (Attended (WithScan (Teller g.row.L.Denot)))). c.loop-attended.yielded ++ l) (sym none)
+    ∙ i.so_far in
+    i.outcomes ∙ ap (map (λ (a : Attended (WithScan (Teller g.row.L.Denot))). a.client.client.outcomes)) whole

@@ -1,0 +1,12 @@
+use Rattle.std.proofs.Common.{◌<◌, w64, ap, arith}
+use Rattle.std.specs.Prelude.{nat_eq}
+use Rattle.std.proofs.lemmas.Nat.Bits.{bit_at-trailing_zeros}
+use Rattle.xa_desk.proofs.marks.Marks.first.Goals as goal
+
+pub returns-clause-found : goal.returns-clause-found
+returns-clause-found c =
+    let bits = c.args.self.bits in
+    let some : 0 < bits = omega arith in
+    let fits : bits < 18446744073709551616 = omega arith in
+    let (_, one, none) = bit_at-trailing_zeros w64 bits some fits in
+    record { passes_ = ap (λ b. nat_eq b 1) one; least = λ j below. ap (λ b. nat_eq b 1) (none j below) }

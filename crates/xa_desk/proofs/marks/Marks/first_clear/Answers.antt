@@ -1,0 +1,21 @@
+use Rattle.std.proofs.Common.{◌≡◌, ◌<◌, ◌+◌, w64, ap, sym, ◌∙◌, true, false, inl, inr, arith}
+use Rattle.std.specs.Prelude.{nat_eq}
+use Rattle.std.specs.Int.{bit_at}
+use Rattle.std.proofs.lemmas.Bool.{cases_lt}
+use Rattle.std.proofs.lemmas.Nat.Bits.{bit_at-trailing_ones}
+use Rattle.xa_desk.proofs.marks.Marks.first_clear.Goals as goal
+
+pub returns : goal.returns
+returns c =
+    let bits = c.args.self.bits in
+    let fits : bits < 18446744073709551616 = omega arith in
+    let not_all : bits + 1 < 18446744073709551616 = elim (cases_lt (bits + 1) 18446744073709551616) [
+      | inl below ↦ below
+      | inr past ↦
+          let all : bits ≡ 18446744073709551615 = omega arith in
+          let no : true ≡ false = ap (λ b. nat_eq (bit_at b 63) 1) (sym all) ∙ c.requires in
+          absurd cc
+    ] in
+    let (_, zero, ones) = bit_at-trailing_ones w64 bits not_all in
+    let is = c.trailing_ones.ensures in
+    rw is (record { clear = ap (λ b. nat_eq b 1) zero; marked = λ k below. ap (λ b. nat_eq b 1) (ones k below) })

@@ -1,0 +1,41 @@
+use Rattle.std.proofs.Common.{◌≡◌, ◌<◌, ℕ, List, [], Option, None, Some, length, sym, ap, ◌∙◌, subst, arith}
+use Rattle.std.specs.Prelude.{is_some, IfSome, slice_index_or}
+use Rattle.std.specs.FinMap as finmap
+use Rattle.std.specs.FinMap.{get-from_entries}
+use Rattle.std.proofs.lemmas.List.{length-map}
+use Rattle.xa_words.specs.Orders.{key_cmp_total}
+use Rattle.xa_tables.specs.declared.accounts.Account.{Account}
+use Rattle.xa_tables.specs.Accounts.{value_entries, key_at, keys_of, place_in}
+use Rattle.xa_tables.proofs.PlaceLemmas.{place_some, place_within, key_placed}
+use Rattle.xa_tables.proofs.accounts.Accounts.place_of.Goals as goal
+
+pub returns-clause-declared : goal.returns-clause-declared
+returns-clause-declared c =
+    let k = c.args.key.now in
+    let items = c.self.inside.accounts.items in
+    ap is_some (c.get.ensures ∙ c.self.invariant.2 k) ∙ place_some k items
+    ∙ ap is_some (sym (get-from_entries key_cmp_total (value_entries items) k)) ∙ ap (λ h. is_some (finmap.get h.values k)) c.self.view_is
+
+-- a place in the accounts is within their keys, and has the key
+within_keys : (k : List ℕ) (items : List Account) (o : Option ℕ) → o ≡ place_in k items → IfSome o (λ i. i < length (keys_of items))
+within_keys k items None e = tt
+within_keys k items (Some i) e =
+    let within : i < length items = place_within k items i (sym e) in
+    let same : length (keys_of items) ≡ length items = length-map items (λ (a : Account). a.key) in
+    omega arith
+
+has_key : (k : List ℕ) (items : List Account) (o : Option ℕ) → o ≡ place_in k items → IfSome o (λ i. slice_index_or (keys_of items) i [] ≡ k)
+has_key k items None e = tt
+has_key k items (Some i) e = key_placed k items i (sym e)
+
+pub returns-clause-within : goal.returns-clause-within
+returns-clause-within c =
+    let k = c.args.key.now in
+    let items = c.self.inside.accounts.items in
+    subst (λ h. IfSome c.get.result (λ i. i < length h.keys)) c.self.view_is (within_keys k items c.get.result (c.get.ensures ∙ c.self.invariant.2 k))
+
+pub returns-clause-placed : goal.returns-clause-placed
+returns-clause-placed c =
+    let k = c.args.key.now in
+    let items = c.self.inside.accounts.items in
+    subst (λ h. IfSome c.get.result (λ i. key_at h i ≡ k)) c.self.view_is (has_key k items c.get.result (c.get.ensures ∙ c.self.invariant.2 k))
