@@ -1,6 +1,6 @@
 #!/usr/bin/env -S python3 -B
-"""Proves a program of this repository and all that it stands on, and builds it: build.py NAME. Nothing is written to
-standard output; how far it is and how long the rest takes goes to standard error."""
+"""Proves a program of this repository and all that it stands on, and builds it for a level of processors: build.py NAME
+LEVEL. Nothing is written to standard output; how far it is and how long the rest takes goes to standard error."""
 
 import fcntl
 import shutil
@@ -12,7 +12,14 @@ from concurrent.futures import FIRST_COMPLETED, ThreadPoolExecutor, wait
 from pathlib import Path
 
 import scratch
-from repository import ROOT, crates_below, is_fresh, jobs, keep_stamp, processors, programs, stamp
+from repository import LEVELS, ROOT, crates_below, is_fresh, jobs, keep, processors, programs, stamp
+
+
+# What is said of a program that is built.
+BUILT_FOR = {
+    "default": "for any processor",
+    "x86-64-v3": "for x86-64-v3, the level of this machine: older processors can't run it",
+}
 
 
 class Unbuilt(Exception):
@@ -80,14 +87,16 @@ def prove_library(crate, at_once):
         scratch.move(folder / "out", ROOT / "crates" / crate / "out")
 
 
-def prove_program(name, at_once):
+def prove_program(name, level, at_once):
     folder = ROOT / "crates" / name
     arguments = folder / "args"
-    run_in(folder, "rt", "run", *at_once, "--", *(arguments.read_text().split() if arguments.exists() else ()))
+    processor = () if level == "default" else ("--cpu", level)
+    words = arguments.read_text().split() if arguments.exists() else ()
+    run_in(folder, "rt", "run", *processor, *at_once, "--", *words)
 
 
-def prove_and_build(name):
-    plan, made_of, start = Plan(crates_below(name)), stamp(name), time.monotonic()
+def prove_and_build(name, level):
+    plan, made_of, start = Plan(crates_below(name)), stamp(name, level), time.monotonic()
     at_once = ("--jobs", str(jobs()))
     expected = plan.rest((), {})
     say(name, f"it and what it stands on, {len(plan.below)} crates, are proved before it is built, which takes about"
@@ -96,8 +105,8 @@ def prove_and_build(name):
     with ThreadPoolExecutor(plan.at_once) as pool:
         while len(done) < len(plan.below):
             for crate in plan.ready(done, done | running.keys())[: plan.at_once - len(running)]:
-                prove = prove_program if crate == name else prove_library
-                running[crate] = time.monotonic(), pool.submit(prove, crate, at_once)
+                given = (prove_program, name, level) if crate == name else (prove_library, crate)
+                running[crate] = time.monotonic(), pool.submit(*given, at_once)
             wait([future for _, future in running.values()], return_when=FIRST_COMPLETED)
             now = time.monotonic()
             for crate in [it for it, (_, future) in running.items() if future.done()]:
@@ -109,14 +118,16 @@ def prove_and_build(name):
                 # little of.
                 rest *= (took + 60) / (max(expected - rest, 0) + 60)
                 say(name, f"{crate} is proved, after {minutes(took)}; {left} left, about {minutes(rest)}"
-                    if left else f"built, after {minutes(took)}")
-    if not keep_stamp(name, made_of):
+                    if left else f"built {BUILT_FOR[level]}, after {minutes(took)}")
+    if not keep(name, level, made_of):
         raise Unbuilt("files were changed meanwhile")
 
 
-def main(name):
+def main(name, level):
     if name not in programs():
         sys.exit(f"build: {name} is no program; these are: {' '.join(programs())}")
+    if level not in LEVELS:
+        sys.exit(f"build: {level} is no level; these are: {' '.join(LEVELS)}")
     if not shutil.which("rt"):
         sys.exit(f"{name}: not built: the Rattle kit is needed, and its command rt isn't there")
     (ROOT / "out").mkdir(exist_ok=True)
@@ -128,8 +139,8 @@ def main(name):
             say(name, "waits for another build")
             fcntl.flock(lock, fcntl.LOCK_EX)
         try:
-            if not is_fresh(name):
-                prove_and_build(name)
+            if not is_fresh(name, level):
+                prove_and_build(name, level)
         except (OSError, Unbuilt) as why:
             sys.exit(f"{name}: not built: {why}")
 

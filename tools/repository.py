@@ -3,10 +3,14 @@ made of, and how many checks may run at once."""
 
 import os
 import re
+import shutil
 import subprocess
 from pathlib import Path
 
 ROOT = Path(__file__).resolve().parent.parent
+# What programs are built for: any processor, as rt does where it is told nothing, and those with AVX2 and what goes with
+# it.
+LEVELS = ("default", "x86-64-v3")
 # The folders of a crate that its check reads.
 PARTS = ("src", "specs", "proofs")
 
@@ -37,24 +41,42 @@ def programs():
     return [name for name in lines() if (ROOT / "crates" / name / "src" / "main.rt").is_file()]
 
 
-def stamp(name):
-    """What the program of this crate is made of today, and what is built of it, each as one word."""
-    return subprocess.run([ROOT / "tools" / "stamp", name], check=True, stdout=subprocess.PIPE, text=True).stdout
+def level():
+    """The level of processors that programs are built for on this machine."""
+    return subprocess.run([ROOT / "tools" / "level"], check=True, stdout=subprocess.PIPE, text=True).stdout.strip()
 
 
-def keep_stamp(name, made_of):
-    """Remembers of a program that was built of what is there now, but only if that is what it was made of."""
-    now = stamp(name)
+def program(name, level):
+    """Where the program of this crate is, as it is built for this level. One of another level stands apart."""
+    return ROOT / "out" / level / name
+
+
+def stamp(name, level):
+    """What the program of this crate is made of today, what is built of it for this level, and the level, each as one
+    word."""
+    words = [ROOT / "tools" / "stamp", name, level]
+    return subprocess.run(words, check=True, stdout=subprocess.PIPE, text=True).stdout
+
+
+def keep(name, level, made_of):
+    """Keeps the program that rt has just built for this level, but only if what it was made of is there now. Returns
+    whether it did."""
+    kept = program(name, level)
+    kept.parent.mkdir(parents=True, exist_ok=True)
+    new = kept.with_name(f"{name}.new")
+    shutil.copy2(ROOT / "crates" / name / "out" / name, new)
+    new.replace(kept)
+    now = stamp(name, level)
     if now.split()[0] == made_of.split()[0]:
-        (ROOT / "crates" / name / "out" / f"{name}.made").write_text(now)
+        kept.with_name(f"{name}.made").write_text(now)
         return True
     return False
 
 
-def is_fresh(name):
-    """Whether the program was built of what is there now."""
+def is_fresh(name, level):
+    """Whether the program was built for this level of what is there now."""
     try:
-        return (ROOT / "crates" / name / "out" / f"{name}.made").read_text() == stamp(name)
+        return program(name, level).with_name(f"{name}.made").read_text() == stamp(name, level)
     except FileNotFoundError:
         return False
 
