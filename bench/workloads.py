@@ -121,20 +121,19 @@ def branches_alive(count):
     return Workload(lines(), {"0": 8 + 2 * pairs})
 
 
-def handles_full():
-    """100,000 lines of 8 threads at 8 managers, each with all of its 32 handles taken: transactions of
-    four asynchronous calls, and for each call another is collected, whichever comes first."""
-    calls = (LINES - 5 - 64 - 64 + 8 * 32) // 2
+def asynchronous(handles, calls):
+    """8 threads at 8 managers, each with all of its handles taken: transactions of four asynchronous calls, and for
+    each call another is collected, whichever comes first."""
 
     def lines():
-        yield from ("threads 8", "managers 8", "handles 32", "queue 64", f"requests {REQUESTS}")
+        yield from ("threads 8", "managers 8", f"handles {handles}", "queue 64", f"requests {REQUESTS}")
         yield from (f"key {m} k{t} 0" for m in range(1, 9) for t in range(1, 9))
         yield from (f"{t} open {m}" for t in range(1, 9) for m in range(1, 9))
         for call in range(calls):
             thread, number = call % 8 + 1, call // 8
             branch, place = divmod(number, 4)
             manager, xid = branch % 8 + 1, f"t{thread}x{branch}.1"
-            if number >= 32:
+            if number >= handles:
                 yield f"{thread} complete 0 0 multiple"
             yield (
                 f"{thread} start {manager} {xid} async",
@@ -143,10 +142,16 @@ def handles_full():
                 f"{thread} commit {manager} {xid} onephase async",
             )[place]
 
-    answers = {"0": 64, "handle": calls, "collected 0": calls - 8 * 32, "ended 0": 8 * 32}
+    last = min(calls, 8 * handles)
+    answers = {"0": 64, "handle": calls, "collected 0": calls - last, "ended 0": last}
     total = sum((calls + 7 - before) // 8 // 4 for before in range(8))
     # In threads a call may find the queue full.
-    return Workload(lines(), answers, total, share_in_threads=0.75)
+    return Workload(lines(), {kind: many for kind, many in answers.items() if many}, total, share_in_threads=0.75)
+
+
+def handles_full():
+    """100,000 lines of 8 threads at 8 managers, each with all of its 32 handles taken."""
+    return asynchronous(32, (LINES - 5 - 64 - 64 + 8 * 32) // 2)
 
 
 def hot_manager():
@@ -188,9 +193,12 @@ def global_commits(threads, managers):
 
 
 def kind_of(line):
-    """The kind of an answer: what stands after its line and thread, but that handles aren't told apart."""
+    """The kind of an answer: what stands after its line and thread. Handles aren't told apart, nor branches."""
     words = line.split()
-    answer = words[2:]
+    answer = words[2:] or words[1:]
+    if answer[0] == "resolved":
+        endings = Counter(ending.split(":", 2)[2] for ending in answer[1:])
+        return " ".join(["resolved", *(f"{many} {ending}" for ending, many in sorted(endings.items()))])
     if "handle" in answer:
         return f"{'ended' if words[0] == 'end' else 'collected'} {answer[-1]}"
     is_handle = len(answer) == 1 and answer[0].isdigit() and 1 <= int(answer[0]) <= 32
