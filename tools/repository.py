@@ -59,12 +59,14 @@ def stamp(name, level):
 
 
 def keep(name, level, made_of):
-    """Keeps the program that rt has just built for this level, but only if what it was made of is there now. Returns
-    whether it did."""
-    kept = program(name, level)
+    """Keeps the program that rt has just built for this level, if it did, but only if what it was made of is there now.
+    Returns whether it is kept."""
+    built, kept = ROOT / "crates" / name / "out" / name, program(name, level)
+    if not built.is_file():
+        return False
     kept.parent.mkdir(parents=True, exist_ok=True)
     new = kept.with_name(f"{name}.new")
-    shutil.copy2(ROOT / "crates" / name / "out" / name, new)
+    shutil.copy2(built, new)
     new.replace(kept)
     now = stamp(name, level)
     if now.split()[0] == made_of.split()[0]:
