@@ -1,5 +1,5 @@
-//! The bank over days: each day's tellers move money, a store may be shut and a teller may die at any moment, and in
-//! the night what was left in doubt is resolved by the logs of all tellers.
+//! The bank over days: each day's tellers move money. A store may be shut, a teller may die in any commit, and a log
+//! may lose an append. In the night what was left in doubt is resolved by the logs of all tellers.
 #![tactic(auto)]
 
 mod days;
