@@ -24,6 +24,7 @@ mod tasks;
 mod words;
 
 pub use fault::{Reason, ScriptFault};
+pub use name::{Gtrid, Name};
 pub use read::read_script;
 pub use script::{Declared, Script, UnknownAppend};
 pub use step::{Action, Called, Calling, CommitAll, Step, Task};

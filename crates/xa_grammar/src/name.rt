@@ -1,4 +1,4 @@
-//! Names of branches and of global transactions as they stand in a line.
+//! Names of branches and of global transactions, whose bytes stand elsewhere: in a line, or in a script.
 ghost use Rattle.std.specs.Prelude.{◌≡◌, IsTrue, pos};
 ghost use Rattle.xa_words.specs.NewXid.{is_part};
 
@@ -8,9 +8,9 @@ use xa_words::{Tran, Xid};
 // The format of every name of a script.
 const FORMAT: i32 = 1;
 
-/// The xid of a branch, whose bytes stand in a line.
-#[derive(Drop)]
-pub(crate) struct Name<'a> {
+/// The name of a branch, whose bytes are lent. Contracts see it as they see an `Xid`.
+#[derive(Debug, Drop)]
+pub struct Name<'a> {
     gtrid: &'a [u8],
     bqual: &'a [u8],
 }
@@ -37,7 +37,9 @@ impl<'a> Name<'a> {
         Name { gtrid, bqual }
     }
 
-    pub(crate) fn xid(&self) -> Xid
+    /// The name with bytes of its own.
+    #[inline(always)]
+    pub fn xid(&self) -> Xid
         ensures { result ≡ self.now }
     {
         match Xid::new(FORMAT, self.gtrid, self.bqual) {
@@ -47,7 +49,8 @@ impl<'a> Name<'a> {
         }
     }
 
-    pub(crate) fn gtrid(&self) -> &'a [u8]
+    /// The gtrid, 1 to 64 bytes, which all branches of a global transaction share.
+    pub fn gtrid(&self) -> &'a [u8]
         ensures gtrid { result.now ≡ self.now.gtrid }
         ensures format { self.now.format ≡ pos 1 }
         ensures valid { IsTrue (is_part result.now) }
@@ -55,7 +58,8 @@ impl<'a> Name<'a> {
         self.gtrid
     }
 
-    pub(crate) fn bqual(&self) -> &'a [u8]
+    /// The bqual, 1 to 64 bytes, which tells the branches of a global transaction apart.
+    pub fn bqual(&self) -> &'a [u8]
         ensures bqual { result.now ≡ self.now.bqual }
         ensures valid { IsTrue (is_part result.now) }
     {
@@ -63,9 +67,9 @@ impl<'a> Name<'a> {
     }
 }
 
-/// The name of a global transaction, whose bytes stand in a line.
-#[derive(Drop)]
-pub(crate) struct Gtrid<'a> {
+/// The name of a global transaction, whose gtrid is lent. Contracts see it as they see a `Tran`.
+#[derive(Debug, Drop)]
+pub struct Gtrid<'a> {
     bytes: &'a [u8],
 }
 
@@ -90,7 +94,8 @@ impl<'a> Gtrid<'a> {
         Gtrid { bytes }
     }
 
-    pub(crate) fn tran(&self) -> Tran
+    /// The name with bytes of its own.
+    pub fn tran(&self) -> Tran
         ensures { result ≡ self.now }
     {
         match Tran::new(FORMAT, self.bytes) {
@@ -100,7 +105,8 @@ impl<'a> Gtrid<'a> {
         }
     }
 
-    pub(crate) fn bytes(&self) -> &'a [u8]
+    /// The gtrid, 1 to 64 bytes.
+    pub fn bytes(&self) -> &'a [u8]
         ensures gtrid { result.now ≡ self.now.gtrid }
         ensures format { self.now.format ≡ pos 1 }
         ensures valid { IsTrue (is_part result.now) }

@@ -233,8 +233,9 @@ impl Script {
     }
 
     /// The step at a place, from 0. The steps are the tasks of all threads, the turns of managers and the reopenings,
-    /// in the order of the lines.
-    pub fn step(&self, place: usize) -> Step
+    /// in the order of the lines. The bytes of a step's name are lent with it.
+    #[inline(always)]
+    pub fn step(&self, place: usize) -> Step<Name<'_>, Gtrid<'_>>
         requires { place < length self.now.steps }
         ensures step { slice_get self.now.steps place ≡ Some result }
         ensures of { IsOfScript self.now result }

@@ -1,18 +1,19 @@
 //! What one line tells to do.
 //!
-//! `X` names a branch and `G` a global transaction: what was read has names whose bytes stand in the line (name.rt),
-//! what a script keeps has places among such bytes (steps.rt), and what is run has an `Xid` and a `Tran`.
+//! `X` names a branch and `G` a global transaction. A script keeps places of names, among bytes of its own (steps.rt).
+//! What was read, and what is lent to be run, has names whose bytes stand elsewhere: in the line, and in the script
+//! (name.rt).
 ghost use Rattle.std.specs.Prelude.{◌≡◌};
 ghost use Rattle.std.specs.Fn.{FnOnceReturnsAt, FnOnceTakesAt};
 ghost use Rattle.xa_grammar.specs.Content.{is_reopen};
 ghost use Rattle.xa_grammar.specs.OwnTasks.{is_own};
 ghost use Rattle.xa_grammar.specs.Steps.{CallHas, ActionHas, StepHas, Computes, call_with, action_with, step_with};
 
-use xa_words::{Call, Death, Delta, Key, ManagerSet, Tran, Xid};
+use xa_words::{Call, Death, Delta, Key, ManagerSet};
 
 /// What a thread calls.
 #[derive(Clone, Copy, Debug, PartialEq, Eq)]
-pub enum Calling<X = Xid> {
+pub enum Calling<X> {
     /// A call of XA but `xa_complete()` and `xa_recover()`, with its branch where it takes one.
     Xa(Call, Option<X>),
     /// A heuristic decision of a branch, to commit where true.
@@ -29,7 +30,7 @@ pub enum Calling<X = Xid> {
 
 /// A call of a manager.
 #[derive(Clone, Copy, Debug, PartialEq, Eq)]
-pub struct Called<X = Xid> {
+pub struct Called<X> {
     /// The number that the line gives, which need not be that of a manager.
     pub manager: u32,
     pub call: Calling<X>,
@@ -39,7 +40,7 @@ pub struct Called<X = Xid> {
 
 /// A commit of a global transaction in two phases. Its branch at manager M is `G.M`.
 #[derive(Clone, Copy, Debug, PartialEq, Eq)]
-pub struct CommitAll<G = Tran> {
+pub struct CommitAll<G> {
     /// The global transaction, of format 1.
     pub tran: G,
     /// Where its branches are.
@@ -50,7 +51,7 @@ pub struct CommitAll<G = Tran> {
 
 /// What a thread does.
 #[derive(Clone, Copy, Debug, PartialEq, Eq)]
-pub enum Action<X = Xid, G = Tran> {
+pub enum Action<X, G> {
     Call(Called<X>),
     CommitAll(CommitAll<G>),
     /// A resolve, by the thread's log, of what the last reopening found left.
@@ -59,7 +60,7 @@ pub enum Action<X = Xid, G = Tran> {
 
 /// What a thread does on a line of its own.
 #[derive(Clone, Copy, Debug, PartialEq, Eq)]
-pub struct Task<X = Xid, G = Tran> {
+pub struct Task<X, G> {
     /// The number of its line, from 1.
     pub line: u32,
     /// The thread's number, from 1.
@@ -69,7 +70,7 @@ pub struct Task<X = Xid, G = Tran> {
 
 /// What is to be done next.
 #[derive(Clone, Copy, Debug, PartialEq, Eq)]
-pub enum Step<X = Xid, G = Tran> {
+pub enum Step<X, G> {
     /// A thread does something.
     Task(Task<X, G>),
     /// A manager takes one request, if there is one.
@@ -88,6 +89,7 @@ pub enum Step<X = Xid, G = Tran> {
 
 impl<X> Calling<X> {
     // With its branch named otherwise.
+    #[inline(always)]
     fn map<Y, N: FnOnce(&X) -> Y>(&self, name: N) -> Calling<Y>
         requires { CallHas (FnOnceTakesAt N.FnOnce name) self.now }
         ensures { (f : X → Y) → Computes (FnOnceReturnsAt N.FnOnce name) f → result ≡ call_with f self.now }
@@ -105,6 +107,7 @@ impl<X> Calling<X> {
 
 impl<X, G> Action<X, G> {
     // With its branch and its global transaction named otherwise.
+    #[inline(always)]
     fn map<Y, H, N: FnOnce(&X) -> Y, T: FnOnce(&G) -> H>(&self, name: N, tran: T) -> Action<Y, H>
         requires { ActionHas (FnOnceTakesAt N.FnOnce name) (FnOnceTakesAt T.FnOnce tran) self.now }
         ensures { (f : X → Y) (g : G → H) → Computes (FnOnceReturnsAt N.FnOnce name) f
@@ -128,11 +131,8 @@ impl<X, G> Action<X, G> {
 
 impl<X, G> Step<X, G> {
     /// The step with its branch and its global transaction named otherwise.
-    pub(crate) fn map<Y, H, N: FnOnce(&X) -> Y, T: FnOnce(&G) -> H>(
-        &self,
-        name: N,
-        tran: T,
-    ) -> Step<Y, H>
+    #[inline(always)]
+    pub fn map<Y, H, N: FnOnce(&X) -> Y, T: FnOnce(&G) -> H>(&self, name: N, tran: T) -> Step<Y, H>
         requires { StepHas (FnOnceTakesAt N.FnOnce name) (FnOnceTakesAt T.FnOnce tran) self.now }
         ensures { (f : X → Y) (g : G → H) → Computes (FnOnceReturnsAt N.FnOnce name) f
             → Computes (FnOnceReturnsAt T.FnOnce tran) g → result ≡ step_with f g self.now }

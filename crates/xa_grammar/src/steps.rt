@@ -84,6 +84,7 @@ fn place_names(step: &Step<Name, Gtrid>, at: usize) -> Step<Place, GtridPlace>
 }
 
 // The branch's name that stands at a place.
+#[inline(always)]
 fn name_at<'a>(names: &'a [u8], place: Place) -> Name<'a>
     requires { IsName names.now place }
     ensures { result ≡ name_at names.now place }
@@ -94,6 +95,7 @@ fn name_at<'a>(names: &'a [u8], place: Place) -> Name<'a>
 }
 
 // The global transaction whose gtrid stands at a place.
+#[inline(always)]
 fn gtrid_at<'a>(names: &'a [u8], place: GtridPlace) -> Gtrid<'a>
     requires { IsGtrid names.now place }
     ensures { result ≡ gtrid_at names.now place }
@@ -102,13 +104,14 @@ fn gtrid_at<'a>(names: &'a [u8], place: GtridPlace) -> Gtrid<'a>
 }
 
 // The step that is kept, with its name.
-fn step_at(names: &[u8], step: &Step<Place, GtridPlace>) -> Step
+#[inline(always)]
+fn step_at<'a>(names: &'a [u8], step: &Step<Place, GtridPlace>) -> Step<Name<'a>, Gtrid<'a>>
     requires { IsNamed names.now step.now }
     ensures { result ≡ step_at names.now step.now }
 {
     step.map(
-        |place| name_at(names, *place).xid(),
-        |place| gtrid_at(names, *place).tran(),
+        |place| name_at(names, *place),
+        |place| gtrid_at(names, *place),
     )
 }
 
@@ -156,7 +159,9 @@ impl Steps {
         Ok(())
     }
 
-    pub(crate) fn get(&self, place: usize) -> Step
+    /// The step at a place, from 0, with the name that stands among the bytes.
+    #[inline(always)]
+    pub(crate) fn get(&self, place: usize) -> Step<Name<'_>, Gtrid<'_>>
         requires { place < length self.now }
         ensures { slice_get self.now place ≡ Some result }
     {

@@ -3,6 +3,7 @@ ghost use Rattle.std.specs.Prelude.{◌≡◌, ◌<◌, Some, length, nat_eq, sl
 ghost use Rattle.std.specs.Arc.{arc_value};
 ghost use Rattle.xa_grammar.specs.OwnTasks.{tasks_in, steps_at, IsTask};
 
+use crate::name::{Gtrid, Name};
 use crate::step::{Step, Task};
 use crate::steps::Steps;
 use std::alloc::Global;
@@ -56,8 +57,9 @@ impl Tasks {
         self.len() == 0
     }
 
-    /// The task at a place, from 0.
-    pub fn get(&self, place: usize) -> Task
+    /// The task at a place, from 0. Its name's bytes are lent with it.
+    #[inline(always)]
+    pub fn get(&self, place: usize) -> Task<Name<'_>, Gtrid<'_>>
         requires { place < length self.now }
         ensures { slice_get self.now place ≡ Some result }
     {

@@ -19,7 +19,7 @@ use xa_base::MOST_HANDLES;
 use xa_crew::{Turns, end_desk, settle_all};
 use xa_desk::EndedDesk;
 use xa_desk::laws::desks_go_on;
-use xa_grammar::{Script, Step, Task};
+use xa_grammar::{Gtrid, Name, Script, Step, Task};
 use xa_log::LosingLog;
 use xa_session::{Session, carry_out, sessions_again, sessions_of};
 use xa_switch::laws::outstanding_operations_stay_kept;
@@ -64,7 +64,12 @@ impl Runner {
     }
 
     // A thread does a task, which is told. It fails only for want of memory.
-    fn call<R: Wait>(&mut self, rt: &R, alloc: Global, task: &Task) -> Result<Told, AllocError>
+    fn call<R: Wait>(
+        &mut self,
+        rt: &R,
+        alloc: Global,
+        task: &Task<Name, Gtrid>,
+    ) -> Result<Told, AllocError>
         requires { IsUpTo (length self.old.sessions.items) task.now.thread }
         ensures calls { IfOk result (HasCalled task.now (stage_of self.old.sessions.items self.old.turns)
             (stage_of self.new.sessions.items self.new.turns)) }

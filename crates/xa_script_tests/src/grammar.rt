@@ -7,9 +7,12 @@ use std::test::Fail;
 use xa_grammar::{
     Action, Called, Calling, Declared, Reason, Script, ScriptFault, Step, Task, read_script,
 };
-use xa_words::{Call, Delta, Key, Xid};
+use xa_words::{Call, Delta, Key, Tran, Xid};
 
-fn call(line: u32, thread: u32, manager: u32, call: Calling, flags: u32) -> Step {
+// A step with names of its own.
+type OwnStep = Step<Xid, Tran>;
+
+fn call(line: u32, thread: u32, manager: u32, call: Calling<Xid>, flags: u32) -> OwnStep {
     Step::Task(Task {
         line,
         thread,
@@ -22,12 +25,13 @@ fn call(line: u32, thread: u32, manager: u32, call: Calling, flags: u32) -> Step
 }
 
 // Whether these are the steps of the script, in their order.
-fn has_steps(script: &Script, want: &[Step]) -> bool {
+fn has_steps(script: &Script, want: &[OwnStep]) -> bool {
     if script.len() != want.len() {
         return false;
     }
     for place in 0..want.len() {
-        if script.step(place) != want[place] {
+        let step = script.step(place);
+        if step.map(|name| name.xid(), |gtrid| gtrid.tran()) != want[place] {
             return false;
         }
     }

@@ -15,28 +15,41 @@ ghost use Rattle.xa_session.specs.Calling.{calling_waits};
 use std::alloc::{AllocError, Global};
 use std::sync::Wait;
 use xa_desk::{Desk, Idle};
-use xa_grammar::{Called, Calling};
+use xa_grammar::{Called, Calling, Name};
 use xa_switch::{Scan, native, xa_call, xa_complete, xa_recover};
 use xa_transcript::Answer;
 use xa_words::{Call, RmOp, Xid};
+
+// The xid of the branch that is called, where there is one.
+#[inline(always)]
+fn xid_of(branch: &Option<Name>) -> Option<Xid>
+    ensures { result ≡ branch.now }
+{
+    match branch {
+        Some(name) => Some(name.xid()),
+        None => None,
+    }
+}
 
 // What an XA call answers.
 #[inline(always)]
 fn xa_called<R: Wait, I: Idle>(
     rt: &R,
     desk: &mut Desk,
-    called: &Called,
+    called: &Called<Name>,
     call: Call,
-    xid: Option<Xid>,
+    branch: &Option<Name>,
     idle: &mut I,
 ) -> Answer
-    ensures answers { HasAnswered (Calls (asked_of call xid called.now.flags)) called.now desk.old desk.new result }
+    ensures answers { HasAnswered (Calls (asked_of call branch.now called.now.flags)) called.now desk.old desk.new
+        result }
     ensures goes_on { GoesOn desk.old desk.new }
     ensures kept { AllKept desk.old → AllKept desk.new }
     ensures idled { I.leads idle.old idle.new }
-    ensures prompt { call_waits desk.old called.now.manager (asked_of call xid called.now.flags) ≡ false
+    ensures prompt { call_waits desk.old called.now.manager (asked_of call branch.now called.now.flags) ≡ false
         → idle.new ≡ idle.old }
 {
+    let xid = xid_of(branch);
     let answer = xa_call(rt, desk, call, xid, called.manager, called.flags, idle);
     Answer::Called(answer)
 }
@@ -48,7 +61,7 @@ pub(crate) fn answer<R: Wait, I: Idle>(
     alloc: Global,
     desk: &mut Desk,
     scan: &mut Scan,
-    called: &Called,
+    called: &Called<Name>,
     idle: &mut I,
 ) -> Result<Answer, AllocError>
     ensures answers { IfOk result (Answers called.now.call called.now desk.old scan.old desk.new scan.new) }
@@ -59,19 +72,19 @@ pub(crate) fn answer<R: Wait, I: Idle>(
     ensures idled { I.leads idle.old idle.new }
     ensures prompt { calling_waits called.now.call called.now desk.old scan.old ≡ false → idle.new ≡ idle.old }
 {
-    match called.call {
-        Calling::Xa(call, xid) => Ok(xa_called(rt, desk, called, call, xid, idle)),
-        Calling::Heur(xid, commits) => {
-            let op = RmOp::Heur(xid, commits);
+    match &called.call {
+        Calling::Xa(call, branch) => Ok(xa_called(rt, desk, called, *call, branch, idle)),
+        Calling::Heur(branch, commits) => {
+            let op = RmOp::Heur(branch.xid(), *commits);
             Ok(native_called(rt, desk, called, op, idle))
         }
         Calling::Add(key, delta) => {
-            let op = RmOp::Add(key, delta);
+            let op = RmOp::Add(*key, *delta);
             Ok(native_called(rt, desk, called, op, idle))
         }
         Calling::Shut => Ok(native_called(rt, desk, called, RmOp::Shut, idle)),
-        Calling::Complete(handle) => Ok(completed(rt, desk, called, handle, idle)),
-        Calling::Recover(room) => recovered(rt, alloc, desk, scan, called, room, idle),
+        Calling::Complete(handle) => Ok(completed(rt, desk, called, *handle, idle)),
+        Calling::Recover(room) => recovered(rt, alloc, desk, scan, called, *room, idle),
     }
 }
 
@@ -100,7 +113,7 @@ fn recovered<R: Wait, I: Idle>(
     alloc: Global,
     desk: &mut Desk,
     scan: &mut Scan,
-    called: &Called,
+    called: &Called<Name>,
     room: u32,
     idle: &mut I,
 ) -> Result<Answer, AllocError>
@@ -135,7 +148,7 @@ fn listed(answer: i32, mut xids: Vec<Xid>) -> Answer
 fn native_called<R: Wait, I: Idle>(
     rt: &R,
     desk: &mut Desk,
-    called: &Called,
+    called: &Called<Name>,
     op: RmOp,
     idle: &mut I,
 ) -> Answer
@@ -155,7 +168,7 @@ fn native_called<R: Wait, I: Idle>(
 fn completed<R: Wait, I: Idle>(
     rt: &R,
     desk: &mut Desk,
-    called: &Called,
+    called: &Called<Name>,
     handle: i32,
     idle: &mut I,
 ) -> Answer

@@ -14,16 +14,16 @@ use xa_base::MOST_MANAGERS;
 use xa_desk::laws::desks_go_on;
 use xa_desk::{Desk, Idle};
 use xa_driver::{Branch, CommitFault, commit_all, commit_until, may_commit};
-use xa_grammar::CommitAll;
+use xa_grammar::{CommitAll, Gtrid};
 use xa_log::LosingLog;
 use xa_transcript::Answer;
 use xa_words::{Death, Xid};
 
 // The branch `G.M` at a manager.
-fn branch_at(asked: &CommitAll, m: u32) -> Branch
+fn branch_at(asked: &CommitAll<Gtrid>, m: u32) -> Branch
     ensures { result ≡ branch_at asked.now m }
 {
-    match Xid::new(1, asked.tran.gtrid(), Buffer::new().format(m).as_bytes()) {
+    match Xid::new(1, asked.tran.bytes(), Buffer::new().format(m).as_bytes()) {
         Ok(xid) => Branch { m, xid },
         // A gtrid has 1 to 64 bytes, and a number has few digits.
         Err(_) => unreachable!(),
@@ -31,7 +31,7 @@ fn branch_at(asked: &CommitAll, m: u32) -> Branch
 }
 
 // The branches of a commit, by rising manager.
-fn branches_of(alloc: Global, asked: &CommitAll) -> Result<Vec<Branch>, AllocError>
+fn branches_of(alloc: Global, asked: &CommitAll<Gtrid>) -> Result<Vec<Branch>, AllocError>
     ensures { IfOk result (λ v. v.items ≡ branches_of asked.now) }
 {
     let mut branches = Vec::with_capacity(alloc, MOST_MANAGERS)?;
@@ -49,7 +49,7 @@ fn decide<R: Wait, I: Idle>(
     alloc: Global,
     desk: &mut Desk,
     log: &mut LosingLog,
-    asked: &CommitAll,
+    asked: &CommitAll<Gtrid>,
     branches: &[Branch],
     idle: &mut I,
 ) -> Result<Answer, AllocError>
@@ -79,7 +79,7 @@ fn die<R: Wait, I: Idle>(
     alloc: Global,
     desk: &mut Desk,
     log: &mut LosingLog,
-    asked: &CommitAll,
+    asked: &CommitAll<Gtrid>,
     branches: &[Branch],
     at: Death,
     idle: &mut I,
@@ -110,7 +110,7 @@ pub(crate) fn commit<R: Wait, I: Idle>(
     alloc: Global,
     desk: &mut Desk,
     log: &mut LosingLog,
-    asked: &CommitAll,
+    asked: &CommitAll<Gtrid>,
     idle: &mut I,
 ) -> Result<Answer, AllocError>
     ensures commits { IfOk result (λ a. (z : ScanView) → CommitsAll asked.now (session_of desk.old log.old z)

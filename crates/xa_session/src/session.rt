@@ -11,7 +11,7 @@ use crate::resolving::resolve_left;
 use std::alloc::{AllocError, Global};
 use std::sync::Wait;
 use xa_desk::{Desk, Idle};
-use xa_grammar::{Action, Script};
+use xa_grammar::{Action, Gtrid, Name, Script};
 use xa_log::{LosingLog, MemoryLog};
 use xa_switch::Scan;
 use xa_transcript::Answer;
@@ -47,7 +47,7 @@ pub fn carry_out<R: Wait, I: Idle>(
     desk: &mut Desk,
     log: &mut LosingLog,
     scan: &mut Scan,
-    action: &Action,
+    action: &Action<Name, Gtrid>,
     idle: &mut I,
 ) -> Result<Answer, AllocError>
     ensures does { IfOk result (Does action.now (session_of desk.old log.old scan.old)

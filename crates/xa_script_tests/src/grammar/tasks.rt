@@ -1,10 +1,15 @@
 //! Commits of several branches, and logs that fail.
-use super::{call, has_steps};
+use super::{OwnStep, call, has_steps};
 use std::test::Fail;
 use xa_grammar::{Action, Calling, CommitAll, Step, Task, read_script};
 use xa_words::{Call, Death, ManagerSet, TMASYNC, Tran};
 
-pub(super) fn commit(line: u32, thread: u32, gtrid: &[u8], managers: &[u32]) -> Result<Step, Fail> {
+pub(super) fn commit(
+    line: u32,
+    thread: u32,
+    gtrid: &[u8],
+    managers: &[u32],
+) -> Result<OwnStep, Fail> {
     commit_until(line, thread, gtrid, managers, None)
 }
 
@@ -14,7 +19,7 @@ pub(super) fn commit_until(
     gtrid: &[u8],
     managers: &[u32],
     death: Option<Death>,
-) -> Result<Step, Fail> {
+) -> Result<OwnStep, Fail> {
     let tran = Tran::new(1, gtrid).ok().ok_or("tran")?;
     let mut all = ManagerSet::new();
     for manager in 1..=8 {
