@@ -24,4 +24,4 @@ unreachable-requires c =
     let value = ap (λ (l : List ℕ). length l) c.as_bytes.ensures.value in
     let size = ap (λ (l : List ℕ). length l) text in
     let some = decimal_nonempty c.args.m (omega arith) in
-    named c.gtrid.result.now c.as_bytes.result.now c.in-Err.field-0 c.gtrid.ensures.valid (part c.as_bytes.result.now (omega (arith, some, size)) (omega (arith, short, value))) (sym c.new-2.ensures ∙ c.in-Err.is)
+    named c.bytes.result.now c.as_bytes.result.now c.in-Err.field-0 c.bytes.ensures.valid (part c.as_bytes.result.now (omega (arith, some, size)) (omega (arith, short, value))) (sym c.new-2.ensures ∙ c.in-Err.is)
