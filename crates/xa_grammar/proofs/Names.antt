@@ -1,8 +1,9 @@
 -- The bytes of names stay where they stand as more are appended.
 use Rattle.std.specs.Prelude.{◌≡◌, ◌==◌, ℕ, pos, ◌+◌, ◌≤◌, Bool, true, false, if◌then◌else◌, List, [], ◌∷◌, ◌++◌, length, take, drop, All, Some, None, is_some}
 use Rattle.std.specs.List.{list_any}
-use Rattle.std.proofs.Common.{◌||◌, refl, sym, ap, ◌∙◌, arith, append_assoc}
-use Rattle.std.proofs.Math.Seq.{drop-append_seam, take-append_seam, take-length}
+use Rattle.std.proofs.Common.{◌||◌, refl, sym, ap, ◌∙◌, subst, arith, append_assoc, append-nil}
+use Rattle.std.proofs.Math.ListN.{get_or-append}
+use Rattle.std.proofs.Math.Seq.{drop-append_seam, take-append_seam, take-length, get_or-append_seam}
 use Rattle.std.proofs.lemmas.List.{length-append, length-drop, drop-append-le, take-append-le}
 use Rattle.std.proofs.lemmas.List.Elements.{All-nil, All-cons, All-head, All-tail}
 use Rattle.xa_words.specs.Xid.{XidName}
@@ -14,11 +15,13 @@ use Rattle.xa_grammar.specs.declared.step.Action.TheVariants as action
 use Rattle.xa_grammar.specs.declared.step.Step.TheVariants as step
 use Rattle.xa_grammar.specs.declared.steps.Place.{Place}
 use Rattle.xa_grammar.specs.declared.steps.GtridPlace.{GtridPlace}
-use Rattle.xa_grammar.specs.Steps.{ScriptAction, ScriptStep, CallHas, ActionHas, call_with, action_with, step_with}
+use Rattle.xa_grammar.specs.declared.steps.KeyPlace.{KeyPlace}
+use Rattle.xa_grammar.specs.Steps.{ScriptCalling, ScriptAction, ScriptStep, CallHas, ActionHas, call_with, action_with, step_with}
 use Rattle.xa_grammar.specs.Content.{is_reopen}
 use Rattle.xa_grammar.specs.OwnTasks.{is_own}
-use Rattle.xa_grammar.specs.KeptSteps.{KeptStep, bytes_at, name_at, gtrid_at, IsName, IsGtrid, IsNamed, step_at, steps_of, bytes_called, bytes_given, bytes_in}
-use Rattle.xa_grammar.specs.KeptSteps.{IsShortName, IsShortGtrid, IsShort, place_from, gtrid_place_from}
+use Rattle.xa_grammar.specs.KeptSteps.{KeptStep, bytes_at, name_at, gtrid_at, key_at, IsName, IsGtrid, IsKey, IsNamed, step_at, steps_of, bytes_called}
+use Rattle.xa_grammar.specs.KeptSteps.{bytes_given, bytes_in}
+use Rattle.xa_grammar.specs.KeptSteps.{keys_called, keys_given, keys_in, IsShortName, IsShortGtrid, IsShort, place_from, gtrid_place_from, key_place_from}
 
 -- ---- the parts that were appended last
 
@@ -64,27 +67,36 @@ is_gtrid_grown xs more p is =
     let within = is.within in
     record { within = omega (arith, longer, within); long = is.long }
 
-call_grown : (xs more : List ℕ) (c : Calling Place) → CallHas (IsName xs) c
-    → (call_with (name_at (xs ++ more)) c ≡ call_with (name_at xs) c) × CallHas (IsName (xs ++ more)) c
-call_grown xs more (calling.Xa c (Some p)) has = (ap (λ (x : XidName). calling.Xa c (Some x)) (name_grown xs more p has), is_name_grown xs more p has)
-call_grown xs more (calling.Heur p commits) has = (ap (λ (x : XidName). calling.Heur x commits) (name_grown xs more p has), is_name_grown xs more p has)
-call_grown xs more c has = (refl, tt)
+key_grown : (ks others : List (List ℕ)) (p : KeyPlace) → IsKey ks p → key_at (ks ++ others) p ≡ key_at ks p
+key_grown ks others p is = get_or-append ks others [] p.at is
 
-action_grown : (xs more : List ℕ) (a : Action Place GtridPlace) → ActionHas (IsName xs) (IsGtrid xs) a
-    → (action_with (name_at (xs ++ more)) (gtrid_at (xs ++ more)) a ≡ action_with (name_at xs) (gtrid_at xs) a)
-    × ActionHas (IsName (xs ++ more)) (IsGtrid (xs ++ more)) a
-action_grown xs more (action.Call c) has =
-    let (same, still) = call_grown xs more c.call has in
-    (ap (λ (q : Calling XidName). action.Call (record { manager = c.manager; call = q; flags = c.flags })) same, still)
-action_grown xs more (action.CommitAll c) has =
+is_key_grown : (ks others : List (List ℕ)) (p : KeyPlace) → IsKey ks p → IsKey (ks ++ others) p
+is_key_grown ks others p is = let longer = length-append ks others in omega (arith, longer, is)
+
+call_grown : (xs more : List ℕ) (ks others : List (List ℕ)) (c : Calling Place KeyPlace) → CallHas (IsName xs) (IsKey ks) c
+    → (call_with (name_at (xs ++ more)) (key_at (ks ++ others)) c ≡ call_with (name_at xs) (key_at ks) c) × CallHas (IsName (xs ++ more)) (IsKey (ks ++ others)) c
+call_grown xs more ks others (calling.Xa c (Some p)) has = (ap (λ (x : XidName). calling.Xa c (Some x)) (name_grown xs more p has), is_name_grown xs more p has)
+call_grown xs more ks others (calling.Heur p commits) has =
+    (ap (λ (x : XidName). calling.Heur x commits) (name_grown xs more p has), is_name_grown xs more p has)
+call_grown xs more ks others (calling.Add k d) has = (ap (λ (q : List ℕ). calling.Add q d) (key_grown ks others k has), is_key_grown ks others k has)
+call_grown xs more ks others c has = (refl, tt)
+
+action_grown : (xs more : List ℕ) (ks others : List (List ℕ)) (a : Action Place GtridPlace KeyPlace) → ActionHas (IsName xs) (IsGtrid xs) (IsKey ks) a
+    → (action_with (name_at (xs ++ more)) (gtrid_at (xs ++ more)) (key_at (ks ++ others)) a ≡ action_with (name_at xs) (gtrid_at xs) (key_at ks) a)
+    × ActionHas (IsName (xs ++ more)) (IsGtrid (xs ++ more)) (IsKey (ks ++ others)) a
+action_grown xs more ks others (action.Call c) has =
+    let (same, still) = call_grown xs more ks others c.call has in
+    (ap (λ (q : ScriptCalling). action.Call (record { manager = c.manager; flags = c.flags; call = q })) same, still)
+action_grown xs more ks others (action.CommitAll c) has =
     (ap (λ (g : TranName). action.CommitAll (record { tran = g; managers = c.managers; death = c.death })) (gtrid_grown xs more c.tran has), is_gtrid_grown xs more c.tran has)
-action_grown xs more action.Resolve has = (refl, tt)
+action_grown xs more ks others action.Resolve has = (refl, tt)
 
-step_grown : (xs more : List ℕ) (p : KeptStep) → IsNamed xs p → (step_at (xs ++ more) p ≡ step_at xs p) × IsNamed (xs ++ more) p
-step_grown xs more (step.Task p) is =
-    let (same, still) = action_grown xs more p.action is in
+step_grown : (xs more : List ℕ) (ks others : List (List ℕ)) (p : KeptStep) → IsNamed xs ks p
+    → (step_at (xs ++ more) (ks ++ others) p ≡ step_at xs ks p) × IsNamed (xs ++ more) (ks ++ others) p
+step_grown xs more ks others (step.Task p) is =
+    let (same, still) = action_grown xs more ks others p.action is in
     (ap (λ (a : ScriptAction). step.Task (record { line = p.line; thread = p.thread; action = a })) same, still)
-step_grown xs more p is = (refl, tt)
+step_grown xs more ks others p is = (refl, tt)
 
 -- ---- a step whose name is appended
 
@@ -107,51 +119,67 @@ gtrid_put xs t (format, long) =
 abbrev pub with_bytes : List ℕ → List ℕ × List ℕ → List ℕ
 with_bytes xs parts = (xs ++ parts.0) ++ parts.1
 
-call_put : (xs : List ℕ) (c : Calling XidName) → CallHas IsShortName c
-    → (call_with (name_at (with_bytes xs (bytes_called c))) (call_with (place_from (length xs)) c) ≡ c) × CallHas (IsName (with_bytes xs (bytes_called c))) (call_with (place_from (length xs)) c)
-call_put xs (calling.Xa c (Some x)) short = let put = name_put xs x short in (ap (λ (y : XidName). calling.Xa c (Some y)) put.0, put.1)
-call_put xs (calling.Heur x commits) short = let put = name_put xs x short in (ap (λ (y : XidName). calling.Heur y commits) put.0, put.1)
-call_put xs c short = (refl, tt)
+-- and so does its key
+key_put : (ks : List (List ℕ)) (k : List ℕ) → (key_at (ks ++ k ∷ []) (key_place_from (length ks) k) ≡ k) × IsKey (ks ++ k ∷ []) (key_place_from (length ks) k)
+key_put ks k = (get_or-append_seam ks k [] [], let longer = length-append ks (k ∷ []) in omega (arith, longer))
 
--- so does the step's
-pub step_put : (xs : List ℕ) (p : ScriptStep) → IsShort p
-    → let all = with_bytes xs (bytes_in p) in let kept = step_with (place_from (length xs)) (gtrid_place_from (length xs)) p in (step_at all kept ≡ p) × IsNamed all kept
-step_put xs (step.Task p) short =
+call_put : (xs : List ℕ) (ks : List (List ℕ)) (c : ScriptCalling) → CallHas IsShortName (λ k. Unit {0}) c
+    → let all = with_bytes xs (bytes_called c) in let keys = ks ++ keys_called c in let kept = call_with (place_from (length xs)) (key_place_from (length ks)) c in
+    (call_with (name_at all) (key_at keys) kept ≡ c) × CallHas (IsName all) (IsKey keys) kept
+call_put xs ks (calling.Xa c (Some x)) short = let put = name_put xs x short in (ap (λ (y : XidName). calling.Xa c (Some y)) put.0, put.1)
+call_put xs ks (calling.Heur x commits) short = let put = name_put xs x short in (ap (λ (y : XidName). calling.Heur y commits) put.0, put.1)
+call_put xs ks (calling.Add k d) short = let put = key_put ks k in (ap (λ (q : List ℕ). calling.Add q d) put.0, put.1)
+call_put xs ks c short = (refl, tt)
+
+-- so do the step's
+pub step_put : (xs : List ℕ) (ks : List (List ℕ)) (p : ScriptStep) → IsShort p
+    → let all = with_bytes xs (bytes_in p) in let keys = ks ++ keys_in p in
+    let kept = step_with (place_from (length xs)) (gtrid_place_from (length xs)) (key_place_from (length ks)) p in
+    (step_at all keys kept ≡ p) × IsNamed all keys kept
+step_put xs ks (step.Task p) short =
     let put = given_put p.action short in (ap (λ (a : ScriptAction). step.Task (record { line = p.line; thread = p.thread; action = a })) put.0, put.1)
   where
-    given_put : (a : ScriptAction) → ActionHas IsShortName IsShortGtrid a
-        → let all = with_bytes xs (bytes_given a) in let kept = action_with (place_from (length xs)) (gtrid_place_from (length xs)) a in (action_with (name_at all) (gtrid_at all) kept ≡ a) × ActionHas (IsName all) (IsGtrid all) kept
+    given_put : (a : ScriptAction) → ActionHas IsShortName IsShortGtrid (λ k. Unit {0}) a
+        → let all = with_bytes xs (bytes_given a) in let keys = ks ++ keys_given a in
+        let kept = action_with (place_from (length xs)) (gtrid_place_from (length xs)) (key_place_from (length ks)) a in
+        (action_with (name_at all) (gtrid_at all) (key_at keys) kept ≡ a) × ActionHas (IsName all) (IsGtrid all) (IsKey keys) kept
     given_put (action.Call c) short =
-        let put = call_put xs c.call short in
-        (ap (λ (q : Calling XidName). action.Call (record { manager = c.manager; call = q; flags = c.flags })) put.0, put.1)
+        let put = call_put xs ks c.call short in
+        (ap (λ (q : ScriptCalling). action.Call (record { manager = c.manager; flags = c.flags; call = q })) put.0, put.1)
     given_put (action.CommitAll c) short =
         let put = gtrid_put xs c.tran short in
         (ap (λ (t : TranName). action.CommitAll (record { tran = t; managers = c.managers; death = c.death })) put.0, put.1)
     given_put action.Resolve short = (refl, tt)
-step_put xs p short = (refl, tt)
+step_put xs ks p short = (refl, tt)
 
 -- ---- so steps stay as they are
-pub steps_grown : (xs more : List ℕ) (kept : List KeptStep) → All (IsNamed xs) kept
-    → (steps_of (xs ++ more) kept ≡ steps_of xs kept) × All (IsNamed (xs ++ more)) kept
-steps_grown xs more [] all = (refl, All-nil (IsNamed (xs ++ more)))
-steps_grown xs more (p ∷ kept) all =
-    let (first, named) = step_grown xs more p (All-head (IsNamed xs) p kept all) in
-    let (rest, others) = steps_grown xs more kept (All-tail (IsNamed xs) p kept all) in
-    (λ i. first i ∷ rest i, All-cons (IsNamed (xs ++ more)) p kept named others)
+pub steps_grown : (xs more : List ℕ) (ks others : List (List ℕ)) (kept : List KeptStep) → All (IsNamed xs ks) kept
+    → (steps_of (xs ++ more) (ks ++ others) kept ≡ steps_of xs ks kept) × All (IsNamed (xs ++ more) (ks ++ others)) kept
+steps_grown xs more ks others [] all = (refl, All-nil (IsNamed (xs ++ more) (ks ++ others)))
+steps_grown xs more ks others (p ∷ kept) all =
+    let (first, named) = step_grown xs more ks others p (All-head (IsNamed xs ks) p kept all) in
+    let (rest, later) = steps_grown xs more ks others kept (All-tail (IsNamed xs ks) p kept all) in
+    (λ i. first i ∷ rest i, All-cons (IsNamed (xs ++ more) (ks ++ others)) p kept named later)
 
-reopens_same : (bytes : List ℕ) (p : KeptStep) → is_reopen p ≡ is_reopen (step_at bytes p)
-reopens_same bytes (step.Task p) = refl
-reopens_same bytes p = refl
+-- where no key was appended
+pub names_grown : (xs more : List ℕ) (ks : List (List ℕ)) (kept : List KeptStep) → All (IsNamed xs ks) kept
+    → (steps_of (xs ++ more) ks kept ≡ steps_of xs ks kept) × All (IsNamed (xs ++ more) ks) kept
+names_grown xs more ks kept all =
+    subst (λ (l : List (List ℕ)). (steps_of (xs ++ more) l kept ≡ steps_of xs ks kept) × All (IsNamed (xs ++ more) l) kept) (append-nil ks) (steps_grown xs more ks [] kept all)
 
-pub any_reopens : (bytes : List ℕ) (kept : List KeptStep) → list_any is_reopen kept ≡ list_any is_reopen (steps_of bytes kept)
-any_reopens bytes [] = refl
-any_reopens bytes (p ∷ kept) = λ i. reopens_same bytes p i || any_reopens bytes kept i
+reopens_same : (bytes : List ℕ) (keys : List (List ℕ)) (p : KeptStep) → is_reopen p ≡ is_reopen (step_at bytes keys p)
+reopens_same bytes keys (step.Task p) = refl
+reopens_same bytes keys p = refl
+
+pub any_reopens : (bytes : List ℕ) (keys : List (List ℕ)) (kept : List KeptStep) → list_any is_reopen kept ≡ list_any is_reopen (steps_of bytes keys kept)
+any_reopens bytes keys [] = refl
+any_reopens bytes keys (p ∷ kept) = λ i. reopens_same bytes keys p i || any_reopens bytes keys kept i
 
 own_cases : {A B : Type 0} (b : Bool) (p : A) (q : B) → is_some (if b then Some p else None) ≡ is_some (if b then Some q else None)
 own_cases true p q = refl
 own_cases false p q = refl
 
 -- names don't tell whose a step is
-pub own_same : (t : ℕ) (bytes : List ℕ) (p : KeptStep) → is_own t p ≡ is_own t (step_at bytes p)
-own_same t bytes (step.Task p) = own_cases (p.thread == t) p _
-own_same t bytes p = refl
+pub own_same : (t : ℕ) (bytes : List ℕ) (keys : List (List ℕ)) (p : KeptStep) → is_own t p ≡ is_own t (step_at bytes keys p)
+own_same t bytes keys (step.Task p) = own_cases (p.thread == t) p _
+own_same t bytes keys p = refl

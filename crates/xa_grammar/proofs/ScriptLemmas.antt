@@ -13,16 +13,13 @@ use Rattle.std.proofs.lemmas.List.Elements.{All-append, filter-append, All-cons,
 use Rattle.std.proofs.lemmas.List.Folds.{list_any-append, list_all-append}
 use Rattle.std.proofs.lemmas.List.Sums.{length-filter}
 use Rattle.xa_words.specs.Key.{key_eq}
-use Rattle.xa_words.specs.Xid.{XidName}
 use Rattle.xa_words.specs.Orders.{Decides-key_eq}
 use Rattle.xa_tables.specs.Accounts.{are_accounts, are_apart}
 use Rattle.xa_grammar.specs.declared.fault.Reason.{Reason}
 use Rattle.xa_grammar.specs.declared.fault.Reason.TheVariants.{KeyTwice, TooManyKeys, OutOfRange, BadNumber, UnknownWord, TooManyLines, LineTooLong, BadByte}
 use Rattle.xa_grammar.specs.declared.script.Declared.{Declared}
 use Rattle.xa_grammar.specs.declared.script.UnknownAppend.{UnknownAppend}
-use Rattle.xa_grammar.specs.declared.step.Calling.{Calling}
 use Rattle.xa_grammar.specs.declared.step.Calling.TheVariants as calling
-use Rattle.xa_grammar.specs.declared.step.Called.{Called}
 use Rattle.xa_grammar.specs.declared.step.Action.TheVariants as action
 use Rattle.xa_grammar.specs.declared.step.Step.TheVariants as step
 use Rattle.xa_grammar.specs.declared.script.Count.{Count}
@@ -36,7 +33,7 @@ use Rattle.xa_grammar.specs.declared.line.Item.TheVariants as item
 use Rattle.xa_grammar.specs.Text.{is_script_byte, words_of}
 use Rattle.xa_grammar.specs.Fields.{◌>>=◌, Word, word_at, end_of, number_of, number_in, number_at, key_at, xid_at, delta_at, flags_onto}
 use Rattle.xa_base.specs.Lists.{IsUpTo}
-use Rattle.xa_grammar.specs.Steps.{ScriptAction, ScriptTask, ScriptStep}
+use Rattle.xa_grammar.specs.Steps.{ScriptCalling, ScriptCalled, ScriptAction, ScriptTask, ScriptStep}
 use Rattle.xa_grammar.specs.Content.{Content, IsScript, IsOfManager, IsOfLog, IsOfUnknown, IsOfScript, AsksForFew, HasFewXids, threads_of, managers_of}
 use Rattle.xa_grammar.specs.Content.{accounts_of}
 use Rattle.xa_grammar.specs.Content.{failing_append, unknown_append, with_count, with_key, with_sync, with_failing, with_unknown, with_step}
@@ -278,11 +275,12 @@ declared_kept s ws d e =
     subst (λ (z : Declared). IsScript s → IsScript (with_key z s)) same
     (key_kept s made (number_is 1 (managers_of s) ws m.0 m.1.0) new.0 (grind (arith, few.0)) (number_is 0 1000000000000 k.0.1 v.0 v.1.0).1)
 
-asked : (a : Calling XidName) (rest : List Word) (x : Calling XidName × List Word) → ◌≡◌ {A = Result (Calling XidName × List Word) Reason} (Ok (a, rest)) (Ok x)
+asked : (a : ScriptCalling) (rest : List Word) (x : ScriptCalling × List Word)
+    → ◌≡◌ {A = Result (ScriptCalling × List Word) Reason} (Ok (a, rest)) (Ok x)
     → AsksForFew a → AsksForFew x.0
-asked a rest x e few = subst (λ (y : Calling XidName × List Word). AsksForFew y.0) (ok_is (a, rest) x e) few
+asked a rest x e few = subst (λ (y : ScriptCalling × List Word). AsksForFew y.0) (ok_is (a, rest) x e) few
 
-few_asked : (v : Verb) (ws : List Word) (x : Calling XidName × List Word) → calling_at v ws ≡ Ok x → AsksForFew x.0
+few_asked : (v : Verb) (ws : List Word) (x : ScriptCalling × List Word) → calling_at v ws ≡ Ok x → AsksForFew x.0
 unfolding calling_at
 few_asked (verb.Plain c) ws x e = asked (calling.Xa c None) ws x e tt
 few_asked (verb.OnBranch c) ws x e = let b = and_then (xid_at ws) _ x e in asked (calling.Xa c (Some b.0.0)) b.0.1 x b.1.1 tt
@@ -295,14 +293,14 @@ few_asked verb.Shut ws x e = asked calling.Shut ws x e tt
 few_asked verb.Complete ws x e = let h = and_then (number_at 0 2147483647 ws) _ x e in asked (calling.Complete (pos h.0.0)) h.0.1 x h.1.1 tt
 few_asked verb.Recover ws x e = let c = and_then (number_at 0 64 ws) _ x e in asked (calling.Recover c.0.0) c.0.1 x c.1.1 (number_is 0 64 ws c.0 c.1.0).1
 
-call_is : (w : Word) (ws : List Word) (q : Called XidName) → call_of w ws ≡ Ok q → AsksForFew q.call
+call_is : (w : Word) (ws : List Word) (q : ScriptCalled) → call_of w ws ≡ Ok q → AsksForFew q.call
 unfolding call_of
 call_is w ws q e =
     let v = and_then (ok_or (verb_of w) UnknownWord) _ q e in
     let m = and_then (number_at 0 4294967295 ws) _ q v.1.1 in
     let c = and_then (calling_at v.0 m.0.1) _ q m.1.1 in
     let f = and_then (flags_onto 0 c.0.1) _ q c.1.1 in
-    subst (λ (x : Called XidName). AsksForFew x.call) (ok_is (record { manager = m.0.0; call = c.0.0; flags = f.0 }) q f.1.1) (few_asked v.0 m.0.1 c.0 c.1.0)
+    subst (λ (x : ScriptCalled). AsksForFew x.call) (ok_is (record { manager = m.0.0; flags = f.0; call = c.0.0 }) q f.1.1) (few_asked v.0 m.0.1 c.0 c.1.0)
 
 action_is : (s : Content) (w : Word) (ws : List Word) (a : ScriptAction) → action_of s w ws ≡ Ok a → HasFewXids a
 action_is s w ws a =

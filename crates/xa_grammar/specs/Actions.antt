@@ -5,12 +5,9 @@ use Rattle.std.specs.Option.{ok_or}
 use Rattle.std.specs.Map.{lookup}
 use Rattle.std.specs.Str.{bytes_eq}
 use Rattle.xa_words.specs.declared.flags.Call.TheVariants as call
-use Rattle.xa_words.specs.Xid.{XidName}
 use Rattle.xa_grammar.specs.declared.fault.Reason.{Reason}
 use Rattle.xa_grammar.specs.declared.fault.Reason.TheVariants.{UnknownWord, TurnInThreadsMode, ReopenInThreadsMode}
-use Rattle.xa_grammar.specs.declared.step.Calling.{Calling}
 use Rattle.xa_grammar.specs.declared.step.Calling.TheVariants as calling
-use Rattle.xa_grammar.specs.declared.step.Called.{Called}
 use Rattle.xa_grammar.specs.declared.step.Action.TheVariants as action
 use Rattle.xa_grammar.specs.declared.action.Verb.{Verb}
 use Rattle.xa_grammar.specs.declared.action.Verb.TheVariants as verb
@@ -19,7 +16,7 @@ use Rattle.xa_grammar.specs.declared.commit.TheConstants.{MOST_MANAGER}
 use Rattle.xa_grammar.specs.Fields.{◌>>=◌, Word, word_at, end_of, number_in, number_at, key_at, xid_at, delta_at}
 use Rattle.xa_grammar.specs.Fields.{flags_onto}
 use Rattle.xa_grammar.specs.Content.{Content, threads_of, managers_of}
-use Rattle.xa_grammar.specs.Steps.{ScriptAction, ScriptTask}
+use Rattle.xa_grammar.specs.Steps.{ScriptCalling, ScriptCalled, ScriptAction, ScriptTask}
 use Rattle.xa_grammar.specs.Commits.{commit_of}
 
 -- The fourteen verbs.
@@ -46,7 +43,7 @@ abbrev pub verb_of : Word → Option Verb
 verb_of w = lookup (bytes_eq w) verbs
 
 -- The words between M and the flags: none, XID, KEY DELTA, HANDLE, or COUNT, which is at most 64.
-unfoldable pub calling_at : Verb → List Word → Result (Calling XidName × List Word) Reason
+unfoldable pub calling_at : Verb → List Word → Result (ScriptCalling × List Word) Reason
 calling_at (verb.Plain c) ws = Ok (calling.Xa c None, ws)
 calling_at (verb.OnBranch c) ws = do
   x ← xid_at ws
@@ -67,7 +64,7 @@ calling_at verb.Recover ws = do
   Ok (calling.Recover c.0, c.1)
 
 -- The words after any other verb: M .. flags; M is any number up to 4,294,967,295.
-unfoldable pub call_of : Word → List Word → Result (Called XidName) Reason
+unfoldable pub call_of : Word → List Word → Result ScriptCalled Reason
 call_of w ws = do
   v ← ok_or (verb_of w) UnknownWord
   m ← number_at 0 MOST_MANAGER ws

@@ -74,7 +74,7 @@ abbrev pub unknown_append : Content → ℕ → Option UnknownAppend
 unknown_append s t = if nat_lt 0 t then get_or s.unknown (t - 1) None else None
 
 -- The step where it is a task of thread t.
-abbrev pub task_of : {X G : Type 0} → ℕ → Step X G → Option (Task X G)
+abbrev pub task_of : {X G K : Type 0} → ℕ → Step X G K → Option (Task X G K)
 task_of t (step.Task p) = if p.thread == t then Some p else None
 task_of t (step.Turn line m) = None
 task_of t (step.Reopen line) = None
@@ -84,7 +84,7 @@ abbrev pub tasks_of : ℕ → List ScriptStep → List ScriptTask
 tasks_of t steps = filter_map (task_of t) steps
 
 -- The line opens the managers again.
-abbrev pub is_reopen : {X G : Type 0} → Step X G → Bool
+abbrev pub is_reopen : {X G K : Type 0} → Step X G K → Bool
 is_reopen (step.Task p) = false
 is_reopen (step.Turn line m) = false
 is_reopen (step.Reopen line) = true
@@ -145,7 +145,7 @@ abbrev pub IsOfManager : Content → Declared → Type 0
 IsOfManager s d = (1 ≤ d.manager) × (d.manager ≤ managers_of s)
 
 -- A call asks for at most 64 xids.
-abbrev pub AsksForFew : {X : Type 0} → Calling X → Type 0
+abbrev pub AsksForFew : {X K : Type 0} → Calling X K → Type 0
 AsksForFew (calling.Xa c x) = Unit {0}
 AsksForFew (calling.Heur x commits) = Unit {0}
 AsksForFew (calling.Add k d) = Unit {0}
@@ -154,14 +154,14 @@ AsksForFew (calling.Complete h) = Unit {0}
 AsksForFew (calling.Recover n) = n ≤ MOST_COUNT
 
 -- So does whatever a thread does.
-abbrev pub HasFewXids : {X G : Type 0} → Action X G → Type 0
+abbrev pub HasFewXids : {X G K : Type 0} → Action X G K → Type 0
 HasFewXids (action.Call c) = AsksForFew c.call
 HasFewXids (action.CommitAll c) = Unit {0}
 HasFewXids action.Resolve = Unit {0}
 
 -- With so many threads and managers, a task is of a thread that there is and asks for at most 64 xids, and a turn is of
 -- a manager that there is.
-abbrev pub Fits : {X G : Type 0} → ℕ → ℕ → Step X G → Type 0
+abbrev pub Fits : {X G K : Type 0} → ℕ → ℕ → Step X G K → Type 0
 Fits threads managers (step.Task p) = IsUpTo threads p.thread × HasFewXids p.action
 Fits threads managers (step.Turn line m) = IsUpTo managers m
 Fits threads managers (step.Reopen line) = Unit {0}

@@ -1,20 +1,20 @@
--- Steps as a script keeps them: the bytes of their names stand one after the other.
-use Rattle.std.specs.Prelude.{◌≡◌, ℕ, ◌+◌, ◌≤◌, pos, List, [], length, map, take, drop, Some}
+-- Steps as a script keeps them: the bytes of their names stand one after the other, and so do the keys of additions.
+use Rattle.std.specs.Prelude.{◌≡◌, ℕ, ◌+◌, ◌≤◌, ◌<◌, pos, List, [], ◌∷◌, length, map, take, drop, get_or, Some}
 use Rattle.xa_base.specs.Lists.{IsUpTo}
 use Rattle.xa_words.specs.Xid.{XidName}
 use Rattle.xa_words.specs.Tran.{TranName}
-use Rattle.xa_grammar.specs.declared.step.Calling.{Calling}
 use Rattle.xa_grammar.specs.declared.step.Calling.TheVariants as calling
 use Rattle.xa_grammar.specs.declared.step.Action.TheVariants as action
 use Rattle.xa_grammar.specs.declared.step.Step.{Step}
 use Rattle.xa_grammar.specs.declared.step.Step.TheVariants as step
 use Rattle.xa_grammar.specs.declared.steps.Place.{Place}
 use Rattle.xa_grammar.specs.declared.steps.GtridPlace.{GtridPlace}
-use Rattle.xa_grammar.specs.Steps.{ScriptAction, ScriptStep, StepHas, step_with}
+use Rattle.xa_grammar.specs.declared.steps.KeyPlace.{KeyPlace}
+use Rattle.xa_grammar.specs.Steps.{ScriptCalling, ScriptAction, ScriptStep, StepHas, step_with}
 
 -- a step as it is kept
 abbrev pub KeptStep : Type 0
-KeptStep = Step Place GtridPlace
+KeptStep = Step Place GtridPlace KeyPlace
 
 -- so many bytes from a place on
 abbrev pub bytes_at : List ℕ → ℕ → ℕ → List ℕ
@@ -32,6 +32,10 @@ name_at bytes p = record {
 abbrev pub gtrid_at : List ℕ → GtridPlace → TranName
 gtrid_at bytes p = record { format = pos 1; gtrid = bytes_at bytes p.at p.len }
 
+-- the key that stands at a place
+abbrev pub key_at : List (List ℕ) → KeyPlace → List ℕ
+key_at keys p = get_or keys p.at []
+
 -- a branch's name stands there: both parts have 1 to 64 bytes
 pub record IsName (bytes : List ℕ) (p : Place) : Type 0 where
   pub within : p.at + p.gtrid + p.bqual ≤ length bytes
@@ -43,18 +47,22 @@ pub record IsGtrid (bytes : List ℕ) (p : GtridPlace) : Type 0 where
   pub within : p.at + p.len ≤ length bytes
   pub long : IsUpTo 64 p.len
 
--- names stand where the step says
-abbrev pub IsNamed : List ℕ → KeptStep → Type 0
-IsNamed bytes p = StepHas (IsName bytes) (IsGtrid bytes) p
+-- a key stands there
+abbrev pub IsKey : List (List ℕ) → KeyPlace → Type 0
+IsKey keys p = p.at < length keys
 
--- the step with the names that stand there
-abbrev pub step_at : List ℕ → KeptStep → ScriptStep
-step_at bytes p = step_with (name_at bytes) (gtrid_at bytes) p
+-- names and keys stand where the step says
+abbrev pub IsNamed : List ℕ → List (List ℕ) → KeptStep → Type 0
+IsNamed bytes keys p = StepHas (IsName bytes) (IsGtrid bytes) (IsKey keys) p
+
+-- the step with the names and the keys that stand there
+abbrev pub step_at : List ℕ → List (List ℕ) → KeptStep → ScriptStep
+step_at bytes keys p = step_with (name_at bytes) (gtrid_at bytes) (key_at keys) p
 
 -- ---- a step that comes
 
 -- the bytes of the branch's name that a call has: its gtrid and its bqual
-abbrev pub bytes_called : Calling XidName → List ℕ × List ℕ
+abbrev pub bytes_called : ScriptCalling → List ℕ × List ℕ
 bytes_called (calling.Xa c (Some x)) = (x.gtrid, x.bqual)
 bytes_called (calling.Heur x commits) = (x.gtrid, x.bqual)
 bytes_called other = ([], [])
@@ -70,6 +78,20 @@ abbrev pub bytes_in : ScriptStep → List ℕ × List ℕ
 bytes_in (step.Task p) = bytes_given p.action
 bytes_in other = ([], [])
 
+-- the keys of the call: one where it is an addition
+abbrev pub keys_called : ScriptCalling → List (List ℕ)
+keys_called (calling.Add k d) = k ∷ []
+keys_called other = []
+
+-- those that a thread gives, and those of the step
+abbrev pub keys_given : ScriptAction → List (List ℕ)
+keys_given (action.Call c) = keys_called c.call
+keys_given other = []
+
+abbrev pub keys_in : ScriptStep → List (List ℕ)
+keys_in (step.Task p) = keys_given p.action
+keys_in other = []
+
 -- a name of a script: of format 1, with parts of 1 to 64 bytes
 abbrev pub IsShortName : XidName → Type 0
 IsShortName x = (x.format ≡ pos 1) × IsUpTo 64 (length x.gtrid) × IsUpTo 64 (length x.bqual)
@@ -79,7 +101,7 @@ IsShortGtrid t = (t.format ≡ pos 1) × IsUpTo 64 (length t.gtrid)
 
 -- so are those of the step
 abbrev pub IsShort : ScriptStep → Type 0
-IsShort p = StepHas IsShortName IsShortGtrid p
+IsShort p = StepHas IsShortName IsShortGtrid (λ k. Unit {0}) p
 
 -- where a name stands whose bytes come from a place on
 abbrev pub place_from : ℕ → XidName → Place
@@ -88,8 +110,12 @@ place_from at x = record { at = at; gtrid = length x.gtrid; bqual = length x.bqu
 abbrev pub gtrid_place_from : ℕ → TranName → GtridPlace
 gtrid_place_from at t = record { at = at; len = length t.gtrid }
 
+-- where a key stands that comes at a place
+abbrev pub key_place_from : ℕ → List ℕ → KeyPlace
+key_place_from at k = record { at = at }
+
 -- ---- all steps
 
 -- the steps that are kept
-abbrev pub steps_of : List ℕ → List KeptStep → List ScriptStep
-steps_of bytes kept = map (step_at bytes) kept
+abbrev pub steps_of : List ℕ → List (List ℕ) → List KeptStep → List ScriptStep
+steps_of bytes keys kept = map (step_at bytes keys) kept

@@ -7,7 +7,7 @@ use Rattle.xa_grammar.specs.Steps.{ScriptTask, ScriptStep}
 use Rattle.xa_grammar.specs.Content.{task_of}
 
 -- the task that a step is
-abbrev pub task_in : {X G : Type 0} → Step X G → Option (Task X G)
+abbrev pub task_in : {X G K : Type 0} → Step X G K → Option (Task X G K)
 task_in (step.Task p) = Some p
 task_in (step.Turn line m) = None
 task_in (step.Reopen line) = None
@@ -17,7 +17,7 @@ abbrev pub IsTask : ScriptStep → Type 0
 IsTask p = is_some (task_in p) ≡ true
 
 -- the step is a task of thread t
-abbrev pub is_own : {X G : Type 0} → ℕ → Step X G → Bool
+abbrev pub is_own : {X G K : Type 0} → ℕ → Step X G K → Bool
 is_own t p = is_some (task_of t p)
 
 -- those of the steps

@@ -7,7 +7,6 @@ ghost use Rattle.xa_grammar.specs.Settings.{has_key, key_count};
 use crate::script::Declared;
 use std::alloc::{AllocError, Global};
 use std::collections::HashSet;
-use std::fmt::{Debug, Formatter, Result as Written, Write};
 use std::marker::Model;
 use xa_words::Key;
 
@@ -77,11 +76,5 @@ impl DeclaredKeys {
         let _ = inserted.unwrap();
         self.counts[manager as usize] += 1;
         Ok(())
-    }
-}
-
-impl Debug for DeclaredKeys {
-    fn fmt<W: Write>(&self, f: &mut Formatter<W>) -> Written {
-        self.list.fmt(f)
     }
 }

@@ -9,7 +9,7 @@ use xa_words::{Tran, Xid};
 const FORMAT: i32 = 1;
 
 /// The name of a branch, whose bytes are lent. Contracts see it as they see an `Xid`.
-#[derive(Debug, Drop)]
+#[derive(Drop)]
 pub struct Name<'a> {
     gtrid: &'a [u8],
     bqual: &'a [u8],
@@ -68,7 +68,7 @@ impl<'a> Name<'a> {
 }
 
 /// The name of a global transaction, whose gtrid is lent. Contracts see it as they see a `Tran`.
-#[derive(Debug, Drop)]
+#[derive(Drop)]
 pub struct Gtrid<'a> {
     bytes: &'a [u8],
 }

@@ -27,7 +27,7 @@ pub(crate) enum Count {
 }
 
 /// The counts that are set; what isn't has its default.
-#[derive(Clone, Copy, Debug)]
+#[derive(Clone, Copy)]
 pub(crate) struct Settings {
     pub(crate) threads: Option<u32>,
     pub(crate) managers: Option<u32>,
@@ -58,7 +58,7 @@ pub struct UnknownAppend {
 }
 
 /// A whole script: its settings, and its keys and its steps, each in the order of the lines.
-#[derive(Debug, Drop)]
+#[derive(Drop)]
 pub struct Script {
     settings: Settings,
     keys: DeclaredKeys,

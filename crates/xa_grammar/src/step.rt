@@ -1,8 +1,8 @@
 //! What one line tells to do.
 //!
-//! `X` names a branch and `G` a global transaction. A script keeps places of names, among bytes of its own (steps.rt).
-//! What was read, and what is lent to be run, has names whose bytes stand elsewhere: in the line, and in the script
-//! (name.rt).
+//! `X` names a branch, `G` a global transaction and `K` a key. A script keeps places of them, in lists of its own
+//! (steps.rt). What was read, and what is lent to be run, has names whose bytes stand elsewhere: in the line, and in
+//! the script (name.rt).
 ghost use Rattle.std.specs.Prelude.{◌≡◌};
 ghost use Rattle.std.specs.Fn.{FnOnceReturnsAt, FnOnceTakesAt};
 ghost use Rattle.xa_grammar.specs.Content.{is_reopen};
@@ -12,14 +12,14 @@ ghost use Rattle.xa_grammar.specs.Steps.{CallHas, ActionHas, StepHas, Computes, 
 use xa_words::{Call, Death, Delta, Key, ManagerSet};
 
 /// What a thread calls.
-#[derive(Clone, Copy, Debug, PartialEq, Eq)]
-pub enum Calling<X> {
+#[derive(Clone, Copy, PartialEq, Eq)]
+pub enum Calling<X, K = Key> {
     /// A call of XA but `xa_complete()` and `xa_recover()`, with its branch where it takes one.
     Xa(Call, Option<X>),
     /// A heuristic decision of a branch, to commit where true.
     Heur(X, bool),
     /// A change of a key.
-    Add(Key, Delta),
+    Add(K, Delta),
     /// The end of a manager's work.
     Shut,
     /// `xa_complete()` with the handle that the line gives, which isn't negative.
@@ -29,17 +29,18 @@ pub enum Calling<X> {
 }
 
 /// A call of a manager.
-#[derive(Clone, Copy, Debug, PartialEq, Eq)]
-pub struct Called<X> {
+#[derive(Clone, Copy, PartialEq, Eq)]
+pub struct Called<X, K = Key> {
     /// The number that the line gives, which need not be that of a manager.
     pub manager: u32,
-    pub call: Calling<X>,
     /// The flags of `xa.h`, joined bit by bit. Nothing says that they suit the call.
     pub flags: u32,
+    // It stands last, where no gap is left: a script keeps one of these for each line.
+    pub call: Calling<X, K>,
 }
 
 /// A commit of a global transaction in two phases. Its branch at manager M is `G.M`.
-#[derive(Clone, Copy, Debug, PartialEq, Eq)]
+#[derive(Clone, Copy, PartialEq, Eq)]
 pub struct CommitAll<G> {
     /// The global transaction, of format 1.
     pub tran: G,
@@ -50,29 +51,29 @@ pub struct CommitAll<G> {
 }
 
 /// What a thread does.
-#[derive(Clone, Copy, Debug, PartialEq, Eq)]
-pub enum Action<X, G> {
-    Call(Called<X>),
+#[derive(Clone, Copy, PartialEq, Eq)]
+pub enum Action<X, G, K = Key> {
+    Call(Called<X, K>),
     CommitAll(CommitAll<G>),
     /// A resolve, by the thread's log, of what the last reopening found left.
     Resolve,
 }
 
 /// What a thread does on a line of its own.
-#[derive(Clone, Copy, Debug, PartialEq, Eq)]
-pub struct Task<X, G> {
+#[derive(Clone, Copy, PartialEq, Eq)]
+pub struct Task<X, G, K = Key> {
     /// The number of its line, from 1.
     pub line: u32,
     /// The thread's number, from 1.
     pub thread: u32,
-    pub action: Action<X, G>,
+    pub action: Action<X, G, K>,
 }
 
 /// What is to be done next.
-#[derive(Clone, Copy, Debug, PartialEq, Eq)]
-pub enum Step<X, G> {
+#[derive(Clone, Copy, PartialEq, Eq)]
+pub enum Step<X, G, K = Key> {
     /// A thread does something.
-    Task(Task<X, G>),
+    Task(Task<X, G, K>),
     /// A manager takes one request, if there is one.
     Turn {
         /// The number of its line, from 1.
@@ -87,17 +88,18 @@ pub enum Step<X, G> {
     },
 }
 
-impl<X> Calling<X> {
-    // With its branch named otherwise.
+impl<X, K> Calling<X, K> {
+    // With its branch and its key named otherwise.
     #[inline(always)]
-    fn map<Y, N: FnOnce(&X) -> Y>(&self, name: N) -> Calling<Y>
-        requires { CallHas (FnOnceTakesAt N.FnOnce name) self.now }
-        ensures { (f : X → Y) → Computes (FnOnceReturnsAt N.FnOnce name) f → result ≡ call_with f self.now }
+    fn map<Y, J, N: FnOnce(&X) -> Y, L: FnOnce(&K) -> J>(&self, name: N, key: L) -> Calling<Y, J>
+        requires { CallHas (FnOnceTakesAt N.FnOnce name) (FnOnceTakesAt L.FnOnce key) self.now }
+        ensures { (f : X → Y) (k : K → J) → Computes (FnOnceReturnsAt N.FnOnce name) f
+            → Computes (FnOnceReturnsAt L.FnOnce key) k → result ≡ call_with f k self.now }
     {
         match self {
             Calling::Xa(call, branch) => Calling::Xa(*call, branch.as_ref().map(name)),
             Calling::Heur(branch, commits) => Calling::Heur(name(branch), *commits),
-            Calling::Add(key, delta) => Calling::Add(*key, *delta),
+            Calling::Add(added, delta) => Calling::Add(key(added), *delta),
             Calling::Shut => Calling::Shut,
             Calling::Complete(handle) => Calling::Complete(*handle),
             Calling::Recover(room) => Calling::Recover(*room),
@@ -105,19 +107,26 @@ impl<X> Calling<X> {
     }
 }
 
-impl<X, G> Action<X, G> {
-    // With its branch and its global transaction named otherwise.
+impl<X, G, K> Action<X, G, K> {
+    // With its branch, its global transaction and its key named otherwise.
     #[inline(always)]
-    fn map<Y, H, N: FnOnce(&X) -> Y, T: FnOnce(&G) -> H>(&self, name: N, tran: T) -> Action<Y, H>
-        requires { ActionHas (FnOnceTakesAt N.FnOnce name) (FnOnceTakesAt T.FnOnce tran) self.now }
-        ensures { (f : X → Y) (g : G → H) → Computes (FnOnceReturnsAt N.FnOnce name) f
-            → Computes (FnOnceReturnsAt T.FnOnce tran) g → result ≡ action_with f g self.now }
+    fn map<Y, H, J, N: FnOnce(&X) -> Y, T: FnOnce(&G) -> H, L: FnOnce(&K) -> J>(
+        &self,
+        name: N,
+        tran: T,
+        key: L,
+    ) -> Action<Y, H, J>
+        requires { ActionHas (FnOnceTakesAt N.FnOnce name) (FnOnceTakesAt T.FnOnce tran) (FnOnceTakesAt L.FnOnce key)
+            self.now }
+        ensures { (f : X → Y) (g : G → H) (k : K → J) → Computes (FnOnceReturnsAt N.FnOnce name) f
+            → Computes (FnOnceReturnsAt T.FnOnce tran) g → Computes (FnOnceReturnsAt L.FnOnce key) k
+            → result ≡ action_with f g k self.now }
     {
         match self {
             Action::Call(called) => Action::Call(Called {
                 manager: called.manager,
-                call: called.call.map(name),
                 flags: called.flags,
+                call: called.call.map(name, key),
             }),
             Action::CommitAll(commit) => Action::CommitAll(CommitAll {
                 tran: tran(&commit.tran),
@@ -129,19 +138,26 @@ impl<X, G> Action<X, G> {
     }
 }
 
-impl<X, G> Step<X, G> {
-    /// The step with its branch and its global transaction named otherwise.
+impl<X, G, K> Step<X, G, K> {
+    /// The step with its branch, its global transaction and its key named otherwise.
     #[inline(always)]
-    pub fn map<Y, H, N: FnOnce(&X) -> Y, T: FnOnce(&G) -> H>(&self, name: N, tran: T) -> Step<Y, H>
-        requires { StepHas (FnOnceTakesAt N.FnOnce name) (FnOnceTakesAt T.FnOnce tran) self.now }
-        ensures { (f : X → Y) (g : G → H) → Computes (FnOnceReturnsAt N.FnOnce name) f
-            → Computes (FnOnceReturnsAt T.FnOnce tran) g → result ≡ step_with f g self.now }
+    pub fn map<Y, H, J, N: FnOnce(&X) -> Y, T: FnOnce(&G) -> H, L: FnOnce(&K) -> J>(
+        &self,
+        name: N,
+        tran: T,
+        key: L,
+    ) -> Step<Y, H, J>
+        requires { StepHas (FnOnceTakesAt N.FnOnce name) (FnOnceTakesAt T.FnOnce tran) (FnOnceTakesAt L.FnOnce key)
+            self.now }
+        ensures { (f : X → Y) (g : G → H) (k : K → J) → Computes (FnOnceReturnsAt N.FnOnce name) f
+            → Computes (FnOnceReturnsAt T.FnOnce tran) g → Computes (FnOnceReturnsAt L.FnOnce key) k
+            → result ≡ step_with f g k self.now }
     {
         match self {
             Step::Task(task) => Step::Task(Task {
                 line: task.line,
                 thread: task.thread,
-                action: task.action.map(name, tran),
+                action: task.action.map(name, tran, key),
             }),
             Step::Turn { line, manager } => Step::Turn {
                 line: *line,

@@ -1,39 +1,52 @@
-//! Steps in a small form: the bytes of their names stand one after the other, and each step says where.
+//! Steps in a small form: the bytes of their names stand one after the other, and so do the keys of additions. Each
+//! step says where.
 ghost use Rattle.std.specs.Prelude.{◌≡◌, ◌<◌, ◌^◌, ◌++◌, ◌∷◌, [], ℕ, List, Some, length, slice_get, All, IfOk, OnOk};
 ghost use Rattle.std.specs.Prelude.{OnErr};
 ghost use Rattle.std.specs.List.{list_any};
 ghost use Rattle.xa_grammar.specs.Content.{is_reopen};
 ghost use Rattle.xa_grammar.specs.OwnTasks.{own_steps, steps_at};
 ghost use Rattle.xa_grammar.specs.Steps.{step_with};
-ghost use Rattle.xa_grammar.specs.KeptSteps.{bytes_in, IsShort, place_from, gtrid_place_from, name_at, gtrid_at};
-ghost use Rattle.xa_grammar.specs.KeptSteps.{IsName, IsGtrid, IsNamed, step_at};
+ghost use Rattle.xa_grammar.specs.KeptSteps.{bytes_in, keys_in, IsShort, place_from, gtrid_place_from, key_place_from};
+ghost use Rattle.xa_grammar.specs.KeptSteps.{name_at, gtrid_at, key_at, IsName, IsGtrid, IsKey, IsNamed, step_at};
 
 use crate::name::{Gtrid, Name};
 use crate::step::{Action, Calling, Step};
 use std::alloc::{AllocError, Global};
 use std::clone::Clone;
 use std::marker::Model;
+use std::slice::from_ref;
+use xa_words::Key;
 
 // Where the bytes of a branch's name stand: those of the gtrid, and then those of the bqual.
-#[derive(Clone, Copy, Debug)]
+#[derive(Clone, Copy)]
 pub(crate) struct Place {
-    at: usize,
+    at: u32,
     gtrid: u8,
     bqual: u8,
 }
 
 // Where the bytes of a global transaction's gtrid stand.
-#[derive(Clone, Copy, Debug)]
+#[derive(Clone, Copy)]
 pub(crate) struct GtridPlace {
-    at: usize,
+    at: u32,
     len: u8,
 }
 
+// Where the key of an addition stands.
+#[derive(Clone, Copy)]
+pub(crate) struct KeyPlace {
+    at: u32,
+}
+
+// A step as it is kept.
+type KeptStep = Step<Place, GtridPlace, KeyPlace>;
+
 /// Steps in their order. Contracts see the list of them.
-#[derive(Debug, Drop)]
+#[derive(Drop)]
 pub(crate) struct Steps {
     names: Vec<u8>,
-    kept: Vec<Step<Place, GtridPlace>>,
+    keys: Vec<Key>,
+    kept: Vec<KeptStep>,
 }
 
 impl Model for Steps {
@@ -43,9 +56,9 @@ impl Model for Steps {
 
     ghost Value = { List ScriptStep };
 
-    ghost view = { λ s. steps_of s.names.items s.kept.items };
+    ghost view = { λ s. steps_of s.names.items s.keys.items s.kept.items };
 
-    ghost invariant = { λ s. All (IsNamed s.names.items) s.kept.items };
+    ghost invariant = { λ s. All (IsNamed s.names.items s.keys.items) s.kept.items };
 }
 
 // The bytes of the name in a step: those of a gtrid, and those of a bqual where it is a branch's.
@@ -66,9 +79,25 @@ fn name_in<'a>(step: &Step<Name<'a>, Gtrid<'a>>) -> (&'a [u8], &'a [u8])
     }
 }
 
-// The step with where its name stands, the bytes of which are kept from a place on.
-fn place_names(step: &Step<Name, Gtrid>, at: usize) -> Step<Place, GtridPlace>
-    ensures { result ≡ step_with (place_from at) (gtrid_place_from at) step.now }
+// The key in a step that is an addition, and else none.
+fn keys_in<'a>(step: &'a Step<Name, Gtrid>) -> &'a [Key]
+    ensures { result.now ≡ keys_in step.now }
+{
+    let Step::Task(task) = step else {
+        return &[];
+    };
+    match &task.action {
+        Action::Call(called) => match &called.call {
+            Calling::Add(key, _) => from_ref(key),
+            _ => &[],
+        },
+        _ => &[],
+    }
+}
+
+// The step with where its name stands, the bytes of which are kept from a place on, and with the place of its key.
+fn place_names(step: &Step<Name, Gtrid>, at: u32, key: u32) -> KeptStep
+    ensures { result ≡ step_with (place_from at) (gtrid_place_from at) (key_place_from key) step.now }
 {
     step.map(
         |name| Place {
@@ -80,6 +109,7 @@ fn place_names(step: &Step<Name, Gtrid>, at: usize) -> Step<Place, GtridPlace>
             at,
             len: gtrid.bytes().len() as u8,
         },
+        |_| KeyPlace { at: key },
     )
 }
 
@@ -89,9 +119,10 @@ fn name_at<'a>(names: &'a [u8], place: Place) -> Name<'a>
     requires { IsName names.now place }
     ensures { result ≡ name_at names.now place }
 {
-    let gtrid_end = place.at + place.gtrid as usize;
+    let at = place.at as usize;
+    let gtrid_end = at + place.gtrid as usize;
     let bqual_end = gtrid_end + place.bqual as usize;
-    Name::new(&names[place.at..gtrid_end], &names[gtrid_end..bqual_end])
+    Name::new(&names[at..gtrid_end], &names[gtrid_end..bqual_end])
 }
 
 // The global transaction whose gtrid stands at a place.
@@ -100,22 +131,40 @@ fn gtrid_at<'a>(names: &'a [u8], place: GtridPlace) -> Gtrid<'a>
     requires { IsGtrid names.now place }
     ensures { result ≡ gtrid_at names.now place }
 {
-    Gtrid::new(&names[place.at..place.at + place.len as usize])
+    let at = place.at as usize;
+    Gtrid::new(&names[at..at + place.len as usize])
 }
 
-// The step that is kept, with its name.
+// The key that stands at a place.
 #[inline(always)]
-fn step_at<'a>(names: &'a [u8], step: &Step<Place, GtridPlace>) -> Step<Name<'a>, Gtrid<'a>>
-    requires { IsNamed names.now step.now }
-    ensures { result ≡ step_at names.now step.now }
+fn key_at(keys: &[Key], place: KeyPlace) -> Key
+    requires { IsKey keys.now place }
+    ensures { result ≡ key_at keys.now place }
+{
+    keys[place.at as usize]
+}
+
+// The step that is kept, with its name or its key.
+#[inline(always)]
+fn step_at<'a>(names: &'a [u8], keys: &[Key], step: &KeptStep) -> Step<Name<'a>, Gtrid<'a>>
+    requires { IsNamed names.now keys.now step.now }
+    ensures { result ≡ step_at names.now keys.now step.now }
 {
     step.map(
         |place| name_at(names, *place),
         |place| gtrid_at(names, *place),
+        |place| key_at(keys, *place),
     )
 }
 
-fn any_reopens(kept: &[Step<Place, GtridPlace>]) -> bool
+// The place after so many, where a place may be as large.
+fn place_of(len: usize) -> Result<u32, AllocError>
+    ensures { IfOk result (λ at. at ≡ len) }
+{
+    u32::try_from(len).map_err(|_| AllocError)
+}
+
+fn any_reopens(kept: &[KeptStep]) -> bool
     ensures { result ≡ list_any is_reopen kept.now }
 {
     kept.iter().any(|step| step.is_reopen())
@@ -127,6 +176,7 @@ impl Steps {
     {
         Steps {
             names: Vec::new(alloc),
+            keys: Vec::new(alloc),
             kept: Vec::new(alloc),
         }
     }
@@ -146,15 +196,18 @@ impl Steps {
         any_reopens(&self.kept)
     }
 
+    /// Adds a step. It fails for want of memory, and where names or keys stand at all places that there are for them.
     pub(crate) fn push(&mut self, step: &Step<Name, Gtrid>) -> Result<(), AllocError>
         ensures pushed { OnOk result (self.new ≡ self.old ++ step.now ∷ []) }
         ensures same { OnErr result (self.new ≡ self.old) }
     {
         let (gtrid, bqual) = name_in(step);
-        let at = self.names.len();
+        let at = place_of(self.names.len())?;
+        let key = place_of(self.keys.len())?;
         self.names.extend_from_slice(gtrid)?;
         self.names.extend_from_slice(bqual)?;
-        let kept = place_names(step, at);
+        self.keys.extend_from_slice(keys_in(step))?;
+        let kept = place_names(step, at, key);
         self.kept.push(kept)?;
         Ok(())
     }
@@ -165,7 +218,7 @@ impl Steps {
         requires { place < length self.now }
         ensures { slice_get self.now place ≡ Some result }
     {
-        step_at(&self.names, &self.kept[place])
+        step_at(&self.names, &self.keys, &self.kept[place])
     }
 
     /// Where the tasks of a thread stand.
@@ -189,6 +242,7 @@ impl Clone for Steps {
     fn clone(&self) -> Result<Steps, AllocError> {
         Ok(Steps {
             names: self.names.clone()?,
+            keys: self.keys.clone()?,
             kept: self.kept.clone()?,
         })
     }

@@ -31,7 +31,7 @@ fn has_steps(script: &Script, want: &[OwnStep]) -> bool {
     }
     for place in 0..want.len() {
         let step = script.step(place);
-        if step.map(|name| name.xid(), |gtrid| gtrid.tran()) != want[place] {
+        if step.map(|name| name.xid(), |gtrid| gtrid.tran(), |key| *key) != want[place] {
             return false;
         }
     }

@@ -12,14 +12,13 @@ use Rattle.xa_words.specs.Xid.{XidName}
 use Rattle.xa_words.specs.declared.flags.Call.TheVariants as call
 use Rattle.xa_words.specs.declared.request.RmOp.TheVariants as rm
 use Rattle.xa_words.specs.declared.xid.Xid.{Xid}
-use Rattle.xa_grammar.specs.declared.step.Calling.{Calling}
 use Rattle.xa_grammar.specs.declared.step.Calling.TheVariants as calling
-use Rattle.xa_grammar.specs.declared.step.Called.{Called}
+use Rattle.xa_grammar.specs.Steps.{ScriptCalling, ScriptCalled}
 use Rattle.xa_transcript.specs.declared.answer.Answer.{Answer}
 use Rattle.xa_transcript.specs.declared.answer.Answer.TheVariants.{Called as shown, Completed, Recovered}
 
 -- What a call of these effects does to its thread's desk, and what it answers.
-pub record HasAnswered (effects : DeskView → ℕ → DeskView → ℤ → Type 0) (c : Called XidName) (old new : DeskView)
+pub record HasAnswered (effects : DeskView → ℕ → DeskView → ℤ → Type 0) (c : ScriptCalled) (old new : DeskView)
     (a : Answer) : Type 0 where
   pub answer : ℤ
   pub calls : effects old c.manager new answer
@@ -30,7 +29,7 @@ abbrev pub completed : ℤ → ℤ → ℤ → Answer
 completed handle retval n = if int_eq n (pos 0) then Completed handle retval else shown n
 
 -- What an xa_complete of this handle does to its thread's desk, and what it answers.
-pub record HasCollected (c : Called XidName) (old : DeskView) (h : ℤ) (new : DeskView) (a : Answer) : Type 0 where
+pub record HasCollected (c : ScriptCalled) (old : DeskView) (h : ℤ) (new : DeskView) (a : Answer) : Type 0 where
   pub handle : ℤ
   pub retval : ℤ
   pub answer : ℤ
@@ -43,7 +42,7 @@ IsListed (negsuc n) xids a = a ≡ shown (negsuc n)
 IsListed (pos n) xids a = (v : Vec Xid Global) × (v.items ≡ take n xids) × (a ≡ Recovered v)
 
 -- What an xa_recover with room for n xids does to its thread's desk and scan, and what it answers.
-pub record HasListed (c : Called XidName) (n : ℕ) (old : DeskView) (z : ScanView) (new : DeskView) (z' : ScanView)
+pub record HasListed (c : ScriptCalled) (n : ℕ) (old : DeskView) (z : ScanView) (new : DeskView) (z' : ScanView)
     (a : Answer) : Type 0 where
   pub before : List XidName
   pub after : List XidName
@@ -53,7 +52,7 @@ pub record HasListed (c : Called XidName) (n : ℕ) (old : DeskView) (z : ScanVi
   pub shown : IsListed answer after a
 
 -- What a call does to its thread's desk and scan, and what it answers. Only an xa_recover moves the scan.
-abbrev pub Answers : Calling XidName → Called XidName → DeskView → ScanView → DeskView → ScanView → Answer → Type 0
+abbrev pub Answers : ScriptCalling → ScriptCalled → DeskView → ScanView → DeskView → ScanView → Answer → Type 0
 Answers (calling.Xa f x) c old z new z' a = HasAnswered (Calls (asked_of f x c.flags)) c old new a × (z' ≡ z)
 Answers (calling.Heur x commits) c old z new z' a =
     HasAnswered (Calls (native (rm.Heur x commits) c.flags)) c old new a × (z' ≡ z)
@@ -65,7 +64,7 @@ Answers (calling.Recover n) c old z new z' a = HasListed c n old z new z' a
 
 -- Whether a call may wait: a synchronous call that isn't refused may, an xa_complete without TMNOWAIT, and an
 -- xa_recover that asks its manager.
-abbrev pub calling_waits : Calling XidName → Called XidName → DeskView → ScanView → Bool
+abbrev pub calling_waits : ScriptCalling → ScriptCalled → DeskView → ScanView → Bool
 calling_waits (calling.Xa f x) c d z = call_waits d c.manager (asked_of f x c.flags)
 calling_waits (calling.Heur x commits) c d z = call_waits d c.manager (native (rm.Heur x commits) c.flags)
 calling_waits (calling.Add k delta) c d z = call_waits d c.manager (native (rm.Add k delta) c.flags)

@@ -29,10 +29,9 @@ use Rattle.xa_log.specs.Log.{Records}
 use Rattle.xa_driver.specs.Resolving.{ResolvesAt, outcome_op}
 use Rattle.xa_driver.specs.Trace.{EachBranch, has_branch_at}
 use Rattle.xa_driver.proofs.Mapped.{Any, IsAskedFor, any_asked, branch_by, resolves_by}
-use Rattle.xa_grammar.specs.declared.step.Called.{Called}
 use Rattle.xa_grammar.specs.declared.step.CommitAll.{CommitAll}
 use Rattle.xa_grammar.specs.declared.step.Action.TheVariants as action
-use Rattle.xa_grammar.specs.Steps.{ScriptAction}
+use Rattle.xa_grammar.specs.Steps.{ScriptCalled, ScriptAction}
 use Rattle.xa_transcript.specs.declared.answer.Answer.{Answer}
 use Rattle.xa_session.specs.Committing.{branches_of, named}
 use Rattle.xa_telling.specs.Wants.{Wanted, wanted_in}
@@ -213,7 +212,7 @@ module _ (P : Op → Type 0) where
         subst (λ (x : Part). Adds (old.entries m) (x.entries m)) (sym is) (either_adds t n o c (old.entries m) (λ _. so))
     asked_adds t n old o new c so (asked_refused why same) = adds_none (old.entries m) (new.entries m) (ap (λ (x : Part). x.entries m) same)
 
-    listing_adds : (t : ℕ) (q : Called XidName) (n : ℕ) (a : Answer) (old new : Part) → Lists t q n a old new → Adds (old.entries m) (new.entries m)
+    listing_adds : (t : ℕ) (q : ScriptCalled) (n : ℕ) (a : Answer) (old new : Part) → Lists t q n a old new → Adds (old.entries m) (new.entries m)
     listing_adds t q n a old new is =
         subst (λ (x : Part). Adds (old.entries m) (x.entries m)) (sym is.stands)
         (by_mapped (Asked t q.manager) (λ d o e c. Unit {0}) (λ x. x) (λ (x : Part). Adds (x.entries m) (is.asked.entries m))
@@ -221,10 +220,10 @@ module _ (P : Op → Type 0) where
         is.there (check_flags call.Recover q.flags) q.manager old old.scan is.before is.asked new.scan is.after is.result is.recovers (adds_none (is.asked.entries m) (is.asked.entries m) refl)).0
 
     -- what a call asks its manager for is so
-    abbrev pub AsksSo : Called XidName → Type 0
+    abbrev pub AsksSo : ScriptCalled → Type 0
     AsksSo q = q.manager ≡ m → (o : Op) → op_in (wanted_in q) ≡ Some o → P o
 
-    call_adds : (settled : Settling) (t : ℕ) (q : Called XidName) (a : Answer) (old new : Part) → AsksSo q → CallTakes settled t q a old new
+    call_adds : (settled : Settling) (t : ℕ) (q : ScriptCalled) (a : Answer) (old new : Part) → AsksSo q → CallTakes settled t q a old new
         → Adds (old.entries m) (new.entries m)
     call_adds settled t q a old new so (answered o c asks told is) =
         subst (λ (x : Part). Adds (old.entries m) (x.entries m)) (sym is) (either_adds t q.manager o c (old.entries m) (λ here. so here o (ap op_in asks)))

@@ -26,11 +26,9 @@ use Rattle.xa_switch.specs.Settling.{Settling}
 use Rattle.xa_switch.specs.Scans.{Asking, ScanView, standing, left_at, place_at, start_of, Recovers, RecoversFrom, RecoversBy}
 use Rattle.xa_switch.specs.Scans.Recovers.{unreached, stopped, told as found_some}
 use Rattle.xa_driver.specs.declared.branch.Branch.{Branch}
-use Rattle.xa_grammar.specs.declared.step.Calling.{Calling}
 use Rattle.xa_grammar.specs.declared.step.Calling.TheVariants as calling
-use Rattle.xa_grammar.specs.declared.step.Called.{Called}
 use Rattle.xa_grammar.specs.declared.step.Action.TheVariants as action
-use Rattle.xa_grammar.specs.Steps.{ScriptAction}
+use Rattle.xa_grammar.specs.Steps.{ScriptCalling, ScriptCalled, ScriptAction}
 use Rattle.xa_transcript.specs.declared.answer.Answer.{Answer}
 use Rattle.xa_session.specs.Committing.{branches_of}
 use Rattle.xa_telling.specs.Wants.{wanted, wanted_by}
@@ -124,7 +122,7 @@ op_native r f o e =
 apart : (b : Branch) (m : ℕ) (x : XidName) → m ≡ b.m → ((m == b.m) && xid_eq x b.xid) ≡ false → xid_eq x b.xid ≡ false
 apart b m x same none = sym (ap (λ q. q && xid_eq x b.xid) (eq-eqb m b.m same)) ∙ none
 
-by_call : (a : Calling XidName) (m f : ℕ) (b : Branch) (o : Op) → op_in (wanted_by a f) ≡ Some o → m ≡ b.m → is_among b (branches_by m a) ≡ false
+by_call : (a : ScriptCalling) (m f : ℕ) (b : Branch) (o : Op) → op_in (wanted_by a f) ≡ Some o → m ≡ b.m → is_among b (branches_by m a) ≡ false
     → names b.xid o ≡ false
 by_call (calling.Xa c None) m f b o e same quiet = let w = op_asked c None f o e in op_of_none c b.xid w.0 o w.1
 by_call (calling.Xa c (Some x)) m f b o e same quiet =
@@ -160,7 +158,8 @@ by_leave asking there (Err why) m old z xids new z' xids' r is = ap (λ (y : Sca
 by_leave asking false (Ok mode) m old z xids new z' xids' r is = ap (λ (y : ScanView). y.left) is.scan
 by_leave asking true (Ok mode) m old z xids new z' xids' r is = from_leave asking (start_of mode (place_at z m)) m mode old z xids new z' xids' r is
 
-call_leaves : (settled : Settling) (t : ℕ) (q : Called XidName) (a : Answer) (old new : Part) → CallTakes settled t q a old new → new.scan.left ≡ old.scan.left
+call_leaves : (settled : Settling) (t : ℕ) (q : ScriptCalled) (a : Answer) (old new : Part) → CallTakes settled t q a old new
+    → new.scan.left ≡ old.scan.left
 call_leaves settled t q a old new (answered o c asks told is) = ap (λ (x : Part). x.scan.left) is
 call_leaves settled t q a old new (kept o c k asks low told free is) = ap (λ (x : Part). x.scan.left) is
 call_leaves settled t q a old new (refused c is told same) = ap (λ (x : Part). x.scan.left) same

@@ -8,7 +8,6 @@ use Rattle.std.proofs.lemmas.Bool.{cases_Bool, and_parts}
 use Rattle.std.proofs.lemmas.List.Elements.{Contains-append_left, Contains-push, Contains-push_cases, Contains-get_or, All-head, All-tail, All-contains}
 use Rattle.std.proofs.lemmas.List.Elements.{All-filter, All-contains_itself}
 use Rattle.xa_words.specs.Code.{number_of}
-use Rattle.xa_words.specs.Xid.{XidName}
 use Rattle.xa_words.specs.declared.code.Code.{Code}
 use Rattle.xa_words.specs.declared.death.Death.{Death}
 use Rattle.xa_words.specs.declared.code.Code.TheVariants.{Done, RdOnly, Retry, HeurMix, HeurRb, HeurCom, HeurHaz, RbRollback, RbCommFail, RbDeadlock}
@@ -32,11 +31,9 @@ use Rattle.xa_driver.specs.Trace.{EachBranch, decision_of}
 use Rattle.xa_atomicity.proofs.Aborts.{IsNoCommit, on_abort, on_forget}
 use Rattle.xa_driver.proofs.Mapped.{Any, IsAskedFor, any_asked, for_by, rest_by}
 use Rattle.xa_shown.proofs.Adds.{Adds, adds_none, carries_on, decides_adds, takes_adds}
-use Rattle.xa_words.specs.Xid.{XidName}
 use Rattle.xa_words.specs.Tran.{TranName}
-use Rattle.xa_grammar.specs.declared.step.Called.{Called}
 use Rattle.xa_grammar.specs.declared.step.CommitAll.{CommitAll}
-use Rattle.xa_grammar.specs.Steps.{ScriptAction, ScriptStep}
+use Rattle.xa_grammar.specs.Steps.{ScriptCalled, ScriptAction, ScriptStep}
 use Rattle.xa_transcript.specs.declared.answer.Answer.{Answer}
 use Rattle.xa_transcript.specs.declared.answer.Told.{Told}
 use Rattle.xa_transcript.specs.declared.answer.Answer.TheVariants as answer
@@ -111,7 +108,7 @@ same_op : (o p : Op) → code_of o ≡ code_of p → o ≡ p
 same_op o p e = cc
 
 -- the entries of a call's own manager, once it has answered XA_OK
-one_entered : (settled : Settling) (t : ℕ) (q : Called XidName) (a : Answer) (old new : Part) → CallTakes settled t q a old new → (o : Op)
+one_entered : (settled : Settling) (t : ℕ) (q : ScriptCalled) (a : Answer) (old new : Part) → CallTakes settled t q a old new → (o : Op)
     → wanted_in q ≡ code_of o → a ≡ shown (pos 0) → HasEntry t o Done (new.entries q.manager)
 one_entered settled t q a old new (answered r c asks told is) o asked ok =
     let own : r ≡ o = same_op r o (sym asks ∙ asked) in

@@ -21,10 +21,8 @@ use Rattle.xa_switch.specs.Putting.Puts.{refused as put_refused, full, kept as p
 use Rattle.xa_switch.specs.Completing.{number_in, CompletesOne, CompletesAny, CompletesAt, CompletesBy, CollectsRedeemed, Tells, may_complete}
 use Rattle.xa_switch.specs.Completing.CompletesOne.{unknown, retry as retry_one, ready, waited}
 use Rattle.xa_switch.specs.Completing.CompletesAny.{nothing as nothing_kept, retry as retry_any, least}
-use Rattle.xa_words.specs.Xid.{XidName}
-use Rattle.xa_grammar.specs.declared.step.Calling.{Calling}
 use Rattle.xa_grammar.specs.declared.step.Calling.TheVariants as calling
-use Rattle.xa_grammar.specs.declared.step.Called.{Called}
+use Rattle.xa_grammar.specs.Steps.{ScriptCalling, ScriptCalled}
 use Rattle.xa_transcript.specs.declared.answer.Answer.{Answer}
 use Rattle.xa_transcript.specs.declared.answer.Answer.TheVariants as answer
 use Rattle.xa_session.specs.Calling.{completed, Answers}
@@ -44,7 +42,7 @@ abbrev kept_of : DeskView → Handles
 kept_of d = d.kept
 
 -- what a call does with its desk's handles
-pub data Holds (q : Called XidName) (a : Answer) (old new : DeskView) : Type 0 where
+pub data Holds (q : ScriptCalled) (a : Answer) (old new : DeskView) : Type 0 where
   gives : (o : Op) (k : ℕ) → wanted_in q ≡ handle_for o → a ≡ shown (pos k) → finmap.get old.kept k ≡ None
       → new.kept ≡ finmap.insert old.kept k (next_operation old.ledgers q.manager) → IsKnown old.ledgers q.manager → Holds q a old new
   takes : (o : Operation) (k : ℕ) (c : Code) → wanted_in q ≡ completion → finmap.get old.kept k ≡ Some o → a ≡ answer.Completed (pos k) (number_of c)
@@ -61,7 +59,7 @@ may_show (in_vain why) c is = is
 may_show completion c is = is
 may_show (listing n) c is = is
 
-puts_hold : (q : Called XidName) (old new : DeskView) (a : Answer) (n : ℤ) (asked : _) → Puts old q.manager asked new n
+puts_hold : (q : ScriptCalled) (old new : DeskView) (a : Answer) (n : ℤ) (asked : _) → Puts old q.manager asked new n
     → asks asked.asynchronous asked.op ≡ wanted_in q → a ≡ shown n → Holds q a old new
 puts_hold q old new a n asked (put_refused c why of same) e told =
     shows c (subst (λ r. MayShow r c) e (may_show (asks asked.asynchronous asked.op) c (refusal_by asked.asynchronous asked.op c (is_refusal old q.manager asked.asynchronous c why)))) (told ∙ ap (λ z. shown z) of) (ap kept_of same)
@@ -73,7 +71,7 @@ puts_hold q old new a n asked (put_answered why async times c of is) e told =
     shows c (subst (λ r. MayShow r c) (sym (ap (λ b. asks b asked.op) async) ∙ e) tt) (told ∙ ap (λ z. shown z) of)
     (ap kept_of is.collected ∙ ap kept_of is.looks.rest ∙ fulls_kept times old q.manager)
 
-calls_hold : (q : Called XidName) (old new : DeskView) (a : Answer) (n : ℤ) (r : Result _ Code) → Calls r old q.manager new n
+calls_hold : (q : ScriptCalled) (old new : DeskView) (a : Answer) (n : ℤ) (r : Result _ Code) → Calls r old q.manager new n
     → wanted r (λ asked. asked.op) (λ asked. asked.asynchronous) ≡ wanted_in q → a ≡ shown n → Holds q a old new
 calls_hold q old new a n (Ok asked) is e told = puts_hold q old new a n asked is e told
 calls_hold q old new a n (Err c) is e told = shows c (subst (λ r. MayShow r c) e refl) (told ∙ ap (λ z. shown z) is.0) (ap kept_of is.1)
@@ -141,7 +139,7 @@ not_done why (suc zero) below is = ap (λ (c : Code). int_eq (number_of c) (pos 
 not_done why (suc (suc zero)) below is = ap (λ (c : Code). int_eq (number_of c) (pos 0)) (sym is)
 not_done why (suc (suc (suc k))) below is = absurd (omega (arith, below))
 
-completes_hold : (q : Called XidName) (old new : DeskView) (a : Answer) (h h' r' n : ℤ) (collected : Result (ℕ × Code) Code) → wanted_in q ≡ completion
+completes_hold : (q : ScriptCalled) (old new : DeskView) (a : Answer) (h h' r' n : ℤ) (collected : Result (ℕ × Code) Code) → wanted_in q ≡ completion
     → Comes old new collected → Tells collected h (pos 0) h' r' n → a ≡ completed h' r' n → Holds q a old new
 completes_hold q old new a h h' r' n collected e (took o k c ok at now got) tells told =
     let t = subst (λ r. Tells r h (pos 0) h' r' n) ok tells in
@@ -153,7 +151,7 @@ completes_hold q old new a h h' r' n collected e (left why err among now) tells 
 
 -- ---- a call of a line
 
-pub answers_hold : (x : Calling XidName) (q : Called XidName) → is_recover x ≡ false → wanted_by x q.flags ≡ wanted_in q
+pub answers_hold : (x : ScriptCalling) (q : ScriptCalled) → is_recover x ≡ false → wanted_by x q.flags ≡ wanted_in q
     → (old new : DeskView) (z z' : ScanView) (a : Answer) → Answers x q old z new z' a → Holds q a old new
 answers_hold (calling.Xa c x) q plain e old new z z' a (is, still) = calls_hold q old new a is.answer _ is.calls e is.shown
 answers_hold (calling.Heur x commits) q plain e old new z z' a (is, still) = calls_hold q old new a is.answer _ is.calls e is.shown

@@ -33,14 +33,11 @@ use Rattle.xa_driver.specs.Deaths.{AppendsUntil, CameTo, IsOfRound, LeavesHandle
 use Rattle.xa_driver.specs.Endings.{second_op}
 use Rattle.xa_driver.specs.Resolving.{AsksLedger}
 use Rattle.xa_driver.specs.Trace.{AppendsOnce, HasRoom, HaveRoom, IsTranOf, has_branch_at, wants_record}
-use Rattle.xa_words.specs.Xid.{XidName}
 use Rattle.xa_words.specs.ManagerSet.{managers_in}
-use Rattle.xa_grammar.specs.declared.step.Calling.{Calling}
 use Rattle.xa_grammar.specs.declared.step.Calling.TheVariants as calling
-use Rattle.xa_grammar.specs.declared.step.Called.{Called}
 use Rattle.xa_grammar.specs.declared.step.CommitAll.{CommitAll}
 use Rattle.xa_grammar.specs.declared.step.Action.TheVariants as action
-use Rattle.xa_grammar.specs.Steps.{ScriptAction, ScriptTask}
+use Rattle.xa_grammar.specs.Steps.{ScriptCalling, ScriptCalled, ScriptAction, ScriptTask}
 use Rattle.xa_session.specs.declared.session.Session.{Session}
 use Rattle.xa_transcript.specs.declared.answer.Answer.{Answer}
 use Rattle.xa_transcript.specs.declared.answer.Told.{Told}
@@ -95,7 +92,7 @@ resolve_grows_so m old new a (left_refused why told e) = grows_same m old.desk.l
 resolve_grows_so m old new a (left_resolved outcomes can trace log still keeps as_many told in_turn) =
     resolve_grows old.scan old.log.found.state.records old.desk.ledgers new.desk.ledgers outcomes.items trace can.may.room m
 
-call_grows : (m : ℕ) (x : Calling XidName) (q : Called XidName) → wanted_by x q.flags ≡ wanted_in q → (old new : Session) (a : Answer)
+call_grows : (m : ℕ) (x : ScriptCalling) (q : ScriptCalled) → wanted_by x q.flags ≡ wanted_in q → (old new : Session) (a : Answer)
     → Answers x q old.desk old.scan new.desk new.scan a → Grows m old.desk.ledgers new.desk.ledgers
 call_grows m (calling.Xa c y) q e old new a is = (answers_do (calling.Xa c y) 0 q refl e old.desk new.desk old.scan new.scan a is m).1
 call_grows m (calling.Heur x commits) q e old new a is = (answers_do (calling.Heur x commits) 0 q refl e old.desk new.desk old.scan new.scan a is m).1
@@ -223,7 +220,7 @@ module _ (settled : Settling) (t : ℕ) (ops : ℕ → List Op) (pairs : ℕ →
   there_before old new grows all m =
       (begins_on (sent_to old m) (sent_to new m) (ops m) (grows m).sent (all m).0, begins_on (collected_from old m) (collected_from new m) (pairs m) (grows m).collected (all m).1)
 
-  adds : (m : ℕ) (q : Called XidName) (a : Answer) (old new : List LedgerView) → AllThere new → Sends m t q a old new
+  adds : (m : ℕ) (q : ScriptCalled) (a : Answer) (old new : List LedgerView) → AllThere new → Sends m t q a old new
       → Adds m t q a (entries_so_far old m) (entries_so_far new m)
   adds m q a old new all (nothing adds_none same) =
       subst (λ (l : List Op). Adds m t q a (entries_so_far old m) (take (length l) (own_entries m))) (sym same) (adds_none (entries_so_far old m))
@@ -236,7 +233,7 @@ module _ (settled : Settling) (t : ℕ) (ops : ℕ → List Op) (pairs : ℕ →
       enters_coded t (ops m) (pairs m) (own_entries m) (fits m) (sent_to old m) (sent_to new m) o sent (all m).0 (length (collected_from old m)) c collected in
       adds_answered o c here asks told e
 
-  hands : (q : Called XidName) (a : Answer) (old new : Session) → AllThere old.desk.ledgers → AllThere new.desk.ledgers → Holds q a old.desk new.desk
+  hands : (q : ScriptCalled) (a : Answer) (old new : Session) → AllThere old.desk.ledgers → AllThere new.desk.ledgers → Holds q a old.desk new.desk
       → Hands settled t q a (part_of old) new.desk.kept
   hands q a old new was all (gives o k asked told free now known) =
       let m = q.manager in
@@ -251,7 +248,8 @@ module _ (settled : Settling) (t : ℕ) (ops : ℕ → List Op) (pairs : ℕ →
   hands q a old new was all (shows c may told now) = hands_shows c may told now
 
   -- what a call does to its thread's part that is no xa_recover
-  plain_takes : (x : Calling XidName) (q : Called XidName) → is_recover x ≡ false → wanted_by x q.flags ≡ wanted_in q → (old new : Session) (a : Answer)
+  plain_takes : (x : ScriptCalling) (q : ScriptCalled) → is_recover x ≡ false → wanted_by x q.flags ≡ wanted_in q
+      → (old new : Session) (a : Answer)
       → AllThere old.desk.ledgers → AllThere new.desk.ledgers → Answers x q old.desk old.scan new.desk new.scan a → new.log ≡ old.log → new.scan ≡ old.scan
       → CallTakes settled t q a (part_of old) (part_of new)
   plain_takes x q plain e old new a was all is same still =
@@ -285,7 +283,8 @@ module _ (settled : Settling) (t : ℕ) (ops : ℕ → List Op) (pairs : ℕ →
       asked_answered (λ i. record { entries = λ n. one_asked log scan m old op new c asked e n i; handles = request_keeps m old op new c asked i; log = log.found.state; is_lost = log.is_lost; scan = scan })
 
   -- what an xa_recover does
-  lists : (q : Called XidName) (n : ℕ) (a : Answer) (old new : Session) → AllThere new.desk.ledgers → HasListed q n old.desk old.scan new.desk new.scan a
+  lists : (q : ScriptCalled) (n : ℕ) (a : Answer) (old new : Session) → AllThere new.desk.ledgers
+      → HasListed q n old.desk old.scan new.desk new.scan a
       → new.log ≡ old.log → Lists t q n a (part_of old) (part_of new)
   lists q n a old new all is same =
       let m = q.manager in
@@ -312,7 +311,8 @@ module _ (settled : Settling) (t : ℕ) (ops : ℕ → List Op) (pairs : ℕ →
       }
 
   -- what a call does
-  call_takes : (x : Calling XidName) (q : Called XidName) → wanted_by x q.flags ≡ wanted_in q → (old new : Session) (a : Answer) → AllThere old.desk.ledgers
+  call_takes : (x : ScriptCalling) (q : ScriptCalled) → wanted_by x q.flags ≡ wanted_in q → (old new : Session) (a : Answer)
+      → AllThere old.desk.ledgers
       → AllThere new.desk.ledgers → Answers x q old.desk old.scan new.desk new.scan a → new.log ≡ old.log → CallTakes settled t q a (part_of old) (part_of new)
   call_takes (calling.Xa c y) q e old new a was all is same = plain_takes (calling.Xa c y) q refl e old new a was all is same is.1
   call_takes (calling.Heur x commits) q e old new a was all is same = plain_takes (calling.Heur x commits) q refl e old new a was all is same is.1

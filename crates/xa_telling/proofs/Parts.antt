@@ -13,8 +13,6 @@ use Rattle.xa_words.specs.declared.request.Op.{Op}
 use Rattle.xa_desk.specs.declared.operation.Operation.{Operation}
 use Rattle.xa_worker.specs.Journal.{Entry}
 use Rattle.xa_switch.specs.Settling.{Settling}
-use Rattle.xa_words.specs.Xid.{XidName}
-use Rattle.xa_grammar.specs.declared.step.Called.{Called}
 use Rattle.xa_transcript.specs.declared.answer.Answer.{Answer}
 use Rattle.xa_transcript.specs.declared.answer.Answer.TheVariants as answer
 use Rattle.xa_transcript.specs.declared.answer.Answer.TheVariants.{Called as shown}
@@ -23,6 +21,7 @@ use Rattle.xa_telling.specs.Wants.Wanted.{code_of, handle_for, completion}
 use Rattle.xa_telling.specs.Parts.{Part, CallTakes, HasCode, next_entry, next_request, with_entry}
 use Rattle.xa_telling.specs.Parts.CallTakes.{answered as call_answered, kept as call_kept, refused as call_refused}
 use Rattle.xa_telling.specs.Parts.CallTakes.{completes as call_completes}
+use Rattle.xa_grammar.specs.Steps.{ScriptCalled}
 
 -- A code that is shown in place of a handle or of what was completed.
 abbrev pub MayShow : Wanted → Code → Type 0
@@ -30,7 +29,7 @@ MayShow (code_of o) c = Unit {0}
 MayShow a c = IsRefusal a c
 
 -- What a call adds to its thread's entries in the journal of manager m.
-pub data Adds (m : ℕ) (t : ℕ) (q : Called XidName) (a : Answer) (old new : List Entry) : Type 0 where
+pub data Adds (m : ℕ) (t : ℕ) (q : ScriptCalled) (a : Answer) (old new : List Entry) : Type 0 where
   -- its op, with the code that it answers
   answered : (o : Op) (c : Code) → q.manager ≡ m → wanted_in q ≡ code_of o → a ≡ shown (number_of c)
       → new ≡ old ++ next_entry t old o c ∷ [] → Adds m t q a old new
@@ -45,7 +44,7 @@ pub data Adds (m : ℕ) (t : ℕ) (q : Called XidName) (a : Answer) (old new : L
   completes : wanted_in q ≡ completion → new ≡ old → Adds m t q a old new
 
 -- What a call does to its thread's handles.
-pub data Hands (settled : Settling) (t : ℕ) (q : Called XidName) (a : Answer) (old : Part)
+pub data Hands (settled : Settling) (t : ℕ) (q : ScriptCalled) (a : Answer) (old : Part)
     (new : finmap.FinMap nat_cmp Operation) : Type 0 where
   -- it answers a handle that was free, which now stands for its request
   gives : (o : Op) (k : ℕ) → wanted_in q ≡ handle_for o → a ≡ shown (pos k) → finmap.get old.handles k ≡ None
@@ -77,7 +76,7 @@ no_handle (suc (suc zero)) c n below is e = let f : number_of RmErr ≡ pos n = 
 no_handle (suc (suc (suc zero))) c n below is e = let f : number_of Async ≡ pos n = ap number_of is ∙ e in cc
 no_handle (suc (suc (suc (suc k)))) c n below is e = omega (arith, below)
 
-not_handle : (q : Called XidName) (a : Answer) (o : Op) (c : Code) (k : ℕ) → wanted_in q ≡ handle_for o → IsRefusal (wanted_in q) c
+not_handle : (q : ScriptCalled) (a : Answer) (o : Op) (c : Code) (k : ℕ) → wanted_in q ≡ handle_for o → IsRefusal (wanted_in q) c
     → a ≡ shown (number_of c) → a ≡ shown (pos k) → ⊥
 not_handle q a o c k asked why told says =
     let is : Contains (refusals true) c = subst (λ r. IsRefusal r c) asked why in
@@ -98,14 +97,14 @@ entry_elsewhere t m o c old n differs =
     at_false (n == m) (old.entries n ++ next_entry t (old.entries n) o c ∷ []) (old.entries n)
     (false_from_ne_true (n == m) (λ e. differs (eqb-true n m e)))
 
-other_same : (m : ℕ) (t : ℕ) (q : Called XidName) (a : Answer) (old new : List Entry) → m ≢ q.manager → Adds m t q a old new → new ≡ old
+other_same : (m : ℕ) (t : ℕ) (q : ScriptCalled) (a : Answer) (old new : List Entry) → m ≢ q.manager → Adds m t q a old new → new ≡ old
 other_same m t q a old new differs (answered o c here asks told is) = absurd (differs (sym here))
 other_same m t q a old new differs (kept o c k here asks low told is) = absurd (differs (sym here))
 other_same m t q a old new differs (refused c why told same) = same
 other_same m t q a old new differs (elsewhere apart same) = same
 other_same m t q a old new differs (completes asks same) = same
 
-module _ (settled : Settling) (t : ℕ) (q : Called XidName) (a : Answer) (old new : Part)
+module _ (settled : Settling) (t : ℕ) (q : ScriptCalled) (a : Answer) (old new : Part)
     (adds : (m : ℕ) → Adds m t q a (old.entries m) (new.entries m)) (log : new.log ≡ old.log) (lost : new.is_lost ≡ old.is_lost) (scan : new.scan ≡ old.scan) where
   one_entered : (o : Op) (c : Code)
       → new.entries q.manager ≡ old.entries q.manager ++ next_entry t (old.entries q.manager) o c ∷ []

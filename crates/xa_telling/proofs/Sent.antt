@@ -32,9 +32,8 @@ use Rattle.xa_switch.specs.Putting.Puts.{refused as put_refused, full, kept as p
 use Rattle.xa_switch.specs.Completing.{number_in, CompletesOne, CompletesAny, CompletesAt, CompletesBy, CollectsRedeemed, HasCompleted, may_complete}
 use Rattle.xa_switch.specs.Completing.CompletesOne.{unknown, retry as retry_one, ready, waited}
 use Rattle.xa_switch.specs.Completing.CompletesAny.{nothing as nothing_kept, retry as retry_any, least}
-use Rattle.xa_grammar.specs.declared.step.Calling.{Calling}
 use Rattle.xa_grammar.specs.declared.step.Calling.TheVariants as calling
-use Rattle.xa_grammar.specs.declared.step.Called.{Called}
+use Rattle.xa_grammar.specs.Steps.{ScriptCalling, ScriptCalled}
 use Rattle.xa_transcript.specs.declared.answer.Answer.{Answer}
 use Rattle.xa_base.specs.Lists.{Chain}
 use Rattle.xa_base.specs.Lists.Chain.{none, more}
@@ -130,7 +129,7 @@ ending_collects old told ended told' is = subst (Collecting old.ledgers) (sym is
 
 -- ---- what a call does to the ledger with manager m
 
-pub data Sends (m : ℕ) (t : ℕ) (q : Called XidName) (a : Answer) (old new : List LedgerView) : Type 0 where
+pub data Sends (m : ℕ) (t : ℕ) (q : ScriptCalled) (a : Answer) (old new : List LedgerView) : Type 0 where
   answered : (o : Op) (c : Code) → q.manager ≡ m → wanted_in q ≡ code_of o → a ≡ shown (number_of c) → sent_to new m ≡ sent_to old m ++ o ∷ []
       → collected_from new m ≡ collected_from old m ++ (length (sent_to old m), c) ∷ [] → Sends m t q a old new
   kept : (o : Op) (k : ℕ) → q.manager ≡ m → wanted_in q ≡ handle_for o → 1 ≤ k → a ≡ shown (pos k) → sent_to new m ≡ sent_to old m ++ o ∷ []
@@ -188,7 +187,7 @@ pub refusal_by : (b : Bool) (o : Op) (c : Code) → Contains (refusals b) c → 
 refusal_by true o c is = is
 refusal_by false o c is = is
 
-refused_so : (t : ℕ) (q : Called XidName) (b : Bool) (o : Op) → asks b o ≡ wanted_in q → (a : Answer) (n : ℤ) → a ≡ shown n → (m : ℕ) (c : Code)
+refused_so : (t : ℕ) (q : ScriptCalled) (b : Bool) (o : Op) → asks b o ≡ wanted_in q → (a : Answer) (n : ℤ) → a ≡ shown n → (m : ℕ) (c : Code)
     → Contains (refusals b) c → n ≡ number_of c → (es : List Entry) → Adds m t q a es es
 refused_so t q b o e a n told m c is of es = refused c (subst (λ r. IsRefusal r c) e (refusal_by b o c is)) (told ∙ ap (λ z. shown z) of) refl
 
@@ -212,7 +211,7 @@ answered_here m times old new op b c why is =
     )
 
 -- of its own manager
-puts_here : (t : ℕ) (q : Called XidName) (old new : DeskView) (a : Answer) (n : ℤ) (asked : _) → Puts old q.manager asked new n
+puts_here : (t : ℕ) (q : ScriptCalled) (old new : DeskView) (a : Answer) (n : ℤ) (asked : _) → Puts old q.manager asked new n
     → asks asked.asynchronous asked.op ≡ wanted_in q → a ≡ shown n → Sends q.manager t q a old.ledgers new.ledgers
 puts_here t q old new a n asked (put_refused c why of same) e told =
     nothing (refused_so t q asked.asynchronous asked.op e a n told q.manager c (is_refusal old q.manager asked.asynchronous c why) of) (ap (λ (d : DeskView). sent_to d.ledgers q.manager) same)
@@ -236,7 +235,7 @@ puts_elsewhere m n differs old new a asked (put_answered why async times c of is
     ∙ ap (λ (at : List LedgerView). sent_to (after_sent at n asked.op) m) (fulls_ledgers times old n)
     ∙ sent_elsewhere old.ledgers n asked.op (known_here old n asked.asynchronous why) m differs
 
-puts_send : (t : ℕ) (q : Called XidName) (old new : DeskView) (a : Answer) (n : ℤ) (asked : _) → Puts old q.manager asked new n
+puts_send : (t : ℕ) (q : ScriptCalled) (old new : DeskView) (a : Answer) (n : ℤ) (asked : _) → Puts old q.manager asked new n
     → asks asked.asynchronous asked.op ≡ wanted_in q → a ≡ shown n → (m : ℕ) → Sends m t q a old.ledgers new.ledgers
 puts_send t q old new a n asked is e told m =
     elim (cases_eq m q.manager) [
@@ -256,10 +255,10 @@ puts_grow m n old new a asked (put_answered why async times c of is) =
     (collecting_one mid new (next_operation old.ledgers n) c is m).0
 
 -- what a call sends and collects at manager m, and that it only adds to what was sent and collected
-abbrev pub Moves : ℕ → ℕ → Called XidName → Answer → List LedgerView → List LedgerView → Type 0
+abbrev pub Moves : ℕ → ℕ → ScriptCalled → Answer → List LedgerView → List LedgerView → Type 0
 Moves m t q a old new = Sends m t q a old new × Grows m old new
 
-calls_do : (t : ℕ) (q : Called XidName) (old new : DeskView) (a : Answer) (n : ℤ) (r : Result _ Code) → Calls r old q.manager new n
+calls_do : (t : ℕ) (q : ScriptCalled) (old new : DeskView) (a : Answer) (n : ℤ) (r : Result _ Code) → Calls r old q.manager new n
     → wanted r (λ asked. asked.op) (λ asked. asked.asynchronous) ≡ wanted_in q → a ≡ shown n → (m : ℕ) → Moves m t q a old.ledgers new.ledgers
 calls_do t q old new a n (Ok asked) is e told m = (puts_send t q old new a n asked is e told m, puts_grow m q.manager old new n asked is)
 calls_do t q old new a n (Err c) is e told m = (
@@ -268,7 +267,7 @@ calls_do t q old new a n (Err c) is e told m = (
 )
 
 -- it is an xa_recover
-abbrev pub is_recover : Calling XidName → Bool
+abbrev pub is_recover : ScriptCalling → Bool
 is_recover (calling.Xa c x) = false
 is_recover (calling.Heur x commits) = false
 is_recover (calling.Add k d) = false
@@ -277,7 +276,7 @@ is_recover (calling.Complete h) = false
 is_recover (calling.Recover n) = true
 
 -- a call of a line that is no xa_recover
-pub answers_do : (x : Calling XidName) (t : ℕ) (q : Called XidName) → is_recover x ≡ false → wanted_by x q.flags ≡ wanted_in q
+pub answers_do : (x : ScriptCalling) (t : ℕ) (q : ScriptCalled) → is_recover x ≡ false → wanted_by x q.flags ≡ wanted_in q
     → (old new : DeskView) (z z' : ScanView) (a : Answer) → Answers x q old z new z' a → (m : ℕ) → Moves m t q a old.ledgers new.ledgers
 answers_do (calling.Xa c x) t q plain e old new z z' a (is, still) m = calls_do t q old new a is.answer _ is.calls e is.shown m
 answers_do (calling.Heur x commits) t q plain e old new z z' a (is, still) m = calls_do t q old new a is.answer _ is.calls e is.shown m

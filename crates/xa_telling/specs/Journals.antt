@@ -18,12 +18,10 @@ use Rattle.xa_driver.specs.declared.done.Ending.TheVariants.{Committed}
 use Rattle.xa_driver.specs.Commits.{is_commit}
 use Rattle.xa_driver.specs.Decision.{is_no}
 use Rattle.xa_log.specs.Log.{LogState}
-use Rattle.xa_words.specs.Xid.{XidName}
 use Rattle.xa_words.specs.Tran.{TranName}
-use Rattle.xa_grammar.specs.declared.step.Called.{Called}
 use Rattle.xa_grammar.specs.declared.step.CommitAll.{CommitAll}
 use Rattle.xa_grammar.specs.declared.step.Action.TheVariants as action
-use Rattle.xa_grammar.specs.Steps.{ScriptAction, ScriptTask, ScriptStep}
+use Rattle.xa_grammar.specs.Steps.{ScriptCalled, ScriptAction, ScriptTask, ScriptStep}
 use Rattle.xa_grammar.specs.Content.{tasks_of}
 use Rattle.xa_transcript.specs.declared.answer.Answer.{Answer}
 use Rattle.xa_transcript.specs.declared.answer.Told.{Told}
@@ -119,7 +117,7 @@ IsInJournal settled m t o c =
 
 -- What the line asked for without TMASYNC, and answered XA_OK to, is in its manager's journal with XA_OK.
 abbrev pub IsCarriedOut : Settling → Line → Type 0
-IsCarriedOut settled l = (q : Called XidName) (o : Op) → l.task.action ≡ action.Call q → wanted_in q ≡ code_of o
+IsCarriedOut settled l = (q : ScriptCalled) (o : Op) → l.task.action ≡ action.Call q → wanted_in q ≡ code_of o
     → l.answer ≡ answer.Called (pos 0) → IsInJournal settled q.manager l.task.thread o Done
 
 -- The line is a commit of several branches, and this came of it.

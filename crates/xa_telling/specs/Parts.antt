@@ -16,12 +16,12 @@ use Rattle.xa_worker.specs.Journal.{Entry, entry}
 use Rattle.xa_switch.specs.Settling.{Settling, journal, answers}
 use Rattle.xa_switch.specs.Scans.{ScanView, RecoversBy, told_as}
 use Rattle.xa_log.specs.Log.{LogState}
-use Rattle.xa_grammar.specs.declared.step.Called.{Called}
 use Rattle.xa_transcript.specs.declared.answer.Answer.{Answer}
 use Rattle.xa_transcript.specs.declared.answer.Answer.TheVariants.{Called as shown, Completed}
 use Rattle.xa_session.specs.Calling.{IsListed}
 use Rattle.xa_telling.specs.Wants.{wanted_in, refusals, IsRefusal}
 use Rattle.xa_telling.specs.Wants.Wanted.{code_of, handle_for, completion, listing}
+use Rattle.xa_grammar.specs.Steps.{ScriptCalled}
 
 -- A thread's part in the journals, its log and its scans: its entries in each manager's journal, the requests that its
 -- handles stand for, what it has logged, and where it stands in what the opening found left. Where an append had an
@@ -71,7 +71,7 @@ pub data Asked (t m : ℕ) (old : Part) (op : Op) (new : Part) (c : Code) : Type
 -- What an xa_recover of thread t with room for n xids does to the thread's part, and what it answers: its manager is
 -- asked whether it answers, and then of one after the other of the branches that the opening found left, from where the
 -- scan stands.
-pub record Lists (t : ℕ) (q : Called XidName) (n : ℕ) (a : Answer) (old new : Part) : Type 0 where
+pub record Lists (t : ℕ) (q : ScriptCalled) (n : ℕ) (a : Answer) (old new : Part) : Type 0 where
   pub there : Bool
   pub asked : Part
   pub before : List XidName
@@ -84,7 +84,7 @@ pub record Lists (t : ℕ) (q : Called XidName) (n : ℕ) (a : Answer) (old new 
   pub tells : IsListed (told_as result) after a
 
 -- What a call of thread t does to the thread's part, and what it answers.
-pub data CallTakes (settled : Settling) (t : ℕ) (q : Called XidName) (a : Answer) (old new : Part) : Type 0 where
+pub data CallTakes (settled : Settling) (t : ℕ) (q : ScriptCalled) (a : Answer) (old new : Part) : Type 0 where
   -- its manager carries its op out, and the call answers the code
   answered : (o : Op) (c : Code) → wanted_in q ≡ code_of o → a ≡ shown (number_of c)
       → new ≡ with_entry t q.manager o c old → CallTakes settled t q a old new

@@ -1,7 +1,6 @@
 use Rattle.std.proofs.Common.{ℤ, refl, sym, subst, arith, w32}
 use Rattle.std.proofs.lemmas.Int.{to_z-of_z, ints}
-use Rattle.xa_words.specs.Xid.{XidName}
-use Rattle.xa_grammar.specs.declared.step.Calling.{Calling}
+use Rattle.xa_grammar.specs.Steps.{ScriptCalling}
 use Rattle.xa_session.specs.Calling.{Answers, HasCollected}
 use Rattle.xa_session.proofs.calls.answer.Goals as goal
 
@@ -10,4 +9,4 @@ returns-in-Complete-clause-answers g c =
     let q = c.args.called.now in
     let given = to_z-of_z w32 c.in-Complete.handle (omega (arith, ints)) in
     let has = subst (λ (z : ℤ). HasCollected q c.args.desk.now z c.completed.new.desk c.completed.result) given c.completed.ensures.answers in
-    subst (λ (x : Calling XidName). Answers x q c.args.desk.now c.args.scan.now c.completed.new.desk c.args.scan.now c.completed.result) (sym c.in-Complete.is) (has, refl)
+    subst (λ (x : ScriptCalling). Answers x q c.args.desk.now c.args.scan.now c.completed.new.desk c.args.scan.now c.completed.result) (sym c.in-Complete.is) (has, refl)

@@ -4,6 +4,6 @@ use Rattle.xa_grammar.specs.Steps.{action_with}
 use Rattle.xa_grammar.proofs.step.Action.map.Goals as goal
 
 pub returns-in-CommitAll : goal.returns-in-CommitAll
-returns-in-CommitAll g c = λ f h same same_tran.
+returns-in-CommitAll g c = λ f h k same same_tran same_key.
     ap (λ t. action.CommitAll (record { tran = t; managers = c.in-CommitAll.commit.managers; death = c.in-CommitAll.commit.death })) (same_tran c.in-CommitAll.commit.tran c.tran.result (_, c.tran.ensures, refl))
-    ∙ ap (action_with f h) (sym c.in-CommitAll.is)
+    ∙ ap (action_with f h k) (sym c.in-CommitAll.is)

@@ -12,10 +12,14 @@ mapped answers f (Some p) (Some y) same is = ap Some (same p y is)
 mapped answers f (Some p) None same is = absurd is
 
 pub returns-in-Xa : goal.returns-in-Xa
-returns-in-Xa g c = λ f same.
+returns-in-Xa g c = λ f k same same_key.
     ap (λ y. calling.Xa c.in-Xa.call y) (mapped (λ p y. g.N.FnOnce.post c.args.name (p, tt) y) f c.as_ref.result c.map.result (λ p y answers. same p.now y (p, answers, refl)) c.map.ensures.cases ∙ ap (option_map f) c.as_ref.ensures.value)
-    ∙ ap (call_with f) (sym c.in-Xa.is)
+    ∙ ap (call_with f k) (sym c.in-Xa.is)
 
 pub returns-in-Heur : goal.returns-in-Heur
-returns-in-Heur g c = λ f same.
-    ap (λ y. calling.Heur y c.in-Heur.commits) (same c.in-Heur.branch c.name.result (_, c.name.ensures, refl)) ∙ ap (call_with f) (sym c.in-Heur.is)
+returns-in-Heur g c = λ f k same same_key.
+    ap (λ y. calling.Heur y c.in-Heur.commits) (same c.in-Heur.branch c.name.result (_, c.name.ensures, refl)) ∙ ap (call_with f k) (sym c.in-Heur.is)
+
+pub returns-in-Add : goal.returns-in-Add
+returns-in-Add g c = λ f k same same_key.
+    ap (λ y. calling.Add y c.in-Add.delta) (same_key c.in-Add.added c.key.result (_, c.key.ensures, refl)) ∙ ap (call_with f k) (sym c.in-Add.is)

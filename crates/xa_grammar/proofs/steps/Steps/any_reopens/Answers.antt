@@ -8,5 +8,5 @@ pub returns : goal.returns
 returns c =
     c.any_reopens.ensures
     ∙ ap (list_any is_reopen) c.deref.ensures.value
-    ∙ any_reopens c.self.inside.names.items c.self.inside.kept.items
+    ∙ any_reopens c.self.inside.names.items c.self.inside.keys.items c.self.inside.kept.items
     ∙ ap (list_any is_reopen) c.self.view_is

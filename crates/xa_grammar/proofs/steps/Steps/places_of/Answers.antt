@@ -13,37 +13,38 @@ use Rattle.xa_grammar.proofs.steps.Steps.places_of.Goals.{then-is_of+in_ok-push,
 
 pub loop-place-init : goal.loop-place-init
 loop-place-init c =
-    let steps = steps_of c.self.inside.names.items c.self.inside.kept.items in
+    let steps = steps_of c.self.inside.names.items c.self.inside.keys.items c.self.inside.kept.items in
     (ap (steps_at steps) c.new-places.ensures.items, subst (All (λ k. k < length steps)) (sym c.new-places.ensures.items) (All-nil (λ k. k < length steps)))
 
 pub loop-place-preserved : goal.loop-place-preserved
 loop-place-preserved c =
     let bytes = c.self.inside.names.items in
+    let keys = c.self.inside.keys.items in
     let kept = c.self.inside.kept.items in
-    let steps = steps_of bytes kept in
+    let steps = steps_of bytes keys kept in
     let t = c.args.thread in
     let k = c.loop-place.place in
     let places = c.loop-place.places.items in
-    let x : ScriptStep = step_at bytes c.index.result.now in
-    let many : length steps ≡ length kept = length-map kept (step_at bytes) in
+    let x : ScriptStep = step_at bytes keys c.index.result.now in
+    let many : length steps ≡ length kept = length-map kept (step_at bytes keys) in
     let test = c.loop-place-test.true in
     let len = c.len-place-end.ensures in
     let within : k < length steps = omega (arith, many, test, len) in
     let there : slice_get kept k ≡ Some c.index.result.now =
     slice_get_read kept (length kept) k c.index.result.now refl (omega (arith, test, len)) c.index.ensures in
-    let at : slice_get steps k ≡ Some x = slice_get-map (step_at bytes) kept k ∙ ap (option_map (step_at bytes)) there in
+    let at : slice_get steps k ≡ Some x = slice_get-map (step_at bytes keys) kept k ∙ ap (option_map (step_at bytes keys)) there in
     let more : own_steps t (take (k + 1) steps) ≡ own_steps t (take k steps) ++ cond (is_own t x) (x ∷ []) [] = one_step_more t steps k x within at in
     let so_far = c.loop-place.invariant in
     elim c.if-is_of.branch [
       | then-is_of+in_ok-push w ↦
           let items : c.if-is_of.places.items ≡ places ++ k ∷ [] = ap (λ v. v.items) w.places-is ∙ w.in_ok-push.ensures.items in
           let grown : own_steps t (take (k + 1) steps) ≡ own_steps t (take k steps) ++ x ∷ [] =
-          more ∙ ap (λ b. own_steps t (take k steps) ++ cond b (x ∷ []) []) (sym (own_same t bytes c.index.result.now) ∙ sym w.if-is_of.ensures) in
+          more ∙ ap (λ b. own_steps t (take k steps) ++ cond b (x ∷ []) []) (sym (own_same t bytes keys c.index.result.now) ∙ sym w.if-is_of.ensures) in
           (ap (steps_at steps) items ∙ one_place_more steps places k x at ∙ ap (λ l. l ++ x ∷ []) so_far.0 ∙ sym grown, subst (All (λ q. q < length steps)) (sym items) (All-push (λ q. q < length steps) places k so_far.1 within))
       | else-is_of w ↦
           let items : c.if-is_of.places.items ≡ places = ap (λ v. v.items) w.places-is in
           let same : own_steps t (take (k + 1) steps) ≡ own_steps t (take k steps) =
-          more ∙ ap (λ b. own_steps t (take k steps) ++ cond b (x ∷ []) []) (sym (own_same t bytes c.index.result.now) ∙ sym w.if-is_of.ensures)
+          more ∙ ap (λ b. own_steps t (take k steps) ++ cond b (x ∷ []) []) (sym (own_same t bytes keys c.index.result.now) ∙ sym w.if-is_of.ensures)
           ∙ append-nil (own_steps t (take k steps)) in
           (ap (steps_at steps) items ∙ so_far.0 ∙ sym same, subst (All (λ q. q < length steps)) (sym items) so_far.1)
     ]
@@ -51,9 +52,10 @@ loop-place-preserved c =
 pub returns-clause-own : goal.returns-clause-own
 returns-clause-own c =
     let bytes = c.self.inside.names.items in
+    let keys = c.self.inside.keys.items in
     let kept = c.self.inside.kept.items in
-    let steps = steps_of bytes kept in
-    let many : length steps ≡ length kept = length-map kept (step_at bytes) in
+    let steps = steps_of bytes keys kept in
+    let many : length steps ≡ length kept = length-map kept (step_at bytes keys) in
     let test = c.loop-place-test.false in
     let len = c.len-place-end.ensures in
     let all : take c.loop-place.place steps ≡ steps = take_all c.loop-place.place steps (omega (arith, many, test, len)) in
