@@ -3,7 +3,7 @@ use Rattle.std.proofs.Common.{◌≡◌, ◌≢◌, ℕ, ◌+◌, ◌-◌, ◌�
 use Rattle.std.proofs.Common.{arith, append-nil, append_assoc, map}
 use Rattle.std.specs.Prelude.{slice_get, slice_set, All, filter_map, if◌then◌else◌}
 use Rattle.std.specs.List.{flat_map}
-use Rattle.std.proofs.lemmas.Bool.{cases_eq, eq-eqb}
+use Rattle.std.proofs.lemmas.Bool.{cases_eq, eq-eqb, ne_eqb}
 use Rattle.std.proofs.lemmas.List.{map-append}
 use Rattle.std.proofs.lemmas.List.Elements.{filter-append, filter_map-append, All-head, All-tail}
 use Rattle.xa_desk.specs.Ended.{EndedView}
@@ -24,8 +24,8 @@ use Rattle.xa_script.specs.InThreads.{told_by}
 use Rattle.xa_script.specs.InTurns.{TurnsAt, Closing, HasCalled, HasTurned, HasStepped, HasEndedDesk}
 use Rattle.xa_session.specs.Sessions.{HasDone, told_of}
 use Rattle.xa_telling.specs.Journals.{is_to, answers_to}
-use Rattle.xa_telling.proofs.Tasks.{AreOf, not_own, front_of, last_of}
-use Rattle.xa_base.proofs.Lists.{flat_push, none_side, push_side, some_same, all_left}
+use Rattle.xa_telling.proofs.Tasks.{AreOf}
+use Rattle.xa_base.proofs.Lists.{flat_push, none_side, push_side, some_same, all_left, all_mid}
 
 -- ---- lists
 
@@ -80,7 +80,8 @@ tasks_pushed t steps p e =
 tasks_passed : (t : ℕ) (steps : List ScriptStep) (p : ScriptTask) → p.thread ≢ t → tasks_of t (steps ++ step.Task p ∷ []) ≡ tasks_of t steps
 tasks_passed t steps p differs =
     filter_map-append (task_of t) steps (step.Task p ∷ [])
-    ∙ ap (λ b. tasks_of t steps ++ filter_map (λ (q : ScriptTask). if b then Some q else None) (p ∷ [])) (not_own t p differs) ∙ append-nil (tasks_of t steps)
+    ∙ ap (λ b. tasks_of t steps ++ filter_map (λ (q : ScriptTask). if b then Some q else None) (p ∷ [])) (ne_eqb p.thread t differs)
+    ∙ append-nil (tasks_of t steps)
 
 tasks_turned : (t : ℕ) (steps : List ScriptStep) (line m : ℕ) → tasks_of t (steps ++ step.Turn line m ∷ []) ≡ tasks_of t steps
 tasks_turned t steps line m = filter_map-append (task_of t) steps (step.Turn line m ∷ []) ∙ append-nil (tasks_of t steps)
@@ -121,7 +122,7 @@ done_went k d p xs now last a is told low w =
           }
       | inr differs ↦
           let other : k ≢ p.thread - 1 = λ e. differs (omega (arith, e, low)) in
-          let to : is_to (k + 1) a ≡ false = ap (is_to (k + 1)) is.told ∙ not_own (k + 1) p differs in
+          let to : is_to (k + 1) a ≡ false = ap (is_to (k + 1)) is.told ∙ ne_eqb p.thread (k + 1) differs in
           record {
             last = w.last;
             at = ap (λ l. slice_get l k) is.rest ∙ set_elsewhere now.stage.sessions (p.thread - 1) k is.after other ∙ w.at;
@@ -169,7 +170,7 @@ step_silent t (step.Turn line m) now last is e = ap (answers_to t) is.told ∙ t
 step_silent t (step.Task p) now last is e =
     elim (cases_eq (p.thread) t) [
       | inl own ↦ absurd (not_nil p [] (sym (tasks_pushed t [] p own) ∙ e))
-      | inr differs ↦ ap (answers_to t) is.told ∙ to_passed t now.answers is.line (ap (is_to t) is.steps.told ∙ not_own t p differs)
+      | inr differs ↦ ap (answers_to t) is.told ∙ to_passed t now.answers is.line (ap (is_to t) is.steps.told ∙ ne_eqb p.thread t differs)
     ]
 
 pub run_silent : (t : ℕ) (first : TurnsAt) → first.answers ≡ [] → (steps : List ScriptStep) (now : TurnsAt) → Chain HasStepped first steps now
@@ -231,8 +232,8 @@ pub told_all : (t : ℕ) (first : State) → first.1 ≡ [] → (tasks : List Sc
 told_all t first start tasks last (none xs l e f) own = let empty = ap (λ (s : State). s.1) f ∙ start in ap (answers_to t) empty ∙ sym empty
 told_all t first start tasks last (more xs x now l before is) own =
     ap (answers_to t) is.told
-    ∙ to_pushed t now.1 (told_of x is.answer) (eq-eqb (x.thread) t (last_of t xs x own))
-    ∙ ap (λ (k : List Told). k ++ told_of x is.answer ∷ []) (told_all t first start xs now before (front_of t xs x own))
+    ∙ to_pushed t now.1 (told_of x is.answer) (eq-eqb (x.thread) t (all_mid (λ (p : ScriptTask). p.thread ≡ t) xs [] x own))
+    ∙ ap (λ (k : List Told). k ++ told_of x is.answer ∷ []) (told_all t first start xs now before (all_left (λ (p : ScriptTask). p.thread ≡ t) xs (x ∷ []) own))
     ∙ sym is.told
 
 -- another thread is told nothing of it
@@ -241,8 +242,8 @@ pub told_none : (t u : ℕ) → u ≢ t → (first : State) → first.1 ≡ [] �
 told_none t u differs first start tasks last (none xs l e f) own = ap (answers_to t) (ap (λ (s : State). s.1) f ∙ start)
 told_none t u differs first start tasks last (more xs x now l before is) own =
     ap (answers_to t) is.told
-    ∙ to_passed t now.1 (told_of x is.answer) (not_own t x (λ e. differs (sym (last_of u xs x own) ∙ e)))
-    ∙ told_none t u differs first start xs now before (front_of u xs x own)
+    ∙ to_passed t now.1 (told_of x is.answer) (ne_eqb x.thread t (λ e. differs (sym (all_mid (λ (p : ScriptTask). p.thread ≡ u) xs [] x own) ∙ e)))
+    ∙ told_none t u differs first start xs now before (all_left (λ (p : ScriptTask). p.thread ≡ u) xs (x ∷ []) own)
 
 abbrev pub told : Member ScriptThread → List Told
 told w = told_by w.attended

@@ -7,7 +7,6 @@ use Rattle.std.proofs.lemmas.Bool.{cases_lt, eqb-true}
 use Rattle.std.proofs.lemmas.List.Elements.{All-append, All-cons, All-contains, All-head, All-nil, All-tail}
 use Rattle.xa_base.proofs.Truth.{by_if}
 use Rattle.xa_base.specs.declared.limits.TheConstants.{MOST_MANAGERS}
-use Rattle.xa_base.specs.Lists.{IsUpTo}
 use Rattle.xa_words.specs.Flags.{check_flags}
 use Rattle.xa_words.specs.Tran.{TranName}
 use Rattle.xa_words.specs.Xid.{XidName}
@@ -27,7 +26,7 @@ use Rattle.xa_driver.specs.Course.{AtBranch}
 use Rattle.xa_driver.specs.Endings.{second_op, third_op}
 use Rattle.xa_log.specs.Log.{Records}
 use Rattle.xa_driver.specs.Resolving.{ResolvesAt, outcome_op}
-use Rattle.xa_driver.specs.Trace.{EachBranch, has_branch_at}
+use Rattle.xa_driver.specs.Trace.{has_branch_at}
 use Rattle.xa_driver.proofs.Mapped.{Any, IsAskedFor, any_asked, branch_by, resolves_by}
 use Rattle.xa_grammar.specs.declared.step.CommitAll.{CommitAll}
 use Rattle.xa_grammar.specs.declared.step.Action.TheVariants as action
@@ -46,8 +45,7 @@ use Rattle.xa_telling.specs.Resolves.{EndsLeft}
 use Rattle.xa_telling.specs.Resolves.ResolveTakes.{refused as ends_none, resolved}
 use Rattle.xa_telling.specs.Journals.{Takes}
 use Rattle.xa_telling.proofs.Mapped.{by_mapped}
-use Rattle.xa_telling.proofs.Branches.{branch_there, up_to_or_not}
-use Rattle.xa_telling.proofs.Deaths.{Reached, asked_reach, at_manager, came_reach, reached_by}
+use Rattle.xa_telling.proofs.Deaths.{asked_so, at_each, came_so, each_so, hears_by, obeys_by}
 
 -- the op that a call asks for, if it does
 abbrev pub op_in : Wanted → Option Op
@@ -56,38 +54,6 @@ op_in (handle_for o) = Some o
 op_in (in_vain why) = None
 op_in completion = None
 op_in (listing n) = None
-
--- each branch, with what holds of it
-each_with : (C : Branch → Type 0) (P : Branch → Code → Option Code → Ending → Type 0) (bs : List Branch) (vs : List Code) (ss : List (Option Code)) (es : List Ending)
-    → All C bs → EachBranch P bs vs ss es → EachBranch (λ b v s e. C b × P b v s e) bs vs ss es
-each_with C P [] [] [] [] all h = tt
-each_with C P (b ∷ bs) (v ∷ vs) (s ∷ ss) (e ∷ es) all h = ((All-head C b bs all, h.0), each_with C P bs vs ss es (All-tail C b bs all) h.1)
-each_with C P bs vs ss es all h = absurd h
-
--- where a commit has no branch nothing was added
-pub elsewhere : (t : ℕ) (c : CommitAll TranName) (done : Outcomes) (old new : Part) → Decides t c done old new → (m : ℕ)
-    → has_branch_at (branches_of c) m ≡ false → new.entries m ≡ old.entries m
-elsewhere t c done old new is zero none = is.nowhere
-elsewhere t c done old new is (suc m) none = is.course.others (suc m) (omega arith) none
-
-pub nowhere_stopped : (t : ℕ) (c : CommitAll TranName) (at : Death) (known : Outcomes) (old new : Part) → StopsAt t c at known old new → (m : ℕ)
-    → has_branch_at (branches_of c) m ≡ false → new.entries m ≡ old.entries m
-nowhere_stopped t c at known old new is zero none = is.nowhere
-nowhere_stopped t c at known old new is (suc m) none = is.course.others (suc m) (omega arith) none
-
-pub nowhere_lost : (t : ℕ) (c : CommitAll TranName) (votes : List Code) (old new : Part) → LosesSight t c votes old new → (m : ℕ)
-    → has_branch_at (branches_of c) m ≡ false → new.entries m ≡ old.entries m
-nowhere_lost t c votes old new is zero none = is.nowhere
-nowhere_lost t c votes old new is (suc m) none = is.others (suc m) (omega arith) none
-
--- nor where a resolve has no manager
-pub past_all : (t : ℕ) (outcomes : List Outcome) (old new : Part) → EndsLeft t outcomes old new → (m : ℕ) → (IsUpTo MOST_MANAGERS m → ⊥)
-    → new.entries m ≡ old.entries m
-past_all t outcomes old new is zero past = is.nowhere
-past_all t outcomes old new is (suc m) past = is.course.others (suc m) (past_it (suc m) (omega arith) past)
-  where
-    past_it : (m : ℕ) → 0 < m → (IsUpTo MOST_MANAGERS m → ⊥) → MOST_MANAGERS < m
-    past_it m low past = ⊎_elim (λ (h : MOST_MANAGERS < m). h) (λ (h : m ≤ MOST_MANAGERS). absurd (past (omega (arith, low), h))) (cases_lt MOST_MANAGERS m)
 
 module _ (P : Op → Type 0) where
   -- entries are added, and the op of each is so
@@ -103,6 +69,16 @@ module _ (P : Op → Type 0) where
     b.1 ∙ ap (λ es. es ++ b.0) a.1 ∙ append_assoc old a.0 b.0,
     All-append (λ (e : Entry). P e.0.op) a.0 b.0 a.2 b.2,
   )
+
+  -- what is added at the branches, where nothing is without one
+  adds_at : (bs : List Branch) (old new : Part) → new.entries 0 ≡ old.entries 0 → ((m : ℕ) → 1 ≤ m → has_branch_at bs m ≡ false → new.entries m ≡ old.entries m)
+      → (m : ℕ) → All (λ b. b.m ≡ m → Adds (old.entries b.m) (new.entries b.m)) bs → Adds (old.entries m) (new.entries m)
+  adds_at bs old new nowhere others m all =
+      at_each (λ k. Adds (old.entries k) (new.entries k)) m bs all (λ none. adds_none (old.entries m) (new.entries m) (elsewhere m none))
+    where
+      elsewhere : (m : ℕ) → has_branch_at bs m ≡ false → new.entries m ≡ old.entries m
+      elsewhere zero none = nowhere
+      elsewhere (suc m) none = others (suc m) (omega arith) none
 
   adds_one : (t : ℕ) (old new : List Entry) (op : Op) (c : Code) → P op → new ≡ old ++ next_entry t old op c ∷ [] → Adds old new
   adds_one t old new op c so is =
@@ -127,15 +103,15 @@ module _ (P : Op → Type 0) where
   pub decides_adds : (m t : ℕ) (c : CommitAll TranName) (done : Outcomes) (old new : Part) → All (AsksAt m done.commit) (branches_of c)
       → Decides t c done old new → Adds (old.entries m) (new.entries m)
   decides_adds m t c done old new so is =
-      ⊎_elim (λ (h : has_branch_at (branches_of c) m ≡ false). adds_none (old.entries m) (new.entries m) (elsewhere t c done old new is m h))
-      (λ (h : (b : Branch) × (v : Code) × (s : Option Code) × (e : Ending) × (b.m ≡ m) × (AsksAt m done.commit b × AtBranch (CarriesOut t) done.commit b v s e (old.entries b.m) (new.entries b.m))).
-      let b : Branch = h.0 in
-      let asks = h.5.0 in
-      subst (λ k. Adds (old.entries k) (new.entries k)) h.4
-      (branch_by (CarriesOut t) P (Adds (old.entries b.m)) (carries_on t (old.entries b.m)) done.commit b h.1 h.2 h.3 (old.entries b.m) (new.entries b.m) h.5.1
-      (asks.obeys h.4 h.1) (asks.forgets h.4 h.2) (asks.prepares h.4) (adds_none (old.entries b.m) (old.entries b.m) refl)))
-      (branch_there (λ b v s e. AsksAt m done.commit b × AtBranch (CarriesOut t) done.commit b v s e (old.entries b.m) (new.entries b.m)) m (branches_of c) done.votes.items is.course.seconds done.endings.items
-      (each_with (AsksAt m done.commit) (λ b v s e. AtBranch (CarriesOut t) done.commit b v s e (old.entries b.m) (new.entries b.m)) (branches_of c) done.votes.items is.course.seconds done.endings.items so is.course.each))
+      let At : Branch → Code → Option Code → Ending → Type 0 = λ b v s e. AtBranch (CarriesOut t) done.commit b v s e (old.entries b.m) (new.entries b.m) in
+      adds_at (branches_of c) old new is.nowhere is.course.others m
+      (each_so (AsksAt m done.commit) (λ b. b.m ≡ m → Adds (old.entries b.m) (new.entries b.m)) (λ v. Unit {0}) At At
+      (λ b v s e asks _ h. (
+        h,
+        λ here. branch_by (CarriesOut t) P (Adds (old.entries b.m)) (carries_on t (old.entries b.m)) done.commit b v s e (old.entries b.m) (new.entries b.m) h
+            (asks.obeys here v) (asks.forgets here s) (asks.prepares here) (adds_none (old.entries b.m) (old.entries b.m) refl),
+      ))
+      (branches_of c) done.votes.items is.course.seconds done.endings.items so (λ k d lt. tt) is.course.each).1
 
   -- ---- a commit that came to no end
 
@@ -147,31 +123,42 @@ module _ (P : Op → Type 0) where
     pub prepares : b.m ≡ m → P (Prepare b.xid)
     pub obeys : b.m ≡ m → (v : Code) → W v → IsAskedFor P (second_op commit b.xid v)
 
-  reached_adds : (W : Code → Type 0) (m t : ℕ) (commit : Bool) (bs : List Branch) (old new : Part) → All (AsksFirst W m commit) bs
-      → All (λ b. Reached (CarriesOut t) (CarriesOutSome t) W commit b (old.entries b.m) (new.entries b.m)) bs
-      → (has_branch_at bs m ≡ false → new.entries m ≡ old.entries m) → Adds (old.entries m) (new.entries m)
-  reached_adds W m t commit bs old new so each other =
-      ⊎_elim (λ (h : has_branch_at bs m ≡ false). adds_none (old.entries m) (new.entries m) (other h))
-      (λ (h : (b : Branch) × (b.m ≡ m) × (AsksFirst W m commit b × Reached (CarriesOut t) (CarriesOutSome t) W commit b (old.entries b.m) (new.entries b.m))).
-      let b : Branch = h.0 in
-      subst (λ k. Adds (old.entries k) (new.entries k)) h.1
-      (reached_by (CarriesOut t) (CarriesOutSome t) P (Adds (old.entries b.m)) (carries_on t (old.entries b.m)) (puts_on t (old.entries b.m)) W commit b (old.entries b.m) (new.entries b.m)
-      (h.2.0.prepares h.1) (h.2.0.obeys h.1) h.2.1 (adds_none (old.entries b.m) (old.entries b.m) refl)))
-      (at_manager (λ b. AsksFirst W m commit b × Reached (CarriesOut t) (CarriesOutSome t) W commit b (old.entries b.m) (new.entries b.m)) m bs (λ k d lt. (so k d lt, each k d lt)))
+  module _ (W : Code → Type 0) (m t : ℕ) (commit : Bool) (old new : Part) where
+    abbrev AddsAt : Branch → Type 0
+    AddsAt b = b.m ≡ m → Adds (old.entries b.m) (new.entries b.m)
+
+    votes_add : (b : Branch) (v : Code) → AsksFirst W m commit b → CarriesOut t (old.entries b.m) (Prepare b.xid) (new.entries b.m) v
+        → CarriesOut t (old.entries b.m) (Prepare b.xid) (new.entries b.m) v × AddsAt b
+    votes_add b v asks is = (is, λ here. carries_adds t (old.entries b.m) (new.entries b.m) (Prepare b.xid) v (asks.prepares here) is)
+
+    put_adds : (b : Branch) → AsksFirst W m commit b → CarriesOutSome t (old.entries b.m) (Prepare b.xid) (new.entries b.m)
+        → CarriesOutSome t (old.entries b.m) (Prepare b.xid) (new.entries b.m) × AddsAt b
+    put_adds b asks is = (is, λ here. carries_adds t (old.entries b.m) (new.entries b.m) (Prepare b.xid) is.0 (asks.prepares here) is.1)
 
   pub stops_adds : (W : Code → Type 0) (m t : ℕ) (c : CommitAll TranName) (at : Death) (known : Outcomes) (old new : Part)
       → All (AsksFirst W m known.commit) (branches_of c) → All W known.votes.items → StopsAt t c at known old new → Adds (old.entries m) (new.entries m)
   stops_adds W m t c at known old new so votes_so is =
-      reached_adds W m t known.commit (branches_of c) old new so
-      (came_reach (CarriesOut t) (CarriesOutSome t) W old.entries new.entries at (named c) (branches_of c) old.log new.log known votes_so is.course.far)
-      (nowhere_stopped t c at known old new is m)
+      adds_at (branches_of c) old new is.nowhere is.course.others m
+      (came_so (CarriesOut t) (CarriesOutSome t) (CarriesOut t) (CarriesOutSome t) (AsksFirst W m known.commit) (AddsAt W m t known.commit old new) old.entries new.entries old.entries new.entries
+      (votes_add W m t known.commit old new) (put_adds W m t known.commit old new) W known
+      (λ k b v asks w h. (
+        h,
+        λ here. hears_by (CarriesOut t) (CarriesOutSome t) P (Adds (old.entries b.m)) (carries_on t (old.entries b.m)) (puts_on t (old.entries b.m)) known.commit b v (old.entries b.m) (new.entries b.m)
+            (asks.prepares here) (asks.obeys here v w) k h (adds_none (old.entries b.m) (old.entries b.m) refl),
+      ))
+      (λ b v s e asks w h. (
+        h,
+        λ here. obeys_by (CarriesOut t) (CarriesOutSome t) P (Adds (old.entries b.m)) (carries_on t (old.entries b.m)) (puts_on t (old.entries b.m)) known.commit b v (old.entries b.m) (new.entries b.m)
+            (asks.prepares here) (asks.obeys here v w) s e h (adds_none (old.entries b.m) (old.entries b.m) refl),
+      ))
+      (named c) (branches_of c) old.log new.log so votes_so at is.course.far).1
 
   pub loses_adds : (m t : ℕ) (c : CommitAll TranName) (votes : List Code) (old new : Part) → All (λ b. b.m ≡ m → P (Prepare b.xid)) (branches_of c)
       → LosesSight t c votes old new → Adds (old.entries m) (new.entries m)
   loses_adds m t c votes old new so is =
-      reached_adds (λ v. ⊥) m t false (branches_of c) old new (λ k d lt. record { prepares = so k d lt; obeys = λ here v none. absurd none })
-      (asked_reach (CarriesOut t) (CarriesOutSome t) (λ v. ⊥) old.entries new.entries false (branches_of c) votes is.asked)
-      (nowhere_lost t c votes old new is m)
+      adds_at (branches_of c) old new is.nowhere is.others m
+      (asked_so (CarriesOut t) (CarriesOutSome t) (CarriesOut t) (CarriesOutSome t) (AsksFirst (λ v. ⊥) m false) (AddsAt (λ v. ⊥) m t false old new) old.entries new.entries old.entries new.entries
+      (votes_add (λ v. ⊥) m t false old new) (put_adds (λ v. ⊥) m t false old new) (branches_of c) votes (λ k d lt. record { prepares = so k d lt; obeys = λ here v none. absurd none }) is.asked).1
 
   -- ---- a resolve
 
@@ -194,11 +181,14 @@ module _ (P : Op → Type 0) where
       resolves_by (CarriesOut t) P (Adds old) (carries_on t old) records m (x ∷ xs) os old new opens
       (λ o there. let each = outcome_so (x ∷ xs) os is.xids_are so o there in record { ends = λ _ _. each.0 o.commit; forgets = λ _ _. each.1 }) is (adds_none old old refl)
 
-  pub ends_adds : (m t : ℕ) (outcomes : List Outcome) (old new : Part) → P OpenRm → All EndsSo (left_at old.scan m) → EndsLeft t outcomes old new
+  ends_adds : (m t : ℕ) (outcomes : List Outcome) (old new : Part) → P OpenRm → All EndsSo (left_at old.scan m) → EndsLeft t outcomes old new
       → Adds (old.entries m) (new.entries m)
-  ends_adds m t outcomes old new opens so is =
-      ⊎_elim (λ (within : IsUpTo MOST_MANAGERS m). at_adds t old.log.records m (left_at old.scan m) (is.course.at m) (old.entries m) (new.entries m) opens so (is.course.each m within))
-      (λ (past : IsUpTo MOST_MANAGERS m → ⊥). adds_none (old.entries m) (new.entries m) (past_all t outcomes old new is m past)) (up_to_or_not m)
+  ends_adds zero t outcomes old new opens so is = adds_none (old.entries 0) (new.entries 0) is.nowhere
+  ends_adds (suc m) t outcomes old new opens so is =
+      ⊎_elim (λ (past : MOST_MANAGERS < suc m). adds_none (old.entries (suc m)) (new.entries (suc m)) (is.course.others (suc m) past))
+      (λ (high : suc m ≤ MOST_MANAGERS).
+      at_adds t old.log.records (suc m) (left_at old.scan (suc m)) (is.course.at (suc m)) (old.entries (suc m)) (new.entries (suc m)) opens so (is.course.each (suc m) (omega arith, high)))
+      (cases_lt MOST_MANAGERS (suc m))
 
   -- ---- a call
 

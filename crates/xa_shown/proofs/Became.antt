@@ -1,14 +1,14 @@
 -- What a thread's entries in a journal have of a commit's branch, as its requests stand in the manager's history.
 use Rattle.std.specs.Prelude.{slice_get, option_map}
-use Rattle.std.proofs.Common.{◌≡◌, ℕ, zero, suc, Bool, true, false, ◌==◌, ◌||◌, List, [], ◌∷◌, ◌++◌, length, map, Option, Some, sym, refl, ap, ◌∙◌, arith}
+use Rattle.std.proofs.Common.{◌≡◌, ℕ, zero, suc, Bool, true, false, ◌==◌, ◌||◌, List, [], ◌∷◌, ◌++◌, length, map, Option, Some, sym, refl, ap, ◌∙◌, subst}
+use Rattle.std.proofs.Common.{arith}
 use Rattle.std.proofs.Common.{append_assoc, length-append}
 use Rattle.std.specs.List.{Contains, list_any}
 use Rattle.std.proofs.lemmas.List.{map-append}
-use Rattle.std.proofs.lemmas.List.Folds.{list_any-append}
+use Rattle.std.proofs.lemmas.List.Folds.{Any-from_list_any, list_any-append, list_any-from_Any}
 use Rattle.std.proofs.lemmas.Option.{slice_get-map}
-use Rattle.xa_telling.proofs.Branches.{is_rm_fail_so}
 use Rattle.xa_base.specs.Lists.{Begins}
-use Rattle.xa_base.proofs.Lists.{begins_on, begins_same, contains_at, next_there}
+use Rattle.xa_base.proofs.Lists.{begins_on, begins_same, next_there}
 use Rattle.xa_words.specs.declared.code.Code.{Code}
 use Rattle.xa_words.specs.declared.code.Code.TheVariants.{RmFail}
 use Rattle.xa_words.specs.declared.request.Op.{Op}
@@ -32,7 +32,7 @@ use Rattle.xa_telling.specs.Parts.{next_entry}
 use Rattle.xa_telling.specs.Journals.{entries_of}
 use Rattle.xa_telling.specs.Commits.{CarriesOut, CarriesOutSome}
 use Rattle.xa_telling.specs.Commits.CarriesOut.{carried, withheld}
-use Rattle.xa_telling.proofs.Entries.{Fits, pair_of}
+use Rattle.xa_telling.proofs.Entries.{Fits, is_rm_fail_so, pair_of}
 use Rattle.xa_telling.proofs.Deaths.{obeys_mapped}
 use Rattle.xa_shown.proofs.Failing.{fails_on}
 
@@ -44,24 +44,11 @@ entered es = record { number = length es; shut = list_any is_rm_fail (codes_in e
 
 -- where one is XAER_RMFAIL it is among them
 fail_there : (cs : List Code) → list_any is_rm_fail cs ≡ true → Contains cs RmFail
-fail_there cs e = let at = failing cs e in contains_at cs at.0 RmFail at.1
-  where
-    failing : (cs : List Code) → list_any is_rm_fail cs ≡ true → (k : ℕ) × (slice_get cs k ≡ Some RmFail)
-    failing [] e = absurd (cc)
-    failing (c ∷ cs) e =
-        elim (is_rm_fail c) as (λ b. is_rm_fail c ≡ b → (b || list_any is_rm_fail cs) ≡ true → (k : ℕ) × (slice_get (c ∷ cs) k ≡ Some RmFail)) [
-          | true ↦ λ here _. (zero, ap (λ (d : Code). Some d) (is_rm_fail_so c here))
-          | false ↦ λ _ e. let there = failing cs e in (suc there.0, there.1)
-        ] refl e
+fail_there cs e =
+    let (k, c, below, at, fails) = Any-from_list_any is_rm_fail cs e in subst (Contains cs) (is_rm_fail_so c fails) (k, below, at)
 
 there_fails : (cs : List Code) → Contains cs RmFail → list_any is_rm_fail cs ≡ true
-there_fails [] has = let below = has.1 in absurd (omega (arith, below))
-there_fails (c ∷ cs) (zero, below, e) = ap (λ (d : Code). is_rm_fail d || list_any is_rm_fail cs) e
-there_fails (c ∷ cs) (suc k, below, e) = ap (λ b. is_rm_fail c || b) (there_fails cs (k, omega (arith, below), e)) ∙ or_true (is_rm_fail c)
-  where
-    or_true : (b : Bool) → (b || true) ≡ true
-    or_true true = refl
-    or_true false = refl
+there_fails cs (k, below, at) = list_any-from_Any is_rm_fail cs (k, RmFail, below, at, refl)
 
 pub or_false : (b : Bool) → (b || false) ≡ b
 or_false true = refl

@@ -4,7 +4,6 @@ use Rattle.std.proofs.Common.{◌∙◌}
 use Rattle.std.specs.Prelude.{if◌then◌else◌, All, Result, Ok, Err}
 use Rattle.std.proofs.lemmas.Bool.{eq-eqb, or_parts}
 use Rattle.std.specs.List.{list_any, slice_index_or}
-use Rattle.std.proofs.lemmas.List.Elements.{All-cons, All-nil}
 use Rattle.xa_base.specs.Lists.{Chain}
 use Rattle.xa_base.specs.Lists.Chain.{none as no_step, more as one_step}
 use Rattle.xa_base.proofs.Lists.{all_mid, all_left}
@@ -34,6 +33,7 @@ use Rattle.xa_session.specs.Committing.{branches_of}
 use Rattle.xa_telling.specs.Wants.{wanted, wanted_by}
 use Rattle.xa_telling.specs.Wants.Wanted.{code_of, handle_for}
 use Rattle.xa_telling.specs.Parts.{Part, Asked, CallTakes}
+use Rattle.xa_shown.proofs.Shown.{none_all}
 use Rattle.xa_shown.proofs.Adds.{Adds, TaskSo, adds_both, adds_none, op_in, takes_add}
 use Rattle.xa_atomicity.proofs.Between.{Unnamed, second_unnamed, outcome_unnamed, third_unnamed}
 use Rattle.xa_words.specs.Orders.{Decides-xid_eq}
@@ -63,20 +63,12 @@ op_of_names call.Prepare x y m o e apart = let same : op.Prepare x ≡ o = cc in
 op_of_names call.Commit x y m o e apart = let same : op.Commit x m.one_phase ≡ o = cc in ap (names y) (sym same) ∙ apart
 op_of_names call.Rollback x y m o e apart = let same : op.Rollback x ≡ o = cc in ap (names y) (sym same) ∙ apart
 op_of_names call.Forget x y m o e apart = let same : op.Forget x ≡ o = cc in ap (names y) (sym same) ∙ apart
-op_of_names call.Recover x y m o e apart = absurd (cc)
-op_of_names call.Complete x y m o e apart = absurd (cc)
+op_of_names c x y m o e apart = absurd (cc)
 
 op_of_none : (c : Call) (y : XidName) (m : Mode) (o : Op) → op_by c None m ≡ Ok o → names y o ≡ false
 op_of_none call.OpenRm y m o e = let same : op.OpenRm ≡ o = cc in ap (names y) (sym same)
 op_of_none call.CloseRm y m o e = let same : op.CloseRm ≡ o = cc in ap (names y) (sym same)
-op_of_none call.Start y m o e = absurd (cc)
-op_of_none call.End y m o e = absurd (cc)
-op_of_none call.Prepare y m o e = absurd (cc)
-op_of_none call.Commit y m o e = absurd (cc)
-op_of_none call.Rollback y m o e = absurd (cc)
-op_of_none call.Forget y m o e = absurd (cc)
-op_of_none call.Recover y m o e = absurd (cc)
-op_of_none call.Complete y m o e = absurd (cc)
+op_of_none c y m o e = absurd (cc)
 
 -- what a wanted op was asked for by
 wanted_is : {A : Type 0} (r : Result A Code) (f : A → Op) (later : A → Bool) (o : Op) → op_in (wanted r f later) ≡ Some o → (a : A) × (r ≡ Ok a) × (f a ≡ o)
@@ -183,17 +175,6 @@ lines_leave settled first ls last (no_step xs end e f) = ap (λ (p : Part). p.sc
 lines_leave settled first ls last (one_step xs x now end before step) =
     takes_leaves settled x.task.action x.task.thread x.answer now end step ∙ lines_leave settled first xs now before
 
--- none of these is the branch
-none_among : (b : Branch) (bs : List Branch) → is_among b bs ≡ false → All (λ c. ((c.m == b.m) && xid_eq c.xid b.xid) ≡ false) bs
-none_among b [] quiet = All-nil (λ c. ((c.m == b.m) && xid_eq c.xid b.xid) ≡ false)
-none_among b (c ∷ bs) quiet =
-    let parts = or_parts ((c.m == b.m) && xid_eq c.xid b.xid) (is_among b bs) quiet in
-    All-cons (λ c. ((c.m == b.m) && xid_eq c.xid b.xid) ≡ false) c bs parts.0 (none_among b bs parts.1)
-
-none_left : (x : XidName) (xs : List XidName) → list_any (λ y. xid_eq y x) xs ≡ false → All (λ y. xid_eq y x ≡ false) xs
-none_left x [] quiet = All-nil (λ y. xid_eq y x ≡ false)
-none_left x (y ∷ xs) quiet = let parts = or_parts (xid_eq y x) _ quiet in All-cons (λ y. xid_eq y x ≡ false) y xs parts.0 (none_left x xs parts.1)
-
 -- another xid
 differs_so : (x y : XidName) → xid_eq y x ≡ false → y ≢ x
 differs_so x y e same = let z : true ≡ false = sym ((Decides-xid_eq y x).1 same) ∙ e in cc
@@ -208,7 +189,7 @@ module _ (settled : Settling) (b : Branch) where
   task_unnamed z (action.CommitAll c) quiet = λ commit k d lt.
       let x : XidName = (get_or (branches_of c) k d).xid in
       let other : (get_or (branches_of c) k d).m ≡ b.m → xid_eq x b.xid ≡ false =
-      λ here. apart b (get_or (branches_of c) k d).m x here (none_among b (branches_of c) quiet k d lt) in
+      λ here. apart b (get_or (branches_of c) k d).m x here (none_all (λ (d : Branch). (d.m == b.m) && xid_eq d.xid b.xid) (branches_of c) quiet k d lt) in
       record {
         prepares = other;
         obeys = λ here v. second_unnamed b.xid x (differs_so b.xid x (other here)) commit v;
@@ -218,7 +199,7 @@ module _ (settled : Settling) (b : Branch) where
     refl,
     λ k d lt.
         let x : XidName = get_or (left_at z b.m) k d in
-        let other : xid_eq x b.xid ≡ false = none_left b.xid (left_at z b.m) quiet k d lt in
+        let other : xid_eq x b.xid ≡ false = none_all (λ y. xid_eq y b.xid) (left_at z b.m) quiet k d lt in
         (λ commit. outcome_unnamed b.xid x (differs_so b.xid x other) commit, other),
   )
 

@@ -3,7 +3,7 @@ use Rattle.std.proofs.Common.{◌≡◌, ℕ, inl, inr, Bool, true, false, ◌||
 use Rattle.std.specs.Prelude.{ℤ, pos, if◌then◌else◌, All}
 use Rattle.std.specs.List.{list_any}
 use Rattle.std.proofs.lemmas.Bool.{cases_Bool, or_parts}
-use Rattle.std.proofs.lemmas.List.Elements.{All-cons, All-nil, All-append}
+use Rattle.std.proofs.lemmas.List.Elements.{All-head, All-tail, All-cons, All-nil, All-append}
 use Rattle.xa_words.specs.declared.code.Code.{Code}
 use Rattle.xa_words.specs.declared.code.Code.TheVariants.{Done, RdOnly}
 use Rattle.xa_tables.specs.Tables.{Tables}
@@ -14,7 +14,7 @@ use Rattle.xa_switch.specs.Fates.{IsOpenedWith, history as history_of}
 use Rattle.xa_driver.specs.declared.branch.Branch.{Branch}
 use Rattle.xa_driver.specs.declared.done.Done.{Done as Outcome}
 use Rattle.xa_driver.specs.declared.done.Ending.{Ending}
-use Rattle.xa_driver.specs.declared.done.Ending.TheVariants.{Committed, ReadOnly, RolledBack, InDoubt, Heuristic, Left}
+use Rattle.xa_driver.specs.declared.done.Ending.TheVariants.{Committed, ReadOnly, InDoubt, Heuristic, Left}
 use Rattle.xa_atomicity.specs.Additions.{IsAddition, Shares}
 use Rattle.xa_driver.specs.Decision.{is_yes, is_no, is_read}
 use Rattle.xa_driver.specs.Endings.{ending_of, yes_ending, is_out_of_reach, is_heuristic as is_heuristic_code}
@@ -22,7 +22,7 @@ use Rattle.xa_atomicity.specs.Outcomes.{AreLeftAlone, AreLeftOrDecided, EachOutc
 use Rattle.xa_atomicity.specs.Outcomes.{is_read_only, KeepsItsVote, TellsTheFate}
 use Rattle.xa_driver.specs.Trace.{EachBranch}
 use Rattle.xa_atomicity.specs.Tabled.{Tabled}
-use Rattle.xa_atomicity.proofs.Settled.{Both, Fated, InHistory, each_both, each_fated, outcome_map}
+use Rattle.xa_atomicity.proofs.Settled.{Both, Fated, InHistory, each_both, each_fated, outcome_map, each_outcome}
 use Rattle.xa_session.specs.Committing.{branches_of}
 use Rattle.xa_words.specs.Tran.{TranName}
 use Rattle.xa_grammar.specs.declared.step.CommitAll.{CommitAll}
@@ -38,7 +38,9 @@ use Rattle.xa_telling.specs.Journals.{Line, TakesPart, AreCarriedOut, ShowsCommi
 use Rattle.xa_telling.specs.ToldOpenings.{Beginning, Opening, TellsOf}
 use Rattle.xa_shown.specs.Outcomes.{IsOneOutcome, ShowsOneOutcome, Place, IsAsShown, CountsAsShown, entered_so_far}
 use Rattle.xa_telling.proofs.Entries.{agreed_fits}
-use Rattle.xa_shown.proofs.Shown.{decided_so, committed_yes, committed_done, none_against}
+use Rattle.xa_shown.proofs.Shown.{decided_so, committed_yes, committed_done, none_against, none_all}
+use Rattle.xa_telling.proofs.Deaths.{each_so}
+use Rattle.std.proofs.lemmas.List.Folds.{list_any_none}
 use Rattle.xa_shown.proofs.Placed.{chain_adds}
 use Rattle.xa_shown.proofs.Became.{entered, branch_entered}
 use Rattle.xa_shown.proofs.Adds.{Adds}
@@ -48,11 +50,11 @@ use Rattle.xa_atomicity.proofs.Sites.{Sent}
 -- ---- lists of outcomes
 
 -- each with what holds of its vote, and of its ending
-pub with_votes : (P : Branch → Code → Ending → Type 0) (p : Code → Bool) (bs : List Branch) (vs : List Code) (es : List Ending) → list_any p vs ≡ false
-    → EachOutcome P bs vs es → EachOutcome (λ b v e. (p v ≡ false) × P b v e) bs vs es
-with_votes P p [] [] [] never h = tt
-with_votes P p (b ∷ bs) (v ∷ vs) (e ∷ es) never h = let parts = or_parts (p v) (list_any p vs) never in ((parts.0, h.0), with_votes P p bs vs es parts.1 h.1)
-with_votes P p bs vs es never h = absurd h
+pub voted_with : (W : Code → Type 0) (P : Branch → Code → Ending → Type 0) (bs : List Branch) (vs : List Code) (es : List Ending) → All W vs
+    → EachOutcome P bs vs es → EachOutcome (λ b v e. W v × P b v e) bs vs es
+voted_with W P [] [] [] all h = tt
+voted_with W P (b ∷ bs) (v ∷ vs) (e ∷ es) all h = ((All-head W v vs all, h.0), voted_with W P bs vs es (All-tail W v vs all) h.1)
+voted_with W P bs vs es all h = absurd h
 
 with_endings : (P : Branch → Code → Ending → Type 0) (p : Ending → Bool) (bs : List Branch) (vs : List Code) (es : List Ending) → list_any p es ≡ false
     → EachOutcome P bs vs es → EachOutcome (λ b v e. (p e ≡ false) × P b v e) bs vs es
@@ -69,16 +71,7 @@ all_endings P Q so bs vs es h = absurd h
 
 pub no_ending_is : (P : Branch → Code → Ending → Type 0) (p : Ending → Bool) → ((b : Branch) (v : Code) (e : Ending) → P b v e → p e ≡ false)
     → (bs : List Branch) (vs : List Code) (es : List Ending) → EachOutcome P bs vs es → list_any p es ≡ false
-no_ending_is P p so [] [] [] h = refl
-no_ending_is P p so (b ∷ bs) (v ∷ vs) (e ∷ es) h = λ i. so b v e h.0 i || no_ending_is P p so bs vs es h.1 i
-no_ending_is P p so bs vs es h = absurd h
-
--- without the second codes
-outcomes_of : (P : Branch → Code → Option Code → Ending → Type 0) (bs : List Branch) (vs : List Code) (zs : List (Option Code)) (es : List Ending)
-    → EachBranch P bs vs zs es → EachOutcome (λ b v e. (z : Option Code) × P b v z e) bs vs es
-outcomes_of P [] [] [] [] h = tt
-outcomes_of P (b ∷ bs) (v ∷ vs) (z ∷ zs) (e ∷ es) h = ((z, h.0), outcomes_of P bs vs zs es h.1)
-outcomes_of P bs vs zs es h = absurd h
+no_ending_is P p so bs vs es h = list_any_none p es (all_endings P (λ e. p e ≡ false) so bs vs es h)
 
 -- ---- endings
 
@@ -125,19 +118,14 @@ out_so commit is b v e h = ap is_committed (h.1 ∙ ap (λ c. ending_of c v h.0)
 rest_is : (e : Ending) → is_left e ≡ false → is_rolled_back e ≡ false → (is_committed e || (is_read_only e || (is_in_doubt e || is_heuristic e))) ≡ true
 rest_is Committed l r = refl
 rest_is ReadOnly l r = refl
-rest_is RolledBack l r = absurd (cc)
 rest_is InDoubt l r = refl
 rest_is (Heuristic c) l r = refl
-rest_is (Left c) l r = absurd (cc)
+rest_is e l r = absurd (cc)
 
 certain_is : (e : Ending) → is_left e ≡ false → is_rolled_back e ≡ false → is_in_doubt e ≡ false → is_heuristic e ≡ false → is_read_only e ≡ false
     → is_committed e ≡ true
 certain_is Committed l r d h o = refl
-certain_is ReadOnly l r d h o = absurd (cc)
-certain_is RolledBack l r d h o = absurd (cc)
-certain_is InDoubt l r d h o = absurd (cc)
-certain_is (Heuristic c) l r d h o = absurd (cc)
-certain_is (Left c) l r d h o = absurd (cc)
+certain_is e l r d h o = absurd (cc)
 
 -- ---- by the line alone
 
@@ -148,8 +136,8 @@ module _ (t : ℕ) (c : CommitAll TranName) (done : Outcome) (old new : Part) (i
   -- each branch has its ending
   pub ends_all : EachOutcome (Ends done.commit) own done.votes.items done.endings.items
   ends_all =
-      outcome_map (λ b v e. (z : Option Code) × AtBranch (CarriesOut t) done.commit b v z e (old.entries b.m) (new.entries b.m)) (Ends done.commit) (λ b v e h. (h.0, h.1.ends)) own done.votes.items done.endings.items
-      (outcomes_of (λ b v z e. AtBranch (CarriesOut t) done.commit b v z e (old.entries b.m) (new.entries b.m)) own done.votes.items is.course.seconds done.endings.items is.course.each)
+      each_outcome (λ b. Unit {0}) (λ b v z e. AtBranch (CarriesOut t) done.commit b v z e (old.entries b.m) (new.entries b.m)) (Ends done.commit) (λ b v z e _ h. (z, h.ends)) own
+      done.votes.items is.course.seconds done.endings.items (λ k d lt. tt) is.course.each
 
   pub unopposed : done.commit ≡ true → list_any is_no done.votes.items ≡ false
   unopposed commit = none_against done.votes.items done.logged (sym is.course.decision ∙ commit)
@@ -158,7 +146,7 @@ module _ (t : ℕ) (c : CommitAll TranName) (done : Outcome) (old new : Part) (i
   one_outcome = record {
     kept = λ commit.
         no_ending_is (λ b v e. (is_no v ≡ false) × Ends done.commit b v e) is_rolled_back (kept_so done.commit commit) own done.votes.items done.endings.items
-        (with_votes (Ends done.commit) is_no own done.votes.items done.endings.items (unopposed commit) ends_all);
+        (voted_with (λ v. is_no v ≡ false) (Ends done.commit) own done.votes.items done.endings.items (none_all is_no done.votes.items (unopposed commit)) ends_all);
     uncommitted = λ aborts. no_ending_is (Ends done.commit) is_committed (out_so done.commit aborts) own done.votes.items done.endings.items ends_all;
   }
 
@@ -170,12 +158,6 @@ pub each_and : (P Q : Branch → Code → Ending → Type 0) (bs : List Branch) 
 each_and P Q [] [] [] h k = tt
 each_and P Q (b ∷ bs) (v ∷ vs) (e ∷ es) h k = ((h.0, k.0), each_and P Q bs vs es h.1 k.1)
 each_and P Q bs vs es h k = absurd h
-
-each_map : (P Q : Branch → Code → Option Code → Ending → Type 0) → ((b : Branch) (v : Code) (z : Option Code) (e : Ending) → P b v z e → Q b v z e)
-    → (bs : List Branch) (vs : List Code) (zs : List (Option Code)) (es : List Ending) → EachBranch P bs vs zs es → EachBranch Q bs vs zs es
-each_map P Q so [] [] [] [] h = tt
-each_map P Q so (b ∷ bs) (v ∷ vs) (z ∷ zs) (e ∷ es) h = (so b v z e h.0, each_map P Q so bs vs zs es h.1)
-each_map P Q so bs vs zs es h = absurd h
 
 -- ---- one branch
 
@@ -213,7 +195,7 @@ module _ (law : Tabled) (opens : (s : Settling) (m : ℕ) → IsSettled s → (T
     committed = λ commit.
         all_endings (λ b v e. (is_no v ≡ false) × FatedHere b v e) (λ e. (is_committed e || (is_read_only e || (is_in_doubt e || is_heuristic e))) ≡ true)
         (λ b v e h. rest_is e (h.1.0.unless_no h.0) (kept_so done.commit commit b v e (h.0, h.1.1))) bs done.votes.items done.endings.items
-        (with_votes FatedHere is_no bs done.votes.items done.endings.items (unopposed_so commit) all);
+        (voted_with (λ v. is_no v ≡ false) FatedHere bs done.votes.items done.endings.items (none_all is_no done.votes.items (unopposed_so commit)) all);
     aborted = λ aborts. no_ending_is FatedHere is_committed (λ b v e h. out_so done.commit aborts b v e h.1) bs done.votes.items done.endings.items all;
     votes = record {
       each =
@@ -237,7 +219,7 @@ module _ (law : Tabled) (opens : (s : Settling) (m : ℕ) → IsSettled s → (T
       own.counts T with_T k d add ∙ ap (λ q. if q then d else pos 0) same)
       bs done.votes.items done.endings.items
       (with_endings (λ b v e. (is_no v ≡ false) × CountedHere b v e) is_in_doubt bs done.votes.items done.endings.items certain
-      (with_votes CountedHere is_no bs done.votes.items done.endings.items (unopposed_so commit) all))
+      (voted_with (λ v. is_no v ≡ false) CountedHere bs done.votes.items done.endings.items (none_all is_no done.votes.items (unopposed_so commit)) all))
 
   none_counts : each CountedHere → done.commit ≡ false → each (λ b v e. Shares s t b (length (old.entries b.m)) done.commit)
   none_counts all aborts =
@@ -281,7 +263,8 @@ module _ (law : Tabled) (opens : (s : Settling) (m : ℕ) → IsSettled s → (T
 
   each_in : EachBranch In bs done.votes.items is.course.seconds done.endings.items
   each_in =
-      each_map (λ b v z e. AtBranch (CarriesOut t) done.commit b v z e (old.entries b.m) (new.entries b.m)) In in_history bs done.votes.items is.course.seconds done.endings.items is.course.each
+      (each_so (λ b. Unit {0}) (λ b. Unit {0}) (λ v. Unit {0}) (λ b v z e. AtBranch (CarriesOut t) done.commit b v z e (old.entries b.m) (new.entries b.m)) In
+      (λ b v z e _ _ at. (in_history b v z e at, tt)) bs done.votes.items is.course.seconds done.endings.items (λ k d lt. tt) (λ k d lt. tt) is.course.each).0
 
   -- what became of them
   pub as_shown : AreLeftOrDecided s t (branches_of c) (entered_so_far old) (entered_so_far new) → IsAsShown s t (branches_of c) old done

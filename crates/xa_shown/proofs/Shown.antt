@@ -1,18 +1,17 @@
 -- What a line shows stands in the journals.
 use Rattle.std.proofs.Common.{◌≡◌, ℕ, pos, Bool, true, false, ◌==◌, ◌||◌, not, List, [], ◌∷◌, ◌++◌, length, Option, Some, None, sym, refl, ap, ◌∙◌, subst}
-use Rattle.std.proofs.Common.{⊎_elim, inl, inr, zero, suc, ◌<◌, arith, slice_index_or}
-use Rattle.std.specs.Global.{Global}
-use Rattle.std.specs.Prelude.{Vec, get_or, slice_get, All, if◌then◌else◌}
+use Rattle.std.proofs.Common.{⊎_elim, zero, suc, ◌<◌, arith, slice_index_or}
+use Rattle.std.specs.Prelude.{get_or, slice_get, All, if◌then◌else◌}
 use Rattle.std.specs.List.{Contains, filter, list_any}
-use Rattle.std.proofs.lemmas.Bool.{cases_Bool, and_parts}
-use Rattle.std.proofs.lemmas.List.Elements.{Contains-append_left, Contains-push, Contains-push_cases, Contains-get_or, All-head, All-tail, All-contains}
-use Rattle.std.proofs.lemmas.List.Elements.{All-filter, All-contains_itself}
+use Rattle.std.proofs.lemmas.Bool.{and_parts, eq-eqb, or_parts}
+use Rattle.std.proofs.lemmas.List.Folds.{list_any_none}
+use Rattle.xa_base.proofs.Truth.{at_true}
+use Rattle.std.proofs.lemmas.List.Elements.{Contains-append_left, Contains-push, Contains-push_cases, Contains-get_or, All-contains}
+use Rattle.std.proofs.lemmas.List.Elements.{All-cons, All-nil, All-filter, All-contains_itself}
 use Rattle.xa_words.specs.Code.{number_of}
 use Rattle.xa_words.specs.declared.code.Code.{Code}
-use Rattle.xa_words.specs.declared.death.Death.{Death}
-use Rattle.xa_words.specs.declared.code.Code.TheVariants.{Done, RdOnly, Retry, HeurMix, HeurRb, HeurCom, HeurHaz, RbRollback, RbCommFail, RbDeadlock}
-use Rattle.xa_words.specs.declared.code.Code.TheVariants.{RbIntegrity, RbOther, RbProto, RbTimeout, RbTransient, Async, RmErr, Nota, Inval, Proto, RmFail}
-use Rattle.xa_words.specs.declared.code.Code.TheVariants.{DupId, Outside}
+use Rattle.xa_words.specs.declared.code.Code.TheVariants.{Done}
+use Rattle.xa_words.specs.declared.code.Code.TheVariants.{RmErr, Inval, RmFail}
 use Rattle.xa_words.specs.declared.request.Op.{Op}
 use Rattle.xa_words.specs.declared.request.Op.TheVariants.{Prepare, Commit, Rollback}
 use Rattle.xa_tables.specs.History.{is_done, is_rolled_back}
@@ -44,50 +43,25 @@ use Rattle.xa_session.specs.Committing.{branches_of}
 use Rattle.xa_telling.specs.Wants.{wanted_in, refusals, IsRefusal}
 use Rattle.xa_telling.specs.Parts.{Part, next_entry, CallTakes}
 use Rattle.xa_telling.specs.Commits.{CarriesOut, Decides, CommitTakes}
-use Rattle.xa_telling.proofs.Parts.{entry_here, same_number}
 use Rattle.xa_telling.specs.Journals.{Line, Takes, TakesPart, entries_of, AreCarriedOut, IsInJournal, IsCarriedOut, ShowsCommit, AreCommitted, ArePrepared}
 use Rattle.xa_telling.specs.Journals.{AddsNoCommit}
 use Rattle.xa_telling.specs.Wants.Wanted.{code_of, handle_for, completion, listing}
 use Rattle.xa_telling.specs.Parts.CallTakes.{answered, kept, refused, completes, lists}
 use Rattle.xa_telling.specs.Commits.CarriesOut.{carried, withheld}
 use Rattle.xa_telling.specs.Commits.CommitTakes.{refused as takes_none, decided, undecided, died}
-use Rattle.xa_base.proofs.Lists.{any_at, some_same}
+use Rattle.xa_base.proofs.Lists.{all_at, some_same}
 
 -- ---- codes
 
 done_is : (c : Code) → number_of c ≡ pos 0 → c ≡ Done
 done_is Done e = refl
-done_is RdOnly e = absurd (cc)
-done_is Retry e = absurd (cc)
-done_is HeurMix e = absurd (cc)
-done_is HeurRb e = absurd (cc)
-done_is HeurCom e = absurd (cc)
-done_is HeurHaz e = absurd (cc)
-done_is RbRollback e = absurd (cc)
-done_is RbCommFail e = absurd (cc)
-done_is RbDeadlock e = absurd (cc)
-done_is RbIntegrity e = absurd (cc)
-done_is RbOther e = absurd (cc)
-done_is RbProto e = absurd (cc)
-done_is RbTimeout e = absurd (cc)
-done_is RbTransient e = absurd (cc)
-done_is Async e = absurd (cc)
-done_is RmErr e = absurd (cc)
-done_is Nota e = absurd (cc)
-done_is Inval e = absurd (cc)
-done_is Proto e = absurd (cc)
-done_is RmFail e = absurd (cc)
-done_is DupId e = absurd (cc)
-done_is Outside e = absurd (cc)
-
-not_done : (k : ℕ) (c : Code) → k < 3 → slice_index_or (refusals false) k c ≡ c → c ≡ Done → ⊥
-not_done zero c below is e = let f : Inval ≡ Done = is ∙ e in cc
-not_done (suc zero) c below is e = let f : RmFail ≡ Done = is ∙ e in cc
-not_done (suc (suc zero)) c below is e = let f : RmErr ≡ Done = is ∙ e in cc
-not_done (suc (suc (suc k))) c below is e = omega (arith, below)
+done_is c e = absurd (cc)
 
 no_refusal : (c : Code) → Contains (refusals false) c → c ≡ Done → ⊥
-no_refusal c is e = not_done is.0 c is.1 is.2 e
+no_refusal c (zero, below, is) e = let f : Inval ≡ Done = is ∙ e in cc
+no_refusal c (suc zero, below, is) e = let f : RmFail ≡ Done = is ∙ e in cc
+no_refusal c (suc (suc zero), below, is) e = let f : RmErr ≡ Done = is ∙ e in cc
+no_refusal c (suc (suc (suc k)), below, is) e = omega (arith, below)
 
 -- ---- entries
 
@@ -104,24 +78,22 @@ still_has t o c old new a has =
 
 -- ---- a call
 
-same_op : (o p : Op) → code_of o ≡ code_of p → o ≡ p
-same_op o p e = cc
-
 -- the entries of a call's own manager, once it has answered XA_OK
 one_entered : (settled : Settling) (t : ℕ) (q : ScriptCalled) (a : Answer) (old new : Part) → CallTakes settled t q a old new → (o : Op)
     → wanted_in q ≡ code_of o → a ≡ shown (pos 0) → HasEntry t o Done (new.entries q.manager)
 one_entered settled t q a old new (answered r c asks told is) o asked ok =
-    let own : r ≡ o = same_op r o (sym asks ∙ asked) in
-    let code : c ≡ Done = done_is c (same_number (number_of c) (pos 0) (sym told ∙ ok)) in
+    let own : code_of r ≡ code_of o = sym asks ∙ asked in
+    let same : r ≡ o = cc in
+    let code : c ≡ Done = done_is c (let e : shown (number_of c) ≡ shown (pos 0) = sym told ∙ ok in cc) in
     let m = q.manager in
-    let here : new.entries m ≡ old.entries m ++ next_entry t (old.entries m) r c ∷ [] = ap (λ (x : Part). x.entries m) is ∙ entry_here t m r c old in
-    subst (λ (d : Code). HasEntry t o d (new.entries m)) code (subst (λ (r : Op). HasEntry t r c (new.entries m)) own (entered t r c (old.entries m) (new.entries m) here))
-one_entered settled t q a old new (kept r c k asks low told free is) o asked ok = absurd (let e : handle_for r ≡ code_of o = sym asks ∙ asked in cc)
+    let here : new.entries m ≡ old.entries m ++ next_entry t (old.entries m) r c ∷ [] =
+    ap (λ (x : Part). x.entries m) is ∙ at_true (m == m) (old.entries m ++ next_entry t (old.entries m) r c ∷ []) (old.entries m) (eq-eqb m m refl) in
+    subst (λ (d : Code). HasEntry t o d (new.entries m)) code (subst (λ (r : Op). HasEntry t r c (new.entries m)) same (entered t r c (old.entries m) (new.entries m) here))
 one_entered settled t q a old new (refused c is told same) o asked ok =
-    absurd (no_refusal c (subst (λ r. IsRefusal r c) asked is) (done_is c (same_number (number_of c) (pos 0) (sym told ∙ ok))))
-one_entered settled t q a old new (lists n none_asked is) o asked ok = absurd (let e : listing n ≡ code_of o = sym none_asked ∙ asked in cc)
-one_entered settled t q a old new (completes r k c none_asked there code told same) o asked ok =
-    absurd (let e : completion ≡ code_of o = sym none_asked ∙ asked in cc)
+    absurd (no_refusal c (subst (λ r. IsRefusal r c) asked is) (done_is c (let e : shown (number_of c) ≡ shown (pos 0) = sym told ∙ ok in cc)))
+one_entered settled t q a old new (kept r c k asks low told free is) o asked ok = absurd (let e : handle_for r ≡ code_of o = sym asks ∙ asked in cc)
+one_entered settled t q a old new (lists n asks is) o asked ok = absurd (let e : listing n ≡ code_of o = sym asks ∙ asked in cc)
+one_entered settled t q a old new (completes r k c asks there code told same) o asked ok = absurd (let e : completion ≡ code_of o = sym asks ∙ asked in cc)
 
 -- ---- a branch
 
@@ -209,8 +181,11 @@ none_against votes logged e = flipped (list_any is_no votes) (and_parts (decides
     flipped true f = absurd (cc)
     flipped false f = refl
 
-none_at : (p : Code → Bool) (xs : List Code) (k : ℕ) (x : Code) → list_any p xs ≡ false → slice_get xs k ≡ Some x → p x ≡ false
-none_at p xs k x none_there at = elim (cases_Bool (p x)) [ inl yes' ↦ absurd (let f : list_any p xs ≡ true = any_at p xs k x at yes' in cc) | inr no' ↦ no' ]
+-- where none is so, each isn't
+pub none_all : {A : Type 0} (p : A → Bool) (xs : List A) → list_any p xs ≡ false → All (λ x. p x ≡ false) xs
+none_all p [] none_so = All-nil (λ x. p x ≡ false)
+none_all p (x ∷ xs) none_so =
+    let parts = or_parts (p x) (list_any p xs) none_so in All-cons (λ y. p y ≡ false) x xs parts.0 (none_all p xs parts.1)
 
 -- ---- the k-th branch of a commit
 
@@ -237,7 +212,8 @@ module _ (t : ℕ) (c : CommitAll TranName) (done : Outcome) (old new : Part) (i
       → (vote : Code) × (is_no vote ≡ false) × HasEntry t (Prepare b.xid) vote (new.entries b.m)
   commit_prepared commit k b at =
       let x = each_at At (branches_of c) done.votes.items is.course.seconds done.endings.items is.course.each k b at in
-      let vote = none_at is_no done.votes.items k x.0 (none_against done.votes.items done.logged (sym is.course.decision ∙ commit)) x.3 in
+      let vote =
+      all_at (λ v. is_no v ≡ false) done.votes.items k x.0 (none_all is_no done.votes.items (none_against done.votes.items done.logged (sym is.course.decision ∙ commit))) x.3 in
       (x.0, vote, branch_prepared t done.commit b x.0 x.1 x.2 (old.entries b.m) (new.entries b.m) x.5 vote)
 
 -- ---- line by line
@@ -270,23 +246,11 @@ pub decided_so : (settled : Settling) (l : Line) (c : CommitAll TranName) (done 
 decided_so settled l c done old new shows takes =
     of_answer (subst (λ (a : Answer). CommitTakes l.task.thread c a old new) shows.tells (subst (λ (x : ScriptAction). Takes settled x l.task.thread l.answer old new) shows.asks takes))
   where
-    same_done : (d e : Outcome) → answer.Decided d ≡ answer.Decided e → d ≡ e
-    same_done d e same = cc
-
-    not_refused : (d : Outcome) → answer.Decided d ≡ answer.Refused → ⊥
-    not_refused d same = cc
-
-    not_undecided : (d : Outcome) (votes : Vec Code Global) → answer.Decided d ≡ answer.Undecided votes → ⊥
-    not_undecided d votes same = cc
-
-    not_died : (d : Outcome) (at : Death) (known : Outcome) → answer.Decided d ≡ answer.Died at known → ⊥
-    not_died d at known same = cc
-
     of_answer : CommitTakes l.task.thread c (answer.Decided done) old new → Decides l.task.thread c done old new
-    of_answer (takes_none told e) = absurd (not_refused done told)
-    of_answer (undecided votes comes told is) = absurd (not_undecided done votes told)
-    of_answer (died at known dead told is) = absurd (not_died done at known told)
-    of_answer (decided d alive told is) = subst (λ (x : Outcome). Decides l.task.thread c x old new) (sym (same_done done d told)) is
+    of_answer (decided d alive told is) = let same : d ≡ done = cc in subst (λ (x : Outcome). Decides l.task.thread c x old new) same is
+    of_answer (takes_none told e) = absurd (cc)
+    of_answer (undecided votes comes told is) = absurd (cc)
+    of_answer (died at known dead told is) = absurd (cc)
 
 module _ (steps : List ScriptStep) (answers : List Told) (settled : Settling) (t : ℕ) (first : Part) (told : AreCarriedOut steps answers settled t first) where
   abbrev own : ℕ → List Entry
@@ -324,12 +288,6 @@ module _ (steps : List ScriptStep) (answers : List Told) (settled : Settling) (t
 
 -- ---- a commit that aborts
 
--- entries of ops of which none commits
-no_commits : (es : List Entry) → All (λ e. is_commit e.0.op ≡ false) es → list_any (λ e. is_commit e.0.op) es ≡ false
-no_commits [] all = refl
-no_commits (e ∷ es) all =
-    λ i. All-head (λ (e : Entry). is_commit e.0.op ≡ false) e es all i || no_commits es (All-tail (λ (e : Entry). is_commit e.0.op ≡ false) e es all) i
-
 pub aborts_commit_none : (t : ℕ) (c : CommitAll TranName) (done : Outcome) (old new : Part) → Decides t c done old new → done.commit ≡ false → (m : ℕ)
     → AddsNoCommit (old.entries m) (new.entries m)
 aborts_commit_none t c done old new is aborts m =
@@ -338,4 +296,4 @@ aborts_commit_none t c done old new is aborts m =
       obeys = λ here v. subst (λ q. IsAskedFor IsNoCommit (second_op q (get_or (branches_of c) k d).xid v)) (sym aborts) (on_abort (get_or (branches_of c) k d).xid v);
       forgets = λ here s. on_forget (get_or (branches_of c) k d).xid s;
     }) is in
-    (adds.0, adds.1, no_commits adds.0 adds.2)
+    (adds.0, adds.1, list_any_none (λ (e : Entry). is_commit e.0.op) adds.0 adds.2)

@@ -69,6 +69,7 @@ use Rattle.xa_telling.specs.Commits.CarriesOut.{carried, withheld}
 use Rattle.xa_telling.specs.Journals.{Line, entries_of}
 use Rattle.xa_telling.specs.ToldOpenings.{Beginning, Opening, TellsOf}
 use Rattle.xa_grammar.specs.Content.{Content}
+use Rattle.xa_telling.proofs.Deaths.{asked_so, each_so}
 use Rattle.xa_telling.proofs.Entries.{agreed_fits}
 use Rattle.xa_shown.specs.Outcomes.{Place, entered_so_far}
 use Rattle.xa_shown.specs.Unfinished.{EndByTheRecord, EndsByTheRecord, EndSoOrAreDecided, EndsSoOrIsDecided, HasAgreed, IsAsFarAsShown, IsAsFarUnlessDecided}
@@ -95,12 +96,9 @@ module _ (t : ℕ) (old new : ℕ → List Entry) where
   -- each Prepare was carried out
   pub asked_each : (bs : List Branch) (vs : List Code) → HaveAsked A (CarriesOutSome t) bs vs old new
       → All (λ b. (v : Code) × CarriesOut t (old b.m) (Prepare b.xid) (new b.m) v) bs
-  asked_each [] [] h = All-nil (λ (b : Branch). (v : Code) × CarriesOut t (old b.m) (Prepare b.xid) (new b.m) v)
-  asked_each [] (v ∷ vs) h = absurd h
-  asked_each (b ∷ bs) [] h =
-      All-cons (λ (b : Branch). (v : Code) × CarriesOut t (old b.m) (Prepare b.xid) (new b.m) v) b bs h.0 (asked_each bs [] h.1)
-  asked_each (b ∷ bs) (v ∷ vs) h =
-      All-cons (λ (b : Branch). (v : Code) × CarriesOut t (old b.m) (Prepare b.xid) (new b.m) v) b bs (v, h.0) (asked_each bs vs h.1)
+  asked_each bs vs h =
+      (asked_so A (CarriesOutSome t) A (CarriesOutSome t) (λ b. Unit {0}) (λ b. (v : Code) × CarriesOut t (old b.m) (Prepare b.xid) (new b.m) v) old new old new
+      (λ b v _ is. (is, (v, is))) (λ b _ is. (is, is)) bs vs (λ k d lt. tt) h).1
 
   -- A branch was told the decision, whoever learnt its answer; W holds of its vote.
   pub record Heard (W : Code → Type 0) (commit : Bool) (b : Branch) : Type 0 where
@@ -133,10 +131,9 @@ module _ (t : ℕ) (old new : ℕ → List Entry) where
 
   ended_each : (W : Code → Type 0) (commit : Bool) (bs : List Branch) (vs : List Code) (zs : List (Option Code)) (es : List Ending) → All W vs
       → EachBranch (λ b v z e. VotesAndObeys A commit b v z e (old b.m) (new b.m)) bs vs zs es → All (Heard W commit) bs
-  ended_each W commit [] [] [] [] so h = All-nil (Heard W commit)
-  ended_each W commit (b ∷ bs) (v ∷ vs) (z ∷ zs) (e ∷ es) so h =
-      All-cons (Heard W commit) b bs (record { vote = v; so = All-head W v vs so; second = z; ending = e; obeys = h.0 }) (ended_each W commit bs vs zs es (All-tail W v vs so) h.1)
-  ended_each W commit bs vs zs es so h = absurd h
+  ended_each W commit bs vs zs es so h =
+      let Obeys : Branch → Code → Option Code → Ending → Type 0 = λ b v z e. VotesAndObeys A commit b v z e (old b.m) (new b.m) in
+      (each_so (λ b. Unit {0}) (Heard W commit) W Obeys Obeys (λ b v z e _ w is. (is, record { vote = v; so = w; second = z; ending = e; obeys = is })) bs vs zs es (λ k d lt. tt) so h).1
 
   module _ (tran : TranName) (bs : List Branch) (log later : LogState) (known : Outcome) where
     abbrev Far : Death → Type 0

@@ -1,9 +1,9 @@
 -- What is shown of a key is its value at the first opening and what the journals have added to it.
-use Rattle.std.proofs.Common.{◌≡◌, ℕ, ◌≤◌, List, map, Some, sym, ap, ◌∙◌, get_or}
+use Rattle.std.proofs.Common.{◌≡◌, ℕ, ◌≤◌, List, map, Option, None, Some, option_map, refl, sym, ap, ◌∙◌, get_or}
 use Rattle.std.specs.Prelude.{pos, ◌+ℤ◌, All}
 use Rattle.std.specs.FinMap as finmap
 use Rattle.std.proofs.lemmas.List.Sorted.{All-permutation}
-use Rattle.xa_base.proofs.Lists.{all_unmapped}
+use Rattle.xa_base.proofs.Lists.{all_unmapped, some_same}
 use Rattle.xa_base.specs.Lists.{Chain}
 use Rattle.xa_tables.specs.Tables.{Tables}
 use Rattle.xa_tables.specs.History.{History, Absent}
@@ -16,11 +16,15 @@ use Rattle.xa_transcript.specs.declared.answer.Told.{Told}
 use Rattle.xa_telling.specs.ToldOpenings.{Beginning, Opening, Former, TellsOf, Leaves, Tells, beginning, settled_over}
 use Rattle.xa_shown.specs.Outcomes.{IsSumOfShares}
 use Rattle.xa_transcript.specs.Values.{opened, opened_after, histories, name_of}
-use Rattle.xa_telling.proofs.Entries.{was_some}
 use Rattle.xa_shown.proofs.Alone.{all_mapped}
 use Rattle.xa_shown.proofs.Placed.{part}
 use Rattle.xa_transcript.proofs.Worth.{first_is}
 use Rattle.xa_telling.proofs.Again.{begins_after}
+
+-- what a mapped option has
+was_some : {A B : Type 0} (f : A → B) (o : Option A) (y : B) → option_map f o ≡ Some y → (x : A) × (o ≡ Some x) × (f x ≡ y)
+was_some f None y e = absurd (cc)
+was_some f (Some x) y e = (x, refl, some_same (f x) y e)
 
 module _ (opens : (s : Settling) (m : ℕ) (T : Tables) → IsSettled s → first_of s m ≡ Some T → IsOpenedWith s m T) where
   -- an opening that follows these

@@ -1,11 +1,10 @@
 -- What a commit that came to no end left, by the line that shows it: it goes by the record.
 use Rattle.std.specs.Global.{Global}
 use Rattle.std.specs.Prelude.{Vec, ◌⊎◌, All, is_some, not}
-use Rattle.std.proofs.Common.{◌≡◌, ℕ, inl, inr, Bool, true, false, ◌&&◌, ◌||◌, List, [], ◌∷◌, Option, Some, None, get_or, sym, refl, ap, ◌∙◌, subst}
+use Rattle.std.proofs.Common.{◌≡◌, ℕ, inl, inr, Bool, true, false, ◌&&◌, ◌||◌, List, [], Option, Some, None, get_or, sym, refl, ap, ◌∙◌, subst}
 use Rattle.std.specs.List.{list_any}
 use Rattle.std.proofs.Math.Bool.{or-true}
 use Rattle.std.proofs.lemmas.Bool.{and_parts, cases_Bool}
-use Rattle.std.proofs.lemmas.List.Elements.{All-head, All-tail}
 use Rattle.std.proofs.lemmas.List.Folds.{list_any_none}
 use Rattle.xa_base.proofs.Truth.{by_if}
 use Rattle.xa_words.specs.Xid.{XidName}
@@ -44,8 +43,9 @@ use Rattle.xa_telling.specs.Commits.CommitTakes.{refused as takes_none, decided,
 use Rattle.xa_telling.specs.Journals.{Line, Takes, TakesPart}
 use Rattle.xa_shown.specs.Unfinished.{GoesByTheRecord, ShowsDeath, ShowsUndecided}
 use Rattle.xa_shown.proofs.Adds.{loses_adds, stops_adds}
-use Rattle.xa_shown.proofs.Outcomes.{Ends, committed_so, kept_so, no_ending_is, out_so, with_votes}
-use Rattle.xa_shown.proofs.Shown.{committed_yes, none_against}
+use Rattle.xa_shown.proofs.Outcomes.{Ends, committed_so, kept_so, no_ending_is, out_so, voted_with}
+use Rattle.xa_atomicity.proofs.Settled.{each_outcome}
+use Rattle.xa_shown.proofs.Shown.{committed_yes, none_against, none_all}
 
 -- ---- what such a line does
 
@@ -58,49 +58,24 @@ pub stopped_so : (settled : Settling) (l : Line) (c : CommitAll TranName) (at : 
     → TakesPart settled l old new → StopsAt l.task.thread c at known old new
 stopped_so settled l c at known old new shows takes = of_answer (taken settled l c (answer.Died at known) old new shows.tells takes _ shows.asks)
   where
-    same_known : (at at' : Death) (d e : Outcome) → answer.Died at d ≡ answer.Died at' e → d ≡ e
-    same_known at at' d e same = cc
-
-    same_death : (at at' : Death) (d e : Outcome) → answer.Died at d ≡ answer.Died at' e → at ≡ at'
-    same_death at at' d e same = cc
-
-    not_refused : (at : Death) (d : Outcome) → answer.Died at d ≡ answer.Refused → ⊥
-    not_refused at d same = cc
-
-    not_undecided : (at : Death) (d : Outcome) (votes : Vec Code Global) → answer.Died at d ≡ answer.Undecided votes → ⊥
-    not_undecided at d votes same = cc
-
-    not_decided : (at : Death) (d e : Outcome) → answer.Died at d ≡ answer.Decided e → ⊥
-    not_decided at d e same = cc
-
     of_answer : CommitTakes l.task.thread c (answer.Died at known) old new → StopsAt l.task.thread c at known old new
-    of_answer (takes_none told e) = absurd (not_refused at known told)
-    of_answer (undecided votes comes told is) = absurd (not_undecided at known votes told)
-    of_answer (decided d alive told is) = absurd (not_decided at known d told)
     of_answer (died at' d dead told is) =
-        subst (λ (x : Outcome). StopsAt l.task.thread c at x old new) (sym (same_known at at' known d told)) (subst (λ (x : Death). StopsAt l.task.thread c x d old new) (sym (same_death at at' known d told)) is)
+        let death : at' ≡ at = cc in
+        let outcome : d ≡ known = cc in
+        subst (λ (x : Outcome). StopsAt l.task.thread c at x old new) outcome (subst (λ (x : Death). StopsAt l.task.thread c x d old new) death is)
+    of_answer (takes_none told e) = absurd (cc)
+    of_answer (undecided votes comes told is) = absurd (cc)
+    of_answer (decided d alive told is) = absurd (cc)
 
 pub lost_so : (settled : Settling) (l : Line) (c : CommitAll TranName) (votes : Vec Code Global) (old new : Part) → ShowsUndecided l c votes
     → TakesPart settled l old new → LosesSight l.task.thread c votes.items old new
 lost_so settled l c votes old new shows takes = of_answer (taken settled l c (answer.Undecided votes) old new shows.tells takes _ shows.asks)
   where
-    same_votes : (v w : Vec Code Global) → answer.Undecided v ≡ answer.Undecided w → v ≡ w
-    same_votes v w same = cc
-
-    not_refused : (v : Vec Code Global) → answer.Undecided v ≡ answer.Refused → ⊥
-    not_refused v same = cc
-
-    not_decided : (v : Vec Code Global) (e : Outcome) → answer.Undecided v ≡ answer.Decided e → ⊥
-    not_decided v e same = cc
-
-    not_died : (v : Vec Code Global) (at : Death) (e : Outcome) → answer.Undecided v ≡ answer.Died at e → ⊥
-    not_died v at e same = cc
-
     of_answer : CommitTakes l.task.thread c (answer.Undecided votes) old new → LosesSight l.task.thread c votes.items old new
-    of_answer (takes_none told e) = absurd (not_refused votes told)
-    of_answer (decided d alive told is) = absurd (not_decided votes d told)
-    of_answer (died at d dead told is) = absurd (not_died votes at d told)
-    of_answer (undecided v comes told is) = subst (λ (x : Vec Code Global). LosesSight l.task.thread c x.items old new) (sym (same_votes votes v told)) is
+    of_answer (undecided v comes told is) = let same : v ≡ votes = cc in subst (λ (x : Vec Code Global). LosesSight l.task.thread c x.items old new) same is
+    of_answer (takes_none told e) = absurd (cc)
+    of_answer (decided d alive told is) = absurd (cc)
+    of_answer (died at d dead told is) = absurd (cc)
 
 -- ---- by the record
 
@@ -158,16 +133,8 @@ module _ (tran : TranName) (bs : List Branch) (log later : LogState) (known : Ou
 -- each has its ending
 pub obeyed_ends : {D : Type 0} (A : Asking D) (commit : Bool) (old new : ℕ → D) (bs : List Branch) (vs : List Code) (zs : List (Option Code)) (es : List Ending)
     → EachBranch (λ b v z e. VotesAndObeys A commit b v z e (old b.m) (new b.m)) bs vs zs es → EachOutcome (Ends commit) bs vs es
-obeyed_ends A commit old new [] [] [] [] h = tt
-obeyed_ends A commit old new (b ∷ bs) (v ∷ vs) (z ∷ zs) (e ∷ es) h = ((z, h.0.ends), obeyed_ends A commit old new bs vs zs es h.1)
-obeyed_ends A commit old new bs vs zs es h = absurd h
-
--- with what holds of its vote
-voted_with : (W : Code → Type 0) (P : Branch → Code → Ending → Type 0) (bs : List Branch) (vs : List Code) (es : List Ending) → All W vs
-    → EachOutcome P bs vs es → EachOutcome (λ b v e. W v × P b v e) bs vs es
-voted_with W P [] [] [] all h = tt
-voted_with W P (b ∷ bs) (v ∷ vs) (e ∷ es) all h = ((All-head W v vs all, h.0), voted_with W P bs vs es (All-tail W v vs all) h.1)
-voted_with W P bs vs es all h = absurd h
+obeyed_ends A commit old new bs vs zs es h =
+    each_outcome (λ b. Unit {0}) (λ b v z e. VotesAndObeys A commit b v z e (old b.m) (new b.m)) (Ends commit) (λ b v z e _ is. (z, is.ends)) bs vs zs es (λ k d lt. tt) h
 
 -- a branch that isn't to be committed isn't shown as committed
 not_shown : (commit : Bool) (b : Branch) (v : Code) (e : Ending) → NotToCommit commit v × Ends commit b v e → is_committed e ≡ false
@@ -201,7 +168,7 @@ module _ {D : Type 0} (A : Asking D) (U : Putting D) (tran : TranName) (bs : Lis
   endings_kept death.Told far on =
       let decides = commits_by tran bs log later known absent far.decided on in
       no_ending_is (λ b v e. (is_no v ≡ false) × Ends known.commit b v e) is_rolled_back (kept_so known.commit (far.decided.decision ∙ decides)) bs known.votes.items known.endings.items
-      (with_votes (Ends known.commit) is_no bs known.votes.items known.endings.items (none_against known.votes.items known.logged decides) (obeyed_ends A known.commit old new bs known.votes.items far.seconds known.endings.items far.each))
+      (voted_with (λ v. is_no v ≡ false) (Ends known.commit) bs known.votes.items known.endings.items (none_all is_no known.votes.items (none_against known.votes.items known.logged decides)) (obeyed_ends A known.commit old new bs known.votes.items far.seconds known.endings.items far.each))
 
 -- ---- the laws
 

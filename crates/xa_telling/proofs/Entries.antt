@@ -1,22 +1,32 @@
 -- What a thread has sent to a manager and collected from it, as the manager's journal has it.
-use Rattle.std.proofs.Common.{◌≡◌, ℕ, ◌+◌, ◌<◌, zero, suc, Bool, true, false, cond, ◌==◌, List, [], ◌∷◌, ◌++◌, length, map, take, Option, Some, None}
-use Rattle.std.proofs.Common.{option_map, sym, refl, ap, ◌∙◌, subst, arith, append_assoc}
-use Rattle.std.specs.Prelude.{slice_get}
+use Rattle.std.proofs.Common.{◌≡◌, ℕ, ◌+◌, ◌-◌, ◌<◌, ◌≤◌, ⊎_elim, suc, Bool, true, false, cond, ◌==◌, List, [], ◌∷◌, ◌++◌, length, map, take, Some}
+use Rattle.std.proofs.Common.{sym, refl, ap, ◌∙◌, subst, arith, append_assoc, length-append}
+use Rattle.std.specs.Prelude.{All, slice_get, if◌then◌else◌}
 use Rattle.std.specs.List.{Contains}
-use Rattle.std.proofs.lemmas.List.{length-map, length-append, length-take-le}
-use Rattle.std.proofs.lemmas.Option.{slice_get-map, slice_get_within, get_or_from_slice_get, some_pair_parts}
-use Rattle.xa_driver.proofs.Ledgers.{numbered_length}
+use Rattle.std.proofs.lemmas.Bool.{cases_lt}
+use Rattle.std.proofs.lemmas.List.{length-map, length-take-le, get_or-take}
+use Rattle.std.proofs.lemmas.List.Elements.{All-contains, Contains-append_left, Contains-push}
+use Rattle.std.proofs.lemmas.List.Folds.{Any-from_list_any}
+use Rattle.std.proofs.lemmas.Option.{slice_get_within, slice_get-get_or, get_or_from_slice_get, some_pair_parts}
+use Rattle.xa_base.specs.Lists.{Begins}
+use Rattle.xa_base.proofs.Lists.{contains_at, got_map, one_more, was_mapped}
+use Rattle.xa_base.proofs.Truth.{by_bool}
 use Rattle.xa_words.specs.declared.code.Code.{Code}
+use Rattle.xa_words.specs.declared.code.Code.TheVariants.{RmFail}
 use Rattle.xa_words.specs.declared.request.Op.{Op}
 use Rattle.xa_words.specs.declared.request.Request.{Request}
-use Rattle.xa_desk.specs.Lanes.{numbered}
 use Rattle.xa_tables.specs.History.{of_thread}
+use Rattle.xa_desk.specs.LedgerView.{LedgerView, is_rm_fail, learnt_shut}
+use Rattle.xa_desk.specs.DeskView.{is_known, ledger, sent_to, collected_from}
+use Rattle.xa_desk.specs.Growth.{HasGrown}
+use Rattle.xa_desk.specs.Lanes.{numbered}
+use Rattle.xa_desk.proofs.Ledgers.{known_true, past_end}
 use Rattle.xa_worker.specs.Journal.{Entry, entry, requests, codes_in}
-use Rattle.xa_switch.specs.Settling.{Agree, answers}
+use Rattle.xa_switch.specs.Settling.{Agree}
+use Rattle.xa_driver.proofs.Ledgers.{numbered_length}
 use Rattle.xa_telling.specs.Parts.{next_entry}
 use Rattle.xa_telling.specs.Journals.{entries_of}
-use Rattle.xa_base.specs.Lists.{Begins}
-use Rattle.xa_base.proofs.Lists.{contains_at, next_there}
+use Rattle.xa_telling.proofs.Ledgers.{Sound}
 
 -- ---- the entries of a thread
 
@@ -33,16 +43,37 @@ requests_kept t (e ∷ es) = requests_step e (of_thread t (requests es)) (entrie
 abbrev pub pair_of : Entry → ℕ × Code
 pair_of e = (e.0.number, e.1)
 
+-- the code stands at its number
+abbrev pub StandsAt : List Entry → ℕ × Code → Type 0
+StandsAt es p = slice_get (map pair_of es) p.0 ≡ Some p
+
 -- what agrees: the entries are what was sent, in order, and each code that was collected stands at its number
 pub record Fits (t : ℕ) (ops : List Op) (pairs : List (ℕ × Code)) (es : List Entry) : Type 0 where
   pub carried : map (λ e. e.0) es ≡ numbered t 0 ops
-  pub coded : (k : ℕ) (p : ℕ × Code) → slice_get pairs k ≡ Some p → slice_get (map pair_of es) p.0 ≡ Some p
+  pub coded : All (StandsAt es) pairs
 
 pub agreed_fits : (t : ℕ) (ops : List Op) (pairs : List (ℕ × Code)) (entries : List Entry) → Agree t ops pairs entries → Fits t ops pairs (entries_of t entries)
-agreed_fits t ops pairs entries is = record {
-  carried = sym (requests_kept t entries) ∙ is.carried;
-  coded = λ k p at. subst (λ q. slice_get (answers t entries) q.0 ≡ Some q) (get_or_from_slice_get pairs k p p at) (is.coded k p (slice_get_within pairs k p at));
-}
+agreed_fits t ops pairs entries is = record { carried = sym (requests_kept t entries) ∙ is.carried; coded = is.coded }
+
+-- so of the ledger with a manager
+pub ledger_fits : (t m : ℕ) (at : List LedgerView) (es : List Entry) → 1 ≤ m → Fits t (sent_to at m) (collected_from at m) es
+    → Fits t (ledger at m).sent (ledger at m).collected es
+ledger_fits t m at es low fits =
+    let FitsBy : Bool → Type 0 = λ b. Fits t (if b then (ledger at m).sent else []) (if b then (ledger at m).collected else []) es in
+    by_bool (λ b. FitsBy b → Fits t (ledger at m).sent (ledger at m).collected es) (is_known at m) (λ _ f. f)
+    (λ unknown f. subst (λ (a : LedgerView). Fits t a.sent a.collected es) (sym (past_end at (m - 1) (past unknown))) f) fits
+  where
+    past : is_known at m ≡ false → length at ≤ m - 1
+    past unknown =
+        ⊎_elim (λ (h : length at < m). omega (arith, h))
+        (λ (h : m ≤ length at). absurd (let z : true ≡ false = sym (known_true at m (record { positive = low; within = h })) ∙ unknown in cc)) (cases_lt (length at) m)
+
+-- where nothing was sent there is no entry
+pub no_entries : (t : ℕ) (pairs : List (ℕ × Code)) (es : List Entry) → Fits t [] pairs es → es ≡ []
+no_entries t pairs [] fits = refl
+no_entries t pairs (e ∷ es) fits = absurd (let many = ap (λ l. length l) fits.carried in omega (arith, many))
+
+-- ---- the entries that a ledger has
 
 numbered_at : (t n : ℕ) (pre : List Op) (o : Op) (post : List Op)
     → slice_get (numbered t n (pre ++ o ∷ post)) (length pre) ≡ Some (record { thread = t; number = n + length pre; op = o })
@@ -51,97 +82,63 @@ numbered_at t n (p ∷ pre) o post =
     let same : suc n + length pre ≡ n + suc (length pre) = omega arith in
     numbered_at t (suc n) pre o post ∙ ap (λ k. Some (record { thread = t; number = k; op = o })) same
 
--- what a mapped option has
-pub was_some : {A B : Type 0} (f : A → B) (o : Option A) (y : B) → option_map f o ≡ Some y → (x : A) × (o ≡ Some x) × (f x ≡ y)
-was_some f None y e = absurd (cc)
-was_some f (Some x) y e = (x, refl, same_some (f x) y e)
-  where
-    same_some : {B : Type 0} (a b : B) → Some a ≡ Some b → a ≡ b
-    same_some a b e = cc
+-- what was collected last is among all that was
+pub collected_there : (pre now all : List (ℕ × Code)) (p : ℕ × Code) → now ≡ pre ++ p ∷ [] → Begins now all → Contains all p
+collected_there pre now all p is begins =
+    subst (λ l. Contains l p) (sym begins.1) (Contains-append_left now begins.0 p (subst (λ l. Contains l p) (sym is) (Contains-push pre p)))
 
-take_next : {A : Type 0} (xs : List A) (n : ℕ) (x : A) → slice_get xs n ≡ Some x → take (suc n) xs ≡ take n xs ++ x ∷ []
-take_next [] n x e = absurd (cc)
-take_next (y ∷ xs) zero x e = let same : y ≡ x = cc in ap (λ z. z ∷ []) same
-take_next (y ∷ xs) (suc n) x e = ap (λ l. y ∷ l) (take_next xs n x e)
+pub is_rm_fail_so : (c : Code) → is_rm_fail c ≡ true → c ≡ RmFail
+is_rm_fail_so RmFail e = refl
+is_rm_fail_so c e = absurd (cc)
 
--- one of the first elements
-among_first : {A : Type 0} (xs : List A) (n k : ℕ) (x : A) → slice_get xs k ≡ Some x → k < n → slice_get (take n xs) k ≡ Some x
-among_first [] n k x e below = absurd (cc)
-among_first (y ∷ xs) zero k x e below = absurd (omega (arith, below))
-among_first (y ∷ xs) (suc n) zero x e below = e
-among_first (y ∷ xs) (suc n) (suc k) x e below = among_first xs n k x e (omega (arith, below))
+abbrev pub upto : List Entry → LedgerView → List Entry
+upto es a = take (length a.sent) es
 
-module _ (t : ℕ) (ops : List Op) (pairs : List (ℕ × Code)) (es : List Entry) (fits : Fits t ops pairs es) where
-  pub many_entries : length es ≡ length ops
-  many_entries = sym (length-map es (λ e. e.0)) ∙ ap (λ l. length l) fits.carried ∙ numbered_length t 0 ops
+-- the ledger at the end, and the entries that the journal has
+module _ (t : ℕ) (last : LedgerView) (es : List Entry) (fits : Fits t last.sent last.collected es) where
+  pub many_entries : length es ≡ length last.sent
+  many_entries = sym (length-map es (λ e. e.0)) ∙ ap (λ l. length l) fits.carried ∙ numbered_length t 0 last.sent
 
-  -- the entry of an op that was sent
-  entry_at : (pre post : List Op) (o : Op) → ops ≡ pre ++ o ∷ post
-      → (c : Code) × (slice_get es (length pre) ≡ Some (entry (record { thread = t; number = length pre; op = o }) c))
-  entry_at pre post o is =
-      let r : Request = record { thread = t; number = length pre; op = o } in
-      let none_more : 0 + length pre ≡ length pre = omega arith in
-      let there : slice_get (map (λ e. e.0) es) (length pre) ≡ Some r =
-      ap (λ l. slice_get l (length pre)) (fits.carried ∙ ap (numbered t 0) is) ∙ numbered_at t 0 pre o post
-      ∙ ap (λ k. Some (record { thread = t; number = k; op = o })) none_more in
-      let e = was_some (λ (e : Entry). e.0) (slice_get es (length pre)) r (sym (slice_get-map (λ (e : Entry). e.0) es (length pre)) ∙ there) in
-      (e.0.1, e.1 ∙ ap (λ (q : Request). Some (entry q e.0.1)) e.2)
-
-  -- its code, where it was collected
-  code_at : (n k : ℕ) (r : Request) (c d : Code) → slice_get pairs k ≡ Some (n, d) → slice_get es n ≡ Some (entry r c) → c ≡ d
-  code_at n k r c d collected at =
-      let there : slice_get (map pair_of es) n ≡ Some (n, d) = fits.coded k (n, d) collected in
-      let here : slice_get (map pair_of es) n ≡ Some (r.number, c) = slice_get-map pair_of es n ∙ ap (option_map pair_of) at in
-      (some_pair_parts r.number n c d (sym here ∙ there)).1
-
-  -- the entries of what was sent so far
-  abbrev pub so_far : List Op → List Entry
-  so_far sent = take (length sent) es
-
-  pub within : (sent : List Op) → Begins sent ops → length (so_far sent) ≡ length sent
-  within sent b = let sizes = ap (λ l. length l) b.1 in length-take-le (length sent) es (omega (arith, sizes, many_entries, length-append sent b.0))
+  pub many_upto : (a : LedgerView) → Begins a.sent last.sent → length (upto es a) ≡ length a.sent
+  many_upto a b = let sizes = ap (λ l. length l) b.1 in length-take-le (length a.sent) es (omega (arith, sizes, many_entries, length-append a.sent b.0))
 
   -- one more that was sent
-  module _ (old new : List Op) (o : Op) (sent : new ≡ old ++ o ∷ []) (now : Begins new ops) where
-    split : ops ≡ old ++ o ∷ now.0
-    split = now.1 ∙ ap (λ l. l ++ now.0) sent ∙ append_assoc old (o ∷ []) now.0
-
-    longer : length new ≡ suc (length old)
-    longer = let sizes = ap (λ l. length l) sent in omega (arith, sizes, length-append old (o ∷ []))
-
-    enters_with : (c : Code) → slice_get es (length old) ≡ Some (entry (record { thread = t; number = length old; op = o }) c)
-        → so_far new ≡ so_far old ++ next_entry t (so_far old) o c ∷ []
-    enters_with c at =
-        let n = length old in
-        let many : length (so_far old) ≡ n = within old (o ∷ now.0, split) in
-        ap (λ k. take k es) longer ∙ take_next es n (entry (record { thread = t; number = n; op = o }) c) at
-        ∙ ap (λ k. so_far old ++ entry (record { thread = t; number = k; op = o }) c ∷ []) (sym many)
-
+  module _ (a a' : LedgerView) (op : Op) (sent : a'.sent ≡ a.sent ++ op ∷ []) (now : Begins a'.sent last.sent) where
     -- has one more entry, with some code
-    pub enters : (c : Code) × (so_far new ≡ so_far old ++ next_entry t (so_far old) o c ∷ [])
-    enters = let e = entry_at old now.0 o split in (e.0, enters_with e.0 e.1)
+    pub enters : (c : Code) × StandsAt es (length a.sent, c) × (upto es a' ≡ upto es a ++ next_entry t (upto es a) op c ∷ [])
+    enters =
+        let n = length a.sent in
+        let request : ℕ → Request = λ k. record { thread = t; number = k; op = op } in
+        let parts : last.sent ≡ a.sent ++ op ∷ now.0 = now.1 ∙ ap (λ l. l ++ now.0) sent ∙ append_assoc a.sent (op ∷ []) now.0 in
+        let none_before : 0 + n ≡ n = omega arith in
+        let there : slice_get (map (λ (e : Entry). e.0) es) n ≡ Some (request n) =
+        ap (λ l. slice_get l n) (fits.carried ∙ ap (numbered t 0) parts) ∙ numbered_at t 0 a.sent op now.0 ∙ ap (λ k. Some (request k)) none_before in
+        let e = was_mapped (λ (e : Entry). e.0) es n (request n) there in
+        let longer : length a'.sent ≡ n + 1 = let sizes = ap (λ l. length l) sent in omega (arith, sizes, length-append a.sent (op ∷ [])) in
+        let many : length (upto es a) ≡ n = many_upto a (op ∷ now.0, parts) in (
+          e.0.1,
+          got_map pair_of es n e.0 e.1 ∙ ap (λ (q : Request). Some (q.number, e.0.1)) e.2,
+          ap (λ k. take k es) longer ∙ one_more es n e.0 (slice_get_within es n e.0 e.1) (sym (get_or_from_slice_get es n e.0 e.0 e.1))
+              ∙ ap (λ (q : Request). upto es a ++ entry q e.0.1 ∷ []) (e.2 ∙ ap request (sym many)),
+        )
 
     -- with its own code, where it was collected
-    pub enters_coded : (k : ℕ) (c : Code) → slice_get pairs k ≡ Some (length old, c) → so_far new ≡ so_far old ++ next_entry t (so_far old) o c ∷ []
-    enters_coded k c collected =
-        let e = entry_at old now.0 o split in
-        let code : e.0 ≡ c = code_at (length old) k (record { thread = t; number = length old; op = o }) e.0 c collected e.1 in
-        enters_with c (e.1 ∙ ap (λ d. Some (entry (record { thread = t; number = length old; op = o }) d)) code)
+    pub enters_coded : (c : Code) → Contains last.collected (length a.sent, c) → upto es a' ≡ upto es a ++ next_entry t (upto es a) op c ∷ []
+    enters_coded c got =
+        let code : enters.0 ≡ c = (some_pair_parts _ _ _ _ (sym enters.1 ∙ All-contains (StandsAt es) last.collected (length a.sent, c) fits.coded got)).1 in
+        enters.2 ∙ ap (λ d. upto es a ++ next_entry t (upto es a) op d ∷ []) code
 
-  -- a code that was collected is among the codes so far, where its request was sent so far
-  pub code_so_far : (sent : List Op) (k n : ℕ) (c : Code) → slice_get pairs k ≡ Some (n, c) → n < length sent → Contains (codes_in (so_far sent)) c
-  code_so_far sent k n c collected below =
-      let there : slice_get (map pair_of es) n ≡ Some (n, c) = fits.coded k (n, c) collected in
-      let e = was_some pair_of (slice_get es n) (n, c) (sym (slice_get-map pair_of es n) ∙ there) in
-      let among : slice_get (so_far sent) n ≡ Some e.0 = among_first es (length sent) n e.0 e.1 below in
-      let code : e.0.1 ≡ c = ap (λ (p : ℕ × Code). p.1) e.2 in
-      contains_at (codes_in (so_far sent)) n c (slice_get-map (λ (e : Entry). e.1) (so_far sent) n ∙ ap (option_map (λ (e : Entry). e.1)) among ∙ ap (λ (d : Code). Some d) code)
-
--- what is after the pairs so far
-pub pair_there : (pairs old new : List (ℕ × Code)) (n : ℕ) (c : Code) → new ≡ old ++ (n, c) ∷ [] → Begins new pairs → slice_get pairs (length old) ≡ Some (n, c)
-pair_there pairs old new n c collected b = next_there pairs old b.0 (n, c) (sym (b.1 ∙ ap (λ l. l ++ b.0) collected ∙ append_assoc old ((n, c) ∷ []) b.0))
-
--- where nothing was sent there is no entry
-pub no_entries : (t : ℕ) (pairs : List (ℕ × Code)) (es : List Entry) → Fits t [] pairs es → es ≡ []
-no_entries t pairs [] fits = refl
-no_entries t pairs (e ∷ es) fits = let many = many_entries t [] pairs (e ∷ es) fits in absurd (omega (arith, many))
+  -- where XAER_RMFAIL was collected it is among the codes
+  pub fails : (a : LedgerView) → Sound a → HasGrown a last → learnt_shut a ≡ true → Contains (codes_in (upto es a)) RmFail
+  fails a sound grown shut =
+      let (k, p, lt, at, failed) = Any-from_list_any (λ (p : ℕ × Code). is_rm_fail p.1) a.collected shut in
+      let below : p.0 < length a.sent = All-contains (λ (q : ℕ × Code). q.0 < length a.sent) a.collected p sound (k, lt, at) in
+      let got : Contains last.collected p =
+      subst (λ l. Contains l p) (sym grown.collected.1) (Contains-append_left a.collected grown.collected.0 p (k, lt, at)) in
+      let e = was_mapped pair_of es p.0 p (All-contains (StandsAt es) last.collected p fits.coded got) in
+      let many = many_upto a grown.sent in
+      let among : slice_get (upto es a) p.0 ≡ Some e.0 =
+      slice_get-get_or (upto es a) p.0 e.0 (omega (arith, below, many))
+      ∙ ap Some (get_or-take (length a.sent) es p.0 e.0 below ∙ get_or_from_slice_get es p.0 e.0 e.0 e.1) in
+      let code : e.0.1 ≡ RmFail = ap (λ (q : ℕ × Code). q.1) e.2 ∙ is_rm_fail_so p.1 failed in
+      contains_at (codes_in (upto es a)) p.0 RmFail (got_map (λ (e : Entry). e.1) (upto es a) p.0 e.0 among ∙ ap Some code)

@@ -1,189 +1,139 @@
--- What was sent to a manager and collected from it, as a thread goes on.
-use Rattle.std.proofs.Common.{◌≡◌, ◌≢◌, ℕ, ◌-◌, ◌<◌, ◌≤◌, ⊎_elim, zero, suc, Bool, true, false, cond, ◌&&◌, List, [], ◌∷◌, ◌++◌, length, Some, sym, refl, ap}
-use Rattle.std.proofs.Common.{◌∙◌, subst, inl, inr, arith}
-use Rattle.std.specs.Prelude.{nat_le, slice_get, if◌then◌else◌}
-use Rattle.std.proofs.lemmas.List.{length-append, length-set, get_or-set_same, get_or-set_other}
-use Rattle.std.proofs.lemmas.Bool.{cases_eq}
-use Rattle.xa_desk.proofs.Ledgers.{known_true}
-use Rattle.xa_words.specs.declared.request.Op.{Op}
+-- That each request that was collected was sent, as a thread goes on, and what its calls do to its ledgers and its handles.
+use Rattle.std.proofs.Common.{◌≡◌, ◌<◌, ◌≤◌, ℕ, Bool, List, [], ◌∷◌, length, None, Some, sym, ap, ◌∙◌, refl, subst, arith, length-append}
+use Rattle.std.specs.Prelude.{All}
+use Rattle.std.specs.Ordering.{nat_cmp}
+use Rattle.std.specs.FinMap as finmap
+use Rattle.std.proofs.lemmas.List.Elements.{All-push}
+use Rattle.xa_base.proofs.Truth.{by_if}
 use Rattle.xa_words.specs.declared.code.Code.{Code}
+use Rattle.xa_words.specs.declared.request.Op.{Op}
 use Rattle.xa_desk.specs.declared.operation.Operation.{Operation}
-use Rattle.xa_desk.specs.LedgerView.{LedgerView, with_sent, with_collected}
-use Rattle.xa_desk.specs.DeskView.{IsKnown, IsOut, is_known, ledger, no_ledger, put_ledger, after_sent, after_collected, sent_to, collected_from}
-use Rattle.xa_base.specs.Lists.{Begins}
-use Rattle.xa_base.proofs.Lists.{begins_same, begins_on, got_push}
+use Rattle.xa_desk.specs.Growth.{HaveGrown}
+use Rattle.xa_desk.specs.LedgerView.{LedgerView, learnt_shut, with_sent, with_collected}
+use Rattle.xa_desk.specs.DeskView.{DeskView, IsKnown, IsOut, ledger, next_operation, after_sent, after_collected}
+use Rattle.xa_desk.specs.Lanes.{submitted, after_fulls}
+use Rattle.xa_desk.specs.Looks.{Collects, TakesKept}
+use Rattle.xa_desk.proofs.Growth.{growing_on, sending_grows, collecting_grows}
+use Rattle.xa_desk.proofs.Ledgers.{put_each}
+use Rattle.xa_switch.specs.Completing.{CollectsRedeemed}
+use Rattle.xa_switch.specs.Putting.{put_refusal}
+use Rattle.xa_switch.proofs.Kept.{known_here, fulls_ledgers, fulls_kept}
+use Rattle.xa_driver.specs.Deaths.{PutsLedger}
+use Rattle.xa_driver.specs.Deaths.PutsLedger.{sent as put_sent, withheld as put_withheld}
+use Rattle.xa_driver.specs.Resolving.{AsksLedger}
 
--- ---- one ledger
+-- ---- each request that was collected was sent
 
--- what the ledger with manager m shows of this; nothing for no manager
-abbrev seen : {X : Type 0} → (LedgerView → List X) → List LedgerView → ℕ → List X
-seen f at m = if is_known at m then f (ledger at m) else []
+abbrev pub Sound : LedgerView → Type 0
+Sound a = All (λ p. p.0 < length a.sent) a.collected
 
-seen_known : {X : Type 0} (f : LedgerView → List X) (at : List LedgerView) (m : ℕ) → is_known at m ≡ true → seen f at m ≡ f (ledger at m)
-seen_known f at m e = ap (λ b. cond b (f (ledger at m)) []) e
+-- so with each manager
+abbrev pub AllSound : List LedgerView → Type 0
+AllSound at = (m : ℕ) → 1 ≤ m → Sound (ledger at m)
 
-seen_alike : {X : Type 0} (f : LedgerView → List X) (at at' : List LedgerView) (m : ℕ) (b : Bool) → is_known at m ≡ b → is_known at' m ≡ b
-    → (b ≡ true → f (ledger at' m) ≡ f (ledger at m)) → seen f at' m ≡ seen f at m
-seen_alike f at at' m true e e' same = seen_known f at' m e' ∙ same refl ∙ sym (seen_known f at m e)
-seen_alike f at at' m false e e' same = ap (λ b. cond b (f (ledger at' m)) []) e' ∙ sym (ap (λ b. cond b (f (ledger at m)) []) e)
+sent_sound : (a : LedgerView) (op : Op) → Sound a → Sound (with_sent a op)
+sent_sound a op all k d lt = let before = all k d lt in omega (arith, before, length-append a.sent (op ∷ []))
 
--- a manager that is known has a number
-positive_of : (at : List LedgerView) (m : ℕ) → is_known at m ≡ true → 1 ≤ m
-positive_of at zero e = absurd (cc)
-positive_of at (suc m) e = omega arith
+collected_sound : (a : LedgerView) (n : ℕ) (c : Code) → n < length a.sent → Sound a → Sound (with_collected a n c)
+collected_sound a n c sent all = All-push (λ (p : ℕ × Code). p.0 < length a.sent) a.collected (n, c) all sent
 
--- what the ledger with a known manager has
-pub sent_of : (at : List LedgerView) (m : ℕ) → IsKnown at m → sent_to at m ≡ (ledger at m).sent
-sent_of at m known = seen_known (λ a. a.sent) at m (known_true at m known)
+pub ask_sound : (a a' : LedgerView) (op : Op) (c : Code) → AsksLedger a op a' c → Sound a → Sound a'
+ask_sound a a' op c asks all =
+    subst Sound (sym asks.trace) (by_if Sound (learnt_shut a) a (with_collected (with_sent a op) (length a.sent) c) (λ _. all)
+    (λ _. collected_sound (with_sent a op) (length a.sent) c (omega (arith, length-append a.sent (op ∷ []))) (sent_sound a op all)))
 
-pub collected_of : (at : List LedgerView) (m : ℕ) → IsKnown at m → collected_from at m ≡ (ledger at m).collected
-collected_of at m known = seen_known (λ a. a.collected) at m (known_true at m known)
+pub put_sound : (a a' : LedgerView) (op : Op) → PutsLedger a op a' → Sound a → Sound a'
+put_sound a a' op (put_sent open_ is) all = subst Sound (sym is) (sent_sound a op all)
+put_sound a a' op (put_withheld shut same) all = subst Sound (sym same) all
 
--- where the ledger with a manager stays, so does what was sent to it and collected from it
-module _ (at at' : List LedgerView) (m : ℕ) (many : length at' ≡ length at) (same : 1 ≤ m → ledger at' m ≡ ledger at m) where
-  seen_same : {X : Type 0} (f : LedgerView → List X) → seen f at' m ≡ seen f at m
-  seen_same f = seen_alike f at at' m (is_known at m) refl (ap (λ l. nat_le 1 m && nat_le m l) many) (λ e. ap f (same (positive_of at m e)))
+abbrev StaysSound : LedgerView → LedgerView → Type 0
+StaysSound a b = Sound a → Sound b
 
-  pub sent_same : sent_to at' m ≡ sent_to at m
-  sent_same = seen_same (λ a. a.sent)
+pub sending_sound : (at : List LedgerView) (m : ℕ) (op : Op) → AllSound at → AllSound (after_sent at m op)
+sending_sound at m op all n low =
+    put_each StaysSound (λ a sound. sound) at m (with_sent (ledger at m) op) (sent_sound (ledger at m) op) n (all n low)
 
-  pub collected_same : collected_from at' m ≡ collected_from at m
-  collected_same = seen_same (λ a. a.collected)
+pub collecting_sound : (at : List LedgerView) (o : Operation) (c : Code) → IsOut at o → AllSound at → AllSound (after_collected at o c)
+collecting_sound at o c out all n low =
+    put_each StaysSound (λ a sound. sound) at o.manager (with_collected (ledger at o.manager) o.number c)
+    (collected_sound (ledger at o.manager) o.number c out.sent) n (all n low)
 
-module _ (at : List LedgerView) (n : ℕ) (a : LedgerView) (known : IsKnown at n) where
-  still_known : (m : ℕ) → is_known (put_ledger at n a) m ≡ is_known at m
-  still_known m = ap (λ l. nat_le 1 m && nat_le m l) (length-set at (n - 1) a)
+-- what is collected sends nothing
+pub collecting_sends_none : (at : List LedgerView) (o : Operation) (c : Code) (m : ℕ) → (ledger (after_collected at o c) m).sent ≡ (ledger at m).sent
+collecting_sends_none at o c m =
+    put_each (λ a b. b.sent ≡ a.sent) (λ a. refl) at o.manager (with_collected (ledger at o.manager) o.number c) refl m
 
-  put_there : ledger (put_ledger at n a) n ≡ a
-  put_there = get_or-set_same at (n - 1) a no_ledger (omega (arith, known.positive, known.within))
+-- ---- what is done at a desk
 
-  put_elsewhere : (m : ℕ) → 1 ≤ m → m ≢ n → ledger (put_ledger at n a) m ≡ ledger at m
-  put_elsewhere m low differs = get_or-set_other at (n - 1) (m - 1) a no_ledger (λ e. differs (omega (arith, low, known.positive)))
+abbrev pub Handles : Type 0
+Handles = finmap.FinMap nat_cmp Operation
 
-  seen_there : {X : Type 0} (f : LedgerView → List X) → seen f (put_ledger at n a) n ≡ f a
-  seen_there f = seen_known f (put_ledger at n a) n (still_known n ∙ known_true at n known) ∙ ap f put_there
+abbrev pub ledgers_at : DeskView → List LedgerView
+ledgers_at d = d.ledgers
 
-  seen_elsewhere : {X : Type 0} (f : LedgerView → List X) (m : ℕ) → m ≢ n → seen f (put_ledger at n a) m ≡ seen f at m
-  seen_elsewhere f m differs =
-      seen_alike f at (put_ledger at n a) m (is_known at m) refl (still_known m) (λ e. ap f (put_elsewhere m (positive_of at m e) differs))
+abbrev pub kept_at : DeskView → Handles
+kept_at d = d.kept
 
-  -- what is written shows the same as before
-  seen_stays : {X : Type 0} (f : LedgerView → List X) (m : ℕ) → f a ≡ f (ledger at n) → seen f (put_ledger at n a) m ≡ seen f at m
-  seen_stays f m same =
-      elim (cases_eq m n) [
-        | inl here ↦ ap (seen f (put_ledger at n a)) here ∙ seen_there f ∙ same ∙ sym (seen_known f at n (known_true at n known)) ∙ ap (seen f at) (sym here)
-        | inr differs ↦ seen_elsewhere f m differs
-      ]
+-- the ledgers and the handles stay
+abbrev pub Stays : DeskView → DeskView → Type 0
+Stays old new = (new.ledgers ≡ old.ledgers) × (new.kept ≡ old.kept)
 
--- ---- sending and collecting
+pub stays_same : (old new : DeskView) → new ≡ old → Stays old new
+stays_same old new e = (ap ledgers_at e, ap kept_at e)
 
-module _ (at : List LedgerView) (m : ℕ) (op : Op) (known : IsKnown at m) where
-  pub sent_here : sent_to (after_sent at m op) m ≡ sent_to at m ++ op ∷ []
-  sent_here =
-      seen_there at m (with_sent (ledger at m) op) known (λ a. a.sent) ∙ ap (λ l. l ++ op ∷ []) (sym (seen_known (λ a. a.sent) at m (known_true at m known)))
+-- manager m was asked: the request was sent and collected
+pub record HasAsked (m : ℕ) (op : Op) (c : Code) (old new : DeskView) : Type 0 where
+  pub known : IsKnown old.ledgers m
+  pub out : IsOut (after_sent old.ledgers m op) (next_operation old.ledgers m)
+  pub ledgers : new.ledgers ≡ after_collected (after_sent old.ledgers m op) (next_operation old.ledgers m) c
+  pub kept : new.kept ≡ old.kept
 
-  pub sent_elsewhere : (k : ℕ) → k ≢ m → sent_to (after_sent at m op) k ≡ sent_to at k
-  sent_elsewhere k differs = seen_elsewhere at m (with_sent (ledger at m) op) known (λ a. a.sent) k differs
-
-  pub sending_collects_none : (k : ℕ) → collected_from (after_sent at m op) k ≡ collected_from at k
-  sending_collects_none k = seen_stays at m (with_sent (ledger at m) op) known (λ a. a.collected) k refl
-
-  pub numbered_so : length (ledger at m).sent ≡ length (sent_to at m)
-  numbered_so = sym (ap (λ l. length l) (seen_known (λ a. a.sent) at m (known_true at m known)))
-
--- a manager that is known still is
-pub sent_known : (at : List LedgerView) (n : ℕ) (op : Op) → IsKnown at n → IsKnown (after_sent at n op) n
-sent_known at n op known =
-    record { positive = known.positive; within = subst (λ l. n ≤ l) (sym (length-set at (n - 1) (with_sent (ledger at n) op))) known.within }
-
-module _ (at : List LedgerView) (o : Operation) (code : Code) (known : IsKnown at o.manager) where
-  pub collected_here : collected_from (after_collected at o code) o.manager ≡ collected_from at o.manager ++ (o.number, code) ∷ []
-  collected_here =
-      seen_there at o.manager (with_collected (ledger at o.manager) o.number code) known (λ a. a.collected)
-      ∙ ap (λ l. l ++ (o.number, code) ∷ []) (sym (seen_known (λ a. a.collected) at o.manager (known_true at o.manager known)))
-
-  pub collected_elsewhere : (k : ℕ) → k ≢ o.manager → collected_from (after_collected at o code) k ≡ collected_from at k
-  collected_elsewhere k differs = seen_elsewhere at o.manager (with_collected (ledger at o.manager) o.number code) known (λ a. a.collected) k differs
-
-  pub collecting_sends_none : (k : ℕ) → sent_to (after_collected at o code) k ≡ sent_to at k
-  collecting_sends_none k = seen_stays at o.manager (with_collected (ledger at o.manager) o.number code) known (λ a. a.sent) k refl
-
--- ---- ledgers that only grow
-
--- each request to manager m that was collected was sent
-abbrev pub AllSent : ℕ → List LedgerView → Type 0
-AllSent m at = (k : ℕ) (p : ℕ × Code) → slice_get (collected_from at m) k ≡ Some p → p.0 < length (sent_to at m)
-
--- at manager m what was sent and what was collected only grows, and no ledger comes or goes
-pub record Grows (m : ℕ) (old new : List LedgerView) : Type 0 where
-  pub many : length new ≡ length old
-  pub sent : Begins (sent_to old m) (sent_to new m)
-  pub collected : Begins (collected_from old m) (collected_from new m)
-  pub below : AllSent m old → AllSent m new
-
-pub grows_same : (m : ℕ) (old new : List LedgerView) → new ≡ old → Grows m old new
-grows_same m old new e = record {
-  many = ap (λ l. length l) e;
-  sent = begins_same (sent_to old m) (sent_to new m) (ap (λ l. sent_to l m) e);
-  collected = begins_same (collected_from old m) (collected_from new m) (ap (λ l. collected_from l m) e);
-  below = λ all. subst (AllSent m) (sym e) all;
-}
-
-pub grows_both : (m : ℕ) (u v w : List LedgerView) → Grows m u v → Grows m v w → Grows m u w
-grows_both m u v w g h = record {
-  many = h.many ∙ g.many;
-  sent = begins_on (sent_to u m) (sent_to v m) (sent_to w m) g.sent h.sent;
-  collected = begins_on (collected_from u m) (collected_from v m) (collected_from w m) g.collected h.collected;
-  below = λ all. h.below (g.below all);
-}
-
--- where nothing is collected each request that was collected still was sent
-sent_still : (m : ℕ) (old new : List LedgerView) → Begins (sent_to old m) (sent_to new m) → collected_from new m ≡ collected_from old m → AllSent m old
-    → AllSent m new
-sent_still m old new b same all k p at =
-    let before = all k p (ap (λ l. slice_get l k) (sym same) ∙ at) in
-    let size = ap (λ l. length l) b.1 in
-    omega (arith, before, size, length-append (sent_to old m) b.0)
-
-pub grows_sent : (m : ℕ) (at : List LedgerView) (n : ℕ) (op : Op) → IsKnown at n → Grows m at (after_sent at n op)
-grows_sent m at n op known =
-    let more : Begins (sent_to at m) (sent_to (after_sent at n op) m) = elim (cases_eq m n) [
-      | inl here ↦ subst (λ k. Begins (sent_to at k) (sent_to (after_sent at n op) k)) (sym here) (op ∷ [], sent_here at n op known)
-      | inr differs ↦ begins_same (sent_to at m) (sent_to (after_sent at n op) m) (sent_elsewhere at n op known m differs)
-    ] in
+pub has_asked : (times m : ℕ) (b : Bool) (old : DeskView) (op : Op) (new : DeskView) (c : Code) → put_refusal old m b ≡ None
+    → Collects (submitted (after_fulls times old m) m op) new (next_operation old.ledgers m) c → HasAsked m op c old new
+has_asked times m b old op new c admits is =
+    let o = next_operation old.ledgers m in
+    let before : is.before.ledgers ≡ after_sent old.ledgers m op =
+    ap ledgers_at is.looks.rest ∙ ap (λ (at : List LedgerView). after_sent at m op) (fulls_ledgers times old m) in
     record {
-      many = length-set at (n - 1) (with_sent (ledger at n) op);
-      sent = more;
-      collected = begins_same (collected_from at m) (collected_from (after_sent at n op) m) (sending_collects_none at n op known m);
-      below = sent_still m at (after_sent at n op) more (sending_collects_none at n op known m);
+      known = known_here old m b admits;
+      out = subst (λ (at : List LedgerView). IsOut at o) before is.out;
+      ledgers = ap ledgers_at is.collected ∙ ap (λ (at : List LedgerView). after_collected at o c) before;
+      kept = ap kept_at is.collected ∙ ap kept_at is.looks.rest ∙ fulls_kept times old m;
     }
 
--- an operation that is collected was sent
-collected_below : (at : List LedgerView) (o : Operation) (code : Code) → IsOut at o → AllSent o.manager at → AllSent o.manager (after_collected at o code)
-collected_below at o code out all k p there =
-    let sent = collecting_sends_none at o code out.known o.manager in
-    let size : length (sent_to (after_collected at o code) o.manager) ≡ length (sent_to at o.manager) = ap (λ l. length l) sent in
-    ⊎_elim (λ (h : slice_get (collected_from at o.manager) k ≡ Some p). let before = all k p h in omega (arith, before, size))
-    (λ (h : (k ≡ length (collected_from at o.manager)) × (p ≡ (o.number, code))).
-    let within = out.sent in
-    let number : p.0 ≡ o.number = ap (λ (q : ℕ × Code). q.0) h.1 in
-    let many : length (sent_to at o.manager) ≡ length (ledger at o.manager).sent = ap (λ l. length l) (sent_of at o.manager out.known) in
-    omega (arith, within, number, many, size))
-    (got_push (collected_from at o.manager) (o.number, code) k p (ap (λ l. slice_get l k) (sym (collected_here at o code out.known)) ∙ there))
+pub asking_grows : (m : ℕ) (op : Op) (c : Code) (old new : DeskView) → HasAsked m op c old new → HaveGrown old.ledgers new.ledgers
+asking_grows m op c old new is =
+    let mid = after_sent old.ledgers m op in
+    let o = next_operation old.ledgers m in
+    subst (HaveGrown old.ledgers) (sym is.ledgers)
+    (growing_on old.ledgers mid (after_collected mid o c) (sending_grows old.ledgers m op) (collecting_grows mid o c))
 
-pub grows_collected : (m : ℕ) (at : List LedgerView) (o : Operation) (code : Code) → IsOut at o → Grows m at (after_collected at o code)
-grows_collected m at o code out = record {
-  many = length-set at (o.manager - 1) (with_collected (ledger at o.manager) o.number code);
-  sent = begins_same (sent_to at m) (sent_to (after_collected at o code) m) (collecting_sends_none at o code out.known m);
-  collected =
-      elim (cases_eq m o.manager) [
-        | inl here ↦ subst (λ k. Begins (collected_from at k) (collected_from (after_collected at o code) k)) (sym here) ((o.number, code) ∷ [], collected_here at o code out.known)
-        | inr differs ↦ begins_same (collected_from at m) (collected_from (after_collected at o code) m) (collected_elsewhere at o code out.known m differs)
-      ];
-  below =
-      elim (cases_eq m o.manager) [
-        | inl here ↦ subst (λ k. AllSent k at → AllSent k (after_collected at o code)) (sym here) (collected_below at o code out)
-        | inr differs ↦
-            sent_still m at (after_collected at o code) (begins_same (sent_to at m) (sent_to (after_collected at o code) m) (collecting_sends_none at o code out.known m)) (collected_elsewhere at o code out.known m differs)
-      ];
+pub asking_sound : (m : ℕ) (op : Op) (c : Code) (old new : DeskView) → HasAsked m op c old new → AllSound old.ledgers → AllSound new.ledgers
+asking_sound m op c old new is all =
+    subst AllSound (sym is.ledgers)
+    (collecting_sound (after_sent old.ledgers m op) (next_operation old.ledgers m) c is.out (sending_sound old.ledgers m op all))
+
+-- what was kept under a number was collected
+pub record HasTaken (o : Operation) (k : ℕ) (c : Code) (old new : DeskView) : Type 0 where
+  pub kept : finmap.get old.kept k ≡ Some o
+  pub out : IsOut old.ledgers o
+  pub ledgers : new.ledgers ≡ after_collected old.ledgers o c
+  pub handles : new.kept ≡ finmap.remove old.kept k
+
+pub has_taken : (old before new : DeskView) (k : ℕ) (c : Code) → Stays old before → (is : TakesKept before new k c) → HasTaken is.operation k c old new
+has_taken old before new k c (ledgers, handles) is = record {
+  kept = ap (λ (m : Handles). finmap.get m k) (sym handles) ∙ is.kept;
+  out = subst (λ (at : List LedgerView). IsOut at is.operation) ledgers is.out;
+  ledgers = ap ledgers_at is.taken ∙ ap (λ (at : List LedgerView). after_collected at is.operation c) ledgers;
+  handles = ap kept_at is.taken ∙ ap (λ (m : Handles). finmap.remove m k) handles;
 }
+
+pub has_redeemed : (old new : DeskView) (k : ℕ) (c : Code) → (is : CollectsRedeemed old new k c) → HasTaken is.operation k c old new
+has_redeemed old new k c is =
+    let looks = ap ledgers_at is.collects.looks.rest in
+    record {
+      kept = is.kept;
+      out = subst (λ (at : List LedgerView). IsOut at is.operation) looks is.collects.out;
+      ledgers = ap ledgers_at is.collects.collected ∙ ap (λ (at : List LedgerView). after_collected at is.operation c) looks;
+      handles = ap kept_at is.collects.collected ∙ ap kept_at is.collects.looks.rest;
+    }

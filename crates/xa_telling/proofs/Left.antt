@@ -3,42 +3,45 @@ use Rattle.std.proofs.Common.{◌≡◌, ℕ, ◌+◌, ◌<◌, ◌≤◌, zero,
 use Rattle.std.proofs.Common.{sym, refl, ap, ◌∙◌, subst, inl, inr, arith, length-append}
 use Rattle.std.specs.Prelude.{All}
 use Rattle.std.specs.List.{AllPairs, Contains, range_with_len}
-use Rattle.std.specs.Ordering.{nat_cmp}
 use Rattle.std.specs.FinMap as finmap
 use Rattle.std.proofs.lemmas.Bool.{cases_eq}
 use Rattle.std.proofs.lemmas.List.{map-append}
 use Rattle.std.proofs.lemmas.List.Elements.{All-nil, All-push, Contains-append_left, Contains-push}
 use Rattle.xa_base.proofs.Options.{not_both}
-use Rattle.xa_base.specs.Lists.{Begins, Chain}
+use Rattle.xa_base.specs.Lists.{Chain}
 use Rattle.xa_base.specs.Lists.Chain.{none, more}
-use Rattle.xa_base.proofs.Lists.{begins_on, begins_same, pairs_push, range_suc, snoc_parts}
+use Rattle.xa_base.proofs.Lists.{pairs_push, range_suc, same_begins, snoc_parts}
 use Rattle.xa_base.proofs.Maps.{removed_other}
 use Rattle.xa_words.specs.declared.code.Code.{Code}
 use Rattle.xa_desk.specs.declared.operation.Operation.{Operation}
-use Rattle.xa_desk.specs.DeskView.{DeskView, collected_from}
-use Rattle.xa_switch.specs.Completing.{CollectsRedeemed}
+use Rattle.xa_desk.specs.DeskView.{DeskView, ledger}
+use Rattle.xa_desk.specs.Growth.{HaveGrown}
+use Rattle.xa_desk.specs.LedgerView.{LedgerView}
+use Rattle.xa_desk.proofs.Growth.{collecting_grows}
+use Rattle.xa_desk.proofs.Ledgers.{ledger-collected_same}
 use Rattle.xa_crew.specs.Ending.{Telling, EndsNumber}
 use Rattle.xa_crew.specs.Ending.EndsNumber.{kept, free}
-use Rattle.xa_telling.proofs.Ledgers.{collected_here}
-use Rattle.xa_telling.proofs.Sent.{Collecting, redeeming}
+use Rattle.xa_telling.proofs.Entries.{collected_there}
+use Rattle.xa_telling.proofs.Ledgers.{Handles, HasTaken, collecting_sends_none, has_redeemed}
 
 -- one of what was told: what was kept under the number at first was collected with this code
 abbrev pub IsTold : DeskView → DeskView → ℕ × Code → Type 0
 IsTold first now x =
-    (o : Operation) × (finmap.get first.kept x.0 ≡ Some o)
-    × (before : List (ℕ × Code)) × Begins (before ++ (o.number, x.1) ∷ []) (collected_from now.ledgers o.manager)
+    (o : Operation) × (finmap.get first.kept x.0 ≡ Some o) × (1 ≤ o.manager) × Contains (ledger now.ledgers o.manager).collected (o.number, x.1)
 
-told_on : (first now next : DeskView) → Collecting now.ledgers next.ledgers → (x : ℕ × Code) → IsTold first now x → IsTold first next x
-told_on first now next grows x h =
-    (h.0, h.1, h.2, begins_on (h.2 ++ (h.0.number, x.1) ∷ []) (collected_from now.ledgers h.0.manager) (collected_from next.ledgers h.0.manager) h.3 (grows h.0.manager).0.collected)
+told_on : (first now next : DeskView) → HaveGrown now.ledgers next.ledgers → (x : ℕ × Code) → IsTold first now x → IsTold first next x
+told_on first now next grown x (o, at, low, there) =
+    let more = (grown.each o.manager low).collected in
+    (o, at, low, subst (λ l. Contains l (o.number, x.1)) (sym more.1) (Contains-append_left (ledger now.ledgers o.manager).collected more.0 (o.number, x.1) there))
 
--- the numbers from 1 to n were ended
+-- the numbers from 1 to n were ended, and nothing was sent
 pub record HaveEnded (n : ℕ) (first now : DeskView) (told : List (ℕ × Code)) : Type 0 where
   pub others : (k : ℕ) → ((1 ≤ k) × (k ≤ n) → ⊥) → finmap.get now.kept k ≡ finmap.get first.kept k
   pub coded : All (IsTold first now) told
   pub within : All (λ x. (1 ≤ x.0) × (x.0 ≤ n)) told
   pub all : (k : ℕ) (o : Operation) → 1 ≤ k → k ≤ n → finmap.get first.kept k ≡ Some o → Contains (map (λ x. x.0) told) k
   pub rising : AllPairs (λ x y. x.0 < y.0) told
+  pub sent : (m : ℕ) → (ledger now.ledgers m).sent ≡ (ledger first.ledgers m).sent
 
 none_ended : (first : DeskView) → HaveEnded 0 first first []
 none_ended first = record {
@@ -47,6 +50,7 @@ none_ended first = record {
   within = All-nil (λ x. (1 ≤ x.0) × (x.0 ≤ 0));
   all = λ k o low high at. absurd (omega (arith, low, high));
   rising = λ i j d below within. absurd (omega (arith, within));
+  sent = λ m. refl;
 }
 
 -- one more number that kept something
@@ -54,33 +58,31 @@ module _ (n : ℕ) (first now next : DeskView) (told : List (ℕ × Code)) (h : 
   fresh : (1 ≤ n + 1) × (n + 1 ≤ n) → ⊥
   fresh within = let high = within.1 in omega (arith, high)
 
-  numbers_push : (c : Code) → map (λ (x : ℕ × Code). x.0) (told ++ (n + 1, c) ∷ []) ≡ map (λ (x : ℕ × Code). x.0) told ++ (n + 1) ∷ []
-  numbers_push c = map-append (λ (x : ℕ × Code). x.0) told ((n + 1, c) ∷ [])
-
-  ended_kept : (c : Code) → CollectsRedeemed now next (n + 1) c → HaveEnded (n + 1) first next (told ++ (n + 1, c) ∷ [])
-  ended_kept c takes =
-      let o = takes.operation in
-      let at_first : finmap.get first.kept (n + 1) ≡ Some o = sym (h.others (n + 1) fresh) ∙ takes.kept in
-      let handles : next.kept ≡ finmap.remove now.kept (n + 1) =
-      ap (λ (d : DeskView). d.kept) takes.collects.collected ∙ ap (λ (d : DeskView). d.kept) takes.collects.looks.rest in
-      let collected : collected_from next.ledgers o.manager ≡ collected_from now.ledgers o.manager ++ (o.number, c) ∷ [] =
-      ap (λ (d : DeskView). collected_from d.ledgers o.manager) takes.collects.collected
-      ∙ collected_here takes.collects.before.ledgers o c takes.collects.out.known
-      ∙ ap (λ (d : DeskView). collected_from d.ledgers o.manager ++ (o.number, c) ∷ []) takes.collects.looks.rest in
-      let this : IsTold first next (n + 1, c) =
-      (o, at_first, collected_from now.ledgers o.manager, begins_same (collected_from now.ledgers o.manager ++ (o.number, c) ∷ []) (collected_from next.ledgers o.manager) collected) in
+  ended_kept : (o : Operation) (c : Code) → HasTaken o (n + 1) c now next → HaveEnded (n + 1) first next (told ++ (n + 1, c) ∷ [])
+  ended_kept o c takes =
+      let numbers = map (λ (x : ℕ × Code). x.0) told in
+      let this : IsTold first next (n + 1, c) = (
+        o,
+        sym (h.others (n + 1) fresh) ∙ takes.kept,
+        takes.out.known.positive,
+        collected_there (ledger now.ledgers o.manager).collected (ledger next.ledgers o.manager).collected (ledger next.ledgers o.manager).collected (o.number, c)
+            (ap (λ (l : List LedgerView). (ledger l o.manager).collected) takes.ledgers
+            ∙ ap (λ (a : LedgerView). a.collected) (ledger-collected_same now.ledgers o c takes.out.known o.manager refl)) (same_begins _),
+      ) in
+      let grown : HaveGrown now.ledgers next.ledgers = subst (HaveGrown now.ledgers) (sym takes.ledgers) (collecting_grows now.ledgers o c) in
       record {
         others = λ k out.
-            ap (λ (m : finmap.FinMap nat_cmp Operation). finmap.get m k) handles
-            ∙ removed_other now.kept (n + 1) k (λ same. out (omega (arith, same), omega (arith, same)))
+            ap (λ (m : Handles). finmap.get m k) takes.handles ∙ removed_other now.kept (n + 1) k (λ same. out (omega (arith, same), omega (arith, same)))
             ∙ h.others k (λ within. out (within.0, let high = within.1 in omega (arith, high)));
-        coded = All-push (IsTold first next) told (n + 1, c) (λ k d below. told_on first now next (redeeming now next (n + 1) c takes) _ (h.coded k d below)) this;
+        coded = All-push (IsTold first next) told (n + 1, c) (λ k d below. told_on first now next grown _ (h.coded k d below)) this;
         within = All-push (λ x. (1 ≤ x.0) × (x.0 ≤ n + 1)) told (n + 1, c) (λ k d below. let w = h.within k d below in (w.0, let high = w.1 in omega (arith, high))) (omega arith, omega arith);
-        all = λ k p low high at. subst (λ (l : List ℕ). Contains l k) (sym (numbers_push c)) (elim (cases_eq k (n + 1)) [
-          | inl same ↦ subst (λ j. Contains (map (λ (x : ℕ × Code). x.0) told ++ (n + 1) ∷ []) j) (sym same) (Contains-push (map (λ (x : ℕ × Code). x.0) told) (n + 1))
-          | inr differs ↦ Contains-append_left (map (λ (x : ℕ × Code). x.0) told) ((n + 1) ∷ []) k (h.all k p low (omega (arith, high, differs)) at)
-        ]);
+        all =
+            λ k p low high at. subst (λ (l : List ℕ). Contains l k) (sym (map-append (λ (x : ℕ × Code). x.0) told ((n + 1, c) ∷ []))) (elim (cases_eq k (n + 1)) [
+              | inl same ↦ subst (Contains (numbers ++ (n + 1) ∷ [])) (sym same) (Contains-push numbers (n + 1))
+              | inr differs ↦ Contains-append_left numbers ((n + 1) ∷ []) k (h.all k p low (omega (arith, high, differs)) at)
+            ]);
         rising = pairs_push (λ x y. x.0 < y.0) told (n + 1, c) h.rising (λ k d below. let w = h.within k d below in let high = w.1 in omega (arith, high));
+        sent = λ m. ap (λ (l : List LedgerView). (ledger l m).sent) takes.ledgers ∙ collecting_sends_none now.ledgers o c m ∙ h.sent m;
       }
 
   -- and one that kept nothing
@@ -94,12 +96,13 @@ module _ (n : ℕ) (first now next : DeskView) (told : List (ℕ × Code)) (h : 
       | inr differs ↦ h.all k o low (omega (arith, high, differs)) at
     ];
     rising = h.rising;
+    sent = h.sent;
   }
 
 one_ended : (n : ℕ) (first : DeskView) (now next : Telling) → HaveEnded n first now.0 now.1 → EndsNumber (n + 1) now next
     → HaveEnded (n + 1) first next.0 next.1
 one_ended n first now next h (kept c takes pushed) =
-    subst (λ (l : List (ℕ × Code)). HaveEnded (n + 1) first next.0 l) (sym pushed) (ended_kept n first now.0 next.0 now.1 h c takes)
+    subst (λ (l : List (ℕ × Code)). HaveEnded (n + 1) first next.0 l) (sym pushed) (ended_kept n first now.0 next.0 now.1 h takes.operation c (has_redeemed now.0 next.0 (n + 1) c takes))
 one_ended n first now next h (free empty same) =
     subst (λ (x : Telling). HaveEnded (n + 1) first x.0 x.1) (sym same) (ended_free n first now.0 now.0 now.1 h empty)
 

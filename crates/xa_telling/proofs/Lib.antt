@@ -1,15 +1,13 @@
 pub mod Tasks
 pub mod Ledgers
-pub mod Sent
+pub mod Calls
 pub mod Entries
 pub mod Deaths
 pub mod Branches
 pub mod Flight
-pub mod Parts
-pub mod Handles
+pub mod Mapped
 pub mod Lines
 pub mod Opened
 pub mod Left
 pub mod Told
-pub mod Mapped
 pub mod Again

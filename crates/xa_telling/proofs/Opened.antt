@@ -1,12 +1,11 @@
 -- What holds of the desks and the workers that a script has opened.
-use Rattle.std.proofs.Common.{◌≡◌, ℕ, ◌+◌, ◌-◌, zero, suc, Bool, true, false, cond, List, [], ◌∷◌, length, map, Some, sym, refl, ap, ◌∙◌, arith}
+use Rattle.std.proofs.Common.{◌≡◌, ℕ, ◌+◌, Bool, List, [], ◌∷◌, length, map, Some, sym, refl, ap, ◌∙◌, arith}
 use Rattle.std.specs.Prelude.{slice_get}
 use Rattle.std.specs.List.{range_with_len, slice_index_or}
 use Rattle.std.proofs.lemmas.List.{length-map}
 use Rattle.std.proofs.lemmas.List.FromFn.{length-map-range_with_len, get_or-map-range_with_len}
 use Rattle.std.proofs.lemmas.Option.{slice_get_within, slice_get-get_or}
-use Rattle.xa_desk.specs.DeskView.{DeskView, no_ledger, ledger, is_known, sent_to, collected_from}
-use Rattle.xa_desk.specs.Lanes.{new_ledgers}
+use Rattle.xa_desk.specs.DeskView.{DeskView}
 use Rattle.xa_worker.specs.Workers.{WorkerView}
 use Rattle.xa_tables.specs.Tables.{Tables}
 use Rattle.xa_tables.specs.Managers.{opening}
@@ -19,29 +18,6 @@ use Rattle.xa_transcript.specs.Values.{opened}
 use Rattle.xa_base.proofs.Lists.{some_same}
 
 -- ---- the desks
-
-fresh_sent : (plan : ℕ) (flags : List Bool) (i : ℕ) → (slice_index_or (new_ledgers plan flags) i no_ledger).sent ≡ []
-fresh_sent plan [] i = refl
-fresh_sent plan (b ∷ flags) zero = refl
-fresh_sent plan (b ∷ flags) (suc i) = fresh_sent plan flags i
-
-none_either : {X : Type 0} (b : Bool) (l : List X) → l ≡ [] → cond b l [] ≡ []
-none_either true l e = e
-none_either false l e = refl
-
--- nothing was sent to any manager
-pub new_sent : (plan : ℕ) (flags : List Bool) (m : ℕ) → sent_to (new_ledgers plan flags) m ≡ []
-new_sent plan flags m = none_either (is_known (new_ledgers plan flags) m) (ledger (new_ledgers plan flags) m).sent (fresh_sent plan flags (m - 1))
-
-fresh_collected : (plan : ℕ) (flags : List Bool) (i : ℕ) → (slice_index_or (new_ledgers plan flags) i no_ledger).collected ≡ []
-fresh_collected plan [] i = refl
-fresh_collected plan (b ∷ flags) zero = refl
-fresh_collected plan (b ∷ flags) (suc i) = fresh_collected plan flags i
-
--- nor collected from it
-pub new_collected : (plan : ℕ) (flags : List Bool) (m : ℕ) → collected_from (new_ledgers plan flags) m ≡ []
-new_collected plan flags m =
-    none_either (is_known (new_ledgers plan flags) m) (ledger (new_ledgers plan flags) m).collected (fresh_collected plan flags (m - 1))
 
 pub opened_threads : (s : Content) (n : ℕ) (tables : ℕ → Tables) (desks : List DeskView) (workers : List WorkerView) → AreOpened s n tables desks workers
     → length desks ≡ threads_of s

@@ -1,18 +1,23 @@
 -- What the threads and the managers of a run tell once they are settled.
-use Rattle.std.proofs.Common.{◌≡◌, ◌≢◌, ℕ, ◌+◌, ◌-◌, ◌<◌, ◌≤◌, ⊎_elim, zero, suc, List, [], ◌∷◌, length, map, Some, None, option_map, sym, refl, ap, ◌∙◌, subst}
-use Rattle.std.proofs.Common.{arith, ◌++◌, Option, inl, inr, false}
+use Rattle.std.proofs.Common.{◌≡◌, ◌≢◌, ℕ, ◌+◌, ◌-◌, ◌<◌, ◌≤◌, ⊎_elim, zero, suc, List, [], length, map, Some, None, option_map, sym, refl, ap, ◌∙◌, subst}
+use Rattle.std.proofs.Common.{arith, Option, inl, inr, false}
 use Rattle.std.specs.Prelude.{slice_get}
-use Rattle.std.specs.List.{range_with_len, slice_index_or}
+use Rattle.std.specs.List.{Contains, range_with_len, slice_index_or}
 use Rattle.std.specs.FinMap as finmap
 use Rattle.std.specs.Ordering.{nat_cmp}
 use Rattle.std.proofs.lemmas.Bool.{cases_lt}
 use Rattle.std.proofs.lemmas.List.{length-map}
-use Rattle.std.proofs.lemmas.List.Elements.{All-nil}
+use Rattle.std.proofs.lemmas.List.Elements.{All-contains, All-nil}
 use Rattle.std.proofs.lemmas.Option.{slice_get-map, slice_get_within, slice_get_past, slice_get_cases}
 use Rattle.xa_base.proofs.Options.{not_both}
+use Rattle.xa_desk.proofs.Fresh.{fresh_sent, fresh_collected}
 use Rattle.xa_desk.proofs.Ledgers.{nobody_sent}
+use Rattle.xa_desk.specs.Growth.{HaveGrown}
+use Rattle.xa_desk.specs.Kept.{AllKept}
+use Rattle.xa_switch.specs.Fates.{ledgers_of}
+use Rattle.xa_switch.proofs.Kept.{opened_kept}
 use Rattle.xa_desk.specs.LedgerView.{LedgerView}
-use Rattle.xa_desk.specs.DeskView.{DeskView, sent_to, collected_from}
+use Rattle.xa_desk.specs.DeskView.{DeskView, ledger, sent_to}
 use Rattle.xa_desk.specs.Ended.{EndedView}
 use Rattle.xa_desk.specs.Lanes.{new_ledgers}
 use Rattle.xa_worker.specs.Workers.{WorkerView}
@@ -28,7 +33,7 @@ use Rattle.xa_grammar.specs.Steps.{ScriptTask, ScriptStep}
 use Rattle.xa_grammar.specs.Content.{Content, tasks_of, threads_of, managers_of}
 use Rattle.xa_session.specs.declared.session.Session.{Session}
 use Rattle.xa_transcript.specs.declared.answer.Told.{Told}
-use Rattle.xa_base.specs.Lists.{Begins, Chain}
+use Rattle.xa_base.specs.Lists.{Chain}
 use Rattle.xa_base.specs.Lists.Chain.{none, more}
 use Rattle.xa_session.specs.Sessions.{HasDone}
 use Rattle.xa_telling.specs.Runs.{Comes, Ran}
@@ -39,12 +44,11 @@ use Rattle.xa_telling.specs.Parts.{Part, HasCode, new_part}
 use Rattle.xa_telling.proofs.Left.{HaveEnded, numbers_ended}
 use Rattle.xa_crew.specs.Ending.{EndsDesk}
 use Rattle.xa_words.specs.declared.code.Code.{Code}
-use Rattle.xa_words.specs.declared.request.Op.{Op}
 use Rattle.xa_desk.specs.declared.operation.Operation.{Operation}
-use Rattle.xa_base.proofs.Lists.{got, find_numbered, find_none, was_mapped}
-use Rattle.xa_telling.proofs.Opened.{opened_threads, opened_managers, opened_first, opened_thread, new_sent, new_collected}
-use Rattle.xa_telling.proofs.Sent.{ending_collects}
-use Rattle.xa_telling.proofs.Entries.{Fits as Agrees, agreed_fits, no_entries, pair_there}
+use Rattle.xa_base.proofs.Lists.{all_at, got, find_numbered, find_none, was_mapped}
+use Rattle.xa_telling.proofs.Opened.{opened_threads, opened_managers, opened_first, opened_thread}
+use Rattle.xa_telling.proofs.Entries.{Fits as Agrees, StandsAt, agreed_fits, no_entries}
+use Rattle.xa_telling.proofs.Branches.{fits, own as own_entries}
 use Rattle.xa_telling.proofs.Lines.{lines_in, tasks_in, answers_in, carried_all}
 use Rattle.xa_telling.proofs.Tasks.{tasks_are_of, no_tasks}
 
@@ -58,28 +62,34 @@ runs_go first tasks last (more xs x now l before is) = is.does.goes_on.seat ∙ 
 -- ---- what is left at the end
 
 -- what was kept after the last task was collected with the codes that the journals have
-are_left : (settled : Settling) (t : ℕ) (last : DeskView) (e : EndedView) (outstanding : List (ℕ × Code)) → EndsDesk last [] e outstanding
-    → (ops : ℕ → List Op) (pairs : ℕ → List (ℕ × Code)) → ((m : ℕ) → Agrees t (ops m) (pairs m) (entries_of t (journal settled m)))
-    → ((m : ℕ) → pairs m ≡ collected_from e.ledgers m) → AreLeft settled t last.kept outstanding
-are_left settled t last e outstanding is ops pairs fits collected =
-    let h : HaveEnded last.handles last is.emptied outstanding =
-    numbers_ended last (range_with_len 1 last.handles) (is.emptied, outstanding) is.collects last.handles refl in
-    record {
-      coded = λ k d below.
-          let one = h.coded k d below in
-          let m = one.0.manager in
-          let all : Begins (one.2 ++ (one.0.number, (slice_index_or outstanding k d).1) ∷ []) (pairs m) =
-          subst (Begins (one.2 ++ (one.0.number, (slice_index_or outstanding k d).1) ∷ [])) (ap (λ (at : List LedgerView). collected_from at m) (sym is.ends.ledgers) ∙ sym (collected m)) one.3 in
-          (one.0, one.1, (fits m).coded (length one.2) (one.0.number, (slice_index_or outstanding k d).1) (pair_there (pairs m) one.2 (one.2 ++ (one.0.number, (slice_index_or outstanding k d).1) ∷ []) one.0.number (slice_index_or outstanding k d).1 refl all));
-      all = λ k o at. elim (cases_lt 0 k) [
-        | inr none_low ↦ absurd (not_both (finmap.get is.emptied.kept k) o (is.none k) (h.others k (λ within. let low = within.0 in omega (arith, low, none_low)) ∙ at))
-        | inl low ↦ elim (cases_lt last.handles k) [
-          | inl past ↦ absurd (not_both (finmap.get is.emptied.kept k) o (is.none k) (h.others k (λ within. let high = within.1 in omega (arith, high, past)) ∙ at))
-          | inr high ↦ h.all k o (omega (arith, low)) high at
-        ]
-      ];
-      rising = h.rising;
-    }
+are_left : (settled : Settling) (is : IsSettled settled) (t : ℕ) (last : DeskView) (e : EndedView) (outstanding : List (ℕ × Code))
+    → EndsDesk last [] e outstanding
+    → ledgers_of settled t ≡ e.ledgers
+    → AreLeft settled t last.kept outstanding × ((m : ℕ) → (ledger last.ledgers m).sent ≡ (ledger (ledgers_of settled t) m).sent)
+are_left settled is t last e outstanding ends own =
+    let h : HaveEnded last.handles last ends.emptied outstanding =
+    numbers_ended last (range_with_len 1 last.handles) (ends.emptied, outstanding) ends.collects last.handles refl in
+    let ledgers : ledgers_of settled t ≡ ends.emptied.ledgers = own ∙ ends.ends.ledgers in (
+      record {
+        coded = λ k d below.
+            let (o, at, low, there) = h.coded k d below in
+            let code = (slice_index_or outstanding k d).1 in (
+              o,
+              at,
+              All-contains (StandsAt (own_entries settled is t o.manager)) (ledger (ledgers_of settled t) o.manager).collected (o.number, code) (fits settled is t o.manager low).coded
+                  (subst (λ (l : List LedgerView). Contains (ledger l o.manager).collected (o.number, code)) (sym ledgers) there),
+            );
+        all = λ k o at. elim (cases_lt 0 k) [
+          | inr none_low ↦ absurd (not_both (finmap.get ends.emptied.kept k) o (ends.none k) (h.others k (λ within. let low = within.0 in omega (arith, low, none_low)) ∙ at))
+          | inl low ↦ elim (cases_lt last.handles k) [
+            | inl past ↦ absurd (not_both (finmap.get ends.emptied.kept k) o (ends.none k) (h.others k (λ within. let high = within.1 in omega (arith, high, past)) ∙ at))
+            | inr high ↦ h.all k o (omega (arith, low)) high at
+          ]
+        ];
+        rising = h.rising;
+      },
+      λ m. sym (h.sent m) ∙ ap (λ (l : List LedgerView). (ledger l m).sent) (sym ledgers),
+    )
 
 -- ---- logs
 
@@ -180,20 +190,8 @@ module _ (s : Content) (b : Beginning) (steps : List ScriptStep) (answers : List
     abbrev settled : Settling
     settled = settling ended done
 
-    fresh : (k : ℕ) (x : Session) (m : ℕ) → slice_get sessions k ≡ Some x → sent_to x.desk.ledgers m ≡ []
-    fresh k x m at =
-        let new = new_desk_at k x at in
-        let ledgers : x.desk.ledgers ≡ new_ledgers setup.numbers.requests setup.use_async = ap (λ (d : DeskView). d.ledgers) new.made in
-        ap (λ (l : List LedgerView). sent_to l m) ledgers ∙ new_sent setup.numbers.requests setup.use_async m
-
-    uncollected : (k : ℕ) (x : Session) (m : ℕ) → slice_get sessions k ≡ Some x → collected_from x.desk.ledgers m ≡ []
-    uncollected k x m at =
-        let new = new_desk_at k x at in
-        let ledgers : x.desk.ledgers ≡ new_ledgers setup.numbers.requests setup.use_async = ap (λ (d : DeskView). d.ledgers) new.made in
-        ap (λ (l : List LedgerView). collected_from l m) ledgers ∙ new_collected setup.numbers.requests setup.use_async m
-
-    unkept : (k : ℕ) (x : Session) → slice_get sessions k ≡ Some x → x.desk.kept ≡ finmap.empty
-    unkept k x at = let new = new_desk_at k x at in ap (λ (d : DeskView). d.kept) new.made
+    made : (k : ℕ) (x : Session) → slice_get sessions k ≡ Some x → x.desk.ledgers ≡ new_ledgers setup.numbers.requests setup.use_async
+    made k x at = let new = new_desk_at k x at in ap (λ (d : DeskView). d.ledgers) new.made
 
     -- with the log that it has after them
     abbrev Carried : ℕ → Type 0
@@ -212,21 +210,19 @@ module _ (s : Content) (b : Beginning) (steps : List ScriptStep) (answers : List
         let t : x.desk.thread ≡ suc k = omega (arith, own) in
         let begins = r.begins k x at in
         let next : k + 1 ≡ suc k = omega arith in
-        let found : find_thread x.desk.thread (map thread_part ended) ≡ Some (thread_part e.0) =
-        ap (λ n. find_thread n (map thread_part ended)) own ∙ found_thread k e.0 e.1 in
-        let sent_so : (m : ℕ) → sent settled x.desk.thread m ≡ sent_to e.0.ledgers m = λ m. ap (λ o. sent_to (ledgers_in o) m) found in
-        let collected_so : (m : ℕ) → collected settled x.desk.thread m ≡ collected_from e.0.ledgers m = λ m. ap (λ o. collected_from (ledgers_in o) m) found in
-        let fits : (m : ℕ) → Agrees x.desk.thread (sent settled x.desk.thread m) (collected settled x.desk.thread m) (entries_of x.desk.thread (journal settled m)) =
-        λ m. agreed_fits x.desk.thread (sent settled x.desk.thread m) (collected settled x.desk.thread m) (journal settled m) (is.agree x.desk.thread m) in
+        let ended_so : ledgers_of settled x.desk.thread ≡ e.0.ledgers =
+        ap ledgers_in (ap (λ n. find_thread n (map thread_part ended)) own ∙ found_thread k e.0 e.1) in
         let tasks = tasks_of x.desk.thread steps in
         let last : Session × List Told = (y.0, answers_to x.desk.thread answers) in
         let log : x.log.found.state ≡ b.logs (suc k) = begins.log ∙ ap b.logs next in
         let scan : x.scan ≡ b.scans (suc k) = begins.scan ∙ ap b.scans next in
+        let left_so = are_left settled is x.desk.thread y.0.desk e.0 c.outstanding c.ends ended_so in
+        let new = new_desk_at k x at in
         let chain =
-        let ends = ending_collects y.0.desk [] e.0 c.outstanding c.ends in
-        carried_all settled x.desk.thread (sent settled x.desk.thread) (collected settled x.desk.thread) fits (x, []) (λ m. fresh k x m at) (λ m. uncollected k x m at) (unkept k x at) begins.known
-        tasks last c.runs (tasks_are_of x.desk.thread steps) (λ m. sym (ends m).1 ∙ sym (sent_so m))
-        (λ m. subst (Begins (collected_from y.0.desk.ledgers m)) (sym (collected_so m)) (ends m).0.collected) in
+        carried_all settled is x.desk.thread (x, []) (λ m. ap (λ (l : List LedgerView). (ledger l m).sent) (made k x at) ∙ fresh_sent setup.numbers.requests setup.use_async (m - 1))
+        (λ m. ap (λ (l : List LedgerView). (ledger l m).collected) (made k x at) ∙ fresh_collected setup.numbers.requests setup.use_async (m - 1)) (ap (λ (d : DeskView). d.kept) new.made)
+        (all_at AllKept (map (λ (x : Session). x.desk) sessions) k x.desk (opened_kept setup (map (λ (x : Session). x.desk) sessions) workers r.opened.opened) (desk_at k x at)) begins.known
+        tasks last c.runs (tasks_are_of x.desk.thread steps) (subst (HaveGrown y.0.desk.ledgers) (sym (ended_so ∙ c.ends.ends.ledgers)) c.ends.goes_on.lists) left_so.1 in
         subst (λ (u : ℕ). (c : AreCarriedOut steps answers settled u (part_at b (suc k))) × (c.log ≡ log_left b left (suc k))) t (
           record {
             lines = lines_in (x, []) tasks last c.runs;
@@ -238,7 +234,7 @@ module _ (s : Content) (b : Beginning) (steps : List ScriptStep) (answers : List
             scan = y.0.scan;
             carried = subst (λ (p : Part). Chain (TakesPart settled) p (lines_in (x, []) tasks last c.runs) (record { entries = λ m. entries_of x.desk.thread (journal settled m); handles = y.0.desk.kept; log = y.0.log.found.state; is_lost = y.0.log.is_lost; scan = y.0.scan })) (λ i. new_part (log i) (scan i)) chain;
             outstanding = c.outstanding;
-            are_left = are_left settled x.desk.thread y.0.desk e.0 c.outstanding c.ends (sent settled x.desk.thread) (collected settled x.desk.thread) fits collected_so;
+            are_left = left_so.0;
             ends = c.told;
           },
           log_there b left k y.0 y.1,

@@ -1,0 +1,181 @@
+-- What a thread's calls do to its desk, and why they may be refused.
+use Rattle.std.proofs.Common.{◌≡◌, ℕ, ℤ, ◌≤◌, Bool, true, false, not, ◌&&◌, [], ◌∷◌, Option, Some, None, Result, Ok, Err, sym, refl, ap, ◌∙◌, subst, arith}
+use Rattle.std.specs.Prelude.{pos, if◌then◌else◌, option_map}
+use Rattle.std.specs.Option.{option_or}
+use Rattle.std.specs.Ordering.{int_eq}
+use Rattle.std.specs.List.{Contains}
+use Rattle.std.specs.FinMap as finmap
+use Rattle.xa_base.proofs.Lists.{some_same}
+use Rattle.xa_words.specs.Code.{number_of}
+use Rattle.xa_words.specs.Flags.{has_only, bits_of, go_together, mode_of}
+use Rattle.xa_words.specs.declared.code.Code.{Code}
+use Rattle.xa_words.specs.declared.code.Code.TheVariants.{Async, Inval, Proto, Retry, RmErr, RmFail}
+use Rattle.xa_words.specs.declared.flags.Call.TheVariants as call
+use Rattle.xa_words.specs.declared.flags.Mode.{Mode}
+use Rattle.xa_words.specs.declared.request.Op.{Op}
+use Rattle.xa_desk.specs.declared.operation.Operation.{Operation}
+use Rattle.xa_desk.specs.declared.refused.Refused.{Refused}
+use Rattle.xa_desk.specs.declared.refused.Refused.TheVariants.{NoSuchManager, Shut, TooMany, Spent}
+use Rattle.xa_desk.specs.LedgerView.{learnt_shut}
+use Rattle.xa_desk.specs.DeskView.{DeskView, IsKnown, is_known, ledger, next_operation, after_sent}
+use Rattle.xa_switch.specs.Scans.{ScanView}
+use Rattle.xa_switch.specs.Putting.{code_of as to_code, put_refusal, Puts, Calls}
+use Rattle.xa_switch.specs.Putting.Puts.{refused as put_refused, full, kept as put_kept, answered as put_answered}
+use Rattle.xa_switch.specs.Completing.{number_in, CompletesOne, CompletesAny, CompletesAt, CompletesBy, Tells, may_complete}
+use Rattle.xa_switch.specs.Completing.CompletesOne.{unknown, retry as retry_one, ready, waited}
+use Rattle.xa_switch.specs.Completing.CompletesAny.{nothing as nothing_kept, retry as retry_any, least}
+use Rattle.xa_switch.proofs.Kept.{quiet_same, known_here}
+use Rattle.xa_grammar.specs.declared.step.Calling.TheVariants as calling
+use Rattle.xa_grammar.specs.Steps.{ScriptCalling, ScriptCalled}
+use Rattle.xa_transcript.specs.declared.answer.Answer.{Answer}
+use Rattle.xa_transcript.specs.declared.answer.Answer.TheVariants as answer
+use Rattle.xa_transcript.specs.declared.answer.Answer.TheVariants.{Called as shown}
+use Rattle.xa_session.specs.Calling.{HasListed, completed, Answers}
+use Rattle.xa_telling.specs.Wants.{Wanted, wanted, wanted_by, wanted_in, refusals, IsRefusal}
+use Rattle.xa_telling.specs.Wants.Wanted.{code_of, handle_for, completion, listing}
+use Rattle.xa_telling.proofs.Ledgers.{kept_at, ledgers_at, Stays, stays_same, HasAsked, has_asked, HasTaken, has_taken, has_redeemed}
+
+-- What a call does to its desk, if it is no xa_recover.
+pub data Does (q : ScriptCalled) (a : Answer) (old new : DeskView) : Type 0 where
+  -- its manager is asked, and it answers the code
+  answered : (o : Op) (c : Code) → wanted_in q ≡ code_of o → a ≡ shown (number_of c) → HasAsked q.manager o c old new → Does q a old new
+  -- its request is sent, and it answers a handle that was free, under which the request is kept
+  kept : (o : Op) (k : ℕ) → wanted_in q ≡ handle_for o → 1 ≤ k → a ≡ shown (pos k) → finmap.get old.kept k ≡ None → IsKnown old.ledgers q.manager
+      → new.ledgers ≡ after_sent old.ledgers q.manager o → new.kept ≡ finmap.insert old.kept k (next_operation old.ledgers q.manager) → Does q a old new
+  -- nothing is done, and it answers why
+  refused : (c : Code) → IsRefusal (wanted_in q) c → a ≡ shown (number_of c) → Stays old new → Does q a old new
+  -- what was kept under a handle is collected, and it answers both
+  completes : (o : Operation) (k : ℕ) (c : Code) → wanted_in q ≡ completion → a ≡ answer.Completed (pos k) (number_of c) → HasTaken o k c old new
+      → Does q a old new
+
+-- What any call does to its desk and its scan.
+pub data CallDoes (q : ScriptCalled) (a : Answer) (old : DeskView) (z : ScanView) (new : DeskView) (z' : ScanView) : Type 0 where
+  plain : z' ≡ z → Does q a old new → CallDoes q a old z new z'
+  lists : (n : ℕ) → wanted_in q ≡ listing n → HasListed q n old z new z' a → CallDoes q a old z new z'
+
+-- ---- refusals, by what holds: the manager is known (k), it is learnt to be shut (s), it takes asynchronous calls (ca),
+-- no handle is free (fh), no request is left (sp)
+
+abbrev reach_by : (k s : Bool) → Option Refused
+reach_by k s = if not k then Some NoSuchManager else if s then Some Shut else None
+
+abbrev async_by : Bool → Option Code
+async_by ca = if ca then None else Some Async
+
+abbrev spent_by : Bool → Option Refused
+spent_by sp = if sp then Some Spent else None
+
+abbrev submit_by : (k s fh sp : Bool) → Option Refused
+submit_by k s fh sp = option_or (reach_by k s) (option_or (if fh then Some TooMany else None) (spent_by sp))
+
+-- each is among those that there are
+module _ (c : Code) where
+  among : (b : Bool) (d : Code) → Some d ≡ Some c → Contains (refusals b) d → Contains (refusals b) c
+  among b d e there = subst (Contains (refusals b)) (some_same d c e) there
+
+  called_in : (k s sp : Bool) → option_map to_code (option_or (reach_by k s) (spent_by sp)) ≡ Some c → Contains (refusals false) c
+  called_in false s sp e = among false Inval e (0, omega arith, refl)
+  called_in true true sp e = among false RmFail e (1, omega arith, refl)
+  called_in true false true e = among false RmErr e (2, omega arith, refl)
+  called_in true false false e = absurd (cc)
+
+  put_later_in : (k s ca fh sp : Bool)
+      → option_or (option_map to_code (reach_by k s)) (option_or (async_by ca) (option_map to_code (submit_by k s fh sp))) ≡ Some c → Contains (refusals true) c
+  put_later_in false s ca fh sp e = among true Inval e (0, omega arith, refl)
+  put_later_in true true ca fh sp e = among true RmFail e (1, omega arith, refl)
+  put_later_in true false false fh sp e = among true Async e (3, omega arith, refl)
+  put_later_in true false true true sp e = among true Async e (3, omega arith, refl)
+  put_later_in true false true false true e = among true RmErr e (2, omega arith, refl)
+  put_later_in true false true false false e = absurd (cc)
+
+pub is_refusal : (old : DeskView) (n : ℕ) (b : Bool) (c : Code) → put_refusal old n b ≡ Some c → Contains (refusals b) c
+is_refusal old n false c e = called_in c (is_known old.ledgers n) (learnt_shut (ledger old.ledgers n)) _ e
+is_refusal old n true c e = put_later_in c (is_known old.ledgers n) (learnt_shut (ledger old.ledgers n)) (ledger old.ledgers n).carries_async _ _ e
+
+-- ---- a call that puts something
+
+-- what is asked for, where TMASYNC is there or not
+abbrev asks : Bool → Op → Wanted
+asks b o = if b then handle_for o else code_of o
+
+-- where that may be refused
+refusal_by : (b : Bool) (o : Op) (c : Code) → Contains (refusals b) c → IsRefusal (asks b o) c
+refusal_by true o c is = is
+refusal_by false o c is = is
+
+puts_do : (q : ScriptCalled) (old new : DeskView) (a : Answer) (n : ℤ) (asked : _) → Puts old q.manager asked new n
+    → asks asked.asynchronous asked.op ≡ wanted_in q → a ≡ shown n → Does q a old new
+puts_do q old new a n asked (put_refused c why of same) e told =
+    refused c (subst (λ r. IsRefusal r c) e (refusal_by asked.asynchronous asked.op c (is_refusal old q.manager asked.asynchronous c why)))
+    (told ∙ ap (λ z. shown z) of) (stays_same old new same)
+puts_do q old new a n asked (full why async of same) e told =
+    refused Async (subst (λ r. IsRefusal r Async) (ap (λ b. asks b asked.op) (sym async) ∙ e) (3, omega arith, refl)) (told ∙ ap (λ z. shown z) of)
+    (ap ledgers_at same, ap kept_at same)
+puts_do q old new a n asked (put_kept why async k of is same) e told =
+    kept asked.op k (sym e ∙ ap (λ b. asks b asked.op) async) is.positive (told ∙ ap (λ z. shown z) of) is.free
+    (known_here old q.manager asked.asynchronous why) (ap ledgers_at same) (ap kept_at same)
+puts_do q old new a n asked (put_answered why async times c of is) e told =
+    answered asked.op c (sym e ∙ ap (λ b. asks b asked.op) async) (told ∙ ap (λ z. shown z) of)
+    (has_asked times q.manager asked.asynchronous old asked.op new c why is)
+
+calls_do : (q : ScriptCalled) (old new : DeskView) (a : Answer) (n : ℤ) (r : Result _ Code) → Calls r old q.manager new n
+    → wanted r (λ asked. asked.op) (λ asked. asked.asynchronous) ≡ wanted_in q → a ≡ shown n → Does q a old new
+calls_do q old new a n (Ok asked) is e told = puts_do q old new a n asked is e told
+calls_do q old new a n (Err c) is e told = refused c (subst (λ r. IsRefusal r c) e refl) (told ∙ ap (λ z. shown z) is.0) (stays_same old new is.1)
+
+-- ---- an xa_complete
+
+-- what came of it: XA_OK is no reason
+data Comes (old new : DeskView) (collected : Result (ℕ × Code) Code) : Type 0 where
+  took : (o : Operation) (k : ℕ) (c : Code) → collected ≡ Ok (k, c) → HasTaken o k c old new → Comes old new collected
+  left : (why : Code) → collected ≡ Err why → Contains (Inval ∷ Proto ∷ Retry ∷ []) why → int_eq (number_of why) (pos 0) ≡ false → Stays old new
+      → Comes old new collected
+
+one_comes : (old : DeskView) (k : Option ℕ) (m : ℕ) (nowait : Bool) (new : DeskView) (r : Result (ℕ × Code) Code) → CompletesOne old k m nowait new r
+    → Comes old new r
+one_comes old k m nowait new r (unknown missing told e) = left Inval told (0, omega arith, refl) refl (stays_same old new e)
+one_comes old k m nowait new r (retry_one j is there way told quiet unready) = left Retry told (2, omega arith, refl) refl (quiet_same old new quiet)
+one_comes old k m nowait new r (ready j c is there way told takes) =
+    let looks = takes.looks.rest in
+    took takes.takes.operation j c told (has_taken old takes.before new j c (ap ledgers_at looks, ap kept_at looks) takes.takes)
+one_comes old k m nowait new r (waited j c is there way told takes) = took takes.operation j c told (has_redeemed old new j c takes)
+
+any_comes : (old : DeskView) (m : ℕ) (nowait : Bool) (new : DeskView) (r : Result (ℕ × Code) Code) → CompletesAny old m nowait new r → Comes old new r
+any_comes old m nowait new r (nothing_kept empty told e) = left Proto told (1, omega arith, refl) refl (stays_same old new e)
+any_comes old m nowait new r (retry_any j there way told quiet unready) = left Retry told (2, omega arith, refl) refl (quiet_same old new quiet)
+any_comes old m nowait new r (least j c told takes) =
+    took takes.takes.operation j c told (has_taken old takes.before new j c (quiet_same old takes.before takes.quiet) takes.takes)
+
+at_comes : (may multiple nowait : Bool) (old : DeskView) (k : Option ℕ) (m : ℕ) (new : DeskView) (r : Result (ℕ × Code) Code)
+    → CompletesAt may multiple nowait old k m new r → Comes old new r
+at_comes false multiple nowait old k m new r is = left Inval is.0 (0, omega arith, refl) refl (stays_same old new is.1)
+at_comes true true nowait old k m new r is = any_comes old m nowait new r is
+at_comes true false nowait old k m new r is = one_comes old k m nowait new r is
+
+by_comes : (b : Bool) (mode : Mode) (old : DeskView) (k : Option ℕ) (m : ℕ) (new : DeskView) (r : Result (ℕ × Code) Code)
+    → CompletesBy (if b then Ok mode else Err Inval) old k m new r → Comes old new r
+by_comes true mode old k m new r is = at_comes (may_complete old m mode.multiple) mode.multiple mode.nowait old k m new r is
+by_comes false mode old k m new r is = left Inval is.0 (0, omega arith, refl) refl (stays_same old new is.1)
+
+completes_do : (q : ScriptCalled) (old new : DeskView) (a : Answer) (h h' r' n : ℤ) (collected : Result (ℕ × Code) Code) → completion ≡ wanted_in q
+    → Comes old new collected → Tells collected h (pos 0) h' r' n → a ≡ completed h' r' n → Does q a old new
+completes_do q old new a h h' r' n collected e (took o k c ok is) tells told =
+    let t = subst (λ r. Tells r h (pos 0) h' r' n) ok tells in
+    completes o k c (sym e) (told ∙ (λ i. completed (t.0 i) (t.1.0 i) (t.1.1 i))) is
+completes_do q old new a h h' r' n collected e (left why err among bad stays) tells told =
+    let t = subst (λ r. Tells r h (pos 0) h' r' n) err tells in
+    refused why (subst (λ r. IsRefusal r why) e among)
+    (told ∙ ap (λ z. completed h' r' z) t.1.1 ∙ ap (λ b. if b then answer.Completed h' r' else shown (number_of why)) bad) stays
+
+-- ---- a call of a line
+
+pub answers_do : (x : ScriptCalling) (q : ScriptCalled) → wanted_by x q.flags ≡ wanted_in q → (old new : DeskView) (z z' : ScanView) (a : Answer)
+    → Answers x q old z new z' a → CallDoes q a old z new z'
+answers_do (calling.Xa c x) q e old new z z' a (is, still) = plain still (calls_do q old new a is.answer _ is.calls e is.shown)
+answers_do (calling.Heur x commits) q e old new z z' a (is, still) = plain still (calls_do q old new a is.answer _ is.calls e is.shown)
+answers_do (calling.Add k d) q e old new z z' a (is, still) = plain still (calls_do q old new a is.answer _ is.calls e is.shown)
+answers_do calling.Shut q e old new z z' a (is, still) = plain still (calls_do q old new a is.answer _ is.calls e is.shown)
+answers_do (calling.Recover n) q e old new z z' a is = lists n (sym e) is
+answers_do (calling.Complete h) q e old new z z' a (is, still) =
+    plain still (completes_do q old new a h is.handle is.retval is.answer is.completes.collected e
+    (by_comes (has_only (bits_of call.Complete) q.flags && go_together call.Complete q.flags) (mode_of q.flags) old (number_in h) q.manager new is.completes.collected is.completes.completes) is.completes.tells is.shown)
