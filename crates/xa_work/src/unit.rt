@@ -223,45 +223,6 @@ fn commit<R: Wait, L: DecisionLog, I: Idle>(
     }
 }
 
-// Does a unit of work, and dies at this point of its commit, if at any.
-fn carry_out<R: Wait, L: DecisionLog, I: Idle>(
-    rt: &R,
-    alloc: Global,
-    desk: &mut Desk,
-    log: &mut L,
-    branches: &[Branch],
-    changes: &[Change],
-    death: Option<Death>,
-    idle: &mut I,
-) -> Result<WorkOutcome, AllocError>
-    ensures goes_on { GoesOn desk.old desk.new }
-    ensures kept { AllKept desk.old → AllKept desk.new }
-    ensures idled { I.leads idle.old idle.new }
-    ensures named { HaveSent (NamesOnly branches.now) desk.old.ledgers desk.new.ledgers }
-    ensures transacts { IfOk result (λ o. Transacts branches.now changes.now death o desk.old desk.new
-        (L.state log.old) (L.knows log.old) (L.state log.new)) }
-    ensures known { IfOk result (λ o. L.knows log.old → LeavesKnown (L.knows log.new) o) }
-    ensures lost { IfOk result (IfLost (Loses L.loses branches.now log.old log.new)) }
-    ensures wants { OnErr result (IsGivenUp branches.now changes.now desk.old desk.new (L.state log.old)) }
-    ensures unlogged { OnErr result (log.new ≡ log.old) }
-{
-    desks_go_on();
-    idles_go_on::<I>();
-    if !may_begin(desk, log, branches, changes) {
-        return Ok(WorkOutcome::Refused(Refusal::NotBegun));
-    }
-    let worked = work(rt, alloc, desk, branches, changes, idle);
-    if !worked || !may_commit(desk, log, branches) {
-        give_up(rt, desk, branches, idle);
-        return Ok(WorkOutcome::Refused(Refusal::GivenUp));
-    }
-    let Ok(outcome) = commit(rt, alloc, desk, log, branches, death, idle) else {
-        give_up(rt, desk, branches, idle);
-        return Err(AllocError);
-    };
-    Ok(outcome)
-}
-
 /// Does a unit of work: starts each branch, makes the changes at its manager in their order, and ends it; then commits
 /// all branches.
 ///
@@ -303,11 +264,11 @@ pub fn transact<R: Wait, L: DecisionLog, I: Idle>(
     ensures wants { OnErr result (IsGivenUp branches.now changes.now desk.old desk.new (L.state log.old)) }
     ensures unlogged { OnErr result (log.new ≡ log.old) }
 {
-    carry_out(rt, alloc, desk, log, branches, changes, None, idle)
+    transact_until(rt, alloc, desk, log, branches, changes, None, idle)
 }
 
-/// The same by a coordinator that dies at this point of the commit, as `commit_until` dies. Where it comes to no commit
-/// it lives on.
+/// The same by a coordinator that dies at this point of the commit, if at any, as `commit_until` dies. Where it comes to
+/// no commit it lives on.
 pub fn transact_until<R: Wait, L: DecisionLog, I: Idle>(
     rt: &R,
     alloc: Global,
@@ -315,19 +276,33 @@ pub fn transact_until<R: Wait, L: DecisionLog, I: Idle>(
     log: &mut L,
     branches: &[Branch],
     changes: &[Change],
-    death: Death,
+    death: Option<Death>,
     idle: &mut I,
 ) -> Result<WorkOutcome, AllocError>
     ensures goes_on { GoesOn desk.old desk.new }
     ensures kept { AllKept desk.old → AllKept desk.new }
     ensures idled { I.leads idle.old idle.new }
     ensures named { HaveSent (NamesOnly branches.now) desk.old.ledgers desk.new.ledgers }
-    ensures transacts { IfOk result (λ o. Transacts branches.now changes.now (Some death) o desk.old desk.new
+    ensures transacts { IfOk result (λ o. Transacts branches.now changes.now death o desk.old desk.new
         (L.state log.old) (L.knows log.old) (L.state log.new)) }
     ensures known { IfOk result (λ o. L.knows log.old → LeavesKnown (L.knows log.new) o) }
     ensures lost { IfOk result (IfLost (Loses L.loses branches.now log.old log.new)) }
     ensures wants { OnErr result (IsGivenUp branches.now changes.now desk.old desk.new (L.state log.old)) }
     ensures unlogged { OnErr result (log.new ≡ log.old) }
 {
-    carry_out(rt, alloc, desk, log, branches, changes, Some(death), idle)
+    desks_go_on();
+    idles_go_on::<I>();
+    if !may_begin(desk, log, branches, changes) {
+        return Ok(WorkOutcome::Refused(Refusal::NotBegun));
+    }
+    let worked = work(rt, alloc, desk, branches, changes, idle);
+    if !worked || !may_commit(desk, log, branches) {
+        give_up(rt, desk, branches, idle);
+        return Ok(WorkOutcome::Refused(Refusal::GivenUp));
+    }
+    let Ok(outcome) = commit(rt, alloc, desk, log, branches, death, idle) else {
+        give_up(rt, desk, branches, idle);
+        return Err(AllocError);
+    };
+    Ok(outcome)
 }

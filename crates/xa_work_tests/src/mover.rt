@@ -79,7 +79,7 @@ fn make<R: Wait, L: DecisionLog, I: Idle>(
     ];
     match one.death {
         None => transact(rt, alloc, desk, log, &branches, &changes, idle).ok(),
-        Some(at) => transact_until(rt, alloc, desk, log, &branches, &changes, at, idle).ok(),
+        death => transact_until(rt, alloc, desk, log, &branches, &changes, death, idle).ok(),
     }
 }
 

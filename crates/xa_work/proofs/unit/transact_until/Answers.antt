@@ -9,8 +9,8 @@ use Rattle.xa_work.proofs.Comes.{comes_named}
 use Rattle.xa_work.proofs.Named.{all_among, gives_up_sent, tries_sent}
 use Rattle.xa_work.proofs.Sent.{have_as, have_none, have_on}
 use Rattle.xa_work.proofs.Tried.{room_known, tried_works}
-use Rattle.xa_work.proofs.unit.carry_out.Goals as goal
-use Rattle.xa_work.proofs.unit.carry_out.Goals.{then-not-worked-via-then-not-worked, then-not-worked-via-else-not-worked+then-not-may_commit}
+use Rattle.xa_work.proofs.unit.transact_until.Goals as goal
+use Rattle.xa_work.proofs.unit.transact_until.Goals.{then-not-worked-via-then-not-worked, then-not-worked-via-else-not-worked+then-not-may_commit}
 
 pub returns-then-not-may_begin-clause-transacts : goal.returns-then-not-may_begin-clause-transacts
 returns-then-not-may_begin-clause-transacts g c =
