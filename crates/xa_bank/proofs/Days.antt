@@ -41,7 +41,7 @@ module _ {L : Type 0} (state : L → LogState) (knows : L → Type 0) (loses : T
     (r : IsRun (Works state knows loses) (planned p) tellers attended s) (sound : IsSound p)
     (whole : All EndsWhole attended) where
   abbrev TellerAt : ℕ → Type 0
-  TellerAt k = MemberAt (Works state knows loses) (length p.managers.items) tellers attended s k
+  TellerAt k = MemberAt (Works state knows loses) (planned p) tellers attended s k
 
   few : p.threads < 2 ^ 32
   few = let most = sound.limits.threads.1 in omega (arith, most)

@@ -60,17 +60,18 @@ goes_thread old new goes = ap (λ (q : DeskSeat). q.thread) goes.seat
 -- ---- the members
 
 -- thread k + 1 of a run, with the client at place k
-pub record MemberAt {C : Type 0} (works : C → DeskView → C → DeskView → Type 0) (managers : ℕ) (clients : List C) (attended : List (Attended C))
+pub record MemberAt {C : Type 0} (works : C → DeskView → C → DeskView → Type 0) (p : Setup) (clients : List C) (attended : List (Attended C))
     (s : Settling) (k : ℕ) : Type 0 where
   pub member : Member C
   pub left : DeskView
   pub client_at : slice_get clients k ≡ Some member.client
   pub attended_at : slice_get attended k ≡ Some member.attended
   pub thread : member.desk.thread ≡ k + 1
+  pub fresh : IsNewDesk p k member.desk
   pub nothing : NothingWasSent member.desk.ledgers
   pub worked : works member.client member.desk member.attended.client left
   pub end : HaveSent Never left.ledgers (ledgers_of s (k + 1))
-  pub many : length (ledgers_of s (k + 1)) ≡ managers
+  pub many : length (ledgers_of s (k + 1)) ≡ p.managers
 
 module _ {C : Type 0} (works : C → DeskView → C → DeskView → Type 0) (p : Setup) (clients : List C) (attended : List (Attended C)) (s : Settling)
     (r : IsRun works p clients attended s) where
@@ -110,7 +111,7 @@ module _ {C : Type 0} (works : C → DeskView → C → DeskView → Type 0) (p 
       ∙ ap ledgers_in (find_numbered (λ (q : ThreadPart). q.thread) 0 parts numbered_ k (thread_part mb.ended)
       (got_map thread_part (map (λ (t : Member C). t.ended) r.members) k mb.ended (got_map (λ (t : Member C). t.ended) r.members k mb at)))
 
-  pub member_at : (k : ℕ) → k < p.numbers.threads → MemberAt works p.managers clients attended s k
+  pub member_at : (k : ℕ) → k < p.numbers.threads → MemberAt works p clients attended s k
   member_at k below =
       let count = many_members in
       let (mb, at) = got r.members k (omega (arith, below, count)) in
@@ -125,6 +126,7 @@ module _ {C : Type 0} (works : C → DeskView → C → DeskView → Type 0) (p 
         client_at = ap (λ (l : List C). slice_get l k) r.clients_are ∙ got_map (λ (t : Member C). t.client) r.members k mb at;
         attended_at = ap (λ (l : List (Attended C)). slice_get l k) r.attended_are ∙ got_map (λ (t : Member C). t.attended) r.members k mb at;
         thread = ap (λ (d : DeskView). d.thread) fresh.made;
+        fresh = fresh;
         nothing = nothing_sent p k mb.desk fresh;
         worked = run.worked;
         end = subst (HaveSent Never run.left.ledgers) (sym last) (numbers_sent (run.left, []) _ (run.ends.emptied, mb.attended.outstanding.items) run.ends.collects);

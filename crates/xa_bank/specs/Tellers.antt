@@ -1,5 +1,5 @@
 -- What a teller comes to.
-use Rattle.std.specs.Prelude.{◌≡◌, ℕ, ◌+◌, ◌-◌, Bool, true, false, None, List, [], ◌∷◌, ◌++◌, length}
+use Rattle.std.specs.Prelude.{◌≡◌, ℕ, ◌+◌, ◌-◌, ◌^◌, nat_lt, Bool, true, false, ◌&&◌, None, List, [], ◌∷◌, ◌++◌, length}
 use Rattle.std.specs.List.{All, list_any}
 use Rattle.xa_words.specs.Tran.{TranName}
 use Rattle.xa_words.specs.declared.death.Death.{Death}
@@ -9,6 +9,7 @@ use Rattle.xa_switch.specs.Scans.{ScanView}
 use Rattle.xa_crew.specs.declared.client_job.Attended.{Attended}
 use Rattle.xa_driver.specs.declared.done.Ending.{Ending}
 use Rattle.xa_log.specs.Log.{IsReadAs, LogState}
+use Rattle.xa_atomicity.specs.Cut.{is_recorded}
 use Rattle.xa_atomicity.specs.Outcomes.{is_heuristic, is_in_doubt}
 use Rattle.xa_work.specs.declared.unit.WorkOutcome.{WorkOutcome}
 use Rattle.xa_work.specs.declared.unit.WorkOutcome.TheVariants.{Decided, Died, Refused, Undecided}
@@ -16,7 +17,7 @@ use Rattle.xa_work.specs.Units.{LeavesKnown, is_last}
 use Rattle.xa_bank.specs.declared.habits.Habits.{Habits}
 use Rattle.xa_bank.specs.declared.teller.Teller.{Teller}
 use Rattle.xa_bank.specs.declared.teller.Transfer.{Transfer}
-use Rattle.xa_bank.specs.Transfers.{MakesAll}
+use Rattle.xa_bank.specs.Transfers.{MakesAll, tran_named}
 
 -- the habits of a teller that counts from 0, lives, shuts no store, and keeps its records
 abbrev pub plain : Habits
@@ -64,6 +65,22 @@ has_undecided t = list_any is_undecided t.outcomes.items
 -- the number of the last transfer that it made
 abbrev pub last_number : {L : Type 0} → Teller L → ℕ
 last_number t = t.habits.first + length t.outcomes.items - 1
+
+-- the log has the record of thread t's transfer of number n; it has none of one whose number is too great
+abbrev pub has_record_of : LogState → ℕ → ℕ → Bool
+has_record_of log t n = nat_lt n (2 ^ 32) && is_recorded log (tran_named t n)
+
+-- The log of thread t's teller was opened again, once, where nobody knows of a transfer whether its record was made,
+-- and then looked up for that record; any other is as it was. Nothing was found where nothing was looked for.
+pub record ReadsBack {L : Type 0} (state : L → LogState) (knows : L → Type 0)
+    (loses : TranName → List Bool → L → L → Type 0) (reopens : L → L → Type 0) (t : ℕ) (teller : Teller L) (log : L)
+    (found : Bool) : Type 0 where
+  pub once : has_undecided teller ≡ true → reopens teller.log log
+  pub same : has_undecided teller ≡ false → log ≡ teller.log
+  pub read : knows log → IsReadAs state knows loses teller.log (state log)
+  pub finds : knows log → has_undecided teller ≡ true → found ≡ has_record_of (state log) t (last_number teller)
+  pub nothing : has_undecided teller ≡ false → found ≡ false
+  pub unread : (knows log → ⊥) → found ≡ false
 
 -- in an opening that was opened again it works as in the first, and its scan of what was left stays
 pub record WorksOn {L : Type 0} (state : L → LogState) (knows : L → Type 0)

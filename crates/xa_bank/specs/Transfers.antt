@@ -98,13 +98,6 @@ pub data Makes (t n : ℕ) (tr : Transfer) (habits : Habits) (o : WorkOutcome) (
   without_legs : o ≡ Refused NotBegun → HasNoLegs n tr → new ≡ old → later ≡ log
       → Makes t n tr habits o old new log later MayRead
 
--- What comes of thread t's transfer of number n where memory was wanted: it is given up.
-pub record WantsMemory (t n : ℕ) (tr : Transfer) (old new : DeskView) (log : LogState) : Type 0 where
-  pub one : Leg
-  pub two : Leg
-  pub legs : AreLegs t n tr one two
-  pub given_up : IsGivenUp (branches_of one two) (changes_of one two tr.account) old new log
-
 -- it may shut a store: this one, if any
 abbrev pub MayShut : Option ℕ → DeskView → DeskView → Type 0
 MayShut None old new = new ≡ old
@@ -117,7 +110,16 @@ pub record MakesNext (t n : ℕ) (tr : Transfer) (habits : Habits) (o : WorkOutc
   pub shuts : MayShut (shut_before habits n) old shut
   pub makes : Makes t n tr habits o shut new log later MayRead
 
--- so for as many of these transfers as there are outcomes, one after the other, with numbers from n on
+-- What comes of it where memory was wanted: it is given up.
+pub record WantsMemory (t n : ℕ) (tr : Transfer) (habits : Habits) (old new : DeskView) (log : LogState) : Type 0 where
+  pub shut : DeskView
+  pub shuts : MayShut (shut_before habits n) old shut
+  pub one : Leg
+  pub two : Leg
+  pub legs : AreLegs t n tr one two
+  pub given_up : IsGivenUp (branches_of one two) (changes_of one two tr.account) shut new log
+
+-- so for as many transfers as there are outcomes, one after the other, with numbers from n on
 abbrev pub MakesEach : ℕ → Habits → ℕ → List Transfer → List WorkOutcome → DeskView → DeskView → LogState
     → LogState → (LogState → Type 0) → Type 0
 MakesEach t habits n [] [] old new log later MayRead = (new ≡ old) × (later ≡ log)

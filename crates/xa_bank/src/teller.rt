@@ -1,13 +1,12 @@
 //! What a teller does: transfers, one after the other, each as one unit of work.
 ghost use Rattle.std.specs.Prelude.{◌≡◌, ◌+◌, ℤ, ◌≤ℤ◌, neg_ℤ, pos, [], length, false, IfOk, MatchOption, None, OnErr};
-ghost use Rattle.std.specs.Prelude.{◌-◌, ◌^◌, ◌<◌, OnOk, Some};
+ghost use Rattle.std.specs.Prelude.{◌<◌, OnOk, Some};
 ghost use Rattle.xa_desk.specs.GoesOn.{GoesOn};
 ghost use Rattle.xa_desk.specs.Kept.{AllKept};
-ghost use Rattle.xa_atomicity.specs.Cut.{is_recorded};
 ghost use Rattle.xa_log.specs.Log.{IsReadAs};
 ghost use Rattle.xa_work.specs.Units.{IfLost, IsGivenUp, LeavesKnown};
-ghost use Rattle.xa_bank.specs.Tellers.{HasMade, has_undecided, last_number, plain};
-ghost use Rattle.xa_bank.specs.Transfers.{AreLegs, HasNoLegs, IsLeg, Makes, Transfers, WantsMemory, branches_of};
+ghost use Rattle.xa_bank.specs.Tellers.{HasMade, ReadsBack, has_record_of, has_undecided, last_number, plain};
+ghost use Rattle.xa_bank.specs.Transfers.{AreLegs, HasNoLegs, IsLeg, Transfers, WantsMemory, branches_of};
 ghost use Rattle.xa_bank.specs.Transfers.{IsReadEither, MakesNext, MayShut, change_of, changes_of, forgotten, gtrid_of};
 ghost use Rattle.xa_bank.specs.Transfers.{tran_named};
 
@@ -22,7 +21,7 @@ use xa_driver::{Branch, forget_acknowledged};
 use xa_log::{DecisionLog, MemoryLog, ReopenLog};
 use xa_switch::{Scan, native};
 use xa_words::{Death, Delta, Key, RmOp, TMNOFLAGS, Tran, Xid};
-use xa_work::{Change, Refusal, WorkOutcome, open_all, transact, transact_until};
+use xa_work::{Change, Refusal, WorkOutcome, open_all, transact_until};
 
 /// An amount that goes from an account at one store to the account of that name at another.
 #[derive(Clone, Copy, Debug, PartialEq, Eq)]
@@ -158,10 +157,7 @@ fn carry_out<R: Wait, L: DecisionLog, I: Idle>(
 {
     let branches = [one.branch, two.branch];
     let changes = [one.change(account), two.change(account)];
-    match death {
-        None => transact(rt, alloc, desk, log, &branches, &changes, idle),
-        Some(at) => transact_until(rt, alloc, desk, log, &branches, &changes, at, idle),
-    }
+    transact_until(rt, alloc, desk, log, &branches, &changes, death, idle)
 }
 
 // Forgets the record of a transfer that came to this, where every store has acknowledged it.
@@ -174,43 +170,6 @@ fn forget_made<L: DecisionLog>(log: &mut L, tran: &Tran, outcome: &WorkOutcome)
     if let WorkOutcome::Decided(done) = outcome {
         forget_acknowledged(log, tran, done);
     }
-}
-
-// Makes the transfer of this number, or dies with it, as the teller's habits have it. It fails only for want of memory.
-fn make<R: Wait, L: DecisionLog, I: Idle>(
-    rt: &R,
-    alloc: Global,
-    desk: &mut Desk,
-    log: &mut L,
-    number: usize,
-    transfer: &Transfer,
-    habits: &Habits,
-    idle: &mut I,
-) -> Result<WorkOutcome, AllocError>
-    requires { L.knows log.old }
-    ensures goes_on { GoesOn desk.old desk.new }
-    ensures kept { AllKept desk.old → AllKept desk.new }
-    ensures idled { I.leads idle.old idle.new }
-    ensures makes { IfOk result (λ o. Makes desk.old.thread number transfer.now habits.now o desk.old desk.new
-        (L.state log.old) (L.state log.new) (IsReadAs L.state L.knows L.loses log.new)) }
-    ensures known { IfOk result (LeavesKnown (L.knows log.new)) }
-    ensures wants { OnErr result (WantsMemory desk.old.thread number transfer.now desk.old desk.new
-        (L.state log.old)) }
-    ensures unlogged { OnErr result (log.new ≡ log.old) }
-{
-    desks_go_on();
-    idles_go_on::<I>();
-    let Some((one, two)) = legs_of(desk.thread(), number, transfer) else {
-        return Ok(WorkOutcome::Refused(Refusal::NotBegun));
-    };
-    let account = transfer.account;
-    let death = habits.death_in(number);
-    let outcome = carry_out(rt, alloc, desk, log, &one, &two, account, death, idle)?;
-    if !habits.forgets {
-        return Ok(outcome);
-    }
-    forget_made(log, &one.branch.xid.tran(), &outcome);
-    Ok(outcome)
 }
 
 // Shuts this store, if any.
@@ -227,8 +186,9 @@ fn shut<R: Wait, I: Idle>(rt: &R, desk: &mut Desk, store: Option<u32>, idle: &mu
     }
 }
 
-// Shuts the store that the teller shuts before its transfer of this number, if any, and makes the transfer.
-fn make_next<R: Wait, L: DecisionLog, I: Idle>(
+// Makes the transfer of this number, or dies with it, as the teller's habits have it. Before that it shuts the store that
+// they have it shut there, if any. It fails only for want of memory.
+fn make<R: Wait, L: DecisionLog, I: Idle>(
     rt: &R,
     alloc: Global,
     desk: &mut Desk,
@@ -245,11 +205,24 @@ fn make_next<R: Wait, L: DecisionLog, I: Idle>(
     ensures makes { IfOk result (λ o. MakesNext desk.old.thread number transfer.now habits.now o desk.old desk.new
         (L.state log.old) (L.state log.new) (IsReadAs L.state L.knows L.loses log.new)) }
     ensures known { IfOk result (LeavesKnown (L.knows log.new)) }
+    ensures wants { OnErr result (WantsMemory desk.old.thread number transfer.now habits.now desk.old desk.new
+        (L.state log.old)) }
+    ensures unlogged { OnErr result (log.new ≡ log.old) }
 {
     desks_go_on();
     idles_go_on::<I>();
     shut(rt, desk, habits.shut_before(number), idle);
-    make(rt, alloc, desk, log, number, transfer, habits, idle)
+    let Some((one, two)) = legs_of(desk.thread(), number, transfer) else {
+        return Ok(WorkOutcome::Refused(Refusal::NotBegun));
+    };
+    let account = transfer.account;
+    let death = habits.death_in(number);
+    let outcome = carry_out(rt, alloc, desk, log, &one, &two, account, death, idle)?;
+    if !habits.forgets {
+        return Ok(outcome);
+    }
+    forget_made(log, &one.branch.xid.tran(), &outcome);
+    Ok(outcome)
 }
 
 // Makes the transfers, until memory is refused, the teller dies or its log has lost a record. It makes none where the
@@ -281,7 +254,7 @@ fn make_all<R: Wait, L: DecisionLog, I: Idle>(
     open_all(rt, desk, idle);
     for (place, transfer) in transfers.iter().enumerate() {
         let number = habits.first as usize + place;
-        let outcome = make_next(rt, alloc, desk, log, number, transfer, habits, idle)?;
+        let outcome = make(rt, alloc, desk, log, number, transfer, habits, idle)?;
         let last = outcome.is_last();
         outcomes.push(outcome)?;
         if last {
@@ -372,8 +345,7 @@ impl<L: DecisionLog + Drop> Teller<L> {
     pub fn has_last_record(&self, thread: u32) -> bool
         requires made { 0 < length self.now.outcomes.items }
         requires known { L.knows self.now.log }
-        ensures { last_number self.now < 2 ^ 32
-            → result ≡ is_recorded (L.state self.now.log) (tran_named thread (last_number self.now)) }
+        ensures { result ≡ has_record_of (L.state self.now.log) thread (last_number self.now) }
     {
         let number = self.habits.first as usize + (self.outcomes.len() - 1);
         match u32::try_from(number) {
@@ -422,6 +394,20 @@ impl<L: ReopenLog + Drop> Teller<L> {
             outcomes,
             wants_memory,
         }
+    }
+
+    /// The same teller, with its log opened again where nobody knows of a transfer whether its record was made; and
+    /// whether the log, once it is known, has that record, as the log of the teller of this thread.
+    pub fn read_back(self, thread: u32) -> (Teller<L>, bool)
+        ensures reads_back { ReadsBack L.state L.knows L.loses L.reopens thread self result.0.log result.1 }
+        ensures same { result.0 ≡ record self { log = result.0.log } }
+    {
+        if !self.has_undecided() {
+            return (self, false);
+        }
+        let teller = self.with_log_reopened();
+        let found = teller.log().is_known() && teller.has_last_record(thread);
+        (teller, found)
     }
 }
 

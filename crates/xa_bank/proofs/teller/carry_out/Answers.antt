@@ -1,5 +1,5 @@
 use Rattle.std.specs.Prelude.{IfOk, Result}
-use Rattle.std.proofs.Common.{◌≡◌, ℕ, Bool, [], ◌∷◌, List, None, Option, Some, subst, sym}
+use Rattle.std.proofs.Common.{◌≡◌, ℕ, Bool, [], ◌∷◌, List, Option, subst}
 use Rattle.std.specs.declared.alloc.AllocError.{AllocError}
 use Rattle.std.proofs.lemmas.Result.{IfOk-weaker}
 use Rattle.xa_words.specs.Tran.{TranName}
@@ -31,28 +31,20 @@ transacts_known : {Known : Type 0} → Known → (bs : List Branch) (cs : List C
 transacts_known known bs cs death o old new log later (commits worked begins _ work comes) = commits worked begins tt work comes
 transacts_known known bs cs death o old new log later (refused same why sent) = refused same (refused_known known bs cs o old new log why) sent
 
--- a unit of work of these changes, by a death that is this one
-transfers_known : (Known : Type 0) → Known → (one two : Leg) (k : List ℕ) (cs : List Change) (death d : Option Death) (r : Result WorkOutcome AllocError)
-    (old new : DeskView) (log later : LogState) → cs ≡ changes_of one two k → death ≡ d
-    → IfOk r (λ o. Transacts (branches_of one two) cs d o old new log Known later) → IfOk r (λ o. Transfers one two k death o old new log later)
-transfers_known Known known one two k cs death d r old new log later changes dies =
-    IfOk-weaker r (λ o. Transacts (branches_of one two) cs d o old new log Known later) (λ o. Transfers one two k death o old new log later)
+-- a unit of work of these changes
+transfers_known : (Known : Type 0) → Known → (one two : Leg) (k : List ℕ) (cs : List Change) (death : Option Death) (r : Result WorkOutcome AllocError)
+    (old new : DeskView) (log later : LogState) → cs ≡ changes_of one two k
+    → IfOk r (λ o. Transacts (branches_of one two) cs death o old new log Known later) → IfOk r (λ o. Transfers one two k death o old new log later)
+transfers_known Known known one two k cs death r old new log later changes =
+    IfOk-weaker r (λ o. Transacts (branches_of one two) cs death o old new log Known later) (λ o. Transfers one two k death o old new log later)
     (λ o made.
-    subst (λ (e : Option Death). Transfers one two k e o old new log later) (sym dies)
-    (transacts_known known (branches_of one two) (changes_of one two k) d o old new log later
-    (subst (λ (l : List Change). Transacts (branches_of one two) l d o old new log Known later) changes made)))
+    transacts_known known (branches_of one two) (changes_of one two k) death o old new log later
+    (subst (λ (l : List Change). Transacts (branches_of one two) l death o old new log Known later) changes made))
 
-pub returns-in-None-clause-carried : goal.returns-in-None-clause-carried
-returns-in-None-clause-carried g c =
-    let none : c.args.death ≡ None = cc in
-    transfers_known (g.L.DecisionRecords.knows c.args.log.now) c.requires c.args.one.now c.args.two.now c.args.account _ c.args.death None c.transact.result c.args.desk.now c.transact.new.desk _ _
-    (λ i. c.change.ensures i ∷ c.change-2.ensures i ∷ []) none c.transact.ensures.transacts
-
-pub returns-in-Some-clause-carried : goal.returns-in-Some-clause-carried
-returns-in-Some-clause-carried g c =
-    let some : c.args.death ≡ Some c.in-Some.at = cc in
-    transfers_known (g.L.DecisionRecords.knows c.args.log.now) c.requires c.args.one.now c.args.two.now c.args.account _ c.args.death (Some c.in-Some.at) c.transact_until.result c.args.desk.now
-    c.transact_until.new.desk _ _ (λ i. c.change.ensures i ∷ c.change-2.ensures i ∷ []) some c.transact_until.ensures.transacts
+pub returns-clause-carried : goal.returns-clause-carried
+returns-clause-carried g c =
+    transfers_known (g.L.DecisionRecords.knows c.args.log.now) c.requires c.args.one.now c.args.two.now c.args.account _ c.args.death c.transact_until.result c.args.desk.now
+    c.transact_until.new.desk _ _ (λ i. c.change.ensures i ∷ c.change-2.ensures i ∷ []) c.transact_until.ensures.transacts
 
 -- ---- what a log that has lost the record may be read as
 
@@ -63,12 +55,7 @@ read_so state knows loses bs old new r was known lost =
     ok_each (λ o. knows old → LeavesKnown (knows new) o) (IfLost (Loses loses bs old new)) (IsReadEither (IsReadAs state knows loses new) bs (state old)) r
     (λ o still lost_. lost_so state knows loses bs old new o lost_ (still was)) known lost
 
-pub returns-in-None-clause-read : goal.returns-in-None-clause-read
-returns-in-None-clause-read g c =
-    read_so g.L.DecisionLog.state g.L.DecisionRecords.knows g.L.DecisionLog.loses (branches_of c.args.one.now c.args.two.now) c.args.log.now c.transact.new.log c.transact.result c.requires
-    c.transact.ensures.known c.transact.ensures.lost
-
-pub returns-in-Some-clause-read : goal.returns-in-Some-clause-read
-returns-in-Some-clause-read g c =
+pub returns-clause-read : goal.returns-clause-read
+returns-clause-read g c =
     read_so g.L.DecisionLog.state g.L.DecisionRecords.knows g.L.DecisionLog.loses (branches_of c.args.one.now c.args.two.now) c.args.log.now c.transact_until.new.log c.transact_until.result c.requires
     c.transact_until.ensures.known c.transact_until.ensures.lost

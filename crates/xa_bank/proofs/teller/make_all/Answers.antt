@@ -91,11 +91,11 @@ loop-place-preserved g c =
     let t : ℕ = c.args.desk.now.thread in
     let habits : Habits = c.args.habits.now in
     let log : LogState = g.L.DecisionLog.state c.args.log.now in
-    let later : LogState = g.L.DecisionLog.state c.make_next.new.log in
-    let reads : LogState → Type 0 = IsReadAs g.L.DecisionLog.state g.L.DecisionRecords.knows g.L.DecisionLog.loses c.make_next.new.log in
+    let later : LogState = g.L.DecisionLog.state c.make.new.log in
+    let reads : LogState → Type 0 = IsReadAs g.L.DecisionLog.state g.L.DecisionRecords.knows g.L.DecisionLog.loses c.make.new.log in
     let same : c.loop-place.desk.thread ≡ t = ap (λ (s : DeskSeat). s.thread) c.loop-place.invariant.goes_on.seat in
     let all =
-    one_made reads t place habits trs tr [] more o c.loop-place.desk.thread first c.loop-place.desk c.make_next.new.desk log (g.L.DecisionLog.state c.loop-place.log) later below many same (each_any (IsReadAs g.L.DecisionLog.state g.L.DecisionRecords.knows g.L.DecisionLog.loses c.loop-place.log) reads t habits habits.first (take place trs) more first c.loop-place.desk log (g.L.DecisionLog.state c.loop-place.log) none makes)
+    one_made reads t place habits trs tr [] more o c.loop-place.desk.thread first c.loop-place.desk c.make.new.desk log (g.L.DecisionLog.state c.loop-place.log) later below many same (each_any (IsReadAs g.L.DecisionLog.state g.L.DecisionRecords.knows g.L.DecisionLog.loses c.loop-place.log) reads t habits habits.first (take place trs) more first c.loop-place.desk log (g.L.DecisionLog.state c.loop-place.log) none makes)
     c.in_ok-outcome.ensures.makes in
     let taken : take (place + 1) trs ≡ take place trs ++ tr ∷ [] = one_more trs place tr below c.index-transfers-place.is in
     let size : length (more ++ o ∷ []) ≡ length more + 1 = length-append more (o ∷ []) in
@@ -103,15 +103,15 @@ loop-place-preserved g c =
     record {
       goes_on = search rules;
       kept = search rules;
-      idled = c.idles_go_on.ensures.further _ _ _ c.loop-place.invariant.idled c.make_next.ensures.idled;
-      knows = still_known (g.L.DecisionRecords.knows c.make_next.new.log) o lives c.in_ok-outcome.ensures.known;
+      idled = c.idles_go_on.ensures.further _ _ _ c.loop-place.invariant.idled c.make.ensures.idled;
+      knows = still_known (g.L.DecisionRecords.knows c.make.new.log) o lives c.in_ok-outcome.ensures.known;
       each = search rules;
       made = (
         more ++ o ∷ [],
         grown c.args.outcomes.now.items more o c.push.new.self.items c.loop-place.outcomes.items c.in_ok-push.ensures.items told,
         omega (arith, size, many),
         still_none more o none lives,
-        subst (λ (l : List Transfer). MakesEach t habits habits.first l (more ++ o ∷ []) first c.make_next.new.desk log later reads) (sym taken) all,
+        subst (λ (l : List Transfer). MakesEach t habits habits.first l (more ++ o ∷ []) first c.make.new.desk log later reads) (sym taken) all,
       );
     }
 
@@ -127,12 +127,12 @@ returns-then-last-clause-made g c =
     let t : ℕ = c.args.desk.now.thread in
     let habits : Habits = c.args.habits.now in
     let log : LogState = g.L.DecisionLog.state c.args.log.now in
-    let later : LogState = g.L.DecisionLog.state c.make_next.new.log in
-    let reads : LogState → Type 0 = IsReadAs g.L.DecisionLog.state g.L.DecisionRecords.knows g.L.DecisionLog.loses c.make_next.new.log in
+    let later : LogState = g.L.DecisionLog.state c.make.new.log in
+    let reads : LogState → Type 0 = IsReadAs g.L.DecisionLog.state g.L.DecisionRecords.knows g.L.DecisionLog.loses c.make.new.log in
     let rest : List Transfer = drop (place + 1) trs in
     let same : c.loop-place.desk.thread ≡ t = ap (λ (s : DeskSeat). s.thread) c.loop-place.invariant.goes_on.seat in
     let all =
-    one_made reads t place habits trs tr rest more o c.loop-place.desk.thread first c.loop-place.desk c.make_next.new.desk log (g.L.DecisionLog.state c.loop-place.log) later below many same (each_any (IsReadAs g.L.DecisionLog.state g.L.DecisionRecords.knows g.L.DecisionLog.loses c.loop-place.log) reads t habits habits.first (take place trs) more first c.loop-place.desk log (g.L.DecisionLog.state c.loop-place.log) none makes)
+    one_made reads t place habits trs tr rest more o c.loop-place.desk.thread first c.loop-place.desk c.make.new.desk log (g.L.DecisionLog.state c.loop-place.log) later below many same (each_any (IsReadAs g.L.DecisionLog.state g.L.DecisionRecords.knows g.L.DecisionLog.loses c.loop-place.log) reads t habits habits.first (take place trs) more first c.loop-place.desk log (g.L.DecisionLog.state c.loop-place.log) none makes)
     c.in_ok-outcome.ensures.makes in
     let taken : take (place + 1) trs ≡ take place trs ++ tr ∷ [] = one_more trs place tr below c.index-transfers-place.is in
     let parts : take place trs ++ tr ∷ rest ≡ trs =
@@ -144,7 +144,7 @@ returns-then-last-clause-made g c =
       makes = record {
         opened = first;
         opens = c.open_all.ensures.sent;
-        makes = subst (λ (l : List Transfer). MakesEach t habits habits.first l (more ++ o ∷ []) first c.make_next.new.desk log later reads) parts all;
+        makes = subst (λ (l : List Transfer). MakesEach t habits habits.first l (more ++ o ∷ []) first c.make.new.desk log later reads) parts all;
       };
       comes = ended more o whole none (sym c.is_last-last.ensures ∙ c.if-last.true) c.in_ok-outcome.ensures.known;
     }
@@ -176,7 +176,7 @@ pub returns-then-last-clause-each : goal.returns-then-last-clause-each
 returns-then-last-clause-each g c never known knows =
     let o : WorkOutcome = c.in_ok-outcome.outcome in
     let lives = lives_on _ _ _ _ o _ _ _ _ c.in_ok-outcome.ensures.makes.makes never in
-    absurd (last_is_lost (g.L.DecisionRecords.knows c.make_next.new.log) o (sym c.is_last-last.ensures ∙ c.if-last.true) lives c.in_ok-outcome.ensures.known knows)
+    absurd (last_is_lost (g.L.DecisionRecords.knows c.make.new.log) o (sym c.is_last-last.ensures ∙ c.if-last.true) lives c.in_ok-outcome.ensures.known knows)
 
 pub returns-clause-made : goal.returns-clause-made
 returns-clause-made g c =
