@@ -1,5 +1,6 @@
 //! The bytes of a line of a transcript. Where memory is refused, a part of the line may have been put.
-ghost use Rattle.std.specs.Prelude.{◌≡◌, ◌++◌, OnOk};
+ghost use Rattle.std.specs.Prelude.{◌≡◌, ◌++◌, OnOk, decimal};
+ghost use Rattle.std.specs.Fmt.{signed_decimal};
 ghost use Rattle.xa_transcript.specs.Text.{turn_text, handle_text, decision_text, record_text, ending_text};
 ghost use Rattle.xa_transcript.specs.Text.{endings_text, vote_text, votes_text, decided_text, done_text, known_text};
 ghost use Rattle.xa_transcript.specs.Text.{xid_text, listed_text, resolution_text};
@@ -18,6 +19,32 @@ pub(crate) fn put_number<I: Integer>(out: &mut Lines, number: I) -> Result<(), A
     ensures whole { out.new.whole ≡ out.old.whole }
 {
     out.extend(Buffer::new().format(number).as_bytes())
+}
+
+// A count. Most are one digit, which needs no buffer.
+#[inline(always)]
+#[tactic(auto, using(std::proofs::lemmas::Fmt::decimal_digit))]
+fn put_count(out: &mut Lines, count: u32) -> Result<(), AllocError>
+    ensures line { OnOk result (out.new.line ≡ out.old.line ++ decimal count) }
+    ensures whole { out.new.whole ≡ out.old.whole }
+{
+    if count < 10 {
+        return out.push(b'0' + count as u8);
+    }
+    put_number(out, count)
+}
+
+// What is answered: a code or a handle. Most are one digit here too.
+#[inline(always)]
+#[tactic(auto, using(std::proofs::lemmas::Fmt::decimal_digit))]
+fn put_signed(out: &mut Lines, number: i32) -> Result<(), AllocError>
+    ensures line { OnOk result (out.new.line ≡ out.old.line ++ signed_decimal number) }
+    ensures whole { out.new.whole ≡ out.old.whole }
+{
+    if 0 <= number && number < 10 {
+        return out.push(b'0' + number as u8);
+    }
+    put_number(out, number)
 }
 
 // What stands for a turn: did, late, end, empty or blocked.
@@ -41,7 +68,7 @@ fn put_handle<I: Integer>(out: &mut Lines, handle: I, retval: i32) -> Result<(),
     out.extend(b" handle ")?;
     put_number(out, handle)?;
     out.extend(b" retval ")?;
-    put_number(out, retval)
+    put_signed(out, retval)
 }
 
 // What stands for a decision: commit or abort.
@@ -213,7 +240,7 @@ fn put_answer(out: &mut Lines, answer: &Answer) -> Result<(), AllocError>
     ensures whole { out.new.whole ≡ out.old.whole }
 {
     match answer {
-        Answer::Called(answer) => put_number(out, *answer),
+        Answer::Called(answer) => put_signed(out, *answer),
         Answer::Completed { handle, retval } => {
             out.push(b'0')?;
             put_handle(out, *handle, *retval)
@@ -249,7 +276,7 @@ fn put_told(out: &mut Lines, told: &Told) -> Result<(), AllocError>
         } => {
             put_number(out, *line)?;
             out.push(b' ')?;
-            put_number(out, *thread)?;
+            put_count(out, *thread)?;
             out.push(b' ')?;
             put_answer(out, answer)
         }
@@ -264,7 +291,7 @@ fn put_told(out: &mut Lines, told: &Told) -> Result<(), AllocError>
             retval,
         } => {
             out.extend(b"end ")?;
-            put_number(out, *thread)?;
+            put_count(out, *thread)?;
             put_handle(out, *handle, *retval)
         }
         Told::Reopened { line } => {
