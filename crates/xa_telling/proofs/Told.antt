@@ -15,7 +15,6 @@ use Rattle.xa_desk.proofs.Ledgers.{nobody_sent}
 use Rattle.xa_desk.specs.Growth.{HaveGrown}
 use Rattle.xa_desk.specs.Kept.{AllKept}
 use Rattle.xa_switch.specs.Fates.{ledgers_of}
-use Rattle.xa_switch.proofs.Kept.{opened_kept}
 use Rattle.xa_desk.specs.LedgerView.{LedgerView}
 use Rattle.xa_desk.specs.DeskView.{DeskView, ledger, sent_to}
 use Rattle.xa_desk.specs.Ended.{EndedView}
@@ -45,12 +44,21 @@ use Rattle.xa_telling.proofs.Left.{HaveEnded, numbers_ended}
 use Rattle.xa_crew.specs.Ending.{EndsDesk}
 use Rattle.xa_words.specs.declared.code.Code.{Code}
 use Rattle.xa_desk.specs.declared.operation.Operation.{Operation}
-use Rattle.xa_base.proofs.Lists.{all_at, got, find_numbered, find_none, was_mapped}
+use Rattle.xa_base.proofs.Lists.{got, find_numbered, find_none, was_mapped}
 use Rattle.xa_telling.proofs.Opened.{opened_threads, opened_managers, opened_first, opened_thread}
 use Rattle.xa_telling.proofs.Entries.{Fits as Agrees, StandsAt, agreed_fits, no_entries}
 use Rattle.xa_telling.proofs.Branches.{fits, own as own_entries}
 use Rattle.xa_telling.proofs.Lines.{lines_in, tasks_in, answers_in, carried_all}
 use Rattle.xa_telling.proofs.Tasks.{tasks_are_of, no_tasks}
+
+-- where nothing was sent, nothing is outstanding, and so all of it is kept
+unsent_kept : (d : DeskView) → ((m : ℕ) → (ledger d.ledgers m).sent ≡ []) → AllKept d
+unsent_kept d unsent = record {
+  each = λ o out.
+      let sent = out.sent in
+      let size : length (ledger d.ledgers o.manager).sent ≡ 0 = ap (λ l. length l) (unsent o.manager) in
+      absurd (omega (arith, sent, size));
+}
 
 -- ---- as a thread goes on
 
@@ -218,10 +226,12 @@ module _ (s : Content) (b : Beginning) (steps : List ScriptStep) (answers : List
         let scan : x.scan ≡ b.scans (suc k) = begins.scan ∙ ap b.scans next in
         let left_so = are_left settled is x.desk.thread y.0.desk e.0 c.outstanding c.ends ended_so in
         let new = new_desk_at k x at in
+        let fresh : (m : ℕ) → (ledger x.desk.ledgers m).sent ≡ [] = λ m.
+        ap (λ (l : List LedgerView). (ledger l m).sent) (made k x at) ∙ fresh_sent setup.numbers.requests setup.use_async (m - 1) in
         let chain =
-        carried_all settled is x.desk.thread (x, []) (λ m. ap (λ (l : List LedgerView). (ledger l m).sent) (made k x at) ∙ fresh_sent setup.numbers.requests setup.use_async (m - 1))
+        carried_all settled is x.desk.thread (x, []) fresh
         (λ m. ap (λ (l : List LedgerView). (ledger l m).collected) (made k x at) ∙ fresh_collected setup.numbers.requests setup.use_async (m - 1)) (ap (λ (d : DeskView). d.kept) new.made)
-        (all_at AllKept (map (λ (x : Session). x.desk) sessions) k x.desk (opened_kept setup (map (λ (x : Session). x.desk) sessions) workers r.opened.opened) (desk_at k x at)) begins.known
+        (unsent_kept x.desk fresh) begins.known
         tasks last c.runs (tasks_are_of x.desk.thread steps) (subst (HaveGrown y.0.desk.ledgers) (sym (ended_so ∙ c.ends.ends.ledgers)) c.ends.goes_on.lists) left_so.1 in
         subst (λ (u : ℕ). (c : AreCarriedOut steps answers settled u (part_at b (suc k))) × (c.log ≡ log_left b left (suc k))) t (
           record {
