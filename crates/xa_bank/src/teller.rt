@@ -186,8 +186,8 @@ fn shut<R: Wait, I: Idle>(rt: &R, desk: &mut Desk, store: Option<u32>, idle: &mu
     }
 }
 
-// Makes the transfer of this number, or dies with it, as the teller's habits have it. Before that it shuts the store that
-// they have it shut there, if any. It fails only for want of memory.
+// Shuts the store that the teller's habits have it shut before its transfer of this number, if any. Then it makes the
+// transfer, or dies with it, as they have it. It fails only for want of memory.
 fn make<R: Wait, L: DecisionLog, I: Idle>(
     rt: &R,
     alloc: Global,

@@ -28,7 +28,7 @@ use Rattle.xa_switch.specs.Worth.{accounts_in, accounts_of, managers_of, plan_wo
 use Rattle.xa_bank.specs.declared.teller.Transfer.{Transfer}
 use Rattle.xa_bank_days.specs.Days.{balances_at}
 use Rattle.xa_bank_days.specs.Ledger.{all_applied}
-use Rattle.xa_bank_days.specs.Kept.{IsWithin}
+use Rattle.xa_bank_days.specs.Banks.{IsWithin}
 use Rattle.xa_bank_days.proofs.Shares.{all_applied_is, counts_for}
 
 -- ---- sums that have one part

@@ -136,11 +136,11 @@ module _ (L : Type 0) (state : L → LogState) (knows : L → Type 0) (loses : T
       → (k : ℕ) × (k < later) × IsNamed (i + 1) k tran.gtrid
   own i log tran at on =
       let within = slice_get_within logs i log at in
-      let sizes = (as_many state knows loses 1 news logs founds back).0 in
+      let sizes = (as_many (IsReadBack state knows loses) 1 news logs founds back).0 in
       let many = is_day.many in
       let new = got news i (omega (arith, within, sizes)) in
       let old = got olds i (omega (arith, within, sizes, many)) in
-      let b = back_at state knows loses 1 i news logs founds back new.0 new.1 in
+      let b = back_at (IsReadBack state knows loses) 1 i news logs founds back new.0 new.1 in
       let z = told_all i old.0 b.teller old.1 b.teller_at in
       let w = went state knows loses s n (i + 1) old.0 b.teller b.log b.found (is_day.each i old.0 b.teller old.1 b.teller_at) z
       (subst (λ u. IsReadBack state knows loses u b.teller b.log b.found) (let e : 1 + i ≡ i + 1 = omega arith in e) b.back) (all_at knows logs i b.log known b.log_at) in

@@ -1,6 +1,7 @@
 -- What tellers come to over stores that are opened again.
 use Rattle.std.specs.Prelude.{option_map}
-use Rattle.std.proofs.Common.{Vec, ◌≡◌, ℕ, ◌+◌, ◌^◌, ◌<◌, ◌≤◌, ⊎_elim, Bool, true, false, List, [], ◌∷◌, length, map, slice_get, Some, inl, inr, sym, refl, ap}
+use Rattle.std.proofs.Common.{◌≡◌, ℕ, ◌+◌, ◌%◌, ◌^◌, ◌<◌, ◌≤◌, ⊎_elim, Bool, true, false, ◌||◌, List, [], ◌∷◌, length, map, slice_get, Some, inl, inr, sym}
+use Rattle.std.proofs.Common.{refl, ap}
 use Rattle.std.proofs.Common.{◌∙◌, subst}
 use Rattle.std.proofs.Common.{arith}
 use Rattle.std.specs.List.{All, list_any}
@@ -14,31 +15,27 @@ use Rattle.xa_words.specs.Tran.{TranName}
 use Rattle.xa_tables.specs.Tables.{Tables}
 use Rattle.xa_desk.specs.DeskView.{DeskView}
 use Rattle.xa_switch.specs.declared.plan.Again.{Again}
-use Rattle.xa_switch.specs.Again.{IsWhole, managers_in, reopened_at, reopening}
+use Rattle.xa_switch.specs.Again.{IsWhole, MayReopen, managers_in, reopened_at, reopening}
 use Rattle.xa_switch.specs.Fates.{first_of}
 use Rattle.xa_switch.specs.OfPlans.{IsOf}
+use Rattle.xa_switch.specs.Plans.{IsWithinLimits}
 use Rattle.xa_switch.specs.Settling.{ManagerPart, Settling}
 use Rattle.xa_switch.proofs.Journaled.{begun}
 use Rattle.xa_log.specs.Log.{LogState}
 use Rattle.xa_atomicity.proofs.Scanned.{was_there}
 use Rattle.xa_crew.specs.declared.again.WithScan.{WithScan}
 use Rattle.xa_crew.specs.declared.client_job.Attended.{Attended}
-use Rattle.std.specs.Global.{Global}
-use Rattle.xa_crew.specs.declared.again.AgainFault.{AgainFault}
-use Rattle.xa_crew.specs.declared.again.AgainFault.TheVariants.{Unopened}
-use Rattle.xa_crew.specs.Again.{AgainWorks, IfUnopened, IsRunAgain, WorksWithScan}
+use Rattle.xa_crew.specs.Again.{AgainWorks, IsRunAgain, WorksWithScan}
 use Rattle.xa_crew.specs.Run.{Member}
 use Rattle.xa_bank.specs.declared.teller.Teller.{Teller}
 use Rattle.xa_bank.specs.Tellers.{Works, WorksOn}
 use Rattle.xa_bank.proofs.Members.{MemberAt, member_at, nobody_else}
-use Rattle.xa_bank_days.specs.declared.days.Bank.{Bank}
-use Rattle.xa_bank_days.specs.declared.days.Stop.{Stop}
-use Rattle.xa_bank_days.specs.declared.days.Stop.TheVariants.{Day}
+use Rattle.xa_bank_days.specs.declared.bank.Bank.{Bank}
 use Rattle.xa_bank_days.specs.Days.{BeginsWith, IsDayOf, WorkedIn}
-use Rattle.xa_bank_days.specs.declared.days.Closed.{Closed}
-use Rattle.xa_bank_days.specs.declared.days.Errands.{Errands}
-use Rattle.xa_bank_days.specs.declared.days.Worked.{Worked}
-use Rattle.xa_bank_days.specs.Kept.{AreTurned, HasWorked, IsWorkedDay, LeavesBank, StopsDay}
+use Rattle.xa_bank_days.specs.declared.day.Closed.{Closed}
+use Rattle.xa_bank_days.specs.declared.errands.Errands.{Errands}
+use Rattle.xa_bank_days.specs.declared.day.Worked.{Worked}
+use Rattle.xa_bank_days.specs.Banks.{AreTurned, HasWorked, IsDay, IsWorkedDay, next_numbers}
 
 -- lists that are mapped to one list are as long
 pub same_length : {A B C : Type 0} (f : A → C) (g : B → C) (xs : List A) (ys : List B) → map f xs ≡ map g ys → length xs ≡ length ys
@@ -56,12 +53,17 @@ many_attended {C} works s again clients attended next z =
     ∙ sym (length-map z.run.members (λ (t : Member (WithScan C)). t.desk)) ∙ z.run.opened.threads
 
 -- nobody wants memory
-pub none_wants : {L : Type 0} (clients : List (Attended (WithScan (Teller L)))) → list_any (λ a. a.client.client.wants_memory) clients ≡ false
-    → All (λ (t : Teller L). t.wants_memory ≡ false) (map (λ a. a.client.client) clients)
+pub none_wants : {L : Type 0} (tellers : List (Teller L)) → list_any (λ t. t.wants_memory) tellers ≡ false
+    → All (λ (t : Teller L). t.wants_memory ≡ false) tellers
 none_wants {L} [] e = All-nil (λ (t : Teller L). t.wants_memory ≡ false)
-none_wants {L} (a ∷ rest) e =
-    let parts = or_parts a.client.client.wants_memory (list_any (λ (b : Attended (WithScan (Teller L))). b.client.client.wants_memory) rest) e in
-    All-cons (λ (t : Teller L). t.wants_memory ≡ false) a.client.client (map (λ (b : Attended (WithScan (Teller L))). b.client.client) rest) parts.0 (none_wants rest parts.1)
+none_wants {L} (t ∷ rest) e =
+    let parts = or_parts t.wants_memory (list_any (λ (u : Teller L). u.wants_memory) rest) e in
+    All-cons (λ (u : Teller L). u.wants_memory ≡ false) t rest parts.0 (none_wants rest parts.1)
+
+-- one of those that are mapped
+pub any_mapped : {A B : Type 0} (f : B → Bool) (g : A → B) (xs : List A) → list_any (λ x. f (g x)) xs ≡ list_any f (map g xs)
+any_mapped f g [] = refl
+any_mapped f g (x ∷ xs) = ap (λ b. f (g x) || b) (any_mapped f g xs)
 
 -- ---- the stores
 
@@ -99,7 +101,7 @@ module _ {L : Type 0} (state : L → LogState) (knows : L → Type 0) (loses : T
   worked_at : (k : ℕ) (old new : Teller L) → slice_get olds k ≡ Some old → slice_get news k ≡ Some new → WorkedIn state knows loses day (k + 1) old new
   worked_at k old new old_at new_at =
       let within = slice_get_within olds k old old_at in
-      let at : MemberAt OnDay (reopening s again).managers z.given attended day k =
+      let at : MemberAt OnDay (reopening s again) z.given attended day k =
       member_at OnDay (reopening s again) z.given attended day z.run k (omega (arith, within, many)) in
       let first : at.member.client.client ≡ old =
       some_same at.member.client.client old
@@ -126,34 +128,38 @@ module _ {L : Type 0} (state : L → LogState) (knows : L → Type 0) (loses : T
         (⊎_elim (λ (low : t < 1). inl low) (λ (high : length olds < t). inr (omega (arith, high, many))) outside) m;
   }
 
--- ---- the day
+-- ---- the night's numbers
 
-abbrev pub worked_day : {L : Type 0} (state : L → LogState) (knows : L → Type 0) (loses : TranName → List Bool → L → L → Type 0) (b : Bank L) (given errands : List Errands) (c : Closed) (b' : Bank L) (turned : List (Teller L))
-    (day : Worked L) → given ≡ errands → AreTurned b.next b.tellers.items errands turned → length given < 2 ^ 32 → HasWorked state knows loses b.settled turned day → (day.wanting ≡ true → b'.settled ≡ day.settled) → c.outcomes ≡ day.outcomes → c.found ≡ day.found
-    → b'.tellers ≡ day.tellers → b.next ≤ b'.next → All (λ e. b.next + length e.transfers.items ≤ b'.next) given → IsWorkedDay state knows loses b errands c b'
-worked_day state knows loses b given errands c b' turned day same are_turned many works stays told found tellers later next = record {
-  turned = turned;
-  are_turned = are_turned;
-  many = let e = ap (λ (l : List Errands). length l) same in omega (arith, e, many);
-  day = day;
-  works = works;
-  stays = stays;
-  told_ = told;
-  found_ = found;
-  tellers = tellers;
-  later = later;
-  next = subst (All (λ (e : Errands). b.next + length e.transfers.items ≤ b'.next)) same next;
+-- where the day's numbers were good, so are the night's
+pub night_opens : (s : Settling) (again : Again) → IsWhole s → IsWithinLimits again (managers_in s) → s.opening ≡ again.opening
+    → MayReopen s (next_numbers again 1)
+night_opens s again whole limits opening_ = record {
+  limits = record { threads = (omega arith, omega arith); managers = whole.few; handles = limits.handles; queue = limits.queue; requests = limits.requests };
+  own = λ same. let e : (again.opening + 1) % 2 ^ 64 ≡ again.opening = same ∙ opening_ in omega (arith, e);
 }
 
--- ---- where the stores weren't opened
+-- ---- the day
 
-pub leaves_bank : {L : Type 0} (state : L → LogState) (knows : L → Type 0) (loses : TranName → List Bool → L → L → Type 0) (b : Bank L) (errands : List Errands)
-    (stop : Stop L) → StopsDay state knows loses b.settled stop → LeavesBank state knows loses b errands stop
-leaves_bank state knows loses b errands (Day fault) leaves = leaves
-leaves_bank state knows loses b errands stop leaves = absurd leaves
+module _ {L : Type 0} (state : L → LogState) (knows : L → Type 0) (loses : TranName → List Bool → L → L → Type 0) (reopens : L → L → Type 0) (b : Bank L)
+    (given errands : List Errands) (c : Closed) (turned : List (Teller L)) (day : Worked L) (same : given ≡ errands) (are_turned : AreTurned b.next b.tellers.items errands turned)
+    (many : length given < 2 ^ 32) (works : HasWorked state knows loses reopens b.settled turned day) (told : c.outcomes ≡ day.outcomes) (found : c.found ≡ day.found) where
+  abbrev pub is_day_of : IsDay state knows loses reopens b errands c
+  is_day_of = record {
+    turned = turned;
+    are_turned = are_turned;
+    many = let e = ap (λ (l : List Errands). length l) same in omega (arith, e, many);
+    day = day;
+    works = works;
+    told_ = told;
+    found_ = found;
+  }
 
-pub as_it_was : {L : Type 0} (s : Settling) (clients : Vec (Teller L) Global) (fault : AgainFault (Teller L))
-    → IfUnopened (λ u. (u.settled ≡ s) × (u.clients ≡ clients)) fault
-    → IfUnopened (λ u. u.settled ≡ s) fault
-as_it_was s clients (Unopened u) same = same.0
-as_it_was s clients fault same = tt
+  abbrev pub worked_day : (b' : Bank L) → (day.wanting ≡ true → b'.settled ≡ day.settled) → b'.tellers ≡ day.tellers → b.next ≤ b'.next
+      → All (λ e. b.next + length e.transfers.items ≤ b'.next) given → IsWorkedDay state knows loses reopens b errands c b'
+  worked_day b' stays tellers later next = record {
+    is_day = is_day_of;
+    stays = stays;
+    tellers = tellers;
+    later = later;
+    next = subst (All (λ (e : Errands). b.next + length e.transfers.items ≤ b'.next)) same next;
+  }

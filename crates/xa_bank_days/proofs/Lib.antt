@@ -13,6 +13,7 @@ pub mod Together
 pub mod DayLaw
 pub mod DawnLaw
 pub mod Reached
+pub mod Rooms
 pub mod Nightly
 pub mod AllLogs
 pub mod Turned

@@ -1,6 +1,6 @@
 -- Days one after the other.
-use Rattle.std.proofs.Common.{◌≡◌, Bool, true, Option, None, Some, Vec, List, [], ◌∷◌, ◌++◌, refl, subst}
-use Rattle.std.specs.Prelude.{IfOk, IfSome, MatchOption, Result, Ok, Err}
+use Rattle.std.proofs.Common.{◌≡◌, Bool, true, Vec, List, [], ◌∷◌, ◌++◌, refl, subst}
+use Rattle.std.specs.Prelude.{IfErr, IfOk, MatchResult, Result, Ok, Err}
 use Rattle.std.specs.Global.{Global}
 use Rattle.std.specs.List.{All}
 use Rattle.xa_base.proofs.Lists.{all_mid}
@@ -8,42 +8,45 @@ use Rattle.xa_words.specs.Tran.{TranName}
 use Rattle.xa_tables.specs.History.{is_done}
 use Rattle.xa_log.specs.Log.{LogState}
 use Rattle.xa_driver.specs.declared.resolved.Resolved.{Resolved}
-use Rattle.xa_bank_days.specs.declared.days.Bank.{Bank}
-use Rattle.xa_bank_days.specs.declared.days.Closed.{Closed}
-use Rattle.xa_bank_days.specs.declared.days.Errands.{Errands}
-use Rattle.xa_bank_days.specs.Kept.{AreKept, AreOver, HasEnded, early, whole, IsKept, IsKeptDay, IsOver}
-
-pub if_some : {A : Type 0} {P Q : A → Type 0} (o : Option A) → ((z : A) → P z → Q z) → IfSome o P → IfSome o Q
-if_some None so p = tt
-if_some (Some z) so p = so z p
+use Rattle.xa_bank_days.specs.declared.bank.Bank.{Bank}
+use Rattle.xa_bank_days.specs.declared.day.Closed.{Closed}
+use Rattle.xa_bank_days.specs.declared.errands.Errands.{Errands}
+use Rattle.xa_bank_days.specs.declared.night.Unresolved.{Unresolved}
+use Rattle.xa_bank_days.specs.Banks.{AreClosed, AreOver, HasEnded, early, whole, IsClosed, IsClosedDay, IsOver}
 
 pub if_ok : {A B : Type 0} {P Q : A → Type 0} (o : Result A B) → ((z : A) → P z → Q z) → IfOk o P → IfOk o Q
 if_ok (Ok z) so p = so z p
 if_ok (Err e) so p = tt
 
-module _ {L : Type 0} (state : L → LogState) (knows : L → Type 0) (loses : TranName → List Bool → L → L → Type 0) where
-  -- a day that is over was kept
-  pub kept_day : (b : Bank L) (errands : List Errands) (c : Closed) (b' : Bank L)
-      → IfSome c.resolved (λ z. IsKept state knows loses b errands c z.outcomes.items b')
-      → IsOver c → IsKeptDay state knows loses b errands c b'
-  kept_day b errands c b' = by c.resolved
+pub if_err : {A B : Type 0} {P Q : B → Type 0} (o : Result A B) → ((e : B) → P e → Q e) → IfErr o P → IfErr o Q
+if_err (Ok z) so p = tt
+if_err (Err e) so p = so e p
+
+module _ {L : Type 0} (state : L → LogState) (knows : L → Type 0) (loses : TranName → List Bool → L → L → Type 0) (reopens : L → L → Type 0) where
+  -- a day that is over was closed
+  pub closed_day : (b : Bank L) (errands : List Errands) (c : Closed) (b' : Bank L)
+      → IfOk c.resolved (λ z. IsClosed state knows loses reopens b errands c z.outcomes.items b')
+      → IsOver c → IsClosedDay state knows loses reopens b errands c b'
+  closed_day b errands c b' = by c.resolved
     where
-      by : (o : Option Resolved) → IfSome o (λ z. IsKept state knows loses b errands c z.outcomes.items b')
-          → MatchOption o ⊥ (λ z. All (λ q. is_done q.code ≡ true) z.outcomes.items) → IsKeptDay state knows loses b errands c b'
-      by None kept over = absurd over
-      by (Some z) kept over = record { outcomes = z.outcomes.items; ended = over; kept = kept }
+      by : (o : Result Resolved Unresolved) → IfOk o (λ z. IsClosed state knows loses reopens b errands c z.outcomes.items b')
+          → MatchResult o (λ z. All (λ q. is_done q.code ≡ true) z.outcomes.items) (λ why. ⊥) → IsClosedDay state knows loses reopens b errands c b'
+      by (Err why) closed over = absurd over
+      by (Ok z) closed over = record { outcomes = z.outcomes.items; ended = over; closed = closed }
 
   -- a day more
   pub one_day_more : (b : Bank L) (ds : List (Vec Errands Global)) (cs : List Closed) (mid : Bank L) (d : Vec Errands Global) (c : Closed) (last : Bank L)
-      → AreKept state knows loses b ds cs mid → IsKeptDay state knows loses mid d.items c last → AreKept state knows loses b (ds ++ d ∷ []) (cs ++ c ∷ []) last
-  one_day_more b [] [] mid d c last same one = (last, subst (λ (q : Bank L). IsKeptDay state knows loses q d.items c last) same one, refl)
+      → AreClosed state knows loses reopens b ds cs mid → IsClosedDay state knows loses reopens mid d.items c last
+      → AreClosed state knows loses reopens b (ds ++ d ∷ []) (cs ++ c ∷ []) last
+  one_day_more b [] [] mid d c last same one = (last, subst (λ (q : Bank L). IsClosedDay state knows loses reopens q d.items c last) same one, refl)
   one_day_more b [] (x ∷ cs) mid d c last wrong one = absurd wrong
   one_day_more b (x ∷ ds) [] mid d c last wrong one = absurd wrong
   one_day_more b (x ∷ ds) (y ∷ cs) mid d c last all one = (all.0, all.1, one_day_more all.0 ds cs mid d c last all.2 one)
 
-  -- days that are all over were kept
-  pub ended_kept : (b : Bank L) (ds : List (Vec Errands Global)) (cs : List Closed) (b' : Bank L) → HasEnded state knows loses b ds cs b' → AreOver ds cs
-      → AreKept state knows loses b ds cs b'
-  ended_kept b ds cs b' (whole kept) over = kept
-  ended_kept b ds cs b' (early before d rest earlier c mid parts closed kept worked open_) over =
+  -- days that are all over were closed
+  pub ended_closed : (b : Bank L) (ds : List (Vec Errands Global)) (cs : List Closed) (b' : Bank L) → HasEnded state knows loses reopens b ds cs b'
+      → AreOver ds cs
+      → AreClosed state knows loses reopens b ds cs b'
+  ended_closed b ds cs b' (whole all) over = all
+  ended_closed b ds cs b' (early before d rest earlier c mid parts closed up_to worked open_) over =
       absurd (open_ (all_mid IsOver earlier [] c (subst (All IsOver) closed over.each)))

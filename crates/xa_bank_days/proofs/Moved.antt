@@ -22,13 +22,14 @@ use Rattle.xa_atomicity.specs.Resolution.{ResolveCall}
 use Rattle.xa_bank.specs.declared.habits.Habits.{Habits}
 use Rattle.xa_bank.specs.declared.teller.Teller.{Teller}
 use Rattle.xa_bank.specs.declared.teller.Transfer.{Transfer}
-use Rattle.xa_bank_days.specs.declared.days.Bank.{Bank}
-use Rattle.xa_bank_days.specs.declared.days.Closed.{Closed}
-use Rattle.xa_bank_days.specs.declared.days.Errands.{Errands}
+use Rattle.xa_bank_days.specs.declared.bank.Bank.{Bank}
+use Rattle.xa_bank_days.specs.declared.day.Closed.{Closed}
+use Rattle.xa_bank_days.specs.declared.errands.Errands.{Errands}
 use Rattle.xa_bank_days.specs.Days.{AreReadBack, AreToldAll, BeginsWith, IsDawn, IsDayOf, IsResolvedBy, all_told, balances_at, balances_of, records_of, told}
-use Rattle.xa_bank_days.specs.Kept.{AreKept, HasWorked, IsKept, IsMovedBy, IsReady, habits_on, has_account, told_on, told_over}
+use Rattle.xa_bank_days.specs.Banks.{AreClosed, HasWorked, IsClosed, IsMovedBy, IsReady, habits_on, has_account, told_on, told_over}
 use Rattle.xa_bank_days.specs.Ledger.{Balances, all_applied, applied, share}
-use Rattle.xa_bank_days.proofs.DayWorked.{same_length}
+use Rattle.xa_bank_days.proofs.Back.{are_read_back}
+use Rattle.xa_bank_days.proofs.DayWorked.{none_wants, same_length}
 
 -- ---- the abstract machine
 
@@ -87,7 +88,7 @@ all_theirs {A} {B} P f g xs ys e all =
 
 -- ---- a day
 
-module _ {L : Type 0} (state : L → LogState) (knows : L → Type 0) (loses : TranName → List Bool → L → L → Type 0)
+module _ {L : Type 0} (state : L → LogState) (knows : L → Type 0) (loses : TranName → List Bool → L → L → Type 0) (reopens : L → L → Type 0)
     (applies : (s : Settling) (again : Again) (q : ResolveCall) (next : Settling) (olds news : List (Teller L)) (logs : List L) (founds : List Bool) (stores n : ℕ)
     (first : ℕ → Tables) (m : ℕ) (account : List ℕ)
     → IsDayOf state knows loses s olds news → BeginsWith s stores first → length olds < 2 ^ 32 → AreToldAll n olds news
@@ -100,8 +101,8 @@ module _ {L : Type 0} (state : L → LogState) (knows : L → Type 0) (loses : T
     → All (λ r. is_done r.code ≡ true) q.outcomes → n ≤ later
     → All (λ t. t.habits.first + length t.transfers.items ≤ later) olds → IsDawn state stores later (reopened_at next.managers) logs) where
   module _ (b : Bank L) (errands : List Errands) (c : Closed) (outcomes : List Outcome) (b' : Bank L)
-      (z : IsKept state knows loses b errands c outcomes b') where
-    abbrev w : HasWorked state knows loses b.settled z.turned z.day
+      (z : IsClosed state knows loses reopens b errands c outcomes b') where
+    abbrev w : HasWorked state knows loses reopens b.settled z.turned z.day
     w = z.works
 
     abbrev n : ℕ
@@ -116,6 +117,9 @@ module _ {L : Type 0} (state : L → LogState) (knows : L → Type 0) (loses : T
     -- their logs in the night, which were known
     abbrev logs : List L
     logs = map (λ (t : Teller L). t.log) z.day.tellers.items
+
+    back : AreReadBack state knows loses 1 w.worked logs z.day.found.items
+    back = are_read_back state knows loses reopens 1 w.worked logs z.day.found.items w.logs
 
     known : All knows logs
     known = All-map knows (λ (t : Teller L). t.log) z.day.tellers.items z.night.known
@@ -135,7 +139,7 @@ module _ {L : Type 0} (state : L → LogState) (knows : L → Type 0) (loses : T
           begins = all_at (λ (t : Teller L). t.outcomes.items ≡ []) z.turned k old z.are_turned.none old_at;
           counts = omega (arith, first);
           keeps = turned.1;
-          memory = all_at (λ (t : Teller L). t.wants_memory ≡ false) w.worked k new (w.memory z.wants) new_at;
+          memory = all_at (λ (t : Teller L). t.wants_memory ≡ false) w.worked k new (none_wants w.worked (sym w.wants ∙ z.wants)) new_at;
         }
 
     resolved : IsResolvedBy (records_of state logs) z.day.settled b'.again z.night.call b'.settled
@@ -167,7 +171,7 @@ module _ {L : Type 0} (state : L → LogState) (knows : L → Type 0) (loses : T
       next_dawn : IsDawn state (managers_in b.settled) b'.next (reopened_at b'.settled.managers) logs
       next_dawn =
           dawns z.day.settled b'.again z.night.call b'.settled z.turned w.worked logs z.day.found.items (managers_in b.settled) n b'.next (reopened_at b.settled.managers) w.is_day w.begins
-          told_all w.logs known dawn resolved (subst (All (λ (o : Outcome). is_done o.code ≡ true)) (sym z.night.listed) ended) z.later ends_at
+          told_all back known dawn resolved (subst (All (λ (o : Outcome). is_done o.code ≡ true)) (sym z.night.listed) ended) z.later ends_at
 
       stores : managers_in b'.settled ≡ managers_in b.settled
       stores = z.stores ∙ w.stores
@@ -184,7 +188,7 @@ module _ {L : Type 0} (state : L → LogState) (knows : L → Type 0) (loses : T
         accounts = account;
         balances = λ m k up there.
             applies z.day.settled b'.again z.night.call b'.settled z.turned w.worked logs z.day.found.items (managers_in b.settled) n (reopened_at b.settled.managers) m k w.is_day w.begins few
-            told_all w.logs known dawn resolved up there
+            told_all back known dawn resolved up there
             ∙ ap (λ (es : List (Transfer × Bool)). all_applied es (balances_at b.settled) m k) told_so;
         ready =
             subst (λ (p : ℕ × List L). IsDawn state p.0 b'.next (reopened_at b'.settled.managers) p.1)
@@ -193,7 +197,8 @@ module _ {L : Type 0} (state : L → LogState) (knows : L → Type 0) (loses : T
 
   -- ---- many days
 
-  pub days_move : (b : Bank L) (ds : List (Vec Errands Global)) (cs : List Closed) (b' : Bank L) → AreKept state knows loses b ds cs b' → IsReady state b
+  pub days_move : (b : Bank L) (ds : List (Vec Errands Global)) (cs : List Closed) (b' : Bank L) → AreClosed state knows loses reopens b ds cs b'
+      → IsReady state b
       → IsMovedBy state (told_over ds cs) b b'
   days_move b [] [] b' same ready =
       subst (λ (q : Bank L). IsMovedBy state [] b q) (sym same) (record { stores = refl; accounts = λ m k up. refl; balances = λ m k up there. refl; ready = ready })
@@ -201,7 +206,7 @@ module _ {L : Type 0} (state : L → LogState) (knows : L → Type 0) (loses : T
   days_move b (d ∷ ds) [] b' wrong ready = absurd wrong
   days_move b (d ∷ ds) (c ∷ cs) b' all ready =
       let mid : Bank L = all.0 in
-      let one = day_moves b d.items c all.1.outcomes mid all.1.kept ready all.1.ended in
+      let one = day_moves b d.items c all.1.outcomes mid all.1.closed ready all.1.ended in
       let rest = days_move mid ds cs b' all.2 one.ready in
       let es : List (Transfer × Bool) = told_on d.items c.outcomes.items c.found.items in
       let up_there = λ (m : ℕ) (up : IsUpTo (managers_in b.settled) m). subst (λ (j : ℕ). IsUpTo j m) (sym one.stores) up in

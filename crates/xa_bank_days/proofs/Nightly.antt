@@ -1,6 +1,6 @@
 -- The one client of a night resolves what was left, and nothing else was done in its opening.
-use Rattle.std.specs.Prelude.{IfSome, MatchOption, None}
-use Rattle.std.proofs.Common.{◌≡◌, ◌≢◌, ℕ, zero, suc, ◌+◌, ◌<◌, ◌≤◌, ◌⊎◌, ⊎_elim, true, false, Option, Some, List, [], ◌∷◌, ◌++◌, length, length-append, map}
+use Rattle.std.specs.Prelude.{Err, IfErr, IfOk, Ok, Result}
+use Rattle.std.proofs.Common.{◌≡◌, ◌≢◌, ℕ, zero, suc, ◌+◌, ◌<◌, ◌≤◌, ◌⊎◌, ⊎_elim, true, false, Some, List, [], ◌∷◌, ◌++◌, length, length-append, map}
 use Rattle.std.proofs.Common.{get_or, slice_get, inl, inr}
 use Rattle.std.proofs.Common.{append-nil, sym, refl, ap, ◌∙◌, subst, arith}
 use Rattle.std.specs.List.{All}
@@ -19,7 +19,7 @@ use Rattle.xa_tables.specs.Tables.{Tables}
 use Rattle.xa_desk.specs.LedgerView.{LedgerView, is_rm_fail, learnt_shut}
 use Rattle.xa_desk.specs.DeskView.{DeskView, ledger}
 use Rattle.xa_switch.specs.declared.plan.Again.{Again}
-use Rattle.xa_switch.specs.Again.{IsWhole, reopened_at, reopening}
+use Rattle.xa_switch.specs.Again.{IsWhole, MayReopen, reopened_at, reopening}
 use Rattle.xa_switch.specs.Fates.{first_of, history, ledgers_of}
 use Rattle.xa_switch.specs.OfPlans.{IsOf}
 use Rattle.xa_switch.specs.Recovery.{IsScanOf}
@@ -28,7 +28,7 @@ use Rattle.xa_switch.specs.Settling.{Settling, IsSettled, sent}
 use Rattle.xa_log.specs.Log.{LogState, Records}
 use Rattle.xa_driver.specs.declared.resolved.Outcome.{Outcome}
 use Rattle.xa_driver.specs.declared.resolved.Resolved.{Resolved}
-use Rattle.xa_driver.specs.Resolving.{IsTraceOfResolve}
+use Rattle.xa_driver.specs.Resolving.{IsTraceOfResolve, MayResolve}
 use Rattle.xa_driver.proofs.Mapped.{Asks}
 use Rattle.xa_atomicity.specs.Outcomes.{IsBetween}
 use Rattle.xa_atomicity.specs.Resolution.{OnlyResolves, ResolveCall, resolve_call, resolves, with_use}
@@ -45,7 +45,9 @@ use Rattle.xa_bank.specs.declared.teller.Teller.{Teller}
 use Rattle.xa_bank.proofs.Members.{MemberAt, Never, member_at, nobody_else}
 use Rattle.xa_bank_days.specs.declared.night.Resolver.{Resolver}
 use Rattle.xa_bank_days.specs.Days.{IsResolvedBy, records_of}
-use Rattle.xa_bank_days.specs.Nights.{IsNight, ResolvesBy}
+use Rattle.xa_bank_days.specs.declared.night.Unresolved.{Unresolved}
+use Rattle.xa_bank_days.specs.Nights.{Excuses, HasRoomToResolve, IsNight, ResolvesBy}
+use Rattle.xa_bank_days.proofs.Rooms.{left_on, room_to_resolve}
 use Rattle.xa_bank_days.proofs.Reached.{InNight, IsReached, all_reached, answered_open, ends_in_night, none_shut}
 
 pub never_none : (ops : List Op) → All Never ops → ops ≡ []
@@ -63,7 +65,7 @@ module _ {L : Type 0} (state : L → LogState) (knows : L → Type 0) (s : Settl
   abbrev Works : WithScan (Resolver L) → DeskView → WithScan (Resolver L) → DeskView → Type 0
   Works = WorksWithScan (ResolvesBy state knows)
 
-  at : MemberAt Works (reopening s again).managers z.given attended next 0
+  at : MemberAt Works (reopening s again) z.given attended next 0
   at = member_at Works (reopening s again) z.given attended next z.run 0 (omega (arith, one))
 
   abbrev mine : Resolver L
@@ -209,21 +211,29 @@ module _ {L : Type 0} (state : L → LogState) (knows : L → Type 0) (s : Settl
       tellers_law =
           ap (λ (b : Attended (WithScan (Resolver L))). b.client.client.tellers) (sym it) ∙ at.worked.tellers ∙ ap (λ (b : Resolver L). b.tellers) client
 
-      abbrev Came : Option Resolved → List (Teller L) → Type 0
-      Came o ts =
-          MatchOption o (at.left ≡ at.member.desk)
-          (λ w. All (λ (t : Teller L). knows t.log) ts × IsTraceOfResolve scan (records_of state (map (λ (t : Teller L). t.log) ts)) old new w.outcomes.items)
+      abbrev records_are : List (Teller L) → Records
+      records_are ts = records_of state (map (λ (t : Teller L). t.log) ts)
 
-      night_of : (o : Option Resolved) (ts : List (Teller L)) → Came o ts → IfSome o (λ w. IsNight state knows ts s again w.outcomes.items next)
-      night_of None ts came = tt
-      night_of (Some w) ts came = record {
+      abbrev Came : Result Resolved Unresolved → List (Teller L) → Type 0
+      Came o ts = IfOk o (λ w. All (λ (t : Teller L). knows t.log) ts × IsTraceOfResolve scan (records_are ts) old new w.outcomes.items)
+
+      night_of : (o : Result Resolved Unresolved) (ts : List (Teller L)) → Came o ts → IfOk o (λ w. IsNight state knows ts s again w.outcomes.items next)
+      night_of (Err why) ts came = tt
+      night_of (Ok w) ts came = record {
         known = came.0;
-        call = q (records_of state (map (λ (t : Teller L). t.log) ts)) w.outcomes.items came.1;
+        call = q (records_are ts) w.outcomes.items came.1;
         listed = refl;
-        resolves = resolved_by (records_of state (map (λ (t : Teller L). t.log) ts)) w.outcomes.items came.1;
+        resolves = resolved_by (records_are ts) w.outcomes.items came.1;
       }
 
-      pub night_law : IfSome a.client.client.resolved (λ w. IsNight state knows r.tellers.items s again w.outcomes.items next)
+      pub night_law : IfOk a.client.client.resolved (λ w. IsNight state knows r.tellers.items s again w.outcomes.items next)
       night_law =
           night_of a.client.client.resolved r.tellers.items
           (subst (λ (p : Attended (WithScan (Resolver L)) × Resolver L). Came p.0.client.client.resolved p.1.tellers.items) (λ i. (it i, client i)) at.worked.came)
+
+      -- nothing was resolved for a reason of which the caller knows
+      pub left_law : IfErr a.client.client.resolved (Excuses ⊥ (All (λ (t : Teller L). knows t.log) r.tellers.items) (HasRoomToResolve s again) (MayReopen s again))
+      left_law =
+          left_on (All (λ (t : Teller L). knows t.log) r.tellers.items) (MayReopen s again) (at.left ≡ at.member.desk) (room_to_resolve s again at.member.desk scan at.fresh scanned) a.client.client.resolved
+          (subst (λ (p : Attended (WithScan (Resolver L)) × Resolver L). IfErr p.0.client.client.resolved (λ why. (at.left ≡ at.member.desk)
+          × Excuses ⊥ (All (λ (t : Teller L). knows t.log) p.1.tellers.items) (MayResolve at.member.desk scan) (Unit {0}) why)) (λ i. (it i, client i)) at.worked.left)

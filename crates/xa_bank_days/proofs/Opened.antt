@@ -16,8 +16,8 @@ use Rattle.xa_switch.specs.Worth.{accounts_of}
 use Rattle.xa_log.specs.Log.{LogState}
 use Rattle.xa_atomicity.specs.Cut.{is_recorded}
 use Rattle.xa_bank.specs.declared.teller.Teller.{Teller}
-use Rattle.xa_bank_days.specs.declared.days.Bank.{Bank}
-use Rattle.xa_bank_days.specs.Kept.{HaveNoRecord, IsOpenedBank, IsReady}
+use Rattle.xa_bank_days.specs.declared.bank.Bank.{Bank}
+use Rattle.xa_bank_days.specs.Banks.{HaveNoRecord, IsOpenedBank, IsReady}
 use Rattle.xa_bank_days.proofs.DawnLaw.{none_left}
 
 module _ {L : Type 0} (state : L → LogState) (p : Plan) (tellers : List (Teller L)) (b : Bank L) (opened : IsOpenedBank p tellers b)

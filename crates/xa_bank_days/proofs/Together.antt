@@ -112,7 +112,7 @@ module _ (L : Type 0) (state : L → LogState) (knows : L → Type 0) (loses : T
   at_place : (i : ℕ) (old : Teller L) → slice_get olds i ≡ Some old → AtPlace i old
   at_place i old at =
       let new = new_at i old at in
-      let z = back_at state knows loses 1 i news logs founds back new.0 new.1 in
+      let z = back_at (IsReadBack state knows loses) 1 i news logs founds back new.0 new.1 in
       let told_so = told_all i old z.teller at z.teller_at in
       record {
         new = z.teller;
@@ -130,7 +130,7 @@ module _ (L : Type 0) (state : L → LogState) (knows : L → Type 0) (loses : T
       }
 
   logs_many : length logs ≡ length olds
-  logs_many = let z = as_many_back state knows loses 1 news logs founds back in z.0 ∙ as_many
+  logs_many = let z = as_many_back (IsReadBack state knows loses) 1 news logs founds back in z.0 ∙ as_many
 
   pub told : (u : ℕ) → IsTold s u
   told u =
@@ -344,7 +344,7 @@ module _ (L : Type 0) (state : L → LogState) (knows : L → Type 0) (loses : T
 
   pub whole : DayAt 0 founds news
   whole =
-      day_at 0 founds news (omega (arith, many, as_many)) (as_many_back state knows loses 1 news logs founds back).1 (λ k found new f_at at.
+      day_at 0 founds news (omega (arith, many, as_many)) (as_many_back (IsReadBack state knows loses) 1 news logs founds back).1 (λ k found new f_at at.
       let o = old_at k new at in
       let place = at_place k o.0 o.1 in
       let same : place.new ≡ new = some_same place.new new (sym place.new_at ∙ at) in

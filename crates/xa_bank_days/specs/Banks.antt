@@ -1,6 +1,6 @@
 -- The bank from day to day: what a day and its night do to it, and what many do.
 use Rattle.std.specs.Prelude.{◌≡◌, ◌+◌, ◌<◌, ◌≤◌, ◌^◌, ◌-◌, ◌%◌, ℕ, Bool, true}
-use Rattle.std.specs.Prelude.{false, MatchOption, min, Option, None, Some, Vec, List, [], ◌∷◌}
+use Rattle.std.specs.Prelude.{false, min, Option, None, Some, MatchResult, Vec, List, [], ◌∷◌}
 use Rattle.std.specs.Prelude.{◌++◌, length, map, vec_capacity}
 use Rattle.std.specs.List.{All, list_any}
 use Rattle.std.specs.Global.{Global}
@@ -12,14 +12,15 @@ use Rattle.xa_tables.specs.Managers.{opening}
 use Rattle.xa_tables.specs.History.{is_done}
 use Rattle.xa_switch.specs.declared.plan.Again.{Again}
 use Rattle.xa_switch.specs.declared.plan.Plan.{Plan}
-use Rattle.xa_switch.specs.Again.{last_in, managers_in, reopened_at}
+use Rattle.xa_switch.specs.Again.{last_in, managers_in, reopened_at, reopening}
 use Rattle.xa_switch.specs.Plans.{numbers_of}
 use Rattle.xa_switch.specs.Settling.{Settling, find_manager}
 use Rattle.xa_switch.specs.Worth.{accounts_of}
 use Rattle.xa_log.specs.Log.{LogState}
 use Rattle.xa_driver.specs.declared.resolved.Outcome.{Outcome}
 use Rattle.xa_crew.specs.declared.again.AgainFault.{AgainFault}
-use Rattle.xa_crew.specs.Again.{HasRunAgain, IfUnopened, IfUnsettled}
+use Rattle.xa_crew.specs.Again.{AreGiven, HasRunAgain, IfUnopened, IfUnsettled, IfUnstarted}
+use Rattle.xa_crew.specs.Opened.{IsOpened, clients_of}
 use Rattle.xa_work.specs.declared.unit.WorkOutcome.{WorkOutcome}
 use Rattle.xa_atomicity.specs.Cut.{is_recorded}
 use Rattle.xa_bank.specs.declared.habits.DiesAt.{DiesAt}
@@ -27,17 +28,18 @@ use Rattle.xa_bank.specs.declared.habits.Habits.{Habits}
 use Rattle.xa_bank.specs.declared.habits.ShutsAt.{ShutsAt}
 use Rattle.xa_bank.specs.declared.teller.Teller.{Teller}
 use Rattle.xa_bank.specs.declared.teller.Transfer.{Transfer}
-use Rattle.xa_bank.specs.Tellers.{WorksOn}
-use Rattle.xa_bank_days.specs.declared.days.Bank.{Bank}
-use Rattle.xa_bank_days.specs.declared.days.Closed.{Closed}
-use Rattle.xa_bank_days.specs.declared.days.Errands.{Errands}
-use Rattle.xa_bank_days.specs.declared.days.Space.{Space}
-use Rattle.xa_bank_days.specs.declared.days.Stop.{Stop}
-use Rattle.xa_bank_days.specs.declared.days.Stop.TheVariants.{BadDay, Day, Night, NoMemory}
-use Rattle.xa_bank_days.specs.declared.days.Worked.{Worked}
-use Rattle.xa_bank_days.specs.Days.{AreReadBack, BeginsWith, IsDawn, IsDayOf, balances_at, told}
+use Rattle.xa_bank.specs.Tellers.{ReadsBack, WorksOn}
+use Rattle.xa_bank_days.specs.declared.bank.Bank.{Bank}
+use Rattle.xa_bank_days.specs.declared.day.Closed.{Closed}
+use Rattle.xa_bank_days.specs.declared.errands.Errands.{Errands}
+use Rattle.xa_bank_days.specs.declared.day.Space.{Space}
+use Rattle.xa_bank_days.specs.declared.day.Stop.{Stop}
+use Rattle.xa_bank_days.specs.declared.day.Stop.TheVariants.{BadDay, Day, Night, NoMemory}
+use Rattle.xa_bank_days.specs.declared.day.Worked.{Worked}
+use Rattle.xa_bank_days.specs.declared.night.Unresolved.{Unresolved}
+use Rattle.xa_bank_days.specs.Days.{BeginsWith, ForEach, IsDawn, IsDayOf, balances_at, told}
 use Rattle.xa_bank_days.specs.Ledger.{all_applied}
-use Rattle.xa_bank_days.specs.Nights.{IsNight, IsUnsettledNight}
+use Rattle.xa_bank_days.specs.Nights.{Excuses, HasRoomToResolve, IsNight, IsUnsettledNight}
 
 -- ---- a day
 
@@ -81,34 +83,46 @@ pub record HasRoom {L : Type 0} (tellers stores : ℕ) (s : Space L) : Type 0 wh
   pub no_outcomes : s.outcomes.items ≡ []
   pub outcomes : tellers ≤ vec_capacity s.outcomes
 
--- These tellers worked over stores that had been left so, and got all memory that they asked for, unless they want it;
--- what became of their transfers was told. Then their logs were opened again, where nobody knew of a transfer whether
--- its record was made.
+-- These tellers worked over stores that had been left so, and whether one wants memory was told, and what became of
+-- their transfers. Then the log of each was read back.
 pub record HasWorked {L : Type 0} (state : L → LogState) (knows : L → Type 0)
-    (loses : TranName → List Bool → L → L → Type 0) (before : Settling) (turned : List (Teller L)) (w : Worked L)
-    : Type 0 where
+    (loses : TranName → List Bool → L → L → Type 0) (reopens : L → L → Type 0) (before : Settling)
+    (turned : List (Teller L)) (w : Worked L) : Type 0 where
   pub worked : List (Teller L)
   pub is_day : IsDayOf state knows loses w.settled turned worked
   pub begins : BeginsWith w.settled (managers_in before) (reopened_at before.managers)
   pub stores : managers_in w.settled ≡ managers_in before
-  pub memory : w.wanting ≡ false → All (λ t. t.wants_memory ≡ false) worked
-  pub logs : AreReadBack state knows loses 1 worked (map (λ t. t.log) w.tellers.items) w.found.items
+  pub wants : w.wanting ≡ list_any (λ t. t.wants_memory) worked
+  pub logs : ForEach (ReadsBack state knows loses reopens) 1 worked (map (λ t. t.log) w.tellers.items) w.found.items
   pub told_ : w.outcomes.items ≡ map (λ t. t.outcomes) worked
 
--- Stores that weren't opened again are as they were; and what their tellers came to may be settled yet, by
--- `settle_run`.
-abbrev pub LeavesDay : {L : Type 0} → (L → LogState) → (L → Type 0) → (TranName → List Bool → L → L → Type 0) → Settling
-    → AgainFault (Teller L) → Type 0
-LeavesDay {L} state knows loses s fault =
-    IfUnopened (λ u. u.settled ≡ s) fault
-    × ((turned : List (Teller L)) × (again : Again)
-    × IfUnsettled (HasRunAgain (WorksOn state knows loses) s again turned) fault)
+-- The day of these turned tellers came to no settled opening. Where the stores weren't opened again, both come back as
+-- they were; where they were, and nothing was run, as they were opened; what was run may be settled by `settle_run`.
+pub record LeavesDay {L : Type 0} (state : L → LogState) (knows : L → Type 0)
+    (loses : TranName → List Bool → L → L → Type 0) (s : Settling) (again : Again) (turned : List (Teller L))
+    (fault : AgainFault (Teller L)) : Type 0 where
+  pub unopened : IfUnopened (λ u. (u.settled ≡ s) × (u.clients.items ≡ turned)) fault
+  pub unstarted : IfUnstarted (λ o. IsOpened (reopening s again) o × AreGiven s again turned (clients_of o)) fault
+  pub unsettled : IfUnsettled (HasRunAgain (WorksOn state knows loses) s again turned) fault
 
--- it was the day that stopped
-abbrev pub StopsDay : {L : Type 0} → (L → LogState) → (L → Type 0) → (TranName → List Bool → L → L → Type 0) → Settling
-    → Stop L → Type 0
-StopsDay state knows loses s (Day fault) = LeavesDay state knows loses s fault
-StopsDay state knows loses s stop = ⊥
+-- A day of these errands: the tellers were turned to them and worked, and what became of their transfers was told.
+pub record IsDay {L : Type 0} (state : L → LogState) (knows : L → Type 0)
+    (loses : TranName → List Bool → L → L → Type 0) (reopens : L → L → Type 0) (b : Bank L) (errands : List Errands)
+    (c : Closed) : Type 0 where
+  pub turned : List (Teller L)
+  pub are_turned : AreTurned b.next b.tellers.items errands turned
+  pub many : length errands < 2 ^ 32
+  pub day : Worked L
+  pub works : HasWorked state knows loses reopens b.settled turned day
+  pub told_ : c.outcomes ≡ day.outcomes
+  pub found_ : c.found ≡ day.found
+
+-- the numbers of such a day's opening, and of its night's
+abbrev pub day_numbers : {L : Type 0} → Bank L → List Errands → Again
+day_numbers b errands = next_numbers b.again (length errands)
+
+abbrev pub night_numbers : {L : Type 0} → Bank L → List Errands → Again
+night_numbers b errands = next_numbers (day_numbers b errands) 1
 
 -- there are errands for each teller, and numbers for all transfers
 abbrev pub IsGoodDay : {L : Type 0} → Bank L → List Errands → Type 0
@@ -116,70 +130,72 @@ IsGoodDay b errands =
     (length errands ≡ length b.tellers.items) × (length errands < 2 ^ 32)
     × All (λ e. b.next + length e.transfers.items < 2 ^ 32) errands
 
--- What stopped a day of these errands before anything was done leaves the bank, or its stores; and what was done may be
--- settled yet.
-abbrev pub LeavesBank : {L : Type 0} → (L → LogState) → (L → Type 0) → (TranName → List Bool → L → L → Type 0) → Bank L
-    → List Errands → Stop L → Type 0
-LeavesBank state knows loses b errands (BadDay b') = (b' ≡ b) × (IsGoodDay b errands → ⊥)
-LeavesBank state knows loses b errands (NoMemory b') = b' ≡ b
-LeavesBank state knows loses b errands (Day fault) = LeavesDay state knows loses b.settled fault
-LeavesBank state knows loses b errands (Night closed ran) =
-    (day : Settling) × (again : Again) × IsUnsettledNight state knows day again ran
+-- What stopped a day of these errands before anything was done leaves the bank, or its stores and its tellers, turned
+-- to the errands; and what a day or its night came to may be settled yet.
+abbrev pub LeavesBank : {L : Type 0} → (L → LogState) → (L → Type 0) → (TranName → List Bool → L → L → Type 0)
+    → (L → L → Type 0) → Bank L → List Errands → Stop L → Type 0
+LeavesBank state knows loses reopens b errands (BadDay b') = (b' ≡ b) × (IsGoodDay b errands → ⊥)
+LeavesBank state knows loses reopens b errands (NoMemory b') = b' ≡ b
+LeavesBank {L} state knows loses reopens b errands (Day fault) =
+    (turned : List (Teller L)) × AreTurned b.next b.tellers.items errands turned
+    × LeavesDay state knows loses b.settled (day_numbers b errands) turned fault
+LeavesBank state knows loses reopens b errands (Night c ran) =
+    (z : IsDay state knows loses reopens b errands c)
+    × IsUnsettledNight state knows z.day.tellers z.day.settled (night_numbers b errands) ran
 
--- so the first of these days, or before any
-abbrev pub StopsAt : {L : Type 0} → (L → LogState) → (L → Type 0) → (TranName → List Bool → L → L → Type 0) → Bank L
-    → List (Vec Errands Global) → Stop L → Type 0
-StopsAt state knows loses b [] (NoMemory b') = b' ≡ b
-StopsAt state knows loses b [] stop = ⊥
-StopsAt state knows loses b (d ∷ ds) stop = LeavesBank state knows loses b d.items stop
-
--- A day of these errands: the tellers were turned to them and worked, and what became of their transfers was told.
+-- So a day, and the bank after it.
 pub record IsWorkedDay {L : Type 0} (state : L → LogState) (knows : L → Type 0)
-    (loses : TranName → List Bool → L → L → Type 0) (b : Bank L) (errands : List Errands) (c : Closed) (b' : Bank L)
-    : Type 0 where
-  pub turned : List (Teller L)
-  pub are_turned : AreTurned b.next b.tellers.items errands turned
-  pub many : length errands < 2 ^ 32
-  pub day : Worked L
-  pub works : HasWorked state knows loses b.settled turned day
+    (loses : TranName → List Bool → L → L → Type 0) (reopens : L → L → Type 0) (b : Bank L) (errands : List Errands)
+    (c : Closed) (b' : Bank L) : Type 0 where
+  pub is_day : IsDay state knows loses reopens b errands c
+  pub open is_day use *
   pub stays : day.wanting ≡ true → b'.settled ≡ day.settled
-  pub told_ : c.outcomes ≡ day.outcomes
-  pub found_ : c.found ≡ day.found
   pub tellers : b'.tellers ≡ day.tellers
   pub later : b.next ≤ b'.next
   pub next : All (λ e. b.next + length e.transfers.items ≤ b'.next) errands
 
 -- And its night: the tellers got all memory that they asked for, and what was left was resolved by their logs.
-pub record IsKept {L : Type 0} (state : L → LogState) (knows : L → Type 0)
-    (loses : TranName → List Bool → L → L → Type 0) (b : Bank L) (errands : List Errands) (c : Closed)
-    (outcomes : List Outcome) (b' : Bank L) : Type 0 where
-  pub is_worked : IsWorkedDay state knows loses b errands c b'
+pub record IsClosed {L : Type 0} (state : L → LogState) (knows : L → Type 0)
+    (loses : TranName → List Bool → L → L → Type 0) (reopens : L → L → Type 0) (b : Bank L) (errands : List Errands)
+    (c : Closed) (outcomes : List Outcome) (b' : Bank L) : Type 0 where
+  pub is_worked : IsWorkedDay state knows loses reopens b errands c b'
   pub open is_worked use *
   pub wants : day.wanting ≡ false
-  pub numbers : b'.again ≡ next_numbers (next_numbers b.again (length errands)) 1
+  pub numbers : b'.again ≡ night_numbers b errands
   pub night : IsNight state knows day.tellers.items day.settled b'.again outcomes b'.settled
   pub stores : managers_in b'.settled ≡ managers_in day.settled
 
+-- Nothing was resolved of what such a day left, and why: a teller wants memory, a log isn't known, there is no room for
+-- it, or memory was refused. The numbers of a night are always good.
+pub record IsUnresolved {L : Type 0} (state : L → LogState) (knows : L → Type 0)
+    (loses : TranName → List Bool → L → L → Type 0) (reopens : L → L → Type 0) (b : Bank L) (errands : List Errands)
+    (c : Closed) (why : Unresolved) (b' : Bank L) : Type 0 where
+  pub is_worked : IsWorkedDay state knows loses reopens b errands c b'
+  pub open is_worked use *
+  pub excuse : Excuses (day.wanting ≡ true) (All (λ t. knows t.log) b'.tellers.items)
+      (HasRoomToResolve day.settled (night_numbers b errands)) (Unit {0}) why
+
 -- all is over: what was left is resolved, and each branch of it ended as it was to
 abbrev pub IsOver : Closed → Type 0
-IsOver c = MatchOption c.resolved ⊥ (λ z. All (λ o. is_done o.code ≡ true) z.outcomes.items)
+IsOver c = MatchResult c.resolved (λ z. All (λ o. is_done o.code ≡ true) z.outcomes.items) (λ why. ⊥)
 
 -- so a day that is over
-pub record IsKeptDay {L : Type 0} (state : L → LogState) (knows : L → Type 0)
-    (loses : TranName → List Bool → L → L → Type 0) (b : Bank L) (errands : List Errands) (c : Closed) (b' : Bank L)
-    : Type 0 where
+pub record IsClosedDay {L : Type 0} (state : L → LogState) (knows : L → Type 0)
+    (loses : TranName → List Bool → L → L → Type 0) (reopens : L → L → Type 0) (b : Bank L) (errands : List Errands)
+    (c : Closed) (b' : Bank L) : Type 0 where
   pub outcomes : List Outcome
   pub ended : All (λ o. is_done o.code ≡ true) outcomes
-  pub kept : IsKept state knows loses b errands c outcomes b'
+  pub closed : IsClosed state knows loses reopens b errands c outcomes b'
 
 -- these are such days, one after the other, with what each was closed with
-abbrev pub AreKept : {L : Type 0} → (L → LogState) → (L → Type 0) → (TranName → List Bool → L → L → Type 0) → Bank L
-    → List (Vec Errands Global) → List Closed → Bank L → Type 0
-AreKept state knows loses b [] [] b' = b' ≡ b
-AreKept state knows loses b [] (c ∷ cs) b' = ⊥
-AreKept state knows loses b (d ∷ ds) [] b' = ⊥
-AreKept {L} state knows loses b (d ∷ ds) (c ∷ cs) b' =
-    (mid : Bank L) × IsKeptDay state knows loses b d.items c mid × AreKept state knows loses mid ds cs b'
+abbrev pub AreClosed : {L : Type 0} → (L → LogState) → (L → Type 0) → (TranName → List Bool → L → L → Type 0)
+    → (L → L → Type 0) → Bank L → List (Vec Errands Global) → List Closed → Bank L → Type 0
+AreClosed state knows loses reopens b [] [] b' = b' ≡ b
+AreClosed state knows loses reopens b [] (c ∷ cs) b' = ⊥
+AreClosed state knows loses reopens b (d ∷ ds) [] b' = ⊥
+AreClosed {L} state knows loses reopens b (d ∷ ds) (c ∷ cs) b' =
+    (mid : Bank L) × IsClosedDay state knows loses reopens b d.items c mid
+    × AreClosed state knows loses reopens mid ds cs b'
 
 -- all of these days are over
 pub record AreOver (days : List (Vec Errands Global)) (closed : List Closed) : Type 0 where
@@ -188,24 +204,23 @@ pub record AreOver (days : List (Vec Errands Global)) (closed : List Closed) : T
 
 -- Days have ended: all of them are over, or one isn't, up to which they are.
 pub data HasEnded {L : Type 0} (state : L → LogState) (knows : L → Type 0)
-    (loses : TranName → List Bool → L → L → Type 0) (b : Bank L) (days : List (Vec Errands Global))
-    (closed : List Closed) (b' : Bank L) : Type 0 where
-  whole : AreKept state knows loses b days closed b' → HasEnded state knows loses b days closed b'
+    (loses : TranName → List Bool → L → L → Type 0) (reopens : L → L → Type 0) (b : Bank L)
+    (days : List (Vec Errands Global)) (closed : List Closed) (b' : Bank L) : Type 0 where
+  whole : AreClosed state knows loses reopens b days closed b' → HasEnded state knows loses reopens b days closed b'
   early : (before : List (Vec Errands Global)) (d : Vec Errands Global) (rest : List (Vec Errands Global))
       (cs : List Closed) (c : Closed) (mid : Bank L) → days ≡ before ++ d ∷ rest → closed ≡ cs ++ c ∷ []
-      → AreKept state knows loses b before cs mid → IsWorkedDay state knows loses mid d.items c b' → (IsOver c → ⊥)
-      → HasEnded state knows loses b days closed b'
+      → AreClosed state knows loses reopens b before cs mid → IsWorkedDay state knows loses reopens mid d.items c b'
+      → (IsOver c → ⊥) → HasEnded state knows loses reopens b days closed b'
 
--- Days were stopped so, before one of them or at it, up to which they are over.
-pub record HasStopped {L : Type 0} (state : L → LogState) (knows : L → Type 0)
-    (loses : TranName → List Bool → L → L → Type 0) (b : Bank L) (days : List (Vec Errands Global))
-    (closed : List Closed) (stop : Stop L) : Type 0 where
-  pub before : List (Vec Errands Global)
-  pub rest : List (Vec Errands Global)
-  pub parts : days ≡ before ++ rest
-  pub mid : Bank L
-  pub kept : AreKept state knows loses b before closed mid
-  pub leaves : StopsAt state knows loses mid rest stop
+-- Days were stopped so: memory was refused before any, or one was stopped, up to which they are over.
+pub data HasStopped {L : Type 0} (state : L → LogState) (knows : L → Type 0)
+    (loses : TranName → List Bool → L → L → Type 0) (reopens : L → L → Type 0) (b : Bank L)
+    (days : List (Vec Errands Global)) (closed : List Closed) (stop : Stop L) : Type 0 where
+  at_once : closed ≡ [] → stop ≡ NoMemory b → HasStopped state knows loses reopens b days closed stop
+  at_day : (before : List (Vec Errands Global)) (d : Vec Errands Global) (rest : List (Vec Errands Global))
+      (mid : Bank L) → days ≡ before ++ d ∷ rest → AreClosed state knows loses reopens b before closed mid
+      → LeavesBank state knows loses reopens mid d.items stop
+      → HasStopped state knows loses reopens b days closed stop
 
 -- ---- the balances
 

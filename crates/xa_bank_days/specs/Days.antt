@@ -100,13 +100,18 @@ pub record IsReadBack {L : Type 0} (state : L → LogState) (knows : L → Type 
   pub finds : knows log → has_undecided teller ≡ true → last_number teller < 2 ^ 32
       → found ≡ is_recorded (state log) (tran_named t (last_number teller))
 
--- so those of all tellers, of the threads from t on
+-- this holds of each teller, its log and what that was found to have, of the threads from t on
+abbrev pub ForEach : {L : Type 0} → (ℕ → Teller L → L → Bool → Type 0) → ℕ → List (Teller L) → List L → List Bool
+    → Type 0
+ForEach P t [] [] [] = Unit {0}
+ForEach P t (teller ∷ tellers) (log ∷ logs) (found ∷ founds) =
+    P t teller log found × ForEach P (t + 1) tellers logs founds
+ForEach P t tellers logs founds = ⊥
+
+-- so those of all tellers were read back
 abbrev pub AreReadBack : {L : Type 0} → (L → LogState) → (L → Type 0) → (TranName → List Bool → L → L → Type 0) → ℕ
     → List (Teller L) → List L → List Bool → Type 0
-AreReadBack state knows loses t [] [] [] = Unit {0}
-AreReadBack state knows loses t (teller ∷ tellers) (log ∷ logs) (found ∷ founds) =
-    IsReadBack state knows loses t teller log found × AreReadBack state knows loses (t + 1) tellers logs founds
-AreReadBack state knows loses t tellers logs founds = ⊥
+AreReadBack state knows loses = ForEach (IsReadBack state knows loses)
 
 -- ---- between days
 

@@ -1,4 +1,4 @@
 pub mod Ledger
 pub mod Days
 pub mod Nights
-pub mod Kept
+pub mod Banks

@@ -1,13 +1,17 @@
 -- What a night comes to: what a day left in doubt is resolved by the records of all logs.
-use Rattle.std.specs.Prelude.{◌≡◌, List, MatchOption, map}
+use Rattle.std.specs.Prelude.{◌≡◌, ℕ, ◌≤◌, IfErr, IfOk, List, [], ◌∷◌, Vec, map}
+use Rattle.std.specs.Global.{Global}
 use Rattle.std.specs.List.{All}
+use Rattle.xa_base.specs.Lists.{IsUpTo}
 use Rattle.xa_desk.specs.DeskView.{DeskView}
 use Rattle.xa_switch.specs.declared.plan.Again.{Again}
+use Rattle.xa_switch.specs.Again.{managers_in}
+use Rattle.xa_switch.specs.Recovery.{IsScanOf}
 use Rattle.xa_switch.specs.Settling.{Settling}
-use Rattle.xa_switch.specs.Scans.{ScanView}
+use Rattle.xa_switch.specs.Scans.{ScanView, left_at}
 use Rattle.xa_log.specs.Log.{LogState}
 use Rattle.xa_driver.specs.declared.resolved.Outcome.{Outcome}
-use Rattle.xa_driver.specs.Resolving.{IsTraceOfResolve}
+use Rattle.xa_driver.specs.Resolving.{IsTraceOfResolve, MayResolve, requests_for}
 use Rattle.xa_atomicity.specs.Resolution.{ResolveCall}
 use Rattle.xa_crew.specs.declared.again.WithScan.{WithScan}
 use Rattle.xa_crew.specs.declared.run.Ran.{Ran}
@@ -15,16 +19,35 @@ use Rattle.xa_crew.specs.Again.{HasRunAgain}
 use Rattle.xa_bank.specs.declared.teller.Teller.{Teller}
 use Rattle.xa_bank_days.specs.Days.{IsResolvedBy, records_of}
 use Rattle.xa_bank_days.specs.declared.night.Resolver.{Resolver}
+use Rattle.xa_bank_days.specs.declared.night.Unresolved.{Unresolved}
+use Rattle.xa_bank_days.specs.declared.night.Unresolved.TheVariants.{BadNumbers, NoMemory, NoRoom}
+use Rattle.xa_bank_days.specs.declared.night.Unresolved.TheVariants.{TellerWantsMemory, UnknownLog}
+
+-- What each reason says why nothing was resolved, where `Wants` says that a teller wants memory, `Known` that all logs
+-- are known, `Room` that there is room for it, and `Good` that the stores may be opened again. Of refused memory nobody
+-- can say more.
+abbrev pub Excuses : Type 0 → Type 0 → Type 0 → Type 0 → Unresolved → Type 0
+Excuses Wants Known Room Good TellerWantsMemory = Wants
+Excuses Wants Known Room Good UnknownLog = Known → ⊥
+Excuses Wants Known Room Good NoRoom = Room → ⊥
+Excuses Wants Known Room Good BadNumbers = Good → ⊥
+Excuses Wants Known Room Good NoMemory = Unit {0}
+
+-- these numbers have room, at each store, for the requests that it takes to resolve what was left there
+abbrev pub HasRoomToResolve : Settling → Again → Type 0
+HasRoomToResolve s again =
+    (z : ScanView) → IsScanOf s z → (m : ℕ) → IsUpTo (managers_in s) m → requests_for (left_at z m) ≤ again.requests
 
 -- The tellers and the scan stay. Either what it lists is what a resolve by the tellers' records came to, which were
--- known; or nothing was sent: it might not be called, or memory was refused.
+-- known; or nothing was sent, for this reason.
 pub record ResolvesBy {L : Type 0} (state : L → LogState) (knows : L → Type 0) (r : Resolver L) (d : DeskView)
     (s : ScanView) (r' : Resolver L) (d' : DeskView) (s' : ScanView) : Type 0 where
   pub tellers : r'.tellers ≡ r.tellers
   pub scan : s' ≡ s
-  pub came : MatchOption r'.resolved (d' ≡ d)
-      (λ z. All (λ t. knows t.log) r.tellers.items
+  pub came : IfOk r'.resolved (λ z. All (λ t. knows t.log) r.tellers.items
       × IsTraceOfResolve s (records_of state (map (λ t. t.log) r.tellers.items)) d.ledgers d'.ledgers z.outcomes.items)
+  pub left : IfErr r'.resolved (λ why. (d' ≡ d)
+      × Excuses ⊥ (All (λ t. knows t.log) r.tellers.items) (MayResolve d s) (Unit {0}) why)
 
 -- A night after the opening that was settled so: it was opened again and settled in turn, and one resolve by the
 -- records of all tellers, which were known, came to these outcomes of all that was left.
@@ -35,8 +58,8 @@ pub record IsNight {L : Type 0} (state : L → LogState) (knows : L → Type 0) 
   pub listed : call.outcomes ≡ outcomes
   pub resolves : IsResolvedBy (records_of state (map (λ t. t.log) tellers)) s again call next
 
--- what a night came to that isn't settled yet: its tellers resolved, and `settle_run` may settle it
-abbrev pub IsUnsettledNight : {L : Type 0} → (L → LogState) → (L → Type 0) → Settling → Again
+-- what a night of these tellers came to that isn't settled yet: they resolved, and `settle_run` may settle it
+abbrev pub IsUnsettledNight : {L : Type 0} → (L → LogState) → (L → Type 0) → Vec (Teller L) Global → Settling → Again
     → Ran (WithScan (Resolver L)) → Type 0
-IsUnsettledNight {L} state knows s again ran =
-    (resolvers : List (Resolver L)) × HasRunAgain (ResolvesBy state knows) s again resolvers ran
+IsUnsettledNight {L} state knows tellers s again ran =
+    (r : Resolver L) × (r.tellers ≡ tellers) × HasRunAgain (ResolvesBy state knows) s again (r ∷ []) ran

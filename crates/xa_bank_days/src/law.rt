@@ -13,10 +13,10 @@ ghost use Rattle.xa_switch.specs.Worth.{plan_worth, settled_worth};
 ghost use Rattle.xa_atomicity.specs.Resolution.{ResolveCall};
 ghost use Rattle.xa_bank.specs.declared.teller.Teller.{Teller};
 ghost use Rattle.xa_bank.specs.declared.teller.Transfer.{Transfer};
-ghost use Rattle.xa_bank_days.specs.declared.days.Bank.{Bank};
+ghost use Rattle.xa_bank_days.specs.declared.bank.Bank.{Bank};
 ghost use Rattle.xa_bank_days.specs.Days.{AreReadBack, AreToldAll, BeginsWith, IsDawn, IsDayOf, IsResolvedBy, all_told};
 ghost use Rattle.xa_bank_days.specs.Days.{balances_at, balances_of, records_of};
-ghost use Rattle.xa_bank_days.specs.Kept.{HaveNoRecord, IsMovedBy, IsOpenedBank, IsReady, IsWithin};
+ghost use Rattle.xa_bank_days.specs.Banks.{HaveNoRecord, IsMovedBy, IsOpenedBank, IsReady, IsWithin};
 ghost use Rattle.xa_bank_days.specs.Ledger.{all_applied};
 
 use xa_atomicity::finished_outcomes_leave_no_branch;

@@ -1,6 +1,12 @@
 //! A night of the bank: what a day left in doubt is resolved by the logs of all tellers.
-ghost use Rattle.std.specs.Prelude.{◌≡◌, IfErr, IfOk, IfSome};
-ghost use Rattle.xa_bank_days.specs.Nights.{IsNight, IsUnsettledNight};
+ghost use Rattle.std.specs.Prelude.{◌≡◌, IfErr, IfOk, map};
+ghost use Rattle.std.specs.List.{All};
+ghost use Rattle.xa_desk.specs.GoesOn.{GoesOn};
+ghost use Rattle.xa_desk.specs.Kept.{AllKept};
+ghost use Rattle.xa_driver.specs.Resolving.{IsTraceOfResolve, MayResolve};
+ghost use Rattle.xa_switch.specs.Again.{MayReopen};
+ghost use Rattle.xa_bank_days.specs.Days.{records_of};
+ghost use Rattle.xa_bank_days.specs.Nights.{Excuses, HasRoomToResolve, IsNight, IsUnsettledNight};
 
 use std::alloc::Global;
 use std::sync::Wait;
@@ -11,23 +17,40 @@ use xa_crew::{
 };
 use xa_desk::laws::desks_go_on;
 use xa_desk::{Desk, Idle};
-use xa_driver::{Resolved, may_resolve, resolve};
+use xa_driver::{ResolveFault, Resolved, may_resolve, resolve};
 use xa_log::{DecisionLog, DecisionRecords};
 use xa_switch::laws::{reopened_openings_go_on_from_what_was_left, settled_openings_are_whole};
-use xa_switch::{Again, Scan, Settled};
+use xa_switch::{Again, OpenFault, Scan, Settled};
 use xa_words::{ManagerSet, Tran};
+
+/// Why nothing was resolved of what a day left.
+#[derive(Clone, Copy, Debug, PartialEq, Eq)]
+pub enum Unresolved {
+    /// A teller was refused memory on the day, and so there was no night.
+    TellerWantsMemory,
+    /// The records of a log aren't known.
+    UnknownLog,
+    /// The numbers of the night have fewer requests than it takes at a store: one to open it, and two for each branch
+    /// that was left there.
+    NoRoom,
+    /// The stores may not be opened again with these numbers.
+    BadNumbers,
+    /// Memory was refused in the night.
+    NoMemory,
+}
 
 /// The client of a night: tellers that are off work. What its scan has is resolved by their logs.
 #[derive(Drop)]
 pub struct Resolver<L> {
     alloc: Global,
     tellers: Vec<Teller<L>>,
-    resolved: Option<Resolved>,
+    // Before it worked, want of memory: nothing else keeps it from that.
+    resolved: Result<Resolved, Unresolved>,
 }
 
 impl<L> Resolver<L> {
     // The tellers, and what the branches came to.
-    fn into_parts(self) -> (Vec<Teller<L>>, Option<Resolved>)
+    fn into_parts(self) -> (Vec<Teller<L>>, Result<Resolved, Unresolved>)
         ensures { result ≡ (self.tellers, self.resolved) }
     {
         let Resolver {
@@ -69,6 +92,40 @@ impl<L: DecisionLog + Drop> DecisionRecords for Resolver<L> {
     }
 }
 
+impl<L: DecisionLog + Drop> Resolver<L> {
+    // Resolves what the scan has, by the tellers' logs; or tells why nothing was sent.
+    fn resolve_left<R: Wait, I: Idle>(
+        &self,
+        rt: &R,
+        desk: &mut Desk,
+        scan: &Scan,
+        idle: &mut I,
+    ) -> Result<Resolved, Unresolved>
+        ensures goes_on { GoesOn desk.old desk.new }
+        ensures kept { AllKept desk.old → AllKept desk.new }
+        ensures idled { I.leads idle.old idle.new }
+        ensures came { IfOk result (λ z. All (λ t. L.knows t.log) self.now.tellers.items
+            × IsTraceOfResolve scan.now (records_of L.state (map (λ t. t.log) self.now.tellers.items)) desk.old.ledgers
+            desk.new.ledgers z.outcomes.items) }
+        ensures left { IfErr result (λ why. (desk.new ≡ desk.old)
+            × Excuses ⊥ (All (λ t. L.knows t.log) self.now.tellers.items) (MayResolve desk.old scan.now) (Unit {0})
+            why) }
+    {
+        desks_go_on();
+        idles_go_on::<I>();
+        if !self.is_known() {
+            return Err(Unresolved::UnknownLog);
+        }
+        if !may_resolve(desk, scan, self) {
+            return Err(Unresolved::NoRoom);
+        }
+        match resolve(rt, self.alloc, desk, scan, self, idle) {
+            Ok(resolved) => Ok(resolved),
+            Err(ResolveFault::NoMemory) => Err(Unresolved::NoMemory),
+        }
+    }
+}
+
 impl<L: DecisionLog + Drop> ClientAgain for Resolver<L> {
     ghost use Rattle.xa_bank_days.specs.Nights.{ResolvesBy};
 
@@ -81,23 +138,15 @@ impl<L: DecisionLog + Drop> ClientAgain for Resolver<L> {
         scan: &mut Scan,
         idle: &mut I,
     ) {
-        desks_go_on();
-        idles_go_on::<I>();
-        self.resolved = None;
-        if may_resolve(desk, scan, self) {
-            if let Ok(resolved) = resolve(rt, self.alloc, desk, scan, self, idle) {
-                self.resolved = Some(resolved);
-            }
-        }
+        self.resolved = self.resolve_left(rt, desk, scan, idle);
     }
 }
 
 /// What a night came to.
 #[derive(Drop)]
 pub struct Night<L> {
-    /// What the branches came to that were left. None where nothing was sent: the records of a log weren't known, there
-    /// was no room for all that was left, memory was refused, or the stores may not be opened again with these numbers.
-    pub resolved: Option<Resolved>,
+    /// What the branches came to that were left, or why nothing was sent.
+    pub resolved: Result<Resolved, Unresolved>,
     pub tellers: Vec<Teller<L>>,
     /// The stores: as the night left them, or as they were where they weren't opened again.
     pub settled: Settled,
@@ -115,16 +164,18 @@ pub fn run_night<R: Wait, L: DecisionLog + Drop>(
     tellers: Vec<Teller<L>>,
 ) -> Result<Night<L>, Ran<WithScan<Resolver<L>>>>
     requires { again.now.threads ≡ 1 }
-    ensures night { IfOk result (λ n. IfSome n.resolved (λ z. IsNight L.state L.knows tellers.items settled again.now
+    ensures night { IfOk result (λ n. IfOk n.resolved (λ z. IsNight L.state L.knows tellers.items settled again.now
         z.outcomes.items n.settled)) }
+    ensures unresolved { IfOk result (λ n. IfErr n.resolved (Excuses ⊥ (All (λ t. L.knows t.log) tellers.items)
+        (HasRoomToResolve settled again.now) (MayReopen settled again.now))) }
     ensures tellers { IfOk result (λ n. n.tellers ≡ tellers) }
-    ensures unsettled { IfErr result (IsUnsettledNight L.state L.knows settled again.now) }
+    ensures unsettled { IfErr result (IsUnsettledNight L.state L.knows tellers settled again.now) }
 {
     settled_openings_are_whole(&settled);
     reopened_openings_go_on_from_what_was_left();
     let Ok(mut resolvers) = Vec::with_capacity(alloc, 1) else {
         return Ok(Night {
-            resolved: None,
+            resolved: Err(Unresolved::NoMemory),
             tellers,
             settled,
         });
@@ -132,7 +183,7 @@ pub fn run_night<R: Wait, L: DecisionLog + Drop>(
     resolvers.push_reserved(Resolver {
         alloc,
         tellers,
-        resolved: None,
+        resolved: Err(Unresolved::NoMemory),
     });
     match run_clients_again_in_turns(rt, alloc, settled, again, resolvers) {
         Ok(
@@ -153,14 +204,18 @@ pub fn run_night<R: Wait, L: DecisionLog + Drop>(
         }
         Err(AgainFault::Unopened(unopened)) => {
             let UnopenedClients {
-                why: _,
+                why,
                 settled,
                 mut clients,
             } = unopened;
             let Some(resolver) = clients.pop() else {
                 unreachable!()
             };
-            let (tellers, resolved) = resolver.into_parts();
+            let (tellers, _) = resolver.into_parts();
+            let resolved = match why {
+                OpenFault::BadPlan => Err(Unresolved::BadNumbers),
+                OpenFault::NoMemory => Err(Unresolved::NoMemory),
+            };
             Ok(Night {
                 resolved,
                 tellers,

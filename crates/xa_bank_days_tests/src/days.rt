@@ -225,7 +225,9 @@ fn counted(rt: &impl Abort, closed: &[Closed]) -> (usize, usize, usize) {
             let last = outcomes.last();
             died = died.wrapping_add(usize::from(last.is_some_and(|o| o.has_died())));
         }
-        let resolved = over.resolved.as_ref().expect(rt, "a night");
+        let Ok(resolved) = &over.resolved else {
+            panic!(rt; "no night")
+        };
         for outcome in &resolved.outcomes {
             if outcome.commit {
                 committed = committed.wrapping_add(1);

@@ -267,8 +267,8 @@ pub fn transact<R: Wait, L: DecisionLog, I: Idle>(
     transact_until(rt, alloc, desk, log, branches, changes, None, idle)
 }
 
-/// The same by a coordinator that dies at this point of the commit, if at any, as `commit_until` dies. Where it comes to
-/// no commit it lives on.
+/// The same by a coordinator that dies at this point of the commit, if at any, as `commit_until` dies. Where it comes
+/// to no commit it lives on.
 pub fn transact_until<R: Wait, L: DecisionLog, I: Idle>(
     rt: &R,
     alloc: Global,

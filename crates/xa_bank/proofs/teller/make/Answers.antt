@@ -87,6 +87,6 @@ returns-clause-makes g c =
       shut = c.shut.new.desk;
       shuts = subst (λ (m : Option ℕ). MayShut m c.args.desk.now c.shut.new.desk) c.shut_before.ensures c.shut.ensures.shuts;
       makes = with_legs one two left legs carried (gone ∙ sym (ap (λ b. if b then forgotten (tran_of one.branch.xid) o left else left) forgets))
-    (kept_read g.L.DecisionLog.state g.L.DecisionRecords.knows g.L.DecisionLog.loses (branches_of one two) log c.carry_out.new.log c.forget_made.new.log o c.forget_made.ensures.lost
-    c.in_ok-outcome.ensures.read);
+          (kept_read g.L.DecisionLog.state g.L.DecisionRecords.knows g.L.DecisionLog.loses (branches_of one two) log c.carry_out.new.log c.forget_made.new.log o c.forget_made.ensures.lost
+          c.in_ok-outcome.ensures.read);
     }

@@ -1,21 +1,21 @@
-use Rattle.std.proofs.Common.{rules, ◌≡◌, ◌+◌, Bool, List, [], ◌∷◌, ◌++◌, length, length-append, map, append_assoc, append-nil, sym, ap, ◌∙◌, subst, arith}
+use Rattle.std.proofs.Common.{rules, ◌≡◌, ℕ, ◌+◌, Bool, List, [], ◌∷◌, ◌++◌, length, length-append, map, append_assoc, append-nil, sym, ap, ◌∙◌, subst, arith}
 use Rattle.std.proofs.lemmas.List.{length-map, map-append}
 use Rattle.std.specs.Vec.Iter.{into_iter_items, into_iter_len}
 use Rattle.xa_base.proofs.Lists.{none_of}
 use Rattle.xa_crew.specs.declared.again.WithScan.{WithScan}
 use Rattle.xa_crew.specs.declared.client_job.Attended.{Attended}
 use Rattle.xa_bank.specs.declared.teller.Teller.{Teller}
-use Rattle.xa_bank_days.specs.Days.{AreReadBack, IsReadBack}
+use Rattle.xa_bank.specs.Tellers.{ReadsBack}
+use Rattle.xa_bank_days.specs.Days.{ForEach}
 use Rattle.xa_bank_days.proofs.Back.{one_back_more}
 use Rattle.xa_bank_days.proofs.Turned.{one_fewer}
-use Rattle.xa_bank_days.proofs.days.all_off_work.Goals as goal
+use Rattle.xa_bank_days.proofs.day.all_off_work.Goals as goal
 
 pub loop-attended-preserved : goal.loop-attended-preserved
 loop-attended-preserved g c =
     let i = c.loop-attended.invariant in
-    let state = g.L.DecisionLog.state in
-    let knows = g.L.DecisionRecords.knows in
-    let loses = g.L.DecisionLog.loses in
+    let Back : ℕ → Teller g.row.L.Denot → g.row.L.Denot → Bool → Type 0 =
+    ReadsBack g.L.DecisionLog.state g.L.DecisionRecords.knows g.L.DecisionLog.loses g.L.ReopenLog.reopens in
     let teller_of : Attended (WithScan (Teller g.row.L.Denot)) → Teller g.row.L.Denot = λ a. a.client.client in
     let ys : List (Attended (WithScan (Teller g.row.L.Denot))) = c.loop-attended.yielded in
     let own : Teller g.row.L.Denot = c.in-Some.attended.client.client in
@@ -26,17 +26,16 @@ loop-attended-preserved g c =
     let one_more : length (ys ++ c.in-Some.attended ∷ []) ≡ length ys + 1 = length-append ys (c.in-Some.attended ∷ []) in
     let outcomes_are : c.replace.result ≡ own.outcomes =
     c.replace.ensures.value ∙ ap (λ (t : Teller g.row.L.Denot). t.outcomes) c.read_back-teller.ensures.same in
-    let its : IsReadBack state knows loses (1 + length (map teller_of ys)) own log has =
-    subst (λ t. IsReadBack state knows loses t own log has) number c.read_back-teller.ensures.log in
+    let its : Back (1 + length (map teller_of ys)) own log has = subst (λ t. Back t own log has) number c.read_back-teller.ensures.reads_back in
     let logs_are : map (λ (t : Teller g.row.L.Denot). t.log) c.push_reserved-in-loop-attended-2.new.self.items ≡ map (λ (t : Teller g.row.L.Denot). t.log) c.loop-attended.tellers.items ++ log ∷ [] =
     ap (map (λ (t : Teller g.row.L.Denot). t.log)) c.push_reserved-in-loop-attended-2.ensures.items
     ∙ map-append (λ (t : Teller g.row.L.Denot). t.log) c.loop-attended.tellers.items _ in
     record {
       so_far = append_assoc ys (c.in-Some.attended ∷ []) _ ∙ ap (λ l. ys ++ l) (sym c.in-Some.ensures.steps.0) ∙ i.so_far;
       logs =
-          subst (λ (p : List (Teller g.row.L.Denot) × (List g.row.L.Denot × List Bool)). AreReadBack state knows loses 1 p.0 p.1.0 p.1.1)
+          subst (λ (p : List (Teller g.row.L.Denot) × (List g.row.L.Denot × List Bool)). ForEach Back 1 p.0 p.1.0 p.1.1)
           (λ k. (sym (map-append teller_of ys (c.in-Some.attended ∷ [])) k, (sym logs_are k, sym c.push_reserved-in-loop-attended.ensures.items k)))
-          (one_back_more state knows loses 1 (map teller_of ys) (map (λ (t : Teller g.row.L.Denot). t.log) c.loop-attended.tellers.items) c.loop-attended.found.items own log has i.logs its);
+          (one_back_more Back 1 (map teller_of ys) (map (λ (t : Teller g.row.L.Denot). t.log) c.loop-attended.tellers.items) c.loop-attended.found.items own log has i.logs its);
       counted = (let counted = i.counted in omega (arith, one_more, counted));
       all_counted = one_fewer (into_iter_len c.loop-attended.attended-iterator) _ _ _ c.in-Some.attended c.in-Some.ensures.steps.0 c.in-Some.ensures.steps.1 i.all_counted;
       as_many_found =
@@ -60,24 +59,18 @@ loop-attended-preserved g c =
     }
 
 -- all clients were taken
-pub returns-clause-logs : goal.returns-clause-logs
-returns-clause-logs g c =
+pub returns : goal.returns
+returns g c =
     let i = c.loop-attended.invariant in
     let none : into_iter_items c.loop-attended.attended-iterator ≡ [] =
     none_of (into_iter_items c.loop-attended.attended-iterator) (sym i.all_counted ∙ c.in-None.ensures.steps.0) in
     let whole : c.loop-attended.yielded ≡ c.args.clients.items =
     sym (append-nil c.loop-attended.yielded) ∙ ap (λ (l : List (Attended (WithScan (Teller g.row.L.Denot)))). c.loop-attended.yielded ++ l) (sym none)
     ∙ i.so_far in
-    subst (λ (l : List (Attended (WithScan (Teller g.row.L.Denot)))). AreReadBack g.L.DecisionLog.state g.L.DecisionRecords.knows g.L.DecisionLog.loses 1
-    (map (λ (a : Attended (WithScan (Teller g.row.L.Denot))). a.client.client) l) (map (λ (t : Teller g.row.L.Denot). t.log) c.loop-attended.tellers.items) c.loop-attended.found.items)
-    whole i.logs
-
-pub returns-clause-outcomes : goal.returns-clause-outcomes
-returns-clause-outcomes g c =
-    let i = c.loop-attended.invariant in
-    let none : into_iter_items c.loop-attended.attended-iterator ≡ [] =
-    none_of (into_iter_items c.loop-attended.attended-iterator) (sym i.all_counted ∙ c.in-None.ensures.steps.0) in
-    let whole : c.loop-attended.yielded ≡ c.args.clients.items =
-    sym (append-nil c.loop-attended.yielded) ∙ ap (λ (l : List (Attended (WithScan (Teller g.row.L.Denot)))). c.loop-attended.yielded ++ l) (sym none)
-    ∙ i.so_far in
-    i.outcomes ∙ ap (map (λ (a : Attended (WithScan (Teller g.row.L.Denot))). a.client.client.outcomes)) whole
+    record {
+      logs =
+          subst (λ (l : List (Attended (WithScan (Teller g.row.L.Denot)))). ForEach (ReadsBack g.L.DecisionLog.state g.L.DecisionRecords.knows g.L.DecisionLog.loses g.L.ReopenLog.reopens) 1
+          (map (λ (a : Attended (WithScan (Teller g.row.L.Denot))). a.client.client) l) (map (λ (t : Teller g.row.L.Denot). t.log) c.loop-attended.tellers.items) c.loop-attended.found.items)
+          whole i.logs;
+      outcomes = i.outcomes ∙ ap (map (λ (a : Attended (WithScan (Teller g.row.L.Denot))). a.client.client.outcomes)) whole;
+    }

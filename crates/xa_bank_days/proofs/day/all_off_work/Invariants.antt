@@ -1,13 +1,14 @@
 use Rattle.std.proofs.Common.{◌≡◌, ◌++◌, map, length, vec_capacity}
 use Rattle.std.specs.Vec.Iter.{into_iter_items, into_iter_len}
-use Rattle.xa_bank_days.specs.Days.{AreReadBack}
-use Rattle.xa_bank_days.proofs.days.all_off_work.Given as goal
+use Rattle.xa_bank.specs.Tellers.{ReadsBack}
+use Rattle.xa_bank_days.specs.Days.{ForEach}
+use Rattle.xa_bank_days.proofs.day.all_off_work.Given as goal
 
 -- the first tellers are off work
 abbrev pub invariant-loop-attended : goal.invariant-loop-attended
 invariant-loop-attended g l = record {
   so_far : l.yielded ++ into_iter_items l.attended-iterator ≡ l.fn.clients.items;
-  logs : AreReadBack g.L.DecisionLog.state g.L.DecisionRecords.knows g.L.DecisionLog.loses 1 (map (λ a. a.client.client) l.yielded) (map (λ t. t.log) l.tellers.items)
+  logs : ForEach (ReadsBack g.L.DecisionLog.state g.L.DecisionRecords.knows g.L.DecisionLog.loses g.L.ReopenLog.reopens) 1 (map (λ a. a.client.client) l.yielded) (map (λ t. t.log) l.tellers.items)
       l.found.items;
   counted : l.thread ≡ length l.yielded;
   all_counted : into_iter_len l.attended-iterator ≡ length (into_iter_items l.attended-iterator);

@@ -1,13 +1,13 @@
 use Rattle.std.proofs.Common.{◌≡◌, ◌++◌, length, vec_capacity}
 use Rattle.std.specs.Vec.Iter.{into_iter_items, into_iter_len}
-use Rattle.xa_bank_days.specs.Kept.{AreKept}
-use Rattle.xa_bank_days.proofs.days.keep_days.Given as goal
+use Rattle.xa_bank_days.specs.Banks.{AreClosed}
+use Rattle.xa_bank_days.proofs.days.close_days.Given as goal
 
--- the first days were kept
+-- the first days were closed
 abbrev pub invariant-loop-errands : goal.invariant-loop-errands
 invariant-loop-errands g l = record {
   so_far : l.yielded ++ into_iter_items l.errands-iterator ≡ l.fn.days.items;
-  kept : AreKept g.L.DecisionLog.state g.L.DecisionRecords.knows g.L.DecisionLog.loses l.fn.bank l.yielded l.closed.items l.bank;
+  closed : AreClosed g.L.DecisionLog.state g.L.DecisionRecords.knows g.L.DecisionLog.loses g.L.ReopenLog.reopens l.fn.bank l.yielded l.closed.items l.bank;
   as_many : length l.closed.items ≡ length l.yielded;
   all_counted : into_iter_len l.errands-iterator ≡ length (into_iter_items l.errands-iterator);
   room : vec_capacity l.closed ≡ vec_capacity l.initial.closed;

@@ -1,7 +1,7 @@
 use Rattle.std.proofs.Common.{ℕ, ◌<◌, ◌≤◌, get_or, length}
 use Rattle.std.specs.List.{All}
-use Rattle.xa_bank_days.specs.declared.days.Errands.{Errands}
-use Rattle.xa_bank_days.proofs.days.most.Given as goal
+use Rattle.xa_bank_days.specs.declared.errands.Errands.{Errands}
+use Rattle.xa_bank_days.proofs.errands.most.Given as goal
 
 -- none of the first has more, and what none has more than is no less
 abbrev pub invariant-loop-errand : goal.invariant-loop-errand

@@ -5,10 +5,10 @@ use Rattle.std.specs.Vec.Iter.{into_iter_items, into_iter_len}
 use Rattle.std.proofs.lemmas.Grind.{common_steps}
 use Rattle.xa_base.proofs.Lists.{none_of}
 use Rattle.xa_bank.specs.declared.teller.Teller.{Teller}
-use Rattle.xa_bank_days.specs.declared.days.Errands.{Errands}
-use Rattle.xa_bank_days.specs.Kept.{habits_on}
+use Rattle.xa_bank_days.specs.declared.errands.Errands.{Errands}
+use Rattle.xa_bank_days.specs.Banks.{habits_on}
 use Rattle.xa_bank_days.proofs.Turned.{moved_map, one_fewer, pushed_map}
-use Rattle.xa_bank_days.proofs.days.turn_all.Goals as goal
+use Rattle.xa_bank_days.proofs.errands.turn_all.Goals as goal
 
 one_less : (y e n : ℕ) (rest more : List Errands) (x : Errands) → y + length rest ≡ n → rest ≡ x ∷ more → e ≡ y + 1 → e + length more ≡ n
 one_less y e n rest more x left front next = let size = ap (λ l. length l) front in omega (arith, left, size, next)

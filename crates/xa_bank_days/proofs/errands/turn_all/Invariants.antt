@@ -1,8 +1,8 @@
 use Rattle.std.proofs.Common.{◌≡◌, ◌+◌, [], ◌++◌, map, length, vec_capacity}
 use Rattle.std.specs.List.{All}
 use Rattle.std.specs.Vec.Iter.{into_iter_items, into_iter_len}
-use Rattle.xa_bank_days.specs.Kept.{habits_on}
-use Rattle.xa_bank_days.proofs.days.turn_all.Given as goal
+use Rattle.xa_bank_days.specs.Banks.{habits_on}
+use Rattle.xa_bank_days.proofs.errands.turn_all.Given as goal
 
 -- the first tellers are turned to the first errands
 abbrev pub invariant-loop-teller : goal.invariant-loop-teller

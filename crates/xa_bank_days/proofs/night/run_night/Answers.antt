@@ -1,42 +1,45 @@
-use Rattle.std.specs.Prelude.{Err, IfErr, IfSome, Result}
-use Rattle.std.proofs.Common.{◌≡◌, None, List, [], ◌∷◌, ◌++◌, subst, sym, ap, ◌∙◌}
+use Rattle.std.specs.Prelude.{Err, IfErr, IfOk, Result}
+use Rattle.std.proofs.Common.{◌≡◌, List, [], ◌∷◌, ◌++◌, subst, sym, ap, ◌∙◌, refl}
+use Rattle.std.specs.List.{All}
 use Rattle.xa_crew.specs.declared.again.AgainFault.{AgainFault}
 use Rattle.xa_crew.specs.declared.again.AgainFault.TheVariants.{Unsettled}
 use Rattle.xa_crew.specs.declared.again.WithScan.{WithScan}
 use Rattle.xa_crew.specs.declared.run.Ran.{Ran}
 use Rattle.xa_crew.specs.Again.{HasRunAgain, IfUnsettled, IsRunAgain}
+use Rattle.xa_switch.specs.Again.{MayReopen}
 use Rattle.xa_bank_days.specs.declared.night.Resolver.{Resolver}
-use Rattle.xa_bank_days.specs.Nights.{IsNight, ResolvesBy}
-use Rattle.xa_bank_days.proofs.Nightly.{night_law, tellers_law}
+use Rattle.xa_bank_days.specs.declared.night.Unresolved.TheVariants.{NoMemory}
+use Rattle.xa_bank_days.specs.Nights.{Excuses, HasRoomToResolve, IsNight, ResolvesBy}
+use Rattle.xa_bank_days.proofs.Nightly.{left_law, night_law, tellers_law}
 use Rattle.xa_bank_days.proofs.night.run_night.Goals as goal
 
-pub returns-in-Some-clause-night : goal.returns-in-Some-clause-night
-returns-in-Some-clause-night g c =
-    let r : Resolver g.row.L.Denot = record { alloc = c.args.alloc; tellers = c.args.tellers; resolved = None } in
+pub returns-in-Some : goal.returns-in-Some
+returns-in-Some g c =
+    let state = g.L.DecisionLog.state in
+    let knows = g.L.DecisionRecords.knows in
+    let s = c.args.settled in
+    let again = c.args.again.now in
+    let r : Resolver g.row.L.Denot = record { alloc = c.args.alloc; tellers = c.args.tellers; resolved = Err NoMemory } in
     let run = c.in-Ok-run_clients_again_in_turns.field-0 in
     let given : c.push_reserved.new.self.items ≡ r ∷ [] =
     c.push_reserved.ensures.items ∙ ap (λ (l : List (Resolver g.row.L.Denot)). l ++ r ∷ []) c.in-Ok.ensures.items in
     let ran =
-    subst (λ (rs : List (Resolver g.row.L.Denot)). IsRunAgain (ResolvesBy g.L.DecisionLog.state g.L.DecisionRecords.knows) c.args.settled c.args.again.now rs run.clients.items run.settled) given c.in-Ok-run_clients_again_in_turns.ensures.ran in
-    let is : run.clients.items ≡ c.pop.new.self.items ++ c.in-Some.attended ∷ [] =
-    c.in-Some.ensures.items in
-    subst (λ o. IfSome o (λ z. IsNight g.L.DecisionLog.state g.L.DecisionRecords.knows c.args.tellers.items c.args.settled c.args.again.now z.outcomes.items run.settled)) (ap (λ p. p.1) (sym c.into_parts-tellers.ensures))
-    (night_law g.L.DecisionLog.state g.L.DecisionRecords.knows c.args.settled c.args.again.now r run.clients.items run.settled ran c.requires
-    c.settled_openings_are_whole.ensures c.reopened_openings_go_on_from_what_was_left.ensures c.in-Some.attended c.pop.new.self.items is)
-
-pub returns-in-Some-clause-tellers : goal.returns-in-Some-clause-tellers
-returns-in-Some-clause-tellers g c =
-    let r : Resolver g.row.L.Denot = record { alloc = c.args.alloc; tellers = c.args.tellers; resolved = None } in
-    let run = c.in-Ok-run_clients_again_in_turns.field-0 in
-    let given : c.push_reserved.new.self.items ≡ r ∷ [] =
-    c.push_reserved.ensures.items ∙ ap (λ (l : List (Resolver g.row.L.Denot)). l ++ r ∷ []) c.in-Ok.ensures.items in
-    let ran =
-    subst (λ (rs : List (Resolver g.row.L.Denot)). IsRunAgain (ResolvesBy g.L.DecisionLog.state g.L.DecisionRecords.knows) c.args.settled c.args.again.now rs run.clients.items run.settled) given c.in-Ok-run_clients_again_in_turns.ensures.ran in
-    let is : run.clients.items ≡ c.pop.new.self.items ++ c.in-Some.attended ∷ [] =
-    c.in-Some.ensures.items in
-    ap (λ p. p.0) c.into_parts-tellers.ensures
-    ∙ tellers_law g.L.DecisionLog.state g.L.DecisionRecords.knows c.args.settled c.args.again.now r run.clients.items run.settled ran c.requires
-    c.settled_openings_are_whole.ensures c.reopened_openings_go_on_from_what_was_left.ensures c.in-Some.attended c.pop.new.self.items is
+    subst (λ (rs : List (Resolver g.row.L.Denot)). IsRunAgain (ResolvesBy state knows) s again rs run.clients.items run.settled) given c.in-Ok-run_clients_again_in_turns.ensures.ran in
+    let is : run.clients.items ≡ c.pop.new.self.items ++ c.in-Some.attended ∷ [] = c.in-Some.ensures.items in
+    let whole = c.settled_openings_are_whole.ensures in
+    let goes_on = c.reopened_openings_go_on_from_what_was_left.ensures in
+    let parts = c.into_parts-tellers.ensures in
+    record {
+      night =
+          subst (λ o. IfOk o (λ z. IsNight state knows c.args.tellers.items s again z.outcomes.items run.settled)) (ap (λ p. p.1) (sym parts))
+          (night_law state knows s again r run.clients.items run.settled ran c.requires whole goes_on c.in-Some.attended c.pop.new.self.items is);
+      unresolved =
+          subst (λ o. IfErr o (Excuses ⊥ (All (λ t. knows t.log) c.args.tellers.items) (HasRoomToResolve s again) (MayReopen s again))) (ap (λ p. p.1) (sym parts))
+          (left_law state knows s again r run.clients.items run.settled ran c.requires whole goes_on c.in-Some.attended c.pop.new.self.items is);
+      tellers = ap (λ p. p.0) parts
+          ∙ tellers_law state knows s again r run.clients.items run.settled ran c.requires whole goes_on c.in-Some.attended c.pop.new.self.items is;
+      unsettled = tt;
+    }
 
 -- what holds of a run that isn't settled
 of_unsettled : {A C : Type 0} (P : Ran (WithScan C) → Type 0) (r : Result A (AgainFault C)) (ran : Ran (WithScan C)) → r ≡ Err (Unsettled ran)
@@ -45,9 +48,10 @@ of_unsettled P r ran is h = subst (λ q. IfErr q (IfUnsettled P)) is h
 
 pub returns-in-Err-Unsettled-clause-unsettled : goal.returns-in-Err-Unsettled-clause-unsettled
 returns-in-Err-Unsettled-clause-unsettled g c =
-    let is : c.run_clients_again_in_turns.result ≡ Err (Unsettled c.in-Err-Unsettled.ran) = cc in (
-      c.push_reserved.new.self.items,
-      of_unsettled
-          (HasRunAgain (ResolvesBy g.L.DecisionLog.state g.L.DecisionRecords.knows) c.args.settled c.args.again.now c.push_reserved.new.self.items)
-          c.run_clients_again_in_turns.result c.in-Err-Unsettled.ran is c.run_clients_again_in_turns.ensures.unsettled,
-    )
+    let r : Resolver g.row.L.Denot = record { alloc = c.args.alloc; tellers = c.args.tellers; resolved = Err NoMemory } in
+    let P : List (Resolver g.row.L.Denot) → Ran (WithScan (Resolver g.row.L.Denot)) → Type 0 =
+    HasRunAgain (ResolvesBy g.L.DecisionLog.state g.L.DecisionRecords.knows) c.args.settled c.args.again.now in
+    let is : c.run_clients_again_in_turns.result ≡ Err (Unsettled c.in-Err-Unsettled.ran) = cc in
+    let given : c.push_reserved.new.self.items ≡ r ∷ [] =
+    c.push_reserved.ensures.items ∙ ap (λ (l : List (Resolver g.row.L.Denot)). l ++ r ∷ []) c.in-Ok.ensures.items in
+    (r, refl, subst (λ rs. P rs c.in-Err-Unsettled.ran) given (of_unsettled (P c.push_reserved.new.self.items) c.run_clients_again_in_turns.result c.in-Err-Unsettled.ran is c.run_clients_again_in_turns.ensures.unsettled))

@@ -1,6 +1,6 @@
 use Rattle.std.proofs.Common.{refl}
 use Rattle.xa_bank_days.proofs.FirstOpening.{all_stores, tables}
-use Rattle.xa_bank_days.proofs.days.Bank.open.Goals as goal
+use Rattle.xa_bank_days.proofs.bank.Bank.open.Goals as goal
 
 pub returns-in-Ok-run_clients_in_turns-clause-opened : goal.returns-in-Ok-run_clients_in_turns-clause-opened
 returns-in-Ok-run_clients_in_turns-clause-opened g c =

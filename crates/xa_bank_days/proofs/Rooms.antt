@@ -1,0 +1,81 @@
+-- The room of a night's desk for what it takes to resolve, and why nothing was resolved.
+use Rattle.std.specs.Prelude.{IfErr, Ok, Err, Result, nat_lt}
+use Rattle.std.proofs.Common.{◌≡◌, ℕ, zero, suc, ◌-◌, ◌<◌, ◌≤◌, ◌==◌, ◌||◌, ⊎_elim, Bool, List, [], ◌∷◌, length, sym, refl, ap, ◌∙◌, subst}
+use Rattle.std.proofs.Common.{arith}
+use Rattle.std.specs.List.{slice_index_or}
+use Rattle.std.proofs.lemmas.Bool.{cases_lt, le-ltb, ne_eqb, or_from}
+use Rattle.xa_base.proofs.Truth.{at_false}
+use Rattle.xa_base.specs.Lists.{IsUpTo}
+use Rattle.xa_words.specs.Xid.{XidName}
+use Rattle.xa_desk.specs.LedgerView.{LedgerView}
+use Rattle.xa_desk.specs.Lanes.{new_ledgers}
+use Rattle.xa_desk.specs.DeskView.{DeskView, ledger, no_ledger, room_at}
+use Rattle.xa_desk.proofs.Fresh.{fresh_sent}
+use Rattle.xa_switch.specs.declared.plan.Again.{Again}
+use Rattle.xa_switch.specs.Again.{flags_in, managers_in, reopening}
+use Rattle.xa_switch.specs.OpenedPieces.{IsNewDesk}
+use Rattle.xa_switch.specs.Recovery.{IsScanOf}
+use Rattle.xa_switch.specs.Scans.{ScanView, left_at}
+use Rattle.xa_switch.specs.Settling.{Settling}
+use Rattle.xa_driver.specs.declared.resolved.Resolved.{Resolved}
+use Rattle.xa_driver.specs.Resolving.{MayResolve, requests_for}
+use Rattle.xa_bank_days.specs.declared.night.Unresolved.{Unresolved}
+use Rattle.xa_bank_days.specs.declared.night.Unresolved.TheVariants.{BadNumbers, NoMemory, NoRoom, TellerWantsMemory, UnknownLog}
+use Rattle.xa_bank_days.specs.Nights.{Excuses, HasRoomToResolve}
+
+-- a new ledger has all requests of the plan
+fresh_plan : (n : ℕ) (flags : List Bool) (i : ℕ) → i < length flags → (slice_index_or (new_ledgers n flags) i no_ledger).plan ≡ n
+fresh_plan n [] i low = absurd (omega (arith, low))
+fresh_plan n (b ∷ flags) zero low = refl
+fresh_plan n (b ∷ flags) (suc i) low = fresh_plan n flags i (omega (arith, low))
+
+many_ledgers : (n : ℕ) (flags : List Bool) → length (new_ledgers n flags) ≡ length flags
+many_ledgers n [] = refl
+many_ledgers n (b ∷ flags) = ap suc (many_ledgers n flags)
+
+fresh_room : (n : ℕ) (flags : List Bool) (m : ℕ) → IsUpTo (length flags) m → room_at (new_ledgers n flags) m ≡ n
+fresh_room n flags zero up = let low = up.0 in absurd (omega (arith, low))
+fresh_room n flags (suc i) up =
+    let high = up.1 in
+    let many = many_ledgers n flags in
+    let at : List LedgerView = new_ledgers n flags in
+    let plan : (ledger at (suc i)).plan ≡ n = fresh_plan n flags (suc i - 1) (omega (arith, high)) in
+    let none : length (ledger at (suc i)).sent ≡ 0 = ap (λ l. length l) (fresh_sent n flags (suc i - 1)) in
+    let all : (ledger at (suc i)).plan - length (ledger at (suc i)).sent ≡ n = omega (arith, plan, none) in
+    at_false ((suc i == 0) || nat_lt (length at) (suc i)) 0 _
+    (or_from (suc i == 0) (nat_lt (length at) (suc i)) (ne_eqb (suc i) 0 (λ e. absurd (omega (arith, e)))) (le-ltb (length at) (suc i) (omega (arith, high, many))))
+    ∙ all
+
+none_left : (lists : List (List XidName)) (k : ℕ) → length lists ≤ k → slice_index_or lists k [] ≡ []
+none_left [] k past = refl
+none_left (l ∷ lists) zero past = absurd (omega (arith, past))
+none_left (l ∷ lists) (suc k) past = none_left lists k (omega (arith, past))
+
+-- where the numbers have room for what is left, the desk has
+pub room_to_resolve : (s : Settling) (again : Again) (d : DeskView) (z : ScanView) → IsNewDesk (reopening s again) 0 d → IsScanOf s z
+    → HasRoomToResolve s again → MayResolve d z
+room_to_resolve s again d z fresh scanned room = record {
+  room = λ m up.
+      let positive = up.0 in
+      ⊎_elim
+      (λ (past : managers_in s < m).
+      let many = scanned.left.managers in
+      let none : left_at z m ≡ [] =
+      elim m as (λ k. managers_in s < k → left_at z k ≡ []) [ zero ↦ λ p. refl | suc k ↦ λ p. none_left z.left k (omega (arith, p, many)) ] past in
+      subst (λ (xs : List XidName). requests_for xs ≤ room_at d.ledgers m) (sym none) (omega arith))
+      (λ (there : m ≤ managers_in s).
+      let is : room_at d.ledgers m ≡ again.requests =
+      ap (λ (x : DeskView). room_at x.ledgers m) fresh.made ∙ fresh_room again.requests (flags_in s) m (positive, there) in
+      subst (λ (n : ℕ). requests_for (left_at z m) ≤ n) (sym is) (room z scanned m (positive, there)))
+      (cases_lt (managers_in s) m);
+}
+
+-- why nothing was resolved, by what the caller knows
+pub left_on : {Room Fits : Type 0} (Known Good Same : Type 0) → (Fits → Room) → (r : Result Resolved Unresolved)
+    → IfErr r (λ why. Same × Excuses ⊥ Known Room (Unit {0}) why) → IfErr r (Excuses ⊥ Known Fits Good)
+left_on Known Good Same so (Ok z) h = tt
+left_on Known Good Same so (Err TellerWantsMemory) h = h.1
+left_on Known Good Same so (Err UnknownLog) h = h.1
+left_on Known Good Same so (Err NoRoom) h = λ fits. h.1 (so fits)
+left_on Known Good Same so (Err BadNumbers) h = absurd (h.1 tt)
+left_on Known Good Same so (Err NoMemory) h = tt
