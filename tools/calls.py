@@ -24,7 +24,7 @@ def sentence(lines):
 def exported(crate):
     """What a crate's root hands out: the names of its items, and its public modules."""
     text = (ROOT / "crates" / crate / "src" / "lib.rt").read_text()
-    names = set()
+    names = set(re.findall(r"^pub (?:struct|enum|trait) (\w+)", text, re.M))
     for path in re.findall(r"^pub use ([^;]*);", text, re.M):
         names.update(re.findall(r"\w+", path.partition("{")[2] if "{" in path else path.rpartition("::")[2]))
     return names, set(re.findall(r"^pub mod (\w+);", text, re.M)), text
@@ -36,7 +36,7 @@ def calls_of(crate):
     source = ROOT / "crates" / crate / "src"
     for file in sorted(source.glob("**/*.rt")):
         module = file.stem if file.stem in modules and file.parent == source else ""
-        if file.name in ("lib.rt", "main.rt") and not re.search(r"^pub fn", root, re.M):
+        if file.name in ("lib.rt", "main.rt") and not re.search(r"^(?:pub fn|impl)", root, re.M):
             continue
         about, owner = [], None
         for line in file.read_text().splitlines():

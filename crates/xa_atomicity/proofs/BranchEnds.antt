@@ -17,7 +17,7 @@ use Rattle.xa_tables.specs.History as history
 use Rattle.xa_tables.specs.History.{History, Fate, fate, coded, tables_after, decided_fate, is_in_doubt as is_unknown, IsFateOf, share}
 use Rattle.xa_tables.specs.Openings.{AreLeft, commits_over, told_by}
 use Rattle.xa_switch.specs.Fates.{IsOpenedWith, first_of, history as history_of, settled_fate}
-use Rattle.xa_switch.specs.Scans.{left_at}
+use Rattle.xa_scan.specs.Left.{left_at}
 use Rattle.xa_switch.specs.Settling.{Settling, IsSettled}
 use Rattle.xa_driver.specs.declared.branch.Branch.{Branch}
 use Rattle.xa_driver.specs.declared.done.Ending.{Ending}

@@ -28,7 +28,7 @@ use Rattle.xa_desk.specs.Lanes.{numbered}
 use Rattle.xa_worker.specs.Journal.{requests, Entry}
 use Rattle.xa_switch.specs.Again.{last_in}
 use Rattle.xa_switch.specs.Fates.{IsOpenedWith, first_of, history as history_of, ledgers_of, settled_fate}
-use Rattle.xa_switch.specs.Scans.{left_at}
+use Rattle.xa_scan.specs.Left.{left_at}
 use Rattle.xa_switch.specs.Settling.{ManagerPart, Settling, IsSettled, FollowsTables, answers, collected, find_manager, journal_in}
 use Rattle.xa_driver.specs.declared.resolved.Outcome.{Outcome}
 use Rattle.xa_driver.specs.Endings.{is_decided}

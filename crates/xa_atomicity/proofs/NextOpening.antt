@@ -12,7 +12,7 @@ use Rattle.xa_switch.specs.Again.{reopening}
 use Rattle.xa_switch.specs.Fates.{first_of}
 use Rattle.xa_switch.specs.OfPlans.{IsOf}
 use Rattle.xa_switch.specs.Recovery.{IsScanOf}
-use Rattle.xa_switch.specs.Scans.{ScanView, left_at}
+use Rattle.xa_scan.specs.Left.{ScanView, left_at}
 use Rattle.xa_switch.specs.Settling.{Settling, IsSettled}
 use Rattle.xa_switch.specs.declared.plan.Again.{Again}
 use Rattle.xa_desk.specs.DeskView.{DeskView}

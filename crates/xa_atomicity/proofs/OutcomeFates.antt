@@ -26,7 +26,7 @@ use Rattle.xa_tables.specs.Openings.{AreLeft}
 use Rattle.xa_tables.proofs.Law.{opening_sound, sound_after}
 use Rattle.xa_desk.specs.DeskView.{ledger}
 use Rattle.xa_switch.specs.Fates.{IsOpenedWith, ledgers_of, first_of, history as history_of, settled_fate}
-use Rattle.xa_switch.specs.Scans.{left_at}
+use Rattle.xa_scan.specs.Left.{left_at}
 use Rattle.xa_switch.specs.Settling.{Settling, IsSettled}
 use Rattle.xa_driver.specs.declared.resolved.Outcome.{Outcome}
 use Rattle.xa_atomicity.specs.Resolution.{IsKept, IsUseIn, OnlyResolves, Opening, ResolveCall, ended_as, outcome_fate, resolves, with_use, TellsTheOutcomes}

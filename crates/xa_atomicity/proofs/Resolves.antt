@@ -21,7 +21,7 @@ use Rattle.xa_words.specs.declared.request.Op.TheVariants.{OpenRm, CloseRm, Forg
 use Rattle.xa_desk.specs.LedgerView.{LedgerView, is_rm_fail, learnt_shut, with_sent, with_collected}
 use Rattle.xa_desk.specs.DeskView.{ledger}
 use Rattle.xa_desk.specs.Growth.{HasGrown}
-use Rattle.xa_switch.specs.Scans.{ScanView, left_at}
+use Rattle.xa_scan.specs.Left.{ScanView, left_at}
 use Rattle.xa_switch.proofs.Lists.{contains_map}
 use Rattle.xa_driver.specs.declared.resolved.Outcome.{Outcome}
 use Rattle.xa_driver.specs.Endings.{is_decided}

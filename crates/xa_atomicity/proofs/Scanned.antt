@@ -12,7 +12,7 @@ use Rattle.xa_switch.specs.Again.{managers_in, reopened_at, reopening}
 use Rattle.xa_switch.specs.Columns.{Each}
 use Rattle.xa_switch.specs.Fates.{first_of}
 use Rattle.xa_switch.specs.OfPlans.{IsOf}
-use Rattle.xa_switch.specs.Scans.{ScanView, left_at}
+use Rattle.xa_scan.specs.Left.{ScanView, left_at}
 use Rattle.xa_switch.specs.Settling.{ManagerPart, Settling, find_manager}
 use Rattle.xa_switch.specs.declared.plan.Again.{Again}
 use Rattle.xa_switch.proofs.Lists.{found, contains_map}

@@ -24,7 +24,7 @@ use Rattle.xa_desk.specs.Growth.{HaveGrown}
 use Rattle.xa_switch.specs.Settling.{Settling, IsSettled, find_manager}
 use Rattle.xa_switch.specs.Fates.{ledgers_of, first_of, history as history_of, settled_fate}
 use Rattle.xa_switch.specs.Again.{last_in, reopened_at}
-use Rattle.xa_switch.specs.Scans.{ScanView, left_at}
+use Rattle.xa_scan.specs.Left.{ScanView, left_at}
 use Rattle.xa_driver.specs.declared.branch.Branch.{Branch}
 use Rattle.xa_driver.specs.declared.done.Done.{Done}
 use Rattle.xa_driver.specs.declared.done.Ending.{Ending}

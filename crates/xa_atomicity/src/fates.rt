@@ -30,7 +30,7 @@ ghost use Rattle.xa_driver.specs.declared.resolved.Outcome.{Outcome};
 ghost use Rattle.xa_tables.specs.History.{is_done};
 ghost use Rattle.xa_tables.specs.Tables.{Tables, is_left};
 ghost use Rattle.xa_tables.specs.Openings.{AreLeft};
-ghost use Rattle.xa_switch.specs.Scans.{left_at};
+ghost use Rattle.xa_scan.specs.Left.{left_at};
 ghost use Rattle.xa_switch.specs.OfPlans.{IsOfPlan};
 
 use crate::commits::one_outcome;

@@ -33,8 +33,9 @@ use xa_desk::Desk;
 use xa_driver::{Branch, Done, Resolved};
 use xa_log::laws::several_logs_are_read_as_one;
 use xa_log::{DecisionLog, DecisionRecords};
+use xa_scan::Scan;
 use xa_switch::laws::settled_journals_follow_the_tables;
-use xa_switch::{Again, Scan, Settled};
+use xa_switch::{Again, Settled};
 
 /// Over openings one after another, with a commit in the first and a resolve in the last: each branch of the commit
 /// that voted to commit ended as was decided, also where its fate was unknown as the first opening ended; or it was

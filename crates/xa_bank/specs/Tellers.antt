@@ -5,7 +5,7 @@ use Rattle.xa_words.specs.Tran.{TranName}
 use Rattle.xa_words.specs.declared.death.Death.{Death}
 use Rattle.xa_words.specs.declared.death.Death.TheVariants as death
 use Rattle.xa_desk.specs.DeskView.{DeskView}
-use Rattle.xa_switch.specs.Scans.{ScanView}
+use Rattle.xa_scan.specs.Left.{ScanView}
 use Rattle.xa_crew.specs.declared.client_job.Attended.{Attended}
 use Rattle.xa_driver.specs.declared.done.Ending.{Ending}
 use Rattle.xa_log.specs.Log.{IsReadAs, LogState}

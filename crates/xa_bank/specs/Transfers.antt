@@ -6,8 +6,8 @@ use Rattle.xa_words.specs.Tran.{TranName, tran_of}
 use Rattle.xa_words.specs.declared.death.Death.{Death}
 use Rattle.xa_words.specs.declared.request.RmOp.TheVariants.{Shut}
 use Rattle.xa_desk.specs.DeskView.{DeskView}
-use Rattle.xa_switch.specs.Asking.{native}
-use Rattle.xa_switch.specs.Putting.{Calls}
+use Rattle.xa_calls.specs.Asking.{native}
+use Rattle.xa_calls.specs.Putting.{Calls}
 use Rattle.xa_driver.specs.declared.branch.Branch.{Branch}
 use Rattle.xa_driver.specs.Forgetful.{is_acknowledged}
 use Rattle.xa_driver.specs.Decision.{yes_of}

@@ -13,13 +13,14 @@ ghost use Rattle.xa_bank.specs.Transfers.{tran_named};
 use crate::habits::{DiesAt, Habits};
 use std::alloc::{AllocError, Global};
 use std::sync::Wait;
+use xa_calls::native;
 use xa_crew::laws::idles_go_on;
 use xa_crew::{Client, ClientAgain};
 use xa_desk::laws::desks_go_on;
 use xa_desk::{Desk, Idle};
 use xa_driver::{Branch, forget_acknowledged};
 use xa_log::{DecisionLog, MemoryLog, ReopenLog};
-use xa_switch::{Scan, native};
+use xa_scan::Scan;
 use xa_words::{Death, Delta, Key, RmOp, TMNOFLAGS, Tran, Xid};
 use xa_work::{Change, Refusal, WorkOutcome, open_all, transact_until};
 

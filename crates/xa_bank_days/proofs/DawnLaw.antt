@@ -24,7 +24,7 @@ use Rattle.xa_switch.specs.declared.plan.Again.{Again}
 use Rattle.xa_switch.specs.Again.{last_in, reopened_at}
 use Rattle.xa_switch.specs.Settling.{Settling, IsSettled, find_manager}
 use Rattle.xa_switch.specs.Fates.{first_of, history, ledgers_of}
-use Rattle.xa_switch.specs.Scans.{left_at}
+use Rattle.xa_scan.specs.Left.{left_at}
 use Rattle.xa_switch.proofs.Journaled.{follows_first}
 use Rattle.xa_log.specs.Log.{IsReadAs, LogState, Records, record_of}
 use Rattle.xa_driver.specs.declared.resolved.Outcome.{Outcome}

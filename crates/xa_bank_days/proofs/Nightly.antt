@@ -23,7 +23,7 @@ use Rattle.xa_switch.specs.Again.{IsWhole, MayReopen, reopened_at, reopening}
 use Rattle.xa_switch.specs.Fates.{first_of, history, ledgers_of}
 use Rattle.xa_switch.specs.OfPlans.{IsOf}
 use Rattle.xa_switch.specs.Recovery.{IsScanOf}
-use Rattle.xa_switch.specs.Scans.{ScanView, left_at}
+use Rattle.xa_scan.specs.Left.{ScanView, left_at}
 use Rattle.xa_switch.specs.Settling.{Settling, IsSettled, sent}
 use Rattle.xa_log.specs.Log.{LogState, Records}
 use Rattle.xa_driver.specs.declared.resolved.Outcome.{Outcome}

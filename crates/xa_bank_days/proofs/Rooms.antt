@@ -15,7 +15,7 @@ use Rattle.xa_switch.specs.declared.plan.Again.{Again}
 use Rattle.xa_switch.specs.Again.{flags_in, managers_in, reopening}
 use Rattle.xa_switch.specs.OpenedPieces.{IsNewDesk}
 use Rattle.xa_switch.specs.Recovery.{IsScanOf}
-use Rattle.xa_switch.specs.Scans.{ScanView, left_at}
+use Rattle.xa_scan.specs.Left.{ScanView, left_at}
 use Rattle.xa_switch.specs.Settling.{Settling}
 use Rattle.xa_driver.specs.declared.resolved.Resolved.{Resolved}
 use Rattle.xa_driver.specs.Resolving.{MayResolve, requests_for}

@@ -19,8 +19,9 @@ use xa_desk::laws::desks_go_on;
 use xa_desk::{Desk, Idle};
 use xa_driver::{ResolveFault, Resolved, may_resolve, resolve};
 use xa_log::{DecisionLog, DecisionRecords};
+use xa_scan::Scan;
 use xa_switch::laws::{reopened_openings_go_on_from_what_was_left, settled_openings_are_whole};
-use xa_switch::{Again, OpenFault, Scan, Settled};
+use xa_switch::{Again, OpenFault, Settled};
 use xa_words::{ManagerSet, Tran};
 
 /// Why nothing was resolved of what a day left.

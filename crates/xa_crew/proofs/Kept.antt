@@ -6,7 +6,7 @@ use Rattle.xa_words.specs.declared.code.Code.{Code}
 use Rattle.xa_desk.specs.declared.operation.Operation.{Operation}
 use Rattle.xa_desk.specs.DeskView.{DeskView}
 use Rattle.xa_desk.specs.Kept.{AllKept}
-use Rattle.xa_switch.specs.Completing.{CollectsRedeemed}
+use Rattle.xa_calls.specs.Completing.{CollectsRedeemed}
 use Rattle.xa_base.specs.Lists.{Chain}
 use Rattle.xa_base.specs.Lists.Chain.{none, more}
 use Rattle.xa_base.proofs.Maps.{removed_there, removed_none}

@@ -5,7 +5,7 @@ use Rattle.xa_switch.specs.declared.plan.Again.{Again}
 use Rattle.xa_switch.specs.declared.plan.OpenFault.TheVariants.{BadPlan}
 use Rattle.xa_switch.specs.Again.{reopening}
 use Rattle.xa_switch.specs.Recovery.{AreScansOf}
-use Rattle.xa_switch.specs.Scans.{ScanView}
+use Rattle.xa_scan.specs.Left.{ScanView}
 use Rattle.xa_switch.specs.Settling.{Settling}
 use Rattle.xa_crew.specs.declared.again.AgainFault.{AgainFault}
 use Rattle.xa_crew.specs.declared.again.AgainFault.TheVariants.{Unopened, Unsettled, Unstarted}

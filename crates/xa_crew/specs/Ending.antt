@@ -7,7 +7,7 @@ use Rattle.xa_desk.specs.DeskView.{DeskView}
 use Rattle.xa_desk.specs.Ended.{EndedView, Ends}
 use Rattle.xa_desk.specs.GoesOn.{GoesOn}
 use Rattle.xa_desk.specs.Kept.{HoldsNone}
-use Rattle.xa_switch.specs.Completing.{CollectsRedeemed}
+use Rattle.xa_calls.specs.Completing.{CollectsRedeemed}
 use Rattle.xa_base.specs.Lists.{Chain}
 
 -- What was told of a desk: the numbers of handles with their codes.

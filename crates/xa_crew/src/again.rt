@@ -4,7 +4,7 @@ ghost use Rattle.xa_desk.specs.DeskView.{DeskView};
 ghost use Rattle.xa_desk.specs.GoesOn.{GoesOn};
 ghost use Rattle.xa_desk.specs.Kept.{AllKept};
 ghost use Rattle.xa_switch.specs.Again.{MayReopen, managers_in, reopening};
-ghost use Rattle.xa_switch.specs.Scans.{ScanView};
+ghost use Rattle.xa_scan.specs.Left.{ScanView};
 ghost use Rattle.xa_crew.specs.Again.{AreGiven, HasRunAgain, IfUnopened, IfUnstarted, IfUnsettled, IsBad, IsRunAgain};
 ghost use Rattle.xa_crew.specs.Opened.{HasSpaceFor, IsOpened, clients_of};
 
@@ -16,7 +16,8 @@ use std::fmt;
 use std::sync::Wait;
 use std::thread::Threads;
 use xa_desk::{Desk, Idle};
-use xa_switch::{Again, OpenFault, Scan, Settled, may_reopen, reopen};
+use xa_scan::Scan;
+use xa_switch::{Again, OpenFault, Settled, may_reopen, reopen};
 use xa_worker::Pace;
 
 /// What a thread of control does with its desk in an opening that was opened again, where it is lent its scan as well.

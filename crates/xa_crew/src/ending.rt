@@ -7,9 +7,9 @@ ghost use Rattle.xa_crew.specs.Ending.{EndsNumber, EndsNumbers, EndsDesk};
 
 use std::sync::Wait;
 use xa_base::MOST_HANDLES;
+use xa_calls::laws::outstanding_operations_stay_kept;
 use xa_desk::laws::desks_go_on;
 use xa_desk::{Desk, EndedDesk, Idle};
-use xa_switch::laws::outstanding_operations_stay_kept;
 use xa_words::Code;
 
 // Collects what the desk keeps under the number, and tells it.

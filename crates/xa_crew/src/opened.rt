@@ -17,7 +17,7 @@ use std::sync::Wait;
 use std::thread::Threads;
 use xa_base::{MOST_HANDLES, MOST_MANAGERS};
 use xa_desk::{Desk, EndedDesk};
-use xa_switch::laws::outstanding_operations_stay_kept;
+use xa_switch::laws::opened_desks_keep_what_is_outstanding;
 use xa_switch::{OpenFault, Plan, open_switch};
 use xa_words::Code;
 use xa_worker::{DoneWorker, Pace, Worker};
@@ -99,7 +99,7 @@ impl<C: Client> Space<C> {
             → AreOfOneOpening p desks.items workers.items → IsOpened p result }
         ensures clients { clients_of result ≡ clients.items }
     {
-        outstanding_operations_stay_kept();
+        opened_desks_keep_what_is_outstanding();
         let Space {
             jobs,
             outstanding,

@@ -16,7 +16,7 @@ use Rattle.xa_desk.specs.Kept.{AllKept}
 use Rattle.xa_desk.specs.Lanes.{submitted, after_fulls}
 use Rattle.xa_desk.specs.Looks.{Collects}
 use Rattle.xa_desk.proofs.Ledgers.{known_by, ledger-put_same, ledger-put_other}
-use Rattle.xa_switch.proofs.Kept.{answered_keep, fulls_kept, fulls_ledgers}
+use Rattle.xa_calls.proofs.Kept.{answered_keep, fulls_kept, fulls_ledgers}
 use Rattle.xa_driver.specs.Asks.{asked}
 use Rattle.xa_driver.specs.Resolving.{AsksLedger, AsksAlone}
 use Rattle.xa_driver.proofs.Asking.{Moved, keeps_start, keeps_chain}

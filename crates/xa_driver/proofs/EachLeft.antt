@@ -11,7 +11,8 @@ use Rattle.xa_base.proofs.Truth.{at_true, at_false}
 use Rattle.xa_words.specs.Xid.{XidName}
 use Rattle.xa_desk.specs.LedgerView.{LedgerView}
 use Rattle.xa_desk.specs.DeskView.{ledger, room_at}
-use Rattle.xa_switch.specs.Scans.{Asking, ScanView, left_at}
+use Rattle.xa_calls.specs.Scans.{Asking}
+use Rattle.xa_scan.specs.Left.{ScanView, left_at}
 use Rattle.xa_driver.specs.declared.resolved.Outcome.{Outcome}
 use Rattle.xa_log.specs.Log.{Records}
 use Rattle.xa_driver.specs.Resolving.{AsksLedger, Resolves, ResolvesAt, ResolvesThese, left_in, requests_for}

@@ -5,7 +5,8 @@ use Rattle.xa_base.specs.Lists.{Chain, none, more}
 use Rattle.xa_words.specs.Xid.{XidName}
 use Rattle.xa_words.specs.declared.code.Code.{Code}
 use Rattle.xa_words.specs.declared.request.Op.{Op}
-use Rattle.xa_switch.specs.Scans.{Asking, ScanView, left_at}
+use Rattle.xa_calls.specs.Scans.{Asking}
+use Rattle.xa_scan.specs.Left.{ScanView, left_at}
 use Rattle.xa_driver.specs.declared.resolved.Outcome.{Outcome}
 use Rattle.xa_log.specs.Log.{Records}
 use Rattle.xa_driver.specs.Resolving.{AsksIf, ResolvesAt, ResolvesBranch, ResolvesInTurn, begun, next}

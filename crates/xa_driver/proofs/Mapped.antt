@@ -9,7 +9,7 @@ use Rattle.xa_words.specs.Xid.{XidName}
 use Rattle.xa_words.specs.declared.code.Code.{Code}
 use Rattle.xa_words.specs.declared.request.Op.{Op}
 use Rattle.xa_words.specs.declared.request.Op.TheVariants.{OpenRm, Prepare, Forget}
-use Rattle.xa_switch.specs.Scans.{Asking}
+use Rattle.xa_calls.specs.Scans.{Asking}
 use Rattle.xa_driver.specs.declared.branch.Branch.{Branch}
 use Rattle.xa_driver.specs.declared.done.Ending.{Ending}
 use Rattle.xa_driver.specs.declared.resolved.Outcome.{Outcome}

@@ -14,7 +14,8 @@ use Rattle.xa_words.specs.declared.request.Op.TheVariants.{OpenRm, Commit, Rollb
 use Rattle.xa_desk.specs.LedgerView.{LedgerView}
 use Rattle.xa_desk.specs.DeskView.{DeskView, room_at, ledger, outstanding}
 use Rattle.xa_desk.specs.Kept.{AllKept}
-use Rattle.xa_switch.specs.Scans.{Asking, ScanView, left_at}
+use Rattle.xa_calls.specs.Scans.{Asking}
+use Rattle.xa_scan.specs.Left.{ScanView, left_at}
 use Rattle.xa_driver.specs.declared.resolved.Outcome.{Outcome}
 use Rattle.xa_log.specs.Log.{Records, record_in}
 use Rattle.xa_driver.specs.Asks.{AskTrace, KeepsDesk, LeavesOutstanding}

@@ -16,7 +16,7 @@ use Rattle.xa_driver.specs.Course.{AtBranch}
 use Rattle.xa_log.specs.Log.{LogState, record_of, with_record, with_failure}
 use Rattle.xa_driver.specs.Asks.{asked}
 use Rattle.xa_driver.specs.Resolving.{AsksLedger}
-use Rattle.xa_switch.specs.Scans.{Asking}
+use Rattle.xa_calls.specs.Scans.{Asking}
 
 -- the ledger after the Prepare
 abbrev pub voted : Branch → Code → LedgerView → LedgerView

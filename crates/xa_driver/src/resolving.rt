@@ -4,11 +4,12 @@ ghost use Rattle.xa_base.specs.Lists.{IsUpTo};
 ghost use Rattle.xa_desk.specs.DeskView.{ledger, room_at};
 ghost use Rattle.xa_desk.specs.GoesOn.{GoesOn};
 ghost use Rattle.xa_desk.specs.Kept.{AllKept};
-ghost use Rattle.xa_switch.specs.Scans.{Answers, left_at};
+ghost use Rattle.xa_calls.specs.Scans.{Answers};
+ghost use Rattle.xa_scan.specs.Left.{left_at};
 ghost use Rattle.xa_driver.specs.declared.resolved.Outcome.{Outcome};
 ghost use Rattle.xa_driver.specs.Asks.{KeepsTheRest};
 ghost use Rattle.xa_driver.specs.Resolving.{is_to_commit, outcome_op, AsksLedger, AsksAlone};
-ghost use Rattle.xa_switch.specs.Scans.{AsksAndWaits};
+ghost use Rattle.xa_calls.specs.Scans.{AsksAndWaits};
 ghost use Rattle.xa_driver.specs.Resolving.{ResolvesBranch};
 ghost use Rattle.xa_driver.specs.Resolving.{ResolvesAt, ResolvesInTurn, requests_for, left_in, MayResolve};
 ghost use Rattle.xa_driver.specs.Resolving.{IsTraceOfResolve};
@@ -20,7 +21,7 @@ use std::sync::Wait;
 use xa_base::MOST_MANAGERS;
 use xa_desk::{Desk, Idle, Refused};
 use xa_log::DecisionRecords;
-use xa_switch::Scan;
+use xa_scan::Scan;
 use xa_words::{Code, Op, Xid};
 
 // Asks a manager, and waits for its answer. One that is learnt to be shut isn't asked, which counts as XAER_RMFAIL.

@@ -8,7 +8,7 @@ use Rattle.xa_desk.specs.LedgerView.{LedgerView}
 use Rattle.xa_switch.specs.Again.{reopening}
 use Rattle.xa_switch.specs.OfPlans.{IsOf}
 use Rattle.xa_switch.specs.Recovery.{IsScanOf}
-use Rattle.xa_switch.specs.Scans.{ScanView}
+use Rattle.xa_scan.specs.Left.{ScanView}
 use Rattle.xa_switch.specs.Settling.{Settling, IsSettled}
 use Rattle.xa_switch.specs.declared.plan.Again.{Again}
 use Rattle.xa_driver.specs.declared.resolved.Outcome.{Outcome}

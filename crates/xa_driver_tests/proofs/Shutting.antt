@@ -12,7 +12,7 @@ use Rattle.xa_desk.specs.LedgerView.{LedgerView, with_sent, with_collected}
 use Rattle.xa_desk.specs.DeskView.{DeskView, ledger, no_ledger, put_ledger, after_sent, after_collected, next_operation}
 use Rattle.xa_desk.specs.Lanes.{submitted, after_fulls}
 use Rattle.xa_desk.specs.Looks.{Collects}
-use Rattle.xa_switch.proofs.Kept.{fulls_ledgers}
+use Rattle.xa_calls.proofs.Kept.{fulls_ledgers}
 
 -- what holds of each ledger, where one is put that it holds of
 set_each : (Q : LedgerView → Type 0) (at : List LedgerView) (i : ℕ) (a : LedgerView) → ((j : ℕ) → Q (slice_index_or at j no_ledger)) → Q a → (j : ℕ)

@@ -6,11 +6,11 @@ use crate::openings::{open, plan_of};
 use crate::thing::Came;
 use std::alloc::Global;
 use std::sync::Wait;
+use xa_calls::{RmOp, native, xa_call};
 use xa_crew::Turns;
 use xa_desk::Desk;
 use xa_driver::{Branch, Done, Ending, commit_all, may_commit};
 use xa_log::{CommitRecord, DecisionLog, DecisionRecords, MemoryLog};
-use xa_switch::{RmOp, native, xa_call};
 use xa_words::{Call, Delta, Key, ManagerSet, TMNOFLAGS, TMSUCCESS, Xid};
 
 /// A desk that has worked for two branches of one transaction, and its log.

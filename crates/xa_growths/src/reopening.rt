@@ -8,11 +8,13 @@ use crate::settling::end_all;
 use crate::thing::Came;
 use std::alloc::Global;
 use std::sync::Wait;
+use xa_calls::{RmOp, xa_call, xa_recover};
 use xa_crew::Turns;
 use xa_desk::Desk;
 use xa_driver::{Branch, Outcome, may_resolve, resolve};
 use xa_log::MemoryLog;
-use xa_switch::{Again, OpenFault, RmOp, Scan, Settled, reopen, settle, xa_call, xa_recover};
+use xa_scan::Scan;
+use xa_switch::{Again, OpenFault, Settled, reopen, settle};
 use xa_testing::one;
 use xa_words::{Call, Code, Delta, Key, TMENDRSCAN, TMNOFLAGS, TMSTARTRSCAN, Xid};
 

@@ -7,7 +7,7 @@ use Rattle.std.proofs.lemmas.List.FromFn.{length-map-range_with_len, get_or-map-
 use Rattle.std.proofs.lemmas.Option.{slice_get-map, slice_get_within, slice_get-get_or}
 use Rattle.xa_base.specs.Lists.{Chain, Pairwise}
 use Rattle.xa_base.proofs.Lists.{all_at, some_same}
-use Rattle.xa_switch.specs.Scans.{ScanView}
+use Rattle.xa_scan.specs.Left.{ScanView}
 use Rattle.xa_transcript.specs.Values.{opened}
 use Rattle.xa_worker.specs.Workers.{WorkerView}
 use Rattle.xa_grammar.specs.Steps.{ScriptTask}

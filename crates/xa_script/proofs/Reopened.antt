@@ -13,7 +13,7 @@ use Rattle.xa_switch.specs.declared.plan.Again.{Again}
 use Rattle.xa_switch.specs.OpenedPieces.{AreOfOneOpening}
 use Rattle.xa_switch.specs.Settling.{Settling, IsSettled}
 use Rattle.xa_switch.specs.Closing.{settling}
-use Rattle.xa_switch.specs.Scans.{ScanView, no_scan}
+use Rattle.xa_scan.specs.Left.{ScanView, no_scan}
 use Rattle.xa_switch.specs.Recovery.{IsScanOf, AreScansOf}
 use Rattle.xa_switch.specs.Again.{MayReopen, reopened_at, reopening}
 use Rattle.xa_grammar.specs.Content.{Content, threads_of}

@@ -22,7 +22,7 @@ use xa_desk::laws::desks_go_on;
 use xa_grammar::{Gtrid, Name, Script, Step, Task};
 use xa_log::LosingLog;
 use xa_session::{Session, carry_out, sessions_again, sessions_of};
-use xa_switch::laws::outstanding_operations_stay_kept;
+use xa_switch::laws::opened_desks_keep_what_is_outstanding;
 use xa_switch::{OpenFault, Settled, open_switch, reopen};
 use xa_transcript::{RunFault, Told, Transcript, tell_ended};
 
@@ -116,7 +116,7 @@ impl Runner {
               settled = c.settled;
             }) c.logs.items) }
     {
-        outstanding_operations_stay_kept();
+        opened_desks_keep_what_is_outstanding();
         desks_go_on();
         let Runner {
             opening,

@@ -9,7 +9,7 @@ use Rattle.xa_words.specs.declared.code.Code.TheVariants.{RbIntegrity, RbOther, 
 use Rattle.xa_words.specs.declared.code.Code.TheVariants.{DupId, Outside}
 use Rattle.xa_desk.specs.DeskView.{IsHandle}
 use Rattle.xa_transcript.specs.declared.answer.Answer.{Answer}
-use Rattle.xa_switch.specs.Completing.{Tells}
+use Rattle.xa_calls.specs.Completing.{Tells}
 use Rattle.xa_session.specs.Calling.{completed}
 
 code_fits : (c : Code) → SFits w32 (number_of c)

@@ -3,10 +3,11 @@ use Rattle.std.specs.Prelude.{◌≡◌, ℕ, ℤ, pos, negsuc, Bool, if◌then�
 use Rattle.std.specs.Global.{Global}
 use Rattle.std.specs.Ordering.{int_eq}
 use Rattle.xa_desk.specs.DeskView.{DeskView}
-use Rattle.xa_switch.specs.Asking.{asked_of, native}
-use Rattle.xa_switch.specs.Putting.{Calls, call_waits}
-use Rattle.xa_switch.specs.Completing.{HasCompleted, completion_waits}
-use Rattle.xa_switch.specs.Scans.{ScanView, HasRecovered, asks}
+use Rattle.xa_calls.specs.Asking.{asked_of, native}
+use Rattle.xa_calls.specs.Putting.{Calls, call_waits}
+use Rattle.xa_calls.specs.Completing.{HasCompleted, completion_waits}
+use Rattle.xa_calls.specs.Scans.{HasRecovered, asks}
+use Rattle.xa_scan.specs.Left.{ScanView}
 use Rattle.xa_words.specs.Flags.{check_flags}
 use Rattle.xa_words.specs.Xid.{XidName}
 use Rattle.xa_words.specs.declared.flags.Call.TheVariants as call

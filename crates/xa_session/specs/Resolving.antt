@@ -5,7 +5,7 @@ use Rattle.xa_desk.specs.DeskView.{outstanding}
 use Rattle.xa_driver.specs.declared.resolved.Outcome.{Outcome}
 use Rattle.xa_driver.specs.Asks.{KeepsDesk}
 use Rattle.xa_base.specs.declared.limits.TheConstants.{MOST_MANAGERS}
-use Rattle.xa_switch.specs.Scans.{Answers}
+use Rattle.xa_calls.specs.Scans.{Answers}
 use Rattle.xa_driver.specs.Resolving.{MayResolve, IsTraceOfResolve, ResolvesInTurn}
 use Rattle.xa_transcript.specs.declared.answer.Answer.{Answer}
 use Rattle.xa_transcript.specs.declared.answer.Answer.TheVariants as answer

@@ -1,7 +1,7 @@
 -- A thread of a script, and what it comes to with its desk.
 use Rattle.std.specs.Prelude.{◌≡◌, ℕ, false, []}
 use Rattle.xa_desk.specs.DeskView.{DeskView}
-use Rattle.xa_switch.specs.Scans.{no_scan}
+use Rattle.xa_scan.specs.Left.{no_scan}
 use Rattle.xa_grammar.specs.Content.{Content, tasks_of}
 use Rattle.xa_base.specs.Lists.{Chain}
 use Rattle.xa_session.specs.declared.script_thread.ScriptThread.{ScriptThread}

@@ -3,7 +3,7 @@ use Rattle.std.specs.Prelude.{◌≡◌, ℕ, Bool, false, Option, None, Some, I
 use Rattle.xa_desk.specs.DeskView.{DeskView}
 use Rattle.xa_desk.specs.GoesOn.{GoesOn}
 use Rattle.xa_desk.specs.Kept.{AllKept}
-use Rattle.xa_switch.specs.Scans.{ScanView, no_scan}
+use Rattle.xa_scan.specs.Left.{ScanView, no_scan}
 use Rattle.xa_log.specs.Log.{no_records}
 use Rattle.xa_log.specs.Losing.{reopened}
 use Rattle.xa_log.specs.declared.losing.LosingLog.{LosingLog}

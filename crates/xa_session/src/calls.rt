@@ -2,10 +2,10 @@
 ghost use Rattle.std.specs.Prelude.{◌≡◌, ◌≤◌, ◌<◌, false, length, take, IfOk, OnErr};
 ghost use Rattle.xa_desk.specs.GoesOn.{GoesOn};
 ghost use Rattle.xa_desk.specs.Kept.{AllKept};
-ghost use Rattle.xa_switch.specs.Asking.{asked_of, native};
-ghost use Rattle.xa_switch.specs.Completing.{completion_waits};
-ghost use Rattle.xa_switch.specs.Putting.{Calls, call_waits};
-ghost use Rattle.xa_switch.specs.Scans.{asks};
+ghost use Rattle.xa_calls.specs.Asking.{asked_of, native};
+ghost use Rattle.xa_calls.specs.Completing.{completion_waits};
+ghost use Rattle.xa_calls.specs.Putting.{Calls, call_waits};
+ghost use Rattle.xa_calls.specs.Scans.{asks};
 ghost use Rattle.xa_words.specs.Flags.{check_flags};
 ghost use Rattle.xa_words.specs.Xid.{XidName};
 ghost use Rattle.xa_words.specs.declared.flags.Call.TheVariants as call;
@@ -14,9 +14,10 @@ ghost use Rattle.xa_session.specs.Calling.{calling_waits};
 
 use std::alloc::{AllocError, Global};
 use std::sync::Wait;
+use xa_calls::{native, xa_call, xa_complete, xa_recover};
 use xa_desk::{Desk, Idle};
 use xa_grammar::{Called, Calling, Name};
-use xa_switch::{Scan, native, xa_call, xa_complete, xa_recover};
+use xa_scan::Scan;
 use xa_transcript::Answer;
 use xa_words::{Call, RmOp, Xid};
 

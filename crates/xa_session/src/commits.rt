@@ -4,7 +4,7 @@ ghost use Rattle.xa_driver.specs.Trace.{MayCommit};
 ghost use Rattle.xa_desk.specs.GoesOn.{GoesOn};
 ghost use Rattle.xa_desk.specs.Kept.{AllKept};
 ghost use Rattle.xa_session.specs.Committing.{branch_at, branches_of, CanCommit, CommitsAll};
-ghost use Rattle.xa_switch.specs.Scans.{ScanView};
+ghost use Rattle.xa_scan.specs.Left.{ScanView};
 ghost use Rattle.xa_session.specs.Sessions.{session_of};
 
 use itoa::Buffer;

@@ -11,7 +11,7 @@ use xa_desk::laws::desks_go_on;
 use xa_desk::{Desk, Idle};
 use xa_driver::{ResolveFault, may_resolve, resolve};
 use xa_log::LosingLog;
-use xa_switch::Scan;
+use xa_scan::Scan;
 use xa_transcript::Answer;
 
 /// Resolves what was left, where the log is known and there is room for it. It fails only for want of memory, and then

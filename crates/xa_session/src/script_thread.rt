@@ -16,7 +16,7 @@ use xa_desk::laws::desks_go_on;
 use xa_desk::{Desk, Idle};
 use xa_grammar::{Script, Tasks};
 use xa_log::LosingLog;
-use xa_switch::Scan;
+use xa_scan::Scan;
 use xa_transcript::{Told, Transcript};
 
 /// A thread of a script: its own tasks, its decision log, and what it told so far.

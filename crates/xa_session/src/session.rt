@@ -13,7 +13,7 @@ use std::sync::Wait;
 use xa_desk::{Desk, Idle};
 use xa_grammar::{Action, Gtrid, Name, Script};
 use xa_log::{LosingLog, MemoryLog};
-use xa_switch::Scan;
+use xa_scan::Scan;
 use xa_transcript::Answer;
 
 /// A thread of control with its decision log, and its scans of what a reopening found left.

@@ -19,11 +19,12 @@ use Rattle.xa_words.specs.declared.request.RmOp.{RmOp}
 use Rattle.xa_words.specs.declared.request.RmOp.TheVariants as rm
 use Rattle.xa_tables.specs.Prepared.{names}
 use Rattle.xa_worker.specs.Journal.{Entry}
-use Rattle.xa_switch.specs.Asking.{◌>>=◌, op_by, asked_of, native, rm_op}
+use Rattle.xa_calls.specs.Asking.{◌>>=◌, op_by, asked_of, native, rm_op}
 use Rattle.xa_words.specs.Flags.{TMASYNC}
 use Rattle.xa_switch.specs.Settling.{Settling}
-use Rattle.xa_switch.specs.Scans.{Asking, ScanView, standing, left_at, place_at, start_of, Recovers, RecoversFrom, RecoversBy}
-use Rattle.xa_switch.specs.Scans.Recovers.{unreached, stopped, told as found_some}
+use Rattle.xa_calls.specs.Scans.{Asking, start_of, Recovers, RecoversFrom, RecoversBy}
+use Rattle.xa_scan.specs.Left.{ScanView, standing, left_at, place_at}
+use Rattle.xa_calls.specs.Scans.Recovers.{unreached, stopped, told as found_some}
 use Rattle.xa_driver.specs.declared.branch.Branch.{Branch}
 use Rattle.xa_grammar.specs.declared.step.Calling.TheVariants as calling
 use Rattle.xa_grammar.specs.declared.step.Action.TheVariants as action

@@ -31,7 +31,7 @@ use Rattle.xa_desk.specs.LedgerView.{is_rm_fail}
 use Rattle.xa_worker.specs.Journal.{Entry}
 use Rattle.xa_switch.specs.Settling.{Settling, IsSettled, collected, journal, sent}
 use Rattle.xa_switch.specs.Fates.{IsOpenedWith, history as history_of, settled_fate}
-use Rattle.xa_switch.specs.Scans.{Asking}
+use Rattle.xa_calls.specs.Scans.{Asking}
 use Rattle.xa_driver.specs.declared.branch.Branch.{Branch}
 use Rattle.xa_driver.specs.declared.done.Done.{Done as Outcome}
 use Rattle.xa_driver.specs.declared.done.Ending.{Ending}

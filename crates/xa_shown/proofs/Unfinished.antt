@@ -17,7 +17,7 @@ use Rattle.xa_words.specs.declared.request.Op.TheVariants.{Commit, Rollback}
 use Rattle.xa_tables.specs.History.{is_rolled_back as rolls_back}
 use Rattle.xa_worker.specs.Journal.{Entry}
 use Rattle.xa_switch.specs.Settling.{Settling}
-use Rattle.xa_switch.specs.Scans.{Asking}
+use Rattle.xa_calls.specs.Scans.{Asking}
 use Rattle.xa_driver.specs.declared.branch.Branch.{Branch}
 use Rattle.xa_driver.specs.declared.done.Done.{Done as Outcome}
 use Rattle.xa_driver.specs.declared.done.Ending.{Ending}

@@ -9,7 +9,7 @@ use Rattle.xa_tables.specs.History.{Absent}
 use Rattle.xa_tables.specs.Openings.{added_over}
 use Rattle.xa_switch.specs.Settling.{Settling, journal}
 use Rattle.xa_switch.specs.Fates.{IsOpenedWith}
-use Rattle.xa_switch.specs.Scans.{ScanView, left_at}
+use Rattle.xa_scan.specs.Left.{ScanView, left_at}
 use Rattle.xa_driver.specs.declared.branch.Branch.{Branch}
 use Rattle.xa_driver.specs.declared.done.Done.{Done}
 use Rattle.xa_atomicity.specs.Outcomes.{is_committed, is_in_doubt, is_heuristic, is_read_only, has_committed}

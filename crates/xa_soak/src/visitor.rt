@@ -7,13 +7,13 @@ use crate::counts::Counts;
 use crate::random::Random;
 use std::alloc::Global;
 use std::sync::Wait;
+use xa_calls::{RmOp, native, xa_call, xa_complete};
 use xa_crew::Client;
 use xa_crew::laws::idles_go_on;
 use xa_desk::laws::desks_go_on;
 use xa_desk::{Desk, Idle};
 use xa_driver::{Branch, commit_all, may_commit};
 use xa_log::MemoryLog;
-use xa_switch::{RmOp, native, xa_call, xa_complete};
 use xa_words::{
     Call, Code, Delta, Key, TMASYNC, TMFAIL, TMJOIN, TMMULTIPLE, TMNOFLAGS, TMNOWAIT, TMONEPHASE,
     TMRESUME, TMSUCCESS, TMSUSPEND, Xid,

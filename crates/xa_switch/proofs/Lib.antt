@@ -11,13 +11,9 @@ pub mod Mixing
 pub mod Ledgers
 pub mod Journaled
 pub mod OfPlans
-pub mod Outstanding
-pub mod Kept
+mod NewlyKept
 pub mod Worth
 mod AllThere
 mod Planned
-pub mod Scanning
+mod Scanning
 mod Retaken
-mod Recovered
-pub mod Refusals
-pub mod Leaving

@@ -1,6 +1,3 @@
-pub mod Asking
-pub mod Putting
-pub mod Completing
 pub mod Plans
 pub mod Columns
 pub mod Lanes
@@ -12,5 +9,4 @@ pub mod Fates
 pub mod OfPlans
 pub mod Worth
 pub mod Again
-pub mod Scans
 pub mod Recovery

@@ -4,7 +4,7 @@ use Rattle.std.specs.List.{All}
 use Rattle.xa_tables.specs.Openings.{AreLeft}
 use Rattle.xa_switch.specs.Settling.{Settling}
 use Rattle.xa_switch.specs.Again.{managers_in, reopened_at}
-use Rattle.xa_switch.specs.Scans.{ScanView, NoneOpen}
+use Rattle.xa_scan.specs.Left.{ScanView, NoneOpen}
 use Rattle.xa_switch.specs.Columns.{Each}
 use Rattle.xa_words.specs.Xid.{XidName}
 

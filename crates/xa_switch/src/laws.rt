@@ -7,13 +7,12 @@
 ghost use Rattle.std.specs.Prelude.{◌≡◌, ◌≢◌, ℕ, ◌≤◌, List, ◌++◌, length, map, Some};
 ghost use Rattle.std.specs.List.{All};
 ghost use Rattle.std.specs.List.Sorted.{IsPermutation};
-ghost use Rattle.xa_words.specs.declared.code.Code.{Code};
 ghost use Rattle.xa_tables.specs.Managers.{opening};
 ghost use Rattle.xa_tables.specs.Tables.{Tables};
 ghost use Rattle.xa_tables.specs.History.{History};
 ghost use Rattle.xa_tables.specs.Openings.{IsNew, left_by};
-ghost use Rattle.xa_desk.specs.DeskView.{DeskView, outstanding};
-ghost use Rattle.xa_desk.specs.Kept.{AllKept, HoldsNone};
+ghost use Rattle.xa_desk.specs.DeskView.{DeskView};
+ghost use Rattle.xa_desk.specs.Kept.{AllKept};
 ghost use Rattle.xa_desk.specs.Ended.{EndedView};
 ghost use Rattle.xa_worker.specs.Done.{Served};
 ghost use Rattle.xa_worker.specs.Workers.{WorkerView};
@@ -24,7 +23,6 @@ ghost use Rattle.xa_switch.specs.Closing.{settling};
 ghost use Rattle.xa_switch.specs.OfPlans.{IsOf, IsOfPlan};
 ghost use Rattle.xa_switch.specs.Plans.{Setup, IsSoundManager};
 ghost use Rattle.xa_switch.specs.OpenedPieces.{AreOfOneOpening};
-ghost use Rattle.xa_switch.specs.Completing.{CollectsRedeemed};
 ghost use Rattle.xa_switch.specs.Settling.{Settling, IsSettled};
 ghost use Rattle.xa_switch.specs.Fates.{IsOpenedWith, IsSumOver, first_of};
 ghost use Rattle.xa_switch.specs.Worth.{WorthIsOfThreads, accounts_of};
@@ -110,13 +108,7 @@ pub fn threads_move_the_worth()
     commits_alone_move_the_worth();
 }
 
-/// At the desks of an opening nothing is outstanding that isn't kept. As an operation that is kept under a
-/// number is collected, the others stay kept; and where all that is outstanding is kept and nothing is
-/// kept, nothing is outstanding.
-pub fn outstanding_operations_stay_kept()
-    ensures opened { (p : Setup) (ds : List DeskView) (ws : List WorkerView) → AreOfOneOpening p ds ws
-        → All AllKept ds }
-    ensures collected { (old new : DeskView) (k : ℕ) (c : Code) → CollectsRedeemed old new k c → AllKept old
-        → AllKept new }
-    ensures none { (d : DeskView) → AllKept d → HoldsNone d → outstanding d.ledgers ≡ 0 }
+/// At the desks of an opening nothing is outstanding that isn't kept.
+pub fn opened_desks_keep_what_is_outstanding()
+    ensures { (p : Setup) (ds : List DeskView) (ws : List WorkerView) → AreOfOneOpening p ds ws → All AllKept ds }
 {}

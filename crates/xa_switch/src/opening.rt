@@ -9,6 +9,7 @@ mod layout;
 mod managers;
 pub(crate) mod reopening;
 mod reserve;
+mod scans;
 
 use crate::opening::layout::{lay_out, put_together};
 use crate::opening::managers::open_managers;

@@ -6,11 +6,12 @@ mod shut;
 use std::alloc::Global;
 use std::process::Abort;
 use std::sync::Wait;
+use xa_calls::{xa_call, xa_complete};
 use xa_crew::Client;
 use xa_crew::laws::idles_go_on;
 use xa_desk::laws::desks_go_on;
 use xa_desk::{Desk, Idle};
-use xa_switch::{Plan, xa_call, xa_complete};
+use xa_switch::Plan;
 use xa_words::{Call, Code, TMASYNC, TMNOFLAGS};
 
 // Opens manager 1 by a synchronous call, and manager 2 by an asynchronous one.

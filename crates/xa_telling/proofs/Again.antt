@@ -24,7 +24,7 @@ use Rattle.xa_switch.specs.OpenedPieces.{IsNewDesk}
 use Rattle.xa_switch.specs.Settling.{Settling, ManagerPart, IsSettled, FollowsTables, journal_in}
 use Rattle.xa_switch.specs.Closing.{thread_part, settling}
 use Rattle.xa_switch.specs.Fates.{history}
-use Rattle.xa_switch.specs.Scans.{ScanView}
+use Rattle.xa_scan.specs.Left.{ScanView}
 use Rattle.xa_switch.specs.Recovery.{IsScanOf}
 use Rattle.xa_switch.specs.Again.{first_ledgers, flags_in, managers_in, last_in, reopened_at, reopening, MayReopen}
 use Rattle.xa_grammar.specs.Steps.{ScriptTask, ScriptStep}

@@ -19,7 +19,7 @@ use Rattle.xa_desk.specs.DeskView.{ledger}
 use Rattle.xa_desk.proofs.Growth.{as_it_was, grown_on}
 use Rattle.xa_worker.specs.Journal.{Entry}
 use Rattle.xa_switch.specs.Fates.{ledgers_of}
-use Rattle.xa_switch.specs.Scans.{ScanView, left_at}
+use Rattle.xa_scan.specs.Left.{ScanView, left_at}
 use Rattle.xa_switch.specs.Settling.{Settling, IsSettled, sent, collected, journal}
 use Rattle.xa_driver.specs.declared.branch.Branch.{Branch}
 use Rattle.xa_driver.specs.declared.done.Done.{Done}

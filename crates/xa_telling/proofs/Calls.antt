@@ -18,13 +18,13 @@ use Rattle.xa_desk.specs.declared.refused.Refused.{Refused}
 use Rattle.xa_desk.specs.declared.refused.Refused.TheVariants.{NoSuchManager, Shut, TooMany, Spent}
 use Rattle.xa_desk.specs.LedgerView.{learnt_shut}
 use Rattle.xa_desk.specs.DeskView.{DeskView, IsKnown, is_known, ledger, next_operation, after_sent}
-use Rattle.xa_switch.specs.Scans.{ScanView}
-use Rattle.xa_switch.specs.Putting.{code_of as to_code, put_refusal, Puts, Calls}
-use Rattle.xa_switch.specs.Putting.Puts.{refused as put_refused, full, kept as put_kept, answered as put_answered}
-use Rattle.xa_switch.specs.Completing.{number_in, CompletesOne, CompletesAny, CompletesAt, CompletesBy, Tells, may_complete}
-use Rattle.xa_switch.specs.Completing.CompletesOne.{unknown, retry as retry_one, ready, waited}
-use Rattle.xa_switch.specs.Completing.CompletesAny.{nothing as nothing_kept, retry as retry_any, least}
-use Rattle.xa_switch.proofs.Kept.{quiet_same, known_here}
+use Rattle.xa_scan.specs.Left.{ScanView}
+use Rattle.xa_calls.specs.Putting.{code_of as to_code, put_refusal, Puts, Calls}
+use Rattle.xa_calls.specs.Putting.Puts.{refused as put_refused, full, kept as put_kept, answered as put_answered}
+use Rattle.xa_calls.specs.Completing.{number_in, CompletesOne, CompletesAny, CompletesAt, CompletesBy, Tells, may_complete}
+use Rattle.xa_calls.specs.Completing.CompletesOne.{unknown, retry as retry_one, ready, waited}
+use Rattle.xa_calls.specs.Completing.CompletesAny.{nothing as nothing_kept, retry as retry_any, least}
+use Rattle.xa_calls.proofs.Kept.{quiet_same, known_here}
 use Rattle.xa_grammar.specs.declared.step.Calling.TheVariants as calling
 use Rattle.xa_grammar.specs.Steps.{ScriptCalling, ScriptCalled}
 use Rattle.xa_transcript.specs.declared.answer.Answer.{Answer}

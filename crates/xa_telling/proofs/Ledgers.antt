@@ -15,9 +15,9 @@ use Rattle.xa_desk.specs.Lanes.{submitted, after_fulls}
 use Rattle.xa_desk.specs.Looks.{Collects, TakesKept}
 use Rattle.xa_desk.proofs.Growth.{growing_on, sending_grows, collecting_grows}
 use Rattle.xa_desk.proofs.Ledgers.{put_each}
-use Rattle.xa_switch.specs.Completing.{CollectsRedeemed}
-use Rattle.xa_switch.specs.Putting.{put_refusal}
-use Rattle.xa_switch.proofs.Kept.{known_here, fulls_ledgers, fulls_kept}
+use Rattle.xa_calls.specs.Completing.{CollectsRedeemed}
+use Rattle.xa_calls.specs.Putting.{put_refusal}
+use Rattle.xa_calls.proofs.Kept.{known_here, fulls_ledgers, fulls_kept}
 use Rattle.xa_driver.specs.Deaths.{PutsLedger}
 use Rattle.xa_driver.specs.Deaths.PutsLedger.{sent as put_sent, withheld as put_withheld}
 use Rattle.xa_driver.specs.Resolving.{AsksLedger}

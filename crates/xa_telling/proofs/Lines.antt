@@ -27,9 +27,9 @@ use Rattle.xa_desk.specs.LedgerView.{LedgerView, learnt_shut}
 use Rattle.xa_desk.proofs.Growth.{growing_on}
 use Rattle.xa_desk.proofs.Ledgers.{ledger-collected_same, ledger-sent_other, ledger-sent_same}
 use Rattle.xa_worker.specs.Journal.{Entry}
-use Rattle.xa_switch.specs.Scans.{ScanView}
-use Rattle.xa_switch.specs.Scans.{Answers as Reaches}
-use Rattle.xa_switch.specs.Scans.Answers.{refused as unreached, answered as reached}
+use Rattle.xa_scan.specs.Left.{ScanView}
+use Rattle.xa_calls.specs.Scans.{Answers as Reaches}
+use Rattle.xa_calls.specs.Scans.Answers.{refused as unreached, answered as reached}
 use Rattle.xa_switch.specs.Settling.{Settling, IsSettled}
 use Rattle.xa_log.specs.Log.{LogState, record_of}
 use Rattle.xa_log.specs.Losing.{AppendsBefore}

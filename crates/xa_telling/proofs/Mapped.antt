@@ -5,10 +5,11 @@ use Rattle.xa_words.specs.declared.code.Code.{Code}
 use Rattle.xa_words.specs.declared.code.Code.TheVariants.{Done, Nota}
 use Rattle.xa_words.specs.declared.flags.Mode.{Mode}
 use Rattle.xa_words.specs.declared.request.Op.TheVariants.{Listed}
-use Rattle.xa_switch.specs.Scans.{Asking, Looks, begun, finds, passes, Scans, filled, ended, stopped, ScanView, start_of, place_at, IsInVain, RecoversFrom}
-use Rattle.xa_switch.specs.Scans.{RecoversAt, RecoversBy}
-use Rattle.xa_switch.specs.Scans.{Recovers}
-use Rattle.xa_switch.specs.Scans.Recovers.{unreached, stopped as stopped_at, told}
+use Rattle.xa_calls.specs.Scans.{Asking, Looks, begun, finds, passes, Scans, filled, ended, stopped, start_of, IsInVain, RecoversFrom}
+use Rattle.xa_scan.specs.Left.{ScanView, place_at}
+use Rattle.xa_calls.specs.Scans.{RecoversAt, RecoversBy}
+use Rattle.xa_calls.specs.Scans.{Recovers}
+use Rattle.xa_calls.specs.Scans.Recovers.{unreached, stopped as stopped_at, told}
 
 -- what is asked over states D is asked over E, where P holds afterwards, and P held before
 module _ {D E : Type 0} (A : Asking D) (B : Asking E) (f : D → E) (P : D → Type 0)

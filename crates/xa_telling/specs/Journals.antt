@@ -11,7 +11,7 @@ use Rattle.xa_words.specs.declared.request.Op.TheVariants.{Prepare, Commit}
 use Rattle.xa_desk.specs.declared.operation.Operation.{Operation}
 use Rattle.xa_worker.specs.Journal.{Entry, entry}
 use Rattle.xa_switch.specs.Settling.{Settling, journal}
-use Rattle.xa_switch.specs.Scans.{ScanView}
+use Rattle.xa_scan.specs.Left.{ScanView}
 use Rattle.xa_driver.specs.declared.branch.Branch.{Branch}
 use Rattle.xa_driver.specs.declared.done.Done.{Done as Outcome}
 use Rattle.xa_driver.specs.declared.done.Ending.TheVariants.{Committed}

@@ -14,7 +14,8 @@ use Rattle.xa_words.specs.declared.request.Op.{Op}
 use Rattle.xa_desk.specs.declared.operation.Operation.{Operation}
 use Rattle.xa_worker.specs.Journal.{Entry, entry}
 use Rattle.xa_switch.specs.Settling.{Settling, journal, answers}
-use Rattle.xa_switch.specs.Scans.{ScanView, RecoversBy, told_as}
+use Rattle.xa_calls.specs.Scans.{RecoversBy, told_as}
+use Rattle.xa_scan.specs.Left.{ScanView}
 use Rattle.xa_log.specs.Log.{LogState}
 use Rattle.xa_transcript.specs.declared.answer.Answer.{Answer}
 use Rattle.xa_transcript.specs.declared.answer.Answer.TheVariants.{Called as shown, Completed}

@@ -7,7 +7,7 @@ use Rattle.xa_tables.specs.History.{tables_after}
 use Rattle.xa_tables.specs.Openings.{reopened}
 use Rattle.xa_switch.specs.Settling.{Settling, IsSettled}
 use Rattle.xa_switch.specs.Fates.{history}
-use Rattle.xa_switch.specs.Scans.{ScanView, no_scan}
+use Rattle.xa_scan.specs.Left.{ScanView, no_scan}
 use Rattle.xa_switch.specs.Recovery.{IsScanOf}
 use Rattle.xa_log.specs.Log.{LogState, no_records}
 use Rattle.xa_grammar.specs.declared.script.Declared.{Declared}

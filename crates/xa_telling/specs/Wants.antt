@@ -8,7 +8,7 @@ use Rattle.xa_words.specs.declared.flags.Call.{Call}
 use Rattle.xa_words.specs.declared.request.Op.{Op}
 use Rattle.xa_words.specs.declared.request.RmOp.{RmOp}
 use Rattle.xa_words.specs.declared.request.RmOp.TheVariants as rm
-use Rattle.xa_switch.specs.Asking.{asked_of, native}
+use Rattle.xa_calls.specs.Asking.{asked_of, native}
 use Rattle.xa_grammar.specs.declared.step.Calling.TheVariants as calling
 use Rattle.xa_grammar.specs.Steps.{ScriptCalling, ScriptCalled}
 

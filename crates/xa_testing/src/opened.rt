@@ -9,7 +9,8 @@ use std::alloc::Global;
 use std::sync::Wait;
 use xa_crew::Turns;
 use xa_desk::Desk;
-use xa_switch::{Again, Plan, Scan, Settled, open_switch, reopen};
+use xa_scan::Scan;
+use xa_switch::{Again, Plan, Settled, open_switch, reopen};
 
 /// Opens a plan. None where it can't be opened.
 pub fn open<R: Wait>(rt: &R, alloc: Global, plan: &Plan) -> Option<(Vec<Desk>, Turns)>

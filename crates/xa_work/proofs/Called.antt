@@ -9,8 +9,8 @@ use Rattle.xa_words.specs.declared.request.Op.{Op}
 use Rattle.xa_desk.specs.declared.refused.Refused.{Refused}
 use Rattle.xa_desk.specs.declared.refused.Refused.TheVariants.{NoSuchManager, Shut, TooMany, Spent, Full}
 use Rattle.xa_desk.specs.DeskView.{DeskView, call_refusal}
-use Rattle.xa_switch.specs.Putting.{code_of, Puts}
-use Rattle.xa_switch.specs.Putting.Puts.{refused, full, kept, answered}
+use Rattle.xa_calls.specs.Putting.{code_of, Puts}
+use Rattle.xa_calls.specs.Putting.Puts.{refused, full, kept, answered}
 use Rattle.xa_work.specs.Requests.{after_called, CallsOp, called, failed, uncalled}
 use Rattle.xa_work.specs.Sent.{HaveSent}
 use Rattle.xa_work.proofs.Sent.{have_none, answered_ledgers, call_adds}

@@ -14,10 +14,10 @@ use Rattle.xa_desk.specs.declared.refused.Refused.TheVariants.{NoSuchManager, Sh
 use Rattle.xa_desk.specs.LedgerView.{LedgerView}
 use Rattle.xa_desk.specs.declared.operation.Operation.{Operation}
 use Rattle.xa_desk.specs.DeskView.{DeskView, IsHandle, ledger, after_sent, after_collected, next_operation, reach_refusal, submit_refusal}
-use Rattle.xa_switch.specs.Putting.{code_of, async_refusal, put_refusal, Puts}
-use Rattle.xa_switch.specs.Putting.Puts.{refused, full, kept, answered}
-use Rattle.xa_switch.specs.Completing.{CompletesAt, CompletesOne, HasCompleted, Tells, CollectsRedeemed, may_complete, number_in}
-use Rattle.xa_switch.specs.Completing.CompletesOne.{unknown, retry, ready, waited}
+use Rattle.xa_calls.specs.Putting.{code_of, async_refusal, put_refusal, Puts}
+use Rattle.xa_calls.specs.Putting.Puts.{refused, full, kept, answered}
+use Rattle.xa_calls.specs.Completing.{CompletesAt, CompletesOne, HasCompleted, Tells, CollectsRedeemed, may_complete, number_in}
+use Rattle.xa_calls.specs.Completing.CompletesOne.{unknown, retry, ready, waited}
 use Rattle.xa_work.specs.Requests.{StaysSo, IsTurnedAway, IsPut, PutsOp, IsNoHandle, IsCollected, CollectsOp, done, undone}
 
 -- ---- a request

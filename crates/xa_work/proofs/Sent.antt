@@ -12,9 +12,9 @@ use Rattle.xa_desk.specs.DeskView.{DeskView, ledger, after_sent, after_collected
 use Rattle.xa_desk.specs.Lanes.{submitted, after_fulls}
 use Rattle.xa_desk.specs.Looks.{Collects}
 use Rattle.xa_desk.proofs.Ledgers.{put_each}
-use Rattle.xa_switch.specs.Putting.{Puts}
-use Rattle.xa_switch.specs.Putting.Puts.{refused, full, kept, answered}
-use Rattle.xa_switch.proofs.Kept.{fulls_ledgers}
+use Rattle.xa_calls.specs.Putting.{Puts}
+use Rattle.xa_calls.specs.Putting.Puts.{refused, full, kept, answered}
+use Rattle.xa_calls.proofs.Kept.{fulls_ledgers}
 use Rattle.xa_base.proofs.Truth.{by_if}
 use Rattle.xa_driver.specs.Asks.{asked}
 use Rattle.xa_work.specs.Requests.{StaysSo, PutsOp, IsCollected, CollectsOp, done, undone, nothing, after_called}

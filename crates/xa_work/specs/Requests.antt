@@ -14,8 +14,8 @@ use Rattle.xa_words.specs.declared.request.EndHow.TheVariants.{Success}
 use Rattle.xa_desk.specs.declared.operation.Operation.{Operation}
 use Rattle.xa_desk.specs.LedgerView.{LedgerView}
 use Rattle.xa_desk.specs.DeskView.{DeskView, after_sent, after_collected, is_known, ledger, next_operation, outstanding}
-use Rattle.xa_switch.specs.Completing.{keeps_by, may_complete, number_in}
-use Rattle.xa_switch.specs.Putting.{Puts, put_refusal}
+use Rattle.xa_calls.specs.Completing.{keeps_by, may_complete, number_in}
+use Rattle.xa_calls.specs.Putting.{Puts, put_refusal}
 use Rattle.xa_work.specs.declared.step.Step.{Step}
 use Rattle.xa_work.specs.declared.step.Step.TheVariants.{Start, Add, End}
 

@@ -13,8 +13,8 @@ use Rattle.xa_words.specs.declared.request.StartHow.TheVariants.{Fresh}
 use Rattle.xa_words.specs.declared.request.EndHow.TheVariants.{Success}
 use Rattle.xa_desk.specs.LedgerView.{LedgerView}
 use Rattle.xa_desk.specs.DeskView.{DeskView, ledger, outstanding}
-use Rattle.xa_switch.specs.Asking.{asked_of}
-use Rattle.xa_switch.specs.Putting.{Calls}
+use Rattle.xa_calls.specs.Asking.{asked_of}
+use Rattle.xa_calls.specs.Putting.{Calls}
 use Rattle.xa_driver.specs.declared.branch.Branch.{Branch}
 use Rattle.xa_driver.specs.Trace.{has_branch_at}
 use Rattle.xa_work.specs.declared.in_flight.Flight.{Flight}

@@ -6,11 +6,11 @@ ghost use Rattle.xa_desk.specs.Kept.{AllKept};
 ghost use Rattle.xa_work.specs.Works.{Asks, GivesUp};
 
 use std::sync::Wait;
+use xa_calls::xa_call;
 use xa_crew::laws::idles_go_on;
 use xa_desk::laws::desks_go_on;
 use xa_desk::{Desk, Idle};
 use xa_driver::Branch;
-use xa_switch::xa_call;
 use xa_words::{Call, TMFAIL, TMNOFLAGS};
 
 // Ends the thread's work on the branch as failed. A thread that stays associated with a branch can't roll it back, and

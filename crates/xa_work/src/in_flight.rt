@@ -11,11 +11,11 @@ use crate::step::{Step, take_step};
 use crate::unit::Change;
 use std::sync::Wait;
 use xa_base::MOST_REQUESTS;
+use xa_calls::xa_complete;
 use xa_crew::laws::idles_go_on;
 use xa_desk::laws::desks_go_on;
 use xa_desk::{Desk, Idle};
 use xa_driver::Branch;
-use xa_switch::xa_complete;
 use xa_words::{Code, TMNOFLAGS};
 
 /// What was put to a manager: the handle, or the code by which it was refused.

@@ -7,10 +7,10 @@ ghost use Rattle.xa_work.specs.Sent.{HaveSent, IsOpenRm};
 ghost use Rattle.xa_work.specs.Works.{OpensAll};
 
 use std::sync::Wait;
+use xa_calls::xa_call;
 use xa_crew::laws::idles_go_on;
 use xa_desk::laws::desks_go_on;
 use xa_desk::{Desk, Idle};
-use xa_switch::xa_call;
 use xa_words::{Call, TMNOFLAGS};
 
 // Opens a manager for the thread: whether it answered XA_OK.

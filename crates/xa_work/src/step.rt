@@ -2,13 +2,13 @@
 ghost use Rattle.std.specs.Prelude.{◌≡◌};
 ghost use Rattle.xa_desk.specs.GoesOn.{GoesOn};
 ghost use Rattle.xa_desk.specs.Kept.{AllKept};
-ghost use Rattle.xa_switch.specs.Putting.{Puts};
+ghost use Rattle.xa_calls.specs.Putting.{Puts};
 ghost use Rattle.xa_work.specs.Requests.{op_of};
 
 use std::sync::Wait;
+use xa_calls::{native, xa_call};
 use xa_desk::{Desk, Idle};
 use xa_driver::Branch;
-use xa_switch::{native, xa_call};
 use xa_words::{Call, Delta, Key, RmOp, TMASYNC, TMNOFLAGS, TMSUCCESS};
 
 /// A step of a branch's work.

@@ -10,7 +10,8 @@ use xa_desk::laws::desks_go_on;
 use xa_desk::{Desk, Idle};
 use xa_driver::{Resolved, may_resolve, resolve};
 use xa_log::DecisionRecords;
-use xa_switch::{Again, Scan, Settled};
+use xa_scan::Scan;
+use xa_switch::{Again, Settled};
 
 // Resolves what was left by these records.
 #[derive(Drop)]

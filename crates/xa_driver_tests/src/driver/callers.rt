@@ -9,6 +9,7 @@ use std::process::Abort;
 use std::sync::Wait;
 use std::test::Fail;
 use std::thread::Threads;
+use xa_calls::{RmOp, native, xa_call};
 use xa_crew::laws::idles_go_on;
 use xa_crew::{Client, ClientAgain, Run, run_clients, run_clients_again_in_turns};
 use xa_desk::laws::desks_go_on;
@@ -17,7 +18,8 @@ use xa_driver::{
     Branch, Outcome, Resolved, commit_all, commit_until, may_commit, may_resolve, resolve,
 };
 use xa_log::{DecisionRecords, MemoryLog};
-use xa_switch::{Again, Plan, RmOp, Scan, Settled, native, xa_call};
+use xa_scan::Scan;
+use xa_switch::{Again, Plan, Settled};
 use xa_words::{Call, Code, Death, Delta, Key, TMNOFLAGS, TMSUCCESS, Xid};
 use xa_worker::Free;
 

@@ -3,11 +3,11 @@ use super::{Opened, branch, tells};
 use std::alloc::Global;
 use std::process::Abort;
 use std::sync::Wait;
+use xa_calls::xa_call;
 use xa_crew::Turns;
 use xa_desk::{Desk, Idle};
 use xa_driver::{Branch, Done, Ending, commit_all, may_commit};
 use xa_log::MemoryLog;
-use xa_switch::xa_call;
 use xa_words::{Call, Code, EndHow, Op, TMJOIN};
 
 // More turns than manager 2 has requests at any time.

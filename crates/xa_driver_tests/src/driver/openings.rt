@@ -17,8 +17,9 @@ use std::process::Abort;
 use std::sync::Wait;
 use xa_crew::Turns;
 use xa_desk::{Desk, EndedDesk};
+use xa_scan::Scan;
 use xa_switch::laws::{opened_pieces_come_from_their_opening, settled_openings_are_of_their_setup};
-use xa_switch::{Again, Plan, Scan, Settled, settle};
+use xa_switch::{Again, Plan, Settled, settle};
 use xa_testing::{one, two};
 use xa_worker::DoneWorker;
 

@@ -8,11 +8,11 @@ use std::alloc::Global;
 use std::process::Abort;
 use std::snapshot::Snapshot;
 use std::sync::Wait;
+use xa_calls::{RmOp, native, xa_call};
 use xa_crew::Turns;
 use xa_desk::{Desk, EndedDesk, Idle};
 use xa_driver::{Branch, Done, commit_all, may_commit};
 use xa_log::MemoryLog;
-use xa_switch::{RmOp, native, xa_call};
 use xa_words::{Call, TMNOFLAGS, TMSUCCESS};
 use xa_worker::DoneWorker;
 

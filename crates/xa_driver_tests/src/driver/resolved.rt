@@ -43,11 +43,12 @@ use xa_crew::Turns;
 use xa_desk::{Desk, Idle};
 use xa_driver::{Branch, Ending, Outcome, Resolved, may_resolve, resolve};
 use xa_log::{DecisionRecords, MemoryLog};
+use xa_scan::Scan;
 use xa_switch::laws::{
     opened_pieces_come_from_their_opening, reopened_openings_go_on_from_what_was_left,
     settled_openings_are_whole,
 };
-use xa_switch::{Again, Plan, Scan, Settled};
+use xa_switch::{Again, Plan, Settled};
 use xa_words::{Code, Op};
 
 // ---- the opening that crashes

@@ -11,11 +11,12 @@ use super::{Opened, branch, key, plan_of};
 use std::alloc::Global;
 use std::process::Abort;
 use std::sync::Wait;
+use xa_calls::xa_call;
 use xa_crew::Turns;
 use xa_desk::{Desk, Idle};
 use xa_driver::{Branch, Outcome, may_resolve, resolve};
 use xa_log::MemoryLog;
-use xa_switch::{Plan, Settled, xa_call};
+use xa_switch::{Plan, Settled};
 use xa_words::{Call, Code, Death, TMNOFLAGS, Xid};
 
 // It notes whom each idle waits for. Then the worker that is waited for does one step, which carries out a request.

@@ -13,11 +13,12 @@ use std::process::Abort;
 use std::snapshot::Snapshot;
 use std::sync::Wait;
 use xa_atomicity::{others_leave_the_branches, stages_are_cuts, stages_follow};
+use xa_calls::{RmOp, native, xa_call};
 use xa_crew::Turns;
 use xa_desk::Desk;
 use xa_driver::{Branch, Done, Ending, commit_all, may_commit, prepare_all};
 use xa_log::{DecisionRecords, MemoryLog};
-use xa_switch::{Plan, RmOp, Settled, native, xa_call};
+use xa_switch::{Plan, Settled};
 use xa_words::{Call, Key, TMNOFLAGS, TMSUCCESS, Xid};
 
 // The two are different branches.

@@ -9,14 +9,15 @@ ghost use Rattle.xa_switch.specs.Settling.{ReadyPart};
 ghost use Rattle.xa_switch.specs.Again.{reopening, flags_in, managers_in, MayReopen, find_ready, parts_of, reopened_at};
 ghost use Rattle.xa_switch.specs.Recovery.{AreScansOf};
 
-use crate::calls::scan::{Scan, scans_of};
 use crate::opening::layout::{Layout, lay_out, put_together};
+use crate::opening::scans::scans_of;
 use crate::plan::{Again, OpenFault};
 use crate::settling::settled::{Carried, Settled};
 use std::alloc::{AllocError, Global};
 use std::sync::Wait;
 use xa_base::{MOST_JOURNALED, MOST_THREADS};
 use xa_desk::Desk;
+use xa_scan::Scan;
 use xa_tables::Manager;
 use xa_tables::laws::openings_begin_with_what_was_left;
 use xa_worker::Worker;

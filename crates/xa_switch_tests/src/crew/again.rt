@@ -8,6 +8,7 @@ use std::process::Abort;
 use std::sync::Wait;
 use std::test::Fail;
 use std::thread::Threads;
+use xa_calls::{RmOp, native, xa_call, xa_recover};
 use xa_crew::laws::idles_go_on;
 use xa_crew::{
     AgainFault, Client, ClientAgain, Run, WithScan, run_clients, run_clients_again,
@@ -15,7 +16,8 @@ use xa_crew::{
 };
 use xa_desk::laws::desks_go_on;
 use xa_desk::{Desk, Idle};
-use xa_switch::{Again, OpenFault, Plan, RmOp, Scan, Settled, native, xa_call, xa_recover};
+use xa_scan::Scan;
+use xa_switch::{Again, OpenFault, Plan, Settled};
 use xa_words::{Call, Delta, Key, TMNOFLAGS, TMSTARTRSCAN, TMSUCCESS, Xid};
 use xa_worker::Free;
 

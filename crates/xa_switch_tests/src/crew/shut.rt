@@ -5,11 +5,12 @@ ghost use Rattle.xa_desk.specs.Kept.{AllKept};
 
 use super::plan_of;
 use std::sync::Wait;
+use xa_calls::{RmOp, native, xa_call, xa_complete};
 use xa_crew::laws::idles_go_on;
 use xa_crew::{Client, run_clients};
 use xa_desk::laws::desks_go_on;
 use xa_desk::{Desk, Idle};
-use xa_switch::{Plan, RmOp, native, xa_call, xa_complete};
+use xa_switch::Plan;
 use xa_words::{Call, Code, Op, Request, TMASYNC, TMMULTIPLE, TMNOFLAGS, Xid};
 use xa_worker::Free;
 

@@ -1,8 +1,9 @@
 //! Calls that ask for nothing: they answer XAER_INVAL, and nothing is sent.
 use super::plan_of;
 use std::process::Abort;
+use xa_calls::xa_call;
 use xa_desk::Spin;
-use xa_switch::{open_switch, xa_call};
+use xa_switch::open_switch;
 use xa_words::{
     Call, Code, TMASYNC, TMENDRSCAN, TMMULTIPLE, TMNOFLAGS, TMNOWAIT, TMSTARTRSCAN, TMSUCCESS, Xid,
 };

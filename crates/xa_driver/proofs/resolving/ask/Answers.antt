@@ -1,9 +1,9 @@
 use Rattle.std.proofs.Common.{◌≡◌, false, None, Some, Ok, refl, sym, ap, ◌∙◌}
 use Rattle.std.specs.Prelude.{option_map}
 use Rattle.xa_desk.specs.DeskView.{call_refusal}
-use Rattle.xa_switch.specs.Putting.{code_of, put_refusal}
-use Rattle.xa_switch.specs.Scans.{answered}
-use Rattle.xa_switch.proofs.Refusals.{no_refusal}
+use Rattle.xa_calls.specs.Putting.{code_of, put_refusal}
+use Rattle.xa_calls.specs.Scans.{answered}
+use Rattle.xa_calls.proofs.Refusals.{no_refusal}
 use Rattle.xa_driver.proofs.Alone.{call_answered}
 use Rattle.xa_driver.proofs.resolving.ask.Goals as goal
 

@@ -1,7 +1,7 @@
 use Rattle.std.proofs.Common.{ℕ, ◌≤◌}
 use Rattle.xa_base.specs.Lists.{IsUpTo}
 use Rattle.xa_desk.specs.DeskView.{room_at}
-use Rattle.xa_switch.specs.Scans.{left_at}
+use Rattle.xa_scan.specs.Left.{left_at}
 use Rattle.xa_driver.specs.Resolving.{requests_for}
 use Rattle.xa_driver.proofs.resolving.may_resolve.Given as goal
 

@@ -4,7 +4,7 @@ use Rattle.xa_desk.specs.DeskView.{outstanding}
 use Rattle.xa_desk.specs.Kept.{AllKept}
 use Rattle.xa_driver.specs.Asks.{KeepsDesk, LeavesOutstanding}
 use Rattle.xa_driver.specs.Resolving.{ResolvesInTurn, left_in}
-use Rattle.xa_switch.specs.Scans.{AsksAndWaits}
+use Rattle.xa_calls.specs.Scans.{AsksAndWaits}
 use Rattle.xa_driver.proofs.EachLeft.{SoFar}
 use Rattle.xa_driver.proofs.resolving.resolve.Given as goal
 

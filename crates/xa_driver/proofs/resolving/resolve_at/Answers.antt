@@ -7,7 +7,7 @@ use Rattle.xa_words.specs.Xid.{XidName}
 use Rattle.xa_desk.specs.DeskView.{ledger}
 use Rattle.xa_driver.specs.declared.resolved.Outcome.{Outcome}
 use Rattle.xa_driver.specs.Resolving.{AsksLedger}
-use Rattle.xa_switch.specs.Scans.{AsksAndWaits}
+use Rattle.xa_calls.specs.Scans.{AsksAndWaits}
 use Rattle.xa_driver.proofs.Alone.{alone_start, alone_chain}
 use Rattle.xa_driver.proofs.EachLeft.{requests_there, resolves_there}
 use Rattle.xa_driver.proofs.resolving.resolve_at.Goals as goal

@@ -2,7 +2,7 @@ use Rattle.std.proofs.Common.{◌≡◌, ℕ, List, ◌++◌, length, take, drop
 use Rattle.std.proofs.lemmas.Int.{to_z-of_z, ints}
 use Rattle.std.proofs.lemmas.List.{take_all, drop_all}
 use Rattle.xa_words.specs.Xid.{XidName}
-use Rattle.xa_switch.specs.Scans.{HasRecovered}
+use Rattle.xa_calls.specs.Scans.{HasRecovered}
 use Rattle.xa_session.specs.Calling.{IsListed}
 use Rattle.xa_session.proofs.calls.recovered.Goals as goal
 

@@ -6,7 +6,7 @@ use Rattle.xa_words.specs.Tran.{TranName}
 use Rattle.xa_grammar.specs.declared.step.CommitAll.{CommitAll}
 use Rattle.xa_grammar.specs.declared.step.Action.TheVariants as action
 use Rattle.xa_grammar.specs.Steps.{ScriptAction}
-use Rattle.xa_switch.specs.Scans.{ScanView}
+use Rattle.xa_scan.specs.Left.{ScanView}
 use Rattle.xa_log.specs.declared.losing.LosingLog.{LosingLog}
 use Rattle.xa_desk.specs.DeskView.{DeskView}
 use Rattle.xa_transcript.specs.declared.answer.Answer.{Answer}

@@ -5,7 +5,9 @@ ghost use Rattle.xa_switch.specs.Belonging.{ComeFromOpenings, seat_of_desk, seat
 
 use super::turns::Opened;
 use super::*;
-use xa_switch::{Again, OpenFault, Scan, reopen, xa_recover};
+use xa_calls::xa_recover;
+use xa_scan::Scan;
+use xa_switch::{Again, OpenFault, reopen};
 use xa_testing::open_again;
 use xa_words::{Delta, TMASYNC, TMENDRSCAN, TMSTARTRSCAN, TMSUCCESS};
 

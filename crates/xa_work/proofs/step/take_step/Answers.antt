@@ -7,8 +7,8 @@ use Rattle.xa_words.specs.declared.request.RmOp.TheVariants as rm
 use Rattle.xa_words.specs.declared.key.Key.{Key}
 use Rattle.xa_words.specs.declared.delta.Delta.{Delta}
 use Rattle.xa_desk.specs.DeskView.{DeskView}
-use Rattle.xa_switch.specs.Asking.{asked_of, native}
-use Rattle.xa_switch.specs.Putting.{Calls, Puts}
+use Rattle.xa_calls.specs.Asking.{asked_of, native}
+use Rattle.xa_calls.specs.Putting.{Calls, Puts}
 use Rattle.xa_work.specs.declared.step.Step.{Step}
 use Rattle.xa_work.specs.declared.step.Step.TheVariants.{Start, Add, End}
 use Rattle.xa_work.specs.Requests.{op_of}

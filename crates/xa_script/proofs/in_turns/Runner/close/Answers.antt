@@ -12,7 +12,7 @@ pub end_desks-requires : goal.end_desks-requires
 end_desks-requires g c =
     let (s, b, steps, told, goes) = c.requires in
     let kept =
-    c.outstanding_operations_stay_kept.ensures.opened goes.is_open.opened.setup (map (λ (x : Session). x.desk) goes.first) goes.first_workers goes.is_open.opened.opened in
+    c.opened_desks_keep_what_is_outstanding.ensures goes.is_open.opened.setup (map (λ (x : Session). x.desk) goes.first) goes.first_workers goes.is_open.opened.opened in
     run_keeps (turns_at goes.first goes.first_workers []) steps (turns_at c.args.self.sessions.items c.args.self.turns told) goes.made (all_unmapped (λ (x : Session). x.desk) AllKept goes.first kept)
 
 pub settle_all-requires : goal.settle_all-requires

@@ -5,7 +5,8 @@ use Rattle.std.proofs.lemmas.List.{take_all}
 use Rattle.xa_base.proofs.Lists.{all_at, find_none}
 use Rattle.xa_switch.specs.Settling.{ReadyPart}
 use Rattle.xa_switch.specs.Again.{find_ready}
-use Rattle.xa_switch.proofs.Retaken.{all_more, found_at, found_without, same_place}
+use Rattle.std.proofs.lemmas.List.{get_or_default}
+use Rattle.xa_switch.proofs.Retaken.{all_more, found_at, found_without}
 use Rattle.xa_switch.proofs.opening.reopening.take_manager.Goals as goal
 
 pub returns-then-number-clause-taken : goal.returns-then-number-clause-taken
@@ -17,7 +18,7 @@ returns-then-number-clause-taken c =
     let here : (get_or xs i d).part.number ≡ number = ap (λ (r : ReadyPart). r.part.number) (sym c.index.ensures) ∙ sym c.number.ensures ∙ c.if-number.true in
     let found =
     found_at (λ (r : ReadyPart). r.part.number == number) xs i d (omega arith) (eq-eqb _ _ here) (λ k e lt. ne_eqb (get_or (take i xs) k e).part.number number (c.loop-place.invariant.none k e lt)) in
-    subst (λ l. find_ready number l ≡ Some c.remove.result) c.loop-place.invariant.same (found ∙ ap Some (same_place xs i d c.remove.result (omega arith) ∙ sym c.remove.ensures.value))
+    subst (λ l. find_ready number l ≡ Some c.remove.result) c.loop-place.invariant.same (found ∙ ap Some (get_or_default xs i d c.remove.result (omega arith) ∙ sym c.remove.ensures.value))
 
 pub returns-then-number-clause-others : goal.returns-then-number-clause-others
 returns-then-number-clause-others c = λ m differs.

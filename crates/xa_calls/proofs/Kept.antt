@@ -1,0 +1,174 @@
+-- What is outstanding stays kept under a number, as a desk calls and collects.
+use Rattle.std.proofs.Common.{◌≡◌, ◌≢◌, ℕ, ℤ, ◌-◌, ⊎_elim, zero, suc, Bool, true, false, List, [], length, arith, Option, Some, None, Result, Ok, Err, sym}
+use Rattle.std.proofs.Common.{refl, ap, ◌∙◌, subst, inl, inr}
+use Rattle.std.proofs.lemmas.Bool.{cases_eq, cases_Bool}
+use Rattle.std.specs.Ordering.{nat_cmp}
+use Rattle.std.specs.FinMap as finmap
+use Rattle.xa_words.specs.declared.code.Code.{Code}
+use Rattle.xa_words.specs.declared.code.Code.TheVariants.{Inval}
+use Rattle.xa_words.specs.declared.flags.Mode.{Mode}
+use Rattle.xa_words.specs.declared.request.Op.{Op}
+use Rattle.xa_desk.specs.declared.operation.Operation.{Operation}
+use Rattle.xa_desk.specs.LedgerView.{LedgerView}
+use Rattle.xa_desk.specs.DeskView.{DeskView, IsKnown, IsOut, is_known, ledger, next_operation, outstanding}
+use Rattle.xa_desk.specs.Kept.{AllKept, HoldsNone}
+use Rattle.xa_desk.specs.Lanes.{submitted, after_fulls}
+use Rattle.xa_desk.specs.Looks.{EndsQuiet, Collects, TakesKept}
+use Rattle.xa_desk.proofs.Ledgers.{known_is}
+use Rattle.xa_calls.specs.Putting.{put_refusal, Puts, Calls}
+use Rattle.xa_calls.specs.Putting.Puts.{refused, full, kept, answered}
+use Rattle.xa_calls.specs.Completing.{CompletesOne, CompletesAny, CompletesAt, CompletesBy, CollectsRedeemed, may_complete}
+use Rattle.xa_calls.specs.Completing.CompletesOne.{unknown, retry as retry_one, ready, waited}
+use Rattle.xa_calls.specs.Completing.CompletesAny.{nothing, retry as retry_any, least}
+use Rattle.xa_base.proofs.Maps.{inserted_there, inserted_other, removed_other}
+use Rattle.xa_base.proofs.Options.{not_both}
+use Rattle.xa_calls.proofs.Outstanding.{out_sent, out_collected, none_outstanding}
+
+-- ---- what is kept under which number
+
+abbrev Handles : Type 0
+Handles = finmap.FinMap nat_cmp Operation
+
+other_operation : (o : Option Operation) (p q : Operation) → o ≡ Some p → o ≡ Some q → q ≡ p
+other_operation o p q e f = cc
+
+-- ---- one desk
+
+-- where the ledgers and what is kept stay
+same_kept : (old new : DeskView) → new.ledgers ≡ old.ledgers → new.kept ≡ old.kept → AllKept old → AllKept new
+same_kept old new ledgers handles all = record {
+  each = λ o out.
+      let k = all.each o (subst (λ (at : List LedgerView). IsOut at o) ledgers out) in
+      (k.0, ap (λ (m : Handles). finmap.get m k.0) handles ∙ k.1);
+}
+
+pub quiet_same : (old new : DeskView) → EndsQuiet old new → (new.ledgers ≡ old.ledgers) × (new.kept ≡ old.kept)
+quiet_same old new q = (
+  ap (λ (d : DeskView). d.ledgers) q.quiet.1 ∙ ap (λ (d : DeskView). d.ledgers) q.looks.rest,
+  ap (λ (d : DeskView). d.kept) q.quiet.1 ∙ ap (λ (d : DeskView). d.kept) q.looks.rest,
+)
+
+-- where an operation is collected, and each other one that was outstanding was kept
+collects_keep : (mid new : DeskView) (o : Operation) (c : Code) → Collects mid new o c
+    → ((p : Operation) → IsOut mid.ledgers p → p ≢ o → (k : ℕ) × (finmap.get mid.kept k ≡ Some p)) → AllKept new
+collects_keep mid new o c is rest = record {
+  each = λ p out.
+      let ledgers = ap (λ (d : DeskView). d.ledgers) is.collected in
+      let parts = out_collected is.before.ledgers o c is.out.known p (subst (λ (at : List LedgerView). IsOut at p) ledgers out) in
+      let k = rest p (subst (λ (at : List LedgerView). IsOut at p) (ap (λ (d : DeskView). d.ledgers) is.looks.rest) parts.0) parts.1 in
+      (k.0, ap (λ (d : DeskView). finmap.get d.kept k.0) is.collected ∙ ap (λ (d : DeskView). finmap.get d.kept k.0) is.looks.rest ∙ k.1);
+}
+
+-- an operation that is kept under the number is collected, and the number is free
+freed_kept : (m : Handles) (k : ℕ) (o : Operation) → finmap.get m k ≡ Some o → (p : Operation) → p ≢ o → (j : ℕ) × (finmap.get m j ≡ Some p)
+    → (j : ℕ) × (finmap.get (finmap.remove m k) j ≡ Some p)
+freed_kept m k o at p differs j = elim (cases_eq j.0 k) [
+  | inl same ↦ absurd (differs (other_operation (finmap.get m k) o p at (subst (λ n. finmap.get m n ≡ Some p) same j.1)))
+  | inr other ↦ (j.0, removed_other m k j.0 other ∙ j.1)
+]
+
+pub redeemed_keep : (old new : DeskView) (k : ℕ) (c : Code) → CollectsRedeemed old new k c → AllKept old → AllKept new
+redeemed_keep old new k c is all =
+    collects_keep (record old { kept = finmap.remove old.kept k }) new is.operation c is.collects (λ p out differs. freed_kept old.kept k is.operation is.kept p differs (all.each p out))
+
+takes_keep : (old new : DeskView) (k : ℕ) (c : Code) → TakesKept old new k c → AllKept old → AllKept new
+takes_keep old new k c is all = record {
+  each = λ p out.
+      let ledgers = ap (λ (d : DeskView). d.ledgers) is.taken in
+      let parts = out_collected old.ledgers is.operation c is.out.known p (subst (λ (at : List LedgerView). IsOut at p) ledgers out) in
+      let j = freed_kept old.kept k is.operation is.kept p parts.1 (all.each p parts.0) in
+      (j.0, ap (λ (d : DeskView). finmap.get d.kept j.0) is.taken ∙ j.1);
+}
+
+-- ---- putting
+
+some_refusal : (d : DeskView) (m : ℕ) (b : Bool) → is_known d.ledgers m ≡ false → put_refusal d m b ≡ None → ⊥
+some_refusal d m false missing e = let f : put_refusal d m false ≡ Some Inval = rw missing refl in cc
+some_refusal d m true missing e = let f : put_refusal d m true ≡ Some Inval = rw missing refl in cc
+
+pub known_here : (d : DeskView) (m : ℕ) (b : Bool) → put_refusal d m b ≡ None → IsKnown d.ledgers m
+known_here d m b e = elim (cases_Bool (is_known d.ledgers m)) [
+  | inl there ↦ known_is d.ledgers m there
+  | inr missing ↦ absurd (some_refusal d m b missing e)
+]
+
+pub fulls_ledgers : (n : ℕ) (d : DeskView) (m : ℕ) → (after_fulls n d m).ledgers ≡ d.ledgers
+fulls_ledgers zero d m = refl
+fulls_ledgers (suc n) d m = fulls_ledgers n d m
+
+pub fulls_kept : (n : ℕ) (d : DeskView) (m : ℕ) → (after_fulls n d m).kept ≡ d.kept
+fulls_kept zero d m = refl
+fulls_kept (suc n) d m = fulls_kept n d m
+
+-- an operation that is sent and kept
+inserted_keep : (old : DeskView) (m : ℕ) (op : Op) (k : ℕ) → IsKnown old.ledgers m → finmap.get old.kept k ≡ None → AllKept old
+    → AllKept (record (submitted old m op) { kept = finmap.insert old.kept k (next_operation old.ledgers m) })
+inserted_keep old m op k known unkept all = record {
+  each = λ p out.
+      let next = next_operation old.ledgers m in
+      ⊎_elim
+      (λ (e : p ≡ next). (k, inserted_there old.kept k next ∙ ap (λ (o : Operation). Some o) (sym e)))
+      (λ (before : IsOut old.ledgers p).
+      let j = all.each p before in
+      let differs : j.0 ≢ k = λ same. not_both (finmap.get old.kept k) p unkept (subst (λ n. finmap.get old.kept n ≡ Some p) same j.1) in
+      (j.0, inserted_other old.kept k next j.0 differs ∙ j.1))
+      (out_sent old.ledgers m op known p out);
+}
+
+-- an operation that is sent and collected
+pub answered_keep : (old mid new : DeskView) (m : ℕ) (op : Op) (c : Code) → mid.ledgers ≡ old.ledgers → mid.kept ≡ old.kept → IsKnown old.ledgers m
+    → Collects (submitted mid m op) new (next_operation old.ledgers m) c → AllKept old → AllKept new
+answered_keep old mid new m op c ledgers handles known is all =
+    collects_keep (submitted mid m op) new (next_operation old.ledgers m) c is (λ p out differs.
+    ⊎_elim
+    (λ (e : p ≡ next_operation mid.ledgers m). absurd (differs (e ∙ ap (λ (at : List LedgerView). next_operation at m) ledgers)))
+    (λ (before : IsOut mid.ledgers p). (same_kept old mid ledgers handles all).each p before)
+    (out_sent mid.ledgers m op (subst (λ (at : List LedgerView). IsKnown at m) (sym ledgers) known) p out))
+
+puts_keep : (old : DeskView) (m : ℕ) (asked : _) (new : DeskView) (n : ℤ) → Puts old m asked new n → AllKept old → AllKept new
+puts_keep old m asked new n (refused c why told e) all = subst AllKept (sym e) all
+puts_keep old m asked new n (full why async told e) all = same_kept old new (ap (λ (d : DeskView). d.ledgers) e) (ap (λ (d : DeskView). d.kept) e) all
+puts_keep old m asked new n (kept why async k told is e) all =
+    subst AllKept (sym e) (inserted_keep old m asked.op k (known_here old m asked.asynchronous why) is.free all)
+puts_keep old m asked new n (answered why async times c told is) all =
+    answered_keep old (after_fulls times old m) new m asked.op c (fulls_ledgers times old m) (fulls_kept times old m) (known_here old m asked.asynchronous why) is all
+
+pub calls_keep : (asked : Result _ Code) (old : DeskView) (m : ℕ) (new : DeskView) (n : ℤ) → Calls asked old m new n → AllKept old → AllKept new
+calls_keep (Ok asked) old m new n is all = puts_keep old m asked new n is all
+calls_keep (Err c) old m new n is all = subst AllKept (sym is.1) all
+
+-- ---- collecting
+
+one_keep : (old : DeskView) (k : Option ℕ) (m : ℕ) (nowait : Bool) (new : DeskView) (r : Result (ℕ × Code) Code) → CompletesOne old k m nowait new r
+    → AllKept old → AllKept new
+one_keep old k m nowait new r (unknown missing told e) all = subst AllKept (sym e) all
+one_keep old k m nowait new r (retry_one j is there way told quiet unready) all = let same = quiet_same old new quiet in same_kept old new same.0 same.1 all
+one_keep old k m nowait new r (ready j c is there way told takes) all =
+    takes_keep takes.before new j c takes.takes (same_kept old takes.before (ap (λ (d : DeskView). d.ledgers) takes.looks.rest) (ap (λ (d : DeskView). d.kept) takes.looks.rest) all)
+one_keep old k m nowait new r (waited j c is there way told takes) all = redeemed_keep old new j c takes all
+
+any_keep : (old : DeskView) (m : ℕ) (nowait : Bool) (new : DeskView) (r : Result (ℕ × Code) Code) → CompletesAny old m nowait new r → AllKept old → AllKept new
+any_keep old m nowait new r (nothing empty told e) all = subst AllKept (sym e) all
+any_keep old m nowait new r (retry_any j there way told quiet unready) all = let same = quiet_same old new quiet in same_kept old new same.0 same.1 all
+any_keep old m nowait new r (least j c told takes) all =
+    let same = quiet_same old takes.before takes.quiet in takes_keep takes.before new j c takes.takes (same_kept old takes.before same.0 same.1 all)
+
+at_keep : (may multiple nowait : Bool) (old : DeskView) (k : Option ℕ) (m : ℕ) (new : DeskView) (r : Result (ℕ × Code) Code)
+    → CompletesAt may multiple nowait old k m new r → AllKept old → AllKept new
+at_keep false multiple nowait old k m new r is all = subst AllKept (sym is.1) all
+at_keep true true nowait old k m new r is all = any_keep old m nowait new r is all
+at_keep true false nowait old k m new r is all = one_keep old k m nowait new r is all
+
+pub by_keep : (mode : Result Mode Code) (old : DeskView) (k : Option ℕ) (m : ℕ) (new : DeskView) (r : Result (ℕ × Code) Code) → CompletesBy mode old k m new r
+    → AllKept old → AllKept new
+by_keep (Ok mode) old k m new r is all = at_keep (may_complete old m mode.multiple) mode.multiple mode.nowait old k m new r is all
+by_keep (Err c) old k m new r is all = subst AllKept (sym is.1) all
+
+-- ---- a desk that keeps nothing
+
+-- where nothing is kept, nothing is outstanding
+nothing_out : (d : DeskView) → AllKept d → HoldsNone d → (o : Operation) → IsOut d.ledgers o → ⊥
+nothing_out d all empty o out = let k = all.each o out in not_both (finmap.get d.kept k.0) o (empty k.0) k.1
+
+pub none_left : (d : DeskView) → AllKept d → HoldsNone d → outstanding d.ledgers ≡ 0
+none_left d all empty = none_outstanding d.ledgers (nothing_out d all empty)

@@ -1,0 +1,15 @@
+-- What calls leave, one after another.
+use Rattle.xa_desk.specs.DeskView.{DeskView}
+use Rattle.xa_desk.specs.GoesOn.{GoesOn}
+use Rattle.xa_calls.specs.Putting.{CallLeaves}
+
+module _ {I : Type 0} {leads : I → I → Type 0} where
+  -- nothing was done
+  pub leaves_all : ((d : DeskView) → GoesOn d d) → ((x : I) → leads x x) → (d : DeskView) (x : I) → CallLeaves leads d d x x
+  leaves_all same stays d x = record { goes_on = same d; tickets = λ t owned. owned; idled = stays x }
+
+  -- one call and then another
+  pub leaves_on : ((old mid new : DeskView) → GoesOn old mid → GoesOn mid new → GoesOn old new) → ((x y z : I) → leads x y → leads y z → leads x z)
+      → {old mid new : DeskView} {x y z : I} → CallLeaves leads old mid x y → CallLeaves leads mid new y z → CallLeaves leads old new x z
+  leaves_on further chain a b =
+      record { goes_on = further _ _ _ a.goes_on b.goes_on; tickets = λ t owned. b.tickets t (a.tickets t owned); idled = chain _ _ _ a.idled b.idled }

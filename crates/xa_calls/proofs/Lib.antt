@@ -1,0 +1,5 @@
+pub mod Outstanding
+pub mod Kept
+mod Recovered
+pub mod Refusals
+mod Leaving

@@ -1,0 +1,144 @@
+-- What a scan does to a desk, and what it writes.
+use Rattle.std.proofs.Common.{◌≡◌, ℕ, ℤ, zero, suc, Bool, true, false, Option, None, ◌+◌, ◌-◌, ◌<◌, Some, Result, Ok, Err, List, [], ◌∷◌, ◌++◌, length, take}
+use Rattle.std.proofs.Common.{drop, set, refl, sym, ap, ◌∙◌, subst, arith, length-append, append_assoc}
+use Rattle.std.specs.Prelude.{is_some, option_map, slice_get}
+use Rattle.std.proofs.lemmas.List.{length-drop, take_all}
+use Rattle.xa_words.specs.Xid.{XidName}
+use Rattle.xa_words.specs.declared.code.Code.{Code}
+use Rattle.xa_words.specs.declared.code.Code.TheVariants.{Done, Nota}
+use Rattle.xa_words.specs.Flags.{check_flags}
+use Rattle.xa_words.specs.declared.flags.Call.TheVariants as call
+use Rattle.xa_words.specs.declared.flags.Mode.{Mode}
+use Rattle.xa_words.specs.declared.request.Op.{Op}
+use Rattle.xa_words.specs.declared.request.Op.TheVariants.{Listed}
+use Rattle.xa_desk.specs.declared.refused.Refused.{Refused}
+use Rattle.xa_desk.specs.declared.refused.Refused.TheVariants.{NoSuchManager, Shut, TooMany, Spent, Full}
+use Rattle.xa_desk.specs.DeskView.{DeskView, call_refusal, is_known}
+use Rattle.xa_desk.specs.Kept.{AllKept}
+use Rattle.xa_desk.specs.Lanes.{after_fulls}
+use Rattle.xa_calls.specs.Putting.{code_of, put_refusal}
+use Rattle.xa_calls.specs.Scans.{Asking, Answers, refused, answered, Looks, begun, finds, passes, Scans, filled, ended, stopped, written}
+use Rattle.xa_scan.specs.Left.{ScanView, place_at}
+use Rattle.xa_calls.specs.Scans.{start_of}
+use Rattle.xa_calls.specs.Scans.{Recovers, unreached, told, IsInVain, RecoversFrom, RecoversBy, HasRecovered, AsksAndWaits, RecoversAndWaits}
+use Rattle.xa_calls.proofs.Kept.{answered_keep, fulls_kept, fulls_ledgers, known_here}
+
+-- what was outstanding stays kept, as a manager is asked
+pub asked_keep : (old new : DeskView) (m : ℕ) (op : Op) (code : Code) → Answers m old op new code → AllKept old → AllKept new
+asked_keep old new m op code (refused why same) all = subst AllKept (sym same) all
+asked_keep old new m op code (answered none n is) all =
+    answered_keep old (after_fulls n old m) new m op code (fulls_ledgers n old m) (fulls_kept n old m) (known_here old m false none) is all
+
+-- no refusal has the code XA_OK
+not_done : {A : Type 0} (i j : A) (why : Option Refused) (code : Code) → option_map code_of why ≡ Some code → code ≡ Done → i ≡ j
+not_done i j None code fails done = absurd (cc)
+not_done i j (Some NoSuchManager) code fails done = absurd (cc)
+not_done i j (Some Shut) code fails done = absurd (cc)
+not_done i j (Some TooMany) code fails done = absurd (cc)
+not_done i j (Some Spent) code fails done = absurd (cc)
+not_done i j (Some Full) code fails done = absurd (cc)
+
+-- a manager that answered XA_OK wasn't refused, so what is said of a refusal holds
+pub done_refuses_none : {A : Type 0} (i j : A) (old new : DeskView) (m : ℕ) (op : Op) (code : Code) → Answers m old op new code → code ≡ Done
+    → is_some (put_refusal old m false) ≡ true → i ≡ j
+done_refuses_none i j old new m op code (refused why same) done some = not_done i j (call_refusal old m) code why done
+done_refuses_none i j old new m op code (answered none n is) done some = let e = ap is_some none in absurd (cc)
+
+-- ---- what is written
+
+set_past : {A : Type 0} (fs ys : List A) (x : A) → set (fs ++ ys) (length fs) x ≡ fs ++ set ys 0 x
+set_past [] ys x = refl
+set_past (f ∷ fs) ys x = ap (λ l. f ∷ l) (set_past fs ys x)
+
+set_first : {A : Type 0} (n : ℕ) (xs : List A) (x : A) → n < length xs → set (drop n xs) 0 x ≡ x ∷ drop (suc n) xs
+set_first n [] x low = absurd (omega (arith, low))
+set_first zero (y ∷ xs) x low = refl
+set_first (suc n) (y ∷ xs) x low = set_first n xs x (omega (arith, low))
+
+-- one more is found
+pub written_more : (fs xs : List XidName) (x : XidName) → length fs < length xs → set (written fs xs) (length fs) x ≡ written (fs ++ x ∷ []) xs
+written_more fs xs x low =
+    let many : suc (length fs) ≡ length (fs ++ x ∷ []) = omega (arith, length-append fs (x ∷ [])) in
+    set_past fs (drop (length fs) xs) x ∙ ap (λ l. fs ++ l) (set_first (length fs) xs x low) ∙ sym (append_assoc fs (x ∷ []) (drop (suc (length fs)) xs))
+    ∙ ap (λ n. (fs ++ x ∷ []) ++ drop n xs) many
+
+-- ---- one branch more
+
+-- it was found
+pub finds_more : {D : Type 0} (asking : Asking D) (room : ℕ) (xids : List XidName) (old d e : D) (k : ℕ) (xs : List XidName) (x : XidName) (code : Code)
+    → Looks asking room xids old k xs d → length xs < room → slice_get xids k ≡ Some x → asking d (Listed (Some x)) e code → code ≡ Done
+    → Looks asking room xids old (k + 1) (xs ++ x ∷ []) e
+finds_more asking room xids old d e k xs x code looks short there asked is =
+    subst (λ n. Looks asking room xids old n (xs ++ x ∷ []) e) (let same : suc k ≡ k + 1 = omega arith in same) (finds k xs d e x looks short there (subst (λ c. asking d (Listed (Some x)) e c) is asked))
+
+-- it isn't left
+pub passes_more : {D : Type 0} (asking : Asking D) (room : ℕ) (xids : List XidName) (old d e : D) (k : ℕ) (xs : List XidName) (x : XidName) (code : Code)
+    → Looks asking room xids old k xs d → length xs < room → slice_get xids k ≡ Some x → asking d (Listed (Some x)) e code → code ≡ Nota
+    → Looks asking room xids old (k + 1) xs e
+passes_more asking room xids old d e k xs x code looks short there asked is =
+    subst (λ n. Looks asking room xids old n xs e) (let same : suc k ≡ k + 1 = omega arith in same) (passes k xs d e x looks short there (subst (λ c. asking d (Listed (Some x)) e c) is asked))
+
+-- ---- from a place on
+
+-- what a slice from there to the end has
+pub rest_of : {A : Type 0} (k : ℕ) (xs : List A) → take (length xs - k) (drop k xs) ≡ drop k xs
+rest_of k xs = take_all (length xs - k) (drop k xs) (omega (arith, length-drop k xs))
+
+-- so what was scanned from there
+pub scanned_from : {D : Type 0} (asking : Asking D) (room place : ℕ) (left all : List XidName) (mid new : D) (found : List XidName) (r : Result ℕ Code) (n : ℕ)
+    → n ≡ room → left ≡ all → Scans asking n (take (length left - place) (drop place left)) mid new found r → Scans asking room (drop place all) mid new found r
+scanned_from asking room place left all mid new found r n rooms lists scans =
+    subst (λ k. Scans asking k (drop place all) mid new found r) rooms
+    (subst (λ l. Scans asking n (drop place l) mid new found r) lists (subst (λ l. Scans asking n l mid new found r) (rest_of place left) scans))
+
+-- ---- over a part of what was asked
+
+-- where a part of each state was asked as well, what holds of the asking holds of the part's
+module _ {D E : Type 0} (part : D → E) (asking : Asking D) (other : Asking E)
+    (is : (d : D) (op : Op) (e : D) (code : Code) → asking d op e code → other (part d) op (part e) code) where
+  looks_by : {room : ℕ} {xids : List XidName} {old : D} {k : ℕ} {xs : List XidName} {d : D} → Looks asking room xids old k xs d
+      → Looks other room xids (part old) k xs (part d)
+  looks_by begun = begun
+  looks_by (finds k xs d e x looks short there asked) = finds k xs (part d) (part e) x (looks_by looks) short there (is d (Listed (Some x)) e Done asked)
+  looks_by (passes k xs d e x looks short there asked) = passes k xs (part d) (part e) x (looks_by looks) short there (is d (Listed (Some x)) e Nota asked)
+
+  scans_by : {room : ℕ} {xids : List XidName} {old new : D} {found : List XidName} {r : Result ℕ Code} → Scans asking room xids old new found r
+      → Scans other room xids (part old) (part new) found r
+  scans_by (filled looked looks full) = filled looked (looks_by looks) full
+  scans_by (ended looks) = ended (looks_by looks)
+  scans_by {new = new} (stopped k d x why looks short there asked done nota) = stopped k (part d) x why (looks_by looks) short there
+      (is d (Listed (Some x)) new why asked) done nota
+
+  module _ (m : ℕ) (mode : Mode) (old : D) (z : ScanView) (xids : List XidName) (new : D) (z' : ScanView) (xids' : List XidName) where
+    scanned_by : {place : ℕ} {r : Result ℕ Code} → Recovers asking m mode place old z xids new z' xids' r
+        → Recovers other m mode place (part old) z xids (part new) z' xids' r
+    scanned_by (unreached why asked done scan slice) = unreached why (is old (Listed None) new why asked) done scan slice
+    scanned_by (stopped mid found why asked scans scan slice) = stopped (part mid) found why (is old (Listed None) mid Done asked) (scans_by scans) scan slice
+    scanned_by (told mid found looked asked scans scan slice) = told (part mid) found looked (is old (Listed None) mid Done asked) (scans_by scans) scan slice
+
+    vain_by : {why : Code} {r : Result ℕ Code} → IsInVain why old z xids new z' xids' r → IsInVain why (part old) z xids (part new) z' xids' r
+    vain_by v = record { answer = v.answer; state = ap part v.state; scan = v.scan; written = v.written }
+
+    from_by : (start : Option ℕ) (r : Result ℕ Code) → RecoversFrom asking start m mode old z xids new z' xids' r
+        → RecoversFrom other start m mode (part old) z xids (part new) z' xids' r
+    from_by None r is = vain_by is
+    from_by (Some place) r is = scanned_by is
+
+  pub recovers_by : (there : Bool) (mode : Result Mode Code) (m : ℕ) (old : D) (z : ScanView) (xids : List XidName) (new : D) (z' : ScanView)
+      (xids' : List XidName) (r : Result ℕ Code)
+      → RecoversBy asking there mode m old z xids new z' xids' r → RecoversBy other there mode m (part old) z xids (part new) z' xids' r
+  recovers_by there (Err why) m old z xids new z' xids' r h = record { answer = h.answer; state = ap part h.state; scan = h.scan; written = h.written }
+  recovers_by false (Ok mode) m old z xids new z' xids' r h = vain_by m mode old z xids new z' xids' h
+  recovers_by true (Ok mode) m old z xids new z' xids' r h = from_by m mode old z xids new z' xids' (start_of mode (place_at z m)) r h
+
+-- a recover each request of which was waited for
+pub recovered_so : {I : Type 0} {by : ℕ → I → I → Type 0} {m flags : ℕ} {old : DeskView × I} {z : ScanView} {xids : List XidName}
+    {new : DeskView × I} {z' : ScanView} {xids' : List XidName} {answer : ℤ}
+    → RecoversAndWaits by m flags old z xids new z' xids' answer → HasRecovered m flags old.0 z xids new.0 z' xids' answer
+recovered_so {by = by} {m = m} {flags = flags} {old = old} {z = z} {xids = xids} {new = new} {z' = z'} {xids' = xids'} r = record {
+  result = r.result;
+  recovers =
+      recovers_by (λ s. s.0) (AsksAndWaits by m) (Answers m) (λ d op e code a. a.answers) (is_known old.0.ledgers m)
+      (check_flags call.Recover flags) m old z xids new z' xids' r.result r.recovers;
+  answered = r.answered;
+}

@@ -1,0 +1,47 @@
+use Rattle.std.proofs.Common.{sym, subst, refl}
+use Rattle.xa_desk.specs.DeskView.{DeskView}
+use Rattle.xa_desk.specs.Looks.{Collects}
+use Rattle.xa_calls.specs.Completing.CompletesOne.{retry, ready, waited}
+use Rattle.xa_calls.proofs.Leaving.{leaves_all}
+use Rattle.xa_calls.proofs.completing.complete_one.Goals as goal
+
+pub returns-in_default-clause-leaves : goal.returns-in_default-clause-leaves
+returns-in_default-clause-leaves g c = leaves_all c.desks_go_on.ensures.same g.met.I.Idle.leads_start _ _
+
+pub returns-then-not-keeps-clause-leaves : goal.returns-then-not-keeps-clause-leaves
+returns-then-not-keeps-clause-leaves g c = leaves_all c.desks_go_on.ensures.same g.met.I.Idle.leads_start _ _
+
+pub returns-in-Some-try_kept-clause-completes : goal.returns-in-Some-try_kept-clause-completes
+returns-in-Some-try_kept-clause-completes g c =
+    ready c.in-Some.number c.in-Some-try_kept.code c.in-Some.is (sym c.if-not-keeps.ensures.keeps) c.if-nowait.true refl c.in-Some-try_kept.ensures.collected
+
+pub returns-in-Some-try_kept-clause-leaves : goal.returns-in-Some-try_kept-clause-leaves
+returns-in-Some-try_kept-clause-leaves g c =
+    record { goes_on = c.try_kept.ensures.goes_on; tickets = c.try_kept.ensures.tickets; idled = g.met.I.Idle.leads_start _ }
+
+pub returns-in-None : goal.returns-in-None
+returns-in-None g c = record {
+  completes = retry c.in-Some.number c.in-Some.is (sym c.if-not-keeps.ensures.keeps) c.if-nowait.true refl (c.in-None.ensures.quiet refl)
+      (c.in-None.ensures.nothing refl);
+  leaves = record { goes_on = c.try_kept.ensures.goes_on; tickets = c.try_kept.ensures.tickets; idled = g.met.I.Idle.leads_start _ };
+  handle = tt;
+  refused = λ _. refl;
+  prompt = λ _. refl;
+  waited = tt;
+}
+
+pub returns-clause-completes : goal.returns-clause-completes
+returns-clause-completes g c =
+    waited c.in-Some.number c.complete.result c.in-Some.is (sym c.if-not-keeps.ensures.keeps) c.if-nowait.false refl
+    (record {
+      operation = c.in-Some-redeem.ticket.operation;
+      kept = c.in-Some-redeem.ensures.kept;
+      collects = subst (λ (d : DeskView). Collects d c.complete.new.self c.in-Some-redeem.ticket.operation c.complete.result) c.in-Some-redeem.ensures.freed c.complete.ensures.collected;
+    })
+
+pub returns-clause-leaves : goal.returns-clause-leaves
+returns-clause-leaves g c = record {
+  goes_on = c.desks_go_on.ensures.further _ _ _ c.redeem.ensures.goes_on c.complete.ensures.goes_on;
+  tickets = λ t owned. c.complete.ensures.others t (c.redeem.ensures.tickets t owned) (c.in-Some-redeem.ensures.fresh t owned);
+  idled = c.complete.ensures.idled;
+}

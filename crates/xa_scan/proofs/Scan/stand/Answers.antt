@@ -1,0 +1,10 @@
+use Rattle.std.proofs.Common.{◌≤◌, IfSome, length, subst, sym}
+use Rattle.xa_scan.specs.Left.{scan_of, left_at}
+use Rattle.xa_scan.proofs.Standing.{still_within}
+use Rattle.xa_scan.proofs.Scan.stand.Goals as goal
+
+pub invariant_of-self : goal.invariant_of-self
+invariant_of-self c =
+    let m = c.args.manager in
+    let z = scan_of c.self.inside.left c.self.inside.places in
+    still_within z m c.args.place c.requires.manager.0 (subst (λ w. IfSome c.args.place (λ k. k ≤ length (left_at w m))) (sym c.self.view_is) c.requires.within) c.self.invariant

@@ -1,5 +1,0 @@
-use Rattle.xa_switch.proofs.Kept.{calls_keep}
-use Rattle.xa_switch.proofs.calls.native.Goals as goal
-
-pub returns-clause-kept : goal.returns-clause-kept
-returns-clause-kept g c = calls_keep _ _ _ _ _ c.put_asked.ensures.calls

@@ -1,0 +1,24 @@
+use Rattle.std.proofs.Common.{[], ◌∷◌, length, length-append, map, sym, ap, ◌∙◌, subst, arith}
+use Rattle.std.specs.List.{All}
+use Rattle.std.proofs.lemmas.List.Elements.{All-push}
+use Rattle.xa_switch.specs.Recovery.{HasLeft, IsScanOf}
+use Rattle.xa_switch.proofs.opening.scans.scans_of.Goals as goal
+
+pub loop-preserved : goal.loop-preserved
+loop-preserved c =
+    let i = c.loop.invariant in
+    let s = c.args.settled.now in
+    let scans = c.loop.scans.items in
+    let z = c.over.result in
+    let shared = c.in_ok-try_clone.ensures ∙ c.in_ok-left.ensures.ok in
+    let is : IsScanOf s z = record {
+      left = subst (HasLeft s) (sym (c.over.ensures.left ∙ ap (λ v. map (λ xs. xs.items) v.items) shared)) c.in_ok-left_of.ensures;
+      closed = c.over.ensures.closed;
+    } in
+    let counted = i.counted in
+    let grown = ap (λ l. length l) c.push_reserved.ensures.items in
+    record {
+      counted = omega (arith, counted, grown, length-append scans (z ∷ []));
+      room = c.push_reserved.ensures.capacity ∙ i.room;
+      each = subst (All (IsScanOf s)) (sym c.push_reserved.ensures.items) (All-push (IsScanOf s) scans z i.each is);
+    }
