@@ -315,8 +315,9 @@ def next_states(manager, asked, places):
         fits, more, vote_after = carried_out(after, thread, it, vote)
         if fits:
             state = after, {**places, thread: (place if more else place + 1, vote_after)}
-            if key_of(after) == key_of(manager) and not more and vote is None:
-                # It changes nothing, so it may as well be carried out now.
+            if it.came is not None and key_of(after) == key_of(manager) and not more and vote is None:
+                # It changes nothing, so it may as well be carried out now: not so where its code was never shown, for
+                # with another code it may change something later.
                 return [state]
             states.append(state)
         if it.may_be_left_out and vote is None:
