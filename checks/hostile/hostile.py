@@ -107,10 +107,30 @@ def stored():
             yield path, script.read(), shown.read()
 
 
+# The Rollback whose code died with its coordinator comes after thread 1's End, and before its Prepare.
+LATE_ROLLBACK = b"""# In threads alone.
+threads 2
+managers 1
+1 open 1
+2 open 1
+1 start 1 g.1
+1 end 1 g.1 success
+1 prepare 1 g.1
+2 commitall g 1 dies told 1
+"""
+SHOWS_LATE_ROLLBACK = b"""4 1 0
+6 1 0
+7 1 0
+8 1 -4
+5 2 0
+9 2 died abort unlogged vote:-6
+"""
+
+
 def count_misjudged():
     """How many of the stored transcripts, which were worked out by hand, are judged to be wrong."""
     count = 0
-    for path, script, shown in stored():
+    for path, script, shown in (*stored(), ("a late Rollback", LATE_ROLLBACK, SHOWS_LATE_ROLLBACK)):
         mode = "threads" if b"# In threads alone." in script else "turns"
         what, why, _ = transcript.judge(script, mode, (0, shown, b""))
         if (what, why) != ("taken", None):
