@@ -1,9 +1,10 @@
 -- Each step of a desk keeps its books.
 use Rattle.std.proofs.Common.{◌≡◌, ◌≢◌, ℕ, suc, ◌+◌, ◌-◌, ◌<◌, ◌⊎◌, Bool, true, false, cond, nat_eq, is_some, List, [], ◌∷◌, ◌++◌, length, Option, Some, None}
 use Rattle.std.proofs.Common.{get_or, sym, refl, ap, ◌∙◌, subst, inl, inr, arith, length-append}
+use Rattle.std.proofs.lemmas.List.{get_or-set_same, get_or-set_other, get_or_past}
 use Rattle.std.proofs.lemmas.List.Sums.{sum_by-set}
-use Rattle.std.proofs.lemmas.Bool.{cases_eq, cases_Bool, false≢true, false_from_ne_true, and_parts, and_from, eqb-true, eq-eqb}
-use Rattle.slab.specs.Slab.{Slab, get, slab_len, Updates}
+use Rattle.std.proofs.lemmas.Bool.{cases_eq, cases_lt, cases_Bool, false≢true, false_from_ne_true, and_parts, and_from, eqb-true, eq-eqb}
+use Rattle.slab.specs.Slab.{Slab, get, slab_len, with_value, Updates}
 use Rattle.xa_words.specs.declared.request.Op.{Op}
 use Rattle.xa_words.specs.declared.code.Code.{Code}
 use Rattle.xa_words.specs.declared.request.Completion.{Completion}
@@ -324,3 +325,25 @@ module _ (at : List LedgerView) (s t : Slab Slot) (key : ℕ) (slot : Slot) (cod
             let n = b.drained_count in
             omega (arith, length-append (ledger at o.manager).collected ((o.number, code) ∷ []));
       }
+
+-- a completion that is collected as it is taken: as if its code had been entered into the slot first
+module _ (at : List LedgerView) (s t : Slab Slot) (key : ℕ) (slot : Slot) (table : List (Option Operation)) (drained : List Completion) (c : Completion) where
+  pub books_taken : IsBooks at s table drained → get s key ≡ Some slot → slot.code ≡ None → slot.operation ≡ operation_of c → slot.handle ≡ 0
+      → Updates s t key None → slab_len t + 1 ≡ slab_len s → IsBooks (after_collected at slot.operation c.code) t table (drained ++ c ∷ [])
+  books_taken b there waiting named loose u len =
+      let coded : Slot = record slot { code = Some c.code } in
+      let mid : Slab Slot = with_value s key coded in
+      let within : key < length s.slots = elim (cases_lt key (length s.slots)) [
+        | inl below ↦ below
+        | inr past ↦ let no : None ≡ Some slot = sym (get_or_past s.slots key None past) ∙ there in absurd cc
+      ] in
+      let now : get mid key ≡ Some coded = get_or-set_same s.slots key (Some coded) None within in
+      let others : (k : ℕ) → k ≢ key → get mid k ≡ get s k = λ k differs. get_or-set_other s.slots key k (Some coded) None differs in
+      let sums : slab_len mid + cond {A = ℕ} (is_some (get s key)) 1 0 ≡ slab_len s + 1 =
+      sum_by-set (λ (x : Option Slot). cond {A = ℕ} (is_some x) 1 0) s.slots key (Some coded) None within in
+      let one : cond {A = ℕ} (is_some (get s key)) 1 0 ≡ 1 = ap (λ (x : Option Slot). cond {A = ℕ} (is_some x) 1 0) there in
+      let count : slab_len mid ≡ slab_len s = omega arith in
+      let drains = books_drained at s mid key slot table drained c b there waiting named (record { changed = now; others = others }) count in
+      books_collected at mid t key coded c.code table (drained ++ c ∷ []) drains now refl loose
+      (record { changed = u.changed; others = λ k differs. u.others k differs ∙ sym (others k differs) })
+      (len ∙ sym count)

@@ -1,5 +1,5 @@
 -- What takes of the lane of completions leave as it was.
-use Rattle.std.proofs.Common.{◌≡◌, ◌≤◌, ℕ, List, length, Option, Some, None, IfSome, OnSome, IsNone, IsSome, is_some, true, false, ◌+◌, sym, ◌∙◌, refl, ap}
+use Rattle.std.proofs.Common.{◌≡◌, ◌≢◌, ◌≤◌, ℕ, List, length, Option, Some, None, IfSome, OnSome, IsNone, IsSome, is_some, true, false, ◌+◌, sym, ◌∙◌, refl, ap}
 use Rattle.std.proofs.Common.{subst, arith}
 use Rattle.std.specs.FinMap as finmap
 use Rattle.xa_words.specs.declared.code.Code.{Code}
@@ -7,11 +7,21 @@ use Rattle.xa_words.specs.declared.request.Completion.{Completion}
 use Rattle.xa_lane.specs.declared.parcel.Taken.{Taken}
 use Rattle.xa_lane.specs.declared.parcel.Taken.TheVariants.{Item, EndOf, Empty}
 use Rattle.xa_lane.specs.Ends.{Receiving, Took}
+use Rattle.xa_desk.specs.declared.found.Found.TheVariants.{Its}
 use Rattle.xa_desk.specs.declared.operation.Operation.{Operation}
 use Rattle.xa_desk.specs.DeskView.{DeskView, TicketView, IsOut, IsLoose, Owns, opening_of, ready_at, ready_with, completed, outstanding, drained_code}
+use Rattle.xa_desk.specs.DeskView.{operation_of}
 use Rattle.xa_desk.specs.Lanes.{IsDesk}
-use Rattle.xa_desk.specs.Looks.{Drains, first, other, Draws, Pops, start, drawn, Looks, EndsQuiet, Collects, CollectsKept, CollectsLeast, TakesKept}
+use Rattle.xa_desk.specs.Looks.{Drains, first, other, Draws, Pops, start, drawn, Looks, EndsQuiet, Collects, CollectsKept, CollectsLeast, TakesKept, DrawsFor}
+use Rattle.xa_desk.proofs.Books.{drained_code-push_other}
 use Rattle.xa_desk.proofs.Ties.{tied_looks, tied_collected}
+
+-- another operation's completion was taken
+pub still_missing : (old new : DeskView) (c : Completion) (o : Operation) → Drains old c new → o ≢ operation_of c → drained_code o old.drained ≡ None
+    → drained_code o new.drained ≡ None
+still_missing old new c o (first out none e) differs missing =
+    ap (λ (d : DeskView). drained_code o d.drained) e ∙ drained_code-push_other o old.drained c differs ∙ missing
+still_missing old new c o (other never e) differs missing = ap (λ (d : DeskView). drained_code o d.drained) e ∙ missing
 
 -- only what was drained and taken, and the quiet moments, may differ
 abbrev IsSameBut : DeskView → DeskView → Type 0
@@ -39,6 +49,19 @@ same_took Empty r r' t = subst (SameEnd r) (sym t) refl
 same_drains : (old new : DeskView) (r : Receiving Completion) (c : Completion) → Drains (record old { completions = r }) c new → IsSameFrom old new
 same_drains old new r c (first out none e) = subst (IsSameFrom old) (sym e) refl
 same_drains old new r c (other never e) = subst (IsSameFrom old) (sym e) refl
+
+drains_same : (old new : DeskView) (c : Completion) → Drains old c new → new.completions ≡ old.completions
+drains_same old new c (first out none e) = ap (λ (d : DeskView). d.completions) e
+drains_same old new c (other never e) = ap (λ (d : DeskView). d.completions) e
+
+-- the completion that a take found was drained
+pub item_drawn : (old new : DeskView) (r : Receiving Completion) (s : ℕ) (c : Completion) → Took old.completions (Item s c) r
+    → Drains (record old { completions = r }) c new → Draws old (Item s c) new × (new.completions.quiet ≡ old.completions.quiet)
+item_drawn old new r s c took drains =
+    let same : new.completions ≡ r = drains_same (record old { completions = r }) new c drains in (
+      (subst (Took old.completions (Item s c)) (sym same) took, subst (λ (x : Receiving Completion). Drains (record old { completions = x }) c new) (sym same) drains),
+      ap (λ (x : Receiving Completion). x.quiet) (same ∙ took.1),
+    )
 
 same_then : (old new : DeskView) (drained : List Completion) (then : ℕ)
     → new ≡ record old { drained = drained; drained_then = then; completions = new.completions } → IsSameFrom old new
@@ -111,6 +134,13 @@ pub collects_from : (old now new : DeskView) (o : Operation) (r : Option Code) �
 collects_from old now new o None l out e h f = tt
 collects_from old now new o (Some code) l out e h f =
     record { before = now; looks = l; out = out; drained = sym e; collected = h; fewer = f ∙ looks_outstanding old now l }
+
+-- a take found the operation's completion, after looks that found others
+pub collects_found : (old now new : DeskView) (o : Operation) (code : Code) → Looks old now → IsOut old.ledgers o → DrawsFor now o (Its code) new
+    → Collects old new o code
+collects_found old now new o code l out d =
+    let looked = looks_drawn old now d.0 d.1 l d.2 in
+    record { before = d.0; looks = looked; out = looks_out old d.0 o looked out; drained = d.4; collected = d.5; fewer = d.6 ∙ looks_outstanding old d.0 looked }
 
 pub ends_quiet_chain : (a b c : DeskView) → Looks a b → EndsQuiet b c → EndsQuiet a c
 ends_quiet_chain a b c l q = record { before = q.before; looks = looks_chain a b q.before l q.looks; quiet = q.quiet }

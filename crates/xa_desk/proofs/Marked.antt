@@ -82,6 +82,13 @@ ready_drained at s table drained c number m n b h none old here others k = elim 
   | inr apart ↦ others k apart ∙ old k ∙ sym (as_ready at s table drained c number b h k apart (get_or table k None) refl)
 ]
 
+-- the completion of an operation that isn't kept is drained: no mark changes
+pub ready_taken : (at : List LedgerView) (s : Slab Slot) (table : List (Option Operation)) (drained : List Completion) (c : Completion) (m : Marks)
+    → IsBooks at s table drained → HasKept s (operation_of c) 0 → drained_code (operation_of c) drained ≡ None → AreReady m table drained
+    → AreReady m table (drained ++ c ∷ [])
+ready_taken at s table drained c m b h none old =
+    ready_drained at s table drained c 0 m m b h none old (λ k no. absurd (omega (arith, no))) (λ k apart. refl)
+
 -- what is there
 pub some_from : {A : Type 0} (x : Option A) → is_some x ≡ true → IsSome x
 some_from None e = absurd (cc)

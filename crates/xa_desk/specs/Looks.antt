@@ -1,5 +1,5 @@
 -- What a desk's calls do as they look at the lane that its completions come by.
-use Rattle.std.specs.Prelude.{◌≡◌, ℕ, ◌+◌, [], ◌∷◌, ◌++◌, length, Some, None}
+use Rattle.std.specs.Prelude.{◌≡◌, ℕ, ◌+◌, [], ◌∷◌, ◌++◌, length, Option, Some, None, MatchOption}
 use Rattle.std.specs.FinMap as finmap
 use Rattle.xa_words.specs.declared.code.Code.{Code}
 use Rattle.xa_words.specs.declared.request.Completion.{Completion}
@@ -7,6 +7,8 @@ use Rattle.xa_lane.specs.declared.parcel.Taken.{Taken}
 use Rattle.xa_lane.specs.declared.parcel.Taken.TheVariants.{Item, EndOf, Empty}
 use Rattle.xa_lane.specs.Ends.{Took, counted}
 use Rattle.xa_desk.specs.declared.operation.Operation.{Operation}
+use Rattle.xa_desk.specs.declared.found.Found.{Found}
+use Rattle.xa_desk.specs.declared.found.Found.TheVariants.{Nothing, Other, Its}
 use Rattle.xa_desk.specs.DeskView.{DeskView, IsOut, IsLeast, operation_of, completed, drained_code, outstanding}
 use Rattle.xa_desk.specs.DeskView.{ready_at}
 
@@ -30,6 +32,16 @@ Draws old (EndOf s) new =
     Took old.completions (EndOf s) new.completions × (new ≡ record old { completions = new.completions })
 Draws old Empty new =
     Took old.completions Empty new.completions × (new ≡ after_quiet (record old { completions = new.completions }))
+
+-- a completion was taken as the operation was waited for: it is drained, and where the operation has a code then, the
+-- operation is collected
+pub record CollectsTaken (old : DeskView) (c : Completion) (o : Operation) (new : DeskView)
+    (code : Option Code) : Type 0 where
+  pub mid : DeskView
+  pub drains : Drains old c mid
+  pub code_ : code ≡ drained_code o mid.drained
+  pub rest : MatchOption code (new ≡ mid) (λ x. (new ≡ completed mid o x)
+      × (outstanding new.ledgers + 1 ≡ outstanding mid.ledgers))
 
 -- takes of the completion lane took old to new
 pub data Pops (old : DeskView) : DeskView → Type 0 where
@@ -69,6 +81,18 @@ pub record Collects (old new : DeskView) (o : Operation) (code : Code) : Type 0 
   pub drained : drained_code o before.drained ≡ Some code
   pub collected : new ≡ completed before o code
   pub fewer : outstanding new.ledgers + 1 ≡ outstanding old.ledgers
+
+-- what a take does to a desk as operation o is waited for, by what it found: the operation's code wasn't drained, or
+-- the operation is collected with it
+abbrev pub DrawsFor : DeskView → Operation → Found → DeskView → Type 0
+DrawsFor old o Nothing new = Draws old Empty new
+DrawsFor old o Other new =
+    (taken : Taken Completion) × Draws old taken new × (new.completions.quiet ≡ old.completions.quiet)
+    × (drained_code o new.drained ≡ None)
+DrawsFor old o (Its code) new =
+    (mid : DeskView) × (taken : Taken Completion) × Draws old taken mid
+    × (mid.completions.quiet ≡ old.completions.quiet) × (drained_code o mid.drained ≡ Some code)
+    × (new ≡ completed mid o code) × (outstanding new.ledgers + 1 ≡ outstanding mid.ledgers)
 
 -- the drained completion of the operation that was kept under the number was collected, and the number is free
 pub record TakesKept (old new : DeskView) (number : ℕ) (code : Code) : Type 0 where

@@ -9,7 +9,7 @@ ghost use Rattle.xa_desk.specs.DeskView.{completed, opening_of, outstanding, dra
 ghost use Rattle.xa_desk.specs.DeskView.{next_operation, IsLeast, keeps_at, ready_at};
 ghost use Rattle.xa_desk.specs.Ended.{AreBalanced};
 ghost use Rattle.xa_desk.specs.Lanes.{new_desk};
-ghost use Rattle.xa_desk.specs.Looks.{Drains};
+ghost use Rattle.xa_desk.specs.Looks.{CollectsTaken, Drains};
 
 mod lanes;
 
@@ -118,6 +118,7 @@ impl Book {
         ensures more { outstanding self.new.ledgers ≡ outstanding self.old.ledgers + 1 }
         ensures out { IsOut self.new.ledgers result }
         ensures loose { IsLoose self.new result }
+        ensures missing { drained_code result self.new.drained ≡ None }
     {
         let ledger = &mut self.ledgers[manager as usize - 1];
         let number = ledger.next_number();
@@ -149,6 +150,39 @@ impl Book {
             self.drained = self.drained.and(&completion, &());
             self.drained_now += 1;
         }
+    }
+
+    /// A completion was taken as an operation is waited for that isn't kept. Where it is that operation's, the operation
+    /// is collected at once.
+    #[inline(always)]
+    pub(crate) fn collect_taken(
+        &mut self,
+        completion: Completion,
+        operation: Operation,
+    ) -> Option<Code>
+        requires out { IsOut self.old.ledgers operation }
+        requires loose { IsLoose self.old operation }
+        requires missing { drained_code operation self.old.drained ≡ None }
+        ensures { CollectsTaken self.old completion operation self.new result }
+    {
+        let completed = Operation {
+            manager: completion.manager,
+            number: completion.number,
+        };
+        if !operation.is(completed) {
+            self.note_taken(completion);
+            return None;
+        }
+        let Some((key, _)) = find_slot(&self.rows, &self.slots, operation) else {
+            unreachable!()
+        };
+        self.slots.remove(key);
+        self.drained = self.drained.and(&completion, &());
+        self.drained_now += 1;
+        let ledger = &mut self.ledgers[operation.manager as usize - 1];
+        ledger.push_collected(operation.number, completion.code);
+        self.events = self.events.and(&Event::Collected(operation), &());
+        Some(completion.code)
     }
 
     /// Collects an operation that isn't kept, where its completion was drained.

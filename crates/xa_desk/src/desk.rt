@@ -21,6 +21,7 @@ use crate::kept::keeps_any;
 use crate::parts::DeskParts;
 use crate::pump::{
     send_waiting, try_collect, try_collect_any, try_collect_kept, wait_for, wait_for_any,
+    wait_until,
 };
 use crate::refused::{AnyFault, NothingOutstanding, Refused};
 use crate::ticket::Ticket;
@@ -252,7 +253,7 @@ impl Desk {
             return Err(why);
         }
         let operation = send_waiting(rt, &mut self.book, manager, &op, idle);
-        Ok(wait_for(rt, &mut self.book, operation, idle))
+        Ok(wait_until(rt, &mut self.book, operation, idle))
     }
 
     /// Collects the ticket's operation, waiting for its completion: `xa_complete()` of a handle with

@@ -10,6 +10,7 @@ mod book;
 mod desk;
 mod ended;
 mod event;
+mod found;
 mod idle;
 mod kept;
 mod keys;

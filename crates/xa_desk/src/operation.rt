@@ -14,6 +14,7 @@ impl Operation {
     ghost use Rattle.xa_desk.specs.DeskView.{is_asked};
 
     /// Whether the names are the same.
+    #[inline(always)]
     pub(crate) fn is(self, other: Operation) -> bool
         ensures { IsTrue result ↔ (self ≡ other) }
     {

@@ -9,6 +9,7 @@ ghost use Rattle.xa_desk.specs.Waits.{Idles, WaitsFor, WaitsForAny};
 ghost use Rattle.std.specs.FinMap as map;
 
 use crate::book::Book;
+use crate::found::Found;
 use crate::idle::Idle;
 use crate::kept::{collect_kept, least_ready};
 use crate::operation::Operation;
@@ -37,6 +38,28 @@ fn look_for<R: Wait>(rt: &R, book: &mut Book, operation: Operation) -> bool
     unreachable!()
 }
 
+// Takes until the operation's completion comes, which is collected, or the lane is found empty.
+#[inline(always)]
+fn draw_until<R: Wait>(rt: &R, book: &mut Book, operation: Operation) -> Option<Code>
+    requires out { IsOut book.old.ledgers operation }
+    requires loose { IsLoose book.old operation }
+    requires missing { drained_code operation book.old.drained ≡ None }
+    ensures collected { IfSome result (Collects book.old book.new operation) }
+    ensures quiet { IsNone result → EndsQuiet book.old book.new }
+    ensures missing { IsNone result → drained_code operation book.new.drained ≡ None }
+    ensures at_once { OnSome result (book.new.completions.quiet ≡ book.old.completions.quiet) }
+    ensures once { IsNone result → book.new.completions.quiet ≡ counted book.old.completions.quiet }
+{
+    for _ in rt.forever() {
+        match book.draw_for(rt, operation) {
+            Found::Its(code) => return Some(code),
+            Found::Other => {}
+            Found::Nothing => return None,
+        }
+    }
+    unreachable!()
+}
+
 /// Collects an operation that isn't kept, where its completion came.
 #[inline(always)]
 pub(crate) fn try_collect<R: Wait>(rt: &R, book: &mut Book, operation: Operation) -> Option<Code>
@@ -45,16 +68,33 @@ pub(crate) fn try_collect<R: Wait>(rt: &R, book: &mut Book, operation: Operation
     ensures collected { IfSome result (Collects book.old book.new operation) }
     ensures quiet { IsNone result → EndsQuiet book.old book.new }
     ensures missing { IsNone result → drained_code operation book.new.drained ≡ None }
-    ensures at_once { OnSome result (book.new.completions.quiet ≡ book.old.completions.quiet) }
-    ensures once { IsNone result → book.new.completions.quiet ≡ counted book.old.completions.quiet }
+{
+    if let Some(code) = book.collect(operation) {
+        return Some(code);
+    }
+    draw_until(rt, book, operation)
+}
+
+/// Collects an operation that isn't kept and whose completion wasn't drained yet, and waits for that.
+#[inline(always)]
+pub(crate) fn wait_until<R: Wait, I: Idle>(
+    rt: &R,
+    book: &mut Book,
+    operation: Operation,
+    idle: &mut I,
+) -> Code
+    requires out { IsOut book.old.ledgers operation }
+    requires loose { IsLoose book.old operation }
+    requires missing { drained_code operation book.old.drained ≡ None }
+    ensures collected { Collects book.old book.new operation result }
+    ensures waited { WaitsFor (I.leads_by operation.manager) book.old book.new idle.old idle.new operation result }
+    ensures idled { I.leads idle.old idle.new }
 {
     for _ in rt.forever() {
-        if let Some(code) = book.collect(operation) {
-            return Some(code);
+        if let Some(code) = draw_until(rt, book, operation) {
+            return code;
         }
-        if !book.draw(rt) {
-            return None;
-        }
+        idle.idle(rt, operation.manager);
     }
     unreachable!()
 }
@@ -73,13 +113,10 @@ pub(crate) fn wait_for<R: Wait, I: Idle>(
     ensures waited { WaitsFor (I.leads_by operation.manager) book.old book.new idle.old idle.new operation result }
     ensures idled { I.leads idle.old idle.new }
 {
-    for _ in rt.forever() {
-        if let Some(code) = try_collect(rt, book, operation) {
-            return code;
-        }
-        idle.idle(rt, operation.manager);
+    if let Some(code) = book.collect(operation) {
+        return code;
     }
-    unreachable!()
+    wait_until(rt, book, operation, idle)
 }
 
 // Takes until the lane is found empty.
@@ -171,6 +208,7 @@ pub(crate) fn send_waiting<R: Wait, I: Idle>(
     ensures more { outstanding book.new.ledgers ≡ outstanding book.old.ledgers + 1 }
     ensures out { IsOut book.new.ledgers result }
     ensures loose { IsLoose book.new result }
+    ensures missing { drained_code result book.new.drained ≡ None }
     ensures idled { I.leads idle.old idle.new }
 {
     for _ in rt.forever() {

@@ -6,7 +6,8 @@ ghost use Rattle.xa_grammar.specs.Steps.{ScriptStep};
 ghost use Rattle.xa_grammar.specs.Content.{Content};
 ghost use Rattle.xa_telling.specs.ToldOpenings.{Beginning, Opening, Former, beginning};
 ghost use Rattle.xa_command.specs.declared.mode.Mode.TheVariants as mode;
-ghost use Rattle.xa_script.specs.InTurns.{stage_of, closing_of, HasCalled, HasTurned, HaveEnded};
+ghost use Rattle.xa_script.specs.InTurns.{stage_of, closing_of, HasCalled, HasEndedDesk, HasTurned, HaveEnded};
+ghost use Rattle.xa_desk.specs.Ended.{EndedView};
 ghost use Rattle.xa_script.specs.TurnsSoFar.{IsOpen, Goes, IsClosed};
 ghost use Rattle.xa_script.specs.Outcome.{Follows, IsOutcome, Writes};
 
@@ -170,6 +171,27 @@ impl Closed {
     }
 }
 
+// Ends the desk of a thread, tells what was outstanding, and gives the ended desk and the thread's log.
+fn end_session<R: Wait>(
+    rt: &R,
+    alloc: Global,
+    session: Session,
+    turns: &mut Turns,
+    transcript: &mut Transcript,
+) -> Result<(EndedDesk, LosingLog), AllocError>
+    requires { AllKept session.desk }
+    ensures ended { IfOk result (λ r. (before : List EndedView) → HasEndedDesk session
+        (closing_of before turns.old transcript.old) (closing_of (before ++ r.0 ∷ []) turns.new transcript.new)) }
+    ensures log { IfOk result (λ r. r.1 ≡ session.log) }
+{
+    let Session { desk, log, scan: _ } = session;
+    let thread = desk.thread();
+    let mut outstanding = Vec::with_capacity(alloc, MOST_HANDLES)?;
+    let ended = end_desk(rt, desk, turns, &mut outstanding);
+    tell_ended(thread, &outstanding, transcript)?;
+    Ok((ended, log))
+}
+
 // Ends the desks by rising thread, tells what was outstanding, and gives the threads' logs.
 fn end_desks<R: Wait>(
     rt: &R,
@@ -186,11 +208,9 @@ fn end_desks<R: Wait>(
     let mut ended = Vec::with_capacity(alloc, sessions.len())?;
     let mut logs = Vec::with_capacity(alloc, sessions.len())?;
     for session in sessions {
-        let thread = session.desk.thread();
-        let mut outstanding = Vec::with_capacity(alloc, MOST_HANDLES)?;
-        ended.push(end_desk(rt, session.desk, turns, &mut outstanding))?;
-        logs.push(session.log)?;
-        tell_ended(thread, &outstanding, transcript)?;
+        let (end, log) = end_session(rt, alloc, session, turns, transcript)?;
+        ended.push_reserved(end);
+        logs.push_reserved(log);
     }
     Ok((ended, logs))
 }

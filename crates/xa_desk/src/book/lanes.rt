@@ -1,13 +1,14 @@
 //! What a book does with its ends of lanes.
-ghost use Rattle.std.specs.Prelude.{◌≡◌, ◌+◌, ◌<◌, ◌≤◌, length, IfSome, OnSome, IfNone, IsTrue, false};
+ghost use Rattle.std.specs.Prelude.{◌≡◌, ◌+◌, ◌<◌, ◌≤◌, length, IfSome, OnSome, IfNone, IsTrue, None, false};
 ghost use Rattle.xa_lane.specs.declared.parcel.Taken.{Taken};
 ghost use Rattle.xa_lane.specs.declared.parcel.Taken.TheVariants.{Empty};
 ghost use Rattle.xa_words.specs.declared.request.Completion.{Completion};
-ghost use Rattle.xa_desk.specs.DeskView.{IsKnown, IsOut, IsLoose, ledger, outstanding, next_operation};
+ghost use Rattle.xa_desk.specs.DeskView.{IsKnown, IsOut, IsLoose, drained_code, ledger, outstanding, next_operation};
 ghost use Rattle.xa_desk.specs.Lanes.{submitted, after_full};
-ghost use Rattle.xa_desk.specs.Looks.{Draws};
+ghost use Rattle.xa_desk.specs.Looks.{Draws, DrawsFor};
 
 use crate::book::Book;
+use crate::found::Found;
 use crate::operation::Operation;
 use std::sync::Wait;
 use xa_lane::Taken;
@@ -26,6 +27,7 @@ impl Book {
         ensures more { OnSome result (outstanding self.new.ledgers ≡ outstanding self.old.ledgers + 1) }
         ensures out { IfSome result (λ o. IsOut self.new.ledgers o) }
         ensures loose { IfSome result (λ o. IsLoose self.new o) }
+        ensures missing { IfSome result (λ o. drained_code o self.new.drained ≡ None) }
         ensures full { IfNone result (self.new ≡ after_full self.old manager) }
     {
         let request = Request {
@@ -55,6 +57,28 @@ impl Book {
             Taken::Empty => {
                 self.drained_then = self.drained_now;
                 false
+            }
+        }
+    }
+
+    /// Takes from the lane of completions once, as an operation is waited for that isn't kept. Where its completion
+    /// stood there, it is collected.
+    #[inline(always)]
+    pub(crate) fn draw_for<R: Wait>(&mut self, rt: &R, operation: Operation) -> Found
+        requires out { IsOut self.old.ledgers operation }
+        requires loose { IsLoose self.old operation }
+        requires missing { drained_code operation self.old.drained ≡ None }
+        ensures { DrawsFor self.old operation result self.new }
+    {
+        match self.completions.take(rt) {
+            Taken::Item(_, completion) => match self.collect_taken(completion, operation) {
+                Some(code) => Found::Its(code),
+                None => Found::Other,
+            },
+            Taken::EndOf(_) => Found::Other,
+            Taken::Empty => {
+                self.drained_then = self.drained_now;
+                Found::Nothing
             }
         }
     }

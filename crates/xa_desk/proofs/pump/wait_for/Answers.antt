@@ -1,27 +1,23 @@
-use Rattle.std.proofs.Common.{refl}
-use Rattle.xa_desk.specs.Waits.Waits.{begins, idles}
-use Rattle.xa_desk.proofs.Looks.{looks_start, looks_out, looks_loose, looks_chain, quiet_looks, collects_chain}
+use Rattle.std.proofs.Common.{refl, ap, sym, subst, ◌∙◌}
+use Rattle.xa_desk.specs.DeskView.{DeskView, IsOut, IsLoose, drained_code}
+use Rattle.xa_desk.specs.Looks.{Collects}
+use Rattle.xa_desk.specs.Waits.{WaitsFor}
+use Rattle.xa_desk.specs.Waits.Waits.{begins}
+use Rattle.xa_desk.proofs.Looks.{looks_start, collects_from}
 use Rattle.xa_desk.proofs.pump.wait_for.Goals as goal
 
-pub loop-init : goal.loop-init
-loop-init g c = record { looks = looks_start _ _ refl; idled = g.met.I.Idle.leads_start _; waits = begins _ _ refl refl }
+pub returns-in-Some-clause-collected : goal.returns-in-Some-clause-collected
+returns-in-Some-clause-collected g c =
+    collects_from _ _ _ c.args.operation _ (looks_start _ _ refl) c.requires.out c.in-Some.ensures.code c.in-Some.ensures.ready c.in-Some.ensures.fewer
 
-pub try_collect-requires-clause-out : goal.try_collect-requires-clause-out
-try_collect-requires-clause-out g c = looks_out _ _ c.args.operation c.loop.invariant.looks c.requires.out
-
-pub try_collect-requires-clause-loose : goal.try_collect-requires-clause-loose
-try_collect-requires-clause-loose g c = looks_loose _ _ c.args.operation c.loop.invariant.looks c.requires.loose
-
-pub returns-in-Some-try_collect-clause-collected : goal.returns-in-Some-try_collect-clause-collected
-returns-in-Some-try_collect-clause-collected g c = collects_chain _ _ _ c.args.operation _ c.loop.invariant.looks c.in-Some-try_collect.ensures.collected
-
-pub returns-in-Some-try_collect-clause-waited : goal.returns-in-Some-try_collect-clause-waited
-returns-in-Some-try_collect-clause-waited g c =
-    record { now = c.loop.book; waits = c.loop.invariant.waits; found = c.in-Some-try_collect.ensures.at_once; collects = c.in-Some-try_collect.ensures.collected }
-
-pub loop-preserved : goal.loop-preserved
-loop-preserved g c = record {
-  looks = looks_chain _ _ _ c.loop.invariant.looks (quiet_looks _ _ (c.in_default.ensures.quiet refl));
-  idled = g.met.I.Idle.leads_chain _ _ _ c.loop.invariant.idled (g.met.I.Idle.leads_each _ _ _ c.idle.ensures);
-  waits = idles _ _ _ _ c.loop.invariant.waits (record { quiet = c.in_default.ensures.quiet refl; once = c.in_default.ensures.once refl }) (c.in_default.ensures.missing refl) c.idle.ensures;
+pub returns-in-Some-clause-waited : goal.returns-in-Some-clause-waited
+returns-in-Some-clause-waited g c = record {
+  now = c.args.book.now;
+  waits = begins _ _ refl refl;
+  found = ap (λ (d : DeskView). d.completions.quiet) c.in-Some.ensures.ready;
+  collects = collects_from _ _ _ c.args.operation _ (looks_start _ _ refl) c.requires.out c.in-Some.ensures.code c.in-Some.ensures.ready c.in-Some.ensures.fewer;
 }
+
+pub wait_until-requires-clause-missing : goal.wait_until-requires-clause-missing
+wait_until-requires-clause-missing g c =
+    ap (λ (d : DeskView). drained_code c.args.operation d.drained) c.in_default.ensures.waiting ∙ sym c.in_default.ensures.code
