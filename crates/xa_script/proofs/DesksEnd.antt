@@ -1,6 +1,6 @@
 -- The desks of an opening in turns end one after the other.
-use Rattle.std.proofs.Common.{◌≡◌, ℕ, List, [], ◌∷◌, ◌++◌, map, sym, ap, ◌∙◌, subst}
-use Rattle.std.proofs.lemmas.List.{map-append}
+use Rattle.std.proofs.Common.{◌≡◌, ◌<◌, ℕ, suc, List, [], ◌∷◌, ◌++◌, length, length-append, map, sym, ap, ◌∙◌, subst, arith}
+use Rattle.std.proofs.lemmas.List.{map-append, length-map}
 use Rattle.xa_base.proofs.Lists.{taken_next}
 use Rattle.xa_base.specs.Lists.Chain.{more}
 use Rattle.xa_words.specs.declared.code.Code.{Code}
@@ -41,3 +41,11 @@ one_more_ended sessions start old new first left rest d logs logs' so next given
   logs_are = given ∙ ap (λ l. l ++ d.log ∷ []) so.logs_are ∙ sym (map-append (λ (x : Session). x.log) first (d ∷ []));
   ends = more first d old new so.ends ends;
 }
+
+-- one of the desks is still to come, so fewer have ended
+pub ended_count : (sessions : List Session) (start now : Closing) (first left rest : List Session) (d : Session) (logs : List LosingLog)
+    → EndSoFar sessions start first left logs now → left ≡ d ∷ rest → (length first < length sessions) × (length logs ≡ length first)
+ended_count sessions start now first left rest d logs so next =
+    let all : length (first ++ left) ≡ length sessions = ap length so.so_far in
+    let some : length left ≡ suc (length rest) = ap length next in
+    (omega (arith, length-append first left), ap length so.logs_are ∙ length-map first (λ (x : Session). x.log))

@@ -1,37 +1,54 @@
-use Rattle.std.proofs.Common.{◌++◌, [], List, length, sym, ap, ◌∙◌, refl, rules}
+use Rattle.std.proofs.Common.{◌++◌, ◌∷◌, [], List, length, length-append, sym, ap, ◌∙◌, subst, refl, arith, rules}
 use Rattle.std.specs.Vec.Iter.{into_iter_items}
 use Rattle.xa_desk.specs.Ended.{EndedView}
 use Rattle.xa_desk.specs.Kept.{AllKept}
 use Rattle.xa_base.specs.Lists.Chain.{none}
 use Rattle.xa_base.proofs.Lists.{next_there, all_at}
-use Rattle.xa_transcript.specs.Ended.{all_ended}
-use Rattle.xa_script.specs.InTurns.{closing_of}
-use Rattle.xa_script.proofs.DesksEnd.{ends_desk, one_more_ended}
+use Rattle.xa_log.specs.declared.losing.LosingLog.{LosingLog}
+use Rattle.xa_script.specs.InTurns.{HasEndedDesk, closing_of}
+use Rattle.xa_script.proofs.DesksEnd.{one_more_ended, ended_count}
 use Rattle.xa_script.proofs.in_turns.end_desks.Goals as goal
 
 pub loop-session-init : goal.loop-session-init
 loop-session-init g c =
     record {
-      so_far = search rules;
-      logs_are = c.in_ok-logs.ensures.items;
-      ends = none [] (closing_of c.in_ok-ended.ended.items c.args.turns.now c.args.transcript.now) refl (ap (λ (l : List EndedView). closing_of l c.args.turns.now c.args.transcript.now) c.in_ok-ended.ensures.items);
+      so_far = record {
+        so_far = search rules;
+        logs_are = c.in_ok-logs.ensures.items;
+        ends = none [] (closing_of c.in_ok-ended.ended.items c.args.turns.now c.args.transcript.now) refl (ap (λ (l : List EndedView). closing_of l c.args.turns.now c.args.transcript.now) c.in_ok-ended.ensures.items);
+      };
+      many = ap length c.in_ok-ended.ensures.items;
+      room = let len = c.len.ensures in let is = c.args.sessions.ok in let room = c.in_ok-ended.ensures.capacity in omega arith;
+      room_for_logs = let len = c.len-2.ensures in let is = c.args.sessions.ok in let room = c.in_ok-logs.ensures.capacity in omega arith;
     }
 
-pub end_desk-requires-clause-kept : goal.end_desk-requires-clause-kept
-end_desk-requires-clause-kept g c =
+pub end_session-requires : goal.end_session-requires
+end_session-requires g c =
     all_at (λ x. AllKept x.desk) c.args.sessions.items (length c.loop-session.yielded) c.in-Some.session c.requires
-    (next_there c.args.sessions.items c.loop-session.yielded (into_iter_items c.next.new.self) c.in-Some.session (ap (λ l. c.loop-session.yielded ++ l) (sym c.in-Some.ensures.steps.0) ∙ c.loop-session.invariant.so_far))
+    (next_there c.args.sessions.items c.loop-session.yielded (into_iter_items c.next.new.self) c.in-Some.session (ap (λ l. c.loop-session.yielded ++ l) (sym c.in-Some.ensures.steps.0) ∙ c.loop-session.invariant.so_far.so_far))
 
-pub loop-session-preserved-in_ok-tell_ended : goal.loop-session-preserved-in_ok-tell_ended
-loop-session-preserved-in_ok-tell_ended g c =
-    let told = c.in_ok-tell_ended.ensures ∙ ap (λ l. c.loop-session.transcript ++ all_ended c.thread-thread.result l) c.deref.ensures.value in
-    one_more_ended _ _ _ _ _ _ _ c.in-Some.session _ _ c.loop-session.invariant c.in-Some.ensures.steps.0 c.in_ok-push-2.ensures.items
-    (ends_desk _ _ _ c.end_desk.result _ _ _ c.in_ok-outstanding.ensures.items c.end_desk.ensures.ends c.in_ok-push.ensures.items told
-    c.thread-thread.ensures.thread c.end_desk.ensures.idled)
+pub push_reserved-requires : goal.push_reserved-requires
+push_reserved-requires g c =
+    let i = c.loop-session.invariant in
+    let count = ended_count _ _ _ _ _ _ _ _ i.so_far c.in-Some.ensures.steps.0 in
+    let fewer = count.0 in
+    let many = i.many in
+    let room = i.room in
+    omega arith
 
 pub loop-session-preserved : goal.loop-session-preserved
 loop-session-preserved g c =
-    let told = c.in_ok-tell_ended.ensures ∙ ap (λ l. c.loop-session.transcript ++ all_ended c.thread-thread.result l) c.deref.ensures.value in
-    one_more_ended _ _ _ _ _ _ _ c.in-Some.session _ _ c.loop-session.invariant c.in-Some.ensures.steps.0 c.in_ok-push-2.ensures.items
-    (ends_desk _ _ _ c.end_desk.result _ _ _ c.in_ok-outstanding.ensures.items c.end_desk.ensures.ends c.in_ok-push.ensures.items told
-    c.thread-thread.ensures.thread c.end_desk.ensures.idled)
+    let i = c.loop-session.invariant in
+    let d = c.in-Some.session in
+    let old = closing_of c.loop-session.ended.items c.loop-session.turns c.loop-session.transcript in
+    let ended : HasEndedDesk d old (closing_of c.push_reserved.new.self.items c.end_session.new.turns c.end_session.new.transcript) =
+    subst (λ (l : List EndedView). HasEndedDesk d old (closing_of l c.end_session.new.turns c.end_session.new.transcript)) (sym c.push_reserved.ensures.items) (c.in_ok-end.ensures.ended c.loop-session.ended.items) in
+    let logs = c.push_reserved-in-loop-session.ensures.items ∙ ap (λ (x : LosingLog). c.loop-session.logs.items ++ x ∷ []) c.in_ok-end.ensures.log in
+    let more = ap length c.push_reserved.ensures.items in
+    let many = i.many in
+    record {
+      so_far = one_more_ended _ _ _ _ _ _ _ d _ _ i.so_far c.in-Some.ensures.steps.0 logs ended;
+      many = omega (arith, length-append c.loop-session.ended.items (c.in_ok-end.end ∷ []), length-append c.loop-session.yielded (d ∷ []));
+      room = rw c.push_reserved.ensures.capacity i.room;
+      room_for_logs = rw c.push_reserved-in-loop-session.ensures.capacity i.room_for_logs;
+    }
