@@ -152,8 +152,8 @@ impl Book {
         }
     }
 
-    /// A completion was taken as an operation is waited for that isn't kept. Where it is that operation's, the operation
-    /// is collected at once.
+    /// A completion was taken as an operation is waited for that isn't kept and has no code yet. Where it is the
+    /// operation's, that is collected at once.
     #[inline(always)]
     pub(crate) fn collect_taken(
         &mut self,
